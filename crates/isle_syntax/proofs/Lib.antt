@@ -1,0 +1,2 @@
+pub mod PatternSizes
+pub mod ExprSizes

@@ -1,0 +1,18 @@
+-- Children are lower than their expression.
+use Rattle.std.specs.Prelude.{ℕ, ◌≤◌, ◌+◌, max, List, [], ◌∷◌}
+use Rattle.std.proofs.Common.{arith}
+use denote.Param.Weighed.{most}
+use Rattle.isle_syntax.specs.declared.ast.Expr.{Expr}
+use Rattle.isle_syntax.specs.declared.ast.Expr.TheVariants.{Term, Var, ConstInt}
+use Rattle.isle_syntax.specs.declared.ast.Exprs.TheDeep.{deep-Expr}
+use Rattle.isle_syntax.specs.ExprTree.{expr_height, expr_heights}
+use Rattle.isle_syntax.specs.ExprShape.{expr_of, exprs_of}
+
+pub expr_falls : (p : Expr) → deep-Expr p ≤ expr_height (expr_of p)
+expr_falls (Term f ts p) = omega arith
+expr_falls (Var x p) = omega arith
+expr_falls (ConstInt n big p) = omega arith
+
+pub exprs_fall : (ps : List Expr) → most deep-Expr ps ≤ expr_heights (exprs_of ps)
+exprs_fall [] = omega arith
+exprs_fall (p ∷ ps) = omega (arith, expr_falls p, exprs_fall ps)

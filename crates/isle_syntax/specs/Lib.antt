@@ -1,0 +1,9 @@
+pub mod Coded
+pub mod PatternTree
+pub mod PatternCode
+pub mod PatternShape
+pub mod PatternFalls
+pub mod ExprTree
+pub mod ExprCode
+pub mod ExprShape
+pub mod ExprFalls
