@@ -7,3 +7,6 @@ pub mod ExprTree
 pub mod ExprCode
 pub mod ExprShape
 pub mod ExprFalls
+pub mod Ends
+pub mod Unread
+pub mod Lookahead

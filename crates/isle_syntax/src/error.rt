@@ -8,6 +8,16 @@ pub struct Span {
     pub to: Pos,
 }
 
+impl Span {
+    /// The span of the byte at a position.
+    pub(crate) fn at(from: Pos) -> Span {
+        Span {
+            from,
+            to: Pos::new(from.file, from.offset.saturating_add(1)),
+        }
+    }
+}
+
 /// A fault of a list of source texts.
 #[derive(Debug, Drop)]
 pub enum Error {

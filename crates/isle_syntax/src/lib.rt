@@ -4,8 +4,12 @@
 pub mod ast;
 pub mod error;
 pub mod files;
+mod gap;
 pub mod lexer;
+mod number;
+pub mod parser;
 mod refusal;
+mod symbol;
 mod text;
 
 pub use refusal::Refusal;
