@@ -10,7 +10,7 @@ pub struct Span {
 
 impl Span {
     /// The span of the byte at a position.
-    pub(crate) fn at(from: Pos) -> Span {
+    pub fn at(from: Pos) -> Span {
         Span {
             from,
             to: Pos::new(from.file, from.offset.saturating_add(1)),

@@ -1,0 +1,11 @@
+//! The terms and rules of ISLE: their typed trees, and the elaboration of definitions to them.
+#![tactic(auto, using(isle_syntax::proofs::PatternSizes::most_pattern_size, isle_syntax::proofs::ExprSizes::most_expr_size))]
+
+mod env;
+mod rules;
+mod terms;
+mod translate;
+
+pub use env::TermEnv;
+pub use rules::{BoundVar, Expr, Pattern, Rule};
+pub use terms::{ConstructorKind, Term, TermFlags, TermKind};

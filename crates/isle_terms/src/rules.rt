@@ -1,0 +1,63 @@
+use isle_syntax::lexer::Pos;
+use isle_types::{RuleId, Sym, TermId, TypeId, VarId};
+
+/// A typed rule. Its variables are numbered from 0 as they are bound.
+#[derive(Debug, Drop)]
+pub struct Rule {
+    pub id: RuleId,
+    pub root_term: TermId,
+    pub args: Vec<Pattern>,
+    pub rhs: Expr,
+    pub vars: Vec<BoundVar>,
+    pub prio: i64,
+    pub pos: Pos,
+    pub name: Option<Sym>,
+}
+
+/// A variable of a rule.
+#[derive(Debug, Clone, Copy, PartialEq, Eq)]
+pub struct BoundVar {
+    pub id: VarId,
+    pub name: Sym,
+    pub ty: TypeId,
+}
+
+/// A typed pattern. A name that binds is a `BindPattern` of a `Wildcard`.
+#[derive(Debug, Drop)]
+pub enum Pattern {
+    BindPattern(TypeId, VarId, Box<Pattern>),
+    ConstInt(TypeId, i128),
+    Term(TypeId, TermId, Vec<Pattern>),
+    Wildcard(TypeId),
+}
+
+impl Pattern {
+    /// The type of what the pattern matches.
+    pub fn ty(&self) -> TypeId {
+        match self {
+            Pattern::BindPattern(ty, _, _) => *ty,
+            Pattern::ConstInt(ty, _) => *ty,
+            Pattern::Term(ty, _, _) => *ty,
+            Pattern::Wildcard(ty) => *ty,
+        }
+    }
+}
+
+/// A typed expression.
+#[derive(Debug, Drop)]
+pub enum Expr {
+    Term(TypeId, TermId, Vec<Expr>),
+    Var(TypeId, VarId),
+    ConstInt(TypeId, i128),
+}
+
+impl Expr {
+    /// The type of the expression's value.
+    pub fn ty(&self) -> TypeId {
+        match self {
+            Expr::Term(ty, _, _) => *ty,
+            Expr::Var(ty, _) => *ty,
+            Expr::ConstInt(ty, _) => *ty,
+        }
+    }
+}

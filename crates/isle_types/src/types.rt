@@ -1,0 +1,224 @@
+ghost use Rattle.std.specs.Prelude.{◌≡◌};
+
+use crate::ids::{FieldId, Sym, TypeId, VariantId};
+use isle_syntax::Seq;
+use isle_syntax::lexer::Pos;
+use std::fmt;
+
+/// An integer type. `usize` and `isize` have 64 bits.
+#[derive(Debug, Clone, Copy, PartialEq, Eq)]
+pub enum IntType {
+    U8,
+    U16,
+    U32,
+    U64,
+    U128,
+    USize,
+    I8,
+    I16,
+    I32,
+    I64,
+    I128,
+    ISize,
+}
+
+impl IntType {
+    /// The type's name.
+    pub fn name(self) -> &'static str {
+        match self {
+            IntType::U8 => "u8",
+            IntType::U16 => "u16",
+            IntType::U32 => "u32",
+            IntType::U64 => "u64",
+            IntType::U128 => "u128",
+            IntType::USize => "usize",
+            IntType::I8 => "i8",
+            IntType::I16 => "i16",
+            IntType::I32 => "i32",
+            IntType::I64 => "i64",
+            IntType::I128 => "i128",
+            IntType::ISize => "isize",
+        }
+    }
+
+    /// Whether the type has negative numbers.
+    pub fn is_signed(self) -> bool {
+        match self {
+            IntType::I8
+            | IntType::I16
+            | IntType::I32
+            | IntType::I64
+            | IntType::I128
+            | IntType::ISize => true,
+            _ => false,
+        }
+    }
+
+    /// The least and the greatest number of a type other than `u128`, whose greatest is no `i128`.
+    fn range(self) -> (i128, i128) {
+        match self {
+            IntType::U8 => (0, 0xff),
+            IntType::U16 => (0, 0xffff),
+            IntType::U32 => (0, 0xffff_ffff),
+            IntType::U64 | IntType::USize => (0, 0xffff_ffff_ffff_ffff),
+            IntType::U128 => (0, i128::MAX),
+            IntType::I8 => (-0x80, 0x7f),
+            IntType::I16 => (-0x8000, 0x7fff),
+            IntType::I32 => (-0x8000_0000, 0x7fff_ffff),
+            IntType::I64 | IntType::ISize => (-0x8000_0000_0000_0000, 0x7fff_ffff_ffff_ffff),
+            IntType::I128 => (i128::MIN, i128::MAX),
+        }
+    }
+
+    /// Whether the type has a literal's number: `val` itself, or where `big` is set the number from 2^127 on of which
+    /// `val` keeps the 128 bits.
+    pub fn holds(self, val: i128, big: bool) -> bool {
+        if big {
+            return self == IntType::U128 && val < 0;
+        }
+        let (least, greatest) = self.range();
+        least <= val && val <= greatest
+    }
+}
+
+impl fmt::Display for IntType {
+    fn fmt<W: fmt::Write>(&self, f: &mut fmt::Formatter<W>) -> fmt::Result {
+        f.write_str(self.name())
+    }
+}
+
+/// A type that needs no definition.
+#[derive(Debug, Clone, Copy, PartialEq, Eq)]
+pub enum BuiltinType {
+    Bool,
+    Int(IntType),
+}
+
+impl BuiltinType {
+    /// The builtin types in the order of their ids.
+    pub const ALL: [BuiltinType; 13] = [
+        BuiltinType::Bool,
+        BuiltinType::Int(IntType::U8),
+        BuiltinType::Int(IntType::U16),
+        BuiltinType::Int(IntType::U32),
+        BuiltinType::Int(IntType::U64),
+        BuiltinType::Int(IntType::U128),
+        BuiltinType::Int(IntType::USize),
+        BuiltinType::Int(IntType::I8),
+        BuiltinType::Int(IntType::I16),
+        BuiltinType::Int(IntType::I32),
+        BuiltinType::Int(IntType::I64),
+        BuiltinType::Int(IntType::I128),
+        BuiltinType::Int(IntType::ISize),
+    ];
+
+    /// The type's name.
+    pub fn name(self) -> &'static str {
+        match self {
+            BuiltinType::Bool => "bool",
+            BuiltinType::Int(int) => int.name(),
+        }
+    }
+
+    /// The number of the type's id.
+    pub fn to_usize(self) -> usize {
+        match self {
+            BuiltinType::Bool => 0,
+            BuiltinType::Int(IntType::U8) => 1,
+            BuiltinType::Int(IntType::U16) => 2,
+            BuiltinType::Int(IntType::U32) => 3,
+            BuiltinType::Int(IntType::U64) => 4,
+            BuiltinType::Int(IntType::U128) => 5,
+            BuiltinType::Int(IntType::USize) => 6,
+            BuiltinType::Int(IntType::I8) => 7,
+            BuiltinType::Int(IntType::I16) => 8,
+            BuiltinType::Int(IntType::I32) => 9,
+            BuiltinType::Int(IntType::I64) => 10,
+            BuiltinType::Int(IntType::I128) => 11,
+            BuiltinType::Int(IntType::ISize) => 12,
+        }
+    }
+}
+
+impl TypeId {
+    /// The id of a builtin type.
+    pub fn builtin(builtin: BuiltinType) -> TypeId {
+        TypeId(builtin.to_usize())
+    }
+}
+
+/// A type of the environment.
+#[derive(Debug, Drop)]
+pub enum Type {
+    Builtin(BuiltinType),
+    Enum {
+        name: Sym,
+        id: TypeId,
+        is_extern: bool,
+        is_nodebug: bool,
+        variants: Seq<Variant>,
+        pos: Pos,
+    },
+}
+
+impl Type {
+    /// The type's id.
+    pub fn id(&self) -> TypeId {
+        match self {
+            Type::Builtin(builtin) => TypeId::builtin(*builtin),
+            Type::Enum { id, .. } => *id,
+        }
+    }
+
+    /// Where the type is defined; `None` for a builtin one.
+    pub fn pos(&self) -> Option<Pos> {
+        match self {
+            Type::Builtin(_) => None,
+            Type::Enum { pos, .. } => Some(*pos),
+        }
+    }
+
+    /// Whether the type is a primitive.
+    pub fn is_prim(&self) -> bool {
+        false
+    }
+
+    /// Whether the type is an integer type.
+    pub fn is_int(&self) -> bool {
+        match self {
+            Type::Builtin(BuiltinType::Int(_)) => true,
+            _ => false,
+        }
+    }
+}
+
+/// A variant of an enum; `fullname` is `enum.variant`.
+#[derive(Debug, Drop)]
+pub struct Variant {
+    pub name: Sym,
+    pub fullname: Sym,
+    pub id: VariantId,
+    pub fields: Fields,
+    pub pos: Pos,
+}
+
+/// The fields of a variant. No fields are always `Unit`.
+#[derive(Debug, Drop)]
+pub enum Fields {
+    Unit,
+    Struct(StructFields),
+}
+
+/// Named fields, in order.
+#[derive(Debug, Drop)]
+pub struct StructFields {
+    pub fields: Seq<StructField>,
+}
+
+/// A named field.
+#[derive(Debug, Clone, Copy, PartialEq, Eq)]
+pub struct StructField {
+    pub name: Sym,
+    pub id: FieldId,
+    pub ty: TypeId,
+}
