@@ -1,2 +1,3 @@
 pub mod PatternSizes
 pub mod ExprSizes
+pub mod LineStarts

@@ -7,3 +7,5 @@ pub mod ExprTree
 pub mod ExprCode
 pub mod ExprShape
 pub mod ExprFalls
+pub mod Lines
+pub mod Files
