@@ -81,3 +81,27 @@ pub counts_of_file : (found : Option SourceFile) (file : SourceFile) (starts : L
 counts_of_file found file starts here same =
     let counted = λ (p : ℕ). ap (λ s. starts_up_to s p) same ∙ starts_are_counted file.text p in
     subst (λ (o : Option SourceFile). IfSome o (λ f. (p : ℕ) → starts_up_to starts p ≡ newlines_before f.text p)) here counted
+
+tail_is_parted : (p : ℕ → Bool) (x : ℕ) (xs : List ℕ) → IsPartitionedBy p (x ∷ xs) → IsPartitionedBy p xs
+tail_is_parted p x xs parted = λ i j d le l t. parted (suc i) (suc j) d (omega arith) (omega arith) t
+
+none_pass : (p : ℕ → Bool) (x : ℕ) (xs : List ℕ) → IsPartitionedBy p (x ∷ xs) → p x ≡ false → 0 ≡ length (filter p xs)
+none_pass p x xs parted e = point_is_count p xs 0 (omega arith) (λ i d l u. absurd (omega arith)) (λ i d l u.
+    elim (true_or_false (p (get_or xs i d))) [ inl t ↦ let first : p x ≡ true = parted 0 (suc i) d (omega arith) (omega arith) t in cc | inr f ↦ f ])
+
+-- where no element that passes comes after one that fails, the first ones pass
+pass_up_to_count : (p : ℕ → Bool) (xs : List ℕ) (k : ℕ) → IsPartitionedBy p xs → k < length (filter p xs) → p (get_or xs k 0) ≡ true
+pass_up_to_count p [] k parted h = absurd (omega arith)
+pass_up_to_count p (x ∷ xs) zero parted h = elim (true_or_false (p x)) [
+  | inl e ↦ e
+  | inr e ↦ let none = none_pass p x xs parted e in let some = rw e at h in absurd (omega arith)
+]
+pass_up_to_count p (x ∷ xs) (suc k) parted h = elim (true_or_false (p x)) [
+  | inl e ↦ let some = rw e at h in pass_up_to_count p xs k (tail_is_parted p x xs parted) (omega arith)
+  | inr e ↦ let none = none_pass p x xs parted e in let some = rw e at h in absurd (omega arith)
+]
+
+pub counted_start_is_below : (starts : List ℕ) (offset k : ℕ) → IsStrictlyIncreasing starts → k < starts_up_to starts offset → get_or starts k 0 ≤ offset
+counted_start_is_below starts offset k rise h =
+    let passes : nat_le (get_or starts k 0) offset ≡ true = pass_up_to_count (λ s. nat_le s offset) starts k (starts_are_parted starts offset rise) (rw (length-filter (λ s. nat_le s offset) starts) h) in
+    grind (arith, nat_tests)

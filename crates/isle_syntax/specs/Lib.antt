@@ -9,3 +9,4 @@ pub mod ExprShape
 pub mod ExprFalls
 pub mod Lines
 pub mod Files
+pub mod Errors

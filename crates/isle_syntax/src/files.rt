@@ -2,7 +2,7 @@
 ghost use Rattle.std.specs.Prelude.{◌≡◌, ◌<◌, ◌≤◌, ◌+◌, ◌∷◌, ℕ, IfOk, IfSome, IsTrue, ◌↔◌, [], length, map, slice_get, slice_index, string_bytes};
 ghost use Rattle.std.specs.Option.{option_copied, option_map};
 ghost use Rattle.isle_syntax.specs.Files.{source_file};
-ghost use Rattle.isle_syntax.specs.Lines.{line_starts, starts_up_to, newlines_before};
+ghost use Rattle.isle_syntax.specs.Lines.{line_starts, starts_up_to, newlines_before, line_number, column_number};
 
 use std::alloc::{AllocError, Global};
 use std::marker::Model;
@@ -38,7 +38,10 @@ impl LineMap {
 
     /// How many newline bytes stand below an offset: its line, from 0.
     pub fn line(&self, p: usize) -> usize
-        ensures { result ≡ starts_up_to self.now p }
+        ensures value { result ≡ starts_up_to self.now p }
+        ensures bound { result ≤ length self.now }
+        // So that it can be counted from 1.
+        ensures small { result < usize.MAX }
     {
         self.starts.as_slice().partition_point(|start| *start <= p)
     }
@@ -48,6 +51,19 @@ impl LineMap {
         ensures { option_copied result ≡ slice_get self.now i }
     {
         self.starts.get(i)
+    }
+}
+
+impl LineMap {
+    // Where the line of an offset starts.
+    fn start(&self, p: usize) -> usize
+        ensures value { result ≡ slice_index (0 ∷ self.now) (starts_up_to self.now p) }
+        ensures below { result ≤ p }
+    {
+        match self.line(p).checked_sub(1) {
+            None => 0,
+            Some(i) => self.starts[i],
+        }
     }
 }
 
@@ -105,7 +121,7 @@ impl Files {
     }
 
     // The file of a number.
-    fn file(&self, i: usize) -> Option<&File>
+    pub(crate) fn file(&self, i: usize) -> Option<&File>
         ensures { option_copied result ≡ slice_get self.now i }
     {
         self.files.get(i)
@@ -153,7 +169,7 @@ impl Files {
 
 // A file, seen as its name and its text.
 #[derive(Debug, Drop)]
-struct File {
+pub(crate) struct File {
     name: String,
     text: String,
     line_map: LineMap,
@@ -183,7 +199,7 @@ impl File {
         })
     }
 
-    fn name(&self) -> &str
+    pub(crate) fn name(&self) -> &str
         ensures { result.now ≡ self.now.name }
     {
         self.name.as_str()
@@ -199,5 +215,37 @@ impl File {
         ensures { result.now ≡ line_starts self.now.text }
     {
         &self.line_map
+    }
+
+    // The line of an offset, from 1.
+    pub(crate) fn line(&self, offset: usize) -> usize
+        ensures { result ≡ line_number self.now.text offset }
+    {
+        self.line_map.line(offset) + 1
+    }
+
+    // The column of an offset, in bytes from 1.
+    pub(crate) fn column(&self, offset: usize) -> usize
+        requires { offset < usize.MAX }
+        ensures { result ≡ column_number self.now.text offset }
+    {
+        offset - self.line_map.start(offset) + 1
+    }
+}
+
+#[cfg(test)]
+mod tests {
+    use super::*;
+    use std::test::Fail;
+
+    #[test]
+    fn line_map_keeps_offsets_after_newlines(rt: HostRuntime) -> Result<(), Fail> {
+        let map = LineMap::from_str(rt.alloc(), "line 0\nline 1")?;
+        assert_eq!(rt; map.get(0).copied(), Some(7));
+        assert_eq!(rt; map.get(1).copied(), None);
+        assert_eq!(rt; map.line(0), 0);
+        assert_eq!(rt; map.line(7), 1);
+        assert_eq!(rt; map.line(100), 1);
+        Ok(())
     }
 }

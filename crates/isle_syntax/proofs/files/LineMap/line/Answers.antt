@@ -5,8 +5,8 @@ use Rattle.isle_syntax.specs.Lines.{starts_up_to}
 use Rattle.isle_syntax.proofs.LineStarts.{starts_are_parted, point_is_starts_up_to}
 use Rattle.isle_syntax.proofs.files.LineMap.line.Goals as goal
 
-pub returns : goal.returns
-returns c =
+pub returns-clause-value : goal.returns-clause-value
+returns-clause-value c =
     let starts = c.as_slice.result.now in
     let rise : IsStrictlyIncreasing starts = subst IsStrictlyIncreasing (sym c.as_slice.ensures.value) c.self.invariant in
     let point = IsPartitionPoint-from_clause (λ s. nat_le s c.args.p) starts _ c.partition_point.ensures.partitioned (starts_are_parted starts c.args.p rise) (λ a r q k. search rules) in
