@@ -133,17 +133,12 @@ mod tests {
         ))
     }
 
-    // Two files: the second one's first line is 5 bytes long.
-    fn two_files(alloc: Global) -> Result<Files, Fail> {
-        let a = file(alloc, "a.isle", "first\n\n(rule (f _) 1)\n(rule (f x) x)\n")?;
-        let b = file(alloc, "b.isle", "héy\n(decl")?;
-        Ok(Files::from_names_and_contents(alloc, vec![in alloc; a, b]?)?)
-    }
-
     #[test]
     fn prints_overlap_and_type_error(rt: HostRuntime) -> Result<(), Fail> {
         let alloc = rt.alloc();
-        let files = two_files(alloc)?;
+        let a = file(alloc, "a.isle", "first\n\n(rule (f _) 1)\n(rule (f x) x)\n")?;
+        let b = file(alloc, "b.isle", "héy\n(decl")?;
+        let files = Files::from_names_and_contents(alloc, vec![in alloc; a, b]?)?;
         let later = Span::new_single(Pos::new(0, 28));
         let sooner = Span::new_single(Pos::new(0, 13));
         let overlap = Error::OverlapError {

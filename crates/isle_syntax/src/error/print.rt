@@ -45,7 +45,7 @@ fn write_fault<W: fmt::Write>(
 {
     write_heading(f, files, span, kind)?;
     let msg = msg.as_str();
-    write!(f, "  {msg}\n")
+    writeln!(f, "  {msg}")
 }
 
 // The heading, and the places of further rules below it.
@@ -82,7 +82,7 @@ fn write_heading<W: fmt::Write>(
         (heading files.now span.now kind.now) f.new }
 {
     write_place(f, files, span)?;
-    write!(f, ": {kind}\n")
+    writeln!(f, ": {kind}")
 }
 
 // `FILE:LINE:COLUMN` of the start of a span.
