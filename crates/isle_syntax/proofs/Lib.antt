@@ -1,2 +1,4 @@
 pub mod PatternSizes
 pub mod ExprSizes
+pub mod LineStarts
+pub mod ErrorTexts

@@ -10,3 +10,6 @@ pub mod ExprFalls
 pub mod Ends
 pub mod Unread
 pub mod Lookahead
+pub mod Lines
+pub mod Files
+pub mod Errors

@@ -1,5 +1,14 @@
+ghost use Rattle.std.specs.Prelude.{◌≡◌, ◌<◌, ◌+◌};
+
+mod print;
+
+use crate::files::Files;
 use crate::lexer::Pos;
 use crate::text::{Seq, Text};
+use std::fmt;
+use std::marker::Model;
+use std::ops::Range;
+use std::rc::Rc;
 
 /// A stretch of a source file, from its first byte to the byte after its last.
 #[derive(Debug, Clone, Drop)]
@@ -9,12 +18,36 @@ pub struct Span {
 }
 
 impl Span {
-    /// The span of the byte at a position.
-    pub fn at(from: Pos) -> Span {
+    /// The span of the byte at a position; at the greatest offset it holds no byte.
+    pub fn at(pos: Pos) -> Span
+        ensures start { result.from ≡ pos }
+        ensures same_file { result.to.file ≡ pos.file }
+    {
         Span {
-            from,
-            to: Pos::new(from.file, from.offset.saturating_add(1)),
+            from: pos,
+            to: Pos::new(pos.file, pos.offset.saturating_add(1)),
         }
+    }
+
+    /// The stretch of one byte.
+    pub fn new_single(pos: Pos) -> Span
+        requires { pos.offset < usize.MAX }
+        ensures { result
+            ≡ record { from = pos; to = record { file = pos.file; offset = pos.offset + 1 } } }
+    {
+        Span {
+            from: pos,
+            to: Pos::new(pos.file, pos.offset + 1),
+        }
+    }
+}
+
+/// The two offsets of a stretch.
+impl From<&Span> for Range<usize> {
+    ghost from_gives = { λ s r. r ≡ record { start = s.now.from.offset; end = s.now.to.offset } };
+
+    fn from(span: &Span) -> Range<usize> {
+        span.from.offset..span.to.offset
     }
 }
 
@@ -33,4 +66,106 @@ pub enum Error {
     ShadowedError { shadowed: Seq<Span>, mask: Span },
     /// A bound on sizes is passed.
     SizeError { msg: Text, span: Span },
+}
+
+/// Faults with the source files that they lie in, which it prints.
+#[derive(Debug, Drop)]
+pub struct Errors {
+    errors: Vec<Error>,
+    files: Rc<Files>,
+}
+
+impl Model for Errors {
+    ghost use Rattle.std.specs.Prelude.{All};
+    ghost use Rattle.isle_syntax.specs.Errors.{Report, IsPrintable};
+
+    ghost Value = { Report };
+
+    ghost view = { λ e. record { errors = e.errors.items; files = e.files.value } };
+
+    ghost invariant = { λ e. All (IsPrintable e.files.value) e.errors.items };
+}
+
+impl Errors {
+    ghost use Rattle.std.specs.Prelude.{All};
+    ghost use Rattle.isle_syntax.specs.Errors.{IsPrintable};
+
+    /// Faults of files, which takes no memory.
+    pub fn new(errors: Vec<Error>, files: Rc<Files>) -> Errors
+        requires { All (IsPrintable files.value) errors.items }
+        ensures { result ≡ record { errors = errors.items; files = files.value } }
+    {
+        Errors { errors, files }
+    }
+
+    /// The faults.
+    pub fn errors(&self) -> &[Error]
+        ensures value { result.now ≡ self.now.errors }
+        ensures printable { All (IsPrintable self.now.files) result.now }
+    {
+        self.errors.as_slice()
+    }
+
+    /// The files.
+    pub fn files(&self) -> &Rc<Files>
+        ensures { result.now.value ≡ self.now.files }
+    {
+        &self.files
+    }
+}
+
+/// For each fault a line `FILE:LINE:COLUMN: KIND`, from 1, with columns in bytes; then, each on a
+/// line after two spaces, its message, or the further rules as `FILE:LINE:COLUMN`.
+impl fmt::Display for Errors {
+    ghost use Rattle.std.specs.Prelude.{Some};
+    ghost use Rattle.isle_syntax.specs.Errors.{report_text};
+
+    ghost output = { λ e. Some (report_text e) };
+
+    fn fmt<W: fmt::Write>(&self, f: &mut fmt::Formatter<W>) -> fmt::Result {
+        let files: &Files = &self.files;
+        for error in self.errors.as_slice() {
+            print::write_error(f, files, error)?;
+        }
+        Ok(())
+    }
+}
+
+#[cfg(test)]
+mod tests {
+    use super::*;
+    use std::alloc::Global;
+    use std::test::Fail;
+
+    fn file(alloc: Global, name: &str, text: &str) -> Result<(String, String), Fail> {
+        Ok((
+            String::from_str(alloc, name)?,
+            String::from_str(alloc, text)?,
+        ))
+    }
+
+    #[test]
+    fn prints_overlap_and_type_error(rt: HostRuntime) -> Result<(), Fail> {
+        let alloc = rt.alloc();
+        let a = file(alloc, "a.isle", "first\n\n(rule (f _) 1)\n(rule (f x) x)\n")?;
+        let b = file(alloc, "b.isle", "héy\n(decl")?;
+        let files = Files::from_names_and_contents(alloc, vec![in alloc; a, b]?)?;
+        let later = Span::new_single(Pos::new(0, 28));
+        let sooner = Span::new_single(Pos::new(0, 13));
+        let overlap = Error::OverlapError {
+            msg: Text::from_str(alloc, "rules are overlapping")?,
+            rules: Seq::new(vec![in alloc; later, sooner]?),
+        };
+        let typing = Error::TypeError {
+            msg: Text::from_str(alloc, "unknown type")?,
+            span: Span::new_single(Pos::new(1, 100)),
+        };
+        let errors = Errors::new(vec![in alloc; overlap, typing]?, Rc::new(alloc, files)?);
+        let printed = errors.to_string(alloc)?;
+        assert_eq!(rt;
+            printed.as_str(),
+            "a.isle:4:7: overlapping rules\n  a.isle:3:7\nb.isle:2:96: type error\n  unknown type\n"
+        );
+        Ok(())
+    }
 }

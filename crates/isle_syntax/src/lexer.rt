@@ -3,6 +3,7 @@ ghost use Rattle.isle_syntax.specs.Lookahead.{left_of};
 
 use crate::Refusal;
 use crate::error::{Error, Span};
+use crate::files::Files;
 use crate::gap::after_gap;
 use crate::number::number;
 use crate::symbol::symbol;
@@ -19,6 +20,9 @@ pub struct Pos {
 }
 
 impl Pos {
+    ghost use Rattle.std.specs.Prelude.{◌<◌, IfOk, IfSome, length, slice_get, string_bytes};
+    ghost use Rattle.isle_syntax.specs.Files.{named_line};
+
     /// A place.
     pub fn new(file: usize, offset: usize) -> Pos
         ensures { result ≡ record { file = file; offset = offset } }
@@ -31,6 +35,18 @@ impl Pos {
         ensures { IsTrue result ↔ (self.now ≡ record { file = 0; offset = 0 }) }
     {
         self.file == 0 && self.offset == 0
+    }
+
+    /// The text `NAME line N` of the file's name and the line, from 1.
+    pub fn pretty_print_line(&self, alloc: Global, files: &Files) -> Result<String, AllocError>
+        requires { self.now.file < length files.now }
+        ensures { IfSome (slice_get files.now self.now.file)
+            (λ f. IfOk result (λ s. string_bytes s ≡ named_line f self.now.offset)) }
+    {
+        let file = files.file(self.file).unwrap();
+        let name = file.name();
+        let line = file.line(self.offset);
+        format!(in alloc; "{name} line {line}")
     }
 }
 

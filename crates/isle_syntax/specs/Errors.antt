@@ -1,0 +1,66 @@
+-- What errors name of source files, and what they print.
+use Rattle.std.specs.Prelude.{ℕ, ◌-◌, ◌^◌, ◌<◌, List, [], ◌∷◌, ◌++◌, length, All, slice_get, codes}
+use Rattle.std.specs.List.{flat_map}
+use Rattle.std.specs.Option.{option_map_or}
+use Rattle.isle_syntax.specs.Files.{SourceFile, named_place}
+use Rattle.isle_syntax.specs.declared.error.Span.{Span}
+use Rattle.isle_syntax.specs.declared.error.Error.{Error}
+use Rattle.isle_syntax.specs.declared.error.Error.TheVariants.{ParseError, TypeError, UnreachableError, OverlapError, ShadowedError, SizeError}
+
+-- errors, and the files that they speak of
+pub record Report : Type 0 where
+  pub errors : List Error
+  pub files : List SourceFile
+
+-- a span can be printed: its file is known, and its start isn't the greatest number
+pub record HasPlace (files : List SourceFile) (span : Span) : Type 0 where
+  pub known : span.from.file < length files
+  pub not_greatest : span.from.offset < 2 ^ 64 - 1
+
+-- the spans that an error names, first the one at which it stands
+abbrev pub spans_of : Error → List Span
+spans_of (ParseError _ span) = span ∷ []
+spans_of (TypeError _ span) = span ∷ []
+spans_of (UnreachableError _ span) = span ∷ []
+spans_of (OverlapError _ rules) = rules
+spans_of (ShadowedError shadowed mask) = mask ∷ shadowed
+spans_of (SizeError _ span) = span ∷ []
+
+-- an error can be printed: it names a span, and each of its spans has a place
+pub record IsPrintable (files : List SourceFile) (error : Error) : Type 0 where
+  pub named : 0 < length (spans_of error)
+  pub placed : All (HasPlace files) (spans_of error)
+
+-- `FILE:LINE:COLUMN` of a span's start, and nothing where its file isn't known
+abbrev pub place_text : List SourceFile → Span → List ℕ
+place_text files span = option_map_or (λ file. named_place file span.from.offset) (slice_get files span.from.file) []
+
+-- the line `FILE:LINE:COLUMN: KIND`
+abbrev pub heading : List SourceFile → Span → List ℕ → List ℕ
+heading files span kind = place_text files span ++ (codes ": " ++ (kind ++ 10 ∷ []))
+
+-- a text on a line of its own, after two spaces
+abbrev pub indented : List ℕ → List ℕ
+indented text = codes "  " ++ (text ++ 10 ∷ [])
+
+-- a heading, and the message below it
+abbrev pub fault_text : List SourceFile → Span → List ℕ → List ℕ → List ℕ
+fault_text files span kind message = heading files span kind ++ indented message
+
+-- a heading, and further rules below it
+abbrev pub rules_text : List SourceFile → Span → List ℕ → List Span → List ℕ
+rules_text files span kind others = heading files span kind ++ flat_map (λ rule. indented (place_text files rule)) others
+
+-- what is printed of one error: an overlap's first rule heads it, and a shadowing's mask
+abbrev pub error_text : List SourceFile → Error → List ℕ
+error_text files (ParseError message span) = fault_text files span (codes "parse error") message
+error_text files (TypeError message span) = fault_text files span (codes "type error") message
+error_text files (UnreachableError message span) = fault_text files span (codes "unreachable rule") message
+error_text files (OverlapError _ []) = []
+error_text files (OverlapError _ (first ∷ others)) = rules_text files first (codes "overlapping rules") others
+error_text files (ShadowedError shadowed mask) = rules_text files mask (codes "shadowing rule") shadowed
+error_text files (SizeError message span) = fault_text files span (codes "too large") message
+
+-- what is printed of all of them, one after another
+abbrev pub report_text : Report → List ℕ
+report_text report = flat_map (error_text report.files) report.errors
