@@ -28,5 +28,5 @@ new-errors-requires g c =
     let rules = c.new-3.ensures ∙ c.in_ok-vec-2.ensures.items in
     let all_rules : All (HasPlace files) c.new-3.result = subst (All (HasPlace files)) (sym rules) (all_of_two (HasPlace files) c.new_single-later.result c.new_single-sooner.result later sooner) in
     subst (All (IsPrintable files)) (sym c.in_ok-vec-3.ensures.items) (all_of_two (IsPrintable files) _ _
-      (overlap_is_printable files _ _ (omega (arith, ap length rules)) all_rules)
-      (type_error_is_printable files _ _ typing))
+    (overlap_is_printable files _ _ (omega (arith, ap length rules)) all_rules)
+    (type_error_is_printable files _ _ typing))
