@@ -1,5 +1,5 @@
 -- Where the lines of a text start, and on which line and in which column an offset stands.
-use Rattle.std.specs.Prelude.{ℕ, ◌+◌, ◌-◌, Bool, List, [], ◌∷◌, ◌==◌, nat_le, map, filter, count_by, take, slice_index}
+use Rattle.std.specs.Prelude.{ℕ, ◌+◌, ◌-◌, Bool, List, ◌∷◌, ◌==◌, nat_le, map, filter, count_by, take, slice_index}
 use Rattle.std.specs.List.{enumerate_from}
 
 -- a newline byte
