@@ -1,0 +1,4 @@
+use Rattle.isle_run.proofs.query.tokens_of.Given as goal
+
+abbrev pub decreases-tokens : goal.decreases-tokens
+decreases-tokens l = l.lexer.left

@@ -1,0 +1,21 @@
+//! Compiles rule files and answers calls of their terms.
+#![tactic(auto)]
+
+mod answer;
+mod compiler;
+mod overlap;
+mod plain;
+mod program;
+mod query;
+mod shared;
+mod value;
+mod world;
+
+pub use answer::{Answer, Called, Effect};
+pub use compiler::{Refused, compile};
+pub use program::Program;
+pub use query::{QueryFault, is_blank};
+pub use value::Value;
+pub use world::World;
+
+pub use isle_types::{TermId, TypeId};

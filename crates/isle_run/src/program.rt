@@ -1,0 +1,155 @@
+use crate::value::Value;
+use isle_terms::{Rule, Term, TermEnv};
+use isle_types::{BuiltinType, TermId, Type, TypeEnv, TypeId};
+use std::alloc::{AllocError, Global};
+
+/// A compiled list of texts.
+#[derive(Debug, Drop)]
+pub struct Program {
+    tyenv: TypeEnv,
+    termenv: TermEnv,
+    /// For each term the places of its rules, by descending priority, then in the order of the texts.
+    rules_of: Vec<Vec<usize>>,
+}
+
+impl Program {
+    /// The program of typed definitions.
+    pub(crate) fn new(
+        alloc: Global,
+        tyenv: TypeEnv,
+        termenv: TermEnv,
+    ) -> Result<Program, AllocError> {
+        let rules_of = rules_by_term(alloc, &termenv)?;
+        Ok(Program {
+            tyenv,
+            termenv,
+            rules_of,
+        })
+    }
+
+    /// The term of a name.
+    pub fn term(&self, name: &str) -> Option<TermId> {
+        self.termenv.term_of_sym(self.tyenv.intern_name(name)?)
+    }
+
+    /// The name of a term; empty at an id that the program doesn't have.
+    pub fn name(&self, term: TermId) -> &str {
+        match self.termenv.get_term(term) {
+            Some(term) => self.tyenv.sym_name(term.name),
+            None => "",
+        }
+    }
+
+    /// The type of a name.
+    pub fn type_named(&self, name: &str) -> Option<TypeId> {
+        self.tyenv.type_named(name)
+    }
+
+    /// The types of a term's arguments; none at an id that the program doesn't have.
+    pub fn arg_types(&self, term: TermId) -> &[TypeId] {
+        match self.termenv.get_term(term) {
+            Some(term) => term.arg_tys.as_slice(),
+            None => &[],
+        }
+    }
+
+    /// Whether a call of the term can be answered: it has rules.
+    pub fn runnable(&self, term: TermId) -> bool {
+        !self.rules_of(term).is_empty()
+    }
+
+    /// Whether the term may answer nothing.
+    pub(crate) fn is_partial(&self, term: TermId) -> bool {
+        match self.termenv.get_term(term) {
+            Some(term) => term.is_partial(),
+            None => false,
+        }
+    }
+
+    /// The places of a term's rules, by descending priority, then in the order of the texts.
+    pub(crate) fn rules_of(&self, term: TermId) -> &[usize] {
+        match self.rules_of.get(term.index()) {
+            Some(places) => places.as_slice(),
+            None => &[],
+        }
+    }
+
+    /// For each term the places of its rules.
+    pub(crate) fn rules_by_term(&self) -> &[Vec<usize>] {
+        self.rules_of.as_slice()
+    }
+
+    /// The rules, in the order of the texts.
+    pub(crate) fn rules(&self) -> &[Rule] {
+        self.termenv.rules()
+    }
+
+    /// The variant term of a name at a type.
+    pub(crate) fn variant_at(&self, name: &str, ty: TypeId) -> Option<&Term> {
+        let term = self.termenv.get_term(self.term(name)?)?;
+        if term.is_enum_variant() && term.ret_ty == ty {
+            Some(term)
+        } else {
+            None
+        }
+    }
+
+    /// Whether an integer lies in the range of a type.
+    pub(crate) fn holds_int(&self, ty: TypeId, val: i128, big: bool) -> bool {
+        match self.tyenv.get_type(ty) {
+            Some(Type::Builtin(BuiltinType::Int(int))) => int.holds(val, big),
+            _ => false,
+        }
+    }
+
+    /// Whether a value is one of a type.
+    #[cycle(has_type)]
+    pub fn has_type(&self, value: &Value, ty: TypeId) -> bool {
+        match value {
+            Value::Bool(_) => ty == TypeId::BOOL,
+            Value::Int(n) => self.holds_int(ty, *n, false),
+            Value::Big(n) => *n > i128::MAX.cast_unsigned()
+                && self.holds_int(ty, n.cast_signed(), true),
+            Value::Const(_) => false,
+            Value::Opaque(_) => false,
+            Value::Data(name, fields) => match self.variant_at(name, ty) {
+                Some(term) => self.have_types(fields, term.arg_tys.as_slice()),
+                None => false,
+            },
+        }
+    }
+
+    /// Whether values are of these types, one each.
+    #[cycle(has_type)]
+    fn have_types(&self, values: &[Value], types: &[TypeId]) -> bool {
+        if values.len() != types.len() {
+            return false;
+        }
+        for i in 0..values.len() {
+            if !self.has_type(&values[i], types[i]) {
+                return false;
+            }
+        }
+        true
+    }
+}
+
+/// For each term the places of its rules, by descending priority, then in the order of the texts.
+fn rules_by_term(alloc: Global, termenv: &TermEnv) -> Result<Vec<Vec<usize>>, AllocError> {
+    let mut places = empty_lists(alloc, termenv.terms().len())?;
+    for (place, rule) in termenv.rules().iter().enumerate() {
+        if let Some(list) = places.get_mut(rule.root_term.index()) {
+            list.push(place)?;
+        }
+    }
+    Ok(places)
+}
+
+/// So many empty lists.
+fn empty_lists(alloc: Global, count: usize) -> Result<Vec<Vec<usize>>, AllocError> {
+    let mut lists = Vec::with_capacity(alloc, count)?;
+    for _ in 0..count {
+        lists.push(Vec::new(alloc))?;
+    }
+    Ok(lists)
+}

@@ -1,0 +1,256 @@
+use crate::program::Program;
+use crate::value::Value;
+use isle_syntax::Refusal;
+use isle_syntax::lexer::{Lexer, Token};
+use isle_types::{TermId, TypeId};
+use std::alloc::{AllocError, AllocFailed, Global};
+
+/// Why a query isn't a call, in the order of checking after `Q4`.
+#[derive(Debug, Drop)]
+pub enum QueryFault {
+    /// No term has this name.
+    Q1,
+    /// The term isn't runnable.
+    Q2,
+    /// The number of arguments is another one, or one isn't a value of its type.
+    Q3,
+    /// The text has a token fault, or isn't one balanced list that begins with a symbol.
+    Q4,
+    Memory(AllocError),
+}
+
+impl From<AllocError> for QueryFault {
+    fn from(e: AllocError) -> QueryFault {
+        QueryFault::Memory(e)
+    }
+}
+
+impl<T: Drop> From<AllocFailed<T>> for QueryFault {
+    fn from(_e: AllocFailed<T>) -> QueryFault {
+        QueryFault::Memory(AllocError)
+    }
+}
+
+/// Whether a text has no token and no token fault: it is white space and comments alone.
+pub fn is_blank(alloc: Global, text: &str) -> Result<bool, AllocError> {
+    let mut lexer = Lexer::new(alloc, 0, text);
+    match lexer.next() {
+        Ok(None) => Ok(true),
+        Ok(Some(_)) => Ok(false),
+        Err(Refusal::Fault(_)) => Ok(false),
+        Err(Refusal::Memory(e)) => Err(e),
+    }
+}
+
+/// The tokens of a text, or `None` where it has a token fault.
+fn tokens_of(alloc: Global, text: &str) -> Result<Option<Vec<Token>>, AllocError> {
+    let mut lexer = Lexer::new(alloc, 0, text);
+    let mut tokens = Vec::new(alloc);
+    'tokens: loop {
+        match lexer.next() {
+            Ok(Some((_, token))) => tokens.push(token)?,
+            Ok(None) => return Ok(Some(tokens)),
+            Err(Refusal::Fault(_)) => return Ok(None),
+            Err(Refusal::Memory(e)) => return Err(e),
+        }
+    }
+}
+
+/// Whether the parenthesis that is open before these tokens closes at the last one.
+fn closes_at_end(tokens: &[Token]) -> bool {
+    let mut open: usize = 1;
+    for i in 0..tokens.len() {
+        match &tokens[i] {
+            Token::LParen => open = open.saturating_add(1),
+            Token::RParen => open = open.saturating_sub(1),
+            _ => {}
+        }
+        if open == 0 {
+            return i + 1 == tokens.len();
+        }
+    }
+    false
+}
+
+/// The name at the head of one balanced list, and the tokens behind it.
+fn head_of(tokens: &[Token]) -> Option<(&str, &[Token])> {
+    match tokens {
+        [Token::LParen, Token::Symbol(name), rest @ ..] => {
+            if closes_at_end(rest) {
+                Some((name.as_str(), rest))
+            } else {
+                None
+            }
+        }
+        _ => None,
+    }
+}
+
+impl Program {
+    /// The call that a text spells.
+    pub fn query(&self, alloc: Global, text: &str) -> Result<(TermId, Vec<Value>), QueryFault> {
+        let Some(tokens) = tokens_of(alloc, text)? else {
+            return Err(QueryFault::Q4);
+        };
+        let Some((name, rest)) = head_of(tokens.as_slice()) else {
+            return Err(QueryFault::Q4);
+        };
+        let Some(term) = self.term(name) else {
+            return Err(QueryFault::Q1);
+        };
+        if !self.runnable(term) {
+            return Err(QueryFault::Q2);
+        }
+        match read_args(alloc, self, term, rest)? {
+            Some(args) => Ok((term, args)),
+            None => Err(QueryFault::Q3),
+        }
+    }
+}
+
+/// A list that is being read: its term, the types of its arguments, and those read so far.
+#[derive(Debug, Drop)]
+struct Frame<'p> {
+    term: TermId,
+    types: &'p [TypeId],
+    args: Vec<Value>,
+}
+
+/// A reader of a call's arguments, which come token by token. Lists may nest without bound.
+#[derive(Debug, Drop)]
+struct Reader<'p> {
+    alloc: Global,
+    program: &'p Program,
+    /// The lists that are open, the inner ones last.
+    frames: Vec<Frame<'p>>,
+    /// Whether the last token opened a list, whose variant comes next.
+    opened: bool,
+    /// The arguments of the outermost list, once it is closed.
+    done: Option<Vec<Value>>,
+}
+
+/// The arguments of a term's call up to its closing parenthesis, or `None` where their number is another one or one
+/// isn't a value of its type.
+fn read_args(
+    alloc: Global,
+    program: &Program,
+    term: TermId,
+    tokens: &[Token],
+) -> Result<Option<Vec<Value>>, AllocError> {
+    let mut reader = Reader {
+        alloc,
+        program,
+        frames: Vec::new(alloc),
+        opened: false,
+        done: None,
+    };
+    reader.open(term)?;
+    for token in tokens {
+        if !reader.read(token)? {
+            return Ok(None);
+        }
+    }
+    Ok(reader.done.take())
+}
+
+impl<'p> Reader<'p> {
+    fn open(&mut self, term: TermId) -> Result<(), AllocError> {
+        let program = self.program;
+        self.frames.push(Frame {
+            term,
+            types: program.arg_types(term),
+            args: Vec::new(self.alloc),
+        })?;
+        Ok(())
+    }
+
+    /// The type of the value that comes next, or `None` where none may come.
+    fn wanted(&self) -> Option<TypeId> {
+        let frame = self.frames.last()?;
+        frame.types.get(frame.args.len()).copied()
+    }
+
+    /// Reads a token, and answers whether it goes on with arguments of the right types.
+    fn read(&mut self, token: &Token) -> Result<bool, AllocError> {
+        if self.opened {
+            self.opened = false;
+            return self.read_variant(token);
+        }
+        match token {
+            Token::LParen => {
+                self.opened = true;
+                Ok(self.wanted().is_some())
+            }
+            Token::RParen => self.close(),
+            Token::Int(n) => self.read_int(*n),
+            Token::Big(n) => self.read_big(*n),
+            Token::Symbol(name) => self.read_bool(name.as_str()),
+            Token::At => Ok(false),
+        }
+    }
+
+    fn read_variant(&mut self, token: &Token) -> Result<bool, AllocError> {
+        let program = self.program;
+        match (token, self.wanted()) {
+            (Token::Symbol(name), Some(ty)) => match program.variant_at(name.as_str(), ty) {
+                Some(term) => {
+                    self.open(term.id)?;
+                    Ok(true)
+                }
+                None => Ok(false),
+            },
+            _ => Ok(false),
+        }
+    }
+
+    fn read_int(&mut self, n: i128) -> Result<bool, AllocError> {
+        match self.wanted() {
+            Some(ty) if self.program.holds_int(ty, n, false) => self.add(Value::Int(n)),
+            _ => Ok(false),
+        }
+    }
+
+    fn read_big(&mut self, n: u128) -> Result<bool, AllocError> {
+        match self.wanted() {
+            Some(ty) if self.program.holds_int(ty, n.cast_signed(), true) => self.add(Value::Big(
+                n,
+            )),
+            _ => Ok(false),
+        }
+    }
+
+    fn read_bool(&mut self, name: &str) -> Result<bool, AllocError> {
+        match self.wanted() {
+            Some(TypeId::BOOL) if name == "true" => self.add(Value::Bool(true)),
+            Some(TypeId::BOOL) if name == "false" => self.add(Value::Bool(false)),
+            _ => Ok(false),
+        }
+    }
+
+    /// Adds a value to the innermost list.
+    fn add(&mut self, value: Value) -> Result<bool, AllocError> {
+        match self.frames.last_mut() {
+            Some(frame) => {
+                frame.args.push(value)?;
+                Ok(true)
+            }
+            None => Ok(false),
+        }
+    }
+
+    /// Closes the innermost list, which must have all its arguments.
+    fn close(&mut self) -> Result<bool, AllocError> {
+        let Some(frame) = self.frames.pop() else {
+            return Ok(false);
+        };
+        if frame.args.len() != frame.types.len() {
+            return Ok(false);
+        }
+        if self.frames.is_empty() {
+            self.done = Some(frame.args);
+            return Ok(true);
+        }
+        let name = String::from_str(self.alloc, self.program.name(frame.term))?;
+        self.add(Value::Data(name, frame.args))
+    }
+}
