@@ -1,0 +1,4 @@
+pub mod Replies
+pub mod Faults
+pub mod Statuses
+pub mod Writing

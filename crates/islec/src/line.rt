@@ -1,0 +1,118 @@
+//! The words of a command line.
+ghost use Rattle.std.specs.Prelude.{◌≡◌, ◌<◌, IfOk, IfSome, vec_len, alloc_error};
+ghost use Rattle.islec.specs.declared.line.LineFault.TheVariants.{Memory};
+ghost use Rattle.islec.specs.Faults.{Tells};
+
+use clap::error::ErrorKind;
+use clap::{Arg, ArgAction, ArgMatches, Command, Error};
+use std::alloc::{AllocError, AllocFailed, Global};
+use std::convert::AsStr;
+
+/// What the words of a command line ask for.
+#[derive(Debug, Drop)]
+pub struct Line {
+    pub job: Job,
+    /// The names of the rule files, in order.
+    pub files: Vec<String>,
+    /// The name of the world's file.
+    pub world: Option<String>,
+}
+
+/// A command and its numbers.
+#[derive(Debug, Clone, Copy, PartialEq, Eq)]
+pub enum Job {
+    /// Answers queries, with at most `depth` calls of terms with rules open at once.
+    Run { depth: u32 },
+}
+
+/// Why words gave no command.
+#[derive(Debug, Drop)]
+pub enum LineFault {
+    /// The words are no command, or ask for help.
+    Usage(Error),
+    Memory(AllocError),
+}
+
+impl From<Error> for LineFault {
+    ghost from_gives = { Tells };
+
+    fn from(error: Error) -> LineFault {
+        if error.kind() == ErrorKind::OutOfMemory {
+            LineFault::Memory(AllocError)
+        } else {
+            LineFault::Usage(error)
+        }
+    }
+}
+
+impl From<AllocError> for LineFault {
+    ghost from_gives = { λ _ fault. fault ≡ Memory alloc_error };
+
+    fn from(error: AllocError) -> LineFault {
+        LineFault::Memory(error)
+    }
+}
+
+/// Reads the words of a command line, of which the first is the program's name.
+pub fn line_of<S: AsStr>(alloc: Global, words: &[S]) -> Result<Line, LineFault>
+    ensures { IfOk result (λ line. 0 < vec_len line.files) }
+{
+    let mut command = command(alloc)?;
+    let matches = command.try_get_matches_from_mut(words)?;
+    if let Some(run) = matches.subcommand_matches("run") {
+        if let Some(line) = run_line(alloc, run)? {
+            return Ok(line);
+        }
+    }
+    let fault = command.error(ErrorKind::MissingSubcommand, "a command is required")?;
+    Err(LineFault::Usage(fault))
+}
+
+fn command<'a>(alloc: Global) -> Result<Command<'a>, AllocError> {
+    let depth = Arg::new(alloc, "depth")
+        .long("depth")
+        .value_name("N")
+        .help("How many calls of terms with rules may be open at once")
+        .value_parser(clap::value_parser!(u32))
+        .default_value("100");
+    let file = Arg::new(alloc, "file")
+        .value_name("FILE")
+        .help("The rule files, compiled together in this order")
+        .action(ArgAction::Append)
+        .num_args(1..)
+        .required(true);
+    let run = Command::new(alloc, "run")
+        .about("Answers queries from standard input, one a line")
+        .arg(depth)?
+        .arg(file)?;
+    Command::new(alloc, "islec")
+        .about("Compiles files of ISLE rules and answers queries by them")
+        .subcommand_required(true)
+        .subcommand(run)
+}
+
+// `None` where the matches have no depth or no file, as matches of `run` always have.
+fn run_line(alloc: Global, matches: &ArgMatches<'_>) -> Result<Option<Line>, AllocError>
+    ensures { IfOk result (λ read. IfSome read (λ line. 0 < vec_len line.files)) }
+{
+    let Some(depth) = matches.get_one::<u32>("depth") else {
+        return Ok(None);
+    };
+    let files = copies(alloc, matches.get_strs("file").unwrap_or(&[]))?;
+    if files.is_empty() {
+        return Ok(None);
+    }
+    Ok(Some(Line {
+        job: Job::Run { depth },
+        files,
+        world: None,
+    }))
+}
+
+fn copies(alloc: Global, names: &[&str]) -> Result<Vec<String>, AllocError> {
+    let mut copies = Vec::new(alloc);
+    for name in names {
+        copies.push(String::from_str(alloc, name)?)?;
+    }
+    Ok(copies)
+}

@@ -1,0 +1,17 @@
+//! `islec`: compiles files of ISLE rules and answers queries by them.
+#![tactic(auto)]
+
+pub mod answer;
+pub mod line;
+pub mod perform;
+pub mod program;
+pub mod serve;
+pub mod status;
+#[cfg(test)]
+mod tests;
+
+use std::process::ExitCode;
+
+fn main(rt: HostRuntime) -> ExitCode {
+    ExitCode::from(program::run(&rt))
+}

@@ -1,0 +1,102 @@
+//! A whole command on texts.
+ghost use Rattle.std.specs.Prelude.{◌≡◌, ◌≢◌, IfOk};
+ghost use Rattle.islec.specs.Statuses.{code_of};
+ghost use Rattle.islec.specs.declared.status.Status.{Status};
+
+use crate::line::Job;
+use crate::serve::{ServeFault, Served, serve, write_text};
+use crate::status::{Status, out_of_memory};
+use isle_run::{Refused, Value, World, compile};
+use isle_syntax::error::Errors;
+use isle_syntax::files::Files;
+use std::alloc::{AllocError, Global};
+use std::io::{Read, Write};
+use std::rc::Rc;
+
+/// Does a command on texts, each with its name, and gives the exit status: 0 all well, 1 texts
+/// refused, 3 some query refused, stuck, spent or ill-typed, 4 reading or writing failed, 5 out of
+/// memory. Nothing asks the world yet.
+pub fn perform<R: Read, W: Write>(
+    alloc: Global,
+    job: Job,
+    texts: Vec<(String, String)>,
+    _world: Option<(String, String)>,
+    reader: &mut R,
+    writer: &mut W,
+) -> u8
+    ensures { (status : Status) × (status ≢ Status.Usage) × (result ≡ code_of status) }
+{
+    let Job::Run { depth } = job;
+    let status = match run(alloc, depth, texts, reader, writer) {
+        Ok(status) => status,
+        Err(ServeFault::Read) => Status::InputOutput,
+        Err(ServeFault::Write) => Status::InputOutput,
+        Err(ServeFault::Memory) => out_of_memory(writer),
+    };
+    status.code()
+}
+
+fn run<R: Read, W: Write>(
+    alloc: Global,
+    depth: u32,
+    texts: Vec<(String, String)>,
+    reader: &mut R,
+    writer: &mut W,
+) -> Result<Status, ServeFault>
+    ensures { IfOk result (λ status. status ≢ Status.Usage) }
+{
+    let files = Rc::new(alloc, Files::from_names_and_contents(alloc, texts)?)?;
+    match compile(alloc, files) {
+        Ok(program) => match serve(alloc, &program, &mut Empty, depth, reader, writer)? {
+            Served::AllWell => Ok(Status::AllWell),
+            Served::SomeRefused => Ok(Status::SomeRefused),
+        },
+        Err(Refused::Faults(errors)) => {
+            write_faults(alloc, &errors, writer)?;
+            Ok(Status::TextsRefused)
+        }
+        Err(Refused::Memory) => Err(ServeFault::Memory),
+    }
+}
+
+fn write_faults<W: Write>(
+    alloc: Global,
+    errors: &Errors,
+    writer: &mut W,
+) -> Result<(), ServeFault> {
+    let text = errors.to_string(alloc)?;
+    write_text(writer, text.as_str())
+}
+
+/// A world whose external functions answer nothing.
+#[derive(Drop)]
+struct Empty;
+
+impl World for Empty {
+    fn construct(
+        &self,
+        _alloc: Global,
+        _term: &str,
+        _args: &[Value],
+    ) -> Result<Option<Value>, AllocError> {
+        Ok(None)
+    }
+
+    fn extract(
+        &self,
+        _alloc: Global,
+        _term: &str,
+        _arg: &Value,
+    ) -> Result<Option<Vec<Value>>, AllocError> {
+        Ok(None)
+    }
+
+    fn effect(
+        &mut self,
+        _alloc: Global,
+        _term: &str,
+        _args: &[Value],
+    ) -> Result<Option<Value>, AllocError> {
+        Ok(None)
+    }
+}

@@ -1,0 +1,114 @@
+#!/usr/bin/env python3
+"""Runs `islec run` on programs and queries with known answers.
+
+    replay.py PROGRAM FILE.json ..
+
+Each FILE is a list of cases, as tests/vectors/README.md describes them. Prints the name of each
+case that fails with what differs, and last `N passed, M failed`. Exits with 1 where one failed.
+"""
+
+import concurrent.futures
+import difflib
+import json
+import os
+import re
+import subprocess
+import sys
+import tempfile
+
+SECONDS = 60
+SHOWN_LINES = 12
+
+FAULT = re.compile(r"^(?P<place>.+:\d+:\d+): (?P<kind>parse error|type error|unreachable rule"
+                   r"|overlapping rules|shadowing rule|too large)$")
+
+
+def without_messages(text):
+    """The lines of faults, and the partners of overlapping and shadowing rules."""
+    kept = []
+    has_partners = False
+    for line in text.split("\n"):
+        fault = FAULT.match(line)
+        if fault:
+            has_partners = fault["kind"] in ("overlapping rules", "shadowing rule")
+        elif line.startswith("  ") and not has_partners:
+            continue
+        kept.append(line)
+    return "\n".join(kept)
+
+
+def kind_alone(text):
+    """The kind of the first line where it is a type error, since no more of that is fixed."""
+    fault = FAULT.match(text.split("\n", 1)[0])
+    return "type error\n" if fault and fault["kind"] == "type error" else text
+
+
+def comparable(output, status):
+    """What two outputs of one status have in common where both are right."""
+    text = output.decode("utf-8", "backslashreplace")
+    return kind_alone(without_messages(text)) if status == 1 else text
+
+
+def run(program, case):
+    """The output and the exit status of the program on a case."""
+    with tempfile.TemporaryDirectory() as folder:
+        for name, text in case["files"].items():
+            with open(os.path.join(folder, name), "wb") as file:
+                file.write(text.encode())
+        words = ["run", "--depth", str(case["depth"])]
+        if case["world"] is not None:
+            with open(os.path.join(folder, "world"), "wb") as file:
+                file.write(case["world"].encode())
+            words += ["--world", "world"]
+        done = subprocess.run(
+            [program, *words, *sorted(case["files"])],
+            cwd=folder,
+            input=case["queries"].encode(),
+            stdout=subprocess.PIPE,
+            stderr=subprocess.PIPE,
+            timeout=SECONDS,
+            check=False,
+        )
+    return done.stdout + done.stderr, done.returncode
+
+
+def differences(program, case):
+    """The lines that tell how a case fails: none where it passes."""
+    try:
+        output, status = run(program, case)
+    except subprocess.TimeoutExpired:
+        return [f"no end within {SECONDS} seconds"]
+    found = []
+    if status != case["run_status"]:
+        found.append(f"status {status}, wanted {case['run_status']}")
+    wanted = comparable(case["run"].encode(), case["run_status"])
+    given = comparable(output, status)
+    if given != wanted:
+        found += difflib.unified_diff(
+            wanted.split("\n"), given.split("\n"), "wanted", "given", n=1, lineterm="")
+    return found
+
+
+def main():
+    if len(sys.argv) < 3:
+        sys.exit(__doc__)
+    program = os.path.abspath(sys.argv[1])
+    cases = []
+    for path in sys.argv[2:]:
+        with open(path, encoding="utf-8") as file:
+            cases += json.load(file)
+    failed = 0
+    with concurrent.futures.ThreadPoolExecutor(os.cpu_count() or 1) as pool:
+        results = pool.map(lambda case: differences(program, case), cases)
+        for case, found in zip(cases, results):
+            if found:
+                failed += 1
+                print(case["name"])
+                for line in found[:SHOWN_LINES]:
+                    print(f"    {line}")
+    print(f"{len(cases) - failed} passed, {failed} failed")
+    sys.exit(1 if failed else 0)
+
+
+if __name__ == "__main__":
+    main()
