@@ -1,3 +1,6 @@
+ghost use Rattle.std.specs.Prelude.{◌≡◌};
+ghost use Rattle.isle_terms.specs.Terms.{is_variant_kind, is_partial_kind, has_rules_kind, makes_kind};
+
 use isle_syntax::Seq;
 use isle_syntax::lexer::Pos;
 use isle_types::{Sym, TermId, TypeId, VariantId};
@@ -43,12 +46,16 @@ pub enum ConstructorKind {
 
 impl Term {
     /// The type of the term's value.
-    pub fn ty(&self) -> TypeId {
+    pub fn ty(&self) -> TypeId
+        ensures { result ≡ self.now.ret_ty }
+    {
         self.ret_ty
     }
 
     /// Whether the term is a variant of an enum.
-    pub fn is_enum_variant(&self) -> bool {
+    pub fn is_enum_variant(&self) -> bool
+        ensures { result ≡ is_variant_kind self.now.kind }
+    {
         match &self.kind {
             TermKind::EnumVariant { .. } => true,
             TermKind::Decl { .. } => false,
@@ -56,7 +63,9 @@ impl Term {
     }
 
     /// Whether the term may answer nothing.
-    pub fn is_partial(&self) -> bool {
+    pub fn is_partial(&self) -> bool
+        ensures { result ≡ is_partial_kind self.now.kind }
+    {
         match &self.kind {
             TermKind::EnumVariant { .. } => false,
             TermKind::Decl { flags, .. } => flags.partial,
@@ -64,7 +73,9 @@ impl Term {
     }
 
     /// Whether the term can be used in an expression.
-    pub fn has_constructor(&self) -> bool {
+    pub fn has_constructor(&self) -> bool
+        ensures { result ≡ makes_kind self.now.kind }
+    {
         match &self.kind {
             TermKind::EnumVariant { .. } => true,
             TermKind::Decl {
@@ -75,12 +86,16 @@ impl Term {
     }
 
     /// Whether the term can be used in a pattern.
-    pub fn has_extractor(&self) -> bool {
+    pub fn has_extractor(&self) -> bool
+        ensures { result ≡ is_variant_kind self.now.kind }
+    {
         self.is_enum_variant()
     }
 
     /// Whether the term has rules.
-    pub fn has_internal_constructor(&self) -> bool {
+    pub fn has_internal_constructor(&self) -> bool
+        ensures { result ≡ has_rules_kind self.now.kind }
+    {
         match &self.kind {
             TermKind::EnumVariant { .. } => false,
             TermKind::Decl {

@@ -1,0 +1,2 @@
+pub mod IntTypes
+pub mod Types

@@ -1,4 +1,5 @@
-ghost use Rattle.std.specs.Prelude.{◌≡◌};
+ghost use Rattle.std.specs.Prelude.{◌≡◌, ◌↔◌, ◌-◌, ◌^◌, ◌≤ℤ◌, ℤ, pos, IsTrue};
+ghost use Rattle.isle_types.specs.IntTypes.{int_name, has_sign, HasNumber, least_of, greatest_of, spelt_number, builtin_name, builtin_place};
 
 use crate::ids::{FieldId, Sym, TypeId, VariantId};
 use isle_syntax::Seq;
@@ -24,7 +25,9 @@ pub enum IntType {
 
 impl IntType {
     /// The type's name.
-    pub fn name(self) -> &'static str {
+    pub fn name(self) -> &'static str
+        ensures { result.now ≡ int_name self }
+    {
         match self {
             IntType::U8 => "u8",
             IntType::U16 => "u16",
@@ -42,7 +45,9 @@ impl IntType {
     }
 
     /// Whether the type has negative numbers.
-    pub fn is_signed(self) -> bool {
+    pub fn is_signed(self) -> bool
+        ensures { result ≡ has_sign self }
+    {
         match self {
             IntType::I8
             | IntType::I16
@@ -54,25 +59,33 @@ impl IntType {
         }
     }
 
-    /// The least and the greatest number of a type other than `u128`, whose greatest is no `i128`.
-    fn range(self) -> (i128, i128) {
+    /// The least and the greatest number of a type, as far as they are an `i128`.
+    fn range(self) -> (i128, i128)
+        ensures least { result.0 ≡ least_of self }
+        ensures below { result.1 ≤ℤ greatest_of self }
+        ensures above { (n : ℤ) → n ≤ℤ pos (2 ^ 127 - 1) → n ≤ℤ greatest_of self → n ≤ℤ result.1 }
+    {
         match self {
             IntType::U8 => (0, 0xff),
             IntType::U16 => (0, 0xffff),
             IntType::U32 => (0, 0xffff_ffff),
-            IntType::U64 | IntType::USize => (0, 0xffff_ffff_ffff_ffff),
+            IntType::U64 => (0, 0xffff_ffff_ffff_ffff),
             IntType::U128 => (0, i128::MAX),
+            IntType::USize => (0, 0xffff_ffff_ffff_ffff),
             IntType::I8 => (-0x80, 0x7f),
             IntType::I16 => (-0x8000, 0x7fff),
             IntType::I32 => (-0x8000_0000, 0x7fff_ffff),
-            IntType::I64 | IntType::ISize => (-0x8000_0000_0000_0000, 0x7fff_ffff_ffff_ffff),
+            IntType::I64 => (-0x8000_0000_0000_0000, 0x7fff_ffff_ffff_ffff),
             IntType::I128 => (i128::MIN, i128::MAX),
+            IntType::ISize => (-0x8000_0000_0000_0000, 0x7fff_ffff_ffff_ffff),
         }
     }
 
     /// Whether the type has a literal's number: `val` itself, or where `big` is set the number from 2^127 on of which
     /// `val` keeps the 128 bits.
-    pub fn holds(self, val: i128, big: bool) -> bool {
+    pub fn holds(self, val: i128, big: bool) -> bool
+        ensures { IsTrue result ↔ HasNumber self (spelt_number val big) }
+    {
         if big {
             return self == IntType::U128 && val < 0;
         }
@@ -113,7 +126,9 @@ impl BuiltinType {
     ];
 
     /// The type's name.
-    pub fn name(self) -> &'static str {
+    pub fn name(self) -> &'static str
+        ensures { result.now ≡ builtin_name self }
+    {
         match self {
             BuiltinType::Bool => "bool",
             BuiltinType::Int(int) => int.name(),
@@ -121,7 +136,9 @@ impl BuiltinType {
     }
 
     /// The number of the type's id.
-    pub fn to_usize(self) -> usize {
+    pub fn to_usize(self) -> usize
+        ensures { result ≡ builtin_place self }
+    {
         match self {
             BuiltinType::Bool => 0,
             BuiltinType::Int(IntType::U8) => 1,
@@ -142,7 +159,9 @@ impl BuiltinType {
 
 impl TypeId {
     /// The id of a builtin type.
-    pub fn builtin(builtin: BuiltinType) -> TypeId {
+    pub fn builtin(builtin: BuiltinType) -> TypeId
+        ensures { result.0 ≡ builtin_place builtin }
+    {
         TypeId(builtin.to_usize())
     }
 }
@@ -162,8 +181,13 @@ pub enum Type {
 }
 
 impl Type {
+    ghost use Rattle.std.specs.Prelude.{◌≡◌, false};
+    ghost use Rattle.isle_types.specs.Types.{id_of, position_of, is_int_type};
+
     /// The type's id.
-    pub fn id(&self) -> TypeId {
+    pub fn id(&self) -> TypeId
+        ensures { result ≡ id_of self.now }
+    {
         match self {
             Type::Builtin(builtin) => TypeId::builtin(*builtin),
             Type::Enum { id, .. } => *id,
@@ -171,7 +195,9 @@ impl Type {
     }
 
     /// Where the type is defined; `None` for a builtin one.
-    pub fn pos(&self) -> Option<Pos> {
+    pub fn pos(&self) -> Option<Pos>
+        ensures { result ≡ position_of self.now }
+    {
         match self {
             Type::Builtin(_) => None,
             Type::Enum { pos, .. } => Some(*pos),
@@ -179,12 +205,16 @@ impl Type {
     }
 
     /// Whether the type is a primitive.
-    pub fn is_prim(&self) -> bool {
+    pub fn is_prim(&self) -> bool
+        ensures { result ≡ false }
+    {
         false
     }
 
     /// Whether the type is an integer type.
-    pub fn is_int(&self) -> bool {
+    pub fn is_int(&self) -> bool
+        ensures { result ≡ is_int_type self.now }
+    {
         match self {
             Type::Builtin(BuiltinType::Int(_)) => true,
             _ => false,
