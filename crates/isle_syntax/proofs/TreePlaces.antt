@@ -66,7 +66,7 @@ module _ (P Q : Pos → Type 0) (weaker : (p : Pos) → P p → Q p) where
   variant_at_weaker variant h = record {
     name = weaker _ h.name;
     fields = fields_at_weaker variant.fields h.fields;
-    pos = weaker _ h.pos
+    pos = weaker _ h.pos;
   }
 
   type_value_at_weaker : (ty : TypeValue) → TypeValueAt P ty → TypeValueAt Q ty
@@ -77,7 +77,7 @@ module _ (P Q : Pos → Type 0) (weaker : (p : Pos) → P p → Q p) where
   type_at_weaker type h = record {
     name = weaker _ h.name;
     ty = type_value_at_weaker type.ty h.ty;
-    pos = weaker _ h.pos
+    pos = weaker _ h.pos;
   }
 
   decl_at_weaker : (decl : DeclTree) → DeclAt P decl → DeclAt Q decl
@@ -85,7 +85,7 @@ module _ (P Q : Pos → Type 0) (weaker : (p : Pos) → P p → Q p) where
     term = weaker _ h.term;
     arg_tys = All-weaker (IdentAt P) (IdentAt Q) (λ name. weaker name.1) decl.arg_tys h.arg_tys;
     ret_ty = weaker _ h.ret_ty;
-    pos = weaker _ h.pos
+    pos = weaker _ h.pos;
   }
 
   mutual
@@ -117,7 +117,7 @@ module _ (P Q : Pos → Type 0) (weaker : (p : Pos) → P p → Q p) where
   iflet_at_weaker iflet h = record {
     pattern = pattern_tree_at_weaker (pattern_of iflet.pattern) h.pattern;
     expr = expr_tree_at_weaker (expr_of iflet.expr) h.expr;
-    pos = weaker _ h.pos
+    pos = weaker _ h.pos;
   }
 
   name_at_weaker : (name : Option Ident) → IfSome name (IdentAt P) → IfSome name (IdentAt Q)
@@ -130,7 +130,7 @@ module _ (P Q : Pos → Type 0) (weaker : (p : Pos) → P p → Q p) where
     iflets = All-weaker (IfLetAt P) (IfLetAt Q) iflet_at_weaker rule.iflets h.iflets;
     expr = expr_tree_at_weaker (expr_of rule.expr) h.expr;
     pos = weaker _ h.pos;
-    name = name_at_weaker rule.name h.name
+    name = name_at_weaker rule.name h.name;
   }
 
   pub def_at_weaker : (def : Def) → DefAt P def → DefAt Q def

@@ -1,5 +1,5 @@
 -- What errors name of source files, and what they print.
-use Rattle.std.specs.Prelude.{ℕ, ◌<◌, List, [], ◌∷◌, ◌++◌, length, All, Vec, slice_get, codes}
+use Rattle.std.specs.Prelude.{ℕ, ◌+◌, ◌-◌, ◌^◌, ◌<◌, min, List, [], ◌∷◌, ◌++◌, length, All, Vec, slice_get, codes}
 use Rattle.std.specs.Global.{Global}
 use Rattle.std.specs.List.{flat_map}
 use Rattle.std.specs.Option.{option_map_or}
@@ -39,15 +39,27 @@ pub record ErrorAt (At : Pos → Type 0) (error : Error) : Type 0 where
 abbrev pub IsPrintable : List SourceFile → Error → Type 0
 IsPrintable files error = ErrorAt (HasPlaceAt files) error
 
+-- a fact of a refusal's fault, if it has one
+abbrev pub IfFault : {E : Type 0} → Refusal E → (E → Type 0) → Type 0
+IfFault (Fault fault) P = P fault
+IfFault (Memory _) P = Unit {0}
+
+-- a refusal has a fault, of which the fact holds
+abbrev pub IsFaultAnd : {E : Type 0} → Refusal E → (E → Type 0) → Type 0
+IsFaultAnd (Fault fault) P = P fault
+IsFaultAnd (Memory _) P = ⊥
+
 -- a refusal's fault names such positions
 abbrev pub RefusalAt : (Pos → Type 0) → Refusal Error → Type 0
-RefusalAt At (Fault error) = ErrorAt At error
-RefusalAt At (Memory _) = Unit {0}
+RefusalAt At refusal = IfFault refusal (ErrorAt At)
 
 -- each of a refusal's faults names such positions
 abbrev pub RefusalsAt : (Pos → Type 0) → Refusal (Vec Error Global) → Type 0
-RefusalsAt At (Fault errors) = All (ErrorAt At) errors.items
-RefusalsAt At (Memory _) = Unit {0}
+RefusalsAt At refusal = IfFault refusal (λ errors. All (ErrorAt At) errors.items)
+
+-- the span of the byte at a position, which ends at the greatest offset at most
+abbrev pub span_at : Pos → Span
+span_at pos = record { from = pos; to = record { file = pos.file; offset = min (pos.offset + 1) (2 ^ 64 - 1) } }
 
 -- `FILE:LINE:COLUMN` of a span's start, and nothing where its file isn't known
 abbrev pub place_text : List SourceFile → Span → List ℕ

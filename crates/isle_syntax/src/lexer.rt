@@ -121,8 +121,9 @@ impl<'src> Model for Lexer<'src> {
     ghost use Rattle.isle_syntax.specs.Lookahead.{left_of, IsAhead};
 
     ghost view = { λ l. record {
-        left = left_of l.lookahead l.rest.now;
-        source = record { file = l.file; size = l.size } } };
+      left = left_of l.lookahead l.rest.now;
+      source = record { file = l.file; size = l.size };
+    } };
 
     ghost invariant = { λ l. (l.start ≤ l.size)
         × IsAhead (record { file = l.file; size = l.size }) l.lookahead };

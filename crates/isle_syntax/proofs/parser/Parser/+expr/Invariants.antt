@@ -14,7 +14,7 @@ abbrev pub invariant-parse_expr_inner-arguments : goal.invariant-parse_expr_inne
 invariant-parse_expr_inner-arguments l = record {
   no_more : l.self.left ≤ l.initial.self.left;
   same_source : l.self.source ≡ l.initial.self.source;
-  placed : All (ExprAt (IsIn l.initial.self.source)) l.args.items
+  placed : All (ExprAt (IsIn l.initial.self.source)) l.args.items;
 }
 
 abbrev pub decreases-parse_expr_inner-arguments : goal.decreases-parse_expr_inner-arguments

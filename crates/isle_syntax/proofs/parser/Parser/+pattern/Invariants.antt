@@ -17,7 +17,7 @@ abbrev pub invariant-parse_patterns-patterns : goal.invariant-parse_patterns-pat
 invariant-parse_patterns-patterns l = record {
   no_more : l.self.left ≤ l.initial.self.left;
   same_source : l.self.source ≡ l.initial.self.source;
-  placed : All (PatternAt (IsIn l.initial.self.source)) l.patterns.items
+  placed : All (PatternAt (IsIn l.initial.self.source)) l.patterns.items;
 }
 
 abbrev pub decreases-parse_patterns-patterns : goal.decreases-parse_patterns-patterns

@@ -8,7 +8,7 @@ abbrev pub invariant-defs : goal.invariant-defs
 invariant-defs l = record {
   no_more : l.self.left ≤ l.initial.self.left;
   same_source : l.self.source ≡ l.initial.self.source;
-  placed : All (DefAt (IsIn l.initial.self.source)) l.defs.items
+  placed : All (DefAt (IsIn l.initial.self.source)) l.defs.items;
 }
 
 abbrev pub decreases-defs : goal.decreases-defs

@@ -8,7 +8,7 @@ abbrev pub invariant-idents : goal.invariant-idents
 invariant-idents l = record {
   no_more : l.self.left ≤ l.initial.self.left;
   same_source : l.self.source ≡ l.initial.self.source;
-  placed : All (IdentAt (IsIn l.initial.self.source)) l.idents.items
+  placed : All (IdentAt (IsIn l.initial.self.source)) l.idents.items;
 }
 
 abbrev pub decreases-idents : goal.decreases-idents

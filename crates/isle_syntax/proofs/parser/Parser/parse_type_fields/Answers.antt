@@ -15,5 +15,5 @@ fields-preserved c =
     record {
       no_more = omega arith;
       same_source = cc;
-      placed = rw c.in_ok-push.ensures.items each
+      placed = rw c.in_ok-push.ensures.items each;
     }

@@ -8,7 +8,7 @@ abbrev pub invariant-fields : goal.invariant-fields
 invariant-fields l = record {
   no_more : l.self.left ≤ l.initial.self.left;
   same_source : l.self.source ≡ l.initial.self.source;
-  placed : All (StructFieldAt (IsIn l.initial.self.source)) l.fields.items
+  placed : All (StructFieldAt (IsIn l.initial.self.source)) l.fields.items;
 }
 
 abbrev pub decreases-fields : goal.decreases-fields

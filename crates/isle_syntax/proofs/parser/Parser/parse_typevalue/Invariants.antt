@@ -8,7 +8,7 @@ abbrev pub invariant-variants : goal.invariant-variants
 invariant-variants l = record {
   no_more : l.self.left ≤ l.initial.self.left;
   same_source : l.self.source ≡ l.initial.self.source;
-  placed : All (VariantAt (IsIn l.initial.self.source)) l.variants.items
+  placed : All (VariantAt (IsIn l.initial.self.source)) l.variants.items;
 }
 
 abbrev pub decreases-variants : goal.decreases-variants
