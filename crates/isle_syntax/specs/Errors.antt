@@ -1,8 +1,13 @@
 -- What errors name of source files, and what they print.
-use Rattle.std.specs.Prelude.{ℕ, ◌-◌, ◌^◌, ◌<◌, List, [], ◌∷◌, ◌++◌, length, All, slice_get, codes}
+use Rattle.std.specs.Prelude.{ℕ, ◌+◌, ◌-◌, ◌^◌, ◌<◌, min, List, [], ◌∷◌, ◌++◌, length, All, Vec, slice_get, codes}
+use Rattle.std.specs.Global.{Global}
 use Rattle.std.specs.List.{flat_map}
 use Rattle.std.specs.Option.{option_map_or}
 use Rattle.isle_syntax.specs.Files.{SourceFile, named_place}
+use Rattle.isle_syntax.specs.Positions.{HasPlaceAt}
+use Rattle.isle_syntax.specs.declared.lexer.Pos.{Pos}
+use Rattle.isle_syntax.specs.declared.refusal.Refusal.{Refusal}
+use Rattle.isle_syntax.specs.declared.refusal.Refusal.TheVariants.{Fault, Memory}
 use Rattle.isle_syntax.specs.declared.error.Span.{Span}
 use Rattle.isle_syntax.specs.declared.error.Error.{Error}
 use Rattle.isle_syntax.specs.declared.error.Error.TheVariants.{ParseError, TypeError, UnreachableError, OverlapError, ShadowedError, SizeError}
@@ -12,10 +17,9 @@ pub record Report : Type 0 where
   pub errors : List Error
   pub files : List SourceFile
 
--- a span can be printed: its file is known, and its start isn't the greatest number
-pub record HasPlace (files : List SourceFile) (span : Span) : Type 0 where
-  pub known : span.from.file < length files
-  pub not_greatest : span.from.offset < 2 ^ 64 - 1
+-- a span can be printed: its start can
+abbrev pub HasPlace : List SourceFile → Span → Type 0
+HasPlace files span = HasPlaceAt files span.from
 
 -- the spans that an error names, first the one at which it stands
 abbrev pub spans_of : Error → List Span
@@ -26,10 +30,36 @@ spans_of (OverlapError _ rules) = rules
 spans_of (ShadowedError shadowed mask) = mask ∷ shadowed
 spans_of (SizeError _ span) = span ∷ []
 
--- an error can be printed: it names a span, and each of its spans has a place
-pub record IsPrintable (files : List SourceFile) (error : Error) : Type 0 where
+-- an error names a span, and each of its spans starts at such a position
+pub record ErrorAt (At : Pos → Type 0) (error : Error) : Type 0 where
   pub named : 0 < length (spans_of error)
-  pub placed : All (HasPlace files) (spans_of error)
+  pub placed : All (λ span. At span.from) (spans_of error)
+
+-- an error can be printed: it names a span, and each of its spans has a place
+abbrev pub IsPrintable : List SourceFile → Error → Type 0
+IsPrintable files error = ErrorAt (HasPlaceAt files) error
+
+-- a fact of a refusal's fault, if it has one
+abbrev pub IfFault : {E : Type 0} → Refusal E → (E → Type 0) → Type 0
+IfFault (Fault fault) P = P fault
+IfFault (Memory _) P = Unit {0}
+
+-- a refusal has a fault, of which the fact holds
+abbrev pub IsFaultAnd : {E : Type 0} → Refusal E → (E → Type 0) → Type 0
+IsFaultAnd (Fault fault) P = P fault
+IsFaultAnd (Memory _) P = ⊥
+
+-- a refusal's fault names such positions
+abbrev pub RefusalAt : (Pos → Type 0) → Refusal Error → Type 0
+RefusalAt At refusal = IfFault refusal (ErrorAt At)
+
+-- each of a refusal's faults names such positions
+abbrev pub RefusalsAt : (Pos → Type 0) → Refusal (Vec Error Global) → Type 0
+RefusalsAt At refusal = IfFault refusal (λ errors. All (ErrorAt At) errors.items)
+
+-- the span of the byte at a position, which ends at the greatest offset at most
+abbrev pub span_at : Pos → Span
+span_at pos = record { from = pos; to = record { file = pos.file; offset = min (pos.offset + 1) (2 ^ 64 - 1) } }
 
 -- `FILE:LINE:COLUMN` of a span's start, and nothing where its file isn't known
 abbrev pub place_text : List SourceFile → Span → List ℕ

@@ -9,7 +9,9 @@ pub mod ExprShape
 pub mod ExprFalls
 pub mod Ends
 pub mod Unread
-pub mod Lookahead
 pub mod Lines
 pub mod Files
+pub mod Positions
+pub mod Lookahead
 pub mod Errors
+pub mod Places

@@ -18,10 +18,11 @@ pub struct Span {
 }
 
 impl Span {
+    ghost use Rattle.isle_syntax.specs.Errors.{span_at};
+
     /// The span of the byte at a position; at the greatest offset it holds no byte.
     pub fn at(pos: Pos) -> Span
-        ensures start { result.from ≡ pos }
-        ensures same_file { result.to.file ≡ pos.file }
+        ensures { result ≡ span_at pos }
     {
         Span {
             from: pos,

@@ -1,5 +1,5 @@
 //! Source files, and where the lines of their texts start.
-ghost use Rattle.std.specs.Prelude.{◌≡◌, ◌<◌, ◌≤◌, ◌+◌, ◌∷◌, ℕ, IfOk, IfSome, IsTrue, ◌↔◌, [], length, map, slice_get, slice_index, string_bytes};
+ghost use Rattle.std.specs.Prelude.{◌≡◌, ◌<◌, ◌≤◌, ◌+◌, ◌^◌, ◌∷◌, ℕ, IfOk, IfSome, IsTrue, ◌↔◌, [], length, map, slice_get, slice_index, string_bytes};
 ghost use Rattle.std.specs.Option.{option_copied, option_map};
 ghost use Rattle.isle_syntax.specs.Files.{source_file};
 ghost use Rattle.isle_syntax.specs.Lines.{line_starts, starts_up_to, newlines_before, line_number, column_number};
@@ -136,7 +136,8 @@ impl Files {
 
     /// The text of the file of a number.
     pub fn file_text(&self, i: usize) -> Option<&str>
-        ensures { option_copied result ≡ option_map (λ f. f.text) (slice_get self.now i) }
+        ensures text { option_copied result ≡ option_map (λ f. f.text) (slice_get self.now i) }
+        ensures small { IfSome result (λ text. length text.now < 2 ^ 63) }
     {
         Some(self.file(i)?.text())
     }
@@ -206,7 +207,8 @@ impl File {
     }
 
     fn text(&self) -> &str
-        ensures { result.now ≡ self.now.text }
+        ensures text { result.now ≡ self.now.text }
+        ensures small { length result.now < 2 ^ 63 }
     {
         self.text.as_str()
     }

@@ -1,5 +1,7 @@
-ghost use Rattle.std.specs.Prelude.{◌≡◌, ◌≤◌, ◌<◌, ◌↔◌, IsTrue, IsSome, IfOk, length};
-ghost use Rattle.isle_syntax.specs.Lookahead.{left_of};
+ghost use Rattle.std.specs.Prelude.{◌≡◌, ◌≤◌, ◌<◌, ◌↔◌, IsTrue, IsSome, IfSome, IfOk, IfErr, length};
+ghost use Rattle.isle_syntax.specs.Positions.{IsIn};
+ghost use Rattle.isle_syntax.specs.Errors.{RefusalAt};
+ghost use Rattle.isle_syntax.specs.Lookahead.{left_of, IsAhead};
 
 use crate::Refusal;
 use crate::error::{Error, Span};
@@ -111,18 +113,27 @@ pub struct Lexer<'src> {
 }
 
 impl<'src> Model for Lexer<'src> {
+    ghost use Rattle.std.specs.Prelude.{◌≤◌};
     ghost use Rattle.isle_syntax.specs.Unread.{Unread};
 
     ghost Value = { Unread };
 
-    ghost use Rattle.isle_syntax.specs.Lookahead.{left_of};
+    ghost use Rattle.isle_syntax.specs.Lookahead.{left_of, IsAhead};
 
-    ghost view = { λ l. record { left = left_of l.lookahead l.rest.now } };
+    ghost view = { λ l. record {
+      left = left_of l.lookahead l.rest.now;
+      source = record { file = l.file; size = l.size };
+    } };
+
+    ghost invariant = { λ l. (l.start ≤ l.size)
+        × IsAhead (record { file = l.file; size = l.size }) l.lookahead };
 }
 
 impl<'src> Lexer<'src> {
     /// The tokens of the text of file number `file`. A fault of the first token is told by the first `next`.
-    pub fn new(alloc: Global, file: usize, src: &'src str) -> Lexer<'src> {
+    pub fn new(alloc: Global, file: usize, src: &'src str) -> Lexer<'src>
+        ensures { result.source ≡ record { file = file; size = length src.now } }
+    {
         let size = src.len();
         let (lookahead, start, rest) = look(alloc, file, size, src);
         Lexer {
@@ -140,6 +151,9 @@ impl<'src> Lexer<'src> {
     pub fn next(&mut self) -> Result<Option<(Pos, Token)>, Refusal<Error>>
         ensures token { IfOk result (λ t. IsSome t → self.new.left < self.old.left) }
         ensures no_more { self.new.left ≤ self.old.left }
+        ensures same_source { self.new.source ≡ self.old.source }
+        ensures placed { IfOk result (λ t. IfSome t (λ token. IsIn self.old.source token.0)) }
+        ensures refused { IfErr result (RefusalAt (IsIn self.old.source)) }
     {
         match mem::replace(&mut self.lookahead, Lookahead::Failed) {
             Lookahead::Token(token) => {
@@ -169,7 +183,9 @@ impl<'src> Lexer<'src> {
     }
 
     /// The next token and its position; `None` at the end, and from a fault on.
-    pub fn peek(&self) -> Option<&(Pos, Token)> {
+    pub fn peek(&self) -> Option<&(Pos, Token)>
+        ensures { IfSome result (λ token. IsIn self.now.source token.now.0) }
+    {
         match &self.lookahead {
             Lookahead::Token(token) => Some(token),
             _ => None,
@@ -177,7 +193,9 @@ impl<'src> Lexer<'src> {
     }
 
     /// Where the next token begins, or the end; from a fault on, where what wasn't read begins.
-    pub fn pos(&self) -> Pos {
+    pub fn pos(&self) -> Pos
+        ensures { IsIn self.now.source result }
+    {
         Pos::new(self.file, self.start)
     }
 
@@ -197,7 +215,9 @@ impl<'src> Lexer<'src> {
 
 /// What stands next in `rest`, the offset where it begins, and what follows it.
 fn look(alloc: Global, file: usize, size: usize, rest: &str) -> (Lookahead, usize, &str)
-    ensures { left_of result.0 result.2.now ≤ length rest.now }
+    ensures no_more { left_of result.0 result.2.now ≤ length rest.now }
+    ensures within { result.1 ≤ size }
+    ensures placed { IsAhead (record { file = file; size = size }) result.0 }
 {
     match after_gap(rest) {
         Ok(text) => {

@@ -1,4 +1,7 @@
-ghost use Rattle.std.specs.Prelude.{◌≡◌, ◌≤◌, ◌<◌, ◌+◌, IfOk, IsTrue};
+ghost use Rattle.std.specs.Prelude.{◌≡◌, ◌≤◌, ◌<◌, ◌+◌, All, IfOk, IfErr, IsTrue};
+ghost use Rattle.isle_syntax.specs.Positions.{IsIn};
+ghost use Rattle.isle_syntax.specs.Errors.{RefusalAt};
+ghost use Rattle.isle_syntax.specs.Places.{IdentAt, StructFieldAt, FieldsAt, VariantAt, TypeValueAt, TypeAt, DeclAt, PatternAt, ExprAt, RuleAt, DefAt};
 
 use crate::Refusal;
 use crate::ast::{
@@ -17,7 +20,10 @@ pub const MAX_NESTING: usize = 1000;
 
 /// The definitions that a text spells. A refusal is the parse error at the first token after which no spelt text goes
 /// on, or the size error at the opening parenthesis that nests too deep, whichever stands first.
-pub fn parse(lexer: Lexer<'_>) -> Result<Vec<Def>, Refusal<Error>> {
+pub fn parse(lexer: Lexer<'_>) -> Result<Vec<Def>, Refusal<Error>>
+    ensures placed { IfOk result (λ defs. All (DefAt (IsIn lexer.entry.source)) defs.items) }
+    ensures refused { IfErr result (RefusalAt (IsIn lexer.entry.source)) }
+{
     Parser::new(lexer).parse_defs()
 }
 
@@ -54,11 +60,15 @@ fn passes(class: Class, text: &str) -> bool {
 
 impl<'src> Parser<'src> {
     /// A parser of what the lexer hasn't given yet.
-    pub fn new(lexer: Lexer<'src>) -> Parser<'src> {
+    pub fn new(lexer: Lexer<'src>) -> Parser<'src>
+        ensures { result ≡ lexer.entry }
+    {
         Parser { lexer }
     }
 
-    fn pos(&self) -> Pos {
+    fn pos(&self) -> Pos
+        ensures { IsIn self.now.source result }
+    {
         self.lexer.pos()
     }
 
@@ -68,7 +78,9 @@ impl<'src> Parser<'src> {
 
     /// The fault of what stands next: the lexer's own where that is no token.
     fn unexpected(&mut self, wanted: &str) -> Refusal<Error>
-        ensures { self.new.left ≤ self.old.left }
+        ensures no_more { self.new.left ≤ self.old.left }
+        ensures same_source { self.new.source ≡ self.old.source }
+        ensures refused { RefusalAt (IsIn self.old.source) result }
     {
         let span = Span::at(self.pos());
         match self.lexer.next() {
@@ -81,7 +93,9 @@ impl<'src> Parser<'src> {
     }
 
     /// The fault of an opening parenthesis that nests too deep.
-    fn too_deep(&self) -> Refusal<Error> {
+    fn too_deep(&self) -> Refusal<Error>
+        ensures { RefusalAt (IsIn self.now.source) result }
+    {
         let span = Span::at(self.pos());
         match Text::from_str(self.allocator(), "parentheses nest more than 1000 deep") {
             Ok(msg) => Refusal::Fault(Error::SizeError { msg, span }),
@@ -93,6 +107,9 @@ impl<'src> Parser<'src> {
     fn take(&mut self) -> Result<(Pos, Token), Refusal<Error>>
         ensures taken { IfOk result (λ _. self.new.left < self.old.left) }
         ensures no_more { self.new.left ≤ self.old.left }
+        ensures same_source { self.new.source ≡ self.old.source }
+        ensures placed { IfOk result (λ token. IsIn self.old.source token.0) }
+        ensures refused { IfErr result (RefusalAt (IsIn self.old.source)) }
     {
         match self.lexer.next()? {
             Some(token) => Ok(token),
@@ -142,6 +159,8 @@ impl<'src> Parser<'src> {
         ensures inside { IfOk result (λ inside. inside + 1 ≡ room) }
         ensures taken { IfOk result (λ _. self.new.left < self.old.left) }
         ensures no_more { self.new.left ≤ self.old.left }
+        ensures same_source { self.new.source ≡ self.old.source }
+        ensures refused { IfErr result (RefusalAt (IsIn self.old.source)) }
     {
         if !self.is_open() {
             return Err(self.unexpected("expected `(`"));
@@ -155,7 +174,9 @@ impl<'src> Parser<'src> {
 
     /// Takes a closing parenthesis.
     fn close(&mut self) -> Result<(), Refusal<Error>>
-        ensures { self.new.left ≤ self.old.left }
+        ensures no_more { self.new.left ≤ self.old.left }
+        ensures same_source { self.new.source ≡ self.old.source }
+        ensures refused { IfErr result (RefusalAt (IsIn self.old.source)) }
     {
         if !self.is_close() {
             return Err(self.unexpected("expected `)`"));
@@ -166,7 +187,9 @@ impl<'src> Parser<'src> {
 
     /// Takes a closing parenthesis where one stands next, and answers whether it did.
     fn take_close(&mut self) -> Result<bool, Refusal<Error>>
-        ensures { self.new.left ≤ self.old.left }
+        ensures no_more { self.new.left ≤ self.old.left }
+        ensures same_source { self.new.source ≡ self.old.source }
+        ensures refused { IfErr result (RefusalAt (IsIn self.old.source)) }
     {
         if self.is_close() {
             let _close = self.take()?;
@@ -179,6 +202,8 @@ impl<'src> Parser<'src> {
     fn take_word(&mut self, word: &str) -> Result<bool, Refusal<Error>>
         ensures taken { IfOk result (λ t. IsTrue t → self.new.left < self.old.left) }
         ensures no_more { self.new.left ≤ self.old.left }
+        ensures same_source { self.new.source ≡ self.old.source }
+        ensures refused { IfErr result (RefusalAt (IsIn self.old.source)) }
     {
         if self.is_word(word) {
             let _word = self.take()?;
@@ -191,6 +216,9 @@ impl<'src> Parser<'src> {
     fn symbol(&mut self, class: Class, wanted: &str) -> Result<Ident, Refusal<Error>>
         ensures taken { IfOk result (λ _. self.new.left < self.old.left) }
         ensures no_more { self.new.left ≤ self.old.left }
+        ensures same_source { self.new.source ≡ self.old.source }
+        ensures placed { IfOk result (IdentAt (IsIn self.old.source)) }
+        ensures refused { IfErr result (RefusalAt (IsIn self.old.source)) }
     {
         if !self.is_symbol_of(class) {
             return Err(self.unexpected(wanted));
@@ -205,6 +233,9 @@ impl<'src> Parser<'src> {
     fn ident(&mut self) -> Result<Ident, Refusal<Error>>
         ensures taken { IfOk result (λ _. self.new.left < self.old.left) }
         ensures no_more { self.new.left ≤ self.old.left }
+        ensures same_source { self.new.source ≡ self.old.source }
+        ensures placed { IfOk result (IdentAt (IsIn self.old.source)) }
+        ensures refused { IfErr result (RefusalAt (IsIn self.old.source)) }
     {
         self.symbol(Class::Ident, "expected an identifier")
     }
@@ -213,6 +244,8 @@ impl<'src> Parser<'src> {
     fn int(&mut self) -> Result<(i128, bool), Refusal<Error>>
         ensures taken { IfOk result (λ _. self.new.left < self.old.left) }
         ensures no_more { self.new.left ≤ self.old.left }
+        ensures same_source { self.new.source ≡ self.old.source }
+        ensures refused { IfErr result (RefusalAt (IsIn self.old.source)) }
     {
         match self.take()? {
             (_, Token::Int(val)) => Ok((val, false)),
@@ -221,7 +254,11 @@ impl<'src> Parser<'src> {
         }
     }
 
-    fn parse_defs(&mut self) -> Result<Vec<Def>, Refusal<Error>> {
+    fn parse_defs(&mut self) -> Result<Vec<Def>, Refusal<Error>>
+        ensures same_source { self.new.source ≡ self.old.source }
+        ensures placed { IfOk result (λ defs. All (DefAt (IsIn self.old.source)) defs.items) }
+        ensures refused { IfErr result (RefusalAt (IsIn self.old.source)) }
+    {
         let mut defs = Vec::new(self.allocator());
         'defs: while !self.lexer.eof() {
             defs.push(self.parse_def()?)?;
@@ -230,7 +267,10 @@ impl<'src> Parser<'src> {
     }
 
     fn parse_def(&mut self) -> Result<Def, Refusal<Error>>
-        ensures { IfOk result (λ _. self.new.left < self.old.left) }
+        ensures taken { IfOk result (λ _. self.new.left < self.old.left) }
+        ensures same_source { self.new.source ≡ self.old.source }
+        ensures placed { IfOk result (DefAt (IsIn self.old.source)) }
+        ensures refused { IfErr result (RefusalAt (IsIn self.old.source)) }
     {
         let room = self.open(MAX_NESTING)?;
         if self.take_word("type")? {
@@ -245,7 +285,10 @@ impl<'src> Parser<'src> {
     }
 
     fn parse_type(&mut self, room: usize) -> Result<Type, Refusal<Error>>
-        ensures { self.new.left ≤ self.old.left }
+        ensures no_more { self.new.left ≤ self.old.left }
+        ensures same_source { self.new.source ≡ self.old.source }
+        ensures placed { IfOk result (TypeAt (IsIn self.old.source)) }
+        ensures refused { IfErr result (RefusalAt (IsIn self.old.source)) }
     {
         let pos = self.pos();
         let name = self.ident()?;
@@ -261,7 +304,10 @@ impl<'src> Parser<'src> {
     }
 
     fn parse_typevalue(&mut self, room: usize) -> Result<TypeValue, Refusal<Error>>
-        ensures { self.new.left ≤ self.old.left }
+        ensures no_more { self.new.left ≤ self.old.left }
+        ensures same_source { self.new.source ≡ self.old.source }
+        ensures placed { IfOk result (TypeValueAt (IsIn self.old.source)) }
+        ensures refused { IfErr result (RefusalAt (IsIn self.old.source)) }
     {
         let pos = self.pos();
         let inside = self.open(room)?;
@@ -278,6 +324,9 @@ impl<'src> Parser<'src> {
     fn parse_type_variant(&mut self, room: usize) -> Result<Variant, Refusal<Error>>
         ensures taken { IfOk result (λ _. self.new.left < self.old.left) }
         ensures no_more { self.new.left ≤ self.old.left }
+        ensures same_source { self.new.source ≡ self.old.source }
+        ensures placed { IfOk result (VariantAt (IsIn self.old.source)) }
+        ensures refused { IfErr result (RefusalAt (IsIn self.old.source)) }
     {
         let pos = self.pos();
         if !self.is_open() {
@@ -296,7 +345,10 @@ impl<'src> Parser<'src> {
 
     /// The fields up to the closing parenthesis.
     fn parse_type_fields(&mut self, room: usize) -> Result<Fields, Refusal<Error>>
-        ensures { self.new.left ≤ self.old.left }
+        ensures no_more { self.new.left ≤ self.old.left }
+        ensures same_source { self.new.source ≡ self.old.source }
+        ensures placed { IfOk result (FieldsAt (IsIn self.old.source)) }
+        ensures refused { IfErr result (RefusalAt (IsIn self.old.source)) }
     {
         let mut fields = Vec::new(self.allocator());
         'fields: while !self.take_close()? {
@@ -313,6 +365,9 @@ impl<'src> Parser<'src> {
     fn parse_type_field(&mut self, room: usize) -> Result<StructField, Refusal<Error>>
         ensures taken { IfOk result (λ _. self.new.left < self.old.left) }
         ensures no_more { self.new.left ≤ self.old.left }
+        ensures same_source { self.new.source ≡ self.old.source }
+        ensures placed { IfOk result (StructFieldAt (IsIn self.old.source)) }
+        ensures refused { IfErr result (RefusalAt (IsIn self.old.source)) }
     {
         let pos = self.pos();
         let _inside = self.open(room)?;
@@ -323,7 +378,10 @@ impl<'src> Parser<'src> {
     }
 
     fn parse_decl(&mut self, room: usize) -> Result<Decl, Refusal<Error>>
-        ensures { self.new.left ≤ self.old.left }
+        ensures no_more { self.new.left ≤ self.old.left }
+        ensures same_source { self.new.source ≡ self.old.source }
+        ensures placed { IfOk result (DeclAt (IsIn self.old.source)) }
+        ensures refused { IfErr result (RefusalAt (IsIn self.old.source)) }
     {
         let pos = self.pos();
         let partial = self.take_word("partial")?;
@@ -355,7 +413,10 @@ impl<'src> Parser<'src> {
 
     /// The identifiers up to the closing parenthesis.
     fn parse_idents(&mut self) -> Result<Vec<Ident>, Refusal<Error>>
-        ensures { self.new.left ≤ self.old.left }
+        ensures no_more { self.new.left ≤ self.old.left }
+        ensures same_source { self.new.source ≡ self.old.source }
+        ensures placed { IfOk result (λ idents. All (IdentAt (IsIn self.old.source)) idents.items) }
+        ensures refused { IfErr result (RefusalAt (IsIn self.old.source)) }
     {
         let mut idents = Vec::new(self.allocator());
         'idents: while !self.take_close()? {
@@ -365,7 +426,10 @@ impl<'src> Parser<'src> {
     }
 
     fn parse_rule(&mut self, room: usize) -> Result<Rule, Refusal<Error>>
-        ensures { self.new.left ≤ self.old.left }
+        ensures no_more { self.new.left ≤ self.old.left }
+        ensures same_source { self.new.source ≡ self.old.source }
+        ensures placed { IfOk result (RuleAt (IsIn self.old.source)) }
+        ensures refused { IfErr result (RefusalAt (IsIn self.old.source)) }
     {
         let pos = self.pos();
         let pattern = self.parse_pattern_term(room)?;
@@ -383,7 +447,10 @@ impl<'src> Parser<'src> {
 
     /// A rule's right side, in which `if` and `if-let` are no terms.
     fn parse_right_side(&mut self, room: usize) -> Result<Expr, Refusal<Error>>
-        ensures { self.new.left ≤ self.old.left }
+        ensures no_more { self.new.left ≤ self.old.left }
+        ensures same_source { self.new.source ≡ self.old.source }
+        ensures placed { IfOk result (ExprAt (IsIn self.old.source)) }
+        ensures refused { IfErr result (RefusalAt (IsIn self.old.source)) }
     {
         if !self.is_open() {
             return self.parse_expr(room);
@@ -400,6 +467,9 @@ impl<'src> Parser<'src> {
     fn parse_pattern(&mut self, room: usize) -> Result<Pattern, Refusal<Error>>
         ensures taken { IfOk result (λ _. self.new.left < self.old.left) }
         ensures no_more { self.new.left ≤ self.old.left }
+        ensures same_source { self.new.source ≡ self.old.source }
+        ensures placed { IfOk result (PatternAt (IsIn self.old.source)) }
+        ensures refused { IfErr result (RefusalAt (IsIn self.old.source)) }
     {
         let pos = self.pos();
         if self.is_open() {
@@ -421,6 +491,9 @@ impl<'src> Parser<'src> {
     fn parse_pattern_term(&mut self, room: usize) -> Result<Pattern, Refusal<Error>>
         ensures taken { IfOk result (λ _. self.new.left < self.old.left) }
         ensures no_more { self.new.left ≤ self.old.left }
+        ensures same_source { self.new.source ≡ self.old.source }
+        ensures placed { IfOk result (PatternAt (IsIn self.old.source)) }
+        ensures refused { IfErr result (RefusalAt (IsIn self.old.source)) }
     {
         let pos = self.pos();
         let inside = self.open(room)?;
@@ -439,7 +512,10 @@ impl<'src> Parser<'src> {
     /// The patterns up to the closing parenthesis.
     #[cycle(pattern)]
     fn parse_patterns(&mut self, room: usize) -> Result<Vec<Pattern>, Refusal<Error>>
-        ensures { self.new.left ≤ self.old.left }
+        ensures no_more { self.new.left ≤ self.old.left }
+        ensures same_source { self.new.source ≡ self.old.source }
+        ensures placed { IfOk result (λ patterns. All (PatternAt (IsIn self.old.source)) patterns.items) }
+        ensures refused { IfErr result (RefusalAt (IsIn self.old.source)) }
     {
         let mut patterns = Vec::new(self.allocator());
         'patterns: while !self.take_close()? {
@@ -452,6 +528,9 @@ impl<'src> Parser<'src> {
     fn parse_expr(&mut self, room: usize) -> Result<Expr, Refusal<Error>>
         ensures taken { IfOk result (λ _. self.new.left < self.old.left) }
         ensures no_more { self.new.left ≤ self.old.left }
+        ensures same_source { self.new.source ≡ self.old.source }
+        ensures placed { IfOk result (ExprAt (IsIn self.old.source)) }
+        ensures refused { IfErr result (RefusalAt (IsIn self.old.source)) }
     {
         let pos = self.pos();
         if self.is_open() {
@@ -469,7 +548,10 @@ impl<'src> Parser<'src> {
     /// What follows the opening parenthesis of a term at `pos`, in which `let` is no term.
     #[cycle(expr)]
     fn parse_expr_inner(&mut self, pos: Pos, room: usize) -> Result<Expr, Refusal<Error>>
-        ensures { self.new.left ≤ self.old.left }
+        ensures no_more { self.new.left ≤ self.old.left }
+        ensures same_source { self.new.source ≡ self.old.source }
+        ensures placed { IsIn self.old.source pos → IfOk result (ExprAt (IsIn self.old.source)) }
+        ensures refused { IfErr result (RefusalAt (IsIn self.old.source)) }
     {
         if self.is_word("let") {
             return Err(self.unexpected("expected a term"));
