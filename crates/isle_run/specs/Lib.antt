@@ -1,2 +1,3 @@
 pub mod ValueTree
 pub mod ValueText
+pub mod Overlaps

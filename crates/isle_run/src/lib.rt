@@ -13,9 +13,8 @@ mod world;
 
 pub use answer::{Answer, Called, Effect};
 pub use compiler::{Refused, compile};
+pub use isle_types::{TermId, TypeId};
 pub use program::Program;
 pub use query::{QueryFault, is_blank};
 pub use value::Value;
 pub use world::World;
-
-pub use isle_types::{TermId, TypeId};

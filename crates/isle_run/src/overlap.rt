@@ -1,3 +1,9 @@
+ghost use Rattle.std.specs.Prelude.{List, All, IfOk, IfErr};
+ghost use Rattle.isle_syntax.specs.Files.{SourceFile};
+ghost use Rattle.isle_syntax.specs.Positions.{HasPlaceAt};
+ghost use Rattle.isle_syntax.specs.Errors.{ErrorAt};
+ghost use Rattle.isle_run.specs.Overlaps.{RuleHasPlace, OverlapHasPlaces};
+
 use isle_syntax::error::{Error, Span};
 use isle_syntax::lexer::Pos;
 use isle_syntax::{Seq, Text};
@@ -17,14 +23,17 @@ pub fn overlaps(
     alloc: Global,
     rules: &[Rule],
     groups: &[Vec<usize>],
-) -> Result<Vec<Error>, AllocError> {
+) -> Result<Vec<Error>, AllocError>
+    ensures { (files : List SourceFile) → All (RuleHasPlace files) rules.now
+        → IfOk result (λ errors. All (ErrorAt (HasPlaceAt files)) errors.items) }
+{
     let mut found = Vec::new(alloc);
     for group in groups {
         let members = members_of(alloc, rules, group.as_slice())?;
         overlaps_of_term(alloc, members.as_slice(), &mut found)?;
     }
     found.sort_by_key(|overlap: &Overlap| overlap.head)?;
-    reports(alloc, found)
+    reports(alloc, found.as_slice())
 }
 
 /// The rules at these places.
@@ -32,12 +41,16 @@ fn members_of<'a>(
     alloc: Global,
     rules: &'a [Rule],
     places: &[usize],
-) -> Result<Vec<&'a Rule>, AllocError> {
+) -> Result<Vec<&'a Rule>, AllocError>
+    ensures { (files : List SourceFile) → All (RuleHasPlace files) rules.now
+        → IfOk result (λ members. All (λ rule. RuleHasPlace files rule.now) members.items) }
+{
     let mut members = Vec::new(alloc);
     for place in places {
-        if let Some(rule) = rules.get(*place) {
-            members.push(rule)?;
-        }
+        let Some(rule) = rules.get(*place) else {
+            continue;
+        };
+        members.push(rule)?;
     }
     Ok(members)
 }
@@ -48,16 +61,19 @@ fn overlaps_of_term(
     alloc: Global,
     rules: &[&Rule],
     found: &mut Vec<Overlap>,
-) -> Result<(), AllocError> {
+) -> Result<(), AllocError>
+    ensures { (files : List SourceFile) → All (λ rule. RuleHasPlace files rule.now) rules.now
+        → All (OverlapHasPlaces files) found.old.items → All (OverlapHasPlaces files) found.new.items }
+{
     let mut partners = partner_lists(alloc, rules)?;
-    for _ in 0..rules.len() {
+    'heads: for _ in 0..rules.len() {
         let Some(head) = with_most_partners(partners.as_slice()) else {
             return Ok(());
         };
-        if let (Some(rule), Some(list)) = (rules.get(head), partners.get(head)) {
-            let overlap = overlap_of(alloc, rules, rule, list.as_slice())?;
-            found.push(overlap)?;
-        }
+        let (Some(rule), Some(list)) = (rules.get(head), partners.get(head)) else {
+            return Ok(());
+        };
+        found.push(overlap_of(alloc, rules, rule, list.as_slice())?)?;
         take_out(&mut partners, head);
     }
     Ok(())
@@ -103,12 +119,16 @@ fn overlap_of(
     rules: &[&Rule],
     head: &Rule,
     partners: &[usize],
-) -> Result<Overlap, AllocError> {
+) -> Result<Overlap, AllocError>
+    ensures { (files : List SourceFile) → All (λ rule. RuleHasPlace files rule.now) rules.now → RuleHasPlace files head.now
+        → IfOk result (OverlapHasPlaces files) }
+{
     let mut positions = Vec::with_capacity(alloc, partners.len())?;
     for place in partners {
-        if let Some(rule) = rules.get(*place) {
-            positions.push(rule.pos)?;
-        }
+        let Some(rule) = rules.get(*place) else {
+            continue;
+        };
+        positions.push(rule.pos)?;
     }
     Ok(Overlap {
         head: head.pos,
@@ -126,15 +146,21 @@ fn take_out(partners: &mut Vec<Vec<usize>>, place: usize) {
     }
 }
 
-fn reports(alloc: Global, found: Vec<Overlap>) -> Result<Vec<Error>, AllocError> {
+fn reports(alloc: Global, found: &[Overlap]) -> Result<Vec<Error>, AllocError>
+    ensures { (files : List SourceFile) → All (OverlapHasPlaces files) found.now
+        → IfOk result (λ errors. All (ErrorAt (HasPlaceAt files)) errors.items) }
+{
     let mut errors = Vec::with_capacity(alloc, found.len())?;
-    for overlap in found {
-        errors.push(report(alloc, &overlap)?)?;
+    for overlap in found.iter() {
+        errors.push(report(alloc, overlap)?)?;
     }
     Ok(errors)
 }
 
-fn report(alloc: Global, overlap: &Overlap) -> Result<Error, AllocError> {
+fn report(alloc: Global, overlap: &Overlap) -> Result<Error, AllocError>
+    ensures { (files : List SourceFile) → OverlapHasPlaces files overlap.now
+        → IfOk result (ErrorAt (HasPlaceAt files)) }
+{
     let mut rules = Vec::with_capacity(alloc, 1)?;
     rules.push(Span::at(overlap.head))?;
     for partner in overlap.partners.iter() {
