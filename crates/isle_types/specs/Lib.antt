@@ -1,0 +1,2 @@
+pub mod TypePlaces
+pub mod Environment
