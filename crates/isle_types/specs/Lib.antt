@@ -1,2 +1,4 @@
 pub mod IntTypes
 pub mod Types
+pub mod TypePlaces
+pub mod Environment

@@ -1,3 +1,13 @@
+ghost use Rattle.std.specs.Option.{option_copied};
+ghost use Rattle.std.specs.Prelude.{slice_get, ◌≡◌, ◌∷◌, ◌++◌, [], true, false, List, All, IfOk, IfErr, OnOk, OnErr};
+ghost use Rattle.isle_syntax.specs.declared.error.Error.TheVariants.{TypeError, SizeError};
+ghost use Rattle.isle_syntax.specs.Files.{SourceFile};
+ghost use Rattle.isle_syntax.specs.Positions.{HasPlaceAt};
+ghost use Rattle.isle_syntax.specs.Errors.{IfFault, IsFaultAnd, RefusalAt, RefusalsAt, span_at};
+ghost use Rattle.isle_syntax.specs.Places.{DefAt, FieldsAt, StructFieldAt, TypeAt as TypeTreeAt, VariantAt as VariantTreeAt};
+ghost use Rattle.isle_types.specs.TypePlaces.{TypeAt, VariantAt};
+ghost use Rattle.isle_types.specs.Environment.{errors_of, types_of, HasPlaces, is_size_error};
+
 use crate::ids::{FieldId, Sym, TypeId, VariantId};
 use crate::types::{BuiltinType, Fields, StructField, StructFields, Type, Variant};
 use isle_syntax::ast::{Def, Ident};
@@ -23,7 +33,11 @@ pub struct TypeEnv {
 
 impl TypeEnv {
     /// The environment of the builtin types.
-    pub fn new(alloc: Global) -> Result<TypeEnv, AllocError> {
+    pub fn new(alloc: Global) -> Result<TypeEnv, AllocError>
+        ensures no_errors { IfOk result (λ env. errors_of env ≡ []) }
+        ensures placed { (files : List SourceFile)
+            → IfOk result (HasPlaces files) }
+    {
         let mut env = TypeEnv {
             alloc,
             syms: Vec::new(alloc),
@@ -41,7 +55,13 @@ impl TypeEnv {
     }
 
     /// The environment of these definitions' types. A refusal lists type errors, or one size error alone.
-    pub fn from_ast(alloc: Global, defs: &[Def]) -> Result<TypeEnv, Refusal<Vec<Error>>> {
+    pub fn from_ast(alloc: Global, defs: &[Def]) -> Result<TypeEnv, Refusal<Vec<Error>>>
+        ensures no_errors { IfOk result (λ env. errors_of env ≡ []) }
+        ensures placed { (files : List SourceFile) → All (DefAt (HasPlaceAt files)) defs.now
+            → IfOk result (HasPlaces files) }
+        ensures printable { (files : List SourceFile) → All (DefAt (HasPlaceAt files)) defs.now
+            → IfErr result (RefusalsAt (HasPlaceAt files)) }
+    {
         let mut env = TypeEnv::new(alloc)?;
         env.collect_names(defs)?;
         env.collect_types(defs)?;
@@ -53,7 +73,10 @@ impl TypeEnv {
     }
 
     /// Gives each defined type its id, in order.
-    fn collect_names(&mut self, defs: &[Def]) -> Result<(), AllocError> {
+    fn collect_names(&mut self, defs: &[Def]) -> Result<(), AllocError>
+        ensures { (files : List SourceFile) → All (DefAt (HasPlaceAt files)) defs.now
+            → HasPlaces files self.old → HasPlaces files self.new }
+    {
         let mut next = self.types.len();
         for def in defs {
             if let Def::TypeDef(ty) = def {
@@ -70,7 +93,12 @@ impl TypeEnv {
     }
 
     /// Makes the defined types, in order.
-    fn collect_types(&mut self, defs: &[Def]) -> Result<(), Refusal<Vec<Error>>> {
+    fn collect_types(&mut self, defs: &[Def]) -> Result<(), Refusal<Vec<Error>>>
+        ensures placed { (files : List SourceFile) → All (DefAt (HasPlaceAt files)) defs.now
+            → HasPlaces files self.old → HasPlaces files self.new }
+        ensures printable { (files : List SourceFile) → All (DefAt (HasPlaceAt files)) defs.now
+            → IfErr result (RefusalsAt (HasPlaceAt files)) }
+    {
         for def in defs {
             if let Def::TypeDef(ty) = def {
                 let id = TypeId(self.types.len());
@@ -84,7 +112,14 @@ impl TypeEnv {
     }
 
     /// Keeps a type error. A size error, alone, and want of memory are handed on.
-    pub fn keep(&mut self, refusal: Refusal<Error>) -> Result<(), Refusal<Vec<Error>>> {
+    pub fn keep(&mut self, refusal: Refusal<Error>) -> Result<(), Refusal<Vec<Error>>>
+        ensures ok { OnOk result (IsFaultAnd refusal (λ error. (is_size_error error ≡ false)
+            × (errors_of self.new ≡ errors_of self.old ++ error ∷ []))) }
+        ensures err { OnErr result (errors_of self.new ≡ errors_of self.old) }
+        ensures size { IfErr result (λ r. IfFault r (λ errors. IsFaultAnd refusal
+            (λ error. (is_size_error error ≡ true) × (errors.items ≡ error ∷ [])))) }
+        ensures same_types { types_of self.new ≡ types_of self.old }
+    {
         match refusal {
             Refusal::Memory(e) => Err(Refusal::Memory(e)),
             Refusal::Fault(Error::SizeError { msg, span }) => {
@@ -99,7 +134,14 @@ impl TypeEnv {
         }
     }
 
-    fn type_from_ast(&mut self, id: TypeId, ty: &ast::Type) -> Result<Type, Refusal<Error>> {
+    fn type_from_ast(&mut self, id: TypeId, ty: &ast::Type) -> Result<Type, Refusal<Error>>
+        ensures same_errors { errors_of self.new ≡ errors_of self.old }
+        ensures same_types { types_of self.new ≡ types_of self.old }
+        ensures placed { (files : List SourceFile) → TypeTreeAt (HasPlaceAt files) ty.now
+            → IfOk result (TypeAt (HasPlaceAt files)) }
+        ensures printable { (files : List SourceFile) → TypeTreeAt (HasPlaceAt files) ty.now
+            → IfErr result (RefusalAt (HasPlaceAt files)) }
+    {
         let name = self.intern_mut(&ty.name)?;
         match &ty.ty {
             ast::TypeValue::Enum(variants, _) => {
@@ -120,7 +162,16 @@ impl TypeEnv {
         &mut self,
         ty: &ast::Type,
         variants: &[ast::Variant],
-    ) -> Result<Vec<Variant>, Refusal<Error>> {
+    ) -> Result<Vec<Variant>, Refusal<Error>>
+        ensures same_errors { errors_of self.new ≡ errors_of self.old }
+        ensures same_types { types_of self.new ≡ types_of self.old }
+        ensures placed { (files : List SourceFile)
+            → All (VariantTreeAt (HasPlaceAt files)) variants.now
+            → IfOk result (λ made. All (VariantAt (HasPlaceAt files)) made.items) }
+        ensures printable { (files : List SourceFile) → HasPlaceAt files ty.now.pos
+            → All (VariantTreeAt (HasPlaceAt files)) variants.now
+            → IfErr result (RefusalAt (HasPlaceAt files)) }
+    {
         let mut names: HashMap<Sym, ()> = HashMap::new(self.alloc);
         let mut made = Vec::new(self.alloc);
         for variant in variants {
@@ -146,7 +197,10 @@ impl TypeEnv {
     }
 
     /// The name `enum.variant`.
-    fn full_name(&mut self, ty: &Ident, variant: &Ident) -> Result<Sym, AllocError> {
+    fn full_name(&mut self, ty: &Ident, variant: &Ident) -> Result<Sym, AllocError>
+        ensures same_errors { errors_of self.new ≡ errors_of self.old }
+        ensures same_types { types_of self.new ≡ types_of self.old }
+    {
         let mut name = String::from_str(self.alloc, ty.0.as_str())?;
         name.push_str(".")?;
         name.push_str(variant.0.as_str())?;
@@ -157,7 +211,13 @@ impl TypeEnv {
         &mut self,
         ty: &ast::Type,
         fields: &ast::Fields,
-    ) -> Result<Fields, Refusal<Error>> {
+    ) -> Result<Fields, Refusal<Error>>
+        ensures same_errors { errors_of self.new ≡ errors_of self.old }
+        ensures same_types { types_of self.new ≡ types_of self.old }
+        ensures printable { (files : List SourceFile) → HasPlaceAt files ty.now.pos
+            → FieldsAt (HasPlaceAt files) fields.now
+            → IfErr result (RefusalAt (HasPlaceAt files)) }
+    {
         match fields {
             ast::Fields::Unit => Ok(Fields::Unit),
             ast::Fields::Struct(fields) => {
@@ -175,7 +235,13 @@ impl TypeEnv {
     fn struct_fields_from_ast(
         &mut self,
         fields: &[ast::StructField],
-    ) -> Result<Vec<StructField>, Refusal<Error>> {
+    ) -> Result<Vec<StructField>, Refusal<Error>>
+        ensures same_errors { errors_of self.new ≡ errors_of self.old }
+        ensures same_types { types_of self.new ≡ types_of self.old }
+        ensures printable { (files : List SourceFile)
+            → All (StructFieldAt (HasPlaceAt files)) fields.now
+            → IfErr result (RefusalAt (HasPlaceAt files)) }
+    {
         let mut names: HashMap<Sym, ()> = HashMap::new(self.alloc);
         let mut made = Vec::new(self.alloc);
         for field in fields {
@@ -193,7 +259,9 @@ impl TypeEnv {
     }
 
     /// A type error at a position, or want of memory for its message.
-    pub fn type_error(&self, pos: Pos, msg: &str) -> Refusal<Error> {
+    pub fn type_error(&self, pos: Pos, msg: &str) -> Refusal<Error>
+        ensures { IfFault result (λ error. error ≡ TypeError msg.now (span_at pos)) }
+    {
         match Text::from_str(self.alloc, msg) {
             Ok(msg) => Refusal::Fault(Error::TypeError {
                 msg,
@@ -204,7 +272,9 @@ impl TypeEnv {
     }
 
     /// A size error at a position, or want of memory for its message.
-    pub fn size_error(&self, pos: Pos, msg: &str) -> Refusal<Error> {
+    pub fn size_error(&self, pos: Pos, msg: &str) -> Refusal<Error>
+        ensures { IfFault result (λ error. error ≡ SizeError msg.now (span_at pos)) }
+    {
         match Text::from_str(self.alloc, msg) {
             Ok(msg) => Refusal::Fault(Error::SizeError {
                 msg,
@@ -215,7 +285,12 @@ impl TypeEnv {
     }
 
     /// Keeps a type error at a position. Without memory nothing changes.
-    pub fn report_error(&mut self, pos: Pos, msg: &str) -> Result<(), AllocError> {
+    pub fn report_error(&mut self, pos: Pos, msg: &str) -> Result<(), AllocError>
+        ensures ok { OnOk result
+            (errors_of self.new ≡ errors_of self.old ++ TypeError msg.now (span_at pos) ∷ []) }
+        ensures err { OnErr result (errors_of self.new ≡ errors_of self.old) }
+        ensures same_types { types_of self.new ≡ types_of self.old }
+    {
         let msg = Text::from_str(self.alloc, msg)?;
         self.errors.push(Error::TypeError {
             msg,
@@ -225,7 +300,11 @@ impl TypeEnv {
     }
 
     /// Takes the errors kept so far.
-    pub fn take_errors(&mut self) -> Vec<Error> {
+    pub fn take_errors(&mut self) -> Vec<Error>
+        ensures taken { result.items ≡ errors_of self.old }
+        ensures none_left { errors_of self.new ≡ [] }
+        ensures same_types { types_of self.new ≡ types_of self.old }
+    {
         std::mem::replace(&mut self.errors, Vec::new(self.alloc))
     }
 
@@ -240,11 +319,17 @@ impl TypeEnv {
     }
 
     /// The symbol of a name, which is interned now.
-    pub fn intern_mut(&mut self, ident: &Ident) -> Result<Sym, AllocError> {
+    pub fn intern_mut(&mut self, ident: &Ident) -> Result<Sym, AllocError>
+        ensures same_errors { errors_of self.new ≡ errors_of self.old }
+        ensures same_types { types_of self.new ≡ types_of self.old }
+    {
         self.intern_str(ident.0.as_str())
     }
 
-    fn intern_str(&mut self, name: &str) -> Result<Sym, AllocError> {
+    fn intern_str(&mut self, name: &str) -> Result<Sym, AllocError>
+        ensures same_errors { errors_of self.new ≡ errors_of self.old }
+        ensures same_types { types_of self.new ≡ types_of self.old }
+    {
         if let Some(sym) = self.intern_name(name) {
             return Ok(sym);
         }
@@ -269,7 +354,9 @@ impl TypeEnv {
     }
 
     /// The types, each at the place of its id.
-    pub fn types(&self) -> &[Type] {
+    pub fn types(&self) -> &[Type]
+        ensures { result.now ≡ types_of self.now }
+    {
         self.types.as_slice()
     }
 
@@ -279,7 +366,9 @@ impl TypeEnv {
     }
 
     /// A type, or `None` at an id that the environment doesn't have.
-    pub fn get_type(&self, id: TypeId) -> Option<&Type> {
+    pub fn get_type(&self, id: TypeId) -> Option<&Type>
+        ensures { option_copied result ≡ slice_get (types_of self.now) id.0 }
+    {
         self.types.get(id.index())
     }
 
