@@ -1,3 +1,9 @@
+ghost use Rattle.std.specs.Prelude.{◌≡◌, ◌<◌, ◌++◌, List, All, IfOk, IfErr, OnOk, length};
+ghost use Rattle.isle_syntax.specs.Files.{SourceFile};
+ghost use Rattle.isle_syntax.specs.Positions.{HasPlaceAt};
+ghost use Rattle.isle_syntax.specs.Places.{DefAt};
+ghost use Rattle.isle_syntax.specs.Errors.{RefusalAt, RefusalsAt};
+
 use crate::overlap::overlaps;
 use crate::program::Program;
 use isle_syntax::Refusal;
@@ -8,7 +14,7 @@ use isle_syntax::lexer::Lexer;
 use isle_syntax::parser::parse;
 use isle_terms::TermEnv;
 use isle_types::TypeEnv;
-use std::alloc::Global;
+use std::alloc::{AllocError, Global};
 use std::rc::Rc;
 
 /// Why texts were not compiled.
@@ -28,7 +34,9 @@ pub fn compile(alloc: Global, files: Rc<Files>) -> Result<Program, Refused> {
     }
 }
 
-fn compile_files(alloc: Global, files: &Files) -> Result<Program, Refusal<Vec<Error>>> {
+fn compile_files(alloc: Global, files: &Files) -> Result<Program, Refusal<Vec<Error>>>
+    ensures { IfErr result (RefusalsAt (HasPlaceAt files.now)) }
+{
     let defs = parse_files(alloc, files)?;
     let mut tyenv = TypeEnv::from_ast(alloc, defs.as_slice())?;
     let termenv = TermEnv::from_ast(alloc, &mut tyenv, defs.as_slice())?;
@@ -41,21 +49,47 @@ fn compile_files(alloc: Global, files: &Files) -> Result<Program, Refusal<Vec<Er
 }
 
 /// The definitions of all texts, or the fault of the first one that has one.
-fn parse_files(alloc: Global, files: &Files) -> Result<Vec<Def>, Refusal<Vec<Error>>> {
+fn parse_files(alloc: Global, files: &Files) -> Result<Vec<Def>, Refusal<Vec<Error>>>
+    ensures placed { IfOk result (λ defs. All (DefAt (HasPlaceAt files.now)) defs.items) }
+    ensures printable { IfErr result (RefusalsAt (HasPlaceAt files.now)) }
+{
     let mut defs = Vec::new(alloc);
     for file in 0..files.len() {
-        if let Some(text) = files.file_text(file) {
-            match parse(Lexer::new(alloc, file, text)) {
-                Ok(parsed) => defs.extend(parsed)?,
-                Err(refusal) => return Err(alone(alloc, refusal)),
-            }
-        }
+        let parsed = parse_file(alloc, files, file)?;
+        append(&mut defs, parsed)?;
     }
     Ok(defs)
 }
 
+/// The definitions of the text of one file.
+fn parse_file(alloc: Global, files: &Files, file: usize) -> Result<Vec<Def>, Refusal<Vec<Error>>>
+    requires { file < length files.now }
+    ensures placed { IfOk result (λ defs. All (DefAt (HasPlaceAt files.now)) defs.items) }
+    ensures printable { IfErr result (RefusalsAt (HasPlaceAt files.now)) }
+{
+    let Some(text) = files.file_text(file) else {
+        return Ok(Vec::new(alloc));
+    };
+    match parse(Lexer::new(alloc, file, text)) {
+        Ok(defs) => Ok(defs),
+        Err(refusal) => Err(alone(alloc, refusal)),
+    }
+}
+
+/// Moves definitions behind others.
+fn append(defs: &mut Vec<Def>, parsed: Vec<Def>) -> Result<(), AllocError>
+    ensures { OnOk result (defs.new.items ≡ defs.old.items ++ parsed.items) }
+{
+    for def in parsed {
+        defs.push(def)?;
+    }
+    Ok(())
+}
+
 /// A fault as the only one of its list.
-fn alone(alloc: Global, refusal: Refusal<Error>) -> Refusal<Vec<Error>> {
+fn alone(alloc: Global, refusal: Refusal<Error>) -> Refusal<Vec<Error>>
+    ensures { (files : List SourceFile) → RefusalAt (HasPlaceAt files) refusal → RefusalsAt (HasPlaceAt files) result }
+{
     match refusal {
         Refusal::Fault(error) => {
             let mut errors = Vec::new(alloc);

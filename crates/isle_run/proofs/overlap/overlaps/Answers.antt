@@ -9,6 +9,6 @@ loop-group-preserved c = λ files h.
 
 pub returns : goal.returns
 returns c = λ files h.
-    c.reports.ensures files 
+    c.reports.ensures files
     (rw c.as_slice-2.ensures.value
-      (All-permutation (OverlapHasPlaces files) _ _ c.in_ok-sort_by_key.ensures.permutation (c.loop-group.invariant files h)))
+    (All-permutation (OverlapHasPlaces files) _ _ c.in_ok-sort_by_key.ensures.permutation (c.loop-group.invariant files h)))

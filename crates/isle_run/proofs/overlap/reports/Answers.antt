@@ -8,7 +8,7 @@ use Rattle.isle_run.proofs.overlap.reports.Goals as goal
 pub loop-overlap-preserved : goal.loop-overlap-preserved
 loop-overlap-preserved c = λ files h.
     let placed : OverlapHasPlaces files c.overlap-item.result =
-      subst (OverlapHasPlaces files) (sym c.overlap-item.is)
-      (h c.loop-overlap.overlap-index c.overlap-item.result c.loop-overlap-test.true) in
+    subst (OverlapHasPlaces files) (sym c.overlap-item.is)
+    (h c.loop-overlap.overlap-index c.overlap-item.result c.loop-overlap-test.true) in
     rw c.in_ok-push.ensures.items
     (All-push (ErrorAt (HasPlaceAt files)) _ _ (c.loop-overlap.invariant files h) (c.in_ok-report.ensures files placed))
