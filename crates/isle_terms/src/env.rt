@@ -1,3 +1,11 @@
+ghost use Rattle.std.specs.Prelude.{◌≡◌, [], List, All, IfOk, IfErr, OnOk};
+ghost use Rattle.isle_syntax.specs.Files.{SourceFile};
+ghost use Rattle.isle_syntax.specs.Positions.{HasPlaceAt};
+ghost use Rattle.isle_syntax.specs.Errors.{RefusalAt, RefusalsAt};
+ghost use Rattle.isle_syntax.specs.Places.{DefAt, DeclAt, IdentAt, RuleAt};
+ghost use Rattle.isle_types.specs.Environment.{errors_of, types_of, HasPlaces};
+ghost use Rattle.isle_terms.specs.Environment.{terms_of, rules_of, TermAt, TypedRuleAt, ArePlaced};
+
 use crate::rules::{Expr, Pattern, Rule};
 use crate::terms::{ConstructorKind, Term, TermFlags, TermKind};
 use crate::translate::{Bindings, translate_args, translate_expr};
@@ -27,7 +35,14 @@ impl TermEnv {
         alloc: Global,
         tyenv: &mut TypeEnv,
         defs: &[Def],
-    ) -> Result<TermEnv, Refusal<Vec<Error>>> {
+    ) -> Result<TermEnv, Refusal<Vec<Error>>>
+        ensures same_types { types_of tyenv.new ≡ types_of tyenv.old }
+        ensures no_errors { OnOk result (errors_of tyenv.new ≡ []) }
+        ensures placed { (files : List SourceFile) → All (DefAt (HasPlaceAt files)) defs.now
+            → HasPlaces files tyenv.old → IfOk result (ArePlaced files tyenv.new) }
+        ensures printable { (files : List SourceFile) → All (DefAt (HasPlaceAt files)) defs.now
+            → HasPlaces files tyenv.old → IfErr result (RefusalsAt (HasPlaceAt files)) }
+    {
         let mut env = TermEnv {
             alloc,
             terms: Vec::new(alloc),
@@ -52,7 +67,13 @@ impl TermEnv {
         &mut self,
         tyenv: &mut TypeEnv,
         defs: &[Def],
-    ) -> Result<(), Refusal<Vec<Error>>> {
+    ) -> Result<(), Refusal<Vec<Error>>>
+        ensures same_types { types_of tyenv.new ≡ types_of tyenv.old }
+        ensures placed { (files : List SourceFile) → All (DefAt (HasPlaceAt files)) defs.now
+            → ArePlaced files tyenv.old self.old → ArePlaced files tyenv.new self.new }
+        ensures printable { (files : List SourceFile) → All (DefAt (HasPlaceAt files)) defs.now
+            → IfErr result (RefusalsAt (HasPlaceAt files)) }
+    {
         for def in defs {
             if let Def::Decl(decl) = def {
                 match self.term_of_decl(tyenv, decl) {
@@ -64,7 +85,13 @@ impl TermEnv {
         Ok(())
     }
 
-    fn term_of_decl(&self, tyenv: &mut TypeEnv, decl: &Decl) -> Result<Term, Refusal<Error>> {
+    fn term_of_decl(&self, tyenv: &mut TypeEnv, decl: &Decl) -> Result<Term, Refusal<Error>>
+        ensures same_errors { errors_of tyenv.new ≡ errors_of tyenv.old }
+        ensures same_types { types_of tyenv.new ≡ types_of tyenv.old }
+        ensures here { IfOk result (λ term. term.decl_pos ≡ decl.now.pos) }
+        ensures printable { (files : List SourceFile) → DeclAt (HasPlaceAt files) decl.now
+            → IfErr result (RefusalAt (HasPlaceAt files)) }
+    {
         let name = tyenv.intern_mut(&decl.term)?;
         if decl.arg_tys.as_slice().len() > MAX_ARGUMENTS {
             return Err(tyenv.size_error(decl.pos, "a term has more than 255 arguments"));
@@ -91,7 +118,10 @@ impl TermEnv {
         })
     }
 
-    fn known_types(&self, tyenv: &TypeEnv, names: &[Ident]) -> Result<Vec<TypeId>, Refusal<Error>> {
+    fn known_types(&self, tyenv: &TypeEnv, names: &[Ident]) -> Result<Vec<TypeId>, Refusal<Error>>
+        ensures { (files : List SourceFile) → All (IdentAt (HasPlaceAt files)) names.now
+            → IfErr result (RefusalAt (HasPlaceAt files)) }
+    {
         let mut types = Vec::new(self.alloc);
         for name in names {
             let Some(ty) = tyenv.get_type_by_name(name) else {
@@ -103,7 +133,11 @@ impl TermEnv {
     }
 
     /// Adds a term, whose name must be new.
-    fn add_term(&mut self, tyenv: &mut TypeEnv, term: Term) -> Result<(), AllocError> {
+    fn add_term(&mut self, tyenv: &mut TypeEnv, term: Term) -> Result<(), AllocError>
+        ensures same_types { types_of tyenv.new ≡ types_of tyenv.old }
+        ensures placed { (files : List SourceFile) → HasPlaceAt files term.decl_pos
+            → ArePlaced files tyenv.old self.old → ArePlaced files tyenv.new self.new }
+    {
         if self.term_map.contains_key(&term.name) {
             return tyenv.report_error(term.decl_pos, "a term of this name is defined already");
         }
@@ -114,7 +148,11 @@ impl TermEnv {
     }
 
     /// Makes a term of each variant, in the order of the types.
-    fn collect_enum_variant_terms(&mut self, tyenv: &mut TypeEnv) -> Result<(), AllocError> {
+    fn collect_enum_variant_terms(&mut self, tyenv: &mut TypeEnv) -> Result<(), AllocError>
+        ensures same_types { types_of tyenv.new ≡ types_of tyenv.old }
+        ensures placed { (files : List SourceFile)
+            → ArePlaced files tyenv.old self.old → ArePlaced files tyenv.new self.new }
+    {
         for index in 0..tyenv.types().len() {
             let made = self.terms_of_type(tyenv, TypeId(index))?;
             self.add_terms(tyenv, made)?;
@@ -122,7 +160,10 @@ impl TermEnv {
         Ok(())
     }
 
-    fn terms_of_type(&self, tyenv: &TypeEnv, ty: TypeId) -> Result<Vec<Term>, AllocError> {
+    fn terms_of_type(&self, tyenv: &TypeEnv, ty: TypeId) -> Result<Vec<Term>, AllocError>
+        ensures { (files : List SourceFile) → HasPlaces files tyenv.now
+            → IfOk result (λ made. All (TermAt (HasPlaceAt files)) made.items) }
+    {
         let mut made = Vec::new(self.alloc);
         let Some(Type::Enum { id, variants, .. }) = tyenv.get_type(ty) else {
             return Ok(made);
@@ -139,7 +180,9 @@ impl TermEnv {
         ty: TypeId,
         id: TermId,
         variant: &Variant,
-    ) -> Result<Term, AllocError> {
+    ) -> Result<Term, AllocError>
+        ensures { IfOk result (λ term. term.decl_pos ≡ variant.now.pos) }
+    {
         let arg_tys = match &variant.fields {
             Fields::Unit => Vec::new(self.alloc),
             Fields::Struct(fields) => fields
@@ -161,7 +204,12 @@ impl TermEnv {
         })
     }
 
-    fn add_terms(&mut self, tyenv: &mut TypeEnv, terms: Vec<Term>) -> Result<(), AllocError> {
+    fn add_terms(&mut self, tyenv: &mut TypeEnv, terms: Vec<Term>) -> Result<(), AllocError>
+        ensures same_types { types_of tyenv.new ≡ types_of tyenv.old }
+        ensures placed { (files : List SourceFile)
+            → All (TermAt (HasPlaceAt files)) terms.items
+            → ArePlaced files tyenv.old self.old → ArePlaced files tyenv.new self.new }
+    {
         for term in terms {
             self.add_term(tyenv, term)?;
         }
@@ -173,7 +221,11 @@ impl TermEnv {
         &mut self,
         tyenv: &mut TypeEnv,
         defs: &[Def],
-    ) -> Result<(), AllocError> {
+    ) -> Result<(), AllocError>
+        ensures same_types { types_of tyenv.new ≡ types_of tyenv.old }
+        ensures placed { (files : List SourceFile) → All (DefAt (HasPlaceAt files)) defs.now
+            → ArePlaced files tyenv.old self.old → ArePlaced files tyenv.new self.new }
+    {
         for def in defs {
             if let Def::Rule(rule) = def {
                 let Some(id) = self.root_term(tyenv, rule) else {
@@ -198,7 +250,12 @@ impl TermEnv {
         Some(id)
     }
 
-    fn mark_constructor(&mut self, id: TermId) {
+    fn mark_constructor(&mut self, id: TermId)
+        ensures same_rules { rules_of self.new ≡ rules_of self.old }
+        ensures placed { (files : List SourceFile)
+            → All (TermAt (HasPlaceAt files)) (terms_of self.old)
+            → All (TermAt (HasPlaceAt files)) (terms_of self.new) }
+    {
         if let Some(term) = self.terms.get_mut(id.index()) {
             if let TermKind::Decl { flags, .. } = &term.kind {
                 term.kind = TermKind::Decl {
@@ -214,7 +271,13 @@ impl TermEnv {
         &mut self,
         tyenv: &mut TypeEnv,
         defs: &[Def],
-    ) -> Result<(), Refusal<Vec<Error>>> {
+    ) -> Result<(), Refusal<Vec<Error>>>
+        ensures same_types { types_of tyenv.new ≡ types_of tyenv.old }
+        ensures placed { (files : List SourceFile) → All (DefAt (HasPlaceAt files)) defs.now
+            → ArePlaced files tyenv.old self.old → ArePlaced files tyenv.new self.new }
+        ensures printable { (files : List SourceFile) → All (DefAt (HasPlaceAt files)) defs.now
+            → IfErr result (RefusalsAt (HasPlaceAt files)) }
+    {
         for def in defs {
             if let Def::Rule(rule) = def {
                 if let Some(root) = self.root_term(tyenv, rule) {
@@ -233,7 +296,13 @@ impl TermEnv {
         tyenv: &mut TypeEnv,
         root: TermId,
         rule: &ast::Rule,
-    ) -> Result<Rule, Refusal<Error>> {
+    ) -> Result<Rule, Refusal<Error>>
+        ensures same_errors { errors_of tyenv.new ≡ errors_of tyenv.old }
+        ensures same_types { types_of tyenv.new ≡ types_of tyenv.old }
+        ensures here { IfOk result (λ typed. typed.pos ≡ rule.now.pos) }
+        ensures printable { (files : List SourceFile) → RuleAt (HasPlaceAt files) rule.now
+            → IfErr result (RefusalAt (HasPlaceAt files)) }
+    {
         let mut bindings = Bindings::new(self.alloc);
         let args = self.typed_args(tyenv, root, rule, &mut bindings)?;
         let rhs = self.typed_right_side(tyenv, root, rule, &bindings)?;
@@ -255,7 +324,12 @@ impl TermEnv {
         root: TermId,
         rule: &ast::Rule,
         bindings: &mut Bindings,
-    ) -> Result<Vec<Pattern>, Refusal<Error>> {
+    ) -> Result<Vec<Pattern>, Refusal<Error>>
+        ensures same_errors { errors_of tyenv.new ≡ errors_of tyenv.old }
+        ensures same_types { types_of tyenv.new ≡ types_of tyenv.old }
+        ensures printable { (files : List SourceFile) → RuleAt (HasPlaceAt files) rule.now
+            → IfErr result (RefusalAt (HasPlaceAt files)) }
+    {
         match (&rule.pattern, self.get_term(root)) {
             (ast::Pattern::Term { args, pos, .. }, Some(term)) => translate_args(
                 self,
@@ -275,7 +349,12 @@ impl TermEnv {
         root: TermId,
         rule: &ast::Rule,
         bindings: &Bindings,
-    ) -> Result<Expr, Refusal<Error>> {
+    ) -> Result<Expr, Refusal<Error>>
+        ensures same_errors { errors_of tyenv.new ≡ errors_of tyenv.old }
+        ensures same_types { types_of tyenv.new ≡ types_of tyenv.old }
+        ensures printable { (files : List SourceFile) → RuleAt (HasPlaceAt files) rule.now
+            → IfErr result (RefusalAt (HasPlaceAt files)) }
+    {
         match self.get_term(root) {
             Some(term) => translate_expr(self, tyenv, &rule.expr, term.ret_ty, bindings),
             None => Err(tyenv.type_error(rule.pos, "the root of a rule must be a declared term")),
@@ -283,7 +362,11 @@ impl TermEnv {
     }
 
     /// Reports each declared term without a rule.
-    fn check_for_undefined_decls(&self, tyenv: &mut TypeEnv) -> Result<(), AllocError> {
+    fn check_for_undefined_decls(&self, tyenv: &mut TypeEnv) -> Result<(), AllocError>
+        ensures same_types { types_of tyenv.new ≡ types_of tyenv.old }
+        ensures placed { (files : List SourceFile)
+            → ArePlaced files tyenv.old self.now → ArePlaced files tyenv.new self.now }
+    {
         for term in &self.terms {
             if !term.has_constructor() && !term.has_extractor() {
                 tyenv.report_error(term.decl_pos, "no rule defines this term")?;
@@ -293,7 +376,12 @@ impl TermEnv {
     }
 
     /// Gives a rule that is its term's only one the term's name.
-    fn name_lone_rules(&mut self) -> Result<(), AllocError> {
+    fn name_lone_rules(&mut self) -> Result<(), AllocError>
+        ensures same_terms { terms_of self.new ≡ terms_of self.old }
+        ensures placed { (files : List SourceFile)
+            → All (TypedRuleAt (HasPlaceAt files)) (rules_of self.old)
+            → All (TypedRuleAt (HasPlaceAt files)) (rules_of self.new) }
+    {
         let mut counts: HashMap<TermId, usize> = HashMap::new(self.alloc);
         for rule in &self.rules {
             let count = counts.entry(rule.root_term)?.or_insert(0);
@@ -324,12 +412,16 @@ impl TermEnv {
     }
 
     /// The terms, each at the place of its id: the declared ones in order, then the variants.
-    pub fn terms(&self) -> &[Term] {
+    pub fn terms(&self) -> &[Term]
+        ensures { result.now ≡ terms_of self.now }
+    {
         self.terms.as_slice()
     }
 
     /// The rules, in the order of the texts.
-    pub fn rules(&self) -> &[Rule] {
+    pub fn rules(&self) -> &[Rule]
+        ensures { result.now ≡ rules_of self.now }
+    {
         self.rules.as_slice()
     }
 }

@@ -1,3 +1,10 @@
+ghost use Rattle.std.specs.Prelude.{◌≡◌, List, All, IfErr};
+ghost use Rattle.isle_syntax.specs.Files.{SourceFile};
+ghost use Rattle.isle_syntax.specs.Positions.{HasPlaceAt};
+ghost use Rattle.isle_syntax.specs.Errors.{RefusalAt};
+ghost use Rattle.isle_syntax.specs.Places.{IdentAt, PatternAt, ExprAt};
+ghost use Rattle.isle_types.specs.Environment.{errors_of, types_of};
+
 use crate::env::TermEnv;
 use crate::rules::{BoundVar, Expr, Pattern};
 use crate::terms::Term;
@@ -60,7 +67,10 @@ fn check_int(
     val: i128,
     big: bool,
     ty: TypeId,
-) -> Result<(), Refusal<Error>> {
+) -> Result<(), Refusal<Error>>
+    ensures { (files : List SourceFile) → HasPlaceAt files pos
+        → IfErr result (RefusalAt (HasPlaceAt files)) }
+{
     match tyenv.get_type(ty) {
         Some(Type::Builtin(BuiltinType::Int(int))) => {
             if int.holds(val, big) {
@@ -79,7 +89,10 @@ fn known_term<'a>(
     tyenv: &TypeEnv,
     sym: &Ident,
     ty: TypeId,
-) -> Result<&'a Term, Refusal<Error>> {
+) -> Result<&'a Term, Refusal<Error>>
+    ensures { (files : List SourceFile) → IdentAt (HasPlaceAt files) sym.now
+        → IfErr result (RefusalAt (HasPlaceAt files)) }
+{
     let Some(id) = termenv.get_term_by_name(tyenv, sym) else {
         return Err(tyenv.type_error(sym.1, "this term is not known"));
     };
@@ -101,7 +114,12 @@ fn translate_pattern(
     pattern: &ast::Pattern,
     ty: TypeId,
     bindings: &mut Bindings,
-) -> Result<Pattern, Refusal<Error>> {
+) -> Result<Pattern, Refusal<Error>>
+    ensures same_errors { errors_of tyenv.new ≡ errors_of tyenv.old }
+    ensures same_types { types_of tyenv.new ≡ types_of tyenv.old }
+    ensures printable { (files : List SourceFile) → PatternAt (HasPlaceAt files) pattern.now
+        → IfErr result (RefusalAt (HasPlaceAt files)) }
+{
     match pattern {
         ast::Pattern::ConstInt { val, big, pos } => {
             check_int(tyenv, *pos, *val, *big, ty)?;
@@ -137,7 +155,13 @@ pub fn translate_args(
     term: &Term,
     pos: Pos,
     bindings: &mut Bindings,
-) -> Result<Vec<Pattern>, Refusal<Error>> {
+) -> Result<Vec<Pattern>, Refusal<Error>>
+    ensures same_errors { errors_of tyenv.new ≡ errors_of tyenv.old }
+    ensures same_types { types_of tyenv.new ≡ types_of tyenv.old }
+    ensures printable { (files : List SourceFile) → HasPlaceAt files pos
+        → All (PatternAt (HasPlaceAt files)) args.now
+        → IfErr result (RefusalAt (HasPlaceAt files)) }
+{
     let tys = term.arg_tys.as_slice();
     if args.len() != tys.len() {
         return Err(tyenv.type_error(pos, "this term has another number of arguments"));
@@ -157,7 +181,12 @@ pub fn translate_expr(
     expr: &ast::Expr,
     ty: TypeId,
     bindings: &Bindings,
-) -> Result<Expr, Refusal<Error>> {
+) -> Result<Expr, Refusal<Error>>
+    ensures same_errors { errors_of tyenv.new ≡ errors_of tyenv.old }
+    ensures same_types { types_of tyenv.new ≡ types_of tyenv.old }
+    ensures printable { (files : List SourceFile) → ExprAt (HasPlaceAt files) expr.now
+        → IfErr result (RefusalAt (HasPlaceAt files)) }
+{
     match expr {
         ast::Expr::ConstInt { val, big, pos } => {
             check_int(tyenv, *pos, *val, *big, ty)?;
@@ -189,7 +218,13 @@ fn translate_expr_args(
     term: &Term,
     pos: Pos,
     bindings: &Bindings,
-) -> Result<Vec<Expr>, Refusal<Error>> {
+) -> Result<Vec<Expr>, Refusal<Error>>
+    ensures same_errors { errors_of tyenv.new ≡ errors_of tyenv.old }
+    ensures same_types { types_of tyenv.new ≡ types_of tyenv.old }
+    ensures printable { (files : List SourceFile) → HasPlaceAt files pos
+        → All (ExprAt (HasPlaceAt files)) args.now
+        → IfErr result (RefusalAt (HasPlaceAt files)) }
+{
     let tys = term.arg_tys.as_slice();
     if args.len() != tys.len() {
         return Err(tyenv.type_error(pos, "this term has another number of arguments"));

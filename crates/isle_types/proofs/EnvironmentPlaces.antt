@@ -76,6 +76,11 @@ emptied_places files old new types errors h = record {
   errors = All-same (IsPrintable files) (errors_of new) [] errors (All-nil (IsPrintable files));
 }
 
+pub type_error_placed : (files : List SourceFile) (message : List ℕ) (pos : Pos) (refusal : Refusal Error) → IfFault refusal (λ error. error ≡ TypeError message (span_at pos)) → HasPlaceAt files pos → RefusalAt (HasPlaceAt files) refusal
+type_error_placed files message pos (Fault error) is here =
+    subst (IsPrintable files) (sym is) (type_error_printable files message pos here)
+type_error_placed files message pos (Memory e) is here = tt
+
 -- a definition that a loop reads is one of those that have places
 pub read_def : (At : Pos → Type 0) (defs : List Def) (i : ℕ) (read def : Def) → i < length defs → read ≡ get_or defs i read → read ≡ def → All (DefAt At) defs → DefAt At def
 read_def At defs i read def low is same each =

@@ -1,0 +1,56 @@
+-- What can be printed of an environment of terms still can after a change.
+use Rattle.std.proofs.Common.{◌≡◌, ◌<◌, ℕ, List, [], ◌∷◌, ◌++◌, length, get_or, sym, subst}
+use Rattle.std.specs.List.{All}
+use Rattle.std.proofs.lemmas.List.Elements.{All-same, All-nil, All-push}
+use Rattle.isle_syntax.specs.Files.{SourceFile}
+use Rattle.isle_syntax.specs.Positions.{HasPlaceAt}
+use Rattle.isle_types.specs.declared.env.TypeEnv.{TypeEnv}
+use Rattle.isle_types.specs.Environment.{HasPlaces}
+use Rattle.isle_terms.specs.declared.rules.Rule.{Rule}
+use Rattle.isle_terms.specs.declared.env.TermEnv.{TermEnv}
+use Rattle.isle_terms.specs.Environment.{terms_of, rules_of, TermAt, TypedRuleAt, ArePlaced}
+
+-- an element that a loop reads is one of those of which a fact holds
+pub read_element : {X : Type 0} (P : X → Type 0) (xs : List X) (i : ℕ) (read : X) → i < length xs → read ≡ get_or xs i read → All P xs → P read
+read_element P xs i read low is each = subst P (sym is) (each i read low)
+
+-- no terms and no rules
+pub empty_places : (files : List SourceFile) (tyenv : TypeEnv) (env : TermEnv) → terms_of env ≡ [] → rules_of env ≡ [] → HasPlaces files tyenv → ArePlaced files tyenv env
+empty_places files tyenv env terms rules types = record {
+  types = types;
+  terms = All-same (TermAt (HasPlaceAt files)) (terms_of env) [] terms (All-nil (TermAt (HasPlaceAt files)));
+  rules =
+      All-same (TypedRuleAt (HasPlaceAt files)) (rules_of env) [] rules (All-nil (TypedRuleAt (HasPlaceAt files)))
+}
+
+-- other types, with the same terms and rules
+pub with_types : (files : List SourceFile) (old new : TypeEnv) (env : TermEnv) → HasPlaces files new → ArePlaced files old env → ArePlaced files new env
+with_types files old new env types h =
+    record { types = types; terms = h.terms; rules = h.rules }
+
+-- other terms, with the same types and rules
+pub with_terms : (files : List SourceFile) (tyenv : TypeEnv) (old new : TermEnv) → All (TermAt (HasPlaceAt files)) (terms_of new) → rules_of new ≡ rules_of old → ArePlaced files tyenv old → ArePlaced files tyenv new
+with_terms files tyenv old new terms same h = record {
+  types = h.types;
+  terms = terms;
+  rules = All-same (TypedRuleAt (HasPlaceAt files)) (rules_of new) (rules_of old) same h.rules
+}
+
+-- the same terms and rules
+pub same_terms_and_rules : (files : List SourceFile) (tyenv : TypeEnv) (old new : TermEnv) → terms_of new ≡ terms_of old → rules_of new ≡ rules_of old → ArePlaced files tyenv old → ArePlaced files tyenv new
+same_terms_and_rules files tyenv old new terms rules h =
+    with_terms files tyenv old new (All-same (TermAt (HasPlaceAt files)) (terms_of new) (terms_of old) terms h.terms) rules h
+
+-- one more rule
+pub with_rule : (files : List SourceFile) (tyenv : TypeEnv) (old new : TermEnv) (rule : Rule) → terms_of new ≡ terms_of old → rules_of new ≡ rules_of old ++ rule ∷ [] → HasPlaceAt files rule.pos → ArePlaced files tyenv old → ArePlaced files tyenv new
+with_rule files tyenv old new rule terms rules here h =
+    let at = TypedRuleAt (HasPlaceAt files) in
+    record {
+      types = h.types;
+      terms = All-same (TermAt (HasPlaceAt files)) (terms_of new) (terms_of old) terms h.terms;
+      rules = All-same at (rules_of new) (rules_of old ++ rule ∷ []) rules (All-push at (rules_of old) rule h.rules here)
+    }
+
+pub moved : (files : List SourceFile) (old new : TypeEnv) (before after : TermEnv) → new ≡ old → after ≡ before → ArePlaced files old before → ArePlaced files new after
+moved files old new before after types terms h =
+    subst (λ (env : TermEnv). ArePlaced files new env) (sym terms) (subst (λ (tyenv : TypeEnv). ArePlaced files tyenv before) (sym types) h)

@@ -1,0 +1,32 @@
+-- What an environment of terms and rules holds.
+use Rattle.std.specs.Prelude.{List, All}
+use Rattle.isle_syntax.specs.declared.lexer.Pos.{Pos}
+use Rattle.isle_syntax.specs.Files.{SourceFile}
+use Rattle.isle_syntax.specs.Positions.{HasPlaceAt}
+use Rattle.isle_types.specs.declared.env.TypeEnv.{TypeEnv}
+use Rattle.isle_types.specs.Environment.{HasPlaces}
+use Rattle.isle_terms.specs.declared.terms.Term.{Term}
+use Rattle.isle_terms.specs.declared.rules.Rule.{Rule}
+use Rattle.isle_terms.specs.declared.env.TermEnv.{TermEnv}
+
+-- its terms, each at the place of its id
+abbrev pub terms_of : TermEnv → List Term
+terms_of env = env.terms.items
+
+-- its rules, in the order of the texts
+abbrev pub rules_of : TermEnv → List Rule
+rules_of env = env.rules.items
+
+-- a term is declared at such a position
+abbrev pub TermAt : (Pos → Type 0) → Term → Type 0
+TermAt At term = At term.decl_pos
+
+-- a rule stands at such a position
+abbrev pub TypedRuleAt : (Pos → Type 0) → Rule → Type 0
+TypedRuleAt At rule = At rule.pos
+
+-- the positions of types, terms and rules, and of the errors kept so far, can be printed
+pub record ArePlaced (files : List SourceFile) (tyenv : TypeEnv) (env : TermEnv) : Type 0 where
+  pub types : HasPlaces files tyenv
+  pub terms : All (TermAt (HasPlaceAt files)) (terms_of env)
+  pub rules : All (TypedRuleAt (HasPlaceAt files)) (rules_of env)
