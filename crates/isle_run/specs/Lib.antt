@@ -1,3 +1,4 @@
 pub mod ValueTree
 pub mod ValueText
 pub mod Overlaps
+pub mod Programs

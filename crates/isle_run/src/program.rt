@@ -13,12 +13,18 @@ pub struct Program {
 }
 
 impl Program {
+    ghost use Rattle.std.specs.Prelude.{◌≡◌, IfOk};
+    ghost use Rattle.isle_terms.specs.Environment.{rules_of};
+    ghost use Rattle.isle_run.specs.Programs.{rules_in};
+
     /// The program of typed definitions.
     pub(crate) fn new(
         alloc: Global,
         tyenv: TypeEnv,
         termenv: TermEnv,
-    ) -> Result<Program, AllocError> {
+    ) -> Result<Program, AllocError>
+        ensures { IfOk result (λ program. rules_in program ≡ rules_of termenv) }
+    {
         let rules_of = rules_by_term(alloc, &termenv)?;
         Ok(Program {
             tyenv,
@@ -80,7 +86,9 @@ impl Program {
     }
 
     /// The rules, in the order of the texts.
-    pub(crate) fn rules(&self) -> &[Rule] {
+    pub(crate) fn rules(&self) -> &[Rule]
+        ensures { result.now ≡ rules_in self.now }
+    {
         self.termenv.rules()
     }
 
