@@ -7,7 +7,6 @@ use Rattle.isle_syntax.specs.Unread.{Source}
 use Rattle.isle_syntax.specs.Positions.{IsIn, HasPlaceAt}
 use Rattle.isle_syntax.specs.Errors.{ErrorAt, RefusalAt}
 use Rattle.isle_syntax.specs.declared.lexer.Pos.{Pos}
-use Rattle.isle_syntax.specs.declared.error.Span.{Span}
 use Rattle.isle_syntax.specs.declared.error.Error.{Error}
 use Rattle.isle_syntax.specs.declared.refusal.Refusal.{Refusal}
 use Rattle.isle_syntax.specs.declared.refusal.Refusal.TheVariants.{Fault, Memory}

@@ -1,5 +1,5 @@
 -- The positions in definitions.
-use Rattle.std.specs.Prelude.{List, All, IfSome}
+use Rattle.std.specs.Prelude.{All, IfSome}
 use Rattle.isle_syntax.specs.declared.lexer.Pos.{Pos}
 use Rattle.isle_syntax.specs.declared.ast.Ident.{Ident}
 use Rattle.isle_syntax.specs.declared.ast.StructField.{StructField}

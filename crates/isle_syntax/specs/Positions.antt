@@ -1,5 +1,5 @@
 -- Where a position lies.
-use Rattle.std.specs.Prelude.{◌≡◌, ℕ, ◌-◌, ◌^◌, ◌<◌, ◌≤◌, List, length}
+use Rattle.std.specs.Prelude.{◌≡◌, ◌-◌, ◌^◌, ◌<◌, ◌≤◌, List, length}
 use Rattle.isle_syntax.specs.Files.{SourceFile}
 use Rattle.isle_syntax.specs.Unread.{Source}
 use Rattle.isle_syntax.specs.declared.lexer.Pos.{Pos}

@@ -20,7 +20,7 @@ empty_places files tyenv env terms rules types = record {
   types = types;
   terms = All-same (TermAt (HasPlaceAt files)) (terms_of env) [] terms (All-nil (TermAt (HasPlaceAt files)));
   rules =
-      All-same (TypedRuleAt (HasPlaceAt files)) (rules_of env) [] rules (All-nil (TypedRuleAt (HasPlaceAt files)))
+      All-same (TypedRuleAt (HasPlaceAt files)) (rules_of env) [] rules (All-nil (TypedRuleAt (HasPlaceAt files)));
 }
 
 -- other types, with the same terms and rules
@@ -33,7 +33,7 @@ pub with_terms : (files : List SourceFile) (tyenv : TypeEnv) (old new : TermEnv)
 with_terms files tyenv old new terms same h = record {
   types = h.types;
   terms = terms;
-  rules = All-same (TypedRuleAt (HasPlaceAt files)) (rules_of new) (rules_of old) same h.rules
+  rules = All-same (TypedRuleAt (HasPlaceAt files)) (rules_of new) (rules_of old) same h.rules;
 }
 
 -- the same terms and rules
@@ -48,7 +48,7 @@ with_rule files tyenv old new rule terms rules here h =
     record {
       types = h.types;
       terms = All-same (TermAt (HasPlaceAt files)) (terms_of new) (terms_of old) terms h.terms;
-      rules = All-same at (rules_of new) (rules_of old ++ rule ∷ []) rules (All-push at (rules_of old) rule h.rules here)
+      rules = All-same at (rules_of new) (rules_of old ++ rule ∷ []) rules (All-push at (rules_of old) rule h.rules here);
     }
 
 pub moved : (files : List SourceFile) (old new : TypeEnv) (before after : TermEnv) → new ≡ old → after ≡ before → ArePlaced files old before → ArePlaced files new after

@@ -175,12 +175,7 @@ impl TermEnv {
         Ok(made)
     }
 
-    fn term_of_variant(
-        &self,
-        ty: TypeId,
-        id: TermId,
-        variant: &Variant,
-    ) -> Result<Term, AllocError>
+    fn term_of_variant(&self, ty: TypeId, id: TermId, variant: &Variant) -> Result<Term, AllocError>
         ensures { IfOk result (λ term. term.decl_pos ≡ variant.now.pos) }
     {
         let arg_tys = match &variant.fields {
@@ -217,11 +212,7 @@ impl TermEnv {
     }
 
     /// Marks the declared terms that have rules.
-    fn collect_constructors(
-        &mut self,
-        tyenv: &mut TypeEnv,
-        defs: &[Def],
-    ) -> Result<(), AllocError>
+    fn collect_constructors(&mut self, tyenv: &mut TypeEnv, defs: &[Def]) -> Result<(), AllocError>
         ensures same_types { types_of tyenv.new ≡ types_of tyenv.old }
         ensures placed { (files : List SourceFile) → All (DefAt (HasPlaceAt files)) defs.now
             → ArePlaced files tyenv.old self.old → ArePlaced files tyenv.new self.new }

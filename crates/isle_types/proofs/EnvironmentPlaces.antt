@@ -5,7 +5,7 @@ use Rattle.std.specs.Global.{Global}
 use Rattle.std.proofs.lemmas.List.Elements.{All-same, All-nil, All-cons, All-push}
 use Rattle.isle_syntax.specs.Files.{SourceFile}
 use Rattle.isle_syntax.specs.Positions.{HasPlaceAt}
-use Rattle.isle_syntax.specs.Errors.{ErrorAt, IsPrintable, IfFault, IsFaultAnd, RefusalAt, RefusalsAt, span_at}
+use Rattle.isle_syntax.specs.Errors.{IsPrintable, IfFault, IsFaultAnd, RefusalAt, RefusalsAt, span_at}
 use Rattle.isle_syntax.specs.declared.lexer.Pos.{Pos}
 use Rattle.isle_syntax.specs.declared.error.Span.{Span}
 use Rattle.isle_syntax.specs.declared.error.Error.{Error}

@@ -1,14 +1,11 @@
 use Rattle.std.proofs.Common.{◌≡◌, List}
-use Rattle.std.specs.List.{All}
 use Rattle.isle_syntax.specs.Files.{SourceFile}
-use Rattle.isle_syntax.specs.Positions.{HasPlaceAt}
-use Rattle.isle_syntax.specs.Places.{DefAt}
-use Rattle.isle_types.specs.Environment.{types_of, HasPlaces}
-use Rattle.isle_terms.specs.Environment.{TermAt, TypedRuleAt, ArePlaced}
+use Rattle.isle_types.specs.Environment.{types_of}
+use Rattle.isle_terms.specs.Environment.{ArePlaced}
 use Rattle.isle_terms.proofs.env.TermEnv.check_for_undefined_decls.Given as goal
 
 abbrev pub invariant-loop-term : goal.invariant-loop-term
 invariant-loop-term l = record {
   same_types : types_of l.tyenv ≡ types_of l.initial.tyenv;
-  placed : (files : List SourceFile) → ArePlaced files l.initial.tyenv l.self → ArePlaced files l.tyenv l.self
+  placed : (files : List SourceFile) → ArePlaced files l.initial.tyenv l.self → ArePlaced files l.tyenv l.self;
 }

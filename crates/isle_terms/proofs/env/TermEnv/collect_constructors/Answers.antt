@@ -1,5 +1,5 @@
 use Rattle.isle_terms.proofs.env.TermEnv.collect_constructors.Goals as goal
-use Rattle.std.proofs.Common.{rules, ◌∙◌, sym, subst, arith}
+use Rattle.std.proofs.Common.{◌∙◌, sym, subst, arith}
 use Rattle.isle_syntax.specs.Positions.{HasPlaceAt}
 use Rattle.isle_syntax.specs.Places.{RuleAt}
 use Rattle.isle_types.proofs.EnvironmentPlaces.{same_places, reported_places, read_def}
@@ -19,7 +19,7 @@ loop-def-preserved-in_default-root_term c = record {
   placed = λ files placed before.
       let kept = c.loop-def.invariant.placed files placed before in
       let here : RuleAt (HasPlaceAt files) c.in-Rule.rule = read_def (HasPlaceAt files) c.args.defs.now c.loop-def.def-index c.def-item.result _ (omega arith) c.def-item.is c.in-Rule.is placed in
-      with_types files c.loop-def.tyenv _ _ (reported_places files c.loop-def.tyenv _ _ _ c.report_error.ensures.same_types c.in_ok-report_error.ensures.ok here.pos kept.types) kept
+      with_types files c.loop-def.tyenv _ _ (reported_places files c.loop-def.tyenv _ _ _ c.report_error.ensures.same_types c.in_ok-report_error.ensures.ok here.pos kept.types) kept;
 }
 
 pub loop-def-preserved : goal.loop-def-preserved
@@ -28,9 +28,9 @@ loop-def-preserved c = record {
   placed = λ files placed before.
       let kept = c.loop-def.invariant.placed files placed before in
       elim c.match-def.branch [
-      | in-Rule+in-Some w ↦
-          let marked = with_terms files c.loop-def.tyenv c.loop-def.self w.mark_constructor.new.self (w.mark_constructor.ensures.placed files kept.terms) w.mark_constructor.ensures.same_rules kept in
-          subst (λ (env : TermEnv). ArePlaced files c.loop-def.tyenv env) (sym w.self-is) marked
-      | in_default w ↦ subst (λ (env : TermEnv). ArePlaced files c.loop-def.tyenv env) (sym w.self-is) kept
-      ]
+        | in-Rule+in-Some w ↦
+            let marked = with_terms files c.loop-def.tyenv c.loop-def.self w.mark_constructor.new.self (w.mark_constructor.ensures.placed files kept.terms) w.mark_constructor.ensures.same_rules kept in
+            subst (λ (env : TermEnv). ArePlaced files c.loop-def.tyenv env) (sym w.self-is) marked
+        | in_default w ↦ subst (λ (env : TermEnv). ArePlaced files c.loop-def.tyenv env) (sym w.self-is) kept
+      ];
 }

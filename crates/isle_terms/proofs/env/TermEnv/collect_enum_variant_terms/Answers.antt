@@ -11,5 +11,5 @@ loop-index-preserved c = record {
   same_types = c.add_terms.ensures.same_types ∙ c.loop-index.invariant.same_types;
   placed = λ files before.
       let kept = c.loop-index.invariant.placed files before in
-      c.add_terms.ensures.placed files (c.in_ok-made.ensures files kept.types) kept
+      c.add_terms.ensures.placed files (c.in_ok-made.ensures files kept.types) kept;
 }

@@ -1,14 +1,11 @@
 use Rattle.std.proofs.Common.{◌≡◌, List}
-use Rattle.std.specs.List.{All}
 use Rattle.isle_syntax.specs.Files.{SourceFile}
-use Rattle.isle_syntax.specs.Positions.{HasPlaceAt}
-use Rattle.isle_syntax.specs.Places.{DefAt}
-use Rattle.isle_types.specs.Environment.{types_of, HasPlaces}
-use Rattle.isle_terms.specs.Environment.{TermAt, TypedRuleAt, ArePlaced}
+use Rattle.isle_types.specs.Environment.{types_of}
+use Rattle.isle_terms.specs.Environment.{ArePlaced}
 use Rattle.isle_terms.proofs.env.TermEnv.collect_enum_variant_terms.Given as goal
 
 abbrev pub invariant-loop-index : goal.invariant-loop-index
 invariant-loop-index l = record {
   same_types : types_of l.tyenv ≡ types_of l.initial.tyenv;
-  placed : (files : List SourceFile) → ArePlaced files l.initial.tyenv l.initial.self → ArePlaced files l.tyenv l.self
+  placed : (files : List SourceFile) → ArePlaced files l.initial.tyenv l.initial.self → ArePlaced files l.tyenv l.self;
 }

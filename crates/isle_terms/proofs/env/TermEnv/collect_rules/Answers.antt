@@ -22,33 +22,33 @@ returns-in_err-keep-in-Err-clause-placed c = λ files placed before.
 pub loop-def-preserved : goal.loop-def-preserved
 loop-def-preserved c = elim c.match-def.branch [
   | in-Rule+in-Some+in-Ok+in_ok-push-in-Ok w ↦ record {
-      same_types =
-          ap types_of w.tyenv-is ∙ (w.typed_rule.ensures.same_types ∙ c.loop-def.invariant.same_types);
-      placed = λ files placed before.
-          let kept = c.loop-def.invariant.placed files placed before in
-          let here : RuleAt (HasPlaceAt files) w.in-Rule.rule = read_def (HasPlaceAt files) c.args.defs.now c.loop-def.def-index c.def-item.result _ (omega arith) c.def-item.is w.in-Rule.is placed in
-          let types = same_places files c.loop-def.tyenv w.typed_rule.new.tyenv w.typed_rule.ensures.same_types w.typed_rule.ensures.same_errors kept.types in
-          let rules = with_rule files c.loop-def.tyenv c.loop-def.self _ w.in-Ok.typed refl w.in_ok-push-in-Ok.ensures.items (subst (HasPlaceAt files) (sym w.in-Ok.ensures.here) here.pos) kept in
-          moved files _ _ _ _ w.tyenv-is w.self-is (with_types files c.loop-def.tyenv w.typed_rule.new.tyenv _ types rules)
-    }
+    same_types =
+        ap types_of w.tyenv-is ∙ (w.typed_rule.ensures.same_types ∙ c.loop-def.invariant.same_types);
+    placed = λ files placed before.
+        let kept = c.loop-def.invariant.placed files placed before in
+        let here : RuleAt (HasPlaceAt files) w.in-Rule.rule = read_def (HasPlaceAt files) c.args.defs.now c.loop-def.def-index c.def-item.result _ (omega arith) c.def-item.is w.in-Rule.is placed in
+        let types = same_places files c.loop-def.tyenv w.typed_rule.new.tyenv w.typed_rule.ensures.same_types w.typed_rule.ensures.same_errors kept.types in
+        let rules = with_rule files c.loop-def.tyenv c.loop-def.self _ w.in-Ok.typed refl w.in_ok-push-in-Ok.ensures.items (subst (HasPlaceAt files) (sym w.in-Ok.ensures.here) here.pos) kept in
+        moved files _ _ _ _ w.tyenv-is w.self-is (with_types files c.loop-def.tyenv w.typed_rule.new.tyenv _ types rules);
+  }
   | in-Rule+in-Some+in-Err+in_ok-keep-in-Err w ↦ record {
-      same_types =
-          ap types_of w.tyenv-is ∙ (w.keep.ensures.same_types ∙ (w.typed_rule.ensures.same_types ∙ c.loop-def.invariant.same_types));
-      placed = λ files placed before.
-          let kept = c.loop-def.invariant.placed files placed before in
-          let here : RuleAt (HasPlaceAt files) w.in-Rule.rule = read_def (HasPlaceAt files) c.args.defs.now c.loop-def.def-index c.def-item.result _ (omega arith) c.def-item.is w.in-Rule.is placed in
-          let typed = same_places files c.loop-def.tyenv w.typed_rule.new.tyenv w.typed_rule.ensures.same_types w.typed_rule.ensures.same_errors kept.types in
-          let types = kept_places files w.typed_rule.new.tyenv w.keep.new.self w.in-Err.refusal w.keep.ensures.same_types w.in_ok-keep-in-Err.ensures.ok (w.in-Err.ensures.printable files here) typed in
-          moved files _ _ _ _ w.tyenv-is w.self-is (with_types files c.loop-def.tyenv w.keep.new.self c.loop-def.self types kept)
-    }
+    same_types =
+        ap types_of w.tyenv-is ∙ (w.keep.ensures.same_types ∙ (w.typed_rule.ensures.same_types ∙ c.loop-def.invariant.same_types));
+    placed = λ files placed before.
+        let kept = c.loop-def.invariant.placed files placed before in
+        let here : RuleAt (HasPlaceAt files) w.in-Rule.rule = read_def (HasPlaceAt files) c.args.defs.now c.loop-def.def-index c.def-item.result _ (omega arith) c.def-item.is w.in-Rule.is placed in
+        let typed = same_places files c.loop-def.tyenv w.typed_rule.new.tyenv w.typed_rule.ensures.same_types w.typed_rule.ensures.same_errors kept.types in
+        let types = kept_places files w.typed_rule.new.tyenv w.keep.new.self w.in-Err.refusal w.keep.ensures.same_types w.in_ok-keep-in-Err.ensures.ok (w.in-Err.ensures.printable files here) typed in
+        moved files _ _ _ _ w.tyenv-is w.self-is (with_types files c.loop-def.tyenv w.keep.new.self c.loop-def.self types kept);
+  }
   | in-Rule+in_default-root_term w ↦ record {
-      same_types = ap types_of w.tyenv-is ∙ c.loop-def.invariant.same_types;
-      placed = λ files placed before.
-          moved files _ _ _ _ w.tyenv-is w.self-is (c.loop-def.invariant.placed files placed before)
-    }
+    same_types = ap types_of w.tyenv-is ∙ c.loop-def.invariant.same_types;
+    placed = λ files placed before.
+        moved files _ _ _ _ w.tyenv-is w.self-is (c.loop-def.invariant.placed files placed before);
+  }
   | in_default w ↦ record {
-      same_types = ap types_of w.tyenv-is ∙ c.loop-def.invariant.same_types;
-      placed = λ files placed before.
-          moved files _ _ _ _ w.tyenv-is w.self-is (c.loop-def.invariant.placed files placed before)
-    }
-  ]
+    same_types = ap types_of w.tyenv-is ∙ c.loop-def.invariant.same_types;
+    placed = λ files placed before.
+        moved files _ _ _ _ w.tyenv-is w.self-is (c.loop-def.invariant.placed files placed before);
+  }
+]

@@ -23,28 +23,28 @@ returns-in_err-keep-in-Err-clause-placed c = λ files placed before.
 pub loop-def-preserved : goal.loop-def-preserved
 loop-def-preserved c = elim c.match-def.branch [
   | in-Decl+in-Ok+in_ok-add_term-in-Ok w ↦ record {
-      same_types =
-          ap types_of w.tyenv-is ∙ (w.add_term.ensures.same_types ∙ (w.term_of_decl.ensures.same_types ∙ c.loop-def.invariant.same_types));
-      placed = λ files placed before.
-          let kept = c.loop-def.invariant.placed files placed before in
-          let here : DeclAt (HasPlaceAt files) w.in-Decl.decl = read_def (HasPlaceAt files) c.args.defs.now c.loop-def.def-index c.def-item.result _ (omega arith) c.def-item.is w.in-Decl.is placed in
-          let types = same_places files c.loop-def.tyenv w.term_of_decl.new.tyenv w.term_of_decl.ensures.same_types w.term_of_decl.ensures.same_errors kept.types in
-          let added = w.add_term.ensures.placed files (subst (HasPlaceAt files) (sym w.in-Ok.ensures.here) here.pos) (with_types files c.loop-def.tyenv _ _ types kept) in
-          moved files _ _ _ _ w.tyenv-is w.self-is added
-    }
+    same_types =
+        ap types_of w.tyenv-is ∙ (w.add_term.ensures.same_types ∙ (w.term_of_decl.ensures.same_types ∙ c.loop-def.invariant.same_types));
+    placed = λ files placed before.
+        let kept = c.loop-def.invariant.placed files placed before in
+        let here : DeclAt (HasPlaceAt files) w.in-Decl.decl = read_def (HasPlaceAt files) c.args.defs.now c.loop-def.def-index c.def-item.result _ (omega arith) c.def-item.is w.in-Decl.is placed in
+        let types = same_places files c.loop-def.tyenv w.term_of_decl.new.tyenv w.term_of_decl.ensures.same_types w.term_of_decl.ensures.same_errors kept.types in
+        let added = w.add_term.ensures.placed files (subst (HasPlaceAt files) (sym w.in-Ok.ensures.here) here.pos) (with_types files c.loop-def.tyenv _ _ types kept) in
+        moved files _ _ _ _ w.tyenv-is w.self-is added;
+  }
   | in-Decl+in-Err+in_ok-keep-in-Err w ↦ record {
-      same_types =
-          ap types_of w.tyenv-is ∙ (w.keep.ensures.same_types ∙ (w.term_of_decl.ensures.same_types ∙ c.loop-def.invariant.same_types));
-      placed = λ files placed before.
-          let kept = c.loop-def.invariant.placed files placed before in
-          let here : DeclAt (HasPlaceAt files) w.in-Decl.decl = read_def (HasPlaceAt files) c.args.defs.now c.loop-def.def-index c.def-item.result _ (omega arith) c.def-item.is w.in-Decl.is placed in
-          let typed = same_places files c.loop-def.tyenv w.term_of_decl.new.tyenv w.term_of_decl.ensures.same_types w.term_of_decl.ensures.same_errors kept.types in
-          let types = kept_places files w.term_of_decl.new.tyenv w.keep.new.self w.in-Err.refusal w.keep.ensures.same_types w.in_ok-keep-in-Err.ensures.ok (w.in-Err.ensures.printable files here) typed in
-          moved files _ _ _ _ w.tyenv-is w.self-is (with_types files c.loop-def.tyenv w.keep.new.self c.loop-def.self types kept)
-    }
+    same_types =
+        ap types_of w.tyenv-is ∙ (w.keep.ensures.same_types ∙ (w.term_of_decl.ensures.same_types ∙ c.loop-def.invariant.same_types));
+    placed = λ files placed before.
+        let kept = c.loop-def.invariant.placed files placed before in
+        let here : DeclAt (HasPlaceAt files) w.in-Decl.decl = read_def (HasPlaceAt files) c.args.defs.now c.loop-def.def-index c.def-item.result _ (omega arith) c.def-item.is w.in-Decl.is placed in
+        let typed = same_places files c.loop-def.tyenv w.term_of_decl.new.tyenv w.term_of_decl.ensures.same_types w.term_of_decl.ensures.same_errors kept.types in
+        let types = kept_places files w.term_of_decl.new.tyenv w.keep.new.self w.in-Err.refusal w.keep.ensures.same_types w.in_ok-keep-in-Err.ensures.ok (w.in-Err.ensures.printable files here) typed in
+        moved files _ _ _ _ w.tyenv-is w.self-is (with_types files c.loop-def.tyenv w.keep.new.self c.loop-def.self types kept);
+  }
   | in_default w ↦ record {
-      same_types = ap types_of w.tyenv-is ∙ c.loop-def.invariant.same_types;
-      placed = λ files placed before.
-          moved files _ _ _ _ w.tyenv-is w.self-is (c.loop-def.invariant.placed files placed before)
-    }
-  ]
+    same_types = ap types_of w.tyenv-is ∙ c.loop-def.invariant.same_types;
+    placed = λ files placed before.
+        moved files _ _ _ _ w.tyenv-is w.self-is (c.loop-def.invariant.placed files placed before);
+  }
+]

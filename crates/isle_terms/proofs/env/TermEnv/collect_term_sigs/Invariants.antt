@@ -3,12 +3,12 @@ use Rattle.std.specs.List.{All}
 use Rattle.isle_syntax.specs.Files.{SourceFile}
 use Rattle.isle_syntax.specs.Positions.{HasPlaceAt}
 use Rattle.isle_syntax.specs.Places.{DefAt}
-use Rattle.isle_types.specs.Environment.{types_of, HasPlaces}
-use Rattle.isle_terms.specs.Environment.{TermAt, TypedRuleAt, ArePlaced}
+use Rattle.isle_types.specs.Environment.{types_of}
+use Rattle.isle_terms.specs.Environment.{ArePlaced}
 use Rattle.isle_terms.proofs.env.TermEnv.collect_term_sigs.Given as goal
 
 abbrev pub invariant-loop-def : goal.invariant-loop-def
 invariant-loop-def l = record {
   same_types : types_of l.tyenv ≡ types_of l.initial.tyenv;
-  placed : (files : List SourceFile) → All (DefAt (HasPlaceAt files)) l.defs → ArePlaced files l.initial.tyenv l.initial.self → ArePlaced files l.tyenv l.self
+  placed : (files : List SourceFile) → All (DefAt (HasPlaceAt files)) l.defs → ArePlaced files l.initial.tyenv l.initial.self → ArePlaced files l.tyenv l.self;
 }

@@ -25,5 +25,5 @@ returns-clause-placed c = λ files placed before.
     record {
       types = emptied_places files _ _ c.take_errors-errors.ensures.same_types c.take_errors-errors.ensures.none_left all.types;
       terms = All-same (TermAt (HasPlaceAt files)) _ _ c.name_lone_rules.ensures.same_terms all.terms;
-      rules = c.name_lone_rules.ensures.placed files all.rules
+      rules = c.name_lone_rules.ensures.placed files all.rules;
     }

@@ -1,12 +1,11 @@
-use Rattle.std.proofs.Common.{◌≡◌, List}
+use Rattle.std.proofs.Common.{List}
 use Rattle.std.specs.List.{All}
 use Rattle.isle_syntax.specs.Files.{SourceFile}
 use Rattle.isle_syntax.specs.Positions.{HasPlaceAt}
-use Rattle.isle_syntax.specs.Places.{DefAt}
-use Rattle.isle_types.specs.Environment.{types_of, HasPlaces}
-use Rattle.isle_terms.specs.Environment.{TermAt, TypedRuleAt, ArePlaced}
+use Rattle.isle_types.specs.Environment.{HasPlaces}
+use Rattle.isle_terms.specs.Environment.{TermAt}
 use Rattle.isle_terms.proofs.env.TermEnv.terms_of_type.Given as goal
 
 abbrev pub invariant-loop-variant : goal.invariant-loop-variant
-invariant-loop-variant l = 
+invariant-loop-variant l =
     (files : List SourceFile) → HasPlaces files l.tyenv → All (TermAt (HasPlaceAt files)) l.made.items
