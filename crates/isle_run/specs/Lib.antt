@@ -2,3 +2,4 @@ pub mod ValueTree
 pub mod ValueText
 pub mod Overlaps
 pub mod Programs
+pub mod Queries

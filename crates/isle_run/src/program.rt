@@ -15,7 +15,7 @@ pub struct Program {
 impl Program {
     ghost use Rattle.std.specs.Prelude.{◌≡◌, IfOk};
     ghost use Rattle.isle_terms.specs.Environment.{rules_of};
-    ghost use Rattle.isle_run.specs.Programs.{rules_in};
+    ghost use Rattle.isle_run.specs.Programs.{rules_in, term_named, is_runnable};
 
     /// The program of typed definitions.
     pub(crate) fn new(
@@ -34,7 +34,9 @@ impl Program {
     }
 
     /// The term of a name.
-    pub fn term(&self, name: &str) -> Option<TermId> {
+    pub fn term(&self, name: &str) -> Option<TermId>
+        ensures { result ≡ term_named self.now name.now }
+    {
         self.termenv.term_of_sym(self.tyenv.intern_name(name)?)
     }
 
@@ -60,8 +62,10 @@ impl Program {
     }
 
     /// Whether a call of the term can be answered: it has rules.
-    pub fn runnable(&self, term: TermId) -> bool {
-        !self.rules_of(term).is_empty()
+    pub fn runnable(&self, term: TermId) -> bool
+        ensures { result ≡ is_runnable self.now term }
+    {
+        self.rules().iter().any(|rule| rule.root_term == term)
     }
 
     /// Whether the term may answer nothing.

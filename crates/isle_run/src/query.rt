@@ -20,12 +20,22 @@ pub enum QueryFault {
 }
 
 impl From<AllocError> for QueryFault {
+    ghost use Rattle.std.specs.Prelude.{◌≡◌, alloc_error};
+    ghost use Rattle.isle_run.specs.declared.query.QueryFault.TheVariants.{Memory};
+
+    ghost from_gives = { λ _ fault. fault ≡ Memory alloc_error };
+
     fn from(e: AllocError) -> QueryFault {
         QueryFault::Memory(e)
     }
 }
 
 impl<T: Drop> From<AllocFailed<T>> for QueryFault {
+    ghost use Rattle.std.specs.Prelude.{◌≡◌, alloc_error};
+    ghost use Rattle.isle_run.specs.declared.query.QueryFault.TheVariants.{Memory};
+
+    ghost from_gives = { λ _ fault. fault ≡ Memory alloc_error };
+
     fn from(_e: AllocFailed<T>) -> QueryFault {
         QueryFault::Memory(AllocError)
     }
@@ -87,20 +97,38 @@ fn head_of(tokens: &[Token]) -> Option<(&str, &[Token])> {
 }
 
 impl Program {
+    ghost use Rattle.std.specs.Prelude.{◌≡◌, IfOk, IfErr, Some, true};
+    ghost use Rattle.isle_run.specs.Programs.{term_named, is_runnable};
+    ghost use Rattle.isle_run.specs.Queries.{RefusesName, RefusesText};
+
+    /// The term of a name, where it can be called.
+    fn callable(&self, name: &str) -> Result<TermId, QueryFault>
+        ensures named { IfOk result (λ term. term_named self.now name.now ≡ Some term) }
+        ensures runnable { IfOk result (λ term. is_runnable self.now term ≡ true) }
+        ensures refused { IfErr result (RefusesName self.now name.now) }
+    {
+        let Some(term) = self.term(name) else {
+            return Err(QueryFault::Q1);
+        };
+        if self.runnable(term) {
+            Ok(term)
+        } else {
+            Err(QueryFault::Q2)
+        }
+    }
+
     /// The call that a text spells.
-    pub fn query(&self, alloc: Global, text: &str) -> Result<(TermId, Vec<Value>), QueryFault> {
+    pub fn query(&self, alloc: Global, text: &str) -> Result<(TermId, Vec<Value>), QueryFault>
+        ensures runnable { IfOk result (λ call. is_runnable self.now call.0 ≡ true) }
+        ensures refused { IfErr result (RefusesText self.now) }
+    {
         let Some(tokens) = tokens_of(alloc, text)? else {
             return Err(QueryFault::Q4);
         };
         let Some((name, rest)) = head_of(tokens.as_slice()) else {
             return Err(QueryFault::Q4);
         };
-        let Some(term) = self.term(name) else {
-            return Err(QueryFault::Q1);
-        };
-        if !self.runnable(term) {
-            return Err(QueryFault::Q2);
-        }
+        let term = self.callable(name)?;
         match read_args(alloc, self, term, rest)? {
             Some(args) => Ok((term, args)),
             None => Err(QueryFault::Q3),

@@ -1,8 +1,11 @@
 -- What an environment of terms and rules holds.
-use Rattle.std.specs.Prelude.{List, All}
+use Rattle.std.specs.Prelude.{◌==◌, List, All, Option}
+use Rattle.std.specs.HashMap.{get_by}
 use Rattle.isle_syntax.specs.declared.lexer.Pos.{Pos}
 use Rattle.isle_syntax.specs.Files.{SourceFile}
 use Rattle.isle_syntax.specs.Positions.{HasPlaceAt}
+use Rattle.isle_types.specs.declared.ids.Sym.{Sym}
+use Rattle.isle_types.specs.declared.ids.TermId.{TermId}
 use Rattle.isle_types.specs.declared.env.TypeEnv.{TypeEnv}
 use Rattle.isle_types.specs.Environment.{HasPlaces}
 use Rattle.isle_terms.specs.declared.terms.Term.{Term}
@@ -30,3 +33,7 @@ pub record ArePlaced (files : List SourceFile) (tyenv : TypeEnv) (env : TermEnv)
   pub types : HasPlaces files tyenv
   pub terms : All (TermAt (HasPlaceAt files)) (terms_of env)
   pub rules : All (TypedRuleAt (HasPlaceAt files)) (rules_of env)
+
+-- the term of a symbol
+abbrev pub term_with : TermEnv → Sym → Option TermId
+term_with env sym = get_by (λ (other : Sym). sym.0 == other.0) env.term_map

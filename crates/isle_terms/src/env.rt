@@ -1,10 +1,11 @@
-ghost use Rattle.std.specs.Prelude.{◌≡◌, [], List, All, IfOk, IfErr, OnOk};
+ghost use Rattle.std.specs.Prelude.{◌≡◌, [], List, All, IfOk, IfErr, OnOk, slice_get};
+ghost use Rattle.std.specs.Option.{option_and_then, option_copied};
 ghost use Rattle.isle_syntax.specs.Files.{SourceFile};
 ghost use Rattle.isle_syntax.specs.Positions.{HasPlaceAt};
 ghost use Rattle.isle_syntax.specs.Errors.{RefusalAt, RefusalsAt};
 ghost use Rattle.isle_syntax.specs.Places.{DefAt, DeclAt, IdentAt, RuleAt};
-ghost use Rattle.isle_types.specs.Environment.{errors_of, types_of, HasPlaces};
-ghost use Rattle.isle_terms.specs.Environment.{terms_of, rules_of, TermAt, TypedRuleAt, ArePlaced};
+ghost use Rattle.isle_types.specs.Environment.{errors_of, types_of, sym_named, HasPlaces};
+ghost use Rattle.isle_terms.specs.Environment.{terms_of, rules_of, term_with, TermAt, TypedRuleAt, ArePlaced};
 
 use crate::rules::{Expr, Pattern, Rule};
 use crate::terms::{ConstructorKind, Term, TermFlags, TermKind};
@@ -387,18 +388,23 @@ impl TermEnv {
     }
 
     /// The id of a term, by its name.
-    pub fn get_term_by_name(&self, tyenv: &TypeEnv, sym: &Ident) -> Option<TermId> {
-        let sym = tyenv.intern(sym)?;
-        self.term_map.get(&sym).copied()
+    pub fn get_term_by_name(&self, tyenv: &TypeEnv, sym: &Ident) -> Option<TermId>
+        ensures { result ≡ option_and_then (term_with self.now) (sym_named tyenv.now sym.now.0) }
+    {
+        self.term_of_sym(tyenv.intern(sym)?)
     }
 
     /// The id of a term, by its symbol.
-    pub fn term_of_sym(&self, sym: Sym) -> Option<TermId> {
+    pub fn term_of_sym(&self, sym: Sym) -> Option<TermId>
+        ensures { result ≡ term_with self.now sym }
+    {
         self.term_map.get(&sym).copied()
     }
 
     /// A term, or `None` at an id that the environment doesn't have.
-    pub fn get_term(&self, id: TermId) -> Option<&Term> {
+    pub fn get_term(&self, id: TermId) -> Option<&Term>
+        ensures { option_copied result ≡ slice_get (terms_of self.now) id.0 }
+    {
         self.terms.get(id.index())
     }
 

@@ -1,5 +1,9 @@
 -- What an environment of types holds.
-use Rattle.std.specs.Prelude.{Bool, true, false, List, All}
+use Rattle.std.specs.Prelude.{ℕ, Bool, true, false, List, All, Option, ◌==◌}
+use Rattle.std.specs.Option.{option_and_then}
+use Rattle.std.specs.HashMap.{get_by, get_by_text}
+use Rattle.isle_types.specs.declared.ids.Sym.{Sym}
+use Rattle.isle_types.specs.declared.ids.TypeId.{TypeId}
 use Rattle.isle_syntax.specs.Files.{SourceFile}
 use Rattle.isle_syntax.specs.Positions.{HasPlaceAt}
 use Rattle.isle_syntax.specs.Errors.{IsPrintable}
@@ -26,3 +30,15 @@ pub record HasPlaces (files : List SourceFile) (env : TypeEnv) : Type 0 where
 abbrev pub is_size_error : Error → Bool
 is_size_error (SizeError _ _) = true
 is_size_error _ = false
+
+-- the symbol of a name
+abbrev pub sym_named : TypeEnv → List ℕ → Option Sym
+sym_named env name = get_by_text env.sym_map name
+
+-- the type of a symbol
+abbrev pub type_of_sym : TypeEnv → Sym → Option TypeId
+type_of_sym env sym = get_by (λ (other : Sym). sym.0 == other.0) env.type_map
+
+-- the type of a name
+abbrev pub type_of_name : TypeEnv → List ℕ → Option TypeId
+type_of_name env name = option_and_then (type_of_sym env) (sym_named env name)

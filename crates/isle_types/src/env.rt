@@ -6,7 +6,7 @@ ghost use Rattle.isle_syntax.specs.Positions.{HasPlaceAt};
 ghost use Rattle.isle_syntax.specs.Errors.{IfFault, IsFaultAnd, RefusalAt, RefusalsAt, span_at};
 ghost use Rattle.isle_syntax.specs.Places.{DefAt, FieldsAt, StructFieldAt, TypeAt as TypeTreeAt, VariantAt as VariantTreeAt};
 ghost use Rattle.isle_types.specs.TypePlaces.{TypeAt, VariantAt};
-ghost use Rattle.isle_types.specs.Environment.{errors_of, types_of, HasPlaces, is_size_error};
+ghost use Rattle.isle_types.specs.Environment.{sym_named, type_of_name, errors_of, types_of, HasPlaces, is_size_error};
 
 use crate::ids::{FieldId, Sym, TypeId, VariantId};
 use crate::types::{BuiltinType, Fields, StructField, StructFields, Type, Variant};
@@ -309,12 +309,16 @@ impl TypeEnv {
     }
 
     /// The symbol of a name, if it is interned.
-    pub fn intern(&self, ident: &Ident) -> Option<Sym> {
+    pub fn intern(&self, ident: &Ident) -> Option<Sym>
+        ensures { result ≡ sym_named self.now ident.now.0 }
+    {
         self.intern_name(ident.0.as_str())
     }
 
     /// The symbol of a text, if it is interned.
-    pub fn intern_name(&self, name: &str) -> Option<Sym> {
+    pub fn intern_name(&self, name: &str) -> Option<Sym>
+        ensures { result ≡ sym_named self.now name.now }
+    {
         self.sym_map.get(name).copied()
     }
 
@@ -343,12 +347,16 @@ impl TypeEnv {
     }
 
     /// The id of a type, by its name.
-    pub fn get_type_by_name(&self, ident: &Ident) -> Option<TypeId> {
+    pub fn get_type_by_name(&self, ident: &Ident) -> Option<TypeId>
+        ensures { result ≡ type_of_name self.now ident.now.0 }
+    {
         self.type_named(ident.0.as_str())
     }
 
     /// The id of a type, by the text of its name.
-    pub fn type_named(&self, name: &str) -> Option<TypeId> {
+    pub fn type_named(&self, name: &str) -> Option<TypeId>
+        ensures { result ≡ type_of_name self.now name.now }
+    {
         let sym = self.intern_name(name)?;
         self.type_map.get(&sym).copied()
     }
