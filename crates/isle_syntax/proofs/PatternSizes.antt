@@ -1,8 +1,8 @@
 -- A recursion over patterns ends: those of a list are no larger than what holds them.
-use Rattle.std.proofs.Common.{ℕ, ◌+◌, ◌*◌, ◌≤◌, List, [], ◌∷◌, arith}
+use Rattle.std.proofs.Common.{◌+◌, ◌*◌, ◌≤◌, List, [], ◌∷◌, arith}
 use denote.Param.Weighed.{most}
 use Rattle.isle_syntax.specs.declared.ast.Pattern.{Pattern}
-use Rattle.isle_syntax.specs.declared.ast.Patterns.TheDeep.{size-Pattern}
+use Rattle.isle_syntax.specs.declared.ast.BoxedPattern.TheDeep.{size-Pattern}
 use Rattle.isle_syntax.specs.PatternTree.{pattern_heights}
 use Rattle.isle_syntax.specs.PatternFalls.{pattern_falls}
 use Rattle.isle_syntax.specs.PatternShape.{patterns_of}

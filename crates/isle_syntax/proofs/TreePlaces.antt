@@ -13,23 +13,33 @@ use Rattle.isle_syntax.specs.declared.refusal.Refusal.TheVariants.{Fault, Memory
 use Rattle.isle_syntax.specs.declared.ast.Ident.{Ident}
 use Rattle.isle_syntax.specs.declared.ast.StructField.{StructField}
 use Rattle.isle_syntax.specs.declared.ast.Fields.{Fields}
-use Rattle.isle_syntax.specs.declared.ast.Fields.TheVariants.{Unit as no_fields, Struct}
+use Rattle.isle_syntax.specs.declared.ast.Fields.TheVariants.{Unit as no_fields, Struct as named_fields, Tuple as tuple_fields}
+use Rattle.isle_syntax.specs.declared.ast.TupleField.{TupleField}
 use Rattle.isle_syntax.specs.declared.ast.Variant.{Variant}
 use Rattle.isle_syntax.specs.declared.ast.TypeValue.{TypeValue}
-use Rattle.isle_syntax.specs.declared.ast.TypeValue.TheVariants.{Enum}
+use Rattle.isle_syntax.specs.declared.ast.TypeValue.TheVariants.{Primitive, Enum, Struct}
 use Rattle.isle_syntax.specs.declared.ast.«Type».{«Type» as TypeTree}
 use Rattle.isle_syntax.specs.declared.ast.Decl.{Decl as DeclTree}
 use Rattle.isle_syntax.specs.declared.ast.Pattern.{Pattern}
 use Rattle.isle_syntax.specs.declared.ast.Expr.{Expr}
+use Rattle.isle_syntax.specs.declared.ast.LetDef.{LetDef}
 use Rattle.isle_syntax.specs.declared.ast.IfLet.{IfLet}
 use Rattle.isle_syntax.specs.declared.ast.Rule.{Rule as RuleTree}
+use Rattle.isle_syntax.specs.declared.ast.Extractor.{Extractor as ExtractorTree}
+use Rattle.isle_syntax.specs.declared.ast.Extern.{Extern as ExternTree}
+use Rattle.isle_syntax.specs.declared.ast.Extern.TheVariants.{Constructor as extern_constructor, Extractor as extern_extractor, Const as extern_const}
+use Rattle.isle_syntax.specs.declared.ast.Converter.{Converter as ConverterTree}
+use Rattle.isle_syntax.specs.declared.ast.KeptItem.{KeptItem}
+use Rattle.isle_syntax.specs.declared.ast.Kept.{Kept as KeptTree}
 use Rattle.isle_syntax.specs.declared.ast.Def.{Def}
-use Rattle.isle_syntax.specs.declared.ast.Def.TheVariants.{TypeDef, Decl, Rule}
-use Rattle.isle_syntax.specs.PatternTree.{PatternTree, PatternTrees, pattern_var, pattern_int, pattern_term, pattern_wildcard, no_patterns, more_patterns}
+use Rattle.isle_syntax.specs.declared.ast.Def.TheVariants.{TypeDef, Decl, Rule, Extractor, Extern, Converter, Pragma, Kept}
+use Rattle.isle_syntax.specs.PatternTree.{PatternTree, PatternTrees, pattern_var, pattern_bind, pattern_bool, pattern_int, pattern_prim, pattern_term, pattern_wildcard, pattern_and, pattern_macro_arg, no_patterns, more_patterns}
 use Rattle.isle_syntax.specs.PatternShape.{pattern_of, patterns_of}
-use Rattle.isle_syntax.specs.ExprTree.{ExprTree, ExprTrees, expr_term, expr_var, expr_int, no_exprs, more_exprs}
-use Rattle.isle_syntax.specs.ExprShape.{expr_of, exprs_of}
-use Rattle.isle_syntax.specs.Places.{IdentAt, StructFieldAt, FieldsAt, VariantAt, TypeValueAt, TypeAt, DeclAt, PatternTreeAt, PatternTreesAt, PatternAt, ExprTreeAt, ExprTreesAt, ExprAt, IfLetAt, RuleAt, DefAt}
+use Rattle.isle_syntax.specs.ExprTree.{ExprTree, ExprTrees, LetTrees, expr_term, expr_var, expr_bool, expr_int, expr_prim, expr_let, no_exprs, more_exprs, no_lets, more_lets}
+use Rattle.isle_syntax.specs.ExprShape.{expr_of, exprs_of, lets_of}
+use Rattle.isle_syntax.specs.ItemTree.{ItemTree, ItemTrees, item_int, item_big, item_symbol, item_at, item_list, no_items, more_items}
+use Rattle.isle_syntax.specs.ItemShape.{items_of}
+use Rattle.isle_syntax.specs.Places.{IdentAt, StructFieldAt, TupleFieldAt, FieldsAt, VariantAt, TypeValueAt, TypeAt, DeclAt, PatternTreeAt, PatternTreesAt, PatternAt, ExprTreeAt, ExprTreesAt, LetTreesAt, LetDefAt, ExprAt, IfLetAt, RuleAt, ExtractorAt, ExternAt, ConverterAt, ItemTreeAt, ItemTreesAt, ItemAt, KeptAt, DefAt}
 
 pub patterns_of_at : (At : Pos → Type 0) (ps : List Pattern) → All (PatternAt At) ps → PatternTreesAt At (patterns_of ps)
 patterns_of_at At [] h = tt
@@ -41,6 +51,17 @@ exprs_of_at At [] h = tt
 exprs_of_at At (e ∷ es) h =
     (All-head (ExprAt At) e es h, exprs_of_at At es (All-tail (ExprAt At) e es h))
 
+pub lets_of_at : (At : Pos → Type 0) (ds : List LetDef) → All (LetDefAt At) ds → LetTreesAt At (lets_of ds)
+lets_of_at At [] h = tt
+lets_of_at At (d ∷ ds) h =
+    let first = All-head (LetDefAt At) d ds h in
+    (first.var, first.ty, first.val, first.pos, lets_of_at At ds (All-tail (LetDefAt At) d ds h))
+
+pub items_of_at : (At : Pos → Type 0) (is : List KeptItem) → All (ItemAt At) is → ItemTreesAt At (items_of is)
+items_of_at At [] h = tt
+items_of_at At (i ∷ is) h =
+    (All-head (ItemAt At) i is h, items_of_at At is (All-tail (ItemAt At) i is h))
+
 pub patterns_at_each : (At : Pos → Type 0) (ps : List Pattern) → PatternTreesAt At (patterns_of ps) → All (PatternAt At) ps
 patterns_at_each At [] h = All-nil (PatternAt At)
 patterns_at_each At (p ∷ ps) h =
@@ -50,16 +71,30 @@ pub exprs_at_each : (At : Pos → Type 0) (es : List Expr) → ExprTreesAt At (e
 exprs_at_each At [] h = All-nil (ExprAt At)
 exprs_at_each At (e ∷ es) h = All-cons (ExprAt At) e es h.0 (exprs_at_each At es h.1)
 
+pub lets_at_each : (At : Pos → Type 0) (ds : List LetDef) → LetTreesAt At (lets_of ds) → All (LetDefAt At) ds
+lets_at_each At [] h = All-nil (LetDefAt At)
+lets_at_each At (d ∷ ds) h =
+    All-cons (LetDefAt At) d ds (record { var = h.0; ty = h.1; val = h.2; pos = h.3 }) (lets_at_each At ds h.4)
+
+pub items_at_each : (At : Pos → Type 0) (is : List KeptItem) → ItemTreesAt At (items_of is) → All (ItemAt At) is
+items_at_each At [] h = All-nil (ItemAt At)
+items_at_each At (i ∷ is) h = All-cons (ItemAt At) i is h.0 (items_at_each At is h.1)
+
 -- Where each position of one kind is one of another, so are those in definitions and errors.
 module _ (P Q : Pos → Type 0) (weaker : (p : Pos) → P p → Q p) where
   field_at_weaker : (field : StructField) → StructFieldAt P field → StructFieldAt Q field
   field_at_weaker field h =
       record { name = weaker _ h.name; ty = weaker _ h.ty; pos = weaker _ h.pos }
 
+  tuple_field_at_weaker : (field : TupleField) → TupleFieldAt P field → TupleFieldAt Q field
+  tuple_field_at_weaker field h = record { ty = weaker _ h.ty; pos = weaker _ h.pos }
+
   fields_at_weaker : (fields : Fields) → FieldsAt P fields → FieldsAt Q fields
   fields_at_weaker no_fields h = tt
-  fields_at_weaker (Struct fields) h =
+  fields_at_weaker (named_fields fields) h =
       All-weaker (StructFieldAt P) (StructFieldAt Q) field_at_weaker fields.fields h
+  fields_at_weaker (tuple_fields fields) h =
+      All-weaker (TupleFieldAt P) (TupleFieldAt Q) tuple_field_at_weaker fields.fields h
 
   variant_at_weaker : (variant : Variant) → VariantAt P variant → VariantAt Q variant
   variant_at_weaker variant h = record {
@@ -69,6 +104,8 @@ module _ (P Q : Pos → Type 0) (weaker : (p : Pos) → P p → Q p) where
   }
 
   type_value_at_weaker : (ty : TypeValue) → TypeValueAt P ty → TypeValueAt Q ty
+  type_value_at_weaker (Primitive name pos) h = (weaker _ h.0, weaker _ h.1)
+  type_value_at_weaker (Struct fields pos) h = (fields_at_weaker fields h.0, weaker _ h.1)
   type_value_at_weaker (Enum variants pos) h =
       (All-weaker (VariantAt P) (VariantAt Q) variant_at_weaker variants h.0, weaker _ h.1)
 
@@ -90,10 +127,16 @@ module _ (P Q : Pos → Type 0) (weaker : (p : Pos) → P p → Q p) where
   mutual
     pattern_tree_at_weaker : (t : PatternTree) → PatternTreeAt P t → PatternTreeAt Q t
     pattern_tree_at_weaker (pattern_var name pos) h = (weaker _ h.0, weaker _ h.1)
+    pattern_tree_at_weaker (pattern_bind name below pos) h =
+        (weaker _ h.0, pattern_tree_at_weaker below h.1, weaker _ h.2)
+    pattern_tree_at_weaker (pattern_bool val pos) h = weaker _ h
     pattern_tree_at_weaker (pattern_int val big pos) h = weaker _ h
+    pattern_tree_at_weaker (pattern_prim name pos) h = (weaker _ h.0, weaker _ h.1)
     pattern_tree_at_weaker (pattern_term term args pos) h =
         (weaker _ h.0, pattern_trees_at_weaker args h.1, weaker _ h.2)
     pattern_tree_at_weaker (pattern_wildcard pos) h = weaker _ h
+    pattern_tree_at_weaker (pattern_and below pos) h = (pattern_trees_at_weaker below h.0, weaker _ h.1)
+    pattern_tree_at_weaker (pattern_macro_arg index pos) h = weaker _ h
 
     pattern_trees_at_weaker : (ts : PatternTrees) → PatternTreesAt P ts → PatternTreesAt Q ts
     pattern_trees_at_weaker no_patterns h = tt
@@ -105,12 +148,21 @@ module _ (P Q : Pos → Type 0) (weaker : (p : Pos) → P p → Q p) where
     expr_tree_at_weaker (expr_term term args pos) h =
         (weaker _ h.0, expr_trees_at_weaker args h.1, weaker _ h.2)
     expr_tree_at_weaker (expr_var name pos) h = (weaker _ h.0, weaker _ h.1)
+    expr_tree_at_weaker (expr_bool val pos) h = weaker _ h
     expr_tree_at_weaker (expr_int val big pos) h = weaker _ h
+    expr_tree_at_weaker (expr_prim name pos) h = (weaker _ h.0, weaker _ h.1)
+    expr_tree_at_weaker (expr_let defs body pos) h =
+        (let_trees_at_weaker defs h.0, expr_tree_at_weaker body h.1, weaker _ h.2)
 
     expr_trees_at_weaker : (ts : ExprTrees) → ExprTreesAt P ts → ExprTreesAt Q ts
     expr_trees_at_weaker no_exprs h = tt
     expr_trees_at_weaker (more_exprs t ts) h =
         (expr_tree_at_weaker t h.0, expr_trees_at_weaker ts h.1)
+
+    let_trees_at_weaker : (ds : LetTrees) → LetTreesAt P ds → LetTreesAt Q ds
+    let_trees_at_weaker no_lets h = tt
+    let_trees_at_weaker (more_lets var ty val pos ds) h =
+        (weaker _ h.0, weaker _ h.1, expr_tree_at_weaker val h.2, weaker _ h.3, let_trees_at_weaker ds h.4)
 
   iflet_at_weaker : (iflet : IfLet) → IfLetAt P iflet → IfLetAt Q iflet
   iflet_at_weaker iflet h = record {
@@ -132,10 +184,55 @@ module _ (P Q : Pos → Type 0) (weaker : (p : Pos) → P p → Q p) where
     name = name_at_weaker rule.name h.name;
   }
 
+  extractor_at_weaker : (extractor : ExtractorTree) → ExtractorAt P extractor → ExtractorAt Q extractor
+  extractor_at_weaker extractor h = record {
+    term = weaker _ h.term;
+    args = All-weaker (IdentAt P) (IdentAt Q) (λ name. weaker name.1) extractor.args h.args;
+    template = pattern_tree_at_weaker (pattern_of extractor.template) h.template;
+    pos = weaker _ h.pos;
+  }
+
+  extern_at_weaker : (extern : ExternTree) → ExternAt P extern → ExternAt Q extern
+  extern_at_weaker (extern_constructor term func pos) h = (weaker _ h.0, weaker _ h.1, weaker _ h.2)
+  extern_at_weaker (extern_extractor term func pos _) h = (weaker _ h.0, weaker _ h.1, weaker _ h.2)
+  extern_at_weaker (extern_const name ty pos) h = (weaker _ h.0, weaker _ h.1, weaker _ h.2)
+
+  converter_at_weaker : (converter : ConverterTree) → ConverterAt P converter → ConverterAt Q converter
+  converter_at_weaker converter h = record {
+    term = weaker _ h.term;
+    inner_ty = weaker _ h.inner_ty;
+    outer_ty = weaker _ h.outer_ty;
+    pos = weaker _ h.pos;
+  }
+
+  mutual
+    item_tree_at_weaker : (t : ItemTree) → ItemTreeAt P t → ItemTreeAt Q t
+    item_tree_at_weaker (item_int val pos) h = weaker _ h
+    item_tree_at_weaker (item_big val pos) h = weaker _ h
+    item_tree_at_weaker (item_symbol name) h = weaker _ h
+    item_tree_at_weaker (item_at pos) h = weaker _ h
+    item_tree_at_weaker (item_list below pos) h = (item_trees_at_weaker below h.0, weaker _ h.1)
+
+    item_trees_at_weaker : (ts : ItemTrees) → ItemTreesAt P ts → ItemTreesAt Q ts
+    item_trees_at_weaker no_items h = tt
+    item_trees_at_weaker (more_items t ts) h = (item_tree_at_weaker t h.0, item_trees_at_weaker ts h.1)
+
+  kept_at_weaker : (kept : KeptTree) → KeptAt P kept → KeptAt Q kept
+  kept_at_weaker kept h = record {
+    word = weaker _ h.word;
+    items = item_trees_at_weaker kept.items h.items;
+    pos = weaker _ h.pos;
+  }
+
   pub def_at_weaker : (def : Def) → DefAt P def → DefAt Q def
   def_at_weaker (TypeDef type) h = type_at_weaker type h
   def_at_weaker (Decl decl) h = decl_at_weaker decl h
   def_at_weaker (Rule rule) h = rule_at_weaker rule h
+  def_at_weaker (Extractor extractor) h = extractor_at_weaker extractor h
+  def_at_weaker (Extern extern) h = extern_at_weaker extern h
+  def_at_weaker (Converter converter) h = converter_at_weaker converter h
+  def_at_weaker (Pragma pragma) h = tt
+  def_at_weaker (Kept kept) h = kept_at_weaker kept h
 
   pub defs_at_weaker : (defs : List Def) → All (DefAt P) defs → All (DefAt Q) defs
   defs_at_weaker defs h = All-weaker (DefAt P) (DefAt Q) def_at_weaker defs h

@@ -1,22 +1,34 @@
 -- What stands next in a text.
-use Rattle.std.specs.Prelude.{ℕ, ◌+◌, List, length}
-use Rattle.isle_syntax.specs.Unread.{Source}
-use Rattle.isle_syntax.specs.Positions.{IsIn}
+use Rattle.std.specs.Prelude.{◌≡◌, ◌≤◌, ℕ, List, [], true, false}
+use Rattle.isle_syntax.specs.Unread.{Source, LexerState, ready, starved, failed, Unread, first_place}
+use Rattle.isle_syntax.specs.LexerCalls.{BeginsWithSymbol}
+use Rattle.isle_syntax.specs.Reading.{Reading, reading, reading_before}
 use Rattle.isle_syntax.specs.declared.lexer.Lookahead.{Lookahead}
 use Rattle.isle_syntax.specs.declared.lexer.Lookahead.TheVariants.{Token, End, Fault, Memory, Failed}
 
--- at most how many tokens are left: no more than bytes behind the next one, and that one
-abbrev pub left_of : Lookahead → List ℕ → ℕ
-left_of (Token t) rest = length rest + 1
-left_of End rest = 0
-left_of (Fault reason) rest = 0
-left_of (Memory e) rest = 0
-left_of Failed rest = 0
+-- how a lexer goes on, by what stands next
+abbrev pub state_of : Lookahead → LexerState
+state_of (Token token) = ready
+state_of End = ready
+state_of (Fault reason) = ready
+state_of (Memory e) = starved
+state_of Failed = failed
 
--- a token that stands next is one of the text
-abbrev pub IsAhead : Source → Lookahead → Type 0
-IsAhead source (Token t) = IsIn source t.0
-IsAhead source End = Unit {0}
-IsAhead source (Fault reason) = Unit {0}
-IsAhead source (Memory e) = Unit {0}
-IsAhead source Failed = Unit {0}
+-- the tokens still to come, of what stands next, where it begins, and what is behind it
+abbrev pub reading_of : Source → Lookahead → ℕ → List ℕ → Reading
+reading_of source (Token token) start rest = reading_before token.0 token.1 (reading source rest)
+reading_of source End start rest = record { left = []; end = start; clean = true }
+reading_of source (Fault reason) start rest = record { left = []; end = start; clean = false }
+reading_of source (Memory e) start rest = reading source rest
+reading_of source Failed start rest = record { left = []; end = start; clean = false }
+
+-- what a lexer hasn't given yet, of the same
+abbrev pub unread_of : Source → Lookahead → ℕ → List ℕ → Unread
+unread_of source lookahead start rest = let r = reading_of source lookahead start rest in
+    record { left = r.left; end = r.end; clean = r.clean; state = state_of lookahead; source = source }
+
+-- the next token, or else the end, begins where the lexer stands; it is a symbol where there was no memory for it
+pub record IsAhead (source : Source) (lookahead : Lookahead) (start : ℕ) (rest : List ℕ) : Type 0 where
+  pub within : start ≤ source.size
+  pub begins : first_place source (reading_of source lookahead start rest).end (reading_of source lookahead start rest).left ≡ record { file = source.file; offset = start }
+  pub starved_before : state_of lookahead ≡ starved → BeginsWithSymbol (reading_of source lookahead start rest).left

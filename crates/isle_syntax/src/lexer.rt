@@ -1,14 +1,24 @@
-ghost use Rattle.std.specs.Prelude.{◌≡◌, ◌≤◌, ◌<◌, ◌↔◌, IsTrue, IsSome, IfSome, IfOk, IfErr, length};
+ghost use Rattle.std.specs.Prelude.{◌≡◌, ◌↔◌, ◌∷◌, IsTrue, IsSome, IfSome, IfOk, IfErr, MatchOption, option_map, drop, length, List, ℕ, Bool};
+ghost use Rattle.isle_syntax.specs.Tokens.{Placed, placed, IsInt, IsSymbol};
+ghost use Rattle.isle_syntax.specs.Unread.{failed, starved, place_at};
 ghost use Rattle.isle_syntax.specs.Positions.{IsIn};
-ghost use Rattle.isle_syntax.specs.Errors.{RefusalAt};
-ghost use Rattle.isle_syntax.specs.Lookahead.{left_of, IsAhead};
+ghost use Rattle.isle_syntax.specs.Errors.{RefusalAt, IfFault};
+ghost use Rattle.isle_syntax.specs.LexerCalls.{IsUnread, GivesToken, TellsEnd, TellsFault, FailsForMemory, IfMemory, HasEnded, ahead};
+ghost use Rattle.isle_syntax.specs.TokensOf.{TokensOf};
+ghost use Rattle.isle_syntax.specs.Gaps.{lead_of};
+ghost use Rattle.isle_syntax.specs.Reading.{reading, next_of, nothing, fault, found};
+ghost use Rattle.isle_syntax.specs.Lookahead.{reading_of, state_of, IsAhead};
+
+#[cfg(test)]
+mod tests;
 
 use crate::Refusal;
 use crate::error::{Error, Span};
 use crate::files::Files;
-use crate::gap::after_gap;
+use crate::gap::{Lead, after_char, after_gap, lead_of};
 use crate::number::number;
 use crate::symbol::symbol;
+pub use crate::symbol::{is_const_name, is_ident, is_name, is_pname, is_symbol};
 use crate::text::Text;
 use std::alloc::{AllocError, Global};
 use std::marker::Model;
@@ -71,7 +81,9 @@ pub enum Token {
 
 impl Token {
     /// Whether this is an integer.
-    pub fn is_int(&self) -> bool {
+    pub fn is_int(&self) -> bool
+        ensures { IsTrue result ↔ IsInt self.now }
+    {
         match self {
             Token::Int(_) => true,
             Token::Big(_) => true,
@@ -80,7 +92,9 @@ impl Token {
     }
 
     /// Whether this is a symbol.
-    pub fn is_sym(&self) -> bool {
+    pub fn is_sym(&self) -> bool
+        ensures { IsTrue result ↔ IsSymbol self.now }
+    {
         match self {
             Token::Symbol(_) => true,
             _ => false,
@@ -113,26 +127,27 @@ pub struct Lexer<'src> {
 }
 
 impl<'src> Model for Lexer<'src> {
-    ghost use Rattle.std.specs.Prelude.{◌≤◌};
     ghost use Rattle.isle_syntax.specs.Unread.{Unread};
 
     ghost Value = { Unread };
 
-    ghost use Rattle.isle_syntax.specs.Lookahead.{left_of, IsAhead};
+    ghost use Rattle.isle_syntax.specs.Lookahead.{unread_of, IsAhead};
 
-    ghost view = { λ l. record {
-      left = left_of l.lookahead l.rest.now;
-      source = record { file = l.file; size = l.size };
-    } };
+    ghost view = { λ l. unread_of (record { file = l.file; size = l.size }) l.lookahead l.start l.rest.now };
 
-    ghost invariant = { λ l. (l.start ≤ l.size)
-        × IsAhead (record { file = l.file; size = l.size }) l.lookahead };
+    ghost invariant = { λ l. IsAhead (record { file = l.file; size = l.size }) l.lookahead l.start l.rest.now };
 }
 
 impl<'src> Lexer<'src> {
-    /// The tokens of the text of file number `file`. A fault of the first token is told by the first `next`.
+    /// The tokens of the text of file number `file`. A fault of the first token, and that there was no memory for it,
+    /// are told by the first `next`.
     pub fn new(alloc: Global, file: usize, src: &'src str) -> Lexer<'src>
-        ensures { result.source ≡ record { file = file; size = length src.now } }
+        ensures source { result.source ≡ record { file = file; size = length src.now } }
+        ensures tokens { TokensOf result.source src.now result.left result.end result.clean }
+        ensures only { (left : List Placed) (end : ℕ) (clean : Bool) → TokensOf result.source src.now left end clean
+            → (result.left ≡ left) × (result.end ≡ end) × (result.clean ≡ clean) }
+        ensures not_failed { ¬ (result.state ≡ failed) }
+        ensures unread { IsUnread result }
     {
         let size = src.len();
         let (lookahead, start, rest) = look(alloc, file, size, src);
@@ -149,9 +164,10 @@ impl<'src> Lexer<'src> {
     /// The next token and its position, or `None` at the text's end. After a refusal, also for memory, the lexer has
     /// failed for good: `next` answers a parse error with an empty message at `pos()`.
     pub fn next(&mut self) -> Result<Option<(Pos, Token)>, Refusal<Error>>
-        ensures token { IfOk result (λ t. IsSome t → self.new.left < self.old.left) }
-        ensures no_more { self.new.left ≤ self.old.left }
-        ensures same_source { self.new.source ≡ self.old.source }
+        ensures gives { IfOk result (λ t. MatchOption t (TellsEnd self.old self.new) (GivesToken self.old self.new)) }
+        ensures fault { IfErr result (λ refusal. IfFault refusal (TellsFault self.old self.new)) }
+        ensures memory { IfErr result (λ refusal. IfMemory refusal (FailsForMemory self.old self.new)) }
+        ensures unread { IsUnread self.new }
         ensures placed { IfOk result (λ t. IfSome t (λ token. IsIn self.old.source token.0)) }
         ensures refused { IfErr result (RefusalAt (IsIn self.old.source)) }
     {
@@ -171,20 +187,23 @@ impl<'src> Lexer<'src> {
                 let msg = Text::from_str(self.alloc, reason)?;
                 Err(Refusal::Fault(Error::ParseError {
                     msg,
-                    span: Span::at(self.pos()),
+                    span: Span::at(Pos::new(self.file, self.start)),
                 }))
             }
             Lookahead::Memory(e) => Err(Refusal::Memory(e)),
             Lookahead::Failed => Err(Refusal::Fault(Error::ParseError {
                 msg: Text::empty(self.alloc),
-                span: Span::at(self.pos()),
+                span: Span::at(Pos::new(self.file, self.start)),
             })),
         }
     }
 
-    /// The next token and its position; `None` at the end, and from a fault on.
+    /// The next token and its position; `None` at the end, from a fault on, and where there was no memory for it.
     pub fn peek(&self) -> Option<&(Pos, Token)>
-        ensures { IfSome result (λ token. IsIn self.now.source token.now.0) }
+        ensures next { option_map (λ token. placed token.now) result ≡ ahead self.now }
+        ensures token { IfSome result (λ token. self.now.left ≡ placed token.now ∷ drop 1 self.now.left) }
+        ensures placed { IfSome result (λ token. IsIn self.now.source token.now.0) }
+        ensures unread { IsUnread self.now }
     {
         match &self.lookahead {
             Lookahead::Token(token) => Some(token),
@@ -194,13 +213,18 @@ impl<'src> Lexer<'src> {
 
     /// Where the next token begins, or the end; from a fault on, where what wasn't read begins.
     pub fn pos(&self) -> Pos
-        ensures { IsIn self.now.source result }
+        ensures place { result ≡ place_at self.now }
+        ensures within { IsIn self.now.source result }
+        ensures unread { IsUnread self.now }
     {
         Pos::new(self.file, self.start)
     }
 
     /// Whether all tokens were given.
-    pub fn eof(&self) -> bool {
+    pub fn eof(&self) -> bool
+        ensures ended { IsTrue result ↔ HasEnded self.now }
+        ensures unread { IsUnread self.now }
+    {
         match &self.lookahead {
             Lookahead::End => true,
             _ => false,
@@ -208,66 +232,55 @@ impl<'src> Lexer<'src> {
     }
 
     /// The allocator that the tokens are made on.
-    pub(crate) fn allocator(&self) -> Global {
+    pub(crate) fn allocator(&self) -> Global
+        ensures { IsUnread self.now }
+    {
         self.alloc
     }
 }
 
 /// What stands next in `rest`, the offset where it begins, and what follows it.
 fn look(alloc: Global, file: usize, size: usize, rest: &str) -> (Lookahead, usize, &str)
-    ensures no_more { left_of result.0 result.2.now ≤ length rest.now }
-    ensures within { result.1 ≤ size }
-    ensures placed { IsAhead (record { file = file; size = size }) result.0 }
+    ensures same { reading_of (record { file = file; size = size }) result.0 result.1 result.2.now
+        ≡ reading (record { file = file; size = size }) rest.now }
+    ensures ahead { IsAhead (record { file = file; size = size }) result.0 result.1 result.2.now }
+    ensures not_failed { ¬ (state_of result.0 ≡ failed) }
 {
-    match after_gap(rest) {
-        Ok(text) => {
-            let start = size.saturating_sub(text.len());
-            if text.is_empty() {
-                return (Lookahead::End, start, text);
-            }
-            match read_token(alloc, text) {
-                Ok((token, more)) => (
-                    Lookahead::Token((Pos::new(file, start), token)),
-                    start,
-                    more,
-                ),
-                Err(Refusal::Fault(reason)) => (Lookahead::Fault(reason), start, text),
-                Err(Refusal::Memory(e)) => (Lookahead::Memory(e), start, text),
-            }
-        }
-        Err(comment) => {
-            let start = size.saturating_sub(comment.len());
-            (
-                Lookahead::Fault("this comment isn't closed"),
-                start,
-                comment,
-            )
-        }
+    let text = after_gap(rest);
+    let start = size.saturating_sub(text.len());
+    match read_token(alloc, text) {
+        Ok(Some((token, more))) => (
+            Lookahead::Token((Pos::new(file, start), token)),
+            start,
+            more,
+        ),
+        Ok(None) => (Lookahead::End, start, text),
+        Err(Refusal::Fault(reason)) => (Lookahead::Fault(reason), start, text),
+        Err(Refusal::Memory(e)) => (Lookahead::Memory(e), start, text),
     }
 }
 
-/// Whether an integer begins here.
-fn begins_number(text: &str) -> bool {
-    text.starts_with(|c: char| c == '-' || c.is_ascii_digit())
-}
-
-/// The token at the front of a text that begins with none of white space and comments, and what follows it.
-fn read_token(alloc: Global, text: &str) -> Result<(Token, &str), Refusal<&'static str>>
-    requires { 0 < length text.now }
-    ensures { IfOk result (λ r. length r.1.now < length text.now) }
+/// The token at the front of a text that begins with no gap, and what follows it; `None` at the end.
+fn read_token(alloc: Global, text: &str) -> Result<Option<(Token, &str)>, Refusal<&'static str>>
+    ensures read { IfOk result (λ o. MatchOption o (next_of text.now ≡ nothing) (λ r. next_of text.now ≡ found r.0 r.1.now)) }
+    ensures no_token { IfErr result (λ refusal. IfFault refusal (λ _. next_of text.now ≡ fault)) }
+    ensures no_memory { IfErr result (λ refusal. IfMemory refusal (lead_of text.now ≡ Lead.Word)) }
 {
-    if let Some(rest) = text.strip_prefix('(') {
-        return Ok((Token::LParen, rest));
+    match lead_of(text.as_bytes()) {
+        Lead::Opening => Ok(Some((Token::LParen, after_char(text)))),
+        Lead::Closing => Ok(Some((Token::RParen, after_char(text)))),
+        Lead::AtSign => Ok(Some((Token::At, after_char(text)))),
+        Lead::Number => match number(text) {
+            Some(read) => Ok(Some(read)),
+            None => Err(Refusal::Fault("this isn't an integer")),
+        },
+        Lead::Word => {
+            let (word, rest) = symbol(text);
+            Ok(Some((Token::Symbol(Text::from_str(alloc, word)?), rest)))
+        }
+        Lead::Comment => Err(Refusal::Fault("this comment isn't closed")),
+        Lead::Space => Err(Refusal::Fault("no token begins here")),
+        Lead::Line => Err(Refusal::Fault("no token begins here")),
+        Lead::End => Ok(None),
     }
-    if let Some(rest) = text.strip_prefix(')') {
-        return Ok((Token::RParen, rest));
-    }
-    if let Some(rest) = text.strip_prefix('@') {
-        return Ok((Token::At, rest));
-    }
-    if begins_number(text) {
-        return number(text).ok_or(Refusal::Fault("this isn't an integer"));
-    }
-    let (word, rest) = symbol(text);
-    Ok((Token::Symbol(Text::from_str(alloc, word)?), rest))
 }

@@ -5,6 +5,7 @@ pub mod ast;
 pub mod error;
 pub mod files;
 mod gap;
+mod kind;
 pub mod lexer;
 mod number;
 pub mod parser;

@@ -10,6 +10,7 @@ ghost use Rattle.isle_terms.specs.Environment.{terms_of, rules_of, term_with, Te
 use crate::rules::{Expr, Pattern, Rule};
 use crate::terms::{ConstructorKind, Term, TermFlags, TermKind};
 use crate::translate::{Bindings, translate_args, translate_expr};
+use crate::unsupported::{check_flags, check_parts, report_unsupported};
 use isle_syntax::ast::{Decl, Def, Ident};
 use isle_syntax::error::Error;
 use isle_syntax::{Refusal, Seq, ast};
@@ -54,6 +55,7 @@ impl TermEnv {
         env.collect_enum_variant_terms(tyenv)?;
         env.collect_constructors(tyenv, defs)?;
         env.collect_rules(tyenv, defs)?;
+        report_unsupported(tyenv, defs)?;
         env.check_for_undefined_decls(tyenv)?;
         let errors = tyenv.take_errors();
         if !errors.is_empty() {
@@ -93,6 +95,7 @@ impl TermEnv {
         ensures printable { (files : List SourceFile) → DeclAt (HasPlaceAt files) decl.now
             → IfErr result (RefusalAt (HasPlaceAt files)) }
     {
+        check_flags(tyenv, decl)?;
         let name = tyenv.intern_mut(&decl.term)?;
         if decl.arg_tys.as_slice().len() > MAX_ARGUMENTS {
             return Err(tyenv.size_error(decl.pos, "a term has more than 255 arguments"));
@@ -295,6 +298,7 @@ impl TermEnv {
         ensures printable { (files : List SourceFile) → RuleAt (HasPlaceAt files) rule.now
             → IfErr result (RefusalAt (HasPlaceAt files)) }
     {
+        check_parts(tyenv, rule)?;
         let mut bindings = Bindings::new(self.alloc);
         let args = self.typed_args(tyenv, root, rule, &mut bindings)?;
         let rhs = self.typed_right_side(tyenv, root, rule, &bindings)?;
@@ -329,6 +333,7 @@ impl TermEnv {
                 args.as_slice(),
                 term,
                 *pos,
+                rule.pos,
                 bindings,
             ),
             _ => Err(tyenv.type_error(rule.pos, "the root of a rule must be a declared term")),
@@ -348,7 +353,7 @@ impl TermEnv {
             → IfErr result (RefusalAt (HasPlaceAt files)) }
     {
         match self.get_term(root) {
-            Some(term) => translate_expr(self, tyenv, &rule.expr, term.ret_ty, bindings),
+            Some(term) => translate_expr(self, tyenv, &rule.expr, term.ret_ty, rule.pos, bindings),
             None => Err(tyenv.type_error(rule.pos, "the root of a rule must be a declared term")),
         }
     }

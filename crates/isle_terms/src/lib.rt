@@ -5,6 +5,7 @@ mod env;
 mod rules;
 mod terms;
 mod translate;
+mod unsupported;
 
 pub use env::TermEnv;
 pub use rules::{BoundVar, Expr, Pattern, Rule};

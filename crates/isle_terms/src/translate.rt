@@ -106,18 +106,20 @@ fn known_term<'a>(
     }
 }
 
-/// The pattern that a tree stands for at a type.
+/// The pattern that a tree in the rule at `rule` stands for at a type.
 #[cycle(pattern)]
 fn translate_pattern(
     termenv: &TermEnv,
     tyenv: &mut TypeEnv,
     pattern: &ast::Pattern,
     ty: TypeId,
+    rule: Pos,
     bindings: &mut Bindings,
 ) -> Result<Pattern, Refusal<Error>>
     ensures same_errors { errors_of tyenv.new ≡ errors_of tyenv.old }
     ensures same_types { types_of tyenv.new ≡ types_of tyenv.old }
-    ensures printable { (files : List SourceFile) → PatternAt (HasPlaceAt files) pattern.now
+    ensures printable { (files : List SourceFile) → HasPlaceAt files rule
+        → PatternAt (HasPlaceAt files) pattern.now
         → IfErr result (RefusalAt (HasPlaceAt files)) }
 {
     match pattern {
@@ -140,9 +142,17 @@ fn translate_pattern(
         ast::Pattern::Term { sym, args, pos } => {
             let term = known_term(termenv, tyenv, sym, ty)?;
             let id = term.id;
-            let args = translate_args(termenv, tyenv, args.as_slice(), term, *pos, bindings)?;
+            let args = translate_args(termenv, tyenv, args.as_slice(), term, *pos, rule, bindings)?;
             Ok(Pattern::Term(ty, id, args))
         }
+        ast::Pattern::BindPattern { .. }
+        | ast::Pattern::ConstBool { .. }
+        | ast::Pattern::ConstPrim { .. }
+        | ast::Pattern::And { .. }
+        | ast::Pattern::MacroArg { .. } => Err(tyenv.type_error(
+            rule,
+            "a pattern of this kind is not supported",
+        )),
     }
 }
 
@@ -154,11 +164,12 @@ pub fn translate_args(
     args: &[ast::Pattern],
     term: &Term,
     pos: Pos,
+    rule: Pos,
     bindings: &mut Bindings,
 ) -> Result<Vec<Pattern>, Refusal<Error>>
     ensures same_errors { errors_of tyenv.new ≡ errors_of tyenv.old }
     ensures same_types { types_of tyenv.new ≡ types_of tyenv.old }
-    ensures printable { (files : List SourceFile) → HasPlaceAt files pos
+    ensures printable { (files : List SourceFile) → HasPlaceAt files rule → HasPlaceAt files pos
         → All (PatternAt (HasPlaceAt files)) args.now
         → IfErr result (RefusalAt (HasPlaceAt files)) }
 {
@@ -168,23 +179,25 @@ pub fn translate_args(
     }
     let mut all = Vec::new(bindings.alloc);
     for i in 0..args.len() {
-        all.push(translate_pattern(termenv, tyenv, &args[i], tys[i], bindings)?)?;
+        all.push(translate_pattern(termenv, tyenv, &args[i], tys[i], rule, bindings)?)?;
     }
     Ok(all)
 }
 
-/// The expression that a tree stands for at a type.
+/// The expression that a tree in the rule at `rule` stands for at a type.
 #[cycle(expr)]
 pub fn translate_expr(
     termenv: &TermEnv,
     tyenv: &mut TypeEnv,
     expr: &ast::Expr,
     ty: TypeId,
+    rule: Pos,
     bindings: &Bindings,
 ) -> Result<Expr, Refusal<Error>>
     ensures same_errors { errors_of tyenv.new ≡ errors_of tyenv.old }
     ensures same_types { types_of tyenv.new ≡ types_of tyenv.old }
-    ensures printable { (files : List SourceFile) → ExprAt (HasPlaceAt files) expr.now
+    ensures printable { (files : List SourceFile) → HasPlaceAt files rule
+        → ExprAt (HasPlaceAt files) expr.now
         → IfErr result (RefusalAt (HasPlaceAt files)) }
 {
     match expr {
@@ -203,9 +216,13 @@ pub fn translate_expr(
         ast::Expr::Term { sym, args, pos } => {
             let term = known_term(termenv, tyenv, sym, ty)?;
             let id = term.id;
-            let args = translate_expr_args(termenv, tyenv, args.as_slice(), term, *pos, bindings)?;
+            let args = args.as_slice();
+            let args = translate_expr_args(termenv, tyenv, args, term, *pos, rule, bindings)?;
             Ok(Expr::Term(ty, id, args))
         }
+        ast::Expr::ConstBool { .. } | ast::Expr::ConstPrim { .. } | ast::Expr::Let { .. } => Err(
+            tyenv.type_error(rule, "an expression of this kind is not supported"),
+        ),
     }
 }
 
@@ -217,11 +234,12 @@ fn translate_expr_args(
     args: &[ast::Expr],
     term: &Term,
     pos: Pos,
+    rule: Pos,
     bindings: &Bindings,
 ) -> Result<Vec<Expr>, Refusal<Error>>
     ensures same_errors { errors_of tyenv.new ≡ errors_of tyenv.old }
     ensures same_types { types_of tyenv.new ≡ types_of tyenv.old }
-    ensures printable { (files : List SourceFile) → HasPlaceAt files pos
+    ensures printable { (files : List SourceFile) → HasPlaceAt files rule → HasPlaceAt files pos
         → All (ExprAt (HasPlaceAt files)) args.now
         → IfErr result (RefusalAt (HasPlaceAt files)) }
 {
@@ -231,7 +249,7 @@ fn translate_expr_args(
     }
     let mut all = Vec::new(bindings.alloc);
     for i in 0..args.len() {
-        all.push(translate_expr(termenv, tyenv, &args[i], tys[i], bindings)?)?;
+        all.push(translate_expr(termenv, tyenv, &args[i], tys[i], rule, bindings)?)?;
     }
     Ok(all)
 }

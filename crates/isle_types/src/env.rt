@@ -142,8 +142,22 @@ impl TypeEnv {
         ensures printable { (files : List SourceFile) → TypeTreeAt (HasPlaceAt files) ty.now
             → IfErr result (RefusalAt (HasPlaceAt files)) }
     {
+        if ty.is_extern {
+            return Err(self.type_error(ty.pos, "a type marked `extern` is not supported"));
+        }
+        if ty.is_nodebug {
+            return Err(self.type_error(ty.pos, "a type marked `nodebug` is not supported"));
+        }
         let name = self.intern_mut(&ty.name)?;
         match &ty.ty {
+            ast::TypeValue::Primitive(..) => Err(self.type_error(
+                ty.pos,
+                "a primitive type is not supported",
+            )),
+            ast::TypeValue::Struct(..) => Err(self.type_error(
+                ty.pos,
+                "a struct type is not supported",
+            )),
             ast::TypeValue::Enum(variants, _) => {
                 let variants = self.variants_from_ast(ty, variants.as_slice())?;
                 Ok(Type::Enum {
@@ -229,6 +243,10 @@ impl TypeEnv {
                     fields: Seq::new(fields),
                 }))
             }
+            ast::Fields::Tuple(_) => Err(self.type_error(
+                ty.pos,
+                "fields without names are not supported",
+            )),
         }
     }
 

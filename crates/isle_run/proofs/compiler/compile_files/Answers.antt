@@ -1,7 +1,4 @@
-use Rattle.std.specs.List.{All}
 use Rattle.std.proofs.lemmas.Result.{err_from_is_err_and}
-use Rattle.isle_syntax.specs.Places.{DefAt}
-use Rattle.isle_syntax.specs.Positions.{HasPlaceAt}
 use Rattle.isle_types.specs.Environment.{HasPlaces}
 use Rattle.isle_run.proofs.compiler.compile_files.Goals as goal
 

@@ -1,4 +1,4 @@
-use Rattle.std.proofs.Common.{◌<◌, List, length}
+use Rattle.std.proofs.Common.{List}
 use Rattle.std.specs.List.{All}
 use Rattle.isle_syntax.specs.Files.{SourceFile}
 use Rattle.isle_run.specs.Overlaps.{RuleHasPlace}

@@ -1,4 +1,3 @@
-use Rattle.std.proofs.Common.{subst, sym}
 use Rattle.std.proofs.lemmas.List.Elements.{All-push}
 use Rattle.isle_run.specs.Overlaps.{RuleHasPlace, OverlapHasPlaces}
 use Rattle.isle_run.proofs.overlap.overlaps_of_term.Goals as goal

@@ -1,10 +1,9 @@
-use Rattle.std.proofs.Common.{◌≤◌, length}
-use denote.Text.{Utf8}
-use denote.Shadow.{shadow}
+use Rattle.std.proofs.Common.{◌≡◌, ◌+◌, ◌≤◌, length}
+use Rattle.isle_syntax.specs.Reading.{after_comment}
 use Rattle.isle_syntax.proofs.gap.after_comment.Given as goal
 
-abbrev pub invariant-chars : goal.invariant-chars
-invariant-chars l = shadow (Utf8 l.rest) × (length l.rest ≤ length l.text)
+abbrev pub invariant-bytes : goal.invariant-bytes
+invariant-bytes l = record { few : l.open + length l.rest ≤ length l.bytes; same : after_comment l.open l.rest ≡ after_comment 0 l.bytes }
 
-abbrev pub decreases-chars : goal.decreases-chars
-decreases-chars l = length l.rest
+abbrev pub decreases-bytes : goal.decreases-bytes
+decreases-bytes l = length l.rest

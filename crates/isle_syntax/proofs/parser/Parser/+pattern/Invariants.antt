@@ -1,24 +1,29 @@
-use Rattle.std.proofs.Common.{◌≡◌, ◌≤◌, ◌+◌, ◌*◌}
-use Rattle.std.specs.List.{All}
-use Rattle.isle_syntax.specs.Positions.{IsIn}
-use Rattle.isle_syntax.specs.Places.{PatternAt}
+use Rattle.std.proofs.Common.{◌≡◌, ◌≤◌, map, ◌+◌, ◌*◌, length}
+use Rattle.isle_syntax.specs.PatternShape.{pattern_of}
+use Rattle.isle_syntax.specs.Parsing.{bounds}
+use Rattle.isle_syntax.specs.Readers.{after_close, rest_of}
+use Rattle.isle_syntax.specs.TreeReading.{pattern}
+use Rattle.isle_syntax.proofs.Loops.{Turns}
 use Rattle.isle_syntax.proofs.parser.Parser.+pattern.Given as goal
 
 abbrev pub decreases-parse_pattern : goal.decreases-parse_pattern
-decreases-parse_pattern l = 3 * l.room + 1
+decreases-parse_pattern l = 4 * length l.self.now.left + 2
 
-abbrev pub decreases-parse_pattern_term : goal.decreases-parse_pattern_term
-decreases-parse_pattern_term l = 3 * l.room
+abbrev pub decreases-parse_pattern_list : goal.decreases-parse_pattern_list
+decreases-parse_pattern_list l = 4 * length l.self.now.left + 1
+
+abbrev pub decreases-parse_pattern_name : goal.decreases-parse_pattern_name
+decreases-parse_pattern_name l = 4 * length l.self.now.left + 1
 
 abbrev pub decreases-parse_patterns : goal.decreases-parse_patterns
-decreases-parse_patterns l = 3 * l.room + 2
+decreases-parse_patterns l = 4 * length l.self.now.left + 3
 
-abbrev pub invariant-parse_patterns-patterns : goal.invariant-parse_patterns-patterns
-invariant-parse_patterns-patterns l = record {
-  no_more : l.self.left ≤ l.initial.self.left;
-  same_source : l.self.source ≡ l.initial.self.source;
-  placed : All (PatternAt (IsIn l.initial.self.source)) l.patterns.items;
+abbrev pub invariant-parse_patterns-all : goal.invariant-parse_patterns-all
+invariant-parse_patterns-all l = record {
+  turns : Turns after_close (pattern l.room) (rest_of (pattern l.room) l.initial.self.left) (map pattern_of l.patterns.items) l.self.left;
+  same : bounds l.self ≡ bounds l.initial.self;
+  less : length l.self.left ≤ length l.initial.self.left;
 }
 
-abbrev pub decreases-parse_patterns-patterns : goal.decreases-parse_patterns-patterns
-decreases-parse_patterns-patterns l = l.self.left
+abbrev pub decreases-parse_patterns-all : goal.decreases-parse_patterns-all
+decreases-parse_patterns-all l = length l.self.left

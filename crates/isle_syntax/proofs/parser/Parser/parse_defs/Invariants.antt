@@ -1,15 +1,16 @@
-use Rattle.std.proofs.Common.{◌≡◌, ◌≤◌}
-use Rattle.std.specs.List.{All}
-use Rattle.isle_syntax.specs.Positions.{IsIn}
-use Rattle.isle_syntax.specs.Places.{DefAt}
+use Rattle.std.proofs.Common.{◌≡◌, length}
+use Rattle.isle_syntax.specs.Parsing.{bounds}
+use Rattle.isle_syntax.specs.Readers.{at_end, all_of}
+use Rattle.isle_syntax.specs.DefReading.{def}
+use Rattle.isle_syntax.specs.Verdict.{max_nesting}
+use Rattle.isle_syntax.proofs.Loops.{Turns}
 use Rattle.isle_syntax.proofs.parser.Parser.parse_defs.Given as goal
 
 abbrev pub invariant-defs : goal.invariant-defs
 invariant-defs l = record {
-  no_more : l.self.left ≤ l.initial.self.left;
-  same_source : l.self.source ≡ l.initial.self.source;
-  placed : All (DefAt (IsIn l.initial.self.source)) l.defs.items;
+  turns : Turns at_end (def max_nesting) (all_of (def max_nesting) l.initial.self.left) l.defs.items l.self.left;
+  same : bounds l.self ≡ bounds l.initial.self;
 }
 
 abbrev pub decreases-defs : goal.decreases-defs
-decreases-defs l = l.self.left
+decreases-defs l = length l.self.left

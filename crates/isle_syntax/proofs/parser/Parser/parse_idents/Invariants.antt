@@ -1,15 +1,15 @@
-use Rattle.std.proofs.Common.{◌≡◌, ◌≤◌}
-use Rattle.std.specs.List.{All}
-use Rattle.isle_syntax.specs.Positions.{IsIn}
-use Rattle.isle_syntax.specs.Places.{IdentAt}
+use Rattle.std.proofs.Common.{◌≡◌, length}
+use Rattle.isle_syntax.specs.Parsing.{bounds}
+use Rattle.isle_syntax.specs.Readers.{after_close, rest_of}
+use Rattle.isle_syntax.specs.DefReading.{identifier}
+use Rattle.isle_syntax.proofs.Loops.{Turns}
 use Rattle.isle_syntax.proofs.parser.Parser.parse_idents.Given as goal
 
 abbrev pub invariant-idents : goal.invariant-idents
 invariant-idents l = record {
-  no_more : l.self.left ≤ l.initial.self.left;
-  same_source : l.self.source ≡ l.initial.self.source;
-  placed : All (IdentAt (IsIn l.initial.self.source)) l.idents.items;
+  turns : Turns after_close identifier (rest_of identifier l.initial.self.left) l.idents.items l.self.left;
+  same : bounds l.self ≡ bounds l.initial.self;
 }
 
 abbrev pub decreases-idents : goal.decreases-idents
-decreases-idents l = l.self.left
+decreases-idents l = length l.self.left

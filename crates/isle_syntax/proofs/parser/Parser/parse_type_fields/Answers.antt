@@ -1,19 +1,14 @@
-use Rattle.std.proofs.Common.{◌≡◌, subst, arith}
-use Rattle.std.proofs.lemmas.List.Elements.{All-push}
-use Rattle.isle_syntax.specs.Unread.{Source}
-use Rattle.isle_syntax.specs.Positions.{IsIn}
-use Rattle.isle_syntax.specs.Places.{StructFieldAt}
+use Rattle.std.proofs.Common.{[], refl, sym, ap, ◌∙◌}
+use Rattle.std.proofs.lemmas.Result.{err_from_is_err_and}
+use Rattle.isle_syntax.specs.Parsing.{stop_of}
+use Rattle.isle_syntax.specs.DefReading.{fields}
+use Rattle.isle_syntax.proofs.Loops.{refuses_no_token}
+use Rattle.isle_syntax.proofs.Shorter.{fields_at_end}
 use Rattle.isle_syntax.proofs.parser.Parser.parse_type_fields.Goals as goal
 
-pub fields-preserved : goal.fields-preserved
-fields-preserved c =
-    let source = c.args.self.now.source in
-    let same : c.take_close.new.self.source ≡ source = cc in
-    let field = c.in_ok-parse_type_field.field-0 in
-    let last = subst (λ (s : Source). StructFieldAt (IsIn s) field) same c.in_ok-parse_type_field.ensures.placed in
-    let each = All-push (StructFieldAt (IsIn source)) c.fields.fields.items field c.fields.invariant.placed last in
-    record {
-      no_more = omega arith;
-      same_source = cc;
-      placed = rw c.in_ok-push.ensures.items each;
-    }
+pub returns-in_err-is_symbol : goal.returns-in_err-is_symbol
+returns-in_err-is_symbol c =
+    let e = err_from_is_err_and c.from_residual.result c.from_residual.ensures.1 in
+    let old = c.args.self.now in
+    rw (e.1, e.2) (refuses_no_token old old c.is_symbol.new.self _ (stop_of (fields c.args.room old.left)) refl c.in_err-is_symbol.ensures.no_token
+    (λ none. sym (ap (λ l. stop_of (fields c.args.room l)) none ∙ ap stop_of (fields_at_end c.args.room))))

@@ -3,7 +3,7 @@ use Rattle.isle_syntax.specs.Positions.{HasPlaceAt}
 use Rattle.isle_syntax.specs.Errors.{IsPrintable}
 use Rattle.isle_types.proofs.EnvironmentPlaces.{emptied_places}
 use Rattle.isle_terms.specs.Environment.{TermAt}
-use Rattle.isle_terms.proofs.TermPlaces.{empty_places}
+use Rattle.isle_terms.proofs.TermPlaces.{empty_places, with_types}
 use Rattle.isle_terms.proofs.env.TermEnv.from_ast.Goals as goal
 
 pub returns-then-not-is_empty-clause-printable : goal.returns-then-not-is_empty-clause-printable
@@ -12,7 +12,8 @@ returns-then-not-is_empty-clause-printable c = λ files placed before.
     let variants = c.collect_enum_variant_terms.ensures.placed files sigs in
     let constructors = c.collect_constructors.ensures.placed files placed variants in
     let rules = c.collect_rules.ensures.placed files placed constructors in
-    let all = c.check_for_undefined_decls.ensures.placed files rules in
+    let others = with_types files _ _ _ (c.report_unsupported.ensures.placed files placed rules.types) rules in
+    let all = c.check_for_undefined_decls.ensures.placed files others in
     All-same (IsPrintable files) _ _ c.take_errors-errors.ensures.taken all.types.errors
 
 pub returns-clause-placed : goal.returns-clause-placed
@@ -21,7 +22,8 @@ returns-clause-placed c = λ files placed before.
     let variants = c.collect_enum_variant_terms.ensures.placed files sigs in
     let constructors = c.collect_constructors.ensures.placed files placed variants in
     let rules = c.collect_rules.ensures.placed files placed constructors in
-    let all = c.check_for_undefined_decls.ensures.placed files rules in
+    let others = with_types files _ _ _ (c.report_unsupported.ensures.placed files placed rules.types) rules in
+    let all = c.check_for_undefined_decls.ensures.placed files others in
     record {
       types = emptied_places files _ _ c.take_errors-errors.ensures.same_types c.take_errors-errors.ensures.none_left all.types;
       terms = All-same (TermAt (HasPlaceAt files)) _ _ c.name_lone_rules.ensures.same_terms all.terms;

@@ -9,4 +9,4 @@ returns-in-Term-Some-clause-printable c = λ files placed.
     let At = HasPlaceAt files in
     let tree = subst (PatternAt At) c.in-Term-Some.is-0 placed.pattern in
     let args = patterns_at_each At c.as_slice.result.now (subst (PatternTreesAt At) (sym c.as_slice.ensures) tree.1) in
-    c.translate_args.ensures.printable files tree.2 args
+    c.translate_args.ensures.printable files placed.pos tree.2 args

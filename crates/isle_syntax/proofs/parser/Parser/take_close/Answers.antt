@@ -1,0 +1,7 @@
+use Rattle.std.proofs.Common.{sym, ◌∙◌}
+use Rattle.isle_syntax.proofs.Taking.{take_close_gives}
+use Rattle.isle_syntax.proofs.parser.Parser.take_close.Goals as goal
+
+pub returns-in_ok-_close-in-Close-clause-taken : goal.returns-in_ok-_close-in-Close-clause-taken
+returns-in_ok-_close-in-Close-clause-taken c =
+    take_close_gives c.args.self.now c.kind.new.self c.take.new.self _ c.in_ok-kind.ensures.known c.in_ok-_close-in-Close.ensures.taken (sym c.in-Close.is ∙ c.in_ok-kind.ensures.kind)

@@ -1,0 +1,121 @@
+ghost use Rattle.std.specs.List.{FoldsTo};
+ghost use Rattle.isle_syntax.specs.PatternShape.{pattern_of, patterns_of};
+ghost use Rattle.isle_syntax.specs.ExprShape.{expr_of, exprs_of, lets_of};
+ghost use Rattle.isle_syntax.specs.Terms.{pattern_terms, patterns_terms, expr_terms, exprs_terms, lets_terms, CalledAtTerm};
+
+use crate::ast::{Expr, Ident, LetDef, Pattern};
+use crate::lexer::Pos;
+
+impl Pattern {
+    /// Hands each term's symbol and position to `f`, each before those below it.
+    pub fn terms<F: FnMut(Pos, &Ident)>(&self, mut f: F)
+        requires { F.IsAlwaysCallable f }
+        ensures { (last : F) × FoldsTo (CalledAtTerm F.FnMut) f (pattern_terms (pattern_of self.now)) last }
+    {
+        hand_pattern(self, &mut f);
+    }
+}
+
+/// Hands one term's symbol and position to `f`.
+fn hand_term<F: FnMut(Pos, &Ident)>(pos: Pos, sym: &Ident, f: &mut F)
+    requires { F.IsAlwaysCallable f.old }
+    ensures callable { F.IsAlwaysCallable f.new }
+    ensures called { CalledAtTerm F.FnMut f.old (pos, sym.now) f.new }
+{
+    f(pos, sym);
+}
+
+/// Hands each term of a pattern to `f`.
+#[cycle(pattern_terms)]
+#[tactic(auto, using(crate::proofs::PatternSizes::most_pattern_size))]
+fn hand_pattern<F: FnMut(Pos, &Ident)>(pattern: &Pattern, f: &mut F)
+    requires { F.IsAlwaysCallable f.old }
+    ensures callable { F.IsAlwaysCallable f.new }
+    ensures called { FoldsTo (CalledAtTerm F.FnMut) f.old (pattern_terms (pattern_of pattern.now)) f.new }
+{
+    match pattern {
+        Pattern::BindPattern { subpat, .. } => hand_pattern(subpat.get(), f),
+        Pattern::Term { sym, args, pos } => {
+            hand_term(*pos, sym, f);
+            hand_patterns(args.as_slice(), f);
+        }
+        Pattern::And { subpats, .. } => hand_patterns(subpats.as_slice(), f),
+        Pattern::Var { .. }
+        | Pattern::ConstBool { .. }
+        | Pattern::ConstInt { .. }
+        | Pattern::ConstPrim { .. }
+        | Pattern::Wildcard { .. }
+        | Pattern::MacroArg { .. } => {}
+    }
+}
+
+#[cycle(pattern_terms)]
+#[tactic(auto, using(crate::proofs::PatternSizes::most_pattern_size))]
+fn hand_patterns<F: FnMut(Pos, &Ident)>(patterns: &[Pattern], f: &mut F)
+    requires { F.IsAlwaysCallable f.old }
+    ensures callable { F.IsAlwaysCallable f.new }
+    ensures called { FoldsTo (CalledAtTerm F.FnMut) f.old (patterns_terms (patterns_of patterns.now)) f.new }
+{
+    for pattern in patterns {
+        hand_pattern(pattern, f);
+    }
+}
+
+impl Expr {
+    /// Hands each term's symbol and position to `f`, each before those below it, and the values of a `let` before its
+    /// body.
+    pub fn terms<F: FnMut(Pos, &Ident)>(&self, mut f: F)
+        requires { F.IsAlwaysCallable f }
+        ensures { (last : F) × FoldsTo (CalledAtTerm F.FnMut) f (expr_terms (expr_of self.now)) last }
+    {
+        hand_expr(self, &mut f);
+    }
+}
+
+/// Hands each term of an expression to `f`.
+#[cycle(expr_terms)]
+#[tactic(auto, using(crate::proofs::ExprSizes::most_expr_size, crate::proofs::ExprSizes::most_let_size))]
+fn hand_expr<F: FnMut(Pos, &Ident)>(expr: &Expr, f: &mut F)
+    requires { F.IsAlwaysCallable f.old }
+    ensures callable { F.IsAlwaysCallable f.new }
+    ensures called { FoldsTo (CalledAtTerm F.FnMut) f.old (expr_terms (expr_of expr.now)) f.new }
+{
+    match expr {
+        Expr::Term { sym, args, pos } => {
+            hand_term(*pos, sym, f);
+            hand_exprs(args.as_slice(), f);
+        }
+        Expr::Let { defs, body, .. } => {
+            hand_lets(defs.as_slice(), f);
+            hand_expr(body.get(), f);
+        }
+        Expr::Var { .. }
+        | Expr::ConstBool { .. }
+        | Expr::ConstInt { .. }
+        | Expr::ConstPrim { .. } => {}
+    }
+}
+
+#[cycle(expr_terms)]
+#[tactic(auto, using(crate::proofs::ExprSizes::most_expr_size, crate::proofs::ExprSizes::most_let_size))]
+fn hand_exprs<F: FnMut(Pos, &Ident)>(exprs: &[Expr], f: &mut F)
+    requires { F.IsAlwaysCallable f.old }
+    ensures callable { F.IsAlwaysCallable f.new }
+    ensures called { FoldsTo (CalledAtTerm F.FnMut) f.old (exprs_terms (exprs_of exprs.now)) f.new }
+{
+    for expr in exprs {
+        hand_expr(expr, f);
+    }
+}
+
+#[cycle(expr_terms)]
+#[tactic(auto, using(crate::proofs::ExprSizes::most_expr_size, crate::proofs::ExprSizes::most_let_size))]
+fn hand_lets<F: FnMut(Pos, &Ident)>(defs: &[LetDef], f: &mut F)
+    requires { F.IsAlwaysCallable f.old }
+    ensures callable { F.IsAlwaysCallable f.new }
+    ensures called { FoldsTo (CalledAtTerm F.FnMut) f.old (lets_terms (lets_of defs.now)) f.new }
+{
+    for def in defs {
+        hand_expr(&def.val, f);
+    }
+}

@@ -1,0 +1,174 @@
+ghost use Rattle.std.specs.Prelude.{◌≡◌, map, codes};
+ghost use Rattle.isle_syntax.specs.Grammar.{bits_of, is_large};
+ghost use Rattle.isle_syntax.specs.Bindings.{binding_of};
+ghost use Rattle.isle_syntax.specs.ExprShape.{expr_of};
+ghost use Rattle.isle_syntax.specs.ExprTree.{expr_bool, expr_int, expr_let, expr_prim, expr_term, expr_var};
+ghost use Rattle.isle_syntax.specs.Parsing.{Gives};
+ghost use Rattle.isle_syntax.specs.Readers.{read_map, any_symbol, closed, integer, rest_of, says, seq};
+ghost use Rattle.isle_syntax.specs.TreeReading.{expr, expr_inner, expr_list, expr_trees, inner_expr, let_binding, let_list, let_trees};
+ghost use Rattle.isle_syntax.specs.DefReading.{constant, identifier};
+
+use crate::Refusal;
+use crate::ast::{BoxedExpr, Expr, Exprs, LetDef, LetDefs};
+use crate::error::Error;
+use crate::kind::Kind;
+use crate::lexer::Pos;
+use crate::parser::Parser;
+
+impl<'src> Parser<'src> {
+    /// An expression.
+    #[cycle(expr)]
+    pub(crate) fn parse_expr(&mut self, room: usize) -> Result<Expr, Refusal<Error>>
+        ensures { Gives expr_of self.old self.new result (expr room self.old.left) }
+    {
+        match self.kind()? {
+            Kind::Open => self.parse_expr_list(room),
+            Kind::Int => self.parse_expr_int(),
+            Kind::True => self.parse_expr_bool(true),
+            Kind::False => self.parse_expr_bool(false),
+            Kind::Const => self.parse_expr_const(),
+            Kind::Wildcard => self.parse_expr_var(),
+            Kind::Name => self.parse_expr_var(),
+            Kind::End => Err(self.unexpected("expected an expression")),
+            Kind::Close => Err(self.unexpected("expected an expression")),
+            Kind::At => Err(self.unexpected("expected an expression")),
+            Kind::Other => Err(self.unexpected("expected an expression")),
+        }
+    }
+
+    /// An integer.
+    fn parse_expr_int(&mut self) -> Result<Expr, Refusal<Error>>
+        ensures { Gives expr_of self.old self.new result (read_map (λ x. expr_int (bits_of x.1) (is_large x.1) x.0) (integer self.old.left)) }
+    {
+        let (pos, literal) = self.integer()?;
+        let val = literal.bits();
+        let big = literal.is_big();
+        Ok(Expr::ConstInt { val, big, pos })
+    }
+
+    /// The word `true` or `false`.
+    fn parse_expr_bool(&mut self, val: bool) -> Result<Expr, Refusal<Error>>
+        ensures { Gives expr_of self.old self.new result (read_map (λ x. expr_bool val x.1) (any_symbol self.old.left)) }
+    {
+        let name = self.symbol("expected an expression")?;
+        Ok(Expr::ConstBool { val, pos: name.1 })
+    }
+
+    /// A constant.
+    fn parse_expr_const(&mut self) -> Result<Expr, Refusal<Error>>
+        ensures { Gives expr_of self.old self.new result (read_map (λ x. expr_prim x x.1) (constant self.old.left)) }
+    {
+        let val = self.constant()?;
+        let pos = val.1;
+        Ok(Expr::ConstPrim { val, pos })
+    }
+
+    /// A variable.
+    fn parse_expr_var(&mut self) -> Result<Expr, Refusal<Error>>
+        ensures { Gives expr_of self.old self.new result (read_map (λ x. expr_var x x.1) (any_symbol self.old.left)) }
+    {
+        let name = self.symbol("expected an expression")?;
+        let pos = name.1;
+        Ok(Expr::Var { name, pos })
+    }
+
+    /// An expression in parentheses: a term and its arguments, or a `let`.
+    #[cycle(expr)]
+    pub(crate) fn parse_expr_list(&mut self, room: usize) -> Result<Expr, Refusal<Error>>
+        ensures { Gives expr_of self.old self.new result (expr_list room self.old.left) }
+    {
+        let pos = self.open(room)?;
+        self.parse_expr_inner(pos, room - 1)
+    }
+
+    /// What stands behind the opening parenthesis that stands at `pos`, and the closing one.
+    #[cycle(expr)]
+    pub(crate) fn parse_expr_inner(&mut self, pos: Pos, room: usize) -> Result<Expr, Refusal<Error>>
+        ensures { Gives expr_of self.old self.new result (read_map (inner_expr pos) (expr_inner room self.old.left)) }
+    {
+        if self.is_word("let")? {
+            self.parse_let(pos, room)
+        } else {
+            self.parse_call(pos, room)
+        }
+    }
+
+    /// A term and its arguments.
+    #[cycle(expr)]
+    fn parse_call(&mut self, pos: Pos, room: usize) -> Result<Expr, Refusal<Error>>
+        ensures { Gives expr_of self.old self.new result (read_map (λ x. expr_term x.0 (expr_trees x.1) pos) (seq identifier (rest_of (expr room)) self.old.left)) }
+    {
+        let sym = self.ident()?;
+        let args = self.parse_exprs(room)?;
+        let args = Exprs::new(args);
+        Ok(Expr::Term { sym, args, pos })
+    }
+
+    /// The bindings and the body of a `let`.
+    #[cycle(expr)]
+    fn parse_let(&mut self, pos: Pos, room: usize) -> Result<Expr, Refusal<Error>>
+        ensures { Gives expr_of self.old self.new result (read_map (λ x. expr_let (let_trees x.1.0.1) x.1.1.0 pos) (seq (says (codes "let")) (seq (let_list room) (seq (expr room) closed)) self.old.left)) }
+    {
+        let _word = self.word("let")?;
+        let defs = self.parse_let_defs(room)?;
+        let inner = self.parse_expr_closed(room)?;
+        let defs = LetDefs::new(defs);
+        let body = BoxedExpr::new(self.allocator(), inner)?;
+        Ok(Expr::Let { defs, body, pos })
+    }
+
+    /// An expression and the closing parenthesis behind it.
+    #[cycle(expr)]
+    fn parse_expr_closed(&mut self, room: usize) -> Result<Expr, Refusal<Error>>
+        ensures { Gives (λ e. (expr_of e, tt)) self.old self.new result (seq (expr room) closed self.old.left) }
+    {
+        let inner = self.parse_expr(room)?;
+        self.close()?;
+        Ok(inner)
+    }
+
+    /// The bindings of a `let`, in parentheses.
+    #[cycle(expr)]
+    fn parse_let_defs(&mut self, room: usize) -> Result<Vec<LetDef>, Refusal<Error>>
+        ensures { Gives (λ v. map binding_of v.items) self.old self.new result (read_map (λ x. x.1) (let_list room self.old.left)) }
+    {
+        let _pos = self.open(room)?;
+        self.parse_bindings(room - 1)
+    }
+
+    /// The bindings up to the closing parenthesis.
+    #[cycle(expr)]
+    fn parse_bindings(&mut self, room: usize) -> Result<Vec<LetDef>, Refusal<Error>>
+        ensures { Gives (λ v. map binding_of v.items) self.old self.new result (rest_of (let_binding room) self.old.left) }
+    {
+        let mut defs = Vec::new(self.allocator());
+        'all: while !self.take_close()? {
+            defs.push(self.parse_let_def(room)?)?;
+        }
+        Ok(defs)
+    }
+
+    /// A variable, its type and its value, in parentheses.
+    #[cycle(expr)]
+    fn parse_let_def(&mut self, room: usize) -> Result<LetDef, Refusal<Error>>
+        ensures { Gives binding_of self.old self.new result (let_binding room self.old.left) }
+    {
+        let pos = self.open(room)?;
+        let var = self.ident()?;
+        let ty = self.ident()?;
+        let val = self.parse_expr_closed(room - 1)?;
+        Ok(LetDef { var, ty, val, pos })
+    }
+
+    /// The expressions up to the closing parenthesis.
+    #[cycle(expr)]
+    fn parse_exprs(&mut self, room: usize) -> Result<Vec<Expr>, Refusal<Error>>
+        ensures { Gives (λ v. map expr_of v.items) self.old self.new result (rest_of (expr room) self.old.left) }
+    {
+        let mut exprs = Vec::new(self.allocator());
+        'all: while !self.take_close()? {
+            exprs.push(self.parse_expr(room)?)?;
+        }
+        Ok(exprs)
+    }
+}

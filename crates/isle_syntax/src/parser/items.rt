@@ -1,0 +1,57 @@
+ghost use Rattle.std.specs.Prelude.{◌≡◌, map};
+ghost use Rattle.isle_syntax.specs.ItemShape.{item_of};
+ghost use Rattle.isle_syntax.specs.Parsing.{Gives};
+ghost use Rattle.isle_syntax.specs.Readers.{rest_of};
+ghost use Rattle.isle_syntax.specs.TreeReading.{item, item_list_reader};
+
+use crate::Refusal;
+use crate::ast::{KeptItem, KeptItems};
+use crate::error::Error;
+use crate::kind::{Kind, Literal};
+use crate::parser::Parser;
+
+impl<'src> Parser<'src> {
+    /// An item of a kept definition.
+    #[cycle(item)]
+    fn parse_item(&mut self, room: usize) -> Result<KeptItem, Refusal<Error>>
+        ensures { Gives item_of self.old self.new result (item room self.old.left) }
+    {
+        match self.kind()? {
+            Kind::Open => self.parse_item_list(room),
+            Kind::Close => Err(self.unexpected("expected an item")),
+            Kind::End => Err(self.unexpected("expected an item")),
+            Kind::At => Ok(KeptItem::At {
+                pos: self.at_sign()?,
+            }),
+            Kind::Int => match self.integer()? {
+                (pos, Literal::Int(val)) => Ok(KeptItem::Int { val, pos }),
+                (pos, Literal::Big(val)) => Ok(KeptItem::Big { val, pos }),
+            },
+            _ => Ok(KeptItem::Symbol(self.symbol("expected an item")?)),
+        }
+    }
+
+    #[cycle(item)]
+    fn parse_item_list(&mut self, room: usize) -> Result<KeptItem, Refusal<Error>>
+        ensures { Gives item_of self.old self.new result (item_list_reader room self.old.left) }
+    {
+        let pos = self.open(room)?;
+        let items = self.parse_items(room - 1)?;
+        Ok(KeptItem::List {
+            items: KeptItems::new(items),
+            pos,
+        })
+    }
+
+    /// The items up to the closing parenthesis.
+    #[cycle(item)]
+    pub(crate) fn parse_items(&mut self, room: usize) -> Result<Vec<KeptItem>, Refusal<Error>>
+        ensures { Gives (λ v. map item_of v.items) self.old self.new result (rest_of (item room) self.old.left) }
+    {
+        let mut items = Vec::new(self.allocator());
+        'items: while !self.take_close()? {
+            items.push(self.parse_item(room)?)?;
+        }
+        Ok(items)
+    }
+}

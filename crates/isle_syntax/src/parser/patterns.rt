@@ -1,0 +1,143 @@
+ghost use Rattle.std.specs.Prelude.{◌≡◌, map, IfOk, IfErr};
+ghost use Rattle.isle_syntax.specs.Spelt.{names};
+ghost use Rattle.isle_syntax.specs.Grammar.{bits_of, is_large};
+ghost use Rattle.isle_syntax.specs.PatternTree.{pattern_bool, pattern_int, pattern_prim, pattern_wildcard};
+ghost use Rattle.isle_syntax.specs.KindReading.{named_by};
+ghost use Rattle.isle_syntax.specs.PatternShape.{pattern_of};
+ghost use Rattle.isle_syntax.specs.Parsing.{Gives, NoToken, IsKnown};
+ghost use Rattle.isle_syntax.specs.Readers.{after, read_map, any_symbol, integer, symbol_of, rest_of};
+ghost use Rattle.isle_syntax.specs.TreeReading.{is_head, pattern, pattern_list};
+ghost use Rattle.isle_syntax.specs.DefReading.{constant};
+
+use crate::Refusal;
+use crate::ast::{BoxedPattern, Ident, Pattern, Patterns};
+use crate::error::Error;
+use crate::kind::Kind;
+use crate::lexer::Token;
+use crate::parser::Parser;
+use crate::symbol::is_ident;
+
+impl<'src> Parser<'src> {
+    /// A pattern.
+    #[cycle(pattern)]
+    pub(crate) fn parse_pattern(&mut self, room: usize) -> Result<Pattern, Refusal<Error>>
+        ensures { Gives pattern_of self.old self.new result (pattern room self.old.left) }
+    {
+        match self.kind()? {
+            Kind::Open => self.parse_pattern_list(room),
+            Kind::Int => self.parse_pattern_int(),
+            Kind::True => self.parse_pattern_bool(true),
+            Kind::False => self.parse_pattern_bool(false),
+            Kind::Const => self.parse_pattern_const(),
+            Kind::Wildcard => self.parse_pattern_wildcard(),
+            Kind::Name => self.parse_pattern_name(room),
+            Kind::End => Err(self.unexpected("expected a pattern")),
+            Kind::Close => Err(self.unexpected("expected a pattern")),
+            Kind::At => Err(self.unexpected("expected a pattern")),
+            Kind::Other => Err(self.unexpected("expected a pattern")),
+        }
+    }
+
+    /// An integer.
+    fn parse_pattern_int(&mut self) -> Result<Pattern, Refusal<Error>>
+        ensures { Gives pattern_of self.old self.new result (read_map (λ x. pattern_int (bits_of x.1) (is_large x.1) x.0) (integer self.old.left)) }
+    {
+        let (pos, literal) = self.integer()?;
+        let val = literal.bits();
+        let big = literal.is_big();
+        Ok(Pattern::ConstInt { val, big, pos })
+    }
+
+    /// The word `true` or `false`.
+    fn parse_pattern_bool(&mut self, val: bool) -> Result<Pattern, Refusal<Error>>
+        ensures { Gives pattern_of self.old self.new result (read_map (λ x. pattern_bool val x.1) (any_symbol self.old.left)) }
+    {
+        let name = self.symbol("expected a pattern")?;
+        Ok(Pattern::ConstBool { val, pos: name.1 })
+    }
+
+    /// A constant.
+    fn parse_pattern_const(&mut self) -> Result<Pattern, Refusal<Error>>
+        ensures { Gives pattern_of self.old self.new result (read_map (λ x. pattern_prim x x.1) (constant self.old.left)) }
+    {
+        let val = self.constant()?;
+        let pos = val.1;
+        Ok(Pattern::ConstPrim { val, pos })
+    }
+
+    /// The wildcard.
+    fn parse_pattern_wildcard(&mut self) -> Result<Pattern, Refusal<Error>>
+        ensures { Gives pattern_of self.old self.new result (read_map (λ x. pattern_wildcard x.1) (any_symbol self.old.left)) }
+    {
+        let name = self.symbol("expected a pattern")?;
+        Ok(Pattern::Wildcard { pos: name.1 })
+    }
+
+    /// A name, and behind an `@` the pattern that it is bound to.
+    #[cycle(pattern)]
+    fn parse_pattern_name(&mut self, room: usize) -> Result<Pattern, Refusal<Error>>
+        ensures { Gives pattern_of self.old self.new result (after (any_symbol self.old.left) (named_by (pattern room))) }
+    {
+        let var = self.symbol("expected a pattern")?;
+        let pos = var.1;
+        if !self.take_at()? {
+            return Ok(Pattern::Var { var, pos });
+        }
+        let inner = self.parse_pattern(room)?;
+        let subpat = BoxedPattern::new(self.allocator(), inner)?;
+        Ok(Pattern::BindPattern { var, subpat, pos })
+    }
+
+    /// A term or `and`, with its patterns.
+    #[cycle(pattern)]
+    pub(crate) fn parse_pattern_list(&mut self, room: usize) -> Result<Pattern, Refusal<Error>>
+        ensures { Gives pattern_of self.old self.new result (pattern_list room self.old.left) }
+    {
+        let pos = self.open(room)?;
+        let sym = self.head()?;
+        let args = self.parse_patterns(room - 1)?;
+        let args = Patterns::new(args);
+        if sym.0.as_str() == "and" {
+            Ok(Pattern::And { subpats: args, pos })
+        } else {
+            Ok(Pattern::Term { sym, args, pos })
+        }
+    }
+
+    /// The patterns up to the closing parenthesis.
+    #[cycle(pattern)]
+    fn parse_patterns(&mut self, room: usize) -> Result<Vec<Pattern>, Refusal<Error>>
+        ensures { Gives (λ v. map pattern_of v.items) self.old self.new result (rest_of (pattern room) self.old.left) }
+    {
+        let mut patterns = Vec::new(self.allocator());
+        'all: while !self.take_close()? {
+            patterns.push(self.parse_pattern(room)?)?;
+        }
+        Ok(patterns)
+    }
+
+    /// The word `and` or an identifier.
+    fn head(&mut self) -> Result<Ident, Refusal<Error>>
+        ensures { Gives (λ x. x) self.old self.new result (symbol_of is_head self.old.left) }
+    {
+        if !self.is_head()? {
+            return Err(self.unexpected("expected a term"));
+        }
+        self.symbol("expected a term")
+    }
+
+    /// Whether the word `and` or an identifier stands next; a refusal where what stands next is no token.
+    fn is_head(&mut self) -> Result<bool, Refusal<Error>>
+        ensures head { IfOk result (λ same. same ≡ names is_head self.old.left) }
+        ensures known { IfOk result (λ same. IsKnown self.old self.new) }
+        ensures no_token { IfErr result (NoToken self.old self.new) }
+    {
+        let _kind = self.kind()?;
+        match self.lexer.peek() {
+            Some((_, Token::Symbol(text))) => {
+                Ok(text.as_str() == "and" || is_ident(text.as_str()))
+            }
+            _ => Ok(false),
+        }
+    }
+}

@@ -1,0 +1,164 @@
+ghost use Rattle.std.specs.Prelude.{◌≡◌, IfOk, IfErr, Some, None, cond};
+ghost use Rattle.isle_syntax.specs.ExprShape.{expr_of};
+ghost use Rattle.isle_syntax.specs.Grammar.{bits_of};
+ghost use Rattle.isle_syntax.specs.KindOf.{literal_of};
+ghost use Rattle.isle_syntax.specs.Parsing.{Gives, NoToken, IsKnown, TakesName, TakesPriority};
+ghost use Rattle.isle_syntax.specs.Readers.{read_map, seq, closed};
+ghost use Rattle.isle_syntax.specs.TreeReading.{expr, expr_inner, inner_expr};
+ghost use Rattle.isle_syntax.specs.PatternTree.{pattern_wildcard};
+ghost use Rattle.isle_syntax.specs.DefReading.{clause, if_let_read, if_read, is_open_next, is_priority, is_priority_next, rule, rule_body};
+
+use crate::Refusal;
+use crate::ast::{Expr, Ident, IfLet, Pattern, Rule};
+use crate::error::Error;
+use crate::kind::Literal;
+use crate::lexer::{Pos, Token};
+use crate::parser::Parser;
+use crate::text::Seq;
+
+/// An integer as a priority, where it fits one.
+fn priority(literal: Literal) -> Option<i64>
+    ensures { result ≡ cond (is_priority (literal_of literal)) (Some (bits_of (literal_of literal))) None }
+{
+    let Literal::Int(val) = literal else {
+        return None;
+    };
+    if val < i64::MIN as i128 {
+        return None;
+    }
+    if val > i64::MAX as i128 {
+        return None;
+    }
+    Some(val as i64)
+}
+
+impl<'src> Parser<'src> {
+    /// Takes a rule's name where one stands next.
+    fn take_name(&mut self) -> Result<Option<Ident>, Refusal<Error>>
+        ensures taken { IfOk result (TakesName self.old self.new) }
+        ensures no_token { IfErr result (NoToken self.old self.new) }
+    {
+        if !self.is_ident()? {
+            return Ok(None);
+        }
+        Ok(Some(self.ident()?))
+    }
+
+    /// Takes a rule's priority where one stands next.
+    fn take_priority(&mut self) -> Result<Option<i64>, Refusal<Error>>
+        ensures taken { IfOk result (TakesPriority self.old self.new) }
+        ensures no_token { IfErr result (NoToken self.old self.new) }
+    {
+        if !self.is_priority()? {
+            return Ok(None);
+        }
+        let (_, literal) = self.integer()?;
+        Ok(priority(literal))
+    }
+
+    /// Whether an integer that fits a priority stands next; a refusal where what stands next is no token.
+    fn is_priority(&mut self) -> Result<bool, Refusal<Error>>
+        ensures priority { IfOk result (λ same. same ≡ is_priority_next self.old.left) }
+        ensures known { IfOk result (λ same. IsKnown self.old self.new) }
+        ensures no_token { IfErr result (NoToken self.old self.new) }
+    {
+        let _kind = self.kind()?;
+        match self.lexer.peek() {
+            Some((_, Token::Int(val))) => Ok(priority(Literal::Int(*val)).is_some()),
+            _ => Ok(false),
+        }
+    }
+
+    /// Whether an opening parenthesis stands next; a refusal where what stands next is no token.
+    fn is_open(&mut self) -> Result<bool, Refusal<Error>>
+        ensures open { IfOk result (λ same. same ≡ is_open_next self.old.left) }
+        ensures known { IfOk result (λ same. IsKnown self.old self.new) }
+        ensures no_token { IfErr result (NoToken self.old self.new) }
+    {
+        let _kind = self.kind()?;
+        match self.lexer.peek() {
+            Some((_, Token::LParen)) => Ok(true),
+            _ => Ok(false),
+        }
+    }
+
+    /// A clause `if-let` whose parenthesis at `pos` is open.
+    fn parse_iflet(&mut self, pos: Pos, room: usize) -> Result<IfLet, Refusal<Error>>
+        ensures { Gives (λ x. x) self.old self.new result (read_map (λ x. clause x.1.0 x.1.1.0 pos) (if_let_read room self.old.left)) }
+    {
+        self.says("if-let")?;
+        let pattern = self.parse_pattern(room)?;
+        let expr = self.parse_expr(room)?;
+        self.close()?;
+        Ok(IfLet { pattern, expr, pos })
+    }
+
+    /// A clause `if` whose parenthesis at `pos` is open: its pattern is a wildcard where the word stands.
+    fn parse_if(&mut self, pos: Pos, room: usize) -> Result<IfLet, Refusal<Error>>
+        ensures { Gives (λ x. x) self.old self.new result (read_map (λ x. clause (pattern_wildcard x.0) x.1.0 pos) (if_read room self.old.left)) }
+    {
+        let word = self.word("if")?;
+        let expr = self.parse_expr(room)?;
+        self.close()?;
+        let pattern = Pattern::Wildcard { pos: word };
+        Ok(IfLet { pattern, expr, pos })
+    }
+
+    /// A right side, and the closing parenthesis of the rule.
+    fn parse_right_side(&mut self, room: usize) -> Result<Expr, Refusal<Error>>
+        ensures { Gives expr_of self.old self.new result (read_map (λ x. x.0) (seq (expr room) closed self.old.left)) }
+    {
+        let expr = self.parse_expr(room)?;
+        self.close()?;
+        Ok(expr)
+    }
+
+    /// A right side whose parenthesis at `pos` is open, and the closing parenthesis of the rule.
+    fn parse_right_side_inner(&mut self, pos: Pos, room: usize) -> Result<Expr, Refusal<Error>>
+        ensures { Gives expr_of self.old self.new result (read_map (λ x. inner_expr pos x.0) (seq (expr_inner room) closed self.old.left)) }
+    {
+        let expr = self.parse_expr_inner(pos, room)?;
+        self.close()?;
+        Ok(expr)
+    }
+
+    /// The clauses of a rule and its right side, with the closing parenthesis of the rule.
+    fn parse_body(&mut self, room: usize) -> Result<(Vec<IfLet>, Expr), Refusal<Error>>
+        ensures { Gives (λ x. (x.0.items, expr_of x.1)) self.old self.new result (rule_body room self.old.left) }
+    {
+        let mut iflets = Vec::new(self.allocator());
+        'clauses: loop {
+            if !self.is_open()? {
+                return Ok((iflets, self.parse_right_side(room)?));
+            }
+            let pos = self.open(room)?;
+            if self.is_word("if-let")? {
+                iflets.push(self.parse_iflet(pos, room - 1)?)?;
+                continue;
+            }
+            if !self.is_word("if")? {
+                return Ok((iflets, self.parse_right_side_inner(pos, room - 1)?));
+            }
+            iflets.push(self.parse_if(pos, room - 1)?)?;
+        }
+    }
+
+    /// What follows the word `rule`.
+    pub(crate) fn parse_rule(&mut self, room: usize) -> Result<Rule, Refusal<Error>>
+        ensures { Gives (λ x. x) self.old self.new result (rule room self.old.left) }
+    {
+        let pos = self.pos();
+        let name = self.take_name()?;
+        let prio = self.take_priority()?;
+        let pattern = self.parse_pattern_list(room)?;
+        let (iflets, expr) = self.parse_body(room)?;
+        Ok(Rule {
+            pattern,
+            iflets: Seq::new(iflets),
+            expr,
+            pos,
+            prio,
+            name,
+        })
+    }
+}

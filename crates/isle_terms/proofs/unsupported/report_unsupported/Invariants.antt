@@ -1,0 +1,13 @@
+use Rattle.std.proofs.Common.{◌≡◌, List}
+use Rattle.std.specs.List.{All}
+use Rattle.isle_syntax.specs.Files.{SourceFile}
+use Rattle.isle_syntax.specs.Positions.{HasPlaceAt}
+use Rattle.isle_syntax.specs.Places.{DefAt}
+use Rattle.isle_types.specs.Environment.{types_of, HasPlaces}
+use Rattle.isle_terms.proofs.unsupported.report_unsupported.Given as goal
+
+abbrev pub invariant-loop-def : goal.invariant-loop-def
+invariant-loop-def l = record {
+  same_types : types_of l.tyenv ≡ types_of l.initial.tyenv;
+  placed : (files : List SourceFile) → All (DefAt (HasPlaceAt files)) l.defs → HasPlaces files l.initial.tyenv → HasPlaces files l.tyenv;
+}

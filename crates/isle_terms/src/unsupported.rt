@@ -1,0 +1,77 @@
+ghost use Rattle.std.specs.Prelude.{◌≡◌, List, All, IfErr, IfSome};
+ghost use Rattle.isle_syntax.specs.Files.{SourceFile};
+ghost use Rattle.isle_syntax.specs.Positions.{HasPlaceAt};
+ghost use Rattle.isle_syntax.specs.Errors.{RefusalAt};
+ghost use Rattle.isle_syntax.specs.Places.{DefAt, DeclAt, RuleAt};
+ghost use Rattle.isle_types.specs.Environment.{types_of, HasPlaces};
+
+use isle_syntax::Refusal;
+use isle_syntax::ast::{Decl, Def, Extern, Rule};
+use isle_syntax::error::Error;
+use isle_syntax::lexer::Pos;
+use isle_types::TypeEnv;
+use std::alloc::AllocError;
+
+/// Reports each definition of a kind that isn't typed.
+pub fn report_unsupported(tyenv: &mut TypeEnv, defs: &[Def]) -> Result<(), AllocError>
+    ensures same_types { types_of tyenv.new ≡ types_of tyenv.old }
+    ensures placed { (files : List SourceFile) → All (DefAt (HasPlaceAt files)) defs.now
+        → HasPlaces files tyenv.old → HasPlaces files tyenv.new }
+{
+    for def in defs {
+        let Some(pos) = unsupported_at(def) else {
+            continue;
+        };
+        tyenv.report_error(pos, "a definition of this kind is not supported")?;
+    }
+    Ok(())
+}
+
+/// Where a definition stands that isn't typed.
+fn unsupported_at(def: &Def) -> Option<Pos>
+    ensures { (files : List SourceFile) → DefAt (HasPlaceAt files) def.now
+        → IfSome result (HasPlaceAt files) }
+{
+    match def {
+        Def::Extractor(extractor) => Some(extractor.pos),
+        Def::Extern(Extern::Constructor { pos, .. }) => Some(*pos),
+        Def::Extern(Extern::Extractor { pos, .. }) => Some(*pos),
+        Def::Extern(Extern::Const { pos, .. }) => Some(*pos),
+        Def::Converter(converter) => Some(converter.pos),
+        Def::TypeDef(_) | Def::Decl(_) | Def::Rule(_) | Def::Pragma(_) | Def::Kept(_) => None,
+    }
+}
+
+/// Refuses a declaration with a flag that isn't typed.
+pub fn check_flags(tyenv: &TypeEnv, decl: &Decl) -> Result<(), Refusal<Error>>
+    ensures { (files : List SourceFile) → DeclAt (HasPlaceAt files) decl.now
+        → IfErr result (RefusalAt (HasPlaceAt files)) }
+{
+    if decl.pure {
+        return Err(tyenv.type_error(decl.pos, "the flag `pure` is not supported"));
+    }
+    if decl.multi {
+        return Err(tyenv.type_error(decl.pos, "the flag `multi` is not supported"));
+    }
+    if decl.rec {
+        return Err(tyenv.type_error(decl.pos, "the flag `rec` is not supported"));
+    }
+    Ok(())
+}
+
+/// Refuses a rule with a part that isn't typed.
+pub fn check_parts(tyenv: &TypeEnv, rule: &Rule) -> Result<(), Refusal<Error>>
+    ensures { (files : List SourceFile) → RuleAt (HasPlaceAt files) rule.now
+        → IfErr result (RefusalAt (HasPlaceAt files)) }
+{
+    if rule.name.is_some() {
+        return Err(tyenv.type_error(rule.pos, "a rule's name is not supported"));
+    }
+    if rule.prio.is_some() {
+        return Err(tyenv.type_error(rule.pos, "a rule's priority is not supported"));
+    }
+    if !rule.iflets.as_slice().is_empty() {
+        return Err(tyenv.type_error(rule.pos, "a condition of a rule is not supported"));
+    }
+    Ok(())
+}
