@@ -1,0 +1,4 @@
+pub mod SExprTree
+pub mod SExprCode
+pub mod SExprShape
+pub mod SExprFalls

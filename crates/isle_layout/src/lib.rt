@@ -1,0 +1,4 @@
+//! The layout of ISLE: S-expressions, how they are printed, and which definitions can be.
+#![tactic(auto)]
+
+pub mod sexpr;
