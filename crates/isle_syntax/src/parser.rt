@@ -11,6 +11,8 @@ mod items;
 mod patterns;
 mod rules;
 mod terms;
+#[cfg(test)]
+mod tests;
 mod tokens;
 mod types;
 
