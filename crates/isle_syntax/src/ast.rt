@@ -39,7 +39,7 @@ pub struct Pragma {
 }
 
 /// A name and the position of its token.
-#[derive(Debug, Clone, PartialEq, Eq, Drop)]
+#[derive(Debug, Clone, PartialEq, Eq, PartialOrd, Ord, Hash, Drop)]
 pub struct Ident(pub Text, pub Pos);
 
 /// The definition of a type.
