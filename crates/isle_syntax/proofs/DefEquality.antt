@@ -4,7 +4,7 @@ use Rattle.std.specs.Prelude.{Option}
 use Rattle.std.specs.declared.option.Option.TheVariants.{None, Some}
 use Rattle.std.specs.Option.{option_eq}
 use Rattle.std.specs.Bool.{Decides}
-use Rattle.std.specs.Cmp.{IsEquivalence, decided, signed_Decides, booleans_Decides}
+use Rattle.std.specs.Cmp.{signed_Decides, booleans_Decides}
 use Rattle.std.specs.Cmp.Lexicographic.{pointwise, pointwise_decides}
 use Rattle.std.proofs.lemmas.Bool.Decides.{Decides-eqb}
 use Rattle.std.proofs.lemmas.Slice.Eq.{bytes_eq-Decides}
@@ -73,20 +73,20 @@ options d (Some x) (Some y) = through (d x y) (λ e. ap Some e) (λ e. cc)
 pub pos-decides : (a b : Pos) → Decides ((pos.ghosts).eq a b) (a ≡ b)
 pos-decides a b =
     through (both _ _ (Decides-eqb a.file b.file) (Decides-eqb a.offset b.offset))
-        (λ h i. record { file = h.0 i; offset = h.1 i })
-        (λ e. (ap (λ p. p.file) e, ap (λ p. p.offset) e))
+    (λ h i. record { file = h.0 i; offset = h.1 i })
+    (λ e. (ap (λ p. p.file) e, ap (λ p. p.offset) e))
 
 pub ident-decides : (a b : Ident) → Decides ((ident.ghosts).eq a b) (a ≡ b)
 ident-decides a b =
     through (both _ _ (bytes_eq-Decides a.0 b.0) (pos-decides a.1 b.1))
-        (λ h i. record { 0 = h.0 i; 1 = h.1 i })
-        (λ e. (ap (λ n. n.0) e, ap (λ n. n.1) e))
+    (λ h i. record { 0 = h.0 i; 1 = h.1 i })
+    (λ e. (ap (λ n. n.0) e, ap (λ n. n.1) e))
 
 pub struct_field-decides : (a b : StructField) → Decides ((struct_field.ghosts).eq a b) (a ≡ b)
 struct_field-decides a b =
     through (both _ _ (ident-decides a.name b.name) (both _ _ (ident-decides a.ty b.ty) (pos-decides a.pos b.pos)))
-        (λ h i. record { name = h.0 i; ty = h.1.0 i; pos = h.1.1 i })
-        (λ e. (ap (λ v. v.name) e, (ap (λ v. v.ty) e, ap (λ v. v.pos) e)))
+    (λ h i. record { name = h.0 i; ty = h.1.0 i; pos = h.1.1 i })
+    (λ e. (ap (λ v. v.name) e, (ap (λ v. v.ty) e, ap (λ v. v.pos) e)))
 
 pub struct_fields-decides : (a b : StructFields) → Decides ((struct_fields.ghosts).eq a b) (a ≡ b)
 struct_fields-decides a b =
@@ -95,8 +95,8 @@ struct_fields-decides a b =
 pub tuple_field-decides : (a b : TupleField) → Decides ((tuple_field.ghosts).eq a b) (a ≡ b)
 tuple_field-decides a b =
     through (both _ _ (Decides-eqb a.index b.index) (both _ _ (ident-decides a.ty b.ty) (pos-decides a.pos b.pos)))
-        (λ h i. record { index = h.0 i; ty = h.1.0 i; pos = h.1.1 i })
-        (λ e. (ap (λ v. v.index) e, (ap (λ v. v.ty) e, ap (λ v. v.pos) e)))
+    (λ h i. record { index = h.0 i; ty = h.1.0 i; pos = h.1.1 i })
+    (λ e. (ap (λ v. v.index) e, (ap (λ v. v.ty) e, ap (λ v. v.pos) e)))
 
 pub tuple_fields-decides : (a b : TupleFields) → Decides ((tuple_fields_of.ghosts).eq a b) (a ≡ b)
 tuple_fields-decides a b =
@@ -111,8 +111,8 @@ fields-decides a b = (λ e. cc, λ e. cc)
 pub variant-decides : (a b : Variant) → Decides ((variant.ghosts).eq a b) (a ≡ b)
 variant-decides a b =
     through (both _ _ (ident-decides a.name b.name) (both _ _ (fields-decides a.fields b.fields) (pos-decides a.pos b.pos)))
-        (λ h i. record { name = h.0 i; fields = h.1.0 i; pos = h.1.1 i })
-        (λ e. (ap (λ v. v.name) e, (ap (λ v. v.fields) e, ap (λ v. v.pos) e)))
+    (λ h i. record { name = h.0 i; fields = h.1.0 i; pos = h.1.1 i })
+    (λ e. (ap (λ v. v.name) e, (ap (λ v. v.fields) e, ap (λ v. v.pos) e)))
 
 pub type_value-decides : (a b : TypeValue) → Decides ((type_value.ghosts).eq a b) (a ≡ b)
 type_value-decides (Primitive a p) (Primitive b q) =
@@ -126,53 +126,53 @@ type_value-decides a b = (λ e. cc, λ e. cc)
 pub type-decides : (a b : TypeTree) → Decides ((type_tree.ghosts).eq a b) (a ≡ b)
 type-decides a b =
     through (both _ _ (ident-decides a.name b.name) (both _ _ (booleans_Decides a.is_extern b.is_extern) (both _ _ (booleans_Decides a.is_nodebug b.is_nodebug) (both _ _ (type_value-decides a.ty b.ty) (pos-decides a.pos b.pos)))))
-        (λ h i. record { name = h.0 i; is_extern = h.1.0 i; is_nodebug = h.1.1.0 i; ty = h.1.1.1.0 i; pos = h.1.1.1.1 i })
-        (λ e. (ap (λ v. v.name) e, (ap (λ v. v.is_extern) e, (ap (λ v. v.is_nodebug) e, (ap (λ v. v.ty) e, ap (λ v. v.pos) e)))))
+    (λ h i. record { name = h.0 i; is_extern = h.1.0 i; is_nodebug = h.1.1.0 i; ty = h.1.1.1.0 i; pos = h.1.1.1.1 i })
+    (λ e. (ap (λ v. v.name) e, (ap (λ v. v.is_extern) e, (ap (λ v. v.is_nodebug) e, (ap (λ v. v.ty) e, ap (λ v. v.pos) e)))))
 
 pub decl-decides : (a b : Decl) → Decides ((decl.ghosts).eq a b) (a ≡ b)
 decl-decides a b =
     through (both _ _ (ident-decides a.term b.term) (both _ _ (pointwise_decides ident-decides a.arg_tys b.arg_tys) (both _ _ (ident-decides a.ret_ty b.ret_ty) (both _ _ (booleans_Decides a.pure b.pure) (both _ _ (booleans_Decides a.multi b.multi) (both _ _ (booleans_Decides a.partial b.partial) (both _ _ (booleans_Decides a.rec b.rec) (pos-decides a.pos b.pos))))))))
-        (λ h i. record { term = h.0 i; arg_tys = h.1.0 i; ret_ty = h.1.1.0 i; pure = h.1.1.1.0 i; multi = h.1.1.1.1.0 i; partial = h.1.1.1.1.1.0 i; rec = h.1.1.1.1.1.1.0 i; pos = h.1.1.1.1.1.1.1 i })
-        (λ e. (ap (λ v. v.term) e, (ap (λ v. v.arg_tys) e, (ap (λ v. v.ret_ty) e, (ap (λ v. v.pure) e, (ap (λ v. v.multi) e, (ap (λ v. v.partial) e, (ap (λ v. v.rec) e, ap (λ v. v.pos) e))))))))
+    (λ h i. record { term = h.0 i; arg_tys = h.1.0 i; ret_ty = h.1.1.0 i; pure = h.1.1.1.0 i; multi = h.1.1.1.1.0 i; partial = h.1.1.1.1.1.0 i; rec = h.1.1.1.1.1.1.0 i; pos = h.1.1.1.1.1.1.1 i })
+    (λ e. (ap (λ v. v.term) e, (ap (λ v. v.arg_tys) e, (ap (λ v. v.ret_ty) e, (ap (λ v. v.pure) e, (ap (λ v. v.multi) e, (ap (λ v. v.partial) e, (ap (λ v. v.rec) e, ap (λ v. v.pos) e))))))))
 
 pub if_let-decides : (a b : IfLet) → Decides ((if_let.ghosts).eq a b) (a ≡ b)
 if_let-decides a b =
     through (both _ _ (same_pattern-decides a.pattern b.pattern) (both _ _ (same_expr-decides a.expr b.expr) (pos-decides a.pos b.pos)))
-        (λ h i. record { pattern = h.0 i; expr = h.1.0 i; pos = h.1.1 i })
-        (λ e. (ap (λ v. v.pattern) e, (ap (λ v. v.expr) e, ap (λ v. v.pos) e)))
+    (λ h i. record { pattern = h.0 i; expr = h.1.0 i; pos = h.1.1 i })
+    (λ e. (ap (λ v. v.pattern) e, (ap (λ v. v.expr) e, ap (λ v. v.pos) e)))
 
 pub rule-decides : (a b : Rule) → Decides ((rule.ghosts).eq a b) (a ≡ b)
 rule-decides a b =
     through (both _ _ (same_pattern-decides a.pattern b.pattern) (both _ _ (pointwise_decides if_let-decides a.iflets b.iflets) (both _ _ (same_expr-decides a.expr b.expr) (both _ _ (pos-decides a.pos b.pos) (both _ _ (options signed_Decides a.prio b.prio) (options ident-decides a.name b.name))))))
-        (λ h i. record { pattern = h.0 i; iflets = h.1.0 i; expr = h.1.1.0 i; pos = h.1.1.1.0 i; prio = h.1.1.1.1.0 i; name = h.1.1.1.1.1 i })
-        (λ e. (ap (λ v. v.pattern) e, (ap (λ v. v.iflets) e, (ap (λ v. v.expr) e, (ap (λ v. v.pos) e, (ap (λ v. v.prio) e, ap (λ v. v.name) e))))))
+    (λ h i. record { pattern = h.0 i; iflets = h.1.0 i; expr = h.1.1.0 i; pos = h.1.1.1.0 i; prio = h.1.1.1.1.0 i; name = h.1.1.1.1.1 i })
+    (λ e. (ap (λ v. v.pattern) e, (ap (λ v. v.iflets) e, (ap (λ v. v.expr) e, (ap (λ v. v.pos) e, (ap (λ v. v.prio) e, ap (λ v. v.name) e))))))
 
 pub extractor-decides : (a b : Extractor) → Decides ((extractor.ghosts).eq a b) (a ≡ b)
 extractor-decides a b =
     through (both _ _ (ident-decides a.term b.term) (both _ _ (pointwise_decides ident-decides a.args b.args) (both _ _ (same_pattern-decides a.template b.template) (pos-decides a.pos b.pos))))
-        (λ h i. record { term = h.0 i; args = h.1.0 i; template = h.1.1.0 i; pos = h.1.1.1 i })
-        (λ e. (ap (λ v. v.term) e, (ap (λ v. v.args) e, (ap (λ v. v.template) e, ap (λ v. v.pos) e))))
+    (λ h i. record { term = h.0 i; args = h.1.0 i; template = h.1.1.0 i; pos = h.1.1.1 i })
+    (λ e. (ap (λ v. v.term) e, (ap (λ v. v.args) e, (ap (λ v. v.template) e, ap (λ v. v.pos) e))))
 
 pub extern-decides : (a b : Extern) → Decides ((extern_of.ghosts).eq a b) (a ≡ b)
 extern-decides (extern_constructor a b p) (extern_constructor c d q) =
     through (both _ _ (ident-decides a c) (both _ _ (ident-decides b d) (pos-decides p q)))
-        (λ h i. extern_constructor (h.0 i) (h.1.0 i) (h.1.1 i))
-        (λ e. (cc, (cc, cc)))
+    (λ h i. extern_constructor (h.0 i) (h.1.0 i) (h.1.1 i))
+    (λ e. (cc, (cc, cc)))
 extern-decides (extern_extractor a b p m) (extern_extractor c d q n) =
     through (both _ _ (ident-decides a c) (both _ _ (ident-decides b d) (both _ _ (pos-decides p q) (booleans_Decides m n))))
-        (λ h i. extern_extractor (h.0 i) (h.1.0 i) (h.1.1.0 i) (h.1.1.1 i))
-        (λ e. (cc, (cc, (cc, cc))))
+    (λ h i. extern_extractor (h.0 i) (h.1.0 i) (h.1.1.0 i) (h.1.1.1 i))
+    (λ e. (cc, (cc, (cc, cc))))
 extern-decides (extern_const a b p) (extern_const c d q) =
     through (both _ _ (ident-decides a c) (both _ _ (ident-decides b d) (pos-decides p q)))
-        (λ h i. extern_const (h.0 i) (h.1.0 i) (h.1.1 i))
-        (λ e. (cc, (cc, cc)))
+    (λ h i. extern_const (h.0 i) (h.1.0 i) (h.1.1 i))
+    (λ e. (cc, (cc, cc)))
 extern-decides a b = (λ e. cc, λ e. cc)
 
 pub converter-decides : (a b : Converter) → Decides ((converter.ghosts).eq a b) (a ≡ b)
 converter-decides a b =
     through (both _ _ (ident-decides a.term b.term) (both _ _ (ident-decides a.inner_ty b.inner_ty) (both _ _ (ident-decides a.outer_ty b.outer_ty) (pos-decides a.pos b.pos))))
-        (λ h i. record { term = h.0 i; inner_ty = h.1.0 i; outer_ty = h.1.1.0 i; pos = h.1.1.1 i })
-        (λ e. (ap (λ v. v.term) e, (ap (λ v. v.inner_ty) e, (ap (λ v. v.outer_ty) e, ap (λ v. v.pos) e))))
+    (λ h i. record { term = h.0 i; inner_ty = h.1.0 i; outer_ty = h.1.1.0 i; pos = h.1.1.1 i })
+    (λ e. (ap (λ v. v.term) e, (ap (λ v. v.inner_ty) e, (ap (λ v. v.outer_ty) e, ap (λ v. v.pos) e))))
 
 pub pragma-decides : (a b : Pragma) → Decides ((pragma_of.ghosts).eq a b) (a ≡ b)
 pragma-decides a b = (λ e. refl, λ e. refl)
@@ -180,8 +180,8 @@ pragma-decides a b = (λ e. refl, λ e. refl)
 pub kept-decides : (a b : Kept) → Decides ((kept.ghosts).eq a b) (a ≡ b)
 kept-decides a b =
     through (both _ _ (ident-decides a.word b.word) (both _ _ (same_coded-decides item_trees_code a.items b.items) (pos-decides a.pos b.pos)))
-        (λ h i. record { word = h.0 i; items = h.1.0 i; pos = h.1.1 i })
-        (λ e. (ap (λ v. v.word) e, (ap (λ v. v.items) e, ap (λ v. v.pos) e)))
+    (λ h i. record { word = h.0 i; items = h.1.0 i; pos = h.1.1 i })
+    (λ e. (ap (λ v. v.word) e, (ap (λ v. v.items) e, ap (λ v. v.pos) e)))
 
 pub same_def-decides : (a b : Def) → Decides (same_def a b) (a ≡ b)
 same_def-decides (defs.TypeDef a) (defs.TypeDef b) = through (type-decides a b) (λ h. ap defs.TypeDef h) (λ e. cc)
@@ -193,6 +193,3 @@ same_def-decides (defs.Converter a) (defs.Converter b) = through (converter-deci
 same_def-decides (defs.Pragma a) (defs.Pragma b) = through (pragma-decides a b) (λ h. ap defs.Pragma h) (λ e. cc)
 same_def-decides (defs.Kept a) (defs.Kept b) = through (kept-decides a b) (λ h. ap defs.Kept h) (λ e. cc)
 same_def-decides a b = (λ e. cc, λ e. cc)
-
-pub same_def-equiv : IsEquivalence same_def
-same_def-equiv = decided same_def same_def-decides
