@@ -3,6 +3,7 @@ pub mod ExprSizes
 pub mod ItemSizes
 pub mod TreeShapes
 pub mod Equality
+pub mod DefEquality
 pub mod Macros
 pub mod Terms
 pub mod WithoutPos

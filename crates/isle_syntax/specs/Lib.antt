@@ -17,6 +17,7 @@ pub mod Terms
 pub mod WithoutPos
 pub mod Verdict
 pub mod Equality
+pub mod Definitions
 pub mod Ends
 pub mod Tokens
 pub mod Unread

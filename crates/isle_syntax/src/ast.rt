@@ -20,7 +20,7 @@ use std::alloc::{AllocError, Global};
 use std::marker::Model;
 
 /// A definition of a source file. Its position is the first token after its keyword.
-#[derive(Debug, PartialEq, Eq, Drop)]
+#[derive(Debug, Drop)]
 pub enum Def {
     TypeDef(Type),
     Decl(Decl),
@@ -39,7 +39,7 @@ pub struct Pragma {
 }
 
 /// A name and the position of its token.
-#[derive(Debug, Clone, PartialEq, Eq, Drop)]
+#[derive(Debug, Clone, PartialEq, Eq, PartialOrd, Ord, Hash, Drop)]
 pub struct Ident(pub Text, pub Pos);
 
 /// The definition of a type.

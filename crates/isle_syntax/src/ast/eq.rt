@@ -6,7 +6,8 @@ ghost use Rattle.isle_syntax.specs.Equality.{let_of};
 ghost use Rattle.isle_syntax.specs.ItemShape.{item_of, items_of};
 
 use crate::ast::{
-    BoxedExpr, BoxedPattern, Expr, Exprs, KeptItem, KeptItems, LetDef, LetDefs, Pattern, Patterns,
+    BoxedExpr, BoxedPattern, Def, Expr, Exprs, KeptItem, KeptItems, LetDef, LetDefs, Pattern,
+    Patterns,
 };
 use crate::text::Seq;
 
@@ -443,4 +444,47 @@ impl<T: Eq> Eq for Seq<T> {
     ghost use Rattle.std.specs.Cmp.Rules.{comparing};
 
     ghost laws = { Prim.search (comparing, rules) };
+}
+
+impl Def {
+    ghost use Rattle.isle_syntax.specs.Definitions.{same_def};
+
+    /// Whether two definitions are the same, positions included.
+    fn is_same(&self, other: &Def) -> bool
+        ensures { result ≡ same_def self.now other.now }
+    {
+        match (self, other) {
+            (Def::TypeDef(a), Def::TypeDef(b)) => a == b,
+            (Def::Decl(a), Def::Decl(b)) => a == b,
+            (Def::Rule(a), Def::Rule(b)) => a == b,
+            (Def::Extractor(a), Def::Extractor(b)) => a == b,
+            (Def::Extern(a), Def::Extern(b)) => a == b,
+            (Def::Converter(a), Def::Converter(b)) => a == b,
+            (Def::Pragma(a), Def::Pragma(b)) => a == b,
+            (Def::Kept(a), Def::Kept(b)) => a == b,
+            _ => false,
+        }
+    }
+}
+
+impl PartialEq for Def {
+    ghost use Rattle.std.specs.Cmp.{partial_equiv_from_equiv};
+    ghost use Rattle.isle_syntax.specs.Definitions.{same_def, same_def-equiv};
+
+    ghost eq = { same_def };
+
+    ghost laws = { partial_equiv_from_equiv same_def-equiv };
+
+    fn eq(&self, other: &Def) -> bool
+        ensures answer { result ≡ same_def self.now other.now }
+        ensures same { IsTrue result ↔ (self.now ≡ other.now) }
+    {
+        self.is_same(other)
+    }
+}
+
+impl Eq for Def {
+    ghost use Rattle.isle_syntax.specs.Definitions.{same_def-equiv};
+
+    ghost laws = { same_def-equiv };
 }
