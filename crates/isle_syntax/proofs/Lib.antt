@@ -59,3 +59,4 @@ pub mod RightPlaces
 pub mod RuleSteps
 pub mod BodyCalls
 pub mod Lets
+pub mod Chains
