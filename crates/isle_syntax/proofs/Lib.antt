@@ -5,6 +5,7 @@ pub mod TreeShapes
 pub mod Equality
 pub mod Macros
 pub mod Terms
+pub mod Chains
 pub mod WithoutPos
 pub mod LineStarts
 pub mod Comments
