@@ -1,11 +1,11 @@
 pub mod PatternSizes
 pub mod ExprSizes
 pub mod ItemSizes
+pub mod Subjects
 pub mod TreeShapes
 pub mod Equality
 pub mod Macros
 pub mod Terms
-pub mod Chains
 pub mod WithoutPos
 pub mod LineStarts
 pub mod Comments

@@ -12,6 +12,7 @@ pub mod ItemCode
 pub mod ItemShape
 pub mod ItemFalls
 pub mod Trees
+pub mod Subject
 pub mod Macros
 pub mod Terms
 pub mod WithoutPos
@@ -43,4 +44,3 @@ pub mod Lookahead
 pub mod Parsing
 pub mod Places
 pub mod MacroArgs
-pub mod Chains

@@ -483,7 +483,7 @@ impl Pattern {
 
     /// Whether a `MacroArg` stands in the pattern.
     #[cycle(has_macro_arg)]
-    #[tactic(auto, using(crate::proofs::PatternSizes::most_pattern_size, crate::proofs::Chains::subject_size, crate::proofs::Chains::subject_macro_arg, crate::proofs::Chains::subject_is_no_binding))]
+    #[tactic(auto, using(crate::proofs::PatternSizes::most_pattern_size, crate::proofs::Subjects::subject_size, crate::proofs::Subjects::subject_macro_arg, crate::proofs::Subjects::subject_is_no_binding))]
     pub fn has_macro_arg(&self) -> bool
         ensures { result ≡ has_macro_arg (pattern_of self.now) }
     {

@@ -1,6 +1,6 @@
 ghost use Rattle.std.specs.Prelude.{◌≡◌};
 ghost use Rattle.isle_syntax.specs.PatternShape.{pattern_of};
-ghost use Rattle.isle_syntax.specs.Chains.{subject};
+ghost use Rattle.isle_syntax.specs.Subject.{subject};
 
 use crate::ast::Pattern;
 

@@ -27,7 +27,7 @@ fn hand_term<F: FnMut(Pos, &Ident)>(pos: Pos, sym: &Ident, f: &mut F)
 
 /// Hands each term of a pattern to `f`.
 #[cycle(pattern_terms)]
-#[tactic(auto, using(crate::proofs::Chains::subject_terms, crate::proofs::Chains::subject_is_no_binding))]
+#[tactic(auto, using(crate::proofs::Subjects::subject_terms, crate::proofs::Subjects::subject_is_no_binding))]
 fn hand_pattern<F: FnMut(Pos, &Ident)>(pattern: &Pattern, f: &mut F)
     requires { F.IsAlwaysCallable f.old }
     ensures callable { F.IsAlwaysCallable f.new }

@@ -1,5 +1,5 @@
 use Rattle.std.proofs.Common.{arith}
-use Rattle.isle_syntax.proofs.Chains.{args_below, subpats_below}
+use Rattle.isle_syntax.proofs.Subjects.{args_below, subpats_below}
 use Rattle.isle_syntax.proofs.ast.+has_macro_arg.Goals as goal
 
 pub Pattern::has_macro_arg-has_macro_args-requires :

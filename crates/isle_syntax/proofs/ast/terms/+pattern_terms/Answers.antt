@@ -2,7 +2,7 @@ use Rattle.std.proofs.Common.{refl, add-one, arith, rules}
 use Rattle.isle_syntax.specs.PatternShape.{pattern_of, patterns_of}
 use Rattle.isle_syntax.specs.Terms.{pattern_terms, patterns_terms, CalledAtTerm}
 use Rattle.isle_syntax.proofs.Terms.{called_more}
-use Rattle.isle_syntax.proofs.Chains.{args_below, subpats_below}
+use Rattle.isle_syntax.proofs.Subjects.{args_below, subpats_below}
 use Rattle.isle_syntax.proofs.ast.terms.+pattern_terms.Goals as goal
 
 pub hand_patterns-loop-pattern-preserved : goal.hand_patterns-loop-pattern-preserved

@@ -11,7 +11,7 @@ use Rattle.isle_syntax.specs.PatternShape.{pattern_of, patterns_of}
 use Rattle.isle_syntax.specs.PatternFalls.{pattern_falls}
 use Rattle.isle_syntax.specs.Trees.{has_macro_arg}
 use Rattle.isle_syntax.specs.Terms.{pattern_terms}
-use Rattle.isle_syntax.specs.Chains.{subject, names_bound}
+use Rattle.isle_syntax.specs.Subject.{subject, names_bound}
 use Rattle.isle_syntax.proofs.PatternSizes.{most_pattern_size}
 
 pub subject_height : (t : PatternTree) → pattern_height (subject t) ≤ pattern_height t
