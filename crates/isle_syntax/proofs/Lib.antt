@@ -60,3 +60,4 @@ pub mod RightPlaces
 pub mod RuleSteps
 pub mod BodyCalls
 pub mod Lets
+pub mod Chains

@@ -11,6 +11,7 @@ pub mod ItemTree
 pub mod ItemCode
 pub mod ItemShape
 pub mod ItemFalls
+pub mod Chain
 pub mod Trees
 pub mod Subject
 pub mod Macros

@@ -14,6 +14,7 @@ mod eq;
 mod macros;
 mod positions;
 mod terms;
+pub(crate) mod wrap;
 
 use crate::lexer::Pos;
 use crate::text::{Seq, Text};
