@@ -1,5 +1,5 @@
 -- What holds of a chain of bindings is told by its names and its subject.
-use Rattle.std.proofs.Common.{◌≡◌, ◌+◌, ◌*◌, ◌<◌, ◌≤◌, List, refl, sym, ap, ◌∙◌, arith}
+use Rattle.std.proofs.Common.{◌≡◌, ◌+◌, ◌*◌, ◌<◌, ◌≤◌, List, [], refl, sym, ap, ◌∙◌, arith}
 use denote.Param.Weighed.{most}
 use Rattle.isle_syntax.specs.declared.lexer.Pos.{Pos}
 use Rattle.isle_syntax.specs.declared.ast.Ident.{Ident}
@@ -11,6 +11,7 @@ use Rattle.isle_syntax.specs.PatternShape.{pattern_of, patterns_of}
 use Rattle.isle_syntax.specs.PatternFalls.{pattern_falls}
 use Rattle.isle_syntax.specs.Trees.{has_macro_arg}
 use Rattle.isle_syntax.specs.Terms.{pattern_terms}
+use Rattle.isle_syntax.specs.Chain.{bound}
 use Rattle.isle_syntax.specs.Subject.{subject, names_bound}
 use Rattle.isle_syntax.proofs.PatternSizes.{most_pattern_size}
 
@@ -86,3 +87,32 @@ subject_terms (pattern_term _ _ _) = refl
 subject_terms (pattern_wildcard _) = refl
 subject_terms (pattern_and _ _) = refl
 subject_terms (pattern_macro_arg _ _) = refl
+
+-- a pattern is its subject with its names around it
+pub bound_subject : (t : PatternTree) → bound (names_bound t) (subject t) ≡ t
+bound_subject (pattern_var _ _) = refl
+bound_subject (pattern_bind x t p) = ap (λ s. pattern_bind x s p) (bound_subject t)
+bound_subject (pattern_bool _ _) = refl
+bound_subject (pattern_int _ _ _) = refl
+bound_subject (pattern_prim _ _) = refl
+bound_subject (pattern_term _ _ _) = refl
+bound_subject (pattern_wildcard _) = refl
+bound_subject (pattern_and _ _) = refl
+bound_subject (pattern_macro_arg _ _) = refl
+
+-- chains of the same names are the same where their subjects are
+pub same_where_subjects : (s t : PatternTree) → names_bound s ≡ names_bound t → subject s ≡ subject t → s ≡ t
+same_where_subjects s t names subjects =
+    sym (bound_subject s) ∙ ap (λ xs. bound xs (subject s)) names ∙ ap (bound (names_bound t)) subjects ∙ bound_subject t
+
+-- a subject binds no name
+pub subject_alone : (t : PatternTree) → names_bound (subject t) ≡ []
+subject_alone (pattern_var _ _) = refl
+subject_alone (pattern_bind _ t _) = subject_alone t
+subject_alone (pattern_bool _ _) = refl
+subject_alone (pattern_int _ _ _) = refl
+subject_alone (pattern_prim _ _) = refl
+subject_alone (pattern_term _ _ _) = refl
+subject_alone (pattern_wildcard _) = refl
+subject_alone (pattern_and _ _) = refl
+subject_alone (pattern_macro_arg _ _) = refl
