@@ -1,5 +1,5 @@
 -- What holds of a chain of bindings is told by its names and its subject.
-use Rattle.std.proofs.Common.{◌≡◌, ◌+◌, ◌*◌, ◌<◌, ◌≤◌, List, [], refl, sym, ap, ◌∙◌, arith}
+use Rattle.std.proofs.Common.{◌≡◌, ◌+◌, ◌*◌, ◌<◌, ◌≤◌, List, [], ◌∷◌, ◌++◌, append_assoc, refl, sym, ap, ◌∙◌, arith}
 use denote.Param.Weighed.{most}
 use Rattle.isle_syntax.specs.declared.lexer.Pos.{Pos}
 use Rattle.isle_syntax.specs.declared.ast.Ident.{Ident}
@@ -116,3 +116,8 @@ subject_alone (pattern_term _ _ _) = refl
 subject_alone (pattern_wildcard _) = refl
 subject_alone (pattern_and _ _) = refl
 subject_alone (pattern_macro_arg _ _) = refl
+
+-- a name that is taken from a chain is the next one bound
+pub names_pushed : (xs ys : List (Ident × Pos)) (x : Ident) (p : Pos) (below t : PatternTree) → t ≡ below → ys ≡ xs ++ (x, p) ∷ [] → ys ++ names_bound t ≡ xs ++ names_bound (pattern_bind x below p)
+names_pushed xs ys x p below t same pushed =
+    ap (λ s. ys ++ names_bound s) same ∙ ap (λ zs. zs ++ names_bound below) pushed ∙ append_assoc xs ((x, p) ∷ []) (names_bound below)
