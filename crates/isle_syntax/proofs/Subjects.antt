@@ -14,6 +14,7 @@ use Rattle.isle_syntax.specs.Terms.{pattern_terms}
 use Rattle.isle_syntax.specs.Chain.{bound}
 use Rattle.isle_syntax.specs.Subject.{subject, names_bound}
 use Rattle.isle_syntax.proofs.PatternSizes.{most_pattern_size}
+use Rattle.isle_syntax.proofs.TreeShapes.{pattern_of-injective}
 
 pub subject_height : (t : PatternTree) → pattern_height (subject t) ≤ pattern_height t
 subject_height (pattern_var x p) = omega arith
@@ -121,3 +122,8 @@ subject_alone (pattern_macro_arg _ _) = refl
 pub names_pushed : (xs ys : List (Ident × Pos)) (x : Ident) (p : Pos) (below t : PatternTree) → t ≡ below → ys ≡ xs ++ (x, p) ∷ [] → ys ++ names_bound t ≡ xs ++ names_bound (pattern_bind x below p)
 names_pushed xs ys x p below t same pushed =
     ap (λ s. ys ++ names_bound s) same ∙ ap (λ zs. zs ++ names_bound below) pushed ∙ append_assoc xs ((x, p) ∷ []) (names_bound below)
+
+-- a pattern's subject with its names around it is the pattern
+pub cloned_chain : (p q r : Pattern) (names : List (Ident × Pos)) → pattern_of q ≡ bound names (pattern_of r) → names ≡ names_bound (pattern_of p) → pattern_of r ≡ subject (pattern_of p) → q ≡ p
+cloned_chain p q r names whole named below =
+    pattern_of-injective q p (whole ∙ ap (λ xs. bound xs (pattern_of r)) named ∙ ap (bound (names_bound (pattern_of p))) below ∙ bound_subject (pattern_of p))
