@@ -13,6 +13,7 @@ use Rattle.isle_syntax.specs.Trees.{has_macro_arg}
 use Rattle.isle_syntax.specs.Terms.{pattern_terms}
 use Rattle.isle_syntax.specs.Chain.{bound}
 use Rattle.isle_syntax.specs.Subject.{subject, names_bound}
+use Rattle.isle_syntax.proofs.Chains.{bound-append}
 use Rattle.isle_syntax.proofs.PatternSizes.{most_pattern_size}
 use Rattle.isle_syntax.proofs.TreeShapes.{pattern_of-injective}
 
@@ -127,3 +128,25 @@ names_pushed xs ys x p below t same pushed =
 pub cloned_chain : (p q r : Pattern) (names : List (Ident × Pos)) → pattern_of q ≡ bound names (pattern_of r) → names ≡ names_bound (pattern_of p) → pattern_of r ≡ subject (pattern_of p) → q ≡ p
 cloned_chain p q r names whole named below =
     pattern_of-injective q p (whole ∙ ap (λ xs. bound xs (pattern_of r)) named ∙ ap (bound (names_bound (pattern_of p))) below ∙ bound_subject (pattern_of p))
+
+-- what a binding binds is smaller
+pub bound_size : (p q : Pattern) (x : Ident) (t : PatternTree) (pos : Pos) → p ≡ pattern.BindPattern x t pos → pattern_of q ≡ t → size-Pattern q ≤ size-Pattern p
+bound_size p q x t pos is same =
+    let whole : size-Pattern p ≡ size-Pattern (pattern.BindPattern x t pos) = ap size-Pattern is in
+    omega (arith, size_is q, ap pattern_height same)
+
+-- one name more is bound inside the others
+pub bound_pushed : (xs ys : List (Ident × Pos)) (x : Ident) (p : Pos) (t : PatternTree) → ys ≡ xs ++ (x, p) ∷ [] → bound ys t ≡ bound xs (pattern_bind x t p)
+bound_pushed xs ys x p t pushed =
+    ap (λ zs. bound zs t) pushed ∙ bound-append xs ((x, p) ∷ []) t
+
+pub binds_nothing : (p : Pattern) → ((x : Ident) (t : PatternTree) (pos : Pos) → p ≡ pattern.BindPattern x t pos → ⊥) → names_bound (pattern_of p) ≡ []
+binds_nothing (pattern.Var _ _) other = refl
+binds_nothing (pattern.BindPattern x t pos) other = absurd (other x t pos refl)
+binds_nothing (pattern.ConstBool _ _) other = refl
+binds_nothing (pattern.ConstInt _ _ _) other = refl
+binds_nothing (pattern.ConstPrim _ _) other = refl
+binds_nothing (pattern.Term _ _ _) other = refl
+binds_nothing (pattern.Wildcard _) other = refl
+binds_nothing (pattern.And _ _) other = refl
+binds_nothing (pattern.MacroArg _ _) other = refl
