@@ -1,6 +1,7 @@
 pub mod PatternSizes
 pub mod ExprSizes
 pub mod ItemSizes
+pub mod Subjects
 pub mod TreeShapes
 pub mod Equality
 pub mod DefEquality

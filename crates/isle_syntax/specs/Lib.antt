@@ -13,6 +13,7 @@ pub mod ItemShape
 pub mod ItemFalls
 pub mod Chain
 pub mod Trees
+pub mod Subject
 pub mod Macros
 pub mod Terms
 pub mod WithoutPos

@@ -8,6 +8,7 @@ ghost use Rattle.isle_syntax.specs.ExprShape.{expr_of, exprs_of, lets_of};
 ghost use Rattle.isle_syntax.specs.ItemTree.{item_pos};
 ghost use Rattle.isle_syntax.specs.ItemShape.{item_of, items_of};
 
+mod chain;
 mod clone;
 mod eq;
 mod macros;
@@ -483,16 +484,16 @@ impl Pattern {
 
     /// Whether a `MacroArg` stands in the pattern.
     #[cycle(has_macro_arg)]
-    #[tactic(auto, using(crate::proofs::PatternSizes::most_pattern_size))]
+    #[tactic(auto, using(crate::proofs::PatternSizes::most_pattern_size, crate::proofs::Subjects::subject_size, crate::proofs::Subjects::subject_macro_arg, crate::proofs::Subjects::subject_is_no_binding))]
     pub fn has_macro_arg(&self) -> bool
         ensures { result ≡ has_macro_arg (pattern_of self.now) }
     {
-        match self {
-            Pattern::BindPattern { subpat, .. } => subpat.get().has_macro_arg(),
+        match self.subject() {
             Pattern::Term { args, .. } => has_macro_args(args.as_slice()),
             Pattern::And { subpats, .. } => has_macro_args(subpats.as_slice()),
             Pattern::MacroArg { .. } => true,
             Pattern::Var { .. }
+            | Pattern::BindPattern { .. }
             | Pattern::ConstBool { .. }
             | Pattern::ConstInt { .. }
             | Pattern::ConstPrim { .. }
