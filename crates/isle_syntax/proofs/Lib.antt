@@ -4,6 +4,7 @@ pub mod ItemSizes
 pub mod TreeShapes
 pub mod Equality
 pub mod DefEquality
+pub mod Orders
 pub mod Macros
 pub mod Terms
 pub mod WithoutPos

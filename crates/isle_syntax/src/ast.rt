@@ -13,6 +13,8 @@ mod eq;
 mod macros;
 mod positions;
 mod terms;
+#[cfg(test)]
+mod tests;
 
 use crate::lexer::Pos;
 use crate::text::{Seq, Text};
