@@ -5,6 +5,7 @@ pub mod Subjects
 pub mod TreeShapes
 pub mod Equality
 pub mod DefEquality
+pub mod Orders
 pub mod Macros
 pub mod Terms
 pub mod WithoutPos

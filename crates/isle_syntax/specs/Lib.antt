@@ -20,6 +20,7 @@ pub mod WithoutPos
 pub mod Verdict
 pub mod Equality
 pub mod Definitions
+pub mod Orders
 pub mod Ends
 pub mod Tokens
 pub mod Unread

@@ -16,6 +16,9 @@ mod positions;
 mod terms;
 pub(crate) mod wrap;
 
+#[cfg(test)]
+mod tests;
+
 use crate::lexer::Pos;
 use crate::text::{Seq, Text};
 use std::alloc::{AllocError, Global};

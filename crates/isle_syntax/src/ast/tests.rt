@@ -27,7 +27,7 @@ fn order_of_names(m: &Ident, n: &Ident) -> Ordering
 fn are_one(a: &Def, b: &Def) -> bool
     ensures { IsTrue result ↔ (a.now ≡ b.now) }
 {
-    a == b
+    *a == *b
 }
 
 fn name(alloc: Global, text: &str, file: usize, offset: usize) -> Result<Ident, Fail> {
@@ -71,10 +71,22 @@ fn names_are_keys(rt: HostRuntime) -> Result<(), Fail> {
 fn orders_go_by_text_file_and_offset(rt: HostRuntime) -> Result<(), Fail> {
     let alloc = rt.alloc();
     let first = name(alloc, "a", 7, 7)?;
-    assert_eq!(rt; order_of_names(&first, &name(alloc, "aa", 0, 0)?), Ordering::Less);
-    assert_eq!(rt; order_of_names(&first, &name(alloc, "a", 8, 0)?), Ordering::Less);
-    assert_eq!(rt; order_of_names(&first, &name(alloc, "a", 7, 7)?), Ordering::Equal);
-    assert_eq!(rt; order_of_positions(&Pos::new(1, 0), &Pos::new(0, 9)), Ordering::Greater);
+    assert_eq!(rt;
+        order_of_names(&first, &name(alloc, "aa", 0, 0)?),
+        Ordering::Less
+    );
+    assert_eq!(rt;
+        order_of_names(&first, &name(alloc, "a", 8, 0)?),
+        Ordering::Less
+    );
+    assert_eq!(rt;
+        order_of_names(&first, &name(alloc, "a", 7, 7)?),
+        Ordering::Equal
+    );
+    assert_eq!(rt;
+        order_of_positions(&Pos::new(1, 0), &Pos::new(0, 9)),
+        Ordering::Greater
+    );
     Ok(())
 }
 
