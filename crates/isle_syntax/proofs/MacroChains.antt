@@ -33,3 +33,8 @@ filled_chain given (pattern_macro_arg k p) = unbound (filled given (pattern_macr
 pub chain_filled : (given : List PatternTree) (t s : PatternTree) (o : Option PatternTree) → o ≡ filled given s → s ≡ subject t → option_map (bound (names_bound t)) o ≡ filled given t
 chain_filled given t s o made below =
     ap (option_map (bound (names_bound t))) (made ∙ ap (filled given) below) ∙ sym (filled_chain given t)
+
+-- the template of a binding to a pattern that is no wildcard is a binding to its template
+pub template_inside : (names : List Ident) (x : Ident) (below t : PatternTree) (p : Pos) → is_wildcard below ≡ false → t ≡ below → pattern_bind x (template_tree names t) p ≡ template_tree names (pattern_bind x below p)
+template_inside names x below t p other same =
+    rw other (ap (λ s. pattern_bind x (template_tree names s) p) same)
