@@ -153,10 +153,12 @@ impl Pattern {
                     pos: *pos,
                 }))
             }
-            Pattern::MacroArg { index, .. } => match macro_args.get(*index) {
-                Some(given) => Ok(Some(given.clone()?)),
-                None => Ok(None),
-            },
+            Pattern::MacroArg { index, .. } => {
+                macro_args
+                    .get(*index)
+                    .map(|given| given.clone())
+                    .transpose()
+            }
             Pattern::Var { .. }
             | Pattern::ConstBool { .. }
             | Pattern::ConstInt { .. }
