@@ -1,4 +1,4 @@
-ghost use Rattle.std.specs.Prelude.{◌≡◌, false, [], map, IfOk};
+ghost use Rattle.std.specs.Prelude.{◌≡◌, false, [], map, slice_get, IfOk};
 ghost use Rattle.std.specs.Option.{option_map};
 ghost use Rattle.isle_syntax.specs.PatternShape.{pattern_of, patterns_of};
 ghost use Rattle.isle_syntax.specs.Subject.{names_bound};
@@ -20,6 +20,16 @@ fn place_of(names: &[Ident], name: &Ident) -> Option<usize>
         }
     }
     None
+}
+
+/// A copy of the pattern for an argument of a template, or `None` where it is missing.
+fn given(macro_args: &[Pattern], index: usize) -> Result<Option<Pattern>, AllocError>
+    ensures { IfOk result (λ made. option_map pattern_of made ≡ slice_get (map pattern_of macro_args.now) index) }
+{
+    match macro_args.get(index) {
+        Some(pattern) => Ok(Some(pattern.clone()?)),
+        None => Ok(None),
+    }
 }
 
 impl Pattern {
@@ -153,12 +163,7 @@ impl Pattern {
                     pos: *pos,
                 }))
             }
-            Pattern::MacroArg { index, .. } => {
-                macro_args
-                    .get(*index)
-                    .map(|given| given.clone())
-                    .transpose()
-            }
+            Pattern::MacroArg { index, .. } => given(macro_args, *index),
             Pattern::Var { .. }
             | Pattern::ConstBool { .. }
             | Pattern::ConstInt { .. }
