@@ -63,4 +63,4 @@ pub mod RuleSteps
 pub mod BodyCalls
 pub mod Lets
 pub mod Chains
-pub mod Unbound
+pub mod MacroChains

@@ -487,7 +487,7 @@ impl Pattern {
 
     /// Whether a `MacroArg` stands in the pattern.
     #[cycle(has_macro_arg)]
-    #[tactic(auto, using(crate::proofs::PatternSizes::most_pattern_size, crate::proofs::Subjects::subject_size, crate::proofs::Subjects::subject_macro_arg, crate::proofs::Subjects::subject_is_no_binding))]
+    #[tactic(auto, using(crate::proofs::Subjects::subject_macro_arg, crate::proofs::Subjects::subject_is_no_binding))]
     pub fn has_macro_arg(&self) -> bool
         ensures { result ≡ has_macro_arg (pattern_of self.now) }
     {
@@ -495,8 +495,8 @@ impl Pattern {
             Pattern::Term { args, .. } => has_macro_args(args.as_slice()),
             Pattern::And { subpats, .. } => has_macro_args(subpats.as_slice()),
             Pattern::MacroArg { .. } => true,
+            Pattern::BindPattern { .. } => unreachable!(),
             Pattern::Var { .. }
-            | Pattern::BindPattern { .. }
             | Pattern::ConstBool { .. }
             | Pattern::ConstInt { .. }
             | Pattern::ConstPrim { .. }

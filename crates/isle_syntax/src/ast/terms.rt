@@ -39,8 +39,8 @@ fn hand_pattern<F: FnMut(Pos, &Ident)>(pattern: &Pattern, f: &mut F)
             hand_patterns(args.as_slice(), f);
         }
         Pattern::And { subpats, .. } => hand_patterns(subpats.as_slice(), f),
+        Pattern::BindPattern { .. } => unreachable!(),
         Pattern::Var { .. }
-        | Pattern::BindPattern { .. }
         | Pattern::ConstBool { .. }
         | Pattern::ConstInt { .. }
         | Pattern::ConstPrim { .. }
