@@ -64,3 +64,4 @@ pub mod BodyCalls
 pub mod Lets
 pub mod Chains
 pub mod MacroChains
+pub mod Unbound
