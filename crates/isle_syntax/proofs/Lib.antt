@@ -61,3 +61,4 @@ pub mod BodyCalls
 pub mod Lets
 pub mod Chains
 pub mod Unbound
+pub mod RuleOrder
