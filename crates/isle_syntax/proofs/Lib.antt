@@ -65,3 +65,4 @@ pub mod Lets
 pub mod Chains
 pub mod MacroChains
 pub mod Unbound
+pub mod RuleOrder

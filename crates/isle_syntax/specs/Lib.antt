@@ -47,3 +47,4 @@ pub mod Lookahead
 pub mod Parsing
 pub mod Places
 pub mod MacroArgs
+pub mod RuleOrder
