@@ -1,12 +1,12 @@
 -- A template of a chain, filled, is the chain around its filled subject; the template of a chain changes it only inside.
-use Rattle.std.proofs.Common.{◌≡◌, ℕ, List, [], ◌∷◌, Bool, true, false, Option, Some, None, if◌then◌else◌, refl, sym, ap, ◌∙◌}
+use Rattle.std.proofs.Common.{◌≡◌, List, [], ◌∷◌, false, Option, Some, None, refl, sym, ap, ◌∙◌}
 use Rattle.std.specs.Option.{option_map}
 use Rattle.isle_syntax.specs.declared.lexer.Pos.{Pos}
 use Rattle.isle_syntax.specs.declared.ast.Ident.{Ident}
 use Rattle.isle_syntax.specs.PatternTree.{PatternTree, pattern_var, pattern_bind, pattern_bool, pattern_int, pattern_prim, pattern_term, pattern_wildcard, pattern_and, pattern_macro_arg}
 use Rattle.isle_syntax.specs.Chain.{bound}
 use Rattle.isle_syntax.specs.Subject.{subject, names_bound}
-use Rattle.isle_syntax.specs.Macros.{first_place, is_wildcard, argument_for, template_tree, filled}
+use Rattle.isle_syntax.specs.Macros.{is_wildcard, template_tree, filled}
 
 unbound : (o : Option PatternTree) → o ≡ option_map (bound []) o
 unbound None = refl

@@ -8,7 +8,6 @@ use Rattle.isle_syntax.specs.declared.ast.Pattern.TheVariants as pattern
 use Rattle.isle_syntax.specs.declared.ast.BoxedPattern.TheDeep.{size-Pattern}
 use Rattle.isle_syntax.specs.PatternTree.{PatternTree, PatternTrees, pattern_var, pattern_bind, pattern_bool, pattern_int, pattern_prim, pattern_term, pattern_wildcard, pattern_and, pattern_macro_arg, pattern_height, pattern_heights}
 use Rattle.isle_syntax.specs.PatternShape.{pattern_of, patterns_of}
-use Rattle.isle_syntax.specs.PatternFalls.{pattern_falls}
 use Rattle.isle_syntax.specs.Trees.{has_macro_arg}
 use Rattle.isle_syntax.specs.Terms.{pattern_terms}
 use Rattle.isle_syntax.specs.Chain.{bound}
@@ -44,28 +43,41 @@ pub subject_size : (p q : Pattern) → pattern_of q ≡ subject (pattern_of p) �
 subject_size p q e =
     omega (arith, size_is p, size_is q, ap pattern_height e, subject_height (pattern_of p))
 
+-- a subject binds no name
+pub subject_alone : (t : PatternTree) → names_bound (subject t) ≡ []
+subject_alone (pattern_var _ _) = refl
+subject_alone (pattern_bind _ t _) = subject_alone t
+subject_alone (pattern_bool _ _) = refl
+subject_alone (pattern_int _ _ _) = refl
+subject_alone (pattern_prim _ _) = refl
+subject_alone (pattern_term _ _ _) = refl
+subject_alone (pattern_wildcard _) = refl
+subject_alone (pattern_and _ _) = refl
+subject_alone (pattern_macro_arg _ _) = refl
+
 pub subject_is_no_binding : (t : PatternTree) (x : Ident) (below : PatternTree) (p : Pos) → subject t ≡ pattern_bind x below p → ⊥
-subject_is_no_binding (pattern_var _ _) x below p e = cc
-subject_is_no_binding (pattern_bind _ t _) x below p e = subject_is_no_binding t x below p e
-subject_is_no_binding (pattern_bool _ _) x below p e = cc
-subject_is_no_binding (pattern_int _ _ _) x below p e = cc
-subject_is_no_binding (pattern_prim _ _) x below p e = cc
-subject_is_no_binding (pattern_term _ _ _) x below p e = cc
-subject_is_no_binding (pattern_wildcard _) x below p e = cc
-subject_is_no_binding (pattern_and _ _) x below p e = cc
-subject_is_no_binding (pattern_macro_arg _ _) x below p e = cc
+subject_is_no_binding t x below p e =
+    let none = subject_alone t in let some = ap names_bound e in cc
+
+-- what a binding has from the pattern that it binds, a chain has from its subject
+as_subject : {A : Type 0} (f : PatternTree → A) → ((x : Ident) (t : PatternTree) (p : Pos) → f (pattern_bind x t p) ≡ f t) → (t : PatternTree) → f t ≡ f (subject t)
+as_subject f through (pattern_var _ _) = refl
+as_subject f through (pattern_bind x t p) = through x t p ∙ as_subject f through t
+as_subject f through (pattern_bool _ _) = refl
+as_subject f through (pattern_int _ _ _) = refl
+as_subject f through (pattern_prim _ _) = refl
+as_subject f through (pattern_term _ _ _) = refl
+as_subject f through (pattern_wildcard _) = refl
+as_subject f through (pattern_and _ _) = refl
+as_subject f through (pattern_macro_arg _ _) = refl
 
 -- a numbered argument stands in a chain where one stands in its subject
 pub subject_macro_arg : (t : PatternTree) → has_macro_arg t ≡ has_macro_arg (subject t)
-subject_macro_arg (pattern_var _ _) = refl
-subject_macro_arg (pattern_bind _ t _) = subject_macro_arg t
-subject_macro_arg (pattern_bool _ _) = refl
-subject_macro_arg (pattern_int _ _ _) = refl
-subject_macro_arg (pattern_prim _ _) = refl
-subject_macro_arg (pattern_term _ _ _) = refl
-subject_macro_arg (pattern_wildcard _) = refl
-subject_macro_arg (pattern_and _ _) = refl
-subject_macro_arg (pattern_macro_arg _ _) = refl
+subject_macro_arg t = as_subject has_macro_arg (λ x s p. refl) t
+
+-- the terms of a chain are those of its subject
+pub subject_terms : (t : PatternTree) → pattern_terms t ≡ pattern_terms (subject t)
+subject_terms t = as_subject pattern_terms (λ x s p. refl) t
 
 -- the patterns below a subject are smaller than what is bound to it
 pub args_below : (p q : Pattern) (f : Ident) (args : PatternTrees) (pos : Pos) (ps : List Pattern) → pattern_of q ≡ subject (pattern_of p) → q ≡ pattern.Term f args pos → patterns_of ps ≡ args → most (λ x. size-Pattern x) ps < size-Pattern p
@@ -77,18 +89,6 @@ pub subpats_below : (p q : Pattern) (args : PatternTrees) (pos : Pos) (ps : List
 subpats_below p q args pos ps e is below =
     let whole : size-Pattern q ≡ size-Pattern (pattern.And args pos) = ap size-Pattern is in
     omega (arith, subject_size p q e, most_pattern_size ps, ap pattern_heights below)
-
--- the terms of a chain are those of its subject
-pub subject_terms : (t : PatternTree) → pattern_terms t ≡ pattern_terms (subject t)
-subject_terms (pattern_var _ _) = refl
-subject_terms (pattern_bind _ t _) = subject_terms t
-subject_terms (pattern_bool _ _) = refl
-subject_terms (pattern_int _ _ _) = refl
-subject_terms (pattern_prim _ _) = refl
-subject_terms (pattern_term _ _ _) = refl
-subject_terms (pattern_wildcard _) = refl
-subject_terms (pattern_and _ _) = refl
-subject_terms (pattern_macro_arg _ _) = refl
 
 -- a pattern is its subject with its names around it
 pub bound_subject : (t : PatternTree) → bound (names_bound t) (subject t) ≡ t
@@ -106,18 +106,6 @@ bound_subject (pattern_macro_arg _ _) = refl
 pub same_where_subjects : (s t : PatternTree) → names_bound s ≡ names_bound t → subject s ≡ subject t → s ≡ t
 same_where_subjects s t names subjects =
     sym (bound_subject s) ∙ ap (λ xs. bound xs (subject s)) names ∙ ap (bound (names_bound t)) subjects ∙ bound_subject t
-
--- a subject binds no name
-pub subject_alone : (t : PatternTree) → names_bound (subject t) ≡ []
-subject_alone (pattern_var _ _) = refl
-subject_alone (pattern_bind _ t _) = subject_alone t
-subject_alone (pattern_bool _ _) = refl
-subject_alone (pattern_int _ _ _) = refl
-subject_alone (pattern_prim _ _) = refl
-subject_alone (pattern_term _ _ _) = refl
-subject_alone (pattern_wildcard _) = refl
-subject_alone (pattern_and _ _) = refl
-subject_alone (pattern_macro_arg _ _) = refl
 
 -- a name that is taken from a chain is the next one bound
 pub names_pushed : (xs ys : List (Ident × Pos)) (x : Ident) (p : Pos) (below t : PatternTree) → t ≡ below → ys ≡ xs ++ (x, p) ∷ [] → ys ++ names_bound t ≡ xs ++ names_bound (pattern_bind x below p)

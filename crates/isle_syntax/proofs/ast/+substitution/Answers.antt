@@ -1,9 +1,7 @@
-use Rattle.std.proofs.Common.{◌≡◌, ◌∷◌, [], map, Some, None, ap, ◌∙◌, arith}
+use Rattle.std.proofs.Common.{◌∷◌, [], map, Some, None, ap, ◌∙◌, arith}
 use Rattle.std.proofs.lemmas.List.{map-append}
-use Rattle.std.specs.Option.{option_map}
 use Rattle.isle_syntax.specs.PatternShape.{pattern_of}
 use Rattle.isle_syntax.specs.Chain.{bound}
-use Rattle.isle_syntax.specs.Macros.{filled}
 use Rattle.isle_syntax.proofs.Macros.{filled_start, filled_more, filled_stops, filled_done}
 use Rattle.isle_syntax.proofs.MacroChains.{chain_filled}
 use Rattle.isle_syntax.proofs.ast.+substitution.Goals as goal

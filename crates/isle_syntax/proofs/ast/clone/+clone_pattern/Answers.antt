@@ -1,7 +1,6 @@
-use Rattle.std.proofs.Common.{◌≡◌, ◌∙◌, ap, rules, Ok, Err, Result, MatchResult}
+use Rattle.std.proofs.Common.{◌∙◌, ap, rules, Ok, Err, Result, MatchResult}
 use Rattle.isle_syntax.specs.PatternShape.{pattern_of}
 use Rattle.isle_syntax.proofs.Subjects.{cloned_chain}
-use Rattle.isle_syntax.specs.declared.ast.Pattern.{Pattern}
 use Rattle.std.specs.Result.{IfOk}
 use Rattle.isle_syntax.proofs.ast.clone.+clone_pattern.Goals as goal
 
