@@ -3,7 +3,7 @@
 PREFIX ?= $(HOME)/.local
 PROGRAM = crates/islec/out/islec
 
-.PHONY: build run test install replay
+.PHONY: build run test install replay bench
 
 # Proves the program and builds it. `rt run` answers a query file too, here an empty one.
 build:
@@ -20,3 +20,8 @@ install: build
 
 replay: build
 	python3 tools/replay.py $(PROGRAM) tests/vectors/*.json
+
+# Times the reading of generated rule files.
+bench:
+	cd crates/isle_bench && rt run < stdin
+	python3 tools/bench.py crates/isle_bench/out/isle_bench

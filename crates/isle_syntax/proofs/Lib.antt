@@ -1,8 +1,11 @@
 pub mod PatternSizes
 pub mod ExprSizes
 pub mod ItemSizes
+pub mod Subjects
 pub mod TreeShapes
 pub mod Equality
+pub mod DefEquality
+pub mod Orders
 pub mod Macros
 pub mod Terms
 pub mod WithoutPos
@@ -59,3 +62,7 @@ pub mod RightPlaces
 pub mod RuleSteps
 pub mod BodyCalls
 pub mod Lets
+pub mod Chains
+pub mod MacroChains
+pub mod Unbound
+pub mod RuleOrder

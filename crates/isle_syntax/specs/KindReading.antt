@@ -4,9 +4,10 @@ use Rattle.isle_syntax.specs.declared.kind.Kind.{Kind}
 use Rattle.isle_syntax.specs.declared.kind.Kind.TheVariants.{End, Open, Close, At, Int, True, False, Const, Wildcard, Name, Other}
 use Rattle.isle_syntax.specs.declared.ast.Ident.{Ident}
 use Rattle.isle_syntax.specs.Tokens.{Placed}
+use Rattle.isle_syntax.specs.KindOf.{kind_at}
 use Rattle.isle_syntax.specs.Grammar.{bits_of, is_large}
 use Rattle.isle_syntax.specs.Readers.{done, fault, Reader, after, read_map, after_at, integer, at_place, any_symbol}
-use Rattle.isle_syntax.specs.PatternTree.{PatternTree, pattern_bool, pattern_int, pattern_prim, pattern_wildcard}
+use Rattle.isle_syntax.specs.PatternTree.{PatternTree, pattern_var, pattern_bool, pattern_int, pattern_prim, pattern_wildcard}
 use Rattle.isle_syntax.specs.ExprTree.{ExprTree, expr_var, expr_bool, expr_int, expr_prim}
 use Rattle.isle_syntax.specs.ItemTree.{ItemTree, item_symbol, item_at}
 use Rattle.isle_syntax.specs.TreeReading.{ident, after_dollar, literal_item, item_list_reader, named, pattern, pattern_list, expr_list}
@@ -47,6 +48,15 @@ pattern_on d Const ts = read_map (λ x. pattern_prim (ident x.1 (after_dollar x.
 pattern_on d Wildcard ts = read_map (λ x. pattern_wildcard x.1) (any_symbol ts)
 pattern_on d Name ts = after (any_symbol ts) (named_by (pattern d))
 pattern_on d Other ts = fault ts
+
+-- a pattern that begins with a token of this kind, where a name is a variable even with an `@` behind it
+abbrev pub unbound_on : ℕ → Kind → Reader PatternTree
+unbound_on d Name ts = read_map (λ x. pattern_var x x.1) (any_symbol ts)
+unbound_on d _ ts = pattern d ts
+
+-- a pattern up to an `@`
+abbrev pub unbound : ℕ → Reader PatternTree
+unbound d ts = unbound_on d (kind_at ts) ts
 
 -- an expression that begins with a token of this kind
 abbrev pub expr_on : ℕ → Kind → Reader ExprTree

@@ -11,12 +11,16 @@ pub mod ItemTree
 pub mod ItemCode
 pub mod ItemShape
 pub mod ItemFalls
+pub mod Chain
 pub mod Trees
+pub mod Subject
 pub mod Macros
 pub mod Terms
 pub mod WithoutPos
 pub mod Verdict
 pub mod Equality
+pub mod Definitions
+pub mod Orders
 pub mod Ends
 pub mod Tokens
 pub mod Unread
@@ -43,3 +47,4 @@ pub mod Lookahead
 pub mod Parsing
 pub mod Places
 pub mod MacroArgs
+pub mod RuleOrder

@@ -8,11 +8,16 @@ ghost use Rattle.isle_syntax.specs.ExprShape.{expr_of, exprs_of, lets_of};
 ghost use Rattle.isle_syntax.specs.ItemTree.{item_pos};
 ghost use Rattle.isle_syntax.specs.ItemShape.{item_of, items_of};
 
+mod chain;
 mod clone;
 mod eq;
 mod macros;
 mod positions;
 mod terms;
+pub(crate) mod wrap;
+
+#[cfg(test)]
+mod tests;
 
 use crate::lexer::Pos;
 use crate::text::{Seq, Text};
@@ -20,7 +25,7 @@ use std::alloc::{AllocError, Global};
 use std::marker::Model;
 
 /// A definition of a source file. Its position is the first token after its keyword.
-#[derive(Debug, PartialEq, Eq, Drop)]
+#[derive(Debug, Drop)]
 pub enum Def {
     TypeDef(Type),
     Decl(Decl),
@@ -39,7 +44,7 @@ pub struct Pragma {
 }
 
 /// A name and the position of its token.
-#[derive(Debug, Clone, PartialEq, Eq, Drop)]
+#[derive(Debug, Clone, PartialEq, Eq, PartialOrd, Ord, Hash, Drop)]
 pub struct Ident(pub Text, pub Pos);
 
 /// The definition of a type.
@@ -482,15 +487,15 @@ impl Pattern {
 
     /// Whether a `MacroArg` stands in the pattern.
     #[cycle(has_macro_arg)]
-    #[tactic(auto, using(crate::proofs::PatternSizes::most_pattern_size))]
+    #[tactic(auto, using(crate::proofs::Subjects::subject_macro_arg, crate::proofs::Subjects::subject_is_no_binding))]
     pub fn has_macro_arg(&self) -> bool
         ensures { result ≡ has_macro_arg (pattern_of self.now) }
     {
-        match self {
-            Pattern::BindPattern { subpat, .. } => subpat.get().has_macro_arg(),
+        match self.subject() {
             Pattern::Term { args, .. } => has_macro_args(args.as_slice()),
             Pattern::And { subpats, .. } => has_macro_args(subpats.as_slice()),
             Pattern::MacroArg { .. } => true,
+            Pattern::BindPattern { .. } => unreachable!(),
             Pattern::Var { .. }
             | Pattern::ConstBool { .. }
             | Pattern::ConstInt { .. }

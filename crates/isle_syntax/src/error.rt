@@ -1,7 +1,9 @@
 ghost use Rattle.std.specs.Prelude.{◌≡◌, ◌<◌, ◌+◌};
 
+mod builder;
 mod print;
 
+pub use crate::error::builder::ErrorsBuilder;
 use crate::files::Files;
 use crate::lexer::Pos;
 use crate::text::{Seq, Text};

@@ -1,8 +1,10 @@
-ghost use Rattle.std.specs.Prelude.{◌≡◌, IfOk};
+ghost use Rattle.std.specs.Prelude.{◌≡◌, [], IfOk};
 ghost use Rattle.isle_syntax.specs.PatternShape.{pattern_of, patterns_of};
 ghost use Rattle.isle_syntax.specs.ExprShape.{expr_of, exprs_of, lets_of};
 ghost use Rattle.isle_syntax.specs.ItemShape.{item_of, items_of};
+ghost use Rattle.isle_syntax.specs.Subject.{names_bound};
 
+use crate::ast::wrap::wrap;
 use crate::ast::{
     BoxedExpr, BoxedPattern, Def, Expr, Exprs, KeptItem, KeptItems, LetDef, LetDefs, Pattern,
     Patterns, TypeValue, Variant,
@@ -62,46 +64,59 @@ impl Clone for Pattern {
     ghost is_clone = { λ x y. y ≡ x };
 
     #[cycle(clone_pattern)]
-    #[tactic(auto, using(crate::proofs::PatternSizes::most_pattern_size))]
+    #[tactic(auto, using(crate::proofs::Subjects::subject_size, crate::proofs::Subjects::subject_alone, crate::proofs::Subjects::cloned_chain))]
     fn clone(&self) -> Result<Pattern, AllocError> {
         match self {
-            Pattern::Var { var, pos } => Ok(Pattern::Var {
-                var: var.clone()?,
-                pos: *pos,
-            }),
-            Pattern::BindPattern { var, subpat, pos } => Ok(Pattern::BindPattern {
-                var: var.clone()?,
-                subpat: BoxedPattern::new(subpat.allocator(), subpat.get().clone()?)?,
-                pos: *pos,
-            }),
-            Pattern::ConstBool { val, pos } => Ok(Pattern::ConstBool {
-                val: *val,
-                pos: *pos,
-            }),
-            Pattern::ConstInt { val, big, pos } => Ok(Pattern::ConstInt {
-                val: *val,
-                big: *big,
-                pos: *pos,
-            }),
-            Pattern::ConstPrim { val, pos } => Ok(Pattern::ConstPrim {
-                val: val.clone()?,
-                pos: *pos,
-            }),
-            Pattern::Term { sym, args, pos } => Ok(Pattern::Term {
-                sym: sym.clone()?,
-                args: Patterns::new(clone_patterns(args.allocator(), args.as_slice())?),
-                pos: *pos,
-            }),
-            Pattern::Wildcard { pos } => Ok(Pattern::Wildcard { pos: *pos }),
-            Pattern::And { subpats, pos } => Ok(Pattern::And {
-                subpats: Patterns::new(clone_patterns(subpats.allocator(), subpats.as_slice())?),
-                pos: *pos,
-            }),
-            Pattern::MacroArg { index, pos } => Ok(Pattern::MacroArg {
-                index: *index,
-                pos: *pos,
-            }),
+            Pattern::BindPattern { subpat, .. } => {
+                let alloc = subpat.allocator();
+                let names = self.names_bound(alloc)?;
+                wrap(alloc, names, clone_subject(self.subject())?)
+            }
+            _ => clone_subject(self),
         }
+    }
+}
+
+/// A copy of a pattern that is no binding.
+#[cycle(clone_pattern)]
+#[tactic(auto, using(crate::proofs::PatternSizes::most_pattern_size))]
+fn clone_subject(pattern: &Pattern) -> Result<Pattern, AllocError>
+    requires { names_bound (pattern_of pattern.now) ≡ [] }
+    ensures { IfOk result (λ new. new ≡ pattern.now) }
+{
+    match pattern {
+        Pattern::Var { var, pos } => Ok(Pattern::Var {
+            var: var.clone()?,
+            pos: *pos,
+        }),
+        Pattern::BindPattern { .. } => unreachable!(),
+        Pattern::ConstBool { val, pos } => Ok(Pattern::ConstBool {
+            val: *val,
+            pos: *pos,
+        }),
+        Pattern::ConstInt { val, big, pos } => Ok(Pattern::ConstInt {
+            val: *val,
+            big: *big,
+            pos: *pos,
+        }),
+        Pattern::ConstPrim { val, pos } => Ok(Pattern::ConstPrim {
+            val: val.clone()?,
+            pos: *pos,
+        }),
+        Pattern::Term { sym, args, pos } => Ok(Pattern::Term {
+            sym: sym.clone()?,
+            args: Patterns::new(clone_patterns(args.allocator(), args.as_slice())?),
+            pos: *pos,
+        }),
+        Pattern::Wildcard { pos } => Ok(Pattern::Wildcard { pos: *pos }),
+        Pattern::And { subpats, pos } => Ok(Pattern::And {
+            subpats: Patterns::new(clone_patterns(subpats.allocator(), subpats.as_slice())?),
+            pos: *pos,
+        }),
+        Pattern::MacroArg { index, pos } => Ok(Pattern::MacroArg {
+            index: *index,
+            pos: *pos,
+        }),
     }
 }
 

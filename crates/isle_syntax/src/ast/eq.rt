@@ -1,34 +1,68 @@
-ghost use Rattle.std.specs.Prelude.{◌≡◌, ◌↔◌, IsTrue, true};
+ghost use Rattle.std.specs.Prelude.{◌≡◌, ◌↔◌, IsTrue, true, []};
 ghost use Rattle.isle_syntax.specs.PatternShape.{pattern_of, patterns_of};
+ghost use Rattle.isle_syntax.specs.ExprTree.{expr_height};
 ghost use Rattle.isle_syntax.specs.ExprShape.{expr_of, exprs_of, lets_of};
 ghost use Rattle.isle_syntax.specs.Trees.{is_leaf};
+ghost use Rattle.isle_syntax.specs.Subject.{names_bound};
 ghost use Rattle.isle_syntax.specs.Equality.{let_of};
 ghost use Rattle.isle_syntax.specs.ItemShape.{item_of, items_of};
 
 use crate::ast::{
-    BoxedExpr, BoxedPattern, Expr, Exprs, KeptItem, KeptItems, LetDef, LetDefs, Pattern, Patterns,
+    BoxedExpr, BoxedPattern, Def, Expr, Exprs, KeptItem, KeptItems, LetDef, LetDefs, Pattern,
+    Patterns,
 };
 use crate::text::Seq;
 
+/// Whether two chains bind the same names at the same positions.
+fn have_same_names(a: &Pattern, b: &Pattern) -> bool
+    ensures { IsTrue result ↔ (names_bound (pattern_of a.now) ≡ names_bound (pattern_of b.now)) }
+{
+    let mut s = a;
+    let mut t = b;
+    loop {
+        match (s, t) {
+            (
+                Pattern::BindPattern {
+                    var: x,
+                    subpat: c,
+                    pos: p,
+                },
+                Pattern::BindPattern {
+                    var: y,
+                    subpat: d,
+                    pos: q,
+                },
+            ) => {
+                if x != y || *p != *q {
+                    return false;
+                }
+                s = c.get();
+                t = d.get();
+            }
+            (Pattern::BindPattern { .. }, _) => return false,
+            (_, Pattern::BindPattern { .. }) => return false,
+            _ => return true,
+        }
+    }
+}
+
 /// Whether two patterns are the same, positions included.
 #[cycle(same_pattern)]
-#[tactic(auto, using(crate::proofs::PatternSizes::most_pattern_size))]
+#[tactic(auto, using(crate::proofs::Subjects::subject_size, crate::proofs::Subjects::subject_alone, crate::proofs::Subjects::same_where_subjects))]
 fn is_same_pattern(a: &Pattern, b: &Pattern) -> bool
     ensures { IsTrue result ↔ (pattern_of a.now ≡ pattern_of b.now) }
 {
+    have_same_names(a, b) && is_same_subject(a.subject(), b.subject())
+}
+
+/// Whether two patterns are the same, of which the first is no binding.
+#[cycle(same_pattern)]
+#[tactic(auto, using(crate::proofs::PatternSizes::most_pattern_size))]
+fn is_same_subject(a: &Pattern, b: &Pattern) -> bool
+    requires { names_bound (pattern_of a.now) ≡ [] }
+    ensures { IsTrue result ↔ (pattern_of a.now ≡ pattern_of b.now) }
+{
     match (a, b) {
-        (
-            Pattern::BindPattern {
-                var: x,
-                subpat: s,
-                pos: p,
-            },
-            Pattern::BindPattern {
-                var: y,
-                subpat: t,
-                pos: q,
-            },
-        ) => { x == y && is_same_pattern(s.get(), t.get()) && *p == *q }
         (
             Pattern::Term {
                 sym: x,
@@ -186,6 +220,15 @@ fn is_same_expr(a: &Expr, b: &Expr) -> bool
         ) => {
             are_same_lets(c.as_slice(), d.as_slice()) && is_same_expr(s.get(), t.get()) && *p == *q
         }
+        _ => is_same_leaf_expr(a, b),
+    }
+}
+
+/// Whether two expressions are the same and none stands below them.
+fn is_same_leaf_expr(a: &Expr, b: &Expr) -> bool
+    ensures { IsTrue result ↔ ((expr_of a.now ≡ expr_of b.now) × (expr_height (expr_of a.now) ≡ 0)) }
+{
+    match (a, b) {
         (Expr::Var { name: x, pos: p }, Expr::Var { name: y, pos: q }) => x == y && *p == *q,
         (Expr::ConstBool { val: m, pos: p }, Expr::ConstBool { val: n, pos: q }) => *m == *n
             && *p == *q,
@@ -443,4 +486,47 @@ impl<T: Eq> Eq for Seq<T> {
     ghost use Rattle.std.specs.Cmp.Rules.{comparing};
 
     ghost laws = { Prim.search (comparing, rules) };
+}
+
+impl Def {
+    ghost use Rattle.isle_syntax.specs.Definitions.{same_def};
+
+    /// Whether two definitions are the same, positions included.
+    fn is_same(&self, other: &Def) -> bool
+        ensures { result ≡ same_def self.now other.now }
+    {
+        match (self, other) {
+            (Def::TypeDef(a), Def::TypeDef(b)) => a == b,
+            (Def::Decl(a), Def::Decl(b)) => a == b,
+            (Def::Rule(a), Def::Rule(b)) => a == b,
+            (Def::Extractor(a), Def::Extractor(b)) => a == b,
+            (Def::Extern(a), Def::Extern(b)) => a == b,
+            (Def::Converter(a), Def::Converter(b)) => a == b,
+            (Def::Pragma(a), Def::Pragma(b)) => a == b,
+            (Def::Kept(a), Def::Kept(b)) => a == b,
+            _ => false,
+        }
+    }
+}
+
+impl PartialEq for Def {
+    ghost use Rattle.std.specs.Cmp.{partial_equiv_from_equiv};
+    ghost use Rattle.isle_syntax.specs.Definitions.{same_def, same_def-equiv};
+
+    ghost eq = { same_def };
+
+    ghost laws = { partial_equiv_from_equiv same_def-equiv };
+
+    fn eq(&self, other: &Def) -> bool
+        ensures answer { result ≡ same_def self.now other.now }
+        ensures same { IsTrue result ↔ (self.now ≡ other.now) }
+    {
+        self.is_same(other)
+    }
+}
+
+impl Eq for Def {
+    ghost use Rattle.isle_syntax.specs.Definitions.{same_def-equiv};
+
+    ghost laws = { same_def-equiv };
 }

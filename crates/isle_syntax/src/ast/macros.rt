@@ -1,10 +1,12 @@
-ghost use Rattle.std.specs.Prelude.{◌≡◌, false, map, IfOk};
+ghost use Rattle.std.specs.Prelude.{◌≡◌, false, [], map, slice_get, IfOk};
 ghost use Rattle.std.specs.Option.{option_map};
 ghost use Rattle.isle_syntax.specs.PatternShape.{pattern_of, patterns_of};
+ghost use Rattle.isle_syntax.specs.Subject.{names_bound};
 ghost use Rattle.isle_syntax.specs.Trees.{has_macro_arg, has_macro_args};
 ghost use Rattle.isle_syntax.specs.Macros.{first_place, is_wildcard, argument_for, template_tree, template_trees, filled, all_filled};
 
-use crate::ast::{BoxedPattern, Ident, Pattern, Patterns};
+use crate::ast::wrap::wrap;
+use crate::ast::{Ident, Pattern, Patterns};
 use crate::lexer::Pos;
 use std::alloc::{AllocError, Global};
 
@@ -18,6 +20,16 @@ fn place_of(names: &[Ident], name: &Ident) -> Option<usize>
         }
     }
     None
+}
+
+/// A copy of the pattern for an argument of a template, or `None` where it is missing.
+fn given(macro_args: &[Pattern], index: usize) -> Result<Option<Pattern>, AllocError>
+    ensures { IfOk result (λ made. option_map pattern_of made ≡ slice_get (map pattern_of macro_args.now) index) }
+{
+    match macro_args.get(index) {
+        Some(pattern) => Ok(Some(pattern.clone()?)),
+        None => Ok(None),
+    }
 }
 
 impl Pattern {
@@ -44,7 +56,6 @@ impl Pattern {
     /// The template of this pattern: an argument stands in it for each variable, and each binding of a name to a
     /// wildcard, whose name is listed.
     #[cycle(template)]
-    #[tactic(auto, using(crate::proofs::PatternSizes::most_pattern_size))]
     pub fn make_macro_template(
         &self,
         alloc: Global,
@@ -53,19 +64,33 @@ impl Pattern {
         requires { has_macro_arg (pattern_of self.now) ≡ false }
         ensures { IfOk result (λ made. pattern_of made ≡ template_tree macro_args.now (pattern_of self.now)) }
     {
+        let mut names = Vec::new(alloc);
+        let mut at = self;
+        while let Pattern::BindPattern { var, subpat, pos } = at {
+            if subpat.get().is_wildcard() {
+                return wrap(alloc, names, at.argument(var, *pos, macro_args)?);
+            }
+            names.push((var.clone()?, *pos))?;
+            at = subpat.get();
+        }
+        wrap(alloc, names, at.make_subject_template(alloc, macro_args)?)
+    }
+
+    /// The template of a pattern that is no binding.
+    #[cycle(template)]
+    #[tactic(auto, using(crate::proofs::PatternSizes::most_pattern_size))]
+    fn make_subject_template(
+        &self,
+        alloc: Global,
+        macro_args: &[Ident],
+    ) -> Result<Pattern, AllocError>
+        requires free { has_macro_arg (pattern_of self.now) ≡ false }
+        requires no_binding { names_bound (pattern_of self.now) ≡ [] }
+        ensures { IfOk result (λ made. pattern_of made ≡ template_tree macro_args.now (pattern_of self.now)) }
+    {
         match self {
             Pattern::Var { var, pos } => self.argument(var, *pos, macro_args),
-            Pattern::BindPattern { var, subpat, pos } => {
-                if subpat.get().is_wildcard() {
-                    return self.argument(var, *pos, macro_args);
-                }
-                let below = subpat.get().make_macro_template(alloc, macro_args)?;
-                Ok(Pattern::BindPattern {
-                    var: var.clone()?,
-                    subpat: BoxedPattern::new(alloc, below)?,
-                    pos: *pos,
-                })
-            }
+            Pattern::BindPattern { .. } => unreachable!(),
             Pattern::Term { sym, args, pos } => Ok(Pattern::Term {
                 sym: sym.clone()?,
                 args: Patterns::new(make_macro_templates(alloc, args.as_slice(), macro_args)?),
@@ -89,7 +114,7 @@ impl Pattern {
 
     /// This template with the patterns for its arguments, or `None` where an argument's pattern is missing.
     #[cycle(substitution)]
-    #[tactic(auto, using(crate::proofs::PatternSizes::most_pattern_size))]
+    #[tactic(auto, using(crate::proofs::Subjects::subject_size, crate::proofs::Subjects::subject_alone))]
     pub fn subst_macro_args(
         &self,
         alloc: Global,
@@ -98,17 +123,27 @@ impl Pattern {
         ensures { IfOk result (λ made. option_map pattern_of made
             ≡ filled (map pattern_of macro_args.now) (pattern_of self.now)) }
     {
+        let Some(made) = self.subject().subst_subject(alloc, macro_args)? else {
+            return Ok(None);
+        };
+        let names = self.names_bound(alloc)?;
+        Ok(Some(wrap(alloc, names, made)?))
+    }
+
+    /// This template, which is no binding, with the patterns for its arguments.
+    #[cycle(substitution)]
+    #[tactic(auto, using(crate::proofs::PatternSizes::most_pattern_size))]
+    fn subst_subject(
+        &self,
+        alloc: Global,
+        macro_args: &[Pattern],
+    ) -> Result<Option<Pattern>, AllocError>
+        requires { names_bound (pattern_of self.now) ≡ [] }
+        ensures { IfOk result (λ made. option_map pattern_of made
+            ≡ filled (map pattern_of macro_args.now) (pattern_of self.now)) }
+    {
         match self {
-            Pattern::BindPattern { var, subpat, pos } => {
-                let Some(below) = subpat.get().subst_macro_args(alloc, macro_args)? else {
-                    return Ok(None);
-                };
-                Ok(Some(Pattern::BindPattern {
-                    var: var.clone()?,
-                    subpat: BoxedPattern::new(alloc, below)?,
-                    pos: *pos,
-                }))
-            }
+            Pattern::BindPattern { .. } => unreachable!(),
             Pattern::Term { sym, args, pos } => {
                 let Some(args) = subst_all(alloc, args.as_slice(), macro_args)? else {
                     return Ok(None);
@@ -128,10 +163,7 @@ impl Pattern {
                     pos: *pos,
                 }))
             }
-            Pattern::MacroArg { index, .. } => match macro_args.get(*index) {
-                Some(given) => Ok(Some(given.clone()?)),
-                None => Ok(None),
-            },
+            Pattern::MacroArg { index, .. } => given(macro_args, *index),
             Pattern::Var { .. }
             | Pattern::ConstBool { .. }
             | Pattern::ConstInt { .. }

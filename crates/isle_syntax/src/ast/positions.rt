@@ -1,13 +1,15 @@
-ghost use Rattle.std.specs.Prelude.{◌≡◌, map, IfOk};
+ghost use Rattle.std.specs.Prelude.{◌≡◌, map, IfOk, []};
 ghost use Rattle.isle_syntax.specs.PatternShape.{pattern_of, patterns_of};
+ghost use Rattle.isle_syntax.specs.Subject.{names_bound};
 ghost use Rattle.isle_syntax.specs.ExprShape.{expr_of, exprs_of, lets_of};
 ghost use Rattle.isle_syntax.specs.ItemShape.{item_of, items_of};
 ghost use Rattle.isle_syntax.specs.WithoutPos.{ident_without_pos, pattern_tree_without_pos, pattern_trees_without_pos, pattern_without_pos, expr_tree_without_pos, expr_trees_without_pos, let_trees_without_pos, expr_without_pos, item_tree_without_pos, item_trees_without_pos, struct_field_without_pos, tuple_field_without_pos, fields_without_pos, variant_without_pos, type_value_without_pos, type_without_pos, decl_without_pos, iflet_without_pos, rule_without_pos, extractor_without_pos, extern_without_pos, converter_without_pos, kept_without_pos, def_without_pos};
 
+use crate::ast::wrap::wrap;
 use crate::ast::{
-    BoxedExpr, BoxedPattern, Converter, Decl, Def, Expr, Exprs, Extern, Extractor, Fields, Ident,
-    IfLet, Kept, KeptItem, KeptItems, LetDef, LetDefs, Pattern, Patterns, Rule, StructField,
-    StructFields, TupleField, TupleFields, Type, TypeValue, Variant,
+    BoxedExpr, Converter, Decl, Def, Expr, Exprs, Extern, Extractor, Fields, Ident, IfLet, Kept,
+    KeptItem, KeptItems, LetDef, LetDefs, Pattern, Patterns, Rule, StructField, StructFields,
+    TupleField, TupleFields, Type, TypeValue, Variant,
 };
 use crate::lexer::Pos;
 use crate::text::Seq;
@@ -23,8 +25,22 @@ impl Ident {
 }
 
 #[cycle(pattern_positions)]
-#[tactic(auto, using(crate::proofs::WithoutPos::most_pattern_weight))]
 fn clear_pattern(alloc: Global, pattern: Pattern) -> Result<Pattern, AllocError>
+    ensures { IfOk result (λ new. pattern_of new ≡ pattern_tree_without_pos (pattern_of pattern)) }
+{
+    let mut names = Vec::new(alloc);
+    let mut at = pattern;
+    while let Pattern::BindPattern { var, subpat, .. } = at {
+        names.push((var.without_pos(), Pos::default()))?;
+        at = subpat.into_inner();
+    }
+    wrap(alloc, names, clear_subject(alloc, at)?)
+}
+
+#[cycle(pattern_positions)]
+#[tactic(auto, using(crate::proofs::WithoutPos::most_pattern_weight))]
+fn clear_subject(alloc: Global, pattern: Pattern) -> Result<Pattern, AllocError>
+    requires { names_bound (pattern_of pattern) ≡ [] }
     ensures { IfOk result (λ new. pattern_of new ≡ pattern_tree_without_pos (pattern_of pattern)) }
 {
     let pos = Pos::default();
@@ -33,14 +49,7 @@ fn clear_pattern(alloc: Global, pattern: Pattern) -> Result<Pattern, AllocError>
             var: var.without_pos(),
             pos,
         }),
-        Pattern::BindPattern { var, subpat, .. } => {
-            let below = clear_pattern(alloc, subpat.into_inner())?;
-            Ok(Pattern::BindPattern {
-                var: var.without_pos(),
-                subpat: BoxedPattern::new(alloc, below)?,
-                pos,
-            })
-        }
+        Pattern::BindPattern { .. } => unreachable!(),
         Pattern::ConstBool { val, .. } => Ok(Pattern::ConstBool { val, pos }),
         Pattern::ConstInt { val, big, .. } => Ok(Pattern::ConstInt { val, big, pos }),
         Pattern::ConstPrim { val, .. } => Ok(Pattern::ConstPrim {

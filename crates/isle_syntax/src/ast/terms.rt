@@ -27,19 +27,19 @@ fn hand_term<F: FnMut(Pos, &Ident)>(pos: Pos, sym: &Ident, f: &mut F)
 
 /// Hands each term of a pattern to `f`.
 #[cycle(pattern_terms)]
-#[tactic(auto, using(crate::proofs::PatternSizes::most_pattern_size))]
+#[tactic(auto, using(crate::proofs::Subjects::subject_terms, crate::proofs::Subjects::subject_is_no_binding))]
 fn hand_pattern<F: FnMut(Pos, &Ident)>(pattern: &Pattern, f: &mut F)
     requires { F.IsAlwaysCallable f.old }
     ensures callable { F.IsAlwaysCallable f.new }
     ensures called { FoldsTo (CalledAtTerm F.FnMut) f.old (pattern_terms (pattern_of pattern.now)) f.new }
 {
-    match pattern {
-        Pattern::BindPattern { subpat, .. } => hand_pattern(subpat.get(), f),
+    match pattern.subject() {
         Pattern::Term { sym, args, pos } => {
             hand_term(*pos, sym, f);
             hand_patterns(args.as_slice(), f);
         }
         Pattern::And { subpats, .. } => hand_patterns(subpats.as_slice(), f),
+        Pattern::BindPattern { .. } => unreachable!(),
         Pattern::Var { .. }
         | Pattern::ConstBool { .. }
         | Pattern::ConstInt { .. }

@@ -1,16 +1,17 @@
 ghost use Rattle.std.specs.Prelude.{◌≡◌, map, IfOk, IfErr};
 ghost use Rattle.isle_syntax.specs.Spelt.{names};
 ghost use Rattle.isle_syntax.specs.Grammar.{bits_of, is_large};
-ghost use Rattle.isle_syntax.specs.PatternTree.{pattern_bool, pattern_int, pattern_prim, pattern_wildcard};
-ghost use Rattle.isle_syntax.specs.KindReading.{named_by};
+ghost use Rattle.isle_syntax.specs.PatternTree.{pattern_var, pattern_bool, pattern_int, pattern_prim, pattern_wildcard};
+ghost use Rattle.isle_syntax.specs.KindReading.{unbound};
 ghost use Rattle.isle_syntax.specs.PatternShape.{pattern_of};
 ghost use Rattle.isle_syntax.specs.Parsing.{Gives, NoToken, IsKnown};
-ghost use Rattle.isle_syntax.specs.Readers.{after, read_map, any_symbol, integer, symbol_of, rest_of};
+ghost use Rattle.isle_syntax.specs.Readers.{read_map, any_symbol, integer, symbol_of, rest_of};
 ghost use Rattle.isle_syntax.specs.TreeReading.{is_head, pattern, pattern_list};
 ghost use Rattle.isle_syntax.specs.DefReading.{constant};
 
 use crate::Refusal;
-use crate::ast::{BoxedPattern, Ident, Pattern, Patterns};
+use crate::ast::wrap::wrap;
+use crate::ast::{Ident, Pattern, Patterns};
 use crate::error::Error;
 use crate::kind::Kind;
 use crate::lexer::Token;
@@ -18,10 +19,29 @@ use crate::parser::Parser;
 use crate::symbol::is_ident;
 
 impl<'src> Parser<'src> {
-    /// A pattern.
+    /// A pattern, behind the names that it is bound to.
     #[cycle(pattern)]
     pub(crate) fn parse_pattern(&mut self, room: usize) -> Result<Pattern, Refusal<Error>>
         ensures { Gives pattern_of self.old self.new result (pattern room self.old.left) }
+    {
+        let mut names = Vec::new(self.allocator());
+        'names: loop {
+            match self.parse_unbound(room)? {
+                Pattern::Var { var, pos } => {
+                    if !self.take_at()? {
+                        return Ok(wrap(self.allocator(), names, Pattern::Var { var, pos })?);
+                    }
+                    names.push((var, pos))?;
+                }
+                inner => return Ok(wrap(self.allocator(), names, inner)?),
+            }
+        }
+    }
+
+    /// A pattern that is bound to no name. A name is a variable.
+    #[cycle(pattern)]
+    fn parse_unbound(&mut self, room: usize) -> Result<Pattern, Refusal<Error>>
+        ensures { Gives pattern_of self.old self.new result (unbound room self.old.left) }
     {
         match self.kind()? {
             Kind::Open => self.parse_pattern_list(room),
@@ -30,7 +50,7 @@ impl<'src> Parser<'src> {
             Kind::False => self.parse_pattern_bool(false),
             Kind::Const => self.parse_pattern_const(),
             Kind::Wildcard => self.parse_pattern_wildcard(),
-            Kind::Name => self.parse_pattern_name(room),
+            Kind::Name => self.parse_pattern_var(),
             Kind::End => Err(self.unexpected("expected a pattern")),
             Kind::Close => Err(self.unexpected("expected a pattern")),
             Kind::At => Err(self.unexpected("expected a pattern")),
@@ -73,19 +93,13 @@ impl<'src> Parser<'src> {
         Ok(Pattern::Wildcard { pos: name.1 })
     }
 
-    /// A name, and behind an `@` the pattern that it is bound to.
-    #[cycle(pattern)]
-    fn parse_pattern_name(&mut self, room: usize) -> Result<Pattern, Refusal<Error>>
-        ensures { Gives pattern_of self.old self.new result (after (any_symbol self.old.left) (named_by (pattern room))) }
+    /// A variable.
+    fn parse_pattern_var(&mut self) -> Result<Pattern, Refusal<Error>>
+        ensures { Gives pattern_of self.old self.new result (read_map (λ x. pattern_var x x.1) (any_symbol self.old.left)) }
     {
         let var = self.symbol("expected a pattern")?;
         let pos = var.1;
-        if !self.take_at()? {
-            return Ok(Pattern::Var { var, pos });
-        }
-        let inner = self.parse_pattern(room)?;
-        let subpat = BoxedPattern::new(self.allocator(), inner)?;
-        Ok(Pattern::BindPattern { var, subpat, pos })
+        Ok(Pattern::Var { var, pos })
     }
 
     /// A term or `and`, with its patterns.

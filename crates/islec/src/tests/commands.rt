@@ -160,6 +160,20 @@ fn refuses_overlapping_rules(rt: HostRuntime) -> Result<(), Fail> {
 }
 
 #[test]
+fn tells_the_first_files_fault(rt: HostRuntime) -> Result<(), Fail> {
+    let files = [
+        ("a.isle", "(decl f (u8) u8) (rule (f x) x)"),
+        ("b.isle", "(decl g (u8"),
+        ("c.isle", "(rule"),
+    ];
+    let (output, status) = performed(rt.alloc(), &files, 1, QUERIES.as_bytes())?;
+    let output = String::from_utf8(output).ok().ok_or("text")?;
+    assert!(rt; output.as_str().starts_with("b.isle:1:12: parse error\n"), "{output}");
+    assert_eq!(rt; status, 1);
+    Ok(())
+}
+
+#[test]
 fn refuses_unspelt_texts(rt: HostRuntime) -> Result<(), Fail> {
     let cases = [
         ("(pragma x)", "a.isle:1:2: parse error\n"),

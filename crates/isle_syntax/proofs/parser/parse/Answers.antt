@@ -3,6 +3,7 @@ use Rattle.isle_syntax.specs.Unread.{Unread}
 use Rattle.isle_syntax.specs.LexerCalls.{IsUnread}
 use Rattle.isle_syntax.specs.Verdict.{IsRight}
 use Rattle.isle_syntax.proofs.RightPlaces.{right_places, right_refuses, right_no_macro_args}
+use Rattle.isle_syntax.proofs.RuleOrder.{right_ascends}
 use Rattle.isle_syntax.proofs.parser.parse.Goals as goal
 
 pub returns-clause-right : goal.returns-clause-right
@@ -18,3 +19,6 @@ returns-clause-refused c = right_refuses c.args.lexer (subst IsUnread c.new.ensu
 
 pub returns-clause-no_macro_args : goal.returns-clause-no_macro_args
 returns-clause-no_macro_args c = right_no_macro_args c.args.lexer c.parse_defs.result (subst (λ (u : Unread). IsRight u c.parse_defs.result) c.new.ensures c.parse_defs.ensures.right)
+
+pub returns-clause-ascending : goal.returns-clause-ascending
+returns-clause-ascending c text whole = right_ascends c.args.lexer c.parse_defs.result (subst (λ (u : Unread). IsRight u c.parse_defs.result) c.new.ensures c.parse_defs.ensures.right) text whole

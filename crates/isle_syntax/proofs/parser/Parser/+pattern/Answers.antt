@@ -2,8 +2,10 @@ use Rattle.std.proofs.Common.{◌≡◌, [], ◌∷◌, ◌-◌, map, length, tr
 use Rattle.std.specs.Prelude.{codes}
 use Rattle.std.proofs.lemmas.List.{map-append}
 use Rattle.std.proofs.lemmas.Result.{err_from_is_err_and}
-use Rattle.isle_syntax.specs.declared.kind.Kind.TheVariants.{End, Open, Close, At, Int, True, False, Wildcard, Name, Other}
+use Rattle.isle_syntax.specs.declared.kind.Kind.TheVariants.{End, Open, Close, At, Int, True, False, Const, Wildcard, Other}
 use Rattle.isle_syntax.specs.Names.{is_word}
+use Rattle.isle_syntax.specs.Unread.{Unread}
+use Rattle.isle_syntax.specs.Chain.{bound}
 use Rattle.isle_syntax.specs.PatternShape.{pattern_of}
 use Rattle.isle_syntax.specs.PatternTree.{pattern_and, pattern_term, pattern_prim}
 use Rattle.isle_syntax.specs.KindReading.{pattern_on}
@@ -11,71 +13,102 @@ use Rattle.isle_syntax.specs.Parsing.{bounds}
 use Rattle.isle_syntax.specs.Readers.{after_close, opened_within, read_map, done, symbol_of, rest_of}
 use Rattle.isle_syntax.specs.TreeReading.{is_head, listed, pattern, pattern_list}
 use Rattle.isle_syntax.specs.DefReading.{constant}
-use Rattle.isle_syntax.proofs.PatternKinds.{pattern_at_kind, pattern_list_opens, pattern_list_reads, listed_as}
+use Rattle.isle_syntax.proofs.PatternKinds.{pattern_list_opens, pattern_list_reads, listed_as}
+use Rattle.isle_syntax.proofs.Unbound.{unbound_nothing, unbound_at_kind, unbound_else, unbound_alone, unbound_named, unbound_shorter}
 use Rattle.isle_syntax.proofs.PatternRules.{pattern_shorter}
-use Rattle.isle_syntax.proofs.Leaves.{const_pattern, pattern_nothing, pattern_none, refuses_first}
+use Rattle.isle_syntax.proofs.Leaves.{const_pattern, pattern_none, refuses_first}
 use Rattle.isle_syntax.proofs.Opening.{opened_plain, pattern_list_stops, refuses_with}
 use Rattle.isle_syntax.proofs.Loops.{turn_refuses, turn_adds, turn_no_token, turns_end, takes_none, takes_some, refuses_map, refuses_no_token, known_unexpected, known_gives}
 use Rattle.isle_syntax.proofs.parser.Parser.+pattern.Goals as goal
 
-pub parse_pattern-returns-in_err-kind : goal.parse_pattern-returns-in_err-kind
-parse_pattern-returns-in_err-kind t c =
-    let e = err_from_is_err_and c.from_residual.result c.from_residual.ensures.1 in
-    rw (e.1, e.2) (refuses_no_token c.args.self.now c.args.self.now c.kind.new.self _ _ refl c.in_err-kind.ensures.no_token (pattern_nothing c.args.room c.args.self.now.left))
+pub parse_pattern-names-smaller : goal.parse_pattern-names-smaller
+parse_pattern-names-smaller t c =
+    let taken = takes_some c.parse_unbound.new.self c.take_at.new.self _ c.in_ok-take_at-in-Var.field-0 c.if-not-branch.false c.in_ok-take_at-in-Var.ensures.taken in
+    let read = c.in_ok-inner.ensures.0 ∙ ap (λ q. done (pattern_of q) c.parse_unbound.new.self.left) c.in-Var.is in
+    unbound_shorter c.args.room c.names.self.left c.parse_unbound.new.self.left c.in-Var.var c.in-Var.pos read c.take_at.new.self.left taken.0
 
-pub parse_pattern-returns-in-Open : goal.parse_pattern-returns-in-Open
-parse_pattern-returns-in-Open t c =
-    rw (pattern_at_kind c.args.room c.args.self.now.left Open (sym c.in-Open.is ∙ c.in_ok-kind.ensures.kind))
+pub parse_pattern-names-preserved : goal.parse_pattern-names-preserved
+parse_pattern-names-preserved t c =
+    let taken = takes_some c.parse_unbound.new.self c.take_at.new.self _ c.in_ok-take_at-in-Var.field-0 c.if-not-branch.false c.in_ok-take_at-in-Var.ensures.taken in
+    let left = c.names.self.left in
+    let r = c.parse_unbound.new.self.left in
+    let q = c.take_at.new.self.left in
+    let var = c.in-Var.var in
+    let pos = c.in-Var.pos in
+    let read = c.in_ok-inner.ensures.0 ∙ ap (λ q. done (pattern_of q) r) c.in-Var.is in
+    record {
+      reads = c.names.invariant.reads ∙ unbound_named c.args.room left r var pos read q taken.0 c.names.names.items c.push.new.self.items c.in_ok-push-in-Var.ensures.items;
+      same = taken.1 ∙ c.in_ok-inner.ensures.1 ∙ c.names.invariant.same;
+      less = omega (arith, unbound_shorter c.args.room left r var pos read q taken.0, c.names.invariant.less);
+    }
+
+pub parse_pattern-returns-then-not-branch : goal.parse_pattern-returns-then-not-branch
+parse_pattern-returns-then-not-branch t c =
+    let going = takes_none c.parse_unbound.new.self c.take_at.new.self _ c.in_ok-take_at-in-Var.field-0 c.if-not-branch.true c.in_ok-take_at-in-Var.ensures.taken in
+    let left = c.names.self.left in
+    let r = c.parse_unbound.new.self.left in
+    let names = c.names.names.items in
+    let read = c.in_ok-inner.ensures.0 ∙ ap (λ q. done (pattern_of q) r) c.in-Var.is in (
+      c.names.invariant.reads
+          ∙ ap (read_map (bound names)) (unbound_alone c.args.room left r c.in-Var.var c.in-Var.pos read going.0)
+          ∙ ap (λ t. done t r) (sym c.in_ok-wrap-in-Var.ensures)
+          ∙ ap (λ (u : Unread). done (pattern_of c.in_ok-wrap-in-Var.field-0) u.left) (sym going.1),
+      ap bounds going.1 ∙ c.in_ok-inner.ensures.1 ∙ c.names.invariant.same,
+    )
+
+pub parse_unbound-returns-in_err-kind : goal.parse_unbound-returns-in_err-kind
+parse_unbound-returns-in_err-kind t c =
+    let e = err_from_is_err_and c.from_residual.result c.from_residual.ensures.1 in
+    rw (e.1, e.2) (refuses_no_token c.args.self.now c.args.self.now c.kind.new.self _ _ refl c.in_err-kind.ensures.no_token (unbound_nothing c.args.room c.args.self.now.left))
+
+pub parse_unbound-returns-in-Open : goal.parse_unbound-returns-in-Open
+parse_unbound-returns-in-Open t c =
+    rw (unbound_else c.args.room c.args.self.now.left Open (sym c.in-Open.is ∙ c.in_ok-kind.ensures.kind) refl)
     (known_gives pattern_of c.args.self.now c.kind.new.self c.parse_pattern_list.new.self c.parse_pattern_list.result (pattern_on c.args.room Open) c.in_ok-kind.ensures.known c.parse_pattern_list.ensures)
 
-pub parse_pattern-returns-in-Int : goal.parse_pattern-returns-in-Int
-parse_pattern-returns-in-Int t c =
-    rw (pattern_at_kind c.args.room c.args.self.now.left Int (sym c.in-Int.is ∙ c.in_ok-kind.ensures.kind))
+pub parse_unbound-returns-in-Int : goal.parse_unbound-returns-in-Int
+parse_unbound-returns-in-Int t c =
+    rw (unbound_else c.args.room c.args.self.now.left Int (sym c.in-Int.is ∙ c.in_ok-kind.ensures.kind) refl)
     (known_gives pattern_of c.args.self.now c.kind.new.self c.parse_pattern_int.new.self c.parse_pattern_int.result (pattern_on c.args.room Int) c.in_ok-kind.ensures.known c.parse_pattern_int.ensures)
 
-pub parse_pattern-returns-in-True : goal.parse_pattern-returns-in-True
-parse_pattern-returns-in-True t c =
-    rw (pattern_at_kind c.args.room c.args.self.now.left True (sym c.in-True.is ∙ c.in_ok-kind.ensures.kind))
+pub parse_unbound-returns-in-True : goal.parse_unbound-returns-in-True
+parse_unbound-returns-in-True t c =
+    rw (unbound_else c.args.room c.args.self.now.left True (sym c.in-True.is ∙ c.in_ok-kind.ensures.kind) refl)
     (known_gives pattern_of c.args.self.now c.kind.new.self c.parse_pattern_bool.new.self c.parse_pattern_bool.result (pattern_on c.args.room True) c.in_ok-kind.ensures.known c.parse_pattern_bool.ensures)
 
-pub parse_pattern-returns-in-False : goal.parse_pattern-returns-in-False
-parse_pattern-returns-in-False t c =
-    rw (pattern_at_kind c.args.room c.args.self.now.left False (sym c.in-False.is ∙ c.in_ok-kind.ensures.kind))
+pub parse_unbound-returns-in-False : goal.parse_unbound-returns-in-False
+parse_unbound-returns-in-False t c =
+    rw (unbound_else c.args.room c.args.self.now.left False (sym c.in-False.is ∙ c.in_ok-kind.ensures.kind) refl)
     (known_gives pattern_of c.args.self.now c.kind.new.self c.parse_pattern_bool-in-False.new.self c.parse_pattern_bool-in-False.result (pattern_on c.args.room False) c.in_ok-kind.ensures.known c.parse_pattern_bool-in-False.ensures)
 
-pub parse_pattern-returns-in-Wildcard : goal.parse_pattern-returns-in-Wildcard
-parse_pattern-returns-in-Wildcard t c =
-    rw (pattern_at_kind c.args.room c.args.self.now.left Wildcard (sym c.in-Wildcard.is ∙ c.in_ok-kind.ensures.kind))
+pub parse_unbound-returns-in-Wildcard : goal.parse_unbound-returns-in-Wildcard
+parse_unbound-returns-in-Wildcard t c =
+    rw (unbound_else c.args.room c.args.self.now.left Wildcard (sym c.in-Wildcard.is ∙ c.in_ok-kind.ensures.kind) refl)
     (known_gives pattern_of c.args.self.now c.kind.new.self c.parse_pattern_wildcard.new.self c.parse_pattern_wildcard.result (pattern_on c.args.room Wildcard) c.in_ok-kind.ensures.known c.parse_pattern_wildcard.ensures)
 
-pub parse_pattern-returns-in-Name : goal.parse_pattern-returns-in-Name
-parse_pattern-returns-in-Name t c =
-    rw (pattern_at_kind c.args.room c.args.self.now.left Name (sym c.in-Name.is ∙ c.in_ok-kind.ensures.kind))
-    (known_gives pattern_of c.args.self.now c.kind.new.self c.parse_pattern_name.new.self c.parse_pattern_name.result (pattern_on c.args.room Name) c.in_ok-kind.ensures.known c.parse_pattern_name.ensures)
-
-pub parse_pattern-returns-in-Const : goal.parse_pattern-returns-in-Const
-parse_pattern-returns-in-Const t c =
-    rw (const_pattern c.args.room c.args.self.now.left (sym c.in-Const.is ∙ c.in_ok-kind.ensures.kind))
+pub parse_unbound-returns-in-Const : goal.parse_unbound-returns-in-Const
+parse_unbound-returns-in-Const t c =
+    rw (unbound_at_kind c.args.room c.args.self.now.left Const (sym c.in-Const.is ∙ c.in_ok-kind.ensures.kind), const_pattern c.args.room c.args.self.now.left (sym c.in-Const.is ∙ c.in_ok-kind.ensures.kind))
     (known_gives pattern_of c.args.self.now c.kind.new.self c.parse_pattern_const.new.self c.parse_pattern_const.result (λ ts. read_map (λ x. pattern_prim x x.1) (constant ts)) c.in_ok-kind.ensures.known c.parse_pattern_const.ensures)
 
-pub parse_pattern-returns-in-End : goal.parse_pattern-returns-in-End
-parse_pattern-returns-in-End t c =
-    rw (pattern_at_kind c.args.room c.args.self.now.left End (sym c.in-End.is ∙ c.in_ok-kind.ensures.kind))
+pub parse_unbound-returns-in-End : goal.parse_unbound-returns-in-End
+parse_unbound-returns-in-End t c =
+    rw (unbound_else c.args.room c.args.self.now.left End (sym c.in-End.is ∙ c.in_ok-kind.ensures.kind) refl)
     (known_unexpected c.args.self.now c.kind.new.self c.unexpected.result c.in_ok-kind.ensures.known c.unexpected.ensures)
 
-pub parse_pattern-returns-in-Close : goal.parse_pattern-returns-in-Close
-parse_pattern-returns-in-Close t c =
-    rw (pattern_at_kind c.args.room c.args.self.now.left Close (sym c.in-Close.is ∙ c.in_ok-kind.ensures.kind))
+pub parse_unbound-returns-in-Close : goal.parse_unbound-returns-in-Close
+parse_unbound-returns-in-Close t c =
+    rw (unbound_else c.args.room c.args.self.now.left Close (sym c.in-Close.is ∙ c.in_ok-kind.ensures.kind) refl)
     (known_unexpected c.args.self.now c.kind.new.self c.unexpected-in-Close.result c.in_ok-kind.ensures.known c.unexpected-in-Close.ensures)
 
-pub parse_pattern-returns-in-At : goal.parse_pattern-returns-in-At
-parse_pattern-returns-in-At t c =
-    rw (pattern_at_kind c.args.room c.args.self.now.left At (sym c.in-At.is ∙ c.in_ok-kind.ensures.kind))
+pub parse_unbound-returns-in-At : goal.parse_unbound-returns-in-At
+parse_unbound-returns-in-At t c =
+    rw (unbound_else c.args.room c.args.self.now.left At (sym c.in-At.is ∙ c.in_ok-kind.ensures.kind) refl)
     (known_unexpected c.args.self.now c.kind.new.self c.unexpected-in-At.result c.in_ok-kind.ensures.known c.unexpected-in-At.ensures)
 
-pub parse_pattern-returns-in-Other : goal.parse_pattern-returns-in-Other
-parse_pattern-returns-in-Other t c =
-    rw (pattern_at_kind c.args.room c.args.self.now.left Other (sym c.in-Other.is ∙ c.in_ok-kind.ensures.kind))
+pub parse_unbound-returns-in-Other : goal.parse_unbound-returns-in-Other
+parse_unbound-returns-in-Other t c =
+    rw (unbound_else c.args.room c.args.self.now.left Other (sym c.in-Other.is ∙ c.in_ok-kind.ensures.kind) refl)
     (known_unexpected c.args.self.now c.kind.new.self c.unexpected-in-Other.result c.in_ok-kind.ensures.known c.unexpected-in-Other.ensures)
 
 pub parse_pattern_list-returns-in_err-pos : goal.parse_pattern_list-returns-in_err-pos

@@ -1,7 +1,8 @@
 use Rattle.std.proofs.Common.{◌≡◌, ◌≤◌, map, ◌+◌, ◌*◌, length}
 use Rattle.isle_syntax.specs.PatternShape.{pattern_of}
 use Rattle.isle_syntax.specs.Parsing.{bounds}
-use Rattle.isle_syntax.specs.Readers.{after_close, rest_of}
+use Rattle.isle_syntax.specs.Readers.{after_close, rest_of, read_map}
+use Rattle.isle_syntax.specs.Chain.{bound}
 use Rattle.isle_syntax.specs.TreeReading.{pattern}
 use Rattle.isle_syntax.proofs.Loops.{Turns}
 use Rattle.isle_syntax.proofs.parser.Parser.+pattern.Given as goal
@@ -9,14 +10,25 @@ use Rattle.isle_syntax.proofs.parser.Parser.+pattern.Given as goal
 abbrev pub decreases-parse_pattern : goal.decreases-parse_pattern
 decreases-parse_pattern l = 4 * length l.self.now.left + 2
 
-abbrev pub decreases-parse_pattern_list : goal.decreases-parse_pattern_list
-decreases-parse_pattern_list l = 4 * length l.self.now.left + 1
+abbrev pub decreases-parse_unbound : goal.decreases-parse_unbound
+decreases-parse_unbound l = 4 * length l.self.now.left + 1
 
-abbrev pub decreases-parse_pattern_name : goal.decreases-parse_pattern_name
-decreases-parse_pattern_name l = 4 * length l.self.now.left + 1
+abbrev pub decreases-parse_pattern_list : goal.decreases-parse_pattern_list
+decreases-parse_pattern_list l = 4 * length l.self.now.left
 
 abbrev pub decreases-parse_patterns : goal.decreases-parse_patterns
 decreases-parse_patterns l = 4 * length l.self.now.left + 3
+
+-- what a pattern reads from the start is what one reads from here, bound to the names
+abbrev pub invariant-parse_pattern-names : goal.invariant-parse_pattern-names
+invariant-parse_pattern-names l = record {
+  reads : pattern l.room l.initial.self.left ≡ read_map (bound l.names.items) (pattern l.room l.self.left);
+  same : bounds l.self ≡ bounds l.initial.self;
+  less : length l.self.left ≤ length l.initial.self.left;
+}
+
+abbrev pub decreases-parse_pattern-names : goal.decreases-parse_pattern-names
+decreases-parse_pattern-names l = length l.self.left
 
 abbrev pub invariant-parse_patterns-all : goal.invariant-parse_patterns-all
 invariant-parse_patterns-all l = record {
