@@ -1,1 +1,2 @@
 pub mod SExprSizes
+pub mod Spellings

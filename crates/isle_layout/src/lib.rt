@@ -2,3 +2,4 @@
 #![tactic(auto)]
 
 pub mod sexpr;
+pub mod to_sexpr;

@@ -1,0 +1,6 @@
+use Rattle.std.proofs.Common.{◌≡◌, ◌++◌, map, take}
+use Rattle.isle_layout.specs.DefSpellings.{tuple_field_sexpr}
+use Rattle.isle_layout.proofs.to_sexpr.types.add_tuple_fields.Given as goal
+
+abbrev pub invariant-loop-field : goal.invariant-loop-field
+invariant-loop-field l = l.longer ≡ l.initial.longer ++ map tuple_field_sexpr (take l.field-index l.fields)

@@ -1,0 +1,82 @@
+ghost use Rattle.std.specs.Prelude.{◌≡◌, ◌++◌, map, IfOk};
+ghost use Rattle.std.specs.List.{list_any};
+ghost use Rattle.isle_layout.specs.SExprShape.{sexpr_of};
+ghost use Rattle.isle_layout.specs.DefSpellings.{rule_name, rule_priority, iflet_sexpr, rule_sexpr, iflet_has_macro_arg, rule_has_macro_arg};
+
+use crate::sexpr::SExpr;
+use crate::to_sexpr::exprs::spell_expr;
+use crate::to_sexpr::list::ListBuilder;
+use crate::to_sexpr::numbers::signed;
+use crate::to_sexpr::patterns::spell_pattern;
+use isle_syntax::ast::{Ident, IfLet, Rule};
+use std::alloc::{AllocError, Global};
+
+/// A rule; a `MacroArg` of its patterns becomes an atom without text.
+pub(crate) fn spell_rule(alloc: Global, rule: &Rule) -> Result<SExpr, AllocError>
+    ensures { IfOk result (λ sexpr. sexpr_of sexpr ≡ rule_sexpr rule.now) }
+{
+    let list = ListBuilder::new(alloc).word("rule")?;
+    let list = add_name(list, &rule.name)?;
+    let list = add_priority(alloc, list, &rule.prio)?;
+    let list = list.item(spell_pattern(alloc, &rule.pattern)?)?;
+    let list = add_iflets(alloc, list, rule.iflets.as_slice())?;
+    Ok(list.item(spell_expr(alloc, &rule.expr)?)?.build())
+}
+
+/// A list with a rule's name more, if it has one.
+fn add_name(list: ListBuilder, name: &Option<Ident>) -> Result<ListBuilder, AllocError>
+    ensures { IfOk result (λ longer. longer ≡ list ++ rule_name name.now) }
+{
+    match name {
+        Some(name) => list.name(name),
+        None => Ok(list),
+    }
+}
+
+/// A list with a rule's priority more, if it has one.
+fn add_priority(
+    alloc: Global,
+    list: ListBuilder,
+    priority: &Option<i64>,
+) -> Result<ListBuilder, AllocError>
+    ensures { IfOk result (λ longer. longer ≡ list ++ rule_priority priority.now) }
+{
+    match priority {
+        Some(priority) => list.item(signed(alloc, *priority as i128)?),
+        None => Ok(list),
+    }
+}
+
+/// A list with a rule's conditions more.
+fn add_iflets(alloc: Global, list: ListBuilder, iflets: &[IfLet]) -> Result<ListBuilder, AllocError>
+    ensures { IfOk result (λ longer. longer ≡ list ++ map iflet_sexpr iflets.now) }
+{
+    let mut longer = list;
+    for iflet in iflets {
+        longer = longer.item(spell_iflet(alloc, iflet)?)?;
+    }
+    Ok(longer)
+}
+
+/// A condition of a rule; a `MacroArg` of its pattern becomes an atom without text.
+pub(crate) fn spell_iflet(alloc: Global, iflet: &IfLet) -> Result<SExpr, AllocError>
+    ensures { IfOk result (λ sexpr. sexpr_of sexpr ≡ iflet_sexpr iflet.now) }
+{
+    let pattern = spell_pattern(alloc, &iflet.pattern)?;
+    let expr = spell_expr(alloc, &iflet.expr)?;
+    let list = ListBuilder::new(alloc).word("if-let")?;
+    Ok(list.item(pattern)?.item(expr)?.build())
+}
+
+/// Whether a `MacroArg` stands in a rule's patterns.
+pub(crate) fn rule_has_macro_arg(rule: &Rule) -> bool
+    ensures { result ≡ rule_has_macro_arg rule.now }
+{
+    rule.pattern.has_macro_arg() || any_has_macro_arg(rule.iflets.as_slice())
+}
+
+fn any_has_macro_arg(iflets: &[IfLet]) -> bool
+    ensures { result ≡ list_any iflet_has_macro_arg iflets.now }
+{
+    iflets.iter().any(|iflet| iflet.pattern.has_macro_arg())
+}

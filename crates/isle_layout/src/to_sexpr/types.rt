@@ -1,0 +1,113 @@
+ghost use Rattle.std.specs.Prelude.{◌≡◌, ◌++◌, map, IfOk};
+ghost use Rattle.isle_layout.specs.SExprShape.{sexpr_of};
+ghost use Rattle.isle_layout.specs.DefSpellings.{struct_field_sexpr, tuple_field_sexpr, fields_sexprs, variant_sexpr, type_value_sexpr, type_sexpr};
+
+use crate::sexpr::SExpr;
+use crate::to_sexpr::list::{ListBuilder, name};
+use isle_syntax::ast::{Fields, StructField, TupleField, Type, TypeValue, Variant};
+use std::alloc::{AllocError, Global};
+
+/// A type's definition.
+pub(crate) fn spell_type(alloc: Global, ty: &Type) -> Result<SExpr, AllocError>
+    ensures { IfOk result (λ sexpr. sexpr_of sexpr ≡ type_sexpr ty.now) }
+{
+    let list = ListBuilder::new(alloc).word("type")?.name(&ty.name)?;
+    let list = list
+        .flag("extern", ty.is_extern)?
+        .flag("nodebug", ty.is_nodebug)?;
+    Ok(list.item(spell_type_value(alloc, &ty.ty)?)?.build())
+}
+
+/// What a type is made of.
+pub(crate) fn spell_type_value(alloc: Global, ty: &TypeValue) -> Result<SExpr, AllocError>
+    ensures { IfOk result (λ sexpr. sexpr_of sexpr ≡ type_value_sexpr ty.now) }
+{
+    let list = ListBuilder::new(alloc);
+    let list = match ty {
+        TypeValue::Primitive(primitive, _) => list.word("primitive")?.name(primitive)?,
+        TypeValue::Enum(variants, _) => add_variants(
+            alloc,
+            list.word("enum")?,
+            variants.as_slice(),
+        )?,
+        TypeValue::Struct(fields, _) => add_fields(alloc, list.word("struct")?, fields)?,
+    };
+    Ok(list.build())
+}
+
+/// A list with variants more.
+fn add_variants(
+    alloc: Global,
+    list: ListBuilder,
+    variants: &[Variant],
+) -> Result<ListBuilder, AllocError>
+    ensures { IfOk result (λ longer. longer ≡ list ++ map variant_sexpr variants.now) }
+{
+    let mut longer = list;
+    for variant in variants {
+        longer = longer.item(spell_variant(alloc, variant)?)?;
+    }
+    Ok(longer)
+}
+
+/// A variant.
+pub(crate) fn spell_variant(alloc: Global, variant: &Variant) -> Result<SExpr, AllocError>
+    ensures { IfOk result (λ sexpr. sexpr_of sexpr ≡ variant_sexpr variant.now) }
+{
+    match &variant.fields {
+        Fields::Unit => name(alloc, &variant.name),
+        fields => {
+            let list = ListBuilder::new(alloc).name(&variant.name)?;
+            Ok(add_fields(alloc, list, fields)?.build())
+        }
+    }
+}
+
+/// A list with the fields of a variant or struct more.
+fn add_fields(alloc: Global, list: ListBuilder, fields: &Fields) -> Result<ListBuilder, AllocError>
+    ensures { IfOk result (λ longer. longer ≡ list ++ fields_sexprs fields.now) }
+{
+    match fields {
+        Fields::Unit => Ok(list),
+        Fields::Struct(fields) => add_struct_fields(alloc, list, fields.fields.as_slice()),
+        Fields::Tuple(fields) => add_tuple_fields(list, fields.fields.as_slice()),
+    }
+}
+
+/// A list with fields more that have names.
+fn add_struct_fields(
+    alloc: Global,
+    list: ListBuilder,
+    fields: &[StructField],
+) -> Result<ListBuilder, AllocError>
+    ensures { IfOk result (λ longer. longer ≡ list ++ map struct_field_sexpr fields.now) }
+{
+    let mut longer = list;
+    for field in fields {
+        longer = longer.item(spell_struct_field(alloc, field)?)?;
+    }
+    Ok(longer)
+}
+
+/// A list with fields more that have no names.
+fn add_tuple_fields(list: ListBuilder, fields: &[TupleField]) -> Result<ListBuilder, AllocError>
+    ensures { IfOk result (λ longer. longer ≡ list ++ map tuple_field_sexpr fields.now) }
+{
+    let mut longer = list;
+    for field in fields {
+        longer = longer.name(&field.ty)?;
+    }
+    Ok(longer)
+}
+
+/// A field with its name.
+pub(crate) fn spell_struct_field(alloc: Global, field: &StructField) -> Result<SExpr, AllocError>
+    ensures { IfOk result (λ sexpr. sexpr_of sexpr ≡ struct_field_sexpr field.now) }
+{
+    Ok(
+        ListBuilder::new(alloc)
+            .name(&field.name)?
+            .name(&field.ty)?
+            .build(),
+    )
+}
