@@ -1,1 +1,6 @@
 pub mod SExprSizes
+pub mod Lengths
+pub mod SExprSubjects
+pub mod Marks
+pub mod Joined
+pub mod ListLayouts

@@ -1,4 +1,5 @@
 //! The layout of ISLE: S-expressions, how they are printed, and which definitions can be.
 #![tactic(auto)]
 
+mod printer;
 pub mod sexpr;
