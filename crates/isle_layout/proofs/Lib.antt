@@ -1,2 +1,6 @@
 pub mod SExprSizes
-pub mod Spellings
+pub mod Lengths
+pub mod SExprSubjects
+pub mod Marks
+pub mod Joined
+pub mod ListLayouts

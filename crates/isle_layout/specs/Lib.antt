@@ -2,5 +2,5 @@ pub mod SExprTree
 pub mod SExprCode
 pub mod SExprShape
 pub mod SExprFalls
-pub mod Spellings
-pub mod DefSpellings
+pub mod Layout
+pub mod SExprSubject

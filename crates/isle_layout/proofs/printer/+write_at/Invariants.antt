@@ -1,0 +1,10 @@
+use Rattle.std.proofs.Common.{◌≡◌, ◌++◌, ℕ, List, Bool, drop, string_bytes}
+use Rattle.std.specs.Slice.Iter.{iter_rest}
+use Rattle.isle_layout.specs.SExprShape.{sexprs_of}
+use Rattle.isle_layout.specs.Layout.{joined, line, layouts, marks_of_all}
+use Rattle.isle_layout.proofs.Joined.{rest_joined}
+use Rattle.isle_layout.proofs.printer.+write_at.Given as goal
+
+abbrev pub invariant-write_broken_list-loop-i : goal.invariant-write_broken_list-loop-i
+invariant-write_broken_list-loop-i l =
+    (width : ℕ) (rest : List Bool) → iter_rest l.initial.marks ≡ marks_of_all width (sexprs_of l.items) ++ rest → (string_bytes l.out ++ rest_joined l.i (line l.inner) (layouts width l.inner (sexprs_of (drop l.i l.items))) ≡ string_bytes l.initial.out ++ joined (line l.inner) (layouts width l.inner (sexprs_of l.items))) × (iter_rest l.marks ≡ marks_of_all width (sexprs_of (drop l.i l.items)) ++ rest)

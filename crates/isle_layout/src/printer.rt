@@ -1,0 +1,253 @@
+//! S-expressions as text.
+ghost use Rattle.std.specs.Prelude.{◌≡◌, ℕ, ◌+◌, Bool, List, ◌++◌, ◌∷◌, [], false, IfOk, string_bytes, codes};
+ghost use Rattle.std.specs.Fmt.{char_count};
+ghost use Rattle.std.specs.Slice.Iter.{iter_rest};
+ghost use Rattle.isle_layout.specs.SExprShape.{sexpr_of, sexprs_of};
+ghost use Rattle.isle_layout.specs.SExprTree.{sexpr_list};
+ghost use Rattle.isle_layout.specs.SExprSubject.{subject, names_text};
+ghost use Rattle.isle_layout.specs.Layout.{one_line, one_line_length, stays_on_one_line, layout, layouts, broken, line, marks_of, marks_of_all, within};
+
+use crate::sexpr::SExpr;
+use std::alloc::{AllocError, Global};
+use std::slice::Iter;
+
+// A first pass finds which lists stay on one line, and a second one writes. So the length of each list is found once.
+impl SExpr {
+    /// This S-expression laid out at a width, from the start of a line.
+    pub fn print(&self, alloc: Global, width: usize) -> Result<String, AllocError>
+        ensures { IfOk result (λ text. string_bytes text ≡ layout width 0 (sexpr_of self.now)) }
+    {
+        let mut marks = Vec::new(alloc);
+        measure(self, width, &mut marks)?;
+        let mut out = String::new(alloc);
+        write_at(&mut out, self, 0, &mut marks.iter())?;
+        Ok(out)
+    }
+
+    /// What a chain of bindings binds, or the S-expression itself where it is no binding.
+    fn subject(&self) -> &SExpr
+        ensures { sexpr_of result.now ≡ subject (sexpr_of self.now) }
+    {
+        let mut at = self;
+        while let SExpr::Binding(_, below) = at {
+            at = below.get();
+        }
+        at
+    }
+
+    /// How many characters the names of a chain of bindings take, each with its `@`.
+    fn names_length(&self, width: usize) -> Option<usize>
+        ensures { result ≡ within width (char_count (names_text (sexpr_of self.now))) }
+    {
+        let mut length = Some(0);
+        let mut at = self;
+        while let SExpr::Binding(name, below) = at {
+            length = sum_within(width, length, text_length(width, name.as_str()));
+            length = sum_within(width, length, at_most(width, 3));
+            at = below.get();
+        }
+        length
+    }
+
+    /// Writes the names of a chain of bindings, each with its `@`.
+    fn write_names(&self, out: &mut String) -> Result<(), AllocError>
+        ensures { IfOk result (λ done. string_bytes out.new
+            ≡ string_bytes out.old ++ names_text (sexpr_of self.now)) }
+    {
+        let mut at = self;
+        while let SExpr::Binding(name, below) = at {
+            out.push_str(name.as_str())?;
+            out.push_str(" @ ")?;
+            at = below.get();
+        }
+        Ok(())
+    }
+}
+
+/// A length, or `None` where it is above the width.
+fn at_most(width: usize, length: usize) -> Option<usize>
+    ensures { result ≡ within width length }
+{
+    if length <= width { Some(length) } else { None }
+}
+
+/// The sum of two lengths, or `None` where it is above the width.
+fn sum_within(width: usize, first: Option<usize>, second: Option<usize>) -> Option<usize>
+    ensures { (m n : ℕ) → first ≡ within width m → second ≡ within width n → result ≡ within width (m + n) }
+{
+    match (first, second) {
+        (Some(first), Some(second)) => match first.checked_add(second) {
+            Some(sum) => at_most(width, sum),
+            None => None,
+        },
+        _ => None,
+    }
+}
+
+/// How many characters a text has.
+fn text_length(width: usize, text: &str) -> Option<usize>
+    ensures { result ≡ within width (char_count text.now) }
+{
+    at_most(width, text.chars().count())
+}
+
+/// Whether a list of these items stays on one line, where it has this length.
+fn stays_on_one_line(length: Option<usize>, items: &[SExpr]) -> bool
+    ensures { (width : ℕ) → length ≡ within width (one_line_length (sexpr_list (sexprs_of items.now)))
+        → result ≡ stays_on_one_line width (sexprs_of items.now) }
+{
+    length.is_some() || items.len() < 2
+}
+
+/// How many characters an S-expression has on one line, or `None` where they are more than the width. For each list, it
+/// pushes whether it stays on one line, before what it pushes for those below it; below one that does it pushes nothing.
+#[cycle(measure)]
+#[tactic(auto, using(crate::proofs::SExprSubjects::subject_is_no_binding))]
+fn measure(sexpr: &SExpr, width: usize, marks: &mut Vec<bool>) -> Result<Option<usize>, AllocError>
+    ensures length { IfOk result (λ length. length ≡ within width (one_line_length (sexpr_of sexpr.now))) }
+    ensures marks { IfOk result (λ length. marks.new.items ≡ marks.old.items ++ marks_of width (sexpr_of sexpr.now)) }
+{
+    let names = sexpr.names_length(width);
+    match sexpr.subject() {
+        SExpr::Atom(text) => {
+            let text = text_length(width, text.as_str());
+            Ok(sum_within(width, names, text))
+        }
+        SExpr::Binding(..) => unreachable!(),
+        SExpr::List(items) => {
+            let list = measure_list(items.as_slice(), width, marks)?;
+            Ok(sum_within(width, names, list))
+        }
+    }
+}
+
+#[cycle(measure)]
+#[tactic(auto, using(crate::proofs::SExprSizes::most_sexpr_size))]
+fn measure_list(
+    items: &[SExpr],
+    width: usize,
+    marks: &mut Vec<bool>,
+) -> Result<Option<usize>, AllocError>
+    ensures length { IfOk result (λ length. length ≡ within width (one_line_length (sexpr_list (sexprs_of items.now)))) }
+    ensures marks { IfOk result (λ length. marks.new.items
+        ≡ marks.old.items ++ marks_of width (sexpr_list (sexprs_of items.now))) }
+{
+    let at = marks.len();
+    marks.push(false)?;
+    // The parentheses, and the spaces between the items.
+    let mut length = at_most(width, items.len().max(1) + 1);
+    for item in items {
+        length = sum_within(width, length, measure(item, width, marks)?);
+    }
+    if stays_on_one_line(length, items) {
+        marks.truncate(at);
+        marks.push(true)?;
+    }
+    Ok(length)
+}
+
+/// Writes an S-expression on one line.
+#[cycle(write_one_line)]
+#[tactic(auto, using(crate::proofs::SExprSubjects::subject_is_no_binding))]
+fn write_one_line(out: &mut String, sexpr: &SExpr) -> Result<(), AllocError>
+    ensures { IfOk result (λ done. string_bytes out.new ≡ string_bytes out.old ++ one_line (sexpr_of sexpr.now)) }
+{
+    sexpr.write_names(out)?;
+    match sexpr.subject() {
+        SExpr::Atom(text) => out.push_str(text.as_str()),
+        SExpr::Binding(..) => unreachable!(),
+        SExpr::List(items) => write_list_on_one_line(out, items.as_slice()),
+    }
+}
+
+#[cycle(write_one_line)]
+#[tactic(auto, using(crate::proofs::SExprSizes::most_sexpr_size))]
+fn write_list_on_one_line(out: &mut String, items: &[SExpr]) -> Result<(), AllocError>
+    ensures { IfOk result (λ done. string_bytes out.new
+        ≡ string_bytes out.old ++ one_line (sexpr_list (sexprs_of items.now))) }
+{
+    out.push_str("(")?;
+    for (i, item) in items.iter().enumerate() {
+        if i > 0 {
+            out.push_str(" ")?;
+        }
+        write_one_line(out, item)?;
+    }
+    out.push_str(")")
+}
+
+/// Starts a new line with so many spaces.
+fn write_line(out: &mut String, spaces: usize) -> Result<(), AllocError>
+    ensures { IfOk result (λ done. string_bytes out.new ≡ string_bytes out.old ++ line spaces) }
+{
+    out.push_str("\n")?;
+    for _ in 0..spaces {
+        out.push_str(" ")?;
+    }
+    Ok(())
+}
+
+/// The next mark.
+fn next_mark(marks: &mut Iter<'_, bool>) -> bool
+    ensures { (mark : Bool) (rest : List Bool) → iter_rest marks.old ≡ mark ∷ rest
+        → (result ≡ mark) × (iter_rest marks.new ≡ rest) }
+{
+    matches!(marks.next(), Some(true))
+}
+
+/// Writes an S-expression at an indentation, and takes the marks of its lists, as `measure` pushes them.
+#[cycle(write_at)]
+#[tactic(auto, using(crate::proofs::SExprSubjects::subject_is_no_binding))]
+fn write_at(
+    out: &mut String,
+    sexpr: &SExpr,
+    indentation: usize,
+    marks: &mut Iter<'_, bool>,
+) -> Result<(), AllocError>
+    ensures { IfOk result (λ done. (width : ℕ) (rest : List Bool)
+        → iter_rest marks.old ≡ marks_of width (sexpr_of sexpr.now) ++ rest
+        → (string_bytes out.new ≡ string_bytes out.old ++ layout width indentation (sexpr_of sexpr.now))
+        × (iter_rest marks.new ≡ rest)) }
+{
+    sexpr.write_names(out)?;
+    match sexpr.subject() {
+        SExpr::Atom(text) => out.push_str(text.as_str()),
+        SExpr::Binding(..) => unreachable!(),
+        SExpr::List(items) => {
+            if next_mark(marks) {
+                write_list_on_one_line(out, items.as_slice())
+            } else {
+                write_broken_list(out, items.as_slice(), indentation, marks)
+            }
+        }
+    }
+}
+
+/// Writes a list with each item but the first on a line of its own.
+#[cycle(write_at)]
+#[tactic(auto, using(crate::proofs::SExprSizes::most_sexpr_size))]
+fn write_broken_list(
+    out: &mut String,
+    items: &[SExpr],
+    indentation: usize,
+    marks: &mut Iter<'_, bool>,
+) -> Result<(), AllocError>
+    ensures { IfOk result (λ done. (width : ℕ) (rest : List Bool)
+        → iter_rest marks.old ≡ marks_of_all width (sexprs_of items.now) ++ rest
+        → (string_bytes out.new ≡ string_bytes out.old ++ broken indentation (layouts width (indentation + 4) (sexprs_of items.now)))
+        × (iter_rest marks.new ≡ rest)) }
+{
+    // No memory would hold a line of so many spaces.
+    let Some(inner) = indentation.checked_add(4) else {
+        return Err(AllocError);
+    };
+    out.push_str("(")?;
+    for (i, item) in items.iter().enumerate() {
+        if i > 0 {
+            write_line(out, inner)?;
+        }
+        write_at(out, item, inner, marks)?;
+    }
+    write_line(out, indentation)?;
+    out.push_str(")")
+}
