@@ -4,3 +4,4 @@ pub mod SExprSubjects
 pub mod Marks
 pub mod Joined
 pub mod ListLayouts
+pub mod Spellings

@@ -4,3 +4,6 @@ pub mod SExprShape
 pub mod SExprFalls
 pub mod Layout
 pub mod SExprSubject
+pub mod Spellings
+pub mod DefSpellings
+pub mod SExprTokens
