@@ -4,3 +4,4 @@ pub mod SExprSubjects
 pub mod Marks
 pub mod Joined
 pub mod ListLayouts
+mod LayoutCases

@@ -11,6 +11,9 @@ use crate::sexpr::SExpr;
 use std::alloc::{AllocError, Global};
 use std::slice::Iter;
 
+#[cfg(test)]
+mod tests;
+
 // A first pass finds which lists stay on one line, and a second one writes. So the length of each list is found once.
 impl SExpr {
     /// This S-expression laid out at a width, from the start of a line.
