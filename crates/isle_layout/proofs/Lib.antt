@@ -5,3 +5,4 @@ pub mod Marks
 pub mod Joined
 pub mod ListLayouts
 pub mod Spellings
+mod LayoutCases

@@ -11,6 +11,9 @@ use crate::sexpr::SExpr;
 use std::alloc::{AllocError, Global};
 use std::slice::Iter;
 
+#[cfg(test)]
+mod tests;
+
 // A first pass finds which lists stay on one line, and a second one writes. So the length of each list is found once.
 impl SExpr {
     /// This S-expression laid out at a width, from the start of a line.
@@ -35,7 +38,8 @@ impl SExpr {
         at
     }
 
-    /// How many characters the names of a chain of bindings take, each with its `@`.
+    /// How many characters the names of a chain of bindings take, each with its `@`, or `None` where they are more than the
+    /// width.
     fn names_length(&self, width: usize) -> Option<usize>
         ensures { result ≡ within width (char_count (names_text (sexpr_of self.now))) }
     {
@@ -84,7 +88,7 @@ fn sum_within(width: usize, first: Option<usize>, second: Option<usize>) -> Opti
     }
 }
 
-/// How many characters a text has.
+/// How many characters a text has, or `None` where they are more than the width.
 fn text_length(width: usize, text: &str) -> Option<usize>
     ensures { result ≡ within width (char_count text.now) }
 {
@@ -102,7 +106,6 @@ fn stays_on_one_line(length: Option<usize>, items: &[SExpr]) -> bool
 /// How many characters an S-expression has on one line, or `None` where they are more than the width. For each list, it
 /// pushes whether it stays on one line, before what it pushes for those below it; below one that does it pushes nothing.
 #[cycle(measure)]
-#[tactic(auto, using(crate::proofs::SExprSubjects::subject_is_no_binding))]
 fn measure(sexpr: &SExpr, width: usize, marks: &mut Vec<bool>) -> Result<Option<usize>, AllocError>
     ensures length { IfOk result (λ length. length ≡ within width (one_line_length (sexpr_of sexpr.now))) }
     ensures marks { IfOk result (λ length. marks.new.items ≡ marks.old.items ++ marks_of width (sexpr_of sexpr.now)) }
@@ -121,6 +124,7 @@ fn measure(sexpr: &SExpr, width: usize, marks: &mut Vec<bool>) -> Result<Option<
     }
 }
 
+/// The same of a list.
 #[cycle(measure)]
 #[tactic(auto, using(crate::proofs::SExprSizes::most_sexpr_size))]
 fn measure_list(
@@ -148,7 +152,6 @@ fn measure_list(
 
 /// Writes an S-expression on one line.
 #[cycle(write_one_line)]
-#[tactic(auto, using(crate::proofs::SExprSubjects::subject_is_no_binding))]
 fn write_one_line(out: &mut String, sexpr: &SExpr) -> Result<(), AllocError>
     ensures { IfOk result (λ done. string_bytes out.new ≡ string_bytes out.old ++ one_line (sexpr_of sexpr.now)) }
 {
@@ -160,29 +163,30 @@ fn write_one_line(out: &mut String, sexpr: &SExpr) -> Result<(), AllocError>
     }
 }
 
+/// Writes a list on one line.
 #[cycle(write_one_line)]
 #[tactic(auto, using(crate::proofs::SExprSizes::most_sexpr_size))]
 fn write_list_on_one_line(out: &mut String, items: &[SExpr]) -> Result<(), AllocError>
     ensures { IfOk result (λ done. string_bytes out.new
         ≡ string_bytes out.old ++ one_line (sexpr_list (sexprs_of items.now))) }
 {
-    out.push_str("(")?;
+    out.push('(')?;
     for (i, item) in items.iter().enumerate() {
         if i > 0 {
-            out.push_str(" ")?;
+            out.push(' ')?;
         }
         write_one_line(out, item)?;
     }
-    out.push_str(")")
+    out.push(')')
 }
 
 /// Starts a new line with so many spaces.
 fn write_line(out: &mut String, spaces: usize) -> Result<(), AllocError>
     ensures { IfOk result (λ done. string_bytes out.new ≡ string_bytes out.old ++ line spaces) }
 {
-    out.push_str("\n")?;
+    out.push('\n')?;
     for _ in 0..spaces {
-        out.push_str(" ")?;
+        out.push(' ')?;
     }
     Ok(())
 }
@@ -197,7 +201,6 @@ fn next_mark(marks: &mut Iter<'_, bool>) -> bool
 
 /// Writes an S-expression at an indentation, and takes the marks of its lists, as `measure` pushes them.
 #[cycle(write_at)]
-#[tactic(auto, using(crate::proofs::SExprSubjects::subject_is_no_binding))]
 fn write_at(
     out: &mut String,
     sexpr: &SExpr,
@@ -241,7 +244,7 @@ fn write_broken_list(
     let Some(inner) = indentation.checked_add(4) else {
         return Err(AllocError);
     };
-    out.push_str("(")?;
+    out.push('(')?;
     for (i, item) in items.iter().enumerate() {
         if i > 0 {
             write_line(out, inner)?;
@@ -249,5 +252,5 @@ fn write_broken_list(
         write_at(out, item, inner, marks)?;
     }
     write_line(out, indentation)?;
-    out.push_str(")")
+    out.push(')')
 }

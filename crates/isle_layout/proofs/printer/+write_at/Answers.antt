@@ -1,4 +1,5 @@
 use Rattle.std.proofs.Common.{◌≡◌, ℕ, ◌+◌, ◌++◌, string_bytes, ◌≤◌, length, drop_of_length-le, rules, ap, sym, ◌∙◌, arith}
+use Rattle.std.specs.Char.{encode_utf8}
 use Rattle.std.proofs.lemmas.Result.{IfOk-weaker}
 use Rattle.isle_layout.specs.SExprTree.{sexpr_list}
 use Rattle.isle_layout.specs.SExprShape.{sexpr_of, sexprs_of}
@@ -50,13 +51,14 @@ write_at-returns-else-next_mark t c =
     c.write_broken_list.ensures
 
 pub write_broken_list-returns : goal.write_broken_list-returns
+unfolding encode_utf8
 write_broken_list-returns t c =
     let items = c.args.items.now in
     let indentation = c.args.indentation in
     let inner = c.in-Some.inner in
     let sum : inner ≡ indentation + 4 = search rules in
     let low : length items ≤ c.loop-i.i = omega arith in
-    IfOk-weaker c.push_str-2.result _ _ (λ done written width rest marks.
+    IfOk-weaker c.push-2.result _ _ (λ done written width rest marks.
     let so_far = c.loop-i.invariant width rest marks in
-    (written ∙ list_written width indentation inner items c.loop-i.i _ _ _ _ sum low c.in_ok-push_str.ensures.bytes so_far.0 c.in_ok-write_line-2.ensures, so_far.1 ∙ ap (λ left. marks_of_all width (sexprs_of left) ++ rest) (drop_of_length-le items {i = c.loop-i.i} low)))
-    (pushed c.push_str-2.result _ _ _ c.push_str-2.ensures.bytes)
+    (written ∙ list_written width indentation inner items c.loop-i.i _ _ _ _ sum low c.in_ok-push.ensures.bytes so_far.0 c.in_ok-write_line-2.ensures, so_far.1 ∙ ap (λ left. marks_of_all width (sexprs_of left) ++ rest) (drop_of_length-le items {i = c.loop-i.i} low)))
+    (pushed c.push-2.result _ _ _ c.push-2.ensures.bytes)
