@@ -7,3 +7,4 @@ pub mod SExprSubject
 pub mod Spellings
 pub mod DefSpellings
 pub mod SExprTokens
+pub mod Prints

@@ -1,6 +1,6 @@
 //! The layout of ISLE: S-expressions, how they are printed, and which definitions can be.
 #![tactic(auto)]
 
-mod printer;
+pub mod printer;
 pub mod sexpr;
 pub mod to_sexpr;

@@ -1,18 +1,52 @@
-//! S-expressions as text.
-ghost use Rattle.std.specs.Prelude.{◌≡◌, ℕ, ◌+◌, Bool, List, ◌++◌, ◌∷◌, [], false, IfOk, string_bytes, codes};
+//! Trees as text.
+ghost use Rattle.std.specs.Prelude.{◌≡◌, ℕ, ◌+◌, Bool, List, ◌++◌, ◌∷◌, [], true, false, IfOk, IfErr, string_bytes, codes};
+ghost use Rattle.std.specs.List.{list_any};
 ghost use Rattle.std.specs.Fmt.{char_count};
 ghost use Rattle.std.specs.Slice.Iter.{iter_rest};
 ghost use Rattle.isle_layout.specs.SExprShape.{sexpr_of, sexprs_of};
 ghost use Rattle.isle_layout.specs.SExprTree.{sexpr_list};
 ghost use Rattle.isle_layout.specs.SExprSubject.{subject, names_text};
 ghost use Rattle.isle_layout.specs.Layout.{one_line, one_line_length, stays_on_one_line, layout, layouts, broken, line, marks_of, marks_of_all, within};
+ghost use Rattle.isle_layout.specs.DefSpellings.{IfFault, def_has_macro_arg};
+ghost use Rattle.isle_layout.specs.Prints.{print_of};
 
 use crate::sexpr::SExpr;
+use crate::to_sexpr::{HasMacroArg, ToSExpr};
+use isle_syntax::Refusal;
+use isle_syntax::ast::Def;
 use std::alloc::{AllocError, Global};
 use std::slice::Iter;
 
 #[cfg(test)]
 mod tests;
+
+/// Definitions laid out at a width, each followed by one newline. A `MacroArg` in one of them is refused.
+pub fn print(alloc: Global, defs: &[Def], width: usize) -> Result<String, Refusal<HasMacroArg>>
+    ensures text { IfOk result (λ text. string_bytes text ≡ print_of width defs.now) }
+    ensures no_macro_arg { IfOk result (λ text. list_any def_has_macro_arg defs.now ≡ false) }
+    ensures fault { IfErr result (λ refusal. IfFault refusal (list_any def_has_macro_arg defs.now ≡ true)) }
+{
+    let mut text = String::new(alloc);
+    for def in defs {
+        let printed = print_node(alloc, def, width)?;
+        text.push_str(printed.as_str())?;
+        text.push('\n')?;
+    }
+    Ok(text)
+}
+
+/// A tree laid out at a width, from the start of a line. A `MacroArg` in it is refused.
+pub fn print_node<T: ToSExpr>(
+    alloc: Global,
+    node: &T,
+    width: usize,
+) -> Result<String, Refusal<HasMacroArg>>
+    ensures text { IfOk result (λ text. string_bytes text ≡ layout width 0 (T.sexpr node.now)) }
+    ensures no_macro_arg { IfOk result (λ text. T.macro_arg node.now ≡ false) }
+    ensures fault { IfErr result (λ refusal. IfFault refusal (T.macro_arg node.now ≡ true)) }
+{
+    Ok(node.to_sexpr(alloc)?.print(alloc, width)?)
+}
 
 // A first pass finds which lists stay on one line, and a second one writes. So the length of each list is found once.
 impl SExpr {
