@@ -6,3 +6,4 @@ pub mod Joined
 pub mod ListLayouts
 pub mod Spellings
 mod LayoutCases
+pub mod NoMacroArgs

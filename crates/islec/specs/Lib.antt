@@ -2,3 +2,4 @@ pub mod Replies
 pub mod Faults
 pub mod Statuses
 pub mod Writing
+pub mod Jobs

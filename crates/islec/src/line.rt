@@ -2,7 +2,9 @@
 ghost use Rattle.std.specs.Prelude.{◌≡◌, ◌<◌, IfOk, IfSome, vec_len, alloc_error};
 ghost use Rattle.islec.specs.declared.line.LineFault.TheVariants.{Memory};
 ghost use Rattle.islec.specs.Faults.{Tells};
+ghost use Rattle.islec.specs.Jobs.{HasFiles};
 
+use clap::builder::ValueParser;
 use clap::error::ErrorKind;
 use clap::{Arg, ArgAction, ArgMatches, Command, Error};
 use std::alloc::{AllocError, AllocFailed, Global};
@@ -23,6 +25,8 @@ pub struct Line {
 pub enum Job {
     /// Answers queries, with at most `depth` calls of terms with rules open at once.
     Run { depth: u32 },
+    /// Prints the one file laid out at a width, from 0 to 1,000,000.
+    Fmt { width: u32 },
 }
 
 /// Why words gave no command.
@@ -55,7 +59,7 @@ impl From<AllocError> for LineFault {
 
 /// Reads the words of a command line, of which the first is the program's name.
 pub fn line_of<S: AsStr>(alloc: Global, words: &[S]) -> Result<Line, LineFault>
-    ensures { IfOk result (λ line. 0 < vec_len line.files) }
+    ensures files { IfOk result (λ line. HasFiles line.job (vec_len line.files)) }
 {
     let mut command = command(alloc)?;
     let matches = command.try_get_matches_from_mut(words)?;
@@ -64,11 +68,24 @@ pub fn line_of<S: AsStr>(alloc: Global, words: &[S]) -> Result<Line, LineFault>
             return Ok(line);
         }
     }
+    if let Some(fmt) = matches.subcommand_matches("fmt") {
+        if let Some(line) = fmt_line(alloc, fmt)? {
+            return Ok(line);
+        }
+    }
     let fault = command.error(ErrorKind::MissingSubcommand, "a command is required")?;
     Err(LineFault::Usage(fault))
 }
 
 fn command<'a>(alloc: Global) -> Result<Command<'a>, AllocError> {
+    Command::new(alloc, "islec")
+        .about("Compiles files of ISLE rules and answers queries by them")
+        .subcommand_required(true)
+        .subcommand(run_command(alloc)?)?
+        .subcommand(fmt_command(alloc)?)
+}
+
+fn run_command<'a>(alloc: Global) -> Result<Command<'a>, AllocError> {
     let depth = Arg::new(alloc, "depth")
         .long("depth")
         .value_name("N")
@@ -81,19 +98,32 @@ fn command<'a>(alloc: Global) -> Result<Command<'a>, AllocError> {
         .action(ArgAction::Append)
         .num_args(1..)
         .required(true);
-    let run = Command::new(alloc, "run")
+    Command::new(alloc, "run")
         .about("Answers queries from standard input, one a line")
         .arg(depth)?
-        .arg(file)?;
-    Command::new(alloc, "islec")
-        .about("Compiles files of ISLE rules and answers queries by them")
-        .subcommand_required(true)
-        .subcommand(run)
+        .arg(file)
+}
+
+fn fmt_command<'a>(alloc: Global) -> Result<Command<'a>, AllocError> {
+    let width = Arg::new(alloc, "width")
+        .long("width")
+        .value_name("N")
+        .help("How many characters a list on one line may have, at most 1000000")
+        .value_parser(ValueParser::Unsigned(0, 1_000_000))
+        .default_value("80");
+    let file = Arg::new(alloc, "file")
+        .value_name("FILE")
+        .help("The file to print")
+        .required(true);
+    Command::new(alloc, "fmt")
+        .about("Prints a file formatted")
+        .arg(width)?
+        .arg(file)
 }
 
 // `None` where the matches have no depth or no file, as matches of `run` always have.
 fn run_line(alloc: Global, matches: &ArgMatches<'_>) -> Result<Option<Line>, AllocError>
-    ensures { IfOk result (λ read. IfSome read (λ line. 0 < vec_len line.files)) }
+    ensures { IfOk result (λ read. IfSome read (λ line. HasFiles line.job (vec_len line.files))) }
 {
     let Some(depth) = matches.get_one::<u32>("depth") else {
         return Ok(None);
@@ -104,6 +134,24 @@ fn run_line(alloc: Global, matches: &ArgMatches<'_>) -> Result<Option<Line>, All
     }
     Ok(Some(Line {
         job: Job::Run { depth },
+        files,
+        world: None,
+    }))
+}
+
+// `None` where the matches have no width or no file, as matches of `fmt` always have.
+fn fmt_line(alloc: Global, matches: &ArgMatches<'_>) -> Result<Option<Line>, AllocError>
+    ensures { IfOk result (λ read. IfSome read (λ line. HasFiles line.job (vec_len line.files))) }
+{
+    let Some(width) = matches.get_one::<u32>("width") else {
+        return Ok(None);
+    };
+    let files = copies(alloc, matches.get_strs("file").unwrap_or(&[]))?;
+    if files.len() != 1 {
+        return Ok(None);
+    }
+    Ok(Some(Line {
+        job: Job::Fmt { width },
         files,
         world: None,
     }))

@@ -3,6 +3,7 @@ ghost use Rattle.std.specs.Prelude.{◌≡◌, ◌≢◌, IfOk};
 ghost use Rattle.islec.specs.Statuses.{code_of};
 ghost use Rattle.islec.specs.declared.status.Status.{Status};
 
+use crate::format::format;
 use crate::line::Job;
 use crate::serve::{ServeFault, Served, serve, write_text};
 use crate::status::{Status, out_of_memory};
@@ -26,8 +27,11 @@ pub fn perform<R: Read, W: Write>(
 ) -> u8
     ensures { (status : Status) × (status ≢ Status.Usage) × (result ≡ code_of status) }
 {
-    let Job::Run { depth } = job;
-    let status = match run(alloc, depth, texts, reader, writer) {
+    let done = match job {
+        Job::Run { depth } => run(alloc, depth, texts, reader, writer),
+        Job::Fmt { width } => format(alloc, width, texts, writer),
+    };
+    let status = match done {
         Ok(status) => status,
         Err(ServeFault::Read) => Status::InputOutput,
         Err(ServeFault::Write) => Status::InputOutput,
@@ -59,7 +63,8 @@ fn run<R: Read, W: Write>(
     }
 }
 
-fn write_faults<W: Write>(
+/// Writes what is printed of faults.
+pub(crate) fn write_faults<W: Write>(
     alloc: Global,
     errors: &Errors,
     writer: &mut W,

@@ -1,0 +1,67 @@
+//! Printing texts by the layout.
+ghost use Rattle.std.specs.Prelude.{◌<◌, ◌≢◌, length, IfErr, IfOk};
+ghost use Rattle.isle_syntax.specs.Errors.{RefusalAt};
+ghost use Rattle.isle_syntax.specs.Positions.{HasPlaceAt};
+ghost use Rattle.islec.specs.declared.status.Status.{Status};
+
+use crate::perform::write_faults;
+use crate::serve::{ServeFault, write_text};
+use crate::status::Status;
+use isle_layout::printer::print;
+use isle_syntax::Refusal;
+use isle_syntax::error::{Error, Errors};
+use isle_syntax::files::Files;
+use isle_syntax::lexer::Lexer;
+use isle_syntax::parser::parse;
+use std::alloc::Global;
+use std::io::Write;
+use std::rc::Rc;
+
+/// Writes the definitions of texts laid out at a width, or the fault of the first text that has one and nothing else.
+pub fn format<W: Write>(
+    alloc: Global,
+    width: u32,
+    texts: Vec<(String, String)>,
+    writer: &mut W,
+) -> Result<Status, ServeFault>
+    ensures { IfOk result (λ status. status ≢ Status.Usage) }
+{
+    let files = Rc::new(alloc, Files::from_names_and_contents(alloc, texts)?)?;
+    let mut printed = String::new(alloc);
+    for file in 0..files.len() {
+        match print_file(alloc, &files, file, width) {
+            Ok(text) => printed.push_str(text.as_str())?,
+            Err(Refusal::Fault(error)) => {
+                let mut errors = Vec::new(alloc);
+                errors.push(error)?;
+                write_faults(alloc, &Errors::new(errors, files), writer)?;
+                return Ok(Status::TextsRefused);
+            }
+            Err(Refusal::Memory(_)) => return Err(ServeFault::Memory),
+        }
+    }
+    write_text(writer, printed.as_str())?;
+    Ok(Status::AllWell)
+}
+
+// The definitions of one file laid out at a width.
+fn print_file(
+    alloc: Global,
+    files: &Files,
+    file: usize,
+    width: u32,
+) -> Result<String, Refusal<Error>>
+    requires { file < length files.now }
+    ensures printable { IfErr result (RefusalAt (HasPlaceAt files.now)) }
+{
+    let Some(text) = files.file_text(file) else {
+        return Ok(String::new(alloc));
+    };
+    let defs = parse(Lexer::new(alloc, file, text))?;
+    match print(alloc, defs.as_slice(), width as usize) {
+        Ok(text) => Ok(text),
+        // The parser makes no numbered argument of a template.
+        Err(Refusal::Fault(_)) => unreachable!(),
+        Err(Refusal::Memory(e)) => Err(Refusal::Memory(e)),
+    }
+}
