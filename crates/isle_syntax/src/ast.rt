@@ -14,6 +14,8 @@ mod eq;
 mod macros;
 mod positions;
 mod terms;
+#[cfg(test)]
+mod tests;
 pub(crate) mod wrap;
 
 use crate::lexer::Pos;
