@@ -1,5 +1,6 @@
 use super::*;
 use crate::ast::wrap::wrap;
+use crate::text::Text;
 use std::test::Fail;
 
 /// The pattern `x @ x @ .. @ _` with many bindings.
