@@ -1,20 +1,16 @@
 -- Where a phrase that was read begins, and the words and names before it.
-use Rattle.std.proofs.Common.{◌≡◌, ℕ, ℤ, zero, suc, List, [], ◌∷◌, Bool, true, false, Option, Some, None, refl, sym, ap, subst, ◌∙◌}
+use Rattle.std.proofs.Common.{◌≡◌, ℕ, List, [], ◌∷◌, Bool, true, false, refl, sym, ap, ◌∙◌}
 use Rattle.std.specs.Prelude.{codes}
-use Rattle.isle_syntax.specs.declared.lexer.Pos.{Pos}
 use Rattle.isle_syntax.specs.declared.ast.Ident.{Ident}
-use Rattle.isle_syntax.specs.declared.ast.Decl.{Decl}
-use Rattle.isle_syntax.specs.Names.{is_word, is_ident}
-use Rattle.isle_syntax.specs.Tokens.{Placed, Literal}
-use Rattle.isle_syntax.specs.Spelt.{names, first_place}
-use Rattle.isle_syntax.specs.Grammar.{bits_of}
+use Rattle.isle_syntax.specs.Tokens.{Placed}
+use Rattle.isle_syntax.specs.Spelt.{first_place}
 use Rattle.isle_syntax.specs.Unread.{Unread, place_at, first_place as place_of_first}
-use Rattle.isle_syntax.specs.Parsing.{bounds, stop_of, TakesWord, TakesName, TakesPriority}
-use Rattle.isle_syntax.specs.Readers.{Read, done, fault, deep, Reader, read_map, seq, from, rest_of, says, optional, optional_on}
+use Rattle.isle_syntax.specs.Parsing.{bounds, stop_of, TakesWord}
+use Rattle.isle_syntax.specs.Readers.{Read, done, fault, deep, Reader, read_map, rest_of, says, optional, optional_on}
 use Rattle.isle_syntax.specs.ItemTree.{ItemTree}
 use Rattle.isle_syntax.specs.TreeReading.{item}
 use Rattle.isle_syntax.proofs.Shorter.{many_at_end}
-use Rattle.isle_syntax.specs.DefReading.{identifier, decl, decl_of, Signature, signature, signature_parts}
+use Rattle.isle_syntax.specs.DefReading.{decl, decl_of, Signature, signature, signature_parts}
 use Rattle.isle_syntax.proofs.ReadSteps.{fuse, map_seq_done}
 use Rattle.isle_syntax.proofs.Loops.{stop_map}
 

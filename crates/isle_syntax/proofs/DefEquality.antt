@@ -5,7 +5,7 @@ use Rattle.std.specs.declared.option.Option.TheVariants.{None, Some}
 use Rattle.std.specs.Option.{option_eq}
 use Rattle.std.specs.Bool.{Decides}
 use Rattle.std.specs.Cmp.{signed_Decides, booleans_Decides}
-use Rattle.std.specs.Cmp.Lexicographic.{pointwise, pointwise_decides}
+use Rattle.std.specs.Cmp.Lexicographic.{pointwise_decides}
 use Rattle.std.proofs.lemmas.Bool.Decides.{Decides-eqb}
 use Rattle.std.proofs.lemmas.Slice.Eq.{bytes_eq-Decides}
 use Rattle.isle_syntax.specs.declared.lexer.Pos.{Pos}
@@ -64,7 +64,8 @@ both false t p q = (λ e. cc, λ h. p.1 h.0)
 through : {P Q : Type 0} {s : Bool} → Decides s P → (P → Q) → (Q → P) → Decides s Q
 through d f g = (λ e. f (d.0 e), λ q. d.1 (g q))
 
-options : {A : Type 0} {E : A → A → Bool} → ((x y : A) → Decides (E x y) (x ≡ y)) → (o p : Option A) → Decides (option_eq E o p) (o ≡ p)
+options : {A : Type 0} {E : A → A → Bool} → ((x y : A) → Decides (E x y) (x ≡ y))
+    → (o p : Option A) → Decides (option_eq E o p) (o ≡ p)
 options d None None = (λ e. refl, λ e. refl)
 options d None (Some y) = (λ e. cc, λ e. cc)
 options d (Some x) None = (λ e. cc, λ e. cc)
@@ -90,7 +91,8 @@ struct_field-decides a b =
 
 pub struct_fields-decides : (a b : StructFields) → Decides ((struct_fields.ghosts).eq a b) (a ≡ b)
 struct_fields-decides a b =
-    through (pointwise_decides struct_field-decides a.fields b.fields) (λ h i. record { fields = h i }) (λ e. ap (λ v. v.fields) e)
+    through (pointwise_decides struct_field-decides a.fields b.fields) (λ h i. record { fields = h i })
+    (λ e. ap (λ v. v.fields) e)
 
 pub tuple_field-decides : (a b : TupleField) → Decides ((tuple_field.ghosts).eq a b) (a ≡ b)
 tuple_field-decides a b =
@@ -100,7 +102,8 @@ tuple_field-decides a b =
 
 pub tuple_fields-decides : (a b : TupleFields) → Decides ((tuple_fields_of.ghosts).eq a b) (a ≡ b)
 tuple_fields-decides a b =
-    through (pointwise_decides tuple_field-decides a.fields b.fields) (λ h i. record { fields = h i }) (λ e. ap (λ v. v.fields) e)
+    through (pointwise_decides tuple_field-decides a.fields b.fields) (λ h i. record { fields = h i })
+    (λ e. ap (λ v. v.fields) e)
 
 pub fields-decides : (a b : Fields) → Decides ((fields.ghosts).eq a b) (a ≡ b)
 fields-decides no_fields no_fields = (λ e. refl, λ e. refl)
@@ -125,31 +128,87 @@ type_value-decides a b = (λ e. cc, λ e. cc)
 
 pub type-decides : (a b : TypeTree) → Decides ((type_tree.ghosts).eq a b) (a ≡ b)
 type-decides a b =
-    through (both _ _ (ident-decides a.name b.name) (both _ _ (booleans_Decides a.is_extern b.is_extern) (both _ _ (booleans_Decides a.is_nodebug b.is_nodebug) (both _ _ (type_value-decides a.ty b.ty) (pos-decides a.pos b.pos)))))
+    through (both _ _ (ident-decides a.name b.name)
+    (both _ _ (booleans_Decides a.is_extern b.is_extern)
+    (both _ _ (booleans_Decides a.is_nodebug b.is_nodebug)
+    (both _ _ (type_value-decides a.ty b.ty) (pos-decides a.pos b.pos)))))
     (λ h i. record { name = h.0 i; is_extern = h.1.0 i; is_nodebug = h.1.1.0 i; ty = h.1.1.1.0 i; pos = h.1.1.1.1 i })
     (λ e. (ap (λ v. v.name) e, (ap (λ v. v.is_extern) e, (ap (λ v. v.is_nodebug) e, (ap (λ v. v.ty) e, ap (λ v. v.pos) e)))))
 
 pub decl-decides : (a b : Decl) → Decides ((decl.ghosts).eq a b) (a ≡ b)
 decl-decides a b =
-    through (both _ _ (ident-decides a.term b.term) (both _ _ (pointwise_decides ident-decides a.arg_tys b.arg_tys) (both _ _ (ident-decides a.ret_ty b.ret_ty) (both _ _ (booleans_Decides a.pure b.pure) (both _ _ (booleans_Decides a.multi b.multi) (both _ _ (booleans_Decides a.partial b.partial) (both _ _ (booleans_Decides a.rec b.rec) (pos-decides a.pos b.pos))))))))
-    (λ h i. record { term = h.0 i; arg_tys = h.1.0 i; ret_ty = h.1.1.0 i; pure = h.1.1.1.0 i; multi = h.1.1.1.1.0 i; partial = h.1.1.1.1.1.0 i; rec = h.1.1.1.1.1.1.0 i; pos = h.1.1.1.1.1.1.1 i })
-    (λ e. (ap (λ v. v.term) e, (ap (λ v. v.arg_tys) e, (ap (λ v. v.ret_ty) e, (ap (λ v. v.pure) e, (ap (λ v. v.multi) e, (ap (λ v. v.partial) e, (ap (λ v. v.rec) e, ap (λ v. v.pos) e))))))))
+    through (both _ _ (ident-decides a.term b.term)
+    (both _ _ (pointwise_decides ident-decides a.arg_tys b.arg_tys)
+    (both _ _ (ident-decides a.ret_ty b.ret_ty)
+    (both _ _ (booleans_Decides a.pure b.pure)
+    (both _ _ (booleans_Decides a.multi b.multi)
+    (both _ _ (booleans_Decides a.partial b.partial)
+    (both _ _ (booleans_Decides a.rec b.rec) (pos-decides a.pos b.pos))))))))
+    (λ h i. record {
+      term = h.0 i;
+      arg_tys = h.1.0 i;
+      ret_ty = h.1.1.0 i;
+      pure = h.1.1.1.0 i;
+      multi = h.1.1.1.1.0 i;
+      partial = h.1.1.1.1.1.0 i;
+      rec = h.1.1.1.1.1.1.0 i;
+      pos = h.1.1.1.1.1.1.1 i;
+    })
+    (λ e. (
+      ap (λ v. v.term) e,
+      (
+        ap (λ v. v.arg_tys) e,
+        (
+          ap (λ v. v.ret_ty) e,
+          (
+            ap (λ v. v.pure) e,
+            (ap (λ v. v.multi) e, (ap (λ v. v.partial) e, (ap (λ v. v.rec) e, ap (λ v. v.pos) e))),
+          ),
+        ),
+      ),
+    ))
 
 pub if_let-decides : (a b : IfLet) → Decides ((if_let.ghosts).eq a b) (a ≡ b)
 if_let-decides a b =
-    through (both _ _ (same_pattern-decides a.pattern b.pattern) (both _ _ (same_expr-decides a.expr b.expr) (pos-decides a.pos b.pos)))
+    through (both _ _ (same_pattern-decides a.pattern b.pattern)
+    (both _ _ (same_expr-decides a.expr b.expr) (pos-decides a.pos b.pos)))
     (λ h i. record { pattern = h.0 i; expr = h.1.0 i; pos = h.1.1 i })
     (λ e. (ap (λ v. v.pattern) e, (ap (λ v. v.expr) e, ap (λ v. v.pos) e)))
 
 pub rule-decides : (a b : Rule) → Decides ((rule.ghosts).eq a b) (a ≡ b)
 rule-decides a b =
-    through (both _ _ (same_pattern-decides a.pattern b.pattern) (both _ _ (pointwise_decides if_let-decides a.iflets b.iflets) (both _ _ (same_expr-decides a.expr b.expr) (both _ _ (pos-decides a.pos b.pos) (both _ _ (options signed_Decides a.prio b.prio) (options ident-decides a.name b.name))))))
-    (λ h i. record { pattern = h.0 i; iflets = h.1.0 i; expr = h.1.1.0 i; pos = h.1.1.1.0 i; prio = h.1.1.1.1.0 i; name = h.1.1.1.1.1 i })
-    (λ e. (ap (λ v. v.pattern) e, (ap (λ v. v.iflets) e, (ap (λ v. v.expr) e, (ap (λ v. v.pos) e, (ap (λ v. v.prio) e, ap (λ v. v.name) e))))))
+    through (both _ _ (same_pattern-decides a.pattern b.pattern)
+    (both _ _ (pointwise_decides if_let-decides a.iflets b.iflets)
+    (both _ _ (same_expr-decides a.expr b.expr)
+    (both _ _ (pos-decides a.pos b.pos)
+    (both _ _ (options signed_Decides a.prio b.prio) (options ident-decides a.name b.name))))))
+    (λ h i. record {
+      pattern = h.0 i;
+      iflets = h.1.0 i;
+      expr = h.1.1.0 i;
+      pos = h.1.1.1.0 i;
+      prio = h.1.1.1.1.0 i;
+      name = h.1.1.1.1.1 i;
+    })
+    (λ e. (
+      ap (λ v. v.pattern) e,
+      (
+        ap (λ v. v.iflets) e,
+        (
+          ap (λ v. v.expr) e,
+          (
+            ap (λ v. v.pos) e,
+            (ap (λ v. v.prio) e, ap (λ v. v.name) e),
+          ),
+        ),
+      ),
+    ))
 
 pub extractor-decides : (a b : Extractor) → Decides ((extractor.ghosts).eq a b) (a ≡ b)
 extractor-decides a b =
-    through (both _ _ (ident-decides a.term b.term) (both _ _ (pointwise_decides ident-decides a.args b.args) (both _ _ (same_pattern-decides a.template b.template) (pos-decides a.pos b.pos))))
+    through (both _ _ (ident-decides a.term b.term)
+    (both _ _ (pointwise_decides ident-decides a.args b.args)
+    (both _ _ (same_pattern-decides a.template b.template) (pos-decides a.pos b.pos))))
     (λ h i. record { term = h.0 i; args = h.1.0 i; template = h.1.1.0 i; pos = h.1.1.1 i })
     (λ e. (ap (λ v. v.term) e, (ap (λ v. v.args) e, (ap (λ v. v.template) e, ap (λ v. v.pos) e))))
 
@@ -170,7 +229,9 @@ extern-decides a b = (λ e. cc, λ e. cc)
 
 pub converter-decides : (a b : Converter) → Decides ((converter.ghosts).eq a b) (a ≡ b)
 converter-decides a b =
-    through (both _ _ (ident-decides a.term b.term) (both _ _ (ident-decides a.inner_ty b.inner_ty) (both _ _ (ident-decides a.outer_ty b.outer_ty) (pos-decides a.pos b.pos))))
+    through (both _ _ (ident-decides a.term b.term)
+    (both _ _ (ident-decides a.inner_ty b.inner_ty)
+    (both _ _ (ident-decides a.outer_ty b.outer_ty) (pos-decides a.pos b.pos))))
     (λ h i. record { term = h.0 i; inner_ty = h.1.0 i; outer_ty = h.1.1.0 i; pos = h.1.1.1 i })
     (λ e. (ap (λ v. v.term) e, (ap (λ v. v.inner_ty) e, (ap (λ v. v.outer_ty) e, ap (λ v. v.pos) e))))
 
@@ -179,7 +240,8 @@ pragma-decides a b = (λ e. refl, λ e. refl)
 
 pub kept-decides : (a b : Kept) → Decides ((kept.ghosts).eq a b) (a ≡ b)
 kept-decides a b =
-    through (both _ _ (ident-decides a.word b.word) (both _ _ (same_coded-decides item_trees_code a.items b.items) (pos-decides a.pos b.pos)))
+    through (both _ _ (ident-decides a.word b.word)
+    (both _ _ (same_coded-decides item_trees_code a.items b.items) (pos-decides a.pos b.pos)))
     (λ h i. record { word = h.0 i; items = h.1.0 i; pos = h.1.1 i })
     (λ e. (ap (λ v. v.word) e, (ap (λ v. v.items) e, ap (λ v. v.pos) e)))
 

@@ -65,4 +65,5 @@ pub mod Lets
 pub mod Chains
 pub mod MacroChains
 pub mod Unbound
+pub mod TokenOrder
 pub mod RuleOrder

@@ -1,18 +1,17 @@
 -- Reading the marks of a type, a turn at a time.
-use Rattle.std.proofs.Common.{◌≡◌, ℕ, zero, suc, ◌-◌, ◌<◌, List, [], ◌∷◌, ◌++◌, length, Bool, true, false, Option, Some, None, refl, sym, ap, ◌∙◌, arith}
-use Rattle.std.specs.Prelude.{codes, ◌||◌}
+use Rattle.std.proofs.Common.{◌≡◌, ℕ, zero, suc, ◌<◌, List, [], ◌∷◌, ◌++◌, length, Bool, true, false, Some, None, refl, sym, ap, ◌∙◌}
+use Rattle.std.specs.Prelude.{◌||◌}
 use Rattle.std.specs.List.{list_any}
 use Rattle.isle_syntax.specs.declared.kind.Keyword.{Keyword}
 use Rattle.isle_syntax.specs.declared.kind.Keyword.TheVariants.{Extern, NoDebug, «Type», Decl, Rule, Extractor, Convert, Kept, Primitive, Enum, Struct, Constructor, Const, NoKeyword}
 use Rattle.isle_syntax.specs.Tokens.{Placed}
 use Rattle.isle_syntax.specs.KindOf.{keyword_at}
 use Rattle.isle_syntax.specs.DefGrammar.{Mark, extern_mark, nodebug_mark, is_extern_mark, is_nodebug_mark}
-use Rattle.isle_syntax.specs.declared.ast.TypeValue.{TypeValue}
 use Rattle.isle_syntax.specs.Parsing.{stop_of, at_fault}
 use Rattle.isle_syntax.specs.DefReading.{mark, mark_on, marks, marked_of, type_value, no_mark, no_mark_on, is_mark_word}
 use Rattle.isle_syntax.proofs.Loops.{Turns, turns_end}
 use Rattle.isle_syntax.proofs.ReadSteps.{map_seq_done}
-use Rattle.isle_syntax.specs.Readers.{Read, done, fault, read_map, seq, says, symbol_of}
+use Rattle.isle_syntax.specs.Readers.{done, fault, read_map, seq, says, symbol_of}
 use Rattle.isle_syntax.proofs.Shorter.{Shortens, map_shortens, symbol_shortens}
 
 pub any_append : {A : Type 0} (p : A → Bool) (xs : List A) (x : A) → list_any p (xs ++ x ∷ []) ≡ (list_any p xs || p x)

@@ -1,5 +1,5 @@
 -- What is right of a text stands in it.
-use Rattle.std.proofs.Common.{◌≡◌, zero, suc, List, [], ◌∷◌, ◌++◌, length, refl, sym, ap, subst, ◌∙◌, arith}
+use Rattle.std.proofs.Common.{◌≡◌, zero, suc, List, [], ◌∷◌, ◌++◌, refl, sym, subst, arith}
 use Rattle.std.specs.Prelude.{Result, Ok, Err, IfOk, IfErr, Vec}
 use Rattle.std.specs.Global.{Global}
 use Rattle.std.specs.List.{All}
@@ -11,14 +11,14 @@ use Rattle.isle_syntax.specs.declared.error.Error.{Error}
 use Rattle.isle_syntax.specs.declared.error.Error.TheVariants.{ParseError, TypeError, UnreachableError, OverlapError, ShadowedError, SizeError}
 use Rattle.isle_syntax.specs.declared.refusal.Refusal.{Refusal}
 use Rattle.isle_syntax.specs.declared.refusal.Refusal.TheVariants.{Fault, Memory}
-use Rattle.isle_syntax.specs.Errors.{ErrorAt, RefusalAt, span_at}
+use Rattle.isle_syntax.specs.Errors.{ErrorAt, RefusalAt}
 use Rattle.isle_syntax.specs.Positions.{IsIn}
 use Rattle.isle_syntax.specs.Tokens.{Placed, opening, place_of}
 use Rattle.isle_syntax.specs.Unread.{Unread, first_place}
 use Rattle.isle_syntax.specs.LexerCalls.{IsUnread}
 use Rattle.isle_syntax.specs.Places.{DefAt}
 use Rattle.isle_syntax.specs.MacroArgs.{HasNoMacroArgs}
-use Rattle.isle_syntax.specs.Verdict.{IsRight, IsFaultOf, FaultAt, DeepAt}
+use Rattle.isle_syntax.specs.Verdict.{IsRight, IsFaultOf}
 use Rattle.isle_syntax.proofs.SpeltPlaces.{text_places}
 use Rattle.isle_syntax.proofs.MacroArgs.{text_no_macro_args}
 

@@ -1,10 +1,9 @@
 -- Reading leaves fewer tokens than there were.
-use Rattle.std.proofs.Common.{◌≡◌, ℕ, zero, suc, ◌-◌, ◌<◌, ◌≤◌, List, [], ◌∷◌, length, Bool, true, false, cond, Option, Some, None, refl, sym, ap, subst, ◌∙◌, arith}
+use Rattle.std.proofs.Common.{◌≡◌, ℕ, zero, suc, ◌-◌, ◌<◌, ◌≤◌, List, [], ◌∷◌, length, Bool, true, false, cond, Option, Some, None, refl, ap, arith}
 use Rattle.isle_syntax.specs.declared.lexer.Pos.{Pos}
 use Rattle.isle_syntax.specs.declared.ast.Ident.{Ident}
 use Rattle.isle_syntax.specs.Tokens.{Placed, opening, closing, at_sign, symbol, int}
-use Rattle.isle_syntax.specs.Spelt.{names}
-use Rattle.isle_syntax.specs.Readers.{Read, done, fault, deep, Reader, after, read_map, seq, after_close, many, many_turn, rest_of, opened, shut, opened_within, parens, closed, any_symbol, symbol_of}
+use Rattle.isle_syntax.specs.Readers.{Read, done, fault, deep, Reader, after, read_map, seq, after_close, many, many_turn, rest_of, opened, shut, opened_within, closed, symbol_of}
 use Rattle.isle_syntax.specs.DefReading.{identifier, field, fields, fields_on, variant, variant_on, is_symbol_next}
 
 -- what is left of a value that was read

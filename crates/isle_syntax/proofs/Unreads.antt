@@ -58,6 +58,7 @@ looked_unread source lookahead start rest text same ahead working =
     let within : ReadingIn source (reading_of source lookahead start rest) = subst (ReadingIn source) (sym same) (reading_in source text) in
     record {
       placed = within.0;
+      ascending = ahead.ascending;
       within = within.1;
       starved_before = ahead.starved_before;
       failed_left = λ e. absurd (working e);
@@ -88,12 +89,13 @@ first_in source end first left start h e each =
 pub ahead_unread : (source : Source) (lookahead : Lookahead) (start : ℕ) (rest : List ℕ) → IsAhead source lookahead start rest → IsUnread (unread_of source lookahead start rest)
 ahead_unread source (Given t) start rest a = record {
   placed = first_in source (reading source rest).end (placed_at t.0 t.1) (reading source rest).left start a.within a.begins (reading_in source rest).0;
+  ascending = a.ascending;
   within = (reading_in source rest).1;
   starved_before = λ e. cc;
   failed_left = λ e. cc;
   failed_clean = λ e. cc;
 }
-ahead_unread source End start rest a = record { placed = All-nil (PlacedIn source); within = a.within; starved_before = λ e. cc; failed_left = λ e. cc; failed_clean = λ e. cc }
-ahead_unread source (Fault reason) start rest a = record { placed = All-nil (PlacedIn source); within = a.within; starved_before = λ e. cc; failed_left = λ e. cc; failed_clean = λ e. cc }
-ahead_unread source (Memory m) start rest a = record { placed = (reading_in source rest).0; within = (reading_in source rest).1; starved_before = a.starved_before; failed_left = λ e. cc; failed_clean = λ e. cc }
-ahead_unread source Failed start rest a = record { placed = All-nil (PlacedIn source); within = a.within; starved_before = λ e. cc; failed_left = λ e. refl; failed_clean = λ e. refl }
+ahead_unread source End start rest a = record { placed = All-nil (PlacedIn source); ascending = a.ascending; within = a.within; starved_before = λ e. cc; failed_left = λ e. cc; failed_clean = λ e. cc }
+ahead_unread source (Fault reason) start rest a = record { placed = All-nil (PlacedIn source); ascending = a.ascending; within = a.within; starved_before = λ e. cc; failed_left = λ e. cc; failed_clean = λ e. cc }
+ahead_unread source (Memory m) start rest a = record { placed = (reading_in source rest).0; ascending = a.ascending; within = (reading_in source rest).1; starved_before = a.starved_before; failed_left = λ e. cc; failed_clean = λ e. cc }
+ahead_unread source Failed start rest a = record { placed = All-nil (PlacedIn source); ascending = a.ascending; within = a.within; starved_before = λ e. cc; failed_left = λ e. refl; failed_clean = λ e. refl }

@@ -1,5 +1,5 @@
 -- What a loop over all definitions of a text promises.
-use Rattle.std.proofs.Common.{◌≡◌, ◌<◌, List, [], ◌∷◌, length, arith, Some, None, Bool, true, false, refl, sym, ap, subst, ◌∙◌}
+use Rattle.std.proofs.Common.{◌≡◌, ◌<◌, List, [], ◌∷◌, length, arith, None, Bool, true, false, refl, sym, ap, ◌∙◌}
 use Rattle.std.specs.Prelude.{Err}
 use Rattle.isle_syntax.specs.declared.ast.Def.{Def}
 use Rattle.isle_syntax.specs.declared.error.Span.{Span}
@@ -13,8 +13,8 @@ use Rattle.isle_syntax.specs.Unread.{Unread, first_place, place_at}
 use Rattle.isle_syntax.specs.LexerCalls.{HasEnded}
 use Rattle.isle_syntax.specs.Readers.{Read, done, fault, deep, at_end, all_of}
 use Rattle.isle_syntax.specs.DefReading.{def}
-use Rattle.isle_syntax.specs.Parsing.{Stop, nowhere, at_fault, at_deep, stop_of, bounds, TellsStop, RefusesAt}
-use Rattle.isle_syntax.specs.Verdict.{max_nesting, IsFaultOf, FaultAt, DeepAt, IsSpelt, IsRight}
+use Rattle.isle_syntax.specs.Parsing.{at_fault, at_deep, stop_of, bounds, TellsStop, RefusesAt}
+use Rattle.isle_syntax.specs.Verdict.{max_nesting, IsFaultOf, IsSpelt, IsRight}
 use Rattle.isle_syntax.proofs.Loops.{Turns, turn_refuses, turns_end}
 use Rattle.isle_syntax.proofs.Texts.{spelt_from_reading, fault_from_reading, fault_at_end, deep_from_reading}
 

@@ -1,5 +1,5 @@
 -- What a lexer answers.
-use Rattle.std.specs.Prelude.{◌≡◌, ◌≤◌, ℕ, List, [], ◌∷◌, true, false, All, Option, None, Some}
+use Rattle.std.specs.Prelude.{◌≡◌, ◌<◌, ◌≤◌, ℕ, List, [], ◌∷◌, true, false, All, AllPairs, Option, None, Some}
 use Rattle.isle_syntax.specs.declared.lexer.Pos.{Pos}
 use Rattle.isle_syntax.specs.declared.lexer.Token.{Token}
 use Rattle.isle_syntax.specs.declared.error.Span.{Span}
@@ -21,9 +21,15 @@ BeginsWithSymbol (at_sign _ ∷ _) = ⊥
 BeginsWithSymbol (symbol _ _ ∷ _) = Unit {0}
 BeginsWithSymbol (int _ _ ∷ _) = ⊥
 
--- what is true of every lexer: its positions lie in its text; it is starved before a symbol; it has failed for good
+-- each token stands before all later ones
+abbrev pub TokensAscend : List Placed → Type 0
+TokensAscend tokens = AllPairs (λ s t. (place_of s).offset < (place_of t).offset) tokens
+
+-- what is true of every lexer: its tokens lie in its text, one behind the other; it is starved before a symbol;
+-- it has failed for good
 pub record IsUnread (unread : Unread) : Type 0 where
   pub placed : All (λ token. IsIn unread.source (place_of token)) unread.left
+  pub ascending : TokensAscend unread.left
   pub within : unread.end ≤ unread.source.size
   pub starved_before : unread.state ≡ starved → BeginsWithSymbol unread.left
   pub failed_left : unread.state ≡ failed → unread.left ≡ []

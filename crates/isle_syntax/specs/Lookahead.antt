@@ -1,7 +1,7 @@
 -- What stands next in a text.
-use Rattle.std.specs.Prelude.{◌≡◌, ◌≤◌, ℕ, List, [], true, false}
+use Rattle.std.specs.Prelude.{◌≡◌, ◌≤◌, ℕ, List, [], length, true, false}
 use Rattle.isle_syntax.specs.Unread.{Source, LexerState, ready, starved, failed, Unread, first_place}
-use Rattle.isle_syntax.specs.LexerCalls.{BeginsWithSymbol}
+use Rattle.isle_syntax.specs.LexerCalls.{BeginsWithSymbol, TokensAscend}
 use Rattle.isle_syntax.specs.Reading.{Reading, reading, reading_before}
 use Rattle.isle_syntax.specs.declared.lexer.Lookahead.{Lookahead}
 use Rattle.isle_syntax.specs.declared.lexer.Lookahead.TheVariants.{Token, End, Fault, Memory, Failed}
@@ -27,8 +27,11 @@ abbrev pub unread_of : Source → Lookahead → ℕ → List ℕ → Unread
 unread_of source lookahead start rest = let r = reading_of source lookahead start rest in
     record { left = r.left; end = r.end; clean = r.clean; state = state_of lookahead; source = source }
 
--- the next token, or else the end, begins where the lexer stands; it is a symbol where there was no memory for it
+-- the next token, or else the end, begins where the lexer stands; it is a symbol where there was no memory for it;
+-- what is behind it is no longer than the text, so that its tokens stand one behind the other
 pub record IsAhead (source : Source) (lookahead : Lookahead) (start : ℕ) (rest : List ℕ) : Type 0 where
   pub within : start ≤ source.size
+  pub remaining : length rest ≤ source.size
   pub begins : first_place source (reading_of source lookahead start rest).end (reading_of source lookahead start rest).left ≡ record { file = source.file; offset = start }
   pub starved_before : state_of lookahead ≡ starved → BeginsWithSymbol (reading_of source lookahead start rest).left
+  pub ascending : TokensAscend (reading_of source lookahead start rest).left

@@ -14,10 +14,9 @@ mod eq;
 mod macros;
 mod positions;
 mod terms;
-pub(crate) mod wrap;
-
 #[cfg(test)]
 mod tests;
+pub(crate) mod wrap;
 
 use crate::lexer::Pos;
 use crate::text::{Seq, Text};

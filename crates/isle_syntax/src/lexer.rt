@@ -1,4 +1,4 @@
-ghost use Rattle.std.specs.Prelude.{◌≡◌, ◌↔◌, ◌∷◌, IsTrue, IsSome, IfSome, IfOk, IfErr, MatchOption, option_map, drop, length, List, ℕ, Bool};
+ghost use Rattle.std.specs.Prelude.{◌≡◌, ◌≤◌, ◌↔◌, ◌∷◌, IsTrue, IsSome, IfSome, IfOk, IfErr, MatchOption, option_map, drop, length, List, ℕ, Bool};
 ghost use Rattle.isle_syntax.specs.Tokens.{Placed, placed, IsInt, IsSymbol};
 ghost use Rattle.isle_syntax.specs.Unread.{failed, starved, place_at};
 ghost use Rattle.isle_syntax.specs.Positions.{IsIn};
@@ -241,6 +241,7 @@ impl<'src> Lexer<'src> {
 
 /// What stands next in `rest`, the offset where it begins, and what follows it.
 fn look(alloc: Global, file: usize, size: usize, rest: &str) -> (Lookahead, usize, &str)
+    requires { length rest.now ≤ size }
     ensures same { reading_of (record { file = file; size = size }) result.0 result.1 result.2.now
         ≡ reading (record { file = file; size = size }) rest.now }
     ensures ahead { IsAhead (record { file = file; size = size }) result.0 result.1 result.2.now }

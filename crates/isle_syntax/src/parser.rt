@@ -1,9 +1,9 @@
-ghost use Rattle.std.specs.Prelude.{◌≡◌, All, IfOk, IfErr, List, ℕ};
+ghost use Rattle.std.specs.Prelude.{◌≡◌, All, IfOk, IfErr};
 ghost use Rattle.isle_syntax.specs.Positions.{IsIn};
 ghost use Rattle.isle_syntax.specs.Errors.{RefusalAt};
 ghost use Rattle.isle_syntax.specs.Places.{DefAt};
 ghost use Rattle.isle_syntax.specs.MacroArgs.{HasNoMacroArgs};
-ghost use Rattle.isle_syntax.specs.RuleOrder.{RulesAscend, IsWhole};
+ghost use Rattle.isle_syntax.specs.RuleOrder.{RulesAscend};
 ghost use Rattle.isle_syntax.specs.Verdict.{IsRight, IsRightWithoutPos};
 
 mod definitions;
@@ -33,7 +33,7 @@ pub fn parse(lexer: Lexer<'_>) -> Result<Vec<Def>, Refusal<Error>>
     ensures placed { IfOk result (λ defs. All (DefAt (IsIn lexer.entry.source)) defs.items) }
     ensures refused { IfErr result (RefusalAt (IsIn lexer.entry.source)) }
     ensures no_macro_args { IfOk result (λ defs. All HasNoMacroArgs defs.items) }
-    ensures ascending { (text : List ℕ) → IsWhole text lexer.entry → IfOk result (λ defs. RulesAscend defs.items) }
+    ensures ascending { IfOk result (λ defs. RulesAscend defs.items) }
 {
     Parser::new(lexer).parse_defs()
 }

@@ -1,5 +1,8 @@
 ghost use Rattle.std.specs.Prelude.{◌≡◌, ◌∷◌, ◌++◌, [], IfOk};
 
+#[cfg(test)]
+mod tests;
+
 use crate::error::{Error, Errors};
 use crate::files::Files;
 use std::alloc::{AllocError, Global};

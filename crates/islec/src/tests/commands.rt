@@ -168,7 +168,10 @@ fn tells_the_first_files_fault(rt: HostRuntime) -> Result<(), Fail> {
     ];
     let (output, status) = performed(rt.alloc(), &files, 1, QUERIES.as_bytes())?;
     let output = String::from_utf8(output).ok().ok_or("text")?;
-    assert!(rt; output.as_str().starts_with("b.isle:1:12: parse error\n"), "{output}");
+    assert!(rt;
+        output.as_str().starts_with("b.isle:1:12: parse error\n"),
+        "{output}"
+    );
     assert_eq!(rt; status, 1);
     Ok(())
 }

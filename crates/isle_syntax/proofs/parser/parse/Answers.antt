@@ -21,4 +21,5 @@ pub returns-clause-no_macro_args : goal.returns-clause-no_macro_args
 returns-clause-no_macro_args c = right_no_macro_args c.args.lexer c.parse_defs.result (subst (λ (u : Unread). IsRight u c.parse_defs.result) c.new.ensures c.parse_defs.ensures.right)
 
 pub returns-clause-ascending : goal.returns-clause-ascending
-returns-clause-ascending c text whole = right_ascends c.args.lexer c.parse_defs.result (subst (λ (u : Unread). IsRight u c.parse_defs.result) c.new.ensures c.parse_defs.ensures.right) text whole
+returns-clause-ascending c = right_ascends c.args.lexer (subst IsUnread c.new.ensures c.parse_defs.ensures.unread) c.parse_defs.result
+    (subst (λ (u : Unread). IsRight u c.parse_defs.result) c.new.ensures c.parse_defs.ensures.right)

@@ -1,9 +1,8 @@
-use Rattle.std.proofs.Common.{◌≡◌, [], ◌∷◌, length, refl, sym, ap, subst, ◌∙◌, arith}
+use Rattle.std.proofs.Common.{refl, sym, subst, ◌∙◌}
 use Rattle.std.proofs.lemmas.Bool.{false≢true}
 use Rattle.std.proofs.lemmas.Result.{err_from_is_err_and}
 use Rattle.isle_syntax.specs.LexerCalls.{HasEnded}
-use Rattle.isle_syntax.specs.Parsing.{bounds}
-use Rattle.isle_syntax.specs.Readers.{at_end, all_of}
+use Rattle.isle_syntax.specs.Readers.{at_end}
 use Rattle.isle_syntax.specs.DefReading.{def}
 use Rattle.isle_syntax.specs.Verdict.{max_nesting}
 use Rattle.isle_syntax.proofs.DefRules.{def_shorter}

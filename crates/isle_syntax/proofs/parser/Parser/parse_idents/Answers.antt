@@ -1,7 +1,7 @@
-use Rattle.std.proofs.Common.{[], ◌∷◌, ◌-◌, length, refl, ap, ◌∙◌, arith}
+use Rattle.std.proofs.Common.{refl, ap, ◌∙◌}
 use Rattle.std.proofs.lemmas.Result.{err_from_is_err_and}
 use Rattle.isle_syntax.specs.Parsing.{bounds}
-use Rattle.isle_syntax.specs.Readers.{after_close, rest_of}
+use Rattle.isle_syntax.specs.Readers.{after_close}
 use Rattle.isle_syntax.specs.DefReading.{identifier}
 use Rattle.isle_syntax.proofs.Loops.{turn_refuses, turn_adds, turn_no_token, turns_end, takes_none, takes_some}
 use Rattle.isle_syntax.proofs.Shorter.{identifier_shortens}

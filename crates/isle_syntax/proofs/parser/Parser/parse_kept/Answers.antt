@@ -1,7 +1,6 @@
-use Rattle.std.proofs.Common.{[], map, sym, ap, ◌∙◌}
-use Rattle.isle_syntax.specs.ItemShape.{item_of}
+use Rattle.std.proofs.Common.{sym, ap, ◌∙◌}
 use Rattle.isle_syntax.specs.DefGrammar.{is_kept_word}
-use Rattle.isle_syntax.specs.DefReading.{kept, kept_of}
+use Rattle.isle_syntax.specs.DefReading.{kept_of}
 use Rattle.isle_syntax.specs.Spelt.{first_place}
 use Rattle.isle_syntax.specs.Readers.{done, read_map, from, rest_of, symbol_of}
 use Rattle.isle_syntax.specs.TreeReading.{item}

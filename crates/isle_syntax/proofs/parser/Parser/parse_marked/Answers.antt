@@ -1,4 +1,4 @@
-use Rattle.std.proofs.Common.{[], ◌∷◌, ◌++◌, length, refl, sym, ap, subst, ◌∙◌, arith}
+use Rattle.std.proofs.Common.{[], ◌∷◌, ◌++◌, refl, sym, ap, subst, ◌∙◌}
 use Rattle.std.specs.Prelude.{codes}
 use Rattle.std.proofs.lemmas.Result.{err_from_is_err_and}
 use Rattle.isle_syntax.specs.declared.kind.Keyword.TheVariants.{Extern, NoDebug}
@@ -7,7 +7,7 @@ use Rattle.isle_syntax.specs.DefGrammar.{extern_mark, nodebug_mark}
 use Rattle.isle_syntax.specs.DefReading.{no_mark, mark, marks, marked_of, type_value}
 use Rattle.isle_syntax.specs.Parsing.{bounds, stop_of, RefusesAt}
 use Rattle.isle_syntax.specs.Readers.{read_map, done, says, seq}
-use Rattle.isle_syntax.proofs.Loops.{turn_refuses, turn_adds, turns_end, refuses_map, refuses_no_token, known_refuses, known_gives}
+use Rattle.isle_syntax.proofs.Loops.{turn_refuses, turn_adds, refuses_map, refuses_no_token, known_refuses}
 use Rattle.isle_syntax.proofs.Marks.{goes_on, ends, reads_mark, extern_more, extern_same, nodebug_more, nodebug_same, says_less, marked_at_end, marks_end}
 use Rattle.isle_syntax.proofs.Opening.{refuses_with, first_stops}
 use Rattle.isle_syntax.proofs.ReadSteps.{map_seq_done}
