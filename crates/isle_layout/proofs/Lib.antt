@@ -1,2 +1,3 @@
 pub mod SExprSizes
 pub mod Spellings
+pub mod MacroArgs
