@@ -7,3 +7,4 @@ pub mod ListLayouts
 pub mod Spellings
 mod LayoutCases
 pub mod NoMacroArgs
+pub mod MacroArgs
