@@ -1,4 +1,6 @@
 //! The layout of ISLE: S-expressions, how they are printed, and which definitions can be.
 #![tactic(auto)]
 
+mod nesting;
 pub mod sexpr;
+pub mod writable;
