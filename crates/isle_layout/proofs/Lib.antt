@@ -1,1 +1,4 @@
 pub mod SExprSizes
+pub mod TextTokens
+pub mod Rooms
+pub mod TreeRooms

@@ -4,3 +4,4 @@ pub mod SExprShape
 pub mod SExprFalls
 pub mod Nesting
 pub mod Writable
+pub mod TextTokens
