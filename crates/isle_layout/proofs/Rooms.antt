@@ -54,10 +54,12 @@ keeps_fewer le f = record {
   within = λ r m ts l h. (let k = f.within r m ts l h in (omega (arith, le, k.0), k.1));
 }
 
-pub shuts_fewer : {d e : ℕ} {L : List Placed → Type 0} → d ≤ e → Shuts e L → Shuts d L
-shuts_fewer le f = record {
-  within = λ r m ts l h. (let k = f.within r m ts l h in (omega (arith, le, k.0), k.1));
-}
+-- with a further fact
+pub keeps_with : {d : ℕ} {L : List Placed → Type 0} (P : List Placed → Type 0) → Keeps d L → Keeps d (λ ts. L ts × P ts)
+keeps_with P f = record { within = λ r m ts l h. f.within r m ts l.0 h }
+
+pub shuts_with : {d : ℕ} {L : List Placed → Type 0} (P : List Placed → Type 0) → Shuts d L → Shuts d (λ ts. L ts × P ts)
+shuts_with P f = record { within = λ r m ts l h. f.within r m ts l.0 h }
 
 -- ---- single tokens
 
@@ -133,4 +135,16 @@ shuts_block f g = record {
       let closes = shuts_close.within j.0 i.0 l.4.4.0 l.4.4.3 i.1 in
       let last = g.within i.0 m l.4.4.1 l.4.4.4 i.2 in
       (omega (arith, opens, inner.0, inner.1, closes.1, last.0), omega (arith, opens, inner.1, closes.1, last.1));
+}
+
+-- parentheses of which the closing one is among the tokens, and then tokens that close one more
+pub shuts_group : {d e : ℕ} {L M : List Placed → Type 0} (p : Pos) → Shuts d L → Shuts e M → Shuts (max (d + 1) e) (Opens p ⊙ (L ⊙ M))
+shuts_group p f g = record {
+  within = λ r m ts l h.
+      let k = between r ts l.0 l.1 m l.2 h in
+      let opens = open_room r k.0 p (subst (λ x. room r x ≡ Some k.0) l.3 k.1) in
+      let j = between k.0 l.1 l.4.0 l.4.1 m l.4.2 k.2 in
+      let inner = f.within k.0 j.0 l.4.0 l.4.3 j.1 in
+      let last = g.within j.0 m l.4.1 l.4.4 j.2 in
+      (omega (arith, opens, inner.0, inner.1, last.0), omega (arith, opens, inner.1, last.1));
 }

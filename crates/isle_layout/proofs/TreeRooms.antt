@@ -11,11 +11,7 @@ use Rattle.isle_syntax.specs.PatternTree.{PatternTree, PatternTrees, pattern_var
 use Rattle.isle_syntax.specs.ExprTree.{ExprTree, ExprTrees, LetTrees, expr_term, expr_var, expr_bool, expr_int, expr_prim, expr_let, no_exprs, more_exprs, no_lets, more_lets}
 use Rattle.isle_syntax.specs.ItemTree.{ItemTree, ItemTrees, item_int, item_big, item_symbol, item_at, item_list, no_items, more_items}
 use Rattle.isle_layout.specs.Nesting.{pattern_nesting, pattern_nestings, expr_nesting, expr_nestings, let_nestings, item_nesting, item_nestings}
-use Rattle.isle_layout.proofs.Rooms.{Keeps, Shuts, keeps_seq, shuts_seq, keeps_fewer, keeps_word, keeps_says, keeps_symbol, keeps_one_symbol, keeps_one_int, keeps_one_at, keeps_at, keeps_none, shuts_close, keeps_opens, shuts_block}
-
--- with a further fact
-pub keeps_with : {d : ℕ} {L : List Placed → Type 0} (P : List Placed → Type 0) → Keeps d L → Keeps d (λ ts. L ts × P ts)
-keeps_with P f = record { within = λ r m ts l h. f.within r m ts l.0 h }
+use Rattle.isle_layout.proofs.Rooms.{Keeps, Shuts, keeps_seq, shuts_seq, keeps_fewer, keeps_word, keeps_says, keeps_symbol, keeps_one_symbol, keeps_one_int, keeps_one_at, keeps_at, keeps_none, shuts_close, keeps_opens, shuts_block, keeps_with}
 
 keeps_integer : (val : ℤ) (big : Bool) (p : Pos) → Keeps 0 (SpellsInteger val big p)
 keeps_integer val big p = record { within = λ r m ts l h. (keeps_one_int p l.0).within r m ts l.1 h }
