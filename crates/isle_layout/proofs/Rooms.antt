@@ -27,7 +27,7 @@ room_between : (r : ℕ) (u v : List Placed) (m : ℕ) → room r (u ++ v) ≡ S
 room_between r [] v m e = (r, refl, e)
 room_between r (t ∷ u) v m e = split_some (room_after r t) u v m (λ k h. room_between k u v m h) e
 
-between : (r : ℕ) (ts u v : List Placed) (m : ℕ) → ts ≡ u ++ v → room r ts ≡ Some m → (k : ℕ) × (room r u ≡ Some k) × (room k v ≡ Some m)
+pub between : (r : ℕ) (ts u v : List Placed) (m : ℕ) → ts ≡ u ++ v → room r ts ≡ Some m → (k : ℕ) × (room r u ≡ Some k) × (room k v ≡ Some m)
 between r ts u v m s e = room_between r u v m (subst (λ x. room r x ≡ Some m) s e)
 
 pub keeps_seq : {d e : ℕ} {L M : List Placed → Type 0} → Keeps d L → Keeps e M → Keeps (max d e) (L ⊙ M)
@@ -51,6 +51,11 @@ shuts_seq f g = record {
 -- there was room for fewer
 pub keeps_fewer : {d e : ℕ} {L : List Placed → Type 0} → d ≤ e → Keeps e L → Keeps d L
 keeps_fewer le f = record {
+  within = λ r m ts l h. (let k = f.within r m ts l h in (omega (arith, le, k.0), k.1));
+}
+
+pub shuts_fewer : {d e : ℕ} {L : List Placed → Type 0} → d ≤ e → Shuts e L → Shuts d L
+shuts_fewer le f = record {
   within = λ r m ts l h. (let k = f.within r m ts l h in (omega (arith, le, k.0), k.1));
 }
 
@@ -137,14 +142,31 @@ shuts_block f g = record {
       (omega (arith, opens, inner.0, inner.1, closes.1, last.0), omega (arith, opens, inner.1, closes.1, last.1));
 }
 
--- parentheses of which the closing one is among the tokens, and then tokens that close one more
-pub shuts_group : {d e : ℕ} {L M : List Placed → Type 0} (p : Pos) → Shuts d L → Shuts e M → Shuts (max (d + 1) e) (Opens p ⊙ (L ⊙ M))
-shuts_group p f g = record {
-  within = λ r m ts l h.
-      let k = between r ts l.0 l.1 m l.2 h in
-      let opens = open_room r k.0 p (subst (λ x. room r x ≡ Some k.0) l.3 k.1) in
-      let j = between k.0 l.1 l.4.0 l.4.1 m l.4.2 k.2 in
-      let inner = f.within k.0 j.0 l.4.0 l.4.3 j.1 in
-      let last = g.within j.0 m l.4.1 l.4.4 j.2 in
-      (omega (arith, opens, inner.0, inner.1, last.0), omega (arith, opens, inner.1, last.1));
+pub shuts_flag : {d : ℕ} {L : List Placed → Type 0} (w : List ℕ) (set : Bool) → Shuts d L → Shuts d (Flag w set L)
+shuts_flag w true f = record {
+  within = λ r m ts l h. (let k = (shuts_seq (keeps_says w) f).within r m ts l h in (omega (arith, k.0), k.1));
 }
+shuts_flag w false f = record { within = λ r m ts l h. f.within r m ts l.0 h }
+
+pub keeps_each : {A : Type 0} {L : A → List Placed → Type 0} → ((a : A) → Keeps 0 (L a)) → (xs : List A) → Keeps 0 (Each L xs)
+keeps_each each [] = record { within = λ r m ts l h. keeps_none.within r m ts l h }
+keeps_each each (x ∷ xs) = record {
+  within = λ r m ts l h. (keeps_seq (each x) (keeps_each each xs)).within r m ts l h;
+}
+
+-- parentheses of which the closing one is among the tokens, and then tokens that close one more
+group : {d e : ℕ} {L M : List Placed → Type 0} (p : Pos) → Shuts d L → Shuts e M → (r m : ℕ) (ts u v : List Placed) → ts ≡ u ++ v → u ≡ opening p ∷ [] → (L ⊙ M) v
+    → room r ts ≡ Some m → (max (d + 1) e ≤ r) × (m ≡ suc r)
+group p f g r m ts u v s o l h =
+    let k = between r ts u v m s h in
+    let opens = open_room r k.0 p (subst (λ x. room r x ≡ Some k.0) o k.1) in
+    let j = between k.0 v l.0 l.1 m l.2 k.2 in
+    let inner = f.within k.0 j.0 l.0 l.3 j.1 in
+    let last = g.within j.0 m l.1 l.4 j.2 in
+    (omega (arith, opens, inner.0, inner.1, last.0), omega (arith, opens, inner.1, last.1))
+
+pub shuts_group : {d e : ℕ} {L M : List Placed → Type 0} (p : Pos) → Shuts d L → Shuts e M → Shuts (max (d + 1) e) (Opens p ⊙ (L ⊙ M))
+shuts_group p f g = record { within = λ r m ts l h. group p f g r m ts l.0 l.1 l.2 l.3 l.4 h }
+
+pub shuts_list : {d e : ℕ} {L M : List Placed → Type 0} → Shuts d L → Shuts e M → Shuts (max (d + 1) e) (Opening tt ⊙ (L ⊙ M))
+shuts_list f g = record { within = λ r m ts l h. group l.3.0 f g r m ts l.0 l.1 l.2 l.3.1 l.4 h }

@@ -33,13 +33,17 @@ use Rattle.isle_syntax.specs.Names.{is_ident, is_word}
 use Rattle.isle_syntax.specs.Spelt.{◌⊙◌, Opening, Closes, SymbolOf, Flag, Each, Closed, names, first_place, room}
 use Rattle.isle_syntax.specs.Grammar.{IsList, SpellsPattern}
 use Rattle.isle_syntax.specs.DefGrammar.{SpellsIdent, SpellsField, SpellsFields, IsFilled, numbered, SpellsVariant, bare, in_list, SpellsTypeValue, SpellsType, SpellsSignature, SpellsDecl, SpellsExtractor, SpellsExtern, SpellsConverter, SpellsName, SpellsPriority, SpellsIfLet, if_let, if_holds, IsRightSide, SpellsRightSide, SpellsRule, is_kept_word, SpellsKept, SpellsDef, SpellsText}
-use Rattle.isle_syntax.specs.Verdict.{max_nesting, NestsWithin}
+use Rattle.isle_syntax.specs.Verdict.{max_nesting, NestsWithin, IsSpelt}
+use Rattle.isle_syntax.specs.Unread.{Unread}
+use Rattle.isle_syntax.specs.RuleOrder.{IsWhole}
 use Rattle.isle_layout.specs.TextTokens.{AreTextTokens}
 use Rattle.isle_layout.specs.Nesting.{nesting}
 use Rattle.isle_layout.specs.Writable.{writable_ident, writable_pattern, writable_expr, writable_struct_field, writable_tuple_fields, is_filled, writable_fields, writable_variant, writable_type_value, writable_type, is_free_of_flags, writable_decl, writable_extractor, writable_extern, writable_converter, writable_rule_name, writable_iflet, is_list, is_right_side, writable_rule, writable_kept, has_writable_words, writable_def}
+use Rattle.isle_layout.proofs.Rooms.{between}
+use Rattle.isle_layout.proofs.TextTokens.{tokens_are_text}
 use Rattle.isle_layout.proofs.Meanings.{Means, front_of, back_of, means_first, means_second, means_both, means_three, means_with, means_symbol, means_each, means_flag}
 use Rattle.isle_layout.proofs.SpeltTrees.{means_constant, pattern_means, expr_means, items_mean}
-use Rattle.isle_layout.proofs.DefRooms.{def_nests}
+use Rattle.isle_layout.proofs.DefRooms.{def_rooms}
 
 idents_mean : (xs : List Ident) → Means (list_all writable_ident xs) (Each SpellsIdent xs)
 idents_mean xs = means_each writable_ident SpellsIdent (λ x. means_symbol is_ident x) xs
@@ -282,5 +286,20 @@ def_means (Kept k) = means_second (kept_means k)
 -- what is spelt within the bound can be written
 pub spelt_is_writable : (def : Def) (ts : List Placed) → AreTextTokens ts → NestsWithin ts → SpellsDef def ts → writable_def def ≡ true
 spelt_is_writable def ts text nests l =
-    let few = def_nests def max_nesting nests.0 ts (omega arith) l nests.1 in
-    and_from (has_writable_words def) (nat_le (nesting def) max_nesting) ((def_means def).holds ts text l) (le-leb (nesting def) max_nesting few)
+    let few = def_rooms def max_nesting nests.0 ts (omega arith) l nests.1 in
+    and_from (has_writable_words def) (nat_le (nesting def) max_nesting) ((def_means def).holds ts text l) (le-leb (nesting def) max_nesting few.0)
+
+-- and so can each definition of a text
+pub text_is_writable : (defs : List Def) (ts : List Placed) → AreTextTokens ts → NestsWithin ts → SpellsText defs ts → All (λ def. writable_def def ≡ true) defs
+text_is_writable [] ts text nests l = All-nil (λ def. writable_def def ≡ true)
+text_is_writable (def ∷ defs) ts text nests l =
+    let k = between max_nesting ts l.0 l.1 nests.0 l.2 nests.1 in
+    let same = (def_rooms def max_nesting k.0 l.0 (omega arith) l.3 k.1).1 in
+    let behind : NestsWithin l.1 = (nests.0, subst (λ r. room r l.1 ≡ Some nests.0) same k.2) in
+    All-cons (λ d. writable_def d ≡ true) def defs (spelt_is_writable def l.0 (front_of ts l.0 l.1 l.2 text) (k.0, k.1) l.3)
+    (text_is_writable defs l.1 (back_of ts l.0 l.1 l.2 text) behind l.4)
+
+-- what the parser gives of a whole text can be written
+pub parsed_is_writable : (text : List ℕ) (unread : Unread) (defs : List Def) → IsWhole text unread → IsSpelt unread defs → All (λ def. writable_def def ≡ true) defs
+parsed_is_writable text unread defs whole spelt =
+    text_is_writable defs unread.left (tokens_are_text whole.tokens) spelt.nests spelt.spelt

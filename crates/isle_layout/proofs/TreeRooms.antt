@@ -16,7 +16,7 @@ use Rattle.isle_layout.proofs.Rooms.{Keeps, Shuts, keeps_seq, shuts_seq, keeps_f
 keeps_integer : (val : ℤ) (big : Bool) (p : Pos) → Keeps 0 (SpellsInteger val big p)
 keeps_integer val big p = record { within = λ r m ts l h. (keeps_one_int p l.0).within r m ts l.1 h }
 
-keeps_constant : (x : Ident) → Keeps 0 (Constant x)
+pub keeps_constant : (x : Ident) → Keeps 0 (Constant x)
 keeps_constant x = keeps_with (λ ts. is_const_name x.0 ≡ true) (keeps_one_symbol x.1 (36 ∷ x.0))
 
 mutual
