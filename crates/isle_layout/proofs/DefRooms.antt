@@ -1,7 +1,6 @@
 -- Where a definition is spelt, there was room for the parentheses that are open at once in it, and there is as much behind it.
-use Rattle.std.proofs.Common.{◌≡◌, ℕ, suc, ◌+◌, ◌≤◌, max, List, [], ◌∷◌, Bool, Option, None, Some, true, false, refl, ap, arith}
+use Rattle.std.proofs.Common.{◌≡◌, ℕ, ◌+◌, ◌≤◌, max, List, [], ◌∷◌, Bool, Option, None, Some, ap, arith}
 use Rattle.std.specs.Prelude.{ℤ, codes}
-use Rattle.isle_syntax.specs.declared.lexer.Pos.{Pos}
 use Rattle.isle_syntax.specs.declared.ast.Ident.{Ident}
 use Rattle.isle_syntax.specs.declared.ast.StructField.{StructField}
 use Rattle.isle_syntax.specs.declared.ast.Fields.{Fields}
@@ -23,12 +22,10 @@ use Rattle.isle_syntax.specs.declared.ast.Def.TheVariants.{TypeDef, Decl, Rule, 
 use Rattle.isle_syntax.specs.Tokens.{small, Placed}
 use Rattle.isle_syntax.specs.Names.{is_ident}
 use Rattle.isle_syntax.specs.Spelt.{◌⊙◌, Closes, Each, first_place, room}
-use Rattle.isle_syntax.specs.PatternTree.{pattern_wildcard}
 use Rattle.isle_syntax.specs.PatternShape.{pattern_of}
 use Rattle.isle_syntax.specs.ExprTree.{ExprTree}
 use Rattle.isle_syntax.specs.ExprShape.{expr_of}
-use Rattle.isle_syntax.specs.Grammar.{IsList}
-use Rattle.isle_syntax.specs.DefGrammar.{SpellsIdent, SpellsField, SpellsFields, SpellsVariant, bare, in_list, SpellsTypeValue, Mark, extern_mark, nodebug_mark, SpellsMark, SpellsMarks, SpellsType, SpellsSignature, SpellsDecl, SpellsExtractor, SpellsExtern, SpellsConverter, SpellsKept, SpellsName, SpellsPriority, SpellsIfLet, if_let, if_holds, IsRightSide, SpellsRightSide, SpellsRule, is_kept_word, SpellsDef}
+use Rattle.isle_syntax.specs.DefGrammar.{SpellsIdent, SpellsField, SpellsFields, SpellsVariant, bare, in_list, SpellsTypeValue, Mark, extern_mark, nodebug_mark, SpellsMark, SpellsMarks, SpellsType, SpellsSignature, SpellsDecl, SpellsExtractor, SpellsExtern, SpellsConverter, SpellsKept, SpellsName, SpellsPriority, SpellsIfLet, if_let, if_holds, SpellsRightSide, SpellsRule, is_kept_word, SpellsDef}
 use Rattle.isle_layout.specs.Nesting.{pattern_nesting, expr_nesting, iflet_nestings, item_nestings, rule_nesting, nesting}
 use Rattle.isle_layout.proofs.Rooms.{Keeps, Shuts, keeps_seq, shuts_seq, keeps_fewer, shuts_fewer, keeps_word, keeps_says, keeps_symbol, keeps_one_int, keeps_none, shuts_close, keeps_opens, keeps_opening, shuts_group, shuts_list, shuts_flag, keeps_each, shuts_with}
 use Rattle.isle_layout.proofs.TreeRooms.{keeps_constant, pattern_rooms, expr_rooms, items_rooms}

@@ -6,3 +6,4 @@ pub mod DefRooms
 pub mod Meanings
 pub mod SpeltTrees
 pub mod SpeltDefs
+pub mod WithoutPos

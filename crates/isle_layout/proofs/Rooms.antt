@@ -3,8 +3,8 @@ use Rattle.std.proofs.Common.{◌≡◌, ℕ, zero, suc, ◌+◌, ◌≤◌, max
 use Rattle.std.specs.Prelude.{option_and_then}
 use Rattle.isle_syntax.specs.declared.lexer.Pos.{Pos}
 use Rattle.isle_syntax.specs.declared.ast.Ident.{Ident}
-use Rattle.isle_syntax.specs.Tokens.{Literal, Placed, opening, closing, at_sign, symbol, int}
-use Rattle.isle_syntax.specs.Spelt.{◌⊙◌, Opens, Closes, Opening, AtSign, Word, Says, SymbolOf, Flag, Each, Closed, room_after, room}
+use Rattle.isle_syntax.specs.Tokens.{Literal, Placed, opening, at_sign, symbol, int}
+use Rattle.isle_syntax.specs.Spelt.{◌⊙◌, Opens, Closes, Opening, AtSign, Word, Says, SymbolOf, Flag, Each, room_after, room}
 
 -- tokens leave as much room as there was, and there was room for d more open parentheses
 pub record Keeps (d : ℕ) (L : List Placed → Type 0) : Type 0 where

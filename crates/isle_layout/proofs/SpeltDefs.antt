@@ -1,13 +1,11 @@
 -- A definition that is spelt in a text can be written.
-use Rattle.std.proofs.Common.{◌≡◌, ℕ, suc, ◌≤◌, List, [], ◌∷◌, ◌++◌, Bool, Option, None, Some, true, false, refl, ap, ◌∙◌, sym, subst, le-leb, eq-eqb, arith}
-use Rattle.std.specs.Prelude.{ℤ, nat_le, ◌&&◌, ◌||◌, ◌==◌, not, codes}
+use Rattle.std.proofs.Common.{◌≡◌, ℕ, suc, List, [], ◌∷◌, ◌++◌, Bool, Option, None, Some, true, false, refl, ap, ◌∙◌, sym, subst, le-leb, eq-eqb, arith}
+use Rattle.std.specs.Prelude.{nat_le, ◌&&◌, ◌||◌, ◌==◌, not, codes}
 use Rattle.std.specs.List.{list_all, All}
 use Rattle.std.proofs.lemmas.Bool.{and_from, and_parts, false≢true}
 use Rattle.std.proofs.lemmas.List.Elements.{All-nil, All-cons}
-use Rattle.isle_syntax.specs.declared.lexer.Pos.{Pos}
 use Rattle.isle_syntax.specs.declared.ast.Ident.{Ident}
 use Rattle.isle_syntax.specs.declared.ast.StructField.{StructField}
-use Rattle.isle_syntax.specs.declared.ast.TupleField.{TupleField}
 use Rattle.isle_syntax.specs.declared.ast.Fields.{Fields}
 use Rattle.isle_syntax.specs.declared.ast.Fields.TheVariants.{Unit as no_fields, Struct as named_fields, Tuple as tuple_fields}
 use Rattle.isle_syntax.specs.declared.ast.Variant.{Variant}
@@ -31,7 +29,7 @@ use Rattle.isle_syntax.specs.ExprShape.{expr_of}
 use Rattle.isle_syntax.specs.Tokens.{Placed, symbol}
 use Rattle.isle_syntax.specs.Names.{is_ident, is_word}
 use Rattle.isle_syntax.specs.Spelt.{◌⊙◌, Opening, Closes, SymbolOf, Flag, Each, Closed, names, first_place, room}
-use Rattle.isle_syntax.specs.Grammar.{IsList, SpellsPattern}
+use Rattle.isle_syntax.specs.Grammar.{IsList}
 use Rattle.isle_syntax.specs.DefGrammar.{SpellsIdent, SpellsField, SpellsFields, IsFilled, numbered, SpellsVariant, bare, in_list, SpellsTypeValue, SpellsType, SpellsSignature, SpellsDecl, SpellsExtractor, SpellsExtern, SpellsConverter, SpellsName, SpellsPriority, SpellsIfLet, if_let, if_holds, IsRightSide, SpellsRightSide, SpellsRule, is_kept_word, SpellsKept, SpellsDef, SpellsText}
 use Rattle.isle_syntax.specs.Verdict.{max_nesting, NestsWithin, IsSpelt}
 use Rattle.isle_syntax.specs.Unread.{Unread}

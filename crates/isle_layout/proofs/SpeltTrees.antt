@@ -1,13 +1,12 @@
 -- A tree that is spelt in a text can be written.
-use Rattle.std.proofs.Common.{◌≡◌, ℕ, ◌^◌, ◌≤◌, List, [], ◌∷◌, Bool, true, false, refl, sym, ap, subst, ◌∙◌, le-leb, arith}
-use Rattle.std.specs.Prelude.{ℤ, pos, negsuc, int_lt, ◌&&◌, ◌||◌, not, nat_lt, codes}
+use Rattle.std.proofs.Common.{◌≡◌, ℕ, ◌^◌, ◌≤◌, Bool, true, refl, subst, ◌∙◌, le-leb}
+use Rattle.std.specs.Prelude.{ℤ, pos, int_lt}
 use Rattle.std.specs.Int.{w128, cast_signed}
 use Rattle.std.proofs.lemmas.Bool.{le-ltb}
 use Rattle.isle_syntax.specs.declared.lexer.Pos.{Pos}
 use Rattle.isle_syntax.specs.declared.ast.Ident.{Ident}
-use Rattle.isle_syntax.specs.Tokens.{Literal, small, large, Placed, symbol, int}
-use Rattle.isle_syntax.specs.Names.{is_symbol, is_ident, is_name, is_pname, is_const_name}
-use Rattle.isle_syntax.specs.Spelt.{◌⊙◌, SymbolOf}
+use Rattle.isle_syntax.specs.Tokens.{Literal, small, large}
+use Rattle.isle_syntax.specs.Names.{is_ident, is_name, is_pname, is_const_name}
 use Rattle.isle_syntax.specs.Grammar.{Constant, bits_of, is_large, SpellsInteger, is_pattern_term, is_expr_term, SpellsPattern, SpellsPatterns, SpellsExpr, SpellsExprs, SpellsLets, SpellsItem, SpellsItems}
 use Rattle.isle_syntax.specs.PatternTree.{PatternTree, PatternTrees, pattern_var, pattern_bind, pattern_bool, pattern_int, pattern_prim, pattern_term, pattern_wildcard, pattern_and, pattern_macro_arg, no_patterns, more_patterns}
 use Rattle.isle_syntax.specs.ExprTree.{ExprTree, ExprTrees, LetTrees, expr_term, expr_var, expr_bool, expr_int, expr_prim, expr_let, no_exprs, more_exprs, no_lets, more_lets}

@@ -1,14 +1,14 @@
 -- The tokens of a text stand in it as tokens do.
-use Rattle.std.proofs.Common.{◌≡◌, ℕ, ◌^◌, ◌≤◌, ◌<◌, List, [], ◌∷◌, ◌++◌, Bool, true, false, cond, Option, Some, None, refl, sym, ap, subst, ◌∙◌, arith}
-use Rattle.std.specs.Prelude.{◌&&◌, nat_le, nat_lt, pos, neg_ℤ}
+use Rattle.std.proofs.Common.{◌≡◌, ℕ, ◌^◌, ◌≤◌, List, [], ◌∷◌, Bool, true, false, cond, Some, None, refl, ap, subst, ◌∙◌, arith}
+use Rattle.std.specs.Prelude.{nat_le, nat_lt, pos, neg_ℤ}
 use Rattle.std.specs.List.{list_all}
 use Rattle.std.proofs.lemmas.Bool.{and_from, ltb-true, ltb-false}
 use Rattle.std.proofs.lemmas.Bool.Decides.{nat_tests}
 use Rattle.isle_syntax.specs.declared.gap.Lead.{Lead}
 use Rattle.isle_syntax.specs.declared.lexer.Pos.{Pos}
 use Rattle.isle_syntax.specs.declared.lexer.Token.{Token}
-use Rattle.isle_syntax.specs.declared.lexer.Token.TheVariants.{LParen, RParen, Symbol, Int, Big, At}
-use Rattle.isle_syntax.specs.Names.{ends_symbol, begins_symbol, is_symbol}
+use Rattle.isle_syntax.specs.declared.lexer.Token.TheVariants.{Int, Big}
+use Rattle.isle_syntax.specs.Names.{begins_symbol, is_symbol}
 use Rattle.isle_syntax.specs.Tokens.{Placed, placed_at}
 use Rattle.isle_syntax.specs.Unread.{Source}
 use Rattle.isle_syntax.specs.Gaps.{lead_of, run_of}

@@ -1,17 +1,16 @@
 -- Where a tree is spelt, there was room for the parentheses that are open at once in it.
-use Rattle.std.proofs.Common.{◌≡◌, ℕ, ◌+◌, ◌≤◌, max, List, [], ◌∷◌, Bool, Some, true, false, refl, arith}
+use Rattle.std.proofs.Common.{◌≡◌, ◌∷◌, Bool, true, arith}
 use Rattle.std.specs.Prelude.{ℤ, codes}
 use Rattle.isle_syntax.specs.declared.lexer.Pos.{Pos}
 use Rattle.isle_syntax.specs.declared.ast.Ident.{Ident}
-use Rattle.isle_syntax.specs.Tokens.{small, large, Placed, at_sign}
+use Rattle.isle_syntax.specs.Tokens.{small, large}
 use Rattle.isle_syntax.specs.Names.{is_ident, is_name, is_pname, is_const_name}
-use Rattle.isle_syntax.specs.Spelt.{◌⊙◌, Opens, Closes, Opening, AtSign, Word, Says, SymbolOf}
 use Rattle.isle_syntax.specs.Grammar.{Constant, SpellsInteger, truth_word, is_pattern_term, is_expr_term, SpellsPattern, SpellsPatterns, SpellsExpr, SpellsExprs, SpellsLets, SpellsItem, SpellsItems}
 use Rattle.isle_syntax.specs.PatternTree.{PatternTree, PatternTrees, pattern_var, pattern_bind, pattern_bool, pattern_int, pattern_prim, pattern_term, pattern_wildcard, pattern_and, pattern_macro_arg, no_patterns, more_patterns}
 use Rattle.isle_syntax.specs.ExprTree.{ExprTree, ExprTrees, LetTrees, expr_term, expr_var, expr_bool, expr_int, expr_prim, expr_let, no_exprs, more_exprs, no_lets, more_lets}
 use Rattle.isle_syntax.specs.ItemTree.{ItemTree, ItemTrees, item_int, item_big, item_symbol, item_at, item_list, no_items, more_items}
 use Rattle.isle_layout.specs.Nesting.{pattern_nesting, pattern_nestings, expr_nesting, expr_nestings, let_nestings, item_nesting, item_nestings}
-use Rattle.isle_layout.proofs.Rooms.{Keeps, Shuts, keeps_seq, shuts_seq, keeps_fewer, keeps_word, keeps_says, keeps_symbol, keeps_one_symbol, keeps_one_int, keeps_one_at, keeps_at, keeps_none, shuts_close, keeps_opens, shuts_block, keeps_with}
+use Rattle.isle_layout.proofs.Rooms.{Keeps, keeps_seq, shuts_seq, keeps_fewer, keeps_word, keeps_says, keeps_symbol, keeps_one_symbol, keeps_one_int, keeps_one_at, keeps_at, keeps_none, shuts_close, keeps_opens, shuts_block, keeps_with}
 
 keeps_integer : (val : ℤ) (big : Bool) (p : Pos) → Keeps 0 (SpellsInteger val big p)
 keeps_integer val big p = record { within = λ r m ts l h. (keeps_one_int p l.0).within r m ts l.1 h }

@@ -1,5 +1,5 @@
 -- Tokens as they stand in texts.
-use Rattle.std.specs.Prelude.{◌≡◌, ℕ, ◌^◌, ◌≤◌, ◌<◌, List, [], ◌∷◌, true}
+use Rattle.std.specs.Prelude.{◌≡◌, ◌^◌, ◌≤◌, ◌<◌, List, [], ◌∷◌, true}
 use Rattle.isle_syntax.specs.Names.{is_symbol}
 use Rattle.isle_syntax.specs.Tokens.{Literal, small, large, Placed, opening, closing, at_sign, symbol, int}
 
