@@ -8,3 +8,11 @@ pub mod Spellings
 mod LayoutCases
 pub mod NoMacroArgs
 pub mod MacroArgs
+pub mod TextTokens
+pub mod Rooms
+pub mod TreeRooms
+pub mod DefRooms
+pub mod Meanings
+pub mod SpeltTrees
+pub mod SpeltDefs
+pub mod WithoutPos
