@@ -1,7 +1,7 @@
 -- The test for numbered arguments of templates finds none exactly where a definition has none.
 use Rattle.std.proofs.Common.{◌≡◌, Bool, true, false, ◌||◌, List, [], ◌∷◌, refl}
 use Rattle.std.specs.List.{All, list_any}
-use Rattle.std.proofs.lemmas.List.Elements.{All-nil, All-cons}
+use Rattle.std.proofs.lemmas.List.Elements.{All-nil, All-cons, All-head, All-tail}
 use Rattle.std.proofs.lemmas.List.Folds.{list_any_none}
 use Rattle.isle_syntax.specs.declared.ast.IfLet.{IfLet}
 use Rattle.isle_syntax.specs.declared.ast.Def.{Def}
@@ -49,3 +49,9 @@ has_none (Extern x) e = tt
 has_none (Converter c) e = tt
 has_none (Pragma p) e = tt
 has_none (Kept k) e = tt
+
+-- and so in none of theirs
+pub defs_have_none : (defs : List Def) → All HasNoMacroArgs defs → list_any def_has_macro_arg defs ≡ false
+defs_have_none [] h = refl
+defs_have_none (def ∷ others) h =
+    either (def_has_macro_arg def) (list_any def_has_macro_arg others) (found_none def (All-head HasNoMacroArgs def others h)) (defs_have_none others (All-tail HasNoMacroArgs def others h))
