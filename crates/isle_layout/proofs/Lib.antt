@@ -5,4 +5,7 @@ pub mod Marks
 pub mod Joined
 pub mod ListLayouts
 pub mod Spellings
+pub mod AtomEnds
+pub mod Blanks
+pub mod LayoutTokens
 mod LayoutCases
