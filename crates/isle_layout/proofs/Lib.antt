@@ -5,6 +5,9 @@ pub mod Marks
 pub mod Joined
 pub mod ListLayouts
 pub mod Spellings
+pub mod AtomEnds
+pub mod Blanks
+pub mod LayoutTokens
 mod LayoutCases
 pub mod MacroArgs
 pub mod TextTokens
