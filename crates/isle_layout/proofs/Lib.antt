@@ -18,3 +18,5 @@ pub mod Meanings
 pub mod SpeltTrees
 pub mod SpeltDefs
 pub mod WithoutPos
+pub mod OneReading
+pub mod ReadsBack
