@@ -20,3 +20,4 @@ pub mod SpeltDefs
 pub mod WithoutPos
 pub mod OneReading
 pub mod ReadsBack
+pub mod SameSpelling

@@ -127,7 +127,7 @@ mutual
 
 -- ---- the trees of patterns and expressions
 
-pattern_tree : (p : Pattern) → pattern_of (pattern_without_pos p) ≡ pattern_tree_without_pos (pattern_of p)
+pub pattern_tree : (p : Pattern) → pattern_of (pattern_without_pos p) ≡ pattern_tree_without_pos (pattern_of p)
 pattern_tree (pattern.Var _ _) = refl
 pattern_tree (pattern.BindPattern _ _ _) = refl
 pattern_tree (pattern.ConstBool _ _) = refl
@@ -138,7 +138,7 @@ pattern_tree (pattern.Wildcard _) = refl
 pattern_tree (pattern.And _ _) = refl
 pattern_tree (pattern.MacroArg _ _) = refl
 
-expr_tree : (p : Expr) → expr_of (expr_without_pos p) ≡ expr_tree_without_pos (expr_of p)
+pub expr_tree : (p : Expr) → expr_of (expr_without_pos p) ≡ expr_tree_without_pos (expr_of p)
 expr_tree (expr.Term _ _ _) = refl
 expr_tree (expr.Var _ _) = refl
 expr_tree (expr.ConstBool _ _) = refl
