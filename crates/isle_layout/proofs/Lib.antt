@@ -5,4 +5,5 @@ pub mod Marks
 pub mod Joined
 pub mod ListLayouts
 pub mod Spellings
+pub mod AtomTexts
 mod LayoutCases
