@@ -1,12 +1,11 @@
 -- Texts that are one token.
-use Rattle.std.proofs.Common.{◌≡◌, ℕ, suc, ◌^◌, ◌<◌, ◌≤◌, ℤ, pos, negsuc, List, [], ◌∷◌, Bool, true, false, cond, Some, refl, sym, ap, subst, ◌∙◌, arith}
-use Rattle.std.specs.Prelude.{◌&&◌, ◌==◌, not}
+use Rattle.std.proofs.Common.{◌≡◌, ℕ, List, [], ◌∷◌, Bool, true, refl, sym, ap, subst, ◌∙◌, arith}
 use Rattle.std.specs.List.{list_all}
 use Rattle.std.proofs.lemmas.Bool.Decides.{nat_tests}
 use Rattle.isle_syntax.specs.declared.gap.Lead.{Lead}
 use Rattle.isle_syntax.specs.declared.lexer.Token.{Token}
-use Rattle.isle_syntax.specs.declared.lexer.Token.TheVariants.{At, Symbol, Int, Big}
-use Rattle.isle_syntax.specs.Names.{ends_symbol, begins_symbol, is_symbol}
+use Rattle.isle_syntax.specs.declared.lexer.Token.TheVariants.{At, Symbol}
+use Rattle.isle_syntax.specs.Names.{begins_symbol, is_symbol}
 use Rattle.isle_syntax.specs.Gaps.{lead_of, after_run, run_of}
 use Rattle.isle_syntax.specs.TokensOf.{continues_symbol, IsToken, at_sign, word}
 use Rattle.isle_syntax.proofs.Readings.{next_complete}
@@ -18,12 +17,12 @@ one_token i j = let same = sym (next_complete i) ∙ next_complete j in (cc, cc)
 
 -- ---- runs that don't end
 
-run_all : (p : ℕ → Bool) (bs : List ℕ) → list_all p bs ≡ true → run_of p bs ≡ bs
+pub run_all : (p : ℕ → Bool) (bs : List ℕ) → list_all p bs ≡ true → run_of p bs ≡ bs
 unfolding run_of
 run_all p [] e = refl
 run_all p (b ∷ bs) e = rw (and_first (p b) (list_all p bs) e) (ap (λ r. b ∷ r) (run_all p bs (and_second (p b) (list_all p bs) e)))
 
-after_all : (p : ℕ → Bool) (bs : List ℕ) → list_all p bs ≡ true → after_run p bs ≡ []
+pub after_all : (p : ℕ → Bool) (bs : List ℕ) → list_all p bs ≡ true → after_run p bs ≡ []
 unfolding after_run
 after_all p [] e = refl
 after_all p (b ∷ bs) e = rw (and_first (p b) (list_all p bs) e) (after_all p bs (and_second (p b) (list_all p bs) e))

@@ -6,4 +6,7 @@ pub mod Joined
 pub mod ListLayouts
 pub mod Spellings
 pub mod AtomTexts
+pub mod IdentifierTexts
+pub mod IntegerTexts
+pub mod AtomReadings
 mod LayoutCases
