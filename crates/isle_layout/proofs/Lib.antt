@@ -10,3 +10,11 @@ pub mod IdentifierTexts
 pub mod IntegerTexts
 pub mod AtomReadings
 mod LayoutCases
+pub mod TextTokens
+pub mod Rooms
+pub mod TreeRooms
+pub mod DefRooms
+pub mod Meanings
+pub mod SpeltTrees
+pub mod SpeltDefs
+pub mod WithoutPos

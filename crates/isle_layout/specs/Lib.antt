@@ -7,3 +7,6 @@ pub mod SExprSubject
 pub mod Spellings
 pub mod DefSpellings
 pub mod SExprTokens
+pub mod Nesting
+pub mod Writable
+pub mod TextTokens

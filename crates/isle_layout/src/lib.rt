@@ -4,3 +4,5 @@
 mod printer;
 pub mod sexpr;
 pub mod to_sexpr;
+mod nesting;
+pub mod writable;
