@@ -18,3 +18,6 @@ pub mod Meanings
 pub mod SpeltTrees
 pub mod SpeltDefs
 pub mod WithoutPos
+pub mod EachAtom
+pub mod TreeAtoms
+pub mod DefAtoms

@@ -10,3 +10,4 @@ pub mod SExprTokens
 pub mod Nesting
 pub mod Writable
 pub mod TextTokens
+pub mod IntegerRanges
