@@ -21,3 +21,4 @@ pub mod WithoutPos
 pub mod EachAtom
 pub mod TreeAtoms
 pub mod DefAtoms
+pub mod PrintedTexts

@@ -1,5 +1,5 @@
 -- That integers lie in the ranges of their types, as those of every value do.
-use Rattle.std.specs.Prelude.{ℕ, ℤ, ◌^◌, ◌<◌, List, [], ◌∷◌, Option, None, Some, FitsSigned}
+use Rattle.std.specs.Prelude.{ℤ, ◌^◌, ◌<◌, List, [], ◌∷◌, Option, None, Some, FitsSigned}
 use Rattle.std.specs.Int.{w64, w128}
 use Rattle.isle_syntax.specs.declared.ast.IfLet.{IfLet}
 use Rattle.isle_syntax.specs.declared.ast.Rule.{Rule as RuleTree}
