@@ -64,6 +64,7 @@ abbrev pub PriorityInRange : Option ℤ → Type 0
 PriorityInRange None = Unit {0}
 PriorityInRange (Some priority) = FitsSigned w64 priority
 
+-- the integers of a rule's conditions, and of a rule, fit their types
 abbrev pub IfLetsInRange : List IfLet → Type 0
 IfLetsInRange [] = Unit {0}
 IfLetsInRange (clause ∷ others) =
