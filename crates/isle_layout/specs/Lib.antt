@@ -12,4 +12,3 @@ pub mod Nesting
 pub mod Writable
 pub mod TextTokens
 pub mod ReadsBack
-pub mod IntegerRanges
