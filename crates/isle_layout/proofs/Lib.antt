@@ -26,3 +26,5 @@ pub mod EachAtom
 pub mod TreeAtoms
 pub mod DefAtoms
 pub mod PrintedTexts
+pub mod OneReading
+pub mod ReadsBack
