@@ -10,6 +10,10 @@ pub mod Blanks
 pub mod LayoutTokens
 mod LayoutCases
 pub mod MacroArgs
+pub mod AtomTexts
+pub mod IdentifierTexts
+pub mod IntegerTexts
+pub mod AtomReadings
 pub mod TextTokens
 pub mod Rooms
 pub mod TreeRooms
@@ -18,6 +22,10 @@ pub mod Meanings
 pub mod SpeltTrees
 pub mod SpeltDefs
 pub mod WithoutPos
+pub mod EachAtom
+pub mod TreeAtoms
+pub mod DefAtoms
+pub mod PrintedTexts
 pub mod OneReading
 pub mod ReadsBack
 pub mod SameSpelling
