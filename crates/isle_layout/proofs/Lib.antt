@@ -27,5 +27,6 @@ pub mod TreeAtoms
 pub mod DefAtoms
 pub mod PrintedTexts
 pub mod OneReading
-pub mod ReadsBack
 pub mod SameSpelling
+pub mod ReadsBack
+pub mod Formatted

@@ -1,6 +1,7 @@
 //! The layout of ISLE: S-expressions, how they are printed, and which definitions can be.
 #![tactic(auto)]
 
+pub mod format;
 mod nesting;
 pub mod printer;
 pub mod sexpr;

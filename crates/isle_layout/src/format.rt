@@ -1,0 +1,31 @@
+//! Texts laid out anew.
+ghost use Rattle.std.specs.Prelude.{IfErr, IfOk, length, string_bytes};
+ghost use Rattle.isle_syntax.specs.Errors.{RefusalAt};
+ghost use Rattle.isle_syntax.specs.Positions.{IsIn};
+ghost use Rattle.isle_layout.specs.Formats.{Formats};
+
+use crate::printer::print;
+use isle_syntax::Refusal;
+use isle_syntax::error::Error;
+use isle_syntax::lexer::Lexer;
+use isle_syntax::parser::parse;
+use std::alloc::Global;
+
+/// The definitions of a text, that of file number `file`, laid out at a width. Comments are dropped.
+pub fn format(
+    alloc: Global,
+    file: usize,
+    text: &str,
+    width: usize,
+) -> Result<String, Refusal<Error>>
+    ensures text { IfOk result (λ once. Formats file width text.now (string_bytes once)) }
+    ensures refused { IfErr result (RefusalAt (IsIn (record { file = file; size = length text.now }))) }
+{
+    let defs = parse(Lexer::new(alloc, file, text))?;
+    match print(alloc, defs.as_slice(), width) {
+        Ok(text) => Ok(text),
+        // The parser makes no numbered argument of a template.
+        Err(Refusal::Fault(_)) => unreachable!(),
+        Err(Refusal::Memory(e)) => Err(Refusal::Memory(e)),
+    }
+}
