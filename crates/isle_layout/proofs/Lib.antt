@@ -7,3 +7,11 @@ pub mod ListLayouts
 pub mod Spellings
 mod LayoutCases
 pub mod NoMacroArgs
+pub mod TextTokens
+pub mod Rooms
+pub mod TreeRooms
+pub mod DefRooms
+pub mod Meanings
+pub mod SpeltTrees
+pub mod SpeltDefs
+pub mod WithoutPos

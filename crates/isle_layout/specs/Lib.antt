@@ -8,3 +8,6 @@ pub mod Spellings
 pub mod DefSpellings
 pub mod SExprTokens
 pub mod Prints
+pub mod Nesting
+pub mod Writable
+pub mod TextTokens

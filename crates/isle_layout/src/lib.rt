@@ -4,3 +4,6 @@
 pub mod printer;
 pub mod sexpr;
 pub mod to_sexpr;
+mod nesting;
+pub mod sexpr;
+pub mod writable;
