@@ -6,7 +6,7 @@ pub mod Joined
 pub mod ListLayouts
 pub mod Spellings
 mod LayoutCases
-pub mod NoMacroArgs
+pub mod MacroArgs
 pub mod TextTokens
 pub mod Rooms
 pub mod TreeRooms

@@ -130,7 +130,7 @@ rule_sexpr r =
 abbrev pub kept_sexpr : KeptTree → SExprTree
 kept_sexpr k = listed (name_sexpr k.word ∷ item_sexprs k.items)
 
--- a definition; a pragma, of which there is none, would be its word
+-- a definition; a pragma, of which there is none, would print as `(pragma)`
 abbrev pub def_sexpr : Def → SExprTree
 def_sexpr (TypeDef t) = type_sexpr t
 def_sexpr (Decl d) = decl_sexpr d

@@ -5,5 +5,4 @@ pub mod printer;
 pub mod sexpr;
 pub mod to_sexpr;
 mod nesting;
-pub mod sexpr;
 pub mod writable;

@@ -10,6 +10,8 @@ mod numbers;
 mod patterns;
 mod rules;
 mod terms;
+#[cfg(test)]
+mod tests;
 mod types;
 
 use crate::sexpr::SExpr;
@@ -55,7 +57,7 @@ pub trait ToSExpr {
         ensures fault { IfErr result (λ refusal. IfFault refusal (macro_arg self.now ≡ true)) };
 }
 
-/// By its kind. A pragma, of which there is none, would be its word.
+/// By its kind. A pragma, of which there is none, would print as `(pragma)`.
 impl ToSExpr for Def {
     ghost use Rattle.isle_layout.specs.DefSpellings.{def_sexpr, def_has_macro_arg};
 

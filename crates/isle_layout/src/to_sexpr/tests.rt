@@ -1,0 +1,143 @@
+use super::*;
+use crate::sexpr::SExpr;
+use isle_syntax::ast::Patterns;
+use isle_syntax::lexer::{Lexer, Pos};
+use isle_syntax::parser::parse;
+use std::test::Fail;
+
+const DEFINITIONS: &str = "(type Imm (primitive u64))
+(type Pair nodebug extern (struct (a u8) (b u8)))
+(type Op (enum Nop (Add (a u8) (b u8)) (Neg u8) (None)))
+(decl pure multi partial rec small (u64 Pair) u8)
+(extern constructor small to_small)
+(extern extractor infallible small of_small)
+(extern extractor big of_big)
+(extern const $LIMIT u64)
+(extractor (two x) (Op.Add x 0x10))
+(rule named -2 (simp x @ y @ (and _ $LIMIT) true -1_0) (if-let 0 n) (if (m)) (let ((m u8 n) (k u8 m)) (simp m)))
+(rule (f) 0xffff_ffff_ffff_ffff_ffff_ffff_ffff_ffff)
+(convert u8 u64 widen)
+(attr simp (veri @ chain) () -5 170141183460469231731687303715884105728)
+";
+
+const SPELT: &str = "(type Imm (primitive u64))
+(type Pair extern nodebug (struct (a u8) (b u8)))
+(type Op (enum Nop (Add (a u8) (b u8)) (Neg u8) None))
+(decl pure multi partial rec small (u64 Pair) u8)
+(extern constructor small to_small)
+(extern extractor infallible small of_small)
+(extern extractor big of_big)
+(extern const $LIMIT u64)
+(extractor (two x) (Op.Add x 16))
+(rule named -2 (simp x @ y @ (and _ $LIMIT) true -10) (if-let 0 n) (if-let _ (m)) (let ((m u8 n) (k u8 m)) (simp m)))
+(rule (f) 340282366920938463463374607431768211455)
+(convert u8 u64 widen)
+(attr simp (veri @ chain) () -5 170141183460469231731687303715884105728)
+";
+
+/// The one-line text of an S-expression.
+#[cycle(show)]
+#[tactic(auto, using(crate::proofs::SExprSizes::most_sexpr_size))]
+fn show(text: &mut String, sexpr: &SExpr) -> Result<(), Fail> {
+    match sexpr {
+        SExpr::Atom(atom) => text.push_str(atom.as_str())?,
+        SExpr::Binding(name, inner) => {
+            text.push_str(name.as_str())?;
+            text.push_str(" @ ")?;
+            show(text, inner.get())?;
+        }
+        SExpr::List(items) => {
+            text.push_str("(")?;
+            show_items(text, items.as_slice())?;
+            text.push_str(")")?;
+        }
+    }
+    Ok(())
+}
+
+#[cycle(show)]
+#[tactic(auto, using(crate::proofs::SExprSizes::most_sexpr_size))]
+fn show_items(text: &mut String, items: &[SExpr]) -> Result<(), Fail> {
+    let mut gap = "";
+    for item in items {
+        text.push_str(gap)?;
+        show(text, item)?;
+        gap = " ";
+    }
+    Ok(())
+}
+
+/// What prints of a tree, or that it is refused.
+fn shown<T: ToSExpr>(alloc: Global, tree: &T) -> Result<String, Fail> {
+    match tree.to_sexpr(alloc) {
+        Ok(sexpr) => {
+            let mut text = String::new(alloc);
+            show(&mut text, &sexpr)?;
+            Ok(text)
+        }
+        Err(Refusal::Fault(fault)) => Ok(fault.to_string(alloc)?),
+        Err(Refusal::Memory(e)) => Err(Fail::from(e)),
+    }
+}
+
+/// The definitions of a text.
+fn definitions(alloc: Global, text: &str) -> Result<Vec<Def>, Fail> {
+    Ok(
+        parse(Lexer::new(alloc, 0, text))
+            .ok()
+            .ok_or("a spelt text")?,
+    )
+}
+
+#[test]
+fn definitions_have_their_spelling(rt: HostRuntime) -> Result<(), Fail> {
+    let alloc = rt.alloc();
+    let mut text = String::new(alloc);
+    for def in definitions(alloc, DEFINITIONS)? {
+        text.push_str(shown(alloc, &def)?.as_str())?;
+        text.push_str("\n")?;
+    }
+    assert_eq!(rt; text.as_str(), SPELT);
+    Ok(())
+}
+
+#[test]
+fn parts_of_types_and_rules_print_alone(rt: HostRuntime) -> Result<(), Fail> {
+    let alloc = rt.alloc();
+    for def in definitions(alloc, DEFINITIONS)? {
+        if let Def::TypeDef(ty) = &def {
+            if let TypeValue::Enum(variants, _) = &ty.ty {
+                assert_eq!(rt; shown(alloc, &ty.name)?.as_str(), "Op");
+                let variant = variants.as_slice().last().ok_or("a variant")?;
+                assert_eq!(rt; shown(alloc, variant)?.as_str(), "None");
+            }
+        }
+        if let Def::Rule(rule) = &def {
+            if let Some(iflet) = rule.iflets.as_slice().first() {
+                assert_eq!(rt; shown(alloc, iflet)?.as_str(), "(if-let 0 n)");
+                assert_eq!(rt; shown(alloc, &iflet.pattern)?.as_str(), "0");
+                assert_eq!(rt; shown(alloc, &iflet.expr)?.as_str(), "n");
+            }
+        }
+    }
+    Ok(())
+}
+
+#[test]
+fn numbered_argument_is_refused(rt: HostRuntime) -> Result<(), Fail> {
+    let alloc = rt.alloc();
+    let pos = Pos::default();
+    let subpats = vec![in alloc;
+        Pattern::Wildcard { pos },
+        Pattern::MacroArg { index: 0, pos },
+    ]?;
+    let pattern = Pattern::And {
+        subpats: Patterns::new(subpats),
+        pos,
+    };
+    assert_eq!(rt;
+        shown(alloc, &pattern)?.as_str(),
+        "a numbered argument of a template can't be printed"
+    );
+    Ok(())
+}
