@@ -15,3 +15,5 @@ pub mod Meanings
 pub mod SpeltTrees
 pub mod SpeltDefs
 pub mod WithoutPos
+pub mod RespeltRows
+pub mod RespeltTrees
