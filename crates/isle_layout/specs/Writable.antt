@@ -1,5 +1,5 @@
 -- Which definitions can be printed and read back.
-use Rattle.std.specs.Prelude.{ℕ, ℤ, suc, ◌-◌, ◌^◌, List, [], ◌∷◌, Bool, true, false, ◌&&◌, ◌||◌, ◌==◌, not, nat_le, nat_lt, int_le, int_lt, pos, negsuc, Option, None, Some, codes}
+use Rattle.std.specs.Prelude.{ℕ, ℤ, suc, ◌^◌, List, [], ◌∷◌, Bool, true, false, ◌&&◌, ◌||◌, ◌==◌, not, nat_le, int_lt, pos, Option, None, Some, codes}
 use Rattle.std.specs.List.{list_all}
 use Rattle.isle_syntax.specs.declared.ast.Ident.{Ident}
 use Rattle.isle_syntax.specs.declared.ast.StructField.{StructField}
@@ -27,40 +27,28 @@ use Rattle.isle_syntax.specs.ExprShape.{expr_of}
 use Rattle.isle_syntax.specs.ItemTree.{ItemTree, ItemTrees, item_int, item_big, item_symbol, item_at, item_list, no_items, more_items}
 use Rattle.isle_syntax.specs.Names.{is_symbol, is_ident, is_name, is_pname, is_const_name, is_word}
 use Rattle.isle_syntax.specs.Grammar.{is_pattern_term, is_expr_term}
-use Rattle.isle_syntax.specs.DefGrammar.{is_kept_word, is_clause_word, fits_priority}
+use Rattle.isle_syntax.specs.DefGrammar.{is_kept_word, is_clause_word}
 use Rattle.isle_syntax.specs.Verdict.{max_nesting}
 use Rattle.isle_layout.specs.Nesting.{nesting}
 
--- a symbol of which p holds
-abbrev pub is_symbol_of : (List ℕ → Bool) → List ℕ → Bool
-is_symbol_of p s = p s && is_symbol s
-
 -- a name is an identifier
 abbrev pub writable_ident : Ident → Bool
-writable_ident name = is_symbol_of is_ident name.0
-
--- a constant's name is one behind `$`
-abbrev pub writable_constant : Ident → Bool
-writable_constant name = is_const_name name.0 && is_symbol (36 ∷ name.0)
-
--- an integer of 128 bits with its sign
-abbrev pub fits_bits : ℤ → Bool
-fits_bits val = int_le (negsuc (2 ^ 127 - 1)) val && int_lt val (pos (2 ^ 127))
+writable_ident name = is_ident name.0
 
 -- an integer from 2^127 on has its highest bit set
 abbrev pub writable_int : ℤ → Bool → Bool
-writable_int val big = fits_bits val && (not big || int_lt val (pos 0))
+writable_int val big = not big || int_lt val (pos 0)
 
 -- ---- patterns, expressions and kept items
 
 abbrev mutual
   pub writable_pattern : PatternTree → Bool
-  writable_pattern (pattern_var name _) = is_symbol_of is_pname name.0
-  writable_pattern (pattern_bind name below _) = is_symbol_of is_pname name.0 && writable_pattern below
+  writable_pattern (pattern_var name _) = is_pname name.0
+  writable_pattern (pattern_bind name below _) = is_pname name.0 && writable_pattern below
   writable_pattern (pattern_bool _ _) = true
   writable_pattern (pattern_int val big _) = writable_int val big
-  writable_pattern (pattern_prim name _) = writable_constant name
-  writable_pattern (pattern_term term args _) = is_symbol_of is_pattern_term term.0 && writable_patterns args
+  writable_pattern (pattern_prim name _) = is_const_name name.0
+  writable_pattern (pattern_term term args _) = is_pattern_term term.0 && writable_patterns args
   writable_pattern (pattern_wildcard _) = true
   writable_pattern (pattern_and below _) = writable_patterns below
   writable_pattern (pattern_macro_arg _ _) = false
@@ -71,11 +59,11 @@ abbrev mutual
 
 abbrev mutual
   pub writable_expr : ExprTree → Bool
-  writable_expr (expr_term term args _) = is_symbol_of is_expr_term term.0 && writable_exprs args
-  writable_expr (expr_var name _) = is_symbol_of is_name name.0
+  writable_expr (expr_term term args _) = is_expr_term term.0 && writable_exprs args
+  writable_expr (expr_var name _) = is_name name.0
   writable_expr (expr_bool _ _) = true
   writable_expr (expr_int val big _) = writable_int val big
-  writable_expr (expr_prim name _) = writable_constant name
+  writable_expr (expr_prim name _) = is_const_name name.0
   writable_expr (expr_let defs body _) = writable_lets defs && writable_expr body
 
   pub writable_exprs : ExprTrees → Bool
@@ -89,8 +77,8 @@ abbrev mutual
 
 abbrev mutual
   pub writable_item : ItemTree → Bool
-  writable_item (item_int val _) = fits_bits val
-  writable_item (item_big val _) = nat_le (2 ^ 127) val && nat_lt val (2 ^ 128)
+  writable_item (item_int _ _) = true
+  writable_item (item_big val _) = nat_le (2 ^ 127) val
   writable_item (item_symbol name) = is_symbol name.0
   writable_item (item_at _) = true
   writable_item (item_list items _) = writable_items items
@@ -154,7 +142,7 @@ abbrev pub writable_extern : ExternTree → Bool
 writable_extern (extern_constructor term func _) = writable_ident term && writable_ident func
 writable_extern (extern_extractor term func _ infallible) =
     writable_ident term && writable_ident func && (infallible || not (is_word (codes "infallible") term.0))
-writable_extern (extern_const name ty _) = writable_constant name && writable_ident ty
+writable_extern (extern_const name ty _) = is_const_name name.0 && writable_ident ty
 
 abbrev pub writable_converter : ConverterTree → Bool
 writable_converter converter =
@@ -165,11 +153,6 @@ writable_converter converter =
 abbrev pub writable_rule_name : Option Ident → Bool
 writable_rule_name None = true
 writable_rule_name (Some name) = writable_ident name
-
--- its priority one of 64 bits
-abbrev pub writable_priority : Option ℤ → Bool
-writable_priority None = true
-writable_priority (Some priority) = fits_priority priority
 
 abbrev pub writable_iflet : IfLet → Bool
 writable_iflet clause = writable_pattern (pattern_of clause.pattern) && writable_expr (expr_of clause.expr)
@@ -197,7 +180,7 @@ is_right_side (expr_let _ _ _) = true
 
 abbrev pub writable_rule : RuleTree → Bool
 writable_rule rule =
-    writable_rule_name rule.name && writable_priority rule.prio && is_list (pattern_of rule.pattern) && writable_pattern (pattern_of rule.pattern)
+    writable_rule_name rule.name && is_list (pattern_of rule.pattern) && writable_pattern (pattern_of rule.pattern)
     && list_all writable_iflet rule.iflets && is_right_side (expr_of rule.expr) && writable_expr (expr_of rule.expr)
 
 -- ---- definitions
