@@ -5,6 +5,10 @@ pub mod Marks
 pub mod Joined
 pub mod ListLayouts
 pub mod Spellings
+pub mod AtomTexts
+pub mod IdentifierTexts
+pub mod IntegerTexts
+pub mod AtomReadings
 mod LayoutCases
 pub mod MacroArgs
 pub mod TextTokens
@@ -17,3 +21,6 @@ pub mod SpeltDefs
 pub mod WithoutPos
 pub mod RespeltRows
 pub mod RespeltTrees
+pub mod EachAtom
+pub mod TreeAtoms
+pub mod DefAtoms

@@ -1,0 +1,254 @@
+-- The atoms of definitions that can be written are tokens.
+use Rattle.std.proofs.Common.{◌≡◌, ℕ, suc, List, [], ◌∷◌, ◌++◌, Bool, true, false, Option, Some, None, map, refl, ap, arith}
+use Rattle.std.specs.Prelude.{ℤ, ◌&&◌, ◌||◌, ◌==◌, not, nat_le, codes, FitsSigned}
+use Rattle.std.specs.List.{list_all}
+use Rattle.std.specs.Int.{w64, w128}
+use Rattle.isle_syntax.specs.declared.lexer.Token.TheVariants.{Int}
+use Rattle.isle_syntax.specs.declared.ast.Ident.{Ident}
+use Rattle.isle_syntax.specs.declared.ast.StructField.{StructField}
+use Rattle.isle_syntax.specs.declared.ast.TupleField.{TupleField}
+use Rattle.isle_syntax.specs.declared.ast.Fields.{Fields}
+use Rattle.isle_syntax.specs.declared.ast.Fields.TheVariants.{Unit as no_fields, Struct as named_fields, Tuple as tuple_fields}
+use Rattle.isle_syntax.specs.declared.ast.Variant.{Variant}
+use Rattle.isle_syntax.specs.declared.ast.TypeValue.{TypeValue}
+use Rattle.isle_syntax.specs.declared.ast.TypeValue.TheVariants.{Primitive, Enum, Struct}
+use Rattle.isle_syntax.specs.declared.ast.«Type».{«Type» as TypeTree}
+use Rattle.isle_syntax.specs.declared.ast.Decl.{Decl as DeclTree}
+use Rattle.isle_syntax.specs.declared.ast.IfLet.{IfLet}
+use Rattle.isle_syntax.specs.declared.ast.Rule.{Rule as RuleTree}
+use Rattle.isle_syntax.specs.declared.ast.Extractor.{Extractor as ExtractorTree}
+use Rattle.isle_syntax.specs.declared.ast.Extern.{Extern as ExternTree}
+use Rattle.isle_syntax.specs.declared.ast.Extern.TheVariants.{Constructor as extern_constructor, Extractor as extern_extractor, Const as extern_const}
+use Rattle.isle_syntax.specs.declared.ast.Converter.{Converter as ConverterTree}
+use Rattle.isle_syntax.specs.declared.ast.Kept.{Kept as KeptTree}
+use Rattle.isle_syntax.specs.declared.ast.Def.{Def}
+use Rattle.isle_syntax.specs.declared.ast.Def.TheVariants.{TypeDef, Decl, Rule, Extractor, Extern, Converter, Pragma, Kept}
+use Rattle.isle_syntax.specs.PatternShape.{pattern_of}
+use Rattle.isle_syntax.specs.ExprShape.{expr_of}
+use Rattle.isle_syntax.specs.Names.{is_symbol, is_word, is_const_name}
+use Rattle.isle_syntax.specs.DefGrammar.{is_kept_word}
+use Rattle.isle_syntax.specs.Verdict.{max_nesting}
+use Rattle.isle_syntax.proofs.Basics.{word_same}
+use Rattle.isle_syntax.proofs.SymbolKinds.{and_first, and_second}
+use Rattle.isle_layout.specs.Spellings.{name_sexpr, pattern_sexpr, expr_sexpr}
+use Rattle.isle_layout.specs.DefSpellings.{flag, struct_field_sexpr, tuple_field_sexpr, fields_sexprs, variant_of, variant_sexpr, type_value_sexpr, type_sexpr, decl_flags, decl_sexpr, extractor_sexpr, extern_sexpr, converter_sexpr, rule_name, rule_priority, iflet_sexpr, rule_sexpr, kept_sexpr, def_sexpr}
+use Rattle.isle_layout.specs.Nesting.{nesting}
+use Rattle.isle_layout.specs.Writable.{writable_ident, writable_pattern, writable_expr, writable_items, writable_struct_field, writable_tuple_fields, is_filled, writable_fields, writable_variant, writable_type_value, writable_type, is_free_of_flags, writable_decl, writable_extractor, writable_extern, writable_converter, writable_rule_name, writable_iflet, is_list, is_right_side, writable_rule, writable_kept, has_writable_words, writable_def}
+use Rattle.isle_layout.specs.IntegerRanges.{PatternInRange, ExprInRange, ItemsInRange, PriorityInRange, IfLetsInRange, RuleInRange, DefInRange}
+use Rattle.isle_layout.proofs.IntegerTexts.{signed_token}
+use Rattle.isle_layout.proofs.EachAtom.{IsAtomIfText, IsReadable, AreReadable, readable_append, readable_map}
+use Rattle.isle_layout.proofs.TreeAtoms.{symbol_atom, ident_readable, constant_readable, pattern_readable, expr_readable, items_readable}
+
+-- ---- words and names
+
+word_readable : (w : List ℕ) → is_symbol w ≡ true → IsAtomIfText w
+word_readable w e = λ u. symbol_atom w e
+
+name_readable : (x : Ident) → writable_ident x ≡ true → IsReadable (name_sexpr x)
+name_readable x e = ident_readable x.0 e
+
+names_readable : (xs : List Ident) → list_all writable_ident xs ≡ true → AreReadable (map name_sexpr xs)
+names_readable = readable_map name_sexpr writable_ident name_readable
+
+flag_readable : (w : List ℕ) (set : Bool) → is_symbol w ≡ true → AreReadable (flag w set)
+flag_readable w true e = (word_readable w e, tt)
+flag_readable w false e = tt
+
+-- ---- types
+
+struct_field_readable : (x : StructField) → writable_struct_field x ≡ true → IsReadable (struct_field_sexpr x)
+struct_field_readable x e =
+    (name_readable x.name (and_first (writable_ident x.name) (writable_ident x.ty) e), (name_readable x.ty (and_second (writable_ident x.name) (writable_ident x.ty) e), tt))
+
+tuple_fields_readable : (next : ℕ) (xs : List TupleField) → writable_tuple_fields next xs ≡ true → AreReadable (map tuple_field_sexpr xs)
+tuple_fields_readable next [] e = tt
+tuple_fields_readable next (x ∷ xs) e =
+    let first = and_first ((x.index == next) && writable_ident x.ty) (writable_tuple_fields (suc next) xs) e in (
+      name_readable x.ty (and_second (x.index == next) (writable_ident x.ty) first),
+      tuple_fields_readable (suc next) xs (and_second ((x.index == next) && writable_ident x.ty) (writable_tuple_fields (suc next) xs) e),
+    )
+
+fields_readable : (x : Fields) → writable_fields x ≡ true → AreReadable (fields_sexprs x)
+fields_readable no_fields e = tt
+fields_readable (named_fields x) e =
+    readable_map struct_field_sexpr writable_struct_field struct_field_readable x.fields (and_second (is_filled x.fields) (list_all writable_struct_field x.fields) e)
+fields_readable (tuple_fields x) e =
+    tuple_fields_readable 0 x.fields (and_second (is_filled x.fields) (writable_tuple_fields 0 x.fields) e)
+
+variant_of_readable : (name : Ident) (x : Fields) → writable_ident name ≡ true → AreReadable (fields_sexprs x) → IsReadable (variant_of name x)
+variant_of_readable name no_fields e f = name_readable name e
+variant_of_readable name (named_fields x) e f = (name_readable name e, f)
+variant_of_readable name (tuple_fields x) e f = (name_readable name e, f)
+
+variant_readable : (x : Variant) → writable_variant x ≡ true → IsReadable (variant_sexpr x)
+variant_readable x e =
+    variant_of_readable x.name x.fields (and_first (writable_ident x.name) (writable_fields x.fields) e)
+    (fields_readable x.fields (and_second (writable_ident x.name) (writable_fields x.fields) e))
+
+type_value_readable : (x : TypeValue) → writable_type_value x ≡ true → IsReadable (type_value_sexpr x)
+type_value_readable (Primitive x _) e = (word_readable (codes "primitive") refl, (name_readable x e, tt))
+type_value_readable (Enum variants _) e =
+    (word_readable (codes "enum") refl, readable_map variant_sexpr writable_variant variant_readable variants e)
+type_value_readable (Struct fields _) e = (word_readable (codes "struct") refl, fields_readable fields e)
+
+type_readable : (x : TypeTree) → writable_type x ≡ true → IsReadable (type_sexpr x)
+type_readable x e = (
+  word_readable (codes "type") refl,
+  (
+    name_readable x.name (and_first (writable_ident x.name) (writable_type_value x.ty) e),
+    readable_append (flag (codes "extern") x.is_extern) _ (flag_readable (codes "extern") x.is_extern refl)
+        (readable_append (flag (codes "nodebug") x.is_nodebug) (type_value_sexpr x.ty ∷ []) (flag_readable (codes "nodebug") x.is_nodebug refl)
+        (type_value_readable x.ty (and_second (writable_ident x.name) (writable_type_value x.ty) e), tt)),
+  ),
+)
+
+-- ---- terms
+
+flags_readable : (d : DeclTree) → AreReadable (decl_flags d)
+flags_readable d =
+    readable_append (flag (codes "pure") d.pure) _ (flag_readable (codes "pure") d.pure refl)
+    (readable_append (flag (codes "multi") d.multi) _ (flag_readable (codes "multi") d.multi refl)
+    (readable_append (flag (codes "partial") d.partial) (flag (codes "rec") d.rec) (flag_readable (codes "partial") d.partial refl) (flag_readable (codes "rec") d.rec refl)))
+
+decl_readable : (d : DeclTree) → writable_decl d ≡ true → IsReadable (decl_sexpr d)
+decl_readable d e =
+    let three = and_first (writable_ident d.term && is_free_of_flags d && list_all writable_ident d.arg_tys) (writable_ident d.ret_ty) e in
+    let two = and_first (writable_ident d.term && is_free_of_flags d) (list_all writable_ident d.arg_tys) three in (
+      word_readable (codes "decl") refl,
+      readable_append (decl_flags d) _ (flags_readable d) (
+        name_readable d.term (and_first (writable_ident d.term) (is_free_of_flags d) two),
+        (
+          names_readable d.arg_tys (and_second (writable_ident d.term && is_free_of_flags d) (list_all writable_ident d.arg_tys) three),
+          (name_readable d.ret_ty (and_second (writable_ident d.term && is_free_of_flags d && list_all writable_ident d.arg_tys) (writable_ident d.ret_ty) e), tt),
+        ),
+      ),
+    )
+
+extractor_readable : (x : ExtractorTree) → writable_extractor x ≡ true → PatternInRange (pattern_of x.template) → IsReadable (extractor_sexpr x)
+extractor_readable x e f =
+    let names = and_first (writable_ident x.term && list_all writable_ident x.args) (writable_pattern (pattern_of x.template)) e in (
+      word_readable (codes "extractor") refl,
+      (
+        (name_readable x.term (and_first (writable_ident x.term) (list_all writable_ident x.args) names), names_readable x.args (and_second (writable_ident x.term) (list_all writable_ident x.args) names)),
+        (pattern_readable (pattern_of x.template) (and_second (writable_ident x.term && list_all writable_ident x.args) (writable_pattern (pattern_of x.template)) e) f, tt),
+      ),
+    )
+
+extern_readable : (x : ExternTree) → writable_extern x ≡ true → IsReadable (extern_sexpr x)
+extern_readable (extern_constructor term func _) e = (
+  word_readable (codes "extern") refl,
+  (
+    word_readable (codes "constructor") refl,
+    (name_readable term (and_first (writable_ident term) (writable_ident func) e), (name_readable func (and_second (writable_ident term) (writable_ident func) e), tt)),
+  ),
+)
+extern_readable (extern_extractor term func _ infallible) e =
+    let names = and_first (writable_ident term && writable_ident func) (infallible || not (is_word (codes "infallible") term.0)) e in (
+      word_readable (codes "extern") refl,
+      (
+        word_readable (codes "extractor") refl,
+        readable_append (flag (codes "infallible") infallible) _ (flag_readable (codes "infallible") infallible refl)
+            (name_readable term (and_first (writable_ident term) (writable_ident func) names), (name_readable func (and_second (writable_ident term) (writable_ident func) names), tt)),
+      ),
+    )
+extern_readable (extern_const name ty _) e = (
+  word_readable (codes "extern") refl,
+  (
+    word_readable (codes "const") refl,
+    (constant_readable name (and_first (is_const_name name.0) (writable_ident ty) e), (name_readable ty (and_second (is_const_name name.0) (writable_ident ty) e), tt)),
+  ),
+)
+
+converter_readable : (c : ConverterTree) → writable_converter c ≡ true → IsReadable (converter_sexpr c)
+converter_readable c e =
+    let types = and_first (writable_ident c.inner_ty && writable_ident c.outer_ty) (writable_ident c.term) e in (
+      word_readable (codes "convert") refl,
+      (
+        name_readable c.inner_ty (and_first (writable_ident c.inner_ty) (writable_ident c.outer_ty) types),
+        (
+          name_readable c.outer_ty (and_second (writable_ident c.inner_ty) (writable_ident c.outer_ty) types),
+          (name_readable c.term (and_second (writable_ident c.inner_ty && writable_ident c.outer_ty) (writable_ident c.term) e), tt),
+        ),
+      ),
+    )
+
+-- ---- rules
+
+rule_name_readable : (name : Option Ident) → writable_rule_name name ≡ true → AreReadable (rule_name name)
+rule_name_readable None e = tt
+rule_name_readable (Some x) e = (name_readable x e, tt)
+
+wider : (z : ℤ) → FitsSigned w64 z → FitsSigned w128 z
+wider z f = record { sfits = omega (arith, f.sfits) }
+
+rule_priority_readable : (priority : Option ℤ) → PriorityInRange priority → AreReadable (rule_priority priority)
+rule_priority_readable None f = tt
+rule_priority_readable (Some z) f = (λ u. (Int z, signed_token z (wider z f)), tt)
+
+iflets_readable : (cs : List IfLet) → list_all writable_iflet cs ≡ true → IfLetsInRange cs → AreReadable (map iflet_sexpr cs)
+iflets_readable [] e f = tt
+iflets_readable (c ∷ cs) e f =
+    let first = and_first (writable_iflet c) (list_all writable_iflet cs) e in
+    let pattern = pattern_of c.pattern in
+    let expr = expr_of c.expr in (
+      (
+        word_readable (codes "if-let") refl,
+        (pattern_readable pattern (and_first (writable_pattern pattern) (writable_expr expr) first) f.0, (expr_readable expr (and_second (writable_pattern pattern) (writable_expr expr) first) f.1, tt)),
+      ),
+      iflets_readable cs (and_second (writable_iflet c) (list_all writable_iflet cs) e) f.2,
+    )
+
+rule_readable : (r : RuleTree) → writable_rule r ≡ true → RuleInRange r → IsReadable (rule_sexpr r)
+rule_readable r e f =
+    let name = writable_rule_name r.name in
+    let pattern = pattern_of r.pattern in
+    let expr = expr_of r.expr in
+    let five = and_first (name && is_list pattern && writable_pattern pattern && list_all writable_iflet r.iflets && is_right_side expr) (writable_expr expr) e in
+    let four = and_first (name && is_list pattern && writable_pattern pattern && list_all writable_iflet r.iflets) (is_right_side expr) five in
+    let three = and_first (name && is_list pattern && writable_pattern pattern) (list_all writable_iflet r.iflets) four in
+    let two = and_first (name && is_list pattern) (writable_pattern pattern) three in (
+      word_readable (codes "rule") refl,
+      readable_append (rule_name r.name) _ (rule_name_readable r.name (and_first name (is_list pattern) two))
+          (readable_append (rule_priority r.prio) _ (rule_priority_readable r.prio f.0) (
+            pattern_readable pattern (and_second (name && is_list pattern) (writable_pattern pattern) three) f.1,
+            readable_append (map iflet_sexpr r.iflets) (expr_sexpr expr ∷ []) (iflets_readable r.iflets (and_second (name && is_list pattern && writable_pattern pattern) (list_all writable_iflet r.iflets) four) f.2)
+                (expr_readable expr (and_second (name && is_list pattern && writable_pattern pattern && list_all writable_iflet r.iflets && is_right_side expr) (writable_expr expr) e) f.3, tt),
+          )),
+    )
+
+-- ---- definitions
+
+-- a word of a kept definition is a symbol
+kept_by : (s : List ℕ) (a b c d e f g : Bool) → is_word (codes "attr") s ≡ a → is_word (codes "spec") s ≡ b → is_word (codes "macro") s ≡ c → is_word (codes "model") s ≡ d
+    → is_word (codes "state") s ≡ e → is_word (codes "form") s ≡ f → is_word (codes "instantiate") s ≡ g → (a || b || c || d || e || f || g) ≡ true → is_symbol s ≡ true
+kept_by s true b c d e f g ha hb hc hd he hf hg h = ap is_symbol (word_same (codes "attr") s ha)
+kept_by s false true c d e f g ha hb hc hd he hf hg h = ap is_symbol (word_same (codes "spec") s hb)
+kept_by s false false true d e f g ha hb hc hd he hf hg h = ap is_symbol (word_same (codes "macro") s hc)
+kept_by s false false false true e f g ha hb hc hd he hf hg h = ap is_symbol (word_same (codes "model") s hd)
+kept_by s false false false false true f g ha hb hc hd he hf hg h = ap is_symbol (word_same (codes "state") s he)
+kept_by s false false false false false true g ha hb hc hd he hf hg h = ap is_symbol (word_same (codes "form") s hf)
+kept_by s false false false false false false true ha hb hc hd he hf hg h = ap is_symbol (word_same (codes "instantiate") s hg)
+kept_by s false false false false false false false ha hb hc hd he hf hg h = absurd (cc)
+
+pub kept_word_is_symbol : (s : List ℕ) → is_kept_word s ≡ true → is_symbol s ≡ true
+kept_word_is_symbol s e =
+    kept_by s (is_word (codes "attr") s) (is_word (codes "spec") s) (is_word (codes "macro") s) (is_word (codes "model") s) (is_word (codes "state") s) (is_word (codes "form") s) (is_word (codes "instantiate") s)
+    refl refl refl refl refl refl refl e
+
+kept_readable : (k : KeptTree) → writable_kept k ≡ true → ItemsInRange k.items → IsReadable (kept_sexpr k)
+kept_readable k e f =
+    (word_readable k.word.0 (kept_word_is_symbol k.word.0 (and_first (is_kept_word k.word.0) (writable_items k.items) e)), items_readable k.items (and_second (is_kept_word k.word.0) (writable_items k.items) e) f)
+
+words_readable : (d : Def) → has_writable_words d ≡ true → DefInRange d → IsReadable (def_sexpr d)
+words_readable (TypeDef x) e f = type_readable x e
+words_readable (Decl d) e f = decl_readable d e
+words_readable (Rule r) e f = rule_readable r e f
+words_readable (Extractor x) e f = extractor_readable x e f
+words_readable (Extern x) e f = extern_readable x e
+words_readable (Converter c) e f = converter_readable c e
+words_readable (Pragma _) e f = absurd (cc)
+words_readable (Kept k) e f = kept_readable k e f
+
+-- each atom of a definition that can be written is one token, if it is text
+pub def_readable : (d : Def) → writable_def d ≡ true → DefInRange d → IsReadable (def_sexpr d)
+def_readable d e f = words_readable d (and_first (has_writable_words d) (nat_le (nesting d) max_nesting) e) f
