@@ -24,3 +24,4 @@ pub mod RespeltTrees
 pub mod EachAtom
 pub mod TreeAtoms
 pub mod DefAtoms
+pub mod RespeltTypes
