@@ -9,6 +9,9 @@ pub mod AtomTexts
 pub mod IdentifierTexts
 pub mod IntegerTexts
 pub mod AtomReadings
+pub mod AtomEnds
+pub mod Blanks
+pub mod LayoutTokens
 mod LayoutCases
 pub mod MacroArgs
 pub mod TextTokens

@@ -12,3 +12,4 @@ pub mod Nesting
 pub mod Writable
 pub mod TextTokens
 pub mod IntegerRanges
+pub mod ReadsBack

@@ -1,4 +1,5 @@
 mod commands;
+mod formats;
 mod streams;
 mod words;
 

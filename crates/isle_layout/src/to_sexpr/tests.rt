@@ -1,5 +1,6 @@
 use super::*;
 use crate::sexpr::SExpr;
+use isle_syntax::Text;
 use isle_syntax::ast::Patterns;
 use isle_syntax::lexer::{Lexer, Pos};
 use isle_syntax::parser::parse;
@@ -58,11 +59,11 @@ fn show(text: &mut String, sexpr: &SExpr) -> Result<(), Fail> {
 #[cycle(show)]
 #[tactic(auto, using(crate::proofs::SExprSizes::most_sexpr_size))]
 fn show_items(text: &mut String, items: &[SExpr]) -> Result<(), Fail> {
-    let mut gap = "";
-    for item in items {
-        text.push_str(gap)?;
+    for (index, item) in items.iter().enumerate() {
+        if index > 0 {
+            text.push_str(" ")?;
+        }
         show(text, item)?;
-        gap = " ";
     }
     Ok(())
 }
@@ -89,37 +90,47 @@ fn definitions(alloc: Global, text: &str) -> Result<Vec<Def>, Fail> {
     )
 }
 
+/// Adds what a definition prints as, on a line of its own.
+fn add_line(text: &mut String, alloc: Global, def: &Def) -> Result<(), Fail> {
+    text.push_str(shown(alloc, def)?.as_str())?;
+    text.push_str("\n")?;
+    Ok(())
+}
+
+/// What definitions print as.
+fn respelt(alloc: Global, defs: &[Def]) -> Result<String, Fail> {
+    let mut text = String::new(alloc);
+    for def in defs {
+        add_line(&mut text, alloc, def)?;
+    }
+    Ok(text)
+}
+
+/// Whether the definitions of a text print as another text.
+fn prints_as(alloc: Global, text: &str, spelt: &str) -> Result<bool, Fail> {
+    let defs = definitions(alloc, text)?;
+    Ok(respelt(alloc, defs.as_slice())?.as_str() == spelt)
+}
+
 #[test]
 fn definitions_have_their_spelling(rt: HostRuntime) -> Result<(), Fail> {
-    let alloc = rt.alloc();
-    let mut text = String::new(alloc);
-    for def in definitions(alloc, DEFINITIONS)? {
-        text.push_str(shown(alloc, &def)?.as_str())?;
-        text.push_str("\n")?;
-    }
-    assert_eq!(rt; text.as_str(), SPELT);
+    assert!(rt; prints_as(rt.alloc(), DEFINITIONS, SPELT)?);
     Ok(())
 }
 
 #[test]
-fn parts_of_types_and_rules_print_alone(rt: HostRuntime) -> Result<(), Fail> {
+fn parts_print_alone(rt: HostRuntime) -> Result<(), Fail> {
     let alloc = rt.alloc();
-    for def in definitions(alloc, DEFINITIONS)? {
-        if let Def::TypeDef(ty) = &def {
-            if let TypeValue::Enum(variants, _) = &ty.ty {
-                assert_eq!(rt; shown(alloc, &ty.name)?.as_str(), "Op");
-                let variant = variants.as_slice().last().ok_or("a variant")?;
-                assert_eq!(rt; shown(alloc, variant)?.as_str(), "None");
-            }
-        }
-        if let Def::Rule(rule) = &def {
-            if let Some(iflet) = rule.iflets.as_slice().first() {
-                assert_eq!(rt; shown(alloc, iflet)?.as_str(), "(if-let 0 n)");
-                assert_eq!(rt; shown(alloc, &iflet.pattern)?.as_str(), "0");
-                assert_eq!(rt; shown(alloc, &iflet.expr)?.as_str(), "n");
-            }
-        }
-    }
+    let pos = Pos::default();
+    let name = Ident(Text::from_str(alloc, "Op")?, pos);
+    assert_eq!(rt; shown(alloc, &name)?.as_str(), "Op");
+    let iflet = IfLet {
+        pattern: Pattern::Wildcard { pos },
+        expr: Expr::Var { name, pos },
+        pos,
+    };
+    assert_eq!(rt; shown(alloc, &iflet)?.as_str(), "(if-let _ Op)");
+    assert_eq!(rt; shown(alloc, &KeptItem::At { pos })?.as_str(), "@");
     Ok(())
 }
 

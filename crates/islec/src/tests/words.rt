@@ -23,8 +23,29 @@ fn reads_run(rt: HostRuntime) -> Result<(), Fail> {
 }
 
 #[test]
+fn reads_fmt(rt: HostRuntime) -> Result<(), Fail> {
+    let cases: [(&[&str], u32); 4] = [
+        (&["islec", "fmt", "a"], 80),
+        (&["islec", "fmt", "--width", "0", "a"], 0),
+        (&["islec", "fmt", "a", "--width", "5"], 5),
+        (&["islec", "fmt", "--width", "1000000", "a"], 1_000_000),
+    ];
+    for (words, width) in cases {
+        let line = line_of(rt.alloc(), words).ok().ok_or("a line")?;
+        assert_eq!(rt; line.job, Job::Fmt { width });
+        assert_eq!(rt; line.files.len(), 1);
+        assert_eq!(rt; line.files[0].as_str(), "a");
+    }
+    Ok(())
+}
+
+#[test]
 fn refuses_other_words(rt: HostRuntime) {
-    let cases: [&[&str]; 7] = [
+    let cases: [&[&str]; 11] = [
+        &["islec", "fmt"],
+        &["islec", "fmt", "a", "b"],
+        &["islec", "fmt", "--width", "1000001", "a"],
+        &["islec", "fmt", "--width", "-1", "a"],
         &["islec", "run"],
         &["islec", "run", "--depth", "4294967296", "a"],
         &["islec", "run", "--depth", "-1", "a"],
