@@ -28,3 +28,4 @@ pub mod EachAtom
 pub mod TreeAtoms
 pub mod DefAtoms
 pub mod RespeltTypes
+pub mod RespeltTerms
