@@ -29,3 +29,5 @@ pub mod TreeAtoms
 pub mod DefAtoms
 pub mod RespeltTypes
 pub mod RespeltTerms
+pub mod RespeltRules
+pub mod RespeltDefs
