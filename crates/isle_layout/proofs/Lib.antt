@@ -31,3 +31,5 @@ pub mod RespeltTypes
 pub mod RespeltTerms
 pub mod RespeltRules
 pub mod RespeltDefs
+pub mod RespeltRooms
+pub mod RespeltDepths
