@@ -178,7 +178,7 @@ rule_name_readable : (name : Option Ident) → writable_rule_name name ≡ true 
 rule_name_readable None e = tt
 rule_name_readable (Some x) e = (name_readable x e, tt)
 
-wider : (z : ℤ) → FitsSigned w64 z → FitsSigned w128 z
+pub wider : (z : ℤ) → FitsSigned w64 z → FitsSigned w128 z
 wider z f = record { sfits = omega (arith, f.sfits) }
 
 rule_priority_readable : (priority : Option ℤ) → PriorityInRange priority → AreReadable (rule_priority priority)

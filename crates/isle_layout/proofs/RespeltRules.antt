@@ -29,6 +29,7 @@ use Rattle.isle_layout.specs.DefSpellings.{rule_name, rule_priority, iflet_sexpr
 use Rattle.isle_layout.specs.Writable.{writable_ident, writable_pattern, writable_expr, writable_rule_name, writable_iflet, is_list, is_right_side, writable_rule}
 use Rattle.isle_layout.specs.IntegerRanges.{PatternInRange, ExprInRange, PriorityInRange, IfLetsInRange, RuleInRange}
 use Rattle.isle_layout.proofs.AtomReadings.{signed_reading}
+use Rattle.isle_layout.proofs.DefAtoms.{wider}
 use Rattle.isle_layout.proofs.WithoutPos.{list_same, right_same}
 use Rattle.isle_layout.proofs.RespeltRows.{Reads, Row, listed_row, row_append, Again, AllAgain}
 use Rattle.isle_layout.proofs.RespeltTrees.{word_again, expr_again}
@@ -106,13 +107,10 @@ priority_fits : (z : ℤ) → FitsSigned w64 z → fits_priority z ≡ true
 priority_fits (pos n) f = and_from true _ refl (lt-ltb n (2 ^ 63) f.sfits)
 priority_fits (negsuc n) f = and_from _ true (le-leb n (2 ^ 63 - 1) (omega (arith, f.sfits))) refl
 
-priority_wide : (z : ℤ) → FitsSigned w64 z → FitsSigned w128 z
-priority_wide z f = record { sfits = omega (arith, f.sfits) }
-
 priority_part : (prio : Option ℤ) (K : List Placed → Type 0) (ts : List Placed) → PriorityInRange prio → Row (rule_priority prio) K ts → (SpellsPriority prio ⊙ K) ts
 priority_part None K ts f l = ([], ts, refl, refl, l)
 priority_part (Some z) K ts f l =
-    let n = signed_reading z l.0 (priority_wide z f) l.3.1 in
+    let n = signed_reading z l.0 (wider z f) l.3.1 in
     (l.0, l.1, l.2, (n.0, n.1, priority_fits z f), l.4)
 
 -- ---- conditions
