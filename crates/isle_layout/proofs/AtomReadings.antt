@@ -5,13 +5,15 @@ use Rattle.std.specs.Int.{w128}
 use Rattle.std.specs.Fmt.{decimal, signed_decimal}
 use Rattle.isle_syntax.specs.declared.lexer.Pos.{Pos}
 use Rattle.isle_syntax.specs.declared.lexer.Token.{Token}
-use Rattle.isle_syntax.specs.Names.{is_symbol}
+use Rattle.isle_syntax.specs.Names.{begins_symbol, is_symbol, is_ident, is_name, is_pname, is_const_name}
 use Rattle.isle_syntax.specs.Tokens.{Literal, small, large, Placed, placed_at, at_sign, symbol, int}
 use Rattle.isle_syntax.specs.TokensOf.{IsToken}
 use Rattle.isle_syntax.specs.Grammar.{SpellsInteger}
+use Rattle.isle_syntax.proofs.SymbolKinds.{pname_is_name}
 use Rattle.isle_layout.specs.SExprTokens.{SpellsAtom}
 use Rattle.isle_layout.specs.Spellings.{integer_text}
-use Rattle.isle_layout.proofs.AtomTexts.{one_token, symbol_token, at_sign_token}
+use Rattle.isle_layout.proofs.AtomTexts.{one_token, symbol_token, whole_symbol, at_sign_token}
+use Rattle.isle_layout.proofs.IdentifierTexts.{ident_begins, no_ident, name_is_ident, const_is_ident}
 use Rattle.isle_layout.proofs.IntegerTexts.{signed_token, large_token, integer_text_token, literal_of, literal_token, literal_bits, literal_large}
 
 -- a text that is this token
@@ -21,6 +23,25 @@ atom_reading text t ts i a = (a.0, a.3 ∙ ap (λ u. placed_at a.0 u ∷ []) (on
 -- a symbol
 pub symbol_reading : (s : List ℕ) (ts : List Placed) → is_symbol s ≡ true → SpellsAtom s ts → (p : Pos) × (ts ≡ symbol p s ∷ [])
 symbol_reading s ts e a = atom_reading s _ ts (symbol_token s e) a
+
+begun_reading : (b : ℕ) (bs : List ℕ) (ts : List Placed) → begins_symbol b ≡ true → SpellsAtom (b ∷ bs) ts → (p : Pos) × (ts ≡ symbol p (b ∷ bs) ∷ [])
+begun_reading b bs ts e a = (a.0, a.3 ∙ ap (λ t. placed_at a.0 t ∷ []) (whole_symbol b bs e a.2))
+
+-- an identifier
+pub ident_reading : (s : List ℕ) (ts : List Placed) → is_ident s ≡ true → SpellsAtom s ts → (p : Pos) × (ts ≡ symbol p s ∷ [])
+ident_reading [] ts e a = absurd (no_ident e)
+ident_reading (b ∷ bs) ts e a = begun_reading b bs ts (ident_begins b bs e) a
+
+-- a name
+pub name_reading : (s : List ℕ) (ts : List Placed) → is_name s ≡ true → SpellsAtom s ts → (p : Pos) × (ts ≡ symbol p s ∷ [])
+name_reading s ts e a = ident_reading s ts (name_is_ident s e) a
+
+pub pname_reading : (s : List ℕ) (ts : List Placed) → is_pname s ≡ true → SpellsAtom s ts → (p : Pos) × (ts ≡ symbol p s ∷ [])
+pname_reading s ts e a = name_reading s ts (pname_is_name s e) a
+
+-- a constant, with the `$` before its name
+pub constant_reading : (s : List ℕ) (ts : List Placed) → is_const_name s ≡ true → SpellsAtom (36 ∷ s) ts → (p : Pos) × (ts ≡ symbol p (36 ∷ s) ∷ [])
+constant_reading s ts e a = ident_reading (36 ∷ s) ts (const_is_ident s e) a
 
 -- the sign `@`
 pub at_sign_reading : (ts : List Placed) → SpellsAtom (codes "@") ts → (p : Pos) × (ts ≡ at_sign p ∷ [])

@@ -1,6 +1,7 @@
 -- Texts that are one token.
-use Rattle.std.proofs.Common.{◌≡◌, ℕ, List, [], ◌∷◌, Bool, true, refl, sym, ap, subst, ◌∙◌, arith}
+use Rattle.std.proofs.Common.{◌≡◌, ℕ, List, [], ◌∷◌, ◌++◌, Bool, true, refl, sym, ap, subst, ◌∙◌, arith}
 use Rattle.std.specs.List.{list_all}
+use Rattle.std.proofs.lemmas.List.{append-nil}
 use Rattle.std.proofs.lemmas.Bool.Decides.{nat_tests}
 use Rattle.isle_syntax.specs.declared.gap.Lead.{Lead}
 use Rattle.isle_syntax.specs.declared.lexer.Token.{Token}
@@ -9,6 +10,7 @@ use Rattle.isle_syntax.specs.Names.{begins_symbol, is_symbol}
 use Rattle.isle_syntax.specs.Gaps.{lead_of, after_run, run_of}
 use Rattle.isle_syntax.specs.TokensOf.{continues_symbol, IsToken, at_sign, word}
 use Rattle.isle_syntax.proofs.Readings.{next_complete}
+use Rattle.isle_syntax.proofs.Runs.{run_whole}
 use Rattle.isle_syntax.proofs.SymbolKinds.{and_first, and_second}
 
 -- a text begins with one token
@@ -43,6 +45,12 @@ symbol_token (b ∷ bs) e =
     let all : list_all continues_symbol (b ∷ bs) ≡ true = rw (begins_continues b first) (and_second (begins_symbol b) (list_all continues_symbol bs) e) in
     subst (λ s. IsToken (b ∷ bs) (Symbol s) []) (run_all continues_symbol (b ∷ bs) all)
     (subst (IsToken (b ∷ bs) (Symbol (run_of continues_symbol (b ∷ bs)))) (after_all continues_symbol (b ∷ bs) all) (word (begins_word b bs first)))
+
+-- what begins as a symbol, and is one token, is that symbol
+pub whole_symbol : (b : ℕ) (bs : List ℕ) {t : Token} → begins_symbol b ≡ true → IsToken (b ∷ bs) t [] → t ≡ Symbol (b ∷ bs)
+whole_symbol b bs e i =
+    let same = one_token i (word (begins_word b bs e)) in
+    same.0 ∙ ap (λ s. Symbol s) (sym (run_whole continues_symbol (b ∷ bs) ∙ ap (λ rest. run_of continues_symbol (b ∷ bs) ++ rest) (sym same.1) ∙ append-nil (run_of continues_symbol (b ∷ bs))))
 
 -- the sign `@`
 pub at_sign_token : IsToken (64 ∷ []) At []

@@ -1,5 +1,5 @@
 -- The atoms of definitions that can be written are tokens.
-use Rattle.std.proofs.Common.{◌≡◌, ℕ, suc, List, [], ◌∷◌, ◌++◌, Bool, true, false, Option, Some, None, map, refl, ap, arith}
+use Rattle.std.proofs.Common.{◌≡◌, ℕ, suc, List, [], ◌∷◌, Bool, true, false, Option, Some, None, map, refl, arith}
 use Rattle.std.specs.Prelude.{ℤ, ◌&&◌, ◌||◌, ◌==◌, not, nat_le, codes, FitsSigned}
 use Rattle.std.specs.List.{list_all}
 use Rattle.std.specs.Int.{w64, w128}
@@ -28,13 +28,13 @@ use Rattle.isle_syntax.specs.ExprShape.{expr_of}
 use Rattle.isle_syntax.specs.Names.{is_symbol, is_word, is_const_name}
 use Rattle.isle_syntax.specs.DefGrammar.{is_kept_word}
 use Rattle.isle_syntax.specs.Verdict.{max_nesting}
-use Rattle.isle_syntax.proofs.Basics.{word_same}
 use Rattle.isle_syntax.proofs.SymbolKinds.{and_first, and_second}
-use Rattle.isle_layout.specs.Spellings.{name_sexpr, pattern_sexpr, expr_sexpr}
+use Rattle.isle_layout.specs.Spellings.{name_sexpr, expr_sexpr}
 use Rattle.isle_layout.specs.DefSpellings.{flag, struct_field_sexpr, tuple_field_sexpr, fields_sexprs, variant_of, variant_sexpr, type_value_sexpr, type_sexpr, decl_flags, decl_sexpr, extractor_sexpr, extern_sexpr, converter_sexpr, rule_name, rule_priority, iflet_sexpr, rule_sexpr, kept_sexpr, def_sexpr}
 use Rattle.isle_layout.specs.Nesting.{nesting}
 use Rattle.isle_layout.specs.Writable.{writable_ident, writable_pattern, writable_expr, writable_items, writable_struct_field, writable_tuple_fields, is_filled, writable_fields, writable_variant, writable_type_value, writable_type, is_free_of_flags, writable_decl, writable_extractor, writable_extern, writable_converter, writable_rule_name, writable_iflet, is_list, is_right_side, writable_rule, writable_kept, has_writable_words, writable_def}
-use Rattle.isle_layout.specs.IntegerRanges.{PatternInRange, ExprInRange, ItemsInRange, PriorityInRange, IfLetsInRange, RuleInRange, DefInRange}
+use Rattle.isle_layout.specs.IntegerRanges.{PatternInRange, ItemsInRange, PriorityInRange, IfLetsInRange, RuleInRange, DefInRange}
+use Rattle.isle_layout.proofs.IdentifierTexts.{kept_word_is_symbol}
 use Rattle.isle_layout.proofs.IntegerTexts.{signed_token}
 use Rattle.isle_layout.proofs.EachAtom.{IsAtomIfText, IsReadable, AreReadable, readable_append, readable_map}
 use Rattle.isle_layout.proofs.TreeAtoms.{symbol_atom, ident_readable, constant_readable, pattern_readable, expr_readable, items_readable}
@@ -217,23 +217,6 @@ rule_readable r e f =
     )
 
 -- ---- definitions
-
--- a word of a kept definition is a symbol
-kept_by : (s : List ℕ) (a b c d e f g : Bool) → is_word (codes "attr") s ≡ a → is_word (codes "spec") s ≡ b → is_word (codes "macro") s ≡ c → is_word (codes "model") s ≡ d
-    → is_word (codes "state") s ≡ e → is_word (codes "form") s ≡ f → is_word (codes "instantiate") s ≡ g → (a || b || c || d || e || f || g) ≡ true → is_symbol s ≡ true
-kept_by s true b c d e f g ha hb hc hd he hf hg h = ap is_symbol (word_same (codes "attr") s ha)
-kept_by s false true c d e f g ha hb hc hd he hf hg h = ap is_symbol (word_same (codes "spec") s hb)
-kept_by s false false true d e f g ha hb hc hd he hf hg h = ap is_symbol (word_same (codes "macro") s hc)
-kept_by s false false false true e f g ha hb hc hd he hf hg h = ap is_symbol (word_same (codes "model") s hd)
-kept_by s false false false false true f g ha hb hc hd he hf hg h = ap is_symbol (word_same (codes "state") s he)
-kept_by s false false false false false true g ha hb hc hd he hf hg h = ap is_symbol (word_same (codes "form") s hf)
-kept_by s false false false false false false true ha hb hc hd he hf hg h = ap is_symbol (word_same (codes "instantiate") s hg)
-kept_by s false false false false false false false ha hb hc hd he hf hg h = absurd (cc)
-
-pub kept_word_is_symbol : (s : List ℕ) → is_kept_word s ≡ true → is_symbol s ≡ true
-kept_word_is_symbol s e =
-    kept_by s (is_word (codes "attr") s) (is_word (codes "spec") s) (is_word (codes "macro") s) (is_word (codes "model") s) (is_word (codes "state") s) (is_word (codes "form") s) (is_word (codes "instantiate") s)
-    refl refl refl refl refl refl refl e
 
 kept_readable : (k : KeptTree) → writable_kept k ≡ true → ItemsInRange k.items → IsReadable (kept_sexpr k)
 kept_readable k e f =

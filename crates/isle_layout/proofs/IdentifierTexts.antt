@@ -1,16 +1,18 @@
 -- Identifiers are symbols.
 use Rattle.std.proofs.Common.{◌≡◌, ℕ, zero, suc, ◌<◌, ◌≤◌, List, [], ◌∷◌, length, get_or, Bool, true, false, inl, inr, refl, sym, ap, subst, ◌∙◌, length-append, arith}
-use Rattle.std.specs.Prelude.{◌&&◌, ◌||◌, not}
+use Rattle.std.specs.Prelude.{◌&&◌, ◌||◌, not, codes}
 use Rattle.std.specs.List.{list_all}
 use Rattle.std.specs.Char.{encode_utf8}
-use Rattle.std.specs.Str.{IsUtf8, NonePass, NoCharPasses, encode_utf8_all}
-use Rattle.std.proofs.lemmas.Bool.{and_from, cases_lt}
+use Rattle.std.specs.Str.{IsUtf8, NonePass, NoCharPasses, encode_utf8_all, chars, chars_after}
+use Rattle.std.proofs.lemmas.Bool.{and_from, cases_lt, lt-ltb}
 use Rattle.std.proofs.lemmas.Bool.Decides.{nat_tests}
 use Rattle.std.proofs.lemmas.Str.{chars_from_encodes, inside_one, length-encode, len_utf8_bounds, NoCharPasses-byte}
 use Rattle.unicode.proofs.CategoryComputing.{ucd_category}
 use Rattle.unicode.proofs.DerivedComputing.{ucd_derived}
-use Rattle.isle_syntax.specs.Names.{begins_symbol, is_symbol, begins_ident, continues_ident, is_ident_of, is_ident, is_name, is_pname, is_const_name}
+use Rattle.isle_syntax.specs.Names.{begins_symbol, is_symbol, begins_ident, continues_ident, is_ident_of, is_ident, is_name, is_pname, is_const_name, is_word}
 use Rattle.isle_syntax.specs.TokensOf.{continues_symbol}
+use Rattle.isle_syntax.specs.DefGrammar.{is_kept_word}
+use Rattle.isle_syntax.proofs.Basics.{word_same}
 use Rattle.isle_syntax.proofs.SymbolKinds.{and_first, and_second, pname_is_name}
 
 -- ---- the bytes of ASCII
@@ -92,7 +94,7 @@ pub ident_is_symbol : (s : List ℕ) → IsUtf8 s → is_ident s ≡ true → is
 unfolding is_ident
 ident_is_symbol s u e = symbol_by_chars u.0 s u.1.1 (ap is_ident_of (chars_from_encodes u.0 s u u.1.1) ∙ e)
 
-name_is_ident : (s : List ℕ) → is_name s ≡ true → is_ident s ≡ true
+pub name_is_ident : (s : List ℕ) → is_name s ≡ true → is_ident s ≡ true
 unfolding is_name
 name_is_ident s e = and_first (is_ident s) _ (and_first _ _ (and_first _ _ e))
 
@@ -102,7 +104,7 @@ name_is_symbol s u e = ident_is_symbol s u (name_is_ident s e)
 pub pname_is_symbol : (s : List ℕ) → IsUtf8 s → is_pname s ≡ true → is_symbol s ≡ true
 pname_is_symbol s u e = name_is_symbol s u (pname_is_name s e)
 
-const_is_ident : (s : List ℕ) → is_const_name s ≡ true → is_ident (36 ∷ s) ≡ true
+pub const_is_ident : (s : List ℕ) → is_const_name s ≡ true → is_ident (36 ∷ s) ≡ true
 unfolding is_const_name
 const_is_ident [] e = absurd (cc)
 const_is_ident (b ∷ bs) e = e
@@ -110,3 +112,39 @@ const_is_ident (b ∷ bs) e = e
 -- a constant, with the `$` before its name
 pub constant_is_symbol : (s : List ℕ) → IsUtf8 (36 ∷ s) → is_const_name s ≡ true → is_symbol (36 ∷ s) ≡ true
 constant_is_symbol s u e = ident_is_symbol (36 ∷ s) u (const_is_ident s e)
+
+-- ---- the first byte of a symbol, also where the others aren't text
+
+first_char : (b : ℕ) (bs : List ℕ) → is_ident_of (chars_after 0 b bs) ≡ true → begins_ident b ≡ true
+first_char b [] e = and_first (begins_ident b) true e
+first_char b (c ∷ cs) e = and_first (begins_ident b) _ e
+
+ascii_begins : (b : ℕ) (bs : List ℕ) → b < 128 → is_ident (b ∷ bs) ≡ true → begins_ident b ≡ true
+unfolding is_ident chars
+ascii_begins b bs low e = first_char b bs (rw (lt-ltb b 128 low) at e)
+
+pub ident_begins : (b : ℕ) (bs : List ℕ) → is_ident (b ∷ bs) ≡ true → begins_symbol b ≡ true
+ident_begins b bs e = first_begins b (λ low. ascii_begins b bs low e)
+
+pub no_ident : is_ident [] ≡ true → ⊥
+unfolding is_ident chars
+no_ident e = cc
+
+-- ---- words
+
+kept_by : (s : List ℕ) (a b c d e f g : Bool) → is_word (codes "attr") s ≡ a → is_word (codes "spec") s ≡ b → is_word (codes "macro") s ≡ c → is_word (codes "model") s ≡ d
+    → is_word (codes "state") s ≡ e → is_word (codes "form") s ≡ f → is_word (codes "instantiate") s ≡ g → (a || b || c || d || e || f || g) ≡ true → is_symbol s ≡ true
+kept_by s true b c d e f g ha hb hc hd he hf hg h = ap is_symbol (word_same (codes "attr") s ha)
+kept_by s false true c d e f g ha hb hc hd he hf hg h = ap is_symbol (word_same (codes "spec") s hb)
+kept_by s false false true d e f g ha hb hc hd he hf hg h = ap is_symbol (word_same (codes "macro") s hc)
+kept_by s false false false true e f g ha hb hc hd he hf hg h = ap is_symbol (word_same (codes "model") s hd)
+kept_by s false false false false true f g ha hb hc hd he hf hg h = ap is_symbol (word_same (codes "state") s he)
+kept_by s false false false false false true g ha hb hc hd he hf hg h = ap is_symbol (word_same (codes "form") s hf)
+kept_by s false false false false false false true ha hb hc hd he hf hg h = ap is_symbol (word_same (codes "instantiate") s hg)
+kept_by s false false false false false false false ha hb hc hd he hf hg h = absurd (cc)
+
+-- a word of a kept definition
+pub kept_word_is_symbol : (s : List ℕ) → is_kept_word s ≡ true → is_symbol s ≡ true
+kept_word_is_symbol s e =
+    kept_by s (is_word (codes "attr") s) (is_word (codes "spec") s) (is_word (codes "macro") s) (is_word (codes "model") s) (is_word (codes "state") s) (is_word (codes "form") s) (is_word (codes "instantiate") s)
+    refl refl refl refl refl refl refl e

@@ -33,3 +33,4 @@ pub mod RespeltRules
 pub mod RespeltDefs
 pub mod RespeltRooms
 pub mod RespeltDepths
+pub mod PrintedTexts

@@ -1,7 +1,6 @@
 -- The atoms of trees that can be written are tokens.
-use Rattle.std.proofs.Common.{◌≡◌, ℕ, ◌^◌, List, ◌∷◌, true, false, refl}
-use Rattle.std.specs.Prelude.{◌&&◌, not, nat_le, codes}
-use Rattle.std.specs.Str.{IsUtf8}
+use Rattle.std.proofs.Common.{◌≡◌, ℕ, List, ◌∷◌, true, false, refl}
+use Rattle.std.specs.Prelude.{◌&&◌, codes}
 use Rattle.std.proofs.lemmas.Bool.Decides.{nat_tests}
 use Rattle.std.proofs.Common.{arith}
 use Rattle.isle_syntax.specs.declared.ast.Ident.{Ident}
@@ -9,13 +8,12 @@ use Rattle.isle_syntax.specs.declared.lexer.Token.TheVariants.{At, Symbol, Int, 
 use Rattle.isle_syntax.specs.PatternTree.{PatternTree, PatternTrees, pattern_var, pattern_bind, pattern_bool, pattern_int, pattern_prim, pattern_term, pattern_wildcard, pattern_and, pattern_macro_arg, no_patterns, more_patterns}
 use Rattle.isle_syntax.specs.ExprTree.{ExprTree, ExprTrees, LetTrees, expr_term, expr_var, expr_bool, expr_int, expr_prim, expr_let, no_exprs, more_exprs, no_lets, more_lets}
 use Rattle.isle_syntax.specs.ItemTree.{ItemTree, ItemTrees, item_int, item_big, item_symbol, item_at, item_list, no_items, more_items}
-use Rattle.isle_syntax.specs.Names.{is_symbol, is_ident, is_const_name, is_word}
-use Rattle.isle_syntax.specs.Grammar.{is_pattern_term, is_expr_term, truth_word}
+use Rattle.isle_syntax.specs.Names.{is_symbol, is_ident, is_const_name}
+use Rattle.isle_syntax.specs.Grammar.{is_pattern_term, is_expr_term}
 use Rattle.isle_syntax.proofs.SymbolKinds.{and_first, and_second}
-use Rattle.isle_layout.specs.SExprTree.{sexpr_atom}
 use Rattle.isle_layout.specs.SExprTokens.{IsAtom}
-use Rattle.isle_layout.specs.Spellings.{name_sexpr, constant_sexpr, pattern_sexpr, pattern_sexprs, expr_sexpr, expr_sexprs, let_sexprs, item_sexpr, item_sexprs}
-use Rattle.isle_layout.specs.Writable.{writable_ident, writable_int, writable_pattern, writable_patterns, writable_expr, writable_exprs, writable_lets, writable_item, writable_items}
+use Rattle.isle_layout.specs.Spellings.{constant_sexpr, pattern_sexpr, pattern_sexprs, expr_sexpr, expr_sexprs, let_sexprs, item_sexpr, item_sexprs}
+use Rattle.isle_layout.specs.Writable.{writable_ident, writable_pattern, writable_patterns, writable_expr, writable_exprs, writable_lets, writable_item, writable_items}
 use Rattle.isle_layout.specs.IntegerRanges.{PatternInRange, PatternsInRange, ExprInRange, ExprsInRange, LetsInRange, ItemInRange, ItemsInRange}
 use Rattle.isle_layout.proofs.AtomTexts.{symbol_token, at_sign_token}
 use Rattle.isle_layout.proofs.IdentifierTexts.{ident_is_symbol, name_is_symbol, pname_is_symbol, constant_is_symbol}

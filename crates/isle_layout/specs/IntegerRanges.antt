@@ -1,5 +1,5 @@
 -- That integers lie in the ranges of their types, as those of every value do.
-use Rattle.std.specs.Prelude.{ℕ, ℤ, ◌^◌, ◌<◌, List, [], ◌∷◌, Option, None, Some, FitsSigned}
+use Rattle.std.specs.Prelude.{ℤ, ◌^◌, ◌<◌, List, [], ◌∷◌, Option, None, Some, FitsSigned}
 use Rattle.std.specs.Int.{w64, w128}
 use Rattle.isle_syntax.specs.declared.ast.IfLet.{IfLet}
 use Rattle.isle_syntax.specs.declared.ast.Rule.{Rule as RuleTree}
@@ -64,6 +64,7 @@ abbrev pub PriorityInRange : Option ℤ → Type 0
 PriorityInRange None = Unit {0}
 PriorityInRange (Some priority) = FitsSigned w64 priority
 
+-- the integers of a rule's conditions, and of a rule, fit their types
 abbrev pub IfLetsInRange : List IfLet → Type 0
 IfLetsInRange [] = Unit {0}
 IfLetsInRange (clause ∷ others) =
