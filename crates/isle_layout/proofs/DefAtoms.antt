@@ -1,6 +1,7 @@
 -- The atoms of definitions that can be written are tokens.
-use Rattle.std.proofs.Common.{◌≡◌, ℕ, suc, List, [], ◌∷◌, Bool, true, false, Option, Some, None, map, refl, arith}
-use Rattle.std.specs.Prelude.{ℤ, ◌&&◌, ◌||◌, ◌==◌, not, nat_le, codes, FitsSigned}
+use Rattle.std.proofs.Common.{◌≡◌, ℕ, suc, ◌-◌, ◌^◌, List, [], ◌∷◌, Bool, true, false, Option, Some, None, map, refl, arith}
+use Rattle.std.specs.Prelude.{ℤ, ◌&&◌, ◌||◌, ◌==◌, not, nat_le, nat_lt, pos, negsuc, codes, FitsSigned}
+use Rattle.std.proofs.lemmas.Bool.{leb-true, ltb-true}
 use Rattle.std.specs.List.{list_all}
 use Rattle.std.specs.Int.{w64, w128}
 use Rattle.isle_syntax.specs.declared.lexer.Token.TheVariants.{Int}
@@ -32,8 +33,8 @@ use Rattle.isle_syntax.proofs.SymbolKinds.{and_first, and_second}
 use Rattle.isle_layout.specs.Spellings.{name_sexpr, expr_sexpr}
 use Rattle.isle_layout.specs.DefSpellings.{flag, struct_field_sexpr, tuple_field_sexpr, fields_sexprs, variant_of, variant_sexpr, type_value_sexpr, type_sexpr, decl_flags, decl_sexpr, extractor_sexpr, extern_sexpr, converter_sexpr, rule_name, rule_priority, iflet_sexpr, rule_sexpr, kept_sexpr, def_sexpr}
 use Rattle.isle_layout.specs.Nesting.{nesting}
-use Rattle.isle_layout.specs.Writable.{writable_ident, writable_pattern, writable_expr, writable_items, writable_struct_field, writable_tuple_fields, is_filled, writable_fields, writable_variant, writable_type_value, writable_type, is_free_of_flags, writable_decl, writable_extractor, writable_extern, writable_converter, writable_rule_name, writable_iflet, is_list, is_right_side, writable_rule, writable_kept, has_writable_words, writable_def}
-use Rattle.isle_layout.specs.IntegerRanges.{PatternInRange, ItemsInRange, PriorityInRange, IfLetsInRange, RuleInRange, DefInRange}
+use Rattle.isle_syntax.specs.DefGrammar.{fits_priority}
+use Rattle.isle_layout.specs.Writable.{writable_ident, writable_pattern, writable_expr, writable_items, writable_struct_field, writable_tuple_fields, is_filled, writable_fields, writable_variant, writable_type_value, writable_type, is_free_of_flags, writable_decl, writable_extractor, writable_extern, writable_converter, writable_rule_name, writable_priority, writable_iflet, is_list, is_right_side, writable_rule, writable_kept, has_writable_words, writable_def}
 use Rattle.isle_layout.proofs.IdentifierTexts.{kept_word_is_symbol}
 use Rattle.isle_layout.proofs.IntegerTexts.{signed_token}
 use Rattle.isle_layout.proofs.EachAtom.{IsAtomIfText, IsReadable, AreReadable, readable_append, readable_map}
@@ -124,13 +125,13 @@ decl_readable d e =
       ),
     )
 
-extractor_readable : (x : ExtractorTree) → writable_extractor x ≡ true → PatternInRange (pattern_of x.template) → IsReadable (extractor_sexpr x)
-extractor_readable x e f =
+extractor_readable : (x : ExtractorTree) → writable_extractor x ≡ true → IsReadable (extractor_sexpr x)
+extractor_readable x e =
     let names = and_first (writable_ident x.term && list_all writable_ident x.args) (writable_pattern (pattern_of x.template)) e in (
       word_readable (codes "extractor") refl,
       (
         (name_readable x.term (and_first (writable_ident x.term) (list_all writable_ident x.args) names), names_readable x.args (and_second (writable_ident x.term) (list_all writable_ident x.args) names)),
-        (pattern_readable (pattern_of x.template) (and_second (writable_ident x.term && list_all writable_ident x.args) (writable_pattern (pattern_of x.template)) e) f, tt),
+        (pattern_readable (pattern_of x.template) (and_second (writable_ident x.term && list_all writable_ident x.args) (writable_pattern (pattern_of x.template)) e), tt),
       ),
     )
 
@@ -178,60 +179,67 @@ rule_name_readable : (name : Option Ident) → writable_rule_name name ≡ true 
 rule_name_readable None e = tt
 rule_name_readable (Some x) e = (name_readable x e, tt)
 
+pub fits_small : (z : ℤ) → fits_priority z ≡ true → FitsSigned w64 z
+fits_small (pos n) e = record { sfits = ltb-true n (2 ^ 63) e }
+fits_small (negsuc n) e =
+    let most = leb-true n (2 ^ 63 - 1) (and_first (nat_le n (2 ^ 63 - 1)) true e) in record { sfits = omega (arith, most) }
+
 pub wider : (z : ℤ) → FitsSigned w64 z → FitsSigned w128 z
 wider z f = record { sfits = omega (arith, f.sfits) }
 
-rule_priority_readable : (priority : Option ℤ) → PriorityInRange priority → AreReadable (rule_priority priority)
-rule_priority_readable None f = tt
-rule_priority_readable (Some z) f = (λ u. (Int z, signed_token z (wider z f)), tt)
+rule_priority_readable : (priority : Option ℤ) → writable_priority priority ≡ true → AreReadable (rule_priority priority)
+rule_priority_readable None e = tt
+rule_priority_readable (Some z) e = (λ u. (Int z, signed_token z (wider z (fits_small z e))), tt)
 
-iflets_readable : (cs : List IfLet) → list_all writable_iflet cs ≡ true → IfLetsInRange cs → AreReadable (map iflet_sexpr cs)
-iflets_readable [] e f = tt
-iflets_readable (c ∷ cs) e f =
+iflets_readable : (cs : List IfLet) → list_all writable_iflet cs ≡ true → AreReadable (map iflet_sexpr cs)
+iflets_readable [] e = tt
+iflets_readable (c ∷ cs) e =
     let first = and_first (writable_iflet c) (list_all writable_iflet cs) e in
     let pattern = pattern_of c.pattern in
     let expr = expr_of c.expr in (
       (
         word_readable (codes "if-let") refl,
-        (pattern_readable pattern (and_first (writable_pattern pattern) (writable_expr expr) first) f.0, (expr_readable expr (and_second (writable_pattern pattern) (writable_expr expr) first) f.1, tt)),
+        (pattern_readable pattern (and_first (writable_pattern pattern) (writable_expr expr) first), (expr_readable expr (and_second (writable_pattern pattern) (writable_expr expr) first), tt)),
       ),
-      iflets_readable cs (and_second (writable_iflet c) (list_all writable_iflet cs) e) f.2,
+      iflets_readable cs (and_second (writable_iflet c) (list_all writable_iflet cs) e),
     )
 
-rule_readable : (r : RuleTree) → writable_rule r ≡ true → RuleInRange r → IsReadable (rule_sexpr r)
-rule_readable r e f =
+rule_readable : (r : RuleTree) → writable_rule r ≡ true → IsReadable (rule_sexpr r)
+rule_readable r e =
     let name = writable_rule_name r.name in
+    let priority = writable_priority r.prio in
     let pattern = pattern_of r.pattern in
     let expr = expr_of r.expr in
-    let five = and_first (name && is_list pattern && writable_pattern pattern && list_all writable_iflet r.iflets && is_right_side expr) (writable_expr expr) e in
-    let four = and_first (name && is_list pattern && writable_pattern pattern && list_all writable_iflet r.iflets) (is_right_side expr) five in
-    let three = and_first (name && is_list pattern && writable_pattern pattern) (list_all writable_iflet r.iflets) four in
-    let two = and_first (name && is_list pattern) (writable_pattern pattern) three in (
+    let five = and_first (name && priority && is_list pattern && writable_pattern pattern && list_all writable_iflet r.iflets && is_right_side expr) (writable_expr expr) e in
+    let four = and_first (name && priority && is_list pattern && writable_pattern pattern && list_all writable_iflet r.iflets) (is_right_side expr) five in
+    let three = and_first (name && priority && is_list pattern && writable_pattern pattern) (list_all writable_iflet r.iflets) four in
+    let two = and_first (name && priority && is_list pattern) (writable_pattern pattern) three in
+    let one = and_first (name && priority) (is_list pattern) two in (
       word_readable (codes "rule") refl,
-      readable_append (rule_name r.name) _ (rule_name_readable r.name (and_first name (is_list pattern) two))
-          (readable_append (rule_priority r.prio) _ (rule_priority_readable r.prio f.0) (
-            pattern_readable pattern (and_second (name && is_list pattern) (writable_pattern pattern) three) f.1,
-            readable_append (map iflet_sexpr r.iflets) (expr_sexpr expr ∷ []) (iflets_readable r.iflets (and_second (name && is_list pattern && writable_pattern pattern) (list_all writable_iflet r.iflets) four) f.2)
-                (expr_readable expr (and_second (name && is_list pattern && writable_pattern pattern && list_all writable_iflet r.iflets && is_right_side expr) (writable_expr expr) e) f.3, tt),
+      readable_append (rule_name r.name) _ (rule_name_readable r.name (and_first name priority one))
+          (readable_append (rule_priority r.prio) _ (rule_priority_readable r.prio (and_second name priority one)) (
+            pattern_readable pattern (and_second (name && priority && is_list pattern) (writable_pattern pattern) three),
+            readable_append (map iflet_sexpr r.iflets) (expr_sexpr expr ∷ []) (iflets_readable r.iflets (and_second (name && priority && is_list pattern && writable_pattern pattern) (list_all writable_iflet r.iflets) four))
+                (expr_readable expr (and_second (name && priority && is_list pattern && writable_pattern pattern && list_all writable_iflet r.iflets && is_right_side expr) (writable_expr expr) e), tt),
           )),
     )
 
 -- ---- definitions
 
-kept_readable : (k : KeptTree) → writable_kept k ≡ true → ItemsInRange k.items → IsReadable (kept_sexpr k)
-kept_readable k e f =
-    (word_readable k.word.0 (kept_word_is_symbol k.word.0 (and_first (is_kept_word k.word.0) (writable_items k.items) e)), items_readable k.items (and_second (is_kept_word k.word.0) (writable_items k.items) e) f)
+kept_readable : (k : KeptTree) → writable_kept k ≡ true → IsReadable (kept_sexpr k)
+kept_readable k e =
+    (word_readable k.word.0 (kept_word_is_symbol k.word.0 (and_first (is_kept_word k.word.0) (writable_items k.items) e)), items_readable k.items (and_second (is_kept_word k.word.0) (writable_items k.items) e))
 
-words_readable : (d : Def) → has_writable_words d ≡ true → DefInRange d → IsReadable (def_sexpr d)
-words_readable (TypeDef x) e f = type_readable x e
-words_readable (Decl d) e f = decl_readable d e
-words_readable (Rule r) e f = rule_readable r e f
-words_readable (Extractor x) e f = extractor_readable x e f
-words_readable (Extern x) e f = extern_readable x e
-words_readable (Converter c) e f = converter_readable c e
-words_readable (Pragma _) e f = absurd (cc)
-words_readable (Kept k) e f = kept_readable k e f
+words_readable : (d : Def) → has_writable_words d ≡ true → IsReadable (def_sexpr d)
+words_readable (TypeDef x) e = type_readable x e
+words_readable (Decl d) e = decl_readable d e
+words_readable (Rule r) e = rule_readable r e
+words_readable (Extractor x) e = extractor_readable x e
+words_readable (Extern x) e = extern_readable x e
+words_readable (Converter c) e = converter_readable c e
+words_readable (Pragma _) e = absurd (cc)
+words_readable (Kept k) e = kept_readable k e
 
 -- each atom of a definition that can be written is one token, if it is text
-pub def_readable : (d : Def) → writable_def d ≡ true → DefInRange d → IsReadable (def_sexpr d)
-def_readable d e f = words_readable d (and_first (has_writable_words d) (nat_le (nesting d) max_nesting) e) f
+pub def_readable : (d : Def) → writable_def d ≡ true → IsReadable (def_sexpr d)
+def_readable d e = words_readable d (and_first (has_writable_words d) (nat_le (nesting d) max_nesting) e)

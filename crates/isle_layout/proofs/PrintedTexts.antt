@@ -12,7 +12,6 @@ use Rattle.isle_layout.specs.SExprTokens.{HasAtoms}
 use Rattle.isle_layout.specs.Layout.{joined, line, one_line, one_lines, stays_on_one_line, broken, layout, layouts}
 use Rattle.isle_layout.specs.DefSpellings.{def_sexpr}
 use Rattle.isle_layout.specs.Writable.{writable_def}
-use Rattle.isle_layout.specs.IntegerRanges.{DefInRange}
 use Rattle.isle_layout.proofs.EachAtom.{EachAtom, EachAtoms, atoms_of_text}
 use Rattle.isle_layout.proofs.DefAtoms.{def_readable}
 
@@ -115,9 +114,9 @@ mutual
 -- ---- definitions
 
 -- a definition that can be written has tokens as its atoms, where they are text
-pub def_has_atoms : (d : Def) → writable_def d ≡ true → DefInRange d → EachAtom IsUtf8 (def_sexpr d) → HasAtoms (def_sexpr d)
-def_has_atoms d e f u = atoms_of_text (def_sexpr d) (def_readable d e f) u
+pub def_has_atoms : (d : Def) → writable_def d ≡ true → EachAtom IsUtf8 (def_sexpr d) → HasAtoms (def_sexpr d)
+def_has_atoms d e u = atoms_of_text (def_sexpr d) (def_readable d e) u
 
 -- which they are where it is printed as text
-pub printed_has_atoms : (width n : ℕ) (d : Def) → writable_def d ≡ true → DefInRange d → IsUtf8 (layout width n (def_sexpr d)) → HasAtoms (def_sexpr d)
-printed_has_atoms width n d e f u = def_has_atoms d e f (layout_texts width n (def_sexpr d) u)
+pub printed_has_atoms : (width n : ℕ) (d : Def) → writable_def d ≡ true → IsUtf8 (layout width n (def_sexpr d)) → HasAtoms (def_sexpr d)
+printed_has_atoms width n d e u = def_has_atoms d e (layout_texts width n (def_sexpr d) u)

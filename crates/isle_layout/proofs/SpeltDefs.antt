@@ -1,9 +1,9 @@
 -- A definition that is spelt in a text can be written.
-use Rattle.std.proofs.Common.{◌≡◌, ℕ, suc, List, [], ◌∷◌, ◌++◌, Bool, Option, None, Some, true, false, refl, ap, ◌∙◌, sym, subst, le-leb, eq-eqb, arith}
+use Rattle.std.proofs.Common.{ℤ, ◌≡◌, ℕ, suc, List, [], ◌∷◌, ◌++◌, map, Bool, Option, None, Some, true, false, refl, ap, ◌∙◌, sym, subst, le-leb, eq-eqb, arith}
 use Rattle.std.specs.Prelude.{nat_le, ◌&&◌, ◌||◌, ◌==◌, not, codes}
 use Rattle.std.specs.List.{list_all, All}
 use Rattle.std.proofs.lemmas.Bool.{and_from, and_parts, false≢true}
-use Rattle.std.proofs.lemmas.List.Elements.{All-nil, All-cons}
+use Rattle.std.proofs.lemmas.List.Elements.{All-nil, All-cons, All-head, All-tail}
 use Rattle.isle_syntax.specs.declared.ast.Ident.{Ident}
 use Rattle.isle_syntax.specs.declared.ast.StructField.{StructField}
 use Rattle.isle_syntax.specs.declared.ast.Fields.{Fields}
@@ -36,7 +36,9 @@ use Rattle.isle_syntax.specs.Unread.{Unread}
 use Rattle.isle_layout.specs.ReadsBack.{IsWhole}
 use Rattle.isle_layout.specs.TextTokens.{AreTextTokens}
 use Rattle.isle_layout.specs.Nesting.{nesting}
-use Rattle.isle_layout.specs.Writable.{writable_ident, writable_pattern, writable_expr, writable_struct_field, writable_tuple_fields, is_filled, writable_fields, writable_variant, writable_type_value, writable_type, is_free_of_flags, writable_decl, writable_extractor, writable_extern, writable_converter, writable_rule_name, writable_iflet, is_list, is_right_side, writable_rule, writable_kept, has_writable_words, writable_def}
+use Rattle.isle_layout.specs.Writable.{writable_ident, writable_pattern, writable_expr, writable_struct_field, writable_tuple_fields, is_filled, writable_fields, writable_variant, writable_type_value, writable_type, is_free_of_flags, writable_decl, writable_extractor, writable_extern, writable_converter, writable_rule_name, writable_priority, writable_iflet, is_list, is_right_side, writable_rule, writable_kept, has_writable_words, writable_def}
+use Rattle.isle_syntax.specs.WithoutPos.{def_without_pos}
+use Rattle.isle_layout.proofs.WithoutPos.{writable_without_pos}
 use Rattle.isle_layout.proofs.Rooms.{between}
 use Rattle.isle_layout.proofs.TextTokens.{tokens_are_text}
 use Rattle.isle_layout.proofs.Meanings.{Means, front_of, back_of, means_first, means_second, means_both, means_three, means_with, means_symbol, means_each, means_flag}
@@ -215,6 +217,10 @@ name_means : (name : Option Ident) → Means (writable_rule_name name) (SpellsNa
 name_means None = record { holds = λ ts text l. refl }
 name_means (Some x) = record { holds = λ ts text l. l.1 }
 
+priority_means : (priority : Option ℤ) → Means (writable_priority priority) (SpellsPriority priority)
+priority_means None = record { holds = λ ts text l. refl }
+priority_means (Some z) = record { holds = λ ts text l. l.2 }
+
 iflet_writable : (c : IfLet) (ts : List Placed) → AreTextTokens ts → SpellsIfLet c ts → writable_iflet c ≡ true
 iflet_writable c ts text (if_let l) =
     (means_second (means_second (means_both (pattern_means (pattern_of c.pattern)) (means_first (expr_means (expr_of c.expr)))))).holds ts text l
@@ -249,20 +255,21 @@ right_means t = record {
   holds = λ ts text l. and_from (is_right_side t) (writable_expr t) (right_side t l.1) ((expr_means t).holds ts text l.0);
 }
 
-six : (a b c d e f : Bool) → b ≡ true → (a && (c && (d && (e && f)))) ≡ true → (a && b && c && d && e && f) ≡ true
-six true true true true e f h l = l
-six true true true false e f h l = l
-six true true false d e f h l = l
-six true false c d e f h l = absurd (false≢true h)
-six false b c d e f h l = l
+seven : (a p b c d e f : Bool) → b ≡ true → (a && (p && (c && (d && (e && f))))) ≡ true → (a && p && b && c && d && e && f) ≡ true
+seven true true true true true e f h l = l
+seven true true true true false e f h l = l
+seven true true true false d e f h l = l
+seven true true false c d e f h l = absurd (false≢true h)
+seven true false b c d e f h l = l
+seven false p b c d e f h l = l
 
 rule_means : (r : RuleTree) → Means (writable_rule r) (SpellsRule r)
 rule_means r =
     let right = means_both (iflets_mean r.iflets) (means_first {M = Closes tt} (right_means (expr_of r.expr))) in
-    let parts = means_both (name_means r.name) (means_second {L = SpellsPriority r.prio} (means_both (pattern_means (pattern_of r.pattern)) right)) in
+    let parts = means_both (name_means r.name) (means_both (priority_means r.prio) (means_both (pattern_means (pattern_of r.pattern)) right)) in
     record {
       holds = λ ts text l.
-          six (writable_rule_name r.name) (is_list (pattern_of r.pattern)) (writable_pattern (pattern_of r.pattern)) (list_all writable_iflet r.iflets)
+          seven (writable_rule_name r.name) (writable_priority r.prio) (is_list (pattern_of r.pattern)) (writable_pattern (pattern_of r.pattern)) (list_all writable_iflet r.iflets)
           (is_right_side (expr_of r.expr)) (writable_expr (expr_of r.expr)) (list_pattern (pattern_of r.pattern) l.1) (parts.holds ts text l.0);
     }
 
@@ -301,3 +308,16 @@ text_is_writable (def ∷ defs) ts text nests l =
 pub parsed_is_writable : (text : List ℕ) (unread : Unread) (defs : List Def) → IsWhole text unread → IsSpelt unread defs → All (λ def. writable_def def ≡ true) defs
 parsed_is_writable text unread defs whole spelt =
     text_is_writable defs unread.left (tokens_are_text whole.tokens) spelt.nests spelt.spelt
+
+all_without_pos : (defs : List Def) → All (λ def. writable_def def ≡ true) defs → All (λ def. writable_def def ≡ true) (map def_without_pos defs)
+all_without_pos [] h = All-nil (λ def. writable_def def ≡ true)
+all_without_pos (def ∷ defs) h =
+    let first = writable_without_pos def ∙ All-head (λ d. writable_def d ≡ true) def defs h in
+    All-cons (λ d. writable_def d ≡ true) (def_without_pos def) (map def_without_pos defs) first
+    (all_without_pos defs (All-tail (λ d. writable_def d ≡ true) def defs h))
+
+-- so can what it gives without positions
+pub parsed_without_pos_is_writable : (text : List ℕ) (unread : Unread) (placed defs : List Def) → IsWhole text unread → IsSpelt unread placed
+    → defs ≡ map def_without_pos placed → All (λ def. writable_def def ≡ true) defs
+parsed_without_pos_is_writable text unread placed defs whole spelt same =
+    subst (All (λ def. writable_def def ≡ true)) (sym same) (all_without_pos placed (parsed_is_writable text unread placed whole spelt))

@@ -1,8 +1,9 @@
 -- A tree that is spelt in a text can be written.
-use Rattle.std.proofs.Common.{◌≡◌, ℕ, ◌^◌, ◌≤◌, Bool, true, refl, subst, ◌∙◌, le-leb}
-use Rattle.std.specs.Prelude.{ℤ, pos, int_lt}
+use Rattle.std.proofs.Common.{◌≡◌, ℕ, ◌^◌, ◌<◌, ◌≤◌, Bool, true, refl, subst, ◌∙◌, le-leb, arith}
+use Rattle.std.specs.Prelude.{ℤ, pos, int_lt, nat_le, nat_lt}
 use Rattle.std.specs.Int.{w128, cast_signed}
-use Rattle.std.proofs.lemmas.Bool.{le-ltb}
+use Rattle.std.proofs.lemmas.Bool.Decides.{nat_tests}
+use Rattle.std.proofs.lemmas.Bool.{and_from, le-ltb, lt-ltb}
 use Rattle.isle_syntax.specs.declared.lexer.Pos.{Pos}
 use Rattle.isle_syntax.specs.declared.ast.Ident.{Ident}
 use Rattle.isle_syntax.specs.Tokens.{Literal, small, large}
@@ -12,7 +13,7 @@ use Rattle.isle_syntax.specs.PatternTree.{PatternTree, PatternTrees, pattern_var
 use Rattle.isle_syntax.specs.ExprTree.{ExprTree, ExprTrees, LetTrees, expr_term, expr_var, expr_bool, expr_int, expr_prim, expr_let, no_exprs, more_exprs, no_lets, more_lets}
 use Rattle.isle_syntax.specs.ItemTree.{ItemTree, ItemTrees, item_int, item_big, item_symbol, item_at, item_list, no_items, more_items}
 use Rattle.isle_layout.specs.TextTokens.{IsTextLiteral, AreTextTokens}
-use Rattle.isle_layout.specs.Writable.{writable_ident, writable_int, writable_pattern, writable_patterns, writable_expr, writable_exprs, writable_lets, writable_item, writable_items}
+use Rattle.isle_layout.specs.Writable.{writable_ident, fits_i128, writable_int, writable_pattern, writable_patterns, writable_expr, writable_exprs, writable_lets, writable_item, writable_items}
 use Rattle.isle_layout.proofs.Meanings.{Means, means_first, means_second, means_both, means_three, means_with, means_always, means_symbol}
 
 -- ---- integers and constants
@@ -20,9 +21,12 @@ use Rattle.isle_layout.proofs.Meanings.{Means, means_first, means_second, means_
 large_is_negative : (n : ℕ) → 2 ^ 127 ≤ n → int_lt (cast_signed w128 n) (pos 0) ≡ true
 large_is_negative n h = rw (le-ltb n (2 ^ 127) h) refl
 
+large_fits : (n : ℕ) → n < 2 ^ 128 → fits_i128 (cast_signed w128 n) ≡ true
+large_fits n h = grind (arith, nat_tests)
+
 literal_writable : (n : Literal) → IsTextLiteral n → writable_int (bits_of n) (is_large n) ≡ true
-literal_writable (small z) h = refl
-literal_writable (large n) h = large_is_negative n h.0
+literal_writable (small z) h = and_from (fits_i128 z) true h refl
+literal_writable (large n) h = and_from (fits_i128 (cast_signed w128 n)) (int_lt (cast_signed w128 n) (pos 0)) (large_fits n h.1) (large_is_negative n h.0)
 
 means_integer : (val : ℤ) (big : Bool) (p : Pos) → Means (writable_int val big) (SpellsInteger val big p)
 means_integer val big p = record {
@@ -79,9 +83,9 @@ mutual
 
 mutual
   pub item_means : (t : ItemTree) → Means (writable_item t) (SpellsItem t)
-  item_means (item_int z p) = means_always (SpellsItem (item_int z p))
+  item_means (item_int z p) = record { holds = λ ts text l. (let one = subst AreTextTokens l text in one.0) }
   item_means (item_big n p) = record {
-    holds = λ ts text l. (let one = subst AreTextTokens l text in le-leb (2 ^ 127) n one.0.0);
+    holds = λ ts text l. (let one = subst AreTextTokens l text in and_from (nat_le (2 ^ 127) n) (nat_lt n (2 ^ 128)) (le-leb (2 ^ 127) n one.0.0) (lt-ltb n (2 ^ 128) one.0.1));
   }
   item_means (item_symbol x) = record { holds = λ ts text l. (let one = subst AreTextTokens l text in one.0) }
   item_means (item_at p) = means_always (SpellsItem (item_at p))

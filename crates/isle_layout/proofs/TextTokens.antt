@@ -1,8 +1,8 @@
 -- The tokens of a text stand in it as tokens do.
-use Rattle.std.proofs.Common.{◌≡◌, ℕ, ◌^◌, ◌≤◌, List, [], ◌∷◌, Bool, true, false, cond, Some, None, refl, ap, subst, ◌∙◌, arith}
+use Rattle.std.proofs.Common.{◌≡◌, ℕ, zero, suc, ◌-◌, ◌^◌, ◌≤◌, le-leb, List, [], ◌∷◌, Bool, true, false, cond, Some, None, refl, ap, subst, ◌∙◌, arith}
 use Rattle.std.specs.Prelude.{nat_le, nat_lt, pos, neg_ℤ}
 use Rattle.std.specs.List.{list_all}
-use Rattle.std.proofs.lemmas.Bool.{and_from, ltb-true, ltb-false}
+use Rattle.std.proofs.lemmas.Bool.{and_from, leb-true, ltb-true, ltb-false}
 use Rattle.std.proofs.lemmas.Bool.Decides.{nat_tests}
 use Rattle.isle_syntax.specs.declared.gap.Lead.{Lead}
 use Rattle.isle_syntax.specs.declared.lexer.Pos.{Pos}
@@ -15,6 +15,7 @@ use Rattle.isle_syntax.specs.Gaps.{lead_of, run_of}
 use Rattle.isle_syntax.specs.Integers.{is_negative, unsigned_of, radix_of, digits_of, has_digit, spelt, integer_token}
 use Rattle.isle_syntax.specs.TokensOf.{continues_symbol, IsToken, opening, closing, at_sign, integer, word, TokensOf, ended, stopped, token}
 use Rattle.isle_layout.specs.TextTokens.{IsTextToken, AreTextTokens}
+use Rattle.isle_layout.specs.Writable.{fits_i128}
 
 -- ---- symbols
 
@@ -61,15 +62,19 @@ from_large n true t h eb e = same_is_text (Big n) t e (λ p. (h, ltb-true n (2 ^
 from_large n false t h eb e = none_is_some t e
 
 from_small : (n : ℕ) (a : Bool) (t : Token) → nat_lt n (2 ^ 127) ≡ a → cond a (Some (Int (pos n))) (cond (nat_lt n (2 ^ 128)) (Some (Big n)) None) ≡ Some t → IsText t
-from_small n true t ea e = same_is_text (Int (pos n)) t e (λ p. tt)
+from_small n true t ea e = same_is_text (Int (pos n)) t e (λ p. ea)
 from_small n false t ea e = from_large n (nat_lt n (2 ^ 128)) t (ltb-false n (2 ^ 127) ea) refl e
 
-from_negative : (n : ℕ) (a : Bool) (t : Token) → cond a (Some (Int (neg_ℤ (pos n)))) None ≡ Some t → IsText t
-from_negative n true t e = same_is_text (Int (neg_ℤ (pos n))) t e (λ p. tt)
-from_negative n false t e = none_is_some t e
+negative_fits : (n : ℕ) → n ≤ 2 ^ 127 → fits_i128 (neg_ℤ (pos n)) ≡ true
+negative_fits zero h = refl
+negative_fits (suc n) h = rw (le-leb n (2 ^ 127 - 1) (omega (arith, h))) refl
+
+from_negative : (n : ℕ) (a : Bool) (t : Token) → nat_le n (2 ^ 127) ≡ a → cond a (Some (Int (neg_ℤ (pos n)))) None ≡ Some t → IsText t
+from_negative n true t ea e = same_is_text (Int (neg_ℤ (pos n))) t e (λ p. negative_fits n (leb-true n (2 ^ 127) ea))
+from_negative n false t ea e = none_is_some t e
 
 integer_is_text : (negative : Bool) (n : ℕ) (t : Token) → integer_token negative n ≡ Some t → IsText t
-integer_is_text true n t e = from_negative n (nat_le n (2 ^ 127)) t e
+integer_is_text true n t e = from_negative n (nat_le n (2 ^ 127)) t refl e
 integer_is_text false n t e = from_small n (nat_lt n (2 ^ 127)) t refl e
 
 digits_are_text : (negative : Bool) (radix : ℕ) (digits : List ℕ) (some : Bool) (t : Token) → cond some (integer_token negative (spelt radix digits)) None ≡ Some t → IsText t

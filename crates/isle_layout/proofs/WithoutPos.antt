@@ -31,7 +31,7 @@ use Rattle.isle_syntax.specs.WithoutPos.{ident_without_pos, pattern_tree_without
 use Rattle.isle_syntax.specs.DefGrammar.{is_kept_word}
 use Rattle.isle_syntax.specs.Verdict.{max_nesting}
 use Rattle.isle_layout.specs.Nesting.{pattern_nesting, pattern_nestings, expr_nesting, expr_nestings, let_nestings, item_nesting, item_nestings, iflet_nestings, nesting}
-use Rattle.isle_layout.specs.Writable.{writable_ident, writable_pattern, writable_patterns, writable_expr, writable_exprs, writable_lets, writable_item, writable_items, writable_struct_field, writable_tuple_fields, is_filled, writable_fields, writable_variant, writable_type_value, is_free_of_flags, writable_rule_name, writable_iflet, is_list, is_right_side, writable_rule, has_writable_words, writable_def}
+use Rattle.isle_layout.specs.Writable.{writable_ident, writable_pattern, writable_patterns, writable_expr, writable_exprs, writable_lets, writable_item, writable_items, writable_struct_field, writable_tuple_fields, is_filled, writable_fields, writable_variant, writable_type_value, is_free_of_flags, writable_rule_name, writable_priority, writable_iflet, is_list, is_right_side, writable_rule, has_writable_words, writable_def}
 
 -- ---- trees
 
@@ -228,7 +228,7 @@ iflets_as_deep (c ∷ cs) = (λ i. max (max (pattern_as_deep c.pattern i) (expr_
 
 rule_same : (r : RuleTree) → writable_rule (rule_without_pos r) ≡ writable_rule r
 rule_same r =
-    (λ i. name_same r.name i && list_same r.pattern i && pattern_same r.pattern i && all_same writable_iflet iflet_without_pos iflet_same r.iflets i && right_same r.expr i && expr_same r.expr i)
+    (λ i. name_same r.name i && writable_priority r.prio && list_same r.pattern i && pattern_same r.pattern i && all_same writable_iflet iflet_without_pos iflet_same r.iflets i && right_same r.expr i && expr_same r.expr i)
 
 words_same : (def : Def) → has_writable_words (def_without_pos def) ≡ has_writable_words def
 words_same (TypeDef t) = ap (λ b. writable_ident t.name && b) (value_same t.ty)

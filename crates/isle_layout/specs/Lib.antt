@@ -11,5 +11,4 @@ pub mod Prints
 pub mod Nesting
 pub mod Writable
 pub mod TextTokens
-pub mod IntegerRanges
 pub mod ReadsBack

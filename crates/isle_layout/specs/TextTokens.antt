@@ -1,11 +1,12 @@
 -- Tokens as they stand in texts.
 use Rattle.std.specs.Prelude.{◌≡◌, ◌^◌, ◌≤◌, ◌<◌, List, [], ◌∷◌, true}
 use Rattle.isle_syntax.specs.Names.{is_symbol}
+use Rattle.isle_layout.specs.Writable.{fits_i128}
 use Rattle.isle_syntax.specs.Tokens.{Literal, small, large, Placed, opening, closing, at_sign, symbol, int}
 
--- a large integer is one from 2^127 to 2^128 - 1
+-- an integer is one of an `i128`, or from 2^127 to 2^128 - 1
 abbrev pub IsTextLiteral : Literal → Type 0
-IsTextLiteral (small z) = Unit {0}
+IsTextLiteral (small z) = fits_i128 z ≡ true
 IsTextLiteral (large n) = (2 ^ 127 ≤ n) × (n < 2 ^ 128)
 
 -- a symbol is one

@@ -1,5 +1,5 @@
 -- Which definitions can be printed and read back.
-use Rattle.std.specs.Prelude.{ℕ, ℤ, suc, ◌^◌, List, [], ◌∷◌, Bool, true, false, ◌&&◌, ◌||◌, ◌==◌, not, nat_le, int_lt, pos, Option, None, Some, codes}
+use Rattle.std.specs.Prelude.{ℕ, ℤ, suc, ◌-◌, ◌^◌, List, [], ◌∷◌, Bool, true, false, ◌&&◌, ◌||◌, ◌==◌, not, nat_le, nat_lt, int_le, int_lt, pos, negsuc, Option, None, Some, codes}
 use Rattle.std.specs.List.{list_all}
 use Rattle.isle_syntax.specs.declared.ast.Ident.{Ident}
 use Rattle.isle_syntax.specs.declared.ast.StructField.{StructField}
@@ -27,7 +27,7 @@ use Rattle.isle_syntax.specs.ExprShape.{expr_of}
 use Rattle.isle_syntax.specs.ItemTree.{ItemTree, ItemTrees, item_int, item_big, item_symbol, item_at, item_list, no_items, more_items}
 use Rattle.isle_syntax.specs.Names.{is_symbol, is_ident, is_name, is_pname, is_const_name, is_word}
 use Rattle.isle_syntax.specs.Grammar.{is_pattern_term, is_expr_term}
-use Rattle.isle_syntax.specs.DefGrammar.{is_kept_word, is_clause_word}
+use Rattle.isle_syntax.specs.DefGrammar.{fits_priority, is_kept_word, is_clause_word}
 use Rattle.isle_syntax.specs.Verdict.{max_nesting}
 use Rattle.isle_layout.specs.Nesting.{nesting}
 
@@ -35,9 +35,13 @@ use Rattle.isle_layout.specs.Nesting.{nesting}
 abbrev pub writable_ident : Ident → Bool
 writable_ident name = is_ident name.0
 
--- an integer from 2^127 on has its highest bit set
+-- an integer is one of an `i128`, as every integer of a tree is
+abbrev pub fits_i128 : ℤ → Bool
+fits_i128 val = int_le (negsuc (2 ^ 127 - 1)) val && int_lt val (pos (2 ^ 127))
+
+-- and one from 2^127 on has its highest bit set
 abbrev pub writable_int : ℤ → Bool → Bool
-writable_int val big = not big || int_lt val (pos 0)
+writable_int val big = fits_i128 val && (not big || int_lt val (pos 0))
 
 -- ---- patterns, expressions and kept items
 
@@ -77,8 +81,8 @@ abbrev mutual
 
 abbrev mutual
   pub writable_item : ItemTree → Bool
-  writable_item (item_int _ _) = true
-  writable_item (item_big val _) = nat_le (2 ^ 127) val
+  writable_item (item_int val _) = fits_i128 val
+  writable_item (item_big val _) = nat_le (2 ^ 127) val && nat_lt val (2 ^ 128)
   writable_item (item_symbol name) = is_symbol name.0
   writable_item (item_at _) = true
   writable_item (item_list items _) = writable_items items
@@ -154,6 +158,11 @@ abbrev pub writable_rule_name : Option Ident → Bool
 writable_rule_name None = true
 writable_rule_name (Some name) = writable_ident name
 
+-- a priority is one of an `i64`, as every priority is
+abbrev pub writable_priority : Option ℤ → Bool
+writable_priority None = true
+writable_priority (Some priority) = fits_priority priority
+
 abbrev pub writable_iflet : IfLet → Bool
 writable_iflet clause = writable_pattern (pattern_of clause.pattern) && writable_expr (expr_of clause.expr)
 
@@ -180,7 +189,7 @@ is_right_side (expr_let _ _ _) = true
 
 abbrev pub writable_rule : RuleTree → Bool
 writable_rule rule =
-    writable_rule_name rule.name && is_list (pattern_of rule.pattern) && writable_pattern (pattern_of rule.pattern)
+    writable_rule_name rule.name && writable_priority rule.prio && is_list (pattern_of rule.pattern) && writable_pattern (pattern_of rule.pattern)
     && list_all writable_iflet rule.iflets && is_right_side (expr_of rule.expr) && writable_expr (expr_of rule.expr)
 
 -- ---- definitions

@@ -4,8 +4,11 @@ ghost use Rattle.isle_syntax.specs.PatternShape.{pattern_of, patterns_of};
 ghost use Rattle.isle_syntax.specs.ExprShape.{expr_of, exprs_of, lets_of};
 ghost use Rattle.isle_syntax.specs.ItemShape.{item_of, items_of};
 ghost use Rattle.isle_syntax.specs.Grammar.{is_pattern_term, is_expr_term};
-ghost use Rattle.isle_syntax.specs.DefGrammar.{is_kept_word};
-ghost use Rattle.isle_layout.specs.Writable.{writable_ident, writable_int, writable_pattern, writable_patterns, writable_expr, writable_exprs, writable_lets, writable_item, writable_items, writable_struct_field, writable_tuple_fields, writable_fields, writable_variant, writable_type_value, is_free_of_flags, writable_decl, writable_extractor, writable_extern, writable_converter, writable_rule_name, writable_iflet, is_list, is_right_side, writable_rule, writable_kept, has_writable_words, writable_def};
+ghost use Rattle.isle_syntax.specs.DefGrammar.{fits_priority, is_kept_word};
+ghost use Rattle.isle_layout.specs.Writable.{writable_ident, fits_i128, writable_int, writable_pattern, writable_patterns, writable_expr, writable_exprs, writable_lets, writable_item, writable_items, writable_struct_field, writable_tuple_fields, writable_fields, writable_variant, writable_type_value, is_free_of_flags, writable_decl, writable_extractor, writable_extern, writable_converter, writable_rule_name, writable_priority, writable_iflet, is_list, is_right_side, writable_rule, writable_kept, has_writable_words, writable_def};
+
+#[cfg(test)]
+mod tests;
 
 use crate::nesting::fits;
 use isle_syntax::ast::{
@@ -20,7 +23,8 @@ use isle_syntax::parser::MAX_NESTING;
 pub fn writable(def: &Def) -> bool
     ensures { result ≡ writable_def def.now }
 {
-    has_writable_words(def) && fits(def, MAX_NESTING)
+    // A tree that nests too deep isn't walked further.
+    fits(def, MAX_NESTING) && has_writable_words(def)
 }
 
 fn has_writable_words(def: &Def) -> bool
@@ -50,11 +54,24 @@ fn writable_idents(names: &[Ident]) -> bool
     names.iter().all(|name| writable_ident(name))
 }
 
+// Contracts see an integer of a tree as a number without bounds. Reading it tells that it is one of its type.
+fn fits_i128(_val: i128) -> bool
+    ensures { result ≡ fits_i128 _val }
+{
+    true
+}
+
+fn fits_priority(_priority: i64) -> bool
+    ensures { result ≡ fits_priority _priority }
+{
+    true
+}
+
 /// Whether an integer from 2^127 on has its highest bit set.
 fn writable_int(val: i128, big: bool) -> bool
     ensures { result ≡ writable_int val big }
 {
-    !big || val < 0
+    fits_i128(val) && (!big || val < 0)
 }
 
 /// Whether a symbol is a term's in a pattern.
@@ -158,7 +175,8 @@ fn writable_item(item: &KeptItem) -> bool
     ensures { result ≡ writable_item (item_of item.now) }
 {
     match item {
-        KeptItem::Int { .. } | KeptItem::At { .. } => true,
+        KeptItem::Int { val, .. } => fits_i128(*val),
+        KeptItem::At { .. } => true,
         KeptItem::Big { val, .. } => *val >= 1 << 127,
         KeptItem::Symbol(name) => is_symbol(name.0.as_str()),
         KeptItem::List { items, .. } => writable_items(items.as_slice()),
@@ -293,6 +311,15 @@ fn writable_converter(converter: &Converter) -> bool
         && writable_ident(&converter.term)
 }
 
+fn writable_priority(priority: &Option<i64>) -> bool
+    ensures { result ≡ writable_priority priority.now }
+{
+    match priority {
+        Some(priority) => fits_priority(*priority),
+        None => true,
+    }
+}
+
 fn writable_rule_name(name: &Option<Ident>) -> bool
     ensures { result ≡ writable_rule_name name.now }
 {
@@ -335,6 +362,7 @@ fn writable_rule(rule: &Rule) -> bool
     ensures { result ≡ writable_rule rule.now }
 {
     writable_rule_name(&rule.name)
+        && writable_priority(&rule.prio)
         && is_list(&rule.pattern)
         && writable_pattern(&rule.pattern)
         && writable_iflets(rule.iflets.as_slice())

@@ -1,4 +1,4 @@
-use Rattle.std.proofs.Common.{◌≡◌, Bool, false, take, string_bytes}
+use Rattle.std.proofs.Common.{◌≡◌, false, take, string_bytes}
 use Rattle.std.specs.List.{list_any}
 use Rattle.isle_layout.specs.DefSpellings.{def_has_macro_arg}
 use Rattle.isle_layout.specs.Prints.{print_of}
