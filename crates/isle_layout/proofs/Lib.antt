@@ -36,3 +36,4 @@ pub mod RespeltRules
 pub mod RespeltDefs
 pub mod RespeltRooms
 pub mod RespeltDepths
+pub mod RespeltTexts

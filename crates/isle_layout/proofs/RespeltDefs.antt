@@ -21,7 +21,6 @@ use Rattle.isle_layout.specs.Spellings.{listed, name_sexpr, pattern_sexpr, item_
 use Rattle.isle_layout.specs.DefSpellings.{flag, type_value_sexpr, decl_flags, extern_sexpr, rule_name, rule_priority, def_sexpr}
 use Rattle.isle_layout.specs.Nesting.{nesting}
 use Rattle.isle_layout.specs.Writable.{has_writable_words, writable_def}
-use Rattle.isle_layout.specs.IntegerRanges.{DefInRange}
 use Rattle.isle_layout.proofs.EachAtom.{EachAtom}
 use Rattle.isle_layout.proofs.RespeltRows.{Reads, reads_of, Row, listed_row, Again}
 use Rattle.isle_layout.proofs.RespeltTrees.{word_again}
@@ -40,38 +39,38 @@ extern_listed (extern_constructor _ _ _) ts l = l
 extern_listed (extern_extractor _ _ _ _) ts l = l
 extern_listed (extern_const _ _ _) ts l = l
 
-def_again : (d : Def) (ts : List Placed) → has_writable_words d ≡ true → DefInRange d → Reads (def_sexpr d) ts → Again SpellsDef def_without_pos d ts
-def_again (TypeDef t) ts h f l =
+def_again : (d : Def) (ts : List Placed) → has_writable_words d ≡ true → Reads (def_sexpr d) ts → Again SpellsDef def_without_pos d ts
+def_again (TypeDef t) ts h l =
     let r = behind_word (codes "type") (name_sexpr t.name ∷ (flag (codes "extern") t.is_extern ++ (flag (codes "nodebug") t.is_nodebug ++ (type_value_sexpr t.ty ∷ [])))) ts refl l in
     let a = type_again t r.4.1 h r.4.4 in
     (TypeDef a.0, (r.0, r.1, r.2, r.3, (r.4.0, r.4.1, r.4.2, r.4.3, a.1)), (λ i. TypeDef (a.2 i)))
-def_again (Decl d) ts h f l =
+def_again (Decl d) ts h l =
     let r = behind_word (codes "decl") (decl_flags d ++ (name_sexpr d.term ∷ listed (map name_sexpr d.arg_tys) ∷ name_sexpr d.ret_ty ∷ [])) ts refl l in
     let a = decl_again d r.4.1 h r.4.4 in
     (Decl a.0, (r.0, r.1, r.2, r.3, (r.4.0, r.4.1, r.4.2, r.4.3, a.1)), (λ i. Decl (a.2 i)))
-def_again (Rule rule) ts h f l =
+def_again (Rule rule) ts h l =
     let r = behind_word (codes "rule") (rule_name rule.name ++ (rule_priority rule.prio ++ body_row rule)) ts refl l in
-    let a = rule_again rule r.4.1 h f r.4.4 in
+    let a = rule_again rule r.4.1 h r.4.4 in
     (Rule a.0, (r.0, r.1, r.2, r.3, (r.4.0, r.4.1, r.4.2, r.4.3, a.1)), (λ i. Rule (a.2 i)))
-def_again (Extractor x) ts h f l =
+def_again (Extractor x) ts h l =
     let r = behind_word (codes "extractor") (listed (name_sexpr x.term ∷ map name_sexpr x.args) ∷ pattern_sexpr (pattern_of x.template) ∷ []) ts refl l in
-    let a = extractor_again x r.4.1 h f r.4.4 in
+    let a = extractor_again x r.4.1 h r.4.4 in
     (Extractor a.0, (r.0, r.1, r.2, r.3, (r.4.0, r.4.1, r.4.2, r.4.3, a.1)), (λ i. Extractor (a.2 i)))
-def_again (Extern x) ts h f l =
+def_again (Extern x) ts h l =
     let r = behind_word (codes "extern") (extern_row x) ts refl (extern_listed x ts l) in
     let a = extern_again x r.4.1 h r.4.4 in
     (Extern a.0, (r.0, r.1, r.2, r.3, (r.4.0, r.4.1, r.4.2, r.4.3, a.1)), (λ i. Extern (a.2 i)))
-def_again (Converter c) ts h f l =
+def_again (Converter c) ts h l =
     let r = behind_word (codes "convert") (name_sexpr c.inner_ty ∷ name_sexpr c.outer_ty ∷ name_sexpr c.term ∷ []) ts refl l in
     let a = converter_again c r.4.1 h r.4.4 in
     (Converter a.0, (r.0, r.1, r.2, r.3, (r.4.0, r.4.1, r.4.2, r.4.3, a.1)), (λ i. Converter (a.2 i)))
-def_again (Pragma p) ts h f l = absurd (cc)
-def_again (Kept k) ts h f l =
+def_again (Pragma p) ts h l = absurd (cc)
+def_again (Kept k) ts h l =
     let r = listed_row (name_sexpr k.word ∷ item_sexprs k.items) ts l in
-    let a = kept_again k r.1 h f r.4 in
+    let a = kept_again k r.1 h r.4 in
     (Kept a.0, (r.0, r.1, r.2, r.3, a.1), (λ i. Kept (a.2 i)))
 
 -- tokens of a definition that can be written, and of which each atom is text, spell it again but for positions
-pub respelt_def : (d : Def) (ts : List Placed) → writable_def d ≡ true → DefInRange d → EachAtom IsUtf8 (def_sexpr d) → SpellsSExpr (def_sexpr d) ts
+pub respelt_def : (d : Def) (ts : List Placed) → writable_def d ≡ true → EachAtom IsUtf8 (def_sexpr d) → SpellsSExpr (def_sexpr d) ts
     → (e : Def) × SpellsDef e ts × (def_without_pos e ≡ def_without_pos d)
-respelt_def d ts h f u l = def_again d ts (and_first (has_writable_words d) (nat_le (nesting d) max_nesting) h) f (reads_of (def_sexpr d) ts u l)
+respelt_def d ts h u l = def_again d ts (and_first (has_writable_words d) (nat_le (nesting d) max_nesting) h) (reads_of (def_sexpr d) ts u l)

@@ -1,6 +1,6 @@
 -- Tokens of the S-expression of a definition open no more parentheses at once than it nests.
-use Rattle.std.proofs.Common.{◌≡◌, ℕ, ◌+◌, ◌≤◌, ◌^◌, max, List, [], ◌∷◌, ◌++◌, map, Bool, true, false, Option, None, Some, refl, leb-true, arith}
-use Rattle.std.specs.Prelude.{ℤ, ◌&&◌, ◌||◌, ◌==◌, not, nat_le, codes, suc}
+use Rattle.std.proofs.Common.{◌≡◌, ℕ, ◌+◌, ◌≤◌, ◌^◌, max, List, [], ◌∷◌, ◌++◌, map, Bool, true, false, Option, None, Some, refl, leb-true, ltb-true, arith}
+use Rattle.std.specs.Prelude.{ℤ, ◌&&◌, ◌||◌, ◌==◌, not, nat_le, nat_lt, codes, suc}
 use Rattle.std.specs.Fmt.{decimal, signed_decimal}
 use Rattle.std.specs.List.{list_all}
 use Rattle.std.specs.Str.{IsUtf8}
@@ -36,11 +36,12 @@ use Rattle.isle_layout.specs.SExprTree.{SExprTree, sexpr_atom}
 use Rattle.isle_layout.specs.Spellings.{listed, name_sexpr, constant_sexpr, integer_text, pattern_sexpr, pattern_sexprs, expr_sexpr, expr_sexprs, let_sexprs, item_sexpr, item_sexprs}
 use Rattle.isle_layout.specs.DefSpellings.{flag, struct_field_sexpr, tuple_field_sexpr, fields_sexprs, variant_of, variant_sexpr, type_value_sexpr, type_sexpr, decl_flags, decl_sexpr, extractor_sexpr, extern_sexpr, converter_sexpr, rule_name, rule_priority, iflet_sexpr, rule_sexpr, kept_sexpr, def_sexpr}
 use Rattle.isle_layout.specs.Nesting.{pattern_nesting, pattern_nestings, expr_nesting, expr_nestings, let_nestings, item_nesting, item_nestings, iflet_nestings, rule_nesting, nesting}
-use Rattle.isle_layout.specs.Writable.{writable_ident, writable_int, writable_pattern, writable_patterns, writable_expr, writable_exprs, writable_lets, writable_item, writable_items, writable_struct_field, writable_tuple_fields, is_filled, writable_fields, writable_variant, writable_type_value, writable_type, is_free_of_flags, writable_decl, writable_extractor, writable_extern, writable_converter, writable_rule_name, writable_iflet, is_list, is_right_side, writable_rule, writable_kept, has_writable_words}
-use Rattle.isle_layout.specs.IntegerRanges.{PatternInRange, PatternsInRange, ExprInRange, ExprsInRange, LetsInRange, ItemInRange, ItemsInRange, PriorityInRange, IfLetsInRange, RuleInRange, DefInRange}
+use Rattle.isle_layout.specs.Writable.{writable_ident, writable_int, writable_pattern, writable_patterns, writable_expr, writable_exprs, writable_lets, writable_item, writable_items, writable_struct_field, writable_tuple_fields, is_filled, writable_fields, writable_variant, writable_type_value, writable_type, is_free_of_flags, writable_decl, writable_extractor, writable_extern, writable_converter, writable_rule_name, writable_priority, writable_iflet, is_list, is_right_side, writable_rule, writable_kept, has_writable_words}
 use Rattle.isle_layout.proofs.AtomReadings.{at_sign_reading, signed_reading, large_reading, integer_reading}
-use Rattle.isle_layout.proofs.IdentifierTexts.{ident_is_symbol, name_is_symbol, pname_is_symbol, constant_is_symbol}
-use Rattle.isle_layout.proofs.DefAtoms.{kept_word_is_symbol, wider}
+use Rattle.isle_layout.proofs.IdentifierTexts.{ident_is_symbol, name_is_symbol, pname_is_symbol, constant_is_symbol, kept_word_is_symbol}
+use Rattle.isle_layout.proofs.DefAtoms.{fits_small, wider}
+use Rattle.isle_layout.proofs.TreeAtoms.{fits_signed}
+use Rattle.isle_layout.proofs.RespeltTrees.{integer_again, large_again}
 use Rattle.isle_layout.proofs.RespeltRooms.{Fits, FitAll, fit_none, fit_more, fit_append, fit_map, fits_deeper, fit_deeper, symbol_fits, int_fits, at_fits, binding_fits, list_fits}
 
 -- ---- atoms
@@ -61,56 +62,56 @@ truth_fits false = word_fits (truth_word false) refl
 -- ---- patterns
 
 mutual
-  pattern_fits : (t : PatternTree) → writable_pattern t ≡ true → PatternInRange t → Fits (pattern_nesting t) (pattern_sexpr t)
-  pattern_fits (pattern_var x p) h f = symbol_fits x.0 (λ u. pname_is_symbol x.0 u h)
-  pattern_fits (pattern_bind x t p) h f =
-      binding_fits x.0 (pattern_sexpr t) (λ u. pname_is_symbol x.0 u (and_first (is_pname x.0) (writable_pattern t) h)) (pattern_fits t (and_second (is_pname x.0) (writable_pattern t) h) f)
-  pattern_fits (pattern_bool b p) h f = truth_fits b
-  pattern_fits (pattern_int val big p) h f =
-      int_fits (integer_text val big) (λ ts l. (let n = integer_reading val big ts f h l.1 in (n.0, n.1.0, n.1.1)))
-  pattern_fits (pattern_prim x p) h f = constant_fits x h
-  pattern_fits (pattern_term x args p) h f =
+  pattern_fits : (t : PatternTree) → writable_pattern t ≡ true → Fits (pattern_nesting t) (pattern_sexpr t)
+  pattern_fits (pattern_var x p) h = symbol_fits x.0 (λ u. pname_is_symbol x.0 u h)
+  pattern_fits (pattern_bind x t p) h =
+      binding_fits x.0 (pattern_sexpr t) (λ u. pname_is_symbol x.0 u (and_first (is_pname x.0) (writable_pattern t) h)) (pattern_fits t (and_second (is_pname x.0) (writable_pattern t) h))
+  pattern_fits (pattern_bool b p) h = truth_fits b
+  pattern_fits (pattern_int val big p) h =
+      int_fits (integer_text val big) (λ ts l. (let n = integer_again val big ts h l in (n.0, n.1.0, n.1.1)))
+  pattern_fits (pattern_prim x p) h = constant_fits x h
+  pattern_fits (pattern_term x args p) h =
       list_fits (name_sexpr x ∷ pattern_sexprs args)
       (fit_more (symbol_fits x.0 (λ u. ident_is_symbol x.0 u (and_first (is_ident x.0) _ (and_first (is_pattern_term x.0) (writable_patterns args) h))))
-      (patterns_fit args (and_second (is_pattern_term x.0) (writable_patterns args) h) f))
-  pattern_fits (pattern_wildcard p) h f = word_fits (codes "_") refl
-  pattern_fits (pattern_and args p) h f = list_fits (sexpr_atom (codes "and") ∷ pattern_sexprs args) (fit_more (word_fits (codes "and") refl) (patterns_fit args h f))
-  pattern_fits (pattern_macro_arg k p) h f = absurd (cc)
+      (patterns_fit args (and_second (is_pattern_term x.0) (writable_patterns args) h)))
+  pattern_fits (pattern_wildcard p) h = word_fits (codes "_") refl
+  pattern_fits (pattern_and args p) h = list_fits (sexpr_atom (codes "and") ∷ pattern_sexprs args) (fit_more (word_fits (codes "and") refl) (patterns_fit args h))
+  pattern_fits (pattern_macro_arg k p) h = absurd (cc)
 
-  patterns_fit : (ps : PatternTrees) → writable_patterns ps ≡ true → PatternsInRange ps → FitAll (pattern_nestings ps) (pattern_sexprs ps)
-  patterns_fit no_patterns h f = fit_none
-  patterns_fit (more_patterns t ps) h f =
-      fit_more (fits_deeper (omega arith) (pattern_fits t (and_first (writable_pattern t) (writable_patterns ps) h) f.0))
-      (fit_deeper (omega arith) (patterns_fit ps (and_second (writable_pattern t) (writable_patterns ps) h) f.1))
+  patterns_fit : (ps : PatternTrees) → writable_patterns ps ≡ true → FitAll (pattern_nestings ps) (pattern_sexprs ps)
+  patterns_fit no_patterns h = fit_none
+  patterns_fit (more_patterns t ps) h =
+      fit_more (fits_deeper (omega arith) (pattern_fits t (and_first (writable_pattern t) (writable_patterns ps) h)))
+      (fit_deeper (omega arith) (patterns_fit ps (and_second (writable_pattern t) (writable_patterns ps) h)))
 
 -- ---- expressions
 
 mutual
-  expr_fits : (t : ExprTree) → writable_expr t ≡ true → ExprInRange t → Fits (expr_nesting t) (expr_sexpr t)
-  expr_fits (expr_term x args p) h f =
+  expr_fits : (t : ExprTree) → writable_expr t ≡ true → Fits (expr_nesting t) (expr_sexpr t)
+  expr_fits (expr_term x args p) h =
       list_fits (name_sexpr x ∷ expr_sexprs args)
       (fit_more (symbol_fits x.0 (λ u. ident_is_symbol x.0 u (and_first (is_ident x.0) _ (and_first (is_expr_term x.0) (writable_exprs args) h))))
-      (exprs_fit args (and_second (is_expr_term x.0) (writable_exprs args) h) f))
-  expr_fits (expr_var x p) h f = symbol_fits x.0 (λ u. name_is_symbol x.0 u h)
-  expr_fits (expr_bool b p) h f = truth_fits b
-  expr_fits (expr_int val big p) h f =
-      int_fits (integer_text val big) (λ ts l. (let n = integer_reading val big ts f h l.1 in (n.0, n.1.0, n.1.1)))
-  expr_fits (expr_prim x p) h f = constant_fits x h
-  expr_fits (expr_let ds t p) h f =
+      (exprs_fit args (and_second (is_expr_term x.0) (writable_exprs args) h)))
+  expr_fits (expr_var x p) h = symbol_fits x.0 (λ u. name_is_symbol x.0 u h)
+  expr_fits (expr_bool b p) h = truth_fits b
+  expr_fits (expr_int val big p) h =
+      int_fits (integer_text val big) (λ ts l. (let n = integer_again val big ts h l in (n.0, n.1.0, n.1.1)))
+  expr_fits (expr_prim x p) h = constant_fits x h
+  expr_fits (expr_let ds t p) h =
       list_fits (sexpr_atom (codes "let") ∷ listed (let_sexprs ds) ∷ expr_sexpr t ∷ [])
       (fit_more (word_fits (codes "let") refl)
-      (fit_more (fits_deeper (omega arith) (list_fits (let_sexprs ds) (lets_fit ds (and_first (writable_lets ds) (writable_expr t) h) f.0)))
-      (fit_more (fits_deeper (omega arith) (expr_fits t (and_second (writable_lets ds) (writable_expr t) h) f.1)) fit_none)))
+      (fit_more (fits_deeper (omega arith) (list_fits (let_sexprs ds) (lets_fit ds (and_first (writable_lets ds) (writable_expr t) h))))
+      (fit_more (fits_deeper (omega arith) (expr_fits t (and_second (writable_lets ds) (writable_expr t) h))) fit_none)))
 
-  exprs_fit : (es : ExprTrees) → writable_exprs es ≡ true → ExprsInRange es → FitAll (expr_nestings es) (expr_sexprs es)
-  exprs_fit no_exprs h f = fit_none
-  exprs_fit (more_exprs t es) h f =
-      fit_more (fits_deeper (omega arith) (expr_fits t (and_first (writable_expr t) (writable_exprs es) h) f.0))
-      (fit_deeper (omega arith) (exprs_fit es (and_second (writable_expr t) (writable_exprs es) h) f.1))
+  exprs_fit : (es : ExprTrees) → writable_exprs es ≡ true → FitAll (expr_nestings es) (expr_sexprs es)
+  exprs_fit no_exprs h = fit_none
+  exprs_fit (more_exprs t es) h =
+      fit_more (fits_deeper (omega arith) (expr_fits t (and_first (writable_expr t) (writable_exprs es) h)))
+      (fit_deeper (omega arith) (exprs_fit es (and_second (writable_expr t) (writable_exprs es) h)))
 
-  lets_fit : (es : LetTrees) → writable_lets es ≡ true → LetsInRange es → FitAll (let_nestings es) (let_sexprs es)
-  lets_fit no_lets h f = fit_none
-  lets_fit (more_lets x y t p es) h f =
+  lets_fit : (es : LetTrees) → writable_lets es ≡ true → FitAll (let_nestings es) (let_sexprs es)
+  lets_fit no_lets h = fit_none
+  lets_fit (more_lets x y t p es) h =
       let one = and_first (writable_ident x && writable_ident y && writable_expr t) (writable_lets es) h in
       let names = and_first (writable_ident x && writable_ident y) (writable_expr t) one in
       fit_more
@@ -118,24 +119,24 @@ mutual
       (list_fits (name_sexpr x ∷ name_sexpr y ∷ expr_sexpr t ∷ [])
       (fit_more (name_fits x (and_first (writable_ident x) (writable_ident y) names))
       (fit_more (name_fits y (and_second (writable_ident x) (writable_ident y) names))
-      (fit_more (expr_fits t (and_second (writable_ident x && writable_ident y) (writable_expr t) one) f.0) fit_none)))))
-      (fit_deeper (omega arith) (lets_fit es (and_second (writable_ident x && writable_ident y && writable_expr t) (writable_lets es) h) f.1))
+      (fit_more (expr_fits t (and_second (writable_ident x && writable_ident y) (writable_expr t) one)) fit_none)))))
+      (fit_deeper (omega arith) (lets_fit es (and_second (writable_ident x && writable_ident y && writable_expr t) (writable_lets es) h)))
 
 -- ---- kept items
 
 mutual
-  item_fits : (t : ItemTree) → writable_item t ≡ true → ItemInRange t → Fits (item_nesting t) (item_sexpr t)
-  item_fits (item_int val p) h f = int_fits (signed_decimal val) (λ ts l. (let n = signed_reading val ts f l.1 in (n.0, _, n.1)))
-  item_fits (item_big val p) h f = int_fits (decimal val) (λ ts l. (let n = large_reading val ts (leb-true (2 ^ 127) val h) f l.1 in (n.0, _, n.1)))
-  item_fits (item_symbol x) h f = word_fits x.0 h
-  item_fits (item_at p) h f = at_fits (codes "@") (λ ts l. at_sign_reading ts l.1)
-  item_fits (item_list items p) h f = list_fits (item_sexprs items) (items_fit items h f)
+  item_fits : (t : ItemTree) → writable_item t ≡ true → Fits (item_nesting t) (item_sexpr t)
+  item_fits (item_int val p) h = int_fits (signed_decimal val) (λ ts l. (let n = signed_reading val ts (fits_signed val h) l.1 in (n.0, _, n.1)))
+  item_fits (item_big val p) h = int_fits (decimal val) (λ ts l. (let n = large_again val ts h l in (n.0, _, n.1)))
+  item_fits (item_symbol x) h = word_fits x.0 h
+  item_fits (item_at p) h = at_fits (codes "@") (λ ts l. at_sign_reading ts l.1)
+  item_fits (item_list items p) h = list_fits (item_sexprs items) (items_fit items h)
 
-  items_fit : (xs : ItemTrees) → writable_items xs ≡ true → ItemsInRange xs → FitAll (item_nestings xs) (item_sexprs xs)
-  items_fit no_items h f = fit_none
-  items_fit (more_items t xs) h f =
-      fit_more (fits_deeper (omega arith) (item_fits t (and_first (writable_item t) (writable_items xs) h) f.0))
-      (fit_deeper (omega arith) (items_fit xs (and_second (writable_item t) (writable_items xs) h) f.1))
+  items_fit : (xs : ItemTrees) → writable_items xs ≡ true → FitAll (item_nestings xs) (item_sexprs xs)
+  items_fit no_items h = fit_none
+  items_fit (more_items t xs) h =
+      fit_more (fits_deeper (omega arith) (item_fits t (and_first (writable_item t) (writable_items xs) h)))
+      (fit_deeper (omega arith) (items_fit xs (and_second (writable_item t) (writable_items xs) h)))
 
 -- ---- types
 
@@ -211,8 +212,8 @@ decl_fits d w =
     (fit_more (list_fits (map name_sexpr d.arg_tys) (idents_fit {d = 0} d.arg_tys (and_second (writable_ident d.term && is_free_of_flags d) (list_all writable_ident d.arg_tys) three)))
     (fit_more (name_fits d.ret_ty (and_second (writable_ident d.term && is_free_of_flags d && list_all writable_ident d.arg_tys) (writable_ident d.ret_ty) w)) fit_none)))))
 
-extractor_fits : (x : ExtractorTree) → writable_extractor x ≡ true → PatternInRange (pattern_of x.template) → Fits (max 1 (pattern_nesting (pattern_of x.template)) + 1) (extractor_sexpr x)
-extractor_fits x w f =
+extractor_fits : (x : ExtractorTree) → writable_extractor x ≡ true → Fits (max 1 (pattern_nesting (pattern_of x.template)) + 1) (extractor_sexpr x)
+extractor_fits x w =
     let template = pattern_of x.template in
     let two = and_first (writable_ident x.term && list_all writable_ident x.args) (writable_pattern template) w in
     let args = idents_fit {d = 0} x.args (and_second (writable_ident x.term) (list_all writable_ident x.args) two) in
@@ -220,7 +221,7 @@ extractor_fits x w f =
     list_fits (sexpr_atom (codes "extractor") ∷ listed (name_sexpr x.term ∷ map name_sexpr x.args) ∷ pattern_sexpr template ∷ [])
     (fit_more (word_fits (codes "extractor") refl)
     (fit_more (fits_deeper (omega arith) head)
-    (fit_more (fits_deeper (omega arith) (pattern_fits template (and_second (writable_ident x.term && list_all writable_ident x.args) (writable_pattern template) w) f)) fit_none)))
+    (fit_more (fits_deeper (omega arith) (pattern_fits template (and_second (writable_ident x.term && list_all writable_ident x.args) (writable_pattern template) w))) fit_none)))
 
 extern_fits : (x : ExternTree) → writable_extern x ≡ true → Fits 1 (extern_sexpr x)
 extern_fits (extern_constructor term func p) h =
@@ -253,60 +254,62 @@ rule_name_fits : {d : ℕ} (name : Option Ident) → writable_rule_name name ≡
 rule_name_fits None h = fit_none
 rule_name_fits (Some x) h = fit_more (name_fits x h) fit_none
 
-priority_fits : {d : ℕ} (prio : Option ℤ) → PriorityInRange prio → FitAll d (rule_priority prio)
-priority_fits None f = fit_none
-priority_fits (Some z) f =
-    fit_more (int_fits (signed_decimal z) (λ ts l. (let n = signed_reading z ts (wider z f) l.1 in (n.0, _, n.1)))) fit_none
+priority_fits : {d : ℕ} (prio : Option ℤ) → writable_priority prio ≡ true → FitAll d (rule_priority prio)
+priority_fits None h = fit_none
+priority_fits (Some z) h =
+    fit_more (int_fits (signed_decimal z) (λ ts l. (let n = signed_reading z ts (wider z (fits_small z h)) l.1 in (n.0, _, n.1)))) fit_none
 
-iflet_fits : (c : IfLet) → writable_iflet c ≡ true → PatternInRange (pattern_of c.pattern) → ExprInRange (expr_of c.expr)
+iflet_fits : (c : IfLet) → writable_iflet c ≡ true
     → Fits (max (pattern_nesting (pattern_of c.pattern)) (expr_nesting (expr_of c.expr)) + 1) (iflet_sexpr c)
-iflet_fits c h f g =
+iflet_fits c h =
     let pattern = pattern_of c.pattern in
     let expr = expr_of c.expr in
     list_fits (sexpr_atom (codes "if-let") ∷ pattern_sexpr pattern ∷ expr_sexpr expr ∷ [])
     (fit_more (word_fits (codes "if-let") refl)
-    (fit_more (fits_deeper (omega arith) (pattern_fits pattern (and_first (writable_pattern pattern) (writable_expr expr) h) f))
-    (fit_more (fits_deeper (omega arith) (expr_fits expr (and_second (writable_pattern pattern) (writable_expr expr) h) g)) fit_none)))
+    (fit_more (fits_deeper (omega arith) (pattern_fits pattern (and_first (writable_pattern pattern) (writable_expr expr) h)))
+    (fit_more (fits_deeper (omega arith) (expr_fits expr (and_second (writable_pattern pattern) (writable_expr expr) h))) fit_none)))
 
-iflets_fit : (cs : List IfLet) → list_all writable_iflet cs ≡ true → IfLetsInRange cs → FitAll (iflet_nestings cs) (map iflet_sexpr cs)
-iflets_fit [] h f = fit_none
-iflets_fit (c ∷ cs) h f =
-    fit_more (fits_deeper (omega arith) (iflet_fits c (and_first (writable_iflet c) (list_all writable_iflet cs) h) f.0 f.1))
-    (fit_deeper (omega arith) (iflets_fit cs (and_second (writable_iflet c) (list_all writable_iflet cs) h) f.2))
+iflets_fit : (cs : List IfLet) → list_all writable_iflet cs ≡ true → FitAll (iflet_nestings cs) (map iflet_sexpr cs)
+iflets_fit [] h = fit_none
+iflets_fit (c ∷ cs) h =
+    fit_more (fits_deeper (omega arith) (iflet_fits c (and_first (writable_iflet c) (list_all writable_iflet cs) h)))
+    (fit_deeper (omega arith) (iflets_fit cs (and_second (writable_iflet c) (list_all writable_iflet cs) h)))
 
-rule_fits : (r : RuleTree) → writable_rule r ≡ true → RuleInRange r → Fits (rule_nesting r + 1) (rule_sexpr r)
-rule_fits r w f =
+rule_fits : (r : RuleTree) → writable_rule r ≡ true → Fits (rule_nesting r + 1) (rule_sexpr r)
+rule_fits r w =
     let pattern = pattern_of r.pattern in
     let expr = expr_of r.expr in
-    let five = and_first (writable_rule_name r.name && is_list pattern && writable_pattern pattern && list_all writable_iflet r.iflets && is_right_side expr) (writable_expr expr) w in
-    let four = and_first (writable_rule_name r.name && is_list pattern && writable_pattern pattern && list_all writable_iflet r.iflets) (is_right_side expr) five in
-    let three = and_first (writable_rule_name r.name && is_list pattern && writable_pattern pattern) (list_all writable_iflet r.iflets) four in
-    let two = and_first (writable_rule_name r.name && is_list pattern) (writable_pattern pattern) three in
-    let clauses = iflets_fit r.iflets (and_second (writable_rule_name r.name && is_list pattern && writable_pattern pattern) (list_all writable_iflet r.iflets) four) f.2 in
-    let right = expr_fits expr (and_second (writable_rule_name r.name && is_list pattern && writable_pattern pattern && list_all writable_iflet r.iflets && is_right_side expr) (writable_expr expr) w) f.3 in
-    let left = pattern_fits pattern (and_second (writable_rule_name r.name && is_list pattern) (writable_pattern pattern) three) f.1 in
+    let start = writable_rule_name r.name && writable_priority r.prio in
+    let five = and_first (start && is_list pattern && writable_pattern pattern && list_all writable_iflet r.iflets && is_right_side expr) (writable_expr expr) w in
+    let four = and_first (start && is_list pattern && writable_pattern pattern && list_all writable_iflet r.iflets) (is_right_side expr) five in
+    let three = and_first (start && is_list pattern && writable_pattern pattern) (list_all writable_iflet r.iflets) four in
+    let two = and_first (start && is_list pattern) (writable_pattern pattern) three in
+    let one = and_first start (is_list pattern) two in
+    let clauses = iflets_fit r.iflets (and_second (start && is_list pattern && writable_pattern pattern) (list_all writable_iflet r.iflets) four) in
+    let right = expr_fits expr (and_second (start && is_list pattern && writable_pattern pattern && list_all writable_iflet r.iflets && is_right_side expr) (writable_expr expr) w) in
+    let left = pattern_fits pattern (and_second (start && is_list pattern) (writable_pattern pattern) three) in
     let behind = map iflet_sexpr r.iflets ++ (expr_sexpr expr ∷ []) in
     list_fits (sexpr_atom (codes "rule") ∷ (rule_name r.name ++ (rule_priority r.prio ++ (pattern_sexpr pattern ∷ behind))))
     (fit_more (word_fits (codes "rule") refl)
-    (fit_append (rule_name r.name) (rule_priority r.prio ++ (pattern_sexpr pattern ∷ behind)) (rule_name_fits r.name (and_first (writable_rule_name r.name) (is_list pattern) two))
-    (fit_append (rule_priority r.prio) (pattern_sexpr pattern ∷ behind) (priority_fits r.prio f.0)
+    (fit_append (rule_name r.name) (rule_priority r.prio ++ (pattern_sexpr pattern ∷ behind)) (rule_name_fits r.name (and_first (writable_rule_name r.name) (writable_priority r.prio) one))
+    (fit_append (rule_priority r.prio) (pattern_sexpr pattern ∷ behind) (priority_fits r.prio (and_second (writable_rule_name r.name) (writable_priority r.prio) one))
     (fit_more (fits_deeper (omega arith) left)
     (fit_append (map iflet_sexpr r.iflets) (expr_sexpr expr ∷ []) (fit_deeper (omega arith) clauses) (fit_more (fits_deeper (omega arith) right) fit_none))))))
 
 -- ---- definitions
 
-kept_fits : (k : KeptTree) → writable_kept k ≡ true → ItemsInRange k.items → Fits (item_nestings k.items + 1) (kept_sexpr k)
-kept_fits k h f =
+kept_fits : (k : KeptTree) → writable_kept k ≡ true → Fits (item_nestings k.items + 1) (kept_sexpr k)
+kept_fits k h =
     list_fits (name_sexpr k.word ∷ item_sexprs k.items)
     (fit_more (word_fits k.word.0 (kept_word_is_symbol k.word.0 (and_first (is_kept_word k.word.0) (writable_items k.items) h)))
-    (items_fit k.items (and_second (is_kept_word k.word.0) (writable_items k.items) h) f))
+    (items_fit k.items (and_second (is_kept_word k.word.0) (writable_items k.items) h)))
 
-pub def_fits : (d : Def) → has_writable_words d ≡ true → DefInRange d → Fits (nesting d) (def_sexpr d)
-def_fits (TypeDef t) h f = type_fits t h
-def_fits (Decl d) h f = decl_fits d h
-def_fits (Rule r) h f = rule_fits r h f
-def_fits (Extractor x) h f = extractor_fits x h f
-def_fits (Extern x) h f = extern_fits x h
-def_fits (Converter c) h f = converter_fits c h
-def_fits (Pragma p) h f = absurd (cc)
-def_fits (Kept k) h f = kept_fits k h f
+pub def_fits : (d : Def) → has_writable_words d ≡ true → Fits (nesting d) (def_sexpr d)
+def_fits (TypeDef t) h = type_fits t h
+def_fits (Decl d) h = decl_fits d h
+def_fits (Rule r) h = rule_fits r h
+def_fits (Extractor x) h = extractor_fits x h
+def_fits (Extern x) h = extern_fits x h
+def_fits (Converter c) h = converter_fits c h
+def_fits (Pragma p) h = absurd (cc)
+def_fits (Kept k) h = kept_fits k h

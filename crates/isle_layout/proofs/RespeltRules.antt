@@ -26,10 +26,9 @@ use Rattle.isle_syntax.proofs.SymbolKinds.{and_first, and_second, not_false}
 use Rattle.isle_layout.specs.SExprTree.{SExprTree, sexpr_atom}
 use Rattle.isle_layout.specs.Spellings.{listed, pattern_sexpr, expr_sexpr}
 use Rattle.isle_layout.specs.DefSpellings.{rule_name, rule_priority, iflet_sexpr}
-use Rattle.isle_layout.specs.Writable.{writable_ident, writable_pattern, writable_expr, writable_rule_name, writable_iflet, is_list, is_right_side, writable_rule}
-use Rattle.isle_layout.specs.IntegerRanges.{PatternInRange, ExprInRange, PriorityInRange, IfLetsInRange, RuleInRange}
+use Rattle.isle_layout.specs.Writable.{writable_ident, writable_pattern, writable_expr, writable_rule_name, writable_priority, writable_iflet, is_list, is_right_side, writable_rule}
 use Rattle.isle_layout.proofs.AtomReadings.{signed_reading}
-use Rattle.isle_layout.proofs.DefAtoms.{wider}
+use Rattle.isle_layout.proofs.DefAtoms.{fits_small, wider}
 use Rattle.isle_layout.proofs.WithoutPos.{list_same, right_same}
 use Rattle.isle_layout.proofs.RespeltRows.{Reads, Row, listed_row, row_append, Again, AllAgain}
 use Rattle.isle_layout.proofs.RespeltTrees.{word_again, expr_again}
@@ -62,9 +61,9 @@ expr_back (expr.ConstInt _ _ _) = refl
 expr_back (expr.ConstPrim _ _) = refl
 expr_back (expr.Let _ _ _) = refl
 
-whole_expr_again : (e : Expr) (ts : List Placed) → writable_expr (expr_of e) ≡ true → ExprInRange (expr_of e) → Reads (expr_sexpr (expr_of e)) ts → Again (λ d. SpellsExpr (expr_of d)) expr_without_pos e ts
-whole_expr_again e ts h f l =
-    let a = expr_again (expr_of e) ts h f l in
+whole_expr_again : (e : Expr) (ts : List Placed) → writable_expr (expr_of e) ≡ true → Reads (expr_sexpr (expr_of e)) ts → Again (λ d. SpellsExpr (expr_of d)) expr_without_pos e ts
+whole_expr_again e ts h l =
+    let a = expr_again (expr_of e) ts h l in
     (expr_from a.0, subst (λ t. SpellsExpr t ts) (sym (expr_there a.0)) a.1, expr_moved a.0 ∙ ap expr_from a.2 ∙ expr_back e)
 
 -- ---- lists and right sides
@@ -103,23 +102,19 @@ name_part (Some x) K ts h l =
     let n = ident_again x l.0 h l.3 in
     (Some n.0, (l.0, l.1, l.2, n.1, l.4), (λ i. Some (n.2 i)))
 
-priority_fits : (z : ℤ) → FitsSigned w64 z → fits_priority z ≡ true
-priority_fits (pos n) f = and_from true _ refl (lt-ltb n (2 ^ 63) f.sfits)
-priority_fits (negsuc n) f = and_from _ true (le-leb n (2 ^ 63 - 1) (omega (arith, f.sfits))) refl
-
-priority_part : (prio : Option ℤ) (K : List Placed → Type 0) (ts : List Placed) → PriorityInRange prio → Row (rule_priority prio) K ts → (SpellsPriority prio ⊙ K) ts
-priority_part None K ts f l = ([], ts, refl, refl, l)
-priority_part (Some z) K ts f l =
-    let n = signed_reading z l.0 (wider z f) l.3.1 in
-    (l.0, l.1, l.2, (n.0, n.1, priority_fits z f), l.4)
+priority_part : (prio : Option ℤ) (K : List Placed → Type 0) (ts : List Placed) → writable_priority prio ≡ true → Row (rule_priority prio) K ts → (SpellsPriority prio ⊙ K) ts
+priority_part None K ts h l = ([], ts, refl, refl, l)
+priority_part (Some z) K ts h l =
+    let n = signed_reading z l.0 (wider z (fits_small z h)) l.3.1 in
+    (l.0, l.1, l.2, (n.0, n.1, h), l.4)
 
 -- ---- conditions
 
-iflet_again : (c : IfLet) (ts : List Placed) → writable_iflet c ≡ true → PatternInRange (pattern_of c.pattern) → ExprInRange (expr_of c.expr) → Reads (iflet_sexpr c) ts → Again SpellsIfLet iflet_without_pos c ts
-iflet_again c ts h f g l =
+iflet_again : (c : IfLet) (ts : List Placed) → writable_iflet c ≡ true → Reads (iflet_sexpr c) ts → Again SpellsIfLet iflet_without_pos c ts
+iflet_again c ts h l =
     let r = listed_row (sexpr_atom (codes "if-let") ∷ pattern_sexpr (pattern_of c.pattern) ∷ expr_sexpr (expr_of c.expr) ∷ []) ts l in
-    let p = whole_pattern_again c.pattern r.4.4.0 (and_first (writable_pattern (pattern_of c.pattern)) (writable_expr (expr_of c.expr)) h) f r.4.4.3 in
-    let e = whole_expr_again c.expr r.4.4.4.0 (and_second (writable_pattern (pattern_of c.pattern)) (writable_expr (expr_of c.expr)) h) g r.4.4.4.3 in
+    let p = whole_pattern_again c.pattern r.4.4.0 (and_first (writable_pattern (pattern_of c.pattern)) (writable_expr (expr_of c.expr)) h) r.4.4.3 in
+    let e = whole_expr_again c.expr r.4.4.4.0 (and_second (writable_pattern (pattern_of c.pattern)) (writable_expr (expr_of c.expr)) h) r.4.4.4.3 in
     (
       record { pattern = p.0; expr = e.0; pos = r.3.0 },
       if_let
@@ -127,11 +122,11 @@ iflet_again c ts h f g l =
       (λ i. record { pattern = p.2 i; expr = e.2 i; pos = no_pos }),
     )
 
-iflets_again : (cs : List IfLet) (K : List Placed → Type 0) (ts : List Placed) → list_all writable_iflet cs ≡ true → IfLetsInRange cs → Row (map iflet_sexpr cs) K ts → AllAgain SpellsIfLet iflet_without_pos cs K ts
-iflets_again [] K ts h f l = ([], ([], ts, refl, refl, l), refl)
-iflets_again (c ∷ cs) K ts h f l =
-    let first = iflet_again c l.0 (and_first (writable_iflet c) (list_all writable_iflet cs) h) f.0 f.1 l.3 in
-    let others = iflets_again cs K l.1 (and_second (writable_iflet c) (list_all writable_iflet cs) h) f.2 l.4 in
+iflets_again : (cs : List IfLet) (K : List Placed → Type 0) (ts : List Placed) → list_all writable_iflet cs ≡ true → Row (map iflet_sexpr cs) K ts → AllAgain SpellsIfLet iflet_without_pos cs K ts
+iflets_again [] K ts h l = ([], ([], ts, refl, refl, l), refl)
+iflets_again (c ∷ cs) K ts h l =
+    let first = iflet_again c l.0 (and_first (writable_iflet c) (list_all writable_iflet cs) h) l.3 in
+    let others = iflets_again cs K l.1 (and_second (writable_iflet c) (list_all writable_iflet cs) h) l.4 in
     (first.0 ∷ others.0, group_left (SpellsIfLet first.0) (Each SpellsIfLet others.0) K ts (l.0, l.1, l.2, first.1, others.1), (λ i. first.2 i ∷ others.2 i))
 
 -- ---- rules
@@ -143,24 +138,26 @@ abbrev pub body_row : RuleTree → List SExprTree
 body_row r = pattern_sexpr (pattern_of r.pattern) ∷ (map iflet_sexpr r.iflets ++ right_row r)
 
 -- what stands behind the word `rule`
-pub rule_again : (r : RuleTree) (ts : List Placed) → writable_rule r ≡ true → RuleInRange r → Row (rule_name r.name ++ (rule_priority r.prio ++ body_row r)) (Closes tt) ts → Again SpellsRule rule_without_pos r ts
-rule_again r ts w f l =
+pub rule_again : (r : RuleTree) (ts : List Placed) → writable_rule r ≡ true → Row (rule_name r.name ++ (rule_priority r.prio ++ body_row r)) (Closes tt) ts → Again SpellsRule rule_without_pos r ts
+rule_again r ts w l =
     let pattern = pattern_of r.pattern in
     let expr = expr_of r.expr in
-    let five = and_first (writable_rule_name r.name && is_list pattern && writable_pattern pattern && list_all writable_iflet r.iflets && is_right_side expr) (writable_expr expr) w in
-    let four = and_first (writable_rule_name r.name && is_list pattern && writable_pattern pattern && list_all writable_iflet r.iflets) (is_right_side expr) five in
-    let three = and_first (writable_rule_name r.name && is_list pattern && writable_pattern pattern) (list_all writable_iflet r.iflets) four in
-    let two = and_first (writable_rule_name r.name && is_list pattern) (writable_pattern pattern) three in
-    let n = name_part r.name (Row (rule_priority r.prio ++ body_row r) (Closes tt)) ts (and_first (writable_rule_name r.name) (is_list pattern) two)
+    let start = writable_rule_name r.name && writable_priority r.prio in
+    let five = and_first (start && is_list pattern && writable_pattern pattern && list_all writable_iflet r.iflets && is_right_side expr) (writable_expr expr) w in
+    let four = and_first (start && is_list pattern && writable_pattern pattern && list_all writable_iflet r.iflets) (is_right_side expr) five in
+    let three = and_first (start && is_list pattern && writable_pattern pattern) (list_all writable_iflet r.iflets) four in
+    let two = and_first (start && is_list pattern) (writable_pattern pattern) three in
+    let one = and_first start (is_list pattern) two in
+    let n = name_part r.name (Row (rule_priority r.prio ++ body_row r) (Closes tt)) ts (and_first (writable_rule_name r.name) (writable_priority r.prio) one)
     (row_append (rule_name r.name) (rule_priority r.prio ++ body_row r) (Closes tt) ts l) in
-    let q = priority_part r.prio (Row (body_row r) (Closes tt)) n.1.1 f.0 (row_append (rule_priority r.prio) (body_row r) (Closes tt) n.1.1 n.1.4) in
-    let p = whole_pattern_again r.pattern q.4.0 (and_second (writable_rule_name r.name && is_list pattern) (writable_pattern pattern) three) f.1 q.4.3 in
-    let c = iflets_again r.iflets (Row (right_row r) (Closes tt)) q.4.1 (and_second (writable_rule_name r.name && is_list pattern && writable_pattern pattern) (list_all writable_iflet r.iflets) four) f.2
+    let q = priority_part r.prio (Row (body_row r) (Closes tt)) n.1.1 (and_second (writable_rule_name r.name) (writable_priority r.prio) one) (row_append (rule_priority r.prio) (body_row r) (Closes tt) n.1.1 n.1.4) in
+    let p = whole_pattern_again r.pattern q.4.0 (and_second (start && is_list pattern) (writable_pattern pattern) three) q.4.3 in
+    let c = iflets_again r.iflets (Row (right_row r) (Closes tt)) q.4.1 (and_second (start && is_list pattern && writable_pattern pattern) (list_all writable_iflet r.iflets) four)
     (row_append (map iflet_sexpr r.iflets) (right_row r) (Closes tt) q.4.1 q.4.4) in
     let e = whole_expr_again r.expr c.1.4.0
-    (and_second (writable_rule_name r.name && is_list pattern && writable_pattern pattern && list_all writable_iflet r.iflets && is_right_side expr) (writable_expr expr) w) f.3 c.1.4.3 in
-    let list = list_kept r.pattern p.0 p.2 (and_second (writable_rule_name r.name) (is_list pattern) two) in
-    let right = right_kept r.expr e.0 e.2 (and_second (writable_rule_name r.name && is_list pattern && writable_pattern pattern && list_all writable_iflet r.iflets) (is_right_side expr) five) in
+    (and_second (start && is_list pattern && writable_pattern pattern && list_all writable_iflet r.iflets && is_right_side expr) (writable_expr expr) w) c.1.4.3 in
+    let list = list_kept r.pattern p.0 p.2 (and_second start (is_list pattern) two) in
+    let right = right_kept r.expr e.0 e.2 (and_second (start && is_list pattern && writable_pattern pattern && list_all writable_iflet r.iflets) (is_right_side expr) five) in
     (
       record { pattern = p.0; iflets = c.0; expr = e.0; pos = first_place ts; prio = r.prio; name = n.0 },
       (

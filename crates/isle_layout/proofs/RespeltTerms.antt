@@ -27,8 +27,7 @@ use Rattle.isle_layout.specs.SExprTree.{SExprTree, sexpr_atom}
 use Rattle.isle_layout.specs.Spellings.{listed, name_sexpr, constant_sexpr, pattern_sexpr, item_sexprs}
 use Rattle.isle_layout.specs.DefSpellings.{flag, decl_flags}
 use Rattle.isle_layout.specs.Writable.{writable_ident, writable_pattern, writable_items, is_free_of_flags, writable_decl, writable_extractor, writable_extern, writable_converter, writable_kept}
-use Rattle.isle_layout.specs.IntegerRanges.{PatternInRange, ItemsInRange}
-use Rattle.isle_layout.proofs.DefAtoms.{kept_word_is_symbol}
+use Rattle.isle_layout.proofs.IdentifierTexts.{kept_word_is_symbol}
 use Rattle.isle_layout.proofs.RespeltRows.{ReadsAtom, Reads, Row, listed_row, listed_then, row_append, row_map, row_split, Again, AllAgain, all_again}
 use Rattle.isle_layout.proofs.RespeltTrees.{ident_at, word_again, name_again, constant_again, pattern_again, items_again}
 use Rattle.isle_layout.proofs.RespeltTypes.{ident_again, idents_again}
@@ -260,23 +259,23 @@ pattern_back (pattern.Wildcard _) = refl
 pattern_back (pattern.And _ _) = refl
 pattern_back (pattern.MacroArg _ _) = refl
 
-pub whole_pattern_again : (p : Pattern) (ts : List Placed) → writable_pattern (pattern_of p) ≡ true → PatternInRange (pattern_of p) → Reads (pattern_sexpr (pattern_of p)) ts
+pub whole_pattern_again : (p : Pattern) (ts : List Placed) → writable_pattern (pattern_of p) ≡ true → Reads (pattern_sexpr (pattern_of p)) ts
     → Again (λ q. SpellsPattern (pattern_of q)) pattern_without_pos p ts
-whole_pattern_again p ts h f l =
-    let a = pattern_again (pattern_of p) ts h f l in
+whole_pattern_again p ts h l =
+    let a = pattern_again (pattern_of p) ts h l in
     (pattern_from a.0, subst (λ t. SpellsPattern t ts) (sym (pattern_there a.0)) a.1, pattern_moved a.0 ∙ ap pattern_from a.2 ∙ pattern_back p)
 
 -- ---- extractors
 
 -- what stands behind the word `extractor`
-pub extractor_again : (x : ExtractorTree) (ts : List Placed) → writable_extractor x ≡ true → PatternInRange (pattern_of x.template)
+pub extractor_again : (x : ExtractorTree) (ts : List Placed) → writable_extractor x ≡ true
     → Row (listed (name_sexpr x.term ∷ map name_sexpr x.args) ∷ pattern_sexpr (pattern_of x.template) ∷ []) (Closes tt) ts → Again SpellsExtractor extractor_without_pos x ts
-extractor_again x ts w f l =
+extractor_again x ts w l =
     let two = and_first (writable_ident x.term && list_all writable_ident x.args) (writable_pattern (pattern_of x.template)) w in
     let r = listed_row (name_sexpr x.term ∷ map name_sexpr x.args) l.0 l.3 in
     let n = ident_again x.term r.4.0 (and_first (writable_ident x.term) (list_all writable_ident x.args) two) r.4.3 in
     let a = idents_again x.args (Closes tt) r.4.1 (and_second (writable_ident x.term) (list_all writable_ident x.args) two) r.4.4 in
-    let b = whole_pattern_again x.template l.4.0 (and_second (writable_ident x.term && list_all writable_ident x.args) (writable_pattern (pattern_of x.template)) w) f l.4.3 in
+    let b = whole_pattern_again x.template l.4.0 (and_second (writable_ident x.term && list_all writable_ident x.args) (writable_pattern (pattern_of x.template)) w) l.4.3 in
     (
       record { term = n.0; args = a.0; template = b.0; pos = r.3.0 },
       group_right (Opens r.3.0) (SpellsIdent n.0 ⊙ Closed SpellsIdent a.0) (SpellsPattern (pattern_of b.0) ⊙ Closes tt) ts
@@ -352,11 +351,11 @@ converter_again c ts h l =
     )
 
 -- what stands behind the opening parenthesis
-pub kept_again : (k : KeptTree) (ts : List Placed) → writable_kept k ≡ true → ItemsInRange k.items → Row (name_sexpr k.word ∷ item_sexprs k.items) (Closes tt) ts → Again SpellsKept kept_without_pos k ts
-kept_again k ts h f l =
+pub kept_again : (k : KeptTree) (ts : List Placed) → writable_kept k ≡ true → Row (name_sexpr k.word ∷ item_sexprs k.items) (Closes tt) ts → Again SpellsKept kept_without_pos k ts
+kept_again k ts h l =
     let n = name_again is_kept_word (λ s u e. kept_word_is_symbol s e) k.word l.0 (and_first (is_kept_word k.word.0) (writable_items k.items) h) l.3 in
     let s = row_split (item_sexprs k.items) (Closes tt) l.1 l.4 in
-    let a = items_again k.items s.0 (and_second (is_kept_word k.word.0) (writable_items k.items) h) f s.3 in
+    let a = items_again k.items s.0 (and_second (is_kept_word k.word.0) (writable_items k.items) h) s.3 in
     (
       record { word = ident_at k.word n.0; items = a.0; pos = first_place l.1 },
       (l.0, l.1, l.2, n.1, ((s.0, s.1, s.2, a.1, s.4), refl)),
