@@ -1,7 +1,6 @@
 -- Tokens of the S-expressions of definitions spell these again.
-use Rattle.std.proofs.Common.{◌≡◌, ℕ, List, [], ◌∷◌, ◌++◌, map, Bool, true, refl, subst}
-use Rattle.std.specs.Prelude.{◌&&◌, nat_le, codes}
-use Rattle.std.specs.List.{list_all}
+use Rattle.std.proofs.Common.{◌≡◌, ℕ, List, [], ◌∷◌, ◌++◌, map, true, refl}
+use Rattle.std.specs.Prelude.{nat_le, codes}
 use Rattle.std.specs.Str.{IsUtf8}
 use Rattle.isle_syntax.specs.declared.ast.Extern.{Extern as ExternTree}
 use Rattle.isle_syntax.specs.declared.ast.Extern.TheVariants.{Constructor as extern_constructor, Extractor as extern_extractor, Const as extern_const}
@@ -10,8 +9,8 @@ use Rattle.isle_syntax.specs.declared.ast.Def.TheVariants.{TypeDef, Decl, Rule, 
 use Rattle.isle_syntax.specs.PatternShape.{pattern_of}
 use Rattle.isle_syntax.specs.Tokens.{Placed}
 use Rattle.isle_syntax.specs.Names.{is_symbol}
-use Rattle.isle_syntax.specs.Spelt.{◌⊙◌, Closes, Opening, Says, Each}
-use Rattle.isle_syntax.specs.DefGrammar.{SpellsType, SpellsDecl, SpellsRule, SpellsExtractor, SpellsExtern, SpellsConverter, SpellsKept, SpellsDef, SpellsText}
+use Rattle.isle_syntax.specs.Spelt.{◌⊙◌, Closes, Opening, Says}
+use Rattle.isle_syntax.specs.DefGrammar.{SpellsDef}
 use Rattle.isle_syntax.specs.WithoutPos.{def_without_pos}
 use Rattle.isle_syntax.specs.Verdict.{max_nesting}
 use Rattle.isle_syntax.proofs.SymbolKinds.{and_first}

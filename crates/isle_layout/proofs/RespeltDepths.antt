@@ -1,9 +1,8 @@
 -- Tokens of the S-expression of a definition open no more parentheses at once than it nests.
-use Rattle.std.proofs.Common.{◌≡◌, ℕ, ◌+◌, ◌≤◌, ◌^◌, max, List, [], ◌∷◌, ◌++◌, map, Bool, true, false, Option, None, Some, refl, leb-true, ltb-true, arith}
-use Rattle.std.specs.Prelude.{ℤ, ◌&&◌, ◌||◌, ◌==◌, not, nat_le, nat_lt, codes, suc}
+use Rattle.std.proofs.Common.{◌≡◌, ℕ, ◌+◌, max, List, [], ◌∷◌, ◌++◌, map, Bool, true, false, Option, None, Some, refl, arith}
+use Rattle.std.specs.Prelude.{ℤ, ◌&&◌, ◌||◌, ◌==◌, not, codes, suc}
 use Rattle.std.specs.Fmt.{decimal, signed_decimal}
 use Rattle.std.specs.List.{list_all}
-use Rattle.std.specs.Str.{IsUtf8}
 use Rattle.isle_syntax.specs.declared.ast.Ident.{Ident}
 use Rattle.isle_syntax.specs.declared.ast.StructField.{StructField}
 use Rattle.isle_syntax.specs.declared.ast.TupleField.{TupleField}
@@ -23,7 +22,7 @@ use Rattle.isle_syntax.specs.declared.ast.Converter.{Converter as ConverterTree}
 use Rattle.isle_syntax.specs.declared.ast.Kept.{Kept as KeptTree}
 use Rattle.isle_syntax.specs.declared.ast.Def.{Def}
 use Rattle.isle_syntax.specs.declared.ast.Def.TheVariants.{TypeDef, Decl, Rule, Extractor, Extern, Converter, Pragma, Kept}
-use Rattle.isle_syntax.specs.Names.{is_symbol, is_ident, is_name, is_pname, is_const_name, is_word}
+use Rattle.isle_syntax.specs.Names.{is_symbol, is_ident, is_pname, is_const_name, is_word}
 use Rattle.isle_syntax.specs.Grammar.{truth_word, is_pattern_term, is_expr_term}
 use Rattle.isle_syntax.specs.DefGrammar.{is_kept_word}
 use Rattle.isle_syntax.specs.PatternTree.{PatternTree, PatternTrees, pattern_var, pattern_bind, pattern_bool, pattern_int, pattern_prim, pattern_term, pattern_wildcard, pattern_and, pattern_macro_arg, no_patterns, more_patterns}
@@ -32,12 +31,12 @@ use Rattle.isle_syntax.specs.ExprTree.{ExprTree, ExprTrees, LetTrees, expr_term,
 use Rattle.isle_syntax.specs.ExprShape.{expr_of}
 use Rattle.isle_syntax.specs.ItemTree.{ItemTree, ItemTrees, item_int, item_big, item_symbol, item_at, item_list, no_items, more_items}
 use Rattle.isle_syntax.proofs.SymbolKinds.{and_first, and_second}
-use Rattle.isle_layout.specs.SExprTree.{SExprTree, sexpr_atom}
+use Rattle.isle_layout.specs.SExprTree.{sexpr_atom}
 use Rattle.isle_layout.specs.Spellings.{listed, name_sexpr, constant_sexpr, integer_text, pattern_sexpr, pattern_sexprs, expr_sexpr, expr_sexprs, let_sexprs, item_sexpr, item_sexprs}
 use Rattle.isle_layout.specs.DefSpellings.{flag, struct_field_sexpr, tuple_field_sexpr, fields_sexprs, variant_of, variant_sexpr, type_value_sexpr, type_sexpr, decl_flags, decl_sexpr, extractor_sexpr, extern_sexpr, converter_sexpr, rule_name, rule_priority, iflet_sexpr, rule_sexpr, kept_sexpr, def_sexpr}
 use Rattle.isle_layout.specs.Nesting.{pattern_nesting, pattern_nestings, expr_nesting, expr_nestings, let_nestings, item_nesting, item_nestings, iflet_nestings, rule_nesting, nesting}
-use Rattle.isle_layout.specs.Writable.{writable_ident, writable_int, writable_pattern, writable_patterns, writable_expr, writable_exprs, writable_lets, writable_item, writable_items, writable_struct_field, writable_tuple_fields, is_filled, writable_fields, writable_variant, writable_type_value, writable_type, is_free_of_flags, writable_decl, writable_extractor, writable_extern, writable_converter, writable_rule_name, writable_priority, writable_iflet, is_list, is_right_side, writable_rule, writable_kept, has_writable_words}
-use Rattle.isle_layout.proofs.AtomReadings.{at_sign_reading, signed_reading, large_reading, integer_reading}
+use Rattle.isle_layout.specs.Writable.{writable_ident, writable_pattern, writable_patterns, writable_expr, writable_exprs, writable_lets, writable_item, writable_items, writable_struct_field, writable_tuple_fields, is_filled, writable_fields, writable_variant, writable_type_value, writable_type, is_free_of_flags, writable_decl, writable_extractor, writable_extern, writable_converter, writable_rule_name, writable_priority, writable_iflet, is_list, is_right_side, writable_rule, writable_kept, has_writable_words}
+use Rattle.isle_layout.proofs.AtomReadings.{at_sign_reading, signed_reading}
 use Rattle.isle_layout.proofs.IdentifierTexts.{ident_is_symbol, name_is_symbol, pname_is_symbol, constant_is_symbol, kept_word_is_symbol}
 use Rattle.isle_layout.proofs.DefAtoms.{fits_small, wider}
 use Rattle.isle_layout.proofs.TreeAtoms.{fits_signed}

@@ -1,17 +1,17 @@
 -- Tokens of S-expressions leave as much room as there was, where there was room for the parentheses that they open.
-use Rattle.std.proofs.Common.{◌≡◌, ℕ, zero, suc, ◌+◌, ◌≤◌, max, List, [], ◌∷◌, ◌++◌, map, Bool, true, false, Option, Some, None, refl, ap, ◌∙◌, sym, append_assoc, arith}
+use Rattle.std.proofs.Common.{◌≡◌, ℕ, zero, suc, ◌+◌, ◌≤◌, List, [], ◌∷◌, ◌++◌, map, Bool, true, Option, Some, None, refl, ap, ◌∙◌, sym, append_assoc, arith}
 use Rattle.std.specs.Prelude.{option_and_then}
 use Rattle.std.specs.List.{list_all}
 use Rattle.std.specs.Str.{IsUtf8}
 use Rattle.isle_syntax.specs.declared.lexer.Pos.{Pos}
-use Rattle.isle_syntax.specs.Tokens.{Literal, Placed, opening, closing, at_sign, symbol, int}
+use Rattle.isle_syntax.specs.Tokens.{Literal, Placed, at_sign, int}
 use Rattle.isle_syntax.specs.Names.{is_symbol}
 use Rattle.isle_syntax.specs.Spelt.{◌⊙◌, Closes, Opening, Each, room_after, room}
 use Rattle.isle_syntax.proofs.SymbolKinds.{and_first, and_second}
 use Rattle.isle_layout.specs.SExprTree.{SExprTree, sexpr_atom, sexpr_binding}
 use Rattle.isle_layout.specs.Spellings.{listed}
 use Rattle.isle_layout.proofs.AtomReadings.{symbol_reading}
-use Rattle.isle_layout.proofs.RespeltRows.{ReadsAtom, Reads, Row, listed_row, row_split}
+use Rattle.isle_layout.proofs.RespeltRows.{ReadsAtom, Reads, listed_row, row_split}
 
 -- an S-expression and some of them, of which the tokens open no more than d parentheses at once
 pub record Fits (d : ℕ) (t : SExprTree) : Type 0 where
@@ -53,9 +53,9 @@ fit_append {d} xs ys f g = record {
     split : (zs : List SExprTree) (ts : List Placed) → Each Reads (zs ++ ys) ts → (Each Reads zs ⊙ Each Reads ys) ts
     split [] ts l = ([], ts, refl, refl, l)
     split (z ∷ zs) ts l = (
-      let s = split zs l.1 l.4 in
-      (l.0 ++ s.0, s.1, l.2 ∙ ap (λ x. l.0 ++ x) s.2 ∙ sym (append_assoc l.0 s.0 s.1), (l.0, s.0, refl, l.3, s.3), s.4)
-    )
+        let s = split zs l.1 l.4 in
+        (l.0 ++ s.0, s.1, l.2 ∙ ap (λ x. l.0 ++ x) s.2 ∙ sym (append_assoc l.0 s.0 s.1), (l.0, s.0, refl, l.3, s.3), s.4)
+        )
 
 pub fit_map : {A : Type 0} {d : ℕ} (f : A → SExprTree) (w : A → Bool) → ((a : A) → w a ≡ true → Fits d (f a)) → (values : List A) → list_all w values ≡ true → FitAll d (map f values)
 fit_map f w each [] h = fit_none

@@ -1,10 +1,8 @@
 -- Tokens of the S-expressions of rules spell these again.
-use Rattle.std.proofs.Common.{◌≡◌, ℕ, List, [], ◌∷◌, ◌++◌, map, Bool, true, false, Option, None, Some, refl, ap, ◌∙◌, sym, subst, ◌-◌, ◌^◌, lt-ltb, le-leb, arith}
-use Rattle.std.specs.Prelude.{ℤ, ◌&&◌, ◌||◌, not, int_le, int_lt, pos, negsuc, FitsSigned, codes}
-use Rattle.std.specs.Int.{w64, w128}
+use Rattle.std.proofs.Common.{◌≡◌, List, [], ◌∷◌, ◌++◌, map, true, Option, None, Some, refl, ap, ◌∙◌, sym, subst}
+use Rattle.std.specs.Prelude.{ℤ, ◌&&◌, codes}
 use Rattle.std.specs.Option.{option_map}
 use Rattle.std.specs.List.{list_all}
-use Rattle.std.proofs.lemmas.Bool.{and_from}
 use Rattle.isle_syntax.specs.declared.ast.Ident.{Ident}
 use Rattle.isle_syntax.specs.declared.ast.Expr.{Expr}
 use Rattle.isle_syntax.specs.declared.ast.Expr.TheVariants as expr
@@ -17,16 +15,16 @@ use Rattle.isle_syntax.specs.ExprTree.{ExprTree, expr_term, expr_var, expr_bool,
 use Rattle.isle_syntax.specs.ExprShape.{expr_of}
 use Rattle.isle_syntax.specs.DefReading.{expr_from}
 use Rattle.isle_syntax.specs.Tokens.{Placed}
-use Rattle.isle_syntax.specs.Spelt.{◌⊙◌, Closes, Opening, Each, first_place}
-use Rattle.isle_syntax.specs.Grammar.{IsList, SpellsPattern, SpellsExpr}
-use Rattle.isle_syntax.specs.DefGrammar.{SpellsIdent, SpellsName, fits_priority, SpellsPriority, SpellsIfLet, if_let, is_clause_word, IsRightSide, SpellsRightSide, SpellsRule}
-use Rattle.isle_syntax.specs.WithoutPos.{no_pos, ident_without_pos, pattern_tree_without_pos, pattern_without_pos, expr_tree_without_pos, expr_without_pos, iflet_without_pos, rule_without_pos}
+use Rattle.isle_syntax.specs.Spelt.{◌⊙◌, Closes, Each, first_place}
+use Rattle.isle_syntax.specs.Grammar.{IsList, SpellsExpr}
+use Rattle.isle_syntax.specs.DefGrammar.{SpellsName, SpellsPriority, SpellsIfLet, if_let, is_clause_word, IsRightSide, SpellsRule}
+use Rattle.isle_syntax.specs.WithoutPos.{no_pos, ident_without_pos, pattern_without_pos, expr_tree_without_pos, expr_without_pos, iflet_without_pos, rule_without_pos}
 use Rattle.isle_syntax.proofs.Basics.{group_left}
 use Rattle.isle_syntax.proofs.SymbolKinds.{and_first, and_second, not_false}
 use Rattle.isle_layout.specs.SExprTree.{SExprTree, sexpr_atom}
-use Rattle.isle_layout.specs.Spellings.{listed, pattern_sexpr, expr_sexpr}
+use Rattle.isle_layout.specs.Spellings.{pattern_sexpr, expr_sexpr}
 use Rattle.isle_layout.specs.DefSpellings.{rule_name, rule_priority, iflet_sexpr}
-use Rattle.isle_layout.specs.Writable.{writable_ident, writable_pattern, writable_expr, writable_rule_name, writable_priority, writable_iflet, is_list, is_right_side, writable_rule}
+use Rattle.isle_layout.specs.Writable.{writable_pattern, writable_expr, writable_rule_name, writable_priority, writable_iflet, is_list, is_right_side, writable_rule}
 use Rattle.isle_layout.proofs.AtomReadings.{signed_reading}
 use Rattle.isle_layout.proofs.DefAtoms.{fits_small, wider}
 use Rattle.isle_layout.proofs.WithoutPos.{list_same, right_same}
@@ -114,8 +112,7 @@ iflet_again : (c : IfLet) (ts : List Placed) → writable_iflet c ≡ true → R
 iflet_again c ts h l =
     let r = listed_row (sexpr_atom (codes "if-let") ∷ pattern_sexpr (pattern_of c.pattern) ∷ expr_sexpr (expr_of c.expr) ∷ []) ts l in
     let p = whole_pattern_again c.pattern r.4.4.0 (and_first (writable_pattern (pattern_of c.pattern)) (writable_expr (expr_of c.expr)) h) r.4.4.3 in
-    let e = whole_expr_again c.expr r.4.4.4.0 (and_second (writable_pattern (pattern_of c.pattern)) (writable_expr (expr_of c.expr)) h) r.4.4.4.3 in
-    (
+    let e = whole_expr_again c.expr r.4.4.4.0 (and_second (writable_pattern (pattern_of c.pattern)) (writable_expr (expr_of c.expr)) h) r.4.4.4.3 in (
       record { pattern = p.0; expr = e.0; pos = r.3.0 },
       if_let
           (r.0, r.1, r.2, r.3.1, (r.4.0, r.4.1, r.4.2, word_again (codes "if-let") r.4.0 refl r.4.3, (r.4.4.0, r.4.4.1, r.4.4.2, p.1, (r.4.4.4.0, r.4.4.4.1, r.4.4.4.2, e.1, r.4.4.4.4)))),
@@ -157,8 +154,7 @@ rule_again r ts w l =
     let e = whole_expr_again r.expr c.1.4.0
     (and_second (start && is_list pattern && writable_pattern pattern && list_all writable_iflet r.iflets && is_right_side expr) (writable_expr expr) w) c.1.4.3 in
     let list = list_kept r.pattern p.0 p.2 (and_second start (is_list pattern) two) in
-    let right = right_kept r.expr e.0 e.2 (and_second (start && is_list pattern && writable_pattern pattern && list_all writable_iflet r.iflets) (is_right_side expr) five) in
-    (
+    let right = right_kept r.expr e.0 e.2 (and_second (start && is_list pattern && writable_pattern pattern && list_all writable_iflet r.iflets) (is_right_side expr) five) in (
       record { pattern = p.0; iflets = c.0; expr = e.0; pos = first_place ts; prio = r.prio; name = n.0 },
       (
         (n.1.0, n.1.1, n.1.2, n.1.3, (q.0, q.1, q.2, q.3, (q.4.0, q.4.1, q.4.2, p.1, (c.1.0, c.1.1, c.1.2, c.1.3, (c.1.4.0, c.1.4.1, c.1.4.2, (e.1, right), c.1.4.4))))),

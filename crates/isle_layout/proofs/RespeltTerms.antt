@@ -2,7 +2,6 @@
 use Rattle.std.proofs.Common.{◌≡◌, ℕ, List, [], ◌∷◌, ◌++◌, map, Bool, true, false, cond, refl, ap, ◌∙◌, sym, subst}
 use Rattle.std.specs.Prelude.{◌&&◌, ◌||◌, not, codes}
 use Rattle.std.specs.List.{list_all}
-use Rattle.std.proofs.lemmas.Bool.{false≢true}
 use Rattle.isle_syntax.specs.declared.ast.Ident.{Ident}
 use Rattle.isle_syntax.specs.declared.ast.Decl.{Decl as DeclTree}
 use Rattle.isle_syntax.specs.declared.ast.Extractor.{Extractor as ExtractorTree}
@@ -15,12 +14,12 @@ use Rattle.isle_syntax.specs.declared.ast.Pattern.TheVariants as pattern
 use Rattle.isle_syntax.specs.PatternTree.{PatternTree, pattern_var, pattern_bind, pattern_bool, pattern_int, pattern_prim, pattern_term, pattern_wildcard, pattern_and, pattern_macro_arg}
 use Rattle.isle_syntax.specs.PatternShape.{pattern_of}
 use Rattle.isle_syntax.specs.DefReading.{pattern_from}
-use Rattle.isle_syntax.specs.Tokens.{Placed, symbol}
-use Rattle.isle_syntax.specs.Names.{is_symbol, is_ident, is_const_name, is_word}
-use Rattle.isle_syntax.specs.Spelt.{◌⊙◌, Opens, Closes, Opening, Says, Word, SymbolOf, Flag, Each, Closed, names, first_place}
-use Rattle.isle_syntax.specs.Grammar.{SpellsPattern, SpellsItems}
-use Rattle.isle_syntax.specs.DefGrammar.{SpellsIdent, SpellsSignature, SpellsDecl, SpellsExtractor, SpellsExtern, SpellsConverter, is_kept_word, SpellsKept}
-use Rattle.isle_syntax.specs.WithoutPos.{no_pos, ident_without_pos, pattern_tree_without_pos, pattern_without_pos, item_trees_without_pos, decl_without_pos, extractor_without_pos, extern_without_pos, converter_without_pos, kept_without_pos}
+use Rattle.isle_syntax.specs.Tokens.{Placed}
+use Rattle.isle_syntax.specs.Names.{is_symbol, is_const_name, is_word}
+use Rattle.isle_syntax.specs.Spelt.{◌⊙◌, Opens, Closes, Opening, Says, Flag, Each, Closed, names, first_place}
+use Rattle.isle_syntax.specs.Grammar.{SpellsPattern}
+use Rattle.isle_syntax.specs.DefGrammar.{SpellsIdent, SpellsDecl, SpellsExtractor, SpellsExtern, SpellsConverter, is_kept_word, SpellsKept}
+use Rattle.isle_syntax.specs.WithoutPos.{no_pos, ident_without_pos, pattern_tree_without_pos, pattern_without_pos, decl_without_pos, extractor_without_pos, extern_without_pos, converter_without_pos, kept_without_pos}
 use Rattle.isle_syntax.proofs.Basics.{group_right, group_left}
 use Rattle.isle_syntax.proofs.SymbolKinds.{and_first, and_second}
 use Rattle.isle_layout.specs.SExprTree.{SExprTree, sexpr_atom}
@@ -28,7 +27,7 @@ use Rattle.isle_layout.specs.Spellings.{listed, name_sexpr, constant_sexpr, patt
 use Rattle.isle_layout.specs.DefSpellings.{flag, decl_flags}
 use Rattle.isle_layout.specs.Writable.{writable_ident, writable_pattern, writable_items, is_free_of_flags, writable_decl, writable_extractor, writable_extern, writable_converter, writable_kept}
 use Rattle.isle_layout.proofs.IdentifierTexts.{kept_word_is_symbol}
-use Rattle.isle_layout.proofs.RespeltRows.{ReadsAtom, Reads, Row, listed_row, listed_then, row_append, row_map, row_split, Again, AllAgain, all_again}
+use Rattle.isle_layout.proofs.RespeltRows.{Reads, Row, listed_row, listed_then, row_append, row_map, row_split, Again}
 use Rattle.isle_layout.proofs.RespeltTrees.{ident_at, word_again, name_again, constant_again, pattern_again, items_again}
 use Rattle.isle_layout.proofs.RespeltTypes.{ident_again, idents_again}
 
@@ -77,8 +76,7 @@ signature_again d ts h g e l =
     let q = listed_then (map name_sexpr d.arg_tys) (Reads (name_sexpr d.ret_ty) ⊙ Closes tt) l.1 l.4 in
     let a = idents_again d.arg_tys (Closes tt ⊙ (Reads (name_sexpr d.ret_ty) ⊙ Closes tt)) q.1 g q.4 in
     let c = group_left (Each SpellsIdent a.0) (Closes tt) (Reads (name_sexpr d.ret_ty) ⊙ Closes tt) q.1 a.1 in
-    let r = ident_again d.ret_ty c.4.0 e c.4.3 in
-    (
+    let r = ident_again d.ret_ty c.4.0 e c.4.3 in (
       (n.0, a.0, r.0),
       (l.0, l.1, l.2, n.1, (q.0, q.1, q.2, q.3, (c.0, c.1, c.2, c.3, (c.4.0, c.4.1, c.4.2, r.1, c.4.4)))),
       (n.2, a.2, r.2),
@@ -217,8 +215,7 @@ decl_again d ts w l =
     let g = and_second (writable_ident d.term && is_free_of_flags d) (list_all writable_ident d.arg_tys) three in
     let e = and_second (writable_ident d.term && is_free_of_flags d && list_all writable_ident d.arg_tys) (writable_ident d.ret_ty) w in
     let f = flags_again d h free ts (row_append (decl_flags d) (signature_row d) (Closes tt) ts l) in
-    let x = pull_pure d h g e ts f in
-    (
+    let x = pull_pure d h g e ts f in (
       record { term = x.0.0; arg_tys = x.0.1; ret_ty = x.0.2; pure = d.pure; multi = d.multi; partial = d.partial; rec = d.rec; pos = first_place ts },
       (x.1, refl),
       (λ i. record { term = x.2.0 i; arg_tys = x.2.1 i; ret_ty = x.2.2 i; pure = d.pure; multi = d.multi; partial = d.partial; rec = d.rec; pos = no_pos }),
@@ -275,8 +272,7 @@ extractor_again x ts w l =
     let r = listed_row (name_sexpr x.term ∷ map name_sexpr x.args) l.0 l.3 in
     let n = ident_again x.term r.4.0 (and_first (writable_ident x.term) (list_all writable_ident x.args) two) r.4.3 in
     let a = idents_again x.args (Closes tt) r.4.1 (and_second (writable_ident x.term) (list_all writable_ident x.args) two) r.4.4 in
-    let b = whole_pattern_again x.template l.4.0 (and_second (writable_ident x.term && list_all writable_ident x.args) (writable_pattern (pattern_of x.template)) w) l.4.3 in
-    (
+    let b = whole_pattern_again x.template l.4.0 (and_second (writable_ident x.term && list_all writable_ident x.args) (writable_pattern (pattern_of x.template)) w) l.4.3 in (
       record { term = n.0; args = a.0; template = b.0; pos = r.3.0 },
       group_right (Opens r.3.0) (SpellsIdent n.0 ⊙ Closed SpellsIdent a.0) (SpellsPattern (pattern_of b.0) ⊙ Closes tt) ts
           (l.0, l.1, l.2, (r.0, r.1, r.2, r.3.1, (r.4.0, r.4.1, r.4.2, n.1, a.1)), (l.4.0, l.4.1, l.4.2, b.1, l.4.4)),
@@ -327,8 +323,7 @@ extern_again (extern_extractor term func p infallible) ts h l =
 extern_again (extern_const name ty p) ts h l =
     let w = word_again (codes "const") l.0 refl l.3 in
     let n = constant_again name l.4.0 (and_first (is_const_name name.0) (writable_ident ty) h) l.4.3 in
-    let m = ident_again ty l.4.4.0 (and_second (is_const_name name.0) (writable_ident ty) h) l.4.4.3 in
-    (
+    let m = ident_again ty l.4.4.0 (and_second (is_const_name name.0) (writable_ident ty) h) l.4.4.3 in (
       extern_const (ident_at name n.0) m.0 w.0,
       (l.0, l.1, l.2, w.1, (l.4.0, l.4.1, l.4.2, n.1, (l.4.4.0, l.4.4.1, l.4.4.2, m.1, l.4.4.4))),
       (λ i. extern_const (ident_without_pos name) (m.2 i) no_pos),
@@ -343,8 +338,7 @@ converter_again c ts h l =
     let two = and_first (writable_ident c.inner_ty && writable_ident c.outer_ty) (writable_ident c.term) h in
     let n = ident_again c.inner_ty l.0 (and_first (writable_ident c.inner_ty) (writable_ident c.outer_ty) two) l.3 in
     let m = ident_again c.outer_ty l.4.0 (and_second (writable_ident c.inner_ty) (writable_ident c.outer_ty) two) l.4.3 in
-    let t = ident_again c.term l.4.4.0 (and_second (writable_ident c.inner_ty && writable_ident c.outer_ty) (writable_ident c.term) h) l.4.4.3 in
-    (
+    let t = ident_again c.term l.4.4.0 (and_second (writable_ident c.inner_ty && writable_ident c.outer_ty) (writable_ident c.term) h) l.4.4.3 in (
       record { term = t.0; inner_ty = n.0; outer_ty = m.0; pos = n.0.1 },
       ((l.0, l.1, l.2, n.1, (l.4.0, l.4.1, l.4.2, m.1, (l.4.4.0, l.4.4.1, l.4.4.2, t.1, l.4.4.4))), refl),
       (λ i. record { term = t.2 i; inner_ty = n.2 i; outer_ty = m.2 i; pos = no_pos }),
@@ -355,8 +349,7 @@ pub kept_again : (k : KeptTree) (ts : List Placed) → writable_kept k ≡ true 
 kept_again k ts h l =
     let n = name_again is_kept_word (λ s u e. kept_word_is_symbol s e) k.word l.0 (and_first (is_kept_word k.word.0) (writable_items k.items) h) l.3 in
     let s = row_split (item_sexprs k.items) (Closes tt) l.1 l.4 in
-    let a = items_again k.items s.0 (and_second (is_kept_word k.word.0) (writable_items k.items) h) s.3 in
-    (
+    let a = items_again k.items s.0 (and_second (is_kept_word k.word.0) (writable_items k.items) h) s.3 in (
       record { word = ident_at k.word n.0; items = a.0; pos = first_place l.1 },
       (l.0, l.1, l.2, n.1, ((s.0, s.1, s.2, a.1, s.4), refl)),
       (λ i. record { word = ident_without_pos k.word; items = a.2 i; pos = no_pos }),

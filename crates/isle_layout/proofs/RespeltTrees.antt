@@ -1,11 +1,11 @@
 -- Tokens of the S-expressions of patterns, expressions and kept items spell these again.
-use Rattle.std.proofs.Common.{◌≡◌, ℕ, ◌^◌, ◌≤◌, ◌<◌, List, [], ◌∷◌, ◌++◌, map, Bool, true, false, refl, ap, ◌∙◌, sym, subst, leb-true, ltb-true}
-use Rattle.std.specs.Prelude.{ℤ, pos, negsuc, ◌&&◌, ◌||◌, not, int_le, int_lt, nat_le, nat_lt, codes}
+use Rattle.std.proofs.Common.{◌≡◌, ℕ, ◌^◌, List, [], ◌∷◌, Bool, true, false, refl, leb-true, ltb-true}
+use Rattle.std.specs.Prelude.{ℤ, pos, ◌&&◌, ◌||◌, not, int_lt, nat_le, nat_lt, codes}
 use Rattle.std.specs.Fmt.{decimal}
 use Rattle.std.specs.Str.{IsUtf8}
 use Rattle.isle_syntax.specs.declared.lexer.Pos.{Pos}
 use Rattle.isle_syntax.specs.declared.ast.Ident.{Ident}
-use Rattle.isle_syntax.specs.Tokens.{Literal, small, large, Placed, symbol, int, at_sign}
+use Rattle.isle_syntax.specs.Tokens.{large, Placed, int}
 use Rattle.isle_syntax.specs.Names.{is_symbol, is_ident, is_name, is_pname, is_const_name}
 use Rattle.isle_syntax.specs.Spelt.{◌⊙◌, Closes, Says, SymbolOf, Each}
 use Rattle.isle_syntax.specs.Grammar.{Constant, truth_word, SpellsInteger, is_pattern_term, is_expr_term, SpellsPattern, SpellsPatterns, SpellsExpr, SpellsExprs, SpellsLets, SpellsItem, SpellsItems}
@@ -13,9 +13,8 @@ use Rattle.isle_syntax.specs.PatternTree.{PatternTree, PatternTrees, pattern_var
 use Rattle.isle_syntax.specs.ExprTree.{ExprTree, ExprTrees, LetTrees, expr_term, expr_var, expr_bool, expr_int, expr_prim, expr_let, no_exprs, more_exprs, no_lets, more_lets}
 use Rattle.isle_syntax.specs.ItemTree.{ItemTree, ItemTrees, item_int, item_big, item_symbol, item_at, item_list, no_items, more_items}
 use Rattle.isle_syntax.specs.WithoutPos.{no_pos, ident_without_pos, pattern_tree_without_pos, pattern_trees_without_pos, expr_tree_without_pos, expr_trees_without_pos, let_trees_without_pos, item_tree_without_pos, item_trees_without_pos}
-use Rattle.isle_syntax.proofs.Basics.{group_right, group_left}
 use Rattle.isle_syntax.proofs.SymbolKinds.{and_first, and_second}
-use Rattle.isle_layout.specs.SExprTree.{SExprTree, sexpr_atom}
+use Rattle.isle_layout.specs.SExprTree.{sexpr_atom}
 use Rattle.isle_layout.specs.Spellings.{listed, name_sexpr, integer_text, pattern_sexpr, pattern_sexprs, expr_sexpr, expr_sexprs, let_sexprs, item_sexpr, item_sexprs}
 use Rattle.isle_layout.specs.Writable.{fits_i128, writable_ident, writable_int, writable_pattern, writable_patterns, writable_expr, writable_exprs, writable_lets, writable_item, writable_items}
 use Rattle.isle_layout.proofs.AtomReadings.{symbol_reading, at_sign_reading, signed_reading, large_reading, integer_reading}
@@ -76,8 +75,7 @@ mutual
       (pattern_var (ident_at x n.0) n.0, (n.1, refl), refl)
   pattern_again (pattern_bind x t p) ts h l =
       let n = name_again is_pname pname_is_symbol x l.0 (and_first (is_pname x.0) (writable_pattern t) h) l.3 in
-      let b = pattern_again t l.4.1 (and_second (is_pname x.0) (writable_pattern t) h) l.4.4 in
-      (
+      let b = pattern_again t l.4.1 (and_second (is_pname x.0) (writable_pattern t) h) l.4.4 in (
         pattern_bind (ident_at x n.0) b.0 n.0,
         ((l.0, l.1, l.2, n.1, (l.4.0, l.4.1, l.4.2, l.4.3, b.1)), refl),
         (λ i. pattern_bind (ident_without_pos x) (b.2 i) no_pos),
@@ -95,8 +93,7 @@ mutual
       let r = listed_row (name_sexpr x ∷ pattern_sexprs args) ts l in
       let n = name_again is_pattern_term pattern_term_is_symbol x r.4.0 (and_first (is_pattern_term x.0) (writable_patterns args) h) r.4.3 in
       let s = row_split (pattern_sexprs args) (Closes tt) r.4.1 r.4.4 in
-      let a = patterns_again args s.0 (and_second (is_pattern_term x.0) (writable_patterns args) h) s.3 in
-      (
+      let a = patterns_again args s.0 (and_second (is_pattern_term x.0) (writable_patterns args) h) s.3 in (
         pattern_term (ident_at x n.0) a.0 r.3.0,
         (r.0, r.1, r.2, r.3.1, (r.4.0, r.4.1, r.4.2, n.1, (s.0, s.1, s.2, a.1, s.4))),
         (λ i. pattern_term (ident_without_pos x) (a.2 i) no_pos),
@@ -108,8 +105,7 @@ mutual
       let r = listed_row (sexpr_atom (codes "and") ∷ pattern_sexprs args) ts l in
       let n = word_again (codes "and") r.4.0 refl r.4.3 in
       let s = row_split (pattern_sexprs args) (Closes tt) r.4.1 r.4.4 in
-      let a = patterns_again args s.0 h s.3 in
-      (
+      let a = patterns_again args s.0 h s.3 in (
         pattern_and a.0 r.3.0,
         (r.0, r.1, r.2, r.3.1, (r.4.0, r.4.1, r.4.2, n, (s.0, s.1, s.2, a.1, s.4))),
         (λ i. pattern_and (a.2 i) no_pos),
@@ -138,8 +134,7 @@ mutual
       let r = listed_row (name_sexpr x ∷ expr_sexprs args) ts l in
       let n = name_again is_expr_term expr_term_is_symbol x r.4.0 (and_first (is_expr_term x.0) (writable_exprs args) h) r.4.3 in
       let s = row_split (expr_sexprs args) (Closes tt) r.4.1 r.4.4 in
-      let a = exprs_again args s.0 (and_second (is_expr_term x.0) (writable_exprs args) h) s.3 in
-      (
+      let a = exprs_again args s.0 (and_second (is_expr_term x.0) (writable_exprs args) h) s.3 in (
         expr_term (ident_at x n.0) a.0 r.3.0,
         (r.0, r.1, r.2, r.3.1, (r.4.0, r.4.1, r.4.2, n.1, (s.0, s.1, s.2, a.1, s.4))),
         (λ i. expr_term (ident_without_pos x) (a.2 i) no_pos),
@@ -162,8 +157,7 @@ mutual
       let q = listed_then (let_sexprs ds) (Reads (expr_sexpr t) ⊙ Closes tt) r.4.1 r.4.4 in
       let s = row_split (let_sexprs ds) (Closes tt ⊙ (Reads (expr_sexpr t) ⊙ Closes tt)) q.1 q.4 in
       let a = lets_again ds s.0 (and_first (writable_lets ds) (writable_expr t) h) s.3 in
-      let b = expr_again t s.4.4.0 (and_second (writable_lets ds) (writable_expr t) h) s.4.4.3 in
-      (
+      let b = expr_again t s.4.4.0 (and_second (writable_lets ds) (writable_expr t) h) s.4.4.3 in (
         expr_let a.0 b.0 r.3.0,
         (r.0, r.1, r.2, r.3.1, (r.4.0, r.4.1, r.4.2, n, (q.0, q.1, q.2, q.3, (s.0, s.1, s.2, a.1, (s.4.0, s.4.1, s.4.2, s.4.3, (s.4.4.0, s.4.4.1, s.4.4.2, b.1, s.4.4.4)))))),
         (λ i. expr_let (a.2 i) (b.2 i) no_pos),
@@ -185,8 +179,7 @@ mutual
       let n = name_again is_ident ident_is_symbol x r.4.0 (and_first (writable_ident x) (writable_ident y) names) r.4.3 in
       let m = name_again is_ident ident_is_symbol y r.4.4.0 (and_second (writable_ident x) (writable_ident y) names) r.4.4.3 in
       let b = expr_again t r.4.4.4.0 (and_second (writable_ident x && writable_ident y) (writable_expr t) one) r.4.4.4.3 in
-      let others = lets_again es l.1 (and_second (writable_ident x && writable_ident y && writable_expr t) (writable_lets es) h) l.4 in
-      (
+      let others = lets_again es l.1 (and_second (writable_ident x && writable_ident y && writable_expr t) (writable_lets es) h) l.4 in (
         more_lets (ident_at x n.0) (ident_at y m.0) b.0 r.3.0 others.0,
         (l.0, l.1, l.2, (r.0, r.1, r.2, r.3.1, (r.4.0, r.4.1, r.4.2, n.1, (r.4.4.0, r.4.4.1, r.4.4.2, m.1, (r.4.4.4.0, r.4.4.4.1, r.4.4.4.2, b.1, r.4.4.4.4)))), others.1),
         (λ i. more_lets (ident_without_pos x) (ident_without_pos y) (b.2 i) no_pos (others.2 i)),

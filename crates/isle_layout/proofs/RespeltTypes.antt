@@ -13,17 +13,17 @@ use Rattle.isle_syntax.specs.declared.ast.TypeValue.TheVariants.{Primitive, Enum
 use Rattle.isle_syntax.specs.declared.ast.«Type».{«Type» as TypeTree}
 use Rattle.isle_syntax.specs.Tokens.{Placed}
 use Rattle.isle_syntax.specs.Names.{is_ident}
-use Rattle.isle_syntax.specs.Spelt.{◌⊙◌, Closes, Opening, Says, SymbolOf, Each, Closed}
-use Rattle.isle_syntax.specs.DefGrammar.{SpellsIdent, SpellsField, numbered, IsFilled, SpellsFields, SpellsVariant, bare, in_list, SpellsTypeValue, Mark, extern_mark, nodebug_mark, SpellsMark, SpellsMarks, SpellsType}
+use Rattle.isle_syntax.specs.Spelt.{◌⊙◌, Closes, Opening, Each}
+use Rattle.isle_syntax.specs.DefGrammar.{SpellsIdent, SpellsField, numbered, IsFilled, SpellsFields, SpellsVariant, bare, in_list, SpellsTypeValue, extern_mark, nodebug_mark, SpellsMarks, SpellsType}
 use Rattle.isle_syntax.specs.WithoutPos.{no_pos, ident_without_pos, struct_field_without_pos, tuple_field_without_pos, fields_without_pos, variant_without_pos, type_value_without_pos, type_without_pos}
 use Rattle.isle_syntax.proofs.Basics.{group_left}
 use Rattle.isle_syntax.proofs.SymbolKinds.{and_first, and_second}
 use Rattle.isle_layout.specs.SExprTree.{SExprTree, sexpr_atom}
 use Rattle.isle_layout.specs.Spellings.{name_sexpr}
-use Rattle.isle_layout.specs.DefSpellings.{flag, struct_field_sexpr, tuple_field_sexpr, fields_sexprs, variant_of, variant_sexpr, type_value_sexpr, type_sexpr}
+use Rattle.isle_layout.specs.DefSpellings.{flag, struct_field_sexpr, tuple_field_sexpr, fields_sexprs, variant_of, variant_sexpr, type_value_sexpr}
 use Rattle.isle_layout.specs.Writable.{writable_ident, writable_struct_field, writable_tuple_fields, is_filled, writable_fields, writable_variant, writable_type_value, writable_type}
 use Rattle.isle_layout.proofs.IdentifierTexts.{ident_is_symbol}
-use Rattle.isle_layout.proofs.RespeltRows.{ReadsAtom, Reads, Row, listed_row, row_append, Again, AllAgain, all_again}
+use Rattle.isle_layout.proofs.RespeltRows.{ReadsAtom, Reads, Row, listed_row, Again, AllAgain, all_again}
 use Rattle.isle_layout.proofs.RespeltTrees.{ident_at, word_again, name_again}
 
 -- ---- names
@@ -41,8 +41,7 @@ field_again : (f : StructField) (ts : List Placed) → writable_struct_field f �
 field_again f ts h l =
     let r = listed_row (name_sexpr f.name ∷ name_sexpr f.ty ∷ []) ts l in
     let n = ident_again f.name r.4.0 (and_first (writable_ident f.name) (writable_ident f.ty) h) r.4.3 in
-    let m = ident_again f.ty r.4.4.0 (and_second (writable_ident f.name) (writable_ident f.ty) h) r.4.4.3 in
-    (
+    let m = ident_again f.ty r.4.4.0 (and_second (writable_ident f.name) (writable_ident f.ty) h) r.4.4.3 in (
       record { name = n.0; ty = m.0; pos = r.3.0 },
       (r.0, r.1, r.2, r.3.1, (r.4.0, r.4.1, r.4.2, n.1, (r.4.4.0, r.4.4.1, r.4.4.2, m.1, r.4.4.4))),
       (λ i. record { name = n.2 i; ty = m.2 i; pos = no_pos }),
@@ -64,8 +63,7 @@ counted_again n (f ∷ fs) K ts h l =
     let one = and_first ((f.index == n) && writable_ident f.ty) (writable_tuple_fields (suc n) fs) h in
     let first = ident_again f.ty l.0 (and_second (f.index == n) (writable_ident f.ty) one) l.3 in
     let others = counted_again (suc n) fs K l.1 (and_second ((f.index == n) && writable_ident f.ty) (writable_tuple_fields (suc n) fs) h) l.4 in
-    let same = sym (eqb-true f.index n (and_first (f.index == n) (writable_ident f.ty) one)) in
-    (
+    let same = sym (eqb-true f.index n (and_first (f.index == n) (writable_ident f.ty) one)) in (
       first.0 ∷ others.0,
       group_left (SpellsIdent first.0) (Each SpellsIdent others.0) K ts (l.0, l.1, l.2, first.1, others.1),
       (λ i. record { index = same i; ty = first.2 i; pos = no_pos } ∷ others.2 i),
@@ -85,8 +83,7 @@ fields_again (named_fields fs) ts h l =
     (named_fields (record { fields = a.0 }), (a.1, filled_again struct_field_without_pos a.0 fs.fields a.2 some), (λ i. named_fields (record { fields = a.2 i })))
 fields_again (tuple_fields fs) ts h l =
     let some = and_first (is_filled fs.fields) (writable_tuple_fields 0 fs.fields) h in
-    let a = counted_again 0 fs.fields (Closes tt) ts (and_second (is_filled fs.fields) (writable_tuple_fields 0 fs.fields) h) l in
-    (
+    let a = counted_again 0 fs.fields (Closes tt) ts (and_second (is_filled fs.fields) (writable_tuple_fields 0 fs.fields) h) l in (
       tuple_fields (record { fields = numbered 0 a.0 }),
       (a.0, a.1, refl, counted_filled 0 a.0 fs.fields a.2 some),
       (λ i. tuple_fields (record { fields = a.2 i })),
@@ -101,8 +98,7 @@ VariantAgain x f ts = (v : Variant) × SpellsVariant v ts × (variant_without_po
 listed_variant : (x : Ident) (f : Fields) (ts : List Placed) → writable_ident x ≡ true → writable_fields f ≡ true → (Opening tt ⊙ (ReadsAtom x.0 ⊙ Row (fields_sexprs f) (Closes tt))) ts → VariantAgain x f ts
 listed_variant x f ts g h r =
     let n = ident_again x r.4.0 g r.4.3 in
-    let a = fields_again f r.4.1 h r.4.4 in
-    (
+    let a = fields_again f r.4.1 h r.4.4 in (
       record { name = n.0; fields = a.0; pos = r.3.0 },
       in_list (r.0, r.1, r.2, r.3.1, (r.4.0, r.4.1, r.4.2, n.1, a.1)),
       (λ i. record { name = n.2 i; fields = a.2 i; pos = no_pos }),
@@ -126,8 +122,7 @@ variant_again v ts h l =
 value_again : (v : TypeValue) (ts : List Placed) → writable_type_value v ≡ true → Reads (type_value_sexpr v) ts → Again SpellsTypeValue type_value_without_pos v ts
 value_again (Primitive x p) ts h l =
     let r = listed_row (sexpr_atom (codes "primitive") ∷ name_sexpr x ∷ []) ts l in
-    let n = ident_again x r.4.4.0 h r.4.4.3 in
-    (
+    let n = ident_again x r.4.4.0 h r.4.4.3 in (
       Primitive n.0 r.3.0,
       (r.0, r.1, r.2, r.3.1, (r.4.0, r.4.1, r.4.2, word_again (codes "primitive") r.4.0 refl r.4.3, (r.4.4.0, r.4.4.1, r.4.4.2, n.1, r.4.4.4))),
       (λ i. Primitive (n.2 i) no_pos),
@@ -145,8 +140,7 @@ marks_again : (is_extern is_nodebug : Bool) (rest : List SExprTree) (K : List Pl
     → Row (flag (codes "extern") is_extern ++ (flag (codes "nodebug") is_nodebug ++ rest)) K ts → (SpellsMarks is_extern is_nodebug ⊙ Row rest K) ts
 marks_again true true rest K ts l =
     let e = word_again (codes "extern") l.0 refl l.3 in
-    let n = word_again (codes "nodebug") l.4.0 refl l.4.3 in
-    (
+    let n = word_again (codes "nodebug") l.4.0 refl l.4.3 in (
       l.0 ++ l.4.0,
       l.4.1,
       l.2 ∙ ap (λ x. l.0 ++ x) l.4.2 ∙ sym (append_assoc l.0 l.4.0 l.4.1),
@@ -165,8 +159,7 @@ pub type_again : (t : TypeTree) (ts : List Placed) → writable_type t ≡ true
 type_again t ts h l =
     let n = ident_again t.name l.0 (and_first (writable_ident t.name) (writable_type_value t.ty) h) l.3 in
     let m = marks_again t.is_extern t.is_nodebug (type_value_sexpr t.ty ∷ []) (Closes tt) l.1 l.4 in
-    let v = value_again t.ty m.4.0 (and_second (writable_ident t.name) (writable_type_value t.ty) h) m.4.3 in
-    (
+    let v = value_again t.ty m.4.0 (and_second (writable_ident t.name) (writable_type_value t.ty) h) m.4.3 in (
       record { name = n.0; is_extern = t.is_extern; is_nodebug = t.is_nodebug; ty = v.0; pos = n.0.1 },
       ((l.0, l.1, l.2, n.1, (m.0, m.1, m.2, m.3, (m.4.0, m.4.1, m.4.2, v.1, m.4.4))), refl),
       (λ i. record { name = n.2 i; is_extern = t.is_extern; is_nodebug = t.is_nodebug; ty = v.2 i; pos = no_pos }),
