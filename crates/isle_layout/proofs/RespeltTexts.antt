@@ -23,7 +23,7 @@ use Rattle.isle_layout.proofs.RespeltRooms.{room_split}
 use Rattle.isle_layout.proofs.RespeltDepths.{def_fits}
 
 -- a definition leaves as much room as there was
-def_room : (d : Def) (ts : List Placed) → writable_def d ≡ true → EachAtom IsUtf8 (def_sexpr d) → SpellsSExpr (def_sexpr d) ts → room max_nesting ts ≡ Some max_nesting
+pub def_room : (d : Def) (ts : List Placed) → writable_def d ≡ true → EachAtom IsUtf8 (def_sexpr d) → SpellsSExpr (def_sexpr d) ts → room max_nesting ts ≡ Some max_nesting
 def_room d ts h u l =
     let words = and_first (has_writable_words d) (nat_le (nesting d) max_nesting) h in
     let few = leb-true (nesting d) max_nesting (and_second (has_writable_words d) (nat_le (nesting d) max_nesting) h) in
