@@ -1,4 +1,7 @@
-"""Times the program given on generated rule files of 2, 4 and 8 MB: MB a second, and the most memory it took."""
+"""Times reading and formatting generated rule files: MB a second, and the most memory it took.
+
+    bench.py ISLE_BENCH ISLEC
+"""
 
 import os
 import sys
@@ -11,9 +14,12 @@ RULE = """(rule number_{i} {i} (lower_{i} (Op.Add x (Op.Neg y @ (Op.Imm 0x{i:x})
     (put (pair sum z) (shift big 3))))
 """
 
+# As deep as lists may nest.
+NESTED = "(attr " + "(a " * 999 + "b" + ")" * 999 + ")\n"
+
 
 def rules(size):
-    """A text of at least `size` bytes."""
+    """A text of at least `size` bytes, and how many rules it has."""
     parts, length, i = [], 0, 0
     while length < size:
         parts.append(RULE.format(i=i))
@@ -22,34 +28,44 @@ def rules(size):
     return "".join(parts), i
 
 
-def timed(program, path):
-    """Seconds, the most memory in MB, and what was printed."""
-    read, write = os.pipe()
-    start = time.monotonic()
-    child = os.fork()
-    if child == 0:
-        os.dup2(os.open(path, os.O_RDONLY), 0)
-        os.dup2(write, 1)
-        os.execv(program, [program])
-    os.close(write)
-    with os.fdopen(read) as output:
-        printed = output.read()
-    _, status, usage = os.wait4(child, 0)
-    return time.monotonic() - start, usage.ru_maxrss / 1024, printed if status == 0 else "failed"
+def timed(words, path):
+    """Seconds, the most memory in MB, and what was printed, of a program that reads a file as its standard input."""
+    with tempfile.TemporaryFile() as output:
+        start = time.monotonic()
+        child = os.fork()
+        if child == 0:
+            os.dup2(os.open(path, os.O_RDONLY), 0)
+            os.dup2(output.fileno(), 1)
+            os.execv(words[0], words)
+        _, status, usage = os.wait4(child, 0)
+        seconds = time.monotonic() - start
+        output.seek(0)
+        printed = output.read().decode()
+    return seconds, usage.ru_maxrss / 1024, printed if status == 0 else "failed"
+
+
+def measure(title, words, text, check):
+    """Prints the best of three runs on a text."""
+    with tempfile.NamedTemporaryFile("w", suffix=".isle") as file:
+        file.write(text)
+        file.flush()
+        runs = [timed([*words, *([file.name] if "fmt" in words else [])], file.name) for _ in range(3)]
+    seconds, memory, printed = min(runs)
+    if not check(printed):
+        sys.exit(f"{title}: {printed[:80]}")
+    print(f"{title}: {len(text) / 1e6 / seconds:.1f} MB a second, {seconds:.3f} s, {memory:.0f} MB of memory")
 
 
 def main():
-    program = os.path.abspath(sys.argv[1])
+    bench, islec = (os.path.abspath(it) for it in sys.argv[1:3])
     for megabytes in (2, 4, 8):
         text, number = rules(megabytes * 1_000_000)
-        with tempfile.NamedTemporaryFile("w", suffix=".isle") as file:
-            file.write(text)
-            file.flush()
-            runs = [timed(program, file.name) for _ in range(3)]
-        seconds, memory, printed = min(runs)
-        if printed != f"{number} definitions\n":
-            sys.exit(f"{megabytes} MB: {printed}")
-        print(f"{megabytes} MB: {len(text) / 1e6 / seconds:.1f} MB a second, {memory:.0f} MB of memory, {number} rules")
+        measure(f"read {megabytes} MB", [bench], text, lambda it: it == f"{number} definitions\n")
+    text, _ = rules(4_000_000)
+    for width in (20, 80):
+        measure(f"format 4 MB at {width}", [islec, "fmt", "--width", str(width)], text, lambda it: it.startswith("(rule"))
+    for width in (80, 1_000_000):
+        measure(f"format 1,000 nested lists at {width}", [islec, "fmt", "--width", str(width)], NESTED * 20, lambda it: it.startswith("(attr"))
 
 
 main()

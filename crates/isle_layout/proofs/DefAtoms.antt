@@ -1,6 +1,6 @@
 -- The atoms of definitions that can be written are tokens.
 use Rattle.std.proofs.Common.{◌≡◌, ℕ, suc, ◌-◌, ◌^◌, List, [], ◌∷◌, Bool, true, false, Option, Some, None, map, refl, arith}
-use Rattle.std.specs.Prelude.{ℤ, ◌&&◌, ◌||◌, ◌==◌, not, nat_le, nat_lt, pos, negsuc, codes, FitsSigned}
+use Rattle.std.specs.Prelude.{ℤ, ◌&&◌, ◌||◌, ◌==◌, not, nat_le, pos, negsuc, codes, FitsSigned}
 use Rattle.std.proofs.lemmas.Bool.{leb-true, ltb-true}
 use Rattle.std.specs.List.{list_all}
 use Rattle.std.specs.Int.{w64, w128}
@@ -179,12 +179,12 @@ rule_name_readable : (name : Option Ident) → writable_rule_name name ≡ true 
 rule_name_readable None e = tt
 rule_name_readable (Some x) e = (name_readable x e, tt)
 
-fits_small : (z : ℤ) → fits_priority z ≡ true → FitsSigned w64 z
+pub fits_small : (z : ℤ) → fits_priority z ≡ true → FitsSigned w64 z
 fits_small (pos n) e = record { sfits = ltb-true n (2 ^ 63) e }
 fits_small (negsuc n) e =
     let most = leb-true n (2 ^ 63 - 1) (and_first (nat_le n (2 ^ 63 - 1)) true e) in record { sfits = omega (arith, most) }
 
-wider : (z : ℤ) → FitsSigned w64 z → FitsSigned w128 z
+pub wider : (z : ℤ) → FitsSigned w64 z → FitsSigned w128 z
 wider z f = record { sfits = omega (arith, f.sfits) }
 
 rule_priority_readable : (priority : Option ℤ) → writable_priority priority ≡ true → AreReadable (rule_priority priority)

@@ -28,5 +28,14 @@ pub mod DefAtoms
 pub mod PrintedTexts
 pub mod OneReading
 pub mod SameSpelling
+pub mod RespeltRows
+pub mod RespeltTrees
+pub mod RespeltTypes
+pub mod RespeltTerms
+pub mod RespeltRules
+pub mod RespeltDefs
+pub mod RespeltRooms
+pub mod RespeltDepths
+pub mod RespeltTexts
 pub mod ReadsBack
 pub mod Formatted

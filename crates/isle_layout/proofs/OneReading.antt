@@ -35,13 +35,14 @@ only_by ts defs others (deep q) g l nests k =
 pub one_text : (ts : List Placed) (defs others : List Def) → SpellsText defs ts → NestsWithin ts → SpellsText others ts → others ≡ defs
 one_text ts defs others = only_by ts defs others (all_of (def max_nesting) ts) (reads ts)
 
--- a text is read whole in one way
-pub whole_reading : (file : ℕ) (text : List ℕ) → (unread : Unread) × IsWhole text unread
+-- as a file of each number a text can be read
+pub whole_reading : (file : ℕ) (text : List ℕ) → (unread : Unread) × IsWhole text unread × (unread.source.file ≡ file)
 whole_reading file text =
     let source : Source = record { file = file; size = length text } in
     let r = reading source text in (
       record { left = r.left; end = r.end; clean = r.clean; state = ready; source = source },
       record { size = refl; tokens = reading_sound source text },
+      refl,
     )
 
 -- a text has these tokens alone

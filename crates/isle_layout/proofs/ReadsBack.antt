@@ -5,16 +5,14 @@ use Rattle.std.specs.List.{All}
 use Rattle.std.specs.Str.{IsUtf8}
 use Rattle.std.proofs.lemmas.List.Elements.{All-nil, All-cons, All-head, All-tail}
 use Rattle.isle_syntax.specs.declared.ast.Def.{Def}
-use Rattle.isle_syntax.specs.Tokens.{Placed}
 use Rattle.isle_syntax.specs.Unread.{Unread}
-use Rattle.isle_syntax.specs.Spelt.{Each}
 use Rattle.isle_syntax.specs.TokensOf.{TokensOf}
 use Rattle.isle_syntax.specs.DefGrammar.{SpellsText}
 use Rattle.isle_syntax.specs.Verdict.{NestsWithin, IsSpelt}
 use Rattle.isle_syntax.specs.WithoutPos.{def_without_pos}
 use Rattle.isle_syntax.proofs.Cuts.{utf8_behind_ascii}
 use Rattle.isle_layout.specs.SExprTree.{sexpr_trees_of}
-use Rattle.isle_layout.specs.SExprTokens.{SpellsSExpr, HaveAtoms}
+use Rattle.isle_layout.specs.SExprTokens.{HaveAtoms}
 use Rattle.isle_layout.specs.DefSpellings.{def_sexpr}
 use Rattle.isle_layout.specs.Layout.{layout}
 use Rattle.isle_layout.specs.Prints.{def_print, print_of}
@@ -26,6 +24,7 @@ use Rattle.isle_layout.proofs.WithoutPos.{writable_without_pos}
 use Rattle.isle_layout.proofs.SameSpelling.{same_print}
 use Rattle.isle_layout.proofs.EachAtom.{EachAtoms}
 use Rattle.isle_layout.proofs.PrintedTexts.{text_before, layout_texts, def_has_atoms}
+use Rattle.isle_layout.proofs.RespeltTexts.{respelt_text}
 use Rattle.isle_layout.proofs.OneReading.{one_text, whole_reading, tokens_alone}
 
 -- each of some definitions can be written
@@ -79,35 +78,31 @@ have_atoms [] w u = tt
 have_atoms (d ∷ defs) w u =
     (def_has_atoms d (All-head (λ def. writable_def def ≡ true) d defs w) u.0, have_atoms defs (All-tail (λ def. writable_def def ≡ true) d defs w) u.1)
 
--- definitions whose tokens these are but for positions
-abbrev pub Respelt : List Def → List Placed → Type 0
-Respelt defs ts = (again : List Def) × SpellsText again ts × (map def_without_pos again ≡ map def_without_pos defs)
+-- definitions that can be written are read back from where they are printed as text
+pub writable_reads_back : (width : ℕ) (defs : List Def) → IsUtf8 (print_of width defs) → AreWritable defs → IsReadAs (print_of width defs) defs
+writable_reads_back width defs u w unread whole =
+    let texts = print_texts width defs u in
+    let p = printed_tokens width (map def_sexpr defs) (have_atoms defs w texts) unread.source in
+    let tokens = subst (λ text. TokensOf unread.source text p.0 unread.source.size true) (print_same width defs) p.2 in
+    let same = tokens_alone unread.source (print_of width defs) unread.left p.0 unread.end unread.source.size unread.clean true whole.tokens tokens in
+    let r = respelt_text defs p.0 w texts p.1 in
+    let spelt = subst (SpellsText r.0.0) (sym same.0) r.0.1 in
+    let nests = subst NestsWithin (sym same.0) r.1 in (
+      r.0.0,
+      record { clean = same.1; spelt = spelt; nests = nests; only = λ others l. one_text unread.left r.0.0 others spelt nests l },
+      r.0.2,
+    )
 
-module _ (respelt : (defs : List Def) (ts : List Placed) → AreWritable defs → AreTexts defs → Each SpellsSExpr (map def_sexpr defs) ts → Respelt defs ts × NestsWithin ts) where
-  pub writable_reads_back : (width : ℕ) (defs : List Def) → IsUtf8 (print_of width defs) → AreWritable defs → IsReadAs (print_of width defs) defs
-  writable_reads_back width defs u w unread whole =
-      let texts = print_texts width defs u in
-      let p = printed_tokens width (map def_sexpr defs) (have_atoms defs w texts) unread.source in
-      let tokens = subst (λ text. TokensOf unread.source text p.0 unread.source.size true) (print_same width defs) p.2 in
-      let same = tokens_alone unread.source (print_of width defs) unread.left p.0 unread.end unread.source.size unread.clean true whole.tokens tokens in
-      let r = respelt defs p.0 w texts p.1 in
-      let spelt = subst (SpellsText r.0.0) (sym same.0) r.0.1 in
-      let nests = subst NestsWithin (sym same.0) r.1 in (
-        r.0.0,
-        record { clean = same.1; spelt = spelt; nests = nests; only = λ others l. one_text unread.left r.0.0 others spelt nests l },
-        r.0.2,
-      )
+-- a print reads back as its definitions exactly where they can be written
+pub print_reads_back : (width : ℕ) (text : List ℕ) (defs : List Def) → IsUtf8 text → text ≡ print_of width defs → IsReadAs text defs ↔ AreWritable defs
+print_reads_back width text defs u e =
+    (read_is_writable text defs, λ w. subst (λ t. IsReadAs t defs) (sym e) (writable_reads_back width defs (subst IsUtf8 e u) w))
 
-  -- a print reads back as its definitions exactly where they can be written
-  pub print_reads_back : (width : ℕ) (text : List ℕ) (defs : List Def) → IsUtf8 text → text ≡ print_of width defs → IsReadAs text defs ↔ AreWritable defs
-  print_reads_back width text defs u e =
-      (read_is_writable text defs, λ w. subst (λ t. IsReadAs t defs) (sym e) (writable_reads_back width defs (subst IsUtf8 e u) w))
-
-  -- printed, read and printed again at one width, the text stays
-  pub formats_settle : (width : ℕ) (once : List ℕ) (defs read : List Def) (unread : Unread) → IsUtf8 once → once ≡ print_of width defs → AreWritable defs
-      → IsWhole once unread → IsSpelt unread read → print_of width read ≡ once
-  formats_settle width once defs read unread u e w whole spelt =
-      let both = print_reads_back width once defs u e in
-      let back = both.1 w unread whole in
-      let same : read ≡ back.0 = back.1.only read spelt.spelt in
-      ap (print_of width) same ∙ same_print width back.0 defs back.2 ∙ sym e
+-- printed, read and printed again at one width, the text stays
+pub formats_settle : (width : ℕ) (once : List ℕ) (defs read : List Def) (unread : Unread) → IsUtf8 once → once ≡ print_of width defs → AreWritable defs
+    → IsWhole once unread → IsSpelt unread read → print_of width read ≡ once
+formats_settle width once defs read unread u e w whole spelt =
+    let both = print_reads_back width once defs u e in
+    let back = both.1 w unread whole in
+    let same : read ≡ back.0 = back.1.only read spelt.spelt in
+    ap (print_of width) same ∙ same_print width back.0 defs back.2 ∙ sym e

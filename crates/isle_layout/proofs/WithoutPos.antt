@@ -158,7 +158,7 @@ expr_same e = ap writable_expr (expr_tree e) ∙ expr_words (expr_of e)
 expr_as_deep : (e : Expr) → expr_nesting (expr_of (expr_without_pos e)) ≡ expr_nesting (expr_of e)
 expr_as_deep e = ap expr_nesting (expr_tree e) ∙ expr_depth (expr_of e)
 
-list_same : (p : Pattern) → is_list (pattern_of (pattern_without_pos p)) ≡ is_list (pattern_of p)
+pub list_same : (p : Pattern) → is_list (pattern_of (pattern_without_pos p)) ≡ is_list (pattern_of p)
 list_same (pattern.Var _ _) = refl
 list_same (pattern.BindPattern _ _ _) = refl
 list_same (pattern.ConstBool _ _) = refl
@@ -169,7 +169,7 @@ list_same (pattern.Wildcard _) = refl
 list_same (pattern.And _ _) = refl
 list_same (pattern.MacroArg _ _) = refl
 
-right_same : (e : Expr) → is_right_side (expr_of (expr_without_pos e)) ≡ is_right_side (expr_of e)
+pub right_same : (e : Expr) → is_right_side (expr_of (expr_without_pos e)) ≡ is_right_side (expr_of e)
 right_same (expr.Term _ _ _) = refl
 right_same (expr.Var _ _) = refl
 right_same (expr.ConstBool _ _) = refl

@@ -1,5 +1,5 @@
 //! Texts laid out anew.
-ghost use Rattle.std.specs.Prelude.{IfErr, IfOk, length, string_bytes};
+ghost use Rattle.std.specs.Prelude.{◌≡◌, ℕ, List, IfErr, IfOk, length, string_bytes};
 ghost use Rattle.isle_syntax.specs.Errors.{RefusalAt};
 ghost use Rattle.isle_syntax.specs.Positions.{IsIn};
 ghost use Rattle.isle_layout.specs.Formats.{Formats};
@@ -19,6 +19,8 @@ pub fn format(
     width: usize,
 ) -> Result<String, Refusal<Error>>
     ensures text { IfOk result (λ once. Formats file width text.now (string_bytes once)) }
+    ensures settled { IfOk result (λ once. (other : ℕ) (twice : List ℕ)
+        → Formats other width (string_bytes once) twice → twice ≡ string_bytes once) }
     ensures refused { IfErr result (RefusalAt (IsIn (record { file = file; size = length text.now }))) }
 {
     let defs = parse(Lexer::new(alloc, file, text))?;

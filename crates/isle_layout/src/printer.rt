@@ -1,5 +1,5 @@
 //! Trees as text.
-ghost use Rattle.std.specs.Prelude.{◌≡◌, ℕ, ◌+◌, Bool, List, ◌++◌, ◌∷◌, [], true, false, IfOk, IfErr, string_bytes, codes};
+ghost use Rattle.std.specs.Prelude.{◌≡◌, ◌↔◌, All, ℕ, ◌+◌, Bool, List, ◌++◌, ◌∷◌, [], true, false, IfOk, IfErr, string_bytes, codes};
 ghost use Rattle.std.specs.List.{list_any};
 ghost use Rattle.std.specs.Fmt.{char_count};
 ghost use Rattle.std.specs.Slice.Iter.{iter_rest};
@@ -9,6 +9,8 @@ ghost use Rattle.isle_layout.specs.SExprSubject.{subject, names_text};
 ghost use Rattle.isle_layout.specs.Layout.{one_line, one_line_length, stays_on_one_line, layout, layouts, broken, line, marks_of, marks_of_all, within};
 ghost use Rattle.isle_layout.specs.DefSpellings.{IfFault, def_has_macro_arg};
 ghost use Rattle.isle_layout.specs.Prints.{print_of};
+ghost use Rattle.isle_layout.specs.ReadsBack.{IsReadAs};
+ghost use Rattle.isle_layout.specs.Writable.{writable_def};
 
 use crate::sexpr::SExpr;
 use crate::to_sexpr::{HasMacroArg, ToSExpr};
@@ -23,6 +25,8 @@ mod tests;
 /// Definitions laid out at a width, each followed by one newline. A `MacroArg` in one of them is refused.
 pub fn print(alloc: Global, defs: &[Def], width: usize) -> Result<String, Refusal<HasMacroArg>>
     ensures text { IfOk result (λ text. string_bytes text ≡ print_of width defs.now) }
+    ensures reads_back { IfOk result (λ text.
+        IsReadAs (string_bytes text) defs.now ↔ All (λ def. writable_def def ≡ true) defs.now) }
     ensures no_macro_arg { IfOk result (λ text. list_any def_has_macro_arg defs.now ≡ false) }
     ensures fault { IfErr result (λ refusal. IfFault refusal (list_any def_has_macro_arg defs.now ≡ true)) }
 {

@@ -1,9 +1,18 @@
-use Rattle.std.proofs.Common.{◌≡◌}
-use Rattle.isle_layout.proofs.Formatted.{never_refused}
+use Rattle.std.proofs.Common.{ap, ◌∙◌, string_bytes}
+use Rattle.std.proofs.lemmas.Str.{IsUtf8-string_bytes}
+use Rattle.isle_layout.specs.Prints.{print_of}
+use Rattle.isle_layout.specs.ReadsBack.{IsWhole}
+use Rattle.isle_layout.proofs.Formatted.{never_refused, formatted_settles}
 use Rattle.isle_layout.proofs.format.format.Goals as goal
 
--- src/format.rt:28:35
 pub unreachable-requires : goal.unreachable-requires
 unreachable-requires c =
     never_refused c.in-Err-Fault.field-0 c.in-Err-Fault.field-0-0 c.as_slice.result.now c.in_ok-defs.defs.items c.in-Err-Fault.field-0-is c.as_slice.ensures.value c.in_ok-defs.ensures.no_macro_args
     c.in-Err-Fault.ensures.fault
+
+pub returns-in-Ok-clause-settled : goal.returns-in-Ok-clause-settled
+returns-in-Ok-clause-settled c =
+    let lexer = c.new.result in
+    let whole : IsWhole c.args.text.now lexer = record { size = ap (λ s. s.size) c.new.ensures.source; tokens = c.new.ensures.tokens } in
+    let printed = c.in-Ok.ensures.text ∙ ap (print_of c.args.width) c.as_slice.ensures.value in
+    formatted_settles c.args.width c.args.text.now (string_bytes c.in-Ok.text) lexer c.in_ok-defs.defs.items (IsUtf8-string_bytes c.in-Ok.text) whole c.in_ok-defs.ensures.right printed
