@@ -7,12 +7,9 @@ ghost use Rattle.islec.specs.declared.status.Status.{Status};
 use crate::perform::write_faults;
 use crate::serve::{ServeFault, write_text};
 use crate::status::Status;
-use isle_layout::printer::print;
 use isle_syntax::Refusal;
 use isle_syntax::error::{Error, Errors};
 use isle_syntax::files::Files;
-use isle_syntax::lexer::Lexer;
-use isle_syntax::parser::parse;
 use std::alloc::Global;
 use std::io::Write;
 use std::rc::Rc;
@@ -57,11 +54,5 @@ fn print_file(
     let Some(text) = files.file_text(file) else {
         return Ok(String::new(alloc));
     };
-    let defs = parse(Lexer::new(alloc, file, text))?;
-    match print(alloc, defs.as_slice(), width as usize) {
-        Ok(text) => Ok(text),
-        // The parser makes no numbered argument of a template.
-        Err(Refusal::Fault(_)) => unreachable!(),
-        Err(Refusal::Memory(e)) => Err(Refusal::Memory(e)),
-    }
+    isle_layout::format::format(alloc, file, text, width as usize)
 }
