@@ -1,8 +1,8 @@
 //! Texts laid out anew.
 ghost use Rattle.std.specs.Prelude.{◌≡◌, ℕ, List, IfErr, IfOk, length, string_bytes};
-ghost use Rattle.isle_syntax.specs.Errors.{RefusalAt};
+ghost use Rattle.isle_syntax.specs.Errors.{IfFault, RefusalAt};
 ghost use Rattle.isle_syntax.specs.Positions.{IsIn};
-ghost use Rattle.isle_layout.specs.Formats.{Formats};
+ghost use Rattle.isle_layout.specs.Formats.{Formats, IsFaultIn};
 
 use crate::printer::print;
 use isle_syntax::Refusal;
@@ -21,6 +21,7 @@ pub fn format(
     ensures text { IfOk result (λ once. Formats file width text.now (string_bytes once)) }
     ensures settled { IfOk result (λ once. (other : ℕ) (twice : List ℕ)
         → Formats other width (string_bytes once) twice → twice ≡ string_bytes once) }
+    ensures fault { IfErr result (λ refusal. IfFault refusal (IsFaultIn file text.now)) }
     ensures refused { IfErr result (RefusalAt (IsIn (record { file = file; size = length text.now }))) }
 {
     let defs = parse(Lexer::new(alloc, file, text))?;
