@@ -1,7 +1,11 @@
 //! Printing texts by the layout.
-ghost use Rattle.std.specs.Prelude.{◌<◌, ◌≢◌, length, IfErr, IfOk};
+ghost use Rattle.std.specs.Prelude.{◌≡◌, ◌<◌, ◌≢◌, ℕ, List, length, map, slice_get, string_bytes, IfErr, IfOk, IfSome};
+ghost use Rattle.std.specs.Io.KnownBytes.{Appends};
+ghost use Rattle.isle_layout.specs.Formats.{Formats};
 ghost use Rattle.isle_syntax.specs.Errors.{RefusalAt};
+ghost use Rattle.isle_syntax.specs.Files.{source_file};
 ghost use Rattle.isle_syntax.specs.Positions.{HasPlaceAt};
+ghost use Rattle.islec.specs.Formatting.{Prints};
 ghost use Rattle.islec.specs.declared.status.Status.{Status};
 
 use crate::perform::write_faults;
@@ -21,7 +25,10 @@ pub fn format<W: Write>(
     texts: Vec<(String, String)>,
     writer: &mut W,
 ) -> Result<Status, ServeFault>
-    ensures { IfOk result (λ status. status ≢ Status.Usage) }
+    ensures printed { IfOk result (λ status. status ≡ Status.AllWell → (out : List ℕ)
+        × Prints width 0 (map source_file texts.items) out
+        × Appends (W.contents writer.old) (W.contents writer.new) out) }
+    ensures other { IfOk result (λ status. status ≢ Status.Usage) }
 {
     let files = Rc::new(alloc, Files::from_names_and_contents(alloc, texts)?)?;
     let mut printed = String::new(alloc);
@@ -49,6 +56,8 @@ fn print_file(
     width: u32,
 ) -> Result<String, Refusal<Error>>
     requires { file < length files.now }
+    ensures text { IfSome (slice_get files.now file) (λ from. IfOk result
+        (λ once. Formats file width from.text (string_bytes once))) }
     ensures printable { IfErr result (RefusalAt (HasPlaceAt files.now)) }
 {
     let Some(text) = files.file_text(file) else {
