@@ -1,11 +1,10 @@
 //! Printing texts by the layout.
-ghost use Rattle.std.specs.Prelude.{◌≡◌, ◌<◌, ◌≢◌, ℕ, List, length, map, slice_get, string_bytes, IfErr, IfOk, IfSome};
-ghost use Rattle.std.specs.Io.KnownBytes.{Appends};
+ghost use Rattle.std.specs.Prelude.{◌≡◌, ◌<◌, ◌≢◌, length, map, slice_get, string_bytes, IfErr, IfOk, IfSome};
 ghost use Rattle.isle_layout.specs.Formats.{Formats};
 ghost use Rattle.isle_syntax.specs.Errors.{RefusalAt};
 ghost use Rattle.isle_syntax.specs.Files.{source_file};
 ghost use Rattle.isle_syntax.specs.Positions.{HasPlaceAt};
-ghost use Rattle.islec.specs.Formatting.{Prints};
+ghost use Rattle.islec.specs.Formatting.{WritesPrints, WritesFault};
 ghost use Rattle.islec.specs.declared.status.Status.{Status};
 
 use crate::perform::write_faults;
@@ -25,9 +24,10 @@ pub fn format<W: Write>(
     texts: Vec<(String, String)>,
     writer: &mut W,
 ) -> Result<Status, ServeFault>
-    ensures printed { IfOk result (λ status. status ≡ Status.AllWell → (out : List ℕ)
-        × Prints width 0 (map source_file texts.items) out
-        × Appends (W.contents writer.old) (W.contents writer.new) out) }
+    ensures printed { IfOk result (λ status. status ≡ Status.AllWell → WritesPrints width
+        (map source_file texts.items) (W.contents writer.old) (W.contents writer.new)) }
+    ensures refused { IfOk result (λ status. status ≡ Status.TextsRefused → WritesFault
+        (map source_file texts.items) (W.contents writer.old) (W.contents writer.new)) }
     ensures other { IfOk result (λ status. status ≢ Status.Usage) }
 {
     let files = Rc::new(alloc, Files::from_names_and_contents(alloc, texts)?)?;

@@ -1,4 +1,4 @@
-use Rattle.std.proofs.Common.{◌≡◌, ◌<◌, ◌≤◌, length, string_bytes, arith, subst, slice_get, IfSome, rules}
+use Rattle.std.proofs.Common.{◌<◌, ◌≤◌, length, string_bytes, arith, subst, slice_get, IfSome, rules}
 use Rattle.std.specs.Io.KnownBytes.{Appends}
 use Rattle.isle_layout.specs.Formats.{Formats}
 use Rattle.islec.proofs.PrintsLemmas.{Prints-pushed, Prints-all}
