@@ -3,3 +3,4 @@ pub mod Faults
 pub mod Statuses
 pub mod Writing
 pub mod Jobs
+pub mod Formatting

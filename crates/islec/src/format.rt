@@ -1,7 +1,10 @@
 //! Printing texts by the layout.
-ghost use Rattle.std.specs.Prelude.{◌<◌, ◌≢◌, length, IfErr, IfOk};
+ghost use Rattle.std.specs.Prelude.{◌≡◌, ◌<◌, ◌≢◌, length, map, slice_get, string_bytes, IfErr, IfOk, IfSome};
+ghost use Rattle.isle_layout.specs.Formats.{Formats};
 ghost use Rattle.isle_syntax.specs.Errors.{RefusalAt};
+ghost use Rattle.isle_syntax.specs.Files.{source_file};
 ghost use Rattle.isle_syntax.specs.Positions.{HasPlaceAt};
+ghost use Rattle.islec.specs.Formatting.{WritesPrints, WritesFault};
 ghost use Rattle.islec.specs.declared.status.Status.{Status};
 
 use crate::perform::write_faults;
@@ -21,7 +24,11 @@ pub fn format<W: Write>(
     texts: Vec<(String, String)>,
     writer: &mut W,
 ) -> Result<Status, ServeFault>
-    ensures { IfOk result (λ status. status ≢ Status.Usage) }
+    ensures printed { IfOk result (λ status. status ≡ Status.AllWell → WritesPrints width
+        (map source_file texts.items) (W.contents writer.old) (W.contents writer.new)) }
+    ensures refused { IfOk result (λ status. status ≡ Status.TextsRefused → WritesFault
+        (map source_file texts.items) (W.contents writer.old) (W.contents writer.new)) }
+    ensures other { IfOk result (λ status. status ≢ Status.Usage) }
 {
     let files = Rc::new(alloc, Files::from_names_and_contents(alloc, texts)?)?;
     let mut printed = String::new(alloc);
@@ -49,6 +56,8 @@ fn print_file(
     width: u32,
 ) -> Result<String, Refusal<Error>>
     requires { file < length files.now }
+    ensures text { IfSome (slice_get files.now file) (λ from. IfOk result
+        (λ once. Formats file width from.text (string_bytes once))) }
     ensures printable { IfErr result (RefusalAt (HasPlaceAt files.now)) }
 {
     let Some(text) = files.file_text(file) else {

@@ -1,6 +1,11 @@
 //! A whole command on texts.
-ghost use Rattle.std.specs.Prelude.{◌≡◌, ◌≢◌, IfOk};
+ghost use Rattle.std.specs.Prelude.{◌≡◌, ◌≢◌, ℕ, map, IfOk, OnOk};
+ghost use Rattle.std.specs.Io.KnownBytes.{Appends};
+ghost use Rattle.isle_syntax.specs.Errors.{report_text};
+ghost use Rattle.isle_syntax.specs.Files.{source_file};
+ghost use Rattle.islec.specs.Formatting.{WritesPrints, WritesFault};
 ghost use Rattle.islec.specs.Statuses.{code_of};
+ghost use Rattle.islec.specs.declared.line.Job.TheVariants.{Fmt};
 ghost use Rattle.islec.specs.declared.status.Status.{Status};
 
 use crate::format::format;
@@ -25,7 +30,11 @@ pub fn perform<R: Read, W: Write>(
     reader: &mut R,
     writer: &mut W,
 ) -> u8
-    ensures { (status : Status) × (status ≢ Status.Usage) × (result ≡ code_of status) }
+    ensures formatted { (width : ℕ) → job ≡ Fmt width → result ≡ 0 → WritesPrints width
+        (map source_file texts.items) (W.contents writer.old) (W.contents writer.new) }
+    ensures refused { (width : ℕ) → job ≡ Fmt width → result ≡ 1 → WritesFault
+        (map source_file texts.items) (W.contents writer.old) (W.contents writer.new) }
+    ensures ends { (status : Status) × (status ≢ Status.Usage) × (result ≡ code_of status) }
 {
     let done = match job {
         Job::Run { depth } => run(alloc, depth, texts, reader, writer),
@@ -68,7 +77,10 @@ pub(crate) fn write_faults<W: Write>(
     alloc: Global,
     errors: &Errors,
     writer: &mut W,
-) -> Result<(), ServeFault> {
+) -> Result<(), ServeFault>
+    ensures { OnOk result
+        (Appends (W.contents writer.old) (W.contents writer.new) (report_text errors.now)) }
+{
     let text = errors.to_string(alloc)?;
     write_text(writer, text.as_str())
 }

@@ -1,0 +1,21 @@
+-- What is printed of files.
+use Rattle.std.specs.Prelude.{◌≡◌, ℕ, suc, List, [], ◌∷◌, ◌++◌, Option}
+use Rattle.std.specs.Io.KnownBytes.{Appends}
+use Rattle.isle_syntax.specs.Errors.{report_text}
+use Rattle.isle_syntax.specs.Files.{SourceFile}
+use Rattle.isle_syntax.specs.declared.error.Error.{Error}
+use Rattle.isle_layout.specs.Formats.{Formats}
+
+-- what is printed of files one after another at this width, which are numbered from `first`
+abbrev pub Prints : (width first : ℕ) → List SourceFile → List ℕ → Type 0
+Prints width first [] out = out ≡ []
+Prints width first (file ∷ others) out = (one rest : List ℕ) × Formats first width file.text one
+    × Prints width (suc first) others rest × (out ≡ one ++ rest)
+
+-- a writer that held `old` holds these bytes and behind them what is printed of the files
+abbrev pub WritesPrints : (width : ℕ) → List SourceFile → (old new : Option (List ℕ)) → Type 0
+WritesPrints width files old new = (out : List ℕ) × Prints width 0 files out × Appends old new out
+
+-- a writer that held `old` holds these bytes and behind them the report of one error in the files
+abbrev pub WritesFault : List SourceFile → (old new : Option (List ℕ)) → Type 0
+WritesFault files old new = (error : Error) × Appends old new (report_text (record { errors = error ∷ []; files = files }))
