@@ -1,1 +1,6 @@
-pub mod EnvironmentPlaces
+pub mod LaterPairs
+pub mod Lists
+pub mod NamePlaces
+pub mod Interning
+pub mod Tables
+pub mod ShownTypes

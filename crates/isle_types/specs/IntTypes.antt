@@ -1,5 +1,5 @@
 -- The integer types, and which numbers they have.
-use Rattle.std.specs.Prelude.{ℕ, ℤ, pos, negsuc, ◌-◌, ◌^◌, ◌+ℤ◌, ◌≤ℤ◌, Bool, true, false, List, if◌then◌else◌, codes}
+use Rattle.std.specs.Prelude.{ℕ, ℤ, pos, negsuc, ◌-◌, ◌^◌, ◌+ℤ◌, ◌≤ℤ◌, Bool, true, false, List, [], ◌∷◌, map, if◌then◌else◌, codes}
 use Rattle.isle_types.specs.declared.types.IntType.{IntType}
 use Rattle.isle_types.specs.declared.types.IntType.TheVariants.{U8, U16, U32, U64, U128, USize, I8, I16, I32, I64, I128, ISize}
 use Rattle.isle_types.specs.declared.types.BuiltinType.{BuiltinType}
@@ -71,6 +71,14 @@ spelt_number val big = if big then val +ℤ pos (2 ^ 128) else val
 abbrev pub builtin_name : BuiltinType → List ℕ
 builtin_name BoolType = codes "bool"
 builtin_name (Int int) = int_name int
+
+-- the builtin types, each at the place of its id
+abbrev pub builtin_types : List BuiltinType
+builtin_types = BoolType ∷ Int U8 ∷ Int U16 ∷ Int U32 ∷ Int U64 ∷ Int U128 ∷ Int USize ∷ Int I8 ∷ Int I16 ∷ Int I32 ∷ Int I64 ∷ Int I128 ∷ Int ISize ∷ []
+
+-- their names
+abbrev pub builtin_names : List (List ℕ)
+builtin_names = map builtin_name builtin_types
 
 -- the place of an integer type among the builtin ones, of which `bool` is the first
 abbrev pub int_place : IntType → ℕ

@@ -1,4 +1,10 @@
 pub mod IntTypes
 pub mod Types
-pub mod TypePlaces
+pub mod Names
+pub mod StableMaps
+pub mod Interned
 pub mod Environment
+pub mod TypeFaults
+pub mod TypePlaces
+pub mod TypeEnvs
+pub mod Readings

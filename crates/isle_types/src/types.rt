@@ -1,9 +1,12 @@
-ghost use Rattle.std.specs.Prelude.{◌≡◌, ◌↔◌, ◌-◌, ◌^◌, ◌≤ℤ◌, ℤ, pos, IsTrue};
+ghost use Rattle.std.specs.Prelude.{◌≡◌, ◌↔◌, ◌-◌, ◌^◌, ◌≤ℤ◌, ℤ, pos, IsTrue, IfOk, map};
+ghost use Rattle.isle_types.specs.declared.types.StructField.{StructField};
+ghost use Rattle.isle_types.specs.declared.types.TupleField.{TupleField};
 ghost use Rattle.isle_types.specs.IntTypes.{int_name, has_sign, HasNumber, least_of, greatest_of, spelt_number, builtin_name, builtin_place};
 
 use crate::ids::{FieldId, Sym, TypeId, VariantId};
 use isle_syntax::Seq;
 use isle_syntax::lexer::Pos;
+use std::alloc::{AllocError, Global};
 use std::fmt;
 
 /// An integer type. `usize` and `isize` have 64 bits.
@@ -167,9 +170,13 @@ impl TypeId {
 }
 
 /// A type of the environment.
-#[derive(Debug, Drop)]
+#[derive(Debug, Clone, PartialEq, Eq, Drop)]
 pub enum Type {
+    /// A type that needs no definition.
     Builtin(BuiltinType),
+    /// A type of the host: its id, the name that the host has for it, and where it is defined.
+    Primitive(TypeId, Sym, Pos),
+    /// A type of variants.
     Enum {
         name: Sym,
         id: TypeId,
@@ -178,11 +185,20 @@ pub enum Type {
         variants: Seq<Variant>,
         pos: Pos,
     },
+    /// A type of one list of fields.
+    Struct {
+        name: Sym,
+        id: TypeId,
+        is_extern: bool,
+        is_nodebug: bool,
+        fields: Fields,
+        pos: Pos,
+    },
 }
 
 impl Type {
-    ghost use Rattle.std.specs.Prelude.{◌≡◌, false};
-    ghost use Rattle.isle_types.specs.Types.{id_of, position_of, is_int_type};
+    ghost use Rattle.std.specs.Prelude.{◌≡◌};
+    ghost use Rattle.isle_types.specs.Types.{id_of, position_of, is_int_type, is_primitive_type};
 
     /// The type's id.
     pub fn id(&self) -> TypeId
@@ -190,7 +206,7 @@ impl Type {
     {
         match self {
             Type::Builtin(builtin) => TypeId::builtin(*builtin),
-            Type::Enum { id, .. } => *id,
+            Type::Primitive(id, ..) | Type::Enum { id, .. } | Type::Struct { id, .. } => *id,
         }
     }
 
@@ -200,30 +216,29 @@ impl Type {
     {
         match self {
             Type::Builtin(_) => None,
-            Type::Enum { pos, .. } => Some(*pos),
+            Type::Primitive(_, _, pos) | Type::Enum { pos, .. } | Type::Struct { pos, .. } => {
+                Some(*pos)
+            }
         }
     }
 
-    /// Whether the type is a primitive.
+    /// Whether the type is a type of the host.
     pub fn is_prim(&self) -> bool
-        ensures { result ≡ false }
+        ensures { result ≡ is_primitive_type self.now }
     {
-        false
+        matches!(self, Type::Primitive(..))
     }
 
     /// Whether the type is an integer type.
     pub fn is_int(&self) -> bool
         ensures { result ≡ is_int_type self.now }
     {
-        match self {
-            Type::Builtin(BuiltinType::Int(_)) => true,
-            _ => false,
-        }
+        matches!(self, Type::Builtin(BuiltinType::Int(_)))
     }
 }
 
 /// A variant of an enum; `fullname` is `enum.variant`.
-#[derive(Debug, Drop)]
+#[derive(Debug, Clone, PartialEq, Eq, Drop)]
 pub struct Variant {
     pub name: Sym,
     pub fullname: Sym,
@@ -232,15 +247,48 @@ pub struct Variant {
     pub pos: Pos,
 }
 
-/// The fields of a variant. No fields are always `Unit`.
-#[derive(Debug, Drop)]
+/// The fields of a variant or struct.
+#[derive(Debug, Clone, PartialEq, Eq, Drop)]
 pub enum Fields {
     Unit,
     Struct(StructFields),
+    Tuple(TupleFields),
+}
+
+impl Fields {
+    ghost use Rattle.std.specs.Prelude.{◌≡◌, IfOk};
+    ghost use Rattle.isle_types.specs.Types.{field_types};
+
+    /// The types of the fields, in order.
+    pub fn types(&self, alloc: Global) -> Result<Vec<TypeId>, AllocError>
+        ensures { IfOk result (λ types. types.items ≡ field_types self.now) }
+    {
+        match self {
+            Fields::Unit => Ok(Vec::new(alloc)),
+            Fields::Struct(fields) => named_types(alloc, fields.fields.as_slice()),
+            Fields::Tuple(fields) => unnamed_types(alloc, fields.fields.as_slice()),
+        }
+    }
+}
+
+/// The types of named fields, in order.
+fn named_types(alloc: Global, fields: &[StructField]) -> Result<Vec<TypeId>, AllocError>
+    ensures { IfOk result (λ types. types.items ≡ map (λ (field : StructField). field.ty) fields.now) }
+{
+    let types = fields.iter().map(|field| field.ty).collect(alloc)?;
+    Ok(types)
+}
+
+/// The types of fields without names, in order.
+fn unnamed_types(alloc: Global, fields: &[TupleField]) -> Result<Vec<TypeId>, AllocError>
+    ensures { IfOk result (λ types. types.items ≡ map (λ (field : TupleField). field.ty) fields.now) }
+{
+    let types = fields.iter().map(|field| field.ty).collect(alloc)?;
+    Ok(types)
 }
 
 /// Named fields, in order.
-#[derive(Debug, Drop)]
+#[derive(Debug, Clone, PartialEq, Eq, Drop)]
 pub struct StructFields {
     pub fields: Seq<StructField>,
 }
@@ -249,6 +297,19 @@ pub struct StructFields {
 #[derive(Debug, Clone, Copy, PartialEq, Eq)]
 pub struct StructField {
     pub name: Sym,
+    pub id: FieldId,
+    pub ty: TypeId,
+}
+
+/// Fields without names, in order.
+#[derive(Debug, Clone, PartialEq, Eq, Drop)]
+pub struct TupleFields {
+    pub fields: Seq<TupleField>,
+}
+
+/// A field without a name.
+#[derive(Debug, Clone, Copy, PartialEq, Eq)]
+pub struct TupleField {
     pub id: FieldId,
     pub ty: TypeId,
 }

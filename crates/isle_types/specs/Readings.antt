@@ -1,0 +1,154 @@
+-- What stands in an environment while definitions are read into it.
+use Rattle.std.specs.Prelude.{◌≡◌, ◌≢◌, ℕ, ◌<◌, List, [], ◌∷◌, ◌++◌, map, length, All, Option, Some, None, slice_get, Contains}
+use Rattle.std.specs.Option.{option_map}
+use Rattle.std.specs.List.{AllZip}
+use Rattle.isle_syntax.specs.declared.lexer.Pos.{Pos}
+use Rattle.isle_syntax.specs.declared.error.Error.{Error}
+use Rattle.isle_syntax.specs.declared.error.Error.TheVariants.{ParseError, TypeError, UnreachableError, OverlapError, ShadowedError, SizeError}
+use Rattle.isle_syntax.specs.declared.ast.Fields.{Fields as FieldTrees}
+use Rattle.isle_syntax.specs.declared.ast.Fields.TheVariants.{Struct as struct_field_trees, Tuple as tuple_field_trees}
+use Rattle.isle_syntax.specs.declared.ast.StructField.{StructField as StructFieldTree}
+use Rattle.isle_syntax.specs.declared.ast.TupleField.{TupleField as TupleFieldTree}
+use Rattle.isle_syntax.specs.declared.ast.Variant.{Variant as VariantTree}
+use Rattle.isle_syntax.specs.declared.ast.«Type».{«Type» as TypeTree}
+use Rattle.isle_syntax.specs.declared.ast.Ident.{Ident}
+use Rattle.isle_syntax.specs.declared.ast.Def.{Def}
+use Rattle.isle_types.specs.declared.types.StructField.{StructField}
+use Rattle.isle_types.specs.declared.types.TupleField.{TupleField}
+use Rattle.isle_types.specs.declared.types.Fields.{Fields}
+use Rattle.isle_types.specs.declared.types.Variant.{Variant}
+use Rattle.isle_types.specs.declared.types.«Type».{«Type» as KnownType}
+use Rattle.isle_types.specs.declared.types.«Type».TheVariants.{Builtin}
+use Rattle.isle_types.specs.declared.env.TypeEnv.{TypeEnv}
+use Rattle.isle_types.specs.IntTypes.{builtin_types, builtin_names}
+use Rattle.isle_types.specs.Types.{id_of}
+use Rattle.isle_types.specs.Names.{place_of, Keeps}
+use Rattle.isle_types.specs.Environment.{NamedType, NamedVariant, FieldList, IsField, IsTupleField, AreFields, IsVariant, IsType, IsConstant, type_definitions, constant_definitions, type_names, constant_in, field_count, HaveAllowedSizes, HasAllowedSize}
+use Rattle.isle_types.specs.TypeFaults.{Breaks, Exceeds, FieldsBreak, VariantsBreak, TypeBreaks, IsTypeFault, IsSizeFault}
+use Rattle.isle_types.specs.TypeEnvs.{names_of, types_of, errors_of, type_of_name, type_of_constant, type_at, CountUp, IsShownField, IsShownTupleField, AreShownFields, IsShownVariant, IsShown}
+
+-- its table of types has exactly these names, each with its place
+abbrev pub HasTypeNames : TypeEnv → List (List ℕ) → Type 0
+HasTypeNames env known = (name : List ℕ) → type_of_name env name ≡ option_map type_at (place_of known name)
+
+-- named fields are those of their trees
+pub record ReadsFields (known names : List (List ℕ)) (trees : List StructFieldTree) (made : List StructField) : Type 0 where
+  pub fields : List (List ℕ × ℕ)
+  pub meant : AllZip (IsField known) trees fields
+  pub shown : AllZip (IsShownField names) fields made
+  pub counted : CountUp (λ (field : StructField). field.id.0) 0 made
+
+-- fields without names are those of their trees
+pub record ReadsTupleFields (known : List (List ℕ)) (trees : List TupleFieldTree) (made : List TupleField) : Type 0 where
+  pub numbers : List ℕ
+  pub meant : AllZip (IsTupleField known) trees numbers
+  pub shown : AllZip IsShownTupleField numbers made
+  pub counted : CountUp (λ (field : TupleField). field.id.0) 0 made
+
+-- the fields of a variant or struct are those of their tree
+pub record ReadsFieldList (known names : List (List ℕ)) (tree : FieldTrees) (made : Fields) : Type 0 where
+  pub fields : FieldList
+  pub meant : AreFields known tree fields
+  pub shown : AreShownFields names fields made
+
+-- variants of the type of a name are those of their trees
+pub record ReadsVariants (known names : List (List ℕ)) (type : List ℕ) (trees : List VariantTree) (made : List Variant) : Type 0 where
+  pub variants : List NamedVariant
+  pub meant : AllZip (IsVariant known) trees variants
+  pub shown : AllZip (IsShownVariant names type) variants made
+  pub counted : CountUp (λ (variant : Variant). variant.id.0) 0 made
+
+-- a variant is that of its tree
+pub record ReadsVariant (known names : List (List ℕ)) (type : List ℕ) (tree : VariantTree) (made : Variant) : Type 0 where
+  pub variant : NamedVariant
+  pub meant : IsVariant known tree variant
+  pub shown : IsShownVariant names type variant made
+
+-- a type is that of its definition
+pub record ReadsType (known names : List (List ℕ)) (tree : TypeTree) (made : KnownType) : Type 0 where
+  pub type : NamedType
+  pub meant : IsType known tree type
+  pub shown : IsShown names type made
+
+-- types are those of their definitions
+pub record ReadsTypes (known names : List (List ℕ)) (trees : List TypeTree) (made : List KnownType) : Type 0 where
+  pub types : List NamedType
+  pub meant : AllZip (IsType known) trees types
+  pub shown : AllZip (IsShown names) types made
+
+-- constants are those of their definitions
+pub record ReadsConstants (known : List (List ℕ)) (env : TypeEnv) (trees : List (Ident × Ident)) : Type 0 where
+  pub constants : List (List ℕ × ℕ)
+  pub meant : AllZip (IsConstant known) trees constants
+  pub shown : (name : List ℕ) → type_of_constant env name ≡ option_map type_at (constant_in constants name)
+
+-- a type error where a rule is broken, or a size error where a size is passed
+abbrev pub IsReadingFault : (Pos → Type 0) → (Pos → Type 0) → Error → Type 0
+IsReadingFault Broken Passed (TypeError _ span) = Broken span.from
+IsReadingFault Broken Passed (SizeError _ span) = Passed span.from
+IsReadingFault Broken Passed (ParseError _ _) = ⊥
+IsReadingFault Broken Passed (UnreachableError _ _) = ⊥
+IsReadingFault Broken Passed (OverlapError _ _) = ⊥
+IsReadingFault Broken Passed (ShadowedError _ _) = ⊥
+
+-- a fault of fields in the definition at a position
+abbrev pub IsFieldsFault : List (List ℕ) → Pos → FieldTrees → Error → Type 0
+IsFieldsFault known here fields = IsReadingFault (FieldsBreak known fields) (λ pos. (pos ≡ here) × (255 < field_count fields))
+
+-- a fault of named fields: at a rule that they break
+abbrev pub IsStructFieldsFault : List (List ℕ) → List StructFieldTree → Error → Type 0
+IsStructFieldsFault known trees = IsTypeFault (FieldsBreak known (struct_field_trees (record { fields = trees })))
+
+-- a fault of fields without names: at a rule that they break
+abbrev pub IsTupleFieldsFault : List (List ℕ) → List TupleFieldTree → Error → Type 0
+IsTupleFieldsFault known trees = IsTypeFault (FieldsBreak known (tuple_field_trees (record { fields = trees })))
+
+-- a fault of variants in the definition at a position
+abbrev pub IsVariantsFault : List (List ℕ) → Pos → List VariantTree → Error → Type 0
+IsVariantsFault known here variants = IsReadingFault (VariantsBreak known variants) (λ pos. (pos ≡ here) × (HaveAllowedSizes variants → ⊥))
+
+-- a fault of a definition of a type
+abbrev pub IsDefinitionFault : List (List ℕ) → TypeTree → Error → Type 0
+IsDefinitionFault known tree = IsReadingFault (TypeBreaks known tree) (λ pos. (pos ≡ tree.pos) × (HasAllowedSize tree.ty → ⊥))
+
+-- a type error at a position
+abbrev pub IsTypeErrorAt : Pos → Error → Type 0
+IsTypeErrorAt here error = IsTypeFault (λ pos. pos ≡ here) error
+
+-- a size error at a position
+abbrev pub IsSizeErrorAt : Pos → Error → Type 0
+IsSizeErrorAt here error = IsSizeFault (λ pos. pos ≡ here) error
+
+-- faults of definitions: type errors, each where a rule is broken
+abbrev pub AreTypeFaults : List Def → List Error → Type 0
+AreTypeFaults defs errors = All (IsTypeFault (Breaks defs)) errors
+
+-- one size error, where a size is passed
+abbrev pub IsLoneSizeFault : List Def → List Error → Type 0
+IsLoneSizeFault defs [] = ⊥
+IsLoneSizeFault defs (error ∷ []) = IsSizeFault (Exceeds defs) error
+IsLoneSizeFault defs (error ∷ _ ∷ _) = ⊥
+
+-- the types that were read, if nothing is wrong so far: their ids count up, and each is that of its definition
+pub record HasReadTypes (trees : List TypeTree) (known : List (List ℕ)) (env : TypeEnv) : Type 0 where
+  pub made : List KnownType
+  pub all : types_of env ≡ map Builtin builtin_types ++ made
+  pub read : ReadsTypes known (names_of env) trees made
+  pub counted : CountUp (λ (type : KnownType). (id_of type).0) 0 (types_of env)
+
+-- all but the table of types and the interned names is as it was
+pub record SameButTypes (old new : TypeEnv) : Type 0 where
+  pub types : types_of new ≡ types_of old
+  pub constants : (name : List ℕ) → type_of_constant new name ≡ type_of_constant old name
+
+-- so are the errors
+pub record SameButNames (old new : TypeEnv) : Type 0 where
+  pub types : types_of new ≡ types_of old
+  pub errors : errors_of new ≡ errors_of old
+  pub constants : (name : List ℕ) → type_of_constant new name ≡ type_of_constant old name
+
+-- all but the table of constants and the errors is as it was, and names are kept
+pub record SameButConstants (old new : TypeEnv) : Type 0 where
+  pub names : Keeps (names_of old) (names_of new)
+  pub types : types_of new ≡ types_of old
+  pub named : (name : List ℕ) → type_of_name new name ≡ type_of_name old name

@@ -1,0 +1,32 @@
+-- What the contracts of `StableSet` and `StableMap` cite. A set is seen as its members, a map as its entries.
+use Rattle.std.specs.Prelude.{◌≡◌, ℕ, Bool, List, reverse, Option, String, bytes_eq, string_bytes}
+use Rattle.std.specs.List.{list_any, IsDistinct, AllZip}
+use Rattle.std.specs.Map.{keys_of, lookup}
+
+-- whether a member is equal to x
+abbrev pub has : {T : Type 0} → (T → T → Bool) → List T → T → Bool
+has eq members x = list_any (eq x) members
+
+-- no two entries have equal keys
+abbrev pub HasDistinctKeys : {K V : Type 0} → (K → K → Bool) → List (K × V) → Type 0
+HasDistinctKeys eq entries = IsDistinct eq (keys_of entries)
+
+-- the value at the key k
+abbrev pub value_at : {K V : Type 0} → (K → K → Bool) → List (K × V) → K → Option V
+value_at eq entries k = lookup (eq k) entries
+
+-- the value at the key whose bytes are those of a text
+abbrev pub value_at_text : {A V : Type 0} → List (String A × V) → List ℕ → Option V
+value_at_text entries text = lookup (λ k. bytes_eq text (string_bytes k)) entries
+
+-- each new member is a clone of the old one in its place
+abbrev pub AreClones : {T : Type 0} → (T → T → Type 0) → List T → List T → Type 0
+AreClones is_clone old new = AllZip is_clone old new
+
+-- each new entry is a clone of the old one in its place
+abbrev pub AreEntryClones : {K V : Type 0} → (K → K → Type 0) → (V → V → Type 0) → List (K × V) → List (K × V) → Type 0
+AreEntryClones key_is_clone value_is_clone old new = AllZip (λ e f. key_is_clone e.0 f.0 × value_is_clone e.1 f.1) old new
+
+-- at each key the entries have the value of the last pair with this key, and no two have equal keys
+abbrev pub HoldsLastOf : {K V : Type 0} → (K → K → Bool) → List (K × V) → List (K × V) → Type 0
+HoldsLastOf {K} eq pairs entries = ((k : K) → value_at eq entries k ≡ value_at eq (reverse pairs) k) × HasDistinctKeys eq entries

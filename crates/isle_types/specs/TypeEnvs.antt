@@ -1,0 +1,168 @@
+-- What an environment of types holds, and which types and constants it shows.
+use Rattle.std.specs.Prelude.{◌≡◌, ℕ, suc, ◌<◌, Bool, true, false, List, [], ◌∷◌, ◌++◌, map, All, Option, Some, None, ◌==◌, IsSome, slice_get, codes}
+use Rattle.std.specs.Option.{option_map, option_and_then}
+use Rattle.std.specs.List.{AllZip}
+use Rattle.isle_types.specs.declared.ids.Sym.{Sym}
+use Rattle.isle_types.specs.declared.ids.TypeId.{TypeId}
+use Rattle.isle_types.specs.declared.ids.VariantId.{VariantId}
+use Rattle.isle_syntax.specs.Files.{SourceFile}
+use Rattle.isle_syntax.specs.Positions.{HasPlaceAt}
+use Rattle.isle_syntax.specs.Errors.{IsPrintable}
+use Rattle.isle_syntax.specs.declared.error.Error.{Error}
+use Rattle.isle_syntax.specs.declared.error.Error.TheVariants.{SizeError}
+use Rattle.isle_types.specs.declared.types.StructField.{StructField}
+use Rattle.isle_types.specs.declared.types.TupleField.{TupleField}
+use Rattle.isle_types.specs.declared.types.Fields.{Fields}
+use Rattle.isle_types.specs.declared.types.Fields.TheVariants.{Unit as NoFields, Struct as NamedFields, Tuple as UnnamedFields}
+use Rattle.isle_types.specs.declared.types.Variant.{Variant}
+use Rattle.isle_types.specs.declared.types.«Type».{«Type» as KnownType}
+use Rattle.isle_types.specs.declared.types.«Type».TheVariants.{Builtin, Primitive, Enum, Struct}
+use Rattle.isle_types.specs.declared.env.TypeEnv.{TypeEnv}
+use Rattle.isle_types.specs.IntTypes.{builtin_name, builtin_types}
+use Rattle.isle_types.specs.Types.{id_of}
+use Rattle.isle_types.specs.Names.{place_of, Keeps}
+use Rattle.isle_types.specs.Interned.{entry_of}
+use Rattle.isle_types.specs.Environment.{Environment, NamedType, NamedVariant, FieldList, no_fields, named_fields, tuple_fields, TypeShape, primitive, enum, struct, names_in, constant_in}
+use Rattle.isle_types.specs.TypePlaces.{TypeAt}
+
+-- the errors that it keeps, in the order in which they came
+abbrev pub errors_of : TypeEnv → List Error
+errors_of env = env.errors.items
+
+-- its types, each at the place of its id
+abbrev pub types_of : TypeEnv → List KnownType
+types_of env = env.types.items
+
+-- the interned names, each at the place of its symbol
+abbrev pub names_of : TypeEnv → List (List ℕ)
+names_of env = env.symbols
+
+-- the positions of its types and its errors can be printed
+pub record HasPlaces (files : List SourceFile) (env : TypeEnv) : Type 0 where
+  pub types : All (TypeAt (HasPlaceAt files)) (types_of env)
+  pub errors : All (IsPrintable files) (errors_of env)
+
+-- whether an error is a size error
+abbrev pub is_size_error : Error → Bool
+is_size_error (SizeError _ _) = true
+is_size_error _ = false
+
+-- the symbol of a place
+abbrev pub symbol_at : ℕ → Sym
+symbol_at place = record { 0 = place }
+
+-- the type of a number
+abbrev pub type_at : ℕ → TypeId
+type_at number = record { 0 = number }
+
+-- the symbol of a name
+abbrev pub sym_named : TypeEnv → List ℕ → Option Sym
+sym_named env name = option_map symbol_at (place_of (names_of env) name)
+
+-- the name of a symbol
+abbrev pub name_of : TypeEnv → Sym → Option (List ℕ)
+name_of env sym = slice_get (names_of env) sym.0
+
+-- what a table from symbols has at a name
+abbrev pub entry_named : TypeEnv → List (Sym × TypeId) → List ℕ → Option TypeId
+entry_named env table name = option_and_then (entry_of table) (sym_named env name)
+
+-- the type of a name
+abbrev pub type_of_name : TypeEnv → List ℕ → Option TypeId
+type_of_name env name = entry_named env env.type_map name
+
+-- the type of the constant of a name
+abbrev pub type_of_constant : TypeEnv → List ℕ → Option TypeId
+type_of_constant env name = entry_named env env.const_types name
+
+-- the names are kept, and each table has at each name what it had
+pub record SameTables (old new : TypeEnv) : Type 0 where
+  pub names : Keeps (names_of old) (names_of new)
+  pub types : types_of new ≡ types_of old
+  pub errors : errors_of new ≡ errors_of old
+  pub named : (name : List ℕ) → type_of_name new name ≡ type_of_name old name
+  pub constants : (name : List ℕ) → type_of_constant new name ≡ type_of_constant old name
+
+-- the name that a type's values have in the host: a builtin type's own, and else the name of its symbol
+abbrev pub type_name : TypeEnv → KnownType → Option (List ℕ)
+type_name env (Builtin builtin) = Some (builtin_name builtin)
+type_name env (Primitive id name pos) = name_of env name
+type_name env (Enum name id is_extern is_nodebug variants pos) = name_of env name
+type_name env (Struct name id is_extern is_nodebug fields pos) = name_of env name
+
+-- the variants of a type; none where it is no enum
+abbrev pub variants_of : KnownType → List Variant
+variants_of (Builtin builtin) = []
+variants_of (Primitive id name pos) = []
+variants_of (Enum name id is_extern is_nodebug variants pos) = variants
+variants_of (Struct name id is_extern is_nodebug fields pos) = []
+
+-- a variant of a type
+abbrev pub variant_of : TypeEnv → TypeId → VariantId → Option Variant
+variant_of env ty variant = option_and_then (λ (type : KnownType). slice_get (variants_of type) variant.0) (slice_get (types_of env) ty.0)
+
+-- the numbers of the items count up from n
+abbrev pub CountUp : {X : Type 0} → (X → ℕ) → ℕ → List X → Type 0
+CountUp number n [] = Unit {0}
+CountUp number n (x ∷ xs) = (number x ≡ n) × CountUp number (suc n) xs
+
+-- a named field, where these are the interned names
+pub record IsShownField (names : List (List ℕ)) (field : List ℕ × ℕ) (made : StructField) : Type 0 where
+  pub name : slice_get names made.name.0 ≡ Some field.0
+  pub type : made.ty.0 ≡ field.1
+
+-- a field without a name
+abbrev pub IsShownTupleField : ℕ → TupleField → Type 0
+IsShownTupleField number made = made.ty.0 ≡ number
+
+-- fields, whose ids count up
+abbrev pub AreShownFields : List (List ℕ) → FieldList → Fields → Type 0
+AreShownFields names no_fields NoFields = Unit {0}
+AreShownFields names (named_fields fields) (NamedFields made) = AllZip (IsShownField names) fields made.fields × CountUp (λ (field : StructField). field.id.0) 0 made.fields
+AreShownFields names (tuple_fields numbers) (UnnamedFields made) = AllZip IsShownTupleField numbers made.fields × CountUp (λ (field : TupleField). field.id.0) 0 made.fields
+AreShownFields names _ _ = ⊥
+
+-- a variant of the type of a name; its full name is `type.variant`
+pub record IsShownVariant (names : List (List ℕ)) (type : List ℕ) (variant : NamedVariant) (made : Variant) : Type 0 where
+  pub name : slice_get names made.name.0 ≡ Some variant.name
+  pub fullname : slice_get names made.fullname.0 ≡ Some (type ++ codes "." ++ variant.name)
+  pub fields : AreShownFields names variant.fields made.fields
+  pub pos : made.pos ≡ variant.pos
+
+-- variants of the type of a name, whose ids count up
+abbrev pub AreShownVariants : List (List ℕ) → List ℕ → List NamedVariant → List Variant → Type 0
+AreShownVariants names type variants made = AllZip (IsShownVariant names type) variants made × CountUp (λ (variant : Variant). variant.id.0) 0 made
+
+-- what an enum or struct has beside its shape
+pub record IsShownAs (names : List (List ℕ)) (type : NamedType) (sym : Sym) (extern_mark nodebug_mark : Bool) : Type 0 where
+  pub name : slice_get names sym.0 ≡ Some type.name
+  pub is_extern : extern_mark ≡ type.is_extern
+  pub is_nodebug : nodebug_mark ≡ type.is_nodebug
+
+-- what a type is made of
+abbrev pub IsShownShape : List (List ℕ) → NamedType → TypeShape → KnownType → Type 0
+IsShownShape names type (primitive host) (Primitive id name pos) = slice_get names name.0 ≡ Some host
+IsShownShape names type (enum variants) (Enum name id is_extern is_nodebug made pos) = IsShownAs names type name is_extern is_nodebug × AreShownVariants names type.name variants made
+IsShownShape names type (struct fields) (Struct name id is_extern is_nodebug made pos) = IsShownAs names type name is_extern is_nodebug × AreShownFields names fields made
+IsShownShape names type _ _ = ⊥
+
+-- where a defined type stands
+abbrev pub StandsAt : KnownType → NamedType → Type 0
+StandsAt (Builtin builtin) type = ⊥
+StandsAt (Primitive id name pos) type = pos ≡ type.pos
+StandsAt (Enum name id is_extern is_nodebug variants pos) type = pos ≡ type.pos
+StandsAt (Struct name id is_extern is_nodebug fields pos) type = pos ≡ type.pos
+
+-- a type, where these are the interned names
+pub record IsShown (names : List (List ℕ)) (type : NamedType) (made : KnownType) : Type 0 where
+  pub shape : IsShownShape names type type.shape made
+  pub pos : StandsAt made type
+
+-- an environment of types shows this one: its types in order, whose ids count up, and its tables of names
+pub record Shows (env : TypeEnv) (environment : Environment) : Type 0 where
+  pub made : List KnownType
+  pub all : types_of env ≡ map Builtin builtin_types ++ made
+  pub types : AllZip (IsShown (names_of env)) environment.types made
+  pub counted : CountUp (λ (type : KnownType). (id_of type).0) 0 (types_of env)
+  pub named : (name : List ℕ) → type_of_name env name ≡ option_map type_at (place_of (names_in environment) name)
+  pub constants : (name : List ℕ) → type_of_constant env name ≡ option_map type_at (constant_in environment.constants name)

@@ -1,0 +1,96 @@
+ghost use Rattle.std.specs.Prelude.{◌≡◌, [], ◌∷◌, ◌++◌, true, false, IfErr, OnOk, OnErr};
+ghost use Rattle.isle_syntax.specs.declared.error.Error.TheVariants.{TypeError, SizeError};
+ghost use Rattle.isle_syntax.specs.Errors.{IfFault, IsFaultAnd, span_at};
+ghost use Rattle.isle_types.specs.Environment.{Environment};
+ghost use Rattle.isle_types.specs.TypeEnvs.{errors_of, types_of, is_size_error, Shows};
+
+use super::TypeEnv;
+use isle_syntax::error::{Error, Span};
+use isle_syntax::lexer::Pos;
+use isle_syntax::{Refusal, Text};
+use std::alloc::AllocError;
+
+impl TypeEnv {
+    /// Keeps a type error. A size error, alone, and want of memory are handed on.
+    pub fn keep(&mut self, refusal: Refusal<Error>) -> Result<(), Refusal<Vec<Error>>>
+        ensures ok { OnOk result (IsFaultAnd refusal (λ error. (is_size_error error ≡ false)
+            × (errors_of self.new ≡ errors_of self.old ++ error ∷ []))) }
+        ensures err { OnErr result (errors_of self.new ≡ errors_of self.old) }
+        ensures size { IfErr result (λ r. IfFault r (λ errors. IsFaultAnd refusal
+            (λ error. (is_size_error error ≡ true) × (errors.items ≡ error ∷ [])))) }
+        ensures same_types { types_of self.new ≡ types_of self.old }
+        ensures shown { (e : Environment) → Shows self.old e → Shows self.new e }
+    {
+        match refusal {
+            Refusal::Memory(e) => Err(Refusal::Memory(e)),
+            Refusal::Fault(Error::SizeError { msg, span }) => {
+                let mut errors = Vec::new(self.alloc);
+                errors.push(Error::SizeError { msg, span })?;
+                Err(Refusal::Fault(errors))
+            }
+            Refusal::Fault(error) => {
+                self.errors.push(error)?;
+                Ok(())
+            }
+        }
+    }
+
+    /// A type error at a position, or want of memory for its message.
+    pub fn type_error(&self, pos: Pos, msg: &str) -> Refusal<Error>
+        ensures { IfFault result (λ error. error ≡ TypeError msg.now (span_at pos)) }
+    {
+        match Text::from_str(self.alloc, msg) {
+            Ok(msg) => Refusal::Fault(Error::TypeError {
+                msg,
+                span: Span::at(pos),
+            }),
+            Err(e) => Refusal::Memory(e),
+        }
+    }
+
+    /// A size error at a position, or want of memory for its message.
+    pub fn size_error(&self, pos: Pos, msg: &str) -> Refusal<Error>
+        ensures { IfFault result (λ error. error ≡ SizeError msg.now (span_at pos)) }
+    {
+        match Text::from_str(self.alloc, msg) {
+            Ok(msg) => Refusal::Fault(Error::SizeError {
+                msg,
+                span: Span::at(pos),
+            }),
+            Err(e) => Refusal::Memory(e),
+        }
+    }
+
+    /// Keeps a type error at a position. Without memory nothing changes.
+    pub fn report_error(&mut self, pos: Pos, msg: &str) -> Result<(), AllocError>
+        ensures ok { OnOk result
+            (errors_of self.new ≡ errors_of self.old ++ TypeError msg.now (span_at pos) ∷ []) }
+        ensures err { OnErr result (errors_of self.new ≡ errors_of self.old) }
+        ensures same_types { types_of self.new ≡ types_of self.old }
+        ensures shown { (e : Environment) → Shows self.old e → Shows self.new e }
+    {
+        let msg = Text::from_str(self.alloc, msg)?;
+        self.errors.push(Error::TypeError {
+            msg,
+            span: Span::at(pos),
+        })?;
+        Ok(())
+    }
+
+    /// Takes the errors kept so far.
+    pub fn take_errors(&mut self) -> Vec<Error>
+        ensures taken { result.items ≡ errors_of self.old }
+        ensures none_left { errors_of self.new ≡ [] }
+        ensures same_types { types_of self.new ≡ types_of self.old }
+        ensures shown { (e : Environment) → Shows self.old e → Shows self.new e }
+    {
+        std::mem::replace(&mut self.errors, Vec::new(self.alloc))
+    }
+
+    /// The errors kept so far.
+    pub fn errors(&self) -> &[Error]
+        ensures { result.now ≡ errors_of self.now }
+    {
+        self.errors.as_slice()
+    }
+}

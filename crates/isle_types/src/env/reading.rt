@@ -1,0 +1,162 @@
+ghost use Rattle.std.specs.Prelude.{◌≡◌, ◌⊎◌, ◌<◌, ℕ, [], ◌∷◌, ◌++◌, List, All, Some, None, length, map, IfOk, IfErr, OnOk, is_none, if◌then◌else◌, bytes_eq};
+ghost use Rattle.isle_syntax.specs.Files.{SourceFile};
+ghost use Rattle.isle_syntax.specs.Positions.{HasPlaceAt};
+ghost use Rattle.isle_syntax.specs.Errors.{IfFault, RefusalsAt};
+ghost use Rattle.isle_syntax.specs.Places.{DefAt};
+ghost use Rattle.isle_types.specs.declared.types.«Type».TheVariants.{Builtin};
+ghost use Rattle.isle_types.specs.IntTypes.{builtin_types, builtin_names};
+ghost use Rattle.isle_types.specs.Names.{place_of, StandOnce};
+ghost use Rattle.isle_types.specs.Environment.{Makes, Environment, AreWithinSizes, builtin_environment, type_definitions, type_names, constant_definitions};
+ghost use Rattle.isle_types.specs.TypeEnvs.{errors_of, types_of, type_of_constant, HasPlaces, Shows};
+ghost use Rattle.isle_types.specs.Readings.{HasTypeNames, HasReadTypes, ReadsConstants, SameButNames, SameButTypes, SameButConstants, AreTypeFaults, IsLoneSizeFault};
+
+use super::TypeEnv;
+use crate::ids::TypeId;
+use crate::stablemapset::StableMap;
+use crate::symbols::Symbols;
+use crate::types::{BuiltinType, Type};
+use isle_syntax::ast::{Def, Extern, Ident};
+use isle_syntax::error::Error;
+use isle_syntax::Refusal;
+use std::alloc::{AllocError, Global};
+
+impl TypeEnv {
+    /// The environment of the builtin types.
+    pub fn new(alloc: Global) -> Result<TypeEnv, AllocError>
+        ensures no_errors { IfOk result (λ env. errors_of env ≡ []) }
+        ensures shown { IfOk result (λ env. Shows env builtin_environment) }
+    {
+        let mut env = TypeEnv {
+            alloc,
+            symbols: Symbols::new(alloc),
+            types: Vec::new(alloc),
+            type_map: StableMap::new(alloc),
+            const_types: StableMap::new(alloc),
+            errors: Vec::new(alloc),
+        };
+        for builtin in BuiltinType::ALL {
+            let id = TypeId(env.types.len());
+            env.name_type(builtin.name(), id)?;
+            env.types.push(Type::Builtin(builtin))?;
+        }
+        Ok(env)
+    }
+
+    /// The environment of these definitions' types and constants; every other definition is passed over.
+    /// A refusal lists type errors, each where a rule is broken, or one size error alone, where a
+    /// definition has a list of more than 255 fields.
+    pub fn from_ast(alloc: Global, defs: &[Def]) -> Result<TypeEnv, Refusal<Vec<Error>>>
+        ensures no_errors { IfOk result (λ env. errors_of env ≡ []) }
+        ensures within { OnOk result (AreWithinSizes defs.now) }
+        ensures made { IfOk result (λ env. (environment : Environment) × (Makes defs.now environment × Shows env environment)) }
+        ensures faults { IfErr result (λ r. IfFault r (λ errors. IsLoneSizeFault defs.now errors.items ⊎ (AreTypeFaults defs.now errors.items × (0 < length errors.items)))) }
+        ensures refused { IfErr result (λ r. IfFault r (λ _. (environment : Environment) → Makes defs.now environment → AreWithinSizes defs.now → ⊥)) }
+        ensures placed { (files : List SourceFile) → All (DefAt (HasPlaceAt files)) defs.now
+            → IfOk result (HasPlaces files) }
+        ensures printable { (files : List SourceFile) → All (DefAt (HasPlaceAt files)) defs.now
+            → IfErr result (RefusalsAt (HasPlaceAt files)) }
+    {
+        let mut env = TypeEnv::new(alloc)?;
+        env.collect_names(defs)?;
+        env.collect_types(defs)?;
+        env.collect_constants(defs)?;
+        let errors = env.take_errors();
+        if !errors.is_empty() {
+            return Err(Refusal::Fault(errors));
+        }
+        Ok(env)
+    }
+
+    /// Names a type, and tells whether the name is new. A name that is taken keeps its type.
+    fn name_type(&mut self, name: &str, id: TypeId) -> Result<bool, AllocError>
+        ensures new { (known : List (List ℕ)) → HasTypeNames self.old known
+            → IfOk result (λ new. new ≡ is_none (place_of known name.now)) }
+        ensures named { (known : List (List ℕ)) → HasTypeNames self.old known → id.0 ≡ length known
+            → OnOk result (HasTypeNames self.new (known ++ name.now ∷ [])) }
+        ensures same { SameButNames self.old self.new }
+    {
+        let sym = self.intern_str(name)?;
+        if self.type_map.contains_key(&sym) {
+            return Ok(false);
+        }
+        self.type_map.insert(sym, id)?;
+        Ok(true)
+    }
+
+    /// Gives each defined type its id, in order.
+    fn collect_names(&mut self, defs: &[Def]) -> Result<(), AllocError>
+        requires named { HasTypeNames self.old builtin_names }
+        requires no_errors { errors_of self.old ≡ [] }
+        ensures named { OnOk result (HasTypeNames self.new (type_names defs.now)) }
+        ensures faults { OnOk result (AreTypeFaults defs.now (errors_of self.new)) }
+        ensures once { OnOk result (errors_of self.new ≡ [] → StandOnce (type_names defs.now)) }
+        ensures same { SameButTypes self.old self.new }
+    {
+        let mut next = BuiltinType::ALL.len();
+        for def in defs {
+            if let Def::TypeDef(ty) = def {
+                if !self.name_type(ty.name.0.as_str(), TypeId(next))? {
+                    self.report_error(ty.pos, "a type of this name is defined already")?;
+                }
+                next += 1;
+            }
+        }
+        Ok(())
+    }
+
+    /// Makes the defined types, in order.
+    fn collect_types(&mut self, defs: &[Def]) -> Result<(), Refusal<Vec<Error>>>
+        requires named { HasTypeNames self.old (type_names defs.now) }
+        requires builtin { types_of self.old ≡ map Builtin builtin_types }
+        requires faults { AreTypeFaults defs.now (errors_of self.old) }
+        ensures named { HasTypeNames self.new (type_names defs.now) }
+        ensures sizes { OnOk result (errors_of self.new ≡ [] → AreWithinSizes defs.now) }
+        ensures read { OnOk result (errors_of self.new ≡ [] → (errors_of self.old ≡ []) × HasReadTypes (type_definitions defs.now) (type_names defs.now) self.new) }
+        ensures faults { OnOk result (AreTypeFaults defs.now (errors_of self.new)) }
+        ensures too_large { IfErr result (λ r. IfFault r (λ errors. IsLoneSizeFault defs.now errors.items)) }
+        ensures constants { (name : List ℕ) → type_of_constant self.new name ≡ type_of_constant self.old name }
+    {
+        for def in defs {
+            if let Def::TypeDef(ty) = def {
+                let id = TypeId(self.types.len());
+                match self.type_from_ast(id, ty) {
+                    Ok(made) => self.types.push(made)?,
+                    Err(refusal) => self.keep(refusal)?,
+                }
+            }
+        }
+        Ok(())
+    }
+
+    /// Keeps the type of each constant; of several of one name the last counts.
+    fn collect_constants(&mut self, defs: &[Def]) -> Result<(), AllocError>
+        requires named { HasTypeNames self.old (type_names defs.now) }
+        requires none { (name : List ℕ) → type_of_constant self.old name ≡ None }
+        requires faults { AreTypeFaults defs.now (errors_of self.old) }
+        ensures read { OnOk result (errors_of self.new ≡ [] → (errors_of self.old ≡ []) × ReadsConstants (type_names defs.now) self.new (constant_definitions defs.now)) }
+        ensures faults { OnOk result (AreTypeFaults defs.now (errors_of self.new)) }
+        ensures same { SameButConstants self.old self.new }
+    {
+        for def in defs {
+            if let Def::Extern(Extern::Const { name, ty, .. }) = def {
+                match self.get_type_by_name(ty) {
+                    Some(id) => self.set_constant(name, id)?,
+                    None => self.report_error(ty.1, "this type is not known")?,
+                }
+            }
+        }
+        Ok(())
+    }
+
+    /// Gives a constant its type, also where it has one already.
+    fn set_constant(&mut self, name: &Ident, ty: TypeId) -> Result<(), AllocError>
+        ensures set { OnOk result ((q : List ℕ) → type_of_constant self.new q
+            ≡ (if bytes_eq q name.now.0 then Some ty else type_of_constant self.old q)) }
+        ensures same { SameButConstants self.old self.new }
+        ensures errors { errors_of self.new ≡ errors_of self.old }
+    {
+        let sym = self.intern_str(name.0.as_str())?;
+        self.const_types.insert(sym, ty)?;
+        Ok(())
+    }
+}
