@@ -4,3 +4,8 @@ pub mod NamePlaces
 pub mod Interning
 pub mod Tables
 pub mod ShownTypes
+pub mod Twins
+pub mod NamedItems
+pub mod Told
+pub mod FieldReadings
+pub mod TypeReadings

@@ -1,7 +1,9 @@
 -- Items by their places.
-use Rattle.std.proofs.Common.{◌≡◌, ℕ, zero, suc, ◌+◌, ◌<◌, ◌⊎◌, inl, inr, List, [], ◌∷◌, ◌++◌, map, length, Option, Some, None, refl, ap, sym, ◌∙◌, arith, slice_get}
+use Rattle.std.proofs.Common.{◌≡◌, ℕ, zero, suc, ◌+◌, add-one, ◌<◌, ◌⊎◌, inl, inr, List, [], ◌∷◌, ◌++◌, map, length, Option, Some, None, refl, ap, sym, subst, ◌∙◌, arith, slice_get, take, drop}
+use Rattle.std.proofs.lemmas.List.{take-append-drop, length-take}
 use Rattle.std.specs.List.{AllZip}
-use Rattle.std.proofs.lemmas.Option.{same_Some, none-some, slice_get_within}
+use Rattle.std.proofs.lemmas.Option.{same_Some, none-some, slice_get_within, get_or_from_slice_get}
+use Rattle.std.proofs.Math.Seq.{take-suc}
 
 -- an item keeps its place when more come behind it
 pub slice_get-kept : {X : Type 0} (xs ys : List X) (i : ℕ) (x : X) → slice_get xs i ≡ Some x → slice_get (xs ++ ys) i ≡ Some x
@@ -31,3 +33,19 @@ AllZip-weaker R S weaker [] [] each = tt
 AllZip-weaker R S weaker [] (y ∷ ys) each = absurd each
 AllZip-weaker R S weaker (x ∷ xs) [] each = absurd each
 AllZip-weaker R S weaker (x ∷ xs) (y ∷ ys) each = (weaker x y each.0, AllZip-weaker R S weaker xs ys each.1)
+
+-- an item of a beginning has its place in the whole
+pub from_take : {X : Type 0} (xs : List X) (n i : ℕ) (x : X) → slice_get (take n xs) i ≡ Some x → slice_get xs i ≡ Some x
+from_take xs n i x at =
+    subst (λ ys. slice_get ys i ≡ Some x) (take-append-drop n xs) (slice_get-kept (take n xs) (drop n xs) i x at)
+
+-- and its place is below the beginning's end
+pub within-take : {X : Type 0} (xs : List X) (n i : ℕ) (x : X) → slice_get (take n xs) i ≡ Some x → i < n
+within-take xs n i x at =
+    let within = slice_get_within (take n xs) i x at in omega (arith, within, length-take n xs)
+
+-- a beginning, and one more
+pub taken_more : {X : Type 0} (xs : List X) (place : ℕ) (x : X) → slice_get xs place ≡ Some x → take (place + 1) xs ≡ take place xs ++ x ∷ []
+taken_more xs place x at =
+    ap (λ n. take n xs) (add-one place) ∙ take-suc xs place x (slice_get_within xs place x at)
+    ∙ ap (λ y. take place xs ++ y ∷ []) (get_or_from_slice_get xs place x x at)

@@ -15,7 +15,7 @@ use Rattle.isle_types.specs.TypeEnvs.{names_of, IsShownField, AreShownFields, Is
 use Rattle.isle_types.specs.Types.{id_of}
 use Rattle.isle_types.proofs.Lists.{AllZip-weaker}
 
-field_kept : (old new : List (List ℕ)) → Keeps old new → (field : List ℕ × ℕ) (made : StructField) → IsShownField old field made → IsShownField new field made
+pub field_kept : (old new : List (List ℕ)) → Keeps old new → (field : List ℕ × ℕ) (made : StructField) → IsShownField old field made → IsShownField new field made
 field_kept old new keeps field made shown = record {
   name = keeps made.name.0 field.0 shown.name;
   type = shown.type;

@@ -64,3 +64,13 @@ tables_kept old new name types errors type_map const_types (inr same) = record {
 pub interned_or_same : {A B : Type 0} {P Q : Type 0} (result : Result A B) → OnOk result P → OnErr result Q → P ⊎ Q
 interned_or_same (Ok x) ok err = inl ok
 interned_or_same (Err e) ok err = inr err
+
+-- tables that are the same twice
+pub same_then : (first second third : TypeEnv) → SameTables first second → SameTables second third → SameTables first third
+same_then first second third same later = record {
+  names = λ place name is. later.names place name (same.names place name is);
+  types = later.types ∙ same.types;
+  errors = later.errors ∙ same.errors;
+  named = λ q. later.named q ∙ same.named q;
+  constants = λ q. later.constants q ∙ same.constants q;
+}

@@ -116,6 +116,7 @@ impl TypeEnv {
     ) -> Result<Variant, Refusal<Error>>
         ensures same { SameTables self.old self.new }
         ensures id { IfOk result (λ made. made.id ≡ id) }
+        ensures name { IfOk result (λ made. slice_get (names_of self.new) made.name.0 ≡ Some variant.now.name.0) }
         ensures read { (known : List (List ℕ)) → HasTypeNames self.old known
             → IfOk result (ReadsVariant known (names_of self.new) ty.now.name.0 variant.now) }
         ensures size { OnOk result (field_count variant.now.fields ≤ 255) }
@@ -186,7 +187,7 @@ impl TypeEnv {
             → IfOk result (λ made. ReadsFields known (names_of self.new) fields.now made.items) }
         ensures once { OnOk result (StandOnce (map (λ (field : StructFieldTree). field.name.0) fields.now)) }
         ensures fault { (known : List (List ℕ)) → HasTypeNames self.old known
-            → IfErr result (λ r. IfFault r (λ error. IsStructFieldsFault known fields.now error)) }
+            → IfErr result (λ r. IfFault r (IsStructFieldsFault known fields.now)) }
     {
         let mut made = Vec::new(self.alloc);
         for field in fields {
@@ -201,14 +202,13 @@ impl TypeEnv {
 
     /// Fields without names.
     fn tuple_fields_from_ast(
-        &mut self,
+        &self,
         fields: &[ast::TupleField],
     ) -> Result<Vec<TupleField>, Refusal<Error>>
-        ensures same { SameTables self.old self.new }
-        ensures read { (known : List (List ℕ)) → HasTypeNames self.old known
+        ensures read { (known : List (List ℕ)) → HasTypeNames self.now known
             → IfOk result (λ made. ReadsTupleFields known fields.now made.items) }
-        ensures fault { (known : List (List ℕ)) → HasTypeNames self.old known
-            → IfErr result (λ r. IfFault r (λ error. IsTupleFieldsFault known fields.now error)) }
+        ensures fault { (known : List (List ℕ)) → HasTypeNames self.now known
+            → IfErr result (λ r. IfFault r (IsTupleFieldsFault known fields.now)) }
     {
         let mut made = Vec::new(self.alloc);
         for field in fields {
@@ -299,8 +299,8 @@ fn twin(alloc: Global, names: &[Sym]) -> Result<Option<usize>, AllocError>
     ensures { IfOk result (λ twin. MatchOption twin (StandOnce names.now) (IsTwin names.now)) }
 {
     let mut before: StableSet<Sym> = StableSet::new(alloc);
-    for (place, name) in names.iter().enumerate() {
-        if !before.insert(*name)? {
+    for place in 0..names.len() {
+        if !before.insert(names[place])? {
             return Ok(Some(place));
         }
     }

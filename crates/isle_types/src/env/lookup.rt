@@ -33,6 +33,7 @@ impl TypeEnv {
         ensures symbol { IfOk result (λ sym. name_of self.new sym ≡ Some ident.now.0) }
         ensures ok { OnOk result (names_of self.new ≡ with_name (names_of self.old) ident.now.0) }
         ensures err { OnErr result (names_of self.new ≡ names_of self.old) }
+        ensures same { SameTables self.old self.new }
         ensures same_errors { errors_of self.new ≡ errors_of self.old }
         ensures same_types { types_of self.new ≡ types_of self.old }
         ensures shown { (e : Environment) → Shows self.old e → Shows self.new e }
