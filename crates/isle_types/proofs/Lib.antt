@@ -4,3 +4,5 @@ pub mod NamePlaces
 pub mod Interning
 pub mod Tables
 pub mod ShownTypes
+pub mod Zipped
+pub mod Refusals
