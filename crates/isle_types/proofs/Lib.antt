@@ -6,3 +6,4 @@ pub mod Tables
 pub mod ShownTypes
 pub mod Zipped
 pub mod Refusals
+pub mod TypePositions
