@@ -7,3 +7,5 @@ pub mod ShownTypes
 pub mod Zipped
 pub mod Refusals
 pub mod TypePositions
+pub mod EnvironmentCases
+pub mod OneEnvironment

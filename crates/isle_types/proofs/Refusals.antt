@@ -1,6 +1,5 @@
 -- Definitions that are refused make no environment.
-use Rattle.std.proofs.Common.{◌≡◌, ℕ, zero, suc, ◌+◌, ◌<◌, ◌⊎◌, inl, inr, List, [], ◌∷◌, map, length, Option, Some, None, refl, ap, sym, subst, ◌∙◌, arith, slice_get}
-use Rattle.std.specs.List.{AllZip}
+use Rattle.std.proofs.Common.{◌≡◌, ℕ, ◌<◌, ◌⊎◌, inl, inr, List, [], ◌∷◌, map, length, Some, None, ap, sym, subst, ◌∙◌, arith, slice_get}
 use Rattle.std.proofs.lemmas.Option.{none-some}
 use Rattle.std.proofs.lemmas.List.Elements.{All-head}
 use Rattle.isle_syntax.specs.declared.lexer.Pos.{Pos}
@@ -10,12 +9,11 @@ use Rattle.isle_syntax.specs.declared.ast.TupleField.{TupleField}
 use Rattle.isle_syntax.specs.declared.ast.Fields.{Fields}
 use Rattle.isle_syntax.specs.declared.ast.Fields.TheVariants.{Unit as no_field_trees, Struct as struct_field_trees, Tuple as tuple_field_trees}
 use Rattle.isle_syntax.specs.declared.ast.Variant.{Variant}
-use Rattle.isle_syntax.specs.declared.ast.TypeValue.{TypeValue}
-use Rattle.isle_syntax.specs.declared.ast.TypeValue.TheVariants.{Primitive, Enum, Struct}
+use Rattle.isle_syntax.specs.declared.ast.TypeValue.TheVariants.{Enum, Struct}
 use Rattle.isle_syntax.specs.declared.ast.«Type».{«Type» as TypeTree}
 use Rattle.isle_syntax.specs.declared.ast.Def.{Def}
 use Rattle.isle_syntax.specs.declared.error.Error.{Error}
-use Rattle.isle_syntax.specs.declared.error.Error.TheVariants.{ParseError, TypeError, UnreachableError, OverlapError, ShadowedError, SizeError}
+use Rattle.isle_syntax.specs.declared.error.Error.TheVariants.{TypeError, SizeError}
 use Rattle.isle_types.specs.Names.{place_of, IsTwin}
 use Rattle.isle_types.specs.Environment.{FieldList, no_fields, named_fields, tuple_fields, NamedVariant, TypeShape, primitive, enum, struct, NamedType, Environment, IsField, IsTupleField, AreFields, IsVariant, IsShape, IsType, IsConstant, Makes, HasAllowedSize, AreWithinSizes, type_definitions, constant_definitions, type_names}
 use Rattle.isle_types.specs.TypeFaults.{FieldsBreak, field_twice, unknown_field_type, VariantsBreak, variant_twice, variant_fields_break, TypeBreaks, marks_not_allowed, variants_break, fields_break, Breaks, name_taken, type_breaks, unknown_constant_type, Exceeds, IsTypeFault, IsSizeFault, type_idents}

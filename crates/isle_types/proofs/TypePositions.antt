@@ -1,5 +1,5 @@
 -- Where definitions stand, their faults and their types do.
-use Rattle.std.proofs.Common.{◌≡◌, ℕ, zero, suc, ◌+◌, ◌<◌, ◌⊎◌, inl, inr, List, [], ◌∷◌, ◌++◌, map, length, Option, Some, None, refl, ap, sym, subst, ◌∙◌, arith, slice_get}
+use Rattle.std.proofs.Common.{◌≡◌, ℕ, zero, suc, ◌<◌, ◌⊎◌, inl, inr, List, [], ◌∷◌, map, length, Some, sym, subst, ◌∙◌, arith, slice_get}
 use Rattle.std.specs.List.{All, AllZip}
 use Rattle.std.proofs.lemmas.Option.{none-some, same_Some}
 use Rattle.std.proofs.lemmas.List.Elements.{All-head, All-tail, All-nil, All-cons, All-append, All-map, All-weaker}
@@ -17,13 +17,12 @@ use Rattle.isle_syntax.specs.declared.ast.Variant.{Variant as VariantTree}
 use Rattle.isle_syntax.specs.declared.ast.TypeValue.{TypeValue}
 use Rattle.isle_syntax.specs.declared.ast.TypeValue.TheVariants.{Primitive as primitive_tree, Enum as enum_tree, Struct as struct_tree}
 use Rattle.isle_syntax.specs.declared.ast.«Type».{«Type» as TypeTree}
-use Rattle.isle_syntax.specs.declared.ast.Extern.{Extern as ExternTree}
 use Rattle.isle_syntax.specs.declared.ast.Extern.TheVariants.{Constructor as extern_constructor, Extractor as extern_extractor, Const as extern_const}
 use Rattle.isle_syntax.specs.declared.ast.Def.{Def}
-use Rattle.isle_syntax.specs.declared.ast.Def.TheVariants.{TypeDef, Decl, Rule, Extractor, Extern, Converter, Pragma, Kept}
+use Rattle.isle_syntax.specs.declared.ast.Def.TheVariants.{TypeDef, Extern}
 use Rattle.isle_syntax.specs.declared.error.Span.{Span}
 use Rattle.isle_syntax.specs.declared.error.Error.{Error}
-use Rattle.isle_syntax.specs.declared.error.Error.TheVariants.{ParseError, TypeError, UnreachableError, OverlapError, ShadowedError, SizeError}
+use Rattle.isle_syntax.specs.declared.error.Error.TheVariants.{TypeError, SizeError}
 use Rattle.isle_types.specs.declared.types.Variant.{Variant}
 use Rattle.isle_types.specs.declared.types.«Type».{«Type» as KnownType}
 use Rattle.isle_types.specs.declared.types.«Type».TheVariants.{Builtin, Primitive, Enum, Struct}
@@ -32,7 +31,7 @@ use Rattle.isle_types.specs.IntTypes.{builtin_types}
 use Rattle.isle_types.specs.TypePlaces.{VariantAt, TypeAt}
 use Rattle.isle_types.specs.Environment.{NamedVariant, TypeShape, primitive, enum, struct, NamedType, Environment, IsVariant, IsShape, IsType, Makes, type_definitions, constant_definitions, type_names}
 use Rattle.isle_types.specs.TypeFaults.{FieldsBreak, field_twice, unknown_field_type, VariantsBreak, variant_twice, variant_fields_break, TypeBreaks, marks_not_allowed, variants_break, fields_break, Breaks, name_taken, type_breaks, unknown_constant_type, Exceeds, IsTypeFault, IsSizeFault, type_idents}
-use Rattle.isle_types.specs.TypeEnvs.{HasPlaces, Shows, IsShown, IsShownVariant, IsShownShape, StandsAt, types_of, names_of, errors_of}
+use Rattle.isle_types.specs.TypeEnvs.{HasPlaces, Shows, IsShown, IsShownVariant, IsShownShape, types_of, names_of, errors_of}
 use Rattle.isle_types.specs.Readings.{AreTypeFaults, IsLoneSizeFault}
 use Rattle.isle_types.proofs.Zipped.{mapped_at, all_at}
 
