@@ -1,6 +1,7 @@
 -- Worked cases: which environment definitions make, or that they make none.
 use Rattle.std.proofs.Common.{◌≡◌, ℕ, zero, suc, ◌<◌, Bool, true, false, List, [], ◌∷◌, Option, Some, None, is_some, if◌then◌else◌, refl, ap, sym, subst, ◌∙◌, arith, slice_get, get_or, codes}
 use Rattle.std.specs.List.{Contains}
+use Rattle.std.proofs.lemmas.Bool.{false≢true}
 use Rattle.std.proofs.lemmas.Option.{none-some, same_Some}
 use Rattle.isle_syntax.specs.declared.lexer.Pos.{Pos}
 use Rattle.isle_syntax.specs.declared.ast.Ident.{Ident}
@@ -14,7 +15,7 @@ use Rattle.isle_syntax.specs.declared.ast.Def.{Def}
 use Rattle.isle_syntax.specs.declared.ast.Def.TheVariants.{TypeDef, Extern}
 use Rattle.isle_types.specs.Names.{place_of, StandOnce}
 use Rattle.isle_types.specs.Environment.{FieldList, no_fields, named_fields, tuple_fields, NamedVariant, TypeShape, primitive, enum, struct, NamedType, Environment, Makes, constant_in, numbers_in, type_names, IsInhabited, builtin_inhabited, primitive_inhabited, struct_inhabited, variant_inhabited, AreInhabited, none_inhabited, more_inhabited}
-use Rattle.isle_types.specs.TypeFaults.{name_taken, type_breaks, marks_not_allowed, variants_break, variant_twice}
+use Rattle.isle_types.specs.TypeFaults.{VariantsBreak, variant_twice, marks_not_allowed, variants_break, Breaks, name_taken, type_breaks}
 use Rattle.isle_types.proofs.NamePlaces.{place_missing}
 use Rattle.isle_types.proofs.Refusals.{broken_makes_none}
 use Rattle.isle_types.proofs.OneEnvironment.{one_environment}
@@ -41,11 +42,17 @@ distinct_once (first ∷ names) distinct =
     let parts = both_tests (place_of names first) (are_distinct names) distinct in
     once_front first names parts.0 (distinct_once names parts.1)
 
+abbrev at : ℕ → Pos
+at offset = record { file = 0; offset = offset }
+
 abbrev here : Pos
-here = record { file = 0; offset = 0 }
+here = at 0
 
 abbrev name : List ℕ → Ident
 name text = (text, here)
+
+abbrev variant_at : ℕ → Variant
+variant_at offset = record { name = (codes "V", at offset); fields = no_field_trees; pos = at offset }
 
 abbrev marked_type : List ℕ → Bool → Bool → TypeValue → TypeTree
 marked_type text is_extern is_nodebug value = record { name = name text; is_extern = is_extern; is_nodebug = is_nodebug; ty = value; pos = here }
@@ -68,7 +75,7 @@ struct_of_later_makes = record {
   names = distinct_once (type_names struct_of_later) refl;
   types = (
     record { name = refl; is_extern = refl; is_nodebug = refl; marks = λ _. refl; shape = (refl, tt); pos = refl },
-    (record { name = refl; is_extern = refl; is_nodebug = refl; marks = (refl, refl); shape = refl; pos = refl }, tt)
+    (record { name = refl; is_extern = refl; is_nodebug = refl; marks = (refl, refl); shape = refl; pos = refl }, tt),
   );
   constants = tt;
 }
@@ -98,33 +105,37 @@ last_constant_counts e makes =
 abbrev both_marks : TypeTree
 both_marks = marked_type (codes "A") true true (Struct no_field_trees here)
 
+pub both_marks_break : Breaks (TypeDef both_marks ∷ []) here
+both_marks_break = type_breaks 0 both_marks here refl (marks_not_allowed (λ allowed. false≢true (sym (allowed refl))))
+
 pub both_marks_refused : (e : Environment) → Makes (TypeDef both_marks ∷ []) e → ⊥
-both_marks_refused e makes =
-    broken_makes_none (TypeDef both_marks ∷ []) here
-      (type_breaks 0 both_marks here refl (marks_not_allowed (λ allowed. let false_mark : true ≡ false = allowed refl in cc))) e makes
+both_marks_refused e makes = broken_makes_none (TypeDef both_marks ∷ []) here both_marks_break e makes
 
 -- `(type u8 (primitive u8))`: the name of a builtin type is taken
 abbrev builtin_again : TypeTree
 builtin_again = type_tree (codes "u8") (Primitive (name (codes "u8")) here)
 
-pub builtin_again_refused : (e : Environment) → Makes (TypeDef builtin_again ∷ []) e → ⊥
-builtin_again_refused e makes =
-    broken_makes_none (TypeDef builtin_again ∷ []) here
-      (name_taken 0 builtin_again refl (record { item = codes "u8"; earlier = 1; before = omega arith; first = refl; second = refl })) e makes
+pub builtin_again_breaks : Breaks (TypeDef builtin_again ∷ []) here
+builtin_again_breaks = name_taken 0 builtin_again refl (record { item = codes "u8"; earlier = 1; before = omega arith; first = refl; second = refl })
 
--- `(type A (enum V V))`: two variants have one name
-abbrev variant_tree : Variant
-variant_tree = record { name = name (codes "V"); fields = no_field_trees; pos = here }
+pub builtin_again_refused : (e : Environment) → Makes (TypeDef builtin_again ∷ []) e → ⊥
+builtin_again_refused e makes = broken_makes_none (TypeDef builtin_again ∷ []) here builtin_again_breaks e makes
+
+-- `(type A (enum V V))`: two variants have one name, and the second is at fault
+abbrev two_variants : List Variant
+two_variants = variant_at 14 ∷ variant_at 16 ∷ []
 
 abbrev variant_again : TypeTree
-variant_again = type_tree (codes "A") (Enum (variant_tree ∷ variant_tree ∷ []) here)
+variant_again = type_tree (codes "A") (Enum two_variants here)
+
+second_variant_breaks : VariantsBreak (type_names (TypeDef variant_again ∷ [])) two_variants (at 16)
+second_variant_breaks = variant_twice 1 (variant_at 16) refl (record { item = codes "V"; earlier = 0; before = omega arith; first = refl; second = refl })
+
+pub variant_again_breaks : Breaks (TypeDef variant_again ∷ []) (at 16)
+variant_again_breaks = type_breaks 0 variant_again (at 16) refl (variants_break two_variants here (at 16) refl second_variant_breaks)
 
 pub variant_again_refused : (e : Environment) → Makes (TypeDef variant_again ∷ []) e → ⊥
-variant_again_refused e makes =
-    broken_makes_none (TypeDef variant_again ∷ []) here
-      (type_breaks 0 variant_again here refl
-        (variants_break (variant_tree ∷ variant_tree ∷ []) here here refl
-          (variant_twice 1 variant_tree refl (record { item = codes "V"; earlier = 0; before = omega arith; first = refl; second = refl })))) e makes
+variant_again_refused e makes = broken_makes_none (TypeDef variant_again ∷ []) (at 16) variant_again_breaks e makes
 
 abbrev variant_named : List ℕ → FieldList → NamedVariant
 variant_named text fields = record { name = text; fields = fields; pos = here }

@@ -80,7 +80,7 @@ module _ (known : List (List ℕ)) (once : StandOnce known) where
   one_type : (tree : TypeTree) (a b : NamedType) → IsType known tree a → IsType known tree b → a ≡ b
   one_type tree a b is other =
       same_type a b (is.name ∙ sym other.name) (is.is_extern ∙ sym other.is_extern) (is.is_nodebug ∙ sym other.is_nodebug)
-        (one_shape tree.ty a.shape b.shape is.shape other.shape) (is.pos ∙ sym other.pos)
+      (one_shape tree.ty a.shape b.shape is.shape other.shape) (is.pos ∙ sym other.pos)
 
   one_constant : (tree : Ident × Ident) (a b : List ℕ × ℕ) → IsConstant known tree a → IsConstant known tree b → a ≡ b
   one_constant tree a b is other = same_pair a b (is.name ∙ sym other.name) (once tree.1.0 a.1 b.1 is.type other.type)

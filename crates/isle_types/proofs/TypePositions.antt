@@ -123,8 +123,8 @@ module _ (At : Pos → Type 0) where
   variants_shown_at known names type [] (named ∷ variants) (variant ∷ made) at meant shown = absurd meant
   variants_shown_at known names type (tree ∷ trees) (named ∷ variants) (variant ∷ made) at meant shown =
       All-cons (VariantAt At) variant made
-        (let stands = All-head (VariantTreeAt At) tree trees at in subst At (sym (shown.0.pos ∙ meant.0.pos)) stands.pos)
-        (variants_shown_at known names type trees variants made (All-tail (VariantTreeAt At) tree trees at) meant.1 shown.1)
+      (let stands = All-head (VariantTreeAt At) tree trees at in subst At (sym (shown.0.pos ∙ meant.0.pos)) stands.pos)
+      (variants_shown_at known names type trees variants made (All-tail (VariantTreeAt At) tree trees at) meant.1 shown.1)
 
   type_shown_at : (known names : List (List ℕ)) (tree : TypeTree) (type : NamedType) (made : KnownType) → TypeTreeAt At tree → IsType known tree type → IsShown names type made → TypeAt At made
   type_shown_at known names tree type (Builtin builtin) at meant shown = tt
@@ -132,13 +132,13 @@ module _ (At : Pos → Type 0) where
   type_shown_at known names tree type (Struct name id is_extern is_nodebug fields pos) at meant shown = subst At (sym (shown.pos ∙ meant.pos)) at.pos
   type_shown_at known names tree type (Enum name id is_extern is_nodebug made pos) at meant shown =
       (through tree.ty type.shape at.ty meant.shape shown.shape, subst At (sym (shown.pos ∙ meant.pos)) at.pos)
-      where
-        through : (value : TypeValue) (shape : TypeShape) → TypeValueAt At value → IsShape known value shape → IsShownShape names type shape (Enum name id is_extern is_nodebug made pos) → All (VariantAt At) made
-        through value (primitive host) stands is is_shown = absurd is_shown
-        through value (struct _) stands is is_shown = absurd is_shown
-        through (primitive_tree host keyword) (enum variants) stands is is_shown = absurd is
-        through (struct_tree fields keyword) (enum variants) stands is is_shown = absurd is
-        through (enum_tree trees keyword) (enum variants) stands is is_shown = variants_shown_at known names type.name trees variants made stands.0 is.0 is_shown.1.0
+    where
+      through : (value : TypeValue) (shape : TypeShape) → TypeValueAt At value → IsShape known value shape → IsShownShape names type shape (Enum name id is_extern is_nodebug made pos) → All (VariantAt At) made
+      through value (primitive host) stands is is_shown = absurd is_shown
+      through value (struct _) stands is is_shown = absurd is_shown
+      through (primitive_tree host keyword) (enum variants) stands is is_shown = absurd is
+      through (struct_tree fields keyword) (enum variants) stands is is_shown = absurd is
+      through (enum_tree trees keyword) (enum variants) stands is is_shown = variants_shown_at known names type.name trees variants made stands.0 is.0 is_shown.1.0
 
   types_shown_at : (known names : List (List ℕ)) (trees : List TypeTree) (types : List NamedType) (made : List KnownType) → All (TypeTreeAt At) trees → AllZip (IsType known) trees types → AllZip (IsShown names) types made → All (TypeAt At) made
   types_shown_at known names trees types [] at meant shown = All-nil (TypeAt At)
@@ -146,16 +146,16 @@ module _ (At : Pos → Type 0) where
   types_shown_at known names [] (type ∷ types) (known_type ∷ made) at meant shown = absurd meant
   types_shown_at known names (tree ∷ trees) (type ∷ types) (known_type ∷ made) at meant shown =
       All-cons (TypeAt At) known_type made
-        (type_shown_at known names tree type known_type (All-head (TypeTreeAt At) tree trees at) meant.0 shown.0)
-        (types_shown_at known names trees types made (All-tail (TypeTreeAt At) tree trees at) meant.1 shown.1)
+      (type_shown_at known names tree type known_type (All-head (TypeTreeAt At) tree trees at) meant.0 shown.0)
+      (types_shown_at known names trees types made (All-tail (TypeTreeAt At) tree trees at) meant.1 shown.1)
 
   -- the types of an environment stand where the definitions do
   pub types_at : (defs : List Def) (env : TypeEnv) (e : Environment) → All (DefAt At) defs → Makes defs e → Shows env e → All (TypeAt At) (types_of env)
   types_at defs env e each makes shows =
       subst (All (TypeAt At)) (sym shows.all)
-        (All-append (TypeAt At) (map Builtin builtin_types) shows.made
-          (All-map (TypeAt At) Builtin builtin_types (λ place d within. tt))
-          (types_shown_at (type_names defs) (names_of env) (type_definitions defs) e.types shows.made (definitions_at defs each) makes.types shows.types))
+      (All-append (TypeAt At) (map Builtin builtin_types) shows.made
+      (All-map (TypeAt At) Builtin builtin_types (λ place d within. tt))
+      (types_shown_at (type_names defs) (names_of env) (type_definitions defs) e.types shows.made (definitions_at defs each) makes.types shows.types))
 
 -- the errors of definitions can be printed
 pub faults_printable : (files : List SourceFile) (defs : List Def) (errors : List Error) → All (DefAt (HasPlaceAt files)) defs → IsLoneSizeFault defs errors ⊎ (AreTypeFaults defs errors × (0 < length errors)) → All (ErrorAt (HasPlaceAt files)) errors
