@@ -9,3 +9,8 @@ pub mod NamedItems
 pub mod Told
 pub mod FieldReadings
 pub mod TypeReadings
+pub mod Zipped
+pub mod Refusals
+pub mod TypePositions
+pub mod EnvironmentCases
+pub mod OneEnvironment
