@@ -3,7 +3,7 @@ use Rattle.std.specs.Prelude.{◌==◌, ℕ, Bool, List, Option}
 use Rattle.std.specs.List.{list_any}
 use Rattle.std.specs.Option.{option_and_then}
 use Rattle.isle_types.specs.declared.ids.TermId.{TermId}
-use Rattle.isle_types.specs.Environment.{sym_named}
+use Rattle.isle_types.specs.TypeEnvs.{sym_named}
 use Rattle.isle_terms.specs.declared.rules.Rule.{Rule}
 use Rattle.isle_terms.specs.Environment.{rules_of, term_with}
 use Rattle.isle_run.specs.declared.program.Program.{Program}

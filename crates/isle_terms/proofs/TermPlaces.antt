@@ -5,7 +5,7 @@ use Rattle.std.proofs.lemmas.List.Elements.{All-same, All-nil, All-push}
 use Rattle.isle_syntax.specs.Files.{SourceFile}
 use Rattle.isle_syntax.specs.Positions.{HasPlaceAt}
 use Rattle.isle_types.specs.declared.env.TypeEnv.{TypeEnv}
-use Rattle.isle_types.specs.Environment.{HasPlaces}
+use Rattle.isle_types.specs.TypeEnvs.{HasPlaces}
 use Rattle.isle_terms.specs.declared.rules.Rule.{Rule}
 use Rattle.isle_terms.specs.declared.env.TermEnv.{TermEnv}
 use Rattle.isle_terms.specs.Environment.{terms_of, rules_of, TermAt, TypedRuleAt, ArePlaced}

@@ -7,7 +7,7 @@ use Rattle.isle_syntax.specs.Positions.{HasPlaceAt}
 use Rattle.isle_types.specs.declared.ids.Sym.{Sym}
 use Rattle.isle_types.specs.declared.ids.TermId.{TermId}
 use Rattle.isle_types.specs.declared.env.TypeEnv.{TypeEnv}
-use Rattle.isle_types.specs.Environment.{HasPlaces}
+use Rattle.isle_types.specs.TypeEnvs.{HasPlaces}
 use Rattle.isle_terms.specs.declared.terms.Term.{Term}
 use Rattle.isle_terms.specs.declared.rules.Rule.{Rule}
 use Rattle.isle_terms.specs.declared.env.TermEnv.{TermEnv}

@@ -4,7 +4,7 @@ ghost use Rattle.isle_syntax.specs.Files.{SourceFile};
 ghost use Rattle.isle_syntax.specs.Positions.{HasPlaceAt};
 ghost use Rattle.isle_syntax.specs.Errors.{RefusalAt, RefusalsAt};
 ghost use Rattle.isle_syntax.specs.Places.{DefAt, DeclAt, IdentAt, RuleAt};
-ghost use Rattle.isle_types.specs.Environment.{errors_of, types_of, sym_named, HasPlaces};
+ghost use Rattle.isle_types.specs.TypeEnvs.{errors_of, types_of, sym_named, HasPlaces};
 ghost use Rattle.isle_terms.specs.Environment.{terms_of, rules_of, term_with, TermAt, TypedRuleAt, ArePlaced};
 
 use crate::rules::{Expr, Pattern, Rule};
@@ -14,7 +14,7 @@ use crate::unsupported::{check_flags, check_parts, report_unsupported};
 use isle_syntax::ast::{Decl, Def, Ident};
 use isle_syntax::error::Error;
 use isle_syntax::{Refusal, Seq, ast};
-use isle_types::{Fields, RuleId, Sym, TermId, Type, TypeEnv, TypeId, Variant};
+use isle_types::{RuleId, Sym, TermId, Type, TypeEnv, TypeId, Variant};
 use std::alloc::{AllocError, Global};
 use std::collections::HashMap;
 
@@ -182,15 +182,7 @@ impl TermEnv {
     fn term_of_variant(&self, ty: TypeId, id: TermId, variant: &Variant) -> Result<Term, AllocError>
         ensures { IfOk result (λ term. term.decl_pos ≡ variant.now.pos) }
     {
-        let arg_tys = match &variant.fields {
-            Fields::Unit => Vec::new(self.alloc),
-            Fields::Struct(fields) => fields
-                .fields
-                .as_slice()
-                .iter()
-                .map(|field| field.ty)
-                .collect(self.alloc)?,
-        };
+        let arg_tys = variant.fields.types(self.alloc)?;
         Ok(Term {
             id,
             decl_pos: variant.pos,

@@ -3,7 +3,7 @@ ghost use Rattle.isle_syntax.specs.Files.{SourceFile};
 ghost use Rattle.isle_syntax.specs.Positions.{HasPlaceAt};
 ghost use Rattle.isle_syntax.specs.Errors.{RefusalAt};
 ghost use Rattle.isle_syntax.specs.Places.{IdentAt, PatternAt, ExprAt};
-ghost use Rattle.isle_types.specs.Environment.{errors_of, types_of};
+ghost use Rattle.isle_types.specs.TypeEnvs.{errors_of, types_of};
 
 use crate::env::TermEnv;
 use crate::rules::{BoundVar, Expr, Pattern};

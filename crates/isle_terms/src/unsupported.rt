@@ -3,7 +3,7 @@ ghost use Rattle.isle_syntax.specs.Files.{SourceFile};
 ghost use Rattle.isle_syntax.specs.Positions.{HasPlaceAt};
 ghost use Rattle.isle_syntax.specs.Errors.{RefusalAt};
 ghost use Rattle.isle_syntax.specs.Places.{DefAt, DeclAt, RuleAt};
-ghost use Rattle.isle_types.specs.Environment.{types_of, HasPlaces};
+ghost use Rattle.isle_types.specs.TypeEnvs.{types_of, HasPlaces};
 
 use isle_syntax::Refusal;
 use isle_syntax::ast::{Decl, Def, Extern, Rule};

@@ -4,6 +4,9 @@ use Rattle.std.specs.Prelude.{reverse}
 use Rattle.std.proofs.lemmas.List.{reverse-append}
 use Rattle.std.specs.Option.{option_or}
 use Rattle.std.specs.Cmp.{IsEquivalence}
+use Rattle.std.specs.HashMap.{HashMap, IsFromIterResult}
+use Rattle.std.specs.Iterator.Runs.{WholeRun}
+use Rattle.isle_types.specs.StableMaps.{HoldsLastOf}
 use Rattle.std.specs.Map.{lookup, update, update_all}
 
 -- a look-up in two lists, the second where the first has nothing
@@ -41,3 +44,7 @@ update_all-none {eq = eq} laws pairs q = update_all-reverse laws (λ _. None) pa
     option_or-none : {V : Type 0} (o : Option V) → option_or o None ≡ o
     option_or-none None = refl
     option_or-none (Some v) = refl
+
+-- so a run of an iterator whose pairs were put into an empty map in turn holds the last of each key
+pub WholeRun-HoldsLastOf : {S K V H : Type 0} {eq : K → K → Bool} (laws : IsEquivalence eq) {steps : S → Option (K × V) → S → Type 0} (s : S) (map : HashMap K V H) → WholeRun steps s (λ run. IsFromIterResult eq run.items map) → WholeRun steps s (λ run. HoldsLastOf eq run.items map.entries)
+WholeRun-HoldsLastOf laws s map run = (run.0, run.1, run.2, ((λ k. run.3.0 k ∙ update_all-none laws run.0.items k), run.3.1))

@@ -14,3 +14,8 @@ pub mod Refusals
 pub mod TypePositions
 pub mod EnvironmentCases
 pub mod OneEnvironment
+pub mod EnvironmentPlaces
+pub mod BinaryDigits
+pub mod SortedPlaces
+pub mod Searches
+pub mod SortedEdits

@@ -1,7 +1,9 @@
 pub mod IntTypes
 pub mod Types
 pub mod Names
+pub mod Ids
 pub mod StableMaps
+pub mod SortedMaps
 pub mod Interned
 pub mod Environment
 pub mod TypeFaults

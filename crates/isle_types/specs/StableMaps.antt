@@ -19,13 +19,9 @@ value_at eq entries k = lookup (eq k) entries
 abbrev pub value_at_text : {A V : Type 0} → List (String A × V) → List ℕ → Option V
 value_at_text entries text = lookup (λ k. bytes_eq text (string_bytes k)) entries
 
--- each new member is a clone of the old one in its place
-abbrev pub AreClones : {T : Type 0} → (T → T → Type 0) → List T → List T → Type 0
-AreClones is_clone old new = AllZip is_clone old new
-
 -- each new entry is a clone of the old one in its place
-abbrev pub AreEntryClones : {K V : Type 0} → (K → K → Type 0) → (V → V → Type 0) → List (K × V) → List (K × V) → Type 0
-AreEntryClones key_is_clone value_is_clone old new = AllZip (λ e f. key_is_clone e.0 f.0 × value_is_clone e.1 f.1) old new
+abbrev pub AreClones : {K V : Type 0} → (K → K → Type 0) → (V → V → Type 0) → List (K × V) → List (K × V) → Type 0
+AreClones key_is_clone value_is_clone old new = AllZip (λ e f. key_is_clone e.0 f.0 × value_is_clone e.1 f.1) old new
 
 -- at each key the entries have the value of the last pair with this key, and no two have equal keys
 abbrev pub HoldsLastOf : {K V : Type 0} → (K → K → Bool) → List (K × V) → List (K × V) → Type 0

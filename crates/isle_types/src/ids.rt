@@ -118,3 +118,6 @@ impl TypeId {
 
     pub const ISIZE: TypeId = TypeId(12);
 }
+
+#[cfg(test)]
+mod tests;

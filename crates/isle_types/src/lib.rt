@@ -3,12 +3,21 @@
 
 mod env;
 mod ids;
+mod laws;
+mod sorted_map;
 mod stablemapset;
 mod symbols;
+#[cfg(test)]
+mod tests;
 mod types;
 
 pub use env::TypeEnv;
 pub use ids::{FieldId, RuleId, Sym, TermId, TypeId, VarId, VariantId};
+pub use laws::{
+    field_ids_are_numbers, rule_ids_are_numbers, syms_are_numbers, term_ids_are_numbers,
+    type_ids_are_numbers, var_ids_are_numbers, variant_ids_are_numbers,
+};
+pub use sorted_map::SortedMap;
 pub use stablemapset::{StableMap, StableSet};
 pub use types::{
     BuiltinType, Fields, IntType, StructField, StructFields, TupleField, TupleFields, Type, Variant,

@@ -1,10 +1,10 @@
 //! A set and a map that can't be walked, so that no result depends on the order of a hashed table.
-ghost use Rattle.std.specs.Prelude.{◌≡◌, ◌||◌, List, [], ◌∷◌, length, not, true, false, is_some, Some, None, if◌then◌else◌, IsPermutation, MatchBool, MatchOption, IsSome, IfOk, OnOk, OnErr, option_copied};
-ghost use Rattle.std.specs.List.{IsDistinct};
+ghost use Rattle.std.specs.Prelude.{◌≡◌, ◌||◌, [], ◌∷◌, length, not, false, is_some, Some, None, if◌then◌else◌, IsPermutation, MatchBool, MatchOption, IsSome, IfOk, OnOk, OnErr, option_copied};
+ghost use Rattle.std.specs.List.{IsDistinct, AllZip};
 ghost use Rattle.std.specs.Map.{set_value, KeepsOthers};
 ghost use Rattle.std.specs.Iterator.{IsFiniteIterable};
 ghost use Rattle.std.specs.Iterator.Runs.{WholeRun};
-ghost use Rattle.isle_types.specs.StableMaps.{has, value_at, value_at_text, HasDistinctKeys, HoldsLastOf, AreClones, AreEntryClones};
+ghost use Rattle.isle_types.specs.StableMaps.{has, value_at, value_at_text, HasDistinctKeys, HoldsLastOf, AreClones};
 
 use std::alloc::{AllocError, Global};
 use std::collections::{HashMap, HashSet};
@@ -63,8 +63,10 @@ impl<T: Eq + Hash> StableSet<T> {
     }
 }
 
+/// The clone of each member, in its place. Refused for want of memory, or where a clone isn't equal to
+/// its source.
 impl<T: Eq + Hash + Clone> Clone for StableSet<T> {
-    ghost is_clone = { λ s n. AreClones T.is_clone s n };
+    ghost is_clone = { λ s n. AllZip T.is_clone s n };
 
     fn clone(&self) -> Result<StableSet<T>, AllocError> {
         Ok(StableSet(self.0.clone()?))
@@ -92,8 +94,9 @@ impl<K: Eq + Hash, V> StableMap<K, V> {
         StableMap(HashMap::new(alloc))
     }
 
-    /// The map of the pairs that the iterator gives, where of two pairs with equal keys the later one
-    /// counts. It isn't promised which of their keys stands in the map.
+    /// The map of the pairs that the iterator gives, which has to end. Of two pairs with equal keys the
+    /// later one counts; it isn't promised which of the two keys stands in the map.
+    /// Refused only for want of memory. Upstream this is an `impl FromIterator`.
     pub fn from_pairs<I: IntoIterator<Item = (K, V)>>(
         alloc: Global,
         pairs: I,
@@ -116,6 +119,7 @@ impl<K: Eq + Hash, V> StableMap<K, V> {
         ensures old { IfOk result (λ old. old ≡ value_at K.eq self.old k) }
         ensures values { OnOk result ((q : K) → value_at K.eq self.new q ≡ (if K.eq k q then Some v else value_at K.eq self.old q)) }
         ensures entries { IfOk result (λ old. MatchOption old (IsPermutation ((k, v) ∷ self.old) self.new) (λ _. self.new ≡ set_value (K.eq k) self.old v)) }
+        // A query for other keys, as `get_text` makes, finds what it found before.
         ensures others { OnOk result (KeepsOthers K.eq (K.eq k) self.old self.new) }
         ensures refused { OnErr result (value_at K.eq self.old k ≡ None) }
         ensures unchanged { OnErr result (self.new ≡ self.old) }
@@ -147,7 +151,7 @@ impl<K: Eq + Hash, V> StableMap<K, V> {
 }
 
 impl<V> StableMap<String, V> {
-    /// The value at the key that is this text.
+    /// The value at the key that is this text, which is `get` without a `String`.
     pub fn get_text(&self, key: &str) -> Option<&V>
         ensures { option_copied result ≡ value_at_text self.now key.now }
     {
@@ -175,8 +179,10 @@ impl<K: Eq + Hash, V> From<HashMap<K, V>> for StableMap<K, V> {
     }
 }
 
+/// The clone of each entry, in its place. Refused for want of memory, or where a key's clone isn't
+/// equal to its source.
 impl<K: Eq + Hash + Clone, V: Clone> Clone for StableMap<K, V> {
-    ghost is_clone = { λ m n. AreEntryClones K.is_clone V.is_clone m n };
+    ghost is_clone = { λ m n. AreClones K.is_clone V.is_clone m n };
 
     fn clone(&self) -> Result<StableMap<K, V>, AllocError> {
         Ok(StableMap(self.0.clone()?))

@@ -3,6 +3,8 @@ ghost use Rattle.isle_types.specs.declared.types.StructField.{StructField};
 ghost use Rattle.isle_types.specs.declared.types.TupleField.{TupleField};
 ghost use Rattle.isle_types.specs.IntTypes.{int_name, has_sign, HasNumber, least_of, greatest_of, spelt_number, builtin_name, builtin_place};
 
+mod parts;
+
 use crate::ids::{FieldId, Sym, TypeId, VariantId};
 use isle_syntax::Seq;
 use isle_syntax::lexer::Pos;
@@ -97,7 +99,13 @@ impl IntType {
     }
 }
 
+/// The type's name.
 impl fmt::Display for IntType {
+    ghost use Rattle.std.specs.Prelude.{Some};
+    ghost use Rattle.isle_types.specs.IntTypes.{int_name};
+
+    ghost output = { λ ty. Some (int_name ty) };
+
     fn fmt<W: fmt::Write>(&self, f: &mut fmt::Formatter<W>) -> fmt::Result {
         f.write_str(self.name())
     }
@@ -170,7 +178,7 @@ impl TypeId {
 }
 
 /// A type of the environment.
-#[derive(Debug, Clone, PartialEq, Eq, Drop)]
+#[derive(Debug, PartialEq, Eq, Drop)]
 pub enum Type {
     /// A type that needs no definition.
     Builtin(BuiltinType),
@@ -238,7 +246,7 @@ impl Type {
 }
 
 /// A variant of an enum; `fullname` is `enum.variant`.
-#[derive(Debug, Clone, PartialEq, Eq, Drop)]
+#[derive(Debug, PartialEq, Eq, Drop)]
 pub struct Variant {
     pub name: Sym,
     pub fullname: Sym,
@@ -248,7 +256,7 @@ pub struct Variant {
 }
 
 /// The fields of a variant or struct.
-#[derive(Debug, Clone, PartialEq, Eq, Drop)]
+#[derive(Debug, PartialEq, Eq, Drop)]
 pub enum Fields {
     Unit,
     Struct(StructFields),
@@ -288,7 +296,7 @@ fn unnamed_types(alloc: Global, fields: &[TupleField]) -> Result<Vec<TypeId>, Al
 }
 
 /// Named fields, in order.
-#[derive(Debug, Clone, PartialEq, Eq, Drop)]
+#[derive(Debug, PartialEq, Eq, Drop)]
 pub struct StructFields {
     pub fields: Seq<StructField>,
 }
@@ -302,7 +310,7 @@ pub struct StructField {
 }
 
 /// Fields without names, in order.
-#[derive(Debug, Clone, PartialEq, Eq, Drop)]
+#[derive(Debug, PartialEq, Eq, Drop)]
 pub struct TupleFields {
     pub fields: Seq<TupleField>,
 }

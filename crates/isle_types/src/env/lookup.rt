@@ -4,7 +4,7 @@ ghost use Rattle.isle_types.specs.Names.{with_name};
 ghost use Rattle.isle_types.specs.StableMaps.{value_at_text};
 ghost use Rattle.isle_types.specs.Environment.{Environment};
 ghost use Rattle.isle_types.specs.Interned.{entry_of};
-ghost use Rattle.isle_types.specs.TypeEnvs.{names_of, sym_named, name_of, type_of_name, type_of_constant, variant_of, errors_of, types_of, Shows, SameTables};
+ghost use Rattle.isle_types.specs.TypeEnvs.{names_of, sym_named, name_of, type_name, type_of_name, type_of_constant, variant_of, errors_of, types_of, Shows, SameTables};
 
 use super::TypeEnv;
 use crate::ids::{Sym, TypeId, VariantId};
@@ -135,5 +135,20 @@ impl TypeEnv {
         ensures { (name : List ℕ) → option_and_then (entry_of result.now) (sym_named self.now name) ≡ type_of_constant self.now name }
     {
         &self.const_types
+    }
+}
+
+impl Type {
+    /// The name of the type: of a type of the host the name that the host has for it. Empty where the
+    /// environment doesn't have its symbol.
+    pub fn name<'a>(&self, tyenv: &'a TypeEnv) -> &'a str
+        ensures { result.now ≡ unwrap_or (type_name tyenv.now self.now) [] }
+    {
+        match self {
+            Type::Builtin(builtin) => builtin.name(),
+            Type::Primitive(_, name, _) | Type::Enum { name, .. } | Type::Struct { name, .. } => {
+                tyenv.sym_name(*name)
+            }
+        }
     }
 }

@@ -1,5 +1,5 @@
 use Rattle.std.proofs.lemmas.Result.{err_from_is_err_and}
-use Rattle.isle_types.specs.Environment.{HasPlaces}
+use Rattle.isle_types.specs.TypeEnvs.{HasPlaces}
 use Rattle.isle_run.proofs.compiler.compile_files.Goals as goal
 
 pub returns-in_err-termenv : goal.returns-in_err-termenv

@@ -1,5 +1,5 @@
 use Rattle.std.proofs.Common.{◌≡◌}
-use Rattle.isle_types.specs.Environment.{errors_of, types_of}
+use Rattle.isle_types.specs.TypeEnvs.{errors_of, types_of}
 use Rattle.isle_terms.proofs.translate.+expr.Given as goal
 
 abbrev pub invariant-translate_expr_args-loop-i : goal.invariant-translate_expr_args-loop-i

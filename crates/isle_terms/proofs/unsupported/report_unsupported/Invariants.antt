@@ -3,7 +3,7 @@ use Rattle.std.specs.List.{All}
 use Rattle.isle_syntax.specs.Files.{SourceFile}
 use Rattle.isle_syntax.specs.Positions.{HasPlaceAt}
 use Rattle.isle_syntax.specs.Places.{DefAt}
-use Rattle.isle_types.specs.Environment.{types_of, HasPlaces}
+use Rattle.isle_types.specs.TypeEnvs.{types_of, HasPlaces}
 use Rattle.isle_terms.proofs.unsupported.report_unsupported.Given as goal
 
 abbrev pub invariant-loop-def : goal.invariant-loop-def

@@ -2,7 +2,7 @@ use Rattle.std.proofs.Common.{◌≡◌, List}
 use Rattle.std.specs.List.{All}
 use Rattle.isle_syntax.specs.Files.{SourceFile}
 use Rattle.isle_syntax.specs.Positions.{HasPlaceAt}
-use Rattle.isle_types.specs.Environment.{types_of}
+use Rattle.isle_types.specs.TypeEnvs.{types_of}
 use Rattle.isle_terms.specs.Environment.{TermAt, ArePlaced}
 use Rattle.isle_terms.proofs.env.TermEnv.add_terms.Given as goal
 

@@ -1,7 +1,7 @@
 use Rattle.std.proofs.Common.{◌∙◌, ap, refl, arith}
 use Rattle.std.proofs.lemmas.List.Elements.{All-same}
 use Rattle.isle_syntax.specs.Positions.{HasPlaceAt}
-use Rattle.isle_types.specs.Environment.{types_of}
+use Rattle.isle_types.specs.TypeEnvs.{types_of}
 use Rattle.isle_types.proofs.EnvironmentPlaces.{same_places, reported_places}
 use Rattle.isle_terms.specs.Environment.{terms_of, TermAt}
 use Rattle.isle_terms.proofs.TermPlaces.{read_element, with_types, moved}

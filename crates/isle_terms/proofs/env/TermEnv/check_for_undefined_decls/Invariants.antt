@@ -1,6 +1,6 @@
 use Rattle.std.proofs.Common.{◌≡◌, List}
 use Rattle.isle_syntax.specs.Files.{SourceFile}
-use Rattle.isle_types.specs.Environment.{types_of}
+use Rattle.isle_types.specs.TypeEnvs.{types_of}
 use Rattle.isle_terms.specs.Environment.{ArePlaced}
 use Rattle.isle_terms.proofs.env.TermEnv.check_for_undefined_decls.Given as goal
 

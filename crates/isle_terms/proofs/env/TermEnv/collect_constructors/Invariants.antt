@@ -3,7 +3,7 @@ use Rattle.std.specs.List.{All}
 use Rattle.isle_syntax.specs.Files.{SourceFile}
 use Rattle.isle_syntax.specs.Positions.{HasPlaceAt}
 use Rattle.isle_syntax.specs.Places.{DefAt}
-use Rattle.isle_types.specs.Environment.{types_of}
+use Rattle.isle_types.specs.TypeEnvs.{types_of}
 use Rattle.isle_terms.specs.Environment.{ArePlaced}
 use Rattle.isle_terms.proofs.env.TermEnv.collect_constructors.Given as goal
 

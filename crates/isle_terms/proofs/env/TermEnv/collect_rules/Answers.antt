@@ -1,7 +1,7 @@
 use Rattle.std.proofs.Common.{◌∙◌, ap, refl, subst, sym, arith}
 use Rattle.isle_syntax.specs.Positions.{HasPlaceAt}
 use Rattle.isle_syntax.specs.Places.{RuleAt}
-use Rattle.isle_types.specs.Environment.{types_of}
+use Rattle.isle_types.specs.TypeEnvs.{types_of}
 use Rattle.isle_types.proofs.EnvironmentPlaces.{same_places, kept_places, read_def}
 use Rattle.isle_terms.proofs.TermPlaces.{with_types, with_rule, same_terms_and_rules, moved}
 use Rattle.isle_terms.proofs.env.TermEnv.collect_rules.Goals as goal
