@@ -4,3 +4,4 @@ pub mod NamePlaces
 pub mod Interning
 pub mod Tables
 pub mod ShownTypes
+pub mod Naming
