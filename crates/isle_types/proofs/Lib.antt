@@ -5,3 +5,6 @@ pub mod Interning
 pub mod Tables
 pub mod ShownTypes
 pub mod Naming
+pub mod DefinitionTurns
+pub mod FaultLists
+pub mod NamingTurns
