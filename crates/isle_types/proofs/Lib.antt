@@ -8,3 +8,4 @@ pub mod Naming
 pub mod DefinitionTurns
 pub mod FaultLists
 pub mod NamingTurns
+pub mod BuiltinTurns
