@@ -51,6 +51,10 @@ builtin_more items i builtin old new low is so_far types has errors constants = 
   errors = errors ∙ so_far.errors;
 }
 
+-- the builtin types' ids count up
+pub builtins_count : CountUp (λ (type : KnownType). (id_of type).0) 0 (map Builtin builtin_types)
+builtins_count = (refl, (refl, (refl, (refl, (refl, (refl, (refl, (refl, (refl, (refl, (refl, (refl, (refl, tt)))))))))))))
+
 -- an environment with all builtin types shows no others
 pub builtin_shown : (i : ℕ) (env : TypeEnv) → length builtin_types ≤ i → BuiltinSoFar builtin_types i env → Shows env builtin_environment
 builtin_shown i env all so_far =
@@ -60,7 +64,7 @@ builtin_shown i env all so_far =
       made = [];
       all = types;
       types = tt;
-      counted = subst (CountUp (λ (type : KnownType). (id_of type).0) 0) (sym types) (refl, (refl, (refl, (refl, (refl, (refl, (refl, (refl, (refl, (refl, (refl, (refl, (refl, tt)))))))))))));
+      counted = subst (CountUp (λ (type : KnownType). (id_of type).0) 0) (sym types) builtins_count;
       named = subst (λ (builtins : List BuiltinType). HasTypeNames env (map builtin_name builtins)) taken so_far.named;
       constants = so_far.constants;
     }

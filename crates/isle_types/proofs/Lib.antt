@@ -9,3 +9,4 @@ pub mod DefinitionTurns
 pub mod FaultLists
 pub mod NamingTurns
 pub mod BuiltinTurns
+pub mod MakingTurns
