@@ -10,3 +10,4 @@ pub mod FaultLists
 pub mod NamingTurns
 pub mod BuiltinTurns
 pub mod MakingTurns
+pub mod ConstantTurns

@@ -1,4 +1,4 @@
-ghost use Rattle.std.specs.Prelude.{◌≡◌, ◌⊎◌, ◌<◌, ℕ, [], ◌∷◌, ◌++◌, List, All, Some, None, length, map, IfOk, IfErr, OnOk, is_none, if◌then◌else◌, bytes_eq};
+ghost use Rattle.std.specs.Prelude.{◌≡◌, ◌⊎◌, ◌<◌, ℕ, [], ◌∷◌, ◌++◌, List, All, Some, None, length, map, IfOk, IfErr, OnOk, MatchOption, is_none, if◌then◌else◌, bytes_eq};
 ghost use Rattle.isle_syntax.specs.Files.{SourceFile};
 ghost use Rattle.isle_syntax.specs.Positions.{HasPlaceAt};
 ghost use Rattle.isle_syntax.specs.Errors.{IfFault, RefusalsAt};
@@ -6,7 +6,7 @@ ghost use Rattle.isle_syntax.specs.Places.{DefAt};
 ghost use Rattle.isle_types.specs.declared.types.«Type».TheVariants.{Builtin};
 ghost use Rattle.isle_types.specs.IntTypes.{builtin_name, builtin_types, builtin_names};
 ghost use Rattle.isle_types.specs.Names.{place_of, StandOnce};
-ghost use Rattle.isle_types.specs.Environment.{Makes, Environment, AreWithinSizes, builtin_environment, type_definitions, type_names, constant_definitions};
+ghost use Rattle.isle_types.specs.Environment.{Makes, Environment, AreWithinSizes, builtin_environment, type_definitions, type_names, as_constant, constant_definitions};
 ghost use Rattle.isle_types.specs.TypeEnvs.{errors_of, types_of, type_of_constant, HasPlaces, Shows};
 ghost use Rattle.isle_types.specs.Readings.{HasTypeNames, HasReadTypes, ReadsConstants, SameButNames, SameButTypes, SameButConstants, AreTypeFaults, IsLoneSizeFault};
 
@@ -160,7 +160,7 @@ impl TypeEnv {
         ensures same { SameButConstants self.old self.new }
     {
         for def in defs {
-            if let Def::Extern(Extern::Const { name, ty, .. }) = def {
+            if let Some((name, ty)) = constant(def) {
                 match self.get_type_by_name(ty) {
                     Some(id) => self.set_constant(name, id)?,
                     None => self.report_error(ty.1, "this type is not known")?,
@@ -180,5 +180,16 @@ impl TypeEnv {
         let sym = self.intern_str(name.0.as_str())?;
         self.const_types.insert(sym, ty)?;
         Ok(())
+    }
+}
+
+/// The name of a constant and of its type, where a definition defines one.
+fn constant(def: &Def) -> Option<(&Ident, &Ident)>
+    ensures { MatchOption result (as_constant def.now ≡ None)
+        (λ constant. as_constant def.now ≡ Some (constant.0.now, constant.1.now)) }
+{
+    match def {
+        Def::Extern(Extern::Const { name, ty, .. }) => Some((name, ty)),
+        _ => None,
     }
 }
