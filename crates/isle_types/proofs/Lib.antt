@@ -19,3 +19,10 @@ pub mod BinaryDigits
 pub mod SortedPlaces
 pub mod Searches
 pub mod SortedEdits
+pub mod Naming
+pub mod DefinitionTurns
+pub mod FaultLists
+pub mod NamingTurns
+pub mod BuiltinTurns
+pub mod MakingTurns
+pub mod ConstantTurns

@@ -147,6 +147,13 @@ pub record SameButNames (old new : TypeEnv) : Type 0 where
   pub errors : errors_of new ≡ errors_of old
   pub constants : (name : List ℕ) → type_of_constant new name ≡ type_of_constant old name
 
+-- all but the errors is as it was
+pub record SameButErrors (old new : TypeEnv) : Type 0 where
+  pub names : names_of new ≡ names_of old
+  pub types : types_of new ≡ types_of old
+  pub named : (name : List ℕ) → type_of_name new name ≡ type_of_name old name
+  pub constants : (name : List ℕ) → type_of_constant new name ≡ type_of_constant old name
+
 -- all but the table of constants and the errors is as it was, and names are kept
 pub record SameButConstants (old new : TypeEnv) : Type 0 where
   pub names : Keeps (names_of old) (names_of new)

@@ -3,6 +3,7 @@ ghost use Rattle.isle_syntax.specs.declared.error.Error.TheVariants.{TypeError, 
 ghost use Rattle.isle_syntax.specs.Errors.{IfFault, IsFaultAnd, span_at};
 ghost use Rattle.isle_types.specs.Environment.{Environment};
 ghost use Rattle.isle_types.specs.TypeEnvs.{errors_of, types_of, is_size_error, Shows};
+ghost use Rattle.isle_types.specs.Readings.{SameButErrors};
 
 use super::TypeEnv;
 use isle_syntax::error::{Error, Span};
@@ -18,6 +19,7 @@ impl TypeEnv {
         ensures err { OnErr result (errors_of self.new ≡ errors_of self.old) }
         ensures size { IfErr result (λ r. IfFault r (λ errors. IsFaultAnd refusal
             (λ error. (is_size_error error ≡ true) × (errors.items ≡ error ∷ [])))) }
+        ensures same { SameButErrors self.old self.new }
         ensures same_types { types_of self.new ≡ types_of self.old }
         ensures shown { (e : Environment) → Shows self.old e → Shows self.new e }
     {
@@ -66,6 +68,7 @@ impl TypeEnv {
         ensures ok { OnOk result
             (errors_of self.new ≡ errors_of self.old ++ TypeError msg.now (span_at pos) ∷ []) }
         ensures err { OnErr result (errors_of self.new ≡ errors_of self.old) }
+        ensures same { SameButErrors self.old self.new }
         ensures same_types { types_of self.new ≡ types_of self.old }
         ensures shown { (e : Environment) → Shows self.old e → Shows self.new e }
     {

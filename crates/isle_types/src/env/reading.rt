@@ -1,12 +1,12 @@
-ghost use Rattle.std.specs.Prelude.{◌≡◌, ◌⊎◌, ◌<◌, ℕ, [], ◌∷◌, ◌++◌, List, All, Some, None, length, map, IfOk, IfErr, OnOk, is_none, if◌then◌else◌, bytes_eq};
+ghost use Rattle.std.specs.Prelude.{◌≡◌, ◌⊎◌, ◌<◌, ℕ, [], ◌∷◌, ◌++◌, List, All, Some, None, length, map, IfOk, IfErr, OnOk, MatchOption, is_none, if◌then◌else◌, bytes_eq};
 ghost use Rattle.isle_syntax.specs.Files.{SourceFile};
 ghost use Rattle.isle_syntax.specs.Positions.{HasPlaceAt};
 ghost use Rattle.isle_syntax.specs.Errors.{IfFault, RefusalsAt};
 ghost use Rattle.isle_syntax.specs.Places.{DefAt};
 ghost use Rattle.isle_types.specs.declared.types.«Type».TheVariants.{Builtin};
-ghost use Rattle.isle_types.specs.IntTypes.{builtin_types, builtin_names};
+ghost use Rattle.isle_types.specs.IntTypes.{builtin_name, builtin_types, builtin_names};
 ghost use Rattle.isle_types.specs.Names.{place_of, StandOnce};
-ghost use Rattle.isle_types.specs.Environment.{Makes, Environment, AreWithinSizes, builtin_environment, type_definitions, type_names, constant_definitions};
+ghost use Rattle.isle_types.specs.Environment.{Makes, Environment, AreWithinSizes, builtin_environment, type_definitions, type_names, as_constant, constant_definitions};
 ghost use Rattle.isle_types.specs.TypeEnvs.{errors_of, types_of, type_of_constant, HasPlaces, Shows};
 ghost use Rattle.isle_types.specs.Readings.{HasTypeNames, HasReadTypes, ReadsConstants, SameButNames, SameButTypes, SameButConstants, AreTypeFaults, IsLoneSizeFault};
 
@@ -26,20 +26,42 @@ impl TypeEnv {
         ensures no_errors { IfOk result (λ env. errors_of env ≡ []) }
         ensures shown { IfOk result (λ env. Shows env builtin_environment) }
     {
-        let mut env = TypeEnv {
+        let mut env = TypeEnv::empty(alloc);
+        for builtin in BuiltinType::ALL {
+            env.add_builtin(builtin)?;
+        }
+        Ok(env)
+    }
+
+    /// The environment of no types.
+    fn empty(alloc: Global) -> TypeEnv
+        ensures types { types_of result ≡ [] }
+        ensures errors { errors_of result ≡ [] }
+        ensures named { HasTypeNames result [] }
+        ensures constants { (name : List ℕ) → type_of_constant result name ≡ None }
+    {
+        TypeEnv {
             alloc,
             symbols: Symbols::new(alloc),
             types: Vec::new(alloc),
             type_map: StableMap::new(alloc),
             const_types: StableMap::new(alloc),
             errors: Vec::new(alloc),
-        };
-        for builtin in BuiltinType::ALL {
-            let id = TypeId(env.types.len());
-            env.name_type(builtin.name(), id)?;
-            env.types.push(Type::Builtin(builtin))?;
         }
-        Ok(env)
+    }
+
+    /// Names a builtin type, and puts it behind the others.
+    fn add_builtin(&mut self, builtin: BuiltinType) -> Result<(), AllocError>
+        ensures types { OnOk result (types_of self.new ≡ types_of self.old ++ Builtin builtin ∷ []) }
+        ensures named { (known : List (List ℕ)) → HasTypeNames self.old known → length (types_of self.old) ≡ length known
+            → OnOk result (HasTypeNames self.new (known ++ builtin_name builtin ∷ [])) }
+        ensures errors { errors_of self.new ≡ errors_of self.old }
+        ensures constants { (name : List ℕ) → type_of_constant self.new name ≡ type_of_constant self.old name }
+    {
+        let id = TypeId(self.types.len());
+        self.name_type(builtin.name(), id)?;
+        self.types.push(Type::Builtin(builtin))?;
+        Ok(())
     }
 
     /// The environment of these definitions' types and constants; every other definition is passed over.
@@ -138,7 +160,7 @@ impl TypeEnv {
         ensures same { SameButConstants self.old self.new }
     {
         for def in defs {
-            if let Def::Extern(Extern::Const { name, ty, .. }) = def {
+            if let Some((name, ty)) = constant(def) {
                 match self.get_type_by_name(ty) {
                     Some(id) => self.set_constant(name, id)?,
                     None => self.report_error(ty.1, "this type is not known")?,
@@ -158,5 +180,16 @@ impl TypeEnv {
         let sym = self.intern_str(name.0.as_str())?;
         self.const_types.insert(sym, ty)?;
         Ok(())
+    }
+}
+
+/// The name of a constant and of its type, where a definition defines one.
+fn constant(def: &Def) -> Option<(&Ident, &Ident)>
+    ensures { MatchOption result (as_constant def.now ≡ None)
+        (λ constant. as_constant def.now ≡ Some (constant.0.now, constant.1.now)) }
+{
+    match def {
+        Def::Extern(Extern::Const { name, ty, .. }) => Some((name, ty)),
+        _ => None,
     }
 }

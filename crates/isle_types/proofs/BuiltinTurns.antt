@@ -1,0 +1,70 @@
+-- The builtin types, as a loop puts them into an environment.
+use Rattle.std.proofs.Common.{◌≡◌, ℕ, zero, suc, ◌+◌, ◌<◌, ◌≤◌, List, [], ◌∷◌, ◌++◌, map, length, take, get_or, Option, Some, None, IsSome, refl, ap, sym, subst, ◌∙◌, arith, slice_get}
+use Rattle.std.specs.Option.{option_map}
+use Rattle.std.proofs.lemmas.Bool.{false≢true}
+use Rattle.std.proofs.lemmas.List.{map-append, length-map, take_all}
+use Rattle.isle_types.specs.declared.ids.Sym.{Sym}
+use Rattle.isle_types.specs.declared.ids.TypeId.{TypeId}
+use Rattle.isle_types.specs.declared.types.BuiltinType.{BuiltinType}
+use Rattle.isle_types.specs.declared.types.«Type».{«Type» as KnownType}
+use Rattle.isle_types.specs.declared.types.«Type».TheVariants.{Builtin}
+use Rattle.isle_types.specs.declared.env.TypeEnv.{TypeEnv}
+use Rattle.isle_types.specs.IntTypes.{builtin_name, builtin_names, builtin_types}
+use Rattle.isle_types.specs.Interned.{AreInterned}
+use Rattle.isle_types.specs.Types.{id_of}
+use Rattle.isle_types.specs.Names.{place_of}
+use Rattle.isle_types.specs.Environment.{builtin_environment}
+use Rattle.isle_types.specs.TypeEnvs.{errors_of, types_of, type_of_name, type_of_constant, sym_named, type_at, CountUp, Shows}
+use Rattle.isle_types.specs.Readings.{HasTypeNames, SameButNames}
+use Rattle.isle_types.proofs.Tables.{at_place}
+use Rattle.isle_types.proofs.DefinitionTurns.{take_here}
+
+-- what stands after the first builtin types
+pub record BuiltinSoFar (items : List BuiltinType) (i : ℕ) (env : TypeEnv) : Type 0 where
+  pub types : types_of env ≡ map Builtin (take i items)
+  pub named : HasTypeNames env (map builtin_name (take i items))
+  pub constants : (name : List ℕ) → type_of_constant env name ≡ None
+  pub errors : errors_of env ≡ []
+
+pub builtin_at_start : (items : List BuiltinType) (env : TypeEnv) → types_of env ≡ [] → errors_of env ≡ [] → HasTypeNames env [] → ((name : List ℕ) → type_of_constant env name ≡ None) → BuiltinSoFar items 0 env
+builtin_at_start items env types errors named constants = record {
+  types = types;
+  named = named;
+  constants = constants;
+  errors = errors;
+}
+
+-- how many types there are
+pub builtin_counted : (items : List BuiltinType) (i : ℕ) (env : TypeEnv) → BuiltinSoFar items i env → length (types_of env) ≡ length (map builtin_name (take i items))
+builtin_counted items i env so_far =
+    ap length so_far.types ∙ length-map (take i items) Builtin ∙ sym (length-map (take i items) builtin_name)
+
+mapped_more : {X Y : Type 0} (f : X → Y) (items : List X) (i : ℕ) (x : X) → i < length items → x ≡ get_or items i x → map f (take (i + 1) items) ≡ map f (take i items) ++ f x ∷ []
+mapped_more f items i x low is = ap (map f) (take_here items i x low is) ∙ map-append f (take i items) (x ∷ [])
+
+-- one more builtin type
+pub builtin_more : (items : List BuiltinType) (i : ℕ) (builtin : BuiltinType) (old new : TypeEnv) → i < length items → builtin ≡ get_or items i builtin → BuiltinSoFar items i old → types_of new ≡ types_of old ++ Builtin builtin ∷ [] → HasTypeNames new (map builtin_name (take i items) ++ builtin_name builtin ∷ []) → errors_of new ≡ errors_of old → ((name : List ℕ) → type_of_constant new name ≡ type_of_constant old name) → BuiltinSoFar items (i + 1) new
+builtin_more items i builtin old new low is so_far types has errors constants = record {
+  types = types ∙ ap (λ ts. ts ++ Builtin builtin ∷ []) so_far.types ∙ sym (mapped_more Builtin items i builtin low is);
+  named = subst (HasTypeNames new) (sym (mapped_more builtin_name items i builtin low is)) has;
+  constants = λ name. constants name ∙ so_far.constants name;
+  errors = errors ∙ so_far.errors;
+}
+
+-- the builtin types' ids count up
+pub builtins_count : CountUp (λ (type : KnownType). (id_of type).0) 0 (map Builtin builtin_types)
+builtins_count = (refl, (refl, (refl, (refl, (refl, (refl, (refl, (refl, (refl, (refl, (refl, (refl, (refl, tt)))))))))))))
+
+-- an environment with all builtin types shows no others
+pub builtin_shown : (i : ℕ) (env : TypeEnv) → length builtin_types ≤ i → BuiltinSoFar builtin_types i env → Shows env builtin_environment
+builtin_shown i env all so_far =
+    let taken : take i builtin_types ≡ builtin_types = take_all i builtin_types all in
+    let types : types_of env ≡ map Builtin builtin_types = so_far.types ∙ ap (map Builtin) taken in
+    record {
+      made = [];
+      all = types;
+      types = tt;
+      counted = subst (CountUp (λ (type : KnownType). (id_of type).0) 0) (sym types) builtins_count;
+      named = subst (λ (builtins : List BuiltinType). HasTypeNames env (map builtin_name builtins)) taken so_far.named;
+      constants = so_far.constants;
+    }
