@@ -21,7 +21,7 @@ install: build
 replay: build
 	python3 tools/replay.py $(PROGRAM) tests/vectors/*.json
 
-# Times reading and formatting generated rule files.
+# Times reading, typing and formatting generated files, and a sorted map.
 bench: build
 	cd crates/isle_bench && rt run < stdin
 	python3 tools/bench.py crates/isle_bench/out/isle_bench $(PROGRAM)

@@ -1,9 +1,11 @@
-"""Times reading and formatting generated rule files: MB a second, and the most memory it took.
+"""Times reading and formatting generated rule files, typing their types, and a sorted map: MB a second, and the most
+memory it took.
 
     bench.py ISLE_BENCH ISLEC
 """
 
 import os
+import random
 import sys
 import tempfile
 import time
@@ -26,6 +28,24 @@ def rules(size):
         length += len(parts[-1])
         i += 1
     return "".join(parts), i
+
+
+def enums(number, variants):
+    """A text of so many enums of so many variants; a field's type is the enum before."""
+    parts = []
+    for i in range(number):
+        fields = f" (a u64) (b E{max(i - 1, 0)})"
+        body = " ".join(f"(V{j}{fields})" for j in range(variants))
+        parts.append(f"(type E{i} (enum {body}))\n")
+    return "".join(parts)
+
+
+def keys(number, mixed):
+    """So many keys, each on a line, in descending or in mixed order."""
+    ordered = list(range(number, 0, -1))
+    if mixed:
+        random.Random(1).shuffle(ordered)
+    return "".join(f"{key}\n" for key in ordered)
 
 
 def timed(words, path):
@@ -60,7 +80,13 @@ def main():
     bench, islec = (os.path.abspath(it) for it in sys.argv[1:3])
     for megabytes in (2, 4, 8):
         text, number = rules(megabytes * 1_000_000)
-        measure(f"read {megabytes} MB", [bench], text, lambda it: it == f"{number} definitions\n")
+        measure(f"read {megabytes} MB", [bench], text, lambda it: it == f"{number}\n")
+    for number in (500, 1_000, 2_000):
+        measure(f"type {number:,} enums of 50 variants", [bench, "types"], enums(number, 50), lambda it: it == f"{number + 13}\n")
+    for number in (16_384, 65_536):
+        for order in ("descending", "mixed"):
+            text = keys(number, order == "mixed")
+            measure(f"put {number:,} keys in {order} order", [bench, "keys"], text, lambda it: it == f"{number}\n")
     text, _ = rules(4_000_000)
     for width in (20, 80):
         measure(f"format 4 MB at {width}", [islec, "fmt", "--width", str(width)], text, lambda it: it.startswith("(rule"))

@@ -1,5 +1,5 @@
-//! Reads the standard input and tells what it holds, for `make bench`: how many definitions a text spells; of the word
-//! `types` how many types its definitions make; of `keys` how many different numbers stand on its lines.
+//! Reads the standard input and tells what it holds, for `make bench`: how many definitions a text spells; at the word
+//! `types` how many types there are, builtin ones too; at `keys` how many different numbers stand on its lines.
 #![tactic(auto)]
 
 use isle_syntax::Refusal;
@@ -7,7 +7,7 @@ use isle_syntax::lexer::Lexer;
 use isle_syntax::parser::parse;
 use isle_types::{SortedMap, TypeEnv};
 use std::alloc::{AllocError, Global};
-use std::env;
+use std::env::{self, Env};
 use std::io::{self, Read, Write};
 use std::process::ExitCode;
 
