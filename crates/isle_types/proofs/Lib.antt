@@ -26,3 +26,4 @@ pub mod NamingTurns
 pub mod BuiltinTurns
 pub mod MakingTurns
 pub mod ConstantTurns
+pub mod Reading
