@@ -27,3 +27,9 @@ pub mod BuiltinTurns
 pub mod MakingTurns
 pub mod ConstantTurns
 pub mod Reading
+pub mod RootedTables
+pub mod TableMembers
+pub mod JoinedRoots
+pub mod MergedTables
+pub mod RemovedTables
+pub mod CopiedTables

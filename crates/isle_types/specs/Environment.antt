@@ -163,6 +163,10 @@ HasAllowedSize (Struct trees _) = field_count trees ≤ 255
 abbrev pub AreWithinSizes : List Def → Type 0
 AreWithinSizes defs = AllByRecursion (λ (tree : TypeTree). HasAllowedSize tree.ty) (type_definitions defs)
 
+-- definitions that keep the rules, within the sizes: they make an environment
+abbrev pub HaveEnvironment : List Def → Type 0
+HaveEnvironment defs = (environment : Environment) × (Makes defs environment × AreWithinSizes defs)
+
 -- no types but the builtin ones, and no constants
 abbrev pub builtin_environment : Environment
 builtin_environment = record { types = []; constants = [] }

@@ -4,6 +4,8 @@ pub mod Names
 pub mod Ids
 pub mod StableMaps
 pub mod SortedMaps
+pub mod JoinedSets
+pub mod JoinedTables
 pub mod Interned
 pub mod Environment
 pub mod TypeFaults

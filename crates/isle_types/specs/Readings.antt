@@ -25,6 +25,7 @@ use Rattle.isle_types.specs.Types.{id_of}
 use Rattle.isle_types.specs.Names.{place_of, Keeps}
 use Rattle.isle_types.specs.Environment.{NamedType, NamedVariant, FieldList, IsField, IsTupleField, AreFields, IsVariant, IsType, IsConstant, type_definitions, constant_definitions, type_names, constant_in, field_count, HaveAllowedSizes, HasAllowedSize}
 use Rattle.isle_types.specs.TypeFaults.{Breaks, Exceeds, FieldsBreak, VariantsBreak, TypeBreaks, IsTypeFault, IsSizeFault}
+pub use Rattle.isle_types.specs.TypeFaults.{AreTypeFaults, IsLoneSizeFault}
 use Rattle.isle_types.specs.TypeEnvs.{names_of, types_of, errors_of, type_of_name, type_of_constant, type_at, CountUp, IsShownField, IsShownTupleField, AreShownFields, IsShownVariant, IsShown}
 
 -- its table of types has exactly these names, each with its place
@@ -118,16 +119,6 @@ IsTypeErrorAt here error = IsTypeFault (λ pos. pos ≡ here) error
 -- a size error at a position
 abbrev pub IsSizeErrorAt : Pos → Error → Type 0
 IsSizeErrorAt here error = IsSizeFault (λ pos. pos ≡ here) error
-
--- faults of definitions: type errors, each where a rule is broken
-abbrev pub AreTypeFaults : List Def → List Error → Type 0
-AreTypeFaults defs errors = All (IsTypeFault (Breaks defs)) errors
-
--- one size error, where a size is passed
-abbrev pub IsLoneSizeFault : List Def → List Error → Type 0
-IsLoneSizeFault defs [] = ⊥
-IsLoneSizeFault defs (error ∷ []) = IsSizeFault (Exceeds defs) error
-IsLoneSizeFault defs (error ∷ _ ∷ _) = ⊥
 
 -- the types that were read, if nothing is wrong so far: their ids count up, and each is that of its definition
 pub record HasReadTypes (trees : List TypeTree) (known : List (List ℕ)) (env : TypeEnv) : Type 0 where

@@ -1,6 +1,5 @@
 -- Where definitions break a rule of types or constants.
-use Rattle.std.specs.Prelude.{◌≡◌, ℕ, ◌+◌, ◌<◌, Bool, true, false, List, [], ◌∷◌, map, length, slice_get, Some, None, Contains, Vec}
-use Rattle.std.specs.Global.{Global}
+use Rattle.std.specs.Prelude.{◌≡◌, ◌⊎◌, ℕ, ◌+◌, ◌<◌, Bool, true, false, List, [], ◌∷◌, map, length, slice_get, Some, None, Contains, All}
 use Rattle.isle_syntax.specs.declared.lexer.Pos.{Pos}
 use Rattle.isle_syntax.specs.declared.ast.Ident.{Ident}
 use Rattle.isle_syntax.specs.declared.ast.StructField.{StructField}
@@ -71,3 +70,17 @@ IsSizeFault Exceeded (TypeError _ _) = ⊥
 IsSizeFault Exceeded (UnreachableError _ _) = ⊥
 IsSizeFault Exceeded (OverlapError _ _) = ⊥
 IsSizeFault Exceeded (ShadowedError _ _) = ⊥
+
+-- faults of definitions: type errors, each where a rule is broken
+abbrev pub AreTypeFaults : List Def → List Error → Type 0
+AreTypeFaults defs errors = All (IsTypeFault (Breaks defs)) errors
+
+-- one size error, where a size is passed
+abbrev pub IsLoneSizeFault : List Def → List Error → Type 0
+IsLoneSizeFault defs [] = ⊥
+IsLoneSizeFault defs (error ∷ []) = IsSizeFault (Exceeds defs) error
+IsLoneSizeFault defs (error ∷ _ ∷ _) = ⊥
+
+-- what a refusal lists: one size error alone, or type errors, one at least
+abbrev pub AreFaultsOf : List Def → List Error → Type 0
+AreFaultsOf defs errors = IsLoneSizeFault defs errors ⊎ (AreTypeFaults defs errors × (0 < length errors))

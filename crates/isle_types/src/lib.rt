@@ -1,6 +1,7 @@
 //! The types of ISLE: ids, containers, builtin and defined types, and the environment that holds them.
 #![tactic(auto)]
 
+mod disjointsets;
 mod env;
 mod ids;
 mod laws;
@@ -11,6 +12,7 @@ mod symbols;
 mod tests;
 mod types;
 
+pub use disjointsets::DisjointSets;
 pub use env::TypeEnv;
 pub use ids::{FieldId, RuleId, Sym, TermId, TypeId, VarId, VariantId};
 pub use laws::{

@@ -6,7 +6,8 @@ ghost use Rattle.isle_syntax.specs.Places.{DefAt};
 ghost use Rattle.isle_types.specs.declared.types.«Type».TheVariants.{Builtin};
 ghost use Rattle.isle_types.specs.IntTypes.{builtin_name, builtin_types, builtin_names};
 ghost use Rattle.isle_types.specs.Names.{place_of, StandOnce};
-ghost use Rattle.isle_types.specs.Environment.{Makes, Environment, AreWithinSizes, builtin_environment, type_definitions, type_names, as_constant, constant_definitions};
+ghost use Rattle.isle_types.specs.Environment.{Makes, Environment, HaveEnvironment, AreWithinSizes, builtin_environment, type_definitions, type_names, as_constant, constant_definitions};
+ghost use Rattle.isle_types.specs.TypeFaults.{AreFaultsOf};
 ghost use Rattle.isle_types.specs.TypeEnvs.{errors_of, types_of, type_of_constant, HasPlaces, Shows};
 ghost use Rattle.isle_types.specs.Readings.{HasTypeNames, HasReadTypes, ReadsConstants, SameButNames, SameButTypes, SameButConstants, AreTypeFaults, IsLoneSizeFault};
 
@@ -70,9 +71,10 @@ impl TypeEnv {
     pub fn from_ast(alloc: Global, defs: &[Def]) -> Result<TypeEnv, Refusal<Vec<Error>>>
         ensures no_errors { IfOk result (λ env. errors_of env ≡ []) }
         ensures within { OnOk result (AreWithinSizes defs.now) }
-        ensures made { IfOk result (λ env. (environment : Environment) × (Makes defs.now environment × Shows env environment)) }
-        ensures faults { IfErr result (λ r. IfFault r (λ errors. IsLoneSizeFault defs.now errors.items ⊎ (AreTypeFaults defs.now errors.items × (0 < length errors.items)))) }
-        ensures refused { IfErr result (λ r. IfFault r (λ _. (environment : Environment) → Makes defs.now environment → AreWithinSizes defs.now → ⊥)) }
+        ensures made { IfOk result (λ env. (environment : Environment)
+            × (Makes defs.now environment × Shows env environment)) }
+        ensures faults { IfErr result (λ r. IfFault r (λ errors. AreFaultsOf defs.now errors.items)) }
+        ensures refused { IfErr result (λ r. IfFault r (λ _. ¬ HaveEnvironment defs.now)) }
         ensures placed { (files : List SourceFile) → All (DefAt (HasPlaceAt files)) defs.now
             → IfOk result (HasPlaces files) }
         ensures printable { (files : List SourceFile) → All (DefAt (HasPlaceAt files)) defs.now

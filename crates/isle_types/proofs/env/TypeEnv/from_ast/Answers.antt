@@ -2,6 +2,10 @@ use Rattle.std.proofs.Common.{◌≡◌, ◌⊎◌, inl, inr, ◌<◌, [], lengt
 use Rattle.isle_types.specs.TypeEnvs.{errors_of}
 use Rattle.isle_types.proofs.FaultLists.{faults_same}
 use Rattle.isle_types.proofs.Reading.{read_environment, no_items, some_items}
+use Rattle.std.proofs.lemmas.Result.{err_from_is_err_and}
+use Rattle.isle_types.proofs.Told.{told_then}
+use Rattle.isle_types.proofs.Refusals.{refused_makes_none}
+use Rattle.isle_types.proofs.TypePositions.{faults_printable, made_placed}
 use Rattle.isle_types.proofs.env.TypeEnv.from_ast.Goals as goal
 
 pub returns-then-not-is_empty-clause-faults : goal.returns-then-not-is_empty-clause-faults
@@ -18,3 +22,26 @@ returns-clause-made c =
     let once = c.in_ok-collect_names.ensures.once types.0 in
     let read = read_environment c.args.defs.now c.collect_types.new.self c.collect_constants.new.self once c.collect_types.ensures.named types.1 constants.1 c.collect_constants.ensures.same in
     (read.0, (read.1.0, c.take_errors-errors.ensures.shown read.0 read.1.1))
+
+pub returns-then-not-is_empty-clause-refused : goal.returns-then-not-is_empty-clause-refused
+returns-then-not-is_empty-clause-refused c = λ have.
+    refused_makes_none c.args.defs.now c.take_errors-errors.result.items (returns-then-not-is_empty-clause-faults c) have.0 have.1.0 have.1.1
+
+pub returns-then-not-is_empty-clause-printable : goal.returns-then-not-is_empty-clause-printable
+returns-then-not-is_empty-clause-printable c = λ files placed.
+    faults_printable files c.args.defs.now c.take_errors-errors.result.items placed (returns-then-not-is_empty-clause-faults c)
+
+pub returns-in_err-collect_types-clause-refused : goal.returns-in_err-collect_types-clause-refused
+returns-in_err-collect_types-clause-refused c =
+    let e = err_from_is_err_and c.from_residual-in_err-collect_types.result c.from_residual-in_err-collect_types.ensures.1 in
+    rw (e.1, e.2) (told_then c.in_err-collect_types.field-0.0 _ _ (λ errors alone have. refused_makes_none c.args.defs.now errors.items (inl alone) have.0 have.1.0 have.1.1) c.in_err-collect_types.ensures.too_large)
+
+pub returns-in_err-collect_types-clause-printable : goal.returns-in_err-collect_types-clause-printable
+returns-in_err-collect_types-clause-printable c = λ files placed.
+    let e = err_from_is_err_and c.from_residual-in_err-collect_types.result c.from_residual-in_err-collect_types.ensures.1 in
+    rw (e.1, e.2) (told_then c.in_err-collect_types.field-0.0 _ _ (λ errors alone. faults_printable files c.args.defs.now errors.items placed (inl alone)) c.in_err-collect_types.ensures.too_large)
+
+pub returns-clause-placed : goal.returns-clause-placed
+returns-clause-placed c = λ files placed.
+    let made = returns-clause-made c in
+    made_placed files c.args.defs.now c.take_errors-errors.new.self made.0 placed made.1.0 made.1.1 c.take_errors-errors.ensures.none_left
