@@ -1,11 +1,15 @@
 -- What can be printed of an environment of terms still can after a change.
-use Rattle.std.proofs.Common.{◌≡◌, ◌<◌, ℕ, List, [], ◌∷◌, ◌++◌, length, get_or, sym, subst}
+use Rattle.std.proofs.Common.{◌≡◌, ◌<◌, ℕ, List, [], ◌∷◌, ◌++◌, length, get_or, sym, subst, Result, Ok, Err, OnOk, OnErr}
 use Rattle.std.specs.List.{All}
 use Rattle.std.proofs.lemmas.List.Elements.{All-same, All-nil, All-push}
 use Rattle.isle_syntax.specs.Files.{SourceFile}
 use Rattle.isle_syntax.specs.Positions.{HasPlaceAt}
 use Rattle.isle_types.specs.declared.env.TypeEnv.{TypeEnv}
-use Rattle.isle_types.specs.TypeEnvs.{HasPlaces}
+use Rattle.isle_syntax.specs.declared.lexer.Pos.{Pos}
+use Rattle.isle_syntax.specs.declared.error.Error.TheVariants.{TypeError}
+use Rattle.isle_syntax.specs.Errors.{span_at}
+use Rattle.isle_types.specs.TypeEnvs.{HasPlaces, types_of, errors_of}
+use Rattle.isle_types.proofs.EnvironmentPlaces.{reported_places, same_places}
 use Rattle.isle_terms.specs.declared.rules.Rule.{Rule}
 use Rattle.isle_terms.specs.declared.env.TermEnv.{TermEnv}
 use Rattle.isle_terms.specs.Environment.{terms_of, rules_of, TermAt, TypedRuleAt, ArePlaced}
@@ -54,3 +58,10 @@ with_rule files tyenv old new rule terms rules here h =
 pub moved : (files : List SourceFile) (old new : TypeEnv) (before after : TermEnv) → new ≡ old → after ≡ before → ArePlaced files old before → ArePlaced files new after
 moved files old new before after types terms h =
     subst (λ (env : TermEnv). ArePlaced files new env) (sym terms) (subst (λ (tyenv : TypeEnv). ArePlaced files tyenv before) (sym types) h)
+
+-- positions can be printed after an error was kept, or wasn't for want of memory
+pub reported_or_same : {A B : Type 0} (files : List SourceFile) (old new : TypeEnv) (result : Result A B) (message : List ℕ) (pos : Pos) → types_of new ≡ types_of old → OnOk result (errors_of new ≡ errors_of old ++ TypeError message (span_at pos) ∷ []) → OnErr result (errors_of new ≡ errors_of old) → HasPlaceAt files pos → HasPlaces files old → HasPlaces files new
+reported_or_same files old new (Ok x) message pos types ok err here before =
+    reported_places files old new message pos types ok here before
+reported_or_same files old new (Err e) message pos types ok err here before =
+    same_places files old new types err before

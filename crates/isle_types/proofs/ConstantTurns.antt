@@ -78,12 +78,14 @@ kept_more defs i def name ty id start old new low is some named so_far known set
     let meant = known_type (type_names defs) ty.0 id (place_of (type_names defs) ty.0) refl (sym (named ty.0) ∙ sym (so_far.same.named ty.0) ∙ known) in
     record {
       read = λ clean. let before = so_far.read (sym errors ∙ clean) in
-        let reads = before.1 in
-        (before.0, subst (ReadsConstants (type_names defs) new) (sym more) (record {
-          constants = reads.constants ++ (name.0, id.0) ∷ [];
-          meant = all_zipped_more (IsConstant (type_names defs)) (constant_definitions (take i defs)) reads.constants (name, ty) (name.0, id.0) reads.meant (record { name = refl; type = meant });
-          shown = λ q. set q ∙ ap (λ o. cond (bytes_eq q name.0) (Some id) o) (reads.shown q) ∙ through q (bytes_eq q name.0) reads.constants ∙ ap (option_map type_at) (sym (constant_pushed reads.constants (name.0, id.0) q));
-        }));
+          let reads = before.1 in (
+            before.0,
+            subst (ReadsConstants (type_names defs) new) (sym more) (record {
+              constants = reads.constants ++ (name.0, id.0) ∷ [];
+              meant = all_zipped_more (IsConstant (type_names defs)) (constant_definitions (take i defs)) reads.constants (name, ty) (name.0, id.0) reads.meant (record { name = refl; type = meant });
+              shown = λ q. set q ∙ ap (λ o. cond (bytes_eq q name.0) (Some id) o) (reads.shown q) ∙ through q (bytes_eq q name.0) reads.constants ∙ ap (option_map type_at) (sym (constant_pushed reads.constants (name.0, id.0) q));
+            }),
+          );
       faults = faults_same defs (errors_of old) (errors_of new) errors so_far.faults;
       same = same_after start old new so_far.same same;
     }
@@ -104,7 +106,7 @@ kept_unknown defs i def name ty message start old new low is some named so_far u
     record {
       read = λ clean. absurd (some_error (errors_of old) (errors_of new) error errors clean);
       faults = faults_more defs (errors_of old) (errors_of new) error errors so_far.faults
-        (unknown_constant_type (length (constant_definitions (take i defs))) (name, ty) (taken_place as_constant defs i def (name, ty) low is some) missing);
+          (unknown_constant_type (length (constant_definitions (take i defs))) (name, ty) (taken_place as_constant defs i def (name, ty) low is some) missing);
       same = same_after start old new so_far.same (record {
         names = λ place q at. subst (λ (ns : List (List ℕ)). slice_get ns place ≡ Some q) (sym same.names) at;
         types = same.types;

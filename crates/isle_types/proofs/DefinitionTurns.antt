@@ -94,5 +94,5 @@ names_length b trees =
 pub taken_breaks : (defs : List Def) (i : ℕ) (def : Def) (tree : TypeTree) (j : ℕ) → i < length defs → def ≡ get_or defs i def → as_type def ≡ Some tree → place_of (type_names (take i defs)) tree.name.0 ≡ Some j → Breaks defs tree.pos
 taken_breaks defs i def tree j low is some found =
     name_taken (length (type_definitions (take i defs))) tree (taken_place as_type defs i def tree low is some)
-      (subst (IsTwin (type_names defs)) (names_length builtin_names (type_definitions (take i defs)))
-        (middle_twin (type_names defs) (type_names (take i defs)) (map (λ (type : TypeTree). type.name.0) (type_definitions (drop (i + 1) defs))) tree.name.0 j (names_between defs i def tree low is some) found))
+    (subst (IsTwin (type_names defs)) (names_length builtin_names (type_definitions (take i defs)))
+    (middle_twin (type_names defs) (type_names (take i defs)) (map (λ (type : TypeTree). type.name.0) (type_definitions (drop (i + 1) defs))) tree.name.0 j (names_between defs i def tree low is some) found))

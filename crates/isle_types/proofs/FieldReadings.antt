@@ -32,20 +32,20 @@ count_more number n (y ∷ xs) x counted is =
 pub known_place : (env : TypeEnv) (known : List (List ℕ)) (name : List ℕ) (type : TypeId) → HasTypeNames env known → type_of_name env name ≡ Some type → slice_get known type.0 ≡ Some name
 known_place env known name type named is =
     through (place_of known name) refl (sym (named name) ∙ is)
-    where
-      through : (o : Option ℕ) → place_of known name ≡ o → option_map type_at o ≡ Some type → slice_get known type.0 ≡ Some name
-      through None at same = absurd (none-some type same)
-      through (Some i) at same =
-          subst (λ (t : TypeId). slice_get known t.0 ≡ Some name) (same_Some (type_at i) type same) (place_found known name i at)
+  where
+    through : (o : Option ℕ) → place_of known name ≡ o → option_map type_at o ≡ Some type → slice_get known type.0 ≡ Some name
+    through None at same = absurd (none-some type same)
+    through (Some i) at same =
+        subst (λ (t : TypeId). slice_get known t.0 ≡ Some name) (same_Some (type_at i) type same) (place_found known name i at)
 
 -- a type that isn't known has no place
 pub unknown_place : (env : TypeEnv) (known : List (List ℕ)) (name : List ℕ) → HasTypeNames env known → type_of_name env name ≡ None → place_of known name ≡ None
 unknown_place env known name named is =
     through (place_of known name) (sym (named name) ∙ is)
-    where
-      through : (o : Option ℕ) → option_map type_at o ≡ None → o ≡ None
-      through None same = refl
-      through (Some i) same = absurd (none-some (type_at i) (sym same))
+  where
+    through : (o : Option ℕ) → option_map type_at o ≡ None → o ≡ None
+    through None same = refl
+    through (Some i) same = absurd (none-some (type_at i) (sym same))
 
 -- a type error at a position where a rule is broken
 pub fault_at : (Broken : Pos → Type 0) (here : Pos) → Broken here → (error : Error) → IsTypeErrorAt here error → IsTypeFault Broken error

@@ -39,13 +39,13 @@ pub interned_pushed : (names : List (List ℕ)) (table new : List (String Global
 interned_pushed names table new key symbol interned missing last here others = record {
   once = once_pushed names (string_bytes key) interned.once missing;
   placed = λ name. elim (bytes_eq (string_bytes key) name) as (λ b. bytes_eq (string_bytes key) name ≡ b → option_map (λ (s : Sym). s.0) (value_at_text new name) ≡ place_of (names ++ string_bytes key ∷ []) name) [
-      | true ↦ λ same. let decides = bytes_eq-Decides (string_bytes key) name in
-          subst (λ n. option_map (λ (s : Sym). s.0) (value_at_text new n) ≡ place_of (names ++ string_bytes key ∷ []) n) (decides.0 same)
-          (ap (option_map (λ (s : Sym). s.0)) here ∙ ap Some last ∙ sym (place_last names (string_bytes key) missing))
-      | false ↦ λ apart.
-          ap (option_map (λ (s : Sym). s.0)) (kept_at table new key name apart others) ∙ interned.placed name
-          ∙ sym (place_other names (string_bytes key) name (differ_back (string_bytes key) name apart))
-    ] refl;
+    | true ↦ λ same. let decides = bytes_eq-Decides (string_bytes key) name in
+        subst (λ n. option_map (λ (s : Sym). s.0) (value_at_text new n) ≡ place_of (names ++ string_bytes key ∷ []) n) (decides.0 same)
+        (ap (option_map (λ (s : Sym). s.0)) here ∙ ap Some last ∙ sym (place_last names (string_bytes key) missing))
+    | false ↦ λ apart.
+        ap (option_map (λ (s : Sym). s.0)) (kept_at table new key name apart others) ∙ interned.placed name
+        ∙ sym (place_other names (string_bytes key) name (differ_back (string_bytes key) name apart))
+  ] refl;
 }
 
 -- what an insertion puts at its key

@@ -57,12 +57,15 @@ pub made_at_start : (defs : List Def) (env : TypeEnv) → HasTypeNames env (type
 made_at_start defs env named types faults = record {
   named = named;
   sizes = λ _. tt;
-  read = λ clean. (clean, record {
-    made = [];
-    all = types;
-    read = record { types = []; meant = tt; shown = tt };
-    counted = subst (CountUp (λ (type : KnownType). (id_of type).0) 0) (sym types) builtins_count;
-  });
+  read = λ clean. (
+    clean,
+    record {
+      made = [];
+      all = types;
+      read = record { types = []; meant = tt; shown = tt };
+      counted = subst (CountUp (λ (type : KnownType). (id_of type).0) 0) (sym types) builtins_count;
+    },
+  );
   faults = faults;
   constants = λ name. refl;
 }
@@ -107,10 +110,12 @@ made_more defs i def tree type id start old middle new low is some so_far same t
     record {
       named = λ name. named name ∙ same.named name ∙ so_far.named name;
       sizes = λ clean. subst (AllByRecursion (λ (t : TypeTree). HasAllowedSize t.ty)) (sym more)
-        (each_pushed (λ (t : TypeTree). HasAllowedSize t.ty) (type_definitions (take i defs)) tree (so_far.sizes (sym same.errors ∙ sym errors ∙ clean)) size);
-      read = λ clean. let before = so_far.read (sym same.errors ∙ sym errors ∙ clean) in
-        (before.0, subst (λ (trees : List TypeTree). HasReadTypes trees (type_names defs) new) (sym more)
-          (read_pushed (type_definitions (take i defs)) (type_names defs) old new tree type id keeps pushed here last before.1 (subst (λ (ns : List (List ℕ)). ReadsType (type_names defs) ns tree type) (sym names) reads)));
+          (each_pushed (λ (t : TypeTree). HasAllowedSize t.ty) (type_definitions (take i defs)) tree (so_far.sizes (sym same.errors ∙ sym errors ∙ clean)) size);
+      read = λ clean. let before = so_far.read (sym same.errors ∙ sym errors ∙ clean) in (
+        before.0,
+        subst (λ (trees : List TypeTree). HasReadTypes trees (type_names defs) new) (sym more)
+            (read_pushed (type_definitions (take i defs)) (type_names defs) old new tree type id keeps pushed here last before.1 (subst (λ (ns : List (List ℕ)). ReadsType (type_names defs) ns tree type) (sym names) reads)),
+      );
       faults = faults_same defs (errors_of old) (errors_of new) (errors ∙ same.errors) so_far.faults;
       constants = λ name. constants name ∙ same.constants name ∙ so_far.constants name;
     }

@@ -56,11 +56,11 @@ place_pushed (first ∷ names) last name =
       | true ↦ refl
       | false ↦ ap (option_map suc) (place_pushed names last name) ∙ through (place_of names name) (bytes_eq name last)
     ]
-    where
-      through : (o : Option ℕ) (b : Bool) → option_map suc (cond (is_some o) o (cond b (Some (length names)) None)) ≡ cond (is_some (option_map suc o)) (option_map suc o) (cond b (Some (suc (length names))) None)
-      through (Some j) b = refl
-      through None true = refl
-      through None false = refl
+  where
+    through : (o : Option ℕ) (b : Bool) → option_map suc (cond (is_some o) o (cond b (Some (length names)) None)) ≡ cond (is_some (option_map suc o)) (option_map suc o) (cond b (Some (suc (length names))) None)
+    through (Some j) b = refl
+    through None true = refl
+    through None false = refl
 
 -- a new name behind names that stand once
 pub once_pushed : (names : List (List ℕ)) (last : List ℕ) → StandOnce names → place_of names last ≡ None → StandOnce (names ++ last ∷ [])

@@ -47,7 +47,7 @@ once_added known [] once new = subst (λ (ns : List (List ℕ)). StandOnce ns) (
 once_added known (name ∷ names) once new =
     let parts = and_parts (is_none (place_of known name)) (all_new (known ++ name ∷ []) names) new in
     subst (λ (ns : List (List ℕ)). StandOnce ns) (append_assoc known (name ∷ []) names)
-      (once_added (known ++ name ∷ []) names (once_pushed known name once (none_from (place_of known name) parts.0)) parts.1)
+    (once_added (known ++ name ∷ []) names (once_pushed known name once (none_from (place_of known name) parts.0)) parts.1)
 
 -- the builtin types' names differ
 pub builtin_once : StandOnce builtin_names
@@ -96,7 +96,7 @@ named_newly defs i def tree start old new next low is some so_far named same fre
       small = omega (arith, so_far.small);
       faults = faults_same defs (errors_of old) (errors_of new) same.errors so_far.faults;
       once = λ clean. subst (λ (ns : List (List ℕ)). StandOnce ns) (sym more)
-        (once_pushed (type_names (take i defs)) tree.name.0 (so_far.once (sym same.errors ∙ clean)) (none_from (place_of (type_names (take i defs)) tree.name.0) (sym fresh)));
+          (once_pushed (type_names (take i defs)) tree.name.0 (so_far.once (sym same.errors ∙ clean)) (none_from (place_of (type_names (take i defs)) tree.name.0) (sym fresh)));
       same = same_on start old new same.types same.constants so_far.same;
     }
 
@@ -114,4 +114,3 @@ named_again defs i def tree message start old middle new next low is some so_far
       once = λ clean. absurd (some_error (errors_of old) (errors_of new) (TypeError message (span_at tree.pos)) pushed clean);
       same = same_on start old new (reported.types ∙ same.types) (λ name. reported.constants name ∙ same.constants name) so_far.same;
     }
-

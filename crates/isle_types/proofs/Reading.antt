@@ -33,19 +33,24 @@ same_names known (tree ∷ trees) (type ∷ types) each =
 pub read_environment : (defs : List Def) (typed env : TypeEnv) → StandOnce (type_names defs) → HasTypeNames typed (type_names defs) → HasReadTypes (type_definitions defs) (type_names defs) typed → ReadsConstants (type_names defs) env (constant_definitions defs) → SameButConstants typed env → (environment : Environment) × (Makes defs environment × Shows env environment)
 read_environment defs typed env once named types constants same =
     let environment : Environment = record { types = types.read.types; constants = constants.constants } in
-    let names : names_in environment ≡ type_names defs = ap (λ (ns : List (List ℕ)). builtin_names ++ ns) (same_names (type_names defs) (type_definitions defs) types.read.types types.read.meant) in
-    (environment, (record {
-      names = once;
-      types = types.read.meant;
-      constants = constants.meant;
-    }, record {
-      made = types.made;
-      all = same.types ∙ types.all;
-      types = AllZip-weaker (IsShown (names_of typed)) (IsShown (names_of env)) (type_kept (names_of typed) (names_of env) same.names) types.read.types types.made types.read.shown;
-      counted = subst (CountUp (λ (type : KnownType). (id_of type).0) 0) (sym same.types) types.counted;
-      named = λ name. same.named name ∙ named name ∙ ap (λ (ns : List (List ℕ)). option_map type_at (place_of ns name)) (sym names);
-      constants = constants.shown;
-    }))
+    let names : names_in environment ≡ type_names defs = ap (λ (ns : List (List ℕ)). builtin_names ++ ns) (same_names (type_names defs) (type_definitions defs) types.read.types types.read.meant) in (
+      environment,
+      (
+        record {
+          names = once;
+          types = types.read.meant;
+          constants = constants.meant;
+        },
+        record {
+          made = types.made;
+          all = same.types ∙ types.all;
+          types = AllZip-weaker (IsShown (names_of typed)) (IsShown (names_of env)) (type_kept (names_of typed) (names_of env) same.names) types.read.types types.made types.read.shown;
+          counted = subst (CountUp (λ (type : KnownType). (id_of type).0) 0) (sym same.types) types.counted;
+          named = λ name. same.named name ∙ named name ∙ ap (λ (ns : List (List ℕ)). option_map type_at (place_of ns name)) (sym names);
+          constants = constants.shown;
+        },
+      ),
+    )
 
 -- a vector that is empty has no items
 pub no_items : {X : Type 0} (xs : Vec X Global) (empty : Bool) → empty ≡ (vec_len xs == 0) → empty ≡ true → xs.items ≡ []

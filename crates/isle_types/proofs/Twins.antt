@@ -67,14 +67,14 @@ pub among_more : (before : List Sym) (symbol other : Sym) → ((symbol.0 == othe
 among_more before symbol other =
     through (symbol.0 == other.0) (other.0 == symbol.0) (among other before) (eqb-sym symbol.0 other.0)
     ∙ sym (list_any-append (λ (s : Sym). other.0 == s.0) before (symbol ∷ []))
-    where
-      through : (a b found : Bool) → a ≡ b → (a || found) ≡ (found || (b || false))
-      through true true true e = refl
-      through true true false e = refl
-      through false false true e = refl
-      through false false false e = refl
-      through true false found e = absurd (false≢true (sym e))
-      through false true found e = absurd (false≢true e)
+  where
+    through : (a b found : Bool) → a ≡ b → (a || found) ≡ (found || (b || false))
+    through true true true e = refl
+    through true true false e = refl
+    through false false true e = refl
+    through false false false e = refl
+    through true false found e = absurd (false≢true (sym e))
+    through false true found e = absurd (false≢true e)
 
 -- what is not the negation of a test
 pub flip : (a b : Bool) → not a ≡ b → a ≡ not b

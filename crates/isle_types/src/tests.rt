@@ -1,5 +1,5 @@
 //! Environments of types: those of texts, and each call once.
-use crate::{Type, TypeEnv, TypeId};
+use crate::{Fields, Type, TypeEnv, TypeId, Variant, VariantId};
 use isle_syntax::ast::{Def, Ident};
 use isle_syntax::error::Error;
 use isle_syntax::lexer::{Lexer, Pos};
@@ -14,7 +14,7 @@ fn definitions(alloc: Global, texts: &[&str]) -> Result<Vec<Def>, AllocError> {
     for file in 0..texts.len() {
         match parse(Lexer::new(alloc, file, texts[file])) {
             Ok(defs) => append(&mut all, defs)?,
-            Err(Refusal::Fault(_)) => {}
+            Err(Refusal::Fault(_fault)) => {}
             Err(Refusal::Memory(e)) => return Err(e),
         }
     }
@@ -37,7 +37,7 @@ fn environment(alloc: Global, texts: &[&str]) -> Result<TypeEnv, Refusal<Vec<Err
 fn accepted(alloc: Global, texts: &[&str]) -> Result<TypeEnv, Fail> {
     match environment(alloc, texts) {
         Ok(env) => Ok(env),
-        Err(Refusal::Fault(_)) => Err(Fail::from("texts that keep the rules")),
+        Err(Refusal::Fault(_errors)) => Err(Fail::from("texts that keep the rules")),
         Err(Refusal::Memory(e)) => Err(Fail::from(e)),
     }
 }
@@ -45,7 +45,7 @@ fn accepted(alloc: Global, texts: &[&str]) -> Result<TypeEnv, Fail> {
 /// `accepted`, or the kind and place of the first fault.
 fn verdict(alloc: Global, texts: &[&str]) -> Result<String, AllocError> {
     match environment(alloc, texts) {
-        Ok(_) => String::from_str(alloc, "accepted"),
+        Ok(_env) => String::from_str(alloc, "accepted"),
         Err(Refusal::Fault(errors)) => match errors.first() {
             Some(error) => place(alloc, error),
             None => String::from_str(alloc, "no fault"),
@@ -89,7 +89,10 @@ fn broken_rules(rt: HostRuntime) -> Result<(), Fail> {
         ("(type A (struct B))", "type error at 16 of 0"),
         ("(type A (enum (B (f C))))", "type error at 20 of 0"),
         ("(extern const $X B)", "type error at 17 of 0"),
-        ("(type A (struct)) (type A (struct))", "type error at 24 of 0"),
+        (
+            "(type A (struct)) (type A (struct))",
+            "type error at 24 of 0",
+        ),
     ];
     assert_eq!(rt; first_wrong(rt.alloc(), &cases)?.as_str(), "");
     Ok(())
@@ -101,7 +104,10 @@ fn kept_rules(rt: HostRuntime) -> Result<(), Fail> {
         ("", "accepted"),
         ("(type A (struct B)) (type B (primitive B))", "accepted"),
         ("(extern const $X A) (type A (enum B))", "accepted"),
-        ("(type A extern (enum B)) (type B nodebug (struct))", "accepted"),
+        (
+            "(type A extern (enum B)) (type B nodebug (struct))",
+            "accepted",
+        ),
         ("(decl f (C) C) (rule (f x) x)", "accepted"),
     ];
     assert_eq!(rt; first_wrong(rt.alloc(), &cases)?.as_str(), "");
@@ -123,14 +129,20 @@ fn fields_at_both_sides_of_the_bound(rt: HostRuntime) -> Result<(), Fail> {
     let most = wide(rt.alloc(), 255)?;
     let more = wide(rt.alloc(), 256)?;
     assert_eq!(rt; verdict(rt.alloc(), &[most.as_str()])?.as_str(), "accepted");
-    assert_eq!(rt; verdict(rt.alloc(), &[more.as_str()])?.as_str(), "too large at 6 of 0");
+    assert_eq!(rt;
+        verdict(rt.alloc(), &[more.as_str()])?.as_str(),
+        "too large at 6 of 0"
+    );
     Ok(())
 }
 
 #[test]
 fn faults_of_several_files(rt: HostRuntime) -> Result<(), Fail> {
     let texts = ["(type A (struct B))", "(type B (struct C))"];
-    assert_eq!(rt; verdict(rt.alloc(), &texts)?.as_str(), "type error at 16 of 1");
+    assert_eq!(rt;
+        verdict(rt.alloc(), &texts)?.as_str(),
+        "type error at 16 of 1"
+    );
     let texts = ["(type A (struct B))", "(type B (struct A))"];
     assert_eq!(rt; verdict(rt.alloc(), &texts)?.as_str(), "accepted");
     Ok(())
@@ -163,7 +175,10 @@ fn two_types(rt: HostRuntime) -> Result<(), Fail> {
     };
     assert_eq!(rt; first.pos(), Some(Pos::new(0, 19)));
     assert_eq!(rt; second.pos(), Some(Pos::new(0, 62)));
-    assert_eq!(rt; variants_at(rt.alloc(), second)?.as_slice(), [77, 99].as_slice());
+    assert_eq!(rt;
+        variants_at(rt.alloc(), second)?.as_slice(),
+        [77, 99].as_slice()
+    );
     assert!(rt; first.is_prim() && !second.is_prim() && !second.is_int());
     assert_eq!(rt; first.name(&env), "UImm8");
     assert_eq!(rt; second.id(), TypeId(14));
@@ -191,5 +206,54 @@ fn names_and_constants(rt: HostRuntime) -> Result<(), Fail> {
     assert_eq!(rt; env.sym_map().len(), sym.index() + 1);
     assert_eq!(rt; env.type_map().len(), 14);
     assert_eq!(rt; env.const_types().len(), 1);
+    Ok(())
+}
+
+/// The second variant of an enum that has one.
+fn second_variant(env: &TypeEnv, ty: TypeId) -> Option<&Variant> {
+    match env.get_type(ty) {
+        Some(Type::Enum { variants, .. }) => {
+            if variants.as_slice().len() > 1 {
+                Some(env.get_variant(ty, VariantId(1)))
+            } else {
+                None
+            }
+        }
+        _ => None,
+    }
+}
+
+#[test]
+fn variants_and_fields(rt: HostRuntime) -> Result<(), Fail> {
+    let env = accepted(rt.alloc(), &["(type A (enum B (C u8 bool)))"])?;
+    let Some(variant) = second_variant(&env, TypeId(13)) else {
+        return Err(Fail::from("a second variant"));
+    };
+    assert_eq!(rt; env.sym_name(variant.fullname), "A.C");
+    assert_eq!(rt; variant.fields.types(rt.alloc())?.as_slice(), [TypeId::U8, TypeId::BOOL].as_slice());
+    assert_eq!(rt; Fields::Unit.types(rt.alloc())?.len(), 0);
+    Ok(())
+}
+
+/// Whether a refusal that is kept is told at once, alone.
+fn is_told_alone(env: &mut TypeEnv, refusal: Refusal<Error>) -> bool {
+    match env.keep(refusal) {
+        Ok(()) => false,
+        Err(Refusal::Fault(errors)) => errors.len() == 1,
+        Err(Refusal::Memory(_error)) => false,
+    }
+}
+
+#[test]
+fn errors_are_kept(rt: HostRuntime) -> Result<(), Fail> {
+    let mut env = TypeEnv::new(rt.alloc())?;
+    env.report_error(Pos::new(0, 3), "first")?;
+    let second = env.type_error(Pos::new(0, 5), "second");
+    let large = env.size_error(Pos::new(1, 2), "large");
+    assert!(rt; !is_told_alone(&mut env, second));
+    assert_eq!(rt; env.errors().len(), 2);
+    assert!(rt; is_told_alone(&mut env, large));
+    assert_eq!(rt; env.take_errors().len(), 2);
+    assert_eq!(rt; env.errors().len(), 0);
     Ok(())
 }

@@ -26,7 +26,11 @@ pub const MAX_FIELDS: usize = 255;
 
 impl TypeEnv {
     /// The type of a definition.
-    pub(super) fn type_from_ast(&mut self, id: TypeId, ty: &ast::Type) -> Result<Type, Refusal<Error>>
+    pub(super) fn type_from_ast(
+        &mut self,
+        id: TypeId,
+        ty: &ast::Type,
+    ) -> Result<Type, Refusal<Error>>
         ensures same { SameTables self.old self.new }
         ensures id { IfOk result (λ made. id_of made ≡ id) }
         ensures read { (known : List (List ℕ)) → HasTypeNames self.old known

@@ -16,9 +16,9 @@ use crate::ids::TypeId;
 use crate::stablemapset::StableMap;
 use crate::symbols::Symbols;
 use crate::types::{BuiltinType, Type};
+use isle_syntax::Refusal;
 use isle_syntax::ast::{Def, Extern, Ident};
 use isle_syntax::error::Error;
-use isle_syntax::Refusal;
 use std::alloc::{AllocError, Global};
 
 impl TypeEnv {

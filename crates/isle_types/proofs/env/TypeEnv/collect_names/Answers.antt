@@ -31,14 +31,14 @@ loop-def-preserved c =
           elim w.if-not-branch.branch [
             | then-not-branch+in_ok-report_error w' ↦
                 subst (NamedSoFar defs (i + 1) start c.match-def.self) (sym w.next-is) (subst (λ (env : TypeEnv). NamedSoFar defs (i + 1) start env (c.loop-def.next + 1)) (sym (w.self-is ∙ w'.self-is))
-                  (named_again defs i def tree _ start c.loop-def.self w.name_type.new.self w'.report_error.new.self c.loop-def.next c.loop-def-test.true c.def-item.is some so_far named w.name_type.ensures.same (sym w'.if-not-branch.true ∙ new) w'.report_error.ensures.same w'.in_ok-report_error.ensures.ok))
+                (named_again defs i def tree _ start c.loop-def.self w.name_type.new.self w'.report_error.new.self c.loop-def.next c.loop-def-test.true c.def-item.is some so_far named w.name_type.ensures.same (sym w'.if-not-branch.true ∙ new) w'.report_error.ensures.same w'.in_ok-report_error.ensures.ok))
             | else-not-branch w' ↦
                 subst (NamedSoFar defs (i + 1) start c.match-def.self) (sym w.next-is) (subst (λ (env : TypeEnv). NamedSoFar defs (i + 1) start env (c.loop-def.next + 1)) (sym (w.self-is ∙ w'.self-is))
-                  (named_newly defs i def tree start c.loop-def.self w.name_type.new.self c.loop-def.next c.loop-def-test.true c.def-item.is some so_far named w.name_type.ensures.same (sym w'.if-not-branch.false ∙ new)))
+                (named_newly defs i def tree start c.loop-def.self w.name_type.new.self c.loop-def.next c.loop-def-test.true c.def-item.is some so_far named w.name_type.ensures.same (sym w'.if-not-branch.false ∙ new)))
           ]
       | in_default w ↦
           subst (NamedSoFar defs (i + 1) start c.match-def.self) (sym w.next-is) (subst (λ (env : TypeEnv). NamedSoFar defs (i + 1) start env c.loop-def.next) (sym w.self-is)
-            (named_passing defs i def start c.loop-def.self c.loop-def.next c.loop-def-test.true c.def-item.is (no_type def w.in_default.not-TypeDef) so_far))
+          (named_passing defs i def start c.loop-def.self c.loop-def.next c.loop-def-test.true c.def-item.is (no_type def w.in_default.not-TypeDef) so_far))
     ]
 
 pub returns-clause-once : goal.returns-clause-once

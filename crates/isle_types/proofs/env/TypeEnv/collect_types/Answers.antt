@@ -26,12 +26,12 @@ loop-def-preserved c =
       | in-TypeDef+in-Ok+in_ok-push-in-Ok w ↦
           let some = ap as_type w.in-TypeDef.is in
           subst (MadeSoFar defs (i + 1) start) (sym w.self-is)
-            (made_more defs i def w.in-TypeDef.ty w.in-Ok.made _ start old w.type_from_ast.new.self _ c.loop-def-test.true c.def-item.is some so_far w.type_from_ast.ensures.same w.in_ok-push-in-Ok.ensures.items refl refl (λ name. refl) (λ name. refl) w.in-Ok.ensures.id (w.len.ensures ∙ old.types.ok.0) (w.in-Ok.ensures.read known so_far.named) w.in-Ok.ensures.sizes)
+          (made_more defs i def w.in-TypeDef.ty w.in-Ok.made _ start old w.type_from_ast.new.self _ c.loop-def-test.true c.def-item.is some so_far w.type_from_ast.ensures.same w.in_ok-push-in-Ok.ensures.items refl refl (λ name. refl) (λ name. refl) w.in-Ok.ensures.id (w.len.ensures ∙ old.types.ok.0) (w.in-Ok.ensures.read known so_far.named) w.in-Ok.ensures.sizes)
       | in-TypeDef+in-Err+in_ok-keep-in-Err w ↦
           let some = ap as_type w.in-TypeDef.is in
           subst (MadeSoFar defs (i + 1) start) (sym w.self-is)
-            (made_kept defs i def w.in-TypeDef.ty w.in-Err.refusal start old w.type_from_ast.new.self w.keep.new.self c.loop-def-test.true c.def-item.is some so_far w.type_from_ast.ensures.same w.keep.ensures.same (w.in-Err.ensures.fault known so_far.named) w.in_ok-keep-in-Err.ensures.ok)
+          (made_kept defs i def w.in-TypeDef.ty w.in-Err.refusal start old w.type_from_ast.new.self w.keep.new.self c.loop-def-test.true c.def-item.is some so_far w.type_from_ast.ensures.same w.keep.ensures.same (w.in-Err.ensures.fault known so_far.named) w.in_ok-keep-in-Err.ensures.ok)
       | in_default w ↦
           subst (MadeSoFar defs (i + 1) start) (sym w.self-is)
-            (made_passing defs i def start old c.loop-def-test.true c.def-item.is (no_type def w.in_default.not-TypeDef) so_far)
+          (made_passing defs i def start old c.loop-def-test.true c.def-item.is (no_type def w.in_default.not-TypeDef) so_far)
     ]

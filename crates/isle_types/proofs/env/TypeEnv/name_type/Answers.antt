@@ -44,5 +44,5 @@ pub returns-clause-named : goal.returns-clause-named
 returns-clause-named c = λ known has last.
     let env = c.intern_str.new.self in
     names_given known c.args.name.now c.args.id _ _ (free c known has) last
-      (λ q. c.intern_str.ensures.same.named q ∙ has q)
-      (entry_given (names_of env) c.args.name.now c.in_ok-sym.sym env.type_map c.insert.new.self c.args.id env.names_stand_once c.in_ok-sym.ensures.symbol c.in_ok-insert.ensures.values)
+    (λ q. c.intern_str.ensures.same.named q ∙ has q)
+    (entry_given (names_of env) c.args.name.now c.in_ok-sym.sym env.type_map c.insert.new.self c.args.id env.names_stand_once c.in_ok-sym.ensures.symbol c.in_ok-insert.ensures.values)
