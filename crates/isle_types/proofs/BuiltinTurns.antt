@@ -1,22 +1,15 @@
 -- The builtin types, as a loop puts them into an environment.
-use Rattle.std.proofs.Common.{◌≡◌, ℕ, zero, suc, ◌+◌, ◌<◌, ◌≤◌, List, [], ◌∷◌, ◌++◌, map, length, take, get_or, Option, Some, None, IsSome, refl, ap, sym, subst, ◌∙◌, arith, slice_get}
-use Rattle.std.specs.Option.{option_map}
-use Rattle.std.proofs.lemmas.Bool.{false≢true}
+use Rattle.std.proofs.Common.{◌≡◌, ℕ, ◌+◌, ◌<◌, ◌≤◌, List, [], ◌∷◌, ◌++◌, map, length, take, get_or, None, refl, ap, sym, subst, ◌∙◌}
 use Rattle.std.proofs.lemmas.List.{map-append, length-map, take_all}
-use Rattle.isle_types.specs.declared.ids.Sym.{Sym}
-use Rattle.isle_types.specs.declared.ids.TypeId.{TypeId}
 use Rattle.isle_types.specs.declared.types.BuiltinType.{BuiltinType}
 use Rattle.isle_types.specs.declared.types.«Type».{«Type» as KnownType}
 use Rattle.isle_types.specs.declared.types.«Type».TheVariants.{Builtin}
 use Rattle.isle_types.specs.declared.env.TypeEnv.{TypeEnv}
-use Rattle.isle_types.specs.IntTypes.{builtin_name, builtin_names, builtin_types}
-use Rattle.isle_types.specs.Interned.{AreInterned}
+use Rattle.isle_types.specs.IntTypes.{builtin_name, builtin_types}
 use Rattle.isle_types.specs.Types.{id_of}
-use Rattle.isle_types.specs.Names.{place_of}
 use Rattle.isle_types.specs.Environment.{builtin_environment}
-use Rattle.isle_types.specs.TypeEnvs.{errors_of, types_of, type_of_name, type_of_constant, sym_named, type_at, CountUp, Shows}
-use Rattle.isle_types.specs.Readings.{HasTypeNames, SameButNames}
-use Rattle.isle_types.proofs.Tables.{at_place}
+use Rattle.isle_types.specs.TypeEnvs.{errors_of, types_of, type_of_constant, CountUp, Shows}
+use Rattle.isle_types.specs.Readings.{HasTypeNames}
 use Rattle.isle_types.proofs.DefinitionTurns.{take_here}
 
 -- what stands after the first builtin types

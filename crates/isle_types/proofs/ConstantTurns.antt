@@ -1,20 +1,18 @@
 -- The constants, as a loop over definitions keeps them.
-use Rattle.std.proofs.Common.{◌≡◌, ℕ, zero, suc, ◌+◌, ◌<◌, List, [], ◌∷◌, ◌++◌, map, length, take, get_or, Bool, true, false, cond, if◌then◌else◌, Option, Some, None, MatchOption, is_some, refl, ap, sym, subst, ◌∙◌, arith, slice_get, bytes_eq}
+use Rattle.std.proofs.Common.{◌≡◌, ℕ, ◌+◌, ◌<◌, List, [], ◌∷◌, ◌++◌, length, take, get_or, Bool, true, false, cond, if◌then◌else◌, Option, Some, None, MatchOption, is_some, refl, ap, sym, subst, ◌∙◌, slice_get, bytes_eq}
 use Rattle.std.specs.Option.{option_map}
-use Rattle.std.specs.List.{AllZip}
 use Rattle.std.proofs.lemmas.Option.{none-some, same_Some}
 use Rattle.std.proofs.lemmas.Slice.Zip.{all_zipped_more}
 use Rattle.isle_syntax.specs.declared.ast.Ident.{Ident}
 use Rattle.isle_syntax.specs.declared.ast.Def.{Def}
-use Rattle.isle_syntax.specs.declared.lexer.Pos.{Pos}
 use Rattle.isle_syntax.specs.declared.error.Error.TheVariants.{TypeError}
 use Rattle.isle_syntax.specs.Errors.{span_at}
 use Rattle.isle_types.specs.declared.ids.TypeId.{TypeId}
 use Rattle.isle_types.specs.declared.env.TypeEnv.{TypeEnv}
-use Rattle.isle_types.specs.Names.{place_of, Keeps}
-use Rattle.isle_types.specs.Environment.{IsConstant, as_constant, as_external_constant, constant_definitions, constant_in, type_names}
-use Rattle.isle_types.specs.TypeFaults.{Breaks, unknown_constant_type}
-use Rattle.isle_types.specs.TypeEnvs.{names_of, errors_of, types_of, type_of_name, type_of_constant, type_at}
+use Rattle.isle_types.specs.Names.{place_of}
+use Rattle.isle_types.specs.Environment.{IsConstant, as_constant, constant_definitions, constant_in, type_names}
+use Rattle.isle_types.specs.TypeFaults.{unknown_constant_type}
+use Rattle.isle_types.specs.TypeEnvs.{errors_of, type_of_name, type_of_constant, type_at}
 use Rattle.isle_types.specs.Readings.{HasTypeNames, ReadsConstants, SameButErrors, SameButConstants, AreTypeFaults}
 use Rattle.isle_types.proofs.NamePlaces.{place_found}
 use Rattle.isle_types.proofs.DefinitionTurns.{passed_over, taken_up, taken_place}

@@ -1,8 +1,8 @@
 -- Fields as they are read one after another.
-use Rattle.std.proofs.Common.{◌≡◌, ℕ, suc, ◌+◌, ◌<◌, List, [], ◌∷◌, ◌++◌, map, length, take, Option, Some, None, refl, ap, sym, subst, ◌∙◌, arith, add-zero, zero-add, slice_get}
+use Rattle.std.proofs.Common.{◌≡◌, ℕ, suc, ◌+◌, List, [], ◌∷◌, ◌++◌, length, take, Option, Some, None, refl, sym, subst, ◌∙◌, arith, add-zero, zero-add, slice_get}
 use Rattle.std.specs.Option.{option_map}
 use Rattle.std.specs.List.{AllZip}
-use Rattle.std.proofs.lemmas.Option.{same_Some, none-some, slice_get-map}
+use Rattle.std.proofs.lemmas.Option.{same_Some, none-some}
 use Rattle.std.proofs.lemmas.Slice.Zip.{all_zipped_more}
 use Rattle.isle_syntax.specs.declared.lexer.Pos.{Pos}
 use Rattle.isle_syntax.specs.declared.ast.StructField.{StructField as StructFieldTree}
@@ -15,7 +15,7 @@ use Rattle.isle_types.specs.declared.types.TupleField.{TupleField}
 use Rattle.isle_types.specs.declared.env.TypeEnv.{TypeEnv}
 use Rattle.isle_types.specs.Names.{place_of, Keeps}
 use Rattle.isle_types.specs.Environment.{IsField, IsTupleField}
-use Rattle.isle_types.specs.TypeFaults.{FieldsBreak, IsTypeFault}
+use Rattle.isle_types.specs.TypeFaults.{IsTypeFault}
 use Rattle.isle_types.specs.TypeEnvs.{type_of_name, type_at, CountUp, IsShownField, IsShownTupleField, SameTables}
 use Rattle.isle_types.specs.Readings.{HasTypeNames, ReadsFields, ReadsTupleFields, IsTypeErrorAt}
 use Rattle.isle_types.proofs.Lists.{taken_more, AllZip-weaker}

@@ -1,12 +1,12 @@
 -- A name is interned: it goes behind the others, and into the table.
-use Rattle.std.proofs.Common.{◌≡◌, ℕ, List, [], ◌∷◌, ◌++◌, map, length, Bool, true, false, cond, if◌then◌else◌, Option, Some, None, is_some, String, string_bytes, refl, ap, sym, subst, ◌∙◌, arith, slice_get, bytes_eq}
+use Rattle.std.proofs.Common.{◌≡◌, ℕ, List, [], ◌∷◌, ◌++◌, map, length, Bool, true, false, if◌then◌else◌, Some, None, String, string_bytes, refl, ap, sym, subst, ◌∙◌, slice_get, bytes_eq}
 use Rattle.std.specs.Option.{option_map}
-use Rattle.std.specs.Map.{KeepsOthers, lookup}
+use Rattle.std.specs.Map.{KeepsOthers}
 use Rattle.std.specs.Global.{Global}
 use Rattle.std.proofs.lemmas.Slice.Eq.{bytes_eq-Decides}
 use Rattle.std.proofs.lemmas.List.{map-append, length-map}
 use Rattle.isle_types.specs.declared.ids.Sym.{Sym}
-use Rattle.isle_types.specs.Names.{place_of, StandOnce}
+use Rattle.isle_types.specs.Names.{place_of}
 use Rattle.isle_types.specs.Interned.{IsInterned}
 use Rattle.isle_types.specs.StableMaps.{value_at, value_at_text}
 use Rattle.isle_types.proofs.Lists.{slice_get-last}

@@ -1,18 +1,17 @@
 -- The types, as a loop over definitions makes them.
-use Rattle.std.proofs.Common.{◌≡◌, ℕ, zero, suc, ◌+◌, ◌<◌, ◌≤◌, List, [], ◌∷◌, ◌++◌, map, length, take, get_or, Bool, true, false, Option, Some, None, Vec, refl, ap, sym, subst, ◌∙◌, arith, slice_get}
+use Rattle.std.proofs.Common.{◌≡◌, ℕ, suc, ◌+◌, ◌<◌, List, [], ◌∷◌, ◌++◌, map, length, take, get_or, true, false, Some, None, Vec, refl, ap, sym, subst, ◌∙◌, arith, slice_get}
 use Rattle.std.specs.Global.{Global}
-use Rattle.std.specs.List.{AllZip, AllByRecursion}
+use Rattle.std.specs.List.{AllByRecursion}
 use Rattle.std.proofs.lemmas.Bool.{false≢true, true≢false}
 use Rattle.std.proofs.lemmas.List.{append_assoc}
 use Rattle.std.proofs.lemmas.Slice.Zip.{all_zipped_more}
-use Rattle.isle_syntax.specs.declared.lexer.Pos.{Pos}
 use Rattle.isle_syntax.specs.declared.ast.Def.{Def}
 use Rattle.isle_syntax.specs.declared.ast.«Type».{«Type» as TypeTree}
 use Rattle.isle_syntax.specs.declared.error.Error.{Error}
 use Rattle.isle_syntax.specs.declared.error.Error.TheVariants.{ParseError, TypeError, UnreachableError, OverlapError, ShadowedError, SizeError}
 use Rattle.isle_syntax.specs.declared.refusal.Refusal.{Refusal}
 use Rattle.isle_syntax.specs.declared.refusal.Refusal.TheVariants.{Fault, Memory}
-use Rattle.isle_syntax.specs.Errors.{IfFault, IsFaultAnd, span_at}
+use Rattle.isle_syntax.specs.Errors.{IfFault, IsFaultAnd}
 use Rattle.isle_types.specs.declared.ids.TypeId.{TypeId}
 use Rattle.isle_types.specs.declared.types.«Type».{«Type» as KnownType}
 use Rattle.isle_types.specs.declared.types.«Type».TheVariants.{Builtin}
@@ -20,8 +19,8 @@ use Rattle.isle_types.specs.declared.env.TypeEnv.{TypeEnv}
 use Rattle.isle_types.specs.IntTypes.{builtin_types}
 use Rattle.isle_types.specs.Types.{id_of}
 use Rattle.isle_types.specs.Names.{Keeps}
-use Rattle.isle_types.specs.Environment.{NamedType, IsType, HasAllowedSize, AreWithinSizes, as_type, type_definitions, type_names}
-use Rattle.isle_types.specs.TypeFaults.{Breaks, type_breaks, TypeBreaks, Exceeds, IsTypeFault}
+use Rattle.isle_types.specs.Environment.{IsType, HasAllowedSize, AreWithinSizes, as_type, type_definitions, type_names}
+use Rattle.isle_types.specs.TypeFaults.{Breaks, type_breaks, IsTypeFault}
 use Rattle.isle_types.specs.TypeEnvs.{names_of, errors_of, types_of, type_of_name, type_of_constant, is_size_error, CountUp, IsShown, SameTables}
 use Rattle.isle_types.specs.Readings.{HasTypeNames, HasReadTypes, ReadsType, ReadsTypes, SameButErrors, AreTypeFaults, IsDefinitionFault, IsLoneSizeFault}
 use Rattle.isle_types.proofs.Lists.{AllZip-weaker}

@@ -1,10 +1,10 @@
 -- Names and their places.
-use Rattle.std.proofs.Common.{◌≡◌, ℕ, zero, suc, ◌+◌, ◌<◌, ◌⊎◌, inl, inr, List, [], ◌∷◌, ◌++◌, map, length, Bool, true, false, cond, Option, Some, None, is_some, refl, ap, sym, subst, ◌∙◌, arith, slice_get, bytes_eq}
+use Rattle.std.proofs.Common.{◌≡◌, ℕ, zero, suc, inl, inr, List, [], ◌∷◌, ◌++◌, length, Bool, true, false, cond, Option, Some, None, is_some, refl, ap, sym, subst, ◌∙◌, slice_get, bytes_eq}
 use Rattle.std.specs.Option.{option_map}
-use Rattle.std.proofs.lemmas.Option.{same_Some, none-some, slice_get_within}
+use Rattle.std.proofs.lemmas.Option.{same_Some, none-some}
 use Rattle.std.proofs.lemmas.Slice.Eq.{bytes_eq-Decides}
 use Rattle.isle_types.specs.Names.{place_of, with_name, StandOnce, Keeps}
-use Rattle.isle_types.proofs.Lists.{slice_get-kept, slice_get-last, slice_get-pushed}
+use Rattle.isle_types.proofs.Lists.{slice_get-kept, slice_get-pushed}
 
 -- a name equals itself
 pub same_name : (name : List ℕ) → bytes_eq name name ≡ true

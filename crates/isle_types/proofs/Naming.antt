@@ -1,7 +1,7 @@
 -- A table of names when a name gets an entry.
-use Rattle.std.proofs.Common.{◌≡◌, ℕ, ◌==◌, ◌⊎◌, inl, inr, List, [], ◌∷◌, ◌++◌, map, length, Bool, true, false, cond, if◌then◌else◌, Option, Some, None, IsSome, is_some, is_none, refl, ap, sym, subst, ◌∙◌, arith, slice_get, bytes_eq}
-use Rattle.std.specs.Option.{option_map, option_and_then}
-use Rattle.std.proofs.lemmas.Option.{none-some, same_Some}
+use Rattle.std.proofs.Common.{◌≡◌, ℕ, ◌==◌, ◌⊎◌, inl, inr, List, [], ◌∷◌, ◌++◌, length, Bool, true, false, cond, if◌then◌else◌, Option, Some, None, IsSome, is_some, refl, ap, sym, subst, ◌∙◌, slice_get, bytes_eq}
+use Rattle.std.specs.Option.{option_map}
+use Rattle.std.proofs.lemmas.Option.{same_Some}
 use Rattle.std.proofs.lemmas.Bool.{eqb-true, eq-eqb, false≢true, false_from_ne_true}
 use Rattle.std.proofs.lemmas.Slice.Eq.{bytes_eq-Decides}
 use Rattle.isle_types.specs.declared.ids.Sym.{Sym}
@@ -10,7 +10,7 @@ use Rattle.isle_types.specs.Names.{place_of, StandOnce}
 use Rattle.isle_types.specs.Interned.{entry_of, AreInterned}
 use Rattle.isle_types.specs.TypeEnvs.{symbol_at, type_at}
 use Rattle.isle_types.proofs.Tables.{at_place}
-use Rattle.isle_types.proofs.NamePlaces.{place_found, place_known, place_last, place_other, place_there, place_pushed}
+use Rattle.isle_types.proofs.NamePlaces.{place_found, place_known, place_last, place_other, place_there}
 
 -- a table with one more entry, at a symbol
 abbrev pub GetsEntry : List (Sym × TypeId) → List (Sym × TypeId) → Sym → TypeId → Type 0

@@ -1,20 +1,17 @@
 -- The types' names, as a loop over definitions puts them into an environment.
-use Rattle.std.proofs.Common.{◌≡◌, ℕ, zero, suc, ◌+◌, ◌<◌, ◌≤◌, ◌&&◌, List, [], ◌∷◌, ◌++◌, map, length, take, get_or, Bool, true, false, not, Option, Some, None, is_some, is_none, refl, ap, sym, subst, ◌∙◌, arith, slice_get}
-use Rattle.std.specs.Option.{option_map}
+use Rattle.std.proofs.Common.{◌≡◌, ℕ, ◌+◌, ◌<◌, ◌≤◌, ◌&&◌, List, [], ◌∷◌, ◌++◌, map, length, take, get_or, Bool, true, false, Option, Some, None, is_none, refl, ap, sym, subst, ◌∙◌, arith}
 use Rattle.std.proofs.lemmas.Option.{none-some}
 use Rattle.std.proofs.lemmas.Bool.{and_parts, false≢true, true≢false}
 use Rattle.std.proofs.lemmas.List.{append-nil, append_assoc, length-append}
-use Rattle.isle_syntax.specs.declared.lexer.Pos.{Pos}
 use Rattle.isle_syntax.specs.declared.ast.Def.{Def}
 use Rattle.isle_syntax.specs.declared.ast.«Type».{«Type» as TypeTree}
-use Rattle.isle_syntax.specs.declared.error.Error.{Error}
 use Rattle.isle_syntax.specs.declared.error.Error.TheVariants.{TypeError}
 use Rattle.isle_syntax.specs.Errors.{span_at}
 use Rattle.isle_types.specs.declared.env.TypeEnv.{TypeEnv}
 use Rattle.isle_types.specs.IntTypes.{builtin_names}
 use Rattle.isle_types.specs.Names.{place_of, StandOnce}
-use Rattle.isle_types.specs.Environment.{as_type, type_definitions, type_names}
-use Rattle.isle_types.specs.TypeEnvs.{errors_of, types_of, type_of_name, type_of_constant}
+use Rattle.isle_types.specs.Environment.{as_type, type_names}
+use Rattle.isle_types.specs.TypeEnvs.{errors_of, types_of, type_of_constant}
 use Rattle.isle_types.specs.Readings.{HasTypeNames, SameButNames, SameButTypes, SameButErrors, AreTypeFaults}
 use Rattle.isle_types.proofs.NamePlaces.{once_pushed}
 use Rattle.isle_types.proofs.DefinitionTurns.{names_more, passed_over, taken_breaks}

@@ -1,5 +1,5 @@
 -- What is read of all definitions is the environment that they make.
-use Rattle.std.proofs.Common.{◌≡◌, ℕ, ◌<◌, ◌==◌, Bool, true, false, List, [], ◌∷◌, ◌++◌, map, length, Option, Vec, vec_len, refl, ap, sym, subst, ◌∙◌, arith}
+use Rattle.std.proofs.Common.{◌≡◌, ℕ, ◌<◌, ◌==◌, Bool, true, false, List, [], ◌∷◌, ◌++◌, map, length, Vec, vec_len, refl, ap, sym, subst, ◌∙◌, arith}
 use Rattle.std.specs.Global.{Global}
 use Rattle.std.proofs.lemmas.Bool.{eqb-true, eqb-false}
 use Rattle.std.proofs.lemmas.List.{nil_from_length}
@@ -16,7 +16,7 @@ use Rattle.isle_types.specs.IntTypes.{builtin_names}
 use Rattle.isle_types.specs.Types.{id_of}
 use Rattle.isle_types.specs.Names.{place_of, StandOnce}
 use Rattle.isle_types.specs.Environment.{Environment, NamedType, IsType, Makes, type_definitions, constant_definitions, type_names, names_in}
-use Rattle.isle_types.specs.TypeEnvs.{names_of, types_of, type_of_name, type_at, CountUp, IsShown, Shows}
+use Rattle.isle_types.specs.TypeEnvs.{names_of, type_at, CountUp, IsShown, Shows}
 use Rattle.isle_types.specs.Readings.{HasTypeNames, HasReadTypes, ReadsConstants, SameButConstants}
 use Rattle.isle_types.proofs.Lists.{AllZip-weaker}
 use Rattle.isle_types.proofs.ShownTypes.{type_kept}

@@ -1,6 +1,5 @@
 -- What an environment shows stays so when names are interned.
-use Rattle.std.proofs.Common.{◌≡◌, ℕ, List, [], ◌∷◌, ◌++◌, map, Bool, Option, Some, None, refl, ap, sym, subst, ◌∙◌, slice_get, codes}
-use Rattle.std.specs.List.{AllZip}
+use Rattle.std.proofs.Common.{ℕ, List, ◌++◌, Bool, sym, subst, ◌∙◌, codes}
 use Rattle.isle_types.specs.declared.types.StructField.{StructField}
 use Rattle.isle_types.specs.declared.types.Fields.{Fields}
 use Rattle.isle_types.specs.declared.types.Fields.TheVariants.{Unit as NoFields, Struct as NamedFields, Tuple as UnnamedFields}
@@ -11,7 +10,7 @@ use Rattle.isle_types.specs.declared.ids.Sym.{Sym}
 use Rattle.isle_types.specs.declared.env.TypeEnv.{TypeEnv}
 use Rattle.isle_types.specs.Names.{Keeps}
 use Rattle.isle_types.specs.Environment.{Environment, NamedType, NamedVariant, FieldList, no_fields, named_fields, tuple_fields, TypeShape, primitive, enum, struct}
-use Rattle.isle_types.specs.TypeEnvs.{names_of, IsShownField, AreShownFields, IsShownVariant, AreShownVariants, IsShownAs, IsShownShape, IsShown, Shows, SameTables, CountUp}
+use Rattle.isle_types.specs.TypeEnvs.{names_of, IsShownField, AreShownFields, IsShownVariant, IsShownAs, IsShownShape, IsShown, Shows, SameTables, CountUp}
 use Rattle.isle_types.specs.Types.{id_of}
 use Rattle.isle_types.proofs.Lists.{AllZip-weaker}
 

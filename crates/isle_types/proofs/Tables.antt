@@ -1,13 +1,13 @@
 -- Tables of names when a name is interned.
-use Rattle.std.proofs.Common.{◌≡◌, ℕ, ◌+◌, ◌<◌, ◌⊎◌, inl, inr, List, [], ◌∷◌, ◌++◌, map, length, Bool, true, false, cond, if◌then◌else◌, Option, Some, None, IsSome, Result, Ok, Err, OnOk, OnErr, is_some, refl, ap, sym, subst, ◌∙◌, arith, slice_get, bytes_eq}
+use Rattle.std.proofs.Common.{◌≡◌, ℕ, ◌⊎◌, inl, inr, List, [], ◌∷◌, ◌++◌, length, Bool, true, false, cond, Option, Some, None, IsSome, Result, Ok, Err, OnOk, OnErr, is_some, refl, ap, sym, subst, ◌∙◌, arith, slice_get, bytes_eq}
 use Rattle.std.specs.Option.{option_map, option_and_then}
-use Rattle.std.proofs.lemmas.Option.{slice_get_past, none-some}
+use Rattle.std.proofs.lemmas.Option.{slice_get_past}
 use Rattle.std.proofs.lemmas.Bool.{false≢true}
 use Rattle.std.proofs.lemmas.Slice.Eq.{bytes_eq-Decides}
 use Rattle.isle_types.specs.declared.ids.Sym.{Sym}
 use Rattle.isle_types.specs.declared.ids.TypeId.{TypeId}
 use Rattle.isle_types.specs.declared.env.TypeEnv.{TypeEnv}
-use Rattle.isle_types.specs.Names.{place_of, with_name, Keeps}
+use Rattle.isle_types.specs.Names.{place_of, with_name}
 use Rattle.isle_types.specs.Interned.{entry_of, AreInterned}
 use Rattle.isle_types.specs.TypeEnvs.{names_of, types_of, errors_of, symbol_at, SameTables}
 use Rattle.isle_types.proofs.NamePlaces.{place_last, place_other, place_there, with_name-keeps}

@@ -1,27 +1,26 @@
 -- Fields, variants and types as they are read of their trees.
-use Rattle.std.proofs.Common.{◌≡◌, ℕ, zero, suc, ◌+◌, ◌<◌, ◌≤◌, List, [], ◌∷◌, ◌++◌, map, length, take, Bool, true, false, Option, Some, None, refl, ap, sym, subst, ◌∙◌, arith, slice_get, codes, zero-add}
-use Rattle.std.specs.List.{AllZip, AllByRecursion}
+use Rattle.std.proofs.Common.{◌≡◌, ℕ, zero, suc, ◌+◌, ◌<◌, ◌≤◌, List, [], ◌∷◌, ◌++◌, map, length, take, Some, refl, ap, sym, subst, ◌∙◌, arith, slice_get, codes, zero-add}
+use Rattle.std.specs.List.{AllZip}
 use Rattle.std.proofs.lemmas.Option.{same_Some, none-some}
 use Rattle.std.proofs.lemmas.Slice.Zip.{all_zipped_more}
 use Rattle.isle_syntax.specs.declared.lexer.Pos.{Pos}
 use Rattle.isle_syntax.specs.declared.ast.StructField.{StructField as StructFieldTree}
 use Rattle.isle_syntax.specs.declared.ast.StructFields.{StructFields as StructFieldTrees}
 use Rattle.isle_syntax.specs.declared.ast.TupleFields.{TupleFields as TupleFieldTrees}
-use Rattle.isle_syntax.specs.declared.ast.Fields.{Fields as FieldTrees}
-use Rattle.isle_syntax.specs.declared.ast.Fields.TheVariants.{Unit as no_field_trees, Struct as struct_field_trees, Tuple as tuple_field_trees}
+use Rattle.isle_syntax.specs.declared.ast.Fields.TheVariants.{Struct as struct_field_trees, Tuple as tuple_field_trees}
 use Rattle.isle_syntax.specs.declared.ast.Variant.{Variant as VariantTree}
 use Rattle.isle_syntax.specs.declared.ast.«Type».{«Type» as TypeTree}
 use Rattle.isle_syntax.specs.declared.error.Error.{Error}
 use Rattle.isle_syntax.specs.declared.error.Error.TheVariants.{ParseError, TypeError, UnreachableError, OverlapError, ShadowedError, SizeError}
 use Rattle.isle_types.specs.declared.types.StructField.{StructField}
 use Rattle.isle_types.specs.declared.types.TupleField.{TupleField}
-use Rattle.isle_types.specs.declared.types.Fields.TheVariants.{Unit as NoFields, Struct as NamedFields, Tuple as UnnamedFields}
+use Rattle.isle_types.specs.declared.types.Fields.TheVariants.{Struct as NamedFields, Tuple as UnnamedFields}
 use Rattle.isle_types.specs.declared.types.Variant.{Variant}
 use Rattle.isle_types.specs.declared.types.«Type».{«Type» as KnownType}
 use Rattle.isle_types.specs.Names.{StandOnce, Keeps}
-use Rattle.isle_types.specs.Environment.{NamedVariant, NamedType, TypeShape, IsShape, MayBeMarked, FieldList, no_fields, named_fields, tuple_fields, IsField, IsVariant, HaveAllowedSizes, field_count}
-use Rattle.isle_types.specs.TypeFaults.{IsTypeFault, IsSizeFault}
-use Rattle.isle_types.specs.TypeEnvs.{CountUp, IsShownVariant, IsShownShape, StandsAt}
+use Rattle.isle_types.specs.Environment.{NamedVariant, NamedType, TypeShape, IsShape, MayBeMarked, named_fields, tuple_fields, IsField, IsVariant, HaveAllowedSizes, field_count}
+use Rattle.isle_types.specs.TypeFaults.{IsTypeFault}
+use Rattle.isle_types.specs.TypeEnvs.{IsShownVariant, IsShownShape, StandsAt}
 use Rattle.isle_types.specs.Readings.{ReadsFields, ReadsTupleFields, ReadsFieldList, ReadsVariant, ReadsVariants, ReadsType, IsReadingFault}
 use Rattle.isle_types.proofs.Lists.{taken_more, AllZip-weaker}
 use Rattle.isle_types.proofs.ShownTypes.{variant_kept}

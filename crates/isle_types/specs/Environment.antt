@@ -1,5 +1,5 @@
 -- The types and constants that definitions make, by name. Types are counted: the builtin ones from 0, the defined ones after them.
-use Rattle.std.specs.Prelude.{◌≡◌, ◌≢◌, ℕ, ◌+◌, ◌<◌, ◌≤◌, Bool, true, false, List, [], ◌∷◌, ◌++◌, map, length, slice_get, filter_map, Option, Some, None, Contains, if◌then◌else◌, is_some}
+use Rattle.std.specs.Prelude.{◌≡◌, ℕ, ◌+◌, ◌<◌, ◌≤◌, Bool, true, false, List, [], ◌∷◌, ◌++◌, map, length, slice_get, filter_map, Option, Some, None, Contains, if◌then◌else◌, is_some}
 use Rattle.std.specs.List.{AllZip, AllByRecursion}
 use Rattle.std.specs.Str.{bytes_eq}
 use Rattle.isle_syntax.specs.declared.lexer.Pos.{Pos}

@@ -1,5 +1,5 @@
 -- What stands in an environment while definitions are read into it.
-use Rattle.std.specs.Prelude.{◌≡◌, ◌≢◌, ℕ, ◌<◌, List, [], ◌∷◌, ◌++◌, map, length, All, Option, Some, None, slice_get, Contains}
+use Rattle.std.specs.Prelude.{◌≡◌, ℕ, ◌<◌, List, ◌++◌, map}
 use Rattle.std.specs.Option.{option_map}
 use Rattle.std.specs.List.{AllZip}
 use Rattle.isle_syntax.specs.declared.lexer.Pos.{Pos}
@@ -12,7 +12,6 @@ use Rattle.isle_syntax.specs.declared.ast.TupleField.{TupleField as TupleFieldTr
 use Rattle.isle_syntax.specs.declared.ast.Variant.{Variant as VariantTree}
 use Rattle.isle_syntax.specs.declared.ast.«Type».{«Type» as TypeTree}
 use Rattle.isle_syntax.specs.declared.ast.Ident.{Ident}
-use Rattle.isle_syntax.specs.declared.ast.Def.{Def}
 use Rattle.isle_types.specs.declared.types.StructField.{StructField}
 use Rattle.isle_types.specs.declared.types.TupleField.{TupleField}
 use Rattle.isle_types.specs.declared.types.Fields.{Fields}
@@ -20,11 +19,11 @@ use Rattle.isle_types.specs.declared.types.Variant.{Variant}
 use Rattle.isle_types.specs.declared.types.«Type».{«Type» as KnownType}
 use Rattle.isle_types.specs.declared.types.«Type».TheVariants.{Builtin}
 use Rattle.isle_types.specs.declared.env.TypeEnv.{TypeEnv}
-use Rattle.isle_types.specs.IntTypes.{builtin_types, builtin_names}
+use Rattle.isle_types.specs.IntTypes.{builtin_types}
 use Rattle.isle_types.specs.Types.{id_of}
 use Rattle.isle_types.specs.Names.{place_of, Keeps}
-use Rattle.isle_types.specs.Environment.{NamedType, NamedVariant, FieldList, IsField, IsTupleField, AreFields, IsVariant, IsType, IsConstant, type_definitions, constant_definitions, type_names, constant_in, field_count, HaveAllowedSizes, HasAllowedSize}
-use Rattle.isle_types.specs.TypeFaults.{Breaks, Exceeds, FieldsBreak, VariantsBreak, TypeBreaks, IsTypeFault, IsSizeFault}
+use Rattle.isle_types.specs.Environment.{NamedType, NamedVariant, FieldList, IsField, IsTupleField, AreFields, IsVariant, IsType, IsConstant, constant_in, field_count, HaveAllowedSizes, HasAllowedSize}
+use Rattle.isle_types.specs.TypeFaults.{FieldsBreak, VariantsBreak, TypeBreaks, IsTypeFault, IsSizeFault}
 pub use Rattle.isle_types.specs.TypeFaults.{AreTypeFaults, IsLoneSizeFault}
 use Rattle.isle_types.specs.TypeEnvs.{names_of, types_of, errors_of, type_of_name, type_of_constant, type_at, CountUp, IsShownField, IsShownTupleField, AreShownFields, IsShownVariant, IsShown}
 

@@ -1,5 +1,5 @@
 -- Where definitions break a rule of types or constants.
-use Rattle.std.specs.Prelude.{◌≡◌, ◌⊎◌, ℕ, ◌+◌, ◌<◌, Bool, true, false, List, [], ◌∷◌, map, length, slice_get, Some, None, Contains, All}
+use Rattle.std.specs.Prelude.{◌≡◌, ◌⊎◌, ℕ, ◌+◌, ◌<◌, List, [], ◌∷◌, map, length, slice_get, Some, None, All}
 use Rattle.isle_syntax.specs.declared.lexer.Pos.{Pos}
 use Rattle.isle_syntax.specs.declared.ast.Ident.{Ident}
 use Rattle.isle_syntax.specs.declared.ast.StructField.{StructField}
@@ -7,7 +7,6 @@ use Rattle.isle_syntax.specs.declared.ast.TupleField.{TupleField}
 use Rattle.isle_syntax.specs.declared.ast.Fields.{Fields}
 use Rattle.isle_syntax.specs.declared.ast.Fields.TheVariants.{Unit as no_field_trees, Struct as struct_field_trees, Tuple as tuple_field_trees}
 use Rattle.isle_syntax.specs.declared.ast.Variant.{Variant}
-use Rattle.isle_syntax.specs.declared.ast.TypeValue.{TypeValue}
 use Rattle.isle_syntax.specs.declared.ast.TypeValue.TheVariants.{Enum, Struct}
 use Rattle.isle_syntax.specs.declared.ast.«Type».{«Type» as TypeTree}
 use Rattle.isle_syntax.specs.declared.ast.Def.{Def}

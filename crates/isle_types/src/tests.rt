@@ -230,7 +230,10 @@ fn variants_and_fields(rt: HostRuntime) -> Result<(), Fail> {
         return Err(Fail::from("a second variant"));
     };
     assert_eq!(rt; env.sym_name(variant.fullname), "A.C");
-    assert_eq!(rt; variant.fields.types(rt.alloc())?.as_slice(), [TypeId::U8, TypeId::BOOL].as_slice());
+    assert_eq!(rt;
+        variant.fields.types(rt.alloc())?.as_slice(),
+        [TypeId::U8, TypeId::BOOL].as_slice()
+    );
     assert_eq!(rt; Fields::Unit.types(rt.alloc())?.len(), 0);
     Ok(())
 }

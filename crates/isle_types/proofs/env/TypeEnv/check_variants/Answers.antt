@@ -1,4 +1,4 @@
-use Rattle.std.proofs.Common.{◌≡◌, ◌<◌, ◌*◌, ℕ, List, length, map, Some, refl, ap, sym, subst, ◌∙◌, arith, slice_get, rules}
+use Rattle.std.proofs.Common.{◌<◌, ℕ, List, length, map, refl, ap, sym, subst, ◌∙◌, rules}
 use Rattle.std.specs.Option.{MatchOption}
 use Rattle.std.proofs.lemmas.Option.{slice_get_read}
 use Rattle.isle_syntax.specs.declared.ast.Variant.{Variant as VariantTree}

@@ -1,5 +1,4 @@
-use Rattle.std.proofs.Common.{◌≡◌, ◌+◌, List, Some, refl, ap, sym, subst, ◌∙◌}
-use Rattle.isle_types.specs.Environment.{as_constant, type_names}
+use Rattle.std.proofs.Common.{◌+◌, sym, subst}
 use Rattle.isle_types.proofs.ConstantTurns.{KeptSoFar, kept_passing, kept_more, kept_unknown, where_none}
 use Rattle.isle_types.proofs.env.TypeEnv.collect_constants.Goals as goal
 use Rattle.isle_types.proofs.env.TypeEnv.collect_constants.Goals.{in-Some+in-Some-get_type_by_name+in_ok-set_constant-in-Some-get_type_by_name, in-Some+in-None+in_ok-report_error-in-None, in_default}

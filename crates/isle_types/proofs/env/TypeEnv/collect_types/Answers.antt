@@ -1,6 +1,5 @@
-use Rattle.std.proofs.Common.{◌≡◌, ◌+◌, List, Some, refl, ap, sym, subst, ◌∙◌}
+use Rattle.std.proofs.Common.{◌+◌, refl, ap, sym, subst, ◌∙◌}
 use Rattle.std.proofs.lemmas.Result.{err_from_is_err_and}
-use Rattle.isle_types.specs.declared.env.TypeEnv.{TypeEnv}
 use Rattle.isle_types.specs.Environment.{as_type, type_names}
 use Rattle.isle_types.proofs.DefinitionTurns.{no_type}
 use Rattle.isle_types.proofs.MakingTurns.{MadeSoFar, made_passing, made_more, made_kept, handed_on}

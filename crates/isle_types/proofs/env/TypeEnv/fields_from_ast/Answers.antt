@@ -1,4 +1,4 @@
-use Rattle.std.proofs.Common.{◌≡◌, ℕ, List, map, sym, subst, ◌∙◌}
+use Rattle.std.proofs.Common.{map, subst}
 use Rattle.isle_syntax.specs.declared.ast.StructField.{StructField as StructFieldTree}
 use Rattle.isle_types.specs.Names.{StandOnce}
 use Rattle.isle_types.specs.TypeEnvs.{names_of}

@@ -1,4 +1,4 @@
-use Rattle.std.proofs.Common.{◌≡◌, ◌⊎◌, inl, inr, ◌<◌, [], length, ap, sym, subst, ◌∙◌, arith}
+use Rattle.std.proofs.Common.{◌≡◌, inl, inr, [], sym, ◌∙◌}
 use Rattle.isle_types.specs.TypeEnvs.{errors_of}
 use Rattle.isle_types.proofs.FaultLists.{faults_same}
 use Rattle.isle_types.proofs.Reading.{read_environment, no_items, some_items}

@@ -1,4 +1,4 @@
-use Rattle.std.proofs.Common.{◌⊎◌, inl, inr, refl, ◌≡◌}
+use Rattle.std.proofs.Common.{refl}
 use Rattle.isle_types.proofs.Tables.{tables_kept, interned_or_same}
 use Rattle.isle_types.proofs.env.TypeEnv.intern_str.Goals as goal
 

@@ -1,4 +1,4 @@
-use Rattle.std.proofs.Common.{◌≡◌, map, take, get_or}
+use Rattle.std.proofs.Common.{map, take}
 use Rattle.std.proofs.lemmas.List.{get_or_default}
 use Rattle.isle_types.specs.IntTypes.{builtin_types, builtin_name}
 use Rattle.isle_types.proofs.BuiltinTurns.{builtin_counted, builtin_more, builtin_shown}

@@ -1,5 +1,5 @@
-use Rattle.std.proofs.Common.{◌≡◌, ℕ, List, if◌then◌else◌, cond, Some, bytes_eq, ap, ◌∙◌}
-use Rattle.isle_types.specs.TypeEnvs.{names_of, type_of_constant}
+use Rattle.std.proofs.Common.{if◌then◌else◌, Some, bytes_eq, ap, ◌∙◌}
+use Rattle.isle_types.specs.TypeEnvs.{names_of}
 use Rattle.isle_types.proofs.Tables.{interned_or_same}
 use Rattle.isle_types.proofs.Naming.{entry_given, interned_after}
 use Rattle.isle_types.proofs.env.TypeEnv.set_constant.Goals as goal

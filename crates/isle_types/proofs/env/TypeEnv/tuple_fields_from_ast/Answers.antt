@@ -1,4 +1,4 @@
-use Rattle.std.proofs.Common.{◌≡◌, ℕ, List, length, map, Some, refl, ap, sym, subst, ◌∙◌, slice_get}
+use Rattle.std.proofs.Common.{length, refl, ap, subst, ◌∙◌}
 use Rattle.std.proofs.lemmas.Result.{err_from_is_err_and}
 use Rattle.std.proofs.lemmas.Option.{slice_get_read, slice_get-map}
 use Rattle.std.proofs.lemmas.List.{take_all}

@@ -1,4 +1,4 @@
-use Rattle.std.proofs.Common.{◌≡◌, ℕ, List, refl, ap, sym, subst, ◌∙◌, arith}
+use Rattle.std.proofs.Common.{refl, ap, sym, subst, ◌∙◌, arith}
 use Rattle.std.proofs.lemmas.Result.{err_from_is_err_and}
 use Rattle.isle_types.specs.Environment.{primitive, enum, struct, IsShape, HasAllowedSize}
 use Rattle.isle_syntax.specs.declared.ast.TypeValue.TheVariants.{Enum}

@@ -1,8 +1,7 @@
-use Rattle.std.proofs.Common.{◌≡◌, ◌++◌, ℕ, List, Some, refl, ap, sym, subst, ◌∙◌, codes, slice_get}
+use Rattle.std.proofs.Common.{Some, refl, ap, ◌∙◌}
 use Rattle.std.proofs.lemmas.Result.{err_from_is_err_and}
 use Rattle.isle_syntax.specs.declared.ast.Ident.{Ident}
 use Rattle.isle_types.specs.TypeEnvs.{names_of}
-use Rattle.isle_types.proofs.Told.{told_then}
 use Rattle.isle_types.proofs.Tables.{same_then}
 use Rattle.isle_types.proofs.FieldReadings.{named_kept}
 use Rattle.isle_types.proofs.TypeReadings.{variant_read}

@@ -1,16 +1,12 @@
-use Rattle.std.proofs.Common.{◌≡◌, ℕ, List, length, map, Some, refl, ap, sym, subst, ◌∙◌, slice_get}
-use Rattle.std.specs.List.{AllZip}
+use Rattle.std.proofs.Common.{ℕ, List, length, refl, ap, ◌∙◌}
 use Rattle.std.proofs.lemmas.Result.{err_from_is_err_and}
 use Rattle.std.proofs.lemmas.Option.{slice_get_read}
-use Rattle.std.proofs.lemmas.List.{take_all}
 use Rattle.isle_syntax.specs.declared.ast.Variant.{Variant as VariantTree}
 use Rattle.isle_types.specs.declared.ids.Sym.{Sym}
 use Rattle.isle_types.specs.declared.ids.VariantId.{VariantId}
 use Rattle.isle_types.specs.declared.types.Variant.{Variant}
-use Rattle.isle_types.specs.Environment.{HaveAllowedSizes}
 use Rattle.isle_types.specs.TypeFaults.{VariantsBreak, variant_twice, variant_fields_break}
 use Rattle.isle_types.specs.TypeEnvs.{names_of}
-use Rattle.isle_types.specs.Readings.{ReadsVariants}
 use Rattle.isle_types.proofs.Told.{told_then}
 use Rattle.isle_types.proofs.Tables.{same_then}
 use Rattle.isle_types.proofs.NamedItems.{named_more}

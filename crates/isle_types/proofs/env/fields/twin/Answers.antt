@@ -1,7 +1,6 @@
-use Rattle.std.proofs.Common.{◌≡◌, ◌==◌, ◌||◌, ◌∷◌, [], ◌++◌, ℕ, ap, sym, ◌∙◌, subst, arith, take, length, slice_get, get_or, Some, Bool, true, false, not}
+use Rattle.std.proofs.Common.{◌==◌, ◌||◌, ap, sym, ◌∙◌, subst, take, get_or}
 use Rattle.std.proofs.lemmas.Option.{slice_get-get_or}
 use Rattle.std.proofs.lemmas.List.{take_all}
-use Rattle.isle_types.specs.declared.ids.Sym.{Sym}
 use Rattle.isle_types.specs.Names.{StandOnce}
 use Rattle.isle_types.specs.TypeEnvs.{symbol_at}
 use Rattle.isle_types.proofs.Lists.{taken_more}

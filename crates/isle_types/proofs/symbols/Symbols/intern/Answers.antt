@@ -1,8 +1,8 @@
-use Rattle.std.proofs.Common.{◌≡◌, ◌++◌, ◌∷◌, [], map, length, Some, None, string_bytes, slice_get, sym, ◌∙◌, ap, subst}
+use Rattle.std.proofs.Common.{◌≡◌, ◌++◌, ◌∷◌, [], map, None, string_bytes, slice_get, sym, ◌∙◌, ap, subst}
 use Rattle.std.proofs.lemmas.List.{length-map}
 use Rattle.isle_types.specs.Names.{place_of}
 use Rattle.isle_types.specs.Interned.{IsInterned}
-use Rattle.isle_types.proofs.NamePlaces.{same_name, place_found}
+use Rattle.isle_types.proofs.NamePlaces.{place_found}
 use Rattle.isle_types.proofs.Interning.{names_pushed, pushed_symbol, interned_pushed, at_key}
 use Rattle.isle_types.proofs.symbols.Symbols.intern.Goals as goal
 
