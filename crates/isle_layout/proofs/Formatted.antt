@@ -12,7 +12,7 @@ use Rattle.isle_syntax.specs.MacroArgs.{HasNoMacroArgs}
 use Rattle.isle_layout.specs.declared.to_sexpr.HasMacroArg.{HasMacroArg}
 use Rattle.isle_layout.specs.DefSpellings.{IfFault, def_has_macro_arg}
 use Rattle.isle_layout.specs.Prints.{print_of}
-use Rattle.isle_layout.specs.ReadsBack.{IsWhole}
+use Rattle.isle_syntax.specs.Texts.{IsWhole}
 use Rattle.isle_layout.specs.Formats.{Formats}
 use Rattle.isle_layout.proofs.MacroArgs.{defs_have_none}
 use Rattle.isle_layout.proofs.SpeltDefs.{parsed_is_writable}

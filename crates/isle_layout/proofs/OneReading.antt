@@ -13,7 +13,7 @@ use Rattle.isle_syntax.specs.Verdict.{max_nesting, NestsWithin}
 use Rattle.isle_syntax.proofs.Good.{Near, GoodAt, AtEnd, room-append}
 use Rattle.isle_syntax.proofs.Readings.{reading_sound, tokens_same}
 use Rattle.isle_syntax.proofs.Texts.{reads}
-use Rattle.isle_layout.specs.ReadsBack.{IsWhole}
+use Rattle.isle_syntax.specs.Texts.{IsWhole}
 
 near_itself : (r : List Placed) → Near r r
 near_itself [] = refl

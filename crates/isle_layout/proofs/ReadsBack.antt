@@ -17,7 +17,8 @@ use Rattle.isle_layout.specs.DefSpellings.{def_sexpr}
 use Rattle.isle_layout.specs.Layout.{layout}
 use Rattle.isle_layout.specs.Prints.{def_print, print_of}
 use Rattle.isle_layout.specs.Writable.{writable_def}
-use Rattle.isle_layout.specs.ReadsBack.{IsWhole, IsReadAs}
+use Rattle.isle_syntax.specs.Texts.{IsWhole}
+use Rattle.isle_layout.specs.ReadsBack.{IsReadAs}
 use Rattle.isle_layout.proofs.LayoutTokens.{printed, printed_tokens}
 use Rattle.isle_layout.proofs.SpeltDefs.{parsed_is_writable}
 use Rattle.isle_layout.proofs.WithoutPos.{writable_without_pos}

@@ -33,7 +33,7 @@ use Rattle.isle_syntax.specs.Grammar.{IsList}
 use Rattle.isle_syntax.specs.DefGrammar.{SpellsIdent, SpellsField, SpellsFields, IsFilled, numbered, SpellsVariant, bare, in_list, SpellsTypeValue, SpellsType, SpellsSignature, SpellsDecl, SpellsExtractor, SpellsExtern, SpellsConverter, SpellsName, SpellsPriority, SpellsIfLet, if_let, if_holds, IsRightSide, SpellsRightSide, SpellsRule, is_kept_word, SpellsKept, SpellsDef, SpellsText}
 use Rattle.isle_syntax.specs.Verdict.{max_nesting, NestsWithin, IsSpelt}
 use Rattle.isle_syntax.specs.Unread.{Unread}
-use Rattle.isle_layout.specs.ReadsBack.{IsWhole}
+use Rattle.isle_syntax.specs.Texts.{IsWhole}
 use Rattle.isle_layout.specs.TextTokens.{AreTextTokens}
 use Rattle.isle_layout.specs.Nesting.{nesting}
 use Rattle.isle_layout.specs.Writable.{writable_ident, writable_pattern, writable_expr, writable_struct_field, writable_tuple_fields, is_filled, writable_fields, writable_variant, writable_type_value, writable_type, is_free_of_flags, writable_decl, writable_extractor, writable_extern, writable_converter, writable_rule_name, writable_priority, writable_iflet, is_list, is_right_side, writable_rule, writable_kept, has_writable_words, writable_def}

@@ -1,15 +1,10 @@
 -- Which definitions a text reads back as.
-use Rattle.std.specs.Prelude.{◌≡◌, ℕ, List, length, map}
+use Rattle.std.specs.Prelude.{◌≡◌, ℕ, List, map}
 use Rattle.isle_syntax.specs.declared.ast.Def.{Def}
 use Rattle.isle_syntax.specs.Unread.{Unread}
-use Rattle.isle_syntax.specs.TokensOf.{TokensOf}
+use Rattle.isle_syntax.specs.Texts.{IsWhole}
 use Rattle.isle_syntax.specs.Verdict.{IsSpelt}
 use Rattle.isle_syntax.specs.WithoutPos.{def_without_pos}
-
--- a lexer of a text that has given nothing yet: all the text's tokens are still to come
-pub record IsWhole (text : List ℕ) (unread : Unread) : Type 0 where
-  pub size : unread.source.size ≡ length text
-  pub tokens : TokensOf unread.source text unread.left unread.end unread.clean
 
 -- as a file of any number, the text is accepted, and what is read is these definitions but for positions
 abbrev pub IsReadAs : List ℕ → List Def → Type 0

@@ -2,7 +2,8 @@
 ghost use Rattle.std.specs.Prelude.{◌≡◌, ℕ, List, IfErr, IfOk, length, string_bytes};
 ghost use Rattle.isle_syntax.specs.Errors.{IfFault, RefusalAt};
 ghost use Rattle.isle_syntax.specs.Positions.{IsIn};
-ghost use Rattle.isle_layout.specs.Formats.{Formats, IsFaultIn};
+ghost use Rattle.isle_syntax.specs.Texts.{IsFaultIn};
+ghost use Rattle.isle_layout.specs.Formats.{Formats};
 
 use crate::printer::print;
 use isle_syntax::Refusal;

@@ -42,6 +42,7 @@ pub mod LexerCalls
 pub mod Gaps
 pub mod Integers
 pub mod TokensOf
+pub mod Texts
 pub mod Reading
 pub mod Lookahead
 pub mod Parsing

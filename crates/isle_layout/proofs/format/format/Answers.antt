@@ -1,7 +1,7 @@
 use Rattle.std.proofs.Common.{ap, ◌∙◌, string_bytes}
 use Rattle.std.proofs.lemmas.Str.{IsUtf8-string_bytes}
 use Rattle.isle_layout.specs.Prints.{print_of}
-use Rattle.isle_layout.specs.ReadsBack.{IsWhole}
+use Rattle.isle_syntax.specs.Texts.{IsWhole}
 use Rattle.isle_layout.proofs.Formatted.{never_refused, formatted_settles}
 use Rattle.isle_layout.proofs.format.format.Goals as goal
 
