@@ -3,14 +3,17 @@
 PREFIX ?= $(HOME)/.local
 PROGRAM = crates/islec/out/islec
 
-.PHONY: build run test install replay bench
+.PHONY: run build test install replay bench
 
-# Proves the program and builds it. `rt run` answers a query file too, here an empty one.
+# The trial build: compiled with checks in the place of proofs, which takes under a minute.
+run:
+	@echo "trial build: nothing is proved (make build proves it)"
+	cd crates/islec && rt try --data first.isle=../../examples/first.isle -- run --depth 1 first.isle < ../../examples/first.queries
+
+# Proves the program and builds it, some twenty minutes from nothing. `rt run` answers a query file too, here an empty one.
 build:
+	@echo "every proof of the program and of the crates below it: this takes a while"
 	cd crates/islec && rt run -- run ../../examples/first.isle < /dev/null
-
-run: build
-	$(PROGRAM) run --depth 1 examples/first.isle < examples/first.queries
 
 test:
 	rt ci

@@ -10,8 +10,6 @@ mod numbers;
 mod patterns;
 mod rules;
 mod terms;
-#[cfg(test)]
-mod tests;
 mod types;
 
 use crate::sexpr::SExpr;

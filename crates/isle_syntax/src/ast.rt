@@ -14,8 +14,6 @@ mod eq;
 mod macros;
 mod positions;
 mod terms;
-#[cfg(test)]
-mod tests;
 pub(crate) mod wrap;
 
 use crate::lexer::Pos;

@@ -9,8 +9,6 @@ ghost use Rattle.isle_syntax.specs.Gaps.{lead_of};
 ghost use Rattle.isle_syntax.specs.Reading.{reading, next_of, nothing, fault, found};
 ghost use Rattle.isle_syntax.specs.Lookahead.{reading_of, state_of, IsAhead};
 
-#[cfg(test)]
-mod tests;
 
 use crate::Refusal;
 use crate::error::{Error, Span};

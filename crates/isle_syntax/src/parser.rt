@@ -12,8 +12,6 @@ mod items;
 mod patterns;
 mod rules;
 mod terms;
-#[cfg(test)]
-mod tests;
 mod tokens;
 mod types;
 

@@ -119,5 +119,3 @@ impl TypeId {
     pub const ISIZE: TypeId = TypeId(12);
 }
 
-#[cfg(test)]
-mod tests;

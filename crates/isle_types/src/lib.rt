@@ -8,8 +8,6 @@ mod laws;
 mod sorted_map;
 mod stablemapset;
 mod symbols;
-#[cfg(test)]
-mod tests;
 mod types;
 
 pub use disjointsets::DisjointSets;

@@ -122,5 +122,3 @@ fn search<K: Ord, V>(entries: &[(K, V)], places: &[usize], key: &K) -> (Result<u
     (Err(low), comparisons)
 }
 
-#[cfg(test)]
-mod tests;

@@ -189,5 +189,3 @@ impl<K: Eq + Hash + Clone, V: Clone> Clone for StableMap<K, V> {
     }
 }
 
-#[cfg(test)]
-mod tests;

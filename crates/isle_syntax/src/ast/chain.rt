@@ -2,8 +2,6 @@ ghost use Rattle.std.specs.Prelude.{◌≡◌, IfOk};
 ghost use Rattle.isle_syntax.specs.PatternShape.{pattern_of};
 ghost use Rattle.isle_syntax.specs.Subject.{subject, names_bound};
 
-#[cfg(test)]
-mod tests;
 
 use crate::ast::{Ident, Pattern};
 use crate::lexer::Pos;

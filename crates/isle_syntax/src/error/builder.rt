@@ -1,7 +1,5 @@
 ghost use Rattle.std.specs.Prelude.{◌≡◌, ◌∷◌, ◌++◌, [], IfOk};
 
-#[cfg(test)]
-mod tests;
 
 use crate::error::{Error, Errors};
 use crate::files::Files;

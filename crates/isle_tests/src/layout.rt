@@ -1,0 +1,3 @@
+mod printer;
+mod spellings;
+mod writable;

@@ -1,0 +1,10 @@
+//! Tests of the libraries, over their public calls: what no clause says, each public call once with memory at hand,
+//! and the words and bounds that definitions and code could get wrong together.
+#![tactic(auto)]
+
+#[cfg(test)]
+mod layout;
+#[cfg(test)]
+mod syntax;
+#[cfg(test)]
+mod types;
