@@ -11,6 +11,7 @@ pub mod Terms
 pub mod WithoutPos
 pub mod LineStarts
 pub mod Comments
+pub mod Counts
 pub mod Cuts
 pub mod ErrorTexts
 pub mod Gaps

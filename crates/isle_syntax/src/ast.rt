@@ -264,7 +264,7 @@ impl KeptItems {
     }
 
     /// Where its memory comes from.
-    pub fn allocator(&self) -> Global {
+    pub(crate) fn allocator(&self) -> Global {
         *self.items.allocator()
     }
 }
@@ -396,7 +396,7 @@ impl BoxedPattern {
     }
 
     /// Where its memory comes from.
-    pub fn allocator(&self) -> Global {
+    pub(crate) fn allocator(&self) -> Global {
         *Box::allocator(&self.pattern)
     }
 }
@@ -451,7 +451,7 @@ impl Patterns {
     }
 
     /// Where its memory comes from.
-    pub fn allocator(&self) -> Global {
+    pub(crate) fn allocator(&self) -> Global {
         *self.patterns.allocator()
     }
 }
@@ -612,7 +612,7 @@ impl BoxedExpr {
     }
 
     /// Where its memory comes from.
-    pub fn allocator(&self) -> Global {
+    pub(crate) fn allocator(&self) -> Global {
         *Box::allocator(&self.expr)
     }
 }
@@ -667,7 +667,7 @@ impl Exprs {
     }
 
     /// Where its memory comes from.
-    pub fn allocator(&self) -> Global {
+    pub(crate) fn allocator(&self) -> Global {
         *self.exprs.allocator()
     }
 }
@@ -722,7 +722,7 @@ impl LetDefs {
     }
 
     /// Where its memory comes from.
-    pub fn allocator(&self) -> Global {
+    pub(crate) fn allocator(&self) -> Global {
         *self.defs.allocator()
     }
 }

@@ -23,7 +23,7 @@ fn walks_down_a_long_chain_fit_the_stack(rt: HostRuntime) -> Result<(), Fail> {
     let bare = copy.without_pos(alloc)?;
     assert!(rt; bare == chain);
     let mut terms = 0;
-    chain.terms(|_, _| terms = 1);
+    chain.terms(&mut |_, _| terms = 1);
     assert_eq!(rt; terms, 0);
     let template = chain.make_macro_template(alloc, &[])?;
     let filled = template.subst_macro_args(alloc, &[])?;

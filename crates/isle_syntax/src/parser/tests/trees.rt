@@ -88,10 +88,10 @@ fn terms_in_preorder(rt: HostRuntime) -> Result<(), Fail> {
     let text = "(rule (f (g x) (h y @ (k _))) (let ((m u8 (p 1))) (q m)))";
     let rule = rule(placed(rt.alloc(), text)?)?;
     let mut seen: u64 = 0;
-    rule.pattern.terms(|pos, _| seen = seen.wrapping_mul(100).wrapping_add(pos.offset as u64));
+    rule.pattern.terms(&mut |pos, _| seen = seen.wrapping_mul(100).wrapping_add(pos.offset as u64));
     assert_eq!(rt; seen, 6091522);
     let mut seen: u64 = 0;
-    rule.expr.terms(|pos, _| seen = seen.wrapping_mul(100).wrapping_add(pos.offset as u64));
+    rule.expr.terms(&mut |pos, _| seen = seen.wrapping_mul(100).wrapping_add(pos.offset as u64));
     assert_eq!(rt; seen, 4250);
     Ok(())
 }
