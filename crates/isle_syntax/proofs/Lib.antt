@@ -7,6 +7,7 @@ pub mod Equality
 pub mod DefEquality
 pub mod Orders
 pub mod Macros
+pub mod Substitution
 pub mod Terms
 pub mod WithoutPos
 pub mod LineStarts
