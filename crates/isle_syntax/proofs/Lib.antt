@@ -6,6 +6,7 @@ pub mod TreeShapes
 pub mod Equality
 pub mod DefEquality
 pub mod Orders
+pub mod Hashes
 pub mod Macros
 pub mod Substitution
 pub mod Terms

@@ -138,9 +138,9 @@ all_supplied [] given text enough = refl
 all_supplied (name ∷ names) [] text enough = absurd (omega arith)
 all_supplied (name ∷ names) (first ∷ others) text enough =
     step (bytes_eq name.0 text) (all_supplied names others text (omega arith)) where
-  step : (here : Bool) → supplied names others text ≡ true → (not (here || listed names text) || is_some (if here then Some first else pattern_for (zip names others) text)) ≡ true
-  step true rest = refl
-  step false rest = rest
+      step : (here : Bool) → supplied names others text ≡ true → (not (here || listed names text) || is_some (if here then Some first else pattern_for (zip names others) text)) ≡ true
+      step true rest = refl
+      step false rest = rest
 
 all_pass : {X : Type 0} (test : X → Bool) → ((x : X) → test x ≡ true) → (xs : List X) → list_all test xs ≡ true
 all_pass test passes [] = refl

@@ -1,5 +1,5 @@
 -- What comparisons and hashes tell of the values that they are of.
-use Rattle.std.specs.Prelude.{◌≡◌, ◌↔◌, ◌++◌, ℕ, List, Bool, IsTrue, Option, Some}
+use Rattle.std.specs.Prelude.{◌≡◌, ◌↔◌, ◌++◌, ◌<◌, ◌^◌, ℕ, List, Bool, IsTrue, Option, Some}
 use Rattle.std.specs.Cmp.{IsTotalOrder}
 use Rattle.std.specs.Hash as hash
 use Rattle.std.specs.declared.cmp.Ordering.{Ordering}
@@ -22,6 +22,14 @@ pos_hash p = hash.usize p.file ++ hash.usize p.offset
 -- what is hashed of a name: its text, then its position
 abbrev pub ident_hash : Ident → List (List ℕ)
 ident_hash name = hash.str name.0 ++ pos_hash name.1
+
+-- a position as the program can hold it
+abbrev pub IsInRange : Pos → Type 0
+IsInRange p = (p.file < 2 ^ 64) × (p.offset < 2 ^ 64)
+
+-- different values of a kind are hashed differently
+abbrev pub HashesApart : {A : Type 0} → (A → Type 0) → (A → List (List ℕ)) → Type 0
+HashesApart {A} IsOfKind hash_input = (a b : A) → IsOfKind a → IsOfKind b → hash_input a ≡ hash_input b → a ≡ b
 
 -- Values that compare by a total order in which two are level exactly where they are the same, that are equal exactly
 -- there, and of which this is hashed.

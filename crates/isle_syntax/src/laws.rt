@@ -1,5 +1,5 @@
 //! Laws of texts, positions, names and trees, each as a function whose contract states it.
-ghost use Rattle.std.specs.Prelude.{◌≡◌, false, List};
+ghost use Rattle.std.specs.Prelude.{◌≡◌, ⊤, false, List};
 ghost use Rattle.std.specs.Ordering.{nat_cmp};
 ghost use Rattle.std.specs.Cmp.Lexicographic.{slice_cmp};
 ghost use Rattle.std.specs.Hash.{str as text_hash};
@@ -11,7 +11,7 @@ ghost use Rattle.isle_syntax.specs.ItemShape.{item_of};
 ghost use Rattle.isle_syntax.specs.Trees.{has_macro_arg};
 ghost use Rattle.isle_syntax.specs.Substitution.{Substitutes};
 ghost use Rattle.isle_syntax.specs.Orders.{pos_cmp, ident_cmp};
-ghost use Rattle.isle_syntax.specs.Comparisons.{AreOrdered, TellsSame, TellsSameTree, pos_hash, ident_hash};
+ghost use Rattle.isle_syntax.specs.Comparisons.{AreOrdered, HashesApart, IsInRange, TellsSame, TellsSameTree, pos_hash, ident_hash};
 
 use crate::ast::{
     BoxedExpr, BoxedPattern, Converter, Decl, Def, Expr, Exprs, Extern, Extractor, Fields, Ident,
@@ -22,22 +22,25 @@ use crate::lexer::Pos;
 use crate::text::Text;
 use std::hash::Hash;
 
-/// Texts are compared and hashed as their bytes.
+/// Texts are compared and hashed as their bytes, different ones differently.
 pub fn texts_are_ordered()
-    ensures { AreOrdered (slice_cmp nat_cmp) text_hash
+    ensures ordered { AreOrdered (slice_cmp nat_cmp) text_hash
         ⟦<Text as PartialEq>⟧.eq ⟦<Text as PartialOrd>⟧.partial_cmp ⟦<Text as Ord>⟧.cmp ⟦<Text as Hash>⟧.hash_input }
+    ensures apart { HashesApart (λ text. ⊤) ⟦<Text as Hash>⟧.hash_input }
 {}
 
-/// Positions are compared by file, then by offset.
+/// Positions are compared by file, then by offset, and different ones are hashed differently.
 pub fn positions_are_ordered()
-    ensures { AreOrdered pos_cmp pos_hash
+    ensures ordered { AreOrdered pos_cmp pos_hash
         ⟦<Pos as PartialEq>⟧.eq ⟦<Pos as PartialOrd>⟧.partial_cmp ⟦<Pos as Ord>⟧.cmp ⟦<Pos as Hash>⟧.hash_input }
+    ensures apart { HashesApart IsInRange ⟦<Pos as Hash>⟧.hash_input }
 {}
 
-/// Names are compared by the bytes of their text, then by their position.
+/// Names are compared by the bytes of their text, then by their position, and different ones are hashed differently.
 pub fn identifiers_are_ordered()
-    ensures { AreOrdered ident_cmp ident_hash
+    ensures ordered { AreOrdered ident_cmp ident_hash
         ⟦<Ident as PartialEq>⟧.eq ⟦<Ident as PartialOrd>⟧.partial_cmp ⟦<Ident as Ord>⟧.cmp ⟦<Ident as Hash>⟧.hash_input }
+    ensures apart { HashesApart (λ name. IsInRange name.1) ⟦<Ident as Hash>⟧.hash_input }
 {}
 
 /// Definitions are equal exactly where they are the same.

@@ -5,8 +5,8 @@ use Rattle.std.specs.Ordering.{nat_cmp}
 use Rattle.isle_syntax.proofs.Orders.{level}
 use Rattle.isle_syntax.proofs.laws.texts_are_ordered.Goals as goal
 
-pub returns : goal.returns
-returns c = record {
+pub returns-clause-ordered : goal.returns-clause-ordered
+returns-clause-ordered c = record {
   compares = λ a b. refl;
   compares_always = λ a b. refl;
   total = nat_list_cmp_total;
