@@ -6,11 +6,14 @@ pub mod TreeShapes
 pub mod Equality
 pub mod DefEquality
 pub mod Orders
+pub mod Hashes
 pub mod Macros
+pub mod Substitution
 pub mod Terms
 pub mod WithoutPos
 pub mod LineStarts
 pub mod Comments
+pub mod Counts
 pub mod Cuts
 pub mod ErrorTexts
 pub mod Gaps

@@ -12,7 +12,8 @@ use Rattle.isle_syntax.specs.contracts.ast.IdentOrd.TheImpl as ident
 use Rattle.isle_syntax.specs.contracts.ast.IdentOrd.TheImpl.Laws as ident_laws
 use Rattle.isle_syntax.proofs.DefEquality.{pos-decides, ident-decides}
 
-level : {K : Type 0} {E : K → K → Bool} (R : K → K → Ordering) → ((x y : K) → E x y ≡ eq_by_cmp R x y)
+-- what ties exactly where a test of sameness passes is level exactly at the same
+pub level : {K : Type 0} {E : K → K → Bool} (R : K → K → Ordering) → ((x y : K) → E x y ≡ eq_by_cmp R x y)
     → ((x y : K) → Decides (E x y) (x ≡ y)) → (x y : K) → (R x y ≡ Equal) ↔ (x ≡ y)
 level R ties decides x y =
     (λ e. (decides x y).0 (ties x y ∙ (Equal-is (R x y)).1 e), λ e. (Equal-is (R x y)).0 (sym (ties x y) ∙ (decides x y).1 e))

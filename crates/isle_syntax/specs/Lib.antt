@@ -15,12 +15,14 @@ pub mod Chain
 pub mod Trees
 pub mod Subject
 pub mod Macros
+pub mod Substitution
 pub mod Terms
 pub mod WithoutPos
 pub mod Verdict
 pub mod Equality
 pub mod Definitions
 pub mod Orders
+pub mod Comparisons
 pub mod Ends
 pub mod Tokens
 pub mod Unread

@@ -1,5 +1,5 @@
--- Templates of patterns, what a template stands for at given patterns, and patterns put in for names.
-use Rattle.std.specs.Prelude.{ℕ, ◌+◌, List, [], ◌∷◌, Bool, true, false, if◌then◌else◌, Option, None, Some, slice_get, ◌++◌}
+-- Templates of patterns, and what a template stands for at given patterns.
+use Rattle.std.specs.Prelude.{ℕ, ◌+◌, List, [], ◌∷◌, Bool, true, false, if◌then◌else◌, Option, None, Some, slice_get}
 use Rattle.std.specs.Option.{option_map, option_and_then}
 use Rattle.std.specs.Str.{bytes_eq}
 use Rattle.isle_syntax.specs.declared.lexer.Pos.{Pos}
@@ -73,55 +73,3 @@ abbrev mutual
   all_filled given no_patterns = Some no_patterns
   all_filled given (more_patterns first others) =
       more_given (filled given first) (all_filled given others)
-
--- the pattern for a place, or another pattern where no place is known
-abbrev pub given_for : List PatternTree → Option ℕ → PatternTree → Option PatternTree
-given_for given None other = Some other
-given_for given (Some k) other = slice_get given k
-
--- a pattern in which each listed variable, and each binding of a listed name to a wildcard, is the pattern at the
--- name's first place, all at once, or nothing where such a pattern is missing
-abbrev mutual
-  pub put_in : List Ident → List PatternTree → PatternTree → Option PatternTree
-  put_in names given (pattern_var name pos) =
-      given_for given (first_place names name.0) (pattern_var name pos)
-  put_in names given (pattern_bind name below pos) =
-      if is_wildcard below then given_for given (first_place names name.0) (pattern_bind name below pos) else option_map (λ t. pattern_bind name t pos) (put_in names given below)
-  put_in names given (pattern_bool val pos) = Some (pattern_bool val pos)
-  put_in names given (pattern_int val big pos) = Some (pattern_int val big pos)
-  put_in names given (pattern_prim name pos) = Some (pattern_prim name pos)
-  put_in names given (pattern_term term args pos) =
-      option_map (λ ts. pattern_term term ts pos) (all_put_in names given args)
-  put_in names given (pattern_wildcard pos) = Some (pattern_wildcard pos)
-  put_in names given (pattern_and below pos) =
-      option_map (λ ts. pattern_and ts pos) (all_put_in names given below)
-  put_in names given (pattern_macro_arg k pos) = Some (pattern_macro_arg k pos)
-
-  pub all_put_in : List Ident → List PatternTree → PatternTrees → Option PatternTrees
-  all_put_in names given no_patterns = Some no_patterns
-  all_put_in names given (more_patterns first others) =
-      more_given (put_in names given first) (all_put_in names given others)
-
--- the place of a listed name, as a list
-abbrev pub place_list : Option ℕ → List ℕ
-place_list None = []
-place_list (Some k) = k ∷ []
-
--- the places of the listed names that stand in a pattern as variables or are bound to a wildcard
-abbrev mutual
-  pub places_in : List Ident → PatternTree → List ℕ
-  places_in names (pattern_var name _) = place_list (first_place names name.0)
-  places_in names (pattern_bind name below _) =
-      if is_wildcard below then place_list (first_place names name.0) else places_in names below
-  places_in names (pattern_bool _ _) = []
-  places_in names (pattern_int _ _ _) = []
-  places_in names (pattern_prim _ _) = []
-  places_in names (pattern_term _ args _) = all_places_in names args
-  places_in names (pattern_wildcard _) = []
-  places_in names (pattern_and below _) = all_places_in names below
-  places_in names (pattern_macro_arg _ _) = []
-
-  pub all_places_in : List Ident → PatternTrees → List ℕ
-  all_places_in names no_patterns = []
-  all_places_in names (more_patterns first others) =
-      places_in names first ++ all_places_in names others

@@ -262,7 +262,7 @@ impl KeptItems {
     }
 
     /// Where its memory comes from.
-    pub fn allocator(&self) -> Global {
+    pub(crate) fn allocator(&self) -> Global {
         *self.items.allocator()
     }
 }
@@ -394,7 +394,7 @@ impl BoxedPattern {
     }
 
     /// Where its memory comes from.
-    pub fn allocator(&self) -> Global {
+    pub(crate) fn allocator(&self) -> Global {
         *Box::allocator(&self.pattern)
     }
 }
@@ -449,7 +449,7 @@ impl Patterns {
     }
 
     /// Where its memory comes from.
-    pub fn allocator(&self) -> Global {
+    pub(crate) fn allocator(&self) -> Global {
         *self.patterns.allocator()
     }
 }
@@ -610,7 +610,7 @@ impl BoxedExpr {
     }
 
     /// Where its memory comes from.
-    pub fn allocator(&self) -> Global {
+    pub(crate) fn allocator(&self) -> Global {
         *Box::allocator(&self.expr)
     }
 }
@@ -665,7 +665,7 @@ impl Exprs {
     }
 
     /// Where its memory comes from.
-    pub fn allocator(&self) -> Global {
+    pub(crate) fn allocator(&self) -> Global {
         *self.exprs.allocator()
     }
 }
@@ -720,7 +720,7 @@ impl LetDefs {
     }
 
     /// Where its memory comes from.
-    pub fn allocator(&self) -> Global {
+    pub(crate) fn allocator(&self) -> Global {
         *self.defs.allocator()
     }
 }

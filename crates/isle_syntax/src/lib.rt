@@ -6,6 +6,7 @@ pub mod error;
 pub mod files;
 mod gap;
 mod kind;
+pub mod laws;
 pub mod lexer;
 mod number;
 pub mod parser;

@@ -1,3 +1,4 @@
+ghost use Rattle.std.specs.Prelude.{◌≡◌, length, min};
 ghost use Rattle.std.specs.List.{FoldsTo};
 ghost use Rattle.isle_syntax.specs.PatternShape.{pattern_of, patterns_of};
 ghost use Rattle.isle_syntax.specs.ExprShape.{expr_of, exprs_of, lets_of};
@@ -8,11 +9,21 @@ use crate::lexer::Pos;
 
 impl Pattern {
     /// Hands each term's symbol and position to `f`, each before those below it.
-    pub fn terms<F: FnMut(Pos, &Ident)>(&self, mut f: F)
-        requires { F.IsAlwaysCallable f }
-        ensures { (last : F) × FoldsTo (CalledAtTerm F.FnMut) f (pattern_terms (pattern_of self.now)) last }
+    pub fn terms<F: FnMut(Pos, &Ident)>(&self, f: &mut F)
+        requires { F.IsAlwaysCallable f.old }
+        ensures callable { F.IsAlwaysCallable f.new }
+        ensures handed { FoldsTo (CalledAtTerm F.FnMut) f.old (pattern_terms (pattern_of self.now)) f.new }
     {
-        hand_pattern(self, &mut f);
+        hand_pattern(self, f);
+    }
+
+    /// How many terms stand in the pattern, at most the greatest number.
+    pub fn count_terms(&self) -> usize
+        ensures { result ≡ min (length (pattern_terms (pattern_of self.now))) usize.MAX }
+    {
+        let mut count = 0usize;
+        self.terms(&mut |_, _| count = count.saturating_add(1));
+        count
     }
 }
 
@@ -64,11 +75,21 @@ fn hand_patterns<F: FnMut(Pos, &Ident)>(patterns: &[Pattern], f: &mut F)
 impl Expr {
     /// Hands each term's symbol and position to `f`, each before those below it, and the values of a `let` before its
     /// body.
-    pub fn terms<F: FnMut(Pos, &Ident)>(&self, mut f: F)
-        requires { F.IsAlwaysCallable f }
-        ensures { (last : F) × FoldsTo (CalledAtTerm F.FnMut) f (expr_terms (expr_of self.now)) last }
+    pub fn terms<F: FnMut(Pos, &Ident)>(&self, f: &mut F)
+        requires { F.IsAlwaysCallable f.old }
+        ensures callable { F.IsAlwaysCallable f.new }
+        ensures handed { FoldsTo (CalledAtTerm F.FnMut) f.old (expr_terms (expr_of self.now)) f.new }
     {
-        hand_expr(self, &mut f);
+        hand_expr(self, f);
+    }
+
+    /// How many terms stand in the expression, at most the greatest number.
+    pub fn count_terms(&self) -> usize
+        ensures { result ≡ min (length (expr_terms (expr_of self.now))) usize.MAX }
+    {
+        let mut count = 0usize;
+        self.terms(&mut |_, _| count = count.saturating_add(1));
+        count
     }
 }
 

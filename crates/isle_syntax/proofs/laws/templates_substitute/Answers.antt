@@ -1,0 +1,5 @@
+use Rattle.isle_syntax.proofs.Substitution.{substitutes}
+use Rattle.isle_syntax.proofs.laws.templates_substitute.Goals as goal
+
+pub returns : goal.returns
+returns c = substitutes
