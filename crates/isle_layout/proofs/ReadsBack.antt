@@ -8,7 +8,7 @@ use Rattle.isle_syntax.specs.declared.ast.Def.{Def}
 use Rattle.isle_syntax.specs.Unread.{Unread}
 use Rattle.isle_syntax.specs.TokensOf.{TokensOf}
 use Rattle.isle_syntax.specs.DefGrammar.{SpellsText}
-use Rattle.isle_syntax.specs.Verdict.{NestsWithin, IsSpelt}
+use Rattle.isle_syntax.specs.Verdict.{NestsWithin}
 use Rattle.isle_syntax.specs.WithoutPos.{def_without_pos}
 use Rattle.isle_syntax.proofs.Cuts.{utf8_behind_ascii}
 use Rattle.isle_layout.specs.SExprTree.{sexpr_trees_of}
@@ -22,7 +22,6 @@ use Rattle.isle_layout.specs.ReadsBack.{IsReadAs}
 use Rattle.isle_layout.proofs.LayoutTokens.{printed, printed_tokens}
 use Rattle.isle_layout.proofs.SpeltDefs.{parsed_is_writable}
 use Rattle.isle_layout.proofs.WithoutPos.{writable_without_pos}
-use Rattle.isle_layout.proofs.SameSpelling.{same_print}
 use Rattle.isle_layout.proofs.EachAtom.{EachAtoms}
 use Rattle.isle_layout.proofs.PrintedTexts.{text_before, layout_texts, def_has_atoms}
 use Rattle.isle_layout.proofs.RespeltTexts.{respelt_text}
@@ -98,12 +97,3 @@ writable_reads_back width defs u w unread whole =
 pub print_reads_back : (width : ℕ) (text : List ℕ) (defs : List Def) → IsUtf8 text → text ≡ print_of width defs → IsReadAs text defs ↔ AreWritable defs
 print_reads_back width text defs u e =
     (read_is_writable text defs, λ w. subst (λ t. IsReadAs t defs) (sym e) (writable_reads_back width defs (subst IsUtf8 e u) w))
-
--- printed, read and printed again at one width, the text stays
-pub formats_settle : (width : ℕ) (once : List ℕ) (defs read : List Def) (unread : Unread) → IsUtf8 once → once ≡ print_of width defs → AreWritable defs
-    → IsWhole once unread → IsSpelt unread read → print_of width read ≡ once
-formats_settle width once defs read unread u e w whole spelt =
-    let both = print_reads_back width once defs u e in
-    let back = both.1 w unread whole in
-    let same : read ≡ back.0 = back.1.only read spelt.spelt in
-    ap (print_of width) same ∙ same_print width back.0 defs back.2 ∙ sym e

@@ -7,6 +7,8 @@ use Rattle.isle_syntax.specs.declared.refusal.Refusal.TheVariants.{Fault, Memory
 use Rattle.isle_syntax.specs.declared.ast.Ident.{Ident}
 use Rattle.isle_syntax.specs.declared.ast.StructField.{StructField}
 use Rattle.isle_syntax.specs.declared.ast.TupleField.{TupleField}
+use Rattle.isle_syntax.specs.declared.ast.StructFields.{StructFields}
+use Rattle.isle_syntax.specs.declared.ast.TupleFields.{TupleFields}
 use Rattle.isle_syntax.specs.declared.ast.Fields.{Fields}
 use Rattle.isle_syntax.specs.declared.ast.Fields.TheVariants.{Unit as no_fields, Struct as named_fields, Tuple as tuple_fields}
 use Rattle.isle_syntax.specs.declared.ast.Variant.{Variant}
@@ -21,6 +23,7 @@ use Rattle.isle_syntax.specs.declared.ast.Extern.{Extern as ExternTree}
 use Rattle.isle_syntax.specs.declared.ast.Extern.TheVariants.{Constructor as extern_constructor, Extractor as extern_extractor, Const as extern_const}
 use Rattle.isle_syntax.specs.declared.ast.Converter.{Converter as ConverterTree}
 use Rattle.isle_syntax.specs.declared.ast.Kept.{Kept as KeptTree}
+use Rattle.isle_syntax.specs.declared.ast.Pragma.{Pragma as PragmaTree}
 use Rattle.isle_syntax.specs.declared.ast.Def.{Def}
 use Rattle.isle_syntax.specs.declared.ast.Def.TheVariants.{TypeDef, Decl, Rule, Extractor, Extern, Converter, Pragma, Kept}
 use Rattle.isle_syntax.specs.PatternShape.{pattern_of}
@@ -49,6 +52,18 @@ abbrev pub fields_sexprs : Fields → List SExprTree
 fields_sexprs no_fields = []
 fields_sexprs (named_fields fs) = map struct_field_sexpr fs.fields
 fields_sexprs (tuple_fields fs) = map tuple_field_sexpr fs.fields
+
+-- the same by themselves: the list of the fields
+abbrev pub fields_sexpr : Fields → SExprTree
+fields_sexpr fields = listed (fields_sexprs fields)
+
+-- fields with names by themselves
+abbrev pub struct_fields_sexpr : StructFields → SExprTree
+struct_fields_sexpr fs = listed (map struct_field_sexpr fs.fields)
+
+-- fields without names by themselves
+abbrev pub tuple_fields_sexpr : TupleFields → SExprTree
+tuple_fields_sexpr fs = listed (map tuple_field_sexpr fs.fields)
 
 -- a variant's name, in parentheses with its fields where it has any
 abbrev pub variant_of : Ident → Fields → SExprTree
@@ -130,7 +145,11 @@ rule_sexpr r =
 abbrev pub kept_sexpr : KeptTree → SExprTree
 kept_sexpr k = listed (name_sexpr k.word ∷ item_sexprs k.items)
 
--- a definition; a pragma, of which there is none, would print as `(pragma)`
+-- a pragma, of which there is none
+abbrev pub pragma_sexpr : PragmaTree → SExprTree
+pragma_sexpr _ = listed (sexpr_atom (codes "pragma") ∷ [])
+
+-- a definition
 abbrev pub def_sexpr : Def → SExprTree
 def_sexpr (TypeDef t) = type_sexpr t
 def_sexpr (Decl d) = decl_sexpr d
@@ -138,7 +157,7 @@ def_sexpr (Rule r) = rule_sexpr r
 def_sexpr (Extractor x) = extractor_sexpr x
 def_sexpr (Extern x) = extern_sexpr x
 def_sexpr (Converter c) = converter_sexpr c
-def_sexpr (Pragma _) = listed (sexpr_atom (codes "pragma") ∷ [])
+def_sexpr (Pragma p) = pragma_sexpr p
 def_sexpr (Kept k) = kept_sexpr k
 
 -- ---- numbered arguments of templates

@@ -1,9 +1,9 @@
 //! Texts laid out anew.
-ghost use Rattle.std.specs.Prelude.{◌≡◌, ℕ, List, IfErr, IfOk, length, string_bytes};
+ghost use Rattle.std.specs.Prelude.{IfErr, IfOk, length, string_bytes};
 ghost use Rattle.isle_syntax.specs.Errors.{IfFault, RefusalAt};
 ghost use Rattle.isle_syntax.specs.Positions.{IsIn};
 ghost use Rattle.isle_syntax.specs.Texts.{IsFaultIn};
-ghost use Rattle.isle_layout.specs.Formats.{Formats};
+ghost use Rattle.isle_layout.specs.Formats.{Formats, IsSettled, IsFaultless};
 
 use crate::printer::print;
 use isle_syntax::Refusal;
@@ -20,8 +20,8 @@ pub fn format(
     width: usize,
 ) -> Result<String, Refusal<Error>>
     ensures text { IfOk result (λ once. Formats file width text.now (string_bytes once)) }
-    ensures settled { IfOk result (λ once. (other : ℕ) (twice : List ℕ)
-        → Formats other width (string_bytes once) twice → twice ≡ string_bytes once) }
+    ensures settled { IfOk result (λ once. IsSettled width (string_bytes once)) }
+    ensures accepted_again { IfOk result (λ once. IsFaultless (string_bytes once)) }
     ensures fault { IfErr result (λ refusal. IfFault refusal (IsFaultIn file text.now)) }
     ensures refused { IfErr result (RefusalAt (IsIn (record { file = file; size = length text.now }))) }
 {

@@ -2,6 +2,7 @@
 #![tactic(auto)]
 
 pub mod format;
+pub mod laws;
 mod nesting;
 pub mod printer;
 pub mod sexpr;

@@ -1,5 +1,5 @@
 //! Trees as text.
-ghost use Rattle.std.specs.Prelude.{◌≡◌, ◌↔◌, All, ℕ, ◌+◌, Bool, List, ◌++◌, ◌∷◌, [], true, false, IfOk, IfErr, string_bytes, codes};
+ghost use Rattle.std.specs.Prelude.{◌≡◌, ◌↔◌, All, ℕ, ◌+◌, Bool, List, ◌++◌, ◌∷◌, [], true, false, replicate, IfOk, IfErr, string_bytes, codes};
 ghost use Rattle.std.specs.List.{list_any};
 ghost use Rattle.std.specs.Fmt.{char_count};
 ghost use Rattle.std.specs.Slice.Iter.{iter_rest};
@@ -59,7 +59,8 @@ impl SExpr {
         let mut marks = Vec::new(alloc);
         measure(self, width, &mut marks)?;
         let mut out = String::new(alloc);
-        write_at(&mut out, self, 0, &mut marks.iter())?;
+        let mut margin = String::new(alloc);
+        write_at(&mut out, self, &mut margin, &mut marks.iter())?;
         Ok(out)
     }
 
@@ -216,15 +217,13 @@ fn write_list_on_one_line(out: &mut String, items: &[SExpr]) -> Result<(), Alloc
     out.push(')')
 }
 
-/// Starts a new line with so many spaces.
-fn write_line(out: &mut String, spaces: usize) -> Result<(), AllocError>
-    ensures { IfOk result (λ done. string_bytes out.new ≡ string_bytes out.old ++ line spaces) }
+/// Starts a new line with a margin.
+fn write_line(out: &mut String, margin: &str) -> Result<(), AllocError>
+    ensures { IfOk result (λ done. (spaces : ℕ) → margin.now ≡ replicate spaces 32
+        → string_bytes out.new ≡ string_bytes out.old ++ line spaces) }
 {
     out.push('\n')?;
-    for _ in 0..spaces {
-        out.push(' ')?;
-    }
-    Ok(())
+    out.push_str(margin)
 }
 
 /// The next mark.
@@ -235,15 +234,18 @@ fn next_mark(marks: &mut Iter<'_, bool>) -> bool
     matches!(marks.next(), Some(true))
 }
 
-/// Writes an S-expression at an indentation, and takes the marks of its lists, as `measure` pushes them.
+/// Writes an S-expression at an indentation, of which `margin` has the spaces, and takes the marks of its lists, as
+/// `measure` pushes them.
 #[cycle(write_at)]
 fn write_at(
     out: &mut String,
     sexpr: &SExpr,
-    indentation: usize,
+    margin: &mut String,
     marks: &mut Iter<'_, bool>,
 ) -> Result<(), AllocError>
-    ensures { IfOk result (λ done. (width : ℕ) (rest : List Bool)
+    ensures margin { IfOk result (λ done. string_bytes margin.new ≡ string_bytes margin.old) }
+    ensures written { IfOk result (λ done. (width indentation : ℕ) (rest : List Bool)
+        → string_bytes margin.old ≡ replicate indentation 32
         → iter_rest marks.old ≡ marks_of width (sexpr_of sexpr.now) ++ rest
         → (string_bytes out.new ≡ string_bytes out.old ++ layout width indentation (sexpr_of sexpr.now))
         × (iter_rest marks.new ≡ rest)) }
@@ -256,7 +258,7 @@ fn write_at(
             if next_mark(marks) {
                 write_list_on_one_line(out, items.as_slice())
             } else {
-                write_broken_list(out, items.as_slice(), indentation, marks)
+                write_broken_list(out, items.as_slice(), margin, marks)
             }
         }
     }
@@ -268,25 +270,26 @@ fn write_at(
 fn write_broken_list(
     out: &mut String,
     items: &[SExpr],
-    indentation: usize,
+    margin: &mut String,
     marks: &mut Iter<'_, bool>,
 ) -> Result<(), AllocError>
-    ensures { IfOk result (λ done. (width : ℕ) (rest : List Bool)
+    ensures margin { IfOk result (λ done. string_bytes margin.new ≡ string_bytes margin.old) }
+    ensures written { IfOk result (λ done. (width indentation : ℕ) (rest : List Bool)
+        → string_bytes margin.old ≡ replicate indentation 32
         → iter_rest marks.old ≡ marks_of_all width (sexprs_of items.now) ++ rest
         → (string_bytes out.new ≡ string_bytes out.old ++ broken indentation (layouts width (indentation + 4) (sexprs_of items.now)))
         × (iter_rest marks.new ≡ rest)) }
 {
-    // No memory would hold a line of so many spaces.
-    let Some(inner) = indentation.checked_add(4) else {
-        return Err(AllocError);
-    };
+    let outer = margin.len();
+    margin.push_str("    ")?;
     out.push('(')?;
     for (i, item) in items.iter().enumerate() {
         if i > 0 {
-            write_line(out, inner)?;
+            write_line(out, margin.as_str())?;
         }
-        write_at(out, item, inner, marks)?;
+        write_at(out, item, margin, marks)?;
     }
-    write_line(out, indentation)?;
+    margin.truncate(outer);
+    write_line(out, margin.as_str())?;
     out.push(')')
 }

@@ -19,11 +19,15 @@ use crate::to_sexpr::list::{ListBuilder, name};
 use crate::to_sexpr::patterns::spell_pattern;
 use crate::to_sexpr::rules::{rule_has_macro_arg, spell_iflet, spell_rule};
 use crate::to_sexpr::terms::{spell_converter, spell_decl, spell_extern, spell_extractor};
-use crate::to_sexpr::types::{spell_struct_field, spell_type, spell_type_value, spell_variant};
+use crate::to_sexpr::types::{
+    spell_fields, spell_struct_field, spell_struct_fields, spell_tuple_fields, spell_type,
+    spell_type_value, spell_variant,
+};
 use isle_syntax::Refusal;
 use isle_syntax::ast::{
-    Converter, Decl, Def, Expr, Extern, Extractor, Ident, IfLet, Kept, KeptItem, LetDef, Pattern,
-    Rule, StructField, TupleField, Type, TypeValue, Variant,
+    Converter, Decl, Def, Expr, Extern, Extractor, Fields, Ident, IfLet, Kept, KeptItem, LetDef,
+    Pattern, Pragma, Rule, StructField, StructFields, TupleField, TupleFields, Type, TypeValue,
+    Variant,
 };
 use std::alloc::Global;
 use std::fmt;
@@ -55,7 +59,6 @@ pub trait ToSExpr {
         ensures fault { IfErr result (λ refusal. IfFault refusal (macro_arg self.now ≡ true)) };
 }
 
-/// By its kind. A pragma, of which there is none, would print as `(pragma)`.
 impl ToSExpr for Def {
     ghost use Rattle.isle_layout.specs.DefSpellings.{def_sexpr, def_has_macro_arg};
 
@@ -71,7 +74,7 @@ impl ToSExpr for Def {
             Def::Extractor(extractor) => extractor.to_sexpr(alloc),
             Def::Extern(external) => external.to_sexpr(alloc),
             Def::Converter(converter) => converter.to_sexpr(alloc),
-            Def::Pragma(_) => Ok(ListBuilder::new(alloc).word("pragma")?.build()),
+            Def::Pragma(pragma) => pragma.to_sexpr(alloc),
             Def::Kept(kept) => kept.to_sexpr(alloc),
         }
     }
@@ -122,6 +125,43 @@ impl ToSExpr for Variant {
 
     fn to_sexpr(&self, alloc: Global) -> Result<SExpr, Refusal<HasMacroArg>> {
         Ok(spell_variant(alloc, self)?)
+    }
+}
+
+/// The list of the fields, empty where there are none.
+impl ToSExpr for Fields {
+    ghost use Rattle.isle_layout.specs.DefSpellings.{fields_sexpr};
+
+    ghost sexpr = { fields_sexpr };
+
+    ghost macro_arg = { λ _. false };
+
+    fn to_sexpr(&self, alloc: Global) -> Result<SExpr, Refusal<HasMacroArg>> {
+        Ok(spell_fields(alloc, self)?)
+    }
+}
+
+impl ToSExpr for StructFields {
+    ghost use Rattle.isle_layout.specs.DefSpellings.{struct_fields_sexpr};
+
+    ghost sexpr = { struct_fields_sexpr };
+
+    ghost macro_arg = { λ _. false };
+
+    fn to_sexpr(&self, alloc: Global) -> Result<SExpr, Refusal<HasMacroArg>> {
+        Ok(spell_struct_fields(alloc, self)?)
+    }
+}
+
+impl ToSExpr for TupleFields {
+    ghost use Rattle.isle_layout.specs.DefSpellings.{tuple_fields_sexpr};
+
+    ghost sexpr = { tuple_fields_sexpr };
+
+    ghost macro_arg = { λ _. false };
+
+    fn to_sexpr(&self, alloc: Global) -> Result<SExpr, Refusal<HasMacroArg>> {
+        Ok(spell_tuple_fields(alloc, self)?)
     }
 }
 
@@ -227,6 +267,19 @@ impl ToSExpr for Converter {
 
     fn to_sexpr(&self, alloc: Global) -> Result<SExpr, Refusal<HasMacroArg>> {
         Ok(spell_converter(alloc, self)?)
+    }
+}
+
+/// `(pragma)`. There is none.
+impl ToSExpr for Pragma {
+    ghost use Rattle.isle_layout.specs.DefSpellings.{pragma_sexpr};
+
+    ghost sexpr = { pragma_sexpr };
+
+    ghost macro_arg = { λ _. false };
+
+    fn to_sexpr(&self, alloc: Global) -> Result<SExpr, Refusal<HasMacroArg>> {
+        Ok(ListBuilder::new(alloc).word("pragma")?.build())
     }
 }
 

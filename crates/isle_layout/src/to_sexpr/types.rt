@@ -1,10 +1,12 @@
 ghost use Rattle.std.specs.Prelude.{◌≡◌, ◌++◌, map, IfOk};
 ghost use Rattle.isle_layout.specs.SExprShape.{sexpr_of};
-ghost use Rattle.isle_layout.specs.DefSpellings.{struct_field_sexpr, tuple_field_sexpr, fields_sexprs, variant_sexpr, type_value_sexpr, type_sexpr};
+ghost use Rattle.isle_layout.specs.DefSpellings.{struct_field_sexpr, tuple_field_sexpr, fields_sexprs, fields_sexpr, struct_fields_sexpr, tuple_fields_sexpr, variant_sexpr, type_value_sexpr, type_sexpr};
 
 use crate::sexpr::SExpr;
 use crate::to_sexpr::list::{ListBuilder, name};
-use isle_syntax::ast::{Fields, StructField, TupleField, Type, TypeValue, Variant};
+use isle_syntax::ast::{
+    Fields, StructField, StructFields, TupleField, TupleFields, Type, TypeValue, Variant,
+};
 use std::alloc::{AllocError, Global};
 
 /// A type's definition.
@@ -61,6 +63,35 @@ pub(crate) fn spell_variant(alloc: Global, variant: &Variant) -> Result<SExpr, A
             Ok(add_fields(alloc, list, fields)?.build())
         }
     }
+}
+
+/// The list of the fields of a variant or struct.
+pub(crate) fn spell_fields(alloc: Global, fields: &Fields) -> Result<SExpr, AllocError>
+    ensures { IfOk result (λ sexpr. sexpr_of sexpr ≡ fields_sexpr fields.now) }
+{
+    Ok(add_fields(alloc, ListBuilder::new(alloc), fields)?.build())
+}
+
+/// The list of fields with names.
+pub(crate) fn spell_struct_fields(
+    alloc: Global,
+    fields: &StructFields,
+) -> Result<SExpr, AllocError>
+    ensures { IfOk result (λ sexpr. sexpr_of sexpr ≡ struct_fields_sexpr fields.now) }
+{
+    let list = add_struct_fields(
+        alloc,
+        ListBuilder::new(alloc),
+        fields.fields.as_slice(),
+    )?;
+    Ok(list.build())
+}
+
+/// The list of fields without names.
+pub(crate) fn spell_tuple_fields(alloc: Global, fields: &TupleFields) -> Result<SExpr, AllocError>
+    ensures { IfOk result (λ sexpr. sexpr_of sexpr ≡ tuple_fields_sexpr fields.now) }
+{
+    Ok(add_tuple_fields(ListBuilder::new(alloc), fields.fields.as_slice())?.build())
 }
 
 /// A list with the fields of a variant or struct more.

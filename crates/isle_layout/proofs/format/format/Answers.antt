@@ -1,8 +1,10 @@
-use Rattle.std.proofs.Common.{ap, ◌∙◌, string_bytes}
+use Rattle.std.proofs.Common.{refl, ap, ◌∙◌, string_bytes}
 use Rattle.std.proofs.lemmas.Str.{IsUtf8-string_bytes}
-use Rattle.isle_layout.specs.Prints.{print_of}
 use Rattle.isle_syntax.specs.Texts.{IsWhole}
-use Rattle.isle_layout.proofs.Formatted.{never_refused, formatted_settles}
+use Rattle.isle_layout.specs.Prints.{print_of}
+use Rattle.isle_layout.specs.Formats.{Formats}
+use Rattle.isle_layout.proofs.OneReading.{spells_of}
+use Rattle.isle_layout.proofs.Formatted.{never_refused, formatted_settles, settled_is_faultless}
 use Rattle.isle_layout.proofs.format.format.Goals as goal
 
 pub unreachable-requires : goal.unreachable-requires
@@ -10,9 +12,21 @@ unreachable-requires c =
     never_refused c.in-Err-Fault.field-0 c.in-Err-Fault.field-0-0 c.as_slice.result.now c.in_ok-defs.defs.items c.in-Err-Fault.field-0-is c.as_slice.ensures.value c.in_ok-defs.ensures.no_macro_args
     c.in-Err-Fault.ensures.fault
 
+pub returns-in-Ok-clause-text : goal.returns-in-Ok-clause-text
+returns-in-Ok-clause-text c =
+    let lexer = c.new.result in
+    let defs = c.in_ok-defs.defs.items in
+    let whole : IsWhole c.args.text.now lexer = record { size = ap (λ s. s.size) c.new.ensures.source; tokens = c.new.ensures.tokens } in
+    let number = ap (λ s. s.file) c.new.ensures.source in (
+      defs,
+      spells_of c.args.file c.args.text.now lexer defs whole number c.in_ok-defs.ensures.right,
+      c.in-Ok.ensures.text ∙ ap (print_of c.args.width) c.as_slice.ensures.value,
+    )
+
 pub returns-in-Ok-clause-settled : goal.returns-in-Ok-clause-settled
 returns-in-Ok-clause-settled c =
-    let lexer = c.new.result in
-    let whole : IsWhole c.args.text.now lexer = record { size = ap (λ s. s.size) c.new.ensures.source; tokens = c.new.ensures.tokens } in
-    let printed = c.in-Ok.ensures.text ∙ ap (print_of c.args.width) c.as_slice.ensures.value in
-    formatted_settles c.args.width c.args.text.now (string_bytes c.in-Ok.text) lexer c.in_ok-defs.defs.items (IsUtf8-string_bytes c.in-Ok.text) whole c.in_ok-defs.ensures.right printed
+    formatted_settles c.args.file c.args.width c.args.text.now (string_bytes c.in-Ok.text) (IsUtf8-string_bytes c.in-Ok.text) (returns-in-Ok-clause-text c)
+
+pub returns-in-Ok-clause-accepted_again : goal.returns-in-Ok-clause-accepted_again
+returns-in-Ok-clause-accepted_again c =
+    settled_is_faultless c.args.width (string_bytes c.in-Ok.text) (returns-in-Ok-clause-settled c)

@@ -11,4 +11,4 @@ returns c =
     let sexpr = sexpr_of c.args.self.now in
     let marks = c.in_ok-measure.ensures.marks ∙ ap (λ ms. ms ++ marks_of width sexpr) c.new-marks.ensures.items in
     let given : iter_rest c.iter.result ≡ marks_of width sexpr ++ [] = c.iter.ensures.rest ∙ c.deref.ensures.value ∙ marks ∙ sym (append-nil (marks_of width sexpr)) in
-    (c.in_ok-write_at.ensures width [] given).0 ∙ ap (λ bytes. bytes ++ layout width 0 sexpr) c.new-out.ensures.bytes
+    (c.in_ok-write_at.ensures.written width 0 [] c.new-margin.ensures.bytes given).0 ∙ ap (λ bytes. bytes ++ layout width 0 sexpr) c.new-out.ensures.bytes

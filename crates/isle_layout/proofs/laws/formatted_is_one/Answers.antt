@@ -1,0 +1,5 @@
+use Rattle.isle_layout.proofs.Formatted.{formatted_once}
+use Rattle.isle_layout.proofs.laws.formatted_is_one.Goals as goal
+
+pub returns : goal.returns
+returns c = formatted_once

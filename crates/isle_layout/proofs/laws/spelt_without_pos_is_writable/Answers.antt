@@ -1,0 +1,5 @@
+use Rattle.isle_layout.proofs.Formatted.{spelt_without_pos_is_writable}
+use Rattle.isle_layout.proofs.laws.spelt_without_pos_is_writable.Goals as goal
+
+pub returns : goal.returns
+returns c = spelt_without_pos_is_writable
