@@ -23,7 +23,7 @@ record IsSameText (a b : Unread) : Type 0 where
   clean : a.clean ≡ b.clean
 
 -- a source is its file and size
-source_is : (source : Source) (file size : ℕ) → source.file ≡ file → source.size ≡ size → record { file = file; size = size } ≡ source
+pub source_is : (source : Source) (file size : ℕ) → source.file ≡ file → source.size ≡ size → record { file = file; size = size } ≡ source
 source_is source file size e f =
     sym (ap (λ (n : ℕ). let s : Source = record { file = n; size = source.size } in s) e ∙ ap (λ (n : ℕ). let s : Source = record { file = file; size = n } in s) f)
 
