@@ -1,0 +1,4 @@
+pub mod SpeltFiles
+pub mod WholeTexts
+pub mod FirstFaults
+pub mod Layers

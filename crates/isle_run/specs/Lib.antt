@@ -3,3 +3,4 @@ pub mod ValueText
 pub mod Overlaps
 pub mod Programs
 pub mod Queries
+pub mod Compiled

@@ -1,8 +1,11 @@
-ghost use Rattle.std.specs.Prelude.{◌≡◌, ◌<◌, ◌++◌, List, All, IfOk, IfErr, OnOk, length};
+ghost use Rattle.std.specs.Prelude.{◌≡◌, ◌<◌, ◌++◌, [], ◌∷◌, List, All, IfOk, IfErr, IfSome, OnOk, length, slice_get};
 ghost use Rattle.isle_syntax.specs.Files.{SourceFile};
 ghost use Rattle.isle_syntax.specs.Positions.{HasPlaceAt};
 ghost use Rattle.isle_syntax.specs.Places.{DefAt};
-ghost use Rattle.isle_syntax.specs.Errors.{RefusalAt, RefusalsAt};
+ghost use Rattle.isle_syntax.specs.Errors.{IfFault, IsFaultAnd, RefusalAt, RefusalsAt};
+ghost use Rattle.isle_syntax.specs.Texts.{Spells, IsFaultIn};
+ghost use Rattle.isle_syntax.specs.declared.error.Error.{Error};
+ghost use Rattle.isle_run.specs.Compiled.{AreSpelt, AreAccepted, IsFirstFault, AreFaults, IfFaults};
 
 use crate::overlap::overlaps;
 use crate::program::Program;
@@ -26,7 +29,11 @@ pub enum Refused {
 }
 
 /// The program of texts, which are joined in the order of the files.
-pub fn compile(alloc: Global, files: Rc<Files>) -> Result<Program, Refused> {
+pub fn compile(alloc: Global, files: Rc<Files>) -> Result<Program, Refused>
+    ensures accepted { OnOk result (AreAccepted files.value) }
+    ensures faults { IfErr result (λ refused. IfFaults refused (λ report. AreFaults files.value report.errors)) }
+    ensures told_of { IfErr result (λ refused. IfFaults refused (λ report. report.files ≡ files.value)) }
+{
     match compile_files(alloc, &files) {
         Ok(program) => Ok(program),
         Err(Refusal::Fault(errors)) => Err(Refused::Faults(Errors::new(errors, files))),
@@ -35,7 +42,9 @@ pub fn compile(alloc: Global, files: Rc<Files>) -> Result<Program, Refused> {
 }
 
 fn compile_files(alloc: Global, files: &Files) -> Result<Program, Refusal<Vec<Error>>>
-    ensures { IfErr result (RefusalsAt (HasPlaceAt files.now)) }
+    ensures accepted { OnOk result (AreAccepted files.now) }
+    ensures faults { IfErr result (λ r. IfFault r (λ errors. AreFaults files.now errors.items)) }
+    ensures printable { IfErr result (RefusalsAt (HasPlaceAt files.now)) }
 {
     let defs = parse_files(alloc, files)?;
     let mut tyenv = TypeEnv::from_ast(alloc, defs.as_slice())?;
@@ -50,6 +59,9 @@ fn compile_files(alloc: Global, files: &Files) -> Result<Program, Refusal<Vec<Er
 
 /// The definitions of all texts, or the fault of the first one that has one.
 fn parse_files(alloc: Global, files: &Files) -> Result<Vec<Def>, Refusal<Vec<Error>>>
+    ensures spelt { IfOk result (λ defs. AreSpelt 0 files.now defs.items) }
+    ensures fault { IfErr result (λ r. IfFault r (λ errors. (error : Error)
+        × (errors.items ≡ error ∷ []) × IsFirstFault files.now error)) }
     ensures placed { IfOk result (λ defs. All (DefAt (HasPlaceAt files.now)) defs.items) }
     ensures printable { IfErr result (RefusalsAt (HasPlaceAt files.now)) }
 {
@@ -64,6 +76,10 @@ fn parse_files(alloc: Global, files: &Files) -> Result<Vec<Def>, Refusal<Vec<Err
 /// The definitions of the text of one file.
 fn parse_file(alloc: Global, files: &Files, file: usize) -> Result<Vec<Def>, Refusal<Vec<Error>>>
     requires { file < length files.now }
+    ensures spelt { IfSome (slice_get files.now file) (λ from. IfOk result
+        (λ defs. Spells file from.text defs.items)) }
+    ensures fault { IfSome (slice_get files.now file) (λ from. IfErr result (λ r. IfFault r
+        (λ errors. (error : Error) × (errors.items ≡ error ∷ []) × IsFaultIn file from.text error))) }
     ensures placed { IfOk result (λ defs. All (DefAt (HasPlaceAt files.now)) defs.items) }
     ensures printable { IfErr result (RefusalsAt (HasPlaceAt files.now)) }
 {
@@ -88,7 +104,8 @@ fn append(defs: &mut Vec<Def>, parsed: Vec<Def>) -> Result<(), AllocError>
 
 /// A fault as the only one of its list.
 fn alone(alloc: Global, refusal: Refusal<Error>) -> Refusal<Vec<Error>>
-    ensures { (files : List SourceFile) → RefusalAt (HasPlaceAt files) refusal → RefusalsAt (HasPlaceAt files) result }
+    ensures fault { IfFault result (λ errors. IsFaultAnd refusal (λ error. errors.items ≡ error ∷ [])) }
+    ensures placed { (files : List SourceFile) → RefusalAt (HasPlaceAt files) refusal → RefusalsAt (HasPlaceAt files) result }
 {
     match refusal {
         Refusal::Fault(error) => {

@@ -1,8 +1,8 @@
-ghost use Rattle.std.specs.Prelude.{◌≡◌, [], List, All, IfOk, IfErr, OnOk, slice_get};
+ghost use Rattle.std.specs.Prelude.{◌≡◌, ◌<◌, [], List, All, IfOk, IfErr, OnOk, length, slice_get};
 ghost use Rattle.std.specs.Option.{option_and_then, option_copied};
 ghost use Rattle.isle_syntax.specs.Files.{SourceFile};
 ghost use Rattle.isle_syntax.specs.Positions.{HasPlaceAt};
-ghost use Rattle.isle_syntax.specs.Errors.{RefusalAt, RefusalsAt};
+ghost use Rattle.isle_syntax.specs.Errors.{IfFault, RefusalAt, RefusalsAt};
 ghost use Rattle.isle_syntax.specs.Places.{DefAt, DeclAt, IdentAt, RuleAt};
 ghost use Rattle.isle_types.specs.TypeEnvs.{errors_of, types_of, sym_named, HasPlaces};
 ghost use Rattle.isle_terms.specs.Environment.{terms_of, rules_of, term_with, TermAt, TypedRuleAt, ArePlaced};
@@ -40,6 +40,7 @@ impl TermEnv {
     ) -> Result<TermEnv, Refusal<Vec<Error>>>
         ensures same_types { types_of tyenv.new ≡ types_of tyenv.old }
         ensures no_errors { OnOk result (errors_of tyenv.new ≡ []) }
+        ensures refused { IfErr result (λ r. IfFault r (λ errors. 0 < length errors.items)) }
         ensures placed { (files : List SourceFile) → All (DefAt (HasPlaceAt files)) defs.now
             → HasPlaces files tyenv.old → IfOk result (ArePlaced files tyenv.new) }
         ensures printable { (files : List SourceFile) → All (DefAt (HasPlaceAt files)) defs.now
@@ -74,6 +75,7 @@ impl TermEnv {
         ensures same_types { types_of tyenv.new ≡ types_of tyenv.old }
         ensures placed { (files : List SourceFile) → All (DefAt (HasPlaceAt files)) defs.now
             → ArePlaced files tyenv.old self.old → ArePlaced files tyenv.new self.new }
+        ensures refused { IfErr result (λ r. IfFault r (λ errors. 0 < length errors.items)) }
         ensures printable { (files : List SourceFile) → All (DefAt (HasPlaceAt files)) defs.now
             → IfErr result (RefusalsAt (HasPlaceAt files)) }
     {
@@ -262,6 +264,7 @@ impl TermEnv {
         ensures same_types { types_of tyenv.new ≡ types_of tyenv.old }
         ensures placed { (files : List SourceFile) → All (DefAt (HasPlaceAt files)) defs.now
             → ArePlaced files tyenv.old self.old → ArePlaced files tyenv.new self.new }
+        ensures refused { IfErr result (λ r. IfFault r (λ errors. 0 < length errors.items)) }
         ensures printable { (files : List SourceFile) → All (DefAt (HasPlaceAt files)) defs.now
             → IfErr result (RefusalsAt (HasPlaceAt files)) }
     {

@@ -1,7 +1,18 @@
-//! Laws of the ids, each as a function whose contract states it.
+//! Laws of the ids and of the containers, each as a function whose contract states it.
+ghost use Rattle.std.specs.Prelude.{◌≡◌, Some, slice_get};
+ghost use Rattle.std.specs.List.{IsDistinct};
+ghost use Rattle.std.specs.List.Sorted.{IsStrictlySortedBy};
+ghost use Rattle.std.specs.Map.{keys_of};
 ghost use Rattle.isle_types.specs.Ids.{AreNumbers};
+ghost use Rattle.isle_types.specs.IntTypes.{builtin_place, builtin_types};
+ghost use Rattle.isle_types.specs.JoinedSets.{AreDisjoint};
+ghost use Rattle.isle_types.specs.StableMaps.{HasDistinctKeys};
 
+use crate::disjointsets::DisjointSets;
 use crate::ids::{FieldId, RuleId, Sym, TermId, TypeId, VarId, VariantId};
+use crate::sorted_map::SortedMap;
+use crate::stablemapset::{StableMap, StableSet};
+use crate::types::{BuiltinType, IntType};
 use std::hash::Hash;
 
 /// `Sym`s are compared and hashed as their numbers.
@@ -38,3 +49,53 @@ pub fn rule_ids_are_numbers()
 pub fn var_ids_are_numbers()
     ensures { AreNumbers (λ id. id.0) ⟦<VarId as PartialEq>⟧.eq ⟦<VarId as Ord>⟧.cmp ⟦<VarId as Hash>⟧.hash_input }
 {}
+
+/// Each constant is the id that `TypeId::builtin` gives its type.
+pub fn constants_are_builtin_ids()
+    ensures bool_id { TypeId.BOOL.0 ≡ builtin_place BuiltinType.Bool }
+    ensures u8_id { TypeId.U8.0 ≡ builtin_place (BuiltinType.Int IntType.U8) }
+    ensures u16_id { TypeId.U16.0 ≡ builtin_place (BuiltinType.Int IntType.U16) }
+    ensures u32_id { TypeId.U32.0 ≡ builtin_place (BuiltinType.Int IntType.U32) }
+    ensures u64_id { TypeId.U64.0 ≡ builtin_place (BuiltinType.Int IntType.U64) }
+    ensures u128_id { TypeId.U128.0 ≡ builtin_place (BuiltinType.Int IntType.U128) }
+    ensures usize_id { TypeId.USIZE.0 ≡ builtin_place (BuiltinType.Int IntType.USize) }
+    ensures i8_id { TypeId.I8.0 ≡ builtin_place (BuiltinType.Int IntType.I8) }
+    ensures i16_id { TypeId.I16.0 ≡ builtin_place (BuiltinType.Int IntType.I16) }
+    ensures i32_id { TypeId.I32.0 ≡ builtin_place (BuiltinType.Int IntType.I32) }
+    ensures i64_id { TypeId.I64.0 ≡ builtin_place (BuiltinType.Int IntType.I64) }
+    ensures i128_id { TypeId.I128.0 ≡ builtin_place (BuiltinType.Int IntType.I128) }
+    ensures isize_id { TypeId.ISIZE.0 ≡ builtin_place (BuiltinType.Int IntType.ISize) }
+{}
+
+/// Each builtin type stands at the place of its id in the list of the builtin types.
+pub fn builtin_ids_are_places()
+    ensures { (builtin : BuiltinType) → slice_get builtin_types (builtin_place builtin) ≡ Some builtin }
+{}
+
+/// The sets have two members each at least, and no member in common.
+pub fn sets_are_disjoint<T: Copy + Eq + Hash>(sets: &DisjointSets<T>)
+    ensures { AreDisjoint T.eq sets.now }
+{
+    sets.len();
+}
+
+/// No two members of a set are equal.
+pub fn members_stand_once<T: Eq + Hash>(set: &StableSet<T>)
+    ensures { IsDistinct T.eq set.now }
+{
+    set.len();
+}
+
+/// No two keys of a map are equal.
+pub fn keys_stand_once<K: Eq + Hash, V>(map: &StableMap<K, V>)
+    ensures { HasDistinctKeys K.eq map.now }
+{
+    map.len();
+}
+
+/// The keys of a sorted map strictly ascend, so that no two are equal.
+pub fn sorted_keys_ascend<K: Ord, V>(map: &SortedMap<K, V>)
+    ensures { IsStrictlySortedBy K.cmp (keys_of map.now) }
+{
+    map.len();
+}

@@ -14,8 +14,10 @@ pub use disjointsets::DisjointSets;
 pub use env::TypeEnv;
 pub use ids::{FieldId, RuleId, Sym, TermId, TypeId, VarId, VariantId};
 pub use laws::{
-    field_ids_are_numbers, rule_ids_are_numbers, syms_are_numbers, term_ids_are_numbers,
-    type_ids_are_numbers, var_ids_are_numbers, variant_ids_are_numbers,
+    builtin_ids_are_places, constants_are_builtin_ids, field_ids_are_numbers, keys_stand_once,
+    members_stand_once, rule_ids_are_numbers, sets_are_disjoint, sorted_keys_ascend,
+    syms_are_numbers, term_ids_are_numbers, type_ids_are_numbers, var_ids_are_numbers,
+    variant_ids_are_numbers,
 };
 pub use sorted_map::SortedMap;
 pub use stablemapset::{StableMap, StableSet};

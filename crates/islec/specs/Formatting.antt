@@ -5,6 +5,7 @@ use Rattle.isle_syntax.specs.Errors.{report_text}
 use Rattle.isle_syntax.specs.Files.{SourceFile}
 use Rattle.isle_syntax.specs.declared.error.Error.{Error}
 use Rattle.isle_layout.specs.Formats.{Formats}
+use Rattle.isle_run.specs.Compiled.{IsFirstFault}
 
 -- what is printed of files one after another at this width, which are numbered from `first`
 abbrev pub Prints : (width first : ℕ) → List SourceFile → List ℕ → Type 0
@@ -16,6 +17,7 @@ Prints width first (file ∷ others) out = (one rest : List ℕ) × Formats firs
 abbrev pub WritesPrints : (width : ℕ) → List SourceFile → (old new : Option (List ℕ)) → Type 0
 WritesPrints width files old new = (out : List ℕ) × Prints width 0 files out × Appends old new out
 
--- a writer that held `old` holds these bytes and behind them the report of one error in the files
+-- a writer that held `old` holds these bytes and behind them the report of one error, the fault of the first text that isn't spelt
 abbrev pub WritesFault : List SourceFile → (old new : Option (List ℕ)) → Type 0
-WritesFault files old new = (error : Error) × Appends old new (report_text (record { errors = error ∷ []; files = files }))
+WritesFault files old new = (error : Error) × IsFirstFault files error
+    × Appends old new (report_text (record { errors = error ∷ []; files = files }))

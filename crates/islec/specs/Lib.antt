@@ -4,3 +4,4 @@ pub mod Statuses
 pub mod Writing
 pub mod Jobs
 pub mod Formatting
+pub mod Running

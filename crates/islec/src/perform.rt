@@ -1,11 +1,13 @@
 //! A whole command on texts.
-ghost use Rattle.std.specs.Prelude.{◌≡◌, ◌≢◌, ℕ, map, IfOk, OnOk};
+ghost use Rattle.std.specs.Prelude.{◌≡◌, ◌≢◌, ◌⊎◌, ℕ, map, IfOk, OnOk};
 ghost use Rattle.std.specs.Io.KnownBytes.{Appends};
 ghost use Rattle.isle_syntax.specs.Errors.{report_text};
 ghost use Rattle.isle_syntax.specs.Files.{source_file};
+ghost use Rattle.isle_run.specs.Compiled.{AreAccepted};
 ghost use Rattle.islec.specs.Formatting.{WritesPrints, WritesFault};
+ghost use Rattle.islec.specs.Running.{WritesFaults};
 ghost use Rattle.islec.specs.Statuses.{code_of};
-ghost use Rattle.islec.specs.declared.line.Job.TheVariants.{Fmt};
+ghost use Rattle.islec.specs.declared.line.Job.TheVariants.{Run, Fmt};
 ghost use Rattle.islec.specs.declared.status.Status.{Status};
 
 use crate::format::format;
@@ -34,6 +36,10 @@ pub fn perform<R: Read, W: Write>(
         (map source_file texts.items) (W.contents writer.old) (W.contents writer.new) }
     ensures refused { (width : ℕ) → job ≡ Fmt width → result ≡ 1 → WritesFault
         (map source_file texts.items) (W.contents writer.old) (W.contents writer.new) }
+    ensures accepted { (depth : ℕ) → job ≡ Run depth → (result ≡ 0) ⊎ (result ≡ 3)
+        → AreAccepted (map source_file texts.items) }
+    ensures faults { (depth : ℕ) → job ≡ Run depth → result ≡ 1 → WritesFaults
+        (map source_file texts.items) (W.contents writer.old) (W.contents writer.new) }
     ensures ends { (status : Status) × (status ≢ Status.Usage) × (result ≡ code_of status) }
 {
     let done = match job {
@@ -56,7 +62,11 @@ fn run<R: Read, W: Write>(
     reader: &mut R,
     writer: &mut W,
 ) -> Result<Status, ServeFault>
-    ensures { IfOk result (λ status. status ≢ Status.Usage) }
+    ensures answered { IfOk result (λ status. (status ≡ Status.AllWell) ⊎ (status ≡ Status.SomeRefused)
+        → AreAccepted (map source_file texts.items)) }
+    ensures refused { IfOk result (λ status. status ≡ Status.TextsRefused → WritesFaults
+        (map source_file texts.items) (W.contents writer.old) (W.contents writer.new)) }
+    ensures other { IfOk result (λ status. status ≢ Status.Usage) }
 {
     let files = Rc::new(alloc, Files::from_names_and_contents(alloc, texts)?)?;
     match compile(alloc, files) {

@@ -1,6 +1,12 @@
-use Rattle.std.proofs.Common.{◌<◌, ◌≤◌, length, string_bytes, arith, subst, slice_get, IfSome, rules}
+use Rattle.std.proofs.Common.{◌≡◌, ◌<◌, ◌≤◌, ◌∷◌, ◌++◌, [], List, length, map, take, string_bytes, arith, subst, slice_get, IfSome, rules}
 use Rattle.std.specs.Io.KnownBytes.{Appends}
 use Rattle.isle_layout.specs.Formats.{Formats}
+use Rattle.isle_syntax.specs.Errors.{report_text}
+use Rattle.isle_syntax.specs.Files.{SourceFile, source_file}
+use Rattle.isle_syntax.specs.Texts.{IsFaultIn}
+use Rattle.isle_run.specs.Compiled.{IsFirstFault}
+use Rattle.isle_run.proofs.FirstFaults.{is_first_fault}
+use Rattle.islec.proofs.SpeltPrints.{Prints-spelt}
 use Rattle.islec.proofs.PrintsLemmas.{Prints-pushed, Prints-all}
 use Rattle.islec.proofs.format.format.Goals as goal
 
@@ -22,3 +28,15 @@ returns-clause-printed g c = λ well.
           most (grind arith) c.loop-file.invariant.printed,
       subst (λ old. Appends old (g.W.Write.contents c.write_text.new.writer) (string_bytes c.loop-file.printed)) c.loop-file.invariant.unwritten written,
     )
+
+pub returns-in-Err-Fault-clause-refused : goal.returns-in-Err-Fault-clause-refused
+returns-in-Err-Fault-clause-refused g c = λ _.
+    let files = c.in_ok-files.files.value in
+    let error = c.in-Err-Fault.error in
+    let within : c.loop-file.file < length c.in_ok-files.files.value = grind arith in
+    let here : IfSome (slice_get c.in_ok-files.files.value c.loop-file.file) (λ file. IsFaultIn c.loop-file.file file.text c.in-Err-Fault.error) = search rules in
+    let same : c.in_ok-files.files.value ≡ map source_file c.args.texts.items = grind arith in
+    let before = Prints-spelt c.args.width 0 (take c.loop-file.file files) (string_bytes c.loop-file.printed) c.loop-file.invariant.printed in
+    let first = is_first_fault files c.loop-file.file before error within here in
+    let wrote : Appends (g.W.Write.contents c.args.writer.now) (g.W.Write.contents c.write_faults-in-Err-Fault.new.writer) (report_text (record { errors = c.in-Err-Fault.error ∷ []; files = map source_file c.args.texts.items })) = search rules in
+    (error, subst (λ (all : List SourceFile). IsFirstFault all error) same first, wrote)

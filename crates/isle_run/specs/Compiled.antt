@@ -1,0 +1,51 @@
+-- Which files are compiled, and which faults the others have.
+use Rattle.std.specs.Prelude.{◌≡◌, ◌<◌, ℕ, suc, List, [], ◌∷◌, ◌++◌, All, Some, length, slice_get, take}
+use Rattle.isle_syntax.specs.declared.ast.Def.{Def}
+use Rattle.isle_syntax.specs.declared.error.Error.{Error}
+use Rattle.isle_syntax.specs.declared.error.Error.TheVariants.{ParseError, TypeError, UnreachableError, OverlapError, ShadowedError, SizeError}
+use Rattle.isle_syntax.specs.Errors.{Report}
+use Rattle.isle_syntax.specs.Files.{SourceFile}
+use Rattle.isle_syntax.specs.Texts.{Spells, IsFaultIn}
+use Rattle.isle_types.specs.Environment.{HaveEnvironment}
+use Rattle.isle_types.specs.TypeFaults.{AreFaultsOf}
+use Rattle.isle_run.specs.declared.compiler.Refused.{Refused}
+use Rattle.isle_run.specs.declared.compiler.Refused.TheVariants.{Faults, Memory}
+
+-- the texts of files, which are numbered from `first`, spell these definitions, joined in the order of the files
+abbrev pub AreSpelt : (first : ℕ) → List SourceFile → List Def → Type 0
+AreSpelt first [] defs = defs ≡ []
+AreSpelt first (file ∷ others) defs = (these rest : List Def) × Spells first file.text these
+    × AreSpelt (suc first) others rest × (defs ≡ these ++ rest)
+
+-- files that are accepted: their texts are spelt, and the definitions make an environment of types
+abbrev pub AreAccepted : List SourceFile → Type 0
+AreAccepted files = (defs : List Def) × AreSpelt 0 files defs × HaveEnvironment defs
+
+-- an error is the fault of the first text that isn't spelt
+pub record IsFirstFault (files : List SourceFile) (error : Error) : Type 0 where
+  pub place : ℕ
+  pub file : SourceFile
+  pub defs : List Def
+  pub among : slice_get files place ≡ Some file
+  pub before : AreSpelt 0 (take place files) defs
+  pub fault : IsFaultIn place file.text error
+
+-- an error that tells of overlapping rules
+abbrev pub IsOverlap : Error → Type 0
+IsOverlap (OverlapError _ _) = Unit {0}
+IsOverlap (ParseError _ _) = ⊥
+IsOverlap (TypeError _ _) = ⊥
+IsOverlap (UnreachableError _ _) = ⊥
+IsOverlap (ShadowedError _ _) = ⊥
+IsOverlap (SizeError _ _) = ⊥
+
+-- the faults of files, those of the first layer that has any: the first text that isn't spelt, the types, the terms or the rules
+pub data AreFaults (files : List SourceFile) (errors : List Error) : Type 0 where
+  of_a_text : (error : Error) → errors ≡ error ∷ [] → IsFirstFault files error → AreFaults files errors
+  of_types : (defs : List Def) → AreSpelt 0 files defs → AreFaultsOf defs errors → ¬ HaveEnvironment defs → AreFaults files errors
+  of_terms_or_rules : AreAccepted files → 0 < length errors → AreFaults files errors
+
+-- a fact of the faults of a refusal, if it has some
+abbrev pub IfFaults : Refused → (Report → Type 0) → Type 0
+IfFaults (Faults report) P = P report
+IfFaults Memory P = Unit {0}
