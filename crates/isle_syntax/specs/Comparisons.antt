@@ -33,7 +33,8 @@ HashesApart {A} IsOfKind hash_input = (a b : A) → IsOfKind a → IsOfKind b �
 
 -- Values that compare by a total order in which two are level exactly where they are the same, that are equal exactly
 -- there, and of which this is hashed.
-pub record AreOrdered {A : Type 0} (order : A → A → Ordering) (hashed : A → List (List ℕ)) (eq : A → A → Bool) (partial_cmp : A → A → Option Ordering) (cmp : A → A → Ordering) (hash_input : A → List (List ℕ)) : Type 0 where
+pub record AreOrdered {A : Type 0} (order : A → A → Ordering) (hashed : A → List (List ℕ)) (eq : A → A → Bool)
+    (partial_cmp : A → A → Option Ordering) (cmp : A → A → Ordering) (hash_input : A → List (List ℕ)) : Type 0 where
   pub compares : (a b : A) → cmp a b ≡ order a b
   pub compares_always : (a b : A) → partial_cmp a b ≡ Some (order a b)
   pub total : IsTotalOrder order

@@ -60,6 +60,8 @@ texts_of names = map (λ name. name.0) names
 -- with them put in for the names; it is nothing else; and it is there exactly where each listed name that is to be
 -- replaced has its pattern.
 pub record Substitutes (names : List Ident) (given : List PatternTree) (pattern : PatternTree) : Type 0 where
-  pub enough : length names ≤ length given → filled given (template_tree names pattern) ≡ Some (substituted (zip names given) pattern)
+  pub enough : length names ≤ length given
+      → filled given (template_tree names pattern) ≡ Some (substituted (zip names given) pattern)
   pub right : IfSome (filled given (template_tree names pattern)) (λ made. made ≡ substituted (zip names given) pattern)
-  pub there : IsSome (filled given (template_tree names pattern)) ↔ All (λ text. Contains (texts_of names) text → IsSome (pattern_for (zip names given) text)) (replaceable pattern)
+  pub there : IsSome (filled given (template_tree names pattern))
+      ↔ All (λ text. Contains (texts_of names) text → IsSome (pattern_for (zip names given) text)) (replaceable pattern)
