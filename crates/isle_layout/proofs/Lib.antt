@@ -1,41 +1,8 @@
-pub mod SExprSizes
-pub mod Lengths
-pub mod SExprSubjects
-pub mod Marks
-pub mod Joined
-pub mod ListLayouts
-pub mod Spellings
-pub mod AtomEnds
-pub mod Blanks
-pub mod LayoutTokens
-mod LayoutCases
-pub mod MacroArgs
-pub mod AtomTexts
-pub mod IdentifierTexts
-pub mod IntegerTexts
-pub mod AtomReadings
-pub mod TextTokens
-pub mod Rooms
-pub mod TreeRooms
-pub mod DefRooms
-pub mod Meanings
-pub mod SpeltTrees
-pub mod SpeltDefs
-pub mod WithoutPos
-pub mod EachAtom
-pub mod TreeAtoms
-pub mod DefAtoms
-pub mod PrintedTexts
-pub mod OneReading
-pub mod SameSpelling
-pub mod RespeltRows
-pub mod RespeltTrees
-pub mod RespeltTypes
-pub mod RespeltTerms
-pub mod RespeltRules
-pub mod RespeltDefs
-pub mod RespeltRooms
-pub mod RespeltDepths
-pub mod RespeltTexts
+-- lemmas on S-expressions and their layout
+pub mod Layouts
+-- atoms are tokens, and stay so in a layout
+pub mod Atoms
+-- what is printed spells again what it is of
 pub mod ReadsBack
-pub mod Formatted
+-- what is spelt can be written
+pub mod SpeltTexts

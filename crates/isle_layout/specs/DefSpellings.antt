@@ -26,9 +26,9 @@ use Rattle.isle_syntax.specs.declared.ast.Kept.{Kept as KeptTree}
 use Rattle.isle_syntax.specs.declared.ast.Pragma.{Pragma as PragmaTree}
 use Rattle.isle_syntax.specs.declared.ast.Def.{Def}
 use Rattle.isle_syntax.specs.declared.ast.Def.TheVariants.{TypeDef, Decl, Rule, Extractor, Extern, Converter, Pragma, Kept}
-use Rattle.isle_syntax.specs.PatternShape.{pattern_of}
-use Rattle.isle_syntax.specs.ExprShape.{expr_of}
-use Rattle.isle_syntax.specs.Trees.{has_macro_arg}
+use Rattle.isle_syntax.specs.Trees.PatternShape.{pattern_of}
+use Rattle.isle_syntax.specs.Trees.ExprShape.{expr_of}
+use Rattle.isle_syntax.specs.Trees.TreeCalls.{has_macro_arg}
 use Rattle.isle_layout.specs.SExprTree.{SExprTree, sexpr_atom}
 use Rattle.isle_layout.specs.Spellings.{listed, name_sexpr, constant_sexpr, pattern_sexpr, expr_sexpr, item_sexprs}
 
@@ -181,6 +181,6 @@ def_has_macro_arg (Extractor x) = extractor_has_macro_arg x
 def_has_macro_arg _ = false
 
 -- a claim of what a fault tells; memory may always be refused
-abbrev pub IfFault : {E : Type 0} → Refusal E → Type 0 → Type 0
-IfFault (Fault _) claim = claim
-IfFault (Memory _) claim = Unit {0}
+abbrev pub OnFault : {E : Type 0} → Refusal E → Type 0 → Type 0
+OnFault (Fault _) claim = claim
+OnFault (Memory _) claim = Unit {0}

@@ -1,9 +1,9 @@
 pub mod SExprTree
 pub mod SExprCode
 pub mod SExprShape
-pub mod SExprFalls
+pub mod SExprDecreases
 pub mod Layout
-pub mod SExprSubject
+pub mod SExprInnermost
 pub mod Spellings
 pub mod DefSpellings
 pub mod SExprTokens

@@ -2,9 +2,9 @@
 use Rattle.std.specs.Prelude.{◌≡◌, ℕ, List, [], ◌∷◌, Bool, true, ◌==◌, ◌||◌}
 use Rattle.isle_syntax.specs.declared.lexer.Pos.{Pos}
 use Rattle.isle_syntax.specs.declared.lexer.Token.{Token}
-use Rattle.isle_syntax.specs.Tokens.{Placed, placed_at}
-use Rattle.isle_syntax.specs.TokensOf.{IsToken}
-use Rattle.isle_syntax.specs.Spelt.{◌⊙◌, Opening, Closes, AtSign}
+use Rattle.isle_syntax.specs.Tokens.PlacedTokens.{Placed, placed_at}
+use Rattle.isle_syntax.specs.Tokens.TokensOf.{IsToken}
+use Rattle.isle_syntax.specs.Grammar.Phrases.{◌⊙◌, Opening, Closes, AtSign}
 use Rattle.isle_layout.specs.SExprTree.{SExprTree, SExprTrees, sexpr_atom, sexpr_binding, sexpr_list, no_sexprs, more_sexprs}
 
 -- the text is that of one token

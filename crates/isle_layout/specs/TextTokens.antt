@@ -1,8 +1,8 @@
 -- Tokens as they stand in texts.
 use Rattle.std.specs.Prelude.{◌≡◌, ◌^◌, ◌≤◌, ◌<◌, List, [], ◌∷◌, true}
-use Rattle.isle_syntax.specs.Names.{is_symbol}
+use Rattle.isle_syntax.specs.Tokens.Names.{is_symbol}
 use Rattle.isle_layout.specs.Writable.{fits_i128}
-use Rattle.isle_syntax.specs.Tokens.{Literal, small, large, Placed, opening, closing, at_sign, symbol, int}
+use Rattle.isle_syntax.specs.Tokens.PlacedTokens.{Literal, small, large, Placed, opening, closing, at_sign, symbol, int}
 
 -- an integer is one of an `i128`, or from 2^127 to 2^128 - 1
 abbrev pub IsTextLiteral : Literal → Type 0

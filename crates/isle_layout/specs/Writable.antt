@@ -20,15 +20,15 @@ use Rattle.isle_syntax.specs.declared.ast.Converter.{Converter as ConverterTree}
 use Rattle.isle_syntax.specs.declared.ast.Kept.{Kept as KeptTree}
 use Rattle.isle_syntax.specs.declared.ast.Def.{Def}
 use Rattle.isle_syntax.specs.declared.ast.Def.TheVariants.{TypeDef, Decl, Rule, Extractor, Extern, Converter, Pragma, Kept}
-use Rattle.isle_syntax.specs.PatternTree.{PatternTree, PatternTrees, pattern_var, pattern_bind, pattern_bool, pattern_int, pattern_prim, pattern_term, pattern_wildcard, pattern_and, pattern_macro_arg, no_patterns, more_patterns}
-use Rattle.isle_syntax.specs.PatternShape.{pattern_of}
-use Rattle.isle_syntax.specs.ExprTree.{ExprTree, ExprTrees, LetTrees, expr_term, expr_var, expr_bool, expr_int, expr_prim, expr_let, no_exprs, more_exprs, no_lets, more_lets}
-use Rattle.isle_syntax.specs.ExprShape.{expr_of}
-use Rattle.isle_syntax.specs.ItemTree.{ItemTree, ItemTrees, item_int, item_big, item_symbol, item_at, item_list, no_items, more_items}
-use Rattle.isle_syntax.specs.Names.{is_symbol, is_ident, is_name, is_pname, is_const_name, is_word}
-use Rattle.isle_syntax.specs.Grammar.{is_pattern_term, is_expr_term}
-use Rattle.isle_syntax.specs.DefGrammar.{fits_priority, is_kept_word, is_clause_word}
-use Rattle.isle_syntax.specs.Verdict.{max_nesting}
+use Rattle.isle_syntax.specs.Trees.PatternTree.{PatternTree, PatternTrees, pattern_var, pattern_bind, pattern_bool, pattern_int, pattern_prim, pattern_term, pattern_wildcard, pattern_and, pattern_macro_arg, no_patterns, more_patterns}
+use Rattle.isle_syntax.specs.Trees.PatternShape.{pattern_of}
+use Rattle.isle_syntax.specs.Trees.ExprTree.{ExprTree, ExprTrees, LetTrees, expr_term, expr_var, expr_bool, expr_int, expr_prim, expr_let, no_exprs, more_exprs, no_lets, more_lets}
+use Rattle.isle_syntax.specs.Trees.ExprShape.{expr_of}
+use Rattle.isle_syntax.specs.Trees.ItemTree.{ItemTree, ItemTrees, item_int, item_big, item_symbol, item_at, item_list, no_items, more_items}
+use Rattle.isle_syntax.specs.Tokens.Names.{is_symbol, is_ident, is_name, is_pname, is_const_name, is_word}
+use Rattle.isle_syntax.specs.Grammar.TreeGrammar.{is_pattern_term, is_expr_term}
+use Rattle.isle_syntax.specs.Grammar.DefGrammar.{fits_priority, is_kept_word, is_clause_word}
+use Rattle.isle_syntax.specs.Grammar.Verdict.{max_nesting}
 use Rattle.isle_layout.specs.Nesting.{nesting}
 
 -- a name is an identifier

@@ -5,9 +5,9 @@ ghost use Rattle.std.specs.Fmt.{char_count};
 ghost use Rattle.std.specs.Slice.Iter.{iter_rest};
 ghost use Rattle.isle_layout.specs.SExprShape.{sexpr_of, sexprs_of};
 ghost use Rattle.isle_layout.specs.SExprTree.{sexpr_list};
-ghost use Rattle.isle_layout.specs.SExprSubject.{subject, names_text};
+ghost use Rattle.isle_layout.specs.SExprInnermost.{innermost, names_text};
 ghost use Rattle.isle_layout.specs.Layout.{one_line, one_line_length, stays_on_one_line, layout, layouts, broken, line, marks_of, marks_of_all, within};
-ghost use Rattle.isle_layout.specs.DefSpellings.{IfFault, def_has_macro_arg};
+ghost use Rattle.isle_layout.specs.DefSpellings.{OnFault, def_has_macro_arg};
 ghost use Rattle.isle_layout.specs.Prints.{print_of};
 ghost use Rattle.isle_layout.specs.ReadsBack.{IsReadAs};
 ghost use Rattle.isle_layout.specs.Writable.{writable_def};
@@ -26,7 +26,7 @@ pub fn print(alloc: Global, defs: &[Def], width: usize) -> Result<String, Refusa
     ensures reads_back { IfOk result (λ text.
         IsReadAs (string_bytes text) defs.now ↔ All (λ def. writable_def def ≡ true) defs.now) }
     ensures no_macro_arg { IfOk result (λ text. list_any def_has_macro_arg defs.now ≡ false) }
-    ensures fault { IfErr result (λ refusal. IfFault refusal (list_any def_has_macro_arg defs.now ≡ true)) }
+    ensures fault { IfErr result (λ refusal. OnFault refusal (list_any def_has_macro_arg defs.now ≡ true)) }
 {
     let mut text = String::new(alloc);
     for def in defs {
@@ -45,7 +45,7 @@ pub fn print_node<T: ToSExpr>(
 ) -> Result<String, Refusal<HasMacroArg>>
     ensures text { IfOk result (λ text. string_bytes text ≡ layout width 0 (T.sexpr node.now)) }
     ensures no_macro_arg { IfOk result (λ text. T.macro_arg node.now ≡ false) }
-    ensures fault { IfErr result (λ refusal. IfFault refusal (T.macro_arg node.now ≡ true)) }
+    ensures fault { IfErr result (λ refusal. OnFault refusal (T.macro_arg node.now ≡ true)) }
 {
     Ok(node.to_sexpr(alloc)?.print(alloc, width)?)
 }
@@ -65,8 +65,8 @@ impl SExpr {
     }
 
     /// What a chain of bindings binds, or the S-expression itself where it is no binding.
-    fn subject(&self) -> &SExpr
-        ensures { sexpr_of result.now ≡ subject (sexpr_of self.now) }
+    fn innermost(&self) -> &SExpr
+        ensures { sexpr_of result.now ≡ innermost (sexpr_of self.now) }
     {
         let mut at = self;
         while let SExpr::Binding(_, below) = at {
@@ -148,7 +148,7 @@ fn measure(sexpr: &SExpr, width: usize, marks: &mut Vec<bool>) -> Result<Option<
     ensures marks { IfOk result (λ length. marks.new.items ≡ marks.old.items ++ marks_of width (sexpr_of sexpr.now)) }
 {
     let names = sexpr.names_length(width);
-    match sexpr.subject() {
+    match sexpr.innermost() {
         SExpr::Atom(text) => {
             let text = text_length(width, text.as_str());
             Ok(sum_within(width, names, text))
@@ -163,7 +163,7 @@ fn measure(sexpr: &SExpr, width: usize, marks: &mut Vec<bool>) -> Result<Option<
 
 /// The same of a list.
 #[cycle(measure)]
-#[tactic(auto, using(crate::proofs::SExprSizes::most_sexpr_size))]
+#[tactic(auto, using(crate::proofs::Layouts::SExprSizes::most_sexpr_size))]
 fn measure_list(
     items: &[SExpr],
     width: usize,
@@ -193,7 +193,7 @@ fn write_one_line(out: &mut String, sexpr: &SExpr) -> Result<(), AllocError>
     ensures { IfOk result (λ done. string_bytes out.new ≡ string_bytes out.old ++ one_line (sexpr_of sexpr.now)) }
 {
     sexpr.write_names(out)?;
-    match sexpr.subject() {
+    match sexpr.innermost() {
         SExpr::Atom(text) => out.push_str(text.as_str()),
         SExpr::Binding(..) => unreachable!(),
         SExpr::List(items) => write_list_on_one_line(out, items.as_slice()),
@@ -202,7 +202,7 @@ fn write_one_line(out: &mut String, sexpr: &SExpr) -> Result<(), AllocError>
 
 /// Writes a list on one line.
 #[cycle(write_one_line)]
-#[tactic(auto, using(crate::proofs::SExprSizes::most_sexpr_size))]
+#[tactic(auto, using(crate::proofs::Layouts::SExprSizes::most_sexpr_size))]
 fn write_list_on_one_line(out: &mut String, items: &[SExpr]) -> Result<(), AllocError>
     ensures { IfOk result (λ done. string_bytes out.new
         ≡ string_bytes out.old ++ one_line (sexpr_list (sexprs_of items.now))) }
@@ -251,7 +251,7 @@ fn write_at(
         × (iter_rest marks.new ≡ rest)) }
 {
     sexpr.write_names(out)?;
-    match sexpr.subject() {
+    match sexpr.innermost() {
         SExpr::Atom(text) => out.push_str(text.as_str()),
         SExpr::Binding(..) => unreachable!(),
         SExpr::List(items) => {
@@ -266,7 +266,7 @@ fn write_at(
 
 /// Writes a list with each item but the first on a line of its own.
 #[cycle(write_at)]
-#[tactic(auto, using(crate::proofs::SExprSizes::most_sexpr_size))]
+#[tactic(auto, using(crate::proofs::Layouts::SExprSizes::most_sexpr_size))]
 fn write_broken_list(
     out: &mut String,
     items: &[SExpr],

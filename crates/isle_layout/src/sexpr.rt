@@ -52,10 +52,10 @@ impl Model for BoxedSExpr {
 
     ghost size = { sexpr_height };
 
-    ghost use Rattle.isle_layout.specs.SExprFalls.{sexpr_falls};
+    ghost use Rattle.isle_layout.specs.SExprDecreases.{sexpr_decreases};
     ghost use Rattle.std.proofs.Common.{arith};
 
-    ghost size_decreases = { λ c h. Prim.omega (arith, sexpr_falls c.sexpr.value) };
+    ghost size_decreases = { λ c h. Prim.omega (arith, sexpr_decreases c.sexpr.value) };
 }
 
 impl BoxedSExpr {
@@ -97,10 +97,10 @@ impl Model for SExprs {
 
     ghost size = { sexpr_heights };
 
-    ghost use Rattle.isle_layout.specs.SExprFalls.{sexprs_fall};
+    ghost use Rattle.isle_layout.specs.SExprDecreases.{sexprs_decrease};
     ghost use Rattle.std.proofs.Common.{arith};
 
-    ghost size_decreases = { λ c h. Prim.omega (arith, sexprs_fall c.sexprs.items) };
+    ghost size_decreases = { λ c h. Prim.omega (arith, sexprs_decrease c.sexprs.items) };
 }
 
 impl SExprs {

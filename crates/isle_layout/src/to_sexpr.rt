@@ -1,7 +1,7 @@
 ghost use Rattle.std.specs.Prelude.{◌≡◌, Bool, Some, codes, true, false, IfOk, IfErr};
 ghost use Rattle.isle_layout.specs.SExprTree.{SExprTree};
 ghost use Rattle.isle_layout.specs.SExprShape.{sexpr_of};
-ghost use Rattle.isle_layout.specs.DefSpellings.{IfFault};
+ghost use Rattle.isle_layout.specs.DefSpellings.{OnFault};
 
 mod exprs;
 mod items;
@@ -56,7 +56,7 @@ pub trait ToSExpr {
     fn to_sexpr(&self, alloc: Global) -> Result<SExpr, Refusal<HasMacroArg>>
         ensures spelt { IfOk result (λ answer. sexpr_of answer ≡ sexpr self.now) }
         ensures no_macro_arg { IfOk result (λ _. macro_arg self.now ≡ false) }
-        ensures fault { IfErr result (λ refusal. IfFault refusal (macro_arg self.now ≡ true)) };
+        ensures fault { IfErr result (λ refusal. OnFault refusal (macro_arg self.now ≡ true)) };
 }
 
 impl ToSExpr for Def {
@@ -296,7 +296,7 @@ impl ToSExpr for Kept {
 }
 
 impl ToSExpr for KeptItem {
-    ghost use Rattle.isle_syntax.specs.ItemShape.{item_of};
+    ghost use Rattle.isle_syntax.specs.Trees.ItemShape.{item_of};
     ghost use Rattle.isle_layout.specs.Spellings.{item_sexpr};
 
     ghost sexpr = { λ item. item_sexpr (item_of item) };
@@ -309,8 +309,8 @@ impl ToSExpr for KeptItem {
 }
 
 impl ToSExpr for Pattern {
-    ghost use Rattle.isle_syntax.specs.PatternShape.{pattern_of};
-    ghost use Rattle.isle_syntax.specs.Trees.{has_macro_arg};
+    ghost use Rattle.isle_syntax.specs.Trees.PatternShape.{pattern_of};
+    ghost use Rattle.isle_syntax.specs.Trees.TreeCalls.{has_macro_arg};
     ghost use Rattle.isle_layout.specs.Spellings.{pattern_sexpr};
 
     ghost sexpr = { λ pattern. pattern_sexpr (pattern_of pattern) };
@@ -326,7 +326,7 @@ impl ToSExpr for Pattern {
 }
 
 impl ToSExpr for Expr {
-    ghost use Rattle.isle_syntax.specs.ExprShape.{expr_of};
+    ghost use Rattle.isle_syntax.specs.Trees.ExprShape.{expr_of};
     ghost use Rattle.isle_layout.specs.Spellings.{expr_sexpr};
 
     ghost sexpr = { λ expr. expr_sexpr (expr_of expr) };

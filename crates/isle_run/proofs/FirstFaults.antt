@@ -7,8 +7,8 @@ use Rattle.isle_syntax.specs.declared.error.Error.{Error}
 use Rattle.isle_syntax.specs.declared.refusal.Refusal.{Refusal}
 use Rattle.isle_syntax.specs.declared.refusal.Refusal.TheVariants.{Fault, Memory}
 use Rattle.isle_syntax.specs.Errors.{IfFault}
-use Rattle.isle_syntax.specs.Files.{SourceFile}
-use Rattle.isle_syntax.specs.Texts.{IsFaultIn}
+use Rattle.isle_syntax.specs.Positions.Files.{SourceFile}
+use Rattle.isle_syntax.specs.Grammar.Texts.{IsFaultIn}
 use Rattle.isle_run.specs.Compiled.{AreSpelt, IsFirstFault}
 
 -- there is a file at a place in range

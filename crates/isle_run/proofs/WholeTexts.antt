@@ -1,7 +1,7 @@
 -- What is true of one lexer of a text is true of each.
 use Rattle.std.proofs.Common.{◌≡◌, ℕ, List, [], ◌∷◌, ◌++◌, Bool, length, sym, ap, subst, ◌∙◌, Err, Vec, Option, Some, None, IfSome}
 use Rattle.std.specs.Option.{option_map}
-use Rattle.isle_syntax.specs.Files.{SourceFile}
+use Rattle.isle_syntax.specs.Positions.Files.{SourceFile}
 use Rattle.std.specs.Global.{Global}
 use Rattle.isle_syntax.specs.declared.error.Span.{Span}
 use Rattle.isle_syntax.specs.declared.error.Error.{Error}
@@ -9,14 +9,14 @@ use Rattle.isle_syntax.specs.declared.error.Error.TheVariants.{ParseError, TypeE
 use Rattle.isle_syntax.specs.declared.refusal.Refusal.{Refusal}
 use Rattle.isle_syntax.specs.declared.refusal.Refusal.TheVariants.{Fault, Memory}
 use Rattle.isle_syntax.specs.Errors.{IfFault, IsFaultAnd, span_at}
-use Rattle.isle_syntax.specs.Tokens.{Placed}
-use Rattle.isle_syntax.specs.Unread.{Unread, Source, first_place}
-use Rattle.isle_syntax.specs.TokensOf.{TokensOf}
-use Rattle.isle_syntax.specs.Texts.{IsWhole, IsFaultIn}
-use Rattle.isle_syntax.specs.Verdict.{IsRight, IsFaultOf, FaultAt, DeepAt, IsDead}
+use Rattle.isle_syntax.specs.Tokens.PlacedTokens.{Placed}
+use Rattle.isle_syntax.specs.Tokens.RemainingTokens.{RemainingTokens, Source, next_pos}
+use Rattle.isle_syntax.specs.Tokens.TokensOf.{TokensOf}
+use Rattle.isle_syntax.specs.Grammar.Texts.{IsWhole, IsFaultIn}
+use Rattle.isle_syntax.specs.Grammar.Verdict.{IsRight, IsFaultOf, FaultAt, DeepAt, IsDead}
 
 -- two lexers have the same before them
-record IsSameText (a b : Unread) : Type 0 where
+record IsSameText (a b : RemainingTokens) : Type 0 where
   source : a.source ≡ b.source
   left : a.left ≡ b.left
   end : a.end ≡ b.end
@@ -28,26 +28,26 @@ source_is source file size e f =
     sym (ap (λ (n : ℕ). let s : Source = record { file = n; size = source.size } in s) e ∙ ap (λ (n : ℕ). let s : Source = record { file = file; size = n } in s) f)
 
 -- a lexer of a text that has these tokens alone has the same before it as each other one
-same_text : (file : ℕ) (text : List ℕ) (lexer : Unread) → lexer.source ≡ record { file = file; size = length text }
+same_text : (file : ℕ) (text : List ℕ) (lexer : RemainingTokens) → lexer.source ≡ record { file = file; size = length text }
     → ((left : List Placed) (end : ℕ) (clean : Bool) → TokensOf lexer.source text left end clean → (lexer.left ≡ left) × (lexer.end ≡ end) × (lexer.clean ≡ clean))
-    → (unread : Unread) → IsWhole text unread → unread.source.file ≡ file → IsSameText lexer unread
+    → (unread : RemainingTokens) → IsWhole text unread → unread.source.file ≡ file → IsSameText lexer unread
 same_text file text lexer source only unread whole here =
     let from : lexer.source ≡ unread.source = source ∙ source_is unread.source file (length text) here whole.size in
     let one = only unread.left unread.end unread.clean (subst (λ (s : Source). TokensOf s text unread.left unread.end unread.clean) (sym from) whole.tokens) in
     record { source = from; left = one.0; end = one.1; clean = one.2 }
 
-fault_same : (a b : Unread) (span : Span) → IsSameText a b → FaultAt a span → FaultAt b span
+fault_same : (a b : RemainingTokens) (span : Span) → IsSameText a b → FaultAt a span → FaultAt b span
 fault_same a b span same f = record {
   before = f.before;
   from = f.from;
   split = sym same.left ∙ f.split;
-  place = subst (λ (s : Source). span ≡ span_at (first_place s b.end f.from)) same.source (subst (λ (n : ℕ). span ≡ span_at (first_place a.source n f.from)) same.end f.place);
+  place = subst (λ (s : Source). span ≡ span_at (next_pos s b.end f.from)) same.source (subst (λ (n : ℕ). span ≡ span_at (next_pos a.source n f.from)) same.end f.place);
   goes_on = f.goes_on;
   dead = subst (λ (clean : Bool). IsDead f.before f.from clean) same.clean f.dead;
   nests = f.nests;
 }
 
-deep_same : (a b : Unread) (span : Span) → IsSameText a b → DeepAt a span → DeepAt b span
+deep_same : (a b : RemainingTokens) (span : Span) → IsSameText a b → DeepAt a span → DeepAt b span
 deep_same a b span same f = record {
   before = f.before;
   place = f.place;
@@ -58,7 +58,7 @@ deep_same a b span same f = record {
   full = f.full;
 }
 
-fault_of_same : (a b : Unread) (error : Error) → IsSameText a b → IsFaultOf a error → IsFaultOf b error
+fault_of_same : (a b : RemainingTokens) (error : Error) → IsSameText a b → IsFaultOf a error → IsFaultOf b error
 fault_of_same a b (ParseError message span) same f = fault_same a b span same f
 fault_of_same a b (SizeError message span) same f = deep_same a b span same f
 fault_of_same a b (TypeError message span) same f = f
@@ -67,7 +67,7 @@ fault_of_same a b (OverlapError message rules) same f = f
 fault_of_same a b (ShadowedError shadowed mask) same f = f
 
 -- the fault that a lexer of a text leads to, alone in its list, is that of the text
-pub fault_alone : (file : ℕ) (text : List ℕ) (lexer : Unread) (refusal : Refusal Error) (told : Refusal (Vec Error Global)) → lexer.source ≡ record { file = file; size = length text }
+pub fault_alone : (file : ℕ) (text : List ℕ) (lexer : RemainingTokens) (refusal : Refusal Error) (told : Refusal (Vec Error Global)) → lexer.source ≡ record { file = file; size = length text }
     → ((left : List Placed) (end : ℕ) (clean : Bool) → TokensOf lexer.source text left end clean → (lexer.left ≡ left) × (lexer.end ≡ end) × (lexer.clean ≡ clean))
     → IsRight lexer (Err refusal) → IfFault told (λ errors. IsFaultAnd refusal (λ error. errors.items ≡ error ∷ []))
     → IfFault told (λ errors. (error : Error) × (errors.items ≡ error ∷ []) × IsFaultIn file text error)

@@ -4,8 +4,8 @@ use Rattle.isle_syntax.specs.declared.ast.Def.{Def}
 use Rattle.isle_syntax.specs.declared.error.Error.{Error}
 use Rattle.isle_syntax.specs.declared.error.Error.TheVariants.{ParseError, TypeError, UnreachableError, OverlapError, ShadowedError, SizeError}
 use Rattle.isle_syntax.specs.Errors.{Report}
-use Rattle.isle_syntax.specs.Files.{SourceFile}
-use Rattle.isle_syntax.specs.Texts.{Spells, IsFaultIn}
+use Rattle.isle_syntax.specs.Positions.Files.{SourceFile}
+use Rattle.isle_syntax.specs.Grammar.Texts.{Spells, IsFaultIn}
 use Rattle.isle_types.specs.Environment.{HaveEnvironment}
 use Rattle.isle_types.specs.TypeFaults.{AreFaultsOf}
 use Rattle.isle_run.specs.declared.compiler.Refused.{Refused}

@@ -1,9 +1,9 @@
 ghost use Rattle.std.specs.Prelude.{◌≡◌, ◌<◌, ◌++◌, [], ◌∷◌, List, All, IfOk, IfErr, IfSome, OnOk, length, slice_get};
-ghost use Rattle.isle_syntax.specs.Files.{SourceFile};
-ghost use Rattle.isle_syntax.specs.Positions.{HasPlaceAt};
-ghost use Rattle.isle_syntax.specs.Places.{DefAt};
+ghost use Rattle.isle_syntax.specs.Positions.Files.{SourceFile};
+ghost use Rattle.isle_syntax.specs.Positions.Printable.{IsPrintablePos};
+ghost use Rattle.isle_syntax.specs.Positions.DefPositions.{DefAt};
 ghost use Rattle.isle_syntax.specs.Errors.{IfFault, IsFaultAnd, RefusalAt, RefusalsAt};
-ghost use Rattle.isle_syntax.specs.Texts.{Spells, IsFaultIn};
+ghost use Rattle.isle_syntax.specs.Grammar.Texts.{Spells, IsFaultIn};
 ghost use Rattle.isle_syntax.specs.declared.error.Error.{Error};
 ghost use Rattle.isle_run.specs.Compiled.{AreSpelt, AreAccepted, IsFirstFault, AreFaults, IfFaults};
 
@@ -44,7 +44,7 @@ pub fn compile(alloc: Global, files: Rc<Files>) -> Result<Program, Refused>
 fn compile_files(alloc: Global, files: &Files) -> Result<Program, Refusal<Vec<Error>>>
     ensures accepted { OnOk result (AreAccepted files.now) }
     ensures faults { IfErr result (λ r. IfFault r (λ errors. AreFaults files.now errors.items)) }
-    ensures printable { IfErr result (RefusalsAt (HasPlaceAt files.now)) }
+    ensures printable { IfErr result (RefusalsAt (IsPrintablePos files.now)) }
 {
     let defs = parse_files(alloc, files)?;
     let mut tyenv = TypeEnv::from_ast(alloc, defs.as_slice())?;
@@ -62,8 +62,8 @@ fn parse_files(alloc: Global, files: &Files) -> Result<Vec<Def>, Refusal<Vec<Err
     ensures spelt { IfOk result (λ defs. AreSpelt 0 files.now defs.items) }
     ensures fault { IfErr result (λ r. IfFault r (λ errors. (error : Error)
         × (errors.items ≡ error ∷ []) × IsFirstFault files.now error)) }
-    ensures placed { IfOk result (λ defs. All (DefAt (HasPlaceAt files.now)) defs.items) }
-    ensures printable { IfErr result (RefusalsAt (HasPlaceAt files.now)) }
+    ensures placed { IfOk result (λ defs. All (DefAt (IsPrintablePos files.now)) defs.items) }
+    ensures printable { IfErr result (RefusalsAt (IsPrintablePos files.now)) }
 {
     let mut defs = Vec::new(alloc);
     for file in 0..files.len() {
@@ -80,8 +80,8 @@ fn parse_file(alloc: Global, files: &Files, file: usize) -> Result<Vec<Def>, Ref
         (λ defs. Spells file from.text defs.items)) }
     ensures fault { IfSome (slice_get files.now file) (λ from. IfErr result (λ r. IfFault r
         (λ errors. (error : Error) × (errors.items ≡ error ∷ []) × IsFaultIn file from.text error))) }
-    ensures placed { IfOk result (λ defs. All (DefAt (HasPlaceAt files.now)) defs.items) }
-    ensures printable { IfErr result (RefusalsAt (HasPlaceAt files.now)) }
+    ensures placed { IfOk result (λ defs. All (DefAt (IsPrintablePos files.now)) defs.items) }
+    ensures printable { IfErr result (RefusalsAt (IsPrintablePos files.now)) }
 {
     let Some(text) = files.file_text(file) else {
         return Ok(Vec::new(alloc));
@@ -105,7 +105,7 @@ fn append(defs: &mut Vec<Def>, parsed: Vec<Def>) -> Result<(), AllocError>
 /// A fault as the only one of its list.
 fn alone(alloc: Global, refusal: Refusal<Error>) -> Refusal<Vec<Error>>
     ensures fault { IfFault result (λ errors. IsFaultAnd refusal (λ error. errors.items ≡ error ∷ [])) }
-    ensures placed { (files : List SourceFile) → RefusalAt (HasPlaceAt files) refusal → RefusalsAt (HasPlaceAt files) result }
+    ensures placed { (files : List SourceFile) → RefusalAt (IsPrintablePos files) refusal → RefusalsAt (IsPrintablePos files) result }
 {
     match refusal {
         Refusal::Fault(error) => {

@@ -1,8 +1,8 @@
 ghost use Rattle.std.specs.Prelude.{List, All, IfOk, IfErr};
-ghost use Rattle.isle_syntax.specs.Files.{SourceFile};
-ghost use Rattle.isle_syntax.specs.Positions.{HasPlaceAt};
+ghost use Rattle.isle_syntax.specs.Positions.Files.{SourceFile};
+ghost use Rattle.isle_syntax.specs.Positions.Printable.{IsPrintablePos};
 ghost use Rattle.isle_syntax.specs.Errors.{ErrorAt};
-ghost use Rattle.isle_run.specs.Overlaps.{RuleHasPlace, OverlapHasPlaces};
+ghost use Rattle.isle_run.specs.Overlaps.{HasPrintableRule, HasPrintableRules};
 
 use isle_syntax::error::{Error, Span};
 use isle_syntax::lexer::Pos;
@@ -24,8 +24,8 @@ pub fn overlaps(
     rules: &[Rule],
     groups: &[Vec<usize>],
 ) -> Result<Vec<Error>, AllocError>
-    ensures { (files : List SourceFile) → All (RuleHasPlace files) rules.now
-        → IfOk result (λ errors. All (ErrorAt (HasPlaceAt files)) errors.items) }
+    ensures { (files : List SourceFile) → All (HasPrintableRule files) rules.now
+        → IfOk result (λ errors. All (ErrorAt (IsPrintablePos files)) errors.items) }
 {
     let mut found = Vec::new(alloc);
     for group in groups {
@@ -42,8 +42,8 @@ fn members_of<'a>(
     rules: &'a [Rule],
     places: &[usize],
 ) -> Result<Vec<&'a Rule>, AllocError>
-    ensures { (files : List SourceFile) → All (RuleHasPlace files) rules.now
-        → IfOk result (λ members. All (λ rule. RuleHasPlace files rule.now) members.items) }
+    ensures { (files : List SourceFile) → All (HasPrintableRule files) rules.now
+        → IfOk result (λ members. All (λ rule. HasPrintableRule files rule.now) members.items) }
 {
     let mut members = Vec::new(alloc);
     for place in places {
@@ -62,8 +62,8 @@ fn overlaps_of_term(
     rules: &[&Rule],
     found: &mut Vec<Overlap>,
 ) -> Result<(), AllocError>
-    ensures { (files : List SourceFile) → All (λ rule. RuleHasPlace files rule.now) rules.now
-        → All (OverlapHasPlaces files) found.old.items → All (OverlapHasPlaces files) found.new.items }
+    ensures { (files : List SourceFile) → All (λ rule. HasPrintableRule files rule.now) rules.now
+        → All (HasPrintableRules files) found.old.items → All (HasPrintableRules files) found.new.items }
 {
     let mut partners = partner_lists(alloc, rules)?;
     'heads: for _ in 0..rules.len() {
@@ -120,8 +120,8 @@ fn overlap_of(
     head: &Rule,
     partners: &[usize],
 ) -> Result<Overlap, AllocError>
-    ensures { (files : List SourceFile) → All (λ rule. RuleHasPlace files rule.now) rules.now → RuleHasPlace files head.now
-        → IfOk result (OverlapHasPlaces files) }
+    ensures { (files : List SourceFile) → All (λ rule. HasPrintableRule files rule.now) rules.now → HasPrintableRule files head.now
+        → IfOk result (HasPrintableRules files) }
 {
     let mut positions = Vec::with_capacity(alloc, partners.len())?;
     for place in partners {
@@ -147,8 +147,8 @@ fn take_out(partners: &mut Vec<Vec<usize>>, place: usize) {
 }
 
 fn reports(alloc: Global, found: &[Overlap]) -> Result<Vec<Error>, AllocError>
-    ensures { (files : List SourceFile) → All (OverlapHasPlaces files) found.now
-        → IfOk result (λ errors. All (ErrorAt (HasPlaceAt files)) errors.items) }
+    ensures { (files : List SourceFile) → All (HasPrintableRules files) found.now
+        → IfOk result (λ errors. All (ErrorAt (IsPrintablePos files)) errors.items) }
 {
     let mut errors = Vec::with_capacity(alloc, found.len())?;
     for overlap in found.iter() {
@@ -158,8 +158,8 @@ fn reports(alloc: Global, found: &[Overlap]) -> Result<Vec<Error>, AllocError>
 }
 
 fn report(alloc: Global, overlap: &Overlap) -> Result<Error, AllocError>
-    ensures { (files : List SourceFile) → OverlapHasPlaces files overlap.now
-        → IfOk result (ErrorAt (HasPlaceAt files)) }
+    ensures { (files : List SourceFile) → HasPrintableRules files overlap.now
+        → IfOk result (ErrorAt (IsPrintablePos files)) }
 {
     let mut rules = Vec::with_capacity(alloc, 1)?;
     rules.push(Span::at(overlap.head))?;

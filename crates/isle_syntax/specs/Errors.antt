@@ -3,8 +3,8 @@ use Rattle.std.specs.Prelude.{ℕ, ◌+◌, ◌-◌, ◌^◌, ◌<◌, min, List
 use Rattle.std.specs.Global.{Global}
 use Rattle.std.specs.List.{flat_map}
 use Rattle.std.specs.Option.{option_map_or}
-use Rattle.isle_syntax.specs.Files.{SourceFile, named_place}
-use Rattle.isle_syntax.specs.Positions.{HasPlaceAt}
+use Rattle.isle_syntax.specs.Positions.Files.{SourceFile, named_place}
+use Rattle.isle_syntax.specs.Positions.Printable.{IsPrintablePos}
 use Rattle.isle_syntax.specs.declared.lexer.Pos.{Pos}
 use Rattle.isle_syntax.specs.declared.refusal.Refusal.{Refusal}
 use Rattle.isle_syntax.specs.declared.refusal.Refusal.TheVariants.{Fault, Memory}
@@ -18,8 +18,8 @@ pub record Report : Type 0 where
   pub files : List SourceFile
 
 -- a span can be printed: its start can
-abbrev pub HasPlace : List SourceFile → Span → Type 0
-HasPlace files span = HasPlaceAt files span.from
+abbrev pub IsPrintableSpan : List SourceFile → Span → Type 0
+IsPrintableSpan files span = IsPrintablePos files span.from
 
 -- the spans that an error names, first the one at which it stands
 abbrev pub spans_of : Error → List Span
@@ -37,7 +37,7 @@ pub record ErrorAt (At : Pos → Type 0) (error : Error) : Type 0 where
 
 -- an error can be printed: it names a span, and each of its spans has a place
 abbrev pub IsPrintable : List SourceFile → Error → Type 0
-IsPrintable files error = ErrorAt (HasPlaceAt files) error
+IsPrintable files error = ErrorAt (IsPrintablePos files) error
 
 -- a fact of a refusal's fault, if it has one
 abbrev pub IfFault : {E : Type 0} → Refusal E → (E → Type 0) → Type 0

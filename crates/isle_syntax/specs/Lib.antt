@@ -1,53 +1,12 @@
-pub mod Coded
-pub mod PatternTree
-pub mod PatternCode
-pub mod PatternShape
-pub mod PatternFalls
-pub mod ExprTree
-pub mod ExprCode
-pub mod ExprShape
-pub mod ExprFalls
-pub mod ItemTree
-pub mod ItemCode
-pub mod ItemShape
-pub mod ItemFalls
-pub mod Chain
+-- trees of definitions, patterns, expressions and kept items, and what is computed of them
 pub mod Trees
-pub mod Subject
-pub mod Macros
-pub mod Substitution
-pub mod Terms
-pub mod WithoutPos
-pub mod Verdict
-pub mod Equality
-pub mod Definitions
-pub mod Orders
-pub mod Comparisons
-pub mod Ends
+-- which tokens a text has, and what a lexer answers
 pub mod Tokens
-pub mod Unread
-pub mod Names
-pub mod Spelt
+-- what tokens spell, and which fault a text has
 pub mod Grammar
-pub mod Readers
-pub mod KindOf
-pub mod TreeReading
-pub mod DefGrammar
-pub mod DefReading
-pub mod KindReading
-pub mod Bindings
-pub mod Lines
-pub mod Files
-pub mod Positions
-pub mod Errors
-pub mod LexerCalls
-pub mod Gaps
-pub mod Integers
-pub mod TokensOf
-pub mod Texts
+-- reading tokens from left to right, as the private calls of the parser do
 pub mod Reading
-pub mod Lookahead
-pub mod Parsing
-pub mod Places
-pub mod MacroArgs
-pub mod RuleOrder
+-- files, lines and positions
+pub mod Positions
+-- What errors name of source files, and what they print.
+pub mod Errors

@@ -1,15 +1,13 @@
+-- Files, lines and positions, in reading order.
+-- Source files as contracts see them.
+pub mod Files
+-- Where the lines of a text start, and on which line and in which column an offset stands.
+pub mod Lines
 -- Where a position lies.
-use Rattle.std.specs.Prelude.{◌≡◌, ◌-◌, ◌^◌, ◌<◌, ◌≤◌, List, length}
-use Rattle.isle_syntax.specs.Files.{SourceFile}
-use Rattle.isle_syntax.specs.Unread.{Source}
-use Rattle.isle_syntax.specs.declared.lexer.Pos.{Pos}
-
--- a position of a text, or its end
-pub record IsIn (source : Source) (pos : Pos) : Type 0 where
-  pub same_file : pos.file ≡ source.file
-  pub within : pos.offset ≤ source.size
-
--- a position can be printed: its file is known, and it isn't the greatest number
-pub record HasPlaceAt (files : List SourceFile) (pos : Pos) : Type 0 where
-  pub known : pos.file < length files
-  pub not_greatest : pos.offset < 2 ^ 64 - 1
+pub mod Printable
+-- How positions and names are ordered.
+pub mod Orders
+-- The positions in definitions.
+pub mod DefPositions
+-- The order in which the rules of a text stand.
+pub mod RuleOrder

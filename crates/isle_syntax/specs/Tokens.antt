@@ -1,57 +1,21 @@
+-- Which tokens a text has, and what a lexer answers, in reading order.
 -- Tokens in their places.
-use Rattle.std.specs.Prelude.{ℕ, ℤ, List}
-use Rattle.isle_syntax.specs.declared.lexer.Pos.{Pos}
-use Rattle.isle_syntax.specs.declared.lexer.Token.{Token}
-use Rattle.isle_syntax.specs.declared.lexer.Token.TheVariants.{LParen, RParen, Symbol, Int, Big, At}
-
--- an integer: one from -2^127 to 2^127 - 1, or one from there to 2^128 - 1
-pub data Literal : Type 0 where
-  small : ℤ → Literal
-  large : ℕ → Literal
-
--- a token, with where its first byte stands
-pub data Placed : Type 0 where
-  opening : Pos → Placed
-  closing : Pos → Placed
-  at_sign : Pos → Placed
-  symbol : Pos → List ℕ → Placed
-  int : Pos → Literal → Placed
-
--- where a token stands
-abbrev pub place_of : Placed → Pos
-place_of (opening p) = p
-place_of (closing p) = p
-place_of (at_sign p) = p
-place_of (symbol p s) = p
-place_of (int p n) = p
-
--- a token of the program, with its position
-abbrev pub placed_at : Pos → Token → Placed
-placed_at p LParen = opening p
-placed_at p RParen = closing p
-placed_at p At = at_sign p
-placed_at p (Symbol s) = symbol p s
-placed_at p (Int n) = int p (small n)
-placed_at p (Big n) = int p (large n)
-
--- a token of the program and its position, as `next` gives them
-abbrev pub placed : Pos × Token → Placed
-placed t = placed_at t.0 t.1
-
--- a token is an integer
-abbrev pub IsInt : Token → Type 0
-IsInt LParen = ⊥
-IsInt RParen = ⊥
-IsInt (Symbol s) = ⊥
-IsInt (Int n) = Unit {0}
-IsInt (Big n) = Unit {0}
-IsInt At = ⊥
-
--- a token is a symbol
-abbrev pub IsSymbol : Token → Type 0
-IsSymbol LParen = ⊥
-IsSymbol RParen = ⊥
-IsSymbol (Symbol s) = Unit {0}
-IsSymbol (Int n) = ⊥
-IsSymbol (Big n) = ⊥
-IsSymbol At = ⊥
+pub mod PlacedTokens
+-- The classes of symbols.
+pub mod Names
+-- The end of a text.
+pub mod Ends
+-- What stands at the front of a text: white space, a comment, or a token of some kind.
+pub mod Gaps
+-- Integers as they are spelt.
+pub mod Integers
+-- The tokens of a text.
+pub mod TokensOf
+-- What a lexer hasn't given yet.
+pub mod RemainingTokens
+-- What a lexer answers.
+pub mod LexerCalls
+-- The tokens of a text as they are found, one after another.
+pub mod Finding
+-- What stands next in a text.
+pub mod Lookahead

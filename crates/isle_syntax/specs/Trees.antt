@@ -1,49 +1,49 @@
+-- Trees of definitions, patterns, expressions and kept items, and what is computed of them, in reading order.
+-- Patterns as contracts see them.
+pub mod PatternTree
+-- Expressions as contracts see them.
+pub mod ExprTree
+-- Items of kept definitions as contracts see them.
+pub mod ItemTree
+-- A pattern as a tree: its children are trees already.
+pub mod PatternShape
+-- An expression as a tree: its children are trees already.
+pub mod ExprShape
+-- A kept item as a tree: its children are trees already.
+pub mod ItemShape
 -- What is read off names and patterns.
-use Rattle.std.specs.Prelude.{◌++◌, Bool, true, false, ◌||◌, Option, Some, None, codes}
-use Rattle.isle_syntax.specs.declared.ast.Ident.{Ident}
-use Rattle.isle_syntax.specs.PatternTree.{PatternTree, PatternTrees, pattern_var, pattern_bind, pattern_bool, pattern_int, pattern_prim, pattern_term, pattern_wildcard, pattern_and, pattern_macro_arg, no_patterns, more_patterns}
-
--- the name of a variant with its enum's before it, where the variant's name stands
-abbrev pub full_name : Ident → Ident → Ident
-full_name enum variant = record { 0 = enum.0 ++ codes "." ++ variant.0; 1 = variant.1 }
-
--- the symbol of a term
-abbrev pub root_term : PatternTree → Option Ident
-root_term (pattern_var _ _) = None
-root_term (pattern_bind _ _ _) = None
-root_term (pattern_bool _ _) = None
-root_term (pattern_int _ _ _) = None
-root_term (pattern_prim _ _) = None
-root_term (pattern_term term _ _) = Some term
-root_term (pattern_wildcard _) = None
-root_term (pattern_and _ _) = None
-root_term (pattern_macro_arg _ _) = None
-
--- whether no pattern stands below a pattern
-abbrev pub is_leaf : PatternTree → Bool
-is_leaf (pattern_var _ _) = true
-is_leaf (pattern_bind _ _ _) = false
-is_leaf (pattern_bool _ _) = true
-is_leaf (pattern_int _ _ _) = true
-is_leaf (pattern_prim _ _) = true
-is_leaf (pattern_term _ _ _) = false
-is_leaf (pattern_wildcard _) = true
-is_leaf (pattern_and _ _) = false
-is_leaf (pattern_macro_arg _ _) = true
-
--- whether a numbered argument of a template stands in a pattern
-abbrev mutual
-  pub has_macro_arg : PatternTree → Bool
-  has_macro_arg (pattern_var _ _) = false
-  has_macro_arg (pattern_bind _ below _) = has_macro_arg below
-  has_macro_arg (pattern_bool _ _) = false
-  has_macro_arg (pattern_int _ _ _) = false
-  has_macro_arg (pattern_prim _ _) = false
-  has_macro_arg (pattern_term _ args _) = has_macro_args args
-  has_macro_arg (pattern_wildcard _) = false
-  has_macro_arg (pattern_and below _) = has_macro_args below
-  has_macro_arg (pattern_macro_arg _ _) = true
-
-  pub has_macro_args : PatternTrees → Bool
-  has_macro_args no_patterns = false
-  has_macro_args (more_patterns first others) = has_macro_arg first || has_macro_args others
+pub mod TreeCalls
+-- The chain of names that a pattern is bound to.
+pub mod Chain
+-- What a chain of bindings `x @ y @ ..` binds, and the names that it binds to it.
+pub mod Innermost
+-- Templates of patterns, and what a template stands for at given patterns.
+pub mod Templates
+-- Patterns put in for names, all at once, and what a template then is.
+pub mod Substitution
+-- Definitions in whose patterns no numbered argument of a template stands.
+pub mod MacroArgs
+-- The terms of patterns and expressions, in the order in which they are written.
+pub mod Terms
+-- Trees without positions: each position is that of file 0 and offset 0.
+pub mod WithoutPos
+-- What comparisons and hashes tell of the values that they are of.
+pub mod Comparisons
+-- Positions and names as values that a proof tells apart.
+pub mod Coded
+-- A tree of patterns as a value that a proof tells apart.
+pub mod PatternCode
+-- A tree of expressions as a value that a proof tells apart.
+pub mod ExprCode
+-- A tree of kept items as a value that a proof tells apart.
+pub mod ItemCode
+-- Whether two trees are the same, as a truth value.
+pub mod Equality
+-- Whether two definitions are the same, as a truth value.
+pub mod DefEquality
+-- Children are lower than their pattern.
+pub mod PatternDecreases
+-- Children are lower than their expression.
+pub mod ExprDecreases
+-- Children are lower than their item.
+pub mod ItemDecreases

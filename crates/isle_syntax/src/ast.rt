@@ -1,12 +1,12 @@
 ghost use Rattle.std.specs.Prelude.{◌≡◌, IfOk};
 ghost use Rattle.std.specs.Option.{option_copied};
-ghost use Rattle.isle_syntax.specs.PatternTree.{pattern_pos};
-ghost use Rattle.isle_syntax.specs.Trees.{full_name, root_term, has_macro_arg, has_macro_args};
-ghost use Rattle.isle_syntax.specs.PatternShape.{pattern_of, patterns_of};
-ghost use Rattle.isle_syntax.specs.ExprTree.{expr_pos};
-ghost use Rattle.isle_syntax.specs.ExprShape.{expr_of, exprs_of, lets_of};
-ghost use Rattle.isle_syntax.specs.ItemTree.{item_pos};
-ghost use Rattle.isle_syntax.specs.ItemShape.{item_of, items_of};
+ghost use Rattle.isle_syntax.specs.Trees.PatternTree.{pattern_pos};
+ghost use Rattle.isle_syntax.specs.Trees.TreeCalls.{full_name, root_term, has_macro_arg, has_macro_args};
+ghost use Rattle.isle_syntax.specs.Trees.PatternShape.{pattern_of, patterns_of};
+ghost use Rattle.isle_syntax.specs.Trees.ExprTree.{expr_pos};
+ghost use Rattle.isle_syntax.specs.Trees.ExprShape.{expr_of, exprs_of, lets_of};
+ghost use Rattle.isle_syntax.specs.Trees.ItemTree.{item_pos};
+ghost use Rattle.isle_syntax.specs.Trees.ItemShape.{item_of, items_of};
 
 mod chain;
 mod clone;
@@ -220,23 +220,23 @@ pub struct KeptItems {
 }
 
 impl Model for KeptItems {
-    ghost use Rattle.isle_syntax.specs.ItemTree.{ItemTrees, item_heights};
-    ghost use Rattle.isle_syntax.specs.ItemCode.{item_trees_code};
+    ghost use Rattle.isle_syntax.specs.Trees.ItemTree.{ItemTrees, item_heights};
+    ghost use Rattle.isle_syntax.specs.Trees.ItemCode.{item_trees_code};
 
     ghost Value = { ItemTrees };
 
     ghost coded = { item_trees_code };
 
-    ghost use Rattle.isle_syntax.specs.ItemShape.{items_of};
+    ghost use Rattle.isle_syntax.specs.Trees.ItemShape.{items_of};
 
     ghost view = { λ c. items_of c.items.items };
 
     ghost size = { item_heights };
 
-    ghost use Rattle.isle_syntax.specs.ItemFalls.{items_fall};
+    ghost use Rattle.isle_syntax.specs.Trees.ItemDecreases.{items_decrease};
     ghost use Rattle.std.proofs.Common.{arith};
 
-    ghost size_decreases = { λ c h. Prim.omega (arith, items_fall c.items.items) };
+    ghost size_decreases = { λ c h. Prim.omega (arith, items_decrease c.items.items) };
 }
 
 impl KeptItems {
@@ -349,23 +349,23 @@ impl Drop for BoxedPattern {
 }
 
 impl Model for BoxedPattern {
-    ghost use Rattle.isle_syntax.specs.PatternTree.{PatternTree, pattern_height};
-    ghost use Rattle.isle_syntax.specs.PatternCode.{pattern_tree_code};
+    ghost use Rattle.isle_syntax.specs.Trees.PatternTree.{PatternTree, pattern_height};
+    ghost use Rattle.isle_syntax.specs.Trees.PatternCode.{pattern_tree_code};
 
     ghost Value = { PatternTree };
 
     ghost coded = { pattern_tree_code };
 
-    ghost use Rattle.isle_syntax.specs.PatternShape.{pattern_of};
+    ghost use Rattle.isle_syntax.specs.Trees.PatternShape.{pattern_of};
 
     ghost view = { λ c. pattern_of c.pattern.value };
 
     ghost size = { pattern_height };
 
-    ghost use Rattle.isle_syntax.specs.PatternFalls.{pattern_falls};
+    ghost use Rattle.isle_syntax.specs.Trees.PatternDecreases.{pattern_decreases};
     ghost use Rattle.std.proofs.Common.{arith};
 
-    ghost size_decreases = { λ c h. Prim.omega (arith, pattern_falls c.pattern.value) };
+    ghost size_decreases = { λ c h. Prim.omega (arith, pattern_decreases c.pattern.value) };
 }
 
 impl BoxedPattern {
@@ -407,23 +407,23 @@ pub struct Patterns {
 }
 
 impl Model for Patterns {
-    ghost use Rattle.isle_syntax.specs.PatternTree.{PatternTrees, pattern_heights};
-    ghost use Rattle.isle_syntax.specs.PatternCode.{pattern_trees_code};
+    ghost use Rattle.isle_syntax.specs.Trees.PatternTree.{PatternTrees, pattern_heights};
+    ghost use Rattle.isle_syntax.specs.Trees.PatternCode.{pattern_trees_code};
 
     ghost Value = { PatternTrees };
 
     ghost coded = { pattern_trees_code };
 
-    ghost use Rattle.isle_syntax.specs.PatternShape.{patterns_of};
+    ghost use Rattle.isle_syntax.specs.Trees.PatternShape.{patterns_of};
 
     ghost view = { λ c. patterns_of c.patterns.items };
 
     ghost size = { pattern_heights };
 
-    ghost use Rattle.isle_syntax.specs.PatternFalls.{patterns_fall};
+    ghost use Rattle.isle_syntax.specs.Trees.PatternDecreases.{patterns_decrease};
     ghost use Rattle.std.proofs.Common.{arith};
 
-    ghost size_decreases = { λ c h. Prim.omega (arith, patterns_fall c.patterns.items) };
+    ghost size_decreases = { λ c h. Prim.omega (arith, patterns_decrease c.patterns.items) };
 }
 
 impl Patterns {
@@ -484,11 +484,11 @@ impl Pattern {
 
     /// Whether a `MacroArg` stands in the pattern.
     #[cycle(has_macro_arg)]
-    #[tactic(auto, using(crate::proofs::Subjects::subject_macro_arg, crate::proofs::Subjects::subject_is_no_binding))]
+    #[tactic(auto, using(crate::proofs::Trees::Innermost::innermost_macro_arg, crate::proofs::Trees::Innermost::innermost_is_no_binding))]
     pub fn has_macro_arg(&self) -> bool
         ensures { result ≡ has_macro_arg (pattern_of self.now) }
     {
-        match self.subject() {
+        match self.innermost() {
             Pattern::Term { args, .. } => has_macro_args(args.as_slice()),
             Pattern::And { subpats, .. } => has_macro_args(subpats.as_slice()),
             Pattern::MacroArg { .. } => true,
@@ -503,7 +503,7 @@ impl Pattern {
 }
 
 #[cycle(has_macro_arg)]
-#[tactic(auto, using(crate::proofs::PatternSizes::most_pattern_size))]
+#[tactic(auto, using(crate::proofs::Trees::PatternSizes::most_pattern_size))]
 fn has_macro_args(patterns: &[Pattern]) -> bool
     ensures { result ≡ has_macro_args (patterns_of patterns.now) }
 {
@@ -566,23 +566,23 @@ pub struct BoxedExpr {
 }
 
 impl Model for BoxedExpr {
-    ghost use Rattle.isle_syntax.specs.ExprTree.{ExprTree, expr_height};
-    ghost use Rattle.isle_syntax.specs.ExprCode.{expr_tree_code};
+    ghost use Rattle.isle_syntax.specs.Trees.ExprTree.{ExprTree, expr_height};
+    ghost use Rattle.isle_syntax.specs.Trees.ExprCode.{expr_tree_code};
 
     ghost Value = { ExprTree };
 
     ghost coded = { expr_tree_code };
 
-    ghost use Rattle.isle_syntax.specs.ExprShape.{expr_of};
+    ghost use Rattle.isle_syntax.specs.Trees.ExprShape.{expr_of};
 
     ghost view = { λ c. expr_of c.expr.value };
 
     ghost size = { expr_height };
 
-    ghost use Rattle.isle_syntax.specs.ExprFalls.{expr_falls};
+    ghost use Rattle.isle_syntax.specs.Trees.ExprDecreases.{expr_decreases};
     ghost use Rattle.std.proofs.Common.{arith};
 
-    ghost size_decreases = { λ c h. Prim.omega (arith, expr_falls c.expr.value) };
+    ghost size_decreases = { λ c h. Prim.omega (arith, expr_decreases c.expr.value) };
 }
 
 impl BoxedExpr {
@@ -623,23 +623,23 @@ pub struct Exprs {
 }
 
 impl Model for Exprs {
-    ghost use Rattle.isle_syntax.specs.ExprTree.{ExprTrees, expr_heights};
-    ghost use Rattle.isle_syntax.specs.ExprCode.{expr_trees_code};
+    ghost use Rattle.isle_syntax.specs.Trees.ExprTree.{ExprTrees, expr_heights};
+    ghost use Rattle.isle_syntax.specs.Trees.ExprCode.{expr_trees_code};
 
     ghost Value = { ExprTrees };
 
     ghost coded = { expr_trees_code };
 
-    ghost use Rattle.isle_syntax.specs.ExprShape.{exprs_of};
+    ghost use Rattle.isle_syntax.specs.Trees.ExprShape.{exprs_of};
 
     ghost view = { λ c. exprs_of c.exprs.items };
 
     ghost size = { expr_heights };
 
-    ghost use Rattle.isle_syntax.specs.ExprFalls.{exprs_fall};
+    ghost use Rattle.isle_syntax.specs.Trees.ExprDecreases.{exprs_decrease};
     ghost use Rattle.std.proofs.Common.{arith};
 
-    ghost size_decreases = { λ c h. Prim.omega (arith, exprs_fall c.exprs.items) };
+    ghost size_decreases = { λ c h. Prim.omega (arith, exprs_decrease c.exprs.items) };
 }
 
 impl Exprs {
@@ -678,23 +678,23 @@ pub struct LetDefs {
 }
 
 impl Model for LetDefs {
-    ghost use Rattle.isle_syntax.specs.ExprTree.{LetTrees, let_heights};
-    ghost use Rattle.isle_syntax.specs.ExprCode.{let_trees_code};
+    ghost use Rattle.isle_syntax.specs.Trees.ExprTree.{LetTrees, let_heights};
+    ghost use Rattle.isle_syntax.specs.Trees.ExprCode.{let_trees_code};
 
     ghost Value = { LetTrees };
 
     ghost coded = { let_trees_code };
 
-    ghost use Rattle.isle_syntax.specs.ExprShape.{lets_of};
+    ghost use Rattle.isle_syntax.specs.Trees.ExprShape.{lets_of};
 
     ghost view = { λ c. lets_of c.defs.items };
 
     ghost size = { let_heights };
 
-    ghost use Rattle.isle_syntax.specs.ExprFalls.{lets_fall};
+    ghost use Rattle.isle_syntax.specs.Trees.ExprDecreases.{lets_decrease};
     ghost use Rattle.std.proofs.Common.{arith};
 
-    ghost size_decreases = { λ c h. Prim.omega (arith, lets_fall c.defs.items) };
+    ghost size_decreases = { λ c h. Prim.omega (arith, lets_decrease c.defs.items) };
 }
 
 impl LetDefs {

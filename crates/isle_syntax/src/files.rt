@@ -1,8 +1,8 @@
 //! Source files, and where the lines of their texts start.
 ghost use Rattle.std.specs.Prelude.{◌≡◌, ◌<◌, ◌≤◌, ◌+◌, ◌^◌, ◌∷◌, ℕ, IfOk, IfSome, IsTrue, ◌↔◌, [], length, map, slice_get, slice_index, string_bytes};
 ghost use Rattle.std.specs.Option.{option_copied, option_map};
-ghost use Rattle.isle_syntax.specs.Files.{source_file};
-ghost use Rattle.isle_syntax.specs.Lines.{line_starts, starts_up_to, newlines_before, line_number, column_number};
+ghost use Rattle.isle_syntax.specs.Positions.Files.{source_file};
+ghost use Rattle.isle_syntax.specs.Positions.Lines.{line_starts, starts_up_to, newlines_before, line_number, column_number};
 
 use std::alloc::{AllocError, Global};
 use std::marker::Model;
@@ -98,7 +98,7 @@ pub struct Files {
 
 impl Model for Files {
     ghost use Rattle.std.specs.Prelude.{List};
-    ghost use Rattle.isle_syntax.specs.Files.{SourceFile};
+    ghost use Rattle.isle_syntax.specs.Positions.Files.{SourceFile};
 
     ghost Value = { List SourceFile };
 
@@ -178,8 +178,8 @@ pub(crate) struct File {
 
 impl Model for File {
     ghost use Rattle.std.specs.Prelude.{◌≡◌, string_bytes};
-    ghost use Rattle.isle_syntax.specs.Files.{SourceFile};
-    ghost use Rattle.isle_syntax.specs.Lines.{line_starts};
+    ghost use Rattle.isle_syntax.specs.Positions.Files.{SourceFile};
+    ghost use Rattle.isle_syntax.specs.Positions.Lines.{line_starts};
 
     ghost Value = { SourceFile };
 

@@ -1,9 +1,9 @@
 ghost use Rattle.std.specs.Prelude.{◌≡◌, ◌∷◌, []};
-ghost use Rattle.isle_syntax.specs.Names.{is_const};
-ghost use Rattle.isle_syntax.specs.Tokens.{placed};
-ghost use Rattle.isle_syntax.specs.Grammar.{bits_of, is_large};
-ghost use Rattle.isle_syntax.specs.KindOf.{symbol_kind, kind_of, keyword_of, keyword_in, literal_of};
-ghost use Rattle.isle_syntax.specs.DefGrammar.{is_kept_word};
+ghost use Rattle.isle_syntax.specs.Tokens.Names.{is_const};
+ghost use Rattle.isle_syntax.specs.Tokens.PlacedTokens.{placed};
+ghost use Rattle.isle_syntax.specs.Grammar.TreeGrammar.{bits_of, is_large};
+ghost use Rattle.isle_syntax.specs.Reading.KindOf.{symbol_kind, kind_of, keyword_of, keyword_in, literal_of};
+ghost use Rattle.isle_syntax.specs.Grammar.DefGrammar.{is_kept_word};
 
 use crate::gap::after_char;
 use crate::lexer::{Pos, Token};
@@ -83,7 +83,7 @@ impl Literal {
 }
 
 /// Whether a symbol is a constant: `$` and its name.
-#[tactic(auto, unfolding(crate::specs::Names::is_const))]
+#[tactic(auto, unfolding(crate::specs::Tokens::Names::is_const))]
 pub fn is_const(text: &str) -> bool
     ensures { result ≡ is_const text.now }
 {
@@ -91,7 +91,7 @@ pub fn is_const(text: &str) -> bool
 }
 
 /// The first kind that a symbol is of.
-#[tactic(auto, unfolding(crate::specs::KindOf::symbol_kind))]
+#[tactic(auto, unfolding(crate::specs::Reading::KindOf::symbol_kind))]
 pub fn symbol_kind(text: &str) -> Kind
     ensures { result ≡ symbol_kind text.now }
 {
@@ -138,7 +138,7 @@ pub fn is_kept_word(text: &str) -> bool
 }
 
 /// The word of the language that a symbol is.
-#[tactic(auto, unfolding(crate::specs::KindOf::keyword_of))]
+#[tactic(auto, unfolding(crate::specs::Reading::KindOf::keyword_of))]
 pub fn keyword_of(text: &str) -> Keyword
     ensures { result ≡ keyword_of text.now }
 {

@@ -4,14 +4,14 @@ ghost use Rattle.std.specs.Ordering.{nat_cmp};
 ghost use Rattle.std.specs.Cmp.Lexicographic.{slice_cmp};
 ghost use Rattle.std.specs.Hash.{str as text_hash};
 ghost use Rattle.isle_syntax.specs.declared.ast.Ident.{Ident as Name};
-ghost use Rattle.isle_syntax.specs.PatternTree.{PatternTree};
-ghost use Rattle.isle_syntax.specs.PatternShape.{pattern_of};
-ghost use Rattle.isle_syntax.specs.ExprShape.{expr_of};
-ghost use Rattle.isle_syntax.specs.ItemShape.{item_of};
-ghost use Rattle.isle_syntax.specs.Trees.{has_macro_arg};
-ghost use Rattle.isle_syntax.specs.Substitution.{Substitutes};
-ghost use Rattle.isle_syntax.specs.Orders.{pos_cmp, ident_cmp};
-ghost use Rattle.isle_syntax.specs.Comparisons.{AreOrdered, HashesApart, IsInRange, TellsSame, TellsSameTree, pos_hash, ident_hash};
+ghost use Rattle.isle_syntax.specs.Trees.PatternTree.{PatternTree};
+ghost use Rattle.isle_syntax.specs.Trees.PatternShape.{pattern_of};
+ghost use Rattle.isle_syntax.specs.Trees.ExprShape.{expr_of};
+ghost use Rattle.isle_syntax.specs.Trees.ItemShape.{item_of};
+ghost use Rattle.isle_syntax.specs.Trees.TreeCalls.{has_macro_arg};
+ghost use Rattle.isle_syntax.specs.Trees.Substitution.{Substitutes};
+ghost use Rattle.isle_syntax.specs.Positions.Orders.{pos_cmp, ident_cmp};
+ghost use Rattle.isle_syntax.specs.Trees.Comparisons.{AreOrdered, HashesApart, IsInRange, TellsSame, TellsSameTree, pos_hash, ident_hash};
 
 use crate::ast::{
     BoxedExpr, BoxedPattern, Converter, Decl, Def, Expr, Exprs, Extern, Extractor, Fields, Ident,

@@ -1,13 +1,13 @@
 ghost use Rattle.std.specs.Prelude.{◌≡◌, ◌≤◌, ◌↔◌, ◌∷◌, IsTrue, IsSome, IfSome, IfOk, IfErr, MatchOption, option_map, drop, length, List, ℕ, Bool};
-ghost use Rattle.isle_syntax.specs.Tokens.{Placed, placed, IsInt, IsSymbol};
-ghost use Rattle.isle_syntax.specs.Unread.{failed, starved, place_at};
-ghost use Rattle.isle_syntax.specs.Positions.{IsIn};
+ghost use Rattle.isle_syntax.specs.Tokens.PlacedTokens.{Placed, placed, IsInt, IsSymbol};
+ghost use Rattle.isle_syntax.specs.Tokens.RemainingTokens.{failed, starved, remaining_pos};
+ghost use Rattle.isle_syntax.specs.Positions.Printable.{IsIn};
 ghost use Rattle.isle_syntax.specs.Errors.{RefusalAt, IfFault};
-ghost use Rattle.isle_syntax.specs.LexerCalls.{IsUnread, GivesToken, TellsEnd, TellsFault, FailsForMemory, IfMemory, HasEnded, ahead};
-ghost use Rattle.isle_syntax.specs.TokensOf.{TokensOf};
-ghost use Rattle.isle_syntax.specs.Gaps.{lead_of};
-ghost use Rattle.isle_syntax.specs.Reading.{reading, next_of, nothing, fault, found};
-ghost use Rattle.isle_syntax.specs.Lookahead.{reading_of, state_of, IsAhead};
+ghost use Rattle.isle_syntax.specs.Tokens.LexerCalls.{IsRemaining, GivesToken, TellsEnd, TellsFault, FailsForMemory, IfMemory, HasEnded, ahead};
+ghost use Rattle.isle_syntax.specs.Tokens.TokensOf.{TokensOf};
+ghost use Rattle.isle_syntax.specs.Tokens.Gaps.{lead_of};
+ghost use Rattle.isle_syntax.specs.Tokens.Finding.{reading, next_of, nothing, fault, found};
+ghost use Rattle.isle_syntax.specs.Tokens.Lookahead.{reading_of, state_of, IsAhead};
 
 
 use crate::Refusal;
@@ -31,7 +31,7 @@ pub struct Pos {
 
 impl Pos {
     ghost use Rattle.std.specs.Prelude.{◌<◌, IfOk, IfSome, length, slice_get, string_bytes};
-    ghost use Rattle.isle_syntax.specs.Files.{named_line};
+    ghost use Rattle.isle_syntax.specs.Positions.Files.{named_line};
 
     /// A place.
     pub fn new(file: usize, offset: usize) -> Pos
@@ -125,13 +125,13 @@ pub struct Lexer<'src> {
 }
 
 impl<'src> Model for Lexer<'src> {
-    ghost use Rattle.isle_syntax.specs.Unread.{Unread};
+    ghost use Rattle.isle_syntax.specs.Tokens.RemainingTokens.{RemainingTokens};
 
-    ghost Value = { Unread };
+    ghost Value = { RemainingTokens };
 
-    ghost use Rattle.isle_syntax.specs.Lookahead.{unread_of, IsAhead};
+    ghost use Rattle.isle_syntax.specs.Tokens.Lookahead.{remaining_of, IsAhead};
 
-    ghost view = { λ l. unread_of (record { file = l.file; size = l.size }) l.lookahead l.start l.rest.now };
+    ghost view = { λ l. remaining_of (record { file = l.file; size = l.size }) l.lookahead l.start l.rest.now };
 
     ghost invariant = { λ l. IsAhead (record { file = l.file; size = l.size }) l.lookahead l.start l.rest.now };
 }
@@ -145,7 +145,7 @@ impl<'src> Lexer<'src> {
         ensures only { (left : List Placed) (end : ℕ) (clean : Bool) → TokensOf result.source src.now left end clean
             → (result.left ≡ left) × (result.end ≡ end) × (result.clean ≡ clean) }
         ensures not_failed { ¬ (result.state ≡ failed) }
-        ensures unread { IsUnread result }
+        ensures remaining { IsRemaining result }
     {
         let size = src.len();
         let (lookahead, start, rest) = look(alloc, file, size, src);
@@ -165,7 +165,7 @@ impl<'src> Lexer<'src> {
         ensures gives { IfOk result (λ t. MatchOption t (TellsEnd self.old self.new) (GivesToken self.old self.new)) }
         ensures fault { IfErr result (λ refusal. IfFault refusal (TellsFault self.old self.new)) }
         ensures memory { IfErr result (λ refusal. IfMemory refusal (FailsForMemory self.old self.new)) }
-        ensures unread { IsUnread self.new }
+        ensures remaining { IsRemaining self.new }
         ensures placed { IfOk result (λ t. IfSome t (λ token. IsIn self.old.source token.0)) }
         ensures refused { IfErr result (RefusalAt (IsIn self.old.source)) }
     {
@@ -201,7 +201,7 @@ impl<'src> Lexer<'src> {
         ensures next { option_map (λ token. placed token.now) result ≡ ahead self.now }
         ensures token { IfSome result (λ token. self.now.left ≡ placed token.now ∷ drop 1 self.now.left) }
         ensures placed { IfSome result (λ token. IsIn self.now.source token.now.0) }
-        ensures unread { IsUnread self.now }
+        ensures remaining { IsRemaining self.now }
     {
         match &self.lookahead {
             Lookahead::Token(token) => Some(token),
@@ -211,9 +211,9 @@ impl<'src> Lexer<'src> {
 
     /// Where the next token begins, or the end; from a fault on, where what wasn't read begins.
     pub fn pos(&self) -> Pos
-        ensures place { result ≡ place_at self.now }
+        ensures place { result ≡ remaining_pos self.now }
         ensures within { IsIn self.now.source result }
-        ensures unread { IsUnread self.now }
+        ensures remaining { IsRemaining self.now }
     {
         Pos::new(self.file, self.start)
     }
@@ -221,7 +221,7 @@ impl<'src> Lexer<'src> {
     /// Whether all tokens were given.
     pub fn eof(&self) -> bool
         ensures ended { IsTrue result ↔ HasEnded self.now }
-        ensures unread { IsUnread self.now }
+        ensures remaining { IsRemaining self.now }
     {
         match &self.lookahead {
             Lookahead::End => true,
@@ -231,7 +231,7 @@ impl<'src> Lexer<'src> {
 
     /// The allocator that the tokens are made on.
     pub(crate) fn allocator(&self) -> Global
-        ensures { IsUnread self.now }
+        ensures { IsRemaining self.now }
     {
         self.alloc
     }

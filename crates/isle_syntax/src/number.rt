@@ -1,7 +1,7 @@
 ghost use Rattle.std.specs.Prelude.{◌≡◌, ◌≤◌, ◌<◌, ◌^◌, ◌++◌, length, cond, ◌==◌, ◌+◌, ◌*◌, SomeIff, MatchOption, None, Some};
 ghost use Rattle.std.specs.Char.{digit_value};
-ghost use Rattle.isle_syntax.specs.Gaps.{after_run, run_of};
-ghost use Rattle.isle_syntax.specs.Integers.{is_negative, unsigned_of, radix_named, radix_of, behind_prefix, continues_digits, has_digit, spelt, spelt_with, integer_token, digits_token, integer_of, after_integer};
+ghost use Rattle.isle_syntax.specs.Tokens.Gaps.{after_run, run_of};
+ghost use Rattle.isle_syntax.specs.Tokens.Integers.{is_negative, unsigned_of, radix_named, radix_of, behind_prefix, continues_digits, has_digit, spelt, spelt_with, integer_token, digits_token, integer_of, after_integer};
 
 use crate::gap::{after_first, end_of, front};
 use crate::lexer::Token;
@@ -91,7 +91,7 @@ fn continues_digits(radix: u32, b: u8) -> bool
 }
 
 /// What follows the digits of a radix and `_`.
-#[tactic(auto, unfolding(crate::specs::Gaps::after_run))]
+#[tactic(auto, unfolding(crate::specs::Tokens::Gaps::after_run))]
 fn after_digits(bytes: &[u8], radix: u32) -> &[u8]
     ensures { result.now ≡ after_run (continues_digits radix) bytes.now }
 {

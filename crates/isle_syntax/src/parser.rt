@@ -1,10 +1,10 @@
 ghost use Rattle.std.specs.Prelude.{◌≡◌, All, IfOk, IfErr};
-ghost use Rattle.isle_syntax.specs.Positions.{IsIn};
+ghost use Rattle.isle_syntax.specs.Positions.Printable.{IsIn};
 ghost use Rattle.isle_syntax.specs.Errors.{RefusalAt};
-ghost use Rattle.isle_syntax.specs.Places.{DefAt};
-ghost use Rattle.isle_syntax.specs.MacroArgs.{HasNoMacroArgs};
-ghost use Rattle.isle_syntax.specs.RuleOrder.{RulesAscend};
-ghost use Rattle.isle_syntax.specs.Verdict.{IsRight, IsRightWithoutPos};
+ghost use Rattle.isle_syntax.specs.Positions.DefPositions.{DefAt};
+ghost use Rattle.isle_syntax.specs.Trees.MacroArgs.{HasNoMacroArgs};
+ghost use Rattle.isle_syntax.specs.Positions.RuleOrder.{RulesAscend};
+ghost use Rattle.isle_syntax.specs.Grammar.Verdict.{IsRight, IsRightWithoutPos};
 
 mod definitions;
 mod exprs;
@@ -57,9 +57,9 @@ pub struct Parser<'src> {
 }
 
 impl<'src> Model for Parser<'src> {
-    ghost use Rattle.isle_syntax.specs.Unread.{Unread};
+    ghost use Rattle.isle_syntax.specs.Tokens.RemainingTokens.{RemainingTokens};
 
-    ghost Value = { Unread };
+    ghost Value = { RemainingTokens };
 
     ghost view = { λ p. p.lexer };
 }

@@ -1,9 +1,9 @@
 ghost use Rattle.std.specs.Prelude.{◌≡◌, ◌==◌, not};
 ghost use Rattle.std.specs.List.{list_all};
 ghost use Rattle.std.specs.Str.{chars};
-ghost use Rattle.isle_syntax.specs.Names.{ends_symbol, begins_symbol, is_symbol, begins_ident, is_numeric, continues_ident, is_ident, begins_dollar, is_word, is_name, is_pname, is_const_name};
-ghost use Rattle.isle_syntax.specs.Gaps.{after_run, run_of};
-ghost use Rattle.isle_syntax.specs.TokensOf.{continues_symbol};
+ghost use Rattle.isle_syntax.specs.Tokens.Names.{ends_symbol, begins_symbol, is_symbol, begins_ident, is_numeric, continues_ident, is_ident, begins_dollar, is_word, is_name, is_pname, is_const_name};
+ghost use Rattle.isle_syntax.specs.Tokens.Gaps.{after_run, run_of};
+ghost use Rattle.isle_syntax.specs.Tokens.TokensOf.{continues_symbol};
 
 use crate::gap::{front, is_space};
 use unicode::properties::{GeneralCategory, is_alphabetic};
@@ -16,7 +16,7 @@ fn ends_symbol(b: u8) -> bool
 }
 
 /// From the byte on that ends the symbol, or from the end on.
-#[tactic(auto, unfolding(crate::specs::Gaps::after_run))]
+#[tactic(auto, unfolding(crate::specs::Tokens::Gaps::after_run))]
 fn after_symbol(bytes: &[u8]) -> &[u8]
     ensures { result.now ≡ after_run continues_symbol bytes.now }
 {
@@ -97,7 +97,7 @@ fn each_continues_ident(text: &str) -> bool
 }
 
 /// Whether a text is an identifier.
-#[tactic(auto, unfolding(crate::specs::Names::is_ident))]
+#[tactic(auto, unfolding(crate::specs::Tokens::Names::is_ident))]
 pub fn is_ident(text: &str) -> bool
     ensures { result ≡ is_ident text.now }
 {
@@ -127,7 +127,7 @@ fn is_word(word: &str, text: &str) -> bool
 
 /// Whether a text names a variable in an expression: an identifier that doesn't begin with `$` and isn't `true` or
 /// `false`.
-#[tactic(auto, unfolding(crate::specs::Names::is_name))]
+#[tactic(auto, unfolding(crate::specs::Tokens::Names::is_name))]
 pub fn is_name(text: &str) -> bool
     ensures { result ≡ is_name text.now }
 {
@@ -135,7 +135,7 @@ pub fn is_name(text: &str) -> bool
 }
 
 /// Whether a text names a variable in a pattern: a name that isn't `_`.
-#[tactic(auto, unfolding(crate::specs::Names::is_pname))]
+#[tactic(auto, unfolding(crate::specs::Tokens::Names::is_pname))]
 pub fn is_pname(text: &str) -> bool
     ensures { result ≡ is_pname text.now }
 {
@@ -143,7 +143,7 @@ pub fn is_pname(text: &str) -> bool
 }
 
 /// Whether a text stands behind the `$` of a constant: both together are an identifier of at least two characters.
-#[tactic(auto, unfolding(crate::specs::Names::is_const_name))]
+#[tactic(auto, unfolding(crate::specs::Tokens::Names::is_const_name))]
 pub fn is_const_name(text: &str) -> bool
     ensures { result ≡ is_const_name text.now }
 {

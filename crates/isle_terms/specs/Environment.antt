@@ -2,12 +2,12 @@
 use Rattle.std.specs.Prelude.{◌==◌, List, All, Option}
 use Rattle.std.specs.HashMap.{get_by}
 use Rattle.isle_syntax.specs.declared.lexer.Pos.{Pos}
-use Rattle.isle_syntax.specs.Files.{SourceFile}
-use Rattle.isle_syntax.specs.Positions.{HasPlaceAt}
+use Rattle.isle_syntax.specs.Positions.Files.{SourceFile}
+use Rattle.isle_syntax.specs.Positions.Printable.{IsPrintablePos}
 use Rattle.isle_types.specs.declared.ids.Sym.{Sym}
 use Rattle.isle_types.specs.declared.ids.TermId.{TermId}
 use Rattle.isle_types.specs.declared.env.TypeEnv.{TypeEnv}
-use Rattle.isle_types.specs.TypeEnvs.{HasPlaces}
+use Rattle.isle_types.specs.TypeEnvs.{HasPrintablePositions}
 use Rattle.isle_terms.specs.declared.terms.Term.{Term}
 use Rattle.isle_terms.specs.declared.rules.Rule.{Rule}
 use Rattle.isle_terms.specs.declared.env.TermEnv.{TermEnv}
@@ -30,9 +30,9 @@ TypedRuleAt At rule = At rule.pos
 
 -- the positions of types, terms and rules, and of the errors kept so far, can be printed
 pub record ArePlaced (files : List SourceFile) (tyenv : TypeEnv) (env : TermEnv) : Type 0 where
-  pub types : HasPlaces files tyenv
-  pub terms : All (TermAt (HasPlaceAt files)) (terms_of env)
-  pub rules : All (TypedRuleAt (HasPlaceAt files)) (rules_of env)
+  pub types : HasPrintablePositions files tyenv
+  pub terms : All (TermAt (IsPrintablePos files)) (terms_of env)
+  pub rules : All (TypedRuleAt (IsPrintablePos files)) (rules_of env)
 
 -- the term of a symbol
 abbrev pub term_with : TermEnv → Sym → Option TermId

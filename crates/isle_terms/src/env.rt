@@ -1,10 +1,10 @@
 ghost use Rattle.std.specs.Prelude.{◌≡◌, ◌<◌, [], List, All, IfOk, IfErr, OnOk, length, slice_get};
 ghost use Rattle.std.specs.Option.{option_and_then, option_copied};
-ghost use Rattle.isle_syntax.specs.Files.{SourceFile};
-ghost use Rattle.isle_syntax.specs.Positions.{HasPlaceAt};
+ghost use Rattle.isle_syntax.specs.Positions.Files.{SourceFile};
+ghost use Rattle.isle_syntax.specs.Positions.Printable.{IsPrintablePos};
 ghost use Rattle.isle_syntax.specs.Errors.{IfFault, RefusalAt, RefusalsAt};
-ghost use Rattle.isle_syntax.specs.Places.{DefAt, DeclAt, IdentAt, RuleAt};
-ghost use Rattle.isle_types.specs.TypeEnvs.{errors_of, types_of, sym_named, HasPlaces};
+ghost use Rattle.isle_syntax.specs.Positions.DefPositions.{DefAt, DeclAt, IdentAt, RuleAt};
+ghost use Rattle.isle_types.specs.TypeEnvs.{errors_of, types_of, sym_named, HasPrintablePositions};
 ghost use Rattle.isle_terms.specs.Environment.{terms_of, rules_of, term_with, TermAt, TypedRuleAt, ArePlaced};
 
 use crate::rules::{Expr, Pattern, Rule};
@@ -41,10 +41,10 @@ impl TermEnv {
         ensures same_types { types_of tyenv.new ≡ types_of tyenv.old }
         ensures no_errors { OnOk result (errors_of tyenv.new ≡ []) }
         ensures refused { IfErr result (λ r. IfFault r (λ errors. 0 < length errors.items)) }
-        ensures placed { (files : List SourceFile) → All (DefAt (HasPlaceAt files)) defs.now
-            → HasPlaces files tyenv.old → IfOk result (ArePlaced files tyenv.new) }
-        ensures printable { (files : List SourceFile) → All (DefAt (HasPlaceAt files)) defs.now
-            → HasPlaces files tyenv.old → IfErr result (RefusalsAt (HasPlaceAt files)) }
+        ensures placed { (files : List SourceFile) → All (DefAt (IsPrintablePos files)) defs.now
+            → HasPrintablePositions files tyenv.old → IfOk result (ArePlaced files tyenv.new) }
+        ensures printable { (files : List SourceFile) → All (DefAt (IsPrintablePos files)) defs.now
+            → HasPrintablePositions files tyenv.old → IfErr result (RefusalsAt (IsPrintablePos files)) }
     {
         let mut env = TermEnv {
             alloc,
@@ -73,11 +73,11 @@ impl TermEnv {
         defs: &[Def],
     ) -> Result<(), Refusal<Vec<Error>>>
         ensures same_types { types_of tyenv.new ≡ types_of tyenv.old }
-        ensures placed { (files : List SourceFile) → All (DefAt (HasPlaceAt files)) defs.now
+        ensures placed { (files : List SourceFile) → All (DefAt (IsPrintablePos files)) defs.now
             → ArePlaced files tyenv.old self.old → ArePlaced files tyenv.new self.new }
         ensures refused { IfErr result (λ r. IfFault r (λ errors. 0 < length errors.items)) }
-        ensures printable { (files : List SourceFile) → All (DefAt (HasPlaceAt files)) defs.now
-            → IfErr result (RefusalsAt (HasPlaceAt files)) }
+        ensures printable { (files : List SourceFile) → All (DefAt (IsPrintablePos files)) defs.now
+            → IfErr result (RefusalsAt (IsPrintablePos files)) }
     {
         for def in defs {
             if let Def::Decl(decl) = def {
@@ -94,8 +94,8 @@ impl TermEnv {
         ensures same_errors { errors_of tyenv.new ≡ errors_of tyenv.old }
         ensures same_types { types_of tyenv.new ≡ types_of tyenv.old }
         ensures here { IfOk result (λ term. term.decl_pos ≡ decl.now.pos) }
-        ensures printable { (files : List SourceFile) → DeclAt (HasPlaceAt files) decl.now
-            → IfErr result (RefusalAt (HasPlaceAt files)) }
+        ensures printable { (files : List SourceFile) → DeclAt (IsPrintablePos files) decl.now
+            → IfErr result (RefusalAt (IsPrintablePos files)) }
     {
         check_flags(tyenv, decl)?;
         let name = tyenv.intern_mut(&decl.term)?;
@@ -125,8 +125,8 @@ impl TermEnv {
     }
 
     fn known_types(&self, tyenv: &TypeEnv, names: &[Ident]) -> Result<Vec<TypeId>, Refusal<Error>>
-        ensures { (files : List SourceFile) → All (IdentAt (HasPlaceAt files)) names.now
-            → IfErr result (RefusalAt (HasPlaceAt files)) }
+        ensures { (files : List SourceFile) → All (IdentAt (IsPrintablePos files)) names.now
+            → IfErr result (RefusalAt (IsPrintablePos files)) }
     {
         let mut types = Vec::new(self.alloc);
         for name in names {
@@ -141,7 +141,7 @@ impl TermEnv {
     /// Adds a term, whose name must be new.
     fn add_term(&mut self, tyenv: &mut TypeEnv, term: Term) -> Result<(), AllocError>
         ensures same_types { types_of tyenv.new ≡ types_of tyenv.old }
-        ensures placed { (files : List SourceFile) → HasPlaceAt files term.decl_pos
+        ensures placed { (files : List SourceFile) → IsPrintablePos files term.decl_pos
             → ArePlaced files tyenv.old self.old → ArePlaced files tyenv.new self.new }
     {
         if self.term_map.contains_key(&term.name) {
@@ -167,8 +167,8 @@ impl TermEnv {
     }
 
     fn terms_of_type(&self, tyenv: &TypeEnv, ty: TypeId) -> Result<Vec<Term>, AllocError>
-        ensures { (files : List SourceFile) → HasPlaces files tyenv.now
-            → IfOk result (λ made. All (TermAt (HasPlaceAt files)) made.items) }
+        ensures { (files : List SourceFile) → HasPrintablePositions files tyenv.now
+            → IfOk result (λ made. All (TermAt (IsPrintablePos files)) made.items) }
     {
         let mut made = Vec::new(self.alloc);
         let Some(Type::Enum { id, variants, .. }) = tyenv.get_type(ty) else {
@@ -200,7 +200,7 @@ impl TermEnv {
     fn add_terms(&mut self, tyenv: &mut TypeEnv, terms: Vec<Term>) -> Result<(), AllocError>
         ensures same_types { types_of tyenv.new ≡ types_of tyenv.old }
         ensures placed { (files : List SourceFile)
-            → All (TermAt (HasPlaceAt files)) terms.items
+            → All (TermAt (IsPrintablePos files)) terms.items
             → ArePlaced files tyenv.old self.old → ArePlaced files tyenv.new self.new }
     {
         for term in terms {
@@ -212,7 +212,7 @@ impl TermEnv {
     /// Marks the declared terms that have rules.
     fn collect_constructors(&mut self, tyenv: &mut TypeEnv, defs: &[Def]) -> Result<(), AllocError>
         ensures same_types { types_of tyenv.new ≡ types_of tyenv.old }
-        ensures placed { (files : List SourceFile) → All (DefAt (HasPlaceAt files)) defs.now
+        ensures placed { (files : List SourceFile) → All (DefAt (IsPrintablePos files)) defs.now
             → ArePlaced files tyenv.old self.old → ArePlaced files tyenv.new self.new }
     {
         for def in defs {
@@ -242,8 +242,8 @@ impl TermEnv {
     fn mark_constructor(&mut self, id: TermId)
         ensures same_rules { rules_of self.new ≡ rules_of self.old }
         ensures placed { (files : List SourceFile)
-            → All (TermAt (HasPlaceAt files)) (terms_of self.old)
-            → All (TermAt (HasPlaceAt files)) (terms_of self.new) }
+            → All (TermAt (IsPrintablePos files)) (terms_of self.old)
+            → All (TermAt (IsPrintablePos files)) (terms_of self.new) }
     {
         if let Some(term) = self.terms.get_mut(id.index()) {
             if let TermKind::Decl { flags, .. } = &term.kind {
@@ -262,11 +262,11 @@ impl TermEnv {
         defs: &[Def],
     ) -> Result<(), Refusal<Vec<Error>>>
         ensures same_types { types_of tyenv.new ≡ types_of tyenv.old }
-        ensures placed { (files : List SourceFile) → All (DefAt (HasPlaceAt files)) defs.now
+        ensures placed { (files : List SourceFile) → All (DefAt (IsPrintablePos files)) defs.now
             → ArePlaced files tyenv.old self.old → ArePlaced files tyenv.new self.new }
         ensures refused { IfErr result (λ r. IfFault r (λ errors. 0 < length errors.items)) }
-        ensures printable { (files : List SourceFile) → All (DefAt (HasPlaceAt files)) defs.now
-            → IfErr result (RefusalsAt (HasPlaceAt files)) }
+        ensures printable { (files : List SourceFile) → All (DefAt (IsPrintablePos files)) defs.now
+            → IfErr result (RefusalsAt (IsPrintablePos files)) }
     {
         for def in defs {
             if let Def::Rule(rule) = def {
@@ -290,8 +290,8 @@ impl TermEnv {
         ensures same_errors { errors_of tyenv.new ≡ errors_of tyenv.old }
         ensures same_types { types_of tyenv.new ≡ types_of tyenv.old }
         ensures here { IfOk result (λ typed. typed.pos ≡ rule.now.pos) }
-        ensures printable { (files : List SourceFile) → RuleAt (HasPlaceAt files) rule.now
-            → IfErr result (RefusalAt (HasPlaceAt files)) }
+        ensures printable { (files : List SourceFile) → RuleAt (IsPrintablePos files) rule.now
+            → IfErr result (RefusalAt (IsPrintablePos files)) }
     {
         check_parts(tyenv, rule)?;
         let mut bindings = Bindings::new(self.alloc);
@@ -318,8 +318,8 @@ impl TermEnv {
     ) -> Result<Vec<Pattern>, Refusal<Error>>
         ensures same_errors { errors_of tyenv.new ≡ errors_of tyenv.old }
         ensures same_types { types_of tyenv.new ≡ types_of tyenv.old }
-        ensures printable { (files : List SourceFile) → RuleAt (HasPlaceAt files) rule.now
-            → IfErr result (RefusalAt (HasPlaceAt files)) }
+        ensures printable { (files : List SourceFile) → RuleAt (IsPrintablePos files) rule.now
+            → IfErr result (RefusalAt (IsPrintablePos files)) }
     {
         match (&rule.pattern, self.get_term(root)) {
             (ast::Pattern::Term { args, pos, .. }, Some(term)) => translate_args(
@@ -344,8 +344,8 @@ impl TermEnv {
     ) -> Result<Expr, Refusal<Error>>
         ensures same_errors { errors_of tyenv.new ≡ errors_of tyenv.old }
         ensures same_types { types_of tyenv.new ≡ types_of tyenv.old }
-        ensures printable { (files : List SourceFile) → RuleAt (HasPlaceAt files) rule.now
-            → IfErr result (RefusalAt (HasPlaceAt files)) }
+        ensures printable { (files : List SourceFile) → RuleAt (IsPrintablePos files) rule.now
+            → IfErr result (RefusalAt (IsPrintablePos files)) }
     {
         match self.get_term(root) {
             Some(term) => translate_expr(self, tyenv, &rule.expr, term.ret_ty, rule.pos, bindings),
@@ -371,8 +371,8 @@ impl TermEnv {
     fn name_lone_rules(&mut self) -> Result<(), AllocError>
         ensures same_terms { terms_of self.new ≡ terms_of self.old }
         ensures placed { (files : List SourceFile)
-            → All (TypedRuleAt (HasPlaceAt files)) (rules_of self.old)
-            → All (TypedRuleAt (HasPlaceAt files)) (rules_of self.new) }
+            → All (TypedRuleAt (IsPrintablePos files)) (rules_of self.old)
+            → All (TypedRuleAt (IsPrintablePos files)) (rules_of self.new) }
     {
         let mut counts: HashMap<TermId, usize> = HashMap::new(self.alloc);
         for rule in &self.rules {

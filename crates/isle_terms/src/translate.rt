@@ -1,8 +1,8 @@
 ghost use Rattle.std.specs.Prelude.{◌≡◌, List, All, IfErr};
-ghost use Rattle.isle_syntax.specs.Files.{SourceFile};
-ghost use Rattle.isle_syntax.specs.Positions.{HasPlaceAt};
+ghost use Rattle.isle_syntax.specs.Positions.Files.{SourceFile};
+ghost use Rattle.isle_syntax.specs.Positions.Printable.{IsPrintablePos};
 ghost use Rattle.isle_syntax.specs.Errors.{RefusalAt};
-ghost use Rattle.isle_syntax.specs.Places.{IdentAt, PatternAt, ExprAt};
+ghost use Rattle.isle_syntax.specs.Positions.DefPositions.{IdentAt, PatternAt, ExprAt};
 ghost use Rattle.isle_types.specs.TypeEnvs.{errors_of, types_of};
 
 use crate::env::TermEnv;
@@ -68,8 +68,8 @@ fn check_int(
     big: bool,
     ty: TypeId,
 ) -> Result<(), Refusal<Error>>
-    ensures { (files : List SourceFile) → HasPlaceAt files pos
-        → IfErr result (RefusalAt (HasPlaceAt files)) }
+    ensures { (files : List SourceFile) → IsPrintablePos files pos
+        → IfErr result (RefusalAt (IsPrintablePos files)) }
 {
     match tyenv.get_type(ty) {
         Some(Type::Builtin(BuiltinType::Int(int))) => {
@@ -90,8 +90,8 @@ fn known_term<'a>(
     sym: &Ident,
     ty: TypeId,
 ) -> Result<&'a Term, Refusal<Error>>
-    ensures { (files : List SourceFile) → IdentAt (HasPlaceAt files) sym.now
-        → IfErr result (RefusalAt (HasPlaceAt files)) }
+    ensures { (files : List SourceFile) → IdentAt (IsPrintablePos files) sym.now
+        → IfErr result (RefusalAt (IsPrintablePos files)) }
 {
     let Some(id) = termenv.get_term_by_name(tyenv, sym) else {
         return Err(tyenv.type_error(sym.1, "this term is not known"));
@@ -118,9 +118,9 @@ fn translate_pattern(
 ) -> Result<Pattern, Refusal<Error>>
     ensures same_errors { errors_of tyenv.new ≡ errors_of tyenv.old }
     ensures same_types { types_of tyenv.new ≡ types_of tyenv.old }
-    ensures printable { (files : List SourceFile) → HasPlaceAt files rule
-        → PatternAt (HasPlaceAt files) pattern.now
-        → IfErr result (RefusalAt (HasPlaceAt files)) }
+    ensures printable { (files : List SourceFile) → IsPrintablePos files rule
+        → PatternAt (IsPrintablePos files) pattern.now
+        → IfErr result (RefusalAt (IsPrintablePos files)) }
 {
     match pattern {
         ast::Pattern::ConstInt { val, big, pos } => {
@@ -169,9 +169,9 @@ pub fn translate_args(
 ) -> Result<Vec<Pattern>, Refusal<Error>>
     ensures same_errors { errors_of tyenv.new ≡ errors_of tyenv.old }
     ensures same_types { types_of tyenv.new ≡ types_of tyenv.old }
-    ensures printable { (files : List SourceFile) → HasPlaceAt files rule → HasPlaceAt files pos
-        → All (PatternAt (HasPlaceAt files)) args.now
-        → IfErr result (RefusalAt (HasPlaceAt files)) }
+    ensures printable { (files : List SourceFile) → IsPrintablePos files rule → IsPrintablePos files pos
+        → All (PatternAt (IsPrintablePos files)) args.now
+        → IfErr result (RefusalAt (IsPrintablePos files)) }
 {
     let tys = term.arg_tys.as_slice();
     if args.len() != tys.len() {
@@ -196,9 +196,9 @@ pub fn translate_expr(
 ) -> Result<Expr, Refusal<Error>>
     ensures same_errors { errors_of tyenv.new ≡ errors_of tyenv.old }
     ensures same_types { types_of tyenv.new ≡ types_of tyenv.old }
-    ensures printable { (files : List SourceFile) → HasPlaceAt files rule
-        → ExprAt (HasPlaceAt files) expr.now
-        → IfErr result (RefusalAt (HasPlaceAt files)) }
+    ensures printable { (files : List SourceFile) → IsPrintablePos files rule
+        → ExprAt (IsPrintablePos files) expr.now
+        → IfErr result (RefusalAt (IsPrintablePos files)) }
 {
     match expr {
         ast::Expr::ConstInt { val, big, pos } => {
@@ -239,9 +239,9 @@ fn translate_expr_args(
 ) -> Result<Vec<Expr>, Refusal<Error>>
     ensures same_errors { errors_of tyenv.new ≡ errors_of tyenv.old }
     ensures same_types { types_of tyenv.new ≡ types_of tyenv.old }
-    ensures printable { (files : List SourceFile) → HasPlaceAt files rule → HasPlaceAt files pos
-        → All (ExprAt (HasPlaceAt files)) args.now
-        → IfErr result (RefusalAt (HasPlaceAt files)) }
+    ensures printable { (files : List SourceFile) → IsPrintablePos files rule → IsPrintablePos files pos
+        → All (ExprAt (IsPrintablePos files)) args.now
+        → IfErr result (RefusalAt (IsPrintablePos files)) }
 {
     let tys = term.arg_tys.as_slice();
     if args.len() != tys.len() {

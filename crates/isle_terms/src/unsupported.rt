@@ -1,9 +1,9 @@
 ghost use Rattle.std.specs.Prelude.{◌≡◌, List, All, IfErr, IfSome};
-ghost use Rattle.isle_syntax.specs.Files.{SourceFile};
-ghost use Rattle.isle_syntax.specs.Positions.{HasPlaceAt};
+ghost use Rattle.isle_syntax.specs.Positions.Files.{SourceFile};
+ghost use Rattle.isle_syntax.specs.Positions.Printable.{IsPrintablePos};
 ghost use Rattle.isle_syntax.specs.Errors.{RefusalAt};
-ghost use Rattle.isle_syntax.specs.Places.{DefAt, DeclAt, RuleAt};
-ghost use Rattle.isle_types.specs.TypeEnvs.{types_of, HasPlaces};
+ghost use Rattle.isle_syntax.specs.Positions.DefPositions.{DefAt, DeclAt, RuleAt};
+ghost use Rattle.isle_types.specs.TypeEnvs.{types_of, HasPrintablePositions};
 
 use isle_syntax::Refusal;
 use isle_syntax::ast::{Decl, Def, Extern, Rule};
@@ -15,8 +15,8 @@ use std::alloc::AllocError;
 /// Reports each definition of a kind that isn't typed.
 pub fn report_unsupported(tyenv: &mut TypeEnv, defs: &[Def]) -> Result<(), AllocError>
     ensures same_types { types_of tyenv.new ≡ types_of tyenv.old }
-    ensures placed { (files : List SourceFile) → All (DefAt (HasPlaceAt files)) defs.now
-        → HasPlaces files tyenv.old → HasPlaces files tyenv.new }
+    ensures placed { (files : List SourceFile) → All (DefAt (IsPrintablePos files)) defs.now
+        → HasPrintablePositions files tyenv.old → HasPrintablePositions files tyenv.new }
 {
     for def in defs {
         let Some(pos) = unsupported_at(def) else {
@@ -29,8 +29,8 @@ pub fn report_unsupported(tyenv: &mut TypeEnv, defs: &[Def]) -> Result<(), Alloc
 
 /// Where a definition stands that isn't typed.
 fn unsupported_at(def: &Def) -> Option<Pos>
-    ensures { (files : List SourceFile) → DefAt (HasPlaceAt files) def.now
-        → IfSome result (HasPlaceAt files) }
+    ensures { (files : List SourceFile) → DefAt (IsPrintablePos files) def.now
+        → IfSome result (IsPrintablePos files) }
 {
     match def {
         Def::Extractor(extractor) => Some(extractor.pos),
@@ -44,8 +44,8 @@ fn unsupported_at(def: &Def) -> Option<Pos>
 
 /// Refuses a declaration with a flag that isn't typed.
 pub fn check_flags(tyenv: &TypeEnv, decl: &Decl) -> Result<(), Refusal<Error>>
-    ensures { (files : List SourceFile) → DeclAt (HasPlaceAt files) decl.now
-        → IfErr result (RefusalAt (HasPlaceAt files)) }
+    ensures { (files : List SourceFile) → DeclAt (IsPrintablePos files) decl.now
+        → IfErr result (RefusalAt (IsPrintablePos files)) }
 {
     if decl.pure {
         return Err(tyenv.type_error(decl.pos, "the flag `pure` is not supported"));
@@ -61,8 +61,8 @@ pub fn check_flags(tyenv: &TypeEnv, decl: &Decl) -> Result<(), Refusal<Error>>
 
 /// Refuses a rule with a part that isn't typed.
 pub fn check_parts(tyenv: &TypeEnv, rule: &Rule) -> Result<(), Refusal<Error>>
-    ensures { (files : List SourceFile) → RuleAt (HasPlaceAt files) rule.now
-        → IfErr result (RefusalAt (HasPlaceAt files)) }
+    ensures { (files : List SourceFile) → RuleAt (IsPrintablePos files) rule.now
+        → IfErr result (RefusalAt (IsPrintablePos files)) }
 {
     if rule.name.is_some() {
         return Err(tyenv.type_error(rule.pos, "a rule's name is not supported"));

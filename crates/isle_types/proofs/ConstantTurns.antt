@@ -9,7 +9,7 @@ use Rattle.isle_syntax.specs.declared.error.Error.TheVariants.{TypeError}
 use Rattle.isle_syntax.specs.Errors.{span_at}
 use Rattle.isle_types.specs.declared.ids.TypeId.{TypeId}
 use Rattle.isle_types.specs.declared.env.TypeEnv.{TypeEnv}
-use Rattle.isle_types.specs.Names.{place_of}
+use Rattle.isle_types.specs.Names.{position_of}
 use Rattle.isle_types.specs.Environment.{IsConstant, as_constant, constant_definitions, constant_in, type_names}
 use Rattle.isle_types.specs.TypeFaults.{unknown_constant_type}
 use Rattle.isle_types.specs.TypeEnvs.{errors_of, type_of_name, type_of_constant, type_at}
@@ -57,7 +57,7 @@ kept_passing defs i def start env low is none so_far =
       same = so_far.same;
     }
 
-known_type : (known : List (List ℕ)) (name : List ℕ) (id : TypeId) (o : Option ℕ) → place_of known name ≡ o → option_map type_at o ≡ Some id → slice_get known id.0 ≡ Some name
+known_type : (known : List (List ℕ)) (name : List ℕ) (id : TypeId) (o : Option ℕ) → position_of known name ≡ o → option_map type_at o ≡ Some id → slice_get known id.0 ≡ Some name
 known_type known name id None found is = absurd (none-some id is)
 known_type known name id (Some i) found is =
     subst (λ j. slice_get known j ≡ Some name) (ap (λ (ty : TypeId). ty.0) (same_Some (type_at i) id is)) (place_found known name i found)
@@ -73,7 +73,7 @@ same_after start old new before same = record {
 pub kept_more : (defs : List Def) (i : ℕ) (def : Def) (name ty : Ident) (id : TypeId) (start old new : TypeEnv) → i < length defs → def ≡ get_or defs i def → as_constant def ≡ Some (name, ty) → HasTypeNames start (type_names defs) → KeptSoFar defs i start old → type_of_name old ty.0 ≡ Some id → ((q : List ℕ) → type_of_constant new q ≡ (if bytes_eq q name.0 then Some id else type_of_constant old q)) → SameButConstants old new → errors_of new ≡ errors_of old → KeptSoFar defs (i + 1) start new
 kept_more defs i def name ty id start old new low is some named so_far known set same errors =
     let more : constant_definitions (take (i + 1) defs) ≡ constant_definitions (take i defs) ++ (name, ty) ∷ [] = taken_up as_constant defs i def (name, ty) low is some in
-    let meant = known_type (type_names defs) ty.0 id (place_of (type_names defs) ty.0) refl (sym (named ty.0) ∙ sym (so_far.same.named ty.0) ∙ known) in
+    let meant = known_type (type_names defs) ty.0 id (position_of (type_names defs) ty.0) refl (sym (named ty.0) ∙ sym (so_far.same.named ty.0) ∙ known) in
     record {
       read = λ clean. let before = so_far.read (sym errors ∙ clean) in
           let reads = before.1 in (
@@ -92,7 +92,7 @@ kept_more defs i def name ty id start old new low is some named so_far known set
     through q true constants = refl
     through q false constants = refl
 
-unknown_type : (known : List (List ℕ)) (name : List ℕ) (o : Option ℕ) → place_of known name ≡ o → option_map type_at o ≡ None → place_of known name ≡ None
+unknown_type : (known : List (List ℕ)) (name : List ℕ) (o : Option ℕ) → position_of known name ≡ o → option_map type_at o ≡ None → position_of known name ≡ None
 unknown_type known name None found is = found
 unknown_type known name (Some i) found is = absurd (none-some (type_at i) (sym is))
 
@@ -100,7 +100,7 @@ unknown_type known name (Some i) found is = absurd (none-some (type_at i) (sym i
 pub kept_unknown : (defs : List Def) (i : ℕ) (def : Def) (name ty : Ident) (message : List ℕ) (start old new : TypeEnv) → i < length defs → def ≡ get_or defs i def → as_constant def ≡ Some (name, ty) → HasTypeNames start (type_names defs) → KeptSoFar defs i start old → type_of_name old ty.0 ≡ None → SameButErrors old new → errors_of new ≡ errors_of old ++ TypeError message (span_at ty.1) ∷ [] → KeptSoFar defs (i + 1) start new
 kept_unknown defs i def name ty message start old new low is some named so_far unknown same errors =
     let error = TypeError message (span_at ty.1) in
-    let missing = unknown_type (type_names defs) ty.0 (place_of (type_names defs) ty.0) refl (sym (named ty.0) ∙ sym (so_far.same.named ty.0) ∙ unknown) in
+    let missing = unknown_type (type_names defs) ty.0 (position_of (type_names defs) ty.0) refl (sym (named ty.0) ∙ sym (so_far.same.named ty.0) ∙ unknown) in
     record {
       read = λ clean. absurd (some_error (errors_of old) (errors_of new) error errors clean);
       faults = faults_more defs (errors_of old) (errors_of new) error errors so_far.faults

@@ -8,7 +8,7 @@ use Rattle.isle_syntax.specs.declared.ast.Def.{Def}
 use Rattle.isle_syntax.specs.declared.ast.«Type».{«Type» as TypeTree}
 use Rattle.isle_syntax.specs.declared.ast.Def.TheVariants.{TypeDef, Decl, Rule, Extractor, Extern, Converter, Pragma, Kept}
 use Rattle.isle_types.specs.IntTypes.{builtin_names}
-use Rattle.isle_types.specs.Names.{place_of, IsTwin}
+use Rattle.isle_types.specs.Names.{position_of, IsDuplicate}
 use Rattle.isle_types.specs.Environment.{as_type, type_definitions, type_names}
 use Rattle.isle_types.specs.TypeFaults.{Breaks, name_taken}
 use Rattle.isle_types.proofs.Lists.{slice_get-kept}
@@ -75,8 +75,8 @@ names_between defs i def tree low is some =
     ∙ sym (append_assoc builtin_names (map (λ (type : TypeTree). type.name.0) (type_definitions (take i defs))) (tree.name.0 ∷ map (λ (type : TypeTree). type.name.0) (type_definitions (drop (i + 1) defs))))
 
 -- a name that stands before already is a twin
-pub middle_twin : (names known rest : List (List ℕ)) (name : List ℕ) (j : ℕ) → names ≡ known ++ name ∷ rest → place_of known name ≡ Some j → IsTwin names (length known)
-middle_twin names known rest name j is found =
+pub middle_duplicate : (names known rest : List (List ℕ)) (name : List ℕ) (j : ℕ) → names ≡ known ++ name ∷ rest → position_of known name ≡ Some j → IsDuplicate names (length known)
+middle_duplicate names known rest name j is found =
     let there = place_found known name j found in
     record {
       item = name;
@@ -91,8 +91,8 @@ names_length b trees =
     length-append b (map (λ (type : TypeTree). type.name.0) trees) ∙ ap (λ n. length b + n) (length-map trees (λ (type : TypeTree). type.name.0))
 
 -- a definition of a type whose name is taken breaks a rule
-pub taken_breaks : (defs : List Def) (i : ℕ) (def : Def) (tree : TypeTree) (j : ℕ) → i < length defs → def ≡ get_or defs i def → as_type def ≡ Some tree → place_of (type_names (take i defs)) tree.name.0 ≡ Some j → Breaks defs tree.pos
+pub taken_breaks : (defs : List Def) (i : ℕ) (def : Def) (tree : TypeTree) (j : ℕ) → i < length defs → def ≡ get_or defs i def → as_type def ≡ Some tree → position_of (type_names (take i defs)) tree.name.0 ≡ Some j → Breaks defs tree.pos
 taken_breaks defs i def tree j low is some found =
     name_taken (length (type_definitions (take i defs))) tree (taken_place as_type defs i def tree low is some)
-    (subst (IsTwin (type_names defs)) (names_length builtin_names (type_definitions (take i defs)))
-    (middle_twin (type_names defs) (type_names (take i defs)) (map (λ (type : TypeTree). type.name.0) (type_definitions (drop (i + 1) defs))) tree.name.0 j (names_between defs i def tree low is some) found))
+    (subst (IsDuplicate (type_names defs)) (names_length builtin_names (type_definitions (take i defs)))
+    (middle_duplicate (type_names defs) (type_names (take i defs)) (map (λ (type : TypeTree). type.name.0) (type_definitions (drop (i + 1) defs))) tree.name.0 j (names_between defs i def tree low is some) found))

@@ -13,7 +13,7 @@ use Rattle.isle_syntax.specs.declared.ast.«Type».{«Type» as TypeTree}
 use Rattle.isle_syntax.specs.declared.ast.Extern.TheVariants.{Const as extern_const}
 use Rattle.isle_syntax.specs.declared.ast.Def.{Def}
 use Rattle.isle_syntax.specs.declared.ast.Def.TheVariants.{TypeDef, Extern}
-use Rattle.isle_types.specs.Names.{place_of, StandOnce}
+use Rattle.isle_types.specs.Names.{position_of, AreDistinct}
 use Rattle.isle_types.specs.Environment.{FieldList, no_fields, named_fields, tuple_fields, NamedVariant, TypeShape, primitive, enum, struct, NamedType, Environment, Makes, constant_in, numbers_in, type_names, IsInhabited, builtin_inhabited, primitive_inhabited, struct_inhabited, variant_inhabited, AreInhabited, none_inhabited, more_inhabited}
 use Rattle.isle_types.specs.TypeFaults.{VariantsBreak, variant_twice, marks_not_allowed, variants_break, Breaks, name_taken, type_breaks}
 use Rattle.isle_types.proofs.NamePlaces.{place_missing}
@@ -23,9 +23,9 @@ use Rattle.isle_types.proofs.OneEnvironment.{one_environment}
 -- no name of a list stands later in it again
 abbrev are_distinct : List (List ℕ) → Bool
 are_distinct [] = true
-are_distinct (name ∷ names) = if is_some (place_of names name) then false else are_distinct names
+are_distinct (name ∷ names) = if is_some (position_of names name) then false else are_distinct names
 
-once_front : (first : List ℕ) (names : List (List ℕ)) → place_of names first ≡ None → StandOnce names → (name : List ℕ) (i j : ℕ) → slice_get (first ∷ names) i ≡ Some name → slice_get (first ∷ names) j ≡ Some name → i ≡ j
+once_front : (first : List ℕ) (names : List (List ℕ)) → position_of names first ≡ None → AreDistinct names → (name : List ℕ) (i j : ℕ) → slice_get (first ∷ names) i ≡ Some name → slice_get (first ∷ names) j ≡ Some name → i ≡ j
 once_front first names missing once name zero zero at_i at_j = refl
 once_front first names missing once name zero (suc j) at_i at_j = absurd (place_missing names first missing j (at_j ∙ sym at_i))
 once_front first names missing once name (suc i) zero at_i at_j = absurd (place_missing names first missing i (at_i ∙ sym at_j))
@@ -36,10 +36,10 @@ both_tests None others is = (refl, is)
 both_tests (Some place) others is = absurd (cc is)
 
 -- distinct names stand once
-distinct_once : (names : List (List ℕ)) → are_distinct names ≡ true → StandOnce names
+distinct_once : (names : List (List ℕ)) → are_distinct names ≡ true → AreDistinct names
 distinct_once [] distinct = λ name i j at_i at_j. absurd (none-some name at_i)
 distinct_once (first ∷ names) distinct =
-    let parts = both_tests (place_of names first) (are_distinct names) distinct in
+    let parts = both_tests (position_of names first) (are_distinct names) distinct in
     once_front first names parts.0 (distinct_once names parts.1)
 
 abbrev at : ℕ → Pos

@@ -13,7 +13,7 @@ use Rattle.isle_types.specs.declared.ids.TypeId.{TypeId}
 use Rattle.isle_types.specs.declared.types.StructField.{StructField}
 use Rattle.isle_types.specs.declared.types.TupleField.{TupleField}
 use Rattle.isle_types.specs.declared.env.TypeEnv.{TypeEnv}
-use Rattle.isle_types.specs.Names.{place_of, Keeps}
+use Rattle.isle_types.specs.Names.{position_of, KeepsNames}
 use Rattle.isle_types.specs.Environment.{IsField, IsTupleField}
 use Rattle.isle_types.specs.TypeFaults.{IsTypeFault}
 use Rattle.isle_types.specs.TypeEnvs.{type_of_name, type_at, CountUp, IsShownField, IsShownTupleField, SameTables}
@@ -31,17 +31,17 @@ count_more number n (y ∷ xs) x counted is =
 -- the place of a type that is known
 pub known_place : (env : TypeEnv) (known : List (List ℕ)) (name : List ℕ) (type : TypeId) → HasTypeNames env known → type_of_name env name ≡ Some type → slice_get known type.0 ≡ Some name
 known_place env known name type named is =
-    through (place_of known name) refl (sym (named name) ∙ is)
+    through (position_of known name) refl (sym (named name) ∙ is)
   where
-    through : (o : Option ℕ) → place_of known name ≡ o → option_map type_at o ≡ Some type → slice_get known type.0 ≡ Some name
+    through : (o : Option ℕ) → position_of known name ≡ o → option_map type_at o ≡ Some type → slice_get known type.0 ≡ Some name
     through None at same = absurd (none-some type same)
     through (Some i) at same =
         subst (λ (t : TypeId). slice_get known t.0 ≡ Some name) (same_Some (type_at i) type same) (place_found known name i at)
 
 -- a type that isn't known has no place
-pub unknown_place : (env : TypeEnv) (known : List (List ℕ)) (name : List ℕ) → HasTypeNames env known → type_of_name env name ≡ None → place_of known name ≡ None
+pub unknown_place : (env : TypeEnv) (known : List (List ℕ)) (name : List ℕ) → HasTypeNames env known → type_of_name env name ≡ None → position_of known name ≡ None
 unknown_place env known name named is =
-    through (place_of known name) (sym (named name) ∙ is)
+    through (position_of known name) (sym (named name) ∙ is)
   where
     through : (o : Option ℕ) → option_map type_at o ≡ None → o ≡ None
     through None same = refl
@@ -66,7 +66,7 @@ tuple_field_more known trees made place tree field read at type id = record {
 }
 
 -- named fields, and one more, whose name is interned behind the others
-pub field_more : (known names more : List (List ℕ)) (trees : List StructFieldTree) (made : List StructField) (place : ℕ) (tree : StructFieldTree) (field : StructField) → Keeps names more → ReadsFields known names (take place trees) made → slice_get trees place ≡ Some tree → slice_get more field.name.0 ≡ Some tree.name.0 → slice_get known field.ty.0 ≡ Some tree.ty.0 → field.id.0 ≡ length made → ReadsFields known more (take (place + 1) trees) (made ++ field ∷ [])
+pub field_more : (known names more : List (List ℕ)) (trees : List StructFieldTree) (made : List StructField) (place : ℕ) (tree : StructFieldTree) (field : StructField) → KeepsNames names more → ReadsFields known names (take place trees) made → slice_get trees place ≡ Some tree → slice_get more field.name.0 ≡ Some tree.name.0 → slice_get known field.ty.0 ≡ Some tree.ty.0 → field.id.0 ≡ length made → ReadsFields known more (take (place + 1) trees) (made ++ field ∷ [])
 field_more known names more trees made place tree field keeps read at name type id =
     let here : List ℕ × ℕ = (tree.name.0, field.ty.0) in
     record {

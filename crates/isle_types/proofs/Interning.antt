@@ -6,7 +6,7 @@ use Rattle.std.specs.Global.{Global}
 use Rattle.std.proofs.lemmas.Slice.Eq.{bytes_eq-Decides}
 use Rattle.std.proofs.lemmas.List.{map-append, length-map}
 use Rattle.isle_types.specs.declared.ids.Sym.{Sym}
-use Rattle.isle_types.specs.Names.{place_of}
+use Rattle.isle_types.specs.Names.{position_of}
 use Rattle.isle_types.specs.Interned.{IsInterned}
 use Rattle.isle_types.specs.StableMaps.{value_at, value_at_text}
 use Rattle.isle_types.proofs.Lists.{slice_get-last}
@@ -35,12 +35,12 @@ kept_at table new key other apart others =
     (λ k same. differ (string_bytes key) (string_bytes k) other same apart)
 
 -- the table with the new name's symbol
-pub interned_pushed : (names : List (List ℕ)) (table new : List (String Global × Sym)) (key : String Global) (symbol : Sym) → IsInterned names table → place_of names (string_bytes key) ≡ None → symbol.0 ≡ length names → value_at text_eq new key ≡ Some symbol → KeepsOthers text_eq (text_eq key) table new → IsInterned (names ++ string_bytes key ∷ []) new
+pub interned_pushed : (names : List (List ℕ)) (table new : List (String Global × Sym)) (key : String Global) (symbol : Sym) → IsInterned names table → position_of names (string_bytes key) ≡ None → symbol.0 ≡ length names → value_at text_eq new key ≡ Some symbol → KeepsOthers text_eq (text_eq key) table new → IsInterned (names ++ string_bytes key ∷ []) new
 interned_pushed names table new key symbol interned missing last here others = record {
   once = once_pushed names (string_bytes key) interned.once missing;
-  placed = λ name. elim (bytes_eq (string_bytes key) name) as (λ b. bytes_eq (string_bytes key) name ≡ b → option_map (λ (s : Sym). s.0) (value_at_text new name) ≡ place_of (names ++ string_bytes key ∷ []) name) [
+  placed = λ name. elim (bytes_eq (string_bytes key) name) as (λ b. bytes_eq (string_bytes key) name ≡ b → option_map (λ (s : Sym). s.0) (value_at_text new name) ≡ position_of (names ++ string_bytes key ∷ []) name) [
     | true ↦ λ same. let decides = bytes_eq-Decides (string_bytes key) name in
-        subst (λ n. option_map (λ (s : Sym). s.0) (value_at_text new n) ≡ place_of (names ++ string_bytes key ∷ []) n) (decides.0 same)
+        subst (λ n. option_map (λ (s : Sym). s.0) (value_at_text new n) ≡ position_of (names ++ string_bytes key ∷ []) n) (decides.0 same)
         (ap (option_map (λ (s : Sym). s.0)) here ∙ ap Some last ∙ sym (place_last names (string_bytes key) missing))
     | false ↦ λ apart.
         ap (option_map (λ (s : Sym). s.0)) (kept_at table new key name apart others) ∙ interned.placed name

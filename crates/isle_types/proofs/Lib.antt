@@ -4,9 +4,9 @@ pub mod NamePlaces
 pub mod Interning
 pub mod Tables
 pub mod ShownTypes
-pub mod Twins
+pub mod Duplicates
 pub mod NamedItems
-pub mod Told
+pub mod ReportedFaults
 pub mod FieldReadings
 pub mod TypeReadings
 pub mod Zipped

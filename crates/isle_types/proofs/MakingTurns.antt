@@ -18,7 +18,7 @@ use Rattle.isle_types.specs.declared.types.«Type».TheVariants.{Builtin}
 use Rattle.isle_types.specs.declared.env.TypeEnv.{TypeEnv}
 use Rattle.isle_types.specs.IntTypes.{builtin_types}
 use Rattle.isle_types.specs.Types.{id_of}
-use Rattle.isle_types.specs.Names.{Keeps}
+use Rattle.isle_types.specs.Names.{KeepsNames}
 use Rattle.isle_types.specs.Environment.{IsType, HasAllowedSize, AreWithinSizes, as_type, type_definitions, type_names}
 use Rattle.isle_types.specs.TypeFaults.{Breaks, type_breaks, IsTypeFault}
 use Rattle.isle_types.specs.TypeEnvs.{names_of, errors_of, types_of, type_of_name, type_of_constant, is_size_error, CountUp, IsShown, SameTables}
@@ -82,14 +82,14 @@ made_passing defs i def start env low is none so_far =
     }
 
 -- one more type among those that are read
-types_pushed : (known before after : List (List ℕ)) (trees : List TypeTree) (made : List KnownType) (tree : TypeTree) (type : KnownType) → Keeps before after → ReadsTypes known before trees made → ReadsType known after tree type → ReadsTypes known after (trees ++ tree ∷ []) (made ++ type ∷ [])
+types_pushed : (known before after : List (List ℕ)) (trees : List TypeTree) (made : List KnownType) (tree : TypeTree) (type : KnownType) → KeepsNames before after → ReadsTypes known before trees made → ReadsType known after tree type → ReadsTypes known after (trees ++ tree ∷ []) (made ++ type ∷ [])
 types_pushed known before after trees made tree type keeps reads last = record {
   types = reads.types ++ last.type ∷ [];
   meant = all_zipped_more (IsType known) trees reads.types tree last.type reads.meant last.meant;
   shown = all_zipped_more (IsShown after) reads.types made last.type type (AllZip-weaker (IsShown before) (IsShown after) (type_kept before after keeps) reads.types made reads.shown) last.shown;
 }
 
-read_pushed : (trees : List TypeTree) (known : List (List ℕ)) (old new : TypeEnv) (tree : TypeTree) (type : KnownType) (id : TypeId) → Keeps (names_of old) (names_of new) → types_of new ≡ types_of old ++ type ∷ [] → id_of type ≡ id → id.0 ≡ length (types_of old) → HasReadTypes trees known old → ReadsType known (names_of new) tree type → HasReadTypes (trees ++ tree ∷ []) known new
+read_pushed : (trees : List TypeTree) (known : List (List ℕ)) (old new : TypeEnv) (tree : TypeTree) (type : KnownType) (id : TypeId) → KeepsNames (names_of old) (names_of new) → types_of new ≡ types_of old ++ type ∷ [] → id_of type ≡ id → id.0 ≡ length (types_of old) → HasReadTypes trees known old → ReadsType known (names_of new) tree type → HasReadTypes (trees ++ tree ∷ []) known new
 read_pushed trees known old new tree type id keeps types same last before reads = record {
   made = before.made ++ type ∷ [];
   all = types ∙ ap (λ ts. ts ++ type ∷ []) before.all ∙ append_assoc (map Builtin builtin_types) before.made (type ∷ []);
@@ -104,7 +104,7 @@ read_pushed trees known old new tree type id keeps types same last before reads 
 pub made_more : (defs : List Def) (i : ℕ) (def : Def) (tree : TypeTree) (type : KnownType) (id : TypeId) (start old middle new : TypeEnv) → i < length defs → def ≡ get_or defs i def → as_type def ≡ Some tree → MadeSoFar defs i start old → SameTables old middle → types_of new ≡ types_of middle ++ type ∷ [] → errors_of new ≡ errors_of middle → names_of new ≡ names_of middle → ((name : List ℕ) → type_of_name new name ≡ type_of_name middle name) → ((name : List ℕ) → type_of_constant new name ≡ type_of_constant middle name) → id_of type ≡ id → id.0 ≡ length (types_of old) → ReadsType (type_names defs) (names_of middle) tree type → HasAllowedSize tree.ty → MadeSoFar defs (i + 1) start new
 made_more defs i def tree type id start old middle new low is some so_far same types errors names named constants here last reads size =
     let more : type_definitions (take (i + 1) defs) ≡ type_definitions (take i defs) ++ tree ∷ [] = taken_up as_type defs i def tree low is some in
-    let keeps : Keeps (names_of old) (names_of new) = subst (Keeps (names_of old)) (sym names) same.names in
+    let keeps : KeepsNames (names_of old) (names_of new) = subst (KeepsNames (names_of old)) (sym names) same.names in
     let pushed : types_of new ≡ types_of old ++ type ∷ [] = types ∙ ap (λ ts. ts ++ type ∷ []) same.types in
     record {
       named = λ name. named name ∙ same.named name ∙ so_far.named name;

@@ -4,7 +4,7 @@ use Rattle.std.proofs.lemmas.List.{length-map}
 use Rattle.std.specs.List.{AllZip}
 use Rattle.std.proofs.lemmas.Option.{same_Some, none-some, slice_get_within}
 use Rattle.isle_types.specs.declared.ids.Sym.{Sym}
-use Rattle.isle_types.specs.Names.{StandOnce, IsTwin, Keeps}
+use Rattle.isle_types.specs.Names.{AreDistinct, IsDuplicate, KeepsNames}
 use Rattle.std.proofs.lemmas.Slice.Zip.{all_zipped_more}
 use Rattle.isle_types.proofs.Lists.{taken_more, AllZip-weaker}
 use Rattle.isle_types.specs.TypeEnvs.{symbol_at}
@@ -29,7 +29,7 @@ module _ {A B : Type 0} (f : A → List ℕ) (g : B → Sym) (names : List (List
   tree_at (tree ∷ trees) (item ∷ made) named (suc place) symbol at = tree_at trees made named.1 place symbol at
 
   -- where the symbols stand once, so do the names
-  pub once_through : StandOnce names → (trees : List A) (made : List B) → AreNamed trees made → StandOnce (map g made) → StandOnce (map f trees)
+  pub once_through : AreDistinct names → (trees : List A) (made : List B) → AreNamed trees made → AreDistinct (map g made) → AreDistinct (map f trees)
   once_through unique trees made named once = λ name i j at_i at_j.
       let first = made_at trees made named i name at_i in
       let second = made_at trees made named j name at_j in
@@ -37,25 +37,25 @@ module _ {A B : Type 0} (f : A → List ℕ) (g : B → Sym) (names : List (List
       once second.0 i j (first.1 ∙ ap Some same) second.1
 
   -- where a symbol stands twice, so does its name
-  pub twin_through : (trees : List A) (made : List B) → AreNamed trees made → (place : ℕ) → IsTwin (map g made) place → IsTwin (map f trees) place
-  twin_through trees made named place twin =
-      let first = tree_at trees made named twin.earlier twin.item twin.first in
-      let second = tree_at trees made named place twin.item twin.second in
+  pub duplicate_through : (trees : List A) (made : List B) → AreNamed trees made → (place : ℕ) → IsDuplicate (map g made) place → IsDuplicate (map f trees) place
+  duplicate_through trees made named place duplicate =
+      let first = tree_at trees made named duplicate.earlier duplicate.item duplicate.first in
+      let second = tree_at trees made named place duplicate.item duplicate.second in
       record {
         item = second.0;
-        earlier = twin.earlier;
-        before = twin.before;
+        earlier = duplicate.earlier;
+        before = duplicate.before;
         first = first.1 ∙ sym first.2 ∙ second.2;
         second = second.1;
       }
 
 -- a tree whose name stands twice is there
-pub twin_tree : {A : Type 0} (f : A → List ℕ) (trees : List A) (place : ℕ) → IsTwin (map f trees) place → place < length trees
-twin_tree f trees place twin =
-    let within = slice_get_within (map f trees) place twin.item twin.second in subst (λ n. place < n) (length-map trees f) within
+pub duplicate_tree : {A : Type 0} (f : A → List ℕ) (trees : List A) (place : ℕ) → IsDuplicate (map f trees) place → place < length trees
+duplicate_tree f trees place duplicate =
+    let within = slice_get_within (map f trees) place duplicate.item duplicate.second in subst (λ n. place < n) (length-map trees f) within
 
 -- trees and items under symbols of their names, and one more of each
-pub named_more : {A B : Type 0} (f : A → List ℕ) (g : B → Sym) (names more : List (List ℕ)) (trees : List A) (made : List B) (place : ℕ) (tree : A) (item : B) → Keeps names more → AreNamed f g names (take place trees) made → slice_get trees place ≡ Some tree → slice_get more (g item).0 ≡ Some (f tree) → AreNamed f g more (take (place + 1) trees) (made ++ item ∷ [])
+pub named_more : {A B : Type 0} (f : A → List ℕ) (g : B → Sym) (names more : List (List ℕ)) (trees : List A) (made : List B) (place : ℕ) (tree : A) (item : B) → KeepsNames names more → AreNamed f g names (take place trees) made → slice_get trees place ≡ Some tree → slice_get more (g item).0 ≡ Some (f tree) → AreNamed f g more (take (place + 1) trees) (made ++ item ∷ [])
 named_more f g names more trees made place tree item keeps named at name =
     subst (λ ts. AreNamed f g more ts (made ++ item ∷ [])) (sym (taken_more trees place tree at))
     (all_zipped_more _ (take place trees) made tree item (AllZip-weaker (λ t i. slice_get names (g i).0 ≡ Some (f t)) (λ t i. slice_get more (g i).0 ≡ Some (f t)) (λ t i is. keeps (g i).0 (f t) is) (take place trees) made named) name)

@@ -9,7 +9,7 @@ use Rattle.isle_syntax.specs.declared.error.Error.TheVariants.{TypeError}
 use Rattle.isle_syntax.specs.Errors.{span_at}
 use Rattle.isle_types.specs.declared.env.TypeEnv.{TypeEnv}
 use Rattle.isle_types.specs.IntTypes.{builtin_names}
-use Rattle.isle_types.specs.Names.{place_of, StandOnce}
+use Rattle.isle_types.specs.Names.{position_of, AreDistinct}
 use Rattle.isle_types.specs.Environment.{as_type, type_names}
 use Rattle.isle_types.specs.TypeEnvs.{errors_of, types_of, type_of_constant}
 use Rattle.isle_types.specs.Readings.{HasTypeNames, SameButNames, SameButTypes, SameButErrors, AreTypeFaults}
@@ -23,13 +23,13 @@ pub record NamedSoFar (defs : List Def) (i : ℕ) (start env : TypeEnv) (next : 
   pub counted : next ≡ length (type_names (take i defs))
   pub small : next ≤ 13 + i
   pub faults : AreTypeFaults defs (errors_of env)
-  pub once : errors_of env ≡ [] → StandOnce (type_names (take i defs))
+  pub once : errors_of env ≡ [] → AreDistinct (type_names (take i defs))
   pub same : SameButTypes start env
 
 -- whether each name is new after those before it
 abbrev all_new : List (List ℕ) → List (List ℕ) → Bool
 all_new known [] = true
-all_new known (name ∷ names) = is_none (place_of known name) && all_new (known ++ name ∷ []) names
+all_new known (name ∷ names) = is_none (position_of known name) && all_new (known ++ name ∷ []) names
 
 none_from : (o : Option ℕ) → is_none o ≡ true → o ≡ None
 none_from None is = refl
@@ -39,15 +39,15 @@ some_from : (o : Option ℕ) → is_none o ≡ false → (i : ℕ) × (o ≡ Som
 some_from None is = absurd (true≢false is)
 some_from (Some i) is = (i, refl)
 
-once_added : (known names : List (List ℕ)) → StandOnce known → all_new known names ≡ true → StandOnce (known ++ names)
-once_added known [] once new = subst (λ (ns : List (List ℕ)). StandOnce ns) (sym (append-nil known)) once
+once_added : (known names : List (List ℕ)) → AreDistinct known → all_new known names ≡ true → AreDistinct (known ++ names)
+once_added known [] once new = subst (λ (ns : List (List ℕ)). AreDistinct ns) (sym (append-nil known)) once
 once_added known (name ∷ names) once new =
-    let parts = and_parts (is_none (place_of known name)) (all_new (known ++ name ∷ []) names) new in
-    subst (λ (ns : List (List ℕ)). StandOnce ns) (append_assoc known (name ∷ []) names)
-    (once_added (known ++ name ∷ []) names (once_pushed known name once (none_from (place_of known name) parts.0)) parts.1)
+    let parts = and_parts (is_none (position_of known name)) (all_new (known ++ name ∷ []) names) new in
+    subst (λ (ns : List (List ℕ)). AreDistinct ns) (append_assoc known (name ∷ []) names)
+    (once_added (known ++ name ∷ []) names (once_pushed known name once (none_from (position_of known name) parts.0)) parts.1)
 
 -- the builtin types' names differ
-pub builtin_once : StandOnce builtin_names
+pub builtin_once : AreDistinct builtin_names
 builtin_once = once_added [] builtin_names (λ x i j at _. absurd (none-some x at)) refl
 
 pub named_at_start : (defs : List Def) (env : TypeEnv) → HasTypeNames env builtin_names → errors_of env ≡ [] → NamedSoFar defs 0 env env 13
@@ -75,7 +75,7 @@ named_passing defs i def start env next low is none so_far =
       counted = so_far.counted ∙ ap length (sym same);
       small = omega (arith, so_far.small);
       faults = so_far.faults;
-      once = λ clean. subst (λ (ns : List (List ℕ)). StandOnce ns) (sym same) (so_far.once clean);
+      once = λ clean. subst (λ (ns : List (List ℕ)). AreDistinct ns) (sym same) (so_far.once clean);
       same = so_far.same;
     }
 
@@ -84,7 +84,7 @@ pushed_length known more name next is counted =
     ap (λ n. n + 1) counted ∙ sym (length-append known (name ∷ [])) ∙ ap length (sym is)
 
 -- a definition of a type with a new name
-pub named_newly : (defs : List Def) (i : ℕ) (def : Def) (tree : TypeTree) (start old new : TypeEnv) (next : ℕ) → i < length defs → def ≡ get_or defs i def → as_type def ≡ Some tree → NamedSoFar defs i start old next → HasTypeNames new (type_names (take i defs) ++ tree.name.0 ∷ []) → SameButNames old new → true ≡ is_none (place_of (type_names (take i defs)) tree.name.0) → NamedSoFar defs (i + 1) start new (next + 1)
+pub named_newly : (defs : List Def) (i : ℕ) (def : Def) (tree : TypeTree) (start old new : TypeEnv) (next : ℕ) → i < length defs → def ≡ get_or defs i def → as_type def ≡ Some tree → NamedSoFar defs i start old next → HasTypeNames new (type_names (take i defs) ++ tree.name.0 ∷ []) → SameButNames old new → true ≡ is_none (position_of (type_names (take i defs)) tree.name.0) → NamedSoFar defs (i + 1) start new (next + 1)
 named_newly defs i def tree start old new next low is some so_far named same fresh =
     let more = names_more defs i def tree low is some in
     record {
@@ -92,16 +92,16 @@ named_newly defs i def tree start old new next low is some so_far named same fre
       counted = pushed_length (type_names (take i defs)) (type_names (take (i + 1) defs)) tree.name.0 next more so_far.counted;
       small = omega (arith, so_far.small);
       faults = faults_same defs (errors_of old) (errors_of new) same.errors so_far.faults;
-      once = λ clean. subst (λ (ns : List (List ℕ)). StandOnce ns) (sym more)
-          (once_pushed (type_names (take i defs)) tree.name.0 (so_far.once (sym same.errors ∙ clean)) (none_from (place_of (type_names (take i defs)) tree.name.0) (sym fresh)));
+      once = λ clean. subst (λ (ns : List (List ℕ)). AreDistinct ns) (sym more)
+          (once_pushed (type_names (take i defs)) tree.name.0 (so_far.once (sym same.errors ∙ clean)) (none_from (position_of (type_names (take i defs)) tree.name.0) (sym fresh)));
       same = same_on start old new same.types same.constants so_far.same;
     }
 
 -- a definition of a type whose name is taken
-pub named_again : (defs : List Def) (i : ℕ) (def : Def) (tree : TypeTree) (message : List ℕ) (start old middle new : TypeEnv) (next : ℕ) → i < length defs → def ≡ get_or defs i def → as_type def ≡ Some tree → NamedSoFar defs i start old next → HasTypeNames middle (type_names (take i defs) ++ tree.name.0 ∷ []) → SameButNames old middle → false ≡ is_none (place_of (type_names (take i defs)) tree.name.0) → SameButErrors middle new → errors_of new ≡ errors_of middle ++ TypeError message (span_at tree.pos) ∷ [] → NamedSoFar defs (i + 1) start new (next + 1)
+pub named_again : (defs : List Def) (i : ℕ) (def : Def) (tree : TypeTree) (message : List ℕ) (start old middle new : TypeEnv) (next : ℕ) → i < length defs → def ≡ get_or defs i def → as_type def ≡ Some tree → NamedSoFar defs i start old next → HasTypeNames middle (type_names (take i defs) ++ tree.name.0 ∷ []) → SameButNames old middle → false ≡ is_none (position_of (type_names (take i defs)) tree.name.0) → SameButErrors middle new → errors_of new ≡ errors_of middle ++ TypeError message (span_at tree.pos) ∷ [] → NamedSoFar defs (i + 1) start new (next + 1)
 named_again defs i def tree message start old middle new next low is some so_far named same taken reported errors =
     let more = names_more defs i def tree low is some in
-    let found = some_from (place_of (type_names (take i defs)) tree.name.0) (sym taken) in
+    let found = some_from (position_of (type_names (take i defs)) tree.name.0) (sym taken) in
     let pushed : errors_of new ≡ errors_of old ++ TypeError message (span_at tree.pos) ∷ [] = errors ∙ ap (λ es. es ++ TypeError message (span_at tree.pos) ∷ []) same.errors in
     record {
       named = λ name. reported.named name ∙ subst (HasTypeNames middle) (sym more) named name;

@@ -10,7 +10,7 @@ use Rattle.isle_syntax.specs.declared.ast.TypeValue.{TypeValue}
 use Rattle.isle_syntax.specs.declared.ast.TypeValue.TheVariants.{Primitive, Enum, Struct}
 use Rattle.isle_syntax.specs.declared.ast.«Type».{«Type» as TypeTree}
 use Rattle.isle_syntax.specs.declared.ast.Def.{Def}
-use Rattle.isle_types.specs.Names.{StandOnce}
+use Rattle.isle_types.specs.Names.{AreDistinct}
 use Rattle.isle_types.specs.Environment.{FieldList, no_fields, named_fields, tuple_fields, NamedVariant, TypeShape, primitive, enum, struct, NamedType, Environment, IsField, IsTupleField, AreFields, IsVariant, IsShape, IsType, IsConstant, Makes, type_definitions, constant_definitions, type_names}
 
 -- lists are one where each pair of items is
@@ -33,7 +33,7 @@ same_type : (a b : NamedType) → a.name ≡ b.name → a.is_extern ≡ b.is_ext
 same_type a b name is_extern is_nodebug shape pos =
     λ i. record { name = name i; is_extern = is_extern i; is_nodebug = is_nodebug i; shape = shape i; pos = pos i }
 
-module _ (known : List (List ℕ)) (once : StandOnce known) where
+module _ (known : List (List ℕ)) (once : AreDistinct known) where
   one_field : (tree : StructField) (a b : List ℕ × ℕ) → IsField known tree a → IsField known tree b → a ≡ b
   one_field tree a b is other = same_pair a b (is.name ∙ sym other.name) (once tree.ty.0 a.1 b.1 is.type other.type)
 

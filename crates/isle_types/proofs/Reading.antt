@@ -14,7 +14,7 @@ use Rattle.isle_types.specs.declared.types.«Type».{«Type» as KnownType}
 use Rattle.isle_types.specs.declared.env.TypeEnv.{TypeEnv}
 use Rattle.isle_types.specs.IntTypes.{builtin_names}
 use Rattle.isle_types.specs.Types.{id_of}
-use Rattle.isle_types.specs.Names.{place_of, StandOnce}
+use Rattle.isle_types.specs.Names.{position_of, AreDistinct}
 use Rattle.isle_types.specs.Environment.{Environment, NamedType, IsType, Makes, type_definitions, constant_definitions, type_names, names_in}
 use Rattle.isle_types.specs.TypeEnvs.{names_of, type_at, CountUp, IsShown, Shows}
 use Rattle.isle_types.specs.Readings.{HasTypeNames, HasReadTypes, ReadsConstants, SameButConstants}
@@ -30,7 +30,7 @@ same_names known (tree ∷ trees) (type ∷ types) each =
     ap (λ (name : List ℕ). name ∷ map (λ (other : NamedType). other.name) types) each.0.name
     ∙ ap (λ (names : List (List ℕ)). tree.name.0 ∷ names) (same_names known trees types each.1)
 
-pub read_environment : (defs : List Def) (typed env : TypeEnv) → StandOnce (type_names defs) → HasTypeNames typed (type_names defs) → HasReadTypes (type_definitions defs) (type_names defs) typed → ReadsConstants (type_names defs) env (constant_definitions defs) → SameButConstants typed env → (environment : Environment) × (Makes defs environment × Shows env environment)
+pub read_environment : (defs : List Def) (typed env : TypeEnv) → AreDistinct (type_names defs) → HasTypeNames typed (type_names defs) → HasReadTypes (type_definitions defs) (type_names defs) typed → ReadsConstants (type_names defs) env (constant_definitions defs) → SameButConstants typed env → (environment : Environment) × (Makes defs environment × Shows env environment)
 read_environment defs typed env once named types constants same =
     let environment : Environment = record { types = types.read.types; constants = constants.constants } in
     let names : names_in environment ≡ type_names defs = ap (λ (ns : List (List ℕ)). builtin_names ++ ns) (same_names (type_names defs) (type_definitions defs) types.read.types types.read.meant) in (
@@ -46,7 +46,7 @@ read_environment defs typed env once named types constants same =
           all = same.types ∙ types.all;
           types = AllZip-weaker (IsShown (names_of typed)) (IsShown (names_of env)) (type_kept (names_of typed) (names_of env) same.names) types.read.types types.made types.read.shown;
           counted = subst (CountUp (λ (type : KnownType). (id_of type).0) 0) (sym same.types) types.counted;
-          named = λ name. same.named name ∙ named name ∙ ap (λ (ns : List (List ℕ)). option_map type_at (place_of ns name)) (sym names);
+          named = λ name. same.named name ∙ named name ∙ ap (λ (ns : List (List ℕ)). option_map type_at (position_of ns name)) (sym names);
           constants = constants.shown;
         },
       ),

@@ -14,24 +14,24 @@ use Rattle.isle_syntax.specs.declared.ast.«Type».{«Type» as TypeTree}
 use Rattle.isle_syntax.specs.declared.ast.Def.{Def}
 use Rattle.isle_syntax.specs.declared.error.Error.{Error}
 use Rattle.isle_syntax.specs.declared.error.Error.TheVariants.{TypeError, SizeError}
-use Rattle.isle_types.specs.Names.{place_of, IsTwin}
+use Rattle.isle_types.specs.Names.{position_of, IsDuplicate}
 use Rattle.isle_types.specs.Environment.{FieldList, no_fields, named_fields, tuple_fields, NamedVariant, TypeShape, primitive, enum, struct, NamedType, Environment, IsField, IsTupleField, AreFields, IsVariant, IsShape, IsType, IsConstant, Makes, HasAllowedSize, AreWithinSizes, type_definitions, constant_definitions, type_names}
 use Rattle.isle_types.specs.TypeFaults.{FieldsBreak, field_twice, unknown_field_type, VariantsBreak, variant_twice, variant_fields_break, TypeBreaks, marks_not_allowed, variants_break, fields_break, Breaks, name_taken, type_breaks, unknown_constant_type, Exceeds, IsTypeFault, IsSizeFault, type_idents}
 use Rattle.isle_types.specs.Readings.{AreTypeFaults, IsLoneSizeFault}
 use Rattle.isle_types.proofs.NamePlaces.{place_missing}
-use Rattle.isle_types.proofs.Zipped.{zipped_at, zipped_same, mapped_at, each_at, no_twin}
+use Rattle.isle_types.proofs.Zipped.{zipped_at, zipped_same, mapped_at, each_at, no_duplicate}
 
 module _ (known : List (List ℕ)) where
   -- no field of the fields that are made stands twice
-  field_twice_none : (trees : List StructField) (made : FieldList) → AreFields known (struct_field_trees (record { fields = trees })) made → (place : ℕ) → IsTwin (map (λ (field : StructField). field.name.0) trees) place → ⊥
-  field_twice_none trees no_fields meant place twin = absurd meant
-  field_twice_none trees (tuple_fields numbers) meant place twin = absurd meant
-  field_twice_none trees (named_fields fields) meant place twin =
+  field_twice_none : (trees : List StructField) (made : FieldList) → AreFields known (struct_field_trees (record { fields = trees })) made → (place : ℕ) → IsDuplicate (map (λ (field : StructField). field.name.0) trees) place → ⊥
+  field_twice_none trees no_fields meant place duplicate = absurd meant
+  field_twice_none trees (tuple_fields numbers) meant place duplicate = absurd meant
+  field_twice_none trees (named_fields fields) meant place duplicate =
       let same = zipped_same (IsField known) (λ (field : StructField). field.name.0) (λ (field : List ℕ × ℕ). field.0) (λ tree field is. is.name) trees fields meant.0 in
-      no_twin (map (λ (field : List ℕ × ℕ). field.0) fields) meant.1 place (subst (λ names. IsTwin names place) (sym same) twin)
+      no_duplicate (map (λ (field : List ℕ × ℕ). field.0) fields) meant.1 place (subst (λ names. IsDuplicate names place) (sym same) duplicate)
 
   -- the type of each field is known
-  field_type_known : (fields : Fields) (made : FieldList) → AreFields known fields made → (place : ℕ) (name : Ident) → slice_get (type_idents fields) place ≡ Some name → place_of known name.0 ≡ None → ⊥
+  field_type_known : (fields : Fields) (made : FieldList) → AreFields known fields made → (place : ℕ) (name : Ident) → slice_get (type_idents fields) place ≡ Some name → position_of known name.0 ≡ None → ⊥
   field_type_known no_field_trees made meant place name at missing = none-some name at
   field_type_known (struct_field_trees trees) no_fields meant place name at missing = absurd meant
   field_type_known (struct_field_trees trees) (tuple_fields numbers) meant place name at missing = absurd meant
@@ -48,17 +48,17 @@ module _ (known : List (List ℕ)) where
 
   -- fields that are made break no rule
   pub fields_keep : (fields : Fields) (made : FieldList) → AreFields known fields made → (pos : Pos) → FieldsBreak known fields pos → ⊥
-  fields_keep fields made meant pos (field_twice trees place tree is at twin) =
-      field_twice_none trees made (subst (λ tree. AreFields known tree made) is meant) place twin
+  fields_keep fields made meant pos (field_twice trees place tree is at duplicate) =
+      field_twice_none trees made (subst (λ tree. AreFields known tree made) is meant) place duplicate
   fields_keep fields made meant pos (unknown_field_type place name at missing) = field_type_known fields made meant place name at missing
 
   -- variants that are made break no rule
   pub variants_keep : (trees : List Variant) (shape : TypeShape) (keyword : Pos) → IsShape known (Enum trees keyword) shape → (pos : Pos) → VariantsBreak known trees pos → ⊥
   variants_keep trees (primitive host) keyword meant pos breaks = absurd meant
   variants_keep trees (struct _) keyword meant pos breaks = absurd meant
-  variants_keep trees (enum variants) keyword meant pos (variant_twice place variant at twin) =
+  variants_keep trees (enum variants) keyword meant pos (variant_twice place variant at duplicate) =
       let same = zipped_same (IsVariant known) (λ (other : Variant). other.name.0) (λ (made : NamedVariant). made.name) (λ tree made is. is.name) trees variants meant.0 in
-      no_twin (map (λ (made : NamedVariant). made.name) variants) meant.1 place (subst (λ names. IsTwin names place) (sym same) twin)
+      no_duplicate (map (λ (made : NamedVariant). made.name) variants) meant.1 place (subst (λ names. IsDuplicate names place) (sym same) duplicate)
   variants_keep trees (enum variants) keyword meant pos (variant_fields_break place variant here at breaks) =
       let made = zipped_at (IsVariant known) trees variants meant.0 place variant at in
       fields_keep variant.fields made.0.fields made.2.fields pos breaks
@@ -78,7 +78,7 @@ module _ (known : List (List ℕ)) where
 
 -- definitions that break a rule make no environment
 pub broken_makes_none : (defs : List Def) (pos : Pos) → Breaks defs pos → (e : Environment) → Makes defs e → ⊥
-broken_makes_none defs pos (name_taken place tree at twin) e makes = no_twin (type_names defs) makes.names _ twin
+broken_makes_none defs pos (name_taken place tree at duplicate) e makes = no_duplicate (type_names defs) makes.names _ duplicate
 broken_makes_none defs pos (type_breaks place tree here at breaks) e makes =
     let made = zipped_at (IsType (type_names defs)) (type_definitions defs) e.types makes.types place tree at in
     type_keeps (type_names defs) tree made.0 made.2 pos breaks

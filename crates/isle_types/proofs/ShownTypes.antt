@@ -8,19 +8,19 @@ use Rattle.isle_types.specs.declared.types.«Type».{«Type» as KnownType}
 use Rattle.isle_types.specs.declared.types.«Type».TheVariants.{Builtin, Primitive, Enum, Struct}
 use Rattle.isle_types.specs.declared.ids.Sym.{Sym}
 use Rattle.isle_types.specs.declared.env.TypeEnv.{TypeEnv}
-use Rattle.isle_types.specs.Names.{Keeps}
+use Rattle.isle_types.specs.Names.{KeepsNames}
 use Rattle.isle_types.specs.Environment.{Environment, NamedType, NamedVariant, FieldList, no_fields, named_fields, tuple_fields, TypeShape, primitive, enum, struct}
 use Rattle.isle_types.specs.TypeEnvs.{names_of, IsShownField, AreShownFields, IsShownVariant, IsShownAs, IsShownShape, IsShown, Shows, SameTables, CountUp}
 use Rattle.isle_types.specs.Types.{id_of}
 use Rattle.isle_types.proofs.Lists.{AllZip-weaker}
 
-pub field_kept : (old new : List (List ℕ)) → Keeps old new → (field : List ℕ × ℕ) (made : StructField) → IsShownField old field made → IsShownField new field made
+pub field_kept : (old new : List (List ℕ)) → KeepsNames old new → (field : List ℕ × ℕ) (made : StructField) → IsShownField old field made → IsShownField new field made
 field_kept old new keeps field made shown = record {
   name = keeps made.name.0 field.0 shown.name;
   type = shown.type;
 }
 
-pub fields_kept : (old new : List (List ℕ)) → Keeps old new → (fields : FieldList) (made : Fields) → AreShownFields old fields made → AreShownFields new fields made
+pub fields_kept : (old new : List (List ℕ)) → KeepsNames old new → (fields : FieldList) (made : Fields) → AreShownFields old fields made → AreShownFields new fields made
 fields_kept old new keeps no_fields NoFields shown = tt
 fields_kept old new keeps (named_fields fields) (NamedFields made) shown =
     (AllZip-weaker (IsShownField old) (IsShownField new) (field_kept old new keeps) fields made.fields shown.0, shown.1)
@@ -32,7 +32,7 @@ fields_kept old new keeps (named_fields fields) (UnnamedFields made) shown = abs
 fields_kept old new keeps (tuple_fields numbers) NoFields shown = absurd shown
 fields_kept old new keeps (tuple_fields numbers) (NamedFields made) shown = absurd shown
 
-pub variant_kept : (old new : List (List ℕ)) (type : List ℕ) → Keeps old new → (variant : NamedVariant) (made : Variant) → IsShownVariant old type variant made → IsShownVariant new type variant made
+pub variant_kept : (old new : List (List ℕ)) (type : List ℕ) → KeepsNames old new → (variant : NamedVariant) (made : Variant) → IsShownVariant old type variant made → IsShownVariant new type variant made
 variant_kept old new type keeps variant made shown = record {
   name = keeps made.name.0 variant.name shown.name;
   fullname = keeps made.fullname.0 (type ++ codes "." ++ variant.name) shown.fullname;
@@ -40,14 +40,14 @@ variant_kept old new type keeps variant made shown = record {
   pos = shown.pos;
 }
 
-as_kept : (old new : List (List ℕ)) → Keeps old new → (type : NamedType) (symbol : Sym) (is_extern is_nodebug : Bool) → IsShownAs old type symbol is_extern is_nodebug → IsShownAs new type symbol is_extern is_nodebug
+as_kept : (old new : List (List ℕ)) → KeepsNames old new → (type : NamedType) (symbol : Sym) (is_extern is_nodebug : Bool) → IsShownAs old type symbol is_extern is_nodebug → IsShownAs new type symbol is_extern is_nodebug
 as_kept old new keeps type symbol is_extern is_nodebug shown = record {
   name = keeps symbol.0 type.name shown.name;
   is_extern = shown.is_extern;
   is_nodebug = shown.is_nodebug;
 }
 
-shape_kept : (old new : List (List ℕ)) → Keeps old new → (type : NamedType) (shape : TypeShape) (made : KnownType) → IsShownShape old type shape made → IsShownShape new type shape made
+shape_kept : (old new : List (List ℕ)) → KeepsNames old new → (type : NamedType) (shape : TypeShape) (made : KnownType) → IsShownShape old type shape made → IsShownShape new type shape made
 shape_kept old new keeps type (primitive host) (Primitive id symbol pos) shown = keeps symbol.0 host shown
 shape_kept old new keeps type (enum variants) (Enum symbol id is_extern is_nodebug made pos) shown =
     (as_kept old new keeps type symbol is_extern is_nodebug shown.0, (AllZip-weaker (IsShownVariant old type.name) (IsShownVariant new type.name) (variant_kept old new type.name keeps) variants made shown.1.0, shown.1.1))
@@ -63,7 +63,7 @@ shape_kept old new keeps type (struct _) (Builtin builtin) shown = absurd shown
 shape_kept old new keeps type (struct _) (Primitive id symbol pos) shown = absurd shown
 shape_kept old new keeps type (struct _) (Enum symbol id is_extern is_nodebug made pos) shown = absurd shown
 
-pub type_kept : (old new : List (List ℕ)) → Keeps old new → (type : NamedType) (made : KnownType) → IsShown old type made → IsShown new type made
+pub type_kept : (old new : List (List ℕ)) → KeepsNames old new → (type : NamedType) (made : KnownType) → IsShown old type made → IsShown new type made
 type_kept old new keeps type made shown = record {
   shape = shape_kept old new keeps type type.shape made shown.shape;
   pos = shown.pos;

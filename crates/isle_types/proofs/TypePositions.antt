@@ -3,10 +3,10 @@ use Rattle.std.proofs.Common.{◌≡◌, ℕ, zero, suc, ◌<◌, ◌⊎◌, inl
 use Rattle.std.specs.List.{All, AllZip}
 use Rattle.std.proofs.lemmas.Option.{none-some, same_Some}
 use Rattle.std.proofs.lemmas.List.Elements.{All-head, All-tail, All-nil, All-cons, All-append, All-map, All-weaker}
-use Rattle.isle_syntax.specs.Files.{SourceFile}
-use Rattle.isle_syntax.specs.Positions.{HasPlaceAt}
+use Rattle.isle_syntax.specs.Positions.Files.{SourceFile}
+use Rattle.isle_syntax.specs.Positions.Printable.{IsPrintablePos}
 use Rattle.isle_syntax.specs.Errors.{ErrorAt}
-use Rattle.isle_syntax.specs.Places.{StructFieldAt, TupleFieldAt, FieldsAt, VariantAt as VariantTreeAt, TypeValueAt, TypeAt as TypeTreeAt, DefAt, IdentAt}
+use Rattle.isle_syntax.specs.Positions.DefPositions.{StructFieldAt, TupleFieldAt, FieldsAt, VariantAt as VariantTreeAt, TypeValueAt, TypeAt as TypeTreeAt, DefAt, IdentAt}
 use Rattle.isle_syntax.specs.declared.lexer.Pos.{Pos}
 use Rattle.isle_syntax.specs.declared.ast.Ident.{Ident}
 use Rattle.isle_syntax.specs.declared.ast.StructField.{StructField}
@@ -28,10 +28,10 @@ use Rattle.isle_types.specs.declared.types.«Type».{«Type» as KnownType}
 use Rattle.isle_types.specs.declared.types.«Type».TheVariants.{Builtin, Primitive, Enum, Struct}
 use Rattle.isle_types.specs.declared.env.TypeEnv.{TypeEnv}
 use Rattle.isle_types.specs.IntTypes.{builtin_types}
-use Rattle.isle_types.specs.TypePlaces.{VariantAt, TypeAt}
+use Rattle.isle_types.specs.TypePositions.{VariantAt, TypeAt}
 use Rattle.isle_types.specs.Environment.{NamedVariant, TypeShape, primitive, enum, struct, NamedType, Environment, IsVariant, IsShape, IsType, Makes, type_definitions, constant_definitions, type_names}
 use Rattle.isle_types.specs.TypeFaults.{FieldsBreak, field_twice, unknown_field_type, VariantsBreak, variant_twice, variant_fields_break, TypeBreaks, marks_not_allowed, variants_break, fields_break, Breaks, name_taken, type_breaks, unknown_constant_type, Exceeds, IsTypeFault, IsSizeFault, type_idents}
-use Rattle.isle_types.specs.TypeEnvs.{HasPlaces, Shows, IsShown, IsShownVariant, IsShownShape, types_of, names_of, errors_of}
+use Rattle.isle_types.specs.TypeEnvs.{HasPrintablePositions, Shows, IsShown, IsShownVariant, IsShownShape, types_of, names_of, errors_of}
 use Rattle.isle_types.specs.Readings.{AreTypeFaults, IsLoneSizeFault}
 use Rattle.isle_types.proofs.Zipped.{mapped_at, all_at}
 
@@ -70,12 +70,12 @@ module _ (At : Pos → Type 0) where
 
   -- where fields break a rule, they stand
   fields_fault_at : (known : List (List ℕ)) (fields : Fields) → FieldsAt At fields → (pos : Pos) → FieldsBreak known fields pos → At pos
-  fields_fault_at known fields at pos (field_twice trees place tree is here twin) =
+  fields_fault_at known fields at pos (field_twice trees place tree is here duplicate) =
       let field = all_at (StructFieldAt At) trees (subst (FieldsAt At) is at) place tree here in field.pos
   fields_fault_at known fields at pos (unknown_field_type place name here missing) = field_type_at fields at place name here
 
   variants_fault_at : (known : List (List ℕ)) (variants : List VariantTree) → All (VariantTreeAt At) variants → (pos : Pos) → VariantsBreak known variants pos → At pos
-  variants_fault_at known variants at pos (variant_twice place variant here twin) =
+  variants_fault_at known variants at pos (variant_twice place variant here duplicate) =
       let stands = all_at (VariantTreeAt At) variants at place variant here in stands.pos
   variants_fault_at known variants at pos (variant_fields_break place variant there here breaks) =
       let stands = all_at (VariantTreeAt At) variants at place variant here in fields_fault_at known variant.fields stands.fields pos breaks
@@ -89,7 +89,7 @@ module _ (At : Pos → Type 0) where
 
   -- where definitions break a rule, they stand
   pub break_at : (defs : List Def) → All (DefAt At) defs → (pos : Pos) → Breaks defs pos → At pos
-  break_at defs each pos (name_taken place tree here twin) = let stands = type_at_place defs each place tree here in stands.pos
+  break_at defs each pos (name_taken place tree here duplicate) = let stands = type_at_place defs each place tree here in stands.pos
   break_at defs each pos (type_breaks place tree there here breaks) = type_fault_at (type_names defs) tree (type_at_place defs each place tree here) pos breaks
   break_at defs each pos (unknown_constant_type place constant here missing) = constant_at_place defs each place constant here
 
@@ -158,12 +158,12 @@ module _ (At : Pos → Type 0) where
       (types_shown_at (type_names defs) (names_of env) (type_definitions defs) e.types shows.made (definitions_at defs each) makes.types shows.types))
 
 -- the errors of definitions can be printed
-pub faults_printable : (files : List SourceFile) (defs : List Def) (errors : List Error) → All (DefAt (HasPlaceAt files)) defs → IsLoneSizeFault defs errors ⊎ (AreTypeFaults defs errors × (0 < length errors)) → All (ErrorAt (HasPlaceAt files)) errors
-faults_printable files defs errors each faults = errors_at (HasPlaceAt files) defs errors each faults
+pub faults_printable : (files : List SourceFile) (defs : List Def) (errors : List Error) → All (DefAt (IsPrintablePos files)) defs → IsLoneSizeFault defs errors ⊎ (AreTypeFaults defs errors × (0 < length errors)) → All (ErrorAt (IsPrintablePos files)) errors
+faults_printable files defs errors each faults = errors_at (IsPrintablePos files) defs errors each faults
 
 -- the types that definitions make can be printed
-pub made_placed : (files : List SourceFile) (defs : List Def) (env : TypeEnv) (e : Environment) → All (DefAt (HasPlaceAt files)) defs → Makes defs e → Shows env e → errors_of env ≡ [] → HasPlaces files env
+pub made_placed : (files : List SourceFile) (defs : List Def) (env : TypeEnv) (e : Environment) → All (DefAt (IsPrintablePos files)) defs → Makes defs e → Shows env e → errors_of env ≡ [] → HasPrintablePositions files env
 made_placed files defs env e each makes shows none = record {
-  types = types_at (HasPlaceAt files) defs env e each makes shows;
-  errors = subst (All (ErrorAt (HasPlaceAt files))) (sym none) (All-nil (ErrorAt (HasPlaceAt files)));
+  types = types_at (IsPrintablePos files) defs env e each makes shows;
+  errors = subst (All (ErrorAt (IsPrintablePos files))) (sym none) (All-nil (ErrorAt (IsPrintablePos files)));
 }

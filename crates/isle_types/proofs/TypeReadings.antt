@@ -17,7 +17,7 @@ use Rattle.isle_types.specs.declared.types.TupleField.{TupleField}
 use Rattle.isle_types.specs.declared.types.Fields.TheVariants.{Struct as NamedFields, Tuple as UnnamedFields}
 use Rattle.isle_types.specs.declared.types.Variant.{Variant}
 use Rattle.isle_types.specs.declared.types.«Type».{«Type» as KnownType}
-use Rattle.isle_types.specs.Names.{StandOnce, Keeps}
+use Rattle.isle_types.specs.Names.{AreDistinct, KeepsNames}
 use Rattle.isle_types.specs.Environment.{NamedVariant, NamedType, TypeShape, IsShape, MayBeMarked, named_fields, tuple_fields, IsField, IsVariant, HaveAllowedSizes, field_count}
 use Rattle.isle_types.specs.TypeFaults.{IsTypeFault}
 use Rattle.isle_types.specs.TypeEnvs.{IsShownVariant, IsShownShape, StandsAt}
@@ -52,10 +52,10 @@ field_names known (tree ∷ trees) (field ∷ fields) meant =
     ap (λ n. n ∷ map (λ (t : StructFieldTree). t.name.0) trees) (sym meant.0.name) ∙ ap (λ ns. field.0 ∷ ns) (field_names known trees fields meant.1)
 
 -- named fields as a list of fields
-pub struct_list : (known names : List (List ℕ)) (trees : StructFieldTrees) (made : List StructField) → ReadsFields known names trees.fields made → StandOnce (map (λ (tree : StructFieldTree). tree.name.0) trees.fields) → ReadsFieldList known names (struct_field_trees trees) (NamedFields (record { fields = made }))
+pub struct_list : (known names : List (List ℕ)) (trees : StructFieldTrees) (made : List StructField) → ReadsFields known names trees.fields made → AreDistinct (map (λ (tree : StructFieldTree). tree.name.0) trees.fields) → ReadsFieldList known names (struct_field_trees trees) (NamedFields (record { fields = made }))
 struct_list known names trees made read once = record {
   fields = named_fields read.fields;
-  meant = (read.meant, subst StandOnce (field_names known trees.fields read.fields read.meant) once);
+  meant = (read.meant, subst AreDistinct (field_names known trees.fields read.fields read.meant) once);
   shown = (read.shown, read.counted);
 }
 
@@ -75,11 +75,11 @@ variant_names known (tree ∷ trees) (variant ∷ variants) meant =
     ap (λ n. n ∷ map (λ (t : VariantTree). t.name.0) trees) (sym meant.0.name) ∙ ap (λ ns. variant.name ∷ ns) (variant_names known trees variants meant.1)
 
 -- variants that stand once under the names of their trees
-pub variants_once : (known : List (List ℕ)) (trees : List VariantTree) (variants : List NamedVariant) → AllZip (IsVariant known) trees variants → StandOnce (map (λ (tree : VariantTree). tree.name.0) trees) → StandOnce (map (λ (variant : NamedVariant). variant.name) variants)
-variants_once known trees variants meant once = subst StandOnce (variant_names known trees variants meant) once
+pub variants_once : (known : List (List ℕ)) (trees : List VariantTree) (variants : List NamedVariant) → AllZip (IsVariant known) trees variants → AreDistinct (map (λ (tree : VariantTree). tree.name.0) trees) → AreDistinct (map (λ (variant : NamedVariant). variant.name) variants)
+variants_once known trees variants meant once = subst AreDistinct (variant_names known trees variants meant) once
 
 -- variants, and one more
-pub variant_more : (known names more : List (List ℕ)) (type : List ℕ) (trees : List VariantTree) (made : List Variant) (place : ℕ) (tree : VariantTree) (variant : Variant) → Keeps names more → ReadsVariants known names type (take place trees) made → slice_get trees place ≡ Some tree → ReadsVariant known more type tree variant → variant.id.0 ≡ length made → ReadsVariants known more type (take (place + 1) trees) (made ++ variant ∷ [])
+pub variant_more : (known names more : List (List ℕ)) (type : List ℕ) (trees : List VariantTree) (made : List Variant) (place : ℕ) (tree : VariantTree) (variant : Variant) → KeepsNames names more → ReadsVariants known names type (take place trees) made → slice_get trees place ≡ Some tree → ReadsVariant known more type tree variant → variant.id.0 ≡ length made → ReadsVariants known more type (take (place + 1) trees) (made ++ variant ∷ [])
 variant_more known names more type trees made place tree variant keeps read at one id = record {
   variants = read.variants ++ one.variant ∷ [];
   meant = subst (λ ts. AllZip (IsVariant known) ts (read.variants ++ one.variant ∷ [])) (sym (taken_more trees place tree at)) (all_zipped_more (IsVariant known) (take place trees) read.variants tree one.variant read.meant one.meant);

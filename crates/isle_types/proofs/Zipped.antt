@@ -3,7 +3,7 @@ use Rattle.std.proofs.Common.{◌≡◌, ℕ, zero, suc, List, [], ◌∷◌, ma
 use Rattle.std.specs.List.{All, AllZip, AllByRecursion}
 use Rattle.std.proofs.lemmas.Option.{same_Some, none-some}
 use Rattle.std.proofs.lemmas.List.Elements.{All-head, All-tail}
-use Rattle.isle_types.specs.Names.{StandOnce, IsTwin}
+use Rattle.isle_types.specs.Names.{AreDistinct, IsDuplicate}
 
 -- what an item at a place is related to
 pub zipped_at : {A B : Type 0} (R : A → B → Type 0) (xs : List A) (ys : List B) → AllZip R xs ys → (i : ℕ) (x : A) → slice_get xs i ≡ Some x → (y : B) × (slice_get ys i ≡ Some y) × R x y
@@ -38,7 +38,7 @@ all_at P (first ∷ xs) each zero x is = subst P (same_Some first x is) (All-hea
 all_at P (first ∷ xs) each (suc i) x is = all_at P xs (All-tail P first xs each) i x is
 
 -- where items stand once, none is a twin
-pub no_twin : {A : Type 0} (xs : List A) → StandOnce xs → (later : ℕ) → IsTwin xs later → ⊥
-no_twin xs once later twin =
-    let same : twin.earlier ≡ later = once twin.item twin.earlier later twin.first twin.second in
-    omega (arith, same, twin.before)
+pub no_duplicate : {A : Type 0} (xs : List A) → AreDistinct xs → (later : ℕ) → IsDuplicate xs later → ⊥
+no_duplicate xs once later duplicate =
+    let same : duplicate.earlier ≡ later = once duplicate.item duplicate.earlier later duplicate.first duplicate.second in
+    omega (arith, same, duplicate.before)

@@ -17,7 +17,7 @@ use Rattle.isle_syntax.specs.declared.ast.Extern.TheVariants.{Constructor as ext
 use Rattle.isle_syntax.specs.declared.ast.Def.{Def}
 use Rattle.isle_syntax.specs.declared.ast.Def.TheVariants.{TypeDef, Decl, Rule, Extractor, Extern, Converter, Pragma, Kept}
 use Rattle.isle_types.specs.IntTypes.{builtin_names}
-use Rattle.isle_types.specs.Names.{StandOnce}
+use Rattle.isle_types.specs.Names.{AreDistinct}
 
 -- the fields of a variant or struct, each with the number of its type
 pub data FieldList : Type 0 where
@@ -100,7 +100,7 @@ IsTupleField known tree number = slice_get known number ≡ Some tree.ty.0
 -- the fields that trees stand for; no two have one name
 abbrev pub AreFields : List (List ℕ) → Fields → FieldList → Type 0
 AreFields known no_field_trees no_fields = Unit {0}
-AreFields known (struct_field_trees trees) (named_fields fields) = AllZip (IsField known) trees.fields fields × StandOnce (map (λ (field : List ℕ × ℕ). field.0) fields)
+AreFields known (struct_field_trees trees) (named_fields fields) = AllZip (IsField known) trees.fields fields × AreDistinct (map (λ (field : List ℕ × ℕ). field.0) fields)
 AreFields known (tuple_field_trees trees) (tuple_fields numbers) = AllZip (IsTupleField known) trees.fields numbers
 AreFields known _ _ = ⊥
 
@@ -113,7 +113,7 @@ pub record IsVariant (known : List (List ℕ)) (tree : Variant) (variant : Named
 -- what a type is made of; no two variants have one name
 abbrev pub IsShape : List (List ℕ) → TypeValue → TypeShape → Type 0
 IsShape known (Primitive host _) (primitive name) = name ≡ host.0
-IsShape known (Enum trees _) (enum variants) = AllZip (IsVariant known) trees variants × StandOnce (map (λ (variant : NamedVariant). variant.name) variants)
+IsShape known (Enum trees _) (enum variants) = AllZip (IsVariant known) trees variants × AreDistinct (map (λ (variant : NamedVariant). variant.name) variants)
 IsShape known (Struct trees _) (struct fields) = AreFields known trees fields
 IsShape known _ _ = ⊥
 
@@ -139,7 +139,7 @@ pub record IsConstant (known : List (List ℕ)) (tree : Ident × Ident) (constan
 
 -- definitions keep the rules of types and constants, and make this environment
 pub record Makes (defs : List Def) (environment : Environment) : Type 0 where
-  pub names : StandOnce (type_names defs)
+  pub names : AreDistinct (type_names defs)
   pub types : AllZip (IsType (type_names defs)) (type_definitions defs) environment.types
   pub constants : AllZip (IsConstant (type_names defs)) (constant_definitions defs) environment.constants
 

@@ -3,13 +3,13 @@ use Rattle.std.specs.Prelude.{◌≡◌, ℕ, List, String, Option, IsSome, ◌=
 use Rattle.std.specs.Option.{option_map}
 use Rattle.isle_types.specs.declared.ids.Sym.{Sym}
 use Rattle.isle_types.specs.declared.ids.TypeId.{TypeId}
-use Rattle.isle_types.specs.Names.{place_of, StandOnce}
+use Rattle.isle_types.specs.Names.{position_of, AreDistinct}
 use Rattle.isle_types.specs.StableMaps.{value_at, value_at_text}
 
 -- each name stands once, and the table has exactly its place
 pub record IsInterned {A : Type 0} (names : List (List ℕ)) (table : List (String A × Sym)) : Type 0 where
-  pub once : StandOnce names
-  pub placed : (name : List ℕ) → option_map (λ (sym : Sym). sym.0) (value_at_text table name) ≡ place_of names name
+  pub once : AreDistinct names
+  pub placed : (name : List ℕ) → option_map (λ (sym : Sym). sym.0) (value_at_text table name) ≡ position_of names name
 
 -- what a table from symbols has at a symbol
 abbrev pub entry_of : List (Sym × TypeId) → Sym → Option TypeId

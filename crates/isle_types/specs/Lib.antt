@@ -9,6 +9,6 @@ pub mod JoinedTables
 pub mod Interned
 pub mod Environment
 pub mod TypeFaults
-pub mod TypePlaces
+pub mod TypePositions
 pub mod TypeEnvs
 pub mod Readings

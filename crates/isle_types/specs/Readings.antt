@@ -21,7 +21,7 @@ use Rattle.isle_types.specs.declared.types.«Type».TheVariants.{Builtin}
 use Rattle.isle_types.specs.declared.env.TypeEnv.{TypeEnv}
 use Rattle.isle_types.specs.IntTypes.{builtin_types}
 use Rattle.isle_types.specs.Types.{id_of}
-use Rattle.isle_types.specs.Names.{place_of, Keeps}
+use Rattle.isle_types.specs.Names.{position_of, KeepsNames}
 use Rattle.isle_types.specs.Environment.{NamedType, NamedVariant, FieldList, IsField, IsTupleField, AreFields, IsVariant, IsType, IsConstant, constant_in, field_count, HaveAllowedSizes, HasAllowedSize}
 use Rattle.isle_types.specs.TypeFaults.{FieldsBreak, VariantsBreak, TypeBreaks, IsTypeFault, IsSizeFault}
 pub use Rattle.isle_types.specs.TypeFaults.{AreTypeFaults, IsLoneSizeFault}
@@ -29,7 +29,7 @@ use Rattle.isle_types.specs.TypeEnvs.{names_of, types_of, errors_of, type_of_nam
 
 -- its table of types has exactly these names, each with its place
 abbrev pub HasTypeNames : TypeEnv → List (List ℕ) → Type 0
-HasTypeNames env known = (name : List ℕ) → type_of_name env name ≡ option_map type_at (place_of known name)
+HasTypeNames env known = (name : List ℕ) → type_of_name env name ≡ option_map type_at (position_of known name)
 
 -- named fields are those of their trees
 pub record ReadsFields (known names : List (List ℕ)) (trees : List StructFieldTree) (made : List StructField) : Type 0 where
@@ -146,6 +146,6 @@ pub record SameButErrors (old new : TypeEnv) : Type 0 where
 
 -- all but the table of constants and the errors is as it was, and names are kept
 pub record SameButConstants (old new : TypeEnv) : Type 0 where
-  pub names : Keeps (names_of old) (names_of new)
+  pub names : KeepsNames (names_of old) (names_of new)
   pub types : types_of new ≡ types_of old
   pub named : (name : List ℕ) → type_of_name new name ≡ type_of_name old name

@@ -5,8 +5,8 @@ use Rattle.std.specs.List.{AllZip}
 use Rattle.isle_types.specs.declared.ids.Sym.{Sym}
 use Rattle.isle_types.specs.declared.ids.TypeId.{TypeId}
 use Rattle.isle_types.specs.declared.ids.VariantId.{VariantId}
-use Rattle.isle_syntax.specs.Files.{SourceFile}
-use Rattle.isle_syntax.specs.Positions.{HasPlaceAt}
+use Rattle.isle_syntax.specs.Positions.Files.{SourceFile}
+use Rattle.isle_syntax.specs.Positions.Printable.{IsPrintablePos}
 use Rattle.isle_syntax.specs.Errors.{IsPrintable}
 use Rattle.isle_syntax.specs.declared.error.Error.{Error}
 use Rattle.isle_syntax.specs.declared.error.Error.TheVariants.{SizeError}
@@ -20,10 +20,10 @@ use Rattle.isle_types.specs.declared.types.«Type».TheVariants.{Builtin, Primit
 use Rattle.isle_types.specs.declared.env.TypeEnv.{TypeEnv}
 use Rattle.isle_types.specs.IntTypes.{builtin_name, builtin_types}
 use Rattle.isle_types.specs.Types.{id_of}
-use Rattle.isle_types.specs.Names.{place_of, Keeps}
+use Rattle.isle_types.specs.Names.{position_of, KeepsNames}
 use Rattle.isle_types.specs.Interned.{entry_of}
 use Rattle.isle_types.specs.Environment.{Environment, NamedType, NamedVariant, FieldList, no_fields, named_fields, tuple_fields, TypeShape, primitive, enum, struct, names_in, constant_in}
-use Rattle.isle_types.specs.TypePlaces.{TypeAt}
+use Rattle.isle_types.specs.TypePositions.{TypeAt}
 
 -- the errors that it keeps, in the order in which they came
 abbrev pub errors_of : TypeEnv → List Error
@@ -38,8 +38,8 @@ abbrev pub names_of : TypeEnv → List (List ℕ)
 names_of env = env.symbols
 
 -- the positions of its types and its errors can be printed
-pub record HasPlaces (files : List SourceFile) (env : TypeEnv) : Type 0 where
-  pub types : All (TypeAt (HasPlaceAt files)) (types_of env)
+pub record HasPrintablePositions (files : List SourceFile) (env : TypeEnv) : Type 0 where
+  pub types : All (TypeAt (IsPrintablePos files)) (types_of env)
   pub errors : All (IsPrintable files) (errors_of env)
 
 -- whether an error is a size error
@@ -57,7 +57,7 @@ type_at number = record { 0 = number }
 
 -- the symbol of a name
 abbrev pub sym_named : TypeEnv → List ℕ → Option Sym
-sym_named env name = option_map symbol_at (place_of (names_of env) name)
+sym_named env name = option_map symbol_at (position_of (names_of env) name)
 
 -- the name of a symbol
 abbrev pub name_of : TypeEnv → Sym → Option (List ℕ)
@@ -77,7 +77,7 @@ type_of_constant env name = entry_named env env.const_types name
 
 -- the names are kept, and each table has at each name what it had
 pub record SameTables (old new : TypeEnv) : Type 0 where
-  pub names : Keeps (names_of old) (names_of new)
+  pub names : KeepsNames (names_of old) (names_of new)
   pub types : types_of new ≡ types_of old
   pub errors : errors_of new ≡ errors_of old
   pub named : (name : List ℕ) → type_of_name new name ≡ type_of_name old name
@@ -164,5 +164,5 @@ pub record Shows (env : TypeEnv) (environment : Environment) : Type 0 where
   pub all : types_of env ≡ map Builtin builtin_types ++ made
   pub types : AllZip (IsShown (names_of env)) environment.types made
   pub counted : CountUp (λ (type : KnownType). (id_of type).0) 0 (types_of env)
-  pub named : (name : List ℕ) → type_of_name env name ≡ option_map type_at (place_of (names_in environment) name)
+  pub named : (name : List ℕ) → type_of_name env name ≡ option_map type_at (position_of (names_in environment) name)
   pub constants : (name : List ℕ) → type_of_constant env name ≡ option_map type_at (constant_in environment.constants name)

@@ -13,7 +13,7 @@ use Rattle.isle_syntax.specs.declared.ast.Def.{Def}
 use Rattle.isle_syntax.specs.declared.error.Error.{Error}
 use Rattle.isle_syntax.specs.declared.error.Error.TheVariants.{ParseError, TypeError, UnreachableError, OverlapError, ShadowedError, SizeError}
 use Rattle.isle_types.specs.IntTypes.{builtin_names}
-use Rattle.isle_types.specs.Names.{IsTwin, place_of}
+use Rattle.isle_types.specs.Names.{IsDuplicate, position_of}
 use Rattle.isle_types.specs.Environment.{type_definitions, constant_definitions, type_names, MayBeMarked, HasAllowedSize}
 
 -- each field's type, in order
@@ -24,12 +24,12 @@ type_idents (tuple_field_trees trees) = map (λ (tree : TupleField). tree.ty) tr
 
 -- fields break a rule at a position, where these are the names of the types: a field stands twice, or its type isn't known
 pub data FieldsBreak (known : List (List ℕ)) (fields : Fields) : Pos → Type 0 where
-  field_twice : (trees : List StructField) (place : ℕ) (tree : StructField) → fields ≡ struct_field_trees (record { fields = trees }) → slice_get trees place ≡ Some tree → IsTwin (map (λ (field : StructField). field.name.0) trees) place → FieldsBreak known fields tree.pos
-  unknown_field_type : (place : ℕ) (name : Ident) → slice_get (type_idents fields) place ≡ Some name → place_of known name.0 ≡ None → FieldsBreak known fields name.1
+  field_twice : (trees : List StructField) (place : ℕ) (tree : StructField) → fields ≡ struct_field_trees (record { fields = trees }) → slice_get trees place ≡ Some tree → IsDuplicate (map (λ (field : StructField). field.name.0) trees) place → FieldsBreak known fields tree.pos
+  unknown_field_type : (place : ℕ) (name : Ident) → slice_get (type_idents fields) place ≡ Some name → position_of known name.0 ≡ None → FieldsBreak known fields name.1
 
 -- variants break a rule at a position: one stands twice, or its fields break one
 pub data VariantsBreak (known : List (List ℕ)) (variants : List Variant) : Pos → Type 0 where
-  variant_twice : (place : ℕ) (variant : Variant) → slice_get variants place ≡ Some variant → IsTwin (map (λ (other : Variant). other.name.0) variants) place → VariantsBreak known variants variant.pos
+  variant_twice : (place : ℕ) (variant : Variant) → slice_get variants place ≡ Some variant → IsDuplicate (map (λ (other : Variant). other.name.0) variants) place → VariantsBreak known variants variant.pos
   variant_fields_break : (place : ℕ) (variant : Variant) (pos : Pos) → slice_get variants place ≡ Some variant → FieldsBreak known variant.fields pos → VariantsBreak known variants pos
 
 -- a definition of a type breaks a rule at a position: its marks, its variants or its fields
@@ -40,9 +40,9 @@ pub data TypeBreaks (known : List (List ℕ)) (tree : TypeTree) : Pos → Type 0
 
 -- definitions break a rule at a position: a type whose name is taken, a type's own rules, or a constant whose type isn't known
 pub data Breaks (defs : List Def) : Pos → Type 0 where
-  name_taken : (place : ℕ) (tree : TypeTree) → slice_get (type_definitions defs) place ≡ Some tree → IsTwin (type_names defs) (length builtin_names + place) → Breaks defs tree.pos
+  name_taken : (place : ℕ) (tree : TypeTree) → slice_get (type_definitions defs) place ≡ Some tree → IsDuplicate (type_names defs) (length builtin_names + place) → Breaks defs tree.pos
   type_breaks : (place : ℕ) (tree : TypeTree) (pos : Pos) → slice_get (type_definitions defs) place ≡ Some tree → TypeBreaks (type_names defs) tree pos → Breaks defs pos
-  unknown_constant_type : (place : ℕ) (constant : Ident × Ident) → slice_get (constant_definitions defs) place ≡ Some constant → place_of (type_names defs) constant.1.0 ≡ None → Breaks defs constant.1.1
+  unknown_constant_type : (place : ℕ) (constant : Ident × Ident) → slice_get (constant_definitions defs) place ≡ Some constant → position_of (type_names defs) constant.1.0 ≡ None → Breaks defs constant.1.1
 
 -- a definition of a type that passes a size stands at a position
 pub record Exceeds (defs : List Def) (pos : Pos) : Type 0 where

@@ -1,4 +1,4 @@
-ghost use Rattle.isle_types.specs.Names.{StandOnce};
+ghost use Rattle.isle_types.specs.Names.{AreDistinct};
 ghost use Rattle.isle_types.specs.Interned.{AreInterned};
 
 mod errors;
@@ -23,7 +23,7 @@ pub struct TypeEnv {
     type_map: StableMap<Sym, TypeId>,
     const_types: StableMap<Sym, TypeId>,
     errors: Vec<Error>,
-    ghost names_stand_once: { StandOnce symbols },
+    ghost names_are_distinct: { AreDistinct symbols },
     ghost types_are_interned: { AreInterned symbols type_map },
     ghost constants_are_interned: { AreInterned symbols const_types },
 }

@@ -1,6 +1,6 @@
 ghost use Rattle.std.specs.Prelude.{◌≡◌, ℕ, List, [], IfOk, OnOk, OnErr, Some, map, string_bytes, slice_get};
 ghost use Rattle.std.specs.Option.{option_map};
-ghost use Rattle.isle_types.specs.Names.{place_of, with_name, StandOnce};
+ghost use Rattle.isle_types.specs.Names.{position_of, with_name, AreDistinct};
 ghost use Rattle.isle_types.specs.StableMaps.{value_at_text};
 
 use crate::ids::Sym;
@@ -32,7 +32,7 @@ impl Symbols {
     /// No names.
     pub fn new(alloc: Global) -> Symbols
         ensures none { result ≡ [] }
-        ensures once { StandOnce result }
+        ensures once { AreDistinct result }
     {
         Symbols {
             alloc,
@@ -43,8 +43,8 @@ impl Symbols {
 
     /// The symbol of a name, if it is interned.
     pub fn find(&self, name: &str) -> Option<Sym>
-        ensures found { option_map (λ sym. sym.0) result ≡ place_of self.now name.now }
-        ensures once { StandOnce self.now }
+        ensures found { option_map (λ sym. sym.0) result ≡ position_of self.now name.now }
+        ensures once { AreDistinct self.now }
     {
         self.sym_map.get_text(name).copied()
     }
@@ -54,7 +54,7 @@ impl Symbols {
         ensures ok { OnOk result (self.new ≡ with_name self.old name.now) }
         ensures symbol { IfOk result (λ sym. slice_get self.new sym.0 ≡ Some name.now) }
         ensures err { OnErr result (self.new ≡ self.old) }
-        ensures once { StandOnce self.new }
+        ensures once { AreDistinct self.new }
     {
         if let Some(sym) = self.find(name) {
             return Ok(sym);
@@ -77,7 +77,7 @@ impl Symbols {
 
     /// The table from a name to its symbol.
     pub fn table(&self) -> &StableMap<String, Sym>
-        ensures { (name : List ℕ) → option_map (λ sym. sym.0) (value_at_text result.now name) ≡ place_of self.now name }
+        ensures { (name : List ℕ) → option_map (λ sym. sym.0) (value_at_text result.now name) ≡ position_of self.now name }
     {
         &self.sym_map
     }

@@ -1,21 +1,21 @@
 -- Files that are printed are spelt.
 use Rattle.std.proofs.Common.{◌≡◌, ℕ, suc, List, [], ◌∷◌, ◌++◌, Bool, length, sym, ap, subst, refl, ◌∙◌}
 use Rattle.isle_syntax.specs.declared.ast.Def.{Def}
-use Rattle.isle_syntax.specs.DefGrammar.{SpellsText}
-use Rattle.isle_syntax.specs.Files.{SourceFile}
-use Rattle.isle_syntax.specs.Texts.{Spells, IsWhole}
-use Rattle.isle_syntax.specs.Tokens.{Placed}
-use Rattle.isle_syntax.specs.TokensOf.{TokensOf}
-use Rattle.isle_syntax.specs.Unread.{Unread, Source}
-use Rattle.isle_syntax.specs.Verdict.{IsSpelt, NestsWithin}
+use Rattle.isle_syntax.specs.Grammar.DefGrammar.{SpellsText}
+use Rattle.isle_syntax.specs.Positions.Files.{SourceFile}
+use Rattle.isle_syntax.specs.Grammar.Texts.{Spells, IsWhole}
+use Rattle.isle_syntax.specs.Tokens.PlacedTokens.{Placed}
+use Rattle.isle_syntax.specs.Tokens.TokensOf.{TokensOf}
+use Rattle.isle_syntax.specs.Tokens.RemainingTokens.{RemainingTokens, Source}
+use Rattle.isle_syntax.specs.Grammar.Verdict.{IsSpelt, NestsWithin}
 use Rattle.isle_layout.specs.Formats.{Formats}
-use Rattle.isle_layout.proofs.OneReading.{whole_reading, tokens_alone}
+use Rattle.isle_layout.proofs.SpeltTexts.OneReading.{whole_reading, tokens_alone}
 use Rattle.isle_run.specs.Compiled.{AreSpelt}
 use Rattle.isle_run.proofs.WholeTexts.{source_is}
 use Rattle.islec.specs.Formatting.{Prints}
 
 -- two readings of the same tokens spell the same
-spelt_same : (a b : Unread) (defs : List Def) → a.left ≡ b.left → a.clean ≡ b.clean → IsSpelt a defs → IsSpelt b defs
+spelt_same : (a b : RemainingTokens) (defs : List Def) → a.left ≡ b.left → a.clean ≡ b.clean → IsSpelt a defs → IsSpelt b defs
 spelt_same a b defs left clean s = record {
   clean = sym clean ∙ s.clean;
   spelt = subst (λ (ts : List Placed). SpellsText defs ts) left s.spelt;
@@ -24,7 +24,7 @@ spelt_same a b defs left clean s = record {
 }
 
 -- two whole readings of a text spell the same
-spelt_again : (file : ℕ) (text : List ℕ) (a b : Unread) (defs : List Def) → IsWhole text a → a.source.file ≡ file → IsWhole text b → b.source.file ≡ file → IsSpelt a defs → IsSpelt b defs
+spelt_again : (file : ℕ) (text : List ℕ) (a b : RemainingTokens) (defs : List Def) → IsWhole text a → a.source.file ≡ file → IsWhole text b → b.source.file ≡ file → IsSpelt a defs → IsSpelt b defs
 spelt_again file text a b defs whole here again there s =
     let source : a.source ≡ b.source = sym (source_is a.source file (length text) here whole.size) ∙ source_is b.source file (length text) there again.size in
     let tokens = subst (λ (source : Source). TokensOf source text a.left a.end a.clean) source whole.tokens in

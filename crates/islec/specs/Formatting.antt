@@ -2,7 +2,7 @@
 use Rattle.std.specs.Prelude.{◌≡◌, ℕ, suc, List, [], ◌∷◌, ◌++◌, Option}
 use Rattle.std.specs.Io.KnownBytes.{Appends}
 use Rattle.isle_syntax.specs.Errors.{report_text}
-use Rattle.isle_syntax.specs.Files.{SourceFile}
+use Rattle.isle_syntax.specs.Positions.Files.{SourceFile}
 use Rattle.isle_syntax.specs.declared.error.Error.{Error}
 use Rattle.isle_layout.specs.Formats.{Formats}
 use Rattle.isle_run.specs.Compiled.{IsFirstFault}

@@ -2,9 +2,9 @@
 ghost use Rattle.std.specs.Prelude.{◌≡◌, ◌<◌, ◌≢◌, length, map, slice_get, string_bytes, IfErr, IfOk, IfSome};
 ghost use Rattle.isle_layout.specs.Formats.{Formats};
 ghost use Rattle.isle_syntax.specs.Errors.{IfFault, RefusalAt};
-ghost use Rattle.isle_syntax.specs.Files.{source_file};
-ghost use Rattle.isle_syntax.specs.Positions.{HasPlaceAt};
-ghost use Rattle.isle_syntax.specs.Texts.{IsFaultIn};
+ghost use Rattle.isle_syntax.specs.Positions.Files.{source_file};
+ghost use Rattle.isle_syntax.specs.Positions.Printable.{IsPrintablePos};
+ghost use Rattle.isle_syntax.specs.Grammar.Texts.{IsFaultIn};
 ghost use Rattle.islec.specs.Formatting.{WritesPrints, WritesFault};
 ghost use Rattle.islec.specs.declared.status.Status.{Status};
 
@@ -61,7 +61,7 @@ fn print_file(
         (λ once. Formats file width from.text (string_bytes once))) }
     ensures fault { IfSome (slice_get files.now file) (λ from. IfErr result
         (λ r. IfFault r (IsFaultIn file from.text))) }
-    ensures printable { IfErr result (RefusalAt (HasPlaceAt files.now)) }
+    ensures printable { IfErr result (RefusalAt (IsPrintablePos files.now)) }
 {
     let Some(text) = files.file_text(file) else {
         return Ok(String::new(alloc));

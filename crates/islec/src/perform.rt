@@ -2,7 +2,7 @@
 ghost use Rattle.std.specs.Prelude.{◌≡◌, ◌≢◌, ◌⊎◌, ℕ, map, IfOk, OnOk};
 ghost use Rattle.std.specs.Io.KnownBytes.{Appends};
 ghost use Rattle.isle_syntax.specs.Errors.{report_text};
-ghost use Rattle.isle_syntax.specs.Files.{source_file};
+ghost use Rattle.isle_syntax.specs.Positions.Files.{source_file};
 ghost use Rattle.isle_run.specs.Compiled.{AreAccepted};
 ghost use Rattle.islec.specs.Formatting.{WritesPrints, WritesFault};
 ghost use Rattle.islec.specs.Running.{WritesFaults};

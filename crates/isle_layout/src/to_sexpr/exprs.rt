@@ -1,5 +1,5 @@
 ghost use Rattle.std.specs.Prelude.{◌≡◌, ◌∷◌, IfOk};
-ghost use Rattle.isle_syntax.specs.ExprShape.{expr_of, exprs_of, lets_of};
+ghost use Rattle.isle_syntax.specs.Trees.ExprShape.{expr_of, exprs_of, lets_of};
 ghost use Rattle.isle_layout.specs.SExprShape.{sexpr_of};
 ghost use Rattle.isle_layout.specs.Spellings.{listed, name_sexpr, expr_sexpr, expr_sexprs, let_sexprs, let_def_sexpr};
 

@@ -1,5 +1,5 @@
 ghost use Rattle.std.specs.Prelude.{◌≡◌, ◌++◌, IfOk};
-ghost use Rattle.isle_syntax.specs.ItemShape.{item_of, items_of};
+ghost use Rattle.isle_syntax.specs.Trees.ItemShape.{item_of, items_of};
 ghost use Rattle.isle_layout.specs.SExprShape.{sexpr_of};
 ghost use Rattle.isle_layout.specs.Spellings.{item_sexpr, item_sexprs};
 ghost use Rattle.isle_layout.specs.DefSpellings.{kept_sexpr};

@@ -1,6 +1,6 @@
 ghost use Rattle.std.specs.Prelude.{◌≡◌, IfOk};
 ghost use Rattle.std.specs.Fmt.{decimal, signed_decimal};
-ghost use Rattle.isle_syntax.specs.Grammar.{truth_word};
+ghost use Rattle.isle_syntax.specs.Grammar.TreeGrammar.{truth_word};
 ghost use Rattle.isle_layout.specs.SExprTree.{sexpr_atom};
 ghost use Rattle.isle_layout.specs.SExprShape.{sexpr_of};
 ghost use Rattle.isle_layout.specs.Spellings.{integer_text};

@@ -1,6 +1,6 @@
 ghost use Rattle.std.specs.Prelude.{◌≡◌, [], ◌∷◌, IfOk};
-ghost use Rattle.isle_syntax.specs.PatternShape.{pattern_of, patterns_of};
-ghost use Rattle.isle_syntax.specs.Subject.{names_bound};
+ghost use Rattle.isle_syntax.specs.Trees.PatternShape.{pattern_of, patterns_of};
+ghost use Rattle.isle_syntax.specs.Trees.Innermost.{names_bound};
 ghost use Rattle.isle_layout.specs.SExprTree.{sexpr_atom};
 ghost use Rattle.isle_layout.specs.SExprShape.{sexpr_of};
 ghost use Rattle.isle_layout.specs.Spellings.{listed, bound_sexpr, pattern_sexpr, pattern_sexprs};
@@ -23,7 +23,7 @@ pub(crate) fn spell_pattern(alloc: Global, pattern: &Pattern) -> Result<SExpr, A
         names.push(var.0.clone()?)?;
         at = subpat.get();
     }
-    bind(alloc, names, spell_subject(alloc, at)?)
+    bind(alloc, names, spell_innermost(alloc, at)?)
 }
 
 /// The bindings, listed from the outside in, around an S-expression.
@@ -40,7 +40,7 @@ fn bind(alloc: Global, mut names: Vec<Text>, inner: SExpr) -> Result<SExpr, Allo
 /// A pattern that is no binding.
 #[cycle(spell_pattern)]
 #[tactic(auto, using(isle_syntax::proofs::PatternSizes::most_pattern_size))]
-fn spell_subject(alloc: Global, pattern: &Pattern) -> Result<SExpr, AllocError>
+fn spell_innermost(alloc: Global, pattern: &Pattern) -> Result<SExpr, AllocError>
     requires { names_bound (pattern_of pattern.now) ≡ [] }
     ensures { IfOk result (λ sexpr. sexpr_of sexpr ≡ pattern_sexpr (pattern_of pattern.now)) }
 {

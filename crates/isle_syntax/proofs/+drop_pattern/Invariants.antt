@@ -1,5 +1,5 @@
 use Rattle.std.proofs.Common.{◌≤◌}
-use Rattle.isle_syntax.specs.PatternTree.{pattern_height}
+use Rattle.isle_syntax.specs.Trees.PatternTree.{pattern_height}
 use Rattle.isle_syntax.proofs.+drop_pattern.Given as goal
 
 abbrev pub invariant-ast::BoxedPattern::drop-loop-subpat : goal.invariant-ast::BoxedPattern::drop-loop-subpat

@@ -1,6 +1,6 @@
 ghost use Rattle.std.specs.Prelude.{◌≡◌, IfOk};
-ghost use Rattle.isle_syntax.specs.PatternShape.{pattern_of};
-ghost use Rattle.isle_syntax.specs.Subject.{subject, names_bound};
+ghost use Rattle.isle_syntax.specs.Trees.PatternShape.{pattern_of};
+ghost use Rattle.isle_syntax.specs.Trees.Innermost.{innermost, names_bound};
 
 
 use crate::ast::{Ident, Pattern};
@@ -10,8 +10,8 @@ use std::alloc::{AllocError, Global};
 // A chain `x @ y @ ..` nests without parentheses, so each of these walks is a loop.
 impl Pattern {
     /// The pattern that a chain of bindings binds, or the pattern itself where it is no binding.
-    pub(crate) fn subject(&self) -> &Pattern
-        ensures { pattern_of result.now ≡ subject (pattern_of self.now) }
+    pub(crate) fn innermost(&self) -> &Pattern
+        ensures { pattern_of result.now ≡ innermost (pattern_of self.now) }
     {
         let mut at = self;
         while let Pattern::BindPattern { subpat, .. } = at {

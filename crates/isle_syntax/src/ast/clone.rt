@@ -1,8 +1,8 @@
 ghost use Rattle.std.specs.Prelude.{◌≡◌, [], IfOk};
-ghost use Rattle.isle_syntax.specs.PatternShape.{pattern_of, patterns_of};
-ghost use Rattle.isle_syntax.specs.ExprShape.{expr_of, exprs_of, lets_of};
-ghost use Rattle.isle_syntax.specs.ItemShape.{item_of, items_of};
-ghost use Rattle.isle_syntax.specs.Subject.{names_bound};
+ghost use Rattle.isle_syntax.specs.Trees.PatternShape.{pattern_of, patterns_of};
+ghost use Rattle.isle_syntax.specs.Trees.ExprShape.{expr_of, exprs_of, lets_of};
+ghost use Rattle.isle_syntax.specs.Trees.ItemShape.{item_of, items_of};
+ghost use Rattle.isle_syntax.specs.Trees.Innermost.{names_bound};
 
 use crate::ast::wrap::wrap;
 use crate::ast::{
@@ -64,23 +64,23 @@ impl Clone for Pattern {
     ghost is_clone = { λ x y. y ≡ x };
 
     #[cycle(clone_pattern)]
-    #[tactic(auto, using(crate::proofs::Subjects::subject_size, crate::proofs::Subjects::subject_alone, crate::proofs::Subjects::cloned_chain))]
+    #[tactic(auto, using(crate::proofs::Trees::Innermost::innermost_size, crate::proofs::Trees::Innermost::innermost_alone, crate::proofs::Trees::Innermost::cloned_chain))]
     fn clone(&self) -> Result<Pattern, AllocError> {
         match self {
             Pattern::BindPattern { subpat, .. } => {
                 let alloc = subpat.allocator();
                 let names = self.names_bound(alloc)?;
-                wrap(alloc, names, clone_subject(self.subject())?)
+                wrap(alloc, names, clone_innermost(self.innermost())?)
             }
-            _ => clone_subject(self),
+            _ => clone_innermost(self),
         }
     }
 }
 
 /// A copy of a pattern that is no binding.
 #[cycle(clone_pattern)]
-#[tactic(auto, using(crate::proofs::PatternSizes::most_pattern_size))]
-fn clone_subject(pattern: &Pattern) -> Result<Pattern, AllocError>
+#[tactic(auto, using(crate::proofs::Trees::PatternSizes::most_pattern_size))]
+fn clone_innermost(pattern: &Pattern) -> Result<Pattern, AllocError>
     requires { names_bound (pattern_of pattern.now) ≡ [] }
     ensures { IfOk result (λ new. new ≡ pattern.now) }
 {
@@ -121,7 +121,7 @@ fn clone_subject(pattern: &Pattern) -> Result<Pattern, AllocError>
 }
 
 #[cycle(clone_pattern)]
-#[tactic(auto, using(crate::proofs::PatternSizes::most_pattern_size))]
+#[tactic(auto, using(crate::proofs::Trees::PatternSizes::most_pattern_size))]
 fn clone_patterns(alloc: Global, patterns: &[Pattern]) -> Result<Vec<Pattern>, AllocError>
     ensures { IfOk result (λ new. new.items ≡ patterns.now) }
 {
@@ -158,7 +158,7 @@ impl Clone for Expr {
     ghost is_clone = { λ x y. y ≡ x };
 
     #[cycle(clone_expr)]
-    #[tactic(auto, using(crate::proofs::ExprSizes::most_expr_size, crate::proofs::ExprSizes::most_let_size))]
+    #[tactic(auto, using(crate::proofs::Trees::ExprSizes::most_expr_size, crate::proofs::Trees::ExprSizes::most_let_size))]
     fn clone(&self) -> Result<Expr, AllocError> {
         match self {
             Expr::Term { sym, args, pos } => Ok(Expr::Term {
@@ -193,7 +193,7 @@ impl Clone for Expr {
 }
 
 #[cycle(clone_expr)]
-#[tactic(auto, using(crate::proofs::ExprSizes::most_expr_size, crate::proofs::ExprSizes::most_let_size))]
+#[tactic(auto, using(crate::proofs::Trees::ExprSizes::most_expr_size, crate::proofs::Trees::ExprSizes::most_let_size))]
 fn clone_exprs(alloc: Global, exprs: &[Expr]) -> Result<Vec<Expr>, AllocError>
     ensures { IfOk result (λ new. new.items ≡ exprs.now) }
 {
@@ -205,7 +205,7 @@ fn clone_exprs(alloc: Global, exprs: &[Expr]) -> Result<Vec<Expr>, AllocError>
 }
 
 #[cycle(clone_expr)]
-#[tactic(auto, using(crate::proofs::ExprSizes::most_expr_size, crate::proofs::ExprSizes::most_let_size))]
+#[tactic(auto, using(crate::proofs::Trees::ExprSizes::most_expr_size, crate::proofs::Trees::ExprSizes::most_let_size))]
 fn clone_defs(alloc: Global, defs: &[LetDef]) -> Result<Vec<LetDef>, AllocError>
     ensures { IfOk result (λ new. new.items ≡ defs.now) }
 {
@@ -272,7 +272,7 @@ impl Clone for KeptItem {
     ghost is_clone = { λ x y. y ≡ x };
 
     #[cycle(clone_item)]
-    #[tactic(auto, using(crate::proofs::ItemSizes::most_item_size))]
+    #[tactic(auto, using(crate::proofs::Trees::ItemSizes::most_item_size))]
     fn clone(&self) -> Result<KeptItem, AllocError> {
         match self {
             KeptItem::Int { val, pos } => Ok(KeptItem::Int {
@@ -294,7 +294,7 @@ impl Clone for KeptItem {
 }
 
 #[cycle(clone_item)]
-#[tactic(auto, using(crate::proofs::ItemSizes::most_item_size))]
+#[tactic(auto, using(crate::proofs::Trees::ItemSizes::most_item_size))]
 fn clone_items(alloc: Global, items: &[KeptItem]) -> Result<Vec<KeptItem>, AllocError>
     ensures { IfOk result (λ new. new.items ≡ items.now) }
 {

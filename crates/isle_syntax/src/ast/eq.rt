@@ -1,11 +1,11 @@
 ghost use Rattle.std.specs.Prelude.{◌≡◌, ◌↔◌, IsTrue, true, []};
-ghost use Rattle.isle_syntax.specs.PatternShape.{pattern_of, patterns_of};
-ghost use Rattle.isle_syntax.specs.ExprTree.{expr_height};
-ghost use Rattle.isle_syntax.specs.ExprShape.{expr_of, exprs_of, lets_of};
-ghost use Rattle.isle_syntax.specs.Trees.{is_leaf};
-ghost use Rattle.isle_syntax.specs.Subject.{names_bound};
-ghost use Rattle.isle_syntax.specs.Equality.{let_of};
-ghost use Rattle.isle_syntax.specs.ItemShape.{item_of, items_of};
+ghost use Rattle.isle_syntax.specs.Trees.PatternShape.{pattern_of, patterns_of};
+ghost use Rattle.isle_syntax.specs.Trees.ExprTree.{expr_height};
+ghost use Rattle.isle_syntax.specs.Trees.ExprShape.{expr_of, exprs_of, lets_of};
+ghost use Rattle.isle_syntax.specs.Trees.TreeCalls.{is_leaf};
+ghost use Rattle.isle_syntax.specs.Trees.Innermost.{names_bound};
+ghost use Rattle.isle_syntax.specs.Trees.Equality.{let_of};
+ghost use Rattle.isle_syntax.specs.Trees.ItemShape.{item_of, items_of};
 
 use crate::ast::{
     BoxedExpr, BoxedPattern, Def, Expr, Exprs, KeptItem, KeptItems, LetDef, LetDefs, Pattern,
@@ -48,17 +48,17 @@ fn have_same_names(a: &Pattern, b: &Pattern) -> bool
 
 /// Whether two patterns are the same, positions included.
 #[cycle(same_pattern)]
-#[tactic(auto, using(crate::proofs::Subjects::subject_size, crate::proofs::Subjects::subject_alone, crate::proofs::Subjects::same_where_subjects))]
+#[tactic(auto, using(crate::proofs::Trees::Innermost::innermost_size, crate::proofs::Trees::Innermost::innermost_alone, crate::proofs::Trees::Innermost::same_where_innermost))]
 fn is_same_pattern(a: &Pattern, b: &Pattern) -> bool
     ensures { IsTrue result ↔ (pattern_of a.now ≡ pattern_of b.now) }
 {
-    have_same_names(a, b) && is_same_subject(a.subject(), b.subject())
+    have_same_names(a, b) && is_same_innermost(a.innermost(), b.innermost())
 }
 
 /// Whether two patterns are the same, of which the first is no binding.
 #[cycle(same_pattern)]
-#[tactic(auto, using(crate::proofs::PatternSizes::most_pattern_size))]
-fn is_same_subject(a: &Pattern, b: &Pattern) -> bool
+#[tactic(auto, using(crate::proofs::Trees::PatternSizes::most_pattern_size))]
+fn is_same_innermost(a: &Pattern, b: &Pattern) -> bool
     requires { names_bound (pattern_of a.now) ≡ [] }
     ensures { IsTrue result ↔ (pattern_of a.now ≡ pattern_of b.now) }
 {
@@ -111,7 +111,7 @@ fn is_same_leaf(a: &Pattern, b: &Pattern) -> bool
 }
 
 #[cycle(same_pattern)]
-#[tactic(auto, using(crate::proofs::PatternSizes::most_pattern_size, crate::proofs::TreeShapes::patterns_differ_at, crate::proofs::TreeShapes::patterns_same_length))]
+#[tactic(auto, using(crate::proofs::Trees::PatternSizes::most_pattern_size, crate::proofs::Trees::TreeShapes::patterns_differ_at, crate::proofs::Trees::TreeShapes::patterns_same_length))]
 fn are_same_patterns(a: &[Pattern], b: &[Pattern]) -> bool
     ensures { IsTrue result ↔ (patterns_of a.now ≡ patterns_of b.now) }
 {
@@ -128,7 +128,7 @@ fn are_same_patterns(a: &[Pattern], b: &[Pattern]) -> bool
 
 impl PartialEq for Pattern {
     ghost use Rattle.std.specs.Cmp.{partial_equiv_from_equiv};
-    ghost use Rattle.isle_syntax.specs.Equality.{same_pattern, same_pattern-equiv};
+    ghost use Rattle.isle_syntax.specs.Trees.Equality.{same_pattern, same_pattern-equiv};
 
     ghost eq = { same_pattern };
 
@@ -140,15 +140,15 @@ impl PartialEq for Pattern {
 }
 
 impl Eq for Pattern {
-    ghost use Rattle.isle_syntax.specs.Equality.{same_pattern-equiv};
+    ghost use Rattle.isle_syntax.specs.Trees.Equality.{same_pattern-equiv};
 
     ghost laws = { same_pattern-equiv };
 }
 
 impl PartialEq for BoxedPattern {
     ghost use Rattle.std.specs.Cmp.{partial_equiv_from_equiv};
-    ghost use Rattle.isle_syntax.specs.Equality.{same_coded, same_coded-equiv};
-    ghost use Rattle.isle_syntax.specs.PatternCode.{pattern_tree_code};
+    ghost use Rattle.isle_syntax.specs.Trees.Equality.{same_coded, same_coded-equiv};
+    ghost use Rattle.isle_syntax.specs.Trees.PatternCode.{pattern_tree_code};
 
     ghost eq = { same_coded pattern_tree_code };
 
@@ -160,16 +160,16 @@ impl PartialEq for BoxedPattern {
 }
 
 impl Eq for BoxedPattern {
-    ghost use Rattle.isle_syntax.specs.Equality.{same_coded-equiv};
-    ghost use Rattle.isle_syntax.specs.PatternCode.{pattern_tree_code};
+    ghost use Rattle.isle_syntax.specs.Trees.Equality.{same_coded-equiv};
+    ghost use Rattle.isle_syntax.specs.Trees.PatternCode.{pattern_tree_code};
 
     ghost laws = { same_coded-equiv pattern_tree_code };
 }
 
 impl PartialEq for Patterns {
     ghost use Rattle.std.specs.Cmp.{partial_equiv_from_equiv};
-    ghost use Rattle.isle_syntax.specs.Equality.{same_coded, same_coded-equiv};
-    ghost use Rattle.isle_syntax.specs.PatternCode.{pattern_trees_code};
+    ghost use Rattle.isle_syntax.specs.Trees.Equality.{same_coded, same_coded-equiv};
+    ghost use Rattle.isle_syntax.specs.Trees.PatternCode.{pattern_trees_code};
 
     ghost eq = { same_coded pattern_trees_code };
 
@@ -181,15 +181,15 @@ impl PartialEq for Patterns {
 }
 
 impl Eq for Patterns {
-    ghost use Rattle.isle_syntax.specs.Equality.{same_coded-equiv};
-    ghost use Rattle.isle_syntax.specs.PatternCode.{pattern_trees_code};
+    ghost use Rattle.isle_syntax.specs.Trees.Equality.{same_coded-equiv};
+    ghost use Rattle.isle_syntax.specs.Trees.PatternCode.{pattern_trees_code};
 
     ghost laws = { same_coded-equiv pattern_trees_code };
 }
 
 /// Whether two expressions are the same, positions included.
 #[cycle(same_expr)]
-#[tactic(auto, using(crate::proofs::ExprSizes::most_expr_size, crate::proofs::ExprSizes::most_let_size))]
+#[tactic(auto, using(crate::proofs::Trees::ExprSizes::most_expr_size, crate::proofs::Trees::ExprSizes::most_let_size))]
 fn is_same_expr(a: &Expr, b: &Expr) -> bool
     ensures { IsTrue result ↔ (expr_of a.now ≡ expr_of b.now) }
 {
@@ -251,7 +251,7 @@ fn is_same_leaf_expr(a: &Expr, b: &Expr) -> bool
 }
 
 #[cycle(same_expr)]
-#[tactic(auto, using(crate::proofs::ExprSizes::most_expr_size, crate::proofs::ExprSizes::most_let_size, crate::proofs::TreeShapes::exprs_differ_at, crate::proofs::TreeShapes::exprs_same_length))]
+#[tactic(auto, using(crate::proofs::Trees::ExprSizes::most_expr_size, crate::proofs::Trees::ExprSizes::most_let_size, crate::proofs::Trees::TreeShapes::exprs_differ_at, crate::proofs::Trees::TreeShapes::exprs_same_length))]
 fn are_same_exprs(a: &[Expr], b: &[Expr]) -> bool
     ensures { IsTrue result ↔ (exprs_of a.now ≡ exprs_of b.now) }
 {
@@ -267,7 +267,7 @@ fn are_same_exprs(a: &[Expr], b: &[Expr]) -> bool
 }
 
 #[cycle(same_expr)]
-#[tactic(auto, using(crate::proofs::ExprSizes::most_expr_size, crate::proofs::ExprSizes::most_let_size, crate::proofs::TreeShapes::lets_from_map, crate::proofs::TreeShapes::lets_differ_at, crate::proofs::TreeShapes::lets_same_length))]
+#[tactic(auto, using(crate::proofs::Trees::ExprSizes::most_expr_size, crate::proofs::Trees::ExprSizes::most_let_size, crate::proofs::Trees::TreeShapes::lets_from_map, crate::proofs::Trees::TreeShapes::lets_differ_at, crate::proofs::Trees::TreeShapes::lets_same_length))]
 fn are_same_lets(a: &[LetDef], b: &[LetDef]) -> bool
     ensures { IsTrue result ↔ (lets_of a.now ≡ lets_of b.now) }
 {
@@ -283,7 +283,7 @@ fn are_same_lets(a: &[LetDef], b: &[LetDef]) -> bool
 }
 
 #[cycle(same_expr)]
-#[tactic(auto, using(crate::proofs::ExprSizes::most_expr_size, crate::proofs::ExprSizes::most_let_size, crate::proofs::TreeShapes::let_of_parts))]
+#[tactic(auto, using(crate::proofs::Trees::ExprSizes::most_expr_size, crate::proofs::Trees::ExprSizes::most_let_size, crate::proofs::Trees::TreeShapes::let_of_parts))]
 fn is_same_let(a: &LetDef, b: &LetDef) -> bool
     ensures { IsTrue result ↔ (let_of a.now ≡ let_of b.now) }
 {
@@ -292,7 +292,7 @@ fn is_same_let(a: &LetDef, b: &LetDef) -> bool
 
 impl PartialEq for Expr {
     ghost use Rattle.std.specs.Cmp.{partial_equiv_from_equiv};
-    ghost use Rattle.isle_syntax.specs.Equality.{same_expr, same_expr-equiv};
+    ghost use Rattle.isle_syntax.specs.Trees.Equality.{same_expr, same_expr-equiv};
 
     ghost eq = { same_expr };
 
@@ -304,14 +304,14 @@ impl PartialEq for Expr {
 }
 
 impl Eq for Expr {
-    ghost use Rattle.isle_syntax.specs.Equality.{same_expr-equiv};
+    ghost use Rattle.isle_syntax.specs.Trees.Equality.{same_expr-equiv};
 
     ghost laws = { same_expr-equiv };
 }
 
 impl PartialEq for LetDef {
     ghost use Rattle.std.specs.Cmp.{partial_equiv_from_equiv};
-    ghost use Rattle.isle_syntax.specs.Equality.{same_let, same_let-equiv};
+    ghost use Rattle.isle_syntax.specs.Trees.Equality.{same_let, same_let-equiv};
 
     ghost eq = { same_let };
 
@@ -323,15 +323,15 @@ impl PartialEq for LetDef {
 }
 
 impl Eq for LetDef {
-    ghost use Rattle.isle_syntax.specs.Equality.{same_let-equiv};
+    ghost use Rattle.isle_syntax.specs.Trees.Equality.{same_let-equiv};
 
     ghost laws = { same_let-equiv };
 }
 
 impl PartialEq for BoxedExpr {
     ghost use Rattle.std.specs.Cmp.{partial_equiv_from_equiv};
-    ghost use Rattle.isle_syntax.specs.Equality.{same_coded, same_coded-equiv};
-    ghost use Rattle.isle_syntax.specs.ExprCode.{expr_tree_code};
+    ghost use Rattle.isle_syntax.specs.Trees.Equality.{same_coded, same_coded-equiv};
+    ghost use Rattle.isle_syntax.specs.Trees.ExprCode.{expr_tree_code};
 
     ghost eq = { same_coded expr_tree_code };
 
@@ -343,16 +343,16 @@ impl PartialEq for BoxedExpr {
 }
 
 impl Eq for BoxedExpr {
-    ghost use Rattle.isle_syntax.specs.Equality.{same_coded-equiv};
-    ghost use Rattle.isle_syntax.specs.ExprCode.{expr_tree_code};
+    ghost use Rattle.isle_syntax.specs.Trees.Equality.{same_coded-equiv};
+    ghost use Rattle.isle_syntax.specs.Trees.ExprCode.{expr_tree_code};
 
     ghost laws = { same_coded-equiv expr_tree_code };
 }
 
 impl PartialEq for Exprs {
     ghost use Rattle.std.specs.Cmp.{partial_equiv_from_equiv};
-    ghost use Rattle.isle_syntax.specs.Equality.{same_coded, same_coded-equiv};
-    ghost use Rattle.isle_syntax.specs.ExprCode.{expr_trees_code};
+    ghost use Rattle.isle_syntax.specs.Trees.Equality.{same_coded, same_coded-equiv};
+    ghost use Rattle.isle_syntax.specs.Trees.ExprCode.{expr_trees_code};
 
     ghost eq = { same_coded expr_trees_code };
 
@@ -364,16 +364,16 @@ impl PartialEq for Exprs {
 }
 
 impl Eq for Exprs {
-    ghost use Rattle.isle_syntax.specs.Equality.{same_coded-equiv};
-    ghost use Rattle.isle_syntax.specs.ExprCode.{expr_trees_code};
+    ghost use Rattle.isle_syntax.specs.Trees.Equality.{same_coded-equiv};
+    ghost use Rattle.isle_syntax.specs.Trees.ExprCode.{expr_trees_code};
 
     ghost laws = { same_coded-equiv expr_trees_code };
 }
 
 impl PartialEq for LetDefs {
     ghost use Rattle.std.specs.Cmp.{partial_equiv_from_equiv};
-    ghost use Rattle.isle_syntax.specs.Equality.{same_coded, same_coded-equiv};
-    ghost use Rattle.isle_syntax.specs.ExprCode.{let_trees_code};
+    ghost use Rattle.isle_syntax.specs.Trees.Equality.{same_coded, same_coded-equiv};
+    ghost use Rattle.isle_syntax.specs.Trees.ExprCode.{let_trees_code};
 
     ghost eq = { same_coded let_trees_code };
 
@@ -385,15 +385,15 @@ impl PartialEq for LetDefs {
 }
 
 impl Eq for LetDefs {
-    ghost use Rattle.isle_syntax.specs.Equality.{same_coded-equiv};
-    ghost use Rattle.isle_syntax.specs.ExprCode.{let_trees_code};
+    ghost use Rattle.isle_syntax.specs.Trees.Equality.{same_coded-equiv};
+    ghost use Rattle.isle_syntax.specs.Trees.ExprCode.{let_trees_code};
 
     ghost laws = { same_coded-equiv let_trees_code };
 }
 
 /// Whether two kept items are the same, positions included.
 #[cycle(same_item)]
-#[tactic(auto, using(crate::proofs::ItemSizes::most_item_size))]
+#[tactic(auto, using(crate::proofs::Trees::ItemSizes::most_item_size))]
 fn is_same_item(a: &KeptItem, b: &KeptItem) -> bool
     ensures { IsTrue result ↔ (item_of a.now ≡ item_of b.now) }
 {
@@ -412,7 +412,7 @@ fn is_same_item(a: &KeptItem, b: &KeptItem) -> bool
 }
 
 #[cycle(same_item)]
-#[tactic(auto, using(crate::proofs::ItemSizes::most_item_size, crate::proofs::TreeShapes::items_differ_at, crate::proofs::TreeShapes::items_same_length))]
+#[tactic(auto, using(crate::proofs::Trees::ItemSizes::most_item_size, crate::proofs::Trees::TreeShapes::items_differ_at, crate::proofs::Trees::TreeShapes::items_same_length))]
 fn are_same_items(a: &[KeptItem], b: &[KeptItem]) -> bool
     ensures { IsTrue result ↔ (items_of a.now ≡ items_of b.now) }
 {
@@ -429,7 +429,7 @@ fn are_same_items(a: &[KeptItem], b: &[KeptItem]) -> bool
 
 impl PartialEq for KeptItem {
     ghost use Rattle.std.specs.Cmp.{partial_equiv_from_equiv};
-    ghost use Rattle.isle_syntax.specs.Equality.{same_item, same_item-equiv};
+    ghost use Rattle.isle_syntax.specs.Trees.Equality.{same_item, same_item-equiv};
 
     ghost eq = { same_item };
 
@@ -441,15 +441,15 @@ impl PartialEq for KeptItem {
 }
 
 impl Eq for KeptItem {
-    ghost use Rattle.isle_syntax.specs.Equality.{same_item-equiv};
+    ghost use Rattle.isle_syntax.specs.Trees.Equality.{same_item-equiv};
 
     ghost laws = { same_item-equiv };
 }
 
 impl PartialEq for KeptItems {
     ghost use Rattle.std.specs.Cmp.{partial_equiv_from_equiv};
-    ghost use Rattle.isle_syntax.specs.Equality.{same_coded, same_coded-equiv};
-    ghost use Rattle.isle_syntax.specs.ItemCode.{item_trees_code};
+    ghost use Rattle.isle_syntax.specs.Trees.Equality.{same_coded, same_coded-equiv};
+    ghost use Rattle.isle_syntax.specs.Trees.ItemCode.{item_trees_code};
 
     ghost eq = { same_coded item_trees_code };
 
@@ -461,8 +461,8 @@ impl PartialEq for KeptItems {
 }
 
 impl Eq for KeptItems {
-    ghost use Rattle.isle_syntax.specs.Equality.{same_coded-equiv};
-    ghost use Rattle.isle_syntax.specs.ItemCode.{item_trees_code};
+    ghost use Rattle.isle_syntax.specs.Trees.Equality.{same_coded-equiv};
+    ghost use Rattle.isle_syntax.specs.Trees.ItemCode.{item_trees_code};
 
     ghost laws = { same_coded-equiv item_trees_code };
 }
@@ -489,7 +489,7 @@ impl<T: Eq> Eq for Seq<T> {
 }
 
 impl Def {
-    ghost use Rattle.isle_syntax.specs.Definitions.{same_def};
+    ghost use Rattle.isle_syntax.specs.Trees.DefEquality.{same_def};
 
     /// Whether two definitions are the same, positions included.
     fn is_same(&self, other: &Def) -> bool
@@ -511,7 +511,7 @@ impl Def {
 
 impl PartialEq for Def {
     ghost use Rattle.std.specs.Cmp.{partial_equiv_from_equiv};
-    ghost use Rattle.isle_syntax.specs.Definitions.{same_def, same_def-equiv};
+    ghost use Rattle.isle_syntax.specs.Trees.DefEquality.{same_def, same_def-equiv};
 
     ghost eq = { same_def };
 
@@ -526,7 +526,7 @@ impl PartialEq for Def {
 }
 
 impl Eq for Def {
-    ghost use Rattle.isle_syntax.specs.Definitions.{same_def-equiv};
+    ghost use Rattle.isle_syntax.specs.Trees.DefEquality.{same_def-equiv};
 
     ghost laws = { same_def-equiv };
 }

@@ -1,9 +1,9 @@
 ghost use Rattle.std.specs.Prelude.{◌≡◌, false, [], map, slice_get, IfOk};
 ghost use Rattle.std.specs.Option.{option_map};
-ghost use Rattle.isle_syntax.specs.PatternShape.{pattern_of, patterns_of};
-ghost use Rattle.isle_syntax.specs.Subject.{names_bound};
-ghost use Rattle.isle_syntax.specs.Trees.{has_macro_arg, has_macro_args};
-ghost use Rattle.isle_syntax.specs.Macros.{first_place, is_wildcard, argument_for, template_tree, template_trees, filled, all_filled};
+ghost use Rattle.isle_syntax.specs.Trees.PatternShape.{pattern_of, patterns_of};
+ghost use Rattle.isle_syntax.specs.Trees.Innermost.{names_bound};
+ghost use Rattle.isle_syntax.specs.Trees.TreeCalls.{has_macro_arg, has_macro_args};
+ghost use Rattle.isle_syntax.specs.Trees.Templates.{position_of_name, is_wildcard, argument_for, template_tree, template_trees, filled, all_filled};
 
 use crate::ast::wrap::wrap;
 use crate::ast::{Ident, Pattern, Patterns};
@@ -12,7 +12,7 @@ use std::alloc::{AllocError, Global};
 
 /// The first place at which a name's text stands among names.
 fn place_of(names: &[Ident], name: &Ident) -> Option<usize>
-    ensures { result ≡ first_place names.now name.now.0 }
+    ensures { result ≡ position_of_name names.now name.now.0 }
 {
     for i in 0..names.len() {
         if names[i].0 == name.0 {
@@ -45,7 +45,7 @@ impl Pattern {
     /// The argument of a template in the place of this variable or binding, where its name is listed.
     fn argument(&self, name: &Ident, pos: Pos, macro_args: &[Ident]) -> Result<Pattern, AllocError>
         ensures { IfOk result (λ made. pattern_of made
-            ≡ argument_for (first_place macro_args.now name.now.0) pos (pattern_of self.now)) }
+            ≡ argument_for (position_of_name macro_args.now name.now.0) pos (pattern_of self.now)) }
     {
         match place_of(macro_args, name) {
             Some(index) => Ok(Pattern::MacroArg { index, pos }),
@@ -73,13 +73,13 @@ impl Pattern {
             names.push((var.clone()?, *pos))?;
             at = subpat.get();
         }
-        wrap(alloc, names, at.make_subject_template(alloc, macro_args)?)
+        wrap(alloc, names, at.make_innermost_template(alloc, macro_args)?)
     }
 
     /// The template of a pattern that is no binding.
     #[cycle(template)]
-    #[tactic(auto, using(crate::proofs::PatternSizes::most_pattern_size))]
-    fn make_subject_template(
+    #[tactic(auto, using(crate::proofs::Trees::PatternSizes::most_pattern_size))]
+    fn make_innermost_template(
         &self,
         alloc: Global,
         macro_args: &[Ident],
@@ -114,7 +114,7 @@ impl Pattern {
 
     /// This template with the patterns for its arguments, or `None` where an argument's pattern is missing.
     #[cycle(substitution)]
-    #[tactic(auto, using(crate::proofs::Subjects::subject_size, crate::proofs::Subjects::subject_alone))]
+    #[tactic(auto, using(crate::proofs::Trees::Innermost::innermost_size, crate::proofs::Trees::Innermost::innermost_alone))]
     pub fn subst_macro_args(
         &self,
         alloc: Global,
@@ -123,7 +123,7 @@ impl Pattern {
         ensures { IfOk result (λ made. option_map pattern_of made
             ≡ filled (map pattern_of macro_args.now) (pattern_of self.now)) }
     {
-        let Some(made) = self.subject().subst_subject(alloc, macro_args)? else {
+        let Some(made) = self.innermost().subst_innermost(alloc, macro_args)? else {
             return Ok(None);
         };
         let names = self.names_bound(alloc)?;
@@ -132,8 +132,8 @@ impl Pattern {
 
     /// This template, which is no binding, with the patterns for its arguments.
     #[cycle(substitution)]
-    #[tactic(auto, using(crate::proofs::PatternSizes::most_pattern_size))]
-    fn subst_subject(
+    #[tactic(auto, using(crate::proofs::Trees::PatternSizes::most_pattern_size))]
+    fn subst_innermost(
         &self,
         alloc: Global,
         macro_args: &[Pattern],
@@ -174,7 +174,7 @@ impl Pattern {
 }
 
 #[cycle(template)]
-#[tactic(auto, using(crate::proofs::PatternSizes::most_pattern_size, crate::proofs::Macros::macro_free_head, crate::proofs::Macros::macro_free_rest))]
+#[tactic(auto, using(crate::proofs::Trees::PatternSizes::most_pattern_size, crate::proofs::Trees::Templates::macro_free_head, crate::proofs::Trees::Templates::macro_free_rest))]
 fn make_macro_templates(
     alloc: Global,
     patterns: &[Pattern],
@@ -191,7 +191,7 @@ fn make_macro_templates(
 }
 
 #[cycle(substitution)]
-#[tactic(auto, using(crate::proofs::PatternSizes::most_pattern_size))]
+#[tactic(auto, using(crate::proofs::Trees::PatternSizes::most_pattern_size))]
 fn subst_all(
     alloc: Global,
     patterns: &[Pattern],

@@ -1,8 +1,8 @@
 ghost use Rattle.std.specs.Prelude.{◌≡◌, length, min};
 ghost use Rattle.std.specs.List.{FoldsTo};
-ghost use Rattle.isle_syntax.specs.PatternShape.{pattern_of, patterns_of};
-ghost use Rattle.isle_syntax.specs.ExprShape.{expr_of, exprs_of, lets_of};
-ghost use Rattle.isle_syntax.specs.Terms.{pattern_terms, patterns_terms, expr_terms, exprs_terms, lets_terms, CalledAtTerm};
+ghost use Rattle.isle_syntax.specs.Trees.PatternShape.{pattern_of, patterns_of};
+ghost use Rattle.isle_syntax.specs.Trees.ExprShape.{expr_of, exprs_of, lets_of};
+ghost use Rattle.isle_syntax.specs.Trees.Terms.{pattern_terms, patterns_terms, expr_terms, exprs_terms, lets_terms, CalledAtTerm};
 
 use crate::ast::{Expr, Ident, LetDef, Pattern};
 use crate::lexer::Pos;
@@ -38,13 +38,13 @@ fn hand_term<F: FnMut(Pos, &Ident)>(pos: Pos, sym: &Ident, f: &mut F)
 
 /// Hands each term of a pattern to `f`.
 #[cycle(pattern_terms)]
-#[tactic(auto, using(crate::proofs::Subjects::subject_terms, crate::proofs::Subjects::subject_is_no_binding))]
+#[tactic(auto, using(crate::proofs::Trees::Innermost::innermost_terms, crate::proofs::Trees::Innermost::innermost_is_no_binding))]
 fn hand_pattern<F: FnMut(Pos, &Ident)>(pattern: &Pattern, f: &mut F)
     requires { F.IsAlwaysCallable f.old }
     ensures callable { F.IsAlwaysCallable f.new }
     ensures called { FoldsTo (CalledAtTerm F.FnMut) f.old (pattern_terms (pattern_of pattern.now)) f.new }
 {
-    match pattern.subject() {
+    match pattern.innermost() {
         Pattern::Term { sym, args, pos } => {
             hand_term(*pos, sym, f);
             hand_patterns(args.as_slice(), f);
@@ -61,7 +61,7 @@ fn hand_pattern<F: FnMut(Pos, &Ident)>(pattern: &Pattern, f: &mut F)
 }
 
 #[cycle(pattern_terms)]
-#[tactic(auto, using(crate::proofs::PatternSizes::most_pattern_size))]
+#[tactic(auto, using(crate::proofs::Trees::PatternSizes::most_pattern_size))]
 fn hand_patterns<F: FnMut(Pos, &Ident)>(patterns: &[Pattern], f: &mut F)
     requires { F.IsAlwaysCallable f.old }
     ensures callable { F.IsAlwaysCallable f.new }
@@ -95,7 +95,7 @@ impl Expr {
 
 /// Hands each term of an expression to `f`.
 #[cycle(expr_terms)]
-#[tactic(auto, using(crate::proofs::ExprSizes::most_expr_size, crate::proofs::ExprSizes::most_let_size))]
+#[tactic(auto, using(crate::proofs::Trees::ExprSizes::most_expr_size, crate::proofs::Trees::ExprSizes::most_let_size))]
 fn hand_expr<F: FnMut(Pos, &Ident)>(expr: &Expr, f: &mut F)
     requires { F.IsAlwaysCallable f.old }
     ensures callable { F.IsAlwaysCallable f.new }
@@ -118,7 +118,7 @@ fn hand_expr<F: FnMut(Pos, &Ident)>(expr: &Expr, f: &mut F)
 }
 
 #[cycle(expr_terms)]
-#[tactic(auto, using(crate::proofs::ExprSizes::most_expr_size, crate::proofs::ExprSizes::most_let_size))]
+#[tactic(auto, using(crate::proofs::Trees::ExprSizes::most_expr_size, crate::proofs::Trees::ExprSizes::most_let_size))]
 fn hand_exprs<F: FnMut(Pos, &Ident)>(exprs: &[Expr], f: &mut F)
     requires { F.IsAlwaysCallable f.old }
     ensures callable { F.IsAlwaysCallable f.new }
@@ -130,7 +130,7 @@ fn hand_exprs<F: FnMut(Pos, &Ident)>(exprs: &[Expr], f: &mut F)
 }
 
 #[cycle(expr_terms)]
-#[tactic(auto, using(crate::proofs::ExprSizes::most_expr_size, crate::proofs::ExprSizes::most_let_size))]
+#[tactic(auto, using(crate::proofs::Trees::ExprSizes::most_expr_size, crate::proofs::Trees::ExprSizes::most_let_size))]
 fn hand_lets<F: FnMut(Pos, &Ident)>(defs: &[LetDef], f: &mut F)
     requires { F.IsAlwaysCallable f.old }
     ensures callable { F.IsAlwaysCallable f.new }

@@ -1,6 +1,6 @@
 ghost use Rattle.std.specs.Prelude.{◌≡◌, IfOk};
-ghost use Rattle.isle_syntax.specs.PatternShape.{pattern_of};
-ghost use Rattle.isle_syntax.specs.Chain.{bound};
+ghost use Rattle.isle_syntax.specs.Trees.PatternShape.{pattern_of};
+ghost use Rattle.isle_syntax.specs.Trees.Chain.{bound};
 
 use crate::ast::{BoxedPattern, Ident, Pattern};
 use crate::lexer::Pos;

@@ -1,7 +1,7 @@
 //! The text of one error.
 ghost use Rattle.std.specs.Prelude.{All};
 ghost use Rattle.std.specs.Fmt.{WritesOnOk};
-ghost use Rattle.isle_syntax.specs.Errors.{HasPlace, IsPrintable, place_text, heading, fault_text, rules_text, error_text};
+ghost use Rattle.isle_syntax.specs.Errors.{IsPrintableSpan, IsPrintable, place_text, heading, fault_text, rules_text, error_text};
 
 use crate::error::{Error, Span};
 use crate::files::Files;
@@ -39,7 +39,7 @@ fn write_fault<W: fmt::Write>(
     kind: &str,
     msg: &Text,
 ) -> fmt::Result
-    requires { HasPlace files.now span.now }
+    requires { IsPrintableSpan files.now span.now }
     ensures { WritesOnOk W.write_str_gives f.old result
         (fault_text files.now span.now kind.now msg.now) f.new }
 {
@@ -56,8 +56,8 @@ fn write_rules<W: fmt::Write>(
     kind: &str,
     others: &[Span],
 ) -> fmt::Result
-    requires here { HasPlace files.now span.now }
-    requires there { All (HasPlace files.now) others.now }
+    requires here { IsPrintableSpan files.now span.now }
+    requires there { All (IsPrintableSpan files.now) others.now }
     ensures { WritesOnOk W.write_str_gives f.old result
         (rules_text files.now span.now kind.now others.now) f.new }
 {
@@ -77,7 +77,7 @@ fn write_heading<W: fmt::Write>(
     span: &Span,
     kind: &str,
 ) -> fmt::Result
-    requires { HasPlace files.now span.now }
+    requires { IsPrintableSpan files.now span.now }
     ensures { WritesOnOk W.write_str_gives f.old result
         (heading files.now span.now kind.now) f.new }
 {
@@ -87,7 +87,7 @@ fn write_heading<W: fmt::Write>(
 
 // `FILE:LINE:COLUMN` of the start of a span.
 fn write_place<W: fmt::Write>(f: &mut Formatter<W>, files: &Files, span: &Span) -> fmt::Result
-    requires { HasPlace files.now span.now }
+    requires { IsPrintableSpan files.now span.now }
     ensures { WritesOnOk W.write_str_gives f.old result (place_text files.now span.now) f.new }
 {
     let file = files.file(span.from.file).unwrap();

@@ -1,8 +1,8 @@
 ghost use Rattle.std.specs.Prelude.{◌≡◌, map};
-ghost use Rattle.isle_syntax.specs.ItemShape.{item_of};
-ghost use Rattle.isle_syntax.specs.Parsing.{Gives};
-ghost use Rattle.isle_syntax.specs.Readers.{rest_of};
-ghost use Rattle.isle_syntax.specs.TreeReading.{item, item_list_reader};
+ghost use Rattle.isle_syntax.specs.Trees.ItemShape.{item_of};
+ghost use Rattle.isle_syntax.specs.Reading.Parsing.{Gives};
+ghost use Rattle.isle_syntax.specs.Reading.Readers.{rest_of};
+ghost use Rattle.isle_syntax.specs.Reading.TreeReading.{item, item_list_reader};
 
 use crate::Refusal;
 use crate::ast::{KeptItem, KeptItems};
@@ -13,11 +13,11 @@ use crate::parser::Parser;
 impl<'src> Parser<'src> {
     /// An item of a kept definition.
     #[cycle(item)]
-    fn parse_item(&mut self, room: usize) -> Result<KeptItem, Refusal<Error>>
-        ensures { Gives item_of self.old self.new result (item room self.old.left) }
+    fn parse_item(&mut self, depth_left: usize) -> Result<KeptItem, Refusal<Error>>
+        ensures { Gives item_of self.old self.new result (item depth_left self.old.left) }
     {
         match self.kind()? {
-            Kind::Open => self.parse_item_list(room),
+            Kind::Open => self.parse_item_list(depth_left),
             Kind::Close => Err(self.unexpected("expected an item")),
             Kind::End => Err(self.unexpected("expected an item")),
             Kind::At => Ok(KeptItem::At {
@@ -32,11 +32,11 @@ impl<'src> Parser<'src> {
     }
 
     #[cycle(item)]
-    fn parse_item_list(&mut self, room: usize) -> Result<KeptItem, Refusal<Error>>
-        ensures { Gives item_of self.old self.new result (item_list_reader room self.old.left) }
+    fn parse_item_list(&mut self, depth_left: usize) -> Result<KeptItem, Refusal<Error>>
+        ensures { Gives item_of self.old self.new result (item_list_reader depth_left self.old.left) }
     {
-        let pos = self.open(room)?;
-        let items = self.parse_items(room - 1)?;
+        let pos = self.open(depth_left)?;
+        let items = self.parse_items(depth_left - 1)?;
         Ok(KeptItem::List {
             items: KeptItems::new(items),
             pos,
@@ -45,12 +45,12 @@ impl<'src> Parser<'src> {
 
     /// The items up to the closing parenthesis.
     #[cycle(item)]
-    pub(crate) fn parse_items(&mut self, room: usize) -> Result<Vec<KeptItem>, Refusal<Error>>
-        ensures { Gives (λ v. map item_of v.items) self.old self.new result (rest_of (item room) self.old.left) }
+    pub(crate) fn parse_items(&mut self, depth_left: usize) -> Result<Vec<KeptItem>, Refusal<Error>>
+        ensures { Gives (λ v. map item_of v.items) self.old self.new result (rest_of (item depth_left) self.old.left) }
     {
         let mut items = Vec::new(self.allocator());
         'items: while !self.take_close()? {
-            items.push(self.parse_item(room)?)?;
+            items.push(self.parse_item(depth_left)?)?;
         }
         Ok(items)
     }

@@ -1,13 +1,13 @@
 ghost use Rattle.std.specs.Prelude.{◌≡◌, map, IfOk, IfErr};
-ghost use Rattle.isle_syntax.specs.Spelt.{names};
-ghost use Rattle.isle_syntax.specs.Grammar.{bits_of, is_large};
-ghost use Rattle.isle_syntax.specs.PatternTree.{pattern_var, pattern_bool, pattern_int, pattern_prim, pattern_wildcard};
-ghost use Rattle.isle_syntax.specs.KindReading.{unbound};
-ghost use Rattle.isle_syntax.specs.PatternShape.{pattern_of};
-ghost use Rattle.isle_syntax.specs.Parsing.{Gives, NoToken, IsKnown};
-ghost use Rattle.isle_syntax.specs.Readers.{read_map, any_symbol, integer, symbol_of, rest_of};
-ghost use Rattle.isle_syntax.specs.TreeReading.{is_head, pattern, pattern_list};
-ghost use Rattle.isle_syntax.specs.DefReading.{constant};
+ghost use Rattle.isle_syntax.specs.Grammar.Phrases.{next_symbol_is};
+ghost use Rattle.isle_syntax.specs.Grammar.TreeGrammar.{bits_of, is_large};
+ghost use Rattle.isle_syntax.specs.Trees.PatternTree.{pattern_var, pattern_bool, pattern_int, pattern_prim, pattern_wildcard};
+ghost use Rattle.isle_syntax.specs.Reading.KindReading.{unbound};
+ghost use Rattle.isle_syntax.specs.Trees.PatternShape.{pattern_of};
+ghost use Rattle.isle_syntax.specs.Reading.Parsing.{Gives, NoToken, IsKnown};
+ghost use Rattle.isle_syntax.specs.Reading.Readers.{read_map, any_symbol, integer, symbol_of, rest_of};
+ghost use Rattle.isle_syntax.specs.Reading.TreeReading.{is_head, pattern, pattern_list};
+ghost use Rattle.isle_syntax.specs.Reading.DefReading.{constant};
 
 use crate::Refusal;
 use crate::ast::wrap::wrap;
@@ -19,32 +19,32 @@ use crate::parser::Parser;
 use crate::symbol::is_ident;
 
 impl<'src> Parser<'src> {
-    /// A pattern, behind the names that it is bound to.
+    /// A pattern, behind the next_symbol_is that it is bound to.
     #[cycle(pattern)]
-    pub(crate) fn parse_pattern(&mut self, room: usize) -> Result<Pattern, Refusal<Error>>
-        ensures { Gives pattern_of self.old self.new result (pattern room self.old.left) }
+    pub(crate) fn parse_pattern(&mut self, depth_left: usize) -> Result<Pattern, Refusal<Error>>
+        ensures { Gives pattern_of self.old self.new result (pattern depth_left self.old.left) }
     {
-        let mut names = Vec::new(self.allocator());
+        let mut next_symbol_is = Vec::new(self.allocator());
         'names: loop {
-            match self.parse_unbound(room)? {
+            match self.parse_unbound(depth_left)? {
                 Pattern::Var { var, pos } => {
                     if !self.take_at()? {
-                        return Ok(wrap(self.allocator(), names, Pattern::Var { var, pos })?);
+                        return Ok(wrap(self.allocator(), next_symbol_is, Pattern::Var { var, pos })?);
                     }
-                    names.push((var, pos))?;
+                    next_symbol_is.push((var, pos))?;
                 }
-                inner => return Ok(wrap(self.allocator(), names, inner)?),
+                inner => return Ok(wrap(self.allocator(), next_symbol_is, inner)?),
             }
         }
     }
 
     /// A pattern that is bound to no name. A name is a variable.
     #[cycle(pattern)]
-    fn parse_unbound(&mut self, room: usize) -> Result<Pattern, Refusal<Error>>
-        ensures { Gives pattern_of self.old self.new result (unbound room self.old.left) }
+    fn parse_unbound(&mut self, depth_left: usize) -> Result<Pattern, Refusal<Error>>
+        ensures { Gives pattern_of self.old self.new result (unbound depth_left self.old.left) }
     {
         match self.kind()? {
-            Kind::Open => self.parse_pattern_list(room),
+            Kind::Open => self.parse_pattern_list(depth_left),
             Kind::Int => self.parse_pattern_int(),
             Kind::True => self.parse_pattern_bool(true),
             Kind::False => self.parse_pattern_bool(false),
@@ -104,12 +104,12 @@ impl<'src> Parser<'src> {
 
     /// A term or `and`, with its patterns.
     #[cycle(pattern)]
-    pub(crate) fn parse_pattern_list(&mut self, room: usize) -> Result<Pattern, Refusal<Error>>
-        ensures { Gives pattern_of self.old self.new result (pattern_list room self.old.left) }
+    pub(crate) fn parse_pattern_list(&mut self, depth_left: usize) -> Result<Pattern, Refusal<Error>>
+        ensures { Gives pattern_of self.old self.new result (pattern_list depth_left self.old.left) }
     {
-        let pos = self.open(room)?;
+        let pos = self.open(depth_left)?;
         let sym = self.head()?;
-        let args = self.parse_patterns(room - 1)?;
+        let args = self.parse_patterns(depth_left - 1)?;
         let args = Patterns::new(args);
         if sym.0.as_str() == "and" {
             Ok(Pattern::And { subpats: args, pos })
@@ -120,12 +120,12 @@ impl<'src> Parser<'src> {
 
     /// The patterns up to the closing parenthesis.
     #[cycle(pattern)]
-    fn parse_patterns(&mut self, room: usize) -> Result<Vec<Pattern>, Refusal<Error>>
-        ensures { Gives (λ v. map pattern_of v.items) self.old self.new result (rest_of (pattern room) self.old.left) }
+    fn parse_patterns(&mut self, depth_left: usize) -> Result<Vec<Pattern>, Refusal<Error>>
+        ensures { Gives (λ v. map pattern_of v.items) self.old self.new result (rest_of (pattern depth_left) self.old.left) }
     {
         let mut patterns = Vec::new(self.allocator());
         'all: while !self.take_close()? {
-            patterns.push(self.parse_pattern(room)?)?;
+            patterns.push(self.parse_pattern(depth_left)?)?;
         }
         Ok(patterns)
     }
@@ -142,7 +142,7 @@ impl<'src> Parser<'src> {
 
     /// Whether the word `and` or an identifier stands next; a refusal where what stands next is no token.
     fn is_head(&mut self) -> Result<bool, Refusal<Error>>
-        ensures head { IfOk result (λ same. same ≡ names is_head self.old.left) }
+        ensures head { IfOk result (λ same. same ≡ next_symbol_is is_head self.old.left) }
         ensures known { IfOk result (λ same. IsKnown self.old self.new) }
         ensures no_token { IfErr result (NoToken self.old self.new) }
     {

@@ -1,12 +1,12 @@
 ghost use Rattle.std.specs.Prelude.{◌≡◌, IfOk, IfErr, Some, None, cond};
-ghost use Rattle.isle_syntax.specs.ExprShape.{expr_of};
-ghost use Rattle.isle_syntax.specs.Grammar.{bits_of};
-ghost use Rattle.isle_syntax.specs.KindOf.{literal_of};
-ghost use Rattle.isle_syntax.specs.Parsing.{Gives, NoToken, IsKnown, TakesName, TakesPriority};
-ghost use Rattle.isle_syntax.specs.Readers.{read_map, seq, closed};
-ghost use Rattle.isle_syntax.specs.TreeReading.{expr, expr_inner, inner_expr};
-ghost use Rattle.isle_syntax.specs.PatternTree.{pattern_wildcard};
-ghost use Rattle.isle_syntax.specs.DefReading.{clause, if_let_read, if_read, is_open_next, is_priority, is_priority_next, rule, rule_body};
+ghost use Rattle.isle_syntax.specs.Trees.ExprShape.{expr_of};
+ghost use Rattle.isle_syntax.specs.Grammar.TreeGrammar.{bits_of};
+ghost use Rattle.isle_syntax.specs.Reading.KindOf.{literal_of};
+ghost use Rattle.isle_syntax.specs.Reading.Parsing.{Gives, NoToken, IsKnown, TakesName, TakesPriority};
+ghost use Rattle.isle_syntax.specs.Reading.Readers.{read_map, seq, closed};
+ghost use Rattle.isle_syntax.specs.Reading.TreeReading.{expr, expr_inner, inner_expr};
+ghost use Rattle.isle_syntax.specs.Trees.PatternTree.{pattern_wildcard};
+ghost use Rattle.isle_syntax.specs.Reading.DefReading.{clause, if_let_read, if_read, is_open_next, is_priority, is_priority_next, rule, rule_body};
 
 use crate::Refusal;
 use crate::ast::{Expr, Ident, IfLet, Pattern, Rule};
@@ -83,75 +83,75 @@ impl<'src> Parser<'src> {
     }
 
     /// A clause `if-let` whose parenthesis at `pos` is open.
-    fn parse_iflet(&mut self, pos: Pos, room: usize) -> Result<IfLet, Refusal<Error>>
-        ensures { Gives (λ x. x) self.old self.new result (read_map (λ x. clause x.1.0 x.1.1.0 pos) (if_let_read room self.old.left)) }
+    fn parse_iflet(&mut self, pos: Pos, depth_left: usize) -> Result<IfLet, Refusal<Error>>
+        ensures { Gives (λ x. x) self.old self.new result (read_map (λ x. clause x.1.0 x.1.1.0 pos) (if_let_read depth_left self.old.left)) }
     {
         self.says("if-let")?;
-        let pattern = self.parse_pattern(room)?;
-        let expr = self.parse_expr(room)?;
+        let pattern = self.parse_pattern(depth_left)?;
+        let expr = self.parse_expr(depth_left)?;
         self.close()?;
         Ok(IfLet { pattern, expr, pos })
     }
 
     /// A clause `if` whose parenthesis at `pos` is open: its pattern is a wildcard where the word stands.
-    fn parse_if(&mut self, pos: Pos, room: usize) -> Result<IfLet, Refusal<Error>>
-        ensures { Gives (λ x. x) self.old self.new result (read_map (λ x. clause (pattern_wildcard x.0) x.1.0 pos) (if_read room self.old.left)) }
+    fn parse_if(&mut self, pos: Pos, depth_left: usize) -> Result<IfLet, Refusal<Error>>
+        ensures { Gives (λ x. x) self.old self.new result (read_map (λ x. clause (pattern_wildcard x.0) x.1.0 pos) (if_read depth_left self.old.left)) }
     {
         let word = self.word("if")?;
-        let expr = self.parse_expr(room)?;
+        let expr = self.parse_expr(depth_left)?;
         self.close()?;
         let pattern = Pattern::Wildcard { pos: word };
         Ok(IfLet { pattern, expr, pos })
     }
 
     /// A right side, and the closing parenthesis of the rule.
-    fn parse_right_side(&mut self, room: usize) -> Result<Expr, Refusal<Error>>
-        ensures { Gives expr_of self.old self.new result (read_map (λ x. x.0) (seq (expr room) closed self.old.left)) }
+    fn parse_right_side(&mut self, depth_left: usize) -> Result<Expr, Refusal<Error>>
+        ensures { Gives expr_of self.old self.new result (read_map (λ x. x.0) (seq (expr depth_left) closed self.old.left)) }
     {
-        let expr = self.parse_expr(room)?;
+        let expr = self.parse_expr(depth_left)?;
         self.close()?;
         Ok(expr)
     }
 
     /// A right side whose parenthesis at `pos` is open, and the closing parenthesis of the rule.
-    fn parse_right_side_inner(&mut self, pos: Pos, room: usize) -> Result<Expr, Refusal<Error>>
-        ensures { Gives expr_of self.old self.new result (read_map (λ x. inner_expr pos x.0) (seq (expr_inner room) closed self.old.left)) }
+    fn parse_right_side_inner(&mut self, pos: Pos, depth_left: usize) -> Result<Expr, Refusal<Error>>
+        ensures { Gives expr_of self.old self.new result (read_map (λ x. inner_expr pos x.0) (seq (expr_inner depth_left) closed self.old.left)) }
     {
-        let expr = self.parse_expr_inner(pos, room)?;
+        let expr = self.parse_expr_inner(pos, depth_left)?;
         self.close()?;
         Ok(expr)
     }
 
     /// The clauses of a rule and its right side, with the closing parenthesis of the rule.
-    fn parse_body(&mut self, room: usize) -> Result<(Vec<IfLet>, Expr), Refusal<Error>>
-        ensures { Gives (λ x. (x.0.items, expr_of x.1)) self.old self.new result (rule_body room self.old.left) }
+    fn parse_body(&mut self, depth_left: usize) -> Result<(Vec<IfLet>, Expr), Refusal<Error>>
+        ensures { Gives (λ x. (x.0.items, expr_of x.1)) self.old self.new result (rule_body depth_left self.old.left) }
     {
         let mut iflets = Vec::new(self.allocator());
         'clauses: loop {
             if !self.is_open()? {
-                return Ok((iflets, self.parse_right_side(room)?));
+                return Ok((iflets, self.parse_right_side(depth_left)?));
             }
-            let pos = self.open(room)?;
+            let pos = self.open(depth_left)?;
             if self.is_word("if-let")? {
-                iflets.push(self.parse_iflet(pos, room - 1)?)?;
+                iflets.push(self.parse_iflet(pos, depth_left - 1)?)?;
                 continue;
             }
             if !self.is_word("if")? {
-                return Ok((iflets, self.parse_right_side_inner(pos, room - 1)?));
+                return Ok((iflets, self.parse_right_side_inner(pos, depth_left - 1)?));
             }
-            iflets.push(self.parse_if(pos, room - 1)?)?;
+            iflets.push(self.parse_if(pos, depth_left - 1)?)?;
         }
     }
 
     /// What follows the word `rule`.
-    pub(crate) fn parse_rule(&mut self, room: usize) -> Result<Rule, Refusal<Error>>
-        ensures { Gives (λ x. x) self.old self.new result (rule room self.old.left) }
+    pub(crate) fn parse_rule(&mut self, depth_left: usize) -> Result<Rule, Refusal<Error>>
+        ensures { Gives (λ x. x) self.old self.new result (rule depth_left self.old.left) }
     {
         let pos = self.pos();
         let name = self.take_name()?;
         let prio = self.take_priority()?;
-        let pattern = self.parse_pattern_list(room)?;
-        let (iflets, expr) = self.parse_body(room)?;
+        let pattern = self.parse_pattern_list(depth_left)?;
+        let (iflets, expr) = self.parse_body(depth_left)?;
         Ok(Rule {
             pattern,
             iflets: Seq::new(iflets),

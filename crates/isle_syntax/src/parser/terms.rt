@@ -1,10 +1,10 @@
 ghost use Rattle.std.specs.Prelude.{◌≡◌, IfOk, IfErr};
 ghost use Rattle.isle_syntax.specs.declared.kind.Keyword.TheVariants as keyword;
-ghost use Rattle.isle_syntax.specs.Spelt.{names};
-ghost use Rattle.isle_syntax.specs.Parsing.{Gives, NoToken, IsKnown};
-ghost use Rattle.isle_syntax.specs.Readers.{read_map, symbol_of};
-ghost use Rattle.isle_syntax.specs.DefGrammar.{is_kept_word};
-ghost use Rattle.isle_syntax.specs.DefReading.{signature, signature_parts, decl, extractor, extern_def, extern_on, converter, kept};
+ghost use Rattle.isle_syntax.specs.Grammar.Phrases.{next_symbol_is};
+ghost use Rattle.isle_syntax.specs.Reading.Parsing.{Gives, NoToken, IsKnown};
+ghost use Rattle.isle_syntax.specs.Reading.Readers.{read_map, symbol_of};
+ghost use Rattle.isle_syntax.specs.Grammar.DefGrammar.{is_kept_word};
+ghost use Rattle.isle_syntax.specs.Reading.DefReading.{signature, signature_parts, decl, extractor, extern_def, extern_on, converter, kept};
 
 use crate::Refusal;
 use crate::ast::{Converter, Decl, Extern, Extractor, Ident, Kept, KeptItems};
@@ -16,15 +16,15 @@ use crate::text::Seq;
 
 impl<'src> Parser<'src> {
     /// What follows the word `decl`.
-    pub(crate) fn parse_decl(&mut self, room: usize) -> Result<Decl, Refusal<Error>>
-        ensures { Gives (λ x. x) self.old self.new result (decl room self.old.left) }
+    pub(crate) fn parse_decl(&mut self, depth_left: usize) -> Result<Decl, Refusal<Error>>
+        ensures { Gives (λ x. x) self.old self.new result (decl depth_left self.old.left) }
     {
         let pos = self.pos();
         let pure = self.take_word("pure")?;
         let multi = self.take_word("multi")?;
         let partial = self.take_word("partial")?;
         let rec = self.take_word("rec")?;
-        let (term, arg_tys, ret_ty) = self.parse_signature(room)?;
+        let (term, arg_tys, ret_ty) = self.parse_signature(depth_left)?;
         Ok(Decl {
             term,
             arg_tys: Seq::new(arg_tys),
@@ -38,11 +38,11 @@ impl<'src> Parser<'src> {
     }
 
     /// A term's name, the types of its arguments and its own, and the closing parenthesis.
-    fn parse_signature(&mut self, room: usize) -> Result<(Ident, Vec<Ident>, Ident), Refusal<Error>>
-        ensures { Gives (λ x. (x.0, x.1.items, x.2)) self.old self.new result (read_map signature_parts (signature room self.old.left)) }
+    fn parse_signature(&mut self, depth_left: usize) -> Result<(Ident, Vec<Ident>, Ident), Refusal<Error>>
+        ensures { Gives (λ x. (x.0, x.1.items, x.2)) self.old self.new result (read_map signature_parts (signature depth_left self.old.left)) }
     {
         let term = self.ident()?;
-        let _pos = self.open(room)?;
+        let _pos = self.open(depth_left)?;
         let arg_tys = self.parse_idents()?;
         let ret_ty = self.ident()?;
         self.close()?;
@@ -50,13 +50,13 @@ impl<'src> Parser<'src> {
     }
 
     /// What follows the word `extractor`.
-    pub(crate) fn parse_etor(&mut self, room: usize) -> Result<Extractor, Refusal<Error>>
-        ensures { Gives (λ x. x) self.old self.new result (extractor room self.old.left) }
+    pub(crate) fn parse_etor(&mut self, depth_left: usize) -> Result<Extractor, Refusal<Error>>
+        ensures { Gives (λ x. x) self.old self.new result (extractor depth_left self.old.left) }
     {
-        let pos = self.open(room)?;
+        let pos = self.open(depth_left)?;
         let term = self.ident()?;
         let args = self.parse_idents()?;
-        let template = self.parse_pattern(room)?;
+        let template = self.parse_pattern(depth_left)?;
         self.close()?;
         Ok(Extractor {
             term,
@@ -132,12 +132,12 @@ impl<'src> Parser<'src> {
     }
 
     /// A definition that is kept as it is written, with its word.
-    pub(crate) fn parse_kept(&mut self, room: usize) -> Result<Kept, Refusal<Error>>
-        ensures { Gives (λ x. x) self.old self.new result (kept room self.old.left) }
+    pub(crate) fn parse_kept(&mut self, depth_left: usize) -> Result<Kept, Refusal<Error>>
+        ensures { Gives (λ x. x) self.old self.new result (kept depth_left self.old.left) }
     {
         let word = self.kept_word()?;
         let pos = self.pos();
-        let items = self.parse_items(room)?;
+        let items = self.parse_items(depth_left)?;
         Ok(Kept {
             word,
             items: KeptItems::new(items),
@@ -157,7 +157,7 @@ impl<'src> Parser<'src> {
 
     /// Whether the word of a kept definition stands next; a refusal where what stands next is no token.
     fn is_kept_word(&mut self) -> Result<bool, Refusal<Error>>
-        ensures word { IfOk result (λ same. same ≡ names is_kept_word self.old.left) }
+        ensures word { IfOk result (λ same. same ≡ next_symbol_is is_kept_word self.old.left) }
         ensures known { IfOk result (λ same. IsKnown self.old self.new) }
         ensures no_token { IfErr result (NoToken self.old self.new) }
     {

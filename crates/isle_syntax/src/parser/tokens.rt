@@ -1,13 +1,13 @@
 ghost use Rattle.std.specs.Prelude.{◌≡◌, ◌<◌, [], true, IfOk, IfErr, length};
-ghost use Rattle.isle_syntax.specs.Names.{is_word, is_ident, is_const};
-ghost use Rattle.isle_syntax.specs.LexerCalls.{GivesToken, IsUnread};
-ghost use Rattle.isle_syntax.specs.Spelt.{names};
-ghost use Rattle.isle_syntax.specs.Unread.{place_at};
-ghost use Rattle.isle_syntax.specs.KindOf.{kind_at, keyword_at, literal_of};
-ghost use Rattle.isle_syntax.specs.Parsing.{Gives, RefusesAt, NoToken, ForMemory, IsKnown, TakesOr, TakesWord, at_fault, at_deep};
-ghost use Rattle.isle_syntax.specs.Readers.{opened_within, closed, any_symbol, word, says, after_close, after_at, at_place, integer, is_int_next};
-ghost use Rattle.isle_syntax.specs.TreeReading.{after_dollar};
-ghost use Rattle.isle_syntax.specs.DefReading.{identifier, constant, is_symbol_next};
+ghost use Rattle.isle_syntax.specs.Tokens.Names.{is_word, is_ident, is_const};
+ghost use Rattle.isle_syntax.specs.Tokens.LexerCalls.{GivesToken, IsRemaining};
+ghost use Rattle.isle_syntax.specs.Grammar.Phrases.{next_symbol_is};
+ghost use Rattle.isle_syntax.specs.Tokens.RemainingTokens.{remaining_pos};
+ghost use Rattle.isle_syntax.specs.Reading.KindOf.{kind_at, keyword_at, literal_of};
+ghost use Rattle.isle_syntax.specs.Reading.Parsing.{Gives, RefusesAt, NoToken, ForMemory, IsKnown, TakesOr, TakesWord, at_fault, at_deep};
+ghost use Rattle.isle_syntax.specs.Reading.Readers.{opened_within, closed, any_symbol, word, says, after_close, after_at, at_pos, integer, is_int_next};
+ghost use Rattle.isle_syntax.specs.Reading.TreeReading.{after_dollar};
+ghost use Rattle.isle_syntax.specs.Reading.DefReading.{identifier, constant, is_symbol_next};
 
 use crate::Refusal;
 use crate::ast::Ident;
@@ -23,14 +23,14 @@ use std::alloc::{AllocError, Global};
 impl<'src> Parser<'src> {
     /// Where the next token begins, or the end.
     pub(crate) fn pos(&self) -> Pos
-        ensures { result ≡ place_at self.now }
+        ensures { result ≡ remaining_pos self.now }
     {
         self.lexer.pos()
     }
 
     /// The allocator that trees are made on.
     pub(crate) fn allocator(&self) -> Global
-        ensures { IsUnread self.now }
+        ensures { IsRemaining self.now }
     {
         self.lexer.allocator()
     }
@@ -87,7 +87,7 @@ impl<'src> Parser<'src> {
 
     /// Whether this word stands next; a refusal where what stands next is no token.
     pub(crate) fn is_word(&mut self, word: &str) -> Result<bool, Refusal<Error>>
-        ensures same_word { IfOk result (λ same. same ≡ names (is_word word.now) self.old.left) }
+        ensures same_word { IfOk result (λ same. same ≡ next_symbol_is (is_word word.now) self.old.left) }
         ensures known { IfOk result (λ same. IsKnown self.old self.new) }
         ensures no_token { IfErr result (NoToken self.old self.new) }
     {
@@ -110,12 +110,12 @@ impl<'src> Parser<'src> {
     }
 
     /// Takes an opening parenthesis, where `room` more may nest, and answers where it stands.
-    pub(crate) fn open(&mut self, room: usize) -> Result<Pos, Refusal<Error>>
-        ensures opened { Gives (λ p. p) self.old self.new result (opened_within room self.old.left) }
-        ensures some_room { IfOk result (λ p. 0 < room) }
+    pub(crate) fn open(&mut self, depth_left: usize) -> Result<Pos, Refusal<Error>>
+        ensures opened { Gives (λ p. p) self.old self.new result (opened_within depth_left self.old.left) }
+        ensures some_depth_left { IfOk result (λ p. 0 < depth_left) }
     {
         match self.kind()? {
-            Kind::Open if room == 0 => Err(self.too_deep()),
+            Kind::Open if depth_left == 0 => Err(self.too_deep()),
             Kind::Open => Ok(self.take()?.0),
             _ => Err(self.unexpected("expected `(`")),
         }
@@ -227,7 +227,7 @@ impl<'src> Parser<'src> {
 
     /// Whether an identifier stands next; a refusal where what stands next is no token.
     pub(crate) fn is_ident(&mut self) -> Result<bool, Refusal<Error>>
-        ensures ident { IfOk result (λ same. same ≡ names is_ident self.old.left) }
+        ensures ident { IfOk result (λ same. same ≡ next_symbol_is is_ident self.old.left) }
         ensures known { IfOk result (λ same. IsKnown self.old self.new) }
         ensures no_token { IfErr result (NoToken self.old self.new) }
     {
@@ -250,7 +250,7 @@ impl<'src> Parser<'src> {
 
     /// Takes an `@`, and answers where it stands.
     pub(crate) fn at_sign(&mut self) -> Result<Pos, Refusal<Error>>
-        ensures { Gives (λ p. p) self.old self.new result (at_place self.old.left) }
+        ensures { Gives (λ p. p) self.old self.new result (at_pos self.old.left) }
     {
         match self.kind()? {
             Kind::At => Ok(self.take()?.0),
@@ -306,7 +306,7 @@ impl<'src> Parser<'src> {
 
     /// Whether a constant stands next; a refusal where what stands next is no token.
     fn is_const(&mut self) -> Result<bool, Refusal<Error>>
-        ensures constant { IfOk result (λ same. same ≡ names is_const self.old.left) }
+        ensures constant { IfOk result (λ same. same ≡ next_symbol_is is_const self.old.left) }
         ensures known { IfOk result (λ same. IsKnown self.old self.new) }
         ensures no_token { IfErr result (NoToken self.old self.new) }
     {

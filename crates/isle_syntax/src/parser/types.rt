@@ -1,7 +1,7 @@
 ghost use Rattle.std.specs.Prelude.{◌≡◌};
-ghost use Rattle.isle_syntax.specs.Parsing.{Gives};
-ghost use Rattle.isle_syntax.specs.Readers.{read_map, seq, rest_of};
-ghost use Rattle.isle_syntax.specs.DefReading.{identifier, field, fields, fields_named, fields_numbered, variant, value, value_at, type_value, marks, marked_of, type_def};
+ghost use Rattle.isle_syntax.specs.Reading.Parsing.{Gives};
+ghost use Rattle.isle_syntax.specs.Reading.Readers.{read_map, seq, rest_of};
+ghost use Rattle.isle_syntax.specs.Reading.DefReading.{identifier, field, fields, fields_named, fields_numbered, variant, value, value_at, type_value, marks, marked_of, type_def};
 
 use crate::Refusal;
 use crate::ast::{
@@ -15,12 +15,12 @@ use crate::text::Seq;
 
 impl<'src> Parser<'src> {
     /// What follows the word `type`.
-    pub(crate) fn parse_type(&mut self, room: usize) -> Result<Type, Refusal<Error>>
-        ensures { Gives (λ x. x) self.old self.new result (type_def room self.old.left) }
+    pub(crate) fn parse_type(&mut self, depth_left: usize) -> Result<Type, Refusal<Error>>
+        ensures { Gives (λ x. x) self.old self.new result (type_def depth_left self.old.left) }
     {
         let name = self.ident()?;
         let pos = name.1;
-        let (is_extern, is_nodebug, ty) = self.parse_marked(room)?;
+        let (is_extern, is_nodebug, ty) = self.parse_marked(depth_left)?;
         self.close()?;
         Ok(Type {
             name,
@@ -32,8 +32,8 @@ impl<'src> Parser<'src> {
     }
 
     /// The marks of a type and its value: whether `extern` and whether `nodebug` is among the marks.
-    fn parse_marked(&mut self, room: usize) -> Result<(bool, bool, TypeValue), Refusal<Error>>
-        ensures { Gives (λ x. x) self.old self.new result (read_map marked_of (seq marks (type_value room) self.old.left)) }
+    fn parse_marked(&mut self, depth_left: usize) -> Result<(bool, bool, TypeValue), Refusal<Error>>
+        ensures { Gives (λ x. x) self.old self.new result (read_map marked_of (seq marks (type_value depth_left) self.old.left)) }
     {
         let mut is_extern = false;
         let mut is_nodebug = false;
@@ -47,21 +47,21 @@ impl<'src> Parser<'src> {
                     self.says("nodebug")?;
                     is_nodebug = true;
                 }
-                _ => return Ok((is_extern, is_nodebug, self.parse_typevalue(room)?)),
+                _ => return Ok((is_extern, is_nodebug, self.parse_typevalue(depth_left)?)),
             }
         }
     }
 
-    fn parse_typevalue(&mut self, room: usize) -> Result<TypeValue, Refusal<Error>>
-        ensures { Gives (λ x. x) self.old self.new result (type_value room self.old.left) }
+    fn parse_typevalue(&mut self, depth_left: usize) -> Result<TypeValue, Refusal<Error>>
+        ensures { Gives (λ x. x) self.old self.new result (type_value depth_left self.old.left) }
     {
-        let pos = self.open(room)?;
-        self.parse_typevalue_inner(pos, room - 1)
+        let pos = self.open(depth_left)?;
+        self.parse_typevalue_inner(pos, depth_left - 1)
     }
 
     /// What follows the opening parenthesis of a type's value at `pos`.
-    fn parse_typevalue_inner(&mut self, pos: Pos, room: usize) -> Result<TypeValue, Refusal<Error>>
-        ensures { Gives (λ x. x) self.old self.new result (read_map (value_at pos) (value room self.old.left)) }
+    fn parse_typevalue_inner(&mut self, pos: Pos, depth_left: usize) -> Result<TypeValue, Refusal<Error>>
+        ensures { Gives (λ x. x) self.old self.new result (read_map (value_at pos) (value depth_left self.old.left)) }
     {
         match self.keyword()? {
             Keyword::Primitive => {
@@ -72,12 +72,12 @@ impl<'src> Parser<'src> {
             }
             Keyword::Enum => {
                 self.says("enum")?;
-                let variants = self.parse_type_variants(room)?;
+                let variants = self.parse_type_variants(depth_left)?;
                 Ok(TypeValue::Enum(Seq::new(variants), pos))
             }
             Keyword::Struct => {
                 self.says("struct")?;
-                let fields = self.parse_type_fields(room)?;
+                let fields = self.parse_type_fields(depth_left)?;
                 Ok(TypeValue::Struct(fields, pos))
             }
             _ => Err(self.unexpected("expected `primitive`, `enum` or `struct`")),
@@ -85,18 +85,18 @@ impl<'src> Parser<'src> {
     }
 
     /// The variants up to the closing parenthesis.
-    fn parse_type_variants(&mut self, room: usize) -> Result<Vec<Variant>, Refusal<Error>>
-        ensures { Gives (λ v. v.items) self.old self.new result (rest_of (variant room) self.old.left) }
+    fn parse_type_variants(&mut self, depth_left: usize) -> Result<Vec<Variant>, Refusal<Error>>
+        ensures { Gives (λ v. v.items) self.old self.new result (rest_of (variant depth_left) self.old.left) }
     {
         let mut variants = Vec::new(self.allocator());
         'variants: while !self.take_close()? {
-            variants.push(self.parse_type_variant(room)?)?;
+            variants.push(self.parse_type_variant(depth_left)?)?;
         }
         Ok(variants)
     }
 
-    fn parse_type_variant(&mut self, room: usize) -> Result<Variant, Refusal<Error>>
-        ensures { Gives (λ x. x) self.old self.new result (variant room self.old.left) }
+    fn parse_type_variant(&mut self, depth_left: usize) -> Result<Variant, Refusal<Error>>
+        ensures { Gives (λ x. x) self.old self.new result (variant depth_left self.old.left) }
     {
         if self.is_symbol()? {
             let name = self.ident()?;
@@ -107,20 +107,20 @@ impl<'src> Parser<'src> {
                 pos,
             });
         }
-        let pos = self.open(room)?;
+        let pos = self.open(depth_left)?;
         let name = self.ident()?;
-        let fields = self.parse_type_fields(room - 1)?;
+        let fields = self.parse_type_fields(depth_left - 1)?;
         Ok(Variant { name, fields, pos })
     }
 
     /// The fields up to the closing parenthesis.
-    fn parse_type_fields(&mut self, room: usize) -> Result<Fields, Refusal<Error>>
-        ensures { Gives (λ x. x) self.old self.new result (fields room self.old.left) }
+    fn parse_type_fields(&mut self, depth_left: usize) -> Result<Fields, Refusal<Error>>
+        ensures { Gives (λ x. x) self.old self.new result (fields depth_left self.old.left) }
     {
         if self.is_symbol()? {
             return self.parse_tuple_fields();
         }
-        let fields = self.parse_struct_fields(room)?;
+        let fields = self.parse_struct_fields(depth_left)?;
         if fields.is_empty() {
             return Ok(Fields::Unit);
         }
@@ -130,20 +130,20 @@ impl<'src> Parser<'src> {
     }
 
     /// Fields with names, up to the closing parenthesis.
-    fn parse_struct_fields(&mut self, room: usize) -> Result<Vec<StructField>, Refusal<Error>>
-        ensures { Gives (λ v. v.items) self.old self.new result (rest_of (field room) self.old.left) }
+    fn parse_struct_fields(&mut self, depth_left: usize) -> Result<Vec<StructField>, Refusal<Error>>
+        ensures { Gives (λ v. v.items) self.old self.new result (rest_of (field depth_left) self.old.left) }
     {
         let mut fields = Vec::new(self.allocator());
         'fields: while !self.take_close()? {
-            fields.push(self.parse_struct_field(room)?)?;
+            fields.push(self.parse_struct_field(depth_left)?)?;
         }
         Ok(fields)
     }
 
-    fn parse_struct_field(&mut self, room: usize) -> Result<StructField, Refusal<Error>>
-        ensures { Gives (λ x. x) self.old self.new result (field room self.old.left) }
+    fn parse_struct_field(&mut self, depth_left: usize) -> Result<StructField, Refusal<Error>>
+        ensures { Gives (λ x. x) self.old self.new result (field depth_left self.old.left) }
     {
-        let pos = self.open(room)?;
+        let pos = self.open(depth_left)?;
         let name = self.ident()?;
         let ty = self.ident()?;
         self.close()?;

@@ -6,7 +6,7 @@ ghost use Rattle.isle_syntax.specs.Errors.{IfFault};
 ghost use Rattle.isle_types.specs.declared.types.StructField.{StructField};
 ghost use Rattle.isle_types.specs.declared.types.Variant.{Variant};
 ghost use Rattle.isle_types.specs.Types.{id_of};
-ghost use Rattle.isle_types.specs.Names.{StandOnce, IsTwin};
+ghost use Rattle.isle_types.specs.Names.{AreDistinct, IsDuplicate};
 ghost use Rattle.isle_types.specs.Environment.{MayBeMarked, HasAllowedSize, HaveAllowedSizes, field_count};
 ghost use Rattle.isle_types.specs.TypeEnvs.{type_of_name, names_of, SameTables};
 ghost use Rattle.isle_types.specs.Readings.{HasTypeNames, ReadsType, ReadsFields, ReadsTupleFields, ReadsFieldList, ReadsVariant, ReadsVariants, IsDefinitionFault, IsVariantsFault, IsFieldsFault, IsStructFieldsFault, IsTupleFieldsFault, IsTypeErrorAt, IsSizeErrorAt};
@@ -97,7 +97,7 @@ impl TypeEnv {
         ensures same { SameTables self.old self.new }
         ensures read { (known : List (List ℕ)) → HasTypeNames self.old known
             → IfOk result (λ made. ReadsVariants known (names_of self.new) ty.now.name.0 variants.now made.items) }
-        ensures once { OnOk result (StandOnce (map (λ (variant : VariantTree). variant.name.0) variants.now)) }
+        ensures once { OnOk result (AreDistinct (map (λ (variant : VariantTree). variant.name.0) variants.now)) }
         ensures sizes { OnOk result (HaveAllowedSizes variants.now) }
         ensures fault { (known : List (List ℕ)) → HasTypeNames self.old known
             → IfErr result (λ r. IfFault r (IsVariantsFault known ty.now.pos variants.now)) }
@@ -189,7 +189,7 @@ impl TypeEnv {
         ensures same { SameTables self.old self.new }
         ensures read { (known : List (List ℕ)) → HasTypeNames self.old known
             → IfOk result (λ made. ReadsFields known (names_of self.new) fields.now made.items) }
-        ensures once { OnOk result (StandOnce (map (λ (field : StructFieldTree). field.name.0) fields.now)) }
+        ensures once { OnOk result (AreDistinct (map (λ (field : StructFieldTree). field.name.0) fields.now)) }
         ensures fault { (known : List (List ℕ)) → HasTypeNames self.old known
             → IfErr result (λ r. IfFault r (IsStructFieldsFault known fields.now)) }
     {
@@ -243,13 +243,13 @@ impl TypeEnv {
     ) -> Result<(), Refusal<Error>>
         requires { AllZip (λ (tree : StructFieldTree) (field : StructField).
             slice_get (names_of self.now) field.name.0 ≡ Some tree.name.0) trees.now fields.now }
-        ensures once { OnOk result (StandOnce (map (λ (tree : StructFieldTree). tree.name.0) trees.now)) }
+        ensures once { OnOk result (AreDistinct (map (λ (tree : StructFieldTree). tree.name.0) trees.now)) }
         ensures fault { IfErr result (λ r. IfFault r (λ error. (place : ℕ) × ((tree : StructFieldTree)
-            × ((slice_get trees.now place ≡ Some tree) × IsTwin (map (λ (other : StructFieldTree). other.name.0) trees.now) place
+            × ((slice_get trees.now place ≡ Some tree) × IsDuplicate (map (λ (other : StructFieldTree). other.name.0) trees.now) place
             × IsTypeErrorAt tree.pos error)))) }
     {
         let names = field_names(self.alloc, fields)?;
-        match twin(self.alloc, names.as_slice())? {
+        match duplicate(self.alloc, names.as_slice())? {
             None => Ok(()),
             Some(place) => Err(self.type_error(
                 trees[place].pos,
@@ -266,13 +266,13 @@ impl TypeEnv {
     ) -> Result<(), Refusal<Error>>
         requires { AllZip (λ (tree : VariantTree) (variant : Variant).
             slice_get (names_of self.now) variant.name.0 ≡ Some tree.name.0) trees.now variants.now }
-        ensures once { OnOk result (StandOnce (map (λ (tree : VariantTree). tree.name.0) trees.now)) }
+        ensures once { OnOk result (AreDistinct (map (λ (tree : VariantTree). tree.name.0) trees.now)) }
         ensures fault { IfErr result (λ r. IfFault r (λ error. (place : ℕ) × ((tree : VariantTree)
-            × ((slice_get trees.now place ≡ Some tree) × IsTwin (map (λ (other : VariantTree). other.name.0) trees.now) place
+            × ((slice_get trees.now place ≡ Some tree) × IsDuplicate (map (λ (other : VariantTree). other.name.0) trees.now) place
             × IsTypeErrorAt tree.pos error)))) }
     {
         let names = variant_names(self.alloc, variants)?;
-        match twin(self.alloc, names.as_slice())? {
+        match duplicate(self.alloc, names.as_slice())? {
             None => Ok(()),
             Some(place) => Err(self.type_error(
                 trees[place].pos,
@@ -299,8 +299,8 @@ fn variant_names(alloc: Global, variants: &[Variant]) -> Result<Vec<Sym>, AllocE
 }
 
 /// The first place of a name that stands before already.
-fn twin(alloc: Global, names: &[Sym]) -> Result<Option<usize>, AllocError>
-    ensures { IfOk result (λ twin. MatchOption twin (StandOnce names.now) (IsTwin names.now)) }
+fn duplicate(alloc: Global, names: &[Sym]) -> Result<Option<usize>, AllocError>
+    ensures { IfOk result (λ duplicate. MatchOption duplicate (AreDistinct names.now) (IsDuplicate names.now)) }
 {
     let mut before: StableSet<Sym> = StableSet::new(alloc);
     for place in 0..names.len() {

@@ -1,14 +1,14 @@
 ghost use Rattle.std.specs.Prelude.{◌≡◌, ◌⊎◌, ◌<◌, ℕ, [], ◌∷◌, ◌++◌, List, All, Some, None, length, map, IfOk, IfErr, OnOk, MatchOption, is_none, if◌then◌else◌, bytes_eq};
-ghost use Rattle.isle_syntax.specs.Files.{SourceFile};
-ghost use Rattle.isle_syntax.specs.Positions.{HasPlaceAt};
+ghost use Rattle.isle_syntax.specs.Positions.Files.{SourceFile};
+ghost use Rattle.isle_syntax.specs.Positions.Printable.{IsPrintablePos};
 ghost use Rattle.isle_syntax.specs.Errors.{IfFault, RefusalsAt};
-ghost use Rattle.isle_syntax.specs.Places.{DefAt};
+ghost use Rattle.isle_syntax.specs.Positions.DefPositions.{DefAt};
 ghost use Rattle.isle_types.specs.declared.types.«Type».TheVariants.{Builtin};
 ghost use Rattle.isle_types.specs.IntTypes.{builtin_name, builtin_types, builtin_names};
-ghost use Rattle.isle_types.specs.Names.{place_of, StandOnce};
+ghost use Rattle.isle_types.specs.Names.{position_of, AreDistinct};
 ghost use Rattle.isle_types.specs.Environment.{Makes, Environment, HaveEnvironment, AreWithinSizes, builtin_environment, type_definitions, type_names, as_constant, constant_definitions};
 ghost use Rattle.isle_types.specs.TypeFaults.{AreFaultsOf};
-ghost use Rattle.isle_types.specs.TypeEnvs.{errors_of, types_of, type_of_constant, HasPlaces, Shows};
+ghost use Rattle.isle_types.specs.TypeEnvs.{errors_of, types_of, type_of_constant, HasPrintablePositions, Shows};
 ghost use Rattle.isle_types.specs.Readings.{HasTypeNames, HasReadTypes, ReadsConstants, SameButNames, SameButTypes, SameButConstants, AreTypeFaults, IsLoneSizeFault};
 
 use super::TypeEnv;
@@ -75,10 +75,10 @@ impl TypeEnv {
             × (Makes defs.now environment × Shows env environment)) }
         ensures faults { IfErr result (λ r. IfFault r (λ errors. AreFaultsOf defs.now errors.items)) }
         ensures refused { IfErr result (λ r. IfFault r (λ _. ¬ HaveEnvironment defs.now)) }
-        ensures placed { (files : List SourceFile) → All (DefAt (HasPlaceAt files)) defs.now
-            → IfOk result (HasPlaces files) }
-        ensures printable { (files : List SourceFile) → All (DefAt (HasPlaceAt files)) defs.now
-            → IfErr result (RefusalsAt (HasPlaceAt files)) }
+        ensures placed { (files : List SourceFile) → All (DefAt (IsPrintablePos files)) defs.now
+            → IfOk result (HasPrintablePositions files) }
+        ensures printable { (files : List SourceFile) → All (DefAt (IsPrintablePos files)) defs.now
+            → IfErr result (RefusalsAt (IsPrintablePos files)) }
     {
         let mut env = TypeEnv::new(alloc)?;
         env.collect_names(defs)?;
@@ -94,7 +94,7 @@ impl TypeEnv {
     /// Names a type, and tells whether the name is new. A name that is taken keeps its type.
     fn name_type(&mut self, name: &str, id: TypeId) -> Result<bool, AllocError>
         ensures new { (known : List (List ℕ)) → HasTypeNames self.old known
-            → IfOk result (λ new. new ≡ is_none (place_of known name.now)) }
+            → IfOk result (λ new. new ≡ is_none (position_of known name.now)) }
         ensures named { (known : List (List ℕ)) → HasTypeNames self.old known → id.0 ≡ length known
             → OnOk result (HasTypeNames self.new (known ++ name.now ∷ [])) }
         ensures same { SameButNames self.old self.new }
@@ -113,7 +113,7 @@ impl TypeEnv {
         requires no_errors { errors_of self.old ≡ [] }
         ensures named { OnOk result (HasTypeNames self.new (type_names defs.now)) }
         ensures faults { OnOk result (AreTypeFaults defs.now (errors_of self.new)) }
-        ensures once { OnOk result (errors_of self.new ≡ [] → StandOnce (type_names defs.now)) }
+        ensures once { OnOk result (errors_of self.new ≡ [] → AreDistinct (type_names defs.now)) }
         ensures same { SameButTypes self.old self.new }
     {
         let mut next = BuiltinType::ALL.len();

@@ -1,4 +1,4 @@
-use Rattle.isle_layout.proofs.Formatted.{formatted_settles, settled_is_faultless}
+use Rattle.isle_layout.proofs.ReadsBack.Formatted.{formatted_settles, settled_is_faultless}
 use Rattle.isle_layout.proofs.laws.formatted_is_settled.Goals as goal
 
 pub returns-clause-settled : goal.returns-clause-settled

@@ -1,4 +1,4 @@
-use Rattle.isle_layout.proofs.Formatted.{spelt_without_pos_is_writable}
+use Rattle.isle_layout.proofs.ReadsBack.Formatted.{spelt_without_pos_is_writable}
 use Rattle.isle_layout.proofs.laws.spelt_without_pos_is_writable.Goals as goal
 
 pub returns : goal.returns

@@ -1,6 +1,6 @@
 use Rattle.std.proofs.Common.{◌↔◌, ◌≡◌, ◌≤◌, drop}
-use Rattle.isle_syntax.specs.PatternTree.{pattern_height}
-use Rattle.isle_syntax.specs.PatternShape.{pattern_of, patterns_of}
+use Rattle.isle_syntax.specs.Trees.PatternTree.{pattern_height}
+use Rattle.isle_syntax.specs.Trees.PatternShape.{pattern_of, patterns_of}
 use Rattle.isle_layout.specs.Nesting.{pattern_nesting, pattern_nestings}
 use Rattle.isle_layout.proofs.nesting.+pattern_fits.Given as goal
 
@@ -11,4 +11,4 @@ invariant-pattern_fits-loop-at l =
 
 abbrev pub invariant-patterns_fit-loop-pattern : goal.invariant-patterns_fit-loop-pattern
 invariant-patterns_fit-loop-pattern l =
-    (pattern_nestings (patterns_of (drop l.pattern-index l.patterns)) ≤ l.room) ↔ (pattern_nestings (patterns_of l.patterns) ≤ l.room)
+    (pattern_nestings (patterns_of (drop l.pattern-index l.patterns)) ≤ l.depth_left) ↔ (pattern_nestings (patterns_of l.patterns) ≤ l.depth_left)

@@ -4,4 +4,4 @@ use Rattle.isle_layout.proofs.nesting.iflets_fit.Given as goal
 
 abbrev pub invariant-loop-iflet : goal.invariant-loop-iflet
 invariant-loop-iflet l =
-    (iflet_nestings (drop l.iflet-index l.iflets) ≤ l.room) ↔ (iflet_nestings l.iflets ≤ l.room)
+    (iflet_nestings (drop l.iflet-index l.iflets) ≤ l.depth_left) ↔ (iflet_nestings l.iflets ≤ l.depth_left)

@@ -3,20 +3,20 @@ use Rattle.std.proofs.lemmas.List.{append-nil}
 use Rattle.std.specs.Fmt.{char_count}
 use Rattle.isle_layout.specs.SExprTree.{sexpr_list}
 use Rattle.isle_layout.specs.SExprShape.{sexpr_of}
-use Rattle.isle_layout.specs.SExprSubject.{subject}
+use Rattle.isle_layout.specs.SExprInnermost.{innermost}
 use Rattle.isle_layout.specs.Layout.{one_line_length, marks_of, within}
-use Rattle.isle_layout.proofs.Lengths.{list_length}
-use Rattle.isle_layout.proofs.Marks.{length_more, marks_more}
-use Rattle.isle_layout.proofs.SExprSubjects.{subject_is_no_binding, items_below, chain_length, marks_subject}
+use Rattle.isle_layout.proofs.Layouts.Lengths.{list_length}
+use Rattle.isle_layout.proofs.Layouts.Fits.{length_more, marks_more}
+use Rattle.isle_layout.proofs.Layouts.SExprInnermost.{innermost_is_no_binding, items_below, chain_length, marks_innermost}
 use Rattle.isle_layout.proofs.printer.+measure.Goals as goal
 
 pub measure-unreachable-requires : goal.measure-unreachable-requires
 measure-unreachable-requires t c =
-    subject_is_no_binding c.args.sexpr.now c.subject.result.now _ _ c.subject.ensures c.in-Binding.is
+    innermost_is_no_binding c.args.sexpr.now c.innermost.result.now _ _ c.innermost.ensures c.in-Binding.is
 
 pub measure-measure_list-requires : goal.measure-measure_list-requires
 measure-measure_list-requires t c =
-    (omega (arith, items_below c.args.sexpr.now c.subject.result.now _ c.as_slice.result.now c.subject.ensures c.in-List.is c.as_slice.ensures), tt)
+    (omega (arith, items_below c.args.sexpr.now c.innermost.result.now _ c.as_slice.result.now c.innermost.ensures c.in-List.is c.as_slice.ensures), tt)
 
 pub measure_list-loop-item-init : goal.measure_list-loop-item-init
 measure_list-loop-item-init t c = record {
@@ -36,7 +36,7 @@ pub measure-returns-in-Atom-clause-length : goal.measure-returns-in-Atom-clause-
 measure-returns-in-Atom-clause-length t c =
     let width = c.args.width in
     let sexpr = sexpr_of c.args.sexpr.now in
-    let same : one_line_length (subject sexpr) ≡ char_count c.in-Atom.text = ap one_line_length (sym c.subject.ensures ∙ ap sexpr_of c.in-Atom.is) in
+    let same : one_line_length (innermost sexpr) ≡ char_count c.in-Atom.text = ap one_line_length (sym c.innermost.ensures ∙ ap sexpr_of c.in-Atom.is) in
     let text = c.text_length-text.ensures ∙ ap (λ bytes. within width (char_count bytes)) c.as_str.ensures ∙ ap (within width) (sym same) in
     c.sum_within.ensures _ _ c.names_length-names.ensures text ∙ ap (within width) (chain_length sexpr)
 
@@ -44,7 +44,7 @@ pub measure-returns-in-Atom-clause-marks : goal.measure-returns-in-Atom-clause-m
 measure-returns-in-Atom-clause-marks t c =
     let width = c.args.width in
     let old = c.args.marks.now.items in
-    let none = marks_subject width (sexpr_of c.args.sexpr.now) ∙ ap (marks_of width) (sym c.subject.ensures ∙ ap sexpr_of c.in-Atom.is) in
+    let none = marks_innermost width (sexpr_of c.args.sexpr.now) ∙ ap (marks_of width) (sym c.innermost.ensures ∙ ap sexpr_of c.in-Atom.is) in
     sym (ap (λ marks. old ++ marks) none ∙ append-nil old)
 
 pub measure-returns-in_ok-list-in-List-clause-length :
@@ -52,7 +52,7 @@ pub measure-returns-in_ok-list-in-List-clause-length :
 measure-returns-in_ok-list-in-List-clause-length t c =
     let width = c.args.width in
     let sexpr = sexpr_of c.args.sexpr.now in
-    let same = sym c.subject.ensures ∙ ap sexpr_of c.in-List.is ∙ ap sexpr_list (sym c.as_slice.ensures) in
+    let same = sym c.innermost.ensures ∙ ap sexpr_of c.in-List.is ∙ ap sexpr_list (sym c.as_slice.ensures) in
     let list = c.in_ok-list-in-List.ensures.length ∙ ap (λ s. within width (one_line_length s)) (sym same) in
     c.sum_within-in-List.ensures _ _ c.names_length-names.ensures list ∙ ap (within width) (chain_length sexpr)
 
@@ -61,6 +61,6 @@ pub measure-returns-in_ok-list-in-List-clause-marks :
 measure-returns-in_ok-list-in-List-clause-marks t c =
     let width = c.args.width in
     let old = c.args.marks.now.items in
-    let same = sym c.subject.ensures ∙ ap sexpr_of c.in-List.is ∙ ap sexpr_list (sym c.as_slice.ensures) in
-    let marks = marks_subject width (sexpr_of c.args.sexpr.now) ∙ ap (marks_of width) same in
+    let same = sym c.innermost.ensures ∙ ap sexpr_of c.in-List.is ∙ ap sexpr_list (sym c.as_slice.ensures) in
+    let marks = marks_innermost width (sexpr_of c.args.sexpr.now) ∙ ap (marks_of width) same in
     c.in_ok-list-in-List.ensures.marks ∙ ap (λ pushed. old ++ pushed) (sym marks)

@@ -2,7 +2,7 @@ use Rattle.std.proofs.Common.{◌≡◌, ℕ, ◌+◌, ◌++◌, drop}
 use Rattle.isle_layout.specs.SExprTree.{sexpr_list}
 use Rattle.isle_layout.specs.SExprShape.{sexprs_of}
 use Rattle.isle_layout.specs.Layout.{one_line_length, marks_of_all, within}
-use Rattle.isle_layout.proofs.Lengths.{lengths}
+use Rattle.isle_layout.proofs.Layouts.Lengths.{lengths}
 use Rattle.isle_layout.proofs.printer.+measure.Given as goal
 
 abbrev pub invariant-measure_list-loop-item : goal.invariant-measure_list-loop-item

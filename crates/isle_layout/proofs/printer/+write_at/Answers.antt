@@ -5,28 +5,28 @@ use Rattle.std.proofs.lemmas.Result.{IfOk-weaker}
 use Rattle.isle_layout.specs.SExprTree.{sexpr_list}
 use Rattle.isle_layout.specs.SExprShape.{sexpr_of, sexprs_of}
 use Rattle.isle_layout.specs.Layout.{one_line, line, layout, layouts, broken, marks_of, marks_of_all}
-use Rattle.isle_layout.proofs.Joined.{pushed}
-use Rattle.isle_layout.proofs.ListLayouts.{on_one_line, on_lines, item_written, item_marks, wider_margin, list_written}
-use Rattle.isle_layout.proofs.SExprSubjects.{subject_is_no_binding, items_below, layout_written, marks_subject}
+use Rattle.isle_layout.proofs.Layouts.Joined.{pushed}
+use Rattle.isle_layout.proofs.Layouts.ListLayouts.{on_one_line, on_lines, item_written, item_marks, wider_margin, list_written}
+use Rattle.isle_layout.proofs.Layouts.SExprInnermost.{innermost_is_no_binding, items_below, layout_written, marks_innermost}
 use Rattle.isle_layout.proofs.printer.+write_at.Goals.{write_broken_list-then-i-gt0+in_ok-write_line, write_broken_list-else-i-gt0}
 use Rattle.isle_layout.proofs.printer.+write_at.Goals as goal
 
 pub write_at-unreachable-requires : goal.write_at-unreachable-requires
 write_at-unreachable-requires t c =
-    subject_is_no_binding c.args.sexpr.now c.subject.result.now _ _ c.subject.ensures c.in-Binding.is
+    innermost_is_no_binding c.args.sexpr.now c.innermost.result.now _ _ c.innermost.ensures c.in-Binding.is
 
 pub write_at-write_broken_list-requires : goal.write_at-write_broken_list-requires
 write_at-write_broken_list-requires t c =
-    (omega (arith, items_below c.args.sexpr.now c.subject.result.now _ c.as_slice-else-next_mark.result.now c.subject.ensures c.in-List.is c.as_slice-else-next_mark.ensures), tt)
+    (omega (arith, items_below c.args.sexpr.now c.innermost.result.now _ c.as_slice-else-next_mark.result.now c.innermost.ensures c.in-List.is c.as_slice-else-next_mark.ensures), tt)
 
 pub write_at-returns-in-Atom-clause-written : goal.write_at-returns-in-Atom-clause-written
 write_at-returns-in-Atom-clause-written t c =
     let names = string_bytes c.write_names.new.out in
-    let same = sym c.subject.ensures ∙ ap sexpr_of c.in-Atom.is in
-    let none = λ (width : ℕ). marks_subject width (sexpr_of c.args.sexpr.now) ∙ ap (marks_of width) same in
+    let same = sym c.innermost.ensures ∙ ap sexpr_of c.in-Atom.is in
+    let none = λ (width : ℕ). marks_innermost width (sexpr_of c.args.sexpr.now) ∙ ap (marks_of width) same in
     let text = λ (width indentation : ℕ). c.as_str.ensures ∙ ap (layout width indentation) (ap sexpr_of (sym c.in-Atom.is)) in
     IfOk-weaker c.push_str.result _ _ (λ done written width indentation rest margin marks.
-    (written ∙ ap (λ bytes. names ++ bytes) (text width indentation) ∙ layout_written width indentation c.args.sexpr.now c.subject.result.now _ _ c.subject.ensures c.in_ok-write_names.ensures, marks ∙ ap (λ ms. ms ++ rest) (none width)))
+    (written ∙ ap (λ bytes. names ++ bytes) (text width indentation) ∙ layout_written width indentation c.args.sexpr.now c.innermost.result.now _ _ c.innermost.ensures c.in_ok-write_names.ensures, marks ∙ ap (λ ms. ms ++ rest) (none width)))
     (pushed c.push_str.result _ _ _ c.push_str.ensures.bytes)
 
 pub write_at-returns-then-next_mark-clause-written :
@@ -36,8 +36,8 @@ write_at-returns-then-next_mark-clause-written t c =
     let sexpr = c.args.sexpr.now in
     let list = ap (λ items. names ++ one_line (sexpr_list items)) c.as_slice.ensures in
     IfOk-weaker c.write_list_on_one_line.result _ _ (λ done written width indentation rest margin marks.
-    let here = on_one_line width indentation sexpr c.subject.result.now _ c.in-List.is c.subject.ensures _ _ rest _ c.next_mark.ensures marks c.if-next_mark.true in
-    (written ∙ list ∙ ap (λ bytes. names ++ bytes) (sym here.0) ∙ layout_written width indentation sexpr c.subject.result.now _ _ c.subject.ensures c.in_ok-write_names.ensures, here.1))
+    let here = on_one_line width indentation sexpr c.innermost.result.now _ c.in-List.is c.innermost.ensures _ _ rest _ c.next_mark.ensures marks c.if-next_mark.true in
+    (written ∙ list ∙ ap (λ bytes. names ++ bytes) (sym here.0) ∙ layout_written width indentation sexpr c.innermost.result.now _ _ c.innermost.ensures c.in_ok-write_names.ensures, here.1))
     c.write_list_on_one_line.ensures
 
 pub write_at-returns-else-next_mark-clause-written :
@@ -47,9 +47,9 @@ write_at-returns-else-next_mark-clause-written t c =
     let sexpr = c.args.sexpr.now in
     let same = c.as_slice-else-next_mark.ensures in
     IfOk-weaker c.write_broken_list.result _ _ (λ done written width indentation rest margin marks.
-    let here = on_lines width indentation sexpr c.subject.result.now _ c.in-List.is c.subject.ensures _ _ rest _ c.next_mark.ensures marks c.if-next_mark.false in
+    let here = on_lines width indentation sexpr c.innermost.result.now _ c.in-List.is c.innermost.ensures _ _ rest _ c.next_mark.ensures marks c.if-next_mark.false in
     let list = written width indentation rest margin (here.1 ∙ ap (λ items. marks_of_all width items ++ rest) (sym same)) in
-    (list.0 ∙ ap (λ items. names ++ broken indentation (layouts width (indentation + 4) items)) same ∙ ap (λ bytes. names ++ bytes) (sym here.0) ∙ layout_written width indentation sexpr c.subject.result.now _ _ c.subject.ensures c.in_ok-write_names.ensures, list.1))
+    (list.0 ∙ ap (λ items. names ++ broken indentation (layouts width (indentation + 4) items)) same ∙ ap (λ bytes. names ++ bytes) (sym here.0) ∙ layout_written width indentation sexpr c.innermost.result.now _ _ c.innermost.ensures c.in_ok-write_names.ensures, list.1))
     c.write_broken_list.ensures.written
 
 pub write_broken_list-loop-i-preserved : goal.write_broken_list-loop-i-preserved

@@ -2,7 +2,7 @@ use Rattle.std.proofs.Common.{◌≡◌, ◌++◌, ℕ, List, Bool, drop, replic
 use Rattle.std.specs.Slice.Iter.{iter_rest}
 use Rattle.isle_layout.specs.SExprShape.{sexprs_of}
 use Rattle.isle_layout.specs.Layout.{joined, line, layouts, marks_of_all}
-use Rattle.isle_layout.proofs.Joined.{rest_joined}
+use Rattle.isle_layout.proofs.Layouts.Joined.{rest_joined}
 use Rattle.isle_layout.proofs.printer.+write_at.Given as goal
 
 abbrev pub invariant-write_broken_list-loop-i : goal.invariant-write_broken_list-loop-i

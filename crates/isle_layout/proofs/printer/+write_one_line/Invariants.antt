@@ -1,7 +1,7 @@
 use Rattle.std.proofs.Common.{◌≡◌, ◌++◌, codes, drop, string_bytes}
 use Rattle.isle_layout.specs.SExprShape.{sexprs_of}
 use Rattle.isle_layout.specs.Layout.{joined, one_lines}
-use Rattle.isle_layout.proofs.Joined.{rest_joined}
+use Rattle.isle_layout.proofs.Layouts.Joined.{rest_joined}
 use Rattle.isle_layout.proofs.printer.+write_one_line.Given as goal
 
 abbrev pub invariant-write_list_on_one_line-loop-i : goal.invariant-write_list_on_one_line-loop-i

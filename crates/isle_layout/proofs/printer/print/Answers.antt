@@ -2,7 +2,7 @@ use Rattle.std.proofs.Common.{ap, ◌∙◌, string_bytes}
 use Rattle.std.proofs.lemmas.List.{take_all}
 use Rattle.std.proofs.lemmas.Str.{IsUtf8-string_bytes}
 use Rattle.isle_layout.specs.Prints.{print_of}
-use Rattle.isle_layout.proofs.ReadsBack.{print_reads_back}
+use Rattle.isle_layout.proofs.ReadsBack.Prints.{print_reads_back}
 use Rattle.isle_layout.proofs.printer.print.Goals as goal
 
 pub returns-clause-reads_back : goal.returns-clause-reads_back

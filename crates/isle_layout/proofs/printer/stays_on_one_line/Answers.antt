@@ -2,7 +2,7 @@ use Rattle.std.proofs.Common.{◌≡◌, false, ◌||◌, is_some, nat_lt, lengt
 use Rattle.isle_layout.specs.SExprTree.{sexpr_list}
 use Rattle.isle_layout.specs.SExprShape.{sexprs_of}
 use Rattle.isle_layout.specs.Layout.{one_line_length}
-use Rattle.isle_layout.proofs.Marks.{stays_by_length}
+use Rattle.isle_layout.proofs.Layouts.Fits.{stays_by_length}
 use Rattle.isle_layout.proofs.printer.stays_on_one_line.Goals as goal
 
 pub returns-else-is_some : goal.returns-else-is_some

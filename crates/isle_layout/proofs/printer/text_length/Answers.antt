@@ -2,7 +2,7 @@ use Rattle.std.proofs.Common.{◌≡◌, length, rules, ap, ◌∙◌}
 use Rattle.std.specs.Str.{chars}
 use Rattle.std.proofs.lemmas.Str.{chars_from_encodes}
 use Rattle.isle_layout.specs.Layout.{within}
-use Rattle.isle_layout.proofs.Lengths.{length_chars}
+use Rattle.isle_layout.proofs.Layouts.Lengths.{length_chars}
 use Rattle.isle_layout.proofs.printer.text_length.Goals as goal
 
 pub returns : goal.returns

@@ -1,6 +1,6 @@
 use Rattle.std.proofs.Common.{◌<◌, length}
 use Rattle.std.proofs.lemmas.Result.{err_from_is_err_and}
-use Rattle.isle_types.specs.TypeEnvs.{HasPlaces}
+use Rattle.isle_types.specs.TypeEnvs.{HasPrintablePositions}
 use Rattle.isle_types.proofs.Reading.{some_items}
 use Rattle.isle_run.specs.Compiled.{AreAccepted, of_terms_or_rules}
 use Rattle.isle_run.proofs.Layers.{text_faults, type_faults, later_faults, accepts}
@@ -40,7 +40,7 @@ returns-in_err-termenv-clause-printable c =
 
 pub returns-then-not-is_empty-clause-printable : goal.returns-then-not-is_empty-clause-printable
 returns-then-not-is_empty-clause-printable c =
-    let types : HasPlaces c.args.files.now c.in_ok-tyenv.tyenv =
+    let types : HasPrintablePositions c.args.files.now c.in_ok-tyenv.tyenv =
     c.in_ok-tyenv.ensures.placed c.args.files.now (rw c.as_slice.ensures.value c.in_ok-defs.ensures.placed) in
     let placed =
     c.in_ok-termenv.ensures.placed c.args.files.now (rw c.as_slice-2.ensures.value c.in_ok-defs.ensures.placed) types in

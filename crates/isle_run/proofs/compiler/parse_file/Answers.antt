@@ -1,8 +1,8 @@
 use Rattle.std.proofs.Common.{◌≡◌, ◌∷◌, [], List, ℕ}
 use Rattle.isle_syntax.specs.declared.error.Error.{Error}
 use Rattle.isle_syntax.specs.Errors.{IfFault}
-use Rattle.isle_syntax.specs.Texts.{IsFaultIn}
-use Rattle.isle_syntax.proofs.TreePlaces.{places_from_source}
+use Rattle.isle_syntax.specs.Grammar.Texts.{IsFaultIn}
+use Rattle.isle_syntax.proofs.Positions.TreePositions.{places_from_source}
 use Rattle.isle_run.proofs.WholeTexts.{fault_alone, of_file}
 use Rattle.isle_run.proofs.compiler.parse_file.Goals as goal
 

@@ -1,9 +1,9 @@
 use Rattle.std.proofs.Common.{◌<◌, length, arith, rules, slice_get, IfSome}
 use Rattle.std.proofs.lemmas.Result.{err_from_is_err_and}
 use Rattle.std.proofs.lemmas.List.Elements.{All-same, All-append}
-use Rattle.isle_syntax.specs.Positions.{HasPlaceAt}
-use Rattle.isle_syntax.specs.Places.{DefAt}
-use Rattle.isle_syntax.specs.Texts.{Spells}
+use Rattle.isle_syntax.specs.Positions.Printable.{IsPrintablePos}
+use Rattle.isle_syntax.specs.Positions.DefPositions.{DefAt}
+use Rattle.isle_syntax.specs.Grammar.Texts.{Spells}
 use Rattle.isle_run.proofs.FirstFaults.{first_fault_alone}
 use Rattle.isle_run.proofs.SpeltFiles.{AreSpelt-pushed}
 use Rattle.isle_run.proofs.compiler.parse_files.Goals as goal
@@ -20,6 +20,6 @@ loop-file-preserved c =
     let next : IfSome (slice_get c.args.files.now c.loop-file.file) (λ file. Spells c.loop-file.file file.text c.in_ok-parsed.parsed.items) = search rules in
     record {
       placed =
-          All-same (DefAt (HasPlaceAt c.args.files.now)) _ _ c.in_ok-append.ensures (All-append (DefAt (HasPlaceAt c.args.files.now)) c.loop-file.defs.items c.in_ok-parsed.parsed.items c.loop-file.invariant.placed c.in_ok-parsed.ensures.placed);
+          All-same (DefAt (IsPrintablePos c.args.files.now)) _ _ c.in_ok-append.ensures (All-append (DefAt (IsPrintablePos c.args.files.now)) c.loop-file.defs.items c.in_ok-parsed.parsed.items c.loop-file.invariant.placed c.in_ok-parsed.ensures.placed);
       spelt = AreSpelt-pushed c.loop-file.file c.args.files.now c.loop-file.defs.items c.in_ok-parsed.parsed.items c.append.new.defs.items within c.loop-file.invariant.spelt next c.in_ok-append.ensures;
     }

@@ -1,5 +1,5 @@
 use Rattle.std.proofs.lemmas.List.Sorted.{All-permutation}
-use Rattle.isle_run.specs.Overlaps.{OverlapHasPlaces}
+use Rattle.isle_run.specs.Overlaps.{HasPrintableRules}
 use Rattle.isle_run.proofs.overlap.overlaps.Goals as goal
 
 pub loop-group-preserved : goal.loop-group-preserved
@@ -11,4 +11,4 @@ pub returns : goal.returns
 returns c = λ files h.
     c.reports.ensures files
     (rw c.as_slice-2.ensures.value
-    (All-permutation (OverlapHasPlaces files) _ _ c.in_ok-sort_by_key.ensures.permutation (c.loop-group.invariant files h)))
+    (All-permutation (HasPrintableRules files) _ _ c.in_ok-sort_by_key.ensures.permutation (c.loop-group.invariant files h)))

@@ -1,6 +1,6 @@
 use Rattle.std.proofs.Common.{◌≡◌, drop}
-use Rattle.isle_syntax.specs.PatternShape.{patterns_of}
-use Rattle.isle_syntax.specs.Trees.{has_macro_args}
+use Rattle.isle_syntax.specs.Trees.PatternShape.{patterns_of}
+use Rattle.isle_syntax.specs.Trees.TreeCalls.{has_macro_args}
 use Rattle.isle_syntax.proofs.ast.+has_macro_arg.Given as goal
 
 abbrev pub invariant-has_macro_args-loop-pattern : goal.invariant-has_macro_args-loop-pattern

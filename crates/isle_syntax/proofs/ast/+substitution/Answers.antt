@@ -1,22 +1,22 @@
 use Rattle.std.proofs.Common.{◌∷◌, [], map, Some, None, ap, ◌∙◌, arith}
 use Rattle.std.proofs.lemmas.List.{map-append}
-use Rattle.isle_syntax.specs.PatternShape.{pattern_of}
-use Rattle.isle_syntax.specs.Chain.{bound}
-use Rattle.isle_syntax.proofs.Macros.{filled_start, filled_more, filled_stops, filled_done}
-use Rattle.isle_syntax.proofs.MacroChains.{chain_filled}
+use Rattle.isle_syntax.specs.Trees.PatternShape.{pattern_of}
+use Rattle.isle_syntax.specs.Trees.Chain.{bound}
+use Rattle.isle_syntax.proofs.Trees.Templates.{filled_start, filled_more, filled_stops, filled_done}
+use Rattle.isle_syntax.proofs.Trees.TemplateChains.{chain_filled}
 use Rattle.isle_syntax.proofs.ast.+substitution.Goals as goal
 
 pub Pattern::subst_macro_args-returns-in_default : goal.Pattern::subst_macro_args-returns-in_default
 Pattern::subst_macro_args-returns-in_default t c =
     let made = rw c.in_default.is at c.in_ok-made.ensures in
-    chain_filled _ (pattern_of c.args.self.now) (pattern_of c.subject.result.now) None made c.subject.ensures
+    chain_filled _ (pattern_of c.args.self.now) (pattern_of c.innermost.result.now) None made c.innermost.ensures
 
 pub Pattern::subst_macro_args-returns : goal.Pattern::subst_macro_args-returns
 Pattern::subst_macro_args-returns t c =
     let made = rw c.in-Some.is at c.in_ok-made.ensures in
     let inner = pattern_of c.in-Some.made in
     let whole = c.in_ok-wrap.ensures ∙ ap (λ names. bound names inner) c.in_ok-names.ensures in
-    ap Some whole ∙ chain_filled _ (pattern_of c.args.self.now) (pattern_of c.subject.result.now) (Some inner) made c.subject.ensures
+    ap Some whole ∙ chain_filled _ (pattern_of c.args.self.now) (pattern_of c.innermost.result.now) (Some inner) made c.innermost.ensures
 
 pub macros::subst_all-loop-pattern-init : goal.macros::subst_all-loop-pattern-init
 macros::subst_all-loop-pattern-init t c = rw c.new-all.ensures.items (filled_start _)

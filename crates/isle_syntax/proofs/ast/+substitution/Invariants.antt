@@ -1,15 +1,15 @@
 use Rattle.std.proofs.Common.{◌≡◌, ◌+◌, ◌*◌, map, drop}
 use Rattle.std.specs.Option.{option_map}
-use Rattle.isle_syntax.specs.PatternShape.{pattern_of, patterns_of}
-use Rattle.isle_syntax.specs.Macros.{all_filled}
-use Rattle.isle_syntax.proofs.Macros.{before}
+use Rattle.isle_syntax.specs.Trees.PatternShape.{pattern_of, patterns_of}
+use Rattle.isle_syntax.specs.Trees.Templates.{all_filled}
+use Rattle.isle_syntax.proofs.Trees.Templates.{before}
 use Rattle.isle_syntax.proofs.ast.+substitution.Given as goal
 
 abbrev pub decreases-Pattern::subst_macro_args : goal.decreases-Pattern::subst_macro_args
 decreases-Pattern::subst_macro_args l = 3 * goal.size-Pattern::subst_macro_args l + 1
 
-abbrev pub decreases-Pattern::subst_subject : goal.decreases-Pattern::subst_subject
-decreases-Pattern::subst_subject l = 3 * goal.size-Pattern::subst_subject l
+abbrev pub decreases-Pattern::subst_innermost : goal.decreases-Pattern::subst_innermost
+decreases-Pattern::subst_innermost l = 3 * goal.size-Pattern::subst_innermost l
 
 abbrev pub decreases-macros::subst_all : goal.decreases-macros::subst_all
 decreases-macros::subst_all l = 3 * goal.size-macros::subst_all l + 2

@@ -1,13 +1,13 @@
 use Rattle.std.proofs.Common.{◌≡◌, ◌∷◌, [], false, map, ap, sym, ◌∙◌, arith, rules}
 use Rattle.std.proofs.lemmas.List.{map-append}
-use Rattle.isle_syntax.specs.PatternTree.{pattern_bind}
-use Rattle.isle_syntax.specs.PatternShape.{pattern_of}
-use Rattle.isle_syntax.specs.Chain.{bound}
-use Rattle.isle_syntax.specs.Trees.{has_macro_arg}
-use Rattle.isle_syntax.specs.Macros.{is_wildcard, template_tree}
-use Rattle.isle_syntax.proofs.Macros.{macro_free_rest, templates_more, templates_done}
-use Rattle.isle_syntax.proofs.MacroChains.{template_inside}
-use Rattle.isle_syntax.proofs.Subjects.{bound_pushed, bound_size}
+use Rattle.isle_syntax.specs.Trees.PatternTree.{pattern_bind}
+use Rattle.isle_syntax.specs.Trees.PatternShape.{pattern_of}
+use Rattle.isle_syntax.specs.Trees.Chain.{bound}
+use Rattle.isle_syntax.specs.Trees.TreeCalls.{has_macro_arg}
+use Rattle.isle_syntax.specs.Trees.Templates.{is_wildcard, template_tree}
+use Rattle.isle_syntax.proofs.Trees.Templates.{macro_free_rest, templates_more, templates_done}
+use Rattle.isle_syntax.proofs.Trees.TemplateChains.{template_inside}
+use Rattle.isle_syntax.proofs.Trees.Innermost.{bound_pushed, bound_size}
 use Rattle.isle_syntax.proofs.ast.+template.Goals as goal
 
 pub Pattern::make_macro_template-loop-at-preserved :

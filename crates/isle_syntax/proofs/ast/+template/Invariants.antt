@@ -1,17 +1,17 @@
 use Rattle.std.proofs.Common.{◌≡◌, ◌+◌, ◌*◌, ◌≤◌, false, map, drop}
 use Rattle.isle_syntax.specs.declared.ast.BoxedPattern.TheDeep.{size-Pattern}
-use Rattle.isle_syntax.specs.Chain.{bound}
-use Rattle.isle_syntax.specs.PatternShape.{pattern_of, patterns_of}
-use Rattle.isle_syntax.specs.Trees.{has_macro_arg, has_macro_args}
-use Rattle.isle_syntax.specs.Macros.{template_tree, template_trees}
-use Rattle.isle_syntax.proofs.Macros.{before}
+use Rattle.isle_syntax.specs.Trees.Chain.{bound}
+use Rattle.isle_syntax.specs.Trees.PatternShape.{pattern_of, patterns_of}
+use Rattle.isle_syntax.specs.Trees.TreeCalls.{has_macro_arg, has_macro_args}
+use Rattle.isle_syntax.specs.Trees.Templates.{template_tree, template_trees}
+use Rattle.isle_syntax.proofs.Trees.Templates.{before}
 use Rattle.isle_syntax.proofs.ast.+template.Given as goal
 
 abbrev pub decreases-Pattern::make_macro_template : goal.decreases-Pattern::make_macro_template
 decreases-Pattern::make_macro_template l = 3 * goal.size-Pattern::make_macro_template l + 1
 
-abbrev pub decreases-Pattern::make_subject_template : goal.decreases-Pattern::make_subject_template
-decreases-Pattern::make_subject_template l = 3 * goal.size-Pattern::make_subject_template l
+abbrev pub decreases-Pattern::make_innermost_template : goal.decreases-Pattern::make_innermost_template
+decreases-Pattern::make_innermost_template l = 3 * goal.size-Pattern::make_innermost_template l
 
 abbrev pub decreases-macros::make_macro_templates : goal.decreases-macros::make_macro_templates
 decreases-macros::make_macro_templates l = 3 * goal.size-macros::make_macro_templates l + 2

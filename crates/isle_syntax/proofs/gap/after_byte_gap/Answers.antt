@@ -1,8 +1,8 @@
 use Rattle.std.proofs.Common.{◌≡◌, ◌-◌, ◌<◌, length, sym, ap, ◌∙◌, arith}
 use Rattle.isle_syntax.specs.declared.gap.Lead.{Lead}
-use Rattle.isle_syntax.specs.Gaps.{after_first, after_run, in_line}
-use Rattle.isle_syntax.specs.Reading.{gap_of, gap, after_inside, after_comment}
-use Rattle.isle_syntax.proofs.Gaps.{gap_turned, gap_next, some_left, line_shorter, comment_shorter}
+use Rattle.isle_syntax.specs.Tokens.Gaps.{after_first, after_run, in_line}
+use Rattle.isle_syntax.specs.Tokens.Finding.{gap_of, gap, after_inside, after_comment}
+use Rattle.isle_syntax.proofs.Tokens.Gaps.{gap_turned, gap_next, some_left, line_shorter, comment_shorter}
 use Rattle.isle_syntax.proofs.gap.after_byte_gap.Goals as goal
 
 pub returns-in-End : goal.returns-in-End

@@ -1,6 +1,6 @@
 use Rattle.std.proofs.Common.{length}
-use Rattle.isle_syntax.specs.Reading.{gap_of}
-use Rattle.isle_syntax.proofs.Gaps.{GapTurns}
+use Rattle.isle_syntax.specs.Tokens.Finding.{gap_of}
+use Rattle.isle_syntax.proofs.Tokens.Gaps.{GapTurns}
 use Rattle.isle_syntax.proofs.gap.after_byte_gap.Given as goal
 
 abbrev pub invariant-gaps : goal.invariant-gaps

@@ -1,6 +1,6 @@
 use Rattle.std.proofs.Common.{length, sym, ap, ◌∙◌, arith}
 use Rattle.isle_syntax.specs.declared.gap.Mark.TheVariants.{Opens, Neither}
-use Rattle.isle_syntax.proofs.Comments.{comment_step, closing_step}
+use Rattle.isle_syntax.proofs.Tokens.Comments.{comment_step, closing_step}
 use Rattle.isle_syntax.proofs.gap.after_comment.Goals as goal
 
 pub bytes-preserved-in-Closes : goal.bytes-preserved-in-Closes

@@ -1,5 +1,5 @@
 use Rattle.std.proofs.Common.{◌≡◌, ◌+◌, ◌≤◌, length}
-use Rattle.isle_syntax.specs.Reading.{after_comment}
+use Rattle.isle_syntax.specs.Tokens.Finding.{after_comment}
 use Rattle.isle_syntax.proofs.gap.after_comment.Given as goal
 
 abbrev pub invariant-bytes : goal.invariant-bytes

@@ -1,8 +1,8 @@
 use Rattle.std.proofs.Common.{◌≡◌, sym, subst, ◌∙◌, ap}
-use Rattle.isle_syntax.specs.Reading.{gap_of}
-use Rattle.isle_syntax.proofs.Cuts.{ending_is_end}
-use Rattle.isle_syntax.proofs.Gaps.{gap_found}
-use Rattle.isle_syntax.proofs.GapCuts.{Cut, cut_self, cut_gap}
+use Rattle.isle_syntax.specs.Tokens.Finding.{gap_of}
+use Rattle.isle_syntax.proofs.Tokens.Cuts.{ending_is_end}
+use Rattle.isle_syntax.proofs.Tokens.Gaps.{gap_found}
+use Rattle.isle_syntax.proofs.Tokens.GapCuts.{Cut, cut_self, cut_gap}
 use Rattle.isle_syntax.proofs.gap.after_gap.Goals as goal
 
 cut : (c : goal.After-after_byte_gap) → Cut c.args.text.now c.after_byte_gap.result.now

@@ -1,5 +1,5 @@
 use Rattle.std.proofs.Common.{◌≡◌, length}
-use Rattle.isle_syntax.specs.Gaps.{after_run, in_line}
+use Rattle.isle_syntax.specs.Tokens.Gaps.{after_run, in_line}
 use Rattle.isle_syntax.proofs.gap.after_line.Given as goal
 
 abbrev pub invariant-bytes : goal.invariant-bytes

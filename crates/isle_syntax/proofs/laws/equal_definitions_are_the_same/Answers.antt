@@ -1,4 +1,4 @@
-use Rattle.isle_syntax.proofs.DefEquality.{same_def-decides}
+use Rattle.isle_syntax.proofs.Trees.DefEquality.{same_def-decides}
 use Rattle.isle_syntax.proofs.laws.equal_definitions_are_the_same.Goals as goal
 
 pub returns : goal.returns

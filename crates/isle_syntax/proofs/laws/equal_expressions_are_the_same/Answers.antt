@@ -1,7 +1,7 @@
-use Rattle.isle_syntax.specs.ExprCode.{expr_tree_code, expr_trees_code, let_trees_code}
-use Rattle.isle_syntax.specs.ExprShape.{expr_of}
-use Rattle.isle_syntax.specs.Equality.{same_coded-decides}
-use Rattle.isle_syntax.proofs.Equality.{same_expr-decides, same_let-decides}
+use Rattle.isle_syntax.specs.Trees.ExprCode.{expr_tree_code, expr_trees_code, let_trees_code}
+use Rattle.isle_syntax.specs.Trees.ExprShape.{expr_of}
+use Rattle.isle_syntax.specs.Trees.Equality.{same_coded-decides}
+use Rattle.isle_syntax.proofs.Trees.Equality.{same_expr-decides, same_let-decides}
 use Rattle.isle_syntax.proofs.laws.equal_expressions_are_the_same.Goals as goal
 
 pub returns-clause-expressions : goal.returns-clause-expressions

@@ -1,7 +1,7 @@
-use Rattle.isle_syntax.specs.ItemCode.{item_tree_code, item_trees_code}
-use Rattle.isle_syntax.specs.ItemShape.{item_of}
-use Rattle.isle_syntax.specs.Equality.{same_coded-decides}
-use Rattle.isle_syntax.proofs.Equality.{same_item-decides}
+use Rattle.isle_syntax.specs.Trees.ItemCode.{item_tree_code, item_trees_code}
+use Rattle.isle_syntax.specs.Trees.ItemShape.{item_of}
+use Rattle.isle_syntax.specs.Trees.Equality.{same_coded-decides}
+use Rattle.isle_syntax.proofs.Trees.Equality.{same_item-decides}
 use Rattle.isle_syntax.proofs.laws.equal_items_are_the_same.Goals as goal
 
 pub returns-clause-items : goal.returns-clause-items

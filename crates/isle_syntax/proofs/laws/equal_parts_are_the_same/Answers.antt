@@ -1,4 +1,4 @@
-use Rattle.isle_syntax.proofs.DefEquality.{decl-decides, rule-decides, if_let-decides, extractor-decides, extern-decides, kept-decides}
+use Rattle.isle_syntax.proofs.Trees.DefEquality.{decl-decides, rule-decides, if_let-decides, extractor-decides, extern-decides, kept-decides}
 use Rattle.isle_syntax.proofs.laws.equal_parts_are_the_same.Goals as goal
 
 pub returns-clause-decls : goal.returns-clause-decls

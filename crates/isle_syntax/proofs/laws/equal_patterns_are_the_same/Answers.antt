@@ -1,7 +1,7 @@
-use Rattle.isle_syntax.specs.PatternCode.{pattern_tree_code, pattern_trees_code}
-use Rattle.isle_syntax.specs.PatternShape.{pattern_of}
-use Rattle.isle_syntax.specs.Equality.{same_coded-decides}
-use Rattle.isle_syntax.proofs.Equality.{same_pattern-decides}
+use Rattle.isle_syntax.specs.Trees.PatternCode.{pattern_tree_code, pattern_trees_code}
+use Rattle.isle_syntax.specs.Trees.PatternShape.{pattern_of}
+use Rattle.isle_syntax.specs.Trees.Equality.{same_coded-decides}
+use Rattle.isle_syntax.proofs.Trees.Equality.{same_pattern-decides}
 use Rattle.isle_syntax.proofs.laws.equal_patterns_are_the_same.Goals as goal
 
 pub returns-clause-patterns : goal.returns-clause-patterns

@@ -1,8 +1,8 @@
 use Rattle.std.proofs.Common.{refl}
 use Rattle.isle_syntax.specs.contracts.ast.IdentOrd.TheImpl.Laws as laws
-use Rattle.isle_syntax.proofs.DefEquality.{ident-decides}
-use Rattle.isle_syntax.proofs.Orders.{ident_cmp-Equal}
-use Rattle.isle_syntax.proofs.Hashes.{names_apart}
+use Rattle.isle_syntax.proofs.Trees.DefEquality.{ident-decides}
+use Rattle.isle_syntax.proofs.Positions.Orders.{ident_cmp-Equal}
+use Rattle.isle_syntax.proofs.Trees.Hashes.{names_apart}
 use Rattle.isle_syntax.proofs.laws.identifiers_are_ordered.Goals as goal
 
 pub returns-clause-ordered : goal.returns-clause-ordered

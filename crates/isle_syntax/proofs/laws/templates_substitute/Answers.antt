@@ -1,4 +1,4 @@
-use Rattle.isle_syntax.proofs.Substitution.{substitutes}
+use Rattle.isle_syntax.proofs.Trees.Substitution.{substitutes}
 use Rattle.isle_syntax.proofs.laws.templates_substitute.Goals as goal
 
 pub returns : goal.returns

@@ -2,7 +2,7 @@ use Rattle.std.proofs.Common.{refl}
 use Rattle.std.proofs.lemmas.Slice.Eq.{bytes_eq-Decides}
 use Rattle.std.specs.Cmp.Lexicographic.{slice_cmp, nat_list_cmp_total, texts_ties}
 use Rattle.std.specs.Ordering.{nat_cmp}
-use Rattle.isle_syntax.proofs.Orders.{level}
+use Rattle.isle_syntax.proofs.Positions.Orders.{level}
 use Rattle.isle_syntax.proofs.laws.texts_are_ordered.Goals as goal
 
 pub returns-clause-ordered : goal.returns-clause-ordered

@@ -1,10 +1,10 @@
 use Rattle.std.proofs.Common.{refl, ap, ◌∙◌, arith}
 use Rattle.isle_syntax.specs.declared.lexer.Lookahead.{Lookahead}
-use Rattle.isle_syntax.specs.Reading.{reading, reading_before}
-use Rattle.isle_syntax.specs.Unread.{Source}
-use Rattle.isle_syntax.proofs.Looks.{looked_found, looked_nothing, looked_fault, looked_no_further, word_begins, word_stands}
-use Rattle.isle_syntax.proofs.Unreads.{place_of_placed}
-use Rattle.isle_syntax.proofs.TokenOrder.{none_ascend, looked_ascend, behind-le, found-le}
+use Rattle.isle_syntax.specs.Tokens.Finding.{reading, reading_before}
+use Rattle.isle_syntax.specs.Tokens.RemainingTokens.{Source}
+use Rattle.isle_syntax.proofs.Tokens.Looks.{looked_found, looked_nothing, looked_fault, looked_no_further, word_begins, word_stands}
+use Rattle.isle_syntax.proofs.Tokens.Remaining.{pos_of_placed}
+use Rattle.isle_syntax.proofs.Tokens.TokenOrder.{none_ascend, looked_ascend, behind-le, found-le}
 use Rattle.isle_syntax.proofs.lexer.look.Goals as goal
 
 pub returns-in-Ok-Some-clause-same : goal.returns-in-Ok-Some-clause-same
@@ -37,7 +37,7 @@ returns-in-Ok-Some-clause-ahead c =
     record {
       within = omega arith;
       remaining = omega (arith, shorter, c.requires);
-      begins = place_of_placed c.new.result c.in-Ok-Some.token ∙ c.new.ensures;
+      begins = pos_of_placed c.new.result c.in-Ok-Some.token ∙ c.new.ensures;
       starved_before = λ e. cc;
       ascending = looked_ascend source (Lookahead.Token (c.new.result, c.in-Ok-Some.token)) c.saturating_sub-start.result c.in-Ok-Some.more.now c.args.rest.now (returns-in-Ok-Some-clause-same c) c.requires;
     }

@@ -1,6 +1,6 @@
 use Rattle.std.proofs.Common.{◌≡◌, length}
-use Rattle.isle_syntax.specs.Gaps.{after_run}
-use Rattle.isle_syntax.specs.Integers.{continues_digits}
+use Rattle.isle_syntax.specs.Tokens.Gaps.{after_run}
+use Rattle.isle_syntax.specs.Tokens.Integers.{continues_digits}
 use Rattle.isle_syntax.proofs.number.after_digits.Given as goal
 
 abbrev pub invariant-bytes : goal.invariant-bytes

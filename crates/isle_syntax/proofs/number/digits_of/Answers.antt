@@ -1,6 +1,6 @@
 use Rattle.std.proofs.Common.{length, ap, ◌∙◌, ◌-◌, take, drop, arith}
-use Rattle.isle_syntax.specs.Integers.{continues_digits}
-use Rattle.isle_syntax.proofs.Runs.{after_run-le, run_taken, run_dropped}
+use Rattle.isle_syntax.specs.Tokens.Integers.{continues_digits}
+use Rattle.isle_syntax.proofs.Tokens.Runs.{after_run-le, run_taken, run_dropped}
 use Rattle.isle_syntax.proofs.number.digits_of.Goals as goal
 
 pub overflow_sub-bytes : goal.overflow_sub-bytes

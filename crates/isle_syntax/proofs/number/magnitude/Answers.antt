@@ -1,6 +1,6 @@
 use Rattle.std.proofs.Common.{◌≡◌, ℕ, List, ◌∷◌, sym, ap, ◌∙◌, arith}
-use Rattle.isle_syntax.specs.Integers.{spelt_after, spelt_with, spelt}
-use Rattle.isle_syntax.proofs.Spelt.{spelt_none, spelt_one, spelt_more}
+use Rattle.isle_syntax.specs.Tokens.Integers.{spelt_after, spelt_with, spelt}
+use Rattle.isle_syntax.proofs.Tokens.Digits.{spelt_none, spelt_one, spelt_more}
 use Rattle.isle_syntax.proofs.number.magnitude.Goals as goal
 
 -- one digit more

@@ -1,5 +1,5 @@
 use Rattle.std.proofs.Common.{◌≡◌, ◌<◌, ◌^◌, length}
-use Rattle.isle_syntax.specs.Integers.{spelt, spelt_after}
+use Rattle.isle_syntax.specs.Tokens.Integers.{spelt, spelt_after}
 use Rattle.isle_syntax.proofs.number.magnitude.Given as goal
 
 abbrev pub invariant-digits : goal.invariant-digits

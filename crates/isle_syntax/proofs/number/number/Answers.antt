@@ -1,8 +1,8 @@
 use Rattle.std.proofs.Common.{◌≡◌, sym, subst, rules}
-use Rattle.isle_syntax.specs.Integers.{after_integer}
-use Rattle.isle_syntax.proofs.Cuts.{ending_is_end}
-use Rattle.isle_syntax.proofs.GapCuts.{Cut, cut_self}
-use Rattle.isle_syntax.proofs.IntegerCuts.{cut_integer}
+use Rattle.isle_syntax.specs.Tokens.Integers.{after_integer}
+use Rattle.isle_syntax.proofs.Tokens.Cuts.{ending_is_end}
+use Rattle.isle_syntax.proofs.Tokens.GapCuts.{Cut, cut_self}
+use Rattle.isle_syntax.proofs.Tokens.IntegerCuts.{cut_integer}
 use Rattle.isle_syntax.proofs.number.number.Goals as goal
 
 cut : (c : goal.In-Some) → Cut c.args.text.now c.digits_of.result.1.now

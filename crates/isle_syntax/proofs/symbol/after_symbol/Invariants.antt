@@ -1,6 +1,6 @@
 use Rattle.std.proofs.Common.{◌≡◌, length}
-use Rattle.isle_syntax.specs.Gaps.{after_run}
-use Rattle.isle_syntax.specs.TokensOf.{continues_symbol}
+use Rattle.isle_syntax.specs.Tokens.Gaps.{after_run}
+use Rattle.isle_syntax.specs.Tokens.TokensOf.{continues_symbol}
 use Rattle.isle_syntax.proofs.symbol.after_symbol.Given as goal
 
 abbrev pub invariant-bytes : goal.invariant-bytes

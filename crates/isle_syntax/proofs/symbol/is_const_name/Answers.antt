@@ -1,6 +1,6 @@
 use Rattle.std.proofs.Common.{length, ap}
 use Rattle.std.specs.Prelude.{◌==◌}
-use Rattle.isle_syntax.proofs.Identifiers.{const_name}
+use Rattle.isle_syntax.proofs.Tokens.Identifiers.{const_name}
 use Rattle.isle_syntax.proofs.symbol.is_const_name.Goals as goal
 
 pub returns-then-not-is_empty : goal.returns-then-not-is_empty

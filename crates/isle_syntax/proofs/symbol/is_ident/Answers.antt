@@ -1,6 +1,6 @@
 use Rattle.std.proofs.Common.{sym, ap, ◌∙◌, ◌++◌}
 use Rattle.std.specs.Char.{encode_utf8}
-use Rattle.isle_syntax.proofs.Identifiers.{ident_by_first}
+use Rattle.isle_syntax.proofs.Tokens.Identifiers.{ident_by_first}
 use Rattle.isle_syntax.proofs.symbol.is_ident.Goals as goal
 
 pub returns-then-begins_ident : goal.returns-then-begins_ident

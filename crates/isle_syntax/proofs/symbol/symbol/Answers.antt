@@ -2,10 +2,10 @@ use Rattle.std.proofs.Common.{length, ap, sym, subst, ◌∙◌, ◌≡◌, ◌<
 use Rattle.std.specs.Str.{IsUtf8}
 use Rattle.std.proofs.lemmas.Str.{IsCharBoundary-from_drop}
 use Rattle.std.proofs.lemmas.Bool.Decides.{nat_tests}
-use Rattle.isle_syntax.specs.Gaps.{after_run}
-use Rattle.isle_syntax.specs.TokensOf.{continues_symbol}
-use Rattle.isle_syntax.proofs.Runs.{after_run-le, run_taken, run_dropped}
-use Rattle.isle_syntax.proofs.Cuts.{stopped-utf8}
+use Rattle.isle_syntax.specs.Tokens.Gaps.{after_run}
+use Rattle.isle_syntax.specs.Tokens.TokensOf.{continues_symbol}
+use Rattle.isle_syntax.proofs.Tokens.Runs.{after_run-le, run_taken, run_dropped}
+use Rattle.isle_syntax.proofs.Tokens.Cuts.{stopped-utf8}
 use Rattle.isle_syntax.proofs.symbol.symbol.Goals as goal
 
 stop_ascii : (b : ℕ) → continues_symbol b ≡ false → b < 128

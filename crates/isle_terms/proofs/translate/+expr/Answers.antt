@@ -1,13 +1,13 @@
 use Rattle.std.proofs.Common.{sym, subst}
 use Rattle.std.proofs.lemmas.Result.{err_from_is_err_and}
-use Rattle.isle_syntax.specs.Positions.{HasPlaceAt}
-use Rattle.isle_syntax.specs.Places.{ExprAt, ExprTreesAt}
-use Rattle.isle_syntax.proofs.TreePlaces.{exprs_at_each}
+use Rattle.isle_syntax.specs.Positions.Printable.{IsPrintablePos}
+use Rattle.isle_syntax.specs.Positions.DefPositions.{ExprAt, ExprTreesAt}
+use Rattle.isle_syntax.proofs.Positions.TreePositions.{exprs_at_each}
 use Rattle.isle_terms.proofs.translate.+expr.Goals as goal
 
 pub translate_expr-returns-in_err-args-in-Term-clause-printable : goal.translate_expr-returns-in_err-args-in-Term-clause-printable
 translate_expr-returns-in_err-args-in-Term-clause-printable t c = λ files rule placed.
-    let At = HasPlaceAt files in
+    let At = IsPrintablePos files in
     let tree = subst (ExprAt At) c.in-Term.is placed in
     let args = exprs_at_each At c.as_slice-args.result.now (subst (ExprTreesAt At) (sym c.as_slice-args.ensures) tree.1) in
     let refused = c.in_err-args-in-Term.ensures.printable files rule tree.2 args in

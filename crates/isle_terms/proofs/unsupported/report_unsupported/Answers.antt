@@ -1,5 +1,5 @@
 use Rattle.std.proofs.Common.{◌∙◌, refl, arith}
-use Rattle.isle_syntax.specs.Positions.{HasPlaceAt}
+use Rattle.isle_syntax.specs.Positions.Printable.{IsPrintablePos}
 use Rattle.isle_types.proofs.EnvironmentPlaces.{same_places, reported_places, read_def}
 use Rattle.isle_terms.proofs.unsupported.report_unsupported.Goals as goal
 
@@ -11,6 +11,6 @@ pub loop-def-preserved : goal.loop-def-preserved
 loop-def-preserved c = record {
   same_types = c.report_error.ensures.same_types ∙ c.loop-def.invariant.same_types;
   placed = λ files placed before.
-      let here = read_def (HasPlaceAt files) c.args.defs.now c.loop-def.def-index c.def-item.result c.def-item.result (omega arith) c.def-item.is refl placed in
+      let here = read_def (IsPrintablePos files) c.args.defs.now c.loop-def.def-index c.def-item.result c.def-item.result (omega arith) c.def-item.is refl placed in
       reported_places files c.loop-def.tyenv _ _ _ c.report_error.ensures.same_types c.in_ok-report_error.ensures.ok (c.in-Some.ensures files here) (c.loop-def.invariant.placed files placed before);
 }

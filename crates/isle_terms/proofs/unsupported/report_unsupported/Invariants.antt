@@ -1,13 +1,13 @@
 use Rattle.std.proofs.Common.{◌≡◌, List}
 use Rattle.std.specs.List.{All}
-use Rattle.isle_syntax.specs.Files.{SourceFile}
-use Rattle.isle_syntax.specs.Positions.{HasPlaceAt}
-use Rattle.isle_syntax.specs.Places.{DefAt}
-use Rattle.isle_types.specs.TypeEnvs.{types_of, HasPlaces}
+use Rattle.isle_syntax.specs.Positions.Files.{SourceFile}
+use Rattle.isle_syntax.specs.Positions.Printable.{IsPrintablePos}
+use Rattle.isle_syntax.specs.Positions.DefPositions.{DefAt}
+use Rattle.isle_types.specs.TypeEnvs.{types_of, HasPrintablePositions}
 use Rattle.isle_terms.proofs.unsupported.report_unsupported.Given as goal
 
 abbrev pub invariant-loop-def : goal.invariant-loop-def
 invariant-loop-def l = record {
   same_types : types_of l.tyenv ≡ types_of l.initial.tyenv;
-  placed : (files : List SourceFile) → All (DefAt (HasPlaceAt files)) l.defs → HasPlaces files l.initial.tyenv → HasPlaces files l.tyenv;
+  placed : (files : List SourceFile) → All (DefAt (IsPrintablePos files)) l.defs → HasPrintablePositions files l.initial.tyenv → HasPrintablePositions files l.tyenv;
 }

@@ -2,8 +2,8 @@ use Rattle.std.proofs.Common.{◌≡◌, ◌<◌, ◌≤◌, ◌∷◌, ◌++◌
 use Rattle.std.specs.Io.KnownBytes.{Appends}
 use Rattle.isle_layout.specs.Formats.{Formats}
 use Rattle.isle_syntax.specs.Errors.{report_text}
-use Rattle.isle_syntax.specs.Files.{SourceFile, source_file}
-use Rattle.isle_syntax.specs.Texts.{IsFaultIn}
+use Rattle.isle_syntax.specs.Positions.Files.{SourceFile, source_file}
+use Rattle.isle_syntax.specs.Grammar.Texts.{IsFaultIn}
 use Rattle.isle_run.specs.Compiled.{IsFirstFault}
 use Rattle.isle_run.proofs.FirstFaults.{is_first_fault}
 use Rattle.islec.proofs.SpeltPrints.{Prints-spelt}

@@ -1,7 +1,7 @@
 use Rattle.std.proofs.Common.{◌+◌, ap, ◌∙◌, arith}
 use Rattle.std.specs.Fmt.{char_count}
 use Rattle.isle_layout.specs.Layout.{within}
-use Rattle.isle_layout.proofs.SExprSubjects.{name_counted, names_counted}
+use Rattle.isle_layout.proofs.Layouts.SExprInnermost.{name_counted, names_counted}
 use Rattle.isle_layout.proofs.sexpr.SExpr.names_length.Goals as goal
 
 pub loop-at-preserved : goal.loop-at-preserved

@@ -1,6 +1,6 @@
 use Rattle.std.proofs.Common.{ap, ◌∙◌, arith, ◌∷◌}
 use Rattle.isle_layout.specs.Spellings.{listed, name_sexpr}
-use Rattle.isle_layout.proofs.Spellings.{expr_sexprs_taken, let_sexprs_taken}
+use Rattle.isle_layout.proofs.Layouts.Spellings.{expr_sexprs_taken, let_sexprs_taken}
 use Rattle.isle_layout.proofs.to_sexpr.exprs.+spell_expr.Goals as goal
 
 pub spell_term-returns : goal.spell_term-returns

@@ -1,5 +1,5 @@
 use Rattle.std.proofs.Common.{ap, ◌∙◌, arith, ◌++◌}
-use Rattle.isle_layout.proofs.Spellings.{item_sexprs_taken}
+use Rattle.isle_layout.proofs.Layouts.Spellings.{item_sexprs_taken}
 use Rattle.isle_layout.proofs.to_sexpr.items.+spell_item.Goals as goal
 
 pub add_items-returns : goal.add_items-returns

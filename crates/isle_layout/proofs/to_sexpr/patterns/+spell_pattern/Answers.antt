@@ -1,9 +1,9 @@
 use Rattle.std.proofs.Common.{ap, ◌∙◌, arith, rules, ◌≡◌, ◌∷◌}
-use Rattle.isle_syntax.specs.PatternShape.{pattern_of}
-use Rattle.isle_syntax.proofs.Subjects.{bound_size}
+use Rattle.isle_syntax.specs.Trees.PatternShape.{pattern_of}
+use Rattle.isle_syntax.proofs.Trees.Innermost.{bound_size}
 use Rattle.isle_layout.specs.SExprTree.{sexpr_atom, sexpr_binding}
 use Rattle.isle_layout.specs.Spellings.{listed, bound_sexpr, pattern_sexpr}
-use Rattle.isle_layout.proofs.Spellings.{bound_sexpr_pushed, pattern_sexprs_taken}
+use Rattle.isle_layout.proofs.Layouts.Spellings.{bound_sexpr_pushed, pattern_sexprs_taken}
 use Rattle.isle_layout.proofs.to_sexpr.patterns.+spell_pattern.Goals as goal
 
 pub spell_pattern-loop-at-preserved : goal.spell_pattern-loop-at-preserved

@@ -1,6 +1,6 @@
 use Rattle.std.proofs.Common.{◌≡◌, ◌+◌, ◌*◌, ◌≤◌, ◌∷◌, map, take}
 use Rattle.isle_syntax.specs.declared.ast.BoxedPattern.TheDeep.{size-Pattern}
-use Rattle.isle_syntax.specs.PatternShape.{pattern_of}
+use Rattle.isle_syntax.specs.Trees.PatternShape.{pattern_of}
 use Rattle.isle_layout.specs.SExprTree.{sexpr_atom}
 use Rattle.isle_layout.specs.Spellings.{bound_sexpr, pattern_sexpr}
 use Rattle.isle_layout.proofs.to_sexpr.patterns.+spell_pattern.Given as goal
@@ -8,8 +8,8 @@ use Rattle.isle_layout.proofs.to_sexpr.patterns.+spell_pattern.Given as goal
 abbrev pub decreases-spell_pattern : goal.decreases-spell_pattern
 decreases-spell_pattern l = 3 * goal.size-spell_pattern l + 1
 
-abbrev pub decreases-spell_subject : goal.decreases-spell_subject
-decreases-spell_subject l = 3 * goal.size-spell_subject l
+abbrev pub decreases-spell_innermost : goal.decreases-spell_innermost
+decreases-spell_innermost l = 3 * goal.size-spell_innermost l
 
 abbrev pub decreases-spell_patterns : goal.decreases-spell_patterns
 decreases-spell_patterns l = 3 * goal.size-spell_patterns l + 2

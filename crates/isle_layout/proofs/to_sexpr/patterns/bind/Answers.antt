@@ -2,7 +2,7 @@ use Rattle.std.proofs.Common.{sym, ap, ◌∙◌}
 use Rattle.isle_layout.specs.SExprShape.{sexpr_of}
 use Rattle.isle_layout.specs.SExprTree.{sexpr_binding}
 use Rattle.isle_layout.specs.Spellings.{bound_sexpr}
-use Rattle.isle_layout.proofs.Spellings.{bound_sexpr_pushed}
+use Rattle.isle_layout.proofs.Layouts.Spellings.{bound_sexpr_pushed}
 use Rattle.isle_layout.proofs.to_sexpr.patterns.bind.Goals as goal
 
 pub names-preserved : goal.names-preserved

@@ -1,6 +1,6 @@
 use Rattle.std.proofs.Common.{rules, arith}
 use Rattle.isle_syntax.specs.contracts.ast.fn.Expr.count_terms.terms as closure
-use Rattle.isle_syntax.proofs.Counts.{counted}
+use Rattle.isle_syntax.proofs.Trees.Counts.{counted}
 use Rattle.isle_syntax.proofs.ast.Expr.count_terms.Goals as goal
 
 pub returns : goal.returns

@@ -1,6 +1,6 @@
 use Rattle.std.proofs.Common.{◌∙◌, ap, rules, Ok, Err, Result, MatchResult}
-use Rattle.isle_syntax.specs.PatternShape.{pattern_of}
-use Rattle.isle_syntax.proofs.Subjects.{cloned_chain}
+use Rattle.isle_syntax.specs.Trees.PatternShape.{pattern_of}
+use Rattle.isle_syntax.proofs.Trees.Innermost.{cloned_chain}
 use Rattle.std.specs.Result.{IfOk}
 use Rattle.isle_syntax.proofs.ast.clone.+clone_pattern.Goals as goal
 
@@ -9,10 +9,10 @@ handed_on : {T E : Type 0} (r : Result T E) (P Q : T → Type 0) (R : E → Type
 handed_on (Ok x) P Q R value error h = value x h
 handed_on (Err e) P Q R value error h = error e
 
-pub PatternClone::clone-returns-in_ok-clone_subject-in-BindPattern :
-    goal.PatternClone::clone-returns-in_ok-clone_subject-in-BindPattern
-PatternClone::clone-returns-in_ok-clone_subject-in-BindPattern t c = record {
+pub PatternClone::clone-returns-in_ok-clone_innermost-in-BindPattern :
+    goal.PatternClone::clone-returns-in_ok-clone_innermost-in-BindPattern
+PatternClone::clone-returns-in_ok-clone_innermost-in-BindPattern t c = record {
   cases = handed_on c.wrap.result _ _ _
-      (λ q whole. cloned_chain c.args.self.now q c.in_ok-clone_subject-in-BindPattern.field-0 c.in_ok-names-in-BindPattern.names.items whole c.in_ok-names-in-BindPattern.ensures (ap pattern_of c.in_ok-clone_subject-in-BindPattern.ensures ∙ c.subject.ensures))
+      (λ q whole. cloned_chain c.args.self.now q c.in_ok-clone_innermost-in-BindPattern.field-0 c.in_ok-names-in-BindPattern.names.items whole c.in_ok-names-in-BindPattern.ensures (ap pattern_of c.in_ok-clone_innermost-in-BindPattern.ensures ∙ c.innermost.ensures))
       (λ e. search rules) c.wrap.ensures;
 }

@@ -1,5 +1,5 @@
 use Rattle.std.proofs.Common.{◌≤◌, length, refl, arith, take_all}
-use Rattle.isle_syntax.proofs.TreeShapes.{lets_from_map}
+use Rattle.isle_syntax.proofs.Trees.TreeShapes.{lets_from_map}
 use Rattle.isle_syntax.proofs.ast.eq.+same_expr.Goals as goal
 
 pub are_same_lets-returns : goal.are_same_lets-returns

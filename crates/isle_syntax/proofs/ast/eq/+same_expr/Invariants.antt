@@ -1,6 +1,6 @@
 use Rattle.std.proofs.Common.{◌≡◌, map, take}
-use Rattle.isle_syntax.specs.ExprShape.{expr_of}
-use Rattle.isle_syntax.specs.Equality.{let_of}
+use Rattle.isle_syntax.specs.Trees.ExprShape.{expr_of}
+use Rattle.isle_syntax.specs.Trees.Equality.{let_of}
 use Rattle.isle_syntax.proofs.ast.eq.+same_expr.Given as goal
 
 abbrev pub invariant-are_same_exprs-loop-i : goal.invariant-are_same_exprs-loop-i

@@ -1,12 +1,12 @@
 use Rattle.std.proofs.Common.{◌≡◌, ◌+◌, ◌*◌, map, take}
-use Rattle.isle_syntax.specs.PatternShape.{pattern_of}
+use Rattle.isle_syntax.specs.Trees.PatternShape.{pattern_of}
 use Rattle.isle_syntax.proofs.ast.eq.+same_pattern.Given as goal
 
 abbrev pub decreases-is_same_pattern : goal.decreases-is_same_pattern
 decreases-is_same_pattern l = 3 * goal.size-is_same_pattern l + 1
 
-abbrev pub decreases-is_same_subject : goal.decreases-is_same_subject
-decreases-is_same_subject l = 3 * goal.size-is_same_subject l
+abbrev pub decreases-is_same_innermost : goal.decreases-is_same_innermost
+decreases-is_same_innermost l = 3 * goal.size-is_same_innermost l
 
 abbrev pub decreases-are_same_patterns : goal.decreases-are_same_patterns
 decreases-are_same_patterns l = 3 * goal.size-are_same_patterns l + 2

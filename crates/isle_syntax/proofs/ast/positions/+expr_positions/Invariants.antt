@@ -1,7 +1,7 @@
 use Rattle.std.proofs.Common.{◌≡◌, map}
-use Rattle.isle_syntax.specs.ExprShape.{expr_of}
-use Rattle.isle_syntax.specs.Equality.{let_of}
-use Rattle.isle_syntax.specs.WithoutPos.{expr_tree_without_pos, let_trees_without_pos}
+use Rattle.isle_syntax.specs.Trees.ExprShape.{expr_of}
+use Rattle.isle_syntax.specs.Trees.Equality.{let_of}
+use Rattle.isle_syntax.specs.Trees.WithoutPos.{expr_tree_without_pos, let_trees_without_pos}
 use Rattle.isle_syntax.proofs.ast.positions.+expr_positions.Given as goal
 
 abbrev pub invariant-clear_exprs-loop-expr : goal.invariant-clear_exprs-loop-expr

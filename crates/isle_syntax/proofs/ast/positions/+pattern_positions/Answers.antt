@@ -1,9 +1,9 @@
 use Rattle.std.proofs.Common.{◌≡◌, ◌∙◌, ap, arith, rules}
-use Rattle.isle_syntax.specs.PatternShape.{pattern_of}
-use Rattle.isle_syntax.specs.PatternTree.{pattern_bind}
-use Rattle.isle_syntax.specs.Chain.{bound}
-use Rattle.isle_syntax.specs.WithoutPos.{pattern_tree_without_pos, ident_without_pos, no_pos}
-use Rattle.isle_syntax.proofs.Subjects.{bound_size, bound_pushed, binds_nothing}
+use Rattle.isle_syntax.specs.Trees.PatternShape.{pattern_of}
+use Rattle.isle_syntax.specs.Trees.PatternTree.{pattern_bind}
+use Rattle.isle_syntax.specs.Trees.Chain.{bound}
+use Rattle.isle_syntax.specs.Trees.WithoutPos.{pattern_tree_without_pos, ident_without_pos, no_pos}
+use Rattle.isle_syntax.proofs.Trees.Innermost.{bound_size, bound_pushed, binds_nothing}
 use Rattle.isle_syntax.proofs.ast.positions.+pattern_positions.Goals as goal
 
 pub clear_pattern-loop-at-preserved : goal.clear_pattern-loop-at-preserved
@@ -21,6 +21,6 @@ clear_pattern-loop-at-preserved t c =
           omega (arith, bound_size c.loop-at.at c.into_inner-at.result _ _ _ c.in-BindPattern.is c.into_inner-at.ensures);
     }
 
-pub clear_pattern-clear_subject-requires : goal.clear_pattern-clear_subject-requires
-clear_pattern-clear_subject-requires t c =
+pub clear_pattern-clear_innermost-requires : goal.clear_pattern-clear_innermost-requires
+clear_pattern-clear_innermost-requires t c =
     (omega arith, binds_nothing c.loop-at.at c.in_default.not-BindPattern)

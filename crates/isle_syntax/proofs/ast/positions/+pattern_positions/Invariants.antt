@@ -1,15 +1,15 @@
 use Rattle.std.proofs.Common.{◌≡◌, ◌+◌, ◌*◌, ◌≤◌, map}
 use Rattle.isle_syntax.specs.declared.ast.BoxedPattern.TheDeep.{size-Pattern}
-use Rattle.isle_syntax.specs.PatternShape.{pattern_of}
-use Rattle.isle_syntax.specs.Chain.{bound}
-use Rattle.isle_syntax.specs.WithoutPos.{pattern_tree_without_pos}
+use Rattle.isle_syntax.specs.Trees.PatternShape.{pattern_of}
+use Rattle.isle_syntax.specs.Trees.Chain.{bound}
+use Rattle.isle_syntax.specs.Trees.WithoutPos.{pattern_tree_without_pos}
 use Rattle.isle_syntax.proofs.ast.positions.+pattern_positions.Given as goal
 
 abbrev pub decreases-clear_pattern : goal.decreases-clear_pattern
 decreases-clear_pattern l = 3 * goal.size-clear_pattern l + 1
 
-abbrev pub decreases-clear_subject : goal.decreases-clear_subject
-decreases-clear_subject l = 3 * goal.size-clear_subject l
+abbrev pub decreases-clear_innermost : goal.decreases-clear_innermost
+decreases-clear_innermost l = 3 * goal.size-clear_innermost l
 
 abbrev pub decreases-clear_patterns : goal.decreases-clear_patterns
 decreases-clear_patterns l = 3 * goal.size-clear_patterns l + 2

@@ -1,5 +1,5 @@
 use Rattle.std.proofs.Common.{◌≡◌, map}
-use Rattle.isle_syntax.specs.WithoutPos.{ident_without_pos}
+use Rattle.isle_syntax.specs.Trees.WithoutPos.{ident_without_pos}
 use Rattle.isle_syntax.proofs.ast.positions.clear_idents.Given as goal
 
 abbrev pub invariant-loop-name : goal.invariant-loop-name

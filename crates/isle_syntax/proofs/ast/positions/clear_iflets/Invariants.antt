@@ -1,5 +1,5 @@
 use Rattle.std.proofs.Common.{◌≡◌, map}
-use Rattle.isle_syntax.specs.WithoutPos.{iflet_without_pos}
+use Rattle.isle_syntax.specs.Trees.WithoutPos.{iflet_without_pos}
 use Rattle.isle_syntax.proofs.ast.positions.clear_iflets.Given as goal
 
 abbrev pub invariant-loop-iflet : goal.invariant-loop-iflet

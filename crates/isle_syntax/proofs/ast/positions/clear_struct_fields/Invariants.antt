@@ -1,5 +1,5 @@
 use Rattle.std.proofs.Common.{◌≡◌, map}
-use Rattle.isle_syntax.specs.WithoutPos.{struct_field_without_pos}
+use Rattle.isle_syntax.specs.Trees.WithoutPos.{struct_field_without_pos}
 use Rattle.isle_syntax.proofs.ast.positions.clear_struct_fields.Given as goal
 
 abbrev pub invariant-loop-field : goal.invariant-loop-field

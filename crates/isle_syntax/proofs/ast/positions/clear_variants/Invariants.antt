@@ -1,5 +1,5 @@
 use Rattle.std.proofs.Common.{◌≡◌, map}
-use Rattle.isle_syntax.specs.WithoutPos.{variant_without_pos}
+use Rattle.isle_syntax.specs.Trees.WithoutPos.{variant_without_pos}
 use Rattle.isle_syntax.proofs.ast.positions.clear_variants.Given as goal
 
 abbrev pub invariant-loop-variant : goal.invariant-loop-variant

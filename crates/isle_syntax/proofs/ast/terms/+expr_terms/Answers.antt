@@ -1,8 +1,8 @@
 use Rattle.std.proofs.Common.{refl, add-one}
-use Rattle.isle_syntax.specs.ExprShape.{expr_of, exprs_of, lets_of}
-use Rattle.isle_syntax.specs.Terms.{expr_terms, exprs_terms, lets_terms, CalledAtTerm}
+use Rattle.isle_syntax.specs.Trees.ExprShape.{expr_of, exprs_of, lets_of}
+use Rattle.isle_syntax.specs.Trees.Terms.{expr_terms, exprs_terms, lets_terms, CalledAtTerm}
 use Rattle.isle_syntax.specs.declared.ast.LetDef.{LetDef}
-use Rattle.isle_syntax.proofs.Terms.{joined, called_more}
+use Rattle.isle_syntax.proofs.Trees.Terms.{joined, called_more}
 use Rattle.isle_syntax.proofs.ast.terms.+expr_terms.Goals as goal
 
 pub hand_exprs-loop-expr-preserved : goal.hand_exprs-loop-expr-preserved

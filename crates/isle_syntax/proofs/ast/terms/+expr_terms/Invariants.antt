@@ -1,7 +1,7 @@
 use Rattle.std.proofs.Common.{take}
 use Rattle.std.specs.List.{FoldsTo}
-use Rattle.isle_syntax.specs.ExprShape.{exprs_of, lets_of}
-use Rattle.isle_syntax.specs.Terms.{exprs_terms, lets_terms, CalledAtTerm}
+use Rattle.isle_syntax.specs.Trees.ExprShape.{exprs_of, lets_of}
+use Rattle.isle_syntax.specs.Trees.Terms.{exprs_terms, lets_terms, CalledAtTerm}
 use Rattle.isle_syntax.proofs.ast.terms.+expr_terms.Given as goal
 
 abbrev pub invariant-hand_exprs-loop-expr : goal.invariant-hand_exprs-loop-expr

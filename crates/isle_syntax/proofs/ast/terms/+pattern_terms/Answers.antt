@@ -1,8 +1,8 @@
 use Rattle.std.proofs.Common.{refl, add-one, arith, rules}
-use Rattle.isle_syntax.specs.PatternShape.{pattern_of, patterns_of}
-use Rattle.isle_syntax.specs.Terms.{pattern_terms, patterns_terms, CalledAtTerm}
-use Rattle.isle_syntax.proofs.Terms.{called_more}
-use Rattle.isle_syntax.proofs.Subjects.{args_below, subpats_below}
+use Rattle.isle_syntax.specs.Trees.PatternShape.{pattern_of, patterns_of}
+use Rattle.isle_syntax.specs.Trees.Terms.{pattern_terms, patterns_terms, CalledAtTerm}
+use Rattle.isle_syntax.proofs.Trees.Terms.{called_more}
+use Rattle.isle_syntax.proofs.Trees.Innermost.{args_below, subpats_below}
 use Rattle.isle_syntax.proofs.ast.terms.+pattern_terms.Goals as goal
 
 pub hand_patterns-loop-pattern-preserved : goal.hand_patterns-loop-pattern-preserved
@@ -14,8 +14,8 @@ hand_patterns-loop-pattern-preserved g t c = record {
 
 pub hand_pattern-hand_patterns-requires : goal.hand_pattern-hand_patterns-requires
 hand_pattern-hand_patterns-requires g t c κs within =
-    (omega (arith, args_below c.args.pattern.now c.subject.result.now _ _ _ c.as_slice.result.now c.subject.ensures c.in-Term.is c.as_slice.ensures), (search rules, c.hand_term.ensures.callable))
+    (omega (arith, args_below c.args.pattern.now c.innermost.result.now _ _ _ c.as_slice.result.now c.innermost.ensures c.in-Term.is c.as_slice.ensures), (search rules, c.hand_term.ensures.callable))
 
 pub hand_pattern-hand_patterns-requires-in-And : goal.hand_pattern-hand_patterns-requires-in-And
 hand_pattern-hand_patterns-requires-in-And g t c κs within =
-    (omega (arith, subpats_below c.args.pattern.now c.subject.result.now _ _ c.as_slice-in-And.result.now c.subject.ensures c.in-And.is c.as_slice-in-And.ensures), search rules)
+    (omega (arith, subpats_below c.args.pattern.now c.innermost.result.now _ _ c.as_slice-in-And.result.now c.innermost.ensures c.in-And.is c.as_slice-in-And.ensures), search rules)

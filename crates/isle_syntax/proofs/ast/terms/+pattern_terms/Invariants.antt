@@ -1,7 +1,7 @@
 use Rattle.std.proofs.Common.{take}
 use Rattle.std.specs.List.{FoldsTo}
-use Rattle.isle_syntax.specs.PatternShape.{patterns_of}
-use Rattle.isle_syntax.specs.Terms.{patterns_terms, CalledAtTerm}
+use Rattle.isle_syntax.specs.Trees.PatternShape.{patterns_of}
+use Rattle.isle_syntax.specs.Trees.Terms.{patterns_terms, CalledAtTerm}
 use Rattle.isle_syntax.proofs.ast.terms.+pattern_terms.Given as goal
 
 abbrev pub invariant-hand_patterns-loop-pattern : goal.invariant-hand_patterns-loop-pattern

@@ -3,7 +3,7 @@ use Rattle.std.proofs.Output.{has_written_of_eq}
 use Rattle.isle_syntax.specs.declared.error.Error.{Error}
 use Rattle.isle_syntax.specs.declared.error.Error.TheVariants.{OverlapError}
 use Rattle.isle_syntax.specs.Errors.{spans_of, error_text}
-use Rattle.isle_syntax.proofs.ErrorTexts.{overlap_text, masked_have_places}
+use Rattle.isle_syntax.proofs.Positions.ErrorTexts.{overlap_text, masked_have_places}
 use Rattle.isle_syntax.proofs.error.print.write_error.Goals as goal
 
 pub returns-in-TypeError : goal.returns-in-TypeError

@@ -1,6 +1,6 @@
 use Rattle.std.proofs.Common.{◌≡◌, ◌+◌, ap, ◌∙◌}
-use Rattle.isle_syntax.specs.Lines.{line_starts, starts_up_to}
-use Rattle.isle_syntax.proofs.LineStarts.{starts_are_counted}
+use Rattle.isle_syntax.specs.Positions.Lines.{line_starts, starts_up_to}
+use Rattle.isle_syntax.proofs.Positions.LineStarts.{starts_are_counted}
 use Rattle.isle_syntax.proofs.files.File.line.Goals as goal
 
 pub returns : goal.returns

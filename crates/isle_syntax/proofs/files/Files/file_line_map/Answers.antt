@@ -1,4 +1,4 @@
-use Rattle.isle_syntax.proofs.LineStarts.{counts_of_file}
+use Rattle.isle_syntax.proofs.Positions.LineStarts.{counts_of_file}
 use Rattle.isle_syntax.proofs.files.Files.file_line_map.Goals as goal
 
 pub returns-clause-counts : goal.returns-clause-counts

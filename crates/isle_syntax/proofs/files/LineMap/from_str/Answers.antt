@@ -1,7 +1,7 @@
 use Rattle.std.proofs.Common.{sym, ap, ◌∙◌, subst}
 use Rattle.std.specs.List.Sorted.{IsStrictlyIncreasing}
-use Rattle.isle_syntax.specs.Lines.{starts_up_to}
-use Rattle.isle_syntax.proofs.LineStarts.{line_starts_increase, starts_are_counted}
+use Rattle.isle_syntax.specs.Positions.Lines.{starts_up_to}
+use Rattle.isle_syntax.proofs.Positions.LineStarts.{line_starts_increase, starts_are_counted}
 use Rattle.isle_syntax.proofs.files.LineMap.from_str.Goals as goal
 
 pub invariant_of-result : goal.invariant_of-result

@@ -1,8 +1,8 @@
 use Rattle.std.proofs.Common.{rules, nat_le, ◌∙◌, ap, subst, sym}
 use Rattle.std.specs.List.Sorted.{IsStrictlyIncreasing}
 use Rattle.std.proofs.lemmas.List.Sorted.{IsPartitionPoint-from_clause}
-use Rattle.isle_syntax.specs.Lines.{starts_up_to}
-use Rattle.isle_syntax.proofs.LineStarts.{starts_are_parted, point_is_starts_up_to}
+use Rattle.isle_syntax.specs.Positions.Lines.{starts_up_to}
+use Rattle.isle_syntax.proofs.Positions.LineStarts.{starts_are_parted, point_is_starts_up_to}
 use Rattle.isle_syntax.proofs.files.LineMap.line.Goals as goal
 
 pub returns-clause-value : goal.returns-clause-value

@@ -1,7 +1,7 @@
 use Rattle.std.proofs.Common.{◌≡◌, ap, sym, ◌∙◌, length, arith}
 use Rattle.std.proofs.lemmas.List.{get_or_default}
-use Rattle.isle_syntax.specs.Lines.{starts_up_to}
-use Rattle.isle_syntax.proofs.LineStarts.{counted_start_is_below}
+use Rattle.isle_syntax.specs.Positions.Lines.{starts_up_to}
+use Rattle.isle_syntax.proofs.Positions.LineStarts.{counted_start_is_below}
 use Rattle.isle_syntax.proofs.files.LineMap.start.Goals as goal
 
 pub returns-in-Some-clause-below : goal.returns-in-Some-clause-below

@@ -1,6 +1,6 @@
 use Rattle.std.proofs.Common.{length}
-use Rattle.isle_syntax.specs.Unread.{Source}
-use Rattle.isle_syntax.proofs.Unreads.{looked_tokens, looked_only, looked_unread}
+use Rattle.isle_syntax.specs.Tokens.RemainingTokens.{Source}
+use Rattle.isle_syntax.proofs.Tokens.Remaining.{looked_tokens, looked_only, looked_remaining}
 use Rattle.isle_syntax.proofs.lexer.Lexer.new.Goals as goal
 
 pub returns-clause-tokens : goal.returns-clause-tokens
@@ -8,10 +8,10 @@ returns-clause-tokens c =
     let source : Source = record { file = c.args.file; size = length c.args.src.now } in
     looked_tokens source c.look-lookahead.result.0 c.look-lookahead.result.1 c.look-lookahead.result.2.now c.args.src.now c.look-lookahead.ensures.same
 
-pub returns-clause-unread : goal.returns-clause-unread
-returns-clause-unread c =
+pub returns-clause-remaining : goal.returns-clause-remaining
+returns-clause-remaining c =
     let source : Source = record { file = c.args.file; size = length c.args.src.now } in
-    looked_unread source c.look-lookahead.result.0 c.look-lookahead.result.1 c.look-lookahead.result.2.now c.args.src.now
+    looked_remaining source c.look-lookahead.result.0 c.look-lookahead.result.1 c.look-lookahead.result.2.now c.args.src.now
     c.look-lookahead.ensures.same c.look-lookahead.ensures.ahead c.look-lookahead.ensures.not_failed
 
 pub returns-clause-only : goal.returns-clause-only

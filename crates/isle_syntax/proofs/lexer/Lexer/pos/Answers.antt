@@ -1,10 +1,10 @@
 use Rattle.std.proofs.Common.{subst}
-use Rattle.isle_syntax.specs.Unread.{Source}
-use Rattle.isle_syntax.specs.LexerCalls.{IsUnread}
-use Rattle.isle_syntax.proofs.Unreads.{ahead_unread}
+use Rattle.isle_syntax.specs.Tokens.RemainingTokens.{Source}
+use Rattle.isle_syntax.specs.Tokens.LexerCalls.{IsRemaining}
+use Rattle.isle_syntax.proofs.Tokens.Remaining.{ahead_remaining}
 use Rattle.isle_syntax.proofs.lexer.Lexer.pos.Goals as goal
 
-pub returns-clause-unread : goal.returns-clause-unread
-returns-clause-unread c =
+pub returns-clause-remaining : goal.returns-clause-remaining
+returns-clause-remaining c =
     let source : Source = record { file = c.self.inside.file; size = c.self.inside.size } in
-    subst IsUnread c.self.view_is (ahead_unread source c.self.inside.lookahead c.self.inside.start c.self.inside.rest.now c.self.invariant)
+    subst IsRemaining c.self.view_is (ahead_remaining source c.self.inside.lookahead c.self.inside.start c.self.inside.rest.now c.self.invariant)

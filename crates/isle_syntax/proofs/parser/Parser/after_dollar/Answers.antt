@@ -1,4 +1,4 @@
-use Rattle.isle_syntax.proofs.Taking.{const_ascii}
+use Rattle.isle_syntax.proofs.Reading.Taking.{const_ascii}
 use Rattle.isle_syntax.proofs.parser.Parser.after_dollar.Goals as goal
 
 pub after_char-requires : goal.after_char-requires

@@ -1,5 +1,5 @@
 use Rattle.std.proofs.Common.{sym, ◌∙◌}
-use Rattle.isle_syntax.proofs.Taking.{at_gives}
+use Rattle.isle_syntax.proofs.Reading.Taking.{at_gives}
 use Rattle.isle_syntax.proofs.parser.Parser.at_sign.Goals as goal
 
 pub returns-in_ok-take-in-At : goal.returns-in_ok-take-in-At

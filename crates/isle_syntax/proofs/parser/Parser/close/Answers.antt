@@ -1,5 +1,5 @@
 use Rattle.std.proofs.Common.{sym, ◌∙◌}
-use Rattle.isle_syntax.proofs.Taking.{close_gives}
+use Rattle.isle_syntax.proofs.Reading.Taking.{close_gives}
 use Rattle.isle_syntax.proofs.parser.Parser.close.Goals as goal
 
 pub returns-in_ok-_close-in-Close : goal.returns-in_ok-_close-in-Close

@@ -1,12 +1,12 @@
 use Rattle.std.proofs.Common.{◌≡◌, length}
-use Rattle.isle_syntax.specs.Parsing.{bounds}
-use Rattle.isle_syntax.specs.DefReading.{rule_body}
-use Rattle.isle_syntax.proofs.BodyTurns.{BodyTurns}
+use Rattle.isle_syntax.specs.Reading.Parsing.{bounds}
+use Rattle.isle_syntax.specs.Reading.DefReading.{rule_body}
+use Rattle.isle_syntax.proofs.Productions.BodyTurns.{BodyTurns}
 use Rattle.isle_syntax.proofs.parser.Parser.parse_body.Given as goal
 
 abbrev pub invariant-clauses : goal.invariant-clauses
 invariant-clauses l = record {
-  turns : BodyTurns l.room (rule_body l.room l.initial.self.left) l.iflets.items l.self.left;
+  turns : BodyTurns l.depth_left (rule_body l.depth_left l.initial.self.left) l.iflets.items l.self.left;
   same : bounds l.self ≡ bounds l.initial.self;
 }
 

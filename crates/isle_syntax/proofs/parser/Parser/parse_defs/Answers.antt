@@ -1,13 +1,13 @@
 use Rattle.std.proofs.Common.{refl, sym, subst, ◌∙◌}
 use Rattle.std.proofs.lemmas.Bool.{false≢true}
 use Rattle.std.proofs.lemmas.Result.{err_from_is_err_and}
-use Rattle.isle_syntax.specs.LexerCalls.{HasEnded}
-use Rattle.isle_syntax.specs.Readers.{at_end}
-use Rattle.isle_syntax.specs.DefReading.{def}
-use Rattle.isle_syntax.specs.Verdict.{max_nesting}
-use Rattle.isle_syntax.proofs.DefRules.{def_shorter}
-use Rattle.isle_syntax.proofs.Loops.{turn_adds}
-use Rattle.isle_syntax.proofs.Whole.{refusal_is_right, all_are_spelt, at_end_none}
+use Rattle.isle_syntax.specs.Tokens.LexerCalls.{HasEnded}
+use Rattle.isle_syntax.specs.Reading.Readers.{at_end}
+use Rattle.isle_syntax.specs.Reading.DefReading.{def}
+use Rattle.isle_syntax.specs.Grammar.Verdict.{max_nesting}
+use Rattle.isle_syntax.proofs.Productions.Defs.{def_shorter}
+use Rattle.isle_syntax.proofs.Reading.Loops.{turn_adds}
+use Rattle.isle_syntax.proofs.Productions.Whole.{refusal_is_right, all_are_spelt, at_end_none}
 use Rattle.isle_syntax.proofs.parser.Parser.parse_defs.Goals as goal
 
 pub returns-in_err-parse_def-clause-right : goal.returns-in_err-parse_def-clause-right

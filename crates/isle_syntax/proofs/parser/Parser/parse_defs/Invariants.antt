@@ -1,9 +1,9 @@
 use Rattle.std.proofs.Common.{◌≡◌, length}
-use Rattle.isle_syntax.specs.Parsing.{bounds}
-use Rattle.isle_syntax.specs.Readers.{at_end, all_of}
-use Rattle.isle_syntax.specs.DefReading.{def}
-use Rattle.isle_syntax.specs.Verdict.{max_nesting}
-use Rattle.isle_syntax.proofs.Loops.{Turns}
+use Rattle.isle_syntax.specs.Reading.Parsing.{bounds}
+use Rattle.isle_syntax.specs.Reading.Readers.{at_end, all_of}
+use Rattle.isle_syntax.specs.Reading.DefReading.{def}
+use Rattle.isle_syntax.specs.Grammar.Verdict.{max_nesting}
+use Rattle.isle_syntax.proofs.Reading.Loops.{Turns}
 use Rattle.isle_syntax.proofs.parser.Parser.parse_defs.Given as goal
 
 abbrev pub invariant-defs : goal.invariant-defs

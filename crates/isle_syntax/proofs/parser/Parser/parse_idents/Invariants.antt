@@ -1,8 +1,8 @@
 use Rattle.std.proofs.Common.{◌≡◌, length}
-use Rattle.isle_syntax.specs.Parsing.{bounds}
-use Rattle.isle_syntax.specs.Readers.{after_close, rest_of}
-use Rattle.isle_syntax.specs.DefReading.{identifier}
-use Rattle.isle_syntax.proofs.Loops.{Turns}
+use Rattle.isle_syntax.specs.Reading.Parsing.{bounds}
+use Rattle.isle_syntax.specs.Reading.Readers.{after_close, rest_of}
+use Rattle.isle_syntax.specs.Reading.DefReading.{identifier}
+use Rattle.isle_syntax.proofs.Reading.Loops.{Turns}
 use Rattle.isle_syntax.proofs.parser.Parser.parse_idents.Given as goal
 
 abbrev pub invariant-idents : goal.invariant-idents

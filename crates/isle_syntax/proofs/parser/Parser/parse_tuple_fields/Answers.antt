@@ -1,12 +1,12 @@
 use Rattle.isle_syntax.specs.declared.ast.Fields.TheVariants.{Tuple as tuple_fields}
 use Rattle.std.proofs.Common.{rules, [], ◌∷◌, ◌++◌, refl, sym, ap, ◌∙◌}
 use Rattle.std.proofs.lemmas.Result.{err_from_is_err_and}
-use Rattle.isle_syntax.specs.Parsing.{bounds}
-use Rattle.isle_syntax.specs.Readers.{after_close, read_map, done, rest_of}
-use Rattle.isle_syntax.specs.DefReading.{identifier, fields_numbered}
-use Rattle.isle_syntax.proofs.Loops.{turn_refuses, turn_adds, turn_no_token, turns_end, takes_none, takes_some, refuses_map}
-use Rattle.isle_syntax.proofs.Shorter.{identifier_shortens}
-use Rattle.isle_syntax.proofs.Numbers.{numbered_push, numbered_none, numbered_some, nothing_in}
+use Rattle.isle_syntax.specs.Reading.Parsing.{bounds}
+use Rattle.isle_syntax.specs.Reading.Readers.{after_close, read_map, done, rest_of}
+use Rattle.isle_syntax.specs.Reading.DefReading.{identifier, fields_numbered}
+use Rattle.isle_syntax.proofs.Reading.Loops.{turn_refuses, turn_adds, turn_no_token, turns_end, takes_none, takes_some, refuses_map}
+use Rattle.isle_syntax.proofs.Reading.Shorter.{identifier_shortens}
+use Rattle.isle_syntax.proofs.Reading.Numbers.{numbered_push, numbered_none, numbered_some, nothing_in}
 use Rattle.isle_syntax.proofs.parser.Parser.parse_tuple_fields.Goals as goal
 
 pub returns-in_err-take_close : goal.returns-in_err-take_close

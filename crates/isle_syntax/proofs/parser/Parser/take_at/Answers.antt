@@ -1,7 +1,7 @@
 use Rattle.std.proofs.Common.{sym, ap, ◌∙◌}
-use Rattle.isle_syntax.specs.KindOf.{kind_at}
-use Rattle.isle_syntax.specs.Tokens.{placed}
-use Rattle.isle_syntax.proofs.Taking.{at_then, given_bounds}
+use Rattle.isle_syntax.specs.Reading.KindOf.{kind_at}
+use Rattle.isle_syntax.specs.Tokens.PlacedTokens.{placed}
+use Rattle.isle_syntax.proofs.Reading.Taking.{at_then, given_bounds}
 use Rattle.isle_syntax.proofs.parser.Parser.take_at.Goals as goal
 
 pub returns-in_ok-_at-in-At-clause-taken : goal.returns-in_ok-_at-in-At-clause-taken

@@ -1,5 +1,5 @@
 use Rattle.std.proofs.Common.{sym, ◌∙◌}
-use Rattle.isle_syntax.proofs.Taking.{take_close_gives}
+use Rattle.isle_syntax.proofs.Reading.Taking.{take_close_gives}
 use Rattle.isle_syntax.proofs.parser.Parser.take_close.Goals as goal
 
 pub returns-in_ok-_close-in-Close-clause-taken : goal.returns-in_ok-_close-in-Close-clause-taken

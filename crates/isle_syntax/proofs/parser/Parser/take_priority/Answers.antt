@@ -1,5 +1,5 @@
 use Rattle.std.proofs.Common.{sym, ◌∙◌}
-use Rattle.isle_syntax.proofs.RuleSteps.{takes_priority}
+use Rattle.isle_syntax.proofs.Productions.RuleSteps.{takes_priority}
 use Rattle.isle_syntax.proofs.parser.Parser.take_priority.Goals as goal
 
 pub returns-clause-taken : goal.returns-clause-taken

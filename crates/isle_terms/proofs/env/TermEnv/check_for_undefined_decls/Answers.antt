@@ -1,6 +1,6 @@
 use Rattle.std.proofs.Common.{◌∙◌, ap, refl, arith}
 use Rattle.std.proofs.lemmas.List.Elements.{All-same}
-use Rattle.isle_syntax.specs.Positions.{HasPlaceAt}
+use Rattle.isle_syntax.specs.Positions.Printable.{IsPrintablePos}
 use Rattle.isle_types.specs.TypeEnvs.{types_of}
 use Rattle.isle_types.proofs.EnvironmentPlaces.{same_places, reported_places}
 use Rattle.isle_terms.specs.Environment.{terms_of, TermAt}
@@ -20,7 +20,7 @@ loop-term-preserved c = elim c.if-not-has_constructor.branch [
         ap types_of w.tyenv-is ∙ (w.report_error.ensures.same_types ∙ c.loop-term.invariant.same_types);
     placed = λ files before.
         let kept = c.loop-term.invariant.placed files before in
-        let At = HasPlaceAt files in
+        let At = IsPrintablePos files in
         let terms = All-same (TermAt At) c.deref-term-items.result.now (terms_of c.args.self.now) c.deref-term-items.ensures.value kept.terms in
         let here = read_element (TermAt At) c.deref-term-items.result.now c.loop-term.term-index c.term-item.result (omega arith) c.term-item.is terms in
         let types = reported_places files c.loop-term.tyenv w.report_error.new.self _ _ w.report_error.ensures.same_types w.in_ok-report_error.ensures.ok here kept.types in

@@ -1,7 +1,7 @@
 use Rattle.isle_terms.proofs.env.TermEnv.collect_constructors.Goals as goal
 use Rattle.std.proofs.Common.{◌∙◌, sym, subst, arith}
-use Rattle.isle_syntax.specs.Positions.{HasPlaceAt}
-use Rattle.isle_syntax.specs.Places.{RuleAt}
+use Rattle.isle_syntax.specs.Positions.Printable.{IsPrintablePos}
+use Rattle.isle_syntax.specs.Positions.DefPositions.{RuleAt}
 use Rattle.isle_types.proofs.EnvironmentPlaces.{same_places, reported_places, read_def}
 use Rattle.isle_terms.specs.declared.env.TermEnv.{TermEnv}
 use Rattle.isle_terms.specs.Environment.{ArePlaced}
@@ -18,7 +18,7 @@ loop-def-preserved-in_default-root_term c = record {
   same_types = c.report_error.ensures.same_types ∙ c.loop-def.invariant.same_types;
   placed = λ files placed before.
       let kept = c.loop-def.invariant.placed files placed before in
-      let here : RuleAt (HasPlaceAt files) c.in-Rule.rule = read_def (HasPlaceAt files) c.args.defs.now c.loop-def.def-index c.def-item.result _ (omega arith) c.def-item.is c.in-Rule.is placed in
+      let here : RuleAt (IsPrintablePos files) c.in-Rule.rule = read_def (IsPrintablePos files) c.args.defs.now c.loop-def.def-index c.def-item.result _ (omega arith) c.def-item.is c.in-Rule.is placed in
       with_types files c.loop-def.tyenv _ _ (reported_places files c.loop-def.tyenv _ _ _ c.report_error.ensures.same_types c.in_ok-report_error.ensures.ok here.pos kept.types) kept;
 }
 

@@ -1,6 +1,6 @@
 use Rattle.std.proofs.Common.{◌∙◌, ap, refl, subst, sym, arith}
-use Rattle.isle_syntax.specs.Positions.{HasPlaceAt}
-use Rattle.isle_syntax.specs.Places.{RuleAt}
+use Rattle.isle_syntax.specs.Positions.Printable.{IsPrintablePos}
+use Rattle.isle_syntax.specs.Positions.DefPositions.{RuleAt}
 use Rattle.isle_types.specs.TypeEnvs.{types_of}
 use Rattle.isle_types.proofs.EnvironmentPlaces.{same_places, kept_places, read_def}
 use Rattle.isle_terms.proofs.TermPlaces.{with_types, with_rule, same_terms_and_rules, moved}
@@ -26,9 +26,9 @@ loop-def-preserved c = elim c.match-def.branch [
         ap types_of w.tyenv-is ∙ (w.typed_rule.ensures.same_types ∙ c.loop-def.invariant.same_types);
     placed = λ files placed before.
         let kept = c.loop-def.invariant.placed files placed before in
-        let here : RuleAt (HasPlaceAt files) w.in-Rule.rule = read_def (HasPlaceAt files) c.args.defs.now c.loop-def.def-index c.def-item.result _ (omega arith) c.def-item.is w.in-Rule.is placed in
+        let here : RuleAt (IsPrintablePos files) w.in-Rule.rule = read_def (IsPrintablePos files) c.args.defs.now c.loop-def.def-index c.def-item.result _ (omega arith) c.def-item.is w.in-Rule.is placed in
         let types = same_places files c.loop-def.tyenv w.typed_rule.new.tyenv w.typed_rule.ensures.same_types w.typed_rule.ensures.same_errors kept.types in
-        let rules = with_rule files c.loop-def.tyenv c.loop-def.self _ w.in-Ok.typed refl w.in_ok-push-in-Ok.ensures.items (subst (HasPlaceAt files) (sym w.in-Ok.ensures.here) here.pos) kept in
+        let rules = with_rule files c.loop-def.tyenv c.loop-def.self _ w.in-Ok.typed refl w.in_ok-push-in-Ok.ensures.items (subst (IsPrintablePos files) (sym w.in-Ok.ensures.here) here.pos) kept in
         moved files _ _ _ _ w.tyenv-is w.self-is (with_types files c.loop-def.tyenv w.typed_rule.new.tyenv _ types rules);
   }
   | in-Rule+in-Some+in-Err+in_ok-keep-in-Err w ↦ record {
@@ -36,7 +36,7 @@ loop-def-preserved c = elim c.match-def.branch [
         ap types_of w.tyenv-is ∙ (w.keep.ensures.same_types ∙ (w.typed_rule.ensures.same_types ∙ c.loop-def.invariant.same_types));
     placed = λ files placed before.
         let kept = c.loop-def.invariant.placed files placed before in
-        let here : RuleAt (HasPlaceAt files) w.in-Rule.rule = read_def (HasPlaceAt files) c.args.defs.now c.loop-def.def-index c.def-item.result _ (omega arith) c.def-item.is w.in-Rule.is placed in
+        let here : RuleAt (IsPrintablePos files) w.in-Rule.rule = read_def (IsPrintablePos files) c.args.defs.now c.loop-def.def-index c.def-item.result _ (omega arith) c.def-item.is w.in-Rule.is placed in
         let typed = same_places files c.loop-def.tyenv w.typed_rule.new.tyenv w.typed_rule.ensures.same_types w.typed_rule.ensures.same_errors kept.types in
         let types = kept_places files w.typed_rule.new.tyenv w.keep.new.self w.in-Err.refusal w.keep.ensures.same_types w.in_ok-keep-in-Err.ensures.ok (w.in-Err.ensures.printable files here) typed in
         moved files _ _ _ _ w.tyenv-is w.self-is (with_types files c.loop-def.tyenv w.keep.new.self c.loop-def.self types kept);

@@ -1,5 +1,5 @@
 use Rattle.std.proofs.lemmas.List.Elements.{All-same}
-use Rattle.isle_syntax.specs.Positions.{HasPlaceAt}
+use Rattle.isle_syntax.specs.Positions.Printable.{IsPrintablePos}
 use Rattle.isle_syntax.specs.Errors.{IsPrintable}
 use Rattle.isle_types.proofs.EnvironmentPlaces.{emptied_places}
 use Rattle.isle_terms.specs.Environment.{TermAt}
@@ -26,6 +26,6 @@ returns-clause-placed c = λ files placed before.
     let all = c.check_for_undefined_decls.ensures.placed files others in
     record {
       types = emptied_places files _ _ c.take_errors-errors.ensures.same_types c.take_errors-errors.ensures.none_left all.types;
-      terms = All-same (TermAt (HasPlaceAt files)) _ _ c.name_lone_rules.ensures.same_terms all.terms;
+      terms = All-same (TermAt (IsPrintablePos files)) _ _ c.name_lone_rules.ensures.same_terms all.terms;
       rules = c.name_lone_rules.ensures.placed files all.rules;
     }

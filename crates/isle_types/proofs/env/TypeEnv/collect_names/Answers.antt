@@ -2,7 +2,7 @@ use Rattle.std.proofs.Common.{◌≡◌, ℕ, ◌+◌, List, [], ◌∷◌, ◌+
 use Rattle.std.proofs.lemmas.List.{take_all}
 use Rattle.isle_syntax.specs.declared.ast.Def.{Def}
 use Rattle.isle_types.specs.declared.env.TypeEnv.{TypeEnv}
-use Rattle.isle_types.specs.Names.{place_of, StandOnce}
+use Rattle.isle_types.specs.Names.{position_of, AreDistinct}
 use Rattle.isle_types.specs.Readings.{HasTypeNames}
 use Rattle.isle_types.proofs.DefinitionTurns.{no_type}
 use Rattle.isle_types.specs.Environment.{as_type, type_names}
@@ -27,7 +27,7 @@ loop-def-preserved c =
           let some : as_type def ≡ Some tree = ap as_type w.in-TypeDef.is in
           let text : w.as_str.result.now ≡ tree.name.0 = w.as_str.ensures in
           let named = subst (λ (name : List ℕ). HasTypeNames w.name_type.new.self (known ++ name ∷ [])) text (w.in_ok-name_type.ensures.named known so_far.named so_far.counted) in
-          let new = w.in_ok-name_type.ensures.new known so_far.named ∙ ap (λ (name : List ℕ). is_none (place_of known name)) text in
+          let new = w.in_ok-name_type.ensures.new known so_far.named ∙ ap (λ (name : List ℕ). is_none (position_of known name)) text in
           elim w.if-not-branch.branch [
             | then-not-branch+in_ok-report_error w' ↦
                 subst (NamedSoFar defs (i + 1) start c.match-def.self) (sym w.next-is) (subst (λ (env : TypeEnv). NamedSoFar defs (i + 1) start env (c.loop-def.next + 1)) (sym (w.self-is ∙ w'.self-is))
@@ -43,4 +43,4 @@ loop-def-preserved c =
 
 pub returns-clause-once : goal.returns-clause-once
 returns-clause-once c = λ clean.
-    subst (λ (defs : List Def). StandOnce (type_names defs)) (take_all c.loop-def.def-index c.args.defs.now c.loop-def-test.false) (c.loop-def.invariant.once clean)
+    subst (λ (defs : List Def). AreDistinct (type_names defs)) (take_all c.loop-def.def-index c.args.defs.now c.loop-def-test.false) (c.loop-def.invariant.once clean)

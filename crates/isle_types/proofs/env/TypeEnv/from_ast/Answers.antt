@@ -3,7 +3,7 @@ use Rattle.isle_types.specs.TypeEnvs.{errors_of}
 use Rattle.isle_types.proofs.FaultLists.{faults_same}
 use Rattle.isle_types.proofs.Reading.{read_environment, no_items, some_items}
 use Rattle.std.proofs.lemmas.Result.{err_from_is_err_and}
-use Rattle.isle_types.proofs.Told.{told_then}
+use Rattle.isle_types.proofs.ReportedFaults.{reported_then}
 use Rattle.isle_types.proofs.Refusals.{refused_makes_none}
 use Rattle.isle_types.proofs.TypePositions.{faults_printable, made_placed}
 use Rattle.isle_types.proofs.env.TypeEnv.from_ast.Goals as goal
@@ -34,12 +34,12 @@ returns-then-not-is_empty-clause-printable c = λ files placed.
 pub returns-in_err-collect_types-clause-refused : goal.returns-in_err-collect_types-clause-refused
 returns-in_err-collect_types-clause-refused c =
     let e = err_from_is_err_and c.from_residual-in_err-collect_types.result c.from_residual-in_err-collect_types.ensures.1 in
-    rw (e.1, e.2) (told_then c.in_err-collect_types.field-0.0 _ _ (λ errors alone have. refused_makes_none c.args.defs.now errors.items (inl alone) have.0 have.1.0 have.1.1) c.in_err-collect_types.ensures.too_large)
+    rw (e.1, e.2) (reported_then c.in_err-collect_types.field-0.0 _ _ (λ errors alone have. refused_makes_none c.args.defs.now errors.items (inl alone) have.0 have.1.0 have.1.1) c.in_err-collect_types.ensures.too_large)
 
 pub returns-in_err-collect_types-clause-printable : goal.returns-in_err-collect_types-clause-printable
 returns-in_err-collect_types-clause-printable c = λ files placed.
     let e = err_from_is_err_and c.from_residual-in_err-collect_types.result c.from_residual-in_err-collect_types.ensures.1 in
-    rw (e.1, e.2) (told_then c.in_err-collect_types.field-0.0 _ _ (λ errors alone. faults_printable files c.args.defs.now errors.items placed (inl alone)) c.in_err-collect_types.ensures.too_large)
+    rw (e.1, e.2) (reported_then c.in_err-collect_types.field-0.0 _ _ (λ errors alone. faults_printable files c.args.defs.now errors.items placed (inl alone)) c.in_err-collect_types.ensures.too_large)
 
 pub returns-clause-placed : goal.returns-clause-placed
 returns-clause-placed c = λ files placed.

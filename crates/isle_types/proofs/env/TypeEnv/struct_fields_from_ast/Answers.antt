@@ -9,7 +9,7 @@ use Rattle.isle_types.specs.declared.types.StructField.{StructField}
 use Rattle.isle_types.specs.TypeFaults.{FieldsBreak, field_twice, unknown_field_type}
 use Rattle.isle_types.specs.TypeEnvs.{names_of}
 use Rattle.isle_types.specs.Readings.{ReadsFields}
-use Rattle.isle_types.proofs.Told.{told_then}
+use Rattle.isle_types.proofs.ReportedFaults.{reported_then}
 use Rattle.isle_types.proofs.Tables.{same_then}
 use Rattle.isle_types.proofs.NamedItems.{named_more}
 use Rattle.isle_types.proofs.FieldReadings.{field_more, known_place, unknown_place, fault_at, named_kept}
@@ -36,7 +36,7 @@ returns-in_err-ty-clause-fault c = λ known named.
     let at = slice_get_read c.args.fields.now (length c.args.fields.now) c.loop-field.field-index c.field-item.result refl c.loop-field-test.true c.field-item.is in
     let type = slice_get-map (λ (tree : StructFieldTree). tree.ty) c.args.fields.now c.loop-field.field-index ∙ ap (option_map (λ (tree : StructFieldTree). tree.ty)) at in
     let same = same_then _ _ _ c.loop-field.invariant.same c.intern_mut.ensures.same in
-    rw (e.1, e.2) (told_then c.in_err-ty.field-0.0 _ _ (λ error here. fault_at (FieldsBreak known _) c.field-item.result.ty.1 (unknown_field_type c.loop-field.field-index c.field-item.result.ty type (unknown_place c.intern_mut.new.self known c.field-item.result.ty.0 (named_kept _ _ known same named) here.1)) error here.0) c.in_err-ty.ensures.fault)
+    rw (e.1, e.2) (reported_then c.in_err-ty.field-0.0 _ _ (λ error here. fault_at (FieldsBreak known _) c.field-item.result.ty.1 (unknown_field_type c.loop-field.field-index c.field-item.result.ty type (unknown_place c.intern_mut.new.self known c.field-item.result.ty.0 (named_kept _ _ known same named) here.1)) error here.0) c.in_err-ty.ensures.fault)
 
 pub loop-field-preserved : goal.loop-field-preserved
 loop-field-preserved c =
@@ -58,7 +58,7 @@ check_fields-requires c =
 pub returns-in_err-check_fields-clause-fault : goal.returns-in_err-check_fields-clause-fault
 returns-in_err-check_fields-clause-fault c = λ known named.
     let e = err_from_is_err_and c.from_residual-in_err-check_fields.result c.from_residual-in_err-check_fields.ensures.1 in
-    rw (e.1, e.2) (told_then c.in_err-check_fields.field-0.0 _ _ (λ error here. fault_at (FieldsBreak known _) here.1.0.pos (field_twice c.args.fields.now here.0 here.1.0 refl here.1.1.0 here.1.1.1) error here.1.1.2) c.in_err-check_fields.ensures.fault)
+    rw (e.1, e.2) (reported_then c.in_err-check_fields.field-0.0 _ _ (λ error here. fault_at (FieldsBreak known _) here.1.0.pos (field_twice c.args.fields.now here.0 here.1.0 refl here.1.1.0 here.1.1.1) error here.1.1.2) c.in_err-check_fields.ensures.fault)
 
 pub returns-clause-read : goal.returns-clause-read
 returns-clause-read c = λ known named.

@@ -7,7 +7,7 @@ use Rattle.isle_types.specs.declared.ids.VariantId.{VariantId}
 use Rattle.isle_types.specs.declared.types.Variant.{Variant}
 use Rattle.isle_types.specs.TypeFaults.{VariantsBreak, variant_twice, variant_fields_break}
 use Rattle.isle_types.specs.TypeEnvs.{names_of}
-use Rattle.isle_types.proofs.Told.{told_then}
+use Rattle.isle_types.proofs.ReportedFaults.{reported_then}
 use Rattle.isle_types.proofs.Tables.{same_then}
 use Rattle.isle_types.proofs.NamedItems.{named_more}
 use Rattle.isle_types.proofs.FieldReadings.{fault_at, named_kept}
@@ -24,7 +24,7 @@ pub returns-in_err-variant_from_ast-clause-fault : goal.returns-in_err-variant_f
 returns-in_err-variant_from_ast-clause-fault c = λ known named.
     let e = err_from_is_err_and c.from_residual.result c.from_residual.ensures.1 in
     let at = slice_get_read c.args.variants.now (length c.args.variants.now) c.loop-variant.variant-index c.variant-item.result refl c.loop-variant-test.true c.variant-item.is in
-    rw (e.1, e.2) (told_then c.in_err-variant_from_ast.field-0.0 _ _ (reading_then _ _ _ _ (λ pos breaks. variant_fields_break c.loop-variant.variant-index c.variant-item.result pos at breaks) (λ pos passed. (passed.0, not_allowed c.args.variants.now c.loop-variant.variant-index c.variant-item.result at passed.1))) (c.in_err-variant_from_ast.ensures.fault known (named_kept _ _ known c.loop-variant.invariant.same named)))
+    rw (e.1, e.2) (reported_then c.in_err-variant_from_ast.field-0.0 _ _ (reading_then _ _ _ _ (λ pos breaks. variant_fields_break c.loop-variant.variant-index c.variant-item.result pos at breaks) (λ pos passed. (passed.0, not_allowed c.args.variants.now c.loop-variant.variant-index c.variant-item.result at passed.1))) (c.in_err-variant_from_ast.ensures.fault known (named_kept _ _ known c.loop-variant.invariant.same named)))
 
 pub loop-variant-preserved : goal.loop-variant-preserved
 loop-variant-preserved c =
@@ -42,4 +42,4 @@ loop-variant-preserved c =
 pub returns-in_err-check_variants-clause-fault : goal.returns-in_err-check_variants-clause-fault
 returns-in_err-check_variants-clause-fault c = λ known named.
     let e = err_from_is_err_and c.from_residual-in_err-check_variants.result c.from_residual-in_err-check_variants.ensures.1 in
-    rw (e.1, e.2) (told_then c.in_err-check_variants.field-0.0 _ _ (λ error here. type_fault_reads _ _ error (fault_at (VariantsBreak known c.args.variants.now) here.1.0.pos (variant_twice here.0 here.1.0 here.1.1.0 here.1.1.1) error here.1.1.2)) c.in_err-check_variants.ensures.fault)
+    rw (e.1, e.2) (reported_then c.in_err-check_variants.field-0.0 _ _ (λ error here. type_fault_reads _ _ error (fault_at (VariantsBreak known c.args.variants.now) here.1.0.pos (variant_twice here.0 here.1.0 here.1.1.0 here.1.1.1) error here.1.1.2)) c.in_err-check_variants.ensures.fault)

@@ -1,6 +1,6 @@
 use Rattle.std.proofs.Common.{◌≡◌, ◌++◌, ◌∷◌, [], map, None, string_bytes, slice_get, sym, ◌∙◌, ap, subst}
 use Rattle.std.proofs.lemmas.List.{length-map}
-use Rattle.isle_types.specs.Names.{place_of}
+use Rattle.isle_types.specs.Names.{position_of}
 use Rattle.isle_types.specs.Interned.{IsInterned}
 use Rattle.isle_types.proofs.NamePlaces.{place_found}
 use Rattle.isle_types.proofs.Interning.{names_pushed, pushed_symbol, interned_pushed, at_key}
@@ -13,7 +13,7 @@ pub invariant_of-self-2 : goal.invariant_of-self-2
 invariant_of-self-2 c =
     let names = map string_bytes c.self.inside.syms.items in
     let key = c.in_ok-key.key in
-    let missing : place_of names (string_bytes key) ≡ None = ap (place_of names) c.in_ok-key.ensures.ok ∙ ap (λ ns. place_of ns c.args.name.now) c.self.view_is ∙ sym c.in_default.ensures.found in
+    let missing : position_of names (string_bytes key) ≡ None = ap (position_of names) c.in_ok-key.ensures.ok ∙ ap (λ ns. position_of ns c.args.name.now) c.self.view_is ∙ sym c.in_default.ensures.found in
     let new = interned_pushed names c.self.inside.sym_map c.insert.new.self key (record { 0 = c.len.result }) c.self.invariant missing (c.len.ensures ∙ c.self.inside.syms.ok.0 ∙ sym (length-map c.self.inside.syms.items string_bytes)) (at_key _ _ key c.in_ok-insert.ensures.values) c.in_ok-insert.ensures.others in
     let items = names_pushed c.self.inside.syms.items c.push.new.self.items c.in_ok-kept.kept (string_bytes key) (c.in_ok-push.ensures.items ∙ ap (λ xs. xs ++ c.in_ok-kept.kept ∷ []) c.reserve.ensures.items) (c.in_ok-kept.ensures.ok ∙ sym c.in_ok-key.ensures.ok) in
     subst (λ ns. IsInterned ns c.insert.new.self) (sym items) new

@@ -1,5 +1,5 @@
 use Rattle.std.proofs.lemmas.Bool.Decides.{Decides-at}
-use Rattle.isle_syntax.proofs.DefEquality.{same_def-decides}
+use Rattle.isle_syntax.proofs.Trees.DefEquality.{same_def-decides}
 use Rattle.isle_syntax.proofs.ast.eq.DefPartialEq.eq.Goals as goal
 
 pub returns-clause-same : goal.returns-clause-same

@@ -1,5 +1,5 @@
-use Rattle.isle_syntax.specs.ItemCode.{item_trees_code}
-use Rattle.isle_syntax.proofs.Equality.{answered}
+use Rattle.isle_syntax.specs.Trees.ItemCode.{item_trees_code}
+use Rattle.isle_syntax.proofs.Trees.Equality.{answered}
 use Rattle.isle_syntax.proofs.ast.eq.KeptItemsPartialEq.eq.Goals as goal
 
 pub returns : goal.returns

@@ -1,5 +1,5 @@
-use Rattle.isle_syntax.specs.PatternCode.{pattern_trees_code}
-use Rattle.isle_syntax.proofs.Equality.{answered}
+use Rattle.isle_syntax.specs.Trees.PatternCode.{pattern_trees_code}
+use Rattle.isle_syntax.proofs.Trees.Equality.{answered}
 use Rattle.isle_syntax.proofs.ast.eq.PatternsPartialEq.eq.Goals as goal
 
 pub returns : goal.returns

@@ -1,0 +1,63 @@
+-- What is right of a text stands in it.
+use Rattle.std.proofs.Common.{◌≡◌, zero, suc, List, [], ◌∷◌, ◌++◌, refl, sym, subst, arith}
+use Rattle.std.specs.Prelude.{Result, Ok, Err, IfOk, IfErr, Vec}
+use Rattle.std.specs.Global.{Global}
+use Rattle.std.specs.List.{All}
+use Rattle.std.proofs.lemmas.List.Elements.{All-head, All-tail}
+use Rattle.isle_syntax.specs.declared.lexer.Pos.{Pos}
+use Rattle.isle_syntax.specs.declared.ast.Def.{Def}
+use Rattle.isle_syntax.specs.declared.error.Span.{Span}
+use Rattle.isle_syntax.specs.declared.error.Error.{Error}
+use Rattle.isle_syntax.specs.declared.error.Error.TheVariants.{ParseError, TypeError, UnreachableError, OverlapError, ShadowedError, SizeError}
+use Rattle.isle_syntax.specs.declared.refusal.Refusal.{Refusal}
+use Rattle.isle_syntax.specs.declared.refusal.Refusal.TheVariants.{Fault, Memory}
+use Rattle.isle_syntax.specs.Errors.{ErrorAt, RefusalAt}
+use Rattle.isle_syntax.specs.Positions.Printable.{IsIn}
+use Rattle.isle_syntax.specs.Tokens.PlacedTokens.{Placed, opening, pos_of}
+use Rattle.isle_syntax.specs.Tokens.RemainingTokens.{RemainingTokens, next_pos}
+use Rattle.isle_syntax.specs.Tokens.LexerCalls.{IsRemaining}
+use Rattle.isle_syntax.specs.Positions.DefPositions.{DefAt}
+use Rattle.isle_syntax.specs.Trees.MacroArgs.{HasNoMacroArgs}
+use Rattle.isle_syntax.specs.Grammar.Verdict.{IsRight, IsFaultOf}
+use Rattle.isle_syntax.proofs.Positions.SpeltPositions.{text_places}
+use Rattle.isle_syntax.proofs.Trees.MacroArgs.{text_no_macro_args}
+
+all_behind : {A : Type 0} (P : A → Type 0) (xs : List A) (y : A) (ys : List A) → All P (xs ++ y ∷ ys) → P y
+all_behind P [] y ys h = All-head P y ys h
+all_behind P (x ∷ xs) y ys h = all_behind P xs y ys (All-tail P x (xs ++ y ∷ ys) h)
+
+one_span : (At : Pos → Type 0) (span : Span) → At span.from → All (λ s. At s.from) (span ∷ [])
+one_span At span p zero d h = p
+one_span At span p (suc k) d h = absurd (omega arith)
+
+module _ (u : RemainingTokens) (remaining : IsRemaining u) where
+  stands : (before from : List Placed) → u.left ≡ before ++ from → IsIn u.source (next_pos u.source u.end from)
+  stands before [] e = record { same_file = refl; within = remaining.within }
+  stands before (t ∷ r) e = all_behind (λ k. IsIn u.source (pos_of k)) before t r (subst (All (λ k. IsIn u.source (pos_of k))) e remaining.placed)
+
+  fault_places : (error : Error) → IsFaultOf u error → ErrorAt (IsIn u.source) error
+  fault_places (ParseError m p) f = record {
+    named = omega arith;
+    placed = one_span (IsIn u.source) p (subst (λ (s : Span). IsIn u.source s.from) (sym f.place) (stands f.before f.from f.split));
+  }
+  fault_places (SizeError m p) f = record {
+    named = omega arith;
+    placed = one_span (IsIn u.source) p (subst (λ (s : Span). IsIn u.source s.from) (sym f.at) (stands f.before (opening f.place ∷ f.rest) f.split));
+  }
+  fault_places (TypeError m p) f = absurd f
+  fault_places (UnreachableError m p) f = absurd f
+  fault_places (OverlapError m p) f = absurd f
+  fault_places (ShadowedError m p) f = absurd f
+
+  pub right_places : (res : Result (Vec Def Global) (Refusal Error)) → IsRight u res → IfOk res (λ defs. All (DefAt (IsIn u.source)) defs.items)
+  right_places (Ok defs) right = text_places (IsIn u.source) defs.items u.left right.spelt remaining.placed
+  right_places (Err r) right = tt
+
+  pub right_refuses : (res : Result (Vec Def Global) (Refusal Error)) → IsRight u res → IfErr res (RefusalAt (IsIn u.source))
+  right_refuses (Ok defs) right = tt
+  right_refuses (Err (Fault e)) right = fault_places e right
+  right_refuses (Err (Memory e)) right = tt
+
+pub right_no_macro_args : (u : RemainingTokens) (res : Result (Vec Def Global) (Refusal Error)) → IsRight u res → IfOk res (λ defs. All HasNoMacroArgs defs.items)
+right_no_macro_args u (Ok defs) right = text_no_macro_args defs.items u.left right.spelt
+right_no_macro_args u (Err r) right = tt
