@@ -1,6 +1,12 @@
-pub mod ValueTree
-pub mod ValueText
-pub mod Overlaps
-pub mod Programs
-pub mod Queries
+-- Which files are compiled, and which faults the others have.
 pub mod Compiled
+-- What a program holds.
+pub mod Programs
+-- In which order a query is checked.
+pub mod Queries
+-- Values as contracts see them: names as bytes, lists without their storage.
+pub mod ValueTree
+-- What is printed of a value.
+pub mod ValueText
+-- Where overlapping rules stand.
+pub mod Overlaps

@@ -1,14 +1,28 @@
-pub mod IntTypes
-pub mod Types
-pub mod Names
+-- Ids as the numbers that they stand for.
 pub mod Ids
+-- The integer types, and which numbers they have.
+pub mod IntTypes
+-- What is asked of a type.
+pub mod Types
+-- Names by their places in a list.
+pub mod Names
+-- What the contracts of `StableSet` and `StableMap` cite. A set is seen as its members, a map as its entries.
 pub mod StableMaps
+-- What the contracts of `SortedMap` cite. A map is seen as its entries, in ascending order of the keys.
 pub mod SortedMaps
+-- Lists of sets that share no member. Each set is the list of its members, its representative first.
 pub mod JoinedSets
+-- Tables that have the representative of each member as its value.
 pub mod JoinedTables
-pub mod Interned
+-- The types and constants that definitions make, by name. Types are counted: the builtin ones from 0, the defined ones after them.
 pub mod Environment
+-- Where definitions break a rule of types or constants.
 pub mod TypeFaults
-pub mod TypePositions
+-- What an environment of types holds, and which types and constants it shows.
 pub mod TypeEnvs
+-- The positions in types.
+pub mod TypePositions
+-- A list of names and the table from a name to its place.
+pub mod Interned
+-- What stands in an environment while definitions are read into it.
 pub mod Readings

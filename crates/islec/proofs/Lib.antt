@@ -1,3 +1,6 @@
+-- How writes that follow one another add up.
 pub mod WritingLemmas
+-- Files that are printed one after another.
 pub mod PrintsLemmas
+-- Files that are printed are spelt.
 pub mod SpeltPrints

@@ -1,7 +1,14 @@
-pub mod Replies
-pub mod Faults
-pub mod Statuses
-pub mod Writing
+-- How many files a command takes.
 pub mod Jobs
+-- The exit status
+pub mod Statuses
+-- What is printed of files.
 pub mod Formatting
+-- What a run writes of files that it refuses.
 pub mod Running
+-- A writer that held `old` holds these bytes and a beginning of the text behind them
+pub mod Writing
+-- The line that tells for which of the four causes a query is refused
+pub mod Replies
+-- What an error of `clap` becomes: want of memory, or a fault of usage
+pub mod Faults
