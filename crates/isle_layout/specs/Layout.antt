@@ -61,17 +61,17 @@ abbrev mutual
 
 -- for each list, before those below it, whether it stays on one line, but for the lists below one that does
 abbrev mutual
-  pub marks_of : (width : ℕ) → SExprTree → List Bool
-  marks_of width (sexpr_atom _) = []
-  marks_of width (sexpr_binding _ below) = marks_of width below
-  marks_of width (sexpr_list items) =
-      if stays_on_one_line width items then true ∷ [] else false ∷ marks_of_all width items
+  pub fits_of : (width : ℕ) → SExprTree → List Bool
+  fits_of width (sexpr_atom _) = []
+  fits_of width (sexpr_binding _ below) = fits_of width below
+  fits_of width (sexpr_list items) =
+      if stays_on_one_line width items then true ∷ [] else false ∷ fits_of_all width items
 
-  -- the marks of some S-expressions in order
-  pub marks_of_all : (width : ℕ) → SExprTrees → List Bool
-  marks_of_all width no_sexprs = []
-  marks_of_all width (more_sexprs first others) =
-      marks_of width first ++ marks_of_all width others
+  -- the same of some S-expressions in order
+  pub fits_of_all : (width : ℕ) → SExprTrees → List Bool
+  fits_of_all width no_sexprs = []
+  fits_of_all width (more_sexprs first others) =
+      fits_of width first ++ fits_of_all width others
 
 -- a length, where it is at most the width
 abbrev pub within : (width length : ℕ) → Option ℕ

@@ -6,7 +6,7 @@ ghost use Rattle.std.specs.Slice.Iter.{iter_rest};
 ghost use Rattle.isle_layout.specs.SExprShape.{sexpr_of, sexprs_of};
 ghost use Rattle.isle_layout.specs.SExprTree.{sexpr_list};
 ghost use Rattle.isle_layout.specs.SExprInnermost.{innermost, names_text};
-ghost use Rattle.isle_layout.specs.Layout.{one_line, one_line_length, stays_on_one_line, layout, layouts, broken, line, marks_of, marks_of_all, within};
+ghost use Rattle.isle_layout.specs.Layout.{one_line, one_line_length, stays_on_one_line, layout, layouts, broken, line, fits_of, fits_of_all, within};
 ghost use Rattle.isle_layout.specs.DefSpellings.{OnFault, def_has_macro_arg};
 ghost use Rattle.isle_layout.specs.Prints.{print_of};
 ghost use Rattle.isle_layout.specs.ReadsBack.{IsReadAs};
@@ -56,11 +56,11 @@ impl SExpr {
     pub fn print(&self, alloc: Global, width: usize) -> Result<String, AllocError>
         ensures { IfOk result (λ text. string_bytes text ≡ layout width 0 (sexpr_of self.now)) }
     {
-        let mut marks = Vec::new(alloc);
-        measure(self, width, &mut marks)?;
+        let mut fits = Vec::new(alloc);
+        measure(self, width, &mut fits)?;
         let mut out = String::new(alloc);
         let mut margin = String::new(alloc);
-        write_at(&mut out, self, &mut margin, &mut marks.iter())?;
+        write_at(&mut out, self, &mut margin, &mut fits.iter())?;
         Ok(out)
     }
 
@@ -143,9 +143,9 @@ fn stays_on_one_line(length: Option<usize>, items: &[SExpr]) -> bool
 /// How many characters an S-expression has on one line, or `None` where they are more than the width. For each list, it
 /// pushes whether it stays on one line, before what it pushes for those below it; below one that does it pushes nothing.
 #[cycle(measure)]
-fn measure(sexpr: &SExpr, width: usize, marks: &mut Vec<bool>) -> Result<Option<usize>, AllocError>
+fn measure(sexpr: &SExpr, width: usize, fits: &mut Vec<bool>) -> Result<Option<usize>, AllocError>
     ensures length { IfOk result (λ length. length ≡ within width (one_line_length (sexpr_of sexpr.now))) }
-    ensures marks { IfOk result (λ length. marks.new.items ≡ marks.old.items ++ marks_of width (sexpr_of sexpr.now)) }
+    ensures fits { IfOk result (λ length. fits.new.items ≡ fits.old.items ++ fits_of width (sexpr_of sexpr.now)) }
 {
     let names = sexpr.names_length(width);
     match sexpr.innermost() {
@@ -155,7 +155,7 @@ fn measure(sexpr: &SExpr, width: usize, marks: &mut Vec<bool>) -> Result<Option<
         }
         SExpr::Binding(..) => unreachable!(),
         SExpr::List(items) => {
-            let list = measure_list(items.as_slice(), width, marks)?;
+            let list = measure_list(items.as_slice(), width, fits)?;
             Ok(sum_within(width, names, list))
         }
     }
@@ -167,22 +167,22 @@ fn measure(sexpr: &SExpr, width: usize, marks: &mut Vec<bool>) -> Result<Option<
 fn measure_list(
     items: &[SExpr],
     width: usize,
-    marks: &mut Vec<bool>,
+    fits: &mut Vec<bool>,
 ) -> Result<Option<usize>, AllocError>
     ensures length { IfOk result (λ length. length ≡ within width (one_line_length (sexpr_list (sexprs_of items.now)))) }
-    ensures marks { IfOk result (λ length. marks.new.items
-        ≡ marks.old.items ++ marks_of width (sexpr_list (sexprs_of items.now))) }
+    ensures fits { IfOk result (λ length. fits.new.items
+        ≡ fits.old.items ++ fits_of width (sexpr_list (sexprs_of items.now))) }
 {
-    let at = marks.len();
-    marks.push(false)?;
+    let at = fits.len();
+    fits.push(false)?;
     // The parentheses, and the spaces between the items.
     let mut length = at_most(width, items.len().max(1) + 1);
     for item in items {
-        length = sum_within(width, length, measure(item, width, marks)?);
+        length = sum_within(width, length, measure(item, width, fits)?);
     }
     if stays_on_one_line(length, items) {
-        marks.truncate(at);
-        marks.push(true)?;
+        fits.truncate(at);
+        fits.push(true)?;
     }
     Ok(length)
 }
@@ -226,39 +226,39 @@ fn write_line(out: &mut String, margin: &str) -> Result<(), AllocError>
     out.push_str(margin)
 }
 
-/// The next mark.
-fn next_mark(marks: &mut Iter<'_, bool>) -> bool
-    ensures { (mark : Bool) (rest : List Bool) → iter_rest marks.old ≡ mark ∷ rest
-        → (result ≡ mark) × (iter_rest marks.new ≡ rest) }
+/// Whether the next list fits on one line.
+fn next_fit(fits: &mut Iter<'_, bool>) -> bool
+    ensures { (fit : Bool) (rest : List Bool) → iter_rest fits.old ≡ fit ∷ rest
+        → (result ≡ fit) × (iter_rest fits.new ≡ rest) }
 {
-    matches!(marks.next(), Some(true))
+    matches!(fits.next(), Some(true))
 }
 
-/// Writes an S-expression at an indentation, of which `margin` has the spaces, and takes the marks of its lists, as
+/// Writes an S-expression at an indentation, of which `margin` has the spaces, and takes which of its lists fit on one line, as
 /// `measure` pushes them.
 #[cycle(write_at)]
 fn write_at(
     out: &mut String,
     sexpr: &SExpr,
     margin: &mut String,
-    marks: &mut Iter<'_, bool>,
+    fits: &mut Iter<'_, bool>,
 ) -> Result<(), AllocError>
     ensures margin { IfOk result (λ done. string_bytes margin.new ≡ string_bytes margin.old) }
     ensures written { IfOk result (λ done. (width indentation : ℕ) (rest : List Bool)
         → string_bytes margin.old ≡ replicate indentation 32
-        → iter_rest marks.old ≡ marks_of width (sexpr_of sexpr.now) ++ rest
+        → iter_rest fits.old ≡ fits_of width (sexpr_of sexpr.now) ++ rest
         → (string_bytes out.new ≡ string_bytes out.old ++ layout width indentation (sexpr_of sexpr.now))
-        × (iter_rest marks.new ≡ rest)) }
+        × (iter_rest fits.new ≡ rest)) }
 {
     sexpr.write_names(out)?;
     match sexpr.innermost() {
         SExpr::Atom(text) => out.push_str(text.as_str()),
         SExpr::Binding(..) => unreachable!(),
         SExpr::List(items) => {
-            if next_mark(marks) {
+            if next_fit(fits) {
                 write_list_on_one_line(out, items.as_slice())
             } else {
-                write_broken_list(out, items.as_slice(), margin, marks)
+                write_broken_list(out, items.as_slice(), margin, fits)
             }
         }
     }
@@ -271,14 +271,14 @@ fn write_broken_list(
     out: &mut String,
     items: &[SExpr],
     margin: &mut String,
-    marks: &mut Iter<'_, bool>,
+    fits: &mut Iter<'_, bool>,
 ) -> Result<(), AllocError>
     ensures margin { IfOk result (λ done. string_bytes margin.new ≡ string_bytes margin.old) }
     ensures written { IfOk result (λ done. (width indentation : ℕ) (rest : List Bool)
         → string_bytes margin.old ≡ replicate indentation 32
-        → iter_rest marks.old ≡ marks_of_all width (sexprs_of items.now) ++ rest
+        → iter_rest fits.old ≡ fits_of_all width (sexprs_of items.now) ++ rest
         → (string_bytes out.new ≡ string_bytes out.old ++ broken indentation (layouts width (indentation + 4) (sexprs_of items.now)))
-        × (iter_rest marks.new ≡ rest)) }
+        × (iter_rest fits.new ≡ rest)) }
 {
     let outer = margin.len();
     margin.push_str("    ")?;
@@ -287,7 +287,7 @@ fn write_broken_list(
         if i > 0 {
             write_line(out, margin.as_str())?;
         }
-        write_at(out, item, margin, marks)?;
+        write_at(out, item, margin, fits)?;
     }
     margin.truncate(outer);
     write_line(out, margin.as_str())?;

@@ -1,9 +1,9 @@
--- The marks of a list are those of its items, and its items are left from one place on.
+-- Which lists fit on one line: of a list those of its items, and its items are left from one place on.
 use Rattle.std.proofs.Common.{◌≡◌, ◌+◌, ◌<◌, ℕ, List, [], ◌∷◌, ◌++◌, length, get_or, drop, drop-cons, add-one, append_assoc, refl, sym, ap, ◌∙◌, arith, suc, Some, None, Bool, true, false, if◌then◌else◌, Option, is_some, nat_le, nat_lt, ◌||◌}
 use Rattle.std.proofs.lemmas.Bool.Decides.{nat_tests}
 use Rattle.isle_layout.specs.declared.sexpr.SExpr.{SExpr}
 use Rattle.isle_layout.specs.SExprShape.{sexpr_of, sexprs_of}
-use Rattle.isle_layout.specs.Layout.{one_line_length, are_few, marks_of, marks_of_all, within}
+use Rattle.isle_layout.specs.Layout.{one_line_length, are_few, fits_of, fits_of_all, within}
 use Rattle.isle_layout.proofs.Layouts.Lengths.{lengths}
 
 -- those from one place on are a first one and those after it
@@ -15,12 +15,12 @@ pub length_more : (ps : List SExpr) (i : ℕ) (p : SExpr) (n total : ℕ) → i 
 length_more ps i p n total low is so_far =
     omega (arith, so_far, ap (λ qs. lengths (sexprs_of qs)) (listed ps i p low is))
 
--- one item's marks are pushed
-pub marks_more : (width : ℕ) (ps : List SExpr) (i : ℕ) (p : SExpr) (before after total : List Bool) → i < length ps → p ≡ get_or ps i p → before ++ marks_of_all width (sexprs_of (drop i ps)) ≡ total → after ≡ before ++ marks_of width (sexpr_of p) → after ++ marks_of_all width (sexprs_of (drop (i + 1) ps)) ≡ total
-marks_more width ps i p before after total low is so_far pushed =
-    let rest = marks_of_all width (sexprs_of (drop (i + 1) ps)) in
-    let split = ap (λ qs. before ++ marks_of_all width (sexprs_of qs)) (listed ps i p low is) in
-    ap (λ ms. ms ++ rest) pushed ∙ append_assoc before (marks_of width (sexpr_of p)) rest ∙ sym split ∙ so_far
+-- what fits of one item is pushed
+pub fits_more : (width : ℕ) (ps : List SExpr) (i : ℕ) (p : SExpr) (before after total : List Bool) → i < length ps → p ≡ get_or ps i p → before ++ fits_of_all width (sexprs_of (drop i ps)) ≡ total → after ≡ before ++ fits_of width (sexpr_of p) → after ++ fits_of_all width (sexprs_of (drop (i + 1) ps)) ≡ total
+fits_more width ps i p before after total low is so_far pushed =
+    let rest = fits_of_all width (sexprs_of (drop (i + 1) ps)) in
+    let split = ap (λ qs. before ++ fits_of_all width (sexprs_of qs)) (listed ps i p low is) in
+    ap (λ ms. ms ++ rest) pushed ∙ append_assoc before (fits_of width (sexpr_of p)) rest ∙ sym split ∙ so_far
 
 is_some-within : (width n : ℕ) → is_some (within width n) ≡ nat_le n width
 is_some-within width n = elim (nat_le n width) as (λ b. is_some (if b then Some n else None) ≡ b) [ true ↦ refl | false ↦ refl ]
@@ -33,7 +33,7 @@ few (p ∷ q ∷ ps) = grind (arith, nat_tests)
 pub stays_by_length : (width : ℕ) (found : Option ℕ) (ps : List SExpr) (n : ℕ) → found ≡ within width n → (is_some found || nat_lt (length ps) 2) ≡ (nat_le n width || are_few (sexprs_of ps))
 stays_by_length width found ps n is = rw (is, is_some-within, few) refl
 
--- a list's mark stands before those below it
-pub first_mark : (on_one_line : Bool) (below rest : List Bool) → (if on_one_line then true ∷ [] else false ∷ below) ++ rest ≡ on_one_line ∷ ((if on_one_line then [] else below) ++ rest)
-first_mark true below rest = refl
-first_mark false below rest = refl
+-- that of a list comes before those below it
+pub first_fit : (on_one_line : Bool) (below rest : List Bool) → (if on_one_line then true ∷ [] else false ∷ below) ++ rest ≡ on_one_line ∷ ((if on_one_line then [] else below) ++ rest)
+first_fit true below rest = refl
+first_fit false below rest = refl

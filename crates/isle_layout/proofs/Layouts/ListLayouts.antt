@@ -1,4 +1,4 @@
--- A list is written on one line or on several, as its mark says.
+-- A list is written on one line or on several, as `fit` says.
 use Rattle.std.proofs.Common.{◌≡◌, ◌+◌, ◌<◌, ◌≤◌, ℕ, List, [], ◌∷◌, ◌++◌, ◌⊎◌, codes, length, get_or, replicate, drop, drop_of_length-le, append_assoc, Bool, true, false, if◌then◌else◌, sym, ap, ◌∙◌}
 use Rattle.std.proofs.lemmas.List.{replicate-append-replicate}
 use Rattle.isle_layout.specs.declared.sexpr.SExpr.{SExpr}
@@ -6,33 +6,33 @@ use Rattle.isle_layout.specs.declared.sexpr.SExpr.TheVariants as sexpr
 use Rattle.isle_layout.specs.SExprTree.{SExprTrees, sexpr_list}
 use Rattle.isle_layout.specs.SExprShape.{sexpr_of, sexprs_of}
 use Rattle.isle_layout.specs.SExprInnermost.{innermost}
-use Rattle.isle_layout.specs.Layout.{stays_on_one_line, one_line, line, joined, layout, layouts, broken, marks_of, marks_of_all}
+use Rattle.isle_layout.specs.Layout.{stays_on_one_line, one_line, line, joined, layout, layouts, broken, fits_of, fits_of_all}
 use Rattle.isle_layout.proofs.Layouts.Joined.{rest_joined, joined_more, all_joined}
-use Rattle.isle_layout.proofs.Layouts.Fits.{listed, first_mark}
-use Rattle.isle_layout.proofs.Layouts.SExprInnermost.{marks_innermost}
+use Rattle.isle_layout.proofs.Layouts.Fits.{listed, first_fit}
+use Rattle.isle_layout.proofs.Layouts.SExprInnermost.{fits_innermost}
 
--- The innermost part of a chain is a list, and `mark` was taken of the marks `old`, which leaves `left`.
-module _ (width indentation : ℕ) (s q : SExpr) (items : SExprTrees) (is : q ≡ sexpr.List items) (same : sexpr_of q ≡ innermost (sexpr_of s)) (old left rest : List Bool) (mark : Bool) (taken : (m : Bool) (r : List Bool) → old ≡ m ∷ r → (mark ≡ m) × (left ≡ r)) (marks : old ≡ marks_of width (sexpr_of s) ++ rest) where
-  next : (mark ≡ stays_on_one_line width items) × (left ≡ (if stays_on_one_line width items then [] else marks_of_all width items) ++ rest)
+-- The innermost part of a chain is a list, and `fit` was taken of `old`, which leaves `left`.
+module _ (width indentation : ℕ) (s q : SExpr) (items : SExprTrees) (is : q ≡ sexpr.List items) (same : sexpr_of q ≡ innermost (sexpr_of s)) (old left rest : List Bool) (fit : Bool) (taken : (m : Bool) (r : List Bool) → old ≡ m ∷ r → (fit ≡ m) × (left ≡ r)) (fits : old ≡ fits_of width (sexpr_of s) ++ rest) where
+  next : (fit ≡ stays_on_one_line width items) × (left ≡ (if stays_on_one_line width items then [] else fits_of_all width items) ++ rest)
   next =
-      let list = marks_innermost width (sexpr_of s) ∙ ap (marks_of width) (sym same ∙ ap sexpr_of is) in
-      taken (stays_on_one_line width items) _ (marks ∙ ap (λ ms. ms ++ rest) list ∙ first_mark (stays_on_one_line width items) (marks_of_all width items) rest)
+      let list = fits_innermost width (sexpr_of s) ∙ ap (fits_of width) (sym same ∙ ap sexpr_of is) in
+      taken (stays_on_one_line width items) _ (fits ∙ ap (λ ms. ms ++ rest) list ∙ first_fit (stays_on_one_line width items) (fits_of_all width items) rest)
 
-  laid_out : layout width indentation (sexpr_of q) ≡ (if mark then one_line (sexpr_list items) else broken indentation (layouts width (indentation + 4) items))
+  laid_out : layout width indentation (sexpr_of q) ≡ (if fit then one_line (sexpr_list items) else broken indentation (layouts width (indentation + 4) items))
   laid_out =
       ap (λ r. layout width indentation (sexpr_of r)) is ∙ ap (λ m. if m then one_line (sexpr_list items) else broken indentation (layouts width (indentation + 4) items)) (sym next.0)
 
-  left_over : left ≡ (if mark then [] else marks_of_all width items) ++ rest
+  left_over : left ≡ (if fit then [] else fits_of_all width items) ++ rest
   left_over =
-      next.1 ∙ ap (λ m. (if m then [] else marks_of_all width items) ++ rest) (sym next.0)
+      next.1 ∙ ap (λ m. (if m then [] else fits_of_all width items) ++ rest) (sym next.0)
 
-  pub on_one_line : mark ≡ true → (layout width indentation (sexpr_of q) ≡ one_line (sexpr_list items)) × (left ≡ rest)
+  pub on_one_line : fit ≡ true → (layout width indentation (sexpr_of q) ≡ one_line (sexpr_list items)) × (left ≡ rest)
   on_one_line h =
-      (laid_out ∙ ap (λ m. if m then one_line (sexpr_list items) else broken indentation (layouts width (indentation + 4) items)) h, left_over ∙ ap (λ m. (if m then [] else marks_of_all width items) ++ rest) h)
+      (laid_out ∙ ap (λ m. if m then one_line (sexpr_list items) else broken indentation (layouts width (indentation + 4) items)) h, left_over ∙ ap (λ m. (if m then [] else fits_of_all width items) ++ rest) h)
 
-  pub on_lines : mark ≡ false → (layout width indentation (sexpr_of q) ≡ broken indentation (layouts width (indentation + 4) items)) × (left ≡ marks_of_all width items ++ rest)
+  pub on_lines : fit ≡ false → (layout width indentation (sexpr_of q) ≡ broken indentation (layouts width (indentation + 4) items)) × (left ≡ fits_of_all width items ++ rest)
   on_lines h =
-      (laid_out ∙ ap (λ m. if m then one_line (sexpr_list items) else broken indentation (layouts width (indentation + 4) items)) h, left_over ∙ ap (λ m. (if m then [] else marks_of_all width items) ++ rest) h)
+      (laid_out ∙ ap (λ m. if m then one_line (sexpr_list items) else broken indentation (layouts width (indentation + 4) items)) h, left_over ∙ ap (λ m. (if m then [] else fits_of_all width items) ++ rest) h)
 
 -- one item more is written, after a line break where it isn't the first
 pub item_written : (width inner : ℕ) (ps : List SExpr) (i : ℕ) (p : SExpr) (out between after start : List ℕ) → i < length ps → p ≡ get_or ps i p → out ++ rest_joined i (line inner) (layouts width inner (sexprs_of (drop i ps))) ≡ start → ((i ≡ 0) × (between ≡ out)) ⊎ ((0 < i) × (between ≡ out ++ line inner)) → after ≡ between ++ layout width inner (sexpr_of p)
@@ -42,11 +42,11 @@ item_written width inner ps i p out between after start low is so_far place writ
     let split = ap (λ qs. out ++ rest_joined i (line inner) (layouts width inner (sexprs_of qs))) (listed ps i p low is) in
     joined_more i (line inner) first (layouts width inner (sexprs_of (drop (i + 1) ps))) out between after place written ∙ sym split ∙ so_far
 
--- its marks come first
-pub item_marks : (width : ℕ) (ps : List SExpr) (i : ℕ) (p : SExpr) (old rest : List Bool) → i < length ps → p ≡ get_or ps i p → old ≡ marks_of_all width (sexprs_of (drop i ps)) ++ rest
-    → old ≡ marks_of width (sexpr_of p) ++ (marks_of_all width (sexprs_of (drop (i + 1) ps)) ++ rest)
-item_marks width ps i p old rest low is marks =
-    marks ∙ ap (λ qs. marks_of_all width (sexprs_of qs) ++ rest) (listed ps i p low is) ∙ append_assoc (marks_of width (sexpr_of p)) (marks_of_all width (sexprs_of (drop (i + 1) ps))) rest
+-- its own come first
+pub item_fits : (width : ℕ) (ps : List SExpr) (i : ℕ) (p : SExpr) (old rest : List Bool) → i < length ps → p ≡ get_or ps i p → old ≡ fits_of_all width (sexprs_of (drop i ps)) ++ rest
+    → old ≡ fits_of width (sexpr_of p) ++ (fits_of_all width (sexprs_of (drop (i + 1) ps)) ++ rest)
+item_fits width ps i p old rest low is fits =
+    fits ∙ ap (λ qs. fits_of_all width (sexprs_of qs) ++ rest) (listed ps i p low is) ∙ append_assoc (fits_of width (sexpr_of p)) (fits_of_all width (sexprs_of (drop (i + 1) ps))) rest
 
 -- the margin of an item has four spaces more
 pub wider_margin : (indentation : ℕ) (margin wider : List ℕ) → wider ≡ margin ++ codes "    " → margin ≡ replicate indentation 32 → wider ≡ replicate (indentation + 4) 32

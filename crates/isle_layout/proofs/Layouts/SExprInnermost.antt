@@ -8,7 +8,7 @@ use Rattle.isle_layout.specs.declared.sexpr.BoxedSExpr.TheDeep.{size-SExpr}
 use Rattle.isle_layout.specs.SExprTree.{SExprTree, SExprTrees, sexpr_atom, sexpr_binding, sexpr_list, sexpr_height, sexpr_heights}
 use Rattle.isle_layout.specs.SExprShape.{sexpr_of, sexprs_of}
 use Rattle.isle_layout.specs.SExprInnermost.{innermost, names_text}
-use Rattle.isle_layout.specs.Layout.{one_line, one_line_length, layout, marks_of}
+use Rattle.isle_layout.specs.Layout.{one_line, one_line_length, layout, fits_of}
 use Rattle.isle_layout.proofs.Layouts.Lengths.{char_count-append, count_none, count_at}
 use Rattle.isle_layout.proofs.Layouts.SExprSizes.{most_sexpr_size}
 
@@ -51,10 +51,10 @@ layout_innermost width indentation (sexpr_binding x t) =
     ap (λ text. (x ++ codes " @ ") ++ text) (layout_innermost width indentation t) ∙ sym (append_assoc (x ++ codes " @ ") _ _)
 layout_innermost width indentation (sexpr_list _) = refl
 
-pub marks_innermost : (width : ℕ) (t : SExprTree) → marks_of width t ≡ marks_of width (innermost t)
-marks_innermost width (sexpr_atom _) = refl
-marks_innermost width (sexpr_binding x t) = marks_innermost width t
-marks_innermost width (sexpr_list _) = refl
+pub fits_innermost : (width : ℕ) (t : SExprTree) → fits_of width t ≡ fits_of width (innermost t)
+fits_innermost width (sexpr_atom _) = refl
+fits_innermost width (sexpr_binding x t) = fits_innermost width t
+fits_innermost width (sexpr_list _) = refl
 
 pub no_names : (s : SExpr) → ((x : List ℕ) (below : SExprTree) → s ≡ sexpr.Binding x below → ⊥) → names_text (sexpr_of s) ≡ []
 no_names (sexpr.Atom _) other = refl

@@ -4,10 +4,10 @@ use Rattle.std.specs.Fmt.{char_count}
 use Rattle.isle_layout.specs.SExprTree.{sexpr_list}
 use Rattle.isle_layout.specs.SExprShape.{sexpr_of}
 use Rattle.isle_layout.specs.SExprInnermost.{innermost}
-use Rattle.isle_layout.specs.Layout.{one_line_length, marks_of, within}
+use Rattle.isle_layout.specs.Layout.{one_line_length, fits_of, within}
 use Rattle.isle_layout.proofs.Layouts.Lengths.{list_length}
-use Rattle.isle_layout.proofs.Layouts.Fits.{length_more, marks_more}
-use Rattle.isle_layout.proofs.Layouts.SExprInnermost.{innermost_is_no_binding, items_below, chain_length, marks_innermost}
+use Rattle.isle_layout.proofs.Layouts.Fits.{length_more, fits_more}
+use Rattle.isle_layout.proofs.Layouts.SExprInnermost.{innermost_is_no_binding, items_below, chain_length, fits_innermost}
 use Rattle.isle_layout.proofs.printer.+measure.Goals as goal
 
 pub measure-unreachable-requires : goal.measure-unreachable-requires
@@ -29,7 +29,7 @@ measure_list-loop-item-preserved t c =
     let so_far = c.loop-item.invariant.counted in
     record {
       counted = (so_far.0 + one_line_length (sexpr_of c.item-item.result), c.sum_within-length.ensures _ _ so_far.1 c.in_ok-measure.ensures.length, length_more c.args.items.now c.loop-item.item-index c.item-item.result _ _ c.loop-item-test.true c.item-item.is so_far.2);
-      marked = marks_more c.args.width c.args.items.now c.loop-item.item-index c.item-item.result _ _ _ c.loop-item-test.true c.item-item.is c.loop-item.invariant.marked c.in_ok-measure.ensures.marks;
+      marked = fits_more c.args.width c.args.items.now c.loop-item.item-index c.item-item.result _ _ _ c.loop-item-test.true c.item-item.is c.loop-item.invariant.marked c.in_ok-measure.ensures.fits;
     }
 
 pub measure-returns-in-Atom-clause-length : goal.measure-returns-in-Atom-clause-length
@@ -40,12 +40,12 @@ measure-returns-in-Atom-clause-length t c =
     let text = c.text_length-text.ensures ∙ ap (λ bytes. within width (char_count bytes)) c.as_str.ensures ∙ ap (within width) (sym same) in
     c.sum_within.ensures _ _ c.names_length-names.ensures text ∙ ap (within width) (chain_length sexpr)
 
-pub measure-returns-in-Atom-clause-marks : goal.measure-returns-in-Atom-clause-marks
-measure-returns-in-Atom-clause-marks t c =
+pub measure-returns-in-Atom-clause-fits : goal.measure-returns-in-Atom-clause-fits
+measure-returns-in-Atom-clause-fits t c =
     let width = c.args.width in
-    let old = c.args.marks.now.items in
-    let none = marks_innermost width (sexpr_of c.args.sexpr.now) ∙ ap (marks_of width) (sym c.innermost.ensures ∙ ap sexpr_of c.in-Atom.is) in
-    sym (ap (λ marks. old ++ marks) none ∙ append-nil old)
+    let old = c.args.fits.now.items in
+    let none = fits_innermost width (sexpr_of c.args.sexpr.now) ∙ ap (fits_of width) (sym c.innermost.ensures ∙ ap sexpr_of c.in-Atom.is) in
+    sym (ap (λ fits. old ++ fits) none ∙ append-nil old)
 
 pub measure-returns-in_ok-list-in-List-clause-length :
     goal.measure-returns-in_ok-list-in-List-clause-length
@@ -56,11 +56,11 @@ measure-returns-in_ok-list-in-List-clause-length t c =
     let list = c.in_ok-list-in-List.ensures.length ∙ ap (λ s. within width (one_line_length s)) (sym same) in
     c.sum_within-in-List.ensures _ _ c.names_length-names.ensures list ∙ ap (within width) (chain_length sexpr)
 
-pub measure-returns-in_ok-list-in-List-clause-marks :
-    goal.measure-returns-in_ok-list-in-List-clause-marks
-measure-returns-in_ok-list-in-List-clause-marks t c =
+pub measure-returns-in_ok-list-in-List-clause-fits :
+    goal.measure-returns-in_ok-list-in-List-clause-fits
+measure-returns-in_ok-list-in-List-clause-fits t c =
     let width = c.args.width in
-    let old = c.args.marks.now.items in
+    let old = c.args.fits.now.items in
     let same = sym c.innermost.ensures ∙ ap sexpr_of c.in-List.is ∙ ap sexpr_list (sym c.as_slice.ensures) in
-    let marks = marks_innermost width (sexpr_of c.args.sexpr.now) ∙ ap (marks_of width) same in
-    c.in_ok-list-in-List.ensures.marks ∙ ap (λ pushed. old ++ pushed) (sym marks)
+    let fits = fits_innermost width (sexpr_of c.args.sexpr.now) ∙ ap (fits_of width) same in
+    c.in_ok-list-in-List.ensures.fits ∙ ap (λ pushed. old ++ pushed) (sym fits)
