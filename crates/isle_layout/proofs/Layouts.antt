@@ -11,9 +11,9 @@ pub mod MacroArgs
 pub mod Joined
 -- How many characters texts have.
 pub mod Lengths
--- The marks of a list are those of its items, and its items are left from one place on.
+-- Which lists fit on one line: of a list those of its items, and its items are left from one place on.
 pub mod Fits
--- A list is written on one line or on several, as its mark says.
+-- A list is written on one line or on several, as `fit` says.
 pub mod ListLayouts
 -- The layout of some S-expressions.
 pub mod LayoutCases

@@ -1,6 +1,6 @@
 use std::alloc::{AllocError, AllocFailed};
 
-/// Why a call that takes memory refused: a fault of its input, or want of memory.
+/// Why a call that takes memory refused: a fault of its input, or running out of memory.
 #[derive(Debug, Drop)]
 pub enum Refusal<E> {
     Fault(E),

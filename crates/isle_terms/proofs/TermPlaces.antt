@@ -59,7 +59,7 @@ pub moved : (files : List SourceFile) (old new : TypeEnv) (before after : TermEn
 moved files old new before after types terms h =
     subst (λ (env : TermEnv). ArePlaced files new env) (sym terms) (subst (λ (tyenv : TypeEnv). ArePlaced files tyenv before) (sym types) h)
 
--- positions can be printed after an error was kept, or wasn't for want of memory
+-- positions can be printed after an error was kept, or wasn't since memory ran out
 pub reported_or_same : {A B : Type 0} (files : List SourceFile) (old new : TypeEnv) (result : Result A B) (message : List ℕ) (pos : Pos) → types_of new ≡ types_of old → OnOk result (errors_of new ≡ errors_of old ++ TypeError message (span_at pos) ∷ []) → OnErr result (errors_of new ≡ errors_of old) → IsPrintablePos files pos → HasPrintablePositions files old → HasPrintablePositions files new
 reported_or_same files old new (Ok x) message pos types ok err here before =
     reported_places files old new message pos types ok here before

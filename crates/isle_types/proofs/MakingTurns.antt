@@ -128,7 +128,7 @@ definition_fault defs place tree (UnreachableError _ _) among fault kept = absur
 definition_fault defs place tree (OverlapError _ _) among fault kept = absurd fault
 definition_fault defs place tree (ShadowedError _ _) among fault kept = absurd fault
 
--- a size error of a definition stands where a size is passed
+-- a size error of a definition is where a size is exceeded
 size_fault : (defs : List Def) (place : ℕ) (tree : TypeTree) (error : Error) → slice_get (type_definitions defs) place ≡ Some tree → IsDefinitionFault (type_names defs) tree error → is_size_error error ≡ true → IsLoneSizeFault defs (error ∷ [])
 size_fault defs place tree (TypeError _ span) among fault size = absurd (false≢true size)
 size_fault defs place tree (SizeError _ span) among fault size = record {

@@ -86,7 +86,7 @@ broken_makes_none defs pos (unknown_constant_type place constant at missing) e m
     let made = zipped_at (IsConstant (type_names defs)) (constant_definitions defs) e.constants makes.constants place constant at in
     place_missing (type_names defs) constant.1.0 missing made.0.1 made.2.type
 
--- definitions that pass a size aren't within sizes
+-- definitions that exceed a size aren't within sizes
 pub exceeding_none : (defs : List Def) (pos : Pos) → Exceeds defs pos → AreWithinSizes defs → ⊥
 exceeding_none defs pos exceeds within =
     exceeds.too_large (each_at (λ (tree : TypeTree). HasAllowedSize tree.ty) (type_definitions defs) within exceeds.place exceeds.tree exceeds.among)

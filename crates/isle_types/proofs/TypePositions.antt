@@ -93,7 +93,7 @@ module _ (At : Pos → Type 0) where
   break_at defs each pos (type_breaks place tree there here breaks) = type_fault_at (type_names defs) tree (type_at_place defs each place tree here) pos breaks
   break_at defs each pos (unknown_constant_type place constant here missing) = constant_at_place defs each place constant here
 
-  -- where definitions pass a size, they stand
+  -- where definitions exceed a size, they are
   pub excess_at : (defs : List Def) → All (DefAt At) defs → (pos : Pos) → Exceeds defs pos → At pos
   excess_at defs each pos exceeds =
       let stands = type_at_place defs each exceeds.place exceeds.tree exceeds.among in subst At (sym exceeds.here) stands.pos

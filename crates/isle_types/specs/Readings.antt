@@ -82,7 +82,7 @@ pub record ReadsConstants (known : List (List ℕ)) (env : TypeEnv) (trees : Lis
   pub meant : AllZip (IsConstant known) trees constants
   pub shown : (name : List ℕ) → type_of_constant env name ≡ option_map type_at (constant_in constants name)
 
--- a type error where a rule is broken, or a size error where a size is passed
+-- a type error where a rule is broken, or a size error where a size is exceeded
 abbrev pub IsReadingFault : (Pos → Type 0) → (Pos → Type 0) → Error → Type 0
 IsReadingFault Broken Passed (TypeError _ span) = Broken span.from
 IsReadingFault Broken Passed (SizeError _ span) = Passed span.from

@@ -44,7 +44,7 @@ pub data Breaks (defs : List Def) : Pos → Type 0 where
   type_breaks : (place : ℕ) (tree : TypeTree) (pos : Pos) → slice_get (type_definitions defs) place ≡ Some tree → TypeBreaks (type_names defs) tree pos → Breaks defs pos
   unknown_constant_type : (place : ℕ) (constant : Ident × Ident) → slice_get (constant_definitions defs) place ≡ Some constant → position_of (type_names defs) constant.1.0 ≡ None → Breaks defs constant.1.1
 
--- a definition of a type that passes a size stands at a position
+-- a definition of a type that exceeds a size is at a position
 pub record Exceeds (defs : List Def) (pos : Pos) : Type 0 where
   pub place : ℕ
   pub tree : TypeTree
@@ -61,7 +61,7 @@ IsTypeFault Broken (OverlapError _ _) = ⊥
 IsTypeFault Broken (ShadowedError _ _) = ⊥
 IsTypeFault Broken (SizeError _ _) = ⊥
 
--- a size error stands where a size is passed
+-- a size error is where a size is exceeded
 abbrev pub IsSizeFault : (Pos → Type 0) → Error → Type 0
 IsSizeFault Exceeded (SizeError _ span) = Exceeded span.from
 IsSizeFault Exceeded (ParseError _ _) = ⊥
@@ -74,7 +74,7 @@ IsSizeFault Exceeded (ShadowedError _ _) = ⊥
 abbrev pub AreTypeFaults : List Def → List Error → Type 0
 AreTypeFaults defs errors = All (IsTypeFault (Breaks defs)) errors
 
--- one size error, where a size is passed
+-- one size error, where a size is exceeded
 abbrev pub IsLoneSizeFault : List Def → List Error → Type 0
 IsLoneSizeFault defs [] = ⊥
 IsLoneSizeFault defs (error ∷ []) = IsSizeFault (Exceeds defs) error

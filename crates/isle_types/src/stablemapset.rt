@@ -34,7 +34,7 @@ impl<T: Eq + Hash> StableSet<T> {
     }
 
     /// Adds the value, and tells whether it is new. A member that is equal to it stays in its stead.
-    /// Only a new value can be refused, for want of memory.
+    /// Only a new value can be refused, out of memory.
     pub fn insert(&mut self, val: T) -> Result<bool, AllocError>
     where
         T: Drop,
@@ -63,7 +63,7 @@ impl<T: Eq + Hash> StableSet<T> {
     }
 }
 
-/// The clone of each member, in its place. Refused for want of memory, or where a clone isn't equal to
+/// The clone of each member, in its place. Refused out of memory, or where a clone isn't equal to
 /// its source.
 impl<T: Eq + Hash + Clone> Clone for StableSet<T> {
     ghost is_clone = { λ s n. AllZip T.is_clone s n };
@@ -96,7 +96,7 @@ impl<K: Eq + Hash, V> StableMap<K, V> {
 
     /// The map of the pairs that the iterator gives, which has to end. Of two pairs with equal keys the
     /// later one counts; it isn't promised which of the two keys stands in the map.
-    /// Refused only for want of memory. Upstream this is an `impl FromIterator`.
+    /// Refused only out of memory. Upstream this is an `impl FromIterator`.
     pub fn from_pairs<I: IntoIterator<Item = (K, V)>>(
         alloc: Global,
         pairs: I,
@@ -111,7 +111,7 @@ impl<K: Eq + Hash, V> StableMap<K, V> {
     }
 
     /// Puts the value at the key, and gives the value that stood there. A key that is equal to it
-    /// stays in its stead. Only a new key can be refused, for want of memory.
+    /// stays in its stead. Only a new key can be refused, out of memory.
     pub fn insert(&mut self, k: K, v: V) -> Result<Option<V>, AllocError>
     where
         K: Drop,
@@ -179,7 +179,7 @@ impl<K: Eq + Hash, V> From<HashMap<K, V>> for StableMap<K, V> {
     }
 }
 
-/// The clone of each entry, in its place. Refused for want of memory, or where a key's clone isn't
+/// The clone of each entry, in its place. Refused out of memory, or where a key's clone isn't
 /// equal to its source.
 impl<K: Eq + Hash + Clone, V: Clone> Clone for StableMap<K, V> {
     ghost is_clone = { λ m n. AreClones K.is_clone V.is_clone m n };

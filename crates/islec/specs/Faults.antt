@@ -5,7 +5,7 @@ use Rattle.clap.specs.declared.error.kind.ErrorKind.TheVariants.{OutOfMemory}
 use Rattle.islec.specs.declared.line.LineFault.{LineFault}
 use Rattle.islec.specs.declared.line.LineFault.TheVariants.{Usage, Memory}
 
--- what an error of `clap` becomes: want of memory, or a fault of usage
+-- what an error of `clap` becomes: out of memory, or a fault of usage
 pub record Tells (error : Error) (fault : LineFault) : Type 0 where
   pub memory : kind_of error ≡ OutOfMemory → fault ≡ Memory alloc_error
   pub usage : kind_of error ≢ OutOfMemory → fault ≡ Usage error

@@ -10,5 +10,5 @@ pub mod Running
 pub mod Writing
 -- The line that tells for which of the four causes a query is refused
 pub mod Replies
--- What an error of `clap` becomes: want of memory, or a fault of usage
+-- What an error of `clap` becomes: out of memory, or a fault of usage
 pub mod Faults

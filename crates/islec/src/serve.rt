@@ -115,7 +115,7 @@ fn serve_lines<V: World, B: BufRead, W: Write>(
 }
 
 // The bytes of a line without its newline, or `None` at the end. A reader that is out of memory
-// counts as want of memory.
+// counts as running out of memory.
 fn read_line<B: BufRead>(alloc: Global, input: &mut B) -> Result<Option<Vec<u8>>, ServeFault> {
     let mut line = Vec::new(alloc);
     match input.read_until(b'\n', &mut line) {

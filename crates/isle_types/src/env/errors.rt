@@ -12,7 +12,7 @@ use isle_syntax::{Refusal, Text};
 use std::alloc::AllocError;
 
 impl TypeEnv {
-    /// Keeps a type error. A size error, alone, and want of memory are handed on.
+    /// Keeps a type error. A size error, alone, and that memory ran out are handed on.
     pub fn keep(&mut self, refusal: Refusal<Error>) -> Result<(), Refusal<Vec<Error>>>
         ensures ok { OnOk result (IsFaultAnd refusal (λ error. (is_size_error error ≡ false)
             × (errors_of self.new ≡ errors_of self.old ++ error ∷ []))) }
@@ -37,7 +37,7 @@ impl TypeEnv {
         }
     }
 
-    /// A type error at a position, or want of memory for its message.
+    /// A type error at a position, or out of memory for its message.
     pub fn type_error(&self, pos: Pos, msg: &str) -> Refusal<Error>
         ensures { IfFault result (λ error. error ≡ TypeError msg.now (span_at pos)) }
     {
@@ -50,7 +50,7 @@ impl TypeEnv {
         }
     }
 
-    /// A size error at a position, or want of memory for its message.
+    /// A size error at a position, or out of memory for its message.
     pub fn size_error(&self, pos: Pos, msg: &str) -> Refusal<Error>
         ensures { IfFault result (λ error. error ≡ SizeError msg.now (span_at pos)) }
     {
