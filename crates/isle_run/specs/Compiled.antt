@@ -30,7 +30,7 @@ pub record IsFirstFault (files : List SourceFile) (error : Error) : Type 0 where
   pub before : AreSpelt 0 (take place files) defs
   pub fault : IsFaultIn place file.text error
 
--- an error that tells of overlapping rules
+-- an error that reports overlapping rules
 abbrev pub IsOverlap : Error → Type 0
 IsOverlap (OverlapError _ _) = Unit {0}
 IsOverlap (ParseError _ _) = ⊥

@@ -32,7 +32,7 @@ pub enum Refused {
 pub fn compile(alloc: Global, files: Rc<Files>) -> Result<Program, Refused>
     ensures accepted { OnOk result (AreAccepted files.value) }
     ensures faults { IfErr result (λ refused. IfFaults refused (λ report. AreFaults files.value report.errors)) }
-    ensures told_of { IfErr result (λ refused. IfFaults refused (λ report. report.files ≡ files.value)) }
+    ensures of_files { IfErr result (λ refused. IfFaults refused (λ report. report.files ≡ files.value)) }
 {
     match compile_files(alloc, &files) {
         Ok(program) => Ok(program),

@@ -11,7 +11,7 @@ ghost use Rattle.isle_syntax.specs.Trees.ItemShape.{item_of};
 ghost use Rattle.isle_syntax.specs.Trees.TreeCalls.{has_macro_arg};
 ghost use Rattle.isle_syntax.specs.Trees.Substitution.{Substitutes};
 ghost use Rattle.isle_syntax.specs.Positions.Orders.{pos_cmp, ident_cmp};
-ghost use Rattle.isle_syntax.specs.Trees.Comparisons.{AreOrdered, HashesApart, IsInRange, TellsSame, TellsSameTree, pos_hash, ident_hash};
+ghost use Rattle.isle_syntax.specs.Trees.Comparisons.{AreOrdered, HashesApart, IsInRange, DecidesSame, DecidesSameTree, pos_hash, ident_hash};
 
 use crate::ast::{
     BoxedExpr, BoxedPattern, Converter, Decl, Def, Expr, Exprs, Extern, Extractor, Fields, Ident,
@@ -45,56 +45,56 @@ pub fn identifiers_are_ordered()
 
 /// Definitions are equal exactly where they are the same.
 pub fn equal_definitions_are_the_same()
-    ensures { TellsSame ⟦<Def as PartialEq>⟧.eq }
+    ensures { DecidesSame ⟦<Def as PartialEq>⟧.eq }
 {}
 
 /// Types and what they are made of are equal exactly where they are the same.
 pub fn equal_types_are_the_same()
-    ensures types { TellsSame ⟦<Type as PartialEq>⟧.eq }
-    ensures values { TellsSame ⟦<TypeValue as PartialEq>⟧.eq }
-    ensures variants { TellsSame ⟦<Variant as PartialEq>⟧.eq }
-    ensures fields { TellsSame ⟦<Fields as PartialEq>⟧.eq }
-    ensures struct_fields { TellsSame ⟦<StructFields as PartialEq>⟧.eq }
-    ensures struct_field { TellsSame ⟦<StructField as PartialEq>⟧.eq }
-    ensures tuple_fields { TellsSame ⟦<TupleFields as PartialEq>⟧.eq }
-    ensures tuple_field { TellsSame ⟦<TupleField as PartialEq>⟧.eq }
+    ensures types { DecidesSame ⟦<Type as PartialEq>⟧.eq }
+    ensures values { DecidesSame ⟦<TypeValue as PartialEq>⟧.eq }
+    ensures variants { DecidesSame ⟦<Variant as PartialEq>⟧.eq }
+    ensures fields { DecidesSame ⟦<Fields as PartialEq>⟧.eq }
+    ensures struct_fields { DecidesSame ⟦<StructFields as PartialEq>⟧.eq }
+    ensures struct_field { DecidesSame ⟦<StructField as PartialEq>⟧.eq }
+    ensures tuple_fields { DecidesSame ⟦<TupleFields as PartialEq>⟧.eq }
+    ensures tuple_field { DecidesSame ⟦<TupleField as PartialEq>⟧.eq }
 {}
 
 /// Declarations, rules, conditions, extractors, externs, converters and kept definitions are equal exactly where they
 /// are the same.
 pub fn equal_parts_are_the_same()
-    ensures decls { TellsSame ⟦<Decl as PartialEq>⟧.eq }
-    ensures rules { TellsSame ⟦<Rule as PartialEq>⟧.eq }
-    ensures if_lets { TellsSame ⟦<IfLet as PartialEq>⟧.eq }
-    ensures extractors { TellsSame ⟦<Extractor as PartialEq>⟧.eq }
-    ensures externs { TellsSame ⟦<Extern as PartialEq>⟧.eq }
-    ensures converters { TellsSame ⟦<Converter as PartialEq>⟧.eq }
-    ensures kept { TellsSame ⟦<Kept as PartialEq>⟧.eq }
+    ensures decls { DecidesSame ⟦<Decl as PartialEq>⟧.eq }
+    ensures rules { DecidesSame ⟦<Rule as PartialEq>⟧.eq }
+    ensures if_lets { DecidesSame ⟦<IfLet as PartialEq>⟧.eq }
+    ensures extractors { DecidesSame ⟦<Extractor as PartialEq>⟧.eq }
+    ensures externs { DecidesSame ⟦<Extern as PartialEq>⟧.eq }
+    ensures converters { DecidesSame ⟦<Converter as PartialEq>⟧.eq }
+    ensures kept { DecidesSame ⟦<Kept as PartialEq>⟧.eq }
 {}
 
 /// Patterns are equal exactly where they are the same, and so are their trees.
 pub fn equal_patterns_are_the_same()
-    ensures patterns { TellsSame ⟦<Pattern as PartialEq>⟧.eq }
-    ensures trees { TellsSameTree pattern_of ⟦<Pattern as PartialEq>⟧.eq }
-    ensures boxed { TellsSame ⟦<BoxedPattern as PartialEq>⟧.eq }
-    ensures lists { TellsSame ⟦<Patterns as PartialEq>⟧.eq }
+    ensures patterns { DecidesSame ⟦<Pattern as PartialEq>⟧.eq }
+    ensures trees { DecidesSameTree pattern_of ⟦<Pattern as PartialEq>⟧.eq }
+    ensures boxed { DecidesSame ⟦<BoxedPattern as PartialEq>⟧.eq }
+    ensures lists { DecidesSame ⟦<Patterns as PartialEq>⟧.eq }
 {}
 
 /// Expressions and variables of a `let` are equal exactly where they are the same, and so are their trees.
 pub fn equal_expressions_are_the_same()
-    ensures expressions { TellsSame ⟦<Expr as PartialEq>⟧.eq }
-    ensures trees { TellsSameTree expr_of ⟦<Expr as PartialEq>⟧.eq }
-    ensures boxed { TellsSame ⟦<BoxedExpr as PartialEq>⟧.eq }
-    ensures lists { TellsSame ⟦<Exprs as PartialEq>⟧.eq }
-    ensures lets { TellsSame ⟦<LetDef as PartialEq>⟧.eq }
-    ensures let_lists { TellsSame ⟦<LetDefs as PartialEq>⟧.eq }
+    ensures expressions { DecidesSame ⟦<Expr as PartialEq>⟧.eq }
+    ensures trees { DecidesSameTree expr_of ⟦<Expr as PartialEq>⟧.eq }
+    ensures boxed { DecidesSame ⟦<BoxedExpr as PartialEq>⟧.eq }
+    ensures lists { DecidesSame ⟦<Exprs as PartialEq>⟧.eq }
+    ensures lets { DecidesSame ⟦<LetDef as PartialEq>⟧.eq }
+    ensures let_lists { DecidesSame ⟦<LetDefs as PartialEq>⟧.eq }
 {}
 
 /// Kept items are equal exactly where they are the same, and so are their trees.
 pub fn equal_items_are_the_same()
-    ensures items { TellsSame ⟦<KeptItem as PartialEq>⟧.eq }
-    ensures trees { TellsSameTree item_of ⟦<KeptItem as PartialEq>⟧.eq }
-    ensures lists { TellsSame ⟦<KeptItems as PartialEq>⟧.eq }
+    ensures items { DecidesSame ⟦<KeptItem as PartialEq>⟧.eq }
+    ensures trees { DecidesSameTree item_of ⟦<KeptItem as PartialEq>⟧.eq }
+    ensures lists { DecidesSame ⟦<KeptItems as PartialEq>⟧.eq }
 {}
 
 /// The template of a pattern for names, filled with patterns, is the pattern with the patterns put in for the names, all

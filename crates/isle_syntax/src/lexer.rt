@@ -3,7 +3,7 @@ ghost use Rattle.isle_syntax.specs.Tokens.PlacedTokens.{Placed, placed, IsInt, I
 ghost use Rattle.isle_syntax.specs.Tokens.RemainingTokens.{failed, starved, remaining_pos};
 ghost use Rattle.isle_syntax.specs.Positions.Printable.{IsIn};
 ghost use Rattle.isle_syntax.specs.Errors.{RefusalAt, IfFault};
-ghost use Rattle.isle_syntax.specs.Tokens.LexerCalls.{IsRemaining, GivesToken, TellsEnd, TellsFault, FailsForMemory, IfMemory, HasEnded, ahead};
+ghost use Rattle.isle_syntax.specs.Tokens.LexerCalls.{IsRemaining, GivesToken, AnswersEnd, ReportsFault, FailsForMemory, IfMemory, HasEnded, ahead};
 ghost use Rattle.isle_syntax.specs.Tokens.TokensOf.{TokensOf};
 ghost use Rattle.isle_syntax.specs.Tokens.Gaps.{lead_of};
 ghost use Rattle.isle_syntax.specs.Tokens.Finding.{reading, next_of, nothing, fault, found};
@@ -109,7 +109,7 @@ enum Lookahead {
     Fault(&'static str),
     /// There was no memory for the next token.
     Memory(AllocError),
-    /// The fault was told.
+    /// The fault was reported.
     Failed,
 }
 
@@ -138,7 +138,7 @@ impl<'src> Model for Lexer<'src> {
 
 impl<'src> Lexer<'src> {
     /// The tokens of the text of file number `file`. A fault of the first token, and that there was no memory for it,
-    /// are told by the first `next`.
+    /// are reported by the first `next`.
     pub fn new(alloc: Global, file: usize, src: &'src str) -> Lexer<'src>
         ensures source { result.source ≡ record { file = file; size = length src.now } }
         ensures tokens { TokensOf result.source src.now result.left result.end result.clean }
@@ -162,8 +162,8 @@ impl<'src> Lexer<'src> {
     /// The next token and its position, or `None` at the text's end. After a refusal, also for memory, the lexer has
     /// failed for good: `next` answers a parse error with an empty message at `pos()`.
     pub fn next(&mut self) -> Result<Option<(Pos, Token)>, Refusal<Error>>
-        ensures gives { IfOk result (λ t. MatchOption t (TellsEnd self.old self.new) (GivesToken self.old self.new)) }
-        ensures fault { IfErr result (λ refusal. IfFault refusal (TellsFault self.old self.new)) }
+        ensures gives { IfOk result (λ t. MatchOption t (AnswersEnd self.old self.new) (GivesToken self.old self.new)) }
+        ensures fault { IfErr result (λ refusal. IfFault refusal (ReportsFault self.old self.new)) }
         ensures memory { IfErr result (λ refusal. IfMemory refusal (FailsForMemory self.old self.new)) }
         ensures remaining { IsRemaining self.new }
         ensures placed { IfOk result (λ t. IfSome t (λ token. IsIn self.old.source token.0)) }

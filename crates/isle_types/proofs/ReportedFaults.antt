@@ -4,7 +4,7 @@ use Rattle.isle_syntax.specs.declared.refusal.Refusal.{Refusal}
 use Rattle.isle_syntax.specs.declared.refusal.Refusal.TheVariants.{Fault, Memory}
 use Rattle.isle_syntax.specs.Errors.{IfFault}
 
--- a fact of the fault that is told
+-- a fact of the fault that is reported
 pub reported : {E : Type 0} (refusal : Refusal E) (fault : E) (P : E → Type 0) → IfFault refusal (λ e. e ≡ fault) → P fault → IfFault refusal P
 reported (Fault e) fault P is here = subst P (sym is) here
 reported (Memory m) fault P is here = tt

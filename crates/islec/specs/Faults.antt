@@ -6,6 +6,6 @@ use Rattle.islec.specs.declared.line.LineFault.{LineFault}
 use Rattle.islec.specs.declared.line.LineFault.TheVariants.{Usage, Memory}
 
 -- what an error of `clap` becomes: out of memory, or a fault of usage
-pub record Tells (error : Error) (fault : LineFault) : Type 0 where
+pub record BecomesFault (error : Error) (fault : LineFault) : Type 0 where
   pub memory : kind_of error ≡ OutOfMemory → fault ≡ Memory alloc_error
   pub usage : kind_of error ≢ OutOfMemory → fault ≡ Usage error

@@ -1,7 +1,7 @@
 //! The words of a command line.
 ghost use Rattle.std.specs.Prelude.{◌≡◌, ◌<◌, IfOk, IfSome, vec_len, alloc_error};
 ghost use Rattle.islec.specs.declared.line.LineFault.TheVariants.{Memory};
-ghost use Rattle.islec.specs.Faults.{Tells};
+ghost use Rattle.islec.specs.Faults.{BecomesFault};
 ghost use Rattle.islec.specs.Jobs.{HasFiles};
 
 use clap::builder::ValueParser;
@@ -38,7 +38,7 @@ pub enum LineFault {
 }
 
 impl From<Error> for LineFault {
-    ghost from_gives = { Tells };
+    ghost from_gives = { BecomesFault };
 
     fn from(error: Error) -> LineFault {
         if error.kind() == ErrorKind::OutOfMemory {

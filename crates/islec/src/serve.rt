@@ -50,7 +50,7 @@ const FULL: usize = 8192;
 
 /// Answers each line of `reader`, any bytes up to a newline or the end, by lines to `writer`. The
 /// lines of a query are written whole or, where memory runs out within it, not at all. Before a
-/// fault of reading or of memory is told, the lines of all earlier queries are written.
+/// fault of reading or of memory is reported, the lines of all earlier queries are written.
 pub fn serve<V: World, R: Read, W: Write>(
     alloc: Global,
     program: &Program,

@@ -36,7 +36,7 @@ impl Status {
     }
 }
 
-/// Tells that memory ran out, which takes no memory, and gives that status.
+/// BecomesFault that memory ran out, which takes no memory, and gives that status.
 pub fn out_of_memory<W: Write>(writer: &mut W) -> Status
     ensures { result ≡ Status.OutOfMemory }
 {

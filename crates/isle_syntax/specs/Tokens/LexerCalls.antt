@@ -44,8 +44,8 @@ pub record GivesToken (old new : RemainingTokens) (token : Pos × Token) : Type 
   pub same_source : new.source ≡ old.source
   pub not_failed : ¬ (new.state ≡ failed)
 
--- the end of the text is told
-pub record TellsEnd (old new : RemainingTokens) : Type 0 where
+-- the end of the text is answered
+pub record AnswersEnd (old new : RemainingTokens) : Type 0 where
   pub was_ready : old.state ≡ ready
   pub none_left : old.left ≡ []
   pub clean : old.clean ≡ true
@@ -69,8 +69,8 @@ message_of (OverlapError message rules) = message
 message_of (ShadowedError shadowed mask) = []
 message_of (SizeError message span) = message
 
--- a fault is told: no token was left, and none begins where they end, which is its place; told again without a message
-pub record TellsFault (old new : RemainingTokens) (error : Error) : Type 0 where
+-- a fault is reported: no token was left, and none begins where they end, which is its place; reported again without a message
+pub record ReportsFault (old new : RemainingTokens) (error : Error) : Type 0 where
   pub not_starved : ¬ (old.state ≡ starved)
   pub none_left : old.left ≡ []
   pub not_clean : old.clean ≡ false

@@ -8,7 +8,7 @@ pub record Source : Type 0 where
   pub file : ℕ
   pub size : ℕ
 
--- how a lexer goes on: it reads; there was no memory for its next token, which it will tell; it has refused
+-- how a lexer goes on: it reads; there was no memory for its next token, which it will report; it has refused
 pub data LexerState : Type 0 where
   ready : LexerState
   starved : LexerState

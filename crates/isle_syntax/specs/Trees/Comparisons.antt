@@ -8,12 +8,12 @@ use Rattle.isle_syntax.specs.declared.lexer.Pos.{Pos}
 use Rattle.isle_syntax.specs.declared.ast.Ident.{Ident}
 
 -- an equality that is true exactly where two values are the same
-abbrev pub TellsSame : {A : Type 0} → (A → A → Bool) → Type 0
-TellsSame {A} eq = (a b : A) → IsTrue (eq a b) ↔ (a ≡ b)
+abbrev pub DecidesSame : {A : Type 0} → (A → A → Bool) → Type 0
+DecidesSame {A} eq = (a b : A) → IsTrue (eq a b) ↔ (a ≡ b)
 
 -- an equality that is true exactly where two values have the same tree
-abbrev pub TellsSameTree : {A T : Type 0} → (A → T) → (A → A → Bool) → Type 0
-TellsSameTree {A} tree eq = (a b : A) → IsTrue (eq a b) ↔ (tree a ≡ tree b)
+abbrev pub DecidesSameTree : {A T : Type 0} → (A → T) → (A → A → Bool) → Type 0
+DecidesSameTree {A} tree eq = (a b : A) → IsTrue (eq a b) ↔ (tree a ≡ tree b)
 
 -- what is hashed of a position: its file, then its offset
 abbrev pub pos_hash : Pos → List (List ℕ)
@@ -39,5 +39,5 @@ pub record AreOrdered {A : Type 0} (order : A → A → Ordering) (hashed : A �
   pub compares_always : (a b : A) → partial_cmp a b ≡ Some (order a b)
   pub total : IsTotalOrder order
   pub level : (a b : A) → (order a b ≡ Equal) ↔ (a ≡ b)
-  pub equality : TellsSame eq
+  pub equality : DecidesSame eq
   pub hashes : (a : A) → hash_input a ≡ hashed a

@@ -148,7 +148,7 @@ impl<'src> Parser<'src> {
         }
     }
 
-    /// Takes an `@` where one stands next, and answers whether it did. Where no token stands next, that isn't told yet.
+    /// Takes an `@` where one stands next, and answers whether it did. Where no token stands next, that isn't reported yet.
     pub(crate) fn take_at(&mut self) -> Result<bool, Refusal<Error>>
         ensures taken { IfOk result (TakesOr self.old self.new (after_at self.old.left)) }
         ensures memory { IfErr result ForMemory }

@@ -157,7 +157,7 @@ fn is_silent_fault(answer: &Result<Option<(Pos, Token)>, Refusal<Error>>, pos: P
 }
 
 #[test]
-fn a_fault_is_told_once(rt: HostRuntime) -> Result<(), Fail> {
+fn a_fault_is_reported_once(rt: HostRuntime) -> Result<(), Fail> {
     let mut lexer = Lexer::new(rt.alloc(), 3, " 0x");
     assert_eq!(rt; lexer.pos(), Pos::new(3, 1));
     assert!(rt; lexer.peek().is_none());

@@ -243,8 +243,8 @@ fn variants_and_fields(rt: HostRuntime) -> Result<(), Fail> {
     Ok(())
 }
 
-/// Whether a refusal that is kept is told at once, alone.
-fn is_told_alone(env: &mut TypeEnv, refusal: Refusal<Error>) -> bool {
+/// Whether a refusal that is kept is reported at once, alone.
+fn is_reported_alone(env: &mut TypeEnv, refusal: Refusal<Error>) -> bool {
     match env.keep(refusal) {
         Ok(()) => false,
         Err(Refusal::Fault(errors)) => errors.len() == 1,
@@ -258,9 +258,9 @@ fn errors_are_kept(rt: HostRuntime) -> Result<(), Fail> {
     env.report_error(Pos::new(0, 3), "first")?;
     let second = env.type_error(Pos::new(0, 5), "second");
     let large = env.size_error(Pos::new(1, 2), "large");
-    assert!(rt; !is_told_alone(&mut env, second));
+    assert!(rt; !is_reported_alone(&mut env, second));
     assert_eq!(rt; env.errors().len(), 2);
-    assert!(rt; is_told_alone(&mut env, large));
+    assert!(rt; is_reported_alone(&mut env, large));
     assert_eq!(rt; env.take_errors().len(), 2);
     assert_eq!(rt; env.errors().len(), 0);
     Ok(())
