@@ -10,10 +10,10 @@ use Rattle.isle_syntax.specs.Reading.DefReading.{identifier, field, fields, fiel
 pub record Shortens {A : Type 0} (p : Reader A) : Type 0 where
   pub less : (ts r : List Placed) (a : A) → p ts ≡ done a r → length r < length ts
 
-pub record Shortens {A : Type 0} (p : Reader A) : Type 0 where
+pub record NeverLengthens {A : Type 0} (p : Reader A) : Type 0 where
   pub no_more : (ts r : List Placed) (a : A) → p ts ≡ done a r → length r ≤ length ts
 
-pub shortens_keeps : {A : Type 0} {p : Reader A} → Shortens p → Shortens p
+pub shortens_keeps : {A : Type 0} {p : Reader A} → Shortens p → NeverLengthens p
 shortens_keeps s = record { no_more = λ ts r a e. omega (arith, s.less ts r a e) }
 
 mapped : {A B : Type 0} (f : A → B) (x : Read A) (b : B) (r : List Placed) → read_map f x ≡ done b r → (a : A) × (x ≡ done a r)
@@ -29,10 +29,10 @@ followed (deep q) f b r e = cc
 pub map_shortens : {A B : Type 0} (f : A → B) (p : Reader A) → Shortens p → Shortens (λ ts. read_map f (p ts))
 map_shortens f p s = record { less = λ ts r b e. (let h = mapped f (p ts) b r e in s.less ts r h.0 h.1) }
 
-pub map_keeps : {A B : Type 0} (f : A → B) (p : Reader A) → Shortens p → Shortens (λ ts. read_map f (p ts))
+pub map_keeps : {A B : Type 0} (f : A → B) (p : Reader A) → NeverLengthens p → NeverLengthens (λ ts. read_map f (p ts))
 map_keeps f p s = record { no_more = λ ts r b e. (let h = mapped f (p ts) b r e in s.no_more ts r h.0 h.1) }
 
-pub seq_shortens : {A B : Type 0} (p : Reader A) (q : Reader B) → Shortens p → Shortens q → Shortens (seq p q)
+pub seq_shortens : {A B : Type 0} (p : Reader A) (q : Reader B) → Shortens p → NeverLengthens q → Shortens (seq p q)
 seq_shortens p q s k = record {
   less = λ ts r x e.
       let h = followed (p ts) (λ a r. read_map (λ b. (a, b)) (q r)) x r e in
@@ -40,7 +40,7 @@ seq_shortens p q s k = record {
       omega (arith, s.less ts h.1 h.0 h.2, k.no_more h.1 r g.0 g.1);
 }
 
-pub seq_keeps : {A B : Type 0} (p : Reader A) (q : Reader B) → Shortens p → Shortens q → Shortens (seq p q)
+pub seq_keeps : {A B : Type 0} (p : Reader A) (q : Reader B) → NeverLengthens p → NeverLengthens q → NeverLengthens (seq p q)
 seq_keeps p q s k = record {
   no_more = λ ts r x e.
       let h = followed (p ts) (λ a r. read_map (λ b. (a, b)) (q r)) x r e in
@@ -102,7 +102,7 @@ close_less (at_sign q ∷ ts) r e = cc
 close_less (symbol q s ∷ ts) r e = cc
 close_less (int q n ∷ ts) r e = cc
 
-many_case : {A : Type 0} (p : Reader A) (more : Reader (List A)) (ts r : List Placed) (l : List A) (o : Option (List Placed)) → Shortens p → after_close ts ≡ o
+many_case : {A : Type 0} (p : Reader A) (more : Reader (List A)) (ts r : List Placed) (l : List A) (o : Option (List Placed)) → NeverLengthens p → after_close ts ≡ o
     → ((q : List Placed) (m : List A) → more q ≡ done m r → length r < length q) → many_turn p more o ts ≡ done l r → length r < length ts
 many_case p more ts r l (Some q) k f ih h = let same : q ≡ r = cc in omega (arith, close_less ts q f, ap length same)
 many_case p more ts r l None k f ih h =
@@ -111,12 +111,12 @@ many_case p more ts r l None k f ih h =
     let q = mapped (λ b. (g.0, b)) (more g.1) m.0 r g.3 in
     omega (arith, k.no_more ts g.1 g.0 g.2, ih g.1 q.0 q.1)
 
-many_less : {A : Type 0} (p : Reader A) → Shortens p → (n : ℕ) (ts r : List Placed) (l : List A) → many after_close p n ts ≡ done l r → length r < length ts
+many_less : {A : Type 0} (p : Reader A) → NeverLengthens p → (n : ℕ) (ts r : List Placed) (l : List A) → many after_close p n ts ≡ done l r → length r < length ts
 unfolding many
 many_less p k zero ts r l e = cc
 many_less p k (suc n) ts r l e = many_case p (many after_close p n) ts r l (after_close ts) k refl (λ q m h. many_less p k n q r m h) e
 
-pub rest_shortens : {A : Type 0} (p : Reader A) → Shortens p → Shortens (rest_of p)
+pub rest_shortens : {A : Type 0} (p : Reader A) → NeverLengthens p → Shortens (rest_of p)
 rest_shortens p k = record { less = λ ts r l e. many_less p k (suc (length ts)) ts r l e }
 
 -- ---- the parts of a type

@@ -102,10 +102,10 @@ bound_innermost (pattern_wildcard _) = refl
 bound_innermost (pattern_and _ _) = refl
 bound_innermost (pattern_macro_arg _ _) = refl
 
--- chains of the same names are the same where their subjects are
+-- chains of the same names are the same where their innermost patterns are
 pub same_where_innermost : (s t : PatternTree) → names_bound s ≡ names_bound t → innermost s ≡ innermost t → s ≡ t
-same_where_innermost s t names innermost =
-    sym (bound_innermost s) ∙ ap (λ xs. bound xs (innermost s)) names ∙ ap (bound (names_bound t)) innermost ∙ bound_innermost t
+same_where_innermost s t names same =
+    sym (bound_innermost s) ∙ ap (λ xs. bound xs (innermost s)) names ∙ ap (bound (names_bound t)) same ∙ bound_innermost t
 
 -- a name that is taken from a chain is the next one bound
 pub names_pushed : (xs ys : List (Ident × Pos)) (x : Ident) (p : Pos) (below t : PatternTree) → t ≡ below → ys ≡ xs ++ (x, p) ∷ [] → ys ++ names_bound t ≡ xs ++ names_bound (pattern_bind x below p)
