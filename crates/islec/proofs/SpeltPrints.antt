@@ -1,5 +1,5 @@
 -- Files that are printed are spelt.
-use Rattle.std.proofs.Common.{◌≡◌, ℕ, suc, List, [], ◌∷◌, ◌++◌, Bool, length, sym, ap, subst, refl, ◌∙◌}
+use Rattle.std.proofs.Common.{◌≡◌, ℕ, suc, List, [], ◌∷◌, ◌++◌, length, sym, subst, refl, ◌∙◌}
 use Rattle.isle_syntax.specs.declared.ast.Def.{Def}
 use Rattle.isle_syntax.specs.DefGrammar.{SpellsText}
 use Rattle.isle_syntax.specs.Files.{SourceFile}
