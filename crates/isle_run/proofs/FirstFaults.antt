@@ -1,5 +1,5 @@
 -- The fault of the first file that has one.
-use Rattle.std.proofs.Common.{◌≡◌, ◌<◌, ◌≤◌, ℕ, List, [], ◌∷◌, length, take, subst, arith, inl, inr, Vec, Option, Some, IfSome, slice_get}
+use Rattle.std.proofs.Common.{◌≡◌, ◌<◌, ℕ, List, [], ◌∷◌, length, take, subst, arith, inl, inr, Vec, Option, Some, IfSome, slice_get}
 use Rattle.std.proofs.lemmas.Option.{slice_get_cases}
 use Rattle.std.specs.Global.{Global}
 use Rattle.isle_syntax.specs.declared.ast.Def.{Def}

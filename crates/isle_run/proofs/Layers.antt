@@ -1,5 +1,5 @@
 -- The faults of files by the layer that has them.
-use Rattle.std.proofs.Common.{◌≡◌, ◌<◌, [], ◌∷◌, List, length, Vec}
+use Rattle.std.proofs.Common.{◌≡◌, ◌<◌, [], ◌∷◌, List, length, Vec, ◌∙◌}
 use Rattle.std.specs.Global.{Global}
 use Rattle.isle_syntax.specs.declared.ast.Def.{Def}
 use Rattle.isle_syntax.specs.declared.error.Error.{Error}
@@ -9,9 +9,11 @@ use Rattle.isle_syntax.specs.Errors.{IfFault}
 use Rattle.isle_syntax.specs.Positions.Files.{SourceFile}
 use Rattle.isle_types.specs.declared.env.TypeEnv.{TypeEnv}
 use Rattle.isle_types.specs.Environment.{Environment, Makes, AreWithinSizes, HaveEnvironment}
-use Rattle.isle_types.specs.TypeEnvs.{Shows}
+use Rattle.isle_types.specs.TypeEnvs.{Shows, types_of}
 use Rattle.isle_types.specs.TypeFaults.{AreFaultsOf}
-use Rattle.isle_run.specs.Compiled.{AreSpelt, AreAccepted, IsFirstFault, AreFaults, of_a_text, of_types, of_terms_or_rules}
+use Rattle.isle_run.specs.declared.program.Program.{Program}
+use Rattle.isle_run.specs.Programs.{types_in}
+use Rattle.isle_run.specs.Compiled.{AreSpelt, AreAccepted, IsProgramOf, IsFirstFault, AreFaults, of_a_text, of_types, of_terms_or_rules}
 
 pub text_faults : (files : List SourceFile) (told : Refusal (Vec Error Global)) → IfFault told (λ errors. (error : Error) × (errors.items ≡ error ∷ []) × IsFirstFault files error)
     → IfFault told (λ errors. AreFaults files errors.items)
@@ -33,3 +35,15 @@ later_faults files (Fault errors) accepted some =
 pub accepts : (files : List SourceFile) (defs : List Def) (env : TypeEnv) → AreSpelt 0 files defs → (environment : Environment) × (Makes defs environment × Shows env environment) → AreWithinSizes defs → AreAccepted files
 accepts files defs env spelt made within =
     (defs, spelt, (made.0, (made.1.0, within)))
+
+-- a program of the same types as an environment that the files' definitions make
+pub compiles : (files : List SourceFile) (defs : List Def) (program : Program) (env later : TypeEnv) → AreSpelt 0 files defs → (environment : Environment) × (Makes defs environment × Shows env environment) → AreWithinSizes defs
+    → types_of later ≡ types_of env → types_in program ≡ types_of later → IsProgramOf files program
+compiles files defs program env later spelt made within kept same = record {
+  defs = defs;
+  environment = made.0;
+  spelt = spelt;
+  made = made.1.0;
+  within = within;
+  types = record { tyenv = env; shown = made.1.1; same = same ∙ kept };
+}

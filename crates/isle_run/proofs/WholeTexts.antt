@@ -1,5 +1,5 @@
 -- What is true of one lexer of a text is true of each.
-use Rattle.std.proofs.Common.{◌≡◌, ℕ, List, [], ◌∷◌, ◌++◌, Bool, length, sym, ap, subst, ◌∙◌, Err, Vec, Option, Some, None, IfSome}
+use Rattle.std.proofs.Common.{◌≡◌, ℕ, List, [], ◌∷◌, Bool, length, sym, ap, subst, ◌∙◌, Err, Vec, Option, Some, None, IfSome}
 use Rattle.std.specs.Option.{option_map}
 use Rattle.isle_syntax.specs.Positions.Files.{SourceFile}
 use Rattle.std.specs.Global.{Global}

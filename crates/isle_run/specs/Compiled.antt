@@ -1,15 +1,18 @@
 -- Which files are compiled, and which faults the others have.
-use Rattle.std.specs.Prelude.{◌≡◌, ◌<◌, ℕ, suc, List, [], ◌∷◌, ◌++◌, All, Some, length, slice_get, take}
+use Rattle.std.specs.Prelude.{◌≡◌, ◌<◌, ℕ, suc, List, [], ◌∷◌, ◌++◌, Some, length, slice_get, take}
 use Rattle.isle_syntax.specs.declared.ast.Def.{Def}
 use Rattle.isle_syntax.specs.declared.error.Error.{Error}
-use Rattle.isle_syntax.specs.declared.error.Error.TheVariants.{ParseError, TypeError, UnreachableError, OverlapError, ShadowedError, SizeError}
 use Rattle.isle_syntax.specs.Errors.{Report}
 use Rattle.isle_syntax.specs.Positions.Files.{SourceFile}
 use Rattle.isle_syntax.specs.Grammar.Texts.{Spells, IsFaultIn}
-use Rattle.isle_types.specs.Environment.{HaveEnvironment}
+use Rattle.isle_types.specs.declared.env.TypeEnv.{TypeEnv}
+use Rattle.isle_types.specs.Environment.{Environment, Makes, AreWithinSizes, HaveEnvironment}
+use Rattle.isle_types.specs.TypeEnvs.{Shows, types_of}
 use Rattle.isle_types.specs.TypeFaults.{AreFaultsOf}
+use Rattle.isle_run.specs.declared.program.Program.{Program}
 use Rattle.isle_run.specs.declared.compiler.Refused.{Refused}
 use Rattle.isle_run.specs.declared.compiler.Refused.TheVariants.{Faults, Memory}
+use Rattle.isle_run.specs.Programs.{types_in}
 
 -- the texts of files, which are numbered from `first`, spell these definitions, joined in the order of the files
 abbrev pub AreSpelt : (first : ℕ) → List SourceFile → List Def → Type 0
@@ -21,6 +24,21 @@ AreSpelt first (file ∷ others) defs = (these rest : List Def) × Spells first 
 abbrev pub AreAccepted : List SourceFile → Type 0
 AreAccepted files = (defs : List Def) × AreSpelt 0 files defs × HaveEnvironment defs
 
+-- a program's types are those of an environment of types that shows this one
+pub record HasTypesOf (program : Program) (environment : Environment) : Type 0 where
+  pub tyenv : TypeEnv
+  pub shown : Shows tyenv environment
+  pub same : types_in program ≡ types_of tyenv
+
+-- the program of files: their texts are spelt, the definitions make an environment of types, and the program has its types
+pub record IsProgramOf (files : List SourceFile) (program : Program) : Type 0 where
+  pub defs : List Def
+  pub environment : Environment
+  pub spelt : AreSpelt 0 files defs
+  pub made : Makes defs environment
+  pub within : AreWithinSizes defs
+  pub types : HasTypesOf program environment
+
 -- an error is the fault of the first text that isn't spelt
 pub record IsFirstFault (files : List SourceFile) (error : Error) : Type 0 where
   pub place : ℕ
@@ -29,15 +47,6 @@ pub record IsFirstFault (files : List SourceFile) (error : Error) : Type 0 where
   pub among : slice_get files place ≡ Some file
   pub before : AreSpelt 0 (take place files) defs
   pub fault : IsFaultIn place file.text error
-
--- an error that reports overlapping rules
-abbrev pub IsOverlap : Error → Type 0
-IsOverlap (OverlapError _ _) = Unit {0}
-IsOverlap (ParseError _ _) = ⊥
-IsOverlap (TypeError _ _) = ⊥
-IsOverlap (UnreachableError _ _) = ⊥
-IsOverlap (ShadowedError _ _) = ⊥
-IsOverlap (SizeError _ _) = ⊥
 
 -- the faults of files, those of the first layer that has any: the first text that isn't spelt, the types, the terms or the rules
 pub data AreFaults (files : List SourceFile) (errors : List Error) : Type 0 where

@@ -5,7 +5,7 @@ ghost use Rattle.isle_syntax.specs.Positions.DefPositions.{DefAt};
 ghost use Rattle.isle_syntax.specs.Errors.{IfFault, IsFaultAnd, RefusalAt, RefusalsAt};
 ghost use Rattle.isle_syntax.specs.Grammar.Texts.{Spells, IsFaultIn};
 ghost use Rattle.isle_syntax.specs.declared.error.Error.{Error};
-ghost use Rattle.isle_run.specs.Compiled.{AreSpelt, AreAccepted, IsFirstFault, AreFaults, IfFaults};
+ghost use Rattle.isle_run.specs.Compiled.{AreSpelt, AreAccepted, IsProgramOf, IsFirstFault, AreFaults, IfFaults};
 
 use crate::overlap::overlaps;
 use crate::program::Program;
@@ -31,6 +31,7 @@ pub enum Refused {
 /// The program of texts, which are joined in the order of the files.
 pub fn compile(alloc: Global, files: Rc<Files>) -> Result<Program, Refused>
     ensures accepted { OnOk result (AreAccepted files.value) }
+    ensures compiled { IfOk result (IsProgramOf files.value) }
     ensures faults { IfErr result (λ refused. IfFaults refused (λ report. AreFaults files.value report.errors)) }
     ensures of_files { IfErr result (λ refused. IfFaults refused (λ report. report.files ≡ files.value)) }
 {
@@ -43,6 +44,7 @@ pub fn compile(alloc: Global, files: Rc<Files>) -> Result<Program, Refused>
 
 fn compile_files(alloc: Global, files: &Files) -> Result<Program, Refusal<Vec<Error>>>
     ensures accepted { OnOk result (AreAccepted files.now) }
+    ensures compiled { IfOk result (IsProgramOf files.now) }
     ensures faults { IfErr result (λ r. IfFault r (λ errors. AreFaults files.now errors.items)) }
     ensures printable { IfErr result (RefusalsAt (IsPrintablePos files.now)) }
 {

@@ -14,8 +14,9 @@ pub struct Program {
 
 impl Program {
     ghost use Rattle.std.specs.Prelude.{◌≡◌, IfOk};
+    ghost use Rattle.isle_types.specs.TypeEnvs.{types_of};
     ghost use Rattle.isle_terms.specs.Environment.{rules_of};
-    ghost use Rattle.isle_run.specs.Programs.{rules_in, term_named, is_runnable};
+    ghost use Rattle.isle_run.specs.Programs.{types_in, rules_in, term_named, is_runnable};
 
     /// The program of typed definitions.
     pub(crate) fn new(
@@ -23,7 +24,8 @@ impl Program {
         tyenv: TypeEnv,
         termenv: TermEnv,
     ) -> Result<Program, AllocError>
-        ensures { IfOk result (λ program. rules_in program ≡ rules_of termenv) }
+        ensures rules { IfOk result (λ program. rules_in program ≡ rules_of termenv) }
+        ensures types { IfOk result (λ program. types_in program ≡ types_of tyenv) }
     {
         let rules_of = rules_by_term(alloc, &termenv)?;
         Ok(Program {

@@ -40,7 +40,7 @@ spelt_without_pos_is_writable file text defs spells =
     parsed_without_pos_is_writable text read.0 defs (map def_without_pos defs) read.1 read.2 refl
 
 -- a text spells one list of definitions
-pub spelt_once : (file : ℕ) (text : List ℕ) (defs others : List Def) → Spells file text defs → Spells file text others → others ≡ defs
+spelt_once : (file : ℕ) (text : List ℕ) (defs others : List Def) → Spells file text defs → Spells file text others → others ≡ defs
 spelt_once file text defs others spells also =
     let whole = whole_reading file text in
     (spells whole.0 whole.1 whole.2).only others (also whole.0 whole.1 whole.2).spelt

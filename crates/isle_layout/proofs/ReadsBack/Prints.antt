@@ -5,7 +5,6 @@ use Rattle.std.specs.List.{All}
 use Rattle.std.specs.Str.{IsUtf8}
 use Rattle.std.proofs.lemmas.List.Elements.{All-nil, All-cons, All-head, All-tail}
 use Rattle.isle_syntax.specs.declared.ast.Def.{Def}
-use Rattle.isle_syntax.specs.Tokens.RemainingTokens.{RemainingTokens}
 use Rattle.isle_syntax.specs.Tokens.TokensOf.{TokensOf}
 use Rattle.isle_syntax.specs.Grammar.DefGrammar.{SpellsText}
 use Rattle.isle_syntax.specs.Grammar.Verdict.{NestsWithin}
@@ -17,7 +16,6 @@ use Rattle.isle_layout.specs.DefSpellings.{def_sexpr}
 use Rattle.isle_layout.specs.Layout.{layout}
 use Rattle.isle_layout.specs.Prints.{def_print, print_of}
 use Rattle.isle_layout.specs.Writable.{writable_def}
-use Rattle.isle_syntax.specs.Grammar.Texts.{IsWhole}
 use Rattle.isle_layout.specs.ReadsBack.{IsReadAs}
 use Rattle.isle_layout.proofs.Atoms.LayoutTokens.{printed, printed_tokens}
 use Rattle.isle_layout.proofs.SpeltTexts.SpeltDefs.{parsed_is_writable}

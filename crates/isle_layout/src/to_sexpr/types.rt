@@ -73,17 +73,10 @@ pub(crate) fn spell_fields(alloc: Global, fields: &Fields) -> Result<SExpr, Allo
 }
 
 /// The list of fields with names.
-pub(crate) fn spell_struct_fields(
-    alloc: Global,
-    fields: &StructFields,
-) -> Result<SExpr, AllocError>
+pub(crate) fn spell_struct_fields(alloc: Global, fields: &StructFields) -> Result<SExpr, AllocError>
     ensures { IfOk result (λ sexpr. sexpr_of sexpr ≡ struct_fields_sexpr fields.now) }
 {
-    let list = add_struct_fields(
-        alloc,
-        ListBuilder::new(alloc),
-        fields.fields.as_slice(),
-    )?;
+    let list = add_struct_fields(alloc, ListBuilder::new(alloc), fields.fields.as_slice())?;
     Ok(list.build())
 }
 

@@ -1,8 +1,7 @@
-use Rattle.std.proofs.Common.{refl, ap, ◌∙◌, string_bytes}
+use Rattle.std.proofs.Common.{ap, ◌∙◌, string_bytes}
 use Rattle.std.proofs.lemmas.Str.{IsUtf8-string_bytes}
 use Rattle.isle_syntax.specs.Grammar.Texts.{IsWhole}
 use Rattle.isle_layout.specs.Prints.{print_of}
-use Rattle.isle_layout.specs.Formats.{Formats}
 use Rattle.isle_layout.proofs.SpeltTexts.OneReading.{spells_of}
 use Rattle.isle_layout.proofs.ReadsBack.Formatted.{never_refused, formatted_settles, settled_is_faultless}
 use Rattle.isle_layout.proofs.format.format.Goals as goal

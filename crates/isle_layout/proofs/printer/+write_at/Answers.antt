@@ -65,7 +65,7 @@ write_broken_list-loop-i-preserved t c =
           let so_far = c.loop-i.invariant.written width inner rest margin fits in
           let here = c.in_ok-write_at.ensures.written width inner _ (kept ∙ margin) (item_fits width items i item _ rest low c.index-items-i.is so_far.1) in
           let place : ((i ≡ 0) × (string_bytes c.if-i-gt0.out ≡ string_bytes c.loop-i.out)) ⊎ ((0 < i) × (string_bytes c.if-i-gt0.out ≡ string_bytes c.loop-i.out ++ line inner)) =
-              elim c.if-i-gt0.branch [ write_broken_list-then-i-gt0+in_ok-write_line w ↦ inr (w.if-i-gt0.true, ap string_bytes w.out-is ∙ w.in_ok-write_line.ensures inner (w.as_str.ensures.value ∙ kept ∙ margin)) | write_broken_list-else-i-gt0 w ↦ inl (omega arith, ap string_bytes w.out-is) ] in
+          elim c.if-i-gt0.branch [ write_broken_list-then-i-gt0+in_ok-write_line w ↦ inr (w.if-i-gt0.true, ap string_bytes w.out-is ∙ w.in_ok-write_line.ensures inner (w.as_str.ensures.value ∙ kept ∙ margin)) | write_broken_list-else-i-gt0 w ↦ inl (omega arith, ap string_bytes w.out-is) ] in
           (item_written width inner items i item _ _ _ _ low c.index-items-i.is so_far.0 place here.0, here.1);
     }
 

@@ -3,7 +3,7 @@ use Rattle.std.proofs.lemmas.Result.{err_from_is_err_and}
 use Rattle.isle_types.specs.TypeEnvs.{HasPrintablePositions}
 use Rattle.isle_types.proofs.Reading.{some_items}
 use Rattle.isle_run.specs.Compiled.{AreAccepted, of_terms_or_rules}
-use Rattle.isle_run.proofs.Layers.{text_faults, type_faults, later_faults, accepts}
+use Rattle.isle_run.proofs.Layers.{text_faults, type_faults, later_faults, accepts, compiles}
 use Rattle.isle_run.proofs.compiler.compile_files.Goals as goal
 
 pub returns-in_err-defs-clause-faults : goal.returns-in_err-defs-clause-faults
@@ -31,6 +31,10 @@ pub returns-clause-accepted : goal.returns-clause-accepted
 returns-clause-accepted c =
     accepts c.args.files.now c.as_slice.result.now c.in_ok-tyenv.tyenv (rw c.as_slice.ensures.value c.in_ok-defs.ensures.spelt) c.in_ok-tyenv.ensures.made c.in_ok-tyenv.ensures.within
 
+pub returns-clause-compiled : goal.returns-clause-compiled
+returns-clause-compiled c =
+    compiles c.args.files.now c.as_slice.result.now c.in_ok-program.program c.in_ok-tyenv.tyenv c.from_ast-2.new.tyenv (rw c.as_slice.ensures.value c.in_ok-defs.ensures.spelt) c.in_ok-tyenv.ensures.made c.in_ok-tyenv.ensures.within c.from_ast-2.ensures.same_types c.in_ok-program.ensures.types
+
 pub returns-in_err-termenv-clause-printable : goal.returns-in_err-termenv-clause-printable
 returns-in_err-termenv-clause-printable c =
     let p = err_from_is_err_and c.from_residual-in_err-termenv.result c.from_residual-in_err-termenv.ensures.1 in
@@ -44,4 +48,4 @@ returns-then-not-is_empty-clause-printable c =
     c.in_ok-tyenv.ensures.placed c.args.files.now (rw c.as_slice.ensures.value c.in_ok-defs.ensures.placed) in
     let placed =
     c.in_ok-termenv.ensures.placed c.args.files.now (rw c.as_slice-2.ensures.value c.in_ok-defs.ensures.placed) types in
-    c.in_ok-errors.ensures c.args.files.now (rw (c.rules.ensures, c.in_ok-program.ensures) placed.rules)
+    c.in_ok-errors.ensures c.args.files.now (rw (c.rules.ensures, c.in_ok-program.ensures.rules) placed.rules)

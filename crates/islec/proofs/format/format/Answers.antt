@@ -1,4 +1,4 @@
-use Rattle.std.proofs.Common.{◌≡◌, ◌<◌, ◌≤◌, ◌∷◌, ◌++◌, [], List, length, map, take, string_bytes, arith, subst, slice_get, IfSome, rules}
+use Rattle.std.proofs.Common.{◌≡◌, ◌<◌, ◌≤◌, ◌∷◌, [], List, length, map, take, string_bytes, arith, subst, slice_get, IfSome, rules}
 use Rattle.std.specs.Io.KnownBytes.{Appends}
 use Rattle.isle_layout.specs.Formats.{Formats}
 use Rattle.isle_syntax.specs.Errors.{report_text}
