@@ -174,7 +174,7 @@ module _ (d : DeclTree) (h : writable_ident d.term ≡ true) where
         vs (row_append multi (partial ++ rec) behind_rec vs m)))
         us (row_append pure (multi ++ (partial ++ rec)) behind_rec us l))
 
-  -- the next_symbol_is behind the flags
+  -- the names behind the flags
   module _ (g : list_all writable_ident d.arg_tys ≡ true) (e : writable_ident d.ret_ty ≡ true) where
     pull_rec : (us : List Placed) → behind_partial us → (x : Ident × List Ident × Ident) × Flag (codes "rec") d.rec (SpellsNames x) us × SameNames d x
     pull_rec us l =

@@ -129,7 +129,7 @@ follows_unnamed_at d ts false at =
 follows_unnamed : (d : ℕ) → Follows Unnamed Any d (suc d) (with_priority (seq (pattern_list d) (rule_body d)))
 follows_unnamed d = record { reads = λ ts. follows_unnamed_at d ts (is_priority_next ts) refl }
 
--- ---- next_symbol_is
+-- ---- names
 
 name_first : (x : Ident) (u v : List Placed) → SpellsName (Some x) u → next_symbol_is is_ident (u ++ v) ≡ true
 name_first x u v l = ap (λ k. next_symbol_is is_ident (k ++ v)) l.0 ∙ l.1

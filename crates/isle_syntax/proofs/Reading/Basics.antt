@@ -1,4 +1,4 @@
--- Single tokens, next_symbol_is and what stands in parentheses.
+-- Single tokens, names and what stands in parentheses.
 use Rattle.std.proofs.Common.{◌≡◌, ℕ, zero, suc, ◌-◌, ◌<◌, List, [], ◌∷◌, ◌++◌, length, Bool, true, false, cond, refl, sym, ap, subst, ◌∙◌, append_assoc, length-append, arith}
 use Rattle.std.proofs.lemmas.Bool.{false≢true}
 use Rattle.isle_syntax.specs.declared.lexer.Pos.{Pos}
@@ -196,7 +196,7 @@ follows_word w d = record {
 pub word_filled : (w : List ℕ) (p : Pos) (v : List Placed) → Word w p v → v ≡ [] → ⊥
 word_filled w p v l e = let k : [] ≡ symbol p w ∷ [] = sym e ∙ l in cc
 
--- ---- phrases under other next_symbol_is
+-- ---- phrases under other names
 
 pub follows_map : {A B : Type 0} {L : A → List Placed → Type 0} {K : B → List Placed → Type 0} {F : List Placed → Type 0} {d e : ℕ} {p : Reader A} (f : A → B)
     → ((a : A) (u : List Placed) → L a u → K (f a) u) → ((b : B) (v : List Placed) → K b v → (a : A) × (b ≡ f a) × L a v) → Follows L F d e p

@@ -4,7 +4,7 @@ use Rattle.std.specs.Prelude.{codes}
 use Rattle.isle_syntax.specs.declared.ast.Ident.{Ident}
 use Rattle.isle_syntax.specs.Tokens.PlacedTokens.{Placed}
 use Rattle.isle_syntax.specs.Grammar.Phrases.{first_pos}
-use Rattle.isle_syntax.specs.Tokens.RemainingTokens.{RemainingTokens, remaining_pos, first_pos as pos_of_first}
+use Rattle.isle_syntax.specs.Tokens.RemainingTokens.{RemainingTokens, remaining_pos, next_pos as pos_of_first}
 use Rattle.isle_syntax.specs.Reading.Parsing.{bounds, stop_of, TakesWord}
 use Rattle.isle_syntax.specs.Reading.Readers.{Read, done, fault, deep, Reader, read_map, rest_of, says, optional, optional_on}
 use Rattle.isle_syntax.specs.Trees.ItemTree.{ItemTree}

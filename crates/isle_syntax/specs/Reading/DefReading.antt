@@ -83,7 +83,7 @@ fields_numbered (x ∷ xs) = tuple_fields (record { fields = numbered 0 (x ∷ x
 abbrev pub is_symbol_next : List Placed → Bool
 is_symbol_next ts = next_symbol_is (λ s. true) ts
 
--- fields up to a closing parenthesis: without next_symbol_is where a symbol comes first
+-- fields up to a closing parenthesis: without names where a symbol comes first
 abbrev pub fields_on : ℕ → Bool → Reader Fields
 fields_on d true ts = read_map fields_numbered (rest_of identifier ts)
 fields_on d false ts = read_map fields_named (rest_of (field d) ts)

@@ -19,21 +19,21 @@ use crate::parser::Parser;
 use crate::symbol::is_ident;
 
 impl<'src> Parser<'src> {
-    /// A pattern, behind the next_symbol_is that it is bound to.
+    /// A pattern, behind the names that it is bound to.
     #[cycle(pattern)]
     pub(crate) fn parse_pattern(&mut self, depth_left: usize) -> Result<Pattern, Refusal<Error>>
         ensures { Gives pattern_of self.old self.new result (pattern depth_left self.old.left) }
     {
-        let mut next_symbol_is = Vec::new(self.allocator());
+        let mut names = Vec::new(self.allocator());
         'names: loop {
             match self.parse_unbound(depth_left)? {
                 Pattern::Var { var, pos } => {
                     if !self.take_at()? {
-                        return Ok(wrap(self.allocator(), next_symbol_is, Pattern::Var { var, pos })?);
+                        return Ok(wrap(self.allocator(), names, Pattern::Var { var, pos })?);
                     }
-                    next_symbol_is.push((var, pos))?;
+                    names.push((var, pos))?;
                 }
-                inner => return Ok(wrap(self.allocator(), next_symbol_is, inner)?),
+                inner => return Ok(wrap(self.allocator(), names, inner)?),
             }
         }
     }
