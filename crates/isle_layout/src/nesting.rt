@@ -9,7 +9,7 @@ use isle_syntax::ast::{Def, Expr, IfLet, KeptItem, LetDef, Pattern, Rule};
 /// Whether no more parentheses are open at once in a pattern. A chain `x @ y @ ..` is walked by a loop, since it nests
 /// without parentheses.
 #[cycle(pattern_fits)]
-#[tactic(auto, using(isle_syntax::proofs::PatternSizes::most_pattern_size))]
+#[tactic(auto, using(isle_syntax::proofs::Trees::PatternSizes::most_pattern_size))]
 fn pattern_fits(pattern: &Pattern, depth_left: usize) -> bool
     ensures { IsTrue result ↔ pattern_nesting (pattern_of pattern.now) ≤ depth_left }
 {
@@ -46,7 +46,7 @@ fn patterns_fit(patterns: &[Pattern], depth_left: usize) -> bool
 }
 
 #[cycle(expr_fits)]
-#[tactic(auto, using(isle_syntax::proofs::ExprSizes::most_expr_size, isle_syntax::proofs::ExprSizes::most_let_size))]
+#[tactic(auto, using(isle_syntax::proofs::Trees::ExprSizes::most_expr_size, isle_syntax::proofs::Trees::ExprSizes::most_let_size))]
 fn expr_fits(expr: &Expr, depth_left: usize) -> bool
     ensures { IsTrue result ↔ expr_nesting (expr_of expr.now) ≤ depth_left }
 {
@@ -87,7 +87,7 @@ fn lets_fit(defs: &[LetDef], depth_left: usize) -> bool
 }
 
 #[cycle(item_fits)]
-#[tactic(auto, using(isle_syntax::proofs::ItemSizes::most_item_size))]
+#[tactic(auto, using(isle_syntax::proofs::Trees::ItemSizes::most_item_size))]
 fn item_fits(item: &KeptItem, depth_left: usize) -> bool
     ensures { IsTrue result ↔ item_nesting (item_of item.now) ≤ depth_left }
 {

@@ -88,7 +88,7 @@ fn is_expr_term(text: &str) -> bool
 
 /// A chain `x @ y @ ..` is walked by a loop, since it nests without parentheses.
 #[cycle(writable_pattern)]
-#[tactic(auto, using(isle_syntax::proofs::PatternSizes::most_pattern_size))]
+#[tactic(auto, using(isle_syntax::proofs::Trees::PatternSizes::most_pattern_size))]
 fn writable_pattern(pattern: &Pattern) -> bool
     ensures { result ≡ writable_pattern (pattern_of pattern.now) }
 {
@@ -127,7 +127,7 @@ fn writable_patterns(patterns: &[Pattern]) -> bool
 }
 
 #[cycle(writable_expr)]
-#[tactic(auto, using(isle_syntax::proofs::ExprSizes::most_expr_size, isle_syntax::proofs::ExprSizes::most_let_size))]
+#[tactic(auto, using(isle_syntax::proofs::Trees::ExprSizes::most_expr_size, isle_syntax::proofs::Trees::ExprSizes::most_let_size))]
 fn writable_expr(expr: &Expr) -> bool
     ensures { result ≡ writable_expr (expr_of expr.now) }
 {
@@ -168,7 +168,7 @@ fn writable_lets(defs: &[LetDef]) -> bool
 }
 
 #[cycle(writable_item)]
-#[tactic(auto, using(isle_syntax::proofs::ItemSizes::most_item_size))]
+#[tactic(auto, using(isle_syntax::proofs::Trees::ItemSizes::most_item_size))]
 fn writable_item(item: &KeptItem) -> bool
     ensures { result ≡ writable_item (item_of item.now) }
 {

@@ -1,5 +1,5 @@
 //! The terms and rules of ISLE: their typed trees, and the elaboration of definitions to them.
-#![tactic(auto, using(isle_syntax::proofs::PatternSizes::most_pattern_size, isle_syntax::proofs::ExprSizes::most_expr_size))]
+#![tactic(auto, using(isle_syntax::proofs::Trees::PatternSizes::most_pattern_size, isle_syntax::proofs::Trees::ExprSizes::most_expr_size))]
 
 mod env;
 mod rules;

@@ -20,7 +20,7 @@ pub(crate) fn spell_kept(alloc: Global, kept: &Kept) -> Result<SExpr, AllocError
 
 /// An item of a kept definition.
 #[cycle(spell_item)]
-#[tactic(auto, using(isle_syntax::proofs::ItemSizes::most_item_size))]
+#[tactic(auto, using(isle_syntax::proofs::Trees::ItemSizes::most_item_size))]
 pub(crate) fn spell_item(alloc: Global, item: &KeptItem) -> Result<SExpr, AllocError>
     ensures { IfOk result (λ sexpr. sexpr_of sexpr ≡ item_sexpr (item_of item.now)) }
 {
@@ -38,7 +38,7 @@ pub(crate) fn spell_item(alloc: Global, item: &KeptItem) -> Result<SExpr, AllocE
 
 /// A list with items more.
 #[cycle(spell_item)]
-#[tactic(auto, using(isle_syntax::proofs::ItemSizes::most_item_size))]
+#[tactic(auto, using(isle_syntax::proofs::Trees::ItemSizes::most_item_size))]
 fn add_items(
     alloc: Global,
     list: ListBuilder,

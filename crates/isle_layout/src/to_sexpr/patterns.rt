@@ -39,7 +39,7 @@ fn bind(alloc: Global, mut names: Vec<Text>, inner: SExpr) -> Result<SExpr, Allo
 
 /// A pattern that is no binding.
 #[cycle(spell_pattern)]
-#[tactic(auto, using(isle_syntax::proofs::PatternSizes::most_pattern_size))]
+#[tactic(auto, using(isle_syntax::proofs::Trees::PatternSizes::most_pattern_size))]
 fn spell_innermost(alloc: Global, pattern: &Pattern) -> Result<SExpr, AllocError>
     requires { names_bound (pattern_of pattern.now) ≡ [] }
     ensures { IfOk result (λ sexpr. sexpr_of sexpr ≡ pattern_sexpr (pattern_of pattern.now)) }
@@ -59,7 +59,7 @@ fn spell_innermost(alloc: Global, pattern: &Pattern) -> Result<SExpr, AllocError
 
 /// A list of a word and patterns.
 #[cycle(spell_pattern)]
-#[tactic(auto, using(isle_syntax::proofs::PatternSizes::most_pattern_size))]
+#[tactic(auto, using(isle_syntax::proofs::Trees::PatternSizes::most_pattern_size))]
 fn spell_patterns(alloc: Global, word: &str, patterns: &[Pattern]) -> Result<SExpr, AllocError>
     ensures { IfOk result (λ sexpr. sexpr_of sexpr ≡ listed (sexpr_atom word.now ∷ pattern_sexprs (patterns_of patterns.now))) }
 {
