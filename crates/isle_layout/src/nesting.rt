@@ -53,7 +53,9 @@ fn expr_fits(expr: &Expr, depth_left: usize) -> bool
     match expr {
         Expr::Term { args, .. } => depth_left > 0 && exprs_fit(args.as_slice(), depth_left - 1),
         Expr::Let { defs, body, .. } => {
-            depth_left > 1 && lets_fit(defs.as_slice(), depth_left - 2) && expr_fits(body.get(), depth_left - 1)
+            depth_left > 1
+                && lets_fit(defs.as_slice(), depth_left - 2)
+                && expr_fits(body.get(), depth_left - 1)
         }
         Expr::Var { .. }
         | Expr::ConstBool { .. }
@@ -92,7 +94,8 @@ fn item_fits(item: &KeptItem, depth_left: usize) -> bool
     ensures { IsTrue result ↔ item_nesting (item_of item.now) ≤ depth_left }
 {
     match item {
-        KeptItem::List { items, .. } => depth_left > 0 && items_fit(items.as_slice(), depth_left - 1),
+        KeptItem::List { items, .. } => depth_left > 0
+            && items_fit(items.as_slice(), depth_left - 1),
         KeptItem::Int { .. } | KeptItem::Big { .. } | KeptItem::Symbol(_) | KeptItem::At { .. } =>
             true,
     }
@@ -140,7 +143,8 @@ pub(crate) fn fits(def: &Def, depth_left: usize) -> bool
         Def::TypeDef(_) => depth_left >= 4,
         Def::Decl(_) => depth_left >= 2,
         Def::Rule(rule) => depth_left >= 1 && rule_fits(rule, depth_left - 1),
-        Def::Extractor(extractor) => depth_left >= 2 && pattern_fits(&extractor.template, depth_left - 1),
+        Def::Extractor(extractor) => depth_left >= 2
+            && pattern_fits(&extractor.template, depth_left - 1),
         Def::Extern(_) | Def::Converter(_) => depth_left >= 1,
         Def::Pragma(_) => true,
         Def::Kept(kept) => depth_left >= 1 && items_fit(kept.items.as_slice(), depth_left - 1),

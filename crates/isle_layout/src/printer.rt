@@ -19,7 +19,6 @@ use isle_syntax::ast::Def;
 use std::alloc::{AllocError, Global};
 use std::slice::Iter;
 
-
 /// Definitions laid out at a width, each followed by one newline. A `MacroArg` in one of them is refused.
 pub fn print(alloc: Global, defs: &[Def], width: usize) -> Result<String, Refusal<HasMacroArg>>
     ensures text { IfOk result (λ text. string_bytes text ≡ print_of width defs.now) }

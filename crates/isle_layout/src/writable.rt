@@ -7,7 +7,6 @@ ghost use Rattle.isle_syntax.specs.Grammar.TreeGrammar.{is_pattern_term, is_expr
 ghost use Rattle.isle_syntax.specs.Grammar.DefGrammar.{fits_priority, is_kept_word};
 ghost use Rattle.isle_layout.specs.Writable.{writable_ident, fits_i128, writable_int, writable_pattern, writable_patterns, writable_expr, writable_exprs, writable_lets, writable_item, writable_items, writable_struct_field, writable_tuple_fields, writable_fields, writable_variant, writable_type_value, is_free_of_flags, writable_decl, writable_extractor, writable_extern, writable_converter, writable_rule_name, writable_priority, writable_iflet, is_list, is_right_side, writable_rule, writable_kept, has_writable_words, writable_def};
 
-
 use crate::nesting::fits;
 use isle_syntax::ast::{
     Converter, Decl, Def, Expr, Extern, Extractor, Fields, Ident, IfLet, Kept, KeptItem, LetDef,

@@ -9,7 +9,6 @@ ghost use Rattle.isle_syntax.specs.Tokens.Gaps.{lead_of};
 ghost use Rattle.isle_syntax.specs.Tokens.Finding.{reading, next_of, nothing, fault, found};
 ghost use Rattle.isle_syntax.specs.Tokens.Lookahead.{reading_of, state_of, IsAhead};
 
-
 use crate::Refusal;
 use crate::error::{Error, Span};
 use crate::files::Files;

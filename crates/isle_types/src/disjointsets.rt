@@ -9,7 +9,6 @@ use std::collections::HashMap;
 use std::hash::Hash;
 use std::marker::Model;
 
-
 /// Disjoint sets of at least two items each (`cranelift_isle::disjointsets::DisjointSets`). `merge` alone makes a
 /// set. One member of each set represents it. The order of the sets, and of a set's members after the first, means
 /// nothing.

@@ -118,4 +118,3 @@ impl TypeId {
 
     pub const ISIZE: TypeId = TypeId(12);
 }
-

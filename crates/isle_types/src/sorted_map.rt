@@ -121,4 +121,3 @@ fn search<K: Ord, V>(entries: &[(K, V)], places: &[usize], key: &K) -> (Result<u
     }
     (Err(low), comparisons)
 }
-

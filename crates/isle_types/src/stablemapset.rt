@@ -188,4 +188,3 @@ impl<K: Eq + Hash + Clone, V: Clone> Clone for StableMap<K, V> {
         Ok(StableMap(self.0.clone()?))
     }
 }
-

@@ -2,7 +2,6 @@ ghost use Rattle.std.specs.Prelude.{◌≡◌, IfOk};
 ghost use Rattle.isle_syntax.specs.Trees.PatternShape.{pattern_of};
 ghost use Rattle.isle_syntax.specs.Trees.Innermost.{innermost, names_bound};
 
-
 use crate::ast::{Ident, Pattern};
 use crate::lexer::Pos;
 use std::alloc::{AllocError, Global};

@@ -1,6 +1,5 @@
 ghost use Rattle.std.specs.Prelude.{◌≡◌, ◌∷◌, ◌++◌, [], IfOk};
 
-
 use crate::error::{Error, Errors};
 use crate::files::Files;
 use std::alloc::{AllocError, Global};

@@ -83,7 +83,11 @@ impl<'src> Parser<'src> {
 
     /// What stands behind the opening parenthesis that stands at `pos`, and the closing one.
     #[cycle(expr)]
-    pub(crate) fn parse_expr_inner(&mut self, pos: Pos, depth_left: usize) -> Result<Expr, Refusal<Error>>
+    pub(crate) fn parse_expr_inner(
+        &mut self,
+        pos: Pos,
+        depth_left: usize,
+    ) -> Result<Expr, Refusal<Error>>
         ensures { Gives expr_of self.old self.new result (read_map (inner_expr pos) (expr_inner depth_left self.old.left)) }
     {
         if self.is_word("let")? {

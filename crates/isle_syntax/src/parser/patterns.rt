@@ -104,7 +104,10 @@ impl<'src> Parser<'src> {
 
     /// A term or `and`, with its patterns.
     #[cycle(pattern)]
-    pub(crate) fn parse_pattern_list(&mut self, depth_left: usize) -> Result<Pattern, Refusal<Error>>
+    pub(crate) fn parse_pattern_list(
+        &mut self,
+        depth_left: usize,
+    ) -> Result<Pattern, Refusal<Error>>
         ensures { Gives pattern_of self.old self.new result (pattern_list depth_left self.old.left) }
     {
         let pos = self.open(depth_left)?;

@@ -114,7 +114,11 @@ impl<'src> Parser<'src> {
     }
 
     /// A right side whose parenthesis at `pos` is open, and the closing parenthesis of the rule.
-    fn parse_right_side_inner(&mut self, pos: Pos, depth_left: usize) -> Result<Expr, Refusal<Error>>
+    fn parse_right_side_inner(
+        &mut self,
+        pos: Pos,
+        depth_left: usize,
+    ) -> Result<Expr, Refusal<Error>>
         ensures { Gives expr_of self.old self.new result (read_map (λ x. inner_expr pos x.0) (seq (expr_inner depth_left) closed self.old.left)) }
     {
         let expr = self.parse_expr_inner(pos, depth_left)?;

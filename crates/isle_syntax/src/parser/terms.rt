@@ -38,7 +38,10 @@ impl<'src> Parser<'src> {
     }
 
     /// A term's name, the types of its arguments and its own, and the closing parenthesis.
-    fn parse_signature(&mut self, depth_left: usize) -> Result<(Ident, Vec<Ident>, Ident), Refusal<Error>>
+    fn parse_signature(
+        &mut self,
+        depth_left: usize,
+    ) -> Result<(Ident, Vec<Ident>, Ident), Refusal<Error>>
         ensures { Gives (λ x. (x.0, x.1.items, x.2)) self.old self.new result (read_map signature_parts (signature depth_left self.old.left)) }
     {
         let term = self.ident()?;

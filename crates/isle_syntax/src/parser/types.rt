@@ -60,7 +60,11 @@ impl<'src> Parser<'src> {
     }
 
     /// What follows the opening parenthesis of a type's value at `pos`.
-    fn parse_typevalue_inner(&mut self, pos: Pos, depth_left: usize) -> Result<TypeValue, Refusal<Error>>
+    fn parse_typevalue_inner(
+        &mut self,
+        pos: Pos,
+        depth_left: usize,
+    ) -> Result<TypeValue, Refusal<Error>>
         ensures { Gives (λ x. x) self.old self.new result (read_map (value_at pos) (value depth_left self.old.left)) }
     {
         match self.keyword()? {

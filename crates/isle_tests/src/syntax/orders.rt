@@ -48,22 +48,10 @@ fn names_are_keys(rt: HostRuntime) -> Result<(), Fail> {
 fn orders_go_by_text_file_and_offset(rt: HostRuntime) -> Result<(), Fail> {
     let alloc = rt.alloc();
     let first = name(alloc, "a", 7, 7)?;
-    assert_eq!(rt;
-        first.cmp(&name(alloc, "aa", 0, 0)?),
-        Ordering::Less
-    );
-    assert_eq!(rt;
-        first.cmp(&name(alloc, "a", 8, 0)?),
-        Ordering::Less
-    );
-    assert_eq!(rt;
-        first.cmp(&name(alloc, "a", 7, 7)?),
-        Ordering::Equal
-    );
-    assert_eq!(rt;
-        Pos::new(1, 0).cmp(&Pos::new(0, 9)),
-        Ordering::Greater
-    );
+    assert_eq!(rt; first.cmp(&name(alloc, "aa", 0, 0)?), Ordering::Less);
+    assert_eq!(rt; first.cmp(&name(alloc, "a", 8, 0)?), Ordering::Less);
+    assert_eq!(rt; first.cmp(&name(alloc, "a", 7, 7)?), Ordering::Equal);
+    assert_eq!(rt; Pos::new(1, 0).cmp(&Pos::new(0, 9)), Ordering::Greater);
     Ok(())
 }
 

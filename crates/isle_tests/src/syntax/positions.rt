@@ -20,7 +20,10 @@ fn extern_offsets(alloc: Global, external: &Extern) -> Result<Vec<usize>, Fail> 
     let (pos, first, second) = match external {
         Extern::Constructor { term, func, pos } => (pos, term, func),
         Extern::Extractor {
-            term, func, pos, ..
+            term,
+            func,
+            pos,
+            ..
         } => (pos, term, func),
         Extern::Const { name, ty, pos } => (pos, name, ty),
     };
@@ -42,11 +45,20 @@ fn offsets(alloc: Global, text: &str) -> Result<Vec<usize>, Fail> {
             vec![in alloc; decl.pos.offset, decl.term.1.offset, decl.ret_ty.1.offset]?
         }
         Def::Extractor(extractor) => {
-            vec![in alloc; extractor.pos.offset, extractor.term.1.offset, extractor.template.pos().offset]?
+            vec![in alloc;
+                extractor.pos.offset,
+                extractor.term.1.offset,
+                extractor.template.pos().offset,
+            ]?
         }
         Def::Extern(external) => extern_offsets(alloc, &external)?,
         Def::Converter(converter) => {
-            vec![in alloc; converter.pos.offset, converter.inner_ty.1.offset, converter.outer_ty.1.offset, converter.term.1.offset]?
+            vec![in alloc;
+                converter.pos.offset,
+                converter.inner_ty.1.offset,
+                converter.outer_ty.1.offset,
+                converter.term.1.offset,
+            ]?
         }
         Def::Kept(kept) => vec![in alloc; kept.pos.offset, kept.word.1.offset]?,
         Def::Rule(rule) => vec![in alloc; rule.pos.offset]?,
@@ -122,7 +134,8 @@ fn parts_of_pattern(pattern: &Pattern) -> &[Pattern] {
 
 #[test]
 fn patterns(rt: HostRuntime) -> Result<(), Fail> {
-    let text = "(rule (and x y @ z true -1 $C (f) (and) _ 340282366920938463463374607431768211455) 0)";
+    let text =
+        "(rule (and x y @ z true -1 $C (f) (and) _ 340282366920938463463374607431768211455) 0)";
     let rule = rule(rt.alloc(), text)?;
     let wanted = [11, 13, 19, 24, 27, 30, 34, 40, 42];
     let parts = parts_of_pattern(&rule.pattern);

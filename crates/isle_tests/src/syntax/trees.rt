@@ -88,10 +88,14 @@ fn terms_in_preorder(rt: HostRuntime) -> Result<(), Fail> {
     let text = "(rule (f (g x) (h y @ (k _))) (let ((m u8 (p 1))) (q m)))";
     let rule = rule(placed(rt.alloc(), text)?)?;
     let mut seen: u64 = 0;
-    rule.pattern.terms(&mut |pos: Pos, _: &Ident| seen = seen.wrapping_mul(100).wrapping_add(pos.offset as u64));
+    rule.pattern.terms(&mut |pos: Pos, _: &Ident| seen = seen
+        .wrapping_mul(100)
+        .wrapping_add(pos.offset as u64));
     assert_eq!(rt; seen, 6091522);
     let mut seen: u64 = 0;
-    rule.expr.terms(&mut |pos: Pos, _: &Ident| seen = seen.wrapping_mul(100).wrapping_add(pos.offset as u64));
+    rule.expr.terms(&mut |pos: Pos, _: &Ident| seen = seen
+        .wrapping_mul(100)
+        .wrapping_add(pos.offset as u64));
     assert_eq!(rt; seen, 4250);
     Ok(())
 }
@@ -179,7 +183,10 @@ fn every_kept_word(rt: HostRuntime) -> Result<(), Fail> {
     }
     for word in ["pragma", "kept", "rules", "attrs"] {
         let text = format!(in alloc; "({word} a)")?;
-        assert!(rt; parse(Lexer::new(alloc, 0, text.as_str())).is_err(), "{word}");
+        assert!(rt;
+            parse(Lexer::new(alloc, 0, text.as_str())).is_err(),
+            "{word}"
+        );
     }
     Ok(())
 }

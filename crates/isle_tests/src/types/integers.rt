@@ -40,7 +40,10 @@ fn ends_of_each_range(rt: HostRuntime) -> Result<(), Fail> {
         assert_eq!(rt; ty.name(), name);
         assert_eq!(rt; ty.to_string(rt.alloc())?.as_str(), name);
         assert_eq!(rt; ty.is_signed(), least < 0, "{name}");
-        assert!(rt; ty.holds(least, false) && ty.holds(greatest, false), "{name}");
+        assert!(rt;
+            ty.holds(least, false) && ty.holds(greatest, false),
+            "{name}"
+        );
         assert!(rt; !ty.holds(least, true) && !ty.holds(-1, true), "{name}");
         if let Some(below) = least.checked_sub(1) {
             assert!(rt; !ty.holds(below, false), "{name}");
