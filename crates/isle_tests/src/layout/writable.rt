@@ -1,8 +1,9 @@
 //! Definitions that break one rule of what can be printed and read back, and the nearest that don't.
 use isle_layout::writable::writable;
 use isle_syntax::ast::{
-    BoxedExpr, BoxedPattern, Def, Expr, Exprs, Extern, Fields, Ident, KeptItem, KeptItems, LetDef,
-    LetDefs, Pattern, Patterns, StructFields, TupleField, TupleFields, TypeValue,
+    BoxedExpr, BoxedPattern, Converter, Decl, Def, Expr, Exprs, Extern, Extractor, Fields, Ident,
+    Kept, KeptItem, KeptItems, LetDef, LetDefs, Pattern, Patterns, Rule, StructFields, TupleField,
+    TupleFields, Type, TypeValue,
 };
 use isle_syntax::lexer::{Lexer, Pos};
 use isle_syntax::parser::parse;
@@ -28,56 +29,62 @@ fn name(alloc: Global, text: &str) -> Result<Ident, Fail> {
     Ok(Ident(Text::from_str(alloc, text)?, Pos::default()))
 }
 
-/// The definition that a text begins with.
-fn first(alloc: Global, text: &str) -> Result<Def, Fail> {
-    let defs = parse(Lexer::new(alloc, 0, text))
-        .ok()
-        .ok_or("a spelt text")?;
-    Ok(defs.into_iter().next().ok_or("a definition")?)
-}
-
 /// The internal extractor `e` with this template.
 fn with_template(alloc: Global, template: Pattern) -> Result<Def, Fail> {
-    match first(alloc, "(extractor (e) _)")? {
-        Def::Extractor(mut extractor) => {
-            extractor.template = template;
-            Ok(Def::Extractor(extractor))
-        }
-        _ => Err(Fail::from("an extractor")),
+    Ok(Def::Extractor(Extractor {
+        term: name(alloc, "e")?,
+        args: Seq::new(Vec::new(alloc)),
+        template,
+        pos: Pos::default(),
+    }))
+}
+
+/// The rule with this left side and this right side.
+fn rule_of(alloc: Global, pattern: Pattern, expr: Expr) -> Rule {
+    Rule {
+        pattern,
+        iflets: Seq::new(Vec::new(alloc)),
+        expr,
+        pos: Pos::default(),
+        prio: None,
+        name: None,
     }
 }
 
 /// The rule `(rule (t) ..)` with this right side.
 fn with_right_side(alloc: Global, expr: Expr) -> Result<Def, Fail> {
-    match first(alloc, "(rule (t) 0)")? {
-        Def::Rule(mut rule) => {
-            rule.expr = expr;
-            Ok(Def::Rule(rule))
-        }
-        _ => Err(Fail::from("a rule")),
-    }
+    let pattern = Pattern::Term {
+        sym: name(alloc, "t")?,
+        args: Patterns::new(Vec::new(alloc)),
+        pos: Pos::default(),
+    };
+    Ok(Def::Rule(rule_of(alloc, pattern, expr)))
 }
 
 /// The type `(type T (struct ..))` with these fields.
 fn with_fields(alloc: Global, fields: Fields) -> Result<Def, Fail> {
-    match first(alloc, "(type T (struct))")? {
-        Def::TypeDef(mut ty) => {
-            ty.ty = TypeValue::Struct(fields, Pos::default());
-            Ok(Def::TypeDef(ty))
-        }
-        _ => Err(Fail::from("a type")),
-    }
+    let pos = Pos::default();
+    Ok(Def::TypeDef(Type {
+        name: name(alloc, "T")?,
+        is_extern: false,
+        is_nodebug: false,
+        ty: TypeValue::Struct(fields, pos),
+        pos,
+    }))
+}
+
+/// The kept definition of this word with these items.
+fn kept_of(alloc: Global, word: &str, items: Vec<KeptItem>) -> Result<Def, Fail> {
+    Ok(Def::Kept(Kept {
+        word: name(alloc, word)?,
+        items: KeptItems::new(items),
+        pos: Pos::default(),
+    }))
 }
 
 /// The kept definition `(attr ..)` with this item.
 fn with_item(alloc: Global, item: KeptItem) -> Result<Def, Fail> {
-    match first(alloc, "(attr)")? {
-        Def::Kept(mut kept) => {
-            kept.items = KeptItems::new(vec![in alloc; item]?);
-            Ok(Def::Kept(kept))
-        }
-        _ => Err(Fail::from("a kept definition")),
-    }
+    kept_of(alloc, "attr", vec![in alloc; item]?)
 }
 
 fn variable(alloc: Global, text: &str) -> Result<Pattern, Fail> {
@@ -243,35 +250,22 @@ fn expressions(rt: HostRuntime) -> Result<(), Fail> {
     Ok(())
 }
 
-/// The rule that a text begins with, with another pattern.
-fn with_pattern(alloc: Global, text: &str, pattern: Pattern) -> Result<Def, Fail> {
-    match first(alloc, text)? {
-        Def::Rule(mut rule) => {
-            rule.pattern = pattern;
-            Ok(Def::Rule(rule))
-        }
-        _ => Err(Fail::from("a rule")),
-    }
-}
-
-/// The rule that a text begins with, under another name.
-fn with_name(alloc: Global, text: &str, new: &str) -> Result<Def, Fail> {
-    match first(alloc, text)? {
-        Def::Rule(mut rule) => {
-            rule.name = Some(name(alloc, new)?);
-            Ok(Def::Rule(rule))
-        }
-        _ => Err(Fail::from("a rule")),
+/// A constant's expression.
+fn zero() -> Expr {
+    Expr::ConstInt {
+        val: 0,
+        big: false,
+        pos: Pos::default(),
     }
 }
 
 #[test]
 fn patterns_of_rules_are_lists(rt: HostRuntime) -> Result<(), Fail> {
     let alloc = rt.alloc();
-    let pattern = variable(alloc, "x")?;
-    assert!(rt; !writable(&with_pattern(alloc, "(rule (t) 0)", pattern)?));
-    let pattern = nested_terms(alloc, 1)?;
-    assert!(rt; writable(&with_pattern(alloc, "(rule (t) 0)", pattern)?));
+    let rule = rule_of(alloc, variable(alloc, "x")?, zero());
+    assert!(rt; !writable(&Def::Rule(rule)));
+    let rule = rule_of(alloc, nested_terms(alloc, 1)?, zero());
+    assert!(rt; writable(&Def::Rule(rule)));
     Ok(())
 }
 
@@ -279,10 +273,9 @@ fn patterns_of_rules_are_lists(rt: HostRuntime) -> Result<(), Fail> {
 fn names_of_rules(rt: HostRuntime) -> Result<(), Fail> {
     let alloc = rt.alloc();
     for (new, want) in [("m", true), ("2", false)] {
-        assert_eq!(rt;
-            writable(&with_name(alloc, "(rule n (t) (if-let x 1) 0)", new)?),
-            want
-        );
+        let mut rule = rule_of(alloc, nested_terms(alloc, 1)?, zero());
+        rule.name = Some(name(alloc, new)?);
+        assert_eq!(rt; writable(&Def::Rule(rule)), want);
     }
     Ok(())
 }
@@ -290,11 +283,15 @@ fn names_of_rules(rt: HostRuntime) -> Result<(), Fail> {
 #[test]
 fn converters(rt: HostRuntime) -> Result<(), Fail> {
     let alloc = rt.alloc();
-    let Def::Converter(mut converter) = first(alloc, "(convert u8 u64 widen)")? else {
-        return Err(Fail::from("a converter"));
-    };
-    converter.outer_ty = name(alloc, "u8 u8")?;
-    assert!(rt; !writable(&Def::Converter(converter)));
+    for (outer, want) in [("u64", true), ("u8 u8", false)] {
+        let converter = Def::Converter(Converter {
+            term: name(alloc, "widen")?,
+            inner_ty: name(alloc, "u8")?,
+            outer_ty: name(alloc, outer)?,
+            pos: Pos::default(),
+        });
+        assert_eq!(rt; writable(&converter), want);
+    }
     Ok(())
 }
 
@@ -318,29 +315,32 @@ fn no_fields_are_unit(rt: HostRuntime) -> Result<(), Fail> {
     Ok(())
 }
 
-/// Whether the declaration of a text is writable under another name.
-fn is_decl(alloc: Global, text: &str, term: &str) -> Result<bool, Fail> {
-    match first(alloc, text)? {
-        Def::Decl(mut decl) => {
-            decl.term = name(alloc, term)?;
-            Ok(writable(&Def::Decl(decl)))
-        }
-        _ => Err(Fail::from("a declaration")),
-    }
+/// Whether the declaration of a term is writable, with `pure` and `partial` as given.
+fn is_decl(alloc: Global, term: &str, pure: bool, partial: bool) -> Result<bool, Fail> {
+    Ok(writable(&Def::Decl(Decl {
+        term: name(alloc, term)?,
+        arg_tys: Seq::new(Vec::new(alloc)),
+        ret_ty: name(alloc, "u8")?,
+        pure,
+        multi: false,
+        partial,
+        rec: false,
+        pos: Pos::default(),
+    })))
 }
 
 #[test]
 fn flags_are_no_names(rt: HostRuntime) -> Result<(), Fail> {
     let alloc = rt.alloc();
-    for (text, term, want) in [
-        ("(decl t () u8)", "pure", false),
-        ("(decl t () u8)", "rec", false),
-        ("(decl pure t () u8)", "pure", true),
-        ("(decl pure t () u8)", "multi", false),
-        ("(decl partial t () u8)", "multi", true),
-        ("(decl rec t () u8)", "rec", true),
+    for (term, pure, partial, want) in [
+        ("pure", false, false, false),
+        ("rec", false, false, false),
+        ("pure", true, false, true),
+        ("multi", true, false, false),
+        ("multi", false, true, true),
+        ("rec", false, true, false),
     ] {
-        assert_eq!(rt; is_decl(alloc, text, term)?, want);
+        assert_eq!(rt; is_decl(alloc, term, pure, partial)?, want, "{term}");
     }
     Ok(())
 }
@@ -380,11 +380,10 @@ fn items(rt: HostRuntime) -> Result<(), Fail> {
 #[test]
 fn kept_words(rt: HostRuntime) -> Result<(), Fail> {
     let alloc = rt.alloc();
-    let Def::Kept(mut kept) = first(alloc, "(attr x)")? else {
-        return Err(Fail::from("a kept definition"));
-    };
-    kept.word = name(alloc, "rule")?;
-    assert!(rt; !writable(&Def::Kept(kept)));
+    for (word, want) in [("attr", true), ("rule", false)] {
+        let kept = kept_of(alloc, word, Vec::new(alloc))?;
+        assert_eq!(rt; writable(&kept), want);
+    }
     Ok(())
 }
 

@@ -50,99 +50,79 @@ fn listing(alloc: Global, text: &str) -> Result<String, Fail> {
     Ok(listing)
 }
 
+/// The first text whose tokens are others.
+fn first_wrong(alloc: Global, cases: &[(&str, &str)]) -> Result<String, Fail> {
+    for (text, wanted) in cases {
+        let listed = listing(alloc, text)?;
+        if listed.as_str() != *wanted {
+            return Ok(format!(in alloc; "{text}: {listed}")?);
+        }
+    }
+    Ok(String::new(alloc))
+}
+
 #[test]
 fn tokens_stand_at_their_offsets(rt: HostRuntime) -> Result<(), Fail> {
-    let listed = listing(rt.alloc(), "(+ [] => !! _test!;comment\n)")?;
-    assert_eq!(rt;
-        listed.as_str(),
-        "0:( 1:+ 3:[] 6:=> 9:!! 12:_test! 27:) end 28 true"
-    );
+    let cases = [
+        (
+            "(+ [] => !! _test!;comment\n)",
+            "0:( 1:+ 3:[] 6:=> 9:!! 12:_test! 27:) end 28 true",
+        ),
+        (
+            "héé@ü;ß\r\n(;ß;)ω 7é",
+            "0:héé 5:@ 6:ü 19:ω 22=7 23:é end 25 true",
+        ),
+        ("a\r\nb\x0c;c\r\n", "0:a 3:b end 9 true"),
+        ("", "end 0 true"),
+        (" \t\n", "end 3 true"),
+        (";c", "end 2 true"),
+        ("a\tb\nc\x0cd\re f", "0:a 2:b 4:c 6:d 8:e 10:f end 11 true"),
+        ("a\x0bb\u{a0}c", "0:a\x0bb\u{a0}c end 6 true"),
+    ];
+    assert_eq!(rt; first_wrong(rt.alloc(), &cases)?.as_str(), "");
     Ok(())
 }
 
 #[test]
-fn integers_of_each_radix(rt: HostRuntime) -> Result<(), Fail> {
-    let listed = listing(rt.alloc(), "0x_ff -0b101 5x -0 0O17 0b12 1__0")?;
-    assert_eq!(rt;
-        listed.as_str(),
-        "0=255 6=-5 13=5 14:x 16=0 19=15 24=1 27=2 29=10 end 33 true"
-    );
-    Ok(())
-}
-
-#[test]
-fn least_and_greatest_integers(rt: HostRuntime) -> Result<(), Fail> {
-    let alloc = rt.alloc();
-    let least = listing(alloc, "-170141183460469231731687303715884105728")?;
-    assert_eq!(rt;
-        least.as_str(),
-        "0=-170141183460469231731687303715884105728 end 40 true"
-    );
-    let great = listing(
-        alloc,
-        "170141183460469231731687303715884105727 170141183460469231731687303715884105728",
-    )?;
-    assert_eq!(rt;
-        great.as_str(),
-        "0=170141183460469231731687303715884105727 40==170141183460469231731687303715884105728 end 79 true"
-    );
-    let greatest = listing(alloc, "340282366920938463463374607431768211455")?;
-    assert_eq!(rt;
-        greatest.as_str(),
-        "0==340282366920938463463374607431768211455 end 39 true"
-    );
-    Ok(())
-}
-
-#[test]
-fn faulty_integers(rt: HostRuntime) -> Result<(), Fail> {
-    let alloc = rt.alloc();
-    assert_eq!(rt;
-        listing(alloc, "340282366920938463463374607431768211456")?.as_str(),
-        "fault 0 false"
-    );
-    assert_eq!(rt;
-        listing(alloc, "-170141183460469231731687303715884105729")?.as_str(),
-        "fault 0 false"
-    );
-    assert_eq!(rt; listing(alloc, "-x")?.as_str(), "fault 0 false");
-    assert_eq!(rt; listing(alloc, "-")?.as_str(), "fault 0 false");
-    assert_eq!(rt; listing(alloc, "0x")?.as_str(), "fault 0 false");
-    assert_eq!(rt; listing(alloc, "a 0b_")?.as_str(), "0:a fault 2 false");
+fn integers(rt: HostRuntime) -> Result<(), Fail> {
+    let cases = [
+        (
+            "0x_ff -0b101 5x -0 0O17 0b12 1__0",
+            "0=255 6=-5 13=5 14:x 16=0 19=15 24=1 27=2 29=10 end 33 true",
+        ),
+        (
+            "-170141183460469231731687303715884105728",
+            "0=-170141183460469231731687303715884105728 end 40 true",
+        ),
+        (
+            "170141183460469231731687303715884105727 170141183460469231731687303715884105728",
+            "0=170141183460469231731687303715884105727 40==170141183460469231731687303715884105728 end 79 true",
+        ),
+        (
+            "340282366920938463463374607431768211455",
+            "0==340282366920938463463374607431768211455 end 39 true",
+        ),
+        ("340282366920938463463374607431768211456", "fault 0 false"),
+        ("-170141183460469231731687303715884105729", "fault 0 false"),
+        ("-x", "fault 0 false"),
+        ("-", "fault 0 false"),
+        ("0x", "fault 0 false"),
+        ("a 0b_", "0:a fault 2 false"),
+    ];
+    assert_eq!(rt; first_wrong(rt.alloc(), &cases)?.as_str(), "");
     Ok(())
 }
 
 #[test]
 fn comments_nest(rt: HostRuntime) -> Result<(), Fail> {
-    let alloc = rt.alloc();
-    assert_eq!(rt;
-        listing(alloc, " (; a (; b ;) c ;) ")?.as_str(),
-        "end 19 true"
-    );
-    assert_eq!(rt; listing(alloc, "(; a")?.as_str(), "fault 0 false");
-    assert_eq!(rt;
-        listing(alloc, "a (; (; ;) \")")?.as_str(),
-        "0:a fault 2 false"
-    );
-    assert_eq!(rt; listing(alloc, "(;);)b")?.as_str(), "5:b end 6 true");
-    assert_eq!(rt; listing(alloc, "( ;(;\n)")?.as_str(), "0:( 6:) end 7 true");
-    Ok(())
-}
-
-#[test]
-fn texts_past_ascii_and_lines_of_windows(rt: HostRuntime) -> Result<(), Fail> {
-    let alloc = rt.alloc();
-    assert_eq!(rt;
-        listing(alloc, "héé@ü;ß\r\n(;ß;)ω 7é")?.as_str(),
-        "0:héé 5:@ 6:ü 19:ω 22=7 23:é end 25 true"
-    );
-    assert_eq!(rt;
-        listing(alloc, "a\r\nb\x0c;c\r\n")?.as_str(),
-        "0:a 3:b end 9 true"
-    );
-    assert_eq!(rt; listing(alloc, "")?.as_str(), "end 0 true");
-    assert_eq!(rt; listing(alloc, " \t\n")?.as_str(), "end 3 true");
-    assert_eq!(rt; listing(alloc, ";c")?.as_str(), "end 2 true");
+    let cases = [
+        (" (; a (; b ;) c ;) ", "end 19 true"),
+        ("(; a", "fault 0 false"),
+        ("a (; (; ;) \")", "0:a fault 2 false"),
+        ("(;);)b", "5:b end 6 true"),
+        ("( ;(;\n)", "0:( 6:) end 7 true"),
+    ];
+    assert_eq!(rt; first_wrong(rt.alloc(), &cases)?.as_str(), "");
     Ok(())
 }
 
@@ -209,20 +189,6 @@ fn classes_of_symbols(rt: HostRuntime) -> Result<(), Fail> {
     assert!(rt; is_pname("_a") && !is_pname("_"));
     assert!(rt;
         is_const_name("a.b") && is_const_name("1") && !is_const_name("") && !is_const_name("a;")
-    );
-    Ok(())
-}
-
-#[test]
-fn white_space_is_five_bytes(rt: HostRuntime) -> Result<(), Fail> {
-    let alloc = rt.alloc();
-    assert_eq!(rt;
-        listing(alloc, "a\tb\nc\x0cd\re f")?.as_str(),
-        "0:a 2:b 4:c 6:d 8:e 10:f end 11 true"
-    );
-    assert_eq!(rt;
-        listing(alloc, "a\x0bb\u{a0}c")?.as_str(),
-        "0:a\x0bb\u{a0}c end 6 true"
     );
     Ok(())
 }
