@@ -16,74 +16,60 @@ fn first(alloc: Global, text: &str) -> Result<Def, Fail> {
 }
 
 /// The offsets of an external definition and of its names.
-fn extern_offsets(alloc: Global, external: &Extern) -> Result<Vec<usize>, Fail> {
-    let (pos, first, second) = match external {
-        Extern::Constructor { term, func, pos } => (pos, term, func),
+fn extern_offsets(external: &Extern) -> (usize, usize, usize) {
+    match external {
+        Extern::Constructor { term, func, pos } => (pos.offset, term.1.offset, func.1.offset),
         Extern::Extractor {
             term,
             func,
             pos,
             ..
-        } => (pos, term, func),
-        Extern::Const { name, ty, pos } => (pos, name, ty),
-    };
-    Ok(vec![in alloc; pos.offset, first.1.offset, second.1.offset]?)
+        } => (pos.offset, term.1.offset, func.1.offset),
+        Extern::Const { name, ty, pos } => (pos.offset, name.1.offset, ty.1.offset),
+    }
 }
 
-/// The offsets of a definition and of the nodes right below it.
-fn offsets(alloc: Global, text: &str) -> Result<Vec<usize>, Fail> {
-    let found = match first(alloc, text)? {
-        Def::TypeDef(ty) => {
-            let value = match &ty.ty {
-                TypeValue::Primitive(host, pos) => (pos.offset, host.1.offset),
-                TypeValue::Enum(variants, pos) => (pos.offset, variants.as_slice().len()),
-                TypeValue::Struct(_, pos) => (pos.offset, 0),
-            };
-            vec![in alloc; ty.pos.offset, ty.name.1.offset, value.0, value.1]?
-        }
-        Def::Decl(decl) => {
-            vec![in alloc; decl.pos.offset, decl.term.1.offset, decl.ret_ty.1.offset]?
-        }
-        Def::Extractor(extractor) => {
-            vec![in alloc;
-                extractor.pos.offset,
-                extractor.term.1.offset,
-                extractor.template.pos().offset,
-            ]?
-        }
-        Def::Extern(external) => extern_offsets(alloc, &external)?,
-        Def::Converter(converter) => {
-            vec![in alloc;
-                converter.pos.offset,
-                converter.inner_ty.1.offset,
-                converter.outer_ty.1.offset,
-                converter.term.1.offset,
-            ]?
-        }
-        Def::Kept(kept) => vec![in alloc; kept.pos.offset, kept.word.1.offset]?,
-        Def::Rule(rule) => vec![in alloc; rule.pos.offset]?,
-        Def::Pragma(_) => Vec::new(alloc),
-    };
-    Ok(found)
+/// The offset of what a type is made of.
+fn value_offset(value: &TypeValue) -> usize {
+    match value {
+        TypeValue::Primitive(_, pos) => pos.offset,
+        TypeValue::Enum(_, pos) => pos.offset,
+        TypeValue::Struct(_, pos) => pos.offset,
+    }
+}
+
+/// The offsets of a definition and of two nodes right below it.
+fn offsets(def: &Def) -> (usize, usize, usize) {
+    match def {
+        Def::TypeDef(ty) => (ty.pos.offset, ty.name.1.offset, value_offset(&ty.ty)),
+        Def::Decl(decl) => (decl.pos.offset, decl.term.1.offset, decl.ret_ty.1.offset),
+        Def::Extractor(e) => (e.pos.offset, e.term.1.offset, e.template.pos().offset),
+        Def::Extern(external) => extern_offsets(external),
+        Def::Converter(c) => (c.inner_ty.1.offset, c.outer_ty.1.offset, c.term.1.offset),
+        Def::Kept(kept) => (kept.pos.offset, kept.word.1.offset, 0),
+        Def::Rule(r) => (r.pos.offset, r.pattern.pos().offset, r.expr.pos().offset),
+        Def::Pragma(_) => (0, 0, 0),
+    }
 }
 
 #[test]
 fn definitions(rt: HostRuntime) -> Result<(), Fail> {
-    let rows: [(&str, &[usize]); 11] = [
-        ("(type A (primitive B))", &[6, 6, 8, 19]),
-        ("( type A extern (enum B C))", &[7, 7, 16, 2]),
-        ("(type A nodebug (struct (f u8)))", &[6, 6, 16, 0]),
-        ("(decl pure f (u8) u16)", &[6, 11, 18]),
-        ("(extractor (e x) (f x))", &[11, 12, 17]),
-        ("(extern constructor f g)", &[8, 20, 22]),
-        ("(extern extractor infallible f g)", &[8, 29, 31]),
-        ("(extern const $X u8)", &[8, 14, 17]),
-        ("(convert u8 u16 f)", &[9, 9, 12, 16]),
-        ("(attr a b)", &[6, 1]),
-        ("(rule n 2 (f) 0)", &[6]),
+    let rows = [
+        ("(type A (primitive B))", (6, 6, 8)),
+        ("( type A extern (enum B C))", (7, 7, 16)),
+        ("(type A nodebug (struct (f u8)))", (6, 6, 16)),
+        ("(decl pure f (u8) u16)", (6, 11, 18)),
+        ("(extractor (e x) (f x))", (11, 12, 17)),
+        ("(extern constructor f g)", (8, 20, 22)),
+        ("(extern extractor infallible f g)", (8, 29, 31)),
+        ("(extern const $X u8)", (8, 14, 17)),
+        ("(convert u8 u16 f)", (9, 12, 16)),
+        ("(attr a b)", (6, 1, 0)),
+        ("(rule n 2 (f) 0)", (6, 10, 14)),
     ];
     for (text, wanted) in rows {
-        assert_eq!(rt; offsets(rt.alloc(), text)?.as_slice(), wanted, "{text}");
+        let def = first(rt.alloc(), text)?;
+        assert_eq!(rt; offsets(&def), wanted);
     }
     Ok(())
 }
