@@ -5,7 +5,7 @@ PROGRAM = crates/islec/out/islec
 
 .PHONY: run build test install replay bench
 
-# The trial build: compiled with checks in the place of proofs, which takes under a minute.
+# The trial build: compiled with checks in the place of proofs.
 run:
 	@echo "trial build: nothing is proved (make build proves it)"
 	cd crates/islec && rt try --data first.isle=../../examples/first.isle -- run --depth 1 first.isle < ../../examples/first.queries
