@@ -3,7 +3,7 @@
 PREFIX ?= $(HOME)/.local
 PROGRAM = crates/islec/out/islec
 
-.PHONY: run build test install replay bench
+.PHONY: run build test commands install replay bench
 
 # The trial build: compiled with checks in the place of proofs.
 run:
@@ -15,14 +15,21 @@ build:
 	@echo "every proof of the program and of the crates below it: this takes a while"
 	cd crates/islec && rt run -- run ../../examples/first.isle < /dev/null
 
+# The gate: every proof, and then the proved program's commands and vectors.
 test:
 	rt ci
+	$(MAKE) commands
+
+# On the program as it was built last.
+commands:
+	python3 tools/commands.py $(PROGRAM) tests/commands/*.json
+	python3 tools/replay.py $(PROGRAM) tests/vectors/*.json
 
 install: build
 	install -D $(PROGRAM) $(DESTDIR)$(PREFIX)/bin/islec
 
 replay: build
-	python3 tools/replay.py $(PROGRAM) tests/vectors/*.json
+	$(MAKE) commands
 
 # Times reading, typing and formatting generated files, and a sorted map.
 bench: build

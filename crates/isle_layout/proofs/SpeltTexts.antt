@@ -7,8 +7,6 @@ pub mod TreeDepthLeft
 pub mod DefDepthLeft
 -- What tokens of a text tell where they spell something.
 pub mod Meanings
--- Tokens that spell definitions and nest within the bound spell no others, and a text has its tokens alone.
-pub mod OneReading
 -- A tree that is spelt in a text can be written.
 pub mod SpeltTrees
 -- A definition that is spelt in a text can be written.

@@ -84,7 +84,8 @@ type_value_sexpr (Struct fields _) = listed (sexpr_atom (codes "struct") ∷ fie
 -- a type's definition
 abbrev pub type_sexpr : TypeTree → SExprTree
 type_sexpr t =
-    listed (sexpr_atom (codes "type") ∷ name_sexpr t.name ∷ (flag (codes "extern") t.is_extern ++ (flag (codes "nodebug") t.is_nodebug ++ (type_value_sexpr t.ty ∷ []))))
+    listed (sexpr_atom (codes "type") ∷ name_sexpr t.name
+    ∷ (flag (codes "extern") t.is_extern ++ (flag (codes "nodebug") t.is_nodebug ++ (type_value_sexpr t.ty ∷ []))))
 
 -- ---- terms
 
@@ -108,7 +109,8 @@ abbrev pub extern_sexpr : ExternTree → SExprTree
 extern_sexpr (extern_constructor term func _) =
     listed (sexpr_atom (codes "extern") ∷ sexpr_atom (codes "constructor") ∷ name_sexpr term ∷ name_sexpr func ∷ [])
 extern_sexpr (extern_extractor term func _ infallible) =
-    listed (sexpr_atom (codes "extern") ∷ sexpr_atom (codes "extractor") ∷ (flag (codes "infallible") infallible ++ (name_sexpr term ∷ name_sexpr func ∷ [])))
+    listed (sexpr_atom (codes "extern") ∷ sexpr_atom (codes "extractor")
+    ∷ (flag (codes "infallible") infallible ++ (name_sexpr term ∷ name_sexpr func ∷ [])))
 extern_sexpr (extern_const name ty _) =
     listed (sexpr_atom (codes "extern") ∷ sexpr_atom (codes "const") ∷ constant_sexpr name ∷ name_sexpr ty ∷ [])
 
@@ -137,7 +139,9 @@ iflet_sexpr c =
 -- a rule
 abbrev pub rule_sexpr : RuleTree → SExprTree
 rule_sexpr r =
-    listed (sexpr_atom (codes "rule") ∷ (rule_name r.name ++ (rule_priority r.prio ++ (pattern_sexpr (pattern_of r.pattern) ∷ (map iflet_sexpr r.iflets ++ (expr_sexpr (expr_of r.expr) ∷ []))))))
+    listed (sexpr_atom (codes "rule")
+    ∷ (rule_name r.name ++ (rule_priority r.prio
+    ++ (pattern_sexpr (pattern_of r.pattern) ∷ (map iflet_sexpr r.iflets ++ (expr_sexpr (expr_of r.expr) ∷ []))))))
 
 -- ---- definitions
 
@@ -162,19 +166,19 @@ def_sexpr (Kept k) = kept_sexpr k
 
 -- ---- numbered arguments of templates
 
--- whether one stands in a condition's pattern
+-- whether one occurs in a condition's pattern
 abbrev pub iflet_has_macro_arg : IfLet → Bool
 iflet_has_macro_arg c = has_macro_arg (pattern_of c.pattern)
 
--- whether one stands in a rule's patterns
+-- whether one occurs in a rule's patterns
 abbrev pub rule_has_macro_arg : RuleTree → Bool
 rule_has_macro_arg r = has_macro_arg (pattern_of r.pattern) || list_any iflet_has_macro_arg r.iflets
 
--- whether one stands in an extractor's template
+-- whether one occurs in an extractor's template
 abbrev pub extractor_has_macro_arg : ExtractorTree → Bool
 extractor_has_macro_arg x = has_macro_arg (pattern_of x.template)
 
--- whether one stands in a definition's patterns
+-- whether one occurs in a definition's patterns
 abbrev pub def_has_macro_arg : Def → Bool
 def_has_macro_arg (Rule r) = rule_has_macro_arg r
 def_has_macro_arg (Extractor x) = extractor_has_macro_arg x

@@ -2,18 +2,10 @@
 ghost use Rattle.std.specs.Prelude.{◌≡◌, All, ℕ, List, map, true};
 ghost use Rattle.std.specs.Str.{IsUtf8};
 ghost use Rattle.isle_syntax.specs.declared.ast.Def.{Def};
-ghost use Rattle.isle_syntax.specs.Tokens.RemainingTokens.{RemainingTokens};
-ghost use Rattle.isle_syntax.specs.Grammar.Verdict.{IsSpelt};
-ghost use Rattle.isle_syntax.specs.Grammar.Texts.{IsWhole, Spells};
+ghost use Rattle.isle_syntax.specs.Grammar.Texts.{Spells};
 ghost use Rattle.isle_syntax.specs.Trees.WithoutPos.{def_without_pos};
 ghost use Rattle.isle_layout.specs.Writable.{writable_def};
 ghost use Rattle.isle_layout.specs.Formats.{Formats, IsSettled, IsFaultless};
-
-/// What one whole reading of a text spells, the text spells.
-pub fn read_is_spelt()
-    ensures { (file : ℕ) (text : List ℕ) (remaining : RemainingTokens) (defs : List Def) → IsWhole text remaining
-        → remaining.source.file ≡ file → IsSpelt remaining defs → Spells file text defs }
-{}
 
 /// The definitions that a text spells, as `parse` gives them, can be written.
 pub fn spelt_is_writable()

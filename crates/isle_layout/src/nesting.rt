@@ -2,7 +2,8 @@ ghost use Rattle.std.specs.Prelude.{◌↔◌, ◌≤◌, IsTrue};
 ghost use Rattle.isle_syntax.specs.Trees.PatternShape.{pattern_of, patterns_of};
 ghost use Rattle.isle_syntax.specs.Trees.ExprShape.{expr_of, exprs_of, lets_of};
 ghost use Rattle.isle_syntax.specs.Trees.ItemShape.{item_of, items_of};
-ghost use Rattle.isle_layout.specs.Nesting.{pattern_nesting, pattern_nestings, expr_nesting, expr_nestings, let_nestings, item_nesting, item_nestings, iflet_nestings, rule_nesting, nesting};
+ghost use Rattle.isle_layout.specs.Nesting.{pattern_nesting, pattern_nestings, expr_nesting, expr_nestings, let_nestings, item_nesting};
+ghost use Rattle.isle_layout.specs.Nesting.{item_nestings, iflet_nestings, rule_nesting, nesting};
 
 use isle_syntax::ast::{Def, Expr, IfLet, KeptItem, LetDef, Pattern, Rule};
 

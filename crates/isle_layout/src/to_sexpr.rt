@@ -14,14 +14,13 @@ mod types;
 
 use crate::sexpr::SExpr;
 use crate::to_sexpr::exprs::{spell_expr, spell_let_def};
-use crate::to_sexpr::items::{spell_item, spell_kept};
+use crate::to_sexpr::items::spell_item;
 use crate::to_sexpr::list::{ListBuilder, name};
 use crate::to_sexpr::patterns::spell_pattern;
-use crate::to_sexpr::rules::{rule_has_macro_arg, spell_iflet, spell_rule};
-use crate::to_sexpr::terms::{spell_converter, spell_decl, spell_extern, spell_extractor};
+use crate::to_sexpr::rules::spell_iflet;
 use crate::to_sexpr::types::{
-    spell_fields, spell_struct_field, spell_struct_fields, spell_tuple_fields, spell_type,
-    spell_type_value, spell_variant,
+    spell_fields, spell_struct_field, spell_struct_fields, spell_tuple_fields, spell_type_value,
+    spell_variant,
 };
 use isle_syntax::Refusal;
 use isle_syntax::ast::{
@@ -32,7 +31,7 @@ use isle_syntax::ast::{
 use std::alloc::Global;
 use std::fmt;
 
-/// A `MacroArg` stands in what is to be printed.
+/// A `MacroArg` occurs in what is to be printed.
 #[derive(Debug, Clone, Copy, PartialEq, Eq, Drop)]
 pub struct HasMacroArg;
 
@@ -49,7 +48,7 @@ pub trait ToSExpr {
     /// The S-expression.
     ghost sexpr: { Self → SExprTree };
 
-    /// Whether a `MacroArg` stands in it.
+    /// Whether a `MacroArg` occurs in it.
     ghost macro_arg: { Self → Bool };
 
     /// The S-expression.
@@ -89,18 +88,6 @@ impl ToSExpr for Ident {
 
     fn to_sexpr(&self, alloc: Global) -> Result<SExpr, Refusal<HasMacroArg>> {
         Ok(name(alloc, self)?)
-    }
-}
-
-impl ToSExpr for Type {
-    ghost use Rattle.isle_layout.specs.DefSpellings.{type_sexpr};
-
-    ghost sexpr = { type_sexpr };
-
-    ghost macro_arg = { λ _. false };
-
-    fn to_sexpr(&self, alloc: Global) -> Result<SExpr, Refusal<HasMacroArg>> {
-        Ok(spell_type(alloc, self)?)
     }
 }
 
@@ -189,33 +176,6 @@ impl ToSExpr for TupleField {
     }
 }
 
-impl ToSExpr for Decl {
-    ghost use Rattle.isle_layout.specs.DefSpellings.{decl_sexpr};
-
-    ghost sexpr = { decl_sexpr };
-
-    ghost macro_arg = { λ _. false };
-
-    fn to_sexpr(&self, alloc: Global) -> Result<SExpr, Refusal<HasMacroArg>> {
-        Ok(spell_decl(alloc, self)?)
-    }
-}
-
-impl ToSExpr for Rule {
-    ghost use Rattle.isle_layout.specs.DefSpellings.{rule_sexpr, rule_has_macro_arg};
-
-    ghost sexpr = { rule_sexpr };
-
-    ghost macro_arg = { rule_has_macro_arg };
-
-    fn to_sexpr(&self, alloc: Global) -> Result<SExpr, Refusal<HasMacroArg>> {
-        if rule_has_macro_arg(self) {
-            return Err(Refusal::Fault(HasMacroArg));
-        }
-        Ok(spell_rule(alloc, self)?)
-    }
-}
-
 impl ToSExpr for IfLet {
     ghost use Rattle.isle_layout.specs.DefSpellings.{iflet_sexpr, iflet_has_macro_arg};
 
@@ -231,45 +191,6 @@ impl ToSExpr for IfLet {
     }
 }
 
-impl ToSExpr for Extractor {
-    ghost use Rattle.isle_layout.specs.DefSpellings.{extractor_sexpr, extractor_has_macro_arg};
-
-    ghost sexpr = { extractor_sexpr };
-
-    ghost macro_arg = { extractor_has_macro_arg };
-
-    fn to_sexpr(&self, alloc: Global) -> Result<SExpr, Refusal<HasMacroArg>> {
-        if self.template.has_macro_arg() {
-            return Err(Refusal::Fault(HasMacroArg));
-        }
-        Ok(spell_extractor(alloc, self)?)
-    }
-}
-
-impl ToSExpr for Extern {
-    ghost use Rattle.isle_layout.specs.DefSpellings.{extern_sexpr};
-
-    ghost sexpr = { extern_sexpr };
-
-    ghost macro_arg = { λ _. false };
-
-    fn to_sexpr(&self, alloc: Global) -> Result<SExpr, Refusal<HasMacroArg>> {
-        Ok(spell_extern(alloc, self)?)
-    }
-}
-
-impl ToSExpr for Converter {
-    ghost use Rattle.isle_layout.specs.DefSpellings.{converter_sexpr};
-
-    ghost sexpr = { converter_sexpr };
-
-    ghost macro_arg = { λ _. false };
-
-    fn to_sexpr(&self, alloc: Global) -> Result<SExpr, Refusal<HasMacroArg>> {
-        Ok(spell_converter(alloc, self)?)
-    }
-}
-
 /// `(pragma)`. There is none.
 impl ToSExpr for Pragma {
     ghost use Rattle.isle_layout.specs.DefSpellings.{pragma_sexpr};
@@ -280,18 +201,6 @@ impl ToSExpr for Pragma {
 
     fn to_sexpr(&self, alloc: Global) -> Result<SExpr, Refusal<HasMacroArg>> {
         Ok(ListBuilder::new(alloc).word("pragma")?.build())
-    }
-}
-
-impl ToSExpr for Kept {
-    ghost use Rattle.isle_layout.specs.DefSpellings.{kept_sexpr};
-
-    ghost sexpr = { kept_sexpr };
-
-    ghost macro_arg = { λ _. false };
-
-    fn to_sexpr(&self, alloc: Global) -> Result<SExpr, Refusal<HasMacroArg>> {
-        Ok(spell_kept(alloc, self)?)
     }
 }
 

@@ -4,8 +4,11 @@ ghost use Rattle.isle_syntax.specs.Trees.PatternShape.{pattern_of, patterns_of};
 ghost use Rattle.isle_syntax.specs.Trees.ExprShape.{expr_of, exprs_of, lets_of};
 ghost use Rattle.isle_syntax.specs.Trees.ItemShape.{item_of, items_of};
 ghost use Rattle.isle_syntax.specs.Grammar.TreeGrammar.{is_pattern_term, is_expr_term};
-ghost use Rattle.isle_syntax.specs.Grammar.DefGrammar.{fits_priority, is_kept_word};
-ghost use Rattle.isle_layout.specs.Writable.{writable_ident, fits_i128, writable_int, writable_pattern, writable_patterns, writable_expr, writable_exprs, writable_lets, writable_item, writable_items, writable_struct_field, writable_tuple_fields, writable_fields, writable_variant, writable_type_value, is_free_of_flags, writable_decl, writable_extractor, writable_extern, writable_converter, writable_rule_name, writable_priority, writable_iflet, is_list, is_right_side, writable_rule, writable_kept, has_writable_words, writable_def};
+ghost use Rattle.isle_layout.specs.Writable.{writable_ident, writable_int, writable_pattern, writable_patterns, writable_expr, writable_exprs};
+ghost use Rattle.isle_layout.specs.Writable.{writable_lets, writable_item, writable_items, writable_struct_field, writable_tuple_fields};
+ghost use Rattle.isle_layout.specs.Writable.{writable_fields, writable_variant, writable_type_value, is_free_of_flags, writable_decl};
+ghost use Rattle.isle_layout.specs.Writable.{writable_extractor, writable_extern, writable_converter, writable_rule_name, writable_iflet, is_list};
+ghost use Rattle.isle_layout.specs.Writable.{is_right_side, writable_rule, writable_kept, has_writable_words, writable_def};
 
 use crate::nesting::fits;
 use isle_syntax::ast::{
@@ -13,10 +16,12 @@ use isle_syntax::ast::{
     Pattern, Rule, StructField, TupleField, TypeValue, Variant,
 };
 use isle_syntax::lexer::{is_const_name, is_ident, is_name, is_pname, is_symbol};
-use isle_syntax::parser::MAX_NESTING;
+use isle_syntax::parser::{MAX_NESTING, is_kept_word};
 
 /// Whether a definition can be printed and read back. All that `parse` gives can be. One that is made by hand may have a
 /// name that is none, a part that isn't in the language, as `Pattern::MacroArg`, or more open parentheses than may be.
+/// The definition that the contract cites follows the trees case by case; the clause `reads_back` of `print` gives it its
+/// meaning.
 pub fn writable(def: &Def) -> bool
     ensures { result ≡ writable_def def.now }
 {
@@ -51,24 +56,11 @@ fn writable_idents(names: &[Ident]) -> bool
     names.iter().all(|name| writable_ident(name))
 }
 
-// Contracts see an integer of a tree as a number without bounds. Reading it tells that it is one of its type.
-fn fits_i128(_val: i128) -> bool
-    ensures { result ≡ fits_i128 _val }
-{
-    true
-}
-
-fn fits_priority(_priority: i64) -> bool
-    ensures { result ≡ fits_priority _priority }
-{
-    true
-}
-
 /// Whether an integer from 2^127 on has its highest bit set.
 fn writable_int(val: i128, big: bool) -> bool
     ensures { result ≡ writable_int val big }
 {
-    fits_i128(val) && (!big || val < 0)
+    !big || val < 0
 }
 
 /// Whether a symbol is a term's in a pattern.
@@ -172,7 +164,7 @@ fn writable_item(item: &KeptItem) -> bool
     ensures { result ≡ writable_item (item_of item.now) }
 {
     match item {
-        KeptItem::Int { val, .. } => fits_i128(*val),
+        KeptItem::Int { val, .. } => writable_int(*val, false),
         KeptItem::At { .. } => true,
         KeptItem::Big { val, .. } => *val >= 1 << 127,
         KeptItem::Symbol(name) => is_symbol(name.0.as_str()),
@@ -308,15 +300,6 @@ fn writable_converter(converter: &Converter) -> bool
         && writable_ident(&converter.term)
 }
 
-fn writable_priority(priority: &Option<i64>) -> bool
-    ensures { result ≡ writable_priority priority.now }
-{
-    match priority {
-        Some(priority) => fits_priority(*priority),
-        None => true,
-    }
-}
-
 fn writable_rule_name(name: &Option<Ident>) -> bool
     ensures { result ≡ writable_rule_name name.now }
 {
@@ -358,26 +341,16 @@ fn is_right_side(expr: &Expr) -> bool
 fn writable_rule(rule: &Rule) -> bool
     ensures { result ≡ writable_rule rule.now }
 {
+    // Contracts see a priority as a number without bounds. Reading it tells that it is one of its type.
+    if let Some(priority) = &rule.prio {
+        let _priority = *priority;
+    }
     writable_rule_name(&rule.name)
-        && writable_priority(&rule.prio)
         && is_list(&rule.pattern)
         && writable_pattern(&rule.pattern)
         && writable_iflets(rule.iflets.as_slice())
         && is_right_side(&rule.expr)
         && writable_expr(&rule.expr)
-}
-
-/// Whether a definition that begins with this word is kept as it is written.
-fn is_kept_word(text: &str) -> bool
-    ensures { result ≡ is_kept_word text.now }
-{
-    text == "attr"
-        || text == "spec"
-        || text == "macro"
-        || text == "model"
-        || text == "state"
-        || text == "form"
-        || text == "instantiate"
 }
 
 fn writable_kept(kept: &Kept) -> bool

@@ -19,7 +19,8 @@ file_there files place within = elim ((slice_get_cases files place).1) as (λ _.
 ]
 
 -- an error is the first fault, where the files before it are spelt
-pub is_first_fault : (files : List SourceFile) (place : ℕ) (before : (defs : List Def) × AreSpelt 0 (take place files) defs) (error : Error) → place < length files
+pub is_first_fault : (files : List SourceFile) (place : ℕ) (before : (defs : List Def) × AreSpelt 0 (take place files) defs) (error : Error)
+    → place < length files
     → IfSome (slice_get files place) (λ file. IsFaultIn place file.text error) → IsFirstFault files error
 is_first_fault files place before error within fault =
     let there = file_there files place within in
@@ -33,13 +34,16 @@ is_first_fault files place before error within fault =
     }
 
 -- so is one that is alone in its list
-pub first_fault_alone : (files : List SourceFile) (place : ℕ) (before : (defs : List Def) × AreSpelt 0 (take place files) defs) (told : Refusal (Vec Error Global)) → place < length files
-    → IfSome (slice_get files place) (λ file. IfFault told (λ errors. (error : Error) × (errors.items ≡ error ∷ []) × IsFaultIn place file.text error))
+pub first_fault_alone : (files : List SourceFile) (place : ℕ) (before : (defs : List Def) × AreSpelt 0 (take place files) defs)
+    (told : Refusal (Vec Error Global)) → place < length files
+    → IfSome (slice_get files place)
+    (λ file. IfFault told (λ errors. (error : Error) × (errors.items ≡ error ∷ []) × IsFaultIn place file.text error))
     → IfFault told (λ errors. (error : Error) × (errors.items ≡ error ∷ []) × IsFirstFault files error)
 first_fault_alone files place before (Memory e) within fault = tt
 first_fault_alone files place before (Fault errors) within fault =
     let there = file_there files place within in
-    let one = subst (λ (o : Option SourceFile). IfSome o (λ file. (error : Error) × (errors.items ≡ error ∷ []) × IsFaultIn place file.text error)) there.1 fault in (
+    let one = subst (λ (o : Option SourceFile). IfSome o
+    (λ file. (error : Error) × (errors.items ≡ error ∷ []) × IsFaultIn place file.text error)) there.1 fault in (
       one.0,
       one.1,
       record {

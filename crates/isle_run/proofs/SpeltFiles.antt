@@ -1,5 +1,6 @@
 -- Files that are spelt one after another.
-use Rattle.std.proofs.Common.{◌≡◌, ℕ, zero, suc, List, [], ◌∷◌, ◌++◌, ◌+◌, ◌<◌, ◌≤◌, length, take, take_all, add-one, ap, sym, ◌∙◌, refl, append_assoc, append-nil, subst, arith, IfSome, slice_get}
+use Rattle.std.proofs.Common.{◌≡◌, ℕ, zero, suc, List, [], ◌∷◌, ◌++◌, ◌+◌, ◌<◌, ◌≤◌, length, take, take_all, add-one, ap, sym, ◌∙◌, refl}
+use Rattle.std.proofs.Common.{append_assoc, append-nil, subst, arith, IfSome, slice_get}
 use Rattle.isle_syntax.specs.declared.ast.Def.{Def}
 use Rattle.isle_syntax.specs.Positions.Files.{SourceFile}
 use Rattle.isle_syntax.specs.Grammar.Texts.{Spells}

@@ -7,7 +7,8 @@ use Rattle.isle_syntax.specs.Positions.Files.{SourceFile}
 use Rattle.isle_syntax.specs.Grammar.Texts.{Spells, IsFaultIn}
 use Rattle.isle_types.specs.declared.env.TypeEnv.{TypeEnv}
 use Rattle.isle_types.specs.Environment.{Environment, Makes, AreWithinSizes, HaveEnvironment}
-use Rattle.isle_types.specs.TypeEnvs.{Shows, types_of}
+use Rattle.isle_types.specs.Names.{AreDistinct}
+use Rattle.isle_types.specs.TypeEnvs.{Shows}
 use Rattle.isle_types.specs.TypeFaults.{AreFaultsOf}
 use Rattle.isle_run.specs.declared.program.Program.{Program}
 use Rattle.isle_run.specs.declared.compiler.Refused.{Refused}
@@ -24,11 +25,12 @@ AreSpelt first (file ∷ others) defs = (these rest : List Def) × Spells first 
 abbrev pub AreAccepted : List SourceFile → Type 0
 AreAccepted files = (defs : List Def) × AreSpelt 0 files defs × HaveEnvironment defs
 
--- a program's types are those of an environment of types that shows this one
+-- a program's types are those of an environment of types that shows this one and interns each name once
 pub record HasTypesOf (program : Program) (environment : Environment) : Type 0 where
   pub tyenv : TypeEnv
   pub shown : Shows tyenv environment
-  pub same : types_in program ≡ types_of tyenv
+  pub once : AreDistinct tyenv.names
+  pub same : types_in program ≡ tyenv.types
 
 -- the program of files: their texts are spelt, the definitions make an environment of types, and the program has its types
 pub record IsProgramOf (files : List SourceFile) (program : Program) : Type 0 where

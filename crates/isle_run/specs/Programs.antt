@@ -4,14 +4,14 @@ use Rattle.std.specs.List.{list_any}
 use Rattle.std.specs.Option.{option_and_then}
 use Rattle.isle_types.specs.declared.ids.TermId.{TermId}
 use Rattle.isle_types.specs.declared.types.«Type».{«Type» as KnownType}
-use Rattle.isle_types.specs.TypeEnvs.{sym_named, types_of}
+use Rattle.isle_types.specs.TypeEnvs.{sym_named}
 use Rattle.isle_terms.specs.declared.rules.Rule.{Rule}
 use Rattle.isle_terms.specs.Environment.{rules_of, term_with}
 use Rattle.isle_run.specs.declared.program.Program.{Program}
 
 -- its types, each at the place of its id
 abbrev pub types_in : Program → List KnownType
-types_in program = types_of program.tyenv
+types_in program = program.tyenv.types
 
 -- its rules, in the order of the texts
 abbrev pub rules_in : Program → List Rule

@@ -22,6 +22,22 @@ RefusesText program Q3 = (name : List ℕ) × RefusesName program name Q3
 RefusesText program Q4 = Unit {0}
 RefusesText program (Memory e) = Unit {0}
 
+-- a text can't be read: it has a token fault, or memory ran out
+abbrev pub IsUnread : QueryFault → Type 0
+IsUnread Q1 = ⊥
+IsUnread Q2 = ⊥
+IsUnread Q3 = ⊥
+IsUnread Q4 = Unit {0}
+IsUnread (Memory e) = Unit {0}
+
+-- so it spells no call
+pub refused_unread : (program : Program) (fault : QueryFault) → IsUnread fault → RefusesText program fault
+refused_unread program Q1 h = absurd h
+refused_unread program Q2 h = absurd h
+refused_unread program Q3 h = absurd h
+refused_unread program Q4 h = tt
+refused_unread program (Memory e) h = tt
+
 -- a refusal of a name is one of a text that calls it
 pub refused_name : (program : Program) (name : List ℕ) (fault : QueryFault) → RefusesName program name fault → RefusesText program fault
 refused_name program name Q1 h = (name, h)

@@ -1,7 +1,8 @@
 -- What is printed of a value.
 use Rattle.std.specs.Prelude.{ℕ, List, [], ◌++◌, if◌then◌else◌, codes}
 use Rattle.std.specs.Fmt.{decimal, signed_decimal}
-use Rattle.isle_terms.specs.Values.{ValueTree, ValueTrees, bool_value, int_value, big_value, const_value, opaque_value, data_value, no_values, more_values}
+use Rattle.isle_terms.specs.Values.{ValueTree, ValueTrees, bool_value, int_value, big_value, const_value, opaque_value, data_value, no_values}
+use Rattle.isle_terms.specs.Values.{more_values}
 
 -- numbers in decimal, a constant behind `$`, an opaque value behind `v`, data in parentheses with their fields
 abbrev mutual

@@ -11,7 +11,7 @@ use isle_terms::{Pattern, Rule};
 use std::alloc::{AllocError, Global};
 
 /// Rules that may match together: the heading one's position, then its partners' in the order of the texts.
-#[derive(Debug, Drop)]
+#[derive(Drop)]
 struct Overlap {
     head: Pos,
     partners: Vec<Pos>,
@@ -174,13 +174,13 @@ fn report(alloc: Global, overlap: &Overlap) -> Result<Error, AllocError>
 
 /// Whether some arguments match both rules.
 fn may_overlap(a: &Rule, b: &Rule) -> bool {
-    may_all_meet(&a.args, &b.args)
+    may_all_meet(a.args.as_slice(), b.args.as_slice())
 }
 
 /// What a pattern asks of a value, the names that it binds aside.
 fn unbound(pattern: &Pattern) -> &Pattern {
     match pattern {
-        Pattern::BindPattern(_, _, sub) => unbound(sub),
+        Pattern::BindPattern(_, _, sub) => unbound(sub.get()),
         _ => pattern,
     }
 }
@@ -189,7 +189,7 @@ fn unbound(pattern: &Pattern) -> &Pattern {
 #[cycle(meet)]
 fn may_meet(a: &Pattern, b: &Pattern) -> bool {
     match a {
-        Pattern::BindPattern(_, _, sub) => may_meet(sub, b),
+        Pattern::BindPattern(_, _, sub) => may_meet(sub.get(), b),
         Pattern::Wildcard(_) => true,
         Pattern::ConstInt(_, literal) => match unbound(b) {
             Pattern::ConstInt(_, other) => *literal == *other,
@@ -198,7 +198,7 @@ fn may_meet(a: &Pattern, b: &Pattern) -> bool {
         },
         Pattern::Term(_, term, args) => match unbound(b) {
             Pattern::Term(_, other, other_args) => *term == *other
-                && may_all_meet(args, other_args),
+                && may_all_meet(args.as_slice(), other_args.as_slice()),
             Pattern::ConstInt(_, _) => false,
             _ => true,
         },

@@ -78,7 +78,7 @@ fn matching(
     args: &[Rc<SharedValue>],
 ) -> Result<Option<Bound>, AllocError> {
     let mut bound = Vec::new(alloc);
-    if fit(&rule.args, args, &mut bound)? {
+    if fit(rule.args.as_slice(), args, &mut bound)? {
         Ok(Some(bound))
     } else {
         Ok(None)
@@ -91,7 +91,7 @@ fn fits(pattern: &Pattern, value: &Rc<SharedValue>, bound: &mut Bound) -> Result
     match pattern {
         Pattern::Wildcard(_) => Ok(true),
         Pattern::BindPattern(_, _, sub) => {
-            if !fits(sub, value, bound)? {
+            if !fits(sub.get(), value, bound)? {
                 return Ok(false);
             }
             bound.push(value.clone()?)?;
@@ -99,7 +99,11 @@ fn fits(pattern: &Pattern, value: &Rc<SharedValue>, bound: &mut Bound) -> Result
         }
         Pattern::ConstInt(_, literal) => Ok(is_int(value, *literal)),
         Pattern::Term(_, term, args) => match &**value {
-            SharedValue::Data(Some(id), fields) if id == term => fit(args, fields, bound),
+            SharedValue::Data(Some(id), fields) if id == term => fit(
+                args.as_slice(),
+                fields,
+                bound,
+            ),
             _ => Ok(false),
         },
     }
@@ -154,7 +158,7 @@ fn eval(
             Some(value) => Ok(Some(value.clone()?)),
             None => Ok(None),
         },
-        Expr::Term(_, term, args) => match eval_all(alloc, args, bound)? {
+        Expr::Term(_, term, args) => match eval_all(alloc, args.as_slice(), bound)? {
             Some(fields) => Ok(Some(Rc::new(alloc, SharedValue::Data(Some(*term), fields))?)),
             None => Ok(None),
         },

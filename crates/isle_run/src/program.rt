@@ -14,7 +14,6 @@ pub struct Program {
 
 impl Program {
     ghost use Rattle.std.specs.Prelude.{◌≡◌, IfOk};
-    ghost use Rattle.isle_types.specs.TypeEnvs.{types_of};
     ghost use Rattle.isle_terms.specs.Environment.{rules_of};
     ghost use Rattle.isle_run.specs.Programs.{types_in, rules_in, term_named, is_runnable};
 
@@ -25,7 +24,7 @@ impl Program {
         termenv: TermEnv,
     ) -> Result<Program, AllocError>
         ensures rules { IfOk result (λ program. rules_in program ≡ rules_of termenv) }
-        ensures types { IfOk result (λ program. types_in program ≡ types_of tyenv) }
+        ensures types { IfOk result (λ program. types_in program ≡ tyenv.types) }
     {
         let rules_of = rules_by_term(alloc, &termenv)?;
         Ok(Program {

@@ -1,6 +1,10 @@
+ghost use Rattle.std.specs.Prelude.{IfErr};
+ghost use Rattle.isle_run.specs.Queries.{IsUnread};
+
 use crate::program::Program;
 use crate::value::Value;
 use isle_syntax::Refusal;
+use isle_syntax::error::Error;
 use isle_syntax::lexer::{Lexer, Token};
 use isle_types::{TermId, TypeId};
 use std::alloc::{AllocError, AllocFailed, Global};
@@ -41,29 +45,39 @@ impl<T: Drop> From<AllocFailed<T>> for QueryFault {
     }
 }
 
+impl From<Refusal<Error>> for QueryFault {
+    ghost use Rattle.isle_run.specs.Queries.{IsUnread};
+
+    ghost from_gives = { λ _ fault. IsUnread fault };
+
+    fn from(refusal: Refusal<Error>) -> QueryFault {
+        match refusal {
+            Refusal::Fault(_) => QueryFault::Q4,
+            Refusal::Memory(_) => QueryFault::Memory(AllocError),
+        }
+    }
+}
+
 /// Whether a text has no token and no token fault: it is white space and comments alone.
 pub fn is_blank(alloc: Global, text: &str) -> Result<bool, AllocError> {
     let mut lexer = Lexer::new(alloc, 0, text);
     match lexer.next() {
         Ok(None) => Ok(true),
-        Ok(Some(_)) => Ok(false),
-        Err(Refusal::Fault(_)) => Ok(false),
-        Err(Refusal::Memory(e)) => Err(e),
+        Err(Refusal::Memory(_)) => Err(AllocError),
+        _ => Ok(false),
     }
 }
 
-/// The tokens of a text, or `None` where it has a token fault.
-fn tokens_of(alloc: Global, text: &str) -> Result<Option<Vec<Token>>, AllocError> {
+/// The tokens of a text without a token fault.
+fn tokens_of(alloc: Global, text: &str) -> Result<Vec<Token>, QueryFault>
+    ensures { IfErr result IsUnread }
+{
     let mut lexer = Lexer::new(alloc, 0, text);
     let mut tokens = Vec::new(alloc);
-    'tokens: loop {
-        match lexer.next() {
-            Ok(Some((_, token))) => tokens.push(token)?,
-            Ok(None) => return Ok(Some(tokens)),
-            Err(Refusal::Fault(_)) => return Ok(None),
-            Err(Refusal::Memory(e)) => return Err(e),
-        }
+    'tokens: while let Some((_, token)) = lexer.next()? {
+        tokens.push(token)?;
     }
+    Ok(tokens)
 }
 
 /// Whether the parenthesis that is open before these tokens closes at the last one.
@@ -122,9 +136,7 @@ impl Program {
         ensures runnable { IfOk result (λ call. is_runnable self.now call.0 ≡ true) }
         ensures refused { IfErr result (RefusesText self.now) }
     {
-        let Some(tokens) = tokens_of(alloc, text)? else {
-            return Err(QueryFault::Q4);
-        };
+        let tokens = tokens_of(alloc, text)?;
         let Some((name, rest)) = head_of(tokens.as_slice()) else {
             return Err(QueryFault::Q4);
         };
@@ -137,7 +149,7 @@ impl Program {
 }
 
 /// A list that is being read: its term, the types of its arguments, and those read so far.
-#[derive(Debug, Drop)]
+#[derive(Drop)]
 struct Frame<'p> {
     term: TermId,
     types: &'p [TypeId],
@@ -145,7 +157,7 @@ struct Frame<'p> {
 }
 
 /// A reader of a call's arguments, which come token by token. Lists may nest without bound.
-#[derive(Debug, Drop)]
+#[derive(Drop)]
 struct Reader<'p> {
     alloc: Global,
     program: &'p Program,
@@ -172,16 +184,25 @@ fn read_args(
         opened: false,
         done: None,
     };
-    reader.open(term)?;
-    for token in tokens {
-        if !reader.read(token)? {
-            return Ok(None);
-        }
+    if reader.read_all(term, tokens)? {
+        Ok(reader.done.take())
+    } else {
+        Ok(None)
     }
-    Ok(reader.done.take())
 }
 
 impl<'p> Reader<'p> {
+    /// Reads the arguments of a term, and answers whether they are of the right types.
+    fn read_all(&mut self, term: TermId, tokens: &[Token]) -> Result<bool, AllocError> {
+        self.open(term)?;
+        for token in tokens {
+            if !self.read(token)? {
+                return Ok(false);
+            }
+        }
+        Ok(true)
+    }
+
     fn open(&mut self, term: TermId) -> Result<(), AllocError> {
         let program = self.program;
         self.frames.push(Frame {
@@ -218,17 +239,17 @@ impl<'p> Reader<'p> {
     }
 
     fn read_variant(&mut self, token: &Token) -> Result<bool, AllocError> {
-        let program = self.program;
-        match (token, self.wanted()) {
-            (Token::Symbol(name), Some(ty)) => match program.variant_at(name.as_str(), ty) {
-                Some(term) => {
-                    self.open(term.id)?;
-                    Ok(true)
-                }
-                None => Ok(false),
-            },
-            _ => Ok(false),
-        }
+        let Token::Symbol(name) = token else {
+            return Ok(false);
+        };
+        let Some(ty) = self.wanted() else {
+            return Ok(false);
+        };
+        let Some(term) = self.program.variant_at(name.as_str(), ty) else {
+            return Ok(false);
+        };
+        self.open(term.id)?;
+        Ok(true)
     }
 
     fn read_int(&mut self, n: i128) -> Result<bool, AllocError> {
@@ -268,17 +289,19 @@ impl<'p> Reader<'p> {
 
     /// Closes the innermost list, which must have all its arguments.
     fn close(&mut self) -> Result<bool, AllocError> {
-        let Some(frame) = self.frames.pop() else {
-            return Ok(false);
-        };
-        if frame.args.len() != frame.types.len() {
-            return Ok(false);
+        match self.frames.pop() {
+            Some(Frame { term, types, args }) if args.len() == types.len() => self.put(term, args),
+            _ => Ok(false),
         }
+    }
+
+    /// Adds what a closed list stands for to the list around it, or keeps it where there is none.
+    fn put(&mut self, term: TermId, args: Vec<Value>) -> Result<bool, AllocError> {
         if self.frames.is_empty() {
-            self.done = Some(frame.args);
+            self.done = Some(args);
             return Ok(true);
         }
-        let name = String::from_str(self.alloc, self.program.name(frame.term))?;
-        self.add(Value::Data(name, frame.args))
+        let name = String::from_str(self.alloc, self.program.name(term))?;
+        self.add(Value::Data(name, args))
     }
 }

@@ -6,7 +6,7 @@ use std::rc::Rc;
 
 /// A ground value whose parts are shared: while a call runs, a copy is one more link to the same tree. A variant or
 /// struct goes by its term; one that the program lacks has none.
-#[derive(Debug, Drop)]
+#[derive(Drop)]
 pub enum SharedValue {
     Bool(bool),
     Int(i128),

@@ -1,3 +1,5 @@
+-- parse errors and size errors, and what is known of their spans
+pub mod ErrorKinds
 -- lemmas on trees
 pub mod Trees
 -- lemmas on texts and their tokens

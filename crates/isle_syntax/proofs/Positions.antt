@@ -9,7 +9,7 @@ pub mod ErrorTexts
 pub mod TreePositions
 -- The positions in a spelt tree are positions of its tokens.
 pub mod SpeltPositions
--- What is right of a text stands in it.
+-- The positions of what a text spells, and of its fault, lie in it.
 pub mod VerdictPositions
 -- The rules of a text stand one behind the other, since its tokens do.
 pub mod RuleOrder

@@ -27,3 +27,5 @@ pub mod Defs
 pub mod Whole
 -- Reading a whole text: the promises of the grammar from what reading gives.
 pub mod Texts
+-- Tokens that spell definitions and nest within the bound spell no others, and a text has one reading.
+pub mod OneReading

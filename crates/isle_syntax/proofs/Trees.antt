@@ -33,3 +33,5 @@ pub mod WithoutPos
 pub mod Equality
 -- The `==` of a definition, and of each of its parts, holds exactly where the two are the same value.
 pub mod DefEquality
+-- Worked cases: patterns put in for names, templates, and the order of positions and names.
+mod TreeCases

@@ -10,3 +10,5 @@ pub mod Reading
 pub mod Positions
 -- What errors name of source files, and what they print.
 pub mod Errors
+-- `Seq`, `Boxed` and `Shared` as types that may hold the type that holds them
+pub mod formers

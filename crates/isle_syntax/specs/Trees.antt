@@ -21,7 +21,7 @@ pub mod Innermost
 pub mod Templates
 -- Patterns put in for names, all at once, and what a template then is.
 pub mod Substitution
--- Definitions in whose patterns no numbered argument of a template stands.
+-- Definitions in whose patterns no numbered argument of a template occurs.
 pub mod MacroArgs
 -- The terms of patterns and expressions, in the order in which they are written.
 pub mod Terms

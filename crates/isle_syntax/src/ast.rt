@@ -184,7 +184,7 @@ pub enum Extern {
     },
 }
 
-/// A term that is put in where the inner type stands and the outer type is wanted.
+/// A term that is put in where the inner type is found and the outer type is wanted.
 #[derive(Debug, Clone, PartialEq, Eq, Drop)]
 pub struct Converter {
     pub term: Ident,
@@ -282,7 +282,7 @@ impl KeptItem {
     }
 }
 
-/// A pattern. `big` tells an integer from 2^127 on, of which `val` keeps the 128 bits. A `MacroArg` stands only in the
+/// A pattern. `big` tells an integer from 2^127 on, of which `val` keeps the 128 bits. A `MacroArg` occurs only in the
 /// template of an extractor.
 #[cycle(pattern)]
 #[derive(Debug, Drop)]
@@ -482,7 +482,7 @@ impl Pattern {
         }
     }
 
-    /// Whether a `MacroArg` stands in the pattern.
+    /// Whether a `MacroArg` occurs in the pattern.
     #[cycle(has_macro_arg)]
     #[tactic(auto, using(crate::proofs::Trees::Innermost::innermost_macro_arg, crate::proofs::Trees::Innermost::innermost_is_no_binding))]
     pub fn has_macro_arg(&self) -> bool

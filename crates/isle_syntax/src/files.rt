@@ -1,5 +1,6 @@
 //! Source files, and where the lines of their texts start.
-ghost use Rattle.std.specs.Prelude.{◌≡◌, ◌<◌, ◌≤◌, ◌+◌, ◌^◌, ◌∷◌, ℕ, IfOk, IfSome, IsTrue, ◌↔◌, [], length, map, slice_get, slice_index, string_bytes};
+ghost use Rattle.std.specs.Prelude.{◌≡◌, ◌<◌, ◌≤◌, ◌+◌, ◌^◌, ◌∷◌, ℕ, IfOk, IfSome, IsTrue, ◌↔◌, [], length, map, slice_get, slice_index};
+ghost use Rattle.std.specs.Prelude.{string_bytes};
 ghost use Rattle.std.specs.Option.{option_copied, option_map};
 ghost use Rattle.isle_syntax.specs.Positions.Files.{source_file};
 ghost use Rattle.isle_syntax.specs.Positions.Lines.{line_starts, starts_up_to, newlines_before, line_number, column_number};
@@ -36,7 +37,7 @@ impl LineMap {
         Ok(LineMap { starts })
     }
 
-    /// How many newline bytes stand below an offset: its line, from 0.
+    /// How many newline bytes occur below an offset: its line, from 0.
     pub fn line(&self, p: usize) -> usize
         ensures value { result ≡ starts_up_to self.now p }
         ensures bound { result ≤ length self.now }

@@ -2,7 +2,8 @@ ghost use Rattle.std.specs.Prelude.{◌≡◌, ◌≤◌, ◌-◌, ◌<◌, ◌=
 ghost use Rattle.std.specs.Str.{IsUtf8};
 ghost use Rattle.isle_syntax.specs.Tokens.Ends.{IsEnd};
 ghost use Rattle.isle_syntax.specs.Tokens.Names.{is_space, is_digit};
-ghost use Rattle.isle_syntax.specs.Tokens.Gaps.{begins_semicolon, lead_of_parenthesis, lead_of_token, lead_of, after_first, after_run, in_line, mark_of};
+ghost use Rattle.isle_syntax.specs.Tokens.Gaps.{begins_semicolon, lead_of_parenthesis, lead_of_token, lead_of, after_first, after_run, in_line};
+ghost use Rattle.isle_syntax.specs.Tokens.Gaps.{mark_of};
 ghost use Rattle.isle_syntax.specs.Tokens.Finding.{after_comment, gap_of};
 
 /// The first byte and the others.

@@ -75,10 +75,7 @@ impl Literal {
     pub fn is_big(self) -> bool
         ensures { result ≡ is_large (literal_of self) }
     {
-        match self {
-            Literal::Int(_) => false,
-            Literal::Big(_) => true,
-        }
+        matches!(self, Literal::Big(_))
     }
 }
 

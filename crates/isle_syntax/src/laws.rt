@@ -1,5 +1,5 @@
 //! Laws of texts, positions, names and trees, each as a function whose contract states it.
-ghost use Rattle.std.specs.Prelude.{◌≡◌, ⊤, false, List};
+ghost use Rattle.std.specs.Prelude.{◌≡◌, ⊤, ℕ, false, List};
 ghost use Rattle.std.specs.Ordering.{nat_cmp};
 ghost use Rattle.std.specs.Cmp.Lexicographic.{slice_cmp};
 ghost use Rattle.std.specs.Hash.{str as text_hash};
@@ -10,6 +10,11 @@ ghost use Rattle.isle_syntax.specs.Trees.ExprShape.{expr_of};
 ghost use Rattle.isle_syntax.specs.Trees.ItemShape.{item_of};
 ghost use Rattle.isle_syntax.specs.Trees.TreeCalls.{has_macro_arg};
 ghost use Rattle.isle_syntax.specs.Trees.Substitution.{Substitutes};
+ghost use Rattle.isle_syntax.specs.declared.ast.Def.{Def as Tree};
+ghost use Rattle.isle_syntax.specs.declared.error.Error.{Error};
+ghost use Rattle.isle_syntax.specs.Tokens.RemainingTokens.{RemainingTokens};
+ghost use Rattle.isle_syntax.specs.Grammar.Verdict.{IsSpelt, IsFaultOf};
+ghost use Rattle.isle_syntax.specs.Grammar.Texts.{IsWhole, Spells, IsFaultIn};
 ghost use Rattle.isle_syntax.specs.Positions.Orders.{pos_cmp, ident_cmp};
 ghost use Rattle.isle_syntax.specs.Trees.Comparisons.{AreOrdered, HashesApart, IsInRange, DecidesSame, DecidesSameTree, pos_hash, ident_hash};
 
@@ -95,6 +100,14 @@ pub fn equal_items_are_the_same()
     ensures items { DecidesSame ⟦<KeptItem as PartialEq>⟧.eq }
     ensures trees { DecidesSameTree item_of ⟦<KeptItem as PartialEq>⟧.eq }
     ensures lists { DecidesSame ⟦<KeptItems as PartialEq>⟧.eq }
+{}
+
+/// What one whole reading of a text spells, the text spells, and the fault of one is the text's.
+pub fn read_is_spelt()
+    ensures spelt { (file : ℕ) (text : List ℕ) (remaining : RemainingTokens) (defs : List Tree) → IsWhole text remaining
+        → remaining.source.file ≡ file → IsSpelt remaining defs → Spells file text defs }
+    ensures fault { (file : ℕ) (text : List ℕ) (remaining : RemainingTokens) (error : Error) → IsWhole text remaining
+        → remaining.source.file ≡ file → IsFaultOf remaining error → IsFaultIn file text error }
 {}
 
 /// The template of a pattern for names, filled with patterns, is the pattern with the patterns put in for the names, all

@@ -81,21 +81,14 @@ impl Token {
     pub fn is_int(&self) -> bool
         ensures { IsTrue result ↔ IsInt self.now }
     {
-        match self {
-            Token::Int(_) => true,
-            Token::Big(_) => true,
-            _ => false,
-        }
+        matches!(self, Token::Int(_) | Token::Big(_))
     }
 
     /// Whether this is a symbol.
     pub fn is_sym(&self) -> bool
         ensures { IsTrue result ↔ IsSymbol self.now }
     {
-        match self {
-            Token::Symbol(_) => true,
-            _ => false,
-        }
+        matches!(self, Token::Symbol(_))
     }
 }
 
@@ -160,6 +153,12 @@ impl<'src> Lexer<'src> {
 
     /// The next token and its position, or `None` at the text's end. After a refusal, also for memory, the lexer has
     /// failed for good: `next` answers a parse error with an empty message at `pos()`.
+    ///
+    /// A lexer is ready, starved or failed. A ready one gives the first token that is left (`GivesToken`), and is then
+    /// ready, or starved where there was no memory for the token behind it. Where none is left, it answers the end of the
+    /// text and stays as it is (`AnswersEnd`), or reports that no token begins there (`ReportsFault`) and has failed. A
+    /// starved one refuses for memory and has failed (`FailsForMemory`), and so may a ready one that has no memory for its
+    /// message. A failed one reports the fault again, without a message.
     pub fn next(&mut self) -> Result<Option<(Pos, Token)>, Refusal<Error>>
         ensures gives { IfOk result (λ t. MatchOption t (AnswersEnd self.old self.new) (GivesToken self.old self.new)) }
         ensures fault { IfErr result (λ refusal. IfFault refusal (ReportsFault self.old self.new)) }
@@ -222,10 +221,7 @@ impl<'src> Lexer<'src> {
         ensures ended { IsTrue result ↔ HasEnded self.now }
         ensures remaining { IsRemaining self.now }
     {
-        match &self.lookahead {
-            Lookahead::End => true,
-            _ => false,
-        }
+        matches!(&self.lookahead, Lookahead::End)
     }
 
     /// The allocator that the tokens are made on.

@@ -8,11 +8,13 @@ mod gap;
 mod kind;
 pub mod laws;
 pub mod lexer;
+mod links;
 mod number;
 pub mod parser;
 mod refusal;
 mod symbol;
 mod text;
 
+pub use links::{Boxed, Shared};
 pub use refusal::Refusal;
 pub use text::{Seq, Text};

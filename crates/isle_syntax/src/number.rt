@@ -1,7 +1,8 @@
 ghost use Rattle.std.specs.Prelude.{◌≡◌, ◌≤◌, ◌<◌, ◌^◌, ◌++◌, length, cond, ◌==◌, ◌+◌, ◌*◌, SomeIff, MatchOption, None, Some};
 ghost use Rattle.std.specs.Char.{digit_value};
 ghost use Rattle.isle_syntax.specs.Tokens.Gaps.{after_run, run_of};
-ghost use Rattle.isle_syntax.specs.Tokens.Integers.{is_negative, unsigned_of, radix_named, radix_of, behind_prefix, continues_digits, has_digit, spelt, spelt_with, integer_token, digits_token, integer_of, after_integer};
+ghost use Rattle.isle_syntax.specs.Tokens.Integers.{is_negative, unsigned_of, radix_named, radix_of, behind_prefix, continues_digits, has_digit};
+ghost use Rattle.isle_syntax.specs.Tokens.Integers.{spelt, spelt_with, integer_token, digits_token, integer_of, after_integer};
 
 use crate::gap::{after_first, end_of, front};
 use crate::lexer::Token;

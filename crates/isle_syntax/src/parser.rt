@@ -1,10 +1,10 @@
 ghost use Rattle.std.specs.Prelude.{◌≡◌, All, IfOk, IfErr};
 ghost use Rattle.isle_syntax.specs.Positions.Printable.{IsIn};
-ghost use Rattle.isle_syntax.specs.Errors.{RefusalAt};
+ghost use Rattle.isle_syntax.specs.Errors.{IfKind, IsOfKinds, RefusalAt, parse_error, size_error};
 ghost use Rattle.isle_syntax.specs.Positions.DefPositions.{DefAt};
 ghost use Rattle.isle_syntax.specs.Trees.MacroArgs.{HasNoMacroArgs};
 ghost use Rattle.isle_syntax.specs.Positions.RuleOrder.{RulesAscend};
-ghost use Rattle.isle_syntax.specs.Grammar.Verdict.{IsRight, IsRightWithoutPos};
+ghost use Rattle.isle_syntax.specs.Grammar.Verdict.{IsSpelt, IsSpeltWithoutPos, FaultAt, DeepAt};
 
 mod definitions;
 mod exprs;
@@ -18,6 +18,7 @@ mod types;
 use crate::Refusal;
 use crate::ast::Def;
 use crate::error::Error;
+pub use crate::kind::is_kept_word;
 use crate::lexer::Lexer;
 use std::marker::Model;
 
@@ -27,7 +28,10 @@ pub const MAX_NESTING: usize = 1000;
 /// The definitions that a text spells. A refusal is the parse error at the first token after which no spelt text goes
 /// on, or the size error at the opening parenthesis that nests too deep, whichever stands first.
 pub fn parse(lexer: Lexer<'_>) -> Result<Vec<Def>, Refusal<Error>>
-    ensures right { IsRight lexer.entry result }
+    ensures spelt { IfOk result (λ defs. IsSpelt lexer.entry defs.items) }
+    ensures fault { IfErr result (IfKind parse_error (FaultAt lexer.entry)) }
+    ensures too_deep { IfErr result (IfKind size_error (DeepAt lexer.entry)) }
+    ensures kinds { IfErr result (IsOfKinds parse_error size_error) }
     ensures placed { IfOk result (λ defs. All (DefAt (IsIn lexer.entry.source)) defs.items) }
     ensures refused { IfErr result (RefusalAt (IsIn lexer.entry.source)) }
     ensures no_macro_args { IfOk result (λ defs. All HasNoMacroArgs defs.items) }
@@ -38,7 +42,10 @@ pub fn parse(lexer: Lexer<'_>) -> Result<Vec<Def>, Refusal<Error>>
 
 /// The same definitions, with each position `Pos::default()`; a refusal is that of `parse`.
 pub fn parse_without_pos(lexer: Lexer<'_>) -> Result<Vec<Def>, Refusal<Error>>
-    ensures right { IsRightWithoutPos lexer.entry result }
+    ensures spelt { IfOk result (λ defs. IsSpeltWithoutPos lexer.entry defs.items) }
+    ensures fault { IfErr result (IfKind parse_error (FaultAt lexer.entry)) }
+    ensures too_deep { IfErr result (IfKind size_error (DeepAt lexer.entry)) }
+    ensures kinds { IfErr result (IsOfKinds parse_error size_error) }
     ensures refused { IfErr result (RefusalAt (IsIn lexer.entry.source)) }
 {
     let alloc = lexer.allocator();

@@ -1,7 +1,8 @@
 ghost use Rattle.std.specs.Prelude.{◌≡◌, ◌==◌, not};
 ghost use Rattle.std.specs.List.{list_all};
 ghost use Rattle.std.specs.Str.{chars};
-ghost use Rattle.isle_syntax.specs.Tokens.Names.{ends_symbol, begins_symbol, is_symbol, begins_ident, is_numeric, continues_ident, is_ident, begins_dollar, is_word, is_name, is_pname, is_const_name};
+ghost use Rattle.isle_syntax.specs.Tokens.Names.{ends_symbol, begins_symbol, is_symbol, begins_ident, is_numeric, continues_ident, is_ident};
+ghost use Rattle.isle_syntax.specs.Tokens.Names.{begins_dollar, is_word, is_name, is_pname, is_const_name};
 ghost use Rattle.isle_syntax.specs.Tokens.Gaps.{after_run, run_of};
 ghost use Rattle.isle_syntax.specs.Tokens.TokensOf.{continues_symbol};
 
@@ -74,12 +75,12 @@ fn begins_ident(c: char) -> bool
 fn is_numeric(c: char) -> bool
     ensures { result ≡ is_numeric c }
 {
-    match GeneralCategory::for_char(c) {
-        GeneralCategory::DecimalNumber => true,
-        GeneralCategory::LetterNumber => true,
-        GeneralCategory::OtherNumber => true,
-        _ => false,
-    }
+    matches!(
+        GeneralCategory::for_char(c),
+        GeneralCategory::DecimalNumber
+            | GeneralCategory::LetterNumber
+            | GeneralCategory::OtherNumber
+    )
 }
 
 /// Whether a character goes on with an identifier: also a number, `.` or `-`.

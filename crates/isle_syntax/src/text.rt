@@ -129,15 +129,25 @@ impl Hash for Text {
 }
 
 /// A list inside a tree or a diagnostic, seen as its items.
-#[derive(Debug, Clone, Drop)]
+#[derive(Debug, Clone)]
 pub struct Seq<T> {
     items: Vec<T>,
 }
 
+// Written out, so that a type that leads back through a `Seq` may write its own `drop`.
+impl<T: Drop> Drop for Seq<T> {
+    fn drop(self) {
+        let Seq { items: _items } = self;
+    }
+}
+
 impl<T> Model for Seq<T> {
     ghost use Rattle.std.specs.Prelude.{List};
+    ghost use Rattle.std.specs.Coded.{coded_list};
 
     ghost Value = { List T };
+
+    ghost coded = { coded_list T.code };
 
     ghost view = { λ s. s.items.items };
 }
@@ -161,6 +171,7 @@ impl<T> Seq<T> {
     pub fn into_vec(self) -> Vec<T>
         ensures { result.items ≡ self }
     {
-        self.items
+        let Seq { items } = self;
+        items
     }
 }

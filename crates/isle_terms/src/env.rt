@@ -4,7 +4,7 @@ ghost use Rattle.isle_syntax.specs.Positions.Files.{SourceFile};
 ghost use Rattle.isle_syntax.specs.Positions.Printable.{IsPrintablePos};
 ghost use Rattle.isle_syntax.specs.Errors.{IfFault, RefusalAt, RefusalsAt};
 ghost use Rattle.isle_syntax.specs.Positions.DefPositions.{DefAt, DeclAt, IdentAt, RuleAt};
-ghost use Rattle.isle_types.specs.TypeEnvs.{errors_of, types_of, sym_named, HasPrintablePositions};
+ghost use Rattle.isle_types.specs.TypeEnvs.{sym_named, HasPrintablePositions};
 ghost use Rattle.isle_terms.specs.Environment.{terms_of, rules_of, term_with, TermAt, TypedRuleAt, ArePlaced};
 
 use crate::rules::{Expr, Pattern, Rule};
@@ -38,8 +38,8 @@ impl TermEnv {
         tyenv: &mut TypeEnv,
         defs: &[Def],
     ) -> Result<TermEnv, Refusal<Vec<Error>>>
-        ensures same_types { types_of tyenv.new ≡ types_of tyenv.old }
-        ensures no_errors { OnOk result (errors_of tyenv.new ≡ []) }
+        ensures same_types { tyenv.new.types ≡ tyenv.old.types }
+        ensures no_errors { OnOk result (tyenv.new.errors ≡ []) }
         ensures refused { IfErr result (λ r. IfFault r (λ errors. 0 < length errors.items)) }
         ensures placed { (files : List SourceFile) → All (DefAt (IsPrintablePos files)) defs.now
             → HasPrintablePositions files tyenv.old → IfOk result (ArePlaced files tyenv.new) }
@@ -72,7 +72,7 @@ impl TermEnv {
         tyenv: &mut TypeEnv,
         defs: &[Def],
     ) -> Result<(), Refusal<Vec<Error>>>
-        ensures same_types { types_of tyenv.new ≡ types_of tyenv.old }
+        ensures same_types { tyenv.new.types ≡ tyenv.old.types }
         ensures placed { (files : List SourceFile) → All (DefAt (IsPrintablePos files)) defs.now
             → ArePlaced files tyenv.old self.old → ArePlaced files tyenv.new self.new }
         ensures refused { IfErr result (λ r. IfFault r (λ errors. 0 < length errors.items)) }
@@ -91,8 +91,8 @@ impl TermEnv {
     }
 
     fn term_of_decl(&self, tyenv: &mut TypeEnv, decl: &Decl) -> Result<Term, Refusal<Error>>
-        ensures same_errors { errors_of tyenv.new ≡ errors_of tyenv.old }
-        ensures same_types { types_of tyenv.new ≡ types_of tyenv.old }
+        ensures same_errors { tyenv.new.errors ≡ tyenv.old.errors }
+        ensures same_types { tyenv.new.types ≡ tyenv.old.types }
         ensures here { IfOk result (λ term. term.decl_pos ≡ decl.now.pos) }
         ensures printable { (files : List SourceFile) → DeclAt (IsPrintablePos files) decl.now
             → IfErr result (RefusalAt (IsPrintablePos files)) }
@@ -140,7 +140,7 @@ impl TermEnv {
 
     /// Adds a term, whose name must be new.
     fn add_term(&mut self, tyenv: &mut TypeEnv, term: Term) -> Result<(), AllocError>
-        ensures same_types { types_of tyenv.new ≡ types_of tyenv.old }
+        ensures same_types { tyenv.new.types ≡ tyenv.old.types }
         ensures placed { (files : List SourceFile) → IsPrintablePos files term.decl_pos
             → ArePlaced files tyenv.old self.old → ArePlaced files tyenv.new self.new }
     {
@@ -155,7 +155,7 @@ impl TermEnv {
 
     /// Makes a term of each variant, in the order of the types.
     fn collect_enum_variant_terms(&mut self, tyenv: &mut TypeEnv) -> Result<(), AllocError>
-        ensures same_types { types_of tyenv.new ≡ types_of tyenv.old }
+        ensures same_types { tyenv.new.types ≡ tyenv.old.types }
         ensures placed { (files : List SourceFile)
             → ArePlaced files tyenv.old self.old → ArePlaced files tyenv.new self.new }
     {
@@ -198,7 +198,7 @@ impl TermEnv {
     }
 
     fn add_terms(&mut self, tyenv: &mut TypeEnv, terms: Vec<Term>) -> Result<(), AllocError>
-        ensures same_types { types_of tyenv.new ≡ types_of tyenv.old }
+        ensures same_types { tyenv.new.types ≡ tyenv.old.types }
         ensures placed { (files : List SourceFile)
             → All (TermAt (IsPrintablePos files)) terms.items
             → ArePlaced files tyenv.old self.old → ArePlaced files tyenv.new self.new }
@@ -211,7 +211,7 @@ impl TermEnv {
 
     /// Marks the declared terms that have rules.
     fn collect_constructors(&mut self, tyenv: &mut TypeEnv, defs: &[Def]) -> Result<(), AllocError>
-        ensures same_types { types_of tyenv.new ≡ types_of tyenv.old }
+        ensures same_types { tyenv.new.types ≡ tyenv.old.types }
         ensures placed { (files : List SourceFile) → All (DefAt (IsPrintablePos files)) defs.now
             → ArePlaced files tyenv.old self.old → ArePlaced files tyenv.new self.new }
     {
@@ -261,7 +261,7 @@ impl TermEnv {
         tyenv: &mut TypeEnv,
         defs: &[Def],
     ) -> Result<(), Refusal<Vec<Error>>>
-        ensures same_types { types_of tyenv.new ≡ types_of tyenv.old }
+        ensures same_types { tyenv.new.types ≡ tyenv.old.types }
         ensures placed { (files : List SourceFile) → All (DefAt (IsPrintablePos files)) defs.now
             → ArePlaced files tyenv.old self.old → ArePlaced files tyenv.new self.new }
         ensures refused { IfErr result (λ r. IfFault r (λ errors. 0 < length errors.items)) }
@@ -287,8 +287,8 @@ impl TermEnv {
         root: TermId,
         rule: &ast::Rule,
     ) -> Result<Rule, Refusal<Error>>
-        ensures same_errors { errors_of tyenv.new ≡ errors_of tyenv.old }
-        ensures same_types { types_of tyenv.new ≡ types_of tyenv.old }
+        ensures same_errors { tyenv.new.errors ≡ tyenv.old.errors }
+        ensures same_types { tyenv.new.types ≡ tyenv.old.types }
         ensures here { IfOk result (λ typed. typed.pos ≡ rule.now.pos) }
         ensures printable { (files : List SourceFile) → RuleAt (IsPrintablePos files) rule.now
             → IfErr result (RefusalAt (IsPrintablePos files)) }
@@ -300,9 +300,9 @@ impl TermEnv {
         Ok(Rule {
             id: RuleId(self.rules.len()),
             root_term: root,
-            args,
+            args: Seq::new(args),
             rhs,
-            vars: bindings.into_vars(),
+            vars: Seq::new(bindings.into_vars()),
             prio: rule.prio.unwrap_or(0),
             pos: rule.pos,
             name: None,
@@ -316,8 +316,8 @@ impl TermEnv {
         rule: &ast::Rule,
         bindings: &mut Bindings,
     ) -> Result<Vec<Pattern>, Refusal<Error>>
-        ensures same_errors { errors_of tyenv.new ≡ errors_of tyenv.old }
-        ensures same_types { types_of tyenv.new ≡ types_of tyenv.old }
+        ensures same_errors { tyenv.new.errors ≡ tyenv.old.errors }
+        ensures same_types { tyenv.new.types ≡ tyenv.old.types }
         ensures printable { (files : List SourceFile) → RuleAt (IsPrintablePos files) rule.now
             → IfErr result (RefusalAt (IsPrintablePos files)) }
     {
@@ -342,8 +342,8 @@ impl TermEnv {
         rule: &ast::Rule,
         bindings: &Bindings,
     ) -> Result<Expr, Refusal<Error>>
-        ensures same_errors { errors_of tyenv.new ≡ errors_of tyenv.old }
-        ensures same_types { types_of tyenv.new ≡ types_of tyenv.old }
+        ensures same_errors { tyenv.new.errors ≡ tyenv.old.errors }
+        ensures same_types { tyenv.new.types ≡ tyenv.old.types }
         ensures printable { (files : List SourceFile) → RuleAt (IsPrintablePos files) rule.now
             → IfErr result (RefusalAt (IsPrintablePos files)) }
     {
@@ -355,7 +355,7 @@ impl TermEnv {
 
     /// Reports each declared term without a rule.
     fn check_for_undefined_decls(&self, tyenv: &mut TypeEnv) -> Result<(), AllocError>
-        ensures same_types { types_of tyenv.new ≡ types_of tyenv.old }
+        ensures same_types { tyenv.new.types ≡ tyenv.old.types }
         ensures placed { (files : List SourceFile)
             → ArePlaced files tyenv.old self.now → ArePlaced files tyenv.new self.now }
     {

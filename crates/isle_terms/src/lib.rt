@@ -2,6 +2,7 @@
 #![tactic(auto, using(isle_syntax::proofs::Trees::PatternSizes::most_pattern_size, isle_syntax::proofs::Trees::ExprSizes::most_expr_size))]
 
 mod env;
+pub mod laws;
 mod rules;
 mod terms;
 mod translate;

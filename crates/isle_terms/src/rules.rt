@@ -1,4 +1,8 @@
+ghost use Rattle.std.specs.Prelude.{◌≡◌};
+ghost use Rattle.isle_terms.specs.TypedTrees.{type_of_pattern, type_of_expr};
+
 use isle_syntax::lexer::Pos;
+use isle_syntax::{Boxed, Seq};
 use isle_types::{RuleId, Sym, TermId, TypeId, VarId};
 
 /// A typed rule. Its variables are numbered from 0 as they are bound.
@@ -6,9 +10,9 @@ use isle_types::{RuleId, Sym, TermId, TypeId, VarId};
 pub struct Rule {
     pub id: RuleId,
     pub root_term: TermId,
-    pub args: Vec<Pattern>,
+    pub args: Seq<Pattern>,
     pub rhs: Expr,
-    pub vars: Vec<BoundVar>,
+    pub vars: Seq<BoundVar>,
     pub prio: i64,
     pub pos: Pos,
     pub name: Option<Sym>,
@@ -25,15 +29,17 @@ pub struct BoundVar {
 /// A typed pattern. A name that binds is a `BindPattern` of a `Wildcard`.
 #[derive(Debug, Drop)]
 pub enum Pattern {
-    BindPattern(TypeId, VarId, Box<Pattern>),
+    BindPattern(TypeId, VarId, Boxed<Pattern>),
     ConstInt(TypeId, i128),
-    Term(TypeId, TermId, Vec<Pattern>),
+    Term(TypeId, TermId, Seq<Pattern>),
     Wildcard(TypeId),
 }
 
 impl Pattern {
     /// The type of what the pattern matches.
-    pub fn ty(&self) -> TypeId {
+    pub fn ty(&self) -> TypeId
+        ensures { result ≡ type_of_pattern self.now }
+    {
         match self {
             Pattern::BindPattern(ty, _, _) => *ty,
             Pattern::ConstInt(ty, _) => *ty,
@@ -46,14 +52,16 @@ impl Pattern {
 /// A typed expression.
 #[derive(Debug, Drop)]
 pub enum Expr {
-    Term(TypeId, TermId, Vec<Expr>),
+    Term(TypeId, TermId, Seq<Expr>),
     Var(TypeId, VarId),
     ConstInt(TypeId, i128),
 }
 
 impl Expr {
     /// The type of the expression's value.
-    pub fn ty(&self) -> TypeId {
+    pub fn ty(&self) -> TypeId
+        ensures { result ≡ type_of_expr self.now }
+    {
         match self {
             Expr::Term(ty, _, _) => *ty,
             Expr::Var(ty, _) => *ty,

@@ -3,7 +3,6 @@ ghost use Rattle.isle_syntax.specs.Positions.Files.{SourceFile};
 ghost use Rattle.isle_syntax.specs.Positions.Printable.{IsPrintablePos};
 ghost use Rattle.isle_syntax.specs.Errors.{RefusalAt};
 ghost use Rattle.isle_syntax.specs.Positions.DefPositions.{IdentAt, PatternAt, ExprAt};
-ghost use Rattle.isle_types.specs.TypeEnvs.{errors_of, types_of};
 
 use crate::env::TermEnv;
 use crate::rules::{BoundVar, Expr, Pattern};
@@ -11,13 +10,13 @@ use crate::terms::Term;
 use isle_syntax::ast::Ident;
 use isle_syntax::error::Error;
 use isle_syntax::lexer::Pos;
-use isle_syntax::{Refusal, ast};
+use isle_syntax::{Boxed, Refusal, Seq, ast};
 use isle_types::{BuiltinType, Sym, Type, TypeEnv, TypeId, VarId};
 use std::alloc::{AllocError, Global};
 use std::collections::HashMap;
 
 /// The variables of a rule, in the order in which they are bound.
-#[derive(Debug, Drop)]
+#[derive(Drop)]
 pub struct Bindings {
     alloc: Global,
     vars: Vec<BoundVar>,
@@ -116,8 +115,8 @@ fn translate_pattern(
     rule: Pos,
     bindings: &mut Bindings,
 ) -> Result<Pattern, Refusal<Error>>
-    ensures same_errors { errors_of tyenv.new ≡ errors_of tyenv.old }
-    ensures same_types { types_of tyenv.new ≡ types_of tyenv.old }
+    ensures same_errors { tyenv.new.errors ≡ tyenv.old.errors }
+    ensures same_types { tyenv.new.types ≡ tyenv.old.types }
     ensures printable { (files : List SourceFile) → IsPrintablePos files rule
         → PatternAt (IsPrintablePos files) pattern.now
         → IfErr result (RefusalAt (IsPrintablePos files)) }
@@ -134,7 +133,7 @@ fn translate_pattern(
                 Some(id) => Ok(Pattern::BindPattern(
                     ty,
                     id,
-                    Box::new(bindings.alloc, Pattern::Wildcard(ty))?,
+                    Boxed::new(bindings.alloc, Pattern::Wildcard(ty))?,
                 )),
                 None => Err(tyenv.type_error(*pos, "this name stands twice in the rule")),
             }
@@ -143,7 +142,7 @@ fn translate_pattern(
             let term = known_term(termenv, tyenv, sym, ty)?;
             let id = term.id;
             let args = translate_args(termenv, tyenv, args.as_slice(), term, *pos, rule, bindings)?;
-            Ok(Pattern::Term(ty, id, args))
+            Ok(Pattern::Term(ty, id, Seq::new(args)))
         }
         ast::Pattern::BindPattern { .. }
         | ast::Pattern::ConstBool { .. }
@@ -167,8 +166,8 @@ pub fn translate_args(
     rule: Pos,
     bindings: &mut Bindings,
 ) -> Result<Vec<Pattern>, Refusal<Error>>
-    ensures same_errors { errors_of tyenv.new ≡ errors_of tyenv.old }
-    ensures same_types { types_of tyenv.new ≡ types_of tyenv.old }
+    ensures same_errors { tyenv.new.errors ≡ tyenv.old.errors }
+    ensures same_types { tyenv.new.types ≡ tyenv.old.types }
     ensures printable { (files : List SourceFile) → IsPrintablePos files rule → IsPrintablePos files pos
         → All (PatternAt (IsPrintablePos files)) args.now
         → IfErr result (RefusalAt (IsPrintablePos files)) }
@@ -194,8 +193,8 @@ pub fn translate_expr(
     rule: Pos,
     bindings: &Bindings,
 ) -> Result<Expr, Refusal<Error>>
-    ensures same_errors { errors_of tyenv.new ≡ errors_of tyenv.old }
-    ensures same_types { types_of tyenv.new ≡ types_of tyenv.old }
+    ensures same_errors { tyenv.new.errors ≡ tyenv.old.errors }
+    ensures same_types { tyenv.new.types ≡ tyenv.old.types }
     ensures printable { (files : List SourceFile) → IsPrintablePos files rule
         → ExprAt (IsPrintablePos files) expr.now
         → IfErr result (RefusalAt (IsPrintablePos files)) }
@@ -218,7 +217,7 @@ pub fn translate_expr(
             let id = term.id;
             let args = args.as_slice();
             let args = translate_expr_args(termenv, tyenv, args, term, *pos, rule, bindings)?;
-            Ok(Expr::Term(ty, id, args))
+            Ok(Expr::Term(ty, id, Seq::new(args)))
         }
         ast::Expr::ConstBool { .. } | ast::Expr::ConstPrim { .. } | ast::Expr::Let { .. } => Err(
             tyenv.type_error(rule, "an expression of this kind is not supported"),
@@ -237,8 +236,8 @@ fn translate_expr_args(
     rule: Pos,
     bindings: &Bindings,
 ) -> Result<Vec<Expr>, Refusal<Error>>
-    ensures same_errors { errors_of tyenv.new ≡ errors_of tyenv.old }
-    ensures same_types { types_of tyenv.new ≡ types_of tyenv.old }
+    ensures same_errors { tyenv.new.errors ≡ tyenv.old.errors }
+    ensures same_types { tyenv.new.types ≡ tyenv.old.types }
     ensures printable { (files : List SourceFile) → IsPrintablePos files rule → IsPrintablePos files pos
         → All (ExprAt (IsPrintablePos files)) args.now
         → IfErr result (RefusalAt (IsPrintablePos files)) }

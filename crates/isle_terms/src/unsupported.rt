@@ -3,7 +3,7 @@ ghost use Rattle.isle_syntax.specs.Positions.Files.{SourceFile};
 ghost use Rattle.isle_syntax.specs.Positions.Printable.{IsPrintablePos};
 ghost use Rattle.isle_syntax.specs.Errors.{RefusalAt};
 ghost use Rattle.isle_syntax.specs.Positions.DefPositions.{DefAt, DeclAt, RuleAt};
-ghost use Rattle.isle_types.specs.TypeEnvs.{types_of, HasPrintablePositions};
+ghost use Rattle.isle_types.specs.TypeEnvs.{HasPrintablePositions};
 
 use isle_syntax::Refusal;
 use isle_syntax::ast::{Decl, Def, Extern, Rule};
@@ -14,7 +14,7 @@ use std::alloc::AllocError;
 
 /// Reports each definition of a kind that isn't typed.
 pub fn report_unsupported(tyenv: &mut TypeEnv, defs: &[Def]) -> Result<(), AllocError>
-    ensures same_types { types_of tyenv.new ≡ types_of tyenv.old }
+    ensures same_types { tyenv.new.types ≡ tyenv.old.types }
     ensures placed { (files : List SourceFile) → All (DefAt (IsPrintablePos files)) defs.now
         → HasPrintablePositions files tyenv.old → HasPrintablePositions files tyenv.new }
 {

@@ -1,3 +1,2 @@
-mod printer;
-mod spellings;
-mod writable;
+pub mod spellings;
+pub mod writable;

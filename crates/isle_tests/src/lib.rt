@@ -7,4 +7,6 @@ mod layout;
 #[cfg(test)]
 mod syntax;
 #[cfg(test)]
+mod tables;
+#[cfg(test)]
 mod types;

@@ -1,8 +1,6 @@
-mod chains;
 mod errors;
-mod faults;
-mod lexer;
-mod lines;
-mod orders;
-mod positions;
-mod trees;
+pub mod lexer;
+pub mod orders;
+pub mod readings;
+pub mod texts;
+pub mod trees;

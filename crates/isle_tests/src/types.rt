@@ -1,6 +1,5 @@
 mod disjoint_sets;
-mod environments;
-mod ids;
-mod integers;
+pub mod environments;
+mod numbers;
 mod sorted_maps;
 mod stable_maps;

@@ -8,7 +8,8 @@ use Rattle.isle_types.specs.SortedMaps.{binary_digits}
 -- a number is below the power of two that has as many digits
 pub lt-pow-binary_digits : (n : ℕ) → n < 2 ^ binary_digits n
 lt-pow-binary_digits n =
-    subst (λ m. m < 2 ^ binary_digits n) (number_digits_of 2 n (omega arith)) (number_lt 2 (digits_of 2 n) (all_below_base_digits_of 2 n (omega arith)))
+    subst (λ m. m < 2 ^ binary_digits n) (number_digits_of 2 n (omega arith))
+    (number_lt 2 (digits_of 2 n) (all_below_base_digits_of 2 n (omega arith)))
 
 -- no number with fewer digits would do
 pub binary_digits-least : (n k : ℕ) → n < 2 ^ k → binary_digits n ≤ k

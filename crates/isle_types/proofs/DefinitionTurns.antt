@@ -1,5 +1,6 @@
 -- Definitions of one kind, as a loop over definitions comes to them.
-use Rattle.std.proofs.Common.{◌≡◌, ℕ, ◌+◌, ◌<◌, List, [], ◌∷◌, ◌++◌, map, length, take, drop, get_or, Option, Some, None, refl, ap, sym, subst, ◌∙◌, slice_get}
+use Rattle.std.proofs.Common.{◌≡◌, ℕ, ◌+◌, ◌<◌, List, [], ◌∷◌, ◌++◌, map, length, take, drop, get_or, Option, Some, None, refl, ap, sym, subst}
+use Rattle.std.proofs.Common.{◌∙◌, slice_get}
 use Rattle.std.specs.List.{filter_map, cons_option}
 use Rattle.std.proofs.lemmas.List.{take-append-drop, drop_more, take_more, append-nil, append_assoc, map-append, length-append, length-map}
 use Rattle.std.proofs.lemmas.List.Elements.{filter_map-append}
@@ -39,43 +40,53 @@ pub take_here : {X : Type 0} (xs : List X) (i : ℕ) (x : X) → i < length xs �
 take_here xs i x low is = take_more xs i x low ∙ ap (λ y. take i xs ++ y ∷ []) (sym is)
 
 -- what is made of the items, where this one is passed over
-pub passed_over : {X Y : Type 0} (h : X → Option Y) (xs : List X) (i : ℕ) (x : X) → i < length xs → x ≡ get_or xs i x → h x ≡ None → filter_map h (take (i + 1) xs) ≡ filter_map h (take i xs)
+pub passed_over : {X Y : Type 0} (h : X → Option Y) (xs : List X) (i : ℕ) (x : X) → i < length xs → x ≡ get_or xs i x → h x ≡ None
+    → filter_map h (take (i + 1) xs) ≡ filter_map h (take i xs)
 passed_over h xs i x low is none =
     ap (filter_map h) (take_here xs i x low is) ∙ filter_map-append h (take i xs) (x ∷ [])
     ∙ ap (λ o. filter_map h (take i xs) ++ cons_option o []) none ∙ append-nil (filter_map h (take i xs))
 
 -- where it isn't
-pub taken_up : {X Y : Type 0} (h : X → Option Y) (xs : List X) (i : ℕ) (x : X) (y : Y) → i < length xs → x ≡ get_or xs i x → h x ≡ Some y → filter_map h (take (i + 1) xs) ≡ filter_map h (take i xs) ++ y ∷ []
+pub taken_up : {X Y : Type 0} (h : X → Option Y) (xs : List X) (i : ℕ) (x : X) (y : Y) → i < length xs → x ≡ get_or xs i x → h x ≡ Some y
+    → filter_map h (take (i + 1) xs) ≡ filter_map h (take i xs) ++ y ∷ []
 taken_up h xs i x y low is some =
     ap (filter_map h) (take_here xs i x low is) ∙ filter_map-append h (take i xs) (x ∷ [])
     ∙ ap (λ o. filter_map h (take i xs) ++ cons_option o []) some
 
-pub taken_between : {X Y : Type 0} (h : X → Option Y) (xs : List X) (i : ℕ) (x : X) (y : Y) → i < length xs → x ≡ get_or xs i x → h x ≡ Some y → filter_map h xs ≡ filter_map h (take i xs) ++ y ∷ filter_map h (drop (i + 1) xs)
+pub taken_between : {X Y : Type 0} (h : X → Option Y) (xs : List X) (i : ℕ) (x : X) (y : Y) → i < length xs → x ≡ get_or xs i x → h x ≡ Some y
+    → filter_map h xs ≡ filter_map h (take i xs) ++ y ∷ filter_map h (drop (i + 1) xs)
 taken_between h xs i x y low is some =
     ap (filter_map h) (split_here xs i x low is) ∙ filter_map-append h (take i xs) (x ∷ drop (i + 1) xs)
     ∙ ap (λ o. filter_map h (take i xs) ++ cons_option o (filter_map h (drop (i + 1) xs))) some
 
 -- its place among what is made of the items
-pub taken_place : {X Y : Type 0} (h : X → Option Y) (xs : List X) (i : ℕ) (x : X) (y : Y) → i < length xs → x ≡ get_or xs i x → h x ≡ Some y → slice_get (filter_map h xs) (length (filter_map h (take i xs))) ≡ Some y
+pub taken_place : {X Y : Type 0} (h : X → Option Y) (xs : List X) (i : ℕ) (x : X) (y : Y) → i < length xs → x ≡ get_or xs i x → h x ≡ Some y
+    → slice_get (filter_map h xs) (length (filter_map h (take i xs))) ≡ Some y
 taken_place h xs i x y low is some =
     ap (λ ys. slice_get ys (length (filter_map h (take i xs)))) (taken_between h xs i x y low is some)
     ∙ slice_get-middle (filter_map h (take i xs)) (filter_map h (drop (i + 1) xs)) y
 
 -- the names of the types so far, with one more
-pub names_more : (defs : List Def) (i : ℕ) (def : Def) (tree : TypeTree) → i < length defs → def ≡ get_or defs i def → as_type def ≡ Some tree → type_names (take (i + 1) defs) ≡ type_names (take i defs) ++ tree.name.0 ∷ []
+pub names_more : (defs : List Def) (i : ℕ) (def : Def) (tree : TypeTree) → i < length defs → def ≡ get_or defs i def → as_type def ≡ Some tree
+    → type_names (take (i + 1) defs) ≡ type_names (take i defs) ++ tree.name.0 ∷ []
 names_more defs i def tree low is some =
     ap (λ (trees : List TypeTree). builtin_names ++ map (λ (type : TypeTree). type.name.0) trees) (taken_up as_type defs i def tree low is some)
-    ∙ ap (λ (names : List (List ℕ)). builtin_names ++ names) (map-append (λ (type : TypeTree). type.name.0) (type_definitions (take i defs)) (tree ∷ []))
+    ∙ ap (λ (names : List (List ℕ)). builtin_names ++ names)
+    (map-append (λ (type : TypeTree). type.name.0) (type_definitions (take i defs)) (tree ∷ []))
     ∙ sym (append_assoc builtin_names (map (λ (type : TypeTree). type.name.0) (type_definitions (take i defs))) (tree.name.0 ∷ []))
 
-pub names_between : (defs : List Def) (i : ℕ) (def : Def) (tree : TypeTree) → i < length defs → def ≡ get_or defs i def → as_type def ≡ Some tree → type_names defs ≡ type_names (take i defs) ++ tree.name.0 ∷ map (λ (type : TypeTree). type.name.0) (type_definitions (drop (i + 1) defs))
+pub names_between : (defs : List Def) (i : ℕ) (def : Def) (tree : TypeTree) → i < length defs → def ≡ get_or defs i def → as_type def ≡ Some tree
+    → type_names defs ≡ type_names (take i defs) ++ tree.name.0 ∷ map (λ (type : TypeTree). type.name.0) (type_definitions (drop (i + 1) defs))
 names_between defs i def tree low is some =
     ap (λ (trees : List TypeTree). builtin_names ++ map (λ (type : TypeTree). type.name.0) trees) (taken_between as_type defs i def tree low is some)
-    ∙ ap (λ (names : List (List ℕ)). builtin_names ++ names) (map-append (λ (type : TypeTree). type.name.0) (type_definitions (take i defs)) (tree ∷ type_definitions (drop (i + 1) defs)))
-    ∙ sym (append_assoc builtin_names (map (λ (type : TypeTree). type.name.0) (type_definitions (take i defs))) (tree.name.0 ∷ map (λ (type : TypeTree). type.name.0) (type_definitions (drop (i + 1) defs))))
+    ∙ ap (λ (names : List (List ℕ)). builtin_names ++ names)
+    (map-append (λ (type : TypeTree). type.name.0) (type_definitions (take i defs)) (tree ∷ type_definitions (drop (i + 1) defs)))
+    ∙ sym (append_assoc builtin_names (map (λ (type : TypeTree). type.name.0) (type_definitions (take i defs)))
+    (tree.name.0 ∷ map (λ (type : TypeTree). type.name.0) (type_definitions (drop (i + 1) defs))))
 
 -- a name that stands before already is a twin
-pub middle_duplicate : (names known rest : List (List ℕ)) (name : List ℕ) (j : ℕ) → names ≡ known ++ name ∷ rest → position_of known name ≡ Some j → IsDuplicate names (length known)
+pub middle_duplicate : (names known rest : List (List ℕ)) (name : List ℕ) (j : ℕ) → names ≡ known ++ name ∷ rest
+    → position_of known name ≡ Some j → IsDuplicate names (length known)
 middle_duplicate names known rest name j is found =
     let there = place_found known name j found in
     record {
@@ -91,8 +102,11 @@ names_length b trees =
     length-append b (map (λ (type : TypeTree). type.name.0) trees) ∙ ap (λ n. length b + n) (length-map trees (λ (type : TypeTree). type.name.0))
 
 -- a definition of a type whose name is taken breaks a rule
-pub taken_breaks : (defs : List Def) (i : ℕ) (def : Def) (tree : TypeTree) (j : ℕ) → i < length defs → def ≡ get_or defs i def → as_type def ≡ Some tree → position_of (type_names (take i defs)) tree.name.0 ≡ Some j → Breaks defs tree.pos
+pub taken_breaks : (defs : List Def) (i : ℕ) (def : Def) (tree : TypeTree) (j : ℕ) → i < length defs → def ≡ get_or defs i def
+    → as_type def ≡ Some tree → position_of (type_names (take i defs)) tree.name.0 ≡ Some j → Breaks defs tree.pos
 taken_breaks defs i def tree j low is some found =
     name_taken (length (type_definitions (take i defs))) tree (taken_place as_type defs i def tree low is some)
     (subst (IsDuplicate (type_names defs)) (names_length builtin_names (type_definitions (take i defs)))
-    (middle_duplicate (type_names defs) (type_names (take i defs)) (map (λ (type : TypeTree). type.name.0) (type_definitions (drop (i + 1) defs))) tree.name.0 j (names_between defs i def tree low is some) found))
+    (middle_duplicate (type_names defs) (type_names (take i defs))
+    (map (λ (type : TypeTree). type.name.0) (type_definitions (drop (i + 1) defs))) tree.name.0 j
+    (names_between defs i def tree low is some) found))

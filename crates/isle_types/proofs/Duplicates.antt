@@ -1,5 +1,6 @@
 -- A symbol that stands twice in a list.
-use Rattle.std.proofs.Common.{◌≡◌, ℕ, zero, suc, ◌==◌, ◌||◌, inl, inr, List, [], ◌∷◌, ◌++◌, take, Bool, true, false, not, Some, refl, ap, sym, ◌∙◌, slice_get}
+use Rattle.std.proofs.Common.{◌≡◌, ℕ, zero, suc, ◌==◌, ◌||◌, inl, inr, List, [], ◌∷◌, ◌++◌, take, Bool, true, false, not, Some, refl, ap, sym}
+use Rattle.std.proofs.Common.{◌∙◌, slice_get}
 use Rattle.std.specs.List.{list_any}
 use Rattle.std.proofs.lemmas.Bool.{false≢true, eqb-true, eqb-false, eq-eqb, ne_eqb, or_right}
 use Rattle.std.proofs.lemmas.Option.{same_Some, none-some}
@@ -17,7 +18,8 @@ among symbol others = list_any (λ (other : Sym). symbol.0 == other.0) others
 pub among_place : (symbol : Sym) (others : List Sym) → among symbol others ≡ true → (place : ℕ) × (slice_get others place ≡ Some symbol)
 among_place symbol [] = λ found. absurd (false≢true found)
 among_place symbol (other ∷ others) =
-    elim (symbol.0 == other.0) as (λ b. symbol.0 == other.0 ≡ b → (b || among symbol others) ≡ true → (place : ℕ) × (slice_get (other ∷ others) place ≡ Some symbol)) [
+    elim (symbol.0 == other.0) as (λ b. symbol.0 == other.0 ≡ b → (b || among symbol others) ≡ true → (place : ℕ)
+    × (slice_get (other ∷ others) place ≡ Some symbol)) [
       | true ↦ λ same _. (0, ap (λ n. Some (symbol_at n)) (sym (eqb-true symbol.0 other.0 same)))
       | false ↦ λ _ rest. let later = among_place symbol others rest in (suc later.0, later.1)
     ] refl
@@ -44,7 +46,8 @@ once_more before symbol once new = λ name i j at_i at_j.
     ]
 
 -- a symbol that is among those before it
-pub duplicate_here : (names : List Sym) (place : ℕ) (symbol : Sym) → slice_get names place ≡ Some symbol → among symbol (take place names) ≡ true → IsDuplicate names place
+pub duplicate_here : (names : List Sym) (place : ℕ) (symbol : Sym) → slice_get names place ≡ Some symbol → among symbol (take place names) ≡ true
+    → IsDuplicate names place
 duplicate_here names place symbol at found =
     let before = among_place symbol (take place names) found in
     record {

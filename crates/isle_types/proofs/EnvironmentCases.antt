@@ -1,5 +1,6 @@
 -- Worked cases: which environment definitions make, or that they make none.
-use Rattle.std.proofs.Common.{◌≡◌, ℕ, zero, suc, ◌<◌, Bool, true, false, List, [], ◌∷◌, Option, Some, None, is_some, if◌then◌else◌, refl, ap, sym, subst, ◌∙◌, arith, slice_get, get_or, codes}
+use Rattle.std.proofs.Common.{◌≡◌, ℕ, zero, suc, ◌<◌, Bool, true, false, List, [], ◌∷◌, Option, Some, None, is_some, if◌then◌else◌, refl, ap, sym}
+use Rattle.std.proofs.Common.{subst, ◌∙◌, arith, slice_get, get_or, codes}
 use Rattle.std.specs.List.{Contains}
 use Rattle.std.proofs.lemmas.Bool.{false≢true}
 use Rattle.std.proofs.lemmas.Option.{none-some, same_Some}
@@ -14,7 +15,9 @@ use Rattle.isle_syntax.specs.declared.ast.Extern.TheVariants.{Const as extern_co
 use Rattle.isle_syntax.specs.declared.ast.Def.{Def}
 use Rattle.isle_syntax.specs.declared.ast.Def.TheVariants.{TypeDef, Extern}
 use Rattle.isle_types.specs.Names.{position_of, AreDistinct}
-use Rattle.isle_types.specs.Environment.{FieldList, no_fields, named_fields, tuple_fields, NamedVariant, TypeShape, primitive, enum, struct, NamedType, Environment, Makes, constant_in, numbers_in, type_names, IsInhabited, builtin_inhabited, primitive_inhabited, struct_inhabited, variant_inhabited, AreInhabited, none_inhabited, more_inhabited}
+use Rattle.isle_types.specs.Environment.{FieldList, no_fields, named_fields, tuple_fields, NamedVariant, TypeShape, primitive, enum, struct}
+use Rattle.isle_types.specs.Environment.{NamedType, Environment, Makes, constant_in, numbers_in, type_names, IsInhabited, builtin_inhabited}
+use Rattle.isle_types.specs.Environment.{primitive_inhabited, struct_inhabited, variant_inhabited, AreInhabited, none_inhabited, more_inhabited}
 use Rattle.isle_types.specs.TypeFaults.{VariantsBreak, variant_twice, marks_not_allowed, variants_break, Breaks, name_taken, type_breaks}
 use Rattle.isle_types.proofs.NamePlaces.{place_missing}
 use Rattle.isle_types.proofs.Refusals.{broken_makes_none}
@@ -25,7 +28,8 @@ abbrev are_distinct : List (List ℕ) → Bool
 are_distinct [] = true
 are_distinct (name ∷ names) = if is_some (position_of names name) then false else are_distinct names
 
-once_front : (first : List ℕ) (names : List (List ℕ)) → position_of names first ≡ None → AreDistinct names → (name : List ℕ) (i j : ℕ) → slice_get (first ∷ names) i ≡ Some name → slice_get (first ∷ names) j ≡ Some name → i ≡ j
+once_front : (first : List ℕ) (names : List (List ℕ)) → position_of names first ≡ None → AreDistinct names → (name : List ℕ) (i j : ℕ)
+    → slice_get (first ∷ names) i ≡ Some name → slice_get (first ∷ names) j ≡ Some name → i ≡ j
 once_front first names missing once name zero zero at_i at_j = refl
 once_front first names missing once name zero (suc j) at_i at_j = absurd (place_missing names first missing j (at_j ∙ sym at_i))
 once_front first names missing once name (suc i) zero at_i at_j = absurd (place_missing names first missing i (at_i ∙ sym at_j))
@@ -66,11 +70,17 @@ type_named text shape = record { name = text; is_extern = false; is_nodebug = fa
 -- `(type A (struct B)) (type B (primitive B))`: a type may be named before its definition
 abbrev struct_of_later : List Def
 struct_of_later =
-    TypeDef (type_tree (codes "A") (Struct (tuple_field_trees (record { fields = record { index = 0; ty = name (codes "B"); pos = here } ∷ [] })) here))
+    TypeDef (type_tree (codes "A") (Struct
+    (tuple_field_trees (record { fields = record { index = 0; ty = name (codes "B"); pos = here } ∷ [] })) here))
     ∷ TypeDef (type_tree (codes "B") (Primitive (name (codes "B")) here))
     ∷ []
 
-pub struct_of_later_makes : Makes struct_of_later (record { types = type_named (codes "A") (struct (tuple_fields (14 ∷ []))) ∷ type_named (codes "B") (primitive (codes "B")) ∷ []; constants = [] })
+pub struct_of_later_makes : Makes struct_of_later
+    (record {
+      types = type_named (codes "A") (struct (tuple_fields (14 ∷ []))) ∷ type_named (codes "B")
+          (primitive (codes "B")) ∷ [];
+      constants = [];
+    })
 struct_of_later_makes = record {
   names = distinct_once (type_names struct_of_later) refl;
   types = (
@@ -99,7 +109,8 @@ constants_of_one_name_make = record {
 
 pub last_constant_counts : (e : Environment) → Makes constants_of_one_name e → constant_in e.constants (codes "C") ≡ Some 1
 last_constant_counts e makes =
-    ap (λ (made : Environment). constant_in made.constants (codes "C")) (one_environment constants_of_one_name e two_constants makes constants_of_one_name_make)
+    ap (λ (made : Environment). constant_in made.constants (codes "C"))
+    (one_environment constants_of_one_name e two_constants makes constants_of_one_name_make)
 
 -- `(type A extern nodebug (struct))`: a type has one mark at most
 abbrev both_marks : TypeTree
@@ -129,7 +140,8 @@ abbrev variant_again : TypeTree
 variant_again = type_tree (codes "A") (Enum two_variants here)
 
 second_variant_breaks : VariantsBreak (type_names (TypeDef variant_again ∷ [])) two_variants (at 16)
-second_variant_breaks = variant_twice 1 (variant_at 16) refl (record { item = codes "V"; earlier = 0; before = omega arith; first = refl; second = refl })
+second_variant_breaks = variant_twice 1 (variant_at 16) refl
+    (record { item = codes "V"; earlier = 0; before = omega arith; first = refl; second = refl })
 
 pub variant_again_breaks : Breaks (TypeDef variant_again ∷ []) (at 16)
 variant_again_breaks = type_breaks 0 variant_again (at 16) refl (variants_break two_variants here (at 16) refl second_variant_breaks)
@@ -149,7 +161,8 @@ abbrev numbers : List NamedVariant
 numbers = variant_named (codes "Z") no_fields ∷ variant_named (codes "S") (named_fields ((codes "p", 13) ∷ [])) ∷ []
 
 pub numbers_inhabited : IsInhabited (enum_alone numbers) 13
-numbers_inhabited = variant_inhabited 0 (type_named (codes "N") (enum numbers)) numbers (variant_named (codes "Z") no_fields) refl refl (0, omega arith, refl) none_inhabited
+numbers_inhabited = variant_inhabited 0 (type_named (codes "N") (enum numbers)) numbers (variant_named (codes "Z") no_fields) refl refl
+    (0, omega arith, refl) none_inhabited
 
 -- `(type N (enum (S (p N))))` has none
 abbrev only_larger : List NamedVariant

@@ -7,7 +7,8 @@ use Rattle.isle_types.specs.TypeFaults.{Breaks, IsTypeFault}
 use Rattle.isle_types.specs.Readings.{AreTypeFaults}
 
 -- one more fault
-pub faults_more : (defs : List Def) (old new : List Error) (error : Error) → new ≡ old ++ error ∷ [] → AreTypeFaults defs old → IsTypeFault (Breaks defs) error → AreTypeFaults defs new
+pub faults_more : (defs : List Def) (old new : List Error) (error : Error) → new ≡ old ++ error ∷ [] → AreTypeFaults defs old
+    → IsTypeFault (Breaks defs) error → AreTypeFaults defs new
 faults_more defs old new error is faults fault =
     All-same (IsTypeFault (Breaks defs)) new (old ++ error ∷ []) is (All-push (IsTypeFault (Breaks defs)) old error faults fault)
 

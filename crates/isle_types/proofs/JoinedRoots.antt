@@ -44,7 +44,8 @@ module _ {T : Type 0} {eq : T → T → Bool} (laws : IsEquivalence eq) where
   has_root_None (Some a) = refl
 
   module _ (r : T → Option T) (alike : (x y : T) → eq x y ≡ true → r x ≡ r y) where
-    entry_step : (x a : T) (p q : Option T) (b : Bool) → r x ≡ p → r a ≡ q → eq a x ≡ b → cond (is_some p) q (cond b (Some x) q) ≡ option_or q (cond b (Some x) None)
+    entry_step : (x a : T) (p q : Option T) (b : Bool) → r x ≡ p → r a ≡ q → eq a x ≡ b
+        → cond (is_some p) q (cond b (Some x) q) ≡ option_or q (cond b (Some x) None)
     entry_step x a (Some u) (Some v) b e f g = refl
     entry_step x a (Some u) None true e f g = absurd (Some≢None (sym e ∙ sym (alike a x g) ∙ f))
     entry_step x a (Some u) None false e f g = refl
@@ -105,7 +106,8 @@ module _ {T : Type 0} {eq : T → T → Bool} (laws : IsEquivalence eq) where
     pub comes_by_y : (x y a v : T) → r a ≡ Some v → eq v (entered_root r y) ≡ true → comes eq r x y a ≡ true
     comes_by_y x y a v e h = or_right (eq a x || eq a y) _ (or_right (same_root eq (r x) (r a)) _ (has_entered y a v e h))
 
-    comes_along_step : (x y a b : T) (p : Option T) → r b ≡ p → r a ≡ r b → comes eq r x y a ≡ true → same_root eq (r a) (r b) ≡ true → comes eq r x y b ≡ true
+    comes_along_step : (x y a b : T) (p : Option T) → r b ≡ p → r a ≡ r b → comes eq r x y a ≡ true → same_root eq (r a) (r b) ≡ true
+        → comes eq r x y b ≡ true
     comes_along_step x y a b None f e k h = absurd (false≢true (sym (rw (e, f) refl) ∙ h))
     comes_along_step x y a b (Some v) f e k h = ⊎_elim
         (λ near. comes_by_y x y b v f near)
@@ -116,13 +118,16 @@ module _ {T : Type 0} {eq : T → T → Bool} (laws : IsEquivalence eq) where
     comes_along : (x y a b : T) → same_root eq (r a) (r b) ≡ true → comes eq r x y a ≡ true → comes eq r x y b ≡ true
     comes_along x y a b h k = comes_along_step x y a b (r b) refl (same_roots a b h) k h
 
-    merged_some : (x y a v : T) → r a ≡ Some v → (b c : Bool) → eq v (entered_root r y) ≡ b → comes eq r x y a ≡ c → Some (cond b (entered_root r x) v) ≡ cond c (Some (entered_root r x)) (Some v)
+    merged_some : (x y a v : T) → r a ≡ Some v → (b c : Bool) → eq v (entered_root r y) ≡ b → comes eq r x y a ≡ c
+        → Some (cond b (entered_root r x) v) ≡ cond c (Some (entered_root r x)) (Some v)
     merged_some x y a v e true true p q = refl
     merged_some x y a v e true false p q = absurd (false≢true (sym q ∙ comes_by_y x y a v e p))
     merged_some x y a v e false false p q = refl
     merged_some x y a v e false true p q = ⊎_elim (λ near. absurd (false≢true (sym p ∙ near))) (λ same. ap Some same) (gathered x y a v e q)
 
-    merged_none : (x y a : T) → r a ≡ None → (b c : Bool) → eq a x ≡ b → eq a y ≡ c → option_map (λ v. cond (eq v (entered_root r y)) (entered_root r x) v) (option_or (cond b (Some x) None) (cond c (Some y) None)) ≡ cond (b || c) (Some (entered_root r x)) None
+    merged_none : (x y a : T) → r a ≡ None → (b c : Bool) → eq a x ≡ b → eq a y ≡ c
+        → option_map (λ v. cond (eq v (entered_root r y)) (entered_root r x) v) (option_or (cond b (Some x) None) (cond c (Some y) None)) ≡ cond
+        (b || c) (Some (entered_root r x)) None
     merged_none x y a e true c p q =
         let f : r x ≡ None = sym (alike a x p) ∙ e in
         rw f (ap Some (cond_alike (eq x (entered_root r y)) x))
@@ -138,12 +143,17 @@ module _ {T : Type 0} {eq : T → T → Bool} (laws : IsEquivalence eq) where
     none_comes : (x y a : T) → r a ≡ None → comes eq r x y a ≡ (eq a x || eq a y)
     none_comes x y a e = rw (e, has_root_None (r x), has_root_None (r y)) (or_false (eq a x || eq a y))
 
-    merged_step : (x y a : T) (p : Option T) → r a ≡ p → option_map (λ v. cond (eq v (entered_root r y)) (entered_root r x) v) (option_or (option_or p (cond (eq a x) (Some x) None)) (cond (eq a y) (Some y) None)) ≡ cond (comes eq r x y a) (Some (entered_root r x)) p
-    merged_step x y a None e = merged_none x y a e (eq a x) (eq a y) refl refl ∙ ap (λ b. cond b (Some (entered_root r x)) None) (sym (none_comes x y a e))
+    merged_step : (x y a : T) (p : Option T) → r a ≡ p
+        → option_map (λ v. cond (eq v (entered_root r y)) (entered_root r x) v)
+        (option_or (option_or p (cond (eq a x) (Some x) None)) (cond (eq a y) (Some y) None)) ≡ cond (comes eq r x y a)
+        (Some (entered_root r x)) p
+    merged_step x y a None e = merged_none x y a e (eq a x) (eq a y) refl refl
+        ∙ ap (λ b. cond b (Some (entered_root r x)) None) (sym (none_comes x y a e))
     merged_step x y a (Some v) e = merged_some x y a v e (eq v (entered_root r y)) (comes eq r x y a) refl refl
 
     -- the entries of x and y, then the representative of y replaced by that of x
-    pub merged_root : (x y a : T) → option_map (λ v. cond (eq v (entered_root r y)) (entered_root r x) v) (option_or (option_or (r a) (cond (eq a x) (Some x) None)) (cond (eq a y) (Some y) None)) ≡ after_merge eq r x y a
+    pub merged_root : (x y a : T) → option_map (λ v. cond (eq v (entered_root r y)) (entered_root r x) v)
+        (option_or (option_or (r a) (cond (eq a x) (Some x) None)) (cond (eq a y) (Some y) None)) ≡ after_merge eq r x y a
     merged_root x y a = merged_step x y a (r a) refl
 
     comes_not : (x y b : T) (p : Option T) → r b ≡ p → same_root eq (Some (entered_root r x)) p ≡ true → comes eq r x y b ≡ false → ⊥
@@ -155,16 +165,21 @@ module _ {T : Type 0} {eq : T → T → Bool} (laws : IsEquivalence eq) where
     same_flip (Some v) None h = absurd (false≢true h)
     same_flip (Some v) (Some w) h = laws.symm v w ∙ h
 
-    joined_step : (x y a b : T) (c d : Bool) → comes eq r x y a ≡ c → comes eq r x y b ≡ d → same_root eq (cond c (Some (entered_root r x)) (r a)) (cond d (Some (entered_root r x)) (r b)) ≡ (same_root eq (r a) (r b) || (c && d))
+    joined_step : (x y a b : T) (c d : Bool) → comes eq r x y a ≡ c → comes eq r x y b ≡ d
+        → same_root eq (cond c (Some (entered_root r x)) (r a)) (cond d (Some (entered_root r x)) (r b)) ≡ (same_root eq (r a) (r b) || (c && d))
     joined_step x y a b true true p q = laws.refl (entered_root r x) ∙ sym (or_right (same_root eq (r a) (r b)) true refl)
     joined_step x y a b true false p q =
-        false_from_ne_true _ (λ h. comes_not x y b (r b) refl h q) ∙ sym (or_from (same_root eq (r a) (r b)) false (false_from_ne_true _ (λ h. false≢true (sym q ∙ comes_along x y a b h p))) refl)
+        false_from_ne_true _ (λ h. comes_not x y b (r b) refl h q)
+        ∙ sym (or_from (same_root eq (r a) (r b)) false (false_from_ne_true _ (λ h. false≢true (sym q ∙ comes_along x y a b h p))) refl)
     joined_step x y a b false true p q =
-        false_from_ne_true _ (λ h. comes_not x y a (r a) refl (same_flip _ _ h) p) ∙ sym (or_from (same_root eq (r a) (r b)) false (false_from_ne_true _ (λ h. false≢true (sym p ∙ comes_along x y b a (same_flip _ _ h) q))) refl)
+        false_from_ne_true _ (λ h. comes_not x y a (r a) refl (same_flip _ _ h) p)
+        ∙ sym (or_from (same_root eq (r a) (r b)) false
+        (false_from_ne_true _ (λ h. false≢true (sym p ∙ comes_along x y b a (same_flip _ _ h) q))) refl)
     joined_step x y a b false false p q = sym (or_false (same_root eq (r a) (r b)))
 
     -- who is joined after a merge
-    pub merged_joined : (x y a b : T) → same_root eq (after_merge eq r x y a) (after_merge eq r x y b) ≡ (same_root eq (r a) (r b) || (comes eq r x y a && comes eq r x y b))
+    pub merged_joined : (x y a b : T)
+        → same_root eq (after_merge eq r x y a) (after_merge eq r x y b) ≡ (same_root eq (r a) (r b) || (comes eq r x y a && comes eq r x y b))
     merged_joined x y a b = joined_step x y a b (comes eq r x y a) (comes eq r x y b) refl refl
 
     removed_test : (b : Bool) (w : T) → cond (not b) (Some w) None ≡ cond b None (Some w)
@@ -179,11 +194,16 @@ module _ {T : Type 0} {eq : T → T → Bool} (laws : IsEquivalence eq) where
     pub removed_root : (x v a : T) → r x ≡ Some v → option_filter (λ u. not (eq u v)) (r a) ≡ cond (same_root eq (r x) (r a)) None (r a)
     removed_root x v a e = rw e (removed_step v (r a))
 
-    removed_joined_step : (x a b : T) (c d : Bool) → same_root eq (r x) (r a) ≡ c → same_root eq (r x) (r b) ≡ d → same_root eq (cond c None (r a)) (cond d None (r b)) ≡ (same_root eq (r a) (r b) && not c)
+    removed_joined_step : (x a b : T) (c d : Bool) → same_root eq (r x) (r a) ≡ c → same_root eq (r x) (r b) ≡ d
+        → same_root eq (cond c None (r a)) (cond d None (r b)) ≡ (same_root eq (r a) (r b) && not c)
     removed_joined_step x a b true d p q = sym (and_right (same_root eq (r a) (r b)) false refl)
     removed_joined_step x a b false false p q = sym (and_true (same_root eq (r a) (r b)))
-    removed_joined_step x a b false true p q = has_root_None (r a) ∙ sym (and_left (same_root eq (r a) (r b)) true (false_from_ne_true _ (λ h. false≢true (sym p ∙ ap (same_root eq (r x)) (same_roots a b h) ∙ q))))
+    removed_joined_step x a b false true p q = has_root_None (r a)
+        ∙ sym (and_left (same_root eq (r a) (r b)) true
+        (false_from_ne_true _ (λ h. false≢true (sym p ∙ ap (same_root eq (r x)) (same_roots a b h) ∙ q))))
 
     -- who is joined after the set of x is removed
-    pub removed_joined : (x a b : T) → same_root eq (cond (same_root eq (r x) (r a)) None (r a)) (cond (same_root eq (r x) (r b)) None (r b)) ≡ (same_root eq (r a) (r b) && not (same_root eq (r x) (r a)))
+    pub removed_joined : (x a b : T)
+        → same_root eq (cond (same_root eq (r x) (r a)) None (r a)) (cond (same_root eq (r x) (r b)) None (r b)) ≡
+        (same_root eq (r a) (r b) && not (same_root eq (r x) (r a)))
     removed_joined x a b = removed_joined_step x a b (same_root eq (r x) (r a)) (same_root eq (r x) (r b)) refl refl

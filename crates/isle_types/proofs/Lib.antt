@@ -6,7 +6,9 @@ pub mod Zipped
 pub mod Naming
 -- Names and their places.
 pub mod NamePlaces
--- Tables of names when a name is interned.
+-- Tables from symbols, seen by the symbols' names.
+pub mod NamedTables
+-- An environment's tables when names are interned.
 pub mod Tables
 -- A symbol that stands twice in a list.
 pub mod Duplicates

@@ -1,5 +1,6 @@
 -- Items by their places.
-use Rattle.std.proofs.Common.{◌≡◌, ℕ, zero, suc, ◌+◌, add-one, ◌<◌, ◌⊎◌, inl, inr, List, [], ◌∷◌, ◌++◌, length, Some, refl, ap, subst, ◌∙◌, arith, slice_get, take, drop}
+use Rattle.std.proofs.Common.{◌≡◌, ℕ, zero, suc, ◌+◌, add-one, ◌<◌, ◌⊎◌, inl, inr, List, [], ◌∷◌, ◌++◌, length, Some, refl, ap, subst, ◌∙◌, arith}
+use Rattle.std.proofs.Common.{slice_get, take, drop}
 use Rattle.std.proofs.lemmas.List.{take-append-drop, length-take}
 use Rattle.std.specs.List.{AllZip}
 use Rattle.std.proofs.lemmas.Option.{same_Some, none-some, slice_get_within, get_or_from_slice_get}
@@ -17,7 +18,8 @@ slice_get-last [] x = refl
 slice_get-last (y ∷ xs) x = slice_get-last xs x
 
 -- an item with one more behind it: it was there, or is the last
-pub slice_get-pushed : {X : Type 0} (xs : List X) (y : X) (i : ℕ) (x : X) → slice_get (xs ++ y ∷ []) i ≡ Some x → (slice_get xs i ≡ Some x) ⊎ ((i ≡ length xs) × (y ≡ x))
+pub slice_get-pushed : {X : Type 0} (xs : List X) (y : X) (i : ℕ) (x : X) → slice_get (xs ++ y ∷ []) i ≡ Some x → (slice_get xs i ≡ Some x)
+    ⊎ ((i ≡ length xs) × (y ≡ x))
 slice_get-pushed [] y zero x is = inr (refl, same_Some y x is)
 slice_get-pushed [] y (suc i) x is = absurd (none-some x is)
 slice_get-pushed (z ∷ xs) y zero x is = inl is
@@ -28,7 +30,8 @@ slice_get-pushed (z ∷ xs) y (suc i) x is =
     ]
 
 -- a relation of the items of two lists, and a weaker one
-pub AllZip-weaker : {A B : Type 0} (R S : A → B → Type 0) → ((x : A) (y : B) → R x y → S x y) → (xs : List A) (ys : List B) → AllZip R xs ys → AllZip S xs ys
+pub AllZip-weaker : {A B : Type 0} (R S : A → B → Type 0) → ((x : A) (y : B) → R x y → S x y) → (xs : List A) (ys : List B) → AllZip R xs ys
+    → AllZip S xs ys
 AllZip-weaker R S weaker [] [] each = tt
 AllZip-weaker R S weaker [] (y ∷ ys) each = absurd each
 AllZip-weaker R S weaker (x ∷ xs) [] each = absurd each

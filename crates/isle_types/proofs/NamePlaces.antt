@@ -1,5 +1,6 @@
 -- Names and their places.
-use Rattle.std.proofs.Common.{◌≡◌, ℕ, zero, suc, inl, inr, List, [], ◌∷◌, ◌++◌, length, Bool, true, false, cond, Option, Some, None, is_some, refl, ap, sym, subst, ◌∙◌, slice_get, bytes_eq}
+use Rattle.std.proofs.Common.{◌≡◌, ℕ, zero, suc, inl, inr, List, [], ◌∷◌, ◌++◌, length, Bool, true, false, cond, Option, Some, None, is_some}
+use Rattle.std.proofs.Common.{refl, ap, sym, subst, ◌∙◌, slice_get, bytes_eq}
 use Rattle.std.specs.Option.{option_map}
 use Rattle.std.proofs.lemmas.Option.{same_Some, none-some}
 use Rattle.std.proofs.lemmas.Slice.Eq.{bytes_eq-Decides}
@@ -10,7 +11,8 @@ use Rattle.isle_types.proofs.Lists.{slice_get-kept, slice_get-pushed}
 pub same_name : (name : List ℕ) → bytes_eq name name ≡ true
 same_name name = let decides = bytes_eq-Decides name name in decides.1 refl
 
-found_later : (first : List ℕ) (names : List (List ℕ)) (name : List ℕ) (i : ℕ) (o : Option ℕ) → ((j : ℕ) → o ≡ Some j → slice_get names j ≡ Some name) → option_map suc o ≡ Some i → slice_get (first ∷ names) i ≡ Some name
+found_later : (first : List ℕ) (names : List (List ℕ)) (name : List ℕ) (i : ℕ) (o : Option ℕ)
+    → ((j : ℕ) → o ≡ Some j → slice_get names j ≡ Some name) → option_map suc o ≡ Some i → slice_get (first ∷ names) i ≡ Some name
 found_later first names name i None found is = absurd (none-some i is)
 found_later first names name i (Some j) found is =
     subst (λ k. slice_get (first ∷ names) k ≡ Some name) (same_Some (suc j) i is) (found j refl)
@@ -19,8 +21,10 @@ found_later first names name i (Some j) found is =
 pub place_found : (names : List (List ℕ)) (name : List ℕ) (i : ℕ) → position_of names name ≡ Some i → slice_get names i ≡ Some name
 place_found [] name i = λ is. absurd (none-some i is)
 place_found (first ∷ names) name i =
-    elim (bytes_eq name first) as (λ b. bytes_eq name first ≡ b → cond b (Some 0) (option_map suc (position_of names name)) ≡ Some i → slice_get (first ∷ names) i ≡ Some name) [
-      | true ↦ λ same is. let decides = bytes_eq-Decides name first in subst (λ j. slice_get (first ∷ names) j ≡ Some name) (same_Some 0 i is) (ap Some (sym (decides.0 same)))
+    elim (bytes_eq name first) as (λ b. bytes_eq name first ≡ b → cond b (Some 0) (option_map suc (position_of names name)) ≡ Some i
+    → slice_get (first ∷ names) i ≡ Some name) [
+      | true ↦ λ same is. let decides = bytes_eq-Decides name first in
+          subst (λ j. slice_get (first ∷ names) j ≡ Some name) (same_Some 0 i is) (ap Some (sym (decides.0 same)))
       | false ↦ λ _ is. found_later first names name i (position_of names name) (λ j at. place_found names name j at) is
     ] refl
 
@@ -43,21 +47,29 @@ place_missing names name missing i is =
     let found = place_some names name i is in none-some found.0 (sym missing ∙ found.1)
 
 -- where names stand once, a name is found at its place
-pub place_known : (names : List (List ℕ)) (name : List ℕ) (i : ℕ) → AreDistinct names → slice_get names i ≡ Some name → position_of names name ≡ Some i
+pub place_known : (names : List (List ℕ)) (name : List ℕ) (i : ℕ) → AreDistinct names → slice_get names i ≡ Some name
+    → position_of names name ≡ Some i
 place_known names name i once is =
     let found = place_some names name i is in
     found.1 ∙ ap Some (once name found.0 i (place_found names name found.0 found.1) is)
 
 -- the place of a name with one more behind: its own, or the last
-pub place_pushed : (names : List (List ℕ)) (last name : List ℕ) → position_of (names ++ last ∷ []) name ≡ (cond (is_some (position_of names name)) (position_of names name) (cond (bytes_eq name last) (Some (length names)) None))
-place_pushed [] last name = elim (bytes_eq name last) as (λ b. cond b (Some 0) (option_map suc None) ≡ cond b (Some 0) None) [ true ↦ refl | false ↦ refl ]
+pub place_pushed : (names : List (List ℕ)) (last name : List ℕ)
+    → position_of (names ++ last ∷ []) name ≡
+    (cond (is_some (position_of names name)) (position_of names name) (cond (bytes_eq name last) (Some (length names)) None))
+place_pushed [] last name = elim (bytes_eq name last) as
+    (λ b. cond b (Some 0) (option_map suc None) ≡ cond b (Some 0) None) [ true ↦ refl | false ↦ refl ]
 place_pushed (first ∷ names) last name =
-    elim (bytes_eq name first) as (λ b. cond b (Some 0) (option_map suc (position_of (names ++ last ∷ []) name)) ≡ cond (is_some (cond b (Some 0) (option_map suc (position_of names name)))) (cond b (Some 0) (option_map suc (position_of names name))) (cond (bytes_eq name last) (Some (suc (length names))) None)) [
+    elim (bytes_eq name first) as (λ b. cond b (Some 0) (option_map suc (position_of (names ++ last ∷ []) name)) ≡ cond
+    (is_some (cond b (Some 0) (option_map suc (position_of names name)))) (cond b (Some 0) (option_map suc (position_of names name)))
+    (cond (bytes_eq name last) (Some (suc (length names))) None)) [
       | true ↦ refl
       | false ↦ ap (option_map suc) (place_pushed names last name) ∙ through (position_of names name) (bytes_eq name last)
     ]
   where
-    through : (o : Option ℕ) (b : Bool) → option_map suc (cond (is_some o) o (cond b (Some (length names)) None)) ≡ cond (is_some (option_map suc o)) (option_map suc o) (cond b (Some (suc (length names))) None)
+    through : (o : Option ℕ) (b : Bool)
+        → option_map suc (cond (is_some o) o (cond b (Some (length names)) None)) ≡ cond (is_some (option_map suc o)) (option_map suc o)
+        (cond b (Some (suc (length names))) None)
     through (Some j) b = refl
     through None true = refl
     through None false = refl
@@ -95,14 +107,16 @@ or_none None = refl
 or_none (Some i) = refl
 
 -- another name keeps its place
-pub place_other : (names : List (List ℕ)) (last name : List ℕ) → bytes_eq name last ≡ false → position_of (names ++ last ∷ []) name ≡ position_of names name
+pub place_other : (names : List (List ℕ)) (last name : List ℕ) → bytes_eq name last ≡ false
+    → position_of (names ++ last ∷ []) name ≡ position_of names name
 place_other names last name apart =
     place_pushed names last name
     ∙ ap (λ b. cond (is_some (position_of names name)) (position_of names name) (cond b (Some (length names)) None)) apart
     ∙ or_none (position_of names name)
 
 -- a name that is there keeps its place
-pub place_there : (names : List (List ℕ)) (last name : List ℕ) (i : ℕ) → position_of names name ≡ Some i → position_of (names ++ last ∷ []) name ≡ Some i
+pub place_there : (names : List (List ℕ)) (last name : List ℕ) (i : ℕ) → position_of names name ≡ Some i
+    → position_of (names ++ last ∷ []) name ≡ Some i
 place_there names last name i is =
     place_pushed names last name ∙ ap (λ o. cond (is_some o) o (cond (bytes_eq name last) (Some (length names)) None)) is
 

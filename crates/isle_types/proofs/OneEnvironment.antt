@@ -11,10 +11,13 @@ use Rattle.isle_syntax.specs.declared.ast.TypeValue.TheVariants.{Primitive, Enum
 use Rattle.isle_syntax.specs.declared.ast.«Type».{«Type» as TypeTree}
 use Rattle.isle_syntax.specs.declared.ast.Def.{Def}
 use Rattle.isle_types.specs.Names.{AreDistinct}
-use Rattle.isle_types.specs.Environment.{FieldList, no_fields, named_fields, tuple_fields, NamedVariant, TypeShape, primitive, enum, struct, NamedType, Environment, IsField, IsTupleField, AreFields, IsVariant, IsShape, IsType, IsConstant, Makes, type_definitions, constant_definitions, type_names}
+use Rattle.isle_types.specs.Environment.{FieldList, no_fields, named_fields, tuple_fields, NamedVariant, TypeShape, primitive, enum, struct}
+use Rattle.isle_types.specs.Environment.{NamedType, Environment, IsField, IsTupleField, AreFields, IsVariant, IsShape, IsType, IsConstant, Makes}
+use Rattle.isle_types.specs.Environment.{type_definitions, constant_definitions, type_names}
 
 -- lists are one where each pair of items is
-zipped_one : {A B : Type 0} (R : A → B → Type 0) → ((x : A) (y z : B) → R x y → R x z → y ≡ z) → (xs : List A) (ys zs : List B) → AllZip R xs ys → AllZip R xs zs → ys ≡ zs
+zipped_one : {A B : Type 0} (R : A → B → Type 0) → ((x : A) (y z : B) → R x y → R x z → y ≡ z) → (xs : List A) (ys zs : List B) → AllZip R xs ys
+    → AllZip R xs zs → ys ≡ zs
 zipped_one R one [] [] [] is other = refl
 zipped_one R one [] (y ∷ ys) zs is other = absurd is
 zipped_one R one [] [] (z ∷ zs) is other = absurd other
@@ -88,6 +91,8 @@ module _ (known : List (List ℕ)) (once : AreDistinct known) where
 -- definitions make one environment at most
 pub one_environment : (defs : List Def) (a b : Environment) → Makes defs a → Makes defs b → a ≡ b
 one_environment defs a b makes other =
-    let types = zipped_one (IsType (type_names defs)) (one_type (type_names defs) makes.names) (type_definitions defs) a.types b.types makes.types other.types in
-    let constants = zipped_one (IsConstant (type_names defs)) (one_constant (type_names defs) makes.names) (constant_definitions defs) a.constants b.constants makes.constants other.constants in
+    let types = zipped_one (IsType (type_names defs)) (one_type (type_names defs) makes.names)
+    (type_definitions defs) a.types b.types makes.types other.types in
+    let constants = zipped_one (IsConstant (type_names defs)) (one_constant (type_names defs) makes.names)
+    (constant_definitions defs) a.constants b.constants makes.constants other.constants in
     λ i. record { types = types i; constants = constants i }

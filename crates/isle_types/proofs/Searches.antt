@@ -46,7 +46,8 @@ module _ {K : Type 0} {cmp : K → K → Ordering} (total : IsTotalOrder cmp) wh
 abbrev pub middle_of : ℕ → ℕ → ℕ
 middle_of low high = low + (high - low) / 2
 
-module _ {K V : Type 0} {cmp : K → K → Ordering} (total : IsTotalOrder cmp) (key : K) {entries : List (K × V)} {places : List ℕ} (index : IsSortedIndex cmp entries places) where
+module _ {K V : Type 0} {cmp : K → K → Ordering} (total : IsTotalOrder cmp) (key : K) {entries : List (K × V)} {places : List ℕ}
+    (index : IsSortedIndex cmp entries places) where
   same_length : length (keys_of (entries_at entries places)) ≡ length places
   same_length = length-keys_at entries places index.in_range
 
@@ -56,7 +57,12 @@ module _ {K V : Type 0} {cmp : K → K → Ordering} (total : IsTotalOrder cmp) 
     in_range = omega (arith, same_length);
     before = λ k d _ lt. absurd (omega arith);
     after = λ k d le lt. absurd (omega (arith, same_length));
-    halved = omega (arith, same_length, binary_digits-mono (length places - 0) (length (keys_of (entries_at entries places))) (omega (arith, same_length)));
+    halved = omega (
+      arith,
+      same_length,
+      binary_digits-mono (length places - 0) (length (keys_of (entries_at entries places)))
+          (omega (arith, same_length)),
+    );
   }
 
   module _ {low high comparisons : ℕ} (so_far : IsNarrowedTo cmp key (keys_of (entries_at entries places)) low high comparisons) where
@@ -73,26 +79,32 @@ module _ {K V : Type 0} {cmp : K → K → Ordering} (total : IsTotalOrder cmp) 
 
       module _ (e : K × V) where
         -- the key in the middle is that of the entry which is read
-        key_there : (d : K) → get_or (keys_of (entries_at entries places)) (middle_of low high) d ≡ (get_or entries (get_or places (middle_of low high) 0) e).0
+        key_there : (d : K) → get_or (keys_of (entries_at entries places)) (middle_of low high) d ≡
+            (get_or entries (get_or places (middle_of low high) 0) e).0
         key_there d = get_or-keys_at entries places (middle_of low high) d e index.in_range middle_in_range
 
-        pub found_in_middle : Equal ≡ cmp key (get_or entries (get_or places (middle_of low high) 0) e).0 → IsSearchResult cmp key (keys_of (entries_at entries places)) (Ok (middle_of low high))
+        pub found_in_middle : Equal ≡ cmp key (get_or entries (get_or places (middle_of low high) 0) e).0
+            → IsSearchResult cmp key (keys_of (entries_at entries places)) (Ok (middle_of low high))
         found_in_middle equal = record { in_range = rw same_length middle_in_range; place = λ d. rw (key_there d) (sym equal) }
 
-        pub narrowed_below : Less ≡ cmp key (get_or entries (get_or places (middle_of low high) 0) e).0 → IsNarrowedTo cmp key (keys_of (entries_at entries places)) low (middle_of low high) (comparisons + 1)
+        pub narrowed_below : Less ≡ cmp key (get_or entries (get_or places (middle_of low high) 0) e).0
+            → IsNarrowedTo cmp key (keys_of (entries_at entries places)) low (middle_of low high) (comparisons + 1)
         narrowed_below less = record {
           in_order = omega arith;
           in_range = omega (arith, same_length, middle_in_range);
           before = so_far.before;
-          after = after_from_Less total key _ index.ascending (middle_of low high) (rw same_length middle_in_range) (λ d. rw (key_there d) (sym less));
+          after = after_from_Less total key _ index.ascending (middle_of low high) (rw same_length middle_in_range)
+              (λ d. rw (key_there d) (sym less));
           halved = omega (arith, so_far.halved, binary_digits-step (high - low) (middle_of low high - low) (omega arith) (omega arith));
         }
 
-        pub narrowed_above : Greater ≡ cmp key (get_or entries (get_or places (middle_of low high) 0) e).0 → IsNarrowedTo cmp key (keys_of (entries_at entries places)) (middle_of low high + 1) high (comparisons + 1)
+        pub narrowed_above : Greater ≡ cmp key (get_or entries (get_or places (middle_of low high) 0) e).0
+            → IsNarrowedTo cmp key (keys_of (entries_at entries places)) (middle_of low high + 1) high (comparisons + 1)
         narrowed_above greater = record {
           in_order = omega arith;
           in_range = so_far.in_range;
-          before = before_from_Greater total key _ index.ascending (middle_of low high) (rw same_length middle_in_range) (λ d. rw (key_there d) (sym greater));
+          before = before_from_Greater total key _ index.ascending (middle_of low high) (rw same_length middle_in_range)
+              (λ d. rw (key_there d) (sym greater));
           after = so_far.after;
           halved = omega (arith, so_far.halved, binary_digits-step (high - low) (high - (middle_of low high + 1)) (omega arith) (omega arith));
         }

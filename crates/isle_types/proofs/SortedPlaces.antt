@@ -15,7 +15,8 @@ module _ {E : Type 0} where
   AreWithin entries places = All (λ place. place < length entries) places
 
   -- each place gives its entry
-  pub entries_at-map : (entries : List E) (places : List ℕ) (d : E) → AreWithin entries places → entries_at entries places ≡ map (λ place. get_or entries place d) places
+  pub entries_at-map : (entries : List E) (places : List ℕ) (d : E) → AreWithin entries places
+      → entries_at entries places ≡ map (λ place. get_or entries place d) places
   entries_at-map entries [] d within = refl
   entries_at-map entries (place ∷ places) d within =
       rw (slice_get-get_or entries place d (All-head (λ p. p < length entries) place places within))
@@ -24,17 +25,22 @@ module _ {E : Type 0} where
   pub length-entries_at : (entries : List E) (places : List ℕ) → AreWithin entries places → length (entries_at entries places) ≡ length places
   length-entries_at entries [] within = refl
   length-entries_at [] (place ∷ places) within = absurd (omega (arith, All-head (λ p. p < 0) place places within))
-  length-entries_at (e ∷ entries) places within = ap length (entries_at-map (e ∷ entries) places e within) ∙ length-map places (λ place. get_or (e ∷ entries) place e)
+  length-entries_at (e ∷ entries) places within = ap length (entries_at-map (e ∷ entries) places e within)
+      ∙ length-map places (λ place. get_or (e ∷ entries) place e)
 
-  pub get_or-entries_at : (entries : List E) (places : List ℕ) (i : ℕ) (d : E) → AreWithin entries places → i < length places → get_or (entries_at entries places) i d ≡ get_or entries (get_or places i 0) d
-  get_or-entries_at entries places i d within lt = rw (entries_at-map entries places d within) (get_or-map (λ place. get_or entries place d) places i 0 d lt)
+  pub get_or-entries_at : (entries : List E) (places : List ℕ) (i : ℕ) (d : E) → AreWithin entries places → i < length places
+      → get_or (entries_at entries places) i d ≡ get_or entries (get_or places i 0) d
+  get_or-entries_at entries places i d within lt = rw (entries_at-map entries places d within)
+      (get_or-map (λ place. get_or entries place d) places i 0 d lt)
 
 module _ {K V : Type 0} where
-  pub length-keys_at : (entries : List (K × V)) (places : List ℕ) → AreWithin entries places → length (keys_of (entries_at entries places)) ≡ length places
+  pub length-keys_at : (entries : List (K × V)) (places : List ℕ) → AreWithin entries places
+      → length (keys_of (entries_at entries places)) ≡ length places
   length-keys_at entries places within = length-map (entries_at entries places) (λ e. e.0) ∙ length-entries_at entries places within
 
   -- the key at a place is the key of the entry there
-  pub get_or-keys_at : (entries : List (K × V)) (places : List ℕ) (i : ℕ) (k : K) (d : K × V) → AreWithin entries places → i < length places → get_or (keys_of (entries_at entries places)) i k ≡ (get_or entries (get_or places i 0) d).0
+  pub get_or-keys_at : (entries : List (K × V)) (places : List ℕ) (i : ℕ) (k : K) (d : K × V) → AreWithin entries places → i < length places
+      → get_or (keys_of (entries_at entries places)) i k ≡ (get_or entries (get_or places i 0) d).0
   get_or-keys_at entries places i k d within lt =
       get_or-map (λ e. e.0) (entries_at entries places) i d k (rw (length-entries_at entries places within) lt)
       ∙ ap (λ e. e.0) (get_or-entries_at entries places i d within lt)

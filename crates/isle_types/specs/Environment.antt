@@ -1,5 +1,6 @@
 -- The types and constants that definitions make, by name. Types are counted: the builtin ones from 0, the defined ones after them.
-use Rattle.std.specs.Prelude.{◌≡◌, ℕ, ◌+◌, ◌<◌, ◌≤◌, Bool, true, false, List, [], ◌∷◌, ◌++◌, map, length, slice_get, filter_map, Option, Some, None, Contains, if◌then◌else◌, is_some}
+use Rattle.std.specs.Prelude.{◌≡◌, ℕ, ◌+◌, ◌<◌, ◌≤◌, Bool, true, false, List, [], ◌∷◌, ◌++◌, map, length, slice_get, filter_map, Option, Some}
+use Rattle.std.specs.Prelude.{None, Contains, if◌then◌else◌, is_some}
 use Rattle.std.specs.List.{AllZip, AllByRecursion}
 use Rattle.std.specs.Str.{bytes_eq}
 use Rattle.isle_syntax.specs.declared.lexer.Pos.{Pos}
@@ -13,7 +14,8 @@ use Rattle.isle_syntax.specs.declared.ast.TypeValue.{TypeValue}
 use Rattle.isle_syntax.specs.declared.ast.TypeValue.TheVariants.{Primitive, Enum, Struct}
 use Rattle.isle_syntax.specs.declared.ast.«Type».{«Type» as TypeTree}
 use Rattle.isle_syntax.specs.declared.ast.Extern.{Extern as ExternTree}
-use Rattle.isle_syntax.specs.declared.ast.Extern.TheVariants.{Constructor as extern_constructor, Extractor as extern_extractor, Const as extern_const}
+use Rattle.isle_syntax.specs.declared.ast.Extern.TheVariants.{Constructor as extern_constructor, Extractor as extern_extractor}
+use Rattle.isle_syntax.specs.declared.ast.Extern.TheVariants.{Const as extern_const}
 use Rattle.isle_syntax.specs.declared.ast.Def.{Def}
 use Rattle.isle_syntax.specs.declared.ast.Def.TheVariants.{TypeDef, Decl, Rule, Extractor, Extern, Converter, Pragma, Kept}
 use Rattle.isle_types.specs.IntTypes.{builtin_names}
@@ -100,7 +102,8 @@ IsTupleField known tree number = slice_get known number ≡ Some tree.ty.0
 -- the fields that trees stand for; no two have one name
 abbrev pub AreFields : List (List ℕ) → Fields → FieldList → Type 0
 AreFields known no_field_trees no_fields = Unit {0}
-AreFields known (struct_field_trees trees) (named_fields fields) = AllZip (IsField known) trees.fields fields × AreDistinct (map (λ (field : List ℕ × ℕ). field.0) fields)
+AreFields known (struct_field_trees trees) (named_fields fields) = AllZip (IsField known) trees.fields fields
+    × AreDistinct (map (λ (field : List ℕ × ℕ). field.0) fields)
 AreFields known (tuple_field_trees trees) (tuple_fields numbers) = AllZip (IsTupleField known) trees.fields numbers
 AreFields known _ _ = ⊥
 
@@ -113,7 +116,8 @@ pub record IsVariant (known : List (List ℕ)) (tree : Variant) (variant : Named
 -- what a type is made of; no two variants have one name
 abbrev pub IsShape : List (List ℕ) → TypeValue → TypeShape → Type 0
 IsShape known (Primitive host _) (primitive name) = name ≡ host.0
-IsShape known (Enum trees _) (enum variants) = AllZip (IsVariant known) trees variants × AreDistinct (map (λ (variant : NamedVariant). variant.name) variants)
+IsShape known (Enum trees _) (enum variants) = AllZip (IsVariant known) trees variants
+    × AreDistinct (map (λ (variant : NamedVariant). variant.name) variants)
 IsShape known (Struct trees _) (struct fields) = AreFields known trees fields
 IsShape known _ _ = ⊥
 
@@ -189,14 +193,20 @@ numbers_in (named_fields fields) = map (λ (field : List ℕ × ℕ). field.1) f
 numbers_in (tuple_fields numbers) = numbers
 
 mutual
-  -- the type of a number has a value: a builtin or host's type has, a struct whose fields' types have, and an enum with a variant whose fields' types have
+  -- the type of a number has a value: a builtin or host's type has, a struct whose fields' types have, and an enum with a
+  -- variant whose fields' types have
   pub data IsInhabited (environment : Environment) : ℕ → Type 0 where
     builtin_inhabited : (number : ℕ) → number < length builtin_names → IsInhabited environment number
-    primitive_inhabited : (place : ℕ) (type : NamedType) (host : List ℕ) → slice_get environment.types place ≡ Some type → type.shape ≡ primitive host → IsInhabited environment (length builtin_names + place)
-    struct_inhabited : (place : ℕ) (type : NamedType) (fields : FieldList) → slice_get environment.types place ≡ Some type → type.shape ≡ struct fields → AreInhabited environment (numbers_in fields) → IsInhabited environment (length builtin_names + place)
-    variant_inhabited : (place : ℕ) (type : NamedType) (variants : List NamedVariant) (variant : NamedVariant) → slice_get environment.types place ≡ Some type → type.shape ≡ enum variants → Contains variants variant → AreInhabited environment (numbers_in variant.fields) → IsInhabited environment (length builtin_names + place)
+    primitive_inhabited : (place : ℕ) (type : NamedType) (host : List ℕ) → slice_get environment.types place ≡ Some type
+        → type.shape ≡ primitive host → IsInhabited environment (length builtin_names + place)
+    struct_inhabited : (place : ℕ) (type : NamedType) (fields : FieldList) → slice_get environment.types place ≡ Some type
+        → type.shape ≡ struct fields → AreInhabited environment (numbers_in fields) → IsInhabited environment (length builtin_names + place)
+    variant_inhabited : (place : ℕ) (type : NamedType) (variants : List NamedVariant) (variant : NamedVariant)
+        → slice_get environment.types place ≡ Some type → type.shape ≡ enum variants → Contains variants variant
+        → AreInhabited environment (numbers_in variant.fields) → IsInhabited environment (length builtin_names + place)
 
   -- so have the types of these numbers
   pub data AreInhabited (environment : Environment) : List ℕ → Type 0 where
     none_inhabited : AreInhabited environment []
-    more_inhabited : (number : ℕ) (numbers : List ℕ) → IsInhabited environment number → AreInhabited environment numbers → AreInhabited environment (number ∷ numbers)
+    more_inhabited : (number : ℕ) (numbers : List ℕ) → IsInhabited environment number → AreInhabited environment numbers
+        → AreInhabited environment (number ∷ numbers)

@@ -74,7 +74,8 @@ builtin_name (Int int) = int_name int
 
 -- the builtin types, each at the place of its id
 abbrev pub builtin_types : List BuiltinType
-builtin_types = BoolType ∷ Int U8 ∷ Int U16 ∷ Int U32 ∷ Int U64 ∷ Int U128 ∷ Int USize ∷ Int I8 ∷ Int I16 ∷ Int I32 ∷ Int I64 ∷ Int I128 ∷ Int ISize ∷ []
+builtin_types = BoolType ∷ Int U8 ∷ Int U16 ∷ Int U32 ∷ Int U64 ∷ Int U128 ∷ Int USize ∷ Int I8 ∷ Int I16 ∷ Int I32 ∷ Int I64 ∷ Int I128 ∷ Int
+    ISize ∷ []
 
 -- their names
 abbrev pub builtin_names : List (List ℕ)

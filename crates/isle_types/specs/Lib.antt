@@ -18,7 +18,9 @@ pub mod JoinedTables
 pub mod Environment
 -- Where definitions break a rule of types or constants.
 pub mod TypeFaults
--- What an environment of types holds, and which types and constants it shows.
+-- The value of an environment of types: its tables, by name.
+pub mod TypeTables
+-- What an environment of types shows: types by name, and constants.
 pub mod TypeEnvs
 -- The positions in types.
 pub mod TypePositions

@@ -4,7 +4,6 @@ use Rattle.std.specs.Option.{option_map}
 use Rattle.std.specs.List.{AllZip}
 use Rattle.isle_syntax.specs.declared.lexer.Pos.{Pos}
 use Rattle.isle_syntax.specs.declared.error.Error.{Error}
-use Rattle.isle_syntax.specs.declared.error.Error.TheVariants.{ParseError, TypeError, UnreachableError, OverlapError, ShadowedError, SizeError}
 use Rattle.isle_syntax.specs.declared.ast.Fields.{Fields as FieldTrees}
 use Rattle.isle_syntax.specs.declared.ast.Fields.TheVariants.{Struct as struct_field_trees, Tuple as tuple_field_trees}
 use Rattle.isle_syntax.specs.declared.ast.StructField.{StructField as StructFieldTree}
@@ -18,17 +17,19 @@ use Rattle.isle_types.specs.declared.types.Fields.{Fields}
 use Rattle.isle_types.specs.declared.types.Variant.{Variant}
 use Rattle.isle_types.specs.declared.types.«Type».{«Type» as KnownType}
 use Rattle.isle_types.specs.declared.types.«Type».TheVariants.{Builtin}
-use Rattle.isle_types.specs.declared.env.TypeEnv.{TypeEnv}
 use Rattle.isle_types.specs.IntTypes.{builtin_types}
 use Rattle.isle_types.specs.Types.{id_of}
-use Rattle.isle_types.specs.Names.{position_of, KeepsNames}
-use Rattle.isle_types.specs.Environment.{NamedType, NamedVariant, FieldList, IsField, IsTupleField, AreFields, IsVariant, IsType, IsConstant, constant_in, field_count, HaveAllowedSizes, HasAllowedSize}
-use Rattle.isle_types.specs.TypeFaults.{FieldsBreak, VariantsBreak, TypeBreaks, IsTypeFault, IsSizeFault}
+use Rattle.isle_types.specs.Names.{position_of}
+use Rattle.isle_types.specs.Environment.{NamedType, NamedVariant, FieldList, IsField, IsTupleField, AreFields, IsVariant, IsType, IsConstant}
+use Rattle.isle_types.specs.Environment.{constant_in, field_count, HaveAllowedSizes, HasAllowedSize}
+use Rattle.isle_types.specs.TypeFaults.{FieldsBreak, VariantsBreak, TypeBreaks, IsTypeOrSize, IsTypeFault, IsSizeFault}
 pub use Rattle.isle_types.specs.TypeFaults.{AreTypeFaults, IsLoneSizeFault}
-use Rattle.isle_types.specs.TypeEnvs.{names_of, types_of, errors_of, type_of_name, type_of_constant, type_at, CountUp, IsShownField, IsShownTupleField, AreShownFields, IsShownVariant, IsShown}
+use Rattle.isle_types.specs.TypeTables.{TypeTables}
+use Rattle.isle_types.specs.TypeEnvs.{type_of_name, type_of_constant, type_at, CountUp, IsShownField, IsShownTupleField, AreShownFields}
+use Rattle.isle_types.specs.TypeEnvs.{IsShownVariant, IsShown}
 
 -- its table of types has exactly these names, each with its place
-abbrev pub HasTypeNames : TypeEnv → List (List ℕ) → Type 0
+abbrev pub HasTypeNames : TypeTables → List (List ℕ) → Type 0
 HasTypeNames env known = (name : List ℕ) → type_of_name env name ≡ option_map type_at (position_of known name)
 
 -- named fields are those of their trees
@@ -77,23 +78,14 @@ pub record ReadsTypes (known names : List (List ℕ)) (trees : List TypeTree) (m
   pub shown : AllZip (IsShown names) types made
 
 -- constants are those of their definitions
-pub record ReadsConstants (known : List (List ℕ)) (env : TypeEnv) (trees : List (Ident × Ident)) : Type 0 where
+pub record ReadsConstants (known : List (List ℕ)) (env : TypeTables) (trees : List (Ident × Ident)) : Type 0 where
   pub constants : List (List ℕ × ℕ)
   pub meant : AllZip (IsConstant known) trees constants
   pub shown : (name : List ℕ) → type_of_constant env name ≡ option_map type_at (constant_in constants name)
 
--- a type error where a rule is broken, or a size error where a size is exceeded
-abbrev pub IsReadingFault : (Pos → Type 0) → (Pos → Type 0) → Error → Type 0
-IsReadingFault Broken Passed (TypeError _ span) = Broken span.from
-IsReadingFault Broken Passed (SizeError _ span) = Passed span.from
-IsReadingFault Broken Passed (ParseError _ _) = ⊥
-IsReadingFault Broken Passed (UnreachableError _ _) = ⊥
-IsReadingFault Broken Passed (OverlapError _ _) = ⊥
-IsReadingFault Broken Passed (ShadowedError _ _) = ⊥
-
 -- a fault of fields in the definition at a position
 abbrev pub IsFieldsFault : List (List ℕ) → Pos → FieldTrees → Error → Type 0
-IsFieldsFault known here fields = IsReadingFault (FieldsBreak known fields) (λ pos. (pos ≡ here) × (255 < field_count fields))
+IsFieldsFault known here fields = IsTypeOrSize (FieldsBreak known fields) (λ pos. (pos ≡ here) × (255 < field_count fields))
 
 -- a fault of named fields: at a rule that they break
 abbrev pub IsStructFieldsFault : List (List ℕ) → List StructFieldTree → Error → Type 0
@@ -105,11 +97,11 @@ IsTupleFieldsFault known trees = IsTypeFault (FieldsBreak known (tuple_field_tre
 
 -- a fault of variants in the definition at a position
 abbrev pub IsVariantsFault : List (List ℕ) → Pos → List VariantTree → Error → Type 0
-IsVariantsFault known here variants = IsReadingFault (VariantsBreak known variants) (λ pos. (pos ≡ here) × (HaveAllowedSizes variants → ⊥))
+IsVariantsFault known here variants = IsTypeOrSize (VariantsBreak known variants) (λ pos. (pos ≡ here) × (HaveAllowedSizes variants → ⊥))
 
 -- a fault of a definition of a type
 abbrev pub IsDefinitionFault : List (List ℕ) → TypeTree → Error → Type 0
-IsDefinitionFault known tree = IsReadingFault (TypeBreaks known tree) (λ pos. (pos ≡ tree.pos) × (HasAllowedSize tree.ty → ⊥))
+IsDefinitionFault known tree = IsTypeOrSize (TypeBreaks known tree) (λ pos. (pos ≡ tree.pos) × (HasAllowedSize tree.ty → ⊥))
 
 -- a type error at a position
 abbrev pub IsTypeErrorAt : Pos → Error → Type 0
@@ -120,32 +112,8 @@ abbrev pub IsSizeErrorAt : Pos → Error → Type 0
 IsSizeErrorAt here error = IsSizeFault (λ pos. pos ≡ here) error
 
 -- the types that were read, if nothing is wrong so far: their ids count up, and each is that of its definition
-pub record HasReadTypes (trees : List TypeTree) (known : List (List ℕ)) (env : TypeEnv) : Type 0 where
+pub record HasReadTypes (trees : List TypeTree) (known : List (List ℕ)) (env : TypeTables) : Type 0 where
   pub made : List KnownType
-  pub all : types_of env ≡ map Builtin builtin_types ++ made
-  pub read : ReadsTypes known (names_of env) trees made
-  pub counted : CountUp (λ (type : KnownType). (id_of type).0) 0 (types_of env)
-
--- all but the table of types and the interned names is as it was
-pub record SameButTypes (old new : TypeEnv) : Type 0 where
-  pub types : types_of new ≡ types_of old
-  pub constants : (name : List ℕ) → type_of_constant new name ≡ type_of_constant old name
-
--- so are the errors
-pub record SameButNames (old new : TypeEnv) : Type 0 where
-  pub types : types_of new ≡ types_of old
-  pub errors : errors_of new ≡ errors_of old
-  pub constants : (name : List ℕ) → type_of_constant new name ≡ type_of_constant old name
-
--- all but the errors is as it was
-pub record SameButErrors (old new : TypeEnv) : Type 0 where
-  pub names : names_of new ≡ names_of old
-  pub types : types_of new ≡ types_of old
-  pub named : (name : List ℕ) → type_of_name new name ≡ type_of_name old name
-  pub constants : (name : List ℕ) → type_of_constant new name ≡ type_of_constant old name
-
--- all but the table of constants and the errors is as it was, and names are kept
-pub record SameButConstants (old new : TypeEnv) : Type 0 where
-  pub names : KeepsNames (names_of old) (names_of new)
-  pub types : types_of new ≡ types_of old
-  pub named : (name : List ℕ) → type_of_name new name ≡ type_of_name old name
+  pub all : env.types ≡ map Builtin builtin_types ++ made
+  pub read : ReadsTypes known env.names trees made
+  pub counted : CountUp (λ (type : KnownType). (id_of type).0) 0 env.types

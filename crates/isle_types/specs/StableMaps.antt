@@ -2,6 +2,7 @@
 use Rattle.std.specs.Prelude.{◌≡◌, ℕ, Bool, List, reverse, Option, String, bytes_eq, string_bytes}
 use Rattle.std.specs.List.{list_any, IsDistinct, AllZip}
 use Rattle.std.specs.Map.{keys_of, lookup}
+use Rattle.std.specs.Iterator.Runs.{WholeRun}
 
 -- whether a member is equal to x
 abbrev pub has : {T : Type 0} → (T → T → Bool) → List T → T → Bool
@@ -26,3 +27,9 @@ AreClones key_is_clone value_is_clone old new = AllZip (λ e f. key_is_clone e.0
 -- at each key the entries have the value of the last pair with this key, and no two have equal keys
 abbrev pub HoldsLastOf : {K V : Type 0} → (K → K → Bool) → List (K × V) → List (K × V) → Type 0
 HoldsLastOf {K} eq pairs entries = ((k : K) → value_at eq entries k ≡ value_at eq (reverse pairs) k) × HasDistinctKeys eq entries
+
+-- the entries of the pairs that an iterator made of `source` gives to its end: of two pairs with equal keys the later counts
+abbrev pub AreEntriesOf : {K V Source Iterator : Type 0} → (K → K → Bool) → (Source → Iterator → Type 0)
+    → (Iterator → Option (K × V) → Iterator → Type 0) → Source → List (K × V) → Type 0
+AreEntriesOf {K} {V} {Source} {Iterator} eq makes steps source entries = (iterator : Iterator) × makes source iterator
+    × WholeRun steps iterator (λ run. HoldsLastOf eq run.items entries)

@@ -1,15 +1,14 @@
--- What an environment of types holds, and which types and constants it shows.
-use Rattle.std.specs.Prelude.{◌≡◌, ℕ, suc, Bool, true, false, List, [], ◌∷◌, ◌++◌, map, All, Option, Some, slice_get, codes}
+-- What an environment of types shows: types by name, and constants.
+use Rattle.std.specs.Prelude.{◌≡◌, ℕ, suc, Bool, List, [], ◌∷◌, ◌++◌, map, All, Option, Some, slice_get, codes}
 use Rattle.std.specs.Option.{option_map, option_and_then}
 use Rattle.std.specs.List.{AllZip}
+use Rattle.std.specs.Str.{bytes_eq}
 use Rattle.isle_types.specs.declared.ids.Sym.{Sym}
 use Rattle.isle_types.specs.declared.ids.TypeId.{TypeId}
 use Rattle.isle_types.specs.declared.ids.VariantId.{VariantId}
 use Rattle.isle_syntax.specs.Positions.Files.{SourceFile}
 use Rattle.isle_syntax.specs.Positions.Printable.{IsPrintablePos}
 use Rattle.isle_syntax.specs.Errors.{IsPrintable}
-use Rattle.isle_syntax.specs.declared.error.Error.{Error}
-use Rattle.isle_syntax.specs.declared.error.Error.TheVariants.{SizeError}
 use Rattle.isle_types.specs.declared.types.StructField.{StructField}
 use Rattle.isle_types.specs.declared.types.TupleField.{TupleField}
 use Rattle.isle_types.specs.declared.types.Fields.{Fields}
@@ -17,35 +16,20 @@ use Rattle.isle_types.specs.declared.types.Fields.TheVariants.{Unit as NoFields,
 use Rattle.isle_types.specs.declared.types.Variant.{Variant}
 use Rattle.isle_types.specs.declared.types.«Type».{«Type» as KnownType}
 use Rattle.isle_types.specs.declared.types.«Type».TheVariants.{Builtin, Primitive, Enum, Struct}
-use Rattle.isle_types.specs.declared.env.TypeEnv.{TypeEnv}
 use Rattle.isle_types.specs.IntTypes.{builtin_name, builtin_types}
 use Rattle.isle_types.specs.Types.{id_of}
-use Rattle.isle_types.specs.Names.{position_of, KeepsNames}
-use Rattle.isle_types.specs.Interned.{entry_of}
-use Rattle.isle_types.specs.Environment.{Environment, NamedType, NamedVariant, FieldList, no_fields, named_fields, tuple_fields, TypeShape, primitive, enum, struct, names_in, constant_in}
+use Rattle.isle_types.specs.Names.{position_of, KeepsNames, AreDistinct}
+use Rattle.isle_types.specs.StableMaps.{value_at}
+use Rattle.isle_types.specs.TypeTables.{TypeTables}
+use Rattle.isle_syntax.specs.declared.ast.Def.{Def}
+use Rattle.isle_types.specs.Environment.{Environment, Makes, NamedType, NamedVariant, FieldList, no_fields, named_fields, tuple_fields, TypeShape}
+use Rattle.isle_types.specs.Environment.{primitive, enum, struct, names_in, constant_in}
 use Rattle.isle_types.specs.TypePositions.{TypeAt}
 
--- the errors that it keeps, in the order in which they came
-abbrev pub errors_of : TypeEnv → List Error
-errors_of env = env.errors.items
-
--- its types, each at the place of its id
-abbrev pub types_of : TypeEnv → List KnownType
-types_of env = env.types.items
-
--- the interned names, each at the place of its symbol
-abbrev pub names_of : TypeEnv → List (List ℕ)
-names_of env = env.symbols
-
 -- the positions of its types and its errors can be printed
-pub record HasPrintablePositions (files : List SourceFile) (env : TypeEnv) : Type 0 where
-  pub types : All (TypeAt (IsPrintablePos files)) (types_of env)
-  pub errors : All (IsPrintable files) (errors_of env)
-
--- whether an error is a size error
-abbrev pub is_size_error : Error → Bool
-is_size_error (SizeError _ _) = true
-is_size_error _ = false
+pub record HasPrintablePositions (files : List SourceFile) (env : TypeTables) : Type 0 where
+  pub types : All (TypeAt (IsPrintablePos files)) env.types
+  pub errors : All (IsPrintable files) env.errors
 
 -- the symbol of a place
 abbrev pub symbol_at : ℕ → Sym
@@ -56,35 +40,28 @@ abbrev pub type_at : ℕ → TypeId
 type_at number = record { 0 = number }
 
 -- the symbol of a name
-abbrev pub sym_named : TypeEnv → List ℕ → Option Sym
-sym_named env name = option_map symbol_at (position_of (names_of env) name)
+abbrev pub sym_named : TypeTables → List ℕ → Option Sym
+sym_named env name = option_map symbol_at (position_of env.names name)
 
 -- the name of a symbol
-abbrev pub name_of : TypeEnv → Sym → Option (List ℕ)
-name_of env sym = slice_get (names_of env) sym.0
-
--- what a table from symbols has at a name
-abbrev pub entry_named : TypeEnv → List (Sym × TypeId) → List ℕ → Option TypeId
-entry_named env table name = option_and_then (entry_of table) (sym_named env name)
+abbrev pub name_of : TypeTables → Sym → Option (List ℕ)
+name_of env sym = slice_get env.names sym.0
 
 -- the type of a name
-abbrev pub type_of_name : TypeEnv → List ℕ → Option TypeId
-type_of_name env name = entry_named env env.type_map name
+abbrev pub type_of_name : TypeTables → List ℕ → Option TypeId
+type_of_name env name = value_at bytes_eq env.numbers name
 
 -- the type of the constant of a name
-abbrev pub type_of_constant : TypeEnv → List ℕ → Option TypeId
-type_of_constant env name = entry_named env env.const_types name
+abbrev pub type_of_constant : TypeTables → List ℕ → Option TypeId
+type_of_constant env name = value_at bytes_eq env.constants name
 
--- the names are kept, and each table has at each name what it had
-pub record SameTables (old new : TypeEnv) : Type 0 where
-  pub names : KeepsNames (names_of old) (names_of new)
-  pub types : types_of new ≡ types_of old
-  pub errors : errors_of new ≡ errors_of old
-  pub named : (name : List ℕ) → type_of_name new name ≡ type_of_name old name
-  pub constants : (name : List ℕ) → type_of_constant new name ≡ type_of_constant old name
+-- names may have come, and none has gone; all else is as it was
+pub record HasMoreNames (old new : TypeTables) : Type 0 where
+  pub kept : KeepsNames old.names new.names
+  pub same : new ≡ record old { names = new.names }
 
 -- the name that a type's values have in the host: a builtin type's own, and else the name of its symbol
-abbrev pub type_name : TypeEnv → KnownType → Option (List ℕ)
+abbrev pub type_name : TypeTables → KnownType → Option (List ℕ)
 type_name env (Builtin builtin) = Some (builtin_name builtin)
 type_name env (Primitive id name pos) = name_of env name
 type_name env (Enum name id is_extern is_nodebug variants pos) = name_of env name
@@ -98,8 +75,8 @@ variants_of (Enum name id is_extern is_nodebug variants pos) = variants
 variants_of (Struct name id is_extern is_nodebug fields pos) = []
 
 -- a variant of a type
-abbrev pub variant_of : TypeEnv → TypeId → VariantId → Option Variant
-variant_of env ty variant = option_and_then (λ (type : KnownType). slice_get (variants_of type) variant.0) (slice_get (types_of env) ty.0)
+abbrev pub variant_of : TypeTables → TypeId → VariantId → Option Variant
+variant_of env ty variant = option_and_then (λ (type : KnownType). slice_get (variants_of type) variant.0) (slice_get env.types ty.0)
 
 -- the numbers of the items count up from n
 abbrev pub CountUp : {X : Type 0} → (X → ℕ) → ℕ → List X → Type 0
@@ -118,8 +95,10 @@ IsShownTupleField number made = made.ty.0 ≡ number
 -- fields, whose ids count up
 abbrev pub AreShownFields : List (List ℕ) → FieldList → Fields → Type 0
 AreShownFields names no_fields NoFields = Unit {0}
-AreShownFields names (named_fields fields) (NamedFields made) = AllZip (IsShownField names) fields made.fields × CountUp (λ (field : StructField). field.id.0) 0 made.fields
-AreShownFields names (tuple_fields numbers) (UnnamedFields made) = AllZip IsShownTupleField numbers made.fields × CountUp (λ (field : TupleField). field.id.0) 0 made.fields
+AreShownFields names (named_fields fields) (NamedFields made) = AllZip (IsShownField names) fields made.fields
+    × CountUp (λ (field : StructField). field.id.0) 0 made.fields
+AreShownFields names (tuple_fields numbers) (UnnamedFields made) = AllZip IsShownTupleField numbers made.fields
+    × CountUp (λ (field : TupleField). field.id.0) 0 made.fields
 AreShownFields names _ _ = ⊥
 
 -- a variant of the type of a name; its full name is `type.variant`
@@ -142,8 +121,10 @@ pub record IsShownAs (names : List (List ℕ)) (type : NamedType) (sym : Sym) (e
 -- what a type is made of
 abbrev pub IsShownShape : List (List ℕ) → NamedType → TypeShape → KnownType → Type 0
 IsShownShape names type (primitive host) (Primitive id name pos) = slice_get names name.0 ≡ Some host
-IsShownShape names type (enum variants) (Enum name id is_extern is_nodebug made pos) = IsShownAs names type name is_extern is_nodebug × AreShownVariants names type.name variants made
-IsShownShape names type (struct fields) (Struct name id is_extern is_nodebug made pos) = IsShownAs names type name is_extern is_nodebug × AreShownFields names fields made
+IsShownShape names type (enum variants) (Enum name id is_extern is_nodebug made pos) = IsShownAs names type name is_extern is_nodebug
+    × AreShownVariants names type.name variants made
+IsShownShape names type (struct fields) (Struct name id is_extern is_nodebug made pos) = IsShownAs names type name is_extern is_nodebug
+    × AreShownFields names fields made
 IsShownShape names type _ _ = ⊥
 
 -- where a defined type stands
@@ -159,10 +140,17 @@ pub record IsShown (names : List (List ℕ)) (type : NamedType) (made : KnownTyp
   pub pos : StandsAt made type
 
 -- an environment of types shows this one: its types in order, whose ids count up, and its tables of names
-pub record Shows (env : TypeEnv) (environment : Environment) : Type 0 where
+pub record Shows (env : TypeTables) (environment : Environment) : Type 0 where
   pub made : List KnownType
-  pub all : types_of env ≡ map Builtin builtin_types ++ made
-  pub types : AllZip (IsShown (names_of env)) environment.types made
-  pub counted : CountUp (λ (type : KnownType). (id_of type).0) 0 (types_of env)
+  pub all : env.types ≡ map Builtin builtin_types ++ made
+  pub types : AllZip (IsShown env.names) environment.types made
+  pub counted : CountUp (λ (type : KnownType). (id_of type).0) 0 env.types
   pub named : (name : List ℕ) → type_of_name env name ≡ option_map type_at (position_of (names_in environment) name)
   pub constants : (name : List ℕ) → type_of_constant env name ≡ option_map type_at (constant_in environment.constants name)
+
+-- an environment of types is that of definitions: it shows what they make, and each name is interned once
+pub record IsEnvironmentOf (defs : List Def) (env : TypeTables) : Type 0 where
+  pub environment : Environment
+  pub makes : Makes defs environment
+  pub shows : Shows env environment
+  pub once : AreDistinct env.names

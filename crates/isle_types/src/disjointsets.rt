@@ -1,5 +1,6 @@
 //! Sets of items that share no member, for equalities between items.
-ghost use Rattle.std.specs.Prelude.{◌≡◌, ◌+◌, ◌≤◌, ◌<◌, ◌||◌, ◌&&◌, ◌++◌, if◌then◌else◌, not, true, false, length, [], IfOk, OnOk, OnErr, Some, None, IsTrue, ◌↔◌, unwrap_or, IsPermutation, IsSorted};
+ghost use Rattle.std.specs.Prelude.{◌≡◌, ◌+◌, ◌≤◌, ◌<◌, ◌||◌, ◌&&◌, ◌++◌, if◌then◌else◌, not, true, false, length, [], IfOk, OnOk, OnErr, Some};
+ghost use Rattle.std.specs.Prelude.{None, IsTrue, ◌↔◌, unwrap_or, IsPermutation, IsSorted};
 ghost use Rattle.std.specs.HashMap.{get, spare, IsUnique};
 ghost use Rattle.isle_types.specs.JoinedSets.{set_of, representative, are_joined, comes_together, members, with_member, AreDisjoint, AreSameSets};
 ghost use Rattle.isle_types.specs.JoinedTables.{entered, relabeled, without, members_at, IsReorderedTable};

@@ -1,6 +1,3 @@
-ghost use Rattle.isle_types.specs.Names.{AreDistinct};
-ghost use Rattle.isle_types.specs.Interned.{AreInterned};
-
 mod errors;
 mod fields;
 mod lookup;
@@ -12,9 +9,10 @@ use crate::symbols::Symbols;
 use crate::types::Type;
 use isle_syntax::error::Error;
 use std::alloc::Global;
+use std::marker::Model;
 
 /// The types and constants of a list of definitions, and the names interned for them:
-/// `cranelift_isle::sema::TypeEnv`.
+/// `cranelift_isle::sema::TypeEnv`. Contracts see its tables, by name.
 #[derive(Debug, Drop)]
 pub struct TypeEnv {
     alloc: Global,
@@ -23,7 +21,20 @@ pub struct TypeEnv {
     type_map: StableMap<Sym, TypeId>,
     const_types: StableMap<Sym, TypeId>,
     errors: Vec<Error>,
-    ghost names_are_distinct: { AreDistinct symbols },
-    ghost types_are_interned: { AreInterned symbols type_map },
-    ghost constants_are_interned: { AreInterned symbols const_types },
+}
+
+impl Model for TypeEnv {
+    ghost use Rattle.isle_types.specs.TypeTables.{TypeTables, by_name, AreTablesOf};
+
+    ghost Value = { TypeTables };
+
+    ghost view = { λ env. record {
+      names = env.symbols;
+      types = env.types.items;
+      numbers = by_name env.symbols env.type_map;
+      constants = by_name env.symbols env.const_types;
+      errors = env.errors.items;
+    } };
+
+    ghost invariant = { λ env. AreTablesOf env.symbols env.type_map env.const_types };
 }

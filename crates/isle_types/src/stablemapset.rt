@@ -1,10 +1,10 @@
 //! A set and a map that can't be walked, so that no result depends on the order of a hashed table.
-ghost use Rattle.std.specs.Prelude.{◌≡◌, ◌||◌, [], ◌∷◌, length, not, false, is_some, Some, None, if◌then◌else◌, IsPermutation, MatchBool, MatchOption, IsSome, IfOk, OnOk, OnErr, option_copied};
+ghost use Rattle.std.specs.Prelude.{◌≡◌, ◌||◌, [], ◌∷◌, length, not, false, is_some, Some, None, if◌then◌else◌, IsPermutation, MatchBool};
+ghost use Rattle.std.specs.Prelude.{MatchOption, IsSome, IfOk, OnOk, OnErr, option_copied};
 ghost use Rattle.std.specs.List.{IsDistinct, AllZip};
 ghost use Rattle.std.specs.Map.{set_value, KeepsOthers};
 ghost use Rattle.std.specs.Iterator.{IsFiniteIterable};
-ghost use Rattle.std.specs.Iterator.Runs.{WholeRun};
-ghost use Rattle.isle_types.specs.StableMaps.{has, value_at, value_at_text, HasDistinctKeys, HoldsLastOf, AreClones};
+ghost use Rattle.isle_types.specs.StableMaps.{has, value_at, value_at_text, HasDistinctKeys, AreEntriesOf, AreClones};
 
 use std::alloc::{AllocError, Global};
 use std::collections::{HashMap, HashSet};
@@ -105,7 +105,7 @@ impl<K: Eq + Hash, V> StableMap<K, V> {
         K: Drop,
         V: Drop,
         requires ends { IsFiniteIterable I.into_iter_gives I.IntoIter.can_next I.IntoIter.remaining pairs }
-        ensures made { IfOk result (λ map. (it : I.IntoIter) × I.into_iter_gives pairs it × WholeRun I.IntoIter.next_gives it (λ run. HoldsLastOf K.eq run.items map)) }
+        ensures made { IfOk result (AreEntriesOf K.eq I.into_iter_gives I.IntoIter.next_gives pairs) }
     {
         Ok(StableMap(pairs.into_iter().collect(alloc)?))
     }
@@ -118,7 +118,8 @@ impl<K: Eq + Hash, V> StableMap<K, V> {
         V: Drop,
         ensures old { IfOk result (λ old. old ≡ value_at K.eq self.old k) }
         ensures values { OnOk result ((q : K) → value_at K.eq self.new q ≡ (if K.eq k q then Some v else value_at K.eq self.old q)) }
-        ensures entries { IfOk result (λ old. MatchOption old (IsPermutation ((k, v) ∷ self.old) self.new) (λ _. self.new ≡ set_value (K.eq k) self.old v)) }
+        ensures entries { IfOk result (λ old. MatchOption old (IsPermutation ((k, v) ∷ self.old) self.new)
+            (λ _. self.new ≡ set_value (K.eq k) self.old v)) }
         // A query for other keys, as `get_text` makes, finds what it found before.
         ensures others { OnOk result (KeepsOthers K.eq (K.eq k) self.old self.new) }
         ensures refused { OnErr result (value_at K.eq self.old k ≡ None) }

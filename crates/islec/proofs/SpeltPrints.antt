@@ -5,7 +5,8 @@ use Rattle.isle_syntax.specs.Positions.Files.{SourceFile}
 use Rattle.isle_run.specs.Compiled.{AreSpelt}
 use Rattle.islec.specs.Formatting.{Prints}
 
-pub Prints-spelt : (width first : ℕ) (files : List SourceFile) (out : List ℕ) → Prints width first files out → (defs : List Def) × AreSpelt first files defs
+pub Prints-spelt : (width first : ℕ) (files : List SourceFile) (out : List ℕ) → Prints width first files out → (defs : List Def)
+    × AreSpelt first files defs
 Prints-spelt width first [] out printed = ([], refl)
 Prints-spelt width first (file ∷ others) out printed =
     let these = printed.2 in

@@ -8,8 +8,6 @@ pub mod perform;
 pub mod program;
 pub mod serve;
 pub mod status;
-#[cfg(test)]
-mod tests;
 
 use std::process::ExitCode;
 

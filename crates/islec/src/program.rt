@@ -9,7 +9,7 @@ use std::rt::Files;
 use std::{env, fs, io};
 
 /// Why the command was not begun.
-#[derive(Debug, Drop)]
+#[derive(Drop)]
 enum Unbegun {
     /// The words are no command, or ask for help.
     Usage(clap::Error),

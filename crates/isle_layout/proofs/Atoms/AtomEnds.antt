@@ -8,13 +8,15 @@ use Rattle.isle_syntax.specs.declared.lexer.Token.{Token}
 use Rattle.isle_syntax.specs.declared.lexer.Token.TheVariants.{Symbol}
 use Rattle.isle_syntax.specs.Tokens.Gaps.{lead_of, lead_of_token, begins_semicolon, after_first, run_of, after_run}
 use Rattle.isle_syntax.specs.Tokens.Names.{is_space}
-use Rattle.isle_syntax.specs.Tokens.Integers.{unsigned_of, radix_named, radix_of, behind_prefix, continues_digits, digits_of, after_integer, digits_token, integer_of}
+use Rattle.isle_syntax.specs.Tokens.Integers.{unsigned_of, radix_named, radix_of, behind_prefix, continues_digits, digits_of, after_integer}
+use Rattle.isle_syntax.specs.Tokens.Integers.{digits_token, integer_of}
 use Rattle.isle_syntax.specs.Tokens.TokensOf.{continues_symbol, IsToken, opening, closing, at_sign, integer, word}
 use Rattle.isle_layout.specs.SExprTokens.{ends_atom}
 
 -- ---- the bytes that end an atom
 
-by_tests : (P : ℕ → Type 0) → P 10 → P 32 → P 41 → (b : ℕ) (newline space parenthesis : Bool) → b == 10 ≡ newline → b == 32 ≡ space → b == 41 ≡ parenthesis → newline || space || parenthesis ≡ true → P b
+by_tests : (P : ℕ → Type 0) → P 10 → P 32 → P 41 → (b : ℕ) (newline space parenthesis : Bool) → b == 10 ≡ newline → b == 32 ≡ space
+    → b == 41 ≡ parenthesis → newline || space || parenthesis ≡ true → P b
 by_tests P n s p b true space parenthesis e f g h = subst P (sym (eqb-true b 10 e)) n
 by_tests P n s p b false true parenthesis e f g h = subst P (sym (eqb-true b 32 f)) s
 by_tests P n s p b false false true e f g h = subst P (sym (eqb-true b 41 g)) p
@@ -32,7 +34,9 @@ no_comment (b ∷ bs) h = by_end (λ c. c == 59 ≡ false) refl refl refl b bs h
 -- ---- what a text begins with
 
 lead_alone : (b : ℕ) (rest : List ℕ) → ends_atom rest ≡ true → lead_of (b ∷ rest) ≡ lead_of (b ∷ [])
-lead_alone b rest h = ap (λ t. cond (is_space b) Lead.Space (cond (b == 59) Lead.Line (cond (b == 40) (cond t Lead.Comment Lead.Opening) (lead_of_token b)))) (no_comment rest h)
+lead_alone b rest h =
+    ap (λ t. cond (is_space b) Lead.Space (cond (b == 59) Lead.Line (cond (b == 40) (cond t Lead.Comment Lead.Opening) (lead_of_token b))))
+    (no_comment rest h)
 
 lead_followed : (b : ℕ) (bs rest : List ℕ) → ends_atom rest ≡ true → lead_of (b ∷ (bs ++ rest)) ≡ lead_of (b ∷ bs)
 lead_followed b [] rest h = lead_alone b rest h
@@ -148,7 +152,8 @@ no_lead : (k : Lead) → ¬ (k ≡ Lead.End) → ¬ (lead_of [] ≡ k)
 no_lead k other e = other (sym e)
 
 -- the token at the front of a text is still there where a text that ends an atom follows
-pub token_followed : {text more : List ℕ} {token : Token} (rest : List ℕ) → ends_atom rest ≡ true → IsToken text token more → IsToken (text ++ rest) token (more ++ rest)
+pub token_followed : {text more : List ℕ} {token : Token} (rest : List ℕ) → ends_atom rest ≡ true → IsToken text token more
+    → IsToken (text ++ rest) token (more ++ rest)
 token_followed rest h (opening {text = []} e) = absurd (no_lead Lead.Opening (λ k. cc k) e)
 token_followed rest h (opening {text = b ∷ bs} e) = opening (lead_followed b bs rest h ∙ e)
 token_followed rest h (closing {text = []} e) = absurd (no_lead Lead.Closing (λ k. cc k) e)
@@ -165,8 +170,10 @@ token_followed rest h (word {text = b ∷ bs} e) =
     let run = run_followed continues_symbol (b ∷ bs) rest s in
     let after = after_run_followed continues_symbol (b ∷ bs) rest s in
     subst (λ (q : List ℕ). IsToken ((b ∷ bs) ++ rest) (Symbol (run_of continues_symbol (b ∷ bs))) q) after
-    (subst (λ (q : List ℕ). IsToken ((b ∷ bs) ++ rest) (Symbol q) (after_run continues_symbol ((b ∷ bs) ++ rest))) run (word (lead_followed b bs rest h ∙ e)))
+    (subst (λ (q : List ℕ). IsToken ((b ∷ bs) ++ rest) (Symbol q) (after_run continues_symbol ((b ∷ bs) ++ rest))) run
+    (word (lead_followed b bs rest h ∙ e)))
 
 -- a text of one token is a token before each such text
-pub atom_followed : (text : List ℕ) (token : Token) (rest : List ℕ) → IsToken text token [] → ends_atom rest ≡ true → IsToken (text ++ rest) token rest
+pub atom_followed : (text : List ℕ) (token : Token) (rest : List ℕ) → IsToken text token [] → ends_atom rest ≡ true
+    → IsToken (text ++ rest) token rest
 atom_followed text token rest t h = token_followed rest h t

@@ -14,7 +14,8 @@ use Rattle.isle_layout.specs.SExprTokens.{SpellsAtom}
 use Rattle.isle_layout.specs.Spellings.{integer_text}
 use Rattle.isle_layout.proofs.Atoms.AtomTexts.{one_token, symbol_token, whole_symbol, at_sign_token}
 use Rattle.isle_layout.proofs.Atoms.IdentifierTexts.{ident_begins, no_ident, name_is_ident, const_is_ident}
-use Rattle.isle_layout.proofs.Atoms.IntegerTexts.{signed_token, large_token, integer_text_token, literal_of, literal_token, literal_bits, literal_large}
+use Rattle.isle_layout.proofs.Atoms.IntegerTexts.{signed_token, large_token, integer_text_token, literal_of, literal_token, literal_bits}
+use Rattle.isle_layout.proofs.Atoms.IntegerTexts.{literal_large}
 
 -- a text that is this token
 pub atom_reading : (text : List ℕ) (t : Token) (ts : List Placed) → IsToken text t [] → SpellsAtom text ts → (p : Pos) × (ts ≡ placed_at p t ∷ [])
@@ -60,7 +61,8 @@ literal_placed p (small z) = refl
 literal_placed p (large n) = refl
 
 -- an integer of a tree, a `big` one of which is negative as 128 bits
-pub integer_reading : (val : ℤ) (big : Bool) (ts : List Placed) → FitsSigned w128 val → (not big || int_lt val (pos 0)) ≡ true → SpellsAtom (integer_text val big) ts → (p : Pos) × SpellsInteger val big p ts
+pub integer_reading : (val : ℤ) (big : Bool) (ts : List Placed) → FitsSigned w128 val → (not big || int_lt val (pos 0)) ≡ true
+    → SpellsAtom (integer_text val big) ts → (p : Pos) × SpellsInteger val big p ts
 integer_reading val big ts f e a =
     let n = literal_of val big in
     let r = atom_reading (integer_text val big) (literal_token n) ts (integer_text_token val big f e) a in

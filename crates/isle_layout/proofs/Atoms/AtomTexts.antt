@@ -42,7 +42,8 @@ pub symbol_token : (s : List ℕ) → is_symbol s ≡ true → IsToken s (Symbol
 symbol_token [] e = absurd (cc)
 symbol_token (b ∷ bs) e =
     let first = and_first (begins_symbol b) (list_all continues_symbol bs) e in
-    let all : list_all continues_symbol (b ∷ bs) ≡ true = rw (begins_continues b first) (and_second (begins_symbol b) (list_all continues_symbol bs) e) in
+    let all : list_all continues_symbol (b ∷ bs) ≡ true =
+    rw (begins_continues b first) (and_second (begins_symbol b) (list_all continues_symbol bs) e) in
     subst (λ s. IsToken (b ∷ bs) (Symbol s) []) (run_all continues_symbol (b ∷ bs) all)
     (subst (IsToken (b ∷ bs) (Symbol (run_of continues_symbol (b ∷ bs)))) (after_all continues_symbol (b ∷ bs) all) (word (begins_word b bs first)))
 
@@ -50,7 +51,8 @@ symbol_token (b ∷ bs) e =
 pub whole_symbol : (b : ℕ) (bs : List ℕ) {t : Token} → begins_symbol b ≡ true → IsToken (b ∷ bs) t [] → t ≡ Symbol (b ∷ bs)
 whole_symbol b bs e i =
     let same = one_token i (word (begins_word b bs e)) in
-    same.0 ∙ ap (λ s. Symbol s) (sym (run_whole continues_symbol (b ∷ bs) ∙ ap (λ rest. run_of continues_symbol (b ∷ bs) ++ rest) (sym same.1) ∙ append-nil (run_of continues_symbol (b ∷ bs))))
+    same.0 ∙ ap (λ s. Symbol s) (sym (run_whole continues_symbol (b ∷ bs) ∙ ap (λ rest. run_of continues_symbol (b ∷ bs) ++ rest) (sym same.1)
+    ∙ append-nil (run_of continues_symbol (b ∷ bs))))
 
 -- the sign `@`
 pub at_sign_token : IsToken (64 ∷ []) At []

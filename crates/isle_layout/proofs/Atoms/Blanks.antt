@@ -12,30 +12,36 @@ use Rattle.isle_layout.specs.SExprTokens.{ends_atom}
 
 -- ---- white space
 
-before : {source : Source} {text blank : List ℕ} {left : List Placed} {end : ℕ} {clean : Bool} → ((rest : List ℕ) → IsGap text rest → IsGap blank rest) → TokensOf source text left end clean
+before : {source : Source} {text blank : List ℕ} {left : List Placed} {end : ℕ} {clean : Bool}
+    → ((rest : List ℕ) → IsGap text rest → IsGap blank rest) → TokensOf source text left end clean
     → TokensOf source blank left end clean
 before gap (ended g) = ended (gap _ g)
 before gap (stopped g some none_begins) = stopped (gap _ g) some none_begins
 before gap (token g t more) = token (gap _ g) t more
 
 -- the tokens behind a space, and behind a newline
-pub behind_space : {source : Source} {text : List ℕ} {left : List Placed} {end : ℕ} {clean : Bool} → TokensOf source text left end clean → TokensOf source (32 ∷ text) left end clean
+pub behind_space : {source : Source} {text : List ℕ} {left : List Placed} {end : ℕ} {clean : Bool} → TokensOf source text left end clean
+    → TokensOf source (32 ∷ text) left end clean
 behind_space {text = text} t = before (λ rest g. space {text = 32 ∷ text} refl g) t
 
-pub behind_newline : {source : Source} {text : List ℕ} {left : List Placed} {end : ℕ} {clean : Bool} → TokensOf source text left end clean → TokensOf source (10 ∷ text) left end clean
+pub behind_newline : {source : Source} {text : List ℕ} {left : List Placed} {end : ℕ} {clean : Bool} → TokensOf source text left end clean
+    → TokensOf source (10 ∷ text) left end clean
 behind_newline {text = text} t = before (λ rest g. space {text = 10 ∷ text} refl g) t
 
-behind_spaces : (n : ℕ) {source : Source} {text : List ℕ} {left : List Placed} {end : ℕ} {clean : Bool} → TokensOf source text left end clean → TokensOf source (replicate n 32 ++ text) left end clean
+behind_spaces : (n : ℕ) {source : Source} {text : List ℕ} {left : List Placed} {end : ℕ} {clean : Bool} → TokensOf source text left end clean
+    → TokensOf source (replicate n 32 ++ text) left end clean
 behind_spaces zero t = t
 behind_spaces (suc n) t = behind_space (behind_spaces n t)
 
 -- the tokens behind a new line with its indentation
-pub behind_line : (n : ℕ) {source : Source} {text : List ℕ} {left : List Placed} {end : ℕ} {clean : Bool} → TokensOf source text left end clean → TokensOf source (line n ++ text) left end clean
+pub behind_line : (n : ℕ) {source : Source} {text : List ℕ} {left : List Placed} {end : ℕ} {clean : Bool} → TokensOf source text left end clean
+    → TokensOf source (line n ++ text) left end clean
 behind_line n t = behind_newline (behind_spaces n t)
 
 -- white space, or nothing
 pub record IsBlank (blank : List ℕ) : Type 0 where
-  pub skipped : (source : Source) (text : List ℕ) (left : List Placed) (end : ℕ) (clean : Bool) → TokensOf source text left end clean → TokensOf source (blank ++ text) left end clean
+  pub skipped : (source : Source) (text : List ℕ) (left : List Placed) (end : ℕ) (clean : Bool) → TokensOf source text left end clean
+      → TokensOf source (blank ++ text) left end clean
   pub ends : (text : List ℕ) → ends_atom text ≡ true → ends_atom (blank ++ text) ≡ true
 
 -- white space that ends an atom
@@ -69,7 +75,8 @@ no_gap (integer {text = text} e i) = subst (λ k. BeginsNoGap k text) (sym e) tt
 no_gap (word {text = text} e) = subst (λ k. BeginsNoGap k text) (sym e) tt
 
 -- a text that begins with a token, and the tokens behind it
-pub token_first : {source : Source} {text more : List ℕ} {t : Token} {left : List Placed} {end : ℕ} {clean : Bool} → IsToken text t more → TokensOf source more left end clean
+pub token_first : {source : Source} {text more : List ℕ} {t : Token} {left : List Placed} {end : ℕ} {clean : Bool} → IsToken text t more
+    → TokensOf source more left end clean
     → TokensOf source text (placed_at (pos_of_rest source text) t ∷ left) end clean
 token_first i rest = token (none (no_gap i)) i rest
 

@@ -31,10 +31,15 @@ use Rattle.isle_syntax.specs.Grammar.DefGrammar.{is_kept_word}
 use Rattle.isle_syntax.specs.Grammar.Verdict.{max_nesting}
 use Rattle.isle_syntax.proofs.Reading.SymbolKinds.{and_first, and_second}
 use Rattle.isle_layout.specs.Spellings.{name_sexpr, expr_sexpr}
-use Rattle.isle_layout.specs.DefSpellings.{flag, struct_field_sexpr, tuple_field_sexpr, fields_sexprs, variant_of, variant_sexpr, type_value_sexpr, type_sexpr, decl_flags, decl_sexpr, extractor_sexpr, extern_sexpr, converter_sexpr, rule_name, rule_priority, iflet_sexpr, rule_sexpr, kept_sexpr, def_sexpr}
+use Rattle.isle_layout.specs.DefSpellings.{flag, struct_field_sexpr, tuple_field_sexpr, fields_sexprs, variant_of, variant_sexpr, type_value_sexpr}
+use Rattle.isle_layout.specs.DefSpellings.{type_sexpr, decl_flags, decl_sexpr, extractor_sexpr, extern_sexpr, converter_sexpr, rule_name}
+use Rattle.isle_layout.specs.DefSpellings.{rule_priority, iflet_sexpr, rule_sexpr, kept_sexpr, def_sexpr}
 use Rattle.isle_layout.specs.Nesting.{nesting}
 use Rattle.isle_syntax.specs.Grammar.DefGrammar.{fits_priority}
-use Rattle.isle_layout.specs.Writable.{writable_ident, writable_pattern, writable_expr, writable_items, writable_struct_field, writable_tuple_fields, is_filled, writable_fields, writable_variant, writable_type_value, writable_type, is_free_of_flags, writable_decl, writable_extractor, writable_extern, writable_converter, writable_rule_name, writable_priority, writable_iflet, is_list, is_right_side, writable_rule, writable_kept, has_writable_words, writable_def}
+use Rattle.isle_layout.specs.Writable.{writable_ident, writable_pattern, writable_expr, writable_items, writable_struct_field, writable_tuple_fields}
+use Rattle.isle_layout.specs.Writable.{is_filled, writable_fields, writable_variant, writable_type_value, writable_type, is_free_of_flags}
+use Rattle.isle_layout.specs.Writable.{writable_decl, writable_extractor, writable_extern, writable_converter, writable_rule_name, writable_priority}
+use Rattle.isle_layout.specs.Writable.{writable_iflet, is_list, is_right_side, writable_rule, writable_kept, has_writable_words, writable_def}
 use Rattle.isle_layout.proofs.Atoms.IdentifierTexts.{kept_word_is_symbol}
 use Rattle.isle_layout.proofs.Atoms.IntegerTexts.{signed_token}
 use Rattle.isle_layout.proofs.Atoms.EachAtom.{IsAtomIfText, IsReadable, AreReadable, readable_append, readable_map}
@@ -58,8 +63,10 @@ flag_readable w false e = tt
 -- ---- types
 
 struct_field_readable : (x : StructField) → writable_struct_field x ≡ true → IsReadable (struct_field_sexpr x)
-struct_field_readable x e =
-    (name_readable x.name (and_first (writable_ident x.name) (writable_ident x.ty) e), (name_readable x.ty (and_second (writable_ident x.name) (writable_ident x.ty) e), tt))
+struct_field_readable x e = (
+  name_readable x.name (and_first (writable_ident x.name) (writable_ident x.ty) e),
+  (name_readable x.ty (and_second (writable_ident x.name) (writable_ident x.ty) e), tt),
+)
 
 tuple_fields_readable : (next : ℕ) (xs : List TupleField) → writable_tuple_fields next xs ≡ true → AreReadable (map tuple_field_sexpr xs)
 tuple_fields_readable next [] e = tt
@@ -72,7 +79,8 @@ tuple_fields_readable next (x ∷ xs) e =
 fields_readable : (x : Fields) → writable_fields x ≡ true → AreReadable (fields_sexprs x)
 fields_readable no_fields e = tt
 fields_readable (named_fields x) e =
-    readable_map struct_field_sexpr writable_struct_field struct_field_readable x.fields (and_second (is_filled x.fields) (list_all writable_struct_field x.fields) e)
+    readable_map struct_field_sexpr writable_struct_field struct_field_readable x.fields
+    (and_second (is_filled x.fields) (list_all writable_struct_field x.fields) e)
 fields_readable (tuple_fields x) e =
     tuple_fields_readable 0 x.fields (and_second (is_filled x.fields) (writable_tuple_fields 0 x.fields) e)
 
@@ -109,7 +117,8 @@ flags_readable : (d : DeclTree) → AreReadable (decl_flags d)
 flags_readable d =
     readable_append (flag (codes "pure") d.pure) _ (flag_readable (codes "pure") d.pure refl)
     (readable_append (flag (codes "multi") d.multi) _ (flag_readable (codes "multi") d.multi refl)
-    (readable_append (flag (codes "partial") d.partial) (flag (codes "rec") d.rec) (flag_readable (codes "partial") d.partial refl) (flag_readable (codes "rec") d.rec refl)))
+    (readable_append (flag (codes "partial") d.partial) (flag (codes "rec") d.rec) (flag_readable (codes "partial") d.partial refl)
+    (flag_readable (codes "rec") d.rec refl)))
 
 decl_readable : (d : DeclTree) → writable_decl d ≡ true → IsReadable (decl_sexpr d)
 decl_readable d e =
@@ -120,7 +129,11 @@ decl_readable d e =
         name_readable d.term (and_first (writable_ident d.term) (is_free_of_flags d) two),
         (
           names_readable d.arg_tys (and_second (writable_ident d.term && is_free_of_flags d) (list_all writable_ident d.arg_tys) three),
-          (name_readable d.ret_ty (and_second (writable_ident d.term && is_free_of_flags d && list_all writable_ident d.arg_tys) (writable_ident d.ret_ty) e), tt),
+          (
+            name_readable d.ret_ty (and_second (writable_ident d.term && is_free_of_flags d
+                && list_all writable_ident d.arg_tys) (writable_ident d.ret_ty) e),
+            tt,
+          ),
         ),
       ),
     )
@@ -130,8 +143,15 @@ extractor_readable x e =
     let names = and_first (writable_ident x.term && list_all writable_ident x.args) (writable_pattern (pattern_of x.template)) e in (
       word_readable (codes "extractor") refl,
       (
-        (name_readable x.term (and_first (writable_ident x.term) (list_all writable_ident x.args) names), names_readable x.args (and_second (writable_ident x.term) (list_all writable_ident x.args) names)),
-        (pattern_readable (pattern_of x.template) (and_second (writable_ident x.term && list_all writable_ident x.args) (writable_pattern (pattern_of x.template)) e), tt),
+        (
+          name_readable x.term (and_first (writable_ident x.term) (list_all writable_ident x.args) names),
+          names_readable x.args (and_second (writable_ident x.term) (list_all writable_ident x.args) names),
+        ),
+        (
+          pattern_readable (pattern_of x.template) (and_second (writable_ident x.term
+              && list_all writable_ident x.args) (writable_pattern (pattern_of x.template)) e),
+          tt,
+        ),
       ),
     )
 
@@ -140,7 +160,10 @@ extern_readable (extern_constructor term func _) e = (
   word_readable (codes "extern") refl,
   (
     word_readable (codes "constructor") refl,
-    (name_readable term (and_first (writable_ident term) (writable_ident func) e), (name_readable func (and_second (writable_ident term) (writable_ident func) e), tt)),
+    (
+      name_readable term (and_first (writable_ident term) (writable_ident func) e),
+      (name_readable func (and_second (writable_ident term) (writable_ident func) e), tt),
+    ),
   ),
 )
 extern_readable (extern_extractor term func _ infallible) e =
@@ -148,15 +171,20 @@ extern_readable (extern_extractor term func _ infallible) e =
       word_readable (codes "extern") refl,
       (
         word_readable (codes "extractor") refl,
-        readable_append (flag (codes "infallible") infallible) _ (flag_readable (codes "infallible") infallible refl)
-            (name_readable term (and_first (writable_ident term) (writable_ident func) names), (name_readable func (and_second (writable_ident term) (writable_ident func) names), tt)),
+        readable_append (flag (codes "infallible") infallible) _ (flag_readable (codes "infallible") infallible refl) (
+          name_readable term (and_first (writable_ident term) (writable_ident func) names),
+          (name_readable func (and_second (writable_ident term) (writable_ident func) names), tt),
+        ),
       ),
     )
 extern_readable (extern_const name ty _) e = (
   word_readable (codes "extern") refl,
   (
     word_readable (codes "const") refl,
-    (constant_readable name (and_first (is_const_name name.0) (writable_ident ty) e), (name_readable ty (and_second (is_const_name name.0) (writable_ident ty) e), tt)),
+    (
+      constant_readable name (and_first (is_const_name name.0) (writable_ident ty) e),
+      (name_readable ty (and_second (is_const_name name.0) (writable_ident ty) e), tt),
+    ),
   ),
 )
 
@@ -199,7 +227,10 @@ iflets_readable (c ∷ cs) e =
     let expr = expr_of c.expr in (
       (
         word_readable (codes "if-let") refl,
-        (pattern_readable pattern (and_first (writable_pattern pattern) (writable_expr expr) first), (expr_readable expr (and_second (writable_pattern pattern) (writable_expr expr) first), tt)),
+        (
+          pattern_readable pattern (and_first (writable_pattern pattern) (writable_expr expr) first),
+          (expr_readable expr (and_second (writable_pattern pattern) (writable_expr expr) first), tt),
+        ),
       ),
       iflets_readable cs (and_second (writable_iflet c) (list_all writable_iflet cs) e),
     )
@@ -210,8 +241,10 @@ rule_readable r e =
     let priority = writable_priority r.prio in
     let pattern = pattern_of r.pattern in
     let expr = expr_of r.expr in
-    let five = and_first (name && priority && is_list pattern && writable_pattern pattern && list_all writable_iflet r.iflets && is_right_side expr) (writable_expr expr) e in
-    let four = and_first (name && priority && is_list pattern && writable_pattern pattern && list_all writable_iflet r.iflets) (is_right_side expr) five in
+    let five = and_first (name && priority && is_list pattern && writable_pattern pattern && list_all writable_iflet r.iflets
+    && is_right_side expr) (writable_expr expr) e in
+    let four = and_first (name && priority && is_list pattern && writable_pattern pattern
+    && list_all writable_iflet r.iflets) (is_right_side expr) five in
     let three = and_first (name && priority && is_list pattern && writable_pattern pattern) (list_all writable_iflet r.iflets) four in
     let two = and_first (name && priority && is_list pattern) (writable_pattern pattern) three in
     let one = and_first (name && priority) (is_list pattern) two in (
@@ -219,16 +252,23 @@ rule_readable r e =
       readable_append (rule_name r.name) _ (rule_name_readable r.name (and_first name priority one))
           (readable_append (rule_priority r.prio) _ (rule_priority_readable r.prio (and_second name priority one)) (
             pattern_readable pattern (and_second (name && priority && is_list pattern) (writable_pattern pattern) three),
-            readable_append (map iflet_sexpr r.iflets) (expr_sexpr expr ∷ []) (iflets_readable r.iflets (and_second (name && priority && is_list pattern && writable_pattern pattern) (list_all writable_iflet r.iflets) four))
-                (expr_readable expr (and_second (name && priority && is_list pattern && writable_pattern pattern && list_all writable_iflet r.iflets && is_right_side expr) (writable_expr expr) e), tt),
+            readable_append (map iflet_sexpr r.iflets) (expr_sexpr expr ∷ [])
+                (iflets_readable r.iflets (and_second (name && priority && is_list pattern
+                && writable_pattern pattern) (list_all writable_iflet r.iflets) four)) (
+                  expr_readable expr (and_second (name && priority && is_list pattern && writable_pattern pattern && list_all writable_iflet r.iflets
+                      && is_right_side expr) (writable_expr expr) e),
+                  tt,
+                ),
           )),
     )
 
 -- ---- definitions
 
 kept_readable : (k : KeptTree) → writable_kept k ≡ true → IsReadable (kept_sexpr k)
-kept_readable k e =
-    (word_readable k.word.0 (kept_word_is_symbol k.word.0 (and_first (is_kept_word k.word.0) (writable_items k.items) e)), items_readable k.items (and_second (is_kept_word k.word.0) (writable_items k.items) e))
+kept_readable k e = (
+  word_readable k.word.0 (kept_word_is_symbol k.word.0 (and_first (is_kept_word k.word.0) (writable_items k.items) e)),
+  items_readable k.items (and_second (is_kept_word k.word.0) (writable_items k.items) e),
+)
 
 words_readable : (d : Def) → has_writable_words d ≡ true → IsReadable (def_sexpr d)
 words_readable (TypeDef x) e = type_readable x e

@@ -34,7 +34,8 @@ pub readable_append : (xs ys : List SExprTree) → AreReadable xs → AreReadabl
 readable_append [] ys h g = g
 readable_append (x ∷ xs) ys h g = (h.0, readable_append xs ys h.1 g)
 
-pub readable_map : {A : Type 0} (f : A → SExprTree) (p : A → Bool) → ((a : A) → p a ≡ true → IsReadable (f a)) → (xs : List A) → list_all p xs ≡ true → AreReadable (map f xs)
+pub readable_map : {A : Type 0} (f : A → SExprTree) (p : A → Bool) → ((a : A) → p a ≡ true → IsReadable (f a)) → (xs : List A) → list_all p xs ≡ true
+    → AreReadable (map f xs)
 readable_map f p each [] e = tt
 readable_map f p each (x ∷ xs) e = (each x (and_first (p x) (list_all p xs) e), readable_map f p each xs (and_second (p x) (list_all p xs) e))
 

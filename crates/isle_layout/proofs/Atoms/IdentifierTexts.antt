@@ -1,5 +1,6 @@
 -- Identifiers are symbols.
-use Rattle.std.proofs.Common.{◌≡◌, ℕ, zero, suc, ◌<◌, ◌≤◌, List, [], ◌∷◌, length, get_or, Bool, true, false, inl, inr, refl, sym, ap, subst, ◌∙◌, length-append, arith}
+use Rattle.std.proofs.Common.{◌≡◌, ℕ, zero, suc, ◌<◌, ◌≤◌, List, [], ◌∷◌, length, get_or, Bool, true, false, inl, inr, refl, sym, ap, subst, ◌∙◌}
+use Rattle.std.proofs.Common.{length-append, arith}
 use Rattle.std.specs.Prelude.{◌&&◌, ◌||◌, not, codes}
 use Rattle.std.specs.List.{list_all}
 use Rattle.std.specs.Char.{encode_utf8}
@@ -9,7 +10,8 @@ use Rattle.std.proofs.lemmas.Bool.Decides.{nat_tests}
 use Rattle.std.proofs.lemmas.Str.{chars_from_encodes, inside_one, length-encode, len_utf8_bounds, NoCharPasses-byte}
 use Rattle.unicode.proofs.CategoryComputing.{ucd_category}
 use Rattle.unicode.proofs.DerivedComputing.{ucd_derived}
-use Rattle.isle_syntax.specs.Tokens.Names.{begins_symbol, is_symbol, begins_ident, continues_ident, is_ident_of, is_ident, is_name, is_pname, is_const_name, is_word}
+use Rattle.isle_syntax.specs.Tokens.Names.{begins_symbol, is_symbol, begins_ident, continues_ident, is_ident_of, is_ident, is_name, is_pname}
+use Rattle.isle_syntax.specs.Tokens.Names.{is_const_name, is_word}
 use Rattle.isle_syntax.specs.Tokens.TokensOf.{continues_symbol}
 use Rattle.isle_syntax.specs.Grammar.DefGrammar.{is_kept_word}
 use Rattle.isle_syntax.proofs.Reading.Basics.{word_same}
@@ -55,7 +57,8 @@ first_begins b h = elim (cases_lt b 128) [
 
 other_continues : (b : ℕ) → (b < 128 → continues_ident b ≡ true) → continues_symbol b ≡ true
 other_continues b h = elim (cases_lt b 128) [
-  | inl l ↦ implied (continues_ident b) (continues_symbol b) (below_at (λ k. not (continues_ident k) || continues_symbol k) 128 b continues_table l) (h l)
+  | inl l ↦ implied (continues_ident b) (continues_symbol b) (below_at (λ k. not (continues_ident k) || continues_symbol k) 128 b continues_table l)
+      (h l)
   | inr l ↦ continues_past_ascii b l
 ]
 
@@ -66,7 +69,10 @@ begins_continues c e = rw e refl
 
 none_passes : (cs : List ℕ) → list_all continues_ident cs ≡ true → NonePass (λ c. not (continues_ident c)) cs
 none_passes [] e = tt
-none_passes (c ∷ cs) e = (ap not (and_first (continues_ident c) (list_all continues_ident cs) e), none_passes cs (and_second (continues_ident c) (list_all continues_ident cs) e))
+none_passes (c ∷ cs) e = (
+  ap not (and_first (continues_ident c) (list_all continues_ident cs) e),
+  none_passes cs (and_second (continues_ident c) (list_all continues_ident cs) e),
+)
 
 each_at : (p : ℕ → Bool) (bs : List ℕ) → ((i : ℕ) → i < length bs → p (get_or bs i 0) ≡ true) → list_all p bs ≡ true
 each_at p [] h = refl
@@ -78,15 +84,18 @@ unnot false e = absurd (cc)
 
 symbol_by_chars : (cs s : List ℕ) → encode_utf8_all cs ≡ s → is_ident_of cs ≡ true → is_symbol s ≡ true
 symbol_by_chars [] s same e = absurd (cc)
-symbol_by_chars (c ∷ cs) [] same e = absurd (omega (arith, ap length same, length-append (encode_utf8 c) (encode_utf8_all cs), length-encode c, (len_utf8_bounds c).0))
+symbol_by_chars (c ∷ cs) [] same e =
+    absurd (omega (arith, ap length same, length-append (encode_utf8 c) (encode_utf8_all cs), length-encode c, (len_utf8_bounds c).0))
 symbol_by_chars (c ∷ cs) (b ∷ bs) same e =
     let begins : begins_ident c ≡ true = and_first (begins_ident c) (list_all continues_ident cs) e in
     let others : list_all continues_ident cs ≡ true = and_second (begins_ident c) (list_all continues_ident cs) e in
-    let passes : NoCharPasses (λ k. not (continues_ident k)) (b ∷ bs) = (c ∷ cs, same, none_passes (c ∷ cs) (and_from (continues_ident c) (list_all continues_ident cs) (begins_continues c begins) others)) in
+    let passes : NoCharPasses (λ k. not (continues_ident k)) (b ∷ bs) =
+    (c ∷ cs, same, none_passes (c ∷ cs) (and_from (continues_ident c) (list_all continues_ident cs) (begins_continues c begins) others)) in
     let all : list_all continues_symbol (b ∷ bs) ≡ true = each_at continues_symbol (b ∷ bs) (λ i l. other_continues (get_or (b ∷ bs) i 0)
     (λ low. unnot _ (NoCharPasses-byte (λ k. not (continues_ident k)) (b ∷ bs) i passes l low))) in
     let some : 0 < length (encode_utf8 c) = omega (arith, length-encode c, (len_utf8_bounds c).0) in
-    let first : begins_symbol b ≡ true = first_begins b (λ low. subst (λ k. begins_ident k ≡ true) (inside_one c (encode_utf8_all cs) (b ∷ bs) 0 (sym same) some low) begins) in
+    let first : begins_symbol b ≡ true =
+    first_begins b (λ low. subst (λ k. begins_ident k ≡ true) (inside_one c (encode_utf8_all cs) (b ∷ bs) 0 (sym same) some low) begins) in
     and_from (begins_symbol b) (list_all continues_symbol bs) first (and_second (continues_symbol b) (list_all continues_symbol bs) all)
 
 -- an identifier is a symbol
@@ -132,8 +141,10 @@ no_ident e = cc
 
 -- ---- words
 
-kept_by : (s : List ℕ) (a b c d e f g : Bool) → is_word (codes "attr") s ≡ a → is_word (codes "spec") s ≡ b → is_word (codes "macro") s ≡ c → is_word (codes "model") s ≡ d
-    → is_word (codes "state") s ≡ e → is_word (codes "form") s ≡ f → is_word (codes "instantiate") s ≡ g → (a || b || c || d || e || f || g) ≡ true → is_symbol s ≡ true
+kept_by : (s : List ℕ) (a b c d e f g : Bool) → is_word (codes "attr") s ≡ a → is_word (codes "spec") s ≡ b → is_word (codes "macro") s ≡ c
+    → is_word (codes "model") s ≡ d
+    → is_word (codes "state") s ≡ e → is_word (codes "form") s ≡ f → is_word (codes "instantiate") s ≡ g → (a || b || c || d || e || f || g) ≡ true
+    → is_symbol s ≡ true
 kept_by s true b c d e f g ha hb hc hd he hf hg h = ap is_symbol (word_same (codes "attr") s ha)
 kept_by s false true c d e f g ha hb hc hd he hf hg h = ap is_symbol (word_same (codes "spec") s hb)
 kept_by s false false true d e f g ha hb hc hd he hf hg h = ap is_symbol (word_same (codes "macro") s hc)
@@ -146,5 +157,6 @@ kept_by s false false false false false false false ha hb hc hd he hf hg h = abs
 -- a word of a kept definition
 pub kept_word_is_symbol : (s : List ℕ) → is_kept_word s ≡ true → is_symbol s ≡ true
 kept_word_is_symbol s e =
-    kept_by s (is_word (codes "attr") s) (is_word (codes "spec") s) (is_word (codes "macro") s) (is_word (codes "model") s) (is_word (codes "state") s) (is_word (codes "form") s) (is_word (codes "instantiate") s)
+    kept_by s (is_word (codes "attr") s) (is_word (codes "spec") s) (is_word (codes "macro") s) (is_word (codes "model") s)
+    (is_word (codes "state") s) (is_word (codes "form") s) (is_word (codes "instantiate") s)
     refl refl refl refl refl refl refl e

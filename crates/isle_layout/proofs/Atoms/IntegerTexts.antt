@@ -1,5 +1,6 @@
 -- Integers in decimal are one token.
-use Rattle.std.proofs.Common.{◌≡◌, ℕ, suc, ◌+◌, ◌*◌, ◌^◌, ◌<◌, ◌≤◌, List, [], ◌∷◌, Bool, true, false, cond, Some, None, refl, sym, ap, subst, ◌∙◌, arith}
+use Rattle.std.proofs.Common.{◌≡◌, ℕ, suc, ◌+◌, ◌*◌, ◌^◌, ◌<◌, ◌≤◌, List, [], ◌∷◌, Bool, true, false, cond, Some, None, refl, sym, ap, subst, ◌∙◌}
+use Rattle.std.proofs.Common.{arith}
 use Rattle.std.specs.Prelude.{ℤ, pos, negsuc, ◌||◌, ◌==◌, not, nat_lt, int_lt, FitsSigned}
 use Rattle.std.specs.List.{list_all}
 use Rattle.std.specs.Int.{w128, cast_unsigned}
@@ -15,7 +16,8 @@ use Rattle.isle_syntax.specs.declared.gap.Lead.{Lead}
 use Rattle.isle_syntax.specs.declared.lexer.Token.{Token}
 use Rattle.isle_syntax.specs.declared.lexer.Token.TheVariants.{Int, Big}
 use Rattle.isle_syntax.specs.Tokens.Gaps.{lead_of, after_first, after_run, run_of}
-use Rattle.isle_syntax.specs.Tokens.Integers.{is_negative, unsigned_of, radix_named, radix_of, continues_digits, digits_of, after_integer, has_digit, spelt_after, spelt, integer_token, integer_of}
+use Rattle.isle_syntax.specs.Tokens.Integers.{is_negative, unsigned_of, radix_named, radix_of, continues_digits, digits_of, after_integer, has_digit}
+use Rattle.isle_syntax.specs.Tokens.Integers.{spelt_after, spelt, integer_token, integer_of}
 use Rattle.isle_syntax.specs.Tokens.TokensOf.{IsToken, integer}
 use Rattle.isle_syntax.specs.Tokens.PlacedTokens.{Literal, small, large}
 use Rattle.isle_syntax.specs.Grammar.TreeGrammar.{bits_of, is_large}
@@ -42,7 +44,8 @@ continues_by false v h = lt-ltb v 10 h
 
 digits_continue : (ds : List ℕ) → AllDigits 10 ds → list_all (continues_digits 10) ds ≡ true
 digits_continue [] d = refl
-digits_continue (c ∷ cs) d = and_from (continues_digits 10 c) (list_all (continues_digits 10) cs) (continues_by (c == 95) (digit_value c) d.0) (digits_continue cs d.1)
+digits_continue (c ∷ cs) d = and_from (continues_digits 10 c) (list_all (continues_digits 10) cs) (continues_by (c == 95) (digit_value c) d.0)
+    (digits_continue cs d.1)
 
 digits_spelt : (value : ℕ) (ds : List ℕ) → AllDigits 10 ds → spelt_after 10 value ds ≡ digits_value_after 10 value ds
 unfolding spelt_after
@@ -70,15 +73,19 @@ abbrev digits_from : ℕ → List ℕ → List ℕ
 digits_from radix text = cond (radix == 10) text (after_first (after_first text))
 
 -- a sign and digits
-numeral_token : (text ds : List ℕ) (negative : Bool) (t : Token) → lead_of text ≡ Lead.Number → is_negative text ≡ negative → unsigned_of text ≡ ds → IsNumeral 10 ds
+numeral_token : (text ds : List ℕ) (negative : Bool) (t : Token) → lead_of text ≡ Lead.Number → is_negative text ≡ negative → unsigned_of text ≡ ds
+    → IsNumeral 10 ds
     → integer_token negative (digits_value 10 ds) ≡ Some t → IsToken text t []
 numeral_token text ds negative t lead minus behind n is =
     let all = digits_continue ds n.1 in
     let radix : radix_of (unsigned_of text) ≡ 10 = ap radix_of behind ∙ digits_radix ds n.1 in
-    let digits : digits_of text ≡ ds = ap (λ u. run_of (continues_digits (radix_of u)) (digits_from (radix_of u) u)) behind ∙ ap (λ r. run_of (continues_digits r) (digits_from r ds)) (digits_radix ds n.1) ∙ run_all (continues_digits 10) ds all in
-    let rest : after_integer text ≡ [] = ap (λ u. after_run (continues_digits (radix_of u)) (digits_from (radix_of u) u)) behind ∙ ap (λ r. after_run (continues_digits r) (digits_from r ds)) (digits_radix ds n.1) ∙ after_all (continues_digits 10) ds all in
+    let digits : digits_of text ≡ ds = ap (λ u. run_of (continues_digits (radix_of u)) (digits_from (radix_of u) u)) behind
+    ∙ ap (λ r. run_of (continues_digits r) (digits_from r ds)) (digits_radix ds n.1) ∙ run_all (continues_digits 10) ds all in
+    let rest : after_integer text ≡ [] = ap (λ u. after_run (continues_digits (radix_of u)) (digits_from (radix_of u) u)) behind
+    ∙ ap (λ r. after_run (continues_digits r) (digits_from r ds)) (digits_radix ds n.1) ∙ after_all (continues_digits 10) ds all in
     let value : spelt 10 ds ≡ digits_value 10 ds = digits_spelt 0 ds n.1 in
-    let read : integer_of text ≡ Some t = (λ i. cond (has_digit (digits i)) (integer_token (minus i) (spelt (radix i) (digits i))) None) ∙ ap (λ some. cond some (integer_token negative (spelt 10 ds)) None) (some_digit ds n) ∙ ap (integer_token negative) value ∙ is in
+    let read : integer_of text ≡ Some t = (λ i. cond (has_digit (digits i)) (integer_token (minus i) (spelt (radix i) (digits i))) None)
+    ∙ ap (λ some. cond some (integer_token negative (spelt 10 ds)) None) (some_digit ds n) ∙ ap (integer_token negative) value ∙ is in
     subst (IsToken text t) rest (integer lead read)
 
 unsigned_token : (ds : List ℕ) (t : Token) → IsNumeral 10 ds → integer_token false (digits_value 10 ds) ≡ Some t → IsToken ds t []
@@ -113,7 +120,8 @@ pub signed_token : (z : ℤ) → FitsSigned w128 z → IsToken (signed_decimal z
 signed_token (pos n) f = natural_token n f.sfits
 signed_token (negsuc n) f =
     let d = decimal_is_IsNumeral_wide (suc n) (omega (arith, f.sfits)) in
-    numeral_token (45 ∷ decimal (suc n)) (decimal (suc n)) true (Int (negsuc n)) refl refl refl d.0 (ap (integer_token true) d.1 ∙ token_negative n f.sfits)
+    numeral_token (45 ∷ decimal (suc n)) (decimal (suc n)) true (Int (negsuc n)) refl refl refl d.0 (ap (integer_token true) d.1
+    ∙ token_negative n f.sfits)
 
 -- ---- integers of trees
 
@@ -127,7 +135,8 @@ literal_token (small z) = Int z
 literal_token (large n) = Big n
 
 -- a `big` integer is negative as 128 bits
-pub integer_text_token : (val : ℤ) (big : Bool) → FitsSigned w128 val → (not big || int_lt val (pos 0)) ≡ true → IsToken (integer_text val big) (literal_token (literal_of val big)) []
+pub integer_text_token : (val : ℤ) (big : Bool) → FitsSigned w128 val → (not big || int_lt val (pos 0)) ≡ true
+    → IsToken (integer_text val big) (literal_token (literal_of val big)) []
 integer_text_token val false f e = signed_token val f
 integer_text_token (pos n) true f e = absurd (grind (arith, nat_tests))
 integer_text_token (negsuc n) true f e = large_token (cast_unsigned w128 (negsuc n)) (omega (arith, f.sfits)) (omega (arith, f.sfits))

@@ -11,7 +11,8 @@ use Rattle.isle_layout.specs.SExprTree.{SExprTree, SExprTrees, sexpr_atom, sexpr
 use Rattle.isle_layout.specs.SExprTokens.{IsAtom, SpellsAtom, SpellsSExpr, SpellsSExprs, HasAtoms, HaveAtoms, ends_atom}
 use Rattle.isle_layout.specs.Layout.{joined, line, one_line, one_lines, stays_on_one_line, broken, layout, layouts}
 use Rattle.isle_layout.proofs.Atoms.AtomEnds.{no_comment, opens, atom_followed}
-use Rattle.isle_layout.proofs.Atoms.Blanks.{behind_space, behind_newline, IsBlank, Separates, nothing_blank, space_separates, line_separates, token_first, token_no_semicolon}
+use Rattle.isle_layout.proofs.Atoms.Blanks.{behind_space, behind_newline, IsBlank, Separates, nothing_blank, space_separates, line_separates}
+use Rattle.isle_layout.proofs.Atoms.Blanks.{token_first, token_no_semicolon}
 
 -- the tokens of a rest of a text begin with those of a phrase, before the tokens of what follows it
 abbrev pub HasTokens : Source → (List Placed → Type 0) → List ℕ → List Placed → ℕ → Bool → Type 0
@@ -19,7 +20,8 @@ HasTokens source phrase text left end clean = (ts : List Placed) × phrase ts ×
 
 -- a text has tokens of a phrase before each text that ends an atom, and there begins no comment
 pub record Lays (phrase : List Placed → Type 0) (text : List ℕ) : Type 0 where
-  pub tokens : (source : Source) (rest : List ℕ) (left : List Placed) (end : ℕ) (clean : Bool) → ends_atom rest ≡ true → TokensOf source rest left end clean → HasTokens source phrase (text ++ rest) left end clean
+  pub tokens : (source : Source) (rest : List ℕ) (left : List Placed) (end : ℕ) (clean : Bool) → ends_atom rest ≡ true
+      → TokensOf source rest left end clean → HasTokens source phrase (text ++ rest) left end clean
   pub no_comment : (rest : List ℕ) → ends_atom rest ≡ true → begins_semicolon (text ++ rest) ≡ false
 
 -- the same with the text under another name
@@ -30,7 +32,12 @@ lays_same {phrase} e l = subst (Lays phrase) e l
 
 atom_laid : (text : List ℕ) → IsAtom text → Lays (SpellsAtom text) text
 atom_laid text a = record {
-  tokens = λ source rest left end clean h t. (placed_at (pos_of_rest source (text ++ rest)) a.0 ∷ [], (pos_of_rest source (text ++ rest), a.0, a.1, refl), token_first (atom_followed text a.0 rest a.1 h) t);
+  tokens =
+      λ source rest left end clean h t. (
+        placed_at (pos_of_rest source (text ++ rest)) a.0 ∷ [],
+        (pos_of_rest source (text ++ rest), a.0, a.1, refl),
+        token_first (atom_followed text a.0 rest a.1 h) t,
+      );
   no_comment = λ rest h. token_no_semicolon (atom_followed text a.0 rest a.1 h);
 }
 
@@ -40,23 +47,28 @@ binding_text : (name below rest : List ℕ) → name ++ (codes " @ " ++ (below +
 binding_text name below rest = simp append_assoc
 
 module _ (name : List ℕ) (named : IsAtom name) (inner : SExprTree) (below : List ℕ) (l : Lays (SpellsSExpr inner) below) where
-  binding_tokens : (source : Source) (rest : List ℕ) (left : List Placed) (end : ℕ) (clean : Bool) → ends_atom rest ≡ true → TokensOf source rest left end clean
+  binding_tokens : (source : Source) (rest : List ℕ) (left : List Placed) (end : ℕ) (clean : Bool) → ends_atom rest ≡ true
+      → TokensOf source rest left end clean
       → HasTokens source (SpellsSExpr (sexpr_binding name inner)) (name ++ (codes " @ " ++ (below ++ rest))) left end clean
   binding_tokens source rest left end clean h t =
       let b = l.tokens source rest left end clean h t in
       let at_place = pos_of_rest source (64 ∷ 32 ∷ (below ++ rest)) in
       let behind = token_first (is_at_sign {text = 64 ∷ 32 ∷ (below ++ rest)} refl) (behind_space b.2) in
-      let a = (atom_laid name named).tokens source (32 ∷ 64 ∷ 32 ∷ (below ++ rest)) (at_sign at_place ∷ (b.0 ++ left)) end clean refl (behind_space behind) in (
+      let a = (atom_laid name named).tokens source (32 ∷ 64 ∷ 32 ∷ (below ++ rest)) (at_sign at_place ∷ (b.0 ++ left)) end clean refl
+      (behind_space behind) in (
         a.0 ++ (at_sign at_place ∷ b.0),
         (a.0, at_sign at_place ∷ b.0, refl, a.1, (at_sign at_place ∷ [], b.0, refl, (at_place, refl), b.1)),
-        subst (λ (ts : List Placed). TokensOf source (name ++ (codes " @ " ++ (below ++ rest))) ts end clean) (sym (append_assoc a.0 (at_sign at_place ∷ b.0) left)) a.2,
+        subst (λ (ts : List Placed). TokensOf source (name ++ (codes " @ " ++ (below ++ rest))) ts end clean)
+            (sym (append_assoc a.0 (at_sign at_place ∷ b.0) left)) a.2,
       )
 
   binding_laid : Lays (SpellsSExpr (sexpr_binding name inner)) ((name ++ codes " @ ") ++ below)
   binding_laid = record {
     tokens = λ source rest left end clean h t.
-        subst (λ (text : List ℕ). HasTokens source (SpellsSExpr (sexpr_binding name inner)) text left end clean) (binding_text name below rest) (binding_tokens source rest left end clean h t);
-    no_comment = λ rest h. ap begins_semicolon (sym (binding_text name below rest)) ∙ (atom_laid name named).no_comment (codes " @ " ++ (below ++ rest)) refl;
+        subst (λ (text : List ℕ). HasTokens source (SpellsSExpr (sexpr_binding name inner)) text left end clean) (binding_text name below rest)
+        (binding_tokens source rest left end clean h t);
+    no_comment = λ rest h. ap begins_semicolon (sym (binding_text name below rest))
+        ∙ (atom_laid name named).no_comment (codes " @ " ++ (below ++ rest)) refl;
   }
 
 -- ---- items
@@ -69,13 +81,15 @@ Texts (more_sexprs first others) [] = ⊥
 Texts (more_sexprs first others) (text ∷ texts) = Lays (SpellsSExpr first) text × Texts others texts
 
 -- one phrase and then another, of which each text ends an atom
-followed : {first others : List Placed → Type 0} {text more : List ℕ} → Lays first text → Lays others more → ((rest : List ℕ) → ends_atom rest ≡ true → ends_atom (more ++ rest) ≡ true) → Lays (first ⊙ others) (text ++ more)
+followed : {first others : List Placed → Type 0} {text more : List ℕ} → Lays first text → Lays others more
+    → ((rest : List ℕ) → ends_atom rest ≡ true → ends_atom (more ++ rest) ≡ true) → Lays (first ⊙ others) (text ++ more)
 followed {first} {others} {text} {more} f o ends = record {
   tokens = go;
   no_comment = λ rest h. ap begins_semicolon (append_assoc text more rest) ∙ f.no_comment (more ++ rest) (ends rest h);
 }
   where
-    go : (source : Source) (rest : List ℕ) (left : List Placed) (end : ℕ) (clean : Bool) → ends_atom rest ≡ true → TokensOf source rest left end clean → HasTokens source (first ⊙ others) ((text ++ more) ++ rest) left end clean
+    go : (source : Source) (rest : List ℕ) (left : List Placed) (end : ℕ) (clean : Bool) → ends_atom rest ≡ true → TokensOf source rest left end clean
+        → HasTokens source (first ⊙ others) ((text ++ more) ++ rest) left end clean
     go source rest left end clean h t =
         let behind = o.tokens source rest left end clean h t in
         let front = f.tokens source (more ++ rest) (behind.0 ++ left) end clean (ends rest h) behind.2 in (
@@ -95,7 +109,8 @@ behind_blank {phrase} {text} {separator} s l = record {
   no_comment = λ rest h. ap begins_semicolon (append_assoc separator text rest) ∙ no_comment (separator ++ (text ++ rest)) (s.ends (text ++ rest));
 }
   where
-    go : (source : Source) (rest : List ℕ) (left : List Placed) (end : ℕ) (clean : Bool) → ends_atom rest ≡ true → TokensOf source rest left end clean → HasTokens source phrase ((separator ++ text) ++ rest) left end clean
+    go : (source : Source) (rest : List ℕ) (left : List Placed) (end : ℕ) (clean : Bool) → ends_atom rest ≡ true → TokensOf source rest left end clean
+        → HasTokens source phrase ((separator ++ text) ++ rest) left end clean
     go source rest left end clean h t =
         let inner = l.tokens source rest left end clean h t in
         let skipped = s.is_blank.skipped source (text ++ rest) (inner.0 ++ left) end clean inner.2 in
@@ -105,19 +120,23 @@ behind_blank {phrase} {text} {separator} s l = record {
 abbrev separated : List ℕ → List (List ℕ) → List ℕ
 separated separator texts = flat_map (λ text. separator ++ text) texts
 
-separated_ends : (separator : List ℕ) → Separates separator → (texts : List (List ℕ)) (rest : List ℕ) → ends_atom rest ≡ true → ends_atom (separated separator texts ++ rest) ≡ true
+separated_ends : (separator : List ℕ) → Separates separator → (texts : List (List ℕ)) (rest : List ℕ) → ends_atom rest ≡ true
+    → ends_atom (separated separator texts ++ rest) ≡ true
 separated_ends separator s [] rest h = h
 separated_ends separator s (text ∷ texts) rest h =
-    ap ends_atom (append_assoc (separator ++ text) (separated separator texts) rest ∙ append_assoc separator text (separated separator texts ++ rest)) ∙ s.ends (text ++ (separated separator texts ++ rest))
+    ap ends_atom (append_assoc (separator ++ text) (separated separator texts) rest ∙ append_assoc separator text (separated separator texts ++ rest))
+    ∙ s.ends (text ++ (separated separator texts ++ rest))
 
-separated_laid : (separator : List ℕ) → Separates separator → (items : SExprTrees) (texts : List (List ℕ)) → Texts items texts → Lays (SpellsSExprs items) (separated separator texts)
+separated_laid : (separator : List ℕ) → Separates separator → (items : SExprTrees) (texts : List (List ℕ)) → Texts items texts
+    → Lays (SpellsSExprs items) (separated separator texts)
 separated_laid separator s no_sexprs [] l = nothing_laid
 separated_laid separator s no_sexprs (text ∷ texts) l = absurd l
 separated_laid separator s (more_sexprs first others) [] l = absurd l
 separated_laid separator s (more_sexprs first others) (text ∷ texts) l =
     followed (behind_blank s l.0) (separated_laid separator s others texts l.1) (separated_ends separator s texts)
 
-joined_laid : (separator : List ℕ) → Separates separator → (items : SExprTrees) (texts : List (List ℕ)) → Texts items texts → Lays (SpellsSExprs items) (joined separator texts)
+joined_laid : (separator : List ℕ) → Separates separator → (items : SExprTrees) (texts : List (List ℕ)) → Texts items texts
+    → Lays (SpellsSExprs items) (joined separator texts)
 joined_laid separator s no_sexprs [] l = nothing_laid
 joined_laid separator s no_sexprs (text ∷ texts) l = absurd l
 joined_laid separator s (more_sexprs first others) [] l = absurd l
@@ -139,24 +158,36 @@ module _ (items : SExprTrees) (text last : List ℕ) (blank : IsBlank last) (l :
       let ends = blank.ends (41 ∷ rest) refl in
       let inner = l.tokens source (last ++ (41 ∷ rest)) (closing shut ∷ left) end clean ends skipped in
       let open_place = pos_of_rest source (40 ∷ (text ++ (last ++ (41 ∷ rest)))) in
-      let opened = token_first (is_opening {text = 40 ∷ (text ++ (last ++ (41 ∷ rest)))} (opens (text ++ (last ++ (41 ∷ rest))) (l.no_comment (last ++ (41 ∷ rest)) ends))) inner.2 in (
+      let opened =
+      token_first (is_opening {text = 40 ∷ (text ++ (last ++ (41 ∷ rest)))}
+      (opens (text ++ (last ++ (41 ∷ rest))) (l.no_comment (last ++ (41 ∷ rest)) ends))) inner.2 in (
         opening open_place ∷ (inner.0 ++ (closing shut ∷ [])),
-        (opening open_place ∷ [], inner.0 ++ (closing shut ∷ []), refl, (open_place, refl), (inner.0, closing shut ∷ [], refl, inner.1, (shut, refl))),
-        subst (λ (ts : List Placed). TokensOf source (40 ∷ (text ++ (last ++ (41 ∷ rest)))) (opening open_place ∷ ts) end clean) (sym (append_assoc inner.0 (closing shut ∷ []) left)) opened,
+        (
+          opening open_place ∷ [],
+          inner.0 ++ (closing shut ∷ []),
+          refl,
+          (open_place, refl),
+          (inner.0, closing shut ∷ [], refl, inner.1, (shut, refl)),
+        ),
+        subst (λ (ts : List Placed). TokensOf source (40 ∷ (text ++ (last ++ (41 ∷ rest)))) (opening open_place ∷ ts) end clean)
+            (sym (append_assoc inner.0 (closing shut ∷ []) left)) opened,
       )
 
   list_laid : Lays (SpellsSExpr (sexpr_list items)) (((codes "(" ++ text) ++ last) ++ codes ")")
   list_laid = record {
-    tokens = λ source rest left end clean h t. subst (λ (all : List ℕ). HasTokens source (SpellsSExpr (sexpr_list items)) all left end clean) (list_text text last rest) (list_tokens source rest left end clean t);
+    tokens = λ source rest left end clean h t. subst (λ (all : List ℕ). HasTokens source (SpellsSExpr (sexpr_list items)) all left end clean)
+        (list_text text last rest) (list_tokens source rest left end clean t);
     no_comment = λ rest h. refl;
   }
 
-on_one_line : (items : SExprTrees) (texts : List (List ℕ)) → Texts items texts → Lays (SpellsSExpr (sexpr_list items)) ((codes "(" ++ joined (codes " ") texts) ++ codes ")")
+on_one_line : (items : SExprTrees) (texts : List (List ℕ)) → Texts items texts
+    → Lays (SpellsSExpr (sexpr_list items)) ((codes "(" ++ joined (codes " ") texts) ++ codes ")")
 on_one_line items texts l =
     lays_same (ap (λ text. text ++ codes ")") (append-nil (codes "(" ++ joined (codes " ") texts)))
     (list_laid items (joined (codes " ") texts) [] nothing_blank (joined_laid (codes " ") space_separates items texts l))
 
-on_lines : (indentation : ℕ) (items : SExprTrees) (texts : List (List ℕ)) → Texts items texts → Lays (SpellsSExpr (sexpr_list items)) (broken indentation texts)
+on_lines : (indentation : ℕ) (items : SExprTrees) (texts : List (List ℕ)) → Texts items texts
+    → Lays (SpellsSExpr (sexpr_list items)) (broken indentation texts)
 on_lines indentation items texts l =
     list_laid items (joined (line (indentation + 4)) texts) (line indentation) ((line_separates indentation).is_blank)
     (joined_laid (line (indentation + 4)) (line_separates (indentation + 4)) items texts l)
@@ -174,28 +205,33 @@ mutual
   one_lines_laid (more_sexprs first others) a = (one_line_laid first a.0, one_lines_laid others a.1)
 
 -- a list on one line or on several
-either : (stays : Bool) {phrase : List Placed → Type 0} {one several : List ℕ} → Lays phrase one → Lays phrase several → Lays phrase (if stays then one else several)
+either : (stays : Bool) {phrase : List Placed → Type 0} {one several : List ℕ} → Lays phrase one → Lays phrase several
+    → Lays phrase (if stays then one else several)
 either true o s = o
 either false o s = s
 
 mutual
   layout_laid : (width indentation : ℕ) (t : SExprTree) → HasAtoms t → Lays (SpellsSExpr t) (layout width indentation t)
   layout_laid width indentation (sexpr_atom text) a = atom_laid text a
-  layout_laid width indentation (sexpr_binding name below) a = binding_laid name a.0 below (layout width indentation below) (layout_laid width indentation below a.1)
+  layout_laid width indentation (sexpr_binding name below) a =
+      binding_laid name a.0 below (layout width indentation below) (layout_laid width indentation below a.1)
   layout_laid width indentation (sexpr_list items) a =
-      either (stays_on_one_line width items) (one_line_laid (sexpr_list items) a) (on_lines indentation items (layouts width (indentation + 4) items) (layouts_laid width (indentation + 4) items a))
+      either (stays_on_one_line width items) (one_line_laid (sexpr_list items) a)
+      (on_lines indentation items (layouts width (indentation + 4) items) (layouts_laid width (indentation + 4) items a))
 
   layouts_laid : (width indentation : ℕ) (items : SExprTrees) → HaveAtoms items → Texts items (layouts width indentation items)
   layouts_laid width indentation no_sexprs a = tt
   layouts_laid width indentation (more_sexprs first others) a = (layout_laid width indentation first a.0, layouts_laid width indentation others a.1)
 
 -- an S-expression on one line has its tokens, and behind them come those of what follows
-pub one_line_tokens : (t : SExprTree) → HasAtoms t → (source : Source) (rest : List ℕ) (left : List Placed) (end : ℕ) (clean : Bool) → ends_atom rest ≡ true → TokensOf source rest left end clean
+pub one_line_tokens : (t : SExprTree) → HasAtoms t → (source : Source) (rest : List ℕ) (left : List Placed) (end : ℕ) (clean : Bool)
+    → ends_atom rest ≡ true → TokensOf source rest left end clean
     → HasTokens source (SpellsSExpr t) (one_line t ++ rest) left end clean
 one_line_tokens t a = (one_line_laid t a).tokens
 
 -- and so has its layout at each width and indentation
-pub layout_tokens : (width indentation : ℕ) (t : SExprTree) → HasAtoms t → (source : Source) (rest : List ℕ) (left : List Placed) (end : ℕ) (clean : Bool) → ends_atom rest ≡ true → TokensOf source rest left end clean
+pub layout_tokens : (width indentation : ℕ) (t : SExprTree) → HasAtoms t
+    → (source : Source) (rest : List ℕ) (left : List Placed) (end : ℕ) (clean : Bool) → ends_atom rest ≡ true → TokensOf source rest left end clean
     → HasTokens source (SpellsSExpr t) (layout width indentation t ++ rest) left end clean
 layout_tokens width indentation t a = (layout_laid width indentation t a).tokens
 
@@ -206,12 +242,14 @@ abbrev pub printed : (width : ℕ) → List SExprTree → List ℕ
 printed width ts = flat_map (λ t. layout width 0 t ++ codes "\n") ts
 
 -- they have the tokens of each in order, and no others
-pub printed_tokens : (width : ℕ) (sexprs : List SExprTree) → HaveAtoms (sexpr_trees_of sexprs) → (source : Source) → (ts : List Placed) × Each SpellsSExpr sexprs ts × TokensOf source (printed width sexprs) ts source.size true
+pub printed_tokens : (width : ℕ) (sexprs : List SExprTree) → HaveAtoms (sexpr_trees_of sexprs) → (source : Source)
+    → (ts : List Placed) × Each SpellsSExpr sexprs ts × TokensOf source (printed width sexprs) ts source.size true
 printed_tokens width [] a source = ([], refl, ended (none tt))
 printed_tokens width (t ∷ sexprs) a source =
     let behind = printed_tokens width sexprs a.1 source in
     let front = layout_tokens width 0 t a.0 source (10 ∷ printed width sexprs) behind.0 source.size true refl (behind_newline behind.2) in (
       front.0 ++ behind.0,
       (front.0, behind.0, refl, front.1, behind.1),
-      subst (λ (all : List ℕ). TokensOf source all (front.0 ++ behind.0) source.size true) (sym (append_assoc (layout width 0 t) (codes "\n") (printed width sexprs))) front.2,
+      subst (λ (all : List ℕ). TokensOf source all (front.0 ++ behind.0) source.size true)
+          (sym (append_assoc (layout width 0 t) (codes "\n") (printed width sexprs))) front.2,
     )

@@ -1,5 +1,6 @@
 -- The atoms of what is printed are text, since the whole is.
-use Rattle.std.proofs.Common.{◌≡◌, ℕ, zero, suc, ◌+◌, ◌<◌, List, [], ◌∷◌, ◌++◌, length, get_or, take, Bool, true, false, refl, ap, subst, length-append, append_assoc, lit<, arith}
+use Rattle.std.proofs.Common.{◌≡◌, ℕ, zero, suc, ◌+◌, ◌<◌, List, [], ◌∷◌, ◌++◌, length, get_or, take, Bool, true, false, refl, ap, subst}
+use Rattle.std.proofs.Common.{length-append, append_assoc, lit<, arith}
 use Rattle.std.specs.Prelude.{if◌then◌else◌, replicate, codes}
 use Rattle.std.specs.List.{flat_map}
 use Rattle.std.specs.Str.{IsUtf8}
@@ -51,12 +52,14 @@ abbrev AreTexts : List (List ℕ) → Type 0
 AreTexts [] = Unit {0}
 AreTexts (text ∷ texts) = IsUtf8 text × AreTexts texts
 
-row_texts : (b : ℕ) (bs : List ℕ) → b < 128 → EachAscii bs → (first : List ℕ) (texts : List (List ℕ)) → IsUtf8 (first ++ flat_map (λ text. (b ∷ bs) ++ text) texts) → AreTexts (first ∷ texts)
+row_texts : (b : ℕ) (bs : List ℕ) → b < 128 → EachAscii bs → (first : List ℕ) (texts : List (List ℕ))
+    → IsUtf8 (first ++ flat_map (λ text. (b ∷ bs) ++ text) texts) → AreTexts (first ∷ texts)
 row_texts b bs h hs first [] u = (subst IsUtf8 (append-nil first) u, tt)
 row_texts b bs h hs first (text ∷ texts) u =
     let rest = flat_map (λ text. (b ∷ bs) ++ text) texts in (
       text_before first b ((bs ++ text) ++ rest) h u,
-      row_texts b bs h hs text texts (text_behind bs (text ++ rest) hs (subst IsUtf8 (append_assoc bs text rest) (utf8_behind_ascii first b ((bs ++ text) ++ rest) u h))),
+      row_texts b bs h hs text texts (text_behind bs (text
+          ++ rest) hs (subst IsUtf8 (append_assoc bs text rest) (utf8_behind_ascii first b ((bs ++ text) ++ rest) u h))),
     )
 
 joined_texts : (b : ℕ) (bs : List ℕ) → b < 128 → EachAscii bs → (texts : List (List ℕ)) → IsUtf8 (joined (b ∷ bs) texts) → AreTexts texts
@@ -90,7 +93,8 @@ mutual
 broken_texts : (n : ℕ) (texts : List (List ℕ)) → IsUtf8 (broken n texts) → AreTexts texts
 broken_texts n texts u =
     let row = joined (line (n + 4)) texts in
-    let whole = text_before (row ++ 10 ∷ replicate n 32) 41 [] (lit< tt) (utf8_behind_ascii [] 40 ((row ++ 10 ∷ replicate n 32) ++ 41 ∷ []) u (lit< tt)) in
+    let whole = text_before (row ++ 10 ∷ replicate n 32) 41 [] (lit< tt) (utf8_behind_ascii [] 40 ((row ++ 10 ∷ replicate n 32)
+    ++ 41 ∷ []) u (lit< tt)) in
     joined_texts 10 (replicate (n + 4) 32) (lit< tt) (spaces_ascii (n + 4)) texts (text_before row 10 (replicate n 32) (lit< tt) whole)
 
 list_texts : (width n : ℕ) (items : SExprTrees) (stays : Bool) → (AreTexts (layouts width (n + 4) items) → EachAtoms IsUtf8 items)

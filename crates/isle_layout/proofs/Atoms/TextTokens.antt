@@ -1,5 +1,6 @@
 -- The tokens of a text stand in it as tokens do.
-use Rattle.std.proofs.Common.{◌≡◌, ℕ, zero, suc, ◌-◌, ◌^◌, ◌≤◌, le-leb, List, [], ◌∷◌, Bool, true, false, cond, Some, None, refl, ap, subst, ◌∙◌, arith}
+use Rattle.std.proofs.Common.{◌≡◌, ℕ, zero, suc, ◌-◌, ◌^◌, ◌≤◌, le-leb, List, [], ◌∷◌, Bool, true, false, cond, Some, None, refl, ap, subst, ◌∙◌}
+use Rattle.std.proofs.Common.{arith}
 use Rattle.std.specs.Prelude.{nat_le, nat_lt, pos, neg_ℤ}
 use Rattle.std.specs.List.{list_all}
 use Rattle.std.proofs.lemmas.Bool.{and_from, leb-true, ltb-true, ltb-false}
@@ -61,7 +62,8 @@ from_large : (n : ℕ) (b : Bool) (t : Token) → 2 ^ 127 ≤ n → nat_lt n (2 
 from_large n true t h eb e = same_is_text (Big n) t e (λ p. (h, ltb-true n (2 ^ 128) eb))
 from_large n false t h eb e = none_is_some t e
 
-from_small : (n : ℕ) (a : Bool) (t : Token) → nat_lt n (2 ^ 127) ≡ a → cond a (Some (Int (pos n))) (cond (nat_lt n (2 ^ 128)) (Some (Big n)) None) ≡ Some t → IsText t
+from_small : (n : ℕ) (a : Bool) (t : Token) → nat_lt n (2 ^ 127) ≡ a
+    → cond a (Some (Int (pos n))) (cond (nat_lt n (2 ^ 128)) (Some (Big n)) None) ≡ Some t → IsText t
 from_small n true t ea e = same_is_text (Int (pos n)) t e (λ p. ea)
 from_small n false t ea e = from_large n (nat_lt n (2 ^ 128)) t (ltb-false n (2 ^ 127) ea) refl e
 
@@ -77,7 +79,8 @@ integer_is_text : (negative : Bool) (n : ℕ) (t : Token) → integer_token nega
 integer_is_text true n t e = from_negative n (nat_le n (2 ^ 127)) t refl e
 integer_is_text false n t e = from_small n (nat_lt n (2 ^ 127)) t refl e
 
-digits_are_text : (negative : Bool) (radix : ℕ) (digits : List ℕ) (some : Bool) (t : Token) → cond some (integer_token negative (spelt radix digits)) None ≡ Some t → IsText t
+digits_are_text : (negative : Bool) (radix : ℕ) (digits : List ℕ) (some : Bool) (t : Token)
+    → cond some (integer_token negative (spelt radix digits)) None ≡ Some t → IsText t
 digits_are_text negative radix digits true t e = integer_is_text negative (spelt radix digits) t e
 digits_are_text negative radix digits false t e = none_is_some t e
 
@@ -89,7 +92,8 @@ token_is_text (integer {text = text} {token = t} e f) =
     digits_are_text (is_negative text) (radix_of (unsigned_of text)) (digits_of text) (has_digit (digits_of text)) t f
 token_is_text (word {text = text} e) = λ p. word_is_symbol text e
 
-pub tokens_are_text : {source : Source} {text : List ℕ} {left : List Placed} {end : ℕ} {clean : Bool} → TokensOf source text left end clean → AreTextTokens left
+pub tokens_are_text : {source : Source} {text : List ℕ} {left : List Placed} {end : ℕ} {clean : Bool} → TokensOf source text left end clean
+    → AreTextTokens left
 tokens_are_text (ended gap) = tt
 tokens_are_text (stopped gap some none) = tt
 tokens_are_text (token gap is more) = (token_is_text is _, tokens_are_text more)

@@ -1,5 +1,6 @@
 -- Which lists fit on one line: of a list those of its items, and its items are left from one place on.
-use Rattle.std.proofs.Common.{◌≡◌, ◌+◌, ◌<◌, ℕ, List, [], ◌∷◌, ◌++◌, length, get_or, drop, drop-cons, add-one, append_assoc, refl, sym, ap, ◌∙◌, arith, suc, Some, None, Bool, true, false, if◌then◌else◌, Option, is_some, nat_le, nat_lt, ◌||◌}
+use Rattle.std.proofs.Common.{◌≡◌, ◌+◌, ◌<◌, ℕ, List, [], ◌∷◌, ◌++◌, length, get_or, drop, drop-cons, add-one, append_assoc, refl, sym, ap, ◌∙◌}
+use Rattle.std.proofs.Common.{arith, suc, Some, None, Bool, true, false, if◌then◌else◌, Option, is_some, nat_le, nat_lt, ◌||◌}
 use Rattle.std.proofs.lemmas.Bool.Decides.{nat_tests}
 use Rattle.isle_layout.specs.declared.sexpr.SExpr.{SExpr}
 use Rattle.isle_layout.specs.SExprShape.{sexpr_of, sexprs_of}
@@ -11,12 +12,15 @@ pub listed : (ps : List SExpr) (i : ℕ) (p : SExpr) → i < length ps → p ≡
 listed ps i p low is = rw add-one (drop-cons ps i p low ∙ ap (λ x. x ∷ drop (suc i) ps) (sym is))
 
 -- one item more is counted
-pub length_more : (ps : List SExpr) (i : ℕ) (p : SExpr) (n total : ℕ) → i < length ps → p ≡ get_or ps i p → n + lengths (sexprs_of (drop i ps)) ≡ total → (n + one_line_length (sexpr_of p)) + lengths (sexprs_of (drop (i + 1) ps)) ≡ total
+pub length_more : (ps : List SExpr) (i : ℕ) (p : SExpr) (n total : ℕ) → i < length ps → p ≡ get_or ps i p
+    → n + lengths (sexprs_of (drop i ps)) ≡ total → (n + one_line_length (sexpr_of p)) + lengths (sexprs_of (drop (i + 1) ps)) ≡ total
 length_more ps i p n total low is so_far =
     omega (arith, so_far, ap (λ qs. lengths (sexprs_of qs)) (listed ps i p low is))
 
 -- what fits of one item is pushed
-pub fits_more : (width : ℕ) (ps : List SExpr) (i : ℕ) (p : SExpr) (before after total : List Bool) → i < length ps → p ≡ get_or ps i p → before ++ fits_of_all width (sexprs_of (drop i ps)) ≡ total → after ≡ before ++ fits_of width (sexpr_of p) → after ++ fits_of_all width (sexprs_of (drop (i + 1) ps)) ≡ total
+pub fits_more : (width : ℕ) (ps : List SExpr) (i : ℕ) (p : SExpr) (before after total : List Bool) → i < length ps → p ≡ get_or ps i p
+    → before ++ fits_of_all width (sexprs_of (drop i ps)) ≡ total → after ≡ before ++ fits_of width (sexpr_of p)
+    → after ++ fits_of_all width (sexprs_of (drop (i + 1) ps)) ≡ total
 fits_more width ps i p before after total low is so_far pushed =
     let rest = fits_of_all width (sexprs_of (drop (i + 1) ps)) in
     let split = ap (λ qs. before ++ fits_of_all width (sexprs_of qs)) (listed ps i p low is) in
@@ -30,10 +34,12 @@ few [] = refl
 few (p ∷ []) = refl
 few (p ∷ q ∷ ps) = grind (arith, nat_tests)
 
-pub stays_by_length : (width : ℕ) (found : Option ℕ) (ps : List SExpr) (n : ℕ) → found ≡ within width n → (is_some found || nat_lt (length ps) 2) ≡ (nat_le n width || are_few (sexprs_of ps))
+pub stays_by_length : (width : ℕ) (found : Option ℕ) (ps : List SExpr) (n : ℕ) → found ≡ within width n
+    → (is_some found || nat_lt (length ps) 2) ≡ (nat_le n width || are_few (sexprs_of ps))
 stays_by_length width found ps n is = rw (is, is_some-within, few) refl
 
 -- that of a list comes before those below it
-pub first_fit : (on_one_line : Bool) (below rest : List Bool) → (if on_one_line then true ∷ [] else false ∷ below) ++ rest ≡ on_one_line ∷ ((if on_one_line then [] else below) ++ rest)
+pub first_fit : (on_one_line : Bool) (below rest : List Bool)
+    → (if on_one_line then true ∷ [] else false ∷ below) ++ rest ≡ on_one_line ∷ ((if on_one_line then [] else below) ++ rest)
 first_fit true below rest = refl
 first_fit false below rest = refl

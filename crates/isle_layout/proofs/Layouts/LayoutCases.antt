@@ -35,12 +35,15 @@ unfolding char_count
 one_item = refl
 
 -- a binding's pattern is laid out at the binding's indentation
-binding : layout 3 4 (sexpr_binding (codes "x") (sexpr_list (more_sexprs (sexpr_atom (codes "and")) (more_sexprs (sexpr_atom (codes "a")) (more_sexprs (sexpr_atom (codes "b")) no_sexprs))))) ≡ codes "x @ (and\n        a\n        b\n    )"
+binding : layout 3 4 (sexpr_binding (codes "x")
+    (sexpr_list (more_sexprs (sexpr_atom (codes "and")) (more_sexprs (sexpr_atom (codes "a")) (more_sexprs (sexpr_atom (codes "b")) no_sexprs)))))
+    ≡ codes "x @ (and\n        a\n        b\n    )"
 unfolding char_count
 binding = refl
 
 -- characters are counted, and not bytes
-accents : layout 7 0 (sexpr_list (more_sexprs (sexpr_atom (110 ∷ 195 ∷ 169 ∷ [])) (more_sexprs (sexpr_atom (100 ∷ 195 ∷ 169 ∷ [])) no_sexprs))) ≡ 40 ∷ 110 ∷ 195 ∷ 169 ∷ 32 ∷ 100 ∷ 195 ∷ 169 ∷ 41 ∷ []
+accents : layout 7 0 (sexpr_list (more_sexprs (sexpr_atom (110 ∷ 195 ∷ 169 ∷ [])) (more_sexprs (sexpr_atom (100 ∷ 195 ∷ 169 ∷ [])) no_sexprs)))
+    ≡ 40 ∷ 110 ∷ 195 ∷ 169 ∷ 32 ∷ 100 ∷ 195 ∷ 169 ∷ 41 ∷ []
 unfolding char_count
 accents = refl
 

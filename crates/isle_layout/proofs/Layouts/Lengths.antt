@@ -1,5 +1,6 @@
 -- How many characters texts have.
-use Rattle.std.proofs.Common.{◌≡◌, ◌+◌, ◌/◌, ◌%◌, ◌<◌, ◌≤◌, ℕ, List, [], ◌∷◌, ◌++◌, length, refl, sym, ap, ◌∙◌, arith, Bool, true, false, cond, ◌⊎◌, inl, inr, nat_lt, codes, max}
+use Rattle.std.proofs.Common.{◌≡◌, ◌+◌, ◌/◌, ◌%◌, ◌<◌, ◌≤◌, ℕ, List, [], ◌∷◌, ◌++◌, length, refl, sym, ap, ◌∙◌, arith, Bool, true, false, cond, ◌⊎◌}
+use Rattle.std.proofs.Common.{inl, inr, nat_lt, codes, max}
 use Rattle.std.proofs.lemmas.Bool.Decides.{nat_tests}
 use Rattle.std.specs.List.{flat_map}
 use Rattle.isle_layout.specs.declared.sexpr.SExpr.{SExpr}
@@ -36,9 +37,15 @@ two b low h l =
     omega (arith, count_none, begins_character b ((128 + low) ∷ []) (inr h), goes_on (128 + low) [] (omega arith) (omega arith))
 
 -- and with one more that goes on still
-one_more : (b first second : ℕ) (bs : List ℕ) → 192 ≤ b → first < 64 → char_count (b ∷ (128 + second) ∷ bs) ≡ 1 → char_count (b ∷ (128 + first) ∷ (128 + second) ∷ bs) ≡ 1
+one_more : (b first second : ℕ) (bs : List ℕ) → 192 ≤ b → first < 64 → char_count (b ∷ (128 + second) ∷ bs) ≡ 1
+    → char_count (b ∷ (128 + first) ∷ (128 + second) ∷ bs) ≡ 1
 one_more b first second bs h l e =
-    omega (arith, begins_character b ((128 + second) ∷ bs) (inr h), begins_character b ((128 + first) ∷ (128 + second) ∷ bs) (inr h), goes_on (128 + first) ((128 + second) ∷ bs) (omega arith) (omega arith))
+    omega (
+      arith,
+      begins_character b ((128 + second) ∷ bs) (inr h),
+      begins_character b ((128 + first) ∷ (128 + second) ∷ bs) (inr h),
+      goes_on (128 + first) ((128 + second) ∷ bs) (omega arith) (omega arith),
+    )
 
 count_choice : (b : Bool) (xs ys : List ℕ) → (b ≡ true → char_count xs ≡ 1) → char_count ys ≡ 1 → char_count (cond b xs ys) ≡ 1
 count_choice true xs ys first second = first refl
@@ -50,9 +57,11 @@ char_count-encode c =
     count_choice (nat_lt c 128) (c ∷ []) _ (λ small. omega (arith, count_none, begins_character c [] (inl (ltb-true c 128 small))))
     (count_choice (nat_lt c 2048) ((192 + c / 64) ∷ (128 + c % 64) ∷ []) _ (λ small. two (192 + c / 64) (c % 64) (omega arith) (omega arith))
     (count_choice (nat_lt c 65536) ((224 + c / 4096) ∷ (128 + c / 64 % 64) ∷ (128 + c % 64) ∷ []) _
-    (λ small. one_more (224 + c / 4096) (c / 64 % 64) (c % 64) [] (omega arith) (omega arith) (two (224 + c / 4096) (c % 64) (omega arith) (omega arith)))
+    (λ small. one_more (224 + c / 4096) (c / 64 % 64) (c % 64) [] (omega arith) (omega arith)
+    (two (224 + c / 4096) (c % 64) (omega arith) (omega arith)))
     (one_more (240 + c / 262144) (c / 4096 % 64) (c / 64 % 64) ((128 + c % 64) ∷ []) (omega arith) (omega arith)
-    (one_more (240 + c / 262144) (c / 64 % 64) (c % 64) [] (omega arith) (omega arith) (two (240 + c / 262144) (c % 64) (omega arith) (omega arith))))))
+    (one_more (240 + c / 262144) (c / 64 % 64) (c % 64) [] (omega arith) (omega arith)
+    (two (240 + c / 262144) (c % 64) (omega arith) (omega arith))))))
 
 count_encodes : (cs : List ℕ) → char_count (encodes cs) ≡ length cs
 count_encodes [] = count_none
@@ -88,7 +97,12 @@ count_space text = refl
 spaced_count : (ps : List SExpr) → char_count (flat_map (λ text. codes " " ++ text) (one_lines (sexprs_of ps))) ≡ length ps + lengths (sexprs_of ps)
 spaced_count [] = omega (arith, count_none)
 spaced_count (p ∷ ps) =
-    omega (arith, char_count-append (codes " " ++ one_line (sexpr_of p)) (flat_map (λ text. codes " " ++ text) (one_lines (sexprs_of ps))), count_space (one_line (sexpr_of p)), spaced_count ps)
+    omega (
+      arith,
+      char_count-append (codes " " ++ one_line (sexpr_of p)) (flat_map (λ text. codes " " ++ text) (one_lines (sexprs_of ps))),
+      count_space (one_line (sexpr_of p)),
+      spaced_count ps,
+    )
 
 joined_count : (ps : List SExpr) → char_count (joined (codes " ") (one_lines (sexprs_of ps))) + 1 ≡ max (length ps) 1 + lengths (sexprs_of ps)
 joined_count [] = omega (arith, count_none)
@@ -98,4 +112,10 @@ joined_count (p ∷ ps) =
 -- a list's length is those of its items, with the parentheses and the spaces
 pub list_length : (ps : List SExpr) → (max (length ps) 1 + 1) + lengths (sexprs_of ps) ≡ one_line_length (sexpr_list (sexprs_of ps))
 list_length ps =
-    omega (arith, char_count-append (codes "(" ++ joined (codes " ") (one_lines (sexprs_of ps))) (codes ")"), count_open (joined (codes " ") (one_lines (sexprs_of ps))), count_close, joined_count ps)
+    omega (
+      arith,
+      char_count-append (codes "(" ++ joined (codes " ") (one_lines (sexprs_of ps))) (codes ")"),
+      count_open (joined (codes " ") (one_lines (sexprs_of ps))),
+      count_close,
+      joined_count ps,
+    )

@@ -54,4 +54,5 @@ has_none (Kept k) e = tt
 pub defs_have_none : (defs : List Def) → All HasNoMacroArgs defs → list_any def_has_macro_arg defs ≡ false
 defs_have_none [] h = refl
 defs_have_none (def ∷ others) h =
-    either (def_has_macro_arg def) (list_any def_has_macro_arg others) (found_none def (All-head HasNoMacroArgs def others h)) (defs_have_none others (All-tail HasNoMacroArgs def others h))
+    either (def_has_macro_arg def) (list_any def_has_macro_arg others) (found_none def (All-head HasNoMacroArgs def others h))
+    (defs_have_none others (All-tail HasNoMacroArgs def others h))

@@ -23,7 +23,8 @@ size_is (sexpr.Binding _ _) = omega arith
 size_is (sexpr.List _) = omega arith
 
 -- the items of an innermost list are smaller than what is bound to it
-pub items_below : (s q : SExpr) (items : SExprTrees) (ps : List SExpr) → sexpr_of q ≡ innermost (sexpr_of s) → q ≡ sexpr.List items → sexprs_of ps ≡ items → most (λ x. size-SExpr x) ps < size-SExpr s
+pub items_below : (s q : SExpr) (items : SExprTrees) (ps : List SExpr) → sexpr_of q ≡ innermost (sexpr_of s) → q ≡ sexpr.List items
+    → sexprs_of ps ≡ items → most (λ x. size-SExpr x) ps < size-SExpr s
 items_below s q items ps e is below =
     let whole : size-SExpr q ≡ size-SExpr (sexpr.List items) = ap size-SExpr is in
     omega (arith, size_is s, size_is q, ap sexpr_height e, innermost_height (sexpr_of s), most_sexpr_size ps, ap sexpr_heights below)
@@ -62,9 +63,11 @@ no_names (sexpr.Binding x below) other = absurd (other x below refl)
 no_names (sexpr.List _) other = refl
 
 -- a name that is passed has been counted
-pub name_counted : (s q : SExpr) (n : ℕ) (x : List ℕ) (below : SExprTree) → s ≡ sexpr.Binding x below → sexpr_of q ≡ below → ((n + char_count x) + 3) + char_count (names_text (sexpr_of q)) ≡ n + char_count (names_text (sexpr_of s))
+pub name_counted : (s q : SExpr) (n : ℕ) (x : List ℕ) (below : SExprTree) → s ≡ sexpr.Binding x below → sexpr_of q ≡ below
+    → ((n + char_count x) + 3) + char_count (names_text (sexpr_of q)) ≡ n + char_count (names_text (sexpr_of s))
 name_counted s q n x below is same =
-    let whole : char_count (names_text (sexpr_of s)) ≡ char_count ((x ++ codes " @ ") ++ names_text below) = ap (λ (r : SExpr). char_count (names_text (sexpr_of r))) is in
+    let whole : char_count (names_text (sexpr_of s)) ≡ char_count ((x ++ codes " @ ") ++ names_text below) =
+    ap (λ (r : SExpr). char_count (names_text (sexpr_of r))) is in
     let rest : char_count (names_text (sexpr_of q)) ≡ char_count (names_text below) = ap (λ t. char_count (names_text t)) same in
     omega (arith, whole, rest, char_count-append (x ++ codes " @ ") (names_text below), char_count-append x (codes " @ "), count_at)
 
@@ -77,12 +80,16 @@ chain_length t =
     sym (ap char_count (one_line_innermost t) ∙ char_count-append (names_text t) (one_line (innermost t)))
 
 -- after a chain's names its subject is written
-pub one_line_written : (s q : SExpr) (before between : List ℕ) → sexpr_of q ≡ innermost (sexpr_of s) → between ≡ before ++ names_text (sexpr_of s) → between ++ one_line (sexpr_of q) ≡ before ++ one_line (sexpr_of s)
+pub one_line_written : (s q : SExpr) (before between : List ℕ) → sexpr_of q ≡ innermost (sexpr_of s) → between ≡ before ++ names_text (sexpr_of s)
+    → between ++ one_line (sexpr_of q) ≡ before ++ one_line (sexpr_of s)
 one_line_written s q before between same names =
     let rest = one_line (innermost (sexpr_of s)) in
-    ap (λ t. between ++ one_line t) same ∙ ap (λ text. text ++ rest) names ∙ append_assoc before (names_text (sexpr_of s)) rest ∙ ap (λ text. before ++ text) (sym (one_line_innermost (sexpr_of s)))
+    ap (λ t. between ++ one_line t) same ∙ ap (λ text. text ++ rest) names ∙ append_assoc before (names_text (sexpr_of s)) rest
+    ∙ ap (λ text. before ++ text) (sym (one_line_innermost (sexpr_of s)))
 
-pub layout_written : (width indentation : ℕ) (s q : SExpr) (before between : List ℕ) → sexpr_of q ≡ innermost (sexpr_of s) → between ≡ before ++ names_text (sexpr_of s) → between ++ layout width indentation (sexpr_of q) ≡ before ++ layout width indentation (sexpr_of s)
+pub layout_written : (width indentation : ℕ) (s q : SExpr) (before between : List ℕ) → sexpr_of q ≡ innermost (sexpr_of s)
+    → between ≡ before ++ names_text (sexpr_of s) → between ++ layout width indentation (sexpr_of q) ≡ before ++ layout width indentation (sexpr_of s)
 layout_written width indentation s q before between same names =
     let rest = layout width indentation (innermost (sexpr_of s)) in
-    ap (λ t. between ++ layout width indentation t) same ∙ ap (λ text. text ++ rest) names ∙ append_assoc before (names_text (sexpr_of s)) rest ∙ ap (λ text. before ++ text) (sym (layout_innermost width indentation (sexpr_of s)))
+    ap (λ t. between ++ layout width indentation t) same ∙ ap (λ text. text ++ rest) names ∙ append_assoc before (names_text (sexpr_of s)) rest
+    ∙ ap (λ text. before ++ text) (sym (layout_innermost width indentation (sexpr_of s)))

@@ -18,15 +18,24 @@ use Rattle.isle_syntax.specs.declared.ast.Extern.{Extern as ExternTree}
 use Rattle.isle_syntax.specs.declared.ast.Extern.TheVariants.{Constructor as extern_constructor, Extractor as extern_extractor, Const as extern_const}
 use Rattle.isle_syntax.specs.declared.ast.Def.{Def}
 use Rattle.isle_syntax.specs.declared.ast.Def.TheVariants.{TypeDef, Decl, Rule, Extractor, Extern, Converter, Pragma, Kept}
-use Rattle.isle_syntax.specs.Trees.PatternTree.{PatternTree, PatternTrees, pattern_var, pattern_bind, pattern_bool, pattern_int, pattern_prim, pattern_term, pattern_wildcard, pattern_and, pattern_macro_arg, no_patterns, more_patterns}
+use Rattle.isle_syntax.specs.Trees.PatternTree.{PatternTree, PatternTrees, pattern_var, pattern_bind, pattern_bool, pattern_int, pattern_prim}
+use Rattle.isle_syntax.specs.Trees.PatternTree.{pattern_term, pattern_wildcard, pattern_and, pattern_macro_arg, no_patterns, more_patterns}
 use Rattle.isle_syntax.specs.Trees.PatternShape.{pattern_of}
-use Rattle.isle_syntax.specs.Trees.ExprTree.{ExprTree, ExprTrees, LetTrees, expr_term, expr_var, expr_bool, expr_int, expr_prim, expr_let, no_exprs, more_exprs, no_lets, more_lets}
+use Rattle.isle_syntax.specs.Trees.ExprTree.{ExprTree, ExprTrees, LetTrees, expr_term, expr_var, expr_bool, expr_int, expr_prim, expr_let, no_exprs}
+use Rattle.isle_syntax.specs.Trees.ExprTree.{more_exprs, no_lets, more_lets}
 use Rattle.isle_syntax.specs.Trees.ExprShape.{expr_of}
 use Rattle.isle_syntax.specs.Trees.ItemTree.{ItemTree, ItemTrees, item_int, item_big, item_symbol, item_at, item_list, no_items, more_items}
-use Rattle.isle_syntax.specs.Trees.WithoutPos.{ident_without_pos, pattern_tree_without_pos, pattern_trees_without_pos, pattern_without_pos, expr_tree_without_pos, expr_trees_without_pos, let_trees_without_pos, expr_without_pos, item_tree_without_pos, item_trees_without_pos, struct_field_without_pos, tuple_field_without_pos, fields_without_pos, variant_without_pos, type_value_without_pos, type_without_pos, decl_without_pos, iflet_without_pos, rule_without_pos, extractor_without_pos, extern_without_pos, def_without_pos}
+use Rattle.isle_syntax.specs.Trees.WithoutPos.{ident_without_pos, pattern_tree_without_pos, pattern_trees_without_pos, pattern_without_pos}
+use Rattle.isle_syntax.specs.Trees.WithoutPos.{expr_tree_without_pos, expr_trees_without_pos, let_trees_without_pos, expr_without_pos}
+use Rattle.isle_syntax.specs.Trees.WithoutPos.{item_tree_without_pos, item_trees_without_pos, struct_field_without_pos, tuple_field_without_pos}
+use Rattle.isle_syntax.specs.Trees.WithoutPos.{fields_without_pos, variant_without_pos, type_value_without_pos, type_without_pos, decl_without_pos}
+use Rattle.isle_syntax.specs.Trees.WithoutPos.{iflet_without_pos, rule_without_pos, extractor_without_pos, extern_without_pos, def_without_pos}
 use Rattle.isle_layout.specs.SExprTree.{SExprTree, sexpr_atom, sexpr_binding}
-use Rattle.isle_layout.specs.Spellings.{listed, name_sexpr, pattern_sexpr, pattern_sexprs, expr_sexpr, expr_sexprs, let_sexprs, item_sexpr, item_sexprs}
-use Rattle.isle_layout.specs.DefSpellings.{flag, struct_field_sexpr, tuple_field_sexpr, fields_sexprs, variant_of, variant_sexpr, type_value_sexpr, type_sexpr, decl_flags, decl_sexpr, extractor_sexpr, extern_sexpr, rule_name, rule_priority, iflet_sexpr, rule_sexpr, def_sexpr}
+use Rattle.isle_layout.specs.Spellings.{listed, name_sexpr, pattern_sexpr, pattern_sexprs, expr_sexpr, expr_sexprs, let_sexprs, item_sexpr}
+use Rattle.isle_layout.specs.Spellings.{item_sexprs}
+use Rattle.isle_layout.specs.DefSpellings.{flag, struct_field_sexpr, tuple_field_sexpr, fields_sexprs, variant_of, variant_sexpr, type_value_sexpr}
+use Rattle.isle_layout.specs.DefSpellings.{type_sexpr, decl_flags, decl_sexpr, extractor_sexpr, extern_sexpr, rule_name, rule_priority, iflet_sexpr}
+use Rattle.isle_layout.specs.DefSpellings.{rule_sexpr, def_sexpr}
 use Rattle.isle_layout.specs.Layout.{layout}
 use Rattle.isle_layout.specs.Prints.{print_of}
 use Rattle.isle_layout.proofs.SpeltTexts.WithoutPos.{pattern_tree, expr_tree}
@@ -115,7 +124,8 @@ value_same (Struct fs _) = ap (λ s. listed (sexpr_atom (codes "struct") ∷ s))
 
 type_same : (t : TypeTree) → type_sexpr (type_without_pos t) ≡ type_sexpr t
 type_same t =
-    ap (λ s. listed (sexpr_atom (codes "type") ∷ name_sexpr t.name ∷ (flag (codes "extern") t.is_extern ++ (flag (codes "nodebug") t.is_nodebug ++ (s ∷ []))))) (value_same t.ty)
+    ap (λ s. listed (sexpr_atom (codes "type") ∷ name_sexpr t.name ∷ (flag (codes "extern") t.is_extern
+    ++ (flag (codes "nodebug") t.is_nodebug ++ (s ∷ []))))) (value_same t.ty)
 
 decl_same : (d : DeclTree) → decl_sexpr (decl_without_pos d) ≡ decl_sexpr d
 decl_same d =
@@ -140,7 +150,8 @@ iflet_same c = (λ i. listed (sexpr_atom (codes "if-let") ∷ pattern_same c.pat
 rule_same : (r : RuleTree) → rule_sexpr (rule_without_pos r) ≡ rule_sexpr r
 rule_same r =
     let clauses = map_same iflet_sexpr iflet_without_pos iflet_same r.iflets in
-    (λ i. listed (sexpr_atom (codes "rule") ∷ (name_same r.name i ++ (rule_priority r.prio ++ (pattern_same r.pattern i ∷ (clauses i ++ (expr_same r.expr i ∷ [])))))))
+    (λ i. listed (sexpr_atom (codes "rule") ∷ (name_same r.name i
+    ++ (rule_priority r.prio ++ (pattern_same r.pattern i ∷ (clauses i ++ (expr_same r.expr i ∷ [])))))))
 
 -- a definition is spelt as it is without its positions
 pub spelt_without_pos : (d : Def) → def_sexpr (def_without_pos d) ≡ def_sexpr d

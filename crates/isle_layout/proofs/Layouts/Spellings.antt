@@ -8,9 +8,11 @@ use Rattle.isle_syntax.specs.Trees.PatternShape.{pattern_of, patterns_of}
 use Rattle.isle_syntax.specs.Trees.ExprShape.{expr_of, exprs_of, lets_of}
 use Rattle.isle_syntax.specs.Trees.ItemShape.{item_of, items_of}
 use Rattle.isle_layout.specs.SExprTree.{SExprTree, sexpr_binding}
-use Rattle.isle_layout.specs.Spellings.{bound_sexpr, pattern_sexpr, pattern_sexprs, expr_sexpr, expr_sexprs, let_sexprs, let_def_sexpr, item_sexpr, item_sexprs}
+use Rattle.isle_layout.specs.Spellings.{bound_sexpr, pattern_sexpr, pattern_sexprs, expr_sexpr, expr_sexprs, let_sexprs, let_def_sexpr, item_sexpr}
+use Rattle.isle_layout.specs.Spellings.{item_sexprs}
 
-pub pattern_sexprs_taken : (n : ℕ) (ps : List Pattern) → length ps ≤ n → map (λ p. pattern_sexpr (pattern_of p)) (take n ps) ≡ pattern_sexprs (patterns_of ps)
+pub pattern_sexprs_taken : (n : ℕ) (ps : List Pattern) → length ps ≤ n
+    → map (λ p. pattern_sexpr (pattern_of p)) (take n ps) ≡ pattern_sexprs (patterns_of ps)
 pattern_sexprs_taken zero [] l = refl
 pattern_sexprs_taken (suc n) [] l = refl
 pattern_sexprs_taken zero (p ∷ ps) l = absurd (omega arith)
@@ -43,5 +45,6 @@ bound_sexpr-append : (xs : List (List ℕ)) (x : List ℕ) (t : SExprTree) → b
 bound_sexpr-append [] x t = refl
 bound_sexpr-append (y ∷ xs) x t = ap (sexpr_binding y) (bound_sexpr-append xs x t)
 
-pub bound_sexpr_pushed : (xs ys : List (List ℕ)) (x : List ℕ) (t : SExprTree) → ys ≡ xs ++ x ∷ [] → bound_sexpr ys t ≡ bound_sexpr xs (sexpr_binding x t)
+pub bound_sexpr_pushed : (xs ys : List (List ℕ)) (x : List ℕ) (t : SExprTree) → ys ≡ xs ++ x ∷ []
+    → bound_sexpr ys t ≡ bound_sexpr xs (sexpr_binding x t)
 bound_sexpr_pushed xs ys x t e = ap (λ zs. bound_sexpr zs t) e ∙ bound_sexpr-append xs x t

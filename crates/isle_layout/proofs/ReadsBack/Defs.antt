@@ -28,7 +28,8 @@ use Rattle.isle_layout.proofs.ReadsBack.Terms.{decl_again, extractor_again, exte
 use Rattle.isle_layout.proofs.ReadsBack.Rules.{body_row, rule_again}
 
 -- the word that a definition's parenthesis opens with, and what follows
-behind_word : (w : List ℕ) (rest : List SExprTree) (ts : List Placed) → is_symbol w ≡ true → Reads (listed (sexpr_atom w ∷ rest)) ts → (Opening tt ⊙ (Says w tt ⊙ Row rest (Closes tt))) ts
+behind_word : (w : List ℕ) (rest : List SExprTree) (ts : List Placed) → is_symbol w ≡ true → Reads (listed (sexpr_atom w ∷ rest)) ts
+    → (Opening tt ⊙ (Says w tt ⊙ Row rest (Closes tt))) ts
 behind_word w rest ts s l =
     let r = listed_row (sexpr_atom w ∷ rest) ts l in
     (r.0, r.1, r.2, r.3, (r.4.0, r.4.1, r.4.2, word_again w r.4.0 s r.4.3, r.4.4))
@@ -40,11 +41,13 @@ extern_listed (extern_const _ _ _) ts l = l
 
 def_again : (d : Def) (ts : List Placed) → has_writable_words d ≡ true → Reads (def_sexpr d) ts → Again SpellsDef def_without_pos d ts
 def_again (TypeDef t) ts h l =
-    let r = behind_word (codes "type") (name_sexpr t.name ∷ (flag (codes "extern") t.is_extern ++ (flag (codes "nodebug") t.is_nodebug ++ (type_value_sexpr t.ty ∷ [])))) ts refl l in
+    let r = behind_word (codes "type") (name_sexpr t.name ∷ (flag (codes "extern") t.is_extern
+    ++ (flag (codes "nodebug") t.is_nodebug ++ (type_value_sexpr t.ty ∷ [])))) ts refl l in
     let a = type_again t r.4.1 h r.4.4 in
     (TypeDef a.0, (r.0, r.1, r.2, r.3, (r.4.0, r.4.1, r.4.2, r.4.3, a.1)), (λ i. TypeDef (a.2 i)))
 def_again (Decl d) ts h l =
-    let r = behind_word (codes "decl") (decl_flags d ++ (name_sexpr d.term ∷ listed (map name_sexpr d.arg_tys) ∷ name_sexpr d.ret_ty ∷ [])) ts refl l in
+    let r = behind_word (codes "decl") (decl_flags d ++ (name_sexpr d.term ∷ listed (map name_sexpr d.arg_tys) ∷ name_sexpr d.ret_ty ∷ [])) ts refl l
+    in
     let a = decl_again d r.4.1 h r.4.4 in
     (Decl a.0, (r.0, r.1, r.2, r.3, (r.4.0, r.4.1, r.4.2, r.4.3, a.1)), (λ i. Decl (a.2 i)))
 def_again (Rule rule) ts h l =
@@ -52,7 +55,8 @@ def_again (Rule rule) ts h l =
     let a = rule_again rule r.4.1 h r.4.4 in
     (Rule a.0, (r.0, r.1, r.2, r.3, (r.4.0, r.4.1, r.4.2, r.4.3, a.1)), (λ i. Rule (a.2 i)))
 def_again (Extractor x) ts h l =
-    let r = behind_word (codes "extractor") (listed (name_sexpr x.term ∷ map name_sexpr x.args) ∷ pattern_sexpr (pattern_of x.template) ∷ []) ts refl l in
+    let r = behind_word (codes "extractor") (listed (name_sexpr x.term ∷ map name_sexpr x.args) ∷ pattern_sexpr (pattern_of x.template) ∷ []) ts refl
+    l in
     let a = extractor_again x r.4.1 h r.4.4 in
     (Extractor a.0, (r.0, r.1, r.2, r.3, (r.4.0, r.4.1, r.4.2, r.4.3, a.1)), (λ i. Extractor (a.2 i)))
 def_again (Extern x) ts h l =

@@ -25,23 +25,34 @@ use Rattle.isle_syntax.specs.declared.ast.Def.TheVariants.{TypeDef, Decl, Rule, 
 use Rattle.isle_syntax.specs.Tokens.Names.{is_symbol, is_ident, is_pname, is_const_name, is_word}
 use Rattle.isle_syntax.specs.Grammar.TreeGrammar.{truth_word, is_pattern_term, is_expr_term}
 use Rattle.isle_syntax.specs.Grammar.DefGrammar.{is_kept_word}
-use Rattle.isle_syntax.specs.Trees.PatternTree.{PatternTree, PatternTrees, pattern_var, pattern_bind, pattern_bool, pattern_int, pattern_prim, pattern_term, pattern_wildcard, pattern_and, pattern_macro_arg, no_patterns, more_patterns}
+use Rattle.isle_syntax.specs.Trees.PatternTree.{PatternTree, PatternTrees, pattern_var, pattern_bind, pattern_bool, pattern_int, pattern_prim}
+use Rattle.isle_syntax.specs.Trees.PatternTree.{pattern_term, pattern_wildcard, pattern_and, pattern_macro_arg, no_patterns, more_patterns}
 use Rattle.isle_syntax.specs.Trees.PatternShape.{pattern_of}
-use Rattle.isle_syntax.specs.Trees.ExprTree.{ExprTree, ExprTrees, LetTrees, expr_term, expr_var, expr_bool, expr_int, expr_prim, expr_let, no_exprs, more_exprs, no_lets, more_lets}
+use Rattle.isle_syntax.specs.Trees.ExprTree.{ExprTree, ExprTrees, LetTrees, expr_term, expr_var, expr_bool, expr_int, expr_prim, expr_let, no_exprs}
+use Rattle.isle_syntax.specs.Trees.ExprTree.{more_exprs, no_lets, more_lets}
 use Rattle.isle_syntax.specs.Trees.ExprShape.{expr_of}
 use Rattle.isle_syntax.specs.Trees.ItemTree.{ItemTree, ItemTrees, item_int, item_big, item_symbol, item_at, item_list, no_items, more_items}
 use Rattle.isle_syntax.proofs.Reading.SymbolKinds.{and_first, and_second}
 use Rattle.isle_layout.specs.SExprTree.{sexpr_atom}
-use Rattle.isle_layout.specs.Spellings.{listed, name_sexpr, constant_sexpr, integer_text, pattern_sexpr, pattern_sexprs, expr_sexpr, expr_sexprs, let_sexprs, item_sexpr, item_sexprs}
-use Rattle.isle_layout.specs.DefSpellings.{flag, struct_field_sexpr, tuple_field_sexpr, fields_sexprs, variant_of, variant_sexpr, type_value_sexpr, type_sexpr, decl_flags, decl_sexpr, extractor_sexpr, extern_sexpr, converter_sexpr, rule_name, rule_priority, iflet_sexpr, rule_sexpr, kept_sexpr, def_sexpr}
-use Rattle.isle_layout.specs.Nesting.{pattern_nesting, pattern_nestings, expr_nesting, expr_nestings, let_nestings, item_nesting, item_nestings, iflet_nestings, rule_nesting, nesting}
-use Rattle.isle_layout.specs.Writable.{writable_ident, writable_pattern, writable_patterns, writable_expr, writable_exprs, writable_lets, writable_item, writable_items, writable_struct_field, writable_tuple_fields, is_filled, writable_fields, writable_variant, writable_type_value, writable_type, is_free_of_flags, writable_decl, writable_extractor, writable_extern, writable_converter, writable_rule_name, writable_priority, writable_iflet, is_list, is_right_side, writable_rule, writable_kept, has_writable_words}
+use Rattle.isle_layout.specs.Spellings.{listed, name_sexpr, constant_sexpr, integer_text, pattern_sexpr, pattern_sexprs, expr_sexpr, expr_sexprs}
+use Rattle.isle_layout.specs.Spellings.{let_sexprs, item_sexpr, item_sexprs}
+use Rattle.isle_layout.specs.DefSpellings.{flag, struct_field_sexpr, tuple_field_sexpr, fields_sexprs, variant_of, variant_sexpr, type_value_sexpr}
+use Rattle.isle_layout.specs.DefSpellings.{type_sexpr, decl_flags, decl_sexpr, extractor_sexpr, extern_sexpr, converter_sexpr, rule_name}
+use Rattle.isle_layout.specs.DefSpellings.{rule_priority, iflet_sexpr, rule_sexpr, kept_sexpr, def_sexpr}
+use Rattle.isle_layout.specs.Nesting.{pattern_nesting, pattern_nestings, expr_nesting, expr_nestings, let_nestings, item_nesting, item_nestings}
+use Rattle.isle_layout.specs.Nesting.{iflet_nestings, rule_nesting, nesting}
+use Rattle.isle_layout.specs.Writable.{writable_ident, writable_pattern, writable_patterns, writable_expr, writable_exprs, writable_lets}
+use Rattle.isle_layout.specs.Writable.{writable_item, writable_items, writable_struct_field, writable_tuple_fields, is_filled, writable_fields}
+use Rattle.isle_layout.specs.Writable.{writable_variant, writable_type_value, writable_type, is_free_of_flags, writable_decl, writable_extractor}
+use Rattle.isle_layout.specs.Writable.{writable_extern, writable_converter, writable_rule_name, writable_priority, writable_iflet, is_list}
+use Rattle.isle_layout.specs.Writable.{is_right_side, writable_rule, writable_kept, has_writable_words}
 use Rattle.isle_layout.proofs.Atoms.AtomReadings.{at_sign_reading, signed_reading}
 use Rattle.isle_layout.proofs.Atoms.IdentifierTexts.{ident_is_symbol, name_is_symbol, pname_is_symbol, constant_is_symbol, kept_word_is_symbol}
 use Rattle.isle_layout.proofs.Atoms.DefAtoms.{fits_small, wider}
 use Rattle.isle_layout.proofs.Atoms.TreeAtoms.{fits_signed}
 use Rattle.isle_layout.proofs.ReadsBack.Trees.{integer_again, large_again}
-use Rattle.isle_layout.proofs.ReadsBack.DepthsLeft.{Fits, FitAll, fit_none, fit_more, fit_append, fit_map, fits_deeper, fit_deeper, symbol_fits, int_fits, at_fits, binding_fits, list_fits}
+use Rattle.isle_layout.proofs.ReadsBack.DepthsLeft.{Fits, FitAll, fit_none, fit_more, fit_append, fit_map, fits_deeper, fit_deeper, symbol_fits}
+use Rattle.isle_layout.proofs.ReadsBack.DepthsLeft.{int_fits, at_fits, binding_fits, list_fits}
 
 -- ---- atoms
 
@@ -64,17 +75,20 @@ mutual
   pattern_fits : (t : PatternTree) → writable_pattern t ≡ true → Fits (pattern_nesting t) (pattern_sexpr t)
   pattern_fits (pattern_var x p) h = symbol_fits x.0 (λ u. pname_is_symbol x.0 u h)
   pattern_fits (pattern_bind x t p) h =
-      binding_fits x.0 (pattern_sexpr t) (λ u. pname_is_symbol x.0 u (and_first (is_pname x.0) (writable_pattern t) h)) (pattern_fits t (and_second (is_pname x.0) (writable_pattern t) h))
+      binding_fits x.0 (pattern_sexpr t) (λ u. pname_is_symbol x.0 u (and_first (is_pname x.0) (writable_pattern t) h))
+      (pattern_fits t (and_second (is_pname x.0) (writable_pattern t) h))
   pattern_fits (pattern_bool b p) h = truth_fits b
   pattern_fits (pattern_int val big p) h =
       int_fits (integer_text val big) (λ ts l. (let n = integer_again val big ts h l in (n.0, n.1.0, n.1.1)))
   pattern_fits (pattern_prim x p) h = constant_fits x h
   pattern_fits (pattern_term x args p) h =
       list_fits (name_sexpr x ∷ pattern_sexprs args)
-      (fit_more (symbol_fits x.0 (λ u. ident_is_symbol x.0 u (and_first (is_ident x.0) _ (and_first (is_pattern_term x.0) (writable_patterns args) h))))
+      (fit_more (symbol_fits x.0 (λ u. ident_is_symbol x.0 u
+      (and_first (is_ident x.0) _ (and_first (is_pattern_term x.0) (writable_patterns args) h))))
       (patterns_fit args (and_second (is_pattern_term x.0) (writable_patterns args) h)))
   pattern_fits (pattern_wildcard p) h = word_fits (codes "_") refl
-  pattern_fits (pattern_and args p) h = list_fits (sexpr_atom (codes "and") ∷ pattern_sexprs args) (fit_more (word_fits (codes "and") refl) (patterns_fit args h))
+  pattern_fits (pattern_and args p) h =
+      list_fits (sexpr_atom (codes "and") ∷ pattern_sexprs args) (fit_more (word_fits (codes "and") refl) (patterns_fit args h))
   pattern_fits (pattern_macro_arg k p) h = absurd (cc)
 
   patterns_fit : (ps : PatternTrees) → writable_patterns ps ≡ true → FitAll (pattern_nestings ps) (pattern_sexprs ps)
@@ -148,7 +162,8 @@ idents_fit xs h = fit_map name_sexpr writable_ident name_fits xs h
 
 two_fit : {d : ℕ} (x y : Ident) → (writable_ident x && writable_ident y) ≡ true → FitAll d (name_sexpr x ∷ name_sexpr y ∷ [])
 two_fit x y h =
-    fit_more (name_fits x (and_first (writable_ident x) (writable_ident y) h)) (fit_more (name_fits y (and_second (writable_ident x) (writable_ident y) h)) fit_none)
+    fit_more (name_fits x (and_first (writable_ident x) (writable_ident y) h))
+    (fit_more (name_fits y (and_second (writable_ident x) (writable_ident y) h)) fit_none)
 
 field_fits : (f : StructField) → writable_struct_field f ≡ true → Fits 1 (struct_field_sexpr f)
 field_fits f h = list_fits (name_sexpr f.name ∷ name_sexpr f.ty ∷ []) (two_fit {d = 0} f.name f.ty h)
@@ -157,29 +172,38 @@ counted_fit : {d : ℕ} (n : ℕ) (fs : List TupleField) → writable_tuple_fiel
 counted_fit n [] h = fit_none
 counted_fit n (f ∷ fs) h =
     let one = and_first ((f.index == n) && writable_ident f.ty) (writable_tuple_fields (suc n) fs) h in
-    fit_more (name_fits f.ty (and_second (f.index == n) (writable_ident f.ty) one)) (counted_fit (suc n) fs (and_second ((f.index == n) && writable_ident f.ty) (writable_tuple_fields (suc n) fs) h))
+    fit_more (name_fits f.ty (and_second (f.index == n) (writable_ident f.ty) one))
+    (counted_fit (suc n) fs (and_second ((f.index == n) && writable_ident f.ty) (writable_tuple_fields (suc n) fs) h))
 
 fields_fit : (f : Fields) → writable_fields f ≡ true → FitAll 1 (fields_sexprs f)
 fields_fit no_fields h = fit_none
-fields_fit (named_fields fs) h = fit_map struct_field_sexpr writable_struct_field field_fits fs.fields (and_second (is_filled fs.fields) (list_all writable_struct_field fs.fields) h)
+fields_fit (named_fields fs) h =
+    fit_map struct_field_sexpr writable_struct_field field_fits fs.fields
+    (and_second (is_filled fs.fields) (list_all writable_struct_field fs.fields) h)
 fields_fit (tuple_fields fs) h = counted_fit 0 fs.fields (and_second (is_filled fs.fields) (writable_tuple_fields 0 fs.fields) h)
 
 variant_of_fits : (x : Ident) (f : Fields) → writable_ident x ≡ true → writable_fields f ≡ true → Fits 2 (variant_of x f)
 variant_of_fits x no_fields g h = name_fits x g
-variant_of_fits x (named_fields fs) g h = list_fits (name_sexpr x ∷ map struct_field_sexpr fs.fields) (fit_more (name_fits x g) (fields_fit (named_fields fs) h))
-variant_of_fits x (tuple_fields fs) g h = list_fits (name_sexpr x ∷ map tuple_field_sexpr fs.fields) (fit_more (name_fits x g) (fields_fit (tuple_fields fs) h))
+variant_of_fits x (named_fields fs) g h =
+    list_fits (name_sexpr x ∷ map struct_field_sexpr fs.fields) (fit_more (name_fits x g) (fields_fit (named_fields fs) h))
+variant_of_fits x (tuple_fields fs) g h =
+    list_fits (name_sexpr x ∷ map tuple_field_sexpr fs.fields) (fit_more (name_fits x g) (fields_fit (tuple_fields fs) h))
 
 variant_fits : (v : Variant) → writable_variant v ≡ true → Fits 2 (variant_sexpr v)
 variant_fits v h =
-    variant_of_fits v.name v.fields (and_first (writable_ident v.name) (writable_fields v.fields) h) (and_second (writable_ident v.name) (writable_fields v.fields) h)
+    variant_of_fits v.name v.fields (and_first (writable_ident v.name) (writable_fields v.fields) h)
+    (and_second (writable_ident v.name) (writable_fields v.fields) h)
 
 value_fits : (v : TypeValue) → writable_type_value v ≡ true → Fits 3 (type_value_sexpr v)
 value_fits (Primitive x p) h =
-    list_fits (sexpr_atom (codes "primitive") ∷ name_sexpr x ∷ []) (fit_more {d = 2} (word_fits (codes "primitive") refl) (fit_more (name_fits x h) fit_none))
+    list_fits (sexpr_atom (codes "primitive") ∷ name_sexpr x ∷ [])
+    (fit_more {d = 2} (word_fits (codes "primitive") refl) (fit_more (name_fits x h) fit_none))
 value_fits (Enum variants p) h =
-    list_fits (sexpr_atom (codes "enum") ∷ map variant_sexpr variants) (fit_more (word_fits (codes "enum") refl) (fit_map variant_sexpr writable_variant variant_fits variants h))
+    list_fits (sexpr_atom (codes "enum") ∷ map variant_sexpr variants)
+    (fit_more (word_fits (codes "enum") refl) (fit_map variant_sexpr writable_variant variant_fits variants h))
 value_fits (Struct fields p) h =
-    list_fits (sexpr_atom (codes "struct") ∷ fields_sexprs fields) (fit_more {d = 2} (word_fits (codes "struct") refl) (fit_deeper (omega arith) (fields_fit fields h)))
+    list_fits (sexpr_atom (codes "struct") ∷ fields_sexprs fields)
+    (fit_more {d = 2} (word_fits (codes "struct") refl) (fit_deeper (omega arith) (fields_fit fields h)))
 
 type_fits : (t : TypeTree) → writable_type t ≡ true → Fits 4 (type_sexpr t)
 type_fits t h =
@@ -189,7 +213,8 @@ type_fits t h =
     (fit_more {d = 3} (word_fits (codes "type") refl)
     (fit_more (name_fits t.name (and_first (writable_ident t.name) (writable_type_value t.ty) h))
     (fit_append (flag (codes "extern") t.is_extern) (marks ++ value) (flag_fits (codes "extern") t.is_extern refl)
-    (fit_append marks value (flag_fits (codes "nodebug") t.is_nodebug refl) (fit_more (value_fits t.ty (and_second (writable_ident t.name) (writable_type_value t.ty) h)) fit_none)))))
+    (fit_append marks value (flag_fits (codes "nodebug") t.is_nodebug refl)
+    (fit_more (value_fits t.ty (and_second (writable_ident t.name) (writable_type_value t.ty) h)) fit_none)))))
 
 -- ---- terms
 
@@ -208,19 +233,24 @@ decl_fits d w =
     (fit_more {d = 1} (word_fits (codes "decl") refl)
     (fit_append (decl_flags d) names (flags_fit d)
     (fit_more (name_fits d.term (and_first (writable_ident d.term) (is_free_of_flags d) two))
-    (fit_more (list_fits (map name_sexpr d.arg_tys) (idents_fit {d = 0} d.arg_tys (and_second (writable_ident d.term && is_free_of_flags d) (list_all writable_ident d.arg_tys) three)))
-    (fit_more (name_fits d.ret_ty (and_second (writable_ident d.term && is_free_of_flags d && list_all writable_ident d.arg_tys) (writable_ident d.ret_ty) w)) fit_none)))))
+    (fit_more (list_fits (map name_sexpr d.arg_tys)
+    (idents_fit {d = 0} d.arg_tys (and_second (writable_ident d.term && is_free_of_flags d) (list_all writable_ident d.arg_tys) three)))
+    (fit_more (name_fits d.ret_ty (and_second (writable_ident d.term && is_free_of_flags d
+    && list_all writable_ident d.arg_tys) (writable_ident d.ret_ty) w)) fit_none)))))
 
 extractor_fits : (x : ExtractorTree) → writable_extractor x ≡ true → Fits (max 1 (pattern_nesting (pattern_of x.template)) + 1) (extractor_sexpr x)
 extractor_fits x w =
     let template = pattern_of x.template in
     let two = and_first (writable_ident x.term && list_all writable_ident x.args) (writable_pattern template) w in
     let args = idents_fit {d = 0} x.args (and_second (writable_ident x.term) (list_all writable_ident x.args) two) in
-    let head = list_fits (name_sexpr x.term ∷ map name_sexpr x.args) (fit_more (name_fits x.term (and_first (writable_ident x.term) (list_all writable_ident x.args) two)) args) in
+    let head =
+    list_fits (name_sexpr x.term ∷ map name_sexpr x.args)
+    (fit_more (name_fits x.term (and_first (writable_ident x.term) (list_all writable_ident x.args) two)) args) in
     list_fits (sexpr_atom (codes "extractor") ∷ listed (name_sexpr x.term ∷ map name_sexpr x.args) ∷ pattern_sexpr template ∷ [])
     (fit_more (word_fits (codes "extractor") refl)
     (fit_more (fits_deeper (omega arith) head)
-    (fit_more (fits_deeper (omega arith) (pattern_fits template (and_second (writable_ident x.term && list_all writable_ident x.args) (writable_pattern template) w))) fit_none)))
+    (fit_more (fits_deeper (omega arith) (pattern_fits template
+    (and_second (writable_ident x.term && list_all writable_ident x.args) (writable_pattern template) w))) fit_none)))
 
 extern_fits : (x : ExternTree) → writable_extern x ≡ true → Fits 1 (extern_sexpr x)
 extern_fits (extern_constructor term func p) h =
@@ -228,15 +258,19 @@ extern_fits (extern_constructor term func p) h =
     (fit_more {d = 0} (word_fits (codes "extern") refl) (fit_more (word_fits (codes "constructor") refl) (two_fit term func h)))
 extern_fits (extern_extractor term func p infallible) h =
     let names = name_sexpr term ∷ name_sexpr func ∷ [] in
-    let two = two_fit {d = 0} term func (and_first (writable_ident term && writable_ident func) (infallible || not (is_word (codes "infallible") term.0)) h) in
+    let two =
+    two_fit {d = 0} term func (and_first (writable_ident term && writable_ident func) (infallible || not (is_word (codes "infallible") term.0)) h)
+    in
     list_fits (sexpr_atom (codes "extern") ∷ sexpr_atom (codes "extractor") ∷ (flag (codes "infallible") infallible ++ names))
     (fit_more (word_fits (codes "extern") refl)
-    (fit_more (word_fits (codes "extractor") refl) (fit_append (flag (codes "infallible") infallible) names (flag_fits (codes "infallible") infallible refl) two)))
+    (fit_more (word_fits (codes "extractor") refl)
+    (fit_append (flag (codes "infallible") infallible) names (flag_fits (codes "infallible") infallible refl) two)))
 extern_fits (extern_const name ty p) h =
     list_fits (sexpr_atom (codes "extern") ∷ sexpr_atom (codes "const") ∷ constant_sexpr name ∷ name_sexpr ty ∷ [])
     (fit_more {d = 0} (word_fits (codes "extern") refl)
     (fit_more (word_fits (codes "const") refl)
-    (fit_more (constant_fits name (and_first (is_const_name name.0) (writable_ident ty) h)) (fit_more (name_fits ty (and_second (is_const_name name.0) (writable_ident ty) h)) fit_none))))
+    (fit_more (constant_fits name (and_first (is_const_name name.0) (writable_ident ty) h))
+    (fit_more (name_fits ty (and_second (is_const_name name.0) (writable_ident ty) h)) fit_none))))
 
 converter_fits : (c : ConverterTree) → writable_converter c ≡ true → Fits 1 (converter_sexpr c)
 converter_fits c h =
@@ -279,21 +313,26 @@ rule_fits r w =
     let pattern = pattern_of r.pattern in
     let expr = expr_of r.expr in
     let start = writable_rule_name r.name && writable_priority r.prio in
-    let five = and_first (start && is_list pattern && writable_pattern pattern && list_all writable_iflet r.iflets && is_right_side expr) (writable_expr expr) w in
+    let five = and_first (start && is_list pattern && writable_pattern pattern && list_all writable_iflet r.iflets
+    && is_right_side expr) (writable_expr expr) w in
     let four = and_first (start && is_list pattern && writable_pattern pattern && list_all writable_iflet r.iflets) (is_right_side expr) five in
     let three = and_first (start && is_list pattern && writable_pattern pattern) (list_all writable_iflet r.iflets) four in
     let two = and_first (start && is_list pattern) (writable_pattern pattern) three in
     let one = and_first start (is_list pattern) two in
     let clauses = iflets_fit r.iflets (and_second (start && is_list pattern && writable_pattern pattern) (list_all writable_iflet r.iflets) four) in
-    let right = expr_fits expr (and_second (start && is_list pattern && writable_pattern pattern && list_all writable_iflet r.iflets && is_right_side expr) (writable_expr expr) w) in
+    let right = expr_fits expr (and_second (start && is_list pattern && writable_pattern pattern && list_all writable_iflet r.iflets
+    && is_right_side expr) (writable_expr expr) w) in
     let left = pattern_fits pattern (and_second (start && is_list pattern) (writable_pattern pattern) three) in
     let behind = map iflet_sexpr r.iflets ++ (expr_sexpr expr ∷ []) in
     list_fits (sexpr_atom (codes "rule") ∷ (rule_name r.name ++ (rule_priority r.prio ++ (pattern_sexpr pattern ∷ behind))))
     (fit_more (word_fits (codes "rule") refl)
-    (fit_append (rule_name r.name) (rule_priority r.prio ++ (pattern_sexpr pattern ∷ behind)) (rule_name_fits r.name (and_first (writable_rule_name r.name) (writable_priority r.prio) one))
-    (fit_append (rule_priority r.prio) (pattern_sexpr pattern ∷ behind) (priority_fits r.prio (and_second (writable_rule_name r.name) (writable_priority r.prio) one))
+    (fit_append (rule_name r.name) (rule_priority r.prio
+    ++ (pattern_sexpr pattern ∷ behind)) (rule_name_fits r.name (and_first (writable_rule_name r.name) (writable_priority r.prio) one))
+    (fit_append (rule_priority r.prio) (pattern_sexpr pattern ∷ behind)
+    (priority_fits r.prio (and_second (writable_rule_name r.name) (writable_priority r.prio) one))
     (fit_more (fits_deeper (omega arith) left)
-    (fit_append (map iflet_sexpr r.iflets) (expr_sexpr expr ∷ []) (fit_deeper (omega arith) clauses) (fit_more (fits_deeper (omega arith) right) fit_none))))))
+    (fit_append (map iflet_sexpr r.iflets) (expr_sexpr expr ∷ []) (fit_deeper (omega arith) clauses)
+    (fit_more (fits_deeper (omega arith) right) fit_none))))))
 
 -- ---- definitions
 

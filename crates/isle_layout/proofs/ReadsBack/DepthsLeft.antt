@@ -1,5 +1,6 @@
 -- Tokens of S-expressions leave as much room as there was, where there was room for the parentheses that they open.
-use Rattle.std.proofs.Common.{◌≡◌, ℕ, zero, suc, ◌+◌, ◌≤◌, List, [], ◌∷◌, ◌++◌, map, Bool, true, Option, Some, None, refl, ap, ◌∙◌, sym, append_assoc, arith}
+use Rattle.std.proofs.Common.{◌≡◌, ℕ, zero, suc, ◌+◌, ◌≤◌, List, [], ◌∷◌, ◌++◌, map, Bool, true, Option, Some, None, refl, ap, ◌∙◌, sym, append_assoc}
+use Rattle.std.proofs.Common.{arith}
 use Rattle.std.specs.Prelude.{option_and_then}
 use Rattle.std.specs.List.{list_all}
 use Rattle.std.specs.Str.{IsUtf8}
@@ -22,7 +23,8 @@ pub record FitAll (d : ℕ) (xs : List SExprTree) : Type 0 where
 
 -- ---- tokens one after another
 
-after_some : (o : Option ℕ) (u v : List Placed) (k : ℕ) → ((r : ℕ) → depth_left r u ≡ Some k → depth_left r (u ++ v) ≡ depth_left k v) → option_and_then (λ r. depth_left r u) o ≡ Some k
+after_some : (o : Option ℕ) (u v : List Placed) (k : ℕ) → ((r : ℕ) → depth_left r u ≡ Some k → depth_left r (u ++ v) ≡ depth_left k v)
+    → option_and_then (λ r. depth_left r u) o ≡ Some k
     → option_and_then (λ r. depth_left r (u ++ v)) o ≡ depth_left k v
 after_some None u v k ih e = absurd (cc)
 after_some (Some r) u v k ih e = ih r e
@@ -57,9 +59,11 @@ fit_append {d} xs ys f g = record {
         (l.0 ++ s.0, s.1, l.2 ∙ ap (λ x. l.0 ++ x) s.2 ∙ sym (append_assoc l.0 s.0 s.1), (l.0, s.0, refl, l.3, s.3), s.4)
         )
 
-pub fit_map : {A : Type 0} {d : ℕ} (f : A → SExprTree) (w : A → Bool) → ((a : A) → w a ≡ true → Fits d (f a)) → (values : List A) → list_all w values ≡ true → FitAll d (map f values)
+pub fit_map : {A : Type 0} {d : ℕ} (f : A → SExprTree) (w : A → Bool) → ((a : A) → w a ≡ true → Fits d (f a)) → (values : List A)
+    → list_all w values ≡ true → FitAll d (map f values)
 fit_map f w each [] h = fit_none
-fit_map f w each (a ∷ values) h = fit_more (each a (and_first (w a) (list_all w values) h)) (fit_map f w each values (and_second (w a) (list_all w values) h))
+fit_map f w each (a ∷ values) h =
+    fit_more (each a (and_first (w a) (list_all w values) h)) (fit_map f w each values (and_second (w a) (list_all w values) h))
 
 -- ---- more room
 
@@ -88,7 +92,8 @@ binding_fits s t h f = record {
 }
 
 -- between parentheses
-inside : (d r : ℕ) (xs : List SExprTree) (ts : List Placed) → FitAll d xs → d + 1 ≤ r → (Opening tt ⊙ (Each Reads xs ⊙ Closes tt)) ts → depth_left r ts ≡ Some r
+inside : (d r : ℕ) (xs : List SExprTree) (ts : List Placed) → FitAll d xs → d + 1 ≤ r → (Opening tt ⊙ (Each Reads xs ⊙ Closes tt)) ts
+    → depth_left r ts ≡ Some r
 inside d zero xs ts f n l = absurd (omega (arith, n))
 inside d (suc r) xs ts f n l =
     depth_left_split (suc r) r (suc r) ts l.0 l.1 l.2 (ap (depth_left (suc r)) l.3.1)

@@ -15,12 +15,13 @@ use Rattle.isle_syntax.specs.Grammar.Texts.{Spells}
 use Rattle.isle_layout.specs.Formats.{Formats, IsSettled, IsFaultless}
 use Rattle.isle_layout.proofs.Layouts.MacroArgs.{defs_have_none}
 use Rattle.isle_layout.proofs.SpeltTexts.SpeltDefs.{parsed_is_writable, parsed_without_pos_is_writable}
-use Rattle.isle_layout.proofs.SpeltTexts.OneReading.{whole_reading, spells_of, reading_of, spelt_has_no_fault}
+use Rattle.isle_syntax.proofs.Productions.OneReading.{whole_reading, spells_of, reading_of, spelt_has_no_fault}
 use Rattle.isle_layout.proofs.Layouts.SameSpelling.{same_print}
 use Rattle.isle_layout.proofs.ReadsBack.Prints.{AreWritable, print_reads_back}
 
 -- no fault comes of definitions without numbered arguments of templates
-pub never_refused : (refusal : Refusal HasMacroArg) (fault : HasMacroArg) (given defs : List Def) → refusal ≡ Fault fault → given ≡ defs → All HasNoMacroArgs defs
+pub never_refused : (refusal : Refusal HasMacroArg) (fault : HasMacroArg) (given defs : List Def) → refusal ≡ Fault fault → given ≡ defs
+    → All HasNoMacroArgs defs
     → OnFault refusal (list_any def_has_macro_arg given ≡ true) → ⊥
 never_refused refusal fault given defs e same none some =
     let found : list_any def_has_macro_arg given ≡ true = subst (λ r. OnFault r (list_any def_has_macro_arg given ≡ true)) e some in
@@ -51,7 +52,8 @@ formatted_once file width text one other f g =
     f.2 ∙ ap (print_of width) (spelt_once file text g.0 f.0 g.1 f.1) ∙ sym g.2
 
 -- the print of what can be written is formatted to itself, as a file of any number
-print_formats : (width : ℕ) (once : List ℕ) (defs : List Def) → IsUtf8 once → once ≡ print_of width defs → AreWritable defs → (file : ℕ) → Formats file width once once
+print_formats : (width : ℕ) (once : List ℕ) (defs : List Def) → IsUtf8 once → once ≡ print_of width defs → AreWritable defs → (file : ℕ)
+    → Formats file width once once
 print_formats width once defs u e w file =
     let whole = whole_reading file once in
     let back = (print_reads_back width once defs u e).1 w whole.0 whole.1 in (

@@ -23,7 +23,7 @@ use Rattle.isle_layout.proofs.SpeltTexts.WithoutPos.{writable_without_pos}
 use Rattle.isle_layout.proofs.Atoms.EachAtom.{EachAtoms}
 use Rattle.isle_layout.proofs.Atoms.PrintedTexts.{text_before, layout_texts, def_has_atoms}
 use Rattle.isle_layout.proofs.ReadsBack.WholeTexts.{reads_back_text}
-use Rattle.isle_layout.proofs.SpeltTexts.OneReading.{one_text, whole_reading, tokens_alone}
+use Rattle.isle_syntax.proofs.Productions.OneReading.{one_text, whole_reading, tokens_alone}
 
 -- each of some definitions can be written
 abbrev pub AreWritable : List Def → Type 0
@@ -42,8 +42,10 @@ pub writable_again : (read defs : List Def) → map def_without_pos read ≡ map
 writable_again read [] e w = All-nil (λ def. writable_def def ≡ true)
 writable_again [] (d ∷ defs) e w = absurd (cc)
 writable_again (r ∷ read) (d ∷ defs) e w =
-    let first : writable_def d ≡ true = sym (writable_without_pos d) ∙ ap writable_def (sym (head_same e)) ∙ writable_without_pos r ∙ All-head (λ def. writable_def def ≡ true) r read w in
-    All-cons (λ def. writable_def def ≡ true) d defs first (writable_again read defs (tail_same e) (All-tail (λ def. writable_def def ≡ true) r read w))
+    let first : writable_def d ≡ true = sym (writable_without_pos d) ∙ ap writable_def (sym (head_same e)) ∙ writable_without_pos r
+    ∙ All-head (λ def. writable_def def ≡ true) r read w in
+    All-cons (λ def. writable_def def ≡ true) d defs first
+    (writable_again read defs (tail_same e) (All-tail (λ def. writable_def def ≡ true) r read w))
 
 -- what some text reads back as can be written
 pub read_is_writable : (text : List ℕ) (defs : List Def) → IsReadAs text defs → AreWritable defs
@@ -73,8 +75,10 @@ print_texts width (d ∷ defs) u =
 
 have_atoms : (defs : List Def) → AreWritable defs → AreTexts defs → HaveAtoms (sexpr_trees_of (map def_sexpr defs))
 have_atoms [] w u = tt
-have_atoms (d ∷ defs) w u =
-    (def_has_atoms d (All-head (λ def. writable_def def ≡ true) d defs w) u.0, have_atoms defs (All-tail (λ def. writable_def def ≡ true) d defs w) u.1)
+have_atoms (d ∷ defs) w u = (
+  def_has_atoms d (All-head (λ def. writable_def def ≡ true) d defs w) u.0,
+  have_atoms defs (All-tail (λ def. writable_def def ≡ true) d defs w) u.1,
+)
 
 -- definitions that can be written are read back from where they are printed as text
 pub writable_reads_back : (width : ℕ) (defs : List Def) → IsUtf8 (print_of width defs) → AreWritable defs → IsReadAs (print_of width defs) defs
@@ -82,16 +86,18 @@ writable_reads_back width defs u w remaining whole =
     let texts = print_texts width defs u in
     let p = printed_tokens width (map def_sexpr defs) (have_atoms defs w texts) remaining.source in
     let tokens = subst (λ text. TokensOf remaining.source text p.0 remaining.source.size true) (print_same width defs) p.2 in
-    let same = tokens_alone remaining.source (print_of width defs) remaining.left p.0 remaining.end remaining.source.size remaining.clean true whole.tokens tokens in
+    let same = tokens_alone remaining.source (print_of width defs) remaining.left p.0 remaining.end remaining.source.size remaining.clean true
+    whole.tokens tokens in
     let r = reads_back_text defs p.0 w texts p.1 in
     let spelt = subst (SpellsText r.0.0) (sym same.0) r.0.1 in
     let nests = subst NestsWithin (sym same.0) r.1 in (
       r.0.0,
-      record { clean = same.1; spelt = spelt; nests = nests; only = λ others l. one_text remaining.left r.0.0 others spelt nests l },
+      record { clean = same.2; spelt = spelt; nests = nests; only = λ others l. one_text remaining.left r.0.0 others spelt nests l },
       r.0.2,
     )
 
 -- a print reads back as its definitions exactly where they can be written
-pub print_reads_back : (width : ℕ) (text : List ℕ) (defs : List Def) → IsUtf8 text → text ≡ print_of width defs → IsReadAs text defs ↔ AreWritable defs
+pub print_reads_back : (width : ℕ) (text : List ℕ) (defs : List Def) → IsUtf8 text → text ≡ print_of width defs → IsReadAs text defs
+    ↔ AreWritable defs
 print_reads_back width text defs u e =
     (read_is_writable text defs, λ w. subst (λ t. IsReadAs t defs) (sym e) (writable_reads_back width defs (subst IsUtf8 e u) w))

@@ -57,7 +57,8 @@ pub listed_row : (ts : List SExprTree) (us : List Placed) → Reads (listed ts) 
 listed_row ts us l = (l.0, l.1, l.2, l.3, row_of ts (Closes tt) l.1 l.4)
 
 -- the same before other tokens
-pub listed_then : (ts : List SExprTree) (K : List Placed → Type 0) (us : List Placed) → (Reads (listed ts) ⊙ K) us → (Opening tt ⊙ Row ts (Closes tt ⊙ K)) us
+pub listed_then : (ts : List SExprTree) (K : List Placed → Type 0) (us : List Placed) → (Reads (listed ts) ⊙ K) us
+    → (Opening tt ⊙ Row ts (Closes tt ⊙ K)) us
 listed_then ts K us l =
     let items = ReadsAll (sexpr_trees_of ts) in
     let h = group_right (Opening tt) (items ⊙ Closes tt) K us l in

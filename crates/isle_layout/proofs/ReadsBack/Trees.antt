@@ -8,15 +8,21 @@ use Rattle.isle_syntax.specs.declared.ast.Ident.{Ident}
 use Rattle.isle_syntax.specs.Tokens.PlacedTokens.{large, Placed, int}
 use Rattle.isle_syntax.specs.Tokens.Names.{is_symbol, is_ident, is_name, is_pname, is_const_name}
 use Rattle.isle_syntax.specs.Grammar.Phrases.{◌⊙◌, Closes, Says, SymbolOf, Each}
-use Rattle.isle_syntax.specs.Grammar.TreeGrammar.{Constant, truth_word, SpellsInteger, is_pattern_term, is_expr_term, SpellsPattern, SpellsPatterns, SpellsExpr, SpellsExprs, SpellsLets, SpellsItem, SpellsItems}
-use Rattle.isle_syntax.specs.Trees.PatternTree.{PatternTree, PatternTrees, pattern_var, pattern_bind, pattern_bool, pattern_int, pattern_prim, pattern_term, pattern_wildcard, pattern_and, pattern_macro_arg, no_patterns, more_patterns}
-use Rattle.isle_syntax.specs.Trees.ExprTree.{ExprTree, ExprTrees, LetTrees, expr_term, expr_var, expr_bool, expr_int, expr_prim, expr_let, no_exprs, more_exprs, no_lets, more_lets}
+use Rattle.isle_syntax.specs.Grammar.TreeGrammar.{Constant, truth_word, SpellsInteger, is_pattern_term, is_expr_term, SpellsPattern, SpellsPatterns}
+use Rattle.isle_syntax.specs.Grammar.TreeGrammar.{SpellsExpr, SpellsExprs, SpellsLets, SpellsItem, SpellsItems}
+use Rattle.isle_syntax.specs.Trees.PatternTree.{PatternTree, PatternTrees, pattern_var, pattern_bind, pattern_bool, pattern_int, pattern_prim}
+use Rattle.isle_syntax.specs.Trees.PatternTree.{pattern_term, pattern_wildcard, pattern_and, pattern_macro_arg, no_patterns, more_patterns}
+use Rattle.isle_syntax.specs.Trees.ExprTree.{ExprTree, ExprTrees, LetTrees, expr_term, expr_var, expr_bool, expr_int, expr_prim, expr_let, no_exprs}
+use Rattle.isle_syntax.specs.Trees.ExprTree.{more_exprs, no_lets, more_lets}
 use Rattle.isle_syntax.specs.Trees.ItemTree.{ItemTree, ItemTrees, item_int, item_big, item_symbol, item_at, item_list, no_items, more_items}
-use Rattle.isle_syntax.specs.Trees.WithoutPos.{no_pos, ident_without_pos, pattern_tree_without_pos, pattern_trees_without_pos, expr_tree_without_pos, expr_trees_without_pos, let_trees_without_pos, item_tree_without_pos, item_trees_without_pos}
+use Rattle.isle_syntax.specs.Trees.WithoutPos.{no_pos, ident_without_pos, pattern_tree_without_pos, pattern_trees_without_pos, expr_tree_without_pos}
+use Rattle.isle_syntax.specs.Trees.WithoutPos.{expr_trees_without_pos, let_trees_without_pos, item_tree_without_pos, item_trees_without_pos}
 use Rattle.isle_syntax.proofs.Reading.SymbolKinds.{and_first, and_second}
 use Rattle.isle_layout.specs.SExprTree.{sexpr_atom}
-use Rattle.isle_layout.specs.Spellings.{listed, name_sexpr, integer_text, pattern_sexpr, pattern_sexprs, expr_sexpr, expr_sexprs, let_sexprs, item_sexpr, item_sexprs}
-use Rattle.isle_layout.specs.Writable.{fits_i128, writable_ident, writable_int, writable_pattern, writable_patterns, writable_expr, writable_exprs, writable_lets, writable_item, writable_items}
+use Rattle.isle_layout.specs.Spellings.{listed, name_sexpr, integer_text, pattern_sexpr, pattern_sexprs, expr_sexpr, expr_sexprs, let_sexprs}
+use Rattle.isle_layout.specs.Spellings.{item_sexpr, item_sexprs}
+use Rattle.isle_layout.specs.Writable.{fits_i128, writable_ident, writable_int, writable_pattern, writable_patterns, writable_expr, writable_exprs}
+use Rattle.isle_layout.specs.Writable.{writable_lets, writable_item, writable_items}
 use Rattle.isle_layout.proofs.Atoms.AtomReadings.{symbol_reading, at_sign_reading, signed_reading, large_reading, integer_reading}
 use Rattle.isle_layout.proofs.Atoms.IdentifierTexts.{ident_is_symbol, name_is_symbol, pname_is_symbol, constant_is_symbol}
 use Rattle.isle_layout.proofs.Atoms.TreeAtoms.{fits_signed}
@@ -31,7 +37,8 @@ ident_at x p = record { 0 = x.0; 1 = p }
 pub word_again : (w : List ℕ) (ts : List Placed) → is_symbol w ≡ true → ReadsAtom w ts → Says w tt ts
 word_again w ts h l = symbol_reading w ts h l.1
 
-pub name_again : (q : List ℕ → Bool) → ((s : List ℕ) → IsUtf8 s → q s ≡ true → is_symbol s ≡ true) → (x : Ident) (ts : List Placed) → q x.0 ≡ true → ReadsAtom x.0 ts → (p : Pos) × SymbolOf q (ident_at x p) ts
+pub name_again : (q : List ℕ → Bool) → ((s : List ℕ) → IsUtf8 s → q s ≡ true → is_symbol s ≡ true) → (x : Ident) (ts : List Placed) → q x.0 ≡ true
+    → ReadsAtom x.0 ts → (p : Pos) × SymbolOf q (ident_at x p) ts
 name_again q symbols x ts h l =
     let a = symbol_reading x.0 ts (symbols x.0 l.0 h) l.1 in
     (a.0, (a.1, h))
@@ -45,12 +52,14 @@ truth_again : (b : Bool) (ts : List Placed) → ReadsAtom (truth_word b) ts → 
 truth_again true ts l = word_again (truth_word true) ts refl l
 truth_again false ts l = word_again (truth_word false) ts refl l
 
-pub integer_again : (val : ℤ) (big : Bool) (ts : List Placed) → writable_int val big ≡ true → ReadsAtom (integer_text val big) ts → (p : Pos) × SpellsInteger val big p ts
+pub integer_again : (val : ℤ) (big : Bool) (ts : List Placed) → writable_int val big ≡ true → ReadsAtom (integer_text val big) ts
+    → (p : Pos) × SpellsInteger val big p ts
 integer_again val big ts h l =
     let sign = not big || int_lt val (pos 0) in
     integer_reading val big ts (fits_signed val (and_first (fits_i128 val) sign h)) (and_second (fits_i128 val) sign h) l.1
 
-pub large_again : (n : ℕ) (ts : List Placed) → (nat_le (2 ^ 127) n && nat_lt n (2 ^ 128)) ≡ true → ReadsAtom (decimal n) ts → (p : Pos) × (ts ≡ int p (large n) ∷ [])
+pub large_again : (n : ℕ) (ts : List Placed) → (nat_le (2 ^ 127) n && nat_lt n (2 ^ 128)) ≡ true → ReadsAtom (decimal n) ts
+    → (p : Pos) × (ts ≡ int p (large n) ∷ [])
 large_again n ts h l =
     let least = nat_le (2 ^ 127) n in
     let most = nat_lt n (2 ^ 128) in
@@ -69,7 +78,8 @@ abbrev pub PatternsAgain : PatternTrees → List Placed → Type 0
 PatternsAgain ps ts = (qs : PatternTrees) × SpellsPatterns qs ts × (pattern_trees_without_pos qs ≡ pattern_trees_without_pos ps)
 
 mutual
-  pub pattern_again : (t : PatternTree) (ts : List Placed) → writable_pattern t ≡ true → Reads (pattern_sexpr t) ts → Again SpellsPattern pattern_tree_without_pos t ts
+  pub pattern_again : (t : PatternTree) (ts : List Placed) → writable_pattern t ≡ true → Reads (pattern_sexpr t) ts
+      → Again SpellsPattern pattern_tree_without_pos t ts
   pattern_again (pattern_var x p) ts h l =
       let n = name_again is_pname pname_is_symbol x ts h l in
       (pattern_var (ident_at x n.0) n.0, (n.1, refl), refl)
@@ -159,7 +169,19 @@ mutual
       let a = lets_again ds s.0 (and_first (writable_lets ds) (writable_expr t) h) s.3 in
       let b = expr_again t s.4.4.0 (and_second (writable_lets ds) (writable_expr t) h) s.4.4.3 in (
         expr_let a.0 b.0 r.3.0,
-        (r.0, r.1, r.2, r.3.1, (r.4.0, r.4.1, r.4.2, n, (q.0, q.1, q.2, q.3, (s.0, s.1, s.2, a.1, (s.4.0, s.4.1, s.4.2, s.4.3, (s.4.4.0, s.4.4.1, s.4.4.2, b.1, s.4.4.4)))))),
+        (
+          r.0,
+          r.1,
+          r.2,
+          r.3.1,
+          (
+            r.4.0,
+            r.4.1,
+            r.4.2,
+            n,
+            (q.0, q.1, q.2, q.3, (s.0, s.1, s.2, a.1, (s.4.0, s.4.1, s.4.2, s.4.3, (s.4.4.0, s.4.4.1, s.4.4.2, b.1, s.4.4.4)))),
+          ),
+        ),
         (λ i. expr_let (a.2 i) (b.2 i) no_pos),
       )
 
@@ -181,7 +203,25 @@ mutual
       let b = expr_again t r.4.4.4.0 (and_second (writable_ident x && writable_ident y) (writable_expr t) one) r.4.4.4.3 in
       let others = lets_again es l.1 (and_second (writable_ident x && writable_ident y && writable_expr t) (writable_lets es) h) l.4 in (
         more_lets (ident_at x n.0) (ident_at y m.0) b.0 r.3.0 others.0,
-        (l.0, l.1, l.2, (r.0, r.1, r.2, r.3.1, (r.4.0, r.4.1, r.4.2, n.1, (r.4.4.0, r.4.4.1, r.4.4.2, m.1, (r.4.4.4.0, r.4.4.4.1, r.4.4.4.2, b.1, r.4.4.4.4)))), others.1),
+        (
+          l.0,
+          l.1,
+          l.2,
+          (
+            r.0,
+            r.1,
+            r.2,
+            r.3.1,
+            (
+              r.4.0,
+              r.4.1,
+              r.4.2,
+              n.1,
+              (r.4.4.0, r.4.4.1, r.4.4.2, m.1, (r.4.4.4.0, r.4.4.4.1, r.4.4.4.2, b.1, r.4.4.4.4)),
+            ),
+          ),
+          others.1,
+        ),
         (λ i. more_lets (ident_without_pos x) (ident_without_pos y) (b.2 i) no_pos (others.2 i)),
       )
 

@@ -25,9 +25,14 @@ use Rattle.isle_syntax.specs.Grammar.Phrases.{◌⊙◌, Closes, Each, first_pos
 use Rattle.isle_syntax.specs.Trees.PatternShape.{pattern_of}
 use Rattle.isle_syntax.specs.Trees.ExprTree.{ExprTree}
 use Rattle.isle_syntax.specs.Trees.ExprShape.{expr_of}
-use Rattle.isle_syntax.specs.Grammar.DefGrammar.{SpellsIdent, SpellsField, SpellsFields, SpellsVariant, bare, in_list, SpellsTypeValue, Mark, extern_mark, nodebug_mark, SpellsMark, SpellsMarks, SpellsType, SpellsSignature, SpellsDecl, SpellsExtractor, SpellsExtern, SpellsConverter, SpellsKept, SpellsName, SpellsPriority, SpellsIfLet, if_let, if_holds, SpellsRightSide, SpellsRule, is_kept_word, SpellsDef}
+use Rattle.isle_syntax.specs.Grammar.DefGrammar.{SpellsIdent, SpellsField, SpellsFields, SpellsVariant, bare, in_list, SpellsTypeValue, Mark}
+use Rattle.isle_syntax.specs.Grammar.DefGrammar.{extern_mark, nodebug_mark, SpellsMark, SpellsMarks, SpellsType, SpellsSignature, SpellsDecl}
+use Rattle.isle_syntax.specs.Grammar.DefGrammar.{SpellsExtractor, SpellsExtern, SpellsConverter, SpellsKept, SpellsName, SpellsPriority, SpellsIfLet}
+use Rattle.isle_syntax.specs.Grammar.DefGrammar.{if_let, if_holds, SpellsRightSide, SpellsRule, is_kept_word, SpellsDef}
 use Rattle.isle_layout.specs.Nesting.{pattern_nesting, expr_nesting, iflet_nestings, item_nestings, rule_nesting, nesting}
-use Rattle.isle_layout.proofs.SpeltTexts.DepthLeft.{KeepsDepthLeft, Shuts, keeps_seq, shuts_seq, keeps_fewer, shuts_fewer, keeps_word, keeps_says, keeps_symbol, keeps_one_int, keeps_none, shuts_close, keeps_opens, keeps_opening, shuts_group, shuts_list, shuts_flag, keeps_each, shuts_with}
+use Rattle.isle_layout.proofs.SpeltTexts.DepthLeft.{KeepsDepthLeft, Shuts, keeps_seq, shuts_seq, keeps_fewer, shuts_fewer, keeps_word, keeps_says}
+use Rattle.isle_layout.proofs.SpeltTexts.DepthLeft.{keeps_symbol, keeps_one_int, keeps_none, shuts_close, keeps_opens, keeps_opening, shuts_group}
+use Rattle.isle_layout.proofs.SpeltTexts.DepthLeft.{shuts_list, shuts_flag, keeps_each, shuts_with}
 use Rattle.isle_layout.proofs.SpeltTexts.TreeDepthLeft.{keeps_constant, pattern_depths_left, expr_depths_left, items_depths_left}
 
 -- ---- types
@@ -89,7 +94,8 @@ signature_depth_left d =
 decl_depth_left : (d : DeclTree) → Shuts 1 (SpellsDecl d)
 decl_depth_left d =
     shuts_with (λ ts. first_pos ts ≡ d.pos)
-    (shuts_flag (codes "pure") d.pure (shuts_flag (codes "multi") d.multi (shuts_flag (codes "partial") d.partial (shuts_flag (codes "rec") d.rec (signature_depth_left d)))))
+    (shuts_flag (codes "pure") d.pure (shuts_flag (codes "multi") d.multi
+    (shuts_flag (codes "partial") d.partial (shuts_flag (codes "rec") d.rec (signature_depth_left d)))))
 
 extractor_depth_left : (x : ExtractorTree) → Shuts (max 1 (pattern_nesting (pattern_of x.template))) (SpellsExtractor x)
 extractor_depth_left x =
@@ -124,7 +130,9 @@ prio_depths_left (Some z) = record { within = λ r m ts l h. (keeps_one_int l.0 
 iflet_within : (c : IfLet) (r m : ℕ) (ts : List Placed) → SpellsIfLet c ts → depth_left r ts ≡ Some m
     → (max (pattern_nesting (pattern_of c.pattern)) (expr_nesting (expr_of c.expr)) + 1 ≤ r) × (m ≡ r)
 iflet_within c r m ts (if_let l) h =
-    let keeps = keeps_opens c.pos (shuts_seq (keeps_says (codes "if-let")) (shuts_seq (pattern_depths_left (pattern_of c.pattern)) (shuts_seq (expr_depths_left (expr_of c.expr)) shuts_close))) in
+    let keeps =
+    keeps_opens c.pos (shuts_seq (keeps_says (codes "if-let"))
+    (shuts_seq (pattern_depths_left (pattern_of c.pattern)) (shuts_seq (expr_depths_left (expr_of c.expr)) shuts_close))) in
     let k = keeps.within r m ts l h in
     (omega (arith, k.0), k.1)
 iflet_within c r m ts (if_holds p l same) h =
@@ -145,7 +153,9 @@ right_depths_left e = record { within = λ r m ts l h. (expr_depths_left e).with
 rule_depths_left : (rule : RuleTree) → Shuts (rule_nesting rule) (SpellsRule rule)
 rule_depths_left rule =
     let right = shuts_seq (iflets_depths_left rule.iflets) (shuts_seq (right_depths_left (expr_of rule.expr)) shuts_close) in
-    let body = shuts_seq (name_depths_left rule.name) (shuts_seq (prio_depths_left rule.prio) (shuts_seq (pattern_depths_left (pattern_of rule.pattern)) right)) in
+    let body =
+    shuts_seq (name_depths_left rule.name) (shuts_seq (prio_depths_left rule.prio)
+    (shuts_seq (pattern_depths_left (pattern_of rule.pattern)) right)) in
     record { within = λ r m ts l h. (let k = body.within r m ts l.0 h in (omega (arith, k.0), k.1)) }
 
 -- ---- definitions

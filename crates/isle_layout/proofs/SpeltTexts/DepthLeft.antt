@@ -18,16 +18,19 @@ pub record Shuts (d : ℕ) (L : List Placed → Type 0) : Type 0 where
 
 split_some : (o : Option ℕ) (u v : List Placed) (m : ℕ)
     → ((r : ℕ) → depth_left r (u ++ v) ≡ Some m → (k : ℕ) × (depth_left r u ≡ Some k) × (depth_left k v ≡ Some m))
-    → option_and_then (λ r. depth_left r (u ++ v)) o ≡ Some m → (k : ℕ) × (option_and_then (λ r. depth_left r u) o ≡ Some k) × (depth_left k v ≡ Some m)
+    → option_and_then (λ r. depth_left r (u ++ v)) o ≡ Some m → (k : ℕ) × (option_and_then (λ r. depth_left r u) o ≡ Some k)
+    × (depth_left k v ≡ Some m)
 split_some None u v m ih e = absurd (cc)
 split_some (Some r) u v m ih e = ih r e
 
 -- the room in between
-depth_left_between : (r : ℕ) (u v : List Placed) (m : ℕ) → depth_left r (u ++ v) ≡ Some m → (k : ℕ) × (depth_left r u ≡ Some k) × (depth_left k v ≡ Some m)
+depth_left_between : (r : ℕ) (u v : List Placed) (m : ℕ) → depth_left r (u ++ v) ≡ Some m → (k : ℕ) × (depth_left r u ≡ Some k)
+    × (depth_left k v ≡ Some m)
 depth_left_between r [] v m e = (r, refl, e)
 depth_left_between r (t ∷ u) v m e = split_some (depth_left_after r t) u v m (λ k h. depth_left_between k u v m h) e
 
-pub between : (r : ℕ) (ts u v : List Placed) (m : ℕ) → ts ≡ u ++ v → depth_left r ts ≡ Some m → (k : ℕ) × (depth_left r u ≡ Some k) × (depth_left k v ≡ Some m)
+pub between : (r : ℕ) (ts u v : List Placed) (m : ℕ) → ts ≡ u ++ v → depth_left r ts ≡ Some m → (k : ℕ) × (depth_left r u ≡ Some k)
+    × (depth_left k v ≡ Some m)
 between r ts u v m s e = depth_left_between r u v m (subst (λ x. depth_left r x ≡ Some m) s e)
 
 pub keeps_seq : {d e : ℕ} {L M : List Placed → Type 0} → KeepsDepthLeft d L → KeepsDepthLeft e M → KeepsDepthLeft (max d e) (L ⊙ M)
@@ -115,7 +118,8 @@ open_depth_left (suc r) m p h = let same : r ≡ m = cc in ap suc same
 
 -- ---- parentheses
 
-opened : {d : ℕ} {M : List Placed → Type 0} (r m : ℕ) (ts u v : List Placed) (p : Pos) → Shuts d M → ts ≡ u ++ v → u ≡ opening p ∷ [] → M v → depth_left r ts ≡ Some m → (d + 1 ≤ r) × (m ≡ r)
+opened : {d : ℕ} {M : List Placed → Type 0} (r m : ℕ) (ts u v : List Placed) (p : Pos) → Shuts d M → ts ≡ u ++ v → u ≡ opening p ∷ [] → M v
+    → depth_left r ts ≡ Some m → (d + 1 ≤ r) × (m ≡ r)
 opened r m ts u v p g s o l h =
     let k = between r ts u v m s h in
     let first = open_depth_left r k.0 p (subst (λ x. depth_left r x ≡ Some k.0) o k.1) in
@@ -155,7 +159,8 @@ keeps_each each (x ∷ xs) = record {
 }
 
 -- parentheses of which the closing one is among the tokens, and then tokens that close one more
-group : {d e : ℕ} {L M : List Placed → Type 0} (p : Pos) → Shuts d L → Shuts e M → (r m : ℕ) (ts u v : List Placed) → ts ≡ u ++ v → u ≡ opening p ∷ [] → (L ⊙ M) v
+group : {d e : ℕ} {L M : List Placed → Type 0} (p : Pos) → Shuts d L → Shuts e M → (r m : ℕ) (ts u v : List Placed) → ts ≡ u ++ v → u ≡ opening p ∷ []
+    → (L ⊙ M) v
     → depth_left r ts ≡ Some m → (max (d + 1) e ≤ r) × (m ≡ suc r)
 group p f g r m ts u v s o l h =
     let k = between r ts u v m s h in

@@ -54,7 +54,8 @@ means_always L = record { holds = λ ts text l. refl }
 pub means_symbol : (q : List ℕ → Bool) (x : Ident) → Means (q x.0) (SymbolOf q x)
 means_symbol q x = record { holds = λ ts text l. l.1 }
 
-pub means_each : {A : Type 0} (f : A → Bool) (L : A → List Placed → Type 0) → ((a : A) → Means (f a) (L a)) → (xs : List A) → Means (list_all f xs) (Each L xs)
+pub means_each : {A : Type 0} (f : A → Bool) (L : A → List Placed → Type 0) → ((a : A) → Means (f a) (L a)) → (xs : List A)
+    → Means (list_all f xs) (Each L xs)
 means_each f L each [] = record { holds = λ ts text l. refl }
 means_each f L each (x ∷ xs) = record {
   holds = λ ts text l. (means_both (each x) (means_each f L each xs)).holds ts text l;

@@ -1,5 +1,6 @@
 -- A definition that is spelt in a text can be written.
-use Rattle.std.proofs.Common.{ℤ, ◌≡◌, ℕ, suc, List, [], ◌∷◌, ◌++◌, map, Bool, Option, None, Some, true, false, refl, ap, ◌∙◌, sym, subst, le-leb, eq-eqb, arith}
+use Rattle.std.proofs.Common.{ℤ, ◌≡◌, ℕ, suc, List, [], ◌∷◌, ◌++◌, map, Bool, Option, None, Some, true, false, refl, ap, ◌∙◌, sym, subst, le-leb}
+use Rattle.std.proofs.Common.{eq-eqb, arith}
 use Rattle.std.specs.Prelude.{nat_le, ◌&&◌, ◌||◌, ◌==◌, not, codes}
 use Rattle.std.specs.List.{list_all, All}
 use Rattle.std.proofs.lemmas.Bool.{and_from, and_parts, false≢true}
@@ -22,7 +23,8 @@ use Rattle.isle_syntax.specs.declared.ast.Converter.{Converter as ConverterTree}
 use Rattle.isle_syntax.specs.declared.ast.Kept.{Kept as KeptTree}
 use Rattle.isle_syntax.specs.declared.ast.Def.{Def}
 use Rattle.isle_syntax.specs.declared.ast.Def.TheVariants.{TypeDef, Decl, Rule, Extractor, Extern, Converter, Pragma, Kept}
-use Rattle.isle_syntax.specs.Trees.PatternTree.{PatternTree, pattern_var, pattern_bind, pattern_bool, pattern_int, pattern_prim, pattern_term, pattern_wildcard, pattern_and, pattern_macro_arg}
+use Rattle.isle_syntax.specs.Trees.PatternTree.{PatternTree, pattern_var, pattern_bind, pattern_bool, pattern_int, pattern_prim, pattern_term}
+use Rattle.isle_syntax.specs.Trees.PatternTree.{pattern_wildcard, pattern_and, pattern_macro_arg}
 use Rattle.isle_syntax.specs.Trees.PatternShape.{pattern_of}
 use Rattle.isle_syntax.specs.Trees.ExprTree.{ExprTree, expr_term, expr_var, expr_bool, expr_int, expr_prim, expr_let}
 use Rattle.isle_syntax.specs.Trees.ExprShape.{expr_of}
@@ -30,18 +32,25 @@ use Rattle.isle_syntax.specs.Tokens.PlacedTokens.{Placed, symbol}
 use Rattle.isle_syntax.specs.Tokens.Names.{is_ident, is_word}
 use Rattle.isle_syntax.specs.Grammar.Phrases.{◌⊙◌, Opening, Closes, SymbolOf, Flag, Each, Closed, next_symbol_is, first_pos, depth_left}
 use Rattle.isle_syntax.specs.Grammar.TreeGrammar.{IsList}
-use Rattle.isle_syntax.specs.Grammar.DefGrammar.{SpellsIdent, SpellsField, SpellsFields, IsFilled, numbered, SpellsVariant, bare, in_list, SpellsTypeValue, SpellsType, SpellsSignature, SpellsDecl, SpellsExtractor, SpellsExtern, SpellsConverter, SpellsName, SpellsPriority, SpellsIfLet, if_let, if_holds, IsRightSide, SpellsRightSide, SpellsRule, is_kept_word, SpellsKept, SpellsDef, SpellsText}
+use Rattle.isle_syntax.specs.Grammar.DefGrammar.{SpellsIdent, SpellsField, SpellsFields, IsFilled, numbered, SpellsVariant, bare, in_list}
+use Rattle.isle_syntax.specs.Grammar.DefGrammar.{SpellsTypeValue, SpellsType, SpellsSignature, SpellsDecl, SpellsExtractor, SpellsExtern}
+use Rattle.isle_syntax.specs.Grammar.DefGrammar.{SpellsConverter, SpellsName, SpellsPriority, SpellsIfLet, if_let, if_holds, IsRightSide}
+use Rattle.isle_syntax.specs.Grammar.DefGrammar.{SpellsRightSide, SpellsRule, is_kept_word, SpellsKept, SpellsDef, SpellsText}
 use Rattle.isle_syntax.specs.Grammar.Verdict.{max_nesting, NestsWithin, IsSpelt}
 use Rattle.isle_syntax.specs.Tokens.RemainingTokens.{RemainingTokens}
 use Rattle.isle_syntax.specs.Grammar.Texts.{IsWhole}
 use Rattle.isle_layout.specs.TextTokens.{AreTextTokens}
 use Rattle.isle_layout.specs.Nesting.{nesting}
-use Rattle.isle_layout.specs.Writable.{writable_ident, writable_pattern, writable_expr, writable_struct_field, writable_tuple_fields, is_filled, writable_fields, writable_variant, writable_type_value, writable_type, is_free_of_flags, writable_decl, writable_extractor, writable_extern, writable_converter, writable_rule_name, writable_priority, writable_iflet, is_list, is_right_side, writable_rule, writable_kept, has_writable_words, writable_def}
+use Rattle.isle_layout.specs.Writable.{writable_ident, writable_pattern, writable_expr, writable_struct_field, writable_tuple_fields, is_filled}
+use Rattle.isle_layout.specs.Writable.{writable_fields, writable_variant, writable_type_value, writable_type, is_free_of_flags, writable_decl}
+use Rattle.isle_layout.specs.Writable.{writable_extractor, writable_extern, writable_converter, writable_rule_name, writable_priority, writable_iflet}
+use Rattle.isle_layout.specs.Writable.{is_list, is_right_side, writable_rule, writable_kept, has_writable_words, writable_def}
 use Rattle.isle_syntax.specs.Trees.WithoutPos.{def_without_pos}
 use Rattle.isle_layout.proofs.SpeltTexts.WithoutPos.{writable_without_pos}
 use Rattle.isle_layout.proofs.SpeltTexts.DepthLeft.{between}
 use Rattle.isle_layout.proofs.Atoms.TextTokens.{tokens_are_text}
-use Rattle.isle_layout.proofs.SpeltTexts.Meanings.{Means, front_of, back_of, means_first, means_second, means_both, means_three, means_with, means_symbol, means_each, means_flag}
+use Rattle.isle_layout.proofs.SpeltTexts.Meanings.{Means, front_of, back_of, means_first, means_second, means_both, means_three, means_with}
+use Rattle.isle_layout.proofs.SpeltTexts.Meanings.{means_symbol, means_each, means_flag}
 use Rattle.isle_layout.proofs.SpeltTexts.SpeltTrees.{means_constant, pattern_means, expr_means, items_mean}
 use Rattle.isle_layout.proofs.SpeltTexts.DefDepthLeft.{def_depths_left}
 
@@ -66,7 +75,8 @@ numbered_writable n [] h = refl
 numbered_writable n (x ∷ xs) h =
     let parts = and_parts (writable_ident x) (list_all writable_ident xs) h in
     let others = writable_tuple_fields (suc n) (numbered (suc n) xs) in
-    and_from (n == n && writable_ident x) others (and_from (n == n) (writable_ident x) (eq-eqb n n refl) parts.0) (numbered_writable (suc n) xs parts.1)
+    and_from (n == n && writable_ident x) others (and_from (n == n) (writable_ident x) (eq-eqb n n refl) parts.0)
+    (numbered_writable (suc n) xs parts.1)
 
 fields_mean : (f : Fields) → Means (writable_fields f) (SpellsFields f)
 fields_mean no_fields = record { holds = λ ts text l. refl }
@@ -120,13 +130,15 @@ module _ (x : Ident) (M : List Placed → Type 0) where
   free_of_two w v false true ts l = refl
   free_of_two w v false false ts l = not_named (is_word w) ts l.0.0 l.1
 
-  free_of_three : (w v u : List ℕ) (a b c : Bool) (ts : List Placed) → Flag w a (Flag v b (Flag u c Named)) ts → (a || b || c || not (is_word w x.0)) ≡ true
+  free_of_three : (w v u : List ℕ) (a b c : Bool) (ts : List Placed) → Flag w a (Flag v b (Flag u c Named)) ts
+      → (a || b || c || not (is_word w x.0)) ≡ true
   free_of_three w v u true b c ts l = refl
   free_of_three w v u false true c ts l = refl
   free_of_three w v u false false true ts l = refl
   free_of_three w v u false false false ts l = not_named (is_word w) ts l.0.0.0 l.1
 
-  free_of_four : (w v u t : List ℕ) (a b c d : Bool) (ts : List Placed) → Flag w a (Flag v b (Flag u c (Flag t d Named))) ts → (a || b || c || d || not (is_word w x.0)) ≡ true
+  free_of_four : (w v u t : List ℕ) (a b c d : Bool) (ts : List Placed) → Flag w a (Flag v b (Flag u c (Flag t d Named))) ts
+      → (a || b || c || d || not (is_word w x.0)) ≡ true
   free_of_four w v u t true b c d ts l = refl
   free_of_four w v u t false true c d ts l = refl
   free_of_four w v u t false false true d ts l = refl
@@ -142,7 +154,8 @@ signature_means d =
     means_both (means_symbol is_ident d.term)
     (means_second (means_both (means_first (idents_mean d.arg_tys)) (means_first (means_symbol is_ident d.ret_ty))))
 
-decl_writable : (d : DeclTree) (free : Bool) → free ≡ true → (writable_ident d.term && (list_all writable_ident d.arg_tys && writable_ident d.ret_ty)) ≡ true
+decl_writable : (d : DeclTree) (free : Bool) → free ≡ true
+    → (writable_ident d.term && (list_all writable_ident d.arg_tys && writable_ident d.ret_ty)) ≡ true
     → (writable_ident d.term && free && list_all writable_ident d.arg_tys && writable_ident d.ret_ty) ≡ true
 decl_writable d free f h =
     let outer = and_parts (writable_ident d.term) (list_all writable_ident d.arg_tys && writable_ident d.ret_ty) h in
@@ -172,7 +185,8 @@ module _ (d : DeclTree) where
 
   flags_mean : Means (writable_ident d.term && (list_all writable_ident d.arg_tys && writable_ident d.ret_ty)) flagged
   flags_mean =
-      means_flag (codes "pure") d.pure (means_flag (codes "multi") d.multi (means_flag (codes "partial") d.partial (means_flag (codes "rec") d.rec (signature_means d))))
+      means_flag (codes "pure") d.pure (means_flag (codes "multi") d.multi
+      (means_flag (codes "partial") d.partial (means_flag (codes "rec") d.rec (signature_means d))))
 
   free_of_flags : (ts : List Placed) → flagged ts → is_free_of_flags d ≡ true
   free_of_flags ts l =
@@ -269,7 +283,8 @@ rule_means r =
     let parts = means_both (name_means r.name) (means_both (priority_means r.prio) (means_both (pattern_means (pattern_of r.pattern)) right)) in
     record {
       holds = λ ts text l.
-          seven (writable_rule_name r.name) (writable_priority r.prio) (is_list (pattern_of r.pattern)) (writable_pattern (pattern_of r.pattern)) (list_all writable_iflet r.iflets)
+          seven (writable_rule_name r.name) (writable_priority r.prio) (is_list (pattern_of r.pattern)) (writable_pattern (pattern_of r.pattern))
+          (list_all writable_iflet r.iflets)
           (is_right_side (expr_of r.expr)) (writable_expr (expr_of r.expr)) (list_pattern (pattern_of r.pattern) l.1) (parts.holds ts text l.0);
     }
 
@@ -295,7 +310,8 @@ spelt_is_writable def ts text nests l =
     and_from (has_writable_words def) (nat_le (nesting def) max_nesting) ((def_means def).holds ts text l) (le-leb (nesting def) max_nesting few.0)
 
 -- and so can each definition of a text
-pub text_is_writable : (defs : List Def) (ts : List Placed) → AreTextTokens ts → NestsWithin ts → SpellsText defs ts → All (λ def. writable_def def ≡ true) defs
+pub text_is_writable : (defs : List Def) (ts : List Placed) → AreTextTokens ts → NestsWithin ts → SpellsText defs ts
+    → All (λ def. writable_def def ≡ true) defs
 text_is_writable [] ts text nests l = All-nil (λ def. writable_def def ≡ true)
 text_is_writable (def ∷ defs) ts text nests l =
     let k = between max_nesting ts l.0 l.1 nests.0 l.2 nests.1 in
@@ -305,7 +321,8 @@ text_is_writable (def ∷ defs) ts text nests l =
     (text_is_writable defs l.1 (back_of ts l.0 l.1 l.2 text) behind l.4)
 
 -- what the parser gives of a whole text can be written
-pub parsed_is_writable : (text : List ℕ) (remaining : RemainingTokens) (defs : List Def) → IsWhole text remaining → IsSpelt remaining defs → All (λ def. writable_def def ≡ true) defs
+pub parsed_is_writable : (text : List ℕ) (remaining : RemainingTokens) (defs : List Def) → IsWhole text remaining → IsSpelt remaining defs
+    → All (λ def. writable_def def ≡ true) defs
 parsed_is_writable text remaining defs whole spelt =
     text_is_writable defs remaining.left (tokens_are_text whole.tokens) spelt.nests spelt.spelt
 
@@ -317,7 +334,8 @@ all_without_pos (def ∷ defs) h =
     (all_without_pos defs (All-tail (λ d. writable_def d ≡ true) def defs h))
 
 -- so can what it gives without positions
-pub parsed_without_pos_is_writable : (text : List ℕ) (remaining : RemainingTokens) (placed defs : List Def) → IsWhole text remaining → IsSpelt remaining placed
+pub parsed_without_pos_is_writable : (text : List ℕ) (remaining : RemainingTokens) (placed defs : List Def) → IsWhole text remaining
+    → IsSpelt remaining placed
     → defs ≡ map def_without_pos placed → All (λ def. writable_def def ≡ true) defs
 parsed_without_pos_is_writable text remaining placed defs whole spelt same =
     subst (All (λ def. writable_def def ≡ true)) (sym same) (all_without_pos placed (parsed_is_writable text remaining placed whole spelt))

@@ -8,12 +8,16 @@ use Rattle.isle_syntax.specs.declared.lexer.Pos.{Pos}
 use Rattle.isle_syntax.specs.declared.ast.Ident.{Ident}
 use Rattle.isle_syntax.specs.Tokens.PlacedTokens.{Literal, small, large}
 use Rattle.isle_syntax.specs.Tokens.Names.{is_ident, is_name, is_pname, is_const_name}
-use Rattle.isle_syntax.specs.Grammar.TreeGrammar.{Constant, bits_of, is_large, SpellsInteger, is_pattern_term, is_expr_term, SpellsPattern, SpellsPatterns, SpellsExpr, SpellsExprs, SpellsLets, SpellsItem, SpellsItems}
-use Rattle.isle_syntax.specs.Trees.PatternTree.{PatternTree, PatternTrees, pattern_var, pattern_bind, pattern_bool, pattern_int, pattern_prim, pattern_term, pattern_wildcard, pattern_and, pattern_macro_arg, no_patterns, more_patterns}
-use Rattle.isle_syntax.specs.Trees.ExprTree.{ExprTree, ExprTrees, LetTrees, expr_term, expr_var, expr_bool, expr_int, expr_prim, expr_let, no_exprs, more_exprs, no_lets, more_lets}
+use Rattle.isle_syntax.specs.Grammar.TreeGrammar.{Constant, bits_of, is_large, SpellsInteger, is_pattern_term, is_expr_term, SpellsPattern}
+use Rattle.isle_syntax.specs.Grammar.TreeGrammar.{SpellsPatterns, SpellsExpr, SpellsExprs, SpellsLets, SpellsItem, SpellsItems}
+use Rattle.isle_syntax.specs.Trees.PatternTree.{PatternTree, PatternTrees, pattern_var, pattern_bind, pattern_bool, pattern_int, pattern_prim}
+use Rattle.isle_syntax.specs.Trees.PatternTree.{pattern_term, pattern_wildcard, pattern_and, pattern_macro_arg, no_patterns, more_patterns}
+use Rattle.isle_syntax.specs.Trees.ExprTree.{ExprTree, ExprTrees, LetTrees, expr_term, expr_var, expr_bool, expr_int, expr_prim, expr_let, no_exprs}
+use Rattle.isle_syntax.specs.Trees.ExprTree.{more_exprs, no_lets, more_lets}
 use Rattle.isle_syntax.specs.Trees.ItemTree.{ItemTree, ItemTrees, item_int, item_big, item_symbol, item_at, item_list, no_items, more_items}
 use Rattle.isle_layout.specs.TextTokens.{IsTextLiteral, AreTextTokens}
-use Rattle.isle_layout.specs.Writable.{writable_ident, fits_i128, writable_int, writable_pattern, writable_patterns, writable_expr, writable_exprs, writable_lets, writable_item, writable_items}
+use Rattle.isle_layout.specs.Writable.{writable_ident, fits_i128, writable_int, writable_pattern, writable_patterns, writable_expr, writable_exprs}
+use Rattle.isle_layout.specs.Writable.{writable_lets, writable_item, writable_items}
 use Rattle.isle_layout.proofs.SpeltTexts.Meanings.{Means, means_first, means_second, means_both, means_three, means_with, means_always, means_symbol}
 
 -- ---- integers and constants
@@ -26,7 +30,8 @@ large_fits n h = grind (arith, nat_tests)
 
 literal_writable : (n : Literal) → IsTextLiteral n → writable_int (bits_of n) (is_large n) ≡ true
 literal_writable (small z) h = and_from (fits_i128 z) true h refl
-literal_writable (large n) h = and_from (fits_i128 (cast_signed w128 n)) (int_lt (cast_signed w128 n) (pos 0)) (large_fits n h.1) (large_is_negative n h.0)
+literal_writable (large n) h = and_from (fits_i128 (cast_signed w128 n)) (int_lt (cast_signed w128 n) (pos 0)) (large_fits n h.1)
+    (large_is_negative n h.0)
 
 means_integer : (val : ℤ) (big : Bool) (p : Pos) → Means (writable_int val big) (SpellsInteger val big p)
 means_integer val big p = record {
@@ -85,7 +90,8 @@ mutual
   pub item_means : (t : ItemTree) → Means (writable_item t) (SpellsItem t)
   item_means (item_int z p) = record { holds = λ ts text l. (let one = subst AreTextTokens l text in one.0) }
   item_means (item_big n p) = record {
-    holds = λ ts text l. (let one = subst AreTextTokens l text in and_from (nat_le (2 ^ 127) n) (nat_lt n (2 ^ 128)) (le-leb (2 ^ 127) n one.0.0) (lt-ltb n (2 ^ 128) one.0.1));
+    holds = λ ts text l. (let one = subst AreTextTokens l text in and_from (nat_le (2 ^ 127) n) (nat_lt n (2 ^ 128)) (le-leb (2 ^ 127) n one.0.0)
+        (lt-ltb n (2 ^ 128) one.0.1));
   }
   item_means (item_symbol x) = record { holds = λ ts text l. (let one = subst AreTextTokens l text in one.0) }
   item_means (item_at p) = means_always (SpellsItem (item_at p))

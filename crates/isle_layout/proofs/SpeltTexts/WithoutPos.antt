@@ -20,18 +20,28 @@ use Rattle.isle_syntax.specs.declared.ast.Extern.{Extern as ExternTree}
 use Rattle.isle_syntax.specs.declared.ast.Extern.TheVariants.{Constructor as extern_constructor, Extractor as extern_extractor, Const as extern_const}
 use Rattle.isle_syntax.specs.declared.ast.Def.{Def}
 use Rattle.isle_syntax.specs.declared.ast.Def.TheVariants.{TypeDef, Decl, Rule, Extractor, Extern, Converter, Pragma, Kept}
-use Rattle.isle_syntax.specs.Trees.PatternTree.{PatternTree, PatternTrees, pattern_var, pattern_bind, pattern_bool, pattern_int, pattern_prim, pattern_term, pattern_wildcard, pattern_and, pattern_macro_arg, no_patterns, more_patterns}
+use Rattle.isle_syntax.specs.Trees.PatternTree.{PatternTree, PatternTrees, pattern_var, pattern_bind, pattern_bool, pattern_int, pattern_prim}
+use Rattle.isle_syntax.specs.Trees.PatternTree.{pattern_term, pattern_wildcard, pattern_and, pattern_macro_arg, no_patterns, more_patterns}
 use Rattle.isle_syntax.specs.Trees.PatternShape.{pattern_of}
-use Rattle.isle_syntax.specs.Trees.ExprTree.{ExprTree, ExprTrees, LetTrees, expr_term, expr_var, expr_bool, expr_int, expr_prim, expr_let, no_exprs, more_exprs, no_lets, more_lets}
+use Rattle.isle_syntax.specs.Trees.ExprTree.{ExprTree, ExprTrees, LetTrees, expr_term, expr_var, expr_bool, expr_int, expr_prim, expr_let, no_exprs}
+use Rattle.isle_syntax.specs.Trees.ExprTree.{more_exprs, no_lets, more_lets}
 use Rattle.isle_syntax.specs.Trees.ExprShape.{expr_of}
 use Rattle.isle_syntax.specs.Trees.ItemTree.{ItemTree, ItemTrees, item_int, item_big, item_symbol, item_at, item_list, no_items, more_items}
 use Rattle.isle_syntax.specs.Grammar.TreeGrammar.{is_pattern_term, is_expr_term}
 use Rattle.isle_syntax.specs.Tokens.Names.{is_pname}
-use Rattle.isle_syntax.specs.Trees.WithoutPos.{ident_without_pos, pattern_tree_without_pos, pattern_trees_without_pos, pattern_without_pos, expr_tree_without_pos, expr_trees_without_pos, let_trees_without_pos, expr_without_pos, item_tree_without_pos, item_trees_without_pos, struct_field_without_pos, tuple_field_without_pos, fields_without_pos, variant_without_pos, type_value_without_pos, iflet_without_pos, rule_without_pos, def_without_pos}
+use Rattle.isle_syntax.specs.Trees.WithoutPos.{ident_without_pos, pattern_tree_without_pos, pattern_trees_without_pos, pattern_without_pos}
+use Rattle.isle_syntax.specs.Trees.WithoutPos.{expr_tree_without_pos, expr_trees_without_pos, let_trees_without_pos, expr_without_pos}
+use Rattle.isle_syntax.specs.Trees.WithoutPos.{item_tree_without_pos, item_trees_without_pos, struct_field_without_pos, tuple_field_without_pos}
+use Rattle.isle_syntax.specs.Trees.WithoutPos.{fields_without_pos, variant_without_pos, type_value_without_pos, iflet_without_pos, rule_without_pos}
+use Rattle.isle_syntax.specs.Trees.WithoutPos.{def_without_pos}
 use Rattle.isle_syntax.specs.Grammar.DefGrammar.{is_kept_word}
 use Rattle.isle_syntax.specs.Grammar.Verdict.{max_nesting}
-use Rattle.isle_layout.specs.Nesting.{pattern_nesting, pattern_nestings, expr_nesting, expr_nestings, let_nestings, item_nesting, item_nestings, iflet_nestings, nesting}
-use Rattle.isle_layout.specs.Writable.{writable_ident, writable_pattern, writable_patterns, writable_expr, writable_exprs, writable_lets, writable_item, writable_items, writable_struct_field, writable_tuple_fields, is_filled, writable_fields, writable_variant, writable_type_value, is_free_of_flags, writable_rule_name, writable_priority, writable_iflet, is_list, is_right_side, writable_rule, has_writable_words, writable_def}
+use Rattle.isle_layout.specs.Nesting.{pattern_nesting, pattern_nestings, expr_nesting, expr_nestings, let_nestings, item_nesting, item_nestings}
+use Rattle.isle_layout.specs.Nesting.{iflet_nestings, nesting}
+use Rattle.isle_layout.specs.Writable.{writable_ident, writable_pattern, writable_patterns, writable_expr, writable_exprs, writable_lets}
+use Rattle.isle_layout.specs.Writable.{writable_item, writable_items, writable_struct_field, writable_tuple_fields, is_filled, writable_fields}
+use Rattle.isle_layout.specs.Writable.{writable_variant, writable_type_value, is_free_of_flags, writable_rule_name, writable_priority, writable_iflet}
+use Rattle.isle_layout.specs.Writable.{is_list, is_right_side, writable_rule, has_writable_words, writable_def}
 
 -- ---- trees
 
@@ -228,7 +238,8 @@ iflets_as_deep (c ∷ cs) = (λ i. max (max (pattern_as_deep c.pattern i) (expr_
 
 rule_same : (r : RuleTree) → writable_rule (rule_without_pos r) ≡ writable_rule r
 rule_same r =
-    (λ i. name_same r.name i && writable_priority r.prio && list_same r.pattern i && pattern_same r.pattern i && all_same writable_iflet iflet_without_pos iflet_same r.iflets i && right_same r.expr i && expr_same r.expr i)
+    (λ i. name_same r.name i && writable_priority r.prio && list_same r.pattern i && pattern_same r.pattern i
+    && all_same writable_iflet iflet_without_pos iflet_same r.iflets i && right_same r.expr i && expr_same r.expr i)
 
 words_same : (def : Def) → has_writable_words (def_without_pos def) ≡ has_writable_words def
 words_same (TypeDef t) = ap (λ b. writable_ident t.name && b) (value_same t.ty)

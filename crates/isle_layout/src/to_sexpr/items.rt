@@ -1,4 +1,4 @@
-ghost use Rattle.std.specs.Prelude.{◌≡◌, ◌++◌, IfOk};
+ghost use Rattle.std.specs.Prelude.{◌≡◌, ◌++◌, false, IfOk};
 ghost use Rattle.isle_syntax.specs.Trees.ItemShape.{item_of, items_of};
 ghost use Rattle.isle_layout.specs.SExprShape.{sexpr_of};
 ghost use Rattle.isle_layout.specs.Spellings.{item_sexpr, item_sexprs};
@@ -7,15 +7,21 @@ ghost use Rattle.isle_layout.specs.DefSpellings.{kept_sexpr};
 use crate::sexpr::SExpr;
 use crate::to_sexpr::list::{ListBuilder, atom, name};
 use crate::to_sexpr::numbers::{natural, signed};
+use crate::to_sexpr::{HasMacroArg, ToSExpr};
+use isle_syntax::Refusal;
 use isle_syntax::ast::{Kept, KeptItem};
 use std::alloc::{AllocError, Global};
 
 /// A kept definition.
-pub(crate) fn spell_kept(alloc: Global, kept: &Kept) -> Result<SExpr, AllocError>
-    ensures { IfOk result (λ sexpr. sexpr_of sexpr ≡ kept_sexpr kept.now) }
-{
-    let list = ListBuilder::new(alloc).name(&kept.word)?;
-    Ok(add_items(alloc, list, kept.items.as_slice())?.build())
+impl ToSExpr for Kept {
+    ghost sexpr = { kept_sexpr };
+
+    ghost macro_arg = { λ _. false };
+
+    fn to_sexpr(&self, alloc: Global) -> Result<SExpr, Refusal<HasMacroArg>> {
+        let list = ListBuilder::new(alloc).name(&self.word)?;
+        Ok(add_items(alloc, list, self.items.as_slice())?.build())
+    }
 }
 
 /// An item of a kept definition.

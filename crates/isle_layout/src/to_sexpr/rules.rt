@@ -8,19 +8,28 @@ use crate::to_sexpr::exprs::spell_expr;
 use crate::to_sexpr::list::ListBuilder;
 use crate::to_sexpr::numbers::signed;
 use crate::to_sexpr::patterns::spell_pattern;
+use crate::to_sexpr::{HasMacroArg, ToSExpr};
+use isle_syntax::Refusal;
 use isle_syntax::ast::{Ident, IfLet, Rule};
 use std::alloc::{AllocError, Global};
 
-/// A rule; a `MacroArg` of its patterns becomes an atom without text.
-pub(crate) fn spell_rule(alloc: Global, rule: &Rule) -> Result<SExpr, AllocError>
-    ensures { IfOk result (λ sexpr. sexpr_of sexpr ≡ rule_sexpr rule.now) }
-{
-    let list = ListBuilder::new(alloc).word("rule")?;
-    let list = add_name(list, &rule.name)?;
-    let list = add_priority(alloc, list, &rule.prio)?;
-    let list = list.item(spell_pattern(alloc, &rule.pattern)?)?;
-    let list = add_iflets(alloc, list, rule.iflets.as_slice())?;
-    Ok(list.item(spell_expr(alloc, &rule.expr)?)?.build())
+/// A rule.
+impl ToSExpr for Rule {
+    ghost sexpr = { rule_sexpr };
+
+    ghost macro_arg = { rule_has_macro_arg };
+
+    fn to_sexpr(&self, alloc: Global) -> Result<SExpr, Refusal<HasMacroArg>> {
+        if rule_has_macro_arg(self) {
+            return Err(Refusal::Fault(HasMacroArg));
+        }
+        let list = ListBuilder::new(alloc).word("rule")?;
+        let list = add_name(list, &self.name)?;
+        let list = add_priority(alloc, list, &self.prio)?;
+        let list = list.item(spell_pattern(alloc, &self.pattern)?)?;
+        let list = add_iflets(alloc, list, self.iflets.as_slice())?;
+        Ok(list.item(spell_expr(alloc, &self.expr)?)?.build())
+    }
 }
 
 /// A list with a rule's name more, if it has one.
@@ -68,8 +77,8 @@ pub(crate) fn spell_iflet(alloc: Global, iflet: &IfLet) -> Result<SExpr, AllocEr
     Ok(list.item(pattern)?.item(expr)?.build())
 }
 
-/// Whether a `MacroArg` stands in a rule's patterns.
-pub(crate) fn rule_has_macro_arg(rule: &Rule) -> bool
+/// Whether a `MacroArg` occurs in a rule's patterns.
+fn rule_has_macro_arg(rule: &Rule) -> bool
     ensures { result ≡ rule_has_macro_arg rule.now }
 {
     rule.pattern.has_macro_arg() || any_has_macro_arg(rule.iflets.as_slice())

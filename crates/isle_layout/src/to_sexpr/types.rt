@@ -1,23 +1,30 @@
-ghost use Rattle.std.specs.Prelude.{◌≡◌, ◌++◌, map, IfOk};
+ghost use Rattle.std.specs.Prelude.{◌≡◌, ◌++◌, false, map, IfOk};
 ghost use Rattle.isle_layout.specs.SExprShape.{sexpr_of};
-ghost use Rattle.isle_layout.specs.DefSpellings.{struct_field_sexpr, tuple_field_sexpr, fields_sexprs, fields_sexpr, struct_fields_sexpr, tuple_fields_sexpr, variant_sexpr, type_value_sexpr, type_sexpr};
+ghost use Rattle.isle_layout.specs.DefSpellings.{struct_field_sexpr, tuple_field_sexpr, fields_sexprs, fields_sexpr, struct_fields_sexpr};
+ghost use Rattle.isle_layout.specs.DefSpellings.{tuple_fields_sexpr, variant_sexpr, type_value_sexpr, type_sexpr};
 
 use crate::sexpr::SExpr;
 use crate::to_sexpr::list::{ListBuilder, name};
+use crate::to_sexpr::{HasMacroArg, ToSExpr};
+use isle_syntax::Refusal;
 use isle_syntax::ast::{
     Fields, StructField, StructFields, TupleField, TupleFields, Type, TypeValue, Variant,
 };
 use std::alloc::{AllocError, Global};
 
 /// A type's definition.
-pub(crate) fn spell_type(alloc: Global, ty: &Type) -> Result<SExpr, AllocError>
-    ensures { IfOk result (λ sexpr. sexpr_of sexpr ≡ type_sexpr ty.now) }
-{
-    let list = ListBuilder::new(alloc).word("type")?.name(&ty.name)?;
-    let list = list
-        .flag("extern", ty.is_extern)?
-        .flag("nodebug", ty.is_nodebug)?;
-    Ok(list.item(spell_type_value(alloc, &ty.ty)?)?.build())
+impl ToSExpr for Type {
+    ghost sexpr = { type_sexpr };
+
+    ghost macro_arg = { λ _. false };
+
+    fn to_sexpr(&self, alloc: Global) -> Result<SExpr, Refusal<HasMacroArg>> {
+        let list = ListBuilder::new(alloc).word("type")?.name(&self.name)?;
+        let list = list
+            .flag("extern", self.is_extern)?
+            .flag("nodebug", self.is_nodebug)?;
+        Ok(list.item(spell_type_value(alloc, &self.ty)?)?.build())
+    }
 }
 
 /// What a type is made of.

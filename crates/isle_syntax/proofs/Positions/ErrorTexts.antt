@@ -8,12 +8,15 @@ use Rattle.isle_syntax.specs.declared.error.Span.{Span}
 use Rattle.isle_syntax.specs.declared.error.Error.{Error}
 use Rattle.isle_syntax.specs.declared.error.Error.TheVariants.{TypeError, OverlapError, ShadowedError}
 
-pub overlap_text : (files : List SourceFile) (message : List ℕ) (rules : List Span) (d : Span) → 0 < length rules → rules_text files (get_or rules 0 d) (codes "overlapping rules") (take (length rules - 1) (drop 1 rules)) ≡ error_text files (OverlapError message rules)
+pub overlap_text : (files : List SourceFile) (message : List ℕ) (rules : List Span) (d : Span) → 0 < length rules
+    → rules_text files (get_or rules 0 d) (codes "overlapping rules") (take (length rules - 1) (drop 1 rules))
+    ≡ error_text files (OverlapError message rules)
 overlap_text files message [] d h = absurd (omega arith)
 overlap_text files message (first ∷ others) d h =
     ap (rules_text files first (codes "overlapping rules")) (take_all (suc (length others) - 1) others (omega arith))
 
-pub masked_have_places : (files : List SourceFile) (error : Error) (shadowed : List Span) (mask : Span) (rules : List Span) → All (IsPrintableSpan files) (spans_of error) → error ≡ ShadowedError shadowed mask → rules ≡ shadowed → All (IsPrintableSpan files) rules
+pub masked_have_places : (files : List SourceFile) (error : Error) (shadowed : List Span) (mask : Span) (rules : List Span)
+    → All (IsPrintableSpan files) (spans_of error) → error ≡ ShadowedError shadowed mask → rules ≡ shadowed → All (IsPrintableSpan files) rules
 masked_have_places files error shadowed mask rules placed is same =
     let each : All (IsPrintableSpan files) (mask ∷ shadowed) = subst (λ (e : Error). All (IsPrintableSpan files) (spans_of e)) is placed in
     subst (All (IsPrintableSpan files)) (sym same) (λ k d h. each (suc k) d (omega arith))
@@ -22,8 +25,10 @@ one_place : (files : List SourceFile) (span : Span) → IsPrintableSpan files sp
 one_place files span p zero d h = p
 one_place files span p (suc k) d h = absurd (omega arith)
 
-pub type_error_is_printable : (files : List SourceFile) (message : List ℕ) (span : Span) → IsPrintableSpan files span → IsPrintable files (TypeError message span)
+pub type_error_is_printable : (files : List SourceFile) (message : List ℕ) (span : Span) → IsPrintableSpan files span
+    → IsPrintable files (TypeError message span)
 type_error_is_printable files message span p = record { named = omega arith; placed = one_place files span p }
 
-pub overlap_is_printable : (files : List SourceFile) (message : List ℕ) (rules : List Span) → 0 < length rules → All (IsPrintableSpan files) rules → IsPrintable files (OverlapError message rules)
+pub overlap_is_printable : (files : List SourceFile) (message : List ℕ) (rules : List Span) → 0 < length rules → All (IsPrintableSpan files) rules
+    → IsPrintable files (OverlapError message rules)
 overlap_is_printable files message rules named placed = record { named = named; placed = placed }

@@ -1,5 +1,6 @@
 -- The starts of a text's lines rise, and those up to an offset are as many as the newlines below it.
-use Rattle.std.proofs.Common.{◌≡◌, ℕ, zero, suc, ◌+◌, ◌<◌, ◌≤◌, Bool, true, false, List, [], ◌∷◌, length, get_or, take, map, nat_le, Option, Some, IfSome, refl, ap, subst, sym, ◌∙◌, ◌⊎◌, inl, inr, arith, add-one}
+use Rattle.std.proofs.Common.{◌≡◌, ℕ, zero, suc, ◌+◌, ◌<◌, ◌≤◌, Bool, true, false, List, [], ◌∷◌, length, get_or, take, map, nat_le, Option, Some}
+use Rattle.std.proofs.Common.{IfSome, refl, ap, subst, sym, ◌∙◌, ◌⊎◌, inl, inr, arith, add-one}
 use Rattle.std.specs.List.{filter, enumerate_from, AllWithin}
 use Rattle.std.specs.List.Sorted.{IsStrictlyIncreasing, IsPartitionPoint, IsPartitionedBy}
 use Rattle.std.proofs.lemmas.Bool.Decides.{nat_tests}
@@ -47,7 +48,8 @@ none_up_to at (b ∷ bs) offset h =
     let past : nat_le (at + 1) offset ≡ false = grind (arith, nat_tests) in
     elim (true_or_false (is_newline b)) [ inl e ↦ rw (e, past) rest | inr e ↦ rw e rest ]
 
-as_many : (at : ℕ) (text : List ℕ) (n offset : ℕ) → offset ≡ at + n → length (filter (λ s. nat_le s offset) (starts_from at text)) ≡ length (filter is_newline (take n text))
+as_many : (at : ℕ) (text : List ℕ) (n offset : ℕ) → offset ≡ at + n
+    → length (filter (λ s. nat_le s offset) (starts_from at text)) ≡ length (filter is_newline (take n text))
 as_many at text zero offset h = none_up_to at text offset (omega arith)
 as_many at [] (suc n) offset h = refl
 as_many at (b ∷ bs) (suc n) offset h =
@@ -56,28 +58,34 @@ as_many at (b ∷ bs) (suc n) offset h =
     elim (true_or_false (is_newline b)) [ inl e ↦ rw (e, here) (ap suc rest) | inr e ↦ rw e rest ]
 
 pub starts_are_counted : (text : List ℕ) (offset : ℕ) → starts_up_to (line_starts text) offset ≡ newlines_before text offset
-starts_are_counted text offset = sym (length-filter (λ s. nat_le s offset) (line_starts text)) ∙ (as_many 0 text offset offset (omega arith) ∙ length-filter is_newline (take offset text))
+starts_are_counted text offset = sym (length-filter (λ s. nat_le s offset) (line_starts text))
+    ∙ (as_many 0 text offset offset (omega arith) ∙ length-filter is_newline (take offset text))
 
 -- a partition point is the number of the elements that pass
-point_is_count : (p : ℕ → Bool) (xs : List ℕ) (n : ℕ) → n ≤ length xs → AllWithin (λ x. p x ≡ true) xs 0 n → AllWithin (λ x. p x ≡ false) xs n (length xs) → n ≡ length (filter p xs)
+point_is_count : (p : ℕ → Bool) (xs : List ℕ) (n : ℕ) → n ≤ length xs → AllWithin (λ x. p x ≡ true) xs 0 n
+    → AllWithin (λ x. p x ≡ false) xs n (length xs) → n ≡ length (filter p xs)
 point_is_count p [] n h holds fails = omega arith
 point_is_count p (x ∷ xs) zero h holds fails =
     let here : p x ≡ false = fails 0 0 (omega arith) (omega arith) in
     rw here (point_is_count p xs zero (omega arith) (λ k d l u. absurd (omega arith)) (λ k d l u. fails (suc k) d (omega arith) (omega arith)))
 point_is_count p (x ∷ xs) (suc n) h holds fails =
     let here : p x ≡ true = holds 0 0 (omega arith) (omega arith) in
-    rw here (ap suc (point_is_count p xs n (omega arith) (λ k d l u. holds (suc k) d (omega arith) (omega arith)) (λ k d l u. fails (suc k) d (omega arith) (omega arith))))
+    rw here (ap suc (point_is_count p xs n (omega arith) (λ k d l u. holds (suc k) d (omega arith) (omega arith))
+    (λ k d l u. fails (suc k) d (omega arith) (omega arith))))
 
 pub starts_are_parted : (starts : List ℕ) (offset : ℕ) → IsStrictlyIncreasing starts → IsPartitionedBy (λ s. nat_le s offset) starts
 starts_are_parted starts offset rise =
-    IsPartitionedBy-leb (λ s. s) starts offset (IsNonDecreasingBy-from_all_adjacent (λ s. s) starts (λ k d h. omega (arith, rise k h, get_or_default starts k d 0 (omega arith), get_or_default starts (k + 1) d 0 (omega arith))))
+    IsPartitionedBy-leb (λ s. s) starts offset (IsNonDecreasingBy-from_all_adjacent (λ s. s) starts
+    (λ k d h. omega (arith, rise k h, get_or_default starts k d 0 (omega arith), get_or_default starts (k + 1) d 0 (omega arith))))
 
-pub point_is_starts_up_to : (starts : List ℕ) (offset n : ℕ) → n ≤ length starts → IsPartitionPoint (λ s. nat_le s offset ≡ true) (λ s. nat_le s offset ≡ false) starts n → n ≡ starts_up_to starts offset
+pub point_is_starts_up_to : (starts : List ℕ) (offset n : ℕ) → n ≤ length starts
+    → IsPartitionPoint (λ s. nat_le s offset ≡ true) (λ s. nat_le s offset ≡ false) starts n → n ≡ starts_up_to starts offset
 point_is_starts_up_to starts offset n h point =
     point_is_count (λ s. nat_le s offset) starts n h point.0 point.1 ∙ length-filter (λ s. nat_le s offset) starts
 
 -- what the starts of a file's text count
-pub counts_of_file : (found : Option SourceFile) (file : SourceFile) (starts : List ℕ) → Some file ≡ found → starts ≡ line_starts file.text → IfSome found (λ f. (p : ℕ) → starts_up_to starts p ≡ newlines_before f.text p)
+pub counts_of_file : (found : Option SourceFile) (file : SourceFile) (starts : List ℕ) → Some file ≡ found → starts ≡ line_starts file.text
+    → IfSome found (λ f. (p : ℕ) → starts_up_to starts p ≡ newlines_before f.text p)
 counts_of_file found file starts here same =
     let counted = λ (p : ℕ). ap (λ s. starts_up_to s p) same ∙ starts_are_counted file.text p in
     subst (λ (o : Option SourceFile). IfSome o (λ f. (p : ℕ) → starts_up_to starts p ≡ newlines_before f.text p)) here counted
@@ -101,7 +109,10 @@ pass_up_to_count p (x ∷ xs) (suc k) parted h = elim (true_or_false (p x)) [
   | inr e ↦ let none = none_pass p x xs parted e in let some = rw e at h in absurd (omega arith)
 ]
 
-pub counted_start_is_below : (starts : List ℕ) (offset k : ℕ) → IsStrictlyIncreasing starts → k < starts_up_to starts offset → get_or starts k 0 ≤ offset
+pub counted_start_is_below : (starts : List ℕ) (offset k : ℕ) → IsStrictlyIncreasing starts → k < starts_up_to starts offset
+    → get_or starts k 0 ≤ offset
 counted_start_is_below starts offset k rise h =
-    let passes : nat_le (get_or starts k 0) offset ≡ true = pass_up_to_count (λ s. nat_le s offset) starts k (starts_are_parted starts offset rise) (rw (length-filter (λ s. nat_le s offset) starts) h) in
+    let passes : nat_le (get_or starts k 0) offset ≡ true =
+    pass_up_to_count (λ s. nat_le s offset) starts k (starts_are_parted starts offset rise) (rw (length-filter (λ s. nat_le s offset) starts) h)
+    in
     grind (arith, nat_tests)

@@ -15,7 +15,7 @@ use Rattle.isle_syntax.specs.Tokens.RemainingTokens.{RemainingTokens}
 use Rattle.isle_syntax.specs.Tokens.LexerCalls.{IsRemaining, TokensAscend}
 use Rattle.isle_syntax.specs.Grammar.DefGrammar.{SpellsText}
 use Rattle.isle_syntax.specs.Positions.DefPositions.{DefAt, RuleAt}
-use Rattle.isle_syntax.specs.Grammar.Verdict.{IsRight}
+use Rattle.isle_syntax.specs.Grammar.Verdict.{IsSpelt}
 use Rattle.isle_syntax.specs.Positions.RuleOrder.{rule_places, RulesAscend}
 use Rattle.isle_syntax.proofs.Tokens.TokenOrder.{later_ascend, all_before}
 use Rattle.isle_syntax.proofs.Positions.SpeltPositions.{def_places, text_places}
@@ -23,7 +23,8 @@ use Rattle.isle_syntax.proofs.Positions.SpeltPositions.{def_places, text_places}
 rules_at : (At : Pos → Type 0) (defs : List Def) → All (DefAt At) defs → All At (rule_places defs)
 rules_at At [] h = All-nil At
 rules_at At (Rule r ∷ defs) h =
-    let here : RuleAt At r = All-head (DefAt At) (Rule r) defs h in All-cons At r.pos (rule_places defs) here.pos (rules_at At defs (All-tail (DefAt At) (Rule r) defs h))
+    let here : RuleAt At r = All-head (DefAt At) (Rule r) defs h in
+    All-cons At r.pos (rule_places defs) here.pos (rules_at At defs (All-tail (DefAt At) (Rule r) defs h))
 rules_at At (def ∷ defs) h = rules_at At defs (All-tail (DefAt At) def defs h)
 
 rules_ascend : (defs : List Def) (ts : List Placed) → SpellsText defs ts → TokensAscend ts → RulesAscend defs
@@ -32,11 +33,13 @@ rules_ascend (Rule r ∷ defs) ts l h =
     let u = l.0 in
     let v = l.1 in
     let ordered = subst TokensAscend l.2 h in
-    let here : RuleAt (λ p. All (λ t. p.offset < (pos_of t).offset) v) r = def_places (λ p. All (λ t. p.offset < (pos_of t).offset) v) (Rule r) u l.3 (all_before u v ordered) in
+    let here : RuleAt (λ p. All (λ t. p.offset < (pos_of t).offset) v) r =
+    def_places (λ p. All (λ t. p.offset < (pos_of t).offset) v) (Rule r) u l.3 (all_before u v ordered) in
     let behind = rules_at (λ q. r.pos.offset < q.offset) defs (text_places (λ q. r.pos.offset < q.offset) defs v l.4 here.pos) in
     AllPairs-cons (λ (p : Pos) (q : Pos). p.offset < q.offset) r.pos (rule_places defs) behind (rules_ascend defs v l.4 (later_ascend u v ordered))
 rules_ascend (def ∷ defs) ts l h = rules_ascend defs l.1 l.4 (later_ascend l.0 l.1 (subst TokensAscend l.2 h))
 
-pub right_ascends : (u : RemainingTokens) → IsRemaining u → (res : Result (Vec Def Global) (Refusal Error)) → IsRight u res → IfOk res (λ defs. RulesAscend defs.items)
-right_ascends u remaining (Ok defs) right = rules_ascend defs.items u.left right.spelt remaining.ascending
-right_ascends u remaining (Err r) right = tt
+pub spelt_ascends : (u : RemainingTokens) → IsRemaining u → (res : Result (Vec Def Global) (Refusal Error)) → IfOk res (λ defs. IsSpelt u defs.items)
+    → IfOk res (λ defs. RulesAscend defs.items)
+spelt_ascends u remaining (Ok defs) spelt = rules_ascend defs.items u.left spelt.spelt remaining.ascending
+spelt_ascends u remaining (Err r) spelt = tt

@@ -22,16 +22,23 @@ use Rattle.isle_syntax.specs.declared.ast.Converter.{Converter as ConverterTree}
 use Rattle.isle_syntax.specs.declared.ast.Kept.{Kept as KeptTree}
 use Rattle.isle_syntax.specs.declared.ast.Def.{Def}
 use Rattle.isle_syntax.specs.declared.ast.Def.TheVariants.{TypeDef, Decl, Rule, Extractor, Extern, Converter, Pragma, Kept}
-use Rattle.isle_syntax.specs.Trees.PatternTree.{PatternTree, PatternTrees, pattern_var, pattern_bind, pattern_bool, pattern_int, pattern_prim, pattern_term, pattern_wildcard, pattern_and, pattern_macro_arg, no_patterns, more_patterns}
+use Rattle.isle_syntax.specs.Trees.PatternTree.{PatternTree, PatternTrees, pattern_var, pattern_bind, pattern_bool, pattern_int, pattern_prim}
+use Rattle.isle_syntax.specs.Trees.PatternTree.{pattern_term, pattern_wildcard, pattern_and, pattern_macro_arg, no_patterns, more_patterns}
 use Rattle.isle_syntax.specs.Trees.PatternShape.{pattern_of}
-use Rattle.isle_syntax.specs.Trees.ExprTree.{ExprTree, ExprTrees, LetTrees, expr_term, expr_var, expr_bool, expr_int, expr_prim, expr_let, no_exprs, more_exprs, no_lets, more_lets}
+use Rattle.isle_syntax.specs.Trees.ExprTree.{ExprTree, ExprTrees, LetTrees, expr_term, expr_var, expr_bool, expr_int, expr_prim, expr_let, no_exprs}
+use Rattle.isle_syntax.specs.Trees.ExprTree.{more_exprs, no_lets, more_lets}
 use Rattle.isle_syntax.specs.Trees.ExprShape.{expr_of}
 use Rattle.isle_syntax.specs.Trees.ItemTree.{ItemTree, ItemTrees, item_int, item_big, item_symbol, item_at, item_list, no_items, more_items}
 use Rattle.isle_syntax.specs.Tokens.PlacedTokens.{Placed, closing, pos_of}
 use Rattle.isle_syntax.specs.Grammar.Phrases.{◌⊙◌, Closes, Opening, Says, SymbolOf, Flag, Each, Closed, first_pos}
-use Rattle.isle_syntax.specs.Grammar.TreeGrammar.{Constant, SpellsPattern, SpellsPatterns, SpellsExpr, SpellsExprs, SpellsLets, SpellsItem, SpellsItems}
-use Rattle.isle_syntax.specs.Grammar.DefGrammar.{SpellsIdent, SpellsField, numbered, SpellsFields, SpellsVariant, bare, in_list, SpellsTypeValue, SpellsType, SpellsSignature, SpellsDecl, SpellsExtractor, SpellsExtern, SpellsConverter, SpellsName, SpellsIfLet, if_let, if_holds, SpellsRule, SpellsKept, SpellsDef, SpellsText}
-use Rattle.isle_syntax.specs.Positions.DefPositions.{IdentAt, StructFieldAt, TupleFieldAt, FieldsAt, VariantAt, TypeValueAt, TypeAt, DeclAt, PatternTreeAt, PatternTreesAt, ExprTreeAt, ExprTreesAt, LetTreesAt, IfLetAt, RuleAt, ExtractorAt, ExternAt, ConverterAt, ItemTreeAt, ItemTreesAt, KeptAt, DefAt}
+use Rattle.isle_syntax.specs.Grammar.TreeGrammar.{Constant, SpellsPattern, SpellsPatterns, SpellsExpr, SpellsExprs, SpellsLets, SpellsItem}
+use Rattle.isle_syntax.specs.Grammar.TreeGrammar.{SpellsItems}
+use Rattle.isle_syntax.specs.Grammar.DefGrammar.{SpellsIdent, SpellsField, numbered, SpellsFields, SpellsVariant, bare, in_list, SpellsTypeValue}
+use Rattle.isle_syntax.specs.Grammar.DefGrammar.{SpellsType, SpellsSignature, SpellsDecl, SpellsExtractor, SpellsExtern, SpellsConverter, SpellsName}
+use Rattle.isle_syntax.specs.Grammar.DefGrammar.{SpellsIfLet, if_let, if_holds, SpellsRule, SpellsKept, SpellsDef, SpellsText}
+use Rattle.isle_syntax.specs.Positions.DefPositions.{IdentAt, StructFieldAt, TupleFieldAt, FieldsAt, VariantAt, TypeValueAt, TypeAt, DeclAt}
+use Rattle.isle_syntax.specs.Positions.DefPositions.{PatternTreeAt, PatternTreesAt, ExprTreeAt, ExprTreesAt, LetTreesAt, IfLetAt, RuleAt, ExtractorAt}
+use Rattle.isle_syntax.specs.Positions.DefPositions.{ExternAt, ConverterAt, ItemTreeAt, ItemTreesAt, KeptAt, DefAt}
 use Rattle.isle_syntax.proofs.Productions.Bodies.{nothing_after}
 use Rattle.isle_syntax.proofs.Productions.Terms.{decl_filled}
 use Rattle.isle_syntax.proofs.Productions.Rules.{rule_filled}
@@ -62,11 +69,13 @@ module _ (At : Pos → Type 0) where
   first_at [] filled s = absurd (filled refl)
   first_at (t ∷ ts) filled s = s.0
 
-  each_at : {A : Type 0} (L : A → List Placed → Type 0) (P : A → Type 0) → ((a : A) (u : List Placed) → L a u → Stand u → P a) → (rest : List A) (ts : List Placed) → Each L rest ts → Stand ts → All P rest
+  each_at : {A : Type 0} (L : A → List Placed → Type 0) (P : A → Type 0) → ((a : A) (u : List Placed) → L a u → Stand u → P a)
+      → (rest : List A) (ts : List Placed) → Each L rest ts → Stand ts → All P rest
   each_at L P f [] ts l s = All-nil P
   each_at L P f (a ∷ rest) ts l s = let h = parts ts l.0 l.1 l.2 s in All-cons P a rest (f a l.0 l.3 h.0) (each_at L P f rest l.1 l.4 h.1)
 
-  closed_at : {A : Type 0} (L : A → List Placed → Type 0) (P : A → Type 0) → ((a : A) (u : List Placed) → L a u → Stand u → P a) → (rest : List A) (ts : List Placed) → Closed L rest ts → Stand ts → All P rest
+  closed_at : {A : Type 0} (L : A → List Placed → Type 0) (P : A → Type 0) → ((a : A) (u : List Placed) → L a u → Stand u → P a)
+      → (rest : List A) (ts : List Placed) → Closed L rest ts → Stand ts → All P rest
   closed_at L P f rest ts l s = each_at L P f rest l.0 l.3 (parts ts l.0 l.1 l.2 s).0
 
   symbol_at : (p : List ℕ → Bool) (x : Ident) (ts : List Placed) → SymbolOf p x ts → Stand ts → IdentAt At x
@@ -184,10 +193,12 @@ module _ (At : Pos → Type 0) where
   fields_at : (b : Fields) (ts : List Placed) → SpellsFields b ts → Stand ts → FieldsAt At b
   fields_at no_fields ts l s = tt
   fields_at (named_fields fs) ts l s = closed_at SpellsField (StructFieldAt At) field_at fs.fields ts l.0 s
-  fields_at (tuple_fields fs) ts l s = subst (All (TupleFieldAt At)) (sym l.2) (numbered_at 0 l.0 (closed_at SpellsIdent (IdentAt At) ident_at l.0 ts l.1 s))
+  fields_at (tuple_fields fs) ts l s =
+      subst (All (TupleFieldAt At)) (sym l.2) (numbered_at 0 l.0 (closed_at SpellsIdent (IdentAt At) ident_at l.0 ts l.1 s))
 
   variant_at : (b : Variant) (ts : List Placed) → SpellsVariant b ts → Stand ts → VariantAt At b
-  variant_at b ts (bare l p f) s = let a = ident_at b.name ts l s in record { name = a; fields = subst (FieldsAt At) (sym f) tt; pos = subst At (sym p) a }
+  variant_at b ts (bare l p f) s = let a = ident_at b.name ts l s in
+      record { name = a; fields = subst (FieldsAt At) (sym f) tt; pos = subst At (sym p) a }
   variant_at b ts (in_list l) s =
       let h = parts ts l.0 l.1 l.2 s in
       let k = l.4 in
@@ -221,7 +232,8 @@ module _ (At : Pos → Type 0) where
 
   -- ---- terms
 
-  flag_at : (w : List ℕ) (b : Bool) (L : List Placed → Type 0) (P : Type 0) → ((u : List Placed) → L u → Stand u → P) → (ts : List Placed) → Flag w b L ts → Stand ts → P
+  flag_at : (w : List ℕ) (b : Bool) (L : List Placed → Type 0) (P : Type 0) → ((u : List Placed) → L u → Stand u → P) → (ts : List Placed)
+      → Flag w b L ts → Stand ts → P
   flag_at w true L P f ts l s = f l.1 l.4 (parts ts l.0 l.1 l.2 s).1
   flag_at w false L P f ts l s = f ts l.0 s
 
@@ -236,15 +248,20 @@ module _ (At : Pos → Type 0) where
       let i = parts l.1 o.0 o.1 o.2 h.1 in
       let c = o.4 in
       let j = parts o.1 c.0 c.1 c.2 i.1 in
-      let r = c.4 in
-      (ident_at b.term l.0 l.3 h.0, closed_at SpellsIdent (IdentAt At) ident_at b.arg_tys c.0 c.3 j.0, ident_at b.ret_ty r.0 r.3 (parts c.1 r.0 r.1 r.2 j.1).0)
+      let r = c.4 in (
+        ident_at b.term l.0 l.3 h.0,
+        closed_at SpellsIdent (IdentAt At) ident_at b.arg_tys c.0 c.3 j.0,
+        ident_at b.ret_ty r.0 r.3 (parts c.1 r.0 r.1 r.2 j.1).0,
+      )
 
   decl_at : (b : DeclTree) (ts : List Placed) → SpellsDecl b ts → Stand ts → DeclAt At b
   decl_at b ts l s =
       let with_rec = flag_at (codes "rec") b.rec (SpellsSignature b) (SignatureAt b) (signature_at b) in
       let with_partial = flag_at (codes "partial") b.partial (Flag (codes "rec") b.rec (SpellsSignature b)) (SignatureAt b) with_rec in
-      let with_multi = flag_at (codes "multi") b.multi (Flag (codes "partial") b.partial (Flag (codes "rec") b.rec (SpellsSignature b))) (SignatureAt b) with_partial in
-      let a = flag_at (codes "pure") b.pure (Flag (codes "multi") b.multi (Flag (codes "partial") b.partial (Flag (codes "rec") b.rec (SpellsSignature b)))) (SignatureAt b) with_multi ts l.0 s in
+      let with_multi = flag_at (codes "multi") b.multi (Flag (codes "partial") b.partial (Flag (codes "rec") b.rec (SpellsSignature b)))
+      (SignatureAt b) with_partial in
+      let a = flag_at (codes "pure") b.pure (Flag (codes "multi") b.multi
+      (Flag (codes "partial") b.partial (Flag (codes "rec") b.rec (SpellsSignature b)))) (SignatureAt b) with_multi ts l.0 s in
       record { term = a.0; arg_tys = a.1; ret_ty = a.2; pos = subst At l.1 (first_at ts (decl_filled b ts l) s) }
 
   extractor_at : (b : ExtractorTree) (ts : List Placed) → SpellsExtractor b ts → Stand ts → ExtractorAt At b
@@ -275,7 +292,8 @@ module _ (At : Pos → Type 0) where
       (a.0, a.1, one l.0 _ l.3 h.0)
   extern_at (extern_extractor term func p infallible) ts l s =
       let h = parts ts l.0 l.1 l.2 s in
-      let a = flag_at (codes "infallible") infallible (SpellsIdent term ⊙ (SpellsIdent func ⊙ Closes tt)) (IdentAt At term × IdentAt At func) (two_names_at term func) l.1 l.4 h.1 in
+      let a = flag_at (codes "infallible") infallible (SpellsIdent term ⊙ (SpellsIdent func ⊙ Closes tt)) (IdentAt At term
+      × IdentAt At func) (two_names_at term func) l.1 l.4 h.1 in
       (a.0, a.1, one l.0 _ l.3 h.0)
   extern_at (extern_const name ty p) ts l s =
       let h = parts ts l.0 l.1 l.2 s in
@@ -301,14 +319,22 @@ module _ (At : Pos → Type 0) where
       let p = k.4 in
       let j = parts k.1 p.0 p.1 p.2 i.1 in
       let e = p.4 in
-      record { pattern = pattern_at (pattern_of b.pattern) p.0 p.3 j.0; expr = expr_at (expr_of b.expr) e.0 e.3 (parts p.1 e.0 e.1 e.2 j.1).0; pos = one l.0 _ l.3 h.0 }
+      record {
+        pattern = pattern_at (pattern_of b.pattern) p.0 p.3 j.0;
+        expr = expr_at (expr_of b.expr) e.0 e.3 (parts p.1 e.0 e.1 e.2 j.1).0;
+        pos = one l.0 _ l.3 h.0;
+      }
   if_let_at b ts (if_holds q l same) s =
       let h = parts ts l.0 l.1 l.2 s in
       let k = l.4 in
       let i = parts l.1 k.0 k.1 k.2 h.1 in
       let e = k.4 in
       let word : PatternTreeAt At (pattern_wildcard q) = one k.0 _ k.3 i.0 in
-      record { pattern = subst (PatternTreeAt At) (sym same) word; expr = expr_at (expr_of b.expr) e.0 e.3 (parts k.1 e.0 e.1 e.2 i.1).0; pos = one l.0 _ l.3 h.0 }
+      record {
+        pattern = subst (PatternTreeAt At) (sym same) word;
+        expr = expr_at (expr_of b.expr) e.0 e.3 (parts k.1 e.0 e.1 e.2 i.1).0;
+        pos = one l.0 _ l.3 h.0;
+      }
 
   name_at : (o : Option Ident) (ts : List Placed) → SpellsName o ts → Stand ts → IfSome o (IdentAt At)
   name_at None ts l s = tt

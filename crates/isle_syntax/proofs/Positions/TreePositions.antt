@@ -33,13 +33,18 @@ use Rattle.isle_syntax.specs.declared.ast.KeptItem.{KeptItem}
 use Rattle.isle_syntax.specs.declared.ast.Kept.{Kept as KeptTree}
 use Rattle.isle_syntax.specs.declared.ast.Def.{Def}
 use Rattle.isle_syntax.specs.declared.ast.Def.TheVariants.{TypeDef, Decl, Rule, Extractor, Extern, Converter, Pragma, Kept}
-use Rattle.isle_syntax.specs.Trees.PatternTree.{PatternTree, PatternTrees, pattern_var, pattern_bind, pattern_bool, pattern_int, pattern_prim, pattern_term, pattern_wildcard, pattern_and, pattern_macro_arg, no_patterns, more_patterns}
+use Rattle.isle_syntax.specs.Trees.PatternTree.{PatternTree, PatternTrees, pattern_var, pattern_bind, pattern_bool, pattern_int, pattern_prim}
+use Rattle.isle_syntax.specs.Trees.PatternTree.{pattern_term, pattern_wildcard, pattern_and, pattern_macro_arg, no_patterns, more_patterns}
 use Rattle.isle_syntax.specs.Trees.PatternShape.{pattern_of, patterns_of}
-use Rattle.isle_syntax.specs.Trees.ExprTree.{ExprTree, ExprTrees, LetTrees, expr_term, expr_var, expr_bool, expr_int, expr_prim, expr_let, no_exprs, more_exprs, no_lets, more_lets}
+use Rattle.isle_syntax.specs.Trees.ExprTree.{ExprTree, ExprTrees, LetTrees, expr_term, expr_var, expr_bool, expr_int, expr_prim, expr_let, no_exprs}
+use Rattle.isle_syntax.specs.Trees.ExprTree.{more_exprs, no_lets, more_lets}
 use Rattle.isle_syntax.specs.Trees.ExprShape.{expr_of, exprs_of, lets_of}
 use Rattle.isle_syntax.specs.Trees.ItemTree.{ItemTree, ItemTrees, item_int, item_big, item_symbol, item_at, item_list, no_items, more_items}
 use Rattle.isle_syntax.specs.Trees.ItemShape.{items_of}
-use Rattle.isle_syntax.specs.Positions.DefPositions.{IdentAt, StructFieldAt, TupleFieldAt, FieldsAt, VariantAt, TypeValueAt, TypeAt, DeclAt, PatternTreeAt, PatternTreesAt, PatternAt, ExprTreeAt, ExprTreesAt, LetTreesAt, LetDefAt, ExprAt, IfLetAt, RuleAt, ExtractorAt, ExternAt, ConverterAt, ItemTreeAt, ItemTreesAt, ItemAt, KeptAt, DefAt}
+use Rattle.isle_syntax.specs.Positions.DefPositions.{IdentAt, StructFieldAt, TupleFieldAt, FieldsAt, VariantAt, TypeValueAt, TypeAt, DeclAt}
+use Rattle.isle_syntax.specs.Positions.DefPositions.{PatternTreeAt, PatternTreesAt, PatternAt, ExprTreeAt, ExprTreesAt, LetTreesAt, LetDefAt, ExprAt}
+use Rattle.isle_syntax.specs.Positions.DefPositions.{IfLetAt, RuleAt, ExtractorAt, ExternAt, ConverterAt, ItemTreeAt, ItemTreesAt, ItemAt, KeptAt}
+use Rattle.isle_syntax.specs.Positions.DefPositions.{DefAt}
 
 pub patterns_of_at : (At : Pos → Type 0) (ps : List Pattern) → All (PatternAt At) ps → PatternTreesAt At (patterns_of ps)
 patterns_of_at At [] h = tt
@@ -245,16 +250,19 @@ module _ (P Q : Pos → Type 0) (weaker : (p : Pos) → P p → Q p) where
   refusal_at_weaker (Memory e) h = tt
 
 -- a position of a known file whose text isn't too long can be printed
-pub place_from_source : (files : List SourceFile) (source : Source) → source.file < length files → source.size < 2 ^ 63 → (pos : Pos) → IsIn source pos → IsPrintablePos files pos
+pub place_from_source : (files : List SourceFile) (source : Source) → source.file < length files → source.size < 2 ^ 63 → (pos : Pos)
+    → IsIn source pos → IsPrintablePos files pos
 place_from_source files source known small pos h =
     record { known = omega arith; not_greatest = omega arith }
 
 -- what was parsed of such a file's text
-pub places_from_source : (files : List SourceFile) (source : Source) (defs : List Def) → source.file < length files → source.size < 2 ^ 63 → All (DefAt (IsIn source)) defs → All (DefAt (IsPrintablePos files)) defs
+pub places_from_source : (files : List SourceFile) (source : Source) (defs : List Def) → source.file < length files → source.size < 2 ^ 63
+    → All (DefAt (IsIn source)) defs → All (DefAt (IsPrintablePos files)) defs
 places_from_source files source defs known small h =
     defs_at_weaker (IsIn source) (IsPrintablePos files) (place_from_source files source known small) defs h
 
 -- a refusal to parse it
-pub refusal_from_source : (files : List SourceFile) (source : Source) (refusal : Refusal Error) → source.file < length files → source.size < 2 ^ 63 → RefusalAt (IsIn source) refusal → RefusalAt (IsPrintablePos files) refusal
+pub refusal_from_source : (files : List SourceFile) (source : Source) (refusal : Refusal Error) → source.file < length files → source.size < 2 ^ 63
+    → RefusalAt (IsIn source) refusal → RefusalAt (IsPrintablePos files) refusal
 refusal_from_source files source refusal known small h =
     refusal_at_weaker (IsIn source) (IsPrintablePos files) (place_from_source files source known small) refusal h

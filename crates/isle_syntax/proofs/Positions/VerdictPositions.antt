@@ -1,4 +1,4 @@
--- What is right of a text stands in it.
+-- The positions of what a text spells, and of its fault, lie in it.
 use Rattle.std.proofs.Common.{◌≡◌, zero, suc, List, [], ◌∷◌, ◌++◌, refl, sym, subst, arith}
 use Rattle.std.specs.Prelude.{Result, Ok, Err, IfOk, IfErr, Vec}
 use Rattle.std.specs.Global.{Global}
@@ -8,17 +8,17 @@ use Rattle.isle_syntax.specs.declared.lexer.Pos.{Pos}
 use Rattle.isle_syntax.specs.declared.ast.Def.{Def}
 use Rattle.isle_syntax.specs.declared.error.Span.{Span}
 use Rattle.isle_syntax.specs.declared.error.Error.{Error}
-use Rattle.isle_syntax.specs.declared.error.Error.TheVariants.{ParseError, TypeError, UnreachableError, OverlapError, ShadowedError, SizeError}
+use Rattle.isle_syntax.specs.declared.error.Error.TheVariants.{ParseError, SizeError}
 use Rattle.isle_syntax.specs.declared.refusal.Refusal.{Refusal}
 use Rattle.isle_syntax.specs.declared.refusal.Refusal.TheVariants.{Fault, Memory}
-use Rattle.isle_syntax.specs.Errors.{ErrorAt, RefusalAt}
+use Rattle.isle_syntax.specs.Errors.{ErrorAt, IfFault, RefusalAt}
 use Rattle.isle_syntax.specs.Positions.Printable.{IsIn}
 use Rattle.isle_syntax.specs.Tokens.PlacedTokens.{Placed, opening, pos_of}
 use Rattle.isle_syntax.specs.Tokens.RemainingTokens.{RemainingTokens, next_pos}
 use Rattle.isle_syntax.specs.Tokens.LexerCalls.{IsRemaining}
 use Rattle.isle_syntax.specs.Positions.DefPositions.{DefAt}
 use Rattle.isle_syntax.specs.Trees.MacroArgs.{HasNoMacroArgs}
-use Rattle.isle_syntax.specs.Grammar.Verdict.{IsRight, IsFaultOf}
+use Rattle.isle_syntax.specs.Grammar.Verdict.{IsSpelt, IsFaultOf}
 use Rattle.isle_syntax.proofs.Positions.SpeltPositions.{text_places}
 use Rattle.isle_syntax.proofs.Trees.MacroArgs.{text_no_macro_args}
 
@@ -44,20 +44,20 @@ module _ (u : RemainingTokens) (remaining : IsRemaining u) where
     named = omega arith;
     placed = one_span (IsIn u.source) p (subst (λ (s : Span). IsIn u.source s.from) (sym f.at) (stands f.before (opening f.place ∷ f.rest) f.split));
   }
-  fault_places (TypeError m p) f = absurd f
-  fault_places (UnreachableError m p) f = absurd f
-  fault_places (OverlapError m p) f = absurd f
-  fault_places (ShadowedError m p) f = absurd f
+  fault_places _ f = absurd f
 
-  pub right_places : (res : Result (Vec Def Global) (Refusal Error)) → IsRight u res → IfOk res (λ defs. All (DefAt (IsIn u.source)) defs.items)
-  right_places (Ok defs) right = text_places (IsIn u.source) defs.items u.left right.spelt remaining.placed
-  right_places (Err r) right = tt
+  pub spelt_places : (res : Result (Vec Def Global) (Refusal Error)) → IfOk res (λ defs. IsSpelt u defs.items)
+      → IfOk res (λ defs. All (DefAt (IsIn u.source)) defs.items)
+  spelt_places (Ok defs) spelt = text_places (IsIn u.source) defs.items u.left spelt.spelt remaining.placed
+  spelt_places (Err r) spelt = tt
 
-  pub right_refuses : (res : Result (Vec Def Global) (Refusal Error)) → IsRight u res → IfErr res (RefusalAt (IsIn u.source))
-  right_refuses (Ok defs) right = tt
-  right_refuses (Err (Fault e)) right = fault_places e right
-  right_refuses (Err (Memory e)) right = tt
+  pub refusal_places : (res : Result (Vec Def Global) (Refusal Error)) → IfErr res (λ refusal. IfFault refusal (IsFaultOf u))
+      → IfErr res (RefusalAt (IsIn u.source))
+  refusal_places (Ok defs) fault = tt
+  refusal_places (Err (Fault e)) fault = fault_places e fault
+  refusal_places (Err (Memory e)) fault = tt
 
-pub right_no_macro_args : (u : RemainingTokens) (res : Result (Vec Def Global) (Refusal Error)) → IsRight u res → IfOk res (λ defs. All HasNoMacroArgs defs.items)
-right_no_macro_args u (Ok defs) right = text_no_macro_args defs.items u.left right.spelt
-right_no_macro_args u (Err r) right = tt
+pub spelt_no_macro_args : (u : RemainingTokens) (res : Result (Vec Def Global) (Refusal Error)) → IfOk res (λ defs. IsSpelt u defs.items)
+    → IfOk res (λ defs. All HasNoMacroArgs defs.items)
+spelt_no_macro_args u (Ok defs) spelt = text_no_macro_args defs.items u.left spelt.spelt
+spelt_no_macro_args u (Err r) spelt = tt

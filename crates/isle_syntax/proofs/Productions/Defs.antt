@@ -17,14 +17,17 @@ use Rattle.isle_syntax.specs.Tokens.PlacedTokens.{Placed, opening, closing}
 use Rattle.isle_syntax.specs.Grammar.Phrases.{◌⊙◌, Both, Opens, Says}
 use Rattle.isle_syntax.specs.Reading.KindOf.{keyword_at}
 use Rattle.isle_syntax.specs.Reading.Readers.{done, Reader, read_map, seq, says}
-use Rattle.isle_syntax.specs.Grammar.DefGrammar.{SpellsType, SpellsDecl, SpellsRule, SpellsExtractor, SpellsExtern, SpellsConverter, SpellsKept, SpellsDef}
+use Rattle.isle_syntax.specs.Grammar.DefGrammar.{SpellsType, SpellsDecl, SpellsRule, SpellsExtractor, SpellsExtern, SpellsConverter, SpellsKept}
+use Rattle.isle_syntax.specs.Grammar.DefGrammar.{SpellsDef}
 use Rattle.isle_syntax.specs.Reading.DefReading.{type_def, decl, rule, extractor, extern_def, converter, kept, def_on, def_inner, def}
 use Rattle.isle_syntax.proofs.Reading.Follows.{Begins, FollowsAt, Follows, Any, Starts, follows_seq, shorter_after}
 use Rattle.isle_syntax.proofs.Reading.Cases.{follows_case, follows_no_case}
 use Rattle.isle_syntax.proofs.Reading.Basics.{follows_parens, follows_says, follows_map, both_filled, says_filled}
-use Rattle.isle_syntax.proofs.Reading.Keywords.{keyword_looks, says_keyword, kept_word, type_word, decl_word, rule_word, extractor_word, extern_word, convert_word}
+use Rattle.isle_syntax.proofs.Reading.Keywords.{keyword_looks, says_keyword, kept_word, type_word, decl_word, rule_word, extractor_word, extern_word}
+use Rattle.isle_syntax.proofs.Reading.Keywords.{convert_word}
 use Rattle.isle_syntax.proofs.Productions.Types.{some_type, follows_type}
-use Rattle.isle_syntax.proofs.Productions.Terms.{some_decl, follows_decl, some_extractor, follows_extractor, some_extern, follows_extern, some_converter, follows_converter, some_kept, kept_filled, follows_kept}
+use Rattle.isle_syntax.proofs.Productions.Terms.{some_decl, follows_decl, some_extractor, follows_extractor, some_extern, follows_extern}
+use Rattle.isle_syntax.proofs.Productions.Terms.{some_converter, follows_converter, some_kept, kept_filled, follows_kept}
 use Rattle.isle_syntax.proofs.Productions.Rules.{some_rule, follows_rule}
 
 -- what stands in a definition's parentheses, with the closing one
@@ -118,26 +121,37 @@ def_back : (k : Keyword) (b : Def) (v : List Placed) → SpellsInside b v → ke
 def_back k b v l at = subst (λ k. Is k b v) (sym (def_first b v l) ∙ at) (is_own b v l)
 
 -- a word and what follows it
-module _ {A : Type 0} (w : List ℕ) (k : Keyword) (L : A → List Placed → Type 0) (f : A → Def) (d : ℕ) (q : Reader A) (some : Begins L []) (good : Follows L Any d (suc d) q)
+module _ {A : Type 0} (w : List ℕ) (k : Keyword) (L : A → List Placed → Type 0) (f : A
+    → Def) (d : ℕ) (q : Reader A) (some : Begins L []) (good : Follows L Any d (suc d) q)
     (into : (a : A) (u : List Placed) → (Says w tt ⊙ L a) u → SpellsInside (f a) u)
     (back : (b : Def) (v : List Placed) → SpellsInside b v → keyword_at v ≡ k → (a : Unit {0} × A) × (b ≡ f a.1) × Both (Says w) L a v) where
   follows_word_then : (ts : List Placed) → keyword_at ts ≡ k → FollowsAt SpellsInside Any d (suc d) ts (read_map (λ x. f x.1) (seq (says w) q ts))
   follows_word_then ts at =
-      follows_case keyword_at keyword_looks (Both (Says w) L) SpellsInside Any d (suc d) ts k at (λ x. f x.1) (λ a u l h. into a.1 u l) back (both_filled (Says w) L (says_filled w)) inside_filled some_inside
+      follows_case keyword_at keyword_looks (Both (Says w) L) SpellsInside Any d (suc d) ts k at (λ x. f x.1) (λ a u l h. into a.1 u l) back
+      (both_filled (Says w) L (says_filled w)) inside_filled some_inside
       (seq (says w) q ts) ((follows_seq some (follows_says w d) good).reads ts)
 
 follows_inside_at : (d : ℕ) (ts : List Placed) (k : Keyword) → keyword_at ts ≡ k → FollowsAt SpellsInside Any d (suc d) ts (def_on d k ts)
-follows_inside_at d ts keyword.Type at = follows_word_then (codes "type") keyword.Type SpellsType defs.TypeDef d (type_def d) some_type (follows_type d) (λ a u l. l) (def_back keyword.Type) ts at
-follows_inside_at d ts keyword.Decl at = follows_word_then (codes "decl") keyword.Decl SpellsDecl defs.Decl d (decl d) some_decl (follows_decl d) (λ a u l. l) (def_back keyword.Decl) ts at
-follows_inside_at d ts keyword.Rule at = follows_word_then (codes "rule") keyword.Rule SpellsRule defs.Rule d (rule d) some_rule (follows_rule d) (λ a u l. l) (def_back keyword.Rule) ts at
-follows_inside_at d ts keyword.Extractor at = follows_word_then (codes "extractor") keyword.Extractor SpellsExtractor defs.Extractor d (extractor d) some_extractor (follows_extractor d) (λ a u l. l) (def_back keyword.Extractor) ts at
-follows_inside_at d ts keyword.Extern at = follows_word_then (codes "extern") keyword.Extern SpellsExtern defs.Extern d extern_def some_extern (follows_extern d) (λ a u l. l) (def_back keyword.Extern) ts at
-follows_inside_at d ts keyword.Convert at = follows_word_then (codes "convert") keyword.Convert SpellsConverter defs.Converter d converter some_converter (follows_converter d) (λ a u l. l) (def_back keyword.Convert) ts at
+follows_inside_at d ts keyword.Type at = follows_word_then (codes "type") keyword.Type SpellsType defs.TypeDef d (type_def d) some_type
+    (follows_type d) (λ a u l. l) (def_back keyword.Type) ts at
+follows_inside_at d ts keyword.Decl at = follows_word_then (codes "decl") keyword.Decl SpellsDecl defs.Decl d (decl d) some_decl (follows_decl d)
+    (λ a u l. l) (def_back keyword.Decl) ts at
+follows_inside_at d ts keyword.Rule at = follows_word_then (codes "rule") keyword.Rule SpellsRule defs.Rule d (rule d) some_rule (follows_rule d)
+    (λ a u l. l) (def_back keyword.Rule) ts at
+follows_inside_at d ts keyword.Extractor at =
+    follows_word_then (codes "extractor") keyword.Extractor SpellsExtractor defs.Extractor d (extractor d) some_extractor (follows_extractor d)
+    (λ a u l. l) (def_back keyword.Extractor) ts at
+follows_inside_at d ts keyword.Extern at = follows_word_then (codes "extern") keyword.Extern SpellsExtern defs.Extern d extern_def some_extern
+    (follows_extern d) (λ a u l. l) (def_back keyword.Extern) ts at
+follows_inside_at d ts keyword.Convert at = follows_word_then (codes "convert") keyword.Convert SpellsConverter defs.Converter d converter
+    some_converter (follows_converter d) (λ a u l. l) (def_back keyword.Convert) ts at
 follows_inside_at d ts keyword.Kept at =
-    follows_case keyword_at keyword_looks SpellsKept SpellsInside Any d (suc d) ts keyword.Kept at defs.Kept (λ a u l h. l) (def_back keyword.Kept) kept_filled inside_filled some_inside
+    follows_case keyword_at keyword_looks SpellsKept SpellsInside Any d (suc d) ts keyword.Kept at defs.Kept (λ a u l h. l) (def_back keyword.Kept)
+    kept_filled inside_filled some_inside
     (kept d ts) ((follows_kept d).reads ts)
 follows_inside_at d ts _ at =
-    follows_no_case keyword_at keyword_looks SpellsInside Any d (suc d) ts (keyword_at ts) refl (λ b v l e. subst OfDef (sym (def_first b v l) ∙ e ∙ at) (def_of_word b v l)) inside_filled some_inside
+    follows_no_case keyword_at keyword_looks SpellsInside Any d (suc d) ts (keyword_at ts) refl (λ b v l e. subst OfDef (sym (def_first b v l) ∙ e
+    ∙ at) (def_of_word b v l)) inside_filled some_inside
 
 follows_inside : (d : ℕ) → Follows SpellsInside Any d (suc d) (def_inner d)
 follows_inside d = record { reads = λ ts. follows_inside_at d ts (keyword_at ts) refl }
@@ -175,7 +189,8 @@ def_starts = record {
 
 pub follows_def : (d : ℕ) → Follows SpellsDef Any d d (def d)
 follows_def d =
-    follows_map {L = Both Opens SpellsInside} {K = SpellsDef} (λ x. x.1) (λ a u l. def_into a.0 a.1 u l) (λ b v l. (let o = inside_back b v l in ((o.0, b), refl, o.1)))
+    follows_map {L = Both Opens SpellsInside} {K = SpellsDef} (λ x. x.1) (λ a u l. def_into a.0 a.1 u l)
+    (λ b v l. (let o = inside_back b v l in ((o.0, b), refl, o.1)))
     (follows_parens d def_inner some_inside follows_inside)
 
 pub def_shorter : (d : ℕ) (ts r : List Placed) (a : Def) → def d ts ≡ done a r → length r < length ts

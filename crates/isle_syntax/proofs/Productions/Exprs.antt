@@ -11,16 +11,21 @@ use Rattle.isle_syntax.specs.Tokens.Names.{is_ident, is_word, is_name}
 use Rattle.isle_syntax.specs.Grammar.Phrases.{◌⊙◌, Both, Opens, Closes, Opening, Says, SymbolOf, next_symbol_is, Each, Closed}
 use Rattle.isle_syntax.specs.Reading.KindOf.{symbol_kind}
 use Rattle.isle_syntax.specs.Reading.Readers.{done, fault, seq, rest_of, opened, closed, symbol_of, says}
-use Rattle.isle_syntax.specs.Trees.ExprTree.{ExprTree, ExprTrees, LetTrees, expr_term, expr_var, expr_bool, expr_int, expr_prim, expr_let, no_exprs, more_exprs, no_lets, more_lets}
+use Rattle.isle_syntax.specs.Trees.ExprTree.{ExprTree, ExprTrees, LetTrees, expr_term, expr_var, expr_bool, expr_int, expr_prim, expr_let, no_exprs}
+use Rattle.isle_syntax.specs.Trees.ExprTree.{more_exprs, no_lets, more_lets}
 use Rattle.isle_syntax.specs.Grammar.TreeGrammar.{bits_of, is_large, is_expr_term, SpellsExpr, SpellsExprs, SpellsLets}
-use Rattle.isle_syntax.specs.Reading.TreeReading.{ident, after_dollar, expr_trees, symbol_expr, LetBinding, let_trees, Inner, call, bound_in, inner_expr, inner_on, expr_list, let_list, let_binding, expr, expr_inner}
-use Rattle.isle_syntax.proofs.Reading.Follows.{start, SameNext, Begins, FollowsAt, Follows, Any, Starts, follows_refusal, follows_token, follows_image, follows_seq, follows_rest_of, shorter_after}
+use Rattle.isle_syntax.specs.Reading.TreeReading.{ident, after_dollar, expr_trees, symbol_expr, LetBinding, let_trees, Inner, call, bound_in}
+use Rattle.isle_syntax.specs.Reading.TreeReading.{inner_expr, inner_on, expr_list, let_list, let_binding, expr, expr_inner}
+use Rattle.isle_syntax.proofs.Reading.Follows.{start, SameNext, Begins, FollowsAt, Follows, Any, Starts, follows_refusal, follows_token}
+use Rattle.isle_syntax.proofs.Reading.Follows.{follows_image, follows_seq, follows_rest_of, shorter_after}
 use Rattle.isle_syntax.proofs.Reading.Cases.{follows_case}
 use Rattle.isle_syntax.proofs.Reading.Flags.{names_looks}
-use Rattle.isle_syntax.proofs.Reading.Basics.{first_is, follows_opened, follows_shut, follows_close, follows_symbol_of, follows_says, some_both, some_closed, some_opens, some_closes, both_filled, opens_filled, says_filled, symbol_filled}
+use Rattle.isle_syntax.proofs.Reading.Basics.{first_is, follows_opened, follows_shut, follows_close, follows_symbol_of, follows_says, some_both}
+use Rattle.isle_syntax.proofs.Reading.Basics.{some_closed, some_opens, some_closes, both_filled, opens_filled, says_filled, symbol_filled}
 use Rattle.isle_syntax.proofs.Reading.Words.{underscores_are_ident}
 use Rattle.isle_syntax.proofs.Reading.PatternEnds.{NotAt}
-use Rattle.isle_syntax.proofs.Reading.SymbolKinds.{and_first, and_second, not_false, Known, symbol_known, true_kind, false_kind, const_kind, const_from, const_text, const_name, pname_is_name, wildcard_is_name, name_kind}
+use Rattle.isle_syntax.proofs.Reading.SymbolKinds.{and_first, and_second, not_false, Known, symbol_known, true_kind, false_kind, const_kind}
+use Rattle.isle_syntax.proofs.Reading.SymbolKinds.{const_from, const_text, const_name, pname_is_name, wildcard_is_name, name_kind}
 
 -- ---- what is spelt
 
@@ -75,25 +80,47 @@ inner_spelt p (bound_in bindings body) u l =
     let list = rest.3 in
     let each = list.4 in
     let split : h.1 ≡ list.0 ++ (each.0 ++ (each.1 ++ rest.1)) =
-    rest.2 ∙ ap (λ k. k ++ rest.1) list.2 ∙ append_assoc list.0 list.1 rest.1 ∙ ap (λ k. list.0 ++ (k ++ rest.1)) each.2 ∙ ap (λ k. list.0 ++ k) (append_assoc each.0 each.1 rest.1) in (
+    rest.2 ∙ ap (λ k. k ++ rest.1) list.2 ∙ append_assoc list.0 list.1 rest.1 ∙ ap (λ k. list.0 ++ (k ++ rest.1)) each.2
+    ∙ ap (λ k. list.0 ++ k) (append_assoc each.0 each.1 rest.1) in (
       l.0,
       l.1,
       l.2,
       l.3,
-      (h.0, h.1, h.2, h.3, (list.0, each.0 ++ (each.1 ++ rest.1), split, list.3, (each.0, each.1 ++ rest.1, refl, lets_from_each bindings each.0 each.3, (each.1, rest.1, refl, each.4, rest.4)))),
+      (
+        h.0,
+        h.1,
+        h.2,
+        h.3,
+        (
+          list.0,
+          each.0 ++ (each.1 ++ rest.1),
+          split,
+          list.3,
+          (
+            each.0,
+            each.1
+                ++ rest.1,
+            refl,
+            lets_from_each bindings each.0 each.3,
+            (each.1, rest.1, refl, each.4, rest.4),
+          ),
+        ),
+      ),
     )
 
 abbrev pub Listed : Pos × Inner → List Placed → Type 0
 Listed = Both Opens SpellsInner
 
-pub term_back : (x : Ident) (es : ExprTrees) (p : Pos) (v : List Placed) → SpellsExpr (expr_term x es p) v → (i : Pos × Inner) × (expr_term x es p ≡ inner_expr i.0 i.1) × Listed i v
+pub term_back : (x : Ident) (es : ExprTrees) (p : Pos) (v : List Placed) → SpellsExpr (expr_term x es p) v
+    → (i : Pos × Inner) × (expr_term x es p ≡ inner_expr i.0 i.1) × Listed i v
 term_back x es p v l =
     let h = l.4 in
     let k = h.4 in
     let each = each_from_exprs es k.0 k.3 in
     ((p, call x each.0), ap (λ es. expr_term x es p) each.1, (l.0, l.1, l.2, l.3, (h.0, h.1, h.2, h.3, (k.0, k.1, k.2, each.2, k.4))))
 
-pub let_back : (ds : LetTrees) (body : ExprTree) (p : Pos) (v : List Placed) → SpellsExpr (expr_let ds body p) v → (i : Pos × Inner) × (expr_let ds body p ≡ inner_expr i.0 i.1) × Listed i v
+pub let_back : (ds : LetTrees) (body : ExprTree) (p : Pos) (v : List Placed) → SpellsExpr (expr_let ds body p) v
+    → (i : Pos × Inner) × (expr_let ds body p ≡ inner_expr i.0 i.1) × Listed i v
 let_back ds body p v l =
     let h = l.4 in
     let o = h.4 in
@@ -126,15 +153,19 @@ ExprAt (symbol p s) b v = SymbolAt p s (symbol_kind s) b v
 ExprAt (int p n) b v = (b ≡ expr_int (bits_of n) (is_large n) p) × (v ≡ int p n ∷ [])
 
 expr_at_first : (b : ExprTree) (v w y : List Placed) (t : Placed) → SpellsExpr b v → v ++ w ≡ t ∷ y → ExprAt t b v
-expr_at_first (expr_term x es p) v w y t l e = subst (λ k. ExprAt k (expr_term x es p) v) (first_is t (opening p) l.1 v w y (l.2 ∙ ap (λ k. k ++ l.1) l.3) e) (term_back x es p v l)
+expr_at_first (expr_term x es p) v w y t l e =
+    subst (λ k. ExprAt k (expr_term x es p) v) (first_is t (opening p) l.1 v w y (l.2 ∙ ap (λ k. k ++ l.1) l.3) e) (term_back x es p v l)
 expr_at_first (expr_var x p) v w y t l e =
     let here : (expr_var x p ≡ expr_var x x.1) × (v ≡ symbol x.1 x.0 ∷ []) = (ap (expr_var x) l.1, l.0.0) in
     subst (λ k. ExprAt k (expr_var x p) v) (first_is t _ [] v w y l.0.0 e) (name_kind (λ k. SymbolAt x.1 x.0 k (expr_var x p) v) x.0 l.0.1 here here)
 expr_at_first (expr_bool true p) v w y t l e =
-    subst (λ k. ExprAt k (expr_bool true p) v) (first_is t _ [] v w y l e) (subst (λ k. SymbolAt p (codes "true") k (expr_bool true p) v) (sym true_kind) (refl, l))
+    subst (λ k. ExprAt k (expr_bool true p) v) (first_is t _ [] v w y l e)
+    (subst (λ k. SymbolAt p (codes "true") k (expr_bool true p) v) (sym true_kind) (refl, l))
 expr_at_first (expr_bool false p) v w y t l e =
-    subst (λ k. ExprAt k (expr_bool false p) v) (first_is t _ [] v w y l e) (subst (λ k. SymbolAt p (codes "false") k (expr_bool false p) v) (sym false_kind) (refl, l))
-expr_at_first (expr_int val big p) v w y t l e = subst (λ k. ExprAt k (expr_int val big p) v) (first_is t _ [] v w y l.1 e) ((λ i. expr_int (l.2 i) (l.3 i) p), l.1)
+    subst (λ k. ExprAt k (expr_bool false p) v) (first_is t _ [] v w y l e)
+    (subst (λ k. SymbolAt p (codes "false") k (expr_bool false p) v) (sym false_kind) (refl, l))
+expr_at_first (expr_int val big p) v w y t l e =
+    subst (λ k. ExprAt k (expr_int val big p) v) (first_is t _ [] v w y l.1 e) ((λ i. expr_int (l.2 i) (l.3 i) p), l.1)
 expr_at_first (expr_prim x p) v w y t l e =
     subst (λ k. ExprAt k (expr_prim x p) v) (first_is t _ [] v w y l.0.0 e)
     (subst (λ k. SymbolAt x.1 (36 ∷ x.0) k (expr_prim x p) v) (sym (const_kind (36 ∷ x.0) (const_from x.0 l.0.1))) (ap (expr_prim x) l.1, l.0.0))
@@ -206,7 +237,9 @@ let_list_opens b v l = (b.0, l.1, l.2 ∙ ap (λ k. k ++ l.1) l.3)
 
 follows_binding_shut : Follows SpellsBinding Any 0 0 (let_binding zero)
 unfolding let_binding
-follows_binding_shut = follows_shut SpellsBinding Any some_binding binding_opens (λ p. ((p, some_named.0), some_named.1, (opening p ∷ [], some_named.1, refl, refl, some_named.2))) 0
+follows_binding_shut =
+    follows_shut SpellsBinding Any some_binding binding_opens
+    (λ p. ((p, some_named.0), some_named.1, (opening p ∷ [], some_named.1, refl, refl, some_named.2))) 0
 
 follows_binding_within : (d : ℕ) → Follows SpellsExpr Any d d (expr d) → Follows SpellsBinding Any (suc d) (suc d) (let_binding (suc d))
 unfolding let_binding
@@ -217,7 +250,9 @@ follows_binding_within d g =
 
 follows_let_list_shut : Follows SpellsLetList Any 0 0 (let_list zero)
 unfolding let_list
-follows_let_list_shut = follows_shut SpellsLetList Any some_let_list let_list_opens (λ p. ((p, []), closing start ∷ [], (opening p ∷ [], closing start ∷ [], refl, refl, ([], closing start ∷ [], refl, refl, (start, refl))))) 0
+follows_let_list_shut =
+    follows_shut SpellsLetList Any some_let_list let_list_opens
+    (λ p. ((p, []), closing start ∷ [], (opening p ∷ [], closing start ∷ [], refl, refl, ([], closing start ∷ [], refl, refl, (start, refl))))) 0
 
 follows_bindings_of : (d : ℕ) → Follows SpellsBinding Any d d (let_binding d) → Follows (Closed SpellsBinding) Any d (suc d) (rest_of (let_binding d))
 follows_bindings_of d g = follows_rest_of SpellsBinding Any Any d (let_binding d) g binding_starts (λ b v w l. tt) (λ q w. tt)
@@ -235,30 +270,39 @@ LetInner = Both (Says (codes "let")) (Both SpellsLetList (Both SpellsExpr Closes
 abbrev CallInner : Ident × List ExprTree → List Placed → Type 0
 CallInner = Both (SymbolOf is_ident) (Closed SpellsExpr)
 
-let_word : (i : Inner) (u : List Placed) → SpellsInner i u → next_symbol_is (is_word (codes "let")) u ≡ true → (a : Unit {0} × ((Pos × List LetBinding) × (ExprTree × Unit {0}))) × (i ≡ bound_in a.1.0.1 a.1.1.0) × LetInner a u
+let_word : (i : Inner) (u : List Placed) → SpellsInner i u → next_symbol_is (is_word (codes "let")) u ≡ true
+    → (a : Unit {0} × ((Pos × List LetBinding) × (ExprTree × Unit {0}))) × (i ≡ bound_in a.1.0.1 a.1.1.0) × LetInner a u
 let_word (call x args) u l at =
-    let no : next_symbol_is (is_word (codes "let")) u ≡ is_word (codes "let") x.0 = ap (next_symbol_is (is_word (codes "let"))) (l.2 ∙ ap (λ k. k ++ l.1) l.3.0) in
+    let no : next_symbol_is (is_word (codes "let")) u ≡ is_word (codes "let") x.0 =
+    ap (next_symbol_is (is_word (codes "let"))) (l.2 ∙ ap (λ k. k ++ l.1) l.3.0) in
     absurd (false≢true (sym (term_no_let x.0 l.3.1) ∙ sym no ∙ at))
 let_word (bound_in bindings body) u l at =
     let rest = l.4 in
-    let list = rest.3 in
-    ((tt, ((list.3.0, bindings), (body, tt))), refl, (l.0, l.1, l.2, l.3, (rest.0, rest.1, rest.2, (list.0, list.1, list.2, list.3.1, list.4), rest.4)))
+    let list = rest.3 in (
+      (tt, ((list.3.0, bindings), (body, tt))),
+      refl,
+      (l.0, l.1, l.2, l.3, (rest.0, rest.1, rest.2, (list.0, list.1, list.2, list.3.1, list.4), rest.4)),
+    )
 
-call_word : (i : Inner) (u : List Placed) → SpellsInner i u → next_symbol_is (is_word (codes "let")) u ≡ false → (a : Ident × List ExprTree) × (i ≡ call a.0 a.1) × CallInner a u
+call_word : (i : Inner) (u : List Placed) → SpellsInner i u → next_symbol_is (is_word (codes "let")) u ≡ false
+    → (a : Ident × List ExprTree) × (i ≡ call a.0 a.1) × CallInner a u
 call_word (call x args) u l at = ((x, args), refl, (l.0, l.1, l.2, (l.3.0, term_is_ident x.0 l.3.1), l.4))
 call_word (bound_in bindings body) u l at =
     let word : next_symbol_is (is_word (codes "let")) u ≡ true = ap (next_symbol_is (is_word (codes "let"))) (l.2 ∙ ap (λ k. k ++ l.1) l.3.1) in
     absurd (false≢true (sym at ∙ word))
 
-let_into : (a : Unit {0} × ((Pos × List LetBinding) × (ExprTree × Unit {0}))) (u : List Placed) → LetInner a u → SpellsInner (bound_in a.1.0.1 a.1.1.0) u
+let_into : (a : Unit {0} × ((Pos × List LetBinding) × (ExprTree × Unit {0}))) (u : List Placed) → LetInner a u
+    → SpellsInner (bound_in a.1.0.1 a.1.1.0) u
 let_into a u l =
     let rest = l.4 in
     let list = rest.3 in
     (l.0, l.1, l.2, l.3, (rest.0, rest.1, rest.2, (list.0, list.1, list.2, (a.1.0.0, list.3), list.4), rest.4))
 
-call_into : (a : Ident × List ExprTree) (u : List Placed) → CallInner a u → next_symbol_is (is_word (codes "let")) u ≡ false → SpellsInner (call a.0 a.1) u
+call_into : (a : Ident × List ExprTree) (u : List Placed) → CallInner a u → next_symbol_is (is_word (codes "let")) u ≡ false
+    → SpellsInner (call a.0 a.1) u
 call_into a u l at =
-    let word : next_symbol_is (is_word (codes "let")) u ≡ is_word (codes "let") a.0.0 = ap (next_symbol_is (is_word (codes "let"))) (l.2 ∙ ap (λ k. k ++ l.1) l.3.0) in
+    let word : next_symbol_is (is_word (codes "let")) u ≡ is_word (codes "let") a.0.0 =
+    ap (next_symbol_is (is_word (codes "let"))) (l.2 ∙ ap (λ k. k ++ l.1) l.3.0) in
     let no : is_word (codes "let") a.0.0 ≡ false = sym word ∙ at in
     let term : is_expr_term a.0.0 ≡ true = (λ i. l.3.1 i && not (no i)) in
     (l.0, l.1, l.2, (l.3.0, term), l.4)
@@ -271,25 +315,33 @@ underscores_are_term : is_expr_term (codes "__") ≡ true
 underscores_are_term = ap (λ b. b && not (is_word (codes "let") (codes "__"))) underscores_are_ident
 
 pub some_inner : Begins SpellsInner []
-some_inner = (call (ident start (codes "__")) [], symbol start (codes "__") ∷ closing start ∷ [], (symbol start (codes "__") ∷ [], closing start ∷ [], refl, (refl, underscores_are_term), ([], closing start ∷ [], refl, refl, (start, refl))))
+some_inner = (
+  call (ident start (codes "__")) [],
+  symbol start (codes "__") ∷ closing start ∷ [],
+  (symbol start (codes "__") ∷ [], closing start ∷ [], refl, (refl, underscores_are_term), ([], closing start ∷ [], refl, refl, (start, refl))),
+)
 
 follows_exprs_of : (d : ℕ) → Follows SpellsExpr Any d d (expr d) → Follows (Closed SpellsExpr) Any d (suc d) (rest_of (expr d))
 follows_exprs_of d g = follows_rest_of SpellsExpr Any Any d (expr d) g expr_starts (λ b v w l. tt) (λ q w. tt)
 
 module _ (d : ℕ) (g : Follows SpellsExpr Any d d (expr d)) (h : Follows SpellsLetList Any d d (let_list d)) where
   follows_let_inner : Follows LetInner Any d (suc d) (seq (says (codes "let")) (seq (let_list d) (seq (expr d) closed)))
-  follows_let_inner = follows_seq (some_both some_let_list some_value) (follows_says (codes "let") d) (follows_seq some_value h (follows_seq some_closes g (follows_close d)))
+  follows_let_inner = follows_seq (some_both some_let_list some_value) (follows_says (codes "let") d)
+      (follows_seq some_value h (follows_seq some_closes g (follows_close d)))
 
   follows_call_inner : Follows CallInner Any d (suc d) (seq (symbol_of is_ident) (rest_of (expr d)))
   follows_call_inner = follows_seq (some_closed SpellsExpr) (follows_symbol_of is_ident some_ident d) (follows_exprs_of d g)
 
-  follows_inner_at : (ts : List Placed) (b : Bool) → next_symbol_is (is_word (codes "let")) ts ≡ b → FollowsAt SpellsInner Any d (suc d) ts (inner_on (expr d) (let_list d) b ts)
+  follows_inner_at : (ts : List Placed) (b : Bool) → next_symbol_is (is_word (codes "let")) ts ≡ b
+      → FollowsAt SpellsInner Any d (suc d) ts (inner_on (expr d) (let_list d) b ts)
   follows_inner_at ts true at =
-      follows_case (next_symbol_is (is_word (codes "let"))) (names_looks (is_word (codes "let"))) LetInner SpellsInner Any d (suc d) ts true at (λ x. bound_in x.1.0.1 x.1.1.0) (λ a u l w. let_into a u l) let_word
+      follows_case (next_symbol_is (is_word (codes "let"))) (names_looks (is_word (codes "let"))) LetInner SpellsInner Any d (suc d) ts true at
+      (λ x. bound_in x.1.0.1 x.1.1.0) (λ a u l w. let_into a u l) let_word
       (both_filled (Says (codes "let")) _ (says_filled (codes "let"))) inner_filled some_inner
       (seq (says (codes "let")) (seq (let_list d) (seq (expr d) closed)) ts) (follows_let_inner.reads ts)
   follows_inner_at ts false at =
-      follows_case (next_symbol_is (is_word (codes "let"))) (names_looks (is_word (codes "let"))) CallInner SpellsInner Any d (suc d) ts false at (λ x. call x.0 x.1) call_into call_word
+      follows_case (next_symbol_is (is_word (codes "let"))) (names_looks (is_word (codes "let"))) CallInner SpellsInner Any d (suc d) ts false at
+      (λ x. call x.0 x.1) call_into call_word
       (both_filled (SymbolOf is_ident) _ (symbol_filled is_ident)) inner_filled some_inner
       (seq (symbol_of is_ident) (rest_of (expr d)) ts) (follows_call_inner.reads ts)
 
@@ -325,19 +377,26 @@ module _ (d : ℕ) (p : Pos) (s : List ℕ) (ts : List Placed) where
   begun k e b v w y l q = subst (λ k. SymbolAt p s k b v) e (expr_at_first b v w y (symbol p s) l q)
 
   follows_symbol_kind : (k : Kind) → symbol_kind s ≡ k → Known s k → FollowsAt SpellsExpr Any d d (symbol p s ∷ ts) (symbol_expr p s ts k)
-  follows_symbol_kind True e h = follows_token (symbol p s) ts (expr_bool true p) (ap (λ s. symbol p s ∷ []) h) refl (λ b v w y l fw q. begun True e b v w y l q)
-  follows_symbol_kind False e h = follows_token (symbol p s) ts (expr_bool false p) (ap (λ s. symbol p s ∷ []) h) refl (λ b v w y l fw q. begun False e b v w y l q)
+  follows_symbol_kind True e h = follows_token (symbol p s) ts (expr_bool true p) (ap (λ s. symbol p s ∷ []) h) refl
+      (λ b v w y l fw q. begun True e b v w y l q)
+  follows_symbol_kind False e h = follows_token (symbol p s) ts (expr_bool false p) (ap (λ s. symbol p s ∷ []) h) refl
+      (λ b v w y l fw q. begun False e b v w y l q)
   follows_symbol_kind Const e h =
-      follows_token (symbol p s) ts (expr_prim (ident p (after_dollar s)) p) ((ap (λ s. symbol p s ∷ []) (const_text s h), const_name s h), refl) refl (λ b v w y l fw q. begun Const e b v w y l q)
-  follows_symbol_kind Wildcard e h = follows_token (symbol p s) ts (expr_var (ident p s) p) ((refl, ap is_name h ∙ wildcard_is_name), refl) refl (λ b v w y l fw q. begun Wildcard e b v w y l q)
-  follows_symbol_kind Name e h = follows_token (symbol p s) ts (expr_var (ident p s) p) ((refl, pname_is_name s h), refl) refl (λ b v w y l fw q. begun Name e b v w y l q)
-  follows_symbol_kind Other e h = follows_refusal d (symbol p s ∷ ts) some_expr (λ b v w y same_next l q. begun Other e b v w same_next.0 l (q ∙ same_next.1))
+      follows_token (symbol p s) ts (expr_prim (ident p (after_dollar s)) p) ((ap (λ s. symbol p s ∷ []) (const_text s h), const_name s h), refl) refl
+      (λ b v w y l fw q. begun Const e b v w y l q)
+  follows_symbol_kind Wildcard e h = follows_token (symbol p s) ts (expr_var (ident p s) p) ((refl, ap is_name h ∙ wildcard_is_name), refl) refl
+      (λ b v w y l fw q. begun Wildcard e b v w y l q)
+  follows_symbol_kind Name e h = follows_token (symbol p s) ts (expr_var (ident p s) p) ((refl, pname_is_name s h), refl) refl
+      (λ b v w y l fw q. begun Name e b v w y l q)
+  follows_symbol_kind Other e h = follows_refusal d (symbol p s ∷ ts) some_expr (λ b v w y same_next l q. begun Other e b v w same_next.0 l (q
+      ∙ same_next.1))
   follows_symbol_kind _ e h = absurd h
 
 -- ---- expressions
 
 module _ (d : ℕ) (lists : (p : Pos) (ts : List Placed) → FollowsAt SpellsExpr Any d d (opening p ∷ ts) (expr_list d (opening p ∷ ts))) where
-  refused : (t : Placed) (ts : List Placed) → ((b : ExprTree) (v : List Placed) → ExprAt t b v → ⊥) → FollowsAt SpellsExpr Any d d (t ∷ ts) (fault (t ∷ ts))
+  refused : (t : Placed) (ts : List Placed) → ((b : ExprTree) (v : List Placed) → ExprAt t b v → ⊥)
+      → FollowsAt SpellsExpr Any d d (t ∷ ts) (fault (t ∷ ts))
   refused t ts none = follows_refusal d (t ∷ ts) some_expr (λ b v w x same_next l e. none b v (expr_at_first b v w same_next.0 t l (e ∙ same_next.1)))
 
   follows_expr_at : (ts : List Placed) → FollowsAt SpellsExpr Any d d ts (expr d ts)
@@ -346,7 +405,8 @@ module _ (d : ℕ) (lists : (p : Pos) (ts : List Placed) → FollowsAt SpellsExp
   follows_expr_at (closing p ∷ ts) = refused (closing p) ts (λ b v h. h)
   follows_expr_at (at_sign p ∷ ts) = refused (at_sign p) ts (λ b v h. h)
   follows_expr_at (symbol p s ∷ ts) = follows_symbol_kind d p s ts (symbol_kind s) refl (symbol_known s)
-  follows_expr_at (int p n ∷ ts) = follows_token (int p n) ts (expr_int (bits_of n) (is_large n) p) (n, refl, refl, refl) refl (λ b v w y l fw e. expr_at_first b v w y (int p n) l e)
+  follows_expr_at (int p n ∷ ts) = follows_token (int p n) ts (expr_int (bits_of n) (is_large n) p) (n, refl, refl, refl) refl
+      (λ b v w y l fw e. expr_at_first b v w y (int p n) l e)
 
 -- all three, which nest in one another
 record Three (d : ℕ) : Type 0 where
@@ -355,7 +415,11 @@ record Three (d : ℕ) : Type 0 where
   bindings : Follows SpellsBinding Any d d (let_binding d)
 
 follows_three : (d : ℕ) → Three d
-follows_three zero = record { exprs = record { reads = follows_expr_at zero follows_list_shut }; lists = follows_let_list_shut; bindings = follows_binding_shut }
+follows_three zero = record {
+  exprs = record { reads = follows_expr_at zero follows_list_shut };
+  lists = follows_let_list_shut;
+  bindings = follows_binding_shut;
+}
 follows_three (suc d) =
     let less = follows_three d in record {
       exprs = record { reads = follows_expr_at (suc d) (follows_list_here d less.exprs less.lists) };

@@ -11,7 +11,8 @@ use Rattle.isle_syntax.specs.Reading.KindReading.{item_on}
 use Rattle.isle_syntax.specs.Trees.ItemTree.{ItemTree, ItemTrees, item_int, item_big, item_symbol, item_at, item_list, no_items, more_items}
 use Rattle.isle_syntax.specs.Grammar.TreeGrammar.{SpellsItem, SpellsItems}
 use Rattle.isle_syntax.specs.Reading.TreeReading.{ident, item_trees, literal_item, item_list_reader, item}
-use Rattle.isle_syntax.proofs.Reading.Follows.{start, SameNext, Begins, FollowsAt, Follows, Any, Starts, follows_refusal, follows_token, follows_image, follows_seq, follows_rest_of, shorter_after}
+use Rattle.isle_syntax.proofs.Reading.Follows.{start, SameNext, Begins, FollowsAt, Follows, Any, Starts, follows_refusal, follows_token}
+use Rattle.isle_syntax.proofs.Reading.Follows.{follows_image, follows_seq, follows_rest_of, shorter_after}
 use Rattle.isle_syntax.proofs.Reading.SymbolKinds.{Known, symbol_known}
 use Rattle.isle_syntax.proofs.Reading.ReadSteps.{map_seq_done}
 use Rattle.isle_syntax.proofs.Reading.Basics.{first_is, follows_opened, some_closed}
@@ -37,7 +38,8 @@ item_at_first (item_int z p) v w y t l e = subst (λ k. ItemAt k (item_int z p) 
 item_at_first (item_big n p) v w y t l e = subst (λ k. ItemAt k (item_big n p) v) (first_is t _ [] v w y l e) (refl, l)
 item_at_first (item_symbol x) v w y t l e = subst (λ k. ItemAt k (item_symbol x) v) (first_is t _ [] v w y l e) (refl, l)
 item_at_first (item_at p) v w y t l e = subst (λ k. ItemAt k (item_at p) v) (first_is t _ [] v w y l e) (refl, l)
-item_at_first (item_list is p) v w y t l e = subst (λ k. ItemAt k (item_list is p) v) (first_is t (opening p) l.1 v w y (l.2 ∙ ap (λ x. x ++ l.1) l.3) e) (is, refl, l)
+item_at_first (item_list is p) v w y t l e =
+    subst (λ k. ItemAt k (item_list is p) v) (first_is t (opening p) l.1 v w y (l.2 ∙ ap (λ x. x ++ l.1) l.3) e) (is, refl, l)
 
 pub item_filled : (b : ItemTree) (v : List Placed) → SpellsItem b v → v ≡ [] → ⊥
 item_filled (item_int z p) v l e = cc
@@ -60,7 +62,8 @@ follows_items_of : (d : ℕ) → Follows SpellsItem Any d d (item d) → Follows
 follows_items_of d g = follows_rest_of SpellsItem Any Any d (item d) g item_starts (λ b v w l. tt) (λ q w. tt)
 
 -- a list of items where a parenthesis opens
-follows_item_list : (d : ℕ) (p : Pos) (ts : List Placed) → Follows SpellsItem Any d d (item d) → FollowsAt SpellsItem Any (suc d) (suc d) (opening p ∷ ts) (item_list_reader (suc d) (opening p ∷ ts))
+follows_item_list : (d : ℕ) (p : Pos) (ts : List Placed) → Follows SpellsItem Any d d (item d)
+    → FollowsAt SpellsItem Any (suc d) (suc d) (opening p ∷ ts) (item_list_reader (suc d) (opening p ∷ ts))
 unfolding item_list_reader
 follows_item_list d p ts ih =
     follows_image (Both Opens (Closed SpellsItem)) SpellsItem Any (suc d) (suc d) (opening p ∷ ts) (λ x. item_list (item_trees x.1) x.0)
@@ -81,7 +84,17 @@ follows_item_list_shut p ts = record {
   rest = ts;
   parenthesis = refl;
   nests = refl;
-  begins = (item_list no_items p, closing start ∷ [], (opening p ∷ [], closing start ∷ [], refl, refl, ([], closing start ∷ [], refl, refl, (start, refl))));
+  begins = (
+    item_list no_items p,
+    closing start ∷ [],
+    (
+      opening p ∷ [],
+      closing start ∷ [],
+      refl,
+      refl,
+      ([], closing start ∷ [], refl, refl, (start, refl)),
+    ),
+  );
 }
 
 spelt_literal : (p : Pos) (n : Literal) → SpellsItem (literal_item p n) (int p n ∷ [])
@@ -92,10 +105,13 @@ follows_item_at : (d : ℕ) (ts : List Placed) → FollowsAt SpellsItem Any d d 
 follows_item_at d [] = follows_refusal d [] some_item nothing_at_end
 follows_item_at zero (opening p ∷ ts) = follows_item_list_shut p ts
 follows_item_at (suc d) (opening p ∷ ts) = follows_item_list d p ts (record { reads = follows_item_at d })
-follows_item_at d (closing p ∷ ts) = follows_refusal d _ some_item (λ b v w x same_next l e. item_at_first b v w same_next.0 (closing p) l (e ∙ same_next.1))
+follows_item_at d (closing p ∷ ts) = follows_refusal d _ some_item (λ b v w x same_next l e. item_at_first b v w same_next.0 (closing p) l (e
+    ∙ same_next.1))
 follows_item_at d (at_sign p ∷ ts) = follows_token _ ts (item_at p) refl refl (λ b v w y l fw e. item_at_first b v w y (at_sign p) l e)
-follows_item_at d (symbol p s ∷ ts) = follows_token _ ts (item_symbol (ident p s)) refl refl (λ b v w y l fw e. item_at_first b v w y (symbol p s) l e)
-follows_item_at d (int p n ∷ ts) = follows_token _ ts (literal_item p n) (spelt_literal p n) refl (λ b v w y l fw e. item_at_first b v w y (int p n) l e)
+follows_item_at d (symbol p s ∷ ts) =
+    follows_token _ ts (item_symbol (ident p s)) refl refl (λ b v w y l fw e. item_at_first b v w y (symbol p s) l e)
+follows_item_at d (int p n ∷ ts) =
+    follows_token _ ts (literal_item p n) (spelt_literal p n) refl (λ b v w y l fw e. item_at_first b v w y (int p n) l e)
 
 pub follows_item : (d : ℕ) → Follows SpellsItem Any d d (item d)
 follows_item d = record { reads = follows_item_at d }
@@ -109,7 +125,8 @@ item_shorter d ts r a h = shorter_after SpellsItem Any d d ts item_starts (item 
 
 -- ---- the same by kinds
 
-symbol_item : (d : ℕ) (p : Pos) (s : List ℕ) (ts : List Placed) (k : Kind) → Known s k → done (item_symbol (ident p s)) ts ≡ item_on d k (symbol p s ∷ ts)
+symbol_item : (d : ℕ) (p : Pos) (s : List ℕ) (ts : List Placed) (k : Kind) → Known s k
+    → done (item_symbol (ident p s)) ts ≡ item_on d k (symbol p s ∷ ts)
 symbol_item d p s ts True h = refl
 symbol_item d p s ts False h = refl
 symbol_item d p s ts Const h = refl
@@ -136,7 +153,8 @@ unfolding item_list_reader
 item_list_reads zero p ts r h e = absurd (omega arith)
 item_list_reads (suc d) p ts r h e =
     let same : d ≡ suc d - 1 = omega arith in
-    map_seq_done opened (rest_of (item d)) ts r (λ x. item_list (item_trees x.1) x.0) p e ∙ ap (λ n. read_map (λ l. item_list (item_trees l) p) (rest_of (item n) r)) same
+    map_seq_done opened (rest_of (item d)) ts r (λ x. item_list (item_trees x.1) x.0) p e
+    ∙ ap (λ n. read_map (λ l. item_list (item_trees l) p) (rest_of (item n) r)) same
 
 pub item_list_shut : (ts : List Placed) → item_list_reader 0 ts ≡ shut ts
 unfolding item_list_reader

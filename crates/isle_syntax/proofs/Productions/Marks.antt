@@ -3,7 +3,8 @@ use Rattle.std.proofs.Common.{◌≡◌, ℕ, zero, suc, ◌<◌, List, [], ◌�
 use Rattle.std.specs.Prelude.{◌||◌}
 use Rattle.std.specs.List.{list_any}
 use Rattle.isle_syntax.specs.declared.kind.Keyword.{Keyword}
-use Rattle.isle_syntax.specs.declared.kind.Keyword.TheVariants.{Extern, NoDebug, «Type», Decl, Rule, Extractor, Convert, Kept, Primitive, Enum, Struct, Constructor, Const, NoKeyword}
+use Rattle.isle_syntax.specs.declared.kind.Keyword.TheVariants.{Extern, NoDebug, «Type», Decl, Rule, Extractor, Convert, Kept, Primitive, Enum}
+use Rattle.isle_syntax.specs.declared.kind.Keyword.TheVariants.{Struct, Constructor, Const, NoKeyword}
 use Rattle.isle_syntax.specs.Tokens.PlacedTokens.{Placed}
 use Rattle.isle_syntax.specs.Reading.KindOf.{keyword_at}
 use Rattle.isle_syntax.specs.Grammar.DefGrammar.{Mark, extern_mark, nodebug_mark, is_extern_mark, is_nodebug_mark}
@@ -78,14 +79,17 @@ pub says_less : (w : List ℕ) (ts r : List Placed) → says w ts ≡ done tt r 
 says_less w ts r e = (says_shortens w).less ts r tt e
 
 -- where no mark comes next, all marks are read
-pub marks_end : (ts left : List Placed) (found : List Mark) → Turns no_mark mark (marks ts) found left → no_mark left ≡ Some left → marks ts ≡ done found left
+pub marks_end : (ts left : List Placed) (found : List Mark) → Turns no_mark mark (marks ts) found left → no_mark left ≡ Some left
+    → marks ts ≡ done found left
 marks_end ts left found t e = turns_end no_mark mark (marks ts) found left left t e
 
 value_at_end : (d : ℕ) → type_value d [] ≡ fault []
 value_at_end zero = refl
 value_at_end (suc d) = refl
 
-pub marked_at_end : (d : ℕ) (ts left : List Placed) (found : List Mark) → Turns no_mark mark (marks ts) found left → left ≡ [] → stop_of (read_map marked_of (seq marks (type_value d) ts)) ≡ at_fault []
+pub marked_at_end : (d : ℕ) (ts left : List Placed) (found : List Mark) → Turns no_mark mark (marks ts) found left → left ≡ []
+    → stop_of (read_map marked_of (seq marks (type_value d) ts)) ≡ at_fault []
 marked_at_end d ts left found t none =
     let ended = marks_end ts left found t (ap no_mark none ∙ ap Some (sym none)) in
-    ap stop_of (map_seq_done marks (type_value d) ts left marked_of found ended ∙ ap (λ l. read_map (λ b. marked_of (found, b)) (type_value d l)) none ∙ ap (read_map (λ b. marked_of (found, b))) (value_at_end d))
+    ap stop_of (map_seq_done marks (type_value d) ts left marked_of found ended ∙ ap (λ l. read_map (λ b. marked_of (found, b)) (type_value d l)) none
+    ∙ ap (read_map (λ b. marked_of (found, b))) (value_at_end d))

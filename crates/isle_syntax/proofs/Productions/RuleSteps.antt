@@ -15,7 +15,8 @@ use Rattle.isle_syntax.specs.Grammar.TreeGrammar.{bits_of}
 use Rattle.isle_syntax.specs.Grammar.Phrases.{first_pos}
 use Rattle.isle_syntax.specs.Reading.KindOf.{literal_of}
 use Rattle.isle_syntax.specs.Reading.TreeReading.{pattern_list}
-use Rattle.isle_syntax.specs.Reading.DefReading.{identifier, is_priority, is_priority_next, name_on, with_name, priority_on, with_priority, Body, rule_of, rule_body, rule}
+use Rattle.isle_syntax.specs.Reading.DefReading.{identifier, is_priority, is_priority_next, name_on, with_name, priority_on, with_priority, Body}
+use Rattle.isle_syntax.specs.Reading.DefReading.{rule_of, rule_body, rule}
 use Rattle.isle_syntax.specs.Reading.Parsing.{bounds, stop_of, at_fault, IsKnown, TakesName, TakesPriority}
 use Rattle.isle_syntax.specs.Reading.Readers.{done, fault, Reader, read_map, seq, integer}
 use Rattle.isle_syntax.proofs.Reading.ReadSteps.{fuse, seq_fault, map_seq_done}
@@ -38,7 +39,8 @@ pub takes_priority : (old mid new : RemainingTokens) (p : Pos) (n : LiteralValue
     → (o : Option ℤ) → o ≡ cond (is_priority (literal_of n)) (Some (bits_of (literal_of n))) None → TakesPriority old new o
 takes_priority old mid new p n known next reads o e =
     let read : integer old.left ≡ done (p, literal_of n) new.left = ap (λ u. integer u.left) (sym known.same) ∙ reads.0 in
-    let some : o ≡ Some (bits_of (literal_of n)) = e ∙ ap (λ b. cond b (Some (bits_of (literal_of n))) None) (priority_is old.left new.left p (literal_of n) next read) in
+    let some : o ≡ Some (bits_of (literal_of n)) =
+    e ∙ ap (λ b. cond b (Some (bits_of (literal_of n))) None) (priority_is old.left new.left p (literal_of n) next read) in
     subst (TakesPriority old new) (sym some) (next, (p, literal_of n, read, refl), reads.1 ∙ ap bounds known.same)
 
 -- ---- what was taken
@@ -76,7 +78,8 @@ module _ (d : ℕ) where
 
   nothing_follows : with_priority pattern_and_body [] ≡ fault []
   unfolding pattern_and_body
-  nothing_follows = ap (read_map {B = Option ℤ × (PatternTree × Body)} (λ b. (None, b))) (seq_fault (pattern_list d) (rule_body d) [] [] (pattern_list_at_end d))
+  nothing_follows =
+      ap (read_map {B = Option ℤ × (PatternTree × Body)} (λ b. (None, b))) (seq_fault (pattern_list d) (rule_body d) [] [] (pattern_list_at_end d))
 
   pub rule_at_end : rule d [] ≡ fault []
   unfolding pattern_and_body
@@ -92,7 +95,9 @@ module _ (d : ℕ) where
 
     -- nothing behind the name
     pub named_at_end : u1.left ≡ [] → at_fault [] ≡ stop_of (rule d u0.left)
-    named_at_end none = sym (ap stop_of named ∙ ap (λ l. stop_of (read_map (λ b. rule_of (first_pos u0.left, (name, b))) (with_priority pattern_and_body l))) none ∙ ap (λ x. stop_of (read_map (λ b. rule_of (first_pos u0.left, (name, b))) x)) nothing_follows)
+    named_at_end none =
+        sym (ap stop_of named ∙ ap (λ l. stop_of (read_map (λ b. rule_of (first_pos u0.left, (name, b))) (with_priority pattern_and_body l))) none
+        ∙ ap (λ x. stop_of (read_map (λ b. rule_of (first_pos u0.left, (name, b))) x)) nothing_follows)
 
     module _ (u2 : RemainingTokens) (prio : Option ℤ) (t2 : TakesPriority u1 u2 prio) where
       ranked : rule d u0.left ≡ read_map (λ b. rule_of (first_pos u0.left, (name, (prio, b)))) (pattern_and_body u2.left)
@@ -104,7 +109,8 @@ module _ (d : ℕ) where
       pub ranked_within : bounds u2 ≡ bounds u0
       ranked_within = ranked_bounds u1 u2 prio t2 ∙ named_bounds u0 u1 name t1
 
-      module _ (p : Pattern) (r : List Placed) (reads : pattern_list d u2.left ≡ done (pattern_of p) r) (iflets : List IfLet) (e : Expr) (new : List Placed) (ends : rule_body d r ≡ done (iflets, expr_of e) new) where
+      module _ (p : Pattern) (r : List Placed) (reads : pattern_list d u2.left ≡ done (pattern_of p) r) (iflets : List IfLet) (e : Expr)
+          (new : List Placed) (ends : rule_body d r ≡ done (iflets, expr_of e) new) where
         read_through : rule d u0.left ≡ done (rule_of (first_pos u0.left, (name, (prio, (pattern_of p, (iflets, expr_of e)))))) new
         unfolding pattern_and_body
         read_through =
@@ -114,10 +120,25 @@ module _ (d : ℕ) where
 
         filled : u0.left ≡ [] → ⊥
         filled none =
-            let empty : fault [] ≡ done (rule_of (first_pos u0.left, (name, (prio, (pattern_of p, (iflets, expr_of e)))))) new = sym rule_at_end ∙ ap (rule d) (sym none) ∙ read_through in
+            let empty : fault [] ≡ done (rule_of (first_pos u0.left, (name, (prio, (pattern_of p, (iflets, expr_of e)))))) new =
+            sym rule_at_end ∙ ap (rule d) (sym none) ∙ read_through in
             cc
 
-        pub rule_reads : rule d u0.left ≡ done (record { pattern = p; iflets = iflets; expr = e; pos = remaining_pos u0; prio = prio; name = name }) new
+        pub rule_reads : rule d u0.left ≡ done (record {
+          pattern = p;
+          iflets = iflets;
+          expr = e;
+          pos = remaining_pos u0;
+          prio = prio;
+          name = name;
+        }) new
         rule_reads =
             read_through
-            ∙ (λ i. done (record { pattern = pattern_from_of p i; iflets = iflets; expr = expr_from_of e i; pos = sym (stands_at u0 filled) i; prio = prio; name = name }) new)
+            ∙ (λ i. done (record {
+              pattern = pattern_from_of p i;
+              iflets = iflets;
+              expr = expr_from_of e i;
+              pos = sym (stands_at u0 filled) i;
+              prio = prio;
+              name = name;
+            }) new)

@@ -16,7 +16,8 @@ use Rattle.isle_syntax.specs.Grammar.TreeGrammar.{bits_of, SpellsPattern, IsList
 use Rattle.isle_syntax.specs.Reading.Readers.{seq, integer}
 use Rattle.isle_syntax.specs.Reading.TreeReading.{pattern_list}
 use Rattle.isle_syntax.specs.Grammar.DefGrammar.{SpellsIdent, SpellsName, SpellsPriority, SpellsIfLet, SpellsRightSide, SpellsRule}
-use Rattle.isle_syntax.specs.Reading.DefReading.{identifier, name_on, with_name, is_priority, is_priority_next, priority_on, with_priority, Body, rule_body, rule_of, rule}
+use Rattle.isle_syntax.specs.Reading.DefReading.{identifier, name_on, with_name, is_priority, is_priority_next, priority_on, with_priority, Body}
+use Rattle.isle_syntax.specs.Reading.DefReading.{rule_body, rule_of, rule}
 use Rattle.isle_syntax.proofs.Reading.Follows.{start, SameNext, Begins, FollowsAt, Follows, Any, follows_refusal, follows_token, follows_seq}
 use Rattle.isle_syntax.proofs.Reading.Cases.{Looks, follows_from}
 use Rattle.isle_syntax.proofs.Reading.Flags.{names_looks}
@@ -33,13 +34,15 @@ use Rattle.isle_syntax.proofs.Productions.Bodies.{SpellsBody, some_body, follows
 abbrev SpellsLiteral : Pos × Literal → List Placed → Type 0
 SpellsLiteral y ts = ts ≡ int y.0 y.1 ∷ []
 
-integers_nothing : (ts : List Placed) → ((x : List Placed) (p : Pos) (n : Literal) (y : List Placed) → SameNext ts x → x ≡ int p n ∷ y → ⊥) → (b : Pos × Literal) (v w x : List Placed) → SameNext ts x → SpellsLiteral b v → v ++ w ≡ x → ⊥
+integers_nothing : (ts : List Placed) → ((x : List Placed) (p : Pos) (n : Literal) (y : List Placed) → SameNext ts x → x ≡ int p n ∷ y → ⊥)
+    → (b : Pos × Literal) (v w x : List Placed) → SameNext ts x → SpellsLiteral b v → v ++ w ≡ x → ⊥
 integers_nothing ts other b v w x same_next o e = other x b.0 b.1 w same_next (sym e ∙ ap (λ z. z ++ w) o)
 
 some_integer : Begins SpellsLiteral []
 some_integer = ((start, large 0), int start (large 0) ∷ [], refl)
 
-integer_here : (b : Pos × Literal) (v w y : List Placed) (p : Pos) (n : Literal) → SpellsLiteral b v → v ++ w ≡ int p n ∷ y → (b ≡ (p, n)) × (v ≡ int p n ∷ [])
+integer_here : (b : Pos × Literal) (v w y : List Placed) (p : Pos) (n : Literal) → SpellsLiteral b v → v ++ w ≡ int p n ∷ y
+    → (b ≡ (p, n)) × (v ≡ int p n ∷ [])
 integer_here b v w y p n o e =
     let h : int b.0 b.1 ∷ w ≡ int p n ∷ y = ap (λ x. x ++ w) (sym o) ∙ e in
     let place : b.0 ≡ p = cc in
@@ -51,10 +54,14 @@ follows_integer d = record { reads = go }
   where
     go : (ts : List Placed) → FollowsAt SpellsLiteral Any d d ts (integer ts)
     go [] = follows_refusal d [] some_integer (integers_nothing [] (λ x p n y same_next e. cc (same_next, e)))
-    go (opening q ∷ ts) = follows_refusal d (opening q ∷ ts) some_integer (integers_nothing (opening q ∷ ts) (λ x p n y same_next e. cc (same_next.1, e)))
-    go (closing q ∷ ts) = follows_refusal d (closing q ∷ ts) some_integer (integers_nothing (closing q ∷ ts) (λ x p n y same_next e. cc (same_next.1, e)))
-    go (at_sign q ∷ ts) = follows_refusal d (at_sign q ∷ ts) some_integer (integers_nothing (at_sign q ∷ ts) (λ x p n y same_next e. cc (same_next.1, e)))
-    go (symbol q s ∷ ts) = follows_refusal d (symbol q s ∷ ts) some_integer (integers_nothing (symbol q s ∷ ts) (λ x p n y same_next e. cc (same_next.1, e)))
+    go (opening q ∷ ts) =
+        follows_refusal d (opening q ∷ ts) some_integer (integers_nothing (opening q ∷ ts) (λ x p n y same_next e. cc (same_next.1, e)))
+    go (closing q ∷ ts) =
+        follows_refusal d (closing q ∷ ts) some_integer (integers_nothing (closing q ∷ ts) (λ x p n y same_next e. cc (same_next.1, e)))
+    go (at_sign q ∷ ts) =
+        follows_refusal d (at_sign q ∷ ts) some_integer (integers_nothing (at_sign q ∷ ts) (λ x p n y same_next e. cc (same_next.1, e)))
+    go (symbol q s ∷ ts) =
+        follows_refusal d (symbol q s ∷ ts) some_integer (integers_nothing (symbol q s ∷ ts) (λ x p n y same_next e. cc (same_next.1, e)))
     go (int q z ∷ ts) = follows_token (int q z) ts (q, z) refl refl (λ b v w y o fw e. integer_here b v w y q z o e)
 
 integer_filled : (b : Pos × Literal) (v : List Placed) → SpellsLiteral b v → v ≡ [] → ⊥
@@ -110,19 +117,23 @@ Unnamed = Both SpellsPriority Unnumbered
 
 unnamed_filled : (b : Option ℤ × (PatternTree × Body)) (v : List Placed) → Unnamed b v → v ≡ [] → ⊥
 unnamed_filled =
-    option_filled is_priority_next priority_looks SpellsPriority SpellsLiteral (λ y. bits_of y.1) (λ ts l. l) refl priority_first priority_into priority_back integer_filled
+    option_filled is_priority_next priority_looks SpellsPriority SpellsLiteral (λ y. bits_of y.1) (λ ts l. l) refl priority_first priority_into
+    priority_back integer_filled
     Unnumbered unnumbered_filled no_priority some_unnumbered
 
 some_unnamed : Begins Unnamed []
 some_unnamed = ((None, some_unnumbered.0), some_unnumbered.1, ([], some_unnumbered.1, refl, refl, some_unnumbered.2))
 
-follows_unnamed_at : (d : ℕ) (ts : List Placed) (b : Bool) → is_priority_next ts ≡ b → FollowsAt Unnamed Any d (suc d) ts (priority_on (seq (pattern_list d) (rule_body d)) b ts)
+follows_unnamed_at : (d : ℕ) (ts : List Placed) (b : Bool) → is_priority_next ts ≡ b
+    → FollowsAt Unnamed Any d (suc d) ts (priority_on (seq (pattern_list d) (rule_body d)) b ts)
 follows_unnamed_at d ts true at =
-    follows_present is_priority_next priority_looks SpellsPriority SpellsLiteral (λ y. bits_of y.1) (λ ts l. l) refl priority_first priority_into priority_back integer_filled
+    follows_present is_priority_next priority_looks SpellsPriority SpellsLiteral (λ y. bits_of y.1) (λ ts l. l) refl priority_first priority_into
+    priority_back integer_filled
     Unnumbered unnumbered_filled no_priority some_unnumbered
     Any d (suc d) integer (seq (pattern_list d) (rule_body d)) (follows_integer d) (follows_unnumbered d) ts at
 follows_unnamed_at d ts false at =
-    follows_absent is_priority_next priority_looks SpellsPriority SpellsLiteral (λ y. bits_of y.1) (λ ts l. l) refl priority_first priority_into priority_back integer_filled
+    follows_absent is_priority_next priority_looks SpellsPriority SpellsLiteral (λ y. bits_of y.1) (λ ts l. l) refl priority_first priority_into
+    priority_back integer_filled
     Unnumbered unnumbered_filled no_priority some_unnumbered
     Any d (suc d) integer (seq (pattern_list d) (rule_body d)) (follows_integer d) (follows_unnumbered d) ts at
 
@@ -143,16 +154,20 @@ RuleParts = Both SpellsName Unnamed
 
 parts_filled : (b : Option Ident × (Option ℤ × (PatternTree × Body))) (v : List Placed) → RuleParts b v → v ≡ [] → ⊥
 parts_filled =
-    option_filled (next_symbol_is is_ident) (names_looks is_ident) SpellsName SpellsIdent (λ x. x) (λ ts l. l) refl name_first (λ x u v l h. l) (λ x u l. (x, refl, l)) ident_filled
+    option_filled (next_symbol_is is_ident) (names_looks is_ident) SpellsName SpellsIdent (λ x. x) (λ ts l. l) refl name_first (λ x u v l h. l)
+    (λ x u l. (x, refl, l)) ident_filled
     Unnamed unnamed_filled no_name some_unnamed
 
-follows_parts_at : (d : ℕ) (ts : List Placed) (b : Bool) → next_symbol_is is_ident ts ≡ b → FollowsAt RuleParts Any d (suc d) ts (name_on (with_priority (seq (pattern_list d) (rule_body d))) b ts)
+follows_parts_at : (d : ℕ) (ts : List Placed) (b : Bool) → next_symbol_is is_ident ts ≡ b
+    → FollowsAt RuleParts Any d (suc d) ts (name_on (with_priority (seq (pattern_list d) (rule_body d))) b ts)
 follows_parts_at d ts true at =
-    follows_present (next_symbol_is is_ident) (names_looks is_ident) SpellsName SpellsIdent (λ x. x) (λ ts l. l) refl name_first (λ x u v l h. l) (λ x u l. (x, refl, l)) ident_filled
+    follows_present (next_symbol_is is_ident) (names_looks is_ident) SpellsName SpellsIdent (λ x. x) (λ ts l. l) refl name_first (λ x u v l h. l)
+    (λ x u l. (x, refl, l)) ident_filled
     Unnamed unnamed_filled no_name some_unnamed
     Any d (suc d) identifier (with_priority (seq (pattern_list d) (rule_body d))) (follows_ident d) (follows_unnamed d) ts at
 follows_parts_at d ts false at =
-    follows_absent (next_symbol_is is_ident) (names_looks is_ident) SpellsName SpellsIdent (λ x. x) (λ ts l. l) refl name_first (λ x u v l h. l) (λ x u l. (x, refl, l)) ident_filled
+    follows_absent (next_symbol_is is_ident) (names_looks is_ident) SpellsName SpellsIdent (λ x. x) (λ ts l. l) refl name_first (λ x u v l h. l)
+    (λ x u l. (x, refl, l)) ident_filled
     Unnamed unnamed_filled no_name some_unnamed
     Any d (suc d) identifier (with_priority (seq (pattern_list d) (rule_body d))) (follows_ident d) (follows_unnamed d) ts at
 
@@ -164,7 +179,8 @@ follows_parts d = record { reads = λ ts. follows_parts_at d ts (next_symbol_is 
 -- a rule with its trees
 abbrev RuleOf : Option Ident → Option ℤ → PatternTree → List IfLet → ExprTree → Pos → List Placed → Type 0
 RuleOf name prio t iflets e p = λ ts.
-    (SpellsName name ⊙ (SpellsPriority prio ⊙ (SpellsPattern t ⊙ (Each SpellsIfLet iflets ⊙ (SpellsRightSide e ⊙ Closes tt))))) ts × IsList t × (first_pos ts ≡ p)
+    (SpellsName name ⊙ (SpellsPriority prio ⊙ (SpellsPattern t ⊙ (Each SpellsIfLet iflets ⊙ (SpellsRightSide e ⊙ Closes tt))))) ts × IsList t
+    × (first_pos ts ≡ p)
 
 rule_into : (a : Pos × (Option Ident × (Option ℤ × (PatternTree × Body)))) (u : List Placed) → From RuleParts a u → SpellsRule (rule_of a) u
 rule_into a u l =
@@ -172,15 +188,25 @@ rule_into a u l =
     let b = a.1.1.1.1 in
     let h = l.0.4 in
     let k = h.4 in
-    let spelt : RuleOf a.1.0 a.1.1.0 t b.0 b.1 a.0 u = ((l.0.0, l.0.1, l.0.2, l.0.3, (h.0, h.1, h.2, h.3, (k.0, k.1, k.2, k.3.0, k.4))), k.3.1, l.1) in
-    subst (λ t. RuleOf a.1.0 a.1.1.0 t b.0 (expr_of (rule_of a).expr) a.0 u) (sym (pattern_of_from t)) (subst (λ e. RuleOf a.1.0 a.1.1.0 t b.0 e a.0 u) (sym (expr_of_from b.1)) spelt)
+    let spelt : RuleOf a.1.0 a.1.1.0 t b.0 b.1 a.0 u =
+    ((l.0.0, l.0.1, l.0.2, l.0.3, (h.0, h.1, h.2, h.3, (k.0, k.1, k.2, k.3.0, k.4))), k.3.1, l.1) in
+    subst (λ t. RuleOf a.1.0 a.1.1.0 t b.0 (expr_of (rule_of a).expr) a.0 u) (sym (pattern_of_from t))
+    (subst (λ e. RuleOf a.1.0 a.1.1.0 t b.0 e a.0 u) (sym (expr_of_from b.1)) spelt)
 
-rule_back : (b : RuleTree) (v : List Placed) → SpellsRule b v → (a : Pos × (Option Ident × (Option ℤ × (PatternTree × Body)))) × (b ≡ rule_of a) × From RuleParts a v
+rule_back : (b : RuleTree) (v : List Placed) → SpellsRule b v → (a : Pos × (Option Ident × (Option ℤ × (PatternTree × Body)))) × (b ≡ rule_of a)
+    × From RuleParts a v
 rule_back b v l =
     let h = l.0.4 in
     let k = h.4 in (
       (b.pos, (b.name, (b.prio, (pattern_of b.pattern, (b.iflets, expr_of b.expr))))),
-      (λ i. record { pattern = sym (pattern_from_of b.pattern) i; iflets = b.iflets; expr = sym (expr_from_of b.expr) i; pos = b.pos; prio = b.prio; name = b.name }),
+      (λ i. record {
+        pattern = sym (pattern_from_of b.pattern) i;
+        iflets = b.iflets;
+        expr = sym (expr_from_of b.expr) i;
+        pos = b.pos;
+        prio = b.prio;
+        name = b.name;
+      }),
       ((l.0.0, l.0.1, l.0.2, l.0.3, (h.0, h.1, h.2, h.3, (k.0, k.1, k.2, (k.3, l.1), k.4))), l.2),
     )
 

@@ -21,7 +21,8 @@ dead_from u [] true n = λ defs l. n.holds [] refl defs u [] l refl refl
 dead_from u [] false n = tt
 dead_from u (t ∷ r) clean n = λ g. n.holds (t ∷ g.1) (g.1, refl) g.0 ((u ++ t ∷ []) ++ g.1) [] g.2 refl (append-nil _ ∙ append_assoc u (t ∷ []) g.1)
 
-fault_by : (u : RemainingTokens) (r : List Placed) (span : Span) (x : Read (List Def)) → FollowsAt SpellsText AtEnd max_nesting max_nesting u.left x → x ≡ fault r → span ≡ span_at (next_pos u.source u.end r) → FaultAt u span
+fault_by : (u : RemainingTokens) (r : List Placed) (span : Span) (x : Read (List Def)) → FollowsAt SpellsText AtEnd max_nesting max_nesting u.left x
+    → x ≡ fault r → span ≡ span_at (next_pos u.source u.end r) → FaultAt u span
 fault_by u r span (done a q) g e f = absurd (cc)
 fault_by u r span (deep q) g e f = absurd (cc)
 fault_by u r span (fault q) g e f = let same : q ≡ r = cc in record {
@@ -35,10 +36,12 @@ fault_by u r span (fault q) g e f = let same : q ≡ r = cc in record {
 }
 
 -- a text that is refused at a token, or at its end
-pub fault_from_reading : (u : RemainingTokens) (r : List Placed) (span : Span) → all_of (def max_nesting) u.left ≡ fault r → span ≡ span_at (next_pos u.source u.end r) → FaultAt u span
+pub fault_from_reading : (u : RemainingTokens) (r : List Placed) (span : Span) → all_of (def max_nesting) u.left ≡ fault r
+    → span ≡ span_at (next_pos u.source u.end r) → FaultAt u span
 fault_from_reading u r span e f = fault_by u r span (all_of (def max_nesting) u.left) (reads u.left) e f
 
-deep_by : (u : RemainingTokens) (r : List Placed) (span : Span) (x : Read (List Def)) → FollowsAt SpellsText AtEnd max_nesting max_nesting u.left x → x ≡ deep r → span ≡ span_at (next_pos u.source u.end r) → DeepAt u span
+deep_by : (u : RemainingTokens) (r : List Placed) (span : Span) (x : Read (List Def)) → FollowsAt SpellsText AtEnd max_nesting max_nesting u.left x
+    → x ≡ deep r → span ≡ span_at (next_pos u.source u.end r) → DeepAt u span
 deep_by u r span (done a q) g e f = absurd (cc)
 deep_by u r span (fault q) g e f = absurd (cc)
 deep_by u r span (deep q) g e f = let same : q ≡ r = cc in record {
@@ -52,7 +55,8 @@ deep_by u r span (deep q) g e f = let same : q ≡ r = cc in record {
 }
 
 -- a text with a parenthesis that nests too deep
-pub deep_from_reading : (u : RemainingTokens) (r : List Placed) (span : Span) → all_of (def max_nesting) u.left ≡ deep r → span ≡ span_at (next_pos u.source u.end r) → DeepAt u span
+pub deep_from_reading : (u : RemainingTokens) (r : List Placed) (span : Span) → all_of (def max_nesting) u.left ≡ deep r
+    → span ≡ span_at (next_pos u.source u.end r) → DeepAt u span
 deep_from_reading u r span e f = deep_by u r span (all_of (def max_nesting) u.left) (reads u.left) e f
 
 same_next_refl : (r : List Placed) → SameNext r r
@@ -66,7 +70,8 @@ pub record ReadWhole (ts : List Placed) (defs : List Def) : Type 0 where
   pub nests : depth_left max_nesting ts ≡ Some left
   pub only : (others : List Def) → SpellsText others ts → others ≡ defs
 
-whole_by : (ts : List Placed) (defs : List Def) (x : Read (List Def)) → FollowsAt SpellsText AtEnd max_nesting max_nesting ts x → x ≡ done defs [] → ReadWhole ts defs
+whole_by : (ts : List Placed) (defs : List Def) (x : Read (List Def)) → FollowsAt SpellsText AtEnd max_nesting max_nesting ts x → x ≡ done defs []
+    → ReadWhole ts defs
 whole_by ts defs (fault q) g e = absurd (cc)
 whole_by ts defs (deep q) g e = absurd (cc)
 whole_by ts defs (done a q) g e =
@@ -84,10 +89,12 @@ whole_from_reading ts defs e = whole_by ts defs (all_of (def max_nesting) ts) (r
 
 -- a text that is accepted
 pub spelt_from_reading : (u : RemainingTokens) (defs : List Def) → all_of (def max_nesting) u.left ≡ done defs [] → u.clean ≡ true → IsSpelt u defs
-spelt_from_reading u defs e clean = let w = whole_from_reading u.left defs e in record { clean = clean; spelt = w.spelt; nests = (w.left, w.nests); only = w.only }
+spelt_from_reading u defs e clean = let w = whole_from_reading u.left defs e in
+    record { clean = clean; spelt = w.spelt; nests = (w.left, w.nests); only = w.only }
 
 -- a text whose tokens are all read, where what stands behind them is no token
-pub fault_at_end : (u : RemainingTokens) (defs : List Def) (span : Span) → all_of (def max_nesting) u.left ≡ done defs [] → u.clean ≡ false → span ≡ span_at (next_pos u.source u.end []) → FaultAt u span
+pub fault_at_end : (u : RemainingTokens) (defs : List Def) (span : Span) → all_of (def max_nesting) u.left ≡ done defs [] → u.clean ≡ false
+    → span ≡ span_at (next_pos u.source u.end []) → FaultAt u span
 fault_at_end u defs span e clean f =
     let w = whole_from_reading u.left defs e in record {
       before = u.left;

@@ -1,5 +1,6 @@
 -- Reading a type's definition follows the grammar.
-use Rattle.std.proofs.Common.{◌≡◌, ℕ, zero, suc, ◌<◌, List, [], ◌∷◌, ◌++◌, length, Bool, true, false, refl, sym, ap, subst, ◌∙◌, append_assoc, length-append, arith}
+use Rattle.std.proofs.Common.{◌≡◌, ℕ, zero, suc, ◌<◌, List, [], ◌∷◌, ◌++◌, length, Bool, true, false, refl, sym, ap, subst, ◌∙◌, append_assoc}
+use Rattle.std.proofs.Common.{length-append, arith}
 use Rattle.std.specs.Prelude.{codes}
 use Rattle.std.proofs.lemmas.Bool.{false≢true}
 use Rattle.isle_syntax.specs.declared.kind.Keyword.{Keyword}
@@ -18,12 +19,19 @@ use Rattle.isle_syntax.specs.Tokens.Names.{is_ident}
 use Rattle.isle_syntax.specs.Grammar.Phrases.{◌⊙◌, Both, Opens, Closes, Says, Each, Closed}
 use Rattle.isle_syntax.specs.Reading.KindOf.{keyword_at}
 use Rattle.isle_syntax.specs.Reading.Readers.{done, seq, many, many_turn, rest_of, parens, closed, says}
-use Rattle.isle_syntax.specs.Grammar.DefGrammar.{SpellsIdent, SpellsField, SpellsFields, SpellsVariant, bare, in_list, SpellsTypeValue, Mark, extern_mark, nodebug_mark, SpellsMark, SpellsType, numbered, IsFilled}
-use Rattle.isle_syntax.specs.Reading.DefReading.{identifier, field_of, field, fields_named, fields_numbered, is_symbol_next, fields_on, fields, bare_variant, variant_of, variant_on, variant, Value, primitive, variants, struct_fields, value_at, value_on, value, type_value, mark_on, mark, is_mark_word, is_mark_next, no_mark_on, no_mark, marks, type_of, type_def}
-use Rattle.isle_syntax.proofs.Reading.Follows.{start, SameNext, Begins, FollowsAt, Follows, Any, Starts, follows_seq, follows_seq_at, follows_image, follows_rest_of, shorter_after}
+use Rattle.isle_syntax.specs.Grammar.DefGrammar.{SpellsIdent, SpellsField, SpellsFields, SpellsVariant, bare, in_list, SpellsTypeValue, Mark}
+use Rattle.isle_syntax.specs.Grammar.DefGrammar.{extern_mark, nodebug_mark, SpellsMark, SpellsType, numbered, IsFilled}
+use Rattle.isle_syntax.specs.Reading.DefReading.{identifier, field_of, field, fields_named, fields_numbered, is_symbol_next, fields_on, fields}
+use Rattle.isle_syntax.specs.Reading.DefReading.{bare_variant, variant_of, variant_on, variant, Value, primitive, variants, struct_fields, value_at}
+use Rattle.isle_syntax.specs.Reading.DefReading.{value_on, value, type_value, mark_on, mark, is_mark_word, is_mark_next, no_mark_on, no_mark, marks}
+use Rattle.isle_syntax.specs.Reading.DefReading.{type_of, type_def}
+use Rattle.isle_syntax.proofs.Reading.Follows.{start, SameNext, Begins, FollowsAt, Follows, Any, Starts, follows_seq, follows_seq_at, follows_image}
+use Rattle.isle_syntax.proofs.Reading.Follows.{follows_rest_of, shorter_after}
 use Rattle.isle_syntax.proofs.Reading.Cases.{looks_same_next, follows_case, follows_no_case}
 use Rattle.isle_syntax.proofs.Reading.Flags.{names_looks}
-use Rattle.isle_syntax.proofs.Reading.Basics.{ident, follows_parens, follows_close, follows_symbol_of, follows_says, follows_map, some_both, some_closed, some_opens, some_closes, some_says, both_filled, closed_is_filled, symbol_filled, symbol_starts, opens_filled, closes_filled, says_filled}
+use Rattle.isle_syntax.proofs.Reading.Basics.{ident, follows_parens, follows_close, follows_symbol_of, follows_says, follows_map, some_both}
+use Rattle.isle_syntax.proofs.Reading.Basics.{some_closed, some_opens, some_closes, some_says, both_filled, closed_is_filled, symbol_filled}
+use Rattle.isle_syntax.proofs.Reading.Basics.{symbol_starts, opens_filled, closes_filled, says_filled}
 use Rattle.isle_syntax.proofs.Reading.Words.{underscores_are_ident}
 use Rattle.isle_syntax.proofs.Reading.PatternEnds.{follows_seq_before}
 use Rattle.isle_syntax.proofs.Reading.Keywords.{keyword_looks, says_keyword, primitive_word, enum_word, struct_word, extern_word, nodebug_word}
@@ -72,8 +80,10 @@ some_field =
 
 pub follows_field : (d : ℕ) → Follows SpellsField Any d d (field d)
 follows_field d =
-    follows_map {L = Both Opens (Both SpellsIdent (Both SpellsIdent Closes))} {K = SpellsField} field_of (λ a u l. l) (λ b v l. ((b.pos, (b.name, (b.ty, tt))), refl, l))
-    (follows_parens d (λ n. seq identifier (seq identifier closed)) (some_both some_ident some_ident_closed) (λ n. follows_seq some_ident_closed (follows_ident n) (follows_ident_closed n)))
+    follows_map {L = Both Opens (Both SpellsIdent (Both SpellsIdent Closes))} {K = SpellsField} field_of (λ a u l. l)
+    (λ b v l. ((b.pos, (b.name, (b.ty, tt))), refl, l))
+    (follows_parens d (λ n. seq identifier (seq identifier closed)) (some_both some_ident some_ident_closed)
+    (λ n. follows_seq some_ident_closed (follows_ident n) (follows_ident_closed n)))
 
 field_starts : Starts SpellsField
 field_starts = record {
@@ -107,11 +117,13 @@ numbered_into : (xs : List Ident) (u : List Placed) → Closed SpellsIdent xs u 
 numbered_into [] u l = closed_none SpellsIdent u l
 numbered_into (x ∷ xs) u l = (x ∷ xs, l, refl, tt)
 
-named_back : (b : Fields) (v : List Placed) → SpellsFields b v → is_symbol_next v ≡ false → (a : List StructField) × (b ≡ fields_named a) × Closed SpellsField a v
+named_back : (b : Fields) (v : List Placed) → SpellsFields b v → is_symbol_next v ≡ false → (a : List StructField) × (b ≡ fields_named a)
+    × Closed SpellsField a v
 named_back no_fields v l at = ([], refl, none_closed SpellsField v l)
 named_back (named_fields fs) v l at = by fs.fields refl l.0 l.1
   where
-    by : (l : List StructField) → fs.fields ≡ l → Closed SpellsField fs.fields v → IsFilled fs.fields → (a : List StructField) × (named_fields fs ≡ fields_named a) × Closed SpellsField a v
+    by : (l : List StructField) → fs.fields ≡ l → Closed SpellsField fs.fields v → IsFilled fs.fields
+        → (a : List StructField) × (named_fields fs ≡ fields_named a) × Closed SpellsField a v
     by [] e c i = absurd (subst IsFilled e i)
     by (f ∷ rest) e c i = (f ∷ rest, ap (λ k. named_fields (record { fields = k })) e, subst (λ k. Closed SpellsField k v) e c)
 named_back (tuple_fields fs) v l at = absurd (by l.0 l.1 l.3)
@@ -120,7 +132,8 @@ named_back (tuple_fields fs) v l at = absurd (by l.0 l.1 l.3)
     by [] c i = i
     by (x ∷ xs) c i = false≢true (sym at ∙ closed_ident_first x xs v c)
 
-numbered_back : (b : Fields) (v : List Placed) → SpellsFields b v → is_symbol_next v ≡ true → (a : List Ident) × (b ≡ fields_numbered a) × Closed SpellsIdent a v
+numbered_back : (b : Fields) (v : List Placed) → SpellsFields b v → is_symbol_next v ≡ true → (a : List Ident) × (b ≡ fields_numbered a)
+    × Closed SpellsIdent a v
 numbered_back no_fields v l at = ([], refl, none_closed SpellsIdent v l)
 numbered_back (named_fields fs) v l at = absurd (by fs.fields l.0 l.1)
   where
@@ -129,7 +142,8 @@ numbered_back (named_fields fs) v l at = absurd (by fs.fields l.0 l.1)
     by (x ∷ xs) c i = false≢true (sym (closed_field_first x xs v c) ∙ at)
 numbered_back (tuple_fields fs) v l at = by l.0 l.1 l.2 l.3
   where
-    by : (xs : List Ident) → Closed SpellsIdent xs v → fs.fields ≡ numbered 0 xs → IsFilled xs → (a : List Ident) × (tuple_fields fs ≡ fields_numbered a) × Closed SpellsIdent a v
+    by : (xs : List Ident) → Closed SpellsIdent xs v → fs.fields ≡ numbered 0 xs → IsFilled xs
+        → (a : List Ident) × (tuple_fields fs ≡ fields_numbered a) × Closed SpellsIdent a v
     by [] c e i = absurd i
     by (x ∷ xs) c e i = (x ∷ xs, ap (λ k. tuple_fields (record { fields = k })) e, c)
 
@@ -143,10 +157,12 @@ some_fields = (no_fields, closing start ∷ [], (start, refl))
 
 follows_fields_at : (d : ℕ) (ts : List Placed) (b : Bool) → is_symbol_next ts ≡ b → FollowsAt SpellsFields Any d (suc d) ts (fields_on d b ts)
 follows_fields_at d ts true at =
-    follows_case is_symbol_next (names_looks (λ s. true)) (Closed SpellsIdent) SpellsFields Any d (suc d) ts true at fields_numbered (λ a u l h. numbered_into a u l) numbered_back
+    follows_case is_symbol_next (names_looks (λ s. true)) (Closed SpellsIdent) SpellsFields Any d (suc d) ts true at fields_numbered
+    (λ a u l h. numbered_into a u l) numbered_back
     (closed_is_filled SpellsIdent) fields_filled some_fields (rest_of identifier ts) ((follows_idents d).reads ts)
 follows_fields_at d ts false at =
-    follows_case is_symbol_next (names_looks (λ s. true)) (Closed SpellsField) SpellsFields Any d (suc d) ts false at fields_named (λ a u l h. named_into a u l) named_back
+    follows_case is_symbol_next (names_looks (λ s. true)) (Closed SpellsField) SpellsFields Any d (suc d) ts false at fields_named
+    (λ a u l h. named_into a u l) named_back
     (closed_is_filled SpellsField) fields_filled some_fields (rest_of (field d) ts) ((follows_fields_closed d).reads ts)
 
 pub follows_fields : (d : ℕ) → Follows SpellsFields Any d (suc d) (fields d)
@@ -167,7 +183,8 @@ bare_back : (b : Variant) (v : List Placed) → SpellsVariant b v → is_symbol_
 bare_back b v (bare l p f) at = (b.name, (λ i. record { name = b.name; fields = f i; pos = p i }), l)
 bare_back b v (in_list l) at = absurd (false≢true (sym (opens_first b.pos _ v l) ∙ at))
 
-listed_back : (b : Variant) (v : List Placed) → SpellsVariant b v → is_symbol_next v ≡ false → (a : Pos × (Ident × Fields)) × (b ≡ variant_of a) × ListVariant a v
+listed_back : (b : Variant) (v : List Placed) → SpellsVariant b v → is_symbol_next v ≡ false → (a : Pos × (Ident × Fields)) × (b ≡ variant_of a)
+    × ListVariant a v
 listed_back b v (bare l p f) at = absurd (false≢true (sym at ∙ variant_first_bare b v l))
 listed_back b v (in_list l) at = ((b.pos, (b.name, b.fields)), refl, l)
 
@@ -180,19 +197,23 @@ variant_starts = record { filled = variant_filled; inside = within }
   where
     within : (b : Variant) (v w y : List Placed) (q : Pos) → SpellsVariant b v → v ++ w ≡ closing q ∷ y → ⊥
     within b v w y q (bare l p f) e = (symbol_starts is_ident).inside b.name v w y q l e
-    within b v w y q (in_list l) e = let k : opening b.pos ∷ (l.1 ++ w) ≡ closing q ∷ y = ap (λ x. x ++ w) (sym (l.2 ∙ ap (λ x. x ++ l.1) l.3)) ∙ e in cc
+    within b v w y q (in_list l) e = let k : opening b.pos ∷ (l.1 ++ w) ≡ closing q ∷ y = ap (λ x. x ++ w) (sym (l.2 ∙ ap (λ x. x ++ l.1) l.3)) ∙ e in
+        cc
 
 some_variant : Begins SpellsVariant []
 some_variant = (bare_variant some_ident.0, some_ident.1, bare some_ident.2 refl refl)
 
 follows_variant_at : (d : ℕ) (ts : List Placed) (b : Bool) → is_symbol_next ts ≡ b → FollowsAt SpellsVariant Any d d ts (variant_on d b ts)
 follows_variant_at d ts true at =
-    follows_case is_symbol_next (names_looks (λ s. true)) SpellsIdent SpellsVariant Any d d ts true at bare_variant (λ a u l h. bare_into a u l) bare_back ident_filled variant_filled some_variant
+    follows_case is_symbol_next (names_looks (λ s. true)) SpellsIdent SpellsVariant Any d d ts true at bare_variant (λ a u l h. bare_into a u l)
+    bare_back ident_filled variant_filled some_variant
     (identifier ts) ((follows_ident d).reads ts)
 follows_variant_at d ts false at =
-    follows_case is_symbol_next (names_looks (λ s. true)) ListVariant SpellsVariant Any d d ts false at variant_of (λ a u l h. in_list l) listed_back (both_filled Opens _ opens_filled) variant_filled some_variant
+    follows_case is_symbol_next (names_looks (λ s. true)) ListVariant SpellsVariant Any d d ts false at variant_of (λ a u l h. in_list l) listed_back
+    (both_filled Opens _ opens_filled) variant_filled some_variant
     (parens d (λ n. seq identifier (fields n)) ts)
-    ((follows_parens d (λ n. seq identifier (fields n)) (some_both some_ident some_fields) (λ n. follows_seq some_fields (follows_ident n) (follows_fields n))).reads ts)
+    ((follows_parens d (λ n. seq identifier (fields n)) (some_both some_ident some_fields)
+    (λ n. follows_seq some_fields (follows_ident n) (follows_fields n))).reads ts)
 
 pub follows_variant : (d : ℕ) → Follows SpellsVariant Any d d (variant d)
 follows_variant d = record { reads = λ ts. follows_variant_at d ts (is_symbol_next ts) refl }
@@ -229,17 +250,20 @@ value_filled b v l e = by b (sym (value_first b v l) ∙ ap keyword_at e)
     by (variants vs) e = cc
     by (struct_fields fs) e = cc
 
-primitive_back : (b : Value) (v : List Placed) → SpellsValue b v → keyword_at v ≡ keyword.Primitive → (a : Unit {0} × (Ident × Unit {0})) × (b ≡ primitive a.1.0) × Both (Says (codes "primitive")) (Both SpellsIdent Closes) a v
+primitive_back : (b : Value) (v : List Placed) → SpellsValue b v → keyword_at v ≡ keyword.Primitive → (a : Unit {0} × (Ident × Unit {0}))
+    × (b ≡ primitive a.1.0) × Both (Says (codes "primitive")) (Both SpellsIdent Closes) a v
 primitive_back (primitive x) v l at = ((tt, (x, tt)), refl, l)
 primitive_back (variants vs) v l at = let e : keyword.Enum ≡ keyword.Primitive = sym (value_first (variants vs) v l) ∙ at in absurd (cc)
 primitive_back (struct_fields fs) v l at = let e : keyword.Struct ≡ keyword.Primitive = sym (value_first (struct_fields fs) v l) ∙ at in absurd (cc)
 
-variants_back : (b : Value) (v : List Placed) → SpellsValue b v → keyword_at v ≡ keyword.Enum → (a : Unit {0} × List Variant) × (b ≡ variants a.1) × Both (Says (codes "enum")) (Closed SpellsVariant) a v
+variants_back : (b : Value) (v : List Placed) → SpellsValue b v → keyword_at v ≡ keyword.Enum → (a : Unit {0} × List Variant) × (b ≡ variants a.1)
+    × Both (Says (codes "enum")) (Closed SpellsVariant) a v
 variants_back (primitive x) v l at = let e : keyword.Primitive ≡ keyword.Enum = sym (value_first (primitive x) v l) ∙ at in absurd (cc)
 variants_back (variants vs) v l at = ((tt, vs), refl, l)
 variants_back (struct_fields fs) v l at = let e : keyword.Struct ≡ keyword.Enum = sym (value_first (struct_fields fs) v l) ∙ at in absurd (cc)
 
-struct_back : (b : Value) (v : List Placed) → SpellsValue b v → keyword_at v ≡ keyword.Struct → (a : Unit {0} × Fields) × (b ≡ struct_fields a.1) × Both (Says (codes "struct")) SpellsFields a v
+struct_back : (b : Value) (v : List Placed) → SpellsValue b v → keyword_at v ≡ keyword.Struct → (a : Unit {0} × Fields) × (b ≡ struct_fields a.1)
+    × Both (Says (codes "struct")) SpellsFields a v
 struct_back (primitive x) v l at = let e : keyword.Primitive ≡ keyword.Struct = sym (value_first (primitive x) v l) ∙ at in absurd (cc)
 struct_back (variants vs) v l at = let e : keyword.Enum ≡ keyword.Struct = sym (value_first (variants vs) v l) ∙ at in absurd (cc)
 struct_back (struct_fields fs) v l at = ((tt, fs), refl, l)
@@ -262,19 +286,24 @@ value_of_word (struct_fields fs) = tt
 
 follows_value_at : (d : ℕ) (ts : List Placed) (k : Keyword) → keyword_at ts ≡ k → FollowsAt SpellsValue Any d (suc d) ts (value_on d k ts)
 follows_value_at d ts keyword.Primitive at =
-    follows_case keyword_at keyword_looks (Both (Says (codes "primitive")) (Both SpellsIdent Closes)) SpellsValue Any d (suc d) ts keyword.Primitive at (λ x. primitive x.1.0) (λ a u l h. l) primitive_back
-    (both_filled (Says (codes "primitive")) _ (says_filled (codes "primitive"))) value_filled some_value (seq (says (codes "primitive")) (seq identifier closed) ts)
+    follows_case keyword_at keyword_looks (Both (Says (codes "primitive")) (Both SpellsIdent Closes)) SpellsValue Any d (suc d) ts keyword.Primitive
+    at (λ x. primitive x.1.0) (λ a u l h. l) primitive_back
+    (both_filled (Says (codes "primitive")) _ (says_filled (codes "primitive"))) value_filled some_value
+    (seq (says (codes "primitive")) (seq identifier closed) ts)
     ((follows_seq some_ident_closed (follows_says (codes "primitive") d) (follows_ident_closed d)).reads ts)
 follows_value_at d ts keyword.Enum at =
-    follows_case keyword_at keyword_looks (Both (Says (codes "enum")) (Closed SpellsVariant)) SpellsValue Any d (suc d) ts keyword.Enum at (λ x. variants x.1) (λ a u l h. l) variants_back
+    follows_case keyword_at keyword_looks (Both (Says (codes "enum")) (Closed SpellsVariant)) SpellsValue Any d (suc d) ts keyword.Enum at
+    (λ x. variants x.1) (λ a u l h. l) variants_back
     (both_filled (Says (codes "enum")) _ (says_filled (codes "enum"))) value_filled some_value (seq (says (codes "enum")) (rest_of (variant d)) ts)
     ((follows_seq (some_closed SpellsVariant) (follows_says (codes "enum") d) (follows_variants d)).reads ts)
 follows_value_at d ts keyword.Struct at =
-    follows_case keyword_at keyword_looks (Both (Says (codes "struct")) SpellsFields) SpellsValue Any d (suc d) ts keyword.Struct at (λ x. struct_fields x.1) (λ a u l h. l) struct_back
+    follows_case keyword_at keyword_looks (Both (Says (codes "struct")) SpellsFields) SpellsValue Any d (suc d) ts keyword.Struct at
+    (λ x. struct_fields x.1) (λ a u l h. l) struct_back
     (both_filled (Says (codes "struct")) _ (says_filled (codes "struct"))) value_filled some_value (seq (says (codes "struct")) (fields d) ts)
     ((follows_seq some_fields (follows_says (codes "struct") d) (follows_fields d)).reads ts)
 follows_value_at d ts _ at =
-    follows_no_case keyword_at keyword_looks SpellsValue Any d (suc d) ts (keyword_at ts) refl (λ b v l e. subst OfValue (sym (value_first b v l) ∙ e ∙ at) (value_of_word b)) value_filled some_value
+    follows_no_case keyword_at keyword_looks SpellsValue Any d (suc d) ts (keyword_at ts) refl (λ b v l e. subst OfValue (sym (value_first b v l) ∙ e
+    ∙ at) (value_of_word b)) value_filled some_value
 
 pub follows_value : (d : ℕ) → Follows SpellsValue Any d (suc d) (value d)
 follows_value d = record { reads = λ ts. follows_value_at d ts (keyword_at ts) refl }
@@ -312,11 +341,13 @@ mark_length : (b : Mark) (v : List Placed) → SpellsMark b v → length v ≡ 1
 mark_length extern_mark v l = ap length l.1
 mark_length nodebug_mark v l = ap length l.1
 
-extern_back : (b : Mark) (v : List Placed) → SpellsMark b v → keyword_at v ≡ keyword.Extern → (a : Unit {0}) × (b ≡ extern_mark) × Says (codes "extern") a v
+extern_back : (b : Mark) (v : List Placed) → SpellsMark b v → keyword_at v ≡ keyword.Extern
+    → (a : Unit {0}) × (b ≡ extern_mark) × Says (codes "extern") a v
 extern_back extern_mark v l at = (tt, refl, l)
 extern_back nodebug_mark v l at = let e : keyword.NoDebug ≡ keyword.Extern = sym nodebug_word ∙ sym (ap keyword_at l.1) ∙ at in absurd (cc)
 
-nodebug_back : (b : Mark) (v : List Placed) → SpellsMark b v → keyword_at v ≡ keyword.NoDebug → (a : Unit {0}) × (b ≡ nodebug_mark) × Says (codes "nodebug") a v
+nodebug_back : (b : Mark) (v : List Placed) → SpellsMark b v → keyword_at v ≡ keyword.NoDebug → (a : Unit {0}) × (b ≡ nodebug_mark)
+    × Says (codes "nodebug") a v
 nodebug_back extern_mark v l at = let e : keyword.Extern ≡ keyword.NoDebug = sym extern_word ∙ sym (ap keyword_at l.1) ∙ at in absurd (cc)
 nodebug_back nodebug_mark v l at = (tt, refl, l)
 
@@ -338,12 +369,15 @@ mark_alone nodebug_mark v l = ap keyword_at l.1 ∙ nodebug_word
 
 follows_mark_at : (d : ℕ) (ts : List Placed) (k : Keyword) → keyword_at ts ≡ k → FollowsAt SpellsMark Any d d ts (mark_on k ts)
 follows_mark_at d ts keyword.Extern at =
-    follows_case keyword_at keyword_looks (Says (codes "extern")) SpellsMark Any d d ts keyword.Extern at (λ x. extern_mark) (λ a u l h. l) extern_back (says_filled (codes "extern")) mark_filled some_mark
+    follows_case keyword_at keyword_looks (Says (codes "extern")) SpellsMark Any d d ts keyword.Extern at (λ x. extern_mark) (λ a u l h. l)
+    extern_back (says_filled (codes "extern")) mark_filled some_mark
     (says (codes "extern") ts) ((follows_says (codes "extern") d).reads ts)
 follows_mark_at d ts keyword.NoDebug at =
-    follows_case keyword_at keyword_looks (Says (codes "nodebug")) SpellsMark Any d d ts keyword.NoDebug at (λ x. nodebug_mark) (λ a u l h. l) nodebug_back (says_filled (codes "nodebug")) mark_filled some_mark
+    follows_case keyword_at keyword_looks (Says (codes "nodebug")) SpellsMark Any d d ts keyword.NoDebug at (λ x. nodebug_mark) (λ a u l h. l)
+    nodebug_back (says_filled (codes "nodebug")) mark_filled some_mark
     (says (codes "nodebug") ts) ((follows_says (codes "nodebug") d).reads ts)
-follows_mark_at d ts _ at = follows_no_case keyword_at keyword_looks SpellsMark Any d d ts (keyword_at ts) refl (λ b v l e. subst OfMark (sym (mark_alone b v l) ∙ e ∙ at) (mark_of_word b)) mark_filled some_mark
+follows_mark_at d ts _ at = follows_no_case keyword_at keyword_looks SpellsMark Any d d ts (keyword_at ts) refl
+    (λ b v l e. subst OfMark (sym (mark_alone b v l) ∙ e ∙ at) (mark_of_word b)) mark_filled some_mark
 
 pub follows_mark : (d : ℕ) → Follows SpellsMark Any d d mark
 follows_mark d = record { reads = λ ts. follows_mark_at d ts (keyword_at ts) refl }
@@ -377,14 +411,16 @@ no_marks [] v w s l e at = (refl, l)
 no_marks (a ∷ rest) v w s l e at = absurd (false≢true (sym at ∙ sym (ap is_mark_next e) ∙ marks_next a rest v w l))
 
 -- where one comes
-some_marks : (b : List Mark) (v w s : List Placed) → Each SpellsMark b v → NoMark w → v ++ w ≡ s → is_mark_next s ≡ true → (x : Mark × List Mark) × (b ≡ x.0 ∷ x.1) × Both SpellsMark (Each SpellsMark) x v
+some_marks : (b : List Mark) (v w s : List Placed) → Each SpellsMark b v → NoMark w → v ++ w ≡ s → is_mark_next s ≡ true
+    → (x : Mark × List Mark) × (b ≡ x.0 ∷ x.1) × Both SpellsMark (Each SpellsMark) x v
 some_marks [] v w s l none e at = absurd (false≢true (sym none ∙ ap is_mark_next (ap (λ k. k ++ w) (sym l) ∙ e) ∙ at))
 some_marks (a ∷ rest) v w s l none e at = ((a, rest), refl, l)
 
 mark_leaves : (b : Mark) (u r ts : List Placed) (n : ℕ) → SpellsMark b u → ts ≡ u ++ r → length ts < suc n → length r < n
 mark_leaves b u r ts n l e h = omega (arith, ap length e, length-append u r, mark_length b u l)
 
-follows_marks_turn : (d n : ℕ) (ts : List Placed) (b : Bool) → is_mark_next ts ≡ b → length ts < suc n → ((r : List Placed) → length r < n → FollowsAt (Each SpellsMark) NoMark d d r (many no_mark mark n r))
+follows_marks_turn : (d n : ℕ) (ts : List Placed) (b : Bool) → is_mark_next ts ≡ b → length ts < suc n
+    → ((r : List Placed) → length r < n → FollowsAt (Each SpellsMark) NoMark d d r (many no_mark mark n r))
     → FollowsAt (Each SpellsMark) NoMark d d ts (many_turn mark (many no_mark mark n) (no_mark_on b ts) ts)
 follows_marks_turn d n ts false at fits ih = record {
   used = [];
@@ -397,7 +433,8 @@ follows_marks_turn d n ts true at fits ih =
     follows_image (Both SpellsMark (Each SpellsMark)) (Each SpellsMark) NoMark d d ts (λ x. x.0 ∷ x.1) (λ x v l. l)
     (λ b v w x same_next l none e. some_marks b v w x l none e (next_same_next ts x same_next ∙ at))
     (seq mark (many no_mark mark n) ts)
-    (follows_seq_at SpellsMark (Each SpellsMark) Any NoMark d d d ts (λ b v w m none. tt) ([], [], refl) (many no_mark mark n) (mark ts) ((follows_mark d).reads ts)
+    (follows_seq_at SpellsMark (Each SpellsMark) Any NoMark d d d ts (λ b v w m none. tt) ([], [], refl) (many no_mark mark n) (mark ts)
+    ((follows_mark d).reads ts)
     (λ a r g. ih r (mark_leaves a g.used r ts n g.spelt g.split fits)))
 
 follows_marks_within : (d n : ℕ) (ts : List Placed) → length ts < n → FollowsAt (Each SpellsMark) NoMark d d ts (many no_mark mark n ts)
@@ -445,7 +482,8 @@ type_back b v l =
     )
 
 pub type_filled : (b : TypeTree) (v : List Placed) → SpellsType b v → v ≡ [] → ⊥
-type_filled b v l e = let a = type_back b v l in both_filled SpellsIdent (Both (Each SpellsMark) (Both SpellsTypeValue Closes)) ident_filled a.0 v a.2 e
+type_filled b v l e = let a = type_back b v l in
+    both_filled SpellsIdent (Both (Each SpellsMark) (Both SpellsTypeValue Closes)) ident_filled a.0 v a.2 e
 
 pub some_type : Begins SpellsType []
 some_type =

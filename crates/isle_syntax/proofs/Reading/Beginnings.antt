@@ -42,7 +42,8 @@ pub took_bounds : (w : List ℕ) (old new : RemainingTokens) (b : Bool) → Take
 took_bounds w old new true t = t.2
 took_bounds w old new false t = ap bounds t.1
 
-module _ (d : ℕ) (u0 u1 u2 u3 u4 : RemainingTokens) (b1 b2 b3 b4 : Bool) (t1 : TakesWord u0 u1 (codes "pure") b1) (t2 : TakesWord u1 u2 (codes "multi") b2)
+module _ (d : ℕ) (u0 u1 u2 u3 u4 : RemainingTokens) (b1 b2 b3 b4 : Bool) (t1 : TakesWord u0 u1 (codes "pure") b1)
+    (t2 : TakesWord u1 u2 (codes "multi") b2)
     (t3 : TakesWord u2 u3 (codes "partial") b3) (t4 : TakesWord u3 u4 (codes "rec") b4) where
   last : Reader (Bool × Signature)
   last = optional (codes "rec") (signature d)
@@ -57,7 +58,8 @@ module _ (d : ℕ) (u0 u1 u2 u3 u4 : RemainingTokens) (b1 b2 b3 b4 : Bool) (t1 :
   unfolding second third last
   flags =
       took_word (codes "pure") second u0 u1 b1 t1
-      ∙ ap (read_map (λ x. (b1, x))) (took_word (codes "multi") third u1 u2 b2 t2 ∙ ap (read_map (λ x. (b2, x))) (took_word (codes "partial") last u2 u3 b3 t3
+      ∙ ap (read_map (λ x. (b1, x))) (took_word (codes "multi") third u1 u2 b2 t2
+      ∙ ap (read_map (λ x. (b2, x))) (took_word (codes "partial") last u2 u3 b3 t3
       ∙ ap (read_map (λ x. (b3, x))) (took_word (codes "rec") (signature d) u3 u4 b4 t4) ∙ fuse (λ x. (b3, x)) (λ x. (b4, x)) (signature d u4.left))
       ∙ fuse (λ x. (b2, x)) (λ s. (b3, (b4, s))) (signature d u4.left))
       ∙ fuse (λ x. (b1, x)) (λ s. (b2, (b3, (b4, s)))) (signature d u4.left)
@@ -73,9 +75,11 @@ module _ (d : ℕ) (u0 u1 u2 u3 u4 : RemainingTokens) (b1 b2 b3 b4 : Bool) (t1 :
   decl_stop = ap stop_of decl_flags ∙ stop_map _ (signature d u4.left) ∙ sym (stop_map signature_parts (signature d u4.left))
 
   pub decl_bounds : bounds u4 ≡ bounds u0
-  decl_bounds = took_bounds (codes "rec") u3 u4 b4 t4 ∙ took_bounds (codes "partial") u2 u3 b3 t3 ∙ took_bounds (codes "multi") u1 u2 b2 t2 ∙ took_bounds (codes "pure") u0 u1 b1 t1
+  decl_bounds = took_bounds (codes "rec") u3 u4 b4 t4 ∙ took_bounds (codes "partial") u2 u3 b3 t3 ∙ took_bounds (codes "multi") u1 u2 b2 t2
+      ∙ took_bounds (codes "pure") u0 u1 b1 t1
 
-  pub decl_filled : (new : List Placed) (p : Ident × List Ident × Ident) → read_map signature_parts (signature d u4.left) ≡ done p new → u0.left ≡ [] → ⊥
+  pub decl_filled : (new : List Placed) (p : Ident × List Ident × Ident) → read_map signature_parts (signature d u4.left) ≡ done p new → u0.left ≡ []
+      → ⊥
   decl_filled new p e none =
       let some = mapped_from signature_parts (signature d u4.left) p new e in
       let read : decl d u0.left ≡ done (decl_of (first_pos u0.left, (b1, (b2, (b3, (b4, some.0)))))) new = decl_flags ∙ ap (read_map _) some.1 in
@@ -83,10 +87,28 @@ module _ (d : ℕ) (u0 u1 u2 u3 u4 : RemainingTokens) (b1 b2 b3 b4 : Bool) (t1 :
       cc
 
   pub decl_reads : (new : List Placed) (p : Ident × List Ident × Ident) → read_map signature_parts (signature d u4.left) ≡ done p new
-      → decl d u0.left ≡ done (record { term = p.0; arg_tys = p.1; ret_ty = p.2; pure = b1; multi = b2; partial = b3; rec = b4; pos = remaining_pos u0 }) new
+      → decl d u0.left ≡ done (record {
+        term = p.0;
+        arg_tys = p.1;
+        ret_ty = p.2;
+        pure = b1;
+        multi = b2;
+        partial = b3;
+        rec = b4;
+        pos = remaining_pos u0;
+      }) new
   decl_reads new p e =
       let some = mapped_from signature_parts (signature d u4.left) p new e in
       let here = stands_at u0 (decl_filled new p e) in
       decl_flags ∙ ap (read_map _) some.1
-      ∙ ap (λ (q : Ident × List Ident × Ident). done (record { term = q.0; arg_tys = q.1; ret_ty = q.2; pure = b1; multi = b2; partial = b3; rec = b4; pos = first_pos u0.left }) new) some.2
+      ∙ ap (λ (q : Ident × List Ident × Ident). done (record {
+        term = q.0;
+        arg_tys = q.1;
+        ret_ty = q.2;
+        pure = b1;
+        multi = b2;
+        partial = b3;
+        rec = b4;
+        pos = first_pos u0.left;
+      }) new) some.2
       ∙ ap (λ k. done (record { term = p.0; arg_tys = p.1; ret_ty = p.2; pure = b1; multi = b2; partial = b3; rec = b4; pos = k }) new) (sym here)

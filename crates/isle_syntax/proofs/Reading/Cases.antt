@@ -23,11 +23,13 @@ module _ {X : Type 0} (c : List Placed → X) (looks : Looks c) where
   pub looks_phrase : (ts v w x : List Placed) → (v ≡ [] → ⊥) → SameNext ts x → v ++ w ≡ x → c v ≡ c ts
   looks_phrase ts v w x some same_next e = sym (looks_append v w some) ∙ ap c e ∙ looks_same_next ts x same_next
 
-module _ {X A B : Type 0} (c : List Placed → X) (looks : Looks c) (L : A → List Placed → Type 0) (K : B → List Placed → Type 0) (F : List Placed → Type 0) (d e : ℕ)
+module _ {X A B : Type 0} (c : List Placed → X) (looks : Looks c) (L : A → List Placed → Type 0) (K : B → List Placed → Type 0) (F : List Placed
+    → Type 0) (d e : ℕ)
     (ts : List Placed) (x : X) (at : c ts ≡ x) (f : A → B)
     (into : (a : A) (u : List Placed) → L a u → c u ≡ x → K (f a) u)
     (back : (b : B) (v : List Placed) → K b v → c v ≡ x → (a : A) × (b ≡ f a) × L a v)
-    (filled : (a : A) (u : List Placed) → L a u → u ≡ [] → ⊥) (each_filled : (b : B) (v : List Placed) → K b v → v ≡ [] → ⊥) (some : Begins K []) where
+    (filled : (a : A) (u : List Placed) → L a u → u ≡ [] → ⊥) (each_filled : (b : B) (v : List Placed) → K b v → v ≡ []
+    → ⊥) (some : Begins K []) where
   begins_more : (u v r : List Placed) → (u ≡ [] → ⊥) → ts ≡ u ++ r → c (u ++ v) ≡ x
   begins_more u v r more e = looks_append c looks u v more ∙ sym (looks_append c looks u r more) ∙ ap c (sym e) ∙ at
 
@@ -77,7 +79,8 @@ module _ {X A B : Type 0} (c : List Placed → X) (looks : Looks c) (L : A → L
   }
 
 -- where no phrase begins with such a token
-pub follows_no_case : {X B : Type 0} (c : List Placed → X) (looks : Looks c) (K : B → List Placed → Type 0) (F : List Placed → Type 0) (d e : ℕ) (ts : List Placed)
+pub follows_no_case : {X B : Type 0} (c : List Placed → X) (looks : Looks c) (K : B → List Placed → Type 0) (F : List Placed
+    → Type 0) (d e : ℕ) (ts : List Placed)
     (x : X) → c ts ≡ x → ((b : B) (v : List Placed) → K b v → c v ≡ x → ⊥) → ((b : B) (v : List Placed) → K b v → v ≡ [] → ⊥) → Begins K []
     → FollowsAt K F d e ts (fault ts)
 follows_no_case c looks K F d e ts x at none filled some =
@@ -89,7 +92,8 @@ first_append : (u v : List Placed) → (u ≡ [] → ⊥) → first_pos (u ++ v)
 first_append [] v e = absurd (e refl)
 first_append (t ∷ u) v e = refl
 
-module _ {A : Type 0} (L : A → List Placed → Type 0) (F : List Placed → Type 0) (d e : ℕ) (ts : List Placed) (filled : (a : A) (u : List Placed) → L a u → u ≡ [] → ⊥) where
+module _ {A : Type 0} (L : A → List Placed → Type 0) (F : List Placed → Type 0) (d e : ℕ) (ts : List Placed) (filled : (a : A) (u : List Placed)
+    → L a u → u ≡ [] → ⊥) where
   follows_from_at : (r : Read A) → FollowsAt L F d e ts r → FollowsAt (From L) F d e ts (read_map (λ a. (first_pos ts, a)) r)
   follows_from_at (done a r) g = record {
     used = g.used;
@@ -123,6 +127,7 @@ module _ {A : Type 0} (L : A → List Placed → Type 0) (F : List Placed → Ty
     nests = g.nests;
   }
 
-pub follows_from : {A : Type 0} {L : A → List Placed → Type 0} {F : List Placed → Type 0} {d e : ℕ} {p : Reader A} → ((a : A) (u : List Placed) → L a u → u ≡ [] → ⊥)
+pub follows_from : {A : Type 0} {L : A → List Placed → Type 0} {F : List Placed → Type 0} {d e : ℕ} {p : Reader A}
+    → ((a : A) (u : List Placed) → L a u → u ≡ [] → ⊥)
     → Follows L F d e p → Follows (From L) F d e (from p)
 follows_from {L = L} {F = F} {d = d} {e = e} {p = p} filled g = record { reads = λ ts. follows_from_at L F d e ts filled (p ts) (g.reads ts) }

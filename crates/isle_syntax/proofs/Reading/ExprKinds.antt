@@ -11,7 +11,8 @@ use Rattle.isle_syntax.specs.Reading.KindOf.{kind_at, symbol_kind}
 use Rattle.isle_syntax.specs.Grammar.Phrases.{next_symbol_is}
 use Rattle.isle_syntax.specs.Reading.Readers.{done, Reader, read_map, seq, rest_of, opened, shut, closed, symbol_of, says}
 use Rattle.isle_syntax.specs.Trees.ExprTree.{ExprTree}
-use Rattle.isle_syntax.specs.Reading.TreeReading.{symbol_expr, LetBinding, call, bound_in, inner_expr, inner_on, expr_list, let_list, let_binding, expr, expr_inner}
+use Rattle.isle_syntax.specs.Reading.TreeReading.{symbol_expr, LetBinding, call, bound_in, inner_expr, inner_on, expr_list, let_list, let_binding}
+use Rattle.isle_syntax.specs.Reading.TreeReading.{expr, expr_inner}
 use Rattle.isle_syntax.specs.Reading.KindReading.{expr_on}
 use Rattle.isle_syntax.proofs.Reading.SymbolKinds.{Known, symbol_known}
 use Rattle.isle_syntax.proofs.Reading.ReadSteps.{seq_done, map_seq_done}
@@ -42,30 +43,37 @@ pub expr_list_shut : (ts : List Placed) → expr_list 0 ts ≡ shut ts
 unfolding expr_list
 expr_list_shut ts = refl
 
-pub expr_list_opens : (d : ℕ) (p : Pos) (ts r : List Placed) → 0 < d → opened ts ≡ done p r → expr_list d ts ≡ read_map (inner_expr p) (expr_inner (d - 1) r)
+pub expr_list_opens : (d : ℕ) (p : Pos) (ts r : List Placed) → 0 < d → opened ts ≡ done p r
+    → expr_list d ts ≡ read_map (inner_expr p) (expr_inner (d - 1) r)
 unfolding expr_list
 expr_list_opens zero p ts r h e = absurd (omega arith)
 expr_list_opens (suc d) p ts r h e =
-    let same : d ≡ suc d - 1 = omega arith in map_seq_done opened (expr_inner d) ts r (λ x. inner_expr x.0 x.1) p e ∙ ap (λ n. read_map (inner_expr p) (expr_inner n r)) same
+    let same : d ≡ suc d - 1 = omega arith in map_seq_done opened (expr_inner d) ts r (λ x. inner_expr x.0 x.1) p e
+    ∙ ap (λ n. read_map (inner_expr p) (expr_inner n r)) same
 
 -- where the word isn't `let`
 pub inner_call : (d : ℕ) (x : Ident) (ts r : List Placed) → false ≡ next_symbol_is (is_word (codes "let")) ts → symbol_of is_ident ts ≡ done x r
     → expr_inner d ts ≡ read_map (call x) (rest_of (expr d) r)
-inner_call d x ts r n e = ap (λ b. inner_on (expr d) (let_list d) b ts) (sym n) ∙ map_seq_done (symbol_of is_ident) (rest_of (expr d)) ts r (λ x. call x.0 x.1) x e
+inner_call d x ts r n e = ap (λ b. inner_on (expr d) (let_list d) b ts) (sym n)
+    ∙ map_seq_done (symbol_of is_ident) (rest_of (expr d)) ts r (λ x. call x.0 x.1) x e
 
 -- where it is, what follows it, what follows the bindings, and the closing parenthesis
 pub inner_let : (d : ℕ) (ts r : List Placed) → true ≡ next_symbol_is (is_word (codes "let")) ts → says (codes "let") ts ≡ done tt r
     → expr_inner d ts ≡ read_map (λ x. bound_in x.0.1 x.1.0) (seq (let_list d) (seq (expr d) closed) r)
 inner_let d ts r n e =
-    ap (λ b. inner_on (expr d) (let_list d) b ts) (sym n) ∙ map_seq_done (says (codes "let")) (seq (let_list d) (seq (expr d) closed)) ts r (λ x. bound_in x.1.0.1 x.1.1.0) tt e
+    ap (λ b. inner_on (expr d) (let_list d) b ts) (sym n)
+    ∙ map_seq_done (says (codes "let")) (seq (let_list d) (seq (expr d) closed)) ts r (λ x. bound_in x.1.0.1 x.1.1.0) tt e
 
-pub inner_let_bound : (d : ℕ) (lets : Pos × List LetBinding) (ts r s : List Placed) → true ≡ next_symbol_is (is_word (codes "let")) ts → says (codes "let") ts ≡ done tt r → let_list d r ≡ done lets s
+pub inner_let_bound : (d : ℕ) (lets : Pos × List LetBinding) (ts r s : List Placed) → true ≡ next_symbol_is (is_word (codes "let")) ts
+    → says (codes "let") ts ≡ done tt r → let_list d r ≡ done lets s
     → expr_inner d ts ≡ read_map (λ x. bound_in lets.1 x.0) (seq (expr d) closed s)
 inner_let_bound d lets ts r s n e f = inner_let d ts r n e ∙ map_seq_done (let_list d) (seq (expr d) closed) r s (λ x. bound_in x.0.1 x.1.0) lets f
 
-pub inner_let_closed : (d : ℕ) (lets : Pos × List LetBinding) (body : ExprTree) (ts r s q : List Placed) → true ≡ next_symbol_is (is_word (codes "let")) ts → says (codes "let") ts ≡ done tt r → let_list d r ≡ done lets s → expr d s ≡ done body q
+pub inner_let_closed : (d : ℕ) (lets : Pos × List LetBinding) (body : ExprTree) (ts r s q : List Placed)
+    → true ≡ next_symbol_is (is_word (codes "let")) ts → says (codes "let") ts ≡ done tt r → let_list d r ≡ done lets s → expr d s ≡ done body q
     → expr_inner d ts ≡ read_map (λ u. bound_in lets.1 body) (closed q)
-inner_let_closed d lets body ts r s q n e f g = inner_let_bound d lets ts r s n e f ∙ map_seq_done (expr d) closed s q (λ x. bound_in lets.1 x.0) body g
+inner_let_closed d lets body ts r s q n e f g =
+    inner_let_bound d lets ts r s n e f ∙ map_seq_done (expr d) closed s q (λ x. bound_in lets.1 x.0) body g
 
 -- ---- bindings
 
@@ -73,11 +81,13 @@ pub let_list_shut : (ts : List Placed) → let_list 0 ts ≡ shut ts
 unfolding let_list
 let_list_shut ts = refl
 
-pub let_list_opens : (d : ℕ) (p : Pos) (ts r : List Placed) → 0 < d → opened ts ≡ done p r → let_list d ts ≡ read_map (λ l. (p, l)) (rest_of (let_binding (d - 1)) r)
+pub let_list_opens : (d : ℕ) (p : Pos) (ts r : List Placed) → 0 < d → opened ts ≡ done p r
+    → let_list d ts ≡ read_map (λ l. (p, l)) (rest_of (let_binding (d - 1)) r)
 unfolding let_list
 let_list_opens zero p ts r h e = absurd (omega arith)
 let_list_opens (suc d) p ts r h e =
-    let same : d ≡ suc d - 1 = omega arith in seq_done opened (rest_of (let_binding d)) ts r p e ∙ ap (λ n. read_map (λ l. (p, l)) (rest_of (let_binding n) r)) same
+    let same : d ≡ suc d - 1 = omega arith in seq_done opened (rest_of (let_binding d)) ts r p e
+    ∙ ap (λ n. read_map (λ l. (p, l)) (rest_of (let_binding n) r)) same
 
 pub let_binding_shut : (ts : List Placed) → let_binding 0 ts ≡ shut ts
 unfolding let_binding
@@ -86,7 +96,8 @@ let_binding_shut ts = refl
 abbrev typed : ℕ → Reader (Ident × (ExprTree × Unit {0}))
 typed d = seq (symbol_of is_ident) (seq (expr d) closed)
 
-pub let_binding_opens : (d : ℕ) (p : Pos) (ts r : List Placed) → 0 < d → opened ts ≡ done p r → let_binding d ts ≡ read_map (λ x. (p, x)) (seq (symbol_of is_ident) (seq (symbol_of is_ident) (seq (expr (d - 1)) closed)) r)
+pub let_binding_opens : (d : ℕ) (p : Pos) (ts r : List Placed) → 0 < d → opened ts ≡ done p r
+    → let_binding d ts ≡ read_map (λ x. (p, x)) (seq (symbol_of is_ident) (seq (symbol_of is_ident) (seq (expr (d - 1)) closed)) r)
 unfolding let_binding
 let_binding_opens zero p ts r h e = absurd (omega arith)
 let_binding_opens (suc d) p ts r h e =
@@ -102,5 +113,6 @@ module _ (d : ℕ) (p : Pos) (ts r : List Placed) (h : 0 < d) (e : opened ts ≡
       pub let_binding_typed : let_binding d ts ≡ read_map (λ b. (p, (x, (ty, b)))) (seq (expr (d - 1)) closed q)
       let_binding_typed = let_binding_named ∙ map_seq_done (symbol_of is_ident) (seq (expr (d - 1)) closed) s q (λ b. (p, (x, b))) ty g
 
-      pub let_binding_closed : (value : ExprTree) (t : List Placed) → expr (d - 1) q ≡ done value t → let_binding d ts ≡ read_map (λ b. (p, (x, (ty, (value, b))))) (closed t)
+      pub let_binding_closed : (value : ExprTree) (t : List Placed) → expr (d - 1) q ≡ done value t
+          → let_binding d ts ≡ read_map (λ b. (p, (x, (ty, (value, b))))) (closed t)
       let_binding_closed value t k = let_binding_typed ∙ map_seq_done (expr (d - 1)) closed q t (λ b. (p, (x, (ty, b)))) value k

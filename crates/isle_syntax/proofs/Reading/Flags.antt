@@ -31,11 +31,13 @@ module _ {A : Type 0} (w : List ℕ) (L : A → List Placed → Type 0) (filled 
   flag_filled (true, b) v o e = false≢true (ap (next_symbol_is (is_word w)) (sym e) ∙ flag_first b v o)
   flag_filled (false, b) v o e = filled b v o.0 e
 
-  module _ (F : List Placed → Type 0) (d e : ℕ) (q : Reader A) (good : Follows L F d e q) (other : (b : A) × (v : List Placed) × L b v × (next_symbol_is (is_word w) v ≡ false)) where
+  module _ (F : List Placed → Type 0) (d e : ℕ) (q : Reader A) (good : Follows L F d e q) (other : (b : A) × (v : List Placed) × L b v
+      × (next_symbol_is (is_word w) v ≡ false)) where
     some_flag : Begins (Flagged w L) []
     some_flag = ((false, other.0), other.1, (other.2, other.3))
 
-    with_flag : (b : Bool × A) (v : List Placed) → Flagged w L b v → next_symbol_is (is_word w) v ≡ true → (a : Unit {0} × A) × (b ≡ (true, a.1)) × Both (Says w) L a v
+    with_flag : (b : Bool × A) (v : List Placed) → Flagged w L b v → next_symbol_is (is_word w) v ≡ true → (a : Unit {0} × A) × (b ≡ (true, a.1))
+        × Both (Says w) L a v
     with_flag (true, b) v o h = ((tt, b), refl, o)
     with_flag (false, b) v o h = absurd (false≢true (sym o.1 ∙ h))
 
@@ -48,10 +50,12 @@ module _ {A : Type 0} (w : List ℕ) (L : A → List Placed → Type 0) (filled 
 
     follows_flag_at : (ts : List Placed) (b : Bool) → next_symbol_is (is_word w) ts ≡ b → FollowsAt (Flagged w L) F d e ts (optional_on w q b ts)
     follows_flag_at ts true at =
-        follows_case (next_symbol_is (is_word w)) (names_looks (is_word w)) (Both (Says w) L) (Flagged w L) F d e ts true at (λ x. (true, x.1)) (λ a u l h. l) with_flag seq_filled flag_filled some_flag
+        follows_case (next_symbol_is (is_word w)) (names_looks (is_word w)) (Both (Says w) L) (Flagged w L) F d e ts true at (λ x. (true, x.1))
+        (λ a u l h. l) with_flag seq_filled flag_filled some_flag
         (seq (says w) q ts) ((follows_seq (other.0, other.1, other.2) (follows_says w d) good).reads ts)
     follows_flag_at ts false at =
-        follows_case (next_symbol_is (is_word w)) (names_looks (is_word w)) L (Flagged w L) F d e ts false at (λ b. (false, b)) (λ a u l h. (l, h)) no_flag filled flag_filled some_flag
+        follows_case (next_symbol_is (is_word w)) (names_looks (is_word w)) L (Flagged w L) F d e ts false at (λ b. (false, b)) (λ a u l h. (l, h))
+        no_flag filled flag_filled some_flag
         (q ts) (good.reads ts)
 
     pub follows_flag : Follows (Flagged w L) F d e (optional w q)

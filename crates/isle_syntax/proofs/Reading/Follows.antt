@@ -1,9 +1,11 @@
 -- What it takes for reading to follow what is spelt: on success the tokens before are the only ones that spell
 -- anything there, and at a fault some spelt text goes on from before the token, and none from it on.
-use Rattle.std.proofs.Common.{◌≡◌, ℕ, zero, suc, ◌<◌, List, [], ◌∷◌, ◌++◌, length, Option, Some, None, refl, sym, ap, subst, ◌∙◌, append_assoc, length-append, arith}
+use Rattle.std.proofs.Common.{◌≡◌, ℕ, zero, suc, ◌<◌, List, [], ◌∷◌, ◌++◌, length, Option, Some, None, refl, sym, ap, subst, ◌∙◌, append_assoc}
+use Rattle.std.proofs.Common.{length-append, arith}
 use Rattle.std.specs.Prelude.{option_and_then}
 use Rattle.isle_syntax.specs.Tokens.PlacedTokens.{Placed, opening, closing, at_sign, symbol, int}
-use Rattle.isle_syntax.specs.Reading.Readers.{Read, done, fault, deep, Reader, after, read_map, seq, after_close, many, many_turn, at_end, rest_of, all_of}
+use Rattle.isle_syntax.specs.Reading.Readers.{Read, done, fault, deep, Reader, after, read_map, seq, after_close, many, many_turn, at_end, rest_of}
+use Rattle.isle_syntax.specs.Reading.Readers.{all_of}
 use Rattle.isle_syntax.specs.declared.lexer.Pos.{Pos}
 use Rattle.isle_syntax.specs.Grammar.Phrases.{Both, Each, Closed, depth_left_after, depth_left}
 
@@ -25,7 +27,8 @@ pub record Impossible {A : Type 0} (L : A → List Placed → Type 0) (F : List 
 abbrev pub Begins : {A : Type 0} → (A → List Placed → Type 0) → List Placed → Type 0
 Begins {A} L u = (a : A) × (v : List Placed) × L a (u ++ v)
 
-pub record Done {A : Type 0} (L : A → List Placed → Type 0) (F : List Placed → Type 0) (d e : ℕ) (ts : List Placed) (a : A) (r : List Placed) : Type 0 where
+pub record Done {A : Type 0} (L : A → List Placed → Type 0) (F : List Placed
+    → Type 0) (d e : ℕ) (ts : List Placed) (a : A) (r : List Placed) : Type 0 where
   pub used : List Placed
   pub split : ts ≡ used ++ r
   pub spelt : L a used
@@ -68,7 +71,8 @@ pub same_next_append : (v r s : List Placed) → SameNext r s → SameNext (v ++
 same_next_append [] r s n = n
 same_next_append (t ∷ v) r s n = (v ++ s, refl)
 
-depth_left-append_some : (o : Option ℕ) (u v : List Placed) (e : ℕ) → ((d : ℕ) → depth_left d u ≡ Some e → depth_left d (u ++ v) ≡ depth_left e v) → option_and_then (λ m. depth_left m u) o ≡ Some e → option_and_then (λ m. depth_left m (u ++ v)) o ≡ depth_left e v
+depth_left-append_some : (o : Option ℕ) (u v : List Placed) (e : ℕ) → ((d : ℕ) → depth_left d u ≡ Some e → depth_left d (u ++ v) ≡ depth_left e v)
+    → option_and_then (λ m. depth_left m u) o ≡ Some e → option_and_then (λ m. depth_left m (u ++ v)) o ≡ depth_left e v
 depth_left-append_some None u v e ih h = absurd (cc)
 depth_left-append_some (Some m) u v e ih h = ih m h
 
@@ -94,7 +98,8 @@ module _ {A B : Type 0} (L : A → List Placed → Type 0) (M : B → List Place
   longer : (u : List Placed) → Begins L u → Begins (Both L M) u
   longer u b = ((b.0, some.0), b.1 ++ some.1, (u ++ b.1, some.1, sym (append_assoc u b.1 some.1), b.2, some.2))
 
-  seq_second : (a : A) (r : List Placed) → Done L F1 d e ts a r → (y : Read B) → FollowsAt M F e f r y → FollowsAt (Both L M) F d f ts (read_map (λ b. (a, b)) y)
+  seq_second : (a : A) (r : List Placed) → Done L F1 d e ts a r → (y : Read B) → FollowsAt M F e f r y
+      → FollowsAt (Both L M) F d f ts (read_map (λ b. (a, b)) y)
   seq_second a r g (done b r2) h = record {
     used = g.used ++ h.used;
     split = g.split ∙ ap (λ x. g.used ++ x) h.split ∙ sym (append_assoc g.used h.used r2);
@@ -145,7 +150,8 @@ module _ {A B : Type 0} (L : A → List Placed → Type 0) (M : B → List Place
     nests = depth_left-append d g.used h.used e g.nests ∙ h.nests;
   }
 
-  pub follows_seq_at : (q : Reader B) (x : Read A) → FollowsAt L F1 d e ts x → ((a : A) (r : List Placed) → Done L F1 d e ts a r → FollowsAt M F e f r (q r))
+  pub follows_seq_at : (q : Reader B) (x : Read A) → FollowsAt L F1 d e ts x
+      → ((a : A) (r : List Placed) → Done L F1 d e ts a r → FollowsAt M F e f r (q r))
       → FollowsAt (Both L M) F d f ts (after x (λ a r. read_map (λ b. (a, b)) (q r)))
   follows_seq_at q (done a r) g gq = seq_second a r g (q r) (gq a r g)
   follows_seq_at q (fault r) g gq = record {
@@ -154,7 +160,10 @@ module _ {A B : Type 0} (L : A → List Placed → Type 0) (M : B → List Place
     begins = longer g.used g.begins;
     left = g.left;
     nests = g.nests;
-    never = record { holds = λ s same_next x v w bl fw q'. g.never.holds s same_next x.0 bl.0 (bl.1 ++ w) bl.3 (follows x.1 bl.1 w bl.4 fw) (regroup x v w _ bl q') };
+    never = record {
+      holds = λ s same_next x v w bl fw q'. g.never.holds s same_next x.0 bl.0 (bl.1
+          ++ w) bl.3 (follows x.1 bl.1 w bl.4 fw) (regroup x v w _ bl q');
+    };
   }
   follows_seq_at q (deep r) g gq = record {
     used = g.used;
@@ -170,13 +179,16 @@ module _ {A B : Type 0} (L : A → List Placed → Type 0) (M : B → List Place
 abbrev pub Any : List Placed → Type 0
 Any ts = Unit {0}
 
-pub follows_seq : {A B : Type 0} {L : A → List Placed → Type 0} {M : B → List Placed → Type 0} {F : List Placed → Type 0} {d e f : ℕ} {p : Reader A} {q : Reader B}
+pub follows_seq : {A B : Type 0} {L : A → List Placed → Type 0} {M : B → List Placed → Type 0} {F : List Placed
+    → Type 0} {d e f : ℕ} {p : Reader A} {q : Reader B}
     → Begins M [] → Follows L Any d e p → Follows M F e f q → Follows (Both L M) F d f (seq p q)
-follows_seq {L = L} {M = M} {F = F} {d = d} {e = e} {f = f} {p = p} {q = q} some gp gq = record { reads = λ ts. follows_seq_at L M Any F d e f ts (λ b v w m fw. tt) some q (p ts) (gp.reads ts) (λ a r g. gq.reads r) }
+follows_seq {L = L} {M = M} {F = F} {d = d} {e = e} {f = f} {p = p} {q = q} some gp gq =
+    record { reads = λ ts. follows_seq_at L M Any F d e f ts (λ b v w m fw. tt) some q (p ts) (gp.reads ts) (λ a r g. gq.reads r) }
 
 -- ---- the same under another name
 
-module _ {A B : Type 0} (L : A → List Placed → Type 0) (K : B → List Placed → Type 0) (F : List Placed → Type 0) (d e : ℕ) (ts : List Placed) (f : A → B)
+module _ {A B : Type 0} (L : A → List Placed → Type 0) (K : B → List Placed → Type 0) (F : List Placed → Type 0) (d e : ℕ) (ts : List Placed) (f : A
+    → B)
     (into : (a : A) (u : List Placed) → L a u → K (f a) u)
     (from : (b : B) (v w x : List Placed) → SameNext ts x → K b v → F w → v ++ w ≡ x → (a : A) × (b ≡ f a) × L a v) where
   pub follows_image : (x : Read A) → FollowsAt L F d e ts x → FollowsAt K F d e ts (read_map f x)
@@ -229,7 +241,8 @@ follows_refusal {d = d} e ts some none = record {
   never = record { holds = λ s same_next b v w l fw q. none b v w s same_next l q };
 }
 
-pub follows_token : {A : Type 0} {L : A → List Placed → Type 0} {F : List Placed → Type 0} {d e : ℕ} (t : Placed) (ts : List Placed) (a : A) → L a (t ∷ [])
+pub follows_token : {A : Type 0} {L : A → List Placed → Type 0} {F : List Placed → Type 0} {d e : ℕ} (t : Placed) (ts : List Placed) (a : A)
+    → L a (t ∷ [])
     → depth_left_after d t ≡ Some e
     → ((b : A) (v w y : List Placed) → L b v → F w → v ++ w ≡ t ∷ y → (b ≡ a) × (v ≡ t ∷ [])) → FollowsAt L F d e (t ∷ ts) (done a ts)
 follows_token {d = d} {e = e} t ts a l r only = record {
@@ -254,7 +267,8 @@ positive L s a (t ∷ u) l = omega arith
 shorter : (u r ts : List Placed) (n : ℕ) → ts ≡ u ++ r → 0 < length u → length ts < suc n → length r < n
 shorter u r ts n e h k = omega (arith, ap length e, length-append u r)
 
-module _ {A : Type 0} (L : A → List Placed → Type 0) (F1 F : List Placed → Type 0) (d : ℕ) (p : Reader A) (good : Follows L F1 d d p) (starts : Starts L)
+module _ {A : Type 0} (L : A → List Placed → Type 0) (F1 F : List Placed
+    → Type 0) (d : ℕ) (p : Reader A) (good : Follows L F1 d d p) (starts : Starts L)
     (before : (b : A) (v w : List Placed) → L b v → F1 (v ++ w)) (last : (q : Pos) (w : List Placed) → F1 (closing q ∷ w)) where
   closed_before : (b : List A) (v w : List Placed) → Closed L b v → F w → F1 (v ++ w)
   closed_before [] v w c fw =
@@ -262,15 +276,18 @@ module _ {A : Type 0} (L : A → List Placed → Type 0) (F1 F : List Placed →
       subst F1 whole (last c.4.0 w)
   closed_before (a ∷ rest) v w c fw =
       let e = c.3 in
-      let whole : e.0 ++ (e.1 ++ (c.1 ++ w)) ≡ v ++ w = sym (append_assoc e.0 e.1 (c.1 ++ w)) ∙ ap (λ x. x ++ (c.1 ++ w)) (sym e.2) ∙ sym (append_assoc c.0 c.1 w) ∙ ap (λ x. x ++ w) (sym c.2) in
+      let whole : e.0 ++ (e.1 ++ (c.1 ++ w)) ≡ v ++ w = sym (append_assoc e.0 e.1 (c.1 ++ w)) ∙ ap (λ x. x ++ (c.1 ++ w)) (sym e.2)
+      ∙ sym (append_assoc c.0 c.1 w) ∙ ap (λ x. x ++ w) (sym c.2) in
       subst F1 whole (before a e.0 (e.1 ++ (c.1 ++ w)) e.3)
 
   one_more : (x : A × List A) (v : List Placed) → Both L (Closed L) x v → Closed L (x.0 ∷ x.1) v
   one_more x v b = let c = b.4 in (b.0 ++ c.0, c.1, b.2 ∙ ap (λ y. b.0 ++ y) c.2 ∙ sym (append_assoc b.0 c.0 c.1), (b.0, c.0, refl, b.3, c.3), c.4)
 
-  not_empty : (b : List A) (v w y : List Placed) (q : Pos) → Closed L b v → ((q : Pos) (y : List Placed) → v ++ w ≡ closing q ∷ y → ⊥) → (x : A × List A) × (b ≡ x.0 ∷ x.1) × Both L (Closed L) x v
+  not_empty : (b : List A) (v w y : List Placed) (q : Pos) → Closed L b v → ((q : Pos) (y : List Placed) → v ++ w ≡ closing q ∷ y → ⊥)
+      → (x : A × List A) × (b ≡ x.0 ∷ x.1) × Both L (Closed L) x v
   not_empty [] v w y q c none = absurd (none c.4.0 w (ap (λ x. x ++ w) (c.2 ∙ (λ i. c.3 i ++ c.4.1 i))))
-  not_empty (a ∷ rest) v w y q c none = let e = c.3 in ((a, rest), refl, (e.0, e.1 ++ c.1, c.2 ∙ ap (λ x. x ++ c.1) e.2 ∙ append_assoc e.0 e.1 c.1, e.3, (e.1, c.1, refl, e.4, c.4)))
+  not_empty (a ∷ rest) v w y q c none = let e = c.3 in
+      ((a, rest), refl, (e.0, e.1 ++ c.1, c.2 ∙ ap (λ x. x ++ c.1) e.2 ∙ append_assoc e.0 e.1 c.1, e.3, (e.1, c.1, refl, e.4, c.4)))
 
   closed_some : Begins (Closed L) []
   closed_some = ([], closing start ∷ [], ([], closing start ∷ [], refl, refl, (start, refl)))
@@ -282,12 +299,14 @@ module _ {A : Type 0} (L : A → List Placed → Type 0) (F1 F : List Placed →
       (refl, whole ∙ ap (λ k. closing k ∷ []) (cc))
   closed_here (a ∷ rest) v w y q c e =
       let h = c.3 in
-      absurd (starts.inside a h.0 (h.1 ++ (c.1 ++ w)) y q h.3 (sym (append_assoc h.0 h.1 (c.1 ++ w)) ∙ ap (λ x. x ++ (c.1 ++ w)) (sym h.2) ∙ sym (append_assoc c.0 c.1 w) ∙ ap (λ x. x ++ w) (sym c.2) ∙ e))
+      absurd (starts.inside a h.0 (h.1 ++ (c.1 ++ w)) y q h.3 (sym (append_assoc h.0 h.1 (c.1 ++ w)) ∙ ap (λ x. x ++ (c.1 ++ w)) (sym h.2)
+      ∙ sym (append_assoc c.0 c.1 w) ∙ ap (λ x. x ++ w) (sym c.2) ∙ e))
 
   pub closed_filled : (b : List A) (v w : List Placed) → Closed L b v → v ++ w ≡ [] → ⊥
   closed_filled b v w c e = filled_end c.0 c.4.0 (ap (λ x. c.0 ++ x) (sym c.4.1) ∙ sym c.2 ∙ nothing_before v w (sym e))
 
-  closed_turn_follows : (n : ℕ) (ts : List Placed) → length ts < suc n → after_close ts ≡ None → ((x : List Placed) (q : Pos) (y : List Placed) → SameNext ts x → x ≡ closing q ∷ y → ⊥)
+  closed_turn_follows : (n : ℕ) (ts : List Placed) → length ts < suc n → after_close ts ≡ None
+      → ((x : List Placed) (q : Pos) (y : List Placed) → SameNext ts x → x ≡ closing q ∷ y → ⊥)
       → ((r : List Placed) → length r < n → FollowsAt (Closed L) F d (suc d) r (many after_close p n r))
       → FollowsAt (Closed L) F d (suc d) ts (many_turn p (many after_close p n) None ts)
   closed_turn_follows n ts fits going none ih =
@@ -301,7 +320,8 @@ module _ {A : Type 0} (L : A → List Placed → Type 0) (F1 F : List Placed →
   unfolding many
   follows_closed zero ts fits = absurd (omega arith)
   follows_closed (suc n) [] fits = closed_turn_follows n [] fits refl (λ x q y same_next e. cc (same_next, e)) (follows_closed n)
-  follows_closed (suc n) (closing q ∷ ts) fits = follows_token (closing q) ts [] ([], closing q ∷ [], refl, refl, (q, refl)) refl (λ b v w y c fw e. closed_here b v w y q c e)
+  follows_closed (suc n) (closing q ∷ ts) fits =
+      follows_token (closing q) ts [] ([], closing q ∷ [], refl, refl, (q, refl)) refl (λ b v w y c fw e. closed_here b v w y q c e)
   follows_closed (suc n) (opening q ∷ ts) fits = closed_turn_follows n _ fits refl (λ x k y same_next e. cc (same_next.1, e)) (follows_closed n)
   follows_closed (suc n) (at_sign q ∷ ts) fits = closed_turn_follows n _ fits refl (λ x k y same_next e. cc (same_next.1, e)) (follows_closed n)
   follows_closed (suc n) (symbol q s ∷ ts) fits = closed_turn_follows n _ fits refl (λ x k y same_next e. cc (same_next.1, e)) (follows_closed n)
@@ -311,8 +331,10 @@ module _ {A : Type 0} (L : A → List Placed → Type 0) (F1 F : List Placed →
   follows_rest_of = record { reads = λ ts. follows_closed (suc (length ts)) ts (omega arith) }
 
 -- what was read is shorter than what it was read from
-pub shorter_after : {A : Type 0} (L : A → List Placed → Type 0) (F : List Placed → Type 0) (d e : ℕ) (ts : List Placed) → Starts L → (x : Read A) → FollowsAt L F d e ts x → (a : A) (r : List Placed) → x ≡ done a r → length r < length ts
-shorter_after L F d e ts s (done b q) g a r h = let same : q ≡ r = cc in omega (arith, ap length same, ap length g.split, length-append g.used q, positive L s b g.used g.spelt)
+pub shorter_after : {A : Type 0} (L : A → List Placed → Type 0) (F : List Placed → Type 0) (d e : ℕ) (ts : List Placed) → Starts L → (x : Read A)
+    → FollowsAt L F d e ts x → (a : A) (r : List Placed) → x ≡ done a r → length r < length ts
+shorter_after L F d e ts s (done b q) g a r h = let same : q ≡ r = cc in
+    omega (arith, ap length same, ap length g.split, length-append g.used q, positive L s b g.used g.spelt)
 shorter_after L F d e ts s (fault q) g a r h = cc
 shorter_after L F d e ts s (deep q) g a r h = cc
 
@@ -321,7 +343,8 @@ shorter_after L F d e ts s (deep q) g a r h = cc
 abbrev pub AtEnd : List Placed → Type 0
 AtEnd ts = ts ≡ []
 
-module _ {A : Type 0} (L : A → List Placed → Type 0) (F1 : List Placed → Type 0) (d : ℕ) (p : Reader A) (good : Follows L F1 d d p) (starts : Starts L)
+module _ {A : Type 0} (L : A → List Placed → Type 0) (F1 : List Placed
+    → Type 0) (d : ℕ) (p : Reader A) (good : Follows L F1 d d p) (starts : Starts L)
     (before : (b : A) (v w : List Placed) → L b v → F1 (v ++ w)) (last : F1 []) where
   each_before : (b : List A) (v w : List Placed) → Each L b v → AtEnd w → F1 (v ++ w)
   each_before [] v w c fw = subst F1 ((λ i. sym c i ++ sym fw i)) last
@@ -331,7 +354,8 @@ module _ {A : Type 0} (L : A → List Placed → Type 0) (F1 : List Placed → T
   each_empty [] v c e = refl
   each_empty (a ∷ rest) v c e = absurd (starts.filled a c.0 c.3 (nothing_before c.0 c.1 (sym e ∙ c.2)))
 
-  each_some : (b : List A) (v w y : List Placed) (t : Placed) → Each L b v → AtEnd w → v ++ w ≡ t ∷ y → (x : A × List A) × (b ≡ x.0 ∷ x.1) × Both L (Each L) x v
+  each_some : (b : List A) (v w y : List Placed) (t : Placed) → Each L b v → AtEnd w → v ++ w ≡ t ∷ y
+      → (x : A × List A) × (b ≡ x.0 ∷ x.1) × Both L (Each L) x v
   each_some [] v w y t c fw e = let k : [] ≡ t ∷ y = (λ i. sym c i ++ sym fw i) ∙ e in absurd (cc)
   each_some (a ∷ rest) v w y t c fw e = ((a, rest), refl, c)
 

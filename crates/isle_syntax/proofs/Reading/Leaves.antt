@@ -57,10 +57,12 @@ unfolding pattern_with
 pattern_none d = refl
 
 -- what refuses first, with what stands before it
-pub refuses_first : {A B C : Type 0} (f : A × B → C) (p : Reader A) (q : Reader B) (ts : List Placed) (old mid new : RemainingTokens) (r : Refusal Error) → bounds mid ≡ bounds old
+pub refuses_first : {A B C : Type 0} (f : A × B
+    → C) (p : Reader A) (q : Reader B) (ts : List Placed) (old mid new : RemainingTokens) (r : Refusal Error) → bounds mid ≡ bounds old
     → RefusesAt mid new r (stop_of (p ts)) → RefusesAt old new r (stop_of (read_map f (seq p q ts)))
 refuses_first f p q ts old mid new r same h =
-    refuses_later old mid new r _ same (refuses_with (p ts) (read_map f (seq p q ts)) mid new r (λ s e some. stop_map f (seq p q ts) ∙ stop_after (p ts) _ s e some) h)
+    refuses_later old mid new r _ same (refuses_with (p ts) (read_map f (seq p q ts)) mid new r (λ s e some. stop_map f (seq p q ts)
+    ∙ stop_after (p ts) _ s e some) h)
 
 -- ---- what one token leaves
 

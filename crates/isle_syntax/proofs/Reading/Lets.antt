@@ -24,7 +24,8 @@ bindings_trees [] = refl
 bindings_trees (d ∷ ds) = ap (more_lets d.var d.ty (expr_of d.val) d.pos) (bindings_trees ds)
 
 -- the same of a lexer some tokens before
-pub gives_later : {X Y : Type 0} (view : X → Y) (old mid new : RemainingTokens) (res : Result X (Refusal Error)) (read : Read Y) → bounds mid ≡ bounds old → Gives view mid new res read → Gives view old new res read
+pub gives_later : {X Y : Type 0} (view : X → Y) (old mid new : RemainingTokens) (res : Result X (Refusal Error)) (read : Read Y)
+    → bounds mid ≡ bounds old → Gives view mid new res read → Gives view old new res read
 gives_later view old mid new (Ok x) read same h = (h.0, h.1 ∙ same)
 gives_later view old mid new (Err refusal) read same h = refuses_later old mid new refusal _ same h
 
@@ -34,9 +35,11 @@ map_same (fault r) = refl
 map_same (deep r) = refl
 
 -- bindings in parentheses, without their place
-pub let_list_inside : (d : ℕ) (p : Pos) (ts r : List Placed) → 0 < d → opened ts ≡ done p r → read_map (λ x. x.1) (let_list d ts) ≡ rest_of (let_binding (d - 1)) r
+pub let_list_inside : (d : ℕ) (p : Pos) (ts r : List Placed) → 0 < d → opened ts ≡ done p r
+    → read_map (λ x. x.1) (let_list d ts) ≡ rest_of (let_binding (d - 1)) r
 let_list_inside d p ts r some e =
-    ap (read_map (λ x. x.1)) (let_list_opens d p ts r some e) ∙ fuse (λ x. x.1) (λ l. (p, l)) (rest_of (let_binding (d - 1)) r) ∙ map_same (rest_of (let_binding (d - 1)) r)
+    ap (read_map (λ x. x.1)) (let_list_opens d p ts r some e) ∙ fuse (λ x. x.1) (λ l. (p, l)) (rest_of (let_binding (d - 1)) r)
+    ∙ map_same (rest_of (let_binding (d - 1)) r)
 
 pub none_bound : (d : ℕ) → let_binding d [] ≡ fault []
 unfolding let_binding
@@ -55,10 +58,13 @@ second_done (done x s) b r e =
 second_done (fault s) b r e = cc
 second_done (deep s) b r e = cc
 
-pub let_reads : (d : ℕ) (p q : Pos) (l : List LetBinding) (body : ExprTree) (ts r s t : List Placed) → word (codes "let") ts ≡ done q r → read_map (λ x. x.1) (let_list d r) ≡ done l s → seq (expr d) closed s ≡ done (body, tt) t
-    → read_map (λ x. expr_let (let_trees x.1.0.1) x.1.1.0 p) (seq (says (codes "let")) (seq (let_list d) (seq (expr d) closed)) ts) ≡ done (expr_let (let_trees l) body p) t
+pub let_reads : (d : ℕ) (p q : Pos) (l : List LetBinding) (body : ExprTree) (ts r s t : List Placed) → word (codes "let") ts ≡ done q r
+    → read_map (λ x. x.1) (let_list d r) ≡ done l s → seq (expr d) closed s ≡ done (body, tt) t
+    → read_map (λ x. expr_let (let_trees x.1.0.1) x.1.1.0 p) (seq (says (codes "let")) (seq (let_list d) (seq (expr d) closed)) ts)
+    ≡ done (expr_let (let_trees l) body p) t
 let_reads d p q l body ts r s t e f g =
     let lets = second_done (let_list d r) l s f in
-    map_seq_done (says (codes "let")) (seq (let_list d) (seq (expr d) closed)) ts r (λ x. expr_let (let_trees x.1.0.1) x.1.1.0 p) tt (says_done (codes "let") q ts r e)
+    map_seq_done (says (codes "let")) (seq (let_list d) (seq (expr d) closed)) ts r (λ x. expr_let (let_trees x.1.0.1) x.1.1.0 p) tt
+    (says_done (codes "let") q ts r e)
     ∙ map_seq_done (let_list d) (seq (expr d) closed) r s (λ x. expr_let (let_trees x.0.1) x.1.0 p) (lets.0, l) lets.1
     ∙ ap (read_map (λ x. expr_let (let_trees l) x.0 p)) g

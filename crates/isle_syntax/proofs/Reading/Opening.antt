@@ -42,7 +42,8 @@ shut_stop A B (int p n ∷ ts) = refl
 abbrev pub StopsWith : {A B : Type 0} → Read A → Read B → Type 0
 StopsWith x y = (s : Stop) → stop_of x ≡ s → (s ≡ nowhere → ⊥) → stop_of y ≡ s
 
-pub refuses_with : {A B : Type 0} (x : Read A) (y : Read B) (old new : RemainingTokens) (r : Refusal Error) → StopsWith x y → RefusesAt old new r (stop_of x) → RefusesAt old new r (stop_of y)
+pub refuses_with : {A B : Type 0} (x : Read A) (y : Read B) (old new : RemainingTokens) (r : Refusal Error) → StopsWith x y
+    → RefusesAt old new r (stop_of x) → RefusesAt old new r (stop_of y)
 refuses_with x y old new (Fault e) with h = subst (TellsStop old new e) (sym (with (stop_of x) refl (tells_some old new e _ h))) h
 refuses_with x y old new (Memory e) with h = tt
 

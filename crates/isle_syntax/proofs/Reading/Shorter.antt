@@ -3,7 +3,8 @@ use Rattle.std.proofs.Common.{◌≡◌, ℕ, zero, suc, ◌-◌, ◌<◌, ◌�
 use Rattle.isle_syntax.specs.declared.lexer.Pos.{Pos}
 use Rattle.isle_syntax.specs.declared.ast.Ident.{Ident}
 use Rattle.isle_syntax.specs.Tokens.PlacedTokens.{Placed, opening, closing, at_sign, symbol, int}
-use Rattle.isle_syntax.specs.Reading.Readers.{Read, done, fault, deep, Reader, after, read_map, seq, after_close, many, many_turn, rest_of, opened, shut, opened_within, closed, symbol_of}
+use Rattle.isle_syntax.specs.Reading.Readers.{Read, done, fault, deep, Reader, after, read_map, seq, after_close, many, many_turn, rest_of, opened}
+use Rattle.isle_syntax.specs.Reading.Readers.{shut, opened_within, closed, symbol_of}
 use Rattle.isle_syntax.specs.Reading.DefReading.{identifier, field, fields, fields_on, variant, variant_on, is_symbol_next}
 
 -- what is left of a value that was read
@@ -21,7 +22,8 @@ mapped f (done a q) b r e = let h : q ≡ r = cc in (a, ap (done a) h)
 mapped f (fault q) b r e = cc
 mapped f (deep q) b r e = cc
 
-followed : {A B : Type 0} (x : Read A) (f : A → List Placed → Read B) (b : B) (r : List Placed) → after x f ≡ done b r → (a : A) × (q : List Placed) × (x ≡ done a q) × (f a q ≡ done b r)
+followed : {A B : Type 0} (x : Read A) (f : A → List Placed → Read B) (b : B) (r : List Placed) → after x f ≡ done b r
+    → (a : A) × (q : List Placed) × (x ≡ done a q) × (f a q ≡ done b r)
 followed (done a q) f b r e = (a, q, refl, e)
 followed (fault q) f b r e = cc
 followed (deep q) f b r e = cc
@@ -102,7 +104,8 @@ close_less (at_sign q ∷ ts) r e = cc
 close_less (symbol q s ∷ ts) r e = cc
 close_less (int q n ∷ ts) r e = cc
 
-many_case : {A : Type 0} (p : Reader A) (more : Reader (List A)) (ts r : List Placed) (l : List A) (o : Option (List Placed)) → NeverLengthens p → after_close ts ≡ o
+many_case : {A : Type 0} (p : Reader A) (more : Reader (List A)) (ts r : List Placed) (l : List A) (o : Option (List Placed)) → NeverLengthens p
+    → after_close ts ≡ o
     → ((q : List Placed) (m : List A) → more q ≡ done m r → length r < length q) → many_turn p more o ts ≡ done l r → length r < length ts
 many_case p more ts r l (Some q) k f ih h = let same : q ≡ r = cc in omega (arith, close_less ts q f, ap length same)
 many_case p more ts r l None k f ih h =
@@ -111,7 +114,8 @@ many_case p more ts r l None k f ih h =
     let q = mapped (λ b. (g.0, b)) (more g.1) m.0 r g.3 in
     omega (arith, k.no_more ts g.1 g.0 g.2, ih g.1 q.0 q.1)
 
-many_less : {A : Type 0} (p : Reader A) → NeverLengthens p → (n : ℕ) (ts r : List Placed) (l : List A) → many after_close p n ts ≡ done l r → length r < length ts
+many_less : {A : Type 0} (p : Reader A) → NeverLengthens p → (n : ℕ) (ts r : List Placed) (l : List A) → many after_close p n ts ≡ done l r
+    → length r < length ts
 unfolding many
 many_less p k zero ts r l e = cc
 many_less p k (suc n) ts r l e = many_case p (many after_close p n) ts r l (after_close ts) k refl (λ q m h. many_less p k n q r m h) e
@@ -138,7 +142,9 @@ fields_shortens d = record { less = λ ts r a e. (fields_less d (is_symbol_next 
 
 variant_less : (d : ℕ) (b : Bool) → Shortens (variant_on d b)
 variant_less d true = map_shortens _ identifier identifier_shortens
-variant_less d false = map_shortens _ _ (seq_shortens (opened_within d) _ (opened_shortens d) (seq_keeps _ _ (shortens_keeps identifier_shortens) (shortens_keeps (fields_shortens (d - 1)))))
+variant_less d false =
+    map_shortens _ _ (seq_shortens (opened_within d) _ (opened_shortens d)
+    (seq_keeps _ _ (shortens_keeps identifier_shortens) (shortens_keeps (fields_shortens (d - 1)))))
 
 pub variant_shortens : (d : ℕ) → Shortens (variant d)
 variant_shortens d = record { less = λ ts r a e. (variant_less d (is_symbol_next ts)).less ts r a e }

@@ -33,14 +33,16 @@ Known s False = s ≡ codes "false"
 Known s Const = is_const s ≡ true
 Known s Wildcard = s ≡ codes "_"
 Known s Name = is_pname s ≡ true
-Known s Other = (is_word (codes "true") s ≡ false) × (is_word (codes "false") s ≡ false) × (is_const s ≡ false) × (is_word (codes "_") s ≡ false) × (is_name s ≡ false)
+Known s Other = (is_word (codes "true") s ≡ false) × (is_word (codes "false") s ≡ false) × (is_const s ≡ false) × (is_word (codes "_") s ≡ false)
+    × (is_name s ≡ false)
 Known s _ = ⊥
 
 pname_from : (s : List ℕ) → is_word (codes "_") s ≡ false → is_name s ≡ true → is_pname s ≡ true
 unfolding is_pname
 pname_from s w n = rw (w, n) refl
 
-known_by : (s : List ℕ) (a b c d e : Bool) → is_word (codes "true") s ≡ a → is_word (codes "false") s ≡ b → is_const s ≡ c → is_word (codes "_") s ≡ d → is_name s ≡ e
+known_by : (s : List ℕ) (a b c d e : Bool) → is_word (codes "true") s ≡ a → is_word (codes "false") s ≡ b → is_const s ≡ c → is_word (codes "_") s ≡ d
+    → is_name s ≡ e
     → Known s (cond a True (cond b False (cond c Const (cond d Wildcard (cond e Name Other)))))
 known_by s true b c d e ha hb hc hd he = word_same (codes "true") s ha
 known_by s false true c d e ha hb hc hd he = word_same (codes "false") s hb
@@ -51,7 +53,8 @@ known_by s false false false false false ha hb hc hd he = (ha, hb, hc, hd, he)
 
 pub symbol_known : (s : List ℕ) → Known s (symbol_kind s)
 unfolding symbol_kind
-symbol_known s = known_by s (is_word (codes "true") s) (is_word (codes "false") s) (is_const s) (is_word (codes "_") s) (is_name s) refl refl refl refl refl
+symbol_known s = known_by s (is_word (codes "true") s) (is_word (codes "false") s) (is_const s) (is_word (codes "_") s) (is_name s) refl refl refl
+    refl refl
 
 pub true_kind : symbol_kind (codes "true") ≡ True
 unfolding symbol_kind

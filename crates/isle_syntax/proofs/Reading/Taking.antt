@@ -118,7 +118,8 @@ placed_place p (Symbol s) = refl
 placed_place p (TokenInt n) = refl
 placed_place p (Big n) = refl
 
-pub deep_refuses : (old mid : RemainingTokens) (r : Refusal Error) → IsKnown old mid → Open ≡ kind_at old.left → RefusesAt mid mid r (at_deep mid.left) → RefusesAt old mid r (stop_of (opened_within 0 old.left))
+pub deep_refuses : (old mid : RemainingTokens) (r : Refusal Error) → IsKnown old mid → Open ≡ kind_at old.left
+    → RefusesAt mid mid r (at_deep mid.left) → RefusesAt old mid r (stop_of (opened_within 0 old.left))
 deep_refuses old mid r known k h =
     subst (λ s. RefusesAt old mid r (stop_of s)) (sym (opens_deep old.left k)) (subst (λ u. RefusesAt u mid r (at_deep u.left)) known.same h)
 

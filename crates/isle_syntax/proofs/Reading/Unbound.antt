@@ -1,5 +1,6 @@
 -- Reading a pattern up to an `@`, and what follows from it for all of the pattern.
-use Rattle.std.proofs.Common.{◌≡◌, ℕ, zero, suc, ◌<◌, List, [], ◌∷◌, ◌++◌, length, Bool, true, false, cond, Some, None, refl, sym, ap, subst, ◌∙◌, arith}
+use Rattle.std.proofs.Common.{◌≡◌, ℕ, zero, suc, ◌<◌, List, [], ◌∷◌, ◌++◌, length, Bool, true, false, cond, Some, None, refl, sym, ap, subst, ◌∙◌}
+use Rattle.std.proofs.Common.{arith}
 use Rattle.std.specs.Prelude.{codes}
 use Rattle.isle_syntax.specs.declared.kind.Kind.{Kind}
 use Rattle.isle_syntax.specs.declared.kind.Kind.TheVariants.{End, Open, Close, At, Int, True, False, Const, Wildcard, Name, Other}
@@ -57,7 +58,8 @@ module _ (x : Ident) (p : Pos) (r : List Placed) where
   unfolding pattern_list
   list_never_var zero ts e = shut_never ts e
   list_never_var (suc d) ts e =
-      never_var listed (λ l. other_of (is_word (codes "and") l.1.0.0) (pattern_and (pattern_trees l.1.1) l.0) (pattern_term l.1.0 (pattern_trees l.1.1) l.0) tt tt) (seq opened (seq (symbol_of is_head) (rest_of (pattern d))) ts) e
+      never_var listed (λ l. other_of (is_word (codes "and") l.1.0.0) (pattern_and (pattern_trees l.1.1) l.0)
+      (pattern_term l.1.0 (pattern_trees l.1.1) l.0) tt tt) (seq opened (seq (symbol_of is_head) (rest_of (pattern d))) ts) e
 
   -- a name is next, and is the variable
   pub record ReadsVar (ts : List Placed) : Type 0 where
@@ -112,7 +114,8 @@ module _ (d : ℕ) (ts r : List Placed) (x : Ident) (p : Pos) (e : unbound d ts 
 
   module _ (q : List Placed) (at : after_at r ≡ Some q) where
     -- a name with an `@` behind it goes to the names
-    pub unbound_named : (names more : List (Ident × Pos)) → more ≡ names ++ (x, p) ∷ [] → read_map (bound names) (pattern d ts) ≡ read_map (bound more) (pattern d q)
+    pub unbound_named : (names more : List (Ident × Pos)) → more ≡ names ++ (x, p) ∷ []
+        → read_map (bound names) (pattern d ts) ≡ read_map (bound more) (pattern d q)
     unbound_named names more added =
         ap (read_map (bound names)) (named_first ∙ named_bound (pattern d) x r q at)
         ∙ fuse (bound names) (λ sub. pattern_bind x sub x.1) (pattern d q)

@@ -1,5 +1,6 @@
 -- Where a text may be cut: beside an ASCII byte.
-use Rattle.std.proofs.Common.{◌≡◌, ℕ, suc, ◌+◌, ◌-◌, ◌<◌, List, [], ◌∷◌, ◌++◌, length, drop, get_or, Bool, true, false, cond, refl, ap, sym, subst, ◌∙◌, length-append, append_assoc, add-one, arith}
+use Rattle.std.proofs.Common.{◌≡◌, ℕ, suc, ◌+◌, ◌-◌, ◌<◌, List, [], ◌∷◌, ◌++◌, length, drop, get_or, Bool, true, false, cond, refl, ap, sym, subst}
+use Rattle.std.proofs.Common.{◌∙◌, length-append, append_assoc, add-one, arith}
 use Rattle.std.specs.Str.{IsUtf8}
 use Rattle.std.proofs.lemmas.Str.{IsUtf8-drop, IsUtf8-nil, IsCharBoundary-after_ascii, IsCharBoundary-before_ascii}
 use Rattle.isle_syntax.specs.Tokens.Ends.{IsEnd}
@@ -67,7 +68,8 @@ after_first-utf8 (b ∷ bs) u h = ends_utf8 (ends_first b bs h) u
 
 -- a run ends where its kind ends
 stop_case : (p : ℕ → Bool) (front : List ℕ) (b : ℕ) (bs : List ℕ) (t : Bool) → p b ≡ t → ((c : ℕ) → p c ≡ false → c < 128)
-    → IsUtf8 (front ++ cond t (after_run p bs) (b ∷ bs)) → (IsUtf8 (front ++ after_run p bs) → IsUtf8 (after_run p bs)) → IsUtf8 (cond t (after_run p bs) (b ∷ bs))
+    → IsUtf8 (front ++ cond t (after_run p bs) (b ∷ bs)) → (IsUtf8 (front ++ after_run p bs) → IsUtf8 (after_run p bs))
+    → IsUtf8 (cond t (after_run p bs) (b ∷ bs))
 stop_case p front b bs true e ascii u ih = ih u
 stop_case p front b bs false e ascii u ih = utf8_at_ascii front b bs u (ascii b e)
 
@@ -105,12 +107,16 @@ ending_first [] e = e
 ending_first (b ∷ bs) e = record { front = e.front ++ b ∷ []; whole = e.whole ∙ sym (append_assoc e.front (b ∷ []) bs) }
 
 pub ending_run : (p : ℕ → Bool) {text : List ℕ} (rest : List ℕ) → Ending text rest → Ending text (after_run p rest)
-ending_run p rest e = record { front = e.front ++ run_of p rest; whole = e.whole ∙ ap (λ k. e.front ++ k) (run_whole p rest) ∙ sym (append_assoc e.front (run_of p rest) (after_run p rest)) }
+ending_run p rest e = record {
+  front = e.front ++ run_of p rest;
+  whole = e.whole ∙ ap (λ k. e.front ++ k) (run_whole p rest) ∙ sym (append_assoc e.front (run_of p rest) (after_run p rest));
+}
 
 pub ending_ends : {text middle rest : List ℕ} → Ending text middle → EndsAscii middle rest → Ending text rest
 ending_ends {text} {middle} {rest} e f = record {
   front = e.front ++ (f.front ++ f.last ∷ []);
-  whole = e.whole ∙ ap (λ k. e.front ++ k) (f.whole ∙ sym (append_assoc f.front (f.last ∷ []) rest)) ∙ sym (append_assoc e.front (f.front ++ f.last ∷ []) rest);
+  whole = e.whole ∙ ap (λ k. e.front ++ k) (f.whole ∙ sym (append_assoc f.front (f.last ∷ []) rest))
+      ∙ sym (append_assoc e.front (f.front ++ f.last ∷ []) rest);
 }
 
 pub ending_is_end : {text rest : List ℕ} → Ending text rest → IsEnd text rest

@@ -6,9 +6,11 @@ use Rattle.std.proofs.lemmas.Bool.{cases_lt}
 use Rattle.std.proofs.lemmas.Bool.Decides.{nat_tests}
 use Rattle.isle_syntax.specs.declared.gap.Lead.{Lead}
 use Rattle.isle_syntax.specs.declared.gap.Mark.{Mark}
-use Rattle.isle_syntax.specs.Tokens.Gaps.{lead_of, mark_of, after_first, after_run, in_line, Inside, closes, nested, other, IsGap, none, space, line, comment}
+use Rattle.isle_syntax.specs.Tokens.Gaps.{lead_of, mark_of, after_first, after_run, in_line, Inside, closes, nested, other, IsGap, none, space, line}
+use Rattle.isle_syntax.specs.Tokens.Gaps.{comment}
 use Rattle.isle_syntax.proofs.Tokens.Leads.{lead_past_ascii}
-use Rattle.isle_syntax.proofs.Tokens.Cuts.{EndsAscii, ends_utf8, ends_cons, ends_behind, ends_first, after_first-utf8, stopped-utf8, run-utf8, Ending, ending_self, ending_first, ending_run, ending_ends}
+use Rattle.isle_syntax.proofs.Tokens.Cuts.{EndsAscii, ends_utf8, ends_cons, ends_behind, ends_first, after_first-utf8, stopped-utf8, run-utf8, Ending}
+use Rattle.isle_syntax.proofs.Tokens.Cuts.{ending_self, ending_first, ending_run, ending_ends}
 
 -- what begins with anything but a symbol begins with an ASCII byte
 pub lead_ascii : (ts : List ℕ) (k : Lead) → lead_of ts ≡ k → ¬ (k ≡ Lead.Word) → get_or ts 0 0 < 128
@@ -58,6 +60,7 @@ cut_ends c e = record { ending = ending_ends c.ending e; utf8 = ends_utf8 e c.ut
 pub cut_gap : {text ts r : List ℕ} → IsGap ts r → Cut text ts → Cut text r
 cut_gap (none h) c = c
 cut_gap (space {text = ts} e g) c = cut_gap g (cut_first ts c (lead_ascii ts Lead.Space e (λ k. cc k)))
-cut_gap (line {text = ts} e g) c = cut_gap g (cut_stopped in_line (after_first ts) in_line_ascii (cut_first ts c (lead_ascii ts Lead.Line e (λ k. cc k))))
+cut_gap (line {text = ts} e g) c =
+    cut_gap g (cut_stopped in_line (after_first ts) in_line_ascii (cut_first ts c (lead_ascii ts Lead.Line e (λ k. cc k))))
 cut_gap (comment {text = ts} e i g) c =
     cut_gap g (cut_ends (cut_first (after_first ts) (cut_first ts c (lead_ascii ts Lead.Comment e (λ k. cc k))) (comment_ascii ts e)) (inside_ends i))

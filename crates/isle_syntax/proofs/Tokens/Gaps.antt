@@ -20,7 +20,8 @@ pub line_shorter : (ts : List ℕ) → Lead.Line ≡ lead_of ts → length (afte
 line_shorter ts e = omega (arith, after_run-le in_line (after_first ts), some_left ts Lead.Line e (λ k. cc k))
 
 pub comment_shorter : (ts r : List ℕ) → Lead.Comment ≡ lead_of ts → Some r ≡ after_comment 0 (after_first (after_first ts)) → length r < length ts
-comment_shorter ts r e f = omega (arith, after_comment-le 0 (after_first (after_first ts)) r f, after_first-le (after_first ts), some_left ts Lead.Comment e (λ k. cc k))
+comment_shorter ts r e f =
+    omega (arith, after_comment-le 0 (after_first (after_first ts)) r f, after_first-le (after_first ts), some_left ts Lead.Comment e (λ k. cc k))
 
 -- ---- the turns of the loop
 
@@ -54,10 +55,12 @@ Shorter n r = (q : List ℕ) → length q < n → gap n q ≡ r → IsGap q r
 stays : (ts r : List ℕ) (k : Lead) → lead_of ts ≡ k → BeginsNoGap k ts → ts ≡ r → IsGap ts r
 stays ts r k e h f = subst (IsGap ts) f (none (subst (λ l. BeginsNoGap l ts) (sym e) h))
 
-by_inside : (ts r : List ℕ) (n : ℕ) (o : Option (List ℕ)) → lead_of ts ≡ Lead.Comment → after_comment 0 (after_first (after_first ts)) ≡ o → length ts < suc n
+by_inside : (ts r : List ℕ) (n : ℕ) (o : Option (List ℕ)) → lead_of ts ≡ Lead.Comment → after_comment 0 (after_first (after_first ts)) ≡ o
+    → length ts < suc n
     → Shorter n r → after_inside ts (gap n) o ≡ r → IsGap ts r
 by_inside ts r n None e f fits ih h = stays ts r Lead.Comment e (λ rest i. let k = inside_complete i in cc) h
-by_inside ts r n (Some q) e f fits ih h = comment e (inside_found (after_first (after_first ts)) q f) (ih q (omega (arith, comment_shorter ts q (sym e) (sym f))) h)
+by_inside ts r n (Some q) e f fits ih h =
+    comment e (inside_found (after_first (after_first ts)) q f) (ih q (omega (arith, comment_shorter ts q (sym e) (sym f))) h)
 
 by_lead : (ts r : List ℕ) (n : ℕ) (k : Lead) → lead_of ts ≡ k → length ts < suc n → Shorter n r → gap_turn (gap n) k ts ≡ r → IsGap ts r
 by_lead ts r n Lead.Space e fits ih h = space e (ih (after_first ts) (omega (arith, some_left ts Lead.Space (sym e) (λ k. cc k))) h)
@@ -80,7 +83,8 @@ gap_found ts = gap_sound (suc (length ts)) ts (gap_of ts) (omega arith) refl
 
 -- ---- and there is no other
 
-stay_inside : (ts : List ℕ) (more : List ℕ → List ℕ) (o : Option (List ℕ)) → after_comment 0 (after_first (after_first ts)) ≡ o → ((rest : List ℕ) → ¬ (Inside (after_first (after_first ts)) rest)) → after_inside ts more o ≡ ts
+stay_inside : (ts : List ℕ) (more : List ℕ → List ℕ) (o : Option (List ℕ)) → after_comment 0 (after_first (after_first ts)) ≡ o
+    → ((rest : List ℕ) → ¬ (Inside (after_first (after_first ts)) rest)) → after_inside ts more o ≡ ts
 stay_inside ts more None e h = refl
 stay_inside ts more (Some q) e h = absurd (h q (inside_found (after_first (after_first ts)) q e))
 
@@ -99,7 +103,8 @@ pub gap_complete : (n : ℕ) {ts r : List ℕ} → IsGap ts r → length ts < n 
 unfolding gap
 gap_complete zero g fits = absurd (omega arith)
 gap_complete (suc n) (none {text = ts} h) fits = stay n ts (lead_of ts) h
-gap_complete (suc n) (space {text = ts} e g) fits = ap (λ k. gap_turn (gap n) k ts) e ∙ gap_complete n g (omega (arith, some_left ts Lead.Space (sym e) (λ k. cc k)))
+gap_complete (suc n) (space {text = ts} e g) fits =
+    ap (λ k. gap_turn (gap n) k ts) e ∙ gap_complete n g (omega (arith, some_left ts Lead.Space (sym e) (λ k. cc k)))
 gap_complete (suc n) (line {text = ts} e g) fits = ap (λ k. gap_turn (gap n) k ts) e ∙ gap_complete n g (omega (arith, line_shorter ts (sym e)))
 gap_complete (suc n) (comment {text = ts} {behind = behind} e i g) fits =
     let f = inside_complete i in

@@ -24,7 +24,8 @@ module _ (source : Source) (rest text : List ℕ) (start : ℕ) (behind : text �
       reading_step source rest ∙ sym (ap (λ r. reading_by source (reading source) r (next_of r)) behind)
       ∙ ap (reading_by source (reading source) text) e
 
-  pub looked_found : (t : Token) (more : List ℕ) → next_of text ≡ found t more → reading_before (at_offset source start) t (reading source more) ≡ reading source rest
+  pub looked_found : (t : Token) (more : List ℕ) → next_of text ≡ found t more
+      → reading_before (at_offset source start) t (reading source more) ≡ reading source rest
   looked_found t more e = ap (λ n. reading_before (at_offset source n) t (reading source more)) at ∙ sym (looked (found t more) e)
 
   pub looked_nothing : next_of text ≡ nothing → stopped_at true start ≡ reading source rest
@@ -38,10 +39,12 @@ module _ (source : Source) (rest text : List ℕ) (start : ℕ) (behind : text �
 
   -- a symbol stands next
   word_next : lead_of text ≡ Lead.Word
-      → reading source text ≡ reading_before (at_offset source start) (Symbol (run_of continues_symbol text)) (reading source (after_run continues_symbol text))
+      → reading source text ≡ reading_before (at_offset source start) (Symbol (run_of continues_symbol text))
+      (reading source (after_run continues_symbol text))
   word_next e =
       looked_no_further ∙ looked (found (Symbol (run_of continues_symbol text)) (after_run continues_symbol text)) (ap (λ k. next_by k text) e)
-      ∙ sym (ap (λ n. reading_before (at_offset source n) (Symbol (run_of continues_symbol text)) (reading source (after_run continues_symbol text))) at)
+      ∙ sym (ap (λ n. reading_before (at_offset source n) (Symbol (run_of continues_symbol text)) (reading source (after_run continues_symbol text)))
+      at)
 
   pub word_begins : lead_of text ≡ Lead.Word → next_pos source (reading source text).end (reading source text).left ≡ at_offset source start
   word_begins e = ap (λ r. next_pos source r.end r.left) (word_next e)

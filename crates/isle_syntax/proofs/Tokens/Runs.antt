@@ -2,7 +2,8 @@
 use Rattle.std.proofs.Common.{◌≡◌, ℕ, ◌-◌, ◌≤◌, List, [], ◌∷◌, ◌++◌, length, take, drop, Bool, true, false, cond, refl, ap, ◌∙◌, length-append, arith}
 use Rattle.isle_syntax.specs.Tokens.Gaps.{after_run, run_of}
 
-whole_case : (p : ℕ → Bool) (b : ℕ) (bs : List ℕ) (t : Bool) → bs ≡ run_of p bs ++ after_run p bs → b ∷ bs ≡ cond t (b ∷ run_of p bs) [] ++ cond t (after_run p bs) (b ∷ bs)
+whole_case : (p : ℕ → Bool) (b : ℕ) (bs : List ℕ) (t : Bool) → bs ≡ run_of p bs ++ after_run p bs
+    → b ∷ bs ≡ cond t (b ∷ run_of p bs) [] ++ cond t (after_run p bs) (b ∷ bs)
 whole_case p b bs true h = ap (λ k. b ∷ k) h
 whole_case p b bs false h = refl
 

@@ -22,7 +22,8 @@ pub none_ascend : TokensAscend []
 none_ascend i j d less within = absurd (omega arith)
 
 -- a token isn't empty, and the next one begins at its end or later
-tokens_ascend : (source : Source) {text : List ℕ} {left : List Placed} {end : ℕ} {clean : Bool} → TokensOf source text left end clean → length text ≤ source.size
+tokens_ascend : (source : Source) {text : List ℕ} {left : List Placed} {end : ℕ} {clean : Bool} → TokensOf source text left end clean
+    → length text ≤ source.size
     → All (λ t. source.size - length text ≤ (pos_of t).offset) left × TokensAscend left
 tokens_ascend source (ended g) fits = (All-nil _, none_ascend)
 tokens_ascend source (stopped g some never) fits = (All-nil _, none_ascend)
@@ -32,14 +33,17 @@ tokens_ascend source (token {text = text} {rest = rest} {more = more} {t = t} {l
     let gap = gap-le g in
     let shorter = token_shorter i in
     let later = tokens_ascend source tail (omega (arith, gap, shorter, fits)) in (
-      All-cons (λ t. source.size - length text ≤ (pos_of t).offset) (placed_at place t) left (omega (arith, at, gap)) (λ k d within. (let h = later.0 k d within in omega (arith, h, gap, shorter))),
+      All-cons (λ t. source.size - length text ≤ (pos_of t).offset) (placed_at place t) left (omega (arith, at, gap))
+          (λ k d within. (let h = later.0 k d within in omega (arith, h, gap, shorter))),
       AllPairs-cons Before (placed_at place t) left (λ k d within. (let h = later.0 k d within in omega (arith, h, at, shorter, gap, fits))) later.1,
     )
 
 -- what a lexer has looked at
-pub looked_ascend : (source : Source) (lookahead : Lookahead) (start : ℕ) (rest text : List ℕ) → reading_of source lookahead start rest ≡ reading source text → length text ≤ source.size
+pub looked_ascend : (source : Source) (lookahead : Lookahead) (start : ℕ) (rest text : List ℕ)
+    → reading_of source lookahead start rest ≡ reading source text → length text ≤ source.size
     → TokensAscend (reading_of source lookahead start rest).left
-looked_ascend source lookahead start rest text same fits = subst (λ (r : Reading). TokensAscend r.left) (sym same) (tokens_ascend source (reading_sound source text) fits).1
+looked_ascend source lookahead start rest text same fits =
+    subst (λ (r : Reading). TokensAscend r.left) (sym same) (tokens_ascend source (reading_sound source text) fits).1
 
 -- ---- what is left of a text
 
@@ -69,4 +73,5 @@ later_ascend (t ∷ u) v h = later_ascend u v (others_ascend t (u ++ v) h)
 
 pub all_before : (u v : List Placed) → TokensAscend (u ++ v) → All (λ s. All (Before s) v) u
 all_before [] v h = All-nil (λ s. All (Before s) v)
-all_before (t ∷ u) v h = All-cons (λ s. All (Before s) v) t u (all_later (Before t) u v (first_before t (u ++ v) h)) (all_before u v (others_ascend t (u ++ v) h))
+all_before (t ∷ u) v h = All-cons (λ s. All (Before s) v) t u (all_later (Before t) u v (first_before t (u ++ v) h))
+    (all_before u v (others_ascend t (u ++ v) h))

@@ -2,7 +2,8 @@
 use Rattle.std.proofs.Common.{◌≡◌, ◌+◌, ◌≤◌, ℕ, List, [], ◌∷◌, length, min, ap, arith}
 use Rattle.std.specs.List.{FoldsTo}
 
-module _ {A P G : Type 0} (R : P → A → P → Type 0) (count : P → ℕ) (kept : P → G) (most : ℕ) (adds : (p : P) (x : A) (q : P) → R p x q → (count q ≡ min (count p + 1) most) × (kept q ≡ kept p)) where
+module _ {A P G : Type 0} (R : P → A → P → Type 0) (count : P → ℕ) (kept : P → G) (most : ℕ) (adds : (p : P) (x : A) (q : P) → R p x q
+    → (count q ≡ min (count p + 1) most) × (kept q ≡ kept p)) where
   pub counted : (xs : List A) (p q : P) → count p ≤ most → FoldsTo R p xs q → (count q ≡ min (count p + length xs) most) × (kept q ≡ kept p)
   counted [] p q low calls = (omega (arith, ap count calls), cc)
   counted (x ∷ xs) p q low calls =

@@ -15,3 +15,6 @@ most_expr_size (p ∷ ps) = omega (arith, expr_decreases p, most_expr_size ps)
 pub most_let_size : (ds : List LetDef) → most (λ x. size-LetDef x) ds ≤ 3 * let_heights (lets_of ds) + 2
 most_let_size [] = omega arith
 most_let_size (d ∷ ds) = omega (arith, expr_decreases d.val, most_let_size ds)
+
+-- what goes down expressions and bindings falls
+pub ruleset expr_sizes = (most_expr_size, most_let_size)

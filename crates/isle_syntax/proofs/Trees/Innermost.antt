@@ -6,7 +6,8 @@ use Rattle.isle_syntax.specs.declared.ast.Ident.{Ident}
 use Rattle.isle_syntax.specs.declared.ast.Pattern.{Pattern}
 use Rattle.isle_syntax.specs.declared.ast.Pattern.TheVariants as pattern
 use Rattle.isle_syntax.specs.declared.ast.BoxedPattern.TheDeep.{size-Pattern}
-use Rattle.isle_syntax.specs.Trees.PatternTree.{PatternTree, PatternTrees, pattern_var, pattern_bind, pattern_bool, pattern_int, pattern_prim, pattern_term, pattern_wildcard, pattern_and, pattern_macro_arg, pattern_height, pattern_heights}
+use Rattle.isle_syntax.specs.Trees.PatternTree.{PatternTree, PatternTrees, pattern_var, pattern_bind, pattern_bool, pattern_int, pattern_prim}
+use Rattle.isle_syntax.specs.Trees.PatternTree.{pattern_term, pattern_wildcard, pattern_and, pattern_macro_arg, pattern_height, pattern_heights}
 use Rattle.isle_syntax.specs.Trees.PatternShape.{pattern_of, patterns_of}
 use Rattle.isle_syntax.specs.Trees.TreeCalls.{has_macro_arg}
 use Rattle.isle_syntax.specs.Trees.Terms.{pattern_terms}
@@ -60,7 +61,8 @@ innermost_is_no_binding t x below p e =
     let none = innermost_alone t in let some = ap names_bound e in cc
 
 -- what a binding has from the pattern that it binds, a chain has from its innermost pattern
-as_innermost : {A : Type 0} (f : PatternTree → A) → ((x : Ident) (t : PatternTree) (p : Pos) → f (pattern_bind x t p) ≡ f t) → (t : PatternTree) → f t ≡ f (innermost t)
+as_innermost : {A : Type 0} (f : PatternTree → A) → ((x : Ident) (t : PatternTree) (p : Pos) → f (pattern_bind x t p) ≡ f t) → (t : PatternTree)
+    → f t ≡ f (innermost t)
 as_innermost f through (pattern_var _ _) = refl
 as_innermost f through (pattern_bind x t p) = through x t p ∙ as_innermost f through t
 as_innermost f through (pattern_bool _ _) = refl
@@ -80,12 +82,14 @@ pub innermost_terms : (t : PatternTree) → pattern_terms t ≡ pattern_terms (i
 innermost_terms t = as_innermost pattern_terms (λ x s p. refl) t
 
 -- the patterns below an innermost one are smaller than what is bound to it
-pub args_below : (p q : Pattern) (f : Ident) (args : PatternTrees) (pos : Pos) (ps : List Pattern) → pattern_of q ≡ innermost (pattern_of p) → q ≡ pattern.Term f args pos → patterns_of ps ≡ args → most (λ x. size-Pattern x) ps < size-Pattern p
+pub args_below : (p q : Pattern) (f : Ident) (args : PatternTrees) (pos : Pos) (ps : List Pattern) → pattern_of q ≡ innermost (pattern_of p)
+    → q ≡ pattern.Term f args pos → patterns_of ps ≡ args → most (λ x. size-Pattern x) ps < size-Pattern p
 args_below p q f args pos ps e is below =
     let whole : size-Pattern q ≡ size-Pattern (pattern.Term f args pos) = ap size-Pattern is in
     omega (arith, innermost_size p q e, most_pattern_size ps, ap pattern_heights below)
 
-pub subpats_below : (p q : Pattern) (args : PatternTrees) (pos : Pos) (ps : List Pattern) → pattern_of q ≡ innermost (pattern_of p) → q ≡ pattern.And args pos → patterns_of ps ≡ args → most (λ x. size-Pattern x) ps < size-Pattern p
+pub subpats_below : (p q : Pattern) (args : PatternTrees) (pos : Pos) (ps : List Pattern) → pattern_of q ≡ innermost (pattern_of p)
+    → q ≡ pattern.And args pos → patterns_of ps ≡ args → most (λ x. size-Pattern x) ps < size-Pattern p
 subpats_below p q args pos ps e is below =
     let whole : size-Pattern q ≡ size-Pattern (pattern.And args pos) = ap size-Pattern is in
     omega (arith, innermost_size p q e, most_pattern_size ps, ap pattern_heights below)
@@ -108,27 +112,33 @@ same_where_innermost s t names same =
     sym (bound_innermost s) ∙ ap (λ xs. bound xs (innermost s)) names ∙ ap (bound (names_bound t)) same ∙ bound_innermost t
 
 -- a name that is taken from a chain is the next one bound
-pub names_pushed : (xs ys : List (Ident × Pos)) (x : Ident) (p : Pos) (below t : PatternTree) → t ≡ below → ys ≡ xs ++ (x, p) ∷ [] → ys ++ names_bound t ≡ xs ++ names_bound (pattern_bind x below p)
+pub names_pushed : (xs ys : List (Ident × Pos)) (x : Ident) (p : Pos) (below t : PatternTree) → t ≡ below → ys ≡ xs ++ (x, p) ∷ []
+    → ys ++ names_bound t ≡ xs ++ names_bound (pattern_bind x below p)
 names_pushed xs ys x p below t same pushed =
     ap (λ s. ys ++ names_bound s) same ∙ ap (λ zs. zs ++ names_bound below) pushed ∙ append_assoc xs ((x, p) ∷ []) (names_bound below)
 
 -- a pattern's innermost one with its names around it is the pattern
-pub cloned_chain : (p q r : Pattern) (names : List (Ident × Pos)) → pattern_of q ≡ bound names (pattern_of r) → names ≡ names_bound (pattern_of p) → pattern_of r ≡ innermost (pattern_of p) → q ≡ p
+pub cloned_chain : (p q r : Pattern) (names : List (Ident × Pos)) → pattern_of q ≡ bound names (pattern_of r) → names ≡ names_bound (pattern_of p)
+    → pattern_of r ≡ innermost (pattern_of p) → q ≡ p
 cloned_chain p q r names whole named below =
-    pattern_of-injective q p (whole ∙ ap (λ xs. bound xs (pattern_of r)) named ∙ ap (bound (names_bound (pattern_of p))) below ∙ bound_innermost (pattern_of p))
+    pattern_of-injective q p (whole ∙ ap (λ xs. bound xs (pattern_of r)) named ∙ ap (bound (names_bound (pattern_of p))) below
+    ∙ bound_innermost (pattern_of p))
 
 -- what a binding binds is smaller
-pub bound_size : (p q : Pattern) (x : Ident) (t : PatternTree) (pos : Pos) → p ≡ pattern.BindPattern x t pos → pattern_of q ≡ t → size-Pattern q ≤ size-Pattern p
+pub bound_size : (p q : Pattern) (x : Ident) (t : PatternTree) (pos : Pos) → p ≡ pattern.BindPattern x t pos → pattern_of q ≡ t
+    → size-Pattern q ≤ size-Pattern p
 bound_size p q x t pos is same =
     let whole : size-Pattern p ≡ size-Pattern (pattern.BindPattern x t pos) = ap size-Pattern is in
     omega (arith, size_is q, ap pattern_height same)
 
 -- one name more is bound inside the others
-pub bound_pushed : (xs ys : List (Ident × Pos)) (x : Ident) (p : Pos) (t : PatternTree) → ys ≡ xs ++ (x, p) ∷ [] → bound ys t ≡ bound xs (pattern_bind x t p)
+pub bound_pushed : (xs ys : List (Ident × Pos)) (x : Ident) (p : Pos) (t : PatternTree) → ys ≡ xs ++ (x, p) ∷ []
+    → bound ys t ≡ bound xs (pattern_bind x t p)
 bound_pushed xs ys x p t pushed =
     ap (λ zs. bound zs t) pushed ∙ bound-append xs ((x, p) ∷ []) t
 
-pub binds_nothing : (p : Pattern) → ((x : Ident) (t : PatternTree) (pos : Pos) → p ≡ pattern.BindPattern x t pos → ⊥) → names_bound (pattern_of p) ≡ []
+pub binds_nothing : (p : Pattern) → ((x : Ident) (t : PatternTree) (pos : Pos) → p ≡ pattern.BindPattern x t pos → ⊥)
+    → names_bound (pattern_of p) ≡ []
 binds_nothing (pattern.Var _ _) other = refl
 binds_nothing (pattern.BindPattern x t pos) other = absurd (other x t pos refl)
 binds_nothing (pattern.ConstBool _ _) other = refl
@@ -138,3 +148,6 @@ binds_nothing (pattern.Term _ _ _) other = refl
 binds_nothing (pattern.Wildcard _) other = refl
 binds_nothing (pattern.And _ _) other = refl
 binds_nothing (pattern.MacroArg _ _) other = refl
+
+-- what goes down a chain to what it binds falls
+pub ruleset chain_ends = (innermost_size, innermost_alone)

@@ -6,7 +6,8 @@ use Rattle.std.proofs.lemmas.List.Elements.{All-nil, All-cons}
 use Rattle.isle_syntax.specs.declared.ast.IfLet.{IfLet}
 use Rattle.isle_syntax.specs.declared.ast.Def.{Def}
 use Rattle.isle_syntax.specs.declared.ast.Def.TheVariants.{TypeDef, Decl, Rule, Extractor, Extern, Converter, Pragma, Kept}
-use Rattle.isle_syntax.specs.Trees.PatternTree.{PatternTree, PatternTrees, pattern_var, pattern_bind, pattern_bool, pattern_int, pattern_prim, pattern_term, pattern_wildcard, pattern_and, pattern_macro_arg, no_patterns, more_patterns}
+use Rattle.isle_syntax.specs.Trees.PatternTree.{PatternTree, PatternTrees, pattern_var, pattern_bind, pattern_bool, pattern_int, pattern_prim}
+use Rattle.isle_syntax.specs.Trees.PatternTree.{pattern_term, pattern_wildcard, pattern_and, pattern_macro_arg, no_patterns, more_patterns}
 use Rattle.isle_syntax.specs.Trees.PatternShape.{pattern_of}
 use Rattle.isle_syntax.specs.Trees.TreeCalls.{has_macro_arg, has_macro_args}
 use Rattle.isle_syntax.specs.Tokens.PlacedTokens.{Placed}
@@ -35,11 +36,12 @@ clause_no_macro_arg : (c : IfLet) (ts : List Placed) → SpellsIfLet c ts → Ha
 clause_no_macro_arg c ts (if_let l) = no_macro_arg (pattern_of c.pattern) l.4.4.0 l.4.4.3
 clause_no_macro_arg c ts (if_holds q l same) = ap has_macro_arg same
 
-each_of : {A : Type 0} (L : A → List Placed → Type 0) (P : A → Type 0) → ((a : A) (u : List Placed) → L a u → P a) → (rest : List A) (ts : List Placed) → Each L rest ts → All P rest
+each_of : {A : Type 0} (L : A → List Placed → Type 0) (P : A → Type 0) → ((a : A) (u : List Placed) → L a u → P a)
+    → (rest : List A) (ts : List Placed) → Each L rest ts → All P rest
 each_of L P f [] ts l = All-nil P
 each_of L P f (a ∷ rest) ts l = All-cons P a rest (f a l.0 l.3) (each_of L P f rest l.1 l.4)
 
--- none stands in a spelt definition, or text
+-- none occurs in a spelt definition, or text
 pub def_no_macro_args : (def : Def) (ts : List Placed) → SpellsDef def ts → HasNoMacroArgs def
 def_no_macro_args (TypeDef t) ts l = tt
 def_no_macro_args (Decl d) ts l = tt

@@ -1,6 +1,7 @@
 -- A template filled with patterns is the pattern with them put in for the names, and there is none only where a name
 -- that is to be replaced has no pattern.
-use Rattle.std.proofs.Common.{◌≡◌, ◌≤◌, ℕ, List, [], ◌∷◌, length, ◌+◌, Bool, true, false, not, ◌||◌, ◌&&◌, Option, Some, None, if◌then◌else◌, refl, sym, ap, ◌∙◌, slice_get, is_some, add-one, arith}
+use Rattle.std.proofs.Common.{◌≡◌, ◌≤◌, ℕ, List, [], ◌∷◌, length, ◌+◌, Bool, true, false, not, ◌||◌, ◌&&◌, Option, Some, None, if◌then◌else◌, refl}
+use Rattle.std.proofs.Common.{sym, ap, ◌∙◌, slice_get, is_some, add-one, arith}
 use Rattle.std.specs.Prelude.{Contains, IfSome, unwrap_or}
 use Rattle.std.specs.List.{list_all, list_any, zip}
 use Rattle.std.specs.Option.{option_map}
@@ -12,9 +13,11 @@ use Rattle.std.proofs.lemmas.Map.Views.{Contains-from_any, list_any-from_Contain
 use Rattle.std.proofs.lemmas.List.Sums.{AllPass-from_list_all, list_all-from_AllPass}
 use Rattle.isle_syntax.specs.declared.lexer.Pos.{Pos}
 use Rattle.isle_syntax.specs.declared.ast.Ident.{Ident}
-use Rattle.isle_syntax.specs.Trees.PatternTree.{PatternTree, PatternTrees, pattern_var, pattern_bind, pattern_bool, pattern_int, pattern_prim, pattern_term, pattern_wildcard, pattern_and, pattern_macro_arg, no_patterns, more_patterns}
+use Rattle.isle_syntax.specs.Trees.PatternTree.{PatternTree, PatternTrees, pattern_var, pattern_bind, pattern_bool, pattern_int, pattern_prim}
+use Rattle.isle_syntax.specs.Trees.PatternTree.{pattern_term, pattern_wildcard, pattern_and, pattern_macro_arg, no_patterns, more_patterns}
 use Rattle.isle_syntax.specs.Trees.TreeCalls.{has_macro_arg, has_macro_args}
-use Rattle.isle_syntax.specs.Trees.Templates.{position_of_name, is_wildcard, argument_for, template_tree, template_trees, filled, all_filled, more_given}
+use Rattle.isle_syntax.specs.Trees.Templates.{position_of_name, is_wildcard, argument_for, template_tree, template_trees, filled, all_filled}
+use Rattle.isle_syntax.specs.Trees.Templates.{more_given}
 use Rattle.isle_syntax.specs.Trees.Substitution.{pattern_for, substituted, all_substituted, replaceable, all_replaceable, texts_of, Substitutes}
 use Rattle.isle_syntax.proofs.Trees.Templates.{neither}
 
@@ -28,7 +31,8 @@ given_for given None other = Some other
 given_for given (Some k) other = slice_get given k
 
 -- a tree without arguments that is filled stays as it is
-argument_filled : (given : List PatternTree) (place : Option ℕ) (pos : Pos) (other : PatternTree) → filled given other ≡ Some other → filled given (argument_for place pos other) ≡ given_for given place other
+argument_filled : (given : List PatternTree) (place : Option ℕ) (pos : Pos) (other : PatternTree) → filled given other ≡ Some other
+    → filled given (argument_for place pos other) ≡ given_for given place other
 argument_filled given None pos other e = e
 argument_filled given (Some k) pos other e = refl
 
@@ -56,7 +60,8 @@ abbrev answer : List Ident → List PatternTree → List ℕ → PatternTree →
 answer names given text other =
     when (supplied names given text) (unwrap_or (pattern_for (zip names given) text) other)
 
-one_on : (first : PatternTree) (others : List PatternTree) (place : Option ℕ) (other : PatternTree) → given_for (first ∷ others) (option_map (λ k. k + 1) place) other ≡ given_for others place other
+one_on : (first : PatternTree) (others : List PatternTree) (place : Option ℕ) (other : PatternTree)
+    → given_for (first ∷ others) (option_map (λ k. k + 1) place) other ≡ given_for others place other
 one_on first others None other = refl
 one_on first others (Some k) other = rw add-one refl
 
@@ -69,14 +74,20 @@ zip_none [] = refl
 zip_none (name ∷ names) = refl
 
 -- the pattern for a text's place is the one for the text
-place_answer : (names : List Ident) (given : List PatternTree) (text : List ℕ) (other : PatternTree) → given_for given (position_of_name names text) other ≡ answer names given text other
+place_answer : (names : List Ident) (given : List PatternTree) (text : List ℕ) (other : PatternTree)
+    → given_for given (position_of_name names text) other ≡ answer names given text other
 place_answer [] given text other = refl
 place_answer (name ∷ names) [] text other = step (bytes_eq name.0 text) (place_answer names [] text other) where
-  step : (here : Bool) → given_for [] (position_of_name names text) other ≡ answer names [] text other → given_for [] (if here then Some 0 else option_map (λ k. k + 1) (position_of_name names text)) other ≡ when (not (here || listed names text) || false) other
+  step : (here : Bool) → given_for [] (position_of_name names text) other ≡ answer names [] text other
+      → given_for [] (if here then Some 0 else option_map (λ k. k + 1) (position_of_name names text)) other ≡ when (not (here || listed names text)
+      || false) other
   step true rest = refl
   step false rest = none_on (position_of_name names text) other ∙ rest ∙ rw zip_none refl
 place_answer (name ∷ names) (first ∷ others) text other = step (bytes_eq name.0 text) (place_answer names others text other) where
-  step : (here : Bool) → given_for others (position_of_name names text) other ≡ answer names others text other → given_for (first ∷ others) (if here then Some 0 else option_map (λ k. k + 1) (position_of_name names text)) other ≡ when (not (here || listed names text) || is_some (if here then Some first else pattern_for (zip names others) text)) (unwrap_or (if here then Some first else pattern_for (zip names others) text) other)
+  step : (here : Bool) → given_for others (position_of_name names text) other ≡ answer names others text other
+      → given_for (first ∷ others) (if here then Some 0 else option_map (λ k. k + 1) (position_of_name names text)) other
+      ≡ when (not (here || listed names text) || is_some (if here then Some first else pattern_for (zip names others) text))
+      (unwrap_or (if here then Some first else pattern_for (zip names others) text) other)
   step true rest = refl
   step false rest = one_on first others (position_of_name names text) other ∙ rest
 
@@ -84,7 +95,8 @@ when_mapped : {A B : Type 0} (f : A → B) (b : Bool) (x : A) → option_map f (
 when_mapped f true x = refl
 when_mapped f false x = refl
 
-when_both : (a b : Bool) (first : PatternTree) (others : PatternTrees) → more_given (when a first) (when b others) ≡ when (a && b) (more_patterns first others)
+when_both : (a b : Bool) (first : PatternTree) (others : PatternTrees)
+    → more_given (when a first) (when b others) ≡ when (a && b) (more_patterns first others)
 when_both true true first others = refl
 when_both true false first others = refl
 when_both false true first others = refl
@@ -95,15 +107,22 @@ when_alone true x = refl
 when_alone false x = refl
 
 module _ (names : List Ident) (given : List PatternTree) where
-  bound_filled : (wild : Bool) (name : Ident) (below : PatternTree) (pos : Pos) → is_wildcard below ≡ wild → filled given (template_tree names below) ≡ when (list_all (supplied names given) (replaceable below)) (substituted (zip names given) below) → filled given (if wild then argument_for (position_of_name names name.0) pos (pattern_bind name below pos) else pattern_bind name (template_tree names below) pos) ≡ when (list_all (supplied names given) (if wild then name.0 ∷ [] else replaceable below)) (if wild then unwrap_or (pattern_for (zip names given) name.0) (pattern_bind name below pos) else pattern_bind name (substituted (zip names given) below) pos)
+  bound_filled : (wild : Bool) (name : Ident) (below : PatternTree) (pos : Pos) → is_wildcard below ≡ wild
+      → filled given (template_tree names below) ≡ when (list_all (supplied names given) (replaceable below)) (substituted (zip names given) below)
+      → filled given (if wild then argument_for (position_of_name names name.0) pos (pattern_bind name below pos) else pattern_bind name
+      (template_tree names below) pos) ≡ when (list_all (supplied names given) (if wild then name.0 ∷ [] else replaceable below))
+      (if wild then unwrap_or (pattern_for (zip names given) name.0) (pattern_bind name below pos) else pattern_bind name
+      (substituted (zip names given) below) pos)
   bound_filled true name below pos e h =
       let other = pattern_bind name below pos in
-      argument_filled given (position_of_name names name.0) pos other (ap (option_map (λ t. pattern_bind name t pos)) (wildcard_stays given below e)) ∙ place_answer names given name.0 other ∙ when_alone _ _
+      argument_filled given (position_of_name names name.0) pos other (ap (option_map (λ t. pattern_bind name t pos)) (wildcard_stays given below e))
+      ∙ place_answer names given name.0 other ∙ when_alone _ _
   bound_filled false name below pos e h =
       ap (option_map (λ t. pattern_bind name t pos)) h ∙ when_mapped (λ t. pattern_bind name t pos) _ _
 
   mutual
-    pub template_filled : (t : PatternTree) → has_macro_arg t ≡ false → filled given (template_tree names t) ≡ when (list_all (supplied names given) (replaceable t)) (substituted (zip names given) t)
+    pub template_filled : (t : PatternTree) → has_macro_arg t ≡ false
+        → filled given (template_tree names t) ≡ when (list_all (supplied names given) (replaceable t)) (substituted (zip names given) t)
     template_filled (pattern_var name pos) h =
         let other = pattern_var name pos in
         argument_filled given (position_of_name names name.0) pos other refl ∙ place_answer names given name.0 other ∙ when_alone _ _
@@ -119,7 +138,9 @@ module _ (names : List Ident) (given : List PatternTree) where
         ap (option_map (λ ts. pattern_and ts pos)) (templates_filled below h) ∙ when_mapped (λ ts. pattern_and ts pos) _ _
     template_filled (pattern_macro_arg k pos) h = cc
 
-    pub templates_filled : (ts : PatternTrees) → has_macro_args ts ≡ false → all_filled given (template_trees names ts) ≡ when (list_all (supplied names given) (all_replaceable ts)) (all_substituted (zip names given) ts)
+    pub templates_filled : (ts : PatternTrees) → has_macro_args ts ≡ false
+        → all_filled given (template_trees names ts)
+        ≡ when (list_all (supplied names given) (all_replaceable ts)) (all_substituted (zip names given) ts)
     templates_filled no_patterns h = refl
     templates_filled (more_patterns first others) h =
         let parts = neither (has_macro_arg first) (has_macro_args others) h in
@@ -129,8 +150,11 @@ module _ (names : List Ident) (given : List PatternTree) where
         let given_others = list_all (supplied names given) (all_replaceable others) in
         let made_first = substituted (zip names given) first in
         let made_others = all_substituted (zip names given) others in
-        let both : more_given (filled given (template_tree names first)) (all_filled given (template_trees names others)) ≡ more_given (when given_first made_first) (when given_others made_others) = cc in
-        both ∙ when_both given_first given_others made_first made_others ∙ ap (λ b. when b (more_patterns made_first made_others)) (sym (list_all-append (supplied names given) (replaceable first) (all_replaceable others)))
+        let both : more_given (filled given (template_tree names first)) (all_filled given (template_trees names others))
+        ≡ more_given (when given_first made_first) (when given_others made_others) = cc in
+        both ∙ when_both given_first given_others made_first made_others
+        ∙ ap (λ b. when b (more_patterns made_first made_others))
+        (sym (list_all-append (supplied names given) (replaceable first) (all_replaceable others)))
 
 -- where no fewer patterns than names are given, each listed name has one
 all_supplied : (names : List Ident) (given : List PatternTree) (text : List ℕ) → length names ≤ length given → supplied names given text ≡ true
@@ -138,7 +162,8 @@ all_supplied [] given text enough = refl
 all_supplied (name ∷ names) [] text enough = absurd (omega arith)
 all_supplied (name ∷ names) (first ∷ others) text enough =
     step (bytes_eq name.0 text) (all_supplied names others text (omega arith)) where
-      step : (here : Bool) → supplied names others text ≡ true → (not (here || listed names text) || is_some (if here then Some first else pattern_for (zip names others) text)) ≡ true
+      step : (here : Bool) → supplied names others text ≡ true
+          → (not (here || listed names text) || is_some (if here then Some first else pattern_for (zip names others) text)) ≡ true
       step true rest = refl
       step false rest = rest
 
@@ -184,17 +209,21 @@ is_it : {A : Type 0} (b : Bool) (x : A) → IfSome (when b x) (λ made. made ≡
 is_it true x = refl
 is_it false x = tt
 
-pub substitutes : (names : List Ident) (given : List PatternTree) (pattern : PatternTree) → has_macro_arg pattern ≡ false → Substitutes names given pattern
+pub substitutes : (names : List Ident) (given : List PatternTree) (pattern : PatternTree) → has_macro_arg pattern ≡ false
+    → Substitutes names given pattern
 substitutes names given pattern free =
     let found = list_all (supplied names given) (replaceable pattern) in
     let made = substituted (zip names given) pattern in
     let is : filled given (template_tree names pattern) ≡ when found made = template_filled names given pattern free in
     let some : is_some (filled given (template_tree names pattern)) ≡ found = ap is_some is ∙ is_some-when found made in
     record {
-      enough = λ enough. is ∙ ap (λ b. when b made) (all_pass (supplied names given) (λ text. all_supplied names given text enough) (replaceable pattern));
+      enough =
+          λ enough. is ∙ ap (λ b. when b made) (all_pass (supplied names given) (λ text. all_supplied names given text enough) (replaceable pattern));
       right = rw is (is_it found made);
       there = (
-        λ e k d low among. either _ _ (AllPass-from_list_all (supplied names given) (replaceable pattern) (sym some ∙ e) k d low) (is_listed names _ among),
-        λ all. some ∙ list_all-from_AllPass (supplied names given) (replaceable pattern) (λ k d low. or_not _ _ (λ e. all k d low (is_among names _ e))),
+        λ e k d low among. either _ _ (AllPass-from_list_all (supplied names given) (replaceable pattern) (sym some ∙ e) k d low)
+            (is_listed names _ among),
+        λ all. some ∙ list_all-from_AllPass (supplied names given) (replaceable pattern)
+            (λ k d low. or_not _ _ (λ e. all k d low (is_among names _ e))),
       );
     }

@@ -15,8 +15,10 @@ module _ {P A : Type 0} (R : P → A → P → Type 0) where
       (rest.0, (all.0, all.1, rest.1), rest.2)
 
   -- one element more, where what belongs to a list belongs to its elements in order
-  module _ {X : Type 0} (one : X → List A) (all : List X → List A) (none : all [] ≡ []) (more : (x : X) (xs : List X) → all (x ∷ xs) ≡ one x ++ all xs) where
-    pub called_more : (xs : List X) (i : ℕ) (x : X) (p q r : P) → i < length xs → x ≡ get_or xs i x → FoldsTo R p (all (take i xs)) q → FoldsTo R q (one x) r → FoldsTo R p (all (take (suc i) xs)) r
+  module _ {X : Type 0} (one : X → List A) (all : List X → List A) (none : all [] ≡ []) (more : (x : X) (xs : List X)
+      → all (x ∷ xs) ≡ one x ++ all xs) where
+    pub called_more : (xs : List X) (i : ℕ) (x : X) (p q r : P) → i < length xs → x ≡ get_or xs i x → FoldsTo R p (all (take i xs)) q
+        → FoldsTo R q (one x) r → FoldsTo R p (all (take (suc i) xs)) r
     called_more [] i x p q r low is first second = absurd (omega arith)
     called_more (y ∷ ys) zero x p q r low is first second =
         let start = subst (λ terms. FoldsTo R p terms q) none first in

@@ -4,7 +4,8 @@ use Rattle.isle_syntax.specs.declared.ast.Pattern.{Pattern}
 use Rattle.isle_syntax.specs.declared.ast.Pattern.TheVariants as patterns
 use Rattle.isle_syntax.specs.declared.ast.Expr.{Expr}
 use Rattle.isle_syntax.specs.declared.ast.Expr.TheVariants as exprs
-use Rattle.isle_syntax.specs.Trees.PatternTree.{PatternTree, pattern_var, pattern_bind, pattern_bool, pattern_int, pattern_prim, pattern_term, pattern_wildcard, pattern_and, pattern_macro_arg}
+use Rattle.isle_syntax.specs.Trees.PatternTree.{PatternTree, pattern_var, pattern_bind, pattern_bool, pattern_int, pattern_prim, pattern_term}
+use Rattle.isle_syntax.specs.Trees.PatternTree.{pattern_wildcard, pattern_and, pattern_macro_arg}
 use Rattle.isle_syntax.specs.Trees.PatternShape.{pattern_of}
 use Rattle.isle_syntax.specs.Trees.ExprTree.{ExprTree, expr_term, expr_var, expr_bool, expr_int, expr_prim, expr_let}
 use Rattle.isle_syntax.specs.Trees.ExprShape.{expr_of}

@@ -33,7 +33,8 @@ patterns_of-injective (p ∷ ps) [] e = cc
 patterns_of-injective (p ∷ ps) (q ∷ qs) e =
     let first = pattern_of-injective p q cc in let rest = patterns_of-injective ps qs cc in cc
 
-pub patterns_differ_at : (ps qs : List Pattern) (i : ℕ) (p q : Pattern) → p ≡ get_or ps i p → q ≡ get_or qs i q → i < length ps → i < length qs → patterns_of ps ≡ patterns_of qs → pattern_of p ≡ pattern_of q
+pub patterns_differ_at : (ps qs : List Pattern) (i : ℕ) (p q : Pattern) → p ≡ get_or ps i p → q ≡ get_or qs i q → i < length ps → i < length qs
+    → patterns_of ps ≡ patterns_of qs → pattern_of p ≡ pattern_of q
 patterns_differ_at [] qs i p q e f m n h = absurd (omega arith)
 patterns_differ_at (a ∷ ps) [] i p q e f m n h = absurd (omega arith)
 patterns_differ_at (a ∷ ps) (b ∷ qs) zero p q e f m n h = cc
@@ -92,7 +93,8 @@ items_of-injective (p ∷ ps) [] e = cc
 items_of-injective (p ∷ ps) (q ∷ qs) e =
     let first = item_of-injective p q cc in let rest = items_of-injective ps qs cc in cc
 
-pub exprs_differ_at : (ps qs : List Expr) (i : ℕ) (p q : Expr) → p ≡ get_or ps i p → q ≡ get_or qs i q → i < length ps → i < length qs → exprs_of ps ≡ exprs_of qs → expr_of p ≡ expr_of q
+pub exprs_differ_at : (ps qs : List Expr) (i : ℕ) (p q : Expr) → p ≡ get_or ps i p → q ≡ get_or qs i q → i < length ps → i < length qs
+    → exprs_of ps ≡ exprs_of qs → expr_of p ≡ expr_of q
 exprs_differ_at [] qs i p q e f m n h = absurd (omega arith)
 exprs_differ_at (a ∷ ps) [] i p q e f m n h = absurd (omega arith)
 exprs_differ_at (a ∷ ps) (b ∷ qs) zero p q e f m n h = cc
@@ -104,7 +106,8 @@ exprs_same_length [] (q ∷ qs) h = cc
 exprs_same_length (p ∷ ps) [] h = cc
 exprs_same_length (p ∷ ps) (q ∷ qs) h = ap suc (exprs_same_length ps qs (cc))
 
-pub lets_differ_at : (ps qs : List LetDef) (i : ℕ) (p q : LetDef) → p ≡ get_or ps i p → q ≡ get_or qs i q → i < length ps → i < length qs → lets_of ps ≡ lets_of qs → let_of p ≡ let_of q
+pub lets_differ_at : (ps qs : List LetDef) (i : ℕ) (p q : LetDef) → p ≡ get_or ps i p → q ≡ get_or qs i q → i < length ps → i < length qs
+    → lets_of ps ≡ lets_of qs → let_of p ≡ let_of q
 lets_differ_at [] qs i p q e f m n h = absurd (omega arith)
 lets_differ_at (a ∷ ps) [] i p q e f m n h = absurd (omega arith)
 lets_differ_at (a ∷ ps) (b ∷ qs) zero p q e f m n h = cc
@@ -116,7 +119,8 @@ lets_same_length [] (q ∷ qs) h = cc
 lets_same_length (p ∷ ps) [] h = cc
 lets_same_length (p ∷ ps) (q ∷ qs) h = ap suc (lets_same_length ps qs (cc))
 
-pub items_differ_at : (ps qs : List KeptItem) (i : ℕ) (p q : KeptItem) → p ≡ get_or ps i p → q ≡ get_or qs i q → i < length ps → i < length qs → items_of ps ≡ items_of qs → item_of p ≡ item_of q
+pub items_differ_at : (ps qs : List KeptItem) (i : ℕ) (p q : KeptItem) → p ≡ get_or ps i p → q ≡ get_or qs i q → i < length ps → i < length qs
+    → items_of ps ≡ items_of qs → item_of p ≡ item_of q
 items_differ_at [] qs i p q e f m n h = absurd (omega arith)
 items_differ_at (a ∷ ps) [] i p q e f m n h = absurd (omega arith)
 items_differ_at (a ∷ ps) (b ∷ qs) zero p q e f m n h = cc
@@ -138,3 +142,12 @@ lets_from_map [] [] h = refl
 lets_from_map [] (f ∷ fs) h = cc
 lets_from_map (d ∷ ds) [] h = cc
 lets_from_map (d ∷ ds) (f ∷ fs) h = let rest = lets_from_map ds fs (cc) in cc
+
+-- lists compared place by place
+pub ruleset patterns_compared = (patterns_differ_at, patterns_same_length)
+
+pub ruleset exprs_compared = (exprs_differ_at, exprs_same_length)
+
+pub ruleset lets_compared = (lets_from_map, lets_differ_at, lets_same_length)
+
+pub ruleset items_compared = (items_differ_at, items_same_length)

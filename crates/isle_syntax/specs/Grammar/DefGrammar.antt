@@ -1,5 +1,6 @@
 -- The grammar of definitions: which tokens spell one.
-use Rattle.std.specs.Prelude.{◌≡◌, ℕ, ℤ, pos, negsuc, int_le, int_lt, suc, ◌-◌, ◌^◌, ◌&&◌, List, [], ◌∷◌, Bool, true, false, ◌||◌, Option, Some, None, codes}
+use Rattle.std.specs.Prelude.{◌≡◌, ℕ, ℤ, pos, negsuc, int_le, int_lt, suc, ◌-◌, ◌^◌, ◌&&◌, List, [], ◌∷◌, Bool, true, false, ◌||◌, Option, Some, None}
+use Rattle.std.specs.Prelude.{codes}
 use Rattle.std.specs.List.{list_any}
 use Rattle.isle_syntax.specs.declared.lexer.Pos.{Pos}
 use Rattle.isle_syntax.specs.declared.ast.Ident.{Ident}
@@ -131,8 +132,10 @@ SpellsPriority (Some z) ts = (p : Pos) × (ts ≡ int p (small z) ∷ []) × (fi
 
 -- `(if-let pattern expr)`, or `(if expr)`, which is the same with `_` at the word
 pub data SpellsIfLet (c : IfLet) (ts : List Placed) : Type 0 where
-  if_let : (Opens c.pos ⊙ (Says (codes "if-let") tt ⊙ (SpellsPattern (pattern_of c.pattern) ⊙ (SpellsExpr (expr_of c.expr) ⊙ Closes tt)))) ts → SpellsIfLet c ts
-  if_holds : (p : Pos) → (Opens c.pos ⊙ (Word (codes "if") p ⊙ (SpellsExpr (expr_of c.expr) ⊙ Closes tt))) ts → pattern_of c.pattern ≡ pattern_wildcard p → SpellsIfLet c ts
+  if_let : (Opens c.pos ⊙ (Says (codes "if-let") tt ⊙ (SpellsPattern (pattern_of c.pattern) ⊙ (SpellsExpr (expr_of c.expr) ⊙ Closes tt)))) ts
+      → SpellsIfLet c ts
+  if_holds : (p : Pos) → (Opens c.pos ⊙ (Word (codes "if") p ⊙ (SpellsExpr (expr_of c.expr) ⊙ Closes tt))) ts
+      → pattern_of c.pattern ≡ pattern_wildcard p → SpellsIfLet c ts
 
 -- after a rule's pattern `(if` and `(if-let` are always clauses
 abbrev pub is_clause_word : List ℕ → Bool
@@ -147,7 +150,10 @@ SpellsRightSide e ts = SpellsExpr e ts × IsRightSide e
 
 abbrev pub SpellsRule : RuleTree → List Placed → Type 0
 SpellsRule r = λ ts.
-    (SpellsName r.name ⊙ (SpellsPriority r.prio ⊙ (SpellsPattern (pattern_of r.pattern) ⊙ (Each SpellsIfLet r.iflets ⊙ (SpellsRightSide (expr_of r.expr) ⊙ Closes tt))))) ts
+    (SpellsName r.name
+    ⊙ (SpellsPriority r.prio
+    ⊙ (SpellsPattern (pattern_of r.pattern)
+    ⊙ (Each SpellsIfLet r.iflets ⊙ (SpellsRightSide (expr_of r.expr) ⊙ Closes tt))))) ts
     × IsList (pattern_of r.pattern) × (first_pos ts ≡ r.pos)
 
 -- ---- definitions

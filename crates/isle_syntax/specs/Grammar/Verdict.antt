@@ -1,14 +1,10 @@
 -- What a parser of a whole text promises, in the grammar's words.
-use Rattle.std.specs.Prelude.{◌≡◌, ℕ, List, [], ◌∷◌, ◌++◌, Bool, true, false, Some, Result, Ok, Err, Vec, map}
-use Rattle.std.specs.Global.{Global}
+use Rattle.std.specs.Prelude.{◌≡◌, ℕ, List, [], ◌∷◌, ◌++◌, Bool, true, false, Some, map}
 use Rattle.isle_syntax.specs.declared.lexer.Pos.{Pos}
 use Rattle.isle_syntax.specs.declared.error.Span.{Span}
 use Rattle.isle_syntax.specs.declared.error.Error.{Error}
-use Rattle.isle_syntax.specs.declared.error.Error.TheVariants.{ParseError, TypeError, UnreachableError, OverlapError, ShadowedError, SizeError}
-use Rattle.isle_syntax.specs.declared.refusal.Refusal.{Refusal}
-use Rattle.isle_syntax.specs.declared.refusal.Refusal.TheVariants.{Fault, Memory}
 use Rattle.isle_syntax.specs.declared.ast.Def.{Def}
-use Rattle.isle_syntax.specs.Errors.{span_at}
+use Rattle.isle_syntax.specs.Errors.{IsParseOrSize, span_at}
 use Rattle.isle_syntax.specs.Tokens.PlacedTokens.{Placed, opening}
 use Rattle.isle_syntax.specs.Tokens.RemainingTokens.{RemainingTokens, next_pos}
 use Rattle.isle_syntax.specs.Grammar.Phrases.{depth_left}
@@ -61,23 +57,10 @@ pub record IsSpelt (remaining : RemainingTokens) (defs : List Def) : Type 0 wher
   pub nests : NestsWithin remaining.left
   pub only : (others : List Def) → SpellsText others remaining.left → others ≡ defs
 
--- an error is the fault of a text
+-- these are the definitions that all tokens of the text spell, without their positions
+abbrev pub IsSpeltWithoutPos : RemainingTokens → List Def → Type 0
+IsSpeltWithoutPos remaining defs = (placed : List Def) × IsSpelt remaining placed × (defs ≡ map def_without_pos placed)
+
+-- an error is the fault of a text: a parse error where no spelling goes on, or a size error at a parenthesis that is too deep
 abbrev pub IsFaultOf : RemainingTokens → Error → Type 0
-IsFaultOf remaining (ParseError message span) = FaultAt remaining span
-IsFaultOf remaining (SizeError message span) = DeepAt remaining span
-IsFaultOf remaining (TypeError message span) = ⊥
-IsFaultOf remaining (UnreachableError message span) = ⊥
-IsFaultOf remaining (OverlapError message rules) = ⊥
-IsFaultOf remaining (ShadowedError shadowed mask) = ⊥
-
--- what a call answered is right
-abbrev pub IsRight : RemainingTokens → Result (Vec Def Global) (Refusal Error) → Type 0
-IsRight remaining (Ok defs) = IsSpelt remaining defs.items
-IsRight remaining (Err (Fault error)) = IsFaultOf remaining error
-IsRight remaining (Err (Memory e)) = Unit {0}
-
--- the same of a call that forgets all positions
-abbrev pub IsRightWithoutPos : RemainingTokens → Result (Vec Def Global) (Refusal Error) → Type 0
-IsRightWithoutPos remaining (Ok defs) = (placed : List Def) × IsSpelt remaining placed × (defs.items ≡ map def_without_pos placed)
-IsRightWithoutPos remaining (Err (Fault error)) = IsFaultOf remaining error
-IsRightWithoutPos remaining (Err (Memory e)) = Unit {0}
+IsFaultOf remaining error = IsParseOrSize (FaultAt remaining) (DeepAt remaining) error

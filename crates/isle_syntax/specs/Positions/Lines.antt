@@ -14,7 +14,7 @@ line_starts text = map (λ at. at.0 + 1) (filter (λ at. is_newline at.1) (enume
 abbrev pub starts_up_to : List ℕ → ℕ → ℕ
 starts_up_to starts offset = count_by (λ start. nat_le start offset) starts
 
--- how many newline bytes stand below the offset
+-- how many newline bytes occur below the offset
 abbrev pub newlines_before : List ℕ → ℕ → ℕ
 newlines_before text offset = count_by is_newline (take offset text)
 

@@ -26,7 +26,8 @@ use Rattle.isle_syntax.specs.declared.ast.Converter.{Converter as ConverterTree}
 use Rattle.isle_syntax.specs.declared.ast.Kept.{Kept as KeptTree}
 use Rattle.isle_syntax.specs.declared.ast.Def.{Def}
 use Rattle.isle_syntax.specs.declared.ast.Def.TheVariants as defs
-use Rattle.isle_syntax.specs.Trees.PatternTree.{PatternTree, pattern_var, pattern_bind, pattern_bool, pattern_int, pattern_prim, pattern_term, pattern_wildcard, pattern_and, pattern_macro_arg}
+use Rattle.isle_syntax.specs.Trees.PatternTree.{PatternTree, pattern_var, pattern_bind, pattern_bool, pattern_int, pattern_prim, pattern_term}
+use Rattle.isle_syntax.specs.Trees.PatternTree.{pattern_wildcard, pattern_and, pattern_macro_arg}
 use Rattle.isle_syntax.specs.Trees.ExprTree.{ExprTree, expr_term, expr_var, expr_bool, expr_int, expr_prim, expr_let}
 use Rattle.isle_syntax.specs.Trees.ItemTree.{ItemTree}
 use Rattle.isle_syntax.specs.Tokens.PlacedTokens.{Placed, opening, closing, at_sign, symbol, int, Literal, small, large}
@@ -34,8 +35,10 @@ use Rattle.isle_syntax.specs.Tokens.Names.{is_ident, is_const, is_word}
 use Rattle.isle_syntax.specs.Grammar.Phrases.{next_symbol_is}
 use Rattle.isle_syntax.specs.Reading.KindOf.{keyword_at}
 use Rattle.isle_syntax.specs.Grammar.TreeGrammar.{bits_of}
-use Rattle.isle_syntax.specs.Grammar.DefGrammar.{Mark, extern_mark, nodebug_mark, is_extern_mark, is_nodebug_mark, numbered, fits_priority, is_kept_word}
-use Rattle.isle_syntax.specs.Reading.Readers.{fault, Reader, read_map, seq, from, many, rest_of, parens, closed, integer, symbol_of, word, says, optional}
+use Rattle.isle_syntax.specs.Grammar.DefGrammar.{Mark, extern_mark, nodebug_mark, is_extern_mark, is_nodebug_mark, numbered, fits_priority}
+use Rattle.isle_syntax.specs.Grammar.DefGrammar.{is_kept_word}
+use Rattle.isle_syntax.specs.Reading.Readers.{fault, Reader, read_map, seq, from, many, rest_of, parens, closed, integer, symbol_of, word, says}
+use Rattle.isle_syntax.specs.Reading.Readers.{optional}
 use Rattle.isle_syntax.specs.Reading.TreeReading.{ident, after_dollar, item_trees, item, pattern, pattern_list, expr, expr_inner, Inner, inner_expr}
 
 -- ---- trees one level at a time
@@ -195,7 +198,9 @@ decl_of x = record {
 }
 
 abbrev pub decl : ℕ → Reader DeclTree
-decl d ts = read_map decl_of (from (optional (codes "pure") (optional (codes "multi") (optional (codes "partial") (optional (codes "rec") (signature d))))) ts)
+decl d ts =
+    read_map decl_of
+    (from (optional (codes "pure") (optional (codes "multi") (optional (codes "partial") (optional (codes "rec") (signature d))))) ts)
 
 abbrev pub extractor_of : (Pos × (Ident × List Ident)) × (PatternTree × Unit {0}) → ExtractorTree
 extractor_of x = record { term = x.0.1.0; args = x.0.1.1; template = pattern_from x.1.0; pos = x.0.0 }

@@ -13,7 +13,12 @@ use Rattle.isle_syntax.specs.Tokens.Names.{is_name, is_const, is_word}
 -- the first of these that a symbol is
 unfoldable pub symbol_kind : List ℕ → Kind
 symbol_kind s =
-    cond (is_word (codes "true") s) True (cond (is_word (codes "false") s) False (cond (is_const s) Const (cond (is_word (codes "_") s) Wildcard (cond (is_name s) Name Other))))
+    cond (is_word (codes "true") s) True
+    (cond (is_word (codes "false") s) False
+    (cond (is_const s) Const
+    (cond (is_word (codes "_") s) Wildcard
+    (cond (is_name s) Name
+    Other))))
 
 abbrev pub kind_of : Placed → Kind
 kind_of (opening p) = Open
@@ -28,7 +33,21 @@ kind_at (t ∷ ts) = kind_of t
 
 -- the word of the language that a symbol is
 unfoldable pub keyword_of : List ℕ → Keyword
-keyword_of s = cond (is_kept_word s) keyword.Kept (cond (is_word (codes "type") s) keyword.Type (cond (is_word (codes "decl") s) keyword.Decl (cond (is_word (codes "rule") s) keyword.Rule (cond (is_word (codes "extractor") s) keyword.Extractor (cond (is_word (codes "extern") s) keyword.Extern (cond (is_word (codes "convert") s) keyword.Convert (cond (is_word (codes "nodebug") s) keyword.NoDebug (cond (is_word (codes "primitive") s) keyword.Primitive (cond (is_word (codes "enum") s) keyword.Enum (cond (is_word (codes "struct") s) keyword.Struct (cond (is_word (codes "constructor") s) keyword.Constructor (cond (is_word (codes "const") s) keyword.Const (keyword.NoKeyword)))))))))))))
+keyword_of s =
+    cond (is_kept_word s) keyword.Kept
+    (cond (is_word (codes "type") s) keyword.Type
+    (cond (is_word (codes "decl") s) keyword.Decl
+    (cond (is_word (codes "rule") s) keyword.Rule
+    (cond (is_word (codes "extractor") s) keyword.Extractor
+    (cond (is_word (codes "extern") s) keyword.Extern
+    (cond (is_word (codes "convert") s) keyword.Convert
+    (cond (is_word (codes "nodebug") s) keyword.NoDebug
+    (cond (is_word (codes "primitive") s) keyword.Primitive
+    (cond (is_word (codes "enum") s) keyword.Enum
+    (cond (is_word (codes "struct") s) keyword.Struct
+    (cond (is_word (codes "constructor") s) keyword.Constructor
+    (cond (is_word (codes "const") s) keyword.Const
+    keyword.NoKeyword))))))))))))
 
 abbrev pub keyword_in : Placed → Keyword
 keyword_in (opening p) = keyword.NoKeyword

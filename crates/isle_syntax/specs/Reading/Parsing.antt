@@ -1,10 +1,9 @@
 -- What a call that reads from a lexer gives.
 use Rattle.std.specs.Prelude.{◌≡◌, ℕ, ℤ, List, [], Bool, true, false, Option, Some, None, Result, Ok, Err}
 use Rattle.isle_syntax.specs.declared.error.Error.{Error}
-use Rattle.isle_syntax.specs.declared.error.Error.TheVariants.{ParseError, TypeError, UnreachableError, OverlapError, ShadowedError, SizeError}
 use Rattle.isle_syntax.specs.declared.refusal.Refusal.{Refusal}
 use Rattle.isle_syntax.specs.declared.refusal.Refusal.TheVariants.{Fault, Memory}
-use Rattle.isle_syntax.specs.Errors.{span_at}
+use Rattle.isle_syntax.specs.Errors.{IsParseOrSize, span_at}
 use Rattle.isle_syntax.specs.declared.lexer.Pos.{Pos}
 use Rattle.isle_syntax.specs.declared.ast.Ident.{Ident}
 use Rattle.isle_syntax.specs.Tokens.Names.{is_word, is_ident}
@@ -33,12 +32,9 @@ bounds u = (u.end, (u.clean, u.source))
 
 -- an error tells where reading stopped, and the lexer is left there
 abbrev pub TellsStop : RemainingTokens → RemainingTokens → Error → Stop → Type 0
-TellsStop old new (ParseError message span) stop = (stop ≡ at_fault new.left) × (span ≡ span_at (remaining_pos new)) × (bounds new ≡ bounds old)
-TellsStop old new (SizeError message span) stop = (stop ≡ at_deep new.left) × (span ≡ span_at (remaining_pos new)) × (bounds new ≡ bounds old)
-TellsStop old new (TypeError message span) stop = ⊥
-TellsStop old new (UnreachableError message span) stop = ⊥
-TellsStop old new (OverlapError message rules) stop = ⊥
-TellsStop old new (ShadowedError shadowed mask) stop = ⊥
+TellsStop old new error stop = IsParseOrSize
+    (λ span. (stop ≡ at_fault new.left) × (span ≡ span_at (remaining_pos new)) × (bounds new ≡ bounds old))
+    (λ span. (stop ≡ at_deep new.left) × (span ≡ span_at (remaining_pos new)) × (bounds new ≡ bounds old)) error
 
 -- the same of a refusal; one for memory says nothing
 abbrev pub RefusesAt : RemainingTokens → RemainingTokens → Refusal Error → Stop → Type 0
@@ -83,5 +79,6 @@ TakesName old new None = (next_symbol_is is_ident old.left ≡ false) × (new �
 -- whether a priority was taken, which stood next exactly then
 abbrev pub TakesPriority : RemainingTokens → RemainingTokens → Option ℤ → Type 0
 TakesPriority old new (Some z) =
-    (is_priority_next old.left ≡ true) × ((p : Pos) × (n : Literal) × (integer old.left ≡ done (p, n) new.left) × (z ≡ bits_of n)) × (bounds new ≡ bounds old)
+    (is_priority_next old.left ≡ true) × ((p : Pos) × (n : Literal) × (integer old.left ≡ done (p, n) new.left) × (z ≡ bits_of n))
+    × (bounds new ≡ bounds old)
 TakesPriority old new None = (is_priority_next old.left ≡ false) × (new ≡ old)

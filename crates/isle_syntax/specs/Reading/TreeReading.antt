@@ -13,7 +13,8 @@ use Rattle.isle_syntax.specs.Reading.Readers.{Read, done, fault, Reader, read_ma
 pub use Rattle.isle_syntax.specs.Trees.PatternTree.{pattern_list as pattern_trees}
 pub use Rattle.isle_syntax.specs.Trees.ExprTree.{expr_list as expr_trees}
 pub use Rattle.isle_syntax.specs.Trees.ItemTree.{item_list_of as item_trees}
-use Rattle.isle_syntax.specs.Trees.PatternTree.{PatternTree, pattern_var, pattern_bind, pattern_bool, pattern_int, pattern_prim, pattern_term, pattern_wildcard, pattern_and}
+use Rattle.isle_syntax.specs.Trees.PatternTree.{PatternTree, pattern_var, pattern_bind, pattern_bool, pattern_int, pattern_prim, pattern_term}
+use Rattle.isle_syntax.specs.Trees.PatternTree.{pattern_wildcard, pattern_and}
 use Rattle.isle_syntax.specs.Trees.ExprTree.{ExprTree, LetTrees, expr_term, expr_var, expr_bool, expr_int, expr_prim, expr_let, no_lets, more_lets}
 use Rattle.isle_syntax.specs.Trees.ItemTree.{ItemTree, item_int, item_big, item_symbol, item_at, item_list}
 

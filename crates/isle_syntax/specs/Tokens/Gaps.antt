@@ -68,4 +68,5 @@ pub data IsGap : List ℕ → List ℕ → Type 0 where
   none : {text : List ℕ} → BeginsNoGap (lead_of text) text → IsGap text text
   space : {text rest : List ℕ} → lead_of text ≡ Lead.Space → IsGap (after_first text) rest → IsGap text rest
   line : {text rest : List ℕ} → lead_of text ≡ Lead.Line → IsGap (after_run in_line (after_first text)) rest → IsGap text rest
-  comment : {text behind rest : List ℕ} → lead_of text ≡ Lead.Comment → Inside (after_first (after_first text)) behind → IsGap behind rest → IsGap text rest
+  comment : {text behind rest : List ℕ} → lead_of text ≡ Lead.Comment → Inside (after_first (after_first text)) behind → IsGap behind rest
+      → IsGap text rest

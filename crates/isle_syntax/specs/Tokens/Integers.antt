@@ -1,5 +1,6 @@
 -- Integers as they are spelt.
-use Rattle.std.specs.Prelude.{ℕ, ◌+◌, ◌*◌, ◌^◌, pos, neg_ℤ, List, [], ◌∷◌, Bool, true, false, cond, ◌||◌, ◌==◌, not, nat_lt, nat_le, Option, Some, None}
+use Rattle.std.specs.Prelude.{ℕ, ◌+◌, ◌*◌, ◌^◌, pos, neg_ℤ, List, [], ◌∷◌, Bool, true, false, cond, ◌||◌, ◌==◌, not, nat_lt, nat_le, Option, Some}
+use Rattle.std.specs.Prelude.{None}
 use Rattle.std.specs.List.{list_any}
 use Rattle.std.specs.Char.{digit_value}
 use Rattle.isle_syntax.specs.Tokens.Gaps.{after_first, after_run, run_of}

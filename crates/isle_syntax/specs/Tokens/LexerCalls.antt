@@ -10,7 +10,7 @@ use Rattle.isle_syntax.specs.declared.refusal.Refusal.TheVariants.{Fault, Memory
 use Rattle.isle_syntax.specs.Tokens.PlacedTokens.{Placed, symbol, opening, closing, at_sign, int, pos_of, placed}
 use Rattle.isle_syntax.specs.Tokens.RemainingTokens.{LexerState, ready, starved, failed, RemainingTokens, remaining_pos, failed_at}
 use Rattle.isle_syntax.specs.Positions.Printable.{IsIn}
-use Rattle.isle_syntax.specs.Errors.{span_at}
+use Rattle.isle_syntax.specs.Errors.{IsParseOrSize, span_at}
 
 -- a symbol is the first of these tokens
 abbrev pub BeginsWithSymbol : List Placed → Type 0
@@ -53,14 +53,9 @@ pub record AnswersEnd (old new : RemainingTokens) : Type 0 where
 
 -- an error of syntax with this span
 abbrev pub IsParseErrorAt : Span → Error → Type 0
-IsParseErrorAt at (ParseError message span) = span ≡ at
-IsParseErrorAt at (TypeError message span) = ⊥
-IsParseErrorAt at (UnreachableError message span) = ⊥
-IsParseErrorAt at (OverlapError message rules) = ⊥
-IsParseErrorAt at (ShadowedError shadowed mask) = ⊥
-IsParseErrorAt at (SizeError message span) = ⊥
+IsParseErrorAt at error = IsParseOrSize (λ span. span ≡ at) (λ _. ⊥) error
 
--- the message of an error of syntax
+-- the message of an error, where it has one
 abbrev pub message_of : Error → List ℕ
 message_of (ParseError message span) = message
 message_of (TypeError message span) = message

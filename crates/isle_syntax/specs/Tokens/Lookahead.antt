@@ -32,6 +32,7 @@ remaining_of source lookahead start rest = let r = reading_of source lookahead s
 pub record IsAhead (source : Source) (lookahead : Lookahead) (start : ℕ) (rest : List ℕ) : Type 0 where
   pub within : start ≤ source.size
   pub remaining : length rest ≤ source.size
-  pub begins : next_pos source (reading_of source lookahead start rest).end (reading_of source lookahead start rest).left ≡ record { file = source.file; offset = start }
+  pub begins : next_pos source (reading_of source lookahead start rest).end (reading_of source lookahead start rest).left
+      ≡ record { file = source.file; offset = start }
   pub starved_before : state_of lookahead ≡ starved → BeginsWithSymbol (reading_of source lookahead start rest).left
   pub ascending : TokensAscend (reading_of source lookahead start rest).left

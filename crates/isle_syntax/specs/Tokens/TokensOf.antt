@@ -29,5 +29,7 @@ pos_of_rest source rest = record { file = source.file; offset = source.size - le
 -- the tokens of a rest of a text, the offset at which they end, and whether the text ends there; else no token begins there
 pub data TokensOf (source : Source) : List ℕ → List Placed → ℕ → Bool → Type 0 where
   ended : {text : List ℕ} → IsGap text [] → TokensOf source text [] source.size true
-  stopped : {text rest : List ℕ} → IsGap text rest → 0 < length rest → ((token : Token) (more : List ℕ) → ¬ (IsToken rest token more)) → TokensOf source text [] (source.size - length rest) false
-  token : {text rest more : List ℕ} {t : Token} {left : List Placed} {end : ℕ} {clean : Bool} → IsGap text rest → IsToken rest t more → TokensOf source more left end clean → TokensOf source text (placed_at (pos_of_rest source rest) t ∷ left) end clean
+  stopped : {text rest : List ℕ} → IsGap text rest → 0 < length rest → ((token : Token) (more : List ℕ) → ¬ (IsToken rest token more))
+      → TokensOf source text [] (source.size - length rest) false
+  token : {text rest more : List ℕ} {t : Token} {left : List Placed} {end : ℕ} {clean : Bool} → IsGap text rest → IsToken rest t more
+      → TokensOf source more left end clean → TokensOf source text (placed_at (pos_of_rest source rest) t ∷ left) end clean

@@ -4,7 +4,8 @@ use Rattle.std.proofs.Common.{ap}
 use Rattle.std.specs.Coded.{Coded, coded_bool, coded_ℤ}
 use base.Stored.{Gv, gnil, gnum, gcons}
 use Rattle.isle_syntax.specs.Trees.Coded.{pos_code, ident_code, left, right}
-use Rattle.isle_syntax.specs.Trees.ExprTree.{ExprTree, ExprTrees, LetTrees, expr_term, expr_var, expr_bool, expr_int, expr_prim, expr_let, no_exprs, more_exprs, no_lets, more_lets}
+use Rattle.isle_syntax.specs.Trees.ExprTree.{ExprTree, ExprTrees, LetTrees, expr_term, expr_var, expr_bool, expr_int, expr_prim, expr_let, no_exprs}
+use Rattle.isle_syntax.specs.Trees.ExprTree.{more_exprs, no_lets, more_lets}
 
 abbrev mutual
   pub expr_code_of : ExprTree → Gv
@@ -21,7 +22,8 @@ abbrev mutual
 
   pub let_codes : LetTrees → Gv
   let_codes no_lets = gnil
-  let_codes (more_lets x y t p ds) = gcons (ident_code.code x) (gcons (ident_code.code y) (gcons (expr_code_of t) (gcons (pos_code.code p) (let_codes ds))))
+  let_codes (more_lets x y t p ds) =
+      gcons (ident_code.code x) (gcons (ident_code.code y) (gcons (expr_code_of t) (gcons (pos_code.code p) (let_codes ds))))
 
 mutual
   pub expr_code_inj : (s t : ExprTree) → expr_code_of s ≡ expr_code_of t → s ≡ t

@@ -3,7 +3,8 @@ use Rattle.std.specs.Prelude.{List, [], ◌∷◌, map}
 use Rattle.isle_syntax.specs.declared.ast.Expr.{Expr}
 use Rattle.isle_syntax.specs.declared.ast.Expr.TheVariants.{Term, Var, ConstBool, ConstInt, ConstPrim, Let}
 use Rattle.isle_syntax.specs.declared.ast.LetDef.{LetDef}
-use Rattle.isle_syntax.specs.Trees.ExprTree.{ExprTree, ExprTrees, LetTrees, expr_term, expr_var, expr_bool, expr_int, expr_prim, expr_let, expr_list, no_lets, more_lets}
+use Rattle.isle_syntax.specs.Trees.ExprTree.{ExprTree, ExprTrees, LetTrees, expr_term, expr_var, expr_bool, expr_int, expr_prim, expr_let, expr_list}
+use Rattle.isle_syntax.specs.Trees.ExprTree.{no_lets, more_lets}
 
 abbrev pub expr_of : Expr → ExprTree
 expr_of (Term f ts p) = expr_term f ts p

@@ -1,4 +1,4 @@
--- Definitions in whose patterns no numbered argument of a template stands.
+-- Definitions in whose patterns no numbered argument of a template occurs.
 use Rattle.std.specs.Prelude.{◌≡◌, false, All}
 use Rattle.isle_syntax.specs.declared.ast.Pattern.{Pattern}
 use Rattle.isle_syntax.specs.declared.ast.Def.{Def}
@@ -6,11 +6,11 @@ use Rattle.isle_syntax.specs.declared.ast.Def.TheVariants.{Rule, Extractor}
 use Rattle.isle_syntax.specs.Trees.PatternShape.{pattern_of}
 use Rattle.isle_syntax.specs.Trees.TreeCalls.{has_macro_arg}
 
--- none stands in a pattern
+-- none occurs in a pattern
 abbrev pub HasNoMacroArg : Pattern → Type 0
 HasNoMacroArg pattern = has_macro_arg (pattern_of pattern) ≡ false
 
--- none stands in a definition's patterns
+-- none occurs in a definition's patterns
 abbrev pub HasNoMacroArgs : Def → Type 0
 HasNoMacroArgs (Rule rule) = HasNoMacroArg rule.pattern × All (λ iflet. HasNoMacroArg iflet.pattern) rule.iflets
 HasNoMacroArgs (Extractor extractor) = HasNoMacroArg extractor.template

@@ -2,7 +2,8 @@
 use Rattle.std.specs.Prelude.{List, map}
 use Rattle.isle_syntax.specs.declared.ast.Pattern.{Pattern}
 use Rattle.isle_syntax.specs.declared.ast.Pattern.TheVariants.{Var, BindPattern, ConstBool, ConstInt, ConstPrim, Term, Wildcard, And, MacroArg}
-use Rattle.isle_syntax.specs.Trees.PatternTree.{PatternTree, PatternTrees, pattern_var, pattern_bind, pattern_bool, pattern_int, pattern_prim, pattern_term, pattern_wildcard, pattern_and, pattern_macro_arg, pattern_list}
+use Rattle.isle_syntax.specs.Trees.PatternTree.{PatternTree, PatternTrees, pattern_var, pattern_bind, pattern_bool, pattern_int, pattern_prim}
+use Rattle.isle_syntax.specs.Trees.PatternTree.{pattern_term, pattern_wildcard, pattern_and, pattern_macro_arg, pattern_list}
 
 abbrev pub pattern_of : Pattern → PatternTree
 pattern_of (Var x p) = pattern_var x p

@@ -1,9 +1,11 @@
 -- Patterns put in for names, all at once, and what a template then is.
-use Rattle.std.specs.Prelude.{◌≡◌, ◌≤◌, ◌↔◌, ℕ, List, [], ◌∷◌, ◌++◌, if◌then◌else◌, Option, None, Some, unwrap_or, length, map, All, Contains, IsSome, IfSome}
+use Rattle.std.specs.Prelude.{◌≡◌, ◌≤◌, ◌↔◌, ℕ, List, [], ◌∷◌, ◌++◌, if◌then◌else◌, Option, None, Some, unwrap_or, length, map, All, Contains, IsSome}
+use Rattle.std.specs.Prelude.{IfSome}
 use Rattle.std.specs.List.{zip}
 use Rattle.std.specs.Str.{bytes_eq}
 use Rattle.isle_syntax.specs.declared.ast.Ident.{Ident}
-use Rattle.isle_syntax.specs.Trees.PatternTree.{PatternTree, PatternTrees, pattern_var, pattern_bind, pattern_bool, pattern_int, pattern_prim, pattern_term, pattern_wildcard, pattern_and, pattern_macro_arg, no_patterns, more_patterns}
+use Rattle.isle_syntax.specs.Trees.PatternTree.{PatternTree, PatternTrees, pattern_var, pattern_bind, pattern_bool, pattern_int, pattern_prim}
+use Rattle.isle_syntax.specs.Trees.PatternTree.{pattern_term, pattern_wildcard, pattern_and, pattern_macro_arg, no_patterns, more_patterns}
 use Rattle.isle_syntax.specs.Trees.Templates.{is_wildcard, template_tree, filled}
 
 -- names, each with the pattern to be put in for it
@@ -21,7 +23,8 @@ abbrev mutual
   pub substituted : Assignment → PatternTree → PatternTree
   substituted given (pattern_var name pos) = unwrap_or (pattern_for given name.0) (pattern_var name pos)
   substituted given (pattern_bind name below pos) =
-      if is_wildcard below then unwrap_or (pattern_for given name.0) (pattern_bind name below pos) else pattern_bind name (substituted given below) pos
+      if is_wildcard below then unwrap_or (pattern_for given name.0) (pattern_bind name below pos)
+      else pattern_bind name (substituted given below) pos
   substituted given (pattern_bool val pos) = pattern_bool val pos
   substituted given (pattern_int val big pos) = pattern_int val big pos
   substituted given (pattern_prim name pos) = pattern_prim name pos

@@ -4,9 +4,10 @@ use Rattle.std.specs.Option.{option_map, option_and_then}
 use Rattle.std.specs.Str.{bytes_eq}
 use Rattle.isle_syntax.specs.declared.lexer.Pos.{Pos}
 use Rattle.isle_syntax.specs.declared.ast.Ident.{Ident}
-use Rattle.isle_syntax.specs.Trees.PatternTree.{PatternTree, PatternTrees, pattern_var, pattern_bind, pattern_bool, pattern_int, pattern_prim, pattern_term, pattern_wildcard, pattern_and, pattern_macro_arg, no_patterns, more_patterns}
+use Rattle.isle_syntax.specs.Trees.PatternTree.{PatternTree, PatternTrees, pattern_var, pattern_bind, pattern_bool, pattern_int, pattern_prim}
+use Rattle.isle_syntax.specs.Trees.PatternTree.{pattern_term, pattern_wildcard, pattern_and, pattern_macro_arg, no_patterns, more_patterns}
 
--- the first place at which a text stands among names
+-- the first place at which a text occurs among names
 abbrev pub position_of_name : List Ident → List ℕ → Option ℕ
 position_of_name [] text = None
 position_of_name (name ∷ names) text =
@@ -35,7 +36,8 @@ abbrev mutual
   template_tree names (pattern_var name pos) =
       argument_for (position_of_name names name.0) pos (pattern_var name pos)
   template_tree names (pattern_bind name below pos) =
-      if is_wildcard below then argument_for (position_of_name names name.0) pos (pattern_bind name below pos) else pattern_bind name (template_tree names below) pos
+      if is_wildcard below then argument_for (position_of_name names name.0) pos (pattern_bind name below pos)
+      else pattern_bind name (template_tree names below) pos
   template_tree names (pattern_bool val pos) = pattern_bool val pos
   template_tree names (pattern_int val big pos) = pattern_int val big pos
   template_tree names (pattern_prim name pos) = pattern_prim name pos

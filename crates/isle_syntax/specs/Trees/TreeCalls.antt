@@ -1,7 +1,8 @@
 -- What is read off names and patterns.
 use Rattle.std.specs.Prelude.{◌++◌, Bool, true, false, ◌||◌, Option, Some, None, codes}
 use Rattle.isle_syntax.specs.declared.ast.Ident.{Ident}
-use Rattle.isle_syntax.specs.Trees.PatternTree.{PatternTree, PatternTrees, pattern_var, pattern_bind, pattern_bool, pattern_int, pattern_prim, pattern_term, pattern_wildcard, pattern_and, pattern_macro_arg, no_patterns, more_patterns}
+use Rattle.isle_syntax.specs.Trees.PatternTree.{PatternTree, PatternTrees, pattern_var, pattern_bind, pattern_bool, pattern_int, pattern_prim}
+use Rattle.isle_syntax.specs.Trees.PatternTree.{pattern_term, pattern_wildcard, pattern_and, pattern_macro_arg, no_patterns, more_patterns}
 
 -- the name of a variant with its enum's before it, where the variant's name stands
 abbrev pub full_name : Ident → Ident → Ident
@@ -19,7 +20,7 @@ root_term (pattern_wildcard _) = None
 root_term (pattern_and _ _) = None
 root_term (pattern_macro_arg _ _) = None
 
--- whether no pattern stands below a pattern
+-- whether no pattern occurs below a pattern
 abbrev pub is_leaf : PatternTree → Bool
 is_leaf (pattern_var _ _) = true
 is_leaf (pattern_bind _ _ _) = false
@@ -31,7 +32,7 @@ is_leaf (pattern_wildcard _) = true
 is_leaf (pattern_and _ _) = false
 is_leaf (pattern_macro_arg _ _) = true
 
--- whether a numbered argument of a template stands in a pattern
+-- whether a numbered argument of a template occurs in a pattern
 abbrev mutual
   pub has_macro_arg : PatternTree → Bool
   has_macro_arg (pattern_var _ _) = false

@@ -64,7 +64,7 @@ impl Clone for Pattern {
     ghost is_clone = { λ x y. y ≡ x };
 
     #[cycle(clone_pattern)]
-    #[tactic(auto, using(crate::proofs::Trees::Innermost::innermost_size, crate::proofs::Trees::Innermost::innermost_alone, crate::proofs::Trees::Innermost::cloned_chain))]
+    #[tactic(auto, using(crate::proofs::Trees::Innermost::chain_ends, crate::proofs::Trees::Innermost::cloned_chain))]
     fn clone(&self) -> Result<Pattern, AllocError> {
         match self {
             Pattern::BindPattern { subpat, .. } => {

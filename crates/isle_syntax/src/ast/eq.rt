@@ -48,7 +48,7 @@ fn have_same_names(a: &Pattern, b: &Pattern) -> bool
 
 /// Whether two patterns are the same, positions included.
 #[cycle(same_pattern)]
-#[tactic(auto, using(crate::proofs::Trees::Innermost::innermost_size, crate::proofs::Trees::Innermost::innermost_alone, crate::proofs::Trees::Innermost::same_where_innermost))]
+#[tactic(auto, using(crate::proofs::Trees::Innermost::chain_ends, crate::proofs::Trees::Innermost::same_where_innermost))]
 fn is_same_pattern(a: &Pattern, b: &Pattern) -> bool
     ensures { IsTrue result ↔ (pattern_of a.now ≡ pattern_of b.now) }
 {
@@ -81,7 +81,7 @@ fn is_same_innermost(a: &Pattern, b: &Pattern) -> bool
     }
 }
 
-/// Whether two patterns are the same and none stands below them.
+/// Whether two patterns are the same and none occurs below them.
 fn is_same_leaf(a: &Pattern, b: &Pattern) -> bool
     ensures { IsTrue result ↔ ((pattern_of a.now ≡ pattern_of b.now) × (is_leaf (pattern_of a.now) ≡ true)) }
 {
@@ -111,7 +111,7 @@ fn is_same_leaf(a: &Pattern, b: &Pattern) -> bool
 }
 
 #[cycle(same_pattern)]
-#[tactic(auto, using(crate::proofs::Trees::PatternSizes::most_pattern_size, crate::proofs::Trees::TreeShapes::patterns_differ_at, crate::proofs::Trees::TreeShapes::patterns_same_length))]
+#[tactic(auto, using(crate::proofs::Trees::PatternSizes::most_pattern_size, crate::proofs::Trees::TreeShapes::patterns_compared))]
 fn are_same_patterns(a: &[Pattern], b: &[Pattern]) -> bool
     ensures { IsTrue result ↔ (patterns_of a.now ≡ patterns_of b.now) }
 {
@@ -224,7 +224,7 @@ fn is_same_expr(a: &Expr, b: &Expr) -> bool
     }
 }
 
-/// Whether two expressions are the same and none stands below them.
+/// Whether two expressions are the same and none occurs below them.
 fn is_same_leaf_expr(a: &Expr, b: &Expr) -> bool
     ensures { IsTrue result ↔ ((expr_of a.now ≡ expr_of b.now) × (expr_height (expr_of a.now) ≡ 0)) }
 {
@@ -251,7 +251,7 @@ fn is_same_leaf_expr(a: &Expr, b: &Expr) -> bool
 }
 
 #[cycle(same_expr)]
-#[tactic(auto, using(crate::proofs::Trees::ExprSizes::most_expr_size, crate::proofs::Trees::ExprSizes::most_let_size, crate::proofs::Trees::TreeShapes::exprs_differ_at, crate::proofs::Trees::TreeShapes::exprs_same_length))]
+#[tactic(auto, using(crate::proofs::Trees::ExprSizes::expr_sizes, crate::proofs::Trees::TreeShapes::exprs_compared))]
 fn are_same_exprs(a: &[Expr], b: &[Expr]) -> bool
     ensures { IsTrue result ↔ (exprs_of a.now ≡ exprs_of b.now) }
 {
@@ -267,7 +267,7 @@ fn are_same_exprs(a: &[Expr], b: &[Expr]) -> bool
 }
 
 #[cycle(same_expr)]
-#[tactic(auto, using(crate::proofs::Trees::ExprSizes::most_expr_size, crate::proofs::Trees::ExprSizes::most_let_size, crate::proofs::Trees::TreeShapes::lets_from_map, crate::proofs::Trees::TreeShapes::lets_differ_at, crate::proofs::Trees::TreeShapes::lets_same_length))]
+#[tactic(auto, using(crate::proofs::Trees::ExprSizes::expr_sizes, crate::proofs::Trees::TreeShapes::lets_compared))]
 fn are_same_lets(a: &[LetDef], b: &[LetDef]) -> bool
     ensures { IsTrue result ↔ (lets_of a.now ≡ lets_of b.now) }
 {
@@ -283,7 +283,7 @@ fn are_same_lets(a: &[LetDef], b: &[LetDef]) -> bool
 }
 
 #[cycle(same_expr)]
-#[tactic(auto, using(crate::proofs::Trees::ExprSizes::most_expr_size, crate::proofs::Trees::ExprSizes::most_let_size, crate::proofs::Trees::TreeShapes::let_of_parts))]
+#[tactic(auto, using(crate::proofs::Trees::ExprSizes::expr_sizes, crate::proofs::Trees::TreeShapes::let_of_parts))]
 fn is_same_let(a: &LetDef, b: &LetDef) -> bool
     ensures { IsTrue result ↔ (let_of a.now ≡ let_of b.now) }
 {
@@ -412,7 +412,7 @@ fn is_same_item(a: &KeptItem, b: &KeptItem) -> bool
 }
 
 #[cycle(same_item)]
-#[tactic(auto, using(crate::proofs::Trees::ItemSizes::most_item_size, crate::proofs::Trees::TreeShapes::items_differ_at, crate::proofs::Trees::TreeShapes::items_same_length))]
+#[tactic(auto, using(crate::proofs::Trees::ItemSizes::most_item_size, crate::proofs::Trees::TreeShapes::items_compared))]
 fn are_same_items(a: &[KeptItem], b: &[KeptItem]) -> bool
     ensures { IsTrue result ↔ (items_of a.now ≡ items_of b.now) }
 {

@@ -10,7 +10,7 @@ use crate::ast::{Ident, Pattern, Patterns};
 use crate::lexer::Pos;
 use std::alloc::{AllocError, Global};
 
-/// The first place at which a name's text stands among names.
+/// The first place at which a name's text occurs among names.
 fn place_of(names: &[Ident], name: &Ident) -> Option<usize>
     ensures { result ≡ position_of_name names.now name.now.0 }
 {
@@ -36,10 +36,7 @@ impl Pattern {
     fn is_wildcard(&self) -> bool
         ensures { result ≡ is_wildcard (pattern_of self.now) }
     {
-        match self {
-            Pattern::Wildcard { .. } => true,
-            _ => false,
-        }
+        matches!(self, Pattern::Wildcard { .. })
     }
 
     /// The argument of a template in the place of this variable or binding, where its name is listed.
@@ -174,7 +171,7 @@ impl Pattern {
 }
 
 #[cycle(template)]
-#[tactic(auto, using(crate::proofs::Trees::PatternSizes::most_pattern_size, crate::proofs::Trees::Templates::macro_free_head, crate::proofs::Trees::Templates::macro_free_rest))]
+#[tactic(auto, using(crate::proofs::Trees::PatternSizes::most_pattern_size, crate::proofs::Trees::Templates::macro_free))]
 fn make_macro_templates(
     alloc: Global,
     patterns: &[Pattern],

@@ -3,7 +3,12 @@ ghost use Rattle.isle_syntax.specs.Trees.PatternShape.{pattern_of, patterns_of};
 ghost use Rattle.isle_syntax.specs.Trees.Innermost.{names_bound};
 ghost use Rattle.isle_syntax.specs.Trees.ExprShape.{expr_of, exprs_of, lets_of};
 ghost use Rattle.isle_syntax.specs.Trees.ItemShape.{item_of, items_of};
-ghost use Rattle.isle_syntax.specs.Trees.WithoutPos.{ident_without_pos, pattern_tree_without_pos, pattern_trees_without_pos, pattern_without_pos, expr_tree_without_pos, expr_trees_without_pos, let_trees_without_pos, expr_without_pos, item_tree_without_pos, item_trees_without_pos, struct_field_without_pos, tuple_field_without_pos, fields_without_pos, variant_without_pos, type_value_without_pos, type_without_pos, decl_without_pos, iflet_without_pos, rule_without_pos, extractor_without_pos, extern_without_pos, converter_without_pos, kept_without_pos, def_without_pos};
+ghost use Rattle.isle_syntax.specs.Trees.WithoutPos.{ident_without_pos, pattern_tree_without_pos, pattern_trees_without_pos, pattern_without_pos};
+ghost use Rattle.isle_syntax.specs.Trees.WithoutPos.{expr_tree_without_pos, expr_trees_without_pos, let_trees_without_pos, expr_without_pos};
+ghost use Rattle.isle_syntax.specs.Trees.WithoutPos.{item_tree_without_pos, item_trees_without_pos, struct_field_without_pos};
+ghost use Rattle.isle_syntax.specs.Trees.WithoutPos.{tuple_field_without_pos, fields_without_pos, variant_without_pos, type_value_without_pos};
+ghost use Rattle.isle_syntax.specs.Trees.WithoutPos.{type_without_pos, decl_without_pos, iflet_without_pos, rule_without_pos, extractor_without_pos};
+ghost use Rattle.isle_syntax.specs.Trees.WithoutPos.{extern_without_pos, converter_without_pos, kept_without_pos, def_without_pos};
 
 use crate::ast::wrap::wrap;
 use crate::ast::{
@@ -71,7 +76,7 @@ fn clear_innermost(alloc: Global, pattern: Pattern) -> Result<Pattern, AllocErro
 }
 
 #[cycle(pattern_positions)]
-#[tactic(auto, using(crate::proofs::Trees::WithoutPos::most_pattern_weight, crate::proofs::Trees::PatternSizes::most_pattern_size, crate::proofs::Trees::WithoutPos::patterns_from_map))]
+#[tactic(auto, using(crate::proofs::Trees::PatternSizes::most_pattern_size, crate::proofs::Trees::WithoutPos::patterns_forget))]
 fn clear_patterns(alloc: Global, patterns: Vec<Pattern>) -> Result<Vec<Pattern>, AllocError>
     ensures { IfOk result (λ new. patterns_of new.items ≡ pattern_trees_without_pos (patterns_of patterns.items)) }
 {
@@ -126,7 +131,7 @@ fn clear_expr(alloc: Global, expr: Expr) -> Result<Expr, AllocError>
 }
 
 #[cycle(expr_positions)]
-#[tactic(auto, using(crate::proofs::Trees::WithoutPos::most_expr_weight, crate::proofs::Trees::WithoutPos::most_let_weight, crate::proofs::Trees::ExprSizes::most_expr_size, crate::proofs::Trees::ExprSizes::most_let_size, crate::proofs::Trees::WithoutPos::exprs_from_map))]
+#[tactic(auto, using(crate::proofs::Trees::ExprSizes::expr_sizes, crate::proofs::Trees::WithoutPos::exprs_forget))]
 fn clear_exprs(alloc: Global, exprs: Vec<Expr>) -> Result<Vec<Expr>, AllocError>
     ensures { IfOk result (λ new. exprs_of new.items ≡ expr_trees_without_pos (exprs_of exprs.items)) }
 {
@@ -138,7 +143,7 @@ fn clear_exprs(alloc: Global, exprs: Vec<Expr>) -> Result<Vec<Expr>, AllocError>
 }
 
 #[cycle(expr_positions)]
-#[tactic(auto, using(crate::proofs::Trees::WithoutPos::most_expr_weight, crate::proofs::Trees::WithoutPos::most_let_weight, crate::proofs::Trees::ExprSizes::most_expr_size, crate::proofs::Trees::ExprSizes::most_let_size, crate::proofs::Trees::WithoutPos::lets_from_map))]
+#[tactic(auto, using(crate::proofs::Trees::ExprSizes::expr_sizes, crate::proofs::Trees::WithoutPos::lets_forget))]
 fn clear_lets(alloc: Global, defs: Vec<LetDef>) -> Result<Vec<LetDef>, AllocError>
     ensures { IfOk result (λ new. lets_of new.items ≡ let_trees_without_pos (lets_of defs.items)) }
 {
@@ -182,7 +187,7 @@ fn clear_item(alloc: Global, item: KeptItem) -> Result<KeptItem, AllocError>
 }
 
 #[cycle(item_positions)]
-#[tactic(auto, using(crate::proofs::Trees::WithoutPos::most_item_weight, crate::proofs::Trees::ItemSizes::most_item_size, crate::proofs::Trees::WithoutPos::items_from_map))]
+#[tactic(auto, using(crate::proofs::Trees::ItemSizes::most_item_size, crate::proofs::Trees::WithoutPos::items_forget))]
 fn clear_items(alloc: Global, items: Vec<KeptItem>) -> Result<Vec<KeptItem>, AllocError>
     ensures { IfOk result (λ new. items_of new.items ≡ item_trees_without_pos (items_of items.items)) }
 {

@@ -17,7 +17,7 @@ impl Pattern {
         hand_pattern(self, f);
     }
 
-    /// How many terms stand in the pattern, at most the greatest number.
+    /// How many terms occur in the pattern, at most the greatest number.
     pub fn count_terms(&self) -> usize
         ensures { result ≡ min (length (pattern_terms (pattern_of self.now))) usize.MAX }
     {
@@ -83,7 +83,7 @@ impl Expr {
         hand_expr(self, f);
     }
 
-    /// How many terms stand in the expression, at most the greatest number.
+    /// How many terms occur in the expression, at most the greatest number.
     pub fn count_terms(&self) -> usize
         ensures { result ≡ min (length (expr_terms (expr_of self.now))) usize.MAX }
     {

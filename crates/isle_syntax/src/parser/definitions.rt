@@ -1,9 +1,10 @@
-ghost use Rattle.std.specs.Prelude.{◌≡◌};
+ghost use Rattle.std.specs.Prelude.{◌≡◌, IfOk, IfErr};
 ghost use Rattle.isle_syntax.specs.declared.kind.Keyword.TheVariants as keyword;
 ghost use Rattle.isle_syntax.specs.Reading.Parsing.{Gives};
 ghost use Rattle.isle_syntax.specs.Reading.DefReading.{def, def_inner, def_on};
 ghost use Rattle.isle_syntax.specs.Tokens.LexerCalls.{IsRemaining};
-ghost use Rattle.isle_syntax.specs.Grammar.Verdict.{IsRight};
+ghost use Rattle.isle_syntax.specs.Errors.{IfFault};
+ghost use Rattle.isle_syntax.specs.Grammar.Verdict.{IsSpelt, IsFaultOf};
 
 use crate::Refusal;
 use crate::ast::Def;
@@ -14,7 +15,8 @@ use crate::parser::{MAX_NESTING, Parser};
 impl<'src> Parser<'src> {
     /// The definitions up to the end of the text.
     pub(crate) fn parse_defs(&mut self) -> Result<Vec<Def>, Refusal<Error>>
-        ensures right { IsRight self.old result }
+        ensures spelt { IfOk result (λ defs. IsSpelt self.old defs.items) }
+        ensures fault { IfErr result (λ refusal. IfFault refusal (IsFaultOf self.old)) }
         ensures remaining { IsRemaining self.old }
     {
         let mut defs = Vec::new(self.allocator());

@@ -100,7 +100,8 @@ impl<'src> Parser<'src> {
     /// A term and its arguments.
     #[cycle(expr)]
     fn parse_call(&mut self, pos: Pos, depth_left: usize) -> Result<Expr, Refusal<Error>>
-        ensures { Gives expr_of self.old self.new result (read_map (λ x. expr_term x.0 (expr_trees x.1) pos) (seq identifier (rest_of (expr depth_left)) self.old.left)) }
+        ensures { Gives expr_of self.old self.new result
+            (read_map (λ x. expr_term x.0 (expr_trees x.1) pos) (seq identifier (rest_of (expr depth_left)) self.old.left)) }
     {
         let sym = self.ident()?;
         let args = self.parse_exprs(depth_left)?;
@@ -111,7 +112,9 @@ impl<'src> Parser<'src> {
     /// The bindings and the body of a `let`.
     #[cycle(expr)]
     fn parse_let(&mut self, pos: Pos, depth_left: usize) -> Result<Expr, Refusal<Error>>
-        ensures { Gives expr_of self.old self.new result (read_map (λ x. expr_let (let_trees x.1.0.1) x.1.1.0 pos) (seq (says (codes "let")) (seq (let_list depth_left) (seq (expr depth_left) closed)) self.old.left)) }
+        ensures { Gives expr_of self.old self.new result
+            (read_map (λ x. expr_let (let_trees x.1.0.1) x.1.1.0 pos)
+            (seq (says (codes "let")) (seq (let_list depth_left) (seq (expr depth_left) closed)) self.old.left)) }
     {
         let _word = self.word("let")?;
         let defs = self.parse_let_defs(depth_left)?;

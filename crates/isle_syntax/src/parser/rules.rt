@@ -76,10 +76,7 @@ impl<'src> Parser<'src> {
         ensures no_token { IfErr result (NoToken self.old self.new) }
     {
         let _kind = self.kind()?;
-        match self.lexer.peek() {
-            Some((_, Token::LParen)) => Ok(true),
-            _ => Ok(false),
-        }
+        Ok(matches!(self.lexer.peek(), Some((_, Token::LParen))))
     }
 
     /// A clause `if-let` whose parenthesis at `pos` is open.
@@ -95,7 +92,8 @@ impl<'src> Parser<'src> {
 
     /// A clause `if` whose parenthesis at `pos` is open: its pattern is a wildcard where the word stands.
     fn parse_if(&mut self, pos: Pos, depth_left: usize) -> Result<IfLet, Refusal<Error>>
-        ensures { Gives (λ x. x) self.old self.new result (read_map (λ x. clause (pattern_wildcard x.0) x.1.0 pos) (if_read depth_left self.old.left)) }
+        ensures { Gives (λ x. x) self.old self.new result
+            (read_map (λ x. clause (pattern_wildcard x.0) x.1.0 pos) (if_read depth_left self.old.left)) }
     {
         let word = self.word("if")?;
         let expr = self.parse_expr(depth_left)?;

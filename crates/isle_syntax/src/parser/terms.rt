@@ -152,14 +152,14 @@ impl<'src> Parser<'src> {
     fn kept_word(&mut self) -> Result<Ident, Refusal<Error>>
         ensures { Gives (λ x. x) self.old self.new result (symbol_of is_kept_word self.old.left) }
     {
-        if !self.is_kept_word()? {
+        if !self.is_kept_next()? {
             return Err(self.unexpected("expected a definition"));
         }
         self.symbol("expected a definition")
     }
 
     /// Whether the word of a kept definition stands next; a refusal where what stands next is no token.
-    fn is_kept_word(&mut self) -> Result<bool, Refusal<Error>>
+    fn is_kept_next(&mut self) -> Result<bool, Refusal<Error>>
         ensures word { IfOk result (λ same. same ≡ next_symbol_is is_kept_word self.old.left) }
         ensures known { IfOk result (λ same. IsKnown self.old self.new) }
         ensures no_token { IfErr result (NoToken self.old self.new) }

@@ -5,7 +5,8 @@ ghost use Rattle.isle_syntax.specs.Grammar.Phrases.{next_symbol_is};
 ghost use Rattle.isle_syntax.specs.Tokens.RemainingTokens.{remaining_pos};
 ghost use Rattle.isle_syntax.specs.Reading.KindOf.{kind_at, keyword_at, literal_of};
 ghost use Rattle.isle_syntax.specs.Reading.Parsing.{Gives, RefusesAt, NoToken, ForMemory, IsKnown, TakesOr, TakesWord, at_fault, at_deep};
-ghost use Rattle.isle_syntax.specs.Reading.Readers.{opened_within, closed, any_symbol, word, says, after_close, after_at, at_pos, integer, is_int_next};
+ghost use Rattle.isle_syntax.specs.Reading.Readers.{opened_within, closed, any_symbol, word, says, after_close, after_at, at_pos, integer};
+ghost use Rattle.isle_syntax.specs.Reading.Readers.{is_int_next};
 ghost use Rattle.isle_syntax.specs.Reading.TreeReading.{after_dollar};
 ghost use Rattle.isle_syntax.specs.Reading.DefReading.{identifier, constant, is_symbol_next};
 

@@ -1,14 +1,16 @@
 //! Definitions that break one rule of what can be printed and read back, and the nearest that don't.
+use crate::syntax::texts::placed;
+use crate::syntax::trees::chain;
 use isle_layout::writable::writable;
 use isle_syntax::ast::{
-    BoxedExpr, BoxedPattern, Converter, Decl, Def, Expr, Exprs, Extern, Extractor, Fields, Ident,
-    Kept, KeptItem, KeptItems, LetDef, LetDefs, Pattern, Patterns, Rule, StructFields, TupleField,
-    TupleFields, Type, TypeValue,
+    BoxedExpr, Def, Expr, Exprs, Extern, Extractor, Fields, Ident, Kept, KeptItem, KeptItems,
+    LetDef, LetDefs, Pattern, Patterns, Rule, StructFields, TupleField, TupleFields, Type,
+    TypeValue,
 };
-use isle_syntax::lexer::{Lexer, Pos};
-use isle_syntax::parser::parse;
+use isle_syntax::lexer::Pos;
 use isle_syntax::{Seq, Text};
-use std::alloc::Global;
+use std::alloc::{AllocError, Global};
+use std::mem::replace;
 use std::test::Fail;
 
 const EVERY_FORM: &str = "(type Imm (primitive u64))
@@ -25,232 +27,291 @@ const EVERY_FORM: &str = "(type Imm (primitive u64))
 (attr simp (veri chain) @ 5 340282366920938463463374607431768211455)
 ";
 
-fn name(alloc: Global, text: &str) -> Result<Ident, Fail> {
-    Ok(Ident(Text::from_str(alloc, text)?, Pos::default()))
+fn are_writable(defs: &[Def]) -> bool {
+    for def in defs {
+        if !writable(def) {
+            return false;
+        }
+    }
+    true
 }
 
-/// The internal extractor `e` with this template.
-fn with_template(alloc: Global, template: Pattern) -> Result<Def, Fail> {
-    Ok(Def::Extractor(Extractor {
-        term: name(alloc, "e")?,
+/// Whether a text has so many definitions, and all are writable.
+fn are_all_writable(alloc: Global, text: &str, number: usize) -> Result<bool, Fail> {
+    let defs = placed(alloc, text)?;
+    Ok(defs.len() == number && are_writable(defs.as_slice()))
+}
+
+// A definition, the name that takes the place of one in it, and whether the definition is then writable, and is still
+// one step deeper.
+pub const RENAMED: &str = "
+| (extractor (e) x) ← x → true true
+| (extractor (e) x) ← _ → false false
+| (extractor (e) x) ← true → false false
+| (extractor (e) x) ← $x → false false
+| (extractor (e) x @ _) ← x → true true
+| (extractor (e) x @ _) ← _ → false false
+| (extractor (e) x @ _) ← true → false false
+| (extractor (e) x @ _) ← $x → false false
+| (extractor (e) (f _)) ← f → true true
+| (extractor (e) (f _)) ← if → true true
+| (extractor (e) (f _)) ← and → false false
+| (extractor (e) (f _)) ←  → false false
+| (extractor (e) $x) ← x → true true
+| (extractor (e) $x) ←  → false false
+| (extractor (e) $x) ← a b → false false
+| (rule (t) x) ← x → true true
+| (rule (t) x) ← _ → true true
+| (rule (t) x) ← true → false false
+| (rule (t) x) ← ( → false false
+| (rule (t) (f x)) ← f → true true
+| (rule (t) (f x)) ← if → false true
+| (rule (t) (f x)) ← if-let → false true
+| (rule (t) (f x)) ← let → false false
+| (rule n (t) 0) ← m → true true
+| (rule n (t) 0) ← 2 → false false
+| (convert u8 u64 widen) ← u64 → true true
+| (convert u8 u64 widen) ← u8 u8 → false false
+| (decl f () u8) ← pure → false false
+| (decl f () u8) ← rec → false false
+| (decl pure f () u8) ← pure → true true
+| (decl pure f () u8) ← multi → false false
+| (decl partial f () u8) ← multi → true true
+| (decl partial f () u8) ← rec → false false
+| (extern extractor infallible t f) ← infallible → true true
+| (extern extractor t f) ← infallible → false false
+| (attr) ← attr → true true
+| (attr) ← rule → false false";
+
+// The same of definitions that nest to the bound.
+pub const NESTED: &str = "
+| (attr «999×(»@«999×)») ← attr → true false
+| (extractor (e) (f «998×(f »x«998×)»)) ← f → true false
+| (rule (t) (f «995×(f »(let ((x u8 x)) x)«995×)»)) ← f → true false";
+
+/// The name of a definition that another one takes the place of.
+fn name_in(def: &mut Def) -> Option<&mut Ident> {
+    match def {
+        Def::Extractor(e) => match &mut e.template {
+            Pattern::Var { var, .. } => Some(var),
+            Pattern::BindPattern { var, .. } => Some(var),
+            Pattern::ConstPrim { val, .. } => Some(val),
+            Pattern::Term { sym, .. } => Some(sym),
+            _ => None,
+        },
+        Def::Rule(rule) => match &mut rule.expr {
+            Expr::Var { name, .. } => Some(name),
+            Expr::Term { sym, .. } => Some(sym),
+            _ => rule.name.as_mut(),
+        },
+        Def::Converter(converter) => Some(&mut converter.outer_ty),
+        Def::Decl(decl) => Some(&mut decl.term),
+        Def::Extern(Extern::Extractor { term, .. }) => Some(term),
+        Def::Kept(kept) => Some(&mut kept.word),
+        _ => None,
+    }
+}
+
+/// Puts a term around an extractor's template.
+fn deepen_template(alloc: Global, sym: Ident, e: &mut Extractor) -> Result<(), AllocError> {
+    let pos = Pos::default();
+    let inner = replace(&mut e.template, Pattern::Wildcard { pos });
+    let args = Patterns::new(vec![in alloc; inner]?);
+    e.template = Pattern::Term { sym, args, pos };
+    Ok(())
+}
+
+/// Puts a term around the right side of a rule.
+fn deepen_right_side(alloc: Global, sym: Ident, rule: &mut Rule) -> Result<(), AllocError> {
+    let pos = Pos::default();
+    let inner = replace(&mut rule.expr, zero());
+    let args = Exprs::new(vec![in alloc; inner]?);
+    rule.expr = Expr::Term { sym, args, pos };
+    Ok(())
+}
+
+/// Puts a list around the items that are kept.
+fn deepen_items(alloc: Global, kept: &mut Kept) -> Result<(), AllocError> {
+    let pos = Pos::default();
+    let items = replace(&mut kept.items, KeptItems::new(Vec::new(alloc)));
+    kept.items = KeptItems::new(vec![in alloc; KeptItem::List { items, pos }]?);
+    Ok(())
+}
+
+/// Makes a definition nest one step deeper, where it can.
+fn deepen(alloc: Global, def: &mut Def) -> Result<(), AllocError> {
+    let sym = Ident(Text::from_str(alloc, "f")?, Pos::default());
+    match def {
+        Def::Extractor(e) => deepen_template(alloc, sym, e),
+        Def::Rule(rule) => deepen_right_side(alloc, sym, rule),
+        Def::Kept(kept) => deepen_items(alloc, kept),
+        _ => Ok(()),
+    }
+}
+
+fn rename(alloc: Global, def: &mut Def, name: &str) -> Result<(), AllocError> {
+    let text = Text::from_str(alloc, name)?;
+    if let Some(name) = name_in(def) {
+        name.0 = text;
+    }
+    Ok(())
+}
+
+/// Whether a definition is writable with another name, and whether it is one step deeper.
+fn judged(alloc: Global, def: &mut Def, name: &str) -> Result<String, AllocError> {
+    rename(alloc, def, name)?;
+    let is_writable = writable(def);
+    deepen(alloc, def)?;
+    let is_deeper = writable(def);
+    format!(in alloc; "{is_writable} {is_deeper}")
+}
+
+/// The same of the definition and the name of a row.
+pub fn renamed(alloc: Global, row: &str) -> Result<String, Fail> {
+    let (text, name) = row.split_once(" ← ").ok_or("a name")?;
+    let mut defs = placed(alloc, text)?;
+    match defs.first_mut() {
+        Some(def) => Ok(judged(alloc, def, name)?),
+        None => Err(Fail::from("a definition")),
+    }
+}
+
+fn is_written(def: Def) -> bool {
+    writable(&def)
+}
+
+fn extractor_of(alloc: Global, term: Ident, template: Pattern) -> Def {
+    Def::Extractor(Extractor {
+        term,
         args: Seq::new(Vec::new(alloc)),
         template,
         pos: Pos::default(),
-    }))
+    })
 }
 
-/// The rule with this left side and this right side.
-fn rule_of(alloc: Global, pattern: Pattern, expr: Expr) -> Rule {
-    Rule {
+/// Whether the internal extractor `e` with this template is writable.
+fn is_template(alloc: Global, template: Pattern) -> Result<bool, AllocError> {
+    let term = Ident(Text::from_str(alloc, "e")?, Pos::default());
+    Ok(is_written(extractor_of(alloc, term, template)))
+}
+
+fn is_constant(alloc: Global, val: i128, big: bool) -> Result<bool, AllocError> {
+    let pos = Pos::default();
+    is_template(alloc, Pattern::ConstInt { val, big, pos })
+}
+
+fn are_constants(alloc: Global) -> Result<bool, AllocError> {
+    Ok(
+        is_constant(alloc, -1, true)?
+            && !is_constant(alloc, 0, true)?
+            && is_constant(alloc, 0, false)?,
+    )
+}
+
+/// Whether a long chain of bindings is writable, and a numbered argument is not.
+fn is_chain(alloc: Global) -> Result<bool, AllocError> {
+    let argument = Pattern::MacroArg {
+        index: 0,
+        pos: Pos::default(),
+    };
+    Ok(!is_template(alloc, argument)? && is_template(alloc, chain(alloc, 100_000)?)?)
+}
+
+fn struct_of(name: Ident, fields: Fields) -> Def {
+    let pos = Pos::default();
+    Def::TypeDef(Type {
+        name,
+        is_extern: false,
+        is_nodebug: false,
+        ty: TypeValue::Struct(fields, pos),
+        pos,
+    })
+}
+
+/// Whether the struct `T` with these fields is writable.
+fn is_struct(alloc: Global, fields: Fields) -> Result<bool, AllocError> {
+    let name = Ident(Text::from_str(alloc, "T")?, Pos::default());
+    Ok(is_written(struct_of(name, fields)))
+}
+
+/// Fields without names: one with this index, of this type.
+fn tuple(alloc: Global, index: usize, ty: &str) -> Result<Fields, AllocError> {
+    let pos = Pos::default();
+    let ty = Ident(Text::from_str(alloc, ty)?, pos);
+    let fields = Seq::new(vec![in alloc; TupleField { index, ty, pos }]?);
+    Ok(Fields::Tuple(TupleFields { fields }))
+}
+
+fn is_tuple(alloc: Global, index: usize, ty: &str) -> Result<bool, AllocError> {
+    let fields = tuple(alloc, index, ty)?;
+    is_struct(alloc, fields)
+}
+
+fn are_tuples(alloc: Global) -> Result<bool, AllocError> {
+    Ok(is_tuple(alloc, 0, "u8")? && !is_tuple(alloc, 1, "u8")? && !is_tuple(alloc, 0, "8")?)
+}
+
+/// Whether no fields are only a unit's.
+fn are_none(alloc: Global) -> Result<bool, AllocError> {
+    let tuple = TupleFields {
+        fields: Seq::new(Vec::new(alloc)),
+    };
+    if is_struct(alloc, Fields::Tuple(tuple))? {
+        return Ok(false);
+    }
+    let named = StructFields {
+        fields: Seq::new(Vec::new(alloc)),
+    };
+    Ok(!is_struct(alloc, Fields::Struct(named))? && is_struct(alloc, Fields::Unit)?)
+}
+
+fn kept_of(word: Ident, items: KeptItems) -> Def {
+    Def::Kept(Kept {
+        word,
+        items,
+        pos: Pos::default(),
+    })
+}
+
+/// Whether the kept definition `(attr ..)` with this item is writable.
+fn is_kept(alloc: Global, item: KeptItem) -> Result<bool, AllocError> {
+    let items = vec![in alloc; item]?;
+    let word = Ident(Text::from_str(alloc, "attr")?, Pos::default());
+    Ok(is_written(kept_of(word, KeptItems::new(items))))
+}
+
+fn is_symbol(alloc: Global, text: &str) -> Result<bool, AllocError> {
+    let name = Ident(Text::from_str(alloc, text)?, Pos::default());
+    is_kept(alloc, KeptItem::Symbol(name))
+}
+
+fn is_big(alloc: Global, val: u128) -> Result<bool, AllocError> {
+    let pos = Pos::default();
+    is_kept(alloc, KeptItem::Big { val, pos })
+}
+
+fn are_items(alloc: Global) -> Result<bool, AllocError> {
+    Ok(
+        is_symbol(alloc, "#x!")?
+            && !is_symbol(alloc, "-x")?
+            && !is_symbol(alloc, "x;")?
+            && !is_symbol(alloc, "")?
+            && is_big(alloc, 1 << 127)?
+            && !is_big(alloc, (1 << 127) - 1)?,
+    )
+}
+
+fn rule_of(alloc: Global, pattern: Pattern, expr: Expr) -> Def {
+    Def::Rule(Rule {
         pattern,
         iflets: Seq::new(Vec::new(alloc)),
         expr,
         pos: Pos::default(),
         prio: None,
         name: None,
-    }
-}
-
-/// The rule `(rule (t) ..)` with this right side.
-fn with_right_side(alloc: Global, expr: Expr) -> Result<Def, Fail> {
-    let pattern = Pattern::Term {
-        sym: name(alloc, "t")?,
-        args: Patterns::new(Vec::new(alloc)),
-        pos: Pos::default(),
-    };
-    Ok(Def::Rule(rule_of(alloc, pattern, expr)))
-}
-
-/// The type `(type T (struct ..))` with these fields.
-fn with_fields(alloc: Global, fields: Fields) -> Result<Def, Fail> {
-    let pos = Pos::default();
-    Ok(Def::TypeDef(Type {
-        name: name(alloc, "T")?,
-        is_extern: false,
-        is_nodebug: false,
-        ty: TypeValue::Struct(fields, pos),
-        pos,
-    }))
-}
-
-/// The kept definition of this word with these items.
-fn kept_of(alloc: Global, word: &str, items: Vec<KeptItem>) -> Result<Def, Fail> {
-    Ok(Def::Kept(Kept {
-        word: name(alloc, word)?,
-        items: KeptItems::new(items),
-        pos: Pos::default(),
-    }))
-}
-
-/// The kept definition `(attr ..)` with this item.
-fn with_item(alloc: Global, item: KeptItem) -> Result<Def, Fail> {
-    kept_of(alloc, "attr", vec![in alloc; item]?)
-}
-
-fn variable(alloc: Global, text: &str) -> Result<Pattern, Fail> {
-    let var = name(alloc, text)?;
-    let pos = Pos::default();
-    Ok(Pattern::Var { var, pos })
-}
-
-fn bound(alloc: Global, text: &str, subpat: Pattern) -> Result<Pattern, Fail> {
-    let var = name(alloc, text)?;
-    let subpat = BoxedPattern::new(alloc, subpat)?;
-    let pos = Pos::default();
-    Ok(Pattern::BindPattern { var, subpat, pos })
-}
-
-fn term(alloc: Global, text: &str, arg: Pattern) -> Result<Pattern, Fail> {
-    let sym = name(alloc, text)?;
-    let args = Patterns::new(vec![in alloc; arg]?);
-    let pos = Pos::default();
-    Ok(Pattern::Term { sym, args, pos })
-}
-
-fn call(alloc: Global, text: &str, arg: Expr) -> Result<Expr, Fail> {
-    let sym = name(alloc, text)?;
-    let args = Exprs::new(vec![in alloc; arg]?);
-    let pos = Pos::default();
-    Ok(Expr::Term { sym, args, pos })
-}
-
-fn value(alloc: Global, text: &str) -> Result<Expr, Fail> {
-    let name = name(alloc, text)?;
-    let pos = Pos::default();
-    Ok(Expr::Var { name, pos })
-}
-
-/// `(let ((NAME u8 x)) x)`.
-fn let_of(alloc: Global, text: &str) -> Result<Expr, Fail> {
-    let def = LetDef {
-        var: name(alloc, text)?,
-        ty: name(alloc, "u8")?,
-        val: value(alloc, "x")?,
-        pos: Pos::default(),
-    };
-    Ok(Expr::Let {
-        defs: LetDefs::new(vec![in alloc; def]?),
-        body: BoxedExpr::new(alloc, value(alloc, "x")?)?,
-        pos: Pos::default(),
     })
 }
 
-/// An `@` in so many lists.
-fn nested(alloc: Global, lists: usize) -> Result<KeptItem, Fail> {
-    let pos = Pos::default();
-    let mut item = KeptItem::At { pos };
-    for _ in 0..lists {
-        let items = KeptItems::new(vec![in alloc; item]?);
-        item = KeptItem::List { items, pos };
-    }
-    Ok(item)
-}
-
-fn tuple(alloc: Global, index: usize, ty: &str) -> Result<Fields, Fail> {
-    let ty = name(alloc, ty)?;
-    let pos = Pos::default();
-    let fields = Seq::new(vec![in alloc; TupleField { index, ty, pos }]?);
-    Ok(Fields::Tuple(TupleFields { fields }))
-}
-
-#[test]
-fn what_is_spelt_is_writable(rt: HostRuntime) -> Result<(), Fail> {
-    let defs = parse(Lexer::new(rt.alloc(), 0, EVERY_FORM))
-        .ok()
-        .ok_or("a spelt text")?;
-    assert_eq!(rt; defs.len(), 12);
-    for def in &defs {
-        assert!(rt; writable(def));
-    }
-    Ok(())
-}
-
-/// Whether the extractor with this template is writable.
-fn is_template(alloc: Global, template: Pattern) -> Result<bool, Fail> {
-    Ok(writable(&with_template(alloc, template)?))
-}
-
-/// Whether the rule with this right side is writable.
-fn is_right(alloc: Global, expr: Expr) -> Result<bool, Fail> {
-    Ok(writable(&with_right_side(alloc, expr)?))
-}
-
-/// Whether the kept definition with this item is writable.
-fn is_kept(alloc: Global, item: KeptItem) -> Result<bool, Fail> {
-    Ok(writable(&with_item(alloc, item)?))
-}
-
-/// Whether the struct with these fields is writable.
-fn is_struct(alloc: Global, fields: Fields) -> Result<bool, Fail> {
-    Ok(writable(&with_fields(alloc, fields)?))
-}
-
-#[test]
-fn variables_of_patterns(rt: HostRuntime) -> Result<(), Fail> {
-    let alloc = rt.alloc();
-    let pos = Pos::default();
-    for (text, want) in [("x", true), ("_", false), ("true", false), ("$x", false)] {
-        assert_eq!(rt; is_template(alloc, variable(alloc, text)?)?, want);
-        let chain = bound(alloc, text, Pattern::Wildcard { pos })?;
-        assert_eq!(rt; is_template(alloc, chain)?, want);
-    }
-    Ok(())
-}
-
-#[test]
-fn terms_of_patterns(rt: HostRuntime) -> Result<(), Fail> {
-    let alloc = rt.alloc();
-    let pos = Pos::default();
-    for (text, want) in [("f", true), ("if", true), ("and", false), ("", false)] {
-        let template = term(alloc, text, Pattern::Wildcard { pos })?;
-        assert_eq!(rt; is_template(alloc, template)?, want);
-    }
-    let template = Pattern::MacroArg { index: 0, pos };
-    assert!(rt; !is_template(alloc, template)?);
-    Ok(())
-}
-
-#[test]
-fn constants_of_patterns(rt: HostRuntime) -> Result<(), Fail> {
-    let alloc = rt.alloc();
-    let pos = Pos::default();
-    for (val, big, want) in [(-1, true, true), (0, true, false), (0, false, true)] {
-        let template = Pattern::ConstInt { val, big, pos };
-        assert_eq!(rt; is_template(alloc, template)?, want);
-    }
-    for (text, want) in [("x", true), ("", false), ("a b", false)] {
-        let val = name(alloc, text)?;
-        assert_eq!(rt; is_template(alloc, Pattern::ConstPrim { val, pos })?, want);
-    }
-    Ok(())
-}
-
-#[test]
-fn expressions(rt: HostRuntime) -> Result<(), Fail> {
-    let alloc = rt.alloc();
-    for (text, want) in [("x", true), ("_", true), ("true", false), ("(", false)] {
-        assert_eq!(rt; is_right(alloc, value(alloc, text)?)?, want);
-    }
-    for (text, want) in [
-        ("f", true),
-        ("if", false),
-        ("if-let", false),
-        ("let", false),
-    ] {
-        let expr = call(alloc, text, value(alloc, "x")?)?;
-        assert_eq!(rt; is_right(alloc, expr)?, want);
-    }
-    for (text, want) in [("if", true), ("let", false)] {
-        let expr = call(alloc, text, value(alloc, "x")?)?;
-        assert_eq!(rt; is_right(alloc, call(alloc, "f", expr)?)?, want);
-    }
-    for (text, want) in [("$x", true), ("1", false)] {
-        assert_eq!(rt; is_right(alloc, let_of(alloc, text)?)?, want);
-    }
-    Ok(())
-}
-
-/// A constant's expression.
 fn zero() -> Expr {
     Expr::ConstInt {
         val: 0,
@@ -259,169 +320,46 @@ fn zero() -> Expr {
     }
 }
 
-#[test]
-fn patterns_of_rules_are_lists(rt: HostRuntime) -> Result<(), Fail> {
-    let alloc = rt.alloc();
-    let rule = rule_of(alloc, variable(alloc, "x")?, zero());
-    assert!(rt; !writable(&Def::Rule(rule)));
-    let rule = rule_of(alloc, nested_terms(alloc, 1)?, zero());
-    assert!(rt; writable(&Def::Rule(rule)));
-    Ok(())
-}
-
-#[test]
-fn names_of_rules(rt: HostRuntime) -> Result<(), Fail> {
-    let alloc = rt.alloc();
-    for (new, want) in [("m", true), ("2", false)] {
-        let mut rule = rule_of(alloc, nested_terms(alloc, 1)?, zero());
-        rule.name = Some(name(alloc, new)?);
-        assert_eq!(rt; writable(&Def::Rule(rule)), want);
-    }
-    Ok(())
-}
-
-#[test]
-fn converters(rt: HostRuntime) -> Result<(), Fail> {
-    let alloc = rt.alloc();
-    for (outer, want) in [("u64", true), ("u8 u8", false)] {
-        let converter = Def::Converter(Converter {
-            term: name(alloc, "widen")?,
-            inner_ty: name(alloc, "u8")?,
-            outer_ty: name(alloc, outer)?,
-            pos: Pos::default(),
-        });
-        assert_eq!(rt; writable(&converter), want);
-    }
-    Ok(())
-}
-
-#[test]
-fn fields(rt: HostRuntime) -> Result<(), Fail> {
-    let alloc = rt.alloc();
-    for (index, ty, want) in [(0, "u8", true), (1, "u8", false), (0, "8", false)] {
-        assert_eq!(rt; is_struct(alloc, tuple(alloc, index, ty)?)?, want);
-    }
-    Ok(())
-}
-
-#[test]
-fn no_fields_are_unit(rt: HostRuntime) -> Result<(), Fail> {
-    let alloc = rt.alloc();
-    let fields = Seq::new(Vec::new(alloc));
-    assert!(rt; !is_struct(alloc, Fields::Tuple(TupleFields { fields }))?);
-    let fields = Seq::new(Vec::new(alloc));
-    assert!(rt; !is_struct(alloc, Fields::Struct(StructFields { fields }))?);
-    assert!(rt; is_struct(alloc, Fields::Unit)?);
-    Ok(())
-}
-
-/// Whether the declaration of a term is writable, with `pure` and `partial` as given.
-fn is_decl(alloc: Global, term: &str, pure: bool, partial: bool) -> Result<bool, Fail> {
-    Ok(writable(&Def::Decl(Decl {
-        term: name(alloc, term)?,
-        arg_tys: Seq::new(Vec::new(alloc)),
-        ret_ty: name(alloc, "u8")?,
-        pure,
-        multi: false,
-        partial,
-        rec: false,
-        pos: Pos::default(),
-    })))
-}
-
-#[test]
-fn flags_are_no_names(rt: HostRuntime) -> Result<(), Fail> {
-    let alloc = rt.alloc();
-    for (term, pure, partial, want) in [
-        ("pure", false, false, false),
-        ("rec", false, false, false),
-        ("pure", true, false, true),
-        ("multi", true, false, false),
-        ("multi", false, true, true),
-        ("rec", false, true, false),
-    ] {
-        assert_eq!(rt; is_decl(alloc, term, pure, partial)?, want, "{term}");
-    }
-    Ok(())
-}
-
-/// The extractor of the host for the term `infallible`.
-fn infallible_term(alloc: Global, infallible: bool) -> Result<Def, Fail> {
-    Ok(Def::Extern(Extern::Extractor {
-        term: name(alloc, "infallible")?,
-        func: name(alloc, "f")?,
-        pos: Pos::default(),
-        infallible,
-    }))
-}
-
-#[test]
-fn infallible_is_no_name(rt: HostRuntime) -> Result<(), Fail> {
-    let alloc = rt.alloc();
-    assert!(rt; writable(&infallible_term(alloc, true)?));
-    assert!(rt; !writable(&infallible_term(alloc, false)?));
-    Ok(())
-}
-
-#[test]
-fn items(rt: HostRuntime) -> Result<(), Fail> {
-    let alloc = rt.alloc();
+/// `(let ((NAME u8 0)) 0)`.
+fn let_of(alloc: Global, name: &str) -> Result<Expr, AllocError> {
     let pos = Pos::default();
-    for (text, want) in [("#x!", true), ("-x", false), ("x;", false), ("", false)] {
-        let item = KeptItem::Symbol(name(alloc, text)?);
-        assert_eq!(rt; is_kept(alloc, item)?, want);
-    }
-    for (val, want) in [(1 << 127, true), ((1 << 127) - 1, false)] {
-        assert_eq!(rt; is_kept(alloc, KeptItem::Big { val, pos })?, want);
-    }
-    Ok(())
+    let body = BoxedExpr::new(alloc, zero())?;
+    let var = Ident(Text::from_str(alloc, name)?, pos);
+    let ty = Ident(Text::from_str(alloc, "u8")?, pos);
+    let val = zero();
+    let defs = LetDefs::new(vec![in alloc; LetDef { var, ty, val, pos }]?);
+    Ok(Expr::Let { defs, body, pos })
+}
+
+/// Whether a `let` of this name is writable at the right side of a rule.
+fn is_let(alloc: Global, name: &str) -> Result<bool, AllocError> {
+    let pos = Pos::default();
+    let expr = let_of(alloc, name)?;
+    let sym = Ident(Text::from_str(alloc, "t")?, pos);
+    let args = Patterns::new(Vec::new(alloc));
+    Ok(is_written(rule_of(alloc, Pattern::Term { sym, args, pos }, expr)))
+}
+
+/// Whether a rule is writable whose left side is a variable, which is no list.
+fn is_of_variable(alloc: Global) -> Result<bool, AllocError> {
+    let pos = Pos::default();
+    let var = Ident(Text::from_str(alloc, "x")?, pos);
+    Ok(is_written(rule_of(alloc, Pattern::Var { var, pos }, zero())))
+}
+
+fn are_sides(alloc: Global) -> Result<bool, AllocError> {
+    Ok(is_let(alloc, "$x")? && !is_let(alloc, "1")? && !is_of_variable(alloc)?)
 }
 
 #[test]
-fn kept_words(rt: HostRuntime) -> Result<(), Fail> {
+fn what_is_spelt_is_writable(rt: HostRuntime) -> Result<(), Fail> {
     let alloc = rt.alloc();
-    for (word, want) in [("attr", true), ("rule", false)] {
-        let kept = kept_of(alloc, word, Vec::new(alloc))?;
-        assert_eq!(rt; writable(&kept), want);
-    }
-    Ok(())
-}
-
-/// So many terms around a variable.
-fn nested_terms(alloc: Global, terms: usize) -> Result<Pattern, Fail> {
-    let mut pattern = variable(alloc, "x")?;
-    for _ in 0..terms {
-        pattern = term(alloc, "f", pattern)?;
-    }
-    Ok(pattern)
-}
-
-/// So many terms around a `let`.
-fn nested_calls(alloc: Global, calls: usize) -> Result<Expr, Fail> {
-    let mut expr = let_of(alloc, "x")?;
-    for _ in 0..calls {
-        expr = call(alloc, "f", expr)?;
-    }
-    Ok(expr)
-}
-
-/// So many names bound to a variable.
-fn chain(alloc: Global, names: usize) -> Result<Pattern, Fail> {
-    let mut pattern = variable(alloc, "x")?;
-    for _ in 0..names {
-        pattern = bound(alloc, "y", pattern)?;
-    }
-    Ok(pattern)
-}
-
-#[test]
-fn nesting_is_bounded(rt: HostRuntime) -> Result<(), Fail> {
-    let alloc = rt.alloc();
-    for (number, want) in [(999, true), (1000, false)] {
-        assert_eq!(rt; is_kept(alloc, nested(alloc, number)?)?, want);
-        assert_eq!(rt; is_template(alloc, nested_terms(alloc, number)?)?, want);
-        assert_eq!(rt; is_right(alloc, nested_calls(alloc, number - 3)?)?, want);
-    }
-    assert!(rt; is_template(alloc, chain(alloc, 100_000)?)?);
+    assert!(rt; are_all_writable(alloc, EVERY_FORM, 12)?);
+    assert!(rt; are_constants(alloc)?);
+    assert!(rt; is_chain(alloc)?);
+    assert!(rt; are_tuples(alloc)?);
+    assert!(rt; are_none(alloc)?);
+    assert!(rt; are_items(alloc)?);
+    assert!(rt; are_sides(alloc)?);
     Ok(())
 }

@@ -1,76 +1,100 @@
 //! Orders, keys and equality.
+use crate::syntax::texts::placed;
 use isle_syntax::Text;
-use isle_syntax::ast::{Converter, Def, Ident};
+use isle_syntax::ast::{Decl, Def, Ident};
 use isle_syntax::lexer::Pos;
-use std::alloc::Global;
+use std::alloc::{AllocError, Global};
 use std::cmp::Ordering;
 use std::collections::{BTreeMap, HashMap};
+use std::hash::Hash;
 use std::test::Fail;
 
-fn name(alloc: Global, text: &str, file: usize, offset: usize) -> Result<Ident, Fail> {
-    Ok(Ident(Text::from_str(alloc, text)?, Pos::new(file, offset)))
-}
-
-#[test]
-fn positions_are_keys(rt: HostRuntime) -> Result<(), Fail> {
-    let mut ordered = BTreeMap::new(rt.alloc());
-    let mut hashed = HashMap::new(rt.alloc());
-    for (file, offset, at) in [(1, 0, 2), (0, 9, 1), (0, 2, 0)] {
-        ordered.insert(Pos::new(file, offset), at)?;
-        hashed.insert(Pos::new(file, offset), at)?;
+/// Whether an ordered table with these keys finds the second one, the least, and not another.
+fn are_ordered<K: Ord>(
+    alloc: Global,
+    keys: &[K],
+    second: &K,
+    other: &K,
+) -> Result<bool, AllocError> {
+    let mut table = BTreeMap::new(alloc);
+    for (place, key) in keys.iter().enumerate() {
+        table.insert(key, place)?;
     }
-    assert_eq!(rt; ordered.get(&Pos::new(0, 9)), Some(&1));
-    assert_eq!(rt; hashed.get(&Pos::new(0, 9)), Some(&1));
-    assert_eq!(rt; ordered.get(&Pos::new(9, 0)), None);
-    assert_eq!(rt; hashed.get(&Pos::new(9, 0)), None);
-    Ok(())
+    let is_found = table.get(&second) == Some(&1) && table.get(&other) == None;
+    Ok(is_found && table.keys().next() == Some(&second))
 }
 
-#[test]
-fn names_are_keys(rt: HostRuntime) -> Result<(), Fail> {
-    let alloc = rt.alloc();
-    let mut ordered = BTreeMap::new(alloc);
-    let mut hashed = HashMap::new(alloc);
-    for (text, offset, at) in [("b", 0, 2), ("a", 5, 1), ("a", 3, 0)] {
-        ordered.insert(name(alloc, text, 0, offset)?, at)?;
-        hashed.insert(name(alloc, text, 0, offset)?, at)?;
+/// Whether a hashed table with these keys finds the second one, and not another.
+fn are_hashed<K: Eq + Hash>(
+    alloc: Global,
+    keys: &[K],
+    second: &K,
+    other: &K,
+) -> Result<bool, AllocError> {
+    let mut table = HashMap::new(alloc);
+    for (place, key) in keys.iter().enumerate() {
+        table.insert(key, place)?;
     }
-    let key = name(alloc, "a", 0, 5)?;
-    assert_eq!(rt; ordered.get(&key), Some(&1));
-    assert_eq!(rt; hashed.get(&key), Some(&1));
-    let other = name(alloc, "a", 1, 5)?;
-    assert_eq!(rt; ordered.get(&other), None);
-    assert_eq!(rt; hashed.get(&other), None);
-    Ok(())
+    Ok(table.get(&second) == Some(&1) && table.get(&other) == None)
+}
+
+/// Whether values are the keys of tables.
+pub fn are_keys<K: Ord + Hash>(
+    alloc: Global,
+    keys: &[K],
+    second: &K,
+    other: &K,
+) -> Result<bool, AllocError> {
+    Ok(are_ordered(alloc, keys, second, other)? && are_hashed(alloc, keys, second, other)?)
+}
+
+/// Whether the types of a declaration's arguments are keys, and not its other type.
+fn types_are_keys(alloc: Global, decl: &Decl) -> Result<bool, AllocError> {
+    match decl.arg_tys.as_slice().get(1) {
+        Some(second) => are_keys(alloc, decl.arg_tys.as_slice(), second, &decl.ret_ty),
+        None => Ok(false),
+    }
+}
+
+fn names_are_keys(alloc: Global, text: &str) -> Result<bool, Fail> {
+    let defs = placed(alloc, text)?;
+    match defs.first() {
+        Some(Def::Decl(decl)) => Ok(types_are_keys(alloc, decl)?),
+        _ => Err(Fail::from("a declaration")),
+    }
+}
+
+fn positions_are_keys(alloc: Global) -> Result<bool, AllocError> {
+    let keys = [Pos::new(1, 0), Pos::new(0, 2), Pos::new(0, 9)];
+    are_keys(alloc, &keys, &Pos::new(0, 2), &Pos::new(9, 0))
+}
+
+/// Whether names come in the order of their texts, then of their files, and positions in that of their files.
+fn are_in_order(alloc: Global) -> Result<bool, AllocError> {
+    let longer = Ident(Text::from_str(alloc, "a")?, Pos::new(0, 0));
+    let first = Ident(Text::empty(alloc), Pos::new(7, 7));
+    let same = Ident(Text::empty(alloc), Pos::new(7, 7));
+    let later = Ident(Text::empty(alloc), Pos::new(8, 0));
+    Ok(
+        first.cmp(&longer) == Ordering::Less
+            && first.cmp(&later) == Ordering::Less
+            && first.cmp(&same) == Ordering::Equal
+            && Pos::new(1, 0).cmp(&Pos::new(0, 9)) == Ordering::Greater,
+    )
+}
+
+/// Whether two texts have the same definitions at the same positions.
+fn are_same(alloc: Global, one: &str, other: &str) -> Result<bool, Fail> {
+    let defs = placed(alloc, one)?;
+    Ok(defs == placed(alloc, other)?)
 }
 
 #[test]
-fn orders_go_by_text_file_and_offset(rt: HostRuntime) -> Result<(), Fail> {
-    let alloc = rt.alloc();
-    let first = name(alloc, "a", 7, 7)?;
-    assert_eq!(rt; first.cmp(&name(alloc, "aa", 0, 0)?), Ordering::Less);
-    assert_eq!(rt; first.cmp(&name(alloc, "a", 8, 0)?), Ordering::Less);
-    assert_eq!(rt; first.cmp(&name(alloc, "a", 7, 7)?), Ordering::Equal);
-    assert_eq!(rt; Pos::new(1, 0).cmp(&Pos::new(0, 9)), Ordering::Greater);
-    Ok(())
-}
-
-#[test]
-fn definitions_are_compared(rt: HostRuntime) -> Result<(), Fail> {
-    let alloc = rt.alloc();
-    let converter = Def::Converter(Converter {
-        term: name(alloc, "t", 0, 9)?,
-        inner_ty: name(alloc, "i", 0, 5)?,
-        outer_ty: name(alloc, "o", 0, 7)?,
-        pos: Pos::new(0, 5),
-    });
-    let other = Def::Converter(Converter {
-        term: name(alloc, "t", 0, 9)?,
-        inner_ty: name(alloc, "i", 0, 5)?,
-        outer_ty: name(alloc, "o", 0, 6)?,
-        pos: Pos::new(0, 5),
-    });
-    assert!(rt; converter == converter);
-    assert!(rt; converter != other);
+fn values_are_compared(rt: HostRuntime) -> Result<(), Fail> {
+    assert!(rt; positions_are_keys(rt.alloc())?);
+    assert!(rt; names_are_keys(rt.alloc(), "(decl f (b a a) a)")?);
+    assert!(rt; are_in_order(rt.alloc())?);
+    assert!(rt; are_same(rt.alloc(), "(convert i o t)", "(convert i o t)")?);
+    assert!(rt; !are_same(rt.alloc(), "(convert i o t)", "(convert i o  t)")?);
     Ok(())
 }

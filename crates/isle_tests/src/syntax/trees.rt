@@ -1,9 +1,12 @@
 //! Trees of texts, and their calls.
-use isle_syntax::ast::{Def, Ident, Pattern, Rule, Variant};
-use isle_syntax::lexer::{Lexer, Pos};
-use isle_syntax::parser::{parse, parse_without_pos};
-use isle_syntax::{Refusal, Text};
-use std::alloc::Global;
+use crate::layout::spellings::shown;
+use crate::syntax::texts::{definitions, extractor, first_rule, placed, read_without_pos};
+use isle_syntax::Text;
+use isle_syntax::ast::{
+    BoxedPattern, Def, Expr, Extractor, Ident, KeptItem, Pattern, Rule, TypeValue, Variant,
+};
+use isle_syntax::lexer::Pos;
+use std::alloc::{AllocError, Global};
 use std::test::Fail;
 
 const EVERY_FORM: &str = "(type Imm (primitive u64))
@@ -19,177 +22,202 @@ const EVERY_FORM: &str = "(type Imm (primitive u64))
 (attr simp (veri chain) @ 5 340282366920938463463374607431768211455)
 ";
 
-/// The definitions of a text, with their positions.
-fn placed(alloc: Global, text: &str) -> Result<Vec<Def>, Fail> {
-    Ok(
-        parse(Lexer::new(alloc, 0, text))
-            .ok()
-            .ok_or("a spelt text")?,
-    )
-}
-
-/// The definitions of a text, without their positions.
-fn unplaced(alloc: Global, text: &str) -> Result<Vec<Def>, Fail> {
-    Ok(
-        parse_without_pos(Lexer::new(alloc, 0, text))
-            .ok()
-            .ok_or("a spelt text")?,
-    )
-}
-
-/// The rule that a text begins with.
-fn rule(defs: Vec<Def>) -> Result<Rule, Fail> {
-    match defs.into_iter().next() {
-        Some(Def::Rule(rule)) => Ok(rule),
-        _ => Err(Fail::from("a rule")),
-    }
-}
-
-/// The pattern of a rule's text, without positions.
-fn pattern(alloc: Global, text: &str) -> Result<Pattern, Fail> {
-    Ok(rule(unplaced(alloc, text)?)?.pattern)
-}
-
-/// A name without a position.
-fn name(alloc: Global, text: &str) -> Result<Ident, Fail> {
-    Ok(Ident(Text::from_str(alloc, text)?, Pos::default()))
-}
-
-#[test]
-fn clones_are_the_same_and_positions_go(rt: HostRuntime) -> Result<(), Fail> {
-    let alloc = rt.alloc();
+fn without_pos(alloc: Global, defs: Vec<Def>) -> Result<Vec<Def>, AllocError> {
     let mut without = Vec::new(alloc);
-    for def in placed(alloc, EVERY_FORM)? {
-        assert!(rt; def.clone()? == def);
+    for def in defs {
         without.push(def.without_pos(alloc)?)?;
     }
-    assert!(rt; without == unplaced(alloc, EVERY_FORM)?);
-    assert_eq!(rt; without.len(), 11);
-    Ok(())
+    Ok(without)
 }
 
-#[test]
-fn positions_of_nodes(rt: HostRuntime) -> Result<(), Fail> {
-    let alloc = rt.alloc();
-    let rule = rule(placed(alloc, "(rule a (f x) (if (g x)) (let () x))")?)?;
-    assert_eq!(rt; rule.pos.offset, 6);
-    assert_eq!(rt; rule.pattern.pos().offset, 8);
-    assert_eq!(rt; rule.expr.pos().offset, 25);
-    for iflet in rule.iflets.as_slice() {
-        assert_eq!(rt; iflet.pos.offset, 14);
-        assert_eq!(rt; iflet.pattern.pos().offset, 15);
-        assert_eq!(rt; iflet.expr.pos().offset, 18);
+/// Whether definitions are without their positions what is read of a text without them.
+fn are_read(alloc: Global, defs: Vec<Def>, text: &str) -> Result<bool, Fail> {
+    let without = without_pos(alloc, defs)?;
+    Ok(without == definitions(read_without_pos(alloc, text))?)
+}
+
+/// Whether a text has so many definitions, of which the clones are the same, and which are without their positions what is
+/// read without them.
+fn are_copied(alloc: Global, text: &str, number: usize) -> Result<bool, Fail> {
+    let defs = placed(alloc, text)?;
+    let are_same = defs.clone()? == defs && defs.len() == number;
+    Ok(are_same && are_read(alloc, defs, text)?)
+}
+
+/// The offsets of a pattern's terms, two digits each.
+fn pattern_terms(pattern: &Pattern) -> u64 {
+    let mut seen: u64 = 0;
+    pattern.terms(&mut |pos: Pos, _: &Ident| seen = seen
+        .wrapping_mul(100)
+        .wrapping_add(pos.offset as u64));
+    seen
+}
+
+/// The offsets of an expression's terms, two digits each.
+fn expr_terms(expr: &Expr) -> u64 {
+    let mut seen: u64 = 0;
+    expr.terms(&mut |pos: Pos, _: &Ident| seen = seen
+        .wrapping_mul(100)
+        .wrapping_add(pos.offset as u64));
+    seen
+}
+
+/// The offsets of the terms at both sides of a text's rule.
+fn terms_of(alloc: Global, text: &str) -> Result<(u64, u64), Fail> {
+    let defs = placed(alloc, text)?;
+    let rule = first_rule(defs.as_slice())?;
+    Ok((pattern_terms(&rule.pattern), expr_terms(&rule.expr)))
+}
+
+// Of a rule, its first term, and how many terms its two sides have and where they stand; of a type, the full name of its
+// first variant; of a kept definition, where its first item stands.
+pub const CALLS: &str = "
+| (rule (f (g x)) (h)) → f 2 6 1 16
+| (rule (and x y) 0) → none 0 6 0 16
+| (type Op (enum Add)) → Op.Add
+| (spec a) → 6";
+
+fn told_of_rule(alloc: Global, rule: &Rule) -> Result<String, AllocError> {
+    let root = match rule.pattern.root_term() {
+        Some(name) => name.0.as_str(),
+        None => "none",
+    };
+    let (left, right) = (rule.pattern.count_terms(), rule.expr.count_terms());
+    let (from, to) = (rule.pattern.pos().offset, rule.expr.pos().offset);
+    format!(in alloc; "{root} {left} {from} {right} {to}")
+}
+
+fn told_of_enum(alloc: Global, name: &Ident, variants: &[Variant]) -> Result<String, AllocError> {
+    match variants.first() {
+        Some(first) => Ok(
+            Variant::full_name(alloc, name, &first.name)?
+                .0
+                .into_string(),
+        ),
+        None => String::from_str(alloc, "no variant"),
     }
-    Ok(())
+}
+
+fn told_of_items(alloc: Global, items: &[KeptItem]) -> Result<String, AllocError> {
+    match items.first() {
+        Some(first) => format!(in alloc; "{}", first.pos().offset),
+        None => String::from_str(alloc, "no item"),
+    }
+}
+
+fn told_of(alloc: Global, def: Option<&Def>) -> Result<String, AllocError> {
+    match def {
+        Some(Def::Rule(rule)) => told_of_rule(alloc, rule),
+        Some(Def::TypeDef(ty)) => match &ty.ty {
+            TypeValue::Enum(variants, _) => told_of_enum(alloc, &ty.name, variants.as_slice()),
+            _ => String::from_str(alloc, "no enum"),
+        },
+        Some(Def::Kept(kept)) => told_of_items(alloc, kept.items.as_slice()),
+        _ => String::from_str(alloc, "another definition"),
+    }
+}
+
+/// What calls tell of a text's definition.
+pub fn told(alloc: Global, text: &str) -> Result<String, Fail> {
+    let defs = placed(alloc, text)?;
+    Ok(told_of(alloc, defs.first())?)
+}
+
+// Two extractors: the template of the first, of its arguments, and this template filled with what the second calls.
+pub const TEMPLATES: &str = "
+| (extractor (e x) (and x @ _ (g x y) x @ 2)) (extractor (a) (f 1)) → (and 1 (g 1 y) x @ 2)
+| (extractor (e) (g x)) (extractor (a) (f 1)) → (g x)
+| (extractor (e x y) (g y)) (extractor (a) (f 1)) → none";
+
+/// A pattern's template of arguments of these names, filled with patterns. `None` also where the pattern or its template
+/// has numbered arguments that it shouldn't, or the template none that it should.
+fn filled(
+    alloc: Global,
+    names: &[Ident],
+    pattern: &Pattern,
+    arguments: &[Pattern],
+) -> Result<Option<Pattern>, AllocError> {
+    if pattern.has_macro_arg() {
+        return Ok(None);
+    }
+    let template = pattern.make_macro_template(alloc, names)?;
+    if template.has_macro_arg() == names.is_empty() {
+        return Ok(None);
+    }
+    template.subst_macro_args(alloc, arguments)
+}
+
+/// The template of an extractor, filled with what the template of another one calls.
+fn filled_with(
+    alloc: Global,
+    e: &Extractor,
+    other: &Extractor,
+) -> Result<Option<Pattern>, AllocError> {
+    match &other.template {
+        Pattern::Term { args, .. } => {
+            filled(alloc, e.args.as_slice(), &e.template, args.as_slice())
+        }
+        _ => Ok(None),
+    }
+}
+
+fn shown_or_none(alloc: Global, pattern: Option<Pattern>) -> Result<String, Fail> {
+    match pattern {
+        Some(pattern) => shown(alloc, &pattern),
+        None => Ok(String::from_str(alloc, "none")?),
+    }
+}
+
+/// What the template of a text's first extractor is, filled with what the second one calls.
+pub fn shown_filled(alloc: Global, text: &str) -> Result<String, Fail> {
+    let defs = placed(alloc, text)?;
+    let first = extractor(defs.first())?;
+    let filled = filled_with(alloc, first, extractor(defs.last())?)?;
+    shown_or_none(alloc, filled)
+}
+
+/// A name bound to a pattern.
+fn bound(alloc: Global, subpat: Pattern) -> Result<Pattern, AllocError> {
+    let pos = Pos::default();
+    let subpat = BoxedPattern::new(alloc, subpat)?;
+    let var = Ident(Text::from_str(alloc, "x")?, pos);
+    Ok(Pattern::BindPattern { var, subpat, pos })
+}
+
+/// The pattern `x @ x @ .. @ _` with so many bindings, which nest without parentheses.
+pub fn chain(alloc: Global, bindings: usize) -> Result<Pattern, AllocError> {
+    let pos = Pos::default();
+    let mut chain = Pattern::Wildcard { pos };
+    for _ in 0..bindings {
+        chain = bound(alloc, chain)?;
+    }
+    Ok(chain)
+}
+
+/// Whether a chain of names bound to a wildcard is filled, with nothing, and has no term.
+fn is_filled(alloc: Global, chain: &Pattern) -> Result<bool, AllocError> {
+    let filled = filled(alloc, &[], chain, &[])?;
+    Ok(filled.is_some() && pattern_terms(chain) == 0)
+}
+
+/// Whether the clone of a pattern without positions is the same, also without them.
+fn is_copied(alloc: Global, chain: &Pattern) -> Result<bool, AllocError> {
+    let copy = chain.clone()?;
+    let is_same = copy == *chain;
+    Ok(is_same && copy.without_pos(alloc)? == *chain)
+}
+
+/// Whether calls walk down a long chain within the stack.
+fn is_walked(alloc: Global, bindings: usize) -> Result<bool, AllocError> {
+    let chain = chain(alloc, bindings)?;
+    Ok(is_copied(alloc, &chain)? && is_filled(alloc, &chain)?)
 }
 
 #[test]
-fn terms_in_preorder(rt: HostRuntime) -> Result<(), Fail> {
+fn calls_walk_trees(rt: HostRuntime) -> Result<(), Fail> {
+    assert!(rt; are_copied(rt.alloc(), EVERY_FORM, 11)?);
+    assert!(rt; is_walked(rt.alloc(), 200_000)?);
     let text = "(rule (f (g x) (h y @ (k _))) (let ((m u8 (p 1))) (q m)))";
-    let rule = rule(placed(rt.alloc(), text)?)?;
-    let mut seen: u64 = 0;
-    rule.pattern.terms(&mut |pos: Pos, _: &Ident| seen = seen
-        .wrapping_mul(100)
-        .wrapping_add(pos.offset as u64));
-    assert_eq!(rt; seen, 6091522);
-    let mut seen: u64 = 0;
-    rule.expr.terms(&mut |pos: Pos, _: &Ident| seen = seen
-        .wrapping_mul(100)
-        .wrapping_add(pos.offset as u64));
-    assert_eq!(rt; seen, 4250);
-    Ok(())
-}
-
-#[test]
-fn root_terms(rt: HostRuntime) -> Result<(), Fail> {
-    let alloc = rt.alloc();
-    let term = pattern(alloc, "(rule (f x) 0)")?;
-    assert!(rt; term.root_term() == Some(&name(alloc, "f")?));
-    assert!(rt; !term.has_macro_arg());
-    let both = pattern(alloc, "(rule (and x y) 0)")?;
-    assert!(rt; both.root_term().is_none());
-    Ok(())
-}
-
-#[test]
-fn templates_put_patterns_in(rt: HostRuntime) -> Result<(), Fail> {
-    let alloc = rt.alloc();
-    let source = pattern(alloc, "(rule (and x @ _ (g x y) x @ 2) 0)")?;
-    let names = vec![in alloc; name(alloc, "x")?]?;
-    assert!(rt; !source.has_macro_arg());
-    let template = source.make_macro_template(alloc, names.as_slice())?;
-    assert!(rt; template.has_macro_arg());
-    let arguments = vec![in alloc;
-        Pattern::ConstInt {
-            val: 1,
-            big: false,
-            pos: Pos::default()
-        },
-    ]?;
-    let filled = template
-        .subst_macro_args(alloc, arguments.as_slice())?
-        .ok_or("a pattern")?;
-    assert!(rt; filled == pattern(alloc, "(rule (and 1 (g 1 y) x @ 2) 0)")?);
-    Ok(())
-}
-
-#[test]
-fn templates_lack_arguments(rt: HostRuntime) -> Result<(), Fail> {
-    let alloc = rt.alloc();
-    let source = pattern(alloc, "(rule (g y) 0)")?;
-    let names = vec![in alloc; name(alloc, "x")?, name(alloc, "y")?]?;
-    assert!(rt; !source.has_macro_arg());
-    let template = source.make_macro_template(alloc, names.as_slice())?;
-    let arguments = vec![in alloc;
-        Pattern::ConstInt {
-            val: 1,
-            big: false,
-            pos: Pos::default()
-        },
-    ]?;
-    assert!(rt;
-        template
-            .subst_macro_args(alloc, arguments.as_slice())?
-            .is_none()
-    );
-    Ok(())
-}
-
-#[test]
-fn full_names(rt: HostRuntime) -> Result<(), Fail> {
-    let alloc = rt.alloc();
-    let made = Variant::full_name(alloc, &name(alloc, "Op")?, &name(alloc, "Add")?)?;
-    assert_eq!(rt; made.0.as_str(), "Op.Add");
-    Ok(())
-}
-
-/// The word of the kept definition that a text begins with, or `fault`.
-fn kept_word(alloc: Global, text: &str) -> Result<String, Fail> {
-    match parse(Lexer::new(alloc, 0, text)) {
-        Ok(defs) => match defs.first() {
-            Some(Def::Kept(kept)) => Ok(String::from_str(alloc, kept.word.0.as_str())?),
-            _ => Err(Fail::from("a kept definition")),
-        },
-        Err(Refusal::Fault(_)) => Ok(String::from_str(alloc, "fault")?),
-        Err(Refusal::Memory(e)) => Err(Fail::from(e)),
-    }
-}
-
-#[test]
-fn every_kept_word(rt: HostRuntime) -> Result<(), Fail> {
-    let rows = [
-        ("(attr a)", "attr"),
-        ("(spec a)", "spec"),
-        ("(macro a)", "macro"),
-        ("(model a)", "model"),
-        ("(state a)", "state"),
-        ("(form a)", "form"),
-        ("(instantiate a)", "instantiate"),
-        ("(pragma a)", "fault"),
-        ("(attrs a)", "fault"),
-    ];
-    for (text, wanted) in rows {
-        assert_eq!(rt; kept_word(rt.alloc(), text)?.as_str(), wanted);
-    }
+    assert_eq!(rt; terms_of(rt.alloc(), text)?, (6091522, 4250));
     Ok(())
 }

@@ -23,42 +23,51 @@ fn sets_of_four(alloc: Global) -> Result<DisjointSets<u32>, AllocError> {
     Ok(sets)
 }
 
-#[test]
-fn merged_items_have_one_representative(rt: HostRuntime) -> Result<(), Fail> {
-    let mut sets = sets_of_four(rt.alloc())?;
-    assert_eq!(rt; sets.find(3), Some(1));
-    assert_eq!(rt; sets.find(4), Some(1));
-    assert_eq!(rt; sets.find(10), None);
-    assert_eq!(rt; sets.find_mut(4), Some(1));
-    assert!(rt; sets.in_same_set(1, 4));
-    assert!(rt; !sets.in_same_set(4, 5));
-    assert_eq!(rt; sets.len(), 4);
-    Ok(())
+/// Whether merged items have one representative.
+fn are_merged(sets: &mut DisjointSets<u32>) -> bool {
+    sets.find(3) == Some(1)
+        && sets.find(4) == Some(1)
+        && sets.find(10) == None
+        && sets.find_mut(4) == Some(1)
+        && sets.in_same_set(1, 4)
+        && !sets.in_same_set(4, 5)
+        && sets.len() == 4
 }
 
-#[test]
-fn removed_sets_come_sorted(rt: HostRuntime) -> Result<(), Fail> {
-    let mut sets = sets_of_four(rt.alloc())?;
-    assert_eq!(rt; sets.remove_set_of(4)?.as_slice(), [1, 2, 3, 4].as_slice());
-    assert!(rt; sets.remove_set_of(1)?.is_empty());
-    assert!(rt; sets.is_empty());
-    Ok(())
+/// Whether the items of a set are removed, in ascending order, and once.
+fn are_removed(alloc: Global) -> Result<bool, AllocError> {
+    let mut sets = sets_of_four(alloc)?;
+    let is_merged = are_merged(&mut sets);
+    let removed = sets.remove_set_of(4)?;
+    let again = sets.remove_set_of(1)?;
+    let is_right = removed.as_slice() == [1, 2, 3, 4].as_slice();
+    Ok(is_merged && is_right && again.is_empty() && sets.is_empty())
 }
 
-#[test]
-fn other_sets_stay(rt: HostRuntime) -> Result<(), Fail> {
-    let mut sets = sets_of_four(rt.alloc())?;
+/// Whether another set stays when one is removed.
+fn others_stay(alloc: Global) -> Result<bool, AllocError> {
+    let mut sets = sets_of_four(alloc)?;
     sets.merge(6, 5)?;
+    let removed = sets.remove_set_of(2)?;
+    let is_right = removed.as_slice() == [1, 2, 3, 4].as_slice();
+    Ok(is_right && sets.find(5) == Some(6) && sets.len() == 2 && !sets.is_empty())
+}
+
+/// Whether two sets of two and four items are one once they are joined.
+fn are_joined(alloc: Global) -> Result<bool, AllocError> {
+    let sets = sets_of_four(alloc)?;
     let mut copy = sets.clone()?;
-    assert_eq!(rt; sets.remove_set_of(2)?.as_slice(), [1, 2, 3, 4].as_slice());
-    assert_eq!(rt; sets.find(5), Some(6));
-    assert_eq!(rt; sets.len(), 2);
-    assert!(rt; !sets.is_empty());
+    copy.merge(6, 5)?;
     copy.merge(5, 3)?;
-    assert_eq!(rt;
-        copy.remove_set_of(1)?.as_slice(),
-        [1, 2, 3, 4, 5, 6].as_slice()
-    );
+    let all = copy.remove_set_of(1)?;
+    Ok(all.as_slice() == [1, 2, 3, 4, 5, 6].as_slice())
+}
+
+#[test]
+fn sets_are_merged_and_removed(rt: HostRuntime) -> Result<(), Fail> {
+    assert!(rt; are_removed(rt.alloc())?);
+    assert!(rt; others_stay(rt.alloc())?);
+    assert!(rt; are_joined(rt.alloc())?);
     assert!(rt; joins_through_an_item(rt.alloc())?);
     Ok(())
 }

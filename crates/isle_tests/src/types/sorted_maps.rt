@@ -89,45 +89,48 @@ fn most_comparisons(alloc: Global, keys: &[u32]) -> Result<Option<u32>, Fail> {
 // Refuses a search that compares with every key and tells of a few comparisons.
 #[test]
 fn find_compares_all(rt: HostRuntime) -> Result<(), Fail> {
-    assert_eq!(rt; most_comparisons(rt.alloc(), &[])?, Some(0));
-    assert_eq!(rt;
-        most_comparisons(rt.alloc(), &[1, 2, 3, 4, 5, 6, 7])?,
-        Some(3)
-    );
-    assert_eq!(rt;
-        most_comparisons(rt.alloc(), &[7, 6, 5, 4, 3, 2, 1])?,
-        Some(3)
-    );
-    assert_eq!(rt;
-        most_comparisons(rt.alloc(), &[5, 2, 8, 1, 7, 3, 6, 4])?,
-        Some(4)
-    );
+    let rows: [(&[u32], u32); 4] = [
+        (&[], 0),
+        (&[1, 2, 3, 4, 5, 6, 7], 3),
+        (&[7, 6, 5, 4, 3, 2, 1], 3),
+        (&[5, 2, 8, 1, 7, 3, 6, 4], 4),
+    ];
+    for (keys, most) in rows {
+        assert_eq!(rt; most_comparisons(rt.alloc(), keys)?, Some(most));
+    }
     Ok(())
 }
 
-#[test]
-fn finds_places_in_ascending_order(rt: HostRuntime) -> Result<(), Fail> {
-    let mut map = SortedMap::new(rt.alloc());
+/// Whether places are found in ascending order.
+fn finds_places(alloc: Global) -> Result<bool, AllocError> {
+    let mut map = SortedMap::new(alloc);
     for key in [7, 6, 5, 4, 3, 2, 1] {
         map.insert(key, ())?;
     }
-    assert_eq!(rt; map.find(&3).0, Some(2));
-    assert_eq!(rt; map.find(&7).0, Some(6));
-    assert_eq!(rt; map.find(&8).0, None);
-    Ok(())
+    Ok(map.find(&3).0 == Some(2) && map.find(&7).0 == Some(6) && map.find(&8).0 == None)
+}
+
+fn has_values(map: &SortedMap<&'static str, u32>) -> bool {
+    map.len() == 3
+        && map.get(&"a") == Some(&3)
+        && map.get(&"b") == Some(&4)
+        && map.get(&"c") == Some(&2)
+        && map.get(&"d") == None
+}
+
+/// Whether the value is handed back that stood there.
+fn hands_back(alloc: Global) -> Result<bool, AllocError> {
+    let mut map = SortedMap::new(alloc);
+    let b = map.insert("b", 1)?;
+    let c = map.insert("c", 2)?;
+    let a = map.insert("a", 3)?;
+    let again = map.insert("b", 4)?;
+    Ok(a == None && b == None && c == None && again == Some(1) && has_values(&map))
 }
 
 #[test]
-fn hands_back_the_value_that_stood_there(rt: HostRuntime) -> Result<(), Fail> {
-    let mut map = SortedMap::new(rt.alloc());
-    assert_eq!(rt; map.insert("b", 1)?, None);
-    assert_eq!(rt; map.insert("c", 2)?, None);
-    assert_eq!(rt; map.insert("a", 3)?, None);
-    assert_eq!(rt; map.insert("b", 4)?, Some(1));
-    assert_eq!(rt; map.len(), 3);
-    assert_eq!(rt; map.get(&"a"), Some(&3));
-    assert_eq!(rt; map.get(&"b"), Some(&4));
-    assert_eq!(rt; map.get(&"c"), Some(&2));
-    assert_eq!(rt; map.get(&"d"), None);
+fn maps_are_sorted(rt: HostRuntime) -> Result<(), Fail> {
+    assert!(rt; finds_places(rt.alloc())?);
+    assert!(rt; hands_back(rt.alloc())?);
     Ok(())
 }

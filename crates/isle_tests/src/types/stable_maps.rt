@@ -17,7 +17,8 @@ fn map_of(alloc: Global, pairs: Vec<(String, u32)>) -> Result<StableMap<String, 
 // What a caller knows of every text after a `String` is put.
 fn put(map: &mut StableMap<String, u32>, key: String, value: u32) -> Result<(), AllocError>
     ensures put { OnOk result (value_at_text map.new (string_bytes key) ≡ Some value) }
-    ensures texts { OnOk result ((text : List ℕ) → value_at_text map.new text ≡ (if bytes_eq text (string_bytes key) then Some value else value_at_text map.old text)) }
+    ensures texts { OnOk result ((text : List ℕ) → value_at_text map.new text
+        ≡ (if bytes_eq text (string_bytes key) then Some value else value_at_text map.old text)) }
     ensures unchanged { OnErr result (map.new ≡ map.old) }
 {
     map.insert(key, value)?;
@@ -57,78 +58,116 @@ fn text(alloc: Global, of: &str) -> Result<String, AllocError> {
     String::from_str(alloc, of)
 }
 
-#[test]
-fn sets_of_numbers(rt: HostRuntime) -> Result<(), Fail> {
-    let mut set = StableSet::new(rt.alloc());
-    assert!(rt; set.insert(7u32)?);
-    assert!(rt; !set.insert(7)?);
-    assert!(rt; set.insert(0)?);
-    assert_eq!(rt; set.len(), 2);
-    assert!(rt; set.contains(&0));
-    assert!(rt; !set.contains(&1));
-    let copy = copy_of_set(&set)?;
-    assert!(rt; copy.contains(&7));
-    assert_eq!(rt; copy.len(), 2);
-    Ok(())
+/// Whether two insertions of one number are one member.
+fn holds_numbers(set: &mut StableSet<u32>) -> Result<bool, AllocError> {
+    let first = set.insert(7)?;
+    let again = set.insert(7)?;
+    let other = set.insert(0)?;
+    let copy = copy_of_set(set)?;
+    Ok(
+        first
+            && !again
+            && other
+            && set.len() == 2
+            && set.contains(&0)
+            && !set.contains(&1)
+            && copy.contains(&7)
+            && copy.len() == 2,
+    )
 }
 
-#[test]
-fn sets_of_texts(rt: HostRuntime) -> Result<(), Fail> {
-    let alloc = rt.alloc();
-    let mut set = StableSet::new(alloc);
-    assert!(rt; set.insert(text(alloc, "a")?)?);
-    assert!(rt; !set.insert(text(alloc, "a")?)?);
-    assert!(rt; set.insert(text(alloc, "")?)?);
+/// The same of texts.
+fn holds_texts(alloc: Global, set: &mut StableSet<String>) -> Result<bool, AllocError> {
+    let first = set.insert(text(alloc, "a")?)?;
+    let again = set.insert(text(alloc, "a")?)?;
+    let other = set.insert(text(alloc, "")?)?;
     let copy = set.clone()?;
-    assert!(rt; copy.contains(&text(alloc, "")?));
-    assert!(rt; !copy.contains(&text(alloc, "b")?));
-    assert_eq!(rt; copy.len(), 2);
-    Ok(())
+    Ok(
+        first
+            && !again
+            && other
+            && copy.contains(&String::new(alloc))
+            && !copy.contains(&text(alloc, "b")?)
+            && copy.len() == 2,
+    )
 }
 
-#[test]
-fn maps_at_numbers(rt: HostRuntime) -> Result<(), Fail> {
-    let mut map = StableMap::new(rt.alloc());
-    assert_eq!(rt; map.insert(1u32, 10u32)?, None);
-    assert_eq!(rt; map.insert(2, 20)?, None);
-    assert_eq!(rt; map.insert(1, 11)?, Some(10));
-    assert_eq!(rt; map.get(&1), Some(&11));
-    assert_eq!(rt; map.get(&3), None);
-    assert!(rt; map.contains_key(&2));
-    assert!(rt; !map.contains_key(&0));
-    assert_eq!(rt; map.len(), 2);
-    assert_eq!(rt; map[&2], 20);
-    assert_eq!(rt; value_of(&map, 1), 11);
-    let copy = copy_of_map(&map)?;
-    assert_eq!(rt; copy.get(&2), Some(&20));
-    Ok(())
+/// Whether a map at numbers has the last value of each.
+fn has_last_values(map: &mut StableMap<u32, u32>) -> Result<bool, AllocError> {
+    let one = map.insert(1, 10)?;
+    let two = map.insert(2, 20)?;
+    let again = map.insert(1, 11)?;
+    let copy = copy_of_map(map)?;
+    Ok(
+        one == None
+            && two == None
+            && again == Some(10)
+            && map.get(&1) == Some(&11)
+            && map.get(&3) == None
+            && map.contains_key(&2)
+            && !map.contains_key(&0)
+            && map.len() == 2
+            && copy.get(&2) == Some(&20),
+    )
 }
 
-#[test]
-fn maps_at_texts(rt: HostRuntime) -> Result<(), Fail> {
-    let alloc = rt.alloc();
+/// Whether a map has these values.
+fn has_values(map: &StableMap<u32, u32>) -> bool {
+    map.contains_key(&2) && map[&2] == 20 && map.contains_key(&1) && value_of(map, 1) == 11
+}
+
+fn has_numbers(alloc: Global) -> Result<bool, AllocError> {
+    let mut map = StableMap::new(alloc);
+    Ok(has_last_values(&mut map)? && has_values(&map))
+}
+
+/// Whether a map has what a table has.
+fn is_of_table(alloc: Global) -> Result<bool, AllocError> {
+    let mut table = HashMap::new(alloc);
+    table.insert(5u32, 50u32)?;
+    let map = map_of_table(table);
+    Ok(map.get(&5) == Some(&50) && map.len() == 1)
+}
+
+/// Three pairs at two texts.
+fn pairs(alloc: Global) -> Result<Vec<(String, u32)>, AllocError> {
     let mut pairs = Vec::new(alloc);
     pairs.push((text(alloc, "a")?, 1))?;
     pairs.push((text(alloc, "b")?, 2))?;
     pairs.push((text(alloc, "a")?, 3))?;
-    let mut map = map_of(alloc, pairs)?;
-    assert_eq!(rt; map.len(), 2);
-    assert_eq!(rt; map.get_text("a"), Some(&3));
-    assert_eq!(rt; map.get_text("c"), None);
-    put(&mut map, text(alloc, "c")?, 4)?;
-    assert_eq!(rt; map.get_text("c"), Some(&4));
-    assert_eq!(rt; map.get(&text(alloc, "b")?), Some(&2));
+    Ok(pairs)
+}
+
+/// Whether a map of these pairs has the last value of each text, and that of one more.
+fn has_texts(alloc: Global, map: &mut StableMap<String, u32>) -> Result<bool, AllocError> {
+    let is_made = map.len() == 2 && map.get_text("a") == Some(&3) && map.get_text("c") == None;
+    put(map, text(alloc, "c")?, 4)?;
     let copy = map.clone()?;
-    assert_eq!(rt; copy.get_text("c"), Some(&4));
-    Ok(())
+    let b = text(alloc, "b")?;
+    Ok(
+        is_made
+            && map.get_text("c") == Some(&4)
+            && map.get(&b) == Some(&2)
+            && copy.get_text("c") == Some(&4),
+    )
+}
+
+fn is_of_pairs(alloc: Global) -> Result<bool, AllocError> {
+    let mut map = map_of(alloc, pairs(alloc)?)?;
+    has_texts(alloc, &mut map)
+}
+
+fn are_sets(alloc: Global) -> Result<bool, AllocError> {
+    let mut numbers = StableSet::new(alloc);
+    let mut texts = StableSet::new(alloc);
+    Ok(holds_numbers(&mut numbers)? && holds_texts(alloc, &mut texts)?)
 }
 
 #[test]
-fn maps_of_tables(rt: HostRuntime) -> Result<(), Fail> {
-    let mut table = HashMap::new(rt.alloc());
-    table.insert(5u32, 50u32)?;
-    let map = map_of_table(table);
-    assert_eq!(rt; map.get(&5), Some(&50));
-    assert_eq!(rt; map.len(), 1);
+fn sets_and_maps_have_their_calls(rt: HostRuntime) -> Result<(), Fail> {
+    assert!(rt; are_sets(rt.alloc())?);
+    assert!(rt; has_numbers(rt.alloc())?);
+    assert!(rt; is_of_table(rt.alloc())?);
+    assert!(rt; is_of_pairs(rt.alloc())?);
     Ok(())
 }

@@ -1,9 +1,7 @@
-ghost use Rattle.std.specs.Prelude.{◌≡◌, [], ◌∷◌, ◌++◌, true, false, IfErr, OnOk, OnErr};
+ghost use Rattle.std.specs.Prelude.{◌≡◌, [], ◌∷◌, ◌++◌, IfErr, OnOk, OnErr};
 ghost use Rattle.isle_syntax.specs.declared.error.Error.TheVariants.{TypeError, SizeError};
-ghost use Rattle.isle_syntax.specs.Errors.{IfFault, IsFaultAnd, span_at};
-ghost use Rattle.isle_types.specs.Environment.{Environment};
-ghost use Rattle.isle_types.specs.TypeEnvs.{errors_of, types_of, is_size_error, Shows};
-ghost use Rattle.isle_types.specs.Readings.{SameButErrors};
+ghost use Rattle.isle_syntax.specs.Errors.{size_error, error_kind, IfFault, IsFaultAnd, span_at};
+ghost use Rattle.isle_types.specs.Names.{AreDistinct};
 
 use super::TypeEnv;
 use isle_syntax::error::{Error, Span};
@@ -14,14 +12,11 @@ use std::alloc::AllocError;
 impl TypeEnv {
     /// Keeps a type error. A size error, alone, and that memory ran out are handed on.
     pub fn keep(&mut self, refusal: Refusal<Error>) -> Result<(), Refusal<Vec<Error>>>
-        ensures ok { OnOk result (IsFaultAnd refusal (λ error. (is_size_error error ≡ false)
-            × (errors_of self.new ≡ errors_of self.old ++ error ∷ []))) }
-        ensures err { OnErr result (errors_of self.new ≡ errors_of self.old) }
+        ensures ok { OnOk result (IsFaultAnd refusal (λ error. (¬ (error_kind error ≡ size_error))
+            × (self.new ≡ record self.old { errors = self.old.errors ++ error ∷ [] }))) }
+        ensures err { OnErr result (self.new ≡ self.old) }
         ensures size { IfErr result (λ r. IfFault r (λ errors. IsFaultAnd refusal
-            (λ error. (is_size_error error ≡ true) × (errors.items ≡ error ∷ [])))) }
-        ensures same { SameButErrors self.old self.new }
-        ensures same_types { types_of self.new ≡ types_of self.old }
-        ensures shown { (e : Environment) → Shows self.old e → Shows self.new e }
+            (λ error. (error_kind error ≡ size_error) × (errors.items ≡ error ∷ [])))) }
     {
         match refusal {
             Refusal::Memory(e) => Err(Refusal::Memory(e)),
@@ -65,12 +60,9 @@ impl TypeEnv {
 
     /// Keeps a type error at a position. Without memory nothing changes.
     pub fn report_error(&mut self, pos: Pos, msg: &str) -> Result<(), AllocError>
-        ensures ok { OnOk result
-            (errors_of self.new ≡ errors_of self.old ++ TypeError msg.now (span_at pos) ∷ []) }
-        ensures err { OnErr result (errors_of self.new ≡ errors_of self.old) }
-        ensures same { SameButErrors self.old self.new }
-        ensures same_types { types_of self.new ≡ types_of self.old }
-        ensures shown { (e : Environment) → Shows self.old e → Shows self.new e }
+        ensures ok { OnOk result (self.new
+            ≡ record self.old { errors = self.old.errors ++ TypeError msg.now (span_at pos) ∷ [] }) }
+        ensures err { OnErr result (self.new ≡ self.old) }
     {
         let msg = Text::from_str(self.alloc, msg)?;
         self.errors.push(Error::TypeError {
@@ -82,17 +74,16 @@ impl TypeEnv {
 
     /// Takes the errors kept so far.
     pub fn take_errors(&mut self) -> Vec<Error>
-        ensures taken { result.items ≡ errors_of self.old }
-        ensures none_left { errors_of self.new ≡ [] }
-        ensures same_types { types_of self.new ≡ types_of self.old }
-        ensures shown { (e : Environment) → Shows self.old e → Shows self.new e }
+        ensures taken { result.items ≡ self.old.errors }
+        ensures none_left { self.new ≡ record self.old { errors = [] } }
+        ensures once { AreDistinct self.new.names }
     {
         std::mem::replace(&mut self.errors, Vec::new(self.alloc))
     }
 
     /// The errors kept so far.
     pub fn errors(&self) -> &[Error]
-        ensures { result.now ≡ errors_of self.now }
+        ensures { result.now ≡ self.now.errors }
     {
         self.errors.as_slice()
     }

@@ -8,8 +8,10 @@ ghost use Rattle.isle_types.specs.declared.types.Variant.{Variant};
 ghost use Rattle.isle_types.specs.Types.{id_of};
 ghost use Rattle.isle_types.specs.Names.{AreDistinct, IsDuplicate};
 ghost use Rattle.isle_types.specs.Environment.{MayBeMarked, HasAllowedSize, HaveAllowedSizes, field_count};
-ghost use Rattle.isle_types.specs.TypeEnvs.{type_of_name, names_of, SameTables};
-ghost use Rattle.isle_types.specs.Readings.{HasTypeNames, ReadsType, ReadsFields, ReadsTupleFields, ReadsFieldList, ReadsVariant, ReadsVariants, IsDefinitionFault, IsVariantsFault, IsFieldsFault, IsStructFieldsFault, IsTupleFieldsFault, IsTypeErrorAt, IsSizeErrorAt};
+ghost use Rattle.isle_types.specs.TypeEnvs.{type_of_name, HasMoreNames};
+ghost use Rattle.isle_types.specs.Readings.{HasTypeNames, ReadsType, ReadsFields, ReadsTupleFields, ReadsFieldList, ReadsVariant, ReadsVariants};
+ghost use Rattle.isle_types.specs.Readings.{IsDefinitionFault, IsVariantsFault, IsFieldsFault, IsStructFieldsFault, IsTupleFieldsFault};
+ghost use Rattle.isle_types.specs.Readings.{IsTypeErrorAt, IsSizeErrorAt};
 
 use super::TypeEnv;
 use crate::ids::{FieldId, Sym, TypeId, VariantId};
@@ -31,10 +33,10 @@ impl TypeEnv {
         id: TypeId,
         ty: &ast::Type,
     ) -> Result<Type, Refusal<Error>>
-        ensures same { SameTables self.old self.new }
+        ensures same { HasMoreNames self.old self.new }
         ensures id { IfOk result (λ made. id_of made ≡ id) }
         ensures read { (known : List (List ℕ)) → HasTypeNames self.old known
-            → IfOk result (ReadsType known (names_of self.new) ty.now) }
+            → IfOk result (ReadsType known self.new.names ty.now) }
         ensures sizes { OnOk result (HasAllowedSize ty.now.ty) }
         ensures fault { (known : List (List ℕ)) → HasTypeNames self.old known
             → IfErr result (λ r. IfFault r (IsDefinitionFault known ty.now)) }
@@ -94,9 +96,9 @@ impl TypeEnv {
         ty: &ast::Type,
         variants: &[ast::Variant],
     ) -> Result<Vec<Variant>, Refusal<Error>>
-        ensures same { SameTables self.old self.new }
+        ensures same { HasMoreNames self.old self.new }
         ensures read { (known : List (List ℕ)) → HasTypeNames self.old known
-            → IfOk result (λ made. ReadsVariants known (names_of self.new) ty.now.name.0 variants.now made.items) }
+            → IfOk result (λ made. ReadsVariants known self.new.names ty.now.name.0 variants.now made.items) }
         ensures once { OnOk result (AreDistinct (map (λ (variant : VariantTree). variant.name.0) variants.now)) }
         ensures sizes { OnOk result (HaveAllowedSizes variants.now) }
         ensures fault { (known : List (List ℕ)) → HasTypeNames self.old known
@@ -118,11 +120,11 @@ impl TypeEnv {
         id: VariantId,
         variant: &ast::Variant,
     ) -> Result<Variant, Refusal<Error>>
-        ensures same { SameTables self.old self.new }
+        ensures same { HasMoreNames self.old self.new }
         ensures id { IfOk result (λ made. made.id ≡ id) }
-        ensures name { IfOk result (λ made. slice_get (names_of self.new) made.name.0 ≡ Some variant.now.name.0) }
+        ensures name { IfOk result (λ made. slice_get self.new.names made.name.0 ≡ Some variant.now.name.0) }
         ensures read { (known : List (List ℕ)) → HasTypeNames self.old known
-            → IfOk result (ReadsVariant known (names_of self.new) ty.now.name.0 variant.now) }
+            → IfOk result (ReadsVariant known self.new.names ty.now.name.0 variant.now) }
         ensures size { OnOk result (field_count variant.now.fields ≤ 255) }
         ensures fault { (known : List (List ℕ)) → HasTypeNames self.old known
             → IfErr result (λ r. IfFault r (IsFieldsFault known ty.now.pos variant.now.fields)) }
@@ -142,9 +144,9 @@ impl TypeEnv {
 
     /// The fields of a variant or struct of the type at `pos`.
     fn fields_from_ast(&mut self, pos: Pos, fields: &ast::Fields) -> Result<Fields, Refusal<Error>>
-        ensures same { SameTables self.old self.new }
+        ensures same { HasMoreNames self.old self.new }
         ensures read { (known : List (List ℕ)) → HasTypeNames self.old known
-            → IfOk result (ReadsFieldList known (names_of self.new) fields.now) }
+            → IfOk result (ReadsFieldList known self.new.names fields.now) }
         ensures size { OnOk result (field_count fields.now ≤ 255) }
         ensures fault { (known : List (List ℕ)) → HasTypeNames self.old known
             → IfErr result (λ r. IfFault r (IsFieldsFault known pos fields.now)) }
@@ -186,9 +188,9 @@ impl TypeEnv {
         &mut self,
         fields: &[ast::StructField],
     ) -> Result<Vec<StructField>, Refusal<Error>>
-        ensures same { SameTables self.old self.new }
+        ensures same { HasMoreNames self.old self.new }
         ensures read { (known : List (List ℕ)) → HasTypeNames self.old known
-            → IfOk result (λ made. ReadsFields known (names_of self.new) fields.now made.items) }
+            → IfOk result (λ made. ReadsFields known self.new.names fields.now made.items) }
         ensures once { OnOk result (AreDistinct (map (λ (field : StructFieldTree). field.name.0) fields.now)) }
         ensures fault { (known : List (List ℕ)) → HasTypeNames self.old known
             → IfErr result (λ r. IfFault r (IsStructFieldsFault known fields.now)) }
@@ -242,7 +244,7 @@ impl TypeEnv {
         fields: &[StructField],
     ) -> Result<(), Refusal<Error>>
         requires { AllZip (λ (tree : StructFieldTree) (field : StructField).
-            slice_get (names_of self.now) field.name.0 ≡ Some tree.name.0) trees.now fields.now }
+            slice_get self.now.names field.name.0 ≡ Some tree.name.0) trees.now fields.now }
         ensures once { OnOk result (AreDistinct (map (λ (tree : StructFieldTree). tree.name.0) trees.now)) }
         ensures fault { IfErr result (λ r. IfFault r (λ error. (place : ℕ) × ((tree : StructFieldTree)
             × ((slice_get trees.now place ≡ Some tree) × IsDuplicate (map (λ (other : StructFieldTree). other.name.0) trees.now) place
@@ -265,7 +267,7 @@ impl TypeEnv {
         variants: &[Variant],
     ) -> Result<(), Refusal<Error>>
         requires { AllZip (λ (tree : VariantTree) (variant : Variant).
-            slice_get (names_of self.now) variant.name.0 ≡ Some tree.name.0) trees.now variants.now }
+            slice_get self.now.names variant.name.0 ≡ Some tree.name.0) trees.now variants.now }
         ensures once { OnOk result (AreDistinct (map (λ (tree : VariantTree). tree.name.0) trees.now)) }
         ensures fault { IfErr result (λ r. IfFault r (λ error. (place : ℕ) × ((tree : VariantTree)
             × ((slice_get trees.now place ≡ Some tree) × IsDuplicate (map (λ (other : VariantTree). other.name.0) trees.now) place

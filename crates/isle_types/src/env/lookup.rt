@@ -1,10 +1,10 @@
 ghost use Rattle.std.specs.Option.{option_copied, option_and_then};
 ghost use Rattle.std.specs.Prelude.{◌≡◌, ℕ, [], List, Some, IsSome, unwrap_or, IfOk, OnOk, OnErr, slice_get, map, string_bytes};
-ghost use Rattle.isle_types.specs.Names.{with_name};
+ghost use Rattle.isle_types.specs.Names.{with_name, AreDistinct};
 ghost use Rattle.isle_types.specs.StableMaps.{value_at_text};
 ghost use Rattle.isle_types.specs.Environment.{Environment};
 ghost use Rattle.isle_types.specs.Interned.{entry_of};
-ghost use Rattle.isle_types.specs.TypeEnvs.{names_of, sym_named, name_of, type_name, type_of_name, type_of_constant, variant_of, errors_of, types_of, Shows, SameTables};
+ghost use Rattle.isle_types.specs.TypeEnvs.{sym_named, name_of, type_name, type_of_name, type_of_constant, variant_of, Shows, HasMoreNames};
 
 use super::TypeEnv;
 use crate::ids::{Sym, TypeId, VariantId};
@@ -31,11 +31,9 @@ impl TypeEnv {
     /// The symbol of a name, which is interned now. Without memory nothing changes.
     pub fn intern_mut(&mut self, ident: &Ident) -> Result<Sym, AllocError>
         ensures symbol { IfOk result (λ sym. name_of self.new sym ≡ Some ident.now.0) }
-        ensures ok { OnOk result (names_of self.new ≡ with_name (names_of self.old) ident.now.0) }
-        ensures err { OnErr result (names_of self.new ≡ names_of self.old) }
-        ensures same { SameTables self.old self.new }
-        ensures same_errors { errors_of self.new ≡ errors_of self.old }
-        ensures same_types { types_of self.new ≡ types_of self.old }
+        ensures ok { OnOk result (self.new ≡ record self.old { names = with_name self.old.names ident.now.0 }) }
+        ensures err { OnErr result (self.new ≡ self.old) }
+        ensures same { HasMoreNames self.old self.new }
         ensures shown { (e : Environment) → Shows self.old e → Shows self.new e }
     {
         self.intern_str(ident.0.as_str())
@@ -44,9 +42,9 @@ impl TypeEnv {
     /// The symbol of a text, which is interned now.
     pub(super) fn intern_str(&mut self, name: &str) -> Result<Sym, AllocError>
         ensures symbol { IfOk result (λ sym. name_of self.new sym ≡ Some name.now) }
-        ensures ok { OnOk result (names_of self.new ≡ with_name (names_of self.old) name.now) }
-        ensures err { OnErr result (names_of self.new ≡ names_of self.old) }
-        ensures same { SameTables self.old self.new }
+        ensures ok { OnOk result (self.new ≡ record self.old { names = with_name self.old.names name.now }) }
+        ensures err { OnErr result (self.new ≡ self.old) }
+        ensures same { HasMoreNames self.old self.new }
     {
         self.symbols.intern(name)
     }
@@ -62,7 +60,7 @@ impl TypeEnv {
     pub fn type_named(&self, name: &str) -> Option<TypeId>
         ensures { result ≡ type_of_name self.now name.now }
     {
-        let sym = self.intern_name(name)?;
+        let sym = self.symbols.find(name)?;
         self.type_map.get(&sym).copied()
     }
 
@@ -70,20 +68,20 @@ impl TypeEnv {
     pub fn const_type(&self, name: &str) -> Option<TypeId>
         ensures { result ≡ type_of_constant self.now name.now }
     {
-        let sym = self.intern_name(name)?;
+        let sym = self.symbols.find(name)?;
         self.const_types.get(&sym).copied()
     }
 
     /// The types, each at the place of its id.
     pub fn types(&self) -> &[Type]
-        ensures { result.now ≡ types_of self.now }
+        ensures { result.now ≡ self.now.types }
     {
         self.types.as_slice()
     }
 
     /// A type, or `None` at an id that the environment doesn't have.
     pub fn get_type(&self, id: TypeId) -> Option<&Type>
-        ensures { option_copied result ≡ slice_get (types_of self.now) id.0 }
+        ensures { option_copied result ≡ slice_get self.now.types id.0 }
     {
         self.types.get(id.index())
     }
@@ -101,7 +99,8 @@ impl TypeEnv {
 
     /// The interned names, each at the place of its symbol.
     pub fn syms(&self) -> &[String]
-        ensures { map string_bytes result.now ≡ names_of self.now }
+        ensures names { map string_bytes result.now ≡ self.now.names }
+        ensures once { AreDistinct self.now.names }
     {
         self.symbols.names()
     }

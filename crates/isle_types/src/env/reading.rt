@@ -1,15 +1,18 @@
-ghost use Rattle.std.specs.Prelude.{◌≡◌, ◌⊎◌, ◌<◌, ℕ, [], ◌∷◌, ◌++◌, List, All, Some, None, length, map, IfOk, IfErr, OnOk, MatchOption, is_none, if◌then◌else◌, bytes_eq};
+ghost use Rattle.std.specs.Prelude.{◌≡◌, ◌⊎◌, ◌<◌, ℕ, [], ◌∷◌, ◌++◌, List, All, Some, None, length, map, IfOk, IfErr, OnOk, MatchOption, is_none};
+ghost use Rattle.std.specs.Prelude.{if◌then◌else◌, bytes_eq};
 ghost use Rattle.isle_syntax.specs.Positions.Files.{SourceFile};
 ghost use Rattle.isle_syntax.specs.Positions.Printable.{IsPrintablePos};
 ghost use Rattle.isle_syntax.specs.Errors.{IfFault, RefusalsAt};
 ghost use Rattle.isle_syntax.specs.Positions.DefPositions.{DefAt};
 ghost use Rattle.isle_types.specs.declared.types.«Type».TheVariants.{Builtin};
 ghost use Rattle.isle_types.specs.IntTypes.{builtin_name, builtin_types, builtin_names};
-ghost use Rattle.isle_types.specs.Names.{position_of, AreDistinct};
-ghost use Rattle.isle_types.specs.Environment.{Makes, Environment, HaveEnvironment, AreWithinSizes, builtin_environment, type_definitions, type_names, as_constant, constant_definitions};
+ghost use Rattle.isle_types.specs.Names.{position_of, AreDistinct, KeepsNames};
+ghost use Rattle.isle_types.specs.Environment.{HaveEnvironment, AreWithinSizes, builtin_environment, type_definitions, type_names, as_constant};
+ghost use Rattle.isle_types.specs.Environment.{constant_definitions};
 ghost use Rattle.isle_types.specs.TypeFaults.{AreFaultsOf};
-ghost use Rattle.isle_types.specs.TypeEnvs.{errors_of, types_of, type_of_constant, HasPrintablePositions, Shows};
-ghost use Rattle.isle_types.specs.Readings.{HasTypeNames, HasReadTypes, ReadsConstants, SameButNames, SameButTypes, SameButConstants, AreTypeFaults, IsLoneSizeFault};
+ghost use Rattle.isle_types.specs.TypeTables.{no_tables};
+ghost use Rattle.isle_types.specs.TypeEnvs.{type_of_constant, HasPrintablePositions, Shows, IsEnvironmentOf};
+ghost use Rattle.isle_types.specs.Readings.{HasTypeNames, HasReadTypes, ReadsConstants, AreTypeFaults, IsLoneSizeFault};
 
 use super::TypeEnv;
 use crate::ids::TypeId;
@@ -24,7 +27,7 @@ use std::alloc::{AllocError, Global};
 impl TypeEnv {
     /// The environment of the builtin types.
     pub fn new(alloc: Global) -> Result<TypeEnv, AllocError>
-        ensures no_errors { IfOk result (λ env. errors_of env ≡ []) }
+        ensures no_errors { IfOk result (λ env. env.errors ≡ []) }
         ensures shown { IfOk result (λ env. Shows env builtin_environment) }
     {
         let mut env = TypeEnv::empty(alloc);
@@ -36,10 +39,7 @@ impl TypeEnv {
 
     /// The environment of no types.
     fn empty(alloc: Global) -> TypeEnv
-        ensures types { types_of result ≡ [] }
-        ensures errors { errors_of result ≡ [] }
-        ensures named { HasTypeNames result [] }
-        ensures constants { (name : List ℕ) → type_of_constant result name ≡ None }
+        ensures { result ≡ no_tables }
     {
         TypeEnv {
             alloc,
@@ -53,11 +53,11 @@ impl TypeEnv {
 
     /// Names a builtin type, and puts it behind the others.
     fn add_builtin(&mut self, builtin: BuiltinType) -> Result<(), AllocError>
-        ensures types { OnOk result (types_of self.new ≡ types_of self.old ++ Builtin builtin ∷ []) }
-        ensures named { (known : List (List ℕ)) → HasTypeNames self.old known → length (types_of self.old) ≡ length known
+        ensures types { OnOk result (self.new.types ≡ self.old.types ++ Builtin builtin ∷ []) }
+        ensures named { (known : List (List ℕ)) → HasTypeNames self.old known → length self.old.types ≡ length known
             → OnOk result (HasTypeNames self.new (known ++ builtin_name builtin ∷ [])) }
-        ensures errors { errors_of self.new ≡ errors_of self.old }
-        ensures constants { (name : List ℕ) → type_of_constant self.new name ≡ type_of_constant self.old name }
+        ensures same { self.new ≡ record self.old
+            { names = self.new.names; types = self.new.types; numbers = self.new.numbers } }
     {
         let id = TypeId(self.types.len());
         self.name_type(builtin.name(), id)?;
@@ -69,10 +69,9 @@ impl TypeEnv {
     /// A refusal lists type errors, each where a rule is broken, or one size error alone, where a
     /// definition has a list of more than 255 fields.
     pub fn from_ast(alloc: Global, defs: &[Def]) -> Result<TypeEnv, Refusal<Vec<Error>>>
-        ensures no_errors { IfOk result (λ env. errors_of env ≡ []) }
+        ensures no_errors { IfOk result (λ env. env.errors ≡ []) }
         ensures within { OnOk result (AreWithinSizes defs.now) }
-        ensures made { IfOk result (λ env. (environment : Environment)
-            × (Makes defs.now environment × Shows env environment)) }
+        ensures made { IfOk result (IsEnvironmentOf defs.now) }
         ensures faults { IfErr result (λ r. IfFault r (λ errors. AreFaultsOf defs.now errors.items)) }
         ensures refused { IfErr result (λ r. IfFault r (λ _. ¬ HaveEnvironment defs.now)) }
         ensures placed { (files : List SourceFile) → All (DefAt (IsPrintablePos files)) defs.now
@@ -97,7 +96,7 @@ impl TypeEnv {
             → IfOk result (λ new. new ≡ is_none (position_of known name.now)) }
         ensures named { (known : List (List ℕ)) → HasTypeNames self.old known → id.0 ≡ length known
             → OnOk result (HasTypeNames self.new (known ++ name.now ∷ [])) }
-        ensures same { SameButNames self.old self.new }
+        ensures same { self.new ≡ record self.old { names = self.new.names; numbers = self.new.numbers } }
     {
         let sym = self.intern_str(name)?;
         if self.type_map.contains_key(&sym) {
@@ -110,11 +109,12 @@ impl TypeEnv {
     /// Gives each defined type its id, in order.
     fn collect_names(&mut self, defs: &[Def]) -> Result<(), AllocError>
         requires named { HasTypeNames self.old builtin_names }
-        requires no_errors { errors_of self.old ≡ [] }
+        requires no_errors { self.old.errors ≡ [] }
         ensures named { OnOk result (HasTypeNames self.new (type_names defs.now)) }
-        ensures faults { OnOk result (AreTypeFaults defs.now (errors_of self.new)) }
-        ensures once { OnOk result (errors_of self.new ≡ [] → AreDistinct (type_names defs.now)) }
-        ensures same { SameButTypes self.old self.new }
+        ensures faults { OnOk result (AreTypeFaults defs.now self.new.errors) }
+        ensures once { OnOk result (self.new.errors ≡ [] → AreDistinct (type_names defs.now)) }
+        ensures same { self.new ≡ record self.old
+            { names = self.new.names; numbers = self.new.numbers; errors = self.new.errors } }
     {
         let mut next = BuiltinType::ALL.len();
         for def in defs {
@@ -131,14 +131,16 @@ impl TypeEnv {
     /// Makes the defined types, in order.
     fn collect_types(&mut self, defs: &[Def]) -> Result<(), Refusal<Vec<Error>>>
         requires named { HasTypeNames self.old (type_names defs.now) }
-        requires builtin { types_of self.old ≡ map Builtin builtin_types }
-        requires faults { AreTypeFaults defs.now (errors_of self.old) }
+        requires builtin { self.old.types ≡ map Builtin builtin_types }
+        requires faults { AreTypeFaults defs.now self.old.errors }
         ensures named { HasTypeNames self.new (type_names defs.now) }
-        ensures sizes { OnOk result (errors_of self.new ≡ [] → AreWithinSizes defs.now) }
-        ensures read { OnOk result (errors_of self.new ≡ [] → (errors_of self.old ≡ []) × HasReadTypes (type_definitions defs.now) (type_names defs.now) self.new) }
-        ensures faults { OnOk result (AreTypeFaults defs.now (errors_of self.new)) }
+        ensures sizes { OnOk result (self.new.errors ≡ [] → AreWithinSizes defs.now) }
+        ensures read { OnOk result (self.new.errors ≡ [] → (self.old.errors ≡ [])
+            × HasReadTypes (type_definitions defs.now) (type_names defs.now) self.new) }
+        ensures faults { OnOk result (AreTypeFaults defs.now self.new.errors) }
         ensures too_large { IfErr result (λ r. IfFault r (λ errors. IsLoneSizeFault defs.now errors.items)) }
-        ensures constants { (name : List ℕ) → type_of_constant self.new name ≡ type_of_constant self.old name }
+        ensures same { self.new ≡ record self.old
+            { names = self.new.names; types = self.new.types; errors = self.new.errors } }
     {
         for def in defs {
             if let Def::TypeDef(ty) = def {
@@ -156,10 +158,13 @@ impl TypeEnv {
     fn collect_constants(&mut self, defs: &[Def]) -> Result<(), AllocError>
         requires named { HasTypeNames self.old (type_names defs.now) }
         requires none { (name : List ℕ) → type_of_constant self.old name ≡ None }
-        requires faults { AreTypeFaults defs.now (errors_of self.old) }
-        ensures read { OnOk result (errors_of self.new ≡ [] → (errors_of self.old ≡ []) × ReadsConstants (type_names defs.now) self.new (constant_definitions defs.now)) }
-        ensures faults { OnOk result (AreTypeFaults defs.now (errors_of self.new)) }
-        ensures same { SameButConstants self.old self.new }
+        requires faults { AreTypeFaults defs.now self.old.errors }
+        ensures read { OnOk result (self.new.errors ≡ [] → (self.old.errors ≡ [])
+            × ReadsConstants (type_names defs.now) self.new (constant_definitions defs.now)) }
+        ensures faults { OnOk result (AreTypeFaults defs.now self.new.errors) }
+        ensures kept { KeepsNames self.old.names self.new.names }
+        ensures same { self.new ≡ record self.old
+            { names = self.new.names; constants = self.new.constants; errors = self.new.errors } }
     {
         for def in defs {
             if let Some((name, ty)) = constant(def) {
@@ -176,8 +181,8 @@ impl TypeEnv {
     fn set_constant(&mut self, name: &Ident, ty: TypeId) -> Result<(), AllocError>
         ensures set { OnOk result ((q : List ℕ) → type_of_constant self.new q
             ≡ (if bytes_eq q name.now.0 then Some ty else type_of_constant self.old q)) }
-        ensures same { SameButConstants self.old self.new }
-        ensures errors { errors_of self.new ≡ errors_of self.old }
+        ensures kept { KeepsNames self.old.names self.new.names }
+        ensures same { self.new ≡ record self.old { names = self.new.names; constants = self.new.constants } }
     {
         let sym = self.intern_str(name.0.as_str())?;
         self.const_types.insert(sym, ty)?;

@@ -15,12 +15,19 @@ measure-unreachable-requires t c =
     innermost_is_no_binding c.args.sexpr.now c.innermost.result.now _ _ c.innermost.ensures c.in-Binding.is
 
 pub measure-measure_list-requires : goal.measure-measure_list-requires
-measure-measure_list-requires t c =
-    (omega (arith, items_below c.args.sexpr.now c.innermost.result.now _ c.as_slice.result.now c.innermost.ensures c.in-List.is c.as_slice.ensures), tt)
+measure-measure_list-requires t c = (
+  omega (arith, items_below c.args.sexpr.now c.innermost.result.now _ c.as_slice.result.now c.innermost.ensures c.in-List.is c.as_slice.ensures),
+  tt,
+)
 
 pub measure_list-loop-item-init : goal.measure_list-loop-item-init
 measure_list-loop-item-init t c = record {
-  counted = (max (length c.args.items.now) 1 + 1, c.at_most-length.ensures ∙ ap (λ n. within c.args.width (n + 1)) c.max.ensures, list_length c.args.items.now);
+  counted = (
+    max (length c.args.items.now) 1 + 1,
+    c.at_most-length.ensures
+        ∙ ap (λ n. within c.args.width (n + 1)) c.max.ensures,
+    list_length c.args.items.now,
+  );
   marked = refl;
 }
 
@@ -28,15 +35,21 @@ pub measure_list-loop-item-preserved : goal.measure_list-loop-item-preserved
 measure_list-loop-item-preserved t c =
     let so_far = c.loop-item.invariant.counted in
     record {
-      counted = (so_far.0 + one_line_length (sexpr_of c.item-item.result), c.sum_within-length.ensures _ _ so_far.1 c.in_ok-measure.ensures.length, length_more c.args.items.now c.loop-item.item-index c.item-item.result _ _ c.loop-item-test.true c.item-item.is so_far.2);
-      marked = fits_more c.args.width c.args.items.now c.loop-item.item-index c.item-item.result _ _ _ c.loop-item-test.true c.item-item.is c.loop-item.invariant.marked c.in_ok-measure.ensures.fits;
+      counted = (
+        so_far.0 + one_line_length (sexpr_of c.item-item.result),
+        c.sum_within-length.ensures _ _ so_far.1 c.in_ok-measure.ensures.length,
+        length_more c.args.items.now c.loop-item.item-index c.item-item.result _ _ c.loop-item-test.true c.item-item.is so_far.2,
+      );
+      marked = fits_more c.args.width c.args.items.now c.loop-item.item-index c.item-item.result _ _ _ c.loop-item-test.true c.item-item.is
+          c.loop-item.invariant.marked c.in_ok-measure.ensures.fits;
     }
 
 pub measure-returns-in-Atom-clause-length : goal.measure-returns-in-Atom-clause-length
 measure-returns-in-Atom-clause-length t c =
     let width = c.args.width in
     let sexpr = sexpr_of c.args.sexpr.now in
-    let same : one_line_length (innermost sexpr) ≡ char_count c.in-Atom.text = ap one_line_length (sym c.innermost.ensures ∙ ap sexpr_of c.in-Atom.is) in
+    let same : one_line_length (innermost sexpr) ≡ char_count c.in-Atom.text =
+    ap one_line_length (sym c.innermost.ensures ∙ ap sexpr_of c.in-Atom.is) in
     let text = c.text_length-text.ensures ∙ ap (λ bytes. within width (char_count bytes)) c.as_str.ensures ∙ ap (within width) (sym same) in
     c.sum_within.ensures _ _ c.names_length-names.ensures text ∙ ap (within width) (chain_length sexpr)
 

@@ -13,8 +13,10 @@ write_one_line-unreachable-requires t c =
 
 pub write_one_line-write_list_on_one_line-requires :
     goal.write_one_line-write_list_on_one_line-requires
-write_one_line-write_list_on_one_line-requires t c =
-    (omega (arith, items_below c.args.sexpr.now c.innermost.result.now _ c.as_slice.result.now c.innermost.ensures c.in-List.is c.as_slice.ensures), tt)
+write_one_line-write_list_on_one_line-requires t c = (
+  omega (arith, items_below c.args.sexpr.now c.innermost.result.now _ c.as_slice.result.now c.innermost.ensures c.in-List.is c.as_slice.ensures),
+  tt,
+)
 
 pub write_one_line-returns-in-Atom : goal.write_one_line-returns-in-Atom
 write_one_line-returns-in-Atom t c =
@@ -28,4 +30,5 @@ write_one_line-returns-in-List t c =
     let names = string_bytes c.write_names.new.out in
     let list = ap sexpr_list c.as_slice.ensures ∙ ap sexpr_of (sym c.in-List.is) in
     IfOk-equal c.write_list_on_one_line.result _ _ _ c.write_list_on_one_line.ensures
-    (ap (λ s. names ++ one_line s) list ∙ one_line_written c.args.sexpr.now c.innermost.result.now _ _ c.innermost.ensures c.in_ok-write_names.ensures)
+    (ap (λ s. names ++ one_line s) list ∙ one_line_written c.args.sexpr.now c.innermost.result.now _ _ c.innermost.ensures
+    c.in_ok-write_names.ensures)

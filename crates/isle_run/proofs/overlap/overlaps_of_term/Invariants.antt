@@ -7,4 +7,5 @@ use Rattle.isle_run.proofs.overlap.overlaps_of_term.Given as goal
 
 abbrev pub invariant-heads : goal.invariant-heads
 invariant-heads l =
-    (files : List SourceFile) → All (λ rule. HasPrintableRule files rule.now) l.rules → All (HasPrintableRules files) l.initial.found.items → All (HasPrintableRules files) l.found.items
+    (files : List SourceFile) → All (λ rule. HasPrintableRule files rule.now) l.rules → All (HasPrintableRules files) l.initial.found.items
+    → All (HasPrintableRules files) l.found.items

@@ -7,4 +7,5 @@ use Rattle.isle_run.proofs.overlap.report.Given as goal
 
 abbrev pub invariant-loop-partner : goal.invariant-loop-partner
 invariant-loop-partner l =
-    (files : List SourceFile) → HasPrintableRules files l.overlap → (0 < length l.rules.items) × All (λ span. IsPrintablePos files span.from) l.rules.items
+    (files : List SourceFile) → HasPrintableRules files l.overlap → (0 < length l.rules.items)
+    × All (λ span. IsPrintablePos files span.from) l.rules.items

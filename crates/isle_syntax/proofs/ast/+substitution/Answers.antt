@@ -24,12 +24,14 @@ macros::subst_all-loop-pattern-init t c = rw c.new-all.ensures.items (filled_sta
 pub macros::subst_all-returns-in_default : goal.macros::subst_all-returns-in_default
 macros::subst_all-returns-in_default t c =
     let made = rw c.in_default.is at c.in_ok-made.ensures in
-    filled_stops _ _ c.args.patterns.now c.loop-pattern.pattern-index _ c.loop-pattern.invariant c.pattern-item.result c.loop-pattern-test.true c.pattern-item.is made
+    filled_stops _ _ c.args.patterns.now c.loop-pattern.pattern-index _ c.loop-pattern.invariant c.pattern-item.result c.loop-pattern-test.true
+    c.pattern-item.is made
 
 pub macros::subst_all-loop-pattern-preserved : goal.macros::subst_all-loop-pattern-preserved
 macros::subst_all-loop-pattern-preserved t c =
     let made = rw c.in-Some.is at c.in_ok-made.ensures in
-    let more = filled_more _ _ c.args.patterns.now c.loop-pattern.pattern-index _ c.loop-pattern.invariant c.pattern-item.result (pattern_of c.in-Some.made) c.loop-pattern-test.true c.pattern-item.is made in
+    let more = filled_more _ _ c.args.patterns.now c.loop-pattern.pattern-index _ c.loop-pattern.invariant c.pattern-item.result
+    (pattern_of c.in-Some.made) c.loop-pattern-test.true c.pattern-item.is made in
     let items = ap (map pattern_of) c.in_ok-push.ensures.items ∙ map-append pattern_of c.loop-pattern.all.items (c.in-Some.made ∷ []) in
     rw items more
 

@@ -16,4 +16,5 @@ decreases-macros::subst_all l = 3 * goal.size-macros::subst_all l + 2
 
 abbrev pub invariant-macros::subst_all-loop-pattern : goal.invariant-macros::subst_all-loop-pattern
 invariant-macros::subst_all-loop-pattern l =
-    all_filled (map pattern_of l.macro_args) (patterns_of l.patterns) ≡ option_map (before (map pattern_of l.all.items)) (all_filled (map pattern_of l.macro_args) (patterns_of (drop l.pattern-index l.patterns)))
+    all_filled (map pattern_of l.macro_args) (patterns_of l.patterns)
+    ≡ option_map (before (map pattern_of l.all.items)) (all_filled (map pattern_of l.macro_args) (patterns_of (drop l.pattern-index l.patterns)))

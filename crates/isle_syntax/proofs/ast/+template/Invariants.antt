@@ -28,5 +28,6 @@ abbrev pub invariant-macros::make_macro_templates-loop-pattern :
     goal.invariant-macros::make_macro_templates-loop-pattern
 invariant-macros::make_macro_templates-loop-pattern l = record {
   free : has_macro_args (patterns_of (drop l.pattern-index l.patterns)) ≡ false;
-  made : template_trees l.macro_args (patterns_of l.patterns) ≡ before (map pattern_of l.all.items) (template_trees l.macro_args (patterns_of (drop l.pattern-index l.patterns)));
+  made : template_trees l.macro_args (patterns_of l.patterns)
+      ≡ before (map pattern_of l.all.items) (template_trees l.macro_args (patterns_of (drop l.pattern-index l.patterns)));
 }

@@ -27,7 +27,8 @@ pub gaps-preserved-in-Space : goal.gaps-preserved-in-Space
 gaps-preserved-in-Space c =
     let ts = c.gaps.rest.now in
     gap_next (gap_of c.args.bytes.now) ts c.gaps.invariant c.after_first-rest.result.now
-    (gap_turned (gap_of c.args.bytes.now) ts c.gaps.invariant Lead.Space c.in-Space.ensures ∙ ap (gap (c.gaps.invariant.turns - 1)) (sym c.after_first-rest.ensures))
+    (gap_turned (gap_of c.args.bytes.now) ts c.gaps.invariant Lead.Space c.in-Space.ensures
+    ∙ ap (gap (c.gaps.invariant.turns - 1)) (sym c.after_first-rest.ensures))
     (omega (arith, ap length c.after_first-rest.ensures, some_left ts Lead.Space c.in-Space.ensures (λ e. cc e)))
 
 behind_line : (c : goal.After-after_line-rest) → c.after_line-rest.result.now ≡ after_run in_line (after_first c.gaps.rest.now)
@@ -39,19 +40,22 @@ gaps-smaller-in-Line c = omega (arith, ap length (behind_line c), line_shorter c
 pub gaps-preserved-in-Line : goal.gaps-preserved-in-Line
 gaps-preserved-in-Line c =
     gap_next (gap_of c.args.bytes.now) c.gaps.rest.now c.gaps.invariant c.after_line-rest.result.now
-    (gap_turned (gap_of c.args.bytes.now) c.gaps.rest.now c.gaps.invariant Lead.Line c.in-Line.ensures ∙ ap (gap (c.gaps.invariant.turns - 1)) (sym (behind_line c)))
+    (gap_turned (gap_of c.args.bytes.now) c.gaps.rest.now c.gaps.invariant Lead.Line c.in-Line.ensures
+    ∙ ap (gap (c.gaps.invariant.turns - 1)) (sym (behind_line c)))
     (omega (arith, ap length (behind_line c), line_shorter c.gaps.rest.now c.in-Line.ensures))
 
 pub returns-in-None : goal.returns-in-None
 returns-in-None c =
     let ts = c.gaps.rest.now in
-    let inside : c.after_first-in-Comment-2.result.now ≡ after_first (after_first ts) = c.after_first-in-Comment-2.ensures ∙ ap after_first c.after_first-in-Comment.ensures in
+    let inside : c.after_first-in-Comment-2.result.now ≡ after_first (after_first ts) =
+    c.after_first-in-Comment-2.ensures ∙ ap after_first c.after_first-in-Comment.ensures in
     sym (gap_turned (gap_of c.args.bytes.now) ts c.gaps.invariant Lead.Comment c.in-Comment.ensures
     ∙ ap (after_inside ts (gap (c.gaps.invariant.turns - 1))) (ap (after_comment 0) (sym inside) ∙ sym c.in-None.ensures))
 
 shorter : (c : goal.In-Some) → length c.in-Some.more.now < length c.gaps.rest.now
 shorter c =
-    let inside : c.after_first-in-Comment-2.result.now ≡ after_first (after_first c.gaps.rest.now) = c.after_first-in-Comment-2.ensures ∙ ap after_first c.after_first-in-Comment.ensures in
+    let inside : c.after_first-in-Comment-2.result.now ≡ after_first (after_first c.gaps.rest.now) =
+    c.after_first-in-Comment-2.ensures ∙ ap after_first c.after_first-in-Comment.ensures in
     comment_shorter c.gaps.rest.now c.in-Some.more.now c.in-Comment.ensures (c.in-Some.ensures ∙ ap (after_comment 0) inside)
 
 pub gaps-smaller : goal.gaps-smaller
@@ -60,7 +64,8 @@ gaps-smaller c = shorter c
 pub gaps-preserved : goal.gaps-preserved
 gaps-preserved c =
     let ts = c.gaps.rest.now in
-    let inside : c.after_first-in-Comment-2.result.now ≡ after_first (after_first ts) = c.after_first-in-Comment-2.ensures ∙ ap after_first c.after_first-in-Comment.ensures in
+    let inside : c.after_first-in-Comment-2.result.now ≡ after_first (after_first ts) =
+    c.after_first-in-Comment-2.ensures ∙ ap after_first c.after_first-in-Comment.ensures in
     gap_next (gap_of c.args.bytes.now) ts c.gaps.invariant c.in-Some.more.now
     (gap_turned (gap_of c.args.bytes.now) ts c.gaps.invariant Lead.Comment c.in-Comment.ensures
     ∙ ap (after_inside ts (gap (c.gaps.invariant.turns - 1))) (ap (after_comment 0) (sym inside) ∙ sym c.in-Some.ensures))

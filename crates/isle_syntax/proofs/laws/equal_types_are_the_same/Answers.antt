@@ -1,4 +1,5 @@
-use Rattle.isle_syntax.proofs.Trees.DefEquality.{type-decides, type_value-decides, variant-decides, fields-decides, struct_fields-decides, tuple_fields-decides}
+use Rattle.isle_syntax.proofs.Trees.DefEquality.{type-decides, type_value-decides, variant-decides, fields-decides, struct_fields-decides}
+use Rattle.isle_syntax.proofs.Trees.DefEquality.{tuple_fields-decides}
 use Rattle.isle_syntax.proofs.laws.equal_types_are_the_same.Goals as goal
 
 pub returns-clause-types : goal.returns-clause-types

@@ -12,7 +12,8 @@ returns-in-Ok-Some-clause-same c =
     let source : Source = record { file = c.args.file; size = c.args.size } in
     ap (λ p. reading_before p c.in-Ok-Some.token (reading source c.in-Ok-Some.more.now)) c.new.ensures
     ∙ looked_found source c.args.rest.now c.after_gap-text.result.now c.saturating_sub-start.result
-    c.after_gap-text.ensures c.saturating_sub-start.ensures c.in-Ok-Some.token c.in-Ok-Some.more.now (rw c.in-Ok-Some.field-0-is at c.in-Ok-Some.ensures.read)
+    c.after_gap-text.ensures c.saturating_sub-start.ensures c.in-Ok-Some.token c.in-Ok-Some.more.now
+    (rw c.in-Ok-Some.field-0-is at c.in-Ok-Some.ensures.read)
 
 pub returns-in-Ok-None-clause-same : goal.returns-in-Ok-None-clause-same
 returns-in-Ok-None-clause-same c =
@@ -33,13 +34,15 @@ pub returns-in-Ok-Some-clause-ahead : goal.returns-in-Ok-Some-clause-ahead
 returns-in-Ok-Some-clause-ahead c =
     let source : Source = record { file = c.args.file; size = c.args.size } in
     let at = c.saturating_sub-start.ensures in
-    let shorter = found-le c.args.rest.now c.after_gap-text.result.now c.after_gap-text.ensures c.in-Ok-Some.token c.in-Ok-Some.more.now (rw c.in-Ok-Some.field-0-is at c.in-Ok-Some.ensures.read) in
+    let shorter = found-le c.args.rest.now c.after_gap-text.result.now c.after_gap-text.ensures c.in-Ok-Some.token c.in-Ok-Some.more.now
+    (rw c.in-Ok-Some.field-0-is at c.in-Ok-Some.ensures.read) in
     record {
       within = omega arith;
       remaining = omega (arith, shorter, c.requires);
       begins = pos_of_placed c.new.result c.in-Ok-Some.token ∙ c.new.ensures;
       starved_before = λ e. cc;
-      ascending = looked_ascend source (Lookahead.Token (c.new.result, c.in-Ok-Some.token)) c.saturating_sub-start.result c.in-Ok-Some.more.now c.args.rest.now (returns-in-Ok-Some-clause-same c) c.requires;
+      ascending = looked_ascend source (Lookahead.Token (c.new.result, c.in-Ok-Some.token)) c.saturating_sub-start.result c.in-Ok-Some.more.now
+          c.args.rest.now (returns-in-Ok-Some-clause-same c) c.requires;
     }
 
 pub returns-in-Err-Fault-clause-ahead : goal.returns-in-Err-Fault-clause-ahead
@@ -63,7 +66,10 @@ returns-in-Err-Memory-clause-ahead c =
     record {
       within = omega arith;
       remaining = omega (arith, shorter, c.requires);
-      begins = word_begins source c.args.rest.now c.after_gap-text.result.now c.saturating_sub-start.result behind at (rw c.in-Err-Memory.field-0-is at c.in-Err-Memory.ensures.no_memory);
-      starved_before = λ e. word_stands source c.args.rest.now c.after_gap-text.result.now c.saturating_sub-start.result behind at (rw c.in-Err-Memory.field-0-is at c.in-Err-Memory.ensures.no_memory);
-      ascending = looked_ascend source (Lookahead.Memory c.in-Err-Memory.e) c.saturating_sub-start.result c.after_gap-text.result.now c.args.rest.now (returns-in-Err-Memory-clause-same c) c.requires;
+      begins = word_begins source c.args.rest.now c.after_gap-text.result.now c.saturating_sub-start.result behind at
+          (rw c.in-Err-Memory.field-0-is at c.in-Err-Memory.ensures.no_memory);
+      starved_before = λ e. word_stands source c.args.rest.now c.after_gap-text.result.now c.saturating_sub-start.result behind at
+          (rw c.in-Err-Memory.field-0-is at c.in-Err-Memory.ensures.no_memory);
+      ascending = looked_ascend source (Lookahead.Memory c.in-Err-Memory.e) c.saturating_sub-start.result c.after_gap-text.result.now c.args.rest.now
+          (returns-in-Err-Memory-clause-same c) c.requires;
     }

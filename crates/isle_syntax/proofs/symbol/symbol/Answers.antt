@@ -12,21 +12,30 @@ stop_ascii : (b : ℕ) → continues_symbol b ≡ false → b < 128
 stop_ascii b e = grind (arith, nat_tests)
 
 pub overflow_sub-text : goal.overflow_sub-text
-overflow_sub-text c = omega (arith, after_run-le continues_symbol c.args.text.now, ap length (c.after_symbol-rest.ensures ∙ ap (after_run continues_symbol) c.as_bytes.ensures.value))
+overflow_sub-text c = omega (
+  arith,
+  after_run-le continues_symbol c.args.text.now,
+  ap length (c.after_symbol-rest.ensures
+      ∙ ap (after_run continues_symbol) c.as_bytes.ensures.value),
+)
 
 pub split_at-requires : goal.split_at-requires
 split_at-requires c =
     let text = c.args.text.now in
     let n = length text - length c.after_symbol-rest.result.now in
-    let tail : drop n text ≡ after_run continues_symbol text = ap (λ r. drop (length text - length r) text) (c.after_symbol-rest.ensures ∙ ap (after_run continues_symbol) c.as_bytes.ensures.value) ∙ run_dropped continues_symbol text in
+    let tail : drop n text ≡ after_run continues_symbol text =
+    ap (λ r. drop (length text - length r) text) (c.after_symbol-rest.ensures ∙ ap (after_run continues_symbol) c.as_bytes.ensures.value)
+    ∙ run_dropped continues_symbol text in
     IsCharBoundary-from_drop text n (omega arith) (subst IsUtf8 (sym tail) (stopped-utf8 continues_symbol text stop_ascii c.utf8.text))
 
 pub returns-clause-word : goal.returns-clause-word
 returns-clause-word c =
     let text = c.args.text.now in
-    c.split_at.ensures.front ∙ ap (λ r. take (length text - length r) text) (c.after_symbol-rest.ensures ∙ ap (after_run continues_symbol) c.as_bytes.ensures.value) ∙ run_taken continues_symbol text
+    c.split_at.ensures.front ∙ ap (λ r. take (length text - length r) text) (c.after_symbol-rest.ensures
+    ∙ ap (after_run continues_symbol) c.as_bytes.ensures.value) ∙ run_taken continues_symbol text
 
 pub returns-clause-rest : goal.returns-clause-rest
 returns-clause-rest c =
     let text = c.args.text.now in
-    c.split_at.ensures.back ∙ ap (λ r. drop (length text - length r) text) (c.after_symbol-rest.ensures ∙ ap (after_run continues_symbol) c.as_bytes.ensures.value) ∙ run_dropped continues_symbol text
+    c.split_at.ensures.back ∙ ap (λ r. drop (length text - length r) text) (c.after_symbol-rest.ensures
+    ∙ ap (after_run continues_symbol) c.as_bytes.ensures.value) ∙ run_dropped continues_symbol text

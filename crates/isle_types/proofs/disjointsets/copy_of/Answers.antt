@@ -9,7 +9,8 @@ loop-member-preserved g c =
     let put = c.in_ok-insert.ensures in
     let left = rw item.ensures.steps at c.loop-member.invariant in
     let unique = c.into_iter-member-iterator.ensures.into_iter_gives.4 in
-    copied_more g.met.T.Eq.laws c.args.table.now.entries c.loop-member.copy.entries c.next.new.self c.insert.new.self.entries item.member.now item.value.now c.in_ok-insert.field-0 unique left put.old put.entries
+    copied_more g.met.T.Eq.laws c.args.table.now.entries c.loop-member.copy.entries c.next.new.self c.insert.new.self.entries item.member.now
+    item.value.now c.in_ok-insert.field-0 unique left put.old put.entries
 
 pub returns : goal.returns
 returns g c =

@@ -11,7 +11,8 @@ loop-preserved g c =
     elim c.match-write.branch [
       | in-Ok w ↦
           let rest = take_rest c.as_bytes-bytes.result.now c.loop.written ∙ ap (drop c.loop.written) same in
-          let both = Appends-take _ _ _ c.loop.written w.in-Ok.count c.args.text.now _ rest within wrote w.in-Ok.ensures.bound w.in-Ok.ensures.bytes in
+          let both = Appends-take _ _ _ c.loop.written w.in-Ok.count c.args.text.now _ rest within wrote w.in-Ok.ensures.bound
+          w.in-Ok.ensures.bytes in
           rw w.written-is (both.0, same, both.1)
       | in-Err w ↦ rw w.written-is (within, same, Appends-kept _ _ _ _ wrote w.in-Err.ensures.bytes)
     ]

@@ -10,15 +10,19 @@ pub spell_pattern-loop-at-preserved : goal.spell_pattern-loop-at-preserved
 spell_pattern-loop-at-preserved t c =
     let copied : c.in_ok-clone.field-0 ≡ c.in-BindPattern.var.0 = search rules in
     let below : pattern_sexpr (pattern_of c.get-at.result.now) ≡ pattern_sexpr c.in-BindPattern.subpat = ap pattern_sexpr c.get-at.ensures in
-    let whole : pattern_sexpr (pattern_of c.loop-at.at.now) ≡ sexpr_binding c.in-BindPattern.var.0 (pattern_sexpr c.in-BindPattern.subpat) = ap (λ p. pattern_sexpr (pattern_of p)) c.in-BindPattern.is in
-    let binding : sexpr_binding c.in_ok-clone.field-0 (pattern_sexpr (pattern_of c.get-at.result.now)) ≡ pattern_sexpr (pattern_of c.loop-at.at.now) = cc in
+    let whole : pattern_sexpr (pattern_of c.loop-at.at.now) ≡ sexpr_binding c.in-BindPattern.var.0 (pattern_sexpr c.in-BindPattern.subpat) =
+    ap (λ p. pattern_sexpr (pattern_of p)) c.in-BindPattern.is in
+    let binding : sexpr_binding c.in_ok-clone.field-0 (pattern_sexpr (pattern_of c.get-at.result.now)) ≡ pattern_sexpr (pattern_of c.loop-at.at.now) =
+    cc in
     record {
       spelt =
-          bound_sexpr_pushed c.loop-at.names.items c.push.new.self.items c.in_ok-clone.field-0 _ c.in_ok-push.ensures.items ∙ ap (bound_sexpr c.loop-at.names.items) binding ∙ c.loop-at.invariant.spelt;
+          bound_sexpr_pushed c.loop-at.names.items c.push.new.self.items c.in_ok-clone.field-0 _ c.in_ok-push.ensures.items
+          ∙ ap (bound_sexpr c.loop-at.names.items) binding ∙ c.loop-at.invariant.spelt;
       no_larger =
           omega (arith, bound_size c.loop-at.at.now c.get-at.result.now _ _ _ c.in-BindPattern.is c.get-at.ensures);
     }
 
 pub spell_patterns-returns : goal.spell_patterns-returns
 spell_patterns-returns t c =
-    c.build.ensures ∙ ap listed (c.loop-pattern.invariant ∙ ap (λ ts. sexpr_atom c.args.word.now ∷ ts) (pattern_sexprs_taken c.loop-pattern.pattern-index c.args.patterns.now (omega arith)))
+    c.build.ensures ∙ ap listed (c.loop-pattern.invariant
+    ∙ ap (λ ts. sexpr_atom c.args.word.now ∷ ts) (pattern_sexprs_taken c.loop-pattern.pattern-index c.args.patterns.now (omega arith)))

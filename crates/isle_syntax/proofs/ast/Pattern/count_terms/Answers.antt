@@ -5,5 +5,6 @@ use Rattle.isle_syntax.proofs.ast.Pattern.count_terms.Goals as goal
 
 pub returns : goal.returns
 returns c =
-    let made = counted _ (λ q. (closure.captures q).count) (λ q. q.0.ghost_name) 18446744073709551615 (λ p x q call. search rules) _ _ _ (omega arith) c.terms.ensures.handed in
+    let made = counted _ (λ q. (closure.captures q).count) (λ q. q.0.ghost_name) 18446744073709551615 (λ p x q call. search rules) _ _ _ (omega arith)
+    c.terms.ensures.handed in
     omega arith

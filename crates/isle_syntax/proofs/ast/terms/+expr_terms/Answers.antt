@@ -9,14 +9,18 @@ pub hand_exprs-loop-expr-preserved : goal.hand_exprs-loop-expr-preserved
 hand_exprs-loop-expr-preserved g t c = record {
   callable = c.hand_expr.ensures.callable;
   called =
-      rw add-one (called_more (CalledAtTerm g.F.FnMut) (λ e. expr_terms (expr_of e)) (λ es. exprs_terms (exprs_of es)) refl (λ e es. refl) c.args.exprs.now c.loop-expr.expr-index c.expr-item.result _ _ _ c.loop-expr-test.true c.expr-item.is c.loop-expr.invariant.called c.hand_expr.ensures.called);
+      rw add-one (called_more (CalledAtTerm g.F.FnMut) (λ e. expr_terms (expr_of e)) (λ es. exprs_terms (exprs_of es)) refl (λ e es. refl)
+      c.args.exprs.now c.loop-expr.expr-index c.expr-item.result _ _ _ c.loop-expr-test.true c.expr-item.is c.loop-expr.invariant.called
+      c.hand_expr.ensures.called);
 }
 
 pub hand_lets-loop-def-preserved : goal.hand_lets-loop-def-preserved
 hand_lets-loop-def-preserved g t c = record {
   callable = c.hand_expr.ensures.callable;
   called =
-      rw add-one (called_more (CalledAtTerm g.F.FnMut) (λ (d : LetDef). expr_terms (expr_of d.val)) (λ ds. lets_terms (lets_of ds)) refl (λ d ds. refl) c.args.defs.now c.loop-def.def-index c.def-item.result _ _ _ c.loop-def-test.true c.def-item.is c.loop-def.invariant.called c.hand_expr.ensures.called);
+      rw add-one (called_more (CalledAtTerm g.F.FnMut) (λ (d : LetDef). expr_terms (expr_of d.val)) (λ ds. lets_terms (lets_of ds)) refl
+      (λ d ds. refl) c.args.defs.now c.loop-def.def-index c.def-item.result _ _ _ c.loop-def-test.true c.def-item.is c.loop-def.invariant.called
+      c.hand_expr.ensures.called);
 }
 
 pub hand_expr-returns-in-Let-clause-called : goal.hand_expr-returns-in-Let-clause-called

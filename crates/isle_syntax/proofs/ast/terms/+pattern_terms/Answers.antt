@@ -9,13 +9,27 @@ pub hand_patterns-loop-pattern-preserved : goal.hand_patterns-loop-pattern-prese
 hand_patterns-loop-pattern-preserved g t c = record {
   callable = c.hand_pattern.ensures.callable;
   called =
-      rw add-one (called_more (CalledAtTerm g.F.FnMut) (λ p. pattern_terms (pattern_of p)) (λ ps. patterns_terms (patterns_of ps)) refl (λ p ps. refl) c.args.patterns.now c.loop-pattern.pattern-index c.pattern-item.result _ _ _ c.loop-pattern-test.true c.pattern-item.is c.loop-pattern.invariant.called c.hand_pattern.ensures.called);
+      rw add-one (called_more (CalledAtTerm g.F.FnMut) (λ p. pattern_terms (pattern_of p)) (λ ps. patterns_terms (patterns_of ps)) refl (λ p ps. refl)
+      c.args.patterns.now c.loop-pattern.pattern-index c.pattern-item.result _ _ _ c.loop-pattern-test.true c.pattern-item.is
+      c.loop-pattern.invariant.called c.hand_pattern.ensures.called);
 }
 
 pub hand_pattern-hand_patterns-requires : goal.hand_pattern-hand_patterns-requires
-hand_pattern-hand_patterns-requires g t c κs within =
-    (omega (arith, args_below c.args.pattern.now c.innermost.result.now _ _ _ c.as_slice.result.now c.innermost.ensures c.in-Term.is c.as_slice.ensures), (search rules, c.hand_term.ensures.callable))
+hand_pattern-hand_patterns-requires g t c κs within = (
+  omega (
+    arith,
+    args_below c.args.pattern.now c.innermost.result.now _ _ _ c.as_slice.result.now c.innermost.ensures c.in-Term.is
+        c.as_slice.ensures,
+  ),
+  (search rules, c.hand_term.ensures.callable),
+)
 
 pub hand_pattern-hand_patterns-requires-in-And : goal.hand_pattern-hand_patterns-requires-in-And
-hand_pattern-hand_patterns-requires-in-And g t c κs within =
-    (omega (arith, subpats_below c.args.pattern.now c.innermost.result.now _ _ c.as_slice-in-And.result.now c.innermost.ensures c.in-And.is c.as_slice-in-And.ensures), search rules)
+hand_pattern-hand_patterns-requires-in-And g t c κs within = (
+  omega (
+    arith,
+    subpats_below c.args.pattern.now c.innermost.result.now _ _ c.as_slice-in-And.result.now c.innermost.ensures c.in-And.is
+        c.as_slice-in-And.ensures,
+  ),
+  search rules,
+)

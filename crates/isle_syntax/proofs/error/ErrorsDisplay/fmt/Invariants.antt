@@ -6,4 +6,5 @@ use Rattle.isle_syntax.proofs.error.ErrorsDisplay.fmt.Given as goal
 
 abbrev pub invariant-loop-error : goal.invariant-loop-error
 invariant-loop-error g l =
-    IsPlainFormatter l.initial.f → HasWritten g.W.Write.write_str_gives l.initial.f (flat_map (error_text l.files) (take l.error-index l.error-items)) l.f
+    IsPlainFormatter l.initial.f → HasWritten g.W.Write.write_str_gives l.initial.f (flat_map (error_text l.files) (take l.error-index l.error-items))
+    l.f

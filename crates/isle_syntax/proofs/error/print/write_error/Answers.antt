@@ -25,5 +25,6 @@ returns-in-OverlapError g c = λ plain ok.
     let rules = c.as_slice-rules.result.now in
     let any : 0 < length c.in-OverlapError.rules = subst (λ (e : Error). 0 < length (spans_of e)) c.in-OverlapError.is c.requires.named in
     let text = overlap_text files c.in-OverlapError.msg rules _ (omega (arith, ap length c.as_slice-rules.ensures)) in
-    let same = ap (λ r. error_text files (OverlapError c.in-OverlapError.msg r)) c.as_slice-rules.ensures ∙ ap (error_text files) (sym c.in-OverlapError.is) in
+    let same = ap (λ r. error_text files (OverlapError c.in-OverlapError.msg r)) c.as_slice-rules.ensures
+    ∙ ap (error_text files) (sym c.in-OverlapError.is) in
     has_written_of_eq _ _ _ _ _ (text ∙ same) (c.write_rules.ensures plain ok)

@@ -6,7 +6,8 @@ use Rattle.isle_syntax.proofs.lexer.Lexer.new.Goals as goal
 pub returns-clause-tokens : goal.returns-clause-tokens
 returns-clause-tokens c =
     let source : Source = record { file = c.args.file; size = length c.args.src.now } in
-    looked_tokens source c.look-lookahead.result.0 c.look-lookahead.result.1 c.look-lookahead.result.2.now c.args.src.now c.look-lookahead.ensures.same
+    looked_tokens source c.look-lookahead.result.0 c.look-lookahead.result.1 c.look-lookahead.result.2.now c.args.src.now
+    c.look-lookahead.ensures.same
 
 pub returns-clause-remaining : goal.returns-clause-remaining
 returns-clause-remaining c =

@@ -39,7 +39,8 @@ decreases-parse_exprs l = 8 * l.depth_left + 3
 
 abbrev pub invariant-parse_bindings-all : goal.invariant-parse_bindings-all
 invariant-parse_bindings-all l = record {
-  turns : Turns after_close (let_binding l.depth_left) (rest_of (let_binding l.depth_left) l.initial.self.left) (map binding_of l.defs.items) l.self.left;
+  turns : Turns after_close (let_binding l.depth_left) (rest_of (let_binding l.depth_left) l.initial.self.left) (map binding_of l.defs.items)
+      l.self.left;
   same : bounds l.self ≡ bounds l.initial.self;
 }
 

@@ -9,7 +9,8 @@ use Rattle.isle_syntax.specs.Reading.Readers.{after_close, at_pos, integer, open
 use Rattle.isle_syntax.specs.Reading.TreeReading.{item, item_list_reader, literal_item}
 use Rattle.isle_syntax.proofs.Productions.Items.{item_at_kind, item_shorter}
 use Rattle.isle_syntax.proofs.Reading.Opening.{item_list_opens, item_list_stops, refuses_with}
-use Rattle.isle_syntax.proofs.Reading.Loops.{turn_refuses, turn_adds, turn_no_token, turns_end, takes_none, takes_some, refuses_map, known_refuses, known_unexpected, known_gives}
+use Rattle.isle_syntax.proofs.Reading.Loops.{turn_refuses, turn_adds, turn_no_token, turns_end, takes_none, takes_some, refuses_map, known_refuses}
+use Rattle.isle_syntax.proofs.Reading.Loops.{known_unexpected, known_gives}
 use Rattle.isle_syntax.proofs.parser.Parser.+item.Goals as goal
 
 pub parse_item-returns-in_err-at_sign-in-At : goal.parse_item-returns-in_err-at_sign-in-At
@@ -31,7 +32,8 @@ parse_item-returns-in_err-pos-in-Int t c =
 pub parse_item-returns-in-Open : goal.parse_item-returns-in-Open
 parse_item-returns-in-Open t c =
     rw (item_at_kind c.args.depth_left c.args.self.now.left Open (sym c.in-Open.is ∙ c.in_ok-kind.ensures.kind))
-    (known_gives item_of c.args.self.now c.kind.new.self c.parse_item_list.new.self c.parse_item_list.result (item_list_reader c.args.depth_left) c.in_ok-kind.ensures.known c.parse_item_list.ensures)
+    (known_gives item_of c.args.self.now c.kind.new.self c.parse_item_list.new.self c.parse_item_list.result (item_list_reader c.args.depth_left)
+    c.in_ok-kind.ensures.known c.parse_item_list.ensures)
 
 pub parse_item-returns-in-Close : goal.parse_item-returns-in-Close
 parse_item-returns-in-Close t c =
@@ -46,14 +48,16 @@ parse_item-returns-in-End t c =
 pub parse_item_list-returns-in_err-pos : goal.parse_item_list-returns-in_err-pos
 parse_item_list-returns-in_err-pos t c =
     let e = err_from_is_err_and c.from_residual.result c.from_residual.ensures.1 in
-    rw (e.1, e.2) (refuses_with (opened_within c.args.depth_left c.args.self.now.left) (item_list_reader c.args.depth_left c.args.self.now.left) c.args.self.now c.open.new.self _ (item_list_stops c.args.depth_left c.args.self.now.left) c.in_err-pos.ensures.opened)
+    rw (e.1, e.2) (refuses_with (opened_within c.args.depth_left c.args.self.now.left) (item_list_reader c.args.depth_left c.args.self.now.left)
+    c.args.self.now c.open.new.self _ (item_list_stops c.args.depth_left c.args.self.now.left) c.in_err-pos.ensures.opened)
 
 pub parse_item_list-returns-in_err-items : goal.parse_item_list-returns-in_err-items
 parse_item_list-returns-in_err-items t c =
     let e = err_from_is_err_and c.from_residual-in_err-items.result c.from_residual-in_err-items.ensures.1 in
     let p = c.in_ok-pos.pos in
     rw (e.1, e.2, item_list_opens c.args.depth_left p c.args.self.now.left c.open.new.self.left c.in_ok-pos.ensures.opened.0)
-    (refuses_map (λ l. item_list (item_list_of l) p) (rest_of (item (c.args.depth_left - 1)) c.open.new.self.left) c.args.self.now c.open.new.self c.parse_items.new.self _ c.in_ok-pos.ensures.opened.1 c.in_err-items.ensures)
+    (refuses_map (λ l. item_list (item_list_of l) p) (rest_of (item (c.args.depth_left - 1)) c.open.new.self.left) c.args.self.now c.open.new.self
+    c.parse_items.new.self _ c.in_ok-pos.ensures.opened.1 c.in_err-items.ensures)
 
 pub parse_item_list-returns : goal.parse_item_list-returns
 parse_item_list-returns t c =
@@ -67,18 +71,24 @@ parse_item_list-returns t c =
 pub parse_items-returns-in_err-take_close : goal.parse_items-returns-in_err-take_close
 parse_items-returns-in_err-take_close t c =
     let e = err_from_is_err_and c.from_residual.result c.from_residual.ensures.1 in
-    rw (e.1, e.2) (turn_no_token after_close (item c.args.depth_left) _ c.items.self c.items.self c.args.self.now c.take_close.new.self _ _ c.items.invariant.turns c.items.invariant.same c.in_err-take_close.ensures.no_token refl refl)
+    rw (e.1, e.2) (turn_no_token after_close (item c.args.depth_left) _ c.items.self c.items.self c.args.self.now c.take_close.new.self _ _
+    c.items.invariant.turns c.items.invariant.same c.in_err-take_close.ensures.no_token refl refl)
 
 pub parse_items-returns-in_err-parse_item : goal.parse_items-returns-in_err-parse_item
 parse_items-returns-in_err-parse_item t c =
     let e = err_from_is_err_and c.from_residual-in_err-parse_item.result c.from_residual-in_err-parse_item.ensures.1 in
     let going = takes_none c.items.self c.take_close.new.self _ c.in_ok-take_close.field-0 c.if-not-branch.true c.in_ok-take_close.ensures.taken in
-    rw (e.1, e.2) (turn_refuses after_close (item c.args.depth_left) _ c.items.self c.take_close.new.self c.args.self.now c.parse_item.new.self _ _ c.items.invariant.turns c.items.invariant.same going c.in_err-parse_item.ensures)
+    rw (e.1, e.2) (turn_refuses after_close (item c.args.depth_left) _ c.items.self c.take_close.new.self c.args.self.now c.parse_item.new.self _ _
+    c.items.invariant.turns c.items.invariant.same going c.in_err-parse_item.ensures)
 
 pub parse_items-items-smaller : goal.parse_items-items-smaller
 parse_items-items-smaller t c =
     let going = takes_none c.items.self c.take_close.new.self _ c.in_ok-take_close.field-0 c.if-not-branch.true c.in_ok-take_close.ensures.taken in
-    omega (arith, item_shorter c.args.depth_left c.take_close.new.self.left c.parse_item.new.self.left _ c.in_ok-parse_item.ensures.0, ap (λ u. length u.left) going.1)
+    omega (
+      arith,
+      item_shorter c.args.depth_left c.take_close.new.self.left c.parse_item.new.self.left _ c.in_ok-parse_item.ensures.0,
+      ap (λ u. length u.left) going.1,
+    )
 
 pub parse_items-items-preserved : goal.parse_items-items-preserved
 parse_items-items-preserved t c =
@@ -86,7 +96,8 @@ parse_items-items-preserved t c =
     let less = item_shorter c.args.depth_left c.take_close.new.self.left c.parse_item.new.self.left _ c.in_ok-parse_item.ensures.0 in
     let found = ap (map item_of) c.in_ok-push.ensures.items ∙ map-append item_of c.items.items.items (c.in_ok-parse_item.field-0 ∷ []) in
     record {
-      turns = rw found (turn_adds after_close (item c.args.depth_left) _ c.items.self c.take_close.new.self c.parse_item.new.self _ _ c.items.invariant.turns going c.in_ok-parse_item.ensures.0 less);
+      turns = rw found (turn_adds after_close (item c.args.depth_left) _ c.items.self c.take_close.new.self c.parse_item.new.self _ _
+          c.items.invariant.turns going c.in_ok-parse_item.ensures.0 less);
       same = c.in_ok-parse_item.ensures.1 ∙ ap bounds going.1 ∙ c.items.invariant.same;
     }
 

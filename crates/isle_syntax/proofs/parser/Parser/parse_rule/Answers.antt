@@ -20,7 +20,8 @@ returns-in_err-prio c =
     let old = c.args.self.now in
     let mid = c.take_name.new.self in
     let taken = c.in_ok-name.ensures.taken in
-    rw (e.1, e.2) (refuses_no_token old mid c.take_priority.new.self _ (stop_of (rule c.args.depth_left old.left)) (named_bounds old mid c.in_ok-name.name taken) c.in_err-prio.ensures.no_token
+    rw (e.1, e.2) (refuses_no_token old mid c.take_priority.new.self _ (stop_of (rule c.args.depth_left old.left))
+    (named_bounds old mid c.in_ok-name.name taken) c.in_err-prio.ensures.no_token
     (named_at_end c.args.depth_left old mid c.in_ok-name.name taken))
 
 pub returns : goal.returns
@@ -32,7 +33,15 @@ returns c =
     let prio = c.in_ok-prio.prio in
     let reads = c.in_ok-pattern.ensures in
     let ends = c.in_ok-iflets.ensures in (
-      rule_reads c.args.depth_left old u1 name c.in_ok-name.ensures.taken u2 prio c.in_ok-prio.ensures.taken c.in_ok-pattern.pattern c.parse_pattern_list.new.self.left reads.0 c.in_ok-iflets.iflets.items c.in_ok-iflets.expr c.parse_body.new.self.left ends.0
-          ∙ (λ i. done (record { pattern = c.in_ok-pattern.pattern; iflets = sym c.new.ensures i; expr = c.in_ok-iflets.expr; pos = sym c.pos-pos.ensures i; prio = prio; name = name }) c.parse_body.new.self.left),
+      rule_reads c.args.depth_left old u1 name c.in_ok-name.ensures.taken u2 prio c.in_ok-prio.ensures.taken c.in_ok-pattern.pattern
+          c.parse_pattern_list.new.self.left reads.0 c.in_ok-iflets.iflets.items c.in_ok-iflets.expr c.parse_body.new.self.left ends.0
+          ∙ (λ i. done (record {
+            pattern = c.in_ok-pattern.pattern;
+            iflets = sym c.new.ensures i;
+            expr = c.in_ok-iflets.expr;
+            pos = sym c.pos-pos.ensures i;
+            prio = prio;
+            name = name;
+          }) c.parse_body.new.self.left),
       ends.1 ∙ reads.1 ∙ ranked_within c.args.depth_left old u1 name c.in_ok-name.ensures.taken u2 prio c.in_ok-prio.ensures.taken,
     )

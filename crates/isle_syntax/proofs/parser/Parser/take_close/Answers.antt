@@ -4,4 +4,5 @@ use Rattle.isle_syntax.proofs.parser.Parser.take_close.Goals as goal
 
 pub returns-in_ok-_close-in-Close-clause-taken : goal.returns-in_ok-_close-in-Close-clause-taken
 returns-in_ok-_close-in-Close-clause-taken c =
-    take_close_gives c.args.self.now c.kind.new.self c.take.new.self _ c.in_ok-kind.ensures.known c.in_ok-_close-in-Close.ensures.taken (sym c.in-Close.is ∙ c.in_ok-kind.ensures.kind)
+    take_close_gives c.args.self.now c.kind.new.self c.take.new.self _ c.in_ok-kind.ensures.known c.in_ok-_close-in-Close.ensures.taken
+    (sym c.in-Close.is ∙ c.in_ok-kind.ensures.kind)

@@ -11,7 +11,9 @@ loop-term-preserved c = record {
   same_types = c.add_term.ensures.same_types ∙ c.loop-term.invariant.same_types;
   placed = λ files placed before.
       let given = c.into_iter-term-iterator.ensures.into_iter_gives in
-      let turn = YieldsList-turn (YieldsList-from_vec c.args.terms.items given.0 (given.1 ∙ c.args.terms.ok.0)) c.loop-term.yielded c.loop-term.term-iterator c.loop-term.yielded_by c.next.result c.next.new.self c.in-Some.term c.in-Some.is c.next.ensures.steps in
+      let turn = YieldsList-turn (YieldsList-from_vec c.args.terms.items given.0
+      (given.1 ∙ c.args.terms.ok.0)) c.loop-term.yielded c.loop-term.term-iterator c.loop-term.yielded_by c.next.result c.next.new.self
+      c.in-Some.term c.in-Some.is c.next.ensures.steps in
       let here = read_element (TermAt (IsPrintablePos files)) c.args.terms.items _ c.in-Some.term turn.0 turn.1 placed in
       c.add_term.ensures.placed files here (c.loop-term.invariant.placed files placed before);
 }
@@ -19,6 +21,8 @@ loop-term-preserved c = record {
 pub returns-in_err-add_term-clause-placed : goal.returns-in_err-add_term-clause-placed
 returns-in_err-add_term-clause-placed c = λ files placed before.
     let given = c.into_iter-term-iterator.ensures.into_iter_gives in
-    let turn = YieldsList-turn (YieldsList-from_vec c.args.terms.items given.0 (given.1 ∙ c.args.terms.ok.0)) c.loop-term.yielded c.loop-term.term-iterator c.loop-term.yielded_by c.next.result c.next.new.self c.in-Some.term c.in-Some.is c.next.ensures.steps in
+    let turn = YieldsList-turn (YieldsList-from_vec c.args.terms.items given.0
+    (given.1 ∙ c.args.terms.ok.0)) c.loop-term.yielded c.loop-term.term-iterator c.loop-term.yielded_by c.next.result c.next.new.self
+    c.in-Some.term c.in-Some.is c.next.ensures.steps in
     let here = read_element (TermAt (IsPrintablePos files)) c.args.terms.items _ c.in-Some.term turn.0 turn.1 placed in
     c.add_term.ensures.placed files here (c.loop-term.invariant.placed files placed before)

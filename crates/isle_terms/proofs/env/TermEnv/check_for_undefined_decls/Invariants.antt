@@ -1,11 +1,10 @@
 use Rattle.std.proofs.Common.{◌≡◌, List}
 use Rattle.isle_syntax.specs.Positions.Files.{SourceFile}
-use Rattle.isle_types.specs.TypeEnvs.{types_of}
 use Rattle.isle_terms.specs.Environment.{ArePlaced}
 use Rattle.isle_terms.proofs.env.TermEnv.check_for_undefined_decls.Given as goal
 
 abbrev pub invariant-loop-term : goal.invariant-loop-term
 invariant-loop-term l = record {
-  same_types : types_of l.tyenv ≡ types_of l.initial.tyenv;
+  same_types : l.tyenv.types ≡ l.initial.tyenv.types;
   placed : (files : List SourceFile) → ArePlaced files l.initial.tyenv l.self → ArePlaced files l.tyenv l.self;
 }

@@ -1,11 +1,10 @@
 use Rattle.std.proofs.Common.{◌≡◌, List}
 use Rattle.isle_syntax.specs.Positions.Files.{SourceFile}
-use Rattle.isle_types.specs.TypeEnvs.{types_of}
 use Rattle.isle_terms.specs.Environment.{ArePlaced}
 use Rattle.isle_terms.proofs.env.TermEnv.collect_enum_variant_terms.Given as goal
 
 abbrev pub invariant-loop-index : goal.invariant-loop-index
 invariant-loop-index l = record {
-  same_types : types_of l.tyenv ≡ types_of l.initial.tyenv;
+  same_types : l.tyenv.types ≡ l.initial.tyenv.types;
   placed : (files : List SourceFile) → ArePlaced files l.initial.tyenv l.initial.self → ArePlaced files l.tyenv l.self;
 }

@@ -25,7 +25,7 @@ returns-clause-placed c = λ files placed before.
     let others = with_types files _ _ _ (c.report_unsupported.ensures.placed files placed rules.types) rules in
     let all = c.check_for_undefined_decls.ensures.placed files others in
     record {
-      types = emptied_places files _ _ c.take_errors-errors.ensures.same_types c.take_errors-errors.ensures.none_left all.types;
+      types = emptied_places files _ _ c.take_errors-errors.ensures.none_left all.types;
       terms = All-same (TermAt (IsPrintablePos files)) _ _ c.name_lone_rules.ensures.same_terms all.terms;
       rules = c.name_lone_rules.ensures.placed files all.rules;
     }

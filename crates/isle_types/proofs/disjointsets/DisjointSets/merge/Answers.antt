@@ -7,7 +7,8 @@ invariant_of-self-2 g c =
     let h = c.enter-kept.ensures in
     let k = c.enter-merged.ensures in
     let s = c.relabel.ensures in
-    merged_table g.met.T.Eq.laws _ _ _ _ _ c.args.x c.args.y c.self.invariant c.requires (record { moved = r.0; same = r.2 }) h.entries k.entries _ _ h.root k.root s.entries s.unique
+    merged_table g.met.T.Eq.laws _ _ _ _ _ c.args.x c.args.y c.self.invariant c.requires
+    (record { moved = r.0; same = r.2 }) h.entries k.entries _ _ h.root k.root s.entries s.unique
 
 pub returns-clause-joined : goal.returns-clause-joined
 returns-clause-joined g c a b =
@@ -15,7 +16,8 @@ returns-clause-joined g c a b =
     let h = c.enter-kept.ensures in
     let k = c.enter-merged.ensures in
     let s = c.relabel.ensures in
-    rw (← c.self.view_is) (merged_are_joined g.met.T.Eq.laws _ _ _ _ _ c.args.x c.args.y c.self.invariant c.requires (record { moved = r.0; same = r.2 }) h.entries k.entries _ _ h.root k.root s.entries s.unique a b)
+    rw (← c.self.view_is) (merged_are_joined g.met.T.Eq.laws _ _ _ _ _ c.args.x c.args.y c.self.invariant c.requires
+    (record { moved = r.0; same = r.2 }) h.entries k.entries _ _ h.root k.root s.entries s.unique a b)
 
 pub returns-clause-represented : goal.returns-clause-represented
 returns-clause-represented g c a =
@@ -23,7 +25,8 @@ returns-clause-represented g c a =
     let h = c.enter-kept.ensures in
     let k = c.enter-merged.ensures in
     let s = c.relabel.ensures in
-    rw (← c.self.view_is) (merged_represented g.met.T.Eq.laws _ _ _ _ _ c.args.x c.args.y c.self.invariant c.requires (record { moved = r.0; same = r.2 }) h.entries k.entries _ _ h.root k.root s.entries s.unique a)
+    rw (← c.self.view_is) (merged_represented g.met.T.Eq.laws _ _ _ _ _ c.args.x c.args.y c.self.invariant c.requires
+    (record { moved = r.0; same = r.2 }) h.entries k.entries _ _ h.root k.root s.entries s.unique a)
 
 pub returns-clause-gained : goal.returns-clause-gained
 returns-clause-gained g c =
@@ -31,4 +34,5 @@ returns-clause-gained g c =
     let h = c.enter-kept.ensures in
     let k = c.enter-merged.ensures in
     let s = c.relabel.ensures in
-    rw (← c.self.view_is) (merged_members g.met.T.Eq.laws _ _ _ _ _ c.args.x c.args.y c.self.invariant c.requires (record { moved = r.0; same = r.2 }) h.entries k.entries _ _ h.root k.root s.entries s.unique)
+    rw (← c.self.view_is) (merged_members g.met.T.Eq.laws _ _ _ _ _ c.args.x c.args.y c.self.invariant c.requires
+    (record { moved = r.0; same = r.2 }) h.entries k.entries _ _ h.root k.root s.entries s.unique)

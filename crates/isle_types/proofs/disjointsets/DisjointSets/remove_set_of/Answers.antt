@@ -1,6 +1,7 @@
 use Rattle.std.proofs.Common.{sym}
 use Rattle.std.proofs.lemmas.List.Sorted.{IsPermutation-refl, IsPermutation-trans, IsPermutation-append_left}
-use Rattle.isle_types.proofs.RemovedTables.{absent_members, absent_joined, absent_represented, removed_table, removed_are_joined, removed_represented, found_members, parted_members}
+use Rattle.isle_types.proofs.RemovedTables.{absent_members, absent_joined, absent_represented, removed_table, removed_are_joined}
+use Rattle.isle_types.proofs.RemovedTables.{removed_represented, found_members, parted_members}
 use Rattle.isle_types.proofs.disjointsets.DisjointSets.remove_set_of.Goals as goal
 
 pub returns-in_default-clause-members : goal.returns-in_default-clause-members
@@ -43,7 +44,8 @@ returns-clause-members g c =
     let j = c.self.invariant in
     let v = c.in-Some.field-0.now in
     let found = sym c.in-Some.ensures.value in
-    rw (← c.self.view_is) (IsPermutation-trans _ _ _ (found_members laws es j c.args.x v found) (rw c.in_ok-set.ensures at c.sort_unstable.ensures.permutation))
+    rw (← c.self.view_is) (IsPermutation-trans _ _ _ (found_members laws es j c.args.x v found)
+    (rw c.in_ok-set.ensures at c.sort_unstable.ensures.permutation))
 
 pub returns-clause-joined : goal.returns-clause-joined
 returns-clause-joined g c a b =
@@ -74,4 +76,5 @@ returns-clause-parted g c =
     let v = c.in-Some.field-0.now in
     let found = sym c.in-Some.ensures.value in
     let sorted = rw c.in_ok-set.ensures at c.sort_unstable.ensures.permutation in
-    rw (← c.self.view_is, c.remove_values.ensures) (IsPermutation-trans _ _ _ (parted_members laws es j c.args.x v found) (IsPermutation-append_left _ _ _ sorted))
+    rw (← c.self.view_is, c.remove_values.ensures)
+    (IsPermutation-trans _ _ _ (parted_members laws es j c.args.x v found) (IsPermutation-append_left _ _ _ sorted))

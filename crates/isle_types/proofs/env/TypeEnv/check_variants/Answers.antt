@@ -4,6 +4,7 @@ use Rattle.std.proofs.lemmas.Option.{slice_get_read}
 use Rattle.isle_syntax.specs.declared.ast.Variant.{Variant as VariantTree}
 use Rattle.isle_types.specs.declared.types.Variant.{Variant}
 use Rattle.isle_types.specs.Names.{AreDistinct, IsDuplicate}
+use Rattle.isle_types.specs.TypeTables.{TypeTables}
 use Rattle.isle_types.proofs.NamedItems.{once_through, duplicate_through, duplicate_tree}
 use Rattle.isle_types.proofs.ReportedFaults.{reported}
 use Rattle.isle_types.proofs.env.TypeEnv.check_variants.Goals as goal
@@ -17,18 +18,23 @@ variant_name variant = variant.name
 
 duplicate_of : (c : In-Some) → IsDuplicate (map tree_name c.args.trees.now) c.in-Some.place
 duplicate_of c =
-    let found = subst (λ t. MatchOption t (AreDistinct c.as_slice.result.now) (IsDuplicate c.as_slice.result.now)) c.in-Some.is c.in_ok-duplicate.ensures in
+    let found = subst (λ t. MatchOption t (AreDistinct c.as_slice.result.now)
+    (IsDuplicate c.as_slice.result.now)) c.in-Some.is c.in_ok-duplicate.ensures in
     let names = c.as_slice.ensures.value ∙ c.in_ok-names.ensures in
-    duplicate_through tree_name variant_name c.args.self.now.symbols c.args.trees.now c.args.variants.now c.requires c.in-Some.place (subst (λ ns. IsDuplicate ns c.in-Some.place) names found)
+    duplicate_through tree_name variant_name c.args.self.now.names c.args.trees.now c.args.variants.now c.requires c.in-Some.place
+    (subst (λ ns. IsDuplicate ns c.in-Some.place) names found)
 
 within_of : (c : In-Some) → c.in-Some.place < length c.args.trees.now
 within_of c = duplicate_tree tree_name c.args.trees.now c.in-Some.place (duplicate_of c)
 
 pub returns-in-None-clause-once : goal.returns-in-None-clause-once
 returns-in-None-clause-once c =
-    let once = subst (λ t. MatchOption t (AreDistinct c.as_slice.result.now) (IsDuplicate c.as_slice.result.now)) c.in-None.is c.in_ok-duplicate.ensures in
+    let once = subst (λ t. MatchOption t (AreDistinct c.as_slice.result.now)
+    (IsDuplicate c.as_slice.result.now)) c.in-None.is c.in_ok-duplicate.ensures in
     let names = c.as_slice.ensures.value ∙ c.in_ok-names.ensures in
-    once_through tree_name variant_name c.args.self.now.symbols c.args.self.now.names_are_distinct c.args.trees.now c.args.variants.now c.requires (subst AreDistinct names once)
+    once_through tree_name variant_name c.args.self.now.names
+    (subst (λ (tables : TypeTables). AreDistinct tables.names) c.self.view_is c.self.invariant.once) c.args.trees.now c.args.variants.now
+    c.requires (subst AreDistinct names once)
 
 pub offset_bounds-trees-place : goal.offset_bounds-trees-place
 offset_bounds-trees-place c = let within = within_of c in search rules
@@ -42,5 +48,15 @@ bounds-trees-place-in-Some c = within_of c
 pub returns-clause-fault : goal.returns-clause-fault
 returns-clause-fault c =
     let inside = (goal.at.returns-clause-fault c).In-Some in
-    reported c.type_error.result _ _ c.type_error.ensures
-    (c.in-Some.place, (c.index-trees-place.result, (slice_get_read c.args.trees.now (length c.args.trees.now) c.in-Some.place c.index-trees-place.result refl (within_of inside) c.index-trees-place.is, duplicate_of inside, ap (λ (tree : VariantTree). tree.pos) (sym c.index-trees-place.is))))
+    reported c.type_error.result _ _ c.type_error.ensures (
+      c.in-Some.place,
+      (
+        c.index-trees-place.result,
+        (
+          slice_get_read c.args.trees.now (length c.args.trees.now) c.in-Some.place c.index-trees-place.result refl
+              (within_of inside) c.index-trees-place.is,
+          duplicate_of inside,
+          ap (λ (tree : VariantTree). tree.pos) (sym c.index-trees-place.is),
+        ),
+      ),
+    )

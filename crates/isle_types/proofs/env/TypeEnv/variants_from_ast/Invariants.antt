@@ -3,14 +3,16 @@ use Rattle.std.specs.List.{AllZip}
 use Rattle.isle_syntax.specs.declared.ast.Variant.{Variant as VariantTree}
 use Rattle.isle_types.specs.declared.types.Variant.{Variant}
 use Rattle.isle_types.specs.Environment.{HaveAllowedSizes}
-use Rattle.isle_types.specs.TypeEnvs.{names_of, SameTables}
+use Rattle.isle_types.specs.TypeEnvs.{HasMoreNames}
 use Rattle.isle_types.specs.Readings.{HasTypeNames, ReadsVariants}
 use Rattle.isle_types.proofs.env.TypeEnv.variants_from_ast.Given as goal
 
 abbrev pub invariant-loop-variant : goal.invariant-loop-variant
 invariant-loop-variant l = record {
-  same : SameTables l.initial.self l.self;
+  same : HasMoreNames l.initial.self l.self;
   sizes : HaveAllowedSizes (take l.variant-index l.variants);
-  named : AllZip (λ (tree : VariantTree) (variant : Variant). slice_get (names_of l.self) variant.name.0 ≡ Some tree.name.0) (take l.variant-index l.variants) l.made.items;
-  read : (known : List (List ℕ)) → HasTypeNames l.initial.self known → ReadsVariants known (names_of l.self) l.ty.name.0 (take l.variant-index l.variants) l.made.items;
+  named : AllZip (λ (tree : VariantTree) (variant : Variant). slice_get l.self.names variant.name.0 ≡ Some tree.name.0)
+      (take l.variant-index l.variants) l.made.items;
+  read : (known : List (List ℕ)) → HasTypeNames l.initial.self known
+      → ReadsVariants known l.self.names l.ty.name.0 (take l.variant-index l.variants) l.made.items;
 }

@@ -1,7 +1,8 @@
 use Rattle.std.proofs.Common.{rules, ◌≡◌, length, sym, ◌∙◌, ap, Some, None}
 use Rattle.std.specs.BTreeMap.{insert_entry, is_at}
 use Rattle.std.specs.Map.{lookup}
-use Rattle.isle_types.proofs.SortedEdits.{at_in_range, place_in_range, lookup_found, lookup_absent, gap_in_range, replaced_view, replaced_index, added_view, added_index}
+use Rattle.isle_types.proofs.SortedEdits.{at_in_range, place_in_range, lookup_found, lookup_absent, gap_in_range, replaced_view, replaced_index}
+use Rattle.isle_types.proofs.SortedEdits.{added_view, added_index}
 use Rattle.isle_types.proofs.sorted_map.SortedMap.insert.Goals as goal
 
 pub index-place-requires : goal.index-place-requires
@@ -31,18 +32,21 @@ returns-in-Ok-clause-ok g c =
 pub returns-in-Ok-clause-replaced : goal.returns-in-Ok-clause-replaced
 returns-in-Ok-clause-replaced g c =
     let found = rw (c.deref.ensures.value, c.deref-2.ensures.value, c.in-Ok.is) at c.search.ensures.found in
-    ap Some c.replace.ensures.value ∙ rw (← c.self.view_is) (sym (lookup_found g.met.K.Ord.total _ c.self.invariant found _ _ c.index-place.ensures c.index_mut.ensures.value))
+    ap Some c.replace.ensures.value
+    ∙ rw (← c.self.view_is) (sym (lookup_found g.met.K.Ord.total _ c.self.invariant found _ _ c.index-place.ensures c.index_mut.ensures.value))
 
 pub returns-in_err-reserve-in-Err-clause-refused : goal.returns-in_err-reserve-in-Err-clause-refused
 returns-in_err-reserve-in-Err-clause-refused g c =
     let absent = rw (c.deref.ensures.value, c.deref-2.ensures.value, c.in-Err.is) at c.search.ensures.found in
-    let gone : lookup (is_at (g.K.Ord.cmp c.args.key)) c.args.self.now ≡ None = rw (← c.self.view_is) (lookup_absent g.met.K.Ord.total _ c.self.invariant absent) in
+    let gone : lookup (is_at (g.K.Ord.cmp c.args.key)) c.args.self.now ≡ None = rw (← c.self.view_is)
+    (lookup_absent g.met.K.Ord.total _ c.self.invariant absent) in
     search rules
 
 pub returns-in_err-reserve-in-Err-2-clause-refused : goal.returns-in_err-reserve-in-Err-2-clause-refused
 returns-in_err-reserve-in-Err-2-clause-refused g c =
     let absent = rw (c.deref.ensures.value, c.deref-2.ensures.value, c.in-Err.is) at c.search.ensures.found in
-    let gone : lookup (is_at (g.K.Ord.cmp c.args.key)) c.args.self.now ≡ None = rw (← c.self.view_is) (lookup_absent g.met.K.Ord.total _ c.self.invariant absent) in
+    let gone : lookup (is_at (g.K.Ord.cmp c.args.key)) c.args.self.now ≡ None = rw (← c.self.view_is)
+    (lookup_absent g.met.K.Ord.total _ c.self.invariant absent) in
     search rules
 
 pub insert-requires : goal.insert-requires
@@ -62,7 +66,15 @@ pub returns-in_ok-insert-in-Err-clause-ok : goal.returns-in_ok-insert-in-Err-cla
 returns-in_ok-insert-in-Err-clause-ok g c =
     let absent = rw (c.deref.ensures.value, c.deref-2.ensures.value, c.in-Err.is) at c.search.ensures.found in
     let last : c.len-place.result ≡ length c.self.inside.entries.items = search rules in
-    rw (c.in_ok-insert-in-Err.ensures.items, c.in_ok-push-in-Err.ensures.items, c.reserve-in-Err.ensures.items, c.reserve.ensures.items, last, ← c.self.view_is)
+    rw (
+      c.in_ok-insert-in-Err.ensures.items,
+      c.in_ok-push-in-Err.ensures.items,
+      c.reserve-in-Err.ensures.items,
+      c.reserve.ensures.items,
+      last,
+      ←
+          c.self.view_is,
+    )
     (added_view g.met.K.Ord.total _ c.self.invariant absent c.args.value)
 
 pub returns-in_ok-insert-in-Err-clause-replaced : goal.returns-in_ok-insert-in-Err-clause-replaced

@@ -1,0 +1,5 @@
+use Rattle.isle_terms.proofs.RuleLaws.{one_rule}
+use Rattle.isle_terms.proofs.laws.rules_stand_for_one_typed_rule.Goals as goal
+
+pub returns : goal.returns
+returns c = one_rule

@@ -1,0 +1,43 @@
+-- Where definitions break a rule of terms and rules, whichever it is, and where they exceed a size.
+use Rattle.std.specs.Prelude.{ℕ, List, Bool}
+use Rattle.std.specs.List.{filter_map}
+use Rattle.std.specs.Option.{option_map}
+use Rattle.isle_syntax.specs.declared.ast.Rule.{Rule as RuleTree}
+use Rattle.isle_syntax.specs.declared.ast.Def.{Def}
+use Rattle.isle_syntax.specs.declared.lexer.Pos.{Pos}
+use Rattle.isle_syntax.specs.Trees.PatternShape.{pattern_of}
+use Rattle.isle_types.specs.Environment.{Environment}
+use Rattle.isle_terms.specs.Signatures.{Signature, Conversion}
+use Rattle.isle_terms.specs.Definitions.{IsAmong, rules_in, root_name, name_of_rule, AreTerms, AreConversions}
+use Rattle.isle_terms.specs.RuleReaching.{IsIllRule, IsLargeRule}
+use Rattle.isle_terms.specs.TermFaults.{IsTaken, DeclarationBreaks, IsLargeDeclaration, ExtractorBreaks, ConstructorBreaks, ConverterBreaks}
+use Rattle.isle_terms.specs.TermFaults.{IsUndefined}
+
+-- the names of rules, each with the position of its rule
+abbrev pub named_rules : List Def → List (List ℕ × Pos)
+named_rules defs =
+    filter_map (λ (rule : RuleTree). option_map (λ name. (name, rule.pos)) (name_of_rule defs (root_name (pattern_of rule.pattern)) rule.name))
+    (rules_in defs)
+
+-- definitions break a rule of typing at a position: one of terms, constructors, extractors, converters or rules
+pub data BreaksTyping (types : Environment) (expands : Bool) (levels : ℕ) (defs : List Def) : Pos → Type 0 where
+  of_declarations : (at : Pos) → DeclarationBreaks types defs at → BreaksTyping types expands levels defs at
+  of_constructors : (at : Pos) → ConstructorBreaks defs at → BreaksTyping types expands levels defs at
+  of_extractors : (at : Pos) (terms : List Signature) → AreTerms types defs terms → ExtractorBreaks defs terms at
+      → BreaksTyping types expands levels defs at
+  of_converters : (at : Pos) (terms : List Signature) → AreTerms types defs terms → ConverterBreaks types defs terms at
+      → BreaksTyping types expands levels defs at
+  of_no_use : (at : Pos) → IsUndefined defs at → BreaksTyping types expands levels defs at
+  of_a_rule : (at : Pos) (terms : List Signature) (conversions : List Conversion) (rule : RuleTree)
+      → AreTerms types defs terms → AreConversions types defs terms conversions → IsAmong (rules_in defs) rule
+      → IsIllRule (record { types = types; terms = terms; conversions = conversions; expands = expands }) levels rule at
+      → BreaksTyping types expands levels defs at
+  of_rule_names : (at : Pos) → IsTaken (named_rules defs) at → BreaksTyping types expands levels defs at
+
+-- definitions exceed a size at a position: a declaration's arguments, or a rule's levels or nodes
+pub data ExceedsTyping (types : Environment) (expands : Bool) (levels max : ℕ) (defs : List Def) : Pos → Type 0 where
+  by_arguments : (at : Pos) → IsLargeDeclaration defs at → ExceedsTyping types expands levels max defs at
+  by_a_rule : (terms : List Signature) (conversions : List Conversion) (rule : RuleTree)
+      → AreTerms types defs terms → AreConversions types defs terms conversions → IsAmong (rules_in defs) rule
+      → IsLargeRule (record { types = types; terms = terms; conversions = conversions; expands = expands }) levels max rule
+      → ExceedsTyping types expands levels max defs rule.pos

@@ -1,0 +1,35 @@
+//! What holds of the definitions of typing: public functions with nothing to do, whose contracts are the laws.
+ghost use Rattle.std.specs.Prelude.{◌≡◌, ℕ, Bool, List};
+ghost use Rattle.isle_syntax.specs.declared.ast.Def.{Def};
+ghost use Rattle.isle_syntax.specs.declared.ast.Rule.{Rule};
+ghost use Rattle.isle_syntax.specs.declared.lexer.Pos.{Pos};
+ghost use Rattle.isle_types.specs.Environment.{Environment};
+ghost use Rattle.isle_terms.specs.TypedRules.{TypedRule};
+ghost use Rattle.isle_terms.specs.Signatures.{Declared};
+ghost use Rattle.isle_terms.specs.Elaboration.{ElaboratesRule};
+ghost use Rattle.isle_terms.specs.Definitions.{TermEnvironment, MakesTerms};
+ghost use Rattle.isle_terms.specs.TypingFaults.{BreaksTyping, ExceedsTyping};
+
+/// Definitions make one environment of terms at most, whatever the sizes.
+pub fn definitions_make_one_environment()
+    ensures { (types : Environment) (expands : Bool) (m n max most : ℕ) (defs : List Def) (a b : TermEnvironment)
+        → MakesTerms types expands m max defs a → MakesTerms types expands n most defs b → a ≡ b }
+{}
+
+/// A rule stands for one typed rule at most, whatever the sizes.
+pub fn rules_stand_for_one_typed_rule()
+    ensures { (declared : Declared) (m n max most : ℕ) (tree : Rule) (a b : TypedRule)
+        → ElaboratesRule declared m max tree a → ElaboratesRule declared n most tree b → a ≡ b }
+{}
+
+/// Definitions that break a rule of typing make no environment of terms, whatever the sizes.
+pub fn broken_rules_make_no_environment()
+    ensures { (types : Environment) (expands : Bool) (levels max n : ℕ) (defs : List Def) (environment : TermEnvironment) (at : Pos)
+        → MakesTerms types expands levels max defs environment → BreaksTyping types expands n defs at → ⊥ }
+{}
+
+/// Definitions that exceed a size make no environment of terms within the sizes.
+pub fn exceeded_sizes_make_no_environment()
+    ensures { (types : Environment) (expands : Bool) (levels max : ℕ) (defs : List Def) (environment : TermEnvironment) (at : Pos)
+        → MakesTerms types expands levels max defs environment → ExceedsTyping types expands levels max defs at → ⊥ }
+{}

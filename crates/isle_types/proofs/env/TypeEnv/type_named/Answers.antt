@@ -1,0 +1,23 @@
+use Rattle.std.proofs.Common.{◌≡◌, None, Some, subst, sym, ◌∙◌}
+use Rattle.std.specs.Option.{option_and_then}
+use Rattle.isle_types.specs.Interned.{entry_of}
+use Rattle.isle_types.specs.TypeTables.{TypeTables}
+use Rattle.isle_types.specs.TypeEnvs.{type_of_name}
+use Rattle.isle_types.proofs.NamedTables.{found_entry}
+use Rattle.isle_types.proofs.env.TypeEnv.type_named.Goals as goal
+
+pub returns-in_err-sym : goal.returns-in_err-sym
+returns-in_err-sym c =
+    let env = c.self.inside in
+    c.from_residual.ensures ∙ sym (subst
+    (λ (tables : TypeTables). type_of_name tables c.args.name.now ≡ option_and_then (entry_of env.type_map) None) c.self.view_is
+    (found_entry env.symbols env.type_map c.self.invariant.once c.self.invariant.types_named c.args.name.now None c.in_err-sym.ensures.found))
+
+pub returns : goal.returns
+returns c =
+    let env = c.self.inside in
+    c.copied.ensures ∙ c.get.ensures
+    ∙ sym (subst (λ (tables : TypeTables). type_of_name tables c.args.name.now ≡ option_and_then (entry_of env.type_map)
+    (Some c.in_ok-sym.sym)) c.self.view_is
+    (found_entry env.symbols env.type_map c.self.invariant.once c.self.invariant.types_named c.args.name.now
+    (Some c.in_ok-sym.sym) c.in_ok-sym.ensures.found))

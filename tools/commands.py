@@ -1,0 +1,114 @@
+#!/usr/bin/env python3
+"""Runs commands of `islec` with known answers.
+
+    commands.py PROGRAM FILE.json ..
+
+Each FILE is a list of cases, as tests/commands/README.md describes them. Prints the name of each
+case that fails with what differs, and last `N passed, M failed`. Exits with 1 where one failed.
+"""
+
+import json
+import os
+import resource
+import signal
+import socket
+import subprocess
+import sys
+import tempfile
+
+SECONDS = 60
+
+
+def bytes_of(text):
+    """The bytes of a text, in which U+DC80 to U+DCFF stand for the bytes 0x80 to 0xFF."""
+    return text.encode("utf-8", "surrogateescape")
+
+
+def input_of(case):
+    """A socket that gives the input of a case, and then ends or fails."""
+    step = case.get("stdin_step")
+    kind = socket.SOCK_SEQPACKET if step else socket.SOCK_STREAM
+    given, filled = socket.socketpair(socket.AF_UNIX, kind)
+    if case.get("stdin_fails"):
+        # What is left unread at the other end makes reading fail once the bytes are read.
+        given.send(b"unread")
+    text = bytes_of(case["stdin"])
+    step = step or max(len(text), 1)
+    for at in range(0, len(text), step):
+        filled.send(text[at:at + step])
+    filled.close()
+    return given
+
+
+def limits_of(case):
+    """What the program's process sets before it starts: how many bytes a file may have."""
+    room = case.get("stdout_room")
+    if room is None:
+        return None
+
+    def set_limits():
+        signal.signal(signal.SIGXFSZ, signal.SIG_IGN)
+        resource.setrlimit(resource.RLIMIT_FSIZE, (room, room))
+
+    return set_limits
+
+
+def run(program, case):
+    """The output and the exit status of the program on a case."""
+    with tempfile.TemporaryDirectory() as folder, tempfile.TemporaryFile() as output:
+        for name, text in case["files"].items():
+            with open(os.path.join(folder, name), "wb") as file:
+                file.write(bytes_of(text))
+        with input_of(case) as given:
+            done = subprocess.run(
+                [program, *case["args"]],
+                cwd=folder,
+                stdin=given,
+                stdout=output,
+                stderr=subprocess.DEVNULL,
+                preexec_fn=limits_of(case),
+                timeout=SECONDS,
+                check=False,
+            )
+        output.seek(0)
+        return output.read(), done.returncode
+
+
+def differences(program, case):
+    """The lines that tell how a case fails: none where it passes."""
+    try:
+        output, status = run(program, case)
+    except subprocess.TimeoutExpired:
+        return [f"no end within {SECONDS} seconds"]
+    found = []
+    if status != case["status"]:
+        found.append(f"status {status}, wanted {case['status']}")
+    if "stdout" in case and output != bytes_of(case["stdout"]):
+        found.append(f"wrote {output!r}, wanted {bytes_of(case['stdout'])!r}")
+    if not output.startswith(bytes_of(case.get("stdout_begins", ""))):
+        found.append(f"wrote {output!r}, wanted a beginning of {bytes_of(case['stdout_begins'])!r}")
+    return found
+
+
+def main():
+    if len(sys.argv) < 3:
+        sys.exit(__doc__)
+    program = os.path.abspath(sys.argv[1])
+    cases = []
+    for path in sys.argv[2:]:
+        with open(path, encoding="utf-8") as file:
+            cases += json.load(file)
+    failed = 0
+    for case in cases:
+        found = differences(program, case)
+        if found:
+            failed += 1
+            print(case["name"])
+            for line in found:
+                print(f"    {line}")
+    print(f"{len(cases) - failed} passed, {failed} failed")
+    sys.exit(1 if failed else 0)
+
+
+if __name__ == "__main__":
+    main()
