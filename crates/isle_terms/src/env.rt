@@ -120,6 +120,7 @@ impl TermEnv {
                     rec: decl.rec,
                 },
                 constructor_kind: None,
+                extractor_kind: None,
             },
         })
     }
@@ -250,6 +251,7 @@ impl TermEnv {
                 term.kind = TermKind::Decl {
                     flags: *flags,
                     constructor_kind: Some(ConstructorKind::InternalConstructor),
+                    extractor_kind: None,
                 };
             }
         }
@@ -301,6 +303,7 @@ impl TermEnv {
             id: RuleId(self.rules.len()),
             root_term: root,
             args: Seq::new(args),
+            iflets: Seq::new(Vec::new(self.alloc)),
             rhs,
             vars: Seq::new(bindings.into_vars()),
             prio: rule.prio.unwrap_or(0),

@@ -9,5 +9,5 @@ mod translate;
 mod unsupported;
 
 pub use env::TermEnv;
-pub use rules::{BoundVar, Expr, Pattern, Rule};
-pub use terms::{ConstructorKind, Term, TermFlags, TermKind};
+pub use rules::{BoundVar, Expr, IfLet, Pattern, Rule};
+pub use terms::{ConstructorKind, ExtractorKind, Term, TermFlags, TermKind};

@@ -11,6 +11,7 @@ pub struct Rule {
     pub id: RuleId,
     pub root_term: TermId,
     pub args: Seq<Pattern>,
+    pub iflets: Seq<IfLet>,
     pub rhs: Expr,
     pub vars: Seq<BoundVar>,
     pub prio: i64,
@@ -26,13 +27,24 @@ pub struct BoundVar {
     pub ty: TypeId,
 }
 
+/// A condition of a rule: `lhs` matches the value of `rhs`.
+#[derive(Debug, Drop)]
+pub struct IfLet {
+    pub lhs: Pattern,
+    pub rhs: Expr,
+}
+
 /// A typed pattern. A name that binds is a `BindPattern` of a `Wildcard`.
 #[derive(Debug, Drop)]
 pub enum Pattern {
     BindPattern(TypeId, VarId, Boxed<Pattern>),
+    Var(TypeId, VarId),
+    ConstBool(TypeId, bool),
     ConstInt(TypeId, i128),
+    ConstPrim(TypeId, Sym),
     Term(TypeId, TermId, Seq<Pattern>),
     Wildcard(TypeId),
+    And(TypeId, Seq<Pattern>),
 }
 
 impl Pattern {
@@ -42,19 +54,30 @@ impl Pattern {
     {
         match self {
             Pattern::BindPattern(ty, _, _) => *ty,
+            Pattern::Var(ty, _) => *ty,
+            Pattern::ConstBool(ty, _) => *ty,
             Pattern::ConstInt(ty, _) => *ty,
+            Pattern::ConstPrim(ty, _) => *ty,
             Pattern::Term(ty, _, _) => *ty,
             Pattern::Wildcard(ty) => *ty,
+            Pattern::And(ty, _) => *ty,
         }
     }
 }
 
-/// A typed expression.
+/// A typed expression. The variables of a `Let` are bound in order, each after its value.
 #[derive(Debug, Drop)]
 pub enum Expr {
     Term(TypeId, TermId, Seq<Expr>),
     Var(TypeId, VarId),
+    ConstBool(TypeId, bool),
     ConstInt(TypeId, i128),
+    ConstPrim(TypeId, Sym),
+    Let {
+        ty: TypeId,
+        bindings: Seq<(VarId, TypeId, Boxed<Expr>)>,
+        body: Boxed<Expr>,
+    },
 }
 
 impl Expr {
@@ -65,7 +88,10 @@ impl Expr {
         match self {
             Expr::Term(ty, _, _) => *ty,
             Expr::Var(ty, _) => *ty,
+            Expr::ConstBool(ty, _) => *ty,
             Expr::ConstInt(ty, _) => *ty,
+            Expr::ConstPrim(ty, _) => *ty,
+            Expr::Let { ty, .. } => *ty,
         }
     }
 }

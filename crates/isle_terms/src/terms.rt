@@ -1,7 +1,8 @@
 ghost use Rattle.std.specs.Prelude.{◌≡◌};
-ghost use Rattle.isle_terms.specs.Terms.{is_variant_kind, is_partial_kind, has_rules_kind, makes_kind};
+ghost use Rattle.isle_terms.specs.Terms.{is_variant_kind, is_partial_kind, has_rules_kind, makes_kind, takes_apart_kind};
 
 use isle_syntax::Seq;
+use isle_syntax::ast::Pattern;
 use isle_syntax::lexer::Pos;
 use isle_types::{Sym, TermId, TypeId, VariantId};
 
@@ -31,9 +32,11 @@ pub enum TermKind {
     EnumVariant {
         variant: VariantId,
     },
+    Struct,
     Decl {
         flags: TermFlags,
         constructor_kind: Option<ConstructorKind>,
+        extractor_kind: Option<ExtractorKind>,
     },
 }
 
@@ -42,6 +45,23 @@ pub enum TermKind {
 pub enum ConstructorKind {
     /// By the rules of the program.
     InternalConstructor,
+    /// By the host's function of this name.
+    ExternalConstructor { name: Sym },
+}
+
+/// How a declared term takes a value apart.
+#[derive(Debug, Drop)]
+pub enum ExtractorKind {
+    /// By a pattern, in which `MacroArg`s stand for the arguments of a use.
+    InternalExtractor {
+        template: Pattern,
+    },
+    /// By the host's function of this name; `pos` is where it is given.
+    ExternalExtractor {
+        name: Sym,
+        infallible: bool,
+        pos: Pos,
+    },
 }
 
 impl Term {
@@ -58,7 +78,7 @@ impl Term {
     {
         match &self.kind {
             TermKind::EnumVariant { .. } => true,
-            TermKind::Decl { .. } => false,
+            TermKind::Struct | TermKind::Decl { .. } => false,
         }
     }
 
@@ -67,7 +87,7 @@ impl Term {
         ensures { result ≡ is_partial_kind self.now.kind }
     {
         match &self.kind {
-            TermKind::EnumVariant { .. } => false,
+            TermKind::EnumVariant { .. } | TermKind::Struct => false,
             TermKind::Decl { flags, .. } => flags.partial,
         }
     }
@@ -77,7 +97,7 @@ impl Term {
         ensures { result ≡ makes_kind self.now.kind }
     {
         match &self.kind {
-            TermKind::EnumVariant { .. } => true,
+            TermKind::EnumVariant { .. } | TermKind::Struct => true,
             TermKind::Decl {
                 constructor_kind,
                 ..
@@ -87,9 +107,12 @@ impl Term {
 
     /// Whether the term can be used in a pattern.
     pub fn has_extractor(&self) -> bool
-        ensures { result ≡ is_variant_kind self.now.kind }
+        ensures { result ≡ takes_apart_kind self.now.kind }
     {
-        self.is_enum_variant()
+        match &self.kind {
+            TermKind::EnumVariant { .. } | TermKind::Struct => true,
+            TermKind::Decl { extractor_kind, .. } => extractor_kind.is_some(),
+        }
     }
 
     /// Whether the term has rules.
@@ -97,11 +120,11 @@ impl Term {
         ensures { result ≡ has_rules_kind self.now.kind }
     {
         match &self.kind {
-            TermKind::EnumVariant { .. } => false,
+            TermKind::EnumVariant { .. } | TermKind::Struct => false,
             TermKind::Decl {
                 constructor_kind,
                 ..
-            } => constructor_kind.is_some(),
+            } => *constructor_kind == Some(ConstructorKind::InternalConstructor),
         }
     }
 }
