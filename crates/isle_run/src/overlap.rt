@@ -202,6 +202,10 @@ fn may_meet(a: &Pattern, b: &Pattern) -> bool {
             Pattern::ConstInt(_, _) => false,
             _ => true,
         },
+        Pattern::Var(_, _)
+        | Pattern::ConstBool(_, _)
+        | Pattern::ConstPrim(_, _)
+        | Pattern::And(_, _) => true,
     }
 }
 

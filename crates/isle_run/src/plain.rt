@@ -106,6 +106,10 @@ fn fits(pattern: &Pattern, value: &Rc<SharedValue>, bound: &mut Bound) -> Result
             ),
             _ => Ok(false),
         },
+        Pattern::Var(_, _)
+        | Pattern::ConstBool(_, _)
+        | Pattern::ConstPrim(_, _)
+        | Pattern::And(_, _) => Ok(false),
     }
 }
 
@@ -162,6 +166,7 @@ fn eval(
             Some(fields) => Ok(Some(Rc::new(alloc, SharedValue::Data(Some(*term), fields))?)),
             None => Ok(None),
         },
+        Expr::ConstBool(_, _) | Expr::ConstPrim(_, _) | Expr::Let { .. } => Ok(None),
     }
 }
 
