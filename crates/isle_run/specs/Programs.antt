@@ -6,7 +6,7 @@ use Rattle.isle_types.specs.declared.ids.TermId.{TermId}
 use Rattle.isle_types.specs.declared.types.«Type».{«Type» as KnownType}
 use Rattle.isle_types.specs.TypeEnvs.{sym_named}
 use Rattle.isle_terms.specs.declared.rules.Rule.{Rule}
-use Rattle.isle_terms.specs.Environment.{rules_of, term_with}
+use Rattle.isle_terms.specs.FirstEnvironment.{rules_of, term_with}
 use Rattle.isle_run.specs.declared.program.Program.{Program}
 
 -- its types, each at the place of its id

@@ -14,7 +14,7 @@ pub struct Program {
 
 impl Program {
     ghost use Rattle.std.specs.Prelude.{◌≡◌, IfOk};
-    ghost use Rattle.isle_terms.specs.Environment.{rules_of};
+    ghost use Rattle.isle_terms.specs.FirstEnvironment.{rules_of};
     ghost use Rattle.isle_run.specs.Programs.{types_in, rules_in, term_named, is_runnable};
 
     /// The program of typed definitions.

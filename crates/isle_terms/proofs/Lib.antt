@@ -1,5 +1,5 @@
 -- What can be printed of an environment of terms still can after a change.
-pub mod TermPlaces
+pub mod FirstPlaces
 -- Worked cases: what patterns and expressions stand for, and where they are ill typed or too large.
 mod TypingCases
 -- A pattern stands for one thing at most, whatever the levels.

@@ -2,12 +2,12 @@
 #![tactic(auto, using(isle_syntax::proofs::Trees::PatternSizes::most_pattern_size, isle_syntax::proofs::Trees::ExprSizes::most_expr_size))]
 
 mod env;
+mod first;
 pub mod laws;
 mod rules;
 mod terms;
 mod translate;
-mod unsupported;
 
-pub use env::TermEnv;
+pub use first::env::TermEnv;
 pub use rules::{BoundVar, Expr, IfLet, Pattern, Rule};
 pub use terms::{ConstructorKind, ExtractorKind, Term, TermFlags, TermKind};
