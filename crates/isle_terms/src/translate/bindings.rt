@@ -1,13 +1,6 @@
-ghost use Rattle.std.specs.Prelude.{◌≡◌, [], ◌∷◌, map, length, not, leb, drop, if◌then◌else◌, IfOk, OnOk};
-ghost use Rattle.std.specs.Option.{option_map};
-ghost use Rattle.isle_terms.specs.Elaboration.{start, counted, bound, visible_in, dropped};
-ghost use Rattle.isle_terms.specs.Scopes.{bound_of, visible_bound, variable_shown};
-
 use isle_syntax::Text;
 use isle_types::{TypeId, VarId};
-use std::alloc::{AllocError, Global};
 use std::collections::HashMap;
-use std::marker::Model;
 
 /// The variable of a name, and its type.
 #[derive(Debug, Clone, Copy, PartialEq, Eq)]
