@@ -24,3 +24,7 @@ pub mod BrokenTerms
 pub mod BrokenConstructors
 -- Definitions that break a rule of typing make no environment; those that exceed a size make none within the sizes.
 pub mod BrokenTyping
+-- Lists of definitions of one kind.
+pub mod Listing
+-- A table of names grows by a name.
+pub mod NameTables

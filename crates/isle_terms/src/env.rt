@@ -1,3 +1,6 @@
+mod definitions;
+mod name_table;
+
 ghost use Rattle.std.specs.Prelude.{◌≡◌, slice_get};
 ghost use Rattle.std.specs.Option.{option_copied, option_and_then, option_map};
 ghost use Rattle.isle_types.specs.TypeEnvs.{sym_named};
