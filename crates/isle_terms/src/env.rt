@@ -4,6 +4,8 @@ ghost use Rattle.isle_types.specs.TypeEnvs.{sym_named};
 ghost use Rattle.isle_terms.specs.TermTables.{term_with, rule_with, converter_with};
 ghost use Rattle.isle_terms.specs.Needs.{needed_of};
 
+mod report;
+
 use crate::rules::Rule;
 use crate::terms::Term;
 use isle_syntax::ast::Ident;
@@ -28,7 +30,6 @@ impl Model for TermEnv {
     ghost use Rattle.std.specs.Prelude.{◌≡◌, map};
     ghost use Rattle.isle_terms.specs.TermTables.{TermTables};
     ghost use Rattle.isle_terms.specs.Needs.{needed_of};
-
     ghost use Rattle.std.specs.Coded.{codes};
     ghost use Rattle.isle_syntax.specs.Trees.PatternCode.{pattern_tree_code, pattern_trees_code};
     ghost use Rattle.isle_terms.specs.contracts.rules.Pattern as pattern;
