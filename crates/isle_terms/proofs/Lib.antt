@@ -28,3 +28,5 @@ pub mod BrokenTyping
 pub mod Listing
 -- A table of names grows by a name.
 pub mod NameTables
+-- What gathers the terms of a pattern has all of them.
+pub mod GatheredTerms

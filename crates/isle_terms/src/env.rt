@@ -1,11 +1,13 @@
-mod definitions;
-mod name_table;
-
 ghost use Rattle.std.specs.Prelude.{◌≡◌, slice_get};
 ghost use Rattle.std.specs.Option.{option_copied, option_and_then, option_map};
 ghost use Rattle.isle_types.specs.TypeEnvs.{sym_named};
 ghost use Rattle.isle_terms.specs.TermTables.{term_with, rule_with, converter_with};
 ghost use Rattle.isle_terms.specs.Needs.{needed_of};
+
+mod definitions;
+mod name_table;
+mod named;
+mod report;
 
 use crate::rules::Rule;
 use crate::terms::Term;
@@ -31,7 +33,6 @@ impl Model for TermEnv {
     ghost use Rattle.std.specs.Prelude.{◌≡◌, map};
     ghost use Rattle.isle_terms.specs.TermTables.{TermTables};
     ghost use Rattle.isle_terms.specs.Needs.{needed_of};
-
     ghost use Rattle.std.specs.Coded.{codes};
     ghost use Rattle.isle_syntax.specs.Trees.PatternCode.{pattern_tree_code, pattern_trees_code};
     ghost use Rattle.isle_terms.specs.contracts.rules.Pattern as pattern;
