@@ -30,3 +30,7 @@ pub mod Listing
 pub mod NameTables
 -- What gathers the terms of a pattern has all of them.
 pub mod GatheredTerms
+-- Checks of definitions, one after the other and item by item.
+pub mod Checking
+-- Names are put into a table, and those that occur already are reported.
+pub mod Naming

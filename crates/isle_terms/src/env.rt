@@ -4,9 +4,11 @@ ghost use Rattle.isle_types.specs.TypeEnvs.{sym_named};
 ghost use Rattle.isle_terms.specs.TermTables.{term_with, rule_with, converter_with};
 ghost use Rattle.isle_terms.specs.Needs.{needed_of};
 
+mod checks;
 mod definitions;
 mod name_table;
 mod named;
+mod naming;
 mod report;
 
 use crate::rules::Rule;

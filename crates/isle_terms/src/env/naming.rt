@@ -1,0 +1,112 @@
+ghost use Rattle.std.specs.Prelude.{◌≡◌, ◌++◌, map, IfOk, OnOk};
+ghost use Rattle.isle_syntax.specs.declared.ast.Decl.{Decl as DeclTree};
+ghost use Rattle.isle_syntax.specs.declared.ast.Extractor.{Extractor as ExtractorTree};
+ghost use Rattle.isle_types.specs.Names.{AreDistinct};
+ghost use Rattle.isle_terms.specs.TermFaults.{names_of, IsTaken};
+ghost use Rattle.isle_terms.specs.Checks.{Checks};
+ghost use Rattle.isle_terms.specs.NameTables.{IsTableOf};
+ghost use Rattle.isle_terms.specs.NamedItems.{named_shown, named_declaration, named_extractor, named_host_constructor, named_host_extractor};
+
+use crate::env::definitions::{HostConstructor, HostExtractor};
+use crate::env::name_table::NameTable;
+use crate::env::report::report;
+use isle_syntax::ast::{Decl, Extractor};
+use isle_syntax::error::Error;
+use isle_syntax::lexer::Pos;
+use isle_types::TypeEnv;
+use std::alloc::{AllocError, Global};
+
+/// A name, and where it is given.
+#[derive(Debug, Clone, Copy)]
+pub struct Named<'a> {
+    pub name: &'a str,
+    pub pos: Pos,
+}
+
+/// The names of declarations.
+pub fn declared_names<'a>(
+    alloc: Global,
+    decls: &[&'a Decl],
+) -> Result<Vec<Named<'a>>, AllocError>
+    ensures { IfOk result (λ all. map named_shown all.items ≡ map (λ decl. named_declaration decl.now) decls.now) }
+{
+    let mut all = Vec::new(alloc);
+    for decl in decls {
+        all.push(Named {
+            name: decl.term.0.as_str(),
+            pos: decl.pos,
+        })?;
+    }
+    Ok(all)
+}
+
+/// The names of the terms of internal extractors.
+pub fn extractor_names<'a>(
+    alloc: Global,
+    extractors: &[&'a Extractor],
+) -> Result<Vec<Named<'a>>, AllocError>
+    ensures { IfOk result (λ all. map named_shown all.items ≡ map (λ extractor. named_extractor extractor.now) extractors.now) }
+{
+    let mut all = Vec::new(alloc);
+    for extractor in extractors {
+        all.push(Named {
+            name: extractor.term.0.as_str(),
+            pos: extractor.pos,
+        })?;
+    }
+    Ok(all)
+}
+
+/// The names of the terms of the host's constructors, each where it stands.
+pub fn host_constructor_names<'a>(
+    alloc: Global,
+    hosts: &[HostConstructor<'a>],
+) -> Result<Vec<Named<'a>>, AllocError>
+    ensures { IfOk result (λ all. map named_shown all.items ≡ map named_host_constructor hosts.now) }
+{
+    let mut all = Vec::new(alloc);
+    for host in hosts {
+        all.push(Named {
+            name: host.term.0.as_str(),
+            pos: host.term.1,
+        })?;
+    }
+    Ok(all)
+}
+
+/// Adds the names of the terms of the host's extractors.
+pub fn add_host_extractor_names<'a>(
+    all: &mut Vec<Named<'a>>,
+    hosts: &[HostExtractor<'a>],
+) -> Result<(), AllocError>
+    ensures { OnOk result (map named_shown all.new.items ≡ map named_shown all.old.items ++ map named_host_extractor hosts.now) }
+{
+    for host in hosts {
+        all.push(Named {
+            name: host.term.0.as_str(),
+            pos: host.pos,
+        })?;
+    }
+    Ok(())
+}
+
+/// The table of names, each of which is reported where it occurs already.
+pub fn name_all(
+    alloc: Global,
+    tyenv: &TypeEnv,
+    named: &[Named<'_>],
+    msg: &str,
+    errors: &mut Vec<Error>,
+) -> Result<NameTable, AllocError>
+    ensures table { IfOk result (IsTableOf (names_of (map named_shown named.now))) }
+    ensures checked { OnOk result (Checks (IsTaken (map named_shown named.now)) (AreDistinct (names_of (map named_shown named.now)))
+        errors.old.items errors.new.items) }
+{
+    let mut table = NameTable::new(alloc);
+    for i in 0..named.len() {
+        if !table.add(named[i].name, i)? {
+            report(&mut *errors, tyenv, named[i].pos, msg)?;
+        }
+    }
+    Ok(table)
+}
