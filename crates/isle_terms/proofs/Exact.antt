@@ -1,0 +1,8 @@
+-- How what is read in turn tells the truth, part by part.
+pub mod Parts
+-- Which numbers a type has, as a test.
+pub mod Numbers
+-- The converter that fits, as a function.
+pub mod Fitting
+-- What reading a pattern comes to.
+pub mod Patterns
