@@ -6,3 +6,5 @@ pub mod Numbers
 pub mod Fitting
 -- What reading a pattern comes to.
 pub mod Patterns
+-- What reading an expression comes to.
+pub mod Exprs
