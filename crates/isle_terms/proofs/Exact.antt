@@ -8,3 +8,5 @@ pub mod Fitting
 pub mod Patterns
 -- What reading an expression comes to.
 pub mod Exprs
+-- What reading a rule comes to.
+pub mod Rules
