@@ -10,3 +10,5 @@ pub mod Patterns
 pub mod Exprs
 -- What reading a rule comes to.
 pub mod Rules
+-- Tables make known what the definitions do that they show.
+pub mod KnownSame
