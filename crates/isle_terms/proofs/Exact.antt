@@ -12,3 +12,7 @@ pub mod Exprs
 pub mod Rules
 -- Tables make known what the definitions do that they show.
 pub mod KnownSame
+-- Where what is ill typed stands.
+pub mod Positions
+-- What stands for something is read as that.
+pub mod Found

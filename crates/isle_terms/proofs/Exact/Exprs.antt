@@ -1,6 +1,6 @@
 -- What reading an expression comes to is what the judgement and the faults say.
 use Rattle.std.proofs.Common.{◌≡◌, ◌≢◌, ◌⊎◌, ℕ, zero, suc, ◌≤◌, inl, inr, true, false, ◌==◌, List, [], ◌∷◌, Option, None, Some, true≢false}
-use Rattle.std.proofs.Common.{refl, sym, ap, subst, ◌∙◌, arith, length, slice_get, ℤ, Bool}
+use Rattle.std.proofs.Common.{refl, sym, subst, ◌∙◌, arith, length, slice_get, ℤ, Bool}
 use Rattle.std.proofs.lemmas.Bool.{false≢true, eqb-true, eqb-false}
 use Rattle.isle_syntax.specs.declared.ast.Ident.{Ident}
 use Rattle.isle_syntax.specs.declared.lexer.Pos.{Pos}

@@ -1,5 +1,5 @@
 -- Which numbers a type has, as a test.
-use Rattle.std.proofs.Common.{◌≡◌, ℕ, ◌+◌, ◌-◌, ◌≤◌, ℤ, pos, negsuc, ◌≤ℤ◌, Bool, true, false, T, Option, None, Some, refl, sym, ap}
+use Rattle.std.proofs.Common.{◌≡◌, ◌↔◌, ℕ, ◌+◌, ◌-◌, ◌≤◌, ℤ, pos, negsuc, ◌≤ℤ◌, Bool, true, false, T, Option, None, Some, refl, sym, ap}
 use Rattle.std.proofs.Common.{◌∙◌, arith, length, slice_get, List, inl, inr}
 use Rattle.std.proofs.lemmas.Bool.{false≢true, and_parts, and_from}
 use Rattle.std.proofs.lemmas.Option.{none-some, slice_get_past, slice_get_cases}
@@ -85,3 +85,11 @@ number_found types ty val big (of_primitive place type host is stands shape) =
 
     place_of : (ty place : ℕ) → ty ≡ length builtin_names + place → ty - length builtin_names ≡ place
     place_of ty place is = omega arith
+
+-- the test of an integer type is exact
+pub int_number_tells : (int : IntType) (val : ℤ) (big : Bool) → (int_has_number int val big ≡ true) ↔ HasNumber int (spelt_number val big)
+int_number_tells int val big = (int_number_there int val big, int_number_found int val big)
+
+-- the test of a type is exact
+pub number_tells : (types : Environment) (ty : ℕ) (val : ℤ) (big : Bool) → (type_has_number types ty val big ≡ true) ↔ IsLiteralOf types ty val big
+number_tells types ty val big = (number_there types ty val big, number_found types ty val big)

@@ -53,28 +53,31 @@ module _ (declared : Declared) (max levels : ℕ) where
       (λ place h. ill_node place (in_right term flags args us m conditions n root left met h))
       (λ h. in_right term flags args us m conditions n root left met h)
       (λ right s h fits. record {
-        tells = (record {
-          sym = root.sym;
-          args = args;
-          term = term;
-          flags = flags;
-          matched = m;
-          met = n;
-          done = s;
-          shape = (root.at, root.shape);
-          root = root.root;
-          known = root.known;
-          ruled = root.ruled;
-          unordered = unordered;
-          left = left;
-          conditions = met;
-          right = h;
-          within = fits;
-          variables = refl;
-          priority = refl;
-          pos = refl;
-          name = refl;
-        }, fits);
+        tells = (
+          record {
+            sym = root.sym;
+            args = args;
+            term = term;
+            flags = flags;
+            matched = m;
+            met = n;
+            done = s;
+            shape = (root.at, root.shape);
+            root = root.root;
+            known = root.known;
+            ruled = root.ruled;
+            unordered = unordered;
+            left = left;
+            conditions = met;
+            right = h;
+            within = fits;
+            variables = refl;
+            priority = refl;
+            pos = refl;
+            name = refl;
+          },
+          fits,
+        );
       })))
 
 -- what reading conditions comes to is so
