@@ -25,7 +25,8 @@ use Rattle.isle_terms.proofs.Exact.Numbers.{number_there, number_found}
 use Rattle.isle_terms.proofs.Exact.Fitting.{term_there, IsFit, fitting_fits}
 
 -- a way to read expressions, and calls of terms at their own types, tells the truth
-pub record TellsExprs (declared : Declared) (max : ℕ) (R : ExprJudgement) (P : Pos → ExprFact) (L : ExprFact) (r : ExprRun) (u : ExprUse) : Type 0 where
+pub record TellsExprs (declared : Declared) (max : ℕ) (R : ExprJudgement) (P : Pos → ExprFact) (L : ExprFact) (r : ExprRun)
+    (u : ExprUse) : Type 0 where
   pub reads : (e : ExprTree) (want : Option ℕ) (s : State) → s.nodes ≤ max
       → Told max (R e want s) (λ at. P at e want s) (L e want s) (r e want s)
   pub uses : (name : List ℕ) (at : Pos) (number : ℕ) (term : Signature) (args : ExprTrees) (s : State) → s.nodes ≤ max
@@ -33,10 +34,12 @@ pub record TellsExprs (declared : Declared) (max : ℕ) (R : ExprJudgement) (P :
       → Told max (R (expr_term (name, at) args at) (Some term.ret) s) (λ place. P place (expr_term (name, at) args at) (Some term.ret) s)
       (L (expr_term (name, at) args at) (Some term.ret) s) (u at number term args s)
 
+-- a type that passes the test is the one that is expected
 expected : (want : Option ℕ) (ty : ℕ) → is_expected want ty ≡ true → IsExpected want ty
 expected None ty is = tt
 expected (Some wanted) ty is = eqb-true wanted ty is
 
+-- one that doesn't isn't
 unexpected : (want : Option ℕ) (ty : ℕ) → is_expected want ty ≡ false → IsExpected want ty → ⊥
 unexpected None ty is h = true≢false is
 unexpected (Some wanted) ty is h = eqb-false wanted ty is h
@@ -128,7 +131,8 @@ module _ (declared : Declared) (caller : Flags) (max : ℕ) (R : ExprJudgement) 
   -- what a node comes to
   abbrev pub ExprNodeTold : ExprTree → Option ℕ → State → Outcome TypedExpr → Type 0
   ExprNodeTold e want s o = Told max (ExprNode declared caller R e want s)
-      (λ place. IsIllExpr declared caller R place e want s ⊎ BelowExpr declared caller R (P place) e want s) (BelowExpr declared caller R L e want s) o
+      (λ place. IsIllExpr declared caller R place e want s ⊎ BelowExpr declared caller R (P place) e want s)
+      (BelowExpr declared caller R L e want s) o
 
   -- a call of a term, by the number of its name
   number_told : (name : Ident) (args : ExprTrees) (at : Pos) (want : Option ℕ) (s : State) → s.nodes ≤ max → (o : Option ℕ)
@@ -137,7 +141,8 @@ module _ (declared : Declared) (caller : Flags) (max : ℕ) (R : ExprJudgement) 
   number_told name args at want s fits None is = record { tells = inl (inl is, refl) }
   number_told name args at want s fits (Some number) is =
       let there = term_there declared name.0 number is in
-      subst (λ z. ExprNodeTold (expr_term name args at) want s (call_term (known_by declared) caller r u at number z (expr_term name args at) args want s))
+      let tree = expr_term name args at in
+      subst (λ z. ExprNodeTold tree want s (call_term (known_by declared) caller r u at number z tree args want s))
       (sym there.1)
       (in_words (called_told name args at want number there.0 s fits) (λ v s' h. (number, there.0, is, there.1, h))
       (λ place h. elim h [
@@ -194,6 +199,7 @@ module _ (declared : Declared) (caller : Flags) (max : ℕ) (R : ExprJudgement) 
       (λ k. (ty, is, inr (v, m, h, k)))
       (λ bs s' k fits_last. record { tells = ((ty, v, m, bs, is, h, k, refl), fits_last) }))
 
+  -- the variables of a `let`
   pub binds_told : (defs : LetTrees) (s : State) → s.nodes ≤ max → BindsTold defs s
   binds_told no_lets s fits = record { tells = ((refl, refl), fits) }
   binds_told (more_lets var of_type val pos others) s fits =

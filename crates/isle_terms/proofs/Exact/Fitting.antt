@@ -30,11 +30,13 @@ IsFit declared is_usable inner outer (Some fit) =
     (name : List ℕ) × (term_named declared name ≡ Some fit.0) × (slice_get declared.terms fit.0 ≡ Some fit.1)
     × Converts declared inner outer name fit.1 × (is_usable fit.1.form ≡ true)
 
+-- arguments that pass the test are one, of the type
 just_one : (args : List ℕ) (ty : ℕ) → takes_just args ty ≡ true → args ≡ ty ∷ []
 just_one [] ty is = absurd (false≢true is)
 just_one (first ∷ []) ty is = ap (λ z. z ∷ []) (eqb-true first ty is)
 just_one (first ∷ (second ∷ others)) ty is = absurd (false≢true is)
 
+-- one argument of the type passes
 takes_it : (ty : ℕ) → takes_just (ty ∷ []) ty ≡ true
 takes_it ty = eq-eqb ty ty refl
 
@@ -45,6 +47,7 @@ module _ (declared : Declared) (is_usable : TermForm → Bool) (inner outer : �
   same_term name other number term is c =
       ap (signature_of declared) (same_Some _ _ (sym is ∙ c.converter)) ∙ c.known
 
+  -- by the term of a number
   fit_term : (name : List ℕ) (number : ℕ) → converter_in declared.conversions inner outer ≡ Some name → term_named declared name ≡ Some number
       → (o : Option Signature) → slice_get declared.terms number ≡ o
       → IsFit declared is_usable inner outer (fitting_term is_usable inner outer number o)
@@ -73,12 +76,14 @@ module _ (declared : Declared) (is_usable : TermForm → Bool) (inner outer : �
             false≢true (sym test ∙ and_from _ _ takes (and_from _ _ gives used))
       ] refl
 
+  -- by the number of a name
   fit_number : (name : List ℕ) → converter_in declared.conversions inner outer ≡ Some name → (o : Option ℕ) → term_named declared name ≡ o
       → IsFit declared is_usable inner outer (fitting_number (known_by declared) is_usable inner outer o)
   fit_number name is None named = λ other term c usable.
       none-some term (sym (ap (option_and_then (slice_get declared.terms)) named) ∙ same_term name other 0 term is c)
   fit_number name is (Some number) named = fit_term name number is named (slice_get declared.terms number) refl
 
+  -- by the name of a converter
   fit_name : (o : Option (List ℕ)) → converter_in declared.conversions inner outer ≡ o
       → IsFit declared is_usable inner outer (fitting_number (known_by declared) is_usable inner outer (option_and_then (term_named declared) o))
   fit_name None is = λ name term c usable. none-some name (sym is ∙ c.converter)

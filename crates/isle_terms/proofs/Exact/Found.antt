@@ -46,7 +46,8 @@ pub expr_found : (declared : Declared) (caller : Flags) (max levels : ℕ) (e : 
     → Builds declared caller levels e want s v s' → s'.nodes ≤ max → read_expr (known_by declared) caller max levels e want s ≡ stands_for v s'
 expr_found declared caller max levels e want s v s' h fits =
     let grown = (exprs_grow declared caller levels).grows e want s v s' h in
-    told_value max _ _ _ (read_expr (known_by declared) caller max levels e want s) v s' (expr_tells declared caller max levels e want s (omega arith))
+    told_value max _ _ _ (read_expr (known_by declared) caller max levels e want s) v s'
+    (expr_tells declared caller max levels e want s (omega arith))
     (λ w m k. (exprs_agree declared caller levels levels).same e want s w v m s' k h)
     (λ at ill. (ill_exprs declared caller at levels levels).refuted e want s v s' ill h tt)
     (λ large. (large_exprs declared caller max levels levels (omega arith)).refuted e want s v s' large h fits)
@@ -60,6 +61,7 @@ arity_kept declared levels max term flags args tree typed root k =
       | inr other ↦ absurd (ill_rule declared levels levels max tree _ typed (other_number_of_arguments term flags args root other) k)
     ]
 
+-- what isn't something else than none is none
 no_priority : (o : Option ℤ) → ((o ≡ None → ⊥) → ⊥) → o ≡ None
 no_priority None h = refl
 no_priority (Some prio) h = absurd (h (λ e. none-some prio (sym e)))

@@ -53,6 +53,7 @@ defined_same names (type ∷ types) [] place val big shown = absurd shown
 defined_same names (type ∷ types) (first ∷ made) zero val big shown = shape_has_number names type type.shape first val big shown.0.shape
 defined_same names (type ∷ types) (first ∷ made) (suc place) val big shown = defined_same names types made place val big shown.1
 
+-- a builtin type has the same literals
 builtin_same : (builtin : BuiltinType) (otherwise : Bool) (val : ℤ) (big : Bool)
     → known_has_number (Some (Builtin builtin)) val big ≡ builtin_has_number (Some builtin) otherwise val big
 builtin_same BoolType otherwise val big = refl

@@ -11,20 +11,24 @@ use Rattle.isle_types.specs.Environment.{Environment, NamedType, TypeShape, prim
 use Rattle.isle_terms.specs.Elaboration.{IsLiteralOf, of_integer, of_primitive}
 use Rattle.isle_terms.specs.KnownBy.{is_at_most, int_has_number, is_primitive_shape, defined_has_number, builtin_has_number, type_has_number}
 
+-- a test that is passed, as a type
 passed : (b : Bool) → b ≡ true → T b
 passed true is = tt
 passed false is = absurd (false≢true is)
 
+-- and back
 is_passed : (b : Bool) → T b → b ≡ true
 is_passed true t = refl
 is_passed false t = absurd t
 
+-- the test of the order is exact
 at_most : (a b : ℤ) → is_at_most a b ≡ true → a ≤ℤ b
 at_most (pos a) (pos b) is = record { le = passed _ is }
 at_most (pos a) (negsuc b) is = record { le = passed _ is }
 at_most (negsuc a) (pos b) is = record { le = passed _ is }
 at_most (negsuc a) (negsuc b) is = record { le = passed _ is }
 
+-- and back
 is_at_most_where : (a b : ℤ) → a ≤ℤ b → is_at_most a b ≡ true
 is_at_most_where (pos a) (pos b) h = is_passed _ h.le
 is_at_most_where (pos a) (negsuc b) h = is_passed _ h.le
@@ -40,6 +44,7 @@ int_number_there int val big is =
 pub int_number_found : (int : IntType) (val : ℤ) (big : Bool) → HasNumber int (spelt_number val big) → int_has_number int val big ≡ true
 int_number_found int val big h = and_from _ _ (is_at_most_where _ _ h.low) (is_at_most_where _ _ h.high)
 
+-- a shape that passes the test is the host's
 primitive_shape : (shape : TypeShape) → is_primitive_shape shape ≡ true → (host : List ℕ) × (shape ≡ primitive host)
 primitive_shape (primitive host) is = (host, refl)
 primitive_shape (enum variants) is = absurd (false≢true is)
@@ -58,6 +63,7 @@ past_builtins ty none =
     let past : 13 ≤ ty = elim cases.1 [ inl found ↦ absurd (none-some found.0 (sym none ∙ found.2)) | inr far ↦ far.0 ] in
     omega arith
 
+-- what passes the test has the literal, by what stands among the builtin types
 builtin_there : (types : Environment) (ty : ℕ) (val : ℤ) (big : Bool) (option : Option BuiltinType) → slice_get builtin_types ty ≡ option
     → builtin_has_number option (defined_has_number (slice_get types.types (ty - length builtin_names))) val big ≡ true
     → IsLiteralOf types ty val big

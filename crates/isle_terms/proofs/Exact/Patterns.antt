@@ -41,6 +41,7 @@ one_each : (ty : ℕ) (ts : PatternTrees) → pattern_count ts ≡ length (each_
 one_each ty no_patterns = refl
 one_each ty (more_patterns t ts) = let others = one_each ty ts in omega arith
 
+-- what is given is something
 some_is : {A : Type 0} (o : Option A) (x : A) → o ≡ Some x → IsSome o
 some_is o x is = ap is_some is
 
@@ -54,9 +55,11 @@ module _ (declared : Declared) (max : ℕ) (R : PatternJudgement) (P : Pos → P
   each_pattern_told at (more_patterns t ts) [] s fits same = absurd (omega arith)
   each_pattern_told at (more_patterns t ts) (ty ∷ tys) s fits same =
       and_then_told _ (told.reads t ty s fits) (λ place h. inl h) (λ h. inl h)
-      (λ v m h fits_then. and_then_told _ (each_pattern_told at ts tys m fits_then (omega arith)) (λ place k. inr (v, m, h, k)) (λ k. inr (v, m, h, k))
+      (λ v m h fits_then.
+      and_then_told _ (each_pattern_told at ts tys m fits_then (omega arith)) (λ place k. inr (v, m, h, k)) (λ k. inr (v, m, h, k))
       (λ vs s' k fits_last. record { tells = ((v, m, vs, h, k, refl), fits_last) }))
 
+  -- a template's body, unless an argument is lacking
   put_in_told : (at : Pos) (o : Option PatternTree) (ty : ℕ) (s : State) → s.nodes ≤ max
       → Told max (λ v s'. (body : PatternTree) × (o ≡ Some body) × R body ty s v s')
       (λ place. ((o ≡ None) × (place ≡ at)) ⊎ ((body : PatternTree) × (o ≡ Some body) × P place body ty s))

@@ -65,6 +65,7 @@ module _ (At : Pos → Type 0) where
   expr_pos_at (expr_prim name pos) h = h.1
   expr_pos_at (expr_let defs body pos) h = h.2
 
+  -- those of a list's patterns
   listed_at : (ts : PatternTrees) → PatternTreesAt At ts → (place : ℕ) (t : PatternTree) → slice_get (listed ts) place ≡ Some t → PatternTreeAt At t
   listed_at no_patterns h place t is = absurd (none-some t is)
   listed_at (more_patterns first others) h zero t is = subst (PatternTreeAt At) (same_Some first t is) h.0
@@ -72,31 +73,37 @@ module _ (At : Pos → Type 0) where
 
   -- a body that is put in is made of its template and its arguments
   module _ (given : List PatternTree) (each : (place : ℕ) (t : PatternTree) → slice_get given place ≡ Some t → PatternTreeAt At t) where
-    -- what is made of an outcome that stands there
+    -- each position of what is filled is such a one
     abbrev FilledAt : Option PatternTree → Type 0
     FilledAt o = (body : PatternTree) → o ≡ Some body → PatternTreeAt At body
 
+    -- the same of several
     abbrev AllFilledAt : Option PatternTrees → Type 0
     AllFilledAt o = (bodies : PatternTrees) → o ≡ Some bodies → PatternTreesAt At bodies
 
+    -- a node that stays
     as_it_is : (t : PatternTree) → PatternTreeAt At t → FilledAt (Some t)
     as_it_is t h body is = subst (PatternTreeAt At) (same_Some t body is) h
 
+    -- a node around one that is filled
     around : (o : Option PatternTree) (f : PatternTree → PatternTree) → FilledAt o → ((t : PatternTree) → PatternTreeAt At t → PatternTreeAt At (f t))
         → FilledAt (option_map f o)
     around None f h put body is = absurd (none-some body is)
     around (Some t) f h put body is = subst (PatternTreeAt At) (same_Some (f t) body is) (put t (h t refl))
 
+    -- a node around several that are filled
     around_all : (o : Option PatternTrees) (f : PatternTrees → PatternTree) → AllFilledAt o
         → ((ts : PatternTrees) → PatternTreesAt At ts → PatternTreeAt At (f ts)) → FilledAt (option_map f o)
     around_all None f h put body is = absurd (none-some body is)
     around_all (Some ts) f h put body is = subst (PatternTreeAt At) (same_Some (f ts) body is) (put ts (h ts refl))
 
+    -- one more that is filled
     one_more : (o : Option PatternTree) (os : Option PatternTrees) → FilledAt o → AllFilledAt os → AllFilledAt (more_given o os)
     one_more None os h k bodies is = absurd (none-some bodies is)
     one_more (Some t) None h k bodies is = absurd (none-some bodies is)
     one_more (Some t) (Some ts) h k bodies is = subst (PatternTreesAt At) (same_Some (more_patterns t ts) bodies is) (h t refl, k ts refl)
 
+    -- a filled template
     mutual
       filled_at : (template : PatternTree) → PatternTreeAt At template → FilledAt (filled given template)
       filled_at (pattern_var name pos) h = as_it_is (pattern_var name pos) h
@@ -120,23 +127,27 @@ module _ (At : Pos → Type 0) where
   -- an ill-typed node below a pattern stands at a position of its trees
   module _ (declared : Declared) (templates : TemplatesAt declared) (at : Pos) (R : PatternJudgement) (P : PatternFact)
       (there : (t : PatternTree) (ty : ℕ) (s : State) → PatternTreeAt At t → P t ty s → At at) where
+    -- in one of some patterns
     pub some_pattern_at : (ts : PatternTrees) (tys : List ℕ) (s : State) → PatternTreesAt At ts → SomePattern R P ts tys s → At at
     some_pattern_at no_patterns tys s all h = absurd h
     some_pattern_at (more_patterns t ts) [] s all h = absurd h
     some_pattern_at (more_patterns t ts) (ty ∷ tys) s all (inl h) = there t ty s all.0 h
     some_pattern_at (more_patterns t ts) (ty ∷ tys) s all (inr h) = some_pattern_at ts tys h.1 all.1 h.3
 
+    -- in a part of a use
     taken_at : (term : Signature) (template : Option PatternTree) (args : PatternTrees) (ty : ℕ) (s : State)
         → ((t : PatternTree) → template ≡ Some t → PatternTreeAt At t) → PatternTreesAt At args → TakenApart R P term template args ty s → At at
     taken_at term None args ty s made all h = some_pattern_at args term.args s all h
     taken_at term (Some template) args ty s made all h =
         there h.0 ty s (filled_at (listed args) (listed_at args all) template (made template refl) h.0 h.1) h.2
 
+    -- the template that is put in is the term's
     put_in_at : (expands : Bool) (o : Option PatternTree) → ((t : PatternTree) → o ≡ Some t → PatternTreeAt At t) → (t : PatternTree)
         → cond expands o None ≡ Some t → PatternTreeAt At t
     put_in_at true o made t is = made t is
     put_in_at false o made t is = absurd (none-some t is)
 
+    -- in what stands one level below
     below_pattern_at : (t : PatternTree) (ty : ℕ) (s : State) → PatternTreeAt At t → BelowPattern declared R P t ty s → At at
     below_pattern_at (pattern_var name pos) ty s all h = absurd h
     below_pattern_at (pattern_bind name below pos) ty s all h = there below ty s all.1 h
@@ -163,6 +174,7 @@ module _ (At : Pos → Type 0) where
       below_pattern_at declared templates at (Elaborates declared levels) (ReachesPattern declared (IllPatternAt declared at) levels)
       (λ t ty s. ill_pattern_at declared templates at levels t ty s) t ty (counted s) all h
 
+  -- the type of a variable is unknown where it stands
   unknown_type_at : (types : Environment) (R : ExprJudgement) (at : Pos) (defs : LetTrees) (s : State) → LetTreesAt At defs
       → HasUnknownType types R at defs s → At at
   unknown_type_at types R at no_lets s all h = absurd h
@@ -183,12 +195,14 @@ module _ (At : Pos → Type 0) where
   -- an ill-typed node below an expression stands at a position of its trees
   module _ (declared : Declared) (caller : Flags) (at : Pos) (R : ExprJudgement) (P : ExprFact)
       (there : (e : ExprTree) (want : Option ℕ) (s : State) → ExprTreeAt At e → P e want s → At at) where
+    -- in one of some expressions
     some_expr_at : (ts : ExprTrees) (tys : List ℕ) (s : State) → ExprTreesAt At ts → SomeExpr R P ts tys s → At at
     some_expr_at no_exprs tys s all h = absurd h
     some_expr_at (more_exprs t ts) [] s all h = absurd h
     some_expr_at (more_exprs t ts) (ty ∷ tys) s all (inl h) = there t (Some ty) s all.0 h
     some_expr_at (more_exprs t ts) (ty ∷ tys) s all (inr h) = some_expr_at ts tys h.1 all.1 h.3
 
+    -- in one of a `let`'s values
     some_value_at : (types : Environment) (defs : LetTrees) (s : State) → LetTreesAt At defs → SomeValue types R P defs s → At at
     some_value_at types no_lets s all h = absurd h
     some_value_at types (more_lets var of_type val pos others) s all h = elim h.2 [
@@ -196,6 +210,7 @@ module _ (At : Pos → Type 0) where
       | inr later ↦ some_value_at types others (bound later.1 var.0 h.0) all.4 later.3
     ]
 
+    -- in what stands one level below
     below_expr_at : (e : ExprTree) (want : Option ℕ) (s : State) → ExprTreeAt At e → BelowExpr declared caller R P e want s → At at
     below_expr_at (expr_int val big pos) want s all h = absurd h
     below_expr_at (expr_bool val pos) want s all h = absurd h
@@ -234,10 +249,12 @@ module _ (At : Pos → Type 0) where
         ]
       ]
 
+  -- the positions in a rule's arguments
   args_at : (declared : Declared) (tree : Rule) (term : Signature) (flags : Flags) (args : PatternTrees) → HasRoot declared tree term flags args
       → RuleAt At tree → PatternTreesAt At args
   args_at declared tree term flags args root all = let parts = subst (PatternTreeAt At) root.shape all.pattern in parts.1
 
+  -- where a rule's node is ill typed
   ill_node_at : (declared : Declared) → TemplatesAt declared → (levels : ℕ) (tree : Rule) (at : Pos) → RuleAt At tree
       → ReachesInRule declared (IllPatternAt declared at) (IllExprAt declared at) levels tree → At at
   ill_node_at declared templates levels tree at all (in_argument term flags args root h) =
