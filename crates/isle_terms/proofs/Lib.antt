@@ -16,6 +16,8 @@ pub mod Impossible
 pub mod RuleLaws
 -- An ill-typed rule stands for nothing; a rule that is too large stands for nothing within the sizes.
 pub mod RuleFaults
+-- Reading comes to exactly what the judgement and the faults say.
+pub mod Exact
 -- Definitions make one environment of terms at most.
 pub mod OneTermEnvironment
 -- Definitions that break a rule of terms, extractors, constructors or converters make no environment.
@@ -24,5 +26,3 @@ pub mod BrokenTerms
 pub mod BrokenConstructors
 -- Definitions that break a rule of typing make no environment; those that exceed a size make none within the sizes.
 pub mod BrokenTyping
--- Reading comes to exactly what the judgement and the faults say.
-pub mod Exact
