@@ -16,6 +16,8 @@ pub mod Impossible
 pub mod RuleLaws
 -- An ill-typed rule stands for nothing; a rule that is too large stands for nothing within the sizes.
 pub mod RuleFaults
+-- Reading comes to exactly what the judgement and the faults say.
+pub mod Exact
 -- Definitions make one environment of terms at most.
 pub mod OneTermEnvironment
 -- Definitions that break a rule of terms, extractors, constructors or converters make no environment.

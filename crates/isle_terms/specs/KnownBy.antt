@@ -25,7 +25,7 @@ int_has_number int val big = is_at_most (least_of int) (spelt_number val big) &&
 abbrev pub is_primitive_shape : TypeShape → Bool
 is_primitive_shape (primitive host) = true
 is_primitive_shape (enum variants) = false
-is_primitive_shape (struct fields) = false
+is_primitive_shape (struct _) = false
 
 -- whether a defined type has integers: a primitive has all
 abbrev pub defined_has_number : Option NamedType → Bool
