@@ -26,3 +26,7 @@ pub mod BrokenConstructors
 pub mod BrokenTyping
 -- What gathers the terms of a pattern has all of them.
 pub mod GatheredTerms
+-- Errors that checks add.
+pub mod AddedErrors
+-- The terms that bodies of extractors name.
+pub mod ExtractorBodies

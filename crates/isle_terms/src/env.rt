@@ -4,6 +4,7 @@ ghost use Rattle.isle_types.specs.TypeEnvs.{sym_named};
 ghost use Rattle.isle_terms.specs.TermTables.{term_with, rule_with, converter_with};
 ghost use Rattle.isle_terms.specs.Needs.{needed_of};
 
+mod bodies;
 mod named;
 mod report;
 
