@@ -36,3 +36,7 @@ pub mod GatheredTerms
 pub mod Checking
 -- Names are put into a table, and those that occur already are reported.
 pub mod Naming
+-- Errors that checks add.
+pub mod AddedErrors
+-- The terms that bodies of extractors name.
+pub mod ExtractorBodies

@@ -7,6 +7,7 @@ ghost use Rattle.isle_terms.specs.Needs.{needed_of};
 mod checks;
 mod definitions;
 mod name_table;
+mod bodies;
 mod named;
 mod naming;
 mod report;

@@ -1,0 +1,18 @@
+use Rattle.std.proofs.Common.{◌≡◌, ℕ, List, true, take}
+use Rattle.std.specs.Prelude.{All}
+use Rattle.std.specs.Str.{bytes_eq}
+use Rattle.isle_syntax.specs.declared.ast.Ident.{Ident}
+use Rattle.isle_syntax.specs.Trees.PatternShape.{pattern_of}
+use Rattle.isle_types.specs.StableMaps.{has}
+use Rattle.isle_terms.specs.Definitions.{is_among}
+use Rattle.isle_terms.specs.ExtractorChecks.{Adds, IsUnknownAt, named_in}
+use Rattle.isle_terms.proofs.AddedErrors.{SomeBreaks}
+use Rattle.isle_terms.proofs.env.bodies.check_body.Given as goal
+
+abbrev pub invariant-loop-term : goal.invariant-loop-term
+invariant-loop-term l = record {
+  terms : l.term-items ≡ named_in (pattern_of l.body);
+  checked : (names : List (List ℕ)) → ((name : List ℕ) → has bytes_eq l.known name ≡ is_among name names)
+      → Adds (SomeBreaks (IsUnknownAt names) l.term-items) (All (λ (term : Ident). is_among term.0 names ≡ true) (take l.term-index l.term-items))
+      l.fn.errors.items l.errors.items;
+}
