@@ -40,3 +40,5 @@ pub mod Naming
 pub mod AddedErrors
 -- The terms that bodies of extractors name.
 pub mod ExtractorBodies
+-- Where one rule is broken, one of more rules is.
+pub mod WiderFaults
