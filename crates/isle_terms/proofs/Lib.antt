@@ -40,3 +40,5 @@ pub mod Naming
 pub mod AddedErrors
 -- The terms that bodies of extractors name.
 pub mod ExtractorBodies
+-- What a search for a name finds, by the name's place.
+pub mod NamedPlaces
