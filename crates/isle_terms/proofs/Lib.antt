@@ -42,3 +42,5 @@ pub mod AddedErrors
 pub mod ExtractorBodies
 -- Where one rule is broken, one of more rules is.
 pub mod WiderFaults
+-- What a search for a name finds, by the name's place.
+pub mod NamedPlaces
