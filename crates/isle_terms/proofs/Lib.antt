@@ -44,3 +44,5 @@ pub mod ExtractorBodies
 pub mod WiderFaults
 -- What a search for a name finds, by the name's place.
 pub mod NamedPlaces
+-- How a declared term makes its value and takes one apart, by the places of its name.
+pub mod DeclaredForms

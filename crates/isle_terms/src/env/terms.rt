@@ -60,9 +60,10 @@ impl Forms<'_> {
         let Some(place) = self.constructor_table.place(name) else {
             return Ok(None);
         };
-        let Some(host) = self.constructors.get(place) else {
+        if place >= self.constructors.len() {
             return Ok(None);
-        };
+        }
+        let host = self.constructors[place];
         Ok(Some(ConstructorKind::ExternalConstructor {
             name: tyenv.intern_mut(host.function)?,
         }))
@@ -84,11 +85,14 @@ impl Forms<'_> {
             return Ok(None);
         };
         if place < self.extractors.len() {
-            return Ok(Some(internal_extractor(self.alloc, self.extractors[place])?));
+            let extractor = self.extractors[place];
+            return Ok(Some(internal_extractor(self.alloc, extractor)?));
         }
-        let Some(host) = self.host_extractors.get(place - self.extractors.len()) else {
+        let place = place - self.extractors.len();
+        if place >= self.host_extractors.len() {
             return Ok(None);
-        };
+        }
+        let host = self.host_extractors[place];
         Ok(Some(ExtractorKind::ExternalExtractor {
             name: tyenv.intern_mut(host.function)?,
             infallible: host.infallible,

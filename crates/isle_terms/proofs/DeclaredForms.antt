@@ -1,0 +1,63 @@
+-- How a declared term makes its value and takes one apart, by the places of its name.
+use Rattle.std.proofs.Common.{◌≡◌, ℕ, zero, suc, ◌-◌, ◌<◌, ◌≤◌, List, [], ◌∷◌, map, length, cond, true, false, arith, Option, Some, None, is_some, refl, ap, sym}
+use Rattle.std.proofs.Common.{subst, ◌∙◌, slice_get, get_or}
+use Rattle.std.proofs.lemmas.Option.{slice_get_read}
+use Rattle.std.specs.Option.{option_map, option_and_then}
+use Rattle.isle_syntax.specs.declared.ast.Ident.{Ident}
+use Rattle.isle_syntax.specs.declared.ast.Def.{Def}
+use Rattle.isle_syntax.specs.declared.ast.Extractor.{Extractor as ExtractorTree}
+use Rattle.isle_types.specs.Names.{position_of}
+use Rattle.isle_terms.specs.declared.env.definitions.HostConstructor.{HostConstructor}
+use Rattle.isle_terms.specs.Signatures.{by_rules, external_constructor}
+use Rattle.isle_terms.specs.Definitions.{rules_in, roots_of, external_constructors, external_constructor_names, constructor_for}
+use Rattle.isle_terms.specs.DefinitionLists.{host_constructor_shown}
+use Rattle.isle_terms.proofs.NamedPlaces.{constructor_place}
+
+-- the image of the item at a place
+pub mapped_get : {X Y : Type 0} (f : X → Y) (xs : List X) (place : ℕ) → slice_get (map f xs) place ≡ option_map f (slice_get xs place)
+mapped_get f [] place = refl
+mapped_get f (x ∷ xs) zero = refl
+mapped_get f (x ∷ xs) (suc place) = mapped_get f xs place
+
+-- a term with rules
+pub by_rules_form : (defs : List Def) (name : List ℕ) → is_some (position_of (roots_of (rules_in defs)) name) ≡ true
+    → constructor_for defs name ≡ Some by_rules
+by_rules_form defs name ruled = constructor_place defs name ∙ ap (λ b. cond b (Some by_rules) (option_map external_constructor
+    (option_map (λ (pair : Ident × Ident). pair.1.0)
+    (option_and_then (slice_get (external_constructors defs)) (position_of (external_constructor_names defs) name))))) ruled
+
+-- a term without rules, by the place of its name among those of the host's constructors
+pub hosted_form : (defs : List Def) (name : List ℕ) (hosts : List HostConstructor) (o : Option ℕ)
+    → is_some (position_of (roots_of (rules_in defs)) name) ≡ false → map host_constructor_shown hosts ≡ external_constructors defs
+    → position_of (external_constructor_names defs) name ≡ o
+    → constructor_for defs name ≡ option_map (λ (host : HostConstructor). external_constructor host.function.now.0) (option_and_then (slice_get hosts) o)
+hosted_form defs name hosts o unruled all at =
+    constructor_place defs name ∙ ap (λ b. cond b (Some by_rules) (option_map external_constructor
+    (option_map (λ (pair : Ident × Ident). pair.1.0)
+    (option_and_then (slice_get (external_constructors defs)) (position_of (external_constructor_names defs) name))))) unruled
+    ∙ ap (λ p. option_map external_constructor (option_map (λ (pair : Ident × Ident). pair.1.0) (option_and_then (slice_get (external_constructors defs)) p))) at
+    ∙ ap (λ pairs. option_map external_constructor (option_map (λ (pair : Ident × Ident). pair.1.0) (option_and_then (slice_get pairs) o))) (sym all)
+    ∙ by_place o
+  where
+    by_get : (h : Option HostConstructor) → option_map external_constructor (option_map (λ (pair : Ident × Ident). pair.1.0)
+        (option_map host_constructor_shown h)) ≡ option_map (λ (host : HostConstructor). external_constructor host.function.now.0) h
+    by_get None = refl
+    by_get (Some host) = refl
+
+    by_place : (p : Option ℕ) → option_map external_constructor (option_map (λ (pair : Ident × Ident). pair.1.0)
+        (option_and_then (slice_get (map host_constructor_shown hosts)) p))
+        ≡ option_map (λ (host : HostConstructor). external_constructor host.function.now.0) (option_and_then (slice_get hosts) p)
+    by_place None = refl
+    by_place (Some place) =
+        ap (λ h. option_map external_constructor (option_map (λ (pair : Ident × Ident). pair.1.0) h)) (mapped_get host_constructor_shown hosts place)
+        ∙ by_get (slice_get hosts place)
+
+-- the item that a loop or a test reads is that at its place
+pub read_at : {X : Type 0} (xs : List X) (place : ℕ) (x : X) → place < length xs → x ≡ get_or xs place x → slice_get xs place ≡ Some x
+read_at xs place x low is = slice_get_read xs (length xs) place x refl low is
+
+-- there is no item past the end
+pub none_past : {X : Type 0} (xs : List X) (place : ℕ) → length xs ≤ place → slice_get xs place ≡ None
+none_past [] place past = refl
+none_past (x ∷ xs) zero past = absurd (omega (arith, past))
+none_past (x ∷ xs) (suc place) past = none_past xs place (omega (arith, past))
