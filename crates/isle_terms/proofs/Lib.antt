@@ -24,3 +24,11 @@ pub mod BrokenTerms
 pub mod BrokenConstructors
 -- Definitions that break a rule of typing make no environment; those that exceed a size make none within the sizes.
 pub mod BrokenTyping
+-- What a typed tree is at each kind of node.
+pub mod VisitTrees
+-- Runs of visits of patterns and expressions, one after another.
+pub mod VisitRuns
+-- Runs of visits of the parts of a rule.
+pub mod VisitRuleRuns
+-- Variables copied to another map, entry by entry.
+pub mod CopiedScopes

@@ -7,7 +7,10 @@ mod rules;
 mod terms;
 mod translate;
 mod unsupported;
+mod visit;
 
 pub use env::TermEnv;
 pub use rules::{BoundVar, Expr, IfLet, Pattern, Rule};
 pub use terms::{ConstructorKind, ExtractorKind, Term, TermFlags, TermKind};
+pub use visit::{ExprPart, PatternPart, VisitFault, VisitedExpr};
+pub use visit::{ExprVisitor, PatternVisitor, RuleVisitor};
