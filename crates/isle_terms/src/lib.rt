@@ -4,6 +4,7 @@
 mod env;
 pub mod laws;
 mod rules;
+mod signatures;
 mod terms;
 mod translate;
 mod unsupported;
@@ -11,6 +12,7 @@ mod visit;
 
 pub use env::TermEnv;
 pub use rules::{BoundVar, Expr, IfLet, Pattern, Rule};
+pub use signatures::{ExternalSig, ReturnKind};
 pub use terms::{ConstructorKind, ExtractorKind, Term, TermFlags, TermKind};
 pub use visit::{ExprPart, PatternPart, VisitFault, VisitedExpr};
 pub use visit::{ExprVisitor, PatternVisitor, RuleVisitor};
