@@ -2,6 +2,7 @@
 use Rattle.std.specs.Prelude.{Bool, true, false, is_some, Option, Some, None}
 use Rattle.isle_terms.specs.declared.terms.ConstructorKind.{ConstructorKind}
 use Rattle.isle_terms.specs.declared.terms.ConstructorKind.TheVariants.{InternalConstructor, ExternalConstructor}
+use Rattle.isle_terms.specs.declared.terms.TermFlags.{TermFlags}
 use Rattle.isle_terms.specs.declared.terms.TermKind.{TermKind}
 use Rattle.isle_terms.specs.declared.terms.TermKind.TheVariants.{EnumVariant, Struct, Decl}
 
@@ -40,3 +41,7 @@ abbrev pub takes_apart_kind : TermKind → Bool
 takes_apart_kind (EnumVariant variant) = true
 takes_apart_kind Struct = true
 takes_apart_kind (Decl flags constructor_kind extractor_kind) = is_some extractor_kind
+
+-- the flags of what calls in an if-let of a term of these flags
+abbrev pub flags_on_lhs : TermFlags → TermFlags
+flags_on_lhs flags = record { pure = true; multi = flags.multi; partial = true; rec = flags.rec }

@@ -5,9 +5,14 @@ mod env;
 mod first;
 pub mod laws;
 mod rules;
+mod signatures;
 mod terms;
 mod translate;
+mod visit;
 
 pub use first::env::TermEnv;
 pub use rules::{BoundVar, Expr, IfLet, Pattern, Rule};
+pub use signatures::{ExternalSig, ReturnKind};
 pub use terms::{ConstructorKind, ExtractorKind, Term, TermFlags, TermKind};
+pub use visit::{ExprPart, PatternPart, VisitFault, VisitedExpr};
+pub use visit::{ExprVisitor, PatternVisitor, RuleVisitor};

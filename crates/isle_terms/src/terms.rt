@@ -1,5 +1,5 @@
 ghost use Rattle.std.specs.Prelude.{◌≡◌};
-ghost use Rattle.isle_terms.specs.Terms.{is_variant_kind, is_partial_kind, has_rules_kind, makes_kind, takes_apart_kind};
+ghost use Rattle.isle_terms.specs.Terms.{is_variant_kind, is_partial_kind, has_rules_kind, makes_kind, takes_apart_kind, flags_on_lhs};
 
 use isle_syntax::Seq;
 use isle_syntax::ast::Pattern;
@@ -24,6 +24,20 @@ pub struct TermFlags {
     pub multi: bool,
     pub partial: bool,
     pub rec: bool,
+}
+
+impl TermFlags {
+    /// The flags of what calls in an if-let of a term of these flags.
+    pub fn on_lhs(self) -> TermFlags
+        ensures { result ≡ flags_on_lhs self }
+    {
+        TermFlags {
+            pure: true,
+            multi: self.multi,
+            partial: true,
+            rec: self.rec,
+        }
+    }
 }
 
 /// What a term is.

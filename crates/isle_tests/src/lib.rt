@@ -9,4 +9,6 @@ mod syntax;
 #[cfg(test)]
 mod tables;
 #[cfg(test)]
+mod terms;
+#[cfg(test)]
 mod types;

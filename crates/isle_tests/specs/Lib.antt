@@ -1,0 +1,2 @@
+-- What a recorder of calls promises.
+pub mod Recorders

@@ -1,0 +1,169 @@
+//! Visits of a rule: each call once, in order, and none past a fault.
+use super::recorder::Recorder;
+use isle_syntax::lexer::{Lexer, Pos};
+use isle_syntax::parser::parse;
+use isle_syntax::{Boxed, Refusal, Seq};
+use isle_terms::{BoundVar, Expr, IfLet, Pattern, Rule, TermEnv, VisitFault};
+use isle_types::{RuleId, Sym, TermId, TypeEnv, TypeId, VarId};
+use std::alloc::{AllocError, Global};
+use std::test::Fail;
+
+// The term `f` has the number 0, and `A.V` the number 1.
+const TERMS: &str = "(type A (enum (V (a u8) (b u8)))) (decl f (A bool) A) (rule (f x y) x)";
+
+const BOOL: TypeId = TypeId(0);
+
+const U8: TypeId = TypeId(1);
+
+const A: TypeId = TypeId(13);
+
+const F: TermId = TermId(0);
+
+const V: TermId = TermId(1);
+
+const X: VarId = VarId(0);
+
+const Y: VarId = VarId(1);
+
+const Z: VarId = VarId(2);
+
+const W: VarId = VarId(3);
+
+fn termenv(alloc: Global) -> Result<TermEnv, AllocError> {
+    let Ok(defs) = parse(Lexer::new(alloc, 0, TERMS)) else {
+        return Err(AllocError);
+    };
+    let Ok(mut tyenv) = TypeEnv::from_ast(alloc, defs.as_slice()) else {
+        return Err(AllocError);
+    };
+    match TermEnv::from_ast(alloc, &mut tyenv, defs.as_slice()) {
+        Ok(termenv) => Ok(termenv),
+        Err(_refusal) => Err(AllocError),
+    }
+}
+
+fn bind(alloc: Global, ty: TypeId, var: VarId, sub: Pattern) -> Result<Pattern, AllocError> {
+    Ok(Pattern::BindPattern(ty, var, Boxed::new(alloc, sub)?))
+}
+
+/// `(A.V (x @ 1) y)` and `(and true $C z)`.
+fn args(alloc: Global) -> Result<Seq<Pattern>, AllocError> {
+    let fields = vec![in alloc;
+        bind(alloc, U8, X, Pattern::ConstInt(U8, 1))?,
+        bind(alloc, U8, Y, Pattern::Wildcard(U8))?,
+    ]?;
+    let all = vec![in alloc;
+        Pattern::ConstBool(BOOL, true),
+        Pattern::ConstPrim(BOOL, Sym(7)),
+        bind(alloc, BOOL, Z, Pattern::Wildcard(BOOL))?,
+    ]?;
+    Ok(Seq::new(vec![in alloc;
+        Pattern::Term(A, V, Seq::new(fields)),
+        Pattern::And(BOOL, Seq::new(all)),
+    ]?))
+}
+
+/// `(if-let (A.V _ x) (A.V y 5))`.
+fn iflet(alloc: Global) -> Result<IfLet, AllocError> {
+    let fields = vec![in alloc; Pattern::Wildcard(U8), Pattern::Var(U8, X)]?;
+    let inputs = vec![in alloc; Expr::Var(U8, Y), Expr::ConstInt(U8, 5)]?;
+    Ok(IfLet {
+        lhs: Pattern::Term(A, V, Seq::new(fields)),
+        rhs: Expr::Term(A, V, Seq::new(inputs)),
+    })
+}
+
+/// `(let ((w A (f (A.V y $D) false))) w)`.
+fn right_side(alloc: Global) -> Result<Expr, AllocError> {
+    let fields = vec![in alloc; Expr::Var(U8, Y), Expr::ConstPrim(U8, Sym(9))]?;
+    let inputs = vec![in alloc;
+        Expr::Term(A, V, Seq::new(fields)),
+        Expr::ConstBool(BOOL, false),
+    ]?;
+    let value = Boxed::new(alloc, Expr::Term(A, F, Seq::new(inputs)))?;
+    Ok(Expr::Let {
+        ty: A,
+        bindings: Seq::new(vec![in alloc; (W, A, value)]?),
+        body: Boxed::new(alloc, Expr::Var(A, W))?,
+    })
+}
+
+fn variable(id: VarId, ty: TypeId) -> BoundVar {
+    BoundVar {
+        id,
+        name: Sym(0),
+        ty,
+    }
+}
+
+fn rule(alloc: Global) -> Result<Rule, AllocError> {
+    let vars = vec![in alloc;
+        variable(X, U8),
+        variable(Y, U8),
+        variable(Z, BOOL),
+        variable(W, A),
+    ]?;
+    Ok(Rule {
+        id: RuleId(0),
+        root_term: F,
+        args: args(alloc)?,
+        iflets: Seq::new(vec![in alloc; iflet(alloc)?]?),
+        rhs: right_side(alloc)?,
+        vars: Seq::new(vars),
+        prio: 0,
+        pos: Pos::new(0, 0),
+        name: None,
+    })
+}
+
+const CALLS: &str = "arg 0 13
+pattern
+match_variant 0 13 0 of 1 1
+match_int 1 1 1
+arg 1 0
+pattern
+match_bool 3 0 true
+match_prim 3 0 7
+pattern_as_expr 1
+pattern_as_expr 2
+pattern_as_expr 3
+expr
+const_int 1 5
+create_variant 13 0 of 5:1 7:1
+expr_as_pattern 8
+pattern
+match_variant 9 13 0 of 1 1
+match_equal 11 1 1
+pattern_as_expr 1
+pattern_as_expr 2
+pattern_as_expr 3
+expr
+const_prim 1 9
+create_variant 13 0 of 13:1 15:1
+const_bool 0 false
+construct 13 0 false true false false of 16:13 17:0
+";
+
+#[test]
+fn visits_tell_each_call_up_to_a_fault(rt: HostRuntime) -> Result<(), Fail> {
+    let alloc = rt.alloc();
+    let termenv = termenv(alloc)?;
+    let rule = rule(alloc)?;
+    let mut whole = Recorder::new(alloc, 1000);
+    assert!(rt; matches!(rule.visit(alloc, &mut whole, &termenv), Ok(18)));
+    assert_eq!(rt; whole.calls(), CALLS);
+    let mut told = String::new(alloc);
+    for (n, call) in CALLS.lines().enumerate() {
+        told.push_str(call)?;
+        told.push_str("\n")?;
+        let mut recorder = Recorder::new(alloc, n);
+        assert!(rt;
+            matches!(
+                rule.visit(alloc, &mut recorder, &termenv),
+                Err(VisitFault::Size)
+            )
+        );
+        assert_eq!(rt; recorder.calls(), told.as_str());
+    }
+    Ok(())
+}
