@@ -24,3 +24,5 @@ pub mod BrokenTerms
 pub mod BrokenConstructors
 -- Definitions that break a rule of typing make no environment; those that exceed a size make none within the sizes.
 pub mod BrokenTyping
+-- The innermost name is taken away.
+pub mod Leaving
