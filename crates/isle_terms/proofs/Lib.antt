@@ -26,3 +26,5 @@ pub mod BrokenConstructors
 pub mod BrokenTyping
 -- The innermost name is taken away.
 pub mod Leaving
+-- The symbol of an interned name.
+pub mod SymNames
