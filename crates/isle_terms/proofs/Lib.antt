@@ -28,3 +28,7 @@ pub mod BrokenTyping
 pub mod Leaving
 -- The symbol of an interned name.
 pub mod SymNames
+-- The steps of a reading of expressions.
+pub mod ExprSteps
+-- What a built call shows.
+pub mod BuiltShown
