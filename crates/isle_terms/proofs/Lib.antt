@@ -24,3 +24,5 @@ pub mod BrokenTerms
 pub mod BrokenConstructors
 -- Definitions that break a rule of typing make no environment; those that exceed a size make none within the sizes.
 pub mod BrokenTyping
+-- What a part of a template stands for, and how many arguments a template needs.
+pub mod Frames
