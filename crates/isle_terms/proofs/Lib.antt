@@ -26,3 +26,5 @@ pub mod BrokenConstructors
 pub mod BrokenTyping
 -- What a part of a template stands for, and how many arguments a template needs.
 pub mod Frames
+-- The innermost name is taken away.
+pub mod Leaving

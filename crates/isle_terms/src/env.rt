@@ -28,6 +28,7 @@ impl Model for TermEnv {
     ghost use Rattle.std.specs.Prelude.{◌≡◌, map};
     ghost use Rattle.isle_terms.specs.TermTables.{TermTables};
     ghost use Rattle.isle_terms.specs.Needs.{needed_of};
+
     ghost use Rattle.std.specs.Coded.{codes};
     ghost use Rattle.isle_syntax.specs.Trees.PatternCode.{pattern_tree_code, pattern_trees_code};
     ghost use Rattle.isle_terms.specs.contracts.rules.Pattern as pattern;
