@@ -28,3 +28,5 @@ pub mod BrokenTyping
 pub mod Frames
 -- The innermost name is taken away.
 pub mod Leaving
+-- The symbol of an interned name.
+pub mod SymNames

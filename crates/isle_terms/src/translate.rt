@@ -1,6 +1,7 @@
 //! What the trees of a rule stand for, under the types and terms of all definitions.
 pub mod bindings;
 mod frames;
+pub mod names;
 
 use crate::env::TermEnv;
 use isle_syntax::lexer::Pos;
