@@ -30,3 +30,7 @@ pub mod Frames
 pub mod Leaving
 -- The symbol of an interned name.
 pub mod SymNames
+-- The steps of reading a pattern.
+pub mod PatternSteps
+-- What typed patterns show, form by form.
+pub mod PatternForms
