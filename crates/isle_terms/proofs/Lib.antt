@@ -24,6 +24,8 @@ pub mod BrokenTerms
 pub mod BrokenConstructors
 -- Definitions that break a rule of typing make no environment; those that exceed a size make none within the sizes.
 pub mod BrokenTyping
+-- What a part of a template stands for, and how many arguments a template needs.
+pub mod Frames
 -- The innermost name is taken away.
 pub mod Leaving
 -- The symbol of an interned name.
@@ -32,3 +34,7 @@ pub mod SymNames
 pub mod ExprSteps
 -- What a built call shows.
 pub mod BuiltShown
+-- The steps of reading a pattern.
+pub mod PatternSteps
+-- What typed patterns show, form by form.
+pub mod PatternForms
