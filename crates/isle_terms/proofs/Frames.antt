@@ -1,5 +1,6 @@
 -- What a part of a template stands for, and how many arguments a template needs.
-use Rattle.std.proofs.Common.{◌≡◌, ◌<◌, ◌≤◌, ℕ, suc, zero, List, [], ◌∷◌, map, max, true, Option, Some, None, refl, sym, ap, ◌∙◌, slice_get, arith, false, length, drop, get_or, drop_of_length-le, drop-cons, add-one}
+use Rattle.std.proofs.Common.{◌≡◌, ◌<◌, ◌≤◌, ℕ, suc, zero, List, [], ◌∷◌, map, true, Option, Some, None, refl, sym, ap, ◌∙◌, slice_get, arith}
+use Rattle.std.proofs.Common.{false, length, drop, get_or, drop_of_length-le, drop-cons, add-one}
 use Rattle.std.proofs.Common.{◌++◌, ◌+◌, if◌then◌else◌, Bool}
 use Rattle.std.proofs.lemmas.Option.{slice_get_past, slice_get-get_or}
 use Rattle.std.proofs.Common.{Bor}
@@ -11,18 +12,20 @@ use Rattle.std.specs.Prelude.{unwrap_or}
 use Rattle.std.specs.Option.{option_map}
 use Rattle.isle_syntax.specs.declared.lexer.Pos.{Pos}
 use Rattle.isle_syntax.specs.Trees.PatternTree.{PatternTree, PatternTrees, pattern_var, pattern_bind, pattern_bool, pattern_int, pattern_prim}
-use Rattle.isle_syntax.specs.Trees.PatternTree.{pattern_term, pattern_wildcard, pattern_and, pattern_macro_arg, no_patterns, more_patterns, pattern_list}
-use Rattle.isle_terms.specs.declared.translate.frames.Given.{Given, Given-F, out-Given, roll-Given, map-Given, fold_out-Given, fold-roll-Given}
+use Rattle.isle_syntax.specs.Trees.PatternTree.{pattern_term, pattern_wildcard, pattern_and, pattern_macro_arg, no_patterns, more_patterns}
+use Rattle.isle_syntax.specs.Trees.PatternTree.{pattern_list}
+use Rattle.isle_terms.specs.declared.translate.frames.Given.{Given, out-Given, roll-Given, fold_out-Given, fold-roll-Given}
 use Rattle.isle_syntax.specs.declared.ast.Pattern.{Pattern}
 use Rattle.isle_syntax.specs.Trees.PatternShape.{pattern_of, patterns_of}
 use Rattle.isle_syntax.specs.Trees.Innermost.{innermost}
 use Rattle.isle_syntax.specs.declared.ast.Ident.{Ident}
 use Rattle.isle_syntax.specs.Trees.TreeCalls.{has_macro_arg, has_macro_args}
-use Rattle.isle_syntax.specs.Trees.Templates.{position_of_name, argument_for, is_wildcard, template_tree, template_trees, filled, all_filled, more_given}
+use Rattle.isle_syntax.specs.Trees.Templates.{position_of_name, argument_for, is_wildcard, template_tree, template_trees, filled, all_filled}
+use Rattle.isle_syntax.specs.Trees.Templates.{more_given}
 use Rattle.isle_syntax.proofs.Trees.Templates.{before, neither}
 use Rattle.isle_terms.specs.ShownRules.{greatest}
 use Rattle.isle_terms.specs.Needs.{needed, all_needed}
-use Rattle.isle_terms.specs.Frames.{put, put_all, is_argument, given_step, tree_given, frames_of, template_at}
+use Rattle.isle_terms.specs.Frames.{put, put_all, given_step, tree_given, frames_of, template_at}
 
 -- a part stands for its template with what its own parts stand for
 pub tree_out : (part : Given) → tree_given part ≡ put (map tree_given (out-Given part).given.now) (template_at part)
@@ -58,7 +61,8 @@ argument_tree part found k pos is here =
 -- what is given for an argument stands in fewer templates
 pub argument_frames : (part found : Given) (k : ℕ) → slice_get (out-Given part).given.now k ≡ Some found → frames_of found < frames_of part
 argument_frames part found k here =
-    let below = at_most_greatest (map frames_of (out-Given part).given.now) k (frames_of found) (item_mapped frames_of (out-Given part).given.now k found here) in
+    let below = at_most_greatest (map frames_of (out-Given part).given.now) k (frames_of found)
+    (item_mapped frames_of (out-Given part).given.now k found here) in
     omega (arith, frames_out part)
 
 -- an argument for which nothing is given stands for itself
@@ -84,6 +88,7 @@ innermost_needed (pattern_wildcard _) = refl
 innermost_needed (pattern_and _ _) = refl
 innermost_needed (pattern_macro_arg _ _) = refl
 
+-- a template needs what its innermost one needs
 pub needed_below : (p q : Pattern) → pattern_of q ≡ innermost (pattern_of p) → needed (pattern_of p) ≡ needed (pattern_of q)
 needed_below p q is = innermost_needed (pattern_of p) ∙ ap needed (sym is)
 
@@ -104,12 +109,14 @@ before_none (y ∷ xs) = ap (more_patterns y) (before_none xs)
 -- With `whole` for the trees of a list of parts, the first have made `xs` and those from `i` on are left.
 module _ (given : List PatternTree) (whole : PatternTrees) (ps : List Pattern) (i : ℕ) (xs : List PatternTree)
     (so_far : whole ≡ before xs (put_all given (patterns_of (drop i ps)))) where
+  -- one part more
   pub put_more : (p : Pattern) (t : PatternTree) → i < length ps → p ≡ get_or ps i p → t ≡ put given (pattern_of p)
       → whole ≡ before (xs ++ t ∷ []) (put_all given (patterns_of (drop (i + 1) ps)))
   put_more p t low is made =
       let split = rw (listed ps i p low is, sym made) at so_far in
       split ∙ sym (before_push xs t (put_all given (patterns_of (drop (i + 1) ps))))
 
+  -- no part is left
   pub put_done : length ps ≤ i → pattern_list xs ≡ whole
   put_done low =
       let none = drop_of_length-le ps {i = i} low in
@@ -129,6 +136,7 @@ mutual
   put_nothing (pattern_and below pos) = ap (λ ts. pattern_and ts pos) (put_nothing_in below)
   put_nothing (pattern_macro_arg _ _) = refl
 
+  -- so does each of some patterns
   pub put_nothing_in : (ts : PatternTrees) → put_all [] ts ≡ ts
   put_nothing_in no_patterns = refl
   put_nothing_in (more_patterns first others) = let one = put_nothing first in let rest = put_nothing_in others in cc
@@ -151,6 +159,7 @@ mutual
     there (first ∷ others) zero other enough = refl
     there (first ∷ others) (suc k) other enough = there others k other (omega arith)
 
+  -- so are several templates
   pub all_filled_put : (given : List PatternTree) (ts : PatternTrees) → all_needed ts ≤ length given
       → all_filled given ts ≡ Some (put_all given ts)
   all_filled_put given no_patterns enough = refl
@@ -164,6 +173,7 @@ none_first : (a : Option PatternTree) (b : Option PatternTrees) → a ≡ None �
 none_first None b is = refl
 none_first (Some t) b is = cc
 
+-- nothing comes of two where nothing comes of the others
 none_after : (a : Option PatternTree) (b : Option PatternTrees) → b ≡ None → more_given a b ≡ None
 none_after None b is = refl
 none_after (Some t) None is = refl
@@ -188,6 +198,7 @@ mutual
   filled_nothing given (pattern_and below pos) few = ap (option_map (λ ts. pattern_and ts pos)) (all_filled_nothing given below few)
   filled_nothing given (pattern_macro_arg k pos) few = slice_get_past given k (omega arith)
 
+  -- nor can several templates
   pub all_filled_nothing : (given : List PatternTree) (ts : PatternTrees) → length given < all_needed ts → all_filled given ts ≡ None
   all_filled_nothing given no_patterns few = absurd (omega arith)
   all_filled_nothing given (more_patterns first others) few =
@@ -253,6 +264,7 @@ mutual
   template_needs names (pattern_and below pos) free = templates_need names below free
   template_needs names (pattern_macro_arg _ _) free = cc
 
+  -- nor do several templates
   pub templates_need : (names : List Ident) (ts : PatternTrees) → has_macro_args ts ≡ false
       → all_needed (template_trees names ts) ≤ length names
   templates_need names no_patterns free = omega arith

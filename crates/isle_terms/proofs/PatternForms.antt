@@ -2,7 +2,7 @@
 use Rattle.std.proofs.Common.{◌≡◌, ℕ, List, map, sym, ap, ◌∙◌}
 use Rattle.isle_types.specs.declared.ids.TypeId.{TypeId}
 use Rattle.isle_types.specs.declared.ids.TermId.{TermId}
-use Rattle.isle_terms.specs.declared.rules.Pattern.{Pattern, Pattern-F, fold-roll-Pattern}
+use Rattle.isle_terms.specs.declared.rules.Pattern.{Pattern, fold-roll-Pattern}
 use Rattle.isle_terms.specs.declared.rules.Pattern.TheVariants as pattern
 use Rattle.isle_terms.specs.declared.rules.Pattern.TheOpen.{And, Term}
 use Rattle.isle_terms.specs.TypedRules.{TypedPattern, typed_and, typed_term}

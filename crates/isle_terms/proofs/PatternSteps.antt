@@ -1,7 +1,8 @@
 -- The steps of reading a pattern, as the code takes them.
-use Rattle.std.proofs.Common.{◌≡◌, ◌≢◌, ℕ, suc, zero, ◌+◌, ◌-◌, ◌<◌, ◌≤◌, Bool, true, false, List, [], ◌∷◌, ◌++◌, length, Option, Some, None, refl, sym, ap}
+use Rattle.std.proofs.Common.{◌≡◌, ◌≢◌, ℕ, suc, zero, ◌+◌, ◌-◌, ◌<◌, ◌≤◌, Bool, true, false, List, [], ◌∷◌, ◌++◌, length, Option, Some, None}
+use Rattle.std.proofs.Common.{refl, sym, ap}
 use Rattle.std.proofs.Common.{◌∙◌, subst, arith, map, max, drop, get_or, add-one, drop-cons, drop_of_length-le, if◌then◌else◌, not, Vec, Global}
-use Rattle.std.specs.Prelude.{Result, Ok, Err, IfOk, IfErr, leb, ltb, ◌==◌}
+use Rattle.std.specs.Prelude.{Result, IfOk, IfErr, leb, ltb, ◌==◌}
 use Rattle.std.proofs.lemmas.Bool.Decides.{nat_tests}
 use Rattle.isle_syntax.specs.declared.lexer.Pos.{Pos}
 use Rattle.isle_syntax.specs.declared.ast.Ident.{Ident}
@@ -9,8 +10,9 @@ use Rattle.isle_syntax.specs.declared.error.Error.{Error}
 use Rattle.isle_syntax.specs.declared.refusal.Refusal.{Refusal}
 use Rattle.isle_syntax.specs.declared.refusal.Refusal.TheVariants.{Fault, Memory}
 use Rattle.isle_syntax.specs.Errors.{IfFault}
-use Rattle.isle_syntax.specs.Trees.PatternTree.{PatternTree, PatternTrees, pattern_bind, pattern_int, pattern_term, pattern_and, no_patterns, more_patterns}
-use Rattle.isle_syntax.specs.Trees.PatternTree.{pattern_list, pattern_pos}
+use Rattle.isle_syntax.specs.Trees.PatternTree.{PatternTree, PatternTrees, pattern_bind, pattern_int, pattern_term, pattern_and, no_patterns}
+use Rattle.isle_syntax.specs.Trees.PatternTree.{more_patterns}
+use Rattle.isle_syntax.specs.Trees.PatternTree.{pattern_pos}
 use Rattle.isle_types.specs.declared.ids.TypeId.{TypeId}
 use Rattle.isle_terms.specs.declared.translate.Context.{Context}
 use Rattle.isle_terms.specs.declared.translate.frames.Given.{Given, out-Given}
@@ -34,12 +36,15 @@ use Rattle.isle_terms.proofs.Frames.{tree_out, filled_put, filled_nothing}
 pub same_number : (a b : ℕ) → a ≡ b → (a == b) ≡ true
 same_number a b e = grind (arith, nat_tests)
 
+-- numbers that differ
 pub other_number : (a b : ℕ) → a ≢ b → (a == b) ≡ false
 other_number a b e = grind (arith, nat_tests)
 
+-- a number that a test finds less
 less_number : (a b : ℕ) → true ≡ ltb a b → a < b
 less_number a b e = grind (arith, nat_tests)
 
+-- a number that a test does not find less
 no_less_number : (a b : ℕ) → false ≡ ltb a b → b ≤ a
 no_less_number a b e = grind (arith, nat_tests)
 
@@ -52,6 +57,7 @@ ok_along context o p r s e h = subst (λ z. IfOk r (IsRead context z s)) (sym e)
 pub fails_along : {A : Type 0} (rule : Pos) (o p : Outcome A) (refusal : Refusal Error) → o ≡ p → Fails rule p refusal → Fails rule o refusal
 fails_along rule o p refusal e h = subst (λ z. Fails rule z refusal) (sym e) h
 
+-- what is refused along an equation
 pub err_along : {A B : Type 0} (rule : Pos) (o p : Outcome A) (r : Result B (Refusal Error)) → o ≡ p → IfErr r (Fails rule p) → IfErr r (Fails rule o)
 err_along rule o p r e h = subst (λ z. IfErr r (Fails rule z)) (sym e) h
 
@@ -97,12 +103,14 @@ after_none (stands_for others s) = refl
 after_none (ill_at at) = refl
 after_none exceeds = refl
 
+-- one is read more
 after_push : (done : List TypedPattern) (v : TypedPattern) (o : Outcome TypedPatterns)
     → after done (and_then o (λ vs s'. stands_for (more_typed v vs) s')) ≡ after (done ++ v ∷ []) o
 after_push done v (stands_for others s) = ap (λ z. stands_for z s) (sym (joined_push done v others))
 after_push done v (ill_at at) = refl
 after_push done v exceeds = refl
 
+-- where reading the others fails, so does reading all
 after_fails : (rule : Pos) (done : List TypedPattern) (o : Outcome TypedPatterns) (refusal : Refusal Error) → Fails rule o refusal
     → Fails rule (after done o) refusal
 after_fails rule done (stands_for others s) refusal h = h
@@ -111,6 +119,7 @@ after_fails rule done exceeds refusal h = h
 
 -- parts, each at its type
 module _ (r : PatternRun) (at : Pos) (parts : List Given) (tys : List TypeId) (i : ℕ) (s : State) where
+  -- the part at a place and those after it
   each_here : (p : Given) (d : TypeId) → i < length parts → i < length tys → p ≡ get_or parts i p
       → each_pattern r at (trees_given (drop i parts)) (numbers_of (drop i tys)) s
       ≡ and_then (r (tree_given p) (get_or tys i d).0 s) (λ v m. and_then (each_pattern r at (trees_given (drop (i + 1) parts))
@@ -120,6 +129,7 @@ module _ (r : PatternRun) (at : Pos) (parts : List Given) (tys : List TypeId) (i
       let cut_ty : drop i tys ≡ get_or tys i d ∷ drop (i + 1) tys = rw add-one (drop-cons tys i d low_ty) in
       rw (cut, cut_ty) refl
 
+  -- a part is read
   pub each_next : (whole : Outcome TypedPatterns) (done : List TypedPattern) (p : Given) (d : TypeId) (v : TypedPattern) (m : State)
       → i < length parts → i < length tys → p ≡ get_or parts i p → r (tree_given p) (get_or tys i d).0 s ≡ stands_for v m
       → whole ≡ after done (each_pattern r at (trees_given (drop i parts)) (numbers_of (drop i tys)) s)
@@ -128,6 +138,7 @@ module _ (r : PatternRun) (at : Pos) (parts : List Given) (tys : List TypeId) (i
       let here = each_here p d low low_ty is in
       so_far ∙ ap (after done) (rw made at here) ∙ after_push done v _
 
+  -- a part is refused
   pub each_fails : (rule : Pos) (whole : Outcome TypedPatterns) (done : List TypedPattern) (p : Given) (d : TypeId) (refusal : Refusal Error)
       → i < length parts → i < length tys → p ≡ get_or parts i p → Fails rule (r (tree_given p) (get_or tys i d).0 s) refusal
       → whole ≡ after done (each_pattern r at (trees_given (drop i parts)) (numbers_of (drop i tys)) s) → Fails rule whole refusal
@@ -135,6 +146,7 @@ module _ (r : PatternRun) (at : Pos) (parts : List Given) (tys : List TypeId) (i
       fails_along rule whole _ refusal (so_far ∙ ap (after done) (each_here p d low low_ty is))
       (after_fails rule done _ refusal (fails_then rule (r (tree_given p) (get_or tys i d).0 s) _ refusal h))
 
+  -- no part is left
   pub each_ends : (whole : Outcome TypedPatterns) (done : List TypedPattern) → length parts ≤ i → length tys ≤ i
       → whole ≡ after done (each_pattern r at (trees_given (drop i parts)) (numbers_of (drop i tys)) s) → whole ≡ stands_for (typed_list done) s
   each_ends whole done high high_ty so_far =
@@ -176,12 +188,14 @@ pub listed_given : (parts : List Given) → listed (trees_given parts) ≡ map t
 listed_given [] = refl
 listed_given (p ∷ parts) = ap (λ ts. tree_given p ∷ ts) (listed_given parts)
 
+-- as many trees are listed as there are parts
 pub listed_count : (parts : List Given) → length (listed (trees_given parts)) ≡ length parts
 listed_count [] = refl
 listed_count (p ∷ parts) = let rest = listed_count parts in omega arith
 
 -- one node, by what its template is
 module _ (known : Known) (r : PatternRun) (u : PatternUse) (part : Given) (ty : ℕ) (s : State) where
+  -- a name before `@`
   pub node_bound : (name : Ident) (below : PatternTree) (pos : Pos) (t : PatternTree) (v : TypedPattern) (m : State)
       → template_at part ≡ pattern_bind name below pos → t ≡ put (map tree_given (out-Given part).given.now) below → r t ty s ≡ stands_for v m
       → pattern_node known r u (tree_given part) ty s ≡ bind_name pos (visible_in m.scope name.0) name.0 ty v m
@@ -190,11 +204,13 @@ module _ (known : Known) (r : PatternRun) (u : PatternUse) (part : Given) (ty : 
       ap (λ z. pattern_node known r u z ty s) whole
       ∙ ap (λ o. and_then o (λ v m. bind_name pos (visible_in m.scope name.0) name.0 ty v m)) (ap (λ z. r z ty s) (sym same) ∙ made)
 
+  -- an integer
   pub node_int : (val : _) (big : Bool) (pos : Pos) → template_at part ≡ pattern_int val big pos
       → pattern_node known r u (tree_given part) ty s ≡ only_if (known.has_number ty val big) pos (stands_for (typed_int ty val) s)
   node_int val big pos is =
       let whole = tree_out part ∙ ap (put (map tree_given (out-Given part).given.now)) is in ap (λ z. pattern_node known r u z ty s) whole
 
+  -- patterns that all match one value
   pub node_and : (below given : PatternTrees) (pos : Pos) → template_at part ≡ pattern_and below pos → given ≡ below
       → pattern_node known r u (tree_given part) ty s
       ≡ all_of_type r pos (put_all (map tree_given (out-Given part).given.now) given) ty s
@@ -203,6 +219,7 @@ module _ (known : Known) (r : PatternRun) (u : PatternUse) (part : Given) (ty : 
       ap (λ z. pattern_node known r u z ty s) whole
       ∙ ap (λ ts. all_of_type r pos (put_all (map tree_given (out-Given part).given.now) ts) ty s) (sym same)
 
+  -- a term of another type
   pub term_other : (sym_name : Ident) (args : PatternTrees) (pos : Pos) (number : ℕ) (term : Signature)
       → template_at part ≡ pattern_term sym_name args pos → known.term_named sym_name.0 ≡ Some number → known.signature number ≡ Some term
       → (term.ret == ty) ≡ false
@@ -210,6 +227,7 @@ module _ (known : Known) (r : PatternRun) (u : PatternUse) (part : Given) (ty : 
   term_other sym_name args pos number term is named signature other =
       let whole = tree_out part ∙ ap (put (map tree_given (out-Given part).given.now)) is in rw (whole, named, signature, other) refl
 
+  -- a term of the type
   pub term_same : (sym_name : Ident) (args ts : PatternTrees) (pos : Pos) (number : ℕ) (term : Signature)
       → template_at part ≡ pattern_term sym_name args pos → known.term_named sym_name.0 ≡ Some number → known.signature number ≡ Some term
       → (term.ret == ty) ≡ true → ts ≡ put_all (map tree_given (out-Given part).given.now) args
@@ -237,20 +255,25 @@ use_here known max (suc levels) fit number term t at args s m is here trees left
 
 -- a use of a term by what it is
 module _ (known : Known) (r : PatternRun) (at : Pos) (number : ℕ) (term : Signature) (parts : List Given) (s : State) where
-  pub use_miscounted : (pattern_count (trees_given parts) == length term.args) ≡ false → extract known r at number term (trees_given parts) s ≡ ill_at at
+  -- with another number of arguments
+  pub use_miscounted : (pattern_count (trees_given parts) == length term.args) ≡ false
+      → extract known r at number term (trees_given parts) s ≡ ill_at at
   use_miscounted other = rw other refl
 
+  -- a term that has no template
   pub use_plain : (pattern_count (trees_given parts) == length term.args) ≡ true → has_extractor_form term.form ≡ true → None ≡ template_in known term
       → extract known r at number term (trees_given parts) s
       ≡ and_then (each_pattern r at (trees_given parts) term.args s) (λ us s'. stands_for (typed_term term.ret number us) s')
   use_plain same usable none = rw (same, usable, sym none) refl
 
+  -- a template of which an argument lacks
   pub use_lacking : (template : PatternTree) → (pattern_count (trees_given parts) == length term.args) ≡ true → has_extractor_form term.form ≡ true
       → Some template ≡ template_in known term → length parts < needed template → extract known r at number term (trees_given parts) s ≡ ill_at at
   use_lacking template same usable some few =
       let nothing = filled_nothing (listed (trees_given parts)) template (let n = listed_count parts in omega arith) in
       rw (same, usable, sym some, nothing) refl
 
+  -- a template with its arguments
   pub use_template : (template t : PatternTree) → (pattern_count (trees_given parts) == length term.args) ≡ true
       → has_extractor_form term.form ≡ true → Some template ≡ template_in known term → needed template ≤ length parts
       → t ≡ put (map tree_given parts) template → extract known r at number term (trees_given parts) s ≡ r t term.ret s
@@ -271,6 +294,7 @@ lacks known term template count is test =
     let own = put_in_of known.expands (template_of term.form) template is in
     less_number count (needed template) (test ∙ ap (λ o. ltb count (needed_in o)) own)
 
+-- whether no argument is lacking
 pub suffices : (known : Known) (term : Signature) (template : PatternTree) (count : ℕ) → Some template ≡ template_in known term
     → false ≡ ltb count (needed_in (template_of term.form)) → needed template ≤ count
 suffices known term template count is test =
@@ -282,6 +306,7 @@ pub not_true : (b r : Bool) → r ≡ not b → r ≡ true → b ≡ false
 not_true true r is test = cc
 not_true false r is test = refl
 
+-- a test that is turned round and fails
 pub not_false : (b r : Bool) → r ≡ not b → r ≡ false → b ≡ true
 not_false true r is test = refl
 not_false false r is test = cc

@@ -6,7 +6,8 @@ use Rattle.isle_terms.specs.declared.rules.Pattern.{Pattern}
 use Rattle.isle_terms.specs.declared.translate.Context.{Context}
 use Rattle.isle_terms.specs.TypedRules.{TypedPattern, TypedPatterns, typed_and}
 use Rattle.isle_terms.specs.Elaboration.{State, each_at}
-use Rattle.isle_terms.specs.Outcomes.{Outcome, stands_for, and_then, PatternRun, PatternUse, read_pattern, read_pattern_use, pattern_node, each_pattern}
+use Rattle.isle_terms.specs.Outcomes.{Outcome, stands_for, and_then, PatternRun, PatternUse, read_pattern, read_pattern_use, pattern_node}
+use Rattle.isle_terms.specs.Outcomes.{each_pattern}
 use Rattle.isle_terms.specs.ShownRules.{typed_list, typed_shown, pattern_limit, greatest}
 use Rattle.isle_terms.specs.Contexts.{known_in}
 use Rattle.isle_terms.specs.Needs.{needed}

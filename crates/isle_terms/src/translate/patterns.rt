@@ -18,7 +18,10 @@ ghost use Rattle.isle_terms.specs.PatternReading.{needed_in};
 use super::Context;
 use super::bindings::Bindings;
 use super::frames::{Given, resolve, resolve_all};
-use super::names::{Role, fitting_converter, has_number, ill_typed, is_usable, known_constant, known_number, known_term, too_large};
+use super::names::{
+    Role, fitting_converter, has_number, ill_typed, is_usable, known_constant, known_number,
+    known_term, too_large,
+};
 use crate::rules::Pattern;
 use crate::terms::{ExtractorKind, Term, TermKind};
 use isle_syntax::ast::Ident;
@@ -60,11 +63,12 @@ pub fn translate_args(
     bindings: &mut Bindings,
 ) -> Result<Vec<Pattern>, Refusal<Error>>
     requires { length args.now ≡ length tys.now }
-    ensures ok { IfOk result (λ made.
-        each_pattern (read_pattern (known_in context.now) context.now.max_nodes levels) pos (patterns_of args.now) (numbers_of tys.now) bindings.old
+    ensures ok { IfOk result (λ made. each_pattern (read_pattern (known_in context.now) context.now.max_nodes levels) pos
+        (patterns_of args.now) (numbers_of tys.now) bindings.old
         ≡ stands_for (typed_list (map (typed_shown context.now.tyenv.now.names) made.items)) bindings.new) }
     ensures err { IfErr result (Fails context.now.rule
-        (each_pattern (read_pattern (known_in context.now) context.now.max_nodes levels) pos (patterns_of args.now) (numbers_of tys.now) bindings.old)) }
+        (each_pattern (read_pattern (known_in context.now) context.now.max_nodes levels) pos
+        (patterns_of args.now) (numbers_of tys.now) bindings.old)) }
     ensures symbols { IfOk result (λ made. greatest (map pattern_limit made.items) ≤ length context.now.tyenv.now.names) }
 {
     let parts = resolve_all(context.alloc, args, &[])?;
@@ -128,7 +132,12 @@ fn bind_below(
 }
 
 /// A boolean, whose type is `bool`.
-fn read_bool(context: &Context<'_>, val: bool, pos: Pos, ty: TypeId) -> Result<Pattern, Refusal<Error>>
+fn read_bool(
+    context: &Context<'_>,
+    val: bool,
+    pos: Pos,
+    ty: TypeId,
+) -> Result<Pattern, Refusal<Error>>
     ensures ok { (s : State) → IfOk result (IsRead context.now (only_if (ty.0 == bool_number) pos (stands_for (typed_bool ty.0 val) s)) s) }
     ensures err { (s : State) → IfErr result (Fails context.now.rule (only_if (ty.0 == bool_number) pos (stands_for (typed_bool ty.0 val) s))) }
     ensures symbols { IfOk result (HasKnownSymbols context.now) }
@@ -141,7 +150,13 @@ fn read_bool(context: &Context<'_>, val: bool, pos: Pos, ty: TypeId) -> Result<P
 }
 
 /// An integer, whose type has it.
-fn read_int(context: &Context<'_>, val: &i128, big: bool, pos: Pos, ty: TypeId) -> Result<Pattern, Refusal<Error>>
+fn read_int(
+    context: &Context<'_>,
+    val: &i128,
+    big: bool,
+    pos: Pos,
+    ty: TypeId,
+) -> Result<Pattern, Refusal<Error>>
     ensures ok { (s : State) → IfOk result (IsRead context.now
         (only_if ((known_in context.now).has_number ty.0 val.now big) pos (stands_for (typed_int ty.0 val.now) s)) s) }
     ensures err { (s : State) → IfErr result (Fails context.now.rule
@@ -156,7 +171,12 @@ fn read_int(context: &Context<'_>, val: &i128, big: bool, pos: Pos, ty: TypeId) 
 }
 
 /// A constant, which has its own type.
-fn read_constant(context: &Context<'_>, name: &Ident, pos: Pos, ty: TypeId) -> Result<Pattern, Refusal<Error>>
+fn read_constant(
+    context: &Context<'_>,
+    name: &Ident,
+    pos: Pos,
+    ty: TypeId,
+) -> Result<Pattern, Refusal<Error>>
     ensures ok { (s : State) → IfOk result (IsRead context.now
         (use_constant pos ((known_in context.now).constant name.now.0) name.now.0 ty.0 s) s) }
     ensures err { (s : State) → IfErr result (Fails context.now.rule
@@ -229,7 +249,13 @@ fn read_part(
     if !bindings.count_node(context.max_nodes) {
         return Err(too_large(context, "this rule has too many nodes"));
     }
-    read_node(context, levels - 1, &resolve(&*part.pattern, &*part.given), ty, bindings)
+    read_node(
+        context,
+        levels - 1,
+        &resolve(&*part.pattern, &*part.given),
+        ty,
+        bindings,
+    )
 }
 
 /// What a node that is no argument of a template stands for.
@@ -260,11 +286,13 @@ fn read_node(
         ast::Pattern::ConstInt { val, big, pos } => read_int(context, val, *big, *pos, ty),
         ast::Pattern::ConstPrim { val, pos } => read_constant(context, val, *pos, ty),
         ast::Pattern::Term { sym, args, pos } => {
-            read_term(context, levels, part, sym, args.as_slice(), *pos, ty, bindings)
+            let args = args.as_slice();
+            read_term(context, levels, part, sym, args, *pos, ty, bindings)
         }
         ast::Pattern::Wildcard { .. } => Ok(Pattern::Wildcard(ty)),
         ast::Pattern::And { subpats, pos } => {
-            read_and(context, levels, &*part.given, subpats.as_slice(), *pos, ty, bindings)
+            let all = subpats.as_slice();
+            read_and(context, levels, &*part.given, all, *pos, ty, bindings)
         }
         ast::Pattern::MacroArg { pos, .. } => Err(ill_typed(
             context,
@@ -294,7 +322,14 @@ fn read_and(
 {
     let parts = resolve_all(context.alloc, &*patterns, &*given)?;
     let tys = repeated(context.alloc, ty, parts.as_slice())?;
-    let made = read_each(context, levels, pos, parts.as_slice(), tys.as_slice(), bindings)?;
+    let made = read_each(
+        context,
+        levels,
+        pos,
+        parts.as_slice(),
+        tys.as_slice(),
+        bindings,
+    )?;
     Ok(Pattern::And(ty, Seq::new(made)))
 }
 
@@ -357,7 +392,15 @@ fn read_repaired(
     if !bindings.count_node(context.max_nodes) {
         return Err(too_large(context, "this rule has too many nodes"));
     }
-    read_use(context, levels - 1, fit.id, fit.term, std::array::from_ref(part), pos, bindings)
+    read_use(
+        context,
+        levels - 1,
+        fit.id,
+        fit.term,
+        std::array::from_ref(part),
+        pos,
+        bindings,
+    )
 }
 
 /// What a use of a term at its own type stands for: its template, or the term itself.
@@ -388,7 +431,14 @@ fn read_use(
     }
     match template_for(context, &*term) {
         None => {
-            let made = read_each(context, levels, pos, &*args, term.arg_tys.as_slice(), bindings)?;
+            let made = read_each(
+                context,
+                levels,
+                pos,
+                &*args,
+                term.arg_tys.as_slice(),
+                bindings,
+            )?;
             Ok(Pattern::Term(term.ret_ty, id, Seq::new(made)))
         }
         Some(template) => {

@@ -7,7 +7,10 @@ use Rattle.isle_terms.proofs.translate.frames.+needed.Goals as goal
 
 pub needed_arguments-needed_by_all-requires : goal.needed_arguments-needed_by_all-requires
 needed_arguments-needed_by_all-requires t c = (
-  omega (arith, args_below c.args.template.now c.innermost.result.now _ _ _ c.as_slice.result.now c.innermost.ensures c.in-Term.is c.as_slice.ensures),
+  omega (
+    arith,
+    args_below c.args.template.now c.innermost.result.now _ _ _ c.as_slice.result.now c.innermost.ensures c.in-Term.is c.as_slice.ensures,
+  ),
   (let same = needed_below c.args.template.now c.innermost.result.now c.innermost.ensures in
       let here = ap (λ q. needed (pattern_of q)) c.in-Term.is in
       let below = ap all_needed c.as_slice.ensures in

@@ -32,6 +32,6 @@ abbrev pub invariant-read_each-loop-i : goal.invariant-read_each-loop-i
 invariant-read_each-loop-i l = record {
   read : each_pattern (reads_in l.context l.levels) l.fn.pos (trees_given l.parts) (numbers_of l.tys) l.initial.bindings
       ≡ after (map (typed_shown l.context.tyenv.now.names) l.all.items)
-          (each_pattern (reads_in l.context l.levels) l.fn.pos (trees_given (drop l.i l.parts)) (numbers_of (drop l.i l.tys)) l.bindings);
+      (each_pattern (reads_in l.context l.levels) l.fn.pos (trees_given (drop l.i l.parts)) (numbers_of (drop l.i l.tys)) l.bindings);
   symbols : HaveKnownSymbols l.context l.all.items;
 }
