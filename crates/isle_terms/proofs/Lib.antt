@@ -30,3 +30,5 @@ pub mod GatheredTerms
 pub mod AddedErrors
 -- The terms that bodies of extractors name.
 pub mod ExtractorBodies
+-- A search for cycles of a graph.
+pub mod Cycles
