@@ -367,22 +367,27 @@ less_open edges marks next path as_many unseen =
     let many = targets_of edges next.node targets here in
     omega arith
 
--- what a read of a node's targets gives
-pub targets_read : (edges : List (List ℕ)) (marks : List Mark) (last : Step) (others : List Step) (found targets : List ℕ)
-    → IsSearching edges marks (last ∷ others) → found ≡ get_or edges last.node found → targets ≡ found → slice_get edges last.node ≡ Some targets
-targets_read edges marks last others found targets searching is same =
+-- the last node has targets
+pub last_targets : (edges : List (List ℕ)) (marks : List Mark) (last : Step) (others : List Step) → IsSearching edges marks (last ∷ others)
+    → slice_get edges last.node ≡ Some (get_or edges last.node [])
+last_targets edges marks last others searching =
     let passed = last_passed edges marks last others searching.led in
-    let inside = slice_get_within edges last.node passed.targets passed.here in
-    slice_get_read edges (length edges) last.node found refl inside is ∙ ap Some (sym same)
+    slice_get-get_or edges last.node [] (slice_get_within edges last.node passed.targets passed.here)
 
--- a target that was read is at the end of an edge
-pub edge_read : (edges : List (List ℕ)) (marks : List Mark) (last : Step) (others : List Step) (found targets : List ℕ) (next : ℕ)
-    → IsSearching edges marks (last ∷ others) → found ≡ get_or edges last.node found → targets ≡ found → last.place < length targets
-    → next ≡ get_or targets last.place next → HasEdge edges last.node next
-edge_read edges marks last others found targets next searching at same inside is = record {
-  targets = targets;
-  here = targets_read edges marks last others found targets searching at same;
-  among = (last.place, slice_get_read targets (length targets) last.place next refl inside is);
+-- the last node is one of the graph's
+pub last_within : (edges : List (List ℕ)) (marks : List Mark) (last : Step) (others : List Step) → IsSearching edges marks (last ∷ others)
+    → last.node < length edges
+last_within edges marks last others searching =
+    let passed = last_passed edges marks last others searching.led in
+    slice_get_within edges last.node passed.targets passed.here
+
+-- a target of the last node is at the end of an edge
+pub edge_read : (edges : List (List ℕ)) (marks : List Mark) (last : Step) (others : List Step) (next : ℕ)
+    → IsSearching edges marks (last ∷ others) → Some next ≡ slice_get (get_or edges last.node []) last.place → HasEdge edges last.node next
+edge_read edges marks last others next searching is = record {
+  targets = get_or edges last.node [];
+  here = last_targets edges marks last others searching;
+  among = (last.place, sym is);
 }
 
 -- a target has a mark

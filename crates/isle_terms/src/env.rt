@@ -6,6 +6,7 @@ ghost use Rattle.isle_terms.specs.Needs.{needed_of};
 
 mod bodies;
 mod cycles;
+mod graph;
 mod named;
 mod report;
 

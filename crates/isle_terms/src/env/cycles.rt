@@ -1,8 +1,8 @@
-//! A search for a cycle of a graph: its nodes are places, each with the list of its targets.
+//! A search for a cycle of a graph.
 ghost use Rattle.std.specs.Prelude.{◌≡◌, ◌<◌, ℕ, [], ◌∷◌, ◌++◌, length, slice_get, Some, IfOk, OnOk, IfNone, MatchOption};
 ghost use Rattle.isle_terms.specs.Graphs.{AreWithin, IsAcyclic, Leads, IsFinished, IsOpen, AreSettled, IsSearching, Goes, search_work};
 
-use isle_syntax::Seq;
+use crate::env::graph::Graph;
 use std::alloc::{AllocError, Global};
 use std::marker::Model;
 
@@ -63,33 +63,33 @@ impl Path {
 
 /// Looks at the next target of the path's last node, which is taken off it: a node on a cycle, if there is one.
 fn advance(
-    edges: &[Seq<usize>],
+    graph: &Graph,
     marks: &mut Vec<Mark>,
     path: &mut Path,
     last: Step,
 ) -> Result<Option<usize>, AllocError>
-    requires within { AreWithin edges.now }
-    requires searching { IsSearching edges.now marks.old.items (last ∷ path.old) }
-    ensures searched { IfOk result (λ found. MatchOption found (IsSearching edges.now marks.new.items path.new) (λ node. Leads edges.now node node)) }
+    requires within { AreWithin graph.now }
+    requires searching { IsSearching graph.now marks.old.items (last ∷ path.old) }
+    ensures searched { IfOk result (λ found. MatchOption found (IsSearching graph.now marks.new.items path.new) (λ node. Leads graph.now node node)) }
     ensures goes { OnOk result (Goes marks.old.items marks.new.items) }
     ensures less { IfOk result (λ found. IfNone found
-        (search_work edges.now marks.new.items path.new < search_work edges.now marks.old.items (last ∷ path.old))) }
+        (search_work graph.now marks.new.items path.new < search_work graph.now marks.old.items (last ∷ path.old))) }
 {
-    let Some(next) = edges[last.node].as_slice().get(last.place) else {
+    let Some(next) = graph.target(last.node, last.place) else {
         marks[last.node] = Mark::Finished;
         return Ok(None);
     };
-    match marks[*next] {
-        Mark::Open => return Ok(Some(*next)),
+    match marks[next] {
+        Mark::Open => return Ok(Some(next)),
         Mark::Finished => path.push(Step {
             node: last.node,
             place: last.place + 1,
         })?,
         Mark::Unseen => {
-            marks[*next] = Mark::Open;
+            marks[next] = Mark::Open;
             path.push(last)?;
             path.push(Step {
-                node: *next,
+                node: next,
                 place: 0,
             })?;
         }
@@ -100,14 +100,14 @@ fn advance(
 /// Searches all paths from a node that isn't seen yet: a node on a cycle, if there is one.
 fn explore(
     alloc: Global,
-    edges: &[Seq<usize>],
+    graph: &Graph,
     marks: &mut Vec<Mark>,
     root: usize,
 ) -> Result<Option<usize>, AllocError>
-    requires within { AreWithin edges.now }
-    requires searching { IsSearching edges.now marks.old.items [] }
+    requires within { AreWithin graph.now }
+    requires searching { IsSearching graph.now marks.old.items [] }
     requires unseen { slice_get marks.old.items root ≡ Some Mark.Unseen }
-    ensures searched { IfOk result (λ found. MatchOption found (IsSearching edges.now marks.new.items []) (λ node. Leads edges.now node node)) }
+    ensures searched { IfOk result (λ found. MatchOption found (IsSearching graph.now marks.new.items []) (λ node. Leads graph.now node node)) }
     ensures goes { OnOk result (Goes marks.old.items marks.new.items) }
     ensures finished { IfOk result (λ found. IfNone found (IsFinished marks.new.items root)) }
 {
@@ -118,7 +118,7 @@ fn explore(
         place: 0,
     })?;
     while let Some(last) = path.pop() {
-        if let Some(node) = advance(edges, marks, &mut path, last)? {
+        if let Some(node) = advance(graph, marks, &mut path, last)? {
             return Ok(Some(node));
         }
     }
@@ -126,14 +126,14 @@ fn explore(
 }
 
 /// A node on a cycle, if there is one.
-pub fn find_cycle(alloc: Global, edges: &[Seq<usize>]) -> Result<Option<usize>, AllocError>
-    requires { AreWithin edges.now }
-    ensures { IfOk result (λ found. MatchOption found (IsAcyclic edges.now) (λ node. Leads edges.now node node)) }
+pub fn find_cycle(alloc: Global, graph: &Graph) -> Result<Option<usize>, AllocError>
+    requires { AreWithin graph.now }
+    ensures { IfOk result (λ found. MatchOption found (IsAcyclic graph.now) (λ node. Leads graph.now node node)) }
 {
-    let mut marks = vec![in alloc; Mark::Unseen; edges.len()]?;
-    for root in 0..edges.len() {
+    let mut marks = vec![in alloc; Mark::Unseen; graph.len()]?;
+    for root in 0..graph.len() {
         if let Mark::Unseen = marks[root] {
-            if let Some(node) = explore(alloc, edges, &mut marks, root)? {
+            if let Some(node) = explore(alloc, graph, &mut marks, root)? {
                 return Ok(Some(node));
             }
         }

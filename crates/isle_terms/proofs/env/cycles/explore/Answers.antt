@@ -11,8 +11,8 @@ loop-last-init c =
     let marks = c.args.marks.now.items in
     let pushed = c.in_ok-push.ensures ∙ ap (λ (path : List Step). first ∷ path) c.new-path.ensures in
     record {
-      searching = subst (IsSearching c.args.edges.now (set marks c.args.root Open)) (sym pushed)
-          (search_begin c.args.edges.now marks first c.requires.searching c.requires.unseen refl);
+      searching = subst (IsSearching c.args.graph.now (set marks c.args.root Open)) (sym pushed)
+          (search_begin c.args.graph.now marks first c.requires.searching c.requires.unseen refl);
       goes = goes_open marks c.args.root c.requires.unseen;
       root = inl (set_here marks c.args.root Open Unseen c.requires.unseen);
     }
