@@ -207,7 +207,8 @@ none_within [] place none = omega arith
 none_within (x ∷ xs) zero none = absurd (cc)
 none_within (x ∷ xs) (suc place) none = let below = none_within xs place none in omega arith
 
-last_or_before : (place end : ℕ) → place < end + 1 → (place < end) ⊎ (place ≡ end)
+-- a number below the next one of another
+pub last_or_before : (place end : ℕ) → place < end + 1 → (place < end) ⊎ (place ≡ end)
 last_or_before zero zero before = inr refl
 last_or_before zero (suc end) before = inl (omega arith)
 last_or_before (suc place) zero before = absurd (omega arith)
@@ -403,7 +404,8 @@ pub mark_read : (marks : List Mark) (node : ℕ) (found mark : Mark) → node < 
     → slice_get marks node ≡ Some mark
 mark_read marks node found mark inside is same = slice_get_read marks (length marks) node found refl inside is ∙ ap Some same
 
-replicated : {X : Type 0} (many : ℕ) (x : X) (place : ℕ) (y : X) → slice_get (replicate many x) place ≡ Some y → x ≡ y
+-- what a list of one item repeated has at a place
+pub replicated : {X : Type 0} (many : ℕ) (x : X) (place : ℕ) (y : X) → slice_get (replicate many x) place ≡ Some y → x ≡ y
 replicated zero x place y is = absurd (cc)
 replicated (suc many) x zero y is = same_Some x y is
 replicated (suc many) x (suc place) y is = replicated many x place y is

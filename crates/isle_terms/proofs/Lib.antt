@@ -32,3 +32,7 @@ pub mod AddedErrors
 pub mod ExtractorBodies
 -- A search for cycles of a graph.
 pub mod Cycles
+-- The graph of internal extractors.
+pub mod ExtractorGraphs
+-- Edges that are added to a graph.
+pub mod AddedEdges

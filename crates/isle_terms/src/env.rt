@@ -8,6 +8,7 @@ mod bodies;
 mod cycles;
 mod graph;
 mod named;
+mod recursion;
 mod report;
 
 use crate::rules::Rule;

@@ -1,4 +1,4 @@
-use Rattle.std.proofs.Common.{◌≡◌, ◌+◌, ◌<◌, ℕ, List, [], ◌∷◌, length, get_or, set, refl, sym, ◌∙◌, ap, subst, arith}
+use Rattle.std.proofs.Common.{◌+◌, ◌<◌, List, [], ◌∷◌, get_or, set, refl, sym, ◌∙◌, ap, subst, arith}
 use Rattle.isle_terms.specs.declared.env.cycles.Mark.TheVariants.{Unseen, Open, Finished}
 use Rattle.isle_terms.specs.declared.env.cycles.Step.{Step}
 use Rattle.isle_terms.specs.Graphs.{IsSearching, search_work}

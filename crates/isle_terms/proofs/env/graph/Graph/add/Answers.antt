@@ -13,7 +13,7 @@ row_added rows graph from to row more is inside at added =
     let as_many : length rows ≡ length graph = sym (length-map rows targets) ∙ ap length is in
     let within : from < length rows = omega arith in
     let before : row.items ≡ get_or graph from [] =
-          ap targets at ∙ sym (get_or-map targets rows from row [] within) ∙ ap (λ (g : List (List ℕ)). get_or g from []) is in
+    ap targets at ∙ sym (get_or-map targets rows from row [] within) ∙ ap (λ (g : List (List ℕ)). get_or g from []) is in
     map-set targets rows from more ∙ ap (λ (g : List (List ℕ)). set g from more.items) is
     ∙ ap (set graph from) (added ∙ ap (λ (ts : List ℕ). ts ++ to ∷ []) before)
 
