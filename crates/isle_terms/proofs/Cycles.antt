@@ -1,5 +1,6 @@
 -- A search for cycles of a graph: each of its steps keeps what it knows, and takes work away.
-use Rattle.std.proofs.Common.{◌≡◌, ◌⊎◌, ◌+◌, ◌<◌, ◌≤◌, inl, inr, ℕ, zero, suc, List, [], ◌∷◌, length, set, get_or, replicate, None, Some, refl, sym, ◌∙◌, ap}
+use Rattle.std.proofs.Common.{◌≡◌, ◌⊎◌, ◌+◌, ◌<◌, ◌≤◌, inl, inr, ℕ, zero, suc, List}
+use Rattle.std.proofs.Common.{[], ◌∷◌, length, set, get_or, replicate, None, Some, refl, sym, ◌∙◌, ap}
 use Rattle.std.proofs.Common.{subst, arith}
 use Rattle.std.specs.Prelude.{slice_get, unwrap_or}
 use Rattle.std.proofs.lemmas.Option.{same_Some, slice_get_within, slice_get_read, slice_get-get_or}
@@ -7,11 +8,13 @@ use Rattle.std.proofs.lemmas.List.{length-set, length-replicate}
 use Rattle.isle_terms.specs.declared.env.cycles.Mark.{Mark}
 use Rattle.isle_terms.specs.declared.env.cycles.Mark.TheVariants.{Unseen, Open, Finished}
 use Rattle.isle_terms.specs.declared.env.cycles.Step.{Step}
-use Rattle.isle_terms.specs.Graphs.{HasEdge, Leads, at_once, further, AreWithin, IsAcyclic, IsFinished, IsOpen, IsReached, AreSettled, IsPassed, IsPath}
+use Rattle.isle_terms.specs.Graphs.{HasEdge, Leads, at_once, further, AreWithin, IsAcyclic}
+use Rattle.isle_terms.specs.Graphs.{IsFinished, IsOpen, IsReached, AreSettled, IsPassed, IsPath}
 use Rattle.isle_terms.specs.Graphs.{IsOnPath, IsSearching, Goes, mark_work, marks_work, search_work}
 
 -- a path begins with an edge
-pub first_edge : (edges : List (List ℕ)) (from to : ℕ) → Leads edges from to → (next : ℕ) × HasEdge edges from next × ((next ≡ to) ⊎ Leads edges next to)
+pub first_edge : (edges : List (List ℕ)) (from to : ℕ) → Leads edges from to
+    → (next : ℕ) × HasEdge edges from next × ((next ≡ to) ⊎ Leads edges next to)
 first_edge edges from to (at_once _ _ edge) = (to, edge, inl refl)
 first_edge edges from to (further _ middle _ front back) =
     let first = first_edge edges from middle front in (
@@ -56,19 +59,23 @@ set_here [] place new x is = absurd (cc)
 set_here (y ∷ ys) zero new x is = refl
 set_here (y ∷ ys) (suc place) new x is = set_here ys place new x is
 
--- two marks of one node
+-- a finished node isn't unseen
 unseen_finished : (marks : List Mark) (node : ℕ) → slice_get marks node ≡ Some Unseen → IsFinished marks node → ⊥
 unseen_finished marks node unseen finished = cc
 
+-- an open node isn't unseen
 unseen_open : (marks : List Mark) (node : ℕ) → slice_get marks node ≡ Some Unseen → IsOpen marks node → ⊥
 unseen_open marks node unseen open_now = cc
 
+-- a finished node isn't open
 open_finished : (marks : List Mark) (node : ℕ) → IsOpen marks node → IsFinished marks node → ⊥
 open_finished marks node open_now finished = cc
 
+-- the marks differ
 not_open : Finished ≡ Open → ⊥
 not_open is = cc
 
+-- and the other way round
 not_finished : Open ≡ Finished → ⊥
 not_finished is = cc
 
@@ -166,12 +173,14 @@ path_on edges old new (last ∷ before ∷ others) goes led =
     (passed_on edges old new last goes led.0, led.1, path_on edges old new (before ∷ others) goes led.2)
 
 -- the last step of a path
-last_passed : (edges : List (List ℕ)) (marks : List Mark) (last : Step) (others : List Step) → IsPath edges marks (last ∷ others) → IsPassed edges marks last
+last_passed : (edges : List (List ℕ)) (marks : List Mark) (last : Step) (others : List Step)
+    → IsPath edges marks (last ∷ others) → IsPassed edges marks last
 last_passed edges marks last [] led = led
 last_passed edges marks last (before ∷ others) led = led.0
 
 -- a path without its last step
-path_before : (edges : List (List ℕ)) (marks : List Mark) (last : Step) (others : List Step) → IsPath edges marks (last ∷ others) → IsPath edges marks others
+path_before : (edges : List (List ℕ)) (marks : List Mark) (last : Step) (others : List Step)
+    → IsPath edges marks (last ∷ others) → IsPath edges marks others
 path_before edges marks last [] led = tt
 path_before edges marks last (before ∷ others) led = led.2
 
@@ -202,6 +211,7 @@ cycle_found edges marks last others to searching edge open_now =
       | inr front ↦ further to last.node to front back
     ]
 
+-- a place where nothing is lies past the end
 none_within : {X : Type 0} (xs : List X) (place : ℕ) → slice_get xs place ≡ None → length xs ≤ place
 none_within [] place none = omega arith
 none_within (x ∷ xs) zero none = absurd (cc)
@@ -410,9 +420,11 @@ replicated zero x place y is = absurd (cc)
 replicated (suc many) x zero y is = same_Some x y is
 replicated (suc many) x (suc place) y is = replicated many x place y is
 
+-- nor are others the same
 unseen_is_not_finished : Unseen ≡ Finished → ⊥
 unseen_is_not_finished is = cc
 
+-- nor these
 unseen_is_not_open : Unseen ≡ Open → ⊥
 unseen_is_not_open is = cc
 
@@ -432,7 +444,8 @@ search_none edges marks is =
     }
 
 -- where no path is being searched, what was reached is finished
-pub reached_finished : (edges : List (List ℕ)) (marks : List Mark) (node : ℕ) → IsSearching edges marks [] → IsReached marks node → IsFinished marks node
+pub reached_finished : (edges : List (List ℕ)) (marks : List Mark) (node : ℕ) → IsSearching edges marks [] → IsReached marks node
+    → IsFinished marks node
 reached_finished edges marks node searching (inl open_now) = absurd (searching.on_path node open_now)
 reached_finished edges marks node searching (inr finished) = finished
 

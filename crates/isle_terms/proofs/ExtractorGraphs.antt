@@ -1,6 +1,6 @@
 -- The graph of internal extractors has a cycle exactly where a term comes to itself.
-use Rattle.std.proofs.Common.{◌≡◌, inl, inr, ℕ, ◌+◌, ◌<◌, ◌≤◌, zero, suc, Bool, true, false, cond, List, [], ◌∷◌, ◌++◌, Option, None, Some, length, set, get_or, map, replicate, refl}
-use Rattle.std.proofs.Common.{sym, ◌∙◌, ap, subst, arith, Bor}
+use Rattle.std.proofs.Common.{◌≡◌, inl, inr, ℕ, ◌+◌, ◌<◌, ◌≤◌, zero, suc, Bool, true, false, cond, List, [], ◌∷◌, ◌++◌, Option}
+use Rattle.std.proofs.Common.{None, Some, length, set, get_or, map, replicate, refl, sym, ◌∙◌, ap, subst, arith, Bor}
 use Rattle.std.specs.Prelude.{slice_get}
 use Rattle.std.specs.Str.{bytes_eq}
 use Rattle.std.specs.Option.{option_map}
@@ -173,8 +173,8 @@ targets_added places node tree terms old new is adds =
     (term.0, term.1, (joins.0, ap (value_at bytes_eq places) term.2 ∙ named.at))) adds
 
 -- an extractor of a term with no place
-pub extractor_none : (places : List (List ℕ × ℕ)) (extractor : ExtractorTree) (graph : List (List ℕ)) → None ≡ value_at bytes_eq places extractor.term.0
-    → AddsEdges (JoinsPlaces places extractor) graph graph
+pub extractor_none : (places : List (List ℕ × ℕ)) (extractor : ExtractorTree) (graph : List (List ℕ))
+    → None ≡ value_at bytes_eq places extractor.term.0 → AddsEdges (JoinsPlaces places extractor) graph graph
 extractor_none places extractor graph none =
     edges_none (JoinsPlaces places extractor) graph (λ from to joins. none_some from (value_at bytes_eq places extractor.term.0) none joins.0)
 
@@ -227,6 +227,7 @@ put_known : (place : ℕ) (before : Option ℕ) (same : Bool) → (later : ℕ) 
 put_known place before true known = (place, refl)
 put_known place before false known = known
 
+-- a name that was put in is there
 put_here : (place : ℕ) (before : Option ℕ) (same : Bool) → same ≡ true → (at : ℕ) × (cond same (Some place) before ≡ Some at)
 put_here place before true is = (place, refl)
 put_here place before false is = absurd (cc)
@@ -285,4 +286,5 @@ places_made extractors places end all found known = record {
 
 -- an empty table gives nothing
 pub empty_gives : (places : List (List ℕ × ℕ)) (name : List ℕ) (place : ℕ) → places ≡ [] → value_at bytes_eq places name ≡ Some place → ⊥
-empty_gives places name place empty is = none_some place (value_at bytes_eq places name) (sym (ap (λ (ps : List (List ℕ × ℕ)). value_at bytes_eq ps name) empty)) is
+empty_gives places name place empty is =
+    none_some place (value_at bytes_eq places name) (sym (ap (λ (ps : List (List ℕ × ℕ)). value_at bytes_eq ps name) empty)) is

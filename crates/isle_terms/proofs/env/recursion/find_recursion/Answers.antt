@@ -3,7 +3,8 @@ use Rattle.isle_terms.proofs.ExtractorGraphs.{lent, graph_within, acyclic_kept, 
 use Rattle.isle_terms.proofs.env.recursion.find_recursion.Goals as goal
 
 pub find_cycle-requires : goal.find_cycle-requires
-find_cycle-requires c = graph_within (map lent c.args.extractors.now) c.in_ok-places.places c.in_ok-graph.graph c.in_ok-places.ensures c.in_ok-graph.ensures
+find_cycle-requires c =
+    graph_within (map lent c.args.extractors.now) c.in_ok-places.places c.in_ok-graph.graph c.in_ok-places.ensures c.in_ok-graph.ensures
 
 pub returns-in_default : goal.returns-in_default
 returns-in_default c = acyclic_kept (map lent c.args.extractors.now) c.in_ok-places.places c.in_ok-graph.graph c.in_ok-places.ensures

@@ -5,4 +5,5 @@ use Rattle.isle_terms.proofs.ExtractorGraphs.{JoinsLent}
 use Rattle.isle_terms.proofs.env.recursion.graph_of.Given as goal
 
 abbrev pub invariant-loop-extractor : goal.invariant-loop-extractor
-invariant-loop-extractor l = AddsEdges (SomeJoins (JoinsLent l.places) (take l.extractor-index l.extractors)) (replicate (length l.extractors) []) l.graph
+invariant-loop-extractor l =
+    AddsEdges (SomeJoins (JoinsLent l.places) (take l.extractor-index l.extractors)) (replicate (length l.extractors) []) l.graph
