@@ -68,3 +68,9 @@ pub mod BuiltShown
 pub mod PatternSteps
 -- What typed patterns show, form by form.
 pub mod PatternForms
+-- A search for cycles of a graph.
+pub mod Cycles
+-- The graph of internal extractors.
+pub mod ExtractorGraphs
+-- Edges that are added to a graph.
+pub mod AddedEdges

@@ -8,8 +8,11 @@ mod checks;
 mod definitions;
 mod name_table;
 mod bodies;
+mod cycles;
+mod graph;
 mod named;
 mod naming;
+mod recursion;
 mod report;
 mod terms;
 

@@ -4,10 +4,9 @@ use Rattle.isle_terms.specs.ExtractorChecks.{name_at}
 use Rattle.isle_terms.proofs.GatheredTerms.{gathered}
 use Rattle.isle_terms.proofs.env.named.named_terms.Goals as goal
 
--- src/env/named.rt:40:1
 pub returns : goal.returns
 returns c =
-    let made = gathered _ (λ q. (closure.captures q).seen.refused) (λ q. (closure.captures q).seen.terms.items) (λ q. q.0.ghost_name) name_at (λ p x q call. search rules) _ _ _
-    c.terms.ensures.handed in
+    let made = gathered _ (λ q. (closure.captures q).seen.refused) (λ q. (closure.captures q).seen.terms.items)
+    (λ q. q.0.ghost_name) name_at (λ p x q call. search rules) _ _ _ c.terms.ensures.handed in
     let kept = sym made.1 in
     grind (arith, made.0, kept)

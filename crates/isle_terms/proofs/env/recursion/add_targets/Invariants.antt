@@ -1,0 +1,12 @@
+use Rattle.std.proofs.Common.{◌≡◌, take}
+use Rattle.isle_syntax.specs.Trees.PatternShape.{pattern_of}
+use Rattle.isle_terms.specs.ExtractorChecks.{named_in}
+use Rattle.isle_terms.specs.ExtractorGraphs.{AddsEdges, JoinsTerm}
+use Rattle.isle_terms.proofs.AddedEdges.{SomeJoins}
+use Rattle.isle_terms.proofs.env.recursion.add_targets.Given as goal
+
+abbrev pub invariant-loop-term : goal.invariant-loop-term
+invariant-loop-term l = record {
+  terms : l.term-items ≡ named_in (pattern_of l.body);
+  added : AddsEdges (SomeJoins (JoinsTerm l.places l.from) (take l.term-index l.term-items)) l.fn.graph l.graph;
+}
