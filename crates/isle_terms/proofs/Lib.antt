@@ -42,3 +42,5 @@ pub mod AddedErrors
 pub mod ExtractorBodies
 -- What a search for a name finds, by the name's place.
 pub mod NamedPlaces
+-- What typed rules and terms show stays as it is when more names are interned.
+pub mod ShownMore
