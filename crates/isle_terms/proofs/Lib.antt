@@ -44,3 +44,5 @@ pub mod ExtractorBodies
 pub mod NamedPlaces
 -- What typed rules and terms show stays as it is when more names are interned.
 pub mod ShownMore
+-- Where definitions and types stand, the faults of typing do.
+pub mod TypingPlaces
