@@ -57,6 +57,7 @@ module _ (old new : List (List ℕ)) (keeps : KeepsNames old new) where
   abbrev TypedMore : Pattern → Type 0
   TypedMore pattern = pattern_limit pattern ≤ length old → typed_shown new pattern ≡ typed_shown old pattern
 
+  -- so do the patterns below a node
   args_more : (ps : List ((p : Pattern) × TypedMore p)) → greatest (map pattern_limit (map (λ p. p.0) ps)) ≤ length old
       → map (typed_shown new) (map (λ p. p.0) ps) ≡ map (typed_shown old) (map (λ p. p.0) ps)
   args_more [] within = refl
@@ -64,6 +65,7 @@ module _ (old new : List (List ℕ)) (keeps : KeepsNames old new) where
       let first = p.1 (omega arith) in
       let others = args_more ps (omega arith) in cc
 
+  -- a node shows the same where those below it do
   typed_level : (y : Pattern-F ((p : Pattern) × TypedMore p))
       → pattern_limit_step (map-Pattern Pattern ℕ pattern_limit (map-Pattern ((p : Pattern) × TypedMore p) Pattern (λ p. p.0) y)) ≤ length old
       → typed_step new (map-Pattern Pattern TypedPattern (typed_shown new) (map-Pattern ((p : Pattern) × TypedMore p) Pattern (λ p. p.0) y))
@@ -98,6 +100,7 @@ module _ (old new : List (List ℕ)) (keeps : KeepsNames old new) where
   abbrev BuiltMore : Expr → Type 0
   BuiltMore expr = expr_limit expr ≤ length old → built_shown new expr ≡ built_shown old expr
 
+  -- so do the expressions below a node
   values_more : (es : List ((e : Expr) × BuiltMore e)) → greatest (map expr_limit (map (λ e. e.0) es)) ≤ length old
       → map (built_shown new) (map (λ e. e.0) es) ≡ map (built_shown old) (map (λ e. e.0) es)
   values_more [] within = refl
@@ -109,6 +112,7 @@ module _ (old new : List (List ℕ)) (keeps : KeepsNames old new) where
   abbrev bindings_below : {X Y : Type 0} → (X → Y) → List (VarId × TypeId × X) → List (VarId × TypeId × Y)
   bindings_below {X} f bindings = map (λ (binding : VarId × TypeId × X). (binding.0, binding.1, f binding.2)) bindings
 
+  -- so do the values of a `let`
   bindings_more : (bs : List (VarId × TypeId × ((e : Expr) × BuiltMore e)))
       → greatest_of_values (bindings_below expr_limit (bindings_below (λ e. e.0) bs)) ≤ length old
       → bindings_below (built_shown new) (bindings_below (λ e. e.0) bs) ≡ bindings_below (built_shown old) (bindings_below (λ e. e.0) bs)
@@ -117,6 +121,7 @@ module _ (old new : List (List ℕ)) (keeps : KeepsNames old new) where
       let first = b.2.1 (omega arith) in
       let others = bindings_more bs (omega arith) in cc
 
+  -- a node shows the same where those below it do
   built_level : (y : Expr-F ((e : Expr) × BuiltMore e))
       → expr_limit_step (map-Expr Expr ℕ expr_limit (map-Expr ((e : Expr) × BuiltMore e) Expr (λ e. e.0) y)) ≤ length old
       → built_step new (map-Expr Expr TypedExpr (built_shown new) (map-Expr ((e : Expr) × BuiltMore e) Expr (λ e. e.0) y))
@@ -173,6 +178,7 @@ module _ (old new : List (List ℕ)) (keeps : KeepsNames old new) where
   constructor_more (Some InternalConstructor) within = refl
   constructor_more (Some (ExternalConstructor name)) within = ap (λ function. Some (external_constructor function)) (name_more name (omega arith))
 
+  -- so does that of a host's extractor
   extractor_more : (kind : Option ExtractorKind) → extractor_limit kind ≤ length old
       → option_map (extractor_shown new) kind ≡ option_map (extractor_shown old) kind
   extractor_more None within = refl
@@ -180,6 +186,7 @@ module _ (old new : List (List ℕ)) (keeps : KeepsNames old new) where
   extractor_more (Some (ExternalExtractor name infallible pos)) within =
       ap (λ function. Some (external_extractor function infallible pos)) (name_more name (omega arith))
 
+  -- what a term is stays
   form_more : (kind : TermKind) → kind_limit kind ≤ length old → form_shown new kind ≡ form_shown old kind
   form_more (EnumVariant variant) within = refl
   form_more Struct within = refl

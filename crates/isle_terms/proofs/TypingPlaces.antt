@@ -107,12 +107,14 @@ module _ (At : Pos → Type 0) where
   shape_made_at known (primitive_tree _ _) (enum variants) is stands = absurd is
   shape_made_at known (struct_tree _ _) (enum variants) is stands = absurd is
 
+  -- the type of a definition stands where it does
   type_made_at : (known : List (List ℕ)) (tree : TypeTree) (type : NamedType) → IsType known tree type → TypeAt At tree → NamedTypeAt type
   type_made_at known tree type is stands = record {
     shape = shape_made_at known tree.ty type.shape is.shape stands.ty;
     pos = subst At (sym is.pos) stands.pos;
   }
 
+  -- what a definition of a type has
   type_here : (def : Def) (tree : TypeTree) → as_type def ≡ Some tree → DefAt At def → TypeAt At tree
   type_here (TypeDef type) tree is stands = subst (TypeAt At) (same_Some type tree is) stands
   type_here _ tree is stands = absurd (none-some tree is)
@@ -123,22 +125,27 @@ module _ (At : Pos → Type 0) where
       each_related (IsType (type_names defs)) (TypeAt At) NamedTypeAt (type_made_at (type_names defs)) (type_definitions defs) types.types makes.types
       (each_made as_type (DefAt At) (TypeAt At) type_here defs (all_at (DefAt At) defs all))
 
+  -- what a declaration has
   decl_here : (def : Def) (tree : DeclTree) → as_declaration def ≡ Some tree → DefAt At def → DeclAt At tree
   decl_here (Decl decl) tree is stands = subst (DeclAt At) (same_Some decl tree is) stands
   decl_here _ tree is stands = absurd (none-some tree is)
 
+  -- what a rule has
   rule_here : (def : Def) (tree : RuleTree) → as_rule def ≡ Some tree → DefAt At def → RuleAt At tree
   rule_here (Rule rule) tree is stands = subst (RuleAt At) (same_Some rule tree is) stands
   rule_here _ tree is stands = absurd (none-some tree is)
 
+  -- what an extractor has
   extractor_here : (def : Def) (tree : ExtractorTree) → as_extractor def ≡ Some tree → DefAt At def → ExtractorAt At tree
   extractor_here (Extractor extractor) tree is stands = subst (ExtractorAt At) (same_Some extractor tree is) stands
   extractor_here _ tree is stands = absurd (none-some tree is)
 
+  -- what a converter has
   converter_here : (def : Def) (tree : ConverterTree) → as_converter def ≡ Some tree → DefAt At def → ConverterAt At tree
   converter_here (Converter converter) tree is stands = subst (ConverterAt At) (same_Some converter tree is) stands
   converter_here _ tree is stands = absurd (none-some tree is)
 
+  -- what the host provides
   extern_here : (def : Def) (tree : ExternTree) → as_external def ≡ Some tree → DefAt At def → DefAt At (Extern tree)
   extern_here (Extern extern) tree is stands = subst (λ (e : ExternTree). DefAt At (Extern e)) (same_Some extern tree is) stands
   extern_here _ tree is stands = absurd (none-some tree is)
@@ -179,6 +186,7 @@ module _ (At : Pos → Type 0) where
     names_term_at name at (pattern_and below _) stands is = some_names_term_at name at below stands.0 is
     names_term_at name at (pattern_macro_arg _ _) stands is = absurd is
 
+    -- a name of a term in one of some patterns
     some_names_term_at : (name : List ℕ) (at : Pos) (ts : PatternTrees) → PatternTreesAt At ts → SomeNamesTerm name at ts → At at
     some_names_term_at name at no_patterns stands is = absurd is
     some_names_term_at name at (more_patterns first others) stands (inl here) = names_term_at name at first stands.0 here
@@ -208,6 +216,7 @@ module _ (At : Pos → Type 0) where
     template_at names (pattern_and below _) stands = (templates_at names below stands.0, stands.1)
     template_at names (pattern_macro_arg _ _) stands = stands
 
+    -- so do several
     templates_at : (names : List Ident) (ts : PatternTrees) → PatternTreesAt At ts → PatternTreesAt At (template_trees names ts)
     templates_at names no_patterns stands = tt
     templates_at names (more_patterns first others) stands = (template_at names first stands.0, templates_at names others stands.1)
@@ -221,6 +230,7 @@ module _ (At : Pos → Type 0) where
   variant_terms_at ty type number (first ∷ others) each (suc place) term is =
       variant_terms_at ty type (suc number) others (λ i variant at. each (suc i) variant at) place term is
 
+  -- those of one type
   shape_terms_at : (ty : ℕ) (type : NamedType) (shape : TypeShape) → ShapeAt shape → At type.pos
       → Each (λ (term : Signature). At term.pos) (terms_of_shape ty type shape)
   shape_terms_at ty type (primitive _) stands here place term is = absurd (none-some term is)
@@ -228,6 +238,7 @@ module _ (At : Pos → Type 0) where
   shape_terms_at ty type (struct _) stands here zero term is = subst (λ (other : Signature). At other.pos) (same_Some _ term is) here
   shape_terms_at ty type (struct _) stands here (suc place) term is = absurd (none-some term is)
 
+  -- those of all types
   type_terms_at : (ty : ℕ) (types : List NamedType) → Each NamedTypeAt types → Each (λ (term : Signature). At term.pos) (terms_of_types ty types)
   type_terms_at ty [] each place term is = absurd (none-some term is)
   type_terms_at ty (first ∷ others) each place term is =
@@ -247,6 +258,7 @@ module _ (At : Pos → Type 0) where
       subst (λ (other : Signature). FormAt other.form) (same_Some _ term is) (λ template has. absurd (none-some template has))
   variant_terms_plain ty type number (first ∷ others) (suc place) term is = variant_terms_plain ty type (suc number) others place term is
 
+  -- none of one type has
   shape_terms_plain : (ty : ℕ) (type : NamedType) (shape : TypeShape) → Each (λ (term : Signature). FormAt term.form) (terms_of_shape ty type shape)
   shape_terms_plain ty type (primitive _) place term is = absurd (none-some term is)
   shape_terms_plain ty type (enum variants) place term is = variant_terms_plain ty type.name 0 variants place term is
@@ -254,6 +266,7 @@ module _ (At : Pos → Type 0) where
       subst (λ (other : Signature). FormAt other.form) (same_Some _ term is) (λ template has. absurd (none-some template has))
   shape_terms_plain ty type (struct _) (suc place) term is = absurd (none-some term is)
 
+  -- none of all types has
   type_terms_plain : (ty : ℕ) (types : List NamedType) → Each (λ (term : Signature). FormAt term.form) (terms_of_types ty types)
   type_terms_plain ty [] place term is = absurd (none-some term is)
   type_terms_plain ty (first ∷ others) place term is =
@@ -271,6 +284,7 @@ module _ (At : Pos → Type 0) where
         | false ↦ λ found. external_plain others name template found
       ] is
 
+  -- the template of a name stands where its extractor does
   template_found_at : (extractors : List ExtractorTree) (externals : List ExternalExtractor) (name : List ℕ) (template : PatternTree)
       → Each (ExtractorAt At) extractors
       → first_of (template_for extractors name) (external_extractor_for externals name) ≡ Some (by_template template) → PatternTreeAt At template
@@ -284,6 +298,7 @@ module _ (At : Pos → Type 0) where
         | false ↦ λ found. template_found_at others externals name template (λ i extractor at. each (suc i) extractor at) found
       ] is
 
+  -- so does that of a declared term
   declaration_form_at : (defs : List Def) → Each (ExtractorAt At) (extractors_in defs) → (decl : DeclTree) (o : Option ExtractorForm)
       → extractor_for defs decl.term.0 ≡ o → FormAt (declared_form (flags_in decl) (constructor_for defs decl.term.0) o)
   declaration_form_at defs each decl None found template has = absurd (none-some template has)
@@ -292,6 +307,7 @@ module _ (At : Pos → Type 0) where
       subst (PatternTreeAt At) (same_Some made template has)
       (template_found_at (extractors_in defs) (external_extractors defs) decl.term.0 made each found)
 
+  -- so do those of all terms
   term_forms_at : (types : Environment) (defs : List Def) (terms : List Signature) → All (DefAt At) defs → AreTerms types defs terms
       → Each (λ (term : Signature). FormAt term.form) terms
   term_forms_at types defs terms all are =
@@ -312,29 +328,37 @@ module _ (At : Pos → Type 0) where
       term_forms_at types defs declared.terms all are number term known template has
 
   module _ (types : Environment) (expands : Bool) (levels : ℕ) (defs : List Def) (all : All (DefAt At) defs) where
+    -- the declarations stand where the definitions do
     decls_at : Each (DeclAt At) (declarations defs)
     decls_at = each_made as_declaration (DefAt At) (DeclAt At) decl_here defs (all_at (DefAt At) defs all)
 
+    -- so do the rules
     rules_at : Each (RuleAt At) (rules_in defs)
     rules_at = each_made as_rule (DefAt At) (RuleAt At) rule_here defs (all_at (DefAt At) defs all)
 
+    -- so do the extractors
     extractors_at : Each (ExtractorAt At) (extractors_in defs)
     extractors_at = each_made as_extractor (DefAt At) (ExtractorAt At) extractor_here defs (all_at (DefAt At) defs all)
 
+    -- so do the converters
     converters_at : Each (ConverterAt At) (converters_in defs)
     converters_at = each_made as_converter (DefAt At) (ConverterAt At) converter_here defs (all_at (DefAt At) defs all)
 
+    -- so does what the host provides
     externs_at : Each (λ (extern : ExternTree). DefAt At (Extern extern)) (filter_map as_external defs)
     externs_at = each_made as_external (DefAt At) (λ (extern : ExternTree). DefAt At (Extern extern)) extern_here defs (all_at (DefAt At) defs all)
 
+    -- so do the names of the terms of the host's constructors
     constructors_at : Each (λ (pair : Ident × Ident). IdentAt At pair.0) (external_constructors defs)
     constructors_at = each_made as_external_constructor (λ (extern : ExternTree). DefAt At (Extern extern))
         (λ (pair : Ident × Ident). IdentAt At pair.0) constructor_here (filter_map as_external defs) externs_at
 
+    -- so do the host's extractors
     externals_at : Each (λ (external : ExternalExtractor). At external.pos) (external_extractors defs)
     externals_at = each_made as_external_extractor (λ (extern : ExternTree). DefAt At (Extern extern))
         (λ (external : ExternalExtractor). At external.pos) external_here (filter_map as_external defs) externs_at
 
+    -- where a declaration breaks a rule
     declaration_break_at : TypesAt types → (at : Pos) → DeclarationBreaks types defs at → At at
     declaration_break_at stand at (term_twice _ taken) = taken_at (named_terms types defs) at
         (each_appended (λ (pair : List ℕ × Pos). At pair.1) (map (λ (decl : DeclTree). (decl.term.0, decl.pos)) (declarations defs))
@@ -353,6 +377,7 @@ module _ (At : Pos → Type 0) where
         one_at ident stands zero other is = subst (IdentAt At) (same_Some ident other is) stands
         one_at ident stands (suc place) other is = absurd (none-some other is)
 
+    -- where a root or a constructor breaks a rule
     constructor_break_at : (at : Pos) → ConstructorBreaks defs at → At at
     constructor_break_at at (root_is_no_term rule among none) = let here = rules_at among.0 rule among.1 in here.pos
     constructor_break_at at (root_is_not_declared rule name among root undeclared) = let here = rules_at among.0 rule among.1 in here.pos
@@ -364,6 +389,7 @@ module _ (At : Pos → Type 0) where
         (each_mapped (λ (external : Ident × Ident). (external.0.0, external.0.1)) (λ (pair : List ℕ × Pos). At pair.1)
         (external_constructors defs) constructors_at) taken
 
+    -- where an extractor breaks a rule
     extractor_break_at : (terms : List Signature) (at : Pos) → ExtractorBreaks defs terms at → At at
     extractor_break_at terms at (internal_of_no_declared_term extractor among undeclared) =
         let here = extractors_at among.0 extractor among.1 in here.pos
@@ -382,12 +408,14 @@ module _ (At : Pos → Type 0) where
         let here = extractors_at among.0 extractor among.1 in names_term_at name at (pattern_of extractor.template) here.template names
     extractor_break_at terms at (recursive extractor among comes) = let here = extractors_at among.0 extractor among.1 in here.pos
 
+    -- where a converter breaks a rule
     converter_break_at : (terms : List Signature) (at : Pos) → ConverterBreaks types defs terms at → At at
     converter_break_at terms at (unknown_inner_type tree among unknown) = let here = converters_at among.0 tree among.1 in here.inner_ty
     converter_break_at terms at (unknown_outer_type tree among unknown) = let here = converters_at among.0 tree among.1 in here.outer_ty
     converter_break_at terms at (unknown_converter tree among unknown) = let here = converters_at among.0 tree among.1 in here.term
     converter_break_at terms at (second_converter place tree is second) = let here = converters_at place tree is in here.pos
 
+    -- the names of rules stand where the rules do
     rule_names_at : PairsAt (named_rules defs)
     rule_names_at = each_made
         (λ (rule : RuleTree). option_map (λ name. (name, rule.pos)) (name_of_rule defs (root_name (pattern_of rule.pattern)) rule.name))
