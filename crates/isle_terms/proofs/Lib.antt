@@ -74,3 +74,7 @@ pub mod Cycles
 pub mod ExtractorGraphs
 -- Edges that are added to a graph.
 pub mod AddedEdges
+-- What typed rules and terms show stays as it is when more names are interned.
+pub mod ShownMore
+-- Where definitions and types stand, the faults of typing do.
+pub mod TypingPlaces
