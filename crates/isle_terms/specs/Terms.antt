@@ -41,7 +41,3 @@ abbrev pub takes_apart_kind : TermKind → Bool
 takes_apart_kind (EnumVariant variant) = true
 takes_apart_kind Struct = true
 takes_apart_kind (Decl flags constructor_kind extractor_kind) = is_some extractor_kind
-
--- the flags of what calls in an if-let of a term of these flags
-abbrev pub flags_on_lhs : TermFlags → TermFlags
-flags_on_lhs flags = record { pure = true; multi = flags.multi; partial = true; rec = flags.rec }

@@ -1,5 +1,4 @@
 ghost use Rattle.std.specs.Prelude.{◌≡◌};
-ghost use Rattle.isle_terms.specs.Terms.{is_variant_kind, is_partial_kind, has_rules_kind, makes_kind, takes_apart_kind, flags_on_lhs};
 ghost use Rattle.isle_terms.specs.Elaboration.{on_lhs};
 ghost use Rattle.isle_terms.specs.ShownTerms.{flags_shown};
 ghost use Rattle.isle_terms.specs.Terms.{is_variant_kind, is_partial_kind, has_rules_kind, makes_kind, takes_apart_kind};
@@ -30,9 +29,6 @@ pub struct TermFlags {
 }
 
 impl TermFlags {
-    /// The flags of what calls in an if-let of a term of these flags.
-    pub fn on_lhs(self) -> TermFlags
-        ensures { result ≡ flags_on_lhs self }
     /// The flags of what calls in an if-let of a term with these flags.
     pub fn on_lhs(self) -> TermFlags
         ensures { flags_shown result ≡ on_lhs (flags_shown self) }
