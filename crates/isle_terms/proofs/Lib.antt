@@ -78,3 +78,5 @@ pub mod AddedEdges
 pub mod ShownMore
 -- Where definitions and types stand, the faults of typing do.
 pub mod TypingPlaces
+-- What checks of definitions report breaks a rule of terms, and where they report nothing the rule is kept.
+pub mod CheckedDefinitions
