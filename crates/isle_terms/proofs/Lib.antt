@@ -80,3 +80,5 @@ pub mod ShownMore
 pub mod TypingPlaces
 -- What checks of definitions report breaks a rule of terms, and where they report nothing the rule is kept.
 pub mod CheckedDefinitions
+-- What checks of definitions add are faults of typing.
+pub mod CheckedTyping
