@@ -68,11 +68,11 @@ SomeBreaks {X} Broken xs at = (x : X) × IsAmong xs x × Broken x at
 
 -- what is added breaks a rule somewhere
 pub adds_checks : (Broken : Pos → Type 0) (Kept : Type 0) (old new : List Error) → Adds Broken Kept old new → Checks Broken Kept old new
-adds_checks Broken Kept old new adds = record {
-  faults = λ faults. All-same (IsTypeFault Broken) new (old ++ adds.added) adds.all
-      (All-append (IsTypeFault Broken) old adds.added faults adds.faults);
-  kept = λ none. let empty = both_empty old adds.added (sym adds.all ∙ none) in (empty.0, adds.kept empty.1);
-}
+adds_checks Broken Kept old new adds = record { added = adds.added; all = adds.all; faults = adds.faults; kept = adds.kept }
+
+-- and the other way round
+pub checks_adds : (Broken : Pos → Type 0) (Kept : Type 0) (old new : List Error) → Checks Broken Kept old new → Adds Broken Kept old new
+checks_adds Broken Kept old new checks = record { added = checks.added; all = checks.all; faults = checks.faults; kept = checks.kept }
 
 -- the check of one item more
 pub adds_more : {X : Type 0} (Broken : X → Pos → Type 0) (Kept : X → Type 0) (xs : List X) (place : ℕ) (x : X) (old middle new : List Error)

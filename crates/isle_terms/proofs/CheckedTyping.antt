@@ -15,7 +15,6 @@ use Rattle.isle_syntax.specs.Errors.{span_at}
 use Rattle.isle_types.specs.Names.{AreDistinct}
 use Rattle.isle_types.specs.Environment.{Environment}
 use Rattle.isle_types.specs.TypeFaults.{IsTypeFault}
-use Rattle.isle_types.proofs.FaultLists.{some_error}
 use Rattle.isle_types.proofs.Lists.{taken_more}
 use Rattle.isle_terms.specs.Signatures.{Signature}
 use Rattle.isle_terms.specs.Definitions.{ExternalExtractor, declarations, rules_in, extractors_in, external_constructors, external_extractors}
@@ -28,52 +27,22 @@ use Rattle.isle_terms.specs.Checks.{Checks, IsIllAt}
 use Rattle.isle_terms.specs.DefinitionChecks.{is_ill_root, is_ill_host, is_ill_extractor, is_ill_name, is_unused, is_ill_marked}
 use Rattle.isle_terms.specs.ExtractorChecks.{Adds, NamesUnknown, NamesKnown}
 use Rattle.isle_terms.specs.ExtractorGraphs.{IsRecursiveAt, IsNotRecursive}
-use Rattle.isle_terms.proofs.AddedErrors.{adds_one, adds_by, adds_both, adds_checks}
+use Rattle.isle_terms.proofs.AddedErrors.{adds_one, adds_by, adds_both, adds_checks, checks_adds}
 use Rattle.isle_terms.proofs.CheckedDefinitions.{extractors_named, hosts_named, constructors_kept, extractors_kept}
 use Rattle.isle_terms.proofs.CheckedDefinitions.{declared_names, HasRootAmong, ill_root_breaks, roots_kept, ill_host_breaks, second_host_breaks}
 use Rattle.isle_terms.proofs.CheckedDefinitions.{ill_extractor_breaks, ill_name_breaks, second_extractor_breaks, unknown_name_breaks}
 use Rattle.isle_terms.proofs.CheckedDefinitions.{recursion_breaks, unused_breaks, uses_kept, ill_marks_break, marks_kept}
 
--- what a check adds to no errors is all that there is
-pub checks_add : {Broken : Pos → Type 0} {Kept : Type 0} (new : List Error) → Checks Broken Kept [] new → Adds Broken Kept [] new
-checks_add {Broken} new checks = record {
-  added = new;
-  all = refl;
-  faults = checks.faults (All-nil (IsTypeFault Broken));
-  kept = λ none. (checks.kept none).1;
-}
-
--- so the first check of all is one by a wider rule
-pub checks_wider : {Broken Wider : Pos → Type 0} {Kept Then : Type 0} (new : List Error) → ((at : Pos) → Broken at → Wider at) → (Kept → Then)
-    → Checks Broken Kept [] new → Checks Wider Then [] new
-checks_wider {Broken} {Wider} {Kept} {Then} new wider more checks =
-    adds_checks Wider Then [] new (adds_by Broken Wider Kept Then [] new wider more (checks_add new checks))
+-- a check by one rule is one by a wider rule, and what it keeps may be said otherwise
+pub checks_wider : {Broken Wider : Pos → Type 0} {Kept Then : Type 0} {old new : List Error} → ((at : Pos) → Broken at → Wider at) → (Kept → Then)
+    → Checks Broken Kept old new → Checks Wider Then old new
+checks_wider {Broken} {Wider} {Kept} {Then} {old} {new} wider more checks =
+    adds_checks Wider Then old new (adds_by Broken Wider Kept Then old new wider more (checks_adds Broken Kept old new checks))
 
 -- what a check adds by one rule is added by a wider one, and what it keeps may be said otherwise
 pub adds_wider : {Broken Wider : Pos → Type 0} {Kept Then : Type 0} {old new : List Error} → ((at : Pos) → Broken at → Wider at) → (Kept → Then)
     → Adds Broken Kept old new → Adds Wider Then old new
 adds_wider {Broken} {Wider} {Kept} {Then} {old} {new} wider more adds = adds_by Broken Wider Kept Then old new wider more adds
-
--- a check that adds leaves faults of any wider rule
-pub faults_wider : {Broken Wider : Pos → Type 0} {Kept : Type 0} {old new : List Error} → ((at : Pos) → Broken at → Wider at)
-    → Adds Broken Kept old new → All (IsTypeFault Wider) old → All (IsTypeFault Wider) new
-faults_wider {Broken} {Wider} {Kept} {old} {new} wider adds faults =
-    let checks : Checks Wider Kept old new = adds_checks Wider Kept old new (adds_wider wider (λ kept. kept) adds) in checks.faults faults
-
--- a check of which only `Checks` is known is none by a wider rule: before it there may be a fault of that rule alone, and in its place one of no rule
-not_wider : (a b : Pos) → (b ≡ a → ⊥)
-    → ((Broken Wider : Pos → Type 0) (Kept : Type 0) (old new : List Error) → ((at : Pos) → Broken at → Wider at) → Checks Broken Kept old new
-    → Checks Wider Kept old new) → ⊥
-not_wider a b other wider =
-    let before : List Error = TypeError [] (span_at a) ∷ [] in
-    let after : List Error = TypeError [] (span_at b) ∷ [] in
-    let checks : Checks (λ _. ⊥) (Unit {0}) before after = record {
-      faults = λ faults. absurd (All-head (IsTypeFault (λ _. ⊥)) (TypeError [] (span_at a)) [] faults);
-      kept = λ none. absurd (some_error [] after (TypeError [] (span_at b)) refl none);
-    } in
-    let widened = wider (λ _. ⊥) (λ at. at ≡ a) (Unit {0}) before after (λ _ no. absurd no) checks in
-    other (All-head (IsTypeFault (λ at. at ≡ a)) (TypeError [] (span_at b)) []
-    (widened.faults (All-cons (IsTypeFault (λ at. at ≡ a)) (TypeError [] (span_at a)) [] refl (All-nil (IsTypeFault (λ at. at ≡ a))))))
 
 -- nothing more is added
 pub adds_same : {Broken : Pos → Type 0} {Kept Also : Type 0} {old mid : List Error} (new : List Error) → new ≡ mid → (Kept → Also)

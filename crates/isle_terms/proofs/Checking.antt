@@ -13,36 +13,30 @@ use Rattle.isle_types.specs.TypeFaults.{IsTypeFault}
 use Rattle.isle_types.proofs.FaultLists.{some_error}
 use Rattle.isle_types.proofs.Lists.{taken_more}
 use Rattle.isle_terms.specs.Checks.{Checks, IsIllAt}
+use Rattle.isle_terms.proofs.AddedErrors.{adds_none, adds_one, adds_by, adds_both, adds_checks, checks_adds}
 
 -- nothing is checked yet
 pub check_none : {Broken : Pos → Type 0} {Kept : Type 0} (errors : List Error) → Kept → Checks Broken Kept errors errors
-check_none errors kept = record { faults = λ faults. faults; kept = λ clean. (clean, kept) }
+check_none {Broken} {Kept} errors kept = adds_checks Broken Kept errors errors (adds_none Broken Kept errors errors refl kept)
 
 -- nothing more is reported
 pub check_same : {Broken : Pos → Type 0} {Kept Also : Type 0} {old mid : List Error} (new : List Error) → new ≡ mid → (Kept → Also)
     → Checks Broken Kept old mid → Checks Broken Also old new
-check_same {Broken} {Kept} {Also} {old} {mid} new same more checks = subst (Checks Broken Also old) (sym same) (record {
-  faults = checks.faults;
-  kept = λ clean. let before = checks.kept clean in (before.0, more before.1);
-})
-
--- a fault is reported where a rule is broken
-pub check_fault : {Broken : Pos → Type 0} {Kept Also : Type 0} {old mid : List Error} (new : List Error) (message : List ℕ) (at : Pos)
-    → new ≡ mid ++ TypeError message (span_at at) ∷ [] → Broken at → Checks Broken Kept old mid → Checks Broken Also old new
-check_fault {Broken} {Kept} {Also} {old} {mid} new message at is broken checks = record {
-  faults = λ faults. subst (All (IsTypeFault Broken)) (sym is)
-      (All-push (IsTypeFault Broken) mid (TypeError message (span_at at)) (checks.faults faults) broken);
-  kept = λ clean. absurd (some_error mid new (TypeError message (span_at at)) is clean);
-}
+check_same {Broken} {Kept} {Also} {old} {mid} new same more checks = subst (Checks Broken Also old) (sym same) (adds_checks Broken Also old mid
+    (adds_by Broken Broken Kept Also old mid (λ _ broken. broken) more (checks_adds Broken Kept old mid checks)))
 
 -- one check after another
 pub check_both : {Broken : Pos → Type 0} {Kept Also : Type 0} {old mid new : List Error} → Checks Broken Kept old mid → Checks Broken Also mid new
     → Checks Broken (Kept × Also) old new
-check_both first second = record {
-  faults = λ faults. second.faults (first.faults faults);
-  kept = λ clean. let later = second.kept clean in let before = first.kept later.0 in (before.0, (before.1, later.1));
-}
+check_both {Broken} {Kept} {Also} {old} {mid} {new} first second = adds_checks Broken (Kept × Also) old new
+    (adds_both Broken Kept Also old mid new (checks_adds Broken Kept old mid first) (checks_adds Broken Also mid new second))
 
+-- a fault is reported where a rule is broken
+pub check_fault : {Broken : Pos → Type 0} {Kept Also : Type 0} {old mid : List Error} (new : List Error) (message : List ℕ) (at : Pos)
+    → new ≡ mid ++ TypeError message (span_at at) ∷ [] → Broken at → Checks Broken Kept old mid → Checks Broken Also old new
+check_fault {Broken} {Kept} {Also} {old} {mid} new message at is broken checks =
+    let one = adds_checks Broken Also mid new (adds_one Broken Also mid new (TypeError message (span_at at)) is broken) in
+    check_same new refl (λ both. both.1) (check_both checks one)
 
 -- the item that a loop over references comes to
 pub item_at : {X Y : Type 0} (shown : X → Y) (xs : List X) (i : ℕ) (x : X) → i < length xs → x ≡ get_or xs i x
