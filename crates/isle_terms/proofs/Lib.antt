@@ -38,3 +38,5 @@ pub mod BuiltShown
 pub mod PatternSteps
 -- What typed patterns show, form by form.
 pub mod PatternForms
+-- The steps of reading conditions.
+pub mod ConditionSteps
