@@ -78,3 +78,5 @@ pub mod AddedEdges
 pub mod ShownMore
 -- Where definitions and types stand, the faults of typing do.
 pub mod TypingPlaces
+-- The steps of reading conditions.
+pub mod ConditionSteps
