@@ -46,3 +46,5 @@ pub mod WiderFaults
 pub mod NamedPlaces
 -- How a declared term makes its value and takes one apart, by the places of its name.
 pub mod DeclaredForms
+-- Converters are read one by one into the table of their terms.
+pub mod ReadConverters

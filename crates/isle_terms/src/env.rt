@@ -5,6 +5,7 @@ ghost use Rattle.isle_terms.specs.TermTables.{term_with, rule_with, converter_wi
 ghost use Rattle.isle_terms.specs.Needs.{needed_of};
 
 mod checks;
+mod converters;
 mod definitions;
 mod name_table;
 mod bodies;
