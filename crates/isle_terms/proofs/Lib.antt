@@ -48,3 +48,13 @@ pub mod NamedPlaces
 pub mod DeclaredForms
 -- Converters are read one by one into the table of their terms.
 pub mod ReadConverters
+-- What a part of a template stands for, and how many arguments a template needs.
+pub mod Frames
+-- The innermost name is taken away.
+pub mod Leaving
+-- The symbol of an interned name.
+pub mod SymNames
+-- The steps of reading a pattern.
+pub mod PatternSteps
+-- What typed patterns show, form by form.
+pub mod PatternForms

@@ -1,5 +1,8 @@
 //! What the trees of a rule stand for, under the types and terms of all definitions.
 pub mod bindings;
+pub mod frames;
+pub mod names;
+pub mod patterns;
 
 use crate::env::TermEnv;
 use isle_syntax::lexer::Pos;
