@@ -54,6 +54,8 @@ pub mod VisitRuns
 pub mod VisitRuleRuns
 -- Variables copied to another map, entry by entry.
 pub mod CopiedScopes
+-- Converters are read one by one into the table of their terms.
+pub mod ReadConverters
 -- What a part of a template stands for, and how many arguments a template needs.
 pub mod Frames
 -- The innermost name is taken away.
