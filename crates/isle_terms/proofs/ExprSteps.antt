@@ -166,7 +166,8 @@ one_test false b c at o = refl
 module _ (caller : Flags) (r : ExprRun) (at : Pos) (number : ℕ) (term : Signature) (args : List ExprSource) (count : ℕ) (s : State) where
   -- a call by its one test
   call_tested : count ≡ length args → call caller r at number term (exprs_of args) s
-      ≡ only_if (is_call caller term count) at (and_then (each_expr r at (exprs_of args) term.args s) (λ us e. stands_for (built_term term.ret number us) e))
+      ≡ only_if (is_call caller term count) at
+      (and_then (each_expr r at (exprs_of args) term.args s) (λ us e. stands_for (built_term term.ret number us) e))
   call_tested same =
       one_test (expr_count (exprs_of args) == length term.args) (has_constructor_form term.form) (may_call caller (flags_of term.form)) at _
       ∙ ap (λ n. only_if (is_call caller term n) at
@@ -183,7 +184,8 @@ module _ (caller : Flags) (r : ExprRun) (at : Pos) (number : ℕ) (term : Signat
 
 module _ (names : List (List ℕ)) (rule : Pos) (o p : Outcome TypedExpr) (made : Result Expr (Refusal Error)) where
   -- equal outcomes are met alike
-  pub ok_along : (s : State) → o ≡ p → IfOk made (λ e. p ≡ stands_for (built_shown names e) s) → IfOk made (λ e. o ≡ stands_for (built_shown names e) s)
+  pub ok_along : (s : State) → o ≡ p → IfOk made (λ e. p ≡ stands_for (built_shown names e) s)
+      → IfOk made (λ e. o ≡ stands_for (built_shown names e) s)
   ok_along s same h = let P : Outcome TypedExpr → Type 0 = λ q. IfOk made (λ e. q ≡ stands_for (built_shown names e) s) in subst P (sym same) h
 
   pub err_along : o ≡ p → IfErr made (Fails rule p) → IfErr made (Fails rule o)

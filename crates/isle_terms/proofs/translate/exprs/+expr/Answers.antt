@@ -16,7 +16,8 @@ use Rattle.isle_terms.specs.Outcomes.{Outcome, stands_for, and_then}
 use Rattle.isle_terms.proofs.BuiltShown.{shown-Term}
 use Rattle.isle_terms.proofs.PatternSteps.{fails_along, fails_then}
 use Rattle.isle_terms.proofs.ExprSteps.{expr_counted, use_counted, ok_along, err_along}
-use Rattle.isle_terms.proofs.ExprSteps.{next_read, all_read, next_bound, all_bound, call_refused, call_allowed, greatest_pushed, greatest_value_pushed}
+use Rattle.isle_terms.proofs.ExprSteps.{next_read, all_read, next_bound, all_bound, call_refused, call_allowed}
+use Rattle.isle_terms.proofs.ExprSteps.{greatest_pushed, greatest_value_pushed}
 use Rattle.isle_terms.proofs.translate.exprs.+expr.Goals as goal
 
 pub translate_expr-returns-clause-ok : goal.translate_expr-returns-clause-ok
@@ -24,7 +25,8 @@ translate_expr-returns-clause-ok t c =
     let at = c.args.context.now in
     let known = known_in at in
     let caller = flags_shown c.args.caller in
-    let node = expr_node known caller (read_expr known caller at.max_nodes (c.args.levels - 1)) (read_expr_use known caller at.max_nodes (c.args.levels - 1)) in
+    let below = c.args.levels - 1 in
+    let node = expr_node known caller (read_expr known caller at.max_nodes below) (read_expr_use known caller at.max_nodes below) in
     let counted = c.if-not-count_node.ensures.counted refl in
     ok_along at.tyenv.now.names at.rule _ _ c.translate_node.result _
     (expr_counted known caller at.max_nodes c.args.levels (expr_of c.args.expr.now) (expected c.args.want) c.args.bindings.now
@@ -36,7 +38,8 @@ translate_expr-returns-clause-err t c =
     let at = c.args.context.now in
     let known = known_in at in
     let caller = flags_shown c.args.caller in
-    let node = expr_node known caller (read_expr known caller at.max_nodes (c.args.levels - 1)) (read_expr_use known caller at.max_nodes (c.args.levels - 1)) in
+    let below = c.args.levels - 1 in
+    let node = expr_node known caller (read_expr known caller at.max_nodes below) (read_expr_use known caller at.max_nodes below) in
     let counted = c.if-not-count_node.ensures.counted refl in
     err_along at.tyenv.now.names at.rule _ _ c.translate_node.result
     (expr_counted known caller at.max_nodes c.args.levels (expr_of c.args.expr.now) (expected c.args.want) c.args.bindings.now
@@ -85,13 +88,15 @@ translate_each-loop-i-preserved t c =
     let r = read_expr (known_in at) (flags_shown c.args.caller) at.max_nodes c.args.levels in
     let within : c.loop-i.i < length c.args.tys.now = omega (arith, c.requires) in
     let items = c.in_ok-push.ensures.items in
-    let shown = ap (map (built_shown at.tyenv.now.names)) items ∙ map-append (built_shown at.tyenv.now.names) c.loop-i.all.items (c.in_ok-made.made ∷ []) in
+    let shown = ap (map (built_shown at.tyenv.now.names)) items
+    ∙ map-append (built_shown at.tyenv.now.names) c.loop-i.all.items (c.in_ok-made.made ∷ []) in
     let limits = ap (map expr_limit) items ∙ map-append expr_limit c.loop-i.all.items (c.in_ok-made.made ∷ []) in
     record {
       read = rw shown (next_read r c.args.pos (each_expr r c.args.pos (exprs_of c.args.exprs.now) (numbers_of c.args.tys.now) c.args.bindings.now)
           (map (built_shown at.tyenv.now.names) c.loop-i.all.items)
           (built_shown at.tyenv.now.names c.in_ok-made.made) c.args.exprs.now c.args.tys.now c.loop-i.i c.index-exprs-i.result (record { 0 = 0 })
-          c.loop-i.bindings c.translate_expr.new.bindings c.loop-i-test.true within c.index-exprs-i.is c.in_ok-made.ensures.ok c.loop-i.invariant.read);
+          c.loop-i.bindings c.translate_expr.new.bindings c.loop-i-test.true within c.index-exprs-i.is c.in_ok-made.ensures.ok
+          c.loop-i.invariant.read);
       symbols = rw limits (greatest_pushed (map expr_limit c.loop-i.all.items) (expr_limit c.in_ok-made.made) (length at.tyenv.now.names)
           c.loop-i.invariant.symbols c.in_ok-made.ensures.symbols);
       scope = c.in_ok-made.ensures.scope ∙ c.loop-i.invariant.scope;
@@ -156,7 +161,8 @@ translate_defs-loop-i-preserved t c =
     record {
       read = rw shown (next_bound (known_in at) r (bind_values (known_in at) r (lets_of c.args.defs.now) c.args.bindings.now)
           (map (binding_shown names) c.loop-i.all.items) (binding_shown names made) c.args.defs.now c.loop-i.i c.index-defs-i.result
-          c.loop-i.bindings c.translate_def.new.bindings c.loop-i-test.true c.index-defs-i.is c.in_ok-translate_def.ensures.ok c.loop-i.invariant.read);
+          c.loop-i.bindings c.translate_def.new.bindings c.loop-i-test.true c.index-defs-i.is c.in_ok-translate_def.ensures.ok
+          c.loop-i.invariant.read);
       symbols = rw limits (greatest_value_pushed (map binding_limit c.loop-i.all.items) (binding_limit made) (length names)
           c.loop-i.invariant.symbols c.in_ok-translate_def.ensures.symbols);
       scope = ap (λ n. drop n c.translate_def.new.bindings.scope) (sym one_more) ∙ sym (drop-drop c.loop-i.i 1 c.translate_def.new.bindings.scope)
