@@ -40,3 +40,7 @@ pub mod Naming
 pub mod AddedErrors
 -- The terms that bodies of extractors name.
 pub mod ExtractorBodies
+-- The innermost name is taken away.
+pub mod Leaving
+-- The symbol of an interned name.
+pub mod SymNames

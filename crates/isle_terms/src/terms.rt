@@ -1,4 +1,6 @@
 ghost use Rattle.std.specs.Prelude.{◌≡◌};
+ghost use Rattle.isle_terms.specs.Elaboration.{on_lhs};
+ghost use Rattle.isle_terms.specs.ShownTerms.{flags_shown};
 ghost use Rattle.isle_terms.specs.Terms.{is_variant_kind, is_partial_kind, has_rules_kind, makes_kind, takes_apart_kind};
 
 use isle_syntax::Seq;
@@ -24,6 +26,20 @@ pub struct TermFlags {
     pub multi: bool,
     pub partial: bool,
     pub rec: bool,
+}
+
+impl TermFlags {
+    /// The flags of what calls in an if-let of a term with these flags.
+    pub fn on_lhs(self) -> TermFlags
+        ensures { flags_shown result ≡ on_lhs (flags_shown self) }
+    {
+        TermFlags {
+            pure: true,
+            multi: self.multi,
+            partial: true,
+            rec: self.rec,
+        }
+    }
 }
 
 /// What a term is.
