@@ -40,6 +40,8 @@ pub mod Naming
 pub mod AddedErrors
 -- The terms that bodies of extractors name.
 pub mod ExtractorBodies
+-- What a part of a template stands for, and how many arguments a template needs.
+pub mod Frames
 -- The innermost name is taken away.
 pub mod Leaving
 -- The symbol of an interned name.
