@@ -46,3 +46,5 @@ pub mod Frames
 pub mod Leaving
 -- The symbol of an interned name.
 pub mod SymNames
+-- The roots of rules, and what reading a whole rule comes to.
+pub mod RuleRoots

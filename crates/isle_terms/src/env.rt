@@ -11,6 +11,7 @@ mod bodies;
 mod named;
 mod naming;
 mod report;
+mod rules;
 
 use crate::rules::Rule;
 use crate::terms::Term;

@@ -2,6 +2,7 @@
 pub mod bindings;
 mod frames;
 pub mod names;
+pub mod rules;
 
 use crate::env::TermEnv;
 use isle_syntax::lexer::Pos;

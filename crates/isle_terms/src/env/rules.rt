@@ -1,0 +1,128 @@
+ghost use Rattle.std.specs.Prelude.{◌≡◌, ◌≤◌, ◌==◌, ℕ, List, true, length, map, IfOk, IfErr, OnOk};
+ghost use Rattle.std.specs.Option.{option_map};
+ghost use Rattle.std.specs.List.{AllZip};
+ghost use Rattle.isle_syntax.specs.Errors.{IfFault};
+ghost use Rattle.isle_syntax.specs.Trees.PatternTree.{PatternTrees};
+ghost use Rattle.isle_syntax.specs.Trees.PatternShape.{pattern_of};
+ghost use Rattle.isle_types.specs.TypeFaults.{IsTypeOrSize};
+ghost use Rattle.isle_types.specs.TypeEnvs.{HasMoreNames, CountUp};
+ghost use Rattle.isle_terms.specs.declared.rules.BoundVar.{BoundVar as BoundVariable};
+ghost use Rattle.isle_terms.specs.TypedRules.{TypedRule};
+ghost use Rattle.isle_terms.specs.Signatures.{Flags, Signature, Declared};
+ghost use Rattle.isle_terms.specs.Elaboration.{pattern_count, ElaboratesRule};
+ghost use Rattle.isle_terms.specs.RuleReaching.{HasRoot, IsIllRule, IsLargeRule};
+ghost use Rattle.isle_terms.specs.Outcomes.{Outcome, stands_for, only_if};
+ghost use Rattle.isle_terms.specs.RuleOutcomes.{RuleParts};
+ghost use Rattle.isle_terms.specs.Telling.{rule_of_parts};
+ghost use Rattle.isle_terms.specs.ShownTerms.{flags_shown, form_shown, ShowsDeclared};
+ghost use Rattle.isle_terms.specs.Scopes.{variable_shown};
+ghost use Rattle.isle_terms.specs.RuleRoots.{declared_flags, root_in, may_have_priority, read_rooted, read_whole};
+ghost use Rattle.isle_terms.specs.RulesShown.{parts_shown, parts_limit, IsShownVariable, IsShownName, IsShownRule};
+ghost use Rattle.isle_terms.specs.RootsShown.{root_shown, rule_read};
+ghost use Rattle.isle_terms.specs.Failures.{Fails};
+ghost use Rattle.isle_terms.specs.Contexts.{known_in};
+
+use crate::env::TermEnv;
+use crate::rules::{BoundVar, Rule};
+use crate::terms::{Term, TermFlags, TermKind};
+use crate::translate::Context;
+use crate::translate::bindings::{Bindings, RuleVariable};
+use crate::translate::names::{ill_typed, known_number, known_term};
+use crate::translate::rules::{Parts, translate_parts};
+use isle_syntax::ast::{self, Ident};
+use isle_syntax::error::Error;
+use isle_syntax::lexer::Pos;
+use isle_syntax::{Refusal, Seq};
+use isle_types::{RuleId, Sym, TermId, TypeEnv, VarId};
+use std::alloc::{AllocError, Global};
+
+/// The root of a rule: a declared term, and the arguments and the position of the rule's pattern.
+#[derive(Clone, Copy)]
+struct Root<'a> {
+    id: TermId,
+    term: &'a Term,
+    flags: TermFlags,
+    args: &'a [ast::Pattern],
+    pos: Pos,
+}
+
+/// What is read of a rule.
+#[derive(Drop)]
+struct ReadRule {
+    root: TermId,
+    parts: Parts,
+    bindings: Bindings,
+}
+
+/// The flags of a declared term of a kind.
+fn declared_flags(kind: &TermKind) -> Option<TermFlags>
+    ensures { (names : List (List ℕ)) → option_map flags_shown result ≡ declared_flags (form_shown names kind.now) }
+{
+    match kind {
+        TermKind::EnumVariant { .. } | TermKind::Struct => None,
+        TermKind::Decl { flags, .. } => Some(*flags),
+    }
+}
+
+/// The root of a rule.
+fn rule_root<'a>(context: &Context<'a>, tree: &'a ast::Rule) -> Option<Root<'a>>
+    ensures { option_map (root_shown context.now.tyenv.now.names) result ≡ root_in (known_in context.now) (pattern_of tree.now.pattern) }
+{
+    let ast::Pattern::Term { sym, args, pos } = &tree.pattern else {
+        return None;
+    };
+    let id = known_number(context, sym)?;
+    let term = known_term(context, id)?;
+    let flags = declared_flags(&term.kind)?;
+    Some(Root {
+        id,
+        term,
+        flags,
+        args: args.as_slice(),
+        pos: *pos,
+    })
+}
+
+/// Checks that a rule has as many arguments as its term, and no priority where the term is `multi`.
+fn check_root(
+    context: &Context<'_>,
+    root: &Root<'_>,
+    tree: &ast::Rule,
+) -> Result<(), Refusal<Error>>
+    ensures arity { OnOk result (length root.now.args.now ≡ length root.now.term.now.arg_tys) }
+    ensures priority { OnOk result (may_have_priority (flags_shown root.now.flags) tree.now.prio ≡ true) }
+    ensures err { IfErr result (λ e. (next : Outcome RuleParts) → Fails context.now.rule
+        (only_if (length root.now.args.now == length root.now.term.now.arg_tys) root.now.pos
+        (only_if (may_have_priority (flags_shown root.now.flags) tree.now.prio) tree.now.pos next)) e) }
+{
+    if root.args.len() != root.term.arg_tys.as_slice().len() {
+        return Err(ill_typed(context, root.pos, "this rule has another number of arguments than its term"));
+    }
+    if root.flags.multi && tree.prio.is_some() {
+        return Err(ill_typed(context, tree.pos, "a rule of a `multi` term has no priority"));
+    }
+    Ok(())
+}
+
+/// The root, the typed parts and the variables of a rule.
+fn read_rule(
+    context: &Context<'_>,
+    levels: usize,
+    tree: &ast::Rule,
+) -> Result<ReadRule, Refusal<Error>>
+    ensures ok { IfOk result (λ read. read_whole (known_in context.now) context.now.max_nodes levels tree.now
+        ≡ stands_for (rule_read context.now.tyenv.now.names tree.now read) read.bindings) }
+    ensures err { IfErr result (Fails context.now.rule (read_whole (known_in context.now) context.now.max_nodes levels tree.now)) }
+    ensures symbols { IfOk result (λ read. parts_limit read.parts ≤ length context.now.tyenv.now.names) }
+{
+    let Some(root) = rule_root(context, tree) else {
+        return Err(ill_typed(context, tree.pos, "the root of a rule must be a declared term"));
+    };
+    check_root(context, &root, tree)?;
+    let (parts, bindings) = translate_parts(context, levels, root.term, root.flags, root.pos, root.args, tree)?;
+    Ok(ReadRule {
+        root: root.id,
+        parts,
+        bindings,
+    })
+}
