@@ -48,3 +48,7 @@ pub mod Leaving
 pub mod SymNames
 -- The roots of rules, and what reading a whole rule comes to.
 pub mod RuleRoots
+-- What a search for a name finds, by the name's place.
+pub mod NamedPlaces
+-- What typed rules and terms show stays as it is when more names are interned.
+pub mod ShownMore
