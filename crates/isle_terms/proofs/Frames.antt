@@ -2,6 +2,7 @@
 use Rattle.std.proofs.Common.{◌≡◌, ◌<◌, ◌≤◌, ℕ, suc, zero, List, [], ◌∷◌, map, max, true, Option, Some, None, refl, sym, ap, ◌∙◌, slice_get, arith, false, length, drop, get_or, drop_of_length-le, drop-cons, add-one}
 use Rattle.std.proofs.Common.{◌++◌, ◌+◌, if◌then◌else◌, Bool}
 use Rattle.std.proofs.lemmas.Option.{slice_get_past, slice_get-get_or}
+use Rattle.std.proofs.Common.{Bor}
 use Rattle.std.proofs.lemmas.Bool.{cases_lt}
 use Rattle.std.specs.Prelude.{◌⊎◌}
 use Rattle.std.specs.Str.{bytes_eq}
@@ -11,7 +12,7 @@ use Rattle.std.specs.Option.{option_map}
 use Rattle.isle_syntax.specs.declared.lexer.Pos.{Pos}
 use Rattle.isle_syntax.specs.Trees.PatternTree.{PatternTree, PatternTrees, pattern_var, pattern_bind, pattern_bool, pattern_int, pattern_prim}
 use Rattle.isle_syntax.specs.Trees.PatternTree.{pattern_term, pattern_wildcard, pattern_and, pattern_macro_arg, no_patterns, more_patterns, pattern_list}
-use Rattle.isle_terms.specs.declared.translate.frames.Given.{Given, Given-F, out-Given, map-Given, fold_out-Given}
+use Rattle.isle_terms.specs.declared.translate.frames.Given.{Given, Given-F, out-Given, roll-Given, map-Given, fold_out-Given, fold-roll-Given}
 use Rattle.isle_syntax.specs.declared.ast.Pattern.{Pattern}
 use Rattle.isle_syntax.specs.Trees.PatternShape.{pattern_of, patterns_of}
 use Rattle.isle_syntax.specs.Trees.Innermost.{innermost}
@@ -260,3 +261,8 @@ mutual
       let one = template_needs names first parts.0 in
       let rest = templates_need names others parts.1 in
       omega arith
+
+-- what a part that is made stands for
+pub tree_rolled : (pattern : Bor Pattern) (given : Bor (List Given)) → tree_given (roll-Given record { pattern = pattern; given = given })
+    ≡ put (map tree_given given.now) (pattern_of pattern.now)
+tree_rolled pattern given = fold-roll-Given PatternTree given_step record { pattern = pattern; given = given }

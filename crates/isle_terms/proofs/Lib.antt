@@ -52,3 +52,7 @@ pub mod RuleRoots
 pub mod NamedPlaces
 -- What typed rules and terms show stays as it is when more names are interned.
 pub mod ShownMore
+-- The steps of reading a pattern.
+pub mod PatternSteps
+-- What typed patterns show, form by form.
+pub mod PatternForms

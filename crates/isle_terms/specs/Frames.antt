@@ -1,7 +1,7 @@
 -- Templates that are walked with what is given for their arguments, and not copied.
 use Rattle.std.specs.Prelude.{ℕ, suc, List, [], ◌∷◌, map, Bool, true, false, slice_get, unwrap_or}
 use Rattle.isle_syntax.specs.Trees.PatternTree.{PatternTree, PatternTrees, pattern_var, pattern_bind, pattern_bool, pattern_int, pattern_prim}
-use Rattle.isle_syntax.specs.Trees.PatternTree.{pattern_term, pattern_wildcard, pattern_and, pattern_macro_arg, no_patterns, more_patterns}
+use Rattle.isle_syntax.specs.Trees.PatternTree.{pattern_term, pattern_wildcard, pattern_and, pattern_macro_arg, no_patterns, more_patterns, pattern_list}
 use Rattle.isle_syntax.specs.Trees.PatternShape.{pattern_of}
 use Rattle.isle_terms.specs.ShownRules.{greatest}
 use Rattle.isle_terms.specs.declared.translate.frames.Given.{Given, Given-F, fold-Given, out-Given}
@@ -50,3 +50,7 @@ frames_of = fold-Given ℕ (λ part. suc (greatest part.given.now))
 -- the part of a template itself
 abbrev pub template_at : Given → PatternTree
 template_at part = pattern_of (out-Given part).pattern.now
+
+-- the trees that parts stand for
+abbrev pub trees_given : List Given → PatternTrees
+trees_given parts = pattern_list (map tree_given parts)

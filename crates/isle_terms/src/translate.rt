@@ -1,8 +1,9 @@
 //! What the trees of a rule stand for, under the types and terms of all definitions.
 pub mod bindings;
-mod frames;
+pub mod frames;
 pub mod names;
 pub mod rules;
+pub mod patterns;
 
 use crate::env::TermEnv;
 use isle_syntax::lexer::Pos;
