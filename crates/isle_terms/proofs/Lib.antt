@@ -56,3 +56,5 @@ pub mod ShownMore
 pub mod PatternSteps
 -- What typed patterns show, form by form.
 pub mod PatternForms
+-- What typed rules show stays under more names.
+pub mod RulesShown

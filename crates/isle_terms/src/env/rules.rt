@@ -2,23 +2,24 @@ ghost use Rattle.std.specs.Prelude.{◌≡◌, ◌≤◌, ◌==◌, ℕ, List, t
 ghost use Rattle.std.specs.Option.{option_map};
 ghost use Rattle.std.specs.List.{AllZip};
 ghost use Rattle.isle_syntax.specs.Errors.{IfFault};
-ghost use Rattle.isle_syntax.specs.Trees.PatternTree.{PatternTrees};
+ghost use Rattle.isle_syntax.specs.declared.ast.Ident.{Ident as Name};
 ghost use Rattle.isle_syntax.specs.Trees.PatternShape.{pattern_of};
 ghost use Rattle.isle_types.specs.TypeFaults.{IsTypeOrSize};
 ghost use Rattle.isle_types.specs.TypeEnvs.{HasMoreNames, CountUp};
 ghost use Rattle.isle_terms.specs.declared.rules.BoundVar.{BoundVar as BoundVariable};
 ghost use Rattle.isle_terms.specs.TypedRules.{TypedRule};
-ghost use Rattle.isle_terms.specs.Signatures.{Flags, Signature, Declared};
-ghost use Rattle.isle_terms.specs.Elaboration.{pattern_count, ElaboratesRule};
-ghost use Rattle.isle_terms.specs.RuleReaching.{HasRoot, IsIllRule, IsLargeRule};
+ghost use Rattle.isle_terms.specs.Signatures.{Declared};
+ghost use Rattle.isle_terms.specs.Elaboration.{ElaboratesRule};
+ghost use Rattle.isle_terms.specs.RuleReaching.{IsIllRule};
 ghost use Rattle.isle_terms.specs.Outcomes.{Outcome, stands_for, only_if};
 ghost use Rattle.isle_terms.specs.RuleOutcomes.{RuleParts};
 ghost use Rattle.isle_terms.specs.Telling.{rule_of_parts};
 ghost use Rattle.isle_terms.specs.ShownTerms.{flags_shown, form_shown, ShowsDeclared};
 ghost use Rattle.isle_terms.specs.Scopes.{variable_shown};
 ghost use Rattle.isle_terms.specs.RuleRoots.{declared_flags, root_in, may_have_priority, read_rooted, read_whole};
-ghost use Rattle.isle_terms.specs.RulesShown.{parts_shown, parts_limit, IsShownVariable, IsShownName, IsShownRule};
+ghost use Rattle.isle_terms.specs.RulesShown.{parts_limit, IsShownVariable, IsShownName, IsShownRule};
 ghost use Rattle.isle_terms.specs.RootsShown.{root_shown, rule_read};
+ghost use Rattle.isle_terms.specs.RuleChecks.{HasSomeRoot, IsLargeAt};
 ghost use Rattle.isle_terms.specs.Failures.{Fails};
 ghost use Rattle.isle_terms.specs.Contexts.{known_in};
 
@@ -125,4 +126,103 @@ fn read_rule(
         parts,
         bindings,
     })
+}
+
+/// The variables of a rule, whose names are interned now.
+fn intern_variables(
+    alloc: Global,
+    tyenv: &mut TypeEnv,
+    variables: Vec<RuleVariable>,
+    pos: Pos,
+) -> Result<Vec<BoundVar>, AllocError>
+    ensures shown { IfOk result (λ made. AllZip (IsShownVariable tyenv.new.names) (map variable_shown variables.items) made.items) }
+    ensures numbers { IfOk result (λ made. CountUp (λ (variable : BoundVariable). variable.id.0) 0 made.items) }
+    ensures same { HasMoreNames tyenv.old tyenv.new }
+{
+    let mut made = Vec::new(alloc);
+    for variable in variables {
+        let id = VarId(made.len());
+        let ident = Ident(variable.name, pos);
+        let name = tyenv.intern_mut(&ident)?;
+        made.push(BoundVar {
+            id,
+            name,
+            ty: variable.ty,
+        })?;
+    }
+    Ok(made)
+}
+
+/// The name of a rule, if it is written, which is interned now.
+fn intern_name(tyenv: &mut TypeEnv, tree: &ast::Rule) -> Result<Option<Sym>, AllocError>
+    ensures shown { IfOk result (IsShownName tyenv.new.names (option_map (λ (name : Name). name.0) tree.now.name)) }
+    ensures same { HasMoreNames tyenv.old tyenv.new }
+{
+    match &tree.name {
+        Some(name) => Ok(Some(tyenv.intern_mut(name)?)),
+        None => Ok(None),
+    }
+}
+
+/// The typed rule of what is read of a rule.
+fn make_rule(
+    alloc: Global,
+    tyenv: &mut TypeEnv,
+    id: RuleId,
+    tree: &ast::Rule,
+    read: ReadRule,
+) -> Result<Rule, AllocError>
+    requires { parts_limit read.parts ≤ length tyenv.old.names }
+    ensures shown { IfOk result (IsShownRule tyenv.new.names (rule_read tyenv.old.names tree.now read)) }
+    ensures id { IfOk result (λ made. made.id ≡ id) }
+    ensures same { HasMoreNames tyenv.old tyenv.new }
+{
+    let ReadRule {
+        root,
+        parts,
+        bindings,
+    } = read;
+    let Parts { args, iflets, rhs } = parts;
+    let vars = intern_variables(alloc, &mut *tyenv, bindings.into_vars(), tree.pos)?;
+    let name = intern_name(&mut *tyenv, tree)?;
+    Ok(Rule {
+        id,
+        root_term: root,
+        args: Seq::new(args),
+        iflets: Seq::new(iflets),
+        rhs,
+        vars: Seq::new(vars),
+        prio: tree.prio.unwrap_or(0),
+        pos: tree.pos,
+        name,
+    })
+}
+
+/// The typed rule of a rule, of which the caller knows that its root is a declared term with rules.
+pub fn typed_rule(
+    alloc: Global,
+    tyenv: &mut TypeEnv,
+    termenv: &TermEnv,
+    id: RuleId,
+    levels: usize,
+    max_nodes: usize,
+    tree: &ast::Rule,
+) -> Result<Rule, Refusal<Error>>
+    ensures typed { (declared : Declared) → ShowsDeclared tyenv.old termenv.now declared → HasSomeRoot declared tree.now
+        → IfOk result (λ made. (typed : TypedRule) × ElaboratesRule declared levels max_nodes tree.now typed × IsShownRule tyenv.new.names typed made) }
+    ensures id { IfOk result (λ made. made.id ≡ id) }
+    ensures fault { (declared : Declared) → ShowsDeclared tyenv.old termenv.now declared → HasSomeRoot declared tree.now
+        → IfErr result (λ refusal. IfFault refusal
+        (IsTypeOrSize (IsIllRule declared levels tree.now) (IsLargeAt declared levels max_nodes tree.now))) }
+    ensures same { HasMoreNames tyenv.old tyenv.new }
+{
+    let context = Context {
+        alloc,
+        tyenv: &*tyenv,
+        termenv,
+        max_nodes,
+        rule: tree.pos,
+    };
+    let read = read_rule(&context, levels, tree)?;
+    Ok(make_rule(alloc, &mut *tyenv, id, tree, read)?)
 }
