@@ -58,3 +58,5 @@ pub mod PatternSteps
 pub mod PatternForms
 -- What typed rules show stays under more names.
 pub mod RulesShown
+-- Rules are typed one by one under what tables show.
+pub mod RuleChecks

@@ -1,7 +1,8 @@
 -- What typed rules show stays as it is under more names, and how it comes about.
-use Rattle.std.proofs.Common.{◌≡◌, ℕ, max, ◌≤◌, List, [], ◌∷◌, ◌++◌, length, map, Option, Some, None, arith, refl, ap, sym, subst, ◌∙◌, slice_get}
+use Rattle.std.proofs.Common.{◌≡◌, ℕ, max, ◌≤◌, List, [], ◌∷◌, ◌++◌, length, map, Option, Some, None, pos, arith, refl, ap, sym, subst, ◌∙◌, slice_get}
 use Rattle.std.specs.List.{AllZip}
 use Rattle.std.specs.Prelude.{unwrap_or}
+use Rattle.std.specs.Option.{option_map}
 use Rattle.std.proofs.lemmas.List.{map-append}
 use Rattle.std.proofs.lemmas.Slice.Zip.{all_zipped_more}
 use Rattle.isle_syntax.specs.declared.ast.Ident.{Ident}
@@ -13,10 +14,13 @@ use Rattle.isle_types.proofs.Lists.{AllZip-weaker}
 use Rattle.isle_terms.specs.declared.rules.BoundVar.{BoundVar}
 use Rattle.isle_terms.specs.declared.rules.Rule.{Rule}
 use Rattle.isle_terms.specs.declared.translate.bindings.RuleVariable.{RuleVariable}
+use Rattle.isle_terms.specs.declared.translate.rules.Parts.{Parts}
 use Rattle.isle_terms.specs.TypedRules.{Variable, TypedRule}
+use Rattle.isle_terms.specs.Elaboration.{State}
+use Rattle.isle_terms.specs.Telling.{rule_of_parts}
 use Rattle.isle_terms.specs.Scopes.{variable_shown}
 use Rattle.isle_terms.specs.ShownRules.{typed_list, typed_shown, built_shown, iflet_shown, greatest, pattern_limit, expr_limit}
-use Rattle.isle_terms.specs.RulesShown.{IsShownVariable, IsShownName, IsShownRule, iflet_limit}
+use Rattle.isle_terms.specs.RulesShown.{IsShownVariable, IsShownName, IsShownRule, iflet_limit, parts_limit, parts_shown}
 use Rattle.isle_terms.proofs.ShownMore.{names_within, patterns_more, built_more, iflets_more}
 
 -- a variable stays
@@ -66,3 +70,31 @@ variable_more names more keeps variables made variable bound before here =
     subst (λ shown. AllZip (IsShownVariable more) shown (made ++ bound ∷ [])) (sym (map-append variable_shown variables (variable ∷ [])))
     (all_zipped_more (IsShownVariable more) (map variable_shown variables) made (variable_shown variable) bound
     (variables_kept names more keeps (map variable_shown variables) made before) here)
+
+-- the parts of a rule with its variables and its name
+pub made_is_shown : (names mid more : List (List ℕ)) → KeepsNames names mid → KeepsNames mid more → (tree : RuleTree) (root : ℕ) (parts : Parts)
+    (state : State) (made : Rule) → parts_limit parts ≤ length names → made.root_term.0 ≡ root → made.args ≡ parts.args.items
+    → made.iflets ≡ parts.iflets.items → made.rhs ≡ parts.rhs → AllZip (IsShownVariable mid) state.variables made.vars
+    → CountUp (λ (variable : BoundVar). variable.id.0) 0 made.vars → made.prio ≡ unwrap_or tree.prio (pos 0) → made.pos ≡ tree.pos
+    → IsShownName more (option_map (λ (name : Ident). name.0) tree.name) made.name
+    → IsShownRule more (rule_of_parts root tree (parts_shown names parts) state) made
+made_is_shown names mid more first later tree root parts state made within is_root is_args is_iflets is_right variables numbers priority at name =
+    let keeps : KeepsNames names more = λ place name is. later place name (first place name is) in
+    let longer = names_within names more keeps in
+    let arg_symbols : greatest (map pattern_limit parts.args.items) ≤ length names = omega arith in
+    let iflet_symbols : greatest (map iflet_limit parts.iflets.items) ≤ length names = omega arith in
+    let right_symbols : expr_limit parts.rhs ≤ length names = omega arith in
+    record {
+      root = is_root;
+      args = ap (λ args. typed_list (map (typed_shown more) args)) is_args ∙ ap typed_list (patterns_more names more keeps parts.args.items arg_symbols);
+      iflets = ap (map (iflet_shown more)) is_iflets ∙ iflets_more names more keeps parts.iflets.items iflet_symbols;
+      right = ap (built_shown more) is_right ∙ built_more names more keeps parts.rhs right_symbols;
+      variables = variables_kept mid more later state.variables made.vars variables;
+      numbers = numbers;
+      priority = priority;
+      pos = at;
+      name = name;
+      arg_symbols = rw is_args (omega arith);
+      iflet_symbols = rw is_iflets (omega arith);
+      right_symbols = rw is_right (omega arith);
+    }
