@@ -1,5 +1,5 @@
 -- The innermost name is taken away: its text has again what it hid.
-use Rattle.std.proofs.Common.{◌≡◌, ℕ, List, [], ◌∷◌, ◌++◌, map, reverse, Bool, true, false, if◌then◌else◌, Option, Some, None, refl, ap, sym, subst, ◌∙◌}
+use Rattle.std.proofs.Common.{◌≡◌, ℕ, List, [], ◌∷◌, ◌++◌, map, reverse, true, false, if◌then◌else◌, Option, Some, refl, ap, sym, subst, ◌∙◌}
 use Rattle.std.specs.Option.{option_map}
 use Rattle.std.specs.Str.{bytes_eq}
 use Rattle.std.proofs.lemmas.List.{reverse-append}
@@ -8,7 +8,7 @@ use Rattle.isle_types.specs.StableMaps.{value_at}
 use Rattle.isle_terms.specs.declared.translate.bindings.BoundName.{BoundName}
 use Rattle.isle_terms.specs.declared.translate.bindings.VisibleName.{VisibleName}
 use Rattle.isle_terms.specs.Elaboration.{visible_in}
-use Rattle.isle_terms.specs.Scopes.{bound_of, visible_shown, innermost_of, HideOthers, IsScope}
+use Rattle.isle_terms.specs.Scopes.{bound_of, visible_shown, innermost_of, IsScope}
 
 -- with the innermost of another text nothing changes
 other_text : (last : VisibleName) (rest : List VisibleName) (name : List ℕ) → bytes_eq last.name name ≡ false

@@ -52,6 +52,10 @@ pub mod RuleRoots
 pub mod NamedPlaces
 -- What typed rules and terms show stays as it is when more names are interned.
 pub mod ShownMore
+-- The steps of a reading of expressions.
+pub mod ExprSteps
+-- What a built call shows.
+pub mod BuiltShown
 -- The steps of reading a pattern.
 pub mod PatternSteps
 -- What typed patterns show, form by form.

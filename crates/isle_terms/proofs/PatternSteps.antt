@@ -1,6 +1,6 @@
 -- The steps of reading a pattern, as the code takes them.
 use Rattle.std.proofs.Common.{◌≡◌, ◌≢◌, ℕ, suc, zero, ◌+◌, ◌-◌, ◌<◌, ◌≤◌, Bool, true, false, List, [], ◌∷◌, ◌++◌, length, Option, Some, None, refl, sym, ap}
-use Rattle.std.proofs.Common.{◌∙◌, subst, arith, map, max, drop, get_or, add-one, drop-cons, drop_of_length-le, if◌then◌else◌, not}
+use Rattle.std.proofs.Common.{◌∙◌, subst, arith, map, max, drop, get_or, add-one, drop-cons, drop_of_length-le, if◌then◌else◌, not, Vec, Global}
 use Rattle.std.specs.Prelude.{Result, Ok, Err, IfOk, IfErr, leb, ltb, ◌==◌}
 use Rattle.std.proofs.lemmas.Bool.Decides.{nat_tests}
 use Rattle.isle_syntax.specs.declared.lexer.Pos.{Pos}
@@ -25,7 +25,9 @@ use Rattle.isle_terms.specs.ShownRules.{typed_list, greatest}
 use Rattle.isle_terms.specs.Failures.{Fails}
 use Rattle.isle_terms.specs.Needs.{needed}
 use Rattle.isle_terms.specs.Frames.{put, put_all, tree_given, trees_given, template_at}
-use Rattle.isle_terms.specs.PatternReading.{IsRead, all_of_type, needed_in}
+use Rattle.isle_terms.specs.PatternReading.{IsRead, AreRead, all_of_type, needed_in}
+use Rattle.isle_syntax.specs.declared.ast.Pattern.{Pattern as SyntaxPattern}
+use Rattle.isle_syntax.specs.Trees.PatternShape.{patterns_of}
 use Rattle.isle_terms.proofs.Frames.{tree_out, filled_put, filled_nothing}
 
 -- tests of numbers
@@ -283,3 +285,21 @@ not_true false r is test = refl
 pub not_false : (b r : Bool) → r ≡ not b → r ≡ false → b ≡ true
 not_false true r is test = refl
 not_false false r is test = cc
+
+-- typed patterns that are read, along an equation
+pub each_ok_along : {E : Type 0} (context : Context) (o p : Outcome TypedPatterns) (r : Result (Vec Pattern Global) E) (s : State) → o ≡ p
+    → IfOk r (λ made. AreRead context p s made.items) → IfOk r (λ made. AreRead context o s made.items)
+each_ok_along context o p r s e h = subst (λ z. IfOk r (λ made. AreRead context z s made.items)) (sym e) h
+
+-- how many patterns there are in a list
+pub patterns_counted : (args : List SyntaxPattern) → pattern_count (patterns_of args) ≡ length args
+patterns_counted [] = refl
+patterns_counted (arg ∷ args) = let rest = patterns_counted args in omega arith
+
+-- as many parts stand for the patterns of a list as it has
+pub parts_counted : (parts : List Given) (args : List SyntaxPattern) → trees_given parts ≡ patterns_of args → length parts ≡ length args
+parts_counted parts args same =
+    let n = counts parts in
+    let m = patterns_counted args in
+    let k = ap pattern_count same in
+    omega arith

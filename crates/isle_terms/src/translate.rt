@@ -1,5 +1,6 @@
 //! What the trees of a rule stand for, under the types and terms of all definitions.
 pub mod bindings;
+pub mod exprs;
 pub mod frames;
 pub mod names;
 pub mod rules;

@@ -1,4 +1,4 @@
-use Rattle.std.proofs.Common.{sym, ◌∙◌}
+use Rattle.std.proofs.Common.{sym}
 use Rattle.isle_terms.proofs.SymNames.{named_by, symbol_below}
 use Rattle.isle_terms.proofs.translate.names.known_constant.Goals as goal
 

@@ -1,4 +1,4 @@
-use Rattle.std.proofs.Common.{drop, refl, ap, ◌∙◌}
+use Rattle.std.proofs.Common.{drop, ap, ◌∙◌}
 use Rattle.std.proofs.lemmas.List.{drop-drop}
 use Rattle.isle_terms.proofs.translate.bindings.Bindings.leave.Goals as goal
 
