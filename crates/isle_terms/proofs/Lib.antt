@@ -64,3 +64,7 @@ pub mod PatternForms
 pub mod RulesShown
 -- Rules are typed one by one under what tables show.
 pub mod RuleChecks
+-- Tables show the same when names are interned.
+pub mod MoreNames
+-- The typed rules so far, one rule after the other.
+pub mod RulesCollected

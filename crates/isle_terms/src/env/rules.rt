@@ -1,7 +1,7 @@
-ghost use Rattle.std.specs.Prelude.{◌≡◌, ◌≤◌, ◌==◌, ℕ, List, true, length, map, IfOk, IfErr, OnOk};
+ghost use Rattle.std.specs.Prelude.{◌≡◌, ◌≤◌, ◌==◌, ℕ, List, [], ◌∷◌, ◌++◌, true, length, map, All, IfOk, IfErr, OnOk};
 ghost use Rattle.std.specs.Option.{option_map};
 ghost use Rattle.std.specs.List.{AllZip};
-ghost use Rattle.isle_syntax.specs.Errors.{IfFault};
+ghost use Rattle.isle_syntax.specs.Errors.{size_error, error_kind, IfFault, IsFaultAnd};
 ghost use Rattle.isle_syntax.specs.declared.ast.Ident.{Ident as Name};
 ghost use Rattle.isle_syntax.specs.Trees.PatternShape.{pattern_of};
 ghost use Rattle.isle_types.specs.TypeFaults.{IsTypeOrSize};
@@ -19,7 +19,9 @@ ghost use Rattle.isle_terms.specs.Scopes.{variable_shown};
 ghost use Rattle.isle_terms.specs.RuleRoots.{declared_flags, root_in, may_have_priority, read_rooted, read_whole};
 ghost use Rattle.isle_terms.specs.RulesShown.{parts_limit, IsShownVariable, IsShownName, IsShownRule};
 ghost use Rattle.isle_terms.specs.RootsShown.{root_shown, rule_read};
-ghost use Rattle.isle_terms.specs.RuleChecks.{HasSomeRoot, IsLargeAt};
+ghost use Rattle.isle_terms.specs.RuleChecks.{HasSomeRoot, IsLargeAt, IsIllAmong, IsLargeAmong, AreTyped, IsLoneSize};
+ghost use Rattle.isle_terms.specs.TermLimits.{HasKnownSymbols};
+ghost use Rattle.isle_terms.specs.Checks.{Checks};
 ghost use Rattle.isle_terms.specs.Failures.{Fails};
 ghost use Rattle.isle_terms.specs.Contexts.{known_in};
 
@@ -225,4 +227,61 @@ pub fn typed_rule(
     };
     let read = read_rule(&context, levels, tree)?;
     Ok(make_rule(alloc, &mut *tyenv, id, tree, read)?)
+}
+
+/// Adds a type error. A size error, alone, and that memory ran out are handed on.
+fn keep_fault(
+    alloc: Global,
+    errors: &mut Vec<Error>,
+    refusal: Refusal<Error>,
+) -> Result<(), Refusal<Vec<Error>>>
+    ensures kept { OnOk result (IsFaultAnd refusal (λ error. (¬ (error_kind error ≡ size_error))
+        × (errors.new.items ≡ errors.old.items ++ error ∷ []))) }
+    ensures size { IfErr result (λ r. IfFault r (λ alone. IsFaultAnd refusal
+        (λ error. (error_kind error ≡ size_error) × (alone.items ≡ error ∷ [])))) }
+{
+    match refusal {
+        Refusal::Memory(e) => Err(Refusal::Memory(e)),
+        Refusal::Fault(Error::SizeError { msg, span }) => {
+            let mut alone = Vec::new(alloc);
+            alone.push(Error::SizeError { msg, span })?;
+            Err(Refusal::Fault(alone))
+        }
+        Refusal::Fault(error) => {
+            errors.push(error)?;
+            Ok(())
+        }
+    }
+}
+
+/// The typed rules of rules in order, of which the caller knows that their roots are declared terms with rules. Each ill-typed
+/// rule is reported; a rule that is too large is the only error.
+pub fn collect_rules(
+    alloc: Global,
+    tyenv: &mut TypeEnv,
+    termenv: &TermEnv,
+    levels: usize,
+    max_nodes: usize,
+    rules: &[&ast::Rule],
+    errors: &mut Vec<Error>,
+) -> Result<Vec<Rule>, Refusal<Vec<Error>>>
+    ensures checked { (declared : Declared) → ShowsDeclared tyenv.old termenv.now declared → HasKnownSymbols tyenv.old.names termenv.now
+        → All (HasSomeRoot declared) (map (λ rule. rule.now) rules.now)
+        → IfOk result (λ made. Checks (IsIllAmong declared levels (map (λ rule. rule.now) rules.now))
+        (AreTyped declared levels max_nodes (map (λ rule. rule.now) rules.now) tyenv.new.names made.items) errors.old.items errors.new.items) }
+    ensures size { (declared : Declared) → ShowsDeclared tyenv.old termenv.now declared → HasKnownSymbols tyenv.old.names termenv.now
+        → All (HasSomeRoot declared) (map (λ rule. rule.now) rules.now)
+        → IfErr result (λ refusal. IfFault refusal (λ alone. IsLoneSize (IsLargeAmong declared levels max_nodes (map (λ rule. rule.now) rules.now))
+        alone.items)) }
+    ensures same { HasMoreNames tyenv.old tyenv.new }
+{
+    let mut all = Vec::new(alloc);
+    for rule in rules {
+        let id = RuleId(all.len());
+        match typed_rule(alloc, &mut *tyenv, termenv, id, levels, max_nodes, rule) {
+            Ok(typed) => all.push(typed)?,
+            Err(refusal) => keep_fault(alloc, &mut *errors, refusal)?,
+        }
+    }
+    Ok(all)
 }
