@@ -23,24 +23,6 @@ use Rattle.isle_terms.specs.ShownRules.{built_shown, built_list, binding_list, g
 use Rattle.isle_terms.specs.Failures.{Fails}
 use Rattle.isle_terms.specs.ExprReadings.{is_call}
 
--- running out of memory says nothing
-fails_memory : {A : Type 0} (rule : Pos) (o : Outcome A) (e : Refusal Error) → (m : _) → e ≡ Memory m → Fails rule o e
-fails_memory {A} rule (stands_for v s) e m is = let P : Refusal Error → Type 0 = λ f. Fails {A = A} rule (stands_for v s) f in subst P (sym is) tt
-fails_memory {A} rule (ill_at at) e m is = let P : Refusal Error → Type 0 = λ f. Fails {A = A} rule (ill_at at) f in subst P (sym is) tt
-fails_memory {A} rule exceeds e m is = let P : Refusal Error → Type 0 = λ f. Fails {A = A} rule exceeds f in subst P (sym is) tt
-
--- what fails fails with all that follows
-pub fails_then : {A B : Type 0} (rule : Pos) (o : Outcome A) (next : A → State → Outcome B) (e : Refusal Error) → Fails rule o e
-    → Fails rule (and_then o next) e
-fails_then rule (stands_for v s) next (Fault error) h = absurd h
-fails_then rule (stands_for v s) next (Memory m) h = fails_memory rule (next v s) (Memory m) m refl
-fails_then rule (ill_at at) next e h = h
-fails_then rule exceeds next e h = h
-
--- equal outcomes fail alike
-pub fails_along : {A : Type 0} (rule : Pos) (o p : Outcome A) (e : Refusal Error) → o ≡ p → Fails rule p e → Fails rule o e
-fails_along {A} rule o p e same h = let P : Outcome A → Type 0 = λ q. Fails rule q e in subst P (sym same) h
-
 module _ (known : Known) (caller : Flags) (max : ℕ) where
   -- a node that is counted
   pub expr_counted : (levels : ℕ) (e : ExprTree) (want : Option ℕ) (s : State) → levels ≢ 0 → leb max s.nodes ≡ false

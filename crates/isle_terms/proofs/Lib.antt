@@ -68,3 +68,5 @@ pub mod RuleChecks
 pub mod MoreNames
 -- The typed rules so far, one rule after the other.
 pub mod RulesCollected
+-- The steps of reading conditions.
+pub mod ConditionSteps

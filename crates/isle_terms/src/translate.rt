@@ -3,8 +3,8 @@ pub mod bindings;
 pub mod exprs;
 pub mod frames;
 pub mod names;
-pub mod rules;
 pub mod patterns;
+pub mod rules;
 
 use crate::env::TermEnv;
 use isle_syntax::lexer::Pos;
