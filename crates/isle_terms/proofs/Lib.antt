@@ -62,6 +62,12 @@ pub mod Frames
 pub mod Leaving
 -- The symbol of an interned name.
 pub mod SymNames
+-- The roots of rules, and what reading a whole rule comes to.
+pub mod RuleRoots
+-- What a search for a name finds, by the name's place.
+pub mod NamedPlaces
+-- What typed rules and terms show stays as it is when more names are interned.
+pub mod ShownMore
 -- The steps of a reading of expressions.
 pub mod ExprSteps
 -- What a built call shows.
@@ -80,5 +86,13 @@ pub mod AddedEdges
 pub mod ShownMore
 -- Where definitions and types stand, the faults of typing do.
 pub mod TypingPlaces
+-- What typed rules show stays under more names.
+pub mod RulesShown
+-- Rules are typed one by one under what tables show.
+pub mod RuleChecks
+-- Tables show the same when names are interned.
+pub mod MoreNames
+-- The typed rules so far, one rule after the other.
+pub mod RulesCollected
 -- The steps of reading conditions.
 pub mod ConditionSteps

@@ -18,6 +18,7 @@ mod recursion;
 mod needs;
 mod report;
 mod terms;
+mod rules;
 
 use crate::env::needs::needs_of;
 use crate::rules::Rule;
