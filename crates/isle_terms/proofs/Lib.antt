@@ -46,3 +46,5 @@ pub mod WiderFaults
 pub mod NamedPlaces
 -- How a declared term makes its value and takes one apart, by the places of its name.
 pub mod DeclaredForms
+-- Terms of declarations, under names that grow and one after the other.
+pub mod DeclaredTerms
