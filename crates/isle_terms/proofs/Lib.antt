@@ -96,3 +96,5 @@ pub mod MoreNames
 pub mod RulesCollected
 -- The steps of reading conditions.
 pub mod ConditionSteps
+-- Terms of declarations, under names that grow and one after the other.
+pub mod DeclaredTerms

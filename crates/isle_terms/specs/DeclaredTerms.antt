@@ -1,6 +1,7 @@
 -- The terms that declarations make, as the environment of terms holds them.
-use Rattle.std.specs.Prelude.{◌≡◌, ◌<◌, ◌≤◌, ℕ, Bool, false, List, map, length, Option, None, Some, slice_get}
-use Rattle.std.specs.List.{All}
+use Rattle.std.specs.Prelude.{◌≡◌, ◌<◌, ◌≤◌, ℕ, false, List, [], ◌∷◌, ◌++◌, map, length, Option, None, Some, slice_get, codes}
+use Rattle.std.specs.List.{All, AllZip}
+use Rattle.std.specs.Option.{option_map, option_and_then}
 use Rattle.isle_syntax.specs.declared.ast.Ident.{Ident}
 use Rattle.isle_syntax.specs.declared.ast.Decl.{Decl as DeclTree}
 use Rattle.isle_syntax.specs.declared.ast.Extractor.{Extractor as ExtractorTree}
@@ -10,7 +11,11 @@ use Rattle.isle_syntax.specs.declared.lexer.Pos.{Pos}
 use Rattle.isle_syntax.specs.Trees.PatternShape.{pattern_of}
 use Rattle.isle_syntax.specs.Trees.TreeCalls.{has_macro_arg}
 use Rattle.isle_types.specs.declared.ids.TermId.{TermId}
-use Rattle.isle_types.specs.Environment.{Environment}
+use Rattle.isle_types.specs.declared.ids.Sym.{Sym}
+use Rattle.isle_types.specs.Environment.{Environment, NamedVariant, numbers_in}
+use Rattle.isle_types.specs.Names.{position_of}
+use Rattle.isle_types.specs.StableMaps.{value_at}
+use Rattle.isle_types.specs.TypeEnvs.{CountUp, symbol_at}
 use Rattle.isle_types.specs.TypeFaults.{IsTypeOrSize}
 use Rattle.isle_terms.specs.declared.terms.Term.{Term}
 use Rattle.isle_terms.specs.declared.terms.ConstructorKind.{ConstructorKind}
@@ -27,7 +32,8 @@ use Rattle.isle_terms.specs.Definitions.{external_constructor_names, extractor_n
 use Rattle.isle_terms.specs.Elaboration.{type_named}
 use Rattle.isle_terms.specs.DefinitionLists.{host_constructor_shown, host_extractor_shown}
 use Rattle.isle_terms.specs.NameTables.{IsTableOf}
-use Rattle.isle_terms.specs.ShownTerms.{flags_shown, numbers_of}
+use Rattle.isle_terms.specs.ShownTerms.{flags_shown, numbers_of, term_at}
+use Rattle.isle_terms.specs.TermTables.{same_sym}
 
 -- what may be there is shown as what is there
 abbrev pub AreShownAs : {X Y : Type 0} → (X → Y → Type 0) → Option X → Option Y → Type 0
@@ -106,3 +112,56 @@ pub data NamesUnknownType (types : Environment) (decl : DeclTree) (at : Pos) : T
 abbrev pub IsDeclarationFault : Environment → DeclTree → Error → Type 0
 IsDeclarationFault types decl error =
     IsTypeOrSize (NamesUnknownType types decl) (λ at. (255 < length decl.arg_tys) × (at ≡ decl.pos)) error
+
+-- the size error of a declaration stands where it has too many arguments
+abbrev pub IsLargeAt : DeclTree → Pos → Type 0
+IsLargeAt decl at = (255 < length decl.arg_tys) × (at ≡ decl.pos)
+
+-- one of some declarations has too many arguments, at its position
+abbrev pub IsOneLargeAt : List DeclTree → Pos → Type 0
+IsOneLargeAt decls at = (decl : DeclTree) × IsAmong decls decl × IsLargeAt decl at
+
+-- one of some declarations names an unknown type
+abbrev pub OneNamesUnknownType : Environment → List DeclTree → Pos → Type 0
+OneNamesUnknownType types decls at = (decl : DeclTree) × IsAmong decls decl × NamesUnknownType types decl at
+
+-- there is one error alone, of which the fact holds
+abbrev pub IsAlone : (Error → Type 0) → List Error → Type 0
+IsAlone P [] = ⊥
+IsAlone P (error ∷ []) = P error
+IsAlone P (error ∷ _ ∷ _) = ⊥
+
+-- the term of one declaration comes behind the terms so far, and its number is its place
+pub record AddsDeclaredTerm (types : Environment) (defs : List Def) (names : List (List ℕ)) (decl : DeclTree) (old new : List Term) : Type 0 where
+  pub term : Term
+  pub all : new ≡ old ++ term ∷ []
+  pub meant : IsDeclaredTerm types defs names (term_at (length old)) decl term
+
+-- terms are those of declarations, each at the place of its number
+pub record AreDeclaredTerms (types : Environment) (defs : List Def) (names : List (List ℕ)) (decls : List DeclTree) (terms : List Term) : Type 0 where
+  pub signatures : List Signature
+  pub meant : AllZip (IsDeclaration types defs) decls signatures
+  pub shown : AllZip (IsShownTerm names) signatures terms
+  pub counted : CountUp (λ (term : Term). term.id.0) 0 terms
+  pub within : All (λ (decl : DeclTree). length decl.arg_tys ≤ 255) decls
+
+-- terms that show these signatures come behind the terms so far, and their numbers are their places
+pub record AddsTerms (names : List (List ℕ)) (signatures : List Signature) (old new : List Term) : Type 0 where
+  pub added : List Term
+  pub all : new ≡ old ++ added
+  pub shown : AllZip (IsShownTerm names) signatures added
+  pub counted : CountUp (λ (term : Term). term.id.0) (length old) added
+
+-- the term of the variant of a number, of the type of a number and name
+abbrev pub variant_signature : ℕ → List ℕ → ℕ → NamedVariant → Signature
+variant_signature ty type number variant = record {
+  name = type ++ codes "." ++ variant.name;
+  args = numbers_in variant.fields;
+  ret = ty;
+  form = variant_form number;
+  pos = variant.pos;
+}
+
+-- the number of the term of a name, by the symbol of the name among interned names
+abbrev pub number_named : List (List ℕ) → List (Sym × TermId) → List ℕ → Option TermId
+number_named names numbers name = option_and_then (λ (sym : Sym). value_at same_sym numbers sym) (option_map symbol_at (position_of names name))

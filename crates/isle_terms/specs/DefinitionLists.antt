@@ -1,5 +1,5 @@
 -- What the host provides for terms, as definitions give it.
-use Rattle.std.specs.Prelude.{List, Option}
+use Rattle.std.specs.Prelude.{Option}
 use Rattle.std.specs.Option.{option_and_then}
 use Rattle.isle_syntax.specs.declared.ast.Ident.{Ident}
 use Rattle.isle_syntax.specs.declared.ast.Def.{Def}

@@ -1,5 +1,5 @@
 use Rattle.std.proofs.Common.{◌≡◌, ap, sym, subst, ◌∙◌, slice_get, Some, None}
-use Rattle.std.specs.Option.{option_map, option_and_then}
+use Rattle.std.specs.Option.{option_map}
 use Rattle.isle_terms.specs.declared.env.definitions.HostConstructor.{HostConstructor}
 use Rattle.isle_terms.specs.declared.terms.ConstructorKind.TheVariants.{InternalConstructor, ExternalConstructor}
 use Rattle.isle_terms.specs.Signatures.{external_constructor}

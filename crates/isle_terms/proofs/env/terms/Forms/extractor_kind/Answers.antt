@@ -1,4 +1,4 @@
-use Rattle.std.proofs.Common.{◌≡◌, sym, subst, refl, ◌∙◌, ◌-◌, length, get_or, Some, None}
+use Rattle.std.proofs.Common.{sym, subst, refl, ◌∙◌, ◌-◌, length, get_or, Some, None}
 use Rattle.isle_terms.specs.declared.terms.ExtractorKind.TheVariants.{ExternalExtractor}
 use Rattle.isle_terms.specs.DeclaredTerms.{AreShownAs, IsShownExtractor}
 use Rattle.isle_terms.proofs.NamedPlaces.{no_extractor_place}
