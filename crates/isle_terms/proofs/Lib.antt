@@ -98,3 +98,7 @@ pub mod RulesCollected
 pub mod ConditionSteps
 -- Terms of declarations, under names that grow and one after the other.
 pub mod DeclaredTerms
+-- What checks of definitions report breaks a rule of terms, and where they report nothing the rule is kept.
+pub mod CheckedDefinitions
+-- What checks of definitions add are faults of typing.
+pub mod CheckedTyping
