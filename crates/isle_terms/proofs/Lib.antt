@@ -64,8 +64,6 @@ pub mod Leaving
 pub mod SymNames
 -- The roots of rules, and what reading a whole rule comes to.
 pub mod RuleRoots
--- What a search for a name finds, by the name's place.
-pub mod NamedPlaces
 -- What typed rules and terms show stays as it is when more names are interned.
 pub mod ShownMore
 -- The steps of a reading of expressions.
@@ -82,8 +80,6 @@ pub mod Cycles
 pub mod ExtractorGraphs
 -- Edges that are added to a graph.
 pub mod AddedEdges
--- What typed rules and terms show stays as it is when more names are interned.
-pub mod ShownMore
 -- Where definitions and types stand, the faults of typing do.
 pub mod TypingPlaces
 -- What typed rules show stays under more names.

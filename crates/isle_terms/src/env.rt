@@ -50,11 +50,6 @@ impl Model for TermEnv {
     ghost use Rattle.isle_terms.specs.contracts.rules.Pattern as pattern;
     ghost use Rattle.isle_terms.specs.contracts.rules.Expr as expr;
 
-    ghost use Rattle.std.specs.Coded.{codes};
-    ghost use Rattle.isle_syntax.specs.Trees.PatternCode.{pattern_tree_code, pattern_trees_code};
-    ghost use Rattle.isle_terms.specs.contracts.rules.Pattern as pattern;
-    ghost use Rattle.isle_terms.specs.contracts.rules.Expr as expr;
-
     ghost Value = { TermTables };
 
     ghost coded = { Prim.hlevel (codes, pattern_tree_code, pattern_trees_code, pattern.the_row.coded, expr.the_row.coded) };
