@@ -2,23 +2,23 @@ ghost use Rattle.std.specs.Prelude.{◌≡◌, ◌≤◌, [], slice_get, All, If
 ghost use Rattle.isle_terms.specs.declared.terms.Term.{Term as TermRecord};
 ghost use Rattle.std.specs.Option.{option_copied, option_and_then, option_map};
 ghost use Rattle.isle_types.specs.TypeEnvs.{sym_named};
-ghost use Rattle.isle_terms.specs.TermTables.{term_with, rule_with, converter_with};
-ghost use Rattle.isle_terms.specs.Needs.{needed_of};
+ghost use Rattle.isle_terms.specs.Shown.TermTables.{term_with, rule_with, converter_with};
+ghost use Rattle.isle_terms.specs.Readings.Needs.{needed_of};
 
+mod bodies;
 mod checks;
 mod converters;
-mod definitions;
-mod name_table;
-mod bodies;
 mod cycles;
+mod definitions;
 mod graph;
+mod name_table;
 mod named;
 mod naming;
-mod recursion;
 mod needs;
+mod recursion;
 mod report;
-mod terms;
 mod rules;
+mod terms;
 
 use crate::env::needs::needs_of;
 use crate::rules::Rule;
@@ -43,8 +43,8 @@ pub struct TermEnv {
 
 impl Model for TermEnv {
     ghost use Rattle.std.specs.Prelude.{◌≡◌, map};
-    ghost use Rattle.isle_terms.specs.TermTables.{TermTables};
-    ghost use Rattle.isle_terms.specs.Needs.{needed_of};
+    ghost use Rattle.isle_terms.specs.Shown.TermTables.{TermTables};
+    ghost use Rattle.isle_terms.specs.Readings.Needs.{needed_of};
     ghost use Rattle.std.specs.Coded.{codes};
     ghost use Rattle.isle_syntax.specs.Trees.PatternCode.{pattern_tree_code, pattern_trees_code};
     ghost use Rattle.isle_terms.specs.contracts.rules.Pattern as pattern;

@@ -4,10 +4,10 @@ ghost use Rattle.isle_syntax.specs.declared.ast.Decl.{Decl as DeclTree};
 ghost use Rattle.isle_syntax.specs.declared.ast.Extractor.{Extractor as ExtractorTree};
 ghost use Rattle.isle_syntax.specs.Trees.PatternShape.{pattern_of};
 ghost use Rattle.isle_terms.specs.Definitions.{root_name, roots_of, ExternalExtractor};
-ghost use Rattle.isle_terms.specs.Checks.{ChecksEach};
-ghost use Rattle.isle_terms.specs.NameTables.{IsTableOf};
-ghost use Rattle.isle_terms.specs.DefinitionLists.{host_constructor_shown, host_extractor_shown};
-ghost use Rattle.isle_terms.specs.DefinitionChecks.{is_ill_root, is_ill_host, is_ill_extractor, is_ill_name, is_unused, is_ill_marked};
+ghost use Rattle.isle_terms.specs.Collecting.Checks.{ChecksEach};
+ghost use Rattle.isle_terms.specs.Collecting.NameTables.{IsTableOf};
+ghost use Rattle.isle_terms.specs.Collecting.DefinitionLists.{host_constructor_shown, host_extractor_shown};
+ghost use Rattle.isle_terms.specs.Collecting.DefinitionChecks.{is_ill_root, is_ill_host, is_ill_extractor, is_ill_name, is_unused, is_ill_marked};
 
 use crate::env::definitions::{HostConstructor, HostExtractor};
 use crate::env::name_table::NameTable;
@@ -64,7 +64,12 @@ pub fn check_roots(
 {
     for rule in rules {
         if is_ill_root(rule, declared) {
-            report(&mut *errors, tyenv, rule.pos, "the root of a rule must be a declared term")?;
+            report(
+                &mut *errors,
+                tyenv,
+                rule.pos,
+                "the root of a rule must be a declared term",
+            )?;
         }
     }
     Ok(())
@@ -89,7 +94,12 @@ pub fn check_host_constructors(
 {
     for host in hosts {
         if is_ill_host(host, declared, roots) {
-            report(&mut *errors, tyenv, host.term.1, "an external constructor must be of a declared term without rules")?;
+            report(
+                &mut *errors,
+                tyenv,
+                host.term.1,
+                "an external constructor must be of a declared term without rules",
+            )?;
         }
     }
     Ok(())
@@ -120,7 +130,12 @@ pub fn check_extractors(
 {
     for extractor in extractors {
         if is_ill_extractor(extractor, decls, declared) {
-            report(&mut *errors, tyenv, extractor.pos, "an internal extractor must be of a declared term that is not `multi`")?;
+            report(
+                &mut *errors,
+                tyenv,
+                extractor.pos,
+                "an internal extractor must be of a declared term that is not `multi`",
+            )?;
         }
     }
     Ok(())
@@ -144,7 +159,12 @@ pub fn check_host_extractors(
 {
     for host in hosts {
         if is_ill_name(host, declared) {
-            report(&mut *errors, tyenv, host.pos, "an external extractor must be of a declared term")?;
+            report(
+                &mut *errors,
+                tyenv,
+                host.pos,
+                "an external extractor must be of a declared term",
+            )?;
         }
     }
     Ok(())
@@ -171,7 +191,12 @@ pub fn check_defined(
 {
     for decl in decls {
         if is_unused(decl, roots, hosts, extractors) {
-            report(&mut *errors, tyenv, decl.pos, "no rule, extractor or external constructor defines this term")?;
+            report(
+                &mut *errors,
+                tyenv,
+                decl.pos,
+                "no rule, extractor or external constructor defines this term",
+            )?;
         }
     }
     Ok(())
@@ -194,7 +219,12 @@ pub fn check_marks(
 {
     for decl in decls {
         if is_ill_marked(decl) {
-            report(&mut *errors, tyenv, decl.pos, "a term is not both `multi` and `partial`")?;
+            report(
+                &mut *errors,
+                tyenv,
+                decl.pos,
+                "a term is not both `multi` and `partial`",
+            )?;
         }
     }
     Ok(())

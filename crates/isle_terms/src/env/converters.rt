@@ -5,11 +5,11 @@ ghost use Rattle.isle_types.specs.Environment.{Environment};
 ghost use Rattle.isle_types.specs.TypeEnvs.{Shows};
 ghost use Rattle.isle_terms.specs.Signatures.{Signature};
 ghost use Rattle.isle_terms.specs.Definitions.{converters_in, names_of_terms};
-ghost use Rattle.isle_terms.specs.TermTables.{same_types};
+ghost use Rattle.isle_terms.specs.Shown.TermTables.{same_types};
 ghost use Rattle.isle_terms.specs.TermFaults.{ConverterBreaks};
-ghost use Rattle.isle_terms.specs.Checks.{Checks};
-ghost use Rattle.isle_terms.specs.NameTables.{IsTableOf};
-ghost use Rattle.isle_terms.specs.ReadConverters.{IsReadAs, IsIllConverter, AreReadConverters};
+ghost use Rattle.isle_terms.specs.Collecting.Checks.{Checks};
+ghost use Rattle.isle_terms.specs.Collecting.NameTables.{IsTableOf};
+ghost use Rattle.isle_terms.specs.Collecting.ReadConverters.{IsReadAs, IsIllConverter, AreReadConverters};
 
 use crate::env::name_table::NameTable;
 use crate::env::report::report;

@@ -1,6 +1,6 @@
 ghost use Rattle.std.specs.Prelude.{◌≡◌, ◌≤◌, map, IfOk, All};
 ghost use Rattle.isle_terms.specs.declared.terms.Term.{Term as TermRecord};
-ghost use Rattle.isle_terms.specs.Needs.{needed_of};
+ghost use Rattle.isle_terms.specs.Readings.Needs.{needed_of};
 
 use crate::terms::{ExtractorKind, Term, TermKind};
 use crate::translate::frames::needed_arguments;

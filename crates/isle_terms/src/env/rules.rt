@@ -11,19 +11,19 @@ ghost use Rattle.isle_terms.specs.TypedRules.{TypedRule};
 ghost use Rattle.isle_terms.specs.Signatures.{Declared};
 ghost use Rattle.isle_terms.specs.Elaboration.{ElaboratesRule};
 ghost use Rattle.isle_terms.specs.RuleReaching.{IsIllRule};
-ghost use Rattle.isle_terms.specs.Outcomes.{Outcome, stands_for, only_if};
-ghost use Rattle.isle_terms.specs.RuleOutcomes.{RuleParts};
-ghost use Rattle.isle_terms.specs.Telling.{rule_of_parts};
-ghost use Rattle.isle_terms.specs.ShownTerms.{flags_shown, form_shown, ShowsDeclared};
-ghost use Rattle.isle_terms.specs.Scopes.{variable_shown};
-ghost use Rattle.isle_terms.specs.RuleRoots.{declared_flags, root_in, may_have_priority, read_rooted, read_whole};
-ghost use Rattle.isle_terms.specs.RulesShown.{parts_limit, IsShownVariable, IsShownName, IsShownRule};
-ghost use Rattle.isle_terms.specs.RootsShown.{root_shown, rule_read};
-ghost use Rattle.isle_terms.specs.RuleChecks.{HasSomeRoot, IsLargeAt, IsIllAmong, IsLargeAmong, AreTyped, IsLoneSize};
-ghost use Rattle.isle_terms.specs.TermLimits.{HasKnownSymbols};
-ghost use Rattle.isle_terms.specs.Checks.{Checks};
-ghost use Rattle.isle_terms.specs.Failures.{Fails};
-ghost use Rattle.isle_terms.specs.Contexts.{known_in};
+ghost use Rattle.isle_terms.specs.Readings.Outcomes.{Outcome, stands_for, only_if};
+ghost use Rattle.isle_terms.specs.Readings.RuleOutcomes.{RuleParts};
+ghost use Rattle.isle_terms.specs.Readings.Telling.{rule_of_parts};
+ghost use Rattle.isle_terms.specs.Shown.ShownTerms.{flags_shown, form_shown, ShowsDeclared};
+ghost use Rattle.isle_terms.specs.Readings.Scopes.{variable_shown};
+ghost use Rattle.isle_terms.specs.Collecting.RuleRoots.{declared_flags, root_in, may_have_priority, read_rooted, read_whole};
+ghost use Rattle.isle_terms.specs.Shown.RulesShown.{parts_limit, IsShownVariable, IsShownName, IsShownRule};
+ghost use Rattle.isle_terms.specs.Shown.RootsShown.{root_shown, rule_read};
+ghost use Rattle.isle_terms.specs.Collecting.RuleChecks.{HasSomeRoot, IsLargeAt, IsIllAmong, IsLargeAmong, AreTyped, IsLoneSize};
+ghost use Rattle.isle_terms.specs.Shown.TermLimits.{HasKnownSymbols};
+ghost use Rattle.isle_terms.specs.Collecting.Checks.{Checks};
+ghost use Rattle.isle_terms.specs.Readings.Failures.{Fails};
+ghost use Rattle.isle_terms.specs.Readings.Contexts.{known_in};
 
 use crate::env::TermEnv;
 use crate::rules::{BoundVar, Rule};
@@ -99,10 +99,18 @@ fn check_root(
         (only_if (may_have_priority (flags_shown root.now.flags) tree.now.prio) tree.now.pos next)) e) }
 {
     if root.args.len() != root.term.arg_tys.as_slice().len() {
-        return Err(ill_typed(context, root.pos, "this rule has another number of arguments than its term"));
+        return Err(ill_typed(
+            context,
+            root.pos,
+            "this rule has another number of arguments than its term",
+        ));
     }
     if root.flags.multi && tree.prio.is_some() {
-        return Err(ill_typed(context, tree.pos, "a rule of a `multi` term has no priority"));
+        return Err(ill_typed(
+            context,
+            tree.pos,
+            "a rule of a `multi` term has no priority",
+        ));
     }
     Ok(())
 }
@@ -119,10 +127,16 @@ fn read_rule(
     ensures symbols { IfOk result (λ read. parts_limit read.parts ≤ length context.now.tyenv.now.names) }
 {
     let Some(root) = rule_root(context, tree) else {
-        return Err(ill_typed(context, tree.pos, "the root of a rule must be a declared term"));
+        return Err(ill_typed(
+            context,
+            tree.pos,
+            "the root of a rule must be a declared term",
+        ));
     };
     check_root(context, &root, tree)?;
-    let (parts, bindings) = translate_parts(context, levels, root.term, root.flags, root.pos, root.args, tree)?;
+    let (parts, bindings) = translate_parts(
+        context, levels, root.term, root.flags, root.pos, root.args, tree,
+    )?;
     Ok(ReadRule {
         root: root.id,
         parts,

@@ -5,20 +5,20 @@ ghost use Rattle.isle_syntax.specs.Errors.{IfFault, IsFaultAnd, error_kind, size
 ghost use Rattle.isle_types.specs.Environment.{Environment};
 ghost use Rattle.isle_types.specs.TypeEnvs.{Shows, HasMoreNames};
 ghost use Rattle.isle_terms.specs.Definitions.{IsTypeNumber, constructor_for, extractor_for};
-ghost use Rattle.isle_terms.specs.ShownTerms.{numbers_of};
-ghost use Rattle.isle_terms.specs.DeclaredTerms.{AreFormsOf, AreShownAs, IsShownConstructor, IsShownExtractor, IsDeclaredTerm};
-ghost use Rattle.isle_terms.specs.DeclaredTerms.{IsDeclarationFault, IsUnknownTypeAt, IsOneUnknownAt, HasPlainTemplates};
-ghost use Rattle.isle_terms.specs.DeclaredTerms.{IsShownForm, NamesUnknownType, OneNamesUnknownType, IsLargeAt, IsOneLargeAt, IsAlone};
-ghost use Rattle.isle_terms.specs.DeclaredTerms.{AddsDeclaredTerm, AreDeclaredTerms};
-ghost use Rattle.isle_terms.specs.Checks.{Checks};
-ghost use Rattle.isle_terms.specs.ExtractorChecks.{Adds};
+ghost use Rattle.isle_terms.specs.Shown.ShownTerms.{numbers_of};
+ghost use Rattle.isle_terms.specs.Collecting.DeclaredTerms.{AreFormsOf, AreShownAs, IsShownConstructor, IsShownExtractor, IsDeclaredTerm};
+ghost use Rattle.isle_terms.specs.Collecting.DeclaredTerms.{IsDeclarationFault, IsUnknownTypeAt, IsOneUnknownAt, HasPlainTemplates};
+ghost use Rattle.isle_terms.specs.Collecting.DeclaredTerms.{IsShownForm, NamesUnknownType, OneNamesUnknownType, IsLargeAt, IsOneLargeAt, IsAlone};
+ghost use Rattle.isle_terms.specs.Collecting.DeclaredTerms.{AddsDeclaredTerm, AreDeclaredTerms};
+ghost use Rattle.isle_terms.specs.Collecting.Checks.{Checks};
+ghost use Rattle.isle_terms.specs.Collecting.ExtractorChecks.{Adds};
 ghost use Rattle.isle_types.specs.TypeFaults.{IsTypeFault, IsSizeFault};
 ghost use Rattle.isle_syntax.specs.Trees.PatternShape.{pattern_of};
 ghost use Rattle.isle_syntax.specs.Trees.TreeCalls.{has_macro_arg};
 ghost use Rattle.isle_syntax.specs.Trees.Templates.{template_tree};
 ghost use Rattle.isle_terms.specs.Signatures.{by_template, declared_form};
 ghost use Rattle.isle_terms.specs.Definitions.{flags_in};
-ghost use Rattle.isle_terms.specs.ShownTerms.{flags_shown};
+ghost use Rattle.isle_terms.specs.Shown.ShownTerms.{flags_shown};
 
 use crate::env::definitions::{HostConstructor, HostExtractor};
 use crate::env::name_table::NameTable;
@@ -294,11 +294,7 @@ struct DeclaredTypes {
 }
 
 /// The types that a declaration names.
-fn types_of(
-    alloc: Global,
-    tyenv: &TypeEnv,
-    decl: &Decl,
-) -> Result<DeclaredTypes, Refusal<Error>>
+fn types_of(alloc: Global, tyenv: &TypeEnv, decl: &Decl) -> Result<DeclaredTypes, Refusal<Error>>
     ensures within { OnOk result (length decl.now.arg_tys ≤ 255) }
     ensures arguments { (types : Environment) → Shows tyenv.now types
         → IfOk result (λ made. AllZip (IsTypeNumber types) decl.now.arg_tys (numbers_of made.arguments.items)) }

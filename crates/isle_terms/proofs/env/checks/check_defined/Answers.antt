@@ -1,12 +1,12 @@
 use Rattle.std.proofs.Common.{map, sym, ap, ◌∙◌, refl}
 use Rattle.isle_syntax.specs.declared.ast.Decl.{Decl as DeclTree}
-use Rattle.isle_terms.specs.DefinitionChecks.{is_unused}
-use Rattle.isle_terms.proofs.Checking.{item_at, each_ill, each_well, each_done, past_mapped}
+use Rattle.isle_terms.specs.Collecting.DefinitionChecks.{is_unused}
+use Rattle.isle_terms.proofs.Collections.Checking.{item_at, each_ill, each_well, each_done, past_mapped}
 use Rattle.isle_terms.proofs.env.checks.check_defined.Goals as goal
 use Rattle.isle_terms.proofs.env.checks.check_defined.Goals.{then-is_unused+in_ok-report, else-is_unused}
 
 pub loop-decl-preserved : goal.loop-decl-preserved
-loop-decl-preserved c = λ ruled hosted extracted is_ruled is_hosted is_extracted. 
+loop-decl-preserved c = λ ruled hosted extracted is_ruled is_hosted is_extracted.
     let items = map (λ decl. decl.now) c.args.decls.now in
     let i = c.loop-decl.decl-index in
     let here = item_at (λ decl. decl.now) c.args.decls.now i c.decl-item.result c.loop-decl-test.true c.decl-item.is in

@@ -1,12 +1,12 @@
 use Rattle.std.proofs.Common.{map, sym, ap, ◌∙◌, refl}
 use Rattle.isle_syntax.specs.declared.ast.Extractor.{Extractor as ExtractorTree}
-use Rattle.isle_terms.specs.DefinitionChecks.{is_ill_extractor}
-use Rattle.isle_terms.proofs.Checking.{item_at, each_ill, each_well, each_done, past_mapped}
+use Rattle.isle_terms.specs.Collecting.DefinitionChecks.{is_ill_extractor}
+use Rattle.isle_terms.proofs.Collections.Checking.{item_at, each_ill, each_well, each_done, past_mapped}
 use Rattle.isle_terms.proofs.env.checks.check_extractors.Goals as goal
 use Rattle.isle_terms.proofs.env.checks.check_extractors.Goals.{then-is_ill_extractor+in_ok-report, else-is_ill_extractor}
 
 pub loop-extractor-preserved : goal.loop-extractor-preserved
-loop-extractor-preserved c = λ names is_names. 
+loop-extractor-preserved c = λ names is_names.
     let items = map (λ extractor. extractor.now) c.args.extractors.now in
     let i = c.loop-extractor.extractor-index in
     let here = item_at (λ extractor. extractor.now) c.args.extractors.now i c.extractor-item.result c.loop-extractor-test.true c.extractor-item.is in

@@ -1,12 +1,12 @@
 use Rattle.std.proofs.Common.{map, sym, ap, ◌∙◌, refl}
-use Rattle.isle_terms.specs.DefinitionLists.{host_constructor_shown}
-use Rattle.isle_terms.specs.DefinitionChecks.{is_ill_host}
-use Rattle.isle_terms.proofs.Checking.{item_at, each_ill, each_well, each_done, past_mapped}
+use Rattle.isle_terms.specs.Collecting.DefinitionLists.{host_constructor_shown}
+use Rattle.isle_terms.specs.Collecting.DefinitionChecks.{is_ill_host}
+use Rattle.isle_terms.proofs.Collections.Checking.{item_at, each_ill, each_well, each_done, past_mapped}
 use Rattle.isle_terms.proofs.env.checks.check_host_constructors.Goals as goal
 use Rattle.isle_terms.proofs.env.checks.check_host_constructors.Goals.{then-is_ill_host+in_ok-report, else-is_ill_host}
 
 pub loop-host-preserved : goal.loop-host-preserved
-loop-host-preserved c = λ names ruled is_names is_ruled. 
+loop-host-preserved c = λ names ruled is_names is_ruled.
     let items = map host_constructor_shown c.args.hosts.now in
     let i = c.loop-host.host-index in
     let here = item_at host_constructor_shown c.args.hosts.now i c.host-item.result c.loop-host-test.true c.host-item.is in

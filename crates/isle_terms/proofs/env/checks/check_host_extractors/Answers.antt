@@ -1,13 +1,13 @@
 use Rattle.std.proofs.Common.{map, sym, ap, ◌∙◌, refl}
 use Rattle.isle_terms.specs.Definitions.{ExternalExtractor}
-use Rattle.isle_terms.specs.DefinitionLists.{host_extractor_shown}
-use Rattle.isle_terms.specs.DefinitionChecks.{is_ill_name}
-use Rattle.isle_terms.proofs.Checking.{item_at, each_ill, each_well, each_done, past_mapped}
+use Rattle.isle_terms.specs.Collecting.DefinitionLists.{host_extractor_shown}
+use Rattle.isle_terms.specs.Collecting.DefinitionChecks.{is_ill_name}
+use Rattle.isle_terms.proofs.Collections.Checking.{item_at, each_ill, each_well, each_done, past_mapped}
 use Rattle.isle_terms.proofs.env.checks.check_host_extractors.Goals as goal
 use Rattle.isle_terms.proofs.env.checks.check_host_extractors.Goals.{then-is_ill_name+in_ok-report, else-is_ill_name}
 
 pub loop-host-preserved : goal.loop-host-preserved
-loop-host-preserved c = λ names is_names. 
+loop-host-preserved c = λ names is_names.
     let items = map host_extractor_shown c.args.hosts.now in
     let i = c.loop-host.host-index in
     let here = item_at host_extractor_shown c.args.hosts.now i c.host-item.result c.loop-host-test.true c.host-item.is in

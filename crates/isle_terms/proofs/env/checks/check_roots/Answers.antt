@@ -1,12 +1,12 @@
 use Rattle.std.proofs.Common.{map, sym, ap, ◌∙◌, refl}
 use Rattle.isle_syntax.specs.declared.ast.Rule.{Rule as RuleTree}
-use Rattle.isle_terms.specs.DefinitionChecks.{is_ill_root}
-use Rattle.isle_terms.proofs.Checking.{item_at, each_ill, each_well, each_done, past_mapped}
+use Rattle.isle_terms.specs.Collecting.DefinitionChecks.{is_ill_root}
+use Rattle.isle_terms.proofs.Collections.Checking.{item_at, each_ill, each_well, each_done, past_mapped}
 use Rattle.isle_terms.proofs.env.checks.check_roots.Goals as goal
 use Rattle.isle_terms.proofs.env.checks.check_roots.Goals.{then-is_ill_root+in_ok-report, else-is_ill_root}
 
 pub loop-rule-preserved : goal.loop-rule-preserved
-loop-rule-preserved c = λ names is_names. 
+loop-rule-preserved c = λ names is_names.
     let items = map (λ rule. rule.now) c.args.rules.now in
     let i = c.loop-rule.rule-index in
     let here = item_at (λ rule. rule.now) c.args.rules.now i c.rule-item.result c.loop-rule-test.true c.rule-item.is in

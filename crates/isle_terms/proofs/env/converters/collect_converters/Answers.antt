@@ -1,8 +1,8 @@
 use Rattle.std.proofs.Common.{length, subst, sym, ap, ◌∙◌, ◌≤◌, slice_get}
 use Rattle.isle_types.specs.StableMaps.{value_at}
-use Rattle.isle_terms.specs.TermTables.{same_types}
-use Rattle.isle_terms.proofs.Checking.{item_at, past_mapped}
-use Rattle.isle_terms.proofs.ReadConverters.{read_ill, read_more, read_all}
+use Rattle.isle_terms.specs.Shown.TermTables.{same_types}
+use Rattle.isle_terms.proofs.Collections.Checking.{item_at, past_mapped}
+use Rattle.isle_terms.proofs.Collections.ReadConverters.{read_ill, read_more, read_all}
 use Rattle.isle_terms.proofs.env.converters.collect_converters.Goals as goal
 use Rattle.isle_terms.proofs.env.converters.collect_converters.Goals.{in-Ok+in_ok-insert-in-Ok, in-Err+in_ok-report-in-Err}
 

@@ -1,7 +1,7 @@
 use Rattle.std.proofs.Common.{ap, sym, ◌∙◌}
 use Rattle.isle_types.specs.Names.{position_of}
-use Rattle.isle_terms.specs.ReadConverters.{unknown_inner, unknown_outer, unknown_term, second_of_types}
-use Rattle.isle_terms.proofs.ReadConverters.{unknown_type, known_type}
+use Rattle.isle_terms.specs.Collecting.ReadConverters.{unknown_inner, unknown_outer, unknown_term, second_of_types}
+use Rattle.isle_terms.proofs.Collections.ReadConverters.{unknown_type, known_type}
 use Rattle.isle_terms.proofs.env.converters.read_converter.Goals as goal
 
 pub returns-in_default-clause-ill : goal.returns-in_default-clause-ill

@@ -1,5 +1,5 @@
 use Rattle.std.proofs.Common.{◌≡◌, map, take}
-use Rattle.isle_terms.specs.Needs.{needed_of}
+use Rattle.isle_terms.specs.Readings.Needs.{needed_of}
 use Rattle.isle_terms.proofs.env.needs.needs_of.Given as goal
 
 abbrev pub invariant-loop-term : goal.invariant-loop-term

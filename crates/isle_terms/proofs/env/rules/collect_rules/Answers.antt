@@ -3,11 +3,11 @@ use Rattle.std.proofs.lemmas.Result.{err_from_is_err_and}
 use Rattle.isle_types.specs.declared.ids.RuleId.{RuleId}
 use Rattle.isle_types.proofs.Zipped.{all_at}
 use Rattle.isle_types.proofs.Tables.{more_then}
-use Rattle.isle_terms.specs.Checks.{Checks}
-use Rattle.isle_terms.specs.RuleChecks.{HasSomeRoot, IsIllAmong, AreTyped}
-use Rattle.isle_terms.proofs.Checking.{item_at, past_mapped}
-use Rattle.isle_terms.proofs.MoreNames.{shows_still}
-use Rattle.isle_terms.proofs.RulesCollected.{rule_reported, rule_alone, rule_added, rules_done}
+use Rattle.isle_terms.specs.Collecting.Checks.{Checks}
+use Rattle.isle_terms.specs.Collecting.RuleChecks.{HasSomeRoot, IsIllAmong, AreTyped}
+use Rattle.isle_terms.proofs.Collections.Checking.{item_at, past_mapped}
+use Rattle.isle_terms.proofs.Showing.MoreNames.{shows_still}
+use Rattle.isle_terms.proofs.Collections.RulesCollected.{rule_reported, rule_alone, rule_added, rules_done}
 use Rattle.isle_terms.proofs.env.rules.collect_rules.Goals as goal
 use Rattle.isle_terms.proofs.env.rules.collect_rules.Goals.{in-Ok+in_ok-push-in-Ok, in-Err+in_ok-keep_fault-in-Err}
 

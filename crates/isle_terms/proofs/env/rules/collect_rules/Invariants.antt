@@ -2,10 +2,10 @@ use Rattle.std.proofs.Common.{map, take}
 use Rattle.std.specs.List.{All}
 use Rattle.isle_types.specs.TypeEnvs.{HasMoreNames}
 use Rattle.isle_terms.specs.Signatures.{Declared}
-use Rattle.isle_terms.specs.ShownTerms.{ShowsDeclared}
-use Rattle.isle_terms.specs.TermLimits.{HasKnownSymbols}
-use Rattle.isle_terms.specs.Checks.{Checks}
-use Rattle.isle_terms.specs.RuleChecks.{HasSomeRoot, IsIllAmong, AreTyped}
+use Rattle.isle_terms.specs.Shown.ShownTerms.{ShowsDeclared}
+use Rattle.isle_terms.specs.Shown.TermLimits.{HasKnownSymbols}
+use Rattle.isle_terms.specs.Collecting.Checks.{Checks}
+use Rattle.isle_terms.specs.Collecting.RuleChecks.{HasSomeRoot, IsIllAmong, AreTyped}
 use Rattle.isle_terms.proofs.env.rules.collect_rules.Given as goal
 
 abbrev pub invariant-loop-rule : goal.invariant-loop-rule

@@ -2,7 +2,7 @@ use Rattle.std.proofs.Common.{refl, sym, ◌∙◌, length, zero-add}
 use Rattle.isle_terms.specs.declared.rules.BoundVar.{BoundVar}
 use Rattle.isle_types.proofs.Tables.{more_then}
 use Rattle.isle_types.proofs.FieldReadings.{count_more}
-use Rattle.isle_terms.proofs.RulesShown.{variable_more}
+use Rattle.isle_terms.proofs.Showing.RulesShown.{variable_more}
 use Rattle.isle_terms.proofs.env.rules.intern_variables.Goals as goal
 
 pub loop-variable-preserved : goal.loop-variable-preserved

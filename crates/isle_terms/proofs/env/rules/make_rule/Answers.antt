@@ -6,8 +6,8 @@ use mir.Syntax.{w64}
 use mir.Val.{SFits}
 use Rattle.std.proofs.lemmas.Int.{to_z-of_z}
 use Rattle.isle_terms.specs.declared.rules.BoundVar.{BoundVar}
-use Rattle.isle_terms.specs.RulesShown.{IsShownVariable}
-use Rattle.isle_terms.proofs.RulesShown.{made_is_shown}
+use Rattle.isle_terms.specs.Shown.RulesShown.{IsShownVariable}
+use Rattle.isle_terms.proofs.Showing.RulesShown.{made_is_shown}
 use Rattle.isle_terms.proofs.env.rules.make_rule.Goals as goal
 
 pub returns-clause-shown : goal.returns-clause-shown

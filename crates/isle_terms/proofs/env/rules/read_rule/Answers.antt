@@ -1,14 +1,14 @@
 use Rattle.std.proofs.Common.{sym}
 use Rattle.std.proofs.lemmas.Result.{err_from_is_err_and}
-use Rattle.isle_terms.specs.Contexts.{known_in}
-use Rattle.isle_terms.specs.ShownTerms.{flags_shown, term_shown}
-use Rattle.isle_terms.specs.Outcomes.{only_if}
-use Rattle.isle_terms.specs.RuleOutcomes.{read_rule}
+use Rattle.isle_terms.specs.Readings.Contexts.{known_in}
+use Rattle.isle_terms.specs.Shown.ShownTerms.{flags_shown, term_shown}
+use Rattle.isle_terms.specs.Readings.Outcomes.{only_if}
+use Rattle.isle_terms.specs.Readings.RuleOutcomes.{read_rule}
 use Rattle.isle_syntax.specs.Trees.PatternShape.{patterns_of}
-use Rattle.isle_terms.specs.RuleRoots.{may_have_priority}
-use Rattle.isle_terms.specs.RulesShown.{parts_shown}
-use Rattle.isle_terms.specs.RootsShown.{root_shown}
-use Rattle.isle_terms.proofs.RuleRoots.{same_arity, arity_fails, whole_stands, whole_fails, root_fails}
+use Rattle.isle_terms.specs.Collecting.RuleRoots.{may_have_priority}
+use Rattle.isle_terms.specs.Shown.RulesShown.{parts_shown}
+use Rattle.isle_terms.specs.Shown.RootsShown.{root_shown}
+use Rattle.isle_terms.proofs.Collections.RuleRoots.{same_arity, arity_fails, whole_stands, whole_fails, root_fails}
 use Rattle.isle_terms.proofs.env.rules.read_rule.Goals as goal
 
 pub returns-in_err-check_root-clause-err : goal.returns-in_err-check_root-clause-err
@@ -19,8 +19,8 @@ returns-in_err-check_root-clause-err c =
     let tree = c.args.tree.now in
     let root = c.in-Some.root in
     let next = only_if (may_have_priority (flags_shown root.flags) tree.prio) tree.pos
-        (read_rule known context.max_nodes c.args.levels (term_shown context.tyenv.now.names root.term.now) (flags_shown root.flags) root.pos
-        (patterns_of root.args.now) tree) in
+    (read_rule known context.max_nodes c.args.levels (term_shown context.tyenv.now.names root.term.now) (flags_shown root.flags) root.pos
+    (patterns_of root.args.now) tree) in
     rw (e.1, e.2)
     (root_fails context.rule known context.max_nodes c.args.levels tree (root_shown context.tyenv.now.names root) c.in_err-check_root.field-0.0
     (sym c.in-Some.ensures)

@@ -1,12 +1,12 @@
 use Rattle.std.proofs.Common.{◌∷◌, [], map, length, ap, ◌∙◌}
 use Rattle.std.proofs.lemmas.List.{map-append}
-use Rattle.isle_terms.specs.RuleOutcomes.{read_conditions}
-use Rattle.isle_terms.specs.ShownTerms.{flags_shown}
-use Rattle.isle_terms.specs.ShownRules.{iflet_shown}
-use Rattle.isle_terms.specs.Contexts.{known_in}
-use Rattle.isle_terms.specs.RulesShown.{iflet_limit}
-use Rattle.isle_terms.proofs.ExprSteps.{greatest_pushed}
-use Rattle.isle_terms.proofs.ConditionSteps.{next_met}
+use Rattle.isle_terms.specs.Readings.RuleOutcomes.{read_conditions}
+use Rattle.isle_terms.specs.Shown.ShownTerms.{flags_shown}
+use Rattle.isle_terms.specs.Shown.ShownRules.{iflet_shown}
+use Rattle.isle_terms.specs.Readings.Contexts.{known_in}
+use Rattle.isle_terms.specs.Shown.RulesShown.{iflet_limit}
+use Rattle.isle_terms.proofs.Steps.ExprSteps.{greatest_pushed}
+use Rattle.isle_terms.proofs.Steps.ConditionSteps.{next_met}
 use Rattle.isle_terms.proofs.translate.rules.translate_conditions.Goals as goal
 
 pub loop-i-preserved : goal.loop-i-preserved

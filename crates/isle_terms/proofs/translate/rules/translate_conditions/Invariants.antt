@@ -1,10 +1,10 @@
 use Rattle.std.proofs.Common.{◌≡◌, ◌≤◌, map, drop, length}
-use Rattle.isle_terms.specs.RuleOutcomes.{read_conditions}
-use Rattle.isle_terms.specs.ShownTerms.{flags_shown}
-use Rattle.isle_terms.specs.ShownRules.{iflet_shown, greatest}
-use Rattle.isle_terms.specs.Contexts.{known_in}
-use Rattle.isle_terms.specs.RulesShown.{iflet_limit}
-use Rattle.isle_terms.proofs.ConditionSteps.{after_conditions}
+use Rattle.isle_terms.specs.Readings.RuleOutcomes.{read_conditions}
+use Rattle.isle_terms.specs.Shown.ShownTerms.{flags_shown}
+use Rattle.isle_terms.specs.Shown.ShownRules.{iflet_shown, greatest}
+use Rattle.isle_terms.specs.Readings.Contexts.{known_in}
+use Rattle.isle_terms.specs.Shown.RulesShown.{iflet_limit}
+use Rattle.isle_terms.proofs.Steps.ConditionSteps.{after_conditions}
 use Rattle.isle_terms.proofs.translate.rules.translate_conditions.Given as goal
 
 abbrev pub invariant-loop-i : goal.invariant-loop-i

@@ -1,16 +1,15 @@
 use Rattle.std.proofs.Common.{map}
 use Rattle.isle_types.proofs.Tables.{more_then}
 use Rattle.isle_types.proofs.ShownTypes.{shows_with_names}
-use Rattle.isle_terms.proofs.Checking.{item_at, past_mapped}
-use Rattle.isle_terms.proofs.DeclaredTerms.{declared_turn, declared_done, one_alone}
+use Rattle.isle_terms.proofs.Collections.Checking.{item_at, past_mapped}
+use Rattle.isle_terms.proofs.Collections.DeclaredTerms.{declared_turn, declared_done, one_alone}
 use Rattle.isle_terms.proofs.env.terms.Forms.declared_terms.Goals as goal
 
 pub loop-decl-preserved : goal.loop-decl-preserved
 loop-decl-preserved c =
     let decls = map (λ decl. decl.now) c.args.decls.now in
     let i = c.loop-decl.decl-index in
-    let here = item_at (λ decl. decl.now) c.args.decls.now i c.decl-item.result c.loop-decl-test.true c.decl-item.is in
-    (
+    let here = item_at (λ decl. decl.now) c.args.decls.now i c.decl-item.result c.loop-decl-test.true c.decl-item.is in (
       λ types defs shows forms.
           declared_turn types defs c.loop-decl.tyenv.names c.add_declared.new.tyenv.names decls i c.decl-item.result.now c.loop-decl.terms.items
           c.add_declared.new.terms.items c.args.errors.now.items c.loop-decl.errors.items c.add_declared.new.errors.items here

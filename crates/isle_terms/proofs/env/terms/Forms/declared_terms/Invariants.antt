@@ -2,8 +2,8 @@ use Rattle.std.proofs.Common.{List, map, take}
 use Rattle.isle_syntax.specs.declared.ast.Def.{Def}
 use Rattle.isle_types.specs.Environment.{Environment}
 use Rattle.isle_types.specs.TypeEnvs.{Shows, HasMoreNames}
-use Rattle.isle_terms.specs.ExtractorChecks.{Adds}
-use Rattle.isle_terms.specs.DeclaredTerms.{AreFormsOf, OneNamesUnknownType, AreDeclaredTerms}
+use Rattle.isle_terms.specs.Collecting.ExtractorChecks.{Adds}
+use Rattle.isle_terms.specs.Collecting.DeclaredTerms.{AreFormsOf, OneNamesUnknownType, AreDeclaredTerms}
 use Rattle.isle_terms.proofs.env.terms.Forms.declared_terms.Given as goal
 
 abbrev pub invariant-loop-decl : goal.invariant-loop-decl

@@ -1,7 +1,7 @@
 use Rattle.std.proofs.Common.{subst}
 use Rattle.isle_terms.specs.Definitions.{constructor_for, extractor_for}
-use Rattle.isle_terms.specs.DeclaredTerms.{AreShownAs, IsShownConstructor, IsShownExtractor}
-use Rattle.isle_terms.proofs.DeclaredTerms.{constructor_kept}
+use Rattle.isle_terms.specs.Collecting.DeclaredTerms.{AreShownAs, IsShownConstructor, IsShownExtractor}
+use Rattle.isle_terms.proofs.Collections.DeclaredTerms.{constructor_kept}
 use Rattle.isle_terms.proofs.env.terms.Forms.kind_of.Goals as goal
 
 pub returns-clause-made : goal.returns-clause-made
