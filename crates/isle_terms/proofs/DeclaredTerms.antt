@@ -34,7 +34,8 @@ use Rattle.isle_terms.specs.Definitions.{IsAmong, IsDeclaration}
 use Rattle.isle_terms.specs.Checks.{Checks}
 use Rattle.isle_terms.specs.ExtractorChecks.{Adds}
 use Rattle.isle_terms.specs.DeclaredTerms.{AreShownAs, IsShownConstructor, IsShownExtractor, IsShownForm, IsShownTerm, IsDeclarationFault}
-use Rattle.isle_terms.specs.DeclaredTerms.{NamesUnknownType, OneNamesUnknownType, IsLargeAt, IsOneLargeAt, IsAlone, AddsDeclaredTerm, AreDeclaredTerms}
+use Rattle.isle_terms.specs.DeclaredTerms.{NamesUnknownType, OneNamesUnknownType, IsLargeAt, IsOneLargeAt, IsAlone}
+use Rattle.isle_terms.specs.DeclaredTerms.{AddsDeclaredTerm, AreDeclaredTerms}
 use Rattle.isle_terms.proofs.AddedErrors.{adds_one, adds_by, adds_both, adds_checks}
 
 -- how a declared term makes its value is still shown where names have come
@@ -86,8 +87,8 @@ term_kept old new keeps signature term shown = record {
 }
 
 -- the terms of declarations, and that of one more
-pub declared_more : (types : Environment) (defs : List Def) (old new : List (List ℕ)) (decls : List DeclTree) (decl : DeclTree) (terms more : List Term)
-    → KeepsNames old new → AreDeclaredTerms types defs old decls terms → AddsDeclaredTerm types defs new decl terms more
+pub declared_more : (types : Environment) (defs : List Def) (old new : List (List ℕ)) (decls : List DeclTree) (decl : DeclTree)
+    (terms more : List Term) → KeepsNames old new → AreDeclaredTerms types defs old decls terms → AddsDeclaredTerm types defs new decl terms more
     → AreDeclaredTerms types defs new (decls ++ decl ∷ []) more
 declared_more types defs old new decls decl terms more keeps made adds =
     let front = AllZip-weaker (IsShownTerm old) (IsShownTerm new) (term_kept old new keeps) made.signatures terms made.shown in
@@ -180,8 +181,8 @@ pub one_alone : (decls : List DeclTree) (decl : DeclTree) (answer : Refusal (Vec
     → IfFault answer (λ all. IsAlone (IsSizeFault (IsOneLargeAt decls)) all.items)
 one_alone decls decl (Fault all) among alone =
     alone_wider (IsSizeFault (IsLargeAt decl)) (IsSizeFault (IsOneLargeAt decls))
-    (λ error fault. reading_then (λ _. ⊥) (IsLargeAt decl) (λ _. ⊥) (IsOneLargeAt decls) (λ _ none. none) (λ at large. (decl, among, large)) error fault)
-    all.items alone
+    (λ error fault. reading_then (λ _. ⊥) (IsLargeAt decl) (λ _. ⊥) (IsOneLargeAt decls) (λ _ none. none) (λ at large. (decl, among, large))
+    error fault) all.items alone
 one_alone decls decl (Memory e) among alone = tt
 
 -- all declarations were come to

@@ -48,3 +48,7 @@ pub mod NamedPlaces
 pub mod DeclaredForms
 -- Terms of declarations, under names that grow and one after the other.
 pub mod DeclaredTerms
+-- The terms of types, one type and one variant after the other.
+pub mod TypeTerms
+-- The numbers of terms by the symbols of their names.
+pub mod TermNumbers

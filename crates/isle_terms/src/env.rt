@@ -11,7 +11,9 @@ mod bodies;
 mod named;
 mod naming;
 mod report;
+mod term_numbers;
 mod terms;
+mod type_terms;
 
 use crate::rules::Rule;
 use crate::terms::Term;

@@ -294,11 +294,7 @@ struct DeclaredTypes {
 }
 
 /// The types that a declaration names.
-fn types_of(
-    alloc: Global,
-    tyenv: &TypeEnv,
-    decl: &Decl,
-) -> Result<DeclaredTypes, Refusal<Error>>
+fn types_of(alloc: Global, tyenv: &TypeEnv, decl: &Decl) -> Result<DeclaredTypes, Refusal<Error>>
     ensures within { OnOk result (length decl.now.arg_tys ≤ 255) }
     ensures arguments { (types : Environment) → Shows tyenv.now types
         → IfOk result (λ made. AllZip (IsTypeNumber types) decl.now.arg_tys (numbers_of made.arguments.items)) }

@@ -9,8 +9,7 @@ pub loop-decl-preserved : goal.loop-decl-preserved
 loop-decl-preserved c =
     let decls = map (λ decl. decl.now) c.args.decls.now in
     let i = c.loop-decl.decl-index in
-    let here = item_at (λ decl. decl.now) c.args.decls.now i c.decl-item.result c.loop-decl-test.true c.decl-item.is in
-    (
+    let here = item_at (λ decl. decl.now) c.args.decls.now i c.decl-item.result c.loop-decl-test.true c.decl-item.is in (
       λ types defs shows forms.
           declared_turn types defs c.loop-decl.tyenv.names c.add_declared.new.tyenv.names decls i c.decl-item.result.now c.loop-decl.terms.items
           c.add_declared.new.terms.items c.args.errors.now.items c.loop-decl.errors.items c.add_declared.new.errors.items here
