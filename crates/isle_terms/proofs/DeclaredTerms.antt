@@ -130,9 +130,11 @@ declared_turn types defs old new decls place decl terms more first middle last h
     (adds_both Broken Before Added first middle last before
     (adds_by (NamesUnknownType types decl) Broken Added Added middle last (λ at broken. (decl, (place, here), broken)) (λ added. added) adds))
 
+-- a type error is no size error
 kinds_apart : type_error ≡ size_error → ⊥
 kinds_apart is = cc
 
+-- a size error of a declaration is that of too many arguments
 size_fault : (types : Environment) (decl : DeclTree) (error : Error) → error_kind error ≡ size_error → IsDeclarationFault types decl error
     → IsSizeFault (IsLargeAt decl) error
 size_fault types decl (ParseError message span) is fault = absurd fault
@@ -142,6 +144,7 @@ size_fault types decl (UnreachableError message span) is fault = absurd fault
 size_fault types decl (OverlapError message spans) is fault = absurd fault
 size_fault types decl (ShadowedError spans span) is fault = absurd fault
 
+-- another fault of a declaration is a type that isn't known
 type_fault : (types : Environment) (decl : DeclTree) (error : Error) → (error_kind error ≡ size_error → ⊥) → IsDeclarationFault types decl error
     → IsTypeFault (NamesUnknownType types decl) error
 type_fault types decl (ParseError message span) apart fault = absurd fault
@@ -170,6 +173,7 @@ fault_alone types decl (Fault error) (Fault all) fault alone =
 fault_alone types decl (Memory e) (Fault all) fault alone = absurd alone
 fault_alone types decl refusal (Memory e) fault alone = tt
 
+-- an error alone of one kind is one of a wider kind
 alone_wider : (P Q : Error → Type 0) → ((error : Error) → P error → Q error) → (errors : List Error) → IsAlone P errors → IsAlone Q errors
 alone_wider P Q wider [] alone = absurd alone
 alone_wider P Q wider (error ∷ []) alone = wider error alone

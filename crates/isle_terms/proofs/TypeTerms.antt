@@ -42,6 +42,7 @@ zipped_length R (x ∷ xs) [] each = absurd each
 zipped_length R [] (y ∷ ys) each = absurd each
 zipped_length R (x ∷ xs) (y ∷ ys) each = ap suc (zipped_length R xs ys each.1)
 
+-- lists related in pairs, and more behind them
 zipped_append : {A B : Type 0} (R : A → B → Type 0) (xs : List A) (ys : List B) (more : List A) (others : List B) → AllZip R xs ys
     → AllZip R more others → AllZip R (xs ++ more) (ys ++ others)
 zipped_append R [] [] more others each then = then
@@ -57,6 +58,7 @@ count_at number n (first ∷ xs) counted zero x is = ap number (sym (same_Some f
 count_at number n (first ∷ xs) counted (suc i) x is =
     let later : suc n + i ≡ n + suc i = omega arith in count_at number (suc n) xs counted.1 i x is ∙ later
 
+-- items that count up, and more behind them
 count_append : {X : Type 0} (number : X → ℕ) (n : ℕ) (xs ys : List X) → CountUp number n xs → CountUp number (n + length xs) ys
     → CountUp number n (xs ++ ys)
 count_append number n [] ys counted then = subst (λ k. CountUp number k ys) (add-zero n) then
@@ -94,6 +96,7 @@ adds_then names first second old middle new before after = record {
       (subst (λ n. CountUp (λ (term : Term). term.id.0) n after.added) (ap length before.all ∙ length-append old before.added) after.counted);
 }
 
+-- the numbers of the types of named fields
 named_numbers : (names : List (List ℕ)) (fields : List (List ℕ × ℕ)) (made : List StructField) → AllZip (IsShownField names) fields made
     → numbers_of (map (λ (field : StructField). field.ty) made) ≡ map (λ (field : List ℕ × ℕ). field.1) fields
 named_numbers names [] [] each = refl
@@ -102,6 +105,7 @@ named_numbers names [] (y ∷ ys) each = absurd each
 named_numbers names (x ∷ xs) (y ∷ ys) each =
     ap (λ n. n ∷ numbers_of (map (λ (field : StructField). field.ty) ys)) each.0.type ∙ ap (λ ns. x.1 ∷ ns) (named_numbers names xs ys each.1)
 
+-- the numbers of the types of fields without names
 tuple_numbers : (numbers : List ℕ) (made : List TupleField) → AllZip IsShownTupleField numbers made
     → numbers_of (map (λ (field : TupleField). field.ty) made) ≡ numbers
 tuple_numbers [] [] each = refl
@@ -123,6 +127,7 @@ fields_numbers names (tuple_fields numbers) NoFields shown = absurd shown
 fields_numbers names (tuple_fields numbers) (NamedFields made) shown = absurd shown
 fields_numbers names (tuple_fields numbers) (UnnamedFields made) shown = tuple_numbers numbers made.fields shown.0
 
+-- the terms of variants, and of one more
 variants_more : (ty : ℕ) (type : List ℕ) (number : ℕ) (variants : List NamedVariant) (variant : NamedVariant)
     → variant_terms ty type number (variants ++ variant ∷ [])
     ≡ variant_terms ty type number variants ++ variant_signature ty type (number + length variants) variant ∷ []
@@ -157,6 +162,7 @@ variants_done names ty type shown made place old new variants past adds =
     let long = zipped_length (IsShownVariant names type) shown made variants.0 in
     subst (λ vs. AddsTerms names (variant_terms ty type 0 vs) old new) (take_all place shown (omega (arith, long, past))) adds
 
+-- the terms of types, and of one more
 types_more : (ty : ℕ) (types : List NamedType) (type : NamedType)
     → terms_of_types ty (types ++ type ∷ []) ≡ terms_of_types ty types ++ terms_of_shape (ty + length types) type type.shape
 types_more ty [] type =

@@ -1,9 +1,8 @@
-ghost use Rattle.std.specs.Prelude.{◌≡◌, ℕ, List, length, map, IfOk, OnOk};
+ghost use Rattle.std.specs.Prelude.{◌≡◌, ℕ, List, length, IfOk, OnOk};
 ghost use Rattle.isle_types.specs.declared.types.BuiltinType.{BuiltinType};
 ghost use Rattle.isle_types.specs.declared.types.«Type».TheVariants.{Builtin};
 ghost use Rattle.isle_types.specs.IntTypes.{builtin_names};
 ghost use Rattle.isle_types.specs.Types.{id_of};
-ghost use Rattle.isle_types.specs.Names.{AreDistinct, position_of};
 ghost use Rattle.isle_types.specs.Environment.{Environment, NamedType, NamedVariant, FieldList, numbers_in};
 ghost use Rattle.isle_types.specs.TypeEnvs.{Shows, IsShown, IsShownVariant, AreShownVariants, AreShownFields};
 ghost use Rattle.isle_terms.specs.Definitions.{terms_of_types, terms_of_shape, variant_terms};
