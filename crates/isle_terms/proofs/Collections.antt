@@ -38,3 +38,7 @@ pub mod DeclaredTerms
 pub mod CheckedDefinitions
 -- What checks of definitions add are faults of typing.
 pub mod CheckedTyping
+-- The terms of the types.
+pub mod TypeTerms
+-- The numbers of terms, by the symbols of their names.
+pub mod TermNumbers

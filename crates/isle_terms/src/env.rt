@@ -18,7 +18,9 @@ mod needs;
 mod recursion;
 mod report;
 mod rules;
+mod term_numbers;
 mod terms;
+mod type_terms;
 
 use crate::env::needs::needs_of;
 use crate::rules::Rule;

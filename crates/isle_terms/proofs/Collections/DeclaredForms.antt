@@ -1,6 +1,6 @@
 -- How a declared term makes its value and takes one apart, by the places of its name.
-use Rattle.std.proofs.Common.{◌≡◌, ℕ, zero, suc, ◌-◌, ◌<◌, ◌≤◌, List, [], ◌∷◌, map, length, cond, true, false, arith, Option, Some, None, is_some}
-use Rattle.std.proofs.Common.{refl, ap, sym}
+use Rattle.std.proofs.Common.{◌≡◌, ℕ, zero, suc, ◌-◌, ◌<◌, ◌≤◌, List, [], ◌∷◌, map, length}
+use Rattle.std.proofs.Common.{cond, true, false, arith, Option, Some, None, is_some, refl, ap, sym}
 use Rattle.std.proofs.Common.{subst, ◌∙◌, slice_get, get_or}
 use Rattle.std.proofs.lemmas.Option.{slice_get_read, slice_get_past, slice_get-get_or}
 use Rattle.std.proofs.lemmas.List.{length-map}
@@ -19,8 +19,8 @@ use Rattle.isle_terms.specs.Signatures.{by_rules, external_constructor}
 use Rattle.isle_terms.specs.Definitions.{rules_in, roots_of, external_constructors, external_constructor_names, constructor_for}
 use Rattle.isle_terms.specs.Definitions.{extractors_in, external_extractors, extractor_names, extractor_for, first_of}
 use Rattle.isle_terms.specs.Collecting.DefinitionLists.{host_constructor_shown, host_extractor_shown}
-use Rattle.isle_terms.proofs.Collections.NamedPlaces.{constructor_place, extractor_place, internal_at_place, external_at_place, template_form}
-use Rattle.isle_terms.proofs.Collections.NamedPlaces.{external_form, either_at}
+use Rattle.isle_terms.proofs.Collections.NamedPlaces.{constructor_place, extractor_place, internal_at_place, external_at_place}
+use Rattle.isle_terms.proofs.Collections.NamedPlaces.{template_form, external_form, either_at}
 
 -- the image of the item at a place
 pub mapped_get : {X Y : Type 0} (f : X → Y) (xs : List X) (place : ℕ) → slice_get (map f xs) place ≡ option_map f (slice_get xs place)
@@ -39,12 +39,14 @@ by_rules_form defs name ruled = constructor_place defs name ∙ ap (λ b. cond b
 pub hosted_form : (defs : List Def) (name : List ℕ) (hosts : List HostConstructor) (o : Option ℕ)
     → is_some (position_of (roots_of (rules_in defs)) name) ≡ false → map host_constructor_shown hosts ≡ external_constructors defs
     → position_of (external_constructor_names defs) name ≡ o
-    → constructor_for defs name ≡ option_map (λ (host : HostConstructor). external_constructor host.function.now.0) (option_and_then (slice_get hosts) o)
+    → constructor_for defs name ≡ option_map (λ (host : HostConstructor). external_constructor host.function.now.0)
+    (option_and_then (slice_get hosts) o)
 hosted_form defs name hosts o unruled all at =
     constructor_place defs name ∙ ap (λ b. cond b (Some by_rules) (option_map external_constructor
     (option_map (λ (pair : Ident × Ident). pair.1.0)
     (option_and_then (slice_get (external_constructors defs)) (position_of (external_constructor_names defs) name))))) unruled
-    ∙ ap (λ p. option_map external_constructor (option_map (λ (pair : Ident × Ident). pair.1.0) (option_and_then (slice_get (external_constructors defs)) p))) at
+    ∙ ap (λ p. option_map external_constructor (option_map (λ (pair : Ident × Ident). pair.1.0)
+    (option_and_then (slice_get (external_constructors defs)) p))) at
     ∙ ap (λ pairs. option_map external_constructor (option_map (λ (pair : Ident × Ident). pair.1.0) (option_and_then (slice_get pairs) o))) (sym all)
     ∙ by_place o
   where

@@ -34,8 +34,8 @@ use Rattle.isle_terms.specs.Definitions.{IsAmong, IsDeclaration}
 use Rattle.isle_terms.specs.Collecting.Checks.{Checks}
 use Rattle.isle_terms.specs.Collecting.ExtractorChecks.{Adds}
 use Rattle.isle_terms.specs.Collecting.DeclaredTerms.{AreShownAs, IsShownConstructor, IsShownExtractor, IsShownForm, IsShownTerm, IsDeclarationFault}
-use Rattle.isle_terms.specs.Collecting.DeclaredTerms.{NamesUnknownType, OneNamesUnknownType, IsLargeAt, IsOneLargeAt, IsAlone, AddsDeclaredTerm}
-use Rattle.isle_terms.specs.Collecting.DeclaredTerms.{AreDeclaredTerms}
+use Rattle.isle_terms.specs.Collecting.DeclaredTerms.{NamesUnknownType, OneNamesUnknownType, IsLargeAt, IsOneLargeAt, IsAlone}
+use Rattle.isle_terms.specs.Collecting.DeclaredTerms.{AddsDeclaredTerm, AreDeclaredTerms}
 use Rattle.isle_terms.proofs.Collections.AddedErrors.{adds_one, adds_by, adds_both, adds_checks}
 
 -- how a declared term makes its value is still shown where names have come
@@ -87,8 +87,8 @@ term_kept old new keeps signature term shown = record {
 }
 
 -- the terms of declarations, and that of one more
-pub declared_more : (types : Environment) (defs : List Def) (old new : List (List ℕ)) (decls : List DeclTree) (decl : DeclTree) (terms more : List Term)
-    → KeepsNames old new → AreDeclaredTerms types defs old decls terms → AddsDeclaredTerm types defs new decl terms more
+pub declared_more : (types : Environment) (defs : List Def) (old new : List (List ℕ)) (decls : List DeclTree) (decl : DeclTree)
+    (terms more : List Term) → KeepsNames old new → AreDeclaredTerms types defs old decls terms → AddsDeclaredTerm types defs new decl terms more
     → AreDeclaredTerms types defs new (decls ++ decl ∷ []) more
 declared_more types defs old new decls decl terms more keeps made adds =
     let front = AllZip-weaker (IsShownTerm old) (IsShownTerm new) (term_kept old new keeps) made.signatures terms made.shown in
@@ -130,9 +130,11 @@ declared_turn types defs old new decls place decl terms more first middle last h
     (adds_both Broken Before Added first middle last before
     (adds_by (NamesUnknownType types decl) Broken Added Added middle last (λ at broken. (decl, (place, here), broken)) (λ added. added) adds))
 
+-- a type error is no size error
 kinds_apart : type_error ≡ size_error → ⊥
 kinds_apart is = cc
 
+-- a size error of a declaration is that of too many arguments
 size_fault : (types : Environment) (decl : DeclTree) (error : Error) → error_kind error ≡ size_error → IsDeclarationFault types decl error
     → IsSizeFault (IsLargeAt decl) error
 size_fault types decl (ParseError message span) is fault = absurd fault
@@ -142,6 +144,7 @@ size_fault types decl (UnreachableError message span) is fault = absurd fault
 size_fault types decl (OverlapError message spans) is fault = absurd fault
 size_fault types decl (ShadowedError spans span) is fault = absurd fault
 
+-- another fault of a declaration is a type that isn't known
 type_fault : (types : Environment) (decl : DeclTree) (error : Error) → (error_kind error ≡ size_error → ⊥) → IsDeclarationFault types decl error
     → IsTypeFault (NamesUnknownType types decl) error
 type_fault types decl (ParseError message span) apart fault = absurd fault
@@ -170,6 +173,7 @@ fault_alone types decl (Fault error) (Fault all) fault alone =
 fault_alone types decl (Memory e) (Fault all) fault alone = absurd alone
 fault_alone types decl refusal (Memory e) fault alone = tt
 
+-- an error alone of one kind is one of a wider kind
 alone_wider : (P Q : Error → Type 0) → ((error : Error) → P error → Q error) → (errors : List Error) → IsAlone P errors → IsAlone Q errors
 alone_wider P Q wider [] alone = absurd alone
 alone_wider P Q wider (error ∷ []) alone = wider error alone
@@ -181,8 +185,8 @@ pub one_alone : (decls : List DeclTree) (decl : DeclTree) (answer : Refusal (Vec
     → IfFault answer (λ all. IsAlone (IsSizeFault (IsOneLargeAt decls)) all.items)
 one_alone decls decl (Fault all) among alone =
     alone_wider (IsSizeFault (IsLargeAt decl)) (IsSizeFault (IsOneLargeAt decls))
-    (λ error fault. reading_then (λ _. ⊥) (IsLargeAt decl) (λ _. ⊥) (IsOneLargeAt decls) (λ _ none. none) (λ at large. (decl, among, large)) error fault)
-    all.items alone
+    (λ error fault. reading_then (λ _. ⊥) (IsLargeAt decl) (λ _. ⊥) (IsOneLargeAt decls) (λ _ none. none) (λ at large. (decl, among, large))
+    error fault) all.items alone
 one_alone decls decl (Memory e) among alone = tt
 
 -- all declarations were come to

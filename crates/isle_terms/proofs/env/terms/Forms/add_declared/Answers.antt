@@ -26,5 +26,5 @@ returns-in-Err-clause-added c = λ types defs shows forms.
 
 pub returns-in-Err-clause-large : goal.returns-in-Err-clause-large
 returns-in-Err-clause-large c = λ types shows.
-    IfErr-weaker c.keep.result _ _ (λ answer alone. fault_alone types c.args.decl.now c.in-Err.refusal answer (c.in-Err.ensures.fault types shows) alone)
-    c.keep.ensures.alone
+    IfErr-weaker c.keep.result _ _ (λ answer alone. fault_alone types c.args.decl.now c.in-Err.refusal answer (c.in-Err.ensures.fault types shows)
+    alone) c.keep.ensures.alone

@@ -21,16 +21,16 @@ returns-in_default-clause-made c = λ defs forms.
 pub returns-then-place-self-clause-made : goal.returns-then-place-self-clause-made
 returns-then-place-self-clause-made c = λ defs forms.
     subst (λ made. AreShownAs (IsShownConstructor c.args.tyenv.now.names) made None)
-    (sym (hosted_form defs c.args.name.now c.args.self.now.constructors.now (Some c.in-Some.place) (sym (c.has.ensures _ forms.roots) ∙ c.if-has.false)
-    forms.constructors (sym (c.place.ensures _ forms.constructor_table) ∙ c.in-Some.is)
+    (sym (hosted_form defs c.args.name.now c.args.self.now.constructors.now (Some c.in-Some.place)
+    (sym (c.has.ensures _ forms.roots) ∙ c.if-has.false) forms.constructors (sym (c.place.ensures _ forms.constructor_table) ∙ c.in-Some.is)
     ∙ ap (option_map (λ (host : HostConstructor). external_constructor host.function.now.0))
     (none_past c.args.self.now.constructors.now c.in-Some.place c.if-place-self.true))) tt
 
 pub returns-clause-made : goal.returns-clause-made
 returns-clause-made c = λ defs forms.
     subst (λ made. AreShownAs (IsShownConstructor c.intern_mut.new.self.names) made (Some (ExternalConstructor c.in_ok-intern_mut.field-0)))
-    (sym (hosted_form defs c.args.name.now c.args.self.now.constructors.now (Some c.in-Some.place) (sym (c.has.ensures _ forms.roots) ∙ c.if-has.false)
-    forms.constructors (sym (c.place.ensures _ forms.constructor_table) ∙ c.in-Some.is)
+    (sym (hosted_form defs c.args.name.now c.args.self.now.constructors.now (Some c.in-Some.place)
+    (sym (c.has.ensures _ forms.roots) ∙ c.if-has.false) forms.constructors (sym (c.place.ensures _ forms.constructor_table) ∙ c.in-Some.is)
     ∙ ap (option_map (λ (host : HostConstructor). external_constructor host.function.now.0))
     (read_at c.args.self.now.constructors.now c.in-Some.place _ c.if-place-self.false c.index-self-place.is)))
     (subst (λ (host : HostConstructor). slice_get c.intern_mut.new.self.names c.in_ok-intern_mut.field-0.0 ≡ Some host.function.now.0)
