@@ -82,7 +82,9 @@ adds_more Broken Kept xs place x old middle new within is first second =
     let here = slice_get-get_or xs place x within in
     let among : IsAmong xs x = (place, here ∙ ap Some (sym is)) in
     let wider : (at : Pos) → Broken x at → SomeBreaks Broken xs at = λ at broken. (x, among, broken) in
-    let second' = adds_by (Broken x) (SomeBreaks Broken xs) (Kept x) (Kept (get_or xs place x)) middle new wider (λ kept. subst Kept is kept) second in
-    adds_by (SomeBreaks Broken xs) (SomeBreaks Broken xs) (All Kept (take place xs) × Kept (get_or xs place x)) (All Kept (take (place + 1) xs)) old new
+    let second' = adds_by (Broken x) (SomeBreaks Broken xs) (Kept x) (Kept (get_or xs place x)) middle new wider (λ kept. subst Kept is kept)
+    second in
+    adds_by (SomeBreaks Broken xs) (SomeBreaks Broken xs) (All Kept (take place xs) × Kept (get_or xs place x)) (All Kept (take (place + 1) xs))
+    old new
     (λ at broken. broken) (λ kept. All-more Kept xs place x within kept.0 kept.1)
     (adds_both (SomeBreaks Broken xs) (All Kept (take place xs)) (Kept (get_or xs place x)) old middle new first second')

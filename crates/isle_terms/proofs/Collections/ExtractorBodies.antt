@@ -89,7 +89,8 @@ pub among_of_map : {X Y : Type 0} (f : X → Y) (xs : List X) (x : X) → IsAmon
 among_of_map f xs x among = (among.0, slice_get-map f xs among.0 ∙ ap (option_map f) among.1)
 
 -- an unknown term of a body is named by it
-body_unknown : (tree : PatternTree) (names : List (List ℕ)) (at : Pos) → SomeBreaks (IsUnknownAt names) (named_in tree) at → BodyNamesUnknown tree names at
+body_unknown : (tree : PatternTree) (names : List (List ℕ)) (at : Pos) → SomeBreaks (IsUnknownAt names) (named_in tree) at
+    → BodyNamesUnknown tree names at
 body_unknown tree names at broken =
     let term = among_map name_at (pattern_terms tree) broken.0 broken.1 in
     let named = named_of_in tree term.0 (in_of_among (pattern_terms tree) term.0 term.1) in

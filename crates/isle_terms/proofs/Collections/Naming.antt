@@ -33,7 +33,8 @@ pub found_is_taken : (pairs : List (List ℕ × Pos)) (i : ℕ) (pair : List ℕ
     → position_of (names_of (take i pairs)) pair.0 ≡ o → is_none o ≡ false → IsTaken pairs pair.1
 found_is_taken pairs i pair None at found is = absurd (true≢false is)
 found_is_taken pairs i pair (Some j) at found is =
-    let there : slice_get (take i (names_of pairs)) j ≡ Some pair.0 = ap (λ names. slice_get names j) (take-map (λ (other : List ℕ × Pos). other.0) i pairs)
+    let there : slice_get (take i (names_of pairs)) j ≡ Some pair.0 = ap (λ names. slice_get names j) (take-map (λ (other : List ℕ × Pos). other.0)
+    i pairs)
     ∙ place_found (names_of (take i pairs)) pair.0 j found in
     record {
       place = i;
@@ -61,7 +62,8 @@ pub none_distinct : {X : Type 0} → AreDistinct {X = X} []
 none_distinct x i j at_i at_j = absurd (none-some x at_i)
 
 -- the pair of an item at a place
-pub pair_at : {X : Type 0} (shown : X → List ℕ × Pos) (xs : List X) (i : ℕ) (x : X) → slice_get xs i ≡ Some x → slice_get (map shown xs) i ≡ Some (shown x)
+pub pair_at : {X : Type 0} (shown : X → List ℕ × Pos) (xs : List X) (i : ℕ) (x : X) → slice_get xs i ≡ Some x → slice_get (map shown xs) i
+    ≡ Some (shown x)
 pair_at shown [] i x at = absurd (none-some x at)
 pair_at shown (first ∷ others) zero x at = ap (option_map shown) at
 pair_at shown (first ∷ others) (suc i) x at = pair_at shown others i x at

@@ -87,7 +87,8 @@ made_is_shown names mid more first later tree root parts state made within is_ro
     let right_symbols : expr_limit parts.rhs ≤ length names = omega arith in
     record {
       root = is_root;
-      args = ap (λ args. typed_list (map (typed_shown more) args)) is_args ∙ ap typed_list (patterns_more names more keeps parts.args.items arg_symbols);
+      args = ap (λ args. typed_list (map (typed_shown more) args)) is_args
+          ∙ ap typed_list (patterns_more names more keeps parts.args.items arg_symbols);
       iflets = ap (map (iflet_shown more)) is_iflets ∙ iflets_more names more keeps parts.iflets.items iflet_symbols;
       right = ap (built_shown more) is_right ∙ built_more names more keeps parts.rhs right_symbols;
       variables = variables_kept mid more later state.variables made.vars variables;

@@ -76,7 +76,8 @@ pub fn check_roots(
 }
 
 fn is_ill_host(host: &HostConstructor<'_>, declared: &NameTable, roots: &NameTable) -> bool
-    ensures { (names : List (List ℕ)) → (ruled : List (List ℕ)) → IsTableOf names declared.now → IsTableOf ruled roots.now → result ≡ is_ill_host names ruled (host_constructor_shown host.now) }
+    ensures { (names : List (List ℕ)) → (ruled : List (List ℕ)) → IsTableOf names declared.now → IsTableOf ruled roots.now → result
+        ≡ is_ill_host names ruled (host_constructor_shown host.now) }
 {
     !declared.has(host.term.0.as_str()) || roots.has(host.term.0.as_str())
 }
@@ -106,7 +107,8 @@ pub fn check_host_constructors(
 }
 
 fn is_ill_extractor(extractor: &Extractor, decls: &[&Decl], declared: &NameTable) -> bool
-    ensures { (names : List (List ℕ)) → IsTableOf names declared.now → result ≡ is_ill_extractor names (map (λ decl. decl.now) decls.now) extractor.now }
+    ensures { (names : List (List ℕ)) → IsTableOf names declared.now → result
+        ≡ is_ill_extractor names (map (λ decl. decl.now) decls.now) extractor.now }
 {
     match declared.place(extractor.term.0.as_str()) {
         Some(place) => match decls.get(place) {
@@ -126,7 +128,8 @@ pub fn check_extractors(
     errors: &mut Vec<Error>,
 ) -> Result<(), AllocError>
     ensures { (names : List (List ℕ)) → IsTableOf names declared.now → OnOk result
-        (ChecksEach (map (λ extractor. extractor.now) extractors.now) (is_ill_extractor names (map (λ decl. decl.now) decls.now)) (λ (extractor : ExtractorTree). extractor.pos) errors.old.items errors.new.items) }
+        (ChecksEach (map (λ extractor. extractor.now) extractors.now) (is_ill_extractor names (map (λ decl. decl.now) decls.now)) (λ (extractor :
+        ExtractorTree). extractor.pos) errors.old.items errors.new.items) }
 {
     for extractor in extractors {
         if is_ill_extractor(extractor, decls, declared) {
@@ -155,7 +158,8 @@ pub fn check_host_extractors(
     errors: &mut Vec<Error>,
 ) -> Result<(), AllocError>
     ensures { (names : List (List ℕ)) → IsTableOf names declared.now → OnOk result
-        (ChecksEach (map host_extractor_shown hosts.now) (is_ill_name names) (λ (host : ExternalExtractor). host.pos) errors.old.items errors.new.items) }
+        (ChecksEach (map host_extractor_shown hosts.now) (is_ill_name names) (λ (host : ExternalExtractor). host.pos) errors.old.items
+        errors.new.items) }
 {
     for host in hosts {
         if is_ill_name(host, declared) {
@@ -171,7 +175,8 @@ pub fn check_host_extractors(
 }
 
 fn is_unused(decl: &Decl, roots: &NameTable, hosts: &NameTable, extractors: &NameTable) -> bool
-    ensures { (ruled : List (List ℕ)) → (hosted : List (List ℕ)) → (extracted : List (List ℕ)) → IsTableOf ruled roots.now → IsTableOf hosted hosts.now → IsTableOf extracted extractors.now → result ≡ is_unused ruled hosted extracted decl.now }
+    ensures { (ruled : List (List ℕ)) → (hosted : List (List ℕ)) → (extracted : List (List ℕ)) → IsTableOf ruled roots.now
+        → IsTableOf hosted hosts.now → IsTableOf extracted extractors.now → result ≡ is_unused ruled hosted extracted decl.now }
 {
     let name = decl.term.0.as_str();
     !roots.has(name) && !hosts.has(name) && !extractors.has(name)
@@ -186,8 +191,10 @@ pub fn check_defined(
     extractors: &NameTable,
     errors: &mut Vec<Error>,
 ) -> Result<(), AllocError>
-    ensures { (ruled : List (List ℕ)) → (hosted : List (List ℕ)) → (extracted : List (List ℕ)) → IsTableOf ruled roots.now → IsTableOf hosted hosts.now → IsTableOf extracted extractors.now → OnOk result
-        (ChecksEach (map (λ decl. decl.now) decls.now) (is_unused ruled hosted extracted) (λ (decl : DeclTree). decl.pos) errors.old.items errors.new.items) }
+    ensures { (ruled : List (List ℕ)) → (hosted : List (List ℕ)) → (extracted : List (List ℕ)) → IsTableOf ruled roots.now
+        → IsTableOf hosted hosts.now → IsTableOf extracted extractors.now → OnOk result
+        (ChecksEach (map (λ decl. decl.now) decls.now) (is_unused ruled hosted extracted) (λ (decl : DeclTree). decl.pos) errors.old.items
+        errors.new.items) }
 {
     for decl in decls {
         if is_unused(decl, roots, hosts, extractors) {

@@ -225,7 +225,8 @@ pub fn typed_rule(
     tree: &ast::Rule,
 ) -> Result<Rule, Refusal<Error>>
     ensures typed { (declared : Declared) → ShowsDeclared tyenv.old termenv.now declared → HasSomeRoot declared tree.now
-        → IfOk result (λ made. (typed : TypedRule) × ElaboratesRule declared levels max_nodes tree.now typed × IsShownRule tyenv.new.names typed made) }
+        → IfOk result (λ made. (typed : TypedRule) × ElaboratesRule declared levels max_nodes tree.now typed × IsShownRule tyenv.new.names typed
+        made) }
     ensures id { IfOk result (λ made. made.id ≡ id) }
     ensures fault { (declared : Declared) → ShowsDeclared tyenv.old termenv.now declared → HasSomeRoot declared tree.now
         → IfErr result (λ refusal. IfFault refusal

@@ -34,5 +34,6 @@ returns c = λ names known.
     let checked = c.loop-term.invariant.checked names known in
     let whole : take c.loop-term.term-index terms ≡ terms = take_all c.loop-term.term-index terms (omega arith) in
     body_checked (pattern_of c.args.body.now) names terms c.args.errors.now.items c.loop-term.errors.items c.loop-term.invariant.terms
-    (subst (λ (done : List Ident). Adds (SomeBreaks (IsUnknownAt names) terms) (All (IsKnown names) done) c.args.errors.now.items c.loop-term.errors.items)
+    (subst (λ (done : List Ident). Adds (SomeBreaks (IsUnknownAt names) terms) (All (IsKnown names) done) c.args.errors.now.items
+    c.loop-term.errors.items)
     whole checked)

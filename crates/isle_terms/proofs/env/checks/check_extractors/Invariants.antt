@@ -7,5 +7,8 @@ use Rattle.isle_terms.specs.Collecting.DefinitionChecks.{is_ill_extractor}
 use Rattle.isle_terms.proofs.env.checks.check_extractors.Given as goal
 
 abbrev pub invariant-loop-extractor : goal.invariant-loop-extractor
-invariant-loop-extractor l = (names : List (List ℕ)) → IsTableOf names l.declared → Checks (IsIllAt (map (λ extractor. extractor.now) l.extractors) (is_ill_extractor names (map (λ decl. decl.now) l.decls)) (λ (extractor : ExtractorTree). extractor.pos))
-    (All (λ x. is_ill_extractor names (map (λ decl. decl.now) l.decls) x ≡ false) (take l.extractor-index (map (λ extractor. extractor.now) l.extractors))) l.initial.errors.items l.errors.items
+invariant-loop-extractor l = (names : List (List ℕ)) → IsTableOf names l.declared
+    → Checks (IsIllAt (map (λ extractor. extractor.now) l.extractors) (is_ill_extractor names (map (λ decl. decl.now) l.decls)) (λ (extractor :
+    ExtractorTree). extractor.pos))
+    (All (λ x. is_ill_extractor names (map (λ decl. decl.now) l.decls) x
+    ≡ false) (take l.extractor-index (map (λ extractor. extractor.now) l.extractors))) l.initial.errors.items l.errors.items

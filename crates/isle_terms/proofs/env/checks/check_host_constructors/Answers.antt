@@ -12,11 +12,15 @@ loop-host-preserved c = λ names ruled is_names is_ruled.
     let here = item_at host_constructor_shown c.args.hosts.now i c.host-item.result c.loop-host-test.true c.host-item.is in
     elim c.if-is_ill_host.branch [
       | then-is_ill_host+in_ok-report w ↦ each_ill items (is_ill_host names ruled) (λ host. host.0.1) i _ c.if-is_ill_host.errors.items _ _ here
-          (ap (λ v. v.items) w.errors-is ∙ w.in_ok-report.ensures) (sym (c.is_ill_host.ensures names ruled is_names is_ruled) ∙ w.if-is_ill_host.true) refl (c.loop-host.invariant names ruled is_names is_ruled)
-      | else-is_ill_host w ↦ each_well items (is_ill_host names ruled) (λ host. host.0.1) i _ c.if-is_ill_host.errors.items here (ap (λ v. v.items) w.errors-is)
+          (ap (λ v. v.items) w.errors-is ∙ w.in_ok-report.ensures) (sym (c.is_ill_host.ensures names ruled is_names is_ruled)
+          ∙ w.if-is_ill_host.true) refl (c.loop-host.invariant names ruled is_names is_ruled)
+      | else-is_ill_host w ↦ each_well items (is_ill_host names ruled) (λ host. host.0.1) i _ c.if-is_ill_host.errors.items here (ap (λ v. v.items)
+          w.errors-is)
           (sym (c.is_ill_host.ensures names ruled is_names is_ruled) ∙ w.if-is_ill_host.false) (c.loop-host.invariant names ruled is_names is_ruled)
     ]
 
 pub returns : goal.returns
-returns c = λ names ruled is_names is_ruled. each_done (map host_constructor_shown c.args.hosts.now) (is_ill_host names ruled) (λ host. host.0.1) c.loop-host.host-index
-    (past_mapped host_constructor_shown c.args.hosts.now c.loop-host.host-index c.loop-host-test.false) (c.loop-host.invariant names ruled is_names is_ruled)
+returns c = λ names ruled is_names is_ruled. each_done (map host_constructor_shown c.args.hosts.now) (is_ill_host names ruled) (λ host. host.0.1)
+    c.loop-host.host-index
+    (past_mapped host_constructor_shown c.args.hosts.now c.loop-host.host-index c.loop-host-test.false) (c.loop-host.invariant names ruled is_names
+    is_ruled)

@@ -7,5 +7,6 @@ use Rattle.isle_terms.specs.Collecting.DefinitionChecks.{is_ill_host}
 use Rattle.isle_terms.proofs.env.checks.check_host_constructors.Given as goal
 
 abbrev pub invariant-loop-host : goal.invariant-loop-host
-invariant-loop-host l = (names : List (List ℕ)) → (ruled : List (List ℕ)) → IsTableOf names l.declared → IsTableOf ruled l.roots → Checks (IsIllAt (map host_constructor_shown l.hosts) (is_ill_host names ruled) (λ host. host.0.1))
+invariant-loop-host l = (names : List (List ℕ)) → (ruled : List (List ℕ)) → IsTableOf names l.declared → IsTableOf ruled l.roots
+    → Checks (IsIllAt (map host_constructor_shown l.hosts) (is_ill_host names ruled) (λ host. host.0.1))
     (All (λ x. is_ill_host names ruled x ≡ false) (take l.host-index (map host_constructor_shown l.hosts))) l.initial.errors.items l.errors.items

@@ -12,12 +12,16 @@ loop-host-preserved c = λ names is_names.
     let i = c.loop-host.host-index in
     let here = item_at host_extractor_shown c.args.hosts.now i c.host-item.result c.loop-host-test.true c.host-item.is in
     elim c.if-is_ill_name.branch [
-      | then-is_ill_name+in_ok-report w ↦ each_ill items (is_ill_name names) (λ (host : ExternalExtractor). host.pos) i _ c.if-is_ill_name.errors.items _ _ here
-          (ap (λ v. v.items) w.errors-is ∙ w.in_ok-report.ensures) (sym (c.is_ill_name.ensures names is_names) ∙ w.if-is_ill_name.true) refl (c.loop-host.invariant names is_names)
-      | else-is_ill_name w ↦ each_well items (is_ill_name names) (λ (host : ExternalExtractor). host.pos) i _ c.if-is_ill_name.errors.items here (ap (λ v. v.items) w.errors-is)
+      | then-is_ill_name+in_ok-report w ↦ each_ill items (is_ill_name names) (λ (host : ExternalExtractor). host.pos) i _
+          c.if-is_ill_name.errors.items _ _ here
+          (ap (λ v. v.items) w.errors-is ∙ w.in_ok-report.ensures) (sym (c.is_ill_name.ensures names is_names)
+          ∙ w.if-is_ill_name.true) refl (c.loop-host.invariant names is_names)
+      | else-is_ill_name w ↦ each_well items (is_ill_name names) (λ (host : ExternalExtractor). host.pos) i _ c.if-is_ill_name.errors.items here
+          (ap (λ v. v.items) w.errors-is)
           (sym (c.is_ill_name.ensures names is_names) ∙ w.if-is_ill_name.false) (c.loop-host.invariant names is_names)
     ]
 
 pub returns : goal.returns
-returns c = λ names is_names. each_done (map host_extractor_shown c.args.hosts.now) (is_ill_name names) (λ (host : ExternalExtractor). host.pos) c.loop-host.host-index
+returns c = λ names is_names. each_done (map host_extractor_shown c.args.hosts.now) (is_ill_name names) (λ (host : ExternalExtractor). host.pos)
+    c.loop-host.host-index
     (past_mapped host_extractor_shown c.args.hosts.now c.loop-host.host-index c.loop-host-test.false) (c.loop-host.invariant names is_names)

@@ -8,5 +8,6 @@ use Rattle.isle_terms.specs.Collecting.DefinitionChecks.{is_ill_name}
 use Rattle.isle_terms.proofs.env.checks.check_host_extractors.Given as goal
 
 abbrev pub invariant-loop-host : goal.invariant-loop-host
-invariant-loop-host l = (names : List (List ℕ)) → IsTableOf names l.declared → Checks (IsIllAt (map host_extractor_shown l.hosts) (is_ill_name names) (λ (host : ExternalExtractor). host.pos))
+invariant-loop-host l = (names : List (List ℕ)) → IsTableOf names l.declared
+    → Checks (IsIllAt (map host_extractor_shown l.hosts) (is_ill_name names) (λ (host : ExternalExtractor). host.pos))
     (All (λ x. is_ill_name names x ≡ false) (take l.host-index (map host_extractor_shown l.hosts))) l.initial.errors.items l.errors.items

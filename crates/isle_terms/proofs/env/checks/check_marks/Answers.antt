@@ -11,9 +11,12 @@ loop-decl-preserved c =
     let i = c.loop-decl.decl-index in
     let here = item_at (λ decl. decl.now) c.args.decls.now i c.decl-item.result c.loop-decl-test.true c.decl-item.is in
     elim c.if-is_ill_marked.branch [
-      | then-is_ill_marked+in_ok-report w ↦ each_ill items (is_ill_marked) (λ (decl : DeclTree). decl.pos) i _ c.if-is_ill_marked.errors.items _ _ here
-          (ap (λ v. v.items) w.errors-is ∙ w.in_ok-report.ensures) (sym (c.is_ill_marked.ensures) ∙ w.if-is_ill_marked.true) refl c.loop-decl.invariant
-      | else-is_ill_marked w ↦ each_well items (is_ill_marked) (λ (decl : DeclTree). decl.pos) i _ c.if-is_ill_marked.errors.items here (ap (λ v. v.items) w.errors-is)
+      | then-is_ill_marked+in_ok-report w ↦ each_ill items (is_ill_marked) (λ (decl : DeclTree). decl.pos) i _ c.if-is_ill_marked.errors.items _ _
+          here
+          (ap (λ v. v.items) w.errors-is ∙ w.in_ok-report.ensures) (sym (c.is_ill_marked.ensures)
+          ∙ w.if-is_ill_marked.true) refl c.loop-decl.invariant
+      | else-is_ill_marked w ↦ each_well items (is_ill_marked) (λ (decl : DeclTree). decl.pos) i _ c.if-is_ill_marked.errors.items here (ap (λ v.
+          v.items) w.errors-is)
           (sym (c.is_ill_marked.ensures) ∙ w.if-is_ill_marked.false) c.loop-decl.invariant
     ]
 

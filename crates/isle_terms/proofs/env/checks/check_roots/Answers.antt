@@ -11,12 +11,16 @@ loop-rule-preserved c = λ names is_names.
     let i = c.loop-rule.rule-index in
     let here = item_at (λ rule. rule.now) c.args.rules.now i c.rule-item.result c.loop-rule-test.true c.rule-item.is in
     elim c.if-is_ill_root.branch [
-      | then-is_ill_root+in_ok-report w ↦ each_ill items (is_ill_root names) (λ (rule : RuleTree). rule.pos) i _ c.if-is_ill_root.errors.items _ _ here
-          (ap (λ v. v.items) w.errors-is ∙ w.in_ok-report.ensures) (sym (c.is_ill_root.ensures names is_names) ∙ w.if-is_ill_root.true) refl (c.loop-rule.invariant names is_names)
-      | else-is_ill_root w ↦ each_well items (is_ill_root names) (λ (rule : RuleTree). rule.pos) i _ c.if-is_ill_root.errors.items here (ap (λ v. v.items) w.errors-is)
+      | then-is_ill_root+in_ok-report w ↦ each_ill items (is_ill_root names) (λ (rule : RuleTree). rule.pos) i _ c.if-is_ill_root.errors.items _ _
+          here
+          (ap (λ v. v.items) w.errors-is ∙ w.in_ok-report.ensures) (sym (c.is_ill_root.ensures names is_names)
+          ∙ w.if-is_ill_root.true) refl (c.loop-rule.invariant names is_names)
+      | else-is_ill_root w ↦ each_well items (is_ill_root names) (λ (rule : RuleTree). rule.pos) i _ c.if-is_ill_root.errors.items here (ap (λ v.
+          v.items) w.errors-is)
           (sym (c.is_ill_root.ensures names is_names) ∙ w.if-is_ill_root.false) (c.loop-rule.invariant names is_names)
     ]
 
 pub returns : goal.returns
-returns c = λ names is_names. each_done (map (λ rule. rule.now) c.args.rules.now) (is_ill_root names) (λ (rule : RuleTree). rule.pos) c.loop-rule.rule-index
+returns c = λ names is_names. each_done (map (λ rule. rule.now) c.args.rules.now) (is_ill_root names) (λ (rule : RuleTree). rule.pos)
+    c.loop-rule.rule-index
     (past_mapped (λ rule. rule.now) c.args.rules.now c.loop-rule.rule-index c.loop-rule-test.false) (c.loop-rule.invariant names is_names)

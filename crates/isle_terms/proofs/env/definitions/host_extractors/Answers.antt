@@ -13,7 +13,8 @@ loop-def-preserved c = elim c.match-host_extractor.branch [
       c.match-host_extractor.all.items w.in-Some.host c.loop-def-test.true c.def-item.is (sym w.in-Some.ensures)
       (ap (λ v. v.items) w.all-is ∙ w.in_ok-push.ensures.items) c.loop-def.invariant
   | in_default w ↦ listed_same extractor_in host_extractor_shown c.args.defs.now c.loop-def.def-index c.def-item.result c.loop-def.all.items
-      c.match-host_extractor.all.items c.loop-def-test.true c.def-item.is (not_mapped host_extractor_shown c.host_extractor.result _ c.host_extractor.ensures w.in_default.not-Some)
+      c.match-host_extractor.all.items c.loop-def-test.true c.def-item.is (not_mapped host_extractor_shown c.host_extractor.result _
+      c.host_extractor.ensures w.in_default.not-Some)
       (ap (λ v. v.items) w.all-is) c.loop-def.invariant
 ]
 

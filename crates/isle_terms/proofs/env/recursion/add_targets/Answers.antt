@@ -20,7 +20,8 @@ add_target-requires c = let as_many = c.loop-term.invariant.added.one_each in om
 pub loop-term-preserved : goal.loop-term-preserved
 loop-term-preserved c = record {
   terms = c.loop-term.invariant.terms;
-  added = edges_more (JoinsTerm c.args.places.now c.args.from) c.deref-term-items.result.now c.loop-term.term-index c.term-item.result c.args.graph.now
+  added = edges_more (JoinsTerm c.args.places.now c.args.from) c.deref-term-items.result.now c.loop-term.term-index c.term-item.result
+      c.args.graph.now
       c.loop-term.graph c.add_target.new.graph (omega arith) c.term-item.is c.loop-term.invariant.added c.in_ok-add_target.ensures;
 }
 

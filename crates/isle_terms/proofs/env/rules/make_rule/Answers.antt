@@ -17,6 +17,7 @@ returns-clause-shown c =
     let fits : SFits w64 c.unwrap_or.result = search rules in
     made_is_shown c.args.tyenv.now.names mid c.intern_name.new.tyenv.names c.intern_variables.ensures.same.kept c.intern_name.ensures.same.kept
     c.args.tree.now read.root.0 read.parts read.bindings _ c.requires refl c.new.ensures c.new-2.ensures refl
-    (rw c.new-3.ensures (subst (λ variables. AllZip (IsShownVariable mid) variables c.in_ok-vars.vars.items) c.into_vars.ensures c.in_ok-vars.ensures.shown))
+    (rw c.new-3.ensures (subst (λ variables. AllZip (IsShownVariable mid) variables c.in_ok-vars.vars.items) c.into_vars.ensures
+    c.in_ok-vars.ensures.shown))
     (subst (CountUp (λ (variable : BoundVar). variable.id.0) 0) (sym c.new-3.ensures) c.in_ok-vars.ensures.numbers)
     (to_z-of_z w64 c.unwrap_or.result fits ∙ c.unwrap_or.ensures) refl c.in_ok-name.ensures.shown
