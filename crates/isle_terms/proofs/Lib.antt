@@ -26,59 +26,11 @@ pub mod BrokenTerms
 pub mod BrokenConstructors
 -- Definitions that break a rule of typing make no environment; those that exceed a size make none within the sizes.
 pub mod BrokenTyping
--- Lists of definitions of one kind.
-pub mod Listing
--- A table of names grows by a name.
-pub mod NameTables
--- What gathers the terms of a pattern has all of them.
-pub mod GatheredTerms
--- Checks of definitions, one after the other and item by item.
-pub mod Checking
--- Names are put into a table, and those that occur already are reported.
-pub mod Naming
--- Errors that checks add.
-pub mod AddedErrors
--- The terms that bodies of extractors name.
-pub mod ExtractorBodies
--- Where one rule is broken, one of more rules is.
-pub mod WiderFaults
--- What a search for a name finds, by the name's place.
-pub mod NamedPlaces
--- How a declared term makes its value and takes one apart, by the places of its name.
-pub mod DeclaredForms
--- What a typed tree is at each kind of node.
-pub mod VisitTrees
--- Runs of visits of patterns and expressions, one after another.
-pub mod VisitRuns
--- Runs of visits of the parts of a rule.
-pub mod VisitRuleRuns
--- Variables copied to another map, entry by entry.
-pub mod CopiedScopes
--- What a part of a template stands for, and how many arguments a template needs.
-pub mod Frames
--- The innermost name is taken away.
-pub mod Leaving
--- The symbol of an interned name.
-pub mod SymNames
--- The steps of a reading of expressions.
-pub mod ExprSteps
--- What a built call shows.
-pub mod BuiltShown
--- The steps of reading a pattern.
-pub mod PatternSteps
--- What typed patterns show, form by form.
-pub mod PatternForms
--- A search for cycles of a graph.
-pub mod Cycles
--- The graph of internal extractors.
-pub mod ExtractorGraphs
--- Edges that are added to a graph.
-pub mod AddedEdges
--- What typed rules and terms show stays as it is when more names are interned.
-pub mod ShownMore
--- Where definitions and types stand, the faults of typing do.
-pub mod TypingPlaces
--- What checks of definitions report breaks a rule of terms, and where they report nothing the rule is kept.
-pub mod CheckedDefinitions
--- What checks of definitions add are faults of typing.
-pub mod CheckedTyping
+-- What is collected and checked of definitions.
+pub mod Collections
+-- Visits of typed rules.
+pub mod Visiting
+-- The reading of patterns and expressions, step by step.
+pub mod Steps
+-- What is shown stays shown, and where faults stand.
+pub mod Showing

@@ -74,5 +74,6 @@ abbrev pub constructor_sig_of : TypeTables → Term → TermKind → Option Exte
 constructor_sig_of tyenv term (EnumVariant variant) = None
 constructor_sig_of tyenv term Struct = None
 constructor_sig_of tyenv term (Decl flags None taken) = None
-constructor_sig_of tyenv term (Decl flags (Some kind) taken) = Some (signature (constructor_names tyenv term.name kind) term.arg_tys (term.ret_ty ∷ [])
+constructor_sig_of tyenv term (Decl flags (Some kind) taken) = Some (signature (constructor_names tyenv term.name kind) term.arg_tys (term.ret_ty ∷
+    [])
     (returns flags.multi flags.partial))

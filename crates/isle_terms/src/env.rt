@@ -1,26 +1,33 @@
-ghost use Rattle.std.specs.Prelude.{◌≡◌, slice_get};
+ghost use Rattle.std.specs.Prelude.{◌≡◌, ◌≤◌, [], slice_get, All, IfOk};
+ghost use Rattle.isle_terms.specs.declared.terms.Term.{Term as TermRecord};
 ghost use Rattle.std.specs.Option.{option_copied, option_and_then, option_map};
 ghost use Rattle.isle_types.specs.TypeEnvs.{sym_named};
-ghost use Rattle.isle_terms.specs.TermTables.{term_with, rule_with, converter_with};
-ghost use Rattle.isle_terms.specs.Needs.{needed_of};
+ghost use Rattle.isle_terms.specs.Shown.TermTables.{term_with, rule_with, converter_with};
+ghost use Rattle.isle_terms.specs.Readings.Needs.{needed_of};
 
-mod checks;
-mod definitions;
-mod name_table;
 mod bodies;
+mod checks;
+mod converters;
 mod cycles;
+mod definitions;
 mod graph;
+mod name_table;
 mod named;
 mod naming;
+mod needs;
 mod recursion;
 mod report;
+mod rules;
+mod term_numbers;
 mod terms;
+mod type_terms;
 
+use crate::env::needs::needs_of;
 use crate::rules::Rule;
 use crate::terms::Term;
 use isle_syntax::ast::Ident;
 use isle_types::{RuleId, StableMap, Sym, TermId, TypeEnv, TypeId};
-use std::alloc::Global;
+use std::alloc::{AllocError, Global};
 use std::marker::Model;
 
 /// The terms and rules of a list of definitions: `cranelift_isle::sema::TermEnv`. Contracts see its tables.
@@ -38,13 +45,8 @@ pub struct TermEnv {
 
 impl Model for TermEnv {
     ghost use Rattle.std.specs.Prelude.{◌≡◌, map};
-    ghost use Rattle.isle_terms.specs.TermTables.{TermTables};
-    ghost use Rattle.isle_terms.specs.Needs.{needed_of};
-    ghost use Rattle.std.specs.Coded.{codes};
-    ghost use Rattle.isle_syntax.specs.Trees.PatternCode.{pattern_tree_code, pattern_trees_code};
-    ghost use Rattle.isle_terms.specs.contracts.rules.Pattern as pattern;
-    ghost use Rattle.isle_terms.specs.contracts.rules.Expr as expr;
-
+    ghost use Rattle.isle_terms.specs.Shown.TermTables.{TermTables};
+    ghost use Rattle.isle_terms.specs.Readings.Needs.{needed_of};
     ghost use Rattle.std.specs.Coded.{codes};
     ghost use Rattle.isle_syntax.specs.Trees.PatternCode.{pattern_tree_code, pattern_trees_code};
     ghost use Rattle.isle_terms.specs.contracts.rules.Pattern as pattern;
@@ -67,6 +69,35 @@ impl Model for TermEnv {
 }
 
 impl TermEnv {
+    /// The environment of terms with their numbers and converters, and as yet of no rules.
+    pub fn of_terms(
+        alloc: Global,
+        terms: Vec<Term>,
+        numbers: StableMap<Sym, TermId>,
+        converters: StableMap<(TypeId, TypeId), TermId>,
+        expand: bool,
+    ) -> Result<TermEnv, AllocError>
+        requires { All (λ (term : TermRecord). needed_of term ≤ usize.MAX) terms.items }
+        ensures terms { IfOk result (λ env. env.terms ≡ terms.items) }
+        ensures numbers { IfOk result (λ env. env.numbers ≡ numbers) }
+        ensures rules { IfOk result (λ env. env.rules ≡ []) }
+        ensures rule_numbers { IfOk result (λ env. env.rule_numbers ≡ []) }
+        ensures converters { IfOk result (λ env. env.converters ≡ converters) }
+        ensures expands { IfOk result (λ env. env.expands ≡ expand) }
+    {
+        let needs = needs_of(alloc, terms.as_slice())?;
+        Ok(TermEnv {
+            alloc,
+            terms,
+            needs,
+            term_map: numbers,
+            rules: Vec::new(alloc),
+            rule_map: StableMap::new(alloc),
+            converters,
+            expand_internal_extractors: expand,
+        })
+    }
+
     /// The terms, each at the place of its id: the declared ones in order, then those of the types.
     pub fn terms(&self) -> &[Term]
         ensures { result.now ≡ self.now.terms }

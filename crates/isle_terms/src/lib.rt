@@ -14,5 +14,6 @@ pub use first::env::TermEnv;
 pub use rules::{BoundVar, Expr, IfLet, Pattern, Rule};
 pub use signatures::{ExternalSig, ReturnKind};
 pub use terms::{ConstructorKind, ExtractorKind, Term, TermFlags, TermKind};
-pub use visit::{ExprPart, PatternPart, VisitFault, VisitedExpr};
-pub use visit::{ExprVisitor, PatternVisitor, RuleVisitor};
+pub use visit::{
+    ExprPart, ExprVisitor, PatternPart, PatternVisitor, RuleVisitor, VisitFault, VisitedExpr,
+};

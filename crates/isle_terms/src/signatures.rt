@@ -89,7 +89,11 @@ fn return_kind(multi: bool, fails: bool) -> ReturnKind
     if multi {
         return ReturnKind::Iterator;
     }
-    if fails { ReturnKind::Option } else { ReturnKind::Plain }
+    if fails {
+        ReturnKind::Option
+    } else {
+        ReturnKind::Plain
+    }
 }
 
 impl ExtractorKind {
@@ -98,7 +102,11 @@ impl ExtractorKind {
         ensures full { IfOk result (λ names. names.full ≡ (extractor_names tyenv.now term self.now).full) }
     {
         match self {
-            ExtractorKind::InternalExtractor { .. } => own(alloc, "extractor_", tyenv.sym_name(term)),
+            ExtractorKind::InternalExtractor { .. } => own(
+                alloc,
+                "extractor_",
+                tyenv.sym_name(term),
+            ),
             ExtractorKind::ExternalExtractor { name, .. } => host(alloc, tyenv.sym_name(*name)),
         }
     }
@@ -119,7 +127,11 @@ impl ConstructorKind {
         ensures full { IfOk result (λ names. names.full ≡ (constructor_names tyenv.now term self.now).full) }
     {
         match self {
-            ConstructorKind::InternalConstructor => own(alloc, "constructor_", tyenv.sym_name(term)),
+            ConstructorKind::InternalConstructor => own(
+                alloc,
+                "constructor_",
+                tyenv.sym_name(term),
+            ),
             ConstructorKind::ExternalConstructor { name } => host(alloc, tyenv.sym_name(*name)),
         }
     }
@@ -127,10 +139,19 @@ impl ConstructorKind {
 
 impl Term {
     /// The function of the term's extractor, if it has one.
-    pub fn extractor_sig(&self, alloc: Global, tyenv: &TypeEnv) -> Result<Option<ExternalSig>, AllocError>
+    pub fn extractor_sig(
+        &self,
+        alloc: Global,
+        tyenv: &TypeEnv,
+    ) -> Result<Option<ExternalSig>, AllocError>
         ensures { IfOk result (λ sig. sig ≡ extractor_sig_of tyenv.now self.now self.now.kind) }
     {
-        let TermKind::Decl { flags, extractor_kind: Some(kind), .. } = &self.kind else {
+        let TermKind::Decl {
+            flags,
+            extractor_kind: Some(kind),
+            ..
+        } = &self.kind
+        else {
             return Ok(None);
         };
         let names = kind.names(alloc, tyenv, self.name)?;
@@ -144,10 +165,19 @@ impl Term {
     }
 
     /// The function of the term's constructor, if it has one.
-    pub fn constructor_sig(&self, alloc: Global, tyenv: &TypeEnv) -> Result<Option<ExternalSig>, AllocError>
+    pub fn constructor_sig(
+        &self,
+        alloc: Global,
+        tyenv: &TypeEnv,
+    ) -> Result<Option<ExternalSig>, AllocError>
         ensures { IfOk result (λ sig. sig ≡ constructor_sig_of tyenv.now self.now self.now.kind) }
     {
-        let TermKind::Decl { flags, constructor_kind: Some(kind), .. } = &self.kind else {
+        let TermKind::Decl {
+            flags,
+            constructor_kind: Some(kind),
+            ..
+        } = &self.kind
+        else {
             return Ok(None);
         };
         let names = kind.names(alloc, tyenv, self.name)?;

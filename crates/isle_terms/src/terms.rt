@@ -1,6 +1,6 @@
 ghost use Rattle.std.specs.Prelude.{◌≡◌};
 ghost use Rattle.isle_terms.specs.Elaboration.{on_lhs};
-ghost use Rattle.isle_terms.specs.ShownTerms.{flags_shown};
+ghost use Rattle.isle_terms.specs.Shown.ShownTerms.{flags_shown};
 ghost use Rattle.isle_terms.specs.Terms.{is_variant_kind, is_partial_kind, has_rules_kind, makes_kind, takes_apart_kind};
 
 use isle_syntax::Seq;

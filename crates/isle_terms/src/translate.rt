@@ -4,6 +4,7 @@ pub mod exprs;
 pub mod frames;
 pub mod names;
 pub mod patterns;
+pub mod rules;
 
 use crate::env::TermEnv;
 use isle_syntax::lexer::Pos;

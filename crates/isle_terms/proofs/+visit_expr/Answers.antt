@@ -5,8 +5,8 @@ use Rattle.isle_terms.specs.FirstEnvironment.{terms_of}
 use Rattle.isle_terms.specs.Visits.Events.{visits_expr, visits_exprs, visits_bindings}
 use Rattle.isle_terms.specs.Visits.VisitScopes.{scope_of, bound}
 use Rattle.isle_terms.specs.Visits.InternedTrees.{expr_of, exprs_of, bindings_of}
-use Rattle.isle_terms.proofs.VisitRuns.{went, cut, no_type, cut_type, exprs_wait, bindings_wait}
-use Rattle.isle_terms.proofs.VisitTrees.{expr-Let}
+use Rattle.isle_terms.proofs.Visiting.VisitRuns.{went, cut, no_type, cut_type, exprs_wait, bindings_wait}
+use Rattle.isle_terms.proofs.Visiting.VisitTrees.{expr-Let}
 use Rattle.isle_terms.proofs.+visit_expr.Goals as goal
 
 pub rules::Expr::visit-returns-in_err-inner-in-Let : goal.rules::Expr::visit-returns-in_err-inner-in-Let

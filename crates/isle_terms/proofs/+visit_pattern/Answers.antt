@@ -1,8 +1,8 @@
 use Rattle.std.proofs.lemmas.Result.{err_from_is_err_and}
 use Rattle.isle_terms.specs.FirstEnvironment.{terms_of}
 use Rattle.isle_terms.specs.Visits.InternedTrees.{pattern_of}
-use Rattle.isle_terms.proofs.VisitRuns.{waits}
-use Rattle.isle_terms.proofs.VisitTrees.{pattern-BindPattern}
+use Rattle.isle_terms.proofs.Visiting.VisitRuns.{waits}
+use Rattle.isle_terms.proofs.Visiting.VisitTrees.{pattern-BindPattern}
 use Rattle.isle_terms.proofs.+visit_pattern.Goals as goal
 
 pub rules::Pattern::visit-returns-in_err-bind-in-BindPattern : goal.rules::Pattern::visit-returns-in_err-bind-in-BindPattern

@@ -3,9 +3,9 @@ ghost use Rattle.std.specs.Str.{bytes_eq};
 ghost use Rattle.isle_syntax.specs.declared.lexer.Pos.{Pos};
 ghost use Rattle.isle_syntax.specs.Trees.PatternShape.{pattern_of};
 ghost use Rattle.isle_types.specs.StableMaps.{has};
-ghost use Rattle.isle_terms.specs.Checks.{Checks};
+ghost use Rattle.isle_terms.specs.Collecting.Checks.{Checks};
 ghost use Rattle.isle_terms.specs.Definitions.{is_among};
-ghost use Rattle.isle_terms.specs.ExtractorChecks.{Adds, BodyNamesUnknown, BodyNamesKnown, IsUnknownAt, NamesUnknown, NamesKnown};
+ghost use Rattle.isle_terms.specs.Collecting.ExtractorChecks.{Adds, BodyNamesUnknown, BodyNamesKnown, IsUnknownAt, NamesUnknown, NamesKnown};
 
 use crate::env::named::named_terms;
 use crate::env::report::report;

@@ -4,10 +4,10 @@ ghost use Rattle.isle_syntax.specs.declared.ast.Decl.{Decl as DeclTree};
 ghost use Rattle.isle_syntax.specs.declared.ast.Extractor.{Extractor as ExtractorTree};
 ghost use Rattle.isle_syntax.specs.Trees.PatternShape.{pattern_of};
 ghost use Rattle.isle_terms.specs.Definitions.{root_name, roots_of, ExternalExtractor};
-ghost use Rattle.isle_terms.specs.Checks.{ChecksEach};
-ghost use Rattle.isle_terms.specs.NameTables.{IsTableOf};
-ghost use Rattle.isle_terms.specs.DefinitionLists.{host_constructor_shown, host_extractor_shown};
-ghost use Rattle.isle_terms.specs.DefinitionChecks.{is_ill_root, is_ill_host, is_ill_extractor, is_ill_name, is_unused, is_ill_marked};
+ghost use Rattle.isle_terms.specs.Collecting.Checks.{ChecksEach};
+ghost use Rattle.isle_terms.specs.Collecting.NameTables.{IsTableOf};
+ghost use Rattle.isle_terms.specs.Collecting.DefinitionLists.{host_constructor_shown, host_extractor_shown};
+ghost use Rattle.isle_terms.specs.Collecting.DefinitionChecks.{is_ill_root, is_ill_host, is_ill_extractor, is_ill_name, is_unused, is_ill_marked};
 
 use crate::env::definitions::{HostConstructor, HostExtractor};
 use crate::env::name_table::NameTable;
@@ -64,14 +64,20 @@ pub fn check_roots(
 {
     for rule in rules {
         if is_ill_root(rule, declared) {
-            report(&mut *errors, tyenv, rule.pos, "the root of a rule must be a declared term")?;
+            report(
+                &mut *errors,
+                tyenv,
+                rule.pos,
+                "the root of a rule must be a declared term",
+            )?;
         }
     }
     Ok(())
 }
 
 fn is_ill_host(host: &HostConstructor<'_>, declared: &NameTable, roots: &NameTable) -> bool
-    ensures { (names : List (List ℕ)) → (ruled : List (List ℕ)) → IsTableOf names declared.now → IsTableOf ruled roots.now → result ≡ is_ill_host names ruled (host_constructor_shown host.now) }
+    ensures { (names : List (List ℕ)) → (ruled : List (List ℕ)) → IsTableOf names declared.now → IsTableOf ruled roots.now → result
+        ≡ is_ill_host names ruled (host_constructor_shown host.now) }
 {
     !declared.has(host.term.0.as_str()) || roots.has(host.term.0.as_str())
 }
@@ -89,14 +95,20 @@ pub fn check_host_constructors(
 {
     for host in hosts {
         if is_ill_host(host, declared, roots) {
-            report(&mut *errors, tyenv, host.term.1, "an external constructor must be of a declared term without rules")?;
+            report(
+                &mut *errors,
+                tyenv,
+                host.term.1,
+                "an external constructor must be of a declared term without rules",
+            )?;
         }
     }
     Ok(())
 }
 
 fn is_ill_extractor(extractor: &Extractor, decls: &[&Decl], declared: &NameTable) -> bool
-    ensures { (names : List (List ℕ)) → IsTableOf names declared.now → result ≡ is_ill_extractor names (map (λ decl. decl.now) decls.now) extractor.now }
+    ensures { (names : List (List ℕ)) → IsTableOf names declared.now → result
+        ≡ is_ill_extractor names (map (λ decl. decl.now) decls.now) extractor.now }
 {
     match declared.place(extractor.term.0.as_str()) {
         Some(place) => match decls.get(place) {
@@ -116,11 +128,17 @@ pub fn check_extractors(
     errors: &mut Vec<Error>,
 ) -> Result<(), AllocError>
     ensures { (names : List (List ℕ)) → IsTableOf names declared.now → OnOk result
-        (ChecksEach (map (λ extractor. extractor.now) extractors.now) (is_ill_extractor names (map (λ decl. decl.now) decls.now)) (λ (extractor : ExtractorTree). extractor.pos) errors.old.items errors.new.items) }
+        (ChecksEach (map (λ extractor. extractor.now) extractors.now) (is_ill_extractor names (map (λ decl. decl.now) decls.now)) (λ (extractor :
+        ExtractorTree). extractor.pos) errors.old.items errors.new.items) }
 {
     for extractor in extractors {
         if is_ill_extractor(extractor, decls, declared) {
-            report(&mut *errors, tyenv, extractor.pos, "an internal extractor must be of a declared term that is not `multi`")?;
+            report(
+                &mut *errors,
+                tyenv,
+                extractor.pos,
+                "an internal extractor must be of a declared term that is not `multi`",
+            )?;
         }
     }
     Ok(())
@@ -140,18 +158,25 @@ pub fn check_host_extractors(
     errors: &mut Vec<Error>,
 ) -> Result<(), AllocError>
     ensures { (names : List (List ℕ)) → IsTableOf names declared.now → OnOk result
-        (ChecksEach (map host_extractor_shown hosts.now) (is_ill_name names) (λ (host : ExternalExtractor). host.pos) errors.old.items errors.new.items) }
+        (ChecksEach (map host_extractor_shown hosts.now) (is_ill_name names) (λ (host : ExternalExtractor). host.pos) errors.old.items
+        errors.new.items) }
 {
     for host in hosts {
         if is_ill_name(host, declared) {
-            report(&mut *errors, tyenv, host.pos, "an external extractor must be of a declared term")?;
+            report(
+                &mut *errors,
+                tyenv,
+                host.pos,
+                "an external extractor must be of a declared term",
+            )?;
         }
     }
     Ok(())
 }
 
 fn is_unused(decl: &Decl, roots: &NameTable, hosts: &NameTable, extractors: &NameTable) -> bool
-    ensures { (ruled : List (List ℕ)) → (hosted : List (List ℕ)) → (extracted : List (List ℕ)) → IsTableOf ruled roots.now → IsTableOf hosted hosts.now → IsTableOf extracted extractors.now → result ≡ is_unused ruled hosted extracted decl.now }
+    ensures { (ruled : List (List ℕ)) → (hosted : List (List ℕ)) → (extracted : List (List ℕ)) → IsTableOf ruled roots.now
+        → IsTableOf hosted hosts.now → IsTableOf extracted extractors.now → result ≡ is_unused ruled hosted extracted decl.now }
 {
     let name = decl.term.0.as_str();
     !roots.has(name) && !hosts.has(name) && !extractors.has(name)
@@ -166,12 +191,19 @@ pub fn check_defined(
     extractors: &NameTable,
     errors: &mut Vec<Error>,
 ) -> Result<(), AllocError>
-    ensures { (ruled : List (List ℕ)) → (hosted : List (List ℕ)) → (extracted : List (List ℕ)) → IsTableOf ruled roots.now → IsTableOf hosted hosts.now → IsTableOf extracted extractors.now → OnOk result
-        (ChecksEach (map (λ decl. decl.now) decls.now) (is_unused ruled hosted extracted) (λ (decl : DeclTree). decl.pos) errors.old.items errors.new.items) }
+    ensures { (ruled : List (List ℕ)) → (hosted : List (List ℕ)) → (extracted : List (List ℕ)) → IsTableOf ruled roots.now
+        → IsTableOf hosted hosts.now → IsTableOf extracted extractors.now → OnOk result
+        (ChecksEach (map (λ decl. decl.now) decls.now) (is_unused ruled hosted extracted) (λ (decl : DeclTree). decl.pos) errors.old.items
+        errors.new.items) }
 {
     for decl in decls {
         if is_unused(decl, roots, hosts, extractors) {
-            report(&mut *errors, tyenv, decl.pos, "no rule, extractor or external constructor defines this term")?;
+            report(
+                &mut *errors,
+                tyenv,
+                decl.pos,
+                "no rule, extractor or external constructor defines this term",
+            )?;
         }
     }
     Ok(())
@@ -194,7 +226,12 @@ pub fn check_marks(
 {
     for decl in decls {
         if is_ill_marked(decl) {
-            report(&mut *errors, tyenv, decl.pos, "a term is not both `multi` and `partial`")?;
+            report(
+                &mut *errors,
+                tyenv,
+                decl.pos,
+                "a term is not both `multi` and `partial`",
+            )?;
         }
     }
     Ok(())

@@ -2,7 +2,7 @@ ghost use Rattle.std.specs.Prelude.{◌≡◌, IfOk, map};
 ghost use Rattle.std.specs.Option.{option_copied, option_map};
 ghost use Rattle.isle_terms.specs.Definitions.{as_declaration, as_rule, as_extractor, as_converter, declarations, rules_in, extractors_in};
 ghost use Rattle.isle_terms.specs.Definitions.{converters_in, external_constructors, external_extractors};
-ghost use Rattle.isle_terms.specs.DefinitionLists.{constructor_in, extractor_in, host_constructor_shown, host_extractor_shown};
+ghost use Rattle.isle_terms.specs.Collecting.DefinitionLists.{constructor_in, extractor_in, host_constructor_shown, host_extractor_shown};
 
 use isle_syntax::ast::{Converter, Decl, Def, Extern, Extractor, Ident, Rule};
 use isle_syntax::lexer::Pos;
@@ -113,7 +113,10 @@ fn converter(def: &Def) -> Option<&Converter>
 }
 
 /// The host's constructors of a list of definitions, in order.
-pub fn host_constructors(alloc: Global, defs: &[Def]) -> Result<Vec<HostConstructor<'_>>, AllocError>
+pub fn host_constructors(
+    alloc: Global,
+    defs: &[Def],
+) -> Result<Vec<HostConstructor<'_>>, AllocError>
     ensures { IfOk result (λ all. map host_constructor_shown all.items ≡ external_constructors defs.now) }
 {
     let mut all = Vec::new(alloc);
@@ -154,12 +157,14 @@ fn host_extractor(def: &Def) -> Option<HostExtractor<'_>>
     ensures { option_map host_extractor_shown result ≡ extractor_in def.now }
 {
     match def {
-        Def::Extern(Extern::Extractor {
-            term,
-            func,
-            pos,
-            infallible,
-        }) => Some(HostExtractor {
+        Def::Extern(
+            Extern::Extractor {
+                term,
+                func,
+                pos,
+                infallible,
+            },
+        ) => Some(HostExtractor {
             term,
             function: func,
             infallible: *infallible,

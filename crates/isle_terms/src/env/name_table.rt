@@ -1,6 +1,6 @@
 ghost use Rattle.std.specs.Prelude.{◌≡◌, ℕ, List, [], ◌∷◌, ◌++◌, length, is_some, is_none, IfOk, OnOk};
 ghost use Rattle.isle_types.specs.Names.{position_of};
-ghost use Rattle.isle_terms.specs.NameTables.{IsTableOf};
+ghost use Rattle.isle_terms.specs.Collecting.NameTables.{IsTableOf};
 
 use isle_types::StableMap;
 use std::alloc::{AllocError, Global};

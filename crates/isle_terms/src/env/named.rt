@@ -1,6 +1,6 @@
 ghost use Rattle.std.specs.Prelude.{◌≡◌, [], ◌∷◌, ◌++◌, map, false, IfOk};
 ghost use Rattle.isle_syntax.specs.Trees.PatternShape.{pattern_of};
-ghost use Rattle.isle_terms.specs.ExtractorChecks.{named_in};
+ghost use Rattle.isle_terms.specs.Collecting.ExtractorChecks.{named_in};
 
 use isle_syntax::Text;
 use isle_syntax::ast::{Ident, Pattern};

@@ -3,9 +3,10 @@ ghost use Rattle.isle_syntax.specs.declared.ast.Decl.{Decl as DeclTree};
 ghost use Rattle.isle_syntax.specs.declared.ast.Extractor.{Extractor as ExtractorTree};
 ghost use Rattle.isle_types.specs.Names.{AreDistinct};
 ghost use Rattle.isle_terms.specs.TermFaults.{names_of, IsTaken};
-ghost use Rattle.isle_terms.specs.Checks.{Checks};
-ghost use Rattle.isle_terms.specs.NameTables.{IsTableOf};
-ghost use Rattle.isle_terms.specs.NamedItems.{named_shown, named_declaration, named_extractor, named_host_constructor, named_host_extractor};
+ghost use Rattle.isle_terms.specs.Collecting.Checks.{Checks};
+ghost use Rattle.isle_terms.specs.Collecting.NameTables.{IsTableOf};
+ghost use Rattle.isle_terms.specs.Collecting.NamedItems.{named_shown, named_declaration, named_extractor, named_host_constructor};
+ghost use Rattle.isle_terms.specs.Collecting.NamedItems.{named_host_extractor};
 
 use crate::env::definitions::{HostConstructor, HostExtractor};
 use crate::env::name_table::NameTable;
@@ -24,10 +25,7 @@ pub struct Named<'a> {
 }
 
 /// The names of declarations.
-pub fn declared_names<'a>(
-    alloc: Global,
-    decls: &[&'a Decl],
-) -> Result<Vec<Named<'a>>, AllocError>
+pub fn declared_names<'a>(alloc: Global, decls: &[&'a Decl]) -> Result<Vec<Named<'a>>, AllocError>
     ensures { IfOk result (λ all. map named_shown all.items ≡ map (λ decl. named_declaration decl.now) decls.now) }
 {
     let mut all = Vec::new(alloc);

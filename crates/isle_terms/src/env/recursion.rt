@@ -3,9 +3,9 @@ ghost use Rattle.std.specs.Str.{bytes_eq};
 ghost use Rattle.isle_syntax.specs.declared.ast.Extractor.{Extractor as ExtractorTree};
 ghost use Rattle.isle_syntax.specs.Trees.PatternShape.{pattern_of};
 ghost use Rattle.isle_types.specs.StableMaps.{value_at};
-ghost use Rattle.isle_terms.specs.Checks.{Checks};
-ghost use Rattle.isle_terms.specs.ExtractorGraphs.{extracted, ArePlaces, AddsEdges, JoinsTerm, JoinsNode, JoinsPlaces};
-ghost use Rattle.isle_terms.specs.ExtractorGraphs.{IsGraphOf, IsRecursiveAt, IsNotRecursive};
+ghost use Rattle.isle_terms.specs.Collecting.Checks.{Checks};
+ghost use Rattle.isle_terms.specs.Collecting.ExtractorGraphs.{extracted, ArePlaces, AddsEdges, JoinsTerm, JoinsNode, JoinsPlaces};
+ghost use Rattle.isle_terms.specs.Collecting.ExtractorGraphs.{IsGraphOf, IsRecursiveAt, IsNotRecursive};
 
 use crate::env::cycles::find_cycle;
 use crate::env::graph::Graph;

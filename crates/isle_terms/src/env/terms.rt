@@ -1,20 +1,24 @@
-ghost use Rattle.std.specs.Prelude.{◌≡◌, ◌≤◌, ◌<◌, ℕ, List, false, map, length, IfOk, IfErr, OnOk};
+ghost use Rattle.std.specs.Prelude.{◌≡◌, ◌≤◌, ◌<◌, ◌++◌, ◌∷◌, [], ℕ, List, false, map, length, IfOk, IfErr, OnOk};
 ghost use Rattle.std.specs.List.{AllZip};
 ghost use Rattle.isle_syntax.specs.declared.ast.Def.{Def};
-ghost use Rattle.isle_syntax.specs.Errors.{IfFault};
+ghost use Rattle.isle_syntax.specs.Errors.{IfFault, IsFaultAnd, error_kind, size_error};
 ghost use Rattle.isle_types.specs.Environment.{Environment};
 ghost use Rattle.isle_types.specs.TypeEnvs.{Shows, HasMoreNames};
 ghost use Rattle.isle_terms.specs.Definitions.{IsTypeNumber, constructor_for, extractor_for};
-ghost use Rattle.isle_terms.specs.ShownTerms.{numbers_of};
-ghost use Rattle.isle_terms.specs.DeclaredTerms.{AreFormsOf, AreShownAs, IsShownConstructor, IsShownExtractor, IsDeclaredTerm};
-ghost use Rattle.isle_terms.specs.DeclaredTerms.{IsDeclarationFault, IsUnknownTypeAt, IsOneUnknownAt, HasPlainTemplates};
-ghost use Rattle.isle_types.specs.TypeFaults.{IsTypeFault};
+ghost use Rattle.isle_terms.specs.Shown.ShownTerms.{numbers_of};
+ghost use Rattle.isle_terms.specs.Collecting.DeclaredTerms.{AreFormsOf, AreShownAs, IsShownConstructor, IsShownExtractor, IsDeclaredTerm};
+ghost use Rattle.isle_terms.specs.Collecting.DeclaredTerms.{IsDeclarationFault, IsUnknownTypeAt, IsOneUnknownAt, HasPlainTemplates};
+ghost use Rattle.isle_terms.specs.Collecting.DeclaredTerms.{IsShownForm, NamesUnknownType, OneNamesUnknownType, IsLargeAt, IsOneLargeAt, IsAlone};
+ghost use Rattle.isle_terms.specs.Collecting.DeclaredTerms.{AddsDeclaredTerm, AreDeclaredTerms};
+ghost use Rattle.isle_terms.specs.Collecting.Checks.{Checks};
+ghost use Rattle.isle_terms.specs.Collecting.ExtractorChecks.{Adds};
+ghost use Rattle.isle_types.specs.TypeFaults.{IsTypeFault, IsSizeFault};
 ghost use Rattle.isle_syntax.specs.Trees.PatternShape.{pattern_of};
 ghost use Rattle.isle_syntax.specs.Trees.TreeCalls.{has_macro_arg};
 ghost use Rattle.isle_syntax.specs.Trees.Templates.{template_tree};
-ghost use Rattle.isle_terms.specs.Signatures.{by_template};
+ghost use Rattle.isle_terms.specs.Signatures.{by_template, declared_form};
 ghost use Rattle.isle_terms.specs.Definitions.{flags_in};
-ghost use Rattle.isle_terms.specs.ShownTerms.{flags_shown};
+ghost use Rattle.isle_terms.specs.Shown.ShownTerms.{flags_shown};
 
 use crate::env::definitions::{HostConstructor, HostExtractor};
 use crate::env::name_table::NameTable;
@@ -100,6 +104,23 @@ impl Forms<'_> {
         }))
     }
 
+    /// What the term of a declaration is.
+    fn kind_of(&self, tyenv: &mut TypeEnv, decl: &Decl) -> Result<TermKind, AllocError>
+        requires { HasPlainTemplates (map (λ extractor. extractor.now) self.now.extractors.now) }
+        ensures made { (defs : List Def) → AreFormsOf defs self.now → IfOk result (IsShownForm tyenv.new.names
+            (declared_form (flags_in decl.now) (constructor_for defs decl.now.term.0) (extractor_for defs decl.now.term.0))) }
+        ensures more { HasMoreNames tyenv.old tyenv.new }
+        ensures shown { (types : Environment) → Shows tyenv.old types → Shows tyenv.new types }
+    {
+        let constructor_kind = self.constructor_kind(tyenv, decl.term.0.as_str())?;
+        let extractor_kind = self.extractor_kind(tyenv, decl.term.0.as_str())?;
+        Ok(TermKind::Decl {
+            flags: flags_of(decl),
+            constructor_kind,
+            extractor_kind,
+        })
+    }
+
     /// The term that a declaration makes.
     fn declared_term(
         &self,
@@ -114,26 +135,99 @@ impl Forms<'_> {
         ensures more { HasMoreNames tyenv.old tyenv.new }
         ensures shown { (types : Environment) → Shows tyenv.old types → Shows tyenv.new types }
     {
-        if decl.arg_tys.as_slice().len() > MAX_ARGUMENTS {
-            return Err(tyenv.size_error(decl.pos, "a term has more than 255 arguments"));
-        }
-        let arg_tys = known_types(self.alloc, tyenv, decl.arg_tys.as_slice())?;
-        let ret_ty = known_type(tyenv, &decl.ret_ty)?;
+        let types = match types_of(self.alloc, tyenv, decl) {
+            Ok(types) => types,
+            Err(refusal) => return Err(refusal),
+        };
         let name = tyenv.intern_mut(&decl.term)?;
-        let constructor_kind = self.constructor_kind(tyenv, decl.term.0.as_str())?;
-        let extractor_kind = self.extractor_kind(tyenv, decl.term.0.as_str())?;
+        let kind = self.kind_of(tyenv, decl)?;
         Ok(Term {
             id,
             decl_pos: decl.pos,
             name,
-            arg_tys: Seq::new(arg_tys),
-            ret_ty,
-            kind: TermKind::Decl {
-                flags: flags_of(decl),
-                constructor_kind,
-                extractor_kind,
-            },
+            arg_tys: Seq::new(types.arguments),
+            ret_ty: types.value,
+            kind,
         })
+    }
+
+    /// Adds the term that a declaration makes. A type that isn't known is reported; too many arguments are an error alone.
+    fn add_declared(
+        &self,
+        tyenv: &mut TypeEnv,
+        decl: &Decl,
+        terms: &mut Vec<Term>,
+        errors: &mut Vec<Error>,
+    ) -> Result<(), Refusal<Vec<Error>>>
+        requires { HasPlainTemplates (map (λ extractor. extractor.now) self.now.extractors.now) }
+        ensures added { (types : Environment) (defs : List Def) → Shows tyenv.old types → AreFormsOf defs self.now
+            → OnOk result (Adds (NamesUnknownType types decl.now)
+            (AddsDeclaredTerm types defs tyenv.new.names decl.now terms.old.items terms.new.items) errors.old.items errors.new.items) }
+        ensures large { (types : Environment) → Shows tyenv.old types
+            → IfErr result (λ r. IfFault r (λ all. IsAlone (IsSizeFault (IsLargeAt decl.now)) all.items)) }
+        ensures more { HasMoreNames tyenv.old tyenv.new }
+        ensures shown { (types : Environment) → Shows tyenv.old types → Shows tyenv.new types }
+    {
+        let id = TermId(terms.len());
+        match self.declared_term(tyenv, id, decl) {
+            Ok(term) => {
+                terms.push(term)?;
+                Ok(())
+            }
+            Err(refusal) => keep(self.alloc, refusal, errors),
+        }
+    }
+
+    /// The terms of declarations, whose numbers count from 0. Types that aren't known are reported; a declaration of too many
+    /// arguments is an error alone.
+    pub fn declared_terms(
+        &self,
+        tyenv: &mut TypeEnv,
+        decls: &[&Decl],
+        errors: &mut Vec<Error>,
+    ) -> Result<Vec<Term>, Refusal<Vec<Error>>>
+        requires { HasPlainTemplates (map (λ extractor. extractor.now) self.now.extractors.now) }
+        ensures made { (types : Environment) (defs : List Def) → Shows tyenv.old types → AreFormsOf defs self.now
+            → IfOk result (λ terms. Checks (OneNamesUnknownType types (map (λ decl. decl.now) decls.now))
+            (AreDeclaredTerms types defs tyenv.new.names (map (λ decl. decl.now) decls.now) terms.items) errors.old.items errors.new.items) }
+        ensures large { (types : Environment) → Shows tyenv.old types
+            → IfErr result (λ r. IfFault r (λ all. IsAlone (IsSizeFault (IsOneLargeAt (map (λ decl. decl.now) decls.now))) all.items)) }
+        ensures more { HasMoreNames tyenv.old tyenv.new }
+        ensures shown { (types : Environment) → Shows tyenv.old types → Shows tyenv.new types }
+    {
+        let mut terms = Vec::new(self.alloc);
+        for decl in decls {
+            match self.add_declared(tyenv, decl, &mut terms, errors) {
+                Ok(()) => {}
+                Err(refusal) => return Err(refusal),
+            }
+        }
+        Ok(terms)
+    }
+}
+
+/// Keeps a type error. A size error, alone, and that memory ran out are handed on.
+fn keep(
+    alloc: Global,
+    refusal: Refusal<Error>,
+    errors: &mut Vec<Error>,
+) -> Result<(), Refusal<Vec<Error>>>
+    ensures kept { OnOk result (IsFaultAnd refusal (λ error. (¬ (error_kind error ≡ size_error))
+        × (errors.new.items ≡ errors.old.items ++ error ∷ []))) }
+    ensures alone { IfErr result (λ r. IfFault r (λ all. IsFaultAnd refusal
+        (λ error. (error_kind error ≡ size_error) × (all.items ≡ error ∷ [])))) }
+{
+    match refusal {
+        Refusal::Memory(e) => Err(Refusal::Memory(e)),
+        Refusal::Fault(Error::SizeError { msg, span }) => {
+            let mut alone = Vec::new(alloc);
+            alone.push(Error::SizeError { msg, span })?;
+            Err(Refusal::Fault(alone))
+        }
+        Refusal::Fault(error) => {
+            errors.push(error)?;
+            Ok(())
+        }
     }
 }
 
@@ -190,4 +284,32 @@ fn known_types(
         }
     }
     Ok(made)
+}
+
+/// The types of a declaration's arguments and of its value.
+#[derive(Debug, Drop)]
+struct DeclaredTypes {
+    arguments: Vec<TypeId>,
+    value: TypeId,
+}
+
+/// The types that a declaration names.
+fn types_of(alloc: Global, tyenv: &TypeEnv, decl: &Decl) -> Result<DeclaredTypes, Refusal<Error>>
+    ensures within { OnOk result (length decl.now.arg_tys ≤ 255) }
+    ensures arguments { (types : Environment) → Shows tyenv.now types
+        → IfOk result (λ made. AllZip (IsTypeNumber types) decl.now.arg_tys (numbers_of made.arguments.items)) }
+    ensures value { (types : Environment) → Shows tyenv.now types → IfOk result (λ made. IsTypeNumber types decl.now.ret_ty made.value.0) }
+    ensures fault { (types : Environment) → Shows tyenv.now types → IfErr result (λ r. IfFault r (IsDeclarationFault types decl.now)) }
+{
+    if decl.arg_tys.as_slice().len() > MAX_ARGUMENTS {
+        return Err(tyenv.size_error(decl.pos, "a term has more than 255 arguments"));
+    }
+    let arguments = match known_types(alloc, tyenv, decl.arg_tys.as_slice()) {
+        Ok(arguments) => arguments,
+        Err(refusal) => return Err(refusal),
+    };
+    match known_type(tyenv, &decl.ret_ty) {
+        Ok(value) => Ok(DeclaredTypes { arguments, value }),
+        Err(refusal) => Err(refusal),
+    }
 }

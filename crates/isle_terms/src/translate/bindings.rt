@@ -1,7 +1,7 @@
 ghost use Rattle.std.specs.Prelude.{◌≡◌, [], ◌∷◌, true, false, length, map, drop, leb, IfOk, OnOk};
 ghost use Rattle.std.specs.Option.{option_map};
 ghost use Rattle.isle_terms.specs.Elaboration.{State, start, counted, bound, visible_in};
-ghost use Rattle.isle_terms.specs.Scopes.{bound_of, visible_at, variable_shown};
+ghost use Rattle.isle_terms.specs.Readings.Scopes.{bound_of, visible_at, variable_shown};
 
 use isle_syntax::Text;
 use isle_types::{TypeId, VarId};
@@ -38,7 +38,7 @@ impl Model for Scope {
 
     ghost Value = { List Visible };
 
-    ghost use Rattle.isle_terms.specs.Scopes.{visible_shown, IsScope};
+    ghost use Rattle.isle_terms.specs.Readings.Scopes.{visible_shown, IsScope};
 
     ghost view = { λ scope. map visible_shown (reverse scope.names.items) };
 
@@ -122,7 +122,7 @@ impl Model for Bindings {
 
     ghost Value = { State };
 
-    ghost use Rattle.isle_terms.specs.Scopes.{variable_shown};
+    ghost use Rattle.isle_terms.specs.Readings.Scopes.{variable_shown};
 
     ghost view = { λ b. record {
       scope = b.scope;

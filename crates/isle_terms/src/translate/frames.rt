@@ -2,8 +2,8 @@ ghost use Rattle.std.specs.Prelude.{◌≡◌, ◌≤◌, true, [], map, IfOk};
 ghost use Rattle.isle_syntax.specs.Trees.PatternShape.{pattern_of, patterns_of};
 ghost use Rattle.isle_syntax.specs.Trees.PatternTree.{pattern_list};
 ghost use Rattle.isle_syntax.specs.Trees.Innermost.{innermost};
-ghost use Rattle.isle_terms.specs.Needs.{needed, all_needed};
-ghost use Rattle.isle_terms.specs.Frames.{put, put_all, tree_given, is_argument, template_at};
+ghost use Rattle.isle_terms.specs.Readings.Needs.{needed, all_needed};
+ghost use Rattle.isle_terms.specs.Readings.Frames.{put, put_all, tree_given, is_argument, template_at};
 
 use isle_syntax::ast::Pattern;
 use std::alloc::{AllocError, Global};
@@ -58,7 +58,7 @@ fn innermost(template: &Pattern) -> &Pattern
 
 /// How many arguments a use must give so that this template can be put in.
 #[cycle(needed)]
-#[tactic(auto, using(crate::proofs::Frames::innermost_needed, isle_syntax::proofs::Trees::Innermost::innermost_is_no_binding))]
+#[tactic(auto, using(crate::proofs::Steps::Frames::innermost_needed, isle_syntax::proofs::Trees::Innermost::innermost_is_no_binding))]
 pub fn needed_arguments(template: &Pattern) -> usize
     requires { needed (pattern_of template.now) ≤ usize.MAX }
     ensures { result ≡ needed (pattern_of template.now) }

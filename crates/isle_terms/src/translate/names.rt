@@ -4,10 +4,10 @@ ghost use Rattle.isle_syntax.specs.Errors.{type_error, size_error, IfFault};
 ghost use Rattle.isle_types.specs.TypeTables.{name_at};
 ghost use Rattle.isle_terms.specs.Signatures.{flags_of};
 ghost use Rattle.isle_terms.specs.Elaboration.{may_call};
-ghost use Rattle.isle_terms.specs.Outcomes.{takes_just, fitting, fitting_term};
-ghost use Rattle.isle_terms.specs.ShownTerms.{flags_shown, form_shown, term_shown, numbers_of, known_has_number};
-ghost use Rattle.isle_terms.specs.Failures.{IsErrorAt};
-ghost use Rattle.isle_terms.specs.Contexts.{known_in, usable_in, numbered_shown};
+ghost use Rattle.isle_terms.specs.Readings.Outcomes.{takes_just, fitting, fitting_term};
+ghost use Rattle.isle_terms.specs.Shown.ShownTerms.{flags_shown, form_shown, term_shown, numbers_of, known_has_number};
+ghost use Rattle.isle_terms.specs.Readings.Failures.{IsErrorAt};
+ghost use Rattle.isle_terms.specs.Readings.Contexts.{known_in, usable_in, numbered_shown};
 
 use super::Context;
 use crate::terms::{Term, TermFlags, TermKind};

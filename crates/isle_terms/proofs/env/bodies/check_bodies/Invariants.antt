@@ -3,9 +3,9 @@ use Rattle.std.specs.Prelude.{All}
 use Rattle.std.specs.Str.{bytes_eq}
 use Rattle.isle_types.specs.StableMaps.{has}
 use Rattle.isle_terms.specs.Definitions.{is_among}
-use Rattle.isle_terms.specs.ExtractorChecks.{Adds}
-use Rattle.isle_terms.proofs.AddedErrors.{SomeBreaks}
-use Rattle.isle_terms.proofs.ExtractorBodies.{BreaksIn, KeepsIn}
+use Rattle.isle_terms.specs.Collecting.ExtractorChecks.{Adds}
+use Rattle.isle_terms.proofs.Collections.AddedErrors.{SomeBreaks}
+use Rattle.isle_terms.proofs.Collections.ExtractorBodies.{BreaksIn, KeepsIn}
 use Rattle.isle_terms.proofs.env.bodies.check_bodies.Given as goal
 
 abbrev pub invariant-loop-extractor : goal.invariant-loop-extractor

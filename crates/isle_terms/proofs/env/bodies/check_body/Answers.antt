@@ -5,9 +5,9 @@ use Rattle.std.proofs.lemmas.List.Elements.{All-nil}
 use Rattle.isle_syntax.specs.declared.ast.Ident.{Ident}
 use Rattle.isle_syntax.specs.Trees.PatternShape.{pattern_of}
 use Rattle.isle_terms.specs.Definitions.{is_among}
-use Rattle.isle_terms.specs.ExtractorChecks.{Adds, IsUnknownAt}
-use Rattle.isle_terms.proofs.AddedErrors.{SomeBreaks, adds_none, adds_more}
-use Rattle.isle_terms.proofs.ExtractorBodies.{body_checked}
+use Rattle.isle_terms.specs.Collecting.ExtractorChecks.{Adds, IsUnknownAt}
+use Rattle.isle_terms.proofs.Collections.AddedErrors.{SomeBreaks, adds_none, adds_more}
+use Rattle.isle_terms.proofs.Collections.ExtractorBodies.{body_checked}
 use Rattle.isle_terms.proofs.env.bodies.check_body.Goals as goal
 
 abbrev IsKnown : List (List ℕ) → Ident → Type 0
@@ -34,5 +34,6 @@ returns c = λ names known.
     let checked = c.loop-term.invariant.checked names known in
     let whole : take c.loop-term.term-index terms ≡ terms = take_all c.loop-term.term-index terms (omega arith) in
     body_checked (pattern_of c.args.body.now) names terms c.args.errors.now.items c.loop-term.errors.items c.loop-term.invariant.terms
-    (subst (λ (done : List Ident). Adds (SomeBreaks (IsUnknownAt names) terms) (All (IsKnown names) done) c.args.errors.now.items c.loop-term.errors.items)
+    (subst (λ (done : List Ident). Adds (SomeBreaks (IsUnknownAt names) terms) (All (IsKnown names) done) c.args.errors.now.items
+    c.loop-term.errors.items)
     whole checked)

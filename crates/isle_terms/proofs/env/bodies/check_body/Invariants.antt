@@ -5,8 +5,8 @@ use Rattle.isle_syntax.specs.declared.ast.Ident.{Ident}
 use Rattle.isle_syntax.specs.Trees.PatternShape.{pattern_of}
 use Rattle.isle_types.specs.StableMaps.{has}
 use Rattle.isle_terms.specs.Definitions.{is_among}
-use Rattle.isle_terms.specs.ExtractorChecks.{Adds, IsUnknownAt, named_in}
-use Rattle.isle_terms.proofs.AddedErrors.{SomeBreaks}
+use Rattle.isle_terms.specs.Collecting.ExtractorChecks.{Adds, IsUnknownAt, named_in}
+use Rattle.isle_terms.proofs.Collections.AddedErrors.{SomeBreaks}
 use Rattle.isle_terms.proofs.env.bodies.check_body.Given as goal
 
 abbrev pub invariant-loop-term : goal.invariant-loop-term

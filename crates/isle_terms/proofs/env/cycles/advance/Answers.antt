@@ -1,9 +1,10 @@
 use Rattle.std.proofs.Common.{◌+◌, ◌<◌, List, [], ◌∷◌, get_or, set, refl, sym, ◌∙◌, ap, subst, arith}
 use Rattle.isle_terms.specs.declared.env.cycles.Mark.TheVariants.{Unseen, Open, Finished}
 use Rattle.isle_terms.specs.declared.env.cycles.Step.{Step}
-use Rattle.isle_terms.specs.Graphs.{IsSearching, search_work}
-use Rattle.isle_terms.proofs.Cycles.{last_targets, last_within, edge_read, mark_within, mark_read, cycle_found, search_pass, search_finish}
-use Rattle.isle_terms.proofs.Cycles.{search_open, goes_finish, goes_open, less_finish, less_pass, less_open}
+use Rattle.isle_terms.specs.Collecting.Graphs.{IsSearching, search_work}
+use Rattle.isle_terms.proofs.Collections.Cycles.{last_targets, last_within, edge_read, mark_within, mark_read, cycle_found, search_pass}
+use Rattle.isle_terms.proofs.Collections.Cycles.{search_finish}
+use Rattle.isle_terms.proofs.Collections.Cycles.{search_open, goes_finish, goes_open, less_finish, less_pass, less_open}
 use Rattle.isle_terms.proofs.env.cycles.advance.Goals as goal
 
 pub target-requires : goal.target-requires
@@ -16,7 +17,8 @@ returns-in_default-clause-searched c =
     let last = c.args.last in
     let path = c.args.path.now in
     let searching = c.requires.searching in
-    search_finish graph marks last path (get_or graph last.node []) searching (last_targets graph marks last path searching) (sym c.in_default.ensures.target)
+    search_finish graph marks last path (get_or graph last.node []) searching (last_targets graph marks last path searching) (sym
+    c.in_default.ensures.target)
 
 pub returns-in_default-clause-goes : goal.returns-in_default-clause-goes
 returns-in_default-clause-goes c = goes_finish c.args.marks.now.items c.args.last.node
@@ -100,7 +102,8 @@ returns-in_ok-push-in-Unseen-2-clause-searched c =
     let first : Step = record { node = next; place = 0 } in
     let pushed = c.in_ok-push-in-Unseen-2.ensures ∙ ap (λ (steps : List Step). first ∷ steps) c.in_ok-push-in-Unseen.ensures in
     subst (IsSearching graph (set marks next Open)) (sym pushed)
-    (search_open graph marks last first path c.requires.within searching edge (mark_read marks next c.index.result.now Unseen inside c.index.ensures c.in-Unseen.is) refl)
+    (search_open graph marks last first path c.requires.within searching edge (mark_read marks next c.index.result.now Unseen inside
+    c.index.ensures c.in-Unseen.is) refl)
 
 pub returns-in_ok-push-in-Unseen-2-clause-goes : goal.returns-in_ok-push-in-Unseen-2-clause-goes
 returns-in_ok-push-in-Unseen-2-clause-goes c =
@@ -127,4 +130,5 @@ returns-in_ok-push-in-Unseen-2-clause-less c =
     let first : Step = record { node = next; place = 0 } in
     let pushed = c.in_ok-push-in-Unseen-2.ensures ∙ ap (λ (steps : List Step). first ∷ steps) c.in_ok-push-in-Unseen.ensures in
     subst (λ (steps : List Step). search_work graph (set marks next Open) steps < search_work graph marks (last ∷ path)) (sym pushed)
-    (less_open graph marks first (last ∷ path) searching.settled.one_each (mark_read marks next c.index.result.now Unseen inside c.index.ensures c.in-Unseen.is))
+    (less_open graph marks first (last ∷ path) searching.settled.one_each (mark_read marks next c.index.result.now Unseen inside c.index.ensures
+    c.in-Unseen.is))

@@ -1,5 +1,5 @@
 use Rattle.std.proofs.Common.{arith}
-use Rattle.isle_terms.proofs.Cycles.{all_acyclic}
+use Rattle.isle_terms.proofs.Collections.Cycles.{all_acyclic}
 use Rattle.isle_terms.proofs.env.cycles.find_cycle.Goals as goal
 
 pub returns : goal.returns

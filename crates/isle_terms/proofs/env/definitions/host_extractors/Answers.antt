@@ -1,9 +1,9 @@
 use Rattle.std.proofs.Common.{sym, ap, ◌∙◌}
-use Rattle.isle_terms.specs.DefinitionLists.{extractor_in, host_extractor_shown}
+use Rattle.isle_terms.specs.Collecting.DefinitionLists.{extractor_in, host_extractor_shown}
 use Rattle.std.specs.List.{filter_map}
 use Rattle.std.proofs.lemmas.List.{take_all}
 use Rattle.isle_terms.specs.Definitions.{as_external, as_external_extractor}
-use Rattle.isle_terms.proofs.Listing.{listed_more, listed_same, not_mapped, filter_map-twice}
+use Rattle.isle_terms.proofs.Collections.Listing.{listed_more, listed_same, not_mapped, filter_map-twice}
 use Rattle.isle_terms.proofs.env.definitions.host_extractors.Goals as goal
 use Rattle.isle_terms.proofs.env.definitions.host_extractors.Goals.{in-Some+in_ok-push, in_default}
 
@@ -13,7 +13,8 @@ loop-def-preserved c = elim c.match-host_extractor.branch [
       c.match-host_extractor.all.items w.in-Some.host c.loop-def-test.true c.def-item.is (sym w.in-Some.ensures)
       (ap (λ v. v.items) w.all-is ∙ w.in_ok-push.ensures.items) c.loop-def.invariant
   | in_default w ↦ listed_same extractor_in host_extractor_shown c.args.defs.now c.loop-def.def-index c.def-item.result c.loop-def.all.items
-      c.match-host_extractor.all.items c.loop-def-test.true c.def-item.is (not_mapped host_extractor_shown c.host_extractor.result _ c.host_extractor.ensures w.in_default.not-Some)
+      c.match-host_extractor.all.items c.loop-def-test.true c.def-item.is (not_mapped host_extractor_shown c.host_extractor.result _
+      c.host_extractor.ensures w.in_default.not-Some)
       (ap (λ v. v.items) w.all-is) c.loop-def.invariant
 ]
 

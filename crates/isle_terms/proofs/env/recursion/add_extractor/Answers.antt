@@ -1,4 +1,4 @@
-use Rattle.isle_terms.proofs.ExtractorGraphs.{extractor_none}
+use Rattle.isle_terms.proofs.Collections.ExtractorGraphs.{extractor_none}
 use Rattle.isle_terms.proofs.env.recursion.add_extractor.Goals as goal
 
 pub returns-in-None : goal.returns-in-None

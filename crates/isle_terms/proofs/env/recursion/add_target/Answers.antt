@@ -1,4 +1,4 @@
-use Rattle.isle_terms.proofs.ExtractorGraphs.{term_none}
+use Rattle.isle_terms.proofs.Collections.ExtractorGraphs.{term_none}
 use Rattle.isle_terms.proofs.env.recursion.add_target.Goals as goal
 
 pub returns-in-None : goal.returns-in-None

@@ -2,9 +2,9 @@ use Rattle.std.proofs.Common.{◌≡◌, ◌∙◌, List, take, subst, arith}
 use Rattle.std.proofs.lemmas.List.{take_all}
 use Rattle.isle_syntax.specs.declared.ast.Ident.{Ident}
 use Rattle.isle_syntax.specs.Trees.PatternShape.{pattern_of}
-use Rattle.isle_terms.specs.ExtractorGraphs.{AddsEdges, JoinsTerm}
-use Rattle.isle_terms.proofs.AddedEdges.{SomeJoins, edges_none, edges_more, none_in}
-use Rattle.isle_terms.proofs.ExtractorGraphs.{targets_added}
+use Rattle.isle_terms.specs.Collecting.ExtractorGraphs.{AddsEdges, JoinsTerm}
+use Rattle.isle_terms.proofs.Collections.AddedEdges.{SomeJoins, edges_none, edges_more, none_in}
+use Rattle.isle_terms.proofs.Collections.ExtractorGraphs.{targets_added}
 use Rattle.isle_terms.proofs.env.recursion.add_targets.Goals as goal
 
 pub loop-term-init : goal.loop-term-init
@@ -20,7 +20,8 @@ add_target-requires c = let as_many = c.loop-term.invariant.added.one_each in om
 pub loop-term-preserved : goal.loop-term-preserved
 loop-term-preserved c = record {
   terms = c.loop-term.invariant.terms;
-  added = edges_more (JoinsTerm c.args.places.now c.args.from) c.deref-term-items.result.now c.loop-term.term-index c.term-item.result c.args.graph.now
+  added = edges_more (JoinsTerm c.args.places.now c.args.from) c.deref-term-items.result.now c.loop-term.term-index c.term-item.result
+      c.args.graph.now
       c.loop-term.graph c.add_target.new.graph (omega arith) c.term-item.is c.loop-term.invariant.added c.in_ok-add_target.ensures;
 }
 

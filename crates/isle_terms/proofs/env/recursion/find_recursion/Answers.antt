@@ -1,5 +1,5 @@
 use Rattle.std.proofs.Common.{map}
-use Rattle.isle_terms.proofs.ExtractorGraphs.{lent, graph_within, acyclic_kept, cycle_broken, cycle_within}
+use Rattle.isle_terms.proofs.Collections.ExtractorGraphs.{lent, graph_within, acyclic_kept, cycle_broken, cycle_within}
 use Rattle.isle_terms.proofs.env.recursion.find_recursion.Goals as goal
 
 pub find_cycle-requires : goal.find_cycle-requires

@@ -1,7 +1,7 @@
 use Rattle.std.proofs.Common.{[], length, take, replicate}
-use Rattle.isle_terms.specs.ExtractorGraphs.{AddsEdges}
-use Rattle.isle_terms.proofs.AddedEdges.{SomeJoins}
-use Rattle.isle_terms.proofs.ExtractorGraphs.{JoinsLent}
+use Rattle.isle_terms.specs.Collecting.ExtractorGraphs.{AddsEdges}
+use Rattle.isle_terms.proofs.Collections.AddedEdges.{SomeJoins}
+use Rattle.isle_terms.proofs.Collections.ExtractorGraphs.{JoinsLent}
 use Rattle.isle_terms.proofs.env.recursion.graph_of.Given as goal
 
 abbrev pub invariant-loop-extractor : goal.invariant-loop-extractor

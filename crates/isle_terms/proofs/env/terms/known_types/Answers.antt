@@ -1,4 +1,4 @@
-use Rattle.std.proofs.Common.{◌≡◌, ap, sym, subst, ◌∙◌, map, take, ◌+◌, ◌++◌, ◌∷◌, [], length, refl}
+use Rattle.std.proofs.Common.{◌≡◌, ap, sym, subst, ◌∙◌, take, ◌++◌, ◌∷◌, [], length, refl}
 use Rattle.std.specs.List.{AllZip}
 use Rattle.std.proofs.lemmas.Option.{slice_get_read}
 use Rattle.std.proofs.lemmas.List.{map-append}
@@ -6,8 +6,8 @@ use Rattle.std.proofs.lemmas.Slice.Zip.{all_zipped_more}
 use Rattle.isle_types.specs.declared.ids.TypeId.{TypeId}
 use Rattle.isle_types.proofs.DefinitionTurns.{take_here}
 use Rattle.isle_terms.specs.Definitions.{IsTypeNumber}
-use Rattle.isle_terms.specs.ShownTerms.{numbers_of}
-use Rattle.isle_terms.proofs.WiderFaults.{refusal_wider}
+use Rattle.isle_terms.specs.Shown.ShownTerms.{numbers_of}
+use Rattle.isle_terms.proofs.Collections.WiderFaults.{refusal_wider}
 use Rattle.isle_terms.proofs.env.terms.known_types.Goals as goal
 
 pub returns-in-Err-clause-err : goal.returns-in-Err-clause-err

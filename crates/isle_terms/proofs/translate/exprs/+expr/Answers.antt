@@ -4,18 +4,20 @@ use Rattle.std.proofs.lemmas.Result.{err_from_is_err_and}
 use Rattle.isle_syntax.specs.declared.lexer.Pos.{Pos}
 use Rattle.isle_syntax.specs.declared.ast.Expr.{Expr as ExprSource}
 use Rattle.isle_syntax.specs.Trees.ExprTree.{expr_pos, more_exprs, no_exprs}
-use Rattle.isle_syntax.specs.Trees.ExprShape.{expr_of, exprs_of}
+use Rattle.isle_syntax.specs.Trees.ExprShape.{expr_of, exprs_of, lets_of}
 use Rattle.isle_terms.specs.Elaboration.{State}
-use Rattle.isle_terms.specs.Outcomes.{expr_node, call, read_expr, read_expr_use, repair_expr}
-use Rattle.isle_terms.specs.ShownTerms.{flags_shown, term_shown}
-use Rattle.isle_terms.specs.ShownRules.{built_shown, built_list, expr_limit}
-use Rattle.isle_terms.specs.Contexts.{known_in, expected}
-use Rattle.isle_terms.specs.ExprReadings.{binding_shown, binding_limit}
+use Rattle.isle_terms.specs.Readings.Outcomes.{bind_values, expr_node, call, each_expr, read_expr, read_expr_use, repair_expr}
+use Rattle.isle_terms.specs.Shown.ShownTerms.{flags_shown, term_shown, numbers_of}
+use Rattle.isle_terms.specs.Shown.ShownRules.{built_shown, built_list, expr_limit}
+use Rattle.isle_terms.specs.Readings.Contexts.{known_in, expected}
+use Rattle.isle_terms.specs.Readings.ExprReadings.{binding_shown, binding_limit}
 use Rattle.isle_terms.specs.TypedRules.{TypedExprs, built_term}
-use Rattle.isle_terms.specs.Outcomes.{Outcome, stands_for, and_then}
-use Rattle.isle_terms.proofs.BuiltShown.{shown-Term}
-use Rattle.isle_terms.proofs.ExprSteps.{fails_along, fails_then, expr_counted, use_counted, ok_along, err_along}
-use Rattle.isle_terms.proofs.ExprSteps.{next_read, all_read, next_bound, all_bound, call_refused, call_allowed, greatest_pushed, greatest_value_pushed}
+use Rattle.isle_terms.specs.Readings.Outcomes.{Outcome, stands_for, and_then}
+use Rattle.isle_terms.proofs.Steps.BuiltShown.{shown-Term}
+use Rattle.isle_terms.proofs.Steps.PatternSteps.{fails_along, fails_then}
+use Rattle.isle_terms.proofs.Steps.ExprSteps.{expr_counted, use_counted, ok_along, err_along}
+use Rattle.isle_terms.proofs.Steps.ExprSteps.{next_read, all_read, next_bound, all_bound, call_refused, call_allowed}
+use Rattle.isle_terms.proofs.Steps.ExprSteps.{greatest_pushed, greatest_value_pushed}
 use Rattle.isle_terms.proofs.translate.exprs.+expr.Goals as goal
 
 pub translate_expr-returns-clause-ok : goal.translate_expr-returns-clause-ok
@@ -23,7 +25,8 @@ translate_expr-returns-clause-ok t c =
     let at = c.args.context.now in
     let known = known_in at in
     let caller = flags_shown c.args.caller in
-    let node = expr_node known caller (read_expr known caller at.max_nodes (c.args.levels - 1)) (read_expr_use known caller at.max_nodes (c.args.levels - 1)) in
+    let below = c.args.levels - 1 in
+    let node = expr_node known caller (read_expr known caller at.max_nodes below) (read_expr_use known caller at.max_nodes below) in
     let counted = c.if-not-count_node.ensures.counted refl in
     ok_along at.tyenv.now.names at.rule _ _ c.translate_node.result _
     (expr_counted known caller at.max_nodes c.args.levels (expr_of c.args.expr.now) (expected c.args.want) c.args.bindings.now
@@ -35,7 +38,8 @@ translate_expr-returns-clause-err t c =
     let at = c.args.context.now in
     let known = known_in at in
     let caller = flags_shown c.args.caller in
-    let node = expr_node known caller (read_expr known caller at.max_nodes (c.args.levels - 1)) (read_expr_use known caller at.max_nodes (c.args.levels - 1)) in
+    let below = c.args.levels - 1 in
+    let node = expr_node known caller (read_expr known caller at.max_nodes below) (read_expr_use known caller at.max_nodes below) in
     let counted = c.if-not-count_node.ensures.counted refl in
     err_along at.tyenv.now.names at.rule _ _ c.translate_node.result
     (expr_counted known caller at.max_nodes c.args.levels (expr_of c.args.expr.now) (expected c.args.want) c.args.bindings.now
@@ -81,15 +85,18 @@ translate_call-returns-clause-ok t c =
 pub translate_each-loop-i-preserved : goal.translate_each-loop-i-preserved
 translate_each-loop-i-preserved t c =
     let at = c.args.context.now in
-    let caller = flags_shown c.args.caller in
+    let r = read_expr (known_in at) (flags_shown c.args.caller) at.max_nodes c.args.levels in
     let within : c.loop-i.i < length c.args.tys.now = omega (arith, c.requires) in
     let items = c.in_ok-push.ensures.items in
-    let shown = ap (map (built_shown at.tyenv.now.names)) items ∙ map-append (built_shown at.tyenv.now.names) c.loop-i.all.items (c.in_ok-made.made ∷ []) in
+    let shown = ap (map (built_shown at.tyenv.now.names)) items
+    ∙ map-append (built_shown at.tyenv.now.names) c.loop-i.all.items (c.in_ok-made.made ∷ []) in
     let limits = ap (map expr_limit) items ∙ map-append expr_limit c.loop-i.all.items (c.in_ok-made.made ∷ []) in
     record {
-      read = rw shown (next_read (read_expr (known_in at) caller at.max_nodes c.args.levels) c.args.pos _ (map (built_shown at.tyenv.now.names) c.loop-i.all.items)
+      read = rw shown (next_read r c.args.pos (each_expr r c.args.pos (exprs_of c.args.exprs.now) (numbers_of c.args.tys.now) c.args.bindings.now)
+          (map (built_shown at.tyenv.now.names) c.loop-i.all.items)
           (built_shown at.tyenv.now.names c.in_ok-made.made) c.args.exprs.now c.args.tys.now c.loop-i.i c.index-exprs-i.result (record { 0 = 0 })
-          c.loop-i.bindings c.translate_expr.new.bindings c.loop-i-test.true within c.index-exprs-i.is c.in_ok-made.ensures.ok c.loop-i.invariant.read);
+          c.loop-i.bindings c.translate_expr.new.bindings c.loop-i-test.true within c.index-exprs-i.is c.in_ok-made.ensures.ok
+          c.loop-i.invariant.read);
       symbols = rw limits (greatest_pushed (map expr_limit c.loop-i.all.items) (expr_limit c.in_ok-made.made) (length at.tyenv.now.names)
           c.loop-i.invariant.symbols c.in_ok-made.ensures.symbols);
       scope = c.in_ok-made.ensures.scope ∙ c.loop-i.invariant.scope;
@@ -98,7 +105,8 @@ translate_each-loop-i-preserved t c =
 pub translate_each-returns-clause-ok : goal.translate_each-returns-clause-ok
 translate_each-returns-clause-ok t c =
     let at = c.args.context.now in
-    all_read (read_expr (known_in at) (flags_shown c.args.caller) at.max_nodes c.args.levels) c.args.pos _
+    let r = read_expr (known_in at) (flags_shown c.args.caller) at.max_nodes c.args.levels in
+    all_read r c.args.pos (each_expr r c.args.pos (exprs_of c.args.exprs.now) (numbers_of c.args.tys.now) c.args.bindings.now)
     (map (built_shown at.tyenv.now.names) c.loop-i.all.items) c.args.exprs.now c.args.tys.now c.loop-i.i c.loop-i.bindings
     (omega arith) (omega (arith, c.requires)) c.loop-i.invariant.read
 
@@ -144,15 +152,17 @@ pub translate_defs-loop-i-preserved : goal.translate_defs-loop-i-preserved
 translate_defs-loop-i-preserved t c =
     let at = c.args.context.now in
     let names = at.tyenv.now.names in
+    let r = read_expr (known_in at) (flags_shown c.args.caller) at.max_nodes c.args.levels in
     let made = c.in_ok-translate_def.field-0 in
     let items = c.in_ok-push.ensures.items in
     let shown = ap (map (binding_shown names)) items ∙ map-append (binding_shown names) c.loop-i.all.items (made ∷ []) in
     let limits = ap (map binding_limit) items ∙ map-append binding_limit c.loop-i.all.items (made ∷ []) in
     let one_more : 1 + c.loop-i.i ≡ c.loop-i.i + 1 = omega arith in
     record {
-      read = rw shown (next_bound (known_in at) (read_expr (known_in at) (flags_shown c.args.caller) at.max_nodes c.args.levels) _
+      read = rw shown (next_bound (known_in at) r (bind_values (known_in at) r (lets_of c.args.defs.now) c.args.bindings.now)
           (map (binding_shown names) c.loop-i.all.items) (binding_shown names made) c.args.defs.now c.loop-i.i c.index-defs-i.result
-          c.loop-i.bindings c.translate_def.new.bindings c.loop-i-test.true c.index-defs-i.is c.in_ok-translate_def.ensures.ok c.loop-i.invariant.read);
+          c.loop-i.bindings c.translate_def.new.bindings c.loop-i-test.true c.index-defs-i.is c.in_ok-translate_def.ensures.ok
+          c.loop-i.invariant.read);
       symbols = rw limits (greatest_value_pushed (map binding_limit c.loop-i.all.items) (binding_limit made) (length names)
           c.loop-i.invariant.symbols c.in_ok-translate_def.ensures.symbols);
       scope = ap (λ n. drop n c.translate_def.new.bindings.scope) (sym one_more) ∙ sym (drop-drop c.loop-i.i 1 c.translate_def.new.bindings.scope)
@@ -162,5 +172,6 @@ translate_defs-loop-i-preserved t c =
 pub translate_defs-returns-clause-ok : goal.translate_defs-returns-clause-ok
 translate_defs-returns-clause-ok t c =
     let at = c.args.context.now in
-    all_bound (known_in at) (read_expr (known_in at) (flags_shown c.args.caller) at.max_nodes c.args.levels) _
+    let r = read_expr (known_in at) (flags_shown c.args.caller) at.max_nodes c.args.levels in
+    all_bound (known_in at) r (bind_values (known_in at) r (lets_of c.args.defs.now) c.args.bindings.now)
     (map (binding_shown at.tyenv.now.names) c.loop-i.all.items) c.args.defs.now c.loop-i.i c.loop-i.bindings (omega arith) c.loop-i.invariant.read

@@ -1,8 +1,8 @@
 use Rattle.std.proofs.Common.{ap, arith}
 use Rattle.isle_syntax.specs.Trees.PatternShape.{pattern_of}
 use Rattle.isle_syntax.proofs.Trees.Innermost.{args_below, subpats_below}
-use Rattle.isle_terms.specs.Needs.{needed, all_needed}
-use Rattle.isle_terms.proofs.Frames.{needed_below}
+use Rattle.isle_terms.specs.Readings.Needs.{needed, all_needed}
+use Rattle.isle_terms.proofs.Steps.Frames.{needed_below}
 use Rattle.isle_terms.proofs.translate.frames.+needed.Goals as goal
 
 pub needed_arguments-needed_by_all-requires : goal.needed_arguments-needed_by_all-requires

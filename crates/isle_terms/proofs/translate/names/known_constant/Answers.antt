@@ -1,5 +1,5 @@
 use Rattle.std.proofs.Common.{sym}
-use Rattle.isle_terms.proofs.SymNames.{named_by, symbol_below}
+use Rattle.isle_terms.proofs.Steps.SymNames.{named_by, symbol_below}
 use Rattle.isle_terms.proofs.translate.names.known_constant.Goals as goal
 
 pub returns-clause-name : goal.returns-clause-name

@@ -1,10 +1,10 @@
 use Rattle.std.proofs.Common.{◌≡◌, ◌+◌, ◌*◌, map, drop}
-use Rattle.isle_terms.specs.Outcomes.{each_pattern}
-use Rattle.isle_terms.specs.ShownTerms.{numbers_of}
-use Rattle.isle_terms.specs.ShownRules.{typed_shown}
-use Rattle.isle_terms.specs.Frames.{trees_given}
-use Rattle.isle_terms.specs.PatternReading.{reads_in, HaveKnownSymbols}
-use Rattle.isle_terms.proofs.PatternSteps.{after}
+use Rattle.isle_terms.specs.Readings.Outcomes.{each_pattern}
+use Rattle.isle_terms.specs.Shown.ShownTerms.{numbers_of}
+use Rattle.isle_terms.specs.Shown.ShownRules.{typed_shown}
+use Rattle.isle_terms.specs.Readings.Frames.{trees_given}
+use Rattle.isle_terms.specs.Readings.PatternReading.{reads_in, HaveKnownSymbols}
+use Rattle.isle_terms.proofs.Steps.PatternSteps.{after}
 use Rattle.isle_terms.proofs.translate.patterns.+pattern.Given as goal
 
 abbrev pub decreases-read_part : goal.decreases-read_part

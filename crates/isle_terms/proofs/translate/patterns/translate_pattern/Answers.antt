@@ -1,8 +1,8 @@
 use Rattle.std.proofs.Common.{sym, ap, ◌∙◌}
 use Rattle.isle_syntax.specs.Trees.PatternShape.{pattern_of}
-use Rattle.isle_terms.specs.PatternReading.{reads_in}
-use Rattle.isle_terms.proofs.Frames.{tree_rolled, put_nothing}
-use Rattle.isle_terms.proofs.PatternSteps.{ok_along, err_along}
+use Rattle.isle_terms.specs.Readings.PatternReading.{reads_in}
+use Rattle.isle_terms.proofs.Steps.Frames.{tree_rolled, put_nothing}
+use Rattle.isle_terms.proofs.Steps.PatternSteps.{ok_along, err_along}
 use Rattle.isle_terms.proofs.translate.patterns.translate_pattern.Goals as goal
 
 pub returns-clause-ok : goal.returns-clause-ok

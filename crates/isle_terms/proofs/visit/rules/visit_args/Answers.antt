@@ -3,7 +3,7 @@ use Rattle.std.proofs.lemmas.Result.{err_from_is_err_and}
 use Rattle.isle_terms.specs.declared.visit.fault.VisitFault.TheVariants.{Undefined}
 use Rattle.isle_terms.specs.FirstEnvironment.{terms_of}
 use Rattle.isle_terms.specs.Visits.VisitScopes.{scope_of}
-use Rattle.isle_terms.proofs.VisitRuleRuns.{args_short, args_more, args_stop_at_arg, args_stop}
+use Rattle.isle_terms.proofs.Visiting.VisitRuleRuns.{args_short, args_more, args_stop_at_arg, args_stop}
 use Rattle.isle_terms.proofs.visit.rules.visit_args.Goals as goal
 
 pub returns-then-i-tys : goal.returns-then-i-tys

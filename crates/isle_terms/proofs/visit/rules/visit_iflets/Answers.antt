@@ -2,7 +2,7 @@ use Rattle.std.proofs.Common.{Err}
 use Rattle.std.proofs.lemmas.Result.{err_from_is_err_and}
 use Rattle.isle_terms.specs.FirstEnvironment.{terms_of}
 use Rattle.isle_terms.specs.Visits.VisitScopes.{scope_of}
-use Rattle.isle_terms.proofs.VisitRuleRuns.{iflets_more, iflets_stop_at_value, iflets_stop_at_input, iflets_stop}
+use Rattle.isle_terms.proofs.Visiting.VisitRuleRuns.{iflets_more, iflets_stop_at_value, iflets_stop_at_input, iflets_stop}
 use Rattle.isle_terms.proofs.visit.rules.visit_iflets.Goals as goal
 
 pub returns-in_err-value : goal.returns-in_err-value

@@ -2,8 +2,8 @@ use Rattle.std.proofs.Common.{◌+◌, ◌-◌, Err, inl}
 use Rattle.std.proofs.lemmas.Result.{err_from_is_err_and}
 use Rattle.isle_terms.specs.Visits.RuleEvents.{visits_var, visits_vars}
 use Rattle.isle_terms.specs.Visits.VisitScopes.{scope_of}
-use Rattle.isle_terms.proofs.VisitRuns.{went}
-use Rattle.isle_terms.proofs.VisitRuleRuns.{left}
+use Rattle.isle_terms.proofs.Visiting.VisitRuns.{went}
+use Rattle.isle_terms.proofs.Visiting.VisitRuleRuns.{left}
 use Rattle.isle_terms.proofs.visit.rules.visit_vars.Goals as goal
 
 pub returns-in_err-visit_var : goal.returns-in_err-visit_var

@@ -1,6 +1,6 @@
 use Rattle.std.proofs.Common.{◌∙◌}
 use Rattle.std.specs.Map.{update_all}
-use Rattle.isle_terms.proofs.CopiedScopes.{same_var, all_inserted}
+use Rattle.isle_terms.proofs.Visiting.CopiedScopes.{same_var, all_inserted}
 use Rattle.isle_terms.proofs.visit.scope.copy_of.Goals as goal
 
 pub loop-var-init : goal.loop-var-init

@@ -1,5 +1,5 @@
 use Rattle.std.proofs.Common.{ap, sym, ◌∙◌, is_some}
-use Rattle.isle_terms.proofs.NameTables.{placed_new, placed_old, missing_from}
+use Rattle.isle_terms.proofs.Collections.NameTables.{placed_new, placed_old, missing_from}
 use Rattle.isle_terms.proofs.env.name_table.NameTable.add.Goals as goal
 
 pub returns-then-has-clause-added : goal.returns-then-has-clause-added

@@ -1,4 +1,4 @@
-use Rattle.isle_terms.proofs.Leaving.{scope_left}
+use Rattle.isle_terms.proofs.Steps.Leaving.{scope_left}
 use Rattle.isle_terms.proofs.translate.bindings.Scope.leave.Goals as goal
 
 pub invariant_of-self-in_ok-insert-in-Some-hidden : goal.invariant_of-self-in_ok-insert-in-Some-hidden

@@ -1,0 +1,16 @@
+-- What a part of a template stands for, and how many arguments a template needs.
+pub mod Frames
+-- The innermost name is taken away.
+pub mod Leaving
+-- The symbol of an interned name.
+pub mod SymNames
+-- The steps of a reading of expressions.
+pub mod ExprSteps
+-- What a built call shows.
+pub mod BuiltShown
+-- The steps of reading a pattern.
+pub mod PatternSteps
+-- What typed patterns show, form by form.
+pub mod PatternForms
+-- The steps of reading conditions.
+pub mod ConditionSteps

@@ -1,0 +1,8 @@
+use Rattle.std.proofs.Common.{ap, ◌∙◌}
+use Rattle.isle_terms.specs.Shown.ShownTerms.{numbers_of}
+use Rattle.isle_terms.proofs.Collections.TypeTerms.{fields_numbers}
+use Rattle.isle_terms.proofs.env.type_terms.types_of_fields.Goals as goal
+
+pub returns : goal.returns
+returns c = λ names shown is.
+    ap numbers_of (c.new.ensures ∙ c.in_ok-types.ensures) ∙ fields_numbers names shown c.args.fields.now is

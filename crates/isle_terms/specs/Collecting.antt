@@ -1,0 +1,24 @@
+-- What a check of definitions does.
+pub mod Checks
+-- What the host provides for terms.
+pub mod DefinitionLists
+-- Tables of the first places of names.
+pub mod NameTables
+-- What is checked of internal extractors.
+pub mod ExtractorChecks
+-- Names of definitions with their positions.
+pub mod NamedItems
+-- What is checked of definitions one by one.
+pub mod DefinitionChecks
+-- The terms that declarations make.
+pub mod DeclaredTerms
+-- How converters are read.
+pub mod ReadConverters
+-- The root of a rule, and what reading a whole rule comes to.
+pub mod RuleRoots
+-- Graphs, and searches for cycles in them.
+pub mod Graphs
+-- The graph of internal extractors.
+pub mod ExtractorGraphs
+-- What the typing of all rules does.
+pub mod RuleChecks

@@ -1,0 +1,94 @@
+-- What terms and their tables show: signatures by name, and what is known of names.
+use Rattle.std.specs.Prelude.{◌≡◌, ℕ, ℤ, Bool, true, false, List, map, Option, None, Some, slice_get}
+use Rattle.std.specs.Option.{option_map, option_and_then}
+use Rattle.isle_syntax.specs.Trees.PatternShape.{pattern_of}
+use Rattle.isle_types.specs.declared.ids.TypeId.{TypeId}
+use Rattle.isle_types.specs.declared.ids.TermId.{TermId}
+use Rattle.isle_types.specs.declared.types.BuiltinType.TheVariants.{Bool as BoolType, Int}
+use Rattle.isle_types.specs.declared.types.«Type».{«Type» as KnownType}
+use Rattle.isle_types.specs.declared.types.«Type».TheVariants.{Builtin, Primitive, Enum as EnumType, Struct as StructType}
+use Rattle.isle_types.specs.TypeTables.{TypeTables, name_at}
+use Rattle.isle_types.specs.TypeEnvs.{Shows, sym_named, type_of_name, type_of_constant, type_at, CountUp}
+use Rattle.isle_terms.specs.declared.terms.Term.{Term}
+use Rattle.isle_terms.specs.declared.terms.TermFlags.{TermFlags}
+use Rattle.isle_terms.specs.declared.terms.ConstructorKind.{ConstructorKind}
+use Rattle.isle_terms.specs.declared.terms.ConstructorKind.TheVariants.{InternalConstructor, ExternalConstructor}
+use Rattle.isle_terms.specs.declared.terms.ExtractorKind.{ExtractorKind}
+use Rattle.isle_terms.specs.declared.terms.ExtractorKind.TheVariants.{InternalExtractor, ExternalExtractor}
+use Rattle.isle_terms.specs.declared.terms.TermKind.{TermKind}
+use Rattle.isle_terms.specs.declared.terms.TermKind.TheVariants.{EnumVariant, Struct, Decl}
+use Rattle.isle_terms.specs.Signatures.{Flags, Constructor, by_rules, external_constructor, Extractor, by_template, external_extractor, TermForm}
+use Rattle.isle_terms.specs.Signatures.{variant_form, struct_form, declared_form, Signature, Declared, term_named, converter_in}
+use Rattle.isle_terms.specs.Readings.Outcomes.{Known}
+use Rattle.isle_terms.specs.Readings.KnownBy.{int_has_number}
+use Rattle.isle_terms.specs.Shown.TermTables.{TermTables, term_with, converter_with}
+
+-- the flags of a term's declaration
+abbrev pub flags_shown : TermFlags → Flags
+flags_shown flags = record { pure = flags.pure; multi = flags.multi; partial = flags.partial; rec = flags.rec }
+
+-- how a declared term makes its value, where these are the interned names
+abbrev pub constructor_shown : List (List ℕ) → ConstructorKind → Constructor
+constructor_shown names InternalConstructor = by_rules
+constructor_shown names (ExternalConstructor name) = external_constructor (name_at names name)
+
+-- how a declared term takes a value apart
+abbrev pub extractor_shown : List (List ℕ) → ExtractorKind → Extractor
+extractor_shown names (InternalExtractor template) = by_template (pattern_of template)
+extractor_shown names (ExternalExtractor name infallible pos) = external_extractor (name_at names name) infallible pos
+
+-- what a term is
+abbrev pub form_shown : List (List ℕ) → TermKind → TermForm
+form_shown names (EnumVariant variant) = variant_form variant.0
+form_shown names Struct = struct_form
+form_shown names (Decl flags constructor_kind extractor_kind) =
+    declared_form (flags_shown flags) (option_map (constructor_shown names) constructor_kind) (option_map (extractor_shown names) extractor_kind)
+
+-- the numbers of types
+abbrev pub numbers_of : List TypeId → List ℕ
+numbers_of types = map (λ (ty : TypeId). ty.0) types
+
+-- a term by name
+abbrev pub term_shown : List (List ℕ) → Term → Signature
+term_shown names term = record {
+  name = name_at names term.name;
+  args = numbers_of term.arg_tys;
+  ret = term.ret_ty.0;
+  form = form_shown names term.kind;
+  pos = term.decl_pos;
+}
+
+-- the term of a number
+abbrev pub term_at : ℕ → TermId
+term_at number = record { 0 = number }
+
+-- whether a known type has the number of a literal
+abbrev pub known_has_number : Option KnownType → ℤ → Bool → Bool
+known_has_number None val big = false
+known_has_number (Some (Builtin BoolType)) val big = false
+known_has_number (Some (Builtin (Int int))) val big = int_has_number int val big
+known_has_number (Some (Primitive id name pos)) val big = true
+known_has_number (Some (EnumType name id is_extern is_nodebug variants pos)) val big = false
+known_has_number (Some (StructType name id is_extern is_nodebug fields pos)) val big = false
+
+-- what tables of types and terms make known of names
+abbrev pub known_of : TypeTables → TermTables → Known
+known_of tyenv env = record {
+  term_named = λ name. option_map (λ (id : TermId). id.0) (option_and_then (term_with env) (sym_named tyenv name));
+  signature = λ number. option_map (term_shown tyenv.names) (slice_get env.terms number);
+  type_named = λ name. option_map (λ (ty : TypeId). ty.0) (type_of_name tyenv name);
+  constant = λ name. option_map (λ (ty : TypeId). ty.0) (type_of_constant tyenv name);
+  has_number = λ ty val big. known_has_number (slice_get tyenv.types ty) val big;
+  converter = λ inner outer. option_map (λ (id : TermId). id.0) (converter_with env (type_at inner) (type_at outer));
+  expands = env.expands;
+}
+
+-- tables show these types, terms and converters
+pub record ShowsDeclared (tyenv : TypeTables) (env : TermTables) (declared : Declared) : Type 0 where
+  pub types : Shows tyenv declared.types
+  pub terms : map (term_shown tyenv.names) env.terms ≡ declared.terms
+  pub counted : CountUp (λ (term : Term). term.id.0) 0 env.terms
+  pub named : (name : List ℕ) → option_and_then (term_with env) (sym_named tyenv name) ≡ option_map term_at (term_named declared name)
+  pub converters : (inner outer : ℕ) → converter_with env (type_at inner) (type_at outer)
+      ≡ option_map term_at (option_and_then (term_named declared) (converter_in declared.conversions inner outer))
+  pub expands : env.expands ≡ declared.expands

@@ -1,0 +1,92 @@
+ghost use Rattle.std.specs.Prelude.{◌≡◌, ℕ, None, List, map, IfOk, IfErr};
+ghost use Rattle.isle_syntax.specs.declared.ast.Def.{Def};
+ghost use Rattle.isle_types.specs.StableMaps.{value_at};
+ghost use Rattle.isle_types.specs.Environment.{Environment};
+ghost use Rattle.isle_types.specs.TypeEnvs.{Shows};
+ghost use Rattle.isle_terms.specs.Signatures.{Signature};
+ghost use Rattle.isle_terms.specs.Definitions.{converters_in, names_of_terms};
+ghost use Rattle.isle_terms.specs.Shown.TermTables.{same_types};
+ghost use Rattle.isle_terms.specs.TermFaults.{ConverterBreaks};
+ghost use Rattle.isle_terms.specs.Collecting.Checks.{Checks};
+ghost use Rattle.isle_terms.specs.Collecting.NameTables.{IsTableOf};
+ghost use Rattle.isle_terms.specs.Collecting.ReadConverters.{IsReadAs, IsIllConverter, AreReadConverters};
+
+use crate::env::name_table::NameTable;
+use crate::env::report::report;
+use isle_syntax::ast::Converter;
+use isle_syntax::error::Error;
+use isle_syntax::lexer::Pos;
+use isle_types::{StableMap, TermId, TypeEnv, TypeId};
+use std::alloc::{AllocError, Global};
+
+/// Where a converter is ill, and why.
+#[derive(Debug, Drop)]
+struct IllConverter {
+    pos: Pos,
+    msg: &'static str,
+}
+
+/// The types and the term of a converter, if no earlier one has these types.
+fn read_converter(
+    tyenv: &TypeEnv,
+    converter: &Converter,
+    terms: &NameTable,
+    table: &StableMap<(TypeId, TypeId), TermId>,
+) -> Result<((TypeId, TypeId), TermId), IllConverter>
+    ensures read { (types : Environment) (names : List (List ℕ)) → Shows tyenv.now types → IsTableOf names terms.now
+        → IfOk result (IsReadAs types names converter.now) }
+    ensures new { IfOk result (λ read. value_at same_types table.now read.0 ≡ None) }
+    ensures ill { (types : Environment) (names : List (List ℕ)) → Shows tyenv.now types → IsTableOf names terms.now
+        → IfErr result (λ ill. IsIllConverter types names table.now converter.now ill.pos) }
+{
+    let Some(inner) = tyenv.get_type_by_name(&converter.inner_ty) else {
+        return Err(IllConverter {
+            pos: converter.inner_ty.1,
+            msg: "the inner type of this converter is not known",
+        });
+    };
+    let Some(outer) = tyenv.get_type_by_name(&converter.outer_ty) else {
+        return Err(IllConverter {
+            pos: converter.outer_ty.1,
+            msg: "the outer type of this converter is not known",
+        });
+    };
+    let Some(place) = terms.place(converter.term.0.as_str()) else {
+        return Err(IllConverter {
+            pos: converter.term.1,
+            msg: "the term of this converter is not known",
+        });
+    };
+    if table.contains_key(&(inner, outer)) {
+        return Err(IllConverter {
+            pos: converter.pos,
+            msg: "there is a converter of these types already",
+        });
+    }
+    Ok(((inner, outer), TermId(place)))
+}
+
+/// The table of the terms of converters by their types; each ill converter is reported.
+pub fn collect_converters(
+    alloc: Global,
+    tyenv: &TypeEnv,
+    converters: &[&Converter],
+    terms: &NameTable,
+    errors: &mut Vec<Error>,
+) -> Result<StableMap<(TypeId, TypeId), TermId>, AllocError>
+    ensures { (types : Environment) (defs : List Def) (signatures : List Signature) → Shows tyenv.now types
+        → IsTableOf (names_of_terms signatures) terms.now → map (λ converter. converter.now) converters.now ≡ converters_in defs
+        → IfOk result (λ table. Checks (ConverterBreaks types defs signatures) (AreReadConverters types defs signatures table)
+        errors.old.items errors.new.items) }
+{
+    let mut table = StableMap::new(alloc);
+    for converter in converters {
+        match read_converter(tyenv, converter, terms, &table) {
+            Ok((types, term)) => {
+                table.insert(types, term)?;
+            }
+            Err(ill) => report(&mut *errors, tyenv, ill.pos, ill.msg)?,
+        }
+    }
+    Ok(table)
+}
