@@ -26,6 +26,8 @@ use Rattle.isle_terms.specs.Signatures.{Declared}
 use Rattle.isle_terms.specs.Elaboration.{ElaboratesRule}
 use Rattle.isle_terms.specs.RuleReaching.{IsIllRule}
 use Rattle.isle_terms.specs.Definitions.{IsAmong}
+use Rattle.isle_terms.proofs.Collections.AddedErrors.{adds_one, adds_checks}
+use Rattle.isle_terms.proofs.Collections.Checking.{check_both}
 use Rattle.isle_terms.specs.Collecting.Checks.{Checks}
 use Rattle.isle_terms.specs.Shown.RulesShown.{IsShownRule}
 use Rattle.isle_terms.specs.Collecting.RuleChecks.{IsLargeAt, IsIllAmong, IsLargeAmong, AreTyped, IsLoneSize}
@@ -59,10 +61,9 @@ size_fault Ill Large Exceeded weaker size_error (span ∷ (next ∷ spans)) is s
 -- a type error is added
 check_error : {Broken : Pos → Type 0} {Kept Also : Type 0} {old mid : List Error} (new : List Error) (error : Error) → new ≡ mid ++ error ∷ []
     → IsTypeFault Broken error → Checks Broken Kept old mid → Checks Broken Also old new
-check_error {Broken} {Kept} {Also} {old} {mid} new error is broken checks = record {
-  faults = λ faults. subst (All (IsTypeFault Broken)) (sym is) (All-push (IsTypeFault Broken) mid error (checks.faults faults) broken);
-  kept = λ clean. absurd (some_error mid new error is clean);
-}
+check_error {Broken} {Kept} {Also} {old} {mid} new error is broken checks =
+    let one = adds_checks Broken Also mid new (adds_one Broken Also mid new error is broken) in
+    check_same new refl (λ both. both.1) (check_both checks one)
 
 -- an error alone is a size error, where a size is exceeded
 alone_is_lone : (Exceeded : Pos → Type 0) (alone : List Error) (error : Error) → alone ≡ error ∷ [] → IsSizeFault Exceeded error

@@ -2,9 +2,12 @@ use Rattle.std.proofs.Common.{length, subst, sym, ap, ◌∙◌, ◌≤◌, slic
 use Rattle.isle_types.specs.StableMaps.{value_at}
 use Rattle.isle_terms.specs.Shown.TermTables.{same_types}
 use Rattle.isle_terms.proofs.Collections.Checking.{item_at, past_mapped}
-use Rattle.isle_terms.proofs.Collections.ReadConverters.{read_ill, read_more, read_all}
+use Rattle.isle_terms.proofs.Collections.ReadConverters.{read_none, read_ill, read_more, read_all}
 use Rattle.isle_terms.proofs.env.converters.collect_converters.Goals as goal
 use Rattle.isle_terms.proofs.env.converters.collect_converters.Goals.{in-Ok+in_ok-insert-in-Ok, in-Err+in_ok-report-in-Err}
+
+pub loop-converter-init : goal.loop-converter-init
+loop-converter-init c = λ types defs signatures shows placed same. read_none types defs signatures _ _ c.new-table.ensures
 
 pub loop-converter-preserved : goal.loop-converter-preserved
 loop-converter-preserved c = λ types defs signatures shows placed same.
