@@ -2,7 +2,6 @@
 use Rattle.std.specs.Prelude.{Bool, true, false, is_some, Option, Some, None}
 use Rattle.isle_terms.specs.declared.terms.ConstructorKind.{ConstructorKind}
 use Rattle.isle_terms.specs.declared.terms.ConstructorKind.TheVariants.{InternalConstructor, ExternalConstructor}
-use Rattle.isle_terms.specs.declared.terms.TermFlags.{TermFlags}
 use Rattle.isle_terms.specs.declared.terms.TermKind.{TermKind}
 use Rattle.isle_terms.specs.declared.terms.TermKind.TheVariants.{EnumVariant, Struct, Decl}
 

@@ -2,7 +2,7 @@
 use Rattle.std.proofs.Common.{◌≡◌, ℕ, ◌+◌, ◌≤◌, Bool, true, false, List, [], ◌∷◌, ◌++◌, map, take, length, slice_get, Some, refl, sym, subst}
 use Rattle.std.specs.Prelude.{All}
 use Rattle.std.proofs.lemmas.List.{take_all}
-use Rattle.std.proofs.lemmas.List.Elements.{All-nil, All-cons, All-head, All-push}
+use Rattle.std.proofs.lemmas.List.Elements.{All-push}
 use Rattle.isle_syntax.specs.declared.ast.Ident.{Ident}
 use Rattle.isle_syntax.specs.declared.ast.Decl.{Decl as DeclTree}
 use Rattle.isle_syntax.specs.declared.ast.Rule.{Rule as RuleTree}
@@ -14,7 +14,6 @@ use Rattle.isle_syntax.specs.declared.error.Error.TheVariants.{TypeError}
 use Rattle.isle_syntax.specs.Errors.{span_at}
 use Rattle.isle_types.specs.Names.{AreDistinct}
 use Rattle.isle_types.specs.Environment.{Environment}
-use Rattle.isle_types.specs.TypeFaults.{IsTypeFault}
 use Rattle.isle_types.proofs.Lists.{taken_more}
 use Rattle.isle_terms.specs.Signatures.{Signature}
 use Rattle.isle_terms.specs.Definitions.{ExternalExtractor, declarations, rules_in, extractors_in, external_constructors, external_extractors}

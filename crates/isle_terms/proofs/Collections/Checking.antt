@@ -10,8 +10,6 @@ use Rattle.isle_syntax.specs.declared.lexer.Pos.{Pos}
 use Rattle.isle_syntax.specs.declared.error.Error.{Error}
 use Rattle.isle_syntax.specs.declared.error.Error.TheVariants.{TypeError}
 use Rattle.isle_syntax.specs.Errors.{span_at}
-use Rattle.isle_types.specs.TypeFaults.{IsTypeFault}
-use Rattle.isle_types.proofs.FaultLists.{some_error}
 use Rattle.isle_types.proofs.Lists.{taken_more}
 use Rattle.isle_terms.specs.Collecting.Checks.{Checks, IsIllAt}
 use Rattle.isle_terms.proofs.Collections.AddedErrors.{adds_none, adds_one, adds_by, adds_both, adds_checks, checks_adds}

@@ -1,5 +1,5 @@
 -- A table of names grows by a name.
-use Rattle.std.proofs.Common.{◌≡◌, ℕ, List, [], ◌∷◌, ◌++◌, length, Bool, true, false, if◌then◌else◌, Option, Some, None, is_some, is_none, String}
+use Rattle.std.proofs.Common.{◌≡◌, ℕ, List, [], ◌∷◌, ◌++◌, length, true, false, if◌then◌else◌, Option, Some, None, is_some, String}
 use Rattle.std.proofs.Common.{string_bytes, refl, ap, sym, subst, ◌∙◌, bytes_eq}
 use Rattle.std.specs.Map.{KeepsOthers}
 use Rattle.std.specs.Global.{Global}

@@ -1,19 +1,16 @@
 -- Names are put into a table one by one, and those that occur already are reported.
 use Rattle.std.proofs.Common.{◌≡◌, ℕ, zero, suc, ◌+◌, ◌<◌, List, [], ◌∷◌, ◌++◌, length, map, take, Option, Some, None, is_none, true, false, arith}
-use Rattle.std.proofs.Common.{refl, ap, sym, subst}
+use Rattle.std.proofs.Common.{ap, sym, subst}
 use Rattle.std.proofs.Common.{◌∙◌, slice_get}
 use Rattle.std.proofs.lemmas.Bool.{false≢true, true≢false}
 use Rattle.std.proofs.lemmas.List.{take-map, map-append, length-map, length-take-le}
 use Rattle.std.specs.Option.{option_map}
 use Rattle.std.proofs.lemmas.Option.{none-some}
 use Rattle.isle_syntax.specs.declared.lexer.Pos.{Pos}
-use Rattle.isle_syntax.specs.declared.error.Error.{Error}
-use Rattle.isle_types.specs.Names.{position_of, AreDistinct, IsDuplicate}
+use Rattle.isle_types.specs.Names.{position_of, AreDistinct}
 use Rattle.isle_types.proofs.Lists.{from_take, within-take, taken_more}
 use Rattle.isle_types.proofs.NamePlaces.{place_found, once_pushed}
 use Rattle.isle_terms.specs.TermFaults.{names_of, IsTaken}
-use Rattle.isle_terms.specs.Collecting.Checks.{Checks}
-use Rattle.isle_terms.proofs.Collections.Checking.{check_same}
 
 -- the names so far, with the next one
 pub names_more : (pairs : List (List ℕ × Pos)) (i : ℕ) (pair : List ℕ × Pos) → slice_get pairs i ≡ Some pair

@@ -1,11 +1,10 @@
 -- Rules are typed one by one under what tables show.
-use Rattle.std.proofs.Common.{◌≡◌, ℕ, ◌+◌, List, [], ◌∷◌, refl, sym, subst}
+use Rattle.std.proofs.Common.{◌≡◌, ℕ, refl, sym, subst}
 use Rattle.isle_syntax.specs.declared.ast.Rule.{Rule as RuleTree}
 use Rattle.isle_syntax.specs.declared.lexer.Pos.{Pos}
 use Rattle.isle_syntax.specs.declared.error.Error.{Error}
-use Rattle.isle_syntax.specs.declared.error.Span.{Span}
 use Rattle.isle_syntax.specs.declared.refusal.Refusal.{Refusal}
-use Rattle.isle_syntax.specs.Errors.{ErrorKind, type_error, size_error, error_kind, spans_of, span_at, IfFault}
+use Rattle.isle_syntax.specs.Errors.{type_error, size_error, spans_of, IfFault}
 use Rattle.isle_types.specs.TypeFaults.{StartsWhere, IsTypeOrSize}
 use Rattle.isle_types.specs.TypeTables.{TypeTables}
 use Rattle.isle_types.proofs.Reading.{fault_weaker}
@@ -14,7 +13,6 @@ use Rattle.isle_terms.specs.Signatures.{Declared}
 use Rattle.isle_terms.specs.Elaboration.{State, ElaboratesRule}
 use Rattle.isle_terms.specs.RuleReaching.{IsIllRule, IsLargeRule}
 use Rattle.isle_terms.specs.Readings.Outcomes.{Outcome, stands_for, ill_at, exceeds}
-use Rattle.isle_terms.specs.Readings.KnownBy.{known_by}
 use Rattle.isle_terms.specs.Readings.Telling.{Tells}
 use Rattle.isle_terms.specs.Shown.TermTables.{TermTables}
 use Rattle.isle_terms.specs.Shown.ShownTerms.{known_of, ShowsDeclared}

@@ -12,8 +12,7 @@ use Rattle.isle_syntax.specs.declared.refusal.Refusal.{Refusal}
 use Rattle.isle_syntax.specs.Errors.{type_error, IfFault}
 use Rattle.isle_syntax.specs.Trees.PatternTree.{PatternTrees, pattern_pos}
 use Rattle.isle_syntax.specs.Trees.PatternShape.{pattern_of, patterns_of}
-use Rattle.isle_terms.specs.TypedRules.{TypedRule}
-use Rattle.isle_terms.specs.Signatures.{Flags, by_rules, declared_form, Signature, Declared}
+use Rattle.isle_terms.specs.Signatures.{Flags, Signature, Declared}
 use Rattle.isle_terms.specs.Elaboration.{State, pattern_count, ElaboratesRule}
 use Rattle.isle_terms.specs.RuleReaching.{HasRoot, IsIllRule, other_number_of_arguments, priority_of_multi, IsLargeRule}
 use Rattle.isle_terms.specs.Readings.Outcomes.{Outcome, stands_for, ill_at, exceeds, Known, and_then, only_if}

@@ -1,11 +1,10 @@
 -- The typed rules so far, one rule after the other.
 use Rattle.std.proofs.Common.{◌≡◌, ◌≢◌, ℕ, ◌+◌, ◌≤◌, List, [], ◌∷◌, ◌++◌, length, take, Some, refl, sym, subst, slice_get}
-use Rattle.std.specs.List.{All, AllZip}
+use Rattle.std.specs.List.{AllZip}
 use Rattle.std.specs.Prelude.{Vec}
 use Rattle.std.specs.Global.{Global}
 use Rattle.std.proofs.Common.{zero-add, ◌∙◌}
 use Rattle.std.proofs.lemmas.List.{take_all}
-use Rattle.std.proofs.lemmas.List.Elements.{All-push}
 use Rattle.std.proofs.lemmas.Slice.Zip.{all_zipped_more}
 use Rattle.isle_syntax.specs.declared.ast.Rule.{Rule as RuleTree}
 use Rattle.isle_syntax.specs.declared.lexer.Pos.{Pos}
@@ -17,7 +16,6 @@ use Rattle.isle_syntax.specs.Errors.{ErrorKind, parse_error, type_error, unreach
 use Rattle.isle_syntax.specs.Errors.{error_kind, spans_of, IfFault, IsFaultAnd}
 use Rattle.isle_types.specs.Names.{KeepsNames}
 use Rattle.isle_types.specs.TypeFaults.{StartsWhere, IsTypeOrSize, IsTypeFault, IsSizeFault}
-use Rattle.isle_types.proofs.FaultLists.{some_error}
 use Rattle.isle_types.proofs.FieldReadings.{count_more}
 use Rattle.isle_types.proofs.Lists.{AllZip-weaker, taken_more}
 use Rattle.isle_terms.specs.declared.rules.Rule.{Rule}
@@ -25,7 +23,6 @@ use Rattle.isle_terms.specs.TypedRules.{TypedRule}
 use Rattle.isle_terms.specs.Signatures.{Declared}
 use Rattle.isle_terms.specs.Elaboration.{ElaboratesRule}
 use Rattle.isle_terms.specs.RuleReaching.{IsIllRule}
-use Rattle.isle_terms.specs.Definitions.{IsAmong}
 use Rattle.isle_terms.proofs.Collections.AddedErrors.{adds_one, adds_checks}
 use Rattle.isle_terms.proofs.Collections.Checking.{check_both}
 use Rattle.isle_terms.specs.Collecting.Checks.{Checks}

@@ -13,7 +13,7 @@ use Rattle.isle_syntax.specs.Trees.Templates.{filled}
 use Rattle.isle_types.specs.Environment.{constant_in}
 use Rattle.isle_terms.specs.TypedRules.{TypedPattern}
 use Rattle.isle_terms.specs.Signatures.{Signature, Declared, term_named, put_in_for, has_extractor_form}
-use Rattle.isle_terms.specs.Elaboration.{State, counted, bound, Visible, visible_in, pattern_count, listed, each_at, PatternJudgement, EachPattern}
+use Rattle.isle_terms.specs.Elaboration.{State, counted, Visible, visible_in, pattern_count, listed, each_at, PatternJudgement, EachPattern}
 use Rattle.isle_terms.specs.Elaboration.{TakesApart, Extracts, ConvertsPattern, PatternNode, Elaborates, bool_number}
 use Rattle.isle_terms.specs.Reaching.{PatternFact, SomePattern, TakenApart, ExtractedPart, RepairedPattern, BelowPattern, ReachesPattern, IsTooLarge}
 use Rattle.isle_terms.specs.IllTyped.{HasNoPatternConverter, IsIllUse, no_extractor, other_count, argument_lacking, other_type}

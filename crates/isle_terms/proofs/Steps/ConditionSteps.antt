@@ -1,7 +1,6 @@
 -- The steps of reading conditions, as the code takes them.
 use Rattle.std.proofs.Common.{◌≡◌, ℕ, suc, ◌+◌, ◌<◌, List, [], ◌∷◌, ◌++◌, append_assoc, None}
 use Rattle.std.proofs.Common.{length, drop, get_or, refl, sym, ap, ◌∙◌, add-one, drop-cons}
-use Rattle.isle_syntax.specs.declared.lexer.Pos.{Pos}
 use Rattle.isle_syntax.specs.declared.ast.IfLet.{IfLet}
 use Rattle.isle_syntax.specs.Trees.PatternShape.{pattern_of}
 use Rattle.isle_syntax.specs.Trees.ExprShape.{expr_of}

@@ -5,7 +5,6 @@ use Rattle.std.specs.Prelude.{Result, IfOk, IfErr}
 use Rattle.isle_syntax.specs.declared.lexer.Pos.{Pos}
 use Rattle.isle_syntax.specs.declared.error.Error.{Error}
 use Rattle.isle_syntax.specs.declared.refusal.Refusal.{Refusal}
-use Rattle.isle_syntax.specs.declared.refusal.Refusal.TheVariants.{Fault, Memory}
 use Rattle.isle_syntax.specs.declared.ast.Expr.{Expr as ExprSource}
 use Rattle.isle_syntax.specs.declared.ast.LetDef.{LetDef}
 use Rattle.isle_syntax.specs.Trees.ExprTree.{ExprTree, ExprTrees, no_exprs}

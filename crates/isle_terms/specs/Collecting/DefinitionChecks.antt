@@ -1,6 +1,6 @@
 -- What is checked of definitions one by one, where the names of declared terms and others are known.
-use Rattle.std.specs.Prelude.{ℕ, Bool, true, false, not, List, Option, None, Some, is_some, is_none, unwrap_or, slice_get, ◌&&◌, ◌||◌}
-use Rattle.std.specs.Option.{option_map, option_and_then}
+use Rattle.std.specs.Prelude.{ℕ, Bool, true, false, not, List, Option, None, Some, is_some, unwrap_or, slice_get, ◌&&◌, ◌||◌}
+use Rattle.std.specs.Option.{option_map}
 use Rattle.isle_syntax.specs.declared.ast.Ident.{Ident}
 use Rattle.isle_syntax.specs.declared.ast.Rule.{Rule as RuleTree}
 use Rattle.isle_syntax.specs.declared.ast.Decl.{Decl as DeclTree}

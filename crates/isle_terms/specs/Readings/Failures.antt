@@ -1,5 +1,5 @@
 -- How reading the trees of a rule fails.
-use Rattle.std.specs.Prelude.{◌≡◌, List, [], ◌∷◌}
+use Rattle.std.specs.Prelude.{◌≡◌, [], ◌∷◌}
 use Rattle.isle_syntax.specs.declared.lexer.Pos.{Pos}
 use Rattle.isle_syntax.specs.declared.error.Error.{Error}
 use Rattle.isle_syntax.specs.declared.refusal.Refusal.{Refusal}

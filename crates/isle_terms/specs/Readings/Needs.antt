@@ -1,5 +1,5 @@
 -- How many arguments a use of a term must give so that its template can be put in.
-use Rattle.std.specs.Prelude.{ℕ, suc, max, List, Option, None, Some}
+use Rattle.std.specs.Prelude.{ℕ, suc, max, Option, None, Some}
 use Rattle.isle_syntax.specs.Trees.PatternTree.{PatternTree, PatternTrees, pattern_var, pattern_bind, pattern_bool, pattern_int, pattern_prim}
 use Rattle.isle_syntax.specs.Trees.PatternTree.{pattern_term, pattern_wildcard, pattern_and, pattern_macro_arg, no_patterns, more_patterns}
 use Rattle.isle_syntax.specs.Trees.PatternShape.{pattern_of}

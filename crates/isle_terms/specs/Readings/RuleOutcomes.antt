@@ -6,10 +6,10 @@ use Rattle.isle_syntax.specs.declared.lexer.Pos.{Pos}
 use Rattle.isle_syntax.specs.Trees.PatternTree.{PatternTrees}
 use Rattle.isle_syntax.specs.Trees.PatternShape.{pattern_of}
 use Rattle.isle_syntax.specs.Trees.ExprShape.{expr_of}
-use Rattle.isle_terms.specs.TypedRules.{TypedPattern, TypedPatterns, TypedExpr, TypedIfLet, built_at}
+use Rattle.isle_terms.specs.TypedRules.{TypedPatterns, TypedExpr, TypedIfLet, built_at}
 use Rattle.isle_terms.specs.Signatures.{Flags, Signature}
 use Rattle.isle_terms.specs.Elaboration.{State, start, on_lhs}
-use Rattle.isle_terms.specs.Readings.Outcomes.{Outcome, stands_for, ill_at, exceeds, Known, and_then, each_pattern, read_pattern, read_expr}
+use Rattle.isle_terms.specs.Readings.Outcomes.{Outcome, stands_for, Known, and_then, each_pattern, read_pattern, read_expr}
 
 -- the typed parts of a rule
 pub record RuleParts : Type 0 where

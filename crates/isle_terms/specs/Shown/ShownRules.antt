@@ -1,6 +1,5 @@
 -- What typed trees show: types, terms and variables by number, constants by name.
 use Rattle.std.specs.Prelude.{ℕ, suc, max, List, [], ◌∷◌}
-use Rattle.isle_types.specs.declared.ids.Sym.{Sym}
 use Rattle.isle_types.specs.declared.ids.TypeId.{TypeId}
 use Rattle.isle_types.specs.declared.ids.VarId.{VarId}
 use Rattle.isle_types.specs.TypeTables.{name_at}

@@ -1,8 +1,7 @@
-use Rattle.std.proofs.Common.{◌≡◌, ℕ, List, map, take, false}
+use Rattle.std.proofs.Common.{◌≡◌, map, take, false}
 use Rattle.std.specs.List.{All}
 use Rattle.isle_syntax.specs.declared.ast.Decl.{Decl as DeclTree}
 use Rattle.isle_terms.specs.Collecting.Checks.{Checks, IsIllAt}
-use Rattle.isle_terms.specs.Collecting.NameTables.{IsTableOf}
 use Rattle.isle_terms.specs.Collecting.DefinitionChecks.{is_ill_marked}
 use Rattle.isle_terms.proofs.env.checks.check_marks.Given as goal
 

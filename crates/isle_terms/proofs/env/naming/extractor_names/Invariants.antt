@@ -1,4 +1,4 @@
-use Rattle.std.proofs.Common.{◌≡◌, ◌++◌, map, take}
+use Rattle.std.proofs.Common.{◌≡◌, map, take}
 use Rattle.isle_terms.specs.Collecting.NamedItems.{named_shown, named_extractor}
 use Rattle.isle_terms.proofs.env.naming.extractor_names.Given as goal
 

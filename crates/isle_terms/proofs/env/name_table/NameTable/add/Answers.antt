@@ -1,4 +1,4 @@
-use Rattle.std.proofs.Common.{ap, sym, ◌∙◌, is_some}
+use Rattle.std.proofs.Common.{sym, ◌∙◌}
 use Rattle.isle_terms.proofs.Collections.NameTables.{placed_new, placed_old, missing_from}
 use Rattle.isle_terms.proofs.env.name_table.NameTable.add.Goals as goal
 
