@@ -1,19 +1,20 @@
 -- Which files are compiled, and which faults the others have.
-use Rattle.std.specs.Prelude.{◌≡◌, ◌<◌, ℕ, suc, List, [], ◌∷◌, ◌++◌, Some, length, slice_get, take}
+use Rattle.std.specs.Prelude.{◌≡◌, ◌<◌, ℕ, suc, true, List, [], ◌∷◌, ◌++◌, Some, length, slice_get, take}
 use Rattle.isle_syntax.specs.declared.ast.Def.{Def}
 use Rattle.isle_syntax.specs.declared.error.Error.{Error}
 use Rattle.isle_syntax.specs.Errors.{Report}
 use Rattle.isle_syntax.specs.Positions.Files.{SourceFile}
 use Rattle.isle_syntax.specs.Grammar.Texts.{Spells, IsFaultIn}
-use Rattle.isle_types.specs.declared.env.TypeEnv.{TypeEnv}
 use Rattle.isle_types.specs.Environment.{Environment, Makes, AreWithinSizes, HaveEnvironment}
 use Rattle.isle_types.specs.Names.{AreDistinct}
-use Rattle.isle_types.specs.TypeEnvs.{Shows}
 use Rattle.isle_types.specs.TypeFaults.{AreFaultsOf}
+use Rattle.isle_terms.specs.Definitions.{HaveTerms}
+use Rattle.isle_terms.specs.TypingFaults.{AreTypingFaults}
+use Rattle.isle_terms.specs.Collecting.Environments.{ShowsTerms}
 use Rattle.isle_run.specs.declared.program.Program.{Program}
 use Rattle.isle_run.specs.declared.compiler.Refused.{Refused}
 use Rattle.isle_run.specs.declared.compiler.Refused.TheVariants.{Faults, Memory}
-use Rattle.isle_run.specs.Programs.{types_in}
+use Rattle.isle_run.specs.Programs.{types_of, terms_of}
 
 -- the texts of files, which are numbered from `first`, spell these definitions, joined in the order of the files
 abbrev pub AreSpelt : (first : ℕ) → List SourceFile → List Def → Type 0
@@ -21,25 +22,38 @@ AreSpelt first [] defs = defs ≡ []
 AreSpelt first (file ∷ others) defs = (these rest : List Def) × Spells first file.text these
     × AreSpelt (suc first) others rest × (defs ≡ these ++ rest)
 
--- files that are accepted: their texts are spelt, and the definitions make an environment of types
-abbrev pub AreAccepted : List SourceFile → Type 0
-AreAccepted files = (defs : List Def) × AreSpelt 0 files defs × HaveEnvironment defs
+-- how many levels a rule's trees may nest
+abbrev pub max_levels : ℕ
+max_levels = 4096
 
--- a program's types are those of an environment of types that shows this one and interns each name once
-pub record HasTypesOf (program : Program) (environment : Environment) : Type 0 where
-  pub tyenv : TypeEnv
-  pub shown : Shows tyenv environment
-  pub once : AreDistinct tyenv.names
-  pub same : types_in program ≡ tyenv.types
+-- how many nodes a rule may have, templates put in
+abbrev pub max_nodes : ℕ
+max_nodes = 1048576
 
--- the program of files: their texts are spelt, the definitions make an environment of types, and the program has its types
+-- definitions make terms, converters and typed rules over these types, within the sizes, with internal extractors put in
+abbrev pub AreTyped : Environment → List Def → Type 0
+AreTyped types defs = HaveTerms types true max_levels max_nodes defs
+
+-- files that are accepted: their texts are spelt, and the definitions make an environment of types and one of terms over it
+pub record AreAccepted (files : List SourceFile) : Type 0 where
+  pub defs : List Def
+  pub types : Environment
+  pub spelt : AreSpelt 0 files defs
+  pub made : Makes defs types
+  pub within : AreWithinSizes defs
+  pub typed : AreTyped types defs
+
+-- the program of files: their texts are spelt, the definitions make an environment of types and one of terms over it, and the
+-- program's tables show both, with internal extractors put in; each name is interned once
 pub record IsProgramOf (files : List SourceFile) (program : Program) : Type 0 where
   pub defs : List Def
-  pub environment : Environment
+  pub types : Environment
   pub spelt : AreSpelt 0 files defs
-  pub made : Makes defs environment
+  pub made : Makes defs types
   pub within : AreWithinSizes defs
-  pub types : HasTypesOf program environment
+  pub once : AreDistinct (types_of program).names
+  pub terms : ShowsTerms (types_of program) (terms_of program) types max_levels max_nodes defs
+  pub expands : (terms_of program).expands ≡ true
 
 -- an error is the fault of the first text that isn't spelt
 pub record IsFirstFault (files : List SourceFile) (error : Error) : Type 0 where
@@ -50,11 +64,14 @@ pub record IsFirstFault (files : List SourceFile) (error : Error) : Type 0 where
   pub before : AreSpelt 0 (take place files) defs
   pub fault : IsFaultIn place file.text error
 
--- the faults of files, those of the first layer that has any: the first text that isn't spelt, the types, the terms or the rules
+-- the faults of files, those of the first layer that has any: the first text that isn't spelt, the types, the terms with the rules'
+-- typing, or else rules that overlap
 pub data AreFaults (files : List SourceFile) (errors : List Error) : Type 0 where
   of_a_text : (error : Error) → errors ≡ error ∷ [] → IsFirstFault files error → AreFaults files errors
   of_types : (defs : List Def) → AreSpelt 0 files defs → AreFaultsOf defs errors → ¬ HaveEnvironment defs → AreFaults files errors
-  of_terms_or_rules : AreAccepted files → 0 < length errors → AreFaults files errors
+  of_terms : (defs : List Def) (types : Environment) → AreSpelt 0 files defs → Makes defs types → AreWithinSizes defs
+      → AreTypingFaults types true max_levels max_nodes defs errors → ¬ AreTyped types defs → AreFaults files errors
+  of_rules : AreAccepted files → 0 < length errors → AreFaults files errors
 
 -- a fact of the faults of a refusal, if it has some
 abbrev pub IfFaults : Refused → (Report → Type 0) → Type 0

@@ -1,5 +1,7 @@
 -- Which files are compiled, and which faults the others have.
 pub mod Compiled
+-- The plain language, which is what is run so far.
+pub mod PlainLanguage
 -- What a program holds.
 pub mod Programs
 -- In which order a query is checked.

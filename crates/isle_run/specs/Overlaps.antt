@@ -3,7 +3,7 @@ use Rattle.std.specs.Prelude.{List, All}
 use Rattle.isle_syntax.specs.Positions.Files.{SourceFile}
 use Rattle.isle_syntax.specs.Positions.Printable.{IsPrintablePos}
 use Rattle.isle_terms.specs.declared.rules.Rule.{Rule}
-use Rattle.isle_terms.specs.FirstEnvironment.{TypedRuleAt}
+use Rattle.isle_terms.specs.TypedTrees.{TypedRuleAt}
 use Rattle.isle_run.specs.declared.overlap.Overlap.{Overlap}
 
 -- a rule's position can be printed

@@ -2,9 +2,12 @@ ghost use Rattle.std.specs.Prelude.{◌≡◌, ◌<◌, ◌++◌, [], ◌∷◌,
 ghost use Rattle.isle_syntax.specs.Positions.Files.{SourceFile};
 ghost use Rattle.isle_syntax.specs.Positions.Printable.{IsPrintablePos};
 ghost use Rattle.isle_syntax.specs.Positions.DefPositions.{DefAt};
-ghost use Rattle.isle_syntax.specs.Errors.{IfFault, IsFaultAnd, RefusalAt, RefusalsAt};
+ghost use Rattle.isle_syntax.specs.Errors.{IfFault, IsFaultAnd, ErrorAt, RefusalAt, RefusalsAt};
+ghost use Rattle.isle_syntax.specs.Trees.MacroArgs.{HasNoMacroArgs};
 ghost use Rattle.isle_syntax.specs.Grammar.Texts.{Spells, IsFaultIn};
 ghost use Rattle.isle_syntax.specs.declared.error.Error.{Error};
+ghost use Rattle.isle_terms.specs.TypedTrees.{TypedRuleAt};
+ghost use Rattle.isle_run.specs.Programs.{rules_in};
 ghost use Rattle.isle_run.specs.Compiled.{AreSpelt, AreAccepted, IsProgramOf, IsFirstFault, AreFaults, IfFaults};
 
 use crate::overlap::overlaps;
@@ -48,15 +51,28 @@ fn compile_files(alloc: Global, files: &Files) -> Result<Program, Refusal<Vec<Er
     ensures faults { IfErr result (λ r. IfFault r (λ errors. AreFaults files.now errors.items)) }
     ensures printable { IfErr result (RefusalsAt (IsPrintablePos files.now)) }
 {
-    let defs = parse_files(alloc, files)?;
-    let mut tyenv = TypeEnv::from_ast(alloc, defs.as_slice())?;
-    let termenv = TermEnv::from_ast(alloc, &mut tyenv, defs.as_slice())?;
+    let parsed = parse_files(alloc, files)?;
+    let defs = parsed.as_slice();
+    let mut tyenv = TypeEnv::from_ast(alloc, defs)?;
+    let termenv = TermEnv::from_ast(alloc, &mut tyenv, defs, true)?;
     let program = Program::new(alloc, tyenv, termenv)?;
-    let errors = overlaps(alloc, program.rules(), program.rules_by_term())?;
+    let errors = overlaps_in(alloc, &program)?;
     if !errors.is_empty() {
         return Err(Refusal::Fault(errors));
     }
     Ok(program)
+}
+
+/// The overlaps of a plain program's rules. Those of another program aren't looked for yet.
+fn overlaps_in(alloc: Global, program: &Program) -> Result<Vec<Error>, AllocError>
+    ensures { (files : List SourceFile) → All (TypedRuleAt (IsPrintablePos files)) (rules_in program.now)
+        → IfOk result (λ errors. All (ErrorAt (IsPrintablePos files)) errors.items) }
+{
+    if program.is_plain() {
+        overlaps(alloc, program.rules(), program.rules_by_term())
+    } else {
+        Ok(Vec::new(alloc))
+    }
 }
 
 /// The definitions of all texts, or the fault of the first one that has one.
@@ -65,6 +81,7 @@ fn parse_files(alloc: Global, files: &Files) -> Result<Vec<Def>, Refusal<Vec<Err
     ensures fault { IfErr result (λ r. IfFault r (λ errors. (error : Error)
         × (errors.items ≡ error ∷ []) × IsFirstFault files.now error)) }
     ensures placed { IfOk result (λ defs. All (DefAt (IsPrintablePos files.now)) defs.items) }
+    ensures no_macro_args { IfOk result (λ defs. All HasNoMacroArgs defs.items) }
     ensures printable { IfErr result (RefusalsAt (IsPrintablePos files.now)) }
 {
     let mut defs = Vec::new(alloc);
@@ -83,6 +100,7 @@ fn parse_file(alloc: Global, files: &Files, file: usize) -> Result<Vec<Def>, Ref
     ensures fault { IfSome (slice_get files.now file) (λ from. IfErr result (λ r. IfFault r
         (λ errors. (error : Error) × (errors.items ≡ error ∷ []) × IsFaultIn file from.text error))) }
     ensures placed { IfOk result (λ defs. All (DefAt (IsPrintablePos files.now)) defs.items) }
+    ensures no_macro_args { IfOk result (λ defs. All HasNoMacroArgs defs.items) }
     ensures printable { IfErr result (RefusalsAt (IsPrintablePos files.now)) }
 {
     let Some(text) = files.file_text(file) else {

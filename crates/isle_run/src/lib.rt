@@ -5,6 +5,7 @@ mod answer;
 mod compiler;
 mod overlap;
 mod plain;
+mod plain_language;
 mod program;
 mod query;
 mod shared;

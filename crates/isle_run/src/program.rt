@@ -1,3 +1,7 @@
+ghost use Rattle.std.specs.Prelude.{◌≡◌};
+ghost use Rattle.isle_run.specs.PlainLanguage.{is_plain};
+
+use crate::plain_language::all_is_plain;
 use crate::value::Value;
 use isle_terms::{Rule, Term, TermEnv};
 use isle_types::{BuiltinType, TermId, Type, TypeEnv, TypeId};
@@ -10,12 +14,15 @@ pub struct Program {
     termenv: TermEnv,
     /// For each term the places of its rules, by descending priority, then in the order of the texts.
     rules_of: Vec<Vec<usize>>,
+    /// Whether all terms and rules are of the plain language.
+    plain: bool,
+    ghost plainly: { plain ≡ is_plain tyenv termenv },
 }
 
 impl Program {
-    ghost use Rattle.std.specs.Prelude.{◌≡◌, IfOk};
-    ghost use Rattle.isle_terms.specs.FirstEnvironment.{rules_of};
-    ghost use Rattle.isle_run.specs.Programs.{types_in, rules_in, term_named, is_runnable};
+    ghost use Rattle.std.specs.Prelude.{IfOk};
+    ghost use Rattle.isle_types.specs.Names.{AreDistinct};
+    ghost use Rattle.isle_run.specs.Programs.{types_of, terms_of, rules_in, term_named, is_plain_program, has_rules, is_runnable};
 
     /// The program of typed definitions.
     pub(crate) fn new(
@@ -23,14 +30,18 @@ impl Program {
         tyenv: TypeEnv,
         termenv: TermEnv,
     ) -> Result<Program, AllocError>
-        ensures rules { IfOk result (λ program. rules_in program ≡ rules_of termenv) }
-        ensures types { IfOk result (λ program. types_in program ≡ tyenv.types) }
+        ensures types { IfOk result (λ program. types_of program ≡ tyenv) }
+        ensures terms { IfOk result (λ program. terms_of program ≡ termenv) }
+        ensures once { AreDistinct tyenv.names }
     {
+        let _names = tyenv.syms();
         let rules_of = rules_by_term(alloc, &termenv)?;
+        let plain = all_is_plain(&tyenv, &termenv);
         Ok(Program {
             tyenv,
             termenv,
             rules_of,
+            plain,
         })
     }
 
@@ -62,9 +73,23 @@ impl Program {
         }
     }
 
-    /// Whether a call of the term can be answered: it has rules.
+    /// Whether all terms and rules are of the plain language, which is what is run so far.
+    pub(crate) fn is_plain(&self) -> bool
+        ensures { result ≡ is_plain_program self.now }
+    {
+        self.plain
+    }
+
+    /// Whether a call of the term can be answered: the program is plain, and the term has rules.
     pub fn runnable(&self, term: TermId) -> bool
         ensures { result ≡ is_runnable self.now term }
+    {
+        self.is_plain() && self.has_rules(term)
+    }
+
+    /// Whether the term is the root of a rule.
+    fn has_rules(&self, term: TermId) -> bool
+        ensures { result ≡ has_rules self.now term }
     {
         self.rules().iter().any(|rule| rule.root_term == term)
     }

@@ -50,8 +50,8 @@ shape_undeclared : (ty : ℕ) (type : NamedType) (shape : TypeShape) (place : �
     → slice_get (terms_of_shape ty type shape) place ≡ Some term → IsNotDeclared term.form
 shape_undeclared ty type (primitive host) place term is = absurd (none-some term is)
 shape_undeclared ty type (enum variants) place term is = variants_undeclared ty type.name 0 variants place term is
-shape_undeclared ty type (struct fields) zero term is = subst (λ (z : Signature). IsNotDeclared z.form) (same_Some _ _ is) tt
-shape_undeclared ty type (struct fields) (suc place) term is = absurd (none-some term is)
+shape_undeclared ty type (struct _) zero term is = subst (λ (z : Signature). IsNotDeclared z.form) (same_Some _ _ is) tt
+shape_undeclared ty type (struct _) (suc place) term is = absurd (none-some term is)
 
 types_undeclared : (ty : ℕ) (types : List NamedType) (place : ℕ) (term : Signature) → slice_get (terms_of_types ty types) place ≡ Some term
     → IsNotDeclared term.form

@@ -42,3 +42,29 @@ pub mod CheckedTyping
 pub mod TypeTerms
 -- The numbers of terms, by the symbols of their names.
 pub mod TermNumbers
+-- The names of terms.
+pub mod TermNames
+-- Facts of what calls answer.
+pub mod Answered
+-- The names that definitions give.
+pub mod PartNames
+-- What is checked of definitions before their terms are made.
+pub mod FirstRules
+-- What is checked of definitions once their terms are made.
+pub mod LaterRules
+-- The faults of declarations, and what a refusal lists.
+pub mod DeclaredFaults
+-- The terms of declarations and of types.
+pub mod CompletedTerms
+-- The names of rules, and their numbers.
+pub mod RuleNames
+-- Typed rules with their names complete what definitions make.
+pub mod RulesTyped
+-- Tables of terms show what is declared.
+pub mod ShownDeclared
+-- The roots of rules are declared terms.
+pub mod RootedRules
+-- What checks come to where their errors are refused.
+pub mod RefusedChecks
+-- What a refusal lists means that there is no environment.
+pub mod TypingRefused

@@ -1,5 +1,3 @@
--- What can be printed of an environment of terms still can after a change.
-pub mod FirstPlaces
 -- Worked cases: what patterns and expressions stand for, and where they are ill typed or too large.
 mod TypingCases
 -- A pattern stands for one thing at most, whatever the levels.
@@ -34,3 +32,5 @@ pub mod Visiting
 pub mod Steps
 -- What is shown stays shown, and where faults stand.
 pub mod Showing
+-- What texts spell has plain templates.
+pub mod PlainTemplates

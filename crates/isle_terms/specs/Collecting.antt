@@ -22,3 +22,13 @@ pub mod Graphs
 pub mod ExtractorGraphs
 -- What the typing of all rules does.
 pub mod RuleChecks
+-- Typed rules with their names.
+pub mod RuleNames
+-- Definitions by kind, and the tables of their names.
+pub mod Parts
+-- The terms that definitions make.
+pub mod MadeTerms
+-- The environment of terms that definitions make.
+pub mod Environments
+-- The symbols at which a table finds the numbers of terms.
+pub mod TermSymbols

@@ -119,6 +119,10 @@ external_constructors defs = filter_map as_external_constructor (filter_map as_e
 abbrev pub external_extractors : List Def → List ExternalExtractor
 external_extractors defs = filter_map as_external_extractor (filter_map as_external defs)
 
+-- the names of declared terms, in order
+abbrev pub declared_names : List Def → List (List ℕ)
+declared_names defs = map (λ (decl : DeclTree). decl.term.0) (declarations defs)
+
 -- the name of the term at the root of a pattern
 abbrev pub root_name : PatternTree → Option (List ℕ)
 root_name (pattern_var _ _) = None
@@ -302,11 +306,15 @@ name_of_rule defs root (Some name) = Some name.0
 name_of_rule defs None None = None
 name_of_rule defs (Some root) None = if times root (roots_of (rules_in defs)) == 1 then Some root else None
 
+-- the name of a rule among all definitions
+abbrev pub name_of : List Def → RuleTree → Option (List ℕ)
+name_of defs tree = name_of_rule defs (root_name (pattern_of tree.pattern)) tree.name
+
 -- the typed rule of a rule among all definitions
 pub record IsRuleOf (declared : Declared) (defs : List Def) (levels max : ℕ) (tree : RuleTree) (rule : TypedRule) : Type 0 where
   pub written : TypedRule
   pub typed : ElaboratesRule declared levels max tree written
-  pub same : rule ≡ record written { name = name_of_rule defs (root_name (pattern_of tree.pattern)) tree.name }
+  pub same : rule ≡ record written { name = name_of defs tree }
 
 -- the terms, conversions and typed rules that definitions make; a rule's number is its place
 pub record TermEnvironment : Type 0 where
@@ -322,6 +330,16 @@ declared_by types expands environment = record { types = types; terms = environm
 abbrev pub rule_names : List TypedRule → List (List ℕ)
 rule_names rules = filter_map (λ (rule : TypedRule). rule.name) rules
 
+-- whether a rule has a name
+abbrev pub is_name : Option (List ℕ) → List ℕ → Bool
+is_name None name = false
+is_name (Some own) name = bytes_eq own name
+
+-- the number of the first rule of a name, where the numbers count from one on
+abbrev pub rule_named : ℕ → List TypedRule → List ℕ → Option ℕ
+rule_named number [] name = None
+rule_named number (first ∷ others) name = if is_name first.name name then Some number else rule_named (suc number) others name
+
 -- definitions keep the rules of terms and rules, within so many levels and nodes for each rule, and make this environment
 pub record MakesTerms (types : Environment) (expands : Bool) (levels max : ℕ) (defs : List Def) (environment : TermEnvironment) : Type 0 where
   pub terms : AreTerms types defs environment.terms
@@ -332,3 +350,7 @@ pub record MakesTerms (types : Environment) (expands : Bool) (levels max : ℕ) 
   pub defined : All (IsDefined defs) (declarations defs)
   pub rules : AllZip (IsRuleOf (declared_by types expands environment) defs levels max) (rules_in defs) environment.rules
   pub names : AreDistinct (rule_names environment.rules)
+
+-- definitions make an environment of terms within so many levels and nodes for each rule
+abbrev pub HaveTerms : Environment → Bool → (levels max : ℕ) → List Def → Type 0
+HaveTerms types expands levels max defs = (environment : TermEnvironment) × MakesTerms types expands levels max defs environment

@@ -9,3 +9,5 @@ pub mod RulesShown
 pub mod RootsShown
 -- Below what the symbols of terms are.
 pub mod TermLimits
+-- What a rule is called.
+pub mod RuleIdentifiers

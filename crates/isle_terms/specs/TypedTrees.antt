@@ -1,4 +1,6 @@
 -- What is asked of typed patterns and expressions.
+use Rattle.isle_syntax.specs.declared.lexer.Pos.{Pos}
+use Rattle.isle_terms.specs.declared.rules.Rule.{Rule}
 use Rattle.isle_types.specs.declared.ids.TypeId.{TypeId}
 use Rattle.isle_terms.specs.declared.rules.Pattern.{Pattern, Pattern-F, out-Pattern}
 use Rattle.isle_terms.specs.declared.rules.Pattern.TheOpen.{BindPattern, Var as PatternVar, ConstBool as PatternBool, ConstInt as PatternInt}
@@ -33,3 +35,7 @@ expr_type (Let ty _ _) = ty
 -- the type of an expression's value
 abbrev pub type_of_expr : Expr → TypeId
 type_of_expr expr = expr_type (out-Expr expr)
+
+-- a typed rule stands at such a position
+abbrev pub TypedRuleAt : (Pos → Type 0) → Rule → Type 0
+TypedRuleAt At rule = At rule.pos

@@ -1,14 +1,15 @@
 -- Where definitions break a rule of terms and rules, whichever it is, and where they exceed a size.
-use Rattle.std.specs.Prelude.{ℕ, List, Bool}
+use Rattle.std.specs.Prelude.{◌⊎◌, ◌<◌, ℕ, List, [], ◌∷◌, Bool, length, All}
 use Rattle.std.specs.List.{filter_map}
 use Rattle.std.specs.Option.{option_map}
 use Rattle.isle_syntax.specs.declared.ast.Rule.{Rule as RuleTree}
 use Rattle.isle_syntax.specs.declared.ast.Def.{Def}
 use Rattle.isle_syntax.specs.declared.lexer.Pos.{Pos}
-use Rattle.isle_syntax.specs.Trees.PatternShape.{pattern_of}
+use Rattle.isle_syntax.specs.declared.error.Error.{Error}
 use Rattle.isle_types.specs.Environment.{Environment}
+use Rattle.isle_types.specs.TypeFaults.{IsTypeFault, IsSizeFault}
 use Rattle.isle_terms.specs.Signatures.{Signature, Conversion}
-use Rattle.isle_terms.specs.Definitions.{IsAmong, rules_in, root_name, name_of_rule, AreTerms, AreConversions}
+use Rattle.isle_terms.specs.Definitions.{IsAmong, rules_in, name_of, AreTerms, AreConversions}
 use Rattle.isle_terms.specs.RuleReaching.{IsIllRule, IsLargeRule}
 use Rattle.isle_terms.specs.TermFaults.{IsTaken, DeclarationBreaks, IsLargeDeclaration, ExtractorBreaks, ConstructorBreaks, ConverterBreaks}
 use Rattle.isle_terms.specs.TermFaults.{IsUndefined}
@@ -16,7 +17,7 @@ use Rattle.isle_terms.specs.TermFaults.{IsUndefined}
 -- the names of rules, each with the position of its rule
 abbrev pub named_rules : List Def → List (List ℕ × Pos)
 named_rules defs =
-    filter_map (λ (rule : RuleTree). option_map (λ name. (name, rule.pos)) (name_of_rule defs (root_name (pattern_of rule.pattern)) rule.name))
+    filter_map (λ (rule : RuleTree). option_map (λ name. (name, rule.pos)) (name_of defs rule))
     (rules_in defs)
 
 -- definitions break a rule of typing at a position: one of terms, constructors, extractors, converters or rules
@@ -41,3 +42,14 @@ pub data ExceedsTyping (types : Environment) (expands : Bool) (levels max : ℕ)
       → AreTerms types defs terms → AreConversions types defs terms conversions → IsAmong (rules_in defs) rule
       → IsLargeRule (record { types = types; terms = terms; conversions = conversions; expands = expands }) levels max rule
       → ExceedsTyping types expands levels max defs rule.pos
+
+-- one size error alone, where a size is exceeded
+abbrev pub IsLoneSize : (Pos → Type 0) → List Error → Type 0
+IsLoneSize Exceeded [] = ⊥
+IsLoneSize Exceeded (error ∷ []) = IsSizeFault Exceeded error
+IsLoneSize Exceeded (error ∷ _ ∷ _) = ⊥
+
+-- what a refusal lists: one size error alone, or type errors, one at least, each where a rule of typing is broken
+abbrev pub AreTypingFaults : Environment → Bool → (levels max : ℕ) → List Def → List Error → Type 0
+AreTypingFaults types expands levels max defs errors = IsLoneSize (ExceedsTyping types expands levels max defs) errors
+    ⊎ (All (IsTypeFault (BreaksTyping types expands levels defs)) errors × (0 < length errors))

@@ -13,3 +13,5 @@ pub mod Events
 pub mod RuleSteps
 -- The events of typed rules.
 pub mod RuleEvents
+-- Visitors that never answer by themselves that something isn't defined.
+pub mod OwnFaults

@@ -1,7 +1,8 @@
-ghost use Rattle.std.specs.Prelude.{◌≡◌, ◌≤◌, [], slice_get, All, IfOk};
+ghost use Rattle.std.specs.Prelude.{◌≡◌, ◌≤◌, [], slice_get, All, IfOk, Some, IsSome};
 ghost use Rattle.isle_terms.specs.declared.terms.Term.{Term as TermRecord};
 ghost use Rattle.std.specs.Option.{option_copied, option_and_then, option_map};
-ghost use Rattle.isle_types.specs.TypeEnvs.{sym_named};
+ghost use Rattle.isle_types.specs.declared.types.Variant.{Variant};
+ghost use Rattle.isle_types.specs.TypeEnvs.{sym_named, variant_of};
 ghost use Rattle.isle_terms.specs.Shown.TermTables.{term_with, rule_with, converter_with};
 ghost use Rattle.isle_terms.specs.Readings.Needs.{needed_of};
 
@@ -10,14 +11,19 @@ mod checks;
 mod converters;
 mod cycles;
 mod definitions;
+mod from_ast;
 mod graph;
 mod name_table;
 mod named;
+mod names;
 mod naming;
 mod needs;
+mod parts;
 mod recursion;
 mod report;
+mod rule_names;
 mod rules;
+mod stages;
 mod term_numbers;
 mod terms;
 mod type_terms;
@@ -26,7 +32,7 @@ use crate::env::needs::needs_of;
 use crate::rules::Rule;
 use crate::terms::Term;
 use isle_syntax::ast::Ident;
-use isle_types::{RuleId, StableMap, Sym, TermId, TypeEnv, TypeId};
+use isle_types::{RuleId, StableMap, Sym, TermId, TypeEnv, TypeId, VariantId};
 use std::alloc::{AllocError, Global};
 use std::marker::Model;
 
@@ -98,6 +104,22 @@ impl TermEnv {
         })
     }
 
+    /// The environment with these rules and the ids of their names.
+    fn set_rules(self, rules: Vec<Rule>, rule_map: StableMap<Sym, RuleId>) -> TermEnv
+        ensures { result ≡ record self { rules = rules.items; rule_numbers = rule_map } }
+    {
+        TermEnv {
+            alloc: self.alloc,
+            terms: self.terms,
+            needs: self.needs,
+            term_map: self.term_map,
+            rules,
+            rule_map,
+            converters: self.converters,
+            expand_internal_extractors: self.expand_internal_extractors,
+        }
+    }
+
     /// The terms, each at the place of its id: the declared ones in order, then those of the types.
     pub fn terms(&self) -> &[Term]
         ensures { result.now ≡ self.now.terms }
@@ -140,6 +162,15 @@ impl TermEnv {
         self.term_of_sym(tyenv.intern(sym)?)
     }
 
+    /// The id of a variant's term; the caller knows that the type is an enum, has the variant, and that it has a term.
+    pub fn get_variant_term(&self, tyenv: &TypeEnv, ty: TypeId, variant: VariantId) -> TermId
+        requires { IsSome (option_and_then (λ (found : Variant). term_with self.now found.fullname) (variant_of tyenv.now ty variant)) }
+        ensures { Some result ≡ option_and_then (λ (found : Variant). term_with self.now found.fullname) (variant_of tyenv.now ty variant) }
+    {
+        let variant = tyenv.get_variant(ty, variant);
+        self.term_of_sym(variant.fullname).unwrap()
+    }
+
     /// The id of a rule, by its name.
     pub fn get_rule_by_name(&self, tyenv: &TypeEnv, sym: &Ident) -> Option<RuleId>
         ensures { result ≡ option_and_then (rule_with self.now) (sym_named tyenv.now sym.now.0) }
@@ -153,6 +184,27 @@ impl TermEnv {
         ensures { result ≡ converter_with self.now inner outer }
     {
         self.converters.get(&(inner, outer)).copied()
+    }
+
+    /// The table from the symbol of a term's name to the term's id.
+    pub fn term_map(&self) -> &StableMap<Sym, TermId>
+        ensures { result.now ≡ self.now.numbers }
+    {
+        &self.term_map
+    }
+
+    /// The table from the symbol of a rule's name to the rule's id.
+    pub fn rule_map(&self) -> &StableMap<Sym, RuleId>
+        ensures { result.now ≡ self.now.rule_numbers }
+    {
+        &self.rule_map
+    }
+
+    /// The table from an inner and an outer type to their converter's term.
+    pub fn converters(&self) -> &StableMap<(TypeId, TypeId), TermId>
+        ensures { result.now ≡ self.now.converters }
+    {
+        &self.converters
     }
 
     /// Whether internal extractors are put in where they are used.

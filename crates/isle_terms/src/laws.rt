@@ -1,14 +1,24 @@
 //! What holds of the definitions of typing: public functions with nothing to do, whose contracts are the laws.
-ghost use Rattle.std.specs.Prelude.{◌≡◌, ℕ, Bool, List};
+ghost use Rattle.std.specs.Prelude.{◌≡◌, ℕ, Bool, List, All};
 ghost use Rattle.isle_syntax.specs.declared.ast.Def.{Def};
 ghost use Rattle.isle_syntax.specs.declared.ast.Rule.{Rule};
 ghost use Rattle.isle_syntax.specs.declared.lexer.Pos.{Pos};
 ghost use Rattle.isle_types.specs.Environment.{Environment};
+ghost use Rattle.isle_types.specs.TypeTables.{TypeTables};
+ghost use Rattle.isle_terms.specs.declared.rules.Rule.{Rule as MadeRule};
 ghost use Rattle.isle_terms.specs.TypedRules.{TypedRule};
 ghost use Rattle.isle_terms.specs.Signatures.{Declared};
 ghost use Rattle.isle_terms.specs.Elaboration.{ElaboratesRule};
 ghost use Rattle.isle_terms.specs.Definitions.{TermEnvironment, MakesTerms};
 ghost use Rattle.isle_terms.specs.TypingFaults.{BreaksTyping, ExceedsTyping};
+ghost use Rattle.isle_terms.specs.Shown.TermTables.{TermTables};
+ghost use Rattle.isle_terms.specs.Shown.ShownTerms.{ShowsDeclared};
+ghost use Rattle.isle_terms.specs.Shown.RulesShown.{IsShownRule};
+ghost use Rattle.isle_terms.specs.Collecting.Environments.{ShowsTerms};
+ghost use Rattle.isle_terms.specs.Visits.OwnFaults.{NeverUndefined, FindsAllDefined};
+ghost use Rattle.isle_terms.specs.Visits.RuleEvents.{visits_rule};
+
+use crate::visit::{ExprVisitor, PatternVisitor, RuleVisitor};
 
 /// Definitions make one environment of terms at most, whatever the sizes.
 pub fn definitions_make_one_environment()
@@ -32,4 +42,21 @@ pub fn broken_rules_make_no_environment()
 pub fn exceeded_sizes_make_no_environment()
     ensures { (types : Environment) (expands : Bool) (levels max : ℕ) (defs : List Def) (environment : TermEnvironment) (at : Pos)
         → MakesTerms types expands levels max defs environment → ExceedsTyping types expands levels max defs at → ⊥ }
+{}
+
+/// A visit of what a rule stands for never comes to what isn't defined, unless the visitor itself says so or names too few values.
+pub fn typed_rules_use_what_is_defined<V: RuleVisitor>()
+    ensures { FindsAllDefined V.rule_steps V.PatternVisitor.pattern_step V.ExprVisitor.expr_step
+        → (tyenv : TypeTables) (env : TermTables) (declared : Declared) (levels max : ℕ) (tree : Rule) (typed : TypedRule) (made : MadeRule)
+        → ShowsDeclared tyenv env declared → ElaboratesRule declared levels max tree typed → IsShownRule tyenv.names typed made
+        → NeverUndefined (visits_rule V.rule_steps V.PatternVisitor.pattern_step V.ExprVisitor.expr_step env.terms made) }
+{}
+
+/// Nor does a visit of any rule of an environment of terms.
+pub fn rules_of_definitions_use_what_is_defined<V: RuleVisitor>()
+    ensures { FindsAllDefined V.rule_steps V.PatternVisitor.pattern_step V.ExprVisitor.expr_step
+        → (tyenv : TypeTables) (env : TermTables) (types : Environment) (levels max : ℕ) (defs : List Def)
+        → ShowsTerms tyenv env types levels max defs
+        → All (λ (made : MadeRule).
+        NeverUndefined (visits_rule V.rule_steps V.PatternVisitor.pattern_step V.ExprVisitor.expr_step env.terms made)) env.rules }
 {}

@@ -2,7 +2,6 @@
 #![tactic(auto, using(isle_syntax::proofs::Trees::PatternSizes::most_pattern_size, isle_syntax::proofs::Trees::ExprSizes::most_expr_size))]
 
 mod env;
-mod first;
 pub mod laws;
 mod rules;
 mod signatures;
@@ -10,7 +9,7 @@ mod terms;
 mod translate;
 mod visit;
 
-pub use first::env::TermEnv;
+pub use env::TermEnv;
 pub use rules::{BoundVar, Expr, IfLet, Pattern, Rule};
 pub use signatures::{ExternalSig, ReturnKind};
 pub use terms::{ConstructorKind, ExtractorKind, Term, TermFlags, TermKind};

@@ -1,9 +1,12 @@
-ghost use Rattle.std.specs.Prelude.{◌≡◌};
+ghost use Rattle.std.specs.Prelude.{◌≡◌, ◌<◌, None, Some, IfOk, length, string_bytes};
 ghost use Rattle.isle_terms.specs.TypedTrees.{type_of_pattern, type_of_expr};
+ghost use Rattle.isle_terms.specs.Shown.RuleIdentifiers.{identifier_of};
 
+use isle_syntax::files::Files;
 use isle_syntax::lexer::Pos;
 use isle_syntax::{Boxed, Seq};
-use isle_types::{RuleId, Sym, TermId, TypeId, VarId};
+use isle_types::{RuleId, Sym, TermId, TypeEnv, TypeId, VarId};
+use std::alloc::{AllocError, Global};
 
 /// A typed rule. Its variables are numbered from 0 as they are bound.
 #[derive(Debug, Drop)]
@@ -17,6 +20,24 @@ pub struct Rule {
     pub prio: i64,
     pub pos: Pos,
     pub name: Option<Sym>,
+}
+
+impl Rule {
+    /// What the rule is called: its name, or else `NAME line N` of where it stands, in a file that is known.
+    pub fn identifier(
+        &self,
+        tyenv: &TypeEnv,
+        files: &Files,
+        alloc: Global,
+    ) -> Result<String, AllocError>
+        requires { self.now.name ≡ None → self.now.pos.file < length files.now }
+        ensures { IfOk result (λ text. Some (string_bytes text) ≡ identifier_of tyenv.now files.now self.now) }
+    {
+        match self.name {
+            Some(name) => String::from_str(alloc, tyenv.sym_name(name)),
+            None => self.pos.pretty_print_line(alloc, files),
+        }
+    }
 }
 
 /// A variable of a rule.

@@ -19,7 +19,7 @@ pub enum ReturnKind {
 }
 
 /// A function that stands for a term.
-#[derive(Debug, Drop)]
+#[derive(Debug, Clone, Drop)]
 pub struct ExternalSig {
     pub func_name: Text,
     /// The name with that of the host's trait.

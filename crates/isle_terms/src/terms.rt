@@ -1,7 +1,8 @@
 ghost use Rattle.std.specs.Prelude.{◌≡◌};
 ghost use Rattle.isle_terms.specs.Elaboration.{on_lhs};
 ghost use Rattle.isle_terms.specs.Shown.ShownTerms.{flags_shown};
-ghost use Rattle.isle_terms.specs.Terms.{is_variant_kind, is_partial_kind, has_rules_kind, makes_kind, takes_apart_kind};
+ghost use Rattle.isle_terms.specs.Terms.{is_variant_kind, is_struct_kind, is_partial_kind, is_recursive_kind};
+ghost use Rattle.isle_terms.specs.Terms.{has_rules_kind, makes_kind, takes_apart_kind, has_host_constructor_kind, has_host_extractor_kind};
 
 use isle_syntax::Seq;
 use isle_syntax::ast::Pattern;
@@ -9,7 +10,7 @@ use isle_syntax::lexer::Pos;
 use isle_types::{Sym, TermId, TypeId, VariantId};
 
 /// A term: a declared one, or a variant of an enum by its full name.
-#[derive(Debug, Drop)]
+#[derive(Debug, Clone, Drop)]
 pub struct Term {
     pub id: TermId,
     pub decl_pos: Pos,
@@ -43,7 +44,7 @@ impl TermFlags {
 }
 
 /// What a term is.
-#[derive(Debug, Drop)]
+#[derive(Debug, Clone, Drop)]
 pub enum TermKind {
     EnumVariant {
         variant: VariantId,
@@ -66,7 +67,7 @@ pub enum ConstructorKind {
 }
 
 /// How a declared term takes a value apart.
-#[derive(Debug, Drop)]
+#[derive(Debug, Clone, Drop)]
 pub enum ExtractorKind {
     /// By a pattern, in which `MacroArg`s stand for the arguments of a use.
     InternalExtractor {
@@ -98,6 +99,16 @@ impl Term {
         }
     }
 
+    /// Whether the term is a struct.
+    pub fn is_struct(&self) -> bool
+        ensures { result ≡ is_struct_kind self.now.kind }
+    {
+        match &self.kind {
+            TermKind::Struct => true,
+            TermKind::EnumVariant { .. } | TermKind::Decl { .. } => false,
+        }
+    }
+
     /// Whether the term may answer nothing.
     pub fn is_partial(&self) -> bool
         ensures { result ≡ is_partial_kind self.now.kind }
@@ -105,6 +116,16 @@ impl Term {
         match &self.kind {
             TermKind::EnumVariant { .. } | TermKind::Struct => false,
             TermKind::Decl { flags, .. } => flags.partial,
+        }
+    }
+
+    /// Whether the term is declared with the flag `rec`.
+    pub fn is_recursive(&self) -> bool
+        ensures { result ≡ is_recursive_kind self.now.kind }
+    {
+        match &self.kind {
+            TermKind::EnumVariant { .. } | TermKind::Struct => false,
+            TermKind::Decl { flags, .. } => flags.rec,
         }
     }
 
@@ -141,6 +162,35 @@ impl Term {
                 constructor_kind,
                 ..
             } => *constructor_kind == Some(ConstructorKind::InternalConstructor),
+        }
+    }
+
+    /// Whether the term has an extractor of the host.
+    pub fn has_external_extractor(&self) -> bool
+        ensures { result ≡ has_host_extractor_kind self.now.kind }
+    {
+        match &self.kind {
+            TermKind::EnumVariant { .. } | TermKind::Struct => false,
+            TermKind::Decl { extractor_kind, .. } => match extractor_kind {
+                Some(ExtractorKind::ExternalExtractor { .. }) => true,
+                Some(ExtractorKind::InternalExtractor { .. }) | None => false,
+            },
+        }
+    }
+
+    /// Whether the term has a constructor of the host.
+    pub fn has_external_constructor(&self) -> bool
+        ensures { result ≡ has_host_constructor_kind self.now.kind }
+    {
+        match &self.kind {
+            TermKind::EnumVariant { .. } | TermKind::Struct => false,
+            TermKind::Decl {
+                constructor_kind,
+                ..
+            } => match constructor_kind {
+                Some(ConstructorKind::ExternalConstructor { .. }) => true,
+                Some(ConstructorKind::InternalConstructor) | None => false,
+            },
         }
     }
 }

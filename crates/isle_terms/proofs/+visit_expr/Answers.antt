@@ -1,7 +1,6 @@
 use Rattle.std.proofs.Common.{◌≡◌, ◌<◌, ◌+◌, [], ◌∷◌, ◌++◌, length, drop, drop_of_length-le, get_or, Ok, Err, inl, inr, refl, arith}
 use Rattle.std.proofs.lemmas.Result.{err_from_is_err_and}
 use Rattle.isle_terms.specs.declared.visit.fault.VisitFault.TheVariants.{Undefined}
-use Rattle.isle_terms.specs.FirstEnvironment.{terms_of}
 use Rattle.isle_terms.specs.Visits.Events.{visits_expr, visits_exprs, visits_bindings}
 use Rattle.isle_terms.specs.Visits.VisitScopes.{scope_of, bound}
 use Rattle.isle_terms.specs.Visits.InternedTrees.{expr_of, exprs_of, bindings_of}
@@ -17,7 +16,7 @@ rules::Expr::visit-returns-in_err-inner-in-Let g t c =
 pub rules::Expr::visit-returns-in_ok-inner-in-Let : goal.rules::Expr::visit-returns-in_ok-inner-in-Let
 rules::Expr::visit-returns-in_ok-inner-in-Let g t c =
     let step = g.V.ExprVisitor.expr_step in
-    let terms = terms_of c.args.termenv.now in
+    let terms = c.args.termenv.now.terms in
     let first = rw c.as_slice-in-Let.ensures at c.in_ok-inner-in-Let.ensures in
     let rest = rw c.get.ensures at c.visit.ensures in
     rw (c.in-Let.is, expr-Let)
@@ -28,7 +27,7 @@ rules::Expr::visit-returns-in_ok-inner-in-Let g t c =
 pub visit::exprs::visit_bindings-returns-in_err-inner : goal.visit::exprs::visit_bindings-returns-in_err-inner
 visit::exprs::visit_bindings-returns-in_err-inner g t c =
     let p = err_from_is_err_and c.from_residual.result c.from_residual.ensures.1 in
-    rw (p.1, p.2) (bindings_wait g.V.ExprVisitor.expr_step (terms_of c.args.termenv.now) (bindings_of c.args.bindings.now) (scope_of c.args.vars.now)
+    rw (p.1, p.2) (bindings_wait g.V.ExprVisitor.expr_step c.args.termenv.now.terms (bindings_of c.args.bindings.now) (scope_of c.args.vars.now)
     c.args.visitor.now _ c.in_err-inner.ensures.refused)
 
 pub visit::exprs::visit_all-returns-then-i-tys : goal.visit::exprs::visit_all-returns-then-i-tys
@@ -48,7 +47,7 @@ visit::exprs::visit_all-returns-in_err-value g t c =
 pub visit::exprs::visit_all-returns-in_err-push : goal.visit::exprs::visit_all-returns-in_err-push
 visit::exprs::visit_all-returns-in_err-push g t c =
     let step = g.V.ExprVisitor.expr_step in
-    let terms = terms_of c.args.termenv.now in
+    let terms = c.args.termenv.now.terms in
     let scope = scope_of c.args.vars.now in
     let i = c.loop-i.i in
     let value = c.in_ok-value.value in
@@ -67,7 +66,7 @@ visit::exprs::visit_all-returns-in_err-push g t c =
 pub visit::exprs::visit_all-loop-i-preserved : goal.visit::exprs::visit_all-loop-i-preserved
 visit::exprs::visit_all-loop-i-preserved g t c = λ o s rest.
     let step = g.V.ExprVisitor.expr_step in
-    let terms = terms_of c.args.termenv.now in
+    let terms = c.args.termenv.now.terms in
     let scope = scope_of c.args.vars.now in
     let i = c.loop-i.i in
     let n : c.loop-i.i < length c.args.tys.now = omega arith in
@@ -95,7 +94,7 @@ visit::exprs::visit_bindings-returns-in_err-value g t c =
 pub visit::exprs::visit_bindings-returns-in_err-bind : goal.visit::exprs::visit_bindings-returns-in_err-bind
 visit::exprs::visit_bindings-returns-in_err-bind g t c =
     let step = g.V.ExprVisitor.expr_step in
-    let terms = terms_of c.args.termenv.now in
+    let terms = c.args.termenv.now.terms in
     let value = c.in_ok-value.value in
     let p = err_from_is_err_and c.from_residual-in_err-bind.result c.from_residual-in_err-bind.ensures.1 in
     rw (p.1, p.2) (c.loop-i.invariant (Err c.in_err-bind.field-0.0) c.visit.new.visitor
@@ -111,7 +110,7 @@ visit::exprs::visit_bindings-returns-in_err-bind g t c =
 pub visit::exprs::visit_bindings-loop-i-preserved : goal.visit::exprs::visit_bindings-loop-i-preserved
 visit::exprs::visit_bindings-loop-i-preserved g t c = λ o s rest.
     let step = g.V.ExprVisitor.expr_step in
-    let terms = terms_of c.args.termenv.now in
+    let terms = c.args.termenv.now.terms in
     let scope = scope_of c.loop-i.inner in
     let binding = c.index-bindings-i.result in
     let others = bindings_of (drop (c.loop-i.i + 1) c.args.bindings.now) in

@@ -1,5 +1,4 @@
 use Rattle.std.proofs.lemmas.Result.{err_from_is_err_and}
-use Rattle.isle_terms.specs.FirstEnvironment.{terms_of}
 use Rattle.isle_terms.specs.Visits.InternedTrees.{pattern_of}
 use Rattle.isle_terms.proofs.Visiting.VisitRuns.{waits}
 use Rattle.isle_terms.proofs.Visiting.VisitTrees.{pattern-BindPattern}
@@ -9,5 +8,5 @@ pub rules::Pattern::visit-returns-in_err-bind-in-BindPattern : goal.rules::Patte
 rules::Pattern::visit-returns-in_err-bind-in-BindPattern g t c =
     let p = err_from_is_err_and c.from_residual.result c.from_residual.ensures.1 in
     rw (p.1, p.2, c.in-BindPattern.is, pattern-BindPattern)
-    (waits g.V.PatternVisitor.pattern_step (terms_of c.args.termenv.now)
+    (waits g.V.PatternVisitor.pattern_step c.args.termenv.now.terms
     (pattern_of c.in-BindPattern.subpat) _ _ _ _ c.in_err-bind-in-BindPattern.ensures.refused)

@@ -19,7 +19,7 @@ use Rattle.isle_types.proofs.Zipped.{mapped_at, all_at}
 use Rattle.isle_types.proofs.NamePlaces.{place_found}
 use Rattle.isle_terms.specs.Signatures.{by_rules, external_constructor, Signature}
 use Rattle.isle_terms.specs.Definitions.{IsAmong, ExternalExtractor, declarations, rules_in, extractors_in, external_constructors}
-use Rattle.isle_terms.specs.Definitions.{external_extractors, root_name, roots_of, is_among, function_for, template_for, external_extractor_for}
+use Rattle.isle_terms.specs.Definitions.{declared_names, external_extractors, root_name, roots_of, is_among, function_for, template_for, external_extractor_for}
 use Rattle.isle_terms.specs.Definitions.{first_of, constructor_for, extractor_for, names_of_terms, IsDeclared, IsTerm, term_names}
 use Rattle.isle_terms.specs.Definitions.{extractor_names, external_constructor_names, KeepExtractorRules, KeepConstructorRules, IsDefined}
 use Rattle.isle_terms.specs.TermFaults.{names_of, IsTaken, DeclarationBreaks, multi_and_partial, IsUndeclared, named_extractors, ExtractorBreaks}
@@ -27,6 +27,7 @@ use Rattle.isle_terms.specs.TermFaults.{internal_of_no_declared_term, external_o
 use Rattle.isle_terms.specs.TermFaults.{body_of_unknown_term, recursive, ConstructorBreaks, root_is_no_term, root_is_not_declared}
 use Rattle.isle_terms.specs.TermFaults.{external_is_not_declared, external_has_rules, second_external, IsUndefined}
 use Rattle.isle_terms.specs.Collecting.Checks.{IsIllAt}
+use Rattle.isle_terms.specs.Collecting.Parts.{HasRootAmong}
 use Rattle.isle_terms.specs.Collecting.DefinitionChecks.{is_named, is_unknown_root, is_ill_root, is_ill_host, is_multi_at, is_ill_extractor}
 use Rattle.isle_terms.specs.Collecting.DefinitionChecks.{is_ill_name}
 use Rattle.isle_terms.specs.Collecting.DefinitionChecks.{is_unused, is_ill_marked}
@@ -34,10 +35,6 @@ use Rattle.isle_terms.specs.Collecting.ExtractorChecks.{NamesUnknown, NamesKnown
 use Rattle.isle_terms.specs.Collecting.ExtractorGraphs.{IsRecursiveAt, IsNotRecursive}
 use Rattle.isle_terms.proofs.Collections.ExtractorBodies.{among_of_map}
 use Rattle.isle_terms.proofs.Collections.NamedPlaces.{found_among, member_is_among, among_is_member, template_form, external_form}
-
--- the names of declared terms
-abbrev pub declared_names : List Def → List (List ℕ)
-declared_names defs = map (λ (decl : DeclTree). decl.term.0) (declarations defs)
 
 -- a name that is found among names occurs
 occurs : (names : List (List ℕ)) (name : List ℕ) → is_named names name ≡ true → IsAmong names name
@@ -95,10 +92,6 @@ ill_root_breaks defs at ill = subst (ConstructorBreaks defs) (sym ill.3) (by_roo
         → ConstructorBreaks defs ill.0.pos
     by_root None is unknown = root_is_no_term ill.0 ill.1 is
     by_root (Some name) is unknown = root_is_not_declared ill.0 name ill.1 is (undeclared defs name (not-true _ unknown))
-
--- the root of a rule is one of some names
-abbrev pub HasRootAmong : List (List ℕ) → RuleTree → Type 0
-HasRootAmong names rule = (name : List ℕ) × (root_name (pattern_of rule.pattern) ≡ Some name) × IsAmong names name
 
 -- a root that isn't unknown is one of the names
 known_root : (names : List (List ℕ)) (rule : RuleTree) (root : Option (List ℕ)) → root_name (pattern_of rule.pattern) ≡ root

@@ -28,7 +28,9 @@ use Rattle.isle_terms.specs.Collecting.ExtractorChecks.{Adds, NamesUnknown, Name
 use Rattle.isle_terms.specs.Collecting.ExtractorGraphs.{IsRecursiveAt, IsNotRecursive}
 use Rattle.isle_terms.proofs.Collections.AddedErrors.{adds_one, adds_by, adds_both, adds_checks, checks_adds}
 use Rattle.isle_terms.proofs.Collections.CheckedDefinitions.{extractors_named, hosts_named, constructors_kept, extractors_kept}
-use Rattle.isle_terms.proofs.Collections.CheckedDefinitions.{declared_names, HasRootAmong, ill_root_breaks}
+use Rattle.isle_terms.specs.Definitions.{declared_names}
+use Rattle.isle_terms.specs.Collecting.Parts.{HasRootAmong}
+use Rattle.isle_terms.proofs.Collections.CheckedDefinitions.{ill_root_breaks}
 use Rattle.isle_terms.proofs.Collections.CheckedDefinitions.{roots_kept, ill_host_breaks, second_host_breaks}
 use Rattle.isle_terms.proofs.Collections.CheckedDefinitions.{ill_extractor_breaks, ill_name_breaks, second_extractor_breaks, unknown_name_breaks}
 use Rattle.isle_terms.proofs.Collections.CheckedDefinitions.{recursion_breaks, unused_breaks, uses_kept, ill_marks_break, marks_kept}

@@ -174,7 +174,7 @@ fault_alone types decl (Memory e) (Fault all) fault alone = absurd alone
 fault_alone types decl refusal (Memory e) fault alone = tt
 
 -- an error alone of one kind is one of a wider kind
-alone_wider : (P Q : Error → Type 0) → ((error : Error) → P error → Q error) → (errors : List Error) → IsAlone P errors → IsAlone Q errors
+pub alone_wider : (P Q : Error → Type 0) → ((error : Error) → P error → Q error) → (errors : List Error) → IsAlone P errors → IsAlone Q errors
 alone_wider P Q wider [] alone = absurd alone
 alone_wider P Q wider (error ∷ []) alone = wider error alone
 alone_wider P Q wider (error ∷ (other ∷ others)) alone = absurd alone

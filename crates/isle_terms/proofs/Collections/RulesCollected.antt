@@ -27,7 +27,8 @@ use Rattle.isle_terms.proofs.Collections.AddedErrors.{adds_one, adds_checks}
 use Rattle.isle_terms.proofs.Collections.Checking.{check_both}
 use Rattle.isle_terms.specs.Collecting.Checks.{Checks}
 use Rattle.isle_terms.specs.Shown.RulesShown.{IsShownRule}
-use Rattle.isle_terms.specs.Collecting.RuleChecks.{IsLargeAt, IsIllAmong, IsLargeAmong, AreTyped, IsLoneSize}
+use Rattle.isle_terms.specs.TypingFaults.{IsLoneSize}
+use Rattle.isle_terms.specs.Collecting.RuleChecks.{IsLargeAt, IsIllAmong, IsLargeAmong, AreTyped}
 use Rattle.isle_terms.proofs.Collections.Checking.{check_same}
 use Rattle.isle_terms.proofs.Showing.RulesShown.{rule_kept}
 

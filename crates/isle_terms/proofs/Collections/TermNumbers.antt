@@ -4,6 +4,7 @@ use Rattle.std.proofs.Common.{true, false, cond, Option, Some, None, arith, refl
 use Rattle.std.proofs.Common.{subst, ◌∙◌, slice_get, bytes_eq}
 use Rattle.std.specs.List.{AllZip}
 use Rattle.std.specs.Option.{option_map, option_and_then}
+use Rattle.std.specs.Prelude.{IsSome}
 use Rattle.std.proofs.lemmas.Bool.{false≢true}
 use Rattle.std.proofs.lemmas.Bool.Decides.{Decides-eqb}
 use Rattle.std.proofs.lemmas.List.{take_all, take-map, map-append, length-map, length-take-le}
@@ -18,10 +19,11 @@ use Rattle.isle_types.proofs.Lists.{taken_more, within-take, from_take}
 use Rattle.isle_types.proofs.NamePlaces.{place_found, place_known, place_last, place_other}
 use Rattle.isle_terms.specs.declared.terms.Term.{Term}
 use Rattle.isle_terms.specs.Signatures.{Signature}
-use Rattle.isle_terms.specs.Definitions.{names_of_terms}
+use Rattle.isle_terms.specs.Definitions.{IsAmong, names_of_terms}
 use Rattle.isle_terms.specs.Shown.ShownTerms.{term_at}
 use Rattle.isle_terms.specs.Shown.TermTables.{same_sym}
 use Rattle.isle_terms.specs.Collecting.DeclaredTerms.{IsShownTerm, number_named}
+use Rattle.isle_terms.specs.Collecting.TermSymbols.{HasSymbolsOf}
 use Rattle.isle_terms.proofs.Collections.TypeTerms.{zipped_back, zipped_length, count_at}
 
 -- no name has a number yet
@@ -127,3 +129,18 @@ pub numbers_done : (names : List (List ℕ)) (signatures : List Signature) (term
 numbers_done names signatures terms place numbers name zipped past is =
     let long = zipped_length (IsShownTerm names) signatures terms zipped in
     is ∙ ap (λ ss. option_map term_at (position_of (names_of_terms ss) name)) (take_all place signatures (omega (arith, long, past)))
+
+-- no symbol has a number yet
+pub symbols_none : (terms : List Term) (numbers : List (Sym × TermId)) → numbers ≡ [] → HasSymbolsOf terms numbers
+symbols_none terms numbers none = subst (HasSymbolsOf terms) (sym none) (λ symbol there. absurd (false≢true there))
+
+-- the symbols of the terms so far, and that of one more
+pub symbols_turn : (terms : List Term) (place : ℕ) (term : Term) (old new : List (Sym × TermId)) → slice_get terms place ≡ Some term
+    → ((q : Sym) → value_at same_sym new q ≡ cond (same_sym term.name q) (Some term.id) (value_at same_sym old q))
+    → HasSymbolsOf terms old → HasSymbolsOf terms new
+symbols_turn terms place term old new here put before = λ symbol there.
+    elim (term.name.0 == symbol.0) as (λ b. (term.name.0 == symbol.0) ≡ b → IsSome (cond b (Some term.id) (value_at same_sym old symbol))
+    → (one : Term) × IsAmong terms one × (one.name ≡ symbol)) [
+      | true ↦ λ same _. let decides = Decides-eqb term.name.0 symbol.0 in (term, (place, here), ap symbol_at (decides.0 same))
+      | false ↦ λ _ earlier. before symbol earlier
+    ] refl (subst IsSome (put symbol) there)

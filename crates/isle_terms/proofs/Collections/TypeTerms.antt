@@ -43,7 +43,7 @@ zipped_length R [] (y ∷ ys) each = absurd each
 zipped_length R (x ∷ xs) (y ∷ ys) each = ap suc (zipped_length R xs ys each.1)
 
 -- lists related in pairs, and more behind them
-zipped_append : {A B : Type 0} (R : A → B → Type 0) (xs : List A) (ys : List B) (more : List A) (others : List B) → AllZip R xs ys
+pub zipped_append : {A B : Type 0} (R : A → B → Type 0) (xs : List A) (ys : List B) (more : List A) (others : List B) → AllZip R xs ys
     → AllZip R more others → AllZip R (xs ++ more) (ys ++ others)
 zipped_append R [] [] more others each then = then
 zipped_append R (x ∷ xs) [] more others each then = absurd each
@@ -59,7 +59,7 @@ count_at number n (first ∷ xs) counted (suc i) x is =
     let later : suc n + i ≡ n + suc i = omega arith in count_at number (suc n) xs counted.1 i x is ∙ later
 
 -- items that count up, and more behind them
-count_append : {X : Type 0} (number : X → ℕ) (n : ℕ) (xs ys : List X) → CountUp number n xs → CountUp number (n + length xs) ys
+pub count_append : {X : Type 0} (number : X → ℕ) (n : ℕ) (xs ys : List X) → CountUp number n xs → CountUp number (n + length xs) ys
     → CountUp number n (xs ++ ys)
 count_append number n [] ys counted then = subst (λ k. CountUp number k ys) (add-zero n) then
 count_append number n (x ∷ xs) ys counted then =

@@ -45,7 +45,7 @@ use Rattle.isle_terms.specs.TypingFaults.{of_a_rule, of_rule_names, ExceedsTypin
 use Rattle.isle_terms.proofs.Exact.Positions.{TemplatesAt, ill_rule_at}
 
 -- something holds of each item of a list
-abbrev Each : {X : Type 0} → (X → Type 0) → List X → Type 0
+abbrev pub Each : {X : Type 0} → (X → Type 0) → List X → Type 0
 Each {X} P xs = (place : ℕ) (x : X) → slice_get xs place ≡ Some x → P x
 
 -- of each item that others are mapped to
@@ -72,7 +72,7 @@ each_made {X} {Y} kind Q P makes (x ∷ xs) each place y is =
     by_head others (Some z) some (suc i) at = others i y at
 
 -- of each second one of two lists whose items are related, where it holds of each first one
-each_related : {X Y : Type 0} (R : X → Y → Type 0) (P : X → Type 0) (Q : Y → Type 0) → ((x : X) (y : Y) → R x y → P x → Q y)
+pub each_related : {X Y : Type 0} (R : X → Y → Type 0) (P : X → Type 0) (Q : Y → Type 0) → ((x : X) (y : Y) → R x y → P x → Q y)
     → (xs : List X) (ys : List Y) → AllZip R xs ys → Each P xs → Each Q ys
 each_related R P Q from xs [] related each place y is = absurd (none-some y is)
 each_related R P Q from [] (z ∷ ys) related each place y is = absurd related
@@ -333,7 +333,7 @@ module _ (At : Pos → Type 0) where
     decls_at = each_made as_declaration (DefAt At) (DeclAt At) decl_here defs (all_at (DefAt At) defs all)
 
     -- so do the rules
-    rules_at : Each (RuleAt At) (rules_in defs)
+    pub rules_at : Each (RuleAt At) (rules_in defs)
     rules_at = each_made as_rule (DefAt At) (RuleAt At) rule_here defs (all_at (DefAt At) defs all)
 
     -- so do the extractors

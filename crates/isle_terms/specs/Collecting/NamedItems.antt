@@ -1,11 +1,15 @@
 -- Names of definitions, each with the position at which a fault of it is reported.
-use Rattle.std.specs.Prelude.{ℕ, List}
+use Rattle.std.specs.Prelude.{ℕ, List, Option}
+use Rattle.std.specs.Borrow.{Bor}
+use Rattle.std.specs.Option.{option_map}
+use Rattle.isle_syntax.specs.declared.ast.Ident.{Ident}
 use Rattle.isle_syntax.specs.declared.ast.Decl.{Decl as DeclTree}
 use Rattle.isle_syntax.specs.declared.ast.Extractor.{Extractor as ExtractorTree}
 use Rattle.isle_syntax.specs.declared.lexer.Pos.{Pos}
 use Rattle.isle_terms.specs.declared.env.definitions.HostConstructor.{HostConstructor}
 use Rattle.isle_terms.specs.declared.env.definitions.HostExtractor.{HostExtractor}
 use Rattle.isle_terms.specs.declared.env.naming.Named.{Named}
+use Rattle.isle_terms.specs.Signatures.{Signature}
 
 -- a name and its position
 abbrev pub named_shown : Named → List ℕ × Pos
@@ -26,3 +30,11 @@ named_host_constructor host = (host.term.now.0, host.term.now.1)
 -- the name of the term of a host's extractor
 abbrev pub named_host_extractor : HostExtractor → List ℕ × Pos
 named_host_extractor host = (host.term.now.0, host.pos)
+
+-- the name of a term
+abbrev pub named_term : Signature → List ℕ × Pos
+named_term term = (term.name, term.pos)
+
+-- the name of what may have one
+abbrev pub name_shown : Option (Bor Ident) → Option (List ℕ)
+name_shown name = option_map (λ (own : Bor Ident). own.now.0) name

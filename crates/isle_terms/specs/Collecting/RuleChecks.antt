@@ -1,12 +1,10 @@
 -- What the typing of all rules does.
-use Rattle.std.specs.Prelude.{◌≡◌, ℕ, List, [], ◌∷◌}
+use Rattle.std.specs.Prelude.{◌≡◌, ℕ, List}
 use Rattle.std.specs.List.{AllZip}
 use Rattle.isle_syntax.specs.declared.ast.Rule.{Rule as RuleTree}
 use Rattle.isle_syntax.specs.declared.lexer.Pos.{Pos}
-use Rattle.isle_syntax.specs.declared.error.Error.{Error}
 use Rattle.isle_syntax.specs.Trees.PatternTree.{PatternTrees}
 use Rattle.isle_types.specs.TypeEnvs.{CountUp}
-use Rattle.isle_types.specs.TypeFaults.{IsSizeFault}
 use Rattle.isle_terms.specs.declared.rules.Rule.{Rule}
 use Rattle.isle_terms.specs.TypedRules.{TypedRule}
 use Rattle.isle_terms.specs.Signatures.{Flags, Signature, Declared}
@@ -40,9 +38,3 @@ pub record AreTyped (declared : Declared) (levels max : ℕ) (trees : List RuleT
   pub stand : AllZip (ElaboratesRule declared levels max) trees typed
   pub shown : AllZip (IsShownRule names) typed made
   pub numbers : CountUp (λ (rule : Rule). rule.id.0) 0 made
-
--- one size error alone, where a size is exceeded
-abbrev pub IsLoneSize : (Pos → Type 0) → List Error → Type 0
-IsLoneSize Exceeded [] = ⊥
-IsLoneSize Exceeded (error ∷ []) = IsSizeFault Exceeded error
-IsLoneSize Exceeded (error ∷ _ ∷ _) = ⊥

@@ -1,18 +1,17 @@
 ghost use Rattle.std.specs.Prelude.{◌≡◌, ℕ, List, Bool, true, false, map, OnOk};
-ghost use Rattle.std.specs.Str.{bytes_eq};
 ghost use Rattle.isle_syntax.specs.declared.lexer.Pos.{Pos};
 ghost use Rattle.isle_syntax.specs.Trees.PatternShape.{pattern_of};
-ghost use Rattle.isle_types.specs.StableMaps.{has};
+ghost use Rattle.isle_terms.specs.Collecting.NameTables.{IsTableOf};
 ghost use Rattle.isle_terms.specs.Collecting.Checks.{Checks};
 ghost use Rattle.isle_terms.specs.Definitions.{is_among};
 ghost use Rattle.isle_terms.specs.Collecting.ExtractorChecks.{Adds, BodyNamesUnknown, BodyNamesKnown, IsUnknownAt, NamesUnknown, NamesKnown};
 
+use crate::env::name_table::NameTable;
 use crate::env::named::named_terms;
 use crate::env::report::report;
-use isle_syntax::Text;
 use isle_syntax::ast::{Extractor, Ident, Pattern};
 use isle_syntax::error::Error;
-use isle_types::{StableSet, TypeEnv};
+use isle_types::TypeEnv;
 use std::alloc::{AllocError, Global};
 
 /// Reports each term that an extractor's body names and that isn't known.
@@ -20,10 +19,10 @@ pub fn check_bodies(
     tyenv: &TypeEnv,
     alloc: Global,
     extractors: &[&Extractor],
-    known: &StableSet<Text>,
+    known: &NameTable,
     errors: &mut Vec<Error>,
 ) -> Result<(), AllocError>
-    ensures { (names : List (List ℕ)) → ((name : List ℕ) → has bytes_eq known.now name ≡ is_among name names)
+    ensures { (names : List (List ℕ)) → IsTableOf names known.now
         → OnOk result (Checks (NamesUnknown (map (λ e. e.now) extractors.now) names) (NamesKnown (map (λ e. e.now) extractors.now) names)
         errors.old.items errors.new.items) }
 {
@@ -37,10 +36,10 @@ fn check_body(
     tyenv: &TypeEnv,
     alloc: Global,
     body: &Pattern,
-    known: &StableSet<Text>,
+    known: &NameTable,
     errors: &mut Vec<Error>,
 ) -> Result<(), AllocError>
-    ensures { (names : List (List ℕ)) → ((name : List ℕ) → has bytes_eq known.now name ≡ is_among name names)
+    ensures { (names : List (List ℕ)) → IsTableOf names known.now
         → OnOk result (Adds (BodyNamesUnknown (pattern_of body.now) names) (BodyNamesKnown (pattern_of body.now) names)
         errors.old.items errors.new.items) }
 {
@@ -54,13 +53,13 @@ fn check_body(
 fn check_term(
     tyenv: &TypeEnv,
     term: &Ident,
-    known: &StableSet<Text>,
+    known: &NameTable,
     errors: &mut Vec<Error>,
 ) -> Result<(), AllocError>
-    ensures { (names : List (List ℕ)) → ((name : List ℕ) → has bytes_eq known.now name ≡ is_among name names)
+    ensures { (names : List (List ℕ)) → IsTableOf names known.now
         → OnOk result (Adds (IsUnknownAt names term.now) (is_among term.now.0 names ≡ true) errors.old.items errors.new.items) }
 {
-    if known.contains(&term.0) {
+    if known.has(term.0.as_str()) {
         return Ok(());
     }
     report(
@@ -68,5 +67,6 @@ fn check_term(
         tyenv,
         term.1,
         "an extractor's body names an unknown term",
-    )
+    )?;
+    Ok(())
 }

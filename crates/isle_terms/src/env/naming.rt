@@ -1,4 +1,5 @@
-ghost use Rattle.std.specs.Prelude.{◌≡◌, ◌++◌, map, IfOk, OnOk};
+ghost use Rattle.std.specs.Prelude.{◌≡◌, ◌++◌, List, map, IfOk, OnOk};
+ghost use Rattle.std.specs.List.{AllZip};
 ghost use Rattle.isle_syntax.specs.declared.ast.Decl.{Decl as DeclTree};
 ghost use Rattle.isle_syntax.specs.declared.ast.Extractor.{Extractor as ExtractorTree};
 ghost use Rattle.isle_types.specs.Names.{AreDistinct};
@@ -6,11 +7,14 @@ ghost use Rattle.isle_terms.specs.TermFaults.{names_of, IsTaken};
 ghost use Rattle.isle_terms.specs.Collecting.Checks.{Checks};
 ghost use Rattle.isle_terms.specs.Collecting.NameTables.{IsTableOf};
 ghost use Rattle.isle_terms.specs.Collecting.NamedItems.{named_shown, named_declaration, named_extractor, named_host_constructor};
-ghost use Rattle.isle_terms.specs.Collecting.NamedItems.{named_host_extractor};
+ghost use Rattle.isle_terms.specs.Collecting.NamedItems.{named_host_extractor, named_term};
+ghost use Rattle.isle_terms.specs.Collecting.DeclaredTerms.{IsShownTerm};
+ghost use Rattle.isle_terms.specs.Signatures.{Signature};
 
 use crate::env::definitions::{HostConstructor, HostExtractor};
 use crate::env::name_table::NameTable;
 use crate::env::report::report;
+use crate::terms::Term;
 use isle_syntax::ast::{Decl, Extractor};
 use isle_syntax::error::Error;
 use isle_syntax::lexer::Pos;
@@ -86,6 +90,25 @@ pub fn add_host_extractor_names<'a>(
         })?;
     }
     Ok(())
+}
+
+/// The names of terms, each where what makes the term stands.
+pub fn term_names<'a>(
+    alloc: Global,
+    tyenv: &'a TypeEnv,
+    terms: &[Term],
+) -> Result<Vec<Named<'a>>, AllocError>
+    ensures { (signatures : List Signature) → AllZip (IsShownTerm tyenv.now.names) signatures terms.now
+        → IfOk result (λ all. map named_shown all.items ≡ map named_term signatures) }
+{
+    let mut all = Vec::new(alloc);
+    for term in terms {
+        all.push(Named {
+            name: tyenv.sym_name(term.name),
+            pos: term.decl_pos,
+        })?;
+    }
+    Ok(all)
 }
 
 /// The table of names, each of which is reported where it occurs already.

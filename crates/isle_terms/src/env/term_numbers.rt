@@ -8,6 +8,7 @@ ghost use Rattle.isle_terms.specs.Signatures.{Signature};
 ghost use Rattle.isle_terms.specs.Definitions.{names_of_terms};
 ghost use Rattle.isle_terms.specs.Shown.ShownTerms.{term_at};
 ghost use Rattle.isle_terms.specs.Collecting.DeclaredTerms.{IsShownTerm, number_named};
+ghost use Rattle.isle_terms.specs.Collecting.TermSymbols.{HasSymbolsOf};
 
 use crate::terms::Term;
 use isle_types::{StableMap, Sym, TermId};
@@ -15,10 +16,11 @@ use std::alloc::{AllocError, Global};
 
 /// The table from the symbols of the names of terms to the numbers of the terms.
 pub fn numbers(alloc: Global, terms: &[Term]) -> Result<StableMap<Sym, TermId>, AllocError>
-    ensures { (names : List (List ℕ)) (signatures : List Signature) → AllZip (IsShownTerm names) signatures terms.now → AreDistinct names
+    ensures numbered { (names : List (List ℕ)) (signatures : List Signature) → AllZip (IsShownTerm names) signatures terms.now → AreDistinct names
         → AreDistinct (names_of_terms signatures) → CountUp (λ (term : TermValue). term.id.0) 0 terms.now
         → IfOk result (λ numbers. (name : List ℕ) → number_named names numbers name
         ≡ option_map term_at (position_of (names_of_terms signatures) name)) }
+    ensures known { IfOk result (HasSymbolsOf terms.now) }
 {
     let mut numbers = StableMap::new(alloc);
     for term in terms {

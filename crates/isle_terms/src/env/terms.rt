@@ -1,4 +1,4 @@
-ghost use Rattle.std.specs.Prelude.{◌≡◌, ◌≤◌, ◌<◌, ◌++◌, ◌∷◌, [], ℕ, List, false, map, length, IfOk, IfErr, OnOk};
+ghost use Rattle.std.specs.Prelude.{◌≡◌, ◌≤◌, ◌<◌, ◌++◌, ◌∷◌, [], ℕ, List, Some, false, map, length, All, IfOk, IfErr, OnOk};
 ghost use Rattle.std.specs.List.{AllZip};
 ghost use Rattle.isle_syntax.specs.declared.ast.Def.{Def};
 ghost use Rattle.isle_syntax.specs.Errors.{IfFault, IsFaultAnd, error_kind, size_error};
@@ -19,6 +19,8 @@ ghost use Rattle.isle_syntax.specs.Trees.Templates.{template_tree};
 ghost use Rattle.isle_terms.specs.Signatures.{by_template, declared_form};
 ghost use Rattle.isle_terms.specs.Definitions.{flags_in};
 ghost use Rattle.isle_terms.specs.Shown.ShownTerms.{flags_shown};
+ghost use Rattle.isle_terms.specs.declared.terms.Term.{Term as TermRecord};
+ghost use Rattle.isle_terms.specs.Readings.Needs.{needed_of, needed_by, needed_by_extractor};
 
 use crate::env::definitions::{HostConstructor, HostExtractor};
 use crate::env::name_table::NameTable;
@@ -33,6 +35,7 @@ use std::alloc::{AllocError, Global};
 pub const MAX_ARGUMENTS: usize = 255;
 
 /// What gives declared terms their constructors and extractors, by the names of the terms.
+#[derive(Drop)]
 pub struct Forms<'a> {
     pub alloc: Global,
     /// The terms that are roots of rules.
@@ -82,6 +85,7 @@ impl Forms<'_> {
         requires { HasPlainTemplates (map (λ extractor. extractor.now) self.now.extractors.now) }
         ensures made { (defs : List Def) → AreFormsOf defs self.now → IfOk result (λ kind.
             AreShownAs (IsShownExtractor tyenv.new.names) (extractor_for defs name.now) kind) }
+        ensures needs { IfOk result (λ kind. needed_by_extractor kind ≤ usize.MAX) }
         ensures more { HasMoreNames tyenv.old tyenv.new }
         ensures shown { (types : Environment) → Shows tyenv.old types → Shows tyenv.new types }
     {
@@ -109,6 +113,7 @@ impl Forms<'_> {
         requires { HasPlainTemplates (map (λ extractor. extractor.now) self.now.extractors.now) }
         ensures made { (defs : List Def) → AreFormsOf defs self.now → IfOk result (IsShownForm tyenv.new.names
             (declared_form (flags_in decl.now) (constructor_for defs decl.now.term.0) (extractor_for defs decl.now.term.0))) }
+        ensures needs { IfOk result (λ kind. needed_by kind ≤ usize.MAX) }
         ensures more { HasMoreNames tyenv.old tyenv.new }
         ensures shown { (types : Environment) → Shows tyenv.old types → Shows tyenv.new types }
     {
@@ -131,6 +136,7 @@ impl Forms<'_> {
         requires { HasPlainTemplates (map (λ extractor. extractor.now) self.now.extractors.now) }
         ensures made { (types : Environment) (defs : List Def) → Shows tyenv.old types → AreFormsOf defs self.now
             → IfOk result (IsDeclaredTerm types defs tyenv.new.names id decl.now) }
+        ensures needs { IfOk result (λ term. needed_of term ≤ usize.MAX) }
         ensures fault { (types : Environment) → Shows tyenv.old types → IfErr result (λ r. IfFault r (IsDeclarationFault types decl.now)) }
         ensures more { HasMoreNames tyenv.old tyenv.new }
         ensures shown { (types : Environment) → Shows tyenv.old types → Shows tyenv.new types }
@@ -165,6 +171,8 @@ impl Forms<'_> {
             (AddsDeclaredTerm types defs tyenv.new.names decl.now terms.old.items terms.new.items) errors.old.items errors.new.items) }
         ensures large { (types : Environment) → Shows tyenv.old types
             → IfErr result (λ r. IfFault r (λ all. IsAlone (IsSizeFault (IsLargeAt decl.now)) all.items)) }
+        ensures needs { All (λ (term : TermRecord). needed_of term ≤ usize.MAX) terms.old.items
+            → All (λ (term : TermRecord). needed_of term ≤ usize.MAX) terms.new.items }
         ensures more { HasMoreNames tyenv.old tyenv.new }
         ensures shown { (types : Environment) → Shows tyenv.old types → Shows tyenv.new types }
     {
@@ -192,6 +200,7 @@ impl Forms<'_> {
             (AreDeclaredTerms types defs tyenv.new.names (map (λ decl. decl.now) decls.now) terms.items) errors.old.items errors.new.items) }
         ensures large { (types : Environment) → Shows tyenv.old types
             → IfErr result (λ r. IfFault r (λ all. IsAlone (IsSizeFault (IsOneLargeAt (map (λ decl. decl.now) decls.now))) all.items)) }
+        ensures needs { IfOk result (λ terms. All (λ (term : TermRecord). needed_of term ≤ usize.MAX) terms.items) }
         ensures more { HasMoreNames tyenv.old tyenv.new }
         ensures shown { (types : Environment) → Shows tyenv.old types → Shows tyenv.new types }
     {
@@ -246,8 +255,9 @@ fn flags_of(decl: &Decl) -> TermFlags
 /// The template of an internal extractor.
 fn internal_extractor(alloc: Global, extractor: &Extractor) -> Result<ExtractorKind, AllocError>
     requires { has_macro_arg (pattern_of extractor.now.template) ≡ false }
-    ensures { (names : List (List ℕ)) → IfOk result (IsShownExtractor names
+    ensures made { (names : List (List ℕ)) → IfOk result (IsShownExtractor names
         (by_template (template_tree extractor.now.args (pattern_of extractor.now.template)))) }
+    ensures needs { IfOk result (λ kind. needed_by_extractor (Some kind) ≤ usize.MAX) }
 {
     let args = extractor.args.as_slice();
     Ok(ExtractorKind::InternalExtractor {

@@ -1,12 +1,11 @@
 ghost use Rattle.std.specs.Prelude.{◌≡◌, []};
-ghost use Rattle.isle_terms.specs.FirstEnvironment.{terms_of};
 ghost use Rattle.isle_terms.specs.Visits.Runs.{asks, on_some, stuck, listed};
 ghost use Rattle.isle_terms.specs.Visits.VisitScopes.{scope_of, scope_left};
 ghost use Rattle.isle_terms.specs.Visits.InternedTrees.{expr_of, exprs_of, bindings_of, term_expr};
 ghost use Rattle.isle_terms.specs.Visits.VisitorCalls.{making_of};
 ghost use Rattle.isle_terms.specs.Visits.Events.{visits_expr, visits_exprs, visits_bindings};
 
-use crate::first::env::TermEnv;
+use crate::env::TermEnv;
 use crate::rules::Expr;
 use crate::terms::TermKind;
 use crate::visit::scope::{bind, copy_of, look_up};
@@ -58,7 +57,7 @@ impl Expr {
         termenv: &TermEnv,
         vars: &HashMap<VarId, V::ExprId>,
     ) -> Result<V::ExprId, VisitFault>
-        ensures { visits_expr V.expr_step (terms_of termenv.now) (expr_of self.now) (scope_of vars.now) visitor.old result visitor.new }
+        ensures { visits_expr V.expr_step termenv.now.terms (expr_of self.now) (scope_of vars.now) visitor.old result visitor.new }
     {
         match self {
             Expr::Term(ty, id, args) => {
@@ -90,7 +89,7 @@ fn visit_term<V: ExprVisitor>(
     termenv: &TermEnv,
     vars: &HashMap<VarId, V::ExprId>,
 ) -> Result<V::ExprId, VisitFault>
-    ensures { visits_expr V.expr_step (terms_of termenv.now) (term_expr ty id (exprs_of args.now)) (scope_of vars.now)
+    ensures { visits_expr V.expr_step termenv.now.terms (term_expr ty id (exprs_of args.now)) (scope_of vars.now)
         visitor.old result visitor.new }
 {
     match termenv.get_term(id) {
@@ -112,7 +111,7 @@ fn visit_all<V: ExprVisitor>(
     termenv: &TermEnv,
     vars: &HashMap<VarId, V::ExprId>,
 ) -> Result<Vec<(V::ExprId, TypeId)>, VisitFault>
-    ensures { visits_exprs V.expr_step (terms_of termenv.now) (exprs_of exprs.now) tys.now [] (scope_of vars.now)
+    ensures { visits_exprs V.expr_step termenv.now.terms (exprs_of exprs.now) tys.now [] (scope_of vars.now)
         visitor.old (listed result) visitor.new }
 {
     let mut inputs = Vec::new(alloc);
@@ -136,7 +135,7 @@ fn visit_bindings<V: ExprVisitor>(
     termenv: &TermEnv,
     vars: &HashMap<VarId, V::ExprId>,
 ) -> Result<HashMap<VarId, V::ExprId>, VisitFault>
-    ensures { visits_bindings V.expr_step (terms_of termenv.now) (bindings_of bindings.now) (scope_of vars.now)
+    ensures { visits_bindings V.expr_step termenv.now.terms (bindings_of bindings.now) (scope_of vars.now)
         visitor.old (scope_left result) visitor.new }
 {
     let mut inner = copy_of(alloc, vars)?;

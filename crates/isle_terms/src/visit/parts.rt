@@ -1,11 +1,10 @@
-ghost use Rattle.isle_terms.specs.FirstEnvironment.{terms_of};
 ghost use Rattle.isle_terms.specs.Visits.Runs.{answered};
 ghost use Rattle.isle_terms.specs.Visits.VisitScopes.{scope_of, scope_left};
 ghost use Rattle.isle_terms.specs.Visits.InternedTrees.{pattern_of};
 ghost use Rattle.isle_terms.specs.Visits.Events.{visits};
 ghost use Rattle.isle_terms.specs.Visits.RuleEvents.{visits_typed};
 
-use crate::first::env::TermEnv;
+use crate::env::TermEnv;
 use crate::rules::{Expr, Pattern};
 use crate::visit::{ExprVisitor, PatternVisitor, VisitFault};
 use isle_types::{TypeId, VarId};
@@ -25,7 +24,7 @@ pub struct PatternPart<'a, V: PatternVisitor> {
 impl<'a, V: PatternVisitor> PatternPart<'a, V> {
     /// Tells a visitor of the pattern, and hands the variables back, with those that the pattern binds.
     pub fn visit(self, visitor: &mut V) -> Result<HashMap<VarId, V::PatternId>, VisitFault>
-        ensures { visits V.pattern_step (terms_of self.entry.termenv.now) (pattern_of self.entry.pattern.now) self.entry.input
+        ensures { visits V.pattern_step self.entry.termenv.now.terms (pattern_of self.entry.pattern.now) self.entry.input
             (scope_of self.entry.vars) visitor.old (scope_left result) visitor.new }
     {
         let PatternPart {
@@ -62,7 +61,7 @@ pub struct ExprPart<'a, V: ExprVisitor> {
 impl<'a, V: ExprVisitor> ExprPart<'a, V> {
     /// Tells a visitor of the expression, and answers its type and value.
     pub fn visit(self, visitor: &mut V) -> Result<VisitedExpr<V>, VisitFault>
-        ensures { visits_typed V.expr_step (terms_of self.entry.termenv.now) self.entry.expr.now (scope_of self.entry.vars)
+        ensures { visits_typed V.expr_step self.entry.termenv.now.terms self.entry.expr.now (scope_of self.entry.vars)
             visitor.old (answered (λ visited. (visited.ty, visited.value)) result) visitor.new }
     {
         let ExprPart {

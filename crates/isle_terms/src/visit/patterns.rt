@@ -1,13 +1,12 @@
 ghost use Rattle.std.specs.Prelude.{◌≡◌, IfOk, IfErr};
 ghost use Rattle.isle_terms.specs.declared.visit.fault.VisitFault.TheVariants.{Memory};
-ghost use Rattle.isle_terms.specs.FirstEnvironment.{terms_of};
 ghost use Rattle.isle_terms.specs.Visits.Runs.{asks, on_some, stuck, listed};
 ghost use Rattle.isle_terms.specs.Visits.VisitScopes.{scope_of, with_scope};
 ghost use Rattle.isle_terms.specs.Visits.InternedTrees.{pattern_of, patterns_of, term_pattern};
 ghost use Rattle.isle_terms.specs.Visits.VisitorCalls.{opening, always_extracts};
 ghost use Rattle.isle_terms.specs.Visits.Events.{visits, visits_all, visits_each};
 
-use crate::first::env::TermEnv;
+use crate::env::TermEnv;
 use crate::rules::Pattern;
 use crate::terms::{ExtractorKind, TermKind};
 use crate::visit::scope::{bind, look_up};
@@ -45,7 +44,7 @@ fn open<V: PatternVisitor>(
     id: TermId,
     termenv: &TermEnv,
 ) -> Result<Vec<V::PatternId>, VisitFault>
-    ensures { on_some (opening (terms_of termenv.now) ty id input) (λ call. asks V.pattern_step call) stuck visitor.old (listed result) visitor.new }
+    ensures { on_some (opening termenv.now.terms ty id input) (λ call. asks V.pattern_step call) stuck visitor.old (listed result) visitor.new }
 {
     let Some(term) = termenv.get_term(id) else {
         return Err(VisitFault::Undefined);
@@ -82,7 +81,7 @@ impl Pattern {
         termenv: &TermEnv,
         vars: &mut HashMap<VarId, V::PatternId>,
     ) -> Result<(), VisitFault>
-        ensures { visits V.pattern_step (terms_of termenv.now) (pattern_of self.now) input (scope_of vars.old)
+        ensures { visits V.pattern_step termenv.now.terms (pattern_of self.now) input (scope_of vars.old)
             visitor.old (with_scope result (scope_of vars.new)) visitor.new }
     {
         match self {
@@ -129,7 +128,7 @@ fn visit_term<V: PatternVisitor>(
     termenv: &TermEnv,
     vars: &mut HashMap<VarId, V::PatternId>,
 ) -> Result<(), VisitFault>
-    ensures { visits V.pattern_step (terms_of termenv.now) (term_pattern ty id (patterns_of args.now)) input (scope_of vars.old)
+    ensures { visits V.pattern_step termenv.now.terms (term_pattern ty id (patterns_of args.now)) input (scope_of vars.old)
         visitor.old (with_scope result (scope_of vars.new)) visitor.new }
 {
     let inputs = open(alloc, visitor, input, ty, id, termenv)?;
@@ -146,7 +145,7 @@ fn visit_all<V: PatternVisitor>(
     termenv: &TermEnv,
     vars: &mut HashMap<VarId, V::PatternId>,
 ) -> Result<(), VisitFault>
-    ensures { visits_all V.pattern_step (terms_of termenv.now) (patterns_of patterns.now) inputs.now (scope_of vars.old)
+    ensures { visits_all V.pattern_step termenv.now.terms (patterns_of patterns.now) inputs.now (scope_of vars.old)
         visitor.old (with_scope result (scope_of vars.new)) visitor.new }
 {
     for i in 0..patterns.len() {
@@ -169,7 +168,7 @@ fn visit_each<V: PatternVisitor>(
     termenv: &TermEnv,
     vars: &mut HashMap<VarId, V::PatternId>,
 ) -> Result<(), VisitFault>
-    ensures { visits_each V.pattern_step (terms_of termenv.now) (patterns_of patterns.now) input (scope_of vars.old)
+    ensures { visits_each V.pattern_step termenv.now.terms (patterns_of patterns.now) input (scope_of vars.old)
         visitor.old (with_scope result (scope_of vars.new)) visitor.new }
 {
     for i in 0..patterns.len() {

@@ -1,4 +1,3 @@
-ghost use Rattle.isle_terms.specs.FirstEnvironment.{terms_of};
 ghost use Rattle.isle_terms.specs.Visits.VisitScopes.{scope_of, scope_left};
 ghost use Rattle.isle_terms.specs.Visits.InternedTrees.{pattern_of};
 ghost use Rattle.isle_terms.specs.Visits.Events.{visits};
@@ -33,12 +32,12 @@ pub trait RuleVisitor {
         &mut self,
         part: PatternPart<'_, Self::PatternVisitor>,
     ) -> Result<HashMap<VarId, <Self::PatternVisitor as PatternVisitor>::PatternId>, VisitFault>
-        ensures { in_pattern rule_steps (visits Self.PatternVisitor.pattern_step (terms_of part.entry.termenv.now)
+        ensures { in_pattern rule_steps (visits Self.PatternVisitor.pattern_step part.entry.termenv.now.terms
             (pattern_of part.entry.pattern.now) part.entry.input (scope_of part.entry.vars)) self.old (scope_left result) self.new };
 
     /// An expression, of which the part tells a visitor once.
     fn add_expr(&mut self, part: ExprPart<'_, Self::ExprVisitor>) -> Result<Self::Expr, VisitFault>
-        ensures { in_expr rule_steps (visits_typed Self.ExprVisitor.expr_step (terms_of part.entry.termenv.now)
+        ensures { in_expr rule_steps (visits_typed Self.ExprVisitor.expr_step part.entry.termenv.now.terms
             part.entry.expr.now (scope_of part.entry.vars)) self.old result self.new };
 
     /// An expression's value is to be matched.

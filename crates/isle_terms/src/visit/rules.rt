@@ -1,10 +1,9 @@
 ghost use Rattle.std.specs.Prelude.{length};
-ghost use Rattle.isle_terms.specs.FirstEnvironment.{terms_of};
 ghost use Rattle.isle_terms.specs.Visits.VisitScopes.{scope_of, scope_left, with_scope, no_values};
 ghost use Rattle.isle_terms.specs.Visits.RuleEvents.{visits_var, visits_vars, visits_part, visits_args, visits_value, visits_iflets};
 ghost use Rattle.isle_terms.specs.Visits.RuleEvents.{visits_rest, visits_rule};
 
-use crate::first::env::TermEnv;
+use crate::env::TermEnv;
 use crate::rules::{Expr, IfLet, Pattern, Rule};
 use crate::visit::scope::{bind, look_up};
 use crate::visit::{ExprPart, ExprVisitor, PatternPart, PatternVisitor, RuleVisitor, VisitFault};
@@ -21,7 +20,7 @@ fn visit_pattern<V: RuleVisitor>(
     termenv: &TermEnv,
     vars: HashMap<VarId, <V::PatternVisitor as PatternVisitor>::PatternId>,
 ) -> Result<HashMap<VarId, <V::PatternVisitor as PatternVisitor>::PatternId>, VisitFault>
-    ensures { visits_part V.rule_steps V.PatternVisitor.pattern_step (terms_of termenv.now) pattern.now input (scope_of vars)
+    ensures { visits_part V.rule_steps V.PatternVisitor.pattern_step termenv.now.terms pattern.now input (scope_of vars)
         visitor.old (scope_left result) visitor.new }
 {
     visitor.add_pattern(PatternPart {
@@ -78,7 +77,7 @@ impl Expr {
         vars: &HashMap<VarId, <V::PatternVisitor as PatternVisitor>::PatternId>,
         count: usize,
     ) -> Result<V::Expr, VisitFault>
-        ensures { visits_value V.rule_steps V.ExprVisitor.expr_step (terms_of termenv.now) count self.now (scope_of vars.now)
+        ensures { visits_value V.rule_steps V.ExprVisitor.expr_step termenv.now.terms count self.now (scope_of vars.now)
             visitor.old result visitor.new }
     {
         let values = visit_vars(alloc, visitor, vars, count)?;
@@ -99,7 +98,7 @@ fn visit_args<V: RuleVisitor>(
     visitor: &mut V,
     termenv: &TermEnv,
 ) -> Result<HashMap<VarId, <V::PatternVisitor as PatternVisitor>::PatternId>, VisitFault>
-    ensures { visits_args V.rule_steps V.PatternVisitor.pattern_step (terms_of termenv.now) args.now tys.now 0 no_values
+    ensures { visits_args V.rule_steps V.PatternVisitor.pattern_step termenv.now.terms args.now tys.now 0 no_values
         visitor.old (scope_left result) visitor.new }
 {
     let mut vars = HashMap::new(alloc);
@@ -123,7 +122,7 @@ fn visit_iflets<V: RuleVisitor>(
     vars: HashMap<VarId, <V::PatternVisitor as PatternVisitor>::PatternId>,
     count: usize,
 ) -> Result<HashMap<VarId, <V::PatternVisitor as PatternVisitor>::PatternId>, VisitFault>
-    ensures { visits_iflets V.rule_steps V.PatternVisitor.pattern_step V.ExprVisitor.expr_step (terms_of termenv.now) count iflets.now
+    ensures { visits_iflets V.rule_steps V.PatternVisitor.pattern_step V.ExprVisitor.expr_step termenv.now.terms count iflets.now
         (scope_of vars) visitor.old (scope_left result) visitor.new }
 {
     let mut vars = vars;
@@ -146,7 +145,7 @@ impl Rule {
         visitor: &mut V,
         termenv: &TermEnv,
     ) -> Result<V::Expr, VisitFault>
-        ensures { visits_rule V.rule_steps V.PatternVisitor.pattern_step V.ExprVisitor.expr_step (terms_of termenv.now) self.now
+        ensures { visits_rule V.rule_steps V.PatternVisitor.pattern_step V.ExprVisitor.expr_step termenv.now.terms self.now
             visitor.old result visitor.new }
     {
         let Some(root) = termenv.get_term(self.root_term) else {
@@ -170,7 +169,7 @@ impl Rule {
         termenv: &TermEnv,
         vars: HashMap<VarId, <V::PatternVisitor as PatternVisitor>::PatternId>,
     ) -> Result<V::Expr, VisitFault>
-        ensures { visits_rest V.rule_steps V.PatternVisitor.pattern_step V.ExprVisitor.expr_step (terms_of termenv.now) self.now
+        ensures { visits_rest V.rule_steps V.PatternVisitor.pattern_step V.ExprVisitor.expr_step termenv.now.terms self.now
             (scope_of vars) visitor.old result visitor.new }
     {
         let count = self.vars.as_slice().len();

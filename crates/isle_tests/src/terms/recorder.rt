@@ -216,7 +216,6 @@ impl ExprVisitor for Recorder {
 }
 
 impl RuleVisitor for Recorder {
-    ghost use Rattle.isle_terms.specs.FirstEnvironment.{terms_of};
     ghost use Rattle.isle_terms.specs.Visits.VisitScopes.{scope_of, scope_left};
     ghost use Rattle.isle_terms.specs.Visits.InternedTrees.{pattern_of};
     ghost use Rattle.isle_terms.specs.Visits.Events.{visits};
@@ -241,7 +240,7 @@ impl RuleVisitor for Recorder {
         &mut self,
         part: PatternPart<'_, Recorder>,
     ) -> Result<HashMap<VarId, usize>, VisitFault>
-        ensures { in_pattern itself (visits any_answer (terms_of part.entry.termenv.now) (pattern_of part.entry.pattern.now)
+        ensures { in_pattern itself (visits any_answer part.entry.termenv.now.terms (pattern_of part.entry.pattern.now)
             part.entry.input (scope_of part.entry.vars)) self.old (scope_left result) self.new }
     {
         self.note("pattern")?;
@@ -250,7 +249,7 @@ impl RuleVisitor for Recorder {
     }
 
     fn add_expr(&mut self, part: ExprPart<'_, Recorder>) -> Result<usize, VisitFault>
-        ensures { in_expr itself (visits_typed any_answer (terms_of part.entry.termenv.now) part.entry.expr.now
+        ensures { in_expr itself (visits_typed any_answer part.entry.termenv.now.terms part.entry.expr.now
             (scope_of part.entry.vars)) self.old result self.new }
     {
         self.note("expr")?;

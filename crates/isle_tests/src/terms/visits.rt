@@ -30,13 +30,14 @@ const Z: VarId = VarId(2);
 const W: VarId = VarId(3);
 
 fn termenv(alloc: Global) -> Result<TermEnv, AllocError> {
-    let Ok(defs) = parse(Lexer::new(alloc, 0, TERMS)) else {
+    let Ok(parsed) = parse(Lexer::new(alloc, 0, TERMS)) else {
         return Err(AllocError);
     };
-    let Ok(mut tyenv) = TypeEnv::from_ast(alloc, defs.as_slice()) else {
+    let defs = parsed.as_slice();
+    let Ok(mut tyenv) = TypeEnv::from_ast(alloc, defs) else {
         return Err(AllocError);
     };
-    match TermEnv::from_ast(alloc, &mut tyenv, defs.as_slice()) {
+    match TermEnv::from_ast(alloc, &mut tyenv, defs, true) {
         Ok(termenv) => Ok(termenv),
         Err(_refusal) => Err(AllocError),
     }

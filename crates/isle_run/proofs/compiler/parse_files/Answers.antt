@@ -3,6 +3,7 @@ use Rattle.std.proofs.lemmas.Result.{err_from_is_err_and}
 use Rattle.std.proofs.lemmas.List.Elements.{All-same, All-append}
 use Rattle.isle_syntax.specs.Positions.Printable.{IsPrintablePos}
 use Rattle.isle_syntax.specs.Positions.DefPositions.{DefAt}
+use Rattle.isle_syntax.specs.Trees.MacroArgs.{HasNoMacroArgs}
 use Rattle.isle_syntax.specs.Grammar.Texts.{Spells}
 use Rattle.isle_run.proofs.FirstFaults.{first_fault_alone}
 use Rattle.isle_run.proofs.SpeltFiles.{AreSpelt-pushed}
@@ -21,6 +22,10 @@ loop-file-preserved c =
     let next : IfSome (slice_get c.args.files.now c.loop-file.file)
     (λ file. Spells c.loop-file.file file.text c.in_ok-parsed.parsed.items) = search rules in
     record {
+      no_macro_args =
+          All-same HasNoMacroArgs _ _ c.in_ok-append.ensures
+          (All-append HasNoMacroArgs c.loop-file.defs.items c.in_ok-parsed.parsed.items c.loop-file.invariant.no_macro_args
+          c.in_ok-parsed.ensures.no_macro_args);
       placed =
           All-same (DefAt (IsPrintablePos c.args.files.now)) _ _ c.in_ok-append.ensures
           (All-append (DefAt (IsPrintablePos c.args.files.now)) c.loop-file.defs.items c.in_ok-parsed.parsed.items c.loop-file.invariant.placed

@@ -1,6 +1,5 @@
 use Rattle.std.proofs.Common.{Result, drop}
 use Rattle.isle_terms.specs.declared.visit.fault.VisitFault.{VisitFault}
-use Rattle.isle_terms.specs.FirstEnvironment.{terms_of}
 use Rattle.isle_terms.specs.Visits.RuleEvents.{visits_iflets}
 use Rattle.isle_terms.specs.Visits.VisitScopes.{Scope, scope_of}
 use Rattle.isle_terms.proofs.visit.rules.visit_iflets.Given as goal
@@ -9,6 +8,6 @@ abbrev pub invariant-loop-i : goal.invariant-loop-i
 invariant-loop-i g l =
     let v = g.V in
     let told = visits_iflets v.RuleVisitor.rule_steps v.PatternVisitor.PatternVisitor.pattern_step v.ExprVisitor.ExprVisitor.expr_step
-    (terms_of l.termenv) l.count in
+    l.termenv.terms l.count in
     (o : Result (Scope _) VisitFault) (s : _) → told (drop l.i l.iflets) (scope_of l.vars) l.visitor o s
     → told l.iflets (scope_of l.fn.vars) l.initial.visitor o s

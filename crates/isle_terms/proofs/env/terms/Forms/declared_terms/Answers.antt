@@ -16,6 +16,7 @@ loop-decl-preserved c =
           c.in-Ok.ensures.more.kept (c.loop-decl.invariant.0 types defs shows forms)
           (c.in-Ok.ensures.added types defs (shows_with_names c.args.tyenv.now c.loop-decl.tyenv types c.loop-decl.invariant.1 shows) forms),
       more_then c.args.tyenv.now c.loop-decl.tyenv c.add_declared.new.tyenv c.loop-decl.invariant.1 c.in-Ok.ensures.more,
+      c.in-Ok.ensures.needs c.loop-decl.invariant.2,
     )
 
 pub returns-in-Err-clause-large : goal.returns-in-Err-clause-large
@@ -44,3 +45,6 @@ returns-clause-more c = c.loop-decl.invariant.1
 
 pub returns-clause-shown : goal.returns-clause-shown
 returns-clause-shown c = λ types shows. shows_with_names c.args.tyenv.now c.loop-decl.tyenv types c.loop-decl.invariant.1 shows
+
+pub returns-clause-needs : goal.returns-clause-needs
+returns-clause-needs c = c.loop-decl.invariant.2

@@ -1,7 +1,11 @@
-use Rattle.std.proofs.Common.{List, map, take}
+use Rattle.std.proofs.Common.{List, map, take, ◌≤◌}
+use Rattle.std.specs.List.{All}
+use Rattle.std.below.core.specs.declared.int.usize.TheConstants.{MAX}
 use Rattle.isle_syntax.specs.declared.ast.Def.{Def}
 use Rattle.isle_types.specs.Environment.{Environment}
 use Rattle.isle_types.specs.TypeEnvs.{Shows, HasMoreNames}
+use Rattle.isle_terms.specs.declared.terms.Term.{Term}
+use Rattle.isle_terms.specs.Readings.Needs.{needed_of}
 use Rattle.isle_terms.specs.Collecting.ExtractorChecks.{Adds}
 use Rattle.isle_terms.specs.Collecting.DeclaredTerms.{AreFormsOf, OneNamesUnknownType, AreDeclaredTerms}
 use Rattle.isle_terms.proofs.env.terms.Forms.declared_terms.Given as goal
@@ -12,3 +16,4 @@ invariant-loop-decl l =
     → Adds (OneNamesUnknownType types (map (λ decl. decl.now) l.decls))
     (AreDeclaredTerms types defs l.tyenv.names (take l.decl-index (map (λ decl. decl.now) l.decls)) l.terms.items)
     l.initial.errors.items l.errors.items) × HasMoreNames l.initial.tyenv l.tyenv
+    × All (λ (term : Term). needed_of term ≤ MAX) l.terms.items

@@ -19,7 +19,7 @@ returns-then-place-self-clause-made c = λ defs forms.
     subst (λ made. AreShownAs (IsShownExtractor c.args.tyenv.now.names) made (Some c.in_ok-internal_extractor.field-0))
     (sym (internal_here defs c.args.name.now c.args.self.now.extractors.now (λ extractor. extractor.now) c.in-Some.place c.index-self-place.result
     (sym (c.place.ensures _ forms.extractor_table) ∙ c.in-Some.is) forms.extractors c.if-place-self.true))
-    (c.in_ok-internal_extractor.ensures c.args.tyenv.now.names)
+    (c.in_ok-internal_extractor.ensures.made c.args.tyenv.now.names)
 
 pub returns-then-place-self-2-clause-made : goal.returns-then-place-self-2-clause-made
 returns-then-place-self-2-clause-made c = λ defs forms.
