@@ -1,5 +1,5 @@
 -- The plain language, which is what is run so far: terms by rules of variants, integers, names and `_`.
-use Rattle.std.specs.Prelude.{◌==◌, ◌&&◌, Bool, true, false, List, map, length, Option, None, Some, is_none, not, pos, slice_get}
+use Rattle.std.specs.Prelude.{◌==◌, ◌&&◌, Bool, true, false, map, length, Option, None, Some, is_none, not, pos, slice_get}
 use Rattle.std.specs.List.{list_all}
 use Rattle.std.specs.Ordering.{int_eq}
 use Rattle.isle_types.specs.declared.types.BuiltinType.TheVariants.{Bool as BoolType, Int}

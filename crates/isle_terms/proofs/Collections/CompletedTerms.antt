@@ -1,5 +1,5 @@
 -- The terms of declarations, and behind them those of the types.
-use Rattle.std.proofs.Common.{◌≡◌, ℕ, zero, suc, ◌+◌, ◌≤◌, List, [], ◌∷◌, ◌++◌, length, map, Option, Some, None, arith, true, false, refl, ap, sym, subst, ◌∙◌}
+use Rattle.std.proofs.Common.{◌≡◌, ℕ, suc, ◌+◌, ◌≤◌, List, [], ◌∷◌, ◌++◌, length, map, arith, true, false, refl, ap, sym, subst, ◌∙◌}
 use Rattle.std.specs.Prelude.{All}
 use Rattle.std.specs.List.{AllZip}
 use Rattle.std.proofs.lemmas.List.Elements.{All-nil, All-cons, All-append}
@@ -18,7 +18,7 @@ use Rattle.isle_terms.specs.Readings.Needs.{needed_by, needed_of}
 use Rattle.isle_terms.specs.TermFaults.{names_of, named_terms}
 use Rattle.isle_terms.specs.Collecting.DeclaredTerms.{IsShownForm, IsShownTerm, AreDeclaredTerms, AddsTerms}
 use Rattle.isle_terms.specs.Collecting.NamedItems.{named_term}
-use Rattle.isle_terms.proofs.Collections.TypeTerms.{zipped_append, zipped_length, count_append}
+use Rattle.isle_terms.proofs.Collections.TypeTerms.{zipped_append, count_append}
 use Rattle.isle_terms.proofs.Collections.TermNames.{terms_are_named, names_of_named}
 
 -- terms show the signatures of the declarations and of the types

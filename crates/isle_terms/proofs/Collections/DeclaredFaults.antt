@@ -1,8 +1,6 @@
 -- The faults of declarations are faults of typing, and what a refusal lists.
-use Rattle.std.proofs.Common.{◌≡◌, ℕ, ◌<◌, Bool, inl, inr, List, [], ◌∷◌, ◌++◌, length, slice_get, Some, sym, subst, ap, ◌∙◌}
+use Rattle.std.proofs.Common.{◌≡◌, ℕ, ◌<◌, Bool, inl, inr, List, [], ◌∷◌, length, sym, subst, ◌∙◌}
 use Rattle.std.specs.Prelude.{All}
-use Rattle.isle_syntax.specs.declared.ast.Ident.{Ident}
-use Rattle.isle_syntax.specs.declared.ast.Decl.{Decl as DeclTree}
 use Rattle.isle_syntax.specs.declared.ast.Def.{Def}
 use Rattle.isle_syntax.specs.declared.error.Error.{Error}
 use Rattle.isle_syntax.specs.declared.lexer.Pos.{Pos}
@@ -11,10 +9,10 @@ use Rattle.isle_types.specs.TypeFaults.{IsTypeFault, IsSizeFault}
 use Rattle.isle_types.proofs.Lists.{slice_get-kept, slice_get-last}
 use Rattle.isle_types.proofs.TypeReadings.{reading_then}
 use Rattle.isle_terms.specs.Definitions.{declarations}
-use Rattle.isle_terms.specs.TermFaults.{DeclarationBreaks, unknown_type, IsLargeDeclaration}
-use Rattle.isle_terms.specs.TypingFaults.{BreaksTyping, of_declarations, ExceedsTyping, by_arguments, IsLoneSize, AreTypingFaults}
+use Rattle.isle_terms.specs.TermFaults.{DeclarationBreaks, unknown_type}
+use Rattle.isle_terms.specs.TypingFaults.{BreaksTyping, of_declarations, ExceedsTyping, by_arguments, AreTypingFaults}
 use Rattle.isle_terms.specs.Collecting.Checks.{Checks}
-use Rattle.isle_terms.specs.Collecting.DeclaredTerms.{NamesUnknownType, of_argument, of_result, OneNamesUnknownType, IsOneLargeAt, IsAlone}
+use Rattle.isle_terms.specs.Collecting.DeclaredTerms.{of_argument, of_result, OneNamesUnknownType, IsOneLargeAt, IsAlone}
 
 -- a declaration that names an unknown type breaks a rule of declarations
 unknown_breaks : (types : Environment) (defs : List Def) (at : Pos) → OneNamesUnknownType types (declarations defs) at → DeclarationBreaks types defs at

@@ -1,5 +1,5 @@
 -- The names that the definitions of each kind give.
-use Rattle.std.proofs.Common.{◌≡◌, ℕ, List, [], ◌∷◌, ◌++◌, map, length, slice_get, refl, ap, sym, subst, ◌∙◌, Bor}
+use Rattle.std.proofs.Common.{◌≡◌, ℕ, List, ◌++◌, map, length, slice_get, ap, sym, ◌∙◌, Bor}
 use Rattle.std.proofs.lemmas.Simd.{map-map}
 use Rattle.std.proofs.lemmas.List.{map-append}
 use Rattle.isle_syntax.specs.declared.ast.Ident.{Ident}
@@ -10,7 +10,6 @@ use Rattle.isle_syntax.specs.declared.lexer.Pos.{Pos}
 use Rattle.isle_types.specs.IntTypes.{builtin_names}
 use Rattle.isle_types.specs.Environment.{Environment}
 use Rattle.isle_types.proofs.Lists.{slice_get-kept}
-use Rattle.isle_terms.specs.declared.env.parts.Parts.{Parts}
 use Rattle.isle_terms.specs.declared.env.definitions.HostConstructor.{HostConstructor}
 use Rattle.isle_terms.specs.declared.env.definitions.HostExtractor.{HostExtractor}
 use Rattle.isle_terms.specs.Signatures.{Signature}
@@ -18,7 +17,6 @@ use Rattle.isle_terms.specs.Definitions.{ExternalExtractor, declarations, extrac
 use Rattle.isle_terms.specs.TermFaults.{names_of, IsTaken, named_terms, named_extractors}
 use Rattle.isle_terms.specs.Collecting.DefinitionLists.{host_constructor_shown, host_extractor_shown}
 use Rattle.isle_terms.specs.Collecting.NamedItems.{named_declaration, named_extractor, named_host_constructor, named_host_extractor}
-use Rattle.isle_terms.specs.Collecting.Parts.{ArePartsOf}
 
 -- the names of declarations with their positions
 abbrev pub declaration_pairs : List Def → List (List ℕ × Pos)

@@ -1,5 +1,5 @@
 -- Typed rules with their names complete what definitions make; their faults are faults of typing.
-use Rattle.std.proofs.Common.{◌≡◌, ℕ, ◌<◌, Bool, inl, List, [], ◌∷◌, map, length, Option, refl, ap, sym, subst, ◌∙◌}
+use Rattle.std.proofs.Common.{◌≡◌, ℕ, inl, List, [], ◌∷◌, map, length, Option, refl, ap, sym, subst, ◌∙◌}
 use Rattle.std.specs.List.{AllZip}
 use Rattle.std.proofs.lemmas.List.{length-map}
 use Rattle.isle_syntax.specs.declared.ast.Rule.{Rule as RuleTree}
@@ -11,7 +11,6 @@ use Rattle.isle_types.specs.Names.{AreDistinct}
 use Rattle.isle_types.specs.TypeTables.{TypeTables}
 use Rattle.isle_types.specs.TypeEnvs.{HasMoreNames}
 use Rattle.isle_types.proofs.TypeReadings.{reading_then}
-use Rattle.isle_terms.specs.declared.rules.Rule.{Rule}
 use Rattle.isle_terms.specs.declared.env.rule_names.NamedRules.{NamedRules}
 use Rattle.isle_terms.specs.TypedRules.{TypedRule}
 use Rattle.isle_terms.specs.Signatures.{Declared}
@@ -19,7 +18,6 @@ use Rattle.isle_terms.specs.Elaboration.{ElaboratesRule}
 use Rattle.isle_terms.specs.Definitions.{rules_in, name_of}
 use Rattle.isle_terms.specs.TypingFaults.{BreaksTyping, of_a_rule, ExceedsTyping, by_a_rule, IsLoneSize, AreTypingFaults}
 use Rattle.isle_terms.specs.Shown.TermTables.{TermTables}
-use Rattle.isle_terms.specs.Shown.RulesShown.{IsShownRule}
 use Rattle.isle_terms.specs.Collecting.Environments.{ShowsDeclaredOf, ShowsTerms}
 use Rattle.isle_terms.specs.Collecting.RuleChecks.{IsIllAmong, IsLargeAmong}
 use Rattle.isle_terms.specs.Collecting.RuleNames.{with_names, AreNamedRules}

@@ -1,9 +1,7 @@
 -- What a refusal lists means that definitions make no environment, and stands where they do.
-use Rattle.std.proofs.Common.{◌≡◌, ℕ, zero, suc, ◌<◌, Bool, inl, inr, List, [], ◌∷◌, length, arith, refl, Some, slice_get, sym, subst, ◌∙◌, ap}
+use Rattle.std.proofs.Common.{ℕ, zero, suc, Bool, inl, inr, List, [], ◌∷◌, arith, refl, sym, subst, ◌∙◌, ap}
 use Rattle.std.specs.Prelude.{All}
-use Rattle.std.specs.List.{AllZip}
 use Rattle.std.proofs.lemmas.List.Elements.{All-nil, All-cons, All-head, All-weaker}
-use Rattle.isle_syntax.specs.declared.ast.Rule.{Rule as RuleTree}
 use Rattle.isle_syntax.specs.declared.ast.Def.{Def}
 use Rattle.isle_syntax.specs.declared.lexer.Pos.{Pos}
 use Rattle.isle_syntax.specs.declared.error.Span.{Span}
@@ -12,7 +10,7 @@ use Rattle.isle_syntax.specs.declared.error.Error.TheVariants.{TypeError, SizeEr
 use Rattle.isle_syntax.specs.Errors.{ErrorAt}
 use Rattle.isle_syntax.specs.Positions.DefPositions.{DefAt, RuleAt}
 use Rattle.isle_types.specs.Environment.{Environment, Makes}
-use Rattle.isle_types.specs.TypeFaults.{IsTypeOrSize, IsTypeFault, IsSizeFault}
+use Rattle.isle_types.specs.TypeFaults.{IsTypeOrSize, IsTypeFault}
 use Rattle.isle_types.proofs.TypeReadings.{reading_then}
 use Rattle.isle_types.specs.TypeTables.{TypeTables}
 use Rattle.isle_terms.specs.TypedRules.{TypedRule}
@@ -21,7 +19,7 @@ use Rattle.isle_terms.specs.Shown.TermTables.{TermTables}
 use Rattle.isle_terms.specs.Shown.RulesShown.{IsShownRule}
 use Rattle.isle_terms.specs.Collecting.Environments.{ShowsTerms}
 use Rattle.isle_terms.specs.Definitions.{HaveTerms, rules_in, IsRuleOf, declared_by}
-use Rattle.isle_terms.specs.TypingFaults.{BreaksTyping, ExceedsTyping, IsLoneSize, AreTypingFaults}
+use Rattle.isle_terms.specs.TypingFaults.{BreaksTyping, ExceedsTyping, AreTypingFaults}
 use Rattle.isle_terms.proofs.BrokenTyping.{broken_typing_makes_none, exceeding_typing_makes_none}
 use Rattle.isle_terms.proofs.Showing.TypingPlaces.{breaks_at, exceeds_at, made_types_at, Each, each_related, rules_at}
 

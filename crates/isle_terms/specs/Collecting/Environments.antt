@@ -1,5 +1,5 @@
 -- The environment of terms that definitions make, before and after its rules are typed.
-use Rattle.std.specs.Prelude.{◌≡◌, ◌≤◌, ℕ, Bool, List, length, All}
+use Rattle.std.specs.Prelude.{◌≡◌, ◌≤◌, ℕ, List, length, All}
 use Rattle.std.specs.List.{AllZip}
 use Rattle.std.specs.Option.{option_map, option_and_then}
 use Rattle.isle_syntax.specs.declared.ast.Decl.{Decl as DeclTree}

@@ -1,20 +1,16 @@
 -- The terms that definitions make, as the code has them.
-use Rattle.std.specs.Prelude.{◌≤◌, ◌⊎◌, ◌<◌, ℕ, Bool, List, length, All}
+use Rattle.std.specs.Prelude.{◌≤◌, ℕ, List, length, All}
 use Rattle.std.specs.List.{AllZip}
 use Rattle.isle_syntax.specs.declared.ast.Decl.{Decl as DeclTree}
 use Rattle.isle_syntax.specs.declared.ast.Def.{Def}
-use Rattle.isle_syntax.specs.declared.error.Error.{Error}
 use Rattle.isle_types.specs.declared.ids.TypeId.{TypeId}
 use Rattle.isle_types.specs.declared.ids.TermId.{TermId}
 use Rattle.isle_types.specs.Environment.{Environment}
 use Rattle.isle_types.specs.TypeEnvs.{CountUp}
-use Rattle.isle_types.specs.TypeFaults.{IsTypeFault}
 use Rattle.isle_terms.specs.declared.terms.Term.{Term}
 use Rattle.isle_terms.specs.declared.env.stages.MadeTerms.{MadeTerms}
 use Rattle.isle_terms.specs.Signatures.{Signature}
 use Rattle.isle_terms.specs.Definitions.{declarations, AreTerms, names_of_terms, KeepExtractorRules, IsDefined}
-use Rattle.isle_terms.specs.TypingFaults.{BreaksTyping, ExceedsTyping}
-use Rattle.isle_terms.specs.Readings.Needs.{needed_of}
 use Rattle.isle_terms.specs.Collecting.NameTables.{IsTableOf}
 use Rattle.isle_terms.specs.Collecting.DeclaredTerms.{IsShownTerm}
 use Rattle.isle_terms.specs.Collecting.ReadConverters.{AreReadConverters}

@@ -1,8 +1,7 @@
-use Rattle.std.proofs.Common.{◌≡◌, ◌∙◌, ap, subst, List, map, Bor}
+use Rattle.std.proofs.Common.{◌∙◌, ap, subst, map, Bor}
 use Rattle.isle_syntax.specs.declared.ast.Rule.{Rule as RuleTree}
 use Rattle.isle_syntax.specs.Errors.{IfFault}
 use Rattle.isle_terms.specs.declared.env.from_ast.TheConstants.{MAX_LEVELS, MAX_NODES}
-use Rattle.isle_terms.specs.Definitions.{rules_in, name_of}
 use Rattle.isle_terms.specs.TypingFaults.{AreTypingFaults}
 use Rattle.isle_terms.specs.Collecting.NamedItems.{name_shown}
 use Rattle.isle_terms.proofs.env.TermEnv.collect.Goals as goal

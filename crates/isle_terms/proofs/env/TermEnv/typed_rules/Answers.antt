@@ -1,17 +1,13 @@
-use Rattle.std.proofs.Common.{◌≡◌, ◌∙◌, ap, sym, subst, List, [], map, Bor}
+use Rattle.std.proofs.Common.{◌∙◌, ap, sym, subst, map, Bor}
 use Rattle.std.specs.Prelude.{All}
 use Rattle.std.specs.List.{AllZip}
 use Rattle.isle_syntax.specs.declared.ast.Rule.{Rule as RuleTree}
-use Rattle.isle_syntax.specs.declared.ast.Def.{Def}
 use Rattle.isle_types.proofs.Tables.{more_then}
 use Rattle.isle_terms.specs.Elaboration.{ElaboratesRule}
-use Rattle.isle_terms.specs.Definitions.{rules_in, name_of}
-use Rattle.isle_terms.specs.TypingFaults.{BreaksTyping, IsLoneSize}
+use Rattle.isle_terms.specs.TypingFaults.{IsLoneSize}
 use Rattle.isle_terms.specs.Shown.RulesShown.{IsShownRule}
-use Rattle.isle_terms.specs.Collecting.Checks.{Checks}
 use Rattle.isle_terms.specs.Collecting.NamedItems.{name_shown}
-use Rattle.isle_terms.specs.Collecting.Parts.{ArePartsOf}
-use Rattle.isle_terms.specs.Collecting.RuleChecks.{HasSomeRoot, IsIllAmong, IsLargeAmong, AreTyped}
+use Rattle.isle_terms.specs.Collecting.RuleChecks.{HasSomeRoot, IsIllAmong, IsLargeAmong}
 use Rattle.isle_terms.specs.Collecting.RuleNames.{with_names, AreNamedRules}
 use Rattle.isle_terms.specs.declared.env.from_ast.TheConstants.{MAX_LEVELS, MAX_NODES}
 use Rattle.isle_terms.proofs.Collections.Answered.{fault_then}

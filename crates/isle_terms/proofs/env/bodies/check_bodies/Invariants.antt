@@ -1,4 +1,4 @@
-use Rattle.std.proofs.Common.{◌≡◌, ℕ, List, take}
+use Rattle.std.proofs.Common.{ℕ, List, take}
 use Rattle.std.specs.Prelude.{All}
 use Rattle.isle_terms.specs.Collecting.NameTables.{IsTableOf}
 use Rattle.isle_terms.specs.Collecting.ExtractorChecks.{Adds}

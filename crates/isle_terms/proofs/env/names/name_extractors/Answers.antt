@@ -1,4 +1,4 @@
-use Rattle.std.proofs.Common.{◌≡◌, ◌∙◌, ◌++◌, ap, subst, List, ℕ, map, Bor}
+use Rattle.std.proofs.Common.{◌≡◌, ◌∙◌, ◌++◌, ap, subst, List, map, Bor}
 use Rattle.std.specs.Prelude.{IfOk, OnOk}
 use Rattle.isle_syntax.specs.declared.ast.Extractor.{Extractor as ExtractorTree}
 use Rattle.isle_syntax.specs.declared.ast.Def.{Def}

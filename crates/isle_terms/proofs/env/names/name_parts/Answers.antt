@@ -1,4 +1,3 @@
-use Rattle.std.proofs.Common.{refl}
 use Rattle.isle_terms.proofs.Collections.Checking.{check_both}
 use Rattle.isle_terms.proofs.Collections.CheckedTyping.{checks_wider}
 use Rattle.isle_terms.proofs.env.names.name_parts.Goals as goal

@@ -1,4 +1,4 @@
-use Rattle.std.proofs.Common.{◌≡◌, ◌∙◌, ap, subst, List, map, Bor}
+use Rattle.std.proofs.Common.{◌∙◌, ap, subst, map, Bor}
 use Rattle.isle_syntax.specs.declared.ast.Decl.{Decl as DeclTree}
 use Rattle.isle_syntax.specs.declared.ast.Extractor.{Extractor as ExtractorTree}
 use Rattle.isle_terms.specs.Definitions.{ExternalExtractor, declared_names, extractors_in, names_of_terms}

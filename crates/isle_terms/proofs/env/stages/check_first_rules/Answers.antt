@@ -1,5 +1,4 @@
-use Rattle.std.proofs.Common.{◌≡◌, ◌∙◌, ap, subst, List, map, Bor}
-use Rattle.std.specs.Prelude.{OnOk}
+use Rattle.std.proofs.Common.{◌∙◌, ap, subst, map, Bor}
 use Rattle.isle_syntax.specs.declared.ast.Ident.{Ident}
 use Rattle.isle_syntax.specs.declared.ast.Decl.{Decl as DeclTree}
 use Rattle.isle_syntax.specs.declared.ast.Rule.{Rule as RuleTree}

@@ -1,8 +1,8 @@
-use Rattle.std.proofs.Common.{◌≡◌, ◌∙◌, ap, subst, List, map, Bor}
+use Rattle.std.proofs.Common.{◌∙◌, ap, subst, map, Bor}
 use Rattle.isle_syntax.specs.declared.ast.Decl.{Decl as DeclTree}
 use Rattle.isle_syntax.specs.declared.ast.Converter.{Converter as ConverterTree}
 use Rattle.isle_terms.specs.Definitions.{roots_of, rules_in, external_constructor_names, extractor_names}
-use Rattle.isle_terms.specs.Collecting.Checks.{Checks, ChecksEach}
+use Rattle.isle_terms.specs.Collecting.Checks.{ChecksEach}
 use Rattle.isle_terms.specs.Collecting.DefinitionChecks.{is_unused}
 use Rattle.isle_terms.proofs.Collections.LaterRules.{later_rules_checked}
 use Rattle.isle_terms.proofs.env.stages.check_terms.Goals as goal

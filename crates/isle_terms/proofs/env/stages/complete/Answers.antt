@@ -1,16 +1,12 @@
-use Rattle.std.proofs.Common.{◌≡◌, ◌∙◌, ◌<◌, ap, sym, subst, List, [], map, length}
+use Rattle.std.proofs.Common.{◌≡◌, ◌∙◌, ap, sym, subst, map}
 use Rattle.std.specs.List.{AllZip}
-use Rattle.isle_syntax.specs.declared.ast.Def.{Def}
-use Rattle.isle_types.specs.IntTypes.{builtin_names}
 use Rattle.isle_types.specs.Names.{AreDistinct}
-use Rattle.isle_types.specs.Environment.{Environment}
-use Rattle.isle_terms.specs.Signatures.{Signature}
 use Rattle.isle_terms.specs.TermFaults.{names_of, IsTaken, named_terms, term_twice}
 use Rattle.isle_terms.specs.TypingFaults.{of_declarations}
 use Rattle.isle_terms.specs.Collecting.Checks.{Checks}
 use Rattle.isle_terms.specs.Collecting.NameTables.{IsTableOf}
 use Rattle.isle_terms.specs.Collecting.DeclaredTerms.{IsShownTerm}
-use Rattle.isle_terms.specs.Collecting.NamedItems.{named_shown, named_term}
+use Rattle.isle_terms.specs.Collecting.NamedItems.{named_shown}
 use Rattle.isle_terms.proofs.Collections.Answered.{fault_then}
 use Rattle.isle_terms.proofs.Collections.CheckedTyping.{checks_wider}
 use Rattle.isle_terms.proofs.Collections.CompletedTerms.{completed, terms_made, completed_names, needs_kept}

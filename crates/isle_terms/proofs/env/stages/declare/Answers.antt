@@ -1,10 +1,7 @@
-use Rattle.std.proofs.Common.{◌≡◌, ◌∙◌, ap, subst, List, map, Bor}
-use Rattle.std.specs.Prelude.{IfErr}
+use Rattle.std.proofs.Common.{◌∙◌, ap, subst, map, Bor}
 use Rattle.isle_syntax.specs.declared.ast.Decl.{Decl as DeclTree}
 use Rattle.isle_syntax.specs.declared.ast.Extractor.{Extractor as ExtractorTree}
-use Rattle.isle_syntax.specs.Errors.{IfFault}
 use Rattle.isle_types.specs.TypeFaults.{IsSizeFault}
-use Rattle.isle_terms.specs.Definitions.{declarations}
 use Rattle.isle_terms.specs.Collecting.Checks.{Checks}
 use Rattle.isle_terms.specs.Collecting.DefinitionLists.{host_constructor_shown, host_extractor_shown}
 use Rattle.isle_terms.specs.Collecting.DeclaredTerms.{OneNamesUnknownType, AreDeclaredTerms, IsAlone, IsOneLargeAt}
