@@ -31,7 +31,7 @@ install: build
 replay: build
 	$(MAKE) commands
 
-# Times reading, typing and formatting generated files, and a sorted map.
+# Times reading, typing, compiling and formatting generated files, and a sorted map.
 bench: build
 	cd crates/isle_bench && rt run < stdin
 	python3 tools/bench.py crates/isle_bench/out/isle_bench $(PROGRAM)

@@ -1,4 +1,4 @@
-"""Times reading and formatting generated rule files, typing their types, and a sorted map: MB a second, and the most
+"""Times reading, typing and formatting generated rule files, and a sorted map: MB a second, and the most
 memory it took.
 
     bench.py ISLE_BENCH ISLEC
@@ -40,6 +40,37 @@ def enums(number, variants):
     return "".join(parts)
 
 
+# A rule of a backend's style: an extractor that is put in twice, a clause, a converter and a `let`.
+TYPED = """(rule r{i} {i} (lower (op{o} x (op{p} y z)))
+  (if-let c (small z))
+  (let ((a Reg x) (b Reg (emit (Opcode.Op{p}) y a))) (emit_imm (Opcode.Op{o}) b c)))
+"""
+
+TERMS = """(type Value (primitive Value)) (type Reg (primitive Reg))
+(type InstData (enum (Binary (op Opcode) (a Value) (b Value)) (Unary (op Opcode) (a Value))))
+(decl inst_data (InstData) Value) (extern extractor inst_data inst_data)
+(decl pure partial small (Value) u64) (extern constructor small small)
+(decl put (Value) Reg) (extern constructor put put) (convert Value Reg put)
+(decl emit (Opcode Reg Reg) Reg) (extern constructor emit emit)
+(decl emit_imm (Opcode Reg u64) Reg) (extern constructor emit_imm emit_imm)
+(decl partial lower (Value) Reg)
+"""
+
+OPCODES = 200
+
+ISLEC = os.path.abspath(sys.argv[2])
+
+
+def typed_rules(number):
+    """A text of so many rules of one term, over 200 opcodes with an extractor each."""
+    parts = [TERMS, "(type Opcode (enum " + " ".join(f"Op{i}" for i in range(OPCODES)) + "))\n"]
+    for i in range(OPCODES):
+        parts.append(f"(decl op{i} (Value Value) Value)\n")
+        parts.append(f"(extractor (op{i} a b) (inst_data (InstData.Binary (Opcode.Op{i}) a b)))\n")
+    parts.extend(TYPED.format(i=i, o=i % OPCODES, p=i * 7 % OPCODES) for i in range(number))
+    return "".join(parts)
+
+
 def keys(number, mixed):
     """So many keys, each on a line, in descending or in mixed order."""
     ordered = list(range(number, 0, -1))
@@ -69,7 +100,9 @@ def measure(title, words, text, check):
     with tempfile.NamedTemporaryFile("w", suffix=".isle") as file:
         file.write(text)
         file.flush()
-        runs = [timed([*words, *([file.name] if "fmt" in words else [])], file.name) for _ in range(3)]
+        named = [file.name] if words[0] == ISLEC else []
+        source = os.devnull if "run" in words else file.name
+        runs = [timed([*words, *named], source) for _ in range(3)]
     seconds, memory, printed = min(runs)
     if not check(printed):
         sys.exit(f"{title}: {printed[:80]}")
@@ -77,12 +110,14 @@ def measure(title, words, text, check):
 
 
 def main():
-    bench, islec = (os.path.abspath(it) for it in sys.argv[1:3])
+    bench, islec = os.path.abspath(sys.argv[1]), ISLEC
     for megabytes in (2, 4, 8):
         text, number = rules(megabytes * 1_000_000)
         measure(f"read {megabytes} MB", [bench], text, lambda it: it == f"{number}\n")
     for number in (500, 1_000, 2_000):
         measure(f"type {number:,} enums of 50 variants", [bench, "types"], enums(number, 50), lambda it: it == f"{number + 13}\n")
+    for number in (5_000, 10_000, 20_000):
+        measure(f"compile {number:,} rules", [islec, "run"], typed_rules(number), lambda it: it == "")
     for number in (16_384, 65_536):
         for order in ("descending", "mixed"):
             text = keys(number, order == "mixed")
