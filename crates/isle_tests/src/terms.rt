@@ -1,2 +1,3 @@
 mod recorder;
+pub mod signatures;
 pub mod visits;

@@ -29,8 +29,9 @@ const Z: VarId = VarId(2);
 
 const W: VarId = VarId(3);
 
-fn termenv(alloc: Global) -> Result<TermEnv, AllocError> {
-    let Ok(parsed) = parse(Lexer::new(alloc, 0, TERMS)) else {
+/// The environments of the definitions of a text.
+pub fn environments(alloc: Global, text: &str) -> Result<(TypeEnv, TermEnv), AllocError> {
+    let Ok(parsed) = parse(Lexer::new(alloc, 0, text)) else {
         return Err(AllocError);
     };
     let defs = parsed.as_slice();
@@ -38,9 +39,14 @@ fn termenv(alloc: Global) -> Result<TermEnv, AllocError> {
         return Err(AllocError);
     };
     match TermEnv::from_ast(alloc, &mut tyenv, defs, true) {
-        Ok(termenv) => Ok(termenv),
+        Ok(termenv) => Ok((tyenv, termenv)),
         Err(_refusal) => Err(AllocError),
     }
+}
+
+fn termenv(alloc: Global) -> Result<TermEnv, AllocError> {
+    let (_tyenv, termenv) = environments(alloc, TERMS)?;
+    Ok(termenv)
 }
 
 fn bind(alloc: Global, ty: TypeId, var: VarId, sub: Pattern) -> Result<Pattern, AllocError> {

@@ -1,5 +1,5 @@
 use Rattle.isle_terms.proofs.PlainTemplates.{plain_templates}
-use Rattle.isle_tests.proofs.terms.visits.termenv.Goals as goal
+use Rattle.isle_tests.proofs.terms.visits.environments.Goals as goal
 
 pub from_ast-requires-2 : goal.from_ast-requires-2
 from_ast-requires-2 c = record {
