@@ -44,6 +44,13 @@ impl<T: Drop> Boxed<T> {
             inner: Box::new(alloc, value)?,
         })
     }
+
+    /// Another value in memory of its own, which comes from where this one's does.
+    pub fn new_beside(&self, value: T) -> Result<Boxed<T>, AllocError>
+        ensures { IfOk result (λ boxed. boxed ≡ value) }
+    {
+        Boxed::new(*Box::allocator(&self.inner), value)
+    }
 }
 
 impl<T: PartialEq> PartialEq for Boxed<T> {

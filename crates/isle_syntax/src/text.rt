@@ -174,4 +174,11 @@ impl<T> Seq<T> {
         let Seq { items } = self;
         items
     }
+
+    /// An empty `Vec` whose memory comes from where this list's does, for a copy of it.
+    pub fn empty_beside(&self) -> Vec<T>
+        ensures { result.items ≡ [] }
+    {
+        Vec::new(*self.items.allocator())
+    }
 }
