@@ -1,0 +1,8 @@
+-- Numbers that stand for fields and for sites.
+pub mod Numbers
+-- What a site is made of, and which term it calls.
+pub mod Bindings
+-- What tests make, and what they can't meet.
+pub mod Constraints
+-- How sites and tests are ordered.
+pub mod Orders

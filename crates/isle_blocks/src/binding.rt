@@ -1,0 +1,130 @@
+ghost use Rattle.std.specs.Prelude.{◌≡◌};
+ghost use Rattle.isle_blocks.specs.Bindings.{sources_of, MakesKnownVariant, term_of};
+
+use crate::ids::{BindingId, TupleIndex};
+use isle_syntax::Seq;
+use isle_terms::TermEnv;
+use isle_types::{Sym, TermId, TypeEnv, TypeId, VariantId};
+use std::slice;
+
+/// A site: a value that a rule tests or makes. Its parts are sites of the same rule set, by their numbers.
+#[derive(Debug, Clone, PartialEq, Eq, PartialOrd, Ord, Drop)]
+pub enum Binding {
+    /// A truth value.
+    ConstBool {
+        val: bool,
+        ty: TypeId,
+    },
+    /// An integer literal.
+    ConstInt {
+        val: i128,
+        ty: TypeId,
+    },
+    /// A constant of the host.
+    ConstPrim {
+        val: Sym,
+    },
+    /// An argument of the rules' term, by its place.
+    Argument {
+        index: TupleIndex,
+    },
+    /// What an external extractor gives of a value.
+    Extractor {
+        term: TermId,
+        parameter: BindingId,
+    },
+    /// A call of a constructor. `instance` is 0 for a pure call, and counts a rule's impure calls from 1.
+    Constructor {
+        term: TermId,
+        parameters: Seq<BindingId>,
+        instance: u32,
+    },
+    /// One value of a call that may answer any number.
+    Iterator {
+        source: BindingId,
+    },
+    /// A variant that is made of its fields.
+    MakeVariant {
+        ty: TypeId,
+        variant: VariantId,
+        fields: Seq<BindingId>,
+    },
+    /// A field of a value that is such a variant.
+    MatchVariant {
+        source: BindingId,
+        variant: VariantId,
+        field: TupleIndex,
+    },
+    /// A struct that is made of its fields.
+    MakeStruct {
+        ty: TypeId,
+        fields: Seq<BindingId>,
+    },
+    /// A field of a struct.
+    ExtractStruct {
+        source: BindingId,
+        field: TupleIndex,
+    },
+    /// An option with something in it.
+    MakeSome {
+        inner: BindingId,
+    },
+    /// What is in an option.
+    MatchSome {
+        source: BindingId,
+    },
+    /// An output of a tuple.
+    MatchTuple {
+        source: BindingId,
+        field: TupleIndex,
+    },
+}
+
+impl Binding {
+    /// Its parts, in order.
+    pub fn sources(&self) -> &[BindingId]
+        ensures { result.now ≡ sources_of self.now }
+    {
+        match self {
+            Binding::ConstBool { .. } => &[],
+            Binding::ConstInt { .. } => &[],
+            Binding::ConstPrim { .. } => &[],
+            Binding::Argument { .. } => &[],
+            Binding::Extractor { parameter, .. } => slice::from_ref(parameter),
+            Binding::Constructor { parameters, .. } => parameters.as_slice(),
+            Binding::Iterator { source } => slice::from_ref(source),
+            Binding::MakeVariant { fields, .. } => fields.as_slice(),
+            Binding::MatchVariant { source, .. } => slice::from_ref(source),
+            Binding::MakeStruct { fields, .. } => fields.as_slice(),
+            Binding::ExtractStruct { source, .. } => slice::from_ref(source),
+            Binding::MakeSome { inner } => slice::from_ref(inner),
+            Binding::MatchSome { source } => slice::from_ref(source),
+            Binding::MatchTuple { source, .. } => slice::from_ref(source),
+        }
+    }
+
+    /// The term that is called, or the term of the variant that is made; that variant is one of its type.
+    pub fn term(&self, tyenv: &TypeEnv, termenv: &TermEnv) -> Option<TermId>
+        requires { MakesKnownVariant tyenv.now termenv.now self.now }
+        ensures { result ≡ term_of tyenv.now termenv.now self.now }
+    {
+        match self {
+            Binding::ConstBool { .. } => None,
+            Binding::ConstInt { .. } => None,
+            Binding::ConstPrim { .. } => None,
+            Binding::Argument { .. } => None,
+            Binding::Extractor { term, .. } => Some(*term),
+            Binding::Constructor { term, .. } => Some(*term),
+            Binding::Iterator { .. } => None,
+            Binding::MakeVariant { ty, variant, .. } => {
+                Some(termenv.get_variant_term(tyenv, *ty, *variant))
+            }
+            Binding::MatchVariant { .. } => None,
+            Binding::MakeStruct { .. } => None,
+            Binding::ExtractStruct { .. } => None,
+            Binding::MakeSome { .. } => None,
+            Binding::MatchSome { .. } => None,
+            Binding::MatchTuple { .. } => None,
+        }
+    }
+}

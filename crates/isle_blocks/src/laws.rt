@@ -1,0 +1,40 @@
+//! What holds of sites, tests and their numbers: public functions with nothing to do, whose contracts are the laws.
+ghost use Rattle.std.specs.Prelude.{◌≡◌, ◌↔◌, true};
+ghost use Rattle.std.specs.Prelude.{nat_eq};
+ghost use Rattle.std.specs.Ordering.{nat_cmp};
+ghost use Rattle.isle_blocks.specs.declared.ids.TupleIndex.{TupleIndex};
+ghost use Rattle.isle_blocks.specs.declared.ids.BindingId.{BindingId};
+ghost use Rattle.isle_blocks.specs.declared.binding.Binding.{Binding as Site};
+ghost use Rattle.isle_blocks.specs.declared.constraint.Constraint.{Constraint as Test};
+ghost use Rattle.isle_blocks.specs.Orders.{binding_order, constraint_order};
+
+use crate::binding::Binding;
+use crate::constraint::Constraint;
+use crate::ids::{BindingId, TupleIndex};
+
+/// `TupleIndex`es are compared and hashed as their numbers.
+pub fn tuple_indices_are_numbers()
+    ensures equality { (a b : TupleIndex) → ⟦<TupleIndex as PartialEq>⟧.eq a b ≡ nat_eq a.0 b.0 }
+    ensures order { (a b : TupleIndex) → ⟦<TupleIndex as Ord>⟧.cmp a b ≡ nat_cmp a.0 b.0 }
+{}
+
+/// `BindingId`s are compared and hashed as their numbers.
+pub fn binding_ids_are_numbers()
+    ensures equality { (a b : BindingId) → ⟦<BindingId as PartialEq>⟧.eq a b ≡ nat_eq a.0 b.0 }
+    ensures order { (a b : BindingId) → ⟦<BindingId as Ord>⟧.cmp a b ≡ nat_cmp a.0 b.0 }
+{}
+
+/// Sites are ordered by kind, then by their fields in order.
+pub fn bindings_are_ordered()
+    ensures { (a b : Site) → ⟦<Binding as Ord>⟧.cmp a b ≡ binding_order a b }
+{}
+
+/// Tests are ordered by kind, then by their fields in order.
+pub fn constraints_are_ordered()
+    ensures { (a b : Test) → ⟦<Constraint as Ord>⟧.cmp a b ≡ constraint_order a b }
+{}
+
+/// Two tests are equal where they are one.
+pub fn equal_constraints_are_one()
+    ensures { (a b : Test) → (⟦<Constraint as PartialEq>⟧.eq a b ≡ true) ↔ (a ≡ b) }
+{}
