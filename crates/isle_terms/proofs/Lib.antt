@@ -34,3 +34,5 @@ pub mod Steps
 pub mod Showing
 -- What texts spell has plain templates.
 pub mod PlainTemplates
+-- Worked cases with literal values.
+pub mod Cases
