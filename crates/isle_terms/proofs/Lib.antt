@@ -34,3 +34,5 @@ pub mod Steps
 pub mod Showing
 -- What texts spell has plain templates.
 pub mod PlainTemplates
+-- Every typed rule is well typed, and keeps scopes.
+pub mod Sound
