@@ -6,5 +6,11 @@ pub mod PatternTypes
 pub mod ExprTypes
 -- Rules stand for well-typed ones.
 pub mod RuleTypes
--- Worked cases.
-pub mod Cases
+-- Patterns stand for ones that bind variables in order.
+pub mod PatternScopes
+-- Expressions stand for ones that use and bind variables in order.
+pub mod ExprScopes
+-- Rules stand for ones that bind variables in order.
+pub mod RuleScopes
+-- Worked cases: literal rules that are well typed and keep scopes, and some that don't.
+mod Cases

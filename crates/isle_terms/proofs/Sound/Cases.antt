@@ -44,7 +44,7 @@ twice = record {
   name = None;
 }
 
-pub twice_typed : IsTypedRule declared twice
+twice_typed : IsTypedRule declared twice
 twice_typed = record {
   root = _;
   flags = no_flags;

@@ -1,4 +1,3 @@
-use Rattle.isle_terms.proofs.Sound.Cases.{twice_typed}
 use Rattle.isle_terms.proofs.Sound.RuleTypes.{rules_typed}
 use Rattle.isle_terms.proofs.laws.rules_of_definitions_are_typed.Goals as goal
 
