@@ -1,5 +1,5 @@
 -- Worked cases: literal rules that are well typed and keep scopes, and some that don't.
-use Rattle.std.proofs.Common.{◌≡◌, ℕ, pos, true, false, List, [], ◌∷◌, None, Some, refl, ap, codes, inl, arith}
+use Rattle.std.proofs.Common.{ℕ, pos, true, false, List, [], ◌∷◌, None, Some, refl, ap, codes, inl, arith}
 use Rattle.isle_syntax.specs.declared.lexer.Pos.{Pos}
 use Rattle.isle_types.specs.declared.types.IntType.TheVariants.{U8}
 use Rattle.isle_terms.specs.TypedRules.{typed_bind, typed_var, typed_int, typed_term, typed_wildcard, no_typed, more_typed, built_var, built_int}

@@ -1,11 +1,11 @@
 -- Expressions stand for ones that use and bind variables in order.
-use Rattle.std.proofs.Common.{◌≡◌, ℕ, zero, suc, inl, inr, List, [], ◌∷◌, length, Option, Some, None, refl, sym, subst, ◌∙◌, ap}
+use Rattle.std.proofs.Common.{◌≡◌, ℕ, zero, suc, inl, inr, List, [], ◌∷◌, length, Option, Some, refl, subst, ◌∙◌, ap}
 use Rattle.isle_syntax.specs.Trees.ExprTree.{ExprTree, ExprTrees, LetTrees, expr_term, expr_var, expr_bool, expr_int, expr_prim, expr_let}
 use Rattle.isle_syntax.specs.Trees.ExprTree.{no_exprs, more_exprs, no_lets, more_lets}
 use Rattle.isle_terms.specs.TypedRules.{TypedExpr, TypedExprs, TypedBindings}
 use Rattle.isle_terms.specs.Signatures.{Flags, Declared}
 use Rattle.isle_terms.specs.Elaboration.{State, counted, bound, ExprJudgement, EachExpr, Binds, ExprNode, Builds}
-use Rattle.isle_terms.specs.SoundRules.KeptScopes.{Scope, with_next, counting, ExprUses, ExprsUse, BindingsAdd}
+use Rattle.isle_terms.specs.SoundRules.KeptScopes.{with_next, counting, ExprUses, ExprsUse, BindingsAdd}
 use Rattle.isle_terms.proofs.Sound.ExprTypes.{TypesExprs, exprs_typed}
 use Rattle.isle_terms.proofs.Sound.PatternScopes.{variables_of, scope_of, next_scope, seen_usable}
 

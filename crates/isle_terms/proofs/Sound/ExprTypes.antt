@@ -1,11 +1,11 @@
 -- Expressions stand for well-typed ones.
-use Rattle.std.proofs.Common.{◌≡◌, ℕ, zero, suc, inl, inr, true, List, [], ◌∷◌, length, Option, Some, None, slice_get, refl, ap, sym, subst, ◌∙◌}
+use Rattle.std.proofs.Common.{◌≡◌, ℕ, zero, suc, inl, inr, List, [], ◌∷◌, Option, Some, refl, ap, sym, subst, ◌∙◌}
 use Rattle.isle_syntax.specs.Trees.ExprTree.{ExprTree, ExprTrees, LetTrees, expr_term, expr_var, expr_bool, expr_int, expr_prim, expr_let}
 use Rattle.isle_syntax.specs.Trees.ExprTree.{no_exprs, more_exprs, no_lets, more_lets}
 use Rattle.isle_terms.specs.TypedRules.{TypedExpr, TypedExprs, TypedBindings, built_at, Variable}
-use Rattle.isle_terms.specs.Signatures.{Flags, Signature, Declared}
-use Rattle.isle_terms.specs.Elaboration.{State, counted, bound, Visible, IsExpected, ExprJudgement, EachExpr, Binds, ExprNode, Builds}
-use Rattle.isle_terms.specs.SoundRules.WellTyped.{HasType, CallsTerm, IsTypedExpr, AreTypedExprs, AreTypedBindings}
+use Rattle.isle_terms.specs.Signatures.{Flags, Declared}
+use Rattle.isle_terms.specs.Elaboration.{State, counted, bound, IsExpected, ExprJudgement, EachExpr, Binds, ExprNode, Builds}
+use Rattle.isle_terms.specs.SoundRules.WellTyped.{IsTypedExpr, AreTypedExprs, AreTypedBindings}
 use Rattle.isle_terms.proofs.Sound.GrowingVariables.{Extends, same_extends, bound_extends, bound_has_type, AreTyped, seen_typed}
 
 -- a judgement of expressions only adds variables, keeps the names, and makes expressions that are well typed, of the

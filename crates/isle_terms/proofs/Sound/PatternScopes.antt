@@ -1,5 +1,5 @@
 -- Patterns stand for ones that bind variables in order.
-use Rattle.std.proofs.Common.{◌≡◌, ℕ, zero, suc, ◌+◌, inl, inr, Bool, true, false, List, [], ◌∷◌, length, map, Option, Some, None, refl, ap, subst}
+use Rattle.std.proofs.Common.{◌≡◌, ℕ, zero, suc, inl, inr, Bool, true, false, List, [], ◌∷◌, length, map, Option, Some, None, refl, ap}
 use Rattle.std.specs.Str.{bytes_eq}
 use Rattle.std.proofs.lemmas.List.{length-append}
 use Rattle.std.proofs.lemmas.Option.{none-some, same_Some}
@@ -22,7 +22,8 @@ scope_of s = record { usable = variables_of s.scope; count = length s.variables 
 -- a name more is the next variable
 pub next_scope : (s : State) (name : List ℕ) (ty : ℕ) → scope_of (bound s name ty) ≡ with_next (scope_of s)
 next_scope s name ty =
-    ap (λ n. record { usable = length s.variables ∷ variables_of s.scope; count = n }) (length-append s.variables (record { name = name; type = ty } ∷ []))
+    ap (λ n. record { usable = length s.variables ∷ variables_of s.scope; count = n })
+    (length-append s.variables (record { name = name; type = ty } ∷ []))
 
 -- the variable of a name can be used
 pub seen_usable : (scope : List Visible) (name : List ℕ) (seen : Visible) → visible_in scope name ≡ Some seen
@@ -37,7 +38,8 @@ seen_usable (first ∷ others) name seen e = by_test (bytes_eq first.name name) 
 
 -- a judgement makes patterns that bind variables in order
 abbrev pub BindsInOrder : PatternJudgement → Type 0
-BindsInOrder R = (t : PatternTree) (ty : ℕ) (s : State) (u : TypedPattern) (s' : State) → R t ty s u s' → PatternBinds u (scope_of s) (scope_of s')
+BindsInOrder R = (t : PatternTree) (ty : ℕ) (s : State) (u : TypedPattern) (s' : State) → R t ty s u s'
+    → PatternBinds u (scope_of s) (scope_of s')
 
 module _ (declared : Declared) (R : PatternJudgement) (c : BindsInOrder R) where
   pub each_binds : (ts : PatternTrees) (tys : List ℕ) (s : State) (us : TypedPatterns) (s' : State) → EachPattern R ts tys s us s'

@@ -1,11 +1,11 @@
 -- Patterns stand for well-typed ones.
-use Rattle.std.proofs.Common.{◌≡◌, ℕ, zero, suc, inl, inr, true, List, [], ◌∷◌, length, Option, Some, None, slice_get, refl, sym, subst}
+use Rattle.std.proofs.Common.{◌≡◌, ℕ, zero, suc, inl, inr, true, List, [], ◌∷◌, Option, Some, None, slice_get, refl, subst}
 use Rattle.isle_syntax.specs.Trees.PatternTree.{PatternTree, PatternTrees, pattern_var, pattern_bind, pattern_bool, pattern_int, pattern_prim}
 use Rattle.isle_syntax.specs.Trees.PatternTree.{pattern_term, pattern_wildcard, pattern_and, pattern_macro_arg, no_patterns, more_patterns}
 use Rattle.isle_terms.specs.TypedRules.{TypedPattern, TypedPatterns, Variable}
 use Rattle.isle_terms.specs.Signatures.{Signature, Declared, put_in_for, has_extractor_form}
 use Rattle.isle_terms.specs.Elaboration.{State, counted, bound, each_at, PatternJudgement, EachPattern, TakesApart, PatternNode, Elaborates}
-use Rattle.isle_terms.specs.SoundRules.WellTyped.{HasType, same_for_each, MatchesTerm, IsTypedPattern, AreTypedPatterns}
+use Rattle.isle_terms.specs.SoundRules.WellTyped.{HasType, same_for_each, IsTypedPattern, AreTypedPatterns}
 use Rattle.isle_terms.proofs.Sound.GrowingVariables.{Extends, same_extends, bound_extends, bound_has_type, AreTyped, seen_typed}
 
 -- a judgement of patterns only adds variables, and makes well-typed patterns
