@@ -36,3 +36,5 @@ pub mod Showing
 pub mod PlainTemplates
 -- Worked cases with literal values.
 pub mod Cases
+-- Every typed rule is well typed, and keeps scopes.
+pub mod Sound

@@ -9,12 +9,14 @@ ghost use Rattle.isle_terms.specs.declared.rules.Rule.{Rule as MadeRule};
 ghost use Rattle.isle_terms.specs.TypedRules.{TypedRule};
 ghost use Rattle.isle_terms.specs.Signatures.{Declared};
 ghost use Rattle.isle_terms.specs.Elaboration.{ElaboratesRule};
-ghost use Rattle.isle_terms.specs.Definitions.{TermEnvironment, MakesTerms};
+ghost use Rattle.isle_terms.specs.Definitions.{TermEnvironment, declared_by, MakesTerms};
 ghost use Rattle.isle_terms.specs.TypingFaults.{BreaksTyping, ExceedsTyping};
 ghost use Rattle.isle_terms.specs.Shown.TermTables.{TermTables};
 ghost use Rattle.isle_terms.specs.Shown.ShownTerms.{ShowsDeclared};
 ghost use Rattle.isle_terms.specs.Shown.RulesShown.{IsShownRule};
 ghost use Rattle.isle_terms.specs.Collecting.Environments.{ShowsTerms};
+ghost use Rattle.isle_terms.specs.SoundRules.WellTyped.{IsTypedRule};
+ghost use Rattle.isle_terms.specs.SoundRules.KeptScopes.{KeepsScopes};
 ghost use Rattle.isle_terms.specs.Visits.OwnFaults.{NeverUndefined, FindsAllDefined};
 ghost use Rattle.isle_terms.specs.Visits.RuleEvents.{visits_rule};
 
@@ -59,4 +61,28 @@ pub fn rules_of_definitions_use_what_is_defined<V: RuleVisitor>()
         → ShowsTerms tyenv env types levels max defs
         → All (λ (made : MadeRule).
         NeverUndefined (visits_rule V.rule_steps V.PatternVisitor.pattern_step V.ExprVisitor.expr_step env.terms made)) env.rules }
+{}
+
+/// What a rule stands for is well typed.
+pub fn typed_rules_are_typed()
+    ensures { (declared : Declared) (levels max : ℕ) (tree : Rule) (typed : TypedRule)
+        → ElaboratesRule declared levels max tree typed → IsTypedRule declared typed }
+{}
+
+/// What a rule stands for binds its variables in order, each once and before it is used.
+pub fn typed_rules_keep_scopes()
+    ensures { (declared : Declared) (levels max : ℕ) (tree : Rule) (typed : TypedRule)
+        → ElaboratesRule declared levels max tree typed → KeepsScopes typed }
+{}
+
+/// Each rule of an environment of terms is well typed.
+pub fn rules_of_definitions_are_typed()
+    ensures { (types : Environment) (expands : Bool) (levels max : ℕ) (defs : List Def) (environment : TermEnvironment)
+        → MakesTerms types expands levels max defs environment → All (IsTypedRule (declared_by types expands environment)) environment.rules }
+{}
+
+/// Each binds its variables in order.
+pub fn rules_of_definitions_keep_scopes()
+    ensures { (types : Environment) (expands : Bool) (levels max : ℕ) (defs : List Def) (environment : TermEnvironment)
+        → MakesTerms types expands levels max defs environment → All KeepsScopes environment.rules }
 {}
