@@ -34,3 +34,5 @@ pub mod Steps
 pub mod Showing
 -- What texts spell has plain templates.
 pub mod PlainTemplates
+-- The sizes of what trees stand for, and how rules fit their terms.
+pub mod Sizes
