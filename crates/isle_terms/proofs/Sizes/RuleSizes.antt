@@ -1,5 +1,5 @@
 -- The rules that definitions make are within sizes, and their roots are terms with rules.
-use Rattle.std.proofs.Common.{◌≡◌, ℕ, ◌+◌, Bool, true, false, List, [], ◌∷◌, length, map, Option, Some, None, slice_get, refl, sym, ap, subst}
+use Rattle.std.proofs.Common.{◌≡◌, ℕ, Bool, true, false, List, [], ◌∷◌, length, map, Option, Some, None, slice_get, refl, sym, ap, subst}
 use Rattle.std.proofs.Common.{◌∙◌, arith}
 use Rattle.std.specs.Prelude.{All}
 use Rattle.std.specs.List.{AllZip}
@@ -14,8 +14,8 @@ use Rattle.isle_terms.specs.declared.terms.ConstructorKind.TheVariants.{Internal
 use Rattle.isle_terms.specs.declared.terms.TermKind.{TermKind}
 use Rattle.isle_terms.specs.declared.terms.TermKind.TheVariants.{EnumVariant, Struct, Decl}
 use Rattle.isle_terms.specs.Terms.{has_rules_kind}
-use Rattle.isle_terms.specs.TypedRules.{TypedPattern, TypedRule}
-use Rattle.isle_terms.specs.Signatures.{Flags, Constructor, by_rules, external_constructor, Extractor, TermForm, variant_form, struct_form}
+use Rattle.isle_terms.specs.TypedRules.{TypedRule}
+use Rattle.isle_terms.specs.Signatures.{Constructor, by_rules, external_constructor, TermForm, variant_form, struct_form}
 use Rattle.isle_terms.specs.Signatures.{declared_form, Signature, Declared}
 use Rattle.isle_terms.specs.Elaboration.{start, Elaborates, ElaboratesRule}
 use Rattle.isle_terms.specs.Definitions.{rules_in, name_of, IsRuleOf, TermEnvironment, declared_by, MakesTerms}

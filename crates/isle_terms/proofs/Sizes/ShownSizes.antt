@@ -22,9 +22,9 @@ use Rattle.isle_terms.specs.Shown.ShownRules.{greatest, greatest_of_values}
 use Rattle.isle_terms.specs.Shown.RulesShown.{IsShownRule}
 use Rattle.isle_terms.specs.Shown.TermTables.{TermTables}
 use Rattle.isle_terms.specs.Sizes.{typed_depth, deepest_typed, typed_nodes, nodes_of_typed, built_depth, deepest_built, deepest_value}
-use Rattle.isle_terms.specs.Sizes.{built_nodes, nodes_of_built, nodes_of_values, deepest_condition, nodes_of_conditions, typed_rule_nodes}
+use Rattle.isle_terms.specs.Sizes.{built_nodes, nodes_of_built, nodes_of_values, deepest_condition, nodes_of_conditions}
 use Rattle.isle_terms.specs.Sizes.{IsWithinSizes, total, total_of_values, pattern_depth_step, pattern_depth, pattern_nodes_step, pattern_nodes}
-use Rattle.isle_terms.specs.Sizes.{expr_depth_step, expr_depth, expr_nodes_step, expr_nodes, iflet_nodes, rule_nodes, HasSizes}
+use Rattle.isle_terms.specs.Sizes.{expr_depth_step, expr_depth, expr_nodes_step, expr_nodes, iflet_nodes, HasSizes}
 use Rattle.isle_terms.proofs.Sizes.RuleSizes.{rules_small}
 
 -- a measure of what a pattern shows is one of the pattern, where it is so at one node
