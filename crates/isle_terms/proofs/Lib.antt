@@ -38,3 +38,5 @@ pub mod PlainTemplates
 pub mod Cases
 -- Every typed rule is well typed, and keeps scopes.
 pub mod Sound
+-- The sizes of what trees stand for, and how rules fit their terms.
+pub mod Sizes

@@ -1,5 +1,5 @@
 //! What holds of the definitions of typing: public functions with nothing to do, whose contracts are the laws.
-ghost use Rattle.std.specs.Prelude.{◌≡◌, ℕ, Bool, List, All};
+ghost use Rattle.std.specs.Prelude.{◌≡◌, ℕ, ◌+◌, ◌*◌, Bool, List, All};
 ghost use Rattle.isle_syntax.specs.declared.ast.Def.{Def};
 ghost use Rattle.isle_syntax.specs.declared.ast.Rule.{Rule};
 ghost use Rattle.isle_syntax.specs.declared.lexer.Pos.{Pos};
@@ -17,6 +17,7 @@ ghost use Rattle.isle_terms.specs.Shown.RulesShown.{IsShownRule};
 ghost use Rattle.isle_terms.specs.Collecting.Environments.{ShowsTerms};
 ghost use Rattle.isle_terms.specs.SoundRules.WellTyped.{IsTypedRule};
 ghost use Rattle.isle_terms.specs.SoundRules.KeptScopes.{KeepsScopes};
+ghost use Rattle.isle_terms.specs.Sizes.{IsWithinSizes, HasSizes, HasFittingRules};
 ghost use Rattle.isle_terms.specs.Visits.OwnFaults.{NeverUndefined, FindsAllDefined};
 ghost use Rattle.isle_terms.specs.Visits.RuleEvents.{visits_rule};
 
@@ -85,4 +86,28 @@ pub fn rules_of_definitions_are_typed()
 pub fn rules_of_definitions_keep_scopes()
     ensures { (types : Environment) (expands : Bool) (levels max : ℕ) (defs : List Def) (environment : TermEnvironment)
         → MakesTerms types expands levels max defs environment → All KeepsScopes environment.rules }
+{}
+
+/// What a rule stands for is at most one level deeper than the levels that it is read in, and has at most twice as many nodes as are counted.
+pub fn typed_rules_keep_sizes()
+    ensures { (declared : Declared) (levels max : ℕ) (tree : Rule) (typed : TypedRule)
+        → ElaboratesRule declared levels max tree typed → IsWithinSizes levels max typed }
+{}
+
+/// So are the rules that definitions make.
+pub fn rules_of_definitions_keep_sizes()
+    ensures { (types : Environment) (expands : Bool) (levels max : ℕ) (defs : List Def) (environment : TermEnvironment)
+        → MakesTerms types expands levels max defs environment → All (IsWithinSizes levels max) environment.rules }
+{}
+
+/// Each rule of an environment of terms stands at the place of its number; its root is a term with rules, of as many arguments.
+pub fn rules_fit_their_terms()
+    ensures { (tyenv : TypeTables) (env : TermTables) (types : Environment) (levels max : ℕ) (defs : List Def)
+        → ShowsTerms tyenv env types levels max defs → HasFittingRules env }
+{}
+
+/// The trees of each rule of an environment of terms are at most one level deeper than the levels that rules are read in.
+pub fn rules_are_within_sizes()
+    ensures { (tyenv : TypeTables) (env : TermTables) (types : Environment) (levels max : ℕ) (defs : List Def)
+        → ShowsTerms tyenv env types levels max defs → All (HasSizes (levels + 1) (2 * max)) env.rules }
 {}
