@@ -34,3 +34,9 @@ pub mod Steps
 pub mod Showing
 -- What texts spell has plain templates.
 pub mod PlainTemplates
+-- Worked cases with literal values.
+pub mod Cases
+-- Every typed rule is well typed, and keeps scopes.
+pub mod Sound
+-- The sizes of what trees stand for, and how rules fit their terms.
+pub mod Sizes

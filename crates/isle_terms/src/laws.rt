@@ -1,5 +1,5 @@
 //! What holds of the definitions of typing: public functions with nothing to do, whose contracts are the laws.
-ghost use Rattle.std.specs.Prelude.{◌≡◌, ℕ, Bool, List, All};
+ghost use Rattle.std.specs.Prelude.{◌≡◌, ℕ, ◌+◌, ◌*◌, Bool, List, All};
 ghost use Rattle.isle_syntax.specs.declared.ast.Def.{Def};
 ghost use Rattle.isle_syntax.specs.declared.ast.Rule.{Rule};
 ghost use Rattle.isle_syntax.specs.declared.lexer.Pos.{Pos};
@@ -9,12 +9,15 @@ ghost use Rattle.isle_terms.specs.declared.rules.Rule.{Rule as MadeRule};
 ghost use Rattle.isle_terms.specs.TypedRules.{TypedRule};
 ghost use Rattle.isle_terms.specs.Signatures.{Declared};
 ghost use Rattle.isle_terms.specs.Elaboration.{ElaboratesRule};
-ghost use Rattle.isle_terms.specs.Definitions.{TermEnvironment, MakesTerms};
+ghost use Rattle.isle_terms.specs.Definitions.{TermEnvironment, declared_by, MakesTerms};
 ghost use Rattle.isle_terms.specs.TypingFaults.{BreaksTyping, ExceedsTyping};
 ghost use Rattle.isle_terms.specs.Shown.TermTables.{TermTables};
 ghost use Rattle.isle_terms.specs.Shown.ShownTerms.{ShowsDeclared};
 ghost use Rattle.isle_terms.specs.Shown.RulesShown.{IsShownRule};
 ghost use Rattle.isle_terms.specs.Collecting.Environments.{ShowsTerms};
+ghost use Rattle.isle_terms.specs.SoundRules.WellTyped.{IsTypedRule};
+ghost use Rattle.isle_terms.specs.SoundRules.KeptScopes.{KeepsScopes};
+ghost use Rattle.isle_terms.specs.Sizes.{IsWithinSizes, HasSizes, HasFittingRules};
 ghost use Rattle.isle_terms.specs.Visits.OwnFaults.{NeverUndefined, FindsAllDefined};
 ghost use Rattle.isle_terms.specs.Visits.RuleEvents.{visits_rule};
 
@@ -59,4 +62,52 @@ pub fn rules_of_definitions_use_what_is_defined<V: RuleVisitor>()
         → ShowsTerms tyenv env types levels max defs
         → All (λ (made : MadeRule).
         NeverUndefined (visits_rule V.rule_steps V.PatternVisitor.pattern_step V.ExprVisitor.expr_step env.terms made)) env.rules }
+{}
+
+/// What a rule stands for is well typed.
+pub fn typed_rules_are_typed()
+    ensures { (declared : Declared) (levels max : ℕ) (tree : Rule) (typed : TypedRule)
+        → ElaboratesRule declared levels max tree typed → IsTypedRule declared typed }
+{}
+
+/// What a rule stands for binds its variables in order, each once and before it is used.
+pub fn typed_rules_keep_scopes()
+    ensures { (declared : Declared) (levels max : ℕ) (tree : Rule) (typed : TypedRule)
+        → ElaboratesRule declared levels max tree typed → KeepsScopes typed }
+{}
+
+/// Each rule of an environment of terms is well typed.
+pub fn rules_of_definitions_are_typed()
+    ensures { (types : Environment) (expands : Bool) (levels max : ℕ) (defs : List Def) (environment : TermEnvironment)
+        → MakesTerms types expands levels max defs environment → All (IsTypedRule (declared_by types expands environment)) environment.rules }
+{}
+
+/// Each binds its variables in order.
+pub fn rules_of_definitions_keep_scopes()
+    ensures { (types : Environment) (expands : Bool) (levels max : ℕ) (defs : List Def) (environment : TermEnvironment)
+        → MakesTerms types expands levels max defs environment → All KeepsScopes environment.rules }
+{}
+
+/// What a rule stands for is at most one level deeper than the levels that it is read in, and has at most twice as many nodes as are counted.
+pub fn typed_rules_keep_sizes()
+    ensures { (declared : Declared) (levels max : ℕ) (tree : Rule) (typed : TypedRule)
+        → ElaboratesRule declared levels max tree typed → IsWithinSizes levels max typed }
+{}
+
+/// So are the rules that definitions make.
+pub fn rules_of_definitions_keep_sizes()
+    ensures { (types : Environment) (expands : Bool) (levels max : ℕ) (defs : List Def) (environment : TermEnvironment)
+        → MakesTerms types expands levels max defs environment → All (IsWithinSizes levels max) environment.rules }
+{}
+
+/// Each rule of an environment of terms stands at the place of its number; its root is a term with rules, of as many arguments.
+pub fn rules_fit_their_terms()
+    ensures { (tyenv : TypeTables) (env : TermTables) (types : Environment) (levels max : ℕ) (defs : List Def)
+        → ShowsTerms tyenv env types levels max defs → HasFittingRules env }
+{}
+
+/// The trees of each rule of an environment of terms are at most one level deeper than the levels that rules are read in.
+pub fn rules_are_within_sizes()
+    ensures { (tyenv : TypeTables) (env : TermTables) (types : Environment) (levels max : ℕ) (defs : List Def)
+        → ShowsTerms tyenv env types levels max defs → All (HasSizes (levels + 1) (2 * max)) env.rules }
 {}

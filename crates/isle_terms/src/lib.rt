@@ -1,6 +1,7 @@
 //! The terms and rules of ISLE: their typed trees, and the elaboration of definitions to them.
 #![tactic(auto, using(isle_syntax::proofs::Trees::PatternSizes::most_pattern_size, isle_syntax::proofs::Trees::ExprSizes::most_expr_size))]
 
+mod clone;
 mod env;
 pub mod laws;
 mod rules;
