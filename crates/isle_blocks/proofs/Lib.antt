@@ -1,0 +1,2 @@
+-- The `==` of sites.
+pub mod EqualSites

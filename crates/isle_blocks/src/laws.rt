@@ -29,6 +29,11 @@ pub fn bindings_are_ordered()
     ensures { (a b : Site) → ⟦<Binding as Ord>⟧.cmp a b ≡ binding_order a b }
 {}
 
+/// Two sites are equal where they are one.
+pub fn equal_bindings_are_one()
+    ensures { (a b : Site) → (⟦<Binding as PartialEq>⟧.eq a b ≡ true) ↔ (a ≡ b) }
+{}
+
 /// Tests are ordered by kind, then by their fields in order.
 pub fn constraints_are_ordered()
     ensures { (a b : Test) → ⟦<Constraint as Ord>⟧.cmp a b ≡ constraint_order a b }
