@@ -3,7 +3,6 @@ use Rattle.std.specs.Prelude.{◌&&◌, ◌++◌, ◌==◌, ℕ, zero, suc, Bool
 use Rattle.std.specs.Ordering.{int_eq}
 use Rattle.isle_types.specs.declared.ids.VariantId.{VariantId}
 use Rattle.isle_blocks.specs.declared.ids.BindingId.{BindingId}
-use Rattle.isle_blocks.specs.declared.ids.TupleIndex.{TupleIndex}
 use Rattle.isle_blocks.specs.declared.binding.Binding.{Binding}
 use Rattle.isle_blocks.specs.declared.binding.Binding.TheVariants as sites
 use Rattle.isle_blocks.specs.declared.constraint.Constraint.{Constraint}
