@@ -33,3 +33,7 @@ pub mod Testing
 pub mod Visited
 -- Fields of what is demanded are needed.
 pub mod Needing
+-- Elaborated rules are as the laws ask.
+pub mod Bridging
+-- Worked cases with literal values.
+mod Cases

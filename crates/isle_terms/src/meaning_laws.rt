@@ -1,6 +1,6 @@
 //! What the demands of a rule mean: public functions with nothing to do, whose contracts are the laws.
 
-ghost use Rattle.isle_terms.specs.Meaning.Laws.{BothMatchOverlap, DemandsAreTested, DemandsSuit, DerivedIsTested, FieldsAreFields, MatchesByClosed, MatchesByDemands, MatchesByProper, MatchesDerived, NeedsHaveFields, NeverBoth, NumbersSayDemands, SelfEqualitiesSayNothing, ShadowedIsNeverChosen, UnreachableIsDead, VisitIsWritten, WiderMatches};
+ghost use Rattle.isle_terms.specs.Meaning.Laws.{BothMatchOverlap, DemandsAreTested, DemandsSuit, DerivedIsTested, ElaboratedRulesFit, FieldsAreFields, MatchesByClosed, MatchesByDemands, MatchesByProper, MatchesDerived, NeedsHaveFields, NeverBoth, NumbersSayDemands, SelfEqualitiesSayNothing, ShadowedIsNeverChosen, UnreachableIsDead, VisitIsWritten, WiderMatches};
 
 /// A rule matches exactly where its demands hold of the sites' values.
 pub fn matches_by_demands()
@@ -85,4 +85,9 @@ pub fn needs_have_fields()
 /// A field site holds exactly the field of what its source holds.
 pub fn fields_are_fields()
     ensures { FieldsAreFields }
+{}
+
+/// What a rule stands for is a rule that these laws speak of, where it asks no `multi` term.
+pub fn elaborated_rules_fit()
+    ensures { ElaboratedRulesFit }
 {}

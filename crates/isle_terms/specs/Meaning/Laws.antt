@@ -1,8 +1,8 @@
 -- What a rule means, and what is derived from its demands.
-use Rattle.std.specs.Prelude.{◌≡◌, ◌<◌, ◌⊎◌, ◌↔◌, ℕ, List, [], Option}
+use Rattle.std.specs.Prelude.{◌≡◌, ◌<◌, ◌⊎◌, ◌↔◌, ℕ, false, List, [], Option}
 use Rattle.isle_terms.specs.Meaning.Values.{Value, Values, count}
 use Rattle.isle_terms.specs.TypedRules.{TypedRule}
-use Rattle.isle_terms.specs.Meaning.Facts.{TermFacts, patterns}
+use Rattle.isle_terms.specs.Meaning.Facts.{TermFacts, patterns, facts_of, TakesFields}
 use Rattle.isle_terms.specs.Meaning.Answers.{Completion, IsAllowed}
 use Rattle.isle_terms.specs.Meaning.Matching.{Matches}
 use Rattle.isle_terms.specs.Meaning.Held.{value}
@@ -16,7 +16,10 @@ use Rattle.isle_terms.specs.Meaning.Words.{word_of}
 use Rattle.isle_terms.specs.Meaning.Sites.{site_of}
 use Rattle.isle_terms.specs.Meaning.Needs.{visit, no_log, needs_of, IsNeeded, FieldsAreNeeded}
 use Rattle.isle_terms.specs.Meaning.Tested.{IsTested, SpeaksOfTested}
-use Rattle.isle_terms.specs.Meaning.Scopes.{IsWellScopedRule, Covers, scope_of}
+use Rattle.isle_terms.specs.Meaning.Scopes.{IsWellScopedRule, RuleTakesOne, Covers, scope_of}
+use Rattle.isle_terms.specs.Signatures.{Declared}
+use Rattle.isle_terms.specs.SoundRules.WellTyped.{IsTypedRule}
+use Rattle.isle_terms.specs.SoundRules.KeptScopes.{KeepsScopes}
 use Rattle.isle_terms.specs.Meaning.Typing.{RuleIsTyped}
 
 -- a rule of a term that takes these types, as elaboration makes it
@@ -136,3 +139,8 @@ NeedsHaveFields = (facts : TermFacts) (rule : TypedRule) (d : Demand) → Demand
 -- A field site holds exactly the field of what its source holds.
 abbrev pub FieldsAreFields : Type 0
 FieldsAreFields = (facts : TermFacts) (c : Completion) (args : Values) (done : List (Option Value)) → Respects (value facts c args done)
+
+-- A well typed rule that keeps scopes, of a term that isn't `multi` and with no `multi` extractor, is one that the laws speak of.
+abbrev pub ElaboratedRulesFit : Type 0
+ElaboratedRulesFit = (declared : Declared) (rule : TypedRule) (typed : IsTypedRule declared rule) → KeepsScopes rule → TakesFields declared
+    → typed.flags.multi ≡ false → RuleTakesOne (facts_of declared) rule → IsRuleOfTypes (facts_of declared) typed.root.args rule

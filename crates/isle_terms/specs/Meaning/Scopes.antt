@@ -116,6 +116,31 @@ pub record IsWellScopedRule (facts : TermFacts) (rule : TypedRule) : Type 0 wher
   pub iflets : IfLetsAreWellScoped facts rule.iflets (scope_all rule.args none)
   pub right : ReadsExpr facts rule.right (scope_of rule)
 
+-- no term of a pattern is `multi`
+abbrev mutual
+  pub TakesOne : TermFacts → TypedPattern → Type 0
+  TakesOne facts (typed_bind ty k p) = TakesOne facts p
+  TakesOne facts (typed_var ty k) = Unit {0}
+  TakesOne facts (typed_bool ty b) = Unit {0}
+  TakesOne facts (typed_int ty n) = Unit {0}
+  TakesOne facts (typed_prim ty n) = Unit {0}
+  TakesOne facts (typed_term ty t ps) = (facts.multi t ≡ false) × TakeOneEach facts ps
+  TakesOne facts (typed_wildcard ty) = Unit {0}
+  TakesOne facts (typed_and ty ps) = TakeOneEach facts ps
+
+  pub TakeOneEach : TermFacts → TypedPatterns → Type 0
+  TakeOneEach facts no_typed = Unit {0}
+  TakeOneEach facts (more_typed p ps) = TakesOne facts p × TakeOneEach facts ps
+
+-- nor one of a condition's pattern
+abbrev pub IfLetsTakeOne : TermFacts → List TypedIfLet → Type 0
+IfLetsTakeOne facts [] = Unit {0}
+IfLetsTakeOne facts (x ∷ xs) = TakesOne facts x.pattern × IfLetsTakeOne facts xs
+
+-- no pattern of a rule asks a `multi` extractor
+abbrev pub RuleTakesOne : TermFacts → TypedRule → Type 0
+RuleTakesOne facts rule = TakeOneEach facts rule.args × IfLetsTakeOne facts rule.iflets
+
 -- this holds of the extractor's call
 abbrev pub OfCall : (Site → Type 0) → TermShape → ℕ → Site → Type 0
 OfCall A (variant_shape k) t s = Unit {0}
