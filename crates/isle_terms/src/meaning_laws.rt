@@ -1,6 +1,9 @@
 //! What the demands of a rule mean: public functions with nothing to do, whose contracts are the laws.
 
-ghost use Rattle.isle_terms.specs.Meaning.Laws.{BothMatchOverlap, DemandsAreTested, DemandsSuit, DerivedIsTested, ElaboratedRulesFit, FieldsAreFields, MatchesByClosed, MatchesByDemands, MatchesByProper, MatchesDerived, NeedsHaveFields, NeverBoth, NumbersSayDemands, SelfEqualitiesSayNothing, ShadowedIsNeverChosen, UnreachableIsDead, VisitIsWritten, WiderMatches};
+ghost use Rattle.isle_terms.specs.Meaning.Laws.{BothMatchOverlap, DemandsAreTested, DemandsSuit, DerivedIsTested, ElaboratedRulesFit};
+ghost use Rattle.isle_terms.specs.Meaning.Laws.{FieldsAreFields, MatchesByClosed, MatchesByDemands, MatchesByProper, MatchesDerived};
+ghost use Rattle.isle_terms.specs.Meaning.Laws.{NeedsHaveFields, NeverBoth, NumbersSayDemands, SelfEqualitiesSayNothing};
+ghost use Rattle.isle_terms.specs.Meaning.Laws.{ShadowedIsNeverChosen, UnreachableIsDead, VisitIsWritten, WiderMatches};
 
 /// A rule matches exactly where its demands hold of the sites' values.
 pub fn matches_by_demands()

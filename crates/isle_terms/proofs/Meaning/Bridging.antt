@@ -1,17 +1,18 @@
 -- Well typed rules that keep scopes are rules that the laws on matching speak of.
-use Rattle.std.proofs.Common.{◌≡◌, ◌⊎◌, ◌≤◌, ◌<◌, ◌+◌, ◌&&◌, inl, inr, ℕ, suc, List, [], ◌∷◌, length, Bool, true, false, Option, None, Some, slice_get}
+use Rattle.std.proofs.Common.{◌≡◌, ◌⊎◌, ◌≤◌, ◌<◌, ◌+◌, ◌&&◌, inl, inr, ℕ, suc, List, [], ◌∷◌, length, Bool, true, false, Option}
+use Rattle.std.proofs.Common.{None, Some, slice_get}
 use Rattle.std.proofs.Common.{refl, sym, ◌∙◌, ap, subst, arith}
 use Rattle.std.specs.Prelude.{if◌then◌else◌, unwrap_or}
 use Rattle.isle_terms.specs.TypedRules.{TypedPattern, TypedPatterns, typed_bind, typed_var, typed_bool, typed_int, typed_prim, typed_term}
 use Rattle.isle_terms.specs.TypedRules.{typed_wildcard, typed_and, no_typed, more_typed, TypedExpr, TypedExprs, TypedBindings, built_term}
 use Rattle.isle_terms.specs.TypedRules.{built_var, built_bool, built_int, built_prim, built_let, no_built, more_built, no_bindings, more_bindings}
-use Rattle.isle_terms.specs.TypedRules.{built_at, Variable, TypedIfLet, TypedRule}
+use Rattle.isle_terms.specs.TypedRules.{built_at, Variable, TypedIfLet}
 use Rattle.isle_terms.specs.Signatures.{Flags, TermForm, variant_form, struct_form, declared_form, Signature, Declared, flags_of}
 use Rattle.isle_terms.specs.Elaboration.{may_call, on_lhs}
-use Rattle.isle_terms.specs.SoundRules.WellTyped.{HasType, same_for_each, MatchesTerm, CallsTerm, IsTypedPattern, AreTypedPatterns}
-use Rattle.isle_terms.specs.SoundRules.WellTyped.{IsTypedExpr, AreTypedExprs, AreTypedBindings, AreTypedIfLets, IsTypedRule}
+use Rattle.isle_terms.specs.SoundRules.WellTyped.{HasType, same_for_each, IsTypedPattern, AreTypedPatterns}
+use Rattle.isle_terms.specs.SoundRules.WellTyped.{IsTypedExpr, AreTypedExprs, AreTypedBindings, AreTypedIfLets}
 use Rattle.isle_terms.specs.SoundRules.KeptScopes.{Scope, nothing_bound, with_next, counting, IsUsable, PatternBinds, PatternsBind, ExprUses}
-use Rattle.isle_terms.specs.SoundRules.KeptScopes.{ExprsUse, BindingsAdd, IfLetsBind, KeepsScopes}
+use Rattle.isle_terms.specs.SoundRules.KeptScopes.{ExprsUse, BindingsAdd, IfLetsBind}
 use Rattle.isle_terms.specs.Meaning.Facts.{TermShape, variant_shape, struct_shape, declared_shape, patterns, shape_of_form, no_term, term_at}
 use Rattle.isle_terms.specs.Meaning.Facts.{variant_types, struct_types, type_shape, facts_of, TakesFields}
 use Rattle.isle_terms.specs.Meaning.Scopes.{scope, scope_all, iflets_scope, let_scope, IsWellOpened, IsWellScoped, AreWellScoped, IsSingle}
@@ -76,10 +77,12 @@ module _ (declared : Declared) (variables : List Variable) (fields : TakesFields
     pattern_typed ty (typed_bool own b) h = h.0
     pattern_typed ty (typed_int own n) h = h.0
     pattern_typed ty (typed_prim own name) h = (h.0, ap (λ (x : Option ℕ). unwrap_or x 0) (h.1))
-    pattern_typed ty (typed_term own t below) (e, m) =
-        (e, ap (λ (x : Signature). x.ret) (at_number t m.term m.known) ∙ m.type,
-        subst (AllTyped (facts_of declared) (var_type variables) below) (sym (parts_are t own m.term m.known (m.type ∙ sym e)))
-        (patterns_typed m.term.args below m.args))
+    pattern_typed ty (typed_term own t below) (e, m) = (
+      e,
+      ap (λ (x : Signature). x.ret) (at_number t m.term m.known) ∙ m.type,
+      subst (AllTyped (facts_of declared) (var_type variables) below) (sym (parts_are t own m.term m.known (m.type ∙ sym e)))
+          (patterns_typed m.term.args below m.args),
+    )
     pattern_typed ty (typed_wildcard own) h = h
     pattern_typed ty (typed_and own below) h = (h.0, each_typed ty below (h.1))
 
@@ -119,7 +122,8 @@ module _ (declared : Declared) (variables : List Variable) (fields : TakesFields
         → IsWellScoped (facts_of declared) p S × IsScope (scope p S) after
     pattern_scoped ty (typed_bind own var below) before after S t o (inside, b, e, f) h =
         let r = pattern_scoped ty below before inside S (t.2) o b h in
-        ((r.0, λ i. (let l = r.1.1 var i in omega arith)), subst (IsScope (scope (typed_bind own var below) S)) (sym f) (next_bound (scope below S) inside var e (r.1)))
+        let q = subst (IsScope (scope (typed_bind own var below) S)) (sym f) (next_bound (scope below S) inside var e (r.1)) in
+        ((r.0, λ i. (let l = r.1.1 var i in omega arith)), q)
     pattern_scoped ty (typed_var own var) before after S t o b h = (h.0 var (b.0), still S before after (b.1) h)
     pattern_scoped ty (typed_bool own val) before after S t o b h = (tt, still S before after b h)
     pattern_scoped ty (typed_int own val) before after S t o b h = (tt, still S before after b h)
@@ -127,7 +131,7 @@ module _ (declared : Declared) (variables : List Variable) (fields : TakesFields
     pattern_scoped ty (typed_term own t below) before after S (e, m) o b h =
         let r = patterns_scoped m.term.args below before after S m.args (o.1) b h in
         let n : patterns below ≡ length (term_at declared t).args =
-            count_typed m.term.args below m.args ∙ ap (λ (x : Signature). length x.args) (sym (at_number t m.term m.known)) in
+        count_typed m.term.args below m.args ∙ ap (λ (x : Signature). length x.args) (sym (at_number t m.term m.known)) in
         ((opened (shape_of_form (term_at declared t).form) t (patterns below) n (o.0), r.0), r.1)
     pattern_scoped ty (typed_wildcard own) before after S t o b h = (tt, still S before after b h)
     pattern_scoped ty (typed_and own below) before after S t o b h = patterns_scoped (same_for_each ty below) below before after S (t.1) o b h
@@ -156,10 +160,12 @@ module _ (declared : Declared) (variables : List Variable) (fields : TakesFields
     mutual
       expr_typed : (ty : ℕ) (e : TypedExpr) → IsTypedExpr declared variables caller ty e
           → ExprTyped (facts_of declared) (var_type variables) e ty
-      expr_typed ty (built_term own t below) (e, m) =
-          (e, ap (λ (x : Signature). x.ret) (at_number t m.term m.known) ∙ m.type,
-          subst (ExprsTyped (facts_of declared) (var_type variables) below) (sym (parts_are t own m.term m.known (m.type ∙ sym e)))
-          (exprs_typed m.term.args below m.args))
+      expr_typed ty (built_term own t below) (e, m) = (
+        e,
+        ap (λ (x : Signature). x.ret) (at_number t m.term m.known) ∙ m.type,
+        subst (ExprsTyped (facts_of declared) (var_type variables) below) (sym (parts_are t own m.term m.known (m.type ∙ sym e)))
+            (exprs_typed m.term.args below m.args),
+      )
       expr_typed ty (built_var own var) h = (h.0, has_type var ty (h.1))
       expr_typed ty (built_bool own val) h = h.0
       expr_typed ty (built_int own val) h = h.0
@@ -213,13 +219,15 @@ module _ (declared : Declared) (variables : List Variable) (fields : TakesFields
       bindings_read (more_bindings var ty val others) before after S t b h =
           let r = expr_reads ty val before var S (t.1) (b.0) h in
           let q = bindings_read others (with_next (counting before var)) after (λ j. (j ≡ var) ⊎ S j) (t.2) (b.1)
-              (λ k u. elim u [ inl e ↦ inl (sym e) | inr v ↦ inr (h k v) ]) in
+          (λ k u. elim u [ inl e ↦ inl (sym e) | inr v ↦ inr (h k v) ]) in
           let l : before.count ≤ var = r.1 in let m : var + 1 ≤ after.count = q.2 in ((r.0, q.0), q.1, omega arith)
 
     iflets_typed : (xs : List TypedIfLet) → AreTypedIfLets declared variables caller xs
         → IfLetsTyped (facts_of declared) (var_type variables) xs
     iflets_typed [] h = tt
-    iflets_typed (x ∷ xs) h = ((built_at x.value, expr_typed (built_at x.value) x.value (h.0), pattern_typed (built_at x.value) x.pattern (h.1)), iflets_typed xs (h.2))
+    iflets_typed (x ∷ xs) h =
+        let e = expr_typed (built_at x.value) x.value (h.0) in
+        ((built_at x.value, e, pattern_typed (built_at x.value) x.pattern (h.1)), iflets_typed xs (h.2))
 
     iflets_scoped : (xs : List TypedIfLet) (before after : Scope) (S : ℕ → Type 0) → AreTypedIfLets declared variables caller xs
         → IfLetsTakeOne (facts_of declared) xs → IfLetsBind xs before after → IsScope S before
@@ -235,11 +243,12 @@ module _ (declared : Declared) (variables : List Variable) (fields : TakesFields
 pub elaborated_rules_fit : ElaboratedRulesFit
 elaborated_rules_fit declared rule typed keeps fields one takes =
     let nothing : IsScope none nothing_bound = (λ k u. u, λ k i. absurd i) in
-    let args = patterns_scoped declared rule.variables fields typed.root.args rule.args nothing_bound keeps.matched none typed.args (takes.0) keeps.args nothing in
+    let args = patterns_scoped declared rule.variables fields typed.root.args rule.args nothing_bound keeps.matched none typed.args (takes.0)
+    keeps.args nothing in
     let iflets = iflets_scoped declared rule.variables fields (on_lhs typed.flags) one rule.iflets keeps.matched keeps.met (scope_all rule.args none)
-        typed.iflets (takes.1) keeps.iflets (args.1) in
+    typed.iflets (takes.1) keeps.iflets (args.1) in
     let right = expr_reads declared rule.variables fields typed.flags one typed.root.ret rule.right keeps.met (length rule.variables) (scope_of rule)
-        typed.right keeps.right (iflets.1.0) in
+    typed.right keeps.right (iflets.1.0) in
     record {
       well = record { args = args.0; iflets = iflets.0; right = right.0 };
       result_type = typed.root.ret;

@@ -1,11 +1,10 @@
 -- Worked cases: what literal rules demand, what follows, and where they are unreachable.
-use Rattle.std.proofs.Common.{arith, ◌≡◌, ℕ, ℤ, pos, [], ◌∷◌, inl, inr, true, false, refl, None, codes}
+use Rattle.std.proofs.Common.{arith, ◌≡◌, ℕ, pos, [], ◌∷◌, inl, inr, true, false, refl, None, codes}
 use Rattle.std.specs.Prelude.{if◌then◌else◌, ◌==◌}
-use Rattle.isle_syntax.specs.declared.lexer.Pos.{Pos}
 use Rattle.isle_terms.specs.TypedRules.{TypedPatterns, typed_bind, typed_var, typed_int, typed_term, typed_wildcard, typed_and, no_typed}
-use Rattle.isle_terms.specs.TypedRules.{more_typed, built_int, TypedRule, Variable}
+use Rattle.isle_terms.specs.TypedRules.{more_typed, built_int, TypedRule}
 use Rattle.isle_terms.specs.Meaning.Facts.{variant_shape, declared_shape, TermFacts}
-use Rattle.isle_terms.specs.Meaning.Values.{Value, int_value, no_values, more_values}
+use Rattle.isle_terms.specs.Meaning.Values.{int_value, no_values, more_values}
 use Rattle.isle_terms.specs.Meaning.Sites.{argument, match_variant}
 use Rattle.isle_terms.specs.Meaning.Held.{held_value}
 use Rattle.isle_terms.specs.Meaning.Demands.{constrained, equal, int_constraint, demands_of}

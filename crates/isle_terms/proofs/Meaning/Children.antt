@@ -49,9 +49,9 @@ module _ (facts : TermFacts) (c : Completion) (args : Values) (done : List (Opti
       struct_at (value facts c args done s) ty i vs (e ∙ ap (λ (y : Value). gives (held_value y)) o) ∙ ap held h
   parts_at declared_shape ty t n s v vs w e o l i x h =
       let its : IsAt (value facts c args done) (output n (extract_site false (facts.infallible t) (extractor_call t s))) vs =
-          extract_at (facts.infallible t) t n s v vs (w.1) refl e o l in
+      extract_at (facts.infallible t) t n s v vs (w.1) refl e o l in
       subst (λ (b : Bool). value facts c args done (output n (extract_site b (facts.infallible t) (extractor_call t s)) i) ≡ gives
-          (held_value x)) (sym (w.1)) (its i x h)
+      (held_value x)) (sym (w.1)) (its i x h)
 
 -- what is bound stays bound, at its site
 module _ (facts : TermFacts) where
@@ -98,7 +98,7 @@ module _ (facts : TermFacts) where
   lets_kept [] vars S k w h = refl
   lets_kept (x ∷ xs) vars S k w h =
       lets_kept xs (bound facts x.pattern (iflet_site facts vars x) vars) (scope x.pattern S) k (w.2) (mono x.pattern S k h)
-          ∙ kept x.pattern (iflet_site facts vars x) vars S k (w.1) h
+      ∙ kept x.pattern (iflet_site facts vars x) vars S k (w.1) h
 
 -- one more variable
 pub agree_set : (val : Site → Got Held) (a : ℕ → Value) (S : ℕ → Type 0) (vars : ℕ → Site) (j : ℕ) (s : Site) (v : Value)

@@ -105,10 +105,10 @@ meets_one facts tys s (int_constraint a t) (int_constraint b u) x f g m l = cc
 meets_one facts tys s (prim_constraint a) (prim_constraint b) x f g m l = cc
 meets_one facts tys s (variant_constraint t k n) (variant_constraint u j m) x f g (vs, p, q) (us, r, o) =
     let a : held_value (made_variant t k vs) ≡ held_value (made_variant u j us) = sym p ∙ r in let e : vs ≡ us = cc in let d : n ≡ m =
-        sym q ∙ ap count e ∙ o in cc
+    sym q ∙ ap count e ∙ o in cc
 meets_one facts tys s (struct_constraint t n) (struct_constraint u m) x f g (vs, p, q) (us, r, o) =
     let a : held_value (made_struct t vs) ≡ held_value (made_struct u us) = sym p ∙ r in let e : vs ≡ us = cc in let d : n ≡ m =
-        sym q ∙ ap count e ∙ o in cc
+    sym q ∙ ap count e ∙ o in cc
 meets_one facts tys s some_constraint some_constraint x f g m l = refl
 meets_one facts tys s c d x f g m l = let p : tag c ≡ tag d = sym (tagged c x m) ∙ tagged d x l in absurd (omega arith)
 
@@ -176,11 +176,11 @@ module _ (val : Site → Got Held) (respects : Respects val) where
         × (height_of y < height_of x)
     field_lower s u (of_variant {ty = ty} {k = k} {n = n} {i = i} h l) =
         let (x, y, e, g, f) =
-            variant_value s ty k n i (derived_holds (constrained s (variant_constraint ty k n)) h) l in
-            (x, y, e, g, variant_lower x k i y f)
+        variant_value s ty k n i (derived_holds (constrained s (variant_constraint ty k n)) h) l in
+        (x, y, e, g, variant_lower x k i y f)
     field_lower s u (of_struct {ty = ty} {n = n} {i = i} h l) =
         let (x, y, e, g, f) =
-            struct_value s ty n i (derived_holds (constrained s (struct_constraint ty n)) h) l in (x, y, e, g, struct_lower x i y f)
+        struct_value s ty n i (derived_holds (constrained s (struct_constraint ty n)) h) l in (x, y, e, g, struct_lower x i y f)
 
     inside_lower : (s u : Site) → Inside D s u → (x : Held) × (y : Held) × (val s ≡ gives x) × (val u ≡ gives y)
         × (height_of y < height_of x)
@@ -197,7 +197,7 @@ module _ (val : Site → Got Held) (respects : Respects val) where
         let (y, g, l) = derived_holds (constrained (c.site) (c.other)) (c.has_other) in
         let q : y ≡ x = cc in
         c.differ (meets_one facts tys (c.site) (c.one) (c.other) x (derived_suits facts tys D suit _ (c.has_one))
-            (derived_suits facts tys D suit _ (c.has_other)) m (subst (Meets (c.other)) q l))
+        (derived_suits facts tys D suit _ (c.has_other)) m (subst (Meets (c.other)) q l))
     is_reachable facts tys suit (inr c) =
         let (x, y, e, g, l) = inside_lower (c.site) (c.part) (c.inside) in
         let (z, m, k) = derived_holds (equal (c.site) (c.part)) (c.same) in
@@ -211,7 +211,7 @@ module _ (val : Site → Got Held) (respects : Respects val) where
       let (y, g, l) = derived_holds E he (constrained (c.site) (c.other)) (c.has_other) in
       let q : y ≡ x = cc in
       c.apart (meets_one facts tys (c.site) (c.one) (c.other) x (derived_suits facts tys D fd _ (c.has_one))
-          (derived_suits facts tys E fe _ (c.has_other)) m (subst (Meets (c.other)) q l))
+      (derived_suits facts tys E fe _ (c.has_other)) m (subst (Meets (c.other)) q l))
 
   module _ (facts : TermFacts) (tys : List ℕ) (D : Demand → Type 0) (suit : AllSuit facts tys D) (closed : (d : Demand) → Closed D d
       → Holds val d) where
@@ -230,18 +230,18 @@ module _ (val : Site → Got Held) (respects : Respects val) where
         closed (constrained u (prim_constraint b)) (shared h d) in let r : z ≡ x = cc in cc
     alike fuel rec s u n h x e l some_constraint d =
         let (ty, p, q) = derived_suits facts tys D suit (equal s u) h in let (k, r) =
-            derived_suits facts tys D suit (constrained s some_constraint) d in absurd cc
+        derived_suits facts tys D suit (constrained s some_constraint) d in absurd cc
     alike fuel rec s u n h x e l (variant_constraint ty k m) d =
         let (y, p, (vs, a, f)) = closed (constrained s (variant_constraint ty k m)) d in let (z, q, (us, b, g)) =
-            closed (constrained u (variant_constraint ty k m)) (shared h d) in
+        closed (constrained u (variant_constraint ty k m)) (shared h d) in
         let r : x ≡ held_value (made_variant ty k vs) = cc in
         let hx : height_of x ≡ suc (height_all vs) = ap height_of r in
         let same : vs ≡ us = same_values vs us (f ∙ sym g) (λ i w j o.
         let its : val (match_variant s k i) ≡ gives (held_value w) =
-            (respects.variant s k i x (held_value w) e).0 (record { ty = ty; fields = vs; field = w; made = r; there = o; same = refl }) in
+        (respects.variant s k i x (held_value w) e).0 (record { ty = ty; fields = vs; field = w; made = r; there = o; same = refl }) in
         let low : height w ≤ height_all vs = nth_lower vs i w o in
         let there : val (match_variant u k i) ≡ gives (held_value w) =
-            rec (match_variant s k i) (match_variant u k i) (λ t. n cc) (like_variant h d (omega arith)) (held_value w) its (omega arith) in
+        rec (match_variant s k i) (match_variant u k i) (λ t. n cc) (like_variant h d (omega arith)) (held_value w) its (omega arith) in
         let v : IsVariantField z k i (held_value w) = (respects.variant u k i z (held_value w) q).1 there in
         let c : held_value (made_variant ty k us) ≡ held_value (made_variant (v.ty) k (v.fields)) = sym b ∙ v.made in
         let c' : us ≡ v.fields = cc in
@@ -251,15 +251,15 @@ module _ (val : Site → Got Held) (respects : Respects val) where
         let t : z ≡ x = b ∙ ap (λ (zs : Values). held_value (made_variant ty k zs)) (sym same) ∙ sym r in q ∙ ap (λ (t : Held). gives t) t
     alike fuel rec s u n h x e l (struct_constraint ty m) d =
         let (y, p, (vs, a, f)) = closed (constrained s (struct_constraint ty m)) d in let (z, q, (us, b, g)) =
-            closed (constrained u (struct_constraint ty m)) (shared h d) in
+        closed (constrained u (struct_constraint ty m)) (shared h d) in
         let r : x ≡ held_value (made_struct ty vs) = cc in
         let hx : height_of x ≡ suc (height_all vs) = ap height_of r in
         let same : vs ≡ us = same_values vs us (f ∙ sym g) (λ i w j o.
         let its : val (extract_struct s i) ≡ gives (held_value w) =
-            (respects.struct s i x (held_value w) e).0 (record { ty = ty; fields = vs; field = w; built = r; there = o; same = refl }) in
+        (respects.struct s i x (held_value w) e).0 (record { ty = ty; fields = vs; field = w; built = r; there = o; same = refl }) in
         let low : height w ≤ height_all vs = nth_lower vs i w o in
         let there : val (extract_struct u i) ≡ gives (held_value w) =
-            rec (extract_struct s i) (extract_struct u i) (λ t. n cc) (like_struct h d (omega arith)) (held_value w) its (omega arith) in
+        rec (extract_struct s i) (extract_struct u i) (λ t. n cc) (like_struct h d (omega arith)) (held_value w) its (omega arith) in
         let v : IsStructField z i (held_value w) = (respects.struct u i z (held_value w) q).1 there in
         let c : held_value (made_struct ty us) ≡ held_value (made_struct (v.ty) (v.fields)) = sym b ∙ v.built in
         let c' : us ≡ v.fields = cc in

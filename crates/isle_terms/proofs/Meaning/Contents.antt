@@ -50,7 +50,7 @@ module _ (facts : TermFacts) (c : Completion) (args : Values) (done : List (Opti
     contents_all_hold (more_sites s ss) vs e =
         let (x, xs, p, q) = more_gives (plain (value facts c args done s)) (values facts c args done ss) vs e in
         each_append (Holds (value facts c args done)) (contents s) (contents_all ss) (contents_hold s (held_value x) (plain_gives _ x p))
-            (contents_all_hold ss xs q)
+        (contents_all_hold ss xs q)
 
 module _ (facts : TermFacts) (c : Completion) (args : Values) (allowed : IsAllowed facts c) (a : ℕ → Value) (vars : ℕ → Site) (S : ℕ
     → Type 0)
@@ -86,11 +86,11 @@ module _ (facts : TermFacts) (c : Completion) (args : Values) (allowed : IsAllow
         let (vs, e) = words_valued ws r (λ u. n (rw u refl)) h in (_, ap (built ty) e)
     word_valued (call_word t ws i) r n h =
         let h' = subst (λ (b : Bool). AllHoldProper (value facts c args [])
-            (contents (answer_site b (facts.partial t) (constructor_call t (sites_of facts vars ws) i)))) (r.0) h in
+        (contents (answer_site b (facts.partial t) (constructor_call t (sites_of facts vars ws) i)))) (r.0) h in
         let (vs, e) = words_valued ws (r.1) (λ u. n (rw u refl)) (contents_of_call (facts.partial t) t (sites_of facts vars ws) i h') in
         let es : values facts c args [] (sites_of facts vars ws) ≡ gives vs = words_sites facts c args [] a vars S agree ws (r.1) ∙ e in
         let (v, p) = call_valued (facts.partial t) t (sites_of facts vars ws) i vs (answer_of c [] t i vs) (r.0) refl es refl
-            (λ u. n (rw (e, u) refl)) h' in
+        (λ u. n (rw (e, u) refl)) h' in
         (v, ap (ask (answer_of c [] t i)) e ∙ p)
 
     pub words_valued : (ws : Words) → ReadAll facts ws S → (word_values c a [] ws ≡ unknown → ⊥)

@@ -39,7 +39,7 @@ module _ (facts : TermFacts) (c : Completion) (args : Values) (a : ℕ → Value
   opened struct_shape ty t n s v vs w e o l = ((held_value v, e, (vs, ap held_value o, l)), tt)
   opened declared_shape ty t n s v vs w e o l =
       subst (λ (b : Bool). AllHold (value facts c args []) (extractor_demands b (facts.infallible t) (extractor_call t s))) (sym (w.1))
-          (some_holds (facts.infallible t) t s v vs (w.1) refl e o)
+      (some_holds (facts.infallible t) t s v vs (w.1) refl e o)
 
   mutual
     pub forward : (p : TypedPattern) (S : ℕ → Type 0) (vars : ℕ → Site) (s : Site) (v : Value) → IsWellScoped facts p S
@@ -56,16 +56,18 @@ module _ (facts : TermFacts) (c : Completion) (args : Values) (a : ℕ → Value
         let (vs, q, h) = f in
         let l = fits_count ps vs h in
         let r = forward_all ps S vars (parts facts (facts.shape t) t (patterns ps) s) vs (w.1) g
-            (parts_at facts c args [] (facts.shape t) ty t (patterns ps) s v vs (w.0) e q l) h in
-        (each_append (Holds (value facts c args [])) (opens facts (facts.shape t) ty t (patterns ps) s) _
-            (opened (facts.shape t) ty t (patterns ps) s v vs (w.0) e q l) (r.0), r.1)
+        (parts_at facts c args [] (facts.shape t) ty t (patterns ps) s v vs (w.0) e q l) h in (
+          each_append (Holds (value facts c args [])) (opens facts (facts.shape t) ty t (patterns ps) s) _
+              (opened (facts.shape t) ty t (patterns ps) s v vs (w.0) e q l) (r.0),
+          r.1,
+        )
     forward (typed_wildcard ty) S vars s v w g e f = (tt, g)
     forward (typed_and ty ps) S vars s v w g e f = forward_each ps S vars s v w g e f
 
     pub forward_all : (ps : TypedPatterns) (S : ℕ → Type 0) (vars : ℕ → Site) (at : ℕ → Site) (vs : Values) → AreWellScoped facts ps S
         → Agree (value facts c args []) a S vars → IsAt (value facts c args []) at vs → FitsAll facts c a ps vs
         → AllHold (value facts c args []) (demands_all facts ps at vars)
-            × Agree (value facts c args []) a (scope_all ps S) (bound_all facts ps at vars)
+        × Agree (value facts c args []) a (scope_all ps S) (bound_all facts ps at vars)
     forward_all no_typed S vars at vs w g e f = (tt, g)
     forward_all (more_typed p ps) S vars at no_values w g e f = absurd f
     forward_all (more_typed p ps) S vars at (more_values x xs) w g e f =
@@ -76,7 +78,7 @@ module _ (facts : TermFacts) (c : Completion) (args : Values) (a : ℕ → Value
     pub forward_each : (ps : TypedPatterns) (S : ℕ → Type 0) (vars : ℕ → Site) (s : Site) (v : Value) → AreWellScoped facts ps S
         → Agree (value facts c args []) a S vars → value facts c args [] s ≡ gives (held_value v) → FitsEach facts c a ps v
         → AllHold (value facts c args []) (demands_all facts ps (λ i. s) vars)
-            × Agree (value facts c args []) a (scope_all ps S) (bound_all facts ps (λ i. s) vars)
+        × Agree (value facts c args []) a (scope_all ps S) (bound_all facts ps (λ i. s) vars)
     forward_each no_typed S vars s v w g e f = (tt, g)
     forward_each (more_typed p ps) S vars s v w g e f =
         let r = forward p S vars s v (w.0) g e (f.0) in
@@ -86,12 +88,12 @@ module _ (facts : TermFacts) (c : Completion) (args : Values) (a : ℕ → Value
   pub forward_lets : (xs : List TypedIfLet) (S : ℕ → Type 0) (vars : ℕ → Site) → IfLetsAreWellScoped facts xs S
       → Agree (value facts c args []) a S vars → IfLetsHold facts c a xs
       → AllHold (value facts c args []) (iflets_demands facts xs vars)
-          × Agree (value facts c args []) a (iflets_scope xs S) (iflets_bound facts xs vars)
+      × Agree (value facts c args []) a (iflets_scope xs S) (iflets_bound facts xs vars)
   forward_lets [] S vars w g f = (tt, g)
   forward_lets (x ∷ xs) S vars w g f =
       let (v, p, h) = f.0 in
       let e : value facts c args [] (iflet_site facts vars x) ≡ gives (held_value v) =
-          word_site facts c args [] a vars S g (word_of facts x.value) (word_reads facts S x.value (w.0)) ∙ ap held p in
+      word_site facts c args [] a vars S g (word_of facts x.value) (word_reads facts S x.value (w.0)) ∙ ap held p in
       let r = forward x.pattern S vars (iflet_site facts vars x) v (w.1) g e h in
       let q = forward_lets xs (scope x.pattern S) (bound facts x.pattern (iflet_site facts vars x) vars) (w.2) (r.1) (f.1) in (
         each_append (Holds (value facts c args [])) (contents (iflet_site facts vars x)) _

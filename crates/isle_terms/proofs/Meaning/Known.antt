@@ -91,7 +91,7 @@ module _ (facts : TermFacts) (c : Completion) (args : Values) (done : List (Opti
     known (argument i) h e = nth_known args i (held_known _ e)
     known (extractor_call t s) h e =
         let (v, p, q) = ask_known _ (plain (value facts c args done s)) e (λ u. known s (h.0) (plain_known _ u)) in
-            h.1 v (plain_gives _ v p) q
+        h.1 v (plain_gives _ v p) q
     known (constructor_call t ss i) h e = let (vs, p, q) = ask_known _ (values facts c args done ss) e (known_all ss (h.0)) in h.1 vs p q
     known (iterator s) h e = known s h (ask_total _ _ (item_known (c.place s)) e)
     known (make_variant ty k ss) h e = known_all ss h (ask_total _ _ (λ x p. cc) (held_known (made ty k _) e))

@@ -46,8 +46,11 @@ module _ (D E : Demand → Type 0) (more : (d : Demand) → D d → E d ⊎ IsRe
   derived_less d (chained {s = s} {u = u} {w = w} h g) = elim (derived_less (equal s u) h) [
     | inl e ↦ elim (derived_less (equal u w) g)
         [ inl f ↦ inl (chained e f) | inr q ↦ inl (subst (λ (z : Site). Derived E (equal s z)) q e) ]
-    | inr r ↦ elim (derived_less (equal u w) g) [ inl f ↦ inl (subst (λ (z : Site). Derived E (equal z w)) (sym r) f) | inr q ↦ inr (r
-        ∙ q) ]
+    | inr r ↦ elim (derived_less (equal u w) g) [
+      | inl f ↦ inl (subst (λ (z : Site). Derived E (equal z w)) (sym r) f)
+      | inr q ↦ inr (r
+          ∙ q)
+    ]
   ]
   derived_less d (shared {s = s} {u = u} {c = c} h g) = elim (derived_less (constrained s c) g) [
     | inl f ↦ elim (derived_less (equal s u) h)
@@ -79,8 +82,15 @@ module _ (D E : Demand → Type 0) (more : (d : Demand) → D d → E d ⊎ IsRe
 
   pub unreachable_less : IsUnreachable D → IsUnreachable E
   unreachable_less (inl c) =
-      inl (record { site = c.site; one = c.one; other = c.other; has_one = has_less _ _ (c.has_one); has_other =
-      has_less _ _ (c.has_other); differ = c.differ })
+      inl (record {
+        site = c.site;
+        one = c.one;
+        other = c.other;
+        has_one = has_less _ _ (c.has_one);
+        has_other =
+            has_less _ _ (c.has_other);
+        differ = c.differ;
+      })
   unreachable_less (inr c) =
       let below = inside_deeper D (c.site) (c.part) (c.inside) in
       let apart : c.site ≢ c.part = λ e. let q : deep (c.site) ≡ deep (c.part) = ap deep e in omega arith in

@@ -55,7 +55,7 @@ all_more N M f (d ∷ ds) h = (fields_more (IsNeeded N) (IsNeeded M) f d (h.0), 
 both : (N M : List Site) (ds es : List Demand) → All N ds → All M es → All (N ++ M) (ds ++ es)
 both N M ds es h g =
     each_append (FieldsAreNeeded (IsNeeded (N ++ M))) ds es (all_more N (N ++ M) (λ s i. needed_left s N M i) ds h)
-        (all_more M (N ++ M) (λ s i. needed_right s N M i) es g)
+    (all_more M (N ++ M) (λ s i. needed_right s N M i) es g)
 
 contents_need : (N : List Site) → (m b : Bool) (s : Site) → All N (extractor_demands m b s)
 contents_need N true b s = tt
@@ -100,7 +100,7 @@ module _ (facts : TermFacts) where
     needing (typed_prim ty n) s vars = (tt, tt)
     needing (typed_term ty t ps) s vars =
         both (open_needs facts (facts.shape t) t (patterns ps) s) _ (opens facts (facts.shape t) ty t (patterns ps) s) _
-            (open_all (facts.shape t) ty t (patterns ps) s) (needing_all ps (parts facts (facts.shape t) t (patterns ps) s) vars)
+        (open_all (facts.shape t) ty t (patterns ps) s) (needing_all ps (parts facts (facts.shape t) t (patterns ps) s) vars)
     needing (typed_wildcard ty) s vars = tt
     needing (typed_and ty ps) s vars = needing_all ps (λ i. s) vars
 
@@ -108,7 +108,7 @@ module _ (facts : TermFacts) where
     needing_all no_typed at vars = tt
     needing_all (more_typed p ps) at vars =
         both (needs facts p (at 0)) (needs_all facts ps (λ i. at (suc i))) (demands facts p (at 0) vars) _ (needing p (at 0) vars)
-            (needing_all ps (λ i. at (suc i)) (bound facts p (at 0) vars))
+        (needing_all ps (λ i. at (suc i)) (bound facts p (at 0) vars))
 
   -- arguments, from an index on
   needing_args : (ps : TypedPatterns) (j : ℕ) (at : ℕ → Site) (vars : ℕ → Site) → ((i : ℕ) → at i ≡ argument (j + i))
@@ -117,12 +117,12 @@ module _ (facts : TermFacts) where
   needing_args (more_typed p ps) j at vars e =
       let first : All (needs facts p (argument j)) (demands facts p (at 0) vars) =
       subst (λ (z : Site). All (needs facts p z) (demands facts p (at 0) vars)) (e 0 ∙ ap argument (let q : j + 0 ≡ j =
-          omega arith in q)) (needing p (at 0) vars) in
+      omega arith in q)) (needing p (at 0) vars) in
       let rest = needing_args ps (suc j) (λ i. at (suc i)) (bound facts p (at 0) vars) (λ i. e (suc i)
-          ∙ ap argument (let q : j + suc i ≡ suc j + i = omega arith in q)) in
+      ∙ ap argument (let q : j + suc i ≡ suc j + i = omega arith in q)) in
       all_more (needs facts p (argument j)
-          ++ args_needs facts ps (suc j)) (args_needs facts (more_typed p ps) j) (λ s i. inr i)
-          (demands_all facts (more_typed p ps) at vars)
+      ++ args_needs facts ps (suc j)) (args_needs facts (more_typed p ps) j) (λ s i. inr i)
+      (demands_all facts (more_typed p ps) at vars)
       (both (needs facts p (argument j)) (args_needs facts ps (suc j)) (demands facts p (at 0) vars) _ first rest)
 
   needing_lets : (xs : List TypedIfLet) (vars : ℕ → Site) → All (iflets_needs facts xs vars) (iflets_demands facts xs vars)
@@ -130,7 +130,7 @@ module _ (facts : TermFacts) where
   needing_lets (x ∷ xs) vars =
       both ((visit facts vars no_log x.value).1.needed) _ (contents (iflet_site facts vars x)) _ (some_alone _ (iflet_site facts vars x))
       (both (needs facts x.pattern (iflet_site facts vars x)) _ (demands facts x.pattern (iflet_site facts vars x) vars) _
-          (needing x.pattern (iflet_site facts vars x) vars) (needing_lets xs (bound facts x.pattern (iflet_site facts vars x) vars)))
+      (needing x.pattern (iflet_site facts vars x) vars) (needing_lets xs (bound facts x.pattern (iflet_site facts vars x) vars)))
 
 pub needs_have_fields : NeedsHaveFields
 needs_have_fields facts rule d i =
@@ -138,7 +138,7 @@ needs_have_fields facts rule d i =
     let first = needing_args facts rule.args 0 argument nothing (λ i. ap argument (let q : i ≡ 0 + i = omega arith in q)) in
     let iflets = needing_lets facts rule.iflets (args_bound facts rule) in
     let more = all_more (iflets_needs facts rule.iflets (args_bound facts rule)) (iflets_needs facts rule.iflets (args_bound facts rule)
-        ++ last) (λ s j. needed_left s _ last j) (iflets_demands facts rule.iflets (args_bound facts rule)) iflets in
+    ++ last) (λ s j. needed_left s _ last j) (iflets_demands facts rule.iflets (args_bound facts rule)) iflets in
     among (FieldsAreNeeded (IsNeeded (needs_of facts rule))) (demands_of facts rule)
-        (both (args_needs facts rule.args 0) (iflets_needs facts rule.iflets (args_bound facts rule)
-        ++ last) (demands_all facts rule.args argument nothing) _ first more) d i
+    (both (args_needs facts rule.args 0) (iflets_needs facts rule.iflets (args_bound facts rule)
+    ++ last) (demands_all facts rule.args argument nothing) _ first more) d i

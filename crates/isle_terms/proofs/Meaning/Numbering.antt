@@ -106,23 +106,23 @@ module _ (table : List Row) where
         one_sites ss us ks (x.1) (y.1) in cc
 
 module _ (table : List Row) (has : List (ℕ × Constraint)) (same : List (ℕ × ℕ)) (ds : List Demand) (are : AreRecorded table has same ds)
-    where
-  sound : (d : Demand) → Recorded table has same d → Among ds d ⊎ IsReflexive d
-  sound (constrained s c) (k, h, x) =
-      let (t, y, i) = are.constraint k c h in inl (subst (λ (z : Site). Among ds (constrained z c)) (one_site table t s k y x) i)
-  sound (equal s u) (a, b, h, x, y) =
-      let (t, w, z, v, i) = are.equality a b h in
-      inl (subst (λ (r : Site). Among ds (equal s r)) (one_site table w u b v y)
-          (subst (λ (r : Site). Among ds (equal r w)) (one_site table t s a z x) i))
+  where
+    sound : (d : Demand) → Recorded table has same d → Among ds d ⊎ IsReflexive d
+    sound (constrained s c) (k, h, x) =
+        let (t, y, i) = are.constraint k c h in inl (subst (λ (z : Site). Among ds (constrained z c)) (one_site table t s k y x) i)
+    sound (equal s u) (a, b, h, x, y) =
+        let (t, w, z, v, i) = are.equality a b h in
+        inl (subst (λ (r : Site). Among ds (equal s r)) (one_site table w u b v y)
+        (subst (λ (r : Site). Among ds (equal r w)) (one_site table t s a z x) i))
 
-  complete : (d : Demand) → Among ds d → Recorded table has same d ⊎ IsReflexive d
-  complete (constrained s c) i = let (k, x, h) = are.all_constraints s c i in inl (k, h, x)
-  complete (equal s u) i = let (a, b, x, y, h) = are.all_equalities s u i in go a b x y h (a == b) refl
-    where
-      go : (a b : ℕ) → At table s a → At table u b → (a ≢ b → Contains same (a, b)) → (r : Bool) → (a == b) ≡ r
-          → Recorded table has same (equal s u) ⊎ (s ≡ u)
-      go a b x y h true e = inr (one_site table s u a x (subst (At table u) (sym (eqb-true a b e)) y))
-      go a b x y h false e = inl (a, b, h (λ p. let q = eq-eqb a b p in cc), x, y)
+    complete : (d : Demand) → Among ds d → Recorded table has same d ⊎ IsReflexive d
+    complete (constrained s c) i = let (k, x, h) = are.all_constraints s c i in inl (k, h, x)
+    complete (equal s u) i = let (a, b, x, y, h) = are.all_equalities s u i in go a b x y h (a == b) refl
+      where
+        go : (a b : ℕ) → At table s a → At table u b → (a ≢ b → Contains same (a, b)) → (r : Bool) → (a == b) ≡ r
+            → Recorded table has same (equal s u) ⊎ (s ≡ u)
+        go a b x y h true e = inr (one_site table s u a x (subst (At table u) (sym (eqb-true a b e)) y))
+        go a b x y h false e = inl (a, b, h (λ p. let q = eq-eqb a b p in cc), x, y)
 
 pub numbers_say_demands : NumbersSayDemands
 numbers_say_demands table has same ds are =

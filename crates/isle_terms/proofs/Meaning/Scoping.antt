@@ -43,7 +43,7 @@ module _ (facts : TermFacts) (S : ℕ → Type 0) where
         apply_reads (facts.shape t) (facts.pure t) ty t (flat_all facts vars steps es) (r.0) (flat_all_reads es S' vars steps h (r.1))
     flat_reads (built_let ty bs body) S' vars steps h r =
         flat_reads body (let_scope bs S') ((flat_lets facts vars steps bs).0) ((flat_lets facts vars steps bs).1)
-            (flat_lets_read bs S' vars steps h (r.0)) (r.1)
+        (flat_lets_read bs S' vars steps h (r.0)) (r.1)
 
     flat_all_reads : (es : TypedExprs) (S' : ℕ → Type 0) (vars : ℕ → Word) (steps : List Step) → ((j : ℕ) → S' j → Reads facts (vars j) S)
         → ReadExprs facts es S' → ReadAll facts ((flat_all facts vars steps es).0) S
@@ -57,8 +57,8 @@ module _ (facts : TermFacts) (S : ℕ → Type 0) where
     flat_lets_read no_bindings S' vars steps h r = h
     flat_lets_read (more_bindings k ty e bs) S' vars steps h r =
         flat_lets_read bs (λ j. (j ≡ k)
-            ⊎ S' j) (set vars k ((flat facts vars steps e).0)) ((flat facts vars steps e).1)
-            (set_reads S' vars k _ h (flat_reads e S' vars steps h (r.0))) (r.1)
+        ⊎ S' j) (set vars k ((flat facts vars steps e).0)) ((flat facts vars steps e).1)
+        (set_reads S' vars k _ h (flat_reads e S' vars steps h (r.0))) (r.1)
 
   pub word_reads : (e : TypedExpr) → ReadsExpr facts e S → Reads facts (word_of facts e) S
   word_reads e r = flat_reads e S (λ k. var_word k) [] (λ j h. h) r

@@ -77,7 +77,7 @@ module _ (facts : TermFacts) (tys : List ℕ) (G : ℕ → ℕ) where
     flat_lets_give no_bindings vars steps h t = h
     flat_lets_give (more_bindings k ty e bs) vars steps h t =
         flat_lets_give bs (set vars k ((flat facts vars steps e).0)) ((flat facts vars steps e).1)
-            (set_gives vars k _ h (subst (WordGives ((flat facts vars steps e).0)) (sym (t.0)) (flat_gives e ty vars steps h (t.1)))) (t.2)
+        (set_gives vars k _ h (subst (WordGives ((flat facts vars steps e).0)) (sym (t.0)) (flat_gives e ty vars steps h (t.1)))) (t.2)
 
   word_gives : (e : TypedExpr) (u : ℕ) → ExprTyped facts G e u → WordGives (word_of facts e) u
   word_gives e u t = flat_gives e u (λ k. var_word k) [] (λ j. refl) t
@@ -104,7 +104,7 @@ module _ (facts : TermFacts) (tys : List ℕ) (G : ℕ → ℕ) where
     word_sort (struct_word ty ws) u r t = ap plain_sort t
     word_sort (call_word t ws i) u r e =
         subst (λ (b : Bool). sort facts tys (answer_site b (facts.partial t) (constructor_call t (sites_of facts vars ws) i)) ≡ plain_sort
-            u) (sym (r.0)) (call_sort (facts.partial t) t u (sites_of facts vars ws) i (r.0) refl e)
+        u) (sym (r.0)) (call_sort (facts.partial t) t u (sites_of facts vars ws) i (r.0) refl e)
 
     call_contents : (b : Bool) (t : ℕ) (ss : Sites) (i : ℕ) → facts.multi t ≡ false → facts.partial t ≡ b
         → Each (Suits facts tys) (contents_all ss) → Each (Suits facts tys) (contents (answer_site false b (constructor_call t ss i)))
@@ -121,7 +121,7 @@ module _ (facts : TermFacts) (tys : List ℕ) (G : ℕ → ℕ) where
       word_contents (struct_word ty ws) r = words_contents ws r
       word_contents (call_word t ws i) r =
           subst (λ (b : Bool). Each (Suits facts tys)
-              (contents (answer_site b (facts.partial t) (constructor_call t (sites_of facts vars ws) i)))) (sym (r.0))
+          (contents (answer_site b (facts.partial t) (constructor_call t (sites_of facts vars ws) i)))) (sym (r.0))
           (call_contents (facts.partial t) t (sites_of facts vars ws) i (r.0) refl (words_contents ws (r.1)))
 
       words_contents : (ws : Words) → ReadAll facts ws S → Each (Suits facts tys) (contents_all (sites_of facts vars ws))
@@ -151,8 +151,13 @@ module _ (facts : TermFacts) (tys : List ℕ) (G : ℕ → ℕ) where
       → IsGood (output n (extract_site false b (extractor_call t s)) i) (nth_type (facts.inputs t) i)
   extract_good true t n s i m e l j h = output_good n (extractor_call t s) (facts.inputs t) i l j (rw (m, e) refl) h
   extract_good false t n s i m e l j h =
-      output_good n (match_some (extractor_call t s)) (facts.inputs t) i l j (rw (m, e) refl) ((of_outputs (facts.inputs t),
-      rw (m, e) refl), h)
+      output_good n (match_some (extractor_call t s)) (facts.inputs t) i l j (rw (m, e) refl) (
+        (
+          of_outputs (facts.inputs t),
+          rw (m, e) refl,
+        ),
+        h,
+      )
 
   parts_good : (shape : TermShape) (ty t n : ℕ) (s : Site) (i : ℕ) → IsWellOpened facts shape t n → n ≡ length (part_types facts shape ty t)
       → i < n → IsGood s ty → IsGood (parts facts shape t n s i) (nth_type (part_types facts shape ty t) i)
@@ -160,7 +165,7 @@ module _ (facts : TermFacts) (tys : List ℕ) (G : ℕ → ℕ) where
   parts_good struct_shape ty t n s i w l j h = (rw (h.0) refl, h.1)
   parts_good declared_shape ty t n s i w l j h =
       subst (λ (b : Bool). IsGood (output n (extract_site b (facts.infallible t) (extractor_call t s)) i) (nth_type (facts.inputs t) i))
-          (sym (w.1)) (extract_good (facts.infallible t) t n s i (w.1) refl (w.0) j (h.1))
+      (sym (w.1)) (extract_good (facts.infallible t) t n s i (w.1) refl (w.0) j (h.1))
 
   extractor_suit : (b : Bool) (t : ℕ) (s : Site) → facts.multi t ≡ false → facts.infallible t ≡ b
       → Each (Suits facts tys) (extractor_demands false b (extractor_call t s))
@@ -173,7 +178,7 @@ module _ (facts : TermFacts) (tys : List ℕ) (G : ℕ → ℕ) where
   opens_suit struct_shape ty t n s w e = (e, tt)
   opens_suit declared_shape ty t n s w e =
       subst (λ (b : Bool). Each (Suits facts tys) (extractor_demands b (facts.infallible t) (extractor_call t s))) (sym (w.1))
-          (extractor_suit (facts.infallible t) t s (w.1) refl)
+      (extractor_suit (facts.infallible t) t s (w.1) refl)
 
   typed_count : (ps : TypedPatterns) (us : List ℕ) → AllTyped facts G ps us → patterns ps ≡ length us
   typed_count no_typed [] t = refl
@@ -195,9 +200,11 @@ module _ (facts : TermFacts) (tys : List ℕ) (G : ℕ → ℕ) where
         let h' : IsGood s ty = subst (IsGood s) (sym (p.0)) h in
         let l = typed_count ps (part_types facts (facts.shape t) ty t) (p.2) in
         let r = suits_all ps (part_types facts (facts.shape t) ty t) S vars (parts facts (facts.shape t) t (patterns ps) s) (w.1) (p.2) g
-            (λ i j. parts_good (facts.shape t) ty t (patterns ps) s i (w.0) l j h') in
-        (each_append (Suits facts tys) (opens facts (facts.shape t) ty t (patterns ps) s) _
-            (opens_suit (facts.shape t) ty t (patterns ps) s (w.0) (h'.0)) (r.0), r.1)
+        (λ i j. parts_good (facts.shape t) ty t (patterns ps) s i (w.0) l j h') in (
+          each_append (Suits facts tys) (opens facts (facts.shape t) ty t (patterns ps) s) _
+              (opens_suit (facts.shape t) ty t (patterns ps) s (w.0) (h'.0)) (r.0),
+          r.1,
+        )
     suits (typed_wildcard ty) u S vars s w t g h = (tt, g)
     suits (typed_and ty ps) u S vars s w t g h = suits_each ps u S vars s w (t.1) g h
 
@@ -209,7 +216,7 @@ module _ (facts : TermFacts) (tys : List ℕ) (G : ℕ → ℕ) where
     suits_all (more_typed p ps) (u ∷ us) S vars at w t g h =
         let r = suits p u S vars (at 0) (w.0) (t.0) g (h 0 (omega arith)) in
         let q = suits_all ps us (scope p S) (bound facts p (at 0) vars) (λ i. at (suc i)) (w.1) (t.1) (r.1) (λ i l. h (suc i) (omega arith))
-            in
+        in
         (each_append (Suits facts tys) (demands facts p (at 0) vars) _ (r.0) (q.0), q.1)
 
     suits_each : (ps : TypedPatterns) (u : ℕ) (S : ℕ → Type 0) (vars : ℕ → Site) (s : Site) → AreWellScoped facts ps S
@@ -228,20 +235,23 @@ module _ (facts : TermFacts) (tys : List ℕ) (G : ℕ → ℕ) where
   suits_lets (x ∷ xs) S vars w t g =
       let (u, e, p) = t.0 in
       let reads = word_reads facts S x.value (w.0) in
-      let h : IsGood (iflet_site facts vars x) u =
-          (word_sort vars S g (word_of facts x.value) u reads (word_gives x.value u e),
-          word_contents vars S g (word_of facts x.value) reads) in
+      let h : IsGood (iflet_site facts vars x) u = (
+        word_sort vars S g (word_of facts x.value) u reads (word_gives x.value u e),
+        word_contents vars S g (word_of facts x.value) reads,
+      ) in
       let r = suits x.pattern u S vars (iflet_site facts vars x) (w.1) p g h in
-      let q = suits_lets xs (scope x.pattern S) (bound facts x.pattern (iflet_site facts vars x) vars) (w.2) (t.1) (r.1) in
-      (each_append (Suits facts tys) (contents (iflet_site facts vars x)) _ (h.1)
-          (each_append (Suits facts tys) (demands facts x.pattern (iflet_site facts vars x) vars) _ (r.0) (q.0)), q.1)
+      let q = suits_lets xs (scope x.pattern S) (bound facts x.pattern (iflet_site facts vars x) vars) (w.2) (t.1) (r.1) in (
+        each_append (Suits facts tys) (contents (iflet_site facts vars x)) _ (h.1)
+            (each_append (Suits facts tys) (demands facts x.pattern (iflet_site facts vars x) vars) _ (r.0) (q.0)),
+        q.1,
+      )
 
 pub demands_suit : DemandsSuit
 demands_suit facts tys rule is =
     let G = is.var_types in
     let r = suits_all facts tys G rule.args tys none nothing argument (is.well.args) (is.typed.args) (λ k h. absurd h) (λ i l. (refl, tt))
-        in
+    in
     let q = suits_lets facts tys G rule.iflets (scope_all rule.args none) (args_bound facts rule) (is.well.iflets) (is.typed.iflets) (r.1)
-        in
+    in
     among (Suits facts tys) (demands_of facts rule)
-        (each_append (Suits facts tys) (demands_all facts rule.args argument nothing) _ (r.0) (q.0))
+    (each_append (Suits facts tys) (demands_all facts rule.args argument nothing) _ (r.0) (q.0))

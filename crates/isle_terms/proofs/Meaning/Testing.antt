@@ -90,7 +90,7 @@ module _ (facts : TermFacts) (D : Demand → Type 0) where
     tested (typed_term ty t ps) S vars s w g h n =
         let here = opens facts (facts.shape t) ty t (patterns ps) s in
         let r = tested_all ps S vars (parts facts (facts.shape t) t (patterns ps) s) (w.1) g
-            (parts_tested (facts.shape t) ty t (patterns ps) s (within_left here _ n) h) (within_right here _ n) in
+        (parts_tested (facts.shape t) ty t (patterns ps) s (within_left here _ n) h) (within_right here _ n) in
         (each_append (SpeaksOfTested D) here _ (opens_speak (facts.shape t) ty t (patterns ps) s h) (r.0), r.1)
     tested (typed_wildcard ty) S vars s w g h n = (tt, g)
     tested (typed_and ty ps) S vars s w g h n = tested_all ps S vars (λ i. s) w g (λ i l. h) n
@@ -102,7 +102,7 @@ module _ (facts : TermFacts) (D : Demand → Type 0) where
     tested_all (more_typed p ps) S vars at w g h n =
         let r = tested p S vars (at 0) (w.0) g (h 0 (omega arith)) (within_left (demands facts p (at 0) vars) _ n) in
         let q = tested_all ps (scope p S) (bound facts p (at 0) vars) (λ i. at (suc i)) (w.1) (r.1) (λ i l. h (suc i) (omega arith))
-            (within_right (demands facts p (at 0) vars) _ n) in
+        (within_right (demands facts p (at 0) vars) _ n) in
         (each_append (SpeaksOfTested D) (demands facts p (at 0) vars) _ (r.0) (q.0), q.1)
 
   -- a word's site, where its partial calls are demanded to be `Some`
@@ -127,9 +127,10 @@ module _ (facts : TermFacts) (D : Demand → Type 0) where
       words_tested : (ws : Words) → ReadAll facts ws S → Within (contents_all (sites_of facts vars ws)) D
           → AreTested D (sites_of facts vars ws)
       words_tested no_words r n = tt
-      words_tested (more_words w ws) r n =
-          (word_tested w (r.0) (within_left (contents (site_of facts vars w)) _ n),
-              words_tested ws (r.1) (within_right (contents (site_of facts vars w)) _ n))
+      words_tested (more_words w ws) r n = (
+        word_tested w (r.0) (within_left (contents (site_of facts vars w)) _ n),
+        words_tested ws (r.1) (within_right (contents (site_of facts vars w)) _ n),
+      )
 
   -- what is looked into is tested too
   mutual
@@ -163,9 +164,9 @@ module _ (facts : TermFacts) (D : Demand → Type 0) where
       let rest = within_right (contents (iflet_site facts vars x)) _ n in
       let h = word_tested S vars g (word_of facts x.value) (word_reads facts S x.value (w.0)) first in
       let r = tested x.pattern S vars (iflet_site facts vars x) (w.1) g h
-          (within_left (demands facts x.pattern (iflet_site facts vars x) vars) _ rest) in
+      (within_left (demands facts x.pattern (iflet_site facts vars x) vars) _ rest) in
       let q = lets_tested xs (scope x.pattern S) (bound facts x.pattern (iflet_site facts vars x) vars) (w.2) (r.1)
-          (within_right (demands facts x.pattern (iflet_site facts vars x) vars) _ rest) in (
+      (within_right (demands facts x.pattern (iflet_site facts vars x) vars) _ rest) in (
         each_append (SpeaksOfTested D) (contents (iflet_site facts vars x)) _ (contents_speak (iflet_site facts vars x) h)
             (each_append (SpeaksOfTested D) (demands facts x.pattern (iflet_site facts vars x) vars) _ (r.0) (q.0)),
         q.1,
@@ -175,11 +176,13 @@ pub demands_are_tested : DemandsAreTested
 demands_are_tested facts rule well =
     let D = DemandOf facts rule in
     let r = tested_all facts D rule.args none nothing argument (well.args) (λ k h. absurd h) (λ i l. tt)
-        (λ d i. among_left d (demands_all facts rule.args argument nothing) _ i) in
+    (λ d i. among_left d (demands_all facts rule.args argument nothing) _ i) in
     let q = lets_tested facts D rule.iflets (scope_all rule.args none) (args_bound facts rule) (well.iflets) (r.1)
-        (λ d i. among_right d (demands_all facts rule.args argument nothing) _ i) in
-    (among (SpeaksOfTested D) (demands_of facts rule)
-        (each_append (SpeaksOfTested D) (demands_all facts rule.args argument nothing) _ (r.0) (q.0)), q.1)
+    (λ d i. among_right d (demands_all facts rule.args argument nothing) _ i) in (
+      among (SpeaksOfTested D) (demands_of facts rule)
+          (each_append (SpeaksOfTested D) (demands_all facts rule.args argument nothing) _ (r.0) (q.0)),
+      q.1,
+    )
 
 module _ (D E : Demand → Type 0) (more : (d : Demand) → D d → E d) where
   mutual
@@ -221,5 +224,5 @@ module _ (D : Demand → Type 0) (all : (d : Demand) → D d → SpeaksOfTested 
 pub derived_is_tested : DerivedIsTested
 derived_is_tested facts rule well d h =
     derived_tested (DemandOf facts rule)
-        (λ e i. speaks_more (DemandOf facts rule) (Derived (DemandOf facts rule)) (λ f j. demanded j) e
-        ((demands_are_tested facts rule well).0 e i)) d h
+    (λ e i. speaks_more (DemandOf facts rule) (Derived (DemandOf facts rule)) (λ f j. demanded j) e
+    ((demands_are_tested facts rule well).0 e i)) d h

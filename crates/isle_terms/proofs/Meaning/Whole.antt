@@ -35,11 +35,11 @@ module _ (facts : TermFacts) (c : Completion) (args : Values) (rule : TypedRule)
   both_backward s h =
       let a = at_last facts c args (s.allowed) (vars_of facts rule) in
       let low : IsLast (vars_of facts rule) (scope_all rule.args none) (args_bound facts rule) =
-          λ j i. lets_kept facts rule.iflets (args_bound facts rule) (scope_all rule.args none) j (well.iflets) i in
+      λ j i. lets_kept facts rule.iflets (args_bound facts rule) (scope_all rule.args none) j (well.iflets) i in
       let r = backward_all facts c args (s.allowed) (vars_of facts rule) rule.args none nothing argument args (well.args) (no_variable a)
-          low (λ i x e. ap held e) (s.takes) (s.covers.0) (each_first _ (demands_all facts rule.args argument nothing) _ h) in
+      low (λ i x e. ap held e) (s.takes) (s.covers.0) (each_first _ (demands_all facts rule.args argument nothing) _ h) in
       let q = backward_lets facts c args (s.allowed) (vars_of facts rule) rule.iflets (scope_all rule.args none) (args_bound facts rule)
-          (well.iflets) (r.1) (λ j i. refl) (s.covers.1) (each_rest _ (demands_all facts rule.args argument nothing) _ h) in
+      (well.iflets) (r.1) (λ j i. refl) (s.covers.1) (each_rest _ (demands_all facts rule.args argument nothing) _ h) in
       (a, (r.0, q.0))
 
   pub all_hold : Matches facts c args rule → (d : Demand) → DemandOf facts rule d → Holds (value facts c args []) d
@@ -50,14 +50,16 @@ each_map P Q [] f h = tt
 each_map P Q (d ∷ ds) f h = (f d (h.0), each_map P Q ds f (h.1))
 
 pub matches_by_proper : MatchesByProper
-matches_by_proper facts c args rule well s =
-    (λ m. each_map _ _ (demands_of facts rule) (λ d h p. h) ((both_forward facts c args rule well (m.0) (m.1)).0),
-        both_backward facts c args rule well s)
+matches_by_proper facts c args rule well s = (
+  λ m. each_map _ _ (demands_of facts rule) (λ d h p. h) ((both_forward facts c args rule well (m.0) (m.1)).0),
+  both_backward facts c args rule well s,
+)
 
 pub matches_by_demands : MatchesByDemands
-matches_by_demands facts c args rule well s =
-    (λ m. (both_forward facts c args rule well (m.0) (m.1)).0,
-        λ h. both_backward facts c args rule well s (each_map _ _ (demands_of facts rule) (λ d g p. g) h))
+matches_by_demands facts c args rule well s = (
+  λ m. (both_forward facts c args rule well (m.0) (m.1)).0,
+  λ h. both_backward facts c args rule well s (each_map _ _ (demands_of facts rule) (λ d g p. g) h),
+)
 
 pub matches_derived : MatchesDerived
 matches_derived facts c args rule well m d h =
@@ -73,18 +75,18 @@ matches_by_closed facts tys c args rule is s = (
   closed_holds facts c args rule (is.well),
   λ closed. both_backward facts c args rule (is.well) s (each_of _ (demands_of facts rule)
       (λ d i p. from_closed (value facts c args []) (value_respects facts c args []) facts tys (DemandOf facts rule)
-          (demands_suit facts tys rule is) closed d i p)),
+      (demands_suit facts tys rule is) closed d i p)),
 )
 
 pub unreachable_is_dead : UnreachableIsDead
 unreachable_is_dead facts tys c args rule is u m =
     is_reachable (value facts c args []) (value_respects facts c args []) (DemandOf facts rule) (all_hold facts c args rule (is.well) m)
-        facts tys (demands_suit facts tys rule is) u
+    facts tys (demands_suit facts tys rule is) u
 
 pub never_match_both : NeverBoth
 never_match_both facts tys c args one other is its d m n =
     never_both (value facts c args []) (value_respects facts c args []) facts tys (DemandOf facts one) (DemandOf facts other)
-        (demands_suit facts tys one is) (demands_suit facts tys other its)
+    (demands_suit facts tys one is) (demands_suit facts tys other its)
     (all_hold facts c args one (is.well) m) (all_hold facts c args other (its.well) n) d
 
 pub wider_matches : WiderMatches

@@ -57,7 +57,7 @@ module _ (facts : TermFacts) (c : Completion) (args : Values) (done : List (Opti
       word_site (struct_word ty ws) r = ap (λ (gs : Got Values). held (built ty gs)) (words_sites ws r)
       word_site (call_word t ws i) r =
           call_value t (sites_of facts vars ws) i (r.0)
-              ∙ ap (λ (gs : Got Values). held (ask (answer_of c done t i) gs)) (words_sites ws (r.1))
+          ∙ ap (λ (gs : Got Values). held (ask (answer_of c done t i) gs)) (words_sites ws (r.1))
 
       pub words_sites : (ws : Words) → ReadAll facts ws S → values facts c args done (sites_of facts vars ws) ≡ word_values c a done ws
       words_sites no_words r = refl

@@ -106,8 +106,8 @@ abbrev pub iflets_demands : TermFacts → List TypedIfLet → (ℕ → Site) →
 iflets_demands facts [] vars = []
 iflets_demands facts (x ∷ xs) vars =
     contents (iflet_site facts vars x)
-        ++ (demands facts x.pattern (iflet_site facts vars x) vars
-        ++ iflets_demands facts xs (bound facts x.pattern (iflet_site facts vars x) vars))
+    ++ (demands facts x.pattern (iflet_site facts vars x) vars
+    ++ iflets_demands facts xs (bound facts x.pattern (iflet_site facts vars x) vars))
 
 -- no variable is bound
 abbrev pub nothing : ℕ → Site

@@ -3,7 +3,7 @@ use Rattle.std.specs.Prelude.{◌≡◌, ℕ, zero, suc, Bool, true, false, List
 use Rattle.isle_types.specs.IntTypes.{builtin_names}
 use Rattle.isle_types.specs.Environment.{Environment, NamedType, NamedVariant, TypeShape, primitive, enum, struct, constant_in, numbers_in}
 use Rattle.isle_terms.specs.TypedRules.{TypedPatterns, no_typed, more_typed}
-use Rattle.isle_terms.specs.Signatures.{Flags, external_extractor, by_template, TermForm, variant_form, struct_form, declared_form}
+use Rattle.isle_terms.specs.Signatures.{external_extractor, by_template, TermForm, variant_form, struct_form, declared_form}
 use Rattle.isle_terms.specs.Signatures.{Signature, Declared, flags_of}
 
 -- what a term is: a variant of its type, its type's struct, or declared

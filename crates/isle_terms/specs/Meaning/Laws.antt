@@ -82,7 +82,7 @@ abbrev pub WiderMatches : Type 0
 WiderMatches = (facts : TermFacts) (tys : List ℕ) (c : Completion) (args : Values) (wide narrow : TypedRule) → IsRuleOfTypes facts tys wide
     → IsRuleOfTypes facts tys narrow → Settles facts c args wide
     → IsFree (DemandOf facts wide) → IsWithin (DemandOf facts wide) (DemandOf facts narrow) → Matches facts c args narrow
-        → Matches facts c args wide
+    → Matches facts c args wide
 
 -- A rule that another of higher priority shadows is never the one to choose: that one matches wherever it does.
 abbrev pub ShadowedIsNeverChosen : Type 0
@@ -112,13 +112,13 @@ abbrev pub NumbersSayDemands : Type 0
 NumbersSayDemands = (table : List Row) (has : List (ℕ × Constraint)) (same : List (ℕ × ℕ)) (ds : List Demand)
     → AreRecorded table has same ds
     → ((d : Demand) → Closed (Recorded table has same) d ↔ Closed (Among ds) d)
-        × (IsUnreachable (Recorded table has same) ↔ IsUnreachable (Among ds))
+    × (IsUnreachable (Recorded table has same) ↔ IsUnreachable (Among ds))
 
 -- Each field and each content that a rule's demands speak of is made by a test among them, and so is each in its variables' sites.
 abbrev pub DemandsAreTested : Type 0
 DemandsAreTested = (facts : TermFacts) (rule : TypedRule) → IsWellScopedRule facts rule
     → ((d : Demand) → DemandOf facts rule d → SpeaksOfTested (DemandOf facts rule) d)
-        × ((k : ℕ) → scope_of rule k → IsTested (DemandOf facts rule) (vars_of facts rule k))
+    × ((k : ℕ) → scope_of rule k → IsTested (DemandOf facts rule) (vars_of facts rule k))
 
 -- What is derived speaks of fields and contents alone that derived tests make.
 abbrev pub DerivedIsTested : Type 0
@@ -129,7 +129,7 @@ DerivedIsTested = (facts : TermFacts) (rule : TypedRule) → IsWellScopedRule fa
 abbrev pub VisitIsWritten : Type 0
 VisitIsWritten = (facts : TermFacts) (rule : TypedRule)
     → ((visit facts (vars_of facts rule) no_log rule.right).0 ≡ site_of facts (vars_of facts rule) (word_of facts rule.right))
-        × ((visit facts (vars_of facts rule) no_log rule.right).1.impure ≡ impure_of facts rule)
+    × ((visit facts (vars_of facts rule) no_log rule.right).1.impure ≡ impure_of facts rule)
 
 -- All fields of each variant and struct that a rule demands are among the sites that it needs.
 abbrev pub NeedsHaveFields : Type 0

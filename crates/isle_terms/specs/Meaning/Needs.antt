@@ -35,7 +35,7 @@ open_needs facts (variant_shape k) t n s = from_on (match_variant s k) 0 n
 open_needs facts struct_shape t n s = from_on (extract_struct s) 0 n
 open_needs facts declared_shape t n s =
     extractor_call t s ∷ (extract_needs (facts.multi t) (facts.infallible t) (extractor_call t s)
-        ++ output_needs n (extract_site (facts.multi t) (facts.infallible t) (extractor_call t s)))
+    ++ output_needs n (extract_site (facts.multi t) (facts.infallible t) (extractor_call t s)))
 
 abbrev mutual
   pub needs : TermFacts → TypedPattern → Site → List Site
@@ -73,14 +73,20 @@ answer_needs false true s = s ∷ match_some s ∷ []
 answer_needs false false s = s ∷ []
 
 abbrev pub called : TermFacts → Bool → ℕ → Sites × Log → Site × Log
-called facts true t r =
-    (answer_site (facts.multi t) (facts.partial t) (constructor_call t (r.0) zero),
-    need (answer_needs (facts.multi t) (facts.partial t) (constructor_call t (r.0) zero)) (r.1))
+called facts true t r = (
+  answer_site (facts.multi t) (facts.partial t) (constructor_call t (r.0) zero),
+  need (answer_needs (facts.multi t) (facts.partial t) (constructor_call t (r.0) zero)) (r.1),
+)
 called facts false t r =
     let call = constructor_call t (r.0) (suc (length (r.1.impure))) in
-    let log = need (answer_needs (facts.multi t) (facts.partial t) call) (r.1) in
-    (answer_site (facts.multi t) (facts.partial t) call, record { needed = log.needed; impure =
-        log.impure ++ answer_site (facts.multi t) (facts.partial t) call ∷ [] })
+    let log = need (answer_needs (facts.multi t) (facts.partial t) call) (r.1) in (
+      answer_site (facts.multi t) (facts.partial t) call,
+      record {
+        needed = log.needed;
+        impure =
+            log.impure ++ answer_site (facts.multi t) (facts.partial t) call ∷ [];
+      },
+    )
 
 abbrev pub applied : TermFacts → TermShape → ℕ → ℕ → Sites × Log → Site × Log
 applied facts (variant_shape k) ty t r = (make_variant ty k (r.0), need (make_variant ty k (r.0) ∷ []) (r.1))
@@ -99,9 +105,10 @@ abbrev mutual
 
   pub visit_all : TermFacts → (ℕ → Site) → Log → TypedExprs → Sites × Log
   visit_all facts vars log no_built = (no_sites, log)
-  visit_all facts vars log (more_built e es) =
-      (more_sites ((visit facts vars log e).0) ((visit_all facts vars ((visit facts vars log e).1) es).0),
-          (visit_all facts vars ((visit facts vars log e).1) es).1)
+  visit_all facts vars log (more_built e es) = (
+    more_sites ((visit facts vars log e).0) ((visit_all facts vars ((visit facts vars log e).1) es).0),
+    (visit_all facts vars ((visit facts vars log e).1) es).1,
+  )
 
   pub visit_lets : TermFacts → (ℕ → Site) → Log → TypedBindings → (ℕ → Site) × Log
   visit_lets facts vars log no_bindings = (vars, log)
@@ -116,7 +123,7 @@ abbrev pub iflets_needs : TermFacts → List TypedIfLet → (ℕ → Site) → L
 iflets_needs facts [] vars = []
 iflets_needs facts (x ∷ xs) vars =
     (visit facts vars no_log x.value).1.needed
-        ++ (needs facts x.pattern (iflet_site facts vars x) ++ iflets_needs facts xs (bound facts x.pattern (iflet_site facts vars x) vars))
+    ++ (needs facts x.pattern (iflet_site facts vars x) ++ iflets_needs facts xs (bound facts x.pattern (iflet_site facts vars x) vars))
 
 -- all that a rule needs, in order
 abbrev pub needs_of : TermFacts → TypedRule → List Site

@@ -52,9 +52,10 @@ abbrev mutual
 
   pub flat_all : TermFacts → (ℕ → Word) → List Step → TypedExprs → Words × List Step
   flat_all facts vars steps no_built = (no_words, steps)
-  flat_all facts vars steps (more_built e es) =
-      (more_words ((flat facts vars steps e).0) ((flat_all facts vars ((flat facts vars steps e).1) es).0),
-          (flat_all facts vars ((flat facts vars steps e).1) es).1)
+  flat_all facts vars steps (more_built e es) = (
+    more_words ((flat facts vars steps e).0) ((flat_all facts vars ((flat facts vars steps e).1) es).0),
+    (flat_all facts vars ((flat facts vars steps e).1) es).1,
+  )
 
   pub flat_lets : TermFacts → (ℕ → Word) → List Step → TypedBindings → (ℕ → Word) × List Step
   flat_lets facts vars steps no_bindings = (vars, steps)
