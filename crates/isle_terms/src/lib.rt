@@ -4,6 +4,7 @@
 mod clone;
 mod env;
 pub mod laws;
+pub mod meaning_laws;
 mod rules;
 mod signatures;
 mod terms;

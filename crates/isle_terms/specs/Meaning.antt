@@ -1,0 +1,37 @@
+-- Sites, demands and matching of typed rules, and the laws that join them.
+-- Values of terms, and what is known of them.
+pub mod Values
+-- What declarations say of terms and types.
+pub mod Facts
+-- Expressions with their `let`s written out.
+pub mod Words
+-- What a rule can speak of.
+pub mod Sites
+-- What a rule demands of sites.
+pub mod Demands
+-- What follows from demands.
+pub mod Derived
+-- Unreachable rules, and rules that overlap, shadow or differ.
+pub mod Faults
+-- Answers to calls.
+pub mod Answers
+-- When a rule matches.
+pub mod Matching
+-- What a site holds.
+pub mod Held
+-- When a demand holds.
+pub mod Holds
+-- What kind of thing a site holds, and which demands suit it.
+pub mod Sorts
+-- Variables that are read where they are bound; completions that answer what a rule asks.
+pub mod Scopes
+-- Rules typed by what is said of their terms.
+pub mod Typing
+-- Sites as numbers of a table.
+pub mod Numbered
+-- Sites whose fields and contents are made by tests.
+pub mod Tested
+-- The sites that a rule needs, in order.
+pub mod Needs
+-- The laws that join them.
+pub mod Laws
