@@ -5,7 +5,7 @@ ghost use Rattle.std.specs.List.Sorted.{IsStrictlySortedBy};
 ghost use Rattle.std.specs.List.{position};
 ghost use Rattle.std.specs.Map.{keys_of, lookup};
 ghost use Rattle.std.specs.Option.{option_copied, option_map};
-ghost use Rattle.std.specs.Prelude.{◌≡◌, ◌≤◌, IfOk, OnErr, OnOk, [], length, slice_get};
+ghost use Rattle.std.specs.Prelude.{◌≡◌, ◌≤◌, ◌<◌, ◌^◌, IfOk, OnErr, OnOk, [], length, slice_get};
 
 use std::alloc::{AllocError, Global};
 use std::cmp::Ordering;
@@ -46,6 +46,7 @@ impl<K: Ord, V> SortedMap<K, V> {
     /// The number of entries.
     pub fn len(&self) -> usize
         ensures count { result ≡ length self.now }
+        ensures small { result < 2 ^ 63 }
         ensures ascending { IsStrictlySortedBy K.cmp (keys_of self.now) }
     {
         self.places.len()
