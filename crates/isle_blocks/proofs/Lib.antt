@@ -1,2 +1,8 @@
 -- The `==` of sites.
 pub mod EqualSites
+-- The `==` of tests.
+pub mod EqualTests
+-- Tests of two rules side by side.
+pub mod Merging
+-- Worked cases.
+mod Cases

@@ -5,7 +5,9 @@ mod binding;
 mod constraint;
 mod ids;
 pub mod laws;
+mod rule;
 
 pub use binding::Binding;
 pub use constraint::Constraint;
 pub use ids::{BindingId, TupleIndex};
+pub use rule::{Overlap, Rule};
