@@ -4,5 +4,7 @@ pub mod EqualSites
 pub mod EqualTests
 -- Tests of two rules side by side.
 pub mod Merging
+-- Lists of pairs of places.
+pub mod Pairs
 -- Worked cases.
 mod Cases

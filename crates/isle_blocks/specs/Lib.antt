@@ -8,3 +8,5 @@ pub mod Constraints
 pub mod Orders
 -- Which rules of a rule set may match together.
 pub mod Rules
+-- Faults between the rules of a term.
+pub mod FaultsBetween
