@@ -6,3 +6,7 @@ pub mod Bindings
 pub mod Constraints
 -- How sites and tests are ordered.
 pub mod Orders
+-- Which rules of a rule set may match together.
+pub mod Rules
+-- Faults between the rules of a term.
+pub mod FaultsBetween

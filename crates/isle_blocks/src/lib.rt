@@ -3,9 +3,13 @@
 
 mod binding;
 mod constraint;
+mod faults;
 mod ids;
 pub mod laws;
+mod rule;
 
 pub use binding::Binding;
 pub use constraint::Constraint;
+pub use faults::{FaultsBetween, faults_between};
 pub use ids::{BindingId, TupleIndex};
+pub use rule::{Overlap, Rule};
