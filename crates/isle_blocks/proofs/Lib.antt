@@ -1,2 +1,5 @@
 -- The `==` of sites.
 pub mod EqualSites
+-- A table of sites and the sorted table of their numbers.
+pub mod Numbering
+pub mod Copies

@@ -6,3 +6,7 @@ pub mod Bindings
 pub mod Constraints
 -- How sites and tests are ordered.
 pub mod Orders
+-- Sites and tests as those of the rules' meaning.
+pub mod Rows
+-- Tables of sites, in which each stands once.
+pub mod Tables

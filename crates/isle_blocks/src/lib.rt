@@ -5,6 +5,7 @@ mod binding;
 mod constraint;
 mod ids;
 pub mod laws;
+mod sites;
 
 pub use binding::Binding;
 pub use constraint::Constraint;
