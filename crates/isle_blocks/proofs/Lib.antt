@@ -8,3 +8,6 @@ pub mod Merging
 pub mod Pairs
 -- Worked cases.
 mod Cases
+-- A table of sites and the sorted table of their numbers.
+pub mod Numbering
+pub mod Copies

@@ -10,3 +10,7 @@ pub mod Orders
 pub mod Rules
 -- Faults between the rules of a term.
 pub mod FaultsBetween
+-- Sites and tests as those of the rules' meaning.
+pub mod Rows
+-- Tables of sites, in which each stands once.
+pub mod Tables

@@ -7,6 +7,7 @@ mod faults;
 mod ids;
 pub mod laws;
 mod rule;
+mod sites;
 
 pub use binding::Binding;
 pub use constraint::Constraint;
