@@ -3,3 +3,5 @@ pub mod EqualSites
 -- A table of sites and the sorted table of their numbers.
 pub mod Numbering
 pub mod Copies
+-- What a rule's visit gathers.
+pub mod Building

@@ -10,3 +10,5 @@ pub mod Orders
 pub mod Rows
 -- Tables of sites, in which each stands once.
 pub mod Tables
+-- What a rule's visit gathers.
+pub mod Building

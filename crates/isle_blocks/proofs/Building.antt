@@ -1,0 +1,5 @@
+-- What a rule's visit gathers.
+-- A walk down a table.
+pub mod Walking
+-- Runs that lack memory at once.
+pub mod Waiting
