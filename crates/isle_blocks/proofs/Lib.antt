@@ -3,3 +3,5 @@ pub mod EqualSites
 -- A table of sites and the sorted table of their numbers.
 pub mod Numbering
 pub mod Copies
+-- Sites and tests are told apart by their entries.
+pub mod RowsInjective

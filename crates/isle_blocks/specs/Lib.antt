@@ -10,3 +10,5 @@ pub mod Orders
 pub mod Rows
 -- Tables of sites, in which each stands once.
 pub mod Tables
+-- Fields that tests open.
+pub mod ClosureFields
