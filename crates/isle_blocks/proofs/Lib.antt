@@ -5,3 +5,5 @@ pub mod Numbering
 pub mod Copies
 -- What a rule's visit gathers.
 pub mod Building
+-- Sites and tests are told apart by their entries.
+pub mod RowsInjective

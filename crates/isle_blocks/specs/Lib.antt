@@ -12,3 +12,5 @@ pub mod Rows
 pub mod Tables
 -- What a rule's visit gathers.
 pub mod Building
+-- Fields that tests open.
+pub mod ClosureFields
