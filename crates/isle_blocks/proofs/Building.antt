@@ -3,3 +3,7 @@
 pub mod Walking
 -- Runs that lack memory at once.
 pub mod Waiting
+-- Tables as they grow.
+pub mod Entries
+-- What a step adds.
+pub mod Told

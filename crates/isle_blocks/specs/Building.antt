@@ -9,3 +9,5 @@ pub mod Contents
 pub mod Steps
 -- The whole visit of a rule.
 pub mod Building
+-- The table that a rule's visit leaves.
+pub mod Standing
