@@ -7,3 +7,5 @@ pub mod Waiting
 pub mod Entries
 -- What a step adds.
 pub mod Told
+-- What a call of a term's pattern adds.
+pub mod Openings

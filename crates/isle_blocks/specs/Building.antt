@@ -11,3 +11,5 @@ pub mod Steps
 pub mod Building
 -- The table that a rule's visit leaves.
 pub mod Standing
+-- Typed rules by their interned trees.
+pub mod Named
