@@ -9,3 +9,5 @@ pub mod Entries
 pub mod Told
 -- What a call of a term's pattern adds.
 pub mod Openings
+-- What the visit of a pattern gathers.
+pub mod Patterns
