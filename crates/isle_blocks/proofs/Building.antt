@@ -11,3 +11,5 @@ pub mod Told
 pub mod Openings
 -- What the visit of a pattern gathers.
 pub mod Patterns
+-- What the visit of an expression gathers.
+pub mod Exprs

@@ -5,9 +5,13 @@ use Rattle.isle_terms.specs.declared.terms.Term.{Term}
 use Rattle.isle_terms.specs.Signatures.{flags_of}
 use Rattle.isle_terms.specs.Shown.ShownTerms.{form_shown}
 use Rattle.isle_terms.specs.TypedRules.{TypedPattern, TypedPatterns, typed_bind, typed_var, typed_bool, typed_int, typed_prim, typed_term}
-use Rattle.isle_terms.specs.TypedRules.{typed_wildcard, typed_and, no_typed, more_typed}
+use Rattle.isle_terms.specs.TypedRules.{typed_wildcard, typed_and, no_typed, more_typed, TypedExpr, TypedExprs, TypedBindings, built_term}
+use Rattle.isle_terms.specs.TypedRules.{built_var, built_bool, built_int, built_prim, built_let, no_built, more_built}
+use Rattle.isle_terms.specs.TypedRules.{no_bindings as no_typed_bindings, more_bindings as more_typed_bindings}
 use Rattle.isle_terms.specs.Visits.InternedTrees.{InternedPattern, InternedPatterns, bind_pattern, var_pattern, bool_pattern, int_pattern}
 use Rattle.isle_terms.specs.Visits.InternedTrees.{prim_pattern, term_pattern, wildcard_pattern, and_pattern, no_patterns, more_patterns}
+use Rattle.isle_terms.specs.Visits.InternedTrees.{InternedExpr, InternedExprs, InternedBindings, term_expr, var_expr, bool_expr, int_expr}
+use Rattle.isle_terms.specs.Visits.InternedTrees.{prim_expr, let_expr, no_exprs, more_exprs, no_bindings, more_bindings}
 use Rattle.isle_terms.specs.Meaning.Facts.{TermFacts, patterns, shape_of_form, never_fails}
 
 abbrev mutual
@@ -25,6 +29,24 @@ abbrev mutual
   pub named_patterns : (Sym → List ℕ) → InternedPatterns → TypedPatterns
   named_patterns name no_patterns = no_typed
   named_patterns name (more_patterns p ps) = more_typed (named_pattern name p) (named_patterns name ps)
+
+abbrev mutual
+  -- an expression, where symbols have these names
+  pub named_expr : (Sym → List ℕ) → InternedExpr → TypedExpr
+  named_expr name (term_expr ty id es) = built_term ty.0 id.0 (named_exprs name es)
+  named_expr name (var_expr ty var) = built_var ty.0 var.0
+  named_expr name (bool_expr ty val) = built_bool ty.0 val
+  named_expr name (int_expr ty val) = built_int ty.0 val
+  named_expr name (prim_expr ty val) = built_prim ty.0 (name val)
+  named_expr name (let_expr ty bs body) = built_let ty.0 (named_bindings name bs) (named_expr name body)
+
+  pub named_exprs : (Sym → List ℕ) → InternedExprs → TypedExprs
+  named_exprs name no_exprs = no_built
+  named_exprs name (more_exprs e es) = more_built (named_expr name e) (named_exprs name es)
+
+  pub named_bindings : (Sym → List ℕ) → InternedBindings → TypedBindings
+  named_bindings name no_bindings = no_typed_bindings
+  named_bindings name (more_bindings var ty e bs) = more_typed_bindings var.0 ty.0 (named_expr name e) (named_bindings name bs)
 
 -- what is said of a term's number is what the term is
 pub record IsKnownTerm (names : List (List ℕ)) (facts : TermFacts) (number : ℕ) (term : Term) : Type 0 where
