@@ -14,3 +14,7 @@ pub mod FaultsBetween
 pub mod Rows
 -- Tables of sites, in which each stands once.
 pub mod Tables
+-- What a rule's visit gathers.
+pub mod Building
+-- Fields that tests open.
+pub mod ClosureFields

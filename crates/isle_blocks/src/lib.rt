@@ -2,6 +2,7 @@
 #![tactic(auto)]
 
 mod binding;
+mod builder;
 mod constraint;
 mod faults;
 mod ids;
