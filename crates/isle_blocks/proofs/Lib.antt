@@ -11,3 +11,7 @@ mod Cases
 -- A table of sites and the sorted table of their numbers.
 pub mod Numbering
 pub mod Copies
+-- What is moved into another table.
+pub mod MovedTables
+-- One more site moved.
+pub mod MovingTurns

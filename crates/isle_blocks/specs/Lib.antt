@@ -14,3 +14,7 @@ pub mod FaultsBetween
 pub mod Rows
 -- Tables of sites, in which each stands once.
 pub mod Tables
+-- Tables of entries.
+pub mod RowTables
+-- A rule's own sites moved into its rule set's table.
+pub mod MovedSites
