@@ -15,3 +15,5 @@ pub mod Copies
 pub mod MovedTables
 -- One more site moved.
 pub mod MovingTurns
+-- Sites and tests are told apart by their entries.
+pub mod RowsInjective

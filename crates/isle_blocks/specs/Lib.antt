@@ -18,3 +18,5 @@ pub mod Tables
 pub mod RowTables
 -- A rule's own sites moved into its rule set's table.
 pub mod MovedSites
+-- Fields that tests open.
+pub mod ClosureFields

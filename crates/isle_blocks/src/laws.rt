@@ -1,5 +1,7 @@
 //! What holds of sites, tests and their numbers: public functions with nothing to do, whose contracts are the laws.
-ghost use Rattle.std.specs.Prelude.{◌≡◌, ◌↔◌, true};
+ghost use Rattle.std.specs.Prelude.{◌≡◌, ◌↔◌, true, ℕ, List};
+ghost use Rattle.isle_types.specs.declared.ids.Sym.{Sym};
+ghost use Rattle.isle_blocks.specs.Rows.{IsInjective, row_of, test_of};
 ghost use Rattle.std.specs.Prelude.{nat_eq};
 ghost use Rattle.std.specs.Ordering.{nat_cmp};
 ghost use Rattle.isle_blocks.specs.declared.ids.TupleIndex.{TupleIndex};
@@ -42,4 +44,10 @@ pub fn constraints_are_ordered()
 /// Two tests are equal where they are one.
 pub fn equal_constraints_are_one()
     ensures { (a b : Test) → (⟦<Constraint as PartialEq>⟧.eq a b ≡ true) ↔ (a ≡ b) }
+{}
+
+/// Where names tell symbols apart, sites are told apart by their entries, and tests by their constraints.
+pub fn entries_are_injective()
+    ensures sites { (name : Sym → List ℕ) → IsInjective name → (a b : Site) → row_of name a ≡ row_of name b → a ≡ b }
+    ensures tests { (name : Sym → List ℕ) → IsInjective name → (a b : Test) → test_of name a ≡ test_of name b → a ≡ b }
 {}
