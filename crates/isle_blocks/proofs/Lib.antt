@@ -13,5 +13,9 @@ pub mod Numbering
 pub mod Copies
 -- What a rule's visit gathers.
 pub mod Building
+-- What is moved into another table.
+pub mod MovedTables
+-- One more site moved.
+pub mod MovingTurns
 -- Sites and tests are told apart by their entries.
 pub mod RowsInjective

@@ -16,5 +16,9 @@ pub mod Rows
 pub mod Tables
 -- What a rule's visit gathers.
 pub mod Building
+-- Tables of entries.
+pub mod RowTables
+-- A rule's own sites moved into its rule set's table.
+pub mod MovedSites
 -- Fields that tests open.
 pub mod ClosureFields

@@ -7,6 +7,7 @@ mod constraint;
 mod faults;
 mod ids;
 pub mod laws;
+mod moving;
 mod rule;
 mod sites;
 
