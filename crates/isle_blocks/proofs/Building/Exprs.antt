@@ -139,7 +139,7 @@ module _ (name : Sym → List ℕ) (injective : IsInjective name) where
     impure = rw e (each_grown (rows_of name s.sites) (rows_of name s'.sites) (grew_rows s s' xs h) s.impure log.impure is);
   }
 
-  visited_intern : (b : Binding) (t : Site) (s s' : Gathered) (id : BindingId) (log : Log) → IsEntryOf (rows_of name s.sites) t (row_of name b)
+  pub visited_intern : (b : Binding) (t : Site) (s s' : Gathered) (id : BindingId) (log : Log) → IsEntryOf (rows_of name s.sites) t (row_of name b)
       → StandEach (rows_of name s.sites) s.impure log.impure → interns b s (Ok id) s'
       → Visited s log (need (t ∷ []) log) s' × At (rows_of name s'.sites) t id.0
   visited_intern b t s s' id log is each h =
@@ -147,7 +147,7 @@ module _ (name : Sym → List ℕ) (injective : IsInjective name) where
 
   module _ (facts : TermFacts) where
     -- a constructor's call
-    visited_call : (pure multi partial : Bool) (t : TermId) (ss : Sites) (ids : List BindingId) (log : Log) (s s' : Gathered) (id : BindingId)
+    pub visited_call : (pure multi partial : Bool) (t : TermId) (ss : Sites) (ids : List BindingId) (log : Log) (s s' : Gathered) (id : BindingId)
         → facts.multi t.0 ≡ multi → facts.partial t.0 ≡ partial
         → AtAll (rows_of name s.sites) ss (numbers_of ids) → StandEach (rows_of name s.sites) s.impure log.impure
         → makes ids t pure (not partial) multi s (Ok id) s'

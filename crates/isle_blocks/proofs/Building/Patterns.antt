@@ -115,7 +115,7 @@ module _ (name : Sym → List ℕ) (injective : IsInjective name) where
     pub kept : (var : VarId) → after.count ≤ var.0 → out var ≡ scope var
 
   -- a step that binds nothing
-  followed_told : (s mid s' : Gathered) (before after : Scope) (scope out : Numbers BindingId) (vars : ℕ → Site) (needed : List Site) (ds : List Demand)
+  pub followed_told : (s mid s' : Gathered) (before after : Scope) (scope out : Numbers BindingId) (vars : ℕ → Site) (needed : List Site) (ds : List Demand)
       → Told name injective s needed ds mid → Stand (rows_of name s.sites) before.usable scope vars → AreBelow before → after ≡ before
       → done {S = Gathered} scope mid (Ok out) s' → Followed s before scope needed ds vars after out s'
   followed_told s mid s' before after scope out vars needed ds told h low e end =
@@ -130,7 +130,7 @@ module _ (name : Sym → List ℕ) (injective : IsInjective name) where
         kept = λ var m. refl;
       })))
 
-  followed_then : (s mid s' : Gathered) (before between after : Scope) (scope numbers out : Numbers BindingId) (xs ys : List Site) (ds es : List Demand)
+  pub followed_then : (s mid s' : Gathered) (before between after : Scope) (scope numbers out : Numbers BindingId) (xs ys : List Site) (ds es : List Demand)
       (inner vars : ℕ → Site) → Followed s before scope xs ds inner between numbers mid → Followed mid between numbers ys es vars after out s'
       → Followed s before scope (xs ++ ys) (ds ++ es) vars after out s'
   followed_then s mid s' before between after scope numbers out xs ys ds es inner vars h k = record {
