@@ -17,3 +17,5 @@ pub mod Exprs
 pub mod ExprVisits
 -- What the visits of a rule's arguments gather.
 pub mod RuleVisits
+-- The contents that a site is made of, by numbers and by sites.
+pub mod Asking

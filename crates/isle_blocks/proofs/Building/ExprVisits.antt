@@ -1,6 +1,6 @@
 -- The visit of an expression goes the road that is written down of it.
-use Rattle.std.proofs.Common.{◌≡◌, ◌==◌, ℕ, Bool, true, false, not, List, [], ◌∷◌, ◌++◌, map, length, Option, Some, None, Ok}
-use Rattle.std.proofs.Common.{slice_get, refl, sym, ap, ◌∙◌, subst, inl, inr, append_assoc}
+use Rattle.std.proofs.Common.{◌≡◌, ◌==◌, ℕ, Bool, true, false, not, List, [], ◌∷◌, ◌++◌, Option, Some, None, Ok}
+use Rattle.std.proofs.Common.{slice_get, refl, sym, ◌∙◌, subst, inl, inr, append_assoc}
 use Rattle.std.proofs.lemmas.Bool.{eqb-true, eqb-false, eq-eqb}
 use Rattle.std.proofs.lemmas.List.{append-nil}
 use Rattle.std.proofs.lemmas.Option.{none-some, same_Some}
@@ -24,7 +24,7 @@ use Rattle.isle_terms.specs.Visits.Events.{visits_expr, visits_exprs, visits_bin
 use Rattle.isle_terms.specs.Meaning.Facts.{TermFacts, shape_of_form}
 use Rattle.isle_terms.specs.Meaning.Words.{set}
 use Rattle.isle_terms.specs.Meaning.Sites.{Site, bool_site, int_site, prim_site, make_variant, make_struct, Sites}
-use Rattle.isle_terms.specs.Meaning.Needs.{Log, need, applied, visit, visit_all, visit_lets}
+use Rattle.isle_terms.specs.Meaning.Needs.{Log, applied, visit, visit_all, visit_lets}
 use Rattle.isle_terms.specs.Meaning.Numbered.{Row, At, AtAll}
 use Rattle.isle_blocks.specs.declared.ids.BindingId.{BindingId}
 use Rattle.isle_blocks.specs.declared.binding.Binding.TheVariants as sites
@@ -32,7 +32,7 @@ use Rattle.isle_blocks.specs.Rows.{IsInjective, numbers_of, rows_of}
 use Rattle.isle_blocks.specs.Building.Gathering.{Gathered}
 use Rattle.isle_blocks.specs.Building.Steps.{expr_adds, makes, values_of}
 use Rattle.isle_blocks.specs.Building.Named.{named_expr, named_exprs, named_bindings, IsKnownTerm, AreKnownTerms}
-use Rattle.isle_blocks.proofs.Building.Entries.{Grown, at_grown, all_grown}
+use Rattle.isle_blocks.proofs.Building.Entries.{at_grown}
 use Rattle.isle_blocks.proofs.Building.Patterns.{Stand, stand_later}
 use Rattle.isle_blocks.proofs.Building.Exprs.{StandEach, Visited, visited_rows, visited_none, visited_then, visited_intern, visited_call}
 

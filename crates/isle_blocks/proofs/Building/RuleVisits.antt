@@ -1,35 +1,34 @@
 -- What the visits of a rule's arguments gather, and which numbers expressions are given.
-use Rattle.std.proofs.Common.{◌≡◌, ◌+◌, ◌==◌, ℕ, zero, suc, Bool, true, false, List, [], ◌∷◌, ◌++◌, map, length, Option, Some, None, Ok, Result, Err}
-use Rattle.std.proofs.Common.{refl, sym, ap, ◌∙◌, subst, inl, inr, add-one, arith}
-use Rattle.std.proofs.lemmas.Bool.{eqb-true, eqb-false}
+use Rattle.std.proofs.Common.{◌≡◌, ◌+◌, ◌==◌, ℕ, zero, suc, Bool, true, false, List, [], ◌∷◌, ◌++◌, map, Option, Some, None, Ok}
+use Rattle.std.proofs.Common.{refl, sym, ap, ◌∙◌, subst, add-one, arith}
+use Rattle.std.proofs.lemmas.Bool.{eqb-true}
 use Rattle.std.proofs.lemmas.Option.{same_Some}
 use Rattle.isle_types.specs.declared.ids.Sym.{Sym}
 use Rattle.isle_types.specs.declared.ids.TypeId.{TypeId}
 use Rattle.isle_types.specs.declared.ids.VarId.{VarId}
 use Rattle.isle_terms.specs.declared.rules.Pattern.{Pattern}
 use Rattle.isle_terms.specs.declared.terms.Term.{Term}
-use Rattle.isle_terms.specs.TypedRules.{TypedPatterns}
-use Rattle.isle_terms.specs.SoundRules.KeptScopes.{Scope, IsUsable, PatternsBind}
+use Rattle.isle_terms.specs.SoundRules.KeptScopes.{Scope, PatternsBind}
 use Rattle.isle_terms.specs.Visits.Runs.{Run, done, asks, in_turn, on_some}
 use Rattle.isle_terms.specs.Visits.VisitScopes.{bound as bound_by}
 use Rattle.isle_terms.specs.Visits.VisitScopes.{Scope as Numbers}
-use Rattle.isle_terms.specs.Visits.InternedTrees.{InternedPatterns, listed_patterns, pattern_of}
+use Rattle.isle_terms.specs.Visits.InternedTrees.{listed_patterns, pattern_of}
 use Rattle.isle_terms.specs.Visits.Events.{visits}
 use Rattle.isle_terms.specs.Visits.RuleSteps.{in_pattern}
-use Rattle.isle_terms.specs.Visits.RuleEvents.{visits_var, visits_vars, visits_part, visits_args}
+use Rattle.isle_terms.specs.Visits.RuleEvents.{visits_vars, visits_args}
 use Rattle.isle_terms.specs.Meaning.Facts.{TermFacts}
 use Rattle.isle_terms.specs.Meaning.Sites.{Site, argument}
-use Rattle.isle_terms.specs.Meaning.Demands.{Demand, bound, bound_all, demands, demands_all}
+use Rattle.isle_terms.specs.Meaning.Demands.{bound, bound_all, demands, demands_all}
 use Rattle.isle_terms.specs.Meaning.Needs.{needs, args_needs}
-use Rattle.isle_terms.specs.Meaning.Numbered.{Row, At}
+use Rattle.isle_terms.specs.Meaning.Numbered.{Row}
 use Rattle.isle_blocks.specs.declared.ids.BindingId.{BindingId}
 use Rattle.isle_blocks.specs.declared.binding.Binding.TheVariants as sites
 use Rattle.isle_blocks.specs.Rows.{IsInjective, rows_of}
 use Rattle.isle_blocks.specs.Building.Gathering.{Gathered}
 use Rattle.isle_blocks.specs.Building.Steps.{pattern_adds, rule_adds}
 use Rattle.isle_blocks.specs.Building.Named.{named_pattern, named_patterns, AreKnownTerms, AreFilled}
-use Rattle.isle_blocks.proofs.Building.Told.{Told, told_grown, told_none, told_intern}
-use Rattle.isle_blocks.proofs.Building.Patterns.{Stand, stand_later, AreBelow, Followed, followed_told, followed_then, follow}
+use Rattle.isle_blocks.proofs.Building.Told.{told_grown, told_none, told_intern}
+use Rattle.isle_blocks.proofs.Building.Patterns.{Stand, AreBelow, Followed, followed_told, followed_then, follow}
 
 -- the builder hands out itself for a pattern
 by_itself : {A : Type 0} (run : Run Gathered A) (s s' : Gathered) (a : A) → in_pattern rule_adds run s (Ok a) s' → run s (Ok a) s'
@@ -57,9 +56,11 @@ carries_var : (o : Option BindingId) (numbers values after : Numbers BindingId) 
     (Ok after) s'
     → (s ≡ s') × Carries numbers after
 carries_var None numbers values after own s s' o h run = (run.1, subst (λ z. Carries numbers z) run.0 h)
-carries_var (Some value) numbers values after own s s' o h run =
-    (run.2.1 ∙ run.3.1, subst (λ z. Carries numbers z) run.3.0
-    (carries_bound numbers values own run.0 (o ∙ ap (λ z. Some z) run.2.0) h))
+carries_var (Some value) numbers values after own s s' o h run = (
+  run.2.1 ∙ run.3.1,
+  subst (λ z. Carries numbers z) run.3.0
+      (carries_bound numbers values own run.0 (o ∙ ap (λ z. Some z) run.2.0) h),
+)
 
 -- nothing is gathered by giving variables to expressions
 pub follow_vars : (n var : ℕ) (numbers values out : Numbers BindingId) (s s' : Gathered) → Carries numbers values
