@@ -1,6 +1,7 @@
 -- The contents that a site is made of, by numbers and by sites.
+use Rattle.std.proofs.Common.{Option, None, ◌⊎◌}
 use Rattle.std.proofs.Common.{◌≡◌, ℕ, List, [], ◌∷◌, Some, slice_get, Contains, refl, sym, ap, ◌∙◌, subst, inl, inr}
-use Rattle.std.proofs.lemmas.Option.{slice_get-map, same_Some}
+use Rattle.std.proofs.lemmas.Option.{slice_get-map, none-some, same_Some}
 use Rattle.std.specs.Option.{option_map}
 use Rattle.isle_types.proofs.RootedTables.{Contains-map}
 use Rattle.isle_types.specs.declared.ids.Sym.{Sym}
@@ -16,9 +17,9 @@ use Rattle.isle_blocks.specs.declared.binding.Binding.{Binding}
 use Rattle.isle_blocks.specs.declared.binding.Binding.TheVariants as sites
 use Rattle.isle_blocks.specs.Bindings.{sources_of}
 use Rattle.isle_blocks.specs.Rows.{numbers_of, row_of, rows_of}
-use Rattle.isle_blocks.specs.Building.Contents.{Reached, here, through}
-use Rattle.isle_blocks.proofs.Building.Walking.{cons_cases, none_there}
-use Rattle.isle_blocks.proofs.Building.Entries.{among_left, among_right}
+use Rattle.isle_blocks.specs.Building.Contents.{Reached, here, through, IsAsked}
+use Rattle.isle_blocks.proofs.Building.Walking.{cons_cases, cons_here, cons_there, none_there}
+use Rattle.isle_blocks.proofs.Building.Entries.{among_left, among_right, among_cases}
 
 -- the parts of an entry, by number
 abbrev pub row_parts : Row → List ℕ
@@ -142,3 +143,91 @@ module _ (name : Sym → List ℕ) (table : List Binding) where
       | inr m ↦ let f = all_sound ts js y j call h.1 m r get in
           (f.0, f.1, among_right (contents t) (contents_all ts) (constrained f.0 some_constraint) f.2)
     ]
+
+-- an entry of a content is that of its option
+content_read : (name : Sym → List ℕ) (b : Binding) (j : ℕ) → row_of name b ≡ match_some_row j
+    → (call : BindingId) × (b ≡ sites.MatchSome call) × (call.0 ≡ j)
+content_read name (sites.MatchSome source) j e = let same : source.0 ≡ j = cc in (source, refl, same)
+content_read name (sites.ConstBool val ty) j e = absurd cc
+content_read name (sites.ConstInt val ty) j e = absurd cc
+content_read name (sites.ConstPrim val) j e = absurd cc
+content_read name (sites.Argument index) j e = absurd cc
+content_read name (sites.Extractor term parameter) j e = absurd cc
+content_read name (sites.Constructor term parameters instance) j e = absurd cc
+content_read name (sites.Iterator source) j e = absurd cc
+content_read name (sites.MakeVariant ty variant fields) j e = absurd cc
+content_read name (sites.MatchVariant source variant field) j e = absurd cc
+content_read name (sites.MakeStruct ty fields) j e = absurd cc
+content_read name (sites.ExtractStruct source field) j e = absurd cc
+content_read name (sites.MakeSome inner) j e = absurd cc
+content_read name (sites.MatchTuple source field) j e = absurd cc
+
+-- the site of an entry
+row_read : (name : Sym → List ℕ) (table : List Binding) (k : ℕ) (row : Row) → slice_get (rows_of name table) k ≡ Some row
+    → (b : Binding) × (slice_get table k ≡ Some b) × (row_of name b ≡ row)
+row_read name table k row e = go (slice_get table k) refl (sym (slice_get-map (row_of name) table k) ∙ e)
+  where
+    go : (o : Option Binding) → slice_get table k ≡ o → option_map (row_of name) (slice_get table k) ≡ Some row
+        → (b : Binding) × (slice_get table k ≡ Some b) × (row_of name b ≡ row)
+    go None q f = absurd (none-some row (rw q at f))
+    go (Some b) q f = (b, q, same_Some _ _ (rw q at f))
+
+module _ (name : Sym → List ℕ) (table : List Binding) where
+  -- a demand on a content is asked by numbers
+  abbrev Asks : ℕ → Site → Type 0
+  Asks x w = (call : BindingId) × At (rows_of name table) w call.0 × IsAsked table x call
+
+  part_read : (ids : List BindingId) (j : ℕ) → Contains (numbers_of ids) j → (id : BindingId) × Contains ids id × (id.0 ≡ j)
+  part_read [] j c = none_there j c
+  part_read (id ∷ ids) j c = elim (cons_cases id.0 (numbers_of ids) j c) [
+    | inl e ↦ (id, cons_here id ids, e)
+    | inr k ↦ let r = part_read ids j k in (r.0, cons_there id ids r.0 r.1, r.2)
+  ]
+
+  asks_by : (x j : ℕ) (row : Row) (w : Site) → slice_get (rows_of name table) x ≡ Some row → Contains (row_parts row) j → Asks j w → Asks x w
+  asks_by x j row w at c a =
+      let b = row_read name table x row at in
+      let parts = subst (λ l. Contains l j) (parts_named name table b.0) (subst (λ r. Contains (row_parts r) j) (sym b.2) c) in
+      let part = part_read (sources_of b.0) j parts in
+      (a.0, a.1, (a.2.0, through b.0 part.0 b.1 part.1 (subst (λ z. Reached table z a.2.0) (sym part.2) a.2.1), a.2.2))
+
+  all_more : (t : Site) (ts : Sites) (k : ℕ) (js : List ℕ) (w : Site) → AtAll (rows_of name table) (more_sites t ts) (k ∷ js)
+      → (Among (contents t) (constrained w some_constraint) → Asks k w)
+      → (Among (contents_all ts) (constrained w some_constraint) → (j : ℕ) × Contains js j × Asks j w)
+      → Among (contents t) (constrained w some_constraint) ⊎ Among (contents_all ts) (constrained w some_constraint)
+      → (j : ℕ) × Contains (k ∷ js) j × Asks j w
+  all_more t ts k js w h one others (inl m) = (k, cons_here k js, one m)
+  all_more t ts k js w h one others (inr m) = let r = others m in (r.0, cons_there k js r.0 r.1, r.2)
+
+  mutual
+    pub asked_complete : (t : Site) (x : ℕ) (w : Site) → At (rows_of name table) t x → Among (contents t) (constrained w some_constraint) → Asks x w
+    asked_complete (bool_site b ty) x w at m = absurd m
+    asked_complete (int_site n ty) x w at m = absurd m
+    asked_complete (prim_site n) x w at m = absurd m
+    asked_complete (argument i) x w at m = absurd m
+    asked_complete (extractor_call f t) x w at m = asks_by x at.0 _ w at.1 (cons_here at.0 []) (asked_complete t at.0 w at.2 m)
+    asked_complete (constructor_call f ts i) x w at m = let r = all_complete ts at.0 w at.2 m in asks_by x r.0 _ w at.1 r.1 r.2
+    asked_complete (iterator t) x w at m = asks_by x at.0 _ w at.1 (cons_here at.0 []) (asked_complete t at.0 w at.2 m)
+    asked_complete (make_variant ty v ts) x w at m = let r = all_complete ts at.0 w at.2 m in asks_by x r.0 _ w at.1 r.1 r.2
+    asked_complete (match_variant t v i) x w at m = asks_by x at.0 _ w at.1 (cons_here at.0 []) (asked_complete t at.0 w at.2 m)
+    asked_complete (make_struct ty ts) x w at m = let r = all_complete ts at.0 w at.2 m in asks_by x r.0 _ w at.1 r.1 r.2
+    asked_complete (extract_struct t i) x w at m = asks_by x at.0 _ w at.1 (cons_here at.0 []) (asked_complete t at.0 w at.2 m)
+    asked_complete (make_some t) x w at m = asks_by x at.0 _ w at.1 (cons_here at.0 []) (asked_complete t at.0 w at.2 m)
+    asked_complete (match_some t) x w at (inl e) =
+        let same : w ≡ t = cc in
+        let b = row_read name table x (match_some_row at.0) at.1 in
+        let call = content_read name b.0 at.0 b.2 in (
+          call.0,
+          subst (λ (z : Site). At (rows_of name table) z call.0.0) (sym same) (subst (λ z. At (rows_of name table) t z) (sym call.2) at.2),
+          (x, here x, b.1 ∙ ap (λ z. Some z) call.1),
+        )
+    asked_complete (match_some t) x w at (inr m) = asks_by x at.0 _ w at.1 (cons_here at.0 []) (asked_complete t at.0 w at.2 m)
+    asked_complete (match_tuple t i) x w at m = asks_by x at.0 _ w at.1 (cons_here at.0 []) (asked_complete t at.0 w at.2 m)
+
+    all_complete : (ts : Sites) (js : List ℕ) (w : Site) → AtAll (rows_of name table) ts js → Among (contents_all ts) (constrained w some_constraint)
+        → (j : ℕ) × Contains js j × Asks j w
+    all_complete no_sites js w h m = absurd m
+    all_complete (more_sites t ts) [] w h m = absurd h
+    all_complete (more_sites t ts) (k ∷ js) w h m =
+        all_more t ts k js w h (λ x. asked_complete t k w h.0 x) (λ x. all_complete ts js w h.1 x)
+        (among_cases (contents t) (contents_all ts) (constrained w some_constraint) m)
