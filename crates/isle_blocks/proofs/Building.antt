@@ -13,3 +13,9 @@ pub mod Openings
 pub mod Patterns
 -- What the visit of an expression gathers.
 pub mod Exprs
+-- The visit of an expression goes the road that is written down of it.
+pub mod ExprVisits
+-- What the visits of a rule's arguments gather.
+pub mod RuleVisits
+-- The contents that a site is made of, by numbers and by sites.
+pub mod Asking

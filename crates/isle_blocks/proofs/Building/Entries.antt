@@ -1,5 +1,5 @@
 -- Tables as they grow.
-use Rattle.std.proofs.Common.{◌≡◌, ℕ, zero, suc, List, [], ◌∷◌, ◌++◌, Some, length, slice_get, refl, sym, ap, ◌∙◌, subst, inl, inr, append_assoc, map}
+use Rattle.std.proofs.Common.{◌≡◌, ℕ, List, [], ◌∷◌, ◌++◌, Some, slice_get, refl, sym, ap, ◌∙◌, subst, inl, inr, append_assoc}
 use Rattle.std.proofs.lemmas.List.{append-nil, map-append, length-map}
 use Rattle.std.proofs.lemmas.Option.{slice_get-map, none-some, same_Some}
 use Rattle.std.specs.Option.{option_map}
@@ -11,12 +11,12 @@ use Rattle.isle_terms.specs.Meaning.Sites.{make_variant, match_variant, make_str
 use Rattle.isle_terms.specs.Meaning.Sites.{Sites, no_sites, more_sites}
 use Rattle.isle_terms.specs.Meaning.Demands.{Constraint, Demand, constrained, equal, Among}
 use Rattle.isle_terms.specs.Meaning.Numbered.{Row, At, AtAll, AreRecorded}
-use Rattle.std.proofs.Common.{Contains, ◌⊎◌}
+use Rattle.std.proofs.Common.{◌⊎◌}
 use Rattle.std.proofs.lemmas.List.Elements.{Contains-append_left, Contains-append_right, Contains-append_cases}
 use Rattle.isle_blocks.specs.declared.ids.BindingId.{BindingId}
 use Rattle.isle_blocks.specs.declared.binding.Binding.{Binding}
 use Rattle.isle_blocks.specs.Rows.{IsInjective, row_of, rows_of}
-use Rattle.isle_blocks.specs.Tables.{IsInterned, IsAbsent}
+use Rattle.isle_blocks.specs.Tables.{IsInterned}
 use Rattle.isle_blocks.specs.Building.Standing.{IsEntryOf, IsPut, Adds, begin, next}
 use Rattle.isle_blocks.proofs.RowsInjective.{row-injective}
 

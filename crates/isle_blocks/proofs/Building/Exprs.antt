@@ -1,34 +1,22 @@
 -- What the visit of an expression gathers: the sites that it needs, its own and its impure calls.
-use Rattle.std.proofs.Common.{◌≡◌, ◌+◌, ◌==◌, ℕ, zero, suc, Bool, true, false, not, List, [], ◌∷◌, ◌++◌, map, length, Option, Some, None, Ok}
-use Rattle.std.proofs.Common.{slice_get, refl, sym, ap, ◌∙◌, subst, inl, inr, append_assoc, add-one, arith}
-use Rattle.std.proofs.lemmas.Bool.{eqb-true, eqb-false, eq-eqb}
-use Rattle.std.proofs.lemmas.List.{append-nil, map-append}
-use Rattle.std.proofs.lemmas.Option.{none-some, same_Some}
+use Rattle.std.proofs.Common.{◌≡◌, ℕ, zero, suc, Bool, true, false, not, List, [], ◌∷◌, ◌++◌, length, Ok}
+use Rattle.std.proofs.Common.{refl, sym, ap, ◌∙◌, subst, append_assoc, add-one}
+use Rattle.std.proofs.lemmas.List.{append-nil}
 use Rattle.isle_types.specs.declared.ids.Sym.{Sym}
 use Rattle.isle_types.specs.declared.ids.TermId.{TermId}
-use Rattle.isle_types.specs.declared.ids.TypeId.{TypeId}
-use Rattle.isle_types.specs.declared.ids.VarId.{VarId}
-use Rattle.isle_terms.specs.declared.terms.Term.{Term}
-use Rattle.isle_terms.specs.declared.terms.TermKind.{TermKind}
-use Rattle.isle_terms.specs.declared.terms.TermKind.TheVariants.{EnumVariant, Struct, Decl}
-use Rattle.isle_terms.specs.Signatures.{flags_of}
-use Rattle.isle_terms.specs.Shown.ShownTerms.{form_shown}
-use Rattle.isle_terms.specs.Visits.Runs.{done, asks, in_turn, on_some, stuck}
-use Rattle.isle_terms.specs.Visits.VisitorCalls.{ExprCall, making_of}
-use Rattle.isle_terms.specs.Meaning.Facts.{TermShape, TermFacts, shape_of_form}
-use Rattle.isle_terms.specs.Meaning.Sites.{Site, bool_site, int_site, prim_site, constructor_call, iterator, make_variant, make_struct, match_some}
-use Rattle.isle_terms.specs.Meaning.Sites.{Sites, no_sites, more_sites, answer_site}
-use Rattle.isle_terms.specs.Meaning.Needs.{Log, need, answer_needs, called, applied, visit, visit_all, visit_lets}
+use Rattle.isle_terms.specs.Meaning.Facts.{TermFacts}
+use Rattle.isle_terms.specs.Meaning.Sites.{Site, constructor_call, iterator, match_some}
+use Rattle.isle_terms.specs.Meaning.Sites.{Sites, answer_site}
+use Rattle.isle_terms.specs.Meaning.Needs.{Log, need, answer_needs, called}
 use Rattle.isle_terms.specs.Meaning.Numbered.{Row, constructor_row, At, AtAll}
 use Rattle.isle_blocks.specs.declared.ids.BindingId.{BindingId}
 use Rattle.isle_blocks.specs.declared.binding.Binding.{Binding}
 use Rattle.isle_blocks.specs.declared.binding.Binding.TheVariants as sites
 use Rattle.isle_blocks.specs.Rows.{IsInjective, numbers_of, row_of, rows_of}
-use Rattle.isle_blocks.specs.Building.Gathering.{Gathered, interns, constructed, numbers, keeps}
+use Rattle.isle_blocks.specs.Building.Gathering.{Gathered, interns, constructed}
 use Rattle.isle_blocks.specs.Building.Standing.{IsEntryOf, Adds, begin, next}
-use Rattle.isle_blocks.specs.Building.Steps.{expr_adds, makes, values_of}
-use Rattle.isle_blocks.specs.Building.Named.{IsKnownTerm, AreKnownTerms}
-use Rattle.isle_blocks.proofs.Building.Entries.{Grown, at_grown, all_grown, entry_at, put_grown, put_there, put_of, adds_grown, adds_then, grown_then}
+use Rattle.isle_blocks.specs.Building.Steps.{makes}
+use Rattle.isle_blocks.proofs.Building.Entries.{Grown, at_grown, entry_at, put_grown, put_there, put_of, adds_grown, adds_then}
 
 -- numbers that stand for sites in order
 abbrev pub StandEach : List Row → List BindingId → List Site → Type 0
@@ -139,7 +127,7 @@ module _ (name : Sym → List ℕ) (injective : IsInjective name) where
     impure = rw e (each_grown (rows_of name s.sites) (rows_of name s'.sites) (grew_rows s s' xs h) s.impure log.impure is);
   }
 
-  visited_intern : (b : Binding) (t : Site) (s s' : Gathered) (id : BindingId) (log : Log) → IsEntryOf (rows_of name s.sites) t (row_of name b)
+  pub visited_intern : (b : Binding) (t : Site) (s s' : Gathered) (id : BindingId) (log : Log) → IsEntryOf (rows_of name s.sites) t (row_of name b)
       → StandEach (rows_of name s.sites) s.impure log.impure → interns b s (Ok id) s'
       → Visited s log (need (t ∷ []) log) s' × At (rows_of name s'.sites) t id.0
   visited_intern b t s s' id log is each h =
@@ -147,7 +135,7 @@ module _ (name : Sym → List ℕ) (injective : IsInjective name) where
 
   module _ (facts : TermFacts) where
     -- a constructor's call
-    visited_call : (pure multi partial : Bool) (t : TermId) (ss : Sites) (ids : List BindingId) (log : Log) (s s' : Gathered) (id : BindingId)
+    pub visited_call : (pure multi partial : Bool) (t : TermId) (ss : Sites) (ids : List BindingId) (log : Log) (s s' : Gathered) (id : BindingId)
         → facts.multi t.0 ≡ multi → facts.partial t.0 ≡ partial
         → AtAll (rows_of name s.sites) ss (numbers_of ids) → StandEach (rows_of name s.sites) s.impure log.impure
         → makes ids t pure (not partial) multi s (Ok id) s'
@@ -159,9 +147,11 @@ module _ (name : Sym → List ℕ) (injective : IsInjective name) where
         let none : zero ≡ n = h.2.0 in
         let steps = h.3 in
         let rest = steps.3 in
-        let entry : IsEntryOf (rows_of name h.1.sites) call (row_of name (sites.Constructor t ids n)) =
-        (numbers_of ids, ap (λ (z : ℕ). constructor_row t.0 (numbers_of ids) z) (sym none),
-        subst (λ (z : Gathered). AtAll (rows_of name z.sites) ss (numbers_of ids)) start all) in
+        let entry : IsEntryOf (rows_of name h.1.sites) call (row_of name (sites.Constructor t ids n)) = (
+          numbers_of ids,
+          ap (λ (z : ℕ). constructor_row t.0 (numbers_of ids) z) (sym none),
+          subst (λ (z : Gathered). AtAll (rows_of name z.sites) ss (numbers_of ids)) start all,
+        ) in
         let given = call_gives multi partial call (sites.Constructor t ids n) h.1 steps.1 rest.1 steps.0 rest.0 entry steps.2 rest.2 in
         let here = visited_more h.1 rest.1 log (answer_needs multi partial call) given.0 given.2
         (subst (λ (z : Gathered). StandEach (rows_of name z.sites) z.impure log.impure) start each) in
@@ -180,9 +170,11 @@ module _ (name : Sym → List ℕ) (injective : IsInjective name) where
         ap suc (sym (each_many (rows_of name s.sites) s.impure log.impure each)) ∙ sym (add-one (length s.impure)) ∙ sym h.2.0 in
         let steps = h.3 in
         let rest = steps.3 in
-        let entry : IsEntryOf (rows_of name h.1.sites) call (row_of name (sites.Constructor t ids n)) =
-        (numbers_of ids, ap (λ (z : ℕ). constructor_row t.0 (numbers_of ids) z) (sym many),
-        subst (λ (z : Gathered). AtAll (rows_of name z.sites) ss (numbers_of ids)) start all) in
+        let entry : IsEntryOf (rows_of name h.1.sites) call (row_of name (sites.Constructor t ids n)) = (
+          numbers_of ids,
+          ap (λ (z : ℕ). constructor_row t.0 (numbers_of ids) z) (sym many),
+          subst (λ (z : Gathered). AtAll (rows_of name z.sites) ss (numbers_of ids)) start all,
+        ) in
         let given = call_gives multi partial call (sites.Constructor t ids n) h.1 steps.1 rest.1 steps.0 rest.0 entry steps.2 rest.2 in
         let value = answer_site multi partial call in
         let here = visited_more h.1 rest.1 log (answer_needs multi partial call) given.0 given.2
@@ -190,11 +182,13 @@ module _ (name : Sym → List ℕ) (injective : IsInjective name) where
         let after : Log = record { needed = log.needed ++ answer_needs multi partial call; impure = log.impure ++ value ∷ [] } in
         let both : Visited s log after s' × At (rows_of name s'.sites) value id.0 =
         subst (λ (z : Gathered). Visited z log after s' × At (rows_of name s'.sites) value id.0) (sym start)
-        (subst (λ (z : Gathered). Visited h.1 log after z × At (rows_of name z.sites) value id.0) (sym rest.3.1)
-        (record {
-          more = here.more;
-          needed = here.needed;
-          grew = record { adds = here.grew.adds; has = here.grew.has; same = here.grew.same };
-          impure = each_push (rows_of name rest.1.sites) rest.1.impure log.impure rest.0 value here.impure given.1;
-        }, subst (λ (z : BindingId). At (rows_of name rest.1.sites) value z.0) (sym rest.3.0) given.1)) in
+        (subst (λ (z : Gathered). Visited h.1 log after z × At (rows_of name z.sites) value id.0) (sym rest.3.1) (
+          record {
+            more = here.more;
+            needed = here.needed;
+            grew = record { adds = here.grew.adds; has = here.grew.has; same = here.grew.same };
+            impure = each_push (rows_of name rest.1.sites) rest.1.impure log.impure rest.0 value here.impure given.1;
+          },
+          subst (λ (z : BindingId). At (rows_of name rest.1.sites) value z.0) (sym rest.3.0) given.1,
+        )) in
         rw (m, p) both

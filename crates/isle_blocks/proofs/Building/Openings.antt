@@ -1,5 +1,5 @@
 -- What a call of a term's pattern adds.
-use Rattle.std.proofs.Common.{◌≡◌, ◌&&◌, ℕ, Bool, true, false, not, List, [], ◌∷◌, ◌++◌, length, Option, Some, None, Ok, refl, sym, ap, ◌∙◌, subst}
+use Rattle.std.proofs.Common.{◌≡◌, ◌&&◌, ℕ, Bool, true, false, not, List, [], ◌∷◌, ◌++◌, length, Some, None, Ok, refl, sym, ◌∙◌, subst}
 use Rattle.std.proofs.lemmas.List.{append-nil}
 use Rattle.std.proofs.lemmas.Option.{none-some, same_Some}
 use Rattle.isle_types.specs.declared.ids.Sym.{Sym}
@@ -13,21 +13,21 @@ use Rattle.isle_terms.specs.declared.terms.TermKind.TheVariants.{EnumVariant, St
 use Rattle.isle_terms.specs.Signatures.{flags_of}
 use Rattle.isle_terms.specs.Shown.ShownTerms.{form_shown}
 use Rattle.isle_terms.specs.Visits.VisitorCalls.{PatternCall, opening_of, always_extracts}
-use Rattle.isle_terms.specs.Meaning.Facts.{TermShape, variant_shape, struct_shape, declared_shape, TermFacts, shape_of_form, never_fails}
+use Rattle.isle_terms.specs.Meaning.Facts.{TermShape, TermFacts, shape_of_form, never_fails}
 use Rattle.isle_terms.specs.Meaning.Sites.{Site, extractor_call, match_variant, extract_struct, extract_site, output}
 use Rattle.isle_terms.specs.Meaning.Demands.{Demand, constrained, opens, parts, extractor_demands}
 use Rattle.isle_terms.specs.Meaning.Demands as meaning
 use Rattle.isle_terms.specs.Meaning.Needs.{from_on, extract_needs, output_needs, open_needs}
-use Rattle.isle_terms.specs.Meaning.Numbered.{Row, At}
+use Rattle.isle_terms.specs.Meaning.Numbered.{At}
 use Rattle.isle_blocks.specs.declared.ids.BindingId.{BindingId}
 use Rattle.isle_blocks.specs.declared.binding.Binding.TheVariants as sites
 use Rattle.isle_blocks.specs.declared.constraint.Constraint.TheVariants as tests
 use Rattle.isle_blocks.specs.Constraints.{variant_field, struct_field}
 use Rattle.isle_blocks.specs.Rows.{IsInjective, rows_of}
-use Rattle.isle_blocks.specs.Building.Gathering.{Gathered, sites_from}
+use Rattle.isle_blocks.specs.Building.Gathering.{Gathered}
 use Rattle.isle_blocks.specs.Building.Steps.{pattern_adds, takes}
 use Rattle.isle_blocks.specs.Building.Named.{IsKnownTerm}
-use Rattle.isle_blocks.proofs.Building.Entries.{Grown, at_grown}
+use Rattle.isle_blocks.proofs.Building.Entries.{at_grown}
 use Rattle.isle_blocks.proofs.Building.Told.{Told, StandFrom, told_intern, told_demand, told_then, told_each, told_extracted, told_outputs}
 
 module _ (name : Sym → List ℕ) (injective : IsInjective name) where

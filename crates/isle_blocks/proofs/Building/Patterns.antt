@@ -1,8 +1,7 @@
 -- What the visit of a pattern gathers: the sites that it needs and its demands, and what its variables stand for.
-use Rattle.std.proofs.Common.{◌≡◌, ◌≤◌, ◌<◌, ◌+◌, ◌==◌, ◌⊎◌, ℕ, zero, suc, Bool, true, false, List, [], ◌∷◌, ◌++◌, length, Option, Some, None, Ok}
+use Rattle.std.proofs.Common.{◌≡◌, ◌≤◌, ◌<◌, ◌==◌, ℕ, suc, Bool, true, false, List, [], ◌∷◌, ◌++◌, length, Option, Some, None, Ok}
 use Rattle.std.proofs.Common.{slice_get, refl, sym, ap, ◌∙◌, subst, inl, inr, arith}
-use Rattle.std.proofs.lemmas.Bool.{eqb-true, eqb-false, eq-eqb}
-use Rattle.std.proofs.lemmas.List.{append-nil}
+use Rattle.std.proofs.lemmas.Bool.{eqb-true, eq-eqb}
 use Rattle.std.proofs.lemmas.Option.{none-some, same_Some}
 use Rattle.std.specs.Option.{option_and_then}
 use Rattle.isle_types.specs.declared.ids.Sym.{Sym}
@@ -16,7 +15,7 @@ use Rattle.isle_terms.specs.SoundRules.KeptScopes.{Scope, with_next, IsUsable, P
 use Rattle.isle_terms.specs.Visits.Runs.{done, asks, in_turn, on_some, stuck}
 use Rattle.isle_terms.specs.Visits.VisitScopes.{bound as bound_by}
 use Rattle.isle_terms.specs.Visits.VisitScopes.{Scope as Numbers}
-use Rattle.isle_terms.specs.Visits.VisitorCalls.{PatternCall, match_equal, match_bool, match_int, match_prim, opening_of, opening}
+use Rattle.isle_terms.specs.Visits.VisitorCalls.{PatternCall, match_equal, opening_of, opening}
 use Rattle.isle_terms.specs.Visits.InternedTrees.{InternedPattern, InternedPatterns, bind_pattern, var_pattern, bool_pattern, int_pattern}
 use Rattle.isle_terms.specs.Visits.InternedTrees.{prim_pattern, term_pattern, wildcard_pattern, and_pattern, no_patterns, more_patterns}
 use Rattle.isle_terms.specs.Visits.Events.{visits, visits_all, visits_each}
@@ -33,7 +32,7 @@ use Rattle.isle_blocks.specs.Rows.{IsInjective, rows_of, test_of}
 use Rattle.isle_blocks.specs.Building.Gathering.{Gathered}
 use Rattle.isle_blocks.specs.Building.Gathering.{demands as takes_demand}
 use Rattle.isle_blocks.specs.Building.Steps.{pattern_adds}
-use Rattle.isle_blocks.specs.Building.Named.{named_pattern, named_patterns, IsKnownTerm, AreKnownTerms, IsFilled, AreFilled}
+use Rattle.isle_blocks.specs.Building.Named.{named_pattern, named_patterns, AreKnownTerms, IsFilled, AreFilled}
 use Rattle.isle_blocks.proofs.Building.Entries.{Grown, at_grown}
 use Rattle.isle_blocks.proofs.Building.Told.{Told, StandFrom, stand_grown, stand_shift, told_grown, told_none, told_then, told_demand, told_equates}
 use Rattle.isle_blocks.proofs.Building.Openings.{told_opening}
@@ -115,7 +114,7 @@ module _ (name : Sym → List ℕ) (injective : IsInjective name) where
     pub kept : (var : VarId) → after.count ≤ var.0 → out var ≡ scope var
 
   -- a step that binds nothing
-  followed_told : (s mid s' : Gathered) (before after : Scope) (scope out : Numbers BindingId) (vars : ℕ → Site) (needed : List Site) (ds : List Demand)
+  pub followed_told : (s mid s' : Gathered) (before after : Scope) (scope out : Numbers BindingId) (vars : ℕ → Site) (needed : List Site) (ds : List Demand)
       → Told name injective s needed ds mid → Stand (rows_of name s.sites) before.usable scope vars → AreBelow before → after ≡ before
       → done {S = Gathered} scope mid (Ok out) s' → Followed s before scope needed ds vars after out s'
   followed_told s mid s' before after scope out vars needed ds told h low e end =
@@ -130,7 +129,7 @@ module _ (name : Sym → List ℕ) (injective : IsInjective name) where
         kept = λ var m. refl;
       })))
 
-  followed_then : (s mid s' : Gathered) (before between after : Scope) (scope numbers out : Numbers BindingId) (xs ys : List Site) (ds es : List Demand)
+  pub followed_then : (s mid s' : Gathered) (before between after : Scope) (scope numbers out : Numbers BindingId) (xs ys : List Site) (ds es : List Demand)
       (inner vars : ℕ → Site) → Followed s before scope xs ds inner between numbers mid → Followed mid between numbers ys es vars after out s'
       → Followed s before scope (xs ++ ys) (ds ++ es) vars after out s'
   followed_then s mid s' before between after scope numbers out xs ys ds es inner vars h k = record {

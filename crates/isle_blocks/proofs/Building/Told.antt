@@ -1,14 +1,13 @@
 -- What a step adds, as sites that are needed and demands.
-use Rattle.std.proofs.Common.{◌≡◌, ◌≢◌, ◌+◌, ◌⊎◌, ℕ, zero, suc, Bool, true, false, List, [], ◌∷◌, ◌++◌, map, length, Ok, Contains, refl, sym, ap, ◌∙◌}
+use Rattle.std.proofs.Common.{◌≡◌, ◌≢◌, ◌+◌, ◌⊎◌, ℕ, zero, suc, Bool, true, false, List, [], ◌∷◌, ◌++◌, length, Ok, Contains, refl, sym, ap, ◌∙◌}
 use Rattle.std.proofs.Common.{subst, inl, inr, append_assoc, add-one, arith}
 use Rattle.std.proofs.lemmas.List.{append-nil, map-append}
 use Rattle.isle_types.specs.declared.ids.Sym.{Sym}
-use Rattle.isle_terms.specs.Visits.Runs.{done, in_turn}
-use Rattle.isle_terms.specs.Meaning.Sites.{Site, extractor_call, iterator, match_some, match_tuple, extract_site, output}
+use Rattle.isle_terms.specs.Meaning.Sites.{Site, iterator, match_some, match_tuple, extract_site, output}
 use Rattle.isle_terms.specs.Meaning.Demands as meaning
 use Rattle.isle_terms.specs.Meaning.Demands.{Demand, constrained, equal, Among, extractor_demands}
 use Rattle.isle_terms.specs.Meaning.Needs.{from_on, extract_needs, output_needs}
-use Rattle.isle_terms.specs.Meaning.Numbered.{Row, iterator_row, match_some_row, At, AreRecorded}
+use Rattle.isle_terms.specs.Meaning.Numbered.{Row, At, AreRecorded}
 use Rattle.isle_blocks.specs.declared.ids.BindingId.{BindingId}
 use Rattle.isle_blocks.specs.declared.binding.Binding.{Binding}
 use Rattle.isle_blocks.specs.declared.binding.Binding.TheVariants as sites
@@ -83,8 +82,10 @@ module _ (name : Sym → List ℕ) (injective : IsInjective name) where
     same_more = h.same_more ++ k.same_more;
     has = k.has ∙ ap (λ z. z ++ k.has_more) h.has ∙ append_assoc s.has h.has_more k.has_more;
     same = k.same ∙ ap (λ z. z ++ k.same_more) h.same ∙ append_assoc s.same h.same_more k.same_more;
-    recorded = rw (map-append {B = ℕ × meaning.Constraint} (λ (p : BindingId × Constraint). (p.0.0, test_of name p.1)) h.has_more k.has_more,
-        map-append {B = ℕ × ℕ} (λ (p : BindingId × BindingId). (p.0.0, p.1.0)) h.same_more k.same_more)
+    recorded = rw (
+      map-append {B = ℕ × meaning.Constraint} (λ (p : BindingId × Constraint). (p.0.0, test_of name p.1)) h.has_more k.has_more,
+      map-append {B = ℕ × ℕ} (λ (p : BindingId × BindingId). (p.0.0, p.1.0)) h.same_more k.same_more,
+    )
         (recorded_both (rows_of name s'.sites) (constraints_of name h.has_more) (constraints_of name k.has_more) (pairs_of h.same_more)
         (pairs_of k.same_more) ds es
         (recorded_grown (rows_of name mid.sites) (rows_of name s'.sites) (constraints_of name h.has_more) (pairs_of h.same_more) ds
@@ -101,50 +102,54 @@ module _ (name : Sym → List ℕ) (injective : IsInjective name) where
       let new = rows_of name h.0 in
       let put = put_of name injective s.sites b id h.0 h.1 in
       let g = put_grown rows (row_of name b) id.0 new put in
-      subst (λ (z : Gathered). Told s (t ∷ []) [] z × At (rows_of name z.sites) t id.0) (sym h.2)
-      (record {
-        adds = next {needed = []} new t (row_of name b) id.0 begin is put;
-        has_more = [];
-        same_more = [];
-        has = sym (append-nil s.has);
-        same = sym (append-nil s.same);
-        recorded = nothing_recorded new;
-        impure = refl;
-      }, entry_at rows new g t (row_of name b) id.0 is (put_there rows (row_of name b) id.0 new put))
+      subst (λ (z : Gathered). Told s (t ∷ []) [] z × At (rows_of name z.sites) t id.0) (sym h.2) (
+        record {
+          adds = next {needed = []} new t (row_of name b) id.0 begin is put;
+          has_more = [];
+          same_more = [];
+          has = sym (append-nil s.has);
+          same = sym (append-nil s.same);
+          recorded = nothing_recorded new;
+          impure = refl;
+        },
+        entry_at rows new g t (row_of name b) id.0 is (put_there rows (row_of name b) id.0 new put),
+      )
 
   -- a test of a site
   pub told_demand : (test : Constraint) (t : Site) (s s' : Gathered) (id : BindingId) (ids : List BindingId) → At (rows_of name s.sites) t id.0
       → demands id test s (Ok ids) s' → Told s [] (constrained t (test_of name test) ∷ []) s' × (s'.sites ≡ s.sites)
   told_demand test t s s' id ids is h =
-      subst (λ (z : Gathered). Told s [] (constrained t (test_of name test) ∷ []) z × (z.sites ≡ s.sites)) (sym h.1)
-      (record {
-        adds = begin;
-        has_more = (id, test) ∷ [];
-        same_more = [];
-        has = refl;
-        same = sym (append-nil s.same);
-        recorded = record {
-          constraint = λ k c m. elim (cons_cases (id.0, test_of name test) [] (k, c) m) [
-            | inl e ↦ (
-              t,
-              subst (λ z. At (rows_of name s.sites) t z) (ap (λ (p : ℕ × meaning.Constraint). p.0) e) is,
-              inl (ap (λ (p : ℕ × meaning.Constraint). constrained t p.1) (sym e)),
-            )
-            | inr x ↦ none_there (k, c) x
-          ];
-          equality = λ a b m. none_there (a, b) m;
-          all_constraints = λ u c m. elim m [
-            | inl e ↦ let p : u ≡ t = cc in let q : c ≡ test_of name test = cc in (
+      subst (λ (z : Gathered). Told s [] (constrained t (test_of name test) ∷ []) z × (z.sites ≡ s.sites)) (sym h.1) (
+        record {
+          adds = begin;
+          has_more = (id, test) ∷ [];
+          same_more = [];
+          has = refl;
+          same = sym (append-nil s.same);
+          recorded = record {
+            constraint = λ k c m. elim (cons_cases (id.0, test_of name test) [] (k, c) m) [
+              | inl e ↦ (
+                t,
+                subst (λ z. At (rows_of name s.sites) t z) (ap (λ (p : ℕ × meaning.Constraint). p.0) e) is,
+                inl (ap (λ (p : ℕ × meaning.Constraint). constrained t p.1) (sym e)),
+              )
+              | inr x ↦ none_there (k, c) x
+            ];
+            equality = λ a b m. none_there (a, b) m;
+            all_constraints = λ u c m. elim m [
+              | inl e ↦ let p : u ≡ t = cc in let q : c ≡ test_of name test = cc in (
                 id.0,
                 subst (λ z. At (rows_of name s.sites) z id.0) (sym p) is,
                 subst (λ z. Contains {X = ℕ × meaning.Constraint} ((id.0, test_of name test) ∷ []) (id.0, z)) (sym q) (cons_here (id.0, test_of name test) []),
               )
-            | inr x ↦ absurd x
-          ];
-          all_equalities = λ u v m. elim m [ inl e ↦ absurd cc | inr x ↦ absurd x ];
-        };
-        impure = refl;
-      }, refl)
+              | inr x ↦ absurd x
+            ];
+            all_equalities = λ u v m. elim m [ inl e ↦ absurd cc | inr x ↦ absurd x ];
+          };
+          impure = refl;
+        },
+        refl,
+      )
 
   id_same : (a b : BindingId) → a.0 ≡ b.0 → a ≡ b
   id_same a b e = λ i. record { 0 = e i }
@@ -156,14 +161,17 @@ module _ (name : Sym → List ℕ) (injective : IsInjective name) where
     where
       rows : List Row
       rows = rows_of name s.sites
+
       pair : (v w : Site) → (equal v w ≡ equal t u) ⊎ ⊥ → (equal v w ≡ equal t u)
       pair v w (inl e) = e
       pair v w (inr x) = absurd x
+
       both : (v w : Site) → equal v w ≡ equal t u → At (rows_of name s.sites) v a.0 × At (rows_of name s.sites) w b.0
       both v w e = let p : v ≡ t = cc in let q : w ≡ u = cc in (
         subst (λ z. At (rows_of name s.sites) z a.0) (sym p) is,
         subst (λ z. At (rows_of name s.sites) z b.0) (sym q) other,
       )
+
       go : ((a ≡ b) × (s' ≡ s)) ⊎ ((a ≢ b) × (s' ≡ record { sites = s.sites; has = s.has; same = s.same ++ (a, b) ∷ []; impure = s.impure }))
           → Told s [] (equal t u ∷ []) s'
       go (inl e) = subst (λ (z : Gathered). Told s [] (equal t u ∷ []) z) (sym e.1) (record {
