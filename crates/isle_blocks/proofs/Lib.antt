@@ -6,5 +6,7 @@ pub mod EqualTests
 pub mod Merging
 -- Lists of pairs of places.
 pub mod Pairs
+-- Groups of pairs.
+pub mod Grouping
 -- Worked cases.
 mod Cases

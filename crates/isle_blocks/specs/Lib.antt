@@ -10,3 +10,5 @@ pub mod Orders
 pub mod Rules
 -- Faults between the rules of a term.
 pub mod FaultsBetween
+-- What is reported of rules that overlap or shadow others.
+pub mod Reports

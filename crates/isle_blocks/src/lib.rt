@@ -6,10 +6,12 @@ mod constraint;
 mod faults;
 mod ids;
 pub mod laws;
+mod report;
 mod rule;
 
 pub use binding::Binding;
 pub use constraint::Constraint;
 pub use faults::{FaultsBetween, faults_between};
 pub use ids::{BindingId, TupleIndex};
+pub use report::{RulePlace, report_faults};
 pub use rule::{Overlap, Rule};
