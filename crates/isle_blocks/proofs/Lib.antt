@@ -10,3 +10,10 @@ pub mod Pairs
 pub mod Grouping
 -- Worked cases.
 mod Cases
+-- A table of sites and the sorted table of their numbers.
+pub mod Numbering
+pub mod Copies
+-- Sites and tests are told apart by their entries.
+pub mod RowsInjective
+-- What is said of numbers is said of sites.
+pub mod ClosedRules

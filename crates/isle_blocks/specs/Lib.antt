@@ -12,3 +12,11 @@ pub mod Rules
 pub mod FaultsBetween
 -- What is reported of rules that overlap or shadow others.
 pub mod Reports
+-- Sites and tests as those of the rules' meaning.
+pub mod Rows
+-- Tables of sites, in which each stands once.
+pub mod Tables
+-- Fields that tests open.
+pub mod ClosureFields
+-- The rules of a rule set as what follows from their demands.
+pub mod ClosedRules

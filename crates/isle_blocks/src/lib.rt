@@ -8,6 +8,7 @@ mod ids;
 pub mod laws;
 mod report;
 mod rule;
+mod sites;
 
 pub use binding::Binding;
 pub use constraint::Constraint;
