@@ -6,6 +6,8 @@ pub mod EqualTests
 pub mod Merging
 -- Lists of pairs of places.
 pub mod Pairs
+-- Groups of pairs.
+pub mod Grouping
 -- Worked cases.
 mod Cases
 -- A table of sites and the sorted table of their numbers.
@@ -19,3 +21,5 @@ pub mod MovedTables
 pub mod MovingTurns
 -- Sites and tests are told apart by their entries.
 pub mod RowsInjective
+-- What is said of numbers is said of sites.
+pub mod ClosedRules

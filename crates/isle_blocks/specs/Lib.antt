@@ -10,6 +10,8 @@ pub mod Orders
 pub mod Rules
 -- Faults between the rules of a term.
 pub mod FaultsBetween
+-- What is reported of rules that overlap or shadow others.
+pub mod Reports
 -- Sites and tests as those of the rules' meaning.
 pub mod Rows
 -- Tables of sites, in which each stands once.
@@ -22,3 +24,5 @@ pub mod RowTables
 pub mod MovedSites
 -- Fields that tests open.
 pub mod ClosureFields
+-- The rules of a rule set as what follows from their demands.
+pub mod ClosedRules

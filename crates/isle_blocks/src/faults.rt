@@ -14,9 +14,11 @@ pub struct FaultsBetween {
 }
 
 /// What can be wrong between two rules.
-#[derive(Clone, Copy)]
-enum Fault {
+#[derive(Debug, Clone, Copy)]
+pub(crate) enum Fault {
+    /// They have one priority and may match together.
     Overlap,
+    /// The first, of higher priority, matches whatever the second does.
     Shadow,
 }
 

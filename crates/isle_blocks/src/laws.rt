@@ -8,6 +8,7 @@ ghost use Rattle.isle_blocks.specs.declared.ids.TupleIndex.{TupleIndex};
 ghost use Rattle.isle_blocks.specs.declared.ids.BindingId.{BindingId};
 ghost use Rattle.isle_blocks.specs.declared.binding.Binding.{Binding as Site};
 ghost use Rattle.isle_blocks.specs.declared.constraint.Constraint.{Constraint as Test};
+ghost use Rattle.isle_blocks.specs.ClosedRules.{NumbersSayDiffer, NumbersSayWithin};
 ghost use Rattle.isle_blocks.specs.Orders.{binding_order, constraint_order};
 
 use crate::binding::Binding;
@@ -50,4 +51,10 @@ pub fn equal_constraints_are_one()
 pub fn entries_are_injective()
     ensures sites { (name : Sym → List ℕ) → IsInjective name → (a b : Site) → row_of name a ≡ row_of name b → a ≡ b }
     ensures tests { (name : Sym → List ℕ) → IsInjective name → (a b : Test) → test_of name a ≡ test_of name b → a ≡ b }
+{}
+
+/// Rules differ, and one's tests stand in the other, exactly where their demands say so.
+pub fn numbers_say_faults()
+    ensures differ { NumbersSayDiffer }
+    ensures within { NumbersSayWithin }
 {}

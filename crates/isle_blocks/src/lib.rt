@@ -8,6 +8,7 @@ mod faults;
 mod ids;
 pub mod laws;
 mod moving;
+mod report;
 mod rule;
 mod sites;
 
@@ -15,4 +16,5 @@ pub use binding::Binding;
 pub use constraint::Constraint;
 pub use faults::{FaultsBetween, faults_between};
 pub use ids::{BindingId, TupleIndex};
+pub use report::{RulePlace, report_faults};
 pub use rule::{Overlap, Rule};
