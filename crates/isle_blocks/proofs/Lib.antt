@@ -17,6 +17,8 @@ pub mod Copies
 pub mod Building
 -- What is moved into another table.
 pub mod MovedTables
+-- The entries of moved sites.
+pub mod MovedRows
 -- One more site moved.
 pub mod MovingTurns
 -- Sites and tests are told apart by their entries.
