@@ -5,3 +5,13 @@ pub mod Numbering
 pub mod Copies
 -- Sites and tests are told apart by their entries.
 pub mod RowsInjective
+-- Numbers and the sites that they stand for.
+pub mod ClosureTrees
+-- One merge of two classes.
+pub mod ClosureMerge
+-- How many numbers pass a test.
+pub mod ClosureCount
+-- What is recorded, as demands.
+pub mod ClosureDemands
+-- What the loop over the pending pairs keeps.
+pub mod ClosureProgress

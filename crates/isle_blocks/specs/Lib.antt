@@ -12,3 +12,5 @@ pub mod Rows
 pub mod Tables
 -- Fields that tests open.
 pub mod ClosureFields
+-- Classes of sites while demands are closed.
+pub mod ClosureStates
