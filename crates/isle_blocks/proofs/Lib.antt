@@ -15,3 +15,9 @@ pub mod ClosureCount
 pub mod ClosureDemands
 -- What the loop over the pending pairs keeps.
 pub mod ClosureProgress
+-- Lists of pairs under a push and a pop, and own tests.
+pub mod ClosurePairs
+-- Like fields under a test.
+pub mod ClosureLikes
+-- A closed state has all that is derived.
+pub mod ClosureQuotient

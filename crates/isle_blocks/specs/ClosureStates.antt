@@ -90,6 +90,13 @@ abbrev pub IsJoined : List ℕ → List ℕ → ℕ → ℕ → Type 0
 IsJoined class joined drop keep = (a : ℕ) → a < length class → ((slice_index class a ≡ drop) × (slice_index joined a ≡ keep))
     ⊎ ((slice_index class a ≡ drop → ⊥) × (slice_index joined a ≡ slice_index class a))
 
+-- two numbers are the like fields of two sites
+abbrev pub HaveLikeFields : List Binding → Option ℕ → ℕ → ℕ → ℕ → ℕ → ℕ → Type 0
+HaveLikeFields table kind member keep i f g = (slice_get table f ≡ Some (field_binding kind member i)) × (slice_get table g ≡ Some (field_binding kind keep i))
+
+abbrev pub LackLikeFields : List Binding → Option ℕ → ℕ → ℕ → ℕ → Type 0
+LackLikeFields table kind member keep i = (f g : ℕ) → HaveLikeFields table kind member keep i f g → ⊥
+
 -- like fields of two sites, under a test
 pub record AreLikeFields (table : List Binding) (member keep : ℕ) (test : Constraint) (f g : ℕ) : Type 0 where
   pub kind : Option ℕ

@@ -2,6 +2,7 @@
 #![tactic(auto)]
 
 mod binding;
+mod close;
 mod constraint;
 mod ids;
 pub mod laws;

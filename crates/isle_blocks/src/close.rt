@@ -1,0 +1,4 @@
+//! The closure of a rule's demands.
+
+mod classes;
+mod fields;
