@@ -21,3 +21,5 @@ pub mod ClosurePairs
 pub mod ClosureLikes
 -- A closed state has all that is derived.
 pub mod ClosureQuotient
+-- Marking sites after their children.
+pub mod ClosureLoops
