@@ -1,10 +1,11 @@
 -- Like fields under a test.
-use Rattle.std.proofs.Common.{◌≡◌, ◌<◌, ℕ, List, length, arith, Option, Some, slice_get, ap, sym, ◌∙◌, subst}
+use Rattle.std.proofs.Common.{◌≡◌, ◌<◌, ℕ, List, length, get_or, arith, Option, Some, slice_get, ap, sym, ◌∙◌, subst}
 use Rattle.isle_blocks.specs.declared.binding.Binding.{Binding}
 use Rattle.isle_blocks.specs.declared.constraint.Constraint.{Constraint}
 use Rattle.isle_blocks.specs.declared.close.fields.Opening.{Opening}
 use Rattle.isle_blocks.specs.ClosureFields.{IsTable, AreFields, field_binding, kind_of}
-use Rattle.isle_blocks.specs.ClosureStates.{AreLikeFields, HaveLikeFields}
+use Rattle.isle_types.specs.Names.{AreDistinct}
+use Rattle.isle_blocks.specs.ClosureStates.{AreLikeFields, HaveLikeFields, IsRootOf}
 use Rattle.std.proofs.lemmas.Option.{slice_get_within}
 use Rattle.isle_blocks.proofs.ClosurePairs.{pair_path}
 use Rattle.isle_blocks.proofs.ClosureTrees.{field_source}
@@ -27,3 +28,7 @@ pub member_in : (table : List Binding) → IsTable table → (member keep : ℕ)
 member_in table ok member keep test f g like =
     let earlier : member < f = ok.earlier f (field_binding like.kind member like.index) _ like.field (field_source like.kind member like.index) in
     let within : f < length table = slice_get_within table f (field_binding like.kind member like.index) like.field in omega arith
+
+-- a site has one class
+pub one_root : (table : List Binding) → AreDistinct table → (class : List ℕ) (site : Binding) (k m : ℕ) → IsRootOf table class site k → IsRootOf table class site m → k ≡ m
+one_root table once class site k m (g, p, e) (h, q, f) = sym e ∙ ap (λ (z : ℕ). get_or class z 0) (once site g h p q) ∙ f

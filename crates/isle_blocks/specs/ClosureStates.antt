@@ -183,6 +183,18 @@ pub record HasUnmarkedChild (table : List Binding) (own : List (Option Constrain
 abbrev pub ChildrenAreMarked : List Binding → List (Option Constraint) → List ℕ → List Bool → ℕ → Type 0
 ChildrenAreMarked table own class marks r = (g k : ℕ) → IsChildAt table own class r g k → is_marked marks k ≡ true
 
+-- the class of a site that is there
+abbrev pub IsRootOf : List Binding → List ℕ → Binding → ℕ → Type 0
+IsRootOf table class site k = (g : ℕ) × (slice_get table g ≡ Some site) × (slice_index class g ≡ k)
+
+-- a field below a number is in a class that isn't marked
+abbrev pub HasUnmarkedField : List Binding → List ℕ → List Bool → ℕ → Option ℕ → ℕ → Type 0
+HasUnmarkedField table class marks r kind n =
+    (i : ℕ) × (k : ℕ) × (i < n) × IsRootOf table class (field_binding kind r i) k × (is_marked marks k ≡ false)
+
+abbrev pub FieldsAreMarked : List Binding → List ℕ → List Bool → ℕ → Option ℕ → ℕ → Type 0
+FieldsAreMarked table class marks r kind n = (i k : ℕ) → i < n → IsRootOf table class (field_binding kind r i) k → is_marked marks k ≡ true
+
 -- what holds of the sites, their classes and tests while fields are added: new sites have no test of their own
 pub record IsState (own : List (Option Constraint)) (equals : List (ℕ × ℕ)) (table : List Binding) (class : List ℕ) : Type 0 where
   pub table_ok : IsTable table
