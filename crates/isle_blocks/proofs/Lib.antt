@@ -23,3 +23,5 @@ pub mod ClosureLikes
 pub mod ClosureQuotient
 -- Marking sites after their children.
 pub mod ClosureLoops
+-- Adding a missing field.
+pub mod ClosureGrowth
