@@ -5,13 +5,13 @@ use Rattle.std.proofs.lemmas.Option.{slice_get_within}
 use Rattle.std.proofs.lemmas.Bool.{cases_lt}
 use Rattle.std.proofs.Math.ListN.{get_or-append}
 use Rattle.std.proofs.Math.Seq.{get_or-append_seam}
-use Rattle.isle_types.proofs.Lists.{slice_get-kept, slice_get-last, slice_get-pushed}
+use Rattle.isle_types.proofs.Lists.{slice_get-kept, slice_get-pushed}
 use Rattle.isle_blocks.specs.declared.ids.BindingId.{BindingId}
 use Rattle.isle_blocks.specs.declared.binding.Binding.{Binding}
 use Rattle.isle_blocks.specs.declared.constraint.Constraint.{Constraint}
 use Rattle.isle_blocks.specs.Bindings.{sources_of}
 use Rattle.isle_blocks.specs.ClosureFields.{IsTable, Opens, field_binding}
-use Rattle.isle_blocks.specs.ClosureStates.{HasField, HasOwn, IsOpened, AreClasses, IsClosed, IsState, IsMissingField, Grows, Still, Added, HasFields}
+use Rattle.isle_blocks.specs.ClosureStates.{HasOwn, IsState, IsMissingField, Grows, Still, Added, HasFields}
 use Rattle.isle_blocks.proofs.ClosurePairs.{own_in}
 use Rattle.isle_blocks.proofs.ClosureTrees.{field_parts, field_source}
 
@@ -53,8 +53,8 @@ module _ (own : List (Option Constraint)) (equals : List (ℕ × ℕ)) (table : 
     earlier = λ k site part e inside. elim (slice_get-pushed table new k site e) [
       | inl h ↦ state.table_ok.earlier k site part h inside
       | inr (p, q) ↦
-        let at : part.0 ≡ s = one_source kind s i part (subst (λ (b : Binding). Contains (sources_of b) part) (sym q) inside) in
-        let l = needed.site_in in omega arith
+          let at : part.0 ≡ s = one_source kind s i part (subst (λ (b : Binding). Contains (sources_of b) part) (sym q) inside) in
+          let l = needed.site_in in omega arith
     ];
     once = λ b j k p q. elim (slice_get-pushed table new j b p) [
       | inl pj ↦ elim (slice_get-pushed table new k b q) [
@@ -83,25 +83,25 @@ module _ (own : List (Option Constraint)) (equals : List (ℕ × ℕ)) (table : 
       → slice_get table' g ≡ Some (field_binding k a j) → slice_get table' h ≡ Some (field_binding k (get_or class' a 0) j) → get_or class' g 0 ≡ get_or class' h 0
   like' a c k j g h l has m p q = elim (slice_get-pushed table new h (field_binding k (get_or class' a 0) j) q) [
     | inr (e, d) ↦
-      let (n, there) = state.fields (get_or class' a 0) k j (c, has, m) in
-      absurd (needed.missing n (there ∙ ap Some (sym d)))
+        let (n, there) = state.fields (get_or class' a 0) k j (c, has, m) in
+        absurd (needed.missing n (there ∙ ap Some (sym d)))
     | inl old_q ↦
-      let h_in : h < length table = slice_get_within table h (field_binding k (get_or class' a 0) j) old_q in
-      elim (slice_get-pushed table new g (field_binding k a j) p) [
-      | inl old_p ↦
-        let g_in : g < length table = slice_get_within table g (field_binding k a j) old_p in
-        let a_in : a < g = state.table_ok.earlier g (field_binding k a j) _ old_p (field_source k a j) in
-        let a_old : get_or class' a 0 ≡ get_or class a 0 = class_old a (omega arith) in
-        class_old g g_in
-          ∙ state.closed.like a c k j g h (omega arith) (subst (λ (z : ℕ). HasOwn own z c) a_old has) m old_p (subst (λ (z : ℕ). slice_get table h ≡ Some (field_binding k z j)) a_old old_q)
-          ∙ sym (class_old h h_in)
-      | inr (e, d) ↦
-        let (same_s, same_k, same_i) = field_parts kind s i k a j d in
-        let s_old : get_or class' a 0 ≡ get_or class s 0 = ap (λ (z : ℕ). get_or class' z 0) (sym same_s) ∙ class_old s needed.site_in in
-        let b : field_binding k (get_or class' a 0) j ≡ field_binding kind (get_or class s 0) i = λ z. field_binding (sym same_k z) (s_old z) (sym same_i z) in
-        let same : f ≡ h = state.table_ok.once (field_binding kind (get_or class s 0) i) f h needed.like (old_q ∙ ap Some b) in
-        ap (λ (z : ℕ). get_or class' z 0) e ∙ class_new ∙ ap (λ (z : ℕ). get_or class z 0) same ∙ sym (class_old h h_in)
-      ]
+        let h_in : h < length table = slice_get_within table h (field_binding k (get_or class' a 0) j) old_q in
+        elim (slice_get-pushed table new g (field_binding k a j) p) [
+          | inl old_p ↦
+              let g_in : g < length table = slice_get_within table g (field_binding k a j) old_p in
+              let a_in : a < g = state.table_ok.earlier g (field_binding k a j) _ old_p (field_source k a j) in
+              let a_old : get_or class' a 0 ≡ get_or class a 0 = class_old a (omega arith) in
+              class_old g g_in
+              ∙ state.closed.like a c k j g h (omega arith) (subst (λ (z : ℕ). HasOwn own z c) a_old has) m old_p (subst (λ (z : ℕ). slice_get table h ≡ Some (field_binding k z j)) a_old old_q)
+              ∙ sym (class_old h h_in)
+          | inr (e, d) ↦
+              let (same_s, same_k, same_i) = field_parts kind s i k a j d in
+              let s_old : get_or class' a 0 ≡ get_or class s 0 = ap (λ (z : ℕ). get_or class' z 0) (sym same_s) ∙ class_old s needed.site_in in
+              let b : field_binding k (get_or class' a 0) j ≡ field_binding kind (get_or class s 0) i = λ z. field_binding (sym same_k z) (s_old z) (sym same_i z) in
+              let same : f ≡ h = state.table_ok.once (field_binding kind (get_or class s 0) i) f h needed.like (old_q ∙ ap Some b) in
+              ap (λ (z : ℕ). get_or class' z 0) e ∙ class_new ∙ ap (λ (z : ℕ). get_or class z 0) same ∙ sym (class_old h h_in)
+        ]
   ]
 
   pub state_more : IsState own equals table' class'

@@ -8,7 +8,7 @@ use Rattle.std.proofs.lemmas.Option.{slice_get_within}
 use Rattle.isle_types.specs.declared.ids.Sym.{Sym}
 use Rattle.isle_terms.specs.Meaning.Sites.{Site, bool_site, int_site, prim_site, argument, extractor_call, constructor_call, iterator}
 use Rattle.isle_terms.specs.Meaning.Sites.{make_variant, match_variant, make_struct, extract_struct, make_some, match_some, match_tuple}
-use Rattle.isle_terms.specs.Meaning.Demands.{Demand, constrained, equal}
+use Rattle.isle_terms.specs.Meaning.Demands.{Demand, constrained}
 use Rattle.isle_terms.specs.Meaning.Derived.{Derived, demanded, flipped, AreEqual, FieldOf, of_variant, of_struct, Inside, directly, further_in}
 use Rattle.isle_terms.specs.Meaning.Faults.{Endless}
 use Rattle.isle_terms.specs.Meaning.Numbered.{At}
@@ -110,15 +110,15 @@ module _ (table : List Binding) (own : List (Option Constraint)) (class : List �
     ];
     falls = λ s g k e c. elim (mark_before marks r s e) [
       | inl q ↦
-        let km : is_marked marks k ≡ true = children g k (subst (λ (z : ℕ). IsChildAt table own class z g k) q c) in
-        let a : raised (p.rank) (p.top) r k ≡ p.rank k = raised_other (p.rank) (p.top) r k (λ z. false≢true (sym unmarked ∙ ap (is_marked marks) (sym z) ∙ km)) in
-        let b : raised (p.rank) (p.top) r s ≡ p.top = raised_same (p.rank) (p.top) r s q in
-        let low : p.rank k < p.top = p.low k in omega arith
+          let km : is_marked marks k ≡ true = children g k (subst (λ (z : ℕ). IsChildAt table own class z g k) q c) in
+          let a : raised (p.rank) (p.top) r k ≡ p.rank k = raised_other (p.rank) (p.top) r k (λ z. false≢true (sym unmarked ∙ ap (is_marked marks) (sym z) ∙ km)) in
+          let b : raised (p.rank) (p.top) r s ≡ p.top = raised_same (p.rank) (p.top) r s q in
+          let low : p.rank k < p.top = p.low k in omega arith
       | inr m ↦
-        let km : is_marked marks k ≡ true = p.marked s g k m c in
-        let a : raised (p.rank) (p.top) r k ≡ p.rank k = raised_other (p.rank) (p.top) r k (λ z. false≢true (sym unmarked ∙ ap (is_marked marks) (sym z) ∙ km)) in
-        let b : raised (p.rank) (p.top) r s ≡ p.rank s = raised_other (p.rank) (p.top) r s (λ z. false≢true (sym unmarked ∙ ap (is_marked marks) (sym z) ∙ m)) in
-        let low : p.rank k < p.rank s = p.falls s g k m c in omega arith
+          let km : is_marked marks k ≡ true = p.marked s g k m c in
+          let a : raised (p.rank) (p.top) r k ≡ p.rank k = raised_other (p.rank) (p.top) r k (λ z. false≢true (sym unmarked ∙ ap (is_marked marks) (sym z) ∙ km)) in
+          let b : raised (p.rank) (p.top) r s ≡ p.rank s = raised_other (p.rank) (p.top) r s (λ z. false≢true (sym unmarked ∙ ap (is_marked marks) (sym z) ∙ m)) in
+          let low : p.rank k < p.rank s = p.falls s g k m c in omega arith
     ];
   }
 
@@ -134,19 +134,19 @@ module _ (table : List Binding) (own : List (Option Constraint)) (class : List �
     walk (suc fuel) seen r h l u reach = elim (either (seen r)) [
       | inl t ↦ record { at = r; inside = l; round = reach r t }
       | inr f ↦
-        let next = stuck r l u in
-        let k = next.child in
-        let c = next.is_child in
-        let k_in : k < length table = subst (λ (z : ℕ). z < length table) (c.leads) (below (next.field) (slice_get_within table (next.field) (field_binding c.kind r c.index) c.field)) in
-        let same : (j : ℕ) → j ≡ r → with_one seen r j ≡ true = λ j e. ap (λ (b : Bool). cond b true (seen j)) (eq-eqb j r e) in
-        let fewer : count_to (λ j. opposite (with_one seen r j)) (length table) < count_to (λ j. opposite (seen j)) (length table) =
-            count_falls (λ j. opposite (with_one seen r j)) (λ j. opposite (seen j)) (length table) r
-              (λ j m q. elim (eqb_tells j r) [
-                | inl t ↦ absurd (false≢true (sym (opposite-false (with_one seen r j) (same j (t.1))) ∙ q))
-                | inr t ↦ sym (ap (λ (b : Bool). opposite (cond b true (seen j))) (t.0)) ∙ q
-              ])
-              l (opposite-false (with_one seen r r) (same r refl)) (opposite-true (seen r) f) in
-        walk fuel (with_one seen r) k (omega arith) k_in (next.unmarked)
+          let next = stuck r l u in
+          let k = next.child in
+          let c = next.is_child in
+          let k_in : k < length table = subst (λ (z : ℕ). z < length table) (c.leads) (below (next.field) (slice_get_within table (next.field) (field_binding c.kind r c.index) c.field)) in
+          let same : (j : ℕ) → j ≡ r → with_one seen r j ≡ true = λ j e. ap (λ (b : Bool). cond b true (seen j)) (eq-eqb j r e) in
+          let fewer : count_to (λ j. opposite (with_one seen r j)) (length table) < count_to (λ j. opposite (seen j)) (length table) =
+          count_falls (λ j. opposite (with_one seen r j)) (λ j. opposite (seen j)) (length table) r
+          (λ j m q. elim (eqb_tells j r) [
+            | inl t ↦ absurd (false≢true (sym (opposite-false (with_one seen r j) (same j (t.1))) ∙ q))
+            | inr t ↦ sym (ap (λ (b : Bool). opposite (cond b true (seen j))) (t.0)) ∙ q
+          ])
+          l (opposite-false (with_one seen r r) (same r refl)) (opposite-true (seen r) f) in
+          walk fuel (with_one seen r) k (omega arith) k_in (next.unmarked)
           (λ j e. elim (eqb_tells j r) [
             | inl t ↦ subst (λ (z : ℕ). Reaches table own class z k) (sym (t.1)) (Once (next.field) c)
             | inr t ↦ Further (next.field) (reach j (sym (ap (λ (b : Bool). cond b true (seen j)) (t.0)) ∙ e)) c
@@ -200,10 +200,12 @@ module _ (name : Sym → List ℕ) (table : List Binding) (ok : IsTable table) (
       let (s, sm) = stands name table ok m (reach_in r m x) in
       let (u, i, e) = reach_inside r m x t s p sm in
       let has_s : Derived D (constrained s (test_of name c.test)) = demanded (owns m c.test s c.has sm) in
-      let has_u = equal_has D s u (test_of name c.test) (equal_back D u s e) has_s in
-      (field_site c.kind u c.index, further_in i (field_of D name u c.test c.kind c.index has_u c.opened),
-       equal_chain D (field_site c.kind u c.index) (field_site c.kind s c.index) w (equal_parts D name u s c.test c.kind c.index e has_u c.opened)
-         (child_equal m g k c s w sm q))
+      let has_u = equal_has D s u (test_of name c.test) (equal_back D u s e) has_s in (
+        field_site c.kind u c.index,
+        further_in i (field_of D name u c.test c.kind c.index has_u c.opened),
+        equal_chain D (field_site c.kind u c.index) (field_site c.kind s c.index) w (equal_parts D name u s c.test c.kind c.index e has_u c.opened)
+            (child_equal m g k c s w sm q),
+      )
 
   field_deeper : (t u : Site) → FieldOf D t u → depth t < depth u
   unfolding depth

@@ -1,9 +1,9 @@
 -- One merge of two classes keeps what is known of the classes and of what is pending.
-use Rattle.std.proofs.Common.{◌≡◌, ◌≢◌, ◌<◌, ◌⊎◌, inl, inr, ℕ, List, length, get_or, Option, Some, slice_get, refl, sym, ◌∙◌, ap, subst, arith}
+use Rattle.std.proofs.Common.{◌≡◌, ◌≢◌, ◌<◌, ◌⊎◌, inl, inr, ℕ, List, length, get_or, Option, Some, slice_get, sym, ◌∙◌, ap, subst, arith}
 use Rattle.std.specs.Prelude.{Contains}
 use Rattle.std.proofs.lemmas.Option.{slice_get_within}
 use Rattle.isle_types.specs.declared.ids.Sym.{Sym}
-use Rattle.isle_terms.specs.Meaning.Sites.{Site, match_variant, extract_struct}
+use Rattle.isle_terms.specs.Meaning.Sites.{Site}
 use Rattle.isle_terms.specs.Meaning.Demands.{Demand, constrained, equal}
 use Rattle.isle_terms.specs.Meaning.Derived.{Derived, demanded, flipped, chained, shared, like_variant, like_struct, AreEqual, FieldOf, of_variant, of_struct}
 use Rattle.isle_terms.specs.Meaning.Numbered.{At}
@@ -11,10 +11,10 @@ use Rattle.isle_terms.proofs.Meaning.Numbering.{one_site}
 use Rattle.isle_blocks.specs.declared.binding.Binding.{Binding}
 use Rattle.isle_blocks.specs.declared.constraint.Constraint.{Constraint}
 use Rattle.isle_blocks.specs.declared.constraint.Constraint.TheVariants as tests
-use Rattle.isle_blocks.specs.Rows.{IsInjective, rows_of, test_of}
+use Rattle.isle_blocks.specs.Rows.{rows_of, test_of}
 use Rattle.isle_blocks.specs.ClosureFields.{IsTable, Opens, field_binding, field_site}
-use Rattle.isle_blocks.specs.ClosureStates.{HasOwn, AreClasses, IsJoined, AreLikeFields, IsLike, IsSound, AreImplied, IsCovered, Linked, LikesAreIn}
-use Rattle.isle_blocks.proofs.ClosureTrees.{at_below, stands, field_at, field_source}
+use Rattle.isle_blocks.specs.ClosureStates.{HasOwn, AreClasses, IsJoined, AreLikeFields, IsLike, IsSound, IsCovered, Linked, LikesAreIn}
+use Rattle.isle_blocks.proofs.ClosureTrees.{stands, field_at, field_source}
 
 module _ (D : Demand → Type 0) where
   pub equal_back : (t u : Site) → AreEqual D t u → AreEqual D u t
@@ -62,15 +62,22 @@ module _ (table : List Binding) (ok : IsTable table) (equals : List (ℕ × ℕ)
     (x y drop keep : ℕ) (x_in : x < length table) (y_in : y < length table) (apart : get_or class x 0 ≢ get_or class y 0)
     (which : ((drop ≡ get_or class x 0) × (keep ≡ get_or class y 0)) ⊎ ((drop ≡ get_or class y 0) × (keep ≡ get_or class x 0)))
     (same_length : length joined ≡ length class) (join : IsJoined class joined drop keep) where
-
   pub drop_is : (drop < length table) × (get_or class drop 0 ≡ drop) × (drop ≢ keep) × (keep < length table) × (get_or class keep 0 ≡ keep)
   drop_is = elim which [
-    | inl (d, k) ↦
-      (subst (λ (z : ℕ). z < length table) (sym d) (classes.below x x_in), ap (λ (z : ℕ). get_or class z 0) d ∙ classes.flat x x_in ∙ sym d, λ e. apart (sym d ∙ e ∙ k),
-       subst (λ (z : ℕ). z < length table) (sym k) (classes.below y y_in), ap (λ (z : ℕ). get_or class z 0) k ∙ classes.flat y y_in ∙ sym k)
-    | inr (d, k) ↦
-      (subst (λ (z : ℕ). z < length table) (sym d) (classes.below y y_in), ap (λ (z : ℕ). get_or class z 0) d ∙ classes.flat y y_in ∙ sym d, λ e. apart (sym k ∙ sym e ∙ d),
-       subst (λ (z : ℕ). z < length table) (sym k) (classes.below x x_in), ap (λ (z : ℕ). get_or class z 0) k ∙ classes.flat x x_in ∙ sym k)
+    | inl (d, k) ↦ (
+      subst (λ (z : ℕ). z < length table) (sym d) (classes.below x x_in),
+      ap (λ (z : ℕ). get_or class z 0) d ∙ classes.flat x x_in ∙ sym d,
+      λ e. apart (sym d ∙ e ∙ k),
+      subst (λ (z : ℕ). z < length table) (sym k) (classes.below y y_in),
+      ap (λ (z : ℕ). get_or class z 0) k ∙ classes.flat y y_in ∙ sym k,
+    )
+    | inr (d, k) ↦ (
+      subst (λ (z : ℕ). z < length table) (sym d) (classes.below y y_in),
+      ap (λ (z : ℕ). get_or class z 0) d ∙ classes.flat y y_in ∙ sym d,
+      λ e. apart (sym k ∙ sym e ∙ d),
+      subst (λ (z : ℕ). z < length table) (sym k) (classes.below x x_in),
+      ap (λ (z : ℕ). get_or class z 0) k ∙ classes.flat x x_in ∙ sym k,
+    )
   ]
 
   abbrev pub Moved : ℕ → Type 0
@@ -108,19 +115,19 @@ module _ (table : List Binding) (ok : IsTable table) (equals : List (ℕ × ℕ)
     merged t u p q =
         let (a, ax) = stands name table ok x x_in in let (b, by) = stands name table ok y y_in in
         elim which [
-        | inl (d, k) ↦
-          equal_chain D t a u (equal_back D a t (sound x x_in a t ax (subst (λ (z : ℕ). At (rows_of name table) t z) d p)))
-            (equal_chain D a b u (paired a b ax by) (sound y y_in b u by (subst (λ (z : ℕ). At (rows_of name table) u z) k q)))
-        | inr (d, k) ↦
-          equal_chain D t b u (equal_back D b t (sound y y_in b t by (subst (λ (z : ℕ). At (rows_of name table) t z) d p)))
-            (equal_chain D b a u (equal_back D a b (paired a b ax by)) (sound x x_in a u ax (subst (λ (z : ℕ). At (rows_of name table) u z) k q)))
+          | inl (d, k) ↦
+              equal_chain D t a u (equal_back D a t (sound x x_in a t ax (subst (λ (z : ℕ). At (rows_of name table) t z) d p)))
+              (equal_chain D a b u (paired a b ax by) (sound y y_in b u by (subst (λ (z : ℕ). At (rows_of name table) u z) k q)))
+          | inr (d, k) ↦
+              equal_chain D t b u (equal_back D b t (sound y y_in b t by (subst (λ (z : ℕ). At (rows_of name table) t z) d p)))
+              (equal_chain D b a u (equal_back D a b (paired a b ax by)) (sound x x_in a u ax (subst (λ (z : ℕ). At (rows_of name table) u z) k q)))
         ]
 
     pub joined_sound : IsSound name table D joined
     joined_sound a h t u p q = elim (moved a h) [
       | inl (e, k) ↦
-        let (w, r) = stands name table ok drop (drop_is.0) in
-        equal_chain D t w u (sound a h t w p (subst (λ (z : ℕ). At (rows_of name table) w z) (sym e) r))
+          let (w, r) = stands name table ok drop (drop_is.0) in
+          equal_chain D t w u (sound a h t w p (subst (λ (z : ℕ). At (rows_of name table) w z) (sym e) r))
           (merged w u r (subst (λ (z : ℕ). At (rows_of name table) u z) k q))
       | inr (n, e) ↦ sound a h t u p (subst (λ (z : ℕ). At (rows_of name table) u z) e q)
     ]
@@ -142,8 +149,8 @@ module _ (table : List Binding) (ok : IsTable table) (equals : List (ℕ × ℕ)
         let same_t : t ≡ field_site k.kind wm k.index = one_site (rows_of name table) t (field_site k.kind wm k.index) a p (field_at name table k.kind m k.index a wm k.field rm) in
         let same_u : u ≡ field_site k.kind wk k.index = one_site (rows_of name table) u (field_site k.kind wk k.index) b q (field_at name table k.kind keep k.index b wk k.kept rk) in
         equal_chain D t (field_site k.kind wm k.index) u (inl same_t)
-          (equal_chain D (field_site k.kind wm k.index) (field_site k.kind wk k.index) u
-            (equal_back D (field_site k.kind wk k.index) (field_site k.kind wm k.index) parts) (inl (sym same_u)))
+        (equal_chain D (field_site k.kind wm k.index) (field_site k.kind wk k.index) u
+        (equal_back D (field_site k.kind wk k.index) (field_site k.kind wm k.index) parts) (inl (sym same_u)))
 
   -- What is linked stays linked.
   module _ (pending rest final : List (ℕ × ℕ))
@@ -181,9 +188,9 @@ module _ (table : List Binding) (ok : IsTable table) (equals : List (ℕ × ℕ)
       ];
       like = λ a c kind i f g h k l p q. elim (moved a h) [
         | inl (e, m) ↦
-          let fields : AreLikeFields table a keep c f g = record { kind = kind; index = i; opened = l; field = p; kept = subst (λ (z : ℕ). slice_get table g ≡ Some (field_binding kind z i)) m q } in
-          let in_final = likes c f g (subst (λ (z : ℕ). HasOwn own z c) m k) (a, e, fields) in
-          λ label by_class by_pair. by_pair f g in_final
+            let fields : AreLikeFields table a keep c f g = record { kind = kind; index = i; opened = l; field = p; kept = subst (λ (z : ℕ). slice_get table g ≡ Some (field_binding kind z i)) m q } in
+            let in_final = likes c f g (subst (λ (z : ℕ). HasOwn own z c) m k) (a, e, fields) in
+            λ label by_class by_pair. by_pair f g in_final
         | inr (d, e) ↦ still_linked f g (covered.like a c kind i f g h (subst (λ (z : ℕ). HasOwn own z c) e k) l p (subst (λ (z : ℕ). slice_get table g ≡ Some (field_binding kind z i)) e q))
       ];
     }

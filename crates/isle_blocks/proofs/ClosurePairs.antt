@@ -1,5 +1,5 @@
 -- Lists of pairs under a push and a pop, and own tests as they are read.
-use Rattle.std.proofs.Common.{◌≡◌, ◌<◌, ◌+◌, ◌++◌, ◌⊎◌, inl, inr, ℕ, List, [], ◌∷◌, length, get_or, Option, Some, None, refl, sym, ◌∙◌, ap, subst, arith}
+use Rattle.std.proofs.Common.{◌≡◌, ◌<◌, ◌+◌, ◌++◌, ◌⊎◌, inl, inr, ℕ, List, [], ◌∷◌, length, get_or, Option, Some, None, sym, ◌∙◌, ap, subst, arith}
 use Rattle.std.specs.Prelude.{Contains}
 use Rattle.std.proofs.lemmas.List.{get_or_default, get_or-set_same, get_or-set_other}
 use Rattle.std.proofs.Math.ListN.{set, get_or-eq_default}
@@ -59,9 +59,9 @@ module _ (has : List (BindingId × Constraint)) (i : ℕ) (d : BindingId × Cons
   read_more own below now a c k l e = elim (cases_lt k i) [
     | inl less ↦ below a c k less e
     | inr more ↦
-      let same : k ≡ i = omega arith in
-      let same_at : get_or has i d ≡ (a, c) = get_or_default has i d (a, c) h ∙ ap (λ (j : ℕ). get_or has j (a, c)) (sym same) ∙ e in
-      subst (λ (p : BindingId × Constraint). HasOwn own p.0.0 p.1) same_at now
+        let same : k ≡ i = omega arith in
+        let same_at : get_or has i d ≡ (a, c) = get_or_default has i d (a, c) h ∙ ap (λ (j : ℕ). get_or has j (a, c)) (sym same) ∙ e in
+        subst (λ (p : BindingId × Constraint). HasOwn own p.0.0 p.1) same_at now
   ]
 
   module _ (own : List (Option Constraint)) (read : IsRead has own i) where

@@ -1,9 +1,9 @@
 -- What the loop over the pending pairs keeps.
-use Rattle.std.proofs.Common.{◌≡◌, ◌≢◌, ◌<◌, ◌⊎◌, inl, inr, ℕ, List, length, get_or, Option, Some, slice_get, refl, sym, ◌∙◌, ap, subst, arith}
+use Rattle.std.proofs.Common.{◌≡◌, ◌≢◌, ◌<◌, ◌⊎◌, inl, inr, ℕ, List, length, get_or, Option, Some, slice_get, sym, ◌∙◌, ap, subst, arith}
 use Rattle.std.specs.Prelude.{Contains}
 use Rattle.std.proofs.lemmas.Option.{slice_get_within}
 use Rattle.std.proofs.lemmas.List.{get_or_default}
-use Rattle.isle_terms.specs.Meaning.Demands.{constrained, equal}
+use Rattle.isle_terms.specs.Meaning.Demands.{constrained}
 use Rattle.isle_terms.specs.Meaning.Derived.{Derived, demanded, AreEqual}
 use Rattle.isle_terms.specs.Meaning.Faults.{Conflict}
 use Rattle.isle_terms.specs.Meaning.Numbered.{At}
@@ -12,7 +12,7 @@ use Rattle.isle_blocks.specs.declared.binding.Binding.{Binding}
 use Rattle.isle_blocks.specs.declared.constraint.Constraint.{Constraint}
 use Rattle.isle_blocks.specs.Rows.{rows_of, test_of}
 use Rattle.isle_blocks.specs.ClosureFields.{IsTable, field_binding}
-use Rattle.isle_blocks.specs.ClosureStates.{HasOwn, AreClasses, ArePairsBelow, ForDemands, IsJoined, IsLike, IsSound, AreImplied, IsCovered}
+use Rattle.isle_blocks.specs.ClosureStates.{HasOwn, AreClasses, ArePairsBelow, ForDemands, IsJoined, IsSound, AreImplied, IsCovered}
 use Rattle.isle_blocks.specs.ClosureStates.{IsClosed, IsChoice, IsClash, WasPushed, LikesAreIn, demanded_in}
 use Rattle.isle_blocks.proofs.RowsInjective.{test-injective}
 use Rattle.isle_blocks.proofs.ClosureTrees.{stands}
@@ -39,8 +39,8 @@ module _ (table : List Binding) (ok : IsTable table) (own : List (Option Constra
       given = λ a b h label by_class by_pair. by_pair a b h;
       shared = λ a c h k. subst (λ (z : ℕ). HasOwn own z c) (sym (alone a h)) k;
       like = λ a c kind i f g h k l p q.
-        let s : f ≡ g = ok.once (field_binding kind a i) f g p (subst (λ (z : ℕ). slice_get table g ≡ Some (field_binding kind z i)) (alone a h) q) in
-        λ label by_class by_pair. ap label s;
+          let s : f ≡ g = ok.once (field_binding kind a i) f g p (subst (λ (z : ℕ). slice_get table g ≡ Some (field_binding kind z i)) (alone a h) q) in
+          λ label by_class by_pair. ap label s;
     };
   }
 
@@ -59,8 +59,8 @@ module _ (table : List Binding) (ok : IsTable table) (own : List (Option Constra
         let (t, tx) = stands name table ok (get_or class x 0) cx_in in let (u, uy) = stands name table ok (get_or class y 0) cy_in in
         let to_t = before.sound name injective has are x x_in a t ax tx in let to_u = before.sound name injective has are y y_in b u by uy in
         let same : AreEqual D u t =
-            equal_chain D u b t (equal_back D b u to_u)
-            (equal_chain D b a t (equal_back D a b (before.implied name injective has are x y listed a b ax by)) to_t) in
+        equal_chain D u b t (equal_back D b u to_u)
+        (equal_chain D b a t (equal_back D a b (before.implied name injective has are x y listed a b ax by)) to_t) in
         let at_u : Derived D (constrained u (test_of name k.other)) = demanded (owned name table equals own has are (get_or class y 0) k.other u k.has_other uy) in
         record {
           site = t;
@@ -77,22 +77,21 @@ module _ (table : List Binding) (ok : IsTable table) (own : List (Option Constra
         (joined : List ℕ) (final : List (ℕ × ℕ)) (same_length : length joined ≡ length class) (join : IsJoined class joined drop keep)
         (pushed : (a b : ℕ) → Contains final (a, b) → WasPushed table own class drop keep rest a b)
         (kept : (a b : ℕ) → Contains rest (a, b) → Contains final (a, b)) (likes : LikesAreIn table own class drop keep final) where
-
       pub progress_more : Progress table own equals joined final
       progress_more = record {
         classes = joined_classes table ok equals own class joined (before.classes) x y drop keep x_in y_in apart (choice.which) same_length join;
         within = λ a b h. elim (pushed a b h) [
           | inl k ↦ before.within a b (fewer a b k)
           | inr (c, has, (m, in_class, like)) ↦
-            (slice_get_within table a (field_binding like.kind m like.index) like.field, slice_get_within table b (field_binding like.kind keep like.index) like.kept)
+              (slice_get_within table a (field_binding like.kind m like.index) like.field, slice_get_within table b (field_binding like.kind keep like.index) like.kept)
         ];
         sound = λ name injective has are. joined_sound table ok equals own class joined (before.classes) x y drop keep x_in y_in apart (choice.which) same_length join
             name (demanded_in name table has equals) (before.sound name injective has are) (before.implied name injective has are x y listed);
         implied = λ name injective has are a b h. elim (pushed a b h) [
           | inl k ↦ before.implied name injective has are a b (fewer a b k)
           | inr (c, own_has, like) ↦ likes_implied table ok equals own class joined (before.classes) x y drop keep x_in y_in apart (choice.which) same_length join
-            name (demanded_in name table has equals) (before.sound name injective has are) (before.implied name injective has are x y listed)
-            (owned name table equals own has are) c a b own_has like
+              name (demanded_in name table has equals) (before.sound name injective has are) (before.implied name injective has are x y listed)
+              (owned name table equals own has are) c a b own_has like
         ];
         covered = joined_covered table ok equals own class joined (before.classes) x y drop keep x_in y_in apart (choice.which) same_length join pending rest final taken (before.within) kept
             (choice.shared) likes (before.covered);
@@ -102,8 +101,8 @@ module _ (table : List Binding) (ok : IsTable table) (own : List (Option Constra
       progress_ends =
           let d = drop_is table ok equals own class joined (before.classes) x y drop keep x_in y_in apart (choice.which) same_length join in
           fewer_classes class joined (length table) drop keep (d.0) (d.1) (d.2)
-            (moved_drop table ok equals own class joined (before.classes) x y drop keep x_in y_in apart (choice.which) same_length join)
-            (moved table ok equals own class joined (before.classes) x y drop keep x_in y_in apart (choice.which) same_length join) (d.4)
+          (moved_drop table ok equals own class joined (before.classes) x y drop keep x_in y_in apart (choice.which) same_length join)
+          (moved table ok equals own class joined (before.classes) x y drop keep x_in y_in apart (choice.which) same_length join) (d.4)
 
   pub progress_done : (class : List ℕ) (pending : List (ℕ × ℕ)) → Progress table own equals class pending
       → ((a b : ℕ) → Contains pending (a, b) → get_or class a 0 ≡ get_or class b 0) → IsClosed table equals own class

@@ -1,5 +1,5 @@
 -- A closed state has all that is derived, also of sites that stand in no table: each has the class of its source's field.
-use Rattle.std.proofs.Common.{◌≡◌, ◌<◌, ◌⊎◌, inl, inr, ℕ, List, length, get_or, Option, Some, None, slice_get, refl, sym, ◌∙◌, ap, subst, arith}
+use Rattle.std.proofs.Common.{◌≡◌, ◌<◌, ◌⊎◌, inl, inr, ℕ, List, get_or, Option, Some, None, slice_get, refl, sym, ◌∙◌, ap, subst, arith}
 use Rattle.std.specs.Prelude.{Contains}
 use Rattle.std.proofs.lemmas.Option.{same_Some}
 use Rattle.isle_types.specs.declared.ids.Sym.{Sym}
@@ -39,11 +39,10 @@ of_struct_test name tests.Some ty n i e l = absurd cc
 module _ (name : Sym → List ℕ) (injective : IsInjective name) (table : List Binding) (ok : IsTable table) (D : Demand → Type 0)
     (equals : List (ℕ × ℕ)) (own : List (Option Constraint)) (class : List ℕ)
     (all : (t : Site) (d : meaning.Constraint) → D (constrained t d)
-      → (a : ℕ) × (c : Constraint) × At (rows_of name table) t a × HasOwn own a c × (test_of name c ≡ d))
+    → (a : ℕ) × (c : Constraint) × At (rows_of name table) t a × HasOwn own a c × (test_of name c ≡ d))
     (given : (t u : Site) → D (equal t u) → (a : ℕ) × (b : ℕ) × At (rows_of name table) t a × At (rows_of name table) u b × Contains equals (a, b))
     (closed : IsClosed table equals own class)
     (fields : (a : ℕ) (kind : Option ℕ) (i : ℕ) → IsOpened own a kind i → HasField table kind a i) where
-
   -- the class of a number that stands for the site
   abbrev pub OwnClass : Site → ℕ → Type 0
   OwnClass t r = (a : ℕ) × At (rows_of name table) t a × (get_or class a 0 ≡ r)
@@ -96,7 +95,7 @@ module _ (name : Sym → List ℕ) (injective : IsInjective name) (table : List 
       let same : k ≡ get_or class s 0 = one k (get_or class s 0) p (at_class t s at) in
       let (c, has, opens) = opened in
       sym d ∙ sym (closed.like s c kind i a g (at_below name table t s at) (subst (λ (z : ℕ). HasOwn own z c) same has) opens f
-        (subst (λ (z : ℕ). slice_get table g ≡ Some (field_binding kind z i)) same e)) ∙ m
+      (subst (λ (z : ℕ). slice_get table g ≡ Some (field_binding kind z i)) same e)) ∙ m
 
   both_fields : (t : Site) (kind : Option ℕ) (i r q : ℕ) → ((r q : ℕ) → ClassOf t r → ClassOf t q → r ≡ q)
       → FieldClass (ClassOf t) kind i r → FieldClass (ClassOf t) kind i q → r ≡ q

@@ -1,9 +1,8 @@
 -- Numbers and the sites that they stand for.
-use Rattle.std.proofs.Common.{◌≡◌, ◌<◌, ℕ, zero, suc, inl, inr, List, [], ◌∷◌, map, length, Option, Some, None, slice_get, refl, sym, ◌∙◌, ap, subst, arith}
+use Rattle.std.proofs.Common.{◌≡◌, ◌<◌, ℕ, zero, suc, inl, inr, List, [], ◌∷◌, length, Option, Some, None, slice_get, refl, sym, ◌∙◌, ap, subst, arith}
 use Rattle.std.specs.Prelude.{Contains}
 use Rattle.std.specs.Option.{option_map}
 use Rattle.std.proofs.lemmas.Option.{same_Some, none-some, slice_get_within, slice_get_cases, slice_get-map}
-use Rattle.std.proofs.lemmas.List.Elements.{Contains-get_or}
 use Rattle.isle_types.specs.declared.ids.Sym.{Sym}
 use Rattle.isle_terms.specs.Meaning.Sites.{Site, bool_site, int_site, prim_site, argument, extractor_call, constructor_call, iterator}
 use Rattle.isle_terms.specs.Meaning.Sites.{make_variant, match_variant, make_struct, extract_struct, make_some, match_some, match_tuple}

@@ -1,6 +1,5 @@
 -- Sites are told apart by their entries, and tests by their constraints, where names tell symbols apart.
-use Rattle.std.proofs.Common.{◌≡◌, ℕ, List, [], ◌∷◌, map, Option, Some, None, slice_get, refl, ap, sym, ◌∙◌}
-use Rattle.isle_terms.specs.Meaning.Numbered.{Row, match_variant_row, extract_struct_row}
+use Rattle.std.proofs.Common.{◌≡◌, ℕ, List, [], ◌∷◌, refl, ap}
 use Rattle.isle_blocks.specs.declared.ids.BindingId.{BindingId}
 use Rattle.isle_types.specs.declared.ids.Sym.{Sym}
 use Rattle.isle_blocks.specs.declared.binding.Binding.{Binding}

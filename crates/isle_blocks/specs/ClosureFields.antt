@@ -1,6 +1,5 @@
 -- Fields that tests open: of a variant, or of a struct where no variant is given.
 use Rattle.std.specs.Prelude.{◌≡◌, ◌<◌, ℕ, List, Option, Some, None, ◌↔◌, Contains, slice_get}
-use Rattle.std.specs.Option.{option_map}
 use Rattle.isle_types.specs.Names.{AreDistinct}
 use Rattle.isle_terms.specs.Meaning.Sites.{Site, match_variant, extract_struct}
 use Rattle.isle_blocks.specs.declared.ids.BindingId.{BindingId}

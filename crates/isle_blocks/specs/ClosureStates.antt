@@ -3,14 +3,13 @@ use Rattle.std.specs.Prelude.{◌≡◌, ◌≢◌, ◌<◌, ◌≤◌, ◌⊎�
 use Rattle.std.specs.Prelude.{slice_index_or}
 use Rattle.isle_types.specs.declared.ids.Sym.{Sym}
 use Rattle.isle_terms.specs.Meaning.Sites.{Site}
-use Rattle.isle_terms.specs.Meaning.Demands.{Demand, constrained, equal}
-use Rattle.isle_terms.specs.Meaning.Derived.{Derived, AreEqual}
-use Rattle.isle_terms.specs.Meaning.Faults.{Conflict}
+use Rattle.isle_terms.specs.Meaning.Demands.{Demand}
+use Rattle.isle_terms.specs.Meaning.Derived.{AreEqual}
 use Rattle.isle_terms.specs.Meaning.Numbered.{At, Recorded}
 use Rattle.isle_blocks.specs.declared.ids.BindingId.{BindingId}
 use Rattle.isle_blocks.specs.declared.binding.Binding.{Binding}
 use Rattle.isle_blocks.specs.declared.constraint.Constraint.{Constraint}
-use Rattle.isle_blocks.specs.Rows.{IsInjective, rows_of, constraints_of, test_of}
+use Rattle.isle_blocks.specs.Rows.{IsInjective, rows_of, constraints_of}
 use Rattle.isle_blocks.specs.Tables.{IsAbsent}
 use Rattle.isle_blocks.specs.ClosureFields.{IsTable, Opens, field_binding}
 

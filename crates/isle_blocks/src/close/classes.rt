@@ -172,13 +172,7 @@ pub(super) fn choose(own: &[Option<Constraint>], a: usize, b: usize) -> Option<(
     match (own[a], own[b]) {
         (None, _) => Some((a, b)),
         (Some(_), None) => Some((b, a)),
-        (Some(c), Some(d)) => {
-            if same(c, d) {
-                Some((a, b))
-            } else {
-                None
-            }
-        }
+        (Some(c), Some(d)) => { if same(c, d) { Some((a, b)) } else { None } }
     }
 }
 

@@ -1,4 +1,4 @@
-use Rattle.std.proofs.Common.{◌≡◌, ◌<◌, ◌⊎◌, ℕ, vec_len, get_or}
+use Rattle.std.proofs.Common.{◌≡◌, ◌⊎◌, vec_len, get_or}
 use Rattle.std.specs.Prelude.{Contains}
 use Rattle.isle_blocks.specs.ClosureStates.{AllPairs}
 use Rattle.isle_blocks.proofs.close.classes.next_apart.Given as goal

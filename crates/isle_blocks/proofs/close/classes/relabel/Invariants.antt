@@ -1,4 +1,4 @@
-use Rattle.std.proofs.Common.{◌≡◌, ◌<◌, ◌≤◌, ◌⊎◌, ℕ, length, get_or}
+use Rattle.std.proofs.Common.{◌≡◌, ◌<◌, ◌≤◌, ◌⊎◌, ℕ, get_or}
 use Rattle.isle_blocks.proofs.close.classes.relabel.Given as goal
 
 abbrev pub invariant-loop-c : goal.invariant-loop-c

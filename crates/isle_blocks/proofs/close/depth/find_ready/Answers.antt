@@ -1,4 +1,4 @@
-use Rattle.std.proofs.Common.{◌≡◌, ◌<◌, ℕ, ap, refl, sym, ◌∙◌, subst, inl, inr, true, false, arith, slice_get}
+use Rattle.std.proofs.Common.{refl, arith}
 use Rattle.isle_blocks.proofs.close.depth.find_ready.Goals as goal
 
 pub returns-then-not-has_unmarked_child-clause-some :

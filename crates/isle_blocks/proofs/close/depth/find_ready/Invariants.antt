@@ -1,4 +1,4 @@
-use Rattle.std.proofs.Common.{◌≡◌, ◌<◌, ℕ, Bool, false}
+use Rattle.std.proofs.Common.{◌≡◌, ◌<◌, ℕ, false}
 use Rattle.isle_blocks.specs.ClosureStates.{HasUnmarkedChild, is_marked}
 use Rattle.isle_blocks.proofs.close.depth.find_ready.Given as goal
 

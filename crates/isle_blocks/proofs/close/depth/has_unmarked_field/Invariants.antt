@@ -1,4 +1,3 @@
-use Rattle.std.proofs.Common.{◌≡◌, ◌<◌, ℕ, true}
 use Rattle.isle_blocks.specs.ClosureFields.{kind_of}
 use Rattle.isle_blocks.specs.ClosureStates.{FieldsAreMarked}
 use Rattle.isle_blocks.proofs.close.depth.has_unmarked_field.Given as goal

@@ -1,10 +1,8 @@
-use Rattle.std.proofs.Common.{◌≡◌, ◌<◌, ◌≤◌, ℕ, ap, refl, sym, ◌∙◌, subst, inl, inr, true, false, Bool, List, length, vec_len, get_or, Vec, Global, arith, slice_get}
+use Rattle.std.proofs.Common.{◌≡◌, ◌<◌, ℕ, ap, sym, ◌∙◌, subst, inl, inr, true, false, Bool, List, length, arith}
 use Rattle.std.proofs.lemmas.Bool.{cases_lt}
-use Rattle.std.proofs.lemmas.Option.{slice_get_within}
-use Rattle.std.proofs.Math.ListN.{set}
 use Rattle.isle_blocks.specs.ClosureStates.{IsChildAt, is_marked, ChildrenAreMarked, HasUnmarkedChild}
 use Rattle.isle_blocks.proofs.ClosurePairs.{own_in}
-use Rattle.isle_blocks.proofs.ClosureLoops.{Peeled, peeled_none, peeled_more, fewer_unmarked, unmarked_count, has_loop, get_or-replicate}
+use Rattle.isle_blocks.proofs.ClosureLoops.{peeled_none, peeled_more, fewer_unmarked, has_loop, get_or-replicate}
 use Rattle.isle_blocks.proofs.close.depth.is_finite.Goals as goal
 
 pub loop-r-init : goal.loop-r-init
@@ -13,7 +11,7 @@ loop-r-init c =
     record {
       fits = c.in_ok-marks.ensures.len ∙ c.len.ensures.count;
       peeled = peeled_none c.args.sites.now c.args.own.now c.args.class.now c.in_ok-marks.marks.items
-        (λ k. ap (λ (l : List Bool). is_marked l k) e ∙ get_or-replicate _ k);
+          (λ k. ap (λ (l : List Bool). is_marked l k) e ∙ get_or-replicate _ k);
     }
 
 pub loop-r-smaller : goal.loop-r-smaller
@@ -30,8 +28,8 @@ loop-r-preserved c =
     record {
       fits = c.loop-r.invariant.fits;
       peeled = peeled_more c.args.sites.now c.args.own.now c.args.class.now c.loop-r.marks.items c.in-Some.r l
-        (subst (λ (l : List Bool). is_marked l c.in-Some.r ≡ false) c.deref.ensures.value u)
-        (subst (λ (l : List Bool). ChildrenAreMarked c.args.sites.now c.args.own.now c.args.class.now l c.in-Some.r) c.deref.ensures.value m) c.loop-r.invariant.peeled;
+          (subst (λ (l : List Bool). is_marked l c.in-Some.r ≡ false) c.deref.ensures.value u)
+          (subst (λ (l : List Bool). ChildrenAreMarked c.args.sites.now c.args.own.now c.args.class.now l c.in-Some.r) c.deref.ensures.value m) c.loop-r.invariant.peeled;
     }
 
 pub loop-mark-init : goal.loop-mark-init
@@ -56,7 +54,7 @@ pub returns-clause-ranked : goal.returns-clause-ranked
 returns-clause-ranked c = λ e.
     let p = c.loop-r.invariant.peeled in
     let all : (r g k : ℕ) → IsChildAt c.args.sites.now c.args.own.now c.args.class.now r g k → is_marked c.loop-r.marks.items r ≡ true = λ r g k x.
-      let r_in = own_in c.args.own.now r x.test (x.has) in
-      let value = ap length c.deref-mark-items.ensures.value in let fits = c.loop-r.invariant.fits in let o = c.loop-r.marks.ok.0 in let test = c.loop-mark-test.false in let f = c.requires.own in
-      subst (λ (l : List Bool). is_marked l r ≡ true) c.deref-mark-items.ensures.value (c.loop-mark.invariant r (omega arith)) in
+    let r_in = own_in c.args.own.now r x.test (x.has) in
+    let value = ap length c.deref-mark-items.ensures.value in let fits = c.loop-r.invariant.fits in let o = c.loop-r.marks.ok.0 in let test = c.loop-mark-test.false in let f = c.requires.own in
+    subst (λ (l : List Bool). is_marked l r ≡ true) c.deref-mark-items.ensures.value (c.loop-mark.invariant r (omega arith)) in
     record { rank = p.rank; falls = λ r g k x. p.falls r g k (all r g k x) x }

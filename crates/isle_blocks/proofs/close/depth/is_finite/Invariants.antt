@@ -1,4 +1,4 @@
-use Rattle.std.proofs.Common.{◌≡◌, ◌<◌, ℕ, Bool, true, length, vec_len, get_or}
+use Rattle.std.proofs.Common.{◌≡◌, ◌<◌, ℕ, true, length, vec_len}
 use Rattle.isle_blocks.specs.ClosureStates.{is_marked}
 use Rattle.isle_blocks.proofs.ClosureLoops.{Peeled, unmarked_count}
 use Rattle.isle_blocks.proofs.close.depth.is_finite.Given as goal
