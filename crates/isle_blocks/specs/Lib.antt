@@ -14,3 +14,5 @@ pub mod Tables
 pub mod ClosureFields
 -- Classes of sites while demands are closed.
 pub mod ClosureStates
+-- What the closure of a rule's demands is.
+pub mod Closure
