@@ -25,3 +25,5 @@ pub mod ClosureQuotient
 pub mod ClosureLoops
 -- Adding a missing field.
 pub mod ClosureGrowth
+-- Sites keep their numbers in a longer table.
+pub mod ClosureLonger
