@@ -25,3 +25,25 @@ pub mod MovingTurns
 pub mod RowsInjective
 -- What is said of numbers is said of sites.
 pub mod ClosedRules
+-- Numbers and the sites that they stand for.
+pub mod ClosureTrees
+-- One merge of two classes.
+pub mod ClosureMerge
+-- How many numbers pass a test.
+pub mod ClosureCount
+-- What is recorded, as demands.
+pub mod ClosureDemands
+-- What the loop over the pending pairs keeps.
+pub mod ClosureProgress
+-- Lists of pairs under a push and a pop, and own tests.
+pub mod ClosurePairs
+-- Like fields under a test.
+pub mod ClosureLikes
+-- A closed state has all that is derived.
+pub mod ClosureQuotient
+-- Marking sites after their children.
+pub mod ClosureLoops
+-- Adding a missing field.
+pub mod ClosureGrowth
+-- Sites keep their numbers in a longer table.
+pub mod ClosureLonger

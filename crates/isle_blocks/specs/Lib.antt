@@ -26,3 +26,7 @@ pub mod MovedSites
 pub mod ClosureFields
 -- The rules of a rule set as what follows from their demands.
 pub mod ClosedRules
+-- Classes of sites while demands are closed.
+pub mod ClosureStates
+-- What the closure of a rule's demands is.
+pub mod Closure

@@ -3,6 +3,7 @@
 
 mod binding;
 mod builder;
+mod close;
 mod constraint;
 mod faults;
 mod ids;
