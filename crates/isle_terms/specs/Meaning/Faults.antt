@@ -1,5 +1,5 @@
 -- Faults of rules and of pairs of rules, by what is derived from their demands.
-use Rattle.std.specs.Prelude.{◌≡◌, ◌≢◌, ◌<◌, ◌≤◌, ◌⊎◌, ◌↔◌, ℕ, List, length, Contains, slice_get, Some}
+use Rattle.std.specs.Prelude.{◌≡◌, ◌≢◌, ◌<◌, ◌<ℤ◌, ◌≤◌, ◌⊎◌, ◌↔◌, ℕ, ℤ, List, length, Contains, slice_get, Some}
 use Rattle.isle_terms.specs.Meaning.Sites.{Site}
 use Rattle.isle_terms.specs.Meaning.Demands.{Constraint, Demand, constrained, equal}
 use Rattle.isle_terms.specs.Meaning.Derived.{Derived, Closed, Inside}
@@ -70,12 +70,12 @@ abbrev pub IsSubset : (Demand → Type 0) → ℕ → (Demand → Type 0) → �
 IsSubset D n E m = IsFree D × IsFree E × (n ≤ m → IsWithin D E) × (m < n → IsWithin E D)
 
 -- rules of a term without `multi`, with their priorities: of one priority that may overlap
-abbrev pub Overlaps : (Demand → Type 0) → ℕ → (Demand → Type 0) → ℕ → Type 0
+abbrev pub Overlaps : (Demand → Type 0) → ℤ → (Demand → Type 0) → ℤ → Type 0
 Overlaps D p E q = (p ≡ q) × MayOverlap D E
 
 -- the higher one, with no more constraints, hides the lower
-pub record Shadows (high low : Demand → Type 0) (p q : ℕ) : Type 0 where
-  pub above : q < p
+pub record Shadows (high low : Demand → Type 0) (p q : ℤ) : Type 0 where
+  pub above : q <ℤ p
   pub meet : MayOverlap high low
   pub fewer : ℕ
   pub many : ℕ

@@ -1,5 +1,5 @@
 -- What a rule means, and what is derived from its demands.
-use Rattle.std.specs.Prelude.{◌≡◌, ◌<◌, ◌⊎◌, ◌↔◌, ℕ, Bool, false, List, [], Option, Some, slice_get}
+use Rattle.std.specs.Prelude.{◌≡◌, ◌<ℤ◌, ◌⊎◌, ◌↔◌, ℕ, ℤ, Bool, false, List, [], Option, Some, slice_get}
 use Rattle.isle_syntax.specs.declared.ast.Def.{Def}
 use Rattle.isle_types.specs.Environment.{Environment}
 use Rattle.isle_terms.specs.Meaning.Values.{Value, Values, count}
@@ -90,9 +90,9 @@ WiderMatches = (facts : TermFacts) (tys : List ℕ) (c : Completion) (args : Val
 -- A rule that another of higher priority shadows is never the one to choose: that one matches wherever it does.
 abbrev pub ShadowedIsNeverChosen : Type 0
 ShadowedIsNeverChosen =
-    (facts : TermFacts) (tys : List ℕ) (c : Completion) (args : Values) (high low : TypedRule) (p q : ℕ) → IsRuleOfTypes facts tys high
+    (facts : TermFacts) (tys : List ℕ) (c : Completion) (args : Values) (high low : TypedRule) (p q : ℤ) → IsRuleOfTypes facts tys high
     → IsRuleOfTypes facts tys low → Settles facts c args high
-    → Shadows (DemandOf facts high) (DemandOf facts low) p q → Matches facts c args low → Matches facts c args high × (q < p)
+    → Shadows (DemandOf facts high) (DemandOf facts low) p q → Matches facts c args low → Matches facts c args high × (q <ℤ p)
 
 -- Where both match, they may overlap: so of rules of which no two of one priority may overlap, one at most matches at a priority.
 abbrev pub BothMatchOverlap : Type 0
