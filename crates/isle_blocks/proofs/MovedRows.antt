@@ -65,8 +65,8 @@ module _ (name : Sym → List ℕ) (injective : IsInjective name) where
   moved_rows no_sites_moved = none_moved
   moved_rows {base} (next_site_moved {own} {numbers} {table} site id after m i) =
       let step = next_moved (row_of name site) id.0 (rows_of name after) (moved_rows m)
-          (subst (λ r. IsEntered (rows_of name table) r id.0 (rows_of name after)) (moved_entry numbers site)
-          (entered table (renumbered (new_number numbers) site) id after i)) in
+      (subst (λ r. IsEntered (rows_of name table) r id.0 (rows_of name after)) (moved_entry numbers site)
+      (entered table (renumbered (new_number numbers) site) id after i)) in
       subst (λ o. Moves (rows_of name base) o (numbers_of (numbers ++ id ∷ [])) (rows_of name after))
       (sym (map-append (row_of name) own (site ∷ [])))
       (subst (λ n. Moves (rows_of name base) (rows_of name own ++ row_of name site ∷ []) n (rows_of name after))
