@@ -19,3 +19,5 @@ pub mod ExprVisits
 pub mod RuleVisits
 -- The contents that a site is made of, by numbers and by sites.
 pub mod Asking
+-- The table that is left.
+pub mod Tables
