@@ -21,3 +21,5 @@ pub mod RuleVisits
 pub mod Asking
 -- The table that is left.
 pub mod Tables
+-- What is demanded of the contents that a site is made of.
+pub mod Contents
