@@ -23,3 +23,5 @@ pub mod Asking
 pub mod Tables
 -- What is demanded of the contents that a site is made of.
 pub mod Contents
+-- What the visits of a rule's conditions gather.
+pub mod IfLets
