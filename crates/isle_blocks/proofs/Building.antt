@@ -19,3 +19,9 @@ pub mod ExprVisits
 pub mod RuleVisits
 -- The contents that a site is made of, by numbers and by sites.
 pub mod Asking
+-- The table that is left.
+pub mod Tables
+-- What is demanded of the contents that a site is made of.
+pub mod Contents
+-- What the visits of a rule's conditions gather.
+pub mod IfLets

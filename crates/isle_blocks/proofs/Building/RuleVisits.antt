@@ -31,7 +31,7 @@ use Rattle.isle_blocks.proofs.Building.Told.{told_grown, told_none, told_intern}
 use Rattle.isle_blocks.proofs.Building.Patterns.{Stand, AreBelow, Followed, followed_told, followed_then, follow}
 
 -- the builder hands out itself for a pattern
-by_itself : {A : Type 0} (run : Run Gathered A) (s s' : Gathered) (a : A) → in_pattern rule_adds run s (Ok a) s' → run s (Ok a) s'
+pub by_itself : {A : Type 0} (run : Run Gathered A) (s s' : Gathered) (a : A) → in_pattern rule_adds run s (Ok a) s' → run s (Ok a) s'
 by_itself run s s' a h = subst (λ x. run x (Ok a) s') (sym h.2) (subst (λ y. run h.0 (Ok a) y) h.4 h.3)
 
 -- a variable that expressions are given has the number that it has in patterns

@@ -41,7 +41,7 @@ stand_more rows [] at i others h k = subst (λ z. StandFrom rows others at z) (o
 stand_more rows (id ∷ ids) at i others h k =
     (h.0, stand_more rows ids at (suc i) others h.1 (subst (λ z. StandFrom rows others at z) (omega arith) k))
 
-nothing_recorded : (rows : List Row) → AreRecorded rows [] [] []
+pub nothing_recorded : (rows : List Row) → AreRecorded rows [] [] []
 nothing_recorded rows = record {
   constraint = λ k c m. none_there (k, c) m;
   equality = λ a b m. none_there (a, b) m;

@@ -1,17 +1,20 @@
 -- Typed rules by their interned trees, where symbols have these names.
-use Rattle.std.specs.Prelude.{◌≡◌, ℕ, List, length, Some, slice_get}
+use Rattle.std.specs.Prelude.{◌≡◌, ℕ, List, [], ◌∷◌, length, Some, slice_get}
 use Rattle.isle_types.specs.declared.ids.Sym.{Sym}
+use Rattle.isle_terms.specs.declared.rules.IfLet.{IfLet}
 use Rattle.isle_terms.specs.declared.terms.Term.{Term}
 use Rattle.isle_terms.specs.Signatures.{flags_of}
 use Rattle.isle_terms.specs.Shown.ShownTerms.{form_shown}
 use Rattle.isle_terms.specs.TypedRules.{TypedPattern, TypedPatterns, typed_bind, typed_var, typed_bool, typed_int, typed_prim, typed_term}
 use Rattle.isle_terms.specs.TypedRules.{typed_wildcard, typed_and, no_typed, more_typed, TypedExpr, TypedExprs, TypedBindings, built_term}
 use Rattle.isle_terms.specs.TypedRules.{built_var, built_bool, built_int, built_prim, built_let, no_built, more_built}
-use Rattle.isle_terms.specs.TypedRules.{no_bindings as no_typed_bindings, more_bindings as more_typed_bindings}
+use Rattle.isle_terms.specs.TypedRules.{no_bindings as no_typed_bindings, more_bindings as more_typed_bindings, TypedIfLet}
 use Rattle.isle_terms.specs.Visits.InternedTrees.{InternedPattern, InternedPatterns, bind_pattern, var_pattern, bool_pattern, int_pattern}
 use Rattle.isle_terms.specs.Visits.InternedTrees.{prim_pattern, term_pattern, wildcard_pattern, and_pattern, no_patterns, more_patterns}
 use Rattle.isle_terms.specs.Visits.InternedTrees.{InternedExpr, InternedExprs, InternedBindings, term_expr, var_expr, bool_expr, int_expr}
 use Rattle.isle_terms.specs.Visits.InternedTrees.{prim_expr, let_expr, no_exprs, more_exprs, no_bindings, more_bindings}
+use Rattle.isle_terms.specs.Visits.InternedTrees.{pattern_of, expr_of}
+use Rattle.isle_terms.specs.Meaning.Words.{steps_of}
 use Rattle.isle_terms.specs.Meaning.Facts.{TermFacts, patterns, shape_of_form, never_fails}
 
 abbrev mutual
@@ -76,3 +79,17 @@ abbrev mutual
   pub AreFilled : TermFacts → TypedPatterns → Type 0
   AreFilled facts no_typed = Unit {0}
   AreFilled facts (more_typed p ps) = IsFilled facts p × AreFilled facts ps
+
+-- a condition, where symbols have these names
+abbrev pub named_iflet : (Sym → List ℕ) → IfLet → TypedIfLet
+named_iflet name i = record { pattern = named_pattern name (pattern_of i.lhs); value = named_expr name (expr_of i.rhs) }
+
+-- so are the terms of conditions' patterns
+abbrev pub IfLetsAreFilled : TermFacts → List TypedIfLet → Type 0
+IfLetsAreFilled facts [] = Unit {0}
+IfLetsAreFilled facts (first ∷ others) = IsFilled facts first.pattern × IfLetsAreFilled facts others
+
+-- conditions' expressions call nothing impure
+abbrev pub CallNothingImpure : TermFacts → List TypedIfLet → Type 0
+CallNothingImpure facts [] = Unit {0}
+CallNothingImpure facts (first ∷ others) = (steps_of facts first.value ≡ []) × CallNothingImpure facts others
