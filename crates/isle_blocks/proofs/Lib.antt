@@ -45,5 +45,7 @@ pub mod ClosureQuotient
 pub mod ClosureLoops
 -- Adding a missing field.
 pub mod ClosureGrowth
+-- A missing field is added, or has no room.
+pub mod ClosureFull
 -- Sites keep their numbers in a longer table.
 pub mod ClosureLonger

@@ -228,3 +228,9 @@ pub record HasNeed (own : List (Option Constraint)) (table : List Binding) (clas
   pub index : ℕ
   pub field : ℕ
   pub needed : IsMissingField own table class site kind index field
+
+-- missing fields are added until no number is left, though some site lacks a field
+pub record RunsOut (own : List (Option Constraint)) (t : List Binding) (c : List ℕ) (u : List Binding) (d : List ℕ) : Type 0 where
+  pub grows : Grows own t c u d
+  pub full : length u ≡ 65536
+  pub need : HasNeed own u d
