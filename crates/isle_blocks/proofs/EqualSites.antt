@@ -21,31 +21,31 @@ use Rattle.isle_blocks.specs.contracts.ids.TupleIndexPartialEq.TheImpl as index_
 use Rattle.isle_blocks.specs.contracts.binding.BindingPartialEq.TheImpl as binding_of
 
 -- two answers that decide two facts decide both
-both : {P Q : Type 0} (s t : Bool) → Decides s P → Decides t Q → Decides (s && t) (P × Q)
+pub both : {P Q : Type 0} (s t : Bool) → Decides s P → Decides t Q → Decides (s && t) (P × Q)
 both true true p q = (λ e. (p.0 refl, q.0 refl), λ h. refl)
 both true false p q = (λ e. cc, λ h. q.1 h.1)
 both false t p q = (λ e. cc, λ h. p.1 h.0)
 
 -- an answer decides whatever its fact comes to
-through : {P Q : Type 0} {s : Bool} → Decides s P → (P → Q) → (Q → P) → Decides s Q
+pub through : {P Q : Type 0} {s : Bool} → Decides s P → (P → Q) → (Q → P) → Decides s Q
 through d f g = (λ e. f (d.0 e), λ q. d.1 (g q))
 
-sym-decides : (a b : Sym) → Decides ((sym_of.ghosts).eq a b) (a ≡ b)
+pub sym-decides : (a b : Sym) → Decides ((sym_of.ghosts).eq a b) (a ≡ b)
 sym-decides a b = through (Decides-eqb a.0 b.0) (λ h i. record { 0 = h i }) (λ e. ap (λ v. v.0) e)
 
 term-decides : (a b : TermId) → Decides ((term_of.ghosts).eq a b) (a ≡ b)
 term-decides a b = through (Decides-eqb a.0 b.0) (λ h i. record { 0 = h i }) (λ e. ap (λ v. v.0) e)
 
-type-decides : (a b : TypeId) → Decides ((type_of.ghosts).eq a b) (a ≡ b)
+pub type-decides : (a b : TypeId) → Decides ((type_of.ghosts).eq a b) (a ≡ b)
 type-decides a b = through (Decides-eqb a.0 b.0) (λ h i. record { 0 = h i }) (λ e. ap (λ v. v.0) e)
 
-variant-decides : (a b : VariantId) → Decides ((variant_of.ghosts).eq a b) (a ≡ b)
+pub variant-decides : (a b : VariantId) → Decides ((variant_of.ghosts).eq a b) (a ≡ b)
 variant-decides a b = through (Decides-eqb a.0 b.0) (λ h i. record { 0 = h i }) (λ e. ap (λ v. v.0) e)
 
 id-decides : (a b : BindingId) → Decides ((id_of.ghosts).eq a b) (a ≡ b)
 id-decides a b = through (Decides-eqb a.0 b.0) (λ h i. record { 0 = h i }) (λ e. ap (λ v. v.0) e)
 
-index-decides : (a b : TupleIndex) → Decides ((index_of.ghosts).eq a b) (a ≡ b)
+pub index-decides : (a b : TupleIndex) → Decides ((index_of.ghosts).eq a b) (a ≡ b)
 index-decides a b = through (Decides-eqb a.0 b.0) (λ h i. record { 0 = h i }) (λ e. ap (λ v. v.0) e)
 
 ids-decide : (cs ds : List BindingId) → Decides (pointwise (id_of.ghosts).eq cs ds) (cs ≡ ds)

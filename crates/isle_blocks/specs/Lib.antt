@@ -6,3 +6,27 @@ pub mod Bindings
 pub mod Constraints
 -- How sites and tests are ordered.
 pub mod Orders
+-- Which rules of a rule set may match together.
+pub mod Rules
+-- Faults between the rules of a term.
+pub mod FaultsBetween
+-- What is reported of rules that overlap or shadow others.
+pub mod Reports
+-- Sites and tests as those of the rules' meaning.
+pub mod Rows
+-- Tables of sites, in which each stands once.
+pub mod Tables
+-- What a rule's visit gathers.
+pub mod Building
+-- Tables of entries.
+pub mod RowTables
+-- A rule's own sites moved into its rule set's table.
+pub mod MovedSites
+-- Fields that tests open.
+pub mod ClosureFields
+-- The rules of a rule set as what follows from their demands.
+pub mod ClosedRules
+-- Classes of sites while demands are closed.
+pub mod ClosureStates
+-- What the closure of a rule's demands is.
+pub mod Closure

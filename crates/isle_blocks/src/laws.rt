@@ -1,11 +1,14 @@
 //! What holds of sites, tests and their numbers: public functions with nothing to do, whose contracts are the laws.
-ghost use Rattle.std.specs.Prelude.{◌≡◌, ◌↔◌, true};
+ghost use Rattle.std.specs.Prelude.{◌≡◌, ◌↔◌, true, ℕ, List};
+ghost use Rattle.isle_types.specs.declared.ids.Sym.{Sym};
+ghost use Rattle.isle_blocks.specs.Rows.{IsInjective, row_of, test_of};
 ghost use Rattle.std.specs.Prelude.{nat_eq};
 ghost use Rattle.std.specs.Ordering.{nat_cmp};
 ghost use Rattle.isle_blocks.specs.declared.ids.TupleIndex.{TupleIndex};
 ghost use Rattle.isle_blocks.specs.declared.ids.BindingId.{BindingId};
 ghost use Rattle.isle_blocks.specs.declared.binding.Binding.{Binding as Site};
 ghost use Rattle.isle_blocks.specs.declared.constraint.Constraint.{Constraint as Test};
+ghost use Rattle.isle_blocks.specs.ClosedRules.{NumbersSayDiffer, NumbersSayWithin};
 ghost use Rattle.isle_blocks.specs.Orders.{binding_order, constraint_order};
 
 use crate::binding::Binding;
@@ -42,4 +45,16 @@ pub fn constraints_are_ordered()
 /// Two tests are equal where they are one.
 pub fn equal_constraints_are_one()
     ensures { (a b : Test) → (⟦<Constraint as PartialEq>⟧.eq a b ≡ true) ↔ (a ≡ b) }
+{}
+
+/// Where names tell symbols apart, sites are told apart by their entries, and tests by their constraints.
+pub fn entries_are_injective()
+    ensures sites { (name : Sym → List ℕ) → IsInjective name → (a b : Site) → row_of name a ≡ row_of name b → a ≡ b }
+    ensures tests { (name : Sym → List ℕ) → IsInjective name → (a b : Test) → test_of name a ≡ test_of name b → a ≡ b }
+{}
+
+/// Rules differ, and one's tests stand in the other, exactly where their demands say so.
+pub fn numbers_say_faults()
+    ensures differ { NumbersSayDiffer }
+    ensures within { NumbersSayWithin }
 {}

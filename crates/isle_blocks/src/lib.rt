@@ -2,10 +2,20 @@
 #![tactic(auto)]
 
 mod binding;
+mod builder;
+mod close;
 mod constraint;
+mod faults;
 mod ids;
 pub mod laws;
+mod moving;
+mod report;
+mod rule;
+mod sites;
 
 pub use binding::Binding;
 pub use constraint::Constraint;
+pub use faults::{FaultsBetween, faults_between};
 pub use ids::{BindingId, TupleIndex};
+pub use report::{RulePlace, report_faults};
+pub use rule::{Overlap, Rule};

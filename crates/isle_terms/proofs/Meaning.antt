@@ -35,5 +35,7 @@ pub mod Visited
 pub mod Needing
 -- Elaborated rules are as the laws ask.
 pub mod Bridging
+-- The terms of variants and structs take exactly their fields.
+pub mod MadeFields
 -- Worked cases with literal values.
 mod Cases

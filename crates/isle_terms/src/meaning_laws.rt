@@ -1,7 +1,7 @@
 //! What the demands of a rule mean: public functions with nothing to do, whose contracts are the laws.
 
 ghost use Rattle.isle_terms.specs.Meaning.Laws.{BothMatchOverlap, DemandsAreTested, DemandsSuit, DerivedIsTested, ElaboratedRulesFit};
-ghost use Rattle.isle_terms.specs.Meaning.Laws.{FieldsAreFields, MatchesByClosed, MatchesByDemands, MatchesByProper, MatchesDerived};
+ghost use Rattle.isle_terms.specs.Meaning.Laws.{FieldsAreFields, MadeTermsTakeTheirFields, RulesOfDefinitionsFit, MatchesByClosed, MatchesByDemands, MatchesByProper, MatchesDerived};
 ghost use Rattle.isle_terms.specs.Meaning.Laws.{NeedsHaveFields, NeverBoth, NumbersSayDemands, SelfEqualitiesSayNothing};
 ghost use Rattle.isle_terms.specs.Meaning.Laws.{ShadowedIsNeverChosen, UnreachableIsDead, VisitIsWritten, WiderMatches};
 
@@ -93,4 +93,14 @@ pub fn fields_are_fields()
 /// What a rule stands for is a rule that these laws speak of, where it asks no `multi` term.
 pub fn elaborated_rules_fit()
     ensures { ElaboratedRulesFit }
+{}
+
+/// The terms of variants and structs that definitions make take exactly their fields.
+pub fn made_terms_take_their_fields()
+    ensures { MadeTermsTakeTheirFields }
+{}
+
+/// Each rule of definitions is one that these laws speak of, where it asks no `multi` term.
+pub fn rules_of_definitions_fit()
+    ensures { RulesOfDefinitionsFit }
 {}

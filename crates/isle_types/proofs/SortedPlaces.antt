@@ -1,12 +1,12 @@
 -- The entries at places in range: how many, and which stands where.
-use Rattle.std.proofs.Common.{◌≡◌, ℕ, ◌<◌, List, [], ◌∷◌, length, get_or, map, refl, ap, ◌∙◌, arith}
+use Rattle.std.proofs.Common.{◌≡◌, ℕ, ◌<◌, ◌≤◌, List, [], ◌∷◌, length, get_or, slice_get, Some, None, map, refl, sym, ap, ◌∙◌, arith}
 use Rattle.std.specs.List.{All}
 use Rattle.std.specs.List.Sorted.{IsStrictlySortedBy}
 use Rattle.std.specs.Map.{keys_of}
 use Rattle.std.specs.declared.cmp.Ordering.{Ordering}
-use Rattle.std.proofs.lemmas.List.{length-map, get_or-map}
+use Rattle.std.proofs.lemmas.List.{length-map, get_or-map, get_or_default}
 use Rattle.std.proofs.lemmas.List.Elements.{All-nil, All-head, All-tail}
-use Rattle.std.proofs.lemmas.Option.{slice_get-get_or}
+use Rattle.std.proofs.lemmas.Option.{slice_get-get_or, slice_get_past, slice_get_read}
 use Rattle.isle_types.specs.SortedMaps.{IsSortedIndex, entries_at}
 
 module _ {E : Type 0} where
@@ -32,6 +32,20 @@ module _ {E : Type 0} where
       → get_or (entries_at entries places) i d ≡ get_or entries (get_or places i 0) d
   get_or-entries_at entries places i d within lt = rw (entries_at-map entries places d within)
       (get_or-map (λ place. get_or entries place d) places i 0 d lt)
+
+  -- the entry of the place that stands at i
+  pub slice_get-entries_at : (entries : List E) (places : List ℕ) (i place : ℕ) (e : E) → AreWithin entries places → i < length places
+      → place ≡ get_or places i place → e ≡ get_or entries place e → slice_get (entries_at entries places) i ≡ Some e
+  slice_get-entries_at entries places i place e within lt here there =
+      slice_get_read _ (length places) i e (sym (length-entries_at entries places within)) lt
+      (there
+      ∙ ap (λ p. get_or entries p e) (here ∙ get_or_default places i place 0 lt)
+      ∙ sym (get_or-entries_at entries places i e within lt))
+
+  -- no entry where no place stands
+  pub slice_get-entries_past : (entries : List E) (places : List ℕ) (i : ℕ) → AreWithin entries places → length places ≤ i
+      → slice_get (entries_at entries places) i ≡ None
+  slice_get-entries_past entries places i within past = slice_get_past _ i (rw (length-entries_at entries places within) past)
 
 module _ {K V : Type 0} where
   pub length-keys_at : (entries : List (K × V)) (places : List ℕ) → AreWithin entries places

@@ -1,5 +1,5 @@
 //! Sets of items that share no member, for equalities between items.
-ghost use Rattle.std.specs.Prelude.{◌≡◌, ◌+◌, ◌≤◌, ◌<◌, ◌||◌, ◌&&◌, ◌++◌, if◌then◌else◌, not, true, false, length, [], IfOk, OnOk, OnErr, Some};
+ghost use Rattle.std.specs.Prelude.{◌≡◌, ◌+◌, ◌≤◌, ◌<◌, ◌^◌, ◌||◌, ◌&&◌, ◌++◌, if◌then◌else◌, not, true, false, length, [], IfOk, OnOk, OnErr, Some};
 ghost use Rattle.std.specs.Prelude.{None, IsTrue, ◌↔◌, unwrap_or, IsPermutation, IsSorted};
 ghost use Rattle.std.specs.HashMap.{get, spare, IsUnique};
 ghost use Rattle.isle_types.specs.JoinedSets.{set_of, representative, are_joined, comes_together, members, with_member, AreDisjoint, AreSameSets};
@@ -126,6 +126,7 @@ impl<T: Copy + Eq + Hash> DisjointSets<T> {
     /// The number of members of all sets.
     pub fn len(&self) -> usize
         ensures count { result ≡ length (members self.now) }
+        ensures small { result < 2 ^ 63 }
         ensures disjoint { AreDisjoint T.eq self.now }
     {
         self.table.len()

@@ -4,8 +4,8 @@ ghost use Rattle.std.specs.BTreeMap.{insert_entry, is_at};
 ghost use Rattle.std.specs.List.Sorted.{IsStrictlySortedBy};
 ghost use Rattle.std.specs.List.{position};
 ghost use Rattle.std.specs.Map.{keys_of, lookup};
-ghost use Rattle.std.specs.Option.{option_copied};
-ghost use Rattle.std.specs.Prelude.{◌≡◌, ◌≤◌, IfOk, OnErr, OnOk, [], length};
+ghost use Rattle.std.specs.Option.{option_copied, option_map};
+ghost use Rattle.std.specs.Prelude.{◌≡◌, ◌≤◌, ◌<◌, ◌^◌, IfOk, OnErr, OnOk, [], length, slice_get};
 
 use std::alloc::{AllocError, Global};
 use std::cmp::Ordering;
@@ -46,6 +46,7 @@ impl<K: Ord, V> SortedMap<K, V> {
     /// The number of entries.
     pub fn len(&self) -> usize
         ensures count { result ≡ length self.now }
+        ensures small { result < 2 ^ 63 }
         ensures ascending { IsStrictlySortedBy K.cmp (keys_of self.now) }
     {
         self.places.len()
@@ -69,6 +70,15 @@ impl<K: Ord, V> SortedMap<K, V> {
     {
         let (found, comparisons) = search(&self.entries, &self.places, key);
         (found.ok(), comparisons)
+    }
+
+    /// The entry at a place in ascending order of the keys.
+    pub fn entry(&self, place: usize) -> Option<(&K, &V)>
+        ensures { option_map (λ e. (e.0.now, e.1.now)) result ≡ slice_get self.now place }
+    {
+        let at = *self.places.get(place)?;
+        let entry = &self.entries[at];
+        Some((&entry.0, &entry.1))
     }
 
     /// Puts the value at the key, and hands back the value that stood there. A key that is there

@@ -1,5 +1,7 @@
 -- What a rule means, and what is derived from its demands.
-use Rattle.std.specs.Prelude.{◌≡◌, ◌<◌, ◌⊎◌, ◌↔◌, ℕ, false, List, [], Option}
+use Rattle.std.specs.Prelude.{◌≡◌, ◌<◌, ◌⊎◌, ◌↔◌, ℕ, Bool, false, List, [], Option, Some, slice_get}
+use Rattle.isle_syntax.specs.declared.ast.Def.{Def}
+use Rattle.isle_types.specs.Environment.{Environment}
 use Rattle.isle_terms.specs.Meaning.Values.{Value, Values, count}
 use Rattle.isle_terms.specs.TypedRules.{TypedRule}
 use Rattle.isle_terms.specs.Meaning.Facts.{TermFacts, patterns, facts_of, TakesFields}
@@ -18,6 +20,7 @@ use Rattle.isle_terms.specs.Meaning.Needs.{visit, no_log, needs_of, IsNeeded, Fi
 use Rattle.isle_terms.specs.Meaning.Tested.{IsTested, SpeaksOfTested}
 use Rattle.isle_terms.specs.Meaning.Scopes.{IsWellScopedRule, RuleTakesOne, Covers, scope_of}
 use Rattle.isle_terms.specs.Signatures.{Declared}
+use Rattle.isle_terms.specs.Definitions.{TermEnvironment, declared_by, MakesTerms}
 use Rattle.isle_terms.specs.SoundRules.WellTyped.{IsTypedRule}
 use Rattle.isle_terms.specs.SoundRules.KeptScopes.{KeepsScopes}
 use Rattle.isle_terms.specs.Meaning.Typing.{RuleIsTyped}
@@ -144,3 +147,18 @@ FieldsAreFields = (facts : TermFacts) (c : Completion) (args : Values) (done : L
 abbrev pub ElaboratedRulesFit : Type 0
 ElaboratedRulesFit = (declared : Declared) (rule : TypedRule) (typed : IsTypedRule declared rule) → KeepsScopes rule → TakesFields declared
     → typed.flags.multi ≡ false → RuleTakesOne (facts_of declared) rule → IsRuleOfTypes (facts_of declared) typed.root.args rule
+
+-- The terms of variants and structs that definitions make take exactly their fields.
+abbrev pub MadeTermsTakeTheirFields : Type 0
+MadeTermsTakeTheirFields =
+    (types : Environment) (expands : Bool) (levels max : ℕ) (defs : List Def) (environment : TermEnvironment)
+    → MakesTerms types expands levels max defs environment → TakesFields (declared_by types expands environment)
+
+-- Each rule of definitions is one that the laws speak of, where its term isn't `multi` and it asks no `multi` extractor.
+abbrev pub RulesOfDefinitionsFit : Type 0
+RulesOfDefinitionsFit =
+    (types : Environment) (expands : Bool) (levels max : ℕ) (defs : List Def) (environment : TermEnvironment)
+    → MakesTerms types expands levels max defs environment → (place : ℕ) (rule : TypedRule)
+    → slice_get environment.rules place ≡ Some rule → (typed : IsTypedRule (declared_by types expands environment) rule)
+    → typed.flags.multi ≡ false → RuleTakesOne (facts_of (declared_by types expands environment)) rule
+    → IsRuleOfTypes (facts_of (declared_by types expands environment)) typed.root.args rule

@@ -1,0 +1,21 @@
+-- What a rule's visit gathers.
+-- A walk down a table.
+pub mod Walking
+-- Runs that lack memory at once.
+pub mod Waiting
+-- Tables as they grow.
+pub mod Entries
+-- What a step adds.
+pub mod Told
+-- What a call of a term's pattern adds.
+pub mod Openings
+-- What the visit of a pattern gathers.
+pub mod Patterns
+-- What the visit of an expression gathers.
+pub mod Exprs
+-- The visit of an expression goes the road that is written down of it.
+pub mod ExprVisits
+-- What the visits of a rule's arguments gather.
+pub mod RuleVisits
+-- The contents that a site is made of, by numbers and by sites.
+pub mod Asking

@@ -1,0 +1,10 @@
+use Rattle.std.proofs.Common.{length}
+use Rattle.isle_blocks.proofs.ClosureCount.{class_count}
+use Rattle.isle_blocks.proofs.ClosureProgress.{Progress}
+use Rattle.isle_blocks.proofs.close.classes.unify.Given as goal
+
+abbrev pub invariant-loop-x : goal.invariant-loop-x
+invariant-loop-x l = Progress l.sites l.own l.equals l.class.items l.pending.items
+
+abbrev pub decreases-loop-x : goal.decreases-loop-x
+decreases-loop-x l = class_count l.class.items (length l.sites)

@@ -1,0 +1,41 @@
+-- What the closure of a rule's demands is.
+use Rattle.std.specs.Prelude.{◌≡◌, ◌<◌, ◌≤◌, ◌↔◌, ℕ, List, Option, Some, length, slice_get, slice_index}
+use Rattle.isle_types.specs.declared.ids.Sym.{Sym}
+use Rattle.isle_terms.specs.Meaning.Sites.{Site}
+use Rattle.isle_terms.specs.Meaning.Demands as meaning
+use Rattle.isle_terms.specs.Meaning.Demands.{Demand, constrained, equal}
+use Rattle.isle_terms.specs.Meaning.Derived.{Derived, AreEqual, FieldOf}
+use Rattle.isle_terms.specs.Meaning.Faults.{IsUnreachable}
+use Rattle.isle_terms.specs.Meaning.Numbered.{Row, At}
+use Rattle.isle_blocks.specs.declared.binding.Binding.{Binding}
+use Rattle.isle_blocks.specs.declared.constraint.Constraint.{Constraint}
+use Rattle.isle_blocks.specs.Rows.{rows_of, test_of}
+use Rattle.isle_blocks.specs.ClosureFields.{IsTable}
+use Rattle.isle_blocks.specs.ClosureStates.{HasOwn}
+
+-- the site has a number
+abbrev pub Stands : List Row → Site → Type 0
+Stands table s = (k : ℕ) × At table s k
+
+-- all fields of derived variants and structs have numbers
+abbrev pub HasAllFields : (Demand → Type 0) → List Row → Type 0
+HasAllFields D table = (s u : Site) → FieldOf D s u → Stands table u
+
+-- No table that has room has what stood in the old one and all fields of derived variants and structs.
+abbrev pub HasNoRoom : (Demand → Type 0) → List Row → Type 0
+HasNoRoom D old = (table : List Row) → length table ≤ 65536 → ((s : Site) → Stands old s → Stands table s) → HasAllFields D table → ⊥
+
+-- The closed table, with each site's test and each site's representative.
+pub record IsClosure (name : Sym → List ℕ) (D : Demand → Type 0) (old table : List Binding) (each : List (Option Constraint)) (class : List ℕ) : Type 0 where
+  pub reachable : IsUnreachable D → ⊥
+  pub sites : IsTable table
+  pub kept : (k : ℕ) (site : Binding) → slice_get old k ≡ Some site → slice_get table k ≡ Some site
+  pub added : (k : ℕ) → length old ≤ k → k < length table → (s : Site) × (u : Site) × FieldOf D s u × At (rows_of name table) u k
+  pub fields : HasAllFields D (rows_of name table)
+  pub each_fits : length each ≡ length table
+  pub class_fits : length class ≡ length table
+  pub tested : (a : ℕ) (s : Site) (d : meaning.Constraint) → At (rows_of name table) s a
+      → ((c : Constraint) × HasOwn each a c × (test_of name c ≡ d)) ↔ Derived D (constrained s d)
+  pub same : (a b : ℕ) (s u : Site) → At (rows_of name table) s a → At (rows_of name table) u b → (slice_index class a ≡ slice_index class b) ↔ AreEqual D s u
+  pub all_tested : (s : Site) (d : meaning.Constraint) → Derived D (constrained s d) → Stands (rows_of name table) s
+  pub all_same : (s u : Site) → Derived D (equal s u) → Stands (rows_of name table) s × Stands (rows_of name table) u
