@@ -1,3 +1,5 @@
+mod clones;
+mod environments;
 mod recorder;
 pub mod signatures;
 pub mod visits;

@@ -9,7 +9,7 @@ use std::alloc::{AllocError, Global};
 use std::test::Fail;
 
 // The term `f` has the number 0, and `A.V` the number 1.
-const TERMS: &str = "(type A (enum (V (a u8) (b u8)))) (decl f (A bool) A) (rule (f x y) x)";
+pub const TERMS: &str = "(type A (enum (V (a u8) (b u8)))) (decl f (A bool) A) (rule (f x y) x)";
 
 const BOOL: TypeId = TypeId(0);
 
@@ -103,7 +103,8 @@ fn variable(id: VarId, ty: TypeId) -> BoundVar {
     }
 }
 
-fn rule(alloc: Global) -> Result<Rule, AllocError> {
+/// A rule with each form of pattern and expression.
+pub fn example(alloc: Global) -> Result<Rule, AllocError> {
     let vars = vec![in alloc;
         variable(X, U8),
         variable(Y, U8),
@@ -155,7 +156,7 @@ construct 13 0 false true false false of 16:13 17:0
 fn visits_tell_each_call_up_to_a_fault(rt: HostRuntime) -> Result<(), Fail> {
     let alloc = rt.alloc();
     let termenv = termenv(alloc)?;
-    let rule = rule(alloc)?;
+    let rule = example(alloc)?;
     let mut whole = Recorder::new(alloc, 1000);
     assert!(rt; matches!(rule.visit(alloc, &mut whole, &termenv), Ok(18)));
     assert_eq!(rt; whole.calls(), CALLS);
