@@ -25,3 +25,5 @@ pub mod Tables
 pub mod Contents
 -- What the visits of a rule's conditions gather.
 pub mod IfLets
+-- What the visit of a rule gathers.
+pub mod Rules
