@@ -11,7 +11,7 @@ use Rattle.isle_terms.specs.Visits.InternedTrees.{listed_patterns, pattern_of, e
 use Rattle.isle_terms.specs.Visits.RuleEvents.{visits_args, visits_rest}
 use Rattle.isle_terms.specs.Meaning.Facts.{TermFacts}
 use Rattle.isle_terms.specs.Meaning.Sites.{Site, argument}
-use Rattle.isle_terms.specs.Meaning.Demands.{nothing, demands_all, iflets_demands, args_bound, vars_of, demands_of}
+use Rattle.isle_terms.specs.Meaning.Demands.{nothing, demands_all, iflets_demands, args_bound, vars_of}
 use Rattle.isle_terms.specs.Meaning.Needs.{no_log, visit, args_needs, iflets_needs}
 use Rattle.isle_terms.specs.Meaning.Numbered.{At, AreRecorded}
 use Rattle.isle_terms.proofs.Meaning.Visited.{visit_is_written}
