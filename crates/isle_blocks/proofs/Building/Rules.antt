@@ -4,15 +4,17 @@ use Rattle.isle_types.specs.declared.ids.Sym.{Sym}
 use Rattle.isle_terms.specs.declared.rules.Rule.{Rule}
 use Rattle.isle_terms.specs.declared.terms.Term.{Term}
 use Rattle.isle_terms.specs.TypedRules.{TypedRule}
+use Rattle.isle_terms.specs.Signatures.{Declared}
+use Rattle.isle_terms.specs.SoundRules.WellTyped.{IsTypedRule}
 use Rattle.isle_terms.specs.SoundRules.KeptScopes.{nothing_bound, KeepsScopes}
 use Rattle.isle_terms.specs.Visits.Runs.{in_turn, on_some, stuck}
 use Rattle.isle_terms.specs.Visits.VisitScopes.{no_values}
 use Rattle.isle_terms.specs.Visits.InternedTrees.{listed_patterns, pattern_of, expr_of}
 use Rattle.isle_terms.specs.Visits.RuleEvents.{visits_args, visits_rest}
-use Rattle.isle_terms.specs.Meaning.Facts.{TermFacts}
+use Rattle.isle_terms.specs.Meaning.Facts.{TermFacts, facts_of}
 use Rattle.isle_terms.specs.Meaning.Sites.{Site, argument}
 use Rattle.isle_terms.specs.Meaning.Demands.{nothing, demands_all, iflets_demands, args_bound, vars_of}
-use Rattle.isle_terms.specs.Meaning.Needs.{no_log, visit, args_needs, iflets_needs}
+use Rattle.isle_terms.specs.Meaning.Needs.{no_log, visit, args_needs, iflets_needs, needs_of}
 use Rattle.isle_terms.specs.Meaning.Numbered.{At, AreRecorded}
 use Rattle.isle_terms.proofs.Meaning.Visited.{visit_is_written}
 use Rattle.isle_blocks.specs.declared.ids.BindingId.{BindingId}
@@ -24,10 +26,13 @@ use Rattle.isle_blocks.specs.Building.Named.{named_patterns, named_expr, named_i
 use Rattle.isle_blocks.specs.Building.Named.{IsNamedRule}
 use Rattle.isle_blocks.specs.Building.Building.{gathers}
 use Rattle.isle_blocks.specs.Building.Built.{IsBuiltOf}
+use Rattle.isle_blocks.specs.Building.Contents.{PartsAreBefore}
 use Rattle.isle_blocks.proofs.Building.Entries.{adds_then, recorded_grown}
 use Rattle.isle_blocks.proofs.Building.Told.{told_then}
 use Rattle.isle_blocks.proofs.Building.Exprs.{visited_rows}
 use Rattle.isle_blocks.proofs.Building.RuleVisits.{follow_args}
+use Rattle.isle_blocks.proofs.Building.Tables.{stands_before, stands_once, parts_before, site_once}
+use Rattle.isle_blocks.proofs.Building.WellTyped.{all_filled, iflets_filled, typed_calls}
 use Rattle.isle_blocks.proofs.Building.IfLets.{follow_value, follow_iflets}
 
 -- a typed rule with the arguments, conditions and right side of another
@@ -107,3 +112,22 @@ module _ (name : Sym → List ℕ) (injective : IsInjective name) (names : List 
       (rooted (slice_get terms rule.root_term.0) rule typed value s' (subst KeepsScopes same keeps)
       (subst (λ (z : TypedRule). AreFilled facts z.args) same filled) (subst (λ (z : TypedRule). IfLetsAreFilled facts z.iflets) same met)
       (subst (λ (z : TypedRule). CallNothingImpure facts z.iflets) same pure) run)
+
+-- a well typed rule that keeps scopes
+pub follow_typed : (name : Sym → List ℕ) → IsInjective name → (names : List (List ℕ)) (declared : Declared) (terms : List Term)
+    → AreKnownTerms names (facts_of declared) terms → (rule : Rule) (typed : TypedRule) (value : BindingId) (s' : Gathered)
+    → IsNamedRule name typed rule → IsTypedRule declared typed → KeepsScopes typed → gathers terms rule nothing_gathered (Ok value) s'
+    → IsBuiltOf name (facts_of declared) typed s' value
+follow_typed name injective names declared terms known rule typed value s' h is keeps run =
+    follow_rule name injective names (facts_of declared) terms known rule typed value s' h keeps
+    (all_filled declared typed.variables is.root.args typed.args is.args) (iflets_filled declared typed.variables is.flags typed.iflets is.iflets)
+    (typed_calls declared typed.variables is.flags typed.iflets is.iflets) run
+
+-- in the table that is left, parts stand before what is made of them, and each site has one number
+pub built_before : (name : Sym → List ℕ) (facts : TermFacts) (rule : TypedRule) (left : Gathered) (value : BindingId)
+    → IsBuiltOf name facts rule left value → PartsAreBefore left.sites
+built_before name facts rule left value h = parts_before name left.sites (stands_before (needs_of facts rule) (rows_of name left.sites) h.sites)
+
+pub built_once : (name : Sym → List ℕ) (facts : TermFacts) (rule : TypedRule) (left : Gathered) (value : BindingId)
+    → IsBuiltOf name facts rule left value → (s : Site) (j k : ℕ) → At (rows_of name left.sites) s j → At (rows_of name left.sites) s k → j ≡ k
+built_once name facts rule left value h = site_once (rows_of name left.sites) (stands_once (needs_of facts rule) (rows_of name left.sites) h.sites)
