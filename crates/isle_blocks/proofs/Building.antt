@@ -25,3 +25,7 @@ pub mod Tables
 pub mod Contents
 -- What the visits of a rule's conditions gather.
 pub mod IfLets
+-- Well typed rules have what the visit asks.
+pub mod WellTyped
+-- What the visit of a rule gathers.
+pub mod Rules

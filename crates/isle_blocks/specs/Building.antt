@@ -13,3 +13,5 @@ pub mod Building
 pub mod Standing
 -- Typed rules by their interned trees.
 pub mod Named
+-- What the visit of a rule leaves.
+pub mod Built

@@ -30,11 +30,12 @@ use Rattle.isle_blocks.specs.declared.ids.BindingId.{BindingId}
 use Rattle.isle_blocks.specs.declared.binding.Binding.TheVariants as sites
 use Rattle.isle_blocks.specs.Rows.{IsInjective, numbers_of, rows_of}
 use Rattle.isle_blocks.specs.Building.Gathering.{Gathered}
+use Rattle.isle_blocks.specs.Building.Standing.{StandEach}
 use Rattle.isle_blocks.specs.Building.Steps.{expr_adds, makes, values_of}
 use Rattle.isle_blocks.specs.Building.Named.{named_expr, named_exprs, named_bindings, IsKnownTerm, AreKnownTerms}
 use Rattle.isle_blocks.proofs.Building.Entries.{at_grown}
 use Rattle.isle_blocks.proofs.Building.Patterns.{Stand, stand_later}
-use Rattle.isle_blocks.proofs.Building.Exprs.{StandEach, Visited, visited_rows, visited_none, visited_then, visited_intern, visited_call}
+use Rattle.isle_blocks.proofs.Building.Exprs.{Visited, visited_rows, visited_none, visited_then, visited_intern, visited_call}
 
 -- a variable more stands for its site
 stand_let : (rows : List Row) (usable : List ℕ) (numbers : Numbers BindingId) (vars : ℕ → Site) (own : VarId) (id : BindingId) (t : Site)

@@ -14,16 +14,9 @@ use Rattle.isle_blocks.specs.declared.binding.Binding.{Binding}
 use Rattle.isle_blocks.specs.declared.binding.Binding.TheVariants as sites
 use Rattle.isle_blocks.specs.Rows.{IsInjective, numbers_of, row_of, rows_of}
 use Rattle.isle_blocks.specs.Building.Gathering.{Gathered, interns, constructed}
-use Rattle.isle_blocks.specs.Building.Standing.{IsEntryOf, Adds, begin, next}
+use Rattle.isle_blocks.specs.Building.Standing.{IsEntryOf, Adds, begin, next, StandEach}
 use Rattle.isle_blocks.specs.Building.Steps.{makes}
 use Rattle.isle_blocks.proofs.Building.Entries.{Grown, at_grown, entry_at, put_grown, put_there, put_of, adds_grown, adds_then}
-
--- numbers that stand for sites in order
-abbrev pub StandEach : List Row → List BindingId → List Site → Type 0
-StandEach rows [] [] = Unit {0}
-StandEach rows [] (t ∷ ts) = ⊥
-StandEach rows (id ∷ ids) [] = ⊥
-StandEach rows (id ∷ ids) (t ∷ ts) = At rows t id.0 × StandEach rows ids ts
 
 pub each_grown : (rows new : List Row) → Grown rows new → (ids : List BindingId) (ts : List Site) → StandEach rows ids ts → StandEach new ids ts
 each_grown rows new g [] [] h = h

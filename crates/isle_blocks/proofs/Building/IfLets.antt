@@ -1,5 +1,5 @@
 -- What the visits of a rule's conditions gather.
-use Rattle.std.proofs.Common.{◌≡◌, ◌≤◌, ◌<◌, ℕ, zero, suc, List, [], ◌∷◌, ◌++◌, map, length, Ok, refl, sym, ap, ◌∙◌, subst, inl, inr, arith}
+use Rattle.std.proofs.Common.{◌≡◌, ◌≤◌, ℕ, List, [], ◌∷◌, ◌++◌, map, Ok, refl, sym, ap, ◌∙◌, subst, arith}
 use Rattle.std.proofs.lemmas.List.{append-nil}
 use Rattle.std.proofs.lemmas.Option.{none-some}
 use Rattle.isle_types.specs.declared.ids.Sym.{Sym}
@@ -24,13 +24,12 @@ use Rattle.isle_terms.proofs.Meaning.Visited.{visit_is_written}
 use Rattle.isle_blocks.specs.declared.ids.BindingId.{BindingId}
 use Rattle.isle_blocks.specs.Rows.{IsInjective, rows_of}
 use Rattle.isle_blocks.specs.Building.Gathering.{Gathered}
-use Rattle.isle_blocks.specs.Building.Standing.{Adds}
+use Rattle.isle_blocks.specs.Building.Standing.{Adds, StandEach}
 use Rattle.isle_blocks.specs.Building.Steps.{pattern_adds, expr_adds, rule_adds}
-use Rattle.isle_blocks.specs.Building.Named.{named_pattern, named_expr, named_iflet, AreKnownTerms, IfLetsAreFilled, CallNothingImpure}
+use Rattle.isle_blocks.specs.Building.Named.{named_expr, named_iflet, AreKnownTerms, IfLetsAreFilled, CallNothingImpure}
 use Rattle.isle_blocks.proofs.Building.Entries.{adds_then}
 use Rattle.isle_blocks.proofs.Building.Told.{Told, nothing_recorded, told_grown, told_none}
 use Rattle.isle_blocks.proofs.Building.Patterns.{Stand, AreBelow, stand_later, Followed, followed_told, followed_then, follow}
-use Rattle.isle_blocks.proofs.Building.Exprs.{StandEach, each_many}
 use Rattle.isle_blocks.proofs.Building.ExprVisits.{Evaluates, follow_expr}
 use Rattle.isle_blocks.proofs.Building.RuleVisits.{Carries, by_itself, follow_vars, stand_carried}
 use Rattle.isle_blocks.proofs.Building.Contents.{told_contents}

@@ -5,6 +5,7 @@ use Rattle.isle_terms.specs.Meaning.Sites.{make_variant, match_variant, make_str
 use Rattle.isle_terms.specs.Meaning.Numbered.{Row, bool_row, int_row, prim_row, argument_row, extractor_row, constructor_row, iterator_row}
 use Rattle.isle_terms.specs.Meaning.Numbered.{make_variant_row, match_variant_row, make_struct_row, extract_struct_row, make_some_row}
 use Rattle.isle_terms.specs.Meaning.Numbered.{match_some_row, match_tuple_row, At, AtAll}
+use Rattle.isle_blocks.specs.declared.ids.BindingId.{BindingId}
 use Rattle.isle_blocks.specs.Tables.{IsAbsent}
 
 -- the entry is that of the site, whose parts have their numbers in the table
@@ -33,3 +34,10 @@ pub data Adds (rows : List Row) : List Site → List Row → Type 0 where
   begin : Adds rows [] rows
   next : {needed : List Site} {old : List Row} (new : List Row) (site : Site) (row : Row) (k : ℕ) → Adds rows needed old
       → IsEntryOf old site row → IsPut old row k new → Adds rows (needed ++ site ∷ []) new
+
+-- numbers that stand for sites in order
+abbrev pub StandEach : List Row → List BindingId → List Site → Type 0
+StandEach rows [] [] = Unit {0}
+StandEach rows [] (t ∷ ts) = ⊥
+StandEach rows (id ∷ ids) [] = ⊥
+StandEach rows (id ∷ ids) (t ∷ ts) = At rows t id.0 × StandEach rows ids ts
