@@ -34,7 +34,7 @@ use Rattle.isle_blocks.proofs.Building.Exprs.{visited_rows}
 use Rattle.isle_blocks.proofs.Building.RuleVisits.{follow_args}
 use Rattle.isle_blocks.proofs.Building.Tables.{stands_before, stands_once, parts_before, site_once}
 use Rattle.isle_blocks.proofs.Building.WellTyped.{all_filled, iflets_filled, typed_calls}
-use Rattle.isle_blocks.proofs.Building.IfLets.{follow_value, follow_iflets}
+use Rattle.isle_blocks.proofs.Building.IfLets.{visited_adds, follow_value, follow_iflets}
 
 -- what is recorded, under another name
 recorded_as : (name : Sym → List ℕ) (rows : List Row) (has tests : List (BindingId × Constraint)) (same pairs : List (BindingId × BindingId))
@@ -90,8 +90,7 @@ module _ (name : Sym → List ℕ) (injective : IsInjective name) (names : List 
       let is = visit_is_written facts typed in
       let both = told_then name injective start a b xs ys ds es args.told lets.told in
       let new = rows_of name s'.sites in
-      let added = adds_then [] (rows_of name b.sites) new (xs ++ ys) r.1.needed both.adds
-      (subst (λ z. Adds (rows_of name b.sites) z new) (sym last.0.needed) last.0.grew.adds) in
+      let added = adds_then [] (rows_of name b.sites) new (xs ++ ys) r.1.needed both.adds (visited_adds name injective b s' r.1 last.0) in
       let recorded = recorded_grown (rows_of name b.sites) new (constraints_of name both.has_more) (pairs_of both.same_more) (ds ++ es)
       (visited_rows name injective b s' no_log r.1 last.0) both.recorded in
       record {
