@@ -30,6 +30,7 @@ use Rattle.isle_blocks.specs.Building.Named.{named_expr, named_iflet, AreKnownTe
 use Rattle.isle_blocks.proofs.Building.Entries.{adds_then}
 use Rattle.isle_blocks.proofs.Building.Told.{Told, nothing_recorded, told_grown, told_none}
 use Rattle.isle_blocks.proofs.Building.Patterns.{Stand, AreBelow, stand_later, Followed, followed_told, followed_then, follow}
+use Rattle.isle_blocks.proofs.Building.Exprs.{Visited}
 use Rattle.isle_blocks.proofs.Building.ExprVisits.{Evaluates, follow_expr}
 use Rattle.isle_blocks.proofs.Building.RuleVisits.{Carries, by_itself, follow_vars, stand_carried}
 use Rattle.isle_blocks.proofs.Building.Contents.{told_contents}
@@ -66,6 +67,11 @@ none_each : (rows : List Row) (ids : List BindingId) (ts : List Site) → ts ≡
 none_each rows [] ts e h = refl
 none_each rows (id ∷ ids) [] e h = absurd h
 none_each rows (id ∷ ids) (t ∷ ts) e h = absurd cc
+
+-- what is needed from the start on
+pub visited_adds : (name : Sym → List ℕ) (injective : IsInjective name) (s s' : Gathered) (after : Log) → Visited name injective s no_log after s'
+    → Adds (rows_of name s.sites) after.needed (rows_of name s'.sites)
+visited_adds name injective s s' after v = subst (λ z. Adds (rows_of name s.sites) z (rows_of name s'.sites)) (sym v.needed) v.grew.adds
 
 module _ (name : Sym → List ℕ) (injective : IsInjective name) (names : List (List ℕ)) (facts : TermFacts) (terms : List Term)
     (known : AreKnownTerms names facts terms) where
@@ -126,7 +132,7 @@ module _ (name : Sym → List ℕ) (injective : IsInjective name) (names : List 
         let log : r.1.impure ≡ [] = is.1 ∙ ap (map (step_site facts vars)) pure in
         let v = h.0 in (
           record {
-            adds = subst (λ z. Adds (rows_of name s.sites) z (rows_of name s'.sites)) (sym v.needed) v.grew.adds;
+            adds = visited_adds name injective s s' r.1 v;
             has_more = [];
             same_more = [];
             has = v.grew.has ∙ sym (append-nil s.has);

@@ -13,11 +13,12 @@ use Rattle.isle_terms.specs.Visits.InternedTrees.{listed_patterns, pattern_of, e
 use Rattle.isle_terms.specs.Visits.RuleEvents.{visits_args, visits_rest}
 use Rattle.isle_terms.specs.Meaning.Facts.{TermFacts, facts_of}
 use Rattle.isle_terms.specs.Meaning.Sites.{Site, argument}
-use Rattle.isle_terms.specs.Meaning.Demands.{nothing, demands_all, iflets_demands, args_bound, vars_of}
+use Rattle.isle_terms.specs.Meaning.Demands.{Demand, nothing, demands_all, iflets_demands, args_bound, vars_of}
 use Rattle.isle_terms.specs.Meaning.Needs.{no_log, visit, args_needs, iflets_needs, needs_of}
-use Rattle.isle_terms.specs.Meaning.Numbered.{At, AreRecorded}
+use Rattle.isle_terms.specs.Meaning.Numbered.{Row, At, AreRecorded}
 use Rattle.isle_terms.proofs.Meaning.Visited.{visit_is_written}
 use Rattle.isle_blocks.specs.declared.ids.BindingId.{BindingId}
+use Rattle.isle_blocks.specs.declared.constraint.Constraint.{Constraint}
 use Rattle.isle_blocks.specs.Rows.{IsInjective, rows_of, constraints_of, pairs_of}
 use Rattle.isle_blocks.specs.Building.Gathering.{Gathered, nothing_gathered}
 use Rattle.isle_blocks.specs.Building.Standing.{Adds, StandEach}
@@ -33,7 +34,15 @@ use Rattle.isle_blocks.proofs.Building.Exprs.{visited_rows}
 use Rattle.isle_blocks.proofs.Building.RuleVisits.{follow_args}
 use Rattle.isle_blocks.proofs.Building.Tables.{stands_before, stands_once, parts_before, site_once}
 use Rattle.isle_blocks.proofs.Building.WellTyped.{all_filled, iflets_filled, typed_calls}
-use Rattle.isle_blocks.proofs.Building.IfLets.{follow_value, follow_iflets}
+use Rattle.isle_blocks.proofs.Building.IfLets.{visited_adds, follow_value, follow_iflets}
+
+-- what is recorded, under another name
+recorded_as : (name : Sym → List ℕ) (rows : List Row) (has tests : List (BindingId × Constraint)) (same pairs : List (BindingId × BindingId))
+    (ds : List Demand) → has ≡ tests → same ≡ pairs → AreRecorded rows (constraints_of name tests) (pairs_of pairs) ds
+    → AreRecorded rows (constraints_of name has) (pairs_of same) ds
+recorded_as name rows has tests same pairs ds h e is =
+    subst (λ z. AreRecorded rows (constraints_of name z) (pairs_of same) ds) (sym h)
+    (subst (λ z. AreRecorded rows (constraints_of name tests) (pairs_of z) ds) (sym e) is)
 
 -- a typed rule with the arguments, conditions and right side of another
 abbrev plain : (Sym → List ℕ) → TypedRule → Rule → TypedRule
@@ -81,14 +90,13 @@ module _ (name : Sym → List ℕ) (injective : IsInjective name) (names : List 
       let is = visit_is_written facts typed in
       let both = told_then name injective start a b xs ys ds es args.told lets.told in
       let new = rows_of name s'.sites in
-      let added = adds_then [] (rows_of name b.sites) new (xs ++ ys) r.1.needed both.adds
-      (subst (λ z. Adds (rows_of name b.sites) z new) (sym last.0.needed) last.0.grew.adds) in
+      let added = adds_then [] (rows_of name b.sites) new (xs ++ ys) r.1.needed both.adds (visited_adds name injective b s' r.1 last.0) in
       let recorded = recorded_grown (rows_of name b.sites) new (constraints_of name both.has_more) (pairs_of both.same_more) (ds ++ es)
       (visited_rows name injective b s' no_log r.1 last.0) both.recorded in
       record {
         sites = subst (λ z. Adds [] z new) (append_assoc xs ys r.1.needed) added;
-        demands = subst (λ z. AreRecorded new (constraints_of name z) (pairs_of s'.same) (ds ++ es)) (sym (last.0.grew.has ∙ both.has))
-            (subst (λ z. AreRecorded new (constraints_of name both.has_more) (pairs_of z) (ds ++ es)) (sym (last.0.grew.same ∙ both.same)) recorded);
+        demands = recorded_as name new s'.has both.has_more s'.same both.same_more (ds ++ es) (last.0.grew.has ∙ both.has) (last.0.grew.same ∙ both.same)
+            recorded;
         result = subst (λ (z : Site). At new z value.0) is.0 last.1;
         impure = subst (λ z. StandEach new s'.impure z) is.1 last.0.impure;
       }

@@ -1,5 +1,11 @@
 -- Of a well typed rule, each term of a pattern has all its parts, and conditions call nothing impure.
-use Rattle.std.proofs.Common.{◌≡◌, ◌&&◌, ℕ, suc, Bool, true, false, List, [], ◌∷◌, length, Option, Some, slice_get, unwrap_or, refl, sym, ap, ◌∙◌}
+use Rattle.std.proofs.Common.{◌≡◌, ◌&&◌, ℕ, suc, Bool, true, false, List, [], ◌∷◌, map, length, Option, Some, slice_get, unwrap_or, refl, sym, ap, ◌∙◌}
+use Rattle.std.proofs.lemmas.List.{length-map}
+use Rattle.std.proofs.lemmas.Option.{slice_get-map}
+use Rattle.std.specs.Option.{option_map}
+use Rattle.isle_types.specs.declared.ids.TypeId.{TypeId}
+use Rattle.isle_terms.specs.declared.terms.Term.{Term}
+use Rattle.isle_terms.specs.Shown.ShownTerms.{term_shown}
 use Rattle.isle_terms.specs.TypedRules.{TypedPattern, typed_bind, typed_var, typed_bool, typed_int, typed_prim, typed_term, typed_wildcard}
 use Rattle.isle_terms.specs.TypedRules.{typed_and, TypedPatterns, no_typed, more_typed, TypedExpr, built_var, built_bool, built_int}
 use Rattle.isle_terms.specs.TypedRules.{built_prim, built_term, built_let, TypedExprs, no_built, more_built, TypedBindings, no_bindings}
@@ -9,8 +15,9 @@ use Rattle.isle_terms.specs.Elaboration.{on_lhs}
 use Rattle.isle_terms.specs.SoundRules.WellTyped.{same_for_each, IsTypedPattern, AreTypedPatterns, IsTypedExpr, AreTypedExprs, AreTypedBindings}
 use Rattle.isle_terms.specs.SoundRules.WellTyped.{AreTypedIfLets}
 use Rattle.isle_terms.specs.Meaning.Facts.{TermShape, variant_shape, struct_shape, declared_shape, patterns, no_term, term_at, facts_of}
+use Rattle.isle_terms.specs.Meaning.Facts.{shape_of_form, never_fails}
 use Rattle.isle_terms.specs.Meaning.Words.{Word, var_word, Words, Step, set, flat, flat_all, flat_lets, apply}
-use Rattle.isle_blocks.specs.Building.Named.{IsFilled, AreFilled, IfLetsAreFilled, CallNothingImpure}
+use Rattle.isle_blocks.specs.Building.Named.{AreKnownTerms, IsFilled, AreFilled, IfLetsAreFilled, CallNothingImpure}
 
 first_true : (a b : Bool) → (a && b) ≡ true → a ≡ true
 first_true true b e = refl
@@ -24,10 +31,10 @@ applied_pure struct_shape pure ty t r steps p e = e
 applied_pure declared_shape true ty t r steps p e = e
 applied_pure declared_shape false ty t r steps p e = absurd cc
 
-module _ (declared : Declared) (variables : List Variable) where
-  at_number : (t : ℕ) (term : Signature) → slice_get declared.terms t ≡ Some term → term_at declared t ≡ term
-  at_number t term known = ap (λ (x : Option Signature). unwrap_or x no_term) known
+at_number : (declared : Declared) (t : ℕ) (term : Signature) → slice_get declared.terms t ≡ Some term → term_at declared t ≡ term
+at_number declared t term known = ap (λ (x : Option Signature). unwrap_or x no_term) known
 
+module _ (declared : Declared) (variables : List Variable) where
   many_patterns : (tys : List ℕ) (ps : TypedPatterns) → AreTypedPatterns declared variables tys ps → patterns ps ≡ length tys
   many_patterns [] no_typed h = refl
   many_patterns [] (more_typed p ps) h = absurd h
@@ -42,7 +49,7 @@ module _ (declared : Declared) (variables : List Variable) where
     typed_filled ty (typed_int own val) h = tt
     typed_filled ty (typed_prim own name) h = tt
     typed_filled ty (typed_term own number below) h = let m = h.1 in (
-      many_patterns m.term.args below m.args ∙ ap (λ (z : Signature). length z.args) (sym (at_number number m.term m.known)),
+      many_patterns m.term.args below m.args ∙ ap (λ (z : Signature). length z.args) (sym (at_number declared number m.term m.known)),
       all_filled m.term.args below m.args,
     )
     typed_filled ty (typed_wildcard own) h = tt
@@ -63,7 +70,7 @@ module _ (declared : Declared) (variables : List Variable) where
           let m = h.1 in
           let pure : (flags_of m.term.form).pure ≡ true = first_true (flags_of m.term.form).pure _ m.allowed in
           applied_pure ((facts_of declared).shape number) ((facts_of declared).pure number) own number (flat_all (facts_of declared) vars steps below) steps
-          (ap (λ (z : Signature). (flags_of z.form).pure) (at_number number m.term m.known) ∙ pure) (all_pure m.term.args below vars steps m.args)
+          (ap (λ (z : Signature). (flags_of z.form).pure) (at_number declared number m.term m.known) ∙ pure) (all_pure m.term.args below vars steps m.args)
       calls_pure ty (built_var own var) vars steps h = refl
       calls_pure ty (built_bool own val) vars steps h = refl
       calls_pure ty (built_int own val) vars steps h = refl
@@ -92,3 +99,19 @@ module _ (declared : Declared) (variables : List Variable) where
     pub iflets_filled : (is : List TypedIfLet) → AreTypedIfLets declared variables (on_lhs flags) is → IfLetsAreFilled (facts_of declared) is
     iflets_filled [] h = tt
     iflets_filled (x ∷ is) h = (typed_filled (built_at x.value) x.pattern h.1, iflets_filled is h.2)
+
+-- shown terms are what is said of them
+pub shown_known : (names : List (List ℕ)) (declared : Declared) (terms : List Term) → map (term_shown names) terms ≡ declared.terms
+    → AreKnownTerms names (facts_of declared) terms
+shown_known names declared terms shown number term get =
+    let there : slice_get declared.terms number ≡ Some (term_shown names term) =
+    ap (λ (z : List Signature). slice_get z number) (sym shown) ∙ slice_get-map (term_shown names) terms number ∙ ap (option_map (term_shown names)) get in
+    let is = at_number declared number (term_shown names term) there in
+    record {
+      shape = ap (λ (z : Signature). shape_of_form z.form) is;
+      pure = ap (λ (z : Signature). (flags_of z.form).pure) is;
+      partial = ap (λ (z : Signature). (flags_of z.form).partial) is;
+      multi = ap (λ (z : Signature). (flags_of z.form).multi) is;
+      infallible = ap (λ (z : Signature). never_fails z.form) is;
+      takes = ap (λ (z : Signature). length z.args) is ∙ length-map term.arg_tys (λ (ty : TypeId). ty.0);
+    }
