@@ -24,28 +24,28 @@ one_source None s i part (suc k, l, e) = absurd (omega arith)
 
 module _ (own : List (Option Constraint)) (equals : List (ℕ × ℕ)) (table : List Binding) (class : List ℕ) (state : IsState own equals table class)
     (s : ℕ) (kind : Option ℕ) (i f : ℕ) (needed : IsMissingField own table class s kind i f) where
-  abbrev new : Binding
+  abbrev pub new : Binding
   new = field_binding kind s i
 
-  abbrev table' : List Binding
+  abbrev pub table' : List Binding
   table' = table ++ field_binding kind s i ∷ []
 
-  abbrev class' : List ℕ
+  abbrev pub class' : List ℕ
   class' = class ++ get_or class f 0 ∷ []
 
   len : length table' ≡ suc (length table)
   len = simp length-append (omega arith)
 
-  f_in : f < length table
+  pub f_in : f < length table
   f_in = slice_get_within table f (field_binding kind (get_or class s 0) i) needed.like
 
   pub class_old : (a : ℕ) → a < length table → get_or class' a 0 ≡ get_or class a 0
   class_old a h = get_or-append class (get_or class f 0 ∷ []) 0 a (let e = state.classes.fits in omega arith)
 
-  class_new : get_or class' (length table) 0 ≡ get_or class f 0
+  pub class_new : get_or class' (length table) 0 ≡ get_or class f 0
   class_new = let e = state.classes.fits in ap (λ (n : ℕ). get_or class' n 0) (sym e) ∙ get_or-append_seam class (get_or class f 0) [] 0
 
-  below_cases : (a : ℕ) → a < length table' → (a < length table) ⊎ (a ≡ length table)
+  pub below_cases : (a : ℕ) → a < length table' → (a < length table) ⊎ (a ≡ length table)
   below_cases a h = elim (cases_lt a (length table)) [ inl l ↦ inl l | inr g ↦ inr (let e = len in omega arith) ]
 
   table_ok' : IsTable table'
@@ -69,7 +69,7 @@ module _ (own : List (Option Constraint)) (equals : List (ℕ × ℕ)) (table : 
   }
 
   -- the representatives stay
-  root_below : (a : ℕ) → a < length table' → get_or class' a 0 < length table
+  pub root_below : (a : ℕ) → a < length table' → get_or class' a 0 < length table
   root_below a h = elim (below_cases a h) [
     | inl l ↦ subst (λ (z : ℕ). z < length table) (sym (class_old a l)) (state.classes.below a l)
     | inr e ↦ subst (λ (z : ℕ). z < length table) (sym (ap (λ (z : ℕ). get_or class' z 0) e ∙ class_new)) (state.classes.below f f_in)

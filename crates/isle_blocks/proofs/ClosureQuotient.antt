@@ -20,7 +20,7 @@ use Rattle.isle_blocks.specs.ClosureStates.{HasField, HasOwn, IsOpened, IsClosed
 use Rattle.isle_blocks.proofs.ClosureTrees.{one_number, at_below, at_field}
 
 -- a constraint with a field is a test that opens it
-of_variant_test : (name : Sym → List ℕ) (c : Constraint) (ty k n i : ℕ) → test_of name c ≡ variant_constraint ty k n → i < n → Opens c (Some k) i
+pub of_variant_test : (name : Sym → List ℕ) (c : Constraint) (ty k n i : ℕ) → test_of name c ≡ variant_constraint ty k n → i < n → Opens c (Some k) i
 of_variant_test name (tests.Variant t v f) ty k n i e l = let p : v.0 ≡ k = cc in let q : f.0 ≡ n = cc in (ap Some (sym p), omega arith)
 of_variant_test name (tests.Struct t f) ty k n i e l = absurd cc
 of_variant_test name (tests.ConstBool v t) ty k n i e l = absurd cc
@@ -28,7 +28,7 @@ of_variant_test name (tests.ConstInt v t) ty k n i e l = absurd cc
 of_variant_test name (tests.ConstPrim v) ty k n i e l = absurd cc
 of_variant_test name tests.Some ty k n i e l = absurd cc
 
-of_struct_test : (name : Sym → List ℕ) (c : Constraint) (ty n i : ℕ) → test_of name c ≡ struct_constraint ty n → i < n → Opens c None i
+pub of_struct_test : (name : Sym → List ℕ) (c : Constraint) (ty n i : ℕ) → test_of name c ≡ struct_constraint ty n → i < n → Opens c None i
 of_struct_test name (tests.Variant t v f) ty n i e l = absurd cc
 of_struct_test name (tests.Struct t f) ty n i e l = let q : f.0 ≡ n = cc in (refl, omega arith)
 of_struct_test name (tests.ConstBool v t) ty n i e l = absurd cc

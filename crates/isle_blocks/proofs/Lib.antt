@@ -49,3 +49,13 @@ pub mod ClosureGrowth
 pub mod ClosureFull
 -- Sites keep their numbers in a longer table.
 pub mod ClosureLonger
+-- What is merged in the grown table.
+pub mod ClosureSound
+-- All that follows is seen in a closed table.
+pub mod ClosureLeast
+-- More numbers than places.
+pub mod Pigeonhole
+-- The closure from its parts.
+pub mod ClosureWhole
+-- What a visit leaves is ready to be closed.
+pub mod ClosureReady

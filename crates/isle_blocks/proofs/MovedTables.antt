@@ -1,6 +1,6 @@
 -- What is moved into another table stands for the same sites there.
-use Rattle.std.proofs.Common.{◌≡◌, ◌<◌, ◌⊎◌, inl, inr, ℕ, zero, suc, List, [], ◌∷◌, ◌++◌, map, length, Option, Some, None, slice_get, get_or, unwrap_or, refl, sym}
-use Rattle.std.proofs.Common.{◌∙◌, ◌+◌, ◌≢◌, ap, subst, arith}
+use Rattle.std.proofs.Common.{◌≡◌, ◌<◌, inl, inr, ℕ, zero, suc, List, [], ◌∷◌, ◌++◌, map, length, Some, slice_get, get_or, unwrap_or, refl, sym}
+use Rattle.std.proofs.Common.{◌∙◌, ◌+◌, ap, subst, arith}
 use Rattle.std.specs.Prelude.{Contains}
 use Rattle.std.proofs.lemmas.List.{length-append}
 use Rattle.std.proofs.lemmas.Option.{slice_get_within, slice_get-get_or}
@@ -11,9 +11,9 @@ use Rattle.isle_terms.specs.Meaning.Sites.{Sites, no_sites, more_sites}
 use Rattle.isle_terms.specs.Meaning.Numbered.{Row, bool_row, int_row, prim_row, argument_row, extractor_row, constructor_row, iterator_row}
 use Rattle.isle_terms.specs.Meaning.Numbered.{make_variant_row, match_variant_row, make_struct_row, extract_struct_row, make_some_row}
 use Rattle.isle_terms.specs.Meaning.Numbered.{match_some_row, match_tuple_row, At, AtAll, AreRecorded}
-use Rattle.isle_terms.specs.Meaning.Demands.{Constraint, Demand, constrained, equal, Among}
+use Rattle.isle_terms.specs.Meaning.Demands.{Constraint, Demand, constrained, Among}
 use Rattle.isle_types.proofs.RootedTables.{Contains-map}
-use Rattle.isle_blocks.specs.RowTables.{sources, IsTable, IsMissing, IsEntered}
+use Rattle.isle_blocks.specs.RowTables.{sources, IsTable, IsEntered}
 use Rattle.isle_blocks.specs.MovedSites.{moved_row, place_in, Moves, none_moved, next_moved}
 
 -- each entry stands at its new number

@@ -1,5 +1,5 @@
 -- One more site moved.
-use Rattle.std.proofs.Common.{◌≡◌, ◌<◌, ◌+◌, ℕ, List, [], ◌∷◌, ◌++◌, length, get_or, take, Some, slice_get, refl, sym, subst}
+use Rattle.std.proofs.Common.{◌≡◌, ◌<◌, ◌+◌, ℕ, List, [], ◌∷◌, ◌++◌, length, get_or, take, refl, sym, subst}
 use Rattle.std.proofs.lemmas.Option.{slice_get_read}
 use Rattle.isle_types.proofs.DefinitionTurns.{take_here}
 use Rattle.isle_blocks.specs.declared.ids.BindingId.{BindingId}

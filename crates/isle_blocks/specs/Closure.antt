@@ -1,5 +1,5 @@
 -- What the closure of a rule's demands is.
-use Rattle.std.specs.Prelude.{◌≡◌, ◌<◌, ◌≤◌, ◌↔◌, ℕ, List, Option, Some, length, slice_get, slice_index}
+use Rattle.std.specs.Prelude.{◌≡◌, ◌<◌, ◌≤◌, ◌↔◌, ℕ, List, Option, Some, None, length, slice_get, slice_index}
 use Rattle.isle_types.specs.declared.ids.Sym.{Sym}
 use Rattle.isle_terms.specs.Meaning.Sites.{Site}
 use Rattle.isle_terms.specs.Meaning.Demands as meaning
@@ -9,9 +9,11 @@ use Rattle.isle_terms.specs.Meaning.Faults.{IsUnreachable}
 use Rattle.isle_terms.specs.Meaning.Numbered.{Row, At}
 use Rattle.isle_blocks.specs.declared.binding.Binding.{Binding}
 use Rattle.isle_blocks.specs.declared.constraint.Constraint.{Constraint}
-use Rattle.isle_blocks.specs.Rows.{rows_of, test_of}
+use Rattle.isle_blocks.specs.declared.ids.BindingId.{BindingId}
+use Rattle.isle_blocks.specs.declared.close.Closed.{Closed}
+use Rattle.isle_blocks.specs.Rows.{IsInjective, rows_of, test_of, pairs_of}
 use Rattle.isle_blocks.specs.ClosureFields.{IsTable}
-use Rattle.isle_blocks.specs.ClosureStates.{HasOwn}
+use Rattle.isle_blocks.specs.ClosureStates.{HasOwn, demanded_in}
 
 -- the site has a number
 abbrev pub Stands : List Row → Site → Type 0
@@ -39,3 +41,16 @@ pub record IsClosure (name : Sym → List ℕ) (D : Demand → Type 0) (old tabl
   pub same : (a b : ℕ) (s u : Site) → At (rows_of name table) s a → At (rows_of name table) u b → (slice_index class a ≡ slice_index class b) ↔ AreEqual D s u
   pub all_tested : (s : Site) (d : meaning.Constraint) → Derived D (constrained s d) → Stands (rows_of name table) s
   pub all_same : (s u : Site) → Derived D (equal s u) → Stands (rows_of name table) s × Stands (rows_of name table) u
+
+-- what holds of what is recorded of the table's sites, by whatever names
+abbrev pub ForRecorded : List Binding → List (BindingId × Constraint) → List (BindingId × BindingId) → ((Sym → List ℕ) → (Demand → Type 0) → Type 0) → Type 0
+ForRecorded table has same P = (name : Sym → List ℕ) → IsInjective name → P name (demanded_in name table has (pairs_of same))
+
+-- The demands come to nothing, as no values meet them, and the table stays; or to their closure.
+abbrev pub ClosesTo : List Binding → List (BindingId × Constraint) → List (BindingId × BindingId) → List Binding → Option Closed → Type 0
+ClosesTo old has same table None = ForRecorded old has same (λ name D. IsUnreachable D) × (table ≡ old)
+ClosesTo old has same table (Some closed) = ForRecorded old has same (λ name D. IsClosure name D old table closed.each.items closed.class.items)
+
+-- Some values meet the demands, but no table has room for all fields.
+abbrev pub LacksRoom : List Binding → List (BindingId × Constraint) → List (BindingId × BindingId) → Type 0
+LacksRoom old has same = ForRecorded old has same (λ name D. (IsUnreachable D → ⊥) × HasNoRoom D (rows_of name old))

@@ -9,7 +9,7 @@ use Rattle.isle_terms.specs.Meaning.Numbered.{At, Recorded}
 use Rattle.isle_blocks.specs.declared.ids.BindingId.{BindingId}
 use Rattle.isle_blocks.specs.declared.binding.Binding.{Binding}
 use Rattle.isle_blocks.specs.declared.constraint.Constraint.{Constraint}
-use Rattle.isle_blocks.specs.Rows.{IsInjective, rows_of, constraints_of}
+use Rattle.isle_blocks.specs.Rows.{IsInjective, rows_of, constraints_of, pairs_of}
 use Rattle.isle_blocks.specs.Tables.{IsAbsent}
 use Rattle.isle_blocks.specs.ClosureFields.{IsTable, Opens, field_binding}
 
@@ -234,3 +234,24 @@ pub record RunsOut (own : List (Option Constraint)) (t : List Binding) (c : List
   pub grows : Grows own t c u d
   pub full : length u ≡ 65536
   pub need : HasNeed own u d
+
+-- Closed classes: what is merged follows from the demands, what they ask is merged, and each child ranks below its site.
+pub record AreClosedClasses (table : List Binding) (equals : List (ℕ × ℕ)) (own : List (Option Constraint)) (class : List ℕ) : Type 0 where
+  pub classes : AreClasses (length table) class
+  pub sound : ForDemands table equals own (λ name D. IsSound name table D class)
+  pub closed : IsClosed table equals own class
+  pub ranked : IsRanked table own class
+
+-- the demands by number: each site's own test, and the classes of sites
+pub record IsReduced (table : List Binding) (has : List (BindingId × Constraint)) (same : List (BindingId × BindingId)) (own : List (Option Constraint))
+    (class : List ℕ) : Type 0 where
+  pub tests : AreOwn (length table) has own
+  pub classes : AreClosedClasses table (pairs_of same) own class
+
+-- all missing fields are added, and each site has the test of its representative
+pub record IsFinished (own : List (Option Constraint)) (old : List Binding) (first : List ℕ) (table : List Binding) (each : List (Option Constraint))
+    (class : List ℕ) : Type 0 where
+  pub grows : Grows own old first table class
+  pub full : (a : ℕ) → a < length table → HasFields own table class a
+  pub each_fits : length each ≡ length class
+  pub tested : (a : ℕ) → a < length class → slice_index_or each a None ≡ slice_index_or own (slice_index class a) None

@@ -1,5 +1,5 @@
 -- A rule's own sites moved into the table of its rule set, where they have other numbers.
-use Rattle.std.specs.Prelude.{◌≡◌, ℕ, List, [], ◌∷◌, ◌++◌, map, Option, Some, None, slice_get, take, unwrap_or}
+use Rattle.std.specs.Prelude.{◌≡◌, ℕ, List, [], ◌∷◌, ◌++◌, map, Some, slice_get, take, unwrap_or}
 use Rattle.isle_terms.specs.Meaning.Numbered.{Row, bool_row, int_row, prim_row, argument_row, extractor_row, constructor_row, iterator_row}
 use Rattle.isle_terms.specs.Meaning.Numbered.{make_variant_row, match_variant_row, make_struct_row, extract_struct_row, make_some_row}
 use Rattle.isle_terms.specs.Meaning.Numbered.{match_some_row, match_tuple_row}

@@ -1,4 +1,4 @@
-use Rattle.std.proofs.Common.{refl, sym, ap, subst, take, ◌∙◌}
+use Rattle.std.proofs.Common.{sym, ap, subst, take, ◌∙◌}
 use Rattle.isle_blocks.specs.MovedSites.{new_number, renumbered, MovesSites, no_sites_moved}
 use Rattle.isle_blocks.proofs.MovingTurns.{moved_more, ends_full}
 use Rattle.isle_blocks.proofs.moving.move_sites.Goals as goal

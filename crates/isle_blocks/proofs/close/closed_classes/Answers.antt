@@ -1,0 +1,26 @@
+use Rattle.std.proofs.Common.{ℕ, List, length, Option, inl, inr, subst, Vec, Global}
+use Rattle.std.specs.Prelude.{IfSome, IfNone}
+use Rattle.isle_terms.specs.Meaning.Faults.{Conflict}
+use Rattle.isle_blocks.specs.ClosureStates.{AreClasses, ForDemands, IsSound, HasLoop, demanded_in}
+use Rattle.isle_blocks.proofs.ClosureDemands.{owned}
+use Rattle.isle_blocks.proofs.ClosureLoops.{endless_of}
+use Rattle.isle_blocks.proofs.close.closed_classes.Goals as goal
+
+pub returns-in_default-clause-unreachable : goal.returns-in_default-clause-unreachable
+returns-in_default-clause-unreachable c = λ name injective has are.
+    let P : Type 0 = ForDemands c.args.sites.now c.args.equals.now c.args.own.now (λ name D. Conflict D) in
+    let clash : P = subst (λ (q : Option (Vec ℕ Global)). IfNone q P) c.in_default.is c.in_ok-class.ensures.clash in
+    inl (clash name injective has are)
+
+pub returns-else-branch-clause-unreachable : goal.returns-else-branch-clause-unreachable
+returns-else-branch-clause-unreachable c = λ name injective has are.
+    let table = c.args.sites.now in let own = c.args.own.now in let equals = c.args.equals.now in
+    let classes : AreClasses (length table) c.in-Some.class.items =
+    subst (λ (q : Option (Vec ℕ Global)). IfSome q (λ class. AreClasses (length table) class.items)) c.in-Some.is c.in_ok-class.ensures.classes in
+    let sound : ForDemands table equals own (λ name D. IsSound name table D c.in-Some.class.items) =
+    subst (λ (q : Option (Vec ℕ Global)). IfSome q (λ class. ForDemands table equals own (λ name D. IsSound name table D class.items))) c.in-Some.is
+    c.in_ok-class.ensures.sound in
+    let loop : HasLoop table own c.in-Some.class.items =
+    subst (λ (l : List ℕ). HasLoop table own l) c.deref.ensures.value (c.in_ok-is_finite.ensures.looped c.if-branch.false) in
+    inr (endless_of name table c.requires.table (demanded_in name table has equals) own c.in-Some.class.items classes
+    (owned name table equals own has are) (sound name injective has are) loop)
