@@ -1,5 +1,5 @@
 -- The closure of a rule's demands, from its parts.
-use Rattle.std.proofs.Common.{◌≡◌, ◌<◌, ◌≤◌, ◌++◌, ◌⊎◌, inl, inr, ℕ, suc, List, [], ◌∷◌, length, get_or, Option, Some, None, slice_get, refl, sym, ◌∙◌, ap, subst, arith, length-append}
+use Rattle.std.proofs.Common.{◌≡◌, ◌<◌, ◌≤◌, ◌++◌, inl, inr, ℕ, suc, List, [], ◌∷◌, length, get_or, Option, Some, None, slice_get, sym, ◌∙◌, ap, subst, arith, length-append}
 use Rattle.std.specs.Prelude.{Contains}
 use Rattle.std.proofs.lemmas.Bool.{cases_lt}
 use Rattle.isle_types.proofs.RootedTables.{Contains-map}
@@ -28,8 +28,7 @@ use Rattle.isle_blocks.proofs.ClosureLonger.{stays, stood}
 use Rattle.isle_blocks.proofs.ClosureGrowth.{grown_state, grown_longer}
 use Rattle.isle_blocks.proofs.ClosureSound.{grown_owns, grown_sound}
 use Rattle.isle_blocks.proofs.ClosureLeast.{shown, has_all_fields}
-use Rattle.isle_blocks.proofs.Building.Tables.{at_within}
-use Rattle.isle_blocks.proofs.Pigeonhole.{too_few_places}
+use Rattle.isle_blocks.proofs.FullTables.{no_more}
 
 -- recorded pairs stand in the table
 pub pairs_below : (table : List Binding) (has : List (BindingId × Constraint)) (same : List (BindingId × BindingId)) → IsReady table has same
@@ -152,10 +151,6 @@ module _ (name : Sym → List ℕ) (injective : IsInjective name) (old : List Bi
           subst (λ (z : Site). Stands rows z) (one_site (rows_of name table) u s k q p) (has_fields t u is)
     ]
 
-    -- the sites of the table, and behind them one more
-    abbrev IsListed : Site → ℕ → Site → Type 0
-    IsListed last i s = ((i < length table) × At (rows_of name table) s i) ⊎ ((i ≡ length table) × (s ≡ last))
-
     too_many : (s : ℕ) (kind : Option ℕ) (i f : ℕ) → IsMissingField own table class s kind i f → (rows : List Row) → length rows ≤ length table
         → ((s : Site) → Stands (rows_of name old) s → Stands rows s) → HasAllFields D rows → ⊥
     too_many s kind i f needed rows fits has_old has_fields =
@@ -165,24 +160,7 @@ module _ (name : Sym → List ℕ) (injective : IsInjective name) (old : List Bi
         let missing : (k : ℕ) → At (rows_of name table) last k → ⊥ =
         λ k p. let (a, e, q) = at_field name table injective kind t i k p in
         needed.missing k (subst (λ (z : ℕ). slice_get table k ≡ Some (field_binding kind z i)) (one_number name table injective ok t a s q at_s) e) in
-        let placed : (x : Site) → Stands rows x → (k : ℕ) × (k < length table) × At rows x k = λ x (k, p). (k, omega (arith, at_within rows x k p), p) in
-        too_few_places (length table) (λ j k. (x : Site) × IsListed last j x × At rows x k)
-        (λ j h. elim (cases_lt j (length table)) [
-          | inl less ↦
-              let (x, p) = stands name table ok j less in
-              let (k, l, q) = placed x (wanted rows has_old has_fields j x p) in (k, l, (x, inl (less, p), q))
-          | inr more ↦ let (k, l, q) = placed last (has_fields t last is) in (k, l, (last, inr (omega arith, refl), q))
-        ])
-        (λ j l k hj hl (x, px, qx) (y, py, qy). let same_xy : x ≡ y = one_site rows x y k qx qy in elim px [
-          | inl (jl, pj) ↦ elim py [
-            | inl (ll, pl) ↦ one_number name table injective ok y j l (subst (λ (z : Site). At (rows_of name table) z j) same_xy pj) pl
-            | inr (e, is_last) ↦ absurd (missing j (subst (λ (z : Site). At (rows_of name table) z j) (same_xy ∙ is_last) pj))
-          ]
-          | inr (e, is_last) ↦ elim py [
-            | inl (ll, pl) ↦ absurd (missing l (subst (λ (z : Site). At (rows_of name table) z l) (sym same_xy ∙ is_last) pl))
-            | inr (e', is_last') ↦ omega arith
-          ]
-        ])
+        no_more name injective table ok last missing rows fits (wanted rows has_old has_fields) (has_fields t last is)
 
     pub no_room : length table ≡ 65536 → HasNeed own table class → HasNoRoom D (rows_of name old)
     no_room full need rows fits has_old has_fields =

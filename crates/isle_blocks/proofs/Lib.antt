@@ -55,7 +55,13 @@ pub mod ClosureSound
 pub mod ClosureLeast
 -- More numbers than places.
 pub mod Pigeonhole
+-- A full table has no room.
+pub mod FullTables
 -- The closure from its parts.
 pub mod ClosureWhole
 -- What a visit leaves is ready to be closed.
 pub mod ClosureReady
+-- A rule's own sites in its rule set's table.
+pub mod Placed
+-- What there is no room for.
+pub mod PlacedRoom

@@ -16,7 +16,7 @@ use Rattle.isle_blocks.specs.MovedSites.{none_moved, next_moved}
 use Rattle.isle_blocks.proofs.RowsInjective.{row-injective}
 
 -- a site's new number, as a number
-new_place : (ids : List BindingId) (id : BindingId) → (new_number ids id).0 ≡ place_in (numbers_of ids) id.0
+pub new_place : (ids : List BindingId) (id : BindingId) → (new_number ids id).0 ≡ place_in (numbers_of ids) id.0
 new_place ids id = go (slice_get ids id.0) refl
   where
     go : (o : Option BindingId) → slice_get ids id.0 ≡ o → (unwrap_or (slice_get ids id.0) id).0 ≡ unwrap_or (slice_get (numbers_of ids) id.0) id.0

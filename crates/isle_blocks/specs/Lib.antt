@@ -30,3 +30,5 @@ pub mod ClosedRules
 pub mod ClosureStates
 -- What the closure of a rule's demands is.
 pub mod Closure
+-- A rule's demands in the table of its rule set.
+pub mod Placing

@@ -1,5 +1,5 @@
 //! The closure of a rule's demands.
-ghost use Rattle.std.specs.Prelude.{◌≡◌, ◌<◌, ◌≤◌, ℕ, List, Option, IfOk, IfErr, IfSome, IfNone, None, length, slice_index, slice_index_or, vec_len};
+ghost use Rattle.std.specs.Prelude.{◌≡◌, ◌<◌, ◌≤◌, ℕ, List, Option, true, false, IfOk, IfErr, IfSome, IfNone, None, length, slice_index, slice_index_or, vec_len};
 ghost use Rattle.isle_terms.specs.Meaning.Faults.{IsUnreachable};
 ghost use Rattle.isle_blocks.specs.ClosureFields.{IsTable};
 ghost use Rattle.isle_blocks.specs.ClosureStates.{IsReady, ArePairsBelow, ForDemands, AreClosedClasses, IsReduced, IsState, IsFinished, RunsOut};
@@ -75,6 +75,23 @@ fn reduce(
         Some(class) => Ok(Some(Reduced { own, class })),
         None => Ok(None),
     }
+}
+
+/// Whether some values meet what is demanded of the sites.
+pub(crate) fn is_reachable(
+    alloc: Global,
+    sites: &Sites,
+    has: &[(BindingId, Constraint)],
+    same: &[(BindingId, BindingId)],
+) -> Result<bool, AllocError>
+    requires { IsReady sites.now has.now same.now }
+    ensures yes { IfOk result (λ yes. yes ≡ true → ForRecorded sites.now has.now same.now (λ name D. IsUnreachable D → ⊥)) }
+    ensures no { IfOk result (λ yes. yes ≡ false → ForRecorded sites.now has.now same.now (λ name D. IsUnreachable D)) }
+{
+    let Some(_reduced) = reduce(alloc, sites, has, same)? else {
+        return Ok(false);
+    };
+    Ok(true)
 }
 
 /// The test of each site: that of its representative.

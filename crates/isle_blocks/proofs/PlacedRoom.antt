@@ -1,0 +1,107 @@
+-- Where a rule isn't placed for want of room, no table has room for it.
+use Rattle.std.proofs.Common.{◌≡◌, ◌<◌, ◌≤◌, ◌++◌, ◌+◌, inl, inr, ℕ, List, [], ◌∷◌, length, Some, take, slice_get, refl, sym, ◌∙◌, ap, subst, arith, length-append, length-take-le}
+use Rattle.isle_types.proofs.Lists.{from_take, slice_get-kept}
+use Rattle.std.proofs.lemmas.Option.{slice_get_within, get_or_from_slice_get}
+use Rattle.std.proofs.lemmas.List.{length-map, map-append}
+use Rattle.isle_types.proofs.DefinitionTurns.{take_here}
+use Rattle.isle_types.specs.declared.ids.Sym.{Sym}
+use Rattle.isle_terms.specs.Meaning.Sites.{Site}
+use Rattle.isle_terms.specs.Meaning.Demands.{Demand, constrained, Among, variant_constraint, struct_constraint}
+use Rattle.isle_terms.specs.Meaning.Derived.{FieldOf, of_variant, of_struct}
+use Rattle.isle_terms.specs.Meaning.Faults.{IsUnreachable}
+use Rattle.isle_terms.specs.Meaning.Numbered.{At, AreRecorded}
+use Rattle.isle_terms.proofs.Meaning.Numbering.{numbers_say_demands}
+use Rattle.isle_blocks.specs.declared.ids.BindingId.{BindingId}
+use Rattle.isle_blocks.specs.declared.binding.Binding.{Binding}
+use Rattle.isle_blocks.specs.declared.constraint.Constraint.{Constraint}
+use Rattle.isle_blocks.specs.Rows.{IsInjective, row_of, rows_of, numbers_of, constraints_of, pairs_of}
+use Rattle.isle_blocks.specs.Tables.{IsInterned}
+use Rattle.isle_blocks.specs.MovedSites.{new_number, renumbered, place_in, MovesSites, next_site_moved, EndsFull}
+use Rattle.isle_blocks.specs.ClosureFields.{IsTable}
+use Rattle.isle_blocks.specs.ClosureStates.{demanded_in}
+use Rattle.isle_blocks.specs.Closure.{HasNoRoom}
+use Rattle.isle_blocks.specs.Placing.{HasNoRoomFor}
+use Rattle.isle_blocks.proofs.ClosureTrees.{stands, at_below, one_number}
+use Rattle.isle_blocks.proofs.ClosureLonger.{stays, stood}
+use Rattle.isle_blocks.proofs.MovedTables.{as_many}
+use Rattle.isle_blocks.proofs.MovedRows.{moved_rows}
+use Rattle.isle_blocks.proofs.FullTables.{no_more}
+use Rattle.isle_blocks.proofs.Placed.{after_ok, to_at, all_known, place_new}
+
+-- what is recorded says the demands
+module _ (name : Sym → List ℕ) (table : List Binding) (has : List (BindingId × Constraint)) (same : List (BindingId × BindingId)) (ds : List Demand)
+    (are : AreRecorded (rows_of name table) (constraints_of name has) (pairs_of same) ds) where
+  pub dead_recorded : IsUnreachable (demanded_in name table has (pairs_of same)) → IsUnreachable (Among ds)
+  dead_recorded = (numbers_say_demands (rows_of name table) (constraints_of name has) (pairs_of same) ds are).1.0
+
+  pub recorded_dead : IsUnreachable (Among ds) → IsUnreachable (demanded_in name table has (pairs_of same))
+  recorded_dead = (numbers_say_demands (rows_of name table) (constraints_of name has) (pairs_of same) ds are).1.1
+
+  pub field_recorded : (s u : Site) → FieldOf (demanded_in name table has (pairs_of same)) s u → FieldOf (Among ds) s u
+  field_recorded s u (of_variant {ty = ty} {k = k} {n = n} d l) =
+      of_variant (((numbers_say_demands (rows_of name table) (constraints_of name has) (pairs_of same) ds are).0 (constrained s (variant_constraint ty k n))).0 d) l
+  field_recorded s u (of_struct {ty = ty} {n = n} d l) =
+      of_struct (((numbers_say_demands (rows_of name table) (constraints_of name has) (pairs_of same) ds are).0 (constrained s (struct_constraint ty n))).0 d) l
+
+-- the beginning of a table is one
+prefix_ok : (own : List Binding) → IsTable own → (n : ℕ) → IsTable (take n own)
+prefix_ok own ok n = record {
+  earlier = λ k site part e c. ok.earlier k site part (from_take own n k site e) c;
+  once = λ site j k p q. ok.once site j k (from_take own n j site p) (from_take own n k site q);
+}
+
+-- a site that is put behind a table has no number in it
+placed_last : (base first after : List Binding) (numbers : List BindingId) → MovesSites base first numbers after → (site : Binding) (more : List Binding)
+    (id : BindingId) → MovesSites base (first ++ site ∷ []) (numbers ++ id ∷ []) more → (base_ok : IsTable base) (second_ok : IsTable (first ++ site ∷ []))
+    (name : Sym → List ℕ) → IsInjective name → (t : Site) (k place : ℕ) → length first ≡ place → id.0 ≡ length after
+    → At (rows_of name (first ++ site ∷ [])) t place → At (rows_of name more) t k → k < length after → ⊥
+placed_last base first after numbers moves site more id moved base_ok second_ok name injective t k place len last at p low =
+    let ids = numbers_of numbers in
+    let many : length ids ≡ place = as_many (moved_rows name injective moves) ∙ length-map first (row_of name) ∙ len in
+    let to : place_in (numbers_of (numbers ++ id ∷ [])) place ≡ id.0 =
+    ap (λ (l : List ℕ). place_in l place) (map-append (λ (x : BindingId). x.0) numbers (id ∷ []))
+    ∙ ap (place_in (ids ++ id.0 ∷ [])) (sym many) ∙ place_new ids id.0 in
+    let q = to_at base (first ++ site ∷ []) more (numbers ++ id ∷ []) moved base_ok second_ok name injective t place at in
+    let ok = after_ok base (first ++ site ∷ []) more (numbers ++ id ∷ []) moved base_ok second_ok name injective in
+    let same : k ≡ place_in (numbers_of (numbers ++ id ∷ [])) place =
+    one_number name more injective ok t k (place_in (numbers_of (numbers ++ id ∷ [])) place) p q in
+    omega arith
+
+module _ (base own : List Binding) (base_ok : IsTable base) (own_ok : IsTable own) (name : Sym → List ℕ) (injective : IsInjective name) (ds : List Demand) where
+  -- what the closed table has no room for
+  pub closing_lacks_room : (after : List Binding) (numbers : List BindingId) → MovesSites base own numbers after → (has : List (BindingId × Constraint))
+      (same : List (BindingId × BindingId)) → AreRecorded (rows_of name after) (constraints_of name has) (pairs_of same) ds
+      → HasNoRoom (demanded_in name after has (pairs_of same)) (rows_of name after) → HasNoRoomFor name ds base own
+  closing_lacks_room after numbers moves has same are lacks rows fits has_base has_own has_fields =
+      lacks rows fits
+      (λ s (k, p). elim (all_known base own after numbers moves base_ok own_ok name injective s k p) [ inl x ↦ has_base s x | inr x ↦ has_own s x ])
+      (λ s u f. has_fields s u (field_recorded name after has same ds are s u f))
+
+  -- what the moved sites have no room for
+  pub moving_lacks_room : (after : List Binding) → EndsFull base own after → HasNoRoomFor name ds base own
+  moving_lacks_room after ends rows fits has_base has_own has_fields =
+      let first = take ends.place own in
+      let first_ok = prefix_ok own own_ok ends.place in
+      let moves : MovesSites base first ends.numbers after = ends.moved in
+      let ok = after_ok base first after ends.numbers moves base_ok first_ok name injective in
+      let inside = slice_get_within own ends.place ends.site ends.at in
+      let here : take (ends.place + 1) own ≡ first ++ ends.site ∷ [] =
+      take_here own ends.place ends.site inside (sym (get_or_from_slice_get own ends.place ends.site ends.site ends.at)) in
+      let (t, at_t) = stands name own own_ok ends.place inside in
+      let more = after ++ renumbered (new_number ends.numbers) ends.site ∷ [] in
+      let id : BindingId = record { 0 = length after } in
+      let put : IsInterned after (renumbered (new_number ends.numbers) ends.site) id more = inr (ends.full.0, refl, refl) in
+      let moved : MovesSites base (first ++ ends.site ∷ []) (ends.numbers ++ id ∷ []) more = next_site_moved ends.site id more moves put in
+      let second_ok : IsTable (first ++ ends.site ∷ []) = subst IsTable here (prefix_ok own own_ok (ends.place + 1)) in
+      let missing : (k : ℕ) → At (rows_of name after) t k → ⊥ = λ k p. placed_last base first after ends.numbers moves ends.site more id moved base_ok second_ok name injective t k ends.place
+      (length-take-le ends.place own (omega arith)) refl
+      (stood name (first ++ ends.site ∷ []) own (λ i b e. from_take own (ends.place + 1) i b (subst (λ (l : List Binding). slice_get l i ≡ Some b) (sym here) e))
+      second_ok t ends.place at_t (let l = length-take-le ends.place own (omega arith) in simp length-append (omega arith)))
+      (stays name after more (λ i b e. slice_get-kept after (renumbered (new_number ends.numbers) ends.site ∷ []) i b e) t k p)
+      (at_below name after t k p) in
+      no_more name injective after ok t missing rows (subst (λ (n : ℕ). length rows ≤ n) (sym ends.full.1) fits)
+      (λ k s p. elim (all_known base first after ends.numbers moves base_ok first_ok name injective s k p) [
+        | inl x ↦ has_base s x
+        | inr (j, q) ↦ has_own s (j, stays name first own (λ i b e. from_take own ends.place i b e) s j q)
+      ])
+      (has_own t (ends.place, at_t))
