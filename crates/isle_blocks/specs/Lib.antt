@@ -32,3 +32,5 @@ pub mod ClosureStates
 pub mod Closure
 -- A rule's demands in the table of its rule set.
 pub mod Placing
+-- The multi calls of a rule.
+pub mod Assembly

@@ -9,7 +9,7 @@ use isle_syntax::Seq;
 use std::alloc::{AllocError, Global};
 
 /// The number that a site has got; its own where it has got none.
-fn moved(numbers: &[BindingId], id: BindingId) -> BindingId
+pub(crate) fn moved(numbers: &[BindingId], id: BindingId) -> BindingId
     ensures { result ≡ new_number numbers.now id }
 {
     match numbers.get(id.index()) {
