@@ -49,3 +49,7 @@ pub mod ClosureGrowth
 pub mod ClosureFull
 -- Sites keep their numbers in a longer table.
 pub mod ClosureLonger
+-- The tests of a closed rule, site after site.
+pub mod NormalTests
+-- The sets of equal sites of a closed rule, site after site.
+pub mod NormalSets

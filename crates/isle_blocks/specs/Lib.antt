@@ -30,3 +30,5 @@ pub mod ClosedRules
 pub mod ClosureStates
 -- What the closure of a rule's demands is.
 pub mod Closure
+-- The tests and the equal sites of a closed rule.
+pub mod NormalRules

@@ -9,6 +9,7 @@ mod faults;
 mod ids;
 pub mod laws;
 mod moving;
+mod normal;
 mod report;
 mod rule;
 mod sites;
