@@ -65,3 +65,7 @@ pub mod ClosureReady
 pub mod Placed
 -- What there is no room for.
 pub mod PlacedRoom
+-- The tests of a closed rule, site after site.
+pub mod NormalTests
+-- The sets of equal sites of a closed rule, site after site.
+pub mod NormalSets

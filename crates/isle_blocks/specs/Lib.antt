@@ -34,3 +34,5 @@ pub mod Closure
 pub mod Placing
 -- The multi calls of a rule.
 pub mod Assembly
+-- The tests and the equal sites of a closed rule.
+pub mod NormalRules

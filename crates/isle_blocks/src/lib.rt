@@ -11,6 +11,7 @@ mod ids;
 pub mod laws;
 mod moving;
 mod placing;
+mod normal;
 mod report;
 mod rule;
 mod sites;

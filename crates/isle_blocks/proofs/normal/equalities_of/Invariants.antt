@@ -1,0 +1,5 @@
+use Rattle.isle_blocks.proofs.NormalSets.{AreSetsBelow}
+use Rattle.isle_blocks.proofs.normal.equalities_of.Given as goal
+
+abbrev pub invariant-loop-k : goal.invariant-loop-k
+invariant-loop-k l = AreSetsBelow l.each l.class l.k l.equals

@@ -1,0 +1,37 @@
+-- The tests and the sets of equal sites of a closed rule, from each site's test and each site's representative.
+use Rattle.std.specs.Prelude.{◌≡◌, ◌≢◌, ◌<◌, ◌↔◌, ℕ, Bool, true, List, [], length, Contains, Option, None, slice_index, slice_index_or, nat_eq}
+use Rattle.isle_types.specs.JoinedSets.{are_joined, members}
+use Rattle.isle_blocks.specs.declared.ids.BindingId.{BindingId}
+use Rattle.isle_blocks.specs.declared.constraint.Constraint.{Constraint}
+use Rattle.isle_blocks.specs.ClosureStates.{HasOwn}
+
+-- sites are equal as their numbers
+abbrev pub site_eq : BindingId → BindingId → Bool
+site_eq a b = nat_eq a.0 b.0
+
+-- the tests are those of the sites, each at its site's number
+abbrev pub AreTestsOf : List (Option Constraint) → List (BindingId × Constraint) → Type 0
+AreTestsOf each tests = (id : BindingId) (test : Constraint) → Contains tests (id, test) ↔ HasOwn each id.0 test
+
+-- each site has the test of its representative
+abbrev pub HaveClassTests : List (Option Constraint) → List ℕ → Type 0
+HaveClassTests each class = (a : ℕ) → a < length class → slice_index_or each a None ≡ slice_index_or each (slice_index class a) None
+
+-- a site without a test
+pub record IsUntested (each : List (Option Constraint)) (class : List ℕ) (a : ℕ) : Type 0 where
+  pub inside : a < length class
+  pub untested : slice_index_or each a None ≡ None
+
+-- a different site is of the same class
+abbrev pub HasAnother : List ℕ → ℕ → Type 0
+HasAnother class a = (b : ℕ) × (b < length class) × (b ≢ a) × (slice_index class b ≡ slice_index class a)
+
+-- two sites of one class without a test
+abbrev pub MustBeEqual : List (Option Constraint) → List ℕ → ℕ → ℕ → Type 0
+MustBeEqual each class a b = IsUntested each class a × IsUntested each class b × (slice_index class a ≡ slice_index class b)
+
+-- The sets are the classes of sites without a test that have two sites at least.
+pub record AreEqualitiesOf (each : List (Option Constraint)) (class : List ℕ) (sets : List (List BindingId)) : Type 0 where
+  pub joined : (a b : BindingId) → a ≢ b → (are_joined site_eq sets a b ≡ true) ↔ MustBeEqual each class a.0 b.0
+  pub member : (a : BindingId) → Contains (members sets) a ↔ (IsUntested each class a.0 × HasAnother class a.0)
+  pub none : ((a : ℕ) → IsUntested each class a → HasAnother class a → ⊥) → sets ≡ []
