@@ -49,3 +49,7 @@ pub mod ClosureGrowth
 pub mod ClosureFull
 -- Sites keep their numbers in a longer table.
 pub mod ClosureLonger
+-- Lists in which nothing stands twice, and how many they are.
+pub mod Counting
+-- A rule's equalities and tests are those of its demands, and as many.
+pub mod ClosedEqualities
