@@ -15,7 +15,7 @@ use Rattle.isle_blocks.specs.Rules.{Tests, AreApart, AreWithin}
 use Rattle.isle_blocks.specs.ClosedRules.{StandOnce, AreDerived, NumbersSayDiffer, NumbersSayWithin}
 use Rattle.isle_blocks.proofs.RowsInjective.{test-injective}
 
-same_id : (a b : BindingId) → a.0 ≡ b.0 → a ≡ b
+pub same_id : (a b : BindingId) → a.0 ≡ b.0 → a ≡ b
 same_id a b e i = record { 0 = e i }
 
 module _ (name : Sym → List ℕ) (injective : IsInjective name) (rows : List Row) (once : StandOnce rows) (D E : Demand → Type 0)

@@ -69,3 +69,7 @@ pub mod PlacedRoom
 pub mod NormalTests
 -- The sets of equal sites of a closed rule, site after site.
 pub mod NormalSets
+-- Lists in which nothing stands twice, and how many they are.
+pub mod Counting
+-- A rule's equalities and tests are those of its demands, and as many.
+pub mod ClosedEqualities

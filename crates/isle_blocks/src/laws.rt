@@ -8,12 +8,19 @@ ghost use Rattle.isle_blocks.specs.declared.ids.TupleIndex.{TupleIndex};
 ghost use Rattle.isle_blocks.specs.declared.ids.BindingId.{BindingId};
 ghost use Rattle.isle_blocks.specs.declared.binding.Binding.{Binding as Site};
 ghost use Rattle.isle_blocks.specs.declared.constraint.Constraint.{Constraint as Test};
-ghost use Rattle.isle_blocks.specs.ClosedRules.{NumbersSayDiffer, NumbersSayWithin};
+ghost use Rattle.std.specs.List.Sorted.{IsStrictlySortedBy};
+ghost use Rattle.std.specs.Map.{keys_of};
+ghost use Rattle.isle_types.specs.JoinedSets.{AreDisjoint};
+ghost use Rattle.isle_blocks.specs.ClosedRules.{NumbersSayCount, NumbersSayDiffer, NumbersSayFree, NumbersSayOverlaps};
+ghost use Rattle.isle_blocks.specs.ClosedRules.{NumbersSayShadows, NumbersSaySubset, NumbersSayTotal, NumbersSayWithin, same_site};
+ghost use Rattle.isle_blocks.specs.Rules.{site_cmp};
 ghost use Rattle.isle_blocks.specs.Orders.{binding_order, constraint_order};
 
 use crate::binding::Binding;
 use crate::constraint::Constraint;
 use crate::ids::{BindingId, TupleIndex};
+use crate::rule::Rule;
+use isle_types::{sets_are_disjoint, sorted_keys_ascend};
 
 /// `TupleIndex`es are compared and hashed as their numbers.
 pub fn tuple_indices_are_numbers()
@@ -53,8 +60,24 @@ pub fn entries_are_injective()
     ensures tests { (name : Sym → List ℕ) → IsInjective name → (a b : Test) → test_of name a ≡ test_of name b → a ≡ b }
 {}
 
-/// Rules differ, and one's tests stand in the other, exactly where their demands say so.
+/// A rule tests no site twice, and its equalities are sets of two sites at least that share none.
+pub fn rules_are_well_formed(rule: &Rule)
+    ensures ascending { IsStrictlySortedBy site_cmp (keys_of rule.now.constraints) }
+    ensures disjoint { AreDisjoint same_site rule.now.equals }
+{
+    sorted_keys_ascend(&rule.constraints);
+    sets_are_disjoint(&rule.equals);
+}
+
+/// Rules that follow from demands differ, overlap and shadow each other exactly where the demands do, and their tests and
+/// equalities are as many.
 pub fn numbers_say_faults()
     ensures differ { NumbersSayDiffer }
     ensures within { NumbersSayWithin }
+    ensures free { NumbersSayFree }
+    ensures counts { NumbersSayCount }
+    ensures total { NumbersSayTotal }
+    ensures subset { NumbersSaySubset }
+    ensures overlaps { NumbersSayOverlaps }
+    ensures shadows { NumbersSayShadows }
 {}
