@@ -221,7 +221,11 @@ module _ (name : Sym → List ℕ) (injective : IsInjective name) (old : List Bi
         fields = let s = after table class grows in
             has_all_fields name injective table s.table_ok D (pairs_of same) own class all_after given_after s.closed s.fields full;
         each_fits = each_fits ∙ (after table class grows).classes.fits;
-        class_fits = (after table class grows).classes.fits;
+        classes = (after table class grows).classes;
+        class_tests = λ a h.
+            let s = after table class grows in let fits = s.classes.fits in
+            let low = s.classes.below a (omega arith) in let flat = s.classes.flat a (omega arith) in
+            spread a h ∙ sym (spread (get_or class a 0) (omega arith) ∙ ap (λ (z : ℕ). get_or own z None) flat);
         tested = λ a t d p. (
           λ (c, h, e). subst (λ (z : meaning.Constraint). Derived D (constrained t z)) e (class_has table class grows a t c p (sym (each_at a t p) ∙ h)),
           λ h. let (b, c, q, has_c, e) = tests_shown t d h in

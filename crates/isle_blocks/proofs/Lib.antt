@@ -73,3 +73,5 @@ pub mod NormalSets
 pub mod Counting
 -- A rule's equalities and tests are those of its demands, and as many.
 pub mod ClosedEqualities
+-- A placed rule is what follows from its demands.
+pub mod Assembled

@@ -1,5 +1,17 @@
--- The multi calls of a rule.
-use Rattle.std.specs.Prelude.{Option, Some, None}
+-- A rule of a rule set, made of what a visit leaves.
+use Rattle.std.specs.Prelude.{◌≡◌, ◌⊎◌, ℕ, List, Option, Some, None}
+use Rattle.isle_types.specs.declared.ids.Sym.{Sym}
+use Rattle.isle_terms.specs.declared.rules.Rule as source
+use Rattle.isle_terms.specs.Meaning.Sites.{Site}
+use Rattle.isle_terms.specs.Meaning.Demands.{Demand, Among}
+use Rattle.isle_terms.specs.Meaning.Derived.{FieldOf}
+use Rattle.isle_terms.specs.Meaning.Faults.{IsUnreachable}
+use Rattle.isle_terms.specs.Meaning.Numbered.{At}
+use Rattle.isle_blocks.specs.declared.rule.Rule.{Rule}
+use Rattle.isle_blocks.specs.Rows.{rows_of}
+use Rattle.isle_blocks.specs.Closure.{Stands, HasAllFields}
+use Rattle.isle_blocks.specs.ClosedRules.{IsClosedRule}
+use Rattle.isle_blocks.specs.Building.Standing.{StandEach}
 use Rattle.isle_blocks.specs.declared.ids.BindingId.{BindingId}
 use Rattle.isle_blocks.specs.declared.binding.Binding.{Binding}
 use Rattle.isle_blocks.specs.declared.binding.Binding.TheVariants.{ConstBool, ConstInt, ConstPrim, Argument, Extractor, Constructor, Iterator}
@@ -22,3 +34,31 @@ multi_call to (ExtractStruct source field) = None
 multi_call to (MakeSome inner) = None
 multi_call to (MatchSome source) = None
 multi_call to (MatchTuple source field) = None
+
+-- what is told of a rule as it is written: its number, position, priority and name
+pub record IsToldOf (source : source.Rule) (made : Rule) : Type 0 where
+  pub id : made.id ≡ source.id
+  pub pos : made.pos ≡ source.pos
+  pub prio : made.prio ≡ source.prio
+  pub name : made.name ≡ source.name
+
+-- a site of the table was there, is one of the rule's own, or is a field that the rule's demands open
+abbrev pub IsExplained : (Sym → List ℕ) → List Demand → List Binding → List Binding → Site → Type 0
+IsExplained name ds base own s = Stands (rows_of name base) s ⊎ Stands (rows_of name own) s ⊎ ((t : Site) × FieldOf (Among ds) t s)
+
+-- The rule in its rule set: what follows from its demands, over a table that has the sites that stood, its own, and all fields that it opens.
+pub record IsAssembledRule (name : Sym → List ℕ) (ds : List Demand) (base own : List Binding) (impure : List BindingId) (result : BindingId)
+    (table : List Binding) (made : Rule) : Type 0 where
+  pub reachable : IsUnreachable (Among ds) → ⊥
+  pub closed : IsClosedRule name (rows_of name table) (Among ds) made
+  pub kept : (s : Site) (k : ℕ) → At (rows_of name base) s k → At (rows_of name table) s k
+  pub own_stand : (s : Site) → Stands (rows_of name own) s → Stands (rows_of name table) s
+  pub fields : HasAllFields (Among ds) (rows_of name table)
+  pub explained : (s : Site) → Stands (rows_of name table) s → IsExplained name ds base own s
+  pub value : (s : Site) → At (rows_of name own) s result.0 → At (rows_of name table) s made.result.0
+  pub effects : (ss : List Site) → StandEach (rows_of name own) impure ss → StandEach (rows_of name table) made.impure ss
+
+-- No values meet the rule's demands, and the table stays; or the rule is made.
+abbrev pub IsAssembled : (Sym → List ℕ) → List Demand → List Binding → List Binding → List BindingId → BindingId → List Binding → Option Rule → Type 0
+IsAssembled name ds base own impure result table None = IsUnreachable (Among ds) × (table ≡ base)
+IsAssembled name ds base own impure result table (Some made) = IsAssembledRule name ds base own impure result table made

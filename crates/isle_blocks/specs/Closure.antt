@@ -13,7 +13,8 @@ use Rattle.isle_blocks.specs.declared.ids.BindingId.{BindingId}
 use Rattle.isle_blocks.specs.declared.close.Closed.{Closed}
 use Rattle.isle_blocks.specs.Rows.{IsInjective, rows_of, test_of, pairs_of}
 use Rattle.isle_blocks.specs.ClosureFields.{IsTable}
-use Rattle.isle_blocks.specs.ClosureStates.{HasOwn, demanded_in}
+use Rattle.isle_blocks.specs.ClosureStates.{HasOwn, AreClasses, demanded_in}
+use Rattle.isle_blocks.specs.NormalRules.{HaveClassTests}
 
 -- the site has a number
 abbrev pub Stands : List Row → Site → Type 0
@@ -35,7 +36,8 @@ pub record IsClosure (name : Sym → List ℕ) (D : Demand → Type 0) (old tabl
   pub added : (k : ℕ) → length old ≤ k → k < length table → (s : Site) × (u : Site) × FieldOf D s u × At (rows_of name table) u k
   pub fields : HasAllFields D (rows_of name table)
   pub each_fits : length each ≡ length table
-  pub class_fits : length class ≡ length table
+  pub classes : AreClasses (length table) class
+  pub class_tests : HaveClassTests each class
   pub tested : (a : ℕ) (s : Site) (d : meaning.Constraint) → At (rows_of name table) s a
       → ((c : Constraint) × HasOwn each a c × (test_of name c ≡ d)) ↔ Derived D (constrained s d)
   pub same : (a b : ℕ) (s u : Site) → At (rows_of name table) s a → At (rows_of name table) u b → (slice_index class a ≡ slice_index class b) ↔ AreEqual D s u

@@ -32,7 +32,7 @@ pub mod ClosureStates
 pub mod Closure
 -- A rule's demands in the table of its rule set.
 pub mod Placing
--- The multi calls of a rule.
+-- A rule of a rule set, made of what a visit leaves.
 pub mod Assembly
 -- The tests and the equal sites of a closed rule.
 pub mod NormalRules

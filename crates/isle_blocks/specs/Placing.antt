@@ -10,7 +10,8 @@ use Rattle.isle_blocks.specs.declared.binding.Binding.{Binding}
 use Rattle.isle_blocks.specs.declared.constraint.Constraint.{Constraint}
 use Rattle.isle_blocks.specs.declared.placing.PlacedRule.{PlacedRule}
 use Rattle.isle_blocks.specs.Rows.{IsInjective, rows_of, constraints_of, pairs_of}
-use Rattle.isle_blocks.specs.ClosureStates.{demanded_in}
+use Rattle.isle_blocks.specs.ClosureStates.{AreClasses, demanded_in}
+use Rattle.isle_blocks.specs.NormalRules.{HaveClassTests}
 use Rattle.isle_blocks.specs.Closure.{Stands, HasAllFields, IsClosure}
 use Rattle.isle_blocks.specs.MovedSites.{MovesSites}
 
@@ -40,3 +41,9 @@ abbrev pub HasNoRoomFor : (Sym → List ℕ) → List Demand → List Binding �
 HasNoRoomFor name ds base own =
     (table : List Row) → length table ≤ 65536 → ((s : Site) → Stands (rows_of name base) s → Stands table s)
     → ((s : Site) → Stands (rows_of name own) s → Stands table s) → HasAllFields (Among ds) table → ⊥
+
+-- each site of the table has its test and its representative, which has the same test
+pub record AreSettled (table : List Binding) (each : List (Option Constraint)) (class : List ℕ) : Type 0 where
+  pub fits : length each ≡ length table
+  pub classes : AreClasses (length table) class
+  pub tests : HaveClassTests each class

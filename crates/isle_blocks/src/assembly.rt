@@ -1,15 +1,29 @@
-//! Parts of a rule of a rule set: its multi calls, and the site of its result.
-ghost use Rattle.std.specs.Prelude.{◌≡◌, true, false, IfOk, OnErr, IfErr, IsPermutation, IsSorted};
+//! Rules of a rule set, made of what visits leave.
+ghost use Rattle.std.specs.Prelude.{◌≡◌, ◌≤◌, true, false, IfOk, IfSome, OnErr, IfErr, IsPermutation, IsSorted, length, map};
 ghost use Rattle.std.specs.List.{filter_map};
+ghost use Rattle.std.specs.List.Sorted.{IsStrictlySortedBy};
+ghost use Rattle.std.specs.Map.{keys_of};
 ghost use Rattle.isle_blocks.specs.declared.binding.Binding.TheVariants.{MakeSome};
 ghost use Rattle.isle_blocks.specs.MovedSites.{new_number};
 ghost use Rattle.isle_blocks.specs.Rules.{site_cmp};
 ghost use Rattle.isle_blocks.specs.Tables.{IsInterned, IsFull};
-ghost use Rattle.isle_blocks.specs.Assembly.{multi_call};
+ghost use Rattle.isle_blocks.specs.Assembly.{multi_call, IsToldOf, IsAssembled};
+ghost use Rattle.isle_terms.specs.Meaning.Demands.{Among};
+ghost use Rattle.isle_terms.specs.Meaning.Faults.{IsUnreachable};
+ghost use Rattle.isle_types.specs.JoinedSets.{AreDisjoint};
+ghost use Rattle.isle_blocks.specs.ClosedRules.{same_site};
+ghost use Rattle.isle_blocks.specs.ClosureFields.{IsTable};
+ghost use Rattle.isle_blocks.specs.ClosureStates.{IsReady, AreClasses};
+ghost use Rattle.isle_blocks.specs.NormalRules.{AreTestsOf, AreEqualitiesOf, HaveClassTests};
+ghost use Rattle.isle_blocks.specs.Placing.{ForDemandsOf, HasNoRoomFor, AreSettled};
 
 use crate::binding::Binding;
 use crate::ids::BindingId;
-use crate::moving::moved;
+use crate::builder::BuiltRule;
+use crate::moving::{all_moved, moved};
+use crate::normal::{equalities_of, tests_of};
+use crate::placing::{PlacedRule, place_rule};
+use crate::rule::Rule;
 use crate::sites::{SiteFault, Sites};
 use isle_syntax::Seq;
 use std::alloc::{AllocError, Global};
@@ -66,4 +80,65 @@ pub(crate) fn result_of(
         return Ok(inner);
     }
     sites.intern(Binding::MakeSome { inner })
+}
+
+/// A rule in its rule set, of what a visit left and where that was put.
+fn made_rule(
+    alloc: Global,
+    source: &isle_terms::Rule,
+    built: &BuiltRule,
+    placed: &PlacedRule,
+) -> Result<Rule, AllocError>
+    requires fits { length placed.now.closed.each.items ≡ length placed.now.closed.class.items }
+    requires bound { length placed.now.closed.class.items ≤ 65536 }
+    requires classes { AreClasses (length placed.now.closed.class.items) placed.now.closed.class.items }
+    requires shared { HaveClassTests placed.now.closed.each.items placed.now.closed.class.items }
+    ensures told { IfOk result (λ made. IsToldOf source.now made) }
+    ensures tests { IfOk result (λ made. AreTestsOf placed.now.closed.each.items made.constraints) }
+    ensures ascending { IfOk result (λ made. IsStrictlySortedBy site_cmp (keys_of made.constraints)) }
+    ensures equalities { IfOk result (λ made. AreEqualitiesOf placed.now.closed.each.items placed.now.closed.class.items made.equals) }
+    ensures disjoint { IfOk result (λ made. AreDisjoint same_site made.equals) }
+    ensures iterators { IfOk result (λ made. IsPermutation (filter_map (multi_call (new_number placed.now.numbers.items)) built.now.sites) made.iterators) }
+    ensures sorted { IfOk result (λ made. IsSorted site_cmp made.iterators) }
+    ensures impure { IfOk result (λ made. made.impure ≡ map (new_number placed.now.numbers.items) built.now.impure.items) }
+    ensures site { IfOk result (λ made. made.result ≡ new_number placed.now.numbers.items built.now.result) }
+{
+    let iterators = iterators_of(alloc, built.sites.bindings(), placed.numbers.as_slice())?;
+    let impure = all_moved(alloc, placed.numbers.as_slice(), built.impure.as_slice())?;
+    let constraints = tests_of(alloc, placed.closed.each.as_slice())?;
+    let equals = equalities_of(alloc, placed.closed.each.as_slice(), placed.closed.class.as_slice())?;
+    Ok(Rule {
+        id: source.id,
+        pos: source.pos,
+        constraints,
+        equals,
+        iterators,
+        prio: source.prio,
+        name: source.name,
+        impure,
+        result: moved(placed.numbers.as_slice(), built.result),
+    })
+}
+
+/// Puts a rule into its rule set's table; nothing, and no site added, where no values meet its demands.
+pub(crate) fn add_rule(
+    alloc: Global,
+    source: &isle_terms::Rule,
+    built: &BuiltRule,
+    table: &mut Sites,
+) -> Result<Option<Rule>, SiteFault>
+    requires ready { IsReady built.now.sites built.now.has.items built.now.same.items }
+    requires table { IsTable table.old }
+    ensures assembled { IfOk result (λ made. ForDemandsOf built.now.sites built.now.has.items built.now.same.items
+        (λ name ds. IsAssembled name ds table.old built.now.sites built.now.impure.items built.now.result table.new made)) }
+    ensures told { IfOk result (λ made. IfSome made (λ rule. IsToldOf source.now rule)) }
+    ensures kept { IfOk result (λ _. IsTable table.new) }
+    ensures full { IfErr result (λ fault. fault ≡ SiteFault.Size → ForDemandsOf built.now.sites built.now.has.items built.now.same.items
+        (λ name ds. (IsUnreachable (Among ds) → ⊥) × HasNoRoomFor name ds table.old built.now.sites)) }
+{
+    let Some(placed) = place_rule(alloc, &built.sites, &built.has, &built.same, table)? else {
+        return Ok(None);
+    };
+    let _count = table.len();
+    Ok(Some(made_rule(alloc, source, built, &placed)?))
 }

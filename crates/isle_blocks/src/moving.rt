@@ -19,7 +19,7 @@ pub(crate) fn moved(numbers: &[BindingId], id: BindingId) -> BindingId
 }
 
 /// The numbers that sites have got, in order.
-fn all_moved(
+pub(crate) fn all_moved(
     alloc: Global,
     numbers: &[BindingId],
     ids: &[BindingId],

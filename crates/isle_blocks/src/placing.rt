@@ -1,10 +1,10 @@
 //! Rules put into the table of their rule set.
-ghost use Rattle.std.specs.Prelude.{◌≡◌, IfOk, IfErr, true, false};
+ghost use Rattle.std.specs.Prelude.{◌≡◌, IfOk, IfErr, IfSome, true, false};
 ghost use Rattle.isle_terms.specs.Meaning.Demands.{Among};
 ghost use Rattle.isle_terms.specs.Meaning.Faults.{IsUnreachable};
 ghost use Rattle.isle_blocks.specs.ClosureFields.{IsTable};
 ghost use Rattle.isle_blocks.specs.ClosureStates.{IsReady};
-ghost use Rattle.isle_blocks.specs.Placing.{ForDemandsOf, IsPlaced, HasNoRoomFor};
+ghost use Rattle.isle_blocks.specs.Placing.{ForDemandsOf, IsPlaced, HasNoRoomFor, AreSettled};
 
 use crate::close::{Closed, close, is_reachable};
 use crate::constraint::Constraint;
@@ -35,6 +35,7 @@ pub(crate) fn place_rule(
     requires table { IsTable table.old }
     ensures placed { IfOk result (λ placed. ForDemandsOf own.now has.now same.now (λ name ds. IsPlaced name ds table.old own.now table.new placed)) }
     ensures kept { IfOk result (λ _. IsTable table.new) }
+    ensures settled { IfOk result (λ placed. IfSome placed (λ p. AreSettled table.new p.closed.each.items p.closed.class.items)) }
     ensures full { IfErr result (λ fault. fault ≡ SiteFault.Size
         → ForDemandsOf own.now has.now same.now (λ name ds. (IsUnreachable (Among ds) → ⊥) × HasNoRoomFor name ds table.old own.now)) }
 {

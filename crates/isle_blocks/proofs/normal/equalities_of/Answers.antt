@@ -26,8 +26,8 @@ loop-k-preserved c =
       ]))
     ]
 
-pub returns : goal.returns
-returns c =
+pub returns-clause-equalities : goal.returns-clause-equalities
+returns-clause-equalities c =
     let test = c.loop-k-test.false in let end = c.loop-k.auto.k-end in
     let last : c.loop-k.k ≡ length c.args.class.now = omega arith in
     sets_all c.args.each.now c.args.class.now c.requires.classes c.requires.shared c.loop-k.equals

@@ -17,8 +17,8 @@ loop-k-preserved c = elim c.match-each-k.branch [
       (tests_skip c.args.each.now c.loop-k.k c.loop-k.tests c.loop-k.invariant w.in_default.is)
 ]
 
-pub returns : goal.returns
-returns c =
+pub returns-clause-tests : goal.returns-clause-tests
+returns-clause-tests c =
     let test = c.loop-k-test.false in let end = c.loop-k.auto.k-end in
     let last : c.loop-k.k ≡ length c.args.each.now = omega arith in
     tests_all c.args.each.now c.loop-k.tests (subst (λ (n : ℕ). AreTestsBelow c.args.each.now n c.loop-k.tests) last c.loop-k.invariant)

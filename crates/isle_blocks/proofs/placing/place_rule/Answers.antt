@@ -107,6 +107,14 @@ returns-in-Some-clause-kept c =
     subst (λ (q : Option Closed). ClosesTo mid given_has given_same c.close.new.sites q) c.in-Some.is c.in_ok-closed.ensures.closed in
     (closed by_number by_number_injective).sites
 
+pub returns-in-Some-clause-settled : goal.returns-in-Some-clause-settled
+returns-in-Some-clause-settled c =
+    let mid = c.move_sites.new.table in let given_has = c.deref-3.result.now in let given_same = c.deref-4.result.now in
+    let closed : ClosesTo mid given_has given_same c.close.new.sites (Some c.in-Some.closed) =
+    subst (λ (q : Option Closed). ClosesTo mid given_has given_same c.close.new.sites q) c.in-Some.is c.in_ok-closed.ensures.closed in
+    let k = closed by_number by_number_injective in
+    record { fits = k.each_fits; classes = k.classes; tests = k.class_tests }
+
 pub returns-in-None-clause-placed : goal.returns-in-None-clause-placed
 returns-in-None-clause-placed c = λ name injective ds recorded.
     let base = c.args.table.now in let own = c.args.own.now in let mid = c.move_sites.new.table in let numbers = c.in_ok-numbers.numbers.items in
