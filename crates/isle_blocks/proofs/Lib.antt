@@ -53,3 +53,5 @@ pub mod ClosureLonger
 pub mod Counting
 -- A rule's equalities and tests are those of its demands, and as many.
 pub mod ClosedEqualities
+-- The groups of pairs share the pairs out.
+pub mod SharedPairs
