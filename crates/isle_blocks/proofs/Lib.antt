@@ -55,3 +55,5 @@ pub mod Counting
 pub mod ClosedEqualities
 -- The groups of pairs share the pairs out.
 pub mod SharedPairs
+-- The rule (f x x).
+mod ClosedCase
