@@ -41,11 +41,11 @@ id_tells : (a b : BindingId) → (same_site a b ≡ true → a ≡ b) × (a ≡ 
 id_tells a b = (one_id a b, λ e. eq-eqb a.0 b.0 (ap (λ (i : BindingId). i.0) e))
 
 -- both stand in a set
-record InOne (sets : List (List BindingId)) (x y : BindingId) : Type 0 where
-  set : List BindingId
-  stands : Contains sets set
-  first : Contains set x
-  second : Contains set y
+pub record InOne (sets : List (List BindingId)) (x y : BindingId) : Type 0 where
+  pub set : List BindingId
+  pub stands : Contains sets set
+  pub first : Contains set x
+  pub second : Contains set y
 
 is_in : (q : BindingId) (set : List BindingId) → Contains set q → is_member same_site set q ≡ true
 is_in q [] (k, within, is) = absurd (omega arith)
@@ -59,7 +59,7 @@ both_true : (a b : Bool) → (a && b) ≡ true → (a ≡ true) × (b ≡ true)
 both_true true b e = (refl, e)
 both_true false b e = absurd (true≢false (sym e))
 
-in_one : (sets : List (List BindingId)) (x y : BindingId) → are_joined same_site sets x y ≡ true → InOne sets x y
+pub in_one : (sets : List (List BindingId)) (x y : BindingId) → are_joined same_site sets x y ≡ true → InOne sets x y
 in_one [] x y e = absurd (true≢false (sym e))
 in_one (set ∷ sets) x y e = elim (or_cases (is_member same_site set x && is_member same_site set y) (are_joined same_site sets x y) e) [
   | inl h ↦ let (p, q) = both_true _ _ h in

@@ -75,3 +75,7 @@ pub mod Counting
 pub mod ClosedEqualities
 -- A placed rule is what follows from its demands.
 pub mod Assembled
+-- The groups of pairs share the pairs out.
+pub mod SharedPairs
+-- The rule (f x x).
+mod ClosedCase

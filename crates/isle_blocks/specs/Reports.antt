@@ -1,7 +1,7 @@
 -- What is reported of rules that overlap or shadow others. Rules go by their places in a list.
 use Rattle.std.specs.Prelude.{◌≡◌, ◌≢◌, ◌<◌, ◌≤◌, ◌⊎◌, ◌==◌, ℕ, false, not, cond, List, [], ◌∷◌, ◌++◌, length, map, filter, count_by, codes}
-use Rattle.std.specs.Prelude.{All, Option, Some, None, is_some, option_map, slice_get, slice_index, IsPermutation, IsSorted}
-use Rattle.std.specs.List.{filter_map}
+use Rattle.std.specs.Prelude.{All, Option, Some, None, IsSome, is_some, option_map, slice_get, slice_index, IsPermutation, IsSorted}
+use Rattle.std.specs.List.{AllZip, filter_map, flat_map}
 use Rattle.std.specs.List.Sorted.{IsSortedByKey}
 use Rattle.std.specs.Ordering.{nat_cmp, ordering_then, is_gt}
 use Rattle.std.specs.declared.cmp.Ordering.{Ordering}
@@ -106,3 +106,31 @@ pub record IsReport (rules : List RulePlace) (overlaps shadows : List (ℕ × �
   pub moved : IsPermutation (overlapping ++ shadowing) sorted
   pub ascending : IsSortedByKey (λ (group : Group). group.head.pos) pos_order sorted
   pub errors_are : errors ≡ map error_of sorted
+
+-- the error names a rule that heads each of some pairs, and its partners in them, and nothing else
+pub record ListsPairsOf (fault : Fault) (rules : List RulePlace) (pairs : List (ℕ × ℕ)) (error : Error) : Type 0 where
+  pub head : ℕ
+  pub group : Group
+  pub some : 0 < length pairs
+  pub heads : All (λ pair. IsSome (partner fault head pair)) pairs
+  pub is_group : IsGroup fault rules head pairs group
+  pub error_is : error ≡ error_of group
+
+-- the pairs are shared out among the errors, each in exactly one share, and each error lists its share
+pub record AreSharedOut (fault : Fault) (rules : List RulePlace) (pairs : List (ℕ × ℕ)) (errors : List Error) : Type 0 where
+  pub shares : List (List (ℕ × ℕ))
+  pub once : IsPermutation pairs (flat_map (λ share. share) shares)
+  pub listed : AllZip (ListsPairsOf fault rules) shares errors
+
+-- the errors are of overlaps or of shadows, and each pair is listed by exactly one of its kind
+pub record ListsEachOnce (rules : List RulePlace) (overlaps shadows : List (ℕ × ℕ)) (errors : List Error) : Type 0 where
+  pub of_overlaps : List Error
+  pub of_shadows : List Error
+  pub overlaps_shared : AreSharedOut Overlap rules overlaps of_overlaps
+  pub shadows_shared : AreSharedOut Shadow rules shadows of_shadows
+  pub moved : IsPermutation (of_overlaps ++ of_shadows) errors
+
+-- In a report each pair stands in exactly one error.
+abbrev pub ReportsListEachOnce : Type 0
+ReportsListEachOnce = (rules : List RulePlace) (overlaps shadows : List (ℕ × ℕ)) (errors : List Error)
+    → IsReport rules overlaps shadows errors → ListsEachOnce rules overlaps shadows errors

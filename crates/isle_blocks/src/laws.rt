@@ -13,6 +13,7 @@ ghost use Rattle.std.specs.Map.{keys_of};
 ghost use Rattle.isle_types.specs.JoinedSets.{AreDisjoint};
 ghost use Rattle.isle_blocks.specs.ClosedRules.{NumbersSayCount, NumbersSayDiffer, NumbersSayFree, NumbersSayOverlaps};
 ghost use Rattle.isle_blocks.specs.ClosedRules.{NumbersSayShadows, NumbersSaySubset, NumbersSayTotal, NumbersSayWithin, same_site};
+ghost use Rattle.isle_blocks.specs.Reports.{ReportsListEachOnce};
 ghost use Rattle.isle_blocks.specs.Rules.{site_cmp};
 ghost use Rattle.isle_blocks.specs.Orders.{binding_order, constraint_order};
 
@@ -80,4 +81,9 @@ pub fn numbers_say_faults()
     ensures subset { NumbersSaySubset }
     ensures overlaps { NumbersSayOverlaps }
     ensures shadows { NumbersSayShadows }
+{}
+
+/// In a report each pair of rules stands in exactly one error, as the rule that heads it and a partner, and nothing else does.
+pub fn reports_list_each_once()
+    ensures { ReportsListEachOnce }
 {}
