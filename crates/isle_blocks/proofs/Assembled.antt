@@ -1,10 +1,9 @@
 -- A placed rule's tests and sets of equal sites are what follows from its demands.
-use Rattle.std.proofs.Common.{◌≡◌, ◌≢◌, ◌<◌, ◌⊎◌, inl, inr, ℕ, List, [], ◌∷◌, map, length, Bool, true, Option, Some, None, get_or, slice_get, refl, sym, ◌∙◌, ap, subst, arith, IsTrue}
-use Rattle.std.specs.Prelude.{Contains}
+use Rattle.std.proofs.Common.{◌≡◌, ◌≢◌, inl, inr, ℕ, List, [], ◌∷◌, map, length, Option, Some, None, get_or, refl, sym, ◌∙◌, ap, subst, arith}
 use Rattle.std.specs.List.Sorted.{IsStrictlySortedBy}
 use Rattle.std.specs.Map.{keys_of}
 use Rattle.std.proofs.lemmas.Bool.{cases_lt}
-use Rattle.isle_types.specs.JoinedSets.{AreDisjoint, are_joined}
+use Rattle.isle_types.specs.JoinedSets.{AreDisjoint}
 use Rattle.isle_types.specs.declared.ids.Sym.{Sym}
 use Rattle.isle_terms.specs.Meaning.Sites.{Site}
 use Rattle.isle_terms.specs.Meaning.Demands as meaning
@@ -19,12 +18,12 @@ use Rattle.isle_blocks.specs.declared.placing.PlacedRule.{PlacedRule}
 use Rattle.isle_blocks.specs.declared.rule.Rule.{Rule}
 use Rattle.isle_blocks.specs.Rows.{IsInjective, rows_of, numbers_of, test_of, constraints_of, pairs_of}
 use Rattle.isle_blocks.specs.Rules.{site_cmp}
-use Rattle.isle_blocks.specs.ClosedRules.{same_site, AreDerived, AreLeftEqual, IsClosedRule}
+use Rattle.isle_blocks.specs.ClosedRules.{same_site, AreDerived, AreLeftEqual}
 use Rattle.isle_blocks.specs.NormalRules.{AreTestsOf, AreEqualitiesOf, MustBeEqual, IsUntested}
 use Rattle.isle_blocks.specs.MovedSites.{new_number, place_in}
 use Rattle.isle_blocks.specs.ClosureFields.{IsTable}
-use Rattle.isle_blocks.specs.ClosureStates.{HasOwn, demanded_in}
-use Rattle.isle_blocks.specs.Closure.{Stands, HasAllFields}
+use Rattle.isle_blocks.specs.ClosureStates.{demanded_in}
+use Rattle.isle_blocks.specs.Closure.{Stands}
 use Rattle.isle_blocks.specs.Placing.{IsPlacedRule}
 use Rattle.isle_blocks.specs.Assembly.{IsExplained, IsAssembledRule}
 use Rattle.isle_blocks.specs.Building.Standing.{StandEach}
@@ -142,7 +141,7 @@ module _ (name : Sym → List ℕ) (injective : IsInjective name) (ds : List Dem
     own_stand = λ s (k, q). (
       place_in (numbers_of placed.numbers.items) k,
       stays name p.between table p.closure.kept s (place_in (numbers_of placed.numbers.items) k)
-      (to_at base own p.between placed.numbers.items p.moved base_ok own_ok name injective s k q),
+          (to_at base own p.between placed.numbers.items p.moved base_ok own_ok name injective s k q),
     );
     fields = λ s u f. p.closure.fields s u (recorded_field s u f);
     explained = explained;

@@ -18,8 +18,8 @@ ghost use Rattle.isle_blocks.specs.NormalRules.{AreTestsOf, AreEqualitiesOf, Hav
 ghost use Rattle.isle_blocks.specs.Placing.{ForDemandsOf, HasNoRoomFor, AreSettled};
 
 use crate::binding::Binding;
-use crate::ids::BindingId;
 use crate::builder::BuiltRule;
+use crate::ids::BindingId;
 use crate::moving::{all_moved, moved};
 use crate::normal::{equalities_of, tests_of};
 use crate::placing::{PlacedRule, place_rule};
@@ -106,7 +106,11 @@ fn made_rule(
     let iterators = iterators_of(alloc, built.sites.bindings(), placed.numbers.as_slice())?;
     let impure = all_moved(alloc, placed.numbers.as_slice(), built.impure.as_slice())?;
     let constraints = tests_of(alloc, placed.closed.each.as_slice())?;
-    let equals = equalities_of(alloc, placed.closed.each.as_slice(), placed.closed.class.as_slice())?;
+    let equals = equalities_of(
+        alloc,
+        placed.closed.each.as_slice(),
+        placed.closed.class.as_slice(),
+    )?;
     Ok(Rule {
         id: source.id,
         pos: source.pos,

@@ -1,5 +1,4 @@
 use Rattle.std.proofs.Common.{List, Option, Some, None, subst}
-use Rattle.std.specs.Prelude.{IfSome}
 use Rattle.std.proofs.lemmas.Result.{err_from_is_err_and}
 use Rattle.isle_terms.specs.Meaning.Demands.{Among}
 use Rattle.isle_terms.specs.Meaning.Faults.{IsUnreachable}
