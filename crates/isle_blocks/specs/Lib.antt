@@ -36,3 +36,5 @@ pub mod Placing
 pub mod Assembly
 -- The tests and the equal sites of a closed rule.
 pub mod NormalRules
+-- Rule sets as contracts see them.
+pub mod RuleSets

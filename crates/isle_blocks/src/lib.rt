@@ -14,6 +14,7 @@ mod normal;
 mod placing;
 mod report;
 mod rule;
+mod rule_set;
 mod sites;
 
 pub use binding::Binding;
@@ -22,3 +23,4 @@ pub use faults::{FaultsBetween, faults_between};
 pub use ids::{BindingId, TupleIndex};
 pub use report::{RulePlace, report_faults};
 pub use rule::{Overlap, Rule};
+pub use rule_set::RuleSet;
