@@ -29,3 +29,7 @@ pub mod IfLets
 pub mod WellTyped
 -- What the visit of a rule gathers.
 pub mod Rules
+-- Shown rules are named rules.
+pub mod Naming
+-- What is built of a rule of definitions.
+pub mod Defined

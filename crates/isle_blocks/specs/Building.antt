@@ -15,3 +15,5 @@ pub mod Standing
 pub mod Named
 -- What the visit of a rule leaves.
 pub mod Built
+-- The names of symbols, and what definitions make of a rule.
+pub mod Naming

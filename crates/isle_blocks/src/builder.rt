@@ -5,6 +5,7 @@ ghost use Rattle.isle_terms.specs.Visits.Runs.{silent, listed, in_turn};
 ghost use Rattle.isle_terms.specs.Visits.VisitorCalls.{extract_outputs};
 ghost use Rattle.isle_blocks.specs.Building.Steps.{values_of, each_some};
 ghost use Rattle.isle_blocks.specs.Building.Building.{BuildsRule};
+ghost use Rattle.isle_blocks.specs.Building.Naming.{BuiltAsDefined, UsesWhatIsDefined};
 
 mod contents;
 
@@ -506,7 +507,9 @@ pub(crate) fn build_rule(
     termenv: &TermEnv,
     rule: &Rule,
 ) -> Result<BuiltRule, VisitFault>
-    ensures { BuildsRule termenv.now.terms rule.now result }
+    ensures run { BuildsRule termenv.now.terms rule.now result }
+    ensures built { IfOk result (λ built. BuiltAsDefined termenv.now rule.now built) }
+    ensures defined { IfErr result (λ fault. UsesWhatIsDefined termenv.now rule.now fault) }
 {
     let mut builder = RuleSetBuilder::new(alloc);
     let result = rule.visit(alloc, &mut builder, termenv)?;
