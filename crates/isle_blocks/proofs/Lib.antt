@@ -79,3 +79,5 @@ pub mod Assembled
 pub mod SharedPairs
 -- The rule (f x x).
 mod ClosedCase
+-- A rule's own sites with that of its result.
+pub mod AddedRules

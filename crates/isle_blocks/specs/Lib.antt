@@ -38,3 +38,5 @@ pub mod Assembly
 pub mod NormalRules
 -- Rule sets as contracts see them.
 pub mod RuleSets
+-- A rule of definitions in its term's rule set.
+pub mod AddedRules

@@ -1,0 +1,132 @@
+-- What a visit leaves, with the site of the rule's result.
+use Rattle.std.proofs.Common.{◌≡◌, ◌<◌, ◌++◌, ◌⊎◌, inl, inr, ℕ, suc, Bool, true, false, List, [], ◌∷◌, length, refl, sym, ◌∙◌, ap, subst, arith, length-append}
+use Rattle.std.proofs.lemmas.Bool.{cases_lt}
+use Rattle.isle_types.specs.Names.{AreDistinct}
+use Rattle.isle_types.specs.declared.ids.Sym.{Sym}
+use Rattle.isle_terms.specs.TypedRules.{TypedRule}
+use Rattle.isle_terms.specs.Meaning.Facts.{TermFacts}
+use Rattle.isle_terms.specs.Meaning.Sites.{Site, make_some, site_of}
+use Rattle.isle_terms.specs.Meaning.Words.{word_of}
+use Rattle.isle_terms.specs.Meaning.Demands.{demands_of, vars_of, impure_of, result_of}
+use Rattle.isle_terms.specs.Meaning.Needs.{needs_of, IsNeeded}
+use Rattle.isle_terms.specs.Meaning.Numbered.{Row, At, AreRecorded}
+use Rattle.isle_terms.proofs.Meaning.Numbering.{one_site}
+use Rattle.isle_blocks.specs.declared.ids.BindingId.{BindingId}
+use Rattle.isle_blocks.specs.declared.binding.Binding.{Binding}
+use Rattle.isle_blocks.specs.declared.binding.Binding.TheVariants.{MakeSome}
+use Rattle.isle_blocks.specs.declared.constraint.Constraint.{Constraint}
+use Rattle.isle_blocks.specs.Rows.{IsInjective, row_of, rows_of, constraints_of, pairs_of}
+use Rattle.isle_blocks.specs.Tables.{IsInterned}
+use Rattle.isle_blocks.specs.ClosureFields.{IsTable}
+use Rattle.isle_blocks.specs.ClosureStates.{IsReady}
+use Rattle.isle_blocks.specs.Closure.{Stands}
+use Rattle.isle_blocks.specs.Building.Gathering.{Gathered}
+use Rattle.isle_blocks.specs.Building.Standing.{IsPut, Adds, begin, next, StandEach}
+use Rattle.isle_blocks.specs.Building.Built.{IsBuiltOf}
+use Rattle.isle_blocks.proofs.Building.Tables.{at_within, stands_before, parts_before}
+use Rattle.isle_blocks.proofs.Building.Entries.{Grown, at_grown, put_grown, put_there, entry_at, put_of, recorded_grown}
+use Rattle.isle_blocks.proofs.Building.Rules.{built_before}
+use Rattle.isle_blocks.proofs.ClosureReady.{needed_stands, ready_of_recorded}
+
+more_needed : (xs : List Site) (s t : Site) → IsNeeded xs s → IsNeeded (xs ++ t ∷ []) s
+more_needed [] s t h = absurd h
+more_needed (x ∷ xs) s t (inl e) = inl e
+more_needed (x ∷ xs) s t (inr h) = inr (more_needed xs s t h)
+
+last_needed : (xs : List Site) (t : Site) → IsNeeded (xs ++ t ∷ []) t
+last_needed [] t = inl refl
+last_needed (x ∷ xs) t = inr (last_needed xs t)
+
+needed_or_last : (xs : List Site) (s t : Site) → IsNeeded (xs ++ t ∷ []) s → IsNeeded xs s ⊎ (s ≡ t)
+needed_or_last [] s t (inl e) = inr e
+needed_or_last [] s t (inr h) = absurd h
+needed_or_last (x ∷ xs) s t (inl e) = inl (inl e)
+needed_or_last (x ∷ xs) s t (inr h) = elim (needed_or_last xs s t h) [ inl n ↦ inl (inr n) | inr e ↦ inr e ]
+
+-- each number of the table stands for a site that is needed
+pub stands_for : (needed : List Site) (rows : List Row) → Adds [] needed rows → (k : ℕ) → k < length rows
+    → (s : Site) × IsNeeded needed s × At rows s k
+stands_for needed rows begin k h = absurd (omega arith)
+stands_for needed rows (next {needed = sites} {old = old} new site row j before is (inl (there, e))) k h =
+    let (s, n, p) = stands_for sites old before k (subst (λ (l : List Row). k < length l) e h) in
+    (s, more_needed sites s site n, subst (λ (l : List Row). At l s k) (sym e) p)
+stands_for needed rows (next {needed = sites} {old = old} new site row j before is (inr (absent, last, e))) k h =
+    let put : IsPut old row j rows = inr (absent, last, e) in
+    let len : length rows ≡ suc (length old) = ap length e ∙ (let l : length (old ++ row ∷ []) ≡ suc (length old) = simp length-append (omega arith) in l) in
+    elim (cases_lt k (length old)) [
+      | inl less ↦
+          let (s, n, p) = stands_for sites old before k less in
+          (s, more_needed sites s site n, at_grown old rows (put_grown old row j rows put) s k p)
+      | inr more ↦
+          let at : j ≡ k = omega arith in (
+            site,
+            last_needed sites site,
+            subst (λ (z : ℕ). At rows site z) at (entry_at old rows (put_grown old row j rows put) site row j is (put_there old row j rows put)),
+          )
+    ]
+
+each_grown : (name : Sym → List ℕ) (rows new : List Row) → Grown rows new → (ids : List BindingId) (ss : List Site) → StandEach rows ids ss → StandEach new ids ss
+each_grown name rows new g [] [] h = tt
+each_grown name rows new g [] (s ∷ ss) h = absurd h
+each_grown name rows new g (id ∷ ids) [] h = absurd h
+each_grown name rows new g (id ∷ ids) (s ∷ ss) h = (at_grown rows new g s id.0 h.0, each_grown name rows new g ids ss h.1)
+
+-- A rule's own sites with that of its result.
+pub record IsOwnOf (name : Sym → List ℕ) (facts : TermFacts) (partial : Bool) (typed : TypedRule) (own : List Binding)
+    (has : List (BindingId × Constraint)) (same : List (BindingId × BindingId)) (impure : List BindingId) (result : BindingId) : Type 0 where
+  pub ready : IsReady own has same
+  pub recorded : AreRecorded (rows_of name own) (constraints_of name has) (pairs_of same) (demands_of facts typed)
+  pub needed : (s : Site) → IsNeeded (needs_of facts typed) s → Stands (rows_of name own) s
+  pub only : (s : Site) → Stands (rows_of name own) s → IsNeeded (needs_of facts typed) s ⊎ (s ≡ result_of facts partial typed)
+  pub value : At (rows_of name own) (result_of facts partial typed) result.0
+  pub effects : StandEach (rows_of name own) impure (impure_of facts typed)
+
+module _ (name : Sym → List ℕ) (injective : IsInjective name) (facts : TermFacts) (typed : TypedRule) (left : Gathered) (value : BindingId)
+    (built : IsBuiltOf name facts typed left value) (once : AreDistinct left.sites) where
+  left_ok : IsTable left.sites
+  left_ok = record { earlier = built_before name facts typed left value built; once = once }
+
+  only_needed : (s : Site) (k : ℕ) → At (rows_of name left.sites) s k → IsNeeded (needs_of facts typed) s
+  only_needed s k p =
+      let rows = rows_of name left.sites in
+      let (t, n, q) = stands_for (needs_of facts typed) rows built.sites k (at_within rows s k p) in
+      subst (λ (z : Site). IsNeeded (needs_of facts typed) z) (one_site rows t s k q p) n
+
+  all_needed : (s : Site) → IsNeeded (needs_of facts typed) s → Stands (rows_of name left.sites) s
+  all_needed = needed_stands [] (needs_of facts typed) (rows_of name left.sites) built.sites
+
+  pub own_total : IsOwnOf name facts false typed left.sites left.has left.same left.impure value
+  own_total = record {
+    ready = ready_of_recorded name injective facts typed left.sites left.has left.same left_ok built.demands all_needed;
+    recorded = built.demands;
+    needed = all_needed;
+    only = λ s (k, p). inl (only_needed s k p);
+    value = built.result;
+    effects = built.impure;
+  }
+
+  pub own_partial : (id : BindingId) (new : List Binding) → IsInterned left.sites (MakeSome value) id new → AreDistinct new
+      → IsOwnOf name facts true typed new left.has left.same left.impure id
+  own_partial id new put new_once =
+      let rows = rows_of name left.sites in let longer = rows_of name new in
+      let placed : IsPut rows (row_of name (MakeSome value)) id.0 longer = put_of name injective left.sites (MakeSome value) id new put in
+      let grown = put_grown rows (row_of name (MakeSome value)) id.0 longer placed in
+      let site = site_of facts (vars_of facts typed) (word_of facts typed.right) in
+      let result : At longer (make_some site) id.0 =
+      (value.0, put_there rows (row_of name (MakeSome value)) id.0 longer placed, at_grown rows longer grown site value.0 built.result) in
+      let more : Adds [] (needs_of facts typed ++ make_some site ∷ []) longer =
+      next longer (make_some site) (row_of name (MakeSome value)) id.0 built.sites (value.0, refl, built.result) placed in
+      let ok : IsTable new = record { earlier = parts_before name new (stands_before (needs_of facts typed ++ make_some site ∷ []) longer more); once = new_once } in
+      let recorded = recorded_grown rows longer (constraints_of name left.has) (pairs_of left.same) (demands_of facts typed) grown built.demands in
+      let needed : (s : Site) → IsNeeded (needs_of facts typed) s → Stands longer s =
+      λ s n. let (k, p) = all_needed s n in (k, at_grown rows longer grown s k p) in
+      record {
+        ready = ready_of_recorded name injective facts typed new left.has left.same ok recorded needed;
+        recorded = recorded;
+        needed = needed;
+        only = λ s (k, p).
+            let (t, n, q) = stands_for (needs_of facts typed ++ make_some site ∷ []) longer more k (at_within longer s k p) in
+            needed_or_last (needs_of facts typed) s (make_some site) (subst (λ (z : Site). IsNeeded (needs_of facts typed ++ make_some site ∷ []) z) (one_site longer t s k q p) n);
+        value = result;
+        effects = each_grown name rows longer grown left.impure (impure_of facts typed) built.impure;
+      }

@@ -1,0 +1,69 @@
+-- A rule of definitions, added to the rule set of its term.
+use Rattle.std.specs.Prelude.{◌≡◌, ◌⊎◌, ℕ, Bool, List, Option, Some, None, slice_get}
+use Rattle.isle_syntax.specs.declared.ast.Def.{Def}
+use Rattle.isle_types.specs.declared.ids.Sym.{Sym}
+use Rattle.isle_types.specs.Names.{AreDistinct}
+use Rattle.isle_types.specs.TypeTables.{TypeTables}
+use Rattle.isle_types.specs.Environment.{Environment}
+use Rattle.isle_terms.specs.declared.rules.Rule as source
+use Rattle.isle_terms.specs.TypedRules.{TypedRule}
+use Rattle.isle_terms.specs.Definitions.{declared_by}
+use Rattle.isle_terms.specs.Shown.TermTables.{TermTables}
+use Rattle.isle_terms.specs.Collecting.Environments.{ShowsTerms}
+use Rattle.isle_terms.specs.Meaning.Facts.{TermFacts, facts_of}
+use Rattle.isle_terms.specs.Meaning.Sites.{Site}
+use Rattle.isle_terms.specs.Meaning.Demands.{result_of, impure_of}
+use Rattle.isle_terms.specs.Meaning.Derived.{FieldOf}
+use Rattle.isle_terms.specs.Meaning.Faults.{IsUnreachable}
+use Rattle.isle_terms.specs.Meaning.Laws.{DemandOf}
+use Rattle.isle_terms.specs.Meaning.Needs.{needs_of, IsNeeded}
+use Rattle.isle_terms.specs.Meaning.Numbered.{At}
+use Rattle.isle_blocks.specs.declared.binding.Binding.{Binding}
+use Rattle.isle_blocks.specs.declared.rule.Rule.{Rule}
+use Rattle.isle_blocks.specs.Rows.{rows_of}
+use Rattle.isle_blocks.specs.Closure.{Stands, HasAllFields}
+use Rattle.isle_blocks.specs.ClosedRules.{IsClosedRule}
+use Rattle.isle_blocks.specs.Building.Naming.{name_by}
+use Rattle.isle_blocks.specs.Building.Standing.{StandEach}
+
+-- a rule that definitions make, and what it stands for
+pub record IsDefinedRule (env : TermTables) (rule : source.Rule) : Type 0 where
+  pub tyenv : TypeTables
+  pub types : Environment
+  pub levels : ℕ
+  pub max : ℕ
+  pub defs : List Def
+  pub once : AreDistinct tyenv.names
+  pub shows : ShowsTerms tyenv env types levels max defs
+  pub place : ℕ
+  pub typed : TypedRule
+  pub at : slice_get env.rules place ≡ Some rule
+  pub typed_at : slice_get shows.environment.rules place ≡ Some typed
+
+abbrev pub name_in : (env : TermTables) (rule : source.Rule) → IsDefinedRule env rule → Sym → List ℕ
+name_in env rule d = name_by d.tyenv.names
+
+abbrev pub facts_in : (env : TermTables) (rule : source.Rule) → IsDefinedRule env rule → TermFacts
+facts_in env rule d = facts_of (declared_by d.types env.expands d.shows.environment)
+
+-- a site of the table was there, is needed by the rule, is its result, or is a field that its demands open
+abbrev pub IsOfRule : (Sym → List ℕ) → TermFacts → Bool → TypedRule → List Binding → Site → Type 0
+IsOfRule name facts partial typed base s =
+    Stands (rows_of name base) s ⊎ IsNeeded (needs_of facts typed) s ⊎ (s ≡ result_of facts partial typed) ⊎ ((t : Site) × FieldOf (DemandOf facts typed) t s)
+
+-- The rule, with what follows from its demands, over the old sites, those that it needs, its result's, and all fields that it opens.
+pub record IsAddedRule (name : Sym → List ℕ) (facts : TermFacts) (partial : Bool) (typed : TypedRule) (base table : List Binding) (made : Rule)
+    : Type 0 where
+  pub reachable : IsUnreachable (DemandOf facts typed) → ⊥
+  pub closed : IsClosedRule name (rows_of name table) (DemandOf facts typed) made
+  pub kept : (s : Site) (k : ℕ) → At (rows_of name base) s k → At (rows_of name table) s k
+  pub needed : (s : Site) → IsNeeded (needs_of facts typed) s → Stands (rows_of name table) s
+  pub fields : HasAllFields (DemandOf facts typed) (rows_of name table)
+  pub explained : (s : Site) → Stands (rows_of name table) s → IsOfRule name facts partial typed base s
+  pub value : At (rows_of name table) (result_of facts partial typed) made.result.0
+  pub effects : StandEach (rows_of name table) made.impure (impure_of facts typed)
+
+-- No values meet the rule's demands, and the table stays; or the rule is added.
+abbrev pub IsAdded : (Sym → List ℕ) → TermFacts → Bool → TypedRule → List Binding → List Binding → Option Rule → Type 0
+IsAdded name facts partial typed base table None = IsUnreachable (DemandOf facts typed) × (table ≡ base)
+IsAdded name facts partial typed base table (Some made) = IsAddedRule name facts partial typed base table made
