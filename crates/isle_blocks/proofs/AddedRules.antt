@@ -1,5 +1,5 @@
 -- What a visit leaves, with the site of the rule's result.
-use Rattle.std.proofs.Common.{◌≡◌, ◌<◌, ◌++◌, ◌⊎◌, inl, inr, ℕ, suc, Bool, true, false, List, [], ◌∷◌, length, refl, sym, ◌∙◌, ap, subst, arith, length-append}
+use Rattle.std.proofs.Common.{◌≡◌, ◌<◌, ◌++◌, ◌⊎◌, inl, inr, ℕ, suc, Bool, true, false, Option, Some, None, List, [], ◌∷◌, length, refl, sym, ◌∙◌, ap, subst, arith, length-append}
 use Rattle.std.proofs.lemmas.Bool.{cases_lt}
 use Rattle.isle_types.specs.Names.{AreDistinct}
 use Rattle.isle_types.specs.declared.ids.Sym.{Sym}
@@ -9,7 +9,7 @@ use Rattle.isle_terms.specs.Meaning.Sites.{Site, make_some, site_of}
 use Rattle.isle_terms.specs.Meaning.Words.{word_of}
 use Rattle.isle_terms.specs.Meaning.Demands.{demands_of, vars_of, impure_of, result_of}
 use Rattle.isle_terms.specs.Meaning.Needs.{needs_of, IsNeeded}
-use Rattle.isle_terms.specs.Meaning.Numbered.{Row, At, AreRecorded}
+use Rattle.isle_terms.specs.Meaning.Numbered.{Row, At}
 use Rattle.isle_terms.proofs.Meaning.Numbering.{one_site}
 use Rattle.isle_blocks.specs.declared.ids.BindingId.{BindingId}
 use Rattle.isle_blocks.specs.declared.binding.Binding.{Binding}
@@ -18,8 +18,10 @@ use Rattle.isle_blocks.specs.declared.constraint.Constraint.{Constraint}
 use Rattle.isle_blocks.specs.Rows.{IsInjective, row_of, rows_of, constraints_of, pairs_of}
 use Rattle.isle_blocks.specs.Tables.{IsInterned}
 use Rattle.isle_blocks.specs.ClosureFields.{IsTable}
-use Rattle.isle_blocks.specs.ClosureStates.{IsReady}
 use Rattle.isle_blocks.specs.Closure.{Stands}
+use Rattle.isle_blocks.specs.AddedRules.{IsOwnOf, IsAdded}
+use Rattle.isle_blocks.specs.declared.rule.Rule.{Rule}
+use Rattle.isle_blocks.specs.Assembly.{IsAssembled}
 use Rattle.isle_blocks.specs.Building.Gathering.{Gathered}
 use Rattle.isle_blocks.specs.Building.Standing.{IsPut, Adds, begin, next, StandEach}
 use Rattle.isle_blocks.specs.Building.Built.{IsBuiltOf}
@@ -71,16 +73,6 @@ each_grown name rows new g [] (s ∷ ss) h = absurd h
 each_grown name rows new g (id ∷ ids) [] h = absurd h
 each_grown name rows new g (id ∷ ids) (s ∷ ss) h = (at_grown rows new g s id.0 h.0, each_grown name rows new g ids ss h.1)
 
--- A rule's own sites with that of its result.
-pub record IsOwnOf (name : Sym → List ℕ) (facts : TermFacts) (partial : Bool) (typed : TypedRule) (own : List Binding)
-    (has : List (BindingId × Constraint)) (same : List (BindingId × BindingId)) (impure : List BindingId) (result : BindingId) : Type 0 where
-  pub ready : IsReady own has same
-  pub recorded : AreRecorded (rows_of name own) (constraints_of name has) (pairs_of same) (demands_of facts typed)
-  pub needed : (s : Site) → IsNeeded (needs_of facts typed) s → Stands (rows_of name own) s
-  pub only : (s : Site) → Stands (rows_of name own) s → IsNeeded (needs_of facts typed) s ⊎ (s ≡ result_of facts partial typed)
-  pub value : At (rows_of name own) (result_of facts partial typed) result.0
-  pub effects : StandEach (rows_of name own) impure (impure_of facts typed)
-
 module _ (name : Sym → List ℕ) (injective : IsInjective name) (facts : TermFacts) (typed : TypedRule) (left : Gathered) (value : BindingId)
     (built : IsBuiltOf name facts typed left value) (once : AreDistinct left.sites) where
   left_ok : IsTable left.sites
@@ -130,3 +122,26 @@ module _ (name : Sym → List ℕ) (injective : IsInjective name) (facts : TermF
         value = result;
         effects = each_grown name rows longer grown left.impure (impure_of facts typed) built.impure;
       }
+
+module _ (name : Sym → List ℕ) (facts : TermFacts) (partial : Bool) (typed : TypedRule) (base own table : List Binding)
+    (has : List (BindingId × Constraint)) (same : List (BindingId × BindingId)) (impure : List BindingId) (result : BindingId)
+    (is : IsOwnOf name facts partial typed own has same impure result) where
+  -- what is assembled of a rule's own sites is the rule
+  pub added_of : (made : Option Rule) → IsAssembled name (demands_of facts typed) base own impure result table made → IsAdded name facts partial typed base table made
+  added_of None h = h
+  added_of (Some rule) h = record {
+    reachable = h.reachable;
+    closed = h.closed;
+    kept = h.kept;
+    needed = λ s n. h.own_stand s (is.needed s n);
+    fields = h.fields;
+    explained = λ s st. elim (h.explained s st) [
+      | inl x ↦ inl x
+      | inr y ↦ elim y [
+        | inl x ↦ elim (is.only s x) [ inl n ↦ inr (inl n) | inr e ↦ inr (inr (inl e)) ]
+        | inr f ↦ inr (inr (inr f))
+      ]
+    ];
+    value = h.value (result_of facts partial typed) is.value;
+    effects = h.effects (impure_of facts typed) is.effects;
+  }

@@ -12,15 +12,19 @@ use Rattle.isle_terms.specs.Shown.TermTables.{TermTables}
 use Rattle.isle_terms.specs.Collecting.Environments.{ShowsTerms}
 use Rattle.isle_terms.specs.Meaning.Facts.{TermFacts, facts_of}
 use Rattle.isle_terms.specs.Meaning.Sites.{Site}
-use Rattle.isle_terms.specs.Meaning.Demands.{result_of, impure_of}
+use Rattle.isle_terms.specs.Meaning.Demands.{demands_of, result_of, impure_of}
 use Rattle.isle_terms.specs.Meaning.Derived.{FieldOf}
 use Rattle.isle_terms.specs.Meaning.Faults.{IsUnreachable}
 use Rattle.isle_terms.specs.Meaning.Laws.{DemandOf}
 use Rattle.isle_terms.specs.Meaning.Needs.{needs_of, IsNeeded}
-use Rattle.isle_terms.specs.Meaning.Numbered.{At}
+use Rattle.isle_terms.specs.Meaning.Numbered.{At, AreRecorded}
 use Rattle.isle_blocks.specs.declared.binding.Binding.{Binding}
 use Rattle.isle_blocks.specs.declared.rule.Rule.{Rule}
-use Rattle.isle_blocks.specs.Rows.{rows_of}
+use Rattle.isle_blocks.specs.declared.ids.BindingId.{BindingId}
+use Rattle.isle_blocks.specs.declared.constraint.Constraint.{Constraint}
+use Rattle.isle_blocks.specs.declared.builder.BuiltRule.{BuiltRule}
+use Rattle.isle_blocks.specs.Rows.{rows_of, constraints_of, pairs_of}
+use Rattle.isle_blocks.specs.ClosureStates.{IsReady}
 use Rattle.isle_blocks.specs.Closure.{Stands, HasAllFields}
 use Rattle.isle_blocks.specs.ClosedRules.{IsClosedRule}
 use Rattle.isle_blocks.specs.Building.Naming.{name_by}
@@ -46,6 +50,16 @@ name_in env rule d = name_by d.tyenv.names
 abbrev pub facts_in : (env : TermTables) (rule : source.Rule) → IsDefinedRule env rule → TermFacts
 facts_in env rule d = facts_of (declared_by d.types env.expands d.shows.environment)
 
+-- A rule's own sites with that of its result.
+pub record IsOwnOf (name : Sym → List ℕ) (facts : TermFacts) (partial : Bool) (typed : TypedRule) (own : List Binding)
+    (has : List (BindingId × Constraint)) (same : List (BindingId × BindingId)) (impure : List BindingId) (result : BindingId) : Type 0 where
+  pub ready : IsReady own has same
+  pub recorded : AreRecorded (rows_of name own) (constraints_of name has) (pairs_of same) (demands_of facts typed)
+  pub needed : (s : Site) → IsNeeded (needs_of facts typed) s → Stands (rows_of name own) s
+  pub only : (s : Site) → Stands (rows_of name own) s → IsNeeded (needs_of facts typed) s ⊎ (s ≡ result_of facts partial typed)
+  pub value : At (rows_of name own) (result_of facts partial typed) result.0
+  pub effects : StandEach (rows_of name own) impure (impure_of facts typed)
+
 -- a site of the table was there, is needed by the rule, is its result, or is a field that its demands open
 abbrev pub IsOfRule : (Sym → List ℕ) → TermFacts → Bool → TypedRule → List Binding → Site → Type 0
 IsOfRule name facts partial typed base s =
@@ -67,3 +81,13 @@ pub record IsAddedRule (name : Sym → List ℕ) (facts : TermFacts) (partial : 
 abbrev pub IsAdded : (Sym → List ℕ) → TermFacts → Bool → TypedRule → List Binding → List Binding → Option Rule → Type 0
 IsAdded name facts partial typed base table None = IsUnreachable (DemandOf facts typed) × (table ≡ base)
 IsAdded name facts partial typed base table (Some made) = IsAddedRule name facts partial typed base table made
+
+-- a visit left the own sites of the rule that definitions make
+abbrev pub IsOwnRule : TermTables → source.Rule → Bool → BuiltRule → Type 0
+IsOwnRule env rule partial built = (d : IsDefinedRule env rule)
+    → IsOwnOf (name_in env rule d) (facts_in env rule d) partial d.typed built.sites built.has.items built.same.items built.impure.items built.result
+
+-- a rule that definitions make is added to a table, or is unreachable
+abbrev pub AddsRule : TermTables → source.Rule → Bool → List Binding → List Binding → Option Rule → Type 0
+AddsRule env rule partial base table made = (d : IsDefinedRule env rule)
+    → IsAdded (name_in env rule d) (facts_in env rule d) partial d.typed base table made

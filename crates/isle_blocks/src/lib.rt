@@ -1,6 +1,7 @@
 //! Rule sets: the sites that rules speak of, and what rules demand of them.
 #![tactic(auto)]
 
+mod adding;
 mod assembly;
 mod binding;
 mod builder;
