@@ -28,7 +28,7 @@ use Rattle.isle_blocks.specs.Building.Built.{IsBuiltOf}
 use Rattle.isle_blocks.proofs.Building.Tables.{at_within, stands_before, parts_before}
 use Rattle.isle_blocks.proofs.Building.Entries.{Grown, at_grown, put_grown, put_there, entry_at, put_of, recorded_grown}
 use Rattle.isle_blocks.proofs.Building.Rules.{built_before}
-use Rattle.isle_blocks.proofs.ClosureReady.{needed_stands, ready_of_recorded}
+use Rattle.isle_blocks.proofs.Closure.Ready.{needed_stands, ready_of_recorded}
 
 more_needed : (xs : List Site) (s t : Site) → IsNeeded xs s → IsNeeded (xs ++ t ∷ []) s
 more_needed [] s t h = absurd h

@@ -27,9 +27,9 @@ use Rattle.isle_blocks.specs.Closure.{Stands}
 use Rattle.isle_blocks.specs.Placing.{IsPlacedRule}
 use Rattle.isle_blocks.specs.Assembly.{IsExplained, IsAssembledRule}
 use Rattle.isle_blocks.specs.Building.Standing.{StandEach}
-use Rattle.isle_blocks.proofs.ClosurePairs.{own_in}
-use Rattle.isle_blocks.proofs.ClosureTrees.{stands, at_below, one_number}
-use Rattle.isle_blocks.proofs.ClosureLonger.{stays, stood}
+use Rattle.isle_blocks.proofs.Closure.Pairs.{own_in}
+use Rattle.isle_blocks.proofs.Closure.Trees.{stands, at_below, one_number}
+use Rattle.isle_blocks.proofs.Closure.Longer.{stays, stood}
 use Rattle.isle_blocks.proofs.MovedRows.{new_place}
 use Rattle.isle_blocks.proofs.Placed.{to_at, still_stands, all_known, after_ok}
 use Rattle.isle_blocks.proofs.PlacedRoom.{field_recorded}

@@ -9,7 +9,7 @@ use Rattle.isle_blocks.specs.declared.binding.Binding.{Binding}
 use Rattle.isle_blocks.specs.Rows.{IsInjective, rows_of}
 use Rattle.isle_blocks.specs.ClosureFields.{IsTable}
 use Rattle.isle_blocks.specs.Closure.{Stands}
-use Rattle.isle_blocks.proofs.ClosureTrees.{stands, one_number}
+use Rattle.isle_blocks.proofs.Closure.Trees.{stands, one_number}
 use Rattle.isle_blocks.proofs.Building.Tables.{at_within}
 use Rattle.isle_blocks.proofs.Pigeonhole.{too_few_places}
 

@@ -25,42 +25,10 @@ pub mod MovingTurns
 pub mod RowsInjective
 -- What is said of numbers is said of sites.
 pub mod ClosedRules
--- Numbers and the sites that they stand for.
-pub mod ClosureTrees
--- One merge of two classes.
-pub mod ClosureMerge
--- How many numbers pass a test.
-pub mod ClosureCount
--- What is recorded, as demands.
-pub mod ClosureDemands
--- What the loop over the pending pairs keeps.
-pub mod ClosureProgress
--- Lists of pairs under a push and a pop, and own tests.
-pub mod ClosurePairs
--- Like fields under a test.
-pub mod ClosureLikes
--- A closed state has all that is derived.
-pub mod ClosureQuotient
--- Marking sites after their children.
-pub mod ClosureLoops
--- Adding a missing field.
-pub mod ClosureGrowth
--- A missing field is added, or has no room.
-pub mod ClosureFull
--- Sites keep their numbers in a longer table.
-pub mod ClosureLonger
--- What is merged in the grown table.
-pub mod ClosureSound
--- All that follows is seen in a closed table.
-pub mod ClosureLeast
 -- More numbers than places.
 pub mod Pigeonhole
 -- A full table has no room.
 pub mod FullTables
--- The closure from its parts.
-pub mod ClosureWhole
--- What a visit leaves is ready to be closed.
-pub mod ClosureReady
 -- A rule's own sites in its rule set's table.
 pub mod Placed
 -- What there is no room for.
@@ -81,3 +49,5 @@ pub mod SharedPairs
 mod ClosedCase
 -- A rule's own sites with that of its result.
 pub mod AddedRules
+-- The closure of demands.
+pub mod Closure

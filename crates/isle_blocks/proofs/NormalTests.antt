@@ -12,7 +12,7 @@ use Rattle.isle_blocks.specs.declared.constraint.Constraint.{Constraint}
 use Rattle.isle_blocks.specs.Rules.{site_cmp}
 use Rattle.isle_blocks.specs.ClosureStates.{HasOwn}
 use Rattle.isle_blocks.specs.NormalRules.{AreTestsOf}
-use Rattle.isle_blocks.proofs.ClosurePairs.{own_in, pair_path}
+use Rattle.isle_blocks.proofs.Closure.Pairs.{own_in, pair_path}
 
 -- a key above all others is inserted at the end
 pub inserted_last : {K V : Type 0} (cmp : K → K → Ordering) (key : K) (value : V) (es : List (K × V)) → ((e : K × V) → Contains es e → cmp key e.0 ≡ Greater)

@@ -23,13 +23,13 @@ use Rattle.isle_blocks.specs.MovedSites.{new_number, place_in, MovesSites, moved
 use Rattle.isle_blocks.specs.ClosureFields.{IsTable, Opens, field_binding, field_site}
 use Rattle.isle_blocks.specs.ClosureStates.{IsReady, HasField}
 use Rattle.isle_blocks.specs.Closure.{Stands}
-use Rattle.isle_blocks.proofs.ClosureTrees.{row_get, get_row, stands, at_below, at_field, field_at, one_number}
-use Rattle.isle_blocks.proofs.ClosureDemands.{of_image}
+use Rattle.isle_blocks.proofs.Closure.Trees.{row_get, get_row, stands, at_below, at_field, field_at, one_number}
+use Rattle.isle_blocks.proofs.Closure.Demands.{of_image}
 use Rattle.isle_blocks.proofs.RowsInjective.{row-injective}
 use Rattle.isle_blocks.proofs.Building.Tables.{at_within}
 use Rattle.isle_blocks.proofs.MovedTables.{Kept, at_moved, AreEarlier, moves_keep, moves_grow, moves_table, moved_recorded, moved_constraints, moved_pairs, as_many}
 use Rattle.isle_blocks.proofs.MovedRows.{new_place, moved_rows}
-use Rattle.isle_blocks.proofs.ClosureLonger.{stays, stood}
+use Rattle.isle_blocks.proofs.Closure.Longer.{stays, stood}
 
 -- names that tell symbols apart
 abbrev pub by_number : Sym → List ℕ

@@ -21,8 +21,8 @@ use Rattle.isle_blocks.specs.ClosureFields.{IsTable}
 use Rattle.isle_blocks.specs.ClosureStates.{demanded_in}
 use Rattle.isle_blocks.specs.Closure.{HasNoRoom}
 use Rattle.isle_blocks.specs.Placing.{HasNoRoomFor}
-use Rattle.isle_blocks.proofs.ClosureTrees.{stands, at_below, one_number}
-use Rattle.isle_blocks.proofs.ClosureLonger.{stays, stood}
+use Rattle.isle_blocks.proofs.Closure.Trees.{stands, at_below, one_number}
+use Rattle.isle_blocks.proofs.Closure.Longer.{stays, stood}
 use Rattle.isle_blocks.proofs.MovedTables.{as_many}
 use Rattle.isle_blocks.proofs.MovedRows.{moved_rows}
 use Rattle.isle_blocks.proofs.FullTables.{no_more}

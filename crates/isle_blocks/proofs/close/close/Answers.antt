@@ -4,7 +4,7 @@ use Rattle.std.proofs.lemmas.Result.{err_from_is_err_and}
 use Rattle.isle_blocks.specs.declared.close.Reduced.{Reduced}
 use Rattle.isle_blocks.specs.Rows.{pairs_of}
 use Rattle.isle_blocks.specs.ClosureStates.{IsReduced}
-use Rattle.isle_blocks.proofs.ClosureWhole.{state_of, is_reachable, no_room, whole}
+use Rattle.isle_blocks.proofs.Closure.Whole.{state_of, is_reachable, no_room, whole}
 use Rattle.isle_blocks.proofs.close.close.Goals as goal
 
 pub finish-requires : goal.finish-requires

@@ -2,8 +2,8 @@ use Rattle.std.proofs.Common.{ℕ, List, length, Option, inl, inr, subst, Vec, G
 use Rattle.std.specs.Prelude.{IfSome, IfNone}
 use Rattle.isle_terms.specs.Meaning.Faults.{Conflict}
 use Rattle.isle_blocks.specs.ClosureStates.{AreClasses, ForDemands, IsSound, HasLoop, demanded_in}
-use Rattle.isle_blocks.proofs.ClosureDemands.{owned}
-use Rattle.isle_blocks.proofs.ClosureLoops.{endless_of}
+use Rattle.isle_blocks.proofs.Closure.Demands.{owned}
+use Rattle.isle_blocks.proofs.Closure.Loops.{endless_of}
 use Rattle.isle_blocks.proofs.close.closed_classes.Goals as goal
 
 pub returns-in_default-clause-unreachable : goal.returns-in_default-clause-unreachable

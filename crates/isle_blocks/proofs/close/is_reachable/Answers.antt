@@ -2,7 +2,7 @@ use Rattle.std.proofs.Common.{Option, subst}
 use Rattle.std.specs.Prelude.{IfSome}
 use Rattle.isle_blocks.specs.declared.close.Reduced.{Reduced}
 use Rattle.isle_blocks.specs.ClosureStates.{IsReduced}
-use Rattle.isle_blocks.proofs.ClosureWhole.{is_reachable}
+use Rattle.isle_blocks.proofs.Closure.Whole.{is_reachable}
 use Rattle.isle_blocks.proofs.close.is_reachable.Goals as goal
 
 pub returns-clause-yes : goal.returns-clause-yes

@@ -3,7 +3,7 @@ use Rattle.std.specs.Prelude.{Contains, IfNone, MatchOption}
 use Rattle.isle_terms.specs.Meaning.Faults.{IsUnreachable}
 use Rattle.isle_blocks.specs.declared.constraint.Constraint.{Constraint}
 use Rattle.isle_blocks.specs.ClosureStates.{HasTwo, AreOwn, ForDemands, demanded_in}
-use Rattle.isle_blocks.proofs.ClosureWhole.{two_clash, pairs_below}
+use Rattle.isle_blocks.proofs.Closure.Whole.{two_clash, pairs_below}
 use Rattle.isle_blocks.proofs.close.reduce.Goals as goal
 
 pub gather-requires : goal.gather-requires

@@ -7,7 +7,7 @@ use Rattle.isle_blocks.specs.ClosureStates.{HasOwn}
 use Rattle.isle_blocks.specs.declared.ids.BindingId.{BindingId}
 use Rattle.isle_blocks.specs.declared.constraint.Constraint.{Constraint}
 use Rattle.isle_blocks.specs.declared.constraint.Constraint.TheVariants.{Variant}
-use Rattle.isle_blocks.proofs.ClosurePairs.{own_read, IsRead, read_again, read_first}
+use Rattle.isle_blocks.proofs.Closure.Pairs.{own_read, IsRead, read_again, read_first}
 use Rattle.isle_blocks.proofs.close.classes.gather.Goals as goal
 use Rattle.isle_blocks.proofs.close.classes.gather.Goals.{in-Some+else-not-same, in-None}
 

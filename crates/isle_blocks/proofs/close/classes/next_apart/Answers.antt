@@ -1,6 +1,6 @@
 use Rattle.std.proofs.Common.{inl, inr, ℕ, ap, sym, ◌∙◌, get_or, rules, ◌<◌, length}
 use Rattle.std.specs.Prelude.{Some}
-use Rattle.isle_blocks.proofs.ClosurePairs.{last_of, front_of, split_of}
+use Rattle.isle_blocks.proofs.Closure.Pairs.{last_of, front_of, split_of}
 use Rattle.isle_blocks.proofs.close.classes.next_apart.Goals as goal
 
 pub bounds-class-a : goal.bounds-class-a

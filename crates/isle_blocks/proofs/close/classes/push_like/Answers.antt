@@ -2,7 +2,7 @@ use Rattle.std.proofs.Common.{◌≡◌, ◌<◌, inl, inr, ℕ, List, Vec, Glob
 use Rattle.std.specs.Prelude.{Contains}
 use Rattle.std.proofs.lemmas.Bool.{cases_lt}
 use Rattle.isle_blocks.specs.ClosureStates.{AreLikeFields}
-use Rattle.isle_blocks.proofs.ClosureLikes.{member_in}
+use Rattle.isle_blocks.proofs.Closure.Likes.{member_in}
 use Rattle.isle_blocks.proofs.close.classes.push_like.Goals as goal
 use Rattle.isle_blocks.proofs.close.classes.push_like.Goals.{then-root-drop+in_ok-push_fields, else-root-drop}
 

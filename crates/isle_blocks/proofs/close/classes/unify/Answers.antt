@@ -2,7 +2,7 @@ use Rattle.std.proofs.Common.{◌≡◌, ◌≢◌, ◌<◌, inl, inr, ℕ, ap, 
 use Rattle.std.specs.Prelude.{Contains}
 use Rattle.std.proofs.lemmas.List.{with_items_is}
 use Rattle.isle_blocks.specs.ClosureStates.{IsClash}
-use Rattle.isle_blocks.proofs.ClosureProgress.{Progress, progress_first, progress_clash, progress_done, root_read, turn}
+use Rattle.isle_blocks.proofs.Closure.Progress.{Progress, progress_first, progress_clash, progress_done, root_read, turn}
 use Rattle.std.specs.Vec.{with_items}
 use Rattle.isle_blocks.proofs.close.classes.unify.Goals as goal
 

@@ -1,6 +1,6 @@
 use Rattle.std.proofs.Common.{length}
-use Rattle.isle_blocks.proofs.ClosureCount.{class_count}
-use Rattle.isle_blocks.proofs.ClosureProgress.{Progress}
+use Rattle.isle_blocks.proofs.Closure.Count.{class_count}
+use Rattle.isle_blocks.proofs.Closure.Progress.{Progress}
 use Rattle.isle_blocks.proofs.close.classes.unify.Given as goal
 
 abbrev pub invariant-loop-x : goal.invariant-loop-x

@@ -3,8 +3,8 @@ use Rattle.std.proofs.lemmas.Bool.{cases_lt}
 use Rattle.std.proofs.lemmas.Result.{err_from_is_err_and}
 use Rattle.isle_blocks.specs.ClosureFields.{kind_of}
 use Rattle.isle_blocks.specs.ClosureStates.{HasField, Still}
-use Rattle.isle_blocks.proofs.ClosureGrowth.{grown_state, grown_sites, grown_join, grown_longer}
-use Rattle.isle_blocks.proofs.ClosureFull.{runs_out, opened_still, like_there, has_all}
+use Rattle.isle_blocks.proofs.Closure.Growth.{grown_state, grown_sites, grown_join, grown_longer}
+use Rattle.isle_blocks.proofs.Closure.Full.{runs_out, opened_still, like_there, has_all}
 use Rattle.isle_blocks.proofs.close.complete.add_fields.Goals as goal
 
 pub returns-in_default-clause-grows : goal.returns-in_default-clause-grows

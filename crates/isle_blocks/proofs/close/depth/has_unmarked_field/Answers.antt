@@ -3,7 +3,7 @@ use Rattle.std.proofs.lemmas.Bool.{cases_lt}
 use Rattle.std.proofs.lemmas.Option.{slice_get_within}
 use Rattle.isle_blocks.specs.ClosureFields.{field_binding, kind_of}
 use Rattle.isle_blocks.specs.ClosureStates.{is_marked, IsRootOf}
-use Rattle.isle_blocks.proofs.ClosureLikes.{one_root}
+use Rattle.isle_blocks.proofs.Closure.Likes.{one_root}
 use Rattle.isle_blocks.proofs.close.depth.has_unmarked_field.Goals as goal
 use Rattle.isle_blocks.proofs.close.depth.has_unmarked_field.Goals.{in-Some+else-not-marks-k, in_default}
 

@@ -1,8 +1,8 @@
 use Rattle.std.proofs.Common.{◌≡◌, ◌<◌, ℕ, ap, sym, ◌∙◌, subst, inl, inr, true, false, Bool, List, length, arith}
 use Rattle.std.proofs.lemmas.Bool.{cases_lt}
 use Rattle.isle_blocks.specs.ClosureStates.{IsChildAt, is_marked, ChildrenAreMarked, HasUnmarkedChild}
-use Rattle.isle_blocks.proofs.ClosurePairs.{own_in}
-use Rattle.isle_blocks.proofs.ClosureLoops.{peeled_none, peeled_more, fewer_unmarked, has_loop, get_or-replicate}
+use Rattle.isle_blocks.proofs.Closure.Pairs.{own_in}
+use Rattle.isle_blocks.proofs.Closure.Loops.{peeled_none, peeled_more, fewer_unmarked, has_loop, get_or-replicate}
 use Rattle.isle_blocks.proofs.close.depth.is_finite.Goals as goal
 
 pub loop-r-init : goal.loop-r-init

@@ -1,6 +1,6 @@
 use Rattle.std.proofs.Common.{◌≡◌, ◌<◌, ℕ, true, length, vec_len}
 use Rattle.isle_blocks.specs.ClosureStates.{is_marked}
-use Rattle.isle_blocks.proofs.ClosureLoops.{Peeled, unmarked_count}
+use Rattle.isle_blocks.proofs.Closure.Loops.{Peeled, unmarked_count}
 use Rattle.isle_blocks.proofs.close.depth.is_finite.Given as goal
 
 abbrev pub invariant-loop-r : goal.invariant-loop-r

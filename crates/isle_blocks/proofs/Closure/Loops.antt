@@ -18,9 +18,9 @@ use Rattle.isle_blocks.specs.Rows.{rows_of, test_of}
 use Rattle.isle_blocks.specs.ClosureFields.{IsTable, field_binding, field_site}
 use Rattle.isle_blocks.specs.ClosureStates.{HasOwn, AreClasses, IsSound, IsChildAt, Reaches, Once, Further, HasLoop, HasUnmarkedChild}
 use Rattle.isle_blocks.specs.ClosureStates.{ChildrenAreMarked, is_marked}
-use Rattle.isle_blocks.proofs.ClosureTrees.{stands, field_at}
-use Rattle.isle_blocks.proofs.ClosureMerge.{equal_back, equal_chain, equal_has, equal_parts, field_of}
-use Rattle.isle_blocks.proofs.ClosureCount.{count_to, count_falls}
+use Rattle.isle_blocks.proofs.Closure.Trees.{stands, field_at}
+use Rattle.isle_blocks.proofs.Closure.Merge.{equal_back, equal_chain, equal_has, equal_parts, field_of}
+use Rattle.isle_blocks.proofs.Closure.Count.{count_to, count_falls}
 
 abbrev pub opposite : Bool → Bool
 opposite true = false

@@ -23,7 +23,7 @@ use Rattle.isle_blocks.specs.ClosureStates.{IsReady, HasField}
 use Rattle.isle_blocks.specs.Building.Gathering.{Gathered}
 use Rattle.isle_blocks.specs.Building.Standing.{Adds, begin, next}
 use Rattle.isle_blocks.specs.Building.Built.{IsBuiltOf}
-use Rattle.isle_blocks.proofs.ClosureTrees.{at_below, at_field, one_number}
+use Rattle.isle_blocks.proofs.Closure.Trees.{at_below, at_field, one_number}
 use Rattle.isle_blocks.proofs.Building.Entries.{at_grown, put_grown, put_there, entry_at}
 use Rattle.isle_blocks.proofs.Building.Rules.{built_before}
 

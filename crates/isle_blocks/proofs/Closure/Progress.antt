@@ -15,11 +15,11 @@ use Rattle.isle_blocks.specs.ClosureFields.{IsTable, field_binding}
 use Rattle.isle_blocks.specs.ClosureStates.{HasOwn, AreClasses, ArePairsBelow, ForDemands, IsJoined, IsSound, AreImplied, IsCovered}
 use Rattle.isle_blocks.specs.ClosureStates.{IsClosed, IsChoice, IsClash, WasPushed, LikesAreIn, demanded_in}
 use Rattle.isle_blocks.proofs.RowsInjective.{test-injective}
-use Rattle.isle_blocks.proofs.ClosureTrees.{stands}
-use Rattle.isle_blocks.proofs.ClosureDemands.{owned}
-use Rattle.isle_blocks.proofs.ClosureMerge.{equal_back, equal_chain, equal_has, drop_is, moved, moved_drop, joined_classes, joined_sound}
-use Rattle.isle_blocks.proofs.ClosureMerge.{likes_implied, joined_covered, closed_of}
-use Rattle.isle_blocks.proofs.ClosureCount.{class_count, fewer_classes}
+use Rattle.isle_blocks.proofs.Closure.Trees.{stands}
+use Rattle.isle_blocks.proofs.Closure.Demands.{owned}
+use Rattle.isle_blocks.proofs.Closure.Merge.{equal_back, equal_chain, equal_has, drop_is, moved, moved_drop, joined_classes, joined_sound}
+use Rattle.isle_blocks.proofs.Closure.Merge.{likes_implied, joined_covered, closed_of}
+use Rattle.isle_blocks.proofs.Closure.Count.{class_count, fewer_classes}
 
 pub record Progress (table : List Binding) (own : List (Option Constraint)) (equals : List (ℕ × ℕ)) (class : List ℕ) (pending : List (ℕ × ℕ)) : Type 0 where
   pub classes : AreClasses (length table) class

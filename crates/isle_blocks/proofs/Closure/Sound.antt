@@ -12,11 +12,11 @@ use Rattle.isle_blocks.specs.declared.constraint.Constraint.{Constraint}
 use Rattle.isle_blocks.specs.Rows.{rows_of, test_of}
 use Rattle.isle_blocks.specs.ClosureFields.{field_binding, field_site}
 use Rattle.isle_blocks.specs.ClosureStates.{HasOwn, IsState, IsMissingField, Grows, Still, Added, IsSound}
-use Rattle.isle_blocks.proofs.ClosurePairs.{own_in}
-use Rattle.isle_blocks.proofs.ClosureTrees.{stands, field_at}
-use Rattle.isle_blocks.proofs.ClosureMerge.{equal_back, equal_chain, equal_parts}
-use Rattle.isle_blocks.proofs.ClosureLonger.{stays, stood}
-use Rattle.isle_blocks.proofs.ClosureGrowth.{class_old, class_new, below_cases, root_below, f_in, grown_state, grown_longer}
+use Rattle.isle_blocks.proofs.Closure.Pairs.{own_in}
+use Rattle.isle_blocks.proofs.Closure.Trees.{stands, field_at}
+use Rattle.isle_blocks.proofs.Closure.Merge.{equal_back, equal_chain, equal_parts}
+use Rattle.isle_blocks.proofs.Closure.Longer.{stays, stood}
+use Rattle.isle_blocks.proofs.Closure.Growth.{class_old, class_new, below_cases, root_below, f_in, grown_state, grown_longer}
 
 module _ (own : List (Option Constraint)) (equals : List (ℕ × ℕ)) (table : List Binding) (class : List ℕ) (state : IsState own equals table class)
     (s : ℕ) (kind : Option ℕ) (i f : ℕ) (needed : IsMissingField own table class s kind i f) (name : Sym → List ℕ) (D : Demand → Type 0)

@@ -13,8 +13,8 @@ use Rattle.isle_blocks.specs.Rows.{IsInjective, rows_of, test_of}
 use Rattle.isle_blocks.specs.ClosureFields.{IsTable, Opens, field_binding, field_site}
 use Rattle.isle_blocks.specs.ClosureStates.{HasField, HasFields, HasOwn, IsOpened, IsClosed}
 use Rattle.isle_blocks.specs.Closure.{Stands, HasAllFields}
-use Rattle.isle_blocks.proofs.ClosureTrees.{one_number, at_below, field_at}
-use Rattle.isle_blocks.proofs.ClosureQuotient.{of_variant_test, of_struct_test}
+use Rattle.isle_blocks.proofs.Closure.Trees.{one_number, at_below, field_at}
+use Rattle.isle_blocks.proofs.Closure.Quotient.{of_variant_test, of_struct_test}
 
 module _ (name : Sym → List ℕ) (injective : IsInjective name) (table : List Binding) (ok : IsTable table) (D : Demand → Type 0)
     (equals : List (ℕ × ℕ)) (own : List (Option Constraint)) (class : List ℕ)

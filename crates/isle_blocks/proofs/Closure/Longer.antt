@@ -9,7 +9,7 @@ use Rattle.isle_terms.proofs.Meaning.Numbering.{one_site}
 use Rattle.isle_blocks.specs.declared.binding.Binding.{Binding}
 use Rattle.isle_blocks.specs.Rows.{rows_of}
 use Rattle.isle_blocks.specs.ClosureFields.{IsTable}
-use Rattle.isle_blocks.proofs.ClosureTrees.{row_get, get_row, stands}
+use Rattle.isle_blocks.proofs.Closure.Trees.{row_get, get_row, stands}
 
 module _ (short long : List Row) (longer : (k : ℕ) (row : Row) → slice_get short k ≡ Some row → slice_get long k ≡ Some row) where
   mutual

@@ -10,7 +10,7 @@ use Rattle.isle_blocks.specs.declared.close.fields.Opening.{Opening}
 use Rattle.isle_blocks.specs.ClosureFields.{Opens, AreFields, kind_of, field_binding}
 use Rattle.isle_blocks.specs.ClosureStates.{AreClasses, HasOwn, HasField, HasFields, IsOpened, IsState, IsMissingField, Grows, Still, Added, RunsOut}
 use Rattle.isle_blocks.specs.Tables.{IsAbsent, IsInterned, IsFull}
-use Rattle.isle_blocks.proofs.ClosureGrowth.{grown_state, grown_class, grown_join}
+use Rattle.isle_blocks.proofs.Closure.Growth.{grown_state, grown_class, grown_join}
 
 module _ (table : List Binding) (class : List ℕ) (s : ℕ) (kind : Option ℕ) (i : ℕ) (inside : s < length table)
     (missing : IsAbsent table (field_binding kind s i)) where

@@ -17,7 +17,7 @@ use Rattle.isle_blocks.specs.declared.constraint.Constraint.TheVariants as tests
 use Rattle.isle_blocks.specs.Rows.{IsInjective, rows_of, test_of}
 use Rattle.isle_blocks.specs.ClosureFields.{IsTable, Opens, field_binding, field_site}
 use Rattle.isle_blocks.specs.ClosureStates.{HasField, HasOwn, IsOpened, IsClosed, IsChildAt, IsRanked}
-use Rattle.isle_blocks.proofs.ClosureTrees.{one_number, at_below, at_field}
+use Rattle.isle_blocks.proofs.Closure.Trees.{one_number, at_below, at_field}
 
 -- a constraint with a field is a test that opens it
 pub of_variant_test : (name : Sym → List ℕ) (c : Constraint) (ty k n i : ℕ) → test_of name c ≡ variant_constraint ty k n → i < n → Opens c (Some k) i

@@ -12,8 +12,8 @@ use Rattle.isle_blocks.specs.declared.constraint.Constraint.{Constraint}
 use Rattle.isle_blocks.specs.Bindings.{sources_of}
 use Rattle.isle_blocks.specs.ClosureFields.{IsTable, Opens, field_binding}
 use Rattle.isle_blocks.specs.ClosureStates.{HasOwn, IsState, IsMissingField, Grows, Still, Added, HasFields}
-use Rattle.isle_blocks.proofs.ClosurePairs.{own_in}
-use Rattle.isle_blocks.proofs.ClosureTrees.{field_parts, field_source}
+use Rattle.isle_blocks.proofs.Closure.Pairs.{own_in}
+use Rattle.isle_blocks.proofs.Closure.Trees.{field_parts, field_source}
 
 -- a field has one part
 one_source : (kind : Option ℕ) (s i : ℕ) (part : BindingId) → Contains (sources_of (field_binding kind s i)) part → part.0 ≡ s

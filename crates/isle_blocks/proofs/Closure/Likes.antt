@@ -7,8 +7,8 @@ use Rattle.isle_blocks.specs.ClosureFields.{IsTable, AreFields, field_binding, k
 use Rattle.isle_types.specs.Names.{AreDistinct}
 use Rattle.isle_blocks.specs.ClosureStates.{AreLikeFields, HaveLikeFields, IsRootOf}
 use Rattle.std.proofs.lemmas.Option.{slice_get_within}
-use Rattle.isle_blocks.proofs.ClosurePairs.{pair_path}
-use Rattle.isle_blocks.proofs.ClosureTrees.{field_source}
+use Rattle.isle_blocks.proofs.Closure.Pairs.{pair_path}
+use Rattle.isle_blocks.proofs.Closure.Trees.{field_source}
 
 -- like fields stand at their index
 pub like_at : (table : List Binding) (member keep : ℕ) (test : Constraint) (opening : Opening) → AreFields test opening → (f g : ℕ)

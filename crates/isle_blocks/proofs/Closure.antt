@@ -1,0 +1,33 @@
+-- The closure of demands.
+-- Numbers and the sites that they stand for.
+pub mod Trees
+-- One merge of two classes.
+pub mod Merge
+-- How many numbers pass a test.
+pub mod Count
+-- What is recorded, as demands.
+pub mod Demands
+-- What the loop over the pending pairs keeps.
+pub mod Progress
+-- Lists of pairs under a push and a pop, and own tests.
+pub mod Pairs
+-- Like fields under a test.
+pub mod Likes
+-- A closed state has all that is derived.
+pub mod Quotient
+-- Marking sites after their children.
+pub mod Loops
+-- Adding a missing field.
+pub mod Growth
+-- A missing field is added, or has no room.
+pub mod Full
+-- Sites keep their numbers in a longer table.
+pub mod Longer
+-- What is merged in the grown table.
+pub mod Sound
+-- All that follows is seen in a closed table.
+pub mod Least
+-- The closure from its parts.
+pub mod Whole
+-- What a visit leaves is ready to be closed.
+pub mod Ready
