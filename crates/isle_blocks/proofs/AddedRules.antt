@@ -9,25 +9,27 @@ use Rattle.isle_terms.specs.Meaning.Sites.{Site, make_some, site_of}
 use Rattle.isle_terms.specs.Meaning.Words.{word_of}
 use Rattle.isle_terms.specs.Meaning.Demands.{demands_of, vars_of, impure_of, result_of}
 use Rattle.isle_terms.specs.Meaning.Needs.{needs_of, IsNeeded}
-use Rattle.isle_terms.specs.Meaning.Numbered.{Row, At}
+use Rattle.isle_terms.specs.Meaning.Numbered.{Row, make_some_row, At}
 use Rattle.isle_terms.proofs.Meaning.Numbering.{one_site}
 use Rattle.isle_blocks.specs.declared.ids.BindingId.{BindingId}
 use Rattle.isle_blocks.specs.declared.binding.Binding.{Binding}
 use Rattle.isle_blocks.specs.declared.binding.Binding.TheVariants.{MakeSome}
 use Rattle.isle_blocks.specs.declared.constraint.Constraint.{Constraint}
 use Rattle.isle_blocks.specs.Rows.{IsInjective, row_of, rows_of, constraints_of, pairs_of}
-use Rattle.isle_blocks.specs.Tables.{IsInterned}
+use Rattle.isle_blocks.specs.Tables.{IsInterned, IsFull}
 use Rattle.isle_blocks.specs.ClosureFields.{IsTable}
 use Rattle.isle_blocks.specs.Closure.{Stands}
-use Rattle.isle_blocks.specs.AddedRules.{IsOwnOf, IsAdded}
+use Rattle.isle_blocks.specs.AddedRules.{IsOwnOf, IsAdded, HasNoRoomAlone, HasNoRoomBeside}
+use Rattle.isle_blocks.specs.Placing.{HasNoRoomFor}
 use Rattle.isle_blocks.specs.declared.rule.Rule.{Rule}
 use Rattle.isle_blocks.specs.Assembly.{IsAssembled}
 use Rattle.isle_blocks.specs.Building.Gathering.{Gathered}
 use Rattle.isle_blocks.specs.Building.Standing.{IsPut, Adds, begin, next, StandEach}
 use Rattle.isle_blocks.specs.Building.Built.{IsBuiltOf}
-use Rattle.isle_blocks.proofs.Building.Tables.{at_within, stands_before, parts_before}
-use Rattle.isle_blocks.proofs.Building.Entries.{Grown, at_grown, put_grown, put_there, entry_at, put_of, recorded_grown}
+use Rattle.isle_blocks.proofs.Building.Tables.{at_within, stands_before, stands_once, site_once, parts_before}
+use Rattle.isle_blocks.proofs.Building.Entries.{Grown, at_grown, put_grown, put_there, entry_at, absent_of, put_of, recorded_grown}
 use Rattle.isle_blocks.proofs.Building.Rules.{built_before}
+use Rattle.isle_blocks.proofs.FullTables.{no_more}
 use Rattle.isle_blocks.proofs.Closure.Ready.{needed_stands, ready_of_recorded}
 
 more_needed : (xs : List Site) (s t : Site) → IsNeeded xs s → IsNeeded (xs ++ t ∷ []) s
@@ -123,6 +125,18 @@ module _ (name : Sym → List ℕ) (injective : IsInjective name) (facts : TermF
         effects = each_grown name rows longer grown left.impure (impure_of facts typed) built.impure;
       }
 
+  -- where no number is left for the option of its value, the rule has no room
+  pub alone_partial : IsFull left.sites (MakeSome value) → HasNoRoomAlone facts true typed
+  alone_partial full table small all result =
+      let rows = rows_of name left.sites in let many = full.1 in
+      let site = site_of facts (vars_of facts typed) (word_of facts typed.right) in
+      let absent = absent_of name injective left.sites (MakeSome value) full.0 in
+      let once_there = stands_once (needs_of facts typed) rows built.sites in
+      let missing : (k : ℕ) → At rows (make_some site) k → ⊥ =
+      λ k (j, is, at). let same : j ≡ value.0 = site_once rows once_there site j value.0 at built.result in
+      absent k (is ∙ ap (λ (z : ℕ). Some (make_some_row z)) same) in
+      no_more name injective left.sites left_ok (make_some site) missing table (omega arith) (λ k s p. all s (only_needed s k p)) result
+
 module _ (name : Sym → List ℕ) (facts : TermFacts) (partial : Bool) (typed : TypedRule) (base own table : List Binding)
     (has : List (BindingId × Constraint)) (same : List (BindingId × BindingId)) (impure : List BindingId) (result : BindingId)
     (is : IsOwnOf name facts partial typed own has same impure result) where
@@ -145,3 +159,9 @@ module _ (name : Sym → List ℕ) (facts : TermFacts) (partial : Bool) (typed :
     value = h.value (result_of facts partial typed) is.value;
     effects = h.effects (impure_of facts typed) is.effects;
   }
+
+  -- where the own sites have no room beside a table's, the rule has none
+  pub beside_of : HasNoRoomFor name (demands_of facts typed) base own → HasNoRoomBeside name facts partial typed base
+  beside_of full table small old needed made fields =
+      full table small old
+      (λ s stands. elim (is.only s stands) [ inl n ↦ needed s n | inr e ↦ subst (λ (z : Site). Stands table z) (sym e) made ]) fields

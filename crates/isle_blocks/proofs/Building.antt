@@ -33,3 +33,7 @@ pub mod Rules
 pub mod Naming
 -- What is built of a rule of definitions.
 pub mod Defined
+-- Runs that go on past the limit of the table.
+pub mod GoingOn
+-- Rules that need more sites than there are numbers.
+pub mod Overfull

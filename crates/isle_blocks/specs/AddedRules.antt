@@ -1,5 +1,5 @@
 -- A rule of definitions, added to the rule set of its term.
-use Rattle.std.specs.Prelude.{◌≡◌, ◌⊎◌, ℕ, Bool, List, Option, Some, None, slice_get}
+use Rattle.std.specs.Prelude.{◌≡◌, ◌≤◌, ◌⊎◌, ℕ, Bool, List, Option, Some, None, length, slice_get}
 use Rattle.isle_syntax.specs.declared.ast.Def.{Def}
 use Rattle.isle_types.specs.declared.ids.Sym.{Sym}
 use Rattle.isle_types.specs.Names.{AreDistinct}
@@ -17,7 +17,7 @@ use Rattle.isle_terms.specs.Meaning.Derived.{FieldOf}
 use Rattle.isle_terms.specs.Meaning.Faults.{IsUnreachable}
 use Rattle.isle_terms.specs.Meaning.Laws.{DemandOf}
 use Rattle.isle_terms.specs.Meaning.Needs.{needs_of, IsNeeded}
-use Rattle.isle_terms.specs.Meaning.Numbered.{At, AreRecorded}
+use Rattle.isle_terms.specs.Meaning.Numbered.{Row, At, AreRecorded}
 use Rattle.isle_blocks.specs.declared.binding.Binding.{Binding}
 use Rattle.isle_blocks.specs.declared.rule.Rule.{Rule}
 use Rattle.isle_blocks.specs.declared.ids.BindingId.{BindingId}
@@ -27,7 +27,7 @@ use Rattle.isle_blocks.specs.Rows.{rows_of, constraints_of, pairs_of}
 use Rattle.isle_blocks.specs.ClosureStates.{IsReady}
 use Rattle.isle_blocks.specs.Closure.{Stands, HasAllFields}
 use Rattle.isle_blocks.specs.ClosedRules.{IsClosedRule}
-use Rattle.isle_blocks.specs.Building.Naming.{name_by}
+use Rattle.isle_blocks.specs.Building.Naming.{name_by, HaveFewArguments}
 use Rattle.isle_blocks.specs.Building.Standing.{StandEach}
 
 -- a rule that definitions make, and what it stands for
@@ -39,6 +39,7 @@ pub record IsDefinedRule (env : TermTables) (rule : source.Rule) : Type 0 where
   pub defs : List Def
   pub once : AreDistinct tyenv.names
   pub shows : ShowsTerms tyenv env types levels max defs
+  pub few : HaveFewArguments env.terms
   pub place : ℕ
   pub typed : TypedRule
   pub at : slice_get env.rules place ≡ Some rule
@@ -91,3 +92,27 @@ IsOwnRule env rule partial built = (d : IsDefinedRule env rule)
 abbrev pub AddsRule : TermTables → source.Rule → Bool → List Binding → List Binding → Option Rule → Type 0
 AddsRule env rule partial base table made = (d : IsDefinedRule env rule)
     → IsAdded (name_in env rule d) (facts_in env rule d) partial d.typed base table made
+
+-- no table that has a number for each of its entries has all sites that a rule needs and that of its result
+abbrev pub HasNoRoomAlone : TermFacts → Bool → TypedRule → Type 0
+HasNoRoomAlone facts partial typed =
+    (table : List Row) → length table ≤ 65536 → ((s : Site) → IsNeeded (needs_of facts typed) s → Stands table s)
+    → Stands table (result_of facts partial typed) → ⊥
+
+-- no such table has those, the sites of a table, and all fields that the rule's demands open
+abbrev pub HasNoRoomBeside : (Sym → List ℕ) → TermFacts → Bool → TypedRule → List Binding → Type 0
+HasNoRoomBeside name facts partial typed base =
+    (table : List Row) → length table ≤ 65536 → ((s : Site) → Stands (rows_of name base) s → Stands table s)
+    → ((s : Site) → IsNeeded (needs_of facts typed) s → Stands table s) → Stands table (result_of facts partial typed)
+    → HasAllFields (DemandOf facts typed) table → ⊥
+
+-- a rule that definitions make has no room alone
+abbrev pub LacksRoomAlone : TermTables → source.Rule → Bool → Type 0
+LacksRoomAlone env rule partial = (d : IsDefinedRule env rule) → HasNoRoomAlone (facts_in env rule d) partial d.typed
+
+-- a rule that definitions make has no room alone, or is reachable and has none beside a table's sites
+abbrev pub LacksRoomFor : TermTables → source.Rule → Bool → List Binding → Type 0
+LacksRoomFor env rule partial base = (d : IsDefinedRule env rule)
+    → HasNoRoomAlone (facts_in env rule d) partial d.typed
+    ⊎ ((IsUnreachable (DemandOf (facts_in env rule d) d.typed) → ⊥)
+    × HasNoRoomBeside (name_in env rule d) (facts_in env rule d) partial d.typed base)

@@ -1,6 +1,6 @@
 //! Rules of definitions, added to a rule set's table.
-ghost use Rattle.std.specs.Prelude.{◌≡◌, IfOk, IfSome};
-ghost use Rattle.isle_blocks.specs.AddedRules.{IsDefinedRule, IsOwnRule, AddsRule};
+ghost use Rattle.std.specs.Prelude.{◌≡◌, IfOk, IfErr, IfSome};
+ghost use Rattle.isle_blocks.specs.AddedRules.{IsDefinedRule, IsOwnRule, AddsRule, LacksRoomAlone, LacksRoomFor};
 ghost use Rattle.isle_blocks.specs.Assembly.{IsToldOf};
 ghost use Rattle.isle_blocks.specs.ClosureFields.{IsTable};
 
@@ -18,7 +18,8 @@ fn own_rule(
     source: &isle_terms::Rule,
     partial: bool,
 ) -> Result<BuiltRule, SiteFault>
-    ensures { IfOk result (λ built. IsOwnRule termenv.now source.now partial built) }
+    ensures own { IfOk result (λ built. IsOwnRule termenv.now source.now partial built) }
+    ensures full { IfErr result (λ fault. fault ≡ SiteFault.Size → LacksRoomAlone termenv.now source.now partial) }
 {
     let mut built = match build_rule(alloc, termenv, source) {
         Ok(built) => built,
@@ -44,6 +45,7 @@ pub(crate) fn add_defined(
     ensures added { IfOk result (λ made. AddsRule termenv.now source.now partial table.old table.new made) }
     ensures told { IfOk result (λ made. IfSome made (λ rule. IsToldOf source.now rule)) }
     ensures kept { IfOk result (λ _. IsTable table.new) }
+    ensures full { IfErr result (λ fault. fault ≡ SiteFault.Size → LacksRoomFor termenv.now source.now partial table.old) }
 {
     let built = own_rule(alloc, termenv, source, partial)?;
     add_rule(alloc, source, &built, table)

@@ -5,7 +5,7 @@ ghost use Rattle.isle_terms.specs.Visits.Runs.{silent, listed, in_turn};
 ghost use Rattle.isle_terms.specs.Visits.VisitorCalls.{extract_outputs};
 ghost use Rattle.isle_blocks.specs.Building.Steps.{values_of, each_some};
 ghost use Rattle.isle_blocks.specs.Building.Building.{BuildsRule};
-ghost use Rattle.isle_blocks.specs.Building.Naming.{BuiltAsDefined, UsesWhatIsDefined};
+ghost use Rattle.isle_blocks.specs.Building.Naming.{BuiltAsDefined, UsesWhatIsDefined, HasTooManySites};
 
 mod contents;
 
@@ -217,7 +217,7 @@ impl RuleSetBuilder {
         self.intern(Binding::MatchSome { source: call })
     }
 
-    /// The number of a call: 0 for a pure one; impure ones are counted from 1.
+    /// The number of a call: 0 for a pure one; impure ones are counted from 1, and a vector of more is want of memory.
     fn instance(&self, pure: bool) -> Result<u32, VisitFault>
         ensures { numbers pure self.now result self.now }
     {
@@ -226,7 +226,7 @@ impl RuleSetBuilder {
         }
         let made = self.impure.len();
         if made >= u32::MAX as usize {
-            return Err(VisitFault::Size);
+            return Err(VisitFault::Memory);
         }
         Ok(made as u32 + 1)
     }
@@ -510,6 +510,7 @@ pub(crate) fn build_rule(
     ensures run { BuildsRule termenv.now.terms rule.now result }
     ensures built { IfOk result (λ built. BuiltAsDefined termenv.now rule.now built) }
     ensures defined { IfErr result (λ fault. UsesWhatIsDefined termenv.now rule.now fault) }
+    ensures full { IfErr result (λ fault. fault ≡ VisitFault.Size → HasTooManySites termenv.now rule.now) }
 {
     let mut builder = RuleSetBuilder::new(alloc);
     let result = rule.visit(alloc, &mut builder, termenv)?;

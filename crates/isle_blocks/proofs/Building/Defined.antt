@@ -93,7 +93,7 @@ made false false call = interned (sites.MatchSome call)
 
 numbered : (pure : Bool) → NeverUndefined (numbers pure)
 numbered true = nothing_done {A = ℕ} 0
-numbered false = λ s s' h. elim (h.0) [ inl e ↦ absurd cc | inr e ↦ let f = e.0 in absurd cc ]
+numbered false = λ s s' h. let e = h.0 in absurd cc
 
 kept : (pure : Bool) (value : BindingId) → NeverUndefined (keeps pure value)
 kept true value = nothing_done value

@@ -16,7 +16,7 @@ use Rattle.std.proofs.lemmas.List.Elements.{Contains-append_left, Contains-appen
 use Rattle.isle_blocks.specs.declared.ids.BindingId.{BindingId}
 use Rattle.isle_blocks.specs.declared.binding.Binding.{Binding}
 use Rattle.isle_blocks.specs.Rows.{IsInjective, row_of, rows_of}
-use Rattle.isle_blocks.specs.Tables.{IsInterned}
+use Rattle.isle_blocks.specs.Tables.{IsAbsent, IsInterned}
 use Rattle.isle_blocks.specs.Building.Standing.{IsEntryOf, IsPut, Adds, begin, next}
 use Rattle.isle_blocks.proofs.RowsInjective.{row-injective}
 
@@ -99,17 +99,17 @@ module _ (name : Sym → List ℕ) (injective : IsInjective name) where
       go None q e = absurd (none-some row (rw q at e))
       go (Some b) q e = (b, q, same_Some _ _ (rw q at e))
 
+  -- where a site stands nowhere, its entry stands nowhere
+  pub absent_of : (bs : List Binding) (b : Binding) → IsAbsent bs b → IsAbsent (rows_of name bs) (row_of name b)
+  absent_of bs b absent k e =
+      let r = row_read bs k (row_of name b) e in absent k (r.1 ∙ ap (λ z. Some z) (row-injective name injective r.0 b r.2))
+
   -- a site's number is its entry's
   pub put_of : (bs : List Binding) (b : Binding) (id : BindingId) (new : List Binding) → IsInterned bs b id new
       → IsPut (rows_of name bs) (row_of name b) id.0 (rows_of name new)
   put_of bs b id new (inl h) = inl (slice_get-map (row_of name) bs id.0 ∙ ap (option_map (row_of name)) h.0, ap (rows_of name) h.1)
   put_of bs b id new (inr h) =
-      inr (
-        λ k e. let r = row_read bs k (row_of name b) e in
-            h.0 k (r.1 ∙ ap (λ z. Some z) (row-injective name injective r.0 b r.2)),
-        h.1 ∙ sym (length-map bs (row_of name)),
-        ap (rows_of name) h.2 ∙ map-append (row_of name) bs (b ∷ []),
-      )
+      inr (absent_of bs b h.0, h.1 ∙ sym (length-map bs (row_of name)), ap (rows_of name) h.2 ∙ map-append (row_of name) bs (b ∷ []))
 
 -- some demands, and more
 pub among_left : (xs ys : List Demand) (d : Demand) → Among xs d → Among (xs ++ ys) d

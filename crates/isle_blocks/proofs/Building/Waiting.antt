@@ -23,4 +23,4 @@ each_waits (site ∷ others) before s f m = inl (waits site s f m)
 pub makes_waits : (pure : Bool) (parameters : List BindingId) (term : TermId) (infallible multi : Bool) (s : Gathered) (f : VisitFault)
     → f ≡ Memory → makes parameters term pure infallible multi s (Err f) s
 makes_waits true parameters term infallible multi s f m = inl (m, refl)
-makes_waits false parameters term infallible multi s f m = inl (inl m, refl)
+makes_waits false parameters term infallible multi s f m = inl (m, refl)

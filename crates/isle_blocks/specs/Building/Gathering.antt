@@ -1,5 +1,5 @@
 -- What is gathered of a rule so far, and how more is taken.
-use Rattle.std.specs.Prelude.{◌≡◌, ◌≢◌, ◌≤◌, ◌<◌, ◌+◌, ◌⊎◌, ◌^◌, ℕ, zero, suc, Bool, true, false, List, [], ◌∷◌, ◌++◌, length, Ok, Err}
+use Rattle.std.specs.Prelude.{◌≡◌, ◌≢◌, ◌≤◌, ◌<◌, ◌+◌, ◌⊎◌, ℕ, zero, suc, Bool, true, false, List, [], ◌∷◌, ◌++◌, length, Ok, Err}
 use Rattle.isle_terms.specs.declared.visit.fault.VisitFault.{VisitFault}
 use Rattle.isle_terms.specs.declared.visit.fault.VisitFault.TheVariants.{Size, Undefined, Memory}
 use Rattle.isle_terms.specs.Visits.Runs.{Run, done, in_turn}
@@ -93,7 +93,7 @@ constructed false false call = interns (sites.MatchSome call)
 -- the number of the next impure call, counted from 1
 abbrev pub counts : Run Gathered ℕ
 counts s (Ok n) s' = (n ≡ length s.impure + 1) × (s ≡ s')
-counts s (Err f) s' = ((f ≡ Memory) ⊎ ((f ≡ Size) × (2 ^ 32 ≤ length s.impure + 1))) × (s ≡ s')
+counts s (Err f) s' = (f ≡ Memory) × (s ≡ s')
 
 -- the number of a call: pure ones have 0
 abbrev pub numbers : Bool → Run Gathered ℕ

@@ -1,20 +1,25 @@
 -- The names of symbols, and what definitions make of a rule that is built.
-use Rattle.std.specs.Prelude.{◌≡◌, ◌≢◌, ℕ, ◌+◌, List, map, length, replicate, Some, slice_get, unwrap_or}
+use Rattle.std.specs.Prelude.{◌≡◌, ◌≢◌, ◌≤◌, ℕ, ◌+◌, List, map, length, replicate, Some, slice_get, unwrap_or}
 use Rattle.isle_syntax.specs.declared.ast.Def.{Def}
 use Rattle.isle_types.specs.declared.ids.Sym.{Sym}
 use Rattle.isle_types.specs.Environment.{Environment}
 use Rattle.isle_types.specs.Names.{AreDistinct}
 use Rattle.isle_types.specs.TypeTables.{TypeTables}
 use Rattle.isle_terms.specs.declared.rules.Rule.{Rule}
+use Rattle.isle_terms.specs.declared.terms.Term.{Term}
 use Rattle.isle_terms.specs.declared.visit.fault.VisitFault.{VisitFault}
 use Rattle.isle_terms.specs.declared.visit.fault.VisitFault.TheVariants.{Undefined}
 use Rattle.isle_terms.specs.TypedRules.{TypedRule}
 use Rattle.isle_terms.specs.Definitions.{declared_by}
-use Rattle.isle_terms.specs.Meaning.Facts.{facts_of}
+use Rattle.isle_terms.specs.Meaning.Facts.{TermFacts, facts_of}
+use Rattle.isle_terms.specs.Meaning.Needs.{needs_of, IsNeeded}
+use Rattle.isle_terms.specs.Meaning.Numbered.{Row}
+use Rattle.isle_terms.specs.Meaning.Sites.{Site}
 use Rattle.isle_terms.specs.Shown.ShownRules.{greatest}
 use Rattle.isle_terms.specs.Shown.TermTables.{TermTables}
 use Rattle.isle_terms.specs.Collecting.Environments.{ShowsTerms}
 use Rattle.isle_blocks.specs.declared.builder.BuiltRule.{BuiltRule}
+use Rattle.isle_blocks.specs.Closure.{Stands}
 use Rattle.isle_blocks.specs.Building.Building.{gathered_in}
 use Rattle.isle_blocks.specs.Building.Built.{IsBuiltOf}
 
@@ -41,3 +46,19 @@ BuiltAsDefined env rule built = (tyenv : TypeTables) (types : Environment) (leve
 abbrev pub UsesWhatIsDefined : TermTables → Rule → VisitFault → Type 0
 UsesWhatIsDefined env rule fault = (tyenv : TypeTables) (types : Environment) (levels max : ℕ) (defs : List Def)
     → ShowsTerms tyenv env types levels max defs → (place : ℕ) → slice_get env.rules place ≡ Some rule → fault ≢ Undefined
+
+-- no term has more arguments than there are numbers for fields and places
+abbrev pub HaveFewArguments : List Term → Type 0
+HaveFewArguments terms = (number : ℕ) (term : Term) → slice_get terms number ≡ Some term → length term.arg_tys ≤ 255
+
+-- no table that has a number for each of its entries has all sites that a rule needs
+abbrev pub NeedsTooMany : TermFacts → TypedRule → Type 0
+NeedsTooMany facts typed =
+    (table : List Row) → length table ≤ 65536 → ((s : Site) → IsNeeded (needs_of facts typed) s → Stands table s) → ⊥
+
+-- whatever definitions an environment shows whose terms have few arguments, its typed rule needs more sites than there are numbers
+abbrev pub HasTooManySites : TermTables → Rule → Type 0
+HasTooManySites env rule = (tyenv : TypeTables) (types : Environment) (levels max : ℕ) (defs : List Def) → AreDistinct tyenv.names
+    → (shows : ShowsTerms tyenv env types levels max defs) → HaveFewArguments env.terms → (place : ℕ) (typed : TypedRule)
+    → slice_get env.rules place ≡ Some rule → slice_get shows.environment.rules place ≡ Some typed
+    → NeedsTooMany (facts_of (declared_by types env.expands shows.environment)) typed

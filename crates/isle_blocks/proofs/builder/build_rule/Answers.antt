@@ -1,5 +1,6 @@
 use Rattle.std.proofs.Common.{rules}
 use Rattle.isle_blocks.proofs.Building.Defined.{built_as_defined, uses_defined}
+use Rattle.isle_blocks.proofs.Building.Overfull.{builds_too_many}
 use Rattle.isle_blocks.proofs.builder.build_rule.Goals as goal
 
 pub returns-clause-built : goal.returns-clause-built
@@ -11,3 +12,6 @@ returns-clause-built c =
 
 pub returns-in_err-result-clause-defined : goal.returns-in_err-result-clause-defined
 returns-in_err-result-clause-defined c = uses_defined c.args.termenv.now c.args.rule.now c.from_residual.result (search rules)
+
+pub returns-in_err-result-clause-full : goal.returns-in_err-result-clause-full
+returns-in_err-result-clause-full c = builds_too_many c.args.termenv.now c.args.rule.now c.from_residual.result (search rules)
