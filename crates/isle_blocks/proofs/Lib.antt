@@ -51,3 +51,13 @@ mod ClosedCase
 pub mod AddedRules
 -- The closure of demands.
 pub mod Closure
+-- Rules of definitions at places, gathered into rule sets.
+pub mod GatheredRules
+-- The errors of rules that never match.
+pub mod UnreachableErrors
+-- Lists of numbers in ascending order.
+pub mod ListedNumbers
+-- What is gathered of a term's rules is its rule set.
+pub mod DefinedSets
+-- The rule sets of terms, term after term.
+pub mod SetsOfTerms

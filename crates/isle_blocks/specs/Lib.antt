@@ -40,3 +40,9 @@ pub mod NormalRules
 pub mod RuleSets
 -- A rule of definitions in its term's rule set.
 pub mod AddedRules
+-- Faults of the rules that definitions make.
+pub mod RuleFaults
+-- The rule sets of the terms of definitions.
+pub mod DefinedSets
+-- How the rules of terms are gathered into their rule sets.
+pub mod GatheredSets

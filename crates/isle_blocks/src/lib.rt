@@ -17,6 +17,7 @@ mod report;
 mod rule;
 mod rule_set;
 mod sites;
+mod term_sets;
 
 pub use binding::Binding;
 pub use constraint::Constraint;

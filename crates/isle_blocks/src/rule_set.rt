@@ -1,12 +1,17 @@
 //! Rule sets: the rules of a term over one table of sites.
-ghost use Rattle.std.specs.Prelude.{◌≡◌, []};
+ghost use Rattle.std.specs.Prelude.{◌≡◌, ◌≤◌, [], IfOk, length};
+ghost use Rattle.isle_blocks.specs.AddedRules.{IsDefinedRule};
+ghost use Rattle.isle_blocks.specs.ClosureFields.{IsTable};
+ghost use Rattle.isle_blocks.specs.GatheredSets.{AddsToSet};
 ghost use Rattle.isle_blocks.specs.Tables.{IsFound};
 ghost use Rattle.isle_blocks.specs.RuleSets.{no_rules};
 
+use crate::adding::add_defined;
 use crate::binding::Binding;
 use crate::ids::BindingId;
 use crate::rule::Rule;
-use crate::sites::Sites;
+use crate::sites::{SiteFault, Sites};
+use isle_terms::TermEnv;
 use std::alloc::Global;
 use std::marker::Model;
 
@@ -34,6 +39,29 @@ impl RuleSet {
             rules: Vec::new(alloc),
             sites: Sites::new(alloc),
         }
+    }
+
+    /// Adds a rule that definitions make, and says whether it can match; one that can't is left out.
+    pub(crate) fn add(
+        &mut self,
+        alloc: Global,
+        termenv: &TermEnv,
+        source: &isle_terms::Rule,
+        partial: bool,
+    ) -> Result<bool, SiteFault>
+        requires defined { IsDefinedRule termenv.now source.now }
+        requires table { IsTable self.old.sites }
+        ensures adds { IfOk result (AddsToSet termenv.now source.now partial self.old self.new) }
+        ensures kept { IfOk result (λ _. IsTable self.new.sites) }
+        ensures few { IfOk result (λ _. length self.new.sites ≤ 65536) }
+    {
+        let made = add_defined(alloc, termenv, source, partial, &mut self.sites)?;
+        let _count = self.sites.len();
+        let Some(rule) = made else {
+            return Ok(false);
+        };
+        self.rules.push(rule)?;
+        Ok(true)
     }
 
     /// The rules, in the order of the source.

@@ -1,0 +1,131 @@
+-- Faults of the rules that definitions make: rules that never match, rules that overlap or are shadowed, and too many sites.
+use Rattle.std.specs.Prelude.{◌≡◌, ◌<◌, ◌≤◌, ◌⊎◌, ◌↔◌, ℕ, suc, false, List, [], ◌∷◌, ◌++◌, length, Contains, Some, slice_get, codes}
+use Rattle.isle_syntax.specs.Errors.{span_at}
+use Rattle.isle_syntax.specs.declared.lexer.Pos.{Pos}
+use Rattle.isle_syntax.specs.declared.error.Error.{Error}
+use Rattle.isle_syntax.specs.declared.error.Error.TheVariants.{UnreachableError}
+use Rattle.isle_types.specs.Names.{AreDistinct}
+use Rattle.isle_types.specs.TypeFaults.{IsSizeFault}
+use Rattle.isle_terms.specs.TypedRules.{TypedRule}
+use Rattle.isle_terms.specs.Meaning.Facts.{TermFacts}
+use Rattle.isle_terms.specs.Meaning.Sites.{Site}
+use Rattle.isle_terms.specs.Meaning.Demands.{result_of}
+use Rattle.isle_terms.specs.Meaning.Faults.{IsUnreachable, Overlaps, Shadows}
+use Rattle.isle_terms.specs.Meaning.Laws.{DemandOf}
+use Rattle.isle_terms.specs.Meaning.Needs.{needs_of, IsNeeded}
+use Rattle.isle_terms.specs.Meaning.Numbered.{Row}
+use Rattle.isle_blocks.specs.declared.report.RulePlace.{RulePlace}
+use Rattle.isle_blocks.specs.Closure.{Stands, HasAllFields}
+use Rattle.isle_blocks.specs.Reports.{IsReport}
+
+-- no values meet all that a rule demands
+abbrev pub NeverMatches : TermFacts → TypedRule → Type 0
+NeverMatches facts rule = IsUnreachable (DemandOf facts rule)
+
+-- some may
+abbrev pub MayMatch : TermFacts → TypedRule → Type 0
+MayMatch facts rule = NeverMatches facts rule → ⊥
+
+-- the rule at a place never matches
+pub record IsUnreachableAt (facts : TermFacts) (rules : List TypedRule) (i : ℕ) : Type 0 where
+  pub rule : TypedRule
+  pub at : slice_get rules i ≡ Some rule
+  pub never : NeverMatches facts rule
+
+-- the rule at a place is one of a term, and may match
+pub record MayMatchAt (facts : TermFacts) (rules : List TypedRule) (term i : ℕ) : Type 0 where
+  pub rule : TypedRule
+  pub at : slice_get rules i ≡ Some rule
+  pub of_term : rule.root ≡ term
+  pub may : MayMatch facts rule
+
+-- two rules of one term that gives one answer, each of which may match
+pub record AreRivals (facts : TermFacts) (rules : List TypedRule) (i j : ℕ) : Type 0 where
+  pub term : ℕ
+  pub first : MayMatchAt facts rules term i
+  pub second : MayMatchAt facts rules term j
+  pub single : facts.multi term ≡ false
+
+-- two rules, the first the earlier, that have one priority and may match together
+pub record AreOverlapping (facts : TermFacts) (rules : List TypedRule) (i j : ℕ) : Type 0 where
+  pub rivals : AreRivals facts rules i j
+  pub in_order : i < j
+  pub overlap : Overlaps (DemandOf facts rivals.first.rule) rivals.first.rule.priority (DemandOf facts rivals.second.rule) rivals.second.rule.priority
+
+-- a rule, and one of lower priority that it leaves nothing to match
+pub record IsShadowing (facts : TermFacts) (rules : List TypedRule) (i j : ℕ) : Type 0 where
+  pub rivals : AreRivals facts rules i j
+  pub shadow : Shadows (DemandOf facts rivals.first.rule) (DemandOf facts rivals.second.rule) rivals.first.rule.priority rivals.second.rule.priority
+
+-- a rule's result: in a term that may fail the made option of its right side
+abbrev pub own_result : TermFacts → TypedRule → Site
+own_result facts rule = result_of facts (facts.partial rule.root) rule
+
+-- a table has each site that a rule needs, and that of its result
+pub record NeedsStand (facts : TermFacts) (table : List Row) (rule : TypedRule) : Type 0 where
+  pub needed : (s : Site) → IsNeeded (needs_of facts rule) s → Stands table s
+  pub result : Stands table (own_result facts rule)
+
+-- and all fields that the rule's demands open
+pub record SitesStand (facts : TermFacts) (table : List Row) (rule : TypedRule) : Type 0 where
+  pub own : NeedsStand facts table rule
+  pub fields : HasAllFields (DemandOf facts rule) table
+
+-- a table of at most 65,536 sites has the sites of all rules of a term that may match
+pub record FitTogether (facts : TermFacts) (rules : List TypedRule) (term : ℕ) : Type 0 where
+  pub table : List Row
+  pub few : length table ≤ 65536
+  pub stand : (i : ℕ) (reached : MayMatchAt facts rules term i) → SitesStand facts table reached.rule
+
+-- rules without a fault: each may match, none overlap, none is shadowed, and those of a term fit in one table
+pub record AreFaultless (facts : TermFacts) (rules : List TypedRule) : Type 0 where
+  pub reachable : (i : ℕ) → IsUnreachableAt facts rules i → ⊥
+  pub apart : (i j : ℕ) → AreOverlapping facts rules i j → ⊥
+  pub seen : (i j : ℕ) → IsShadowing facts rules i j → ⊥
+  pub fit : (term : ℕ) → FitTogether facts rules term
+
+abbrev pub unreachable_message : List ℕ
+unreachable_message = codes "no values meet all that this rule demands"
+
+abbrev pub unreachable_error : Pos → Error
+unreachable_error pos = UnreachableError unreachable_message (span_at pos)
+
+-- the errors of the rules that never match, one each, in the order of the rules
+pub data TellUnreachable (facts : TermFacts) : List TypedRule → List Error → Type 0 where
+  no_rules_told : TellUnreachable facts [] []
+  one_may_match : {rules : List TypedRule} {errors : List Error} (rule : TypedRule) → MayMatch facts rule
+      → TellUnreachable facts rules errors → TellUnreachable facts (rules ++ rule ∷ []) errors
+  one_never_matches : {rules : List TypedRule} {errors : List Error} (rule : TypedRule) → NeverMatches facts rule
+      → TellUnreachable facts rules errors → TellUnreachable facts (rules ++ rule ∷ []) (errors ++ unreachable_error rule.pos ∷ [])
+
+-- how faults name rules, the first of which has this number: by their positions, then by their numbers
+abbrev pub places_from : ℕ → List TypedRule → List RulePlace
+places_from number [] = []
+places_from number (rule ∷ rules) = record { pos = rule.pos; id = record { 0 = number } } ∷ places_from (suc number) rules
+
+-- the pairs with P, each once
+pub record ListsEach (P : ℕ → ℕ → Type 0) (pairs : List (ℕ × ℕ)) : Type 0 where
+  pub all : (i j : ℕ) → Contains pairs (i, j) ↔ P i j
+  pub once : AreDistinct pairs
+
+-- the errors of the rules that overlap or are shadowed
+pub record TellRivals (facts : TermFacts) (rules : List TypedRule) (errors : List Error) : Type 0 where
+  pub overlaps : List (ℕ × ℕ)
+  pub shadows : List (ℕ × ℕ)
+  pub overlaps_are : ListsEach (AreOverlapping facts rules) overlaps
+  pub shadows_are : ListsEach (IsShadowing facts rules) shadows
+  pub report : IsReport (places_from 0 rules) overlaps shadows errors
+
+-- a rule at a position whose sites don't fit in one table, alone or with those of the term's other rules
+pub record IsTooLargeAt (facts : TermFacts) (rules : List TypedRule) (pos : Pos) : Type 0 where
+  pub place : ℕ
+  pub rule : TypedRule
+  pub at : slice_get rules place ≡ Some rule
+  pub here : pos ≡ rule.pos
+  pub too_large : ((table : List Row) → length table ≤ 65536 → NeedsStand facts table rule → ⊥) ⊎ (FitTogether facts rules rule.root → ⊥)
+
+-- the errors of faulty rules: one size error alone, or the rules that never match, then those that overlap or are shadowed
+pub data AreRuleErrors (facts : TermFacts) (rules : List TypedRule) (errors : List Error) : Type 0 where
+  of_size : (error : Error) → errors ≡ error ∷ [] → IsSizeFault (IsTooLargeAt facts rules) error → AreRuleErrors facts rules errors
+  of_rules : (unreachable between : List Error) → TellUnreachable facts rules unreachable → TellRivals facts rules between
+      → errors ≡ unreachable ++ between → 0 < length errors → AreRuleErrors facts rules errors

@@ -1,0 +1,181 @@
+//! The rule sets of all terms.
+ghost use Rattle.std.specs.Prelude.{◌≡◌, ◌≤◌, ◌<◌, ◌↔◌, ◌++◌, [], ◌∷◌, ℕ, List, All, Vec, IfOk, Some, true, length, slice_get, slice_set};
+ghost use Rattle.std.specs.List.{AllZip};
+ghost use Rattle.std.specs.Global.{Global};
+ghost use Rattle.isle_syntax.specs.Errors.{IfFault};
+ghost use Rattle.isle_terms.specs.TypedRules.{TypedRule};
+ghost use Rattle.isle_terms.specs.Meaning.Facts.{TermFacts};
+ghost use Rattle.isle_blocks.specs.Building.Contents.{Marked};
+ghost use Rattle.isle_blocks.specs.ClosureFields.{IsTable};
+ghost use Rattle.isle_blocks.specs.DefinedSets.{AreDefined, facts_by, rules_by, ListsNumbers, AreSetsOf};
+ghost use Rattle.isle_blocks.specs.GatheredSets.{AreSetsBelow, GathersRules, IsOfTerm, MarksThose, AreLost, IsLostBelow};
+ghost use Rattle.isle_blocks.specs.RuleFaults.{IsUnreachableAt, TellUnreachable, unreachable_error};
+ghost use Rattle.isle_blocks.specs.RuleSets.{no_rules};
+
+use crate::rule_set::RuleSet;
+use crate::sites::SiteFault;
+use isle_syntax::error::{Error, Span};
+use isle_syntax::lexer::Pos;
+use isle_syntax::{Refusal, Text};
+use isle_terms::{Rule, TermEnv};
+use isle_types::TermId;
+use std::alloc::{AllocError, Global};
+
+/// For each term, by its number, the places of its rules, ascending.
+fn places_by_term(
+    alloc: Global,
+    terms: usize,
+    rules: &[Rule],
+) -> Result<Vec<Vec<usize>>, AllocError>
+    requires rooted { All (λ rule. rule.root_term.0 < terms) rules.now }
+    ensures fits { IfOk result (λ places. length places.items ≡ terms) }
+    ensures places { IfOk result (λ places. (term : ℕ) (own : Vec ℕ Global) → slice_get places.items term ≡ Some own
+        → ListsNumbers (IsOfTerm rules.now term) own.items) }
+{
+    let mut places = no_places(alloc, terms)?;
+    for place in 0..rules.len() {
+        let term = rules[place].root_term.index();
+        places[term].push(place)?;
+    }
+    Ok(places)
+}
+
+/// So many empty lists.
+fn no_places(alloc: Global, count: usize) -> Result<Vec<Vec<usize>>, AllocError>
+    ensures fits { IfOk result (λ places. length places.items ≡ count) }
+    ensures empty { IfOk result (λ places. All (λ own. own.items ≡ []) places.items) }
+{
+    let mut places = Vec::new(alloc);
+    for _ in 0..count {
+        places.push(Vec::new(alloc))?;
+    }
+    Ok(places)
+}
+
+/// The rule set of the rules at places; those that can't match are marked.
+fn rule_set_of(
+    alloc: Global,
+    termenv: &TermEnv,
+    places: &[usize],
+    lost: &mut Vec<bool>,
+) -> Result<RuleSet, Refusal<Vec<Error>>>
+    requires defined { AreDefined termenv.now }
+    requires within { All (λ place. place < length termenv.now.rules) places.now }
+    requires lost_fits { length lost.old.items ≡ length termenv.now.rules }
+    ensures gathered { IfOk result (λ set. (d : AreDefined termenv.now) → GathersRules termenv.now d places.now set) }
+    ensures table { IfOk result (λ set. IsTable set.sites) }
+    ensures few { IfOk result (λ set. length set.sites ≤ 65536) }
+    ensures lost { IfOk result (λ _. (d : AreDefined termenv.now)
+        → MarksThose (AreLost termenv.now d places.now) lost.old.items lost.new.items) }
+{
+    let mut set = RuleSet::new(alloc);
+    for place in places {
+        add_at(alloc, termenv, *place, &mut set, lost)?;
+    }
+    Ok(set)
+}
+
+/// Adds the rule at a place to its term's rule set, or marks it where it can't match.
+fn add_at(
+    alloc: Global,
+    termenv: &TermEnv,
+    place: usize,
+    set: &mut RuleSet,
+    lost: &mut Vec<bool>,
+) -> Result<(), Refusal<Vec<Error>>>
+    requires defined { AreDefined termenv.now }
+    requires within { place < length termenv.now.rules }
+    requires lost_fits { length lost.old.items ≡ length termenv.now.rules }
+    requires table { IsTable set.old.sites }
+    ensures gathered { IfOk result (λ _. (d : AreDefined termenv.now) (before : List ℕ) → GathersRules termenv.now d before set.old
+        → GathersRules termenv.now d (before ++ place ∷ []) set.new) }
+    ensures kept { IfOk result (λ _. IsTable set.new.sites) }
+    ensures few { IfOk result (λ _. length set.new.sites ≤ 65536) }
+    ensures lost { IfOk result (λ _. (d : AreDefined termenv.now)
+        → MarksThose (AreLost termenv.now d (place ∷ [])) lost.old.items lost.new.items) }
+{
+    let rule = &termenv.rules()[place];
+    let partial = is_partial(termenv, rule.root_term);
+    let added = match set.add(alloc, termenv, rule, partial) {
+        Ok(added) => added,
+        Err(fault) => return Err(site_error(alloc, rule.pos, fault)),
+    };
+    if !added {
+        set_mark(lost, place);
+    }
+    Ok(())
+}
+
+/// Marks a place.
+fn set_mark(marks: &mut Vec<bool>, place: usize)
+    requires { place < length marks.old.items }
+    ensures { marks.new.items ≡ slice_set marks.old.items place true }
+{
+    marks[place] = true;
+}
+
+/// Whether a term may answer nothing.
+fn is_partial(termenv: &TermEnv, term: TermId) -> bool
+    ensures { (d : AreDefined termenv.now) → term.0 < length termenv.now.terms → result ≡ (facts_by termenv.now d).partial term.0 }
+{
+    match termenv.get_term(term) {
+        Some(term) => term.is_partial(),
+        None => false,
+    }
+}
+
+/// Why a rule can't be added.
+fn site_error(alloc: Global, pos: Pos, fault: SiteFault) -> Refusal<Vec<Error>> {
+    match fault {
+        SiteFault::Size => size_error(alloc, pos),
+        SiteFault::Memory => Refusal::Memory(AllocError),
+    }
+}
+
+/// The size error at a rule, alone.
+fn size_error(alloc: Global, pos: Pos) -> Refusal<Vec<Error>> {
+    let mut errors = Vec::new(alloc);
+    match push_size_error(alloc, pos, &mut errors) {
+        Ok(()) => Refusal::Fault(errors),
+        Err(e) => Refusal::Memory(e),
+    }
+}
+
+/// Adds the size error at a rule.
+fn push_size_error(alloc: Global, pos: Pos, errors: &mut Vec<Error>) -> Result<(), AllocError> {
+    let msg = Text::from_str(alloc, "the rules of this term have too many sites")?;
+    errors.push(Error::SizeError {
+        msg,
+        span: Span::at(pos),
+    })?;
+    Ok(())
+}
+
+/// The errors of the marked rules, in order.
+fn unreachable_errors(
+    alloc: Global,
+    rules: &[Rule],
+    lost: &[bool],
+) -> Result<Vec<Error>, AllocError>
+    requires { length lost.now ≡ length rules.now }
+    ensures { IfOk result (λ errors. (facts : TermFacts) (typed : List TypedRule) → AllZip (λ made rule. rule.pos ≡ made.pos) typed rules.now
+        → ((i : ℕ) → Marked lost.now i ↔ IsUnreachableAt facts typed i) → TellUnreachable facts typed errors.items) }
+{
+    let mut errors = Vec::new(alloc);
+    for place in 0..rules.len() {
+        if lost[place] {
+            errors.push(unreachable_at(alloc, rules[place].pos)?)?;
+        }
+    }
+    Ok(errors)
+}
+
+/// The error of a rule that can't match.
+fn unreachable_at(alloc: Global, pos: Pos) -> Result<Error, AllocError>
+    ensures { IfOk result (λ error. error ≡ unreachable_error pos) }
+{
+    Ok(Error::UnreachableError {
+        msg: Text::from_str(alloc, "no values meet all that this rule demands")?,
+        span: Span::at(pos),
+    })
+}
