@@ -26,3 +26,4 @@ pub use ids::{BindingId, TupleIndex};
 pub use report::{RulePlace, report_faults};
 pub use rule::{Overlap, Rule};
 pub use rule_set::RuleSet;
+pub use term_sets::{TermSets, build};

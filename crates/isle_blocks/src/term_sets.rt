@@ -21,6 +21,28 @@ use isle_terms::{Rule, TermEnv};
 use isle_types::TermId;
 use std::alloc::{AllocError, Global};
 
+/// The rule sets of all terms with rules, ascending by the term, and the errors of rules that can't match.
+#[derive(Debug, Drop)]
+pub struct TermSets {
+    pub sets: Vec<(TermId, RuleSet)>,
+    pub unreachable: Vec<Error>,
+}
+
+/// The rule sets of an environment of terms. A rule set with more than 65,536 sites is one size error alone, at the rule
+/// that can't be added.
+pub fn build(alloc: Global, termenv: &TermEnv) -> Result<TermSets, Refusal<Vec<Error>>>
+    requires defined { AreDefined termenv.now }
+    ensures sets { IfOk result (λ made. (d : AreDefined termenv.now) → AreSetsOf termenv.now d made.sets.items) }
+    ensures unreachable { IfOk result (λ made. (d : AreDefined termenv.now)
+        → TellUnreachable (facts_by termenv.now d) (rules_by termenv.now d) made.unreachable.items) }
+{
+    let places = places_by_term(alloc, termenv.terms().len(), termenv.rules())?;
+    let mut lost = vec![in alloc; false; termenv.rules().len()]?;
+    let sets = rule_sets(alloc, termenv, places.as_slice(), &mut lost)?;
+    let unreachable = unreachable_errors(alloc, termenv.rules(), lost.as_slice())?;
+    Ok(TermSets { sets, unreachable })
+}
+
 /// For each term, by its number, the places of its rules, ascending.
 fn places_by_term(
     alloc: Global,
@@ -50,6 +72,33 @@ fn no_places(alloc: Global, count: usize) -> Result<Vec<Vec<usize>>, AllocError>
         places.push(Vec::new(alloc))?;
     }
     Ok(places)
+}
+
+/// The rule sets of the terms that have rules at places; the rules that can't match are marked.
+fn rule_sets(
+    alloc: Global,
+    termenv: &TermEnv,
+    places: &[Vec<usize>],
+    lost: &mut Vec<bool>,
+) -> Result<Vec<(TermId, RuleSet)>, Refusal<Vec<Error>>>
+    requires defined { AreDefined termenv.now }
+    requires fits { length places.now ≡ length termenv.now.terms }
+    requires listed { (term : ℕ) (own : Vec ℕ Global) → slice_get places.now term ≡ Some own → ListsNumbers (IsOfTerm termenv.now.rules term) own.items }
+    requires lost_fits { length lost.old.items ≡ length termenv.now.rules }
+    ensures sets { IfOk result (λ sets. (d : AreDefined termenv.now) → AreSetsBelow termenv.now d (length places.now) sets.items) }
+    ensures lost { IfOk result (λ _. (d : AreDefined termenv.now)
+        → MarksThose (IsLostBelow termenv.now d (length places.now)) lost.old.items lost.new.items) }
+{
+    let mut sets = Vec::new(alloc);
+    for term in 0..places.len() {
+        let own = places[term].as_slice();
+        if own.is_empty() {
+            continue;
+        }
+        let set = rule_set_of(alloc, termenv, own, lost)?;
+        sets.push((TermId(term), set))?;
+    }
+    Ok(sets)
 }
 
 /// The rule set of the rules at places; those that can't match are marked.
