@@ -95,16 +95,31 @@ zip_map R S f (a ∷ xs) [] all = absurd all
 zip_map R S f (a ∷ xs) (b ∷ ys) all = (f a b all.0, zip_map R S f xs ys all.1)
 
 module _ (env : TermTables) (d : AreDefined env) (term : ℕ) where
-  -- the rules at places in a rule set: those that may match, over their sites and no others
+  -- the rules at places in a rule set: those that may match
   pub record IsGathered (places : List ℕ) (set : RulesOverSites) : Type 0 where
     pub reached : List ℕ
     pub listed : ListsNumbers (λ i. Contains places i × MayMatchAt (facts_by env d) (rules_by env d) term i) reached
     pub made : AllZip (IsMadeAt (name_of env d) (facts_by env d) env.rules (rules_by env d) term set.sites) reached set.rules
-    pub explained : (s : Site) → Stands (rows_of (name_of env d) set.sites) s → IsSiteOf (facts_by env d) (rules_by env d) term s
 
   -- each rule at the places has the term
   abbrev pub AreOfTerm : List ℕ → Type 0
   AreOfTerm places = (i : ℕ) (rule : TypedRule) → Contains places i → slice_get (rules_by env d) i ≡ Some rule → rule.root ≡ term
+
+  -- the sites of what is gathered are those of rules of the term that may match
+  pub gathered_explained : (places : List ℕ) (set : RulesOverSites) → GathersRules env d places set → AreOfTerm places → (s : Site)
+      → Stands (rows_of (name_of env d) set.sites) s → IsSiteOf (facts_by env d) (rules_by env d) term s
+  gathered_explained places set none_gathered own s (k, at) = let within = at_within [] s k at in absurd (omega arith)
+  gathered_explained places set (one_added {places = before} {old = old} i rule typed made new gathered at there is told pushed) own s stands =
+      elim (is.explained s stands) [
+        | inl base ↦ gathered_explained before old gathered (λ j r among. own j r (Contains-append_left before (i ∷ []) j among)) s base
+        | inr more ↦ record {
+          place = i;
+          reached = record { rule = typed; at = there; of_term = own i typed (Contains-push before i) there; may = is.reachable };
+          from = more;
+        }
+      ]
+  gathered_explained places set (one_dropped {places = before} {old = old} i typed gathered there never) own s stands =
+      gathered_explained before set gathered (λ j r among. own j r (Contains-append_left before (i ∷ []) j among)) s stands
 
   pub gathered_is : (places : List ℕ) (set : RulesOverSites) → GathersRules env d places set → Ascends places → AreOfTerm places → IsGathered places set
   gathered_is places set none_gathered up own = record {
@@ -114,7 +129,6 @@ module _ (env : TermTables) (d : AreDefined env) (term : ℕ) where
       ascending = λ k l e less within. absurd (omega arith);
     };
     made = tt;
-    explained = λ s (k, at). let within = at_within [] s k at in absurd (omega arith);
   }
   gathered_is places set (one_added {places = before} {old = old} i rule typed made new gathered at there is told pushed) up own =
       let name = name_of env d in let facts = facts_by env d in
@@ -142,10 +156,6 @@ module _ (env : TermTables) (d : AreDefined env) (term : ℕ) where
             (zip_push (IsMadeAt name facts env.rules (rules_by env d) term set.sites) so_far.reached old.rules i made
             (zip_map (IsMadeAt name facts env.rules (rules_by env d) term old.sites) (IsMadeAt name facts env.rules (rules_by env d) term set.sites)
             (made_kept name facts env.rules (rules_by env d) term old.sites set.sites is.kept) so_far.reached old.rules so_far.made) made_at);
-        explained = λ s stands. elim (is.explained s stands) [
-          | inl base ↦ so_far.explained s base
-          | inr more ↦ record { place = i; reached = here; from = more }
-        ];
       }
   gathered_is places set (one_dropped {places = before} {old = old} i typed gathered there never) up own =
       let facts = facts_by env d in
@@ -163,7 +173,6 @@ module _ (env : TermTables) (d : AreDefined env) (term : ℕ) where
             ])
             so_far.listed;
         made = so_far.made;
-        explained = so_far.explained;
       }
 
   -- the places of a term's rules are those of its typed rules
@@ -182,8 +191,8 @@ module _ (env : TermTables) (d : AreDefined env) (term : ℕ) where
   pub set_is : (places : List ℕ) (set : RulesOverSites) → ListsNumbers (IsOfTerm env.rules term) places → GathersRules env d places set
       → IsTable set.sites → length set.sites ≤ 65536 → IsSetOf (name_of env d) (facts_by env d) env.rules (rules_by env d) term set
   set_is places set listed gathered table few =
-      let is = gathered_is places set gathered listed.ascending
-      (λ i typed among there. of_term_at i typed there ((listed.all i).0 among)) in
+      let own : AreOfTerm places = λ i typed among there. of_term_at i typed there ((listed.all i).0 among) in
+      let is = gathered_is places set gathered listed.ascending own in
       record {
         places = is.reached;
         listed = numbers_same (λ i. Contains places i × MayMatchAt (facts_by env d) (rules_by env d) term i)
@@ -192,5 +201,5 @@ module _ (env : TermTables) (d : AreDefined env) (term : ℕ) where
         made = is.made;
         table = table;
         few = few;
-        explained = is.explained;
+        explained = gathered_explained places set gathered own;
       }

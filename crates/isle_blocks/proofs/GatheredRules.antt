@@ -14,12 +14,13 @@ use Rattle.isle_terms.specs.Shown.ShownTerms.{term_shown}
 use Rattle.isle_terms.specs.Shown.RulesShown.{IsShownRule}
 use Rattle.isle_terms.specs.SoundRules.WellTyped.{IsTypedRule}
 use Rattle.isle_terms.proofs.Sound.RuleTypes.{rules_typed}
-use Rattle.isle_blocks.specs.AddedRules.{IsDefinedRule, IsAddedRule}
+use Rattle.isle_blocks.specs.declared.binding.Binding.{Binding}
+use Rattle.isle_blocks.specs.AddedRules.{IsDefinedRule, IsAddedRule, HasNoRoomAlone, HasNoRoomBeside, LacksRoomFor}
 use Rattle.isle_blocks.specs.DefinedSets.{AreDefined, rules_by, facts_by, name_of}
 use Rattle.isle_blocks.specs.GatheredSets.{AddsToSet, GathersRules, one_added, one_dropped, AreLost, MarksThose}
 use Rattle.isle_blocks.specs.Building.Contents.{Marked}
 use Rattle.isle_blocks.specs.ClosureFields.{IsTable}
-use Rattle.isle_blocks.specs.RuleFaults.{NeverMatches}
+use Rattle.isle_blocks.specs.RuleFaults.{NeverMatches, MayMatch}
 use Rattle.isle_blocks.specs.RuleSets.{RulesOverSites}
 
 -- what stands at a place of the second list stands for what stands there in the first
@@ -111,6 +112,17 @@ dropped_never env d place rule typed old new partial at there adds =
     let (never, stays) = adds (defined_at env d place rule at) in
     let one : typed ≡ same = same_Some typed same (sym there ∙ here) in
     subst (λ (z : TypedRule). NeverMatches (facts_by env d) z) (sym one) never
+
+-- what a rule has no room for, by the typed rule at its place
+pub room_at : (env : TermTables) (d : AreDefined env) (place : ℕ) (rule : Rule) (typed : TypedRule) (partial : Bool) (base : List Binding)
+    → slice_get env.rules place ≡ Some rule → slice_get (rules_by env d) place ≡ Some typed → LacksRoomFor env rule partial base
+    → HasNoRoomAlone (facts_by env d) partial typed ⊎ (MayMatch (facts_by env d) typed × HasNoRoomBeside (name_of env d) (facts_by env d) partial typed base)
+unfolding typed_at defined_at
+room_at env d place rule typed partial base at there lacks =
+    let (same, here, shown) = typed_at env d place rule at in
+    let one : same ≡ typed = same_Some same typed (sym here ∙ there) in
+    subst (λ (z : TypedRule). HasNoRoomAlone (facts_by env d) partial z
+    ⊎ (MayMatch (facts_by env d) z × HasNoRoomBeside (name_of env d) (facts_by env d) partial z base)) one (lacks (defined_at env d place rule at))
 
 -- a mark that is set
 pub mark_set : (marks : List Bool) (place : ℕ) → place < length marks → (i : ℕ) → Marked (set marks place true) i ↔ (Marked marks i ⊎ (i ≡ place))

@@ -61,3 +61,5 @@ pub mod ListedNumbers
 pub mod DefinedSets
 -- The rule sets of terms, term after term.
 pub mod SetsOfTerms
+-- A rule whose sites don't fit is one size fault.
+pub mod SizeFaults

@@ -3,7 +3,7 @@ use Rattle.std.specs.Prelude.{◌≡◌, ◌<◌, ◌≤◌, ◌⊎◌, ◌↔�
 use Rattle.isle_syntax.specs.Errors.{span_at}
 use Rattle.isle_syntax.specs.declared.lexer.Pos.{Pos}
 use Rattle.isle_syntax.specs.declared.error.Error.{Error}
-use Rattle.isle_syntax.specs.declared.error.Error.TheVariants.{UnreachableError}
+use Rattle.isle_syntax.specs.declared.error.Error.TheVariants.{SizeError, UnreachableError}
 use Rattle.isle_types.specs.Names.{AreDistinct}
 use Rattle.isle_types.specs.TypeFaults.{IsSizeFault}
 use Rattle.isle_terms.specs.TypedRules.{TypedRule}
@@ -90,6 +90,14 @@ unreachable_message = codes "no values meet all that this rule demands"
 abbrev pub unreachable_error : Pos → Error
 unreachable_error pos = UnreachableError unreachable_message (span_at pos)
 
+-- what a size error says of the rule at which the sites of its term's rules are too many
+abbrev pub sites_message : List ℕ
+sites_message = codes "the rules of this term have too many sites"
+
+-- the size error at a rule's position
+abbrev pub size_error_at : Pos → Error
+size_error_at pos = SizeError sites_message (span_at pos)
+
 -- the errors of the rules that never match, one each, in the order of the rules
 pub data TellUnreachable (facts : TermFacts) : List TypedRule → List Error → Type 0 where
   no_rules_told : TellUnreachable facts [] []
@@ -123,6 +131,12 @@ pub record IsTooLargeAt (facts : TermFacts) (rules : List TypedRule) (pos : Pos)
   pub at : slice_get rules place ≡ Some rule
   pub here : pos ≡ rule.pos
   pub too_large : ((table : List Row) → length table ≤ 65536 → NeedsStand facts table rule → ⊥) ⊎ (FitTogether facts rules rule.root → ⊥)
+
+-- one size error alone, at a rule that is too large
+pub record IsOneSizeFault (facts : TermFacts) (rules : List TypedRule) (errors : List Error) : Type 0 where
+  pub error : Error
+  pub alone : errors ≡ error ∷ []
+  pub too_large : IsSizeFault (IsTooLargeAt facts rules) error
 
 -- the errors of faulty rules: one size error alone, or the rules that never match, then those that overlap or are shadowed
 pub data AreRuleErrors (facts : TermFacts) (rules : List TypedRule) (errors : List Error) : Type 0 where

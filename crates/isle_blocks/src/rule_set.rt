@@ -1,6 +1,6 @@
 //! Rule sets: the rules of a term over one table of sites.
-ghost use Rattle.std.specs.Prelude.{◌≡◌, ◌≤◌, [], IfOk, length};
-ghost use Rattle.isle_blocks.specs.AddedRules.{IsDefinedRule};
+ghost use Rattle.std.specs.Prelude.{◌≡◌, ◌≤◌, [], IfOk, IfErr, length};
+ghost use Rattle.isle_blocks.specs.AddedRules.{IsDefinedRule, LacksRoomFor};
 ghost use Rattle.isle_blocks.specs.ClosureFields.{IsTable};
 ghost use Rattle.isle_blocks.specs.GatheredSets.{AddsToSet};
 ghost use Rattle.isle_blocks.specs.Tables.{IsFound};
@@ -54,6 +54,7 @@ impl RuleSet {
         ensures adds { IfOk result (AddsToSet termenv.now source.now partial self.old self.new) }
         ensures kept { IfOk result (λ _. IsTable self.new.sites) }
         ensures few { IfOk result (λ _. length self.new.sites ≤ 65536) }
+        ensures full { IfErr result (λ fault. fault ≡ SiteFault.Size → LacksRoomFor termenv.now source.now partial self.old.sites) }
     {
         let made = add_defined(alloc, termenv, source, partial, &mut self.sites)?;
         let _count = self.sites.len();

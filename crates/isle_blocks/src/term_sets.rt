@@ -1,5 +1,5 @@
 //! The rule sets of all terms.
-ghost use Rattle.std.specs.Prelude.{◌≡◌, ◌≤◌, ◌<◌, ◌↔◌, ◌++◌, [], ◌∷◌, ℕ, List, All, Vec, IfOk, Some, true, length, slice_get, slice_set};
+ghost use Rattle.std.specs.Prelude.{◌≡◌, ◌≤◌, ◌<◌, ◌↔◌, ◌++◌, [], ◌∷◌, ℕ, List, All, Vec, IfOk, IfErr, Some, true, length, slice_get, slice_set};
 ghost use Rattle.std.specs.List.{AllZip};
 ghost use Rattle.std.specs.Global.{Global};
 ghost use Rattle.isle_syntax.specs.Errors.{IfFault};
@@ -9,7 +9,7 @@ ghost use Rattle.isle_blocks.specs.Building.Contents.{Marked};
 ghost use Rattle.isle_blocks.specs.ClosureFields.{IsTable};
 ghost use Rattle.isle_blocks.specs.DefinedSets.{AreDefined, facts_by, rules_by, ListsNumbers, AreSetsOf};
 ghost use Rattle.isle_blocks.specs.GatheredSets.{AreSetsBelow, GathersRules, IsOfTerm, MarksThose, AreLost, IsLostBelow};
-ghost use Rattle.isle_blocks.specs.RuleFaults.{IsUnreachableAt, TellUnreachable, unreachable_error};
+ghost use Rattle.isle_blocks.specs.RuleFaults.{IsUnreachableAt, IsOneSizeFault, TellUnreachable, size_error_at, unreachable_error};
 ghost use Rattle.isle_blocks.specs.RuleSets.{no_rules};
 
 use crate::rule_set::RuleSet;
@@ -35,6 +35,8 @@ pub fn build(alloc: Global, termenv: &TermEnv) -> Result<TermSets, Refusal<Vec<E
     ensures sets { IfOk result (λ made. (d : AreDefined termenv.now) → AreSetsOf termenv.now d made.sets.items) }
     ensures unreachable { IfOk result (λ made. (d : AreDefined termenv.now)
         → TellUnreachable (facts_by termenv.now d) (rules_by termenv.now d) made.unreachable.items) }
+    ensures full { IfErr result (λ r. IfFault r (λ errors. (d : AreDefined termenv.now)
+        → IsOneSizeFault (facts_by termenv.now d) (rules_by termenv.now d) errors.items)) }
 {
     let places = places_by_term(alloc, termenv.terms().len(), termenv.rules())?;
     let mut lost = vec![in alloc; false; termenv.rules().len()]?;
@@ -88,6 +90,8 @@ fn rule_sets(
     ensures sets { IfOk result (λ sets. (d : AreDefined termenv.now) → AreSetsBelow termenv.now d (length places.now) sets.items) }
     ensures lost { IfOk result (λ _. (d : AreDefined termenv.now)
         → MarksThose (IsLostBelow termenv.now d (length places.now)) lost.old.items lost.new.items) }
+    ensures full { IfErr result (λ r. IfFault r (λ errors. (d : AreDefined termenv.now)
+        → IsOneSizeFault (facts_by termenv.now d) (rules_by termenv.now d) errors.items)) }
 {
     let mut sets = Vec::new(alloc);
     for term in 0..places.len() {
@@ -116,6 +120,9 @@ fn rule_set_of(
     ensures few { IfOk result (λ set. length set.sites ≤ 65536) }
     ensures lost { IfOk result (λ _. (d : AreDefined termenv.now)
         → MarksThose (AreLost termenv.now d places.now) lost.old.items lost.new.items) }
+    ensures full { IfErr result (λ r. IfFault r (λ errors. (d : AreDefined termenv.now) (term : ℕ)
+        → All (IsOfTerm termenv.now.rules term) places.now
+        → IsOneSizeFault (facts_by termenv.now d) (rules_by termenv.now d) errors.items)) }
 {
     let mut set = RuleSet::new(alloc);
     for place in places {
@@ -142,6 +149,9 @@ fn add_at(
     ensures few { IfOk result (λ _. length set.new.sites ≤ 65536) }
     ensures lost { IfOk result (λ _. (d : AreDefined termenv.now)
         → MarksThose (AreLost termenv.now d (place ∷ [])) lost.old.items lost.new.items) }
+    ensures full { IfErr result (λ r. IfFault r (λ errors. (d : AreDefined termenv.now) (before : List ℕ) (term : ℕ)
+        → GathersRules termenv.now d before set.old → All (IsOfTerm termenv.now.rules term) (before ++ place ∷ [])
+        → IsOneSizeFault (facts_by termenv.now d) (rules_by termenv.now d) errors.items)) }
 {
     let rule = &termenv.rules()[place];
     let partial = is_partial(termenv, rule.root_term);
@@ -174,7 +184,9 @@ fn is_partial(termenv: &TermEnv, term: TermId) -> bool
 }
 
 /// Why a rule can't be added.
-fn site_error(alloc: Global, pos: Pos, fault: SiteFault) -> Refusal<Vec<Error>> {
+fn site_error(alloc: Global, pos: Pos, fault: SiteFault) -> Refusal<Vec<Error>>
+    ensures { IfFault result (λ errors. (fault ≡ SiteFault.Size) × (errors.items ≡ size_error_at pos ∷ [])) }
+{
     match fault {
         SiteFault::Size => size_error(alloc, pos),
         SiteFault::Memory => Refusal::Memory(AllocError),
@@ -182,7 +194,9 @@ fn site_error(alloc: Global, pos: Pos, fault: SiteFault) -> Refusal<Vec<Error>> 
 }
 
 /// The size error at a rule, alone.
-fn size_error(alloc: Global, pos: Pos) -> Refusal<Vec<Error>> {
+fn size_error(alloc: Global, pos: Pos) -> Refusal<Vec<Error>>
+    ensures { IfFault result (λ errors. errors.items ≡ size_error_at pos ∷ []) }
+{
     let mut errors = Vec::new(alloc);
     match push_size_error(alloc, pos, &mut errors) {
         Ok(()) => Refusal::Fault(errors),
@@ -191,7 +205,9 @@ fn size_error(alloc: Global, pos: Pos) -> Refusal<Vec<Error>> {
 }
 
 /// Adds the size error at a rule.
-fn push_size_error(alloc: Global, pos: Pos, errors: &mut Vec<Error>) -> Result<(), AllocError> {
+fn push_size_error(alloc: Global, pos: Pos, errors: &mut Vec<Error>) -> Result<(), AllocError>
+    ensures { IfOk result (λ _. errors.new.items ≡ errors.old.items ++ size_error_at pos ∷ []) }
+{
     let msg = Text::from_str(alloc, "the rules of this term have too many sites")?;
     errors.push(Error::SizeError {
         msg,

@@ -1,3 +1,5 @@
+use Rattle.isle_types.proofs.Reading.{fault_weaker}
+use Rattle.isle_blocks.proofs.SizeFaults.{one_size_fault}
 use Rattle.std.proofs.Common.{length, get_or, inl, inr, refl, ◌∙◌, ap}
 use Rattle.std.proofs.lemmas.Option.{slice_get_read}
 use Rattle.isle_blocks.proofs.GatheredRules.{defined_at, term_within, gather_next, lost_next}
@@ -30,3 +32,14 @@ returns-clause-lost c = λ d.
       | then-not-added w ↦ inr (w.if-not-added.true, ap (λ v. v.items) w.lost-is ∙ w.set_mark.ensures)
       | else-not-added w ↦ inl (w.if-not-added.false, ap (λ v. v.items) w.lost-is)
     ])
+
+pub returns-in-Err-clause-full : goal.returns-in-Err-clause-full
+returns-in-Err-clause-full c =
+    let env = c.args.termenv.now in let rule = c.index-rules-place.result in
+    let at = slice_get_read env.rules (length env.rules) c.args.place rule refl c.requires.within
+    (c.index-rules-place.is ∙ ap (λ rules. get_or rules c.args.place rule) c.rules.ensures) in
+    fault_weaker _ _ c.site_error.result
+    (λ errors (size, alone) d before term gathered own.
+    one_size_fault env d term before c.args.place rule c.args.set.now c.is_partial-partial.result errors.items at
+    (c.is_partial-partial.ensures d (term_within env d c.args.place rule at)) (c.in-Err.ensures.full size) alone gathered own)
+    c.site_error.ensures

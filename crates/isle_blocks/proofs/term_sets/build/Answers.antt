@@ -1,3 +1,4 @@
+use Rattle.std.proofs.lemmas.Result.{err_from_is_err_and}
 use Rattle.std.proofs.Common.{◌≡◌, ◌<◌, ◌↔◌, ℕ, Bool, List, false, length, get_or, sym, ap, subst, ◌∙◌}
 use Rattle.std.proofs.Math.ListN.{replicate}
 use Rattle.std.specs.Prelude.{All}
@@ -55,3 +56,8 @@ returns-clause-unreachable c = λ d.
     (subst (λ (marks : List Bool). (i : ℕ) → Marked marks i ↔ IsUnreachableAt (facts_by env d) (rules_by env d) i) (sym c.as_slice-2.ensures.value)
     (lost_all env d limit all c.in_ok-lost.lost.items c.rule_sets.new.lost.items
     (none_marked c.in_ok-lost.lost.items (length c.rules-2.result.now) (c.in_ok-lost.ensures.items_if_clones_equal (λ y q. q))) (c.in_ok-sets.ensures.lost d)))
+
+pub returns-in_err-sets-clause-full : goal.returns-in_err-sets-clause-full
+returns-in_err-sets-clause-full c =
+    let p = err_from_is_err_and c.from_residual-in_err-sets.result c.from_residual-in_err-sets.ensures.1 in
+    rw (p.1, p.2) c.in_err-sets.ensures.full

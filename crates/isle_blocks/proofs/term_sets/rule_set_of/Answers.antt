@@ -1,3 +1,8 @@
+use Rattle.std.proofs.lemmas.Result.{err_from_is_err_and}
+use Rattle.isle_types.proofs.Reading.{fault_weaker}
+use Rattle.std.specs.Prelude.{All}
+use Rattle.std.proofs.lemmas.List.Elements.{All-take}
+use Rattle.isle_blocks.specs.GatheredSets.{IsOfTerm}
 use Rattle.std.proofs.Common.{◌≡◌, ◌≤◌, ◌+◌, ℕ, add-one, take_all, List, [], ◌∷◌, ◌++◌, length, take, get_or, arith, sym, ap, subst, ◌∙◌}
 use Rattle.std.proofs.Math.Seq.{take-suc}
 use Rattle.isle_blocks.specs.RuleSets.{RulesOverSites}
@@ -44,3 +49,17 @@ returns-clause-lost c = λ d.
     let (fits, table, few, all) = c.loop-place.invariant in
     subst (λ (ps : List ℕ). MarksThose (AreLost c.args.termenv.now d ps) c.args.lost.now.items c.loop-place.lost.items)
     (take_all c.loop-place.place-index c.args.places.now (omega arith)) (all d).1
+
+pub returns-in_err-add_at-clause-full : goal.returns-in_err-add_at-clause-full
+returns-in_err-add_at-clause-full c =
+    let env = c.args.termenv.now in
+    let places = c.args.places.now in
+    let k = c.loop-place.place-index in
+    let place = get_or places k 0 in
+    let more : take (k + 1) places ≡ take k places ++ place ∷ [] = ap (λ n. take n places) (add-one k) ∙ take-suc places k 0 (omega arith) in
+    let (fits, table, few, all) = c.loop-place.invariant in
+    let p = err_from_is_err_and c.from_residual.result c.from_residual.ensures.1 in
+    rw (p.1, p.2) (fault_weaker _ _ c.in_err-add_at.field-0.0
+    (λ errors is d term own. is d (take k places) term (all d).0
+    (subst (λ (ps : List ℕ). All (IsOfTerm env.rules term) ps) more (All-take (IsOfTerm env.rules term) (k + 1) places own)))
+    c.in_err-add_at.ensures.full)

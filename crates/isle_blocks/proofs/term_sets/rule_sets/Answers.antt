@@ -1,3 +1,5 @@
+use Rattle.std.proofs.lemmas.Result.{err_from_is_err_and}
+use Rattle.isle_types.proofs.Reading.{fault_weaker}
 use Rattle.std.proofs.Common.{◌≡◌, ◌<◌, ◌+◌, ℕ, List, Vec, Some, length, slice_get, refl, sym, subst, ◌∙◌, arith}
 use Rattle.std.specs.Global.{Global}
 use Rattle.std.proofs.lemmas.Bool.{eqb-true, eqb-false}
@@ -80,3 +82,14 @@ pub returns-clause-lost : goal.returns-clause-lost
 returns-clause-lost c = λ d.
     let done : c.loop-term.term ≡ length c.args.places.now = omega arith in
     subst (λ (n : ℕ). MarksThose (IsLostBelow c.args.termenv.now d n) c.args.lost.now.items c.loop-term.lost.items) done (c.loop-term.invariant.1 d).1
+
+pub returns-in_err-set-clause-full : goal.returns-in_err-set-clause-full
+returns-in_err-set-clause-full c =
+    let rules = c.args.termenv.now.rules in let places = c.args.places.now in let term = c.loop-term.term in
+    let own = c.index-places-term.result in
+    let listed = listed_at rules places term own c.as_slice-own.result.now c.requires.listed
+    (slice_get_read places (length places) term own refl (omega arith) c.index-places-term.is) c.as_slice-own.ensures.value in
+    let p = err_from_is_err_and c.from_residual.result c.from_residual.ensures.1 in
+    rw (p.1, p.2) (fault_weaker _ _ c.in_err-set.field-0.0
+    (λ errors is d. is d term (all_listed (IsOfTerm rules term) (IsOfTerm rules term) c.as_slice-own.result.now listed (λ i holds. holds)))
+    c.in_err-set.ensures.full)

@@ -1,3 +1,5 @@
+use Rattle.std.proofs.lemmas.Result.{err_from_is_err_and}
+use Rattle.isle_blocks.specs.AddedRules.{LacksRoomFor}
 use Rattle.std.proofs.Common.{◌≡◌, ◌++◌, ◌∷◌, [], ◌∙◌, ap, subst}
 use Rattle.std.specs.Prelude.{IfSome}
 use Rattle.isle_blocks.specs.declared.rule.Rule.{Rule}
@@ -22,3 +24,9 @@ returns-clause-adds c = λ d.
     subst (λ (old : RulesOverSites). (x : Rule) × IsAddedRule (name_in env source d) (facts_in env source d) c.args.partial d.typed old.sites c.add_defined.new.table x
     × IsToldOf source x × (c.push.new.self.items ≡ old.rules ++ x ∷ []))
     c.self.view_is (c.in-Some.rule, h, told, c.in_ok-push.ensures.items)
+
+pub returns-in_err-made-clause-full : goal.returns-in_err-made-clause-full
+returns-in_err-made-clause-full c =
+    let p = err_from_is_err_and c.from_residual.result c.from_residual.ensures.1 in
+    rw (p.1, p.2) (λ size. subst (λ (set : RulesOverSites). LacksRoomFor c.args.termenv.now c.args.source.now c.args.partial set.sites) c.self.view_is
+    (c.in_err-made.ensures.full size))
