@@ -57,7 +57,8 @@ each_kept rows new kept [] (s ∷ ss) h = absurd h
 each_kept rows new kept (id ∷ ids) [] h = absurd h
 each_kept rows new kept (id ∷ ids) (s ∷ ss) h = (kept s id.0 h.0, each_kept rows new kept ids ss h.1)
 
-pub sites_kept : (facts : TermFacts) (rows new : List Row) (rule : TypedRule) → Keeps rows new → SitesStand facts rows rule → SitesStand facts new rule
+pub sites_kept : (facts : TermFacts) (rows new : List Row) (rule : TypedRule) → Keeps rows new → SitesStand facts rows rule
+    → SitesStand facts new rule
 sites_kept facts rows new rule kept stand = record {
   own = record {
     needed = λ s n. let (k, at) = stand.own.needed s n in (k, kept s k at);
@@ -88,7 +89,8 @@ zip_push R [] (b ∷ ys) x y all r = absurd all
 zip_push R (a ∷ xs) [] x y all r = absurd all
 zip_push R (a ∷ xs) (b ∷ ys) x y all r = (all.0, zip_push R xs ys x y all.1 r)
 
-pub zip_map : {A B : Type 0} (R S : A → B → Type 0) → ((x : A) (y : B) → R x y → S x y) → (xs : List A) (ys : List B) → AllZip R xs ys → AllZip S xs ys
+pub zip_map : {A B : Type 0} (R S : A → B → Type 0) → ((x : A) (y : B) → R x y → S x y) → (xs : List A) (ys : List B) → AllZip R xs ys
+    → AllZip S xs ys
 zip_map R S f [] [] all = tt
 zip_map R S f [] (b ∷ ys) all = absurd all
 zip_map R S f (a ∷ xs) [] all = absurd all
@@ -121,7 +123,8 @@ module _ (env : TermTables) (d : AreDefined env) (term : ℕ) where
   gathered_explained places set (one_dropped {places = before} {old = old} i typed gathered there never) own s stands =
       gathered_explained before set gathered (λ j r among. own j r (Contains-append_left before (i ∷ []) j among)) s stands
 
-  pub gathered_is : (places : List ℕ) (set : RulesOverSites) → GathersRules env d places set → Ascends places → AreOfTerm places → IsGathered places set
+  pub gathered_is : (places : List ℕ) (set : RulesOverSites) → GathersRules env d places set → Ascends places → AreOfTerm places
+      → IsGathered places set
   gathered_is places set none_gathered up own = record {
     reached = [];
     listed = record {
@@ -132,7 +135,8 @@ module _ (env : TermTables) (d : AreDefined env) (term : ℕ) where
   }
   gathered_is places set (one_added {places = before} {old = old} i rule typed made new gathered at there is told pushed) up own =
       let name = name_of env d in let facts = facts_by env d in
-      let so_far = gathered_is before old gathered (ascends_before before i up) (λ j r among. own j r (Contains-append_left before (i ∷ []) j among)) in
+      let so_far = gathered_is before old gathered (ascends_before before i up)
+      (λ j r among. own j r (Contains-append_left before (i ∷ []) j among)) in
       let here : MayMatchAt facts (rules_by env d) term i =
       record { rule = typed; at = there; of_term = own i typed (Contains-push before i) there; may = is.reachable } in
       let made_at : IsMadeAt name facts env.rules (rules_by env d) term set.sites i made = record {
@@ -152,14 +156,16 @@ module _ (env : TermTables) (d : AreDefined env) (term : ℕ) where
             (λ j (among, may). below_last before i up j among) (λ j (among, may). (Contains-append_left before (i ∷ []) j among, may))
             (Contains-push before i, here)
             (λ j (among, may). elim (Contains-push_cases before i j among) [ inl old_one ↦ inl (old_one, may) | inr e ↦ inr (sym e) ]);
-        made = subst (λ (l : List Rule). AllZip (IsMadeAt name facts env.rules (rules_by env d) term set.sites) (so_far.reached ++ i ∷ []) l) (sym pushed)
+        made = subst (λ (l : List Rule). AllZip (IsMadeAt name facts env.rules (rules_by env d) term set.sites) (so_far.reached ++ i ∷ []) l)
+            (sym pushed)
             (zip_push (IsMadeAt name facts env.rules (rules_by env d) term set.sites) so_far.reached old.rules i made
             (zip_map (IsMadeAt name facts env.rules (rules_by env d) term old.sites) (IsMadeAt name facts env.rules (rules_by env d) term set.sites)
             (made_kept name facts env.rules (rules_by env d) term old.sites set.sites is.kept) so_far.reached old.rules so_far.made) made_at);
       }
   gathered_is places set (one_dropped {places = before} {old = old} i typed gathered there never) up own =
       let facts = facts_by env d in
-      let so_far = gathered_is before set gathered (ascends_before before i up) (λ j r among. own j r (Contains-append_left before (i ∷ []) j among)) in
+      let so_far = gathered_is before set gathered (ascends_before before i up)
+      (λ j r among. own j r (Contains-append_left before (i ∷ []) j among)) in
       record {
         reached = so_far.reached;
         listed = numbers_same (λ j. Contains before j × MayMatchAt facts (rules_by env d) term j)
@@ -168,7 +174,8 @@ module _ (env : TermTables) (d : AreDefined env) (term : ℕ) where
             (λ j (among, may). elim (Contains-push_cases before i j among) [
               | inl old_one ↦ (old_one, may)
               | inr e ↦
-                  let same : typed ≡ may.rule = same_Some typed may.rule (sym there ∙ subst (λ (x : ℕ). slice_get (rules_by env d) x ≡ Some may.rule) (sym e) may.at) in
+                  let also = subst (λ (x : ℕ). slice_get (rules_by env d) x ≡ Some may.rule) (sym e) may.at in
+                  let same : typed ≡ may.rule = same_Some typed may.rule (sym there ∙ also) in
                   absurd (may.may (subst (λ (r : TypedRule). NeverMatches facts r) same never))
             ])
             so_far.listed;

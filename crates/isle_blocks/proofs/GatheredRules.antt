@@ -1,5 +1,6 @@
 -- Rules of definitions at places, and how they are gathered into rule sets.
-use Rattle.std.proofs.Common.{◌≡◌, ◌<◌, ◌⊎◌, ◌↔◌, inl, inr, set, get_or, arith, ◌++◌, ◌∷◌, [], ℕ, zero, suc, Bool, true, false, List, Some, length, slice_get, refl, sym, ◌∙◌, ap, subst, Contains}
+use Rattle.std.proofs.Common.{◌≡◌, ◌<◌, ◌⊎◌, ◌↔◌, inl, inr, set, get_or, ◌++◌, ◌∷◌, [], ℕ, zero, suc, Bool, true, false, List, Some, length, slice_get}
+use Rattle.std.proofs.Common.{refl, sym, ◌∙◌, ap, subst, arith, Contains}
 use Rattle.std.specs.List.{AllZip}
 use Rattle.std.proofs.lemmas.Bool.{cases_eq}
 use Rattle.std.proofs.lemmas.List.Elements.{Contains-append_left, Contains-append_right, Contains-append_cases}
@@ -76,8 +77,8 @@ term_within env d place rule at =
     subst (λ (root : ℕ). root < length env.terms) (sym shown.root) (root_within env d place typed there)
 
 -- the next rule is gathered
-pub gather_next : (env : TermTables) (d : AreDefined env) (before : List ℕ) (place : ℕ) (rule : Rule) (old new : RulesOverSites) (partial added : Bool)
-    → GathersRules env d before old → slice_get env.rules place ≡ Some rule → partial ≡ (facts_by env d).partial rule.root_term.0
+pub gather_next : (env : TermTables) (d : AreDefined env) (before : List ℕ) (place : ℕ) (rule : Rule) (old new : RulesOverSites)
+    (partial added : Bool) → GathersRules env d before old → slice_get env.rules place ≡ Some rule → partial ≡ (facts_by env d).partial rule.root_term.0
     → AddsToSet env rule partial old new added → GathersRules env d (before ++ place ∷ []) new
 unfolding typed_at defined_at
 gather_next env d before place rule old new partial true gathered at says adds =
@@ -116,7 +117,8 @@ dropped_never env d place rule typed old new partial at there adds =
 -- what a rule has no room for, by the typed rule at its place
 pub room_at : (env : TermTables) (d : AreDefined env) (place : ℕ) (rule : Rule) (typed : TypedRule) (partial : Bool) (base : List Binding)
     → slice_get env.rules place ≡ Some rule → slice_get (rules_by env d) place ≡ Some typed → LacksRoomFor env rule partial base
-    → HasNoRoomAlone (facts_by env d) partial typed ⊎ (MayMatch (facts_by env d) typed × HasNoRoomBeside (name_of env d) (facts_by env d) partial typed base)
+    → HasNoRoomAlone (facts_by env d) partial typed
+    ⊎ (MayMatch (facts_by env d) typed × HasNoRoomBeside (name_of env d) (facts_by env d) partial typed base)
 unfolding typed_at defined_at
 room_at env d place rule typed partial base at there lacks =
     let (same, here, shown) = typed_at env d place rule at in
@@ -178,7 +180,8 @@ lost_next env d place rule old new partial added at adds lost marks fits (inr (i
             },
           )
         ],
-        λ h. subst (λ (l : List Bool). Marked l i) (sym same) (both.1 (elim h [ inl before ↦ inl before | inr (among, u) ↦ inr (only_one place i among) ])),
+        λ h. subst (λ (l : List Bool). Marked l i) (sym same)
+            (both.1 (elim h [ inl before ↦ inl before | inr (among, u) ↦ inr (only_one place i among) ])),
       );
     }
 

@@ -85,7 +85,8 @@ fn rule_sets(
 ) -> Result<Vec<(TermId, RuleSet)>, Refusal<Vec<Error>>>
     requires defined { AreDefined termenv.now }
     requires fits { length places.now ≡ length termenv.now.terms }
-    requires listed { (term : ℕ) (own : Vec ℕ Global) → slice_get places.now term ≡ Some own → ListsNumbers (IsOfTerm termenv.now.rules term) own.items }
+    requires listed { (term : ℕ) (own : Vec ℕ Global) → slice_get places.now term ≡ Some own
+        → ListsNumbers (IsOfTerm termenv.now.rules term) own.items }
     requires lost_fits { length lost.old.items ≡ length termenv.now.rules }
     ensures sets { IfOk result (λ sets. (d : AreDefined termenv.now) → AreSetsBelow termenv.now d (length places.now) sets.items) }
     ensures lost { IfOk result (λ _. (d : AreDefined termenv.now)

@@ -1,8 +1,8 @@
-use Rattle.std.proofs.lemmas.Result.{err_from_is_err_and}
 use Rattle.std.proofs.Common.{◌≡◌, ◌<◌, ◌↔◌, ℕ, Bool, List, false, length, get_or, sym, ap, subst, ◌∙◌}
-use Rattle.std.proofs.Math.ListN.{replicate}
 use Rattle.std.specs.Prelude.{All}
 use Rattle.std.specs.List.{AllZip}
+use Rattle.std.proofs.lemmas.Result.{err_from_is_err_and}
+use Rattle.std.proofs.Math.ListN.{replicate}
 use Rattle.std.proofs.lemmas.List.{length-replicate}
 use Rattle.isle_terms.specs.declared.rules.Rule.{Rule}
 use Rattle.isle_terms.specs.TypedRules.{TypedRule}
@@ -51,11 +51,12 @@ returns-clause-unreachable c = λ d.
     ap (λ l. length l) c.as_slice.ensures.value ∙ c.in_ok-places.ensures.fits ∙ ap (λ terms. length terms) c.terms.ensures in
     c.in_ok-unreachable.ensures (facts_by env d) (rules_by env d)
     (subst (λ (rules : List Rule). AllZip (λ made rule. rule.pos ≡ made.pos) (rules_by env d) rules) (sym c.rules-3.ensures)
-    (zip_map (IsShownRule d.tyenv.names) (λ (made : TypedRule) (rule : Rule). rule.pos ≡ made.pos) (λ made rule shown. shown.pos) (rules_by env d) env.rules
-    d.shows.rules))
+    (zip_map (IsShownRule d.tyenv.names) (λ (made : TypedRule) (rule : Rule). rule.pos ≡ made.pos) (λ made rule shown. shown.pos) (rules_by env d)
+    env.rules d.shows.rules))
     (subst (λ (marks : List Bool). (i : ℕ) → Marked marks i ↔ IsUnreachableAt (facts_by env d) (rules_by env d) i) (sym c.as_slice-2.ensures.value)
     (lost_all env d limit all c.in_ok-lost.lost.items c.rule_sets.new.lost.items
-    (none_marked c.in_ok-lost.lost.items (length c.rules-2.result.now) (c.in_ok-lost.ensures.items_if_clones_equal (λ y q. q))) (c.in_ok-sets.ensures.lost d)))
+    (none_marked c.in_ok-lost.lost.items (length c.rules-2.result.now) (c.in_ok-lost.ensures.items_if_clones_equal (λ y q. q)))
+    (c.in_ok-sets.ensures.lost d)))
 
 pub returns-in_err-sets-clause-full : goal.returns-in_err-sets-clause-full
 returns-in_err-sets-clause-full c =

@@ -19,12 +19,14 @@ loop-place-preserved c =
     let at : slice_get rules n ≡ Some rule = slice_get_read rules (length rules) n rule refl (omega arith) c.index-rules-place.is in
     let root : home ≡ rule.root_term.0 = c.index-term.ensures ∙ ap (λ (r : Rule). r.root_term.0) (sym c.index-rules-place.is) in
     let below : rule.root_term.0 < c.args.terms = all_at (λ (r : Rule). r.root_term.0 < c.args.terms) rules c.requires.rooted n rule at in
-    let within : home < length rows = subst (λ (m : ℕ). m < length rows) (sym root) (subst (λ (m : ℕ). rule.root_term.0 < m) (sym c.loop-place.invariant.0) below) in (
+    let within : home < length rows =
+    subst (λ (m : ℕ). m < length rows) (sym root) (subst (λ (m : ℕ). rule.root_term.0 < m) (sym c.loop-place.invariant.0) below) in (
       length-set rows home c.push.new.self ∙ c.loop-place.invariant.0,
       rows_next (IsOfTerm rules) n rows home old c.push.new.self
           (slice_get_read rows (length rows) home old refl within c.index_mut.ensures.value) c.in_ok-push.ensures.items
           (record { rule = rule; at = at; of_term = sym root })
-          (λ place is. sym is.of_term ∙ ap (λ (r : Rule). r.root_term.0) (same_Some is.rule rule (sym is.at ∙ at)) ∙ sym root) c.loop-place.invariant.1,
+          (λ place is. sym is.of_term ∙ ap (λ (r : Rule). r.root_term.0) (same_Some is.rule rule (sym is.at ∙ at)) ∙ sym root)
+          c.loop-place.invariant.1,
     )
 
 pub returns-clause-places : goal.returns-clause-places

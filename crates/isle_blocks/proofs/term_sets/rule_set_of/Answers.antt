@@ -1,13 +1,12 @@
-use Rattle.std.proofs.lemmas.Result.{err_from_is_err_and}
-use Rattle.isle_types.proofs.Reading.{fault_weaker}
-use Rattle.std.specs.Prelude.{All}
-use Rattle.std.proofs.lemmas.List.Elements.{All-take}
-use Rattle.isle_blocks.specs.GatheredSets.{IsOfTerm}
 use Rattle.std.proofs.Common.{◌≡◌, ◌≤◌, ◌+◌, ℕ, add-one, take_all, List, [], ◌∷◌, ◌++◌, length, take, get_or, arith, sym, ap, subst, ◌∙◌}
+use Rattle.std.specs.Prelude.{All}
+use Rattle.std.proofs.lemmas.Result.{err_from_is_err_and}
+use Rattle.std.proofs.lemmas.List.Elements.{All-take}
 use Rattle.std.proofs.Math.Seq.{take-suc}
+use Rattle.isle_types.proofs.Reading.{fault_weaker}
 use Rattle.isle_blocks.specs.RuleSets.{RulesOverSites}
 use Rattle.isle_blocks.specs.ClosureFields.{IsTable}
-use Rattle.isle_blocks.specs.GatheredSets.{GathersRules, none_gathered, MarksThose, AreLost}
+use Rattle.isle_blocks.specs.GatheredSets.{GathersRules, none_gathered, MarksThose, AreLost, IsOfTerm}
 use Rattle.isle_blocks.proofs.GatheredRules.{no_lost, lost_more, empty_table}
 use Rattle.isle_blocks.proofs.term_sets.rule_set_of.Goals as goal
 
@@ -17,7 +16,10 @@ loop-place-init c =
       c.requires.lost_fits,
       subst (λ (set : RulesOverSites). IsTable set.sites) empty empty_table,
       subst (λ (set : RulesOverSites). length set.sites ≤ 65536) empty (omega arith),
-      λ d. (subst (λ (set : RulesOverSites). GathersRules c.args.termenv.now d [] set) empty none_gathered, no_lost c.args.termenv.now d c.args.lost.now.items),
+      λ d. (
+        subst (λ (set : RulesOverSites). GathersRules c.args.termenv.now d [] set) empty none_gathered,
+        no_lost c.args.termenv.now d c.args.lost.now.items,
+      ),
     )
 
 pub loop-place-preserved : goal.loop-place-preserved
@@ -35,14 +37,16 @@ loop-place-preserved c =
           let (gathered, lost) = all d in (
             subst (λ (ps : List ℕ). GathersRules env d ps c.add_at.new.set) (sym more) (c.in_ok-add_at.ensures.gathered d (take k places) gathered),
             subst (λ (ps : List ℕ). MarksThose (AreLost env d ps) c.args.lost.now.items c.add_at.new.lost.items) (sym more)
-                (lost_more env d (take k places) place c.args.lost.now.items c.loop-place.lost.items c.add_at.new.lost.items lost (c.in_ok-add_at.ensures.lost d)),
+                (lost_more env d (take k places) place c.args.lost.now.items c.loop-place.lost.items c.add_at.new.lost.items lost
+                (c.in_ok-add_at.ensures.lost d)),
           ),
     )
 
 pub returns-clause-gathered : goal.returns-clause-gathered
 returns-clause-gathered c = λ d.
     let (fits, table, few, all) = c.loop-place.invariant in
-    subst (λ (ps : List ℕ). GathersRules c.args.termenv.now d ps c.loop-place.set) (take_all c.loop-place.place-index c.args.places.now (omega arith)) (all d).0
+    subst (λ (ps : List ℕ). GathersRules c.args.termenv.now d ps c.loop-place.set)
+    (take_all c.loop-place.place-index c.args.places.now (omega arith)) (all d).0
 
 pub returns-clause-lost : goal.returns-clause-lost
 returns-clause-lost c = λ d.

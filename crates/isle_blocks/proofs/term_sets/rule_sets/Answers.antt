@@ -1,9 +1,9 @@
-use Rattle.std.proofs.lemmas.Result.{err_from_is_err_and}
-use Rattle.isle_types.proofs.Reading.{fault_weaker}
-use Rattle.std.proofs.Common.{◌≡◌, ◌<◌, ◌+◌, ℕ, List, Vec, Some, length, slice_get, refl, sym, subst, ◌∙◌, arith}
+use Rattle.std.proofs.Common.{◌≡◌, ◌<◌, ◌+◌, ℕ, List, Vec, Some, length, get_or, slice_get, refl, sym, subst, ◌∙◌, arith}
 use Rattle.std.specs.Global.{Global}
+use Rattle.std.proofs.lemmas.Result.{err_from_is_err_and}
 use Rattle.std.proofs.lemmas.Bool.{eqb-true, eqb-false}
 use Rattle.std.proofs.lemmas.Option.{slice_get_read, slice_get_within}
+use Rattle.isle_types.proofs.Reading.{fault_weaker}
 use Rattle.isle_types.specs.declared.ids.TermId.{TermId}
 use Rattle.isle_terms.specs.declared.rules.Rule.{Rule}
 use Rattle.isle_blocks.specs.RuleSets.{RulesOverSites}
@@ -16,14 +16,17 @@ use Rattle.isle_blocks.proofs.term_sets.rule_sets.Goals as goal
 -- what is said of the list at a place is said of its slice
 listed_at : (rules : List Rule) (places : List (Vec ℕ Global)) (term : ℕ) (own : Vec ℕ Global) (slice : List ℕ)
     → ((term : ℕ) (own : Vec ℕ Global) → slice_get places term ≡ Some own → ListsNumbers (IsOfTerm rules term) own.items)
-    → slice_get places term ≡ Some own → slice ≡ own.items → ListsNumbers (IsOfTerm rules term) slice
-listed_at rules places term own slice each at same = subst (λ (l : List ℕ). ListsNumbers (IsOfTerm rules term) l) (sym same) (each term own at)
+    → term < length places → own ≡ get_or places term own → slice ≡ own.items → ListsNumbers (IsOfTerm rules term) slice
+listed_at rules places term own slice each within is same =
+    subst (λ (l : List ℕ). ListsNumbers (IsOfTerm rules term) l) (sym same)
+    (each term own (slice_get_read places (length places) term own refl within is))
 
 pub loop-term-init : goal.loop-term-init
 loop-term-init c = (
   c.requires.lost_fits,
   λ d. (
-    subst (λ (sets : List (TermId × RulesOverSites)). AreSetsBelow c.args.termenv.now d 0 sets) (sym c.new-sets.ensures.items) (sets_none c.args.termenv.now d),
+    subst (λ (sets : List (TermId × RulesOverSites)). AreSetsBelow c.args.termenv.now d 0 sets) (sym c.new-sets.ensures.items)
+        (sets_none c.args.termenv.now d),
     lost_none c.args.termenv.now d c.args.lost.now.items,
   ),
 )
@@ -31,18 +34,18 @@ loop-term-init c = (
 pub rule_set_of-requires-clause-within : goal.rule_set_of-requires-clause-within
 rule_set_of-requires-clause-within c =
     let rules = c.args.termenv.now.rules in let places = c.args.places.now in let term = c.loop-term.term in
-    let own = c.index-places-term.result in
-    let listed = listed_at rules places term own c.as_slice-own.result.now c.requires.listed
-    (slice_get_read places (length places) term own refl (omega arith) c.index-places-term.is) c.as_slice-own.ensures.value in
-    all_listed (IsOfTerm rules term) (λ place. place < length rules) c.as_slice-own.result.now listed (λ place is. slice_get_within rules place is.rule is.at)
+    let slice = c.as_slice-own.result.now in
+    let listed = listed_at rules places term c.index-places-term.result slice c.requires.listed (omega arith) c.index-places-term.is
+    c.as_slice-own.ensures.value in
+    all_listed (IsOfTerm rules term) (λ place. place < length rules) slice listed
+    (λ place is. slice_get_within rules place is.rule is.at)
 
 pub loop-term-preserved-then-is_empty : goal.loop-term-preserved-then-is_empty
 loop-term-preserved-then-is_empty c =
     let env = c.args.termenv.now in let places = c.args.places.now in let term = c.loop-term.term in
-    let own = c.index-places-term.result in
     let slice = c.as_slice-own.result.now in
-    let listed = listed_at env.rules places term own slice c.requires.listed
-    (slice_get_read places (length places) term own refl (omega arith) c.index-places-term.is) c.as_slice-own.ensures.value in
+    let listed = listed_at env.rules places term c.index-places-term.result slice c.requires.listed (omega arith) c.index-places-term.is
+    c.as_slice-own.ensures.value in
     let none = eqb-true (length slice) 0 (sym c.is_empty.ensures ∙ c.if-is_empty.true) in
     let (fits, all) = c.loop-term.invariant in (
       fits,
@@ -55,10 +58,9 @@ loop-term-preserved-then-is_empty c =
 pub loop-term-preserved : goal.loop-term-preserved
 loop-term-preserved c =
     let env = c.args.termenv.now in let places = c.args.places.now in let term = c.loop-term.term in
-    let own = c.index-places-term.result in
     let slice = c.as_slice-own.result.now in
-    let listed = listed_at env.rules places term own slice c.requires.listed
-    (slice_get_read places (length places) term own refl (omega arith) c.index-places-term.is) c.as_slice-own.ensures.value in
+    let listed = listed_at env.rules places term c.index-places-term.result slice c.requires.listed (omega arith) c.index-places-term.is
+    c.as_slice-own.ensures.value in
     let apart = eqb-false (length slice) 0 (sym c.is_empty.ensures ∙ c.if-is_empty.false) in
     let some : 0 < length slice = omega arith in
     let is = c.in_ok-set.ensures in
@@ -86,10 +88,10 @@ returns-clause-lost c = λ d.
 pub returns-in_err-set-clause-full : goal.returns-in_err-set-clause-full
 returns-in_err-set-clause-full c =
     let rules = c.args.termenv.now.rules in let places = c.args.places.now in let term = c.loop-term.term in
-    let own = c.index-places-term.result in
-    let listed = listed_at rules places term own c.as_slice-own.result.now c.requires.listed
-    (slice_get_read places (length places) term own refl (omega arith) c.index-places-term.is) c.as_slice-own.ensures.value in
+    let slice = c.as_slice-own.result.now in
+    let listed = listed_at rules places term c.index-places-term.result slice c.requires.listed (omega arith) c.index-places-term.is
+    c.as_slice-own.ensures.value in
     let p = err_from_is_err_and c.from_residual.result c.from_residual.ensures.1 in
     rw (p.1, p.2) (fault_weaker _ _ c.in_err-set.field-0.0
-    (λ errors is d. is d term (all_listed (IsOfTerm rules term) (IsOfTerm rules term) c.as_slice-own.result.now listed (λ i holds. holds)))
+    (λ errors is d. is d term (all_listed (IsOfTerm rules term) (IsOfTerm rules term) slice listed (λ i holds. holds)))
     c.in_err-set.ensures.full)

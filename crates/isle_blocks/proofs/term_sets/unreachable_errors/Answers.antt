@@ -20,7 +20,8 @@ loop-place-preserved c = λ facts typed tells. elim c.if-lost-place.branch [
       (sym (ap (λ v. v.items) w.errors-is ∙ w.in_ok-push.ensures.items ∙ ap (λ e. c.loop-place.errors.items ++ e ∷ []) w.in_ok-unreachable_at.ensures
       ∙ ap (λ (r : Rule). c.loop-place.errors.items ++ unreachable_error r.pos ∷ []) (sym w.index-rules-place.is)))
       (next_never facts typed c.args.rules.now c.args.lost.now tells c.loop-place.place w.index-rules-place.result c.loop-place.errors.items
-      (slice_get_read c.args.rules.now (length c.args.rules.now) c.loop-place.place w.index-rules-place.result refl (omega arith) w.index-rules-place.is)
+      (slice_get_read c.args.rules.now (length c.args.rules.now) c.loop-place.place w.index-rules-place.result refl (omega arith)
+      w.index-rules-place.is)
       w.if-lost-place.true (c.loop-place.invariant facts typed tells))
   | else-lost-place w ↦
       subst (λ (errors : List Error). TellUnreachable facts (take (c.loop-place.place + 1) typed) errors) (sym (ap (λ v. v.items) w.errors-is))
