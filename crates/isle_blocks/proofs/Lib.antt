@@ -63,3 +63,9 @@ pub mod DefinedSets
 pub mod SetsOfTerms
 -- A rule whose sites don't fit is one size fault.
 pub mod SizeFaults
+-- Faults between rules of a rule set are those of the rules that definitions make.
+pub mod RivalRules
+-- The pairs listed for all terms are the faults between their rules.
+pub mod RivalLists
+-- Rules without errors are faultless.
+pub mod Faultless

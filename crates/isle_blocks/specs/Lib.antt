@@ -46,3 +46,5 @@ pub mod RuleFaults
 pub mod DefinedSets
 -- How the rules of terms are gathered into their rule sets.
 pub mod GatheredSets
+-- How the faults between rules of all terms are listed.
+pub mod RivalLists

@@ -5,6 +5,7 @@ mod adding;
 mod assembly;
 mod binding;
 mod builder;
+mod checking;
 mod close;
 mod constraint;
 mod faults;
@@ -20,6 +21,7 @@ mod sites;
 mod term_sets;
 
 pub use binding::Binding;
+pub use checking::check;
 pub use constraint::Constraint;
 pub use faults::{FaultsBetween, faults_between};
 pub use ids::{BindingId, TupleIndex};
