@@ -1,8 +1,8 @@
 -- A placed rule's tests and sets of equal sites are what follows from its demands.
-use Rattle.std.proofs.Common.{◌≡◌, ◌≢◌, inl, inr, ℕ, List, [], ◌∷◌, map, length, Option, Some, None, get_or, refl, sym, ◌∙◌, ap, subst, arith}
+use Rattle.std.proofs.Common.{◌≡◌, ◌≢◌, ◌<◌, inl, inr, ℕ, List, [], ◌∷◌, map, length, Option, Some, None, get_or, slice_get, refl, sym, ◌∙◌, ap, subst, arith}
 use Rattle.std.specs.List.Sorted.{IsStrictlySortedBy}
 use Rattle.std.specs.Map.{keys_of}
-use Rattle.std.proofs.lemmas.Bool.{cases_lt}
+use Rattle.std.proofs.lemmas.Option.{same_Some, slice_get-get_or}
 use Rattle.isle_types.specs.JoinedSets.{AreDisjoint}
 use Rattle.isle_types.specs.declared.ids.Sym.{Sym}
 use Rattle.isle_terms.specs.Meaning.Sites.{Site}
@@ -24,20 +24,20 @@ use Rattle.isle_blocks.specs.MovedSites.{new_number, place_in}
 use Rattle.isle_blocks.specs.ClosureFields.{IsTable}
 use Rattle.isle_blocks.specs.ClosureStates.{demanded_in}
 use Rattle.isle_blocks.specs.Closure.{Stands}
-use Rattle.isle_blocks.specs.Placing.{IsPlacedRule}
-use Rattle.isle_blocks.specs.Assembly.{IsExplained, IsAssembledRule}
+use Rattle.isle_blocks.specs.Placing.{IsExplained, IsPlacedRule}
+use Rattle.isle_blocks.specs.Assembly.{IsAssembledRule}
 use Rattle.isle_blocks.specs.Building.Standing.{StandEach}
 use Rattle.isle_blocks.proofs.Closure.Pairs.{own_in}
 use Rattle.isle_blocks.proofs.Closure.Trees.{stands, at_below, one_number}
-use Rattle.isle_blocks.proofs.Closure.Longer.{stays, stood}
+use Rattle.isle_blocks.proofs.Closure.Longer.{stays}
 use Rattle.isle_blocks.proofs.MovedRows.{new_place}
-use Rattle.isle_blocks.proofs.Placed.{to_at, still_stands, all_known, after_ok}
-use Rattle.isle_blocks.proofs.PlacedRoom.{field_recorded}
+use Rattle.isle_blocks.proofs.Placed.{to_at, numbered_at, numbers_fit, still_stands, all_known}
+use Rattle.isle_blocks.proofs.PlacedRoom.{grown_site}
 
-module _ (name : Sym → List ℕ) (injective : IsInjective name) (ds : List Demand) (base own table : List Binding) (placed : PlacedRule)
-    (p : IsPlacedRule name ds base own table placed) (base_ok : IsTable base) (own_ok : IsTable own) where
+module _ (name : Sym → List ℕ) (injective : IsInjective name) (ds : List Demand) (base own grown table : List Binding) (placed : PlacedRule)
+    (p : IsPlacedRule name ds base own grown table placed) (base_ok : IsTable base) (own_ok : IsTable own) where
   abbrev D : Demand → Type 0
-  D = demanded_in name p.between p.has (pairs_of p.same)
+  D = demanded_in name own p.has (pairs_of p.same)
 
   abbrev each : List (Option Constraint)
   each = placed.closed.each.items
@@ -45,71 +45,91 @@ module _ (name : Sym → List ℕ) (injective : IsInjective name) (ds : List Dem
   abbrev class : List ℕ
   class = placed.closed.class.items
 
+  abbrev numbers : List BindingId
+  numbers = placed.numbers.items
+
   -- what is closed of the recorded demands is closed of the rule's
   to_demands : (d : Demand) → Closed D d → Closed (Among ds) d
-  to_demands d h = ((numbers_say_demands (rows_of name p.between) (constraints_of name p.has) (pairs_of p.same) ds p.recorded).0 d).0 h
+  to_demands d h = ((numbers_say_demands (rows_of name own) (constraints_of name p.has) (pairs_of p.same) ds p.recorded).0 d).0 h
 
   to_recorded : (d : Demand) → Closed (Among ds) d → Closed D d
-  to_recorded d h = ((numbers_say_demands (rows_of name p.between) (constraints_of name p.has) (pairs_of p.same) ds p.recorded).0 d).1 h
+  to_recorded d h = ((numbers_say_demands (rows_of name own) (constraints_of name p.has) (pairs_of p.same) ds p.recorded).0 d).1 h
 
-  tests_derived : (tests : List (BindingId × Constraint)) → AreTestsOf each tests → AreDerived name (rows_of name table) (Among ds) tests
+  -- a site's number in the table
+  number_at : (k : ℕ) → k < length grown → (id : BindingId) × (slice_get numbers k ≡ Some id)
+  number_at k inside =
+      let fits = numbers_fit p.between grown table numbers p.moved p.opened.sites p.closure.sites name injective in
+      (get_or numbers k (record { 0 = 0 }), slice_get-get_or numbers k (record { 0 = 0 }) (omega (arith, fits, inside)))
+
+  moved_to : (s : Site) (k : ℕ) (id : BindingId) → slice_get numbers k ≡ Some id → At (rows_of name grown) s k → At (rows_of name table) s id.0
+  moved_to = numbered_at p.between grown table numbers p.moved p.opened.sites p.closure.sites name injective
+
+  moved_stands : (s : Site) → Stands (rows_of name grown) s → Stands (rows_of name table) s
+  moved_stands s (k, q) = (place_in (numbers_of numbers) k, to_at p.between grown table numbers p.moved p.opened.sites p.closure.sites name injective s k q)
+
+  tests_derived : (tests : List (BindingId × Constraint)) → AreTestsOf numbers each tests → AreDerived name (rows_of name table) (Among ds) tests
   tests_derived tests are = record {
     derived = λ id test h.
-        let has = (are id test).0 h in let low = own_in each id.0 test has in let fits = p.closure.each_fits in
-        let (s, q) = stands name table p.closure.sites id.0 (omega arith) in
-        (s, q, to_demands (constrained s (test_of name test)) ((p.closure.tested id.0 s (test_of name test) q).0 (test, has, refl)));
+        let (k, at, has) = (are id test).0 h in let low = own_in each k test has in let fits = p.closure.each_fits in
+        let (s, q) = stands name grown p.closure.sites k (omega (arith, low, fits)) in
+        (s, moved_to s k id at q, to_demands (constrained s (test_of name test)) ((p.closure.tested k s (test_of name test) q).0 (test, has, refl)));
     all = λ s c d.
         let r = to_recorded (constrained s c) d in
         let (k, q) = p.closure.all_tested s c r in
         let (test, has, e) = (p.closure.tested k s c q).1 r in
-        (record { 0 = k }, test, (are (record { 0 = k }) test).1 has, q, e);
+        let (id, at) = number_at k (at_below name grown s k q) in
+        (id, test, (are id test).1 (k, at, has), moved_to s k id at q, e);
   }
 
   -- a site without a test has no derived constraint
-  no_constraint : (a : ℕ) (s : Site) → At (rows_of name table) s a → get_or each a None ≡ None → (c : meaning.Constraint) → Derived D (constrained s c) → ⊥
+  no_constraint : (a : ℕ) (s : Site) → At (rows_of name grown) s a → get_or each a None ≡ None → (c : meaning.Constraint) → Derived D (constrained s c) → ⊥
   no_constraint a s q none c d = let (test, has, e) = (p.closure.tested a s c q).1 d in absurd (let x : ◌≡◌ {A = Option Constraint} None (Some test) = sym none ∙ has in cc)
 
-  untested : (a : ℕ) (s : Site) → At (rows_of name table) s a → ((c : meaning.Constraint) → Derived D (constrained s c) → ⊥) → IsUntested each class a
+  untested : (a : ℕ) (s : Site) → At (rows_of name grown) s a → ((c : meaning.Constraint) → Derived D (constrained s c) → ⊥) → IsUntested each class a
   untested a s q none = record {
-    inside = let l = at_below name table s a q in let f = p.closure.classes.fits in omega arith;
+    inside = let l = at_below name grown s a q in let f = p.closure.classes.fits in omega arith;
     untested = elim (get_or each a None) as (λ o. get_or each a None ≡ o → get_or each a None ≡ None) [
       | None ↦ λ e. e
       | Some test ↦ λ e. absurd (none (test_of name test) ((p.closure.tested a s (test_of name test) q).0 (test, e, refl)))
     ] refl;
   }
 
-  equal_left : (sets : List (List BindingId)) → AreEqualitiesOf each class sets → AreLeftEqual (rows_of name table) (Among ds) sets
+  equal_left : (sets : List (List BindingId)) → AreEqualitiesOf numbers each class sets → AreLeftEqual (rows_of name table) (Among ds) sets
   equal_left sets are = record {
     left = λ x y differ joined.
-        let (ux, uy, same) = (are.joined x y differ).0 joined in
+        let (k, l, at_k, at_l, (ux, uy, same)) = (are.joined x y differ).0 joined in
         let fits = p.closure.classes.fits in
         let lx = ux.inside in let ly = uy.inside in
-        let (s, px) = stands name table p.closure.sites x.0 (omega arith) in
-        let (u, py) = stands name table p.closure.sites y.0 (omega arith) in
+        let (s, px) = stands name grown p.closure.sites k (omega (arith, fits, lx)) in
+        let (u, py) = stands name grown p.closure.sites l (omega (arith, fits, ly)) in
         let apart : s ≢ u = λ e.
-        let n : x.0 ≡ y.0 = one_number name table injective p.closure.sites u x.0 y.0 (subst (λ (z : Site). At (rows_of name table) z x.0) e px) py in
-        differ (λ i. record { 0 = n i }) in
-        let derived : Derived D (equal s u) = elim ((p.closure.same x.0 y.0 s u px py).0 same) [ inl e ↦ absurd (apart e) | inr d ↦ d ] in
-        (s, u, px, py, to_demands (equal s u) (derived, apart, no_constraint x.0 s px ux.untested));
+        let n : k ≡ l = one_number name grown injective p.closure.sites u k l (subst (λ (z : Site). At (rows_of name grown) z k) e px) py in
+        differ (same_Some x y (sym at_k ∙ ap (λ (i : ℕ). slice_get numbers i) n ∙ at_l)) in
+        let derived : Derived D (equal s u) = elim ((p.closure.same k l s u px py).0 same) [ inl e ↦ absurd (apart e) | inr d ↦ d ] in
+        (s, u, moved_to s k x at_k px, moved_to u l y at_l py, to_demands (equal s u) (derived, apart, no_constraint k s px ux.untested));
     all = λ s u h.
         let (d, apart, none) = to_recorded (equal s u) h in
         let ((a, pa), (b, pb)) = p.closure.all_same s u d in
-        let x : BindingId = record { 0 = a } in let y : BindingId = record { 0 = b } in
-        let differ : x ≢ y = λ e. apart (one_site (rows_of name table) s u b (subst (λ (z : ℕ). At (rows_of name table) s z) (ap (λ (z : BindingId). z.0) e) pa) pb) in
+        let (x, at_x) = number_at a (at_below name grown s a pa) in
+        let (y, at_y) = number_at b (at_below name grown u b pb) in
+        let differ : x ≢ y = λ e. apart (one_site (rows_of name table) s u y.0
+        (subst (λ (z : ℕ). At (rows_of name table) s z) (ap (λ (z : BindingId). z.0) e) (moved_to s a x at_x pa)) (moved_to u b y at_y pb)) in
         let must : MustBeEqual each class a b =
         (untested a s pa none, untested b u pb (λ c k. none c (shared (flipped d) k)), (p.closure.same a b s u pa pb).1 (inr d)) in
-        (x, y, pa, pb, (are.joined x y differ).1 must);
+        (x, y, moved_to s a x at_x pa, moved_to u b y at_y pb, (are.joined x y differ).1 (a, b, at_x, at_y, must));
   }
 
   recorded_field : (s u : Site) → FieldOf (Among ds) s u → FieldOf D s u
   recorded_field s u (of_variant {ty = ty} {k = k} {n = n} d l) = of_variant (to_recorded (constrained s (variant_constraint ty k n)) d) l
   recorded_field s u (of_struct {ty = ty} {n = n} d l) = of_struct (to_recorded (constrained s (struct_constraint ty n)) d) l
 
-  moved_at : (s : Site) (id : BindingId) → At (rows_of name own) s id.0 → At (rows_of name table) s (new_number placed.numbers.items id).0
+  grown_at : (s : Site) (k : ℕ) → At (rows_of name own) s k → At (rows_of name grown) s k
+  grown_at = stays name own grown p.closure.kept
+
+  moved_at : (s : Site) (id : BindingId) → At (rows_of name own) s id.0 → At (rows_of name table) s (new_number numbers id).0
   moved_at s id q =
-      stays name p.between table p.closure.kept s (new_number placed.numbers.items id).0
-      (subst (λ (z : ℕ). At (rows_of name p.between) s z) (sym (new_place placed.numbers.items id))
-      (to_at base own p.between placed.numbers.items p.moved base_ok own_ok name injective s id.0 q))
+      subst (λ (z : ℕ). At (rows_of name table) s z) (sym (new_place numbers id))
+      (to_at p.between grown table numbers p.moved p.opened.sites p.closure.sites name injective s id.0 (grown_at s id.0 q))
 
   each_moved : (ids : List BindingId) (ss : List Site) → StandEach (rows_of name own) ids ss
       → StandEach (rows_of name table) (map (new_number placed.numbers.items) ids) ss
@@ -119,31 +139,22 @@ module _ (name : Sym → List ℕ) (injective : IsInjective name) (ds : List Dem
   each_moved (id ∷ ids) (s ∷ ss) h = (moved_at s id h.0, each_moved ids ss h.1)
 
   explained : (s : Site) → Stands (rows_of name table) s → IsExplained name ds base own s
-  explained s (k, q) = elim (cases_lt k (length p.between)) [
-    | inl less ↦
-        let mid_ok = after_ok base own p.between placed.numbers.items p.moved base_ok own_ok name injective in
-        elim (all_known base own p.between placed.numbers.items p.moved base_ok own_ok name injective s k
-        (stood name p.between table p.closure.kept mid_ok s k q less)) [ inl x ↦ inl x | inr x ↦ inr (inl x) ]
-    | inr more ↦
-        let (t, u, f, r) = p.closure.added k more (at_below name table s k q) in
-        let same : u ≡ s = one_site (rows_of name table) u s k r q in
-        inr (inr (t, subst (λ (z : Site). FieldOf (Among ds) t z) same (field_recorded name p.between p.has p.same ds p.recorded t u f)))
+  explained s (k, q) = elim (all_known p.between grown table numbers p.moved p.opened.sites p.closure.sites name injective s k q) [
+    | inl x ↦ p.opened.explained s x
+    | inr (j, r) ↦ inr (grown_site base own base_ok own_ok name injective ds p.has p.same p.recorded grown each class p.closure s j r)
   ]
 
-  pub assembled : (impure : List BindingId) (result : BindingId) (made : Rule) → AreTestsOf each made.constraints
-      → IsStrictlySortedBy site_cmp (keys_of made.constraints) → AreEqualitiesOf each class made.equals → AreDisjoint same_site made.equals
+  pub assembled : (impure : List BindingId) (result : BindingId) (made : Rule) → AreTestsOf numbers each made.constraints
+      → IsStrictlySortedBy site_cmp (keys_of made.constraints) → AreEqualitiesOf numbers each class made.equals → AreDisjoint same_site made.equals
       → made.impure ≡ map (new_number placed.numbers.items) impure → made.result ≡ new_number placed.numbers.items result
       → IsAssembledRule name ds base own impure result table made
   assembled impure result made tests ascending equalities disjoint effects value = record {
     reachable = p.reachable;
     closed = record { tests = tests_derived made.constraints tests; ascending = ascending; equalities = equal_left made.equals equalities; disjoint = disjoint };
-    kept = λ s k q. stays name p.between table p.closure.kept s k (still_stands base own p.between placed.numbers.items p.moved base_ok own_ok name injective s k q);
-    own_stand = λ s (k, q). (
-      place_in (numbers_of placed.numbers.items) k,
-      stays name p.between table p.closure.kept s (place_in (numbers_of placed.numbers.items) k)
-          (to_at base own p.between placed.numbers.items p.moved base_ok own_ok name injective s k q),
-    );
-    fields = λ s u f. p.closure.fields s u (recorded_field s u f);
+    kept = λ s k q. still_stands p.between grown table numbers p.moved p.opened.sites p.closure.sites name injective s k
+        (stays name base p.between p.opened.kept s k q);
+    own_stand = λ s (k, q). moved_stands s (k, grown_at s k q);
+    fields = λ s u f. moved_stands u (p.closure.fields s u (recorded_field s u f));
     explained = explained;
     value = λ s q. subst (λ (z : BindingId). At (rows_of name table) s z.0) (sym value) (moved_at s result q);
     effects = λ ss h. subst (λ (l : List BindingId). StandEach (rows_of name table) l ss) (sym effects) (each_moved impure ss h);

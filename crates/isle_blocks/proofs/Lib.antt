@@ -69,3 +69,5 @@ pub mod RivalRules
 pub mod RivalLists
 -- Rules without errors are faultless.
 pub mod Faultless
+-- The closure of demands says the same as they do.
+pub mod ClosureLaws

@@ -1,11 +1,12 @@
 -- A rule's own sites in the table of its rule set.
-use Rattle.std.proofs.Common.{◌≡◌, ◌<◌, ◌++◌, ◌⊎◌, inl, inr, ℕ, suc, List, [], ◌∷◌, map, length, Option, Some, get_or, slice_get, refl, sym, ◌∙◌, ap, subst, arith, length-append}
+use Rattle.std.proofs.Common.{◌≡◌, ◌<◌, ◌++◌, ◌⊎◌, inl, inr, ℕ, suc, List, [], ◌∷◌, map, length, Option, Some, unwrap_or, get_or, slice_get, refl, sym, ◌∙◌, ap, subst, arith, length-append}
 use Rattle.std.proofs.lemmas.List.{length-map}
 use Rattle.std.specs.Prelude.{Contains}
 use Rattle.std.proofs.lemmas.Bool.{cases_lt}
-use Rattle.std.proofs.lemmas.Option.{slice_get-get_or}
+use Rattle.std.proofs.lemmas.Option.{slice_get-get_or, slice_get_within}
 use Rattle.isle_types.proofs.Lists.{slice_get-kept, slice_get-last}
 use Rattle.isle_types.proofs.RootedTables.{Contains-map}
+use Rattle.isle_types.specs.Names.{AreDistinct}
 use Rattle.isle_types.specs.declared.ids.Sym.{Sym}
 use Rattle.isle_terms.specs.Meaning.Sites.{Site}
 use Rattle.isle_terms.specs.Meaning.Demands.{Demand}
@@ -21,8 +22,9 @@ use Rattle.isle_blocks.specs.RowTables as entries
 use Rattle.isle_blocks.specs.RowTables.{sources}
 use Rattle.isle_blocks.specs.MovedSites.{new_number, place_in, MovesSites, moved_test, moved_pair, Moves, none_moved, next_moved}
 use Rattle.isle_blocks.specs.ClosureFields.{IsTable, Opens, field_binding, field_site}
-use Rattle.isle_blocks.specs.ClosureStates.{IsReady, HasField}
-use Rattle.isle_blocks.specs.Closure.{Stands}
+use Rattle.isle_blocks.specs.ClosureStates.{IsReady, HasField, AreClasses, demanded_in}
+use Rattle.isle_blocks.specs.Placing.{AreSettled}
+use Rattle.isle_blocks.specs.Closure.{Stands, IsClosure}
 use Rattle.isle_blocks.proofs.Closure.Trees.{row_get, get_row, stands, at_below, at_field, field_at, one_number}
 use Rattle.isle_blocks.proofs.Closure.Demands.{of_image}
 use Rattle.isle_blocks.proofs.RowsInjective.{row-injective}
@@ -143,6 +145,26 @@ module _ (base own after : List Binding) (numbers : List BindingId) (moves : Mov
   pub to_at : (s : Site) (k : ℕ) → At (rows_of name own) s k → At (rows_of name after) s (place_in (numbers_of numbers) k)
   to_at = at_moved (rows_of name own) (rows_of name after) (place_in (numbers_of numbers)) kept
 
+  -- the site of a number
+  pub numbered_at : (s : Site) (k : ℕ) (id : BindingId) → slice_get numbers k ≡ Some id → At (rows_of name own) s k → At (rows_of name after) s id.0
+  numbered_at s k id at p =
+      let here : place_in (numbers_of numbers) k ≡ id.0 = sym (new_place numbers (record { 0 = k })) ∙ ap (λ (o : Option BindingId). (unwrap_or o (record { 0 = k })).0) at in
+      subst (λ (z : ℕ). At (rows_of name after) s z) here (to_at s k p)
+
+  pub numbers_fit : length numbers ≡ length own
+  numbers_fit = sym (length-map numbers (λ (x : BindingId). x.0)) ∙ as_many (moved_rows name injective moves) ∙ length-map own (row_of name)
+
+  -- no two sites have got one number
+  pub numbers_once : AreDistinct numbers
+  numbers_once id j k e f =
+      let same = numbers_fit in
+      let inside = slice_get_within numbers j id e in
+      let other = slice_get_within numbers k id f in
+      let (s, p) = stands name own own_ok j (omega (arith, same, inside)) in
+      let (u, q) = stands name own own_ok k (omega (arith, same, other)) in
+      let one : s ≡ u = one_site (rows_of name after) s u id.0 (numbered_at s j id e p) (numbered_at u k id f q) in
+      one_number name own injective own_ok u j k (subst (λ (z : Site). At (rows_of name own) z j) one p) q
+
   -- demands stay recorded
   pub still_recorded : (has : List (BindingId × Constraint)) (same : List (BindingId × BindingId)) (ds : List Demand)
       → AreRecorded (rows_of name own) (constraints_of name has) (pairs_of same) ds
@@ -197,7 +219,7 @@ module _ (base own after : List Binding) (numbers : List BindingId) (moves : Mov
           (field_moved p.0 p.1 kind i inside (subst (λ (x : Constraint). Opens x kind i) (sym test) opens));
     }
 
-  grown : (k : ℕ) (b : Binding) → slice_get base k ≡ Some b → slice_get after k ≡ Some b
+  pub grown : (k : ℕ) (b : Binding) → slice_get base k ≡ Some b → slice_get after k ≡ Some b
   grown k b e =
       let (x, p, same) = get_row name after k (row_of name b) (moves_grow (moved_rows name injective moves) k (row_of name b) (row_get name base k b e)) in
       p ∙ ap Some (row-injective name injective x b same)
@@ -218,3 +240,16 @@ module _ (base own after : List Binding) (numbers : List BindingId) (moves : Mov
         let r = subst (λ (z : ℕ). At (rows_of name after) t z) at (to_at t j q) in
         inr (j, subst (λ (z : Site). At (rows_of name own) z j) (one_site (rows_of name after) t s k r p) q)
   ]
+
+-- each of the rule's sites has a number of its own, a test and a representative
+pub settled : (base own grown table : List Binding) (numbers : List BindingId) (has : List (BindingId × Constraint)) (same : List (BindingId × BindingId))
+    (each : List (Option Constraint)) (class : List ℕ) → MovesSites base grown numbers table → IsTable base
+    → IsClosure by_number (demanded_in by_number own has (pairs_of same)) own grown each class → AreSettled numbers each class
+settled base own grown table numbers has same each class moved base_ok closure =
+    let fits = numbers_fit base grown table numbers moved base_ok closure.sites by_number by_number_injective in
+    record {
+      once = numbers_once base grown table numbers moved base_ok closure.sites by_number by_number_injective;
+      fits = closure.each_fits ∙ sym fits;
+      classes = subst (λ (n : ℕ). AreClasses n class) (sym fits) closure.classes;
+      tests = closure.class_tests;
+    }

@@ -1,5 +1,5 @@
 -- Where a rule isn't placed for want of room, no table has room for it.
-use Rattle.std.proofs.Common.{◌≡◌, ◌<◌, ◌≤◌, ◌++◌, ◌+◌, inl, inr, ℕ, List, [], ◌∷◌, length, Some, take, slice_get, refl, sym, ◌∙◌, ap, subst, arith, length-append, length-take-le}
+use Rattle.std.proofs.Common.{◌≡◌, ◌<◌, ◌≤◌, ◌++◌, ◌+◌, ◌⊎◌, inl, inr, Option, ℕ, List, [], ◌∷◌, length, Some, take, slice_get, refl, sym, ◌∙◌, ap, subst, arith, length-append, length-take-le}
 use Rattle.isle_types.proofs.Lists.{from_take, slice_get-kept}
 use Rattle.std.proofs.lemmas.Option.{slice_get_within, get_or_from_slice_get}
 use Rattle.std.proofs.lemmas.List.{length-map, map-append}
@@ -9,8 +9,9 @@ use Rattle.isle_terms.specs.Meaning.Sites.{Site}
 use Rattle.isle_terms.specs.Meaning.Demands.{Demand, constrained, Among, variant_constraint, struct_constraint}
 use Rattle.isle_terms.specs.Meaning.Derived.{FieldOf, of_variant, of_struct}
 use Rattle.isle_terms.specs.Meaning.Faults.{IsUnreachable}
-use Rattle.isle_terms.specs.Meaning.Numbered.{At, AreRecorded}
-use Rattle.isle_terms.proofs.Meaning.Numbering.{numbers_say_demands}
+use Rattle.isle_terms.specs.Meaning.Numbered.{Row, At, AreRecorded}
+use Rattle.std.proofs.lemmas.Bool.{cases_lt}
+use Rattle.isle_terms.proofs.Meaning.Numbering.{numbers_say_demands, one_site}
 use Rattle.isle_blocks.specs.declared.ids.BindingId.{BindingId}
 use Rattle.isle_blocks.specs.declared.binding.Binding.{Binding}
 use Rattle.isle_blocks.specs.declared.constraint.Constraint.{Constraint}
@@ -19,14 +20,14 @@ use Rattle.isle_blocks.specs.Tables.{IsInterned}
 use Rattle.isle_blocks.specs.MovedSites.{new_number, renumbered, place_in, MovesSites, next_site_moved, EndsFull}
 use Rattle.isle_blocks.specs.ClosureFields.{IsTable}
 use Rattle.isle_blocks.specs.ClosureStates.{demanded_in}
-use Rattle.isle_blocks.specs.Closure.{HasNoRoom}
-use Rattle.isle_blocks.specs.Placing.{HasNoRoomFor}
+use Rattle.isle_blocks.specs.Closure.{Stands, HasNoRoom, IsClosure}
+use Rattle.isle_blocks.specs.Placing.{HasNoRoomFor, GrowsFor}
 use Rattle.isle_blocks.proofs.Closure.Trees.{stands, at_below, one_number}
 use Rattle.isle_blocks.proofs.Closure.Longer.{stays, stood}
 use Rattle.isle_blocks.proofs.MovedTables.{as_many}
 use Rattle.isle_blocks.proofs.MovedRows.{moved_rows}
 use Rattle.isle_blocks.proofs.FullTables.{no_more}
-use Rattle.isle_blocks.proofs.Placed.{after_ok, to_at, all_known, place_new}
+use Rattle.isle_blocks.proofs.Placed.{after_ok, to_at, all_known, grown, place_new}
 
 -- what is recorded says the demands
 module _ (name : Sym → List ℕ) (table : List Binding) (has : List (BindingId × Constraint)) (same : List (BindingId × BindingId)) (ds : List Demand)
@@ -78,8 +79,9 @@ module _ (base own : List Binding) (base_ok : IsTable base) (own_ok : IsTable ow
       (λ s u f. has_fields s u (field_recorded name after has same ds are s u f))
 
   -- what the moved sites have no room for
-  pub moving_lacks_room : (after : List Binding) → EndsFull base own after → HasNoRoomFor name ds base own
-  moving_lacks_room after ends rows fits has_base has_own has_fields =
+  pub moving_lacks_room : (after : List Binding) → EndsFull base own after → (table : List Row) → length table ≤ 65536
+      → ((s : Site) → Stands (rows_of name base) s → Stands table s) → ((s : Site) → Stands (rows_of name own) s → Stands table s) → ⊥
+  moving_lacks_room after ends rows fits has_base has_own =
       let first = take ends.place own in
       let first_ok = prefix_ok own own_ok ends.place in
       let moves : MovesSites base first ends.numbers after = ends.moved in
@@ -105,3 +107,67 @@ module _ (base own : List Binding) (base_ok : IsTable base) (own_ok : IsTable ow
         | inr (j, q) ↦ has_own s (j, stays name first own (λ i b e. from_take own ends.place i b e) s j q)
       ])
       (has_own t (ends.place, at_t))
+
+module _ (base own : List Binding) (base_ok : IsTable base) (own_ok : IsTable own) (name : Sym → List ℕ) (injective : IsInjective name) (ds : List Demand)
+    (has : List (BindingId × Constraint)) (same : List (BindingId × BindingId))
+    (are : AreRecorded (rows_of name own) (constraints_of name has) (pairs_of same) ds) where
+  -- what the rule's own fields have no room for
+  pub own_lacks_room : HasNoRoom (demanded_in name own has (pairs_of same)) (rows_of name own) → HasNoRoomFor name ds base own
+  own_lacks_room lacks rows fits has_base has_own has_fields =
+      lacks rows fits has_own (λ s u f. has_fields s u (field_recorded name own has same ds are s u f))
+
+  -- a site of the closed table is the rule's own, or a field that its demands open
+  pub grown_site : (grown : List Binding) (each : List (Option Constraint)) (class : List ℕ)
+      → IsClosure name (demanded_in name own has (pairs_of same)) own grown each class → (s : Site) (k : ℕ) → At (rows_of name grown) s k
+      → Stands (rows_of name own) s ⊎ ((t : Site) × FieldOf (Among ds) t s)
+  grown_site grown each class closure s k p = elim (cases_lt k (length own)) [
+    | inl less ↦ inl (k, stood name own grown closure.kept own_ok s k p less)
+    | inr more ↦
+        let (t, u, f, q) = closure.added k more (at_below name grown s k p) in
+        let one : u ≡ s = one_site (rows_of name grown) u s k q p in
+        inr (t, subst (λ (z : Site). FieldOf (Among ds) t z) one (field_recorded name own has same ds are t u f))
+  ]
+
+  -- what its closed table's sites have no room for
+  pub grown_lacks_room : (grown : List Binding) (each : List (Option Constraint)) (class : List ℕ)
+      → IsClosure name (demanded_in name own has (pairs_of same)) own grown each class → (between : List Binding) → GrowsFor name ds base own between
+      → (after : List Binding) → EndsFull between grown after → HasNoRoomFor name ds base own
+  grown_lacks_room grown each class closure between opened after ends rows fits has_base has_own has_fields =
+      moving_lacks_room between grown opened.sites closure.sites name injective ds after ends rows fits
+      (λ s stands. elim (opened.explained s stands) [ inl x ↦ has_base s x | inr (inl x) ↦ has_own s x | inr (inr (t, f)) ↦ has_fields t s f ])
+      (λ s (k, p). elim (grown_site grown each class closure s k p) [ inl x ↦ has_own s x | inr (t, f) ↦ has_fields t s f ])
+
+-- a table closed over a rule's sites has grown by these and by fields alone
+pub closed_grows : (name : Sym → List ℕ) (injective : IsInjective name) (ds : List Demand) (base own between table : List Binding) (numbers : List BindingId)
+    (has : List (BindingId × Constraint)) (same : List (BindingId × BindingId)) (each : List (Option Constraint)) (class : List ℕ)
+    → MovesSites base own numbers between → IsTable base → IsTable own → AreRecorded (rows_of name between) (constraints_of name has) (pairs_of same) ds
+    → IsClosure name (demanded_in name between has (pairs_of same)) between table each class → GrowsFor name ds base own table
+closed_grows name injective ds base own between table numbers has same each class moved base_ok own_ok recorded closure = record {
+  sites = closure.sites;
+  kept = λ k b e. closure.kept k b (grown base own between numbers moved base_ok own_ok name injective k b e);
+  explained = λ s (k, q). elim (cases_lt k (length between)) [
+    | inl less ↦
+        let mid_ok = after_ok base own between numbers moved base_ok own_ok name injective in
+        elim (all_known base own between numbers moved base_ok own_ok name injective s k (stood name between table closure.kept mid_ok s k q less)) [
+          | inl x ↦ inl x
+          | inr x ↦ inr (inl x)
+        ]
+    | inr more ↦
+        let (t, u, f, r) = closure.added k more (at_below name table s k q) in
+        let one : u ≡ s = one_site (rows_of name table) u s k r q in
+        inr (inr (t, subst (λ (z : Site). FieldOf (Among ds) t z) one (field_recorded name between has same ds recorded t u f)))
+  ];
+}
+
+-- a table into which a rule's sites are moved has grown by these alone
+pub moved_grows : (name : Sym → List ℕ) (injective : IsInjective name) (ds : List Demand) (base own between : List Binding) (numbers : List BindingId)
+    → MovesSites base own numbers between → IsTable base → IsTable own → GrowsFor name ds base own between
+moved_grows name injective ds base own between numbers moved base_ok own_ok = record {
+  sites = after_ok base own between numbers moved base_ok own_ok name injective;
+  kept = grown base own between numbers moved base_ok own_ok name injective;
+  explained = λ s (k, q). elim (all_known base own between numbers moved base_ok own_ok name injective s k q) [ inl x ↦ inl x | inr x ↦ inr (inl x) ];
+}
+
+-- a table has grown by nothing
+pub nothing_grows : (name : Sym → List ℕ) (ds : List Demand) (base own : List Binding) → IsTable base → GrowsFor name ds base own base
+nothing_grows name ds base own base_ok = record { sites = base_ok; kept = λ k b e. e; explained = λ s stands. inl stands }

@@ -1,16 +1,16 @@
 -- A rule of a rule set, made of what a visit leaves.
-use Rattle.std.specs.Prelude.{◌≡◌, ◌⊎◌, ℕ, List, Option, Some, None}
+use Rattle.std.specs.Prelude.{◌≡◌, ℕ, List, Option, Some, None}
 use Rattle.isle_types.specs.declared.ids.Sym.{Sym}
 use Rattle.isle_terms.specs.declared.rules.Rule as source
 use Rattle.isle_terms.specs.Meaning.Sites.{Site}
 use Rattle.isle_terms.specs.Meaning.Demands.{Demand, Among}
-use Rattle.isle_terms.specs.Meaning.Derived.{FieldOf}
 use Rattle.isle_terms.specs.Meaning.Faults.{IsUnreachable}
 use Rattle.isle_terms.specs.Meaning.Numbered.{At}
 use Rattle.isle_blocks.specs.declared.rule.Rule.{Rule}
 use Rattle.isle_blocks.specs.Rows.{rows_of}
 use Rattle.isle_blocks.specs.Closure.{Stands, HasAllFields}
 use Rattle.isle_blocks.specs.ClosedRules.{IsClosedRule}
+use Rattle.isle_blocks.specs.Placing.{IsExplained}
 use Rattle.isle_blocks.specs.Building.Standing.{StandEach}
 use Rattle.isle_blocks.specs.declared.ids.BindingId.{BindingId}
 use Rattle.isle_blocks.specs.declared.binding.Binding.{Binding}
@@ -41,10 +41,6 @@ pub record IsToldOf (source : source.Rule) (made : Rule) : Type 0 where
   pub pos : made.pos ≡ source.pos
   pub prio : made.prio ≡ source.prio
   pub name : made.name ≡ source.name
-
--- a site of the table was there, is one of the rule's own, or is a field that the rule's demands open
-abbrev pub IsExplained : (Sym → List ℕ) → List Demand → List Binding → List Binding → Site → Type 0
-IsExplained name ds base own s = Stands (rows_of name base) s ⊎ Stands (rows_of name own) s ⊎ ((t : Site) × FieldOf (Among ds) t s)
 
 -- The rule in its rule set: what follows from its demands, over a table that has the sites that stood, its own, and all fields that it opens.
 pub record IsAssembledRule (name : Sym → List ℕ) (ds : List Demand) (base own : List Binding) (impure : List BindingId) (result : BindingId)

@@ -48,3 +48,5 @@ pub mod DefinedSets
 pub mod GatheredSets
 -- How the faults between rules of all terms are listed.
 pub mod RivalLists
+-- What the closure of demands means.
+pub mod ClosureLaws

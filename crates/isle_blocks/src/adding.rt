@@ -47,6 +47,6 @@ pub(crate) fn add_defined(
     ensures kept { IfOk result (λ _. IsTable table.new) }
     ensures full { IfErr result (λ fault. fault ≡ SiteFault.Size → LacksRoomFor termenv.now source.now partial table.old) }
 {
-    let built = own_rule(alloc, termenv, source, partial)?;
-    add_rule(alloc, source, &built, table)
+    let mut built = own_rule(alloc, termenv, source, partial)?;
+    add_rule(alloc, source, &mut built, table)
 }

@@ -1,5 +1,5 @@
 //! Rules of a rule set, made of what visits leave.
-ghost use Rattle.std.specs.Prelude.{◌≡◌, ◌≤◌, true, false, IfOk, IfSome, OnErr, IfErr, IsPermutation, IsSorted, length, map};
+ghost use Rattle.std.specs.Prelude.{◌≡◌, true, false, IfOk, IfSome, OnErr, IfErr, IsPermutation, IsSorted, map};
 ghost use Rattle.std.specs.List.{filter_map};
 ghost use Rattle.std.specs.List.Sorted.{IsStrictlySortedBy};
 ghost use Rattle.std.specs.Map.{keys_of};
@@ -13,8 +13,8 @@ ghost use Rattle.isle_terms.specs.Meaning.Faults.{IsUnreachable};
 ghost use Rattle.isle_types.specs.JoinedSets.{AreDisjoint};
 ghost use Rattle.isle_blocks.specs.ClosedRules.{same_site};
 ghost use Rattle.isle_blocks.specs.ClosureFields.{IsTable};
-ghost use Rattle.isle_blocks.specs.ClosureStates.{IsReady, AreClasses};
-ghost use Rattle.isle_blocks.specs.NormalRules.{AreTestsOf, AreEqualitiesOf, HaveClassTests};
+ghost use Rattle.isle_blocks.specs.ClosureStates.{IsReady};
+ghost use Rattle.isle_blocks.specs.NormalRules.{AreTestsOf, AreEqualitiesOf};
 ghost use Rattle.isle_blocks.specs.Placing.{ForDemandsOf, HasNoRoomFor, AreSettled};
 
 use crate::binding::Binding;
@@ -89,28 +89,23 @@ fn made_rule(
     built: &BuiltRule,
     placed: &PlacedRule,
 ) -> Result<Rule, AllocError>
-    requires fits { length placed.now.closed.each.items ≡ length placed.now.closed.class.items }
-    requires bound { length placed.now.closed.class.items ≤ 65536 }
-    requires classes { AreClasses (length placed.now.closed.class.items) placed.now.closed.class.items }
-    requires shared { HaveClassTests placed.now.closed.each.items placed.now.closed.class.items }
+    requires settled { AreSettled placed.now.numbers.items placed.now.closed.each.items placed.now.closed.class.items }
     ensures told { IfOk result (λ made. IsToldOf source.now made) }
-    ensures tests { IfOk result (λ made. AreTestsOf placed.now.closed.each.items made.constraints) }
+    ensures tests { IfOk result (λ made. AreTestsOf placed.now.numbers.items placed.now.closed.each.items made.constraints) }
     ensures ascending { IfOk result (λ made. IsStrictlySortedBy site_cmp (keys_of made.constraints)) }
-    ensures equalities { IfOk result (λ made. AreEqualitiesOf placed.now.closed.each.items placed.now.closed.class.items made.equals) }
+    ensures equalities { IfOk result (λ made. AreEqualitiesOf placed.now.numbers.items placed.now.closed.each.items placed.now.closed.class.items made.equals) }
     ensures disjoint { IfOk result (λ made. AreDisjoint same_site made.equals) }
     ensures iterators { IfOk result (λ made. IsPermutation (filter_map (multi_call (new_number placed.now.numbers.items)) built.now.sites) made.iterators) }
     ensures sorted { IfOk result (λ made. IsSorted site_cmp made.iterators) }
     ensures impure { IfOk result (λ made. made.impure ≡ map (new_number placed.now.numbers.items) built.now.impure.items) }
     ensures site { IfOk result (λ made. made.result ≡ new_number placed.now.numbers.items built.now.result) }
 {
-    let iterators = iterators_of(alloc, built.sites.bindings(), placed.numbers.as_slice())?;
-    let impure = all_moved(alloc, placed.numbers.as_slice(), built.impure.as_slice())?;
-    let constraints = tests_of(alloc, placed.closed.each.as_slice())?;
-    let equals = equalities_of(
-        alloc,
-        placed.closed.each.as_slice(),
-        placed.closed.class.as_slice(),
-    )?;
+    let numbers = placed.numbers.as_slice();
+    let each = placed.closed.each.as_slice();
+    let iterators = iterators_of(alloc, built.sites.bindings(), numbers)?;
+    let impure = all_moved(alloc, numbers, built.impure.as_slice())?;
+    let constraints = tests_of(alloc, numbers, each)?;
+    let equals = equalities_of(alloc, numbers, each, placed.closed.class.as_slice())?;
     Ok(Rule {
         id: source.id,
         pos: source.pos,
@@ -120,7 +115,7 @@ fn made_rule(
         prio: source.prio,
         name: source.name,
         impure,
-        result: moved(placed.numbers.as_slice(), built.result),
+        result: moved(numbers, built.result),
     })
 }
 
@@ -128,21 +123,20 @@ fn made_rule(
 pub(crate) fn add_rule(
     alloc: Global,
     source: &isle_terms::Rule,
-    built: &BuiltRule,
+    built: &mut BuiltRule,
     table: &mut Sites,
 ) -> Result<Option<Rule>, SiteFault>
-    requires ready { IsReady built.now.sites built.now.has.items built.now.same.items }
+    requires ready { IsReady built.old.sites built.old.has.items built.old.same.items }
     requires table { IsTable table.old }
-    ensures assembled { IfOk result (λ made. ForDemandsOf built.now.sites built.now.has.items built.now.same.items
-        (λ name ds. IsAssembled name ds table.old built.now.sites built.now.impure.items built.now.result table.new made)) }
+    ensures assembled { IfOk result (λ made. ForDemandsOf built.old.sites built.old.has.items built.old.same.items
+        (λ name ds. IsAssembled name ds table.old built.old.sites built.old.impure.items built.old.result table.new made)) }
     ensures told { IfOk result (λ made. IfSome made (λ rule. IsToldOf source.now rule)) }
     ensures kept { IfOk result (λ _. IsTable table.new) }
-    ensures full { IfErr result (λ fault. fault ≡ SiteFault.Size → ForDemandsOf built.now.sites built.now.has.items built.now.same.items
-        (λ name ds. (IsUnreachable (Among ds) → ⊥) × HasNoRoomFor name ds table.old built.now.sites)) }
+    ensures full { IfErr result (λ fault. fault ≡ SiteFault.Size → ForDemandsOf built.old.sites built.old.has.items built.old.same.items
+        (λ name ds. (IsUnreachable (Among ds) → ⊥) × HasNoRoomFor name ds table.old built.old.sites)) }
 {
-    let Some(placed) = place_rule(alloc, &built.sites, &built.has, &built.same, table)? else {
+    let Some(placed) = place_rule(alloc, &mut built.sites, &built.has, &built.same, table)? else {
         return Ok(None);
     };
-    let _count = table.len();
     Ok(Some(made_rule(alloc, source, built, &placed)?))
 }

@@ -77,23 +77,6 @@ fn reduce(
     }
 }
 
-/// Whether some values meet what is demanded of the sites.
-pub(crate) fn is_reachable(
-    alloc: Global,
-    sites: &Sites,
-    has: &[(BindingId, Constraint)],
-    same: &[(BindingId, BindingId)],
-) -> Result<bool, AllocError>
-    requires { IsReady sites.now has.now same.now }
-    ensures yes { IfOk result (λ yes. yes ≡ true → ForRecorded sites.now has.now same.now (λ name D. IsUnreachable D → ⊥)) }
-    ensures no { IfOk result (λ yes. yes ≡ false → ForRecorded sites.now has.now same.now (λ name D. IsUnreachable D)) }
-{
-    let Some(_reduced) = reduce(alloc, sites, has, same)? else {
-        return Ok(false);
-    };
-    Ok(true)
-}
-
 /// The test of each site: that of its representative.
 fn spread(
     alloc: Global,

@@ -13,6 +13,7 @@ ghost use Rattle.std.specs.Map.{keys_of};
 ghost use Rattle.isle_types.specs.JoinedSets.{AreDisjoint};
 ghost use Rattle.isle_blocks.specs.ClosedRules.{NumbersSayCount, NumbersSayDiffer, NumbersSayFree, NumbersSayOverlaps};
 ghost use Rattle.isle_blocks.specs.ClosedRules.{NumbersSayShadows, NumbersSaySubset, NumbersSayTotal, NumbersSayWithin, same_site};
+ghost use Rattle.isle_blocks.specs.ClosureLaws.{ClosureSaysTheSame, UnreachableNeverHolds};
 ghost use Rattle.isle_blocks.specs.Reports.{ReportsListEachOnce};
 ghost use Rattle.isle_blocks.specs.Rules.{site_cmp};
 ghost use Rattle.isle_blocks.specs.Orders.{binding_order, constraint_order};
@@ -86,4 +87,11 @@ pub fn numbers_say_faults()
 /// In a report each pair of rules stands in exactly one error, as the rule that heads it and a partner, and nothing else does.
 pub fn reports_list_each_once()
     ensures { ReportsListEachOnce }
+{}
+
+/// Under all values of sites of which fields are fields, demands hold exactly where their closure does, and those that can't
+/// be met never hold. An equality of a site with itself says nothing more than the others.
+pub fn closure_says_the_same()
+    ensures closed { ClosureSaysTheSame }
+    ensures unreachable { UnreachableNeverHolds }
 {}

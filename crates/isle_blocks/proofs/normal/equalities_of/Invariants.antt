@@ -2,4 +2,4 @@ use Rattle.isle_blocks.proofs.NormalSets.{AreSetsBelow}
 use Rattle.isle_blocks.proofs.normal.equalities_of.Given as goal
 
 abbrev pub invariant-loop-k : goal.invariant-loop-k
-invariant-loop-k l = AreSetsBelow l.each l.class l.k l.equals
+invariant-loop-k l = AreSetsBelow l.numbers l.each l.class l.k l.equals
