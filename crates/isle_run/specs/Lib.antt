@@ -10,5 +10,3 @@ pub mod Queries
 pub mod ValueTree
 -- What is printed of a value.
 pub mod ValueText
--- Where overlapping rules stand.
-pub mod Overlaps

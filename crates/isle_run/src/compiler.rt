@@ -2,16 +2,14 @@ ghost use Rattle.std.specs.Prelude.{◌≡◌, ◌<◌, ◌++◌, [], ◌∷◌,
 ghost use Rattle.isle_syntax.specs.Positions.Files.{SourceFile};
 ghost use Rattle.isle_syntax.specs.Positions.Printable.{IsPrintablePos};
 ghost use Rattle.isle_syntax.specs.Positions.DefPositions.{DefAt};
-ghost use Rattle.isle_syntax.specs.Errors.{IfFault, IsFaultAnd, ErrorAt, RefusalAt, RefusalsAt};
+ghost use Rattle.isle_syntax.specs.Errors.{IfFault, IsFaultAnd, RefusalAt, RefusalsAt};
 ghost use Rattle.isle_syntax.specs.Trees.MacroArgs.{HasNoMacroArgs};
 ghost use Rattle.isle_syntax.specs.Grammar.Texts.{Spells, IsFaultIn};
 ghost use Rattle.isle_syntax.specs.declared.error.Error.{Error};
-ghost use Rattle.isle_terms.specs.TypedTrees.{TypedRuleAt};
-ghost use Rattle.isle_run.specs.Programs.{rules_in};
 ghost use Rattle.isle_run.specs.Compiled.{AreSpelt, AreAccepted, IsProgramOf, IsFirstFault, AreFaults, IfFaults};
 
-use crate::overlap::overlaps;
 use crate::program::Program;
+use isle_blocks::check;
 use isle_syntax::Refusal;
 use isle_syntax::ast::Def;
 use isle_syntax::error::{Error, Errors};
@@ -35,6 +33,7 @@ pub enum Refused {
 pub fn compile(alloc: Global, files: Rc<Files>) -> Result<Program, Refused>
     ensures accepted { OnOk result (AreAccepted files.value) }
     ensures compiled { IfOk result (IsProgramOf files.value) }
+    ensures refused { IfErr result (λ refused. IfFaults refused (λ report. ¬ AreAccepted files.value)) }
     ensures faults { IfErr result (λ refused. IfFaults refused (λ report. AreFaults files.value report.errors)) }
     ensures of_files { IfErr result (λ refused. IfFaults refused (λ report. report.files ≡ files.value)) }
 {
@@ -56,23 +55,8 @@ fn compile_files(alloc: Global, files: &Files) -> Result<Program, Refusal<Vec<Er
     let mut tyenv = TypeEnv::from_ast(alloc, defs)?;
     let termenv = TermEnv::from_ast(alloc, &mut tyenv, defs, true)?;
     let program = Program::new(alloc, tyenv, termenv)?;
-    let errors = overlaps_in(alloc, &program)?;
-    if !errors.is_empty() {
-        return Err(Refusal::Fault(errors));
-    }
+    check(alloc, program.terms())?;
     Ok(program)
-}
-
-/// The overlaps of a plain program's rules. Those of another program aren't looked for yet.
-fn overlaps_in(alloc: Global, program: &Program) -> Result<Vec<Error>, AllocError>
-    ensures { (files : List SourceFile) → All (TypedRuleAt (IsPrintablePos files)) (rules_in program.now)
-        → IfOk result (λ errors. All (ErrorAt (IsPrintablePos files)) errors.items) }
-{
-    if program.is_plain() {
-        overlaps(alloc, program.rules(), program.rules_by_term())
-    } else {
-        Ok(Vec::new(alloc))
-    }
 }
 
 /// The definitions of all texts, or the fault of the first one that has one.

@@ -3,7 +3,6 @@
 
 mod answer;
 mod compiler;
-mod overlap;
 mod plain;
 mod plain_language;
 mod program;

@@ -110,9 +110,11 @@ impl Program {
         }
     }
 
-    /// For each term the places of its rules.
-    pub(crate) fn rules_by_term(&self) -> &[Vec<usize>] {
-        self.rules_of.as_slice()
+    /// The terms, converters and rules.
+    pub(crate) fn terms(&self) -> &TermEnv
+        ensures { result.now ≡ terms_of self.now }
+    {
+        &self.termenv
     }
 
     /// The rules, in the order of the texts.
