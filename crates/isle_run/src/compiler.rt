@@ -29,7 +29,8 @@ pub enum Refused {
     Memory,
 }
 
-/// The program of texts, which are joined in the order of the files.
+/// The program of texts, which are joined in the order of the files. Of accepted files it comes, memory aside; of others comes
+/// a report of what is wrong with them.
 pub fn compile(alloc: Global, files: Rc<Files>) -> Result<Program, Refused>
     ensures accepted { OnOk result (AreAccepted files.value) }
     ensures compiled { IfOk result (IsProgramOf files.value) }
