@@ -5,7 +5,7 @@ use Rattle.isle_types.specs.Names.{AreDistinct}
 use Rattle.isle_types.specs.declared.ids.Sym.{Sym}
 use Rattle.isle_terms.specs.TypedRules.{TypedRule}
 use Rattle.isle_terms.specs.Meaning.Facts.{TermFacts}
-use Rattle.isle_terms.specs.Meaning.Sites.{Site, make_some, site_of}
+use Rattle.isle_terms.specs.Meaning.Sites.{Site, iterator, make_some, site_of}
 use Rattle.isle_terms.specs.Meaning.Words.{word_of}
 use Rattle.isle_terms.specs.Meaning.Demands.{demands_of, vars_of, impure_of, result_of}
 use Rattle.isle_terms.specs.Meaning.Needs.{needs_of, IsNeeded}
@@ -19,10 +19,11 @@ use Rattle.isle_blocks.specs.Rows.{IsInjective, row_of, rows_of, constraints_of,
 use Rattle.isle_blocks.specs.Tables.{IsInterned, IsFull}
 use Rattle.isle_blocks.specs.ClosureFields.{IsTable}
 use Rattle.isle_blocks.specs.Closure.{Stands}
-use Rattle.isle_blocks.specs.AddedRules.{IsOwnOf, IsAdded, HasNoRoomAlone, HasNoRoomBeside}
+use Rattle.isle_blocks.specs.AddedRules.{IsOwnOf, IsAdded, IsMultiCall, HasNoRoomAlone, HasNoRoomBeside}
 use Rattle.isle_blocks.specs.Placing.{HasNoRoomFor}
 use Rattle.isle_blocks.specs.declared.rule.Rule.{Rule}
 use Rattle.isle_blocks.specs.Assembly.{IsAssembled}
+use Rattle.isle_blocks.specs.ClosedRules.{AreNumbersOf}
 use Rattle.isle_blocks.specs.Building.Gathering.{Gathered}
 use Rattle.isle_blocks.specs.Building.Standing.{IsPut, Adds, begin, next, StandEach}
 use Rattle.isle_blocks.specs.Building.Built.{IsBuiltOf}
@@ -140,12 +141,24 @@ module _ (name : Sym → List ℕ) (injective : IsInjective name) (facts : TermF
 module _ (name : Sym → List ℕ) (facts : TermFacts) (partial : Bool) (typed : TypedRule) (base own table : List Binding)
     (has : List (BindingId × Constraint)) (same : List (BindingId × BindingId)) (impure : List BindingId) (result : BindingId)
     (is : IsOwnOf name facts partial typed own has same impure result) where
+  calls_of : (rows : List Row) (ids : List BindingId) → AreNumbersOf rows (λ s. Stands (rows_of name own) (iterator s)) ids
+      → AreNumbersOf rows (IsMultiCall facts partial typed) ids
+  calls_of rows ids are = record {
+    numbered = λ id among. let (s, stands, at) = are.numbered id among in (s, is.only (iterator s) stands, at);
+    all = λ s call. are.all s (elim call [
+      | inl needed ↦ is.needed (iterator s) needed
+      | inr e ↦ (result.0, subst (λ (z : Site). At (rows_of name own) z result.0) (sym e) is.value)
+    ]);
+    ascending = are.ascending;
+  }
+
   -- what is assembled of a rule's own sites is the rule
   pub added_of : (made : Option Rule) → IsAssembled name (demands_of facts typed) base own impure result table made → IsAdded name facts partial typed base table made
   added_of None h = h
   added_of (Some rule) h = record {
     reachable = h.reachable;
     closed = h.closed;
+    calls = calls_of (rows_of name table) rule.iterators h.calls;
     kept = h.kept;
     needed = λ s n. h.own_stand s (is.needed s n);
     fields = h.fields;

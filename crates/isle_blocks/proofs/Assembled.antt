@@ -1,34 +1,41 @@
 -- A placed rule's tests and sets of equal sites are what follows from its demands.
 use Rattle.std.proofs.Common.{◌≡◌, ◌≢◌, ◌<◌, inl, inr, ℕ, List, [], ◌∷◌, map, length, Option, Some, None, get_or, slice_get, refl, sym, ◌∙◌, ap, subst, arith}
+use Rattle.std.specs.Prelude.{Contains, IsPermutation, IsSorted}
+use Rattle.std.specs.List.{filter_map}
 use Rattle.std.specs.List.Sorted.{IsStrictlySortedBy}
+use Rattle.std.proofs.lemmas.List.Sorted.{Contains-permutation, IsPermutation-sym}
 use Rattle.std.specs.Map.{keys_of}
-use Rattle.std.proofs.lemmas.Option.{same_Some, slice_get-get_or}
+use Rattle.std.proofs.lemmas.Option.{same_Some, slice_get-get_or, slice_get_within}
 use Rattle.isle_types.specs.JoinedSets.{AreDisjoint}
 use Rattle.isle_types.specs.declared.ids.Sym.{Sym}
-use Rattle.isle_terms.specs.Meaning.Sites.{Site}
+use Rattle.isle_terms.specs.Meaning.Sites.{Site, iterator}
 use Rattle.isle_terms.specs.Meaning.Demands as meaning
 use Rattle.isle_terms.specs.Meaning.Demands.{Demand, constrained, equal, Among, variant_constraint, struct_constraint}
 use Rattle.isle_terms.specs.Meaning.Derived.{Derived, flipped, shared, Closed, FieldOf, of_variant, of_struct}
-use Rattle.isle_terms.specs.Meaning.Numbered.{At}
+use Rattle.isle_terms.specs.Meaning.Numbered.{At, iterator_row}
 use Rattle.isle_terms.proofs.Meaning.Numbering.{one_site, numbers_say_demands}
 use Rattle.isle_blocks.specs.declared.ids.BindingId.{BindingId}
 use Rattle.isle_blocks.specs.declared.binding.Binding.{Binding}
+use Rattle.isle_blocks.specs.declared.binding.Binding.TheVariants.{Iterator}
 use Rattle.isle_blocks.specs.declared.constraint.Constraint.{Constraint}
 use Rattle.isle_blocks.specs.declared.placing.PlacedRule.{PlacedRule}
 use Rattle.isle_blocks.specs.declared.rule.Rule.{Rule}
 use Rattle.isle_blocks.specs.Rows.{IsInjective, rows_of, numbers_of, test_of, constraints_of, pairs_of}
 use Rattle.isle_blocks.specs.Rules.{site_cmp}
-use Rattle.isle_blocks.specs.ClosedRules.{same_site, AreDerived, AreLeftEqual}
+use Rattle.isle_blocks.specs.ClosedRules.{same_site, AreDerived, AreLeftEqual, AreNumbersOf}
 use Rattle.isle_blocks.specs.NormalRules.{AreTestsOf, AreEqualitiesOf, MustBeEqual, IsUntested}
 use Rattle.isle_blocks.specs.MovedSites.{new_number, place_in}
 use Rattle.isle_blocks.specs.ClosureFields.{IsTable}
 use Rattle.isle_blocks.specs.ClosureStates.{demanded_in}
 use Rattle.isle_blocks.specs.Closure.{Stands}
 use Rattle.isle_blocks.specs.Placing.{IsExplained, IsPlacedRule}
-use Rattle.isle_blocks.specs.Assembly.{IsAssembledRule}
+use Rattle.isle_blocks.specs.Assembly.{IsAssembledRule, multi_call}
 use Rattle.isle_blocks.specs.Building.Standing.{StandEach}
 use Rattle.isle_blocks.proofs.Closure.Pairs.{own_in}
-use Rattle.isle_blocks.proofs.Closure.Trees.{stands, at_below, one_number}
+use Rattle.isle_blocks.proofs.Closure.Trees.{stands, at_below, one_number, row_get, get_row}
+use Rattle.isle_blocks.proofs.RowsInjective.{row-injective}
+use Rattle.isle_blocks.proofs.Counting.{place_of, stands_at}
+use Rattle.isle_blocks.proofs.MultiCalls.{picked_of, picked, call_site, as_iterator, no_field}
 use Rattle.isle_blocks.proofs.Closure.Longer.{stays}
 use Rattle.isle_blocks.proofs.MovedRows.{new_place}
 use Rattle.isle_blocks.proofs.Placed.{to_at, numbered_at, numbers_fit, still_stands, all_known}
@@ -144,13 +151,63 @@ module _ (name : Sym → List ℕ) (injective : IsInjective name) (ds : List Dem
     | inr (j, r) ↦ inr (grown_site base own base_ok own_ok name injective ds p.has p.same p.recorded grown each class p.closure s j r)
   ]
 
+  moved_grown : (s : Site) (id : BindingId) → At (rows_of name grown) s id.0 → At (rows_of name table) s (new_number numbers id).0
+  moved_grown s id q =
+      subst (λ (z : ℕ). At (rows_of name table) s z) (sym (new_place numbers id))
+      (to_at p.between grown table numbers p.moved p.opened.sites p.closure.sites name injective s id.0 q)
+
+  -- a number of a call stands for one of which a value stands among the own sites
+  call_numbered : (id : BindingId) → Contains (filter_map (multi_call (new_number numbers)) grown) id
+      → (s : Site) × Stands (rows_of name own) (iterator s) × At (rows_of name table) s id.0
+  call_numbered id among =
+      let (site, there, called) = picked_of (multi_call (new_number numbers)) grown id among in
+      let (source, is, number) = call_site (new_number numbers) site id called in
+      let (j, at) = place_of grown site there in
+      let row : slice_get (rows_of name grown) j ≡ Some (iterator_row source.0) = row_get name grown j (Iterator source) (at ∙ ap Some is) in
+      let (t, q) = stands name grown p.closure.sites j (slice_get_within grown j site at) in
+      let (s, same, inner) = as_iterator (rows_of name grown) t j source.0 row q in
+      let value = subst (λ (z : Site). At (rows_of name grown) z j) same q in (
+        s,
+        elim (grown_site base own base_ok own_ok name injective ds p.has p.same p.recorded grown each class p.closure (iterator s) j value) [
+          | inl x ↦ x
+          | inr (u, f) ↦ absurd (no_field (Among ds) u s f)
+        ],
+        subst (λ (z : BindingId). At (rows_of name table) s z.0) number (moved_grown s source inner),
+      )
+
+  -- and each such call has one
+  call_there : (s : Site) → Stands (rows_of name own) (iterator s)
+      → (id : BindingId) × Contains (filter_map (multi_call (new_number numbers)) grown) id × At (rows_of name table) s id.0
+  call_there s (j, q) =
+      let (x, row, inner) = grown_at (iterator s) j q in
+      let source : BindingId = record { 0 = x } in
+      let (site, at, is) = get_row name grown j (iterator_row x) row in
+      let same : site ≡ Iterator source = row-injective name injective site (Iterator source) is in (
+        new_number numbers source,
+        picked (multi_call (new_number numbers)) grown (Iterator source) (new_number numbers source) (stands_at grown j (Iterator source) (at ∙ ap Some same)) refl,
+        moved_grown s source inner,
+      )
+
+  calls_are : (calls : List BindingId) → IsPermutation (filter_map (multi_call (new_number numbers)) grown) calls → IsSorted site_cmp calls
+      → AreNumbersOf (rows_of name table) (λ s. Stands (rows_of name own) (iterator s)) calls
+  calls_are calls moved sorted = record {
+    numbered = λ id among. call_numbered id (Contains-permutation calls (filter_map (multi_call (new_number numbers)) grown) id
+        (IsPermutation-sym (filter_map (multi_call (new_number numbers)) grown) calls moved) among);
+    all = λ s stands.
+        let (id, among, at) = call_there s stands in
+        (id, Contains-permutation (filter_map (multi_call (new_number numbers)) grown) calls id moved among, at);
+    ascending = sorted;
+  }
+
   pub assembled : (impure : List BindingId) (result : BindingId) (made : Rule) → AreTestsOf numbers each made.constraints
       → IsStrictlySortedBy site_cmp (keys_of made.constraints) → AreEqualitiesOf numbers each class made.equals → AreDisjoint same_site made.equals
+      → IsPermutation (filter_map (multi_call (new_number numbers)) grown) made.iterators → IsSorted site_cmp made.iterators
       → made.impure ≡ map (new_number placed.numbers.items) impure → made.result ≡ new_number placed.numbers.items result
       → IsAssembledRule name ds base own impure result table made
-  assembled impure result made tests ascending equalities disjoint effects value = record {
+  assembled impure result made tests ascending equalities disjoint moved sorted effects value = record {
     reachable = p.reachable;
     closed = record { tests = tests_derived made.constraints tests; ascending = ascending; equalities = equal_left made.equals equalities; disjoint = disjoint };
+    calls = calls_are made.iterators moved sorted;
     kept = λ s k q. still_stands p.between grown table numbers p.moved p.opened.sites p.closure.sites name injective s k
         (stays name base p.between p.opened.kept s k q);
     own_stand = λ s (k, q). moved_stands s (k, grown_at s k q);

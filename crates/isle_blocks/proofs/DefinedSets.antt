@@ -14,7 +14,7 @@ use Rattle.isle_blocks.specs.declared.ids.BindingId.{BindingId}
 use Rattle.isle_blocks.specs.declared.binding.Binding.{Binding}
 use Rattle.isle_blocks.specs.declared.rule.Rule.{Rule}
 use Rattle.isle_blocks.specs.Building.Standing.{StandEach}
-use Rattle.isle_blocks.specs.ClosedRules.{IsClosedRule}
+use Rattle.isle_blocks.specs.ClosedRules.{IsClosedRule, AreNumbersOf}
 use Rattle.isle_blocks.specs.Rows.{rows_of}
 use Rattle.std.proofs.lemmas.Option.{same_Some}
 use Rattle.std.proofs.lemmas.List.Elements.{Contains-append_left, Contains-push, Contains-push_cases}
@@ -67,6 +67,13 @@ sites_kept facts rows new rule kept stand = record {
   fields = λ s u f. let (k, at) = stand.fields s u f in (k, kept u k at);
 }
 
+calls_kept : (rows new : List Row) (P : Site → Type 0) (ids : List BindingId) → Keeps rows new → AreNumbersOf rows P ids → AreNumbersOf new P ids
+calls_kept rows new P ids kept are = record {
+  numbered = λ id among. let (s, call, at) = are.numbered id among in (s, call, kept s id.0 at);
+  all = λ s call. let (id, among, at) = are.all s call in (id, among, kept s id.0 at);
+  ascending = are.ascending;
+}
+
 pub made_kept : (name : Sym → List ℕ) (facts : TermFacts) (sources : List source.Rule) (rules : List TypedRule) (term : ℕ)
     (table new : List Binding) → Keeps (rows_of name table) (rows_of name new) → (i : ℕ) (made : Rule)
     → IsMadeAt name facts sources rules term table i made → IsMadeAt name facts sources rules term new i made
@@ -76,6 +83,7 @@ made_kept name facts sources rules term table new kept i made is = record {
   reached = is.reached;
   told = is.told;
   closed = closed_kept name (rows_of name table) (rows_of name new) _ made kept is.closed;
+  calls = calls_kept (rows_of name table) (rows_of name new) _ made.iterators kept is.calls;
   stand = sites_kept facts (rows_of name table) (rows_of name new) is.reached.rule kept is.stand;
   value = kept _ made.result.0 is.value;
   effects = each_kept (rows_of name table) (rows_of name new) kept made.impure _ is.effects;
@@ -145,6 +153,7 @@ module _ (env : TermTables) (d : AreDefined env) (term : ℕ) where
         reached = here;
         told = told;
         closed = is.closed;
+        calls = is.calls;
         stand = record { own = record { needed = is.needed; result = (made.result.0, is.value) }; fields = is.fields };
         value = is.value;
         effects = is.effects;

@@ -4,8 +4,8 @@ pub mod EqualSites
 pub mod EqualTests
 -- Tests of two rules side by side.
 pub mod Merging
--- Lists of pairs of places.
-pub mod Pairs
+-- Keys of rules in order, and the faults that are found by them.
+pub mod FaultKeys
 -- Groups of pairs.
 pub mod Grouping
 -- Worked cases.
@@ -71,3 +71,5 @@ pub mod RivalLists
 pub mod Faultless
 -- The closure of demands says the same as they do.
 pub mod ClosureLaws
+-- The multi calls of a rule, by the values of them among its sites.
+pub mod MultiCalls

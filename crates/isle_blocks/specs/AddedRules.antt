@@ -11,7 +11,7 @@ use Rattle.isle_terms.specs.Definitions.{declared_by}
 use Rattle.isle_terms.specs.Shown.TermTables.{TermTables}
 use Rattle.isle_terms.specs.Collecting.Environments.{ShowsTerms}
 use Rattle.isle_terms.specs.Meaning.Facts.{TermFacts, facts_of}
-use Rattle.isle_terms.specs.Meaning.Sites.{Site}
+use Rattle.isle_terms.specs.Meaning.Sites.{Site, iterator}
 use Rattle.isle_terms.specs.Meaning.Demands.{demands_of, result_of, impure_of}
 use Rattle.isle_terms.specs.Meaning.Derived.{FieldOf}
 use Rattle.isle_terms.specs.Meaning.Faults.{IsUnreachable}
@@ -26,7 +26,7 @@ use Rattle.isle_blocks.specs.declared.builder.BuiltRule.{BuiltRule}
 use Rattle.isle_blocks.specs.Rows.{rows_of, constraints_of, pairs_of}
 use Rattle.isle_blocks.specs.ClosureStates.{IsReady}
 use Rattle.isle_blocks.specs.Closure.{Stands, HasAllFields}
-use Rattle.isle_blocks.specs.ClosedRules.{IsClosedRule}
+use Rattle.isle_blocks.specs.ClosedRules.{IsClosedRule, AreNumbersOf}
 use Rattle.isle_blocks.specs.Building.Naming.{name_by, HaveFewArguments}
 use Rattle.isle_blocks.specs.Building.Standing.{StandEach}
 
@@ -66,11 +66,16 @@ abbrev pub IsOfRule : (Sym → List ℕ) → TermFacts → Bool → TypedRule �
 IsOfRule name facts partial typed base s =
     Stands (rows_of name base) s ⊎ IsNeeded (needs_of facts typed) s ⊎ (s ≡ result_of facts partial typed) ⊎ ((t : Site) × FieldOf (DemandOf facts typed) t s)
 
+-- a multi call of a rule: the rule needs one value of it, or its result is one
+abbrev pub IsMultiCall : TermFacts → Bool → TypedRule → Site → Type 0
+IsMultiCall facts partial typed s = IsNeeded (needs_of facts typed) (iterator s) ⊎ (iterator s ≡ result_of facts partial typed)
+
 -- The rule, with what follows from its demands, over the old sites, those that it needs, its result's, and all fields that it opens.
 pub record IsAddedRule (name : Sym → List ℕ) (facts : TermFacts) (partial : Bool) (typed : TypedRule) (base table : List Binding) (made : Rule)
     : Type 0 where
   pub reachable : IsUnreachable (DemandOf facts typed) → ⊥
   pub closed : IsClosedRule name (rows_of name table) (DemandOf facts typed) made
+  pub calls : AreNumbersOf (rows_of name table) (IsMultiCall facts partial typed) made.iterators
   pub kept : (s : Site) (k : ℕ) → At (rows_of name base) s k → At (rows_of name table) s k
   pub needed : (s : Site) → IsNeeded (needs_of facts typed) s → Stands (rows_of name table) s
   pub fields : HasAllFields (DemandOf facts typed) (rows_of name table)

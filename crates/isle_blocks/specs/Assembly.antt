@@ -2,14 +2,14 @@
 use Rattle.std.specs.Prelude.{◌≡◌, ℕ, List, Option, Some, None}
 use Rattle.isle_types.specs.declared.ids.Sym.{Sym}
 use Rattle.isle_terms.specs.declared.rules.Rule as source
-use Rattle.isle_terms.specs.Meaning.Sites.{Site}
+use Rattle.isle_terms.specs.Meaning.Sites.{Site, iterator}
 use Rattle.isle_terms.specs.Meaning.Demands.{Demand, Among}
 use Rattle.isle_terms.specs.Meaning.Faults.{IsUnreachable}
 use Rattle.isle_terms.specs.Meaning.Numbered.{At}
 use Rattle.isle_blocks.specs.declared.rule.Rule.{Rule}
 use Rattle.isle_blocks.specs.Rows.{rows_of}
 use Rattle.isle_blocks.specs.Closure.{Stands, HasAllFields}
-use Rattle.isle_blocks.specs.ClosedRules.{IsClosedRule}
+use Rattle.isle_blocks.specs.ClosedRules.{IsClosedRule, AreNumbersOf}
 use Rattle.isle_blocks.specs.Placing.{IsExplained}
 use Rattle.isle_blocks.specs.Building.Standing.{StandEach}
 use Rattle.isle_blocks.specs.declared.ids.BindingId.{BindingId}
@@ -47,6 +47,7 @@ pub record IsAssembledRule (name : Sym → List ℕ) (ds : List Demand) (base ow
     (table : List Binding) (made : Rule) : Type 0 where
   pub reachable : IsUnreachable (Among ds) → ⊥
   pub closed : IsClosedRule name (rows_of name table) (Among ds) made
+  pub calls : AreNumbersOf (rows_of name table) (λ s. Stands (rows_of name own) (iterator s)) made.iterators
   pub kept : (s : Site) (k : ℕ) → At (rows_of name base) s k → At (rows_of name table) s k
   pub own_stand : (s : Site) → Stands (rows_of name own) s → Stands (rows_of name table) s
   pub fields : HasAllFields (Among ds) (rows_of name table)

@@ -21,11 +21,12 @@ use Rattle.isle_terms.specs.Meaning.Needs.{needs_of, IsNeeded}
 use Rattle.isle_terms.specs.Meaning.Numbered.{At}
 use Rattle.isle_blocks.specs.declared.binding.Binding.{Binding}
 use Rattle.isle_blocks.specs.declared.rule.Rule.{Rule}
+use Rattle.isle_blocks.specs.AddedRules.{IsMultiCall}
 use Rattle.isle_blocks.specs.Assembly.{IsToldOf}
 use Rattle.isle_blocks.specs.Building.Naming.{name_by, HaveFewArguments}
 use Rattle.isle_blocks.specs.Building.Standing.{StandEach}
 use Rattle.isle_blocks.specs.Closure.{Stands}
-use Rattle.isle_blocks.specs.ClosedRules.{IsClosedRule}
+use Rattle.isle_blocks.specs.ClosedRules.{IsClosedRule, AreNumbersOf}
 use Rattle.isle_blocks.specs.ClosureFields.{IsTable}
 use Rattle.isle_blocks.specs.Rows.{rows_of}
 use Rattle.isle_blocks.specs.RuleFaults.{MayMatchAt, SitesStand, own_result}
@@ -65,6 +66,7 @@ pub record IsMadeAt (name : Sym → List ℕ) (facts : TermFacts) (sources : Lis
   pub reached : MayMatchAt facts rules term i
   pub told : IsToldOf source made
   pub closed : IsClosedRule name (rows_of name table) (DemandOf facts reached.rule) made
+  pub calls : AreNumbersOf (rows_of name table) (IsMultiCall facts (facts.partial reached.rule.root) reached.rule) made.iterators
   pub stand : SitesStand facts (rows_of name table) reached.rule
   pub value : At (rows_of name table) (own_result facts reached.rule) made.result.0
   pub effects : StandEach (rows_of name table) made.impure (impure_of facts reached.rule)

@@ -36,7 +36,3 @@ pub record ListsPairs (P : ℕ → ℕ → Type 0) (pairs : List (ℕ × ℕ)) :
 abbrev pub FaultAt : List Rule → Fault → ℕ → ℕ → Type 0
 FaultAt rules Overlap i j = OverlapAt rules i j
 FaultAt rules Shadow i j = ShadowAt rules i j
-
--- the pairs before (i, j) that have the fault
-abbrev pub ListsFaultsBefore : List Rule → Fault → ℕ → ℕ → List (ℕ × ℕ) → Type 0
-ListsFaultsBefore rules fault i j pairs = ListsPairs (λ p q. IsBefore (p, q) i j × FaultAt rules fault p q) pairs

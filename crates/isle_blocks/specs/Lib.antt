@@ -10,6 +10,8 @@ pub mod Orders
 pub mod Rules
 -- Faults between the rules of a term.
 pub mod FaultsBetween
+-- The tests of one site in rules, in order.
+pub mod FaultKeys
 -- What is reported of rules that overlap or shadow others.
 pub mod Reports
 -- Sites and tests as those of the rules' meaning.

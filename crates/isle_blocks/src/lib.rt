@@ -13,6 +13,7 @@ mod ids;
 pub mod laws;
 mod moving;
 mod normal;
+mod parting;
 mod placing;
 mod report;
 mod rule;

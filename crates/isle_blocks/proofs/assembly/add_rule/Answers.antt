@@ -41,4 +41,4 @@ returns-clause-assembled c = λ name injective ds recorded.
     c.deref-2.ensures.value given) in
     let m = c.in_ok-made_rule.ensures in
     assembled name injective ds base own grown table c.in-Some.placed (all name injective ds recorded) c.requires.table c.requires.ready.sites
-    c.args.built.now.impure.items c.args.built.now.result c.in_ok-made_rule.field-0 m.tests m.ascending m.equalities m.disjoint m.impure m.site
+    c.args.built.now.impure.items c.args.built.now.result c.in_ok-made_rule.field-0 m.tests m.ascending m.equalities m.disjoint m.iterators m.sorted m.impure m.site

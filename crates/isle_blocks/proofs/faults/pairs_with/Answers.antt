@@ -1,11 +1,20 @@
-use Rattle.std.proofs.Common.{◌≡◌, length, arith}
-use Rattle.isle_blocks.specs.FaultsBetween.{FaultAt}
-use Rattle.isle_blocks.proofs.Pairs.{pairs_all, fault_in_range}
+use Rattle.std.proofs.Common.{◌≡◌, ℕ, length, subst, arith}
+use Rattle.std.proofs.lemmas.List.Filters.{dedup_is}
+use Rattle.isle_blocks.specs.FaultKeys.{FindsFaults, IsEarlier}
+use Rattle.isle_blocks.proofs.FaultKeys.{all_found}
+use Rattle.isle_blocks.proofs.FaultKeys.Pairs.{pairs_eq}
 use Rattle.isle_blocks.proofs.faults.pairs_with.Goals as goal
 
 pub returns : goal.returns
-returns c =
-    let P = FaultAt c.args.rules.now c.args.fault in
-    let done : c.loop-first.first ≡ length c.args.rules.now = omega arith in
-    pairs_all P (length c.args.rules.now) c.loop-first.found.items (λ p q f. (fault_in_range c.args.rules.now c.args.fault p q f).0)
-    (rw (← done) c.loop-first.invariant)
+returns c site are =
+    let rules = c.args.rules.now in
+    let keys = c.args.keys.now in
+    let made = c.loop-first.found.items in
+    let sorted = c.sort_unstable.new.self.items in
+    let test = c.loop-first-test.false in
+    let end = c.loop-first.auto.first-end in
+    let last : c.loop-first.first ≡ length keys = omega arith in
+    let finds : FindsFaults rules c.args.fault keys (IsEarlier (length keys)) made =
+    subst (λ (n : ℕ). FindsFaults rules c.args.fault keys (IsEarlier n) made) last (c.loop-first.invariant site are) in
+    all_found site rules c.args.fault keys made sorted c.dedup.new.self.items are finds c.sort_unstable.ensures.permutation
+    c.sort_unstable.ensures.sorted (dedup_is pairs_eq sorted c.dedup.new.self.items c.dedup.ensures.filtered)
