@@ -4,3 +4,7 @@ pub mod WritingLemmas
 pub mod PrintsLemmas
 -- Files that are printed are spelt.
 pub mod SpeltPrints
+-- What is written of files that are refused.
+pub mod RefusedFiles
+-- Statuses by their numbers.
+pub mod StatusLemmas

@@ -1,9 +1,10 @@
 -- How many files a command takes.
 use Rattle.std.specs.Prelude.{◌≡◌, ◌<◌, ℕ}
 use Rattle.islec.specs.declared.line.Job.{Job}
-use Rattle.islec.specs.declared.line.Job.TheVariants.{Run, Fmt}
+use Rattle.islec.specs.declared.line.Job.TheVariants.{Run, Check, Fmt}
 
--- a run takes one or more, formatting one
+-- a run and a check take one or more, formatting one
 abbrev pub HasFiles : Job → ℕ → Type 0
 HasFiles (Run depth) files = 0 < files
+HasFiles Check files = 0 < files
 HasFiles (Fmt width) files = files ≡ 1

@@ -4,7 +4,7 @@ pub mod Jobs
 pub mod Statuses
 -- What is printed of files.
 pub mod Formatting
--- What a run writes of files that it refuses.
+-- What a run or a check writes of files that are accepted or refused.
 pub mod Running
 -- A writer that held `old` holds these bytes and a beginning of the text behind them
 pub mod Writing

@@ -25,6 +25,8 @@ pub struct Line {
 pub enum Job {
     /// Answers queries, with at most `depth` calls of terms with rules open at once.
     Run { depth: u32 },
+    /// Tells whether the files are accepted.
+    Check,
     /// Prints the one file laid out at a width, from 0 to 1,000,000.
     Fmt { width: u32 },
 }
@@ -68,6 +70,11 @@ pub fn line_of<S: AsStr>(alloc: Global, words: &[S]) -> Result<Line, LineFault>
             return Ok(line);
         }
     }
+    if let Some(check) = matches.subcommand_matches("check") {
+        if let Some(line) = check_line(alloc, check)? {
+            return Ok(line);
+        }
+    }
     if let Some(fmt) = matches.subcommand_matches("fmt") {
         if let Some(line) = fmt_line(alloc, fmt)? {
             return Ok(line);
@@ -82,6 +89,7 @@ fn command<'a>(alloc: Global) -> Result<Command<'a>, AllocError> {
         .about("Compiles files of ISLE rules and answers queries by them")
         .subcommand_required(true)
         .subcommand(run_command(alloc)?)?
+        .subcommand(check_command(alloc)?)?
         .subcommand(fmt_command(alloc)?)
 }
 
@@ -92,16 +100,25 @@ fn run_command<'a>(alloc: Global) -> Result<Command<'a>, AllocError> {
         .help("How many calls of terms with rules may be open at once")
         .value_parser(clap::value_parser!(u32))
         .default_value("100");
-    let file = Arg::new(alloc, "file")
+    Command::new(alloc, "run")
+        .about("Answers queries from standard input, one a line")
+        .arg(depth)?
+        .arg(rule_files(alloc))
+}
+
+fn check_command<'a>(alloc: Global) -> Result<Command<'a>, AllocError> {
+    Command::new(alloc, "check")
+        .about("Tells whether the files are accepted, or what is wrong with them")
+        .arg(rule_files(alloc))
+}
+
+fn rule_files<'a>(alloc: Global) -> Arg<'a> {
+    Arg::new(alloc, "file")
         .value_name("FILE")
         .help("The rule files, compiled together in this order")
         .action(ArgAction::Append)
         .num_args(1..)
-        .required(true);
-    Command::new(alloc, "run")
-        .about("Answers queries from standard input, one a line")
-        .arg(depth)?
-        .arg(file)
+        .required(true)
 }
 
 fn fmt_command<'a>(alloc: Global) -> Result<Command<'a>, AllocError> {
@@ -134,6 +151,21 @@ fn run_line(alloc: Global, matches: &ArgMatches<'_>) -> Result<Option<Line>, All
     }
     Ok(Some(Line {
         job: Job::Run { depth },
+        files,
+        world: None,
+    }))
+}
+
+// `None` where the matches have no file, as matches of `check` always have.
+fn check_line(alloc: Global, matches: &ArgMatches<'_>) -> Result<Option<Line>, AllocError>
+    ensures { IfOk result (λ read. IfSome read (λ line. HasFiles line.job (vec_len line.files))) }
+{
+    let files = copies(alloc, matches.get_strs("file").unwrap_or(&[]))?;
+    if files.is_empty() {
+        return Ok(None);
+    }
+    Ok(Some(Line {
+        job: Job::Check,
         files,
         world: None,
     }))

@@ -5,9 +5,9 @@ ghost use Rattle.isle_syntax.specs.Errors.{report_text};
 ghost use Rattle.isle_syntax.specs.Positions.Files.{source_file};
 ghost use Rattle.isle_run.specs.Compiled.{AreAccepted};
 ghost use Rattle.islec.specs.Formatting.{WritesPrints, WritesFault};
-ghost use Rattle.islec.specs.Running.{WritesFaults};
+ghost use Rattle.islec.specs.Running.{WritesFaults, WritesAccepted};
 ghost use Rattle.islec.specs.Statuses.{code_of};
-ghost use Rattle.islec.specs.declared.line.Job.TheVariants.{Run, Fmt};
+ghost use Rattle.islec.specs.declared.line.Job.TheVariants.{Run, Check, Fmt};
 ghost use Rattle.islec.specs.declared.status.Status.{Status};
 
 use crate::format::format;
@@ -40,10 +40,15 @@ pub fn perform<R: Read, W: Write>(
         → AreAccepted (map source_file texts.items) }
     ensures faults { (depth : ℕ) → job ≡ Run depth → result ≡ 1 → WritesFaults
         (map source_file texts.items) (W.contents writer.old) (W.contents writer.new) }
+    ensures checked { job ≡ Check → result ≡ 0 → WritesAccepted
+        (map source_file texts.items) (W.contents writer.old) (W.contents writer.new) }
+    ensures faulty { job ≡ Check → result ≡ 1 → WritesFaults
+        (map source_file texts.items) (W.contents writer.old) (W.contents writer.new) }
     ensures ends { (status : Status) × (status ≢ Status.Usage) × (result ≡ code_of status) }
 {
     let done = match job {
         Job::Run { depth } => run(alloc, depth, texts, reader, writer),
+        Job::Check => check(alloc, texts, writer),
         Job::Fmt { width } => format(alloc, width, texts, writer),
     };
     let status = match done {
@@ -74,6 +79,32 @@ fn run<R: Read, W: Write>(
             Served::AllWell => Ok(Status::AllWell),
             Served::SomeRefused => Ok(Status::SomeRefused),
         },
+        Err(Refused::Faults(errors)) => {
+            write_faults(alloc, &errors, writer)?;
+            Ok(Status::TextsRefused)
+        }
+        Err(Refused::Memory) => Err(ServeFault::Memory),
+    }
+}
+
+/// Writes `accepted`, or what is printed of the texts' faults.
+fn check<W: Write>(
+    alloc: Global,
+    texts: Vec<(String, String)>,
+    writer: &mut W,
+) -> Result<Status, ServeFault>
+    ensures accepted { IfOk result (λ status. status ≡ Status.AllWell → WritesAccepted
+        (map source_file texts.items) (W.contents writer.old) (W.contents writer.new)) }
+    ensures refused { IfOk result (λ status. status ≡ Status.TextsRefused → WritesFaults
+        (map source_file texts.items) (W.contents writer.old) (W.contents writer.new)) }
+    ensures other { IfOk result (λ status. (status ≡ Status.AllWell) ⊎ (status ≡ Status.TextsRefused)) }
+{
+    let files = Rc::new(alloc, Files::from_names_and_contents(alloc, texts)?)?;
+    match compile(alloc, files) {
+        Ok(_) => {
+            write_text(writer, "accepted\n")?;
+            Ok(Status::AllWell)
+        }
         Err(Refused::Faults(errors)) => {
             write_faults(alloc, &errors, writer)?;
             Ok(Status::TextsRefused)
