@@ -23,7 +23,8 @@ test:
 # On the program as it was built last.
 commands:
 	python3 tools/commands.py $(PROGRAM) tests/commands/*.json
-	python3 tools/replay.py $(PROGRAM) tests/vectors/*.json
+	python3 tools/replay.py $(PROGRAM) check tests/vectors/*.json
+	python3 tools/replay.py $(PROGRAM) run tests/vectors/first.json
 
 install: build
 	install -D $(PROGRAM) $(DESTDIR)$(PREFIX)/bin/islec
