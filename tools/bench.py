@@ -67,7 +67,7 @@ def typed_rules(number):
     for i in range(OPCODES):
         parts.append(f"(decl op{i} (Value Value) Value)\n")
         parts.append(f"(extractor (op{i} a b) (inst_data (InstData.Binary (Opcode.Op{i}) a b)))\n")
-    parts.extend(TYPED.format(i=i, o=i % OPCODES, p=i * 7 % OPCODES) for i in range(number))
+    parts.extend(TYPED.format(i=i, o=i % OPCODES, p=i // OPCODES % OPCODES) for i in range(number))
     return "".join(parts)
 
 
@@ -118,6 +118,8 @@ def main():
         measure(f"type {number:,} enums of 50 variants", [bench, "types"], enums(number, 50), lambda it: it == f"{number + 13}\n")
     for number in (5_000, 10_000, 20_000):
         measure(f"compile {number:,} rules", [islec, "run"], typed_rules(number), lambda it: it == "")
+    for number in (500, 1_000, 2_000, 4_000):
+        measure(f"check {number:,} rules", [islec, "check"], typed_rules(number), lambda it: it == "accepted\n")
     for number in (16_384, 65_536):
         for order in ("descending", "mixed"):
             text = keys(number, order == "mixed")

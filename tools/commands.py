@@ -24,6 +24,16 @@ def bytes_of(text):
     return text.encode("utf-8", "surrogateescape")
 
 
+def text_of(parts):
+    """A text, or its parts one after the other, of which some stand for many with the numbers from 0."""
+    if isinstance(parts, str):
+        return parts
+    return "".join(
+        part if isinstance(part, str) else "".join(part["each"].replace("#", str(i)) for i in range(part["count"]))
+        for part in parts
+    )
+
+
 def input_of(case):
     """A socket that gives the input of a case, and then ends or fails."""
     step = case.get("stdin_step")
@@ -58,7 +68,7 @@ def run(program, case):
     with tempfile.TemporaryDirectory() as folder, tempfile.TemporaryFile() as output:
         for name, text in case["files"].items():
             with open(os.path.join(folder, name), "wb") as file:
-                file.write(bytes_of(text))
+                file.write(bytes_of(text_of(text)))
         with input_of(case) as given:
             done = subprocess.run(
                 [program, *case["args"]],
