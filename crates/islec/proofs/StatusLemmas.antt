@@ -1,5 +1,5 @@
 -- Statuses by their numbers.
-use Rattle.std.proofs.Common.{◌≡◌, ◌⊎◌, ℕ, Result, Ok, IfOk, inl, inr, arith, refl, sym, subst, ◌∙◌, ap}
+use Rattle.std.proofs.Common.{◌≡◌, ◌⊎◌, ℕ, Result, Ok, IfOk, inl, inr, arith, refl, sym, subst, ◌∙◌}
 use Rattle.islec.specs.declared.serve.ServeFault.{ServeFault}
 use Rattle.islec.specs.declared.status.Status.{Status}
 use Rattle.islec.specs.declared.status.Status.TheVariants.{AllWell, TextsRefused, Usage, SomeRefused, InputOutput, OutOfMemory}
