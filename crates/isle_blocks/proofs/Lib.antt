@@ -73,3 +73,5 @@ pub mod Faultless
 pub mod ClosureLaws
 -- The multi calls of a rule, by the values of them among its sites.
 pub mod MultiCalls
+-- Terms of definitions have 255 arguments at most.
+pub mod FewArguments

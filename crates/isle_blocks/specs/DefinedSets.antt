@@ -4,7 +4,7 @@ use Rattle.std.specs.List.{AllZip}
 use Rattle.isle_syntax.specs.declared.ast.Def.{Def}
 use Rattle.isle_types.specs.declared.ids.Sym.{Sym}
 use Rattle.isle_types.specs.declared.ids.TermId.{TermId}
-use Rattle.isle_types.specs.Environment.{Environment}
+use Rattle.isle_types.specs.Environment.{Environment, Makes, AreWithinSizes}
 use Rattle.isle_types.specs.Names.{AreDistinct}
 use Rattle.isle_types.specs.TypeTables.{TypeTables}
 use Rattle.isle_terms.specs.declared.rules.Rule as source
@@ -42,6 +42,11 @@ pub record AreDefined (env : TermTables) : Type 0 where
   pub once : AreDistinct tyenv.names
   pub shows : ShowsTerms tyenv env types levels max defs
   pub few : HaveFewArguments env.terms
+
+-- No term that definitions within the sizes make has more than 255 arguments.
+abbrev pub TermsHaveFewArguments : Type 0
+TermsHaveFewArguments = (tyenv : TypeTables) (env : TermTables) (types : Environment) (levels max : ℕ) (defs : List Def)
+    → Makes defs types → AreWithinSizes defs → ShowsTerms tyenv env types levels max defs → HaveFewArguments env.terms
 
 -- the names of its symbols, what its declarations say of terms, and its typed rules
 abbrev pub name_of : (env : TermTables) → AreDefined env → Sym → List ℕ

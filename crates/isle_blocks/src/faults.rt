@@ -69,7 +69,7 @@ fn keys_at(
     Ok(keys)
 }
 
-/// The pairs of places that have a fault.
+/// The pairs of places that have a fault, in order.
 fn pairs_with(
     alloc: Global,
     rules: &[Rule],
@@ -84,6 +84,8 @@ fn pairs_with(
         push_pairs_of(rules, keys, fault, first, &mut found)?;
     }
     found.sort_unstable();
+
+    // Each pair was made once; this is where it is told.
     found.dedup();
     Ok(found)
 }

@@ -13,6 +13,7 @@ ghost use Rattle.std.specs.Map.{keys_of};
 ghost use Rattle.isle_types.specs.JoinedSets.{AreDisjoint};
 ghost use Rattle.isle_blocks.specs.ClosedRules.{NumbersSayCount, NumbersSayDiffer, NumbersSayFree, NumbersSayOverlaps};
 ghost use Rattle.isle_blocks.specs.ClosedRules.{NumbersSayShadows, NumbersSaySubset, NumbersSayTotal, NumbersSayWithin, same_site};
+ghost use Rattle.isle_blocks.specs.DefinedSets.{TermsHaveFewArguments};
 ghost use Rattle.isle_blocks.specs.ClosureLaws.{ClosureSaysTheSame, UnreachableNeverHolds};
 ghost use Rattle.isle_blocks.specs.Reports.{ReportsListEachOnce};
 ghost use Rattle.isle_blocks.specs.Rules.{site_cmp};
@@ -94,4 +95,9 @@ pub fn reports_list_each_once()
 pub fn closure_says_the_same()
     ensures closed { ClosureSaysTheSame }
     ensures unreachable { UnreachableNeverHolds }
+{}
+
+/// No term that definitions within the sizes make has more than 255 arguments.
+pub fn terms_have_few_arguments()
+    ensures { TermsHaveFewArguments }
 {}

@@ -24,7 +24,7 @@ use Rattle.isle_run.specs.declared.program.Program.{Program}
 use Rattle.isle_run.specs.Programs.{types_of, terms_of}
 use Rattle.isle_run.specs.Compiled.{AreSpelt, AreTyped, AreTypedFiles, AreAccepted, IsProgramOf, IsFirstFault, AreFaults, of_a_text, of_types}
 use Rattle.isle_run.specs.Compiled.{of_terms, of_rules, max_levels, max_nodes}
-use Rattle.isle_run.proofs.FewArguments.{few_arguments}
+use Rattle.isle_blocks.proofs.FewArguments.{few_arguments}
 use Rattle.isle_run.proofs.RuleErrors.{typed_placed, rule_errors_at}
 
 pub text_faults : (files : List SourceFile) (told : Refusal (Vec Error Global))

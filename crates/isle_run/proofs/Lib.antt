@@ -2,8 +2,6 @@
 pub mod SpeltFiles
 -- The fault of the first file that has one.
 pub mod FirstFaults
--- No term that definitions make has more than 255 arguments.
-pub mod FewArguments
 -- Errors of rules: where they stand, and that rules with some aren't faultless.
 pub mod RuleErrors
 -- The faults of files by the layer that has them.
