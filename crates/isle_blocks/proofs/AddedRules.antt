@@ -19,7 +19,7 @@ use Rattle.isle_blocks.specs.Rows.{IsInjective, row_of, rows_of, constraints_of,
 use Rattle.isle_blocks.specs.Tables.{IsInterned, IsFull}
 use Rattle.isle_blocks.specs.ClosureFields.{IsTable}
 use Rattle.isle_blocks.specs.Closure.{Stands}
-use Rattle.isle_blocks.specs.AddedRules.{IsOwnOf, IsAdded, IsMultiCall, HasNoRoomAlone, HasNoRoomBeside}
+use Rattle.isle_blocks.specs.AddedRules.{IsOwnOf, IsAdded, IsMultiCall, needs_in_order, HasNoRoomAlone, HasNoRoomBeside}
 use Rattle.isle_blocks.specs.Placing.{HasNoRoomFor}
 use Rattle.isle_blocks.specs.declared.rule.Rule.{Rule}
 use Rattle.isle_blocks.specs.Assembly.{IsAssembled}
@@ -98,6 +98,7 @@ module _ (name : Sym → List ℕ) (injective : IsInjective name) (facts : TermF
     only = λ s (k, p). inl (only_needed s k p);
     value = built.result;
     effects = built.impure;
+    order = built.sites;
   }
 
   pub own_partial : (id : BindingId) (new : List Binding) → IsInterned left.sites (MakeSome value) id new → AreDistinct new
@@ -124,6 +125,7 @@ module _ (name : Sym → List ℕ) (injective : IsInjective name) (facts : TermF
             needed_or_last (needs_of facts typed) s (make_some site) (subst (λ (z : Site). IsNeeded (needs_of facts typed ++ make_some site ∷ []) z) (one_site longer t s k q p) n);
         value = result;
         effects = each_grown name rows longer grown left.impure (impure_of facts typed) built.impure;
+        order = more;
       }
 
   -- where no number is left for the option of its value, the rule has no room
@@ -171,6 +173,7 @@ module _ (name : Sym → List ℕ) (facts : TermFacts) (partial : Bool) (typed :
     ];
     value = h.value (result_of facts partial typed) is.value;
     effects = h.effects (impure_of facts typed) is.effects;
+    order = h.order (needs_in_order facts partial typed) is.order;
   }
 
   -- where the own sites have no room beside a table's, the rule has none

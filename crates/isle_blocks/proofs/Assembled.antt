@@ -30,15 +30,16 @@ use Rattle.isle_blocks.specs.ClosureStates.{demanded_in}
 use Rattle.isle_blocks.specs.Closure.{Stands}
 use Rattle.isle_blocks.specs.Placing.{IsExplained, IsPlacedRule}
 use Rattle.isle_blocks.specs.Assembly.{IsAssembledRule, multi_call}
-use Rattle.isle_blocks.specs.Building.Standing.{StandEach}
+use Rattle.isle_blocks.specs.Building.Standing.{StandEach, Adds, GoesOn, NumbersBehind}
 use Rattle.isle_blocks.proofs.Closure.Pairs.{own_in}
 use Rattle.isle_blocks.proofs.Closure.Trees.{stands, at_below, one_number, row_get, get_row}
 use Rattle.isle_blocks.proofs.RowsInjective.{row-injective}
 use Rattle.isle_blocks.proofs.Counting.{place_of, stands_at}
 use Rattle.isle_blocks.proofs.MultiCalls.{picked_of, picked, call_site, as_iterator, no_field}
 use Rattle.isle_blocks.proofs.Closure.Longer.{stays}
-use Rattle.isle_blocks.proofs.MovedRows.{new_place}
-use Rattle.isle_blocks.proofs.Placed.{to_at, numbered_at, numbers_fit, still_stands, all_known}
+use Rattle.isle_blocks.proofs.MovedRows.{new_place, moved_rows}
+use Rattle.isle_blocks.proofs.SiteOrder.{moved_adds}
+use Rattle.isle_blocks.proofs.Placed.{early_rows, to_at, numbered_at, numbers_fit, still_stands, all_known}
 use Rattle.isle_blocks.proofs.PlacedRoom.{grown_site}
 
 module _ (name : Sym → List ℕ) (injective : IsInjective name) (ds : List Demand) (base own grown table : List Binding) (placed : PlacedRule)
@@ -199,6 +200,14 @@ module _ (name : Sym → List ℕ) (injective : IsInjective name) (ds : List Dem
     ascending = sorted;
   }
 
+  goes_on : (mid : List Binding) → ((k : ℕ) (b : Binding) → slice_get mid k ≡ Some b → slice_get table k ≡ Some b) → GoesOn (rows_of name mid) (rows_of name table)
+  goes_on mid keeps k row e = let (b, at, is) = get_row name mid k row e in row_get name table k b (keeps k b at) ∙ ap Some is
+
+  ordered : (needed : List Site) → Adds [] needed (rows_of name own) → NumbersBehind (rows_of name base) needed (rows_of name table)
+  ordered needed adds =
+      let (ids, mid, moved, keeps) = p.order in
+      (rows_of name mid, moved_adds needed adds (early_rows name own own_ok) (moved_rows name injective moved), goes_on mid keeps)
+
   pub assembled : (impure : List BindingId) (result : BindingId) (made : Rule) → AreTestsOf numbers each made.constraints
       → IsStrictlySortedBy site_cmp (keys_of made.constraints) → AreEqualitiesOf numbers each class made.equals → AreDisjoint same_site made.equals
       → IsPermutation (filter_map (multi_call (new_number numbers)) grown) made.iterators → IsSorted site_cmp made.iterators
@@ -214,5 +223,6 @@ module _ (name : Sym → List ℕ) (injective : IsInjective name) (ds : List Dem
     fields = λ s u f. moved_stands u (p.closure.fields s u (recorded_field s u f));
     explained = explained;
     value = λ s q. subst (λ (z : BindingId). At (rows_of name table) s z.0) (sym value) (moved_at s result q);
+    order = ordered;
     effects = λ ss h. subst (λ (l : List BindingId). StandEach (rows_of name table) l ss) (sym effects) (each_moved impure ss h);
   }

@@ -23,6 +23,7 @@ use Rattle.isle_blocks.specs.RuleFaults.{SitesStand, MayMatchAt, NeverMatches}
 use Rattle.isle_blocks.specs.RuleSets.{RulesOverSites}
 use Rattle.isle_blocks.specs.GatheredSets.{GathersRules, none_gathered, one_added, one_dropped, IsOfTerm}
 use Rattle.isle_blocks.specs.DefinedSets.{AreDefined, name_of, facts_by, rules_by, ListsNumbers, IsMadeAt, IsSiteOf, IsSetOf}
+use Rattle.isle_blocks.specs.DefinedSets.{AreNumberedInOrder, none_numbered, rule_numbered}
 use Rattle.isle_types.proofs.Zipped.{zipped_at}
 use Rattle.isle_terms.specs.Shown.RulesShown.{IsShownRule}
 use Rattle.isle_blocks.specs.ClosureFields.{IsTable}
@@ -110,6 +111,7 @@ module _ (env : TermTables) (d : AreDefined env) (term : ℕ) where
     pub reached : List ℕ
     pub listed : ListsNumbers (λ i. Contains places i × MayMatchAt (facts_by env d) (rules_by env d) term i) reached
     pub made : AllZip (IsMadeAt (name_of env d) (facts_by env d) env.rules (rules_by env d) term set.sites) reached set.rules
+    pub order : AreNumberedInOrder (facts_by env d) (rules_by env d) reached (rows_of (name_of env d) set.sites)
 
   -- each rule at the places has the term
   abbrev pub AreOfTerm : List ℕ → Type 0
@@ -140,6 +142,7 @@ module _ (env : TermTables) (d : AreDefined env) (term : ℕ) where
       ascending = λ k l e less within. absurd (omega arith);
     };
     made = tt;
+    order = none_numbered;
   }
   gathered_is places set (one_added {places = before} {old = old} i rule typed made new gathered at there is told pushed) up own =
       let name = name_of env d in let facts = facts_by env d in
@@ -170,6 +173,7 @@ module _ (env : TermTables) (d : AreDefined env) (term : ℕ) where
             (zip_push (IsMadeAt name facts env.rules (rules_by env d) term set.sites) so_far.reached old.rules i made
             (zip_map (IsMadeAt name facts env.rules (rules_by env d) term old.sites) (IsMadeAt name facts env.rules (rules_by env d) term set.sites)
             (made_kept name facts env.rules (rules_by env d) term old.sites set.sites is.kept) so_far.reached old.rules so_far.made) made_at);
+        order = rule_numbered i typed (rows_of name set.sites) so_far.order there is.order;
       }
   gathered_is places set (one_dropped {places = before} {old = old} i typed gathered there never) up own =
       let facts = facts_by env d in
@@ -189,6 +193,7 @@ module _ (env : TermTables) (d : AreDefined env) (term : ℕ) where
             ])
             so_far.listed;
         made = so_far.made;
+        order = so_far.order;
       }
 
   -- the places of a term's rules are those of its typed rules
@@ -218,4 +223,5 @@ module _ (env : TermTables) (d : AreDefined env) (term : ℕ) where
         table = table;
         few = few;
         explained = gathered_explained places set gathered own;
+        order = is.order;
       }

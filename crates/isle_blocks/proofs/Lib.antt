@@ -75,3 +75,5 @@ pub mod ClosureLaws
 pub mod MultiCalls
 -- Terms of definitions have 255 arguments at most.
 pub mod FewArguments
+-- Sites are numbered in the order in which a rule first needs them.
+pub mod SiteOrder

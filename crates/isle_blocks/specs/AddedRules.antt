@@ -1,5 +1,5 @@
 -- A rule of definitions, added to the rule set of its term.
-use Rattle.std.specs.Prelude.{◌≡◌, ◌≤◌, ◌⊎◌, ℕ, Bool, List, Option, Some, None, length, slice_get}
+use Rattle.std.specs.Prelude.{◌≡◌, ◌≤◌, ◌⊎◌, ◌++◌, ◌∷◌, [], ℕ, Bool, true, false, List, Option, Some, None, length, slice_get}
 use Rattle.isle_syntax.specs.declared.ast.Def.{Def}
 use Rattle.isle_types.specs.declared.ids.Sym.{Sym}
 use Rattle.isle_types.specs.Names.{AreDistinct}
@@ -28,7 +28,7 @@ use Rattle.isle_blocks.specs.ClosureStates.{IsReady}
 use Rattle.isle_blocks.specs.Closure.{Stands, HasAllFields}
 use Rattle.isle_blocks.specs.ClosedRules.{IsClosedRule, AreNumbersOf}
 use Rattle.isle_blocks.specs.Building.Naming.{name_by, HaveFewArguments}
-use Rattle.isle_blocks.specs.Building.Standing.{StandEach}
+use Rattle.isle_blocks.specs.Building.Standing.{StandEach, Adds, NumbersBehind}
 
 -- a rule that definitions make, and what it stands for
 pub record IsDefinedRule (env : TermTables) (rule : source.Rule) : Type 0 where
@@ -51,6 +51,11 @@ name_in env rule d = name_by d.tyenv.names
 abbrev pub facts_in : (env : TermTables) (rule : source.Rule) → IsDefinedRule env rule → TermFacts
 facts_in env rule d = facts_of (declared_by d.types env.expands d.shows.environment)
 
+-- the sites that a rule needs, in the order in which it first needs them; in a term that may fail its result's last
+abbrev pub needs_in_order : TermFacts → Bool → TypedRule → List Site
+needs_in_order facts true typed = needs_of facts typed ++ result_of facts true typed ∷ []
+needs_in_order facts false typed = needs_of facts typed
+
 -- A rule's own sites with that of its result.
 pub record IsOwnOf (name : Sym → List ℕ) (facts : TermFacts) (partial : Bool) (typed : TypedRule) (own : List Binding)
     (has : List (BindingId × Constraint)) (same : List (BindingId × BindingId)) (impure : List BindingId) (result : BindingId) : Type 0 where
@@ -60,6 +65,7 @@ pub record IsOwnOf (name : Sym → List ℕ) (facts : TermFacts) (partial : Bool
   pub only : (s : Site) → Stands (rows_of name own) s → IsNeeded (needs_of facts typed) s ⊎ (s ≡ result_of facts partial typed)
   pub value : At (rows_of name own) (result_of facts partial typed) result.0
   pub effects : StandEach (rows_of name own) impure (impure_of facts typed)
+  pub order : Adds [] (needs_in_order facts partial typed) (rows_of name own)
 
 -- a site of the table was there, is needed by the rule, is its result, or is a field that its demands open
 abbrev pub IsOfRule : (Sym → List ℕ) → TermFacts → Bool → TypedRule → List Binding → Site → Type 0
@@ -82,6 +88,7 @@ pub record IsAddedRule (name : Sym → List ℕ) (facts : TermFacts) (partial : 
   pub explained : (s : Site) → Stands (rows_of name table) s → IsOfRule name facts partial typed base s
   pub value : At (rows_of name table) (result_of facts partial typed) made.result.0
   pub effects : StandEach (rows_of name table) made.impure (impure_of facts typed)
+  pub order : NumbersBehind (rows_of name base) (needs_in_order facts partial typed) (rows_of name table)
 
 -- No values meet the rule's demands, and the table stays; or the rule is added.
 abbrev pub IsAdded : (Sym → List ℕ) → TermFacts → Bool → TypedRule → List Binding → List Binding → Option Rule → Type 0

@@ -1,5 +1,5 @@
 -- A rule of a rule set, made of what a visit leaves.
-use Rattle.std.specs.Prelude.{◌≡◌, ℕ, List, Option, Some, None}
+use Rattle.std.specs.Prelude.{◌≡◌, ℕ, List, [], Option, Some, None}
 use Rattle.isle_types.specs.declared.ids.Sym.{Sym}
 use Rattle.isle_terms.specs.declared.rules.Rule as source
 use Rattle.isle_terms.specs.Meaning.Sites.{Site, iterator}
@@ -11,7 +11,7 @@ use Rattle.isle_blocks.specs.Rows.{rows_of}
 use Rattle.isle_blocks.specs.Closure.{Stands, HasAllFields}
 use Rattle.isle_blocks.specs.ClosedRules.{IsClosedRule, AreNumbersOf}
 use Rattle.isle_blocks.specs.Placing.{IsExplained}
-use Rattle.isle_blocks.specs.Building.Standing.{StandEach}
+use Rattle.isle_blocks.specs.Building.Standing.{StandEach, Adds, NumbersBehind}
 use Rattle.isle_blocks.specs.declared.ids.BindingId.{BindingId}
 use Rattle.isle_blocks.specs.declared.binding.Binding.{Binding}
 use Rattle.isle_blocks.specs.declared.binding.Binding.TheVariants.{ConstBool, ConstInt, ConstPrim, Argument, Extractor, Constructor, Iterator}
@@ -54,6 +54,7 @@ pub record IsAssembledRule (name : Sym → List ℕ) (ds : List Demand) (base ow
   pub explained : (s : Site) → Stands (rows_of name table) s → IsExplained name ds base own s
   pub value : (s : Site) → At (rows_of name own) s result.0 → At (rows_of name table) s made.result.0
   pub effects : (ss : List Site) → StandEach (rows_of name own) impure ss → StandEach (rows_of name table) made.impure ss
+  pub order : (needed : List Site) → Adds [] needed (rows_of name own) → NumbersBehind (rows_of name base) needed (rows_of name table)
 
 -- No values meet the rule's demands, and the table stays; or the rule is made.
 abbrev pub IsAssembled : (Sym → List ℕ) → List Demand → List Binding → List Binding → List BindingId → BindingId → List Binding → Option Rule → Type 0

@@ -1,5 +1,5 @@
 -- The rule sets of the terms of definitions.
-use Rattle.std.specs.Prelude.{◌≡◌, ◌<◌, ◌≤◌, ◌⊎◌, ◌↔◌, ℕ, All, List, length, Contains, Some, slice_get, slice_index_or}
+use Rattle.std.specs.Prelude.{◌≡◌, ◌<◌, ◌≤◌, ◌⊎◌, ◌↔◌, ◌++◌, ◌∷◌, [], ℕ, All, List, length, Contains, Some, slice_get, slice_index_or}
 use Rattle.std.specs.List.{AllZip}
 use Rattle.isle_syntax.specs.declared.ast.Def.{Def}
 use Rattle.isle_types.specs.declared.ids.Sym.{Sym}
@@ -18,13 +18,13 @@ use Rattle.isle_terms.specs.Meaning.Demands.{impure_of}
 use Rattle.isle_terms.specs.Meaning.Derived.{FieldOf}
 use Rattle.isle_terms.specs.Meaning.Laws.{DemandOf}
 use Rattle.isle_terms.specs.Meaning.Needs.{needs_of, IsNeeded}
-use Rattle.isle_terms.specs.Meaning.Numbered.{At}
+use Rattle.isle_terms.specs.Meaning.Numbered.{Row, At}
 use Rattle.isle_blocks.specs.declared.binding.Binding.{Binding}
 use Rattle.isle_blocks.specs.declared.rule.Rule.{Rule}
-use Rattle.isle_blocks.specs.AddedRules.{IsMultiCall}
+use Rattle.isle_blocks.specs.AddedRules.{IsMultiCall, needs_in_order}
 use Rattle.isle_blocks.specs.Assembly.{IsToldOf}
 use Rattle.isle_blocks.specs.Building.Naming.{name_by, HaveFewArguments}
-use Rattle.isle_blocks.specs.Building.Standing.{StandEach}
+use Rattle.isle_blocks.specs.Building.Standing.{StandEach, NumbersBehind}
 use Rattle.isle_blocks.specs.Closure.{Stands}
 use Rattle.isle_blocks.specs.ClosedRules.{IsClosedRule, AreNumbersOf}
 use Rattle.isle_blocks.specs.ClosureFields.{IsTable}
@@ -82,6 +82,14 @@ pub record IsSiteOf (facts : TermFacts) (rules : List TypedRule) (term : ℕ) (s
   pub reached : MayMatchAt facts rules term place
   pub from : IsNeeded (needs_of facts reached.rule) s ⊎ (s ≡ own_result facts reached.rule) ⊎ ((t : Site) × FieldOf (DemandOf facts reached.rule) t s)
 
+-- Rules at places in turn: what each needs is numbered in the order in which it first needs it, behind what stood, and the
+-- fields that its demands open behind that.
+pub data AreNumberedInOrder (facts : TermFacts) (rules : List TypedRule) : List ℕ → List Row → Type 0 where
+  none_numbered : AreNumberedInOrder facts rules [] []
+  rule_numbered : {places : List ℕ} {old : List Row} (i : ℕ) (rule : TypedRule) (new : List Row) → AreNumberedInOrder facts rules places old
+      → slice_get rules i ≡ Some rule → NumbersBehind old (needs_in_order facts (facts.partial rule.root) rule) new
+      → AreNumberedInOrder facts rules (places ++ i ∷ []) new
+
 -- The rule set of a term: its rules that may match, in the order of the source, over their sites, each once, and no others.
 pub record IsSetOf (name : Sym → List ℕ) (facts : TermFacts) (sources : List source.Rule) (rules : List TypedRule) (term : ℕ) (set : RulesOverSites)
     : Type 0 where
@@ -91,6 +99,7 @@ pub record IsSetOf (name : Sym → List ℕ) (facts : TermFacts) (sources : List
   pub table : IsTable set.sites
   pub few : length set.sites ≤ 65536
   pub explained : (s : Site) → Stands (rows_of name set.sites) s → IsSiteOf facts rules term s
+  pub order : AreNumberedInOrder facts rules places (rows_of name set.sites)
 
 -- a term is the root of a rule
 pub record HasRules (rules : List TypedRule) (term : ℕ) : Type 0 where

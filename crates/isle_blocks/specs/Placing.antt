@@ -34,6 +34,11 @@ pub record GrowsFor (name : Sym → List ℕ) (ds : List Demand) (base own table
   pub kept : (k : ℕ) (site : Binding) → slice_get base k ≡ Some site → slice_get table k ≡ Some site
   pub explained : (s : Site) → Stands (rows_of name table) s → IsExplained name ds base own s
 
+-- the first sites were put into the table, and then it may have gone on
+abbrev pub IsPutFirst : List Binding → List Binding → List Binding → Type 0
+IsPutFirst base first table = (ids : List BindingId) × (mid : List Binding) × MovesSites base first ids mid
+    × ((k : ℕ) (site : Binding) → slice_get mid k ≡ Some site → slice_get table k ≡ Some site)
+
 -- Some values meet the demands; the rule's own sites are closed, and then put behind those of the table where they are lacking.
 pub record IsPlacedRule (name : Sym → List ℕ) (ds : List Demand) (base own grown table : List Binding) (placed : PlacedRule) : Type 0 where
   pub reachable : IsUnreachable (Among ds) → ⊥
@@ -44,6 +49,7 @@ pub record IsPlacedRule (name : Sym → List ℕ) (ds : List Demand) (base own g
   pub between : List Binding
   pub opened : GrowsFor name ds base own between
   pub moved : MovesSites between grown placed.numbers.items table
+  pub order : IsPutFirst base own table
 
 -- No values meet the demands, and the table stays; or the rule is placed.
 abbrev pub IsPlaced : (Sym → List ℕ) → List Demand → List Binding → List Binding → List Binding → List Binding → Option PlacedRule → Type 0

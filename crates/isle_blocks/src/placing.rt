@@ -1,10 +1,10 @@
 //! Rules put into the table of their rule set.
-ghost use Rattle.std.specs.Prelude.{◌≡◌, IfOk, IfErr, IfSome, OnOk, take};
+ghost use Rattle.std.specs.Prelude.{◌≡◌, IfOk, IfErr, IfSome, OnOk, take, ◌≤◌, ◌<◌, length};
 ghost use Rattle.isle_terms.specs.Meaning.Demands.{Among};
 ghost use Rattle.isle_terms.specs.Meaning.Faults.{IsUnreachable};
 ghost use Rattle.isle_blocks.specs.ClosureFields.{IsTable};
 ghost use Rattle.isle_blocks.specs.ClosureStates.{IsReady};
-ghost use Rattle.isle_blocks.specs.Placing.{ForDemandsOf, IsPlaced, GrowsFor, HasNoRoomFor, AreSettled};
+ghost use Rattle.isle_blocks.specs.Placing.{ForDemandsOf, IsPlaced, IsPutFirst, GrowsFor, HasNoRoomFor, AreSettled};
 
 use crate::binding::Binding;
 use crate::close::{Closed, close};
@@ -65,6 +65,8 @@ fn open_fields(
     ensures opened { OnOk result (ForDemandsOf (take own sites.now) has.now same.now
         (λ name ds. GrowsFor name ds table.old (take own sites.now) table.new)) }
     ensures kept { OnOk result (IsTable table.new) }
+    ensures stays { OnOk result (length sites.now ≤ own → table.new ≡ table.old) }
+    ensures first { OnOk result (own < length sites.now → IsPutFirst table.old (take own sites.now) table.new) }
     ensures full { IfErr result (λ fault. fault ≡ SiteFault.Size
         → ForDemandsOf (take own sites.now) has.now same.now (λ name ds. HasNoRoomFor name ds table.old (take own sites.now))) }
 {

@@ -35,6 +35,14 @@ pub data Adds (rows : List Row) : List Site → List Row → Type 0 where
   next : {needed : List Site} {old : List Row} (new : List Row) (site : Site) (row : Row) (k : ℕ) → Adds rows needed old
       → IsEntryOf old site row → IsPut old row k new → Adds rows (needed ++ site ∷ []) new
 
+-- a table that goes on from another
+abbrev pub GoesOn : List Row → List Row → Type 0
+GoesOn rows longer = (k : ℕ) (row : Row) → slice_get rows k ≡ Some row → slice_get longer k ≡ Some row
+
+-- sites are numbered in turn behind a table, each that is lacking, and the table may go on
+abbrev pub NumbersBehind : List Row → List Site → List Row → Type 0
+NumbersBehind base needed table = (mid : List Row) × Adds base needed mid × GoesOn mid table
+
 -- numbers that stand for sites in order
 abbrev pub StandEach : List Row → List BindingId → List Site → Type 0
 StandEach rows [] [] = Unit {0}

@@ -1,4 +1,4 @@
-use Rattle.std.proofs.Common.{◌≡◌, ℕ, List, map, sym, ◌∙◌, ap, subst, Option, Some, None, take}
+use Rattle.std.proofs.Common.{◌≡◌, ℕ, List, map, sym, ◌∙◌, ap, subst, Option, Some, None, take, slice_get}
 use Rattle.std.proofs.lemmas.Result.{err_from_is_err_and}
 use Rattle.isle_types.specs.declared.ids.Sym.{Sym}
 use Rattle.isle_terms.specs.Meaning.Demands.{Demand}
@@ -11,7 +11,7 @@ use Rattle.isle_blocks.specs.Rows.{IsInjective, rows_of, constraints_of, pairs_o
 use Rattle.isle_blocks.specs.ClosureFields.{IsTable}
 use Rattle.isle_blocks.specs.ClosureStates.{IsReady}
 use Rattle.isle_blocks.specs.Closure.{ClosesTo}
-use Rattle.isle_blocks.specs.Placing.{GrowsFor}
+use Rattle.isle_blocks.specs.Placing.{GrowsFor, IsPutFirst}
 use Rattle.isle_blocks.specs.MovedSites.{new_number, moved_test, moved_pair, MovesSites}
 use Rattle.isle_blocks.proofs.Placed.{by_number, by_number_injective, after_ok, still_ready, still_recorded}
 use Rattle.isle_blocks.proofs.PlacedRoom.{closing_lacks_room, moving_lacks_room, closed_grows, moved_grows}
@@ -107,3 +107,15 @@ pub returns-clause-kept : goal.returns-clause-kept
 returns-clause-kept c =
     closes_table c.args.table.now (take c.args.own c.args.sites.now) c.move_sites.new.table c.close.new.sites c.in_ok-numbers.numbers.items c.deref-3.result.now
     c.deref-4.result.now c.in_ok-close.field-0 c.in_ok-numbers.ensures.moved c.requires.table c.requires.ready.sites c.in_ok-close.ensures.closed
+
+-- the sites moved into a table that is closed, or stays, stand first in it
+put_first : (base own between table : List Binding) (ids : List BindingId) (has : List (BindingId × Constraint)) (same : List (BindingId × BindingId))
+    (closed : Option Closed) → MovesSites base own ids between → ClosesTo between has same table closed → IsPutFirst base own table
+put_first base own between table ids has same None moved closes =
+    (ids, between, moved, λ k b e. subst (λ (t : List Binding). slice_get t k ≡ Some b) (sym closes.1) e)
+put_first base own between table ids has same (Some closed) moved closes = (ids, between, moved, (closes by_number by_number_injective).kept)
+
+pub returns-clause-first : goal.returns-clause-first
+returns-clause-first c = λ more.
+    put_first c.args.table.now (take c.args.own c.args.sites.now) c.move_sites.new.table c.close.new.sites c.in_ok-numbers.numbers.items c.deref-3.result.now
+    c.deref-4.result.now c.in_ok-close.field-0 c.in_ok-numbers.ensures.moved c.in_ok-close.ensures.closed

@@ -1,4 +1,4 @@
-use Rattle.std.proofs.Common.{◌≡◌, ℕ, suc, List, [], ◌∷◌, length, take, slice_get, sym, ap, ◌∙◌, subst, refl, Option, Some, None}
+use Rattle.std.proofs.Common.{◌≡◌, ℕ, suc, List, [], ◌∷◌, length, take, slice_get, sym, ap, ◌∙◌, subst, refl, arith, Option, Some, None, ◌≤◌, ◌<◌, inl, inr, take_all}
 use Rattle.std.proofs.lemmas.Option.{same_Some, none-some}
 use Rattle.std.proofs.lemmas.Result.{err_from_is_err_and}
 use Rattle.isle_blocks.specs.declared.ids.BindingId.{BindingId}
@@ -7,9 +7,12 @@ use Rattle.isle_blocks.specs.declared.close.Closed.{Closed}
 use Rattle.isle_blocks.specs.declared.constraint.Constraint.{Constraint}
 use Rattle.isle_blocks.specs.Closure.{ClosesTo}
 use Rattle.isle_blocks.specs.ClosureStates.{IsReady}
-use Rattle.isle_blocks.specs.Placing.{ForDemandsOf, GrowsFor, HasNoRoomFor}
+use Rattle.isle_blocks.specs.Placing.{ForDemandsOf, GrowsFor, IsPutFirst, HasNoRoomFor}
 use Rattle.isle_blocks.specs.MovedSites.{MovesSites, EndsFull}
+use Rattle.std.proofs.lemmas.Bool.{cases_lt}
+use Rattle.isle_blocks.specs.ClosureFields.{IsTable}
 use Rattle.isle_blocks.proofs.Placed.{by_number, by_number_injective, after_ok, settled}
+use Rattle.isle_blocks.proofs.Placed.{grown as longer}
 use Rattle.isle_blocks.proofs.PlacedRoom.{dead_recorded, recorded_dead, own_lacks_room, grown_lacks_room}
 use Rattle.isle_blocks.proofs.placing.place_rule.Goals as goal
 
@@ -37,6 +40,24 @@ first_of : (own has-sites : List Binding) (has : List (BindingId × Constraint))
     → ClosesTo own has same grown (Some closed) → (count : ℕ) → count ≡ length own → has-sites ≡ grown → take count has-sites ≡ own
 first_of own sites has same grown closed closes count counts is =
     ap (λ (n : ℕ). take n sites) counts ∙ ap (take (length own)) is ∙ own_first own grown (closes by_number by_number_injective).kept
+
+-- the own sites stand first behind the table
+in_order : (base own grown between table : List Binding) (ids : List BindingId) (closed : Closed)
+    → ((k : ℕ) (b : Binding) → slice_get own k ≡ Some b → slice_get grown k ≡ Some b) → IsTable base → IsTable between → IsTable grown
+    → MovesSites between grown ids table → (length grown ≤ length own → between ≡ base) → (length own < length grown → IsPutFirst base own between)
+    → IsPutFirst base own table
+in_order base own grown between table ids closed kept base_ok between_ok grown_ok moved stays first = elim (cases_lt (length own) (length grown)) [
+  | inl more ↦
+      let (numbers, mid, put, goes) = first more in
+      (numbers, mid, put, λ k b e. longer between grown table ids moved between_ok grown_ok by_number by_number_injective k b (goes k b e))
+  | inr fits ↦
+      let one : grown ≡ own = sym (take_all (length own) grown fits) ∙ own_first own grown kept in (
+        ids,
+        table,
+        subst (λ (b : List Binding). MovesSites b own ids table) (stays fits) (subst (λ (l : List Binding). MovesSites between l ids table) one moved),
+        λ k b e. e,
+      )
+]
 
 pub open_fields-requires-clause-ready : goal.open_fields-requires-clause-ready
 open_fields-requires-clause-ready c =
@@ -92,6 +113,8 @@ returns-clause-placed c = λ name injective ds are.
     let first = first_of own c.bindings.result.now has same grown c.in-Some.closed closed c.len-count.result c.len-count.ensures.count c.bindings.ensures in
     let opened = subst (λ (l : List Binding). ForDemandsOf l has same (λ name ds. GrowsFor name ds base l c.open_fields.new.table)) first
     c.in_ok-open_fields.ensures.opened in
+    let len : length c.bindings.result.now ≡ length grown = ap length c.bindings.ensures in
+    let count = c.len-count.ensures.count in
     record {
       reachable = λ dead. (closed name injective).reachable (recorded_dead name own has same ds are dead);
       has = has;
@@ -102,6 +125,12 @@ returns-clause-placed c = λ name injective ds are.
       opened = opened name injective ds are;
       moved = subst (λ (l : List Binding). MovesSites c.open_fields.new.table l c.in_ok-numbers.numbers.items c.move_sites.new.table) c.bindings-2.ensures
           c.in_ok-numbers.ensures.moved;
+      order = in_order base own grown c.open_fields.new.table c.move_sites.new.table c.in_ok-numbers.numbers.items c.in-Some.closed (closed by_number by_number_injective).kept
+          c.requires.table c.in_ok-open_fields.ensures.kept (closed by_number by_number_injective).sites
+          (subst (λ (l : List Binding). MovesSites c.open_fields.new.table l c.in_ok-numbers.numbers.items c.move_sites.new.table) c.bindings-2.ensures
+          c.in_ok-numbers.ensures.moved)
+          (λ fits. c.in_ok-open_fields.ensures.stays (omega (arith, fits, len, count)))
+          (λ more. subst (λ (l : List Binding). IsPutFirst base l c.open_fields.new.table) first (c.in_ok-open_fields.ensures.first (omega (arith, more, len, count))));
     }
 
 pub returns-clause-kept : goal.returns-clause-kept
