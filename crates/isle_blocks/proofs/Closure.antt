@@ -31,3 +31,5 @@ pub mod Least
 pub mod Whole
 -- What a visit leaves is ready to be closed.
 pub mod Ready
+-- The closure of demands says the same as they do.
+pub mod Laws

@@ -69,8 +69,6 @@ pub mod RivalRules
 pub mod RivalLists
 -- Rules without errors are faultless.
 pub mod Faultless
--- The closure of demands says the same as they do.
-pub mod ClosureLaws
 -- The multi calls of a rule, by the values of them among its sites.
 pub mod MultiCalls
 -- Terms of definitions have 255 arguments at most.

@@ -1,4 +1,4 @@
-use Rattle.isle_blocks.proofs.ClosureLaws.{closure_says_the_same, unreachable_never_holds}
+use Rattle.isle_blocks.proofs.Closure.Laws.{closure_says_the_same, unreachable_never_holds}
 use Rattle.isle_blocks.proofs.laws.closure_says_the_same.Goals as goal
 
 pub returns-clause-closed : goal.returns-clause-closed
