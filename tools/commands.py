@@ -42,7 +42,7 @@ def input_of(case):
     if case.get("stdin_fails"):
         # What is left unread at the other end makes reading fail once the bytes are read.
         given.send(b"unread")
-    text = bytes_of(case["stdin"])
+    text = bytes_of(text_of(case["stdin"]))
     step = step or max(len(text), 1)
     for at in range(0, len(text), step):
         filled.send(text[at:at + step])
@@ -93,8 +93,8 @@ def differences(program, case):
     found = []
     if status != case["status"]:
         found.append(f"status {status}, wanted {case['status']}")
-    if "stdout" in case and output != bytes_of(case["stdout"]):
-        found.append(f"wrote {output!r}, wanted {bytes_of(case['stdout'])!r}")
+    if "stdout" in case and output != bytes_of(text_of(case["stdout"])):
+        found.append(f"wrote {output!r}, wanted {bytes_of(text_of(case['stdout']))!r}")
     if not output.startswith(bytes_of(case.get("stdout_begins", ""))):
         found.append(f"wrote {output!r}, wanted a beginning of {bytes_of(case['stdout_begins'])!r}")
     return found

@@ -3,6 +3,7 @@ use Rattle.std.proofs.Common.{◌≡◌, ◌≢◌, ◌<◌, inl, inr, ℕ, List
 use Rattle.std.specs.Prelude.{Contains, IsPermutation, IsSorted}
 use Rattle.std.specs.List.{filter_map}
 use Rattle.std.specs.List.Sorted.{IsStrictlySortedBy}
+use Rattle.std.proofs.lemmas.List.{length-map}
 use Rattle.std.proofs.lemmas.List.Sorted.{Contains-permutation, IsPermutation-sym}
 use Rattle.std.specs.Map.{keys_of}
 use Rattle.std.proofs.lemmas.Option.{same_Some, slice_get-get_or, slice_get_within}
@@ -11,7 +12,7 @@ use Rattle.isle_types.specs.declared.ids.Sym.{Sym}
 use Rattle.isle_terms.specs.Meaning.Sites.{Site, iterator}
 use Rattle.isle_terms.specs.Meaning.Demands as meaning
 use Rattle.isle_terms.specs.Meaning.Demands.{Demand, constrained, equal, Among, variant_constraint, struct_constraint}
-use Rattle.isle_terms.specs.Meaning.Derived.{Derived, flipped, shared, Closed, FieldOf, of_variant, of_struct}
+use Rattle.isle_terms.specs.Meaning.Derived.{Derived, flipped, shared, Closed}
 use Rattle.isle_terms.specs.Meaning.Numbered.{At, iterator_row}
 use Rattle.isle_terms.proofs.Meaning.Numbering.{one_site, numbers_say_demands}
 use Rattle.isle_blocks.specs.declared.ids.BindingId.{BindingId}
@@ -20,7 +21,7 @@ use Rattle.isle_blocks.specs.declared.binding.Binding.TheVariants.{Iterator}
 use Rattle.isle_blocks.specs.declared.constraint.Constraint.{Constraint}
 use Rattle.isle_blocks.specs.declared.placing.PlacedRule.{PlacedRule}
 use Rattle.isle_blocks.specs.declared.rule.Rule.{Rule}
-use Rattle.isle_blocks.specs.Rows.{IsInjective, rows_of, numbers_of, test_of, constraints_of, pairs_of}
+use Rattle.isle_blocks.specs.Rows.{IsInjective, row_of, rows_of, numbers_of, test_of, constraints_of, pairs_of}
 use Rattle.isle_blocks.specs.Rules.{site_cmp}
 use Rattle.isle_blocks.specs.ClosedRules.{same_site, AreDerived, AreLeftEqual, AreNumbersOf}
 use Rattle.isle_blocks.specs.NormalRules.{AreTestsOf, AreEqualitiesOf, MustBeEqual, IsUntested}
@@ -30,7 +31,10 @@ use Rattle.isle_blocks.specs.ClosureStates.{demanded_in}
 use Rattle.isle_blocks.specs.Closure.{Stands}
 use Rattle.isle_blocks.specs.Placing.{IsExplained, IsPlacedRule}
 use Rattle.isle_blocks.specs.Assembly.{IsAssembledRule, multi_call}
-use Rattle.isle_blocks.specs.Building.Standing.{StandEach, Adds, GoesOn, NumbersBehind}
+use Rattle.isle_blocks.specs.Building.Standing.{StandEach, Adds, GoesOn, IsFieldRow, NumbersBehind}
+use Rattle.isle_blocks.specs.FieldOrder.{AreInOrder}
+use Rattle.isle_blocks.proofs.Closure.FieldOrder.{rows_in_order}
+use Rattle.isle_blocks.proofs.Building.OpenedFields.{opened}
 use Rattle.isle_blocks.proofs.Closure.Pairs.{own_in}
 use Rattle.isle_blocks.proofs.Closure.Trees.{stands, at_below, one_number, row_get, get_row}
 use Rattle.isle_blocks.proofs.RowsInjective.{row-injective}
@@ -39,8 +43,8 @@ use Rattle.isle_blocks.proofs.MultiCalls.{picked_of, picked, call_site, as_itera
 use Rattle.isle_blocks.proofs.Closure.Longer.{stays}
 use Rattle.isle_blocks.proofs.MovedRows.{new_place, moved_rows}
 use Rattle.isle_blocks.proofs.SiteOrder.{moved_adds}
-use Rattle.isle_blocks.proofs.Placed.{early_rows, to_at, numbered_at, numbers_fit, still_stands, all_known}
-use Rattle.isle_blocks.proofs.PlacedRoom.{grown_site}
+use Rattle.isle_blocks.proofs.Placed.{early_rows, after_ok, to_at, numbered_at, numbers_fit, still_stands, all_known}
+use Rattle.isle_blocks.proofs.PlacedRoom.{grown_site, recorded_field}
 
 module _ (name : Sym → List ℕ) (injective : IsInjective name) (ds : List Demand) (base own grown table : List Binding) (placed : PlacedRule)
     (p : IsPlacedRule name ds base own grown table placed) (base_ok : IsTable base) (own_ok : IsTable own) where
@@ -127,10 +131,6 @@ module _ (name : Sym → List ℕ) (injective : IsInjective name) (ds : List Dem
         (x, y, moved_to s a x at_x pa, moved_to u b y at_y pb, (are.joined x y differ).1 (a, b, at_x, at_y, must));
   }
 
-  recorded_field : (s u : Site) → FieldOf (Among ds) s u → FieldOf D s u
-  recorded_field s u (of_variant {ty = ty} {k = k} {n = n} d l) = of_variant (to_recorded (constrained s (variant_constraint ty k n)) d) l
-  recorded_field s u (of_struct {ty = ty} {n = n} d l) = of_struct (to_recorded (constrained s (struct_constraint ty n)) d) l
-
   grown_at : (s : Site) (k : ℕ) → At (rows_of name own) s k → At (rows_of name grown) s k
   grown_at = stays name own grown p.closure.kept
 
@@ -203,10 +203,22 @@ module _ (name : Sym → List ℕ) (injective : IsInjective name) (ds : List Dem
   goes_on : (mid : List Binding) → ((k : ℕ) (b : Binding) → slice_get mid k ≡ Some b → slice_get table k ≡ Some b) → GoesOn (rows_of name mid) (rows_of name table)
   goes_on mid keeps k row e = let (b, at, is) = get_row name mid k row e in row_get name table k b (keeps k b at) ∙ ap Some is
 
-  ordered : (needed : List Site) → Adds [] needed (rows_of name own) → NumbersBehind (rows_of name base) needed (rows_of name table)
+  ordered : (needed : List Site) → Adds [] needed (rows_of name own) → NumbersBehind (rows_of name base) needed (Among ds) (rows_of name table)
   ordered needed adds =
-      let (ids, mid, moved, keeps) = p.order in
-      (rows_of name mid, moved_adds needed adds (early_rows name own own_ok) (moved_rows name injective moved), goes_on mid keeps)
+      let first = p.order in
+      let added = moved_adds needed adds (early_rows name own own_ok) (moved_rows name injective first.moved) in
+      let goes = goes_on first.mid first.kept in
+      let table_ok = after_ok p.between grown table numbers p.moved p.opened.sites p.closure.sites name injective in
+      record {
+        mid = rows_of name first.mid;
+        added = added;
+        goes_on = goes;
+        opened = λ k high low. opened name injective ds base own table table_ok explained needed adds (rows_of name first.mid) added goes k high
+            (subst (λ (n : ℕ). k < n) (length-map table (row_of name)) low);
+        all = λ s u f. moved_stands u (p.closure.fields s u (recorded_field name own p.has p.same ds p.recorded s u f));
+        fields = subst (λ (n : ℕ). AreInOrder (IsFieldRow (rows_of name table)) n (length (rows_of name table))) (sym (length-map first.mid (row_of name)))
+            (rows_in_order name table (length first.mid) first.fields);
+      }
 
   pub assembled : (impure : List BindingId) (result : BindingId) (made : Rule) → AreTestsOf numbers each made.constraints
       → IsStrictlySortedBy site_cmp (keys_of made.constraints) → AreEqualitiesOf numbers each class made.equals → AreDisjoint same_site made.equals
@@ -220,7 +232,7 @@ module _ (name : Sym → List ℕ) (injective : IsInjective name) (ds : List Dem
     kept = λ s k q. still_stands p.between grown table numbers p.moved p.opened.sites p.closure.sites name injective s k
         (stays name base p.between p.opened.kept s k q);
     own_stand = λ s (k, q). moved_stands s (k, grown_at s k q);
-    fields = λ s u f. moved_stands u (p.closure.fields s u (recorded_field s u f));
+    fields = λ s u f. moved_stands u (p.closure.fields s u (recorded_field name own p.has p.same ds p.recorded s u f));
     explained = explained;
     value = λ s q. subst (λ (z : BindingId). At (rows_of name table) s z.0) (sym value) (moved_at s result q);
     order = ordered;

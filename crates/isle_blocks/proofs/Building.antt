@@ -37,3 +37,5 @@ pub mod Defined
 pub mod GoingOn
 -- Rules that need more sites than there are numbers.
 pub mod Overfull
+-- What stands behind a rule's own sites are fields that its demands open.
+pub mod OpenedFields

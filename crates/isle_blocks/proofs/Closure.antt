@@ -21,6 +21,8 @@ pub mod Loops
 pub mod Growth
 -- A missing field is added, or has no room.
 pub mod Full
+-- Fields that are added site by site are in order.
+pub mod FieldOrder
 -- Sites keep their numbers in a longer table.
 pub mod Longer
 -- What is merged in the grown table.

@@ -45,8 +45,6 @@ pub mod ClosedEqualities
 pub mod Assembled
 -- The groups of pairs share the pairs out.
 pub mod SharedPairs
--- The rule (f x x).
-mod ClosedCase
 -- A rule's own sites with that of its result.
 pub mod AddedRules
 -- The closure of demands.

@@ -17,7 +17,7 @@ use Rattle.isle_blocks.specs.declared.binding.Binding.{Binding}
 use Rattle.isle_blocks.specs.declared.constraint.Constraint.{Constraint}
 use Rattle.isle_blocks.specs.Rows.{IsInjective, row_of, rows_of, numbers_of, constraints_of, pairs_of}
 use Rattle.isle_blocks.specs.Tables.{IsInterned}
-use Rattle.isle_blocks.specs.MovedSites.{new_number, renumbered, place_in, MovesSites, next_site_moved, EndsFull}
+use Rattle.isle_blocks.specs.MovedSites.{new_number, renumbered, place_in, MovesSites, no_sites_moved, next_site_moved, EndsFull}
 use Rattle.isle_blocks.specs.ClosureFields.{IsTable}
 use Rattle.isle_blocks.specs.ClosureStates.{demanded_in}
 use Rattle.isle_blocks.specs.Closure.{Stands, HasNoRoom, IsClosure}
@@ -27,7 +27,7 @@ use Rattle.isle_blocks.proofs.Closure.Longer.{stays, stood}
 use Rattle.isle_blocks.proofs.MovedTables.{as_many}
 use Rattle.isle_blocks.proofs.MovedRows.{moved_rows}
 use Rattle.isle_blocks.proofs.FullTables.{no_more}
-use Rattle.isle_blocks.proofs.Placed.{after_ok, to_at, all_known, grown, place_new}
+use Rattle.isle_blocks.proofs.Placed.{after_ok, to_at, all_known, grown, place_new, still_stands}
 
 -- what is recorded says the demands
 module _ (name : Sym → List ℕ) (table : List Binding) (has : List (BindingId × Constraint)) (same : List (BindingId × BindingId)) (ds : List Demand)
@@ -43,6 +43,12 @@ module _ (name : Sym → List ℕ) (table : List Binding) (has : List (BindingId
       of_variant (((numbers_say_demands (rows_of name table) (constraints_of name has) (pairs_of same) ds are).0 (constrained s (variant_constraint ty k n))).0 d) l
   field_recorded s u (of_struct {ty = ty} {n = n} d l) =
       of_struct (((numbers_say_demands (rows_of name table) (constraints_of name has) (pairs_of same) ds are).0 (constrained s (struct_constraint ty n))).0 d) l
+
+  pub recorded_field : (s u : Site) → FieldOf (Among ds) s u → FieldOf (demanded_in name table has (pairs_of same)) s u
+  recorded_field s u (of_variant {ty = ty} {k = k} {n = n} d l) =
+      of_variant (((numbers_say_demands (rows_of name table) (constraints_of name has) (pairs_of same) ds are).0 (constrained s (variant_constraint ty k n))).1 d) l
+  recorded_field s u (of_struct {ty = ty} {n = n} d l) =
+      of_struct (((numbers_say_demands (rows_of name table) (constraints_of name has) (pairs_of same) ds are).0 (constrained s (struct_constraint ty n))).1 d) l
 
 -- the beginning of a table is one
 prefix_ok : (own : List Binding) → IsTable own → (n : ℕ) → IsTable (take n own)
@@ -67,6 +73,33 @@ placed_last base first after numbers moves site more id moved base_ok second_ok 
     let same : k ≡ place_in (numbers_of (numbers ++ id ∷ [])) place =
     one_number name more injective ok t k (place_in (numbers_of (numbers ++ id ∷ [])) place) p q in
     omega arith
+
+-- the sites before the last are a table
+before_ok : (own : List Binding) (site : Binding) → IsTable (own ++ site ∷ []) → IsTable own
+before_ok own site ok = record {
+  earlier = λ k b part e c. ok.earlier k b part (slice_get-kept own (site ∷ []) k b e) c;
+  once = λ b j k p q. ok.once b j k (slice_get-kept own (site ∷ []) j b p) (slice_get-kept own (site ∷ []) k b q);
+}
+
+-- a table stays where all sites that are moved into it stand there
+pub stays_put : (name : Sym → List ℕ) (injective : IsInjective name) (base own after : List Binding) (numbers : List BindingId)
+    → MovesSites base own numbers after → IsTable base → IsTable own
+    → ((s : Site) (k : ℕ) → At (rows_of name own) s k → Stands (rows_of name base) s) → after ≡ base
+stays_put name injective base own after numbers no_sites_moved base_ok own_ok there = refl
+stays_put name injective base own after numbers (next_site_moved {own = first} {numbers = ids} {table = before} site id more moves put) base_ok own_ok there =
+    let first_ok = before_ok first site own_ok in
+    let same : before ≡ base = stays_put name injective base first before ids moves base_ok first_ok
+    (λ s k p. there s k (stays name first (first ++ site ∷ []) (λ i b e. slice_get-kept first (site ∷ []) i b e) s k p)) in
+    elim put [
+      | inl (found, e) ↦ e ∙ same
+      | inr (absent, last, e) ↦
+          let (t, at) = stands name (first ++ site ∷ []) own_ok (length first) (simp length-append (omega arith)) in
+          let (k, p) = there t (length first) at in
+          let moved : MovesSites base (first ++ site ∷ []) (ids ++ id ∷ []) after = next_site_moved site id after moves (inr (absent, last, e)) in
+          let q = still_stands base (first ++ site ∷ []) after (ids ++ id ∷ []) moved base_ok own_ok name injective t k p in
+          absurd (placed_last base first before ids moves site after id moved base_ok own_ok name injective t k (length first) refl last at q
+          (subst (λ (l : List Binding). k < length l) (sym same) (at_below name base t k p)))
+    ]
 
 module _ (base own : List Binding) (base_ok : IsTable base) (own_ok : IsTable own) (name : Sym → List ℕ) (injective : IsInjective name) (ds : List Demand) where
   -- what the closed table has no room for

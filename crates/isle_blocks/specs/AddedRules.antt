@@ -88,7 +88,7 @@ pub record IsAddedRule (name : Sym → List ℕ) (facts : TermFacts) (partial : 
   pub explained : (s : Site) → Stands (rows_of name table) s → IsOfRule name facts partial typed base s
   pub value : At (rows_of name table) (result_of facts partial typed) made.result.0
   pub effects : StandEach (rows_of name table) made.impure (impure_of facts typed)
-  pub order : NumbersBehind (rows_of name base) (needs_in_order facts partial typed) (rows_of name table)
+  pub order : NumbersBehind (rows_of name base) (needs_in_order facts partial typed) (DemandOf facts typed) (rows_of name table)
 
 -- No values meet the rule's demands, and the table stays; or the rule is added.
 abbrev pub IsAdded : (Sym → List ℕ) → TermFacts → Bool → TypedRule → List Binding → List Binding → Option Rule → Type 0

@@ -54,7 +54,7 @@ pub record IsAssembledRule (name : Sym → List ℕ) (ds : List Demand) (base ow
   pub explained : (s : Site) → Stands (rows_of name table) s → IsExplained name ds base own s
   pub value : (s : Site) → At (rows_of name own) s result.0 → At (rows_of name table) s made.result.0
   pub effects : (ss : List Site) → StandEach (rows_of name own) impure ss → StandEach (rows_of name table) made.impure ss
-  pub order : (needed : List Site) → Adds [] needed (rows_of name own) → NumbersBehind (rows_of name base) needed (rows_of name table)
+  pub order : (needed : List Site) → Adds [] needed (rows_of name own) → NumbersBehind (rows_of name base) needed (Among ds) (rows_of name table)
 
 -- No values meet the rule's demands, and the table stays; or the rule is made.
 abbrev pub IsAssembled : (Sym → List ℕ) → List Demand → List Binding → List Binding → List BindingId → BindingId → List Binding → Option Rule → Type 0

@@ -82,12 +82,12 @@ pub record IsSiteOf (facts : TermFacts) (rules : List TypedRule) (term : ℕ) (s
   pub reached : MayMatchAt facts rules term place
   pub from : IsNeeded (needs_of facts reached.rule) s ⊎ (s ≡ own_result facts reached.rule) ⊎ ((t : Site) × FieldOf (DemandOf facts reached.rule) t s)
 
--- Rules at places in turn: what each needs is numbered in the order in which it first needs it, behind what stood, and the
--- fields that its demands open behind that.
+-- Rules at places in turn: what each needs is numbered in the order in which it first needs it, behind what stood, and behind
+-- that the fields that its demands open, those of the least site first.
 pub data AreNumberedInOrder (facts : TermFacts) (rules : List TypedRule) : List ℕ → List Row → Type 0 where
   none_numbered : AreNumberedInOrder facts rules [] []
   rule_numbered : {places : List ℕ} {old : List Row} (i : ℕ) (rule : TypedRule) (new : List Row) → AreNumberedInOrder facts rules places old
-      → slice_get rules i ≡ Some rule → NumbersBehind old (needs_in_order facts (facts.partial rule.root) rule) new
+      → slice_get rules i ≡ Some rule → NumbersBehind old (needs_in_order facts (facts.partial rule.root) rule) (DemandOf facts rule) new
       → AreNumberedInOrder facts rules (places ++ i ∷ []) new
 
 -- The rule set of a term: its rules that may match, in the order of the source, over their sites, each once, and no others.

@@ -30,6 +30,8 @@ pub mod ClosureFields
 pub mod ClosedRules
 -- Classes of sites while demands are closed.
 pub mod ClosureStates
+-- In which order opened fields are numbered.
+pub mod FieldOrder
 -- What the closure of a rule's demands is.
 pub mod Closure
 -- A rule's demands in the table of its rule set.

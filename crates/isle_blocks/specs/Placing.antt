@@ -16,6 +16,7 @@ use Rattle.isle_blocks.specs.ClosureFields.{IsTable}
 use Rattle.isle_blocks.specs.ClosureStates.{AreClasses, demanded_in}
 use Rattle.isle_blocks.specs.NormalRules.{HaveClassTests}
 use Rattle.isle_blocks.specs.Closure.{Stands, HasAllFields, IsClosure}
+use Rattle.isle_blocks.specs.FieldOrder.{AreFieldsInOrder}
 use Rattle.isle_blocks.specs.MovedSites.{MovesSites}
 
 -- what holds of the demands that are recorded of a rule's own sites, by whatever names
@@ -34,10 +35,13 @@ pub record GrowsFor (name : Sym → List ℕ) (ds : List Demand) (base own table
   pub kept : (k : ℕ) (site : Binding) → slice_get base k ≡ Some site → slice_get table k ≡ Some site
   pub explained : (s : Site) → Stands (rows_of name table) s → IsExplained name ds base own s
 
--- the first sites were put into the table, and then it may have gone on
-abbrev pub IsPutFirst : List Binding → List Binding → List Binding → Type 0
-IsPutFirst base first table = (ids : List BindingId) × (mid : List Binding) × MovesSites base first ids mid
-    × ((k : ℕ) (site : Binding) → slice_get mid k ≡ Some site → slice_get table k ≡ Some site)
+-- The first sites were put into the table, and behind them it went on by fields, those of the least site first.
+pub record IsPutFirst (base first table : List Binding) : Type 0 where
+  pub ids : List BindingId
+  pub mid : List Binding
+  pub moved : MovesSites base first ids mid
+  pub kept : (k : ℕ) (site : Binding) → slice_get mid k ≡ Some site → slice_get table k ≡ Some site
+  pub fields : AreFieldsInOrder (length mid) table
 
 -- Some values meet the demands; the rule's own sites are closed, and then put behind those of the table where they are lacking.
 pub record IsPlacedRule (name : Sym → List ℕ) (ds : List Demand) (base own grown table : List Binding) (placed : PlacedRule) : Type 0 where

@@ -18,11 +18,11 @@ use Rattle.isle_blocks.specs.declared.report.RulePlace.{RulePlace}
 use Rattle.isle_blocks.specs.Closure.{Stands, HasAllFields}
 use Rattle.isle_blocks.specs.Reports.{IsReport}
 
--- no values meet all that a rule demands
+-- what a rule demands asks two tests of one site, or makes a value a part of itself, so that it never matches
 abbrev pub NeverMatches : TermFacts → TypedRule → Type 0
 NeverMatches facts rule = IsUnreachable (DemandOf facts rule)
 
--- some may
+-- what it demands asks for nothing of the kind
 abbrev pub MayMatch : TermFacts → TypedRule → Type 0
 MayMatch facts rule = NeverMatches facts rule → ⊥
 

@@ -4,6 +4,7 @@ ghost use Rattle.isle_terms.specs.Meaning.Faults.{IsUnreachable};
 ghost use Rattle.isle_blocks.specs.ClosureFields.{IsTable};
 ghost use Rattle.isle_blocks.specs.ClosureStates.{IsReady, ArePairsBelow, ForDemands, AreClosedClasses, IsReduced, IsState, IsFinished, RunsOut};
 ghost use Rattle.isle_blocks.specs.Closure.{ForRecorded, ClosesTo, LacksRoom};
+ghost use Rattle.isle_blocks.specs.FieldOrder.{AreFieldsInOrder};
 
 mod classes;
 mod complete;
@@ -98,6 +99,7 @@ fn spread(
 fn finish(alloc: Global, sites: &mut Sites, reduced: Reduced) -> Result<Closed, SiteFault>
     requires { (equals : List (ℕ × ℕ)) × IsState reduced.own.items equals sites.old reduced.class.items }
     ensures finished { IfOk result (λ closed. IsFinished reduced.own.items sites.old reduced.class.items sites.new closed.each.items closed.class.items) }
+    ensures ordered { IfOk result (λ _. AreFieldsInOrder (length sites.old) sites.new) }
     ensures full { IfErr result (λ fault. fault ≡ SiteFault.Size
         → (class : List ℕ) × RunsOut reduced.own.items sites.old reduced.class.items sites.new class) }
 {
@@ -116,6 +118,7 @@ pub(crate) fn close(
 ) -> Result<Option<Closed>, SiteFault>
     requires { IsReady sites.old has.now same.now }
     ensures closed { IfOk result (λ closed. ClosesTo sites.old has.now same.now sites.new closed) }
+    ensures ordered { IfOk result (λ _. AreFieldsInOrder (length sites.old) sites.new) }
     ensures full { IfErr result (λ fault. fault ≡ SiteFault.Size → LacksRoom sites.old has.now same.now) }
 {
     let Some(reduced) = reduce(alloc, sites, has, same)? else {

@@ -3,6 +3,8 @@ ghost use Rattle.std.specs.Prelude.{◌≡◌, IfOk, IfErr, IfSome, OnOk, take, 
 ghost use Rattle.isle_terms.specs.Meaning.Demands.{Among};
 ghost use Rattle.isle_terms.specs.Meaning.Faults.{IsUnreachable};
 ghost use Rattle.isle_blocks.specs.ClosureFields.{IsTable};
+ghost use Rattle.isle_blocks.specs.Rows.{rows_of};
+ghost use Rattle.isle_blocks.specs.Closure.{HasAllFields};
 ghost use Rattle.isle_blocks.specs.ClosureStates.{IsReady};
 ghost use Rattle.isle_blocks.specs.Placing.{ForDemandsOf, IsPlaced, IsPutFirst, GrowsFor, HasNoRoomFor, AreSettled};
 
@@ -67,6 +69,8 @@ fn open_fields(
     ensures kept { OnOk result (IsTable table.new) }
     ensures stays { OnOk result (length sites.now ≤ own → table.new ≡ table.old) }
     ensures first { OnOk result (own < length sites.now → IsPutFirst table.old (take own sites.now) table.new) }
+    ensures fields { OnOk result (own < length sites.now → ForDemandsOf (take own sites.now) has.now same.now
+        (λ name ds. (IsUnreachable (Among ds) → ⊥) → HasAllFields (Among ds) (rows_of name table.new))) }
     ensures full { IfErr result (λ fault. fault ≡ SiteFault.Size
         → ForDemandsOf (take own sites.now) has.now same.now (λ name ds. HasNoRoomFor name ds table.old (take own sites.now))) }
 {

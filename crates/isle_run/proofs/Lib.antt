@@ -8,3 +8,21 @@ pub mod RuleErrors
 pub mod Layers
 -- Files make one list of definitions, one environment of types and one of terms at most, so that faults refute acceptance.
 pub mod OneAcceptance
+-- What is printed of a value, node by node.
+pub mod Printing
+-- What a value's nodes stand for.
+pub mod Laying
+-- A value is of a type where each of its nodes fits.
+pub mod TypedNodes
+-- Reading a value from tokens.
+pub mod Reading
+-- Tokens spell one value.
+pub mod OneSpelling
+-- Values of types, one each.
+pub mod TypedValues
+-- Values that are read one behind the other.
+pub mod ReadValues
+-- Where lists that are open close.
+pub mod ClosedLists
+-- Worked cases.
+pub mod Cases

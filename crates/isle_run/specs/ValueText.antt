@@ -1,8 +1,10 @@
 -- What is printed of a value.
-use Rattle.std.specs.Prelude.{ℕ, List, [], ◌++◌, if◌then◌else◌, codes}
+use Rattle.std.specs.Prelude.{◌≡◌, ◌+◌, ℕ, List, [], ◌∷◌, ◌++◌, if◌then◌else◌, codes}
 use Rattle.std.specs.Fmt.{decimal, signed_decimal}
 use Rattle.isle_terms.specs.Values.{ValueTree, ValueTrees, bool_value, int_value, big_value, const_value, opaque_value, data_value, no_values}
 use Rattle.isle_terms.specs.Values.{more_values}
+use Rattle.isle_run.specs.declared.value.Node.{Node}
+use Rattle.isle_run.specs.declared.value.Node.TheVariants.{Bool, Int, Big, Const, Opaque, Data}
 
 -- numbers in decimal, a constant behind `$`, an opaque value behind `v`, data in parentheses with their fields
 abbrev mutual
@@ -18,3 +20,26 @@ abbrev mutual
   pub fields_text : ValueTrees → List ℕ
   fields_text no_values = []
   fields_text (more_values v vs) = codes " " ++ (value_text v ++ fields_text vs)
+
+-- what is written of a node: data is left open
+abbrev pub node_text : Node → List ℕ
+node_text (Bool b) = if b then codes "true" else codes "false"
+node_text (Int n) = signed_decimal n
+node_text (Big n) = decimal n
+node_text (Const name) = codes "$" ++ name
+node_text (Opaque n) = codes "v" ++ decimal n
+node_text (Data name fields nodes) = codes "(" ++ name
+
+-- the place where data ends whose node stands before a place
+abbrev pub end_of : ℕ → Node → List ℕ
+end_of after (Bool b) = []
+end_of after (Int n) = []
+end_of after (Big n) = []
+end_of after (Const name) = []
+end_of after (Opaque n) = []
+end_of after (Data name fields nodes) = (after + nodes) ∷ []
+
+-- the places at the end that are this one are taken off, with a parenthesis for each
+pub data Closes (at : ℕ) : List ℕ → List ℕ → List ℕ → Type 0 where
+  none_ends : {ends : List ℕ} → ((before : List ℕ) → ends ≡ before ++ at ∷ [] → ⊥) → Closes at ends ends []
+  one_ends : {ends rest closed : List ℕ} → Closes at ends rest closed → Closes at (ends ++ at ∷ []) rest (codes ")" ++ closed)

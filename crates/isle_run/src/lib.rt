@@ -7,7 +7,9 @@ mod plain;
 mod plain_language;
 mod program;
 mod query;
-mod shared;
+mod store;
+mod tokens;
+mod typing;
 mod value;
 mod world;
 

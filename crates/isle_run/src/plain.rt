@@ -1,15 +1,15 @@
 use crate::answer::{Answer, Called, Effect};
 use crate::program::Program;
-use crate::shared::{SharedValue, share_all, unshare};
+use crate::store::{Store, Stored};
 use crate::value::Value;
 use crate::world::World;
+use isle_syntax::Seq;
 use isle_terms::{Expr, Pattern, Rule};
 use isle_types::{TermId, TypeId};
 use std::alloc::{AllocError, Global};
-use std::rc::Rc;
 
-/// The values of a rule's variables, each at the place of its number.
-type Bound = Vec<Rc<SharedValue>>;
+/// The numbers of the values of a rule's variables, each at the place of its variable's number.
+type Bound = Vec<usize>;
 
 impl Program {
     /// Answers a call by its term's rules, tried one by one by descending priority, then in the order of the texts.
@@ -30,15 +30,16 @@ impl Program {
                 steps: 0,
             });
         }
-        let shared = share_all(alloc, self, args.as_slice())?;
+        let mut store = Store::new(alloc);
+        let shared = store.share_all(self, args.as_slice())?;
         let mut steps: u128 = 0;
         for place in self.rules_of(term) {
             let Some(rule) = self.rules().get(*place) else {
                 continue;
             };
             steps = steps.saturating_add(1);
-            if let Some(bound) = matching(alloc, rule, shared.as_slice())? {
-                let answer = self.right_side(alloc, rule, bound.as_slice())?;
+            if let Some(bound) = matching(alloc, &store, rule, shared.as_slice())? {
+                let answer = self.right_side(alloc, &mut store, rule, bound.as_slice())?;
                 return Ok(Called { answer, steps });
             }
         }
@@ -61,11 +62,15 @@ impl Program {
     fn right_side(
         &self,
         alloc: Global,
+        store: &mut Store,
         rule: &Rule,
-        bound: &[Rc<SharedValue>],
+        bound: &[usize],
     ) -> Result<Answer, AllocError> {
-        match eval(alloc, &rule.rhs, bound)? {
-            Some(value) => Ok(Answer::Value(unshare(alloc, self, &value)?)),
+        let Some(number) = eval(alloc, store, &rule.rhs, bound)? else {
+            return Ok(Answer::None);
+        };
+        match store.value_of(self, number)? {
+            Some(value) => Ok(Answer::Value(value)),
             None => Ok(Answer::None),
         }
     }
@@ -74,11 +79,12 @@ impl Program {
 /// The values of a rule's variables where its patterns fit the arguments.
 fn matching(
     alloc: Global,
+    store: &Store,
     rule: &Rule,
-    args: &[Rc<SharedValue>],
+    args: &[usize],
 ) -> Result<Option<Bound>, AllocError> {
     let mut bound = Vec::new(alloc);
-    if fit(rule.args.as_slice(), args, &mut bound)? {
+    if fit(store, rule.args.as_slice(), args, &mut bound)? {
         Ok(Some(bound))
     } else {
         Ok(None)
@@ -87,21 +93,27 @@ fn matching(
 
 /// Whether a pattern fits a value; its variables are bound on the way.
 #[cycle(fit)]
-fn fits(pattern: &Pattern, value: &Rc<SharedValue>, bound: &mut Bound) -> Result<bool, AllocError> {
+fn fits(
+    store: &Store,
+    pattern: &Pattern,
+    number: usize,
+    bound: &mut Bound,
+) -> Result<bool, AllocError> {
     match pattern {
         Pattern::Wildcard(_) => Ok(true),
         Pattern::BindPattern(_, _, sub) => {
-            if !fits(sub.get(), value, bound)? {
+            if !fits(store, sub.get(), number, bound)? {
                 return Ok(false);
             }
-            bound.push(value.clone()?)?;
+            bound.push(number)?;
             Ok(true)
         }
-        Pattern::ConstInt(_, literal) => Ok(is_int(value, *literal)),
-        Pattern::Term(_, term, args) => match &**value {
-            SharedValue::Data(Some(id), fields) if id == term => fit(
+        Pattern::ConstInt(_, literal) => Ok(is_int(store.get(number), *literal)),
+        Pattern::Term(_, term, args) => match store.get(number) {
+            Some(Stored::Data(Some(id), fields)) if id == term => fit(
+                store,
                 args.as_slice(),
-                fields,
+                fields.as_slice(),
                 bound,
             ),
             _ => Ok(false),
@@ -114,35 +126,36 @@ fn fits(pattern: &Pattern, value: &Rc<SharedValue>, bound: &mut Bound) -> Result
 }
 
 /// Whether a value is the integer of a literal, which keeps the 128 bits of a number from 2^127 on.
-fn is_int(value: &SharedValue, literal: i128) -> bool {
+fn is_int(value: Option<&Stored>, literal: i128) -> bool {
     match value {
-        SharedValue::Int(n) => *n == literal,
-        SharedValue::Big(n) => n.cast_signed() == literal,
+        Some(Stored::Int(n)) => *n == literal,
+        Some(Stored::Big(n)) => n.cast_signed() == literal,
         _ => false,
     }
 }
 
 /// The value of a literal at a type: at `u128` a negative one stands for the number of its bits.
-fn literal_value(ty: TypeId, literal: i128) -> SharedValue {
+fn literal_value(ty: TypeId, literal: i128) -> Stored {
     if ty == TypeId::U128 && literal < 0 {
-        SharedValue::Big(literal.cast_unsigned())
+        Stored::Big(literal.cast_unsigned())
     } else {
-        SharedValue::Int(literal)
+        Stored::Int(literal)
     }
 }
 
 /// Whether each pattern fits its value.
 #[cycle(fit)]
 fn fit(
+    store: &Store,
     patterns: &[Pattern],
-    values: &[Rc<SharedValue>],
+    numbers: &[usize],
     bound: &mut Bound,
 ) -> Result<bool, AllocError> {
-    if patterns.len() != values.len() {
+    if patterns.len() != numbers.len() {
         return Ok(false);
     }
     for i in 0..patterns.len() {
-        if !fits(&patterns[i], &values[i], bound)? {
+        if !fits(store, &patterns[i], numbers[i], bound)? {
             return Ok(false);
         }
     }
@@ -153,17 +166,15 @@ fn fit(
 #[cycle(eval)]
 fn eval(
     alloc: Global,
+    store: &mut Store,
     expr: &Expr,
-    bound: &[Rc<SharedValue>],
-) -> Result<Option<Rc<SharedValue>>, AllocError> {
+    bound: &[usize],
+) -> Result<Option<usize>, AllocError> {
     match expr {
-        Expr::ConstInt(ty, literal) => Ok(Some(Rc::new(alloc, literal_value(*ty, *literal))?)),
-        Expr::Var(_, var) => match bound.get(var.index()) {
-            Some(value) => Ok(Some(value.clone()?)),
-            None => Ok(None),
-        },
-        Expr::Term(_, term, args) => match eval_all(alloc, args.as_slice(), bound)? {
-            Some(fields) => Ok(Some(Rc::new(alloc, SharedValue::Data(Some(*term), fields))?)),
+        Expr::ConstInt(ty, literal) => Ok(Some(store.intern(literal_value(*ty, *literal))?)),
+        Expr::Var(_, var) => Ok(bound.get(var.index()).copied()),
+        Expr::Term(_, term, args) => match eval_all(alloc, store, args.as_slice(), bound)? {
+            Some(fields) => Ok(Some(store.intern(Stored::Data(Some(*term), Seq::new(fields)))?)),
             None => Ok(None),
         },
         Expr::ConstBool(_, _) | Expr::ConstPrim(_, _) | Expr::Let { .. } => Ok(None),
@@ -174,13 +185,14 @@ fn eval(
 #[cycle(eval)]
 fn eval_all(
     alloc: Global,
+    store: &mut Store,
     exprs: &[Expr],
-    bound: &[Rc<SharedValue>],
+    bound: &[usize],
 ) -> Result<Option<Bound>, AllocError> {
     let mut all = Vec::new(alloc);
     for expr in exprs {
-        match eval(alloc, expr, bound)? {
-            Some(value) => all.push(value)?,
+        match eval(alloc, store, expr, bound)? {
+            Some(number) => all.push(number)?,
             None => return Ok(None),
         }
     }

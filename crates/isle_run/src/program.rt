@@ -2,9 +2,8 @@ ghost use Rattle.std.specs.Prelude.{◌≡◌};
 ghost use Rattle.isle_run.specs.PlainLanguage.{is_plain};
 
 use crate::plain_language::all_is_plain;
-use crate::value::Value;
-use isle_terms::{Rule, Term, TermEnv};
-use isle_types::{BuiltinType, TermId, Type, TypeEnv, TypeId};
+use isle_terms::{Rule, TermEnv};
+use isle_types::{TermId, TypeEnv, TypeId};
 use std::alloc::{AllocError, Global};
 
 /// A compiled list of texts.
@@ -20,9 +19,9 @@ pub struct Program {
 }
 
 impl Program {
-    ghost use Rattle.std.specs.Prelude.{IfOk};
+    ghost use Rattle.std.specs.Prelude.{IfOk, map};
     ghost use Rattle.isle_types.specs.Names.{AreDistinct};
-    ghost use Rattle.isle_run.specs.Programs.{types_of, terms_of, rules_in, term_named, is_plain_program, has_rules, is_runnable};
+    ghost use Rattle.isle_run.specs.Programs.{types_of, terms_of, rules_in, term_named, is_plain_program, has_rules, is_runnable, number_of, types_taken};
 
     /// The program of typed definitions.
     pub(crate) fn new(
@@ -66,7 +65,9 @@ impl Program {
     }
 
     /// The types of a term's arguments; none at an id that the program doesn't have.
-    pub fn arg_types(&self, term: TermId) -> &[TypeId] {
+    pub fn arg_types(&self, term: TermId) -> &[TypeId]
+        ensures { map number_of result.now ≡ types_taken self.now term }
+    {
         match self.termenv.get_term(term) {
             Some(term) => term.arg_tys.as_slice(),
             None => &[],
@@ -110,6 +111,13 @@ impl Program {
         }
     }
 
+    /// The types and the interned names.
+    pub(crate) fn types(&self) -> &TypeEnv
+        ensures { result.now ≡ types_of self.now }
+    {
+        &self.tyenv
+    }
+
     /// The terms, converters and rules.
     pub(crate) fn terms(&self) -> &TermEnv
         ensures { result.now ≡ terms_of self.now }
@@ -122,55 +130,6 @@ impl Program {
         ensures { result.now ≡ rules_in self.now }
     {
         self.termenv.rules()
-    }
-
-    /// The variant term of a name at a type.
-    pub(crate) fn variant_at(&self, name: &str, ty: TypeId) -> Option<&Term> {
-        let term = self.termenv.get_term(self.term(name)?)?;
-        if term.is_enum_variant() && term.ret_ty == ty {
-            Some(term)
-        } else {
-            None
-        }
-    }
-
-    /// Whether an integer lies in the range of a type.
-    pub(crate) fn holds_int(&self, ty: TypeId, val: i128, big: bool) -> bool {
-        match self.tyenv.get_type(ty) {
-            Some(Type::Builtin(BuiltinType::Int(int))) => int.holds(val, big),
-            _ => false,
-        }
-    }
-
-    /// Whether a value is one of a type.
-    #[cycle(has_type)]
-    pub fn has_type(&self, value: &Value, ty: TypeId) -> bool {
-        match value {
-            Value::Bool(_) => ty == TypeId::BOOL,
-            Value::Int(n) => self.holds_int(ty, *n, false),
-            Value::Big(n) => *n > i128::MAX.cast_unsigned()
-                && self.holds_int(ty, n.cast_signed(), true),
-            Value::Const(_) => false,
-            Value::Opaque(_) => false,
-            Value::Data(name, fields) => match self.variant_at(name, ty) {
-                Some(term) => self.have_types(fields, term.arg_tys.as_slice()),
-                None => false,
-            },
-        }
-    }
-
-    /// Whether values are of these types, one each.
-    #[cycle(has_type)]
-    fn have_types(&self, values: &[Value], types: &[TypeId]) -> bool {
-        if values.len() != types.len() {
-            return false;
-        }
-        for i in 0..values.len() {
-            if !self.has_type(&values[i], types[i]) {
-                return false;
-            }
-        }
-        true
     }
 }
 

@@ -1,67 +1,134 @@
-ghost use Rattle.std.specs.Prelude.{◌≡◌, ◌++◌, IfOk, string_bytes};
-ghost use Rattle.isle_run.specs.ValueText.{value_text, fields_text};
-ghost use Rattle.isle_run.specs.ValueTree.{value_of, values_of};
+//! Ground values.
+ghost use Rattle.std.specs.Prelude.{◌≡◌, ◌++◌, ◌+◌, ◌≤◌, ℕ, List, IfOk, string_bytes};
+ghost use Rattle.isle_run.specs.Nodes.{nodes_of, nodes_below};
+ghost use Rattle.isle_run.specs.ValueText.{value_text, node_text, end_of, Closes};
 
+mod reading;
+
+use isle_syntax::Text;
+pub(crate) use reading::read_front;
 use std::alloc::{AllocError, Global};
+use std::marker::Model;
 
-/// A ground value. Different ones are never equal: an `Int` is from -2^127 to 2^127 - 1, a `Big` from 2^127 on.
-#[derive(Debug, Drop)]
-pub enum Value {
+/// A node of a value. The nodes of the fields of data follow it, field by field.
+#[derive(Debug, Clone, PartialEq, Eq, Drop)]
+pub enum Node {
     Bool(bool),
+    /// From -2^127 to 2^127 - 1.
     Int(i128),
+    /// From 2^127 on.
     Big(u128),
     /// A named constant, without its `$`.
-    Const(String),
+    Const(Text),
     Opaque(u64),
-    /// A variant of an enum, by its full name, or a struct, with its fields.
-    Data(String, Vec<Value>),
+    /// A variant of an enum, by its full name, or a struct: how many fields it has, and how many nodes these have in all.
+    Data(Text, usize, usize),
+}
+
+/// A ground value: a finite tree, laid out node by node, so that nothing that is done with it recurses, however deep it
+/// nests. Different ones are never equal.
+#[derive(Debug, Drop)]
+pub struct Value {
+    nodes: Vec<Node>,
+}
+
+impl Model for Value {
+    ghost use Rattle.std.specs.Prelude.{◌≡◌};
+    ghost use Rattle.isle_terms.specs.Values.{ValueTree};
+    ghost use Rattle.isle_run.specs.ValueCode.{value_tree_code};
+    ghost use Rattle.isle_run.specs.Nodes.{value_in, nodes_of};
+
+    ghost Value = { ValueTree };
+
+    ghost coded = { value_tree_code };
+
+    ghost view = { λ v. value_in v.nodes.items };
+
+    ghost invariant = { λ v. v.nodes.items ≡ nodes_of (value_in v.nodes.items) };
+}
+
+impl Node {
+    /// How many nodes follow it that belong to it.
+    pub(crate) fn below(&self) -> usize
+        ensures { result ≡ nodes_below self.now }
+    {
+        match self {
+            Node::Data(_, _, nodes) => *nodes,
+            Node::Bool(_) | Node::Int(_) | Node::Big(_) | Node::Const(_) | Node::Opaque(_) => 0,
+        }
+    }
 }
 
 impl Value {
+    /// Its nodes, each before its fields.
+    pub fn nodes(&self) -> &[Node]
+        ensures { result.now ≡ nodes_of self.now }
+    {
+        self.nodes.as_slice()
+    }
+
     /// The value's text: `true`, `-5`, `$NAME`, `v7` or `(Op.Add 1 2)`.
     pub fn print(&self, alloc: Global) -> Result<String, AllocError>
-        ensures { IfOk result (λ text. string_bytes text ≡ value_text (value_of self.now)) }
+        ensures { IfOk result (λ text. string_bytes text ≡ value_text self.now) }
     {
+        let nodes = self.nodes.as_slice();
         let mut text = String::new(alloc);
-        write_value(alloc, self, &mut text)?;
+        let mut ends = Vec::new(alloc);
+        for at in 0..nodes.len() {
+            if at > 0 {
+                text.push(' ')?;
+            }
+            write_node(alloc, &nodes[at], at + 1, &mut ends, &mut text)?;
+            close_data(at + 1, &mut ends, &mut text)?;
+        }
         Ok(text)
     }
 }
 
-/// Writes a value behind a text.
-#[cycle(print)]
-fn write_value(alloc: Global, value: &Value, out: &mut String) -> Result<(), AllocError>
-    ensures { IfOk result (λ _. string_bytes out.new ≡ string_bytes out.old ++ value_text (value_of value.now)) }
+/// Writes a node behind a text. Data is left open, and the place where it ends is noted: `after` is that behind its node.
+fn write_node(
+    alloc: Global,
+    node: &Node,
+    after: usize,
+    ends: &mut Vec<usize>,
+    text: &mut String,
+) -> Result<(), AllocError>
+    requires { after + nodes_below node.now ≤ usize.MAX }
+    ensures text { IfOk result (λ _. string_bytes text.new ≡ string_bytes text.old ++ node_text node.now) }
+    ensures ends { IfOk result (λ _. ends.new.items ≡ ends.old.items ++ end_of after node.now) }
 {
-    match value {
-        Value::Bool(b) => out.push_str(if *b { "true" } else { "false" }),
-        Value::Int(n) => out.push_str(&n.to_string(alloc)?),
-        Value::Big(n) => out.push_str(&n.to_string(alloc)?),
-        Value::Const(name) => {
-            out.push('$')?;
-            out.push_str(name)
+    match node {
+        Node::Bool(b) => text.push_str(if *b { "true" } else { "false" }),
+        Node::Int(n) => text.push_str(n.to_string(alloc)?.as_str()),
+        Node::Big(n) => text.push_str(n.to_string(alloc)?.as_str()),
+        Node::Const(name) => {
+            text.push('$')?;
+            text.push_str(name.as_str())
         }
-        Value::Opaque(n) => {
-            out.push('v')?;
-            out.push_str(&n.to_string(alloc)?)
+        Node::Opaque(n) => {
+            text.push('v')?;
+            text.push_str(n.to_string(alloc)?.as_str())
         }
-        Value::Data(name, fields) => {
-            out.push('(')?;
-            out.push_str(name)?;
-            write_fields(alloc, fields, out)?;
-            out.push(')')
+        Node::Data(name, _fields, nodes) => {
+            text.push('(')?;
+            text.push_str(name.as_str())?;
+            ends.push(after + *nodes)?;
+            Ok(())
         }
     }
 }
 
-/// Writes each value behind a text, with a space before it.
-#[cycle(print)]
-fn write_fields(alloc: Global, fields: &[Value], out: &mut String) -> Result<(), AllocError>
-    ensures { IfOk result (λ _. string_bytes out.new ≡ string_bytes out.old ++ fields_text (values_of fields.now)) }
+/// Closes the data that ends at a place.
+fn close_data(at: usize, ends: &mut Vec<usize>, text: &mut String) -> Result<(), AllocError>
+    ensures { IfOk result (λ _. (closed : List ℕ) × Closes at ends.old.items ends.new.items closed
+        × (string_bytes text.new ≡ string_bytes text.old ++ closed)) }
 {
-    for field in fields {
-        out.push(' ')?;
-        write_value(alloc, field, out)?;
+    while let Some(end) = ends.pop() {
+        if end != at {
+            ends.push(end)?;
+            return Ok(());
+        }
+        text.push(')')?;
     }
     Ok(())
 }

@@ -17,4 +17,5 @@ mod text;
 
 pub use links::{Boxed, Shared};
 pub use refusal::Refusal;
+pub use symbol::{is_const_name, is_ident};
 pub use text::{Seq, Text};

@@ -1,6 +1,8 @@
 -- Sites, demands and matching of typed rules, and the laws that join them.
 -- Values of terms, and what is known of them.
 pub mod Values
+-- Which values are of a type.
+pub mod ValueTypes
 -- What declarations say of terms and types.
 pub mod Facts
 -- Expressions with their `let`s written out.

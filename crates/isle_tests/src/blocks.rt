@@ -1,4 +1,6 @@
 //! Sites and tests of rule sets.
+mod checks;
+
 use isle_blocks::{Binding, BindingId, Constraint, TupleIndex};
 use isle_syntax::Seq;
 use isle_types::{Sym, TermId, TypeId, VariantId};
@@ -188,6 +190,7 @@ fn tests_meet_what_is_made(rt: HostRuntime) -> Result<(), Fail> {
 fn numbers_have_bounds(rt: HostRuntime) -> Result<(), Fail> {
     assert!(rt; matches!(TupleIndex::try_from(255_usize), Ok(TupleIndex(255))));
     assert!(rt; TupleIndex::try_from(256_usize).is_err());
+    assert_eq!(rt; TupleIndex(255).index(), 255);
     assert!(rt; matches!(BindingId::try_from(65_535_usize), Ok(BindingId(65_535))));
     assert!(rt; BindingId::try_from(65_536_usize).is_err());
     assert!(rt; BindingId::from(9) == BindingId(9));

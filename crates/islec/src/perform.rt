@@ -44,6 +44,7 @@ pub fn perform<R: Read, W: Write>(
         (map source_file texts.items) (W.contents writer.old) (W.contents writer.new) }
     ensures faulty { job ≡ Check → result ≡ 1 → WritesFaults
         (map source_file texts.items) (W.contents writer.old) (W.contents writer.new) }
+    ensures unasked { job ≡ Check → result ≢ 3 }
     ensures ends { (status : Status) × (status ≢ Status.Usage) × (result ≡ code_of status) }
 {
     let done = match job {

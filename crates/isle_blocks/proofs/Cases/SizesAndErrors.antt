@@ -18,15 +18,15 @@ use Rattle.isle_blocks.specs.RuleFaults.{NeverMatches, MayMatch, TellUnreachable
 use Rattle.isle_blocks.specs.RuleFaults.{IsOneSizeFault, size_error_at, unreachable_error}
 
 -- the byte 7 of the file 2
-abbrev here : Pos
+abbrev pub here : Pos
 here = record { file = 2; offset = 7 }
 
 -- its byte 9
-abbrev there : Pos
+abbrev pub there : Pos
 there = record { file = 2; offset = 9 }
 
 -- a rule of the term 4 with one argument of the type 3
-abbrev rule_at : Pos → TypedPattern → TypedRule
+abbrev pub rule_at : Pos → TypedPattern → TypedRule
 rule_at at pattern = record {
   root = 4;
   args = more_typed pattern no_typed;
@@ -39,19 +39,19 @@ rule_at at pattern = record {
 }
 
 -- (rule (f 5) 0)
-abbrev five : TypedRule
+abbrev pub five : TypedRule
 five = rule_at here (typed_int 3 (pos 5))
 
 -- (rule (f (and 1 2)) 0)
-abbrev both : TypedRule
+abbrev pub both : TypedRule
 both = rule_at there (typed_and 3 (more_typed (typed_int 3 (pos 1)) (more_typed (typed_int 3 (pos 2)) no_typed)))
 
 -- what (f 5) demands
-abbrev is_five : Demand
+abbrev pub is_five : Demand
 is_five = constrained (argument 0) (int_constraint (pos 5) 3)
 
 -- from one test nothing else follows
-alone : (d : Demand) → Derived (Among (is_five ∷ [])) d → d ≡ is_five
+pub alone : (d : Demand) → Derived (Among (is_five ∷ [])) d → d ≡ is_five
 alone d (demanded (inl same)) = same
 alone d (demanded (inr none)) = absurd none
 alone d (flipped h) = let e = alone _ h in absurd cc

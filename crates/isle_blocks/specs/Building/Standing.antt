@@ -1,5 +1,5 @@
 -- The table that a rule's visit leaves: each site that is needed, in the order in which it is first needed.
-use Rattle.std.specs.Prelude.{◌≡◌, ◌⊎◌, ℕ, List, [], ◌∷◌, ◌++◌, length, slice_get, Some}
+use Rattle.std.specs.Prelude.{◌≡◌, ◌<◌, ◌≤◌, ◌⊎◌, ℕ, List, [], ◌∷◌, ◌++◌, length, slice_get, Some}
 use Rattle.isle_terms.specs.Meaning.Sites.{Site, bool_site, int_site, prim_site, argument, extractor_call, constructor_call, iterator}
 use Rattle.isle_terms.specs.Meaning.Sites.{make_variant, match_variant, make_struct, extract_struct, make_some, match_some, match_tuple}
 use Rattle.isle_terms.specs.Meaning.Numbered.{Row, bool_row, int_row, prim_row, argument_row, extractor_row, constructor_row, iterator_row}
@@ -7,6 +7,10 @@ use Rattle.isle_terms.specs.Meaning.Numbered.{make_variant_row, match_variant_ro
 use Rattle.isle_terms.specs.Meaning.Numbered.{match_some_row, match_tuple_row, At, AtAll}
 use Rattle.isle_blocks.specs.declared.ids.BindingId.{BindingId}
 use Rattle.isle_blocks.specs.Tables.{IsAbsent}
+use Rattle.isle_blocks.specs.FieldOrder.{AreInOrder}
+use Rattle.isle_terms.specs.Meaning.Demands.{Demand}
+use Rattle.isle_terms.specs.Meaning.Derived.{FieldOf}
+use Rattle.isle_blocks.specs.Closure.{HasAllFields}
 
 -- the entry is that of the site, whose parts have their numbers in the table
 abbrev pub IsEntryOf : List Row → Site → Row → Type 0
@@ -39,9 +43,20 @@ pub data Adds (rows : List Row) : List Site → List Row → Type 0 where
 abbrev pub GoesOn : List Row → List Row → Type 0
 GoesOn rows longer = (k : ℕ) (row : Row) → slice_get rows k ≡ Some row → slice_get longer k ≡ Some row
 
--- sites are numbered in turn behind a table, each that is lacking, and the table may go on
-abbrev pub NumbersBehind : List Row → List Site → List Row → Type 0
-NumbersBehind base needed table = (mid : List Row) × Adds base needed mid × GoesOn mid table
+-- the number stands for the entry of a field
+abbrev pub IsFieldRow : List Row → ℕ → ℕ → ℕ → Type 0
+IsFieldRow rows k site index = ((variant : ℕ) × (slice_get rows k ≡ Some (match_variant_row site variant index)))
+    ⊎ (slice_get rows k ≡ Some (extract_struct_row site index))
+
+-- Sites are numbered in turn behind a table, each that is lacking, and behind them all fields that demands open, each that is lacking,
+-- those of the least site first.
+pub record NumbersBehind (base : List Row) (needed : List Site) (D : Demand → Type 0) (table : List Row) : Type 0 where
+  pub mid : List Row
+  pub added : Adds base needed mid
+  pub goes_on : GoesOn mid table
+  pub opened : (k : ℕ) → length mid ≤ k → k < length table → (t : Site) × (s : Site) × FieldOf D t s × At table s k
+  pub all : HasAllFields D table
+  pub fields : AreInOrder (IsFieldRow table) (length mid) (length table)
 
 -- numbers that stand for sites in order
 abbrev pub StandEach : List Row → List BindingId → List Site → Type 0

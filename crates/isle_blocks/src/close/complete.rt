@@ -1,7 +1,8 @@
 //! The fields that sites lack under the tests of their classes.
-ghost use Rattle.std.specs.Prelude.{◌≡◌, ◌<◌, ◌≤◌, ℕ, List, Option, IfOk, IfErr, length, slice_index};
+ghost use Rattle.std.specs.Prelude.{◌≡◌, ◌<◌, ◌≤◌, ◌+◌, ℕ, List, Option, IfOk, IfErr, length, slice_index};
 ghost use Rattle.isle_blocks.specs.ClosureFields.{kind_of};
 ghost use Rattle.isle_blocks.specs.ClosureStates.{AreClasses, HasField, HasFields, IsOpened, IsState, Grows, RunsOut};
+ghost use Rattle.isle_blocks.specs.FieldOrder.{AreFieldsBefore, AreFieldsInOrder};
 ghost use Rattle.isle_blocks.specs.declared.constraint.Constraint.{Constraint as Test};
 
 use super::classes::own_test;
@@ -25,6 +26,7 @@ fn add_field(
     ensures bound { IfOk result (λ _. length sites.new ≤ 65536) }
     ensures grows { IfOk result (λ _. (own : List (Option Test)) → IsOpened own (slice_index class.old.items site) (kind_of variant) index → Grows own sites.old class.old.items sites.new class.new.items) }
     ensures added { IfOk result (λ _. HasField sites.new (kind_of variant) site index) }
+    ensures ordered { IfOk result (λ _. (first : ℕ) → AreFieldsBefore first sites.old site index → AreFieldsBefore first sites.new site (index + 1)) }
     ensures full { IfErr result (λ fault. fault ≡ SiteFault.Size → (own : List (Option Test)) → IsOpened own (slice_index class.old.items site) (kind_of variant) index → RunsOut own sites.old class.old.items sites.new class.new.items) }
 {
     if let Some(_) = find_field(sites, variant, site, index) {
@@ -52,6 +54,7 @@ fn add_fields(
     ensures bound { IfOk result (λ _. length sites.new ≤ 65536) }
     ensures grows { IfOk result (λ _. Grows own.now sites.old class.old.items sites.new class.new.items) }
     ensures added { IfOk result (λ _. HasFields own.now sites.new class.new.items site) }
+    ensures ordered { IfOk result (λ _. (first : ℕ) → AreFieldsBefore first sites.old site 0 → AreFieldsBefore first sites.new (site + 1) 0) }
     ensures full { IfErr result (λ fault. fault ≡ SiteFault.Size → RunsOut own.now sites.old class.old.items sites.new class.new.items) }
 {
     let Some(test) = own_test(own, class[site]) else {
@@ -66,7 +69,7 @@ fn add_fields(
     Ok(())
 }
 
-/// Adds, site by site, the fields that the sites lack, those of the new sites too.
+/// Adds, site by site, the fields that the sites lack, those of the new sites too; those of one site in order.
 pub(super) fn complete(
     sites: &mut Sites,
     own: &[Option<Constraint>],
@@ -75,6 +78,7 @@ pub(super) fn complete(
     requires { (equals : List (ℕ × ℕ)) × IsState own.now equals sites.old class.old.items }
     ensures grows { IfOk result (λ _. Grows own.now sites.old class.old.items sites.new class.new.items) }
     ensures added { IfOk result (λ _. (a : ℕ) → a < length sites.new → HasFields own.now sites.new class.new.items a) }
+    ensures ordered { IfOk result (λ _. AreFieldsInOrder (length sites.old) sites.new) }
     ensures full { IfErr result (λ fault. fault ≡ SiteFault.Size → RunsOut own.now sites.old class.old.items sites.new class.new.items) }
 {
     let mut site = 0;

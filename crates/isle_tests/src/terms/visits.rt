@@ -1,4 +1,7 @@
 //! Visits of a rule: each call once, in order, and none past a fault.
+ghost use Rattle.std.specs.Prelude.{IfOk};
+ghost use Rattle.isle_blocks.specs.DefinedSets.{AreDefined};
+
 use super::recorder::Recorder;
 use isle_syntax::lexer::{Lexer, Pos};
 use isle_syntax::parser::parse;
@@ -30,7 +33,9 @@ const Z: VarId = VarId(2);
 const W: VarId = VarId(3);
 
 /// The environments of the definitions of a text.
-pub fn environments(alloc: Global, text: &str) -> Result<(TypeEnv, TermEnv), AllocError> {
+pub fn environments(alloc: Global, text: &str) -> Result<(TypeEnv, TermEnv), AllocError>
+    ensures { IfOk result (λ made. AreDefined made.1) }
+{
     let Ok(parsed) = parse(Lexer::new(alloc, 0, text)) else {
         return Err(AllocError);
     };
@@ -38,10 +43,12 @@ pub fn environments(alloc: Global, text: &str) -> Result<(TypeEnv, TermEnv), All
     let Ok(mut tyenv) = TypeEnv::from_ast(alloc, defs) else {
         return Err(AllocError);
     };
-    match TermEnv::from_ast(alloc, &mut tyenv, defs, true) {
-        Ok(termenv) => Ok((tyenv, termenv)),
-        Err(_refusal) => Err(AllocError),
-    }
+    let Ok(termenv) = TermEnv::from_ast(alloc, &mut tyenv, defs, true) else {
+        return Err(AllocError);
+    };
+    // each name is interned once
+    let _names = tyenv.syms();
+    Ok((tyenv, termenv))
 }
 
 fn termenv(alloc: Global) -> Result<TermEnv, AllocError> {

@@ -5,6 +5,7 @@ use Rattle.isle_blocks.specs.declared.close.Reduced.{Reduced}
 use Rattle.isle_blocks.specs.Rows.{pairs_of}
 use Rattle.isle_blocks.specs.ClosureStates.{IsReduced}
 use Rattle.isle_blocks.proofs.Closure.Whole.{state_of, is_reachable, no_room, whole}
+use Rattle.isle_blocks.proofs.Closure.FieldOrder.{none_added}
 use Rattle.isle_blocks.proofs.close.close.Goals as goal
 
 pub finish-requires : goal.finish-requires
@@ -35,3 +36,6 @@ returns-clause-closed c = λ name injective.
     let f = c.in_ok-finish.ensures.finished in
     whole name injective table has same c.requires own r.tests first r.classes.classes r.classes.closed (r.classes.sound name injective has r.tests)
     c.finish.new.sites c.in_ok-finish.field-0.class.items f.grows f.full c.in_ok-finish.field-0.each.items f.each_fits f.tested r.classes.ranked
+
+pub returns-in_default-clause-ordered : goal.returns-in_default-clause-ordered
+returns-in_default-clause-ordered c = none_added c.args.sites.now

@@ -1,7 +1,7 @@
-use Rattle.std.proofs.Common.{◌≡◌, ℕ, List, map, sym, ◌∙◌, ap, subst, Option, Some, None, take, slice_get}
+use Rattle.std.proofs.Common.{◌≡◌, ℕ, List, length, map, sym, ◌∙◌, ap, subst, Option, Some, None, take, slice_get}
 use Rattle.std.proofs.lemmas.Result.{err_from_is_err_and}
 use Rattle.isle_types.specs.declared.ids.Sym.{Sym}
-use Rattle.isle_terms.specs.Meaning.Demands.{Demand}
+use Rattle.isle_terms.specs.Meaning.Demands.{Demand, Among}
 use Rattle.isle_terms.specs.Meaning.Numbered.{AreRecorded}
 use Rattle.isle_blocks.specs.declared.ids.BindingId.{BindingId}
 use Rattle.isle_blocks.specs.declared.binding.Binding.{Binding}
@@ -10,11 +10,13 @@ use Rattle.isle_blocks.specs.declared.close.Closed.{Closed}
 use Rattle.isle_blocks.specs.Rows.{IsInjective, rows_of, constraints_of, pairs_of}
 use Rattle.isle_blocks.specs.ClosureFields.{IsTable}
 use Rattle.isle_blocks.specs.ClosureStates.{IsReady}
-use Rattle.isle_blocks.specs.Closure.{ClosesTo}
+use Rattle.isle_terms.specs.Meaning.Faults.{IsUnreachable}
+use Rattle.isle_blocks.specs.Closure.{ClosesTo, HasAllFields}
+use Rattle.isle_blocks.specs.FieldOrder.{AreFieldsInOrder}
 use Rattle.isle_blocks.specs.Placing.{GrowsFor, IsPutFirst}
 use Rattle.isle_blocks.specs.MovedSites.{new_number, moved_test, moved_pair, MovesSites}
 use Rattle.isle_blocks.proofs.Placed.{by_number, by_number_injective, after_ok, still_ready, still_recorded}
-use Rattle.isle_blocks.proofs.PlacedRoom.{closing_lacks_room, moving_lacks_room, closed_grows, moved_grows}
+use Rattle.isle_blocks.proofs.PlacedRoom.{dead_recorded, recorded_field, closing_lacks_room, moving_lacks_room, closed_grows, moved_grows}
 use Rattle.isle_blocks.proofs.placing.open_fields.Goals as goal
 
 -- what the calls were lent is what was moved
@@ -110,12 +112,45 @@ returns-clause-kept c =
 
 -- the sites moved into a table that is closed, or stays, stand first in it
 put_first : (base own between table : List Binding) (ids : List BindingId) (has : List (BindingId × Constraint)) (same : List (BindingId × BindingId))
-    (closed : Option Closed) → MovesSites base own ids between → ClosesTo between has same table closed → IsPutFirst base own table
-put_first base own between table ids has same None moved closes =
-    (ids, between, moved, λ k b e. subst (λ (t : List Binding). slice_get t k ≡ Some b) (sym closes.1) e)
-put_first base own between table ids has same (Some closed) moved closes = (ids, between, moved, (closes by_number by_number_injective).kept)
+    (closed : Option Closed) → MovesSites base own ids between → ClosesTo between has same table closed → AreFieldsInOrder (length between) table
+    → IsPutFirst base own table
+put_first base own between table ids has same None moved closes fields = record {
+  ids = ids;
+  mid = between;
+  moved = moved;
+  kept = λ k b e. subst (λ (t : List Binding). slice_get t k ≡ Some b) (sym closes.1) e;
+  fields = fields;
+}
+put_first base own between table ids has same (Some closed) moved closes fields = record {
+  ids = ids;
+  mid = between;
+  moved = moved;
+  kept = (closes by_number by_number_injective).kept;
+  fields = fields;
+}
 
 pub returns-clause-first : goal.returns-clause-first
 returns-clause-first c = λ more.
     put_first c.args.table.now (take c.args.own c.args.sites.now) c.move_sites.new.table c.close.new.sites c.in_ok-numbers.numbers.items c.deref-3.result.now
-    c.deref-4.result.now c.in_ok-close.field-0 c.in_ok-numbers.ensures.moved c.in_ok-close.ensures.closed
+    c.deref-4.result.now c.in_ok-close.field-0 c.in_ok-numbers.ensures.moved c.in_ok-close.ensures.closed c.in_ok-close.ensures.ordered
+
+-- a table that is closed has all fields that demands open which some values meet
+closes_fields : (name : Sym → List ℕ) (injective : IsInjective name) (ds : List Demand) (between table : List Binding) (has : List (BindingId × Constraint))
+    (same : List (BindingId × BindingId)) (closed : Option Closed) → AreRecorded (rows_of name between) (constraints_of name has) (pairs_of same) ds
+    → ClosesTo between has same table closed → (IsUnreachable (Among ds) → ⊥) → HasAllFields (Among ds) (rows_of name table)
+closes_fields name injective ds between table has same None recorded closes alive =
+    absurd (alive (dead_recorded name between has same ds recorded (closes.0 name injective)))
+closes_fields name injective ds between table has same (Some closed) recorded closes alive = λ s u f.
+    (closes name injective).fields s u (recorded_field name between has same ds recorded s u f)
+
+pub returns-clause-fields : goal.returns-clause-fields
+returns-clause-fields c = λ more name injective ds recorded.
+    let base = c.args.table.now in let own = take c.args.own c.args.sites.now in let mid = c.move_sites.new.table in let numbers = c.in_ok-numbers.numbers.items in
+    let has = c.args.has.now in let same = c.args.same.now in let given_has = c.deref-3.result.now in let given_same = c.deref-4.result.now in
+    let are : AreMoved has given_has same given_same numbers = record {
+      tests = c.deref-3.ensures.value ∙ c.in_ok-has.ensures ∙ ap (λ (l : List BindingId). map (moved_test (new_number l)) has) c.deref.ensures.value;
+      pairs = c.deref-4.ensures.value ∙ c.in_ok-same.ensures ∙ ap (λ (l : List BindingId). map (moved_pair (new_number l)) same) c.deref-2.ensures.value;
+    } in
+    let given = recorded_given base own mid numbers c.in_ok-numbers.ensures.moved c.requires.table has given_has same given_same c.requires.ready are
+    name injective ds recorded in
+    closes_fields name injective ds mid c.close.new.sites given_has given_same c.in_ok-close.field-0 given c.in_ok-close.ensures.closed

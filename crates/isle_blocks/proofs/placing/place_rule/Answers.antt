@@ -5,15 +5,22 @@ use Rattle.isle_blocks.specs.declared.ids.BindingId.{BindingId}
 use Rattle.isle_blocks.specs.declared.binding.Binding.{Binding}
 use Rattle.isle_blocks.specs.declared.close.Closed.{Closed}
 use Rattle.isle_blocks.specs.declared.constraint.Constraint.{Constraint}
-use Rattle.isle_blocks.specs.Closure.{ClosesTo}
-use Rattle.isle_blocks.specs.ClosureStates.{IsReady}
+use Rattle.isle_types.specs.declared.ids.Sym.{Sym}
+use Rattle.isle_terms.specs.Meaning.Sites.{Site}
+use Rattle.isle_terms.specs.Meaning.Demands.{Demand, Among}
+use Rattle.isle_terms.specs.Meaning.Faults.{IsUnreachable}
+use Rattle.isle_terms.specs.Meaning.Numbered.{At, AreRecorded}
+use Rattle.isle_blocks.specs.Rows.{IsInjective, rows_of, constraints_of, pairs_of}
+use Rattle.isle_blocks.specs.Closure.{ClosesTo, Stands, HasAllFields, IsClosure}
+use Rattle.isle_blocks.specs.ClosureStates.{IsReady, demanded_in}
 use Rattle.isle_blocks.specs.Placing.{ForDemandsOf, GrowsFor, IsPutFirst, HasNoRoomFor}
 use Rattle.isle_blocks.specs.MovedSites.{MovesSites, EndsFull}
 use Rattle.std.proofs.lemmas.Bool.{cases_lt}
 use Rattle.isle_blocks.specs.ClosureFields.{IsTable}
-use Rattle.isle_blocks.proofs.Placed.{by_number, by_number_injective, after_ok, settled}
-use Rattle.isle_blocks.proofs.Placed.{grown as longer}
-use Rattle.isle_blocks.proofs.PlacedRoom.{dead_recorded, recorded_dead, own_lacks_room, grown_lacks_room}
+use Rattle.isle_blocks.proofs.Placed.{by_number, by_number_injective, after_ok, to_at, settled}
+use Rattle.isle_blocks.proofs.Closure.Longer.{stays}
+use Rattle.isle_blocks.proofs.Closure.FieldOrder.{none_added}
+use Rattle.isle_blocks.proofs.PlacedRoom.{dead_recorded, recorded_dead, stays_put, grown_site, own_lacks_room, grown_lacks_room}
 use Rattle.isle_blocks.proofs.placing.place_rule.Goals as goal
 
 pub returns-in_err-closed-clause-full : goal.returns-in_err-closed-clause-full
@@ -41,23 +48,36 @@ first_of : (own has-sites : List Binding) (has : List (BindingId × Constraint))
 first_of own sites has same grown closed closes count counts is =
     ap (λ (n : ℕ). take n sites) counts ∙ ap (take (length own)) is ∙ own_first own grown (closes by_number by_number_injective).kept
 
--- the own sites stand first behind the table
-in_order : (base own grown between table : List Binding) (ids : List BindingId) (closed : Closed)
-    → ((k : ℕ) (b : Binding) → slice_get own k ≡ Some b → slice_get grown k ≡ Some b) → IsTable base → IsTable between → IsTable grown
-    → MovesSites between grown ids table → (length grown ≤ length own → between ≡ base) → (length own < length grown → IsPutFirst base own between)
-    → IsPutFirst base own table
-in_order base own grown between table ids closed kept base_ok between_ok grown_ok moved stays first = elim (cases_lt (length own) (length grown)) [
-  | inl more ↦
-      let (numbers, mid, put, goes) = first more in
-      (numbers, mid, put, λ k b e. longer between grown table ids moved between_ok grown_ok by_number by_number_injective k b (goes k b e))
-  | inr fits ↦
-      let one : grown ≡ own = sym (take_all (length own) grown fits) ∙ own_first own grown kept in (
-        ids,
-        table,
-        subst (λ (b : List Binding). MovesSites b own ids table) (stays fits) (subst (λ (l : List Binding). MovesSites between l ids table) one moved),
-        λ k b e. e,
-      )
-]
+-- each site of the closed table stands in the table whose fields are all opened
+module _ (name : Sym → List ℕ) (injective : IsInjective name) (ds : List Demand) (base own grown between : List Binding) (base_ok : IsTable base)
+    (own_ok : IsTable own) (has : List (BindingId × Constraint)) (same : List (BindingId × BindingId)) (each : List (Option Constraint)) (class : List ℕ)
+    (are : AreRecorded (rows_of name own) (constraints_of name has) (pairs_of same) ds)
+    (closure : IsClosure name (demanded_in name own has (pairs_of same)) own grown each class) (first : IsPutFirst base own between)
+    (fields : HasAllFields (Among ds) (rows_of name between)) where
+  all_there : (s : Site) (k : ℕ) → At (rows_of name grown) s k → Stands (rows_of name between) s
+  all_there s k p = elim (grown_site base own base_ok own_ok name injective ds has same are grown each class closure s k p) [
+    | inl (j, q) ↦
+        let at = to_at base own first.mid first.ids first.moved base_ok own_ok name injective s j q in
+        (_, stays name first.mid between first.kept s _ at)
+    | inr (t, f) ↦ fields t s f
+  ]
+
+-- the own sites stand first behind the table, and then fields
+module _ (base own grown between table : List Binding) (ids : List BindingId) (kept : (k : ℕ) (b : Binding) → slice_get own k ≡ Some b → slice_get grown k ≡ Some b)
+    (moved : MovesSites between grown ids table) where
+  in_order : (length grown ≤ length own → between ≡ base) → (length own < length grown → IsPutFirst base own between × (table ≡ between)) → IsPutFirst base own table
+  in_order stays_same first = elim (cases_lt (length own) (length grown)) [
+    | inl more ↦ let (put, same) = first more in subst (λ (l : List Binding). IsPutFirst base own l) (sym same) put
+    | inr fits ↦
+        let one : grown ≡ own = sym (take_all (length own) grown fits) ∙ own_first own grown kept in
+        record {
+          ids = ids;
+          mid = table;
+          moved = subst (λ (b : List Binding). MovesSites b own ids table) (stays_same fits) (subst (λ (l : List Binding). MovesSites between l ids table) one moved);
+          kept = λ k b e. e;
+          fields = none_added table;
+        }
+  ]
 
 pub open_fields-requires-clause-ready : goal.open_fields-requires-clause-ready
 open_fields-requires-clause-ready c =
@@ -115,22 +135,31 @@ returns-clause-placed c = λ name injective ds are.
     c.in_ok-open_fields.ensures.opened in
     let len : length c.bindings.result.now ≡ length grown = ap length c.bindings.ensures in
     let count = c.len-count.ensures.count in
+    let alive : IsUnreachable (Among ds) → ⊥ = λ dead. (closed name injective).reachable (recorded_dead name own has same ds are dead) in
+    let moved = subst (λ (l : List Binding). MovesSites c.open_fields.new.table l c.in_ok-numbers.numbers.items c.move_sites.new.table) c.bindings-2.ensures
+    c.in_ok-numbers.ensures.moved in
     record {
-      reachable = λ dead. (closed name injective).reachable (recorded_dead name own has same ds are dead);
+      reachable = alive;
       has = has;
       same = same;
       recorded = are;
       closure = closed name injective;
       between = c.open_fields.new.table;
       opened = opened name injective ds are;
-      moved = subst (λ (l : List Binding). MovesSites c.open_fields.new.table l c.in_ok-numbers.numbers.items c.move_sites.new.table) c.bindings-2.ensures
-          c.in_ok-numbers.ensures.moved;
-      order = in_order base own grown c.open_fields.new.table c.move_sites.new.table c.in_ok-numbers.numbers.items c.in-Some.closed (closed by_number by_number_injective).kept
-          c.requires.table c.in_ok-open_fields.ensures.kept (closed by_number by_number_injective).sites
-          (subst (λ (l : List Binding). MovesSites c.open_fields.new.table l c.in_ok-numbers.numbers.items c.move_sites.new.table) c.bindings-2.ensures
-          c.in_ok-numbers.ensures.moved)
+      moved = moved;
+      order = in_order base own grown c.open_fields.new.table c.move_sites.new.table c.in_ok-numbers.numbers.items (closed name injective).kept moved
           (λ fits. c.in_ok-open_fields.ensures.stays (omega (arith, fits, len, count)))
-          (λ more. subst (λ (l : List Binding). IsPutFirst base l c.open_fields.new.table) first (c.in_ok-open_fields.ensures.first (omega (arith, more, len, count))));
+          (λ more.
+          let inside : c.len-count.result < length c.bindings.result.now = omega (arith, more, len, count) in
+          let put = subst (λ (l : List Binding). IsPutFirst base l c.open_fields.new.table) first (c.in_ok-open_fields.ensures.first inside) in
+          let fields = subst (λ (l : List Binding). ForDemandsOf l has same (λ name ds. (IsUnreachable (Among ds) → ⊥) → HasAllFields (Among ds) (rows_of name c.open_fields.new.table)))
+          first (c.in_ok-open_fields.ensures.fields inside) name injective ds are alive in (
+            put,
+            stays_put name injective c.open_fields.new.table grown c.move_sites.new.table c.in_ok-numbers.numbers.items moved (opened name injective ds are).sites
+                (closed name injective).sites
+                (all_there name injective ds base own grown c.open_fields.new.table c.requires.table c.requires.ready.sites has same
+                c.in-Some.closed.each.items c.in-Some.closed.class.items are (closed name injective) put fields),
+          ));
     }
 
 pub returns-clause-kept : goal.returns-clause-kept

@@ -1,9 +1,9 @@
-use Rattle.std.proofs.Common.{◌≡◌, ◌⊎◌, map, arith, ap}
+use Rattle.std.proofs.Common.{◌≡◌, ◌⊎◌, inl, inr, map, arith, ap}
 use Rattle.isle_syntax.specs.Positions.Files.{source_file}
 use Rattle.isle_run.specs.Compiled.{AreAccepted}
 use Rattle.islec.specs.Running.{WritesAccepted}
 use Rattle.islec.specs.Statuses.{code_of}
-use Rattle.islec.specs.declared.status.Status.TheVariants.{AllWell, SomeRefused}
+use Rattle.islec.specs.declared.status.Status.TheVariants.{AllWell, TextsRefused, SomeRefused}
 use Rattle.islec.proofs.StatusLemmas.{all_well, answered, of_call}
 use Rattle.islec.proofs.perform.perform.Goals.{in-Run, in-Check, in-Fmt, in-Ok, in-Err-Read, in-Err-Write, in-Err-Memory}
 use Rattle.islec.proofs.perform.perform.Goals as goal
@@ -40,6 +40,24 @@ returns-clause-checked g c = λ is zero. elim c.match-job.branch [
     | in-Err-Memory v ↦
         let number = ap code_of v.status-is in
         let memory = ap code_of v.out_of_memory-status.ensures in absurd (omega (arith, c.code.ensures, number, memory, zero))
+  ]
+  | in-Fmt w ↦ let no : ⊥ = cc in absurd no
+]
+
+pub returns-clause-unasked : goal.returns-clause-unasked
+returns-clause-unasked g c = λ is three. elim c.match-job.branch [
+  | in-Run w ↦ let no : ⊥ = cc in absurd no
+  | in-Check w ↦ elim c.match-done.branch [
+    | in-Ok v ↦ elim (of_call (λ s. (s ≡ AllWell) ⊎ (s ≡ TextsRefused)) w.check-done.result c.match-job.done v.in-Ok.status c.match-done.status w.done-is
+        v.in-Ok.is v.status-is w.check-done.ensures.other) [
+          | inl e ↦ let number = ap code_of e in absurd (omega (arith, c.code.ensures, number, three))
+          | inr e ↦ let number = ap code_of e in absurd (omega (arith, c.code.ensures, number, three))
+        ]
+    | in-Err-Read v ↦ let number = ap code_of v.status-is in absurd (omega (arith, c.code.ensures, number, three))
+    | in-Err-Write v ↦ let number = ap code_of v.status-is in absurd (omega (arith, c.code.ensures, number, three))
+    | in-Err-Memory v ↦
+        let number = ap code_of v.status-is in
+        let memory = ap code_of v.out_of_memory-status.ensures in absurd (omega (arith, c.code.ensures, number, memory, three))
   ]
   | in-Fmt w ↦ let no : ⊥ = cc in absurd no
 ]

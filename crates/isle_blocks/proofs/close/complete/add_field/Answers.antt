@@ -4,6 +4,7 @@ use Rattle.std.proofs.lemmas.Result.{err_from_is_err_and}
 use Rattle.isle_blocks.specs.ClosureFields.{kind_of}
 use Rattle.isle_blocks.specs.ClosureStates.{Still}
 use Rattle.isle_blocks.proofs.Closure.Full.{no_room, now_there, grows_one}
+use Rattle.isle_blocks.proofs.Closure.FieldOrder.{to_next, interned}
 use Rattle.isle_blocks.proofs.close.complete.add_field.Goals as goal
 
 pub returns-in-Some-clause-grows : goal.returns-in-Some-clause-grows
@@ -31,3 +32,11 @@ pub returns-in_ok-push-clause-added : goal.returns-in_ok-push-clause-added
 returns-in_ok-push-clause-added c =
     now_there c.args.sites.now c.args.class.now.items c.args.site (kind_of c.args.variant) c.args.index c.requires.site_in c.in_default.ensures
     c.intern.new.self c.in_ok-intern.field-0 c.field.result c.field.ensures c.in_ok-intern.ensures.ok
+
+pub returns-in-Some-clause-ordered : goal.returns-in-Some-clause-ordered
+returns-in-Some-clause-ordered c = λ first h. to_next first c.args.sites.now c.args.site c.args.index h
+
+pub returns-in_ok-push-clause-ordered : goal.returns-in_ok-push-clause-ordered
+returns-in_ok-push-clause-ordered c = λ first h.
+    interned first c.args.sites.now c.args.site c.args.index (kind_of c.args.variant) c.field.result c.in_ok-intern.field-0 c.intern.new.self
+    c.field.ensures c.in_ok-intern.ensures.ok h

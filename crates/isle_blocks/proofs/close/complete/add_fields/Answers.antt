@@ -5,6 +5,7 @@ use Rattle.isle_blocks.specs.ClosureFields.{kind_of}
 use Rattle.isle_blocks.specs.ClosureStates.{HasField, Still}
 use Rattle.isle_blocks.proofs.Closure.Growth.{grown_state, grown_sites, grown_join, grown_longer}
 use Rattle.isle_blocks.proofs.Closure.Full.{runs_out, opened_still, like_there, has_all}
+use Rattle.isle_blocks.proofs.Closure.FieldOrder.{to_site}
 use Rattle.isle_blocks.proofs.close.complete.add_fields.Goals as goal
 
 pub returns-in_default-clause-grows : goal.returns-in_default-clause-grows
@@ -14,7 +15,7 @@ pub returns-in_default-opens-clause-grows : goal.returns-in_default-opens-clause
 returns-in_default-opens-clause-grows c = Still
 
 pub loop-index-init : goal.loop-index-init
-loop-index-init c = record { bound = c.requires.bound; grows = Still; added = λ i h. absurd (omega arith) }
+loop-index-init c = record { bound = c.requires.bound; grows = Still; added = λ i h. absurd (omega arith); ordered = λ first h. h }
 
 pub add_field-requires-clause-classes : goal.add_field-requires-clause-classes
 add_field-requires-clause-classes c =
@@ -50,6 +51,7 @@ loop-index-preserved c =
     record {
       bound = c.in_ok-add_field.ensures.bound;
       grows = grown_join c.args.own.now equals _ _ _ _ _ _ c.loop-index.invariant.grows more;
+      ordered = λ first h. c.in_ok-add_field.ensures.ordered first (c.loop-index.invariant.ordered first h);
       added = λ i h. elim (cases_lt i c.loop-index.index) [
         | inl less ↦
             let (f, there) = c.loop-index.invariant.added i less in
@@ -66,3 +68,12 @@ returns-clause-added c =
     has_all _ equals _ _ _ _ c.loop-index.invariant.grows state c.args.site c.requires.site_in c.index.result.now c.index.ensures
     c.in-Some.test c.in-Some.ensures c.in-Some-opens.opening c.in-Some-opens.ensures
     (λ i h. let t = c.loop-index-test.false in c.loop-index.invariant.added i (omega arith))
+
+pub returns-in_default-clause-ordered : goal.returns-in_default-clause-ordered
+returns-in_default-clause-ordered c = λ first h. to_site first c.args.sites.now c.args.site 0 h
+
+pub returns-in_default-opens-clause-ordered : goal.returns-in_default-opens-clause-ordered
+returns-in_default-opens-clause-ordered c = λ first h. to_site first c.args.sites.now c.args.site 0 h
+
+pub returns-clause-ordered : goal.returns-clause-ordered
+returns-clause-ordered c = λ first h. to_site first c.loop-index.sites c.args.site c.loop-index.index (c.loop-index.invariant.ordered first h)

@@ -1,13 +1,14 @@
-use Rattle.std.proofs.Common.{◌≡◌, ℕ, arith, sym, subst, inl, inr}
+use Rattle.std.proofs.Common.{◌≡◌, ℕ, length, arith, sym, subst, inl, inr}
 use Rattle.std.proofs.lemmas.Bool.{cases_lt}
 use Rattle.std.proofs.lemmas.Result.{err_from_is_err_and}
 use Rattle.isle_blocks.specs.ClosureStates.{HasFields, Still}
 use Rattle.isle_blocks.proofs.Closure.Growth.{grown_state, grown_sites, grown_join, grown_fields}
 use Rattle.isle_blocks.proofs.Closure.Full.{runs_out}
+use Rattle.isle_blocks.proofs.Closure.FieldOrder.{none_before}
 use Rattle.isle_blocks.proofs.close.complete.complete.Goals as goal
 
 pub loop-site-init : goal.loop-site-init
-loop-site-init c = record { within = omega arith; bound = omega arith; grows = Still; added = λ a h. absurd (omega arith) }
+loop-site-init c = record { within = omega arith; bound = omega arith; grows = Still; added = λ a h. absurd (omega arith); ordered = none_before c.args.sites.now 0 0 }
 
 pub add_fields-requires-clause-state : goal.add_fields-requires-clause-state
 add_fields-requires-clause-state c =
@@ -31,6 +32,7 @@ loop-site-preserved c =
       within = omega arith;
       bound = omega arith;
       grows = grown_join c.args.own.now equals _ _ _ _ _ _ c.loop-site.invariant.grows more;
+      ordered = c.in_ok-add_fields.ensures.ordered (length c.args.sites.now) c.loop-site.invariant.ordered;
       added = λ a h. elim (cases_lt a c.loop-site.site) [
         | inl less ↦ grown_fields c.args.own.now equals _ _ _ _ more state a (omega arith) (c.loop-site.invariant.added a less)
         | inr more ↦
@@ -38,3 +40,6 @@ loop-site-preserved c =
             subst (λ (z : ℕ). HasFields c.args.own.now c.add_fields.new.sites c.add_fields.new.class.items z) (sym same) c.in_ok-add_fields.ensures.added
       ];
     }
+
+pub returns-clause-ordered : goal.returns-clause-ordered
+returns-clause-ordered c = c.loop-site.invariant.ordered.ordered

@@ -1,0 +1,3 @@
+-- Worked cases.
+-- The text, the tokens and the nodes of a value, and lists that close.
+pub mod ValueForms

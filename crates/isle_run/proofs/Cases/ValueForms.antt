@@ -1,0 +1,50 @@
+-- The values (Op.Add 1 (Op.Nop)) and (Op.Add $A (Op.Nop)): texts, tokens and nodes.
+use Rattle.std.proofs.Common.{◌≡◌, List, [], ◌∷◌, pos, true, refl}
+use Rattle.std.specs.Prelude.{codes}
+use Rattle.isle_syntax.specs.declared.lexer.Token.{Token}
+use Rattle.isle_syntax.specs.declared.lexer.Token.TheVariants.{LParen, RParen, At, Symbol, Int}
+use Rattle.isle_terms.specs.Values.{ValueTree, bool_value, int_value, const_value, data_value, no_values, more_values}
+use Rattle.isle_run.specs.declared.value.Node.{Node}
+use Rattle.isle_run.specs.declared.value.Node.TheVariants.{Int as IntNode, Data}
+use Rattle.isle_run.specs.Nodes.{nodes_of, value_in}
+use Rattle.isle_run.specs.ValueText.{value_text}
+use Rattle.isle_run.specs.ValueTokens.{tokens_of}
+use Rattle.isle_run.specs.Lists.{AreItems, no_items, a_word, a_list, Closes}
+
+abbrev nop : ValueTree
+nop = data_value (codes "Op.Nop") no_values
+
+abbrev sum : ValueTree
+sum = data_value (codes "Op.Add") (more_values (int_value (pos 1)) (more_values nop no_values))
+
+abbrev named : ValueTree
+named = data_value (codes "Op.Add") (more_values (const_value (codes "A")) (more_values nop no_values))
+
+text : value_text named ≡ codes "(Op.Add $A (Op.Nop))"
+text = refl
+
+truth : value_text (bool_value true) ≡ codes "true"
+truth = refl
+
+constant : value_text (const_value (codes "NAME")) ≡ codes "$NAME"
+constant = refl
+
+tokens : tokens_of sum ≡ LParen ∷ Symbol (codes "Op.Add") ∷ Int (pos 1) ∷ LParen ∷ Symbol (codes "Op.Nop") ∷ RParen ∷ RParen ∷ []
+tokens = refl
+
+-- a node before its fields
+nodes : nodes_of sum ≡ Data (codes "Op.Add") 2 2 ∷ IntNode (pos 1) ∷ Data (codes "Op.Nop") 0 0 ∷ []
+nodes = refl
+
+back : value_in (nodes_of sum) ≡ sum
+back = refl
+
+-- behind an open parenthesis these tokens close it, and with one parenthesis less they don't
+closes : Closes 1 (Int (pos 1) ∷ LParen ∷ At ∷ RParen ∷ RParen ∷ [])
+closes = (
+  Int (pos 1) ∷ LParen ∷ At ∷ RParen ∷ [],
+  [],
+  a_word (Int (pos 1)) tt (a_list (a_word At tt no_items) no_items),
+  refl,
+  refl,
+)

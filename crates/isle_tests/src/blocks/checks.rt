@@ -1,0 +1,343 @@
+//! Rule sets of the rules of texts, and what is wrong with rules.
+use super::{A, U8, variant};
+use crate::terms::visits::{TERMS, environments};
+use isle_blocks::{
+    Binding, BindingId, Constraint, Overlap, Rule, RulePlace, RuleSet, TermSets, TupleIndex, build,
+    check, faults_between, report_faults,
+};
+use isle_syntax::error::{Error, Span};
+use isle_syntax::lexer::Pos;
+use isle_syntax::{Refusal, Seq};
+use isle_terms::TermEnv;
+use isle_types::{RuleId, TermId, Type, TypeEnv, TypeId, VariantId};
+use std::alloc::{AllocError, Global};
+use std::test::Fail;
+
+type Refused = Refusal<Vec<Error>>;
+
+/// The rule sets of a text's terms, or what is wrong with its rules.
+fn checked(alloc: Global, text: &str) -> Result<Vec<(TermId, RuleSet)>, Refused> {
+    let (_tyenv, termenv) = environments(alloc, text)?;
+    check(alloc, &termenv)
+}
+
+/// The rule sets of a text's terms, whatever is wrong with its rules.
+fn built(alloc: Global, text: &str) -> Result<TermSets, Refused> {
+    let (_tyenv, termenv) = environments(alloc, text)?;
+    build(alloc, &termenv)
+}
+
+const fn argument(index: u8) -> Binding {
+    Binding::Argument {
+        index: TupleIndex(index),
+    }
+}
+
+const fn int(val: i128) -> Binding {
+    Binding::ConstInt { val, ty: U8 }
+}
+
+// The term `term` has the number 0.
+const TIED: &str = "(decl partial term (u8 u8) u8) (rule (term x @ 2 x) 7)";
+
+/// A name that stands again has the test of what it is bound to, so that no equality is left. The arguments come first, then
+/// the right side, then the made option of a term that may fail.
+#[test]
+fn tests_pass_to_what_is_equal(rt: HostRuntime) -> Result<(), Fail> {
+    let alloc = rt.alloc();
+    let sets = checked(alloc, TIED)?;
+    assert_eq!(rt; sets.len(), 1);
+    assert_eq!(rt; sets[0].0, TermId(0));
+    let set = &sets[0].1;
+    let made = Binding::MakeSome {
+        inner: BindingId(2),
+    };
+    let sites = [argument(0), argument(1), int(7), made];
+    assert!(rt; set.bindings() == sites.as_slice());
+    assert_eq!(rt; set.find_binding(&argument(1)), Some(BindingId(1)));
+    assert_eq!(rt; set.find_binding(&argument(2)), None);
+    assert_eq!(rt; set.rules().len(), 1);
+    let rule = &set.rules()[0];
+    let two = Constraint::ConstInt { val: 2, ty: U8 };
+    assert_eq!(rt; rule.total_constraints(), 2);
+    assert_eq!(rt; rule.get_constraint(BindingId(0)).copied(), Some(two));
+    assert_eq!(rt; rule.get_constraint(BindingId(1)).copied(), Some(two));
+    assert_eq!(rt; rule.get_constraint(BindingId(2)).copied(), None);
+    assert!(rt; rule.equals.is_empty());
+    assert_eq!(rt; rule.result, BindingId(3));
+    Ok(())
+}
+
+// The arguments' type `A` has the number 13, and its variant `V` the number 0.
+const OPENED: &str =
+    "(type A (enum (V (a u8) (b u8)))) (decl f (A A) u8) (rule (f x @ (A.V _ _) x) 7)";
+
+const fn field(source: u16, field: u8) -> Binding {
+    Binding::MatchVariant {
+        source: BindingId(source),
+        variant: VariantId(0),
+        field: TupleIndex(field),
+    }
+}
+
+/// What equals a variant is one too, so that its fields are opened, behind all that the rule needs, and equal the other's.
+#[test]
+fn equal_sites_have_equal_fields(rt: HostRuntime) -> Result<(), Fail> {
+    let alloc = rt.alloc();
+    let sets = checked(alloc, OPENED)?;
+    assert_eq!(rt; sets.len(), 1);
+    let set = &sets[0].1;
+    assert_eq!(rt; set.bindings().len(), 7);
+    let needed = [argument(0), field(0, 0), field(0, 1), argument(1), int(7)];
+    assert!(rt; &set.bindings()[..5] == needed.as_slice());
+    assert_eq!(rt; set.rules().len(), 1);
+    let rule = &set.rules()[0];
+    assert_eq!(rt; rule.total_constraints(), 6);
+    assert_eq!(rt;
+        rule.get_constraint(BindingId(3)).copied(),
+        Some(variant(13, 0))
+    );
+    let opened = set.find_binding(&field(3, 0)).expect(&rt, "a field");
+    assert!(rt; rule.equals.in_same_set(BindingId(1), opened));
+    assert!(rt; !rule.equals.in_same_set(BindingId(2), opened));
+    Ok(())
+}
+
+// The first three rules may match together, and the last with none of them.
+const OVERLAPPING: &str = "(decl f (u8 u8) u8)
+    (rule 1 (f 1 _) 1) (rule (f _ 2) 2) (rule 2 (f 1 2) 3) (rule (f 2 3) 4)";
+
+/// Whether the rules at two places may match together.
+fn overlap(rules: &[Rule], first: usize, second: usize) -> Option<Overlap> {
+    let first = rules.get(first)?;
+    let second = rules.get(second)?;
+    Some(first.may_overlap(second))
+}
+
+/// Rules may match together unless a site has different tests in them; where one has all tests of the other, as a subset.
+#[test]
+fn overlaps_are_told(rt: HostRuntime) -> Result<(), Fail> {
+    let made = built(rt.alloc(), OVERLAPPING)?;
+    assert_eq!(rt; made.sets.len(), 1);
+    let rules = made.sets[0].1.rules();
+    for (first, second, wanted) in [
+        (0, 1, Overlap::Yes { subset: false }),
+        (1, 2, Overlap::Yes { subset: true }),
+        (0, 2, Overlap::Yes { subset: true }),
+        (0, 3, Overlap::No),
+    ] {
+        assert_eq!(rt; overlap(rules, first, second), Some(wanted));
+        assert_eq!(rt; overlap(rules, second, first), Some(wanted));
+    }
+    Ok(())
+}
+
+/// The offsets of spans, each behind a space.
+fn offsets(alloc: Global, spans: &[Span]) -> Result<String, AllocError> {
+    let mut text = String::new(alloc);
+    for span in spans {
+        text.push_str(format!(in alloc; " {}", span.from.offset)?.as_str())?;
+    }
+    Ok(text)
+}
+
+/// The kind of a fault of rules, and the offsets of its rules, the heading one first.
+fn shown(alloc: Global, error: &Error) -> Result<String, AllocError> {
+    match error {
+        Error::UnreachableError { span, .. } => {
+            format!(in alloc; "unreachable {};", span.from.offset)
+        }
+        Error::OverlapError { rules, .. } => {
+            let offsets = offsets(alloc, rules.as_slice())?;
+            format!(in alloc; "overlapping{};", offsets.as_str())
+        }
+        Error::ShadowedError { shadowed, mask } => {
+            let offsets = offsets(alloc, shadowed.as_slice())?;
+            format!(in alloc; "shadowing {}{};", mask.from.offset, offsets.as_str())
+        }
+        _ => format!(in alloc; "another fault;"),
+    }
+}
+
+/// Faults of rules in turn.
+fn listing(alloc: Global, errors: &[Error]) -> Result<String, AllocError> {
+    let mut text = String::new(alloc);
+    for error in errors {
+        text.push_str(shown(alloc, error)?.as_str())?;
+    }
+    Ok(text)
+}
+
+/// What is wrong with the rules of a text.
+fn faults(alloc: Global, text: &str) -> Result<String, AllocError> {
+    match checked(alloc, text) {
+        Ok(_sets) => format!(in alloc; "accepted"),
+        Err(Refusal::Fault(errors)) => listing(alloc, errors.as_slice()),
+        Err(Refusal::Memory(e)) => Err(e),
+    }
+}
+
+// No value is both 1 and 2.
+const UNREACHABLE: &str = "(decl f (u8) u8) (rule (f (and 1 2)) 1) (rule (f 3) 2)";
+
+/// A rule that never matches is left out of its rule set, and its sites too, and it is the one that is reported.
+#[test]
+fn unreachable_rules_are_left_out(rt: HostRuntime) -> Result<(), Fail> {
+    let alloc = rt.alloc();
+    assert_eq!(rt; faults(alloc, UNREACHABLE)?.as_str(), "unreachable 23;");
+    let made = built(alloc, UNREACHABLE)?;
+    assert_eq!(rt; made.sets.len(), 1);
+    let set = &made.sets[0].1;
+    let sites = [argument(0), int(2)];
+    assert!(rt; set.bindings() == sites.as_slice());
+    assert_eq!(rt; set.rules().len(), 1);
+    assert_eq!(rt; set.rules()[0].id, RuleId(1));
+    assert_eq!(rt; made.unreachable.len(), 1);
+    Ok(())
+}
+
+// The terms are `m`, `g`, `p` and `q`; no rules of the `multi` term `g` are rivals.
+const CALLS: &str = "(decl multi m (u8) u8) (extern constructor m m)
+    (decl multi g (u8) u8) (rule (g x) (m x)) (rule (g y) (m y))
+    (decl partial p (u8) u8) (extern constructor p p)
+    (decl partial q (u8) u8) (rule (q x) (p x))";
+
+/// The first impure call of a term, of the site 0.
+fn call(alloc: Global, term: TermId) -> Result<Binding, AllocError> {
+    Ok(Binding::Constructor {
+        term,
+        parameters: Seq::new(vec![in alloc; BindingId(0)]?),
+        instance: 1,
+    })
+}
+
+/// Argument 0 is the site 0, the call of it 1 and one value of the call 2, which is the result; both rules have them.
+#[test]
+fn multi_calls_give_iterators(rt: HostRuntime) -> Result<(), Fail> {
+    let alloc = rt.alloc();
+    let call = call(alloc, TermId(0))?;
+    let sets = checked(alloc, CALLS)?;
+    assert_eq!(rt; sets.len(), 2);
+    assert_eq!(rt; sets[0].0, TermId(1));
+    let set = &sets[0].1;
+    let value = Binding::Iterator {
+        source: BindingId(1),
+    };
+    let sites = [argument(0), call, value];
+    assert!(rt; set.bindings() == sites.as_slice());
+    assert_eq!(rt; set.rules().len(), 2);
+    for rule in set.rules() {
+        assert!(rt; rule.iterators.as_slice() == [BindingId(1)].as_slice());
+        assert!(rt; rule.impure.as_slice() == [BindingId(2)].as_slice());
+        assert_eq!(rt; rule.result, BindingId(2));
+    }
+    Ok(())
+}
+
+/// Argument 0 is the site 0, the call of it 1 and the call's content 2, whose made option, the result, is 3.
+#[test]
+fn partial_calls_give_contents(rt: HostRuntime) -> Result<(), Fail> {
+    let alloc = rt.alloc();
+    let call = call(alloc, TermId(2))?;
+    let sets = checked(alloc, CALLS)?;
+    assert_eq!(rt; sets.len(), 2);
+    assert_eq!(rt; sets[1].0, TermId(3));
+    let set = &sets[1].1;
+    let content = Binding::MatchSome {
+        source: BindingId(1),
+    };
+    let made = Binding::MakeSome {
+        inner: BindingId(2),
+    };
+    let sites = [argument(0), call, content, made];
+    assert!(rt; set.bindings() == sites.as_slice());
+    assert_eq!(rt; set.rules().len(), 1);
+    let rule = &set.rules()[0];
+    assert_eq!(rt; rule.iterators.as_slice().len(), 0);
+    assert!(rt; rule.impure.as_slice() == [BindingId(2)].as_slice());
+    assert_eq!(rt; rule.result, BindingId(3));
+    Ok(())
+}
+
+// The first two rules have one priority; the third has more, and the second one's test; the last has an equality left.
+const RIVALS: &str =
+    "(decl f (u8 u8) u8) (rule (f 1 _) 2) (rule (f _ 1) 3) (rule 1 (f _ 1) 4) (rule 2 (f x x) 5)";
+
+/// Rules of one priority overlap, one of a higher priority shadows; one with an equality left shadows none.
+#[test]
+fn rivals_are_listed_and_reported(rt: HostRuntime) -> Result<(), Fail> {
+    let alloc = rt.alloc();
+    assert_eq!(rt;
+        faults(alloc, RIVALS)?.as_str(),
+        "overlapping 43 26;shadowing 60 43;"
+    );
+    let made = built(alloc, RIVALS)?;
+    assert_eq!(rt; made.sets.len(), 1);
+    let rules = made.sets[0].1.rules();
+    assert_eq!(rt; rules.len(), 4);
+    assert_eq!(rt; rules[3].total_constraints(), 2);
+    let found = faults_between(alloc, rules)?;
+    assert!(rt; found.overlaps.as_slice() == [(0, 1)].as_slice());
+    assert!(rt; found.shadows.as_slice() == [(2, 1)].as_slice());
+    Ok(())
+}
+
+/// A rule at an offset of the first file.
+const fn rule_at(number: usize, offset: usize) -> RulePlace {
+    RulePlace {
+        pos: Pos { file: 0, offset },
+        id: RuleId(number),
+    }
+}
+
+/// The rule with most partners heads their error, and errors ascend by the heading rule.
+#[test]
+fn errors_ascend_by_their_heads(rt: HostRuntime) -> Result<(), Fail> {
+    let alloc = rt.alloc();
+    let rules = [rule_at(0, 10), rule_at(1, 20), rule_at(2, 30)];
+    let errors = report_faults(alloc, &rules, &[(0, 1), (1, 2)], &[(0, 2)])?;
+    assert_eq!(rt;
+        listing(alloc, errors.as_slice())?.as_str(),
+        "shadowing 10 30;overlapping 20 10 30;"
+    );
+    Ok(())
+}
+
+/// The term of the first variant of a type, as a site tells it that makes the variant.
+fn made_term(alloc: Global, tyenv: &TypeEnv, termenv: &TermEnv, ty: TypeId) -> Option<TermId> {
+    let Some(Type::Enum { variants, .. }) = tyenv.get_type(ty) else {
+        return None;
+    };
+    let first = variants.as_slice().first()?;
+    termenv.term_map().get(&first.fullname)?;
+    let site = Binding::MakeVariant {
+        ty,
+        variant: VariantId(0),
+        fields: Seq::new(Vec::new(alloc)),
+    };
+    site.term(tyenv, termenv)
+}
+
+/// Whether a call has its term, a variant that is made its own, and one value of a call none.
+fn sites_have_terms(alloc: Global, tyenv: &TypeEnv, termenv: &TermEnv) -> bool {
+    let call = Binding::Constructor {
+        term: TermId(0),
+        parameters: Seq::new(Vec::new(alloc)),
+        instance: 1,
+    };
+    let value = Binding::Iterator {
+        source: BindingId(0),
+    };
+    let of_call = call.term(tyenv, termenv);
+    let of_value = value.term(tyenv, termenv);
+    let of_variant = made_term(alloc, tyenv, termenv, A);
+    of_call == Some(TermId(0)) && of_value.is_none() && of_variant == Some(TermId(1))
+}
+
+#[test]
+fn sites_have_their_terms(rt: HostRuntime) -> Result<(), Fail> {
+    let alloc = rt.alloc();
+    let (tyenv, termenv) = environments(alloc, TERMS)?;
+    assert!(rt; sites_have_terms(alloc, &tyenv, &termenv));
+    Ok(())
+}
