@@ -1,3 +1,7 @@
 -- Worked cases.
 -- The text, the tokens and the nodes of a value, and lists that close.
 pub mod ValueForms
+-- Numbers from 2^127 on, read at types.
+pub mod SettledNumbers
+-- Types that have values, and one that has none.
+pub mod TypesWithValues

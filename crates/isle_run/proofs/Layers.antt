@@ -1,5 +1,5 @@
 -- The faults of files by the layer that has them.
-use Rattle.std.proofs.Common.{◌≡◌, [], ◌∷◌, List, true, subst, subst₂, sym, Vec}
+use Rattle.std.proofs.Common.{◌≡◌, ◌<◌, ℕ, [], ◌∷◌, List, length, true, subst, subst₂, sym, Vec}
 use Rattle.std.specs.Global.{Global}
 use Rattle.std.specs.List.{All}
 use Rattle.isle_syntax.specs.declared.ast.Def.{Def}
@@ -9,22 +9,28 @@ use Rattle.isle_syntax.specs.declared.refusal.Refusal.TheVariants.{Fault, Memory
 use Rattle.isle_syntax.specs.Errors.{IfFault, RefusalsAt}
 use Rattle.isle_syntax.specs.Positions.Files.{SourceFile}
 use Rattle.isle_syntax.specs.Positions.Printable.{IsPrintablePos}
+use Rattle.std.proofs.lemmas.List.Elements.{All-weaker}
+use Rattle.isle_types.specs.declared.ids.TermId.{TermId}
 use Rattle.isle_types.specs.Names.{AreDistinct}
 use Rattle.isle_types.specs.Environment.{Environment, Makes, AreWithinSizes, HaveEnvironment}
 use Rattle.isle_types.specs.TypeTables.{TypeTables}
 use Rattle.isle_types.specs.TypeFaults.{AreFaultsOf}
+use Rattle.isle_terms.specs.declared.rules.Rule.{Rule}
 use Rattle.isle_terms.specs.Definitions.{MakesTerms}
 use Rattle.isle_terms.specs.TypedTrees.{TypedRuleAt}
 use Rattle.isle_terms.specs.TypingFaults.{AreTypingFaults}
 use Rattle.isle_terms.specs.Shown.TermTables.{TermTables}
 use Rattle.isle_terms.specs.Collecting.Environments.{ShowsTerms}
-use Rattle.isle_blocks.specs.DefinedSets.{AreDefined, facts_by, rules_by}
+use Rattle.isle_blocks.specs.DefinedSets.{AreDefined, facts_by, rules_by, AreSetsOf, IsTermSet}
+use Rattle.isle_blocks.specs.RuleSets.{RulesOverSites}
 use Rattle.isle_blocks.specs.RuleFaults.{AreFaultless, AreRuleErrors}
 use Rattle.isle_run.specs.declared.program.Program.{Program}
-use Rattle.isle_run.specs.Programs.{types_of, terms_of}
+use Rattle.isle_run.specs.Programs.{types_of, terms_of, rule_sets_of}
 use Rattle.isle_run.specs.Compiled.{AreSpelt, AreTyped, AreTypedFiles, AreAccepted, IsProgramOf, IsFirstFault, AreFaults, of_a_text, of_types}
 use Rattle.isle_run.specs.Compiled.{of_terms, of_rules, max_levels, max_nodes}
 use Rattle.isle_blocks.proofs.FewArguments.{few_arguments}
+use Rattle.isle_blocks.proofs.GatheredRules.{term_within, root_within}
+use Rattle.isle_blocks.proofs.SetsOfTerms.{all_places}
 use Rattle.isle_run.proofs.RuleErrors.{typed_placed, rule_errors_at}
 
 pub text_faults : (files : List SourceFile) (told : Refusal (Vec Error Global))
@@ -58,14 +64,6 @@ pub record ShowFiles (files : List SourceFile) (tyenv : TypeTables) (env : TermT
   pub once : AreDistinct tyenv.names
   pub terms : ShowsTerms tyenv env types max_levels max_nodes defs
   pub expands : env.expands ≡ true
-
--- so do the same tables
-pub show_files : (files : List SourceFile) (defs : List Def) (types : Environment) (tyenv : TypeTables) (env : TermTables) (own : TypeTables)
-    (held : TermTables) → AreSpelt 0 files defs → Makes defs types → AreWithinSizes defs → AreDistinct tyenv.names
-    → ShowsTerms tyenv env types max_levels max_nodes defs → env.expands ≡ true → own ≡ tyenv → held ≡ env → ShowFiles files own held
-show_files files defs types tyenv env own held spelt made within once shown expands same_types same_terms =
-    subst₂ (ShowFiles files) (sym same_types) (sym same_terms)
-    (record { defs = defs; types = types; spelt = spelt; made = made; within = within; once = once; terms = shown; expands = expands })
 
 module _ (files : List SourceFile) (tyenv : TypeTables) (env : TermTables) (shown : ShowFiles files tyenv env) where
   -- the files are typed
@@ -111,24 +109,38 @@ module _ (files : List SourceFile) (tyenv : TypeTables) (env : TermTables) (show
       rule_errors_at (IsPrintablePos files) (facts_by env defined_files) (rules_by env defined_files) errors.items
       (typed_placed (IsPrintablePos files) tyenv.names (rules_by env defined_files) env.rules shown.terms.rules placed) (faults defined_files)
 
-program_of : (files : List SourceFile) (program : Program) → ShowFiles files (types_of program) (terms_of program)
-    → ((d : AreDefined (terms_of program)) → AreFaultless (facts_by (terms_of program) d) (rules_by (terms_of program) d))
-    → IsProgramOf files program
-program_of files program shown faultless = record {
-  defs = shown.defs;
-  types = shown.types;
-  spelt = shown.spelt;
-  made = shown.made;
-  within = shown.within;
-  once = shown.once;
-  terms = shown.terms;
-  expands = shown.expands;
-  faultless = faultless (defined_files files (types_of program) (terms_of program) shown);
-}
+-- tables with the rule sets of their rules are a program's
+pub program_of : (files : List SourceFile) (program : Program) (tyenv : TypeTables) (env : TermTables) (sets : List (TermId × RulesOverSites))
+    (shown : ShowFiles files tyenv env) → types_of program ≡ tyenv → terms_of program ≡ env → rule_sets_of program ≡ sets
+    → ((d : AreDefined env) → AreFaultless (facts_by env d) (rules_by env d)) → ((d : AreDefined env) → AreSetsOf env d sets) → IsProgramOf files program
+program_of files program tyenv env sets shown same_types same_terms same_sets faultless are_sets =
+    let own : ShowFiles files (types_of program) (terms_of program) = subst₂ (ShowFiles files) (sym same_types) (sym same_terms) shown in
+    let d = defined_files files (types_of program) (terms_of program) own in
+    let none : AreFaultless (facts_by (terms_of program) d) (rules_by (terms_of program) d) =
+    subst (λ (e : TermTables). (d : AreDefined e) → AreFaultless (facts_by e d) (rules_by e d)) (sym same_terms) faultless d in
+    let mine : AreSetsOf (terms_of program) d (rule_sets_of program) =
+    subst (λ (l : List (TermId × RulesOverSites)). AreSetsOf (terms_of program) d l) (sym same_sets)
+    (subst (λ (e : TermTables). (d : AreDefined e) → AreSetsOf e d sets) (sym same_terms) are_sets d) in
+    record {
+      defs = own.defs;
+      types = own.types;
+      spelt = own.spelt;
+      made = own.made;
+      within = own.within;
+      once = own.once;
+      terms = own.terms;
+      expands = own.expands;
+      faultless = none;
+      few = d.few;
+      sets = mine;
+    }
 
--- the program of the tables
-pub compiles : (files : List SourceFile) (program : Program) (env : TermTables) → env ≡ terms_of program
-    → ShowFiles files (types_of program) env → ((d : AreDefined env) → AreFaultless (facts_by env d) (rules_by env d)) → IsProgramOf files program
-compiles files program env same =
-    subst (λ (e : TermTables). ShowFiles files (types_of program) e → ((d : AreDefined e) → AreFaultless (facts_by e d) (rules_by e d))
-    → IsProgramOf files program) (sym same) (program_of files program)
+-- the terms of rule sets are the environment's
+pub sets_within : (env : TermTables) (d : AreDefined env) (sets : List (TermId × RulesOverSites)) → AreSetsOf env d sets
+    → All (λ (set : TermId × RulesOverSites). set.0.0 < length env.terms) sets
+sets_within env d sets are = All-weaker (IsTermSet env d) (λ (set : TermId × RulesOverSites). set.0.0 < length env.terms)
+    (λ set has. subst (λ (n : ℕ). n < length env.terms) has.0.of_term (root_within env d has.0.place has.0.rule has.0.at)) sets are.each
+
+-- so are those of rules
+pub rules_within : (env : TermTables) → AreDefined env → All (λ (rule : Rule). rule.root_term.0 < length env.terms) env.rules
+rules_within env d = all_places (λ (rule : Rule). rule.root_term.0 < length env.terms) env.rules (term_within env d)

@@ -32,7 +32,7 @@ pub some_count : (tokens : List Token) (count : ℕ) (v : ValueTree) → take co
 some_count tokens zero v is = absurd (no_end v [] (append-nil (tokens_of v) ∙ sym is))
 some_count tokens (suc count) v is = omega arith
 
-drop_more : {X : Type 0} (n m : ℕ) (xs : List X) → drop (n + m) xs ≡ drop m (drop n xs)
+pub drop_more : {X : Type 0} (n m : ℕ) (xs : List X) → drop (n + m) xs ≡ drop m (drop n xs)
 drop_more zero m xs = ap (λ k. drop k xs) (let e : 0 + m ≡ m = omega arith in e)
 drop_more (suc n) zero [] = ap (λ k. drop k []) (let e : suc n + 0 ≡ suc n = omega arith in e)
 drop_more (suc n) (suc m) [] = ap (λ k. drop k []) (let e : suc n + suc m ≡ suc (suc (n + m)) = omega arith in e)

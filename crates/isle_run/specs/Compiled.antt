@@ -13,11 +13,13 @@ use Rattle.isle_terms.specs.TypedRules.{TypedRule}
 use Rattle.isle_terms.specs.TypingFaults.{AreTypingFaults}
 use Rattle.isle_terms.specs.Collecting.Environments.{ShowsTerms}
 use Rattle.isle_terms.specs.Meaning.Facts.{TermFacts, facts_of}
+use Rattle.isle_blocks.specs.Building.Naming.{HaveFewArguments}
+use Rattle.isle_blocks.specs.DefinedSets.{AreSetsOf}
 use Rattle.isle_blocks.specs.RuleFaults.{AreFaultless, AreRuleErrors}
 use Rattle.isle_run.specs.declared.program.Program.{Program}
 use Rattle.isle_run.specs.declared.compiler.Refused.{Refused}
 use Rattle.isle_run.specs.declared.compiler.Refused.TheVariants.{Faults, Memory}
-use Rattle.isle_run.specs.Programs.{types_of, terms_of}
+use Rattle.isle_run.specs.Programs.{types_of, terms_of, rule_sets_of}
 
 -- the texts of files, which are numbered from `first`, spell these definitions, joined in the order of the files
 abbrev pub AreSpelt : (first : ℕ) → List SourceFile → List Def → Type 0
@@ -61,7 +63,8 @@ pub record AreAccepted (files : List SourceFile) : Type 0 where
   pub faultless : AreFaultless (facts_in files typed) (rules_of files typed)
 
 -- the program of files: their texts are spelt, the definitions make an environment of types and one of terms over it, and the
--- program's tables show both, with internal extractors put in; each name is interned once, and no rule has a fault
+-- program's tables show both, with internal extractors put in; each name is interned once, and no rule has a fault; the program has
+-- the rule set of each term with rules
 pub record IsProgramOf (files : List SourceFile) (program : Program) : Type 0 where
   pub defs : List Def
   pub types : Environment
@@ -72,6 +75,17 @@ pub record IsProgramOf (files : List SourceFile) (program : Program) : Type 0 wh
   pub terms : ShowsTerms (types_of program) (terms_of program) types max_levels max_nodes defs
   pub expands : (terms_of program).expands ≡ true
   pub faultless : AreFaultless (facts_of (declared_by types true terms.environment)) terms.environment.rules
+  pub few : HaveFewArguments (terms_of program).terms
+  pub sets : AreSetsOf (terms_of program) (record {
+    tyenv = types_of program;
+    types = types;
+    levels = max_levels;
+    max = max_nodes;
+    defs = defs;
+    once = once;
+    shows = terms;
+    few = few;
+  }) (rule_sets_of program)
 
 -- an error is the fault of the first text that isn't spelt
 pub record IsFirstFault (files : List SourceFile) (error : Error) : Type 0 where

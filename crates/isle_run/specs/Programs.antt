@@ -1,6 +1,5 @@
 -- What a program holds.
-use Rattle.std.specs.Prelude.{◌==◌, ◌&&◌, ℕ, Bool, List, [], map, Option, Some, None, slice_get}
-use Rattle.std.specs.List.{list_any}
+use Rattle.std.specs.Prelude.{unwrap_or, ◌&&◌, ℕ, Bool, List, [], map, Option, Some, None, slice_get}
 use Rattle.std.specs.Option.{option_map, option_and_then}
 use Rattle.isle_types.specs.declared.ids.TermId.{TermId}
 use Rattle.isle_types.specs.declared.ids.TypeId.{TypeId}
@@ -12,11 +11,13 @@ use Rattle.isle_terms.specs.declared.terms.TermKind.{TermKind}
 use Rattle.isle_terms.specs.declared.terms.TermKind.TheVariants.{EnumVariant, Struct, Decl}
 use Rattle.isle_terms.specs.Meaning.ValueTypes.{TypeKind, truth_kind, integer_kind, primitive_kind, data_kind, no_kind, ValueFacts}
 use Rattle.isle_types.specs.TypeTables.{TypeTables}
-use Rattle.isle_types.specs.TypeEnvs.{sym_named, type_of_constant}
+use Rattle.isle_types.specs.TypeEnvs.{name_of, sym_named, type_of_constant}
 use Rattle.isle_terms.specs.declared.rules.Rule.{Rule}
 use Rattle.isle_terms.specs.Shown.TermTables.{TermTables, term_with}
+use Rattle.isle_blocks.specs.RuleSets.{RulesOverSites}
 use Rattle.isle_run.specs.declared.program.Program.{Program}
 use Rattle.isle_run.specs.PlainLanguage.{is_plain}
+use Rattle.isle_run.specs.Reach.{is_root}
 
 -- its types and names
 abbrev pub types_of : Program → TypeTables
@@ -30,9 +31,21 @@ terms_of program = program.termenv
 abbrev pub rules_in : Program → List Rule
 rules_in program = program.termenv.rules
 
+-- the rule sets of its terms with rules, ascending by the term
+abbrev pub rule_sets_of : Program → List (TermId × RulesOverSites)
+rule_sets_of program = program.rule_sets.items
+
 -- the term of a name
 abbrev pub term_named : Program → List ℕ → Option TermId
 term_named program name = option_and_then (term_with program.termenv) (sym_named program.tyenv name)
+
+-- the name of a term; empty where there is no such term
+abbrev pub name_in : Program → Option Term → List ℕ
+name_in program None = []
+name_in program (Some term) = unwrap_or (name_of program.tyenv term.name) []
+
+abbrev pub term_name : Program → TermId → List ℕ
+term_name program term = name_in program (slice_get program.termenv.terms term.0)
 
 -- whether all its terms and rules are of the plain language
 abbrev pub is_plain_program : Program → Bool
@@ -40,11 +53,11 @@ is_plain_program program = is_plain program.tyenv program.termenv
 
 -- whether a term is the root of a rule
 abbrev pub has_rules : Program → TermId → Bool
-has_rules program term = list_any (λ rule. rule.root_term.0 == term.0) (rules_in program)
+has_rules program term = is_root (terms_of program) term.0
 
 -- whether a term can be called: the program is plain, and the term has rules
-abbrev pub is_runnable : Program → TermId → Bool
-is_runnable program term = is_plain_program program && has_rules program term
+abbrev pub is_callable : Program → TermId → Bool
+is_callable program term = is_plain_program program && has_rules program term
 
 -- what kind of values a type has
 abbrev pub kind_of_type : Option KnownType → TypeKind

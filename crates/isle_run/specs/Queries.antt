@@ -9,14 +9,15 @@ use Rattle.isle_run.specs.declared.query.QueryFault.TheVariants.{Q1, Q2, Q3, Q4,
 use Rattle.isle_terms.specs.Meaning.ValueTypes.{AreOfTypes}
 use Rattle.isle_syntax.specs.declared.lexer.Token.{Token}
 use Rattle.isle_run.specs.Lists.{IsListOf}
-use Rattle.isle_run.specs.Programs.{term_named, is_runnable, value_facts, types_taken}
+use Rattle.isle_run.specs.Programs.{term_named, is_callable, value_facts, types_taken}
+use Rattle.isle_run.specs.Settled.{settled_all}
 use Rattle.isle_run.specs.TextTokens.{AreTokensOf, HasTokenFault}
 use Rattle.isle_run.specs.ValueTokens.{tokens_all, AreSpellable, SpellArguments}
 
 -- a refusal of the call of a name: the first of its causes that holds
 abbrev pub RefusesName : Program → List ℕ → QueryFault → Type 0
 RefusesName program name Q1 = term_named program name ≡ None
-RefusesName program name Q2 = (term : TermId) × (term_named program name ≡ Some term) × (is_runnable program term ≡ false)
+RefusesName program name Q2 = (term : TermId) × (term_named program name ≡ Some term) × (is_callable program term ≡ false)
 RefusesName program name Q3 = ⊥
 RefusesName program name Q4 = ⊥
 RefusesName program name (Memory e) = Unit {0}
@@ -25,15 +26,24 @@ RefusesName program name (Memory e) = Unit {0}
 abbrev pub IsTextOf : List ℕ → List ℕ → List Token → Type 0
 IsTextOf text name rest = (tokens : List Token) × AreTokensOf text tokens × IsListOf tokens name rest
 
+-- values, read at types, are these, and of these types
+abbrev pub AreSettled : Program → ValueTrees → List ℕ → ValueTrees → Type 0
+AreSettled program spelt types values = (settled_all (value_facts program) spelt types ≡ values) × AreOfTypes (value_facts program) values types
+
+-- no values that the tokens spell are, read at the types that a term takes, of these types
+abbrev pub NoneAreTyped : Program → TermId → List Token → Type 0
+NoneAreTyped program term tokens = (spelt : ValueTrees) → SpellArguments tokens spelt
+    → AreOfTypes (value_facts program) (settled_all (value_facts program) spelt (types_taken program term)) (types_taken program term) → ⊥
+
 -- a refusal of a text: no token begins in it where one should, or it isn't one list that begins with a symbol; else the first
 -- cause that holds of the call of its name
 abbrev pub RefusesText : Program → List ℕ → QueryFault → Type 0
 RefusesText program text Q1 = (name : List ℕ) × (rest : List Token) × IsTextOf text name rest × (term_named program name ≡ None)
 RefusesText program text Q2 = (name : List ℕ) × (rest : List Token) × (term : TermId) × IsTextOf text name rest × (term_named program name ≡ Some term)
-    × (is_runnable program term ≡ false)
+    × (is_callable program term ≡ false)
 RefusesText program text Q3 = (name : List ℕ) × (rest : List Token) × (term : TermId) × IsTextOf text name rest × (term_named program name ≡ Some term)
-    × (is_runnable program term ≡ true)
-    × ((args : ValueTrees) → SpellArguments rest args → AreOfTypes (value_facts program) args (types_taken program term) → ⊥)
+    × (is_callable program term ≡ true)
+    × NoneAreTyped program term rest
 RefusesText program text Q4 = HasTokenFault text ⊎ ((tokens : List Token) × AreTokensOf text tokens × ((name : List ℕ) (rest : List Token)
     → IsListOf tokens name rest → ⊥))
 RefusesText program text (Memory e) = Unit {0}
@@ -42,8 +52,10 @@ RefusesText program text (Memory e) = Unit {0}
 abbrev pub SpellsCall : List ℕ → List ℕ → ValueTrees → Type 0
 SpellsCall text name args = AreSpellable args × AreTokensOf text (LParen ∷ Symbol name ∷ (tokens_all args ++ RParen ∷ []))
 
--- the call of a term that a text spells
+-- the call of a term that a text spells: its arguments are what is spelt, read at the types that the term takes
 pub record IsCallIn (program : Program) (text : List ℕ) (term : TermId) (args : ValueTrees) : Type 0 where
   pub name : List ℕ
+  pub arguments : ValueTrees
   pub named : term_named program name ≡ Some term
-  pub spelt : SpellsCall text name args
+  pub spelt : SpellsCall text name arguments
+  pub settles : settled_all (value_facts program) arguments (types_taken program term) ≡ args

@@ -55,9 +55,9 @@ fn compile_files(alloc: Global, files: &Files) -> Result<Program, Refusal<Vec<Er
     let defs = parsed.as_slice();
     let mut tyenv = TypeEnv::from_ast(alloc, defs)?;
     let termenv = TermEnv::from_ast(alloc, &mut tyenv, defs, true)?;
-    let program = Program::new(alloc, tyenv, termenv)?;
-    check(alloc, program.terms())?;
-    Ok(program)
+    let _names = tyenv.syms();
+    let rule_sets = check(alloc, &termenv)?;
+    Ok(Program::new(alloc, tyenv, termenv, rule_sets)?)
 }
 
 /// The definitions of all texts, or the fault of the first one that has one.

@@ -3,6 +3,8 @@
 
 mod answer;
 mod compiler;
+pub mod laws;
+mod numbers;
 mod plain;
 mod plain_language;
 mod program;
@@ -18,5 +20,5 @@ pub use compiler::{Refused, compile};
 pub use isle_types::{TermId, TypeId};
 pub use program::Program;
 pub use query::{QueryFault, is_blank};
-pub use value::Value;
-pub use world::World;
+pub use value::{Value, ValueFault};
+pub use world::{Side, TableWorld, World, WorldFault};

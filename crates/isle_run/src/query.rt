@@ -2,6 +2,8 @@ ghost use Rattle.std.specs.Prelude.{◌≡◌, ◌↔◌, ◌<◌, ℕ, List, []
 ghost use Rattle.isle_terms.specs.Values.{ValueTrees, value_list};
 ghost use Rattle.isle_terms.specs.Meaning.ValueTypes.{AreOfTypes};
 ghost use Rattle.isle_run.specs.Programs.{value_facts, number_of, types_taken};
+ghost use Rattle.isle_run.specs.Settled.{settled_all};
+ghost use Rattle.isle_run.specs.Queries.{NoneAreTyped, AreSettled};
 ghost use Rattle.isle_run.specs.ValueTokens.{SpellArguments};
 ghost use Rattle.isle_run.specs.TextTokens.{AreTokensOf};
 ghost use Rattle.isle_run.specs.Lists.{Closes, IsListOf, opened_after};
@@ -20,7 +22,7 @@ use std::alloc::{AllocError, Global};
 pub enum QueryFault {
     /// No term has this name.
     Q1,
-    /// The term isn't runnable.
+    /// The term can't be called.
     Q2,
     /// The number of arguments is another one, or one isn't a value of its type.
     Q3,
@@ -97,19 +99,19 @@ fn head_of(tokens: &[Token]) -> Option<(&str, &[Token])>
 
 impl Program {
     ghost use Rattle.std.specs.Prelude.{◌≡◌, IfOk, IfErr, Some, true};
-    ghost use Rattle.isle_run.specs.Programs.{term_named, is_runnable};
+    ghost use Rattle.isle_run.specs.Programs.{term_named, is_callable};
     ghost use Rattle.isle_run.specs.Queries.{RefusesName, RefusesText, IsCallIn};
 
     /// The term of a name, where it can be called.
     fn callable(&self, name: &str) -> Result<TermId, QueryFault>
         ensures named { IfOk result (λ term. term_named self.now name.now ≡ Some term) }
-        ensures runnable { IfOk result (λ term. is_runnable self.now term ≡ true) }
+        ensures callable { IfOk result (λ term. is_callable self.now term ≡ true) }
         ensures refused { IfErr result (RefusesName self.now name.now) }
     {
         let Some(term) = self.term(name) else {
             return Err(QueryFault::Q1);
         };
-        if self.runnable(term) {
+        if self.is_callable(term) {
             Ok(term)
         } else {
             Err(QueryFault::Q2)
@@ -118,7 +120,7 @@ impl Program {
 
     /// The call that a text spells.
     pub fn query(&self, alloc: Global, text: &str) -> Result<(TermId, Vec<Value>), QueryFault>
-        ensures runnable { IfOk result (λ call. is_runnable self.now call.0 ≡ true) }
+        ensures callable { IfOk result (λ call. is_callable self.now call.0 ≡ true) }
         ensures spelt { IfOk result (λ call. IsCallIn self.now text.now call.0 (value_list call.1.items)) }
         ensures typed { IfOk result (λ call. AreOfTypes (value_facts self.now) (value_list call.1.items) (types_taken self.now call.0)) }
         ensures refused { IfErr result (RefusesText self.now text.now) }
@@ -147,34 +149,38 @@ fn read_args(
     term: TermId,
     tokens: &[Token],
 ) -> Result<Option<Vec<Value>>, AllocError>
+    ensures spelt { IfOk result (λ r. IfSome r (λ args. (spelt : ValueTrees) × SpellArguments tokens.now spelt
+        × (settled_all (value_facts program.now) spelt (types_taken program.now term) ≡ value_list args.items))) }
     ensures typed { IfOk result (λ r. IfSome r (λ args. AreOfTypes (value_facts program.now) (value_list args.items) (types_taken program.now term))) }
-    ensures spelt { IfOk result (λ r. IfSome r (λ args. SpellArguments tokens.now (value_list args.items))) }
-    ensures none { IfOk result (λ r. IfNone r ((args : ValueTrees) → SpellArguments tokens.now args
-        → AreOfTypes (value_facts program.now) args (types_taken program.now term) → ⊥)) }
+    ensures none { IfOk result (λ r. IfNone r (NoneAreTyped program.now term tokens.now)) }
 {
-    let Some(args) = read_values(alloc, tokens)? else {
-        return Ok(None);
-    };
-    if have_types(program, args.as_slice(), program.arg_types(term)) {
-        Ok(Some(args))
-    } else {
-        Ok(None)
+    match read_values(alloc, tokens)? {
+        Some(values) => settle_values(alloc, program, values, program.arg_types(term)),
+        None => Ok(None),
     }
 }
 
-/// Whether values are of these types, one each.
-fn have_types(program: &Program, values: &[Value], types: &[TypeId]) -> bool
-    ensures { IsTrue result ↔ AreOfTypes (value_facts program.now) (value_list values.now) (map number_of types.now) }
+/// Values, read at these types, one each, where they are then of these.
+pub(crate) fn settle_values(
+    alloc: Global,
+    program: &Program,
+    values: Vec<Value>,
+    types: &[TypeId],
+) -> Result<Option<Vec<Value>>, AllocError>
+    ensures some { IfOk result (λ r. IfSome r (λ settled. AreSettled program.now (value_list values.items) (map number_of types.now) (value_list settled.items))) }
+    ensures none { IfOk result (λ r. IfNone r ((settled : ValueTrees) → AreSettled program.now (value_list values.items) (map number_of types.now) settled → ⊥)) }
 {
     if values.len() != types.len() {
-        return false;
+        return Ok(None);
     }
-    for i in 0..values.len() {
-        if !program.has_type(&values[i], types[i]) {
-            return false;
-        }
+    let mut settled = Vec::new(alloc);
+    for value in values {
+        let Some(value) = value.settle(alloc, program, types[settled.len()])? else {
+            return Ok(None);
+        };
+        settled.push(value)?;
     }
-    true
+    Ok(Some(settled))
 }
 
 /// The values that tokens spell one behind the other, up to a closing parenthesis at the end.

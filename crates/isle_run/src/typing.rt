@@ -71,7 +71,7 @@ impl Program {
     }
 
     /// Whether a node is that of a value of a type, as far as the node itself tells.
-    fn node_fits(&self, node: &Node, ty: TypeId) -> bool
+    pub(crate) fn node_fits(&self, node: &Node, ty: TypeId) -> bool
         ensures { IsTrue result ↔ NodeFits (value_facts self.now) node.now ty.0 }
     {
         match node {

@@ -1,17 +1,29 @@
 //! Ground values.
 ghost use Rattle.std.specs.Prelude.{◌≡◌, ◌++◌, ◌+◌, ◌≤◌, ℕ, List, IfOk, string_bytes};
+ghost use Rattle.isle_syntax.specs.declared.lexer.Token.{Token};
+ghost use Rattle.isle_terms.specs.Meaning.ValueTypes.{ValueFacts, IsOfType};
+ghost use Rattle.isle_run.specs.HeldValues.{IsHeldNode};
 ghost use Rattle.isle_run.specs.Nodes.{nodes_of, nodes_below};
+ghost use Rattle.isle_run.specs.Settled.{SpellTyped};
+ghost use Rattle.isle_run.specs.TextTokens.{AreTokensOf};
+ghost use Rattle.isle_run.specs.ValueTokens.{IsSpellable};
 ghost use Rattle.isle_run.specs.ValueText.{value_text, node_text, end_of, Closes};
 
+mod copies;
+mod making;
+mod parsing;
 mod reading;
+mod settling;
 
 use isle_syntax::Text;
+pub(crate) use making::nodes_of_all;
+pub use parsing::ValueFault;
 pub(crate) use reading::read_front;
 use std::alloc::{AllocError, Global};
 use std::marker::Model;
 
 /// A node of a value. The nodes of the fields of data follow it, field by field.
-#[derive(Debug, Clone, PartialEq, Eq, Drop)]
+#[derive(Debug, Clone, PartialEq, Eq, PartialOrd, Ord, Drop)]
 pub enum Node {
     Bool(bool),
     /// From -2^127 to 2^127 - 1.
@@ -67,9 +79,11 @@ impl Value {
         self.nodes.as_slice()
     }
 
-    /// The value's text: `true`, `-5`, `$NAME`, `v7` or `(Op.Add 1 2)`.
+    /// The value's text: `true`, `-5`, `$NAME`, `v7` or `(Op.Add 1 2)`. At each of its types that is read back as the value.
     pub fn print(&self, alloc: Global) -> Result<String, AllocError>
-        ensures { IfOk result (λ text. string_bytes text ≡ value_text self.now) }
+        ensures text { IfOk result (λ text. string_bytes text ≡ value_text self.now) }
+        ensures reads_back { IfOk result (λ text. (facts : ValueFacts) (ty : ℕ) → IsOfType facts self.now ty → IsSpellable self.now
+            → (tokens : List Token) × AreTokensOf (string_bytes text) tokens × SpellTyped facts tokens self.now ty) }
     {
         let nodes = self.nodes.as_slice();
         let mut text = String::new(alloc);
@@ -96,10 +110,14 @@ fn write_node(
     requires { after + nodes_below node.now ≤ usize.MAX }
     ensures text { IfOk result (λ _. string_bytes text.new ≡ string_bytes text.old ++ node_text node.now) }
     ensures ends { IfOk result (λ _. ends.new.items ≡ ends.old.items ++ end_of after node.now) }
+    ensures held { IfOk result (λ _. IsHeldNode node.now) }
 {
     match node {
         Node::Bool(b) => text.push_str(if *b { "true" } else { "false" }),
-        Node::Int(n) => text.push_str(n.to_string(alloc)?.as_str()),
+        Node::Int(n) => {
+            let n = *n;
+            text.push_str(n.to_string(alloc)?.as_str())
+        }
         Node::Big(n) => text.push_str(n.to_string(alloc)?.as_str()),
         Node::Const(name) => {
             text.push('$')?;

@@ -1,12 +1,9 @@
-use Rattle.std.proofs.Common.{subst, sym, ◌∙◌}
 use Rattle.std.specs.List.{All}
 use Rattle.std.proofs.lemmas.Result.{err_from_is_err_and}
 use Rattle.isle_syntax.specs.Positions.Printable.{IsPrintablePos}
 use Rattle.isle_terms.specs.TypedTrees.{TypedRuleAt}
-use Rattle.isle_terms.specs.Shown.TermTables.{TermTables}
 use Rattle.isle_terms.proofs.PlainTemplates.{plain_templates}
-use Rattle.isle_run.specs.Programs.{types_of}
-use Rattle.isle_run.proofs.Layers.{text_faults, type_faults, term_faults, rule_faults, rule_faults_at, show_files, defined_files, accepts, compiles}
+use Rattle.isle_run.proofs.Layers.{text_faults, type_faults, term_faults, rule_faults, rule_faults_at, ShowFiles, defined_files, accepts, program_of, sets_within, rules_within}
 use Rattle.isle_run.proofs.compiler.compile_files.Goals as goal
 
 pub returns-in_err-parsed-clause-faults : goal.returns-in_err-parsed-clause-faults
@@ -44,51 +41,98 @@ returns-in_err-termenv-clause-printable c =
 pub check-requires : goal.check-requires
 check-requires c =
     let made = c.in_ok-tyenv.ensures.made in
-    let shown = show_files c.args.files.now c.as_slice-defs.result.now made.environment c.from_ast-2.new.tyenv c.in_ok-termenv.termenv
-    (types_of c.in_ok-program.program) c.terms.result.now (rw c.as_slice-defs.ensures.value c.in_ok-parsed.ensures.spelt) made.makes
-    c.in_ok-tyenv.ensures.within c.in_ok-program.ensures.once (c.in_ok-termenv.ensures.made made.environment made.shows)
-    c.in_ok-termenv.ensures.expands c.in_ok-program.ensures.types (c.terms.ensures ∙ c.in_ok-program.ensures.terms) in
-    record { defined = defined_files c.args.files.now (types_of c.in_ok-program.program) c.terms.result.now shown }
+    let shown : ShowFiles c.args.files.now c.from_ast-2.new.tyenv c.in_ok-termenv.termenv = record {
+      defs = c.as_slice-defs.result.now;
+      types = made.environment;
+      spelt = rw c.as_slice-defs.ensures.value c.in_ok-parsed.ensures.spelt;
+      made = made.makes;
+      within = c.in_ok-tyenv.ensures.within;
+      once = c.syms-names.ensures.once;
+      terms = c.in_ok-termenv.ensures.made made.environment made.shows;
+      expands = c.in_ok-termenv.ensures.expands;
+    } in
+    record { defined = defined_files c.args.files.now c.from_ast-2.new.tyenv c.in_ok-termenv.termenv shown }
+
+pub new-requires : goal.new-requires
+new-requires c =
+    let made = c.in_ok-tyenv.ensures.made in
+    let shown : ShowFiles c.args.files.now c.from_ast-2.new.tyenv c.in_ok-termenv.termenv = record {
+      defs = c.as_slice-defs.result.now;
+      types = made.environment;
+      spelt = rw c.as_slice-defs.ensures.value c.in_ok-parsed.ensures.spelt;
+      made = made.makes;
+      within = c.in_ok-tyenv.ensures.within;
+      once = c.syms-names.ensures.once;
+      terms = c.in_ok-termenv.ensures.made made.environment made.shows;
+      expands = c.in_ok-termenv.ensures.expands;
+    } in
+    let env = c.in_ok-termenv.termenv in
+    let d = defined_files c.args.files.now c.from_ast-2.new.tyenv env shown in
+    record { rooted = rules_within env d; within = sets_within env d c.in_ok-rule_sets.rule_sets.items (c.in_ok-rule_sets.ensures.sets d) }
 
 pub returns-clause-accepted : goal.returns-clause-accepted
 returns-clause-accepted c =
     let made = c.in_ok-tyenv.ensures.made in
-    let shown = show_files c.args.files.now c.as_slice-defs.result.now made.environment c.from_ast-2.new.tyenv c.in_ok-termenv.termenv
-    (types_of c.in_ok-program.program) c.terms.result.now (rw c.as_slice-defs.ensures.value c.in_ok-parsed.ensures.spelt) made.makes
-    c.in_ok-tyenv.ensures.within c.in_ok-program.ensures.once (c.in_ok-termenv.ensures.made made.environment made.shows)
-    c.in_ok-termenv.ensures.expands c.in_ok-program.ensures.types (c.terms.ensures ∙ c.in_ok-program.ensures.terms) in
-    accepts c.args.files.now (types_of c.in_ok-program.program) c.terms.result.now shown c.in_ok-check.ensures.faultless
+    let shown : ShowFiles c.args.files.now c.from_ast-2.new.tyenv c.in_ok-termenv.termenv = record {
+      defs = c.as_slice-defs.result.now;
+      types = made.environment;
+      spelt = rw c.as_slice-defs.ensures.value c.in_ok-parsed.ensures.spelt;
+      made = made.makes;
+      within = c.in_ok-tyenv.ensures.within;
+      once = c.syms-names.ensures.once;
+      terms = c.in_ok-termenv.ensures.made made.environment made.shows;
+      expands = c.in_ok-termenv.ensures.expands;
+    } in
+    accepts c.args.files.now c.from_ast-2.new.tyenv c.in_ok-termenv.termenv shown c.in_ok-rule_sets.ensures.faultless
 
 pub returns-clause-compiled : goal.returns-clause-compiled
 returns-clause-compiled c =
     let made = c.in_ok-tyenv.ensures.made in
-    let shown = show_files c.args.files.now c.as_slice-defs.result.now made.environment c.from_ast-2.new.tyenv c.in_ok-termenv.termenv
-    (types_of c.in_ok-program.program) c.terms.result.now (rw c.as_slice-defs.ensures.value c.in_ok-parsed.ensures.spelt) made.makes
-    c.in_ok-tyenv.ensures.within c.in_ok-program.ensures.once (c.in_ok-termenv.ensures.made made.environment made.shows)
-    c.in_ok-termenv.ensures.expands c.in_ok-program.ensures.types (c.terms.ensures ∙ c.in_ok-program.ensures.terms) in
-    compiles c.args.files.now c.in_ok-program.program c.terms.result.now c.terms.ensures shown c.in_ok-check.ensures.faultless
+    let shown : ShowFiles c.args.files.now c.from_ast-2.new.tyenv c.in_ok-termenv.termenv = record {
+      defs = c.as_slice-defs.result.now;
+      types = made.environment;
+      spelt = rw c.as_slice-defs.ensures.value c.in_ok-parsed.ensures.spelt;
+      made = made.makes;
+      within = c.in_ok-tyenv.ensures.within;
+      once = c.syms-names.ensures.once;
+      terms = c.in_ok-termenv.ensures.made made.environment made.shows;
+      expands = c.in_ok-termenv.ensures.expands;
+    } in
+    program_of c.args.files.now c.in_ok-new.field-0 c.from_ast-2.new.tyenv c.in_ok-termenv.termenv c.in_ok-rule_sets.rule_sets.items shown
+    c.in_ok-new.ensures.types c.in_ok-new.ensures.terms c.in_ok-new.ensures.sets c.in_ok-rule_sets.ensures.faultless c.in_ok-rule_sets.ensures.sets
 
-pub returns-in_err-check-clause-faults : goal.returns-in_err-check-clause-faults
-returns-in_err-check-clause-faults c =
-    let p = err_from_is_err_and c.from_residual-in_err-check.result c.from_residual-in_err-check.ensures.1 in
+pub returns-in_err-rule_sets-clause-faults : goal.returns-in_err-rule_sets-clause-faults
+returns-in_err-rule_sets-clause-faults c =
     let made = c.in_ok-tyenv.ensures.made in
-    let shown = show_files c.args.files.now c.as_slice-defs.result.now made.environment c.from_ast-2.new.tyenv c.in_ok-termenv.termenv
-    (types_of c.in_ok-program.program) c.terms.result.now (rw c.as_slice-defs.ensures.value c.in_ok-parsed.ensures.spelt) made.makes
-    c.in_ok-tyenv.ensures.within c.in_ok-program.ensures.once (c.in_ok-termenv.ensures.made made.environment made.shows)
-    c.in_ok-termenv.ensures.expands c.in_ok-program.ensures.types (c.terms.ensures ∙ c.in_ok-program.ensures.terms) in
-    rw (p.1, p.2) (rule_faults c.args.files.now (types_of c.in_ok-program.program) c.terms.result.now shown c.in_err-check.field-0.0
-    c.in_err-check.ensures.faults)
+    let shown : ShowFiles c.args.files.now c.from_ast-2.new.tyenv c.in_ok-termenv.termenv = record {
+      defs = c.as_slice-defs.result.now;
+      types = made.environment;
+      spelt = rw c.as_slice-defs.ensures.value c.in_ok-parsed.ensures.spelt;
+      made = made.makes;
+      within = c.in_ok-tyenv.ensures.within;
+      once = c.syms-names.ensures.once;
+      terms = c.in_ok-termenv.ensures.made made.environment made.shows;
+      expands = c.in_ok-termenv.ensures.expands;
+    } in
+    let p = err_from_is_err_and c.from_residual-in_err-rule_sets.result c.from_residual-in_err-rule_sets.ensures.1 in
+    rw (p.1, p.2) (rule_faults c.args.files.now c.from_ast-2.new.tyenv c.in_ok-termenv.termenv shown c.in_err-rule_sets.field-0.0
+    c.in_err-rule_sets.ensures.faults)
 
-pub returns-in_err-check-clause-printable : goal.returns-in_err-check-clause-printable
-returns-in_err-check-clause-printable c =
-    let p = err_from_is_err_and c.from_residual-in_err-check.result c.from_residual-in_err-check.ensures.1 in
+pub returns-in_err-rule_sets-clause-printable : goal.returns-in_err-rule_sets-clause-printable
+returns-in_err-rule_sets-clause-printable c =
     let made = c.in_ok-tyenv.ensures.made in
-    let shown = show_files c.args.files.now c.as_slice-defs.result.now made.environment c.from_ast-2.new.tyenv c.in_ok-termenv.termenv
-    (types_of c.in_ok-program.program) c.terms.result.now (rw c.as_slice-defs.ensures.value c.in_ok-parsed.ensures.spelt) made.makes
-    c.in_ok-tyenv.ensures.within c.in_ok-program.ensures.once (c.in_ok-termenv.ensures.made made.environment made.shows)
-    c.in_ok-termenv.ensures.expands c.in_ok-program.ensures.types (c.terms.ensures ∙ c.in_ok-program.ensures.terms) in
-    let placed : All (TypedRuleAt (IsPrintablePos c.args.files.now)) c.terms.result.now.rules =
-    subst (λ (e : TermTables). All (TypedRuleAt (IsPrintablePos c.args.files.now)) e.rules) (sym (c.terms.ensures ∙ c.in_ok-program.ensures.terms))
-    (c.in_ok-termenv.ensures.placed c.args.files.now (rw c.as_slice-defs.ensures.value c.in_ok-parsed.ensures.placed)) in
-    rw (p.1, p.2) (rule_faults_at c.args.files.now (types_of c.in_ok-program.program) c.terms.result.now shown c.in_err-check.field-0.0 placed
-    c.in_err-check.ensures.faults)
+    let shown : ShowFiles c.args.files.now c.from_ast-2.new.tyenv c.in_ok-termenv.termenv = record {
+      defs = c.as_slice-defs.result.now;
+      types = made.environment;
+      spelt = rw c.as_slice-defs.ensures.value c.in_ok-parsed.ensures.spelt;
+      made = made.makes;
+      within = c.in_ok-tyenv.ensures.within;
+      once = c.syms-names.ensures.once;
+      terms = c.in_ok-termenv.ensures.made made.environment made.shows;
+      expands = c.in_ok-termenv.ensures.expands;
+    } in
+    let p = err_from_is_err_and c.from_residual-in_err-rule_sets.result c.from_residual-in_err-rule_sets.ensures.1 in
+    let placed : All (TypedRuleAt (IsPrintablePos c.args.files.now)) c.in_ok-termenv.termenv.rules =
+    c.in_ok-termenv.ensures.placed c.args.files.now (rw c.as_slice-defs.ensures.value c.in_ok-parsed.ensures.placed) in
+    rw (p.1, p.2) (rule_faults_at c.args.files.now c.from_ast-2.new.tyenv c.in_ok-termenv.termenv shown c.in_err-rule_sets.field-0.0 placed
+    c.in_err-rule_sets.ensures.faults)

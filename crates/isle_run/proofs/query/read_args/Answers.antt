@@ -1,18 +1,31 @@
-use Rattle.std.proofs.Common.{[], Vec, Global, map, sym, ◌∙◌, subst}
-use Rattle.std.specs.Prelude.{IfSome}
-use Rattle.isle_terms.specs.Values.{ValueTree, value_list}
+use Rattle.std.proofs.Common.{◌≡◌, [], Vec, Global, Option, Some, None, Result, Ok, Err, IfOk, map, refl, sym, ◌∙◌, subst}
+use Rattle.std.specs.Prelude.{IfSome, IfNone}
+use Rattle.isle_terms.specs.Values.{ValueTree, ValueTrees, value_list}
 use Rattle.isle_terms.specs.Meaning.ValueTypes.{AreOfTypes}
 use Rattle.isle_run.specs.Programs.{value_facts, number_of, types_taken}
+use Rattle.isle_run.specs.Queries.{AreSettled, NoneAreTyped}
+use Rattle.isle_run.specs.Settled.{settled_all}
 use Rattle.isle_run.specs.ValueTokens.{SpellArguments}
 use Rattle.isle_run.proofs.OneSpelling.{all_spelling}
 use Rattle.isle_run.proofs.query.read_args.Goals as goal
 
-pub returns-else-have_types-clause-none : goal.returns-else-have_types-clause-none
-returns-else-have_types-clause-none c = λ args spelt of.
-    let facts = value_facts c.args.program.now in let read = value_list c.in-Some.args.items in
-    let mine = subst (λ o. IfSome o (λ (values : Vec ValueTree Global). SpellArguments c.args.tokens.now (value_list values.items))) c.in-Some.is c.in_ok-args.ensures.some in
-    let (same, rest) = all_spelling args read [] [] spelt.0 mine.0 (sym spelt.1 ∙ mine.1) in
-    let typed = subst (λ a. AreOfTypes facts a (types_taken c.args.program.now c.args.term)) same of in
-    let yes = c.have_types.ensures.1 (subst (λ l. AreOfTypes facts (value_list l) (map number_of c.arg_types.result.now)) (sym c.as_slice.ensures.value)
-    (subst (λ l. AreOfTypes facts read l) (sym c.arg_types.ensures) typed)) in
-    let not = c.if-have_types.false in absurd cc
+-- a fact of nothing, from another
+none_too : {T E : Type 0} (r : Result (Option T) E) (P Q : Type 0) → (P → Q) → IfOk r (λ o. IfNone o P) → IfOk r (λ o. IfNone o Q)
+none_too (Ok None) P Q f p = f p
+none_too (Ok (Some x)) P Q f p = p
+none_too (Err e) P Q f p = p
+
+pub returns-in-Some-clause-none : goal.returns-in-Some-clause-none
+returns-in-Some-clause-none c =
+    let program = c.args.program.now in let facts = value_facts program in let read = value_list c.in-Some.values.items in
+    let types = types_taken program c.args.term in
+    let mine = subst (λ o. IfSome o (λ (values : Vec ValueTree Global). SpellArguments c.args.tokens.now (value_list values.items))) c.in-Some.is c.in_ok-values.ensures.some in
+    none_too c.settle_values.result ((values : ValueTrees) → AreSettled program read (map number_of c.arg_types.result.now) values → ⊥)
+    (NoneAreTyped program c.args.term c.args.tokens.now)
+    (λ never spelt spells of.
+    let (same, rest) = all_spelling spelt read [] [] spells.0 mine.0 (sym spells.1 ∙ mine.1) in
+    never (settled_all facts read types) (
+      subst (λ l. settled_all facts read l ≡ settled_all facts read types) (sym c.arg_types.ensures) refl,
+      subst (λ l. AreOfTypes facts (settled_all facts read types) l) (sym c.arg_types.ensures) (subst (λ l. AreOfTypes facts (settled_all facts l types) types) same of),
+    ))
+    c.settle_values.ensures.none

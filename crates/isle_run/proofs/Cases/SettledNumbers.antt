@@ -1,0 +1,41 @@
+-- The number 2^128 - 1 is -1 at a primitive type, also as a field, and stays what it is at `u128`.
+use Rattle.std.proofs.Common.{◌≡◌, ◌==◌, ℕ, [], ◌∷◌, Some, None, negsuc, refl, arith}
+use Rattle.std.specs.Prelude.{codes, if◌then◌else◌}
+use Rattle.isle_syntax.specs.declared.lexer.Token.TheVariants.{Big as BigToken}
+use Rattle.isle_types.specs.declared.types.IntType.TheVariants.{U128}
+use Rattle.isle_terms.specs.Values.{ValueTree, int_value, big_value, data_value, no_values, more_values}
+use Rattle.isle_terms.specs.Meaning.ValueTypes.{ValueFacts, IsOfType, integer_kind, primitive_kind, data_kind}
+use Rattle.isle_run.specs.Settled.{settled, SpellTyped}
+
+-- type 0 is primitive, 1 is `u128`, and 2 has the struct `Pair` with a field of each
+abbrev facts : ValueFacts
+facts = record {
+  kind = λ ty. if ty == 0 then primitive_kind else (if ty == 1 then integer_kind U128 else data_kind);
+  constant = λ name. None;
+  data_named = λ name. Some (2, 0 ∷ 1 ∷ []);
+}
+
+abbrev greatest : ℕ
+greatest = 340282366920938463463374607431768211455
+
+abbrev pair : ValueTree → ValueTree
+pair first = data_value (codes "Pair") (more_values first (more_values (big_value greatest) no_values))
+
+at_primitive : settled facts (big_value greatest) 0 ≡ int_value (negsuc 0)
+at_primitive = refl
+
+at_unsigned : settled facts (big_value greatest) 1 ≡ big_value greatest
+at_unsigned = refl
+
+-- as a number from 2^127 on it isn't of a primitive type
+never_big : IsOfType facts (big_value greatest) 0 → ⊥
+never_big h = let e = h.0 in cc
+
+fields : settled facts (pair (big_value greatest)) 2 ≡ pair (int_value (negsuc 0))
+fields = refl
+
+typed : IsOfType facts (pair (int_value (negsuc 0))) 2
+typed = (0 ∷ 1 ∷ [], refl, (tt, ((refl, omega arith, omega arith), tt)))
+
+read : SpellTyped facts (BigToken greatest ∷ []) (int_value (negsuc 0)) 0
+read = (big_value greatest, (tt, refl), refl, tt)

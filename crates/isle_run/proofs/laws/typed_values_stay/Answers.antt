@@ -1,0 +1,5 @@
+use Rattle.isle_run.proofs.PrintedValues.ReadBack.{typed_stays}
+use Rattle.isle_run.proofs.laws.typed_values_stay.Goals as goal
+
+pub returns : goal.returns
+returns c = λ facts v ty is. typed_stays facts v ty is
