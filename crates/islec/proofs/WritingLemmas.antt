@@ -1,10 +1,10 @@
 -- How writes that follow one another add up.
-use Rattle.std.proofs.Common.{◌≡◌, ℕ, List, [], ◌++◌, ◌+◌, ◌-◌, ◌≤◌, length, length-drop, sym, subst, take, drop, Option, Result, Ok, Err, OnOk}
+use Rattle.std.proofs.Common.{◌≡◌, ℕ, List, ◌+◌, ◌-◌, ◌≤◌, length, length-drop, sym, subst, take, take_all, drop, Option, Result, Ok, Err, OnOk, Some, None, ap, ◌++◌, ◌∙◌}
 use Rattle.std.proofs.Common.{OnErr, arith}
 use Rattle.std.proofs.Math.Seq.{take-add}
 use Rattle.std.specs.Io.KnownBytes.{Appends, Keeps}
-use Rattle.std.proofs.KnownBytes.{Appends-nil, Appends-trans, Appends-kept}
-use Rattle.islec.specs.Writing.{AppendsBeginning, ContinuesBy}
+use Rattle.std.proofs.KnownBytes.{Appends-trans}
+use Rattle.islec.specs.Writing.{AppendsBeginning}
 
 -- a beginning of a text, and then the next bytes of its rest
 pub Appends-take : (a b c : Option (List ℕ)) (k n : ℕ) (text rest : List ℕ) → rest ≡ drop k text → k ≤ length text
@@ -16,17 +16,24 @@ Appends-take a b c k n text rest is within wrote most more =
     let len : length (drop k text) ≡ length text - k = length-drop k text in
     (omega arith, subst (Appends a c) (sym (take-add k n text)) (Appends-trans a b c _ _ wrote next))
 
-pub ContinuesBy-refl : (a : Option (List ℕ)) → ContinuesBy a a
-ContinuesBy-refl a = ([], Appends-nil a)
-
-pub ContinuesBy-trans : (a b c : Option (List ℕ)) → ContinuesBy a b → ContinuesBy b c → ContinuesBy a c
-ContinuesBy-trans a b c p q = (p.0 ++ q.0, Appends-trans a b c _ _ p.1 q.1)
-
-pub ContinuesBy-kept : (a b c : Option (List ℕ)) → ContinuesBy a b → Keeps b c → ContinuesBy a c
-ContinuesBy-kept a b c p q = (p.0, Appends-kept a b c _ p.1 q)
+-- all of a text is a beginning of it
+pub whole_begins : (a b : Option (List ℕ)) (text : List ℕ) → Appends a b text → AppendsBeginning a b text
+whole_begins a b text wrote = (length text, subst (Appends a b) (sym (take_all (length text) text (omega arith))) wrote)
 
 -- a text that was written, or a beginning of it, whichever of the two
-pub ContinuesBy-text : (E : Type 0) (a b : Option (List ℕ)) (text : List ℕ) (r : Result (Unit {0}) E)
-    → OnOk r (Appends a b text) → OnErr r (AppendsBeginning a b text) → ContinuesBy a b
-ContinuesBy-text E a b text (Ok u) p q = (text, p)
-ContinuesBy-text E a b text (Err e) p q = (take q.0 text, q.1)
+pub begins_text : (E : Type 0) (a b : Option (List ℕ)) (text : List ℕ) (r : Result (Unit {0}) E) → OnOk r (Appends a b text)
+    → OnErr r (AppendsBeginning a b text) → AppendsBeginning a b text
+begins_text E a b text (Ok u) p q = whole_begins a b text p
+begins_text E a b text (Err e) p q = q
+
+-- nothing is written before a line
+Appends-behind : (a b c : Option (List ℕ)) (text : List ℕ) → Keeps a b → Appends b c text → Appends a c text
+Appends-behind None b c text p q = tt
+Appends-behind (Some x) None c text p q = absurd p
+Appends-behind (Some x) (Some y) None text p q = absurd q
+Appends-behind (Some x) (Some y) (Some z) text p q = q ∙ ap (λ l. l ++ text) p
+
+-- a beginning of a line behind nothing else
+pub line_behind : (a : Option (List ℕ)) (c : Option (List ℕ)) (text : List ℕ) → (held : Option (List ℕ)) × Keeps a held × AppendsBeginning held c text
+    → AppendsBeginning a c text
+line_behind a c text (held, kept, (count, wrote)) = (count, Appends-behind a held c (take count text) kept wrote)

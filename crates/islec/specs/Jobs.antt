@@ -5,6 +5,6 @@ use Rattle.islec.specs.declared.line.Job.TheVariants.{Run, Check, Fmt}
 
 -- a run and a check take one or more, formatting one
 abbrev pub HasFiles : Job → ℕ → Type 0
-HasFiles (Run depth) files = 0 < files
-HasFiles Check files = 0 < files
+HasFiles (Run depth plain) files = 0 < files
+HasFiles (Check terms) files = 0 < files
 HasFiles (Fmt width) files = files ≡ 1

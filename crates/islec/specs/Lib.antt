@@ -1,6 +1,6 @@
 -- How many files a command takes.
 pub mod Jobs
--- The exit status
+-- How a command ends.
 pub mod Statuses
 -- What is printed of files.
 pub mod Formatting
@@ -8,7 +8,13 @@ pub mod Formatting
 pub mod Running
 -- A writer that held `old` holds these bytes and a beginning of the text behind them
 pub mod Writing
--- The line that tells for which of the four causes a query is refused
+-- What a line of input is answered.
 pub mod Replies
+-- What is written for an input, line by line.
+pub mod Serving
 -- What an error of `clap` becomes: out of memory, or a fault of usage
 pub mod Faults
+-- What is printed of a world that is refused.
+pub mod Worlds
+-- What a check writes of a program.
+pub mod Terms

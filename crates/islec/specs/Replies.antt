@@ -1,4 +1,18 @@
-use Rattle.std.specs.Prelude.{◌≡◌, ◌++◌, ℕ, List, true, codes, decimal, string_bytes}
+-- What a line of input is answered.
+use Rattle.std.specs.Prelude.{◌≡◌, ◌++◌, ℕ, Bool, true, false, List, [], Option, Some, None, codes, decimal, string_bytes, IsUtf8}
+use Rattle.std.specs.List.{flat_map}
+use Rattle.isle_types.specs.declared.ids.TermId.{TermId}
+use Rattle.isle_terms.specs.Values.{ValueTree, ValueTrees, value_list}
+use Rattle.isle_run.specs.declared.answer.Answer.{Answer}
+use Rattle.isle_run.specs.declared.answer.Answer.TheVariants.{Value, None as NoAnswer, Stuck, Spent, IllTyped}
+use Rattle.isle_run.specs.declared.answer.Effect.{Effect}
+use Rattle.isle_run.specs.declared.program.Program.{Program}
+use Rattle.isle_run.specs.declared.query.QueryFault.{QueryFault}
+use Rattle.isle_run.specs.declared.query.QueryFault.TheVariants.{Q1, Q2, Q3, Q4, Memory}
+use Rattle.isle_run.specs.Programs.{term_name}
+use Rattle.isle_run.specs.Queries.{RefusesText, IsCallIn}
+use Rattle.isle_run.specs.TextTokens.{AreTokensOf}
+use Rattle.isle_run.specs.ValueText.{value_text, fields_text}
 use Rattle.islec.specs.declared.answer.Reply.{Reply}
 
 -- the line that tells for which of the four causes a query is refused
@@ -9,3 +23,66 @@ refused_line cause = codes "refused " ++ (decimal cause ++ codes "\n")
 pub record Refuses (cause : ℕ) (reply : Reply) : Type 0 where
   pub lines : string_bytes reply.lines ≡ refused_line cause
   pub refused : reply.refused ≡ true
+
+-- a call, as `(TERM ARG ..)`
+abbrev pub call_text : List ℕ → List ValueTree → List ℕ
+call_text name args = codes "(" ++ (name ++ (fields_text (value_list args) ++ codes ")"))
+
+-- a value, or `none`
+abbrev pub given_text : Option ValueTree → List ℕ
+given_text None = codes "none"
+given_text (Some v) = value_text v
+
+-- the line of an effect, `! (TERM ARG ..) ANSWER`
+abbrev pub effect_line : Effect → List ℕ
+effect_line effect = codes "! " ++ (call_text (string_bytes effect.term) effect.args.items ++ (codes " " ++ (given_text effect.answer ++ codes "\n")))
+
+-- an answer, with the call at which it was stuck or ill-typed
+abbrev pub answer_text : Program → Answer → List ℕ
+answer_text program (Value v) = value_text v
+answer_text program NoAnswer = codes "none"
+answer_text program (Stuck term args) = codes "stuck " ++ call_text (term_name program term) args.items
+answer_text program Spent = codes "spent"
+answer_text program (IllTyped term args) = codes "ill-typed " ++ call_text (term_name program term) args.items
+
+-- the line of an answer
+abbrev pub answer_line : Program → Answer → List ℕ
+answer_line program answer = answer_text program answer ++ codes "\n"
+
+-- whether an answer counts as refused: it is stuck, spent or ill-typed
+abbrev pub counts_as_refused : Answer → Bool
+counts_as_refused (Value v) = false
+counts_as_refused NoAnswer = false
+counts_as_refused (Stuck term args) = true
+counts_as_refused Spent = true
+counts_as_refused (IllTyped term args) = true
+
+-- the effects and the answer that a call may have; which these are is left open
+abbrev pub IsOutcome : Program → TermId → ValueTrees → List Effect → Answer → Type 0
+IsOutcome program term args effects answer = Unit {0}
+
+-- the lines of a call's effects in order and that of its answer, and whether the answer counts as refused
+pub record AnswersCall (program : Program) (term : TermId) (args : ValueTrees) (lines : List ℕ) (refused : Bool) : Type 0 where
+  pub effects : List Effect
+  pub answer : Answer
+  pub outcome : IsOutcome program term args effects answer
+  pub written : lines ≡ flat_map effect_line effects ++ answer_line program answer
+  pub counted : refused ≡ counts_as_refused answer
+
+-- the number of a cause for which a query is refused
+abbrev pub cause_number : QueryFault → Option ℕ
+cause_number Q1 = Some 1
+cause_number Q2 = Some 2
+cause_number Q3 = Some 3
+cause_number Q4 = Some 4
+cause_number (Memory e) = None
+
+-- what is written for a line, given without its newline, and whether it counts as refused: bytes that are no text are refused, a text
+-- without tokens is passed over, and of the others a query is refused for its first cause or else answered
+pub data IsReply (program : Program) (line lines : List ℕ) (refused : Bool) : Type 0 where
+  no_text : ¬ IsUtf8 line → lines ≡ refused_line 4 → refused ≡ true → IsReply program line lines refused
+  blank : IsUtf8 line → AreTokensOf line [] → lines ≡ [] → refused ≡ false → IsReply program line lines refused
+  no_call : IsUtf8 line → ¬ AreTokensOf line [] → (fault : QueryFault) (cause : ℕ) → RefusesText program line fault → cause_number fault ≡ Some cause
+      → lines ≡ refused_line cause → refused ≡ true → IsReply program line lines refused
+  call : IsUtf8 line → (term : TermId) (args : ValueTrees) → IsCallIn program line term args → AnswersCall program term args lines refused
+      → IsReply program line lines refused

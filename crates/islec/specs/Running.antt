@@ -1,10 +1,18 @@
 -- What a run or a check writes of files that are accepted or refused.
-use Rattle.std.specs.Prelude.{ℕ, List, Option, codes}
-use Rattle.std.specs.Io.KnownBytes.{Appends}
+use Rattle.std.specs.Prelude.{◌⊎◌, ℕ, Bool, List, Option, codes}
+use Rattle.std.specs.Io.KnownBytes.{Appends, Keeps}
 use Rattle.isle_syntax.specs.Errors.{report_text}
 use Rattle.isle_syntax.specs.Positions.Files.{SourceFile}
 use Rattle.isle_syntax.specs.declared.error.Error.{Error}
-use Rattle.isle_run.specs.Compiled.{AreAccepted, AreFaults}
+use Rattle.isle_run.specs.Compiled.{AreAccepted, AreFaults, IsProgramOf}
+use Rattle.isle_run.specs.declared.program.Program.{Program}
+use Rattle.isle_run.specs.declared.world.reading.WorldFault.{WorldFault}
+use Rattle.isle_run.specs.Entries.{EntryTree}
+use Rattle.isle_run.specs.WorldTexts.{SpellsWorld, RefusesWorld}
+use Rattle.islec.specs.Terms.{TellsProgram}
+use Rattle.islec.specs.Worlds.{world_fault_line}
+use Rattle.islec.specs.Serving.{AnswersAll, AnswersFirst, AnswersCut}
+use Rattle.islec.specs.Writing.{AppendsBeginning}
 
 -- the files aren't accepted, and a writer that held `old` holds these bytes and behind them the report of their faults
 pub record WritesFaults (files : List SourceFile) (old new : Option (List ℕ)) : Type 0 where
@@ -13,7 +21,67 @@ pub record WritesFaults (files : List SourceFile) (old new : Option (List ℕ)) 
   pub faults : AreFaults files errors
   pub written : Appends old new (report_text (record { errors = errors; files = files }))
 
--- the files are accepted, and a writer that held `old` holds these bytes and behind them the line `accepted`
-pub record WritesAccepted (files : List SourceFile) (old new : Option (List ℕ)) : Type 0 where
+-- the files aren't accepted, and a writer that held `old` holds these bytes and behind them a beginning of the report of their faults
+pub record CutsFaults (files : List SourceFile) (old new : Option (List ℕ)) : Type 0 where
+  pub errors : List Error
+  pub refused : ¬ AreAccepted files
+  pub faults : AreFaults files errors
+  pub written : AppendsBeginning old new (report_text (record { errors = errors; files = files }))
+
+-- the files are accepted, and a writer that held `old` holds these bytes and behind them what a check tells of their program
+pub record WritesAccepted (files : List SourceFile) (asked : Bool) (old new : Option (List ℕ)) : Type 0 where
   pub accepted : AreAccepted files
-  pub written : Appends old new (codes "accepted\n")
+  pub program : Program
+  pub is : IsProgramOf files program
+  pub text : List ℕ
+  pub told : TellsProgram program asked text
+  pub written : Appends old new text
+
+-- a beginning of what a check tells of the files' program is written, or one of the report of faults
+abbrev pub CutsCheck : List SourceFile → (asked : Bool) → (old new : Option (List ℕ)) → Type 0
+CutsCheck files asked old new = ((program : Program) × IsProgramOf files program × ((text : List ℕ) × TellsProgram program asked text × AppendsBeginning old new text))
+    ⊎ CutsFaults files old new
+
+-- a program's replies to each line of an input are written, in the world of a file
+abbrev pub AnswersIn : Program → (world : SourceFile) → (input : Option (List ℕ)) → Bool → (old new : Option (List ℕ)) → Type 0
+AnswersIn program world input refused old new = (entries : List EntryTree) × SpellsWorld program world.text entries × AnswersAll program input refused old new
+
+-- the line that tells why a world is refused is written
+pub record TellsWorld (program : Program) (world : SourceFile) (old new : Option (List ℕ)) : Type 0 where
+  pub fault : WorldFault
+  pub refused : RefusesWorld program world.text fault
+  pub written : Appends old new (world_fault_line program world fault)
+
+-- a beginning of that line is written
+pub record CutsWorld (program : Program) (world : SourceFile) (old new : Option (List ℕ)) : Type 0 where
+  pub fault : WorldFault
+  pub refused : RefusesWorld program world.text fault
+  pub written : AppendsBeginning old new (world_fault_line program world fault)
+
+-- a beginning of a program's replies to first lines of an input is written, or one of the line that tells why a world is refused
+abbrev pub CutsIn : Program → (world : SourceFile) → (input old new : Option (List ℕ)) → Type 0
+CutsIn program world input old new = AnswersCut program input old new ⊎ CutsWorld program world old new
+
+-- replies of a program to first lines of an input are written, or nothing is
+abbrev pub StopsIn : Program → (input old new : Option (List ℕ)) → Type 0
+StopsIn program input old new = Keeps old new ⊎ AnswersFirst program input old new
+
+-- the replies of the files' program to each line of an input are written, in the world of a file
+abbrev pub WritesAnswers : List SourceFile → (world : SourceFile) → (input : Option (List ℕ)) → Bool → (old new : Option (List ℕ)) → Type 0
+WritesAnswers files world input refused old new = (program : Program) × IsProgramOf files program × AnswersIn program world input refused old new
+
+-- the report of the files' faults is written, or, of accepted files, the line that tells why their world is refused
+abbrev pub WritesRefusal : List SourceFile → (world : SourceFile) → (old new : Option (List ℕ)) → Type 0
+WritesRefusal files world old new = WritesFaults files old new ⊎ ((program : Program) × IsProgramOf files program × TellsWorld program world old new)
+
+-- a beginning of the replies, of the report of faults or of the line that tells why the world is refused is written
+abbrev pub CutsRun : List SourceFile → (world : SourceFile) → (input old new : Option (List ℕ)) → Type 0
+CutsRun files world input old new = ((program : Program) × IsProgramOf files program × CutsIn program world input old new) ⊎ CutsFaults files old new
+
+-- replies of the files' program to first lines of an input are written, or nothing is
+abbrev pub AnswersSome : List SourceFile → (input old new : Option (List ℕ)) → Type 0
+AnswersSome files input old new = Keeps old new ⊎ ((program : Program) × IsProgramOf files program × StopsIn program input old new)
+
+-- the same, and behind it a beginning of the line `out of memory`
+abbrev pub RunsOut : List SourceFile → (input old new : Option (List ℕ)) → Type 0
+RunsOut files input old new = (held : Option (List ℕ)) × AnswersSome files input old held × AppendsBeginning held new (codes "out of memory\n")

@@ -1,6 +1,8 @@
 //! The lines that answer a query.
-ghost use Rattle.std.specs.Prelude.{IfOk, IsUtf8};
-ghost use Rattle.islec.specs.Replies.{Refuses};
+ghost use Rattle.std.specs.Prelude.{◌≡◌, ◌++◌, IfOk, OnOk, IsUtf8, string_bytes};
+ghost use Rattle.isle_terms.specs.Values.{value_list};
+ghost use Rattle.isle_run.specs.ValueText.{value_text};
+ghost use Rattle.islec.specs.Replies.{Refuses, IsReply, AnswersCall, effect_line, answer_line, answer_text, call_text, given_text, counts_as_refused};
 
 use isle_run::{Answer, Effect, Program, QueryFault, TermId, Value, World, is_blank};
 use std::alloc::{AllocError, Global};
@@ -22,7 +24,8 @@ pub fn reply_to<V: World>(
     depth: u32,
     line: &[u8],
 ) -> Result<Reply, AllocError>
-    ensures { ¬ (IsUtf8 line.now) → IfOk result (Refuses 4) }
+    ensures not_text { ¬ (IsUtf8 line.now) → IfOk result (Refuses 4) }
+    ensures reply { IfOk result (λ reply. IsReply program.now line.now (string_bytes reply.lines) reply.refused) }
 {
     let Ok(text) = str::from_utf8(line) else {
         return refused(alloc, 4);
@@ -59,7 +62,10 @@ fn reply_to_call<V: World>(
     depth: u32,
     term: TermId,
     args: Vec<Value>,
-) -> Result<Reply, AllocError> {
+) -> Result<Reply, AllocError>
+    ensures { IfOk result (λ reply. AnswersCall program.now term (value_list args.items)
+        (string_bytes reply.lines) reply.refused) }
+{
     let mut effects = Vec::new(alloc);
     let called = program.call_plain(alloc, term, args, depth, world, &mut effects)?;
     let mut lines = String::new(alloc);
@@ -69,57 +75,98 @@ fn reply_to_call<V: World>(
     push_answer(alloc, &mut lines, program, &called.answer)?;
     Ok(Reply {
         lines,
-        refused: !matches!(called.answer, Answer::Value(_) | Answer::None),
+        refused: is_refused(&called.answer),
     })
 }
 
-// The line `! (TERM ARG..) ANSWER`.
-fn push_effect(alloc: Global, lines: &mut String, effect: &Effect) -> Result<(), AllocError> {
-    lines.push_str("! ")?;
-    push_call(alloc, lines, effect.term.as_str(), effect.args.as_slice())?;
-    lines.push(' ')?;
-    match &effect.answer {
-        Some(value) => lines.push_str(value.print(alloc)?.as_str())?,
-        None => lines.push_str("none")?,
+/// Whether an answer counts as refused.
+fn is_refused(answer: &Answer) -> bool
+    ensures { result ≡ counts_as_refused answer.now }
+{
+    match answer {
+        Answer::Value(_) | Answer::None => false,
+        Answer::Stuck(_, _) | Answer::Spent | Answer::IllTyped(_, _) => true,
     }
-    lines.push('\n')
 }
 
-// The line of an answer.
+/// Writes the line `! (TERM ARG ..) ANSWER` behind others.
+fn push_effect(alloc: Global, lines: &mut String, effect: &Effect) -> Result<(), AllocError>
+    ensures { OnOk result (string_bytes lines.new ≡ string_bytes lines.old ++ effect_line effect.now) }
+{
+    lines.push_str("! ")?;
+    push_call(alloc, lines, effect.term.as_str(), effect.args.as_slice())?;
+    lines.push_str(" ")?;
+    push_given(alloc, lines, &effect.answer)?;
+    lines.push_str("\n")
+}
+
+/// Writes what an external function answered, `none` where it is nothing.
+fn push_given(alloc: Global, lines: &mut String, given: &Option<Value>) -> Result<(), AllocError>
+    ensures { OnOk result (string_bytes lines.new ≡ string_bytes lines.old ++ given_text given.now) }
+{
+    match given {
+        Some(value) => push_value(alloc, lines, value),
+        None => lines.push_str("none"),
+    }
+}
+
+/// Writes the line of an answer behind others.
 fn push_answer(
     alloc: Global,
     lines: &mut String,
     program: &Program,
     answer: &Answer,
-) -> Result<(), AllocError> {
-    match answer {
-        Answer::Value(value) => lines.push_str(value.print(alloc)?.as_str())?,
-        Answer::None => lines.push_str("none")?,
-        Answer::Stuck(term, args) => {
-            lines.push_str("stuck ")?;
-            push_call(alloc, lines, program.name(*term), args.as_slice())?;
-        }
-        Answer::Spent => lines.push_str("spent")?,
-        Answer::IllTyped(term, args) => {
-            lines.push_str("ill-typed ")?;
-            push_call(alloc, lines, program.name(*term), args.as_slice())?;
-        }
-    }
-    lines.push('\n')
+) -> Result<(), AllocError>
+    ensures { OnOk result (string_bytes lines.new ≡ string_bytes lines.old ++ answer_line program.now answer.now) }
+{
+    push_answer_text(alloc, lines, program, answer)?;
+    lines.push_str("\n")
 }
 
-// A call, as `(TERM ARG..)`.
+fn push_answer_text(
+    alloc: Global,
+    lines: &mut String,
+    program: &Program,
+    answer: &Answer,
+) -> Result<(), AllocError>
+    ensures { OnOk result (string_bytes lines.new ≡ string_bytes lines.old ++ answer_text program.now answer.now) }
+{
+    match answer {
+        Answer::Value(value) => push_value(alloc, lines, value),
+        Answer::None => lines.push_str("none"),
+        Answer::Stuck(term, args) => {
+            lines.push_str("stuck ")?;
+            push_call(alloc, lines, program.name(*term), args.as_slice())
+        }
+        Answer::Spent => lines.push_str("spent"),
+        Answer::IllTyped(term, args) => {
+            lines.push_str("ill-typed ")?;
+            push_call(alloc, lines, program.name(*term), args.as_slice())
+        }
+    }
+}
+
+/// Writes a call, as `(TERM ARG ..)`, behind a text.
 fn push_call(
     alloc: Global,
     lines: &mut String,
     name: &str,
     args: &[Value],
-) -> Result<(), AllocError> {
-    lines.push('(')?;
+) -> Result<(), AllocError>
+    ensures { OnOk result (string_bytes lines.new ≡ string_bytes lines.old ++ call_text name.now args.now) }
+{
+    lines.push_str("(")?;
     lines.push_str(name)?;
     for arg in args {
-        lines.push(' ')?;
-        lines.push_str(arg.print(alloc)?.as_str())?;
+        lines.push_str(" ")?;
+        push_value(alloc, lines, arg)?;
     }
-    lines.push(')')
+    lines.push_str(")")
+}
+
+/// Writes a value behind a text.
+fn push_value(alloc: Global, lines: &mut String, value: &Value) -> Result<(), AllocError>
+    ensures { OnOk result (string_bytes lines.new ≡ string_bytes lines.old ++ value_text value.now) }
+{
+    lines.push_str(value.print(alloc)?.as_str())
 }

@@ -5,7 +5,9 @@ ghost use Rattle.isle_syntax.specs.Errors.{IfFault, RefusalAt};
 ghost use Rattle.isle_syntax.specs.Positions.Files.{source_file};
 ghost use Rattle.isle_syntax.specs.Positions.Printable.{IsPrintablePos};
 ghost use Rattle.isle_syntax.specs.Grammar.Texts.{IsFaultIn};
-ghost use Rattle.islec.specs.Formatting.{WritesPrints, WritesFault};
+ghost use Rattle.islec.specs.Formatting.{WritesPrints, WritesFault, CutsPrints};
+ghost use Rattle.islec.specs.Statuses.{IsEnd};
+ghost use Rattle.std.specs.Io.KnownBytes.{Keeps};
 ghost use Rattle.islec.specs.declared.status.Status.{Status};
 
 use crate::perform::write_faults;
@@ -29,7 +31,11 @@ pub fn format<W: Write>(
         (map source_file texts.items) (W.contents writer.old) (W.contents writer.new)) }
     ensures refused { IfOk result (λ status. status ≡ Status.TextsRefused → WritesFault
         (map source_file texts.items) (W.contents writer.old) (W.contents writer.new)) }
-    ensures other { IfOk result (λ status. status ≢ Status.Usage) }
+    ensures other { IfOk result IsEnd }
+    ensures cut { IfErr result (λ fault. fault ≢ ServeFault.Memory → CutsPrints width
+        (map source_file texts.items) (W.contents writer.old) (W.contents writer.new)) }
+    ensures memory { IfErr result (λ fault. fault ≡ ServeFault.Memory → Keeps
+        (W.contents writer.old) (W.contents writer.new)) }
 {
     let files = Rc::new(alloc, Files::from_names_and_contents(alloc, texts)?)?;
     let mut printed = String::new(alloc);

@@ -23,10 +23,11 @@ pub struct Line {
 /// A command and its numbers.
 #[derive(Debug, Clone, Copy, PartialEq, Eq)]
 pub enum Job {
-    /// Answers queries, with at most `depth` calls of terms with rules open at once.
-    Run { depth: u32 },
-    /// Tells whether the files are accepted.
-    Check,
+    /// Answers queries, with at most `depth` calls of terms with rules open at once; `plain` asks for the road that tries
+    /// rules one by one, which is the only one so far.
+    Run { depth: u32, plain: bool },
+    /// Tells whether the files are accepted, and with `terms` which terms can be run.
+    Check { terms: bool },
     /// Prints the one file laid out at a width, from 0 to 1,000,000.
     Fmt { width: u32 },
 }
@@ -100,15 +101,30 @@ fn run_command<'a>(alloc: Global) -> Result<Command<'a>, AllocError> {
         .help("How many calls of terms with rules may be open at once")
         .value_parser(clap::value_parser!(u32))
         .default_value("100");
+    let world = Arg::new(alloc, "world")
+        .long("world")
+        .value_name("FILE")
+        .help("The file that tells what external terms answer");
+    let plain = Arg::new(alloc, "plain")
+        .long("plain")
+        .help("Try rules one by one")
+        .action(ArgAction::SetTrue);
     Command::new(alloc, "run")
         .about("Answers queries from standard input, one a line")
+        .arg(world)?
         .arg(depth)?
+        .arg(plain)?
         .arg(rule_files(alloc))
 }
 
 fn check_command<'a>(alloc: Global) -> Result<Command<'a>, AllocError> {
+    let terms = Arg::new(alloc, "terms")
+        .long("terms")
+        .help("Tell of each term with rules whether it can be run, and its most steps")
+        .action(ArgAction::SetTrue);
     Command::new(alloc, "check")
         .about("Tells whether the files are accepted, or what is wrong with them")
+        .arg(terms)?
         .arg(rule_files(alloc))
 }
 
@@ -149,10 +165,15 @@ fn run_line(alloc: Global, matches: &ArgMatches<'_>) -> Result<Option<Line>, All
     if files.is_empty() {
         return Ok(None);
     }
+    let plain = matches.get_flag("plain");
+    let world = match matches.get_str("world") {
+        Some(name) => Some(String::from_str(alloc, name)?),
+        None => None,
+    };
     Ok(Some(Line {
-        job: Job::Run { depth },
+        job: Job::Run { depth, plain },
         files,
-        world: None,
+        world,
     }))
 }
 
@@ -164,8 +185,9 @@ fn check_line(alloc: Global, matches: &ArgMatches<'_>) -> Result<Option<Line>, A
     if files.is_empty() {
         return Ok(None);
     }
+    let terms = matches.get_flag("terms");
     Ok(Some(Line {
-        job: Job::Check,
+        job: Job::Check { terms },
         files,
         world: None,
     }))

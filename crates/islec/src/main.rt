@@ -8,6 +8,8 @@ pub mod perform;
 pub mod program;
 pub mod serve;
 pub mod status;
+pub mod terms;
+pub mod world;
 
 use std::process::ExitCode;
 

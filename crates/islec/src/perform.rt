@@ -1,12 +1,16 @@
 //! A whole command on texts.
-ghost use Rattle.std.specs.Prelude.{◌≡◌, ◌≢◌, ◌⊎◌, ℕ, map, IfOk, OnOk};
-ghost use Rattle.std.specs.Io.KnownBytes.{Appends};
+ghost use Rattle.std.specs.Prelude.{◌≡◌, ◌≢◌, ◌⊎◌, ℕ, List, Bool, true, false, codes, map, IfOk, IfErr, OnOk};
+ghost use Rattle.std.specs.Io.KnownBytes.{Appends, Keeps};
 ghost use Rattle.isle_syntax.specs.Errors.{report_text};
 ghost use Rattle.isle_syntax.specs.Positions.Files.{source_file};
 ghost use Rattle.isle_run.specs.Compiled.{AreAccepted};
-ghost use Rattle.islec.specs.Formatting.{WritesPrints, WritesFault};
-ghost use Rattle.islec.specs.Running.{WritesFaults, WritesAccepted};
-ghost use Rattle.islec.specs.Statuses.{code_of};
+ghost use Rattle.islec.specs.Formatting.{WritesPrints, WritesFault, CutsPrints};
+ghost use Rattle.islec.specs.Running.{WritesFaults, WritesAccepted, WritesAnswers, WritesRefusal, CutsCheck, CutsRun, AnswersSome, RunsOut, AnswersIn, TellsWorld, CutsIn, StopsIn};
+ghost use Rattle.islec.specs.Worlds.{world_file, world_fault_line};
+ghost use Rattle.islec.specs.Terms.{TellsProgram};
+ghost use Rattle.islec.specs.Serving.{AnswersAll, AnswersFirst, AnswersCut};
+ghost use Rattle.islec.specs.Writing.{AppendsBeginning};
+ghost use Rattle.islec.specs.Statuses.{code_of, IsEnd, EndsAs};
 ghost use Rattle.islec.specs.declared.line.Job.TheVariants.{Run, Check, Fmt};
 ghost use Rattle.islec.specs.declared.status.Status.{Status};
 
@@ -14,104 +18,272 @@ use crate::format::format;
 use crate::line::Job;
 use crate::serve::{ServeFault, Served, serve, write_text};
 use crate::status::{Status, out_of_memory};
-use isle_run::{Refused, Value, World, compile};
+use crate::terms::program_text;
+use crate::world::fault_line;
+use isle_run::{Program, Refused, TableWorld, World, WorldFault, compile};
 use isle_syntax::error::Errors;
 use isle_syntax::files::Files;
 use std::alloc::{AllocError, Global};
 use std::io::{Read, Write};
 use std::rc::Rc;
 
-/// Does a command on texts, each with its name, and gives the exit status: 0 all well, 1 texts
-/// refused, 3 some query refused, stuck, spent or ill-typed, 4 reading or writing failed, 5 out of
-/// memory. Nothing asks the world yet.
+/// Does a command on texts, each with its name, and gives the exit status: 0 all well, 1 texts or
+/// world refused, 3 some query refused, stuck, spent or ill-typed, 4 reading or writing failed, 5 out of
+/// memory. Where no world is given its text is empty and its name is `world`.
 pub fn perform<R: Read, W: Write>(
     alloc: Global,
     job: Job,
     texts: Vec<(String, String)>,
-    _world: Option<(String, String)>,
+    world: Option<(String, String)>,
     reader: &mut R,
     writer: &mut W,
 ) -> u8
     ensures formatted { (width : ℕ) → job ≡ Fmt width → result ≡ 0 → WritesPrints width
         (map source_file texts.items) (W.contents writer.old) (W.contents writer.new) }
+    ensures format_failed { (width : ℕ) → job ≡ Fmt width → result ≡ 4 → CutsPrints width
+        (map source_file texts.items) (W.contents writer.old) (W.contents writer.new) }
+    ensures format_ran_out { (width : ℕ) → job ≡ Fmt width → result ≡ 5 → AppendsBeginning
+        (W.contents writer.old) (W.contents writer.new) (codes "out of memory\n") }
     ensures refused { (width : ℕ) → job ≡ Fmt width → result ≡ 1 → WritesFault
         (map source_file texts.items) (W.contents writer.old) (W.contents writer.new) }
-    ensures accepted { (depth : ℕ) → job ≡ Run depth → (result ≡ 0) ⊎ (result ≡ 3)
+    ensures accepted { (depth : ℕ) (plain : Bool) → job ≡ Run depth plain → (result ≡ 0) ⊎ (result ≡ 3)
         → AreAccepted (map source_file texts.items) }
-    ensures faults { (depth : ℕ) → job ≡ Run depth → result ≡ 1 → WritesFaults
+    ensures all_well { (depth : ℕ) (plain : Bool) → job ≡ Run depth plain → result ≡ 0 → WritesAnswers
+        (map source_file texts.items) (world_file world) (R.remaining reader.old) false (W.contents writer.old) (W.contents writer.new) }
+    ensures some_refused { (depth : ℕ) (plain : Bool) → job ≡ Run depth plain → result ≡ 3 → WritesAnswers
+        (map source_file texts.items) (world_file world) (R.remaining reader.old) true (W.contents writer.old) (W.contents writer.new) }
+    ensures failed { (depth : ℕ) (plain : Bool) → job ≡ Run depth plain → result ≡ 4 → CutsRun
+        (map source_file texts.items) (world_file world) (R.remaining reader.old) (W.contents writer.old) (W.contents writer.new) }
+    ensures ran_out { (depth : ℕ) (plain : Bool) → job ≡ Run depth plain → result ≡ 5 → RunsOut
+        (map source_file texts.items) (R.remaining reader.old) (W.contents writer.old) (W.contents writer.new) }
+    ensures faults { (depth : ℕ) (plain : Bool) → job ≡ Run depth plain → result ≡ 1 → WritesRefusal
+        (map source_file texts.items) (world_file world) (W.contents writer.old) (W.contents writer.new) }
+    ensures checked { (terms : Bool) → job ≡ Check terms → result ≡ 0 → WritesAccepted
+        (map source_file texts.items) terms (W.contents writer.old) (W.contents writer.new) }
+    ensures faulty { (terms : Bool) → job ≡ Check terms → result ≡ 1 → WritesFaults
         (map source_file texts.items) (W.contents writer.old) (W.contents writer.new) }
-    ensures checked { job ≡ Check → result ≡ 0 → WritesAccepted
-        (map source_file texts.items) (W.contents writer.old) (W.contents writer.new) }
-    ensures faulty { job ≡ Check → result ≡ 1 → WritesFaults
-        (map source_file texts.items) (W.contents writer.old) (W.contents writer.new) }
-    ensures unasked { job ≡ Check → result ≢ 3 }
+    ensures check_failed { (terms : Bool) → job ≡ Check terms → result ≡ 4 → CutsCheck
+        (map source_file texts.items) terms (W.contents writer.old) (W.contents writer.new) }
+    ensures check_ran_out { (terms : Bool) → job ≡ Check terms → result ≡ 5 → AppendsBeginning (W.contents writer.old)
+        (W.contents writer.new) (codes "out of memory\n") }
+    ensures unasked { (terms : Bool) → job ≡ Check terms → result ≢ 3 }
     ensures ends { (status : Status) × (status ≢ Status.Usage) × (result ≡ code_of status) }
 {
-    let done = match job {
-        Job::Run { depth } => run(alloc, depth, texts, reader, writer),
-        Job::Check => check(alloc, texts, writer),
-        Job::Fmt { width } => format(alloc, width, texts, writer),
-    };
-    let status = match done {
-        Ok(status) => status,
-        Err(ServeFault::Read) => Status::InputOutput,
-        Err(ServeFault::Write) => Status::InputOutput,
-        Err(ServeFault::Memory) => out_of_memory(writer),
+    let status = match job {
+        Job::Run {
+            depth,
+            plain: _plain,
+        } => {
+            let done = run(alloc, depth, texts, world, reader, writer);
+            conclude(done, writer)
+        }
+        Job::Check { terms } => {
+            let done = check(alloc, terms, texts, writer);
+            conclude(done, writer)
+        }
+        Job::Fmt { width } => {
+            let done = format(alloc, width, texts, writer);
+            conclude(done, writer)
+        }
     };
     status.code()
 }
 
+/// The status by which a command ends. Where memory ran out, that is written.
+fn conclude<W: Write>(done: Result<Status, ServeFault>, writer: &mut W) -> Status
+    ensures { EndsAs done result (W.contents writer.old) (W.contents writer.new) }
+{
+    match done {
+        Ok(status) => status,
+        Err(ServeFault::Read) => Status::InputOutput,
+        Err(ServeFault::Write) => Status::InputOutput,
+        Err(ServeFault::Memory) => out_of_memory(writer),
+    }
+}
+
+/// Answers the queries of an input by the program of texts in a world, or writes why the texts or the world are refused.
 fn run<R: Read, W: Write>(
     alloc: Global,
     depth: u32,
     texts: Vec<(String, String)>,
+    world: Option<(String, String)>,
     reader: &mut R,
     writer: &mut W,
 ) -> Result<Status, ServeFault>
     ensures answered { IfOk result (λ status. (status ≡ Status.AllWell) ⊎ (status ≡ Status.SomeRefused)
         → AreAccepted (map source_file texts.items)) }
-    ensures refused { IfOk result (λ status. status ≡ Status.TextsRefused → WritesFaults
-        (map source_file texts.items) (W.contents writer.old) (W.contents writer.new)) }
-    ensures other { IfOk result (λ status. status ≢ Status.Usage) }
+    ensures all_well { IfOk result (λ status. status ≡ Status.AllWell
+        → WritesAnswers (map source_file texts.items) (world_file world) (R.remaining reader.old) false
+        (W.contents writer.old) (W.contents writer.new)) }
+    ensures some_refused { IfOk result (λ status. status ≡ Status.SomeRefused
+        → WritesAnswers (map source_file texts.items) (world_file world) (R.remaining reader.old) true
+        (W.contents writer.old) (W.contents writer.new)) }
+    ensures refused { IfOk result (λ status. status ≡ Status.TextsRefused → WritesRefusal
+        (map source_file texts.items) (world_file world) (W.contents writer.old) (W.contents writer.new)) }
+    ensures other { IfOk result IsEnd }
+    ensures cut { IfErr result (λ fault. fault ≢ ServeFault.Memory
+        → CutsRun (map source_file texts.items) (world_file world) (R.remaining reader.old)
+        (W.contents writer.old) (W.contents writer.new)) }
+    ensures memory { IfErr result (λ fault. fault ≡ ServeFault.Memory
+        → AnswersSome (map source_file texts.items) (R.remaining reader.old)
+        (W.contents writer.old) (W.contents writer.new)) }
 {
     let files = Rc::new(alloc, Files::from_names_and_contents(alloc, texts)?)?;
     match compile(alloc, files) {
-        Ok(program) => match serve(alloc, &program, &mut Empty, depth, reader, writer)? {
-            Served::AllWell => Ok(Status::AllWell),
-            Served::SomeRefused => Ok(Status::SomeRefused),
-        },
-        Err(Refused::Faults(errors)) => {
-            write_faults(alloc, &errors, writer)?;
-            Ok(Status::TextsRefused)
-        }
+        Ok(program) => run_program(alloc, &program, world, depth, reader, writer),
+        Err(Refused::Faults(errors)) => refuse(alloc, &errors, writer),
         Err(Refused::Memory) => Err(ServeFault::Memory),
     }
 }
 
-/// Writes `accepted`, or what is printed of the texts' faults.
+/// The name and the text of a world's file; an empty text named `world` where none is given.
+fn world_parts(
+    alloc: Global,
+    world: Option<(String, String)>,
+) -> Result<(String, String), AllocError>
+    ensures { IfOk result (λ parts. source_file parts ≡ world_file world) }
+{
+    match world {
+        Some(parts) => Ok(parts),
+        None => Ok((String::from_str(alloc, "world")?, String::new(alloc))),
+    }
+}
+
+/// Answers the queries of an input by a program in a world, or writes why the world is refused.
+fn run_program<R: Read, W: Write>(
+    alloc: Global,
+    program: &Program,
+    world: Option<(String, String)>,
+    depth: u32,
+    reader: &mut R,
+    writer: &mut W,
+) -> Result<Status, ServeFault>
+    ensures all_well { IfOk result (λ status. status ≡ Status.AllWell → AnswersIn program.now
+        (world_file world) (R.remaining reader.old) false (W.contents writer.old) (W.contents writer.new)) }
+    ensures some_refused { IfOk result (λ status. status ≡ Status.SomeRefused → AnswersIn
+        program.now (world_file world) (R.remaining reader.old) true (W.contents writer.old) (W.contents writer.new)) }
+    ensures refused { IfOk result (λ status. status ≡ Status.TextsRefused → TellsWorld
+        program.now (world_file world) (W.contents writer.old) (W.contents writer.new)) }
+    ensures other { IfOk result IsEnd }
+    ensures cut { IfErr result (λ fault. fault ≢ ServeFault.Memory → CutsIn program.now
+        (world_file world) (R.remaining reader.old) (W.contents writer.old) (W.contents writer.new)) }
+    ensures memory { IfErr result (λ fault. fault ≡ ServeFault.Memory → StopsIn program.now
+        (R.remaining reader.old) (W.contents writer.old) (W.contents writer.new)) }
+{
+    let (name, text) = world_parts(alloc, world)?;
+    match TableWorld::read(alloc, text.as_str(), program) {
+        Ok(mut table) => answer(alloc, program, &mut table, depth, reader, writer),
+        Err(WorldFault::Memory(_)) => Err(ServeFault::Memory),
+        Err(fault) => refuse_world(alloc, program, name.as_str(), text.as_str(), &fault, writer),
+    }
+}
+
+/// Answers the queries of an input by a program.
+fn answer<V: World, R: Read, W: Write>(
+    alloc: Global,
+    program: &Program,
+    world: &mut V,
+    depth: u32,
+    reader: &mut R,
+    writer: &mut W,
+) -> Result<Status, ServeFault>
+    ensures all_well { IfOk result (λ status. status ≡ Status.AllWell → AnswersAll program.now
+        (R.remaining reader.old) false (W.contents writer.old) (W.contents writer.new)) }
+    ensures some_refused { IfOk result (λ status. status ≡ Status.SomeRefused → AnswersAll
+        program.now (R.remaining reader.old) true (W.contents writer.old) (W.contents writer.new)) }
+    ensures other { IfOk result (λ status. (status ≡ Status.AllWell) ⊎ (status ≡ Status.SomeRefused)) }
+    ensures cut { IfErr result (λ fault. fault ≢ ServeFault.Memory → AnswersCut program.now
+        (R.remaining reader.old) (W.contents writer.old) (W.contents writer.new)) }
+    ensures memory { IfErr result (λ fault. fault ≡ ServeFault.Memory → AnswersFirst program.now
+        (R.remaining reader.old) (W.contents writer.old) (W.contents writer.new)) }
+{
+    match serve(alloc, program, world, depth, reader, writer) {
+        Ok(Served::AllWell) => Ok(Status::AllWell),
+        Ok(Served::SomeRefused) => Ok(Status::SomeRefused),
+        Err(fault) => Err(fault),
+    }
+}
+
+/// Writes the line that tells why a world is refused.
+fn refuse_world<W: Write>(
+    alloc: Global,
+    program: &Program,
+    name: &str,
+    text: &str,
+    fault: &WorldFault,
+    writer: &mut W,
+) -> Result<Status, ServeFault>
+    ensures status { IfOk result (λ status. status ≡ Status.TextsRefused) }
+    ensures written { OnOk result (Appends (W.contents writer.old) (W.contents writer.new)
+        (world_fault_line program.now (record { name = name.now; text = text.now }) fault.now)) }
+    ensures cut { IfErr result (λ why. why ≢ ServeFault.Memory → AppendsBeginning
+        (W.contents writer.old) (W.contents writer.new)
+        (world_fault_line program.now (record { name = name.now; text = text.now }) fault.now)) }
+    ensures memory { IfErr result (λ why. why ≡ ServeFault.Memory → Keeps
+        (W.contents writer.old) (W.contents writer.new)) }
+{
+    let line = fault_line(alloc, program, name, text, fault)?;
+    write_text(writer, line.as_str())?;
+    Ok(Status::TextsRefused)
+}
+
+/// Writes what is printed of faults, for which texts are refused.
+fn refuse<W: Write>(alloc: Global, errors: &Errors, writer: &mut W) -> Result<Status, ServeFault>
+    ensures status { IfOk result (λ status. status ≡ Status.TextsRefused) }
+    ensures written { OnOk result
+        (Appends (W.contents writer.old) (W.contents writer.new) (report_text errors.now)) }
+    ensures cut { IfErr result (λ fault. fault ≢ ServeFault.Memory → AppendsBeginning
+        (W.contents writer.old) (W.contents writer.new) (report_text errors.now)) }
+    ensures memory { IfErr result (λ fault. fault ≡ ServeFault.Memory → Keeps
+        (W.contents writer.old) (W.contents writer.new)) }
+{
+    write_faults(alloc, errors, writer)?;
+    Ok(Status::TextsRefused)
+}
+
+/// Writes what is told of the texts' program, or what is printed of their faults.
 fn check<W: Write>(
     alloc: Global,
+    terms: bool,
     texts: Vec<(String, String)>,
     writer: &mut W,
 ) -> Result<Status, ServeFault>
     ensures accepted { IfOk result (λ status. status ≡ Status.AllWell → WritesAccepted
-        (map source_file texts.items) (W.contents writer.old) (W.contents writer.new)) }
+        (map source_file texts.items) terms (W.contents writer.old) (W.contents writer.new)) }
     ensures refused { IfOk result (λ status. status ≡ Status.TextsRefused → WritesFaults
         (map source_file texts.items) (W.contents writer.old) (W.contents writer.new)) }
     ensures other { IfOk result (λ status. (status ≡ Status.AllWell) ⊎ (status ≡ Status.TextsRefused)) }
+    ensures cut { IfErr result (λ fault. fault ≢ ServeFault.Memory → CutsCheck
+        (map source_file texts.items) terms (W.contents writer.old) (W.contents writer.new)) }
+    ensures memory { IfErr result (λ fault. fault ≡ ServeFault.Memory → Keeps
+        (W.contents writer.old) (W.contents writer.new)) }
 {
     let files = Rc::new(alloc, Files::from_names_and_contents(alloc, texts)?)?;
     match compile(alloc, files) {
-        Ok(_) => {
-            write_text(writer, "accepted\n")?;
-            Ok(Status::AllWell)
-        }
-        Err(Refused::Faults(errors)) => {
-            write_faults(alloc, &errors, writer)?;
-            Ok(Status::TextsRefused)
-        }
+        Ok(program) => tell(alloc, terms, &program, writer),
+        Err(Refused::Faults(errors)) => refuse(alloc, &errors, writer),
         Err(Refused::Memory) => Err(ServeFault::Memory),
     }
+}
+
+/// Writes what is told of an accepted program.
+fn tell<W: Write>(
+    alloc: Global,
+    terms: bool,
+    program: &Program,
+    writer: &mut W,
+) -> Result<Status, ServeFault>
+    ensures status { IfOk result (λ status. status ≡ Status.AllWell) }
+    ensures written { OnOk result ((text : List ℕ) × TellsProgram program.now terms text
+        × Appends (W.contents writer.old) (W.contents writer.new) text) }
+    ensures cut { IfErr result (λ fault. fault ≢ ServeFault.Memory → (text : List ℕ)
+        × TellsProgram program.now terms text × AppendsBeginning (W.contents writer.old) (W.contents writer.new) text) }
+    ensures memory { IfErr result (λ fault. fault ≡ ServeFault.Memory → Keeps
+        (W.contents writer.old) (W.contents writer.new)) }
+{
+    let text = program_text(alloc, program, terms)?;
+    write_text(writer, text.as_str())?;
+    Ok(Status::AllWell)
 }
 
 /// Writes what is printed of faults.
@@ -120,42 +292,13 @@ pub(crate) fn write_faults<W: Write>(
     errors: &Errors,
     writer: &mut W,
 ) -> Result<(), ServeFault>
-    ensures { OnOk result
+    ensures written { OnOk result
         (Appends (W.contents writer.old) (W.contents writer.new) (report_text errors.now)) }
+    ensures cut { IfErr result (λ fault. fault ≢ ServeFault.Memory → AppendsBeginning
+        (W.contents writer.old) (W.contents writer.new) (report_text errors.now)) }
+    ensures memory { IfErr result (λ fault. fault ≡ ServeFault.Memory → Keeps
+        (W.contents writer.old) (W.contents writer.new)) }
 {
     let text = errors.to_string(alloc)?;
     write_text(writer, text.as_str())
-}
-
-/// A world whose external functions answer nothing.
-#[derive(Drop)]
-struct Empty;
-
-impl World for Empty {
-    fn construct(
-        &self,
-        _alloc: Global,
-        _term: &str,
-        _args: &[Value],
-    ) -> Result<Option<Value>, AllocError> {
-        Ok(None)
-    }
-
-    fn extract(
-        &self,
-        _alloc: Global,
-        _term: &str,
-        _arg: &Value,
-    ) -> Result<Option<Vec<Value>>, AllocError> {
-        Ok(None)
-    }
-
-    fn effect(
-        &mut self,
-        _alloc: Global,
-        _term: &str,
-        _args: &[Value],
-    ) -> Result<Option<Value>, AllocError> {
-        Ok(None)
-    }
 }

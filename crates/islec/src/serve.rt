@@ -1,6 +1,8 @@
 //! Queries from a reader, answered to a writer.
-ghost use Rattle.std.specs.Prelude.{◌≡◌, OnOk, OnErr, IfErr};
-ghost use Rattle.std.specs.Io.KnownBytes.{Appends, Keeps};
+ghost use Rattle.std.specs.Prelude.{◌≡◌, ◌≢◌, ◌↔◌, ◌++◌, ◌||◌, ℕ, Bool, List, [], ◌∷◌, OnOk, OnErr, IfOk, IfErr, IfSome, IfNone, IsTrue, string_bytes};
+ghost use Rattle.std.specs.Io.KnownBytes.{Appends, Keeps, IsAtEnd};
+ghost use Rattle.islec.specs.Replies.{IsReply};
+ghost use Rattle.islec.specs.Serving.{AreLinesOf, AreFirstLinesOf, AnswersAll, AnswersFirst, AnswersCut, KeepsBack, GivesLines, TakesLine, LosesNewline, some_refused};
 ghost use Rattle.islec.specs.Writing.{AppendsBeginning, ContinuesBy};
 ghost use Rattle.islec.specs.declared.serve.ServeFault.TheVariants.{Memory};
 
@@ -16,6 +18,15 @@ pub enum Served {
     AllWell,
     /// Some line was refused, stuck, spent or ill-typed.
     SomeRefused,
+}
+
+impl Served {
+    // How the lines were answered with one more, which counts as refused or not.
+    fn after(self, refused: bool) -> Served
+        ensures { some_refused result ≡ (some_refused self || refused) }
+    {
+        if refused { Served::SomeRefused } else { self }
+    }
 }
 
 /// Why an input was not answered to its end.
@@ -59,28 +70,53 @@ pub fn serve<V: World, R: Read, W: Write>(
     reader: &mut R,
     writer: &mut W,
 ) -> Result<Served, ServeFault>
-    ensures { ContinuesBy (W.contents writer.old) (W.contents writer.new) }
+    ensures continues { ContinuesBy (W.contents writer.old) (W.contents writer.new) }
+    ensures answered { IfOk result (λ served. AnswersAll program.now (R.remaining reader.old)
+        (some_refused served) (W.contents writer.old) (W.contents writer.new)) }
+    ensures stopped { IfErr result (λ fault. fault ≢ ServeFault.Write → AnswersFirst program.now
+        (R.remaining reader.old) (W.contents writer.old) (W.contents writer.new)) }
+    ensures cut { IfErr result (λ fault. fault ≡ ServeFault.Write → AnswersCut program.now
+        (R.remaining reader.old) (W.contents writer.old) (W.contents writer.new)) }
 {
     let Ok(mut input) = BufReader::new(alloc, reader) else {
         return Err(ServeFault::Memory);
     };
+    serve_input(alloc, program, world, depth, &mut input, writer)
+}
+
+fn serve_input<V: World, B: BufRead, W: Write>(
+    alloc: Global,
+    program: &Program,
+    world: &mut V,
+    depth: u32,
+    input: &mut B,
+    writer: &mut W,
+) -> Result<Served, ServeFault>
+    ensures continues { ContinuesBy (W.contents writer.old) (W.contents writer.new) }
+    ensures answered { IfOk result (λ served. AnswersAll program.now (B.remaining input.old)
+        (some_refused served) (W.contents writer.old) (W.contents writer.new)) }
+    ensures stopped { IfErr result (λ fault. fault ≢ ServeFault.Write → AnswersFirst program.now
+        (B.remaining input.old) (W.contents writer.old) (W.contents writer.new)) }
+    ensures cut { IfErr result (λ fault. fault ≡ ServeFault.Write → AnswersCut program.now
+        (B.remaining input.old) (W.contents writer.old) (W.contents writer.new)) }
+{
     let mut unwritten = String::new(alloc);
-    let outcome = serve_lines(
-        alloc,
-        program,
-        world,
-        depth,
-        &mut input,
-        &mut unwritten,
-        writer,
-    );
+    let outcome = serve_lines(alloc, program, world, depth, input, &mut unwritten, writer);
+    if is_unwritable(&outcome) {
+        return Err(ServeFault::Write);
+    }
+    write_text(writer, unwritten.as_str())?;
+    flush(writer)?;
+    outcome
+}
+
+// Whether a write has failed.
+fn is_unwritable(outcome: &Result<Served, ServeFault>) -> bool
+    ensures { IsTrue result ↔ (outcome.now ≡ Err ServeFault.Write) }
+{
     match outcome {
-        Err(ServeFault::Write) => Err(ServeFault::Write),
-        outcome => {
-            write_text(writer, unwritten.as_str())?;
-            flush(writer)?;
-            outcome
-        }
+        Err(ServeFault::Write) => true,
+        Ok(_) | Err(ServeFault::Read) | Err(ServeFault::Memory) => false,
     }
 }
 
@@ -94,41 +130,99 @@ fn serve_lines<V: World, B: BufRead, W: Write>(
     unwritten: &mut String,
     writer: &mut W,
 ) -> Result<Served, ServeFault>
-    ensures { ContinuesBy (W.contents writer.old) (W.contents writer.new) }
+    requires { string_bytes unwritten.old ≡ [] }
+    ensures answered { IfOk result (λ served. (lines : List (List ℕ))
+        × AreLinesOf (B.remaining input.old) lines
+        × KeepsBack program.now lines (some_refused served) (W.contents writer.old)
+        (W.contents writer.new) (string_bytes unwritten.new)) }
+    ensures stopped { IfErr result (λ fault. fault ≢ ServeFault.Write → (lines : List (List ℕ))
+        × (refused : Bool) × AreFirstLinesOf (B.remaining input.old) lines
+        × KeepsBack program.now lines refused (W.contents writer.old) (W.contents writer.new)
+        (string_bytes unwritten.new)) }
+    ensures cut { IfErr result (λ fault. fault ≡ ServeFault.Write → AnswersCut program.now
+        (B.remaining input.old) (W.contents writer.old) (W.contents writer.new)) }
 {
     let mut served = Served::AllWell;
     for _ in 0..u64::MAX {
-        let Some(line) = read_line(alloc, input)? else {
+        let Some(refused) = answer_next(alloc, program, world, depth, input, unwritten)? else {
             return Ok(served);
         };
-        let reply = reply_to(alloc, program, world, depth, line.as_slice())?;
-        unwritten.push_str(reply.lines.as_str())?;
-        if reply.refused {
-            served = Served::SomeRefused;
-        }
-        if unwritten.len() >= FULL {
-            write_text(writer, unwritten.as_str())?;
-            unwritten.clear();
-        }
+        served = served.after(refused);
+        write_full(unwritten, writer)?;
     }
     Err(ServeFault::Read)
 }
 
-// The bytes of a line without its newline, or `None` at the end. A reader that is out of memory
-// counts as running out of memory.
-fn read_line<B: BufRead>(alloc: Global, input: &mut B) -> Result<Option<Vec<u8>>, ServeFault> {
+// Puts the reply to the next line behind what is unwritten, and tells whether it counts as
+// refused; `None` at the end.
+fn answer_next<V: World, B: BufRead>(
+    alloc: Global,
+    program: &Program,
+    world: &mut V,
+    depth: u32,
+    input: &mut B,
+    unwritten: &mut String,
+) -> Result<Option<bool>, ServeFault>
+    ensures answered { IfOk result (λ next. IfSome next (λ refused. (line one : List ℕ)
+        × IsReply program.now line one refused
+        × (string_bytes unwritten.new ≡ string_bytes unwritten.old ++ one)
+        × GivesLines (B.remaining input.old) (B.remaining input.new) (line ∷ []))) }
+    ensures end { IfOk result (λ next. IfNone next (IsAtEnd (B.remaining input.old))) }
+    ensures none { IfOk result (λ next. IfNone next
+        (string_bytes unwritten.new ≡ string_bytes unwritten.old)) }
+    ensures err { OnErr result (string_bytes unwritten.new ≡ string_bytes unwritten.old) }
+    ensures fault { IfErr result (λ fault. fault ≢ ServeFault.Write) }
+{
+    let Some(line) = read_line(alloc, input)? else {
+        return Ok(None);
+    };
+    let bare = without_newline(line.as_slice());
+    let reply = reply_to(alloc, program, world, depth, bare)?;
+    unwritten.push_str(reply.lines.as_str())?;
+    Ok(Some(reply.refused))
+}
+
+// The bytes of a line with the newline that ends it, or `None` at the end. A reader that is out of
+// memory counts as running out of memory.
+fn read_line<B: BufRead>(alloc: Global, input: &mut B) -> Result<Option<Vec<u8>>, ServeFault>
+    ensures line { IfOk result (λ read. IfSome read
+        (λ line. TakesLine (B.remaining input.old) (B.remaining input.new) line.items)) }
+    ensures end { IfOk result (λ read. IfNone read (IsAtEnd (B.remaining input.old))) }
+    ensures fault { IfErr result (λ fault. fault ≢ ServeFault.Write) }
+{
     let mut line = Vec::new(alloc);
     match input.read_until(b'\n', &mut line) {
         Ok(0) => Ok(None),
-        Ok(_) => {
-            if line.last() == Some(&b'\n') {
-                line.pop();
-            }
-            Ok(Some(line))
-        }
+        Ok(_) => Ok(Some(line)),
         Err(error) if error.kind() == ErrorKind::OutOfMemory => Err(ServeFault::Memory),
         Err(_) => Err(ServeFault::Read),
     }
+}
+
+// A line without the newline that ends it, if it has one.
+fn without_newline(line: &[u8]) -> &[u8]
+    ensures { LosesNewline line.now result.now }
+{
+    let Some((last, front)) = line.split_last() else {
+        return line;
+    };
+    if *last == b'\n' { front } else { line }
+}
+
+// Writes what is kept back once it is long.
+fn write_full<W: Write>(unwritten: &mut String, writer: &mut W) -> Result<(), ServeFault>
+    ensures ok { OnOk result ((some : List ℕ)
+        × Appends (W.contents writer.old) (W.contents writer.new) some
+        × (string_bytes unwritten.old ≡ some ++ string_bytes unwritten.new)) }
+    ensures err { OnErr result (AppendsBeginning (W.contents writer.old) (W.contents writer.new)
+        (string_bytes unwritten.old)) }
+    ensures fault { IfErr result (λ fault. fault ≡ ServeFault.Write) }
+{
+    if unwritten.len() >= FULL {
+        write_text(writer, unwritten.as_str())?;
+        unwritten.clear();
+    }
+    Ok(())
 }
 
 /// Writes a text, or a beginning of it where a write fails or takes nothing.
@@ -155,7 +249,8 @@ pub fn write_text<W: Write>(writer: &mut W, text: &str) -> Result<(), ServeFault
 }
 
 fn flush<W: Write>(writer: &mut W) -> Result<(), ServeFault>
-    ensures { Keeps (W.contents writer.old) (W.contents writer.new) }
+    ensures kept { Keeps (W.contents writer.old) (W.contents writer.new) }
+    ensures fault { IfErr result (λ fault. fault ≡ ServeFault.Write) }
 {
     match writer.flush() {
         Ok(()) => Ok(()),

@@ -1,6 +1,8 @@
-ghost use Rattle.std.specs.Prelude.{◌≡◌};
+ghost use Rattle.std.specs.Prelude.{◌≡◌, codes};
 ghost use Rattle.islec.specs.Statuses.{code_of};
+ghost use Rattle.islec.specs.Writing.{AppendsBeginning};
 
+use crate::serve::write_text;
 use std::io::Write;
 
 /// How the program ends.
@@ -36,10 +38,11 @@ impl Status {
     }
 }
 
-/// BecomesFault that memory ran out, which takes no memory, and gives that status.
+/// Tells that memory ran out, which takes no memory, and gives that status.
 pub fn out_of_memory<W: Write>(writer: &mut W) -> Status
-    ensures { result ≡ Status.OutOfMemory }
+    ensures status { result ≡ Status.OutOfMemory }
+    ensures written { AppendsBeginning (W.contents writer.old) (W.contents writer.new) (codes "out of memory\n") }
 {
-    let _ = writer.write_all(b"out of memory\n");
+    let _ = write_text(writer, "out of memory\n");
     Status::OutOfMemory
 }

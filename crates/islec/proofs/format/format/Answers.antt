@@ -1,11 +1,18 @@
 use Rattle.std.proofs.Common.{◌≡◌, ◌<◌, ◌≤◌, ◌∷◌, [], List, length, map, take, string_bytes, arith, subst, slice_get, IfSome, rules}
+use Rattle.std.proofs.Common.{◌≢◌, ◌∙◌, ap, inl, inr, ℕ, Option}
 use Rattle.std.specs.Io.KnownBytes.{Appends}
 use Rattle.isle_layout.specs.Formats.{Formats}
-use Rattle.isle_syntax.specs.Errors.{report_text}
+use Rattle.std.proofs.lemmas.Result.{err_from_is_err_and}
+use Rattle.isle_syntax.specs.Errors.{Report, report_text}
+use Rattle.isle_syntax.specs.declared.error.Error.{Error}
 use Rattle.isle_syntax.specs.Positions.Files.{SourceFile, source_file}
 use Rattle.isle_syntax.specs.Grammar.Texts.{IsFaultIn}
 use Rattle.isle_run.specs.Compiled.{IsFirstFault}
 use Rattle.isle_run.proofs.FirstFaults.{is_first_fault}
+use Rattle.islec.specs.declared.serve.ServeFault.TheVariants.{Memory}
+use Rattle.islec.specs.Formatting.{CutsPrints}
+use Rattle.islec.specs.Writing.{AppendsBeginning}
+use Rattle.islec.proofs.ServingLemmas.{at_fault}
 use Rattle.islec.proofs.SpeltPrints.{Prints-spelt}
 use Rattle.islec.proofs.PrintsLemmas.{Prints-pushed, Prints-all}
 use Rattle.islec.proofs.format.format.Goals as goal
@@ -46,3 +53,51 @@ returns-in-Err-Fault-clause-refused g c = λ _.
     let wrote : Appends (g.W.Write.contents c.args.writer.now) (g.W.Write.contents c.write_faults-in-Err-Fault.new.writer)
     (report_text (record { errors = c.in-Err-Fault.error ∷ []; files = map source_file c.args.texts.items })) = search rules in
     (error, subst (λ (all : List SourceFile). IsFirstFault all error) same first, wrote)
+
+pub returns-in_err-write_text-clause-cut : goal.returns-in_err-write_text-clause-cut
+returns-in_err-write_text-clause-cut g c =
+    let most : length c.in_ok-files.files.value ≤ c.loop-file.file = grind arith in
+    let wrote = subst (AppendsBeginning (g.W.Write.contents c.loop-file.writer) (g.W.Write.contents c.write_text.new.writer)) c.as_str-2.ensures.value
+    c.in_err-write_text.ensures.err in
+    at_fault c.from_residual-in_err-write_text.result (λ fault. fault ≢ Memory)
+    (CutsPrints c.args.width (map source_file c.args.texts.items) (g.W.Write.contents c.args.writer.now) (g.W.Write.contents c.write_text.new.writer))
+    (inl (
+      string_bytes c.loop-file.printed,
+      Prints-all c.args.width c.loop-file.file c.in_ok-files.files.value _ (string_bytes c.loop-file.printed)
+          most (grind arith) c.loop-file.invariant.printed,
+      subst (λ old. AppendsBeginning old (g.W.Write.contents c.write_text.new.writer)
+          (string_bytes c.loop-file.printed)) c.loop-file.invariant.unwritten wrote,
+    ))
+
+-- a beginning of the report of the first fault
+cut_report : (width : ℕ) (files all : List SourceFile) (error : Error) (report : Report) (old held new : Option (List ℕ)) → IsFirstFault files error
+    → files ≡ all → report ≡ record { errors = error ∷ []; files = files } → held ≡ old → AppendsBeginning held new (report_text report)
+    → CutsPrints width all old new
+cut_report width files all error report old held new first same is kept wrote =
+    let own = subst (λ (o : Option (List ℕ)). AppendsBeginning o new (report_text report)) kept wrote in
+    let text = subst (λ (r : Report). AppendsBeginning old new (report_text r)) is own in
+    inr (
+      error,
+      subst (λ (l : List SourceFile). IsFirstFault l error) same first,
+      subst (λ (l : List SourceFile). AppendsBeginning old new (report_text (record { errors = error ∷ []; files = l }))) same text,
+    )
+
+pub returns-in_err-write_faults-in-Err-Fault-clause-cut : goal.returns-in_err-write_faults-in-Err-Fault-clause-cut
+returns-in_err-write_faults-in-Err-Fault-clause-cut g c =
+    let files = c.in_ok-files.files.value in
+    let error = c.in-Err-Fault.error in
+    let within : c.loop-file.file < length c.in_ok-files.files.value = grind arith in
+    let here : IfSome (slice_get c.in_ok-files.files.value c.loop-file.file)
+    (λ file. IsFaultIn c.loop-file.file file.text c.in-Err-Fault.error) = search rules in
+    let same : c.in_ok-files.files.value ≡ map source_file c.args.texts.items = grind arith in
+    let before = Prints-spelt c.args.width 0 (take c.loop-file.file files) (string_bytes c.loop-file.printed) c.loop-file.invariant.printed in
+    let first = is_first_fault files c.loop-file.file before error within here in
+    let pushed = rw c.new-errors.ensures.items at c.in_ok-push-in-Err-Fault.ensures.items in
+    let alone : c.push.new.self.items ≡ c.in-Err-Fault.error ∷ [] = pushed ∙ ap (λ (e : Error). e ∷ []) c.in-Err-Fault.error-is in
+    let is : c.new-in-Err-Fault.result ≡ record { errors = error ∷ []; files = files } =
+    c.new-in-Err-Fault.ensures ∙ ap (λ (l : List Error). let r : Report = record { errors = l; files = files } in r) alone in
+    let p = err_from_is_err_and c.from_residual-in_err-write_faults-in-Err-Fault.result c.from_residual-in_err-write_faults-in-Err-Fault.ensures.1 in
+    rw (p.1, p.2)
+    (λ other. cut_report c.args.width files (map source_file c.args.texts.items) error c.new-in-Err-Fault.result (g.W.Write.contents c.args.writer.now)
+    (g.W.Write.contents c.loop-file.writer) (g.W.Write.contents c.write_faults-in-Err-Fault.new.writer) first same is
+    c.loop-file.invariant.unwritten (c.in_err-write_faults-in-Err-Fault.ensures.cut other))

@@ -1,15 +1,32 @@
-use Rattle.std.proofs.Common.{◌≡◌, map, arith, rules}
-use Rattle.std.specs.Io.KnownBytes.{Appends}
-use Rattle.isle_syntax.specs.Errors.{report_text}
+use Rattle.std.proofs.Common.{◌≡◌, map, arith}
 use Rattle.isle_syntax.specs.Positions.Files.{source_file}
-use Rattle.islec.proofs.RefusedFiles.{writes_faults}
+use Rattle.islec.proofs.RunLemmas.{faults_by, refusal_uncheckable, accepts_by, tells_cut}
 use Rattle.islec.proofs.perform.check.Goals as goal
 
 pub returns-in-Err-Faults-clause-refused : goal.returns-in-Err-Faults-clause-refused
-returns-in-Err-Faults-clause-refused g c = λ _.
+returns-in-Err-Faults-clause-refused g c =
     let same : c.in_ok-files.files.value ≡ map source_file c.args.texts.items = grind arith in
-    let wrote : Appends (g.W.Write.contents c.args.writer.now) (g.W.Write.contents c.write_faults.new.writer) (report_text c.in-Err-Faults.errors) =
-    search rules in
     let told = c.in-Err-Faults.ensures in
-    writes_faults c.in_ok-files.files.value (map source_file c.args.texts.items) c.in-Err-Faults.field-0 c.in-Err-Faults.errors _ _
-    c.in-Err-Faults.field-0-is same told.refused told.faults told.of_files wrote
+    faults_by c.in_ok-files.files.value (map source_file c.args.texts.items) c.in-Err-Faults.field-0 c.in-Err-Faults.errors
+    (g.W.Write.contents c.args.writer.now) (g.W.Write.contents c.refuse.new.writer) c.in-Err-Faults.field-0-is same
+    told.refused told.faults told.of_files c.refuse.result c.refuse.ensures.written
+
+pub returns-in-Err-Faults-clause-cut : goal.returns-in-Err-Faults-clause-cut
+returns-in-Err-Faults-clause-cut g c =
+    let same : c.in_ok-files.files.value ≡ map source_file c.args.texts.items = grind arith in
+    let told = c.in-Err-Faults.ensures in
+    refusal_uncheckable c.in_ok-files.files.value (map source_file c.args.texts.items) c.in-Err-Faults.field-0 c.in-Err-Faults.errors
+    (g.W.Write.contents c.args.writer.now) (g.W.Write.contents c.refuse.new.writer) c.in-Err-Faults.field-0-is same
+    told.refused told.faults told.of_files c.args.terms c.refuse.result c.refuse.ensures.cut
+
+pub returns-in-Ok-clause-accepted : goal.returns-in-Ok-clause-accepted
+returns-in-Ok-clause-accepted g c =
+    let same : c.in_ok-files.files.value ≡ map source_file c.args.texts.items = grind arith in
+    accepts_by c.in_ok-files.files.value (map source_file c.args.texts.items) same c.in-Ok.program c.in-Ok.ensures.compiled c.in-Ok.ensures.accepted c.args.terms
+    (g.W.Write.contents c.args.writer.now) (g.W.Write.contents c.tell.new.writer) c.tell.result c.tell.ensures.written
+
+pub returns-in-Ok-clause-cut : goal.returns-in-Ok-clause-cut
+returns-in-Ok-clause-cut g c =
+    let same : c.in_ok-files.files.value ≡ map source_file c.args.texts.items = grind arith in
+    tells_cut c.in_ok-files.files.value (map source_file c.args.texts.items) same c.in-Ok.program c.in-Ok.ensures.compiled c.in-Ok.ensures.accepted c.args.terms
+    (g.W.Write.contents c.args.writer.now) (g.W.Write.contents c.tell.new.writer) c.tell.result c.tell.ensures.cut

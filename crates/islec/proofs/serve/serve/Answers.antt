@@ -1,17 +1,19 @@
-use Rattle.islec.proofs.WritingLemmas.{ContinuesBy-text, ContinuesBy-trans, ContinuesBy-kept}
+use Rattle.std.proofs.Common.{◌≡◌, ◌≢◌, ℕ, List, Option, IfOk, IfErr, subst}
+use Rattle.islec.specs.declared.serve.ServeFault.TheVariants.{Write}
+use Rattle.islec.specs.Serving.{AnswersAll, AnswersFirst, AnswersCut, some_refused}
+use Rattle.islec.proofs.ServingLemmas.{unbuffered}
 use Rattle.islec.proofs.serve.serve.Goals as goal
-
-pub returns-in_err-write_text-in_default-outcome :
-    goal.returns-in_err-write_text-in_default-outcome
-returns-in_err-write_text-in_default-outcome g c =
-    ContinuesBy-trans _ _ _ c.serve_lines-outcome.ensures (ContinuesBy-text _ _ _ _ _ c.write_text.ensures.ok c.write_text.ensures.err)
-
-pub returns-in_err-flush-in_default-outcome : goal.returns-in_err-flush-in_default-outcome
-returns-in_err-flush-in_default-outcome g c =
-    ContinuesBy-kept _ _ _ (ContinuesBy-trans _ _ _ c.serve_lines-outcome.ensures
-    (ContinuesBy-text _ _ _ _ _ c.write_text.ensures.ok c.write_text.ensures.err)) c.flush.ensures
 
 pub returns : goal.returns
 returns g c =
-    ContinuesBy-kept _ _ _ (ContinuesBy-trans _ _ _ c.serve_lines-outcome.ensures
-    (ContinuesBy-text _ _ _ _ _ c.write_text.ensures.ok c.write_text.ensures.err)) c.flush.ensures
+    let new = c.in-Ok.ensures in
+    let same = unbuffered (λ r. g.R.Read.remaining r.now) c.in-Ok.input _ new.inner new.empty new.capacity in
+    record {
+      continues = c.serve_input.ensures.continues;
+      answered = subst (λ (input : Option (List ℕ)). IfOk c.serve_input.result (λ served. AnswersAll c.args.program.now input (some_refused served)
+          (g.W.Write.contents c.args.writer.now) (g.W.Write.contents c.serve_input.new.writer))) same c.serve_input.ensures.answered;
+      stopped = subst (λ (input : Option (List ℕ)). IfErr c.serve_input.result (λ fault. fault ≢ Write → AnswersFirst c.args.program.now input
+          (g.W.Write.contents c.args.writer.now) (g.W.Write.contents c.serve_input.new.writer))) same c.serve_input.ensures.stopped;
+      cut = subst (λ (input : Option (List ℕ)). IfErr c.serve_input.result (λ fault. fault ≡ Write → AnswersCut c.args.program.now input
+          (g.W.Write.contents c.args.writer.now) (g.W.Write.contents c.serve_input.new.writer))) same c.serve_input.ensures.cut;
+    }

@@ -1,0 +1,56 @@
+-- What is written of a call's parts, and what a refused or an answered query is written.
+use Rattle.std.proofs.Common.{◌≡◌, ◌<◌, ◌+◌, ◌++◌, ℕ, zero, suc, List, [], ◌∷◌, Some, Result, Ok, Err, IfOk, OnOk, length, take, get_or, sym, subst, ap, ◌∙◌, append_assoc, append-nil, add-one, arith, string_bytes}
+use Rattle.std.specs.Prelude.{codes, IsUtf8}
+use Rattle.std.specs.declared.alloc.AllocError.{AllocError}
+use Rattle.isle_types.specs.declared.ids.TermId.{TermId}
+use Rattle.isle_terms.specs.Values.{ValueTree, ValueTrees, value_list}
+use Rattle.isle_run.specs.declared.program.Program.{Program}
+use Rattle.isle_run.specs.declared.query.QueryFault.{QueryFault}
+use Rattle.isle_run.specs.Queries.{RefusesText, IsCallIn}
+use Rattle.isle_run.specs.TextTokens.{AreTokensOf}
+use Rattle.isle_run.specs.ValueText.{value_text, fields_text}
+use Rattle.islec.specs.declared.answer.Reply.{Reply}
+use Rattle.islec.specs.Replies.{Refuses, IsReply, AnswersCall, call_text, cause_number, no_call, call}
+
+-- one argument more
+fields_more : (args : List ValueTree) (i : ℕ) (v : ValueTree) → i < length args → v ≡ get_or args i v
+    → fields_text (value_list (take (suc i) args)) ≡ fields_text (value_list (take i args)) ++ (codes " " ++ value_text v)
+fields_more [] i v within is = absurd (omega (arith, within))
+fields_more (a ∷ args) zero v within is = rw (sym is) (append-nil (codes " " ++ value_text v))
+fields_more (a ∷ args) (suc i) v within is =
+    let rest = fields_more args i v (omega arith) is in
+    ap (λ l. codes " " ++ (value_text a ++ l)) rest
+    ∙ ap (λ l. codes " " ++ l) (sym (append_assoc (value_text a) (fields_text (value_list (take i args))) (codes " " ++ value_text v)))
+
+-- the same, as a loop goes on
+pub next_argument : (old name : List ℕ) (args : List ValueTree) (i : ℕ) (v : ValueTree) (was spaced grown : List ℕ) → i < length args
+    → v ≡ get_or args i v → was ≡ old ++ (codes "(" ++ (name ++ fields_text (value_list (take i args))))
+    → spaced ≡ was ++ codes " " → grown ≡ spaced ++ value_text v
+    → grown ≡ old ++ (codes "(" ++ (name ++ fields_text (value_list (take (i + 1) args))))
+next_argument old name args i v was spaced grown within is written space text =
+    rw (add-one i, fields_more args i v within is, text, space, written) (simp append_assoc)
+
+-- a query that is refused
+pub refused_query : (program : Program) (line text : List ℕ) (fault : QueryFault) (cause : ℕ) (r : Result Reply AllocError) → text ≡ line → IsUtf8 line
+    → ¬ AreTokensOf text [] → RefusesText program text fault → cause_number fault ≡ Some cause → IfOk r (Refuses cause)
+    → IfOk r (λ reply. IsReply program line (string_bytes reply.lines) reply.refused)
+refused_query program line text fault cause (Err e) same utf8 some refuses number told = tt
+refused_query program line text fault cause (Ok reply) same utf8 some refuses number told =
+    no_call utf8 (subst (λ l. ¬ AreTokensOf l []) same some) fault cause (subst (λ l. RefusesText program l fault) same refuses) number
+    told.lines told.refused
+
+-- a query that is answered
+pub answered_query : (program : Program) (line text : List ℕ) (term : TermId) (args : ValueTrees) (r : Result Reply AllocError) → text ≡ line → IsUtf8 line
+    → IsCallIn program text term args → IfOk r (λ reply. AnswersCall program term args (string_bytes reply.lines) reply.refused)
+    → IfOk r (λ reply. IsReply program line (string_bytes reply.lines) reply.refused)
+answered_query program line text term args (Err e) same utf8 spelt told = tt
+answered_query program line text term args (Ok reply) same utf8 spelt told =
+    call utf8 term args (subst (λ l. IsCallIn program l term args) same spelt) told
+
+-- a call behind a word
+pub labelled : (r : Result (Unit {0}) AllocError) (old put new label name own : List ℕ) (args items : List ValueTree) → put ≡ old ++ label → name ≡ own
+    → args ≡ items → OnOk r (new ≡ put ++ call_text name args) → OnOk r (new ≡ old ++ (label ++ call_text own items))
+labelled (Err e) old put new label name own args items is named same wrote = tt
+labelled (Ok u) old put new label name own args items is named same wrote =
+    wrote ∙ ap (λ l. l ++ call_text name args) is ∙ append_assoc old label (call_text name args)
+    ∙ ap (λ l. old ++ (label ++ call_text l args)) named ∙ ap (λ l. old ++ (label ++ call_text own l)) same

@@ -1,0 +1,63 @@
+//! What a check writes of an accepted program.
+ghost use Rattle.std.specs.Prelude.{IfOk, string_bytes};
+ghost use Rattle.islec.specs.Terms.{TellsRuns, IsTermLine, AreTermLines, TellsProgram, NotesTypes};
+
+use isle_run::{Program, TermId};
+use std::alloc::{AllocError, Global};
+
+/// Whether a term can be run, in words.
+fn runs_word(program: &Program, term: TermId) -> &str
+    ensures { TellsRuns program.now term result.now }
+{
+    if program.runnable(term) {
+        " runnable "
+    } else {
+        " not-runnable "
+    }
+}
+
+/// The line of a term: its name, whether it can be run, and how many steps its rules take at most.
+fn term_line(alloc: Global, program: &Program, term: TermId) -> Result<String, AllocError>
+    ensures { IfOk result (λ line. IsTermLine program.now term (string_bytes line)) }
+{
+    let name = program.name(term);
+    let runs = runs_word(program, term);
+    let steps = program.steps_at_most(term);
+    format!(in alloc; "{name}{runs}{steps}\n")
+}
+
+/// The lines of these terms.
+fn term_lines(alloc: Global, program: &Program, terms: &[TermId]) -> Result<String, AllocError>
+    ensures { IfOk result (λ lines. AreTermLines program.now terms.now (string_bytes lines)) }
+{
+    let mut lines = String::new(alloc);
+    for term in terms {
+        let line = term_line(alloc, program, *term)?;
+        lines.push_str(line.as_str())?;
+    }
+    Ok(lines)
+}
+
+/// Whether some type has no value, as a line.
+fn types_note(program: &Program) -> &str
+    ensures { NotesTypes program.now result.now }
+{
+    if program.inhabited() {
+        ""
+    } else {
+        "some type has no value\n"
+    }
+}
+
+/// What a check writes of an accepted program, with its terms where they are asked for.
+pub fn program_text(alloc: Global, program: &Program, terms: bool) -> Result<String, AllocError>
+    ensures { IfOk result (λ text. TellsProgram program.now terms (string_bytes text)) }
+{
+    let mut text = String::from_str(alloc, "accepted\n")?;
+    text.push_str(types_note(program))?;
+    if terms {
+        let lines = term_lines(alloc, program, program.terms_with_rules())?;
+        text.push_str(lines.as_str())?;
+    }
+    Ok(text)
+}
