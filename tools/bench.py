@@ -1,5 +1,5 @@
-"""Times reading, typing and formatting generated rule files, and a sorted map: MB a second, and the most
-memory it took.
+"""Times reading, typing and formatting generated rule files, worlds and queries, and a sorted map: MB a
+second, and the most memory it took.
 
     bench.py ISLE_BENCH ISLEC
 """
@@ -109,6 +109,29 @@ def measure(title, words, text, check):
     print(f"{title}: {len(text) / 1e6 / seconds:.1f} MB a second, {seconds:.3f} s, {memory:.0f} MB of memory")
 
 
+FIRST = """(type Op (enum (Add (a u8) (b u8)) (Neg (a u8))))
+(decl partial simp (Op) u8)
+(rule (simp (Op.Add x 0)) x)
+(rule (simp (Op.Neg y)) y)
+"""
+
+HOST = "(decl pure partial m (u64) u64) (extern constructor m m)\n"
+
+
+def measure_run(title, program, world, queries, check):
+    """Prints the best of three runs on a program, a world and queries."""
+    with tempfile.TemporaryDirectory() as folder:
+        paths = [os.path.join(folder, name) for name in ("a.isle", "world", "queries")]
+        for path, text in zip(paths, (program, world, queries)):
+            with open(path, "w") as file:
+                file.write(text)
+        runs = [timed([ISLEC, "run", "--world", paths[1], paths[0]], paths[2]) for _ in range(3)]
+    seconds, memory, printed = min(runs)
+    if not check(printed):
+        sys.exit(f"{title}: {printed[:80]}")
+    print(f"{title}: {(len(world) + len(queries)) / 1e6 / seconds:.1f} MB a second, {seconds:.3f} s, {memory:.0f} MB of memory")
+
+
 def main():
     bench, islec = os.path.abspath(sys.argv[1]), ISLEC
     for megabytes in (2, 4, 8):
@@ -117,13 +140,20 @@ def main():
     for number in (500, 1_000, 2_000):
         measure(f"type {number:,} enums of 50 variants", [bench, "types"], enums(number, 50), lambda it: it == f"{number + 13}\n")
     for number in (5_000, 10_000, 20_000):
-        measure(f"compile {number:,} rules", [islec, "run"], typed_rules(number), lambda it: it == "")
+        measure(f"compile {number:,} rules", [islec, "check"], typed_rules(number), lambda it: it == "accepted\n")
     for number in (500, 1_000, 2_000, 4_000):
         measure(f"check {number:,} rules", [islec, "check"], typed_rules(number), lambda it: it == "accepted\n")
     for number in (16_384, 65_536):
         for order in ("descending", "mixed"):
             text = keys(number, order == "mixed")
             measure(f"put {number:,} keys in {order} order", [bench, "keys"], text, lambda it: it == f"{number}\n")
+    for number in (100_000, 200_000):
+        queries = "(simp (Op.Add 7 0))\n" * number
+        measure_run(f"answer {number:,} queries", FIRST, "", queries, lambda it: it == "7\n" * number)
+    for number in (50_000, 100_000, 200_000):
+        entries = [f"(constructor m ({i}) {i})\n" for i in range(number)]
+        random.Random(1).shuffle(entries)
+        measure_run(f"read a world of {number:,} entries", HOST, "".join(entries), "", lambda it: it == "")
     text, _ = rules(4_000_000)
     for width in (20, 80):
         measure(f"format 4 MB at {width}", [islec, "fmt", "--width", str(width)], text, lambda it: it.startswith("(rule"))
