@@ -25,6 +25,7 @@ commands:
 	python3 tools/commands.py $(PROGRAM) tests/commands/*.json
 	python3 tools/replay.py $(PROGRAM) check tests/vectors/*.json
 	python3 tools/replay.py $(PROGRAM) run tests/vectors/first.json
+	python3 tools/replay.py $(PROGRAM) world tests/vectors/*.json
 
 install: build
 	install -D $(PROGRAM) $(DESTDIR)$(PREFIX)/bin/islec

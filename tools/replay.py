@@ -1,7 +1,7 @@
 #!/usr/bin/env python3
-"""Runs `islec check` or `islec run` on programs with known answers.
+"""Runs `islec check` or `islec run` on programs with known answers; `world` runs them without queries.
 
-    replay.py PROGRAM check|run FILE.json ..
+    replay.py PROGRAM check|run|world FILE.json ..
 
 Each FILE is a list of cases, as tests/vectors/README.md describes them. Prints the name of each
 case that fails with what differs, and last `N passed, M failed`. Exits with 1 where one failed.
@@ -70,7 +70,7 @@ def run(program, command, case):
         done = subprocess.run(
             [program, *words, *sorted(case["files"])],
             cwd=folder,
-            input=case["queries"].encode(),
+            input=b"" if command == "world" else case["queries"].encode(),
             stdout=subprocess.PIPE,
             stderr=subprocess.PIPE,
             timeout=SECONDS,
@@ -81,11 +81,10 @@ def run(program, command, case):
 
 def wanted_of(command, case):
     """What the command must write, and its exit status."""
-    text = case[command]
-    if command == "check":
-        # Which types have a value isn't looked at yet.
-        text = text.replace("some type has no value\n", "")
-    return text, case[command + "_status"]
+    if command == "world":
+        # A run without queries writes something only where texts or world are refused.
+        return (case["run"], 1) if case["run_status"] == 1 else ("", 0)
+    return case[command], case[command + "_status"]
 
 
 def differences(program, command, case):
@@ -107,7 +106,7 @@ def differences(program, command, case):
 
 
 def main():
-    if len(sys.argv) < 4 or sys.argv[2] not in ("check", "run"):
+    if len(sys.argv) < 4 or sys.argv[2] not in ("check", "run", "world"):
         sys.exit(__doc__)
     program = os.path.abspath(sys.argv[1])
     command = sys.argv[2]
