@@ -3,7 +3,7 @@
 PREFIX ?= $(HOME)/.local
 PROGRAM = crates/islec/out/islec
 
-.PHONY: run build test commands install replay bench
+.PHONY: run build test commands edits install replay bench
 
 # The trial build: compiled with checks in the place of proofs.
 run:
@@ -15,17 +15,23 @@ build:
 	@echo "every proof of the program and of the crates below it: this takes a while"
 	cd crates/islec && rt run -- run ../../examples/first.isle < /dev/null
 
-# The gate: every proof, and then the proved program's commands and vectors.
+# The gate: every proof, and then the proved program's commands and vectors. Three checks at a time: each takes some 5 GB, of which
+# rt plans for more, so that by itself it would leave processors idle.
 test:
-	rt ci
+	RT_JOBS=3 rt ci
 	$(MAKE) commands
 
 # On the program as it was built last.
 commands:
 	python3 tools/commands.py $(PROGRAM) tests/commands/*.json
 	python3 tools/replay.py $(PROGRAM) check tests/vectors/*.json
-	python3 tools/replay.py $(PROGRAM) run tests/vectors/first.json
+	python3 tools/replay.py $(PROGRAM) plain tests/vectors/*.json
+	python3 tools/replay.py $(PROGRAM) run tests/vectors/*.json
 	python3 tools/replay.py $(PROGRAM) world tests/vectors/*.json
+
+# Wrong bodies beyond those that the gate tries, as long as the proof of their crates.
+edits:
+	tools/edits.sh
 
 install: build
 	install -D $(PROGRAM) $(DESTDIR)$(PREFIX)/bin/islec
@@ -33,7 +39,7 @@ install: build
 replay: build
 	$(MAKE) commands
 
-# Times reading, typing, compiling and formatting generated files, worlds and queries, and a sorted map.
+# Times reading, typing, compiling and formatting generated files, worlds and queries, answering calls, and a sorted map.
 bench: build
 	cd crates/isle_bench && rt run < stdin
 	python3 tools/bench.py crates/isle_bench/out/isle_bench $(PROGRAM)

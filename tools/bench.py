@@ -1,5 +1,5 @@
-"""Times reading, typing and formatting generated rule files, worlds and queries, and a sorted map: MB a
-second, and the most memory it took.
+"""Times reading, typing and formatting generated rule files, worlds and queries, answering calls, and a
+sorted map: MB a second, or seconds, and the most memory it took.
 
     bench.py ISLE_BENCH ISLEC
 """
@@ -118,18 +118,53 @@ FIRST = """(type Op (enum (Add (a u8) (b u8)) (Neg (a u8))))
 HOST = "(decl pure partial m (u64) u64) (extern constructor m m)\n"
 
 
-def measure_run(title, program, world, queries, check):
-    """Prints the best of three runs on a program, a world and queries."""
+def best_run(title, program, world, queries, check, options=()):
+    """The seconds and the memory of the best of three runs on a program, a world and queries."""
     with tempfile.TemporaryDirectory() as folder:
         paths = [os.path.join(folder, name) for name in ("a.isle", "world", "queries")]
         for path, text in zip(paths, (program, world, queries)):
             with open(path, "w") as file:
                 file.write(text)
-        runs = [timed([ISLEC, "run", "--world", paths[1], paths[0]], paths[2]) for _ in range(3)]
+        runs = [timed([ISLEC, "run", *options, "--world", paths[1], paths[0]], paths[2]) for _ in range(3)]
     seconds, memory, printed = min(runs)
     if not check(printed):
         sys.exit(f"{title}: {printed[:80]}")
+    return seconds, memory
+
+
+def measure_run(title, program, world, queries, check):
+    """Prints the best of three runs on a program, a world and queries."""
+    seconds, memory = best_run(title, program, world, queries, check)
     print(f"{title}: {(len(world) + len(queries)) / 1e6 / seconds:.1f} MB a second, {seconds:.3f} s, {memory:.0f} MB of memory")
+
+
+# One call below another for each `N.S` of a value.
+DOWN = """(type N (enum (Z) (S (p N))))
+(decl down (N) u8)
+(rule (down (N.Z)) 5)
+(rule (down (N.S n)) (down n))
+"""
+
+
+def chain(number):
+    """A query of a chain of so many calls."""
+    return "(down " + "(N.S " * (number - 1) + "(N.Z)" + ")" * number + "\n"
+
+
+def instructions(number):
+    """A world in which value 2i is an instruction that rule i of so many typed ones is of."""
+    parts = ["(constructor small else 7)\n(constructor put else v1)\n(constructor emit else v2)\n(constructor emit_imm else v3)\n"]
+    for i in range(number):
+        outer, inner = f"(Opcode.Op{i % OPCODES})", f"(Opcode.Op{i // OPCODES % OPCODES})"
+        parts.append(f"(extractor inst_data v{2 * i} ((InstData.Binary {outer} v0 v{2 * i + 1})))\n")
+        parts.append(f"(extractor inst_data v{2 * i + 1} ((InstData.Binary {inner} v0 v0)))\n")
+    return "".join(parts)
+
+
+def measure_calls(title, program, world, queries, check):
+    """Prints the best of three runs on queries whose calls may be 100,000 deep."""
+    seconds, memory = best_run(title, program, world, queries, check, ["--plain", "--depth", "100000"])
+    print(f"{title}: {seconds:.3f} s, {memory:.0f} MB of memory")
 
 
 def main():
@@ -150,6 +185,13 @@ def main():
     for number in (100_000, 200_000):
         queries = "(simp (Op.Add 7 0))\n" * number
         measure_run(f"answer {number:,} queries", FIRST, "", queries, lambda it: it == "7\n" * number)
+    measure_calls("answer 100 chains of 1,000 calls", DOWN, "", chain(1_000) * 100, lambda it: it == "5\n" * 100)
+    measure_calls("answer a chain of 100,000 calls", DOWN, "", chain(100_000), lambda it: it == "5\n")
+    places = random.Random(1).choices(range(2_000), k=10_000)
+    queries = "".join(f"(lower v{2 * place})\n" for place in places)
+    # A typed rule makes four effects.
+    measure_calls("answer 10,000 queries by 2,000 rules", typed_rules(2_000), instructions(2_000), queries,
+                  lambda it: it.count("\n") == 50_000 and it.count("! (emit_imm ") == 10_000)
     for number in (50_000, 100_000, 200_000):
         entries = [f"(constructor m ({i}) {i})\n" for i in range(number)]
         random.Random(1).shuffle(entries)

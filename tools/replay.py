@@ -1,7 +1,7 @@
 #!/usr/bin/env python3
-"""Runs `islec check` or `islec run` on programs with known answers; `world` runs them without queries.
+"""Runs `islec check`, `run` or `run --plain` on programs with known answers; `world` runs them without queries.
 
-    replay.py PROGRAM check|run|world FILE.json ..
+    replay.py PROGRAM check|run|plain|world FILE.json ..
 
 Each FILE is a list of cases, as tests/vectors/README.md describes them. Prints the name of each
 case that fails with what differs, and last `N passed, M failed`. Exits with 1 where one failed.
@@ -54,6 +54,8 @@ def words_of(command, case):
     if command == "check":
         return ["check"]
     words = ["run", "--depth", str(case["depth"])]
+    if command == "plain":
+        words.append("--plain")
     return words if case["world"] is None else [*words, "--world", "world"]
 
 
@@ -84,7 +86,9 @@ def wanted_of(command, case):
     if command == "world":
         # A run without queries writes something only where texts or world are refused.
         return (case["run"], 1) if case["run_status"] == 1 else ("", 0)
-    return case[command], case[command + "_status"]
+    if command == "check":
+        return case["check"], case["check_status"]
+    return case["run" if command == "plain" else "blocks_run"], case["run_status"]
 
 
 def differences(program, command, case):
@@ -106,7 +110,7 @@ def differences(program, command, case):
 
 
 def main():
-    if len(sys.argv) < 4 or sys.argv[2] not in ("check", "run", "world"):
+    if len(sys.argv) < 4 or sys.argv[2] not in ("check", "run", "plain", "world"):
         sys.exit(__doc__)
     program = os.path.abspath(sys.argv[1])
     command = sys.argv[2]

@@ -1,5 +1,5 @@
 -- What a program holds.
-use Rattle.std.specs.Prelude.{unwrap_or, ◌&&◌, ℕ, Bool, List, [], map, Option, Some, None, slice_get}
+use Rattle.std.specs.Prelude.{unwrap_or, ℕ, Bool, List, [], map, Option, Some, None, slice_get}
 use Rattle.std.specs.Option.{option_map, option_and_then}
 use Rattle.isle_types.specs.declared.ids.TermId.{TermId}
 use Rattle.isle_types.specs.declared.ids.TypeId.{TypeId}
@@ -9,6 +9,7 @@ use Rattle.isle_types.specs.declared.types.BuiltinType.TheVariants.{Bool as Bool
 use Rattle.isle_terms.specs.declared.terms.Term.{Term}
 use Rattle.isle_terms.specs.declared.terms.TermKind.{TermKind}
 use Rattle.isle_terms.specs.declared.terms.TermKind.TheVariants.{EnumVariant, Struct, Decl}
+use Rattle.isle_terms.specs.Meaning.Facts.{TermShape, variant_shape, struct_shape}
 use Rattle.isle_terms.specs.Meaning.ValueTypes.{TypeKind, truth_kind, integer_kind, primitive_kind, data_kind, no_kind, ValueFacts}
 use Rattle.isle_types.specs.TypeTables.{TypeTables}
 use Rattle.isle_types.specs.TypeEnvs.{name_of, sym_named, type_of_constant}
@@ -16,8 +17,7 @@ use Rattle.isle_terms.specs.declared.rules.Rule.{Rule}
 use Rattle.isle_terms.specs.Shown.TermTables.{TermTables, term_with}
 use Rattle.isle_blocks.specs.RuleSets.{RulesOverSites}
 use Rattle.isle_run.specs.declared.program.Program.{Program}
-use Rattle.isle_run.specs.PlainLanguage.{is_plain}
-use Rattle.isle_run.specs.Reach.{is_root}
+use Rattle.isle_run.specs.Facts.Reach.{is_root}
 
 -- its types and names
 abbrev pub types_of : Program → TypeTables
@@ -47,17 +47,9 @@ name_in program (Some term) = unwrap_or (name_of program.tyenv term.name) []
 abbrev pub term_name : Program → TermId → List ℕ
 term_name program term = name_in program (slice_get program.termenv.terms term.0)
 
--- whether all its terms and rules are of the plain language
-abbrev pub is_plain_program : Program → Bool
-is_plain_program program = is_plain program.tyenv program.termenv
-
 -- whether a term is the root of a rule
 abbrev pub has_rules : Program → TermId → Bool
 has_rules program term = is_root (terms_of program) term.0
-
--- whether a term can be called: the program is plain, and the term has rules
-abbrev pub is_callable : Program → TermId → Bool
-is_callable program term = is_plain_program program && has_rules program term
 
 -- what kind of values a type has
 abbrev pub kind_of_type : Option KnownType → TypeKind
@@ -88,12 +80,22 @@ abbrev pub types_of_arguments : Option Term → List TypeId
 types_of_arguments None = []
 types_of_arguments (Some term) = term.arg_tys
 
+-- which kind of data a term makes; none where it is declared
+abbrev pub shape_made : TermKind → Option TermShape
+shape_made (EnumVariant variant) = Some (variant_shape variant.0)
+shape_made Struct = Some struct_shape
+shape_made (Decl flags constructor_kind extractor_kind) = None
+
+abbrev pub shape_of_term : Term → Option TermShape
+shape_of_term term = shape_made term.kind
+
 -- what a program says of the types of values
 abbrev pub value_facts : Program → ValueFacts
 value_facts program = record {
   kind = λ ty. kind_of_type (slice_get program.tyenv.types ty);
   constant = λ name. option_map number_of (type_of_constant program.tyenv name);
   data_named = λ name. option_and_then (λ (term : TermId). option_and_then data_of_term (slice_get program.termenv.terms term.0)) (term_named program name);
+  shape_named = λ name. option_and_then (λ (term : TermId). option_and_then shape_of_term (slice_get program.termenv.terms term.0)) (term_named program name);
 }
 
 -- the types of a term's arguments; none where there is no such term

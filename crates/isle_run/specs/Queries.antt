@@ -1,5 +1,5 @@
 -- In which order a query is checked.
-use Rattle.std.specs.Prelude.{◌≡◌, ◌++◌, ◌⊎◌, ℕ, true, false, List, [], ◌∷◌, Some, None}
+use Rattle.std.specs.Prelude.{◌≡◌, ◌++◌, ◌⊎◌, ℕ, List, [], ◌∷◌, Some, None}
 use Rattle.isle_syntax.specs.declared.lexer.Token.TheVariants.{LParen, RParen, Symbol}
 use Rattle.isle_types.specs.declared.ids.TermId.{TermId}
 use Rattle.isle_terms.specs.Values.{ValueTrees}
@@ -8,16 +8,17 @@ use Rattle.isle_run.specs.declared.query.QueryFault.{QueryFault}
 use Rattle.isle_run.specs.declared.query.QueryFault.TheVariants.{Q1, Q2, Q3, Q4, Memory}
 use Rattle.isle_terms.specs.Meaning.ValueTypes.{AreOfTypes}
 use Rattle.isle_syntax.specs.declared.lexer.Token.{Token}
-use Rattle.isle_run.specs.Lists.{IsListOf}
-use Rattle.isle_run.specs.Programs.{term_named, is_callable, value_facts, types_taken}
-use Rattle.isle_run.specs.Settled.{settled_all}
-use Rattle.isle_run.specs.TextTokens.{AreTokensOf, HasTokenFault}
-use Rattle.isle_run.specs.ValueTokens.{tokens_all, AreSpellable, SpellArguments}
+use Rattle.isle_run.specs.Values.Lists.{IsListOf}
+use Rattle.isle_run.specs.Programs.{term_named, types_of, terms_of, value_facts, types_taken}
+use Rattle.isle_run.specs.Facts.Reach.{IsRunnable}
+use Rattle.isle_run.specs.Values.Settled.{settled_all}
+use Rattle.isle_run.specs.Values.TextTokens.{AreTokensOf, HasTokenFault}
+use Rattle.isle_run.specs.Values.Tokens.{tokens_all, AreSpellable, SpellArguments}
 
 -- a refusal of the call of a name: the first of its causes that holds
 abbrev pub RefusesName : Program → List ℕ → QueryFault → Type 0
 RefusesName program name Q1 = term_named program name ≡ None
-RefusesName program name Q2 = (term : TermId) × (term_named program name ≡ Some term) × (is_callable program term ≡ false)
+RefusesName program name Q2 = (term : TermId) × (term_named program name ≡ Some term) × (IsRunnable (types_of program) (terms_of program) term.0 → ⊥)
 RefusesName program name Q3 = ⊥
 RefusesName program name Q4 = ⊥
 RefusesName program name (Memory e) = Unit {0}
@@ -40,9 +41,9 @@ NoneAreTyped program term tokens = (spelt : ValueTrees) → SpellArguments token
 abbrev pub RefusesText : Program → List ℕ → QueryFault → Type 0
 RefusesText program text Q1 = (name : List ℕ) × (rest : List Token) × IsTextOf text name rest × (term_named program name ≡ None)
 RefusesText program text Q2 = (name : List ℕ) × (rest : List Token) × (term : TermId) × IsTextOf text name rest × (term_named program name ≡ Some term)
-    × (is_callable program term ≡ false)
+    × (IsRunnable (types_of program) (terms_of program) term.0 → ⊥)
 RefusesText program text Q3 = (name : List ℕ) × (rest : List Token) × (term : TermId) × IsTextOf text name rest × (term_named program name ≡ Some term)
-    × (is_callable program term ≡ true)
+    × IsRunnable (types_of program) (terms_of program) term.0
     × NoneAreTyped program term rest
 RefusesText program text Q4 = HasTokenFault text ⊎ ((tokens : List Token) × AreTokensOf text tokens × ((name : List ℕ) (rest : List Token)
     → IsListOf tokens name rest → ⊥))

@@ -3,16 +3,21 @@
 
 mod answer;
 mod compiler;
+mod evaluation;
+mod fitting;
+mod frame;
+mod laid;
 pub mod laws;
 mod numbers;
+mod outside;
 mod plain;
-mod plain_language;
 mod program;
 mod query;
 mod store;
 mod tokens;
 mod typing;
 mod value;
+mod variables;
 mod world;
 
 pub use answer::{Answer, Called, Effect};

@@ -1,13 +1,16 @@
-ghost use Rattle.std.specs.Prelude.{◌≡◌};
-ghost use Rattle.isle_run.specs.PlainLanguage.{is_plain};
-ghost use Rattle.isle_run.specs.Numbers.{AreNumbersOf};
+ghost use Rattle.std.specs.Prelude.{◌≡◌, ◌<◌, ◌∷◌, [], ℕ, All, IfOk, OnOk, Some, length, slice_get};
+ghost use Rattle.isle_types.specs.TypeTables.{TypeTables};
+ghost use Rattle.isle_terms.specs.declared.rules.Rule.{Rule as KnownRule};
+ghost use Rattle.isle_run.specs.LaidOut.Rules.{AreListedInOrder, AreRulesLaidOut, AreByPriority, ListsRule};
+ghost use Rattle.isle_run.specs.Facts.Asked.{AreNumbersOf};
 
+use crate::laid::LaidRule;
 use crate::numbers::Numbers;
-use crate::plain_language::all_is_plain;
 use isle_blocks::RuleSet;
-use isle_terms::{Rule, TermEnv};
+use isle_terms::{ExtractorKind, Rule, TermEnv, TermKind};
 use isle_types::{TermId, TypeEnv, TypeId};
 use std::alloc::{AllocError, Global};
+use std::cmp::Reverse;
 
 /// A compiled list of texts.
 #[derive(Debug, Drop)]
@@ -18,23 +21,30 @@ pub struct Program {
     rule_sets: Vec<(TermId, RuleSet)>,
     /// For each term the places of its rules, by descending priority, then in the order of the texts.
     rules_of: Vec<Vec<usize>>,
-    /// Whether all terms and rules are of the plain language.
-    plain: bool,
+    /// The expressions of each rule laid out.
+    laid: Vec<LaidRule>,
     numbers: Numbers,
-    ghost plainly: { plain ≡ is_plain tyenv termenv },
     ghost numbered: { ∥ AreNumbersOf tyenv termenv rule_sets.items numbers ∥₁ },
+    ghost ordered: { ∥ AreListedInOrder termenv.rules rules_of.items ∥₁ },
+    ghost laid_out: { ∥ ((types : TypeTables) → AreRulesLaidOut types termenv laid.items) ∥₁ },
 }
 
 impl Program {
-    ghost use Rattle.std.specs.Prelude.{◌↔◌, ◌<◌, All, IfOk, IsTrue, false, length, map, slice_index_or};
+    ghost use Rattle.std.specs.Prelude.{◌↔◌, ◌<◌, ℕ, List, All, IfOk, IsTrue, None, MatchOption, false, length, map, slice_get, slice_index_or};
     ghost use Rattle.isle_types.specs.declared.ids.TermId.{TermId as TermNumber};
     ghost use Rattle.isle_types.specs.TypeEnvs.{type_of_name};
     ghost use Rattle.isle_blocks.specs.RuleSets.{RulesOverSites};
-    ghost use Rattle.isle_run.specs.Numbers.{AreRoots};
-    ghost use Rattle.isle_run.specs.Inhabited.{AreAllInhabited};
-    ghost use Rattle.isle_run.specs.Steps.{steps_in};
-    ghost use Rattle.isle_run.specs.Reach.{IsRunnable};
-    ghost use Rattle.isle_run.specs.Programs.{types_of, terms_of, rules_in, rule_sets_of, term_named, term_name, is_plain_program, has_rules, is_callable, number_of, types_taken};
+    ghost use Rattle.isle_run.specs.Facts.Asked.{AreRoots};
+    ghost use Rattle.isle_run.specs.Facts.Inhabited.{AreAllInhabited};
+    ghost use Rattle.isle_run.specs.Facts.Steps.{steps_in};
+    ghost use Rattle.isle_run.specs.Facts.Reach.{IsRunnable};
+    ghost use Rattle.isle_run.specs.Programs.{types_of, terms_of, rules_in, rule_sets_of, term_named, term_name, has_rules, number_of};
+    ghost use Rattle.isle_run.specs.Programs.{types_taken};
+    ghost use Rattle.isle_run.specs.Meanings.{checked};
+    ghost use Rattle.isle_run.specs.PlainRuns.{AreTriedInOrder};
+    ghost use Rattle.isle_run.specs.Frames.Laid.{IsLaidRule};
+    ghost use Rattle.isle_terms.specs.Meaning.Facts.{never_fails};
+    ghost use Rattle.isle_terms.specs.Shown.ShownTerms.{form_shown};
 
     /// The program of typed definitions and of the rule sets of their rules.
     pub(crate) fn new(
@@ -50,14 +60,14 @@ impl Program {
         ensures sets { IfOk result (λ program. rule_sets_of program ≡ rule_sets.items) }
     {
         let rules_of = rules_by_term(alloc, &termenv)?;
-        let plain = all_is_plain(&tyenv, &termenv);
+        let laid = lay_rules(alloc, &termenv)?;
         let numbers = Numbers::new(alloc, &tyenv, &termenv, rule_sets.as_slice())?;
         Ok(Program {
             tyenv,
             termenv,
             rule_sets,
             rules_of,
-            plain,
+            laid,
             numbers,
         })
     }
@@ -139,29 +149,17 @@ impl Program {
         }
     }
 
-    /// Whether all terms and rules are of the plain language, which is what is run so far.
-    pub(crate) fn is_plain(&self) -> bool
-        ensures { result ≡ is_plain_program self.now }
-    {
-        self.plain
-    }
-
-    /// Whether a query may call the term: the program is plain, which is what is run so far, and the term has rules.
-    pub fn is_callable(&self, term: TermId) -> bool
-        ensures { result ≡ is_callable self.now term }
-    {
-        self.is_plain() && self.has_rules(term)
-    }
-
     /// Whether the term is the root of a rule.
-    fn has_rules(&self, term: TermId) -> bool
+    pub(crate) fn has_rules(&self, term: TermId) -> bool
         ensures { result ≡ has_rules self.now term }
     {
         self.rules().iter().any(|rule| rule.root_term == term)
     }
 
     /// Whether the term may answer nothing.
-    pub(crate) fn is_partial(&self, term: TermId) -> bool {
+    pub(crate) fn is_partial(&self, term: TermId) -> bool
+        ensures { result ≡ (checked self.now).terms.partial term.0 }
+    {
         match self.termenv.get_term(term) {
             Some(term) => term.is_partial(),
             None => false,
@@ -169,11 +167,55 @@ impl Program {
     }
 
     /// The places of a term's rules, by descending priority, then in the order of the texts.
-    pub(crate) fn rules_of(&self, term: TermId) -> &[usize] {
+    pub(crate) fn rules_of(&self, term: TermId) -> &[usize]
+        ensures { AreTriedInOrder (checked self.now) term.0 result.now }
+    {
         match self.rules_of.get(term.index()) {
             Some(places) => places.as_slice(),
             None => &[],
         }
+    }
+
+    /// Whether the term's extractor never fails.
+    pub(crate) fn never_fails(&self, term: TermId) -> bool
+        ensures { result ≡ (checked self.now).terms.infallible term.0 }
+    {
+        match self.termenv.get_term(term) {
+            Some(term) => Program::is_infallible(&term.kind),
+            None => false,
+        }
+    }
+
+    /// Whether a term of a kind has an extractor of the host that never fails.
+    fn is_infallible(kind: &TermKind) -> bool
+        ensures { (names : List (List ℕ)) → result ≡ never_fails (form_shown names kind.now) }
+    {
+        match kind {
+            TermKind::EnumVariant { .. } | TermKind::Struct => false,
+            TermKind::Decl { extractor_kind, .. } => match extractor_kind {
+                Some(ExtractorKind::ExternalExtractor { infallible, .. }) => *infallible,
+                Some(ExtractorKind::InternalExtractor { .. }) | None => false,
+            },
+        }
+    }
+
+    /// The type of a term.
+    pub(crate) fn type_of(&self, term: TermId) -> TypeId
+        ensures { result.0 ≡ (checked self.now).terms.type_of term.0 }
+    {
+        match self.termenv.get_term(term) {
+            Some(term) => term.ret_ty,
+            None => TypeId(0),
+        }
+    }
+
+    /// The rule of a place, and its expressions laid out.
+    pub(crate) fn laid_rule(&self, place: usize) -> Option<(&Rule, &LaidRule)>
+        ensures { MatchOption result (slice_get (checked self.now).rules place ≡ None) (λ found. IsLaidRule self.now place found.0.now found.1.now) }
+    {
+        let rule = self.rules().get(place)?;
+        let laid = self.laid.get(place)?;
+        Some((rule, laid))
     }
 
     /// The types and the interned names.
@@ -198,19 +240,74 @@ impl Program {
     }
 }
 
+/// The expressions of each rule laid out.
+fn lay_rules(alloc: Global, termenv: &TermEnv) -> Result<Vec<LaidRule>, AllocError>
+    ensures { IfOk result (λ laid. (types : TypeTables) → AreRulesLaidOut types termenv.now laid.items) }
+{
+    let mut laid = Vec::new(alloc);
+    for rule in termenv.rules() {
+        laid.push(LaidRule::new(alloc, termenv, rule)?)?;
+    }
+    Ok(laid)
+}
+
 /// For each term the places of its rules, by descending priority, then in the order of the texts.
-fn rules_by_term(alloc: Global, termenv: &TermEnv) -> Result<Vec<Vec<usize>>, AllocError> {
-    let mut places = empty_lists(alloc, termenv.terms().len())?;
-    for (place, rule) in termenv.rules().iter().enumerate() {
-        if let Some(list) = places.get_mut(rule.root_term.index()) {
-            list.push(place)?;
+fn rules_by_term(alloc: Global, termenv: &TermEnv) -> Result<Vec<Vec<usize>>, AllocError>
+    requires { All (λ rule. rule.root_term.0 < length termenv.now.terms) termenv.now.rules }
+    ensures { IfOk result (λ lists. AreListedInOrder termenv.now.rules lists.items) }
+{
+    let mut lists = empty_lists(alloc, termenv.terms().len())?;
+    let places = by_priority(alloc, termenv.rules())?;
+    for place in &places {
+        list_rule(termenv.rules(), *place, &mut lists)?;
+    }
+    Ok(lists)
+}
+
+/// Lists a rule's place behind those of its term.
+fn list_rule(rules: &[Rule], place: usize, lists: &mut Vec<Vec<usize>>) -> Result<(), AllocError>
+    ensures { OnOk result (ListsRule rules.now place lists.old.items lists.new.items) }
+{
+    if let Some(rule) = rules.get(place) {
+        let term = rule.root_term.index();
+        if term < lists.len() {
+            lists[term].push(place)?;
         }
+    }
+    Ok(())
+}
+
+/// The places of rules, by descending priority, then in order.
+fn by_priority(alloc: Global, rules: &[Rule]) -> Result<Vec<usize>, AllocError>
+    ensures { IfOk result (λ places. AreByPriority rules.now places.items) }
+{
+    let mut keys = priority_keys(alloc, rules)?;
+    keys.sort_unstable();
+    let mut places = Vec::with_capacity(alloc, keys.len())?;
+    for key in &keys {
+        places.push(key.1)?;
     }
     Ok(places)
 }
 
+/// The priority of each rule, the greatest first in their order, with the rule's place.
+fn priority_keys(alloc: Global, rules: &[Rule]) -> Result<Vec<(Reverse<i64>, usize)>, AllocError>
+    ensures fits { IfOk result (λ keys. length keys.items ≡ length rules.now) }
+    ensures keys { IfOk result (λ keys. (i : ℕ) (rule : KnownRule) → slice_get rules.now i ≡ Some rule
+        → slice_get keys.items i ≡ Some (record { 0 = rule.prio }, i)) }
+{
+    let mut keys = Vec::with_capacity(alloc, rules.len())?;
+    for place in 0..rules.len() {
+        keys.push((Reverse(rules[place].prio), place))?;
+    }
+    Ok(keys)
+}
+
 /// So many empty lists.
-fn empty_lists(alloc: Global, count: usize) -> Result<Vec<Vec<usize>>, AllocError> {
+fn empty_lists(alloc: Global, count: usize) -> Result<Vec<Vec<usize>>, AllocError>
+    ensures fits { IfOk result (λ lists. length lists.items ≡ count) }
+    ensures empty { IfOk result (λ lists. All (λ list. list.items ≡ []) lists.items) }
+{
     let mut lists = Vec::with_capacity(alloc, count)?;
     for _ in 0..count {
         lists.push(Vec::new(alloc))?;

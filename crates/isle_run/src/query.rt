@@ -2,11 +2,11 @@ ghost use Rattle.std.specs.Prelude.{◌≡◌, ◌↔◌, ◌<◌, ℕ, List, []
 ghost use Rattle.isle_terms.specs.Values.{ValueTrees, value_list};
 ghost use Rattle.isle_terms.specs.Meaning.ValueTypes.{AreOfTypes};
 ghost use Rattle.isle_run.specs.Programs.{value_facts, number_of, types_taken};
-ghost use Rattle.isle_run.specs.Settled.{settled_all};
+ghost use Rattle.isle_run.specs.Values.Settled.{settled_all};
 ghost use Rattle.isle_run.specs.Queries.{NoneAreTyped, AreSettled};
-ghost use Rattle.isle_run.specs.ValueTokens.{SpellArguments};
-ghost use Rattle.isle_run.specs.TextTokens.{AreTokensOf};
-ghost use Rattle.isle_run.specs.Lists.{Closes, IsListOf, opened_after};
+ghost use Rattle.isle_run.specs.Values.Tokens.{SpellArguments};
+ghost use Rattle.isle_run.specs.Values.TextTokens.{AreTokensOf};
+ghost use Rattle.isle_run.specs.Values.Lists.{Closes, IsListOf, opened_after};
 ghost use Rattle.isle_syntax.specs.declared.lexer.Token.{Token as ListToken};
 
 use crate::program::Program;
@@ -98,20 +98,21 @@ fn head_of(tokens: &[Token]) -> Option<(&str, &[Token])>
 }
 
 impl Program {
-    ghost use Rattle.std.specs.Prelude.{◌≡◌, IfOk, IfErr, Some, true};
-    ghost use Rattle.isle_run.specs.Programs.{term_named, is_callable};
+    ghost use Rattle.std.specs.Prelude.{◌≡◌, IfOk, IfErr, Some};
+    ghost use Rattle.isle_run.specs.Programs.{types_of, terms_of, term_named};
+    ghost use Rattle.isle_run.specs.Facts.Reach.{IsRunnable};
     ghost use Rattle.isle_run.specs.Queries.{RefusesName, RefusesText, IsCallIn};
 
     /// The term of a name, where it can be called.
     fn callable(&self, name: &str) -> Result<TermId, QueryFault>
         ensures named { IfOk result (λ term. term_named self.now name.now ≡ Some term) }
-        ensures callable { IfOk result (λ term. is_callable self.now term ≡ true) }
+        ensures callable { IfOk result (λ term. IsRunnable (types_of self.now) (terms_of self.now) term.0) }
         ensures refused { IfErr result (RefusesName self.now name.now) }
     {
         let Some(term) = self.term(name) else {
             return Err(QueryFault::Q1);
         };
-        if self.is_callable(term) {
+        if self.runnable(term) {
             Ok(term)
         } else {
             Err(QueryFault::Q2)
@@ -120,7 +121,7 @@ impl Program {
 
     /// The call that a text spells.
     pub fn query(&self, alloc: Global, text: &str) -> Result<(TermId, Vec<Value>), QueryFault>
-        ensures callable { IfOk result (λ call. is_callable self.now call.0 ≡ true) }
+        ensures callable { IfOk result (λ call. IsRunnable (types_of self.now) (terms_of self.now) call.0.0) }
         ensures spelt { IfOk result (λ call. IsCallIn self.now text.now call.0 (value_list call.1.items)) }
         ensures typed { IfOk result (λ call. AreOfTypes (value_facts self.now) (value_list call.1.items) (types_taken self.now call.0)) }
         ensures refused { IfErr result (RefusesText self.now text.now) }

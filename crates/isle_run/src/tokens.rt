@@ -1,7 +1,7 @@
 //! The tokens of a text of its own.
 ghost use Rattle.std.specs.Prelude.{IfOk, IfErr};
 ghost use Rattle.isle_syntax.specs.Errors.{IfFault};
-ghost use Rattle.isle_run.specs.TextTokens.{AreTokensOf, HasTokenFault};
+ghost use Rattle.isle_run.specs.Values.TextTokens.{AreTokensOf, HasTokenFault};
 
 use isle_syntax::Refusal;
 use isle_syntax::error::Error;

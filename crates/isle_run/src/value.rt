@@ -2,20 +2,22 @@
 ghost use Rattle.std.specs.Prelude.{◌≡◌, ◌++◌, ◌+◌, ◌≤◌, ℕ, List, IfOk, string_bytes};
 ghost use Rattle.isle_syntax.specs.declared.lexer.Token.{Token};
 ghost use Rattle.isle_terms.specs.Meaning.ValueTypes.{ValueFacts, IsOfType};
-ghost use Rattle.isle_run.specs.HeldValues.{IsHeldNode};
-ghost use Rattle.isle_run.specs.Nodes.{nodes_of, nodes_below};
-ghost use Rattle.isle_run.specs.Settled.{SpellTyped};
-ghost use Rattle.isle_run.specs.TextTokens.{AreTokensOf};
-ghost use Rattle.isle_run.specs.ValueTokens.{IsSpellable};
-ghost use Rattle.isle_run.specs.ValueText.{value_text, node_text, end_of, Closes};
+ghost use Rattle.isle_run.specs.Values.Held.{IsHeldNode};
+ghost use Rattle.isle_run.specs.Values.Nodes.{nodes_of, nodes_below};
+ghost use Rattle.isle_run.specs.Values.Settled.{SpellTyped};
+ghost use Rattle.isle_run.specs.Values.TextTokens.{AreTokensOf};
+ghost use Rattle.isle_run.specs.Values.Tokens.{IsSpellable};
+ghost use Rattle.isle_run.specs.Values.Text.{value_text, node_text, end_of, Closes};
 
 mod copies;
+mod laying;
 mod making;
 mod parsing;
 mod reading;
 mod settling;
 
 use isle_syntax::Text;
+pub(crate) use laying::LaidValues;
 pub(crate) use making::nodes_of_all;
 pub use parsing::ValueFault;
 pub(crate) use reading::read_front;
@@ -47,8 +49,8 @@ pub struct Value {
 impl Model for Value {
     ghost use Rattle.std.specs.Prelude.{◌≡◌};
     ghost use Rattle.isle_terms.specs.Values.{ValueTree};
-    ghost use Rattle.isle_run.specs.ValueCode.{value_tree_code};
-    ghost use Rattle.isle_run.specs.Nodes.{value_in, nodes_of};
+    ghost use Rattle.isle_run.specs.Values.Code.{value_tree_code};
+    ghost use Rattle.isle_run.specs.Values.Nodes.{value_in, nodes_of};
 
     ghost Value = { ValueTree };
 

@@ -1,7 +1,7 @@
 //! What answers the external functions of a program.
 ghost use Rattle.std.specs.Prelude.{◌≡◌, ℕ, List, Option, IfOk, OnErr};
 ghost use Rattle.isle_terms.specs.Values.{ValueTree, ValueTrees, value_list};
-ghost use Rattle.isle_run.specs.Entries.{part_shown};
+ghost use Rattle.isle_run.specs.Worlds.Entries.{part_shown};
 
 mod entry;
 mod external;

@@ -35,5 +35,15 @@ pub mod Numbered
 pub mod Tested
 -- The sites that a rule needs, in order.
 pub mod Needs
+-- The values that ground values stand for.
+pub mod GroundValues
+-- Checked programs, and what a world answers.
+pub mod Worlds
+-- Impure calls and results.
+pub mod RightSides
+-- The meaning of a call at a depth.
+pub mod Calls
+-- Which call asks which.
+pub mod Asking
 -- The laws that join them.
 pub mod Laws

@@ -7,6 +7,8 @@ mod blocks;
 #[cfg(test)]
 mod layout;
 #[cfg(test)]
+mod run;
+#[cfg(test)]
 mod syntax;
 #[cfg(test)]
 mod tables;

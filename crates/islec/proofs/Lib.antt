@@ -18,3 +18,5 @@ pub mod ServingLemmas
 pub mod RunLemmas
 -- What is written of a world that is refused.
 pub mod WorldLemmas
+-- Effects are answered as a world may.
+pub mod EffectLemmas

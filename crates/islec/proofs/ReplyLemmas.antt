@@ -4,13 +4,12 @@ use Rattle.std.specs.Prelude.{codes, IsUtf8}
 use Rattle.std.specs.declared.alloc.AllocError.{AllocError}
 use Rattle.isle_types.specs.declared.ids.TermId.{TermId}
 use Rattle.isle_terms.specs.Values.{ValueTree, ValueTrees, value_list}
-use Rattle.isle_run.specs.declared.program.Program.{Program}
 use Rattle.isle_run.specs.declared.query.QueryFault.{QueryFault}
 use Rattle.isle_run.specs.Queries.{RefusesText, IsCallIn}
-use Rattle.isle_run.specs.TextTokens.{AreTokensOf}
-use Rattle.isle_run.specs.ValueText.{value_text, fields_text}
+use Rattle.isle_run.specs.Values.TextTokens.{AreTokensOf}
+use Rattle.isle_run.specs.Values.Text.{value_text, fields_text}
 use Rattle.islec.specs.declared.answer.Reply.{Reply}
-use Rattle.islec.specs.Replies.{Refuses, IsReply, AnswersCall, call_text, cause_number, no_call, call}
+use Rattle.islec.specs.Replies.{Setting, Refuses, IsReply, AnswersCall, call_text, cause_number, no_call, call}
 
 -- one argument more
 fields_more : (args : List ValueTree) (i : ℕ) (v : ValueTree) → i < length args → v ≡ get_or args i v
@@ -31,21 +30,21 @@ next_argument old name args i v was spaced grown within is written space text =
     rw (add-one i, fields_more args i v within is, text, space, written) (simp append_assoc)
 
 -- a query that is refused
-pub refused_query : (program : Program) (line text : List ℕ) (fault : QueryFault) (cause : ℕ) (r : Result Reply AllocError) → text ≡ line → IsUtf8 line
-    → ¬ AreTokensOf text [] → RefusesText program text fault → cause_number fault ≡ Some cause → IfOk r (Refuses cause)
-    → IfOk r (λ reply. IsReply program line (string_bytes reply.lines) reply.refused)
-refused_query program line text fault cause (Err e) same utf8 some refuses number told = tt
-refused_query program line text fault cause (Ok reply) same utf8 some refuses number told =
-    no_call utf8 (subst (λ l. ¬ AreTokensOf l []) same some) fault cause (subst (λ l. RefusesText program l fault) same refuses) number
+pub refused_query : (setting : Setting) (line text : List ℕ) (fault : QueryFault) (cause : ℕ) (r : Result Reply AllocError) → text ≡ line → IsUtf8 line
+    → ¬ AreTokensOf text [] → RefusesText setting.program text fault → cause_number fault ≡ Some cause → IfOk r (Refuses cause)
+    → IfOk r (λ reply. IsReply setting line (string_bytes reply.lines) reply.refused)
+refused_query setting line text fault cause (Err e) same utf8 some refuses number told = tt
+refused_query setting line text fault cause (Ok reply) same utf8 some refuses number told =
+    no_call utf8 (subst (λ l. ¬ AreTokensOf l []) same some) fault cause (subst (λ l. RefusesText setting.program l fault) same refuses) number
     told.lines told.refused
 
 -- a query that is answered
-pub answered_query : (program : Program) (line text : List ℕ) (term : TermId) (args : ValueTrees) (r : Result Reply AllocError) → text ≡ line → IsUtf8 line
-    → IsCallIn program text term args → IfOk r (λ reply. AnswersCall program term args (string_bytes reply.lines) reply.refused)
-    → IfOk r (λ reply. IsReply program line (string_bytes reply.lines) reply.refused)
-answered_query program line text term args (Err e) same utf8 spelt told = tt
-answered_query program line text term args (Ok reply) same utf8 spelt told =
-    call utf8 term args (subst (λ l. IsCallIn program l term args) same spelt) told
+pub answered_query : (setting : Setting) (line text : List ℕ) (term : TermId) (args : ValueTrees) (r : Result Reply AllocError) → text ≡ line → IsUtf8 line
+    → IsCallIn setting.program text term args → IfOk r (λ reply. AnswersCall setting term args (string_bytes reply.lines) reply.refused)
+    → IfOk r (λ reply. IsReply setting line (string_bytes reply.lines) reply.refused)
+answered_query setting line text term args (Err e) same utf8 spelt told = tt
+answered_query setting line text term args (Ok reply) same utf8 spelt told =
+    call utf8 term args (subst (λ l. IsCallIn setting.program l term args) same spelt) told
 
 -- a call behind a word
 pub labelled : (r : Result (Unit {0}) AllocError) (old put new label name own : List ℕ) (args items : List ValueTree) → put ≡ old ++ label → name ≡ own

@@ -7,35 +7,42 @@ use Rattle.isle_run.specs.declared.compiler.Refused.{Refused}
 use Rattle.isle_run.specs.declared.compiler.Refused.TheVariants.{Faults}
 use Rattle.isle_run.specs.declared.program.Program.{Program}
 use Rattle.isle_run.specs.Compiled.{AreAccepted, AreFaults, IsProgramOf, IfFaults}
+use Rattle.isle_run.proofs.SoundPrograms.Whole.{compiled_programs_are_sound}
 use Rattle.islec.specs.declared.serve.ServeFault.{ServeFault}
 use Rattle.islec.specs.declared.serve.ServeFault.TheVariants.{Memory}
 use Rattle.islec.specs.declared.status.Status.{Status}
 use Rattle.islec.specs.declared.status.Status.TheVariants.{AllWell, TextsRefused}
-use Rattle.islec.specs.Running.{WritesFaults, WritesAnswers, WritesAccepted, WritesRefusal, CutsCheck, CutsRun, AnswersSome, AnswersIn, TellsWorld, CutsIn, StopsIn}
+use Rattle.islec.specs.Running.{WritesFaults, WritesAnswers, WritesAccepted, WritesRefusal, CutsCheck, CutsRun, AnswersSome, AnswersIn, TellsWorld, CutsIn, StopsIn, IsSoundProgramOf}
 use Rattle.islec.specs.Terms.{TellsProgram}
 use Rattle.islec.specs.Writing.{AppendsBeginning}
 use Rattle.islec.proofs.RefusedFiles.{writes_faults, cuts_faults}
 
-module _ (files all : List SourceFile) (same : files ≡ all) (program : Program) (is : IsProgramOf files program) (world : SourceFile) (input old new : Option (List ℕ)) where
-  pub answers_by : (refused : Bool) (status : Status) (r : Result Status ServeFault) → IfOk r (λ s. s ≡ status → AnswersIn program world input refused old new)
-      → IfOk r (λ s. s ≡ status → WritesAnswers all world input refused old new)
+-- the program of files is sound
+sound_program : (files : List SourceFile) (program : Program) → IsProgramOf files program → IsSoundProgramOf files program
+sound_program files program is =
+    let (agrees, named, sound) = compiled_programs_are_sound files program is in
+    record { is = is; sound = record { sound = sound; known = record { sound = sound.data_sound; printed = named } } }
+
+module _ (files all : List SourceFile) (same : files ≡ all) (program : Program) (is : IsProgramOf files program) (world : SourceFile) (depth : ℕ) (input old new : Option (List ℕ)) where
+  pub answers_by : (refused : Bool) (status : Status) (r : Result Status ServeFault) → IfOk r (λ s. s ≡ status → AnswersIn program world depth input refused old new)
+      → IfOk r (λ s. s ≡ status → WritesAnswers all world depth input refused old new)
   answers_by refused status (Err f) told = tt
-  answers_by refused status (Ok s) told = λ e. (program, subst (λ l. IsProgramOf l program) same is, told e)
+  answers_by refused status (Ok s) told = λ e. (program, sound_program all program (subst (λ l. IsProgramOf l program) same is), told e)
 
   pub tells_by : (r : Result Status ServeFault) → IfOk r (λ s. s ≡ TextsRefused → TellsWorld program world old new)
       → IfOk r (λ s. s ≡ TextsRefused → WritesRefusal all world old new)
   tells_by (Err f) told = tt
   tells_by (Ok s) told = λ e. inr (program, subst (λ l. IsProgramOf l program) same is, told e)
 
-  pub cuts_by : (r : Result Status ServeFault) → IfErr r (λ f. f ≢ Memory → CutsIn program world input old new)
-      → IfErr r (λ f. f ≢ Memory → CutsRun all world input old new)
+  pub cuts_by : (r : Result Status ServeFault) → IfErr r (λ f. f ≢ Memory → CutsIn program world depth input old new)
+      → IfErr r (λ f. f ≢ Memory → CutsRun all world depth input old new)
   cuts_by (Ok s) told = tt
-  cuts_by (Err f) told = λ e. inl (program, subst (λ l. IsProgramOf l program) same is, told e)
+  cuts_by (Err f) told = λ e. inl (program, sound_program all program (subst (λ l. IsProgramOf l program) same is), told e)
 
-  pub stops_by : (r : Result Status ServeFault) → IfErr r (λ f. f ≡ Memory → StopsIn program input old new)
-      → IfErr r (λ f. f ≡ Memory → AnswersSome all input old new)
+  pub stops_by : (r : Result Status ServeFault) → IfErr r (λ f. f ≡ Memory → StopsIn program world depth input old new)
+      → IfErr r (λ f. f ≡ Memory → AnswersSome all world depth input old new)
   stops_by (Ok s) told = tt
-  stops_by (Err f) told = λ e. inr (program, subst (λ l. IsProgramOf l program) same is, told e)
+  stops_by (Err f) told = λ e. inr (program, sound_program all program (subst (λ l. IsProgramOf l program) same is), told e)
 
 module _ (files all : List SourceFile) (refused : Refused) (report : Report) (old new : Option (List ℕ)) (is : refused ≡ Faults report) (same : files ≡ all)
     (not_accepted : IfFaults refused (λ r. ¬ AreAccepted files)) (faults : IfFaults refused (λ r. AreFaults files r.errors))
@@ -49,10 +56,10 @@ module _ (files all : List SourceFile) (refused : Refused) (report : Report) (ol
   refuses_by world (Err f) wrote = tt
   refuses_by world (Ok s) wrote = λ _. inl (writes_faults files all refused report old new is same not_accepted faults of_files wrote)
 
-  pub refusal_cut : (world : SourceFile) (input : Option (List ℕ)) (r : Result Status ServeFault) → IfErr r (λ f. f ≢ Memory → AppendsBeginning old new (report_text report))
-      → IfErr r (λ f. f ≢ Memory → CutsRun all world input old new)
-  refusal_cut world input (Ok s) wrote = tt
-  refusal_cut world input (Err f) wrote = λ e. inr (cuts_faults files all refused report old new is same not_accepted faults of_files (wrote e))
+  pub refusal_cut : (world : SourceFile) (depth : ℕ) (input : Option (List ℕ)) (r : Result Status ServeFault) → IfErr r (λ f. f ≢ Memory → AppendsBeginning old new (report_text report))
+      → IfErr r (λ f. f ≢ Memory → CutsRun all world depth input old new)
+  refusal_cut world depth input (Ok s) wrote = tt
+  refusal_cut world depth input (Err f) wrote = λ e. inr (cuts_faults files all refused report old new is same not_accepted faults of_files (wrote e))
 
   pub refusal_uncheckable : (asked : Bool) (r : Result Status ServeFault) → IfErr r (λ f. f ≢ Memory → AppendsBeginning old new (report_text report))
       → IfErr r (λ f. f ≢ Memory → CutsCheck all asked old new)
@@ -79,7 +86,7 @@ module _ (files all : List SourceFile) (same : files ≡ all) (program : Program
   tells_cut (Err f) told = λ e. inl (program, subst (λ l. IsProgramOf l program) same is, told e)
 
 -- nothing is written
-pub nothing_by : (files : List SourceFile) (input old new : Option (List ℕ)) (r : Result Status ServeFault) → IfErr r (λ f. f ≡ Memory → Keeps old new)
-    → IfErr r (λ f. f ≡ Memory → AnswersSome files input old new)
-nothing_by files input old new (Ok s) kept = tt
-nothing_by files input old new (Err f) kept = λ e. inl (kept e)
+pub nothing_by : (files : List SourceFile) (world : SourceFile) (depth : ℕ) (input old new : Option (List ℕ)) (r : Result Status ServeFault) → IfErr r (λ f. f ≡ Memory → Keeps old new)
+    → IfErr r (λ f. f ≡ Memory → AnswersSome files world depth input old new)
+nothing_by files world depth input old new (Ok s) kept = tt
+nothing_by files world depth input old new (Err f) kept = λ e. inl (kept e)

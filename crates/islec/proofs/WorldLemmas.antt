@@ -4,22 +4,24 @@ use Rattle.std.specs.Io.KnownBytes.{Appends, Keeps}
 use Rattle.isle_syntax.specs.Positions.Files.{SourceFile}
 use Rattle.isle_run.specs.declared.program.Program.{Program}
 use Rattle.isle_run.specs.declared.world.reading.WorldFault.{WorldFault}
-use Rattle.isle_run.specs.WorldTexts.{RefusesWorld}
+use Rattle.isle_run.specs.Worlds.Entries.{EntryTree}
+use Rattle.isle_run.specs.Worlds.Texts.{RefusesWorld}
 use Rattle.islec.specs.declared.serve.ServeFault.{ServeFault}
 use Rattle.islec.specs.declared.serve.ServeFault.TheVariants.{Memory}
 use Rattle.islec.specs.declared.status.Status.{Status}
 use Rattle.islec.specs.declared.status.Status.TheVariants.{TextsRefused}
 use Rattle.islec.specs.Statuses.{IsEnd}
-use Rattle.islec.specs.Running.{AnswersIn, TellsWorld, CutsIn, StopsIn}
+use Rattle.islec.specs.Running.{AnswersIn, TellsWorld, CutsIn, StopsIn, IsTableOf, in_entries}
+use Rattle.islec.specs.Serving.{AnswersAll, AnswersFirst, AnswersCut}
 use Rattle.islec.specs.Worlds.{world_fault_line}
 use Rattle.islec.specs.Writing.{AppendsBeginning}
 
-module _ (program : Program) (world file : SourceFile) (same : file ≡ world) (fault : WorldFault) (refuses : RefusesWorld program file.text fault) (input old new : Option (List ℕ)) where
+module _ (program : Program) (world file : SourceFile) (depth : ℕ) (same : file ≡ world) (fault : WorldFault) (refuses : RefusesWorld program file.text fault) (input old new : Option (List ℕ)) where
   refused_in : RefusesWorld program world.text fault
   refused_in = subst (λ (f : SourceFile). RefusesWorld program f.text fault) same refuses
 
   pub never_answers : (refused : Bool) (want : Status) (r : Result Status ServeFault) → IfOk r (λ s. s ≡ TextsRefused) → (want ≡ TextsRefused → ⊥)
-      → IfOk r (λ s. s ≡ want → AnswersIn program world input refused old new)
+      → IfOk r (λ s. s ≡ want → AnswersIn program world depth input refused old new)
   never_answers refused want (Err f) status other = tt
   never_answers refused want (Ok s) status other = λ e. absurd (other (sym e ∙ status))
 
@@ -32,10 +34,27 @@ module _ (program : Program) (world file : SourceFile) (same : file ≡ world) (
   ends (Ok s) status = subst IsEnd (sym status) tt
 
   pub cuts : (r : Result Status ServeFault) → IfErr r (λ f. f ≢ Memory → AppendsBeginning old new (world_fault_line program file fault))
-      → IfErr r (λ f. f ≢ Memory → CutsIn program world input old new)
+      → IfErr r (λ f. f ≢ Memory → CutsIn program world depth input old new)
   cuts (Ok s) wrote = tt
   cuts (Err f) wrote = λ e. inr (record { fault = fault; refused = refused_in; written = subst (λ f. AppendsBeginning old new (world_fault_line program f fault)) same (wrote e) })
 
-  pub stops : (r : Result Status ServeFault) → IfErr r (λ f. f ≡ Memory → Keeps old new) → IfErr r (λ f. f ≡ Memory → StopsIn program input old new)
+  pub stops : (r : Result Status ServeFault) → IfErr r (λ f. f ≡ Memory → Keeps old new) → IfErr r (λ f. f ≡ Memory → StopsIn program world depth input old new)
   stops (Ok s) kept = tt
   stops (Err f) kept = λ e. inl (kept e)
+
+module _ (program : Program) (world : SourceFile) (depth : ℕ) (entries : List EntryTree) (spells : IsTableOf program world entries) (input old new : Option (List ℕ)) where
+  pub answers_in_world : (refused : Bool) (want : Status) (r : Result Status ServeFault)
+      → IfOk r (λ s. s ≡ want → AnswersAll (in_entries program entries depth) input refused old new)
+      → IfOk r (λ s. s ≡ want → AnswersIn program world depth input refused old new)
+  answers_in_world refused want (Err f) told = tt
+  answers_in_world refused want (Ok s) told = λ e. (entries, spells, told e)
+
+  pub cuts_in_world : (r : Result Status ServeFault) → IfErr r (λ f. f ≢ Memory → AnswersCut (in_entries program entries depth) input old new)
+      → IfErr r (λ f. f ≢ Memory → CutsIn program world depth input old new)
+  cuts_in_world (Ok s) told = tt
+  cuts_in_world (Err f) told = λ e. inl (entries, spells, told e)
+
+  pub stops_in_world : (r : Result Status ServeFault) → IfErr r (λ f. f ≡ Memory → AnswersFirst (in_entries program entries depth) input old new)
+      → IfErr r (λ f. f ≡ Memory → StopsIn program world depth input old new)
+  stops_in_world (Ok s) told = tt
+  stops_in_world (Err f) told = λ e. inr (entries, spells, told e)

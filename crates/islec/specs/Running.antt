@@ -1,18 +1,27 @@
 -- What a run or a check writes of files that are accepted or refused.
-use Rattle.std.specs.Prelude.{◌⊎◌, ℕ, Bool, List, Option, codes}
+use Rattle.std.specs.Prelude.{◌≡◌, ◌⊎◌, ℕ, Bool, List, Option, codes}
 use Rattle.std.specs.Io.KnownBytes.{Appends, Keeps}
 use Rattle.isle_syntax.specs.Errors.{report_text}
 use Rattle.isle_syntax.specs.Positions.Files.{SourceFile}
 use Rattle.isle_syntax.specs.declared.error.Error.{Error}
+use Rattle.isle_terms.specs.Values.{ValueTree, ValueTrees}
 use Rattle.isle_run.specs.Compiled.{AreAccepted, AreFaults, IsProgramOf}
 use Rattle.isle_run.specs.declared.program.Program.{Program}
 use Rattle.isle_run.specs.declared.world.reading.WorldFault.{WorldFault}
-use Rattle.isle_run.specs.Entries.{EntryTree}
-use Rattle.isle_run.specs.WorldTexts.{SpellsWorld, RefusesWorld}
+use Rattle.isle_run.specs.Frames.Calls.{IsSoundProgram}
+use Rattle.isle_run.specs.Worlds.Entries.{EntryTree}
+use Rattle.isle_run.specs.Worlds.Tables.{HasEntries, constructed, extracted}
+use Rattle.isle_run.specs.Worlds.Texts.{SpellsWorld, RefusesWorld}
+use Rattle.islec.specs.Replies.{Setting, setting_in}
 use Rattle.islec.specs.Terms.{TellsProgram}
 use Rattle.islec.specs.Worlds.{world_fault_line}
 use Rattle.islec.specs.Serving.{AnswersAll, AnswersFirst, AnswersCut}
 use Rattle.islec.specs.Writing.{AppendsBeginning}
+
+-- a program that `compile` makes of files: its rules are sound, and its data is named by its type
+pub record IsSoundProgramOf (files : List SourceFile) (program : Program) : Type 0 where
+  pub is : IsProgramOf files program
+  pub sound : IsSoundProgram program
 
 -- the files aren't accepted, and a writer that held `old` holds these bytes and behind them the report of their faults
 pub record WritesFaults (files : List SourceFile) (old new : Option (List ℕ)) : Type 0 where
@@ -42,9 +51,22 @@ abbrev pub CutsCheck : List SourceFile → (asked : Bool) → (old new : Option 
 CutsCheck files asked old new = ((program : Program) × IsProgramOf files program × ((text : List ℕ) × TellsProgram program asked text × AppendsBeginning old new text))
     ⊎ CutsFaults files old new
 
+-- a table answers an effect as it answers pure terms, and stays as it is
+abbrev pub leaves : List EntryTree → List ℕ → ValueTrees → Option ValueTree → List EntryTree → Type 0
+leaves table name args answer next = (answer ≡ constructed table name args) × (next ≡ table)
+
+-- a program, in the world of entries, by which so many calls may be open at once
+abbrev pub in_entries : Program → List EntryTree → ℕ → Setting
+in_entries program entries depth = setting_in constructed leaves program (constructed entries) (extracted entries) depth
+
+-- a table has exactly the entries that a world's file spells
+abbrev pub IsTableOf : Program → (world : SourceFile) → (table : List EntryTree) → Type 0
+IsTableOf program world table = (entries : List EntryTree) × SpellsWorld program world.text entries × HasEntries table entries
+
 -- a program's replies to each line of an input are written, in the world of a file
-abbrev pub AnswersIn : Program → (world : SourceFile) → (input : Option (List ℕ)) → Bool → (old new : Option (List ℕ)) → Type 0
-AnswersIn program world input refused old new = (entries : List EntryTree) × SpellsWorld program world.text entries × AnswersAll program input refused old new
+abbrev pub AnswersIn : Program → (world : SourceFile) → (depth : ℕ) → (input : Option (List ℕ)) → Bool → (old new : Option (List ℕ)) → Type 0
+AnswersIn program world depth input refused old new = (table : List EntryTree) × IsTableOf program world table
+    × AnswersAll (in_entries program table depth) input refused old new
 
 -- the line that tells why a world is refused is written
 pub record TellsWorld (program : Program) (world : SourceFile) (old new : Option (List ℕ)) : Type 0 where
@@ -59,29 +81,35 @@ pub record CutsWorld (program : Program) (world : SourceFile) (old new : Option 
   pub written : AppendsBeginning old new (world_fault_line program world fault)
 
 -- a beginning of a program's replies to first lines of an input is written, or one of the line that tells why a world is refused
-abbrev pub CutsIn : Program → (world : SourceFile) → (input old new : Option (List ℕ)) → Type 0
-CutsIn program world input old new = AnswersCut program input old new ⊎ CutsWorld program world old new
+abbrev pub CutsIn : Program → (world : SourceFile) → (depth : ℕ) → (input old new : Option (List ℕ)) → Type 0
+CutsIn program world depth input old new = ((table : List EntryTree) × IsTableOf program world table
+    × AnswersCut (in_entries program table depth) input old new) ⊎ CutsWorld program world old new
 
 -- replies of a program to first lines of an input are written, or nothing is
-abbrev pub StopsIn : Program → (input old new : Option (List ℕ)) → Type 0
-StopsIn program input old new = Keeps old new ⊎ AnswersFirst program input old new
+abbrev pub StopsIn : Program → (world : SourceFile) → (depth : ℕ) → (input old new : Option (List ℕ)) → Type 0
+StopsIn program world depth input old new = Keeps old new ⊎ ((table : List EntryTree) × IsTableOf program world table
+    × AnswersFirst (in_entries program table depth) input old new)
 
 -- the replies of the files' program to each line of an input are written, in the world of a file
-abbrev pub WritesAnswers : List SourceFile → (world : SourceFile) → (input : Option (List ℕ)) → Bool → (old new : Option (List ℕ)) → Type 0
-WritesAnswers files world input refused old new = (program : Program) × IsProgramOf files program × AnswersIn program world input refused old new
+abbrev pub WritesAnswers : List SourceFile → (world : SourceFile) → (depth : ℕ) → (input : Option (List ℕ)) → Bool → (old new : Option (List ℕ)) → Type 0
+WritesAnswers files world depth input refused old new =
+    (program : Program) × IsSoundProgramOf files program × AnswersIn program world depth input refused old new
 
 -- the report of the files' faults is written, or, of accepted files, the line that tells why their world is refused
 abbrev pub WritesRefusal : List SourceFile → (world : SourceFile) → (old new : Option (List ℕ)) → Type 0
 WritesRefusal files world old new = WritesFaults files old new ⊎ ((program : Program) × IsProgramOf files program × TellsWorld program world old new)
 
 -- a beginning of the replies, of the report of faults or of the line that tells why the world is refused is written
-abbrev pub CutsRun : List SourceFile → (world : SourceFile) → (input old new : Option (List ℕ)) → Type 0
-CutsRun files world input old new = ((program : Program) × IsProgramOf files program × CutsIn program world input old new) ⊎ CutsFaults files old new
+abbrev pub CutsRun : List SourceFile → (world : SourceFile) → (depth : ℕ) → (input old new : Option (List ℕ)) → Type 0
+CutsRun files world depth input old new =
+    ((program : Program) × IsSoundProgramOf files program × CutsIn program world depth input old new) ⊎ CutsFaults files old new
 
 -- replies of the files' program to first lines of an input are written, or nothing is
-abbrev pub AnswersSome : List SourceFile → (input old new : Option (List ℕ)) → Type 0
-AnswersSome files input old new = Keeps old new ⊎ ((program : Program) × IsProgramOf files program × StopsIn program input old new)
+abbrev pub AnswersSome : List SourceFile → (world : SourceFile) → (depth : ℕ) → (input old new : Option (List ℕ)) → Type 0
+AnswersSome files world depth input old new =
+    Keeps old new ⊎ ((program : Program) × IsSoundProgramOf files program × StopsIn program world depth input old new)
 
 -- the same, and behind it a beginning of the line `out of memory`
-abbrev pub RunsOut : List SourceFile → (input old new : Option (List ℕ)) → Type 0
-RunsOut files input old new = (held : Option (List ℕ)) × AnswersSome files input old held × AppendsBeginning held new (codes "out of memory\n")
+abbrev pub RunsOut : List SourceFile → (world : SourceFile) → (depth : ℕ) → (input old new : Option (List ℕ)) → Type 0
+RunsOut files world depth input old new =
+    (held : Option (List ℕ)) × AnswersSome files world depth input old held × AppendsBeginning held new (codes "out of memory\n")

@@ -2,10 +2,9 @@
 use Rattle.std.specs.Prelude.{◌≡◌, ◌<◌, ◌==◌, ◌||◌, ◌++◌, ◌⊎◌, ℕ, Bool, true, false, List, [], ◌∷◌, Option, Some, None, IfSome, if◌then◌else◌, codes, length}
 use Rattle.std.specs.Io.BufRead.{take_through, drop_through}
 use Rattle.std.specs.Io.KnownBytes.{Appends}
-use Rattle.isle_run.specs.declared.program.Program.{Program}
 use Rattle.islec.specs.declared.serve.Served.{Served}
 use Rattle.islec.specs.declared.serve.Served.TheVariants.{AllWell, SomeRefused}
-use Rattle.islec.specs.Replies.{IsReply}
+use Rattle.islec.specs.Replies.{Setting, IsReply}
 use Rattle.islec.specs.Writing.{AppendsBeginning}
 
 -- a byte at the front of the first of some lines
@@ -27,27 +26,27 @@ abbrev pub AreFirstLinesOf : Option (List ℕ) → List (List ℕ) → Type 0
 AreFirstLinesOf input lines = IfSome input (λ bytes. (later : List (List ℕ)) × (lines_of bytes ≡ lines ++ later))
 
 -- the replies to lines one after another, and whether some line counts as refused
-abbrev pub AreReplies : Program → List (List ℕ) → List ℕ → Bool → Type 0
-AreReplies program [] out refused = (out ≡ []) × (refused ≡ false)
-AreReplies program (line ∷ lines) out refused = (one rest : List ℕ) × (first others : Bool) × IsReply program line one first
-    × AreReplies program lines rest others × (out ≡ one ++ rest) × (refused ≡ (first || others))
+abbrev pub AreReplies : Setting → List (List ℕ) → List ℕ → Bool → Type 0
+AreReplies setting [] out refused = (out ≡ []) × (refused ≡ false)
+AreReplies setting (line ∷ lines) out refused = (one rest : List ℕ) × (first others : Bool) × IsReply setting line one first
+    × AreReplies setting lines rest others × (out ≡ one ++ rest) × (refused ≡ (first || others))
 
 -- replies to lines: a writer that held `old` holds these bytes and the replies behind them
-abbrev pub WritesReplies : Program → List (List ℕ) → Bool → (old new : Option (List ℕ)) → Type 0
-WritesReplies program lines refused old new = (out : List ℕ) × AreReplies program lines out refused × Appends old new out
+abbrev pub WritesReplies : Setting → List (List ℕ) → Bool → (old new : Option (List ℕ)) → Type 0
+WritesReplies setting lines refused old new = (out : List ℕ) × AreReplies setting lines out refused × Appends old new out
 
 -- replies to each line of an input are written
-abbrev pub AnswersAll : Program → (input : Option (List ℕ)) → Bool → (old new : Option (List ℕ)) → Type 0
-AnswersAll program input refused old new = (lines : List (List ℕ)) × AreLinesOf input lines × WritesReplies program lines refused old new
+abbrev pub AnswersAll : Setting → (input : Option (List ℕ)) → Bool → (old new : Option (List ℕ)) → Type 0
+AnswersAll setting input refused old new = (lines : List (List ℕ)) × AreLinesOf input lines × WritesReplies setting lines refused old new
 
 -- replies to first lines of an input are written
-abbrev pub AnswersFirst : Program → (input old new : Option (List ℕ)) → Type 0
-AnswersFirst program input old new = (lines : List (List ℕ)) × (refused : Bool) × AreFirstLinesOf input lines × WritesReplies program lines refused old new
+abbrev pub AnswersFirst : Setting → (input old new : Option (List ℕ)) → Type 0
+AnswersFirst setting input old new = (lines : List (List ℕ)) × (refused : Bool) × AreFirstLinesOf input lines × WritesReplies setting lines refused old new
 
 -- a beginning of the replies to first lines of an input is written
-abbrev pub AnswersCut : Program → (input old new : Option (List ℕ)) → Type 0
-AnswersCut program input old new = (lines : List (List ℕ)) × (refused : Bool) × (out : List ℕ) × AreFirstLinesOf input lines
-    × AreReplies program lines out refused × AppendsBeginning old new out
+abbrev pub AnswersCut : Setting → (input old new : Option (List ℕ)) → Type 0
+AnswersCut setting input old new = (lines : List (List ℕ)) × (refused : Bool) × (out : List ℕ) × AreFirstLinesOf input lines
+    × AreReplies setting lines out refused × AppendsBeginning old new out
 
 -- whether some line counted as refused
 abbrev pub some_refused : Served → Bool
@@ -55,9 +54,9 @@ some_refused AllWell = false
 some_refused SomeRefused = true
 
 -- replies to lines, of which an end is kept back and the others are written
-pub record KeepsBack (program : Program) (lines : List (List ℕ)) (refused : Bool) (old new : Option (List ℕ)) (kept : List ℕ) : Type 0 where
+pub record KeepsBack (setting : Setting) (lines : List (List ℕ)) (refused : Bool) (old new : Option (List ℕ)) (kept : List ℕ) : Type 0 where
   pub out : List ℕ
-  pub replies : AreReplies program lines (out ++ kept) refused
+  pub replies : AreReplies setting lines (out ++ kept) refused
   pub written : Appends old new out
 
 -- a reader's first line with the newline that ends it, where its bytes are known

@@ -3,10 +3,10 @@ use Rattle.std.specs.Prelude.{◌≡◌, ◌++◌, ℕ, Bool, true, false, List,
 use Rattle.isle_types.specs.declared.ids.TermId.{TermId}
 use Rattle.isle_run.specs.declared.program.Program.{Program}
 use Rattle.isle_run.specs.Programs.{term_name, types_of, terms_of, rule_sets_of}
-use Rattle.isle_run.specs.Numbers.{AreRoots}
-use Rattle.isle_run.specs.Inhabited.{AreAllInhabited}
-use Rattle.isle_run.specs.Reach.{IsRunnable}
-use Rattle.isle_run.specs.Steps.{steps_in}
+use Rattle.isle_run.specs.Facts.Asked.{AreRoots}
+use Rattle.isle_run.specs.Facts.Inhabited.{AreAllInhabited}
+use Rattle.isle_run.specs.Facts.Reach.{IsRunnable}
+use Rattle.isle_run.specs.Facts.Steps.{steps_in}
 
 -- the word for whether a term can be run
 pub record TellsRuns (program : Program) (term : TermId) (word : List ℕ) : Type 0 where

@@ -1,8 +1,11 @@
 //! The lines that answer a query.
 ghost use Rattle.std.specs.Prelude.{◌≡◌, ◌++◌, IfOk, OnOk, IsUtf8, string_bytes};
+ghost use Rattle.isle_terms.specs.Meaning.ValueTypes.{AreOfTypes};
 ghost use Rattle.isle_terms.specs.Values.{value_list};
-ghost use Rattle.isle_run.specs.ValueText.{value_text};
-ghost use Rattle.islec.specs.Replies.{Refuses, IsReply, AnswersCall, effect_line, answer_line, answer_text, call_text, given_text, counts_as_refused};
+ghost use Rattle.isle_run.specs.Facts.Reach.{IsRunnable};
+ghost use Rattle.isle_run.specs.Programs.{types_of, terms_of, types_taken, value_facts};
+ghost use Rattle.isle_run.specs.Values.Text.{value_text};
+ghost use Rattle.islec.specs.Replies.{setting_in, Refuses, IsReply, AnswersCall, effect_line, answer_line, answer_text, call_text, given_text, counts_as_refused};
 
 use isle_run::{Answer, Effect, Program, QueryFault, TermId, Value, World, is_blank};
 use std::alloc::{AllocError, Global};
@@ -25,7 +28,9 @@ pub fn reply_to<V: World>(
     line: &[u8],
 ) -> Result<Reply, AllocError>
     ensures not_text { ¬ (IsUtf8 line.now) → IfOk result (Refuses 4) }
-    ensures reply { IfOk result (λ reply. IsReply program.now line.now (string_bytes reply.lines) reply.refused) }
+    ensures reply { IfOk result (λ reply. IsReply (setting_in V.constructs V.step program.now (V.constructs world.old) (V.extracts world.old) depth)
+        line.now (string_bytes reply.lines) reply.refused) }
+    ensures same { (V.constructs world.new ≡ V.constructs world.old) × (V.extracts world.new ≡ V.extracts world.old) }
 {
     let Ok(text) = str::from_utf8(line) else {
         return refused(alloc, 4);
@@ -63,8 +68,12 @@ fn reply_to_call<V: World>(
     term: TermId,
     args: Vec<Value>,
 ) -> Result<Reply, AllocError>
-    ensures { IfOk result (λ reply. AnswersCall program.now term (value_list args.items)
+    requires callable { IsRunnable (types_of program.now) (terms_of program.now) term.0 }
+    requires typed { AreOfTypes (value_facts program.now) (value_list args.items) (types_taken program.now term) }
+    ensures answers { IfOk result (λ reply. AnswersCall
+        (setting_in V.constructs V.step program.now (V.constructs world.old) (V.extracts world.old) depth) term (value_list args.items)
         (string_bytes reply.lines) reply.refused) }
+    ensures same { (V.constructs world.new ≡ V.constructs world.old) × (V.extracts world.new ≡ V.extracts world.old) }
 {
     let mut effects = Vec::new(alloc);
     let called = program.call_plain(alloc, term, args, depth, world, &mut effects)?;

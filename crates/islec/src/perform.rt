@@ -5,6 +5,7 @@ ghost use Rattle.isle_syntax.specs.Errors.{report_text};
 ghost use Rattle.isle_syntax.specs.Positions.Files.{source_file};
 ghost use Rattle.isle_run.specs.Compiled.{AreAccepted};
 ghost use Rattle.islec.specs.Formatting.{WritesPrints, WritesFault, CutsPrints};
+ghost use Rattle.islec.specs.Replies.{setting_in};
 ghost use Rattle.islec.specs.Running.{WritesFaults, WritesAccepted, WritesAnswers, WritesRefusal, CutsCheck, CutsRun, AnswersSome, RunsOut, AnswersIn, TellsWorld, CutsIn, StopsIn};
 ghost use Rattle.islec.specs.Worlds.{world_file, world_fault_line};
 ghost use Rattle.islec.specs.Terms.{TellsProgram};
@@ -49,13 +50,13 @@ pub fn perform<R: Read, W: Write>(
     ensures accepted { (depth : ℕ) (plain : Bool) → job ≡ Run depth plain → (result ≡ 0) ⊎ (result ≡ 3)
         → AreAccepted (map source_file texts.items) }
     ensures all_well { (depth : ℕ) (plain : Bool) → job ≡ Run depth plain → result ≡ 0 → WritesAnswers
-        (map source_file texts.items) (world_file world) (R.remaining reader.old) false (W.contents writer.old) (W.contents writer.new) }
+        (map source_file texts.items) (world_file world) depth (R.remaining reader.old) false (W.contents writer.old) (W.contents writer.new) }
     ensures some_refused { (depth : ℕ) (plain : Bool) → job ≡ Run depth plain → result ≡ 3 → WritesAnswers
-        (map source_file texts.items) (world_file world) (R.remaining reader.old) true (W.contents writer.old) (W.contents writer.new) }
+        (map source_file texts.items) (world_file world) depth (R.remaining reader.old) true (W.contents writer.old) (W.contents writer.new) }
     ensures failed { (depth : ℕ) (plain : Bool) → job ≡ Run depth plain → result ≡ 4 → CutsRun
-        (map source_file texts.items) (world_file world) (R.remaining reader.old) (W.contents writer.old) (W.contents writer.new) }
+        (map source_file texts.items) (world_file world) depth (R.remaining reader.old) (W.contents writer.old) (W.contents writer.new) }
     ensures ran_out { (depth : ℕ) (plain : Bool) → job ≡ Run depth plain → result ≡ 5 → RunsOut
-        (map source_file texts.items) (R.remaining reader.old) (W.contents writer.old) (W.contents writer.new) }
+        (map source_file texts.items) (world_file world) depth (R.remaining reader.old) (W.contents writer.old) (W.contents writer.new) }
     ensures faults { (depth : ℕ) (plain : Bool) → job ≡ Run depth plain → result ≡ 1 → WritesRefusal
         (map source_file texts.items) (world_file world) (W.contents writer.old) (W.contents writer.new) }
     ensures checked { (terms : Bool) → job ≡ Check terms → result ≡ 0 → WritesAccepted
@@ -113,19 +114,19 @@ fn run<R: Read, W: Write>(
     ensures answered { IfOk result (λ status. (status ≡ Status.AllWell) ⊎ (status ≡ Status.SomeRefused)
         → AreAccepted (map source_file texts.items)) }
     ensures all_well { IfOk result (λ status. status ≡ Status.AllWell
-        → WritesAnswers (map source_file texts.items) (world_file world) (R.remaining reader.old) false
+        → WritesAnswers (map source_file texts.items) (world_file world) depth (R.remaining reader.old) false
         (W.contents writer.old) (W.contents writer.new)) }
     ensures some_refused { IfOk result (λ status. status ≡ Status.SomeRefused
-        → WritesAnswers (map source_file texts.items) (world_file world) (R.remaining reader.old) true
+        → WritesAnswers (map source_file texts.items) (world_file world) depth (R.remaining reader.old) true
         (W.contents writer.old) (W.contents writer.new)) }
     ensures refused { IfOk result (λ status. status ≡ Status.TextsRefused → WritesRefusal
         (map source_file texts.items) (world_file world) (W.contents writer.old) (W.contents writer.new)) }
     ensures other { IfOk result IsEnd }
     ensures cut { IfErr result (λ fault. fault ≢ ServeFault.Memory
-        → CutsRun (map source_file texts.items) (world_file world) (R.remaining reader.old)
+        → CutsRun (map source_file texts.items) (world_file world) depth (R.remaining reader.old)
         (W.contents writer.old) (W.contents writer.new)) }
     ensures memory { IfErr result (λ fault. fault ≡ ServeFault.Memory
-        → AnswersSome (map source_file texts.items) (R.remaining reader.old)
+        → AnswersSome (map source_file texts.items) (world_file world) depth (R.remaining reader.old)
         (W.contents writer.old) (W.contents writer.new)) }
 {
     let files = Rc::new(alloc, Files::from_names_and_contents(alloc, texts)?)?;
@@ -159,16 +160,16 @@ fn run_program<R: Read, W: Write>(
     writer: &mut W,
 ) -> Result<Status, ServeFault>
     ensures all_well { IfOk result (λ status. status ≡ Status.AllWell → AnswersIn program.now
-        (world_file world) (R.remaining reader.old) false (W.contents writer.old) (W.contents writer.new)) }
-    ensures some_refused { IfOk result (λ status. status ≡ Status.SomeRefused → AnswersIn
-        program.now (world_file world) (R.remaining reader.old) true (W.contents writer.old) (W.contents writer.new)) }
+        (world_file world) depth (R.remaining reader.old) false (W.contents writer.old) (W.contents writer.new)) }
+    ensures some_refused { IfOk result (λ status. status ≡ Status.SomeRefused → AnswersIn program.now
+        (world_file world) depth (R.remaining reader.old) true (W.contents writer.old) (W.contents writer.new)) }
     ensures refused { IfOk result (λ status. status ≡ Status.TextsRefused → TellsWorld
         program.now (world_file world) (W.contents writer.old) (W.contents writer.new)) }
     ensures other { IfOk result IsEnd }
     ensures cut { IfErr result (λ fault. fault ≢ ServeFault.Memory → CutsIn program.now
-        (world_file world) (R.remaining reader.old) (W.contents writer.old) (W.contents writer.new)) }
+        (world_file world) depth (R.remaining reader.old) (W.contents writer.old) (W.contents writer.new)) }
     ensures memory { IfErr result (λ fault. fault ≡ ServeFault.Memory → StopsIn program.now
-        (R.remaining reader.old) (W.contents writer.old) (W.contents writer.new)) }
+        (world_file world) depth (R.remaining reader.old) (W.contents writer.old) (W.contents writer.new)) }
 {
     let (name, text) = world_parts(alloc, world)?;
     match TableWorld::read(alloc, text.as_str(), program) {
@@ -187,14 +188,17 @@ fn answer<V: World, R: Read, W: Write>(
     reader: &mut R,
     writer: &mut W,
 ) -> Result<Status, ServeFault>
-    ensures all_well { IfOk result (λ status. status ≡ Status.AllWell → AnswersAll program.now
+    ensures all_well { IfOk result (λ status. status ≡ Status.AllWell → AnswersAll
+        (setting_in V.constructs V.step program.now (V.constructs world.old) (V.extracts world.old) depth)
         (R.remaining reader.old) false (W.contents writer.old) (W.contents writer.new)) }
     ensures some_refused { IfOk result (λ status. status ≡ Status.SomeRefused → AnswersAll
-        program.now (R.remaining reader.old) true (W.contents writer.old) (W.contents writer.new)) }
+        (setting_in V.constructs V.step program.now (V.constructs world.old) (V.extracts world.old) depth) (R.remaining reader.old) true (W.contents writer.old) (W.contents writer.new)) }
     ensures other { IfOk result (λ status. (status ≡ Status.AllWell) ⊎ (status ≡ Status.SomeRefused)) }
-    ensures cut { IfErr result (λ fault. fault ≢ ServeFault.Memory → AnswersCut program.now
+    ensures cut { IfErr result (λ fault. fault ≢ ServeFault.Memory → AnswersCut
+        (setting_in V.constructs V.step program.now (V.constructs world.old) (V.extracts world.old) depth)
         (R.remaining reader.old) (W.contents writer.old) (W.contents writer.new)) }
-    ensures memory { IfErr result (λ fault. fault ≡ ServeFault.Memory → AnswersFirst program.now
+    ensures memory { IfErr result (λ fault. fault ≡ ServeFault.Memory → AnswersFirst
+        (setting_in V.constructs V.step program.now (V.constructs world.old) (V.extracts world.old) depth)
         (R.remaining reader.old) (W.contents writer.old) (W.contents writer.new)) }
 {
     match serve(alloc, program, world, depth, reader, writer) {

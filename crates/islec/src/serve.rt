@@ -1,7 +1,7 @@
 //! Queries from a reader, answered to a writer.
 ghost use Rattle.std.specs.Prelude.{◌≡◌, ◌≢◌, ◌↔◌, ◌++◌, ◌||◌, ℕ, Bool, List, [], ◌∷◌, OnOk, OnErr, IfOk, IfErr, IfSome, IfNone, IsTrue, string_bytes};
 ghost use Rattle.std.specs.Io.KnownBytes.{Appends, Keeps, IsAtEnd};
-ghost use Rattle.islec.specs.Replies.{IsReply};
+ghost use Rattle.islec.specs.Replies.{IsReply, setting_in};
 ghost use Rattle.islec.specs.Serving.{AreLinesOf, AreFirstLinesOf, AnswersAll, AnswersFirst, AnswersCut, KeepsBack, GivesLines, TakesLine, LosesNewline, some_refused};
 ghost use Rattle.islec.specs.Writing.{AppendsBeginning, ContinuesBy};
 ghost use Rattle.islec.specs.declared.serve.ServeFault.TheVariants.{Memory};
@@ -71,11 +71,14 @@ pub fn serve<V: World, R: Read, W: Write>(
     writer: &mut W,
 ) -> Result<Served, ServeFault>
     ensures continues { ContinuesBy (W.contents writer.old) (W.contents writer.new) }
-    ensures answered { IfOk result (λ served. AnswersAll program.now (R.remaining reader.old)
+    ensures answered { IfOk result (λ served. AnswersAll
+        (setting_in V.constructs V.step program.now (V.constructs world.old) (V.extracts world.old) depth) (R.remaining reader.old)
         (some_refused served) (W.contents writer.old) (W.contents writer.new)) }
-    ensures stopped { IfErr result (λ fault. fault ≢ ServeFault.Write → AnswersFirst program.now
+    ensures stopped { IfErr result (λ fault. fault ≢ ServeFault.Write → AnswersFirst
+        (setting_in V.constructs V.step program.now (V.constructs world.old) (V.extracts world.old) depth)
         (R.remaining reader.old) (W.contents writer.old) (W.contents writer.new)) }
-    ensures cut { IfErr result (λ fault. fault ≡ ServeFault.Write → AnswersCut program.now
+    ensures cut { IfErr result (λ fault. fault ≡ ServeFault.Write → AnswersCut
+        (setting_in V.constructs V.step program.now (V.constructs world.old) (V.extracts world.old) depth)
         (R.remaining reader.old) (W.contents writer.old) (W.contents writer.new)) }
 {
     let Ok(mut input) = BufReader::new(alloc, reader) else {
@@ -93,11 +96,14 @@ fn serve_input<V: World, B: BufRead, W: Write>(
     writer: &mut W,
 ) -> Result<Served, ServeFault>
     ensures continues { ContinuesBy (W.contents writer.old) (W.contents writer.new) }
-    ensures answered { IfOk result (λ served. AnswersAll program.now (B.remaining input.old)
+    ensures answered { IfOk result (λ served. AnswersAll
+        (setting_in V.constructs V.step program.now (V.constructs world.old) (V.extracts world.old) depth) (B.remaining input.old)
         (some_refused served) (W.contents writer.old) (W.contents writer.new)) }
-    ensures stopped { IfErr result (λ fault. fault ≢ ServeFault.Write → AnswersFirst program.now
+    ensures stopped { IfErr result (λ fault. fault ≢ ServeFault.Write → AnswersFirst
+        (setting_in V.constructs V.step program.now (V.constructs world.old) (V.extracts world.old) depth)
         (B.remaining input.old) (W.contents writer.old) (W.contents writer.new)) }
-    ensures cut { IfErr result (λ fault. fault ≡ ServeFault.Write → AnswersCut program.now
+    ensures cut { IfErr result (λ fault. fault ≡ ServeFault.Write → AnswersCut
+        (setting_in V.constructs V.step program.now (V.constructs world.old) (V.extracts world.old) depth)
         (B.remaining input.old) (W.contents writer.old) (W.contents writer.new)) }
 {
     let mut unwritten = String::new(alloc);
@@ -133,13 +139,16 @@ fn serve_lines<V: World, B: BufRead, W: Write>(
     requires { string_bytes unwritten.old ≡ [] }
     ensures answered { IfOk result (λ served. (lines : List (List ℕ))
         × AreLinesOf (B.remaining input.old) lines
-        × KeepsBack program.now lines (some_refused served) (W.contents writer.old)
+        × KeepsBack
+        (setting_in V.constructs V.step program.now (V.constructs world.old) (V.extracts world.old) depth) lines (some_refused served) (W.contents writer.old)
         (W.contents writer.new) (string_bytes unwritten.new)) }
     ensures stopped { IfErr result (λ fault. fault ≢ ServeFault.Write → (lines : List (List ℕ))
         × (refused : Bool) × AreFirstLinesOf (B.remaining input.old) lines
-        × KeepsBack program.now lines refused (W.contents writer.old) (W.contents writer.new)
+        × KeepsBack
+        (setting_in V.constructs V.step program.now (V.constructs world.old) (V.extracts world.old) depth) lines refused (W.contents writer.old) (W.contents writer.new)
         (string_bytes unwritten.new)) }
-    ensures cut { IfErr result (λ fault. fault ≡ ServeFault.Write → AnswersCut program.now
+    ensures cut { IfErr result (λ fault. fault ≡ ServeFault.Write → AnswersCut
+        (setting_in V.constructs V.step program.now (V.constructs world.old) (V.extracts world.old) depth)
         (B.remaining input.old) (W.contents writer.old) (W.contents writer.new)) }
 {
     let mut served = Served::AllWell;
@@ -164,9 +173,11 @@ fn answer_next<V: World, B: BufRead>(
     unwritten: &mut String,
 ) -> Result<Option<bool>, ServeFault>
     ensures answered { IfOk result (λ next. IfSome next (λ refused. (line one : List ℕ)
-        × IsReply program.now line one refused
+        × IsReply
+        (setting_in V.constructs V.step program.now (V.constructs world.old) (V.extracts world.old) depth) line one refused
         × (string_bytes unwritten.new ≡ string_bytes unwritten.old ++ one)
         × GivesLines (B.remaining input.old) (B.remaining input.new) (line ∷ []))) }
+    ensures same { (V.constructs world.new ≡ V.constructs world.old) × (V.extracts world.new ≡ V.extracts world.old) }
     ensures end { IfOk result (λ next. IfNone next (IsAtEnd (B.remaining input.old))) }
     ensures none { IfOk result (λ next. IfNone next
         (string_bytes unwritten.new ≡ string_bytes unwritten.old)) }

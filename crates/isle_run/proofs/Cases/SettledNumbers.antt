@@ -1,11 +1,14 @@
 -- The number 2^128 - 1 is -1 at a primitive type, also as a field, and stays what it is at `u128`.
 use Rattle.std.proofs.Common.{◌≡◌, ◌==◌, ℕ, [], ◌∷◌, Some, None, negsuc, refl, arith}
-use Rattle.std.specs.Prelude.{codes, if◌then◌else◌}
+use Rattle.std.specs.Prelude.{codes, if◌then◌else◌, FitsSigned}
+use Rattle.std.specs.Int.{w128}
+use Rattle.std.proofs.lemmas.Int.{fits_signed_from_abs}
 use Rattle.isle_syntax.specs.declared.lexer.Token.TheVariants.{Big as BigToken}
 use Rattle.isle_types.specs.declared.types.IntType.TheVariants.{U128}
 use Rattle.isle_terms.specs.Values.{ValueTree, int_value, big_value, data_value, no_values, more_values}
+use Rattle.isle_terms.specs.Meaning.Facts.{struct_shape}
 use Rattle.isle_terms.specs.Meaning.ValueTypes.{ValueFacts, IsOfType, integer_kind, primitive_kind, data_kind}
-use Rattle.isle_run.specs.Settled.{settled, SpellTyped}
+use Rattle.isle_run.specs.Values.Settled.{settled, SpellTyped}
 
 -- type 0 is primitive, 1 is `u128`, and 2 has the struct `Pair` with a field of each
 abbrev facts : ValueFacts
@@ -13,6 +16,7 @@ facts = record {
   kind = λ ty. if ty == 0 then primitive_kind else (if ty == 1 then integer_kind U128 else data_kind);
   constant = λ name. None;
   data_named = λ name. Some (2, 0 ∷ 1 ∷ []);
+  shape_named = λ name. Some struct_shape;
 }
 
 abbrev greatest : ℕ
@@ -34,8 +38,12 @@ never_big h = let e = h.0 in cc
 fields : settled facts (pair (big_value greatest)) 2 ≡ pair (int_value (negsuc 0))
 fields = refl
 
+-- -1 has 128 bits
+one_fits : FitsSigned w128 (negsuc 0)
+one_fits = fits_signed_from_abs w128 (negsuc 0) (omega arith)
+
 typed : IsOfType facts (pair (int_value (negsuc 0))) 2
-typed = (0 ∷ 1 ∷ [], refl, (tt, ((refl, omega arith, omega arith), tt)))
+typed = (0 ∷ 1 ∷ [], refl, (one_fits, ((refl, omega arith, omega arith), tt)))
 
 read : SpellTyped facts (BigToken greatest ∷ []) (int_value (negsuc 0)) 0
-read = (big_value greatest, (tt, refl), refl, tt)
+read = (big_value greatest, (tt, refl), refl, one_fits)

@@ -10,7 +10,7 @@ use Rattle.isle_types.specs.declared.types.Variant.{Variant}
 use Rattle.isle_types.specs.declared.types.«Type».{«Type» as KnownType}
 use Rattle.isle_types.specs.declared.types.«Type».TheVariants.{Enum as EnumType}
 use Rattle.isle_blocks.proofs.Building.Walking.{cons_cases, cons_here, none_there}
-use Rattle.isle_run.specs.Inhabited.{fields_for, IsInhabited, AreInhabited, has_value, no_values, more_values}
+use Rattle.isle_run.specs.Facts.Inhabited.{fields_for, IsInhabited, AreInhabited, has_value, no_values, more_values}
 
 abbrev itself : TypeId
 itself = record { 0 = 0 }

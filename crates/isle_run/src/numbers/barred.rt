@@ -3,7 +3,7 @@ ghost use Rattle.std.specs.Prelude.{◌≡◌, ◌<◌, ◌↔◌, ℕ, true, fa
 ghost use Rattle.isle_terms.specs.declared.terms.Term.{Term as TermRecord};
 ghost use Rattle.isle_blocks.specs.Building.Contents.{Marked};
 ghost use Rattle.isle_blocks.specs.RivalLists.{is_multi_kind};
-ghost use Rattle.isle_run.specs.Reach.{is_hindered, is_root, IsBarred};
+ghost use Rattle.isle_run.specs.Facts.Reach.{is_hindered, is_root, IsBarred};
 
 use crate::numbers::callers::callers;
 use crate::numbers::hindrances::{gives_many, hinders};

@@ -1,8 +1,8 @@
 //! For each term the terms whose rules make values by it.
 ghost use Rattle.std.specs.Prelude.{◌≡◌, ◌∷◌, [], ℕ, List, IfOk, OnOk, All, length};
 ghost use Rattle.isle_types.specs.TypeTables.{TypeTables};
-ghost use Rattle.isle_run.specs.Reach.{terms_made_by};
-ghost use Rattle.isle_run.specs.Callers.{AreCallers, ListsMore};
+ghost use Rattle.isle_run.specs.Facts.Reach.{terms_made_by};
+ghost use Rattle.isle_run.specs.Facts.Callers.{AreCallers, ListsMore};
 
 use crate::numbers::made::push_made;
 use isle_terms::{Rule, TermEnv};

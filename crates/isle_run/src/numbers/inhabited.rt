@@ -5,7 +5,7 @@ ghost use Rattle.isle_types.specs.declared.types.Variant.{Variant as VariantReco
 ghost use Rattle.isle_types.specs.declared.types.StructField.{StructField as NamedField};
 ghost use Rattle.isle_types.specs.declared.types.TupleField.{TupleField as UnnamedField};
 ghost use Rattle.isle_types.specs.Types.{field_types};
-ghost use Rattle.isle_run.specs.Inhabited.{AreAllInhabited, mark_of, can_be_made, MarksBelow, MarksOne};
+ghost use Rattle.isle_run.specs.Facts.Inhabited.{AreAllInhabited, mark_of, can_be_made, MarksBelow, MarksOne};
 
 use isle_types::{Fields, StructField, TupleField, Type, TypeId, Variant};
 use std::alloc::{AllocError, Global};

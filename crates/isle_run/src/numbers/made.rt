@@ -4,7 +4,7 @@ ghost use Rattle.isle_types.specs.declared.ids.VarId.{VarId as VarNumber};
 ghost use Rattle.isle_types.specs.declared.ids.TypeId.{TypeId as TypeNumber};
 ghost use Rattle.isle_terms.specs.declared.rules.Expr.{Expr as SourceExpr};
 ghost use Rattle.isle_terms.specs.Shown.ShownRules.{built_list, built_shown, binding_list};
-ghost use Rattle.isle_run.specs.Reach.{terms_in, terms_in_all, terms_in_bound, terms_in_iflets, terms_made_by};
+ghost use Rattle.isle_run.specs.Facts.Reach.{terms_in, terms_in_all, terms_in_bound, terms_in_iflets, terms_made_by};
 
 use isle_syntax::Boxed;
 use isle_terms::{Expr, IfLet, Rule};

@@ -3,7 +3,7 @@ ghost use Rattle.std.specs.Prelude.{◌≡◌, ◌<◌, ℕ, All, IfOk, slice_se
 ghost use Rattle.std.specs.List.{sum_by};
 ghost use Rattle.isle_types.specs.declared.ids.TermId.{TermId as TermNumber};
 ghost use Rattle.isle_blocks.specs.RuleSets.{RulesOverSites};
-ghost use Rattle.isle_run.specs.Steps.{rule_steps, steps_in};
+ghost use Rattle.isle_run.specs.Facts.Steps.{rule_steps, steps_in};
 
 use isle_blocks::{Rule, RuleSet};
 use isle_types::TermId;

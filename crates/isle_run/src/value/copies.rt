@@ -1,7 +1,7 @@
 //! Copies of values, and equality.
 ghost use Rattle.std.specs.Prelude.{◌≡◌, ◌↔◌, IsTrue};
 ghost use Rattle.isle_syntax.specs.Trees.Equality.{same_coded};
-ghost use Rattle.isle_run.specs.ValueCode.{value_tree_code};
+ghost use Rattle.isle_run.specs.Values.Code.{value_tree_code};
 
 use super::Value;
 use std::alloc::AllocError;
@@ -21,7 +21,7 @@ impl Clone for Value {
 impl PartialEq for Value {
     ghost use Rattle.std.specs.Cmp.{partial_equiv_from_equiv};
     ghost use Rattle.isle_syntax.specs.Trees.Equality.{same_coded, same_coded-equiv};
-    ghost use Rattle.isle_run.specs.ValueCode.{value_tree_code};
+    ghost use Rattle.isle_run.specs.Values.Code.{value_tree_code};
 
     ghost eq = { same_coded value_tree_code };
 
@@ -37,7 +37,7 @@ impl PartialEq for Value {
 
 impl Eq for Value {
     ghost use Rattle.isle_syntax.specs.Trees.Equality.{same_coded-equiv};
-    ghost use Rattle.isle_run.specs.ValueCode.{value_tree_code};
+    ghost use Rattle.isle_run.specs.Values.Code.{value_tree_code};
 
     ghost laws = { same_coded-equiv value_tree_code };
 }

@@ -1,7 +1,7 @@
 //! Values that are made in code.
 ghost use Rattle.std.specs.Prelude.{◌≡◌, IfOk};
 ghost use Rattle.isle_terms.specs.Values.{bool_value, int_value, big_value, const_value, opaque_value, data_value, value_list};
-ghost use Rattle.isle_run.specs.Nodes.{nodes_all};
+ghost use Rattle.isle_run.specs.Values.Nodes.{nodes_all};
 
 use super::{Node, Value};
 use isle_syntax::Text;

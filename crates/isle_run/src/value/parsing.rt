@@ -2,9 +2,9 @@
 ghost use Rattle.std.specs.Prelude.{IfOk, IfErr, List};
 ghost use Rattle.isle_syntax.specs.declared.lexer.Token.{Token};
 ghost use Rattle.isle_run.specs.Programs.{value_facts};
-ghost use Rattle.isle_run.specs.Settled.{SpellTyped};
-ghost use Rattle.isle_run.specs.TextTokens.{AreTokensOf};
-ghost use Rattle.isle_run.specs.ValueFaults.{RefusesValue};
+ghost use Rattle.isle_run.specs.Values.Settled.{SpellTyped};
+ghost use Rattle.isle_run.specs.Values.TextTokens.{AreTokensOf};
+ghost use Rattle.isle_run.specs.Values.Faults.{RefusesValue};
 
 use super::{Value, read_front};
 use crate::program::Program;

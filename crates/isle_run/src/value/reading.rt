@@ -4,12 +4,12 @@ ghost use Rattle.std.specs.Fmt.{decimal};
 ghost use Rattle.isle_syntax.specs.Tokens.Names.{is_ident};
 ghost use Rattle.isle_syntax.specs.declared.lexer.Token.TheVariants.{Symbol};
 ghost use Rattle.isle_terms.specs.Values.{ValueTree};
-ghost use Rattle.isle_run.specs.Nodes.{nodes_of};
+ghost use Rattle.isle_run.specs.Values.Nodes.{nodes_of};
 ghost use Rattle.isle_run.specs.declared.value.Node.{Node};
 ghost use Rattle.isle_run.specs.declared.value.Node.TheVariants.{Data};
 ghost use Rattle.isle_run.specs.declared.value.reading.Open.{Open};
-ghost use Rattle.isle_run.specs.ValueTokens.{tokens_of, IsSpellable, SpellValue, HaveNoValue};
-ghost use Rattle.isle_run.specs.Reading.{counted, IsWithin, Level, IsReading, GoesOn};
+ghost use Rattle.isle_run.specs.Values.Tokens.{tokens_of, IsSpellable, SpellValue, HaveNoValue};
+ghost use Rattle.isle_run.specs.Values.Reading.{counted, IsWithin, Level, IsReading, GoesOn};
 
 use super::{Node, Value};
 use isle_syntax::lexer::Token;

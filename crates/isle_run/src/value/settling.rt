@@ -2,8 +2,8 @@
 ghost use Rattle.std.specs.Prelude.{◌≡◌, ◌++◌, ◌↔◌, IfOk, IfSome, IfNone, IsTrue, map, reverse};
 ghost use Rattle.isle_terms.specs.Meaning.ValueTypes.{IsOfType};
 ghost use Rattle.isle_run.specs.Programs.{value_facts, number_of};
-ghost use Rattle.isle_run.specs.Settled.{settled};
-ghost use Rattle.isle_run.specs.SettledNodes.{settled_node, types_below, FitsWithFields};
+ghost use Rattle.isle_run.specs.Values.Settled.{settled};
+ghost use Rattle.isle_run.specs.Values.SettledNodes.{settled_node, types_below, FitsWithFields};
 
 use super::{Node, Value};
 use crate::program::Program;

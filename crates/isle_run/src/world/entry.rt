@@ -4,9 +4,9 @@ ghost use Rattle.isle_syntax.specs.Tokens.Names.{is_ident};
 ghost use Rattle.isle_syntax.specs.declared.lexer.Token.{Token as EntryToken};
 ghost use Rattle.isle_syntax.specs.declared.lexer.Token.TheVariants.{LParen, RParen, Symbol};
 ghost use Rattle.isle_terms.specs.Values.{ValueTrees, value_list};
-ghost use Rattle.isle_run.specs.ValueTokens.{tokens_all, AreSpellable};
-ghost use Rattle.isle_run.specs.Entries.{values_tokens, AreSpeltAs, part_tokens, IsSpeltPart, part_shown, side_word, lists_calls, lists_answers};
-ghost use Rattle.isle_run.specs.Entries.{entry_shown, entry_tokens, IsSpellableEntry, HaveNoEntry};
+ghost use Rattle.isle_run.specs.Values.Tokens.{tokens_all, AreSpellable};
+ghost use Rattle.isle_run.specs.Worlds.Entries.{values_tokens, AreSpeltAs, part_tokens, IsSpeltPart, part_shown, side_word, lists_calls, lists_answers};
+ghost use Rattle.isle_run.specs.Worlds.Entries.{entry_shown, entry_tokens, IsSpellableEntry, HaveNoEntry};
 
 use crate::value::{Value, read_front};
 use isle_syntax::lexer::Token;

@@ -5,10 +5,10 @@ ghost use Rattle.isle_terms.specs.Values.{value_list};
 ghost use Rattle.isle_terms.specs.Terms.{is_host_constructor};
 ghost use Rattle.isle_terms.specs.Meaning.ValueTypes.{AreOfTypes};
 ghost use Rattle.isle_run.specs.Programs.{number_of, value_facts};
-ghost use Rattle.isle_run.specs.Settled.{settled_all};
-ghost use Rattle.isle_run.specs.Entries.{part_shown, entry_shown};
-ghost use Rattle.isle_run.specs.Externals.{IfOfTypes, IsTypedEntry, constructor_types, extractor_types, asked_of, asked_by, asked_named};
-ghost use Rattle.isle_run.specs.Externals.{settled_part, settled_entry, types_shown};
+ghost use Rattle.isle_run.specs.Values.Settled.{settled_all};
+ghost use Rattle.isle_run.specs.Worlds.Entries.{part_shown, entry_shown};
+ghost use Rattle.isle_run.specs.Worlds.Externals.{IfOfTypes, IsTypedEntry, constructor_types, extractor_types, asked_of, asked_by, asked_named};
+ghost use Rattle.isle_run.specs.Worlds.Externals.{settled_part, settled_entry, types_shown};
 
 use super::entry::{Entry, Side};
 use crate::program::Program;

@@ -1,10 +1,10 @@
 //! Table worlds read from texts.
 ghost use Rattle.std.specs.Prelude.{◌≡◌, ◌<◌, List, IfOk, IfErr, IsTrue, ◌↔◌, MatchOption, length};
 ghost use Rattle.isle_syntax.specs.Tokens.LexerCalls.{GivesToken, AnswersEnd};
-ghost use Rattle.isle_run.specs.Entries.{EntryTree};
-ghost use Rattle.isle_run.specs.WorldTables.{HasEntries};
-ghost use Rattle.isle_run.specs.WorldTexts.{ArePlaced, SpellsWorld, RefusesWorld, SpellEntries};
-ghost use Rattle.isle_run.specs.WorldReading.{IsTokenFault, RefusedBehind, AddsEntry, RefusesEntry, LacksElseOn, MissesElse};
+ghost use Rattle.isle_run.specs.Worlds.Entries.{EntryTree};
+ghost use Rattle.isle_run.specs.Worlds.Tables.{HasEntries};
+ghost use Rattle.isle_run.specs.Worlds.Texts.{ArePlaced, SpellsWorld, RefusesWorld, SpellEntries};
+ghost use Rattle.isle_run.specs.Worlds.Reading.{IsTokenFault, RefusedBehind, AddsEntry, RefusesEntry, LacksElseOn, MissesElse};
 ghost use Rattle.isle_types.specs.declared.ids.TermId.{TermId as KnownTerm};
 ghost use Rattle.isle_run.specs.declared.program.Program.{Program as KnownProgram};
 

@@ -1,8 +1,8 @@
 //! A world that answers by tables.
 ghost use Rattle.std.specs.Prelude.{◌≡◌, ◌++◌, [], IfOk, OnOk, OnErr, IsTrue, Some, None};
 ghost use Rattle.isle_terms.specs.Values.{value_list};
-ghost use Rattle.isle_run.specs.Entries.{part_shown};
-ghost use Rattle.isle_run.specs.WorldTables.{answered, constructed, first_of, key_of};
+ghost use Rattle.isle_run.specs.Worlds.Entries.{part_shown};
+ghost use Rattle.isle_run.specs.Worlds.Tables.{answered, constructed, first_of, key_of};
 
 use super::World;
 use super::entry::{Entry, Side};
@@ -29,9 +29,9 @@ pub struct TableWorld {
 impl Model for TableWorld {
     ghost use Rattle.std.specs.Prelude.{List, map, All};
     ghost use Rattle.std.specs.Coded.{coded_list};
-    ghost use Rattle.isle_run.specs.EntryCode.{entry_tree_code};
-    ghost use Rattle.isle_run.specs.Entries.{EntryTree};
-    ghost use Rattle.isle_run.specs.WorldTables.{row_shown, IsKey};
+    ghost use Rattle.isle_run.specs.Worlds.EntryCode.{entry_tree_code};
+    ghost use Rattle.isle_run.specs.Worlds.Entries.{EntryTree};
+    ghost use Rattle.isle_run.specs.Worlds.Tables.{row_shown, IsKey};
 
     ghost Value = { List EntryTree };
 
@@ -105,8 +105,8 @@ fn copied(alloc: Global, answer: &Option<Vec<Value>>) -> Result<Option<Vec<Value
 
 impl TableWorld {
     ghost use Rattle.std.specs.Prelude.{true, false, IsSome, ◌↔◌};
-    ghost use Rattle.isle_run.specs.Entries.{entry_shown};
-    ghost use Rattle.isle_run.specs.WorldTables.{IsAdded, entry_at, entry_of};
+    ghost use Rattle.isle_run.specs.Worlds.Entries.{entry_shown};
+    ghost use Rattle.isle_run.specs.Worlds.Tables.{IsAdded, entry_at, entry_of};
 
     /// A world without entries.
     pub(crate) fn empty(alloc: Global) -> TableWorld
@@ -183,7 +183,7 @@ fn first_of(values: Vec<Value>) -> Option<Value>
 
 impl World for TableWorld {
     ghost use Rattle.std.proofs.Common.{ap};
-    ghost use Rattle.isle_run.specs.WorldTables.{constructed, extracted};
+    ghost use Rattle.isle_run.specs.Worlds.Tables.{constructed, extracted};
 
     ghost constructs = { constructed };
 

@@ -1,8 +1,10 @@
 -- Which values are of a type.
-use Rattle.std.specs.Prelude.{◌≡◌, ◌<◌, ◌≤◌, ◌^◌, ℕ, ℤ, pos, List, [], ◌∷◌, Option, Some, None}
+use Rattle.std.specs.Prelude.{◌≡◌, ◌<◌, ◌≤◌, ◌^◌, ℕ, ℤ, pos, List, [], ◌∷◌, Option, Some, None, FitsSigned}
+use Rattle.std.specs.Int.{w128}
 use Rattle.isle_types.specs.declared.types.IntType.{IntType}
 use Rattle.isle_types.specs.declared.types.IntType.TheVariants.{U128}
 use Rattle.isle_types.specs.IntTypes.{HasNumber}
+use Rattle.isle_terms.specs.Meaning.Facts.{TermShape}
 use Rattle.isle_terms.specs.Values.{ValueTree, ValueTrees, bool_value, int_value, big_value, const_value, opaque_value, data_value, no_values, more_values}
 
 -- what kind of values a type has
@@ -14,17 +16,18 @@ pub data TypeKind : Type 0 where
   no_kind : TypeKind
 
 -- what values need to know of types, by number: the kind of each; the type of a named constant; of a variant, by its full name,
--- or a struct, its type and those of its fields
+-- or a struct, its type and those of its fields, and which of both it is
 pub record ValueFacts : Type 0 where
   pub kind : ℕ → TypeKind
   pub constant : List ℕ → Option ℕ
   pub data_named : List ℕ → Option (ℕ × List ℕ)
+  pub shape_named : List ℕ → Option TermShape
 
--- an integer of a kind: in the range of an integer type, or any of a primitive one
+-- an integer of a kind: in the range of an integer type, or any of a primitive one, from -2^127 to 2^127 - 1
 abbrev pub IsIntOf : ℤ → TypeKind → Type 0
 IsIntOf n truth_kind = ⊥
-IsIntOf n (integer_kind int) = HasNumber int n
-IsIntOf n primitive_kind = Unit {0}
+IsIntOf n (integer_kind int) = HasNumber int n × FitsSigned w128 n
+IsIntOf n primitive_kind = FitsSigned w128 n
 IsIntOf n data_kind = ⊥
 IsIntOf n no_kind = ⊥
 

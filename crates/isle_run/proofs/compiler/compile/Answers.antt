@@ -5,7 +5,7 @@ use Rattle.isle_syntax.specs.declared.refusal.Refusal.{Refusal}
 use Rattle.isle_syntax.specs.Errors.{Report, IfFault}
 use Rattle.isle_syntax.specs.Positions.Files.{SourceFile}
 use Rattle.isle_run.specs.Compiled.{AreFaults}
-use Rattle.isle_run.proofs.OneAcceptance.{faults_refute}
+use Rattle.isle_run.proofs.Compiling.OneAcceptance.{faults_refute}
 use Rattle.isle_run.proofs.compiler.compile.Goals as goal
 
 pub returns-in-Err-Fault-clause-faults : goal.returns-in-Err-Fault-clause-faults

@@ -3,7 +3,7 @@ use Rattle.std.proofs.lemmas.Result.{err_from_is_err_and}
 use Rattle.isle_syntax.specs.Positions.Printable.{IsPrintablePos}
 use Rattle.isle_terms.specs.TypedTrees.{TypedRuleAt}
 use Rattle.isle_terms.proofs.PlainTemplates.{plain_templates}
-use Rattle.isle_run.proofs.Layers.{text_faults, type_faults, term_faults, rule_faults, rule_faults_at, ShowFiles, defined_files, accepts, program_of, sets_within, rules_within}
+use Rattle.isle_run.proofs.Compiling.Layers.{text_faults, type_faults, term_faults, rule_faults, rule_faults_at, ShowFiles, defined_files, accepts, program_of, sets_within, rules_within}
 use Rattle.isle_run.proofs.compiler.compile_files.Goals as goal
 
 pub returns-in_err-parsed-clause-faults : goal.returns-in_err-parsed-clause-faults

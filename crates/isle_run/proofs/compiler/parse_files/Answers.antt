@@ -5,8 +5,8 @@ use Rattle.isle_syntax.specs.Positions.Printable.{IsPrintablePos}
 use Rattle.isle_syntax.specs.Positions.DefPositions.{DefAt}
 use Rattle.isle_syntax.specs.Trees.MacroArgs.{HasNoMacroArgs}
 use Rattle.isle_syntax.specs.Grammar.Texts.{Spells}
-use Rattle.isle_run.proofs.FirstFaults.{first_fault_alone}
-use Rattle.isle_run.proofs.SpeltFiles.{AreSpelt-pushed}
+use Rattle.isle_run.proofs.Compiling.FirstFaults.{first_fault_alone}
+use Rattle.isle_run.proofs.Compiling.SpeltFiles.{AreSpelt-pushed}
 use Rattle.isle_run.proofs.compiler.parse_files.Goals as goal
 
 pub returns-in_err-parsed-clause-fault : goal.returns-in_err-parsed-clause-fault

@@ -4,8 +4,8 @@ use Rattle.isle_types.specs.declared.ids.TermId.{TermId}
 use Rattle.isle_blocks.specs.Building.Contents.{Marked}
 use Rattle.isle_blocks.specs.DefinedSets.{ListsNumbers}
 use Rattle.isle_blocks.proofs.ListedNumbers.{Below, numbers_none, numbers_push, numbers_skip, numbers_all}
-use Rattle.isle_run.specs.Numbers.{term_number}
-use Rattle.isle_run.proofs.Spreading.{marked_within}
+use Rattle.isle_run.specs.Facts.Asked.{term_number}
+use Rattle.isle_run.proofs.Facts.Spreading.{marked_within}
 use Rattle.isle_run.proofs.numbers.marked_terms.Goals as goal
 use Rattle.isle_run.proofs.numbers.marked_terms.Goals.{then-marks-n+in_ok-push, else-marks-n}
 

@@ -5,9 +5,9 @@ use Rattle.isle_types.specs.declared.ids.TermId.{TermId}
 use Rattle.isle_blocks.specs.Building.Contents.{Marked}
 use Rattle.isle_blocks.specs.DefinedSets.{ListsNumbers}
 use Rattle.isle_blocks.proofs.ListedNumbers.{numbers_same}
-use Rattle.isle_run.specs.Numbers.{term_number, AreRoots}
-use Rattle.isle_run.specs.Reach.{is_root}
-use Rattle.isle_run.proofs.ListedTerms.{are_roots}
+use Rattle.isle_run.specs.Facts.Asked.{term_number, AreRoots}
+use Rattle.isle_run.specs.Facts.Reach.{is_root}
+use Rattle.isle_run.proofs.Facts.ListedTerms.{are_roots}
 use Rattle.isle_run.proofs.numbers.terms_with_rules.Goals as goal
 
 pub returns : goal.returns

@@ -1,5 +1,5 @@
 use Rattle.std.proofs.Common.{◌≡◌, ◌≤◌, ◌+◌, ◌↔◌, ℕ, suc, drop}
-use Rattle.isle_run.specs.Lists.{Closes}
+use Rattle.isle_run.specs.Values.Lists.{Closes}
 use Rattle.isle_run.proofs.query.closes_at_end.Given as goal
 
 -- the lists close where those do that are open now

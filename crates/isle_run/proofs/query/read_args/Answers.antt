@@ -4,9 +4,9 @@ use Rattle.isle_terms.specs.Values.{ValueTree, ValueTrees, value_list}
 use Rattle.isle_terms.specs.Meaning.ValueTypes.{AreOfTypes}
 use Rattle.isle_run.specs.Programs.{value_facts, number_of, types_taken}
 use Rattle.isle_run.specs.Queries.{AreSettled, NoneAreTyped}
-use Rattle.isle_run.specs.Settled.{settled_all}
-use Rattle.isle_run.specs.ValueTokens.{SpellArguments}
-use Rattle.isle_run.proofs.OneSpelling.{all_spelling}
+use Rattle.isle_run.specs.Values.Settled.{settled_all}
+use Rattle.isle_run.specs.Values.Tokens.{SpellArguments}
+use Rattle.isle_run.proofs.Values.OneSpelling.{all_spelling}
 use Rattle.isle_run.proofs.query.read_args.Goals as goal
 
 -- a fact of nothing, from another

@@ -1,7 +1,7 @@
 use Rattle.std.proofs.Common.{◌≡◌, ◌≤◌, ◌++◌, ◌-◌, [], ◌∷◌, length, take, drop}
 use Rattle.isle_syntax.specs.declared.lexer.Token.TheVariants.{RParen}
 use Rattle.isle_terms.specs.Values.{ValueTrees, value_list}
-use Rattle.isle_run.specs.ValueTokens.{tokens_all, AreSpellable, SpellArguments}
+use Rattle.isle_run.specs.Values.Tokens.{tokens_all, AreSpellable, SpellArguments}
 use Rattle.isle_run.proofs.query.read_values.Given as goal
 
 -- the values that are read are spelt so far, and what spells all spells these and others behind

@@ -5,8 +5,8 @@ use Rattle.std.specs.Vec.Iter.{into_iter_items}
 use Rattle.isle_types.specs.declared.ids.TypeId.{TypeId}
 use Rattle.isle_terms.specs.Meaning.ValueTypes.{IsOfType, AreOfTypes}
 use Rattle.isle_run.specs.Programs.{value_facts, number_of}
-use Rattle.isle_run.specs.Settled.{settled}
-use Rattle.isle_run.proofs.SettledValues.{IsSettlingAll, as_many, all_refused, all_stepped, all_ended}
+use Rattle.isle_run.specs.Values.Settled.{settled}
+use Rattle.isle_run.proofs.Values.SettledValues.{IsSettlingAll, as_many, all_refused, all_stepped, all_ended}
 use Rattle.isle_run.proofs.query.settle_values.Goals as goal
 
 pub returns-then-len-types-clause-none : goal.returns-then-len-types-clause-none

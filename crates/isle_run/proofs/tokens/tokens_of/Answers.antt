@@ -6,7 +6,7 @@ use Rattle.isle_syntax.specs.declared.lexer.Token.{Token}
 use Rattle.isle_syntax.specs.declared.lexer.Token.TheVariants.{LParen, RParen, At, Symbol, Int, Big}
 use Rattle.isle_syntax.specs.Tokens.LexerCalls.{GivesToken, AnswersEnd}
 use Rattle.isle_syntax.specs.Tokens.PlacedTokens.{Placed, placed_at}
-use Rattle.isle_run.specs.TextTokens.{bare}
+use Rattle.isle_run.specs.Values.TextTokens.{bare}
 use Rattle.isle_run.proofs.tokens.tokens_of.Goals as goal
 
 -- a token is itself, wherever it is placed

@@ -1,6 +1,6 @@
 use Rattle.std.proofs.Common.{◌≡◌, ◌++◌, List, map, length}
 use Rattle.isle_syntax.specs.Tokens.PlacedTokens.{Placed}
-use Rattle.isle_run.specs.TextTokens.{bare}
+use Rattle.isle_run.specs.Values.TextTokens.{bare}
 use Rattle.isle_run.proofs.tokens.tokens_of.Given as goal
 
 -- the tokens that were given are the first of those of the text

@@ -1,8 +1,8 @@
 use Rattle.std.proofs.Common.{◌≡◌, ◌++◌, ℕ, List, [], ◌∷◌, length, refl, sym, ◌∙◌, ap, subst, string_bytes, append_assoc}
 use Rattle.std.specs.Prelude.{codes}
 use Rattle.std.proofs.lemmas.List.{append-nil}
-use Rattle.isle_run.specs.ValueText.{Closes, none_ends, one_ends}
-use Rattle.isle_run.proofs.Printing.{no_last, same_last}
+use Rattle.isle_run.specs.Values.Text.{Closes, none_ends, one_ends}
+use Rattle.isle_run.proofs.Values.Printing.{no_last, same_last}
 use Rattle.isle_run.proofs.value.close_data.Goals as goal
 
 pub returns-then-end-at : goal.returns-then-end-at

@@ -1,5 +1,5 @@
 use Rattle.std.proofs.Common.{◌≡◌, ◌++◌, ℕ, List, length, string_bytes}
-use Rattle.isle_run.specs.ValueText.{Closes}
+use Rattle.isle_run.specs.Values.Text.{Closes}
 use Rattle.isle_run.proofs.value.close_data.Given as goal
 
 -- what the rest of the places needs, with what is closed so far

@@ -1,7 +1,7 @@
 use Rattle.std.proofs.Common.{Result, Ok, Err, IfOk, sym, subst, rules}
 use Rattle.std.specs.Prelude.{FitsSigned}
 use Rattle.std.specs.Int.{w128}
-use Rattle.isle_run.specs.HeldValues.{IsHeldNode}
+use Rattle.isle_run.specs.Values.Held.{IsHeldNode}
 use Rattle.isle_run.proofs.value.write_node.Goals as goal
 
 -- what holds anyway holds of a success

@@ -2,7 +2,7 @@
 use Rattle.std.proofs.Common.{◌≡◌, ◌++◌, take, string_bytes}
 use Rattle.std.specs.Prelude.{codes}
 use Rattle.isle_terms.specs.Values.{value_list}
-use Rattle.isle_run.specs.ValueText.{fields_text}
+use Rattle.isle_run.specs.Values.Text.{fields_text}
 use Rattle.islec.proofs.answer.push_call.Given as goal
 
 abbrev pub invariant-loop-arg : goal.invariant-loop-arg

@@ -1,6 +1,6 @@
 use Rattle.std.proofs.Common.{[], ap, refl, subst}
 use Rattle.isle_terms.specs.Values.{value_list}
-use Rattle.isle_run.specs.TextTokens.{AreTokensOf}
+use Rattle.isle_run.specs.Values.TextTokens.{AreTokensOf}
 use Rattle.islec.specs.Replies.{blank, cause_number}
 use Rattle.islec.proofs.ReplyLemmas.{refused_query, answered_query}
 use Rattle.islec.proofs.answer.reply_to.Goals as goal
@@ -13,33 +13,33 @@ returns-then-branch-clause-reply g c =
 pub returns-in-Ok-query-clause-reply : goal.returns-in-Ok-query-clause-reply
 returns-in-Ok-query-clause-reply g c =
     let (same, utf8) = c.in-Ok.ensures.cases in
-    answered_query c.args.program.now c.args.line.now c.in-Ok.text.now c.in-Ok-query.term (value_list c.in-Ok-query.args.items) c.reply_to_call.result
-    same utf8 c.in-Ok-query.ensures.spelt c.reply_to_call.ensures
+    answered_query _ c.args.line.now c.in-Ok.text.now c.in-Ok-query.term (value_list c.in-Ok-query.args.items) c.reply_to_call.result
+    same utf8 c.in-Ok-query.ensures.spelt c.reply_to_call.ensures.answers
 
 pub returns-in-Err-Q1-clause-reply : goal.returns-in-Err-Q1-clause-reply
 returns-in-Err-Q1-clause-reply g c =
     let (same, utf8) = c.in-Ok.ensures.cases in
-    refused_query c.args.program.now c.args.line.now c.in-Ok.text.now c.in-Err-Q1.field-0 1 c.refused-in-Err-Q1.result same utf8
+    refused_query _ c.args.line.now c.in-Ok.text.now c.in-Err-Q1.field-0 1 c.refused-in-Err-Q1.result same utf8
     (λ none. let yes = c.in_ok-is_blank.ensures.1 none in let not = c.if-branch.false in absurd cc) c.in-Err-Q1.ensures.refused (ap cause_number c.in-Err-Q1.field-0-is)
     c.refused-in-Err-Q1.ensures
 
 pub returns-in-Err-Q2-clause-reply : goal.returns-in-Err-Q2-clause-reply
 returns-in-Err-Q2-clause-reply g c =
     let (same, utf8) = c.in-Ok.ensures.cases in
-    refused_query c.args.program.now c.args.line.now c.in-Ok.text.now c.in-Err-Q2.field-0 2 c.refused-in-Err-Q2.result same utf8
+    refused_query _ c.args.line.now c.in-Ok.text.now c.in-Err-Q2.field-0 2 c.refused-in-Err-Q2.result same utf8
     (λ none. let yes = c.in_ok-is_blank.ensures.1 none in let not = c.if-branch.false in absurd cc) c.in-Err-Q2.ensures.refused (ap cause_number c.in-Err-Q2.field-0-is)
     c.refused-in-Err-Q2.ensures
 
 pub returns-in-Err-Q3-clause-reply : goal.returns-in-Err-Q3-clause-reply
 returns-in-Err-Q3-clause-reply g c =
     let (same, utf8) = c.in-Ok.ensures.cases in
-    refused_query c.args.program.now c.args.line.now c.in-Ok.text.now c.in-Err-Q3.field-0 3 c.refused-in-Err-Q3.result same utf8
+    refused_query _ c.args.line.now c.in-Ok.text.now c.in-Err-Q3.field-0 3 c.refused-in-Err-Q3.result same utf8
     (λ none. let yes = c.in_ok-is_blank.ensures.1 none in let not = c.if-branch.false in absurd cc) c.in-Err-Q3.ensures.refused (ap cause_number c.in-Err-Q3.field-0-is)
     c.refused-in-Err-Q3.ensures
 
 pub returns-in-Err-Q4-clause-reply : goal.returns-in-Err-Q4-clause-reply
 returns-in-Err-Q4-clause-reply g c =
     let (same, utf8) = c.in-Ok.ensures.cases in
-    refused_query c.args.program.now c.args.line.now c.in-Ok.text.now c.in-Err-Q4.field-0 4 c.refused-in-Err-Q4.result same utf8
+    refused_query _ c.args.line.now c.in-Ok.text.now c.in-Err-Q4.field-0 4 c.refused-in-Err-Q4.result same utf8
     (λ none. let yes = c.in_ok-is_blank.ensures.1 none in let not = c.if-branch.false in absurd cc) c.in-Err-Q4.ensures.refused (ap cause_number c.in-Err-Q4.field-0-is)
     c.refused-in-Err-Q4.ensures

@@ -8,7 +8,7 @@ use Rattle.isle_syntax.specs.declared.error.Error.{Error}
 use Rattle.isle_syntax.specs.Positions.Files.{SourceFile, source_file}
 use Rattle.isle_syntax.specs.Grammar.Texts.{IsFaultIn}
 use Rattle.isle_run.specs.Compiled.{IsFirstFault}
-use Rattle.isle_run.proofs.FirstFaults.{is_first_fault}
+use Rattle.isle_run.proofs.Compiling.FirstFaults.{is_first_fault}
 use Rattle.islec.specs.declared.serve.ServeFault.TheVariants.{Memory}
 use Rattle.islec.specs.Formatting.{CutsPrints}
 use Rattle.islec.specs.Writing.{AppendsBeginning}

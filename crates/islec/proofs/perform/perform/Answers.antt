@@ -7,7 +7,7 @@ use Rattle.islec.specs.Formatting.{WritesPrints, WritesFault, CutsPrints}
 use Rattle.islec.specs.Running.{WritesFaults, WritesAccepted, WritesAnswers, WritesRefusal, CutsCheck, CutsRun, AnswersSome}
 use Rattle.islec.specs.Worlds.{world_file}
 use Rattle.islec.specs.declared.status.Status.TheVariants.{AllWell, TextsRefused, SomeRefused, InputOutput, OutOfMemory}
-use Rattle.islec.proofs.StatusLemmas.{same_code, run_no_check, run_no_fmt, check_no_fmt, same_width, same_terms, at_end, at_failure, out_of_memory, never_usage, ends_otherwise, checked_end, never_some_refused, of_first, of_second}
+use Rattle.islec.proofs.StatusLemmas.{same_code, run_no_check, run_no_fmt, check_no_fmt, same_width, same_terms, same_depth, at_end, at_failure, out_of_memory, never_usage, ends_otherwise, checked_end, never_some_refused, of_first, of_second}
 use Rattle.islec.proofs.WritingLemmas.{line_behind}
 use Rattle.islec.proofs.perform.perform.Goals.{in-Run, in-Check, in-Fmt}
 use Rattle.islec.proofs.perform.perform.Goals as goal
@@ -17,9 +17,9 @@ returns-clause-all_well g c = λ depth plain is code.
     let status = same_code c.match-job.status AllWell (sym c.code.ensures ∙ code) in
     elim c.match-job.branch [
       | in-Run w ↦ rw w.writer-is
-          (at_end (λ n. WritesAnswers (map source_file c.args.texts.items) (world_file c.args.world) (g.R.Read.remaining c.args.reader.now) false (g.W.Write.contents c.args.writer.now) n)
+          (at_end (λ n. WritesAnswers (map source_file c.args.texts.items) (world_file c.args.world) depth (g.R.Read.remaining c.args.reader.now) false (g.W.Write.contents c.args.writer.now) n)
           w.run-done.result AllWell w.conclude-status.result (g.W.Write.contents w.run-done.new.writer) (g.W.Write.contents w.conclude-status.new.writer)
-          w.conclude-status.ensures (sym w.status-is ∙ status) tt w.run-done.ensures.all_well)
+          w.conclude-status.ensures (sym w.status-is ∙ status) tt (rw (same_depth c.args.job depth w.in-Run.depth plain w.in-Run._plain is w.in-Run.is) at w.run-done.ensures.all_well))
       | in-Check w ↦ absurd (run_no_check c.args.job depth plain w.in-Check.terms is w.in-Check.is)
       | in-Fmt w ↦ absurd (run_no_fmt c.args.job depth plain w.in-Fmt.width is w.in-Fmt.is)
     ]
@@ -29,9 +29,9 @@ returns-clause-some_refused g c = λ depth plain is code.
     let status = same_code c.match-job.status SomeRefused (sym c.code.ensures ∙ code) in
     elim c.match-job.branch [
       | in-Run w ↦ rw w.writer-is
-          (at_end (λ n. WritesAnswers (map source_file c.args.texts.items) (world_file c.args.world) (g.R.Read.remaining c.args.reader.now) true (g.W.Write.contents c.args.writer.now) n)
+          (at_end (λ n. WritesAnswers (map source_file c.args.texts.items) (world_file c.args.world) depth (g.R.Read.remaining c.args.reader.now) true (g.W.Write.contents c.args.writer.now) n)
           w.run-done.result SomeRefused w.conclude-status.result (g.W.Write.contents w.run-done.new.writer) (g.W.Write.contents w.conclude-status.new.writer)
-          w.conclude-status.ensures (sym w.status-is ∙ status) tt w.run-done.ensures.some_refused)
+          w.conclude-status.ensures (sym w.status-is ∙ status) tt (rw (same_depth c.args.job depth w.in-Run.depth plain w.in-Run._plain is w.in-Run.is) at w.run-done.ensures.some_refused))
       | in-Check w ↦ absurd (run_no_check c.args.job depth plain w.in-Check.terms is w.in-Check.is)
       | in-Fmt w ↦ absurd (run_no_fmt c.args.job depth plain w.in-Fmt.width is w.in-Fmt.is)
     ]
@@ -101,9 +101,9 @@ returns-clause-failed g c = λ depth plain is code.
     let status = same_code c.match-job.status InputOutput (sym c.code.ensures ∙ code) in
     elim c.match-job.branch [
       | in-Run w ↦ rw w.writer-is
-          (at_failure (λ n. CutsRun (map source_file c.args.texts.items) (world_file c.args.world) (g.R.Read.remaining c.args.reader.now) (g.W.Write.contents c.args.writer.now) n)
+          (at_failure (λ n. CutsRun (map source_file c.args.texts.items) (world_file c.args.world) depth (g.R.Read.remaining c.args.reader.now) (g.W.Write.contents c.args.writer.now) n)
           w.run-done.result w.conclude-status.result (g.W.Write.contents w.run-done.new.writer) (g.W.Write.contents w.conclude-status.new.writer)
-          w.conclude-status.ensures (sym w.status-is ∙ status) w.run-done.ensures.other w.run-done.ensures.cut)
+          w.conclude-status.ensures (sym w.status-is ∙ status) w.run-done.ensures.other (rw (same_depth c.args.job depth w.in-Run.depth plain w.in-Run._plain is w.in-Run.is) at w.run-done.ensures.cut))
       | in-Check w ↦ absurd (run_no_check c.args.job depth plain w.in-Check.terms is w.in-Check.is)
       | in-Fmt w ↦ absurd (run_no_fmt c.args.job depth plain w.in-Fmt.width is w.in-Fmt.is)
     ]
@@ -113,9 +113,9 @@ returns-clause-ran_out g c = λ depth plain is code.
     let status = same_code c.match-job.status OutOfMemory (sym c.code.ensures ∙ code) in
     elim c.match-job.branch [
       | in-Run w ↦ rw w.writer-is
-          (out_of_memory (λ n. AnswersSome (map source_file c.args.texts.items) (g.R.Read.remaining c.args.reader.now) (g.W.Write.contents c.args.writer.now) n)
+          (out_of_memory (λ n. AnswersSome (map source_file c.args.texts.items) (world_file c.args.world) depth (g.R.Read.remaining c.args.reader.now) (g.W.Write.contents c.args.writer.now) n)
           w.run-done.result w.conclude-status.result (g.W.Write.contents w.run-done.new.writer) (g.W.Write.contents w.conclude-status.new.writer)
-          w.conclude-status.ensures (sym w.status-is ∙ status) w.run-done.ensures.other w.run-done.ensures.memory)
+          w.conclude-status.ensures (sym w.status-is ∙ status) w.run-done.ensures.other (rw (same_depth c.args.job depth w.in-Run.depth plain w.in-Run._plain is w.in-Run.is) at w.run-done.ensures.memory))
       | in-Check w ↦ absurd (run_no_check c.args.job depth plain w.in-Check.terms is w.in-Check.is)
       | in-Fmt w ↦ absurd (run_no_fmt c.args.job depth plain w.in-Fmt.width is w.in-Fmt.is)
     ]

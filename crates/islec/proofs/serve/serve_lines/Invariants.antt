@@ -1,10 +1,12 @@
 -- The lines so far are answered, of which an end is kept back.
-use Rattle.std.proofs.Common.{string_bytes}
+use Rattle.std.proofs.Common.{◌≡◌, string_bytes}
+use Rattle.islec.specs.Replies.{setting_in}
 use Rattle.islec.specs.Serving.{some_refused}
 use Rattle.islec.proofs.ServingLemmas.{IsServing}
 use Rattle.islec.proofs.serve.serve_lines.Given as goal
 
 abbrev pub invariant-loop : goal.invariant-loop
 invariant-loop g l =
-    IsServing l.program (g.B.Read.remaining l.initial.input) (g.B.Read.remaining l.input) (g.W.Write.contents l.initial.writer)
+    (g.V.World.constructs l.world ≡ g.V.World.constructs l.initial.world) × (g.V.World.extracts l.world ≡ g.V.World.extracts l.initial.world)
+    × IsServing (setting_in g.V.World.constructs g.V.World.step l.program (g.V.World.constructs l.initial.world) (g.V.World.extracts l.initial.world) l.depth) (g.B.Read.remaining l.initial.input) (g.B.Read.remaining l.input) (g.W.Write.contents l.initial.writer)
     (g.W.Write.contents l.writer) (string_bytes l.unwritten) (some_refused l.served)

@@ -1,7 +1,7 @@
 use Rattle.std.proofs.Common.{List, [], length, Vec, ℕ, sym, ap, ◌∙◌, subst}
 use Rattle.std.specs.Global.{Global}
-use Rattle.isle_run.specs.Spreading.{IsSpread}
-use Rattle.isle_run.proofs.Reaching.{spread_marks}
+use Rattle.isle_run.specs.Facts.Spreading.{IsSpread}
+use Rattle.isle_run.proofs.Facts.Reaching.{spread_marks}
 use Rattle.isle_run.proofs.numbers.barred.barred_terms.Goals as goal
 
 pub spread-requires : goal.spread-requires

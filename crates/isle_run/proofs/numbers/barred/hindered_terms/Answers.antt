@@ -6,8 +6,8 @@ use Rattle.std.proofs.lemmas.List.{length-map}
 use Rattle.isle_terms.specs.declared.rules.Rule.{Rule}
 use Rattle.isle_terms.specs.declared.terms.Term.{Term}
 use Rattle.isle_blocks.specs.RivalLists.{is_multi_kind, is_multi_in}
-use Rattle.isle_run.specs.Reach.{is_hindering_rule}
-use Rattle.isle_run.proofs.MarkedTerms.{AreMarkedBefore, marked_first, marked_set, marked_same, marked_last, rule_at, multi_marks}
+use Rattle.isle_run.specs.Facts.Reach.{is_hindering_rule}
+use Rattle.isle_run.proofs.Facts.MarkedTerms.{AreMarkedBefore, marked_first, marked_set, marked_same, marked_last, rule_at, multi_marks}
 use Rattle.isle_run.proofs.numbers.barred.hindered_terms.Goals as goal
 use Rattle.isle_run.proofs.numbers.barred.hindered_terms.Goals.{then-hinders, else-hinders}
 

@@ -1,8 +1,8 @@
 use Rattle.std.proofs.Common.{ℕ}
 use Rattle.std.specs.Prelude.{◌==◌, ◌&&◌}
 use Rattle.isle_terms.specs.declared.rules.Rule.{Rule}
-use Rattle.isle_run.specs.Reach.{is_hindering_rule}
-use Rattle.isle_run.proofs.MarkedTerms.{AreMarkedBefore}
+use Rattle.isle_run.specs.Facts.Reach.{is_hindering_rule}
+use Rattle.isle_run.proofs.Facts.MarkedTerms.{AreMarkedBefore}
 use Rattle.isle_run.proofs.numbers.barred.hindered_terms.Given as goal
 
 abbrev pub invariant-loop-rule : goal.invariant-loop-rule

@@ -3,7 +3,7 @@ use Rattle.std.specs.Prelude.{◌==◌, ◌||◌, All}
 use Rattle.std.specs.List.{list_any}
 use Rattle.std.proofs.lemmas.List.{length-replicate}
 use Rattle.isle_terms.specs.declared.rules.Rule.{Rule}
-use Rattle.isle_run.proofs.MarkedTerms.{AreMarkedBefore, marked_first, marked_set, marked_last, rule_at, no_mark}
+use Rattle.isle_run.proofs.Facts.MarkedTerms.{AreMarkedBefore, marked_first, marked_set, marked_last, rule_at, no_mark}
 use Rattle.isle_run.proofs.numbers.barred.roots.Goals as goal
 
 pub loop-rule-init : goal.loop-rule-init

@@ -1,7 +1,7 @@
 use Rattle.std.proofs.Common.{ℕ}
 use Rattle.std.specs.Prelude.{◌==◌}
 use Rattle.isle_terms.specs.declared.rules.Rule.{Rule}
-use Rattle.isle_run.proofs.MarkedTerms.{AreMarkedBefore}
+use Rattle.isle_run.proofs.Facts.MarkedTerms.{AreMarkedBefore}
 use Rattle.isle_run.proofs.numbers.barred.roots.Given as goal
 
 abbrev pub invariant-loop-rule : goal.invariant-loop-rule

@@ -1,8 +1,8 @@
 use Rattle.std.proofs.Common.{◌≡◌, ◌+◌, ◌++◌, ◌∷◌, [], ℕ, List, length, take, sym, ap, ◌∙◌, subst, add-one, arith}
 use Rattle.std.proofs.Math.Seq.{take-suc, take-length}
 use Rattle.isle_terms.specs.declared.rules.Rule.{Rule}
-use Rattle.isle_run.specs.Callers.{AreCallers}
-use Rattle.isle_run.proofs.Callers.{callers_none, callers_next}
+use Rattle.isle_run.specs.Facts.Callers.{AreCallers}
+use Rattle.isle_run.proofs.Facts.Callers.{callers_none, callers_next}
 use Rattle.isle_run.proofs.numbers.callers.callers.Goals as goal
 
 pub loop-rule-init : goal.loop-rule-init

@@ -1,6 +1,6 @@
 use Rattle.std.proofs.Common.{◌<◌, length, refl, arith}
 use Rattle.std.proofs.lemmas.Option.{slice_get_read}
-use Rattle.isle_run.proofs.Callers.{lists_one}
+use Rattle.isle_run.proofs.Facts.Callers.{lists_one}
 use Rattle.isle_run.proofs.numbers.callers.list_at.Goals as goal
 
 pub returns-in_ok-push : goal.returns-in_ok-push

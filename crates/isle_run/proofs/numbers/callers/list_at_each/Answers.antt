@@ -1,5 +1,5 @@
 use Rattle.std.proofs.Common.{◌≡◌, ◌+◌, [], ◌∷◌, drop, get_or, drop_of_length-le, drop-cons, add-one, arith}
-use Rattle.isle_run.proofs.Callers.{lists_none, lists_cons}
+use Rattle.isle_run.proofs.Facts.Callers.{lists_none, lists_cons}
 use Rattle.isle_run.proofs.numbers.callers.list_at_each.Goals as goal
 
 pub loop-i-preserved : goal.loop-i-preserved

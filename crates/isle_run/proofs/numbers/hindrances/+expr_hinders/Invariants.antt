@@ -3,7 +3,7 @@ use Rattle.isle_types.specs.declared.ids.VarId.{VarId}
 use Rattle.isle_types.specs.declared.ids.TypeId.{TypeId}
 use Rattle.isle_terms.specs.declared.rules.Expr.{Expr}
 use Rattle.isle_terms.specs.Shown.ShownRules.{built_list, built_shown, binding_list}
-use Rattle.isle_run.specs.Reach.{are_hindering_exprs, are_hindering_bindings}
+use Rattle.isle_run.specs.Facts.Reach.{are_hindering_exprs, are_hindering_bindings}
 use Rattle.isle_run.proofs.numbers.hindrances.+expr_hinders.Given as goal
 
 abbrev pub invariant-exprs_hinder-loop-expr : goal.invariant-exprs_hinder-loop-expr

@@ -1,6 +1,6 @@
 use Rattle.std.proofs.Common.{◌≡◌, drop, map}
 use Rattle.isle_terms.specs.Shown.ShownRules.{typed_list, typed_shown}
-use Rattle.isle_run.specs.Reach.{are_hindering_patterns}
+use Rattle.isle_run.specs.Facts.Reach.{are_hindering_patterns}
 use Rattle.isle_run.proofs.numbers.hindrances.+pattern_hinders.Given as goal
 
 abbrev pub invariant-patterns_hinder-loop-pattern : goal.invariant-patterns_hinder-loop-pattern

@@ -1,7 +1,7 @@
 use Rattle.std.proofs.Common.{subst, sym, ap, ◌∙◌, true, ◌≡◌, Bool, ◌↔◌}
 use Rattle.std.specs.List.{list_all}
-use Rattle.isle_run.specs.Inhabited.{AreAllInhabited}
-use Rattle.isle_run.proofs.InhabitedMarks.{all_inhabited}
+use Rattle.isle_run.specs.Facts.Inhabited.{AreAllInhabited}
+use Rattle.isle_run.proofs.Facts.InhabitedMarks.{all_inhabited}
 use Rattle.isle_run.proofs.numbers.inhabited.are_inhabited.Goals as goal
 
 pub returns : goal.returns

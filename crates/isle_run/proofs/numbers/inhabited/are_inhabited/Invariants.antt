@@ -1,6 +1,6 @@
 use Rattle.std.proofs.Common.{◌≡◌, length}
-use Rattle.isle_run.specs.Spreading.{unmarked}
-use Rattle.isle_run.specs.Inhabited.{AreSound}
+use Rattle.isle_run.specs.Facts.Spreading.{unmarked}
+use Rattle.isle_run.specs.Facts.Inhabited.{AreSound}
 use Rattle.isle_run.proofs.numbers.inhabited.are_inhabited.Given as goal
 
 abbrev pub invariant-rounds : goal.invariant-rounds

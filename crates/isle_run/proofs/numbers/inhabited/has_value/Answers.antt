@@ -3,8 +3,8 @@ use Rattle.std.specs.List.{list_any, list_all}
 use Rattle.isle_types.specs.declared.types.Variant.{Variant}
 use Rattle.isle_types.specs.declared.types.«Type».{«Type» as KnownType}
 use Rattle.isle_types.specs.Types.{field_types}
-use Rattle.isle_run.specs.Inhabited.{mark_of, can_be_made}
-use Rattle.isle_run.proofs.InhabitedMarks.{any_map}
+use Rattle.isle_run.specs.Facts.Inhabited.{mark_of, can_be_made}
+use Rattle.isle_run.proofs.Facts.InhabitedMarks.{any_map}
 use Rattle.isle_run.proofs.numbers.inhabited.has_value.Goals as goal
 
 pub returns-in-Enum : goal.returns-in-Enum

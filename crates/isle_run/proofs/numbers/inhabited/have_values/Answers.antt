@@ -5,7 +5,7 @@ use Rattle.isle_types.specs.declared.types.StructField.{StructField}
 use Rattle.isle_types.specs.declared.types.TupleField.{TupleField}
 use Rattle.isle_types.specs.declared.types.Fields.{Fields}
 use Rattle.isle_types.specs.Types.{field_types}
-use Rattle.isle_run.specs.Inhabited.{mark_of}
+use Rattle.isle_run.specs.Facts.Inhabited.{mark_of}
 use Rattle.isle_run.proofs.numbers.inhabited.have_values.Goals as goal
 
 pub returns-in-Struct : goal.returns-in-Struct

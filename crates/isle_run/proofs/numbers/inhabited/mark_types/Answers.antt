@@ -1,6 +1,6 @@
 use Rattle.std.proofs.Common.{subst, sym, ◌+◌, Bool, ℕ, ◌≡◌, length, arith}
-use Rattle.isle_run.specs.Inhabited.{MarksBelow}
-use Rattle.isle_run.proofs.InhabitedMarks.{below_first, below_one, below_none}
+use Rattle.isle_run.specs.Facts.Inhabited.{MarksBelow}
+use Rattle.isle_run.proofs.Facts.InhabitedMarks.{below_first, below_one, below_none}
 use Rattle.isle_run.proofs.numbers.inhabited.mark_types.Goals as goal
 use Rattle.isle_run.proofs.numbers.inhabited.mark_types.Goals.{then-mark_type, else-mark_type}
 

@@ -1,4 +1,4 @@
-use Rattle.isle_run.specs.Inhabited.{MarksBelow}
+use Rattle.isle_run.specs.Facts.Inhabited.{MarksBelow}
 use Rattle.isle_run.proofs.numbers.inhabited.mark_types.Given as goal
 
 abbrev pub invariant-loop-place : goal.invariant-loop-place

@@ -3,8 +3,8 @@ use Rattle.std.proofs.lemmas.Result.{on_ok_weaker}
 use Rattle.isle_terms.specs.declared.rules.Expr.{Expr}
 use Rattle.isle_terms.specs.Shown.ShownRules.{built_shown}
 use Rattle.isle_terms.proofs.Visiting.VisitRuns.{cut}
-use Rattle.isle_run.specs.Reach.{terms_in}
-use Rattle.isle_run.proofs.MadeTerms.{of_exprs, of_values, shown_Term, shown_Let}
+use Rattle.isle_run.specs.Facts.Reach.{terms_in}
+use Rattle.isle_run.proofs.Facts.MadeTerms.{of_exprs, of_values, shown_Term, shown_Let}
 use Rattle.isle_run.proofs.numbers.made.+push_of_expr.Goals as goal
 
 pub push_of_call-returns : goal.push_of_call-returns

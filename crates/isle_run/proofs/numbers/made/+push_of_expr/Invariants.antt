@@ -3,7 +3,7 @@ use Rattle.isle_types.specs.declared.ids.VarId.{VarId}
 use Rattle.isle_types.specs.declared.ids.TypeId.{TypeId}
 use Rattle.isle_terms.specs.declared.rules.Expr.{Expr}
 use Rattle.isle_terms.specs.Shown.ShownRules.{built_list, built_shown, binding_list}
-use Rattle.isle_run.specs.Reach.{terms_in_all, terms_in_bound}
+use Rattle.isle_run.specs.Facts.Reach.{terms_in_all, terms_in_bound}
 use Rattle.isle_run.proofs.numbers.made.+push_of_expr.Given as goal
 
 abbrev pub invariant-push_of_exprs-loop-expr : goal.invariant-push_of_exprs-loop-expr

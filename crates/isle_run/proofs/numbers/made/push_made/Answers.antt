@@ -1,7 +1,7 @@
 use Rattle.std.proofs.Common.{◌++◌, ap, ◌∙◌, append_assoc}
 use Rattle.std.proofs.lemmas.Result.{on_ok_weaker}
 use Rattle.isle_terms.specs.Shown.ShownRules.{built_shown}
-use Rattle.isle_run.specs.Reach.{terms_in, terms_in_iflets}
+use Rattle.isle_run.specs.Facts.Reach.{terms_in, terms_in_iflets}
 use Rattle.isle_run.proofs.numbers.made.push_made.Goals as goal
 
 pub returns : goal.returns

@@ -1,6 +1,6 @@
 use Rattle.std.proofs.Common.{◌+◌, ◌++◌, drop, sym, ap, ◌∙◌, append_assoc}
 use Rattle.isle_terms.proofs.Visiting.VisitRuns.{cut}
-use Rattle.isle_run.specs.Reach.{terms_in_iflets}
+use Rattle.isle_run.specs.Facts.Reach.{terms_in_iflets}
 use Rattle.isle_run.proofs.numbers.made.push_of_iflets.Goals as goal
 
 pub loop-iflet-preserved : goal.loop-iflet-preserved

@@ -1,5 +1,5 @@
 use Rattle.std.proofs.Common.{◌≡◌, ◌++◌, ℕ, List, drop}
-use Rattle.isle_run.specs.Reach.{terms_in_iflets}
+use Rattle.isle_run.specs.Facts.Reach.{terms_in_iflets}
 use Rattle.isle_run.proofs.numbers.made.push_of_iflets.Given as goal
 
 abbrev pub invariant-loop-iflet : goal.invariant-loop-iflet

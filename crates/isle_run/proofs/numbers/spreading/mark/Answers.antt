@@ -1,7 +1,7 @@
 use Rattle.std.proofs.Common.{◌∷◌, [], List, ℕ, set, true, false, ◌<◌, length, sym, subst, ◌∙◌, arith}
 use Rattle.std.proofs.lemmas.List.{get_or_default}
-use Rattle.isle_run.specs.Spreading.{MarksAndLists}
-use Rattle.isle_run.proofs.Spreading.{marks_one}
+use Rattle.isle_run.specs.Facts.Spreading.{MarksAndLists}
+use Rattle.isle_run.proofs.Facts.Spreading.{marks_one}
 use Rattle.isle_run.proofs.numbers.spreading.mark.Goals as goal
 
 pub returns-in_ok-push : goal.returns-in_ok-push

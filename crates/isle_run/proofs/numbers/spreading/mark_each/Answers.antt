@@ -1,5 +1,5 @@
 use Rattle.std.proofs.Common.{◌≡◌, ◌+◌, [], ◌∷◌, drop, get_or, drop_of_length-le, drop-cons, add-one, arith}
-use Rattle.isle_run.proofs.Spreading.{marks_none, marks_cons}
+use Rattle.isle_run.proofs.Facts.Spreading.{marks_none, marks_cons}
 use Rattle.isle_run.proofs.numbers.spreading.mark_each.Goals as goal
 
 pub loop-i-preserved : goal.loop-i-preserved

@@ -4,7 +4,7 @@ use Rattle.std.proofs.lemmas.List.{length_push}
 use Rattle.std.proofs.lemmas.List.Elements.{Contains-push}
 use Rattle.std.proofs.lemmas.Option.{slice_get_cases}
 use Rattle.isle_blocks.specs.Building.Contents.{Marked}
-use Rattle.isle_run.proofs.Spreading.{IsSpreading, spreading_first, spreading_next, spreading_last, marked_within, no_items}
+use Rattle.isle_run.proofs.Facts.Spreading.{IsSpreading, spreading_first, spreading_next, spreading_last, marked_within, no_items}
 use Rattle.isle_run.proofs.numbers.spreading.spread.Goals as goal
 
 pub loop-number-init : goal.loop-number-init

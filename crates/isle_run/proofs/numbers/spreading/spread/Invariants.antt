@@ -1,6 +1,6 @@
 use Rattle.std.proofs.Common.{◌+◌, length}
-use Rattle.isle_run.specs.Spreading.{unmarked}
-use Rattle.isle_run.proofs.Spreading.{IsSpreading}
+use Rattle.isle_run.specs.Facts.Spreading.{unmarked}
+use Rattle.isle_run.proofs.Facts.Spreading.{IsSpreading}
 use Rattle.isle_run.proofs.numbers.spreading.spread.Given as goal
 
 abbrev pub invariant-loop-number : goal.invariant-loop-number

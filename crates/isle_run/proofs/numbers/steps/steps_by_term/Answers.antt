@@ -4,8 +4,8 @@ use Rattle.std.proofs.lemmas.List.{length-set, length-replicate}
 use Rattle.isle_types.specs.declared.ids.TermId.{TermId}
 use Rattle.isle_terms.proofs.Visiting.VisitRuns.{cut}
 use Rattle.isle_blocks.specs.RuleSets.{RulesOverSites}
-use Rattle.isle_run.specs.Steps.{rule_steps, steps_in}
-use Rattle.isle_run.proofs.Steps.{steps_next, no_steps}
+use Rattle.isle_run.specs.Facts.Steps.{rule_steps, steps_in}
+use Rattle.isle_run.proofs.Facts.Steps.{steps_next, no_steps}
 use Rattle.isle_run.proofs.numbers.steps.steps_by_term.Goals as goal
 
 pub loop-place-init : goal.loop-place-init

@@ -1,5 +1,5 @@
 use Rattle.std.proofs.Common.{◌≡◌, ℕ, get_or, drop, length}
-use Rattle.isle_run.specs.Steps.{steps_in}
+use Rattle.isle_run.specs.Facts.Steps.{steps_in}
 use Rattle.isle_run.proofs.numbers.steps.steps_by_term.Given as goal
 
 -- the steps by the sets from a place on

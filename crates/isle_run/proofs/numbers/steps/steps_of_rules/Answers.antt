@@ -1,6 +1,6 @@
 use Rattle.std.proofs.Common.{ap, arith}
 use Rattle.std.proofs.lemmas.List.Sums.{sum_by_more}
-use Rattle.isle_run.specs.Steps.{rule_steps}
+use Rattle.isle_run.specs.Facts.Steps.{rule_steps}
 use Rattle.isle_run.proofs.numbers.steps.steps_of_rules.Goals as goal
 
 pub overflow_add-steps-in-loop-rule : goal.overflow_add-steps-in-loop-rule

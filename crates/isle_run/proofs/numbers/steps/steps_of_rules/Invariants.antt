@@ -1,6 +1,6 @@
 use Rattle.std.proofs.Common.{◌≡◌, ◌≤◌, ◌*◌, take}
 use Rattle.std.specs.List.{sum_by}
-use Rattle.isle_run.specs.Steps.{rule_steps}
+use Rattle.isle_run.specs.Facts.Steps.{rule_steps}
 use Rattle.isle_run.proofs.numbers.steps.steps_of_rules.Given as goal
 
 -- a rule has less than 2^64 constraints

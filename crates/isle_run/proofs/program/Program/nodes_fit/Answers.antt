@@ -2,10 +2,10 @@ use Rattle.std.proofs.Common.{◌≡◌, ◌<◌, ◌≤◌, ◌+◌, ◌⊎◌,
 use Rattle.std.proofs.lemmas.Bool.{cases_lt}
 use Rattle.std.proofs.lemmas.Option.{same_Some, slice_get_within, slice_get-get_or}
 use Rattle.isle_types.specs.declared.ids.TypeId.{TypeId}
-use Rattle.isle_run.specs.Nodes.{nodes_below}
+use Rattle.isle_run.specs.Values.Nodes.{nodes_below}
 use Rattle.isle_run.specs.Programs.{value_facts, number_of}
-use Rattle.isle_run.specs.TypedNodes.{NodesFit, NodeFits}
-use Rattle.isle_run.proofs.TypedNodes.{next_type, same_fit}
+use Rattle.isle_run.specs.Values.TypedNodes.{NodesFit, NodeFits}
+use Rattle.isle_run.proofs.Values.TypedNodes.{next_type, same_fit}
 use Rattle.isle_run.proofs.program.Program.nodes_fit.Goals as goal
 
 abbrev none : TypeId

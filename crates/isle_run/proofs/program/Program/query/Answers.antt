@@ -4,7 +4,7 @@ use Rattle.isle_syntax.specs.declared.lexer.Token.{Token}
 use Rattle.isle_run.specs.declared.program.Program.{Program}
 use Rattle.isle_run.specs.declared.query.QueryFault.{QueryFault}
 use Rattle.isle_run.specs.declared.query.QueryFault.TheVariants.{Q1, Q2, Q3, Q4, Memory}
-use Rattle.isle_run.specs.TextTokens.{AreTokensOf}
+use Rattle.isle_run.specs.Values.TextTokens.{AreTokensOf}
 use Rattle.isle_run.specs.Queries.{RefusesName, RefusesText, IsTextOf}
 use Rattle.isle_run.proofs.program.Program.query.Goals as goal
 

@@ -2,9 +2,9 @@ use Rattle.std.proofs.Common.{◌≡◌, ◌++◌, ◌∷◌, [], List, ℕ, len
 use Rattle.isle_terms.specs.Values.{ValueTree, data_value, value_list}
 use Rattle.isle_run.specs.declared.value.Node.{Node}
 use Rattle.isle_run.specs.declared.value.Node.TheVariants.{Data}
-use Rattle.isle_run.specs.Nodes.{count_of, sizes_of, nodes_of, nodes_all, value_in}
-use Rattle.isle_run.proofs.Laying.{value_laid, laid_out}
-use Rattle.isle_run.proofs.Printing.{sized_all}
+use Rattle.isle_run.specs.Values.Nodes.{count_of, sizes_of, nodes_of, nodes_all, value_in}
+use Rattle.isle_run.proofs.Values.Laying.{value_laid, laid_out}
+use Rattle.isle_run.proofs.Values.Printing.{sized_all}
 use Rattle.isle_run.proofs.value.Value.data.Goals as goal
 
 many : (vs : List ValueTree) → length vs ≡ count_of (value_list vs)

@@ -1,12 +1,12 @@
 use Rattle.std.proofs.Common.{◌≡◌, ◌<◌, ◌+◌, ◌++◌, ℕ, suc, List, ◌∷◌, drop, length, sym, ap, subst, ◌∙◌, arith, string_bytes}
 use Rattle.std.proofs.Math.Seq.{drop-cons}
 use Rattle.std.specs.Prelude.{codes}
-use Rattle.isle_run.specs.Nodes.{nodes_of}
-use Rattle.isle_run.specs.ValueText.{node_text, end_of, Closes}
-use Rattle.isle_run.specs.TextTokens.{AreTokensOf}
-use Rattle.isle_run.proofs.HeldNodes.{held_next, held_value}
-use Rattle.isle_run.proofs.PrintedValues.ReadBack.{reads_back}
-use Rattle.isle_run.proofs.Printing.{IsPrinted, begins, next_printed, below_within, all_printed}
+use Rattle.isle_run.specs.Values.Nodes.{nodes_of}
+use Rattle.isle_run.specs.Values.Text.{node_text, end_of, Closes}
+use Rattle.isle_run.specs.Values.TextTokens.{AreTokensOf}
+use Rattle.isle_run.proofs.Values.HeldNodes.{held_next, held_value}
+use Rattle.isle_run.proofs.Values.Printed.ReadBack.{reads_back}
+use Rattle.isle_run.proofs.Values.Printing.{IsPrinted, begins, next_printed, below_within, all_printed}
 use Rattle.isle_run.proofs.value.Value.print.Goals.{then-at-gt0+in_ok-push, else-at-gt0}
 use Rattle.isle_run.proofs.value.Value.print.Goals as goal
 

@@ -1,6 +1,6 @@
 use Rattle.std.proofs.Common.{string_bytes, take}
-use Rattle.isle_run.proofs.HeldNodes.{EachHeld}
-use Rattle.isle_run.proofs.Printing.{IsPrinted}
+use Rattle.isle_run.proofs.Values.HeldNodes.{EachHeld}
+use Rattle.isle_run.proofs.Values.Printing.{IsPrinted}
 use Rattle.isle_run.proofs.value.Value.print.Given as goal
 
 -- the nodes before this place are written

@@ -3,8 +3,8 @@ use Rattle.std.specs.Prelude.{Option, Some, IfSome}
 use Rattle.std.proofs.lemmas.List.{length-drop, take-append-drop}
 use Rattle.isle_syntax.specs.declared.lexer.Token.{Token}
 use Rattle.isle_terms.specs.Values.{ValueTree}
-use Rattle.isle_run.specs.TextTokens.{AreTokensOf}
-use Rattle.isle_run.specs.ValueTokens.{tokens_of, SpellValue}
+use Rattle.isle_run.specs.Values.TextTokens.{AreTokensOf}
+use Rattle.isle_run.specs.Values.Tokens.{tokens_of, SpellValue}
 use Rattle.isle_run.proofs.value.Value.read.Goals as goal
 
 -- the value at the front of tokens

@@ -5,12 +5,12 @@ use Rattle.isle_types.specs.declared.ids.TypeId.{TypeId}
 use Rattle.isle_terms.specs.Values.{ValueTree}
 use Rattle.isle_terms.specs.Meaning.ValueTypes.{ValueFacts, IsOfType}
 use Rattle.isle_run.specs.declared.value.Node.{Node}
-use Rattle.isle_run.specs.Nodes.{nodes_of, value_in}
+use Rattle.isle_run.specs.Values.Nodes.{nodes_of, value_in}
 use Rattle.isle_run.specs.Programs.{value_facts, number_of}
-use Rattle.isle_run.specs.Settled.{settled}
-use Rattle.isle_run.specs.SettledNodes.{settled_node, types_below, FitsWithFields}
-use Rattle.isle_run.proofs.Laying.{laid_out, value_laid}
-use Rattle.isle_run.proofs.Settling.{IsSettling, begun, ended, unexpected, refused, stepped}
+use Rattle.isle_run.specs.Values.Settled.{settled}
+use Rattle.isle_run.specs.Values.SettledNodes.{settled_node, types_below, FitsWithFields}
+use Rattle.isle_run.proofs.Values.Laying.{laid_out, value_laid}
+use Rattle.isle_run.proofs.Values.Settling.{IsSettling, begun, ended, unexpected, refused, stepped}
 use Rattle.isle_run.proofs.value.Value.settle.Goals as goal
 
 -- the type that is expected next

@@ -1,7 +1,7 @@
 use Rattle.std.proofs.Common.{◌≡◌, length, map, reverse}
 use Rattle.isle_run.specs.Programs.{value_facts, number_of}
-use Rattle.isle_run.specs.Settled.{settled}
-use Rattle.isle_run.proofs.Settling.{IsSettling}
+use Rattle.isle_run.specs.Values.Settled.{settled}
+use Rattle.isle_run.proofs.Values.Settling.{IsSettling}
 use Rattle.isle_run.proofs.value.Value.settle.Given as goal
 
 -- the nodes before this one are settled

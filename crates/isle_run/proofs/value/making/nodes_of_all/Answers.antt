@@ -1,7 +1,7 @@
 use Rattle.std.proofs.Common.{◌≡◌, ◌++◌, List, [], ◌∷◌, sym, ◌∙◌, ap, append_assoc}
 use Rattle.std.proofs.lemmas.List.{append-nil, map-id}
 use Rattle.isle_terms.specs.Values.{ValueTree, value_list}
-use Rattle.isle_run.specs.Nodes.{nodes_of, nodes_all}
+use Rattle.isle_run.specs.Values.Nodes.{nodes_of, nodes_all}
 use Rattle.std.proofs.lemmas.Iterator.Adapters.{YieldsList-from_vec}
 use Rattle.std.proofs.lemmas.Iterator.Consumers.{YieldsList-end}
 use Rattle.isle_run.proofs.value.making.nodes_of_all.Goals as goal

@@ -1,6 +1,6 @@
 use Rattle.std.proofs.Common.{◌≡◌}
 use Rattle.isle_terms.specs.Values.{value_list}
-use Rattle.isle_run.specs.Nodes.{nodes_all}
+use Rattle.isle_run.specs.Values.Nodes.{nodes_all}
 use Rattle.isle_run.proofs.value.making.nodes_of_all.Given as goal
 
 -- the nodes of the values so far

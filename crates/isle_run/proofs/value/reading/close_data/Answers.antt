@@ -2,8 +2,8 @@ use Rattle.std.proofs.Common.{◌≡◌, ◌-◌, ◌++◌, ◌∷◌, length, s
 use Rattle.std.proofs.Math.Seq.{get_or-append_seam, set-append_seam}
 use Rattle.std.proofs.lemmas.List.{length-append}
 use Rattle.isle_run.specs.declared.value.Node.TheVariants.{Data}
-use Rattle.isle_run.specs.Reading.{counted}
-use Rattle.isle_run.proofs.Printing.{same_last}
+use Rattle.isle_run.specs.Values.Reading.{counted}
+use Rattle.isle_run.proofs.Values.Printing.{same_last}
 use Rattle.isle_run.proofs.value.reading.close_data.Goals as goal
 
 pub returns-clause-closed : goal.returns-clause-closed

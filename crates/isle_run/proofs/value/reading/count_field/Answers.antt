@@ -1,5 +1,5 @@
 use Rattle.std.proofs.Common.{◌+◌, ◌-◌, set, ap, ◌∙◌, arith, refl}
-use Rattle.isle_run.proofs.Reading.{counted_set}
+use Rattle.isle_run.proofs.Values.Reading.{counted_set}
 use Rattle.isle_run.proofs.value.reading.count_field.Goals as goal
 
 pub returns-in-Some : goal.returns-in-Some

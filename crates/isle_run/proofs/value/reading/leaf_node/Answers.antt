@@ -3,7 +3,7 @@ use Rattle.std.specs.Int.{w128}
 use Rattle.std.proofs.lemmas.Int.{to_z-of_z}
 use Rattle.isle_terms.specs.Values.{int_value, big_value}
 use Rattle.isle_run.specs.declared.value.Node.TheVariants.{Int}
-use Rattle.isle_run.proofs.Reading.{parens_alone}
+use Rattle.isle_run.proofs.Values.Reading.{parens_alone}
 use Rattle.isle_run.proofs.value.reading.leaf_node.Goals as goal
 
 pub returns-in-Int-clause-some : goal.returns-in-Int-clause-some

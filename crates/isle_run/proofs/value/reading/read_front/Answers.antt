@@ -1,11 +1,11 @@
 use Rattle.std.proofs.Common.{◌≡◌, ◌<◌, ◌≤◌, List, [], ◌∷◌, refl, IfSome, length, ap, subst, ◌∙◌, sym}
 use Rattle.std.proofs.lemmas.List.{drop_all}
 use Rattle.std.proofs.lemmas.Bool.Decides.{Decides-eqb}
-use Rattle.isle_run.specs.Nodes.{value_in}
-use Rattle.isle_run.specs.ValueTokens.{tokens_of, IsSpellable}
-use Rattle.isle_run.specs.Reading.{GoesOn}
-use Rattle.isle_run.proofs.Laying.{laid_out, value_laid}
-use Rattle.isle_run.proofs.Reading.{read_whole, refused_end}
+use Rattle.isle_run.specs.Values.Nodes.{value_in}
+use Rattle.isle_run.specs.Values.Tokens.{tokens_of, IsSpellable}
+use Rattle.isle_run.specs.Values.Reading.{GoesOn}
+use Rattle.isle_run.proofs.Values.Laying.{laid_out, value_laid}
+use Rattle.isle_run.proofs.Values.Reading.{read_whole, refused_end}
 use Rattle.isle_run.proofs.value.reading.read_front.Goals as goal
 
 nothing : {X : Type 0} (l : List X) → length l ≡ 0 → l ≡ []

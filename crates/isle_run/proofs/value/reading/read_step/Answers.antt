@@ -4,13 +4,13 @@ use Rattle.std.proofs.lemmas.List.{drop_all}
 use Rattle.isle_syntax.specs.declared.lexer.Token.{Token}
 use Rattle.isle_syntax.specs.declared.lexer.Token.TheVariants.{LParen, RParen, Symbol}
 use Rattle.isle_terms.specs.Values.{no_values}
-use Rattle.isle_run.specs.Nodes.{count_of, nodes_of, nodes_all}
-use Rattle.isle_run.specs.ValueTokens.{HaveNoValue}
+use Rattle.isle_run.specs.Values.Nodes.{count_of, nodes_of, nodes_all}
+use Rattle.isle_run.specs.Values.Tokens.{HaveNoValue}
 use Rattle.isle_run.specs.declared.value.Node.{Node}
 use Rattle.isle_run.specs.declared.value.Node.TheVariants.{Data}
 use Rattle.isle_run.specs.declared.value.reading.Open.{Open}
-use Rattle.isle_run.specs.Reading.{counted, IsWithin, Level, nodes_read, places_of, IsReading, GoesOn}
-use Rattle.isle_run.proofs.Reading.{all_within, refused_open, refused_close, refused_leaf, leaf_read, data_opened, data_closed}
+use Rattle.isle_run.specs.Values.Reading.{counted, IsWithin, Level, nodes_read, places_of, IsReading, GoesOn}
+use Rattle.isle_run.proofs.Values.Reading.{all_within, refused_open, refused_close, refused_leaf, leaf_read, data_opened, data_closed}
 use Rattle.isle_run.proofs.value.reading.read_step.Goals as goal
 
 -- the token at a place, before those that are left

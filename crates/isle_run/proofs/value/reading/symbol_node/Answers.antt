@@ -9,7 +9,7 @@ use Rattle.isle_syntax.specs.Tokens.Names.{is_const_name}
 use Rattle.isle_syntax.specs.declared.lexer.Token.TheVariants.{Symbol}
 use Rattle.isle_terms.specs.Values.{bool_value, const_value, opaque_value}
 use Rattle.isle_run.specs.declared.value.Node.TheVariants.{Const}
-use Rattle.isle_run.proofs.Reading.{unknown_symbol, front_of}
+use Rattle.isle_run.proofs.Values.Reading.{unknown_symbol, front_of}
 use Rattle.isle_run.proofs.value.reading.symbol_node.Goals as goal
 
 pub returns-then-eq-clause-some : goal.returns-then-eq-clause-some

@@ -6,8 +6,8 @@ use Rattle.isle_terms.specs.Meaning.ValueTypes.{ValueFacts}
 use Rattle.isle_run.specs.declared.value.Node.{Node}
 use Rattle.isle_run.specs.declared.value.Node.TheVariants.{Data}
 use Rattle.isle_run.specs.Programs.{value_facts, number_of}
-use Rattle.isle_run.specs.Settled.{field_types}
-use Rattle.isle_run.specs.SettledNodes.{FitsWithFields}
+use Rattle.isle_run.specs.Values.Settled.{field_types}
+use Rattle.isle_run.specs.Values.SettledNodes.{FitsWithFields}
 use Rattle.isle_run.proofs.value.settling.expect_fields.Goals as goal
 
 -- data of a term that makes the type, with as many fields as that takes

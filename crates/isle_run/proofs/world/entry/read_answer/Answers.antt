@@ -4,8 +4,8 @@ use Rattle.std.proofs.lemmas.List.{length-drop, take_rest}
 use Rattle.isle_syntax.specs.declared.lexer.Token.{Token}
 use Rattle.isle_syntax.specs.declared.lexer.Token.TheVariants.{RParen}
 use Rattle.isle_terms.specs.Values.{ValueTree}
-use Rattle.isle_run.specs.Entries.{IsSpeltPart, part_tokens, part_shown, lists_answers}
-use Rattle.isle_run.proofs.EntryParts.{no_none, behind_part, joined_takes, take_first}
+use Rattle.isle_run.specs.Worlds.Entries.{IsSpeltPart, part_tokens, part_shown, lists_answers}
+use Rattle.isle_run.proofs.Worlds.EntryParts.{no_none, behind_part, joined_takes, take_first}
 use Rattle.isle_run.proofs.world.entry.read_answer.Goals as goal
 
 abbrev IsReadAs : Bool → List Token → Option (Vec ValueTree Global) → ℕ → Type 0

@@ -3,9 +3,9 @@ use Rattle.std.specs.Prelude.{IfSome, IfNone}
 use Rattle.std.proofs.lemmas.List.{length-drop, take_rest}
 use Rattle.isle_syntax.specs.declared.lexer.Token.{Token}
 use Rattle.isle_terms.specs.Values.{ValueTree, value_list}
-use Rattle.isle_run.specs.ValueTokens.{tokens_all, AreSpellable, SpellValue, HaveNoValue}
-use Rattle.isle_run.proofs.ReadValues.{some_count, spelt_behind, pushed_spellable}
-use Rattle.isle_run.proofs.EntryParts.{closing_at, left_past, none_left, none_at_end}
+use Rattle.isle_run.specs.Values.Tokens.{tokens_all, AreSpellable, SpellValue, HaveNoValue}
+use Rattle.isle_run.proofs.Values.ReadValues.{some_count, spelt_behind, pushed_spellable}
+use Rattle.isle_run.proofs.Worlds.EntryParts.{closing_at, left_past, none_left, none_at_end}
 use Rattle.isle_run.proofs.world.entry.read_list.Goals as goal
 
 -- the value at the front of tokens

@@ -2,8 +2,8 @@ use Rattle.std.proofs.Common.{◌≡◌, ◌≤◌, ◌++◌, ◌-◌, List, ◌
 use Rattle.isle_syntax.specs.declared.lexer.Token.{Token}
 use Rattle.isle_syntax.specs.declared.lexer.Token.TheVariants.{RParen}
 use Rattle.isle_terms.specs.Values.{ValueTrees, value_list}
-use Rattle.isle_run.specs.ValueTokens.{tokens_all, AreSpellable}
-use Rattle.isle_run.proofs.EntryParts.{LeftTo}
+use Rattle.isle_run.specs.Values.Tokens.{tokens_all, AreSpellable}
+use Rattle.isle_run.proofs.Worlds.EntryParts.{LeftTo}
 use Rattle.isle_run.proofs.world.entry.read_list.Given as goal
 
 -- the values that are read are spelt so far, and what spells all spells these and others behind

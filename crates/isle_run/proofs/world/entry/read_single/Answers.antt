@@ -2,8 +2,8 @@ use Rattle.std.proofs.Common.{false, ◌≡◌, ◌++◌, List, ◌∙◌, subst
 use Rattle.std.specs.Prelude.{IfNone}
 use Rattle.isle_syntax.specs.declared.lexer.Token.{Token}
 use Rattle.isle_terms.specs.Values.{ValueTrees, no_values, more_values}
-use Rattle.isle_run.specs.ValueTokens.{tokens_of, tokens_all, HaveNoValue}
-use Rattle.isle_run.specs.Entries.{AreSpeltAs, values_tokens}
+use Rattle.isle_run.specs.Values.Tokens.{tokens_of, tokens_all, HaveNoValue}
+use Rattle.isle_run.specs.Worlds.Entries.{AreSpeltAs, values_tokens}
 use Rattle.isle_run.proofs.world.entry.read_single.Goals as goal
 
 -- one value isn't there

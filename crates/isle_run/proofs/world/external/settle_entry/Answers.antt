@@ -1,11 +1,11 @@
 use Rattle.std.proofs.Common.{◌≡◌, List, Option, Some, None, Vec, Global, true, false, map, refl, sym, ◌∙◌, ap, subst}
-use Rattle.std.specs.Prelude.{IfSome, is_some, not}
+use Rattle.std.specs.Prelude.{IfSome, IfNone, is_some, not}
 use Rattle.std.specs.Option.{option_map}
 use Rattle.isle_types.specs.declared.ids.TypeId.{TypeId}
 use Rattle.isle_terms.specs.Values.{ValueTree, ValueTrees, value_list}
 use Rattle.isle_run.specs.Programs.{value_facts, number_of}
-use Rattle.isle_run.specs.Entries.{part_shown}
-use Rattle.isle_run.specs.Externals.{IfOfTypes, settled_part}
+use Rattle.isle_run.specs.Worlds.Entries.{part_shown}
+use Rattle.isle_run.specs.Worlds.Externals.{IfOfTypes, settled_part}
 use Rattle.isle_run.proofs.world.external.settle_entry.Goals as goal
 use Rattle.isle_run.proofs.world.external.settle_entry.Goals.{else-is_none-via-then-is_none+else-not-external, else-is_none-via-else-is_none}
 
@@ -42,3 +42,10 @@ returns-clause-some c =
         ];
       },
     )
+
+pub returns-in_default-2-clause-none : goal.returns-in_default-2-clause-none
+returns-in_default-2-clause-none c = λ typed.
+    subst (λ (ts : List TypeId). IfOfTypes (value_facts c.args.program.now) (settled_part (value_facts c.args.program.now) (part_shown c.args.entry.answer) (map number_of ts)) (map number_of ts) → ⊥)
+    c.as_slice-2.ensures.value
+    (subst (λ (o : Option Part). IfNone o (IfOfTypes (value_facts c.args.program.now) (settled_part (value_facts c.args.program.now) (part_shown c.args.entry.answer) (map number_of c.as_slice-2.result.now)) (map number_of c.as_slice-2.result.now) → ⊥))
+    c.in_default-2.is c.in_ok-answer.ensures.none) typed.answer

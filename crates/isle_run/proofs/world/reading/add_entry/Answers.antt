@@ -4,10 +4,10 @@ use Rattle.std.specs.Option.{option_map}
 use Rattle.isle_syntax.specs.declared.lexer.Token.{Token}
 use Rattle.isle_run.specs.declared.world.entry.Entry.{Entry}
 use Rattle.isle_run.specs.Programs.{value_facts}
-use Rattle.isle_run.specs.Entries.{entry_shown, entry_tokens, IsSpellableEntry}
-use Rattle.isle_run.specs.Externals.{IsTypedEntry, settled_entry, asked_named, types_shown}
-use Rattle.isle_run.specs.WorldTexts.{IsRead}
-use Rattle.isle_run.proofs.WorldRefusals.{begins_entry}
+use Rattle.isle_run.specs.Worlds.Entries.{entry_shown, entry_tokens, IsSpellableEntry}
+use Rattle.isle_run.specs.Worlds.Externals.{IsTypedEntry, settled_entry, asked_named, types_shown}
+use Rattle.isle_run.specs.Worlds.Texts.{IsRead}
+use Rattle.isle_run.proofs.Worlds.Refusals.{begins_entry}
 use Rattle.isle_run.proofs.world.reading.add_entry.Goals as goal
 
 abbrev IsFront : List Token → Entry × ℕ → Type 0

@@ -1,7 +1,7 @@
 use Rattle.std.proofs.Common.{◌≡◌, inl, inr, length, true, false, sym, ◌∙◌, ap, subst, arith}
 use Rattle.isle_terms.specs.Shown.TermTables.{TermTables}
-use Rattle.isle_run.specs.WorldReading.{MissesElse}
-use Rattle.isle_run.proofs.WorldRefusals.{beyond, below_or_not}
+use Rattle.isle_run.specs.Worlds.Reading.{MissesElse}
+use Rattle.isle_run.proofs.Worlds.Refusals.{beyond, below_or_not}
 use Rattle.isle_run.proofs.world.reading.first_without_else.Goals as goal
 
 pub loop-i-init : goal.loop-i-init

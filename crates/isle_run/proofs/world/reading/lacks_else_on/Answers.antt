@@ -2,9 +2,9 @@ use Rattle.std.proofs.Common.{◌≡◌, Some, None, IsTrue, sym, ◌∙◌, ap,
 use Rattle.std.specs.Prelude.{IsSome, slice_get}
 use Rattle.std.specs.Option.{option_map, option_and_then}
 use Rattle.isle_terms.specs.Shown.TermTables.{TermTables}
-use Rattle.isle_run.specs.Externals.{asked_of, asked_by, types_shown}
-use Rattle.isle_run.specs.WorldTables.{entry_at}
-use Rattle.isle_run.proofs.WorldRefusals.{misses_iff}
+use Rattle.isle_run.specs.Worlds.Externals.{asked_of, asked_by, types_shown}
+use Rattle.isle_run.specs.Worlds.Tables.{entry_at}
+use Rattle.isle_run.proofs.Worlds.Refusals.{misses_iff}
 use Rattle.isle_run.proofs.world.reading.lacks_else_on.Goals as goal
 
 pub returns : goal.returns

@@ -8,9 +8,9 @@ use Rattle.isle_syntax.specs.declared.lexer.Token.TheVariants.{LParen, RParen, A
 use Rattle.isle_syntax.specs.Tokens.LexerCalls.{GivesToken, AnswersEnd}
 use Rattle.isle_syntax.specs.Tokens.PlacedTokens.{Placed, placed_at}
 use Rattle.isle_syntax.specs.Tokens.TokensOf.{TokensOf}
-use Rattle.isle_run.specs.TextTokens.{alone, bare}
-use Rattle.isle_run.specs.WorldTexts.{offset_of}
-use Rattle.isle_run.proofs.WorldRefusals.{token_refused}
+use Rattle.isle_run.specs.Values.TextTokens.{alone, bare}
+use Rattle.isle_run.specs.Worlds.Texts.{offset_of}
+use Rattle.isle_run.proofs.Worlds.Refusals.{token_refused}
 use Rattle.isle_run.proofs.world.reading.placed_tokens.Goals as goal
 
 -- a token is itself, wherever it is placed, and stands there

@@ -1,7 +1,7 @@
 use Rattle.std.proofs.Common.{◌≡◌, ◌++◌, List, map, length}
 use Rattle.isle_syntax.specs.Tokens.PlacedTokens.{Placed}
-use Rattle.isle_run.specs.TextTokens.{bare}
-use Rattle.isle_run.specs.WorldTexts.{offset_of}
+use Rattle.isle_run.specs.Values.TextTokens.{bare}
+use Rattle.isle_run.specs.Worlds.Texts.{offset_of}
 use Rattle.isle_run.proofs.world.reading.placed_tokens.Given as goal
 
 -- the tokens that were given are the first of those of the text

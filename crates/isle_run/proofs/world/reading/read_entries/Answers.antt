@@ -1,10 +1,10 @@
 use Rattle.std.proofs.Common.{◌≡◌, [], Some, drop, sym, subst, arith, slice_get, get_or}
 use Rattle.std.proofs.lemmas.List.{take_rest}
 use Rattle.std.proofs.lemmas.Result.{err_from_is_err_and}
-use Rattle.isle_run.specs.WorldTables.{HasEntries}
-use Rattle.isle_run.specs.WorldTexts.{SpellEntries}
-use Rattle.isle_run.specs.WorldReading.{AddsEntry, RefusesEntry, RefusedBehind}
-use Rattle.isle_run.proofs.WorldRefusals.{spell_none, has_none, some_tokens, reads_more, there_at, take_whole}
+use Rattle.isle_run.specs.Worlds.Tables.{HasEntries}
+use Rattle.isle_run.specs.Worlds.Texts.{SpellEntries}
+use Rattle.isle_run.specs.Worlds.Reading.{AddsEntry, RefusesEntry, RefusedBehind}
+use Rattle.isle_run.proofs.Worlds.Refusals.{spell_none, has_none, some_tokens, reads_more, there_at, take_whole}
 use Rattle.isle_run.proofs.world.reading.read_entries.Goals as goal
 
 pub loop-at-init : goal.loop-at-init

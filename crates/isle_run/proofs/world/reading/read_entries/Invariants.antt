@@ -1,7 +1,7 @@
 use Rattle.std.proofs.Common.{◌≤◌, ◌-◌, List, length, take}
-use Rattle.isle_run.specs.Entries.{EntryTree}
-use Rattle.isle_run.specs.WorldTables.{HasEntries}
-use Rattle.isle_run.specs.WorldTexts.{SpellEntries}
+use Rattle.isle_run.specs.Worlds.Entries.{EntryTree}
+use Rattle.isle_run.specs.Worlds.Tables.{HasEntries}
+use Rattle.isle_run.specs.Worlds.Texts.{SpellEntries}
 use Rattle.isle_run.proofs.world.reading.read_entries.Given as goal
 
 -- the tokens so far spell the entries of the world

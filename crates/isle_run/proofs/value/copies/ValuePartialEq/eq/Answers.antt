@@ -4,9 +4,9 @@ use Rattle.std.proofs.lemmas.Bool.Decides.{Decides-at}
 use Rattle.isle_syntax.specs.Trees.Equality.{same_coded, same_coded-decides}
 use Rattle.isle_terms.specs.Values.{ValueTree}
 use Rattle.isle_run.specs.declared.value.Node.{Node}
-use Rattle.isle_run.specs.Nodes.{nodes_of, value_in}
-use Rattle.isle_run.specs.ValueCode.{value_tree_code}
-use Rattle.isle_run.proofs.EqualNodes.{through, one_answer, nodes-decide}
+use Rattle.isle_run.specs.Values.Nodes.{nodes_of, value_in}
+use Rattle.isle_run.specs.Values.Code.{value_tree_code}
+use Rattle.isle_run.proofs.Values.EqualNodes.{through, one_answer, nodes-decide}
 use Rattle.isle_run.proofs.value.copies.ValuePartialEq.eq.Goals as goal
 
 -- the values are the same exactly where their nodes are

@@ -1,7 +1,7 @@
 use Rattle.std.proofs.Common.{All, sym, subst, refl}
-use Rattle.isle_run.specs.Entries.{part_shown, entry_shown}
-use Rattle.isle_run.specs.WorldTables.{IsKey}
-use Rattle.isle_run.proofs.TableKeys.{has_at, keys_more, key_is, added_by}
+use Rattle.isle_run.specs.Worlds.Entries.{part_shown, entry_shown}
+use Rattle.isle_run.specs.Worlds.Tables.{IsKey}
+use Rattle.isle_run.proofs.Worlds.Keys.{has_at, keys_more, key_is, added_by}
 use Rattle.isle_run.proofs.world.table.TableWorld.add.Goals as goal
 
 pub returns-then-contains_key-clause-twice : goal.returns-then-contains_key-clause-twice

@@ -1,9 +1,9 @@
 use Rattle.std.proofs.Common.{◌≡◌, Some, None, sym, ◌∙◌, ap}
 use Rattle.std.specs.Option.{option_map}
 use Rattle.isle_terms.specs.Values.{value_list}
-use Rattle.isle_run.specs.Entries.{part_shown}
-use Rattle.isle_run.specs.WorldTables.{entry_at, or_else, key_of}
-use Rattle.isle_run.proofs.TableKeys.{got_at}
+use Rattle.isle_run.specs.Worlds.Entries.{part_shown}
+use Rattle.isle_run.specs.Worlds.Tables.{entry_at, or_else, key_of}
+use Rattle.isle_run.proofs.Worlds.Keys.{got_at}
 use Rattle.isle_run.proofs.world.table.TableWorld.answer.Goals as goal
 
 pub returns-in-Some : goal.returns-in-Some

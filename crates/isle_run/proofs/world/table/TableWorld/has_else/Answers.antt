@@ -1,5 +1,5 @@
 use Rattle.std.proofs.Common.{None}
-use Rattle.isle_run.proofs.TableKeys.{has_at}
+use Rattle.isle_run.proofs.Worlds.Keys.{has_at}
 use Rattle.isle_run.proofs.world.table.TableWorld.has_else.Goals as goal
 
 pub returns : goal.returns

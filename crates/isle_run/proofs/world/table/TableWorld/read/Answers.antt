@@ -2,9 +2,9 @@ use Rattle.std.proofs.Common.{◌<◌, subst}
 use Rattle.std.specs.Prelude.{MatchOption}
 use Rattle.std.proofs.lemmas.Result.{err_from_is_err_and}
 use Rattle.isle_types.specs.declared.ids.TermId.{TermId}
-use Rattle.isle_run.specs.WorldTexts.{SpellEntries, SpellsWorld}
-use Rattle.isle_run.specs.WorldReading.{RefusedBehind, MissesElse}
-use Rattle.isle_run.proofs.WorldRefusals.{behind_refused, lacking, missing, tokens_placed}
+use Rattle.isle_run.specs.Worlds.Texts.{SpellEntries, SpellsWorld}
+use Rattle.isle_run.specs.Worlds.Reading.{RefusedBehind, MissesElse}
+use Rattle.isle_run.proofs.Worlds.Refusals.{behind_refused, lacking, missing, tokens_placed}
 use Rattle.isle_run.proofs.world.table.TableWorld.read.Goals as goal
 
 pub returns-in_err-tokens-clause-refused : goal.returns-in_err-tokens-clause-refused

@@ -1,0 +1,14 @@
+-- Values that are laid out from the last to the first.
+pub mod Laying
+-- What the numbers of a store are printed to.
+pub mod Printing
+-- Values put into a store node by node.
+pub mod Sharing
+-- The steps in which the value of a number is printed.
+pub mod Steps
+-- The sorted table of a store's nodes.
+pub mod Tables
+-- Data of a compiled program is named by its type.
+pub mod Names
+-- What numbers stand for in a store.
+pub mod Values

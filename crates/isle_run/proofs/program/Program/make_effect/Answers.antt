@@ -1,0 +1,37 @@
+use Rattle.std.proofs.Common.{◌≡◌, List, option_copied, sym, ◌∙◌, subst, map}
+use Rattle.std.proofs.lemmas.Result.{IfOk-weaker}
+use Rattle.isle_terms.specs.Values.{ValueTree, value_list}
+use Rattle.isle_terms.specs.Meaning.GroundValues.{AreValuesOf, values_of}
+use Rattle.isle_terms.specs.Meaning.ValueTypes.{AreOfTypes}
+use Rattle.isle_run.specs.declared.answer.Effect.{Effect}
+use Rattle.isle_run.specs.Meanings.{checked}
+use Rattle.isle_run.specs.Programs.{number_of}
+use Rattle.isle_run.specs.Frames.Telling.{HasLast, IsCalledOn}
+use Rattle.isle_run.proofs.Frames.Telling.{effect_told, inputs_taken}
+use Rattle.isle_run.proofs.program.Program.make_effect.Goals as goal
+
+pub returns-clause-asked : goal.returns-clause-asked
+returns-clause-asked g c =
+    let program = c.args.self.now in
+    let facts = (checked program).values in
+    let inputs : map number_of c.arg_types.result.now ≡ (checked program).terms.inputs c.args.term.0 =
+    c.arg_types.ensures ∙ inputs_taken program c.args.term in
+    let values = c.as_slice.result.now in
+    let same : c.in_ok-values.values.items ≡ values = sym c.as_slice.ensures.value in
+    let called = c.in_ok-call_effect.ensures.called in
+    let answer = called.0 in
+    let answered : option_copied c.last_answer.result ≡ answer = c.last_answer.ensures answer
+    (subst (λ (l : List Effect). HasLast l answer) (sym c.as_slice-2.ensures.value) (called.1)) in
+    IfOk-weaker c.judge_value.result _ _ (λ told judged vs known stand of.
+    let printed = c.in_ok-values.ensures (known.printed) vs stand (subst (AreValuesOf facts vs) (sym inputs) of) in
+    let typed = subst (λ (l : List ValueTree). AreOfTypes facts (value_list l) (map number_of c.arg_types.result.now)) same (printed.0) in
+    let stood = subst (λ (l : List ValueTree). values_of facts (value_list l) ≡ vs) same (printed.1) in (
+      record { term = c.args.term.0; args = value_list values; answer = answer },
+      called.2,
+      effect_told program (g.W.World.constructs c.args.world.now) (g.W.World.extracts c.args.world.now) c.judge_value.new.store
+          c.args.term vs
+          (value_list values) (option_copied c.last_answer.result) answer told (subst (AreOfTypes facts (value_list values)) inputs
+          typed) stood answered
+          (λ q is. judged q (subst (λ (l : List ValueTree). IsCalledOn facts q c.args.term (value_list l)) (sym same) is)),
+    ))
+    c.judge_value.ensures.judged

@@ -1,0 +1,13 @@
+use Rattle.std.proofs.Common.{List, subst}
+use Rattle.isle_types.specs.declared.ids.TermId.{TermId}
+use Rattle.isle_blocks.specs.RuleSets.{RulesOverSites}
+use Rattle.isle_run.specs.Facts.Asked.{AreNumbersOf}
+use Rattle.isle_run.proofs.program.Program.new.Goals as goal
+
+pub invariant_of-result : goal.invariant_of-result
+invariant_of-result c = record {
+  numbered = ∣ subst (λ (sets : List (TermId × RulesOverSites)). AreNumbersOf c.args.tyenv c.args.termenv sets c.in_ok-numbers.numbers)
+      c.as_slice.ensures.value c.in_ok-numbers.ensures ∣₁;
+  ordered = ∣ c.in_ok-rules_of.ensures ∣₁;
+  laid_out = ∣ c.in_ok-laid.ensures ∣₁;
+}

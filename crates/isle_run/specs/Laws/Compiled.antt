@@ -1,0 +1,37 @@
+-- One call of a compiled program has one meaning.
+use Rattle.std.specs.Prelude.{◌≡◌, ℕ, Bool, true, false, List, Option}
+use Rattle.isle_syntax.specs.Positions.Files.{SourceFile}
+use Rattle.isle_terms.specs.Meaning.Values.{Value, Values}
+use Rattle.isle_terms.specs.Meaning.Worlds.{CheckedProgram, Answers, Event}
+use Rattle.isle_terms.specs.Meaning.Calls.{Means}
+use Rattle.isle_blocks.specs.RuleFaults.{AreFaultless}
+use Rattle.isle_run.specs.declared.program.Program.{Program}
+use Rattle.isle_run.specs.Laws.Calls.{AreOne, HasNoTies, HasValues}
+use Rattle.isle_run.specs.Compiled.{IsProgramOf}
+use Rattle.isle_run.specs.Facts.Inhabited.{AreAllInhabited}
+use Rattle.isle_run.specs.Meanings.{checked}
+use Rattle.isle_run.specs.Programs.{types_of}
+use Rattle.isle_run.specs.Laws.Sound.{RunsIn}
+use Rattle.isle_run.specs.SoundPrograms.{IsSound}
+
+-- any term
+abbrev pub every_term : ℕ → Type 0
+every_term t = Unit {0}
+
+-- Where rules are faultless, those of terms without `multi` have no ties.
+abbrev pub FaultlessRulesHaveNoTies : Type 0
+FaultlessRulesHaveNoTies = (p : CheckedProgram) (run : ℕ → Bool) → IsSound p (λ t. run t ≡ true) → AreFaultless p.terms p.rules
+    → ((t : ℕ) → run t ≡ true → p.terms.multi t ≡ false) → HasNoTies p (λ t. run t ≡ true)
+
+-- Where each type of a compiled program is inhabited, each of its terms has values to give.
+abbrev pub InhabitedProgramsHaveValues : Type 0
+InhabitedProgramsHaveValues = (files : List SourceFile) (program : Program) → IsProgramOf files program
+    → AreAllInhabited (types_of program).types → HasValues (checked program) every_term
+
+-- Two meanings of one call of a term that can be run are one, or their effects first differ in the world's answer to the same call, in
+-- a compiled program each of whose types is inhabited.
+abbrev pub CompiledMeaningsAreOne : Type 0
+CompiledMeaningsAreOne = (files : List SourceFile) (program : Program) → IsProgramOf files program
+    → AreAllInhabited (types_of program).types
+    → (w : Answers) (n t : ℕ) (args : Values) (one other : List Event) (x y : Option Value) → RunsIn program t
+    → Means (checked program) w n t args one x → Means (checked program) w n t args other y → AreOne one x other y

@@ -1,0 +1,104 @@
+-- The values that the numbers of a store are printed to.
+use Rattle.std.specs.Prelude.{◌≡◌, ℕ, ℤ, pos, negsuc, List, [], ◌∷◌, Option, Some, None, slice_get, unwrap_or}
+use Rattle.std.specs.Option.{option_and_then}
+use Rattle.std.specs.Int.{w128, cast_unsigned}
+use Rattle.isle_types.specs.declared.types.Variant.{Variant}
+use Rattle.isle_types.specs.declared.types.IntType.{IntType}
+use Rattle.isle_types.specs.declared.types.IntType.TheVariants.{U8, U16, U32, U64, U128, USize, I8, I16, I32, I64, I128, ISize}
+use Rattle.isle_types.specs.TypeTables.{TypeTables}
+use Rattle.isle_types.specs.TypeEnvs.{name_of, type_name, type_at, variant_of}
+use Rattle.isle_terms.specs.Values.{ValueTree, ValueTrees, bool_value as bool_tree, int_value as int_tree, big_value as big_tree}
+use Rattle.isle_terms.specs.Values.{const_value as const_tree, opaque_value as opaque_tree, data_value as data_tree}
+use Rattle.isle_terms.specs.Values.{no_values as no_trees}
+use Rattle.isle_terms.specs.Values.{more_values as more_trees}
+use Rattle.isle_terms.specs.Meaning.Facts.{variant_shape, struct_shape}
+use Rattle.isle_terms.specs.Meaning.Values.{Value, Values, bool_value, int_value, constant_value, opaque_value, made_variant, made_struct}
+use Rattle.isle_terms.specs.Meaning.Values.{no_values, more_values}
+use Rattle.isle_terms.specs.Meaning.ValueTypes.{ValueFacts, TypeKind, truth_kind, integer_kind, primitive_kind, data_kind, no_kind}
+use Rattle.isle_run.specs.declared.program.Program.{Program}
+use Rattle.isle_run.specs.declared.store.Stored.{Stored}
+use Rattle.isle_run.specs.declared.store.printing.Step.{Step}
+use Rattle.isle_run.specs.declared.store.printing.Step.TheVariants.{Number, Data}
+use Rattle.isle_run.specs.Values.Nodes.{first_values, later_values}
+use Rattle.isle_run.specs.Programs.{types_of, value_facts}
+use Rattle.isle_run.specs.Values.Settled.{field_types}
+use Rattle.isle_run.specs.Stores.Values.{variant_at, Stands}
+
+-- the full name of a variant; empty where there is none
+abbrev pub fullname_of : TypeTables → Option Variant → List ℕ
+fullname_of env None = []
+fullname_of env (Some variant) = unwrap_or (name_of env variant.fullname) []
+
+-- the full name of a type's variant
+abbrev pub variant_name : TypeTables → ℕ → ℕ → List ℕ
+variant_name env ty k = fullname_of env (variant_of env (type_at ty) (variant_at k))
+
+-- the name of a type; empty where there is none
+abbrev pub struct_name : TypeTables → ℕ → List ℕ
+struct_name env ty = unwrap_or (option_and_then (type_name env) (slice_get env.types ty)) []
+
+-- data is named by its type
+pub record HasNamedData (program : Program) : Type 0 where
+  pub variants : (name : List ℕ) (k ty : ℕ) (types : List ℕ) → (value_facts program).shape_named name ≡ Some (variant_shape k)
+      → (value_facts program).data_named name ≡ Some (ty, types) → variant_name (types_of program) ty k ≡ name
+  pub structs : (name : List ℕ) (ty : ℕ) (types : List ℕ) → (value_facts program).shape_named name ≡ Some struct_shape
+      → (value_facts program).data_named name ≡ Some (ty, types) → struct_name (types_of program) ty ≡ name
+
+-- the integer of 128 bits as an unsigned one
+abbrev pub printed_unsigned : ℤ → ValueTree
+printed_unsigned (pos n) = int_tree (pos n)
+printed_unsigned (negsuc n) = big_tree (cast_unsigned w128 (negsuc n))
+
+-- an integer of 128 bits at an integer type
+abbrev pub printed_sized : ℤ → IntType → ValueTree
+printed_sized n U8 = int_tree n
+printed_sized n U16 = int_tree n
+printed_sized n U32 = int_tree n
+printed_sized n U64 = int_tree n
+printed_sized n U128 = printed_unsigned n
+printed_sized n USize = int_tree n
+printed_sized n I8 = int_tree n
+printed_sized n I16 = int_tree n
+printed_sized n I32 = int_tree n
+printed_sized n I64 = int_tree n
+printed_sized n I128 = int_tree n
+printed_sized n ISize = int_tree n
+
+-- an integer of 128 bits at a kind of type
+abbrev pub printed_int : ℤ → TypeKind → ValueTree
+printed_int n truth_kind = int_tree n
+printed_int n (integer_kind int) = printed_sized n int
+printed_int n primitive_kind = int_tree n
+printed_int n data_kind = int_tree n
+printed_int n no_kind = int_tree n
+
+-- a value at a type, and values at types one each; those that are left over are of type 0
+abbrev mutual
+  pub printed : ValueFacts → TypeTables → Value → ℕ → ValueTree
+  printed facts env (bool_value b) ty = bool_tree b
+  printed facts env (int_value n) ty = printed_int n (facts.kind ty)
+  printed facts env (constant_value name) ty = const_tree name
+  printed facts env (opaque_value n) ty = opaque_tree n
+  printed facts env (made_variant of k vs) ty =
+      data_tree (variant_name env of k) (printed_all facts env vs (field_types (facts.data_named (variant_name env of k))))
+  printed facts env (made_struct of vs) ty =
+      data_tree (struct_name env of) (printed_all facts env vs (field_types (facts.data_named (struct_name env of))))
+
+  pub printed_all : ValueFacts → TypeTables → Values → List ℕ → ValueTrees
+  printed_all facts env no_values types = no_trees
+  printed_all facts env (more_values v vs) [] = more_trees (printed facts env v 0) (printed_all facts env vs [])
+  printed_all facts env (more_values v vs) (ty ∷ types) = more_trees (printed facts env v ty) (printed_all facts env vs types)
+
+-- the steps that are left, the next first, make of these values those
+abbrev pub Leads : ValueFacts → TypeTables → List Stored → List Step → ValueTrees → ValueTrees → Type 0
+Leads facts env stored [] laid made = laid ≡ made
+Leads facts env stored (Number n ty ∷ steps) laid made =
+    (v : Value) × Stands stored v n × Leads facts env stored steps (more_trees (printed facts env v ty.0) laid) made
+Leads facts env stored (Data name fields ∷ steps) laid made =
+    Leads facts env stored steps (more_trees (data_tree name (first_values fields laid)) (later_values fields laid)) made
+
+-- the steps that lay out fields at types, the first field's first; those that are left over are of type 0
+abbrev pub field_steps : List ℕ → List ℕ → List Step
+field_steps [] types = []
+field_steps (n ∷ ns) [] = Number n (type_at 0) ∷ field_steps ns []
+field_steps (n ∷ ns) (ty ∷ types) = Number n (type_at ty) ∷ field_steps ns types

@@ -1,0 +1,61 @@
+//! Values, worlds, queries and calls of a program.
+mod calls;
+mod values;
+mod worlds;
+
+use isle_run::{Answer, Program, World, compile};
+use isle_syntax::files::Files;
+use std::alloc::{AllocError, Global};
+use std::rc::Rc;
+
+// Types: `Name` and `Op` come behind the builtin ones.
+pub const RULES: &str =
+    "(type Name (primitive Name)) (type Op (enum Stop (Add (a i8) (b Name)))) (extern const $A Name)
+    (decl partial f (i8) i8) (rule 1 (f 2) (make 3)) (rule (f x) (if-let y (look x)) (make y))
+    (decl make (i8) i8) (extern constructor make make)
+    (decl pure partial look (i8) i8) (extern constructor look look)
+    (decl op (i8 Name) Op) (extern extractor op take)
+    (decl first (Op) i8) (rule (first (op a _)) a)";
+
+/// The program of the rules.
+pub fn program(alloc: Global) -> Result<Program, AllocError> {
+    let texts = vec![in alloc;
+        (
+            String::from_str(alloc, "a.isle")?,
+            String::from_str(alloc, RULES)?
+        ),
+    ]?;
+    let files = Rc::new(alloc, Files::from_names_and_contents(alloc, texts)?)?;
+    match compile(alloc, files) {
+        Ok(program) => Ok(program),
+        Err(_refused) => Err(AllocError),
+    }
+}
+
+/// The word or the text of an answer.
+fn answer_text(alloc: Global, answer: &Answer) -> Result<String, AllocError> {
+    match answer {
+        Answer::Value(value) => value.print(alloc),
+        Answer::None => String::from_str(alloc, "none"),
+        Answer::Stuck(_term, _args) => String::from_str(alloc, "stuck"),
+        Answer::Spent => String::from_str(alloc, "spent"),
+        Answer::IllTyped(_term, _args) => String::from_str(alloc, "ill-typed"),
+    }
+}
+
+/// What a call of a text comes to: the number of rules that were tried, that of its effects, and its answer.
+pub fn called<W: World>(
+    alloc: Global,
+    program: &Program,
+    world: &mut W,
+    depth: u32,
+    text: &str,
+) -> Result<String, AllocError> {
+    let Ok((term, args)) = program.query(alloc, text) else {
+        return String::from_str(alloc, "refused");
+    };
+    let mut effects = Vec::new(alloc);
+    let called = program.call_plain(alloc, term, args, depth, world, &mut effects)?;
+    let answer = answer_text(alloc, &called.answer)?;
+    format!(in alloc; "{} {} {answer}", called.steps, effects.len())
+}
