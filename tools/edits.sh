@@ -7,6 +7,7 @@ git clone -q . "$room/jiggermarsh"
 cd "$room/jiggermarsh"
 for folder in tests/edits/*/; do
   name=$(basename "$folder")
+  mkdir -p "crates/$name/must-fail"
   rm -f "crates/$name/must-fail/"*.edit
   cp "$folder"*.edit "crates/$name/must-fail/"
   rt must-fail "$name"

@@ -14,6 +14,8 @@ pub mod Stores
 pub mod Calls
 -- Compiled programs are sound.
 pub mod SoundPrograms
+-- How definitions are spelt means nothing.
+pub mod Spelling
 -- What a call comes to, frame by frame.
 pub mod Frames
 -- How an expression is evaluated part by part.

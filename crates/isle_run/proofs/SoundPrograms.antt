@@ -7,6 +7,8 @@ pub mod Agreeing
 pub mod MadeData
 -- What is said of data by name.
 pub mod NamedData
+-- What the tables say is what the definitions say.
+pub mod Defined
 -- Integers of the rules of texts have 128 bits.
 pub mod FittingTexts
 -- So have those of typed rules.

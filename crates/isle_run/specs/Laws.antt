@@ -10,3 +10,7 @@ pub mod Sound
 pub mod Terms
 -- The order of rules.
 pub mod Order
+-- How definitions are spelt.
+pub mod Spelling
+-- Formatted files.
+pub mod Formatting

@@ -12,6 +12,8 @@ pub mod Worlds
 pub mod Facts
 -- What a program's tables say of its terms, types and rules, for the meaning of its calls.
 pub mod Meanings
+-- The checked program that definitions make.
+pub mod DefinedPrograms
 -- The plain run of a call.
 pub mod PlainRuns
 -- What typing gives of a program's rules.

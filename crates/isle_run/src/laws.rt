@@ -2,9 +2,11 @@
 ghost use Rattle.isle_run.specs.Laws.Calls.{ChainsJoin, ChainStays, CompletionsExtend, EndStays, MeaningsAreTyped, MeaningStays};
 ghost use Rattle.isle_run.specs.Laws.Calls.{NoOverlapsNoTies, OneMeaning, OneMeaningAlways, TreesAreOne, TypedRulesCallWell};
 ghost use Rattle.isle_run.specs.Laws.Compiled.{CompiledMeaningsAreOne, FaultlessRulesHaveNoTies, InhabitedProgramsHaveValues};
-ghost use Rattle.isle_run.specs.Laws.Order.{OrderMeansNothing};
+ghost use Rattle.isle_run.specs.Laws.Formatting.{FormattedTextsAreAlike};
+ghost use Rattle.isle_run.specs.Laws.Order.{OrderMeansNothing, OrderOfTextsMeansNothing};
 ghost use Rattle.isle_run.specs.Laws.Plain.{EndsAreAsked, PlainRunsAreMeant};
 ghost use Rattle.isle_run.specs.Laws.Sound.{CompiledProgramsAreSound};
+ghost use Rattle.isle_run.specs.Laws.Spelling.{AlikeProgramsMeanTheSame, AlikeTextsAreAcceptedAlike, AlikeTextsMakeAlikePrograms};
 ghost use Rattle.std.specs.Prelude.{◌≡◌, ℕ, List};
 ghost use Rattle.isle_syntax.specs.declared.lexer.Token.{Token};
 ghost use Rattle.isle_terms.specs.Values.{ValueTree};
@@ -36,9 +38,20 @@ pub fn compiled_programs_are_sound()
     ensures { CompiledProgramsAreSound }
 {}
 
-/// The same rules in another order give a call the same meaning.
+/// The same rules in another order give a call the same meaning, in a checked program and in texts.
 pub fn order_means_nothing()
-    ensures { OrderMeansNothing }
+    ensures checked { OrderMeansNothing }
+    ensures texts { OrderOfTextsMeansNothing }
+{}
+
+/// Of texts whose definitions differ in positions alone, however they are spelt and split into files, the ones are accepted where the
+/// others are; their programs differ in the positions of their rules alone, and a call means the same in both. So it is for formatted
+/// texts.
+pub fn spelling_means_nothing()
+    ensures accepted { AlikeTextsAreAcceptedAlike }
+    ensures programs { AlikeTextsMakeAlikePrograms }
+    ensures meaning { AlikeProgramsMeanTheSame }
+    ensures formatted { FormattedTextsAreAlike }
 {}
 
 /// A meaning stays at every greater depth.

@@ -29,7 +29,8 @@ use Rattle.isle_run.specs.Compiled.{IsProgramOf, max_levels, max_nodes}
 use Rattle.isle_run.specs.Laws.Compiled.{every_term, FaultlessRulesHaveNoTies, CompiledMeaningsAreOne}
 use Rattle.isle_run.specs.Meanings.{checked}
 use Rattle.isle_run.specs.Programs.{types_of, terms_of}
-use Rattle.isle_run.specs.Laws.Sound.{AgreesWith, RunsIn}
+use Rattle.isle_run.specs.DefinedPrograms.{defined_program}
+use Rattle.isle_run.specs.Laws.Sound.{RunsIn}
 use Rattle.isle_run.proofs.SoundPrograms.Whole.{compiled_programs_are_sound}
 use Rattle.isle_run.proofs.Chains.Always.{meanings_are}
 use Rattle.isle_run.proofs.Chains.Elaborated.{no_ties, typed_rules_call_well}
@@ -111,27 +112,38 @@ runs_single program t runs = sym (multi_in program t) ∙ (or_parts (is_multi_in
 abbrev SureCalls : TypedRule → TermFacts → Type 0
 SureCalls rule facts = facts.partial rule.root ≡ false → ExprCalls facts (λ t. facts.partial t ≡ false) rule.right
 
+-- what tables say of terms and of rules
+terms_say : (files : List SourceFile) (program : Program) (is : IsProgramOf files program)
+    → checked program ≡ defined_program is.types is.terms.environment
+    → (checked program).terms ≡ (defined_program is.types is.terms.environment).terms
+terms_say files program is agrees = ap (λ (p : CheckedProgram). p.terms) agrees
+
+rules_say : (files : List SourceFile) (program : Program) (is : IsProgramOf files program)
+    → checked program ≡ defined_program is.types is.terms.environment
+    → (checked program).rules ≡ (defined_program is.types is.terms.environment).rules
+rules_say files program is agrees = ap (λ (p : CheckedProgram). p.rules) agrees
+
 -- a compiled program's rules of terms that may not fail call what may not fail
 compiled_sure : (files : List SourceFile) (program : Program) (is : IsProgramOf files program)
-    → AgreesWith is.types is.terms.environment program → FailsWherePartial (checked program) (RunsIn program)
+    → checked program ≡ defined_program is.types is.terms.environment → FailsWherePartial (checked program) (RunsIn program)
 compiled_sure files program is agrees i rule at runs =
     let there : slice_get is.terms.environment.rules i ≡ Some rule =
-    ap (λ (l : List TypedRule). slice_get l i) (sym agrees.rules) ∙ at in
+    ap (λ (l : List TypedRule). slice_get l i) (sym (rules_say files program is agrees)) ∙ at in
     let expands = (terms_of program).expands in
     let all = rules_typed is.types expands max_levels max_nodes is.defs is.terms.environment is.terms.makes in
     let typed : IsTypedRule (declared_by is.types expands is.terms.environment) rule =
     all_at (IsTypedRule (declared_by is.types expands is.terms.environment)) is.terms.environment.rules all i rule there in
     let expanded : IsTypedRule (declared_by is.types true is.terms.environment) rule =
     subst (λ (b : Bool). IsTypedRule (declared_by is.types b is.terms.environment) rule) is.expands typed in
-    subst (SureCalls rule) (sym agrees.terms)
+    subst (SureCalls rule) (sym (terms_say files program is agrees))
     (typed_rules_call_well (declared_by is.types true is.terms.environment) rule expanded)
 
 -- a compiled program's rules are faultless
 compiled_faultless : (files : List SourceFile) (program : Program) (is : IsProgramOf files program)
-    → AgreesWith is.types is.terms.environment program → AreFaultless (checked program).terms (checked program).rules
+    → checked program ≡ defined_program is.types is.terms.environment → AreFaultless (checked program).terms (checked program).rules
 compiled_faultless files program is agrees =
-    subst (λ (l : List TypedRule). AreFaultless (checked program).terms l) (sym agrees.rules)
-    (subst (λ (f : TermFacts). AreFaultless f is.terms.environment.rules) (sym agrees.terms) is.faultless)
+    subst (λ (l : List TypedRule). AreFaultless (checked program).terms l) (sym (rules_say files program is agrees))
+    (subst (λ (f : TermFacts). AreFaultless f is.terms.environment.rules) (sym (terms_say files program is agrees)) is.faultless)
 
 -- Calls of a compiled program have one meaning.
 pub compiled_meanings_are_one : CompiledMeaningsAreOne

@@ -35,12 +35,13 @@ use Rattle.isle_terms.specs.Meaning.GroundValues.{value_of, values_of}
 use Rattle.isle_terms.specs.Meaning.ValueTypes.{IsIntOf, IsOfType, AreOfTypes}
 use Rattle.isle_run.specs.declared.program.Program.{Program}
 use Rattle.isle_run.specs.Facts.Inhabited.{fields_for, IsInhabited, AreInhabited, has_value, no_values, more_values, AreAllInhabited}
+use Rattle.isle_terms.specs.Meaning.Worlds.{CheckedProgram}
 use Rattle.isle_run.specs.Meanings.{checked, fields_of_variant, variant_types, struct_types}
 use Rattle.isle_run.specs.Programs.{types_of, value_facts, kind_of_type}
 use Rattle.isle_run.specs.SoundPrograms.{HasSoundData}
 use Rattle.isle_run.proofs.SoundPrograms.TypeTables.{type_known}
 use Rattle.isle_run.proofs.SoundPrograms.Whole.{compiled_programs_are_sound}
-use Rattle.isle_run.specs.Laws.Sound.{AgreesWith}
+use Rattle.isle_run.specs.DefinedPrograms.{defined_program}
 use Rattle.isle_run.specs.Compiled.{IsProgramOf}
 use Rattle.isle_run.specs.Laws.Compiled.{every_term, InhabitedProgramsHaveValues}
 use Rattle.isle_run.specs.Laws.Calls.{HasValues}
@@ -232,8 +233,11 @@ made_term first (t ∷ ts) i term h = elim (split_list (terms_of_shape first t t
     of_shape (struct members) (suc i) g = absurd (none-some term g)
 
 module _ (files : List SourceFile) (program : Program) (is : IsProgramOf files program)
-    (agrees : AgreesWith is.types is.terms.environment program)
+    (agrees : checked program ≡ defined_program is.types is.terms.environment)
     (shows : Shows (types_of program) is.types) where
+  terms_say : (checked program).terms ≡ (defined_program is.types is.terms.environment).terms
+  terms_say = ap (λ (p : CheckedProgram). p.terms) agrees
+
   declared : Declared
   declared = declared_by is.types true is.terms.environment
 
@@ -254,8 +258,8 @@ module _ (files : List SourceFile) (program : Program) (is : IsProgramOf files p
   term_says : (t : ℕ) (term : Signature) → slice_get is.terms.environment.terms t ≡ Some term
       → ((checked program).terms.shape t ≡ shape_of_form term.form) × ((checked program).terms.type_of t ≡ term.ret)
   term_says t term at = (
-    ap (λ (f : TermFacts). f.shape t) agrees.terms ∙ ap (λ (o : Option Signature). shape_of_form (unwrap_or o no_term).form) at,
-    ap (λ (f : TermFacts). f.type_of t) agrees.terms ∙ ap (λ (o : Option Signature). (unwrap_or o no_term).ret) at,
+    ap (λ (f : TermFacts). f.shape t) terms_say ∙ ap (λ (o : Option Signature). shape_of_form (unwrap_or o no_term).form) at,
+    ap (λ (f : TermFacts). f.type_of t) terms_say ∙ ap (λ (o : Option Signature). (unwrap_or o no_term).ret) at,
   )
 
   -- a type's term is a term
@@ -384,7 +388,7 @@ module _ (files : List SourceFile) (program : Program) (is : IsProgramOf files p
     has_values : HasValues (checked program) every_term
     has_values = record {
       made = λ t q sure.
-          let same = ap (λ (f : TermFacts). f.type_of t) agrees.terms in
+          let same = ap (λ (f : TermFacts). f.type_of t) terms_say in
           let h = known_tree (unwrap_or (slice_get is.terms.environment.terms t) no_term).ret
           (ret_below t (slice_get is.terms.environment.terms t) refl) in (
             value_of (value_facts program) (h.0),
@@ -392,9 +396,9 @@ module _ (files : List SourceFile) (program : Program) (is : IsProgramOf files p
                 { tree = h.0; typed = subst (IsOfType (value_facts program) (h.0)) (sym same) (h.1); stands = refl },
           );
       opened = λ t q never.
-          let same = ap (λ (f : TermFacts). f.inputs t) agrees.terms in
+          let same = ap (λ (f : TermFacts). f.inputs t) terms_say in
           let h = outputs_trees t (slice_get is.terms.environment.terms t) refl
-          (sym (ap (λ (f : TermFacts). f.infallible t) agrees.terms) ∙ never) in (
+          (sym (ap (λ (f : TermFacts). f.infallible t) terms_say) ∙ never) in (
             values_of (value_facts program) (h.0),
             record
                 { trees = h.0; typed = subst (AreOfTypes (value_facts program) (h.0)) (sym same) (h.1); stand = refl },

@@ -17,13 +17,13 @@ use Rattle.isle_run.specs.Compiled.{facts_in, rules_of, max_levels, max_nodes}
 use Rattle.isle_run.proofs.Compiling.RuleErrors.{faulty}
 
 -- a text spells one list of definitions
-spelt_once : (file : ℕ) (text : List ℕ) (defs others : List Def) → Spells file text defs → Spells file text others → others ≡ defs
+pub spelt_once : (file : ℕ) (text : List ℕ) (defs others : List Def) → Spells file text defs → Spells file text others → others ≡ defs
 spelt_once file text defs others spells also =
     let whole = whole_reading file text in
     (spells whole.0 whole.1 whole.2).only others (also whole.0 whole.1 whole.2).spelt
 
 -- so do texts
-files_spelt_once : (first : ℕ) (files : List SourceFile) (defs others : List Def) → AreSpelt first files defs → AreSpelt first files others
+pub files_spelt_once : (first : ℕ) (files : List SourceFile) (defs others : List Def) → AreSpelt first files defs → AreSpelt first files others
     → others ≡ defs
 files_spelt_once first [] defs others spelt also = also ∙ sym spelt
 files_spelt_once first (file ∷ files) defs others spelt also =

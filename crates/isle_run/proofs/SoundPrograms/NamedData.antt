@@ -20,6 +20,7 @@ use Rattle.isle_terms.specs.Meaning.Facts.{term_at}
 use Rattle.isle_terms.specs.Meaning.Facts.{no_term, TakesFields}
 use Rattle.isle_terms.proofs.Visiting.SoundVisits.{term_shows}
 use Rattle.isle_run.specs.declared.program.Program.{Program}
+use Rattle.isle_run.specs.DefinedPrograms.{data_of_form, data_of, data_shape}
 use Rattle.isle_run.specs.Programs.{types_of, terms_of, value_facts, data_made, shape_made, data_of_term, shape_of_term}
 use Rattle.isle_run.specs.Programs.{term_named as id_named}
 use Rattle.isle_run.specs.Meanings.{checked, term_facts}
@@ -29,28 +30,14 @@ use Rattle.isle_run.proofs.SoundPrograms.TypeTables.{variant_named, struct_named
 use Rattle.isle_run.proofs.SoundPrograms.Agreeing.{terms_agree}
 use Rattle.isle_run.proofs.SoundPrograms.MadeData.{IsMadeOf, variant_made, struct_made, made_at}
 
--- the data that a term of a form makes, and which kind it is; none where it is declared
-abbrev data_of_form : TermForm → ℕ × List ℕ → Option (ℕ × List ℕ)
-data_of_form (variant_form k) types = Some types
-data_of_form struct_form types = Some types
-data_of_form (declared_form flags makes takes) types = None
-
-abbrev data_of : Signature → Option (ℕ × List ℕ)
-data_of term = data_of_form term.form (term.ret, term.args)
-
-abbrev data_shape : TermForm → Option TermShape
-data_shape (variant_form k) = Some (variant_shape k)
-data_shape struct_form = Some struct_shape
-data_shape (declared_form flags makes takes) = None
-
 -- so say the tables
-data_shown : (names : List (List ℕ)) (kind : TermKind) (types : ℕ × List ℕ)
+pub data_shown : (names : List (List ℕ)) (kind : TermKind) (types : ℕ × List ℕ)
     → data_made kind types ≡ data_of_form (form_shown names kind) types
 data_shown names (EnumVariant variant) types = refl
 data_shown names Struct types = refl
 data_shown names (Decl flags makes takes) types = refl
 
-shape_shown : (names : List (List ℕ)) (kind : TermKind) → shape_made kind ≡ data_shape (form_shown names kind)
+pub shape_shown : (names : List (List ℕ)) (kind : TermKind) → shape_made kind ≡ data_shape (form_shown names kind)
 shape_shown names (EnumVariant variant) = refl
 shape_shown names Struct = refl
 shape_shown names (Decl flags makes takes) = refl

@@ -9,19 +9,12 @@ use Rattle.isle_run.specs.Meanings.{checked}
 use Rattle.isle_run.specs.Compiled.{IsProgramOf, max_levels, max_nodes}
 use Rattle.isle_run.specs.SoundPrograms.{IsSound}
 use Rattle.isle_run.specs.Stores.Printing.{HasNamedData}
-use Rattle.isle_run.specs.Laws.Sound.{AgreesWith, RunsIn, CompiledProgramsAreSound}
-use Rattle.isle_run.proofs.SoundPrograms.Agreeing.{rules_agree, terms_agree}
+use Rattle.isle_run.specs.Laws.Sound.{RunsIn, CompiledProgramsAreSound}
+use Rattle.isle_run.proofs.SoundPrograms.Defined.{program_agrees}
 use Rattle.isle_run.proofs.SoundPrograms.NamedData.{named_data, sound_data}
 use Rattle.isle_run.proofs.SoundPrograms.FittingTexts.{spelt_rules_fit}
 use Rattle.isle_run.proofs.SoundPrograms.FittingRules.{typed_rules_fit}
 use Rattle.isle_run.proofs.SoundPrograms.Runnable.{rules_sound, rules_rooted}
-
-agrees : (files : List SourceFile) (program : Program) (is : IsProgramOf files program) → AgreesWith is.types is.terms.environment program
-agrees files program is = record {
-  terms = terms_agree (types_of program) (terms_of program) (declared_by is.types (terms_of program).expands is.terms.environment)
-      is.terms.declared;
-  rules = rules_agree (types_of program).names is.terms.environment.rules (terms_of program).rules is.terms.rules;
-}
 
 named : (files : List SourceFile) (program : Program) (is : IsProgramOf files program) → HasNamedData program
 named files program is =
@@ -44,4 +37,4 @@ sound files program is =
     }
 
 pub compiled_programs_are_sound : CompiledProgramsAreSound
-compiled_programs_are_sound files program is = (agrees files program is, named files program is, sound files program is)
+compiled_programs_are_sound files program is = (program_agrees files program is, named files program is, sound files program is)
