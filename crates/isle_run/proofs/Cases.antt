@@ -9,3 +9,7 @@ pub mod TypesWithValues
 pub mod CalledTerms
 -- Plain runs of literal rules.
 pub mod TriedRules
+-- Values of types, at both ends of a range.
+pub mod TypedValues
+-- Entries of worlds.
+pub mod WorldEntries

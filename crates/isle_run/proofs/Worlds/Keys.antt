@@ -56,8 +56,8 @@ calls-decide (Some a) None = (λ e. cc, λ e. cc)
 calls-decide (Some a) (Some b) = through (nodes-decide a b) (λ h. ap Some h) (λ e. same_Some a b e)
 
 key-decides : (a b : Key) → Decides ((key_eq.ghosts).eq a b) (a ≡ b)
-key-decides a b = through (both _ _ (side-decides a.side b.side) (both _ _ (bytes_eq-Decides a.term b.term) (calls-decide a.call b.call)))
-    (λ h i. record { side = h.0 i; term = h.1.0 i; call = h.1.1 i }) (λ e. (ap (λ (k : Key). k.side) e, (ap (λ (k : Key). k.term) e, ap (λ (k : Key). k.call) e)))
+key-decides a b = through (both _ _ (calls-decide a.call b.call) (both _ _ (bytes_eq-Decides a.term b.term) (side-decides a.side b.side)))
+    (λ h i. record { call = h.0 i; term = h.1.0 i; side = h.1.1 i }) (λ e. (ap (λ (k : Key). k.call) e, (ap (λ (k : Key). k.term) e, ap (λ (k : Key). k.side) e)))
 
 -- the order of keys
 abbrev pub cmp : Key → Key → Ordering

@@ -12,12 +12,13 @@ use std::alloc::{AllocError, AllocFailed, Global};
 use std::collections::BTreeMap;
 use std::marker::Model;
 
-/// What an entry stands at: the side of a term, and the nodes of the call's values, or all calls without an entry of their own.
+/// What an entry stands at: the nodes of the call's values, or all calls without an entry of their own, and the side of a term. Keys are
+/// ordered by their calls first, in which most of them differ.
 #[derive(Debug, PartialEq, Eq, PartialOrd, Ord, Drop)]
 pub(crate) struct Key {
-    side: Side,
-    term: Text,
     call: Option<Seq<Node>>,
+    term: Text,
+    side: Side,
 }
 
 /// A world whose external terms are answered by the entries of a text. The answers never change.
@@ -123,11 +124,10 @@ impl TableWorld {
         ensures twice { IfOk result (λ added. added ≡ false → IsSome (entry_of self.old (entry_shown entry))) }
     {
         let key = entry_key(alloc, &entry)?;
-        if self.answers.contains_key(&key) {
-            return Ok(false);
+        match self.answers.insert(key, entry.answer)? {
+            Some(_) => Ok(false),
+            None => Ok(true),
         }
-        self.answers.insert(key, entry.answer)?;
-        Ok(true)
     }
 
     /// Whether an entry stands for all calls of a side of a term that have none of their own.
