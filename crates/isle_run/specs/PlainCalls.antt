@@ -1,5 +1,5 @@
 -- What the plain road answers, and the frames that wait on the way.
-use Rattle.std.specs.Prelude.{◌≡◌, ℕ, suc, reverse, List, [], ◌∷◌, ◌++◌}
+use Rattle.std.specs.Prelude.{◌≡◌, ℕ, suc, List, [], ◌∷◌, ◌++◌}
 use Rattle.isle_types.specs.declared.ids.TermId.{TermId}
 use Rattle.isle_terms.specs.Meaning.Values.{Value, Values}
 use Rattle.isle_terms.specs.Meaning.GroundValues.{value_of, AreValuesOf}

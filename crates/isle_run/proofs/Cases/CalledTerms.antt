@@ -5,11 +5,11 @@ use Rattle.std.specs.Prelude.{if◌then◌else◌, ◌==◌, ◌≤ℤ◌, FitsS
 use Rattle.std.specs.Int.{w128}
 use Rattle.std.proofs.lemmas.Int.{fits_signed_from_abs}
 use Rattle.std.proofs.lemmas.Option.{none-some, same_Some}
-use Rattle.isle_terms.specs.Values.{ValueTree, ValueTrees, int_value as int_tree, no_values as no_trees, more_values as more_trees}
-use Rattle.isle_terms.specs.TypedRules.{TypedPattern, TypedPatterns, typed_bind, typed_int, typed_wildcard, no_typed, more_typed, TypedExpr, TypedExprs}
+use Rattle.isle_terms.specs.Values.{int_value as int_tree, no_values as no_trees, more_values as more_trees}
+use Rattle.isle_terms.specs.TypedRules.{TypedPattern, typed_bind, typed_int, typed_wildcard, no_typed, more_typed, TypedExpr}
 use Rattle.isle_terms.specs.TypedRules.{built_int, built_var, built_term, built_let, no_built, more_built, no_bindings, more_bindings, TypedIfLet, TypedRule}
-use Rattle.isle_terms.specs.Meaning.Facts.{TermFacts, TermShape, variant_shape, declared_shape}
-use Rattle.isle_terms.specs.Meaning.Values.{Value, Values, int_value, made_variant, no_values, more_values, Got, unknown, fails, gives, more, made}
+use Rattle.isle_terms.specs.Meaning.Facts.{TermFacts, variant_shape, declared_shape}
+use Rattle.isle_terms.specs.Meaning.Values.{Value, Values, int_value, no_values, more_values, Got, unknown, fails, gives, more, made}
 use Rattle.isle_terms.specs.Meaning.ValueTypes.{ValueFacts, primitive_kind}
 use Rattle.isle_terms.specs.Meaning.Answers.{Completion}
 use Rattle.isle_terms.specs.Meaning.GroundValues.{AreValuesOf}
@@ -19,8 +19,8 @@ use Rattle.isle_terms.specs.Meaning.RightSides.{on_got, IsFailure, IsValue, Righ
 use Rattle.isle_terms.specs.Meaning.Scopes.{Covers}
 use Rattle.isle_terms.specs.Meaning.Words.{word_of}
 use Rattle.isle_terms.specs.Meaning.Worlds.{CheckedProgram, Answers, Event}
-use Rattle.isle_terms.specs.Meaning.Calls.{Agrees, CoversAll, IsRuleAt, IsEffect, Makes, Means}
-use Rattle.isle_terms.specs.Meaning.Asking.{asks_value, Chain, no_link, to_choose, AsksToChoose, EndsAt, stuck, spent}
+use Rattle.isle_terms.specs.Meaning.Calls.{Agrees, CoversAll, IsEffect, Makes, Means}
+use Rattle.isle_terms.specs.Meaning.Asking.{asks_value, no_link, to_choose, AsksToChoose, EndsAt, stuck, spent}
 
 -- declared terms of one argument of the one type, of which these are pure and these may fail
 abbrev terms_of : (pure partial : ℕ → Bool) → TermFacts

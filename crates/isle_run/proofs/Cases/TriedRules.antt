@@ -1,16 +1,15 @@
 -- Worked cases: plain runs of literal rules, with how many are tried.
-use Rattle.std.proofs.Common.{arith, ◌≡◌, ◌<◌, ◌⊎◌, ℕ, zero, suc, List, [], ◌∷◌, inl, inr, Bool, true, false, refl, sym, ◌∙◌, ap, subst, subst₂, Option, None, Some}
+use Rattle.std.proofs.Common.{arith, ◌≡◌, ◌<◌, ◌⊎◌, ℕ, zero, suc, [], ◌∷◌, inl, inr, refl, sym, ◌∙◌, ap, subst₂, Some}
 use Rattle.std.proofs.Common.{slice_get}
 use Rattle.std.specs.Prelude.{Contains, ◌<ℤ◌}
 use Rattle.std.proofs.lemmas.Option.{none-some, same_Some}
 use Rattle.isle_terms.specs.TypedRules.{TypedRule}
-use Rattle.isle_terms.specs.Meaning.Values.{Value, Values, int_value}
 use Rattle.isle_terms.specs.Meaning.Words.{set}
-use Rattle.isle_terms.specs.Meaning.Worlds.{CheckedProgram, Event}
+use Rattle.isle_terms.specs.Meaning.Worlds.{CheckedProgram}
 use Rattle.isle_terms.specs.Meaning.Calls.{IsRuleAt}
 use Rattle.isle_terms.specs.Meaning.Asking.{stuck, spent}
-use Rattle.isle_run.specs.PlainRuns.{Outcome, given, missing, ended, no_variables, IsTriedBefore, AreTriedInOrder, PlainRun}
-use Rattle.isle_run.proofs.Cases.CalledTerms.{number, on, silent, conditional, emitting, emitted, nested}
+use Rattle.isle_run.specs.PlainRuns.{given, missing, ended, no_variables, IsTriedBefore, AreTriedInOrder, PlainRun}
+use Rattle.isle_run.proofs.Cases.CalledTerms.{number, on, silent, conditional, emitting, nested}
 
 -- one place
 lone : (p : CheckedProgram) (t i : ℕ) (rule : TypedRule) → slice_get p.rules i ≡ Some rule → rule.root ≡ t

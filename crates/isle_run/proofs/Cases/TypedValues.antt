@@ -1,5 +1,5 @@
 -- Worked cases: which values are of a type, at both ends of a range and one past.
-use Rattle.std.proofs.Common.{arith, ◌≡◌, ◌==◌, [], ◌∷◌, pos, negsuc, Some, None, true, refl}
+use Rattle.std.proofs.Common.{arith, ◌==◌, [], ◌∷◌, pos, negsuc, Some, true, refl}
 use Rattle.std.specs.Prelude.{codes, if◌then◌else◌}
 use Rattle.std.specs.Int.{w128}
 use Rattle.std.proofs.lemmas.Int.{fits_signed_from_abs}

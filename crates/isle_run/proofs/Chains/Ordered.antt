@@ -12,7 +12,6 @@ use Rattle.isle_syntax.specs.declared.ast.Converter.{Converter as ConverterTree}
 use Rattle.isle_syntax.specs.declared.ast.Def.{Def}
 use Rattle.isle_syntax.specs.declared.ast.Def.TheVariants.{TypeDef, Decl, Rule, Extractor, Extern, Converter, Pragma, Kept}
 use Rattle.isle_syntax.specs.declared.ast.«Type».{«Type» as TypeTree}
-use Rattle.isle_syntax.specs.Positions.Files.{SourceFile}
 use Rattle.isle_syntax.specs.Trees.PatternShape.{pattern_of}
 use Rattle.isle_syntax.specs.Trees.WithoutPos.{def_without_pos}
 use Rattle.isle_types.specs.IntTypes.{builtin_names}
@@ -22,26 +21,23 @@ use Rattle.isle_types.specs.Environment.{type_names}
 use Rattle.isle_types.proofs.OneEnvironment.{one_environment}
 use Rattle.isle_types.proofs.Zipped.{zipped_at}
 use Rattle.isle_terms.specs.TypedRules.{TypedRule}
-use Rattle.isle_terms.specs.Signatures.{Constructor, by_rules, external_constructor, declared_form, Signature, Conversion, Declared}
-use Rattle.isle_terms.specs.Definitions.{IsAmong, as_declaration, as_extractor, as_external, as_converter, declarations, rules_in, extractors_in}
-use Rattle.isle_terms.specs.Definitions.{converters_in, as_external_constructor, as_external_extractor, external_constructors, external_extractors}
+use Rattle.isle_terms.specs.Signatures.{by_rules, external_constructor, declared_form, Signature, Declared}
+use Rattle.isle_terms.specs.Definitions.{IsAmong, as_declaration, as_extractor, as_external, as_converter, declarations, rules_in}
+use Rattle.isle_terms.specs.Definitions.{converters_in, as_external_constructor, as_external_extractor}
 use Rattle.isle_terms.specs.Definitions.{root_name, roots_of, is_among, function_for, constructor_for, template_for, external_extractor_for, first_of}
 use Rattle.isle_terms.specs.Definitions.{extractor_for, flags_in, IsDeclaration, AreTerms, IsConversion, IsRuleOf, TermEnvironment, declared_by}
 use Rattle.isle_terms.specs.Definitions.{MakesTerms}
 use Rattle.isle_terms.specs.Elaboration.{ElaboratesRule}
 use Rattle.isle_terms.specs.Meaning.Facts.{facts_of}
 use Rattle.isle_terms.specs.Meaning.Calls.{Means}
-use Rattle.isle_terms.specs.Meaning.Worlds.{CheckedProgram}
 use Rattle.isle_terms.proofs.Collections.NamedPlaces.{member_is_among, among_is_member}
 use Rattle.isle_terms.proofs.Collections.TypeTerms.{zipped_back}
 use Rattle.isle_terms.proofs.OneTermEnvironment.{zipped_one, one_list_of_terms, one_conversion}
 use Rattle.isle_terms.proofs.RuleLaws.{one_rule}
-use Rattle.isle_run.specs.declared.program.Program.{Program}
-use Rattle.isle_run.specs.Compiled.{IsProgramOf, max_levels, max_nodes}
+use Rattle.isle_run.specs.Compiled.{max_levels, max_nodes}
 use Rattle.isle_run.specs.DefinedPrograms.{defined_program, values_in}
 use Rattle.isle_run.specs.Meanings.{checked}
-use Rattle.isle_run.specs.Laws.Order.{AreAmong, OrderMeansNothing, as_other, others_in, AreReordered, OrderOfTextsMeansNothing}
-use Rattle.isle_run.specs.Laws.Spelling.{AreAlikePrograms, typed_rule_without_pos}
+use Rattle.isle_run.specs.Laws.Order.{OrderMeansNothing, others_in, AreReordered, OrderOfTextsMeansNothing}
 use Rattle.isle_run.proofs.Spelling.Bare.{bare_types, bare_terms}
 use Rattle.isle_run.proofs.Spelling.Meanings.{AreLike, nameless, like_means, alike_means}
 use Rattle.isle_run.proofs.Spelling.Programs.{alike_back}

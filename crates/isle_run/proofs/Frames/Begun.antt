@@ -1,40 +1,39 @@
 -- What is begun: an expression, a condition, a right side.
-use Rattle.std.proofs.Common.{◌≡◌, ◌++◌, ◌+◌, ◌<◌, ◌≤◌, inl, inr, ℕ, zero, suc, true, false, List, [], ◌∷◌, Option, Some, None, length}
+use Rattle.std.proofs.Common.{◌≡◌, ◌<◌, ◌≤◌, inl, inr, ℕ, zero, suc, true, false, List, [], ◌∷◌, Some, None, length}
 use Rattle.std.proofs.Common.{map, slice_get}
 use Rattle.std.proofs.Common.{drop, refl, sym, ◌∙◌, ap, subst, arith}
 use Rattle.std.specs.Prelude.{slice_index_or, All}
 use Rattle.std.specs.List.{AllZip}
 use Rattle.std.proofs.lemmas.List.Elements.{All-cons, All-nil}
-use Rattle.isle_types.specs.declared.ids.TermId.{TermId}
 use Rattle.isle_types.specs.TypeTables.{TypeTables}
 use Rattle.isle_terms.specs.declared.rules.IfLet.{IfLet as Condition}
 use Rattle.isle_terms.specs.declared.rules.Rule.{Rule}
 use Rattle.isle_terms.specs.Shown.TermTables.{TermTables}
 use Rattle.isle_terms.specs.Shown.ShownRules.{iflet_shown, built_shown}
 use Rattle.isle_terms.specs.TypedRules.{TypedIfLet, TypedRule, TypedExpr}
-use Rattle.isle_terms.specs.Meaning.Values.{Value, Values}
-use Rattle.isle_terms.specs.Meaning.GroundValues.{IsValueOf, AreValuesOf}
+use Rattle.isle_terms.specs.Meaning.Values.{Value}
+use Rattle.isle_terms.specs.Meaning.GroundValues.{AreValuesOf}
 use Rattle.isle_terms.specs.Meaning.Scopes.{scope, scope_all, scope_of, none, IfLetsAreWellScoped, ReadsExpr}
 use Rattle.isle_terms.specs.Meaning.Typing.{IfLetsTyped, ExprTyped, IsTyped}
 use Rattle.isle_terms.specs.Meaning.Words.{Word, Step, word_of, steps_of}
-use Rattle.isle_terms.specs.Meaning.Worlds.{CheckedProgram, Answers, Event}
+use Rattle.isle_terms.specs.Meaning.Worlds.{CheckedProgram}
 use Rattle.isle_run.specs.declared.evaluation.Evaluation.{Evaluation}
 use Rattle.isle_run.specs.declared.laid.Laid.{Laid}
 use Rattle.isle_run.specs.declared.laid.LaidRule.{LaidRule}
-use Rattle.isle_run.specs.declared.frame.current.At.TheVariants.{IfLet, Right}
+use Rattle.isle_run.specs.declared.frame.current.At.TheVariants.{IfLet}
 use Rattle.isle_run.specs.declared.store.Stored.{Stored}
 use Rattle.isle_run.specs.declared.variables.Variables.{Variables}
 use Rattle.isle_run.specs.LaidOut.Words.{IsLaid, IsLaidStep, IsLaidOut}
-use Rattle.isle_run.specs.Meanings.{checked, rule_shown}
-use Rattle.isle_run.specs.PlainRuns.{Outcome, given, missing, ended, RuleRuns, RightRuns, IfLetsRun}
+use Rattle.isle_run.specs.Meanings.{checked}
+use Rattle.isle_run.specs.PlainRuns.{Outcome, given, RuleRuns, IfLetsRun}
 use Rattle.isle_run.specs.Programs.{types_of, terms_of}
-use Rattle.isle_run.specs.SoundPrograms.{AreSoundIfLets, AskNothingImpure, IsSoundExpr, IsSoundRule}
-use Rattle.isle_run.specs.Stores.Values.{Stands, Extends}
+use Rattle.isle_run.specs.SoundPrograms.{AreSoundIfLets, AskNothingImpure, IsSoundExpr}
+use Rattle.isle_run.specs.Stores.Values.{Extends}
 use Rattle.isle_run.specs.Frames.Telling.{HoldVariables, number_of_variable}
-use Rattle.isle_run.specs.TypedWords.{AreTypedVariables, AreTypedAnswers, AreTypedSteps, IsTypedWord, GivesTyped}
-use Rattle.isle_run.specs.Frames.Underway.{Surroundings, runs_below, may_run, HasTypedValue, IsPart, LeadsToWhole, IsRight, IsUnderway, known_at}
+use Rattle.isle_run.specs.TypedWords.{AreTypedVariables, GivesTyped}
+use Rattle.isle_run.specs.Frames.Underway.{Surroundings, may_run, HasTypedValue, IsPart, LeadsToWhole, IsUnderway, known_at}
 use Rattle.isle_run.specs.Frames.Asked.{IsAskedFor}
-use Rattle.isle_run.specs.Frames.Calls.{CallOf, below_call, RightComes, IsRuleOf, around, scope_before, IsAtIfLet, IsAtRight, root_at, word_at}
+use Rattle.isle_run.specs.Frames.Calls.{CallOf, below_call, IsRuleOf, around, scope_before, IsAtIfLet, IsAtRight, root_at}
 use Rattle.isle_run.specs.Frames.Calls.{laid_at, root_there, IsBegun, IsSoundProgram}
 use Rattle.isle_run.proofs.Stores.Values.{stands_longer}
 use Rattle.isle_run.proofs.Calls.Meant.{plain_run_meant}

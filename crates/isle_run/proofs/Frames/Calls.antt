@@ -1,44 +1,41 @@
 -- The call that a rule waits for is answered, or comes to no value.
-use Rattle.std.proofs.Common.{◌≡◌, ◌++◌, ◌+◌, ◌<◌, ◌≤◌, ◌⊎◌, inl, inr, ℕ, zero, suc, true, false, Bool, List, [], ◌∷◌, Option, Some, None}
+use Rattle.std.proofs.Common.{◌≡◌, ◌++◌, ◌<◌, ◌≤◌, ◌⊎◌, inl, inr, ℕ, zero, suc, true, Bool, List, [], ◌∷◌, Option, Some, None}
 use Rattle.std.proofs.Common.{length, slice_get}
-use Rattle.std.proofs.Common.{drop, refl, sym, ◌∙◌, ap, subst, arith, append_assoc, Contains}
+use Rattle.std.proofs.Common.{drop, refl, sym, ◌∙◌, ap, subst, arith, append_assoc}
 use Rattle.std.proofs.lemmas.List.{append-nil, length-set}
-use Rattle.std.specs.Prelude.{slice_index_or, All}
-use Rattle.std.proofs.lemmas.List.Elements.{All-pop, All-nil}
+use Rattle.std.specs.Prelude.{All}
+use Rattle.std.proofs.lemmas.List.Elements.{All-pop}
 use Rattle.isle_types.specs.declared.ids.TermId.{TermId}
-use Rattle.isle_terms.specs.declared.rules.Rule.{Rule}
-use Rattle.isle_terms.specs.TypedRules.{TypedIfLet, TypedRule}
+use Rattle.isle_terms.specs.TypedRules.{TypedRule}
 use Rattle.isle_terms.specs.Meaning.Values.{Value, Values}
 use Rattle.isle_terms.specs.Meaning.GroundValues.{IsValueOf}
 use Rattle.isle_terms.specs.Meaning.Words.{Word, call_word, Words, Step, word_of, steps_of}
-use Rattle.isle_terms.specs.Meaning.Worlds.{CheckedProgram, Answers, Event}
-use Rattle.isle_terms.specs.Meaning.Asking.{Ended}
+use Rattle.isle_terms.specs.Meaning.Worlds.{CheckedProgram, Event}
 use Rattle.isle_run.specs.declared.evaluation.Evaluation.{Evaluation}
 use Rattle.isle_run.specs.declared.laid.Laid.{Laid}
 use Rattle.isle_run.specs.declared.laid.LaidRule.{LaidRule}
-use Rattle.isle_run.specs.declared.laid.Part.TheVariants.{Impure}
 use Rattle.isle_run.specs.declared.store.Stored.{Stored}
 use Rattle.isle_run.specs.declared.variables.Variables.{Variables}
 use Rattle.isle_run.specs.LaidOut.Words.{IsLaid}
 use Rattle.isle_run.specs.Meanings.{checked}
-use Rattle.isle_run.specs.PlainRuns.{Outcome, given, missing, ended, Then, WordsRun, RuleRuns, RightRuns, EffectsIf, ImpureRuns}
+use Rattle.isle_run.specs.PlainRuns.{Outcome, given, missing, ended, Then, RightRuns, EffectsIf, ImpureRuns}
 use Rattle.isle_run.specs.Programs.{types_of}
 use Rattle.isle_run.specs.Stores.Values.{Stands}
 use Rattle.isle_run.specs.TypedWords.{IsTypedWord, IsTypedStep}
-use Rattle.isle_run.specs.Frames.Underway.{Stops, may_run, HasTypedValue, IsPart, ComesTo, AllComeTo, IsUnderway, IsKnown, IsAnswered, IsTop}
-use Rattle.isle_run.specs.Frames.Underway.{WaitsFor, known_at}
+use Rattle.isle_run.specs.Frames.Underway.{Stops, may_run, HasTypedValue, IsPart, ComesTo, AllComeTo, IsKnown, IsAnswered}
+use Rattle.isle_run.specs.Frames.Underway.{known_at}
 use Rattle.isle_run.specs.Frames.Asked.{IsAskedFor}
-use Rattle.isle_run.specs.Frames.Calls.{CallOf, CallComes, below_call, RightComes, around, IsAtIfLet, IsAtRight, root_at, word_at, IsSoundProgram}
+use Rattle.isle_run.specs.Frames.Calls.{CallOf, below_call, RightComes, around, IsAtIfLet, IsAtRight, root_at, IsSoundProgram}
 use Rattle.isle_run.specs.Frames.Calls.{WaitsAtIfLet, WaitsAtRight}
 use Rattle.isle_run.proofs.Stores.Values.{extends_same}
 use Rattle.isle_run.proofs.Calls.Outcomes.{one_longer}
 use Rattle.isle_run.proofs.Calls.RuleGiving.{answers_append, step_gives_typed}
-use Rattle.isle_run.proofs.Evaluations.Going.{laid_within, answered_pure, stopped_pure, answered_impure, waits_top, waits_within, resting}
+use Rattle.isle_run.proofs.Evaluations.Going.{answered_pure, stopped_pure, answered_impure, waits_within, resting}
 use Rattle.isle_run.proofs.Evaluations.Turns.{put_known, known_still}
 use Rattle.isle_run.proofs.Frames.Pure.{pure_makes_nothing}
 use Rattle.isle_run.proofs.Frames.Begun.{below_gives_typed}
 use Rattle.isle_run.proofs.Frames.Steps.{drop_there, word_there, there_within, within_there, index_there, step_typed, step_laid}
-use Rattle.isle_run.proofs.Frames.Evaluated.{condition_stops, condition_later, right_root, right_stopped, right_later}
+use Rattle.isle_run.proofs.Frames.Evaluated.{condition_later, right_root, right_stopped, right_later}
 
 -- a number is less than another, or it isn't
 pub less_or : (n i : ℕ) → (n < i) ⊎ (i ≤ n)

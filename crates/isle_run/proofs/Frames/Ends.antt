@@ -1,15 +1,13 @@
 -- What a rule, and a frame, come to once a call is answered.
-use Rattle.std.proofs.Common.{◌≡◌, ◌++◌, ℕ, zero, suc, true, false, List, [], ◌∷◌, Some, None, refl, sym, ◌∙◌, ap, subst}
+use Rattle.std.proofs.Common.{◌≡◌, ◌++◌, ℕ, zero, suc, true, false, List, [], Some, refl, sym, ◌∙◌, subst}
 use Rattle.std.proofs.lemmas.List.{append-nil}
 use Rattle.isle_types.specs.declared.ids.TermId.{TermId}
 use Rattle.isle_terms.specs.declared.rules.Rule.{Rule}
 use Rattle.isle_terms.specs.TypedRules.{TypedRule}
 use Rattle.isle_terms.specs.Meaning.Values.{Value, Values}
 use Rattle.isle_terms.specs.Meaning.Worlds.{Event}
-use Rattle.isle_terms.specs.Meaning.Asking.{Ended, ill_typed, asks_value}
-use Rattle.isle_run.specs.declared.answer.Answer.TheVariants.{IllTyped as IllTypedAnswer}
+use Rattle.isle_terms.specs.Meaning.Asking.{ill_typed, asks_value}
 use Rattle.isle_run.specs.declared.evaluation.Evaluation.{Evaluation}
-use Rattle.isle_run.specs.declared.frame.Advanced.{Advanced}
 use Rattle.isle_run.specs.declared.frame.Advanced.TheVariants.{Is, Missing, Ends, Calls}
 use Rattle.isle_run.specs.declared.frame.current.At.{At}
 use Rattle.isle_run.specs.declared.frame.current.At.TheVariants.{IfLet, Right, Left, Missed}
@@ -23,13 +21,13 @@ use Rattle.isle_run.specs.declared.outside.Told.TheVariants.{Gives, Missing as N
 use Rattle.isle_run.specs.declared.store.Stored.{Stored}
 use Rattle.isle_run.specs.declared.variables.Variables.{Variables}
 use Rattle.isle_run.specs.Meanings.{checked}
-use Rattle.isle_run.specs.PlainRuns.{Outcome, given, missing, ended, RuleRuns, EffectsIf, ImpureRuns, WorldEffects}
-use Rattle.isle_run.specs.Stores.Values.{Stands, StandEach, Extends}
+use Rattle.isle_run.specs.PlainRuns.{Outcome, given, missing, ended, EffectsIf, ImpureRuns, WorldEffects}
+use Rattle.isle_run.specs.Stores.Values.{Stands, Extends}
 use Rattle.isle_run.specs.Frames.Telling.{TellsValue}
 use Rattle.isle_run.specs.Frames.Underway.{Surroundings, Stops, IsAnswered, WaitsFor}
 use Rattle.isle_run.specs.Frames.Calls.{CallOf, CallComes, below_call, IsTried, IsAt, IsAtRight, IsTryingRule, around, at_missing}
 use Rattle.isle_run.specs.Frames.Calls.{IsSoundProgram, WaitsAt, IsHeldUp}
-use Rattle.isle_run.specs.Frames.Calls.{RuleAdvances, RuleEnds, IsEndingOf, IsFrameFor, IsFrameOf, FrameEnds, IsWaitingFor}
+use Rattle.isle_run.specs.Frames.Calls.{RuleEnds, IsEndingOf, IsFrameFor, FrameEnds, IsWaitingFor}
 use Rattle.isle_run.proofs.Stores.Values.{stand_longer}
 use Rattle.isle_run.proofs.Frames.Rules.{right_comes}
 use Rattle.isle_run.proofs.Frames.Begun.{underway_longer}

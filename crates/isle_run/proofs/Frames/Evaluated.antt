@@ -1,17 +1,13 @@
 -- What is evaluated of a rule.
-use Rattle.std.proofs.Common.{◌≡◌, ◌++◌, ◌+◌, ◌<◌, ◌≤◌, inl, inr, ℕ, zero, suc, true, false, List, [], ◌∷◌, Option, Some, None, length}
-use Rattle.std.proofs.Common.{slice_get}
-use Rattle.std.proofs.Common.{drop, refl, sym, ◌∙◌, ap, subst, arith}
+use Rattle.std.proofs.Common.{◌≡◌, ◌<◌, ℕ, zero, suc, true, List, [], length}
+use Rattle.std.proofs.Common.{refl, sym, ◌∙◌, ap, subst}
 use Rattle.std.proofs.lemmas.List.{append-nil}
-use Rattle.std.specs.Prelude.{slice_index_or, All, Vec}
-use Rattle.std.specs.Global.{Global}
-use Rattle.isle_types.specs.declared.ids.TermId.{TermId}
 use Rattle.isle_terms.specs.declared.rules.Rule.{Rule}
-use Rattle.isle_terms.specs.TypedRules.{TypedIfLet, TypedRule}
+use Rattle.isle_terms.specs.TypedRules.{TypedRule}
 use Rattle.isle_terms.specs.Meaning.Values.{Value, Values}
 use Rattle.isle_terms.specs.Meaning.GroundValues.{AreValuesOf}
-use Rattle.isle_terms.specs.Meaning.Words.{Word, var_word, bool_word, int_word, prim_word, variant_word, struct_word, call_word, Words}
-use Rattle.isle_terms.specs.Meaning.Words.{Step, word_of, steps_of}
+use Rattle.isle_terms.specs.Meaning.Words.{Word, call_word, Words}
+use Rattle.isle_terms.specs.Meaning.Words.{word_of, steps_of}
 use Rattle.isle_terms.specs.Meaning.Worlds.{CheckedProgram, Answers, Event}
 use Rattle.isle_terms.specs.Meaning.Asking.{Ended, ill_typed, asks_value}
 use Rattle.isle_run.specs.declared.answer.Answer.TheVariants.{IllTyped as IllTypedAnswer}
@@ -22,28 +18,26 @@ use Rattle.isle_run.specs.declared.frame.current.At.{At}
 use Rattle.isle_run.specs.declared.frame.current.At.TheVariants.{IfLet, Right, Left, Missed}
 use Rattle.isle_run.specs.declared.laid.Laid.{Laid}
 use Rattle.isle_run.specs.declared.laid.LaidRule.{LaidRule}
-use Rattle.isle_run.specs.declared.laid.Part.{Part}
 use Rattle.isle_run.specs.declared.program.Program.{Program}
 use Rattle.isle_run.specs.declared.store.Stored.{Stored}
 use Rattle.isle_run.specs.declared.variables.Variables.{Variables}
-use Rattle.isle_run.specs.LaidOut.Words.{IsLaid}
 use Rattle.isle_run.specs.Meanings.{checked}
 use Rattle.isle_run.specs.PlainRuns.{Outcome, given, missing, ended, RuleRuns}
 use Rattle.isle_run.specs.Programs.{types_of}
 use Rattle.isle_run.specs.Stores.Values.{StandEach, Extends}
 use Rattle.isle_run.specs.Frames.Telling.{HoldVariables}
 use Rattle.isle_run.specs.TypedWords.{IsTypedWord}
-use Rattle.isle_run.specs.Frames.Underway.{Surroundings, Stops, may_run, HasTypedValue, IsPart, ComesTo, IsUnderway, IsTypedAround, IsKnown}
-use Rattle.isle_run.specs.Frames.Underway.{WaitsFor, Tells, AreAround}
+use Rattle.isle_run.specs.Frames.Underway.{Surroundings, Stops, may_run, HasTypedValue, IsPart, ComesTo, IsUnderway, IsKnown}
+use Rattle.isle_run.specs.Frames.Underway.{Tells, AreAround}
 use Rattle.isle_run.specs.Frames.Asked.{IsAskedFor}
 use Rattle.isle_run.proofs.Evaluations.Going.{laid_within}
 use Rattle.isle_run.specs.Frames.Calls.{CallOf, CallComes, below_call, RulesLead, RightComes, IsTried, around, IsAtIfLet, IsAtRight, IsAt}
 use Rattle.isle_run.specs.Frames.Calls.{root_at, word_at}
-use Rattle.isle_run.specs.Frames.Calls.{laid_at, IsEnd, IsSoundProgram, WaitsAtIfLet, WaitsAtRight, WaitsAt, IsOnWay}
+use Rattle.isle_run.specs.Frames.Calls.{laid_at, IsEnd, IsSoundProgram, WaitsAt, IsOnWay}
 use Rattle.isle_run.proofs.Calls.RuleGiving.{none_answered}
 use Rattle.isle_run.proofs.Frames.Rules.{rule_left, rule_ended, right_comes}
 use Rattle.isle_run.proofs.Frames.Begun.{hold_longer}
-use Rattle.isle_run.proofs.Frames.Steps.{right_stops, root_laid, index_there, within_there}
+use Rattle.isle_run.proofs.Frames.Steps.{right_stops, root_laid, index_there}
 
 -- of the terms with rules a typed call calls only these
 pub call_may : (p : CheckedProgram) (R S : ℕ → Type 0) (G D : ℕ → ℕ) (t : ℕ) (ws : Words) (place u : ℕ)

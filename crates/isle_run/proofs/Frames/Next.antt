@@ -1,54 +1,45 @@
 -- How a rule goes on where an expression has its value, and how the next rule is tried.
-use Rattle.std.proofs.Common.{◌≡◌, ◌++◌, ◌+◌, ◌<◌, ◌≤◌, ◌⊎◌, inl, inr, ℕ, zero, suc, true, false, Bool, List, [], ◌∷◌, Option, Some, None}
+use Rattle.std.proofs.Common.{◌≡◌, ◌++◌, ◌+◌, ◌<◌, ◌≤◌, inl, inr, ℕ, zero, suc, List, [], ◌∷◌, Option, Some}
 use Rattle.std.proofs.Common.{length, map, slice_get}
 use Rattle.std.proofs.Common.{drop, refl, sym, ◌∙◌, ap, subst, arith, Contains}
 use Rattle.std.proofs.lemmas.List.{append-nil}
 use Rattle.std.specs.Prelude.{slice_index_or}
-use Rattle.isle_types.specs.declared.ids.TermId.{TermId}
 use Rattle.isle_terms.specs.declared.rules.IfLet.{IfLet as Condition}
 use Rattle.isle_terms.specs.declared.rules.Rule.{Rule}
-use Rattle.isle_terms.specs.Shown.ShownRules.{iflet_shown, typed_shown}
-use Rattle.isle_terms.specs.TypedRules.{TypedIfLet, TypedRule, TypedPattern}
-use Rattle.isle_terms.specs.Meaning.Values.{Value, Values}
+use Rattle.isle_terms.specs.Shown.ShownRules.{iflet_shown}
+use Rattle.isle_terms.specs.TypedRules.{TypedIfLet, TypedRule}
+use Rattle.isle_terms.specs.Meaning.Values.{Value}
 use Rattle.isle_terms.specs.Meaning.GroundValues.{IsValueOf, AreValuesOf}
-use Rattle.isle_terms.specs.Meaning.Scopes.{scope, scope_all, none}
-use Rattle.isle_terms.specs.Meaning.Typing.{IsTyped}
+use Rattle.isle_terms.specs.Meaning.Scopes.{scope_all, none}
 use Rattle.isle_terms.specs.Meaning.Words.{Word, call_word, Step, word_of, steps_of}
-use Rattle.isle_terms.specs.Meaning.Worlds.{CheckedProgram, Answers, Event}
-use Rattle.isle_terms.specs.Meaning.Asking.{Ended, Asked, ill_typed}
-use Rattle.isle_run.specs.declared.answer.Answer.TheVariants.{IllTyped as IllTypedAnswer}
+use Rattle.isle_terms.specs.Meaning.Worlds.{Event}
+use Rattle.isle_terms.specs.Meaning.Asking.{Ended}
 use Rattle.isle_run.specs.declared.evaluation.Evaluation.{Evaluation}
-use Rattle.isle_run.specs.declared.fitting.Fitted.{Fitted}
-use Rattle.isle_run.specs.declared.fitting.Fitted.TheVariants.{Fits, Leaves as Left, IllTyped as UnfitCall}
-use Rattle.isle_run.specs.declared.frame.Advanced.{Advanced}
-use Rattle.isle_run.specs.declared.frame.Advanced.TheVariants.{Is, Missing, Ends, Calls}
 use Rattle.isle_run.specs.declared.frame.current.At.{At}
 use Rattle.isle_run.specs.declared.frame.current.At.TheVariants.{IfLet, Right}
-use Rattle.isle_run.specs.declared.laid.Laid.{Laid}
 use Rattle.isle_run.specs.declared.laid.LaidRule.{LaidRule}
 use Rattle.isle_run.specs.declared.store.Stored.{Stored}
 use Rattle.isle_run.specs.declared.variables.Variables.{Variables}
 use Rattle.isle_run.specs.Meanings.{checked}
-use Rattle.isle_run.specs.PlainRuns.{Outcome, given, missing, ended, After, RuleRuns, RulesRun, RightRuns, IfLetsRun, PatternRuns}
+use Rattle.isle_run.specs.PlainRuns.{Outcome, given, missing, ended, RuleRuns, IfLetsRun, PatternRuns}
 use Rattle.isle_run.specs.PlainRuns.{PatternsRun, no_variables, unmatched, AreTriedInOrder}
 use Rattle.isle_terms.specs.Meaning.Calls.{IsRuleAt}
 use Rattle.isle_run.specs.declared.program.Program.{Program}
-use Rattle.isle_run.specs.Programs.{types_of}
-use Rattle.isle_run.specs.Stores.Values.{Stands, Extends}
-use Rattle.isle_run.specs.Frames.Telling.{HoldVariables, IsCalledOn, TellsFit}
+use Rattle.isle_run.specs.Stores.Values.{Stands}
+use Rattle.isle_run.specs.Frames.Telling.{HoldVariables}
 use Rattle.isle_run.specs.TypedWords.{AreTypedVariables}
-use Rattle.isle_run.specs.Frames.Underway.{may_run, HasTypedValue, IsPart, ComesTo, IsUnderway, IsKnown, known_at}
+use Rattle.isle_run.specs.Frames.Underway.{may_run, HasTypedValue, ComesTo, IsUnderway, IsKnown, known_at}
 use Rattle.isle_run.specs.Frames.Asked.{IsAskedFor}
 use Rattle.isle_run.specs.Frames.Calls.{CallOf, CallComes, below_call, RulesLead, RuleLeads, RightComes, IsRuleOf, IsTried, around}
 use Rattle.isle_run.specs.Frames.Calls.{scope_before, IsAtIfLet, IsAtRight, IsAt}
-use Rattle.isle_run.specs.Frames.Calls.{root_at, word_at, laid_at, root_there, IsSoundProgram, IsFirstAt, IsBegun, IsBegunAt, IsEnd, UnmatchedIs}
+use Rattle.isle_run.specs.Frames.Calls.{root_at, word_at, laid_at, root_there, IsSoundProgram, IsBegun, IsBegunAt}
 use Rattle.isle_run.proofs.Calls.RuleGiving.{none_answered}
 use Rattle.isle_run.proofs.Calls.Giving.{words_give_typed, patterns_give_typed, patterns_give_typed_all}
 use Rattle.isle_run.proofs.Calls.Outcomes.{after_given}
 use Rattle.isle_run.proofs.Evaluations.Going.{asked}
 use Rattle.isle_run.proofs.Evaluations.Turns.{still_known}
 use Rattle.isle_run.proofs.Frames.Rules.{rule_left, rule_ended, right_comes}
-use Rattle.isle_run.proofs.Frames.Begun.{begun_asked, hold_longer, below_gives_typed, scope_first, scope_next, begin_condition}
+use Rattle.isle_run.proofs.Frames.Begun.{begun_asked, below_gives_typed, scope_first, scope_next, begin_condition}
 use Rattle.isle_run.proofs.Frames.Begun.{begin_right}
 use Rattle.isle_run.proofs.Frames.Steps.{right_gives, as_many, step_typed}
 use Rattle.isle_run.proofs.Frames.Calls.{less_or}

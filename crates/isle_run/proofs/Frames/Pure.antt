@@ -5,9 +5,8 @@ use Rattle.isle_terms.specs.TypedRules.{TypedRule}
 use Rattle.isle_terms.specs.Meaning.Values.{Value, Values}
 use Rattle.isle_terms.specs.Meaning.Words.{Step, steps_of, word_of}
 use Rattle.isle_terms.specs.Meaning.Worlds.{CheckedProgram, Answers, Event}
-use Rattle.isle_terms.specs.Meaning.Calls.{IsRuleAt}
 use Rattle.isle_run.specs.PlainRuns.{Outcome, given, missing, ended, RulesRun, RightRuns, Tried, PlainRun}
-use Rattle.isle_run.specs.SoundPrograms.{IsSound, IsSoundRule}
+use Rattle.isle_run.specs.SoundPrograms.{IsSound}
 
 module _ (p : CheckedProgram) (w : Answers) (below : ℕ → Values → List Event → Outcome Value → Type 0) where
   -- a right side without impure calls makes no effects

@@ -1,23 +1,15 @@
 -- What a rule of a call comes to.
-use Rattle.std.proofs.Common.{◌≡◌, ◌++◌, ◌+◌, ◌<◌, ◌≤◌, ◌⊎◌, inl, inr, ℕ, zero, suc, true, false, List, [], ◌∷◌, Option, Some, None}
-use Rattle.std.proofs.Common.{length, slice_get}
-use Rattle.std.proofs.Common.{drop, set, refl, sym, ◌∙◌, ap, subst, arith, append_assoc}
-use Rattle.std.proofs.lemmas.List.{append-nil}
-use Rattle.std.specs.Prelude.{slice_index_or, All}
-use Rattle.std.proofs.lemmas.List.Elements.{All-cons, All-nil}
-use Rattle.isle_types.specs.declared.ids.TermId.{TermId}
+use Rattle.std.proofs.Common.{◌≡◌, ◌+◌, ℕ, suc, List, []}
+use Rattle.std.proofs.Common.{refl, subst, arith}
 use Rattle.isle_terms.specs.declared.rules.Rule.{Rule}
-use Rattle.isle_terms.specs.TypedRules.{TypedIfLet, TypedRule}
-use Rattle.isle_terms.specs.Meaning.Values.{Value, Values}
-use Rattle.isle_terms.specs.Meaning.Words.{Word, call_word, Words, Step, word_of, steps_of}
-use Rattle.isle_terms.specs.Meaning.Worlds.{CheckedProgram, Answers, Event}
+use Rattle.isle_terms.specs.TypedRules.{TypedRule}
+use Rattle.isle_terms.specs.Meaning.Values.{Value}
+use Rattle.isle_terms.specs.Meaning.Worlds.{Event}
 use Rattle.isle_terms.specs.Meaning.Asking.{Ended}
-use Rattle.isle_run.specs.declared.evaluation.Evaluation.{Evaluation}
 use Rattle.isle_run.specs.declared.laid.LaidRule.{LaidRule}
 use Rattle.isle_run.specs.Meanings.{checked}
-use Rattle.isle_run.specs.PlainRuns.{Outcome, given, missing, ended, RuleRuns, RightRuns, RulesRun, IfLetsRun, WordRuns, PatternRuns}
-use Rattle.isle_run.specs.Frames.Underway.{Stops}
-use Rattle.isle_run.specs.Frames.Calls.{CallOf, CallComes, below_call, RulesLead, RuleLeads, RightComes, IsTried}
+use Rattle.isle_run.specs.PlainRuns.{Outcome, given, missing, ended, RuleRuns}
+use Rattle.isle_run.specs.Frames.Calls.{CallOf, CallComes, below_call, RulesLead, RightComes, IsTried}
 
 module _ (k : CallOf) (known : Rule) (laid : LaidRule) (rule : TypedRule) (others : List ℕ) (tried : ℕ) (is : IsTried k known laid rule
     others tried) where

@@ -1,8 +1,7 @@
 -- A call that runs: what its frames and its effects are from turn to turn.
 use Rattle.std.proofs.Common.{◌≡◌, ◌++◌, ℕ, List, [], ◌∷◌, Option, refl, sym, ◌∙◌, ap, subst, reverse, append_assoc}
-use Rattle.isle_types.specs.declared.ids.TermId.{TermId}
 use Rattle.isle_terms.specs.Meaning.GroundValues.{values_of, AreValuesOf}
-use Rattle.isle_terms.specs.Meaning.Values.{Value, Values}
+use Rattle.isle_terms.specs.Meaning.Values.{Value}
 use Rattle.isle_terms.specs.Meaning.ValueTypes.{AreOfTypes}
 use Rattle.isle_terms.specs.Meaning.Worlds.{Answers, Event}
 use Rattle.isle_terms.specs.Values.{ValueTree, ValueTrees}
@@ -10,7 +9,7 @@ use Rattle.isle_run.specs.declared.answer.Effect.{Effect}
 use Rattle.isle_run.specs.declared.frame.Advanced.{Advanced}
 use Rattle.isle_run.specs.declared.frame.Frame.{Frame}
 use Rattle.isle_run.specs.declared.plain.Next.{Next}
-use Rattle.isle_run.specs.declared.plain.Next.TheVariants.{Runs, Answers as AnswersCall}
+use Rattle.isle_run.specs.declared.plain.Next.TheVariants.{Runs}
 use Rattle.isle_run.specs.declared.program.Program.{Program}
 use Rattle.isle_run.specs.declared.store.Stored.{Stored}
 use Rattle.isle_run.specs.Frames.Calls.{CallOf, IsSoundProgram, IsFrameOf, AdvancesTo}

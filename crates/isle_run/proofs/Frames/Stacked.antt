@@ -1,7 +1,6 @@
 -- Frames that wait, one for the other: what the innermost call comes to, and how the first call ends with it.
 use Rattle.std.proofs.Common.{◌≡◌, ◌≤◌, refl, sym, ◌∙◌, ap, subst, ℕ, suc, List, [], ◌∷◌, ◌++◌, length, get_or, reverse, append_assoc, arith}
 use Rattle.std.proofs.lemmas.List.{reverse-append}
-use Rattle.isle_types.specs.declared.ids.TermId.{TermId}
 use Rattle.isle_terms.specs.Meaning.Values.{Value, Values}
 use Rattle.isle_terms.specs.Meaning.Worlds.{Event}
 use Rattle.isle_terms.specs.Meaning.Asking.{Ended}
@@ -10,7 +9,7 @@ use Rattle.isle_run.specs.declared.answer.Answer.TheVariants.{Value as ValueAnsw
 use Rattle.isle_run.specs.declared.frame.Frame.{Frame}
 use Rattle.isle_run.specs.declared.program.Program.{Program}
 use Rattle.isle_run.specs.declared.store.Stored.{Stored}
-use Rattle.isle_run.specs.Frames.Calls.{CallOf, CallComes, IsEnd, IsSoundProgram, IsWaitingFor, below_call}
+use Rattle.isle_run.specs.Frames.Calls.{CallOf, CallComes, IsEnd, IsSoundProgram, below_call}
 use Rattle.isle_run.specs.PlainCalls.{AreStacked, TellsOutcome, call_below, first_tried}
 use Rattle.isle_run.specs.Meanings.{checked}
 use Rattle.isle_run.specs.PlainRuns.{Outcome, ended, PlainRun}

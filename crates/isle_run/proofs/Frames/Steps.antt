@@ -1,15 +1,15 @@
 -- A right side from a place on: its impure calls, and the parts that they are.
-use Rattle.std.proofs.Common.{◌≡◌, ◌++◌, ◌+◌, ◌<◌, ◌≤◌, inl, inr, ℕ, zero, suc, true, false, List, [], ◌∷◌, Option, Some, None, length}
+use Rattle.std.proofs.Common.{◌≡◌, ◌+◌, ◌<◌, ◌≤◌, ℕ, zero, suc, List, [], ◌∷◌, Option, Some, length}
 use Rattle.std.proofs.Common.{slice_get}
-use Rattle.std.proofs.Common.{drop, refl, sym, ◌∙◌, ap, subst, arith}
+use Rattle.std.proofs.Common.{drop, refl, ap, subst, arith}
 use Rattle.std.specs.Prelude.{slice_index_or}
 use Rattle.std.specs.List.{AllZip}
 use Rattle.isle_terms.specs.Meaning.Values.{Value, Values}
-use Rattle.isle_terms.specs.Meaning.Words.{Word, call_word, Words, Step}
+use Rattle.isle_terms.specs.Meaning.Words.{Word, call_word, Step}
 use Rattle.isle_terms.specs.Meaning.Worlds.{CheckedProgram, Answers, Event}
 use Rattle.isle_run.specs.declared.laid.Part.{Part}
-use Rattle.isle_run.specs.LaidOut.Words.{IsLaid, AreLaid, IsLaidStep}
-use Rattle.isle_run.specs.PlainRuns.{Outcome, given, missing, ended, After, Then, WordRuns, WordsRun, RightRuns, ImpureRuns}
+use Rattle.isle_run.specs.LaidOut.Words.{IsLaid, IsLaidStep}
+use Rattle.isle_run.specs.PlainRuns.{Outcome, given, missing, ended, After, Then, WordRuns, RightRuns}
 use Rattle.isle_run.specs.TypedWords.{IsTypedWord, IsTypedStep, AreTypedSteps}
 use Rattle.isle_run.specs.Frames.Underway.{Stops}
 use Rattle.isle_run.specs.Frames.Calls.{word_at}

@@ -1,9 +1,8 @@
 -- What patterns that were read, and effects that were made, tell of a rule.
-use Rattle.std.proofs.Common.{◌≡◌, ◌++◌, ◌+◌, ◌<◌, ℕ, zero, suc, true, false, Bool, List, [], ◌∷◌, Option, Some, None, length, map}
+use Rattle.std.proofs.Common.{◌≡◌, ℕ, zero, suc, List, [], ◌∷◌, Option, Some, None, map}
 use Rattle.std.proofs.Common.{slice_get}
-use Rattle.std.proofs.Common.{drop, refl, sym, ◌∙◌, ap, subst, arith, Contains}
+use Rattle.std.proofs.Common.{drop, refl, sym, ◌∙◌, ap, subst}
 use Rattle.std.specs.Prelude.{slice_index_or, unwrap_or}
-use Rattle.std.specs.List.{AllZip}
 use Rattle.isle_types.specs.declared.ids.TermId.{TermId}
 use Rattle.isle_terms.specs.Values.{ValueTree, ValueTrees, value_list}
 use Rattle.isle_terms.specs.declared.rules.IfLet.{IfLet as Condition}
@@ -17,7 +16,6 @@ use Rattle.isle_terms.specs.Meaning.Calls.{IsRuleAt}
 use Rattle.isle_terms.specs.Meaning.Typing.{IsTyped, AllTyped}
 use Rattle.isle_terms.specs.Meaning.Worlds.{Answers, Event}
 use Rattle.isle_terms.specs.Meaning.Asking.{Ended, Asked, ill_typed, asks_value}
-use Rattle.isle_run.specs.declared.answer.Answer.TheVariants.{IllTyped as IllTypedAnswer}
 use Rattle.isle_run.specs.declared.evaluation.Evaluation.{Evaluation}
 use Rattle.isle_run.specs.declared.fitting.Fitted.{Fitted}
 use Rattle.isle_run.specs.declared.fitting.Fitted.TheVariants.{Fits, Leaves, IllTyped as UnfitCall}
@@ -30,14 +28,14 @@ use Rattle.isle_run.specs.declared.program.Program.{Program}
 use Rattle.isle_run.specs.declared.store.Stored.{Stored}
 use Rattle.isle_run.specs.declared.variables.Variables.{Variables}
 use Rattle.isle_run.specs.Meanings.{checked, rule_shown}
-use Rattle.isle_run.specs.PlainRuns.{Outcome, given, missing, ended, PatternRuns, PatternsRun, WorldEffects, no_variables}
-use Rattle.isle_run.specs.Programs.{types_of, terms_of}
+use Rattle.isle_run.specs.PlainRuns.{ended, PatternRuns, PatternsRun, WorldEffects, no_variables}
+use Rattle.isle_run.specs.Programs.{types_of}
 use Rattle.isle_run.specs.Stores.Values.{Stands, StandEach}
 use Rattle.isle_run.specs.Frames.Telling.{HasKnownData, HoldVariables, IsCalledOn, TellsFit, TellsValue, answers_in, number_of_variable}
 use Rattle.isle_run.specs.Frames.Underway.{may_run, known_at}
 use Rattle.isle_run.specs.Frames.Laid.{IsLaidRule}
-use Rattle.isle_run.specs.Frames.Calls.{CallOf, CallComes, RulesLead, IsRuleOf, IsTried, IsAtIfLet, IsAt, IsTryingRule, laid_at, IsSoundProgram}
-use Rattle.isle_run.specs.Frames.Calls.{RunsIn, IsBegunAt, IsEnd}
+use Rattle.isle_run.specs.Frames.Calls.{CallOf, CallComes, RulesLead, IsTried, IsAtIfLet, IsAt, IsTryingRule, laid_at, IsSoundProgram}
+use Rattle.isle_run.specs.Frames.Calls.{RunsIn, IsBegunAt}
 use Rattle.isle_run.proofs.Frames.Steps.{index_there}
 use Rattle.isle_run.proofs.Frames.Next.{condition_value, value_typed, pattern_leaves, pattern_ends, pattern_fits, shown_there}
 use Rattle.isle_run.proofs.Frames.Next.{first_leads}

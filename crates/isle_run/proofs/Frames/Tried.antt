@@ -1,5 +1,5 @@
 -- A frame whose next rule is tried, or which has none left.
-use Rattle.std.proofs.Common.{◌≡◌, ◌++◌, ◌+◌, ◌<◌, ◌^◌, ℕ, zero, suc, true, false, Bool, List, [], ◌∷◌, Some, None, length, map, slice_get}
+use Rattle.std.proofs.Common.{◌≡◌, ◌+◌, ◌<◌, ◌^◌, ℕ, zero, suc, true, false, List, [], ◌∷◌, Some, length, map, slice_get}
 use Rattle.std.proofs.Common.{refl, sym, ◌∙◌, ap, subst, arith, Contains}
 use Rattle.std.proofs.lemmas.List.Elements.{Contains-append_right}
 use Rattle.std.specs.Prelude.{Vec}
@@ -12,11 +12,11 @@ use Rattle.isle_terms.specs.Shown.TermTables.{TermTables}
 use Rattle.isle_terms.specs.Values.{ValueTree, value_list}
 use Rattle.isle_terms.specs.declared.rules.IfLet.{IfLet as Condition}
 use Rattle.isle_terms.specs.declared.rules.Rule.{Rule}
-use Rattle.isle_terms.specs.Meaning.Values.{Value, Values}
+use Rattle.isle_terms.specs.Meaning.Values.{Values}
 use Rattle.isle_terms.specs.Meaning.GroundValues.{AreValuesOf, values_of}
 use Rattle.isle_terms.specs.Meaning.ValueTypes.{AreOfTypes}
 use Rattle.isle_terms.specs.Meaning.Worlds.{Event}
-use Rattle.isle_terms.specs.Meaning.Asking.{Ended, stuck}
+use Rattle.isle_terms.specs.Meaning.Asking.{stuck}
 use Rattle.isle_run.specs.declared.answer.Answer.TheVariants.{Stuck}
 use Rattle.isle_run.specs.declared.frame.Advanced.{Advanced}
 use Rattle.isle_run.specs.declared.frame.Advanced.TheVariants.{Is, Missing, Ends, Calls}
@@ -29,12 +29,12 @@ use Rattle.isle_run.specs.declared.program.Program.{Program}
 use Rattle.isle_run.specs.declared.store.Stored.{Stored}
 use Rattle.isle_run.specs.LaidOut.Words.{IsLaidOut, StandBehind}
 use Rattle.isle_run.specs.Meanings.{checked}
-use Rattle.isle_run.specs.PlainRuns.{Outcome, missing, ended, unmatched}
+use Rattle.isle_run.specs.PlainRuns.{ended, unmatched}
 use Rattle.isle_run.specs.Programs.{number_of, types_taken, value_facts}
 use Rattle.isle_run.specs.Stores.Printing.{HasNamedData}
 use Rattle.isle_run.specs.Stores.Values.{StandEach, Extends}
 use Rattle.isle_run.specs.Frames.Laid.{IsLaidRule, AllStandBehind}
-use Rattle.isle_run.specs.Frames.Calls.{CallOf, CallComes, RulesLead, IsFrameFor, IsTryingRule, IsSoundProgram, AdvancesTo, IsEnd, UnmatchedIs}
+use Rattle.isle_run.specs.Frames.Calls.{CallOf, CallComes, RulesLead, IsFrameFor, IsTryingRule, IsSoundProgram, AdvancesTo, UnmatchedIs}
 use Rattle.isle_run.proofs.Stores.Values.{stand_longer}
 use Rattle.isle_run.proofs.Frames.Telling.{inputs_taken}
 use Rattle.isle_run.proofs.Frames.Next.{none_leads}

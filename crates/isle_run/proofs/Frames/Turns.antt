@@ -1,28 +1,24 @@
 -- What a turn of a frame tells, and turns one after another.
-use Rattle.std.proofs.Common.{◌≡◌, ◌++◌, ◌+◌, ◌<◌, ◌≤◌, ◌⊎◌, inl, inr, ℕ, zero, suc, true, false, Bool, List, [], ◌∷◌, Option, Some, None}
+use Rattle.std.proofs.Common.{◌≡◌, ◌++◌, ◌<◌, ◌≤◌, ◌⊎◌, inl, inr, ℕ, zero, suc, List, [], ◌∷◌, Option, Some}
 use Rattle.std.proofs.Common.{length, slice_get}
 use Rattle.std.proofs.Common.{refl, sym, ◌∙◌, ap, subst, arith, append_assoc, Contains}
 use Rattle.std.proofs.lemmas.List.{append-nil}
-use Rattle.std.specs.Prelude.{slice_index_or, unwrap_or, Vec}
-use Rattle.std.specs.Global.{Global}
-use Rattle.isle_types.specs.declared.ids.TermId.{TermId}
+use Rattle.std.specs.Prelude.{slice_index_or, unwrap_or}
 use Rattle.isle_terms.specs.Values.{ValueTree, ValueTrees}
 use Rattle.isle_terms.specs.declared.rules.Rule.{Rule}
 use Rattle.isle_terms.specs.Meaning.Values.{Value, Values}
 use Rattle.isle_terms.specs.Meaning.Words.{Word}
-use Rattle.isle_terms.specs.Meaning.Worlds.{Answers, Event}
+use Rattle.isle_terms.specs.Meaning.Worlds.{Event}
 use Rattle.isle_terms.specs.Meaning.Asking.{Ended}
 use Rattle.isle_run.specs.declared.answer.Answer.TheVariants.{IllTyped as IllTypedAnswer}
 use Rattle.isle_run.specs.declared.answer.Effect.{Effect}
 use Rattle.isle_run.specs.declared.evaluation.Evaluation.{Evaluation}
 use Rattle.isle_run.specs.declared.evaluation.Evaluated.{Evaluated}
 use Rattle.isle_run.specs.declared.evaluation.Evaluated.TheVariants.{Done, Missing as Misses, IllTyped, Waits}
-use Rattle.isle_run.specs.declared.frame.Advanced.TheVariants.{Is, Missing, Ends, Calls}
 use Rattle.isle_run.specs.declared.frame.current.At.{At}
 use Rattle.isle_run.specs.declared.frame.current.At.TheVariants.{IfLet, Right, Left, Missed}
 use Rattle.isle_run.specs.declared.frame.current.Current.{Current}
 use Rattle.isle_run.specs.declared.frame.Ending.{Ending}
-use Rattle.isle_run.specs.declared.frame.Ending.TheVariants.{On, Leaves, Comes}
 use Rattle.isle_run.specs.declared.frame.Frame.{Frame}
 use Rattle.isle_run.specs.declared.laid.Laid.{Laid}
 use Rattle.isle_run.specs.declared.laid.LaidRule.{LaidRule}
@@ -30,8 +26,7 @@ use Rattle.isle_run.specs.declared.program.Program.{Program}
 use Rattle.isle_run.specs.declared.store.Stored.{Stored}
 use Rattle.isle_run.specs.declared.variables.Variables.{Variables}
 use Rattle.isle_run.specs.LaidOut.Words.{StandBehind}
-use Rattle.isle_run.specs.Meanings.{checked}
-use Rattle.isle_run.specs.PlainRuns.{Outcome, given, missing, ended}
+use Rattle.isle_run.specs.PlainRuns.{given, ended}
 use Rattle.isle_run.specs.Stores.Values.{Stands, Extends}
 use Rattle.isle_run.specs.Frames.Telling.{HasMade, HoldVariables, answers_in}
 use Rattle.isle_run.specs.Frames.Underway.{Surroundings, IsUnderway, IsKnown, IsLater, Tells, AreAround, known_at}

@@ -1,8 +1,8 @@
 -- A frame that waits: in a longer store, and where the call that it waits for ends unanswered.
-use Rattle.std.proofs.Common.{◌≡◌, ◌++◌, ℕ, zero, suc, List, [], refl, sym, subst}
+use Rattle.std.proofs.Common.{◌≡◌, ◌++◌, ℕ, zero, suc, List, refl, sym, subst}
 use Rattle.std.proofs.lemmas.List.{append-nil}
 use Rattle.isle_types.specs.declared.ids.TermId.{TermId}
-use Rattle.isle_terms.specs.Meaning.Values.{Value, Values}
+use Rattle.isle_terms.specs.Meaning.Values.{Values}
 use Rattle.isle_terms.specs.Meaning.Worlds.{Event}
 use Rattle.isle_terms.specs.Meaning.Asking.{Ended}
 use Rattle.isle_run.specs.declared.frame.current.At.{At}
@@ -10,13 +10,13 @@ use Rattle.isle_run.specs.declared.frame.current.At.TheVariants.{IfLet, Right, L
 use Rattle.isle_run.specs.declared.frame.Frame.{Frame}
 use Rattle.isle_run.specs.declared.store.Stored.{Stored}
 use Rattle.isle_run.specs.Meanings.{checked}
-use Rattle.isle_run.specs.PlainRuns.{Outcome, ended, EffectsIf, ImpureRuns}
+use Rattle.isle_run.specs.PlainRuns.{ended, EffectsIf, ImpureRuns}
 use Rattle.isle_run.specs.Stores.Values.{Extends}
 use Rattle.isle_run.specs.Frames.Calls.{CallOf, CallComes, below_call, IsSoundProgram, WaitsAt, IsWaitingFor}
 use Rattle.isle_run.proofs.Stores.Values.{stand_longer}
 use Rattle.isle_run.proofs.Frames.Rules.{right_comes, rule_ended}
 use Rattle.isle_run.proofs.Frames.Evaluated.{condition_ended}
-use Rattle.isle_run.proofs.Frames.Calls.{condition_pure, condition_makes_nothing, condition_unanswered, right_makes_nothing}
+use Rattle.isle_run.proofs.Frames.Calls.{condition_makes_nothing, condition_unanswered, right_makes_nothing}
 use Rattle.isle_run.proofs.Frames.Calls.{right_unanswered_pure, right_unanswered}
 use Rattle.isle_run.proofs.Frames.Ends.{frame_longer, waits_at_longer}
 

@@ -1,19 +1,18 @@
 -- What words come to: it stays so as answers are added, and is the same for all words that stand at one part.
-use Rattle.std.proofs.Common.{◌≡◌, ◌++◌, inl, inr, ℕ, zero, suc, true, false, List, [], ◌∷◌, Option, Some, None, slice_get, refl, sym}
+use Rattle.std.proofs.Common.{◌≡◌, ◌++◌, ℕ, zero, suc, List, [], ◌∷◌, Option, Some, slice_get, refl, sym}
 use Rattle.std.proofs.Common.{◌∙◌, ap, subst}
 use Rattle.isle_types.proofs.Lists.{slice_get-kept}
-use Rattle.isle_terms.specs.Meaning.Values.{Value, Values, bool_value, int_value, constant_value, made_variant, made_struct, no_values}
+use Rattle.isle_terms.specs.Meaning.Values.{Value, Values}
 use Rattle.isle_terms.specs.Meaning.Values.{more_values}
 use Rattle.isle_terms.specs.Meaning.Words.{Word, var_word, bool_word, int_word, prim_word, variant_word, struct_word, call_word, Words}
 use Rattle.isle_terms.specs.Meaning.Words.{no_words, more_words, Step}
 use Rattle.isle_terms.specs.Meaning.Worlds.{CheckedProgram, Answers, Event}
-use Rattle.isle_types.specs.declared.ids.TermId.{TermId}
 use Rattle.isle_run.specs.declared.laid.Part.{Part}
 use Rattle.isle_run.specs.declared.laid.Part.TheVariants.{Var, Bool, Int, Const, Variant, Struct, Call, Impure}
 use Rattle.isle_types.specs.TypeTables.{name_at}
 use Rattle.isle_run.specs.LaidOut.Words.{IsLaid, AreLaid}
-use Rattle.isle_run.specs.PlainRuns.{Outcome, given, missing, ended, After, WordRuns, WordsRun, PureRuns}
-use Rattle.isle_run.specs.TypedWords.{IsTypedWord, AreTypedWords, AreTypedSteps, IsTypedStep}
+use Rattle.isle_run.specs.PlainRuns.{Outcome, given, missing, ended, After, WordRuns, WordsRun}
+use Rattle.isle_run.specs.TypedWords.{IsTypedWord, AreTypedWords, AreTypedSteps}
 
 -- what goes on after an outcome, where more may follow
 pub after_more : {A B : Type 0} (g : Outcome A) (next other : A → Outcome B → Type 0) (r : Outcome B)

@@ -1,5 +1,5 @@
 -- What a program's tables say is what its definitions say.
-use Rattle.std.proofs.Common.{◌≡◌, ℕ, zero, suc, List, [], ◌∷◌, ◌++◌, map, Bool, ◌||◌, Option, None, Some, slice_get, unwrap_or}
+use Rattle.std.proofs.Common.{◌≡◌, ℕ, zero, suc, List, [], ◌∷◌, ◌++◌, map, ◌||◌, Option, None, Some, slice_get, unwrap_or}
 use Rattle.std.proofs.Common.{refl, sym, ◌∙◌, ap}
 use Rattle.std.specs.Prelude.{◌==◌}
 use Rattle.std.specs.List.{AllZip, list_any}
@@ -12,19 +12,17 @@ use Rattle.isle_types.specs.declared.types.BuiltinType.TheVariants.{Bool as Bool
 use Rattle.isle_types.specs.declared.types.«Type».{«Type» as KnownType}
 use Rattle.isle_types.specs.declared.types.«Type».TheVariants.{Builtin, Primitive, Enum as EnumType, Struct as StructType}
 use Rattle.isle_types.specs.IntTypes.{builtin_types}
-use Rattle.isle_types.specs.Environment.{Environment, NamedType, TypeShape, primitive, enum, struct}
-use Rattle.isle_types.specs.TypeEnvs.{IsShown, IsShownShape, Shows}
-use Rattle.isle_types.specs.TypeTables.{TypeTables}
+use Rattle.isle_types.specs.Environment.{NamedType, TypeShape, primitive, enum, struct}
+use Rattle.isle_types.specs.TypeEnvs.{IsShown, IsShownShape}
 use Rattle.isle_terms.specs.declared.rules.Rule.{Rule}
 use Rattle.isle_terms.specs.declared.terms.Term.{Term}
 use Rattle.isle_terms.specs.Signatures.{Signature, Declared, term_named}
 use Rattle.isle_terms.specs.TypedRules.{TypedRule}
 use Rattle.isle_terms.specs.Definitions.{declared_by}
-use Rattle.isle_terms.specs.Shown.ShownTerms.{ShowsDeclared, term_shown, form_shown}
+use Rattle.isle_terms.specs.Shown.ShownTerms.{ShowsDeclared, term_shown}
 use Rattle.isle_terms.specs.Shown.ShownTerms.{term_at as id_at}
 use Rattle.isle_terms.specs.Shown.RulesShown.{IsShownRule}
-use Rattle.isle_terms.specs.Meaning.Facts.{TermShape, facts_of}
-use Rattle.isle_terms.specs.Meaning.ValueTypes.{TypeKind, no_kind}
+use Rattle.isle_terms.specs.Meaning.ValueTypes.{no_kind}
 use Rattle.isle_run.specs.declared.program.Program.{Program}
 use Rattle.isle_run.specs.Compiled.{IsProgramOf}
 use Rattle.isle_run.specs.DefinedPrograms.{builtin_kind, shape_kind, data_of, data_shape, defined_program}

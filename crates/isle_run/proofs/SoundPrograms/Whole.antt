@@ -4,7 +4,7 @@ use Rattle.isle_syntax.specs.Positions.Files.{SourceFile}
 use Rattle.isle_terms.specs.Definitions.{declared_by, rules_in}
 use Rattle.isle_terms.proofs.Meaning.MadeFields.{made_terms_take_their_fields}
 use Rattle.isle_run.specs.declared.program.Program.{Program}
-use Rattle.isle_run.specs.Programs.{types_of, terms_of}
+use Rattle.isle_run.specs.Programs.{terms_of}
 use Rattle.isle_run.specs.Meanings.{checked}
 use Rattle.isle_run.specs.Compiled.{IsProgramOf, max_levels, max_nodes}
 use Rattle.isle_run.specs.SoundPrograms.{IsSound}

@@ -1,5 +1,5 @@
 -- What definitions make, without positions.
-use Rattle.std.proofs.Common.{◌≡◌, ℕ, zero, suc, List, [], ◌∷◌, ◌++◌, map, true, false, Option, None, Some, slice_get, is_some, refl, sym, ◌∙◌, ap}
+use Rattle.std.proofs.Common.{◌≡◌, ℕ, List, [], ◌∷◌, ◌++◌, map, true, false, Option, None, Some, slice_get, refl, ◌∙◌, ap}
 use Rattle.std.specs.Prelude.{if◌then◌else◌}
 use Rattle.std.specs.Option.{option_map, option_and_then}
 use Rattle.std.proofs.lemmas.Option.{slice_get-map, same_Some, none-some}
@@ -7,14 +7,13 @@ use Rattle.isle_syntax.specs.declared.ast.Pattern.{Pattern}
 use Rattle.isle_syntax.specs.declared.ast.Pattern.TheVariants as pattern
 use Rattle.isle_syntax.specs.declared.ast.Expr.{Expr}
 use Rattle.isle_syntax.specs.declared.ast.Expr.TheVariants as expr
-use Rattle.isle_syntax.specs.Trees.PatternTree.{PatternTree, PatternTrees, no_patterns, more_patterns}
 use Rattle.isle_syntax.specs.Trees.PatternShape.{pattern_of}
 use Rattle.isle_syntax.specs.Trees.ExprShape.{expr_of}
 use Rattle.isle_syntax.specs.Trees.WithoutPos.{no_pos, pattern_tree_without_pos, expr_tree_without_pos, pattern_without_pos, expr_without_pos}
 use Rattle.isle_types.specs.IntTypes.{builtin_names}
 use Rattle.isle_types.specs.Names.{position_of}
-use Rattle.isle_types.specs.Environment.{Environment, NamedType, NamedVariant, TypeShape, primitive, enum, struct, names_in}
-use Rattle.isle_terms.specs.Signatures.{Flags, Extractor, by_template, external_extractor, TermForm, variant_form, struct_form, declared_form}
+use Rattle.isle_types.specs.Environment.{Environment, NamedType, NamedVariant, TypeShape, primitive, enum, struct}
+use Rattle.isle_terms.specs.Signatures.{Extractor, by_template, external_extractor, TermForm, variant_form, struct_form, declared_form}
 use Rattle.isle_terms.specs.Signatures.{Signature, Declared, term_named, signature_of, template_of, put_in_for, has_constructor_form}
 use Rattle.isle_terms.specs.Signatures.{has_extractor_form, flags_of}
 use Rattle.isle_terms.specs.Elaboration.{type_named}
@@ -27,7 +26,7 @@ bare_variant variant = record { name = variant.name; fields = variant.fields; po
 abbrev pub bare_shape : TypeShape → TypeShape
 bare_shape (primitive host) = primitive host
 bare_shape (enum variants) = enum (map bare_variant variants)
-bare_shape (struct fields) = struct fields
+bare_shape (struct members) = struct members
 
 abbrev pub bare_type : NamedType → NamedType
 bare_type type = record {

@@ -1,15 +1,13 @@
 -- Definitions of one kind without positions, and what is said of names.
-use Rattle.std.proofs.Common.{◌≡◌, ℕ, zero, suc, ◌+◌, List, [], ◌∷◌, ◌++◌, map, Bool, true, false, Option, None, Some, codes}
-use Rattle.std.proofs.Common.{refl, sym, ◌∙◌, ap, subst}
+use Rattle.std.proofs.Common.{◌≡◌, ℕ, suc, ◌+◌, List, [], ◌∷◌, ◌++◌, map, Bool, true, false, Option, None, Some, codes}
+use Rattle.std.proofs.Common.{refl, ◌∙◌, ap}
 use Rattle.std.specs.Prelude.{if◌then◌else◌, ◌==◌}
 use Rattle.std.specs.List.{filter_map}
 use Rattle.std.specs.Option.{option_map}
 use Rattle.std.specs.Str.{bytes_eq}
 use Rattle.isle_syntax.specs.declared.ast.Ident.{Ident}
-use Rattle.isle_syntax.specs.declared.ast.Decl.{Decl as DeclTree}
 use Rattle.isle_syntax.specs.declared.ast.Rule.{Rule as RuleTree}
 use Rattle.isle_syntax.specs.declared.ast.Extractor.{Extractor as ExtractorTree}
-use Rattle.isle_syntax.specs.declared.ast.Converter.{Converter as ConverterTree}
 use Rattle.isle_syntax.specs.declared.ast.Extern.{Extern as ExternTree}
 use Rattle.isle_syntax.specs.declared.ast.Extern.TheVariants.{Constructor as extern_constructor, Extractor as extern_extractor}
 use Rattle.isle_syntax.specs.declared.ast.Extern.TheVariants.{Const as extern_const}
@@ -20,11 +18,11 @@ use Rattle.isle_syntax.specs.Trees.PatternTree.{PatternTree, PatternTrees, patte
 use Rattle.isle_syntax.specs.Trees.PatternTree.{pattern_term, pattern_wildcard, pattern_and, pattern_macro_arg, no_patterns, more_patterns}
 use Rattle.isle_syntax.specs.Trees.PatternShape.{pattern_of}
 use Rattle.isle_syntax.specs.Trees.Templates.{position_of_name, is_wildcard, argument_for, template_tree, template_trees}
-use Rattle.isle_syntax.specs.Trees.WithoutPos.{no_pos, ident_without_pos, pattern_tree_without_pos, pattern_trees_without_pos, pattern_without_pos}
+use Rattle.isle_syntax.specs.Trees.WithoutPos.{no_pos, ident_without_pos, pattern_tree_without_pos, pattern_trees_without_pos}
 use Rattle.isle_syntax.specs.Trees.WithoutPos.{decl_without_pos, rule_without_pos, extractor_without_pos, extern_without_pos, converter_without_pos}
 use Rattle.isle_syntax.specs.Trees.WithoutPos.{def_without_pos}
 use Rattle.isle_types.specs.Environment.{NamedType, NamedVariant, TypeShape, primitive, enum, struct, numbers_in}
-use Rattle.isle_terms.specs.Signatures.{Constructor, by_rules, external_constructor, Extractor as ExtractorForm, by_template, external_extractor, Signature, variant_form}
+use Rattle.isle_terms.specs.Signatures.{by_rules, external_constructor, Extractor as ExtractorForm, by_template, external_extractor, variant_form}
 use Rattle.isle_terms.specs.Definitions.{ExternalExtractor, as_declaration, as_rule, as_extractor, as_external, as_converter}
 use Rattle.isle_terms.specs.Definitions.{as_external_constructor, as_external_extractor, declarations, rules_in, extractors_in, converters_in}
 use Rattle.isle_terms.specs.Definitions.{external_constructors, external_extractors, root_name, roots_of, is_among, function_for, constructor_for}
@@ -272,7 +270,7 @@ shape_terms_bare : (ty : ℕ) (type : NamedType) (shape : TypeShape)
     → terms_of_shape ty (bare_type type) (bare_shape shape) ≡ map bare_term (terms_of_shape ty type shape)
 shape_terms_bare ty type (primitive host) = refl
 shape_terms_bare ty type (enum variants) = variant_terms_bare ty type.name 0 variants
-shape_terms_bare ty type (struct fields) = refl
+shape_terms_bare ty type (struct members) = refl
 
 pub map_joined : {X Y : Type 0} (f : X → Y) (xs ys : List X) → map f xs ++ map f ys ≡ map f (xs ++ ys)
 map_joined f [] ys = refl

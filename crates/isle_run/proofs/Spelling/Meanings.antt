@@ -1,5 +1,5 @@
 -- Positions of rules decide nothing of what calls mean, nor of faults.
-use Rattle.std.proofs.Common.{◌≡◌, ◌⊎◌, inl, inr, ℕ, zero, suc, List, [], map, Bool, true, false, Option, Some, None, slice_get, refl, sym, ◌∙◌, ap, subst}
+use Rattle.std.proofs.Common.{◌≡◌, inl, inr, ℕ, zero, suc, List, [], map, Bool, true, false, Option, Some, None, slice_get, sym, ◌∙◌, ap, subst}
 use Rattle.std.specs.Prelude.{◌≤ℤ◌}
 use Rattle.isle_syntax.specs.Trees.WithoutPos.{no_pos}
 use Rattle.isle_types.proofs.Zipped.{mapped_at}
@@ -7,7 +7,6 @@ use Rattle.isle_terms.specs.TypedRules.{TypedRule}
 use Rattle.isle_terms.specs.Meaning.Values.{Value, Values}
 use Rattle.isle_terms.specs.Meaning.Words.{word_of, steps_of}
 use Rattle.isle_terms.specs.Meaning.Answers.{Completion}
-use Rattle.isle_terms.specs.Meaning.Demands.{Demand}
 use Rattle.isle_terms.specs.Meaning.Facts.{TermFacts}
 use Rattle.isle_terms.specs.Meaning.Faults.{Overlaps, Shadows}
 use Rattle.isle_terms.specs.Meaning.Laws.{DemandOf}
@@ -18,10 +17,10 @@ use Rattle.isle_terms.specs.Meaning.Scopes.{Covers}
 use Rattle.isle_terms.specs.Meaning.Worlds.{CheckedProgram, Answers, Event}
 use Rattle.isle_terms.specs.Meaning.Calls.{Agrees, MakesIf, Makes, Told, Means, IsRuleAt}
 use Rattle.isle_blocks.specs.Closure.{Stands, HasAllFields}
-use Rattle.isle_blocks.specs.RuleFaults.{NeverMatches, MayMatch, IsUnreachableAt, MayMatchAt, AreRivals, AreOverlapping, IsShadowing, SitesStand}
+use Rattle.isle_blocks.specs.RuleFaults.{NeverMatches, MayMatchAt, AreRivals}
 use Rattle.isle_blocks.specs.RuleFaults.{AreFaultless, own_result}
 use Rattle.isle_run.specs.Laws.Order.{with_rules}
-use Rattle.isle_run.specs.Laws.Spelling.{typed_rule_without_pos, AreAlikePrograms, AlikeProgramsMeanTheSame}
+use Rattle.isle_run.specs.Laws.Spelling.{typed_rule_without_pos, AlikeProgramsMeanTheSame}
 use Rattle.isle_run.proofs.Chains.Deeper.{right_more}
 use Rattle.isle_run.proofs.Spelling.Bare.{there_bare}
 

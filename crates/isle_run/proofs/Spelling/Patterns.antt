@@ -1,16 +1,15 @@
 -- Positions decide nothing of what a pattern stands for.
-use Rattle.std.proofs.Common.{◌≡◌, ◌⊎◌, inl, inr, ℕ, zero, suc, ◌+◌, List, [], ◌∷◌, map, Option, None, Some, slice_get, refl, sym, ◌∙◌, ap, subst}
+use Rattle.std.proofs.Common.{◌≡◌, ◌⊎◌, inl, inr, ℕ, zero, suc, ◌+◌, List, [], ◌∷◌, map, Option, None, Some, refl, sym, ◌∙◌, ap, subst}
 use Rattle.std.specs.Prelude.{ℤ, Bool}
-use Rattle.std.specs.Option.{option_map, option_and_then}
+use Rattle.std.specs.Option.{option_map}
 use Rattle.std.proofs.lemmas.Option.{slice_get-map}
 use Rattle.isle_syntax.specs.Trees.PatternTree.{PatternTree, PatternTrees, pattern_var, pattern_bind, pattern_bool, pattern_int, pattern_prim}
 use Rattle.isle_syntax.specs.Trees.PatternTree.{pattern_term, pattern_wildcard, pattern_and, pattern_macro_arg, no_patterns, more_patterns}
-use Rattle.isle_syntax.specs.Trees.PatternTree.{pattern_pos}
 use Rattle.isle_syntax.specs.Trees.Templates.{filled, all_filled, more_given}
 use Rattle.isle_syntax.specs.Trees.WithoutPos.{no_pos, ident_without_pos, pattern_tree_without_pos, pattern_trees_without_pos}
 use Rattle.isle_types.proofs.Zipped.{mapped_at}
 use Rattle.isle_types.specs.Environment.{Environment, NamedType, TypeShape, primitive, enum, struct}
-use Rattle.isle_terms.specs.TypedRules.{TypedPattern, TypedPatterns, typed_term}
+use Rattle.isle_terms.specs.TypedRules.{TypedPattern, TypedPatterns}
 use Rattle.isle_terms.specs.Signatures.{Signature, Declared, put_in_for, Converts, has_extractor_form}
 use Rattle.isle_terms.specs.Elaboration.{IsLiteralOf, of_integer, of_primitive, State, counted, pattern_count, listed, each_at, PatternJudgement}
 use Rattle.isle_terms.specs.Elaboration.{EachPattern, TakesApart, Extracts, ConvertsPattern, PatternNode, Elaborates}
@@ -89,7 +88,7 @@ literal_there types ty val big (of_primitive place type host is at shape) =
 primitive_back : (shape : TypeShape) (host : List ℕ) → bare_shape shape ≡ primitive host → shape ≡ primitive host
 primitive_back (primitive own) host is = is
 primitive_back (enum variants) host is = absurd cc
-primitive_back (struct fields) host is = absurd cc
+primitive_back (struct members) host is = absurd cc
 
 pub literal_back : (types : Environment) (ty : ℕ) (val : ℤ) (big : Bool) → IsLiteralOf (bare_types types) ty val big → IsLiteralOf types ty val big
 literal_back types ty val big (of_integer int is has) = of_integer int is has

@@ -1,5 +1,5 @@
 -- Positions decide nothing of what the terms and values of definitions are.
-use Rattle.std.proofs.Common.{◌≡◌, ℕ, zero, suc, List, [], ◌∷◌, ◌++◌, map, Bool, ◌||◌, true, false, Option, None, Some, slice_get, unwrap_or}
+use Rattle.std.proofs.Common.{◌≡◌, ℕ, List, [], ◌∷◌, ◌++◌, map, Bool, ◌||◌, true, Option, None, Some, slice_get, unwrap_or}
 use Rattle.std.proofs.Common.{refl, sym, ◌∙◌, ap}
 use Rattle.std.specs.Prelude.{◌==◌}
 use Rattle.std.specs.List.{list_any}
@@ -11,9 +11,9 @@ use Rattle.isle_types.specs.Environment.{Environment, NamedType, NamedVariant, T
 use Rattle.isle_terms.specs.TypedRules.{TypedRule}
 use Rattle.isle_terms.specs.Signatures.{by_template, external_extractor, TermForm, variant_form, struct_form, declared_form, Signature, flags_of}
 use Rattle.isle_terms.specs.Definitions.{TermEnvironment, declared_by, names_of_terms}
-use Rattle.isle_terms.specs.Meaning.Facts.{TermFacts, shape_of_form, never_fails, no_term, type_shape, fields_of_variant, variant_types, struct_types}
+use Rattle.isle_terms.specs.Meaning.Facts.{shape_of_form, never_fails, no_term, type_shape, fields_of_variant, variant_types, struct_types}
 use Rattle.isle_terms.specs.Meaning.Facts.{facts_of}
-use Rattle.isle_terms.specs.Meaning.ValueTypes.{ValueFacts, TypeKind, no_kind}
+use Rattle.isle_terms.specs.Meaning.ValueTypes.{TypeKind, no_kind}
 use Rattle.isle_run.specs.DefinedPrograms.{builtin_kind, shape_kind, kinds_in, data_of_form, data_of, data_shape, signature_named, values_in}
 use Rattle.isle_run.specs.DefinedPrograms.{defined_program}
 use Rattle.isle_run.specs.Laws.Spelling.{typed_rule_without_pos, AreAlikePrograms}
@@ -72,12 +72,12 @@ fields_bare (Some variant) = refl
 variants_bare : (shape : TypeShape) (place : ℕ) → variant_types (bare_shape shape) place ≡ variant_types shape place
 variants_bare (primitive host) place = refl
 variants_bare (enum variants) place = ap fields_of_variant (slice_get-map bare_variant variants place) ∙ fields_bare (slice_get variants place)
-variants_bare (struct fields) place = refl
+variants_bare (struct members) place = refl
 
 structs_bare : (shape : TypeShape) → struct_types (bare_shape shape) ≡ struct_types shape
 structs_bare (primitive host) = refl
 structs_bare (enum variants) = refl
-structs_bare (struct fields) = refl
+structs_bare (struct members) = refl
 
 -- what declarations say of terms
 pub facts_bare : (types : Environment) (environment : TermEnvironment)
@@ -104,7 +104,7 @@ facts_bare types environment =
 kind_bare : (shape : TypeShape) → shape_kind (bare_shape shape) ≡ shape_kind shape
 kind_bare (primitive host) = refl
 kind_bare (enum variants) = refl
-kind_bare (struct fields) = refl
+kind_bare (struct members) = refl
 
 kinds_bare : (types : Environment) → kinds_in (bare_types types) ≡ kinds_in types
 kinds_bare types =

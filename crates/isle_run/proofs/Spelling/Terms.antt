@@ -1,5 +1,5 @@
 -- Positions decide nothing of what terms, converters and rules definitions make but the positions of what is made.
-use Rattle.std.proofs.Common.{◌≡◌, ◌≤◌, ◌⊎◌, inl, inr, ℕ, List, [], ◌∷◌, ◌++◌, map, length, Bool, true, false, Option, None, Some, slice_get, is_some}
+use Rattle.std.proofs.Common.{◌≡◌, ◌≤◌, ◌⊎◌, ℕ, List, ◌++◌, map, length, Bool, true, false, Option, None, Some, slice_get, is_some}
 use Rattle.std.proofs.Common.{refl, sym, ◌∙◌, ap, subst}
 use Rattle.std.specs.List.{All, AllZip}
 use Rattle.std.specs.Option.{option_map}
@@ -14,17 +14,17 @@ use Rattle.isle_syntax.specs.Trees.WithoutPos.{no_pos, ident_without_pos, decl_w
 use Rattle.isle_syntax.specs.Trees.WithoutPos.{converter_without_pos, def_without_pos}
 use Rattle.isle_types.specs.IntTypes.{builtin_names}
 use Rattle.isle_types.specs.Names.{AreDistinct}
-use Rattle.isle_types.specs.Environment.{Environment, NamedType}
+use Rattle.isle_types.specs.Environment.{Environment}
 use Rattle.isle_types.proofs.Zipped.{mapped_at}
 use Rattle.isle_terms.specs.TypedRules.{TypedRule}
-use Rattle.isle_terms.specs.Signatures.{Flags, Constructor, Extractor as ExtractorForm, declared_form, Signature, Conversion, Declared}
+use Rattle.isle_terms.specs.Signatures.{Flags, Extractor as ExtractorForm, declared_form, Signature, Conversion, Declared}
 use Rattle.isle_terms.specs.Definitions.{IsAmong, ExternalExtractor, declarations, rules_in, extractors_in, converters_in, external_constructors}
 use Rattle.isle_terms.specs.Definitions.{external_extractors, constructor_for, extractor_for, flags_in, IsTypeNumber, IsDeclaration, terms_of_types}
 use Rattle.isle_terms.specs.Definitions.{names_of_terms, AreTerms, IsDeclared, IsTerm, term_names, ComesTo, at_once, further, KeepExtractorRules}
-use Rattle.isle_terms.specs.Definitions.{KeepConstructorRules, IsConversion, AreConversions, IsDefined, roots_of, name_of, IsRuleOf}
-use Rattle.isle_terms.specs.Definitions.{TermEnvironment, declared_by, rule_names, MakesTerms, external_constructor_names, pair_of}
+use Rattle.isle_terms.specs.Definitions.{KeepConstructorRules, IsConversion, AreConversions, IsDefined, name_of, IsRuleOf}
+use Rattle.isle_terms.specs.Definitions.{TermEnvironment, declared_by, rule_names, MakesTerms}
 use Rattle.isle_run.specs.Laws.Spelling.{typed_rule_without_pos}
-use Rattle.isle_run.proofs.Spelling.Bare.{bare, bare_types, bare_type, bare_form, bare_extractor, bare_term, bare_terms, pattern_bare, term_names_bare}
+use Rattle.isle_run.proofs.Spelling.Bare.{bare, bare_types, bare_form, bare_extractor, bare_term, bare_terms, pattern_bare, term_names_bare}
 use Rattle.isle_run.proofs.Spelling.Bare.{type_named_bare, there_bare}
 use Rattle.isle_run.proofs.Spelling.Types.{bare_pair, map_length}
 use Rattle.isle_run.proofs.Spelling.Rules.{rule_there, rule_back}

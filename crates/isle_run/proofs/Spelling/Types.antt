@@ -1,11 +1,9 @@
 -- Positions decide nothing of what types and constants definitions make.
-use Rattle.std.proofs.Common.{◌≡◌, ◌≤◌, ℕ, suc, List, [], ◌∷◌, ◌++◌, map, length, Bool, true, false, Option, None, Some, refl, sym, ◌∙◌, ap, subst}
+use Rattle.std.proofs.Common.{◌≡◌, ◌≤◌, ℕ, suc, List, [], ◌∷◌, ◌++◌, map, length, Bool, refl, sym, ◌∙◌, ap, subst}
 use Rattle.std.specs.List.{AllZip, AllByRecursion}
 use Rattle.std.specs.Option.{option_map}
-use Rattle.isle_syntax.specs.declared.lexer.Pos.{Pos}
 use Rattle.isle_syntax.specs.declared.ast.Ident.{Ident}
 use Rattle.isle_syntax.specs.declared.ast.StructField.{StructField}
-use Rattle.isle_syntax.specs.declared.ast.TupleField.{TupleField}
 use Rattle.isle_syntax.specs.declared.ast.Fields.{Fields}
 use Rattle.isle_syntax.specs.declared.ast.Fields.TheVariants.{Unit as no_field_trees, Struct as struct_field_trees, Tuple as tuple_field_trees}
 use Rattle.isle_syntax.specs.declared.ast.Variant.{Variant}
@@ -16,14 +14,14 @@ use Rattle.isle_syntax.specs.declared.ast.Extern.{Extern as ExternTree}
 use Rattle.isle_syntax.specs.declared.ast.Extern.TheVariants.{Constructor as extern_constructor, Extractor as extern_extractor, Const as extern_const}
 use Rattle.isle_syntax.specs.declared.ast.Def.{Def}
 use Rattle.isle_syntax.specs.declared.ast.Def.TheVariants.{TypeDef, Decl, Rule, Extractor, Extern, Converter, Pragma, Kept}
-use Rattle.isle_syntax.specs.Trees.WithoutPos.{no_pos, ident_without_pos, struct_field_without_pos, tuple_field_without_pos, fields_without_pos}
+use Rattle.isle_syntax.specs.Trees.WithoutPos.{ident_without_pos, struct_field_without_pos, tuple_field_without_pos, fields_without_pos}
 use Rattle.isle_syntax.specs.Trees.WithoutPos.{variant_without_pos, type_value_without_pos, type_without_pos, extern_without_pos, def_without_pos}
 use Rattle.isle_types.specs.IntTypes.{builtin_names}
 use Rattle.isle_types.specs.Names.{AreDistinct}
 use Rattle.isle_types.specs.Environment.{Environment, NamedType, NamedVariant, FieldList, no_fields, named_fields, tuple_fields, TypeShape}
 use Rattle.isle_types.specs.Environment.{primitive, enum, struct, as_type, type_definitions, as_external_constant, as_constant}
 use Rattle.isle_types.specs.Environment.{constant_definitions, type_names, IsField, IsTupleField, AreFields, IsVariant, IsShape, MayBeMarked}
-use Rattle.isle_types.specs.Environment.{IsType, IsConstant, Makes, field_count, HaveAllowedSizes, HasAllowedSize, AreWithinSizes}
+use Rattle.isle_types.specs.Environment.{IsType, IsConstant, Makes, field_count, HasAllowedSize, AreWithinSizes}
 use Rattle.isle_run.proofs.Spelling.Bare.{bare_variant, bare_shape, bare_type, bare_types}
 use Rattle.isle_run.proofs.Spelling.Zips.{filter_mapped, map_same, each_mapped, each_unmapped, zip_mapped, zip_first, zip_first_back, zip_back}
 
@@ -128,11 +126,11 @@ module _ (known : List (List ℕ)) where
     zip_mapped (IsVariant known) (IsVariant known) variant_without_pos bare_variant variant_there trees variants h.0,
     subst AreDistinct (sym (variant_names variants)) h.1,
   )
-  shape_there (Struct trees _) (struct fields) h = fields_there trees fields h
+  shape_there (Struct trees _) (struct members) h = fields_there trees members h
   shape_there (Primitive host _) (enum variants) h = absurd h
-  shape_there (Primitive host _) (struct fields) h = absurd h
+  shape_there (Primitive host _) (struct members) h = absurd h
   shape_there (Enum trees _) (primitive name) h = absurd h
-  shape_there (Enum trees _) (struct fields) h = absurd h
+  shape_there (Enum trees _) (struct members) h = absurd h
   shape_there (Struct trees _) (primitive name) h = absurd h
   shape_there (Struct trees _) (enum variants) h = absurd h
 
@@ -143,11 +141,11 @@ module _ (known : List (List ℕ)) where
       let own = zip_back (IsVariant known) (IsVariant known) variant_without_pos bare_variant variant_back trees variants h.0 in
       let names = sym (variant_names (own.0)) ∙ ap (map (λ (variant : NamedVariant). variant.name)) (own.2) in
       (enum (own.0), (own.1, subst AreDistinct (sym names) h.1), ap enum (own.2))
-  shape_back (Struct trees _) (struct fields) h = (struct fields, fields_back trees fields h, refl)
+  shape_back (Struct trees _) (struct members) h = (struct members, fields_back trees members h, refl)
   shape_back (Primitive host _) (enum variants) h = absurd h
-  shape_back (Primitive host _) (struct fields) h = absurd h
+  shape_back (Primitive host _) (struct members) h = absurd h
   shape_back (Enum trees _) (primitive name) h = absurd h
-  shape_back (Enum trees _) (struct fields) h = absurd h
+  shape_back (Enum trees _) (struct members) h = absurd h
   shape_back (Struct trees _) (primitive name) h = absurd h
   shape_back (Struct trees _) (enum variants) h = absurd h
 

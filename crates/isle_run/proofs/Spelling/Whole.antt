@@ -1,21 +1,19 @@
 -- How definitions are spelt means nothing.
-use Rattle.std.proofs.Common.{◌≡◌, ℕ, List, map, Bool, true, refl, sym, ◌∙◌, ap, subst, subst₂}
+use Rattle.std.proofs.Common.{◌≡◌, List, map, Bool, true, sym, ◌∙◌, ap, subst, subst₂}
 use Rattle.isle_syntax.specs.declared.ast.Def.{Def}
 use Rattle.isle_syntax.specs.Positions.Files.{SourceFile}
 use Rattle.isle_syntax.specs.Trees.WithoutPos.{def_without_pos}
 use Rattle.isle_types.specs.Environment.{Environment, Makes, AreWithinSizes}
 use Rattle.isle_types.proofs.OneEnvironment.{one_environment}
-use Rattle.isle_terms.specs.TypedRules.{TypedRule}
 use Rattle.isle_terms.specs.Definitions.{TermEnvironment, MakesTerms, declared_by}
 use Rattle.isle_terms.specs.Meaning.Facts.{TermFacts, facts_of}
 use Rattle.isle_terms.specs.Meaning.Worlds.{CheckedProgram}
 use Rattle.isle_terms.proofs.OneTermEnvironment.{one_term_environment}
 use Rattle.isle_blocks.specs.RuleFaults.{AreFaultless}
 use Rattle.isle_run.specs.declared.program.Program.{Program}
-use Rattle.isle_run.specs.Compiled.{AreSpelt, AreTypedFiles, AreAccepted, IsProgramOf, max_levels, max_nodes}
+use Rattle.isle_run.specs.Compiled.{IsProgramOf, max_levels, max_nodes}
 use Rattle.isle_run.specs.DefinedPrograms.{defined_program}
 use Rattle.isle_run.specs.Meanings.{checked}
-use Rattle.isle_run.specs.Programs.{terms_of}
 use Rattle.isle_run.specs.Laws.Spelling.{AreAlike, AreAlikePrograms, AlikeTextsAreAcceptedAlike, AlikeTextsMakeAlikePrograms}
 use Rattle.isle_run.specs.Laws.Spelling.{typed_rule_without_pos}
 use Rattle.isle_run.proofs.Compiling.OneAcceptance.{files_spelt_once}

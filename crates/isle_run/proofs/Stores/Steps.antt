@@ -1,20 +1,18 @@
 -- The steps in which the value of a number is printed.
-use Rattle.std.proofs.Common.{◌≡◌, ◌++◌, ℕ, zero, suc, List, [], ◌∷◌, Some, None, slice_get}
+use Rattle.std.proofs.Common.{◌≡◌, ◌++◌, ℕ, zero, suc, List, [], ◌∷◌, Some, slice_get}
 use Rattle.std.proofs.Common.{length, map, reverse, unwrap_or, refl, sym, ◌∙◌, ap, subst, append_assoc}
 use Rattle.std.proofs.lemmas.List.{reverse-append}
 use Rattle.std.proofs.lemmas.Option.{none-some}
 use Rattle.isle_types.specs.declared.ids.TypeId.{TypeId}
-use Rattle.isle_types.specs.declared.ids.VariantId.{VariantId}
 use Rattle.isle_types.specs.TypeTables.{TypeTables}
 use Rattle.isle_types.specs.TypeEnvs.{type_at}
 use Rattle.isle_terms.specs.Values.{ValueTree, ValueTrees, data_value as data_tree, no_values as no_trees, more_values as more_trees}
 use Rattle.isle_terms.specs.Values.{value_list}
-use Rattle.isle_terms.specs.Meaning.Values.{Value, Values, bool_value, int_value, constant_value, opaque_value, made_variant, made_struct}
+use Rattle.isle_terms.specs.Meaning.Values.{Value, Values}
 use Rattle.isle_terms.specs.Meaning.Values.{no_values, more_values}
 use Rattle.isle_terms.specs.Meaning.ValueTypes.{ValueFacts, IsOfType, AreOfTypes}
 use Rattle.isle_terms.specs.Meaning.GroundValues.{value_of, values_of}
 use Rattle.isle_run.specs.declared.store.Stored.{Stored}
-use Rattle.isle_run.specs.declared.store.Stored.TheVariants.{Variant, Struct}
 use Rattle.isle_run.specs.declared.store.printing.Step.{Step}
 use Rattle.isle_run.specs.declared.store.printing.Step.TheVariants.{Number, Data}
 use Rattle.isle_run.specs.Values.Nodes.{count_of, joined, first_values, later_values, put, nodes_of, value_in}

@@ -1,4 +1,4 @@
-use Rattle.std.proofs.Common.{◌≡◌, ◌-◌, ◌++◌, ℕ, suc, List, [], ◌∷◌, refl, sym, subst, reverse, arith}
+use Rattle.std.proofs.Common.{◌≡◌, ◌-◌, ℕ, suc, List, [], refl, sym, subst, reverse, arith}
 use Rattle.isle_terms.specs.Meaning.Asking.{spent}
 use Rattle.isle_terms.specs.Meaning.GroundValues.{values_of}
 use Rattle.isle_terms.specs.Values.{ValueTree, value_list}
