@@ -1,12 +1,11 @@
 //! Printing texts by the layout.
-ghost use Rattle.std.specs.Prelude.{◌≡◌, ◌<◌, ◌≢◌, length, map, slice_get, string_bytes, IfErr, IfOk, IfSome};
+ghost use Rattle.std.specs.Prelude.{◌≡◌, ◌<◌, ◌≢◌, ◌⊎◌, length, map, slice_get, string_bytes, IfErr, IfOk, IfSome};
 ghost use Rattle.isle_layout.specs.Formats.{Formats};
 ghost use Rattle.isle_syntax.specs.Errors.{IfFault, RefusalAt};
 ghost use Rattle.isle_syntax.specs.Positions.Files.{source_file};
 ghost use Rattle.isle_syntax.specs.Positions.Printable.{IsPrintablePos};
 ghost use Rattle.isle_syntax.specs.Grammar.Texts.{IsFaultIn};
 ghost use Rattle.islec.specs.Formatting.{WritesPrints, WritesFault, CutsPrints};
-ghost use Rattle.islec.specs.Statuses.{IsEnd};
 ghost use Rattle.std.specs.Io.KnownBytes.{Keeps};
 ghost use Rattle.islec.specs.declared.status.Status.{Status};
 
@@ -31,7 +30,7 @@ pub fn format<W: Write>(
         (map source_file texts.items) (W.contents writer.old) (W.contents writer.new)) }
     ensures refused { IfOk result (λ status. status ≡ Status.TextsRefused → WritesFault
         (map source_file texts.items) (W.contents writer.old) (W.contents writer.new)) }
-    ensures other { IfOk result IsEnd }
+    ensures other { IfOk result (λ status. (status ≡ Status.AllWell) ⊎ (status ≡ Status.TextsRefused)) }
     ensures cut { IfErr result (λ fault. fault ≢ ServeFault.Memory → CutsPrints width
         (map source_file texts.items) (W.contents writer.old) (W.contents writer.new)) }
     ensures memory { IfErr result (λ fault. fault ≡ ServeFault.Memory → Keeps

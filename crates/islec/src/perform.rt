@@ -47,6 +47,7 @@ pub fn perform<R: Read, W: Write>(
         (W.contents writer.old) (W.contents writer.new) (codes "out of memory\n") }
     ensures refused { (width : ℕ) → job ≡ Fmt width → result ≡ 1 → WritesFault
         (map source_file texts.items) (W.contents writer.old) (W.contents writer.new) }
+    ensures unanswered { (width : ℕ) → job ≡ Fmt width → result ≢ 3 }
     ensures accepted { (depth : ℕ) (plain : Bool) → job ≡ Run depth plain → (result ≡ 0) ⊎ (result ≡ 3)
         → AreAccepted (map source_file texts.items) }
     ensures all_well { (depth : ℕ) (plain : Bool) → job ≡ Run depth plain → result ≡ 0 → WritesAnswers

@@ -130,7 +130,8 @@ returns-clause-ends g c = (
         (g.W.Write.contents w.conclude-status-in-Check.new.writer) w.conclude-status-in-Check.ensures
         (ends_otherwise w.check-done.result (checked_end w.check-done.result w.check-done.ensures.other)))
     | in-Fmt w ↦ rw w.status-is (never_usage w.format-done.result w.conclude-status-in-Fmt.result (g.W.Write.contents w.format-done.new.writer)
-        (g.W.Write.contents w.conclude-status-in-Fmt.new.writer) w.conclude-status-in-Fmt.ensures (ends_otherwise w.format-done.result w.format-done.ensures.other))
+        (g.W.Write.contents w.conclude-status-in-Fmt.new.writer) w.conclude-status-in-Fmt.ensures
+        (ends_otherwise w.format-done.result (checked_end w.format-done.result w.format-done.ensures.other)))
   ],
   c.code.ensures,
 )
@@ -144,6 +145,17 @@ returns-clause-unasked g c = λ terms is code.
           (g.W.Write.contents w.conclude-status-in-Check.new.writer) w.conclude-status-in-Check.ensures w.check-done.ensures.other
           (sym w.status-is ∙ status)
       | in-Fmt w ↦ absurd (check_no_fmt c.args.job terms w.in-Fmt.width is w.in-Fmt.is)
+    ]
+
+pub returns-clause-unanswered : goal.returns-clause-unanswered
+returns-clause-unanswered g c = λ width is code.
+    let status = same_code c.match-job.status SomeRefused (sym c.code.ensures ∙ code) in
+    elim c.match-job.branch [
+      | in-Run w ↦ absurd (run_no_fmt c.args.job w.in-Run.depth w.in-Run._plain width w.in-Run.is is)
+      | in-Check w ↦ absurd (check_no_fmt c.args.job w.in-Check.terms width w.in-Check.is is)
+      | in-Fmt w ↦ never_some_refused w.format-done.result w.conclude-status-in-Fmt.result (g.W.Write.contents w.format-done.new.writer)
+          (g.W.Write.contents w.conclude-status-in-Fmt.new.writer) w.conclude-status-in-Fmt.ensures w.format-done.ensures.other
+          (sym w.status-is ∙ status)
     ]
 
 pub returns-clause-accepted : goal.returns-clause-accepted
@@ -209,7 +221,7 @@ returns-clause-format_failed g c = λ width is code.
           (at_failure (λ n. CutsPrints width (map source_file c.args.texts.items) (g.W.Write.contents c.args.writer.now) n)
           w.format-done.result w.conclude-status-in-Fmt.result (g.W.Write.contents w.format-done.new.writer)
           (g.W.Write.contents w.conclude-status-in-Fmt.new.writer) w.conclude-status-in-Fmt.ensures (sym w.status-is ∙ status)
-          w.format-done.ensures.other (rw (same_width c.args.job width w.in-Fmt.width is w.in-Fmt.is) at w.format-done.ensures.cut))
+          (checked_end w.format-done.result w.format-done.ensures.other) (rw (same_width c.args.job width w.in-Fmt.width is w.in-Fmt.is) at w.format-done.ensures.cut))
     ]
 
 pub returns-clause-format_ran_out : goal.returns-clause-format_ran_out
@@ -224,5 +236,5 @@ returns-clause-format_ran_out g c = λ width is code.
           (out_of_memory (λ n. Keeps (g.W.Write.contents c.args.writer.now) n)
           w.format-done.result w.conclude-status-in-Fmt.result (g.W.Write.contents w.format-done.new.writer)
           (g.W.Write.contents w.conclude-status-in-Fmt.new.writer) w.conclude-status-in-Fmt.ensures (sym w.status-is ∙ status)
-          w.format-done.ensures.other w.format-done.ensures.memory))
+          (checked_end w.format-done.result w.format-done.ensures.other) w.format-done.ensures.memory))
     ]
