@@ -29,9 +29,9 @@ commands:
 	python3 tools/replay.py $(PROGRAM) run tests/vectors/*.json
 	python3 tools/replay.py $(PROGRAM) world tests/vectors/*.json
 
-# Wrong bodies beyond those that the gate tries, as long as the proof of their crates.
+# Wrong bodies beyond those that the gate tries, as long as the proof of their crates: all, or those of CRATES.
 edits:
-	tools/edits.sh
+	tools/edits.sh $(CRATES)
 
 install: build
 	install -D $(PROGRAM) $(DESTDIR)$(PREFIX)/bin/islec
