@@ -20,3 +20,15 @@ pub mod RunLemmas
 pub mod WorldLemmas
 -- Effects are answered as a world may.
 pub mod EffectLemmas
+-- Words that a simple command takes give values that fit its arguments.
+pub mod WalkRows
+-- Words with no fault never stop at `help`.
+pub mod WalkStops
+-- The rows of words with no fault are what the arguments ask.
+pub mod FilledRows
+-- What the words of `islec` give where they have no fault.
+pub mod CommandLemmas
+-- The values that each command's rows hold.
+pub mod ValueLemmas
+-- What `islec` finds in words that are written out.
+pub mod CommandCases

@@ -18,3 +18,9 @@ pub mod Faults
 pub mod Worlds
 -- What a check writes of a program.
 pub mod Terms
+-- The command `islec` and its arguments, as `clap` reads them.
+pub mod Commands
+-- What holds of the values that a simple command finds in words that it takes.
+pub mod Rows
+-- What the words of a command line say.
+pub mod Lines

@@ -1,8 +1,14 @@
 //! The words of a command line.
-ghost use Rattle.std.specs.Prelude.{◌≡◌, ◌<◌, IfOk, IfSome, vec_len, alloc_error};
+ghost use Rattle.std.specs.Prelude.{◌≡◌, ◌<◌, IfErr, IfOk, codes, map, vec_len, alloc_error};
+ghost use Rattle.clap.specs.Words.{found_of, rows_of};
 ghost use Rattle.islec.specs.declared.line.LineFault.TheVariants.{Memory};
 ghost use Rattle.islec.specs.Faults.{BecomesFault};
 ghost use Rattle.islec.specs.Jobs.{HasFiles};
+ghost use Rattle.islec.specs.Commands.{IsArgument, IsCommand, check, check_rules, fmt};
+ghost use Rattle.islec.specs.Commands.{depth as the_depth, rule_files as the_files};
+ghost use Rattle.islec.specs.Commands.{fmt_rules, islec, run, run_rules};
+ghost use Rattle.islec.specs.Lines.{ReadsLine, RefusesLine, SaysLine, names_of};
+ghost use Rattle.islec.specs.Rows.{FillsRules};
 
 use clap::builder::ValueParser;
 use clap::error::ErrorKind;
@@ -63,29 +69,26 @@ impl From<AllocError> for LineFault {
 /// Reads the words of a command line, of which the first is the program's name.
 pub fn line_of<S: AsStr>(alloc: Global, words: &[S]) -> Result<Line, LineFault>
     ensures files { IfOk result (λ line. HasFiles line.job (vec_len line.files)) }
+    ensures reads { IfOk result (λ line. ReadsLine (map S.text words.now) line) }
+    ensures refused { IfErr result (λ fault. RefusesLine (map S.text words.now) fault) }
 {
     let mut command = command(alloc)?;
     let matches = command.try_get_matches_from_mut(words)?;
     if let Some(run) = matches.subcommand_matches("run") {
-        if let Some(line) = run_line(alloc, run)? {
-            return Ok(line);
-        }
+        return Ok(run_line(alloc, run)?);
     }
     if let Some(check) = matches.subcommand_matches("check") {
-        if let Some(line) = check_line(alloc, check)? {
-            return Ok(line);
-        }
+        return Ok(check_line(alloc, check)?);
     }
-    if let Some(fmt) = matches.subcommand_matches("fmt") {
-        if let Some(line) = fmt_line(alloc, fmt)? {
-            return Ok(line);
-        }
-    }
-    let fault = command.error(ErrorKind::MissingSubcommand, "a command is required")?;
-    Err(LineFault::Usage(fault))
+    let Some(fmt) = matches.subcommand_matches("fmt") else {
+        unreachable!()
+    };
+    Ok(fmt_line(alloc, fmt)?)
 }
 
-fn command<'a>(alloc: Global) -> Result<Command<'a>, AllocError> {
+fn command<'a>(alloc: Global) -> Result<Command<'a>, AllocError>
+    ensures { IfOk result (IsCommand islec) }
+{
     Command::new(alloc, "islec")
         .about("Compiles files of ISLE rules and answers queries by them")
         .subcommand_required(true)
@@ -94,13 +97,9 @@ fn command<'a>(alloc: Global) -> Result<Command<'a>, AllocError> {
         .subcommand(fmt_command(alloc)?)
 }
 
-fn run_command<'a>(alloc: Global) -> Result<Command<'a>, AllocError> {
-    let depth = Arg::new(alloc, "depth")
-        .long("depth")
-        .value_name("N")
-        .help("How many calls of terms with rules may be open at once")
-        .value_parser(clap::value_parser!(u32))
-        .default_value("100");
+fn run_command<'a>(alloc: Global) -> Result<Command<'a>, AllocError>
+    ensures { IfOk result (IsCommand run) }
+{
     let world = Arg::new(alloc, "world")
         .long("world")
         .value_name("FILE")
@@ -112,12 +111,25 @@ fn run_command<'a>(alloc: Global) -> Result<Command<'a>, AllocError> {
     Command::new(alloc, "run")
         .about("Answers queries from standard input, one a line")
         .arg(world)?
-        .arg(depth)?
+        .arg(depth(alloc))?
         .arg(plain)?
         .arg(rule_files(alloc))
 }
 
-fn check_command<'a>(alloc: Global) -> Result<Command<'a>, AllocError> {
+fn depth<'a>(alloc: Global) -> Arg<'a>
+    ensures { IsArgument the_depth result }
+{
+    Arg::new(alloc, "depth")
+        .long("depth")
+        .value_name("N")
+        .help("How many calls of terms with rules may be open at once")
+        .value_parser(clap::value_parser!(u32))
+        .default_value("100")
+}
+
+fn check_command<'a>(alloc: Global) -> Result<Command<'a>, AllocError>
+    ensures { IfOk result (IsCommand check) }
+{
     let terms = Arg::new(alloc, "terms")
         .long("terms")
         .help("Tell of each term with rules whether it can be run, and its most steps")
@@ -128,7 +140,9 @@ fn check_command<'a>(alloc: Global) -> Result<Command<'a>, AllocError> {
         .arg(rule_files(alloc))
 }
 
-fn rule_files<'a>(alloc: Global) -> Arg<'a> {
+fn rule_files<'a>(alloc: Global) -> Arg<'a>
+    ensures { IsArgument the_files result }
+{
     Arg::new(alloc, "file")
         .value_name("FILE")
         .help("The rule files, compiled together in this order")
@@ -137,7 +151,9 @@ fn rule_files<'a>(alloc: Global) -> Arg<'a> {
         .required(true)
 }
 
-fn fmt_command<'a>(alloc: Global) -> Result<Command<'a>, AllocError> {
+fn fmt_command<'a>(alloc: Global) -> Result<Command<'a>, AllocError>
+    ensures { IfOk result (IsCommand fmt) }
+{
     let width = Arg::new(alloc, "width")
         .long("width")
         .value_name("N")
@@ -154,64 +170,60 @@ fn fmt_command<'a>(alloc: Global) -> Result<Command<'a>, AllocError> {
         .arg(file)
 }
 
-// `None` where the matches have no depth or no file, as matches of `run` always have.
-fn run_line(alloc: Global, matches: &ArgMatches<'_>) -> Result<Option<Line>, AllocError>
-    ensures { IfOk result (λ read. IfSome read (λ line. HasFiles line.job (vec_len line.files))) }
+fn run_line(alloc: Global, matches: &ArgMatches<'_>) -> Result<Line, AllocError>
+    requires { FillsRules run_rules (rows_of (found_of matches.now)) }
+    ensures files { IfOk result (λ line. HasFiles line.job (vec_len line.files)) }
+    ensures says { IfOk result (λ line. SaysLine (codes "run") (rows_of (found_of matches.now)) line) }
 {
     let Some(depth) = matches.get_one::<u32>("depth") else {
-        return Ok(None);
+        unreachable!()
     };
     let files = copies(alloc, matches.get_strs("file").unwrap_or(&[]))?;
-    if files.is_empty() {
-        return Ok(None);
-    }
     let plain = matches.get_flag("plain");
     let world = match matches.get_str("world") {
         Some(name) => Some(String::from_str(alloc, name)?),
         None => None,
     };
-    Ok(Some(Line {
+    Ok(Line {
         job: Job::Run { depth, plain },
         files,
         world,
-    }))
+    })
 }
 
-// `None` where the matches have no file, as matches of `check` always have.
-fn check_line(alloc: Global, matches: &ArgMatches<'_>) -> Result<Option<Line>, AllocError>
-    ensures { IfOk result (λ read. IfSome read (λ line. HasFiles line.job (vec_len line.files))) }
+fn check_line(alloc: Global, matches: &ArgMatches<'_>) -> Result<Line, AllocError>
+    requires { FillsRules check_rules (rows_of (found_of matches.now)) }
+    ensures files { IfOk result (λ line. HasFiles line.job (vec_len line.files)) }
+    ensures says { IfOk result (λ line. SaysLine (codes "check") (rows_of (found_of matches.now)) line) }
 {
     let files = copies(alloc, matches.get_strs("file").unwrap_or(&[]))?;
-    if files.is_empty() {
-        return Ok(None);
-    }
     let terms = matches.get_flag("terms");
-    Ok(Some(Line {
+    Ok(Line {
         job: Job::Check { terms },
         files,
         world: None,
-    }))
+    })
 }
 
-// `None` where the matches have no width or no file, as matches of `fmt` always have.
-fn fmt_line(alloc: Global, matches: &ArgMatches<'_>) -> Result<Option<Line>, AllocError>
-    ensures { IfOk result (λ read. IfSome read (λ line. HasFiles line.job (vec_len line.files))) }
+fn fmt_line(alloc: Global, matches: &ArgMatches<'_>) -> Result<Line, AllocError>
+    requires { FillsRules fmt_rules (rows_of (found_of matches.now)) }
+    ensures files { IfOk result (λ line. HasFiles line.job (vec_len line.files)) }
+    ensures says { IfOk result (λ line. SaysLine (codes "fmt") (rows_of (found_of matches.now)) line) }
 {
     let Some(width) = matches.get_one::<u32>("width") else {
-        return Ok(None);
+        unreachable!()
     };
     let files = copies(alloc, matches.get_strs("file").unwrap_or(&[]))?;
-    if files.len() != 1 {
-        return Ok(None);
-    }
-    Ok(Some(Line {
+    Ok(Line {
         job: Job::Fmt { width },
         files,
         world: None,
-    }))
+    })
 }
 
-fn copies(alloc: Global, names: &[&str]) -> Result<Vec<String>, AllocError> {
+fn copies(alloc: Global, names: &[&str]) -> Result<Vec<String>, AllocError>
+    ensures { IfOk result (λ copies. names_of copies ≡ map (λ name. name.now) names.now) }
+{
     let mut copies = Vec::new(alloc);
     for name in names {
         copies.push(String::from_str(alloc, name)?)?;

@@ -1,0 +1,59 @@
+-- What `islec` finds in words that are written out.
+use Rattle.std.proofs.Common.{◌≡◌, refl, List, [], ◌∷◌, Some, true, codes, option_map}
+use Rattle.clap.specs.Walk.{Text, all_of, first_of}
+use Rattle.clap.specs.Words.{fault_of, subcommand_of}
+use Rattle.clap.specs.declared.error.kind.ErrorKind.TheVariants as kind
+use Rattle.clap.proofs.OnLiterals.{clap_on_literals}
+use Rattle.islec.specs.Commands.{islec}
+use Rattle.islec.specs.Lines.{flag_of, number_of}
+
+-- a run of two files with a world and a depth
+abbrev run_words : List Text
+run_words = codes "islec" ∷ codes "run" ∷ codes "--world=w.isle" ∷ codes "--depth" ∷ codes "7" ∷ codes "a.isle" ∷ codes "b.isle" ∷ []
+
+run_is_taken : fault_of islec run_words ≡ []
+unfolding clap_on_literals
+run_is_taken = refl
+
+run_files : option_map (λ p. all_of (codes "file") p.1) (subcommand_of islec run_words) ≡ Some (Some (codes "a.isle" ∷ codes "b.isle" ∷ []))
+unfolding clap_on_literals
+run_files = refl
+
+run_depth : option_map (λ p. number_of (codes "depth") p.1) (subcommand_of islec run_words) ≡ Some (Some 7)
+unfolding clap_on_literals
+run_depth = refl
+
+run_world : option_map (λ p. first_of (codes "world") p.1) (subcommand_of islec run_words) ≡ Some (Some (codes "w.isle"))
+unfolding clap_on_literals
+run_world = refl
+
+-- a check, and a layout with no width
+check_flag : option_map (λ p. flag_of (codes "terms") p.1)
+    (subcommand_of islec (codes "islec" ∷ codes "check" ∷ codes "--terms" ∷ codes "a.isle" ∷ [])) ≡ Some true
+unfolding clap_on_literals
+check_flag = refl
+
+fmt_width : option_map (λ p. number_of (codes "width") p.1) (subcommand_of islec (codes "islec" ∷ codes "fmt" ∷ codes "a.isle" ∷ [])) ≡ Some (Some 80)
+unfolding clap_on_literals
+fmt_width = refl
+
+-- words that are refused
+no_command : fault_of islec (codes "islec" ∷ []) ≡ kind.MissingSubcommand ∷ []
+unfolding clap_on_literals
+no_command = refl
+
+no_file : fault_of islec (codes "islec" ∷ codes "run" ∷ []) ≡ kind.MissingRequiredArgument ∷ []
+unfolding clap_on_literals
+no_file = refl
+
+two_files : fault_of islec (codes "islec" ∷ codes "fmt" ∷ codes "a" ∷ codes "b" ∷ []) ≡ kind.UnknownArgument ∷ []
+unfolding clap_on_literals
+two_files = refl
+
+no_number : fault_of islec (codes "islec" ∷ codes "fmt" ∷ codes "--width=1000001" ∷ codes "a" ∷ []) ≡ kind.ValueValidation ∷ []
+unfolding clap_on_literals
+no_number = refl
+
+asks_for_help : fault_of islec (codes "islec" ∷ codes "check" ∷ codes "--help" ∷ []) ≡ kind.DisplayHelp ∷ []
+unfolding clap_on_literals
+asks_for_help = refl

@@ -1,0 +1,97 @@
+-- The command `islec` and its arguments, as `clap` reads them.
+use Rattle.std.specs.Prelude.{◌≡◌, List, [], ◌∷◌, Some, true, false, codes, pos}
+use Rattle.clap.specs.Words.{App, Rule, app_of, new_app, new_rule, rule_of, with_rule, with_subcommand}
+use Rattle.clap.specs.Lexer.{usize_max}
+use Rattle.clap.specs.Simple.{built_leaf}
+use Rattle.clap.specs.declared.builder.Arg.{Arg}
+use Rattle.clap.specs.declared.builder.ArgAction.TheVariants.{Append, SetTrue}
+use Rattle.clap.specs.declared.builder.Command.{Command}
+use Rattle.clap.specs.declared.builder.Command.TheViews.{out-Command}
+use Rattle.clap.specs.declared.builder.ValueParser.TheVariants.{Signed, Unsigned}
+
+-- `--world FILE`
+abbrev pub world : Rule
+world = record (new_rule (codes "world")) { long = Some (codes "world"); value_names = 1 }
+
+-- `--depth N`: a number of 32 bits, and 100 where it is left out
+abbrev pub depth : Rule
+depth = record (new_rule (codes "depth")) {
+  long = Some (codes "depth");
+  value_names = 1;
+  parser = Some (Signed (pos 0) (pos 4294967295));
+  defaults = codes "100" ∷ [];
+}
+
+-- `--plain`
+abbrev pub plain : Rule
+plain = record (new_rule (codes "plain")) { long = Some (codes "plain"); action = Some SetTrue }
+
+-- `--terms`
+abbrev pub terms : Rule
+terms = record (new_rule (codes "terms")) { long = Some (codes "terms"); action = Some SetTrue }
+
+-- `--width N`: a number up to a million, and 80 where it is left out
+abbrev pub width : Rule
+width = record (new_rule (codes "width")) {
+  long = Some (codes "width");
+  value_names = 1;
+  parser = Some (Unsigned 0 1000000);
+  defaults = codes "80" ∷ [];
+}
+
+-- one file or more
+abbrev pub rule_files : Rule
+rule_files = record (new_rule (codes "file")) {
+  value_names = 1;
+  action = Some Append;
+  range = Some (record { start_inclusive = 1; end_inclusive = usize_max });
+  required = true;
+}
+
+-- one file
+abbrev pub one_file : Rule
+one_file = record (new_rule (codes "file")) { value_names = 1; required = true }
+
+-- `run`, with a world, a depth, `--plain` and files
+abbrev pub run : App
+run = with_rule (with_rule (with_rule (with_rule (new_app (codes "run")) world) depth) plain)
+    rule_files
+
+-- `check`, with `--terms` and files
+abbrev pub check : App
+check = with_rule (with_rule (new_app (codes "check")) terms) rule_files
+
+-- `fmt`, with a width and a file
+abbrev pub fmt : App
+fmt = with_rule (with_rule (new_app (codes "fmt")) width) one_file
+
+-- a command that does nothing without a subcommand
+abbrev pub with_required : App → App
+with_required a = record a { top = record a.top { subcommand_required = true } }
+
+-- the command `islec`, which is one of `run`, `check` and `fmt`
+abbrev pub islec : App
+islec = with_subcommand (with_subcommand (with_subcommand (with_required (new_app (codes "islec")))
+    run.top) check.top) fmt.top
+
+-- the arguments of `run` as they are read, with `--help`
+abbrev pub run_rules : List Rule
+run_rules = (built_leaf run.top).rules
+
+-- the arguments of `check` as they are read, with `--help`
+abbrev pub check_rules : List Rule
+check_rules = (built_leaf check.top).rules
+
+-- the arguments of `fmt` as they are read, with `--help`
+abbrev pub fmt_rules : List Rule
+fmt_rules = (built_leaf fmt.top).rules
+
+-- the command is `app`, and no argument of it is global
+pub record IsCommand (app : App) (command : Command) : Type 0 where
+  pub is : app_of command ≡ app
+  pub local : (out-Command command).has_globals ≡ false
+
+-- the argument is `rule`, and is not global
+pub record IsArgument (rule : Rule) (arg : Arg) : Type 0 where
+  pub is : rule_of arg ≡ rule
+  pub local : arg.global ≡ false

@@ -1,0 +1,56 @@
+-- What the words of a command line say.
+use Rattle.std.specs.Prelude.{◌≡◌, ℕ, Bool, List, [], Option, Some, None, Vec, String, map, codes, false, option_map, string_bytes, vec_items, ⊤}
+use Rattle.std.specs.Global.{Global}
+use Rattle.std.specs.Option.{option_map_or}
+use Rattle.std.specs.Str.{bytes_eq}
+use Rattle.std.specs.Str.Parse.{digits_value, without_leading_plus}
+use Rattle.clap.specs.Words.{IsAmong, Row, Text, all_of, fault_of, first_of, kind_of, one_of, subcommand_of}
+use Rattle.islec.specs.Commands.{islec}
+use Rattle.islec.specs.declared.line.Job.{Job}
+use Rattle.islec.specs.declared.line.Job.TheVariants.{Run, Check, Fmt}
+use Rattle.islec.specs.declared.line.Line.{Line}
+use Rattle.islec.specs.declared.line.LineFault.{LineFault}
+use Rattle.islec.specs.declared.line.LineFault.TheVariants.{Usage, Memory}
+
+-- the number that is an option's value
+abbrev pub number_of : Text → List Row → Option ℕ
+number_of id rows = option_map (λ t. digits_value 10 (without_leading_plus t)) (one_of id rows)
+
+-- whether a flag was given
+abbrev pub flag_of : Text → List Row → Bool
+flag_of id rows = option_map_or (λ t. bytes_eq t (codes "true")) (one_of id rows) false
+
+-- the job is the command of this name, with the numbers and flags that its rows hold
+abbrev pub SaysJob : Text → List Row → Job → Type 0
+SaysJob name rows (Run depth plain) =
+    (name ≡ codes "run") × (number_of (codes "depth") rows ≡ Some depth) × (flag_of (codes "plain") rows ≡ plain)
+SaysJob name rows (Check terms) = (name ≡ codes "check") × (flag_of (codes "terms") rows ≡ terms)
+SaysJob name rows (Fmt width) = (name ≡ codes "fmt") × (number_of (codes "width") rows ≡ Some width)
+
+-- the name of a world's file, which only `run` takes
+abbrev pub world_of : Job → List Row → Option Text
+world_of (Run depth plain) rows = first_of (codes "world") rows
+world_of _ rows = None
+
+-- texts of strings
+abbrev pub names_of : Vec (String Global) Global → List Text
+names_of names = map string_bytes (vec_items names)
+
+-- the line is what a command and its rows say
+pub record SaysLine (name : Text) (rows : List Row) (line : Line) : Type 0 where
+  pub job : SaysJob name rows line.job
+  pub files : all_of (codes "file") rows ≡ Some (names_of line.files)
+  pub world : option_map string_bytes line.world ≡ world_of line.job rows
+
+-- the line is what the words say, in which `islec` finds no fault
+pub record ReadsLine (words : List Text) (line : Line) : Type 0 where
+  pub taken : fault_of islec words ≡ []
+  pub name : Text
+  pub rows : List Row
+  pub met : subcommand_of islec words ≡ Some (name, rows)
+  pub says : SaysLine name rows line
+
+-- a fault of usage is one that `islec` finds in the words, among them that they ask for help
+abbrev pub RefusesLine : List Text → LineFault → Type 0
+RefusesLine words (Usage error) = IsAmong (kind_of error) (fault_of islec words)
+RefusesLine words (Memory error) = ⊤
