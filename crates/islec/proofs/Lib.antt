@@ -18,8 +18,6 @@ pub mod ServingLemmas
 pub mod RunLemmas
 -- What is written of a world that is refused.
 pub mod WorldLemmas
--- Effects are answered as a world may.
-pub mod EffectLemmas
 -- Words that a simple command takes give values that fit its arguments.
 pub mod WalkRows
 -- Words with no fault never stop at `help`.

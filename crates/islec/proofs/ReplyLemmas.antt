@@ -1,5 +1,5 @@
 -- What is written of a call's parts, and what a refused or an answered query is written.
-use Rattle.std.proofs.Common.{◌≡◌, ◌<◌, ◌+◌, ◌++◌, ℕ, zero, suc, List, [], ◌∷◌, Some, Result, Ok, Err, IfOk, OnOk, length, take, get_or, sym, subst, ap, ◌∙◌, append_assoc, append-nil, add-one, arith, string_bytes}
+use Rattle.std.proofs.Common.{◌≡◌, ◌<◌, ◌+◌, ◌++◌, ℕ, zero, suc, List, [], ◌∷◌, Some, Result, Ok, Err, IfOk, OnOk, length, take, get_or, refl, sym, subst, ap, ◌∙◌, append_assoc, append-nil, add-one, arith, string_bytes}
 use Rattle.std.specs.Prelude.{codes, IsUtf8}
 use Rattle.std.specs.declared.alloc.AllocError.{AllocError}
 use Rattle.isle_types.specs.declared.ids.TermId.{TermId}
@@ -9,7 +9,7 @@ use Rattle.isle_run.specs.Queries.{RefusesText, IsCallIn}
 use Rattle.isle_run.specs.Values.TextTokens.{AreTokensOf}
 use Rattle.isle_run.specs.Values.Text.{value_text, fields_text}
 use Rattle.islec.specs.declared.answer.Reply.{Reply}
-use Rattle.islec.specs.Replies.{Setting, Refuses, IsReply, AnswersCall, call_text, cause_number, no_call, call}
+use Rattle.islec.specs.Replies.{Setting, Refuses, IsReply, AnswersCall, Reaches, call_text, cause_number, no_call, call}
 
 -- one argument more
 fields_more : (args : List ValueTree) (i : ℕ) (v : ValueTree) → i < length args → v ≡ get_or args i v
@@ -29,21 +29,25 @@ pub next_argument : (old name : List ℕ) (args : List ValueTree) (i : ℕ) (v :
 next_argument old name args i v was spaced grown within is written space text =
     rw (add-one i, fields_more args i v within is, text, space, written) (simp append_assoc)
 
+-- a world is reached from itself, by no effects
+pub reaches_itself : {V : Type 0} (setting : Setting V) (world : V) → Reaches setting world world
+reaches_itself setting world = ([], refl)
+
 -- a query that is refused
-pub refused_query : (setting : Setting) (line text : List ℕ) (fault : QueryFault) (cause : ℕ) (r : Result Reply AllocError) → text ≡ line → IsUtf8 line
+pub refused_query : {V : Type 0} (setting : Setting V) (world : V) (line text : List ℕ) (fault : QueryFault) (cause : ℕ) (r : Result Reply AllocError) → text ≡ line → IsUtf8 line
     → ¬ AreTokensOf text [] → RefusesText setting.program text fault → cause_number fault ≡ Some cause → IfOk r (Refuses cause)
-    → IfOk r (λ reply. IsReply setting line (string_bytes reply.lines) reply.refused)
-refused_query setting line text fault cause (Err e) same utf8 some refuses number told = tt
-refused_query setting line text fault cause (Ok reply) same utf8 some refuses number told =
+    → IfOk r (λ reply. IsReply setting world line (string_bytes reply.lines) reply.refused world)
+refused_query setting world line text fault cause (Err e) same utf8 some refuses number told = tt
+refused_query setting world line text fault cause (Ok reply) same utf8 some refuses number told =
     no_call utf8 (subst (λ l. ¬ AreTokensOf l []) same some) fault cause (subst (λ l. RefusesText setting.program l fault) same refuses) number
-    told.lines told.refused
+    told.lines told.refused refl
 
 -- a query that is answered
-pub answered_query : (setting : Setting) (line text : List ℕ) (term : TermId) (args : ValueTrees) (r : Result Reply AllocError) → text ≡ line → IsUtf8 line
-    → IsCallIn setting.program text term args → IfOk r (λ reply. AnswersCall setting term args (string_bytes reply.lines) reply.refused)
-    → IfOk r (λ reply. IsReply setting line (string_bytes reply.lines) reply.refused)
-answered_query setting line text term args (Err e) same utf8 spelt told = tt
-answered_query setting line text term args (Ok reply) same utf8 spelt told =
+pub answered_query : {V : Type 0} (setting : Setting V) (before after : V) (line text : List ℕ) (term : TermId) (args : ValueTrees) (r : Result Reply AllocError) → text ≡ line → IsUtf8 line
+    → IsCallIn setting.program text term args → IfOk r (λ reply. AnswersCall setting before term args (string_bytes reply.lines) reply.refused after)
+    → IfOk r (λ reply. IsReply setting before line (string_bytes reply.lines) reply.refused after)
+answered_query setting before after line text term args (Err e) same utf8 spelt told = tt
+answered_query setting before after line text term args (Ok reply) same utf8 spelt told =
     call utf8 term args (subst (λ l. IsCallIn setting.program l term args) same spelt) told
 
 -- a call behind a word

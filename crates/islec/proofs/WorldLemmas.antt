@@ -42,19 +42,19 @@ module _ (program : Program) (world file : SourceFile) (depth : ℕ) (same : fil
   stops (Ok s) kept = tt
   stops (Err f) kept = λ e. inl (kept e)
 
-module _ (program : Program) (world : SourceFile) (depth : ℕ) (entries : List EntryTree) (spells : IsTableOf program world entries) (input old new : Option (List ℕ)) where
+module _ (program : Program) (world : SourceFile) (depth : ℕ) (entries after : List EntryTree) (spells : IsTableOf program world entries) (input old new : Option (List ℕ)) where
   pub answers_in_world : (refused : Bool) (want : Status) (r : Result Status ServeFault)
-      → IfOk r (λ s. s ≡ want → AnswersAll (in_entries program entries depth) input refused old new)
+      → IfOk r (λ s. s ≡ want → AnswersAll (in_entries program entries depth) entries input refused old new after)
       → IfOk r (λ s. s ≡ want → AnswersIn program world depth input refused old new)
   answers_in_world refused want (Err f) told = tt
-  answers_in_world refused want (Ok s) told = λ e. (entries, spells, told e)
+  answers_in_world refused want (Ok s) told = λ e. (entries, after, spells, told e)
 
-  pub cuts_in_world : (r : Result Status ServeFault) → IfErr r (λ f. f ≢ Memory → AnswersCut (in_entries program entries depth) input old new)
+  pub cuts_in_world : (r : Result Status ServeFault) → IfErr r (λ f. f ≢ Memory → AnswersCut (in_entries program entries depth) entries input old new after)
       → IfErr r (λ f. f ≢ Memory → CutsIn program world depth input old new)
   cuts_in_world (Ok s) told = tt
-  cuts_in_world (Err f) told = λ e. inl (entries, spells, told e)
+  cuts_in_world (Err f) told = λ e. inl (entries, after, spells, told e)
 
-  pub stops_in_world : (r : Result Status ServeFault) → IfErr r (λ f. f ≡ Memory → AnswersFirst (in_entries program entries depth) input old new)
+  pub stops_in_world : (r : Result Status ServeFault) → IfErr r (λ f. f ≡ Memory → AnswersFirst (in_entries program entries depth) entries input old new after)
       → IfErr r (λ f. f ≡ Memory → StopsIn program world depth input old new)
   stops_in_world (Ok s) told = tt
-  stops_in_world (Err f) told = λ e. inr (entries, spells, told e)
+  stops_in_world (Err f) told = λ e. inr (entries, after, spells, told e)

@@ -1,5 +1,5 @@
 -- What a line of input is answered.
-use Rattle.std.specs.Prelude.{◌≡◌, ◌++◌, ℕ, Bool, true, false, List, [], Option, Some, None, codes, decimal, string_bytes, All, IsUtf8}
+use Rattle.std.specs.Prelude.{◌≡◌, ◌++◌, ℕ, Bool, true, false, List, [], Option, Some, None, codes, decimal, string_bytes, IsUtf8}
 use Rattle.std.specs.List.{flat_map, AllZip}
 use Rattle.isle_types.specs.declared.ids.TermId.{TermId}
 use Rattle.isle_terms.specs.Meaning.GroundValues.{values_of}
@@ -19,7 +19,7 @@ use Rattle.isle_run.specs.PlainCalls.{TellsOutcome}
 use Rattle.isle_run.specs.PlainRuns.{Outcome, PlainRun}
 use Rattle.isle_run.specs.Programs.{term_name}
 use Rattle.isle_run.specs.Queries.{RefusesText, IsCallIn}
-use Rattle.isle_run.specs.Frames.Telling.{answers_in, name_of_term, IsEventOf}
+use Rattle.isle_run.specs.Frames.Telling.{answers_in, name_of_term, IsEventOf, LeadsThrough}
 use Rattle.isle_run.specs.Values.TextTokens.{AreTokensOf}
 use Rattle.isle_run.specs.Values.Text.{value_text, fields_text}
 use Rattle.islec.specs.declared.answer.Reply.{Reply}
@@ -66,35 +66,37 @@ counts_as_refused (Stuck term args) = true
 counts_as_refused Spent = true
 counts_as_refused (IllTyped term args) = true
 
--- what queries are answered in: a program, what a world answers its pure terms, how it may answer an effect, and how many calls of terms
--- with rules may be open at once
-pub record Setting : Type 1 where
+-- what queries are answered in: a program, what a world answers its pure terms, what an effect makes of a world, and how many calls of
+-- terms with rules may be open at once
+pub record Setting (V : Type 0) : Type 1 where
   pub program : Program
   pub answers : Answers
-  pub effects : List ℕ → ValueTrees → Option ValueTree → Type 0
+  pub step : V → List ℕ → ValueTrees → Option ValueTree → V → Type 0
   pub depth : ℕ
 
--- a world that answers pure terms so may answer an effect so
-abbrev pub MayAnswer : {V : Type 0} → (V → List ℕ → ValueTrees → Option ValueTree) → (V → List ℕ → ValueTrees → Option ValueTree → V → Type 0)
-    → (List ℕ → ValueTrees → Option ValueTree) → List ℕ → ValueTrees → Option ValueTree → Type 0
-MayAnswer {V} of step constructs name args answer = (before after : V) × (of before ≡ constructs) × step before name args answer after
-
-abbrev pub setting_in : {V : Type 0} → (V → List ℕ → ValueTrees → Option ValueTree) → (V → List ℕ → ValueTrees → Option ValueTree → V → Type 0)
-    → Program → (List ℕ → ValueTrees → Option ValueTree) → (List ℕ → ValueTree → Option ValueTrees) → ℕ → Setting
-setting_in of step program constructs extracts depth = record {
+abbrev pub setting_in : {V : Type 0} → (V → List ℕ → ValueTrees → Option ValueTree → V → Type 0) → Program
+    → (List ℕ → ValueTrees → Option ValueTree) → (List ℕ → ValueTree → Option ValueTrees) → ℕ → Setting V
+setting_in step program constructs extracts depth = record {
   program = program;
   answers = answers_in program constructs extracts;
-  effects = MayAnswer of step constructs;
+  step = step;
   depth = depth;
 }
 
--- The effects and the answer of a call, in a program as `compile` makes it: the call is run by its term's rules, one by one, with these
--- effects in order, each answered as the world may, and comes to this answer; an answered call means this, and one that ends unanswered asks for what it ends at. A pure
--- term makes no effects.
-abbrev pub IsOutcome : Setting → TermId → ValueTrees → List Effect → Answer → Type 0
-IsOutcome setting term args effects answer = IsSoundProgram setting.program
-    → (made : List Event) × AllZip (IsEventOf setting.program) effects made
-    × All (λ event. setting.effects (name_of_term setting.program event.term) event.args event.answer) made
+-- these effects lead in steps from one world to another
+abbrev pub Leads : {V : Type 0} → Setting V → V → List Event → V → Type 0
+Leads setting before made after = LeadsThrough setting.step (name_of_term setting.program) before made after
+
+-- some effects do
+abbrev pub Reaches : {V : Type 0} → Setting V → V → V → Type 0
+Reaches setting before after = (made : List Event) × Leads setting before made after
+
+-- The effects and the answer of a call, in a program as `compile` makes it: the call is run by its term's rules, one by one, with just these
+-- effects in order, which lead in steps from the world before to the one after, and comes to this answer; an answered call means this, and one
+-- that ends unanswered asks for what it ends at. A pure term makes no effects.
+abbrev pub IsOutcome : {V : Type 0} → Setting V → V → TermId → ValueTrees → List Effect → Answer → V → Type 0
+IsOutcome setting before term args effects answer after = IsSoundProgram setting.program
+    → (made : List Event) × AllZip (IsEventOf setting.program) effects made × Leads setting before made after
     × (r : Outcome MeantValue) × TellsOutcome setting.program term.0 answer r × (tried : ℕ)
     × PlainRun (checked setting.program) setting.answers setting.depth term.0 (values_of (checked setting.program).values args) tried made r
     × IsMeant (checked setting.program) setting.answers setting.depth term.0 (values_of (checked setting.program).values args) made r
@@ -102,10 +104,10 @@ IsOutcome setting term args effects answer = IsSoundProgram setting.program
     × ((checked setting.program).terms.pure term.0 ≡ true → made ≡ [])
 
 -- the lines of a call's effects in order and that of its answer, and whether the answer counts as refused
-pub record AnswersCall (setting : Setting) (term : TermId) (args : ValueTrees) (lines : List ℕ) (refused : Bool) : Type 0 where
+pub record AnswersCall {V : Type 0} (setting : Setting V) (before : V) (term : TermId) (args : ValueTrees) (lines : List ℕ) (refused : Bool) (after : V) : Type 0 where
   pub effects : List Effect
   pub answer : Answer
-  pub outcome : IsOutcome setting term args effects answer
+  pub outcome : IsOutcome setting before term args effects answer after
   pub written : lines ≡ flat_map effect_line effects ++ answer_line setting.program answer
   pub counted : refused ≡ counts_as_refused answer
 
@@ -117,12 +119,13 @@ cause_number Q3 = Some 3
 cause_number Q4 = Some 4
 cause_number (Memory e) = None
 
--- what is written for a line, given without its newline, and whether it counts as refused: bytes that are no text are refused, a text
--- without tokens is passed over, and of the others a query is refused for its first cause or else answered
-pub data IsReply (setting : Setting) (line lines : List ℕ) (refused : Bool) : Type 0 where
-  no_text : ¬ IsUtf8 line → lines ≡ refused_line 4 → refused ≡ true → IsReply setting line lines refused
-  blank : IsUtf8 line → AreTokensOf line [] → lines ≡ [] → refused ≡ false → IsReply setting line lines refused
+-- what is written for a line, given without its newline, whether it counts as refused, and the world that is left: bytes that are no text are
+-- refused, a text without tokens is passed over, and of the others a query is refused for its first cause or else answered; only an answered one
+-- changes the world, by its effects
+pub data IsReply {V : Type 0} (setting : Setting V) (before : V) (line lines : List ℕ) (refused : Bool) (after : V) : Type 0 where
+  no_text : ¬ IsUtf8 line → lines ≡ refused_line 4 → refused ≡ true → after ≡ before → IsReply setting before line lines refused after
+  blank : IsUtf8 line → AreTokensOf line [] → lines ≡ [] → refused ≡ false → after ≡ before → IsReply setting before line lines refused after
   no_call : IsUtf8 line → ¬ AreTokensOf line [] → (fault : QueryFault) (cause : ℕ) → RefusesText setting.program line fault → cause_number fault ≡ Some cause
-      → lines ≡ refused_line cause → refused ≡ true → IsReply setting line lines refused
-  call : IsUtf8 line → (term : TermId) (args : ValueTrees) → IsCallIn setting.program line term args → AnswersCall setting term args lines refused
-      → IsReply setting line lines refused
+      → lines ≡ refused_line cause → refused ≡ true → after ≡ before → IsReply setting before line lines refused after
+  call : IsUtf8 line → (term : TermId) (args : ValueTrees) → IsCallIn setting.program line term args → AnswersCall setting before term args lines refused after
+      → IsReply setting before line lines refused after

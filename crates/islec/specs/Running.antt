@@ -56,8 +56,8 @@ abbrev pub leaves : List EntryTree → List ℕ → ValueTrees → Option ValueT
 leaves table name args answer next = (answer ≡ constructed table name args) × (next ≡ table)
 
 -- a program, in the world of entries, by which so many calls may be open at once
-abbrev pub in_entries : Program → List EntryTree → ℕ → Setting
-in_entries program entries depth = setting_in constructed leaves program (constructed entries) (extracted entries) depth
+abbrev pub in_entries : Program → List EntryTree → ℕ → Setting (List EntryTree)
+in_entries program entries depth = setting_in leaves program (constructed entries) (extracted entries) depth
 
 -- a table has exactly the entries that a world's file spells
 abbrev pub IsTableOf : Program → (world : SourceFile) → (table : List EntryTree) → Type 0
@@ -65,8 +65,8 @@ IsTableOf program world table = (entries : List EntryTree) × SpellsWorld progra
 
 -- a program's replies to each line of an input are written, in the world of a file
 abbrev pub AnswersIn : Program → (world : SourceFile) → (depth : ℕ) → (input : Option (List ℕ)) → Bool → (old new : Option (List ℕ)) → Type 0
-AnswersIn program world depth input refused old new = (table : List EntryTree) × IsTableOf program world table
-    × AnswersAll (in_entries program table depth) input refused old new
+AnswersIn program world depth input refused old new = (table after : List EntryTree) × IsTableOf program world table
+    × AnswersAll (in_entries program table depth) table input refused old new after
 
 -- the line that tells why a world is refused is written
 pub record TellsWorld (program : Program) (world : SourceFile) (old new : Option (List ℕ)) : Type 0 where
@@ -82,13 +82,13 @@ pub record CutsWorld (program : Program) (world : SourceFile) (old new : Option 
 
 -- a beginning of a program's replies to first lines of an input is written, or one of the line that tells why a world is refused
 abbrev pub CutsIn : Program → (world : SourceFile) → (depth : ℕ) → (input old new : Option (List ℕ)) → Type 0
-CutsIn program world depth input old new = ((table : List EntryTree) × IsTableOf program world table
-    × AnswersCut (in_entries program table depth) input old new) ⊎ CutsWorld program world old new
+CutsIn program world depth input old new = ((table after : List EntryTree) × IsTableOf program world table
+    × AnswersCut (in_entries program table depth) table input old new after) ⊎ CutsWorld program world old new
 
 -- replies of a program to first lines of an input are written, or nothing is
 abbrev pub StopsIn : Program → (world : SourceFile) → (depth : ℕ) → (input old new : Option (List ℕ)) → Type 0
-StopsIn program world depth input old new = Keeps old new ⊎ ((table : List EntryTree) × IsTableOf program world table
-    × AnswersFirst (in_entries program table depth) input old new)
+StopsIn program world depth input old new = Keeps old new ⊎ ((table after : List EntryTree) × IsTableOf program world table
+    × AnswersFirst (in_entries program table depth) table input old new after)
 
 -- the replies of the files' program to each line of an input are written, in the world of a file
 abbrev pub WritesAnswers : List SourceFile → (world : SourceFile) → (depth : ℕ) → (input : Option (List ℕ)) → Bool → (old new : Option (List ℕ)) → Type 0

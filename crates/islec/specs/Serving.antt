@@ -4,7 +4,7 @@ use Rattle.std.specs.Io.BufRead.{take_through, drop_through}
 use Rattle.std.specs.Io.KnownBytes.{Appends}
 use Rattle.islec.specs.declared.serve.Served.{Served}
 use Rattle.islec.specs.declared.serve.Served.TheVariants.{AllWell, SomeRefused}
-use Rattle.islec.specs.Replies.{Setting, IsReply}
+use Rattle.islec.specs.Replies.{Setting, IsReply, Reaches}
 use Rattle.islec.specs.Writing.{AppendsBeginning}
 
 -- a byte at the front of the first of some lines
@@ -25,28 +25,31 @@ AreLinesOf input lines = IfSome input (λ bytes. lines_of bytes ≡ lines)
 abbrev pub AreFirstLinesOf : Option (List ℕ) → List (List ℕ) → Type 0
 AreFirstLinesOf input lines = IfSome input (λ bytes. (later : List (List ℕ)) × (lines_of bytes ≡ lines ++ later))
 
--- the replies to lines one after another, and whether some line counts as refused
-abbrev pub AreReplies : Setting → List (List ℕ) → List ℕ → Bool → Type 0
-AreReplies setting [] out refused = (out ≡ []) × (refused ≡ false)
-AreReplies setting (line ∷ lines) out refused = (one rest : List ℕ) × (first others : Bool) × IsReply setting line one first
-    × AreReplies setting lines rest others × (out ≡ one ++ rest) × (refused ≡ (first || others))
+-- the replies to lines one after another, each in the world that the one before leaves, whether some line counts as refused, and the world
+-- that the last leaves
+abbrev pub AreReplies : {V : Type 0} → Setting V → V → List (List ℕ) → List ℕ → Bool → V → Type 0
+AreReplies setting before [] out refused after = (out ≡ []) × (refused ≡ false) × (after ≡ before)
+AreReplies {V} setting before (line ∷ lines) out refused after = (one rest : List ℕ) × (first others : Bool) × (middle : V)
+    × IsReply setting before line one first middle × AreReplies setting middle lines rest others after × (out ≡ one ++ rest) × (refused ≡ (first || others))
 
 -- replies to lines: a writer that held `old` holds these bytes and the replies behind them
-abbrev pub WritesReplies : Setting → List (List ℕ) → Bool → (old new : Option (List ℕ)) → Type 0
-WritesReplies setting lines refused old new = (out : List ℕ) × AreReplies setting lines out refused × Appends old new out
+abbrev pub WritesReplies : {V : Type 0} → Setting V → V → List (List ℕ) → Bool → (old new : Option (List ℕ)) → V → Type 0
+WritesReplies setting before lines refused old new after = (out : List ℕ) × AreReplies setting before lines out refused after × Appends old new out
 
 -- replies to each line of an input are written
-abbrev pub AnswersAll : Setting → (input : Option (List ℕ)) → Bool → (old new : Option (List ℕ)) → Type 0
-AnswersAll setting input refused old new = (lines : List (List ℕ)) × AreLinesOf input lines × WritesReplies setting lines refused old new
+abbrev pub AnswersAll : {V : Type 0} → Setting V → V → (input : Option (List ℕ)) → Bool → (old new : Option (List ℕ)) → V → Type 0
+AnswersAll setting before input refused old new after =
+    (lines : List (List ℕ)) × AreLinesOf input lines × WritesReplies setting before lines refused old new after
 
--- replies to first lines of an input are written
-abbrev pub AnswersFirst : Setting → (input old new : Option (List ℕ)) → Type 0
-AnswersFirst setting input old new = (lines : List (List ℕ)) × (refused : Bool) × AreFirstLinesOf input lines × WritesReplies setting lines refused old new
+-- replies to first lines of an input are written, and then at most effects were made
+abbrev pub AnswersFirst : {V : Type 0} → Setting V → V → (input old new : Option (List ℕ)) → V → Type 0
+AnswersFirst {V} setting before input old new after = (lines : List (List ℕ)) × (refused : Bool) × (reached : V) × AreFirstLinesOf input lines
+    × WritesReplies setting before lines refused old new reached × Reaches setting reached after
 
--- a beginning of the replies to first lines of an input is written
-abbrev pub AnswersCut : Setting → (input old new : Option (List ℕ)) → Type 0
-AnswersCut setting input old new = (lines : List (List ℕ)) × (refused : Bool) × (out : List ℕ) × AreFirstLinesOf input lines
-    × AreReplies setting lines out refused × AppendsBeginning old new out
+-- a beginning of the replies to first lines of an input is written, and behind these at most effects were made
+abbrev pub AnswersCut : {V : Type 0} → Setting V → V → (input old new : Option (List ℕ)) → V → Type 0
+AnswersCut {V} setting before input old new after = (lines : List (List ℕ)) × (refused : Bool) × (out : List ℕ) × (reached : V)
+    × AreFirstLinesOf input lines × AreReplies setting before lines out refused reached × AppendsBeginning old new out × Reaches setting reached after
 
 -- whether some line counted as refused
 abbrev pub some_refused : Served → Bool
@@ -54,10 +57,15 @@ some_refused AllWell = false
 some_refused SomeRefused = true
 
 -- replies to lines, of which an end is kept back and the others are written
-pub record KeepsBack (setting : Setting) (lines : List (List ℕ)) (refused : Bool) (old new : Option (List ℕ)) (kept : List ℕ) : Type 0 where
+pub record KeepsBack {V : Type 0} (setting : Setting V) (before : V) (lines : List (List ℕ)) (refused : Bool) (old new : Option (List ℕ)) (kept : List ℕ) (after : V) : Type 0 where
   pub out : List ℕ
-  pub replies : AreReplies setting lines (out ++ kept) refused
+  pub replies : AreReplies setting before lines (out ++ kept) refused after
   pub written : Appends old new out
+
+-- replies to first lines of an input, of which an end is kept back and the others are written, and then at most effects
+abbrev pub KeepsFirst : {V : Type 0} → Setting V → V → (input old new : Option (List ℕ)) → List ℕ → V → Type 0
+KeepsFirst {V} setting before input old new kept after = (lines : List (List ℕ)) × (refused : Bool) × (reached : V) × AreFirstLinesOf input lines
+    × KeepsBack setting before lines refused old new kept reached × Reaches setting reached after
 
 -- a reader's first line with the newline that ends it, where its bytes are known
 abbrev pub TakesLine : (old new : Option (List ℕ)) → List ℕ → Type 0

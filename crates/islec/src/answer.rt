@@ -5,7 +5,7 @@ ghost use Rattle.isle_terms.specs.Values.{value_list};
 ghost use Rattle.isle_run.specs.Facts.Reach.{IsRunnable};
 ghost use Rattle.isle_run.specs.Programs.{types_of, terms_of, types_taken, value_facts};
 ghost use Rattle.isle_run.specs.Values.Text.{value_text};
-ghost use Rattle.islec.specs.Replies.{setting_in, Refuses, IsReply, AnswersCall, effect_line, answer_line, answer_text, call_text, given_text, counts_as_refused};
+ghost use Rattle.islec.specs.Replies.{setting_in, Refuses, IsReply, AnswersCall, Reaches, effect_line, answer_line, answer_text, call_text, given_text, counts_as_refused};
 
 use isle_run::{Answer, Effect, Program, QueryFault, TermId, Value, World, is_blank};
 use std::alloc::{AllocError, Global};
@@ -28,8 +28,9 @@ pub fn reply_to<V: World>(
     line: &[u8],
 ) -> Result<Reply, AllocError>
     ensures not_text { ¬ (IsUtf8 line.now) → IfOk result (Refuses 4) }
-    ensures reply { IfOk result (λ reply. IsReply (setting_in V.constructs V.step program.now (V.constructs world.old) (V.extracts world.old) depth)
-        line.now (string_bytes reply.lines) reply.refused) }
+    ensures reply { IfOk result (λ reply. IsReply (setting_in V.step program.now (V.constructs world.old) (V.extracts world.old) depth)
+        world.old line.now (string_bytes reply.lines) reply.refused world.new) }
+    ensures reaches { Reaches (setting_in V.step program.now (V.constructs world.old) (V.extracts world.old) depth) world.old world.new }
     ensures same { (V.constructs world.new ≡ V.constructs world.old) × (V.extracts world.new ≡ V.extracts world.old) }
 {
     let Ok(text) = str::from_utf8(line) else {
@@ -71,8 +72,9 @@ fn reply_to_call<V: World>(
     requires callable { IsRunnable (types_of program.now) (terms_of program.now) term.0 }
     requires typed { AreOfTypes (value_facts program.now) (value_list args.items) (types_taken program.now term) }
     ensures answers { IfOk result (λ reply. AnswersCall
-        (setting_in V.constructs V.step program.now (V.constructs world.old) (V.extracts world.old) depth) term (value_list args.items)
-        (string_bytes reply.lines) reply.refused) }
+        (setting_in V.step program.now (V.constructs world.old) (V.extracts world.old) depth) world.old term (value_list args.items)
+        (string_bytes reply.lines) reply.refused world.new) }
+    ensures reaches { Reaches (setting_in V.step program.now (V.constructs world.old) (V.extracts world.old) depth) world.old world.new }
     ensures same { (V.constructs world.new ≡ V.constructs world.old) × (V.extracts world.new ≡ V.extracts world.old) }
 {
     let mut effects = Vec::new(alloc);

@@ -190,17 +190,18 @@ fn answer<V: World, R: Read, W: Write>(
     writer: &mut W,
 ) -> Result<Status, ServeFault>
     ensures all_well { IfOk result (λ status. status ≡ Status.AllWell → AnswersAll
-        (setting_in V.constructs V.step program.now (V.constructs world.old) (V.extracts world.old) depth)
-        (R.remaining reader.old) false (W.contents writer.old) (W.contents writer.new)) }
+        (setting_in V.step program.now (V.constructs world.old) (V.extracts world.old) depth)
+        world.old (R.remaining reader.old) false (W.contents writer.old) (W.contents writer.new) world.new) }
     ensures some_refused { IfOk result (λ status. status ≡ Status.SomeRefused → AnswersAll
-        (setting_in V.constructs V.step program.now (V.constructs world.old) (V.extracts world.old) depth) (R.remaining reader.old) true (W.contents writer.old) (W.contents writer.new)) }
+        (setting_in V.step program.now (V.constructs world.old) (V.extracts world.old) depth)
+        world.old (R.remaining reader.old) true (W.contents writer.old) (W.contents writer.new) world.new) }
     ensures other { IfOk result (λ status. (status ≡ Status.AllWell) ⊎ (status ≡ Status.SomeRefused)) }
     ensures cut { IfErr result (λ fault. fault ≢ ServeFault.Memory → AnswersCut
-        (setting_in V.constructs V.step program.now (V.constructs world.old) (V.extracts world.old) depth)
-        (R.remaining reader.old) (W.contents writer.old) (W.contents writer.new)) }
+        (setting_in V.step program.now (V.constructs world.old) (V.extracts world.old) depth)
+        world.old (R.remaining reader.old) (W.contents writer.old) (W.contents writer.new) world.new) }
     ensures memory { IfErr result (λ fault. fault ≡ ServeFault.Memory → AnswersFirst
-        (setting_in V.constructs V.step program.now (V.constructs world.old) (V.extracts world.old) depth)
-        (R.remaining reader.old) (W.contents writer.old) (W.contents writer.new)) }
+        (setting_in V.step program.now (V.constructs world.old) (V.extracts world.old) depth)
+        world.old (R.remaining reader.old) (W.contents writer.old) (W.contents writer.new) world.new) }
 {
     match serve(alloc, program, world, depth, reader, writer) {
         Ok(Served::AllWell) => Ok(Status::AllWell),

@@ -1,8 +1,8 @@
 //! Queries from a reader, answered to a writer.
 ghost use Rattle.std.specs.Prelude.{◌≡◌, ◌≢◌, ◌↔◌, ◌++◌, ◌||◌, ℕ, Bool, List, [], ◌∷◌, OnOk, OnErr, IfOk, IfErr, IfSome, IfNone, IsTrue, string_bytes};
 ghost use Rattle.std.specs.Io.KnownBytes.{Appends, Keeps, IsAtEnd};
-ghost use Rattle.islec.specs.Replies.{IsReply, setting_in};
-ghost use Rattle.islec.specs.Serving.{AreLinesOf, AreFirstLinesOf, AnswersAll, AnswersFirst, AnswersCut, KeepsBack, GivesLines, TakesLine, LosesNewline, some_refused};
+ghost use Rattle.islec.specs.Replies.{IsReply, Reaches, setting_in};
+ghost use Rattle.islec.specs.Serving.{AreLinesOf, AnswersAll, AnswersFirst, AnswersCut, KeepsBack, KeepsFirst, GivesLines, TakesLine, LosesNewline, some_refused};
 ghost use Rattle.islec.specs.Writing.{AppendsBeginning, ContinuesBy};
 ghost use Rattle.islec.specs.declared.serve.ServeFault.TheVariants.{Memory};
 
@@ -61,7 +61,8 @@ const FULL: usize = 8192;
 
 /// Answers each line of `reader`, any bytes up to a newline or the end, by lines to `writer`. The
 /// lines of a query are written whole or, where memory runs out within it, not at all. Before a
-/// fault of reading or of memory is reported, the lines of all earlier queries are written.
+/// fault of reading or of memory is reported, the lines of all earlier queries are written. Each query is
+/// answered in the world that the one before leaves.
 pub fn serve<V: World, R: Read, W: Write>(
     alloc: Global,
     program: &Program,
@@ -72,14 +73,14 @@ pub fn serve<V: World, R: Read, W: Write>(
 ) -> Result<Served, ServeFault>
     ensures continues { ContinuesBy (W.contents writer.old) (W.contents writer.new) }
     ensures answered { IfOk result (λ served. AnswersAll
-        (setting_in V.constructs V.step program.now (V.constructs world.old) (V.extracts world.old) depth) (R.remaining reader.old)
-        (some_refused served) (W.contents writer.old) (W.contents writer.new)) }
+        (setting_in V.step program.now (V.constructs world.old) (V.extracts world.old) depth) world.old (R.remaining reader.old)
+        (some_refused served) (W.contents writer.old) (W.contents writer.new) world.new) }
     ensures stopped { IfErr result (λ fault. fault ≢ ServeFault.Write → AnswersFirst
-        (setting_in V.constructs V.step program.now (V.constructs world.old) (V.extracts world.old) depth)
-        (R.remaining reader.old) (W.contents writer.old) (W.contents writer.new)) }
+        (setting_in V.step program.now (V.constructs world.old) (V.extracts world.old) depth)
+        world.old (R.remaining reader.old) (W.contents writer.old) (W.contents writer.new) world.new) }
     ensures cut { IfErr result (λ fault. fault ≡ ServeFault.Write → AnswersCut
-        (setting_in V.constructs V.step program.now (V.constructs world.old) (V.extracts world.old) depth)
-        (R.remaining reader.old) (W.contents writer.old) (W.contents writer.new)) }
+        (setting_in V.step program.now (V.constructs world.old) (V.extracts world.old) depth)
+        world.old (R.remaining reader.old) (W.contents writer.old) (W.contents writer.new) world.new) }
 {
     let Ok(mut input) = BufReader::new(alloc, reader) else {
         return Err(ServeFault::Memory);
@@ -97,14 +98,14 @@ fn serve_input<V: World, B: BufRead, W: Write>(
 ) -> Result<Served, ServeFault>
     ensures continues { ContinuesBy (W.contents writer.old) (W.contents writer.new) }
     ensures answered { IfOk result (λ served. AnswersAll
-        (setting_in V.constructs V.step program.now (V.constructs world.old) (V.extracts world.old) depth) (B.remaining input.old)
-        (some_refused served) (W.contents writer.old) (W.contents writer.new)) }
+        (setting_in V.step program.now (V.constructs world.old) (V.extracts world.old) depth) world.old (B.remaining input.old)
+        (some_refused served) (W.contents writer.old) (W.contents writer.new) world.new) }
     ensures stopped { IfErr result (λ fault. fault ≢ ServeFault.Write → AnswersFirst
-        (setting_in V.constructs V.step program.now (V.constructs world.old) (V.extracts world.old) depth)
-        (B.remaining input.old) (W.contents writer.old) (W.contents writer.new)) }
+        (setting_in V.step program.now (V.constructs world.old) (V.extracts world.old) depth)
+        world.old (B.remaining input.old) (W.contents writer.old) (W.contents writer.new) world.new) }
     ensures cut { IfErr result (λ fault. fault ≡ ServeFault.Write → AnswersCut
-        (setting_in V.constructs V.step program.now (V.constructs world.old) (V.extracts world.old) depth)
-        (B.remaining input.old) (W.contents writer.old) (W.contents writer.new)) }
+        (setting_in V.step program.now (V.constructs world.old) (V.extracts world.old) depth)
+        world.old (B.remaining input.old) (W.contents writer.old) (W.contents writer.new) world.new) }
 {
     let mut unwritten = String::new(alloc);
     let outcome = serve_lines(alloc, program, world, depth, input, &mut unwritten, writer);
@@ -140,16 +141,14 @@ fn serve_lines<V: World, B: BufRead, W: Write>(
     ensures answered { IfOk result (λ served. (lines : List (List ℕ))
         × AreLinesOf (B.remaining input.old) lines
         × KeepsBack
-        (setting_in V.constructs V.step program.now (V.constructs world.old) (V.extracts world.old) depth) lines (some_refused served) (W.contents writer.old)
-        (W.contents writer.new) (string_bytes unwritten.new)) }
-    ensures stopped { IfErr result (λ fault. fault ≢ ServeFault.Write → (lines : List (List ℕ))
-        × (refused : Bool) × AreFirstLinesOf (B.remaining input.old) lines
-        × KeepsBack
-        (setting_in V.constructs V.step program.now (V.constructs world.old) (V.extracts world.old) depth) lines refused (W.contents writer.old) (W.contents writer.new)
-        (string_bytes unwritten.new)) }
+        (setting_in V.step program.now (V.constructs world.old) (V.extracts world.old) depth) world.old lines (some_refused served)
+        (W.contents writer.old) (W.contents writer.new) (string_bytes unwritten.new) world.new) }
+    ensures stopped { IfErr result (λ fault. fault ≢ ServeFault.Write → KeepsFirst
+        (setting_in V.step program.now (V.constructs world.old) (V.extracts world.old) depth)
+        world.old (B.remaining input.old) (W.contents writer.old) (W.contents writer.new) (string_bytes unwritten.new) world.new) }
     ensures cut { IfErr result (λ fault. fault ≡ ServeFault.Write → AnswersCut
-        (setting_in V.constructs V.step program.now (V.constructs world.old) (V.extracts world.old) depth)
-        (B.remaining input.old) (W.contents writer.old) (W.contents writer.new)) }
+        (setting_in V.step program.now (V.constructs world.old) (V.extracts world.old) depth)
+        world.old (B.remaining input.old) (W.contents writer.old) (W.contents writer.new) world.new) }
 {
     let mut served = Served::AllWell;
     for _ in 0..u64::MAX {
@@ -174,13 +173,14 @@ fn answer_next<V: World, B: BufRead>(
 ) -> Result<Option<bool>, ServeFault>
     ensures answered { IfOk result (λ next. IfSome next (λ refused. (line one : List ℕ)
         × IsReply
-        (setting_in V.constructs V.step program.now (V.constructs world.old) (V.extracts world.old) depth) line one refused
+        (setting_in V.step program.now (V.constructs world.old) (V.extracts world.old) depth) world.old line one refused world.new
         × (string_bytes unwritten.new ≡ string_bytes unwritten.old ++ one)
         × GivesLines (B.remaining input.old) (B.remaining input.new) (line ∷ []))) }
     ensures same { (V.constructs world.new ≡ V.constructs world.old) × (V.extracts world.new ≡ V.extracts world.old) }
     ensures end { IfOk result (λ next. IfNone next (IsAtEnd (B.remaining input.old))) }
     ensures none { IfOk result (λ next. IfNone next
-        (string_bytes unwritten.new ≡ string_bytes unwritten.old)) }
+        ((string_bytes unwritten.new ≡ string_bytes unwritten.old) × (world.new ≡ world.old))) }
+    ensures reaches { Reaches (setting_in V.step program.now (V.constructs world.old) (V.extracts world.old) depth) world.old world.new }
     ensures err { OnErr result (string_bytes unwritten.new ≡ string_bytes unwritten.old) }
     ensures fault { IfErr result (λ fault. fault ≢ ServeFault.Write) }
 {

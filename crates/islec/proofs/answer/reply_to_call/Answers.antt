@@ -3,11 +3,10 @@ use Rattle.std.proofs.lemmas.List.{take_all}
 use Rattle.std.specs.List.{flat_map, AllZip}
 use Rattle.isle_terms.specs.Meaning.ValueTypes.{AreOfTypes}
 use Rattle.isle_terms.specs.Values.{value_list}
-use Rattle.isle_run.specs.Frames.Telling.{name_of_term, IsEventOf}
+use Rattle.isle_run.specs.Frames.Telling.{IsEventOf}
 use Rattle.isle_run.specs.Programs.{value_facts}
 use Rattle.isle_run.proofs.Frames.Telling.{inputs_taken}
 use Rattle.islec.specs.Replies.{effect_line, answer_line}
-use Rattle.islec.proofs.EffectLemmas.{answered_each}
 use Rattle.islec.proofs.answer.reply_to_call.Goals as goal
 
 pub returns-clause-answers : goal.returns-clause-answers
@@ -18,12 +17,10 @@ returns-clause-answers g c = record {
       let typed = subst (λ types. AreOfTypes (value_facts c.args.program.now) (value_list c.args.args.items) types)
       (inputs_taken c.args.program.now c.args.term) c.requires.typed in
       let (made, has, r, tells, run, meant, asked, pure) = c.in_ok-called.ensures.ran sound c.requires.callable typed in
-      let joined = has.joined ∙ ap (λ l. l ++ has.more) c.new-effects.ensures.items in
-      let answered = answered_each g.V.World.constructs g.V.World.step (λ world next name args answer step. (g.met.V.World.keeps world next name args answer step).0)
-      (g.V.World.constructs c.args.world.now) (name_of_term c.args.program.now) c.args.world.now c.call_plain.new.world made refl has.steps in (
+      let joined = has.joined ∙ ap (λ l. l ++ has.more) c.new-effects.ensures.items in (
         made,
         subst (λ l. AllZip (IsEventOf c.args.program.now) l made) (sym joined) has.shown,
-        answered,
+        has.steps,
         r,
         tells,
         c.in_ok-called.called.steps,

@@ -42,7 +42,7 @@ returns-in-Ok-clause-all_well g c =
           (subst (λ (t : List ℕ). SpellsWorld c.args.program.now t entries) c.as_str.ensures.value spelt),
       has,
     ) in
-    answers_in_world c.args.program.now (world_file c.args.world) c.args.depth c.in-Ok.table spells (g.R.Read.remaining c.args.reader.now)
+    answers_in_world c.args.program.now (world_file c.args.world) c.args.depth c.in-Ok.table c.answer.new.world spells (g.R.Read.remaining c.args.reader.now)
     (g.W.Write.contents c.args.writer.now) (g.W.Write.contents c.answer.new.writer) false AllWell c.answer.result c.answer.ensures.all_well
 
 pub returns-in-Ok-clause-some_refused : goal.returns-in-Ok-clause-some_refused
@@ -54,7 +54,7 @@ returns-in-Ok-clause-some_refused g c =
           (subst (λ (t : List ℕ). SpellsWorld c.args.program.now t entries) c.as_str.ensures.value spelt),
       has,
     ) in
-    answers_in_world c.args.program.now (world_file c.args.world) c.args.depth c.in-Ok.table spells (g.R.Read.remaining c.args.reader.now)
+    answers_in_world c.args.program.now (world_file c.args.world) c.args.depth c.in-Ok.table c.answer.new.world spells (g.R.Read.remaining c.args.reader.now)
     (g.W.Write.contents c.args.writer.now) (g.W.Write.contents c.answer.new.writer) true SomeRefused c.answer.result c.answer.ensures.some_refused
 
 pub returns-in-Ok-clause-cut : goal.returns-in-Ok-clause-cut
@@ -66,7 +66,7 @@ returns-in-Ok-clause-cut g c =
           (subst (λ (t : List ℕ). SpellsWorld c.args.program.now t entries) c.as_str.ensures.value spelt),
       has,
     ) in
-    cuts_in_world c.args.program.now (world_file c.args.world) c.args.depth c.in-Ok.table spells (g.R.Read.remaining c.args.reader.now)
+    cuts_in_world c.args.program.now (world_file c.args.world) c.args.depth c.in-Ok.table c.answer.new.world spells (g.R.Read.remaining c.args.reader.now)
     (g.W.Write.contents c.args.writer.now) (g.W.Write.contents c.answer.new.writer) c.answer.result c.answer.ensures.cut
 
 pub returns-in-Ok-clause-memory : goal.returns-in-Ok-clause-memory
@@ -78,5 +78,5 @@ returns-in-Ok-clause-memory g c =
           (subst (λ (t : List ℕ). SpellsWorld c.args.program.now t entries) c.as_str.ensures.value spelt),
       has,
     ) in
-    stops_in_world c.args.program.now (world_file c.args.world) c.args.depth c.in-Ok.table spells (g.R.Read.remaining c.args.reader.now)
+    stops_in_world c.args.program.now (world_file c.args.world) c.args.depth c.in-Ok.table c.answer.new.world spells (g.R.Read.remaining c.args.reader.now)
     (g.W.Write.contents c.args.writer.now) (g.W.Write.contents c.answer.new.writer) c.answer.result c.answer.ensures.memory
