@@ -1,5 +1,6 @@
-ghost use Rattle.std.specs.Prelude.{◌≡◌, ◌∷◌, []};
-ghost use Rattle.isle_syntax.specs.Tokens.Names.{is_const};
+ghost use Rattle.std.specs.Prelude.{◌≡◌, ◌∷◌, [], codes, cond};
+ghost use Rattle.isle_syntax.specs.declared.kind.Keyword.TheVariants as keyword;
+ghost use Rattle.isle_syntax.specs.Tokens.Names.{is_const, is_word};
 ghost use Rattle.isle_syntax.specs.Tokens.PlacedTokens.{placed};
 ghost use Rattle.isle_syntax.specs.Grammar.TreeGrammar.{bits_of, is_large};
 ghost use Rattle.isle_syntax.specs.Reading.KindOf.{symbol_kind, kind_of, keyword_of, keyword_in, literal_of};
@@ -153,7 +154,21 @@ pub fn keyword_of(text: &str) -> Keyword
         Keyword::Extern
     } else if text == "convert" {
         Keyword::Convert
-    } else if text == "nodebug" {
+    } else {
+        keyword_inside(text)
+    }
+}
+
+/// The word of the language that a symbol is, among those that begin no definition.
+fn keyword_inside(text: &str) -> Keyword
+    ensures { result ≡ cond (is_word (codes "nodebug") text.now) keyword.NoDebug
+        (cond (is_word (codes "primitive") text.now) keyword.Primitive
+        (cond (is_word (codes "enum") text.now) keyword.Enum
+        (cond (is_word (codes "struct") text.now) keyword.Struct
+        (cond (is_word (codes "constructor") text.now) keyword.Constructor
+        (cond (is_word (codes "const") text.now) keyword.Const keyword.NoKeyword))))) }
+{
+    if text == "nodebug" {
         Keyword::NoDebug
     } else if text == "primitive" {
         Keyword::Primitive

@@ -126,7 +126,7 @@ impl<'src> Parser<'src> {
 
     /// An expression and the closing parenthesis behind it.
     #[cycle(expr)]
-    fn parse_expr_closed(&mut self, depth_left: usize) -> Result<Expr, Refusal<Error>>
+    pub(crate) fn parse_expr_closed(&mut self, depth_left: usize) -> Result<Expr, Refusal<Error>>
         ensures { Gives (λ e. (expr_of e, tt)) self.old self.new result (seq (expr depth_left) closed self.old.left) }
     {
         let inner = self.parse_expr(depth_left)?;

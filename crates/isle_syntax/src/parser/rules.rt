@@ -85,8 +85,7 @@ impl<'src> Parser<'src> {
     {
         self.says("if-let")?;
         let pattern = self.parse_pattern(depth_left)?;
-        let expr = self.parse_expr(depth_left)?;
-        self.close()?;
+        let expr = self.parse_expr_closed(depth_left)?;
         Ok(IfLet { pattern, expr, pos })
     }
 
@@ -96,8 +95,7 @@ impl<'src> Parser<'src> {
             (read_map (λ x. clause (pattern_wildcard x.0) x.1.0 pos) (if_read depth_left self.old.left)) }
     {
         let word = self.word("if")?;
-        let expr = self.parse_expr(depth_left)?;
-        self.close()?;
+        let expr = self.parse_expr_closed(depth_left)?;
         let pattern = Pattern::Wildcard { pos: word };
         Ok(IfLet { pattern, expr, pos })
     }

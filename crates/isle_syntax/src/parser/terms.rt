@@ -47,8 +47,7 @@ impl<'src> Parser<'src> {
         let term = self.ident()?;
         let _pos = self.open(depth_left)?;
         let arg_tys = self.parse_idents()?;
-        let ret_ty = self.ident()?;
-        self.close()?;
+        let ret_ty = self.last_ident()?;
         Ok((term, arg_tys, ret_ty))
     }
 
@@ -85,9 +84,7 @@ impl<'src> Parser<'src> {
         ensures { Gives (λ x. x) self.old self.new result (extern_on keyword.Constructor self.old.left) }
     {
         let pos = self.word("constructor")?;
-        let term = self.ident()?;
-        let func = self.ident()?;
-        self.close()?;
+        let (term, func) = self.last_idents()?;
         Ok(Extern::Constructor { term, func, pos })
     }
 
@@ -96,9 +93,7 @@ impl<'src> Parser<'src> {
     {
         let pos = self.word("extractor")?;
         let infallible = self.take_word("infallible")?;
-        let term = self.ident()?;
-        let func = self.ident()?;
-        self.close()?;
+        let (term, func) = self.last_idents()?;
         Ok(Extern::Extractor {
             term,
             func,
@@ -112,8 +107,7 @@ impl<'src> Parser<'src> {
     {
         let pos = self.word("const")?;
         let name = self.constant()?;
-        let ty = self.ident()?;
-        self.close()?;
+        let ty = self.last_ident()?;
         Ok(Extern::Const { name, ty, pos })
     }
 
@@ -123,9 +117,7 @@ impl<'src> Parser<'src> {
     {
         let inner_ty = self.ident()?;
         let pos = inner_ty.1;
-        let outer_ty = self.ident()?;
-        let term = self.ident()?;
-        self.close()?;
+        let (outer_ty, term) = self.last_idents()?;
         Ok(Converter {
             term,
             inner_ty,

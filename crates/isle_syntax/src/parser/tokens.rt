@@ -5,7 +5,7 @@ ghost use Rattle.isle_syntax.specs.Grammar.Phrases.{next_symbol_is};
 ghost use Rattle.isle_syntax.specs.Tokens.RemainingTokens.{remaining_pos};
 ghost use Rattle.isle_syntax.specs.Reading.KindOf.{kind_at, keyword_at, literal_of};
 ghost use Rattle.isle_syntax.specs.Reading.Parsing.{Gives, RefusesAt, NoToken, ForMemory, IsKnown, TakesOr, TakesWord, at_fault, at_deep};
-ghost use Rattle.isle_syntax.specs.Reading.Readers.{opened_within, closed, any_symbol, word, says, after_close, after_at, at_pos, integer};
+ghost use Rattle.isle_syntax.specs.Reading.Readers.{opened_within, closed, seq, any_symbol, word, says, after_close, after_at, at_pos, integer};
 ghost use Rattle.isle_syntax.specs.Reading.Readers.{is_int_next};
 ghost use Rattle.isle_syntax.specs.Reading.TreeReading.{after_dollar};
 ghost use Rattle.isle_syntax.specs.Reading.DefReading.{identifier, constant, is_symbol_next};
@@ -247,6 +247,24 @@ impl<'src> Parser<'src> {
             return Err(self.unexpected("expected an identifier"));
         }
         self.symbol("expected an identifier")
+    }
+
+    /// Takes an identifier and the closing parenthesis behind it.
+    pub(crate) fn last_ident(&mut self) -> Result<Ident, Refusal<Error>>
+        ensures { Gives (λ x. (x, tt)) self.old self.new result (seq identifier closed self.old.left) }
+    {
+        let ident = self.ident()?;
+        self.close()?;
+        Ok(ident)
+    }
+
+    /// Takes two identifiers and the closing parenthesis behind them.
+    pub(crate) fn last_idents(&mut self) -> Result<(Ident, Ident), Refusal<Error>>
+        ensures { Gives (λ x. (x.0, (x.1, tt))) self.old self.new result (seq identifier (seq identifier closed) self.old.left) }
+    {
+        let first = self.ident()?;
+        let second = self.last_ident()?;
+        Ok((first, second))
     }
 
     /// Takes an `@`, and answers where it stands.

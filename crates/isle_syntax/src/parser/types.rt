@@ -71,8 +71,7 @@ impl<'src> Parser<'src> {
         match self.keyword()? {
             Keyword::Primitive => {
                 self.says("primitive")?;
-                let name = self.ident()?;
-                self.close()?;
+                let name = self.last_ident()?;
                 Ok(TypeValue::Primitive(name, pos))
             }
             Keyword::Enum => {
@@ -149,9 +148,7 @@ impl<'src> Parser<'src> {
         ensures { Gives (λ x. x) self.old self.new result (field depth_left self.old.left) }
     {
         let pos = self.open(depth_left)?;
-        let name = self.ident()?;
-        let ty = self.ident()?;
-        self.close()?;
+        let (name, ty) = self.last_idents()?;
         Ok(StructField { name, ty, pos })
     }
 
