@@ -1,8 +1,9 @@
-ghost use Rattle.std.specs.Prelude.{◌≡◌};
+ghost use Rattle.std.specs.Prelude.{◌≡◌, ◌||◌, not};
 ghost use Rattle.std.specs.List.{list_all};
 ghost use Rattle.isle_syntax.specs.Trees.PatternShape.{pattern_of, patterns_of};
 ghost use Rattle.isle_syntax.specs.Trees.ExprShape.{expr_of, exprs_of, lets_of};
 ghost use Rattle.isle_syntax.specs.Trees.ItemShape.{item_of, items_of};
+ghost use Rattle.isle_syntax.specs.Tokens.Names.{is_word};
 ghost use Rattle.isle_syntax.specs.Grammar.TreeGrammar.{is_pattern_term, is_expr_term};
 ghost use Rattle.isle_layout.specs.Writable.{writable_ident, writable_int, writable_pattern, writable_patterns, writable_expr, writable_exprs};
 ghost use Rattle.isle_layout.specs.Writable.{writable_lets, writable_item, writable_items, writable_struct_field, writable_tuple_fields};
@@ -250,10 +251,20 @@ fn is_free_of_flags(decl: &Decl) -> bool
     ensures { result ≡ is_free_of_flags decl.now }
 {
     let term = decl.term.0.as_str();
-    (decl.pure || decl.multi || decl.partial || decl.rec || term != "pure")
-        && (decl.multi || decl.partial || decl.rec || term != "multi")
-        && (decl.partial || decl.rec || term != "partial")
-        && (decl.rec || term != "rec")
+    let partial = decl.partial | decl.rec;
+    let multi = decl.multi | partial;
+    let pure = decl.pure | multi;
+    is_no_flag(term, "pure", pure)
+        && is_no_flag(term, "multi", multi)
+        && is_no_flag(term, "partial", partial)
+        && is_no_flag(term, "rec", decl.rec)
+}
+
+/// Whether a term's name is no flag, or one that is set.
+fn is_no_flag(term: &str, flag: &str, is_set: bool) -> bool
+    ensures { result ≡ (is_set || not (is_word flag.now term.now)) }
+{
+    is_set || term != flag
 }
 
 fn writable_decl(decl: &Decl) -> bool

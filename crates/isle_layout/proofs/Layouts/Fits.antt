@@ -1,7 +1,10 @@
 -- Which lists fit on one line: of a list those of its items, and its items are left from one place on.
-use Rattle.std.proofs.Common.{◌≡◌, ◌+◌, ◌<◌, ℕ, List, [], ◌∷◌, ◌++◌, length, get_or, drop, drop-cons, add-one, append_assoc, refl, sym, ap, ◌∙◌}
+use Rattle.std.proofs.Common.{◌≡◌, ◌+◌, ◌<◌, ◌≤◌, ℕ, List, [], ◌∷◌, ◌++◌, length, get_or, take, drop, drop-cons, drop_of_length-le, add-one, append_assoc, refl, sym, ap, ◌∙◌}
 use Rattle.std.proofs.Common.{arith, suc, Some, None, Bool, true, false, if◌then◌else◌, Option, is_some, nat_le, nat_lt, ◌||◌}
+use Rattle.std.proofs.Math.Seq.{take-append_seam}
+use Rattle.std.proofs.lemmas.List.{append-nil}
 use Rattle.std.proofs.lemmas.Bool.Decides.{nat_tests}
+use Rattle.isle_layout.specs.SExprTree.{sexpr_list}
 use Rattle.isle_layout.specs.declared.sexpr.SExpr.{SExpr}
 use Rattle.isle_layout.specs.SExprShape.{sexpr_of, sexprs_of}
 use Rattle.isle_layout.specs.Layout.{one_line_length, are_few, fits_of, fits_of_all, within}
@@ -17,6 +20,15 @@ pub length_more : (ps : List SExpr) (i : ℕ) (p : SExpr) (n total : ℕ) → i 
 length_more ps i p n total low is so_far =
     omega (arith, so_far, ap (λ qs. lengths (sexprs_of qs)) (listed ps i p low is))
 
+-- the length of all items is the list's
+pub all_counted : (width : ℕ) (found : Option ℕ) (ps : List SExpr) (i n : ℕ) → length ps ≤ i → found ≡ within width n
+    → n + lengths (sexprs_of (drop i ps)) ≡ one_line_length (sexpr_list (sexprs_of ps))
+    → found ≡ within width (one_line_length (sexpr_list (sexprs_of ps)))
+all_counted width found ps i n high is so_far =
+    let none : lengths (sexprs_of (drop i ps)) ≡ 0 = ap (λ qs. lengths (sexprs_of qs)) (drop_of_length-le ps {i = i} high) in
+    let all : n ≡ one_line_length (sexpr_list (sexprs_of ps)) = omega arith in
+    is ∙ ap (within width) all
+
 -- what fits of one item is pushed
 pub fits_more : (width : ℕ) (ps : List SExpr) (i : ℕ) (p : SExpr) (before after total : List Bool) → i < length ps → p ≡ get_or ps i p
     → before ++ fits_of_all width (sexprs_of (drop i ps)) ≡ total → after ≡ before ++ fits_of width (sexpr_of p)
@@ -25,6 +37,20 @@ fits_more width ps i p before after total low is so_far pushed =
     let rest = fits_of_all width (sexprs_of (drop (i + 1) ps)) in
     let split = ap (λ qs. before ++ fits_of_all width (sexprs_of qs)) (listed ps i p low is) in
     ap (λ ms. ms ++ rest) pushed ∙ append_assoc before (fits_of width (sexpr_of p)) rest ∙ sym split ∙ so_far
+
+-- what fits of all items stands behind the mark of the list that doesn't
+pub all_marked : (width : ℕ) (ps : List SExpr) (i : ℕ) (old before after : List Bool) → length ps ≤ i → before ≡ old ++ false ∷ []
+    → after ++ fits_of_all width (sexprs_of (drop i ps)) ≡ before ++ fits_of_all width (sexprs_of ps)
+    → after ≡ old ++ false ∷ fits_of_all width (sexprs_of ps)
+all_marked width ps i old before after high start marked =
+    let all = fits_of_all width (sexprs_of ps) in
+    let none = ap (λ qs. after ++ fits_of_all width (sexprs_of qs)) (drop_of_length-le ps {i = i} high) ∙ append-nil after in
+    sym none ∙ marked ∙ ap (λ ms. ms ++ all) start ∙ append_assoc old (false ∷ []) all
+
+-- and is taken back
+pub truncated : (at : ℕ) (old after below : List Bool) → at ≡ length old → after ≡ old ++ below → take at after ≡ old
+truncated at old after below is marks =
+    ap (λ n. take n after) is ∙ ap (take (length old)) marks ∙ take-append_seam old below
 
 is_some-within : (width n : ℕ) → is_some (within width n) ≡ nat_le n width
 is_some-within width n = elim (nat_le n width) as (λ b. is_some (if b then Some n else None) ≡ b) [ true ↦ refl | false ↦ refl ]

@@ -1,4 +1,4 @@
-ghost use Rattle.std.specs.Prelude.{◌≡◌, ◌∷◌, IfOk};
+ghost use Rattle.std.specs.Prelude.{◌≡◌, [], ◌∷◌, ◌++◌, IfOk};
 ghost use Rattle.isle_syntax.specs.Trees.ExprShape.{expr_of, exprs_of, lets_of};
 ghost use Rattle.isle_layout.specs.SExprShape.{sexpr_of};
 ghost use Rattle.isle_layout.specs.Spellings.{listed, name_sexpr, expr_sexpr, expr_sexprs, let_sexprs, let_def_sexpr};
@@ -22,15 +22,9 @@ pub(crate) fn spell_expr(alloc: Global, expr: &Expr) -> Result<SExpr, AllocError
         Expr::ConstInt { val, big, .. } => integer(alloc, *val, *big),
         Expr::ConstPrim { val, .. } => constant(alloc, val),
         Expr::Let { defs, body, .. } => {
-            let defs = spell_lets(alloc, defs.as_slice())?;
-            let body = spell_expr(alloc, body.get())?;
-            Ok(
-                ListBuilder::new(alloc)
-                    .word("let")?
-                    .item(defs)?
-                    .item(body)?
-                    .build(),
-            )
+            let list = ListBuilder::new(alloc).word("let")?;
+            let list = list.item(spell_lets(alloc, defs.as_slice())?)?;
+            Ok(list.item(spell_expr(alloc, body.get())?)?.build())
         }
     }
 }
@@ -66,7 +60,17 @@ fn spell_lets(alloc: Global, defs: &[LetDef]) -> Result<SExpr, AllocError>
 pub(crate) fn spell_let_def(alloc: Global, def: &LetDef) -> Result<SExpr, AllocError>
     ensures { IfOk result (λ sexpr. sexpr_of sexpr ≡ let_def_sexpr def.now) }
 {
-    let val = spell_expr(alloc, &def.val)?;
     let list = ListBuilder::new(alloc).name(&def.var)?.name(&def.ty)?;
-    Ok(list.item(val)?.build())
+    Ok(list.item(spell_expr(alloc, &def.val)?)?.build())
+}
+
+/// A list with an expression more.
+pub(crate) fn add_expr(
+    alloc: Global,
+    list: ListBuilder,
+    expr: &Expr,
+) -> Result<ListBuilder, AllocError>
+    ensures { IfOk result (λ longer. longer ≡ list ++ expr_sexpr (expr_of expr.now) ∷ []) }
+{
+    list.item(spell_expr(alloc, expr)?)
 }

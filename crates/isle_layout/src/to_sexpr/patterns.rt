@@ -1,4 +1,4 @@
-ghost use Rattle.std.specs.Prelude.{◌≡◌, [], ◌∷◌, IfOk};
+ghost use Rattle.std.specs.Prelude.{◌≡◌, [], ◌∷◌, ◌++◌, IfOk};
 ghost use Rattle.isle_syntax.specs.Trees.PatternShape.{pattern_of, patterns_of};
 ghost use Rattle.isle_syntax.specs.Trees.Innermost.{names_bound};
 ghost use Rattle.isle_layout.specs.SExprTree.{sexpr_atom};
@@ -68,4 +68,15 @@ fn spell_patterns(alloc: Global, word: &str, patterns: &[Pattern]) -> Result<SEx
         list = list.item(spell_pattern(alloc, pattern)?)?;
     }
     Ok(list.build())
+}
+
+/// A list with a pattern more.
+pub(crate) fn add_pattern(
+    alloc: Global,
+    list: ListBuilder,
+    pattern: &Pattern,
+) -> Result<ListBuilder, AllocError>
+    ensures { IfOk result (λ longer. longer ≡ list ++ pattern_sexpr (pattern_of pattern.now) ∷ []) }
+{
+    list.item(spell_pattern(alloc, pattern)?)
 }

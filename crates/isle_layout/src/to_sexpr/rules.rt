@@ -4,10 +4,10 @@ ghost use Rattle.isle_layout.specs.SExprShape.{sexpr_of};
 ghost use Rattle.isle_layout.specs.DefSpellings.{rule_name, rule_priority, iflet_sexpr, rule_sexpr, iflet_has_macro_arg, rule_has_macro_arg};
 
 use crate::sexpr::SExpr;
-use crate::to_sexpr::exprs::spell_expr;
+use crate::to_sexpr::exprs::add_expr;
 use crate::to_sexpr::list::ListBuilder;
 use crate::to_sexpr::numbers::signed;
-use crate::to_sexpr::patterns::spell_pattern;
+use crate::to_sexpr::patterns::add_pattern;
 use crate::to_sexpr::{HasMacroArg, ToSExpr};
 use isle_syntax::Refusal;
 use isle_syntax::ast::{Ident, IfLet, Rule};
@@ -24,11 +24,10 @@ impl ToSExpr for Rule {
             return Err(Refusal::Fault(HasMacroArg));
         }
         let list = ListBuilder::new(alloc).word("rule")?;
-        let list = add_name(list, &self.name)?;
-        let list = add_priority(alloc, list, &self.prio)?;
-        let list = list.item(spell_pattern(alloc, &self.pattern)?)?;
+        let list = add_priority(alloc, add_name(list, &self.name)?, &self.prio)?;
+        let list = add_pattern(alloc, list, &self.pattern)?;
         let list = add_iflets(alloc, list, self.iflets.as_slice())?;
-        Ok(list.item(spell_expr(alloc, &self.expr)?)?.build())
+        Ok(add_expr(alloc, list, &self.expr)?.build())
     }
 }
 
@@ -71,10 +70,9 @@ fn add_iflets(alloc: Global, list: ListBuilder, iflets: &[IfLet]) -> Result<List
 pub(crate) fn spell_iflet(alloc: Global, iflet: &IfLet) -> Result<SExpr, AllocError>
     ensures { IfOk result (λ sexpr. sexpr_of sexpr ≡ iflet_sexpr iflet.now) }
 {
-    let pattern = spell_pattern(alloc, &iflet.pattern)?;
-    let expr = spell_expr(alloc, &iflet.expr)?;
     let list = ListBuilder::new(alloc).word("if-let")?;
-    Ok(list.item(pattern)?.item(expr)?.build())
+    let list = add_pattern(alloc, list, &iflet.pattern)?;
+    Ok(add_expr(alloc, list, &iflet.expr)?.build())
 }
 
 /// Whether a `MacroArg` occurs in a rule's patterns.

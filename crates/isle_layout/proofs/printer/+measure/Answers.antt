@@ -1,12 +1,12 @@
-use Rattle.std.proofs.Common.{◌≡◌, ◌+◌, ◌++◌, max, length, refl, ap, sym, ◌∙◌, arith}
+use Rattle.std.proofs.Common.{◌≡◌, ◌+◌, ◌++◌, ◌∷◌, [], true, false, if◌then◌else◌, max, length, refl, ap, sym, ◌∙◌, arith}
 use Rattle.std.proofs.lemmas.List.{append-nil}
 use Rattle.std.specs.Fmt.{char_count}
 use Rattle.isle_layout.specs.SExprTree.{sexpr_list}
-use Rattle.isle_layout.specs.SExprShape.{sexpr_of}
+use Rattle.isle_layout.specs.SExprShape.{sexpr_of, sexprs_of}
 use Rattle.isle_layout.specs.SExprInnermost.{innermost}
-use Rattle.isle_layout.specs.Layout.{one_line_length, fits_of, within}
+use Rattle.isle_layout.specs.Layout.{one_line_length, stays_on_one_line, fits_of, fits_of_all, within}
 use Rattle.isle_layout.proofs.Layouts.Lengths.{list_length}
-use Rattle.isle_layout.proofs.Layouts.Fits.{length_more, fits_more}
+use Rattle.isle_layout.proofs.Layouts.Fits.{length_more, all_counted, fits_more, all_marked, truncated}
 use Rattle.isle_layout.proofs.Layouts.SExprInnermost.{innermost_is_no_binding, items_below, chain_length, fits_innermost}
 use Rattle.isle_layout.proofs.printer.+measure.Goals as goal
 
@@ -77,3 +77,40 @@ measure-returns-in_ok-list-in-List-clause-fits t c =
     let same = sym c.innermost.ensures ∙ ap sexpr_of c.in-List.is ∙ ap sexpr_list (sym c.as_slice.ensures) in
     let fits = fits_innermost width (sexpr_of c.args.sexpr.now) ∙ ap (fits_of width) same in
     c.in_ok-list-in-List.ensures.fits ∙ ap (λ pushed. old ++ pushed) (sym fits)
+
+pub measure_list-returns-in_ok-push-2-clause-length : goal.measure_list-returns-in_ok-push-2-clause-length
+measure_list-returns-in_ok-push-2-clause-length t c =
+    let so_far = c.loop-item.invariant.counted in
+    all_counted c.args.width c.loop-item.length c.args.items.now c.loop-item.item-index so_far.0 c.loop-item-test.false so_far.1 so_far.2
+
+pub measure_list-returns-in_ok-push-2-clause-fits : goal.measure_list-returns-in_ok-push-2-clause-fits
+measure_list-returns-in_ok-push-2-clause-fits t c =
+    let width = c.args.width in
+    let items = c.args.items.now in
+    let old = c.args.fits.now.items in
+    let so_far = c.loop-item.invariant.counted in
+    let length = all_counted width c.loop-item.length items c.loop-item.item-index so_far.0 c.loop-item-test.false so_far.1 so_far.2 in
+    let stays : stays_on_one_line width (sexprs_of items) ≡ true = sym (c.stays_on_one_line.ensures width length) ∙ c.if-stays_on_one_line.true in
+    let marks = all_marked width items c.loop-item.item-index old _ c.loop-item.fits.items c.loop-item-test.false c.in_ok-push.ensures.items
+    c.loop-item.invariant.marked in
+    c.in_ok-push-2.ensures.items
+    ∙ ap (λ ms. ms ++ true ∷ []) (c.truncate.ensures.items ∙ truncated _ old c.loop-item.fits.items _ (c.len-at.ensures ∙ c.args.fits.now.ok.0) marks)
+    ∙ ap (λ b. old ++ (if b then true ∷ [] else false ∷ fits_of_all width (sexprs_of items))) (sym stays)
+
+pub measure_list-returns-else-stays_on_one_line-clause-length : goal.measure_list-returns-else-stays_on_one_line-clause-length
+measure_list-returns-else-stays_on_one_line-clause-length t c =
+    let so_far = c.loop-item.invariant.counted in
+    all_counted c.args.width c.loop-item.length c.args.items.now c.loop-item.item-index so_far.0 c.loop-item-test.false so_far.1 so_far.2
+
+pub measure_list-returns-else-stays_on_one_line-clause-fits : goal.measure_list-returns-else-stays_on_one_line-clause-fits
+measure_list-returns-else-stays_on_one_line-clause-fits t c =
+    let width = c.args.width in
+    let items = c.args.items.now in
+    let old = c.args.fits.now.items in
+    let so_far = c.loop-item.invariant.counted in
+    let length = all_counted width c.loop-item.length items c.loop-item.item-index so_far.0 c.loop-item-test.false so_far.1 so_far.2 in
+    let stays : stays_on_one_line width (sexprs_of items) ≡ false = sym (c.stays_on_one_line.ensures width length) ∙ c.if-stays_on_one_line.false in
+    let marks = all_marked width items c.loop-item.item-index old _ c.loop-item.fits.items c.loop-item-test.false c.in_ok-push.ensures.items
+    c.loop-item.invariant.marked in
+    marks
+    ∙ ap (λ b. old ++ (if b then true ∷ [] else false ∷ fits_of_all width (sexprs_of items))) (sym stays)
