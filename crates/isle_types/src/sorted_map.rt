@@ -2,10 +2,10 @@
 ghost use Rattle.isle_types.specs.SortedMaps.{IsSearchResult, IsSortedIndex, binary_digits, entries_at};
 ghost use Rattle.std.specs.BTreeMap.{insert_entry, is_at};
 ghost use Rattle.std.specs.List.Sorted.{IsStrictlySortedBy};
-ghost use Rattle.std.specs.List.{position};
+ghost use Rattle.std.specs.List.{insert, position};
 ghost use Rattle.std.specs.Map.{keys_of, lookup};
 ghost use Rattle.std.specs.Option.{option_copied, option_map};
-ghost use Rattle.std.specs.Prelude.{◌≡◌, ◌≤◌, ◌<◌, ◌^◌, IfOk, OnErr, OnOk, [], length, slice_get};
+ghost use Rattle.std.specs.Prelude.{◌≡◌, ◌≤◌, ◌<◌, ◌^◌, IfOk, OnErr, OnOk, [], ◌∷◌, ◌++◌, length, slice_get};
 
 use std::alloc::{AllocError, Global};
 use std::cmp::Ordering;
@@ -100,15 +100,31 @@ impl<K: Ord, V> SortedMap<K, V> {
                 Ok(Some(mem::replace(&mut self.entries[place].1, value)))
             }
             Err(gap) => {
-                self.entries.reserve(1)?;
-                self.places.reserve(1)?;
-                let place = self.entries.len();
-                self.entries.push((key, value))?;
-                self.places.insert(gap, place)?;
+                add_entry(&mut self.entries, &mut self.places, gap, (key, value))?;
                 Ok(None)
             }
         }
     }
+}
+
+// Adds an entry, and its place at a gap between the places. Where memory is refused, nothing changes.
+fn add_entry<K: Drop, V: Drop>(
+    entries: &mut Vec<(K, V)>,
+    places: &mut Vec<usize>,
+    gap: usize,
+    entry: (K, V),
+) -> Result<(), AllocError>
+    requires { gap ≤ length places.old.items }
+    ensures entries { OnOk result (entries.new.items ≡ entries.old.items ++ entry ∷ []) }
+    ensures places { OnOk result (places.new.items ≡ insert places.old.items gap (length entries.old.items)) }
+    ensures entries_kept { OnErr result (entries.new.items ≡ entries.old.items) }
+    ensures places_kept { OnErr result (places.new.items ≡ places.old.items) }
+{
+    places.reserve(1)?;
+    let place = entries.len();
+    entries.push(entry)?;
+    places.insert(gap, place)?;
+    Ok(())
 }
 
 // Where the key is among the places or where it would go, and the number of comparisons.

@@ -80,14 +80,32 @@ impl TypeEnv {
             → IfErr result (RefusalsAt (IsPrintablePos files)) }
     {
         let mut env = TypeEnv::new(alloc)?;
-        env.collect_names(defs)?;
-        env.collect_types(defs)?;
-        env.collect_constants(defs)?;
-        let errors = env.take_errors();
+        env.read(defs)?;
+        Ok(env)
+    }
+
+    /// Reads the definitions into the environment of the builtin types.
+    fn read(&mut self, defs: &[Def]) -> Result<(), Refusal<Vec<Error>>>
+        requires no_errors { self.old.errors ≡ [] }
+        requires shown { Shows self.old builtin_environment }
+        ensures no_errors { OnOk result (self.new.errors ≡ []) }
+        ensures within { OnOk result (AreWithinSizes defs.now) }
+        ensures made { OnOk result (IsEnvironmentOf defs.now self.new) }
+        ensures faults { IfErr result (λ r. IfFault r (λ errors. AreFaultsOf defs.now errors.items)) }
+        ensures refused { IfErr result (λ r. IfFault r (λ _. ¬ HaveEnvironment defs.now)) }
+        ensures placed { (files : List SourceFile) → All (DefAt (IsPrintablePos files)) defs.now
+            → OnOk result (HasPrintablePositions files self.new) }
+        ensures printable { (files : List SourceFile) → All (DefAt (IsPrintablePos files)) defs.now
+            → IfErr result (RefusalsAt (IsPrintablePos files)) }
+    {
+        self.collect_names(defs)?;
+        self.collect_types(defs)?;
+        self.collect_constants(defs)?;
+        let errors = self.take_errors();
         if !errors.is_empty() {
             return Err(Refusal::Fault(errors));
         }
-        Ok(env)
+        Ok(())
     }
 
     /// Names a type, and tells whether the name is new. A name that is taken keeps its type.

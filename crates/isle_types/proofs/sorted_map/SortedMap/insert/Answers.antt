@@ -35,49 +35,31 @@ returns-in-Ok-clause-replaced g c =
     ap Some c.replace.ensures.value
     ∙ rw (← c.self.view_is) (sym (lookup_found g.met.K.Ord.total _ c.self.invariant found _ _ c.index-place.ensures c.index_mut.ensures.value))
 
-pub returns-in_err-reserve-in-Err-clause-refused : goal.returns-in_err-reserve-in-Err-clause-refused
-returns-in_err-reserve-in-Err-clause-refused g c =
+pub add_entry-requires : goal.add_entry-requires
+add_entry-requires g c =
+    let absent = rw (c.deref.ensures.value, c.deref-2.ensures.value, c.in-Err.is) at c.search.ensures.found in
+    gap_in_range g.met.K.Ord.total _ c.self.invariant absent
+
+pub returns-in_err-add_entry-in-Err-clause-refused : goal.returns-in_err-add_entry-in-Err-clause-refused
+returns-in_err-add_entry-in-Err-clause-refused g c =
     let absent = rw (c.deref.ensures.value, c.deref-2.ensures.value, c.in-Err.is) at c.search.ensures.found in
     let gone : lookup (is_at (g.K.Ord.cmp c.args.key)) c.args.self.now ≡ None = rw (← c.self.view_is)
     (lookup_absent g.met.K.Ord.total _ c.self.invariant absent) in
-    search rules
-
-pub returns-in_err-reserve-in-Err-2-clause-refused : goal.returns-in_err-reserve-in-Err-2-clause-refused
-returns-in_err-reserve-in-Err-2-clause-refused g c =
-    let absent = rw (c.deref.ensures.value, c.deref-2.ensures.value, c.in-Err.is) at c.search.ensures.found in
-    let gone : lookup (is_at (g.K.Ord.cmp c.args.key)) c.args.self.now ≡ None = rw (← c.self.view_is)
-    (lookup_absent g.met.K.Ord.total _ c.self.invariant absent) in
-    search rules
-
-pub insert-requires : goal.insert-requires
-insert-requires g c =
-    let absent = rw (c.deref.ensures.value, c.deref-2.ensures.value, c.in-Err.is) at c.search.ensures.found in
-    let below = gap_in_range g.met.K.Ord.total _ c.self.invariant absent in
     search rules
 
 pub invariant_of-self-in-Err : goal.invariant_of-self-in-Err
 invariant_of-self-in-Err g c =
     let absent = rw (c.deref.ensures.value, c.deref-2.ensures.value, c.in-Err.is) at c.search.ensures.found in
-    let last : c.len-place.result ≡ length c.self.inside.entries.items = search rules in
-    rw (c.in_ok-insert-in-Err.ensures.items, c.in_ok-push-in-Err.ensures.items, c.reserve-in-Err.ensures.items, c.reserve.ensures.items, last)
+    rw (c.in_ok-add_entry-in-Err.ensures.entries, c.in_ok-add_entry-in-Err.ensures.places)
     (added_index g.met.K.Ord.total _ c.self.invariant absent c.args.value)
 
-pub returns-in_ok-insert-in-Err-clause-ok : goal.returns-in_ok-insert-in-Err-clause-ok
-returns-in_ok-insert-in-Err-clause-ok g c =
+pub returns-in_ok-add_entry-in-Err-clause-ok : goal.returns-in_ok-add_entry-in-Err-clause-ok
+returns-in_ok-add_entry-in-Err-clause-ok g c =
     let absent = rw (c.deref.ensures.value, c.deref-2.ensures.value, c.in-Err.is) at c.search.ensures.found in
-    let last : c.len-place.result ≡ length c.self.inside.entries.items = search rules in
-    rw (
-      c.in_ok-insert-in-Err.ensures.items,
-      c.in_ok-push-in-Err.ensures.items,
-      c.reserve-in-Err.ensures.items,
-      c.reserve.ensures.items,
-      last,
-      ←
-          c.self.view_is,
-    )
+    rw (c.in_ok-add_entry-in-Err.ensures.entries, c.in_ok-add_entry-in-Err.ensures.places, ← c.self.view_is)
     (added_view g.met.K.Ord.total _ c.self.invariant absent c.args.value)
 
-pub returns-in_ok-insert-in-Err-clause-replaced : goal.returns-in_ok-insert-in-Err-clause-replaced
-returns-in_ok-insert-in-Err-clause-replaced g c =
+pub returns-in_ok-add_entry-in-Err-clause-replaced : goal.returns-in_ok-add_entry-in-Err-clause-replaced
+returns-in_ok-add_entry-in-Err-clause-replaced g c =
     let absent = rw (c.deref.ensures.value, c.deref-2.ensures.value, c.in-Err.is) at c.search.ensures.found in
     rw (← c.self.view_is) (sym (lookup_absent g.met.K.Ord.total _ c.self.invariant absent))

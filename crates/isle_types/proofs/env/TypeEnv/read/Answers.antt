@@ -7,7 +7,7 @@ use Rattle.std.proofs.lemmas.Result.{err_from_is_err_and}
 use Rattle.isle_types.proofs.ReportedFaults.{reported_then}
 use Rattle.isle_types.proofs.Refusals.{refused_makes_none}
 use Rattle.isle_types.proofs.TypePositions.{faults_printable, made_placed}
-use Rattle.isle_types.proofs.env.TypeEnv.from_ast.Goals as goal
+use Rattle.isle_types.proofs.env.TypeEnv.read.Goals as goal
 
 pub returns-then-not-is_empty-clause-faults : goal.returns-then-not-is_empty-clause-faults
 returns-then-not-is_empty-clause-faults c =
