@@ -6,3 +6,5 @@ pub mod Atoms
 pub mod ReadsBack
 -- what is spelt can be written
 pub mod SpeltTexts
+-- a loop over trees asks one after another whether it fits
+pub mod Nestings

@@ -1,5 +1,7 @@
 -- The S-expressions of the first trees of a list, one by one, are those of the list where none is left.
-use Rattle.std.proofs.Common.{◌≡◌, ◌≤◌, ℕ, zero, suc, List, [], ◌∷◌, ◌++◌, length, map, take, refl, ap, ◌∙◌, arith}
+use Rattle.std.proofs.Common.{◌≡◌, ◌+◌, ◌<◌, ◌≤◌, ℕ, zero, suc, List, [], ◌∷◌, ◌++◌, length, map, take, get_or, add-one, append_assoc, refl, sym, ap, ◌∙◌, arith}
+use Rattle.std.proofs.Math.Seq.{take-suc}
+use Rattle.std.proofs.lemmas.List.{map-append}
 use Rattle.isle_syntax.specs.declared.ast.Pattern.{Pattern}
 use Rattle.isle_syntax.specs.declared.ast.Expr.{Expr}
 use Rattle.isle_syntax.specs.declared.ast.LetDef.{LetDef}
@@ -39,6 +41,17 @@ item_sexprs_taken (suc n) [] l = refl
 item_sexprs_taken zero (i ∷ is) l = absurd (omega arith)
 item_sexprs_taken (suc n) (i ∷ is) l =
     ap (λ ts. item_sexpr (item_of i) ∷ ts) (item_sexprs_taken n is (omega arith))
+
+-- one tree more is spelt, behind those before the row
+pub mapped_more : {X : Type 0} (head : List SExprTree) (spelling : X → SExprTree) (xs : List X) (i : ℕ) (x : X)
+    (before : List SExprTree) (here : SExprTree) (after : List SExprTree)
+    → i < length xs → x ≡ get_or xs i x → before ≡ head ++ map spelling (take i xs) → here ≡ spelling x → after ≡ before ++ here ∷ []
+    → after ≡ head ++ map spelling (take (i + 1) xs)
+mapped_more head spelling xs i x before here after low is so_far spelt more =
+    let done = map spelling (take i xs) in
+    let first : take (i + 1) xs ≡ take i xs ++ x ∷ [] = rw add-one (take-suc xs i x low ∙ ap (λ y. take i xs ++ y ∷ []) (sym is)) in
+    more ∙ ap (λ ts. ts ++ here ∷ []) so_far ∙ append_assoc head done (here ∷ []) ∙ ap (λ t. head ++ (done ++ t ∷ [])) spelt
+    ∙ ap (λ ts. head ++ ts) (sym (map-append spelling (take i xs) (x ∷ [])) ∙ ap (map spelling) (sym first))
 
 -- one name more is bound inside the others
 bound_sexpr-append : (xs : List (List ℕ)) (x : List ℕ) (t : SExprTree) → bound_sexpr (xs ++ x ∷ []) t ≡ bound_sexpr xs (sexpr_binding x t)
