@@ -6,5 +6,5 @@ pub mod Atoms
 pub mod ReadsBack
 -- what is spelt can be written
 pub mod SpeltTexts
--- a loop over trees asks one after another whether it fits
+-- a loop over trees asks one after another whether it fits, or whether it passes a test
 pub mod Nestings

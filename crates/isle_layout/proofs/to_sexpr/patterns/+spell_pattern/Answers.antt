@@ -1,9 +1,9 @@
-use Rattle.std.proofs.Common.{ap, ◌∙◌, arith, rules, ◌≡◌, ◌∷◌}
+use Rattle.std.proofs.Common.{ap, ◌∙◌, arith, rules, ◌≡◌, [], ◌∷◌}
 use Rattle.isle_syntax.specs.Trees.PatternShape.{pattern_of}
 use Rattle.isle_syntax.proofs.Trees.Innermost.{bound_size}
 use Rattle.isle_layout.specs.SExprTree.{sexpr_atom, sexpr_binding}
 use Rattle.isle_layout.specs.Spellings.{listed, bound_sexpr, pattern_sexpr}
-use Rattle.isle_layout.proofs.Layouts.Spellings.{bound_sexpr_pushed, pattern_sexprs_taken}
+use Rattle.isle_layout.proofs.Layouts.Spellings.{bound_sexpr_pushed, pattern_sexprs_taken, mapped_more}
 use Rattle.isle_layout.proofs.to_sexpr.patterns.+spell_pattern.Goals as goal
 
 pub spell_pattern-loop-at-preserved : goal.spell_pattern-loop-at-preserved
@@ -26,3 +26,9 @@ pub spell_patterns-returns : goal.spell_patterns-returns
 spell_patterns-returns t c =
     c.build.ensures ∙ ap listed (c.loop-pattern.invariant
     ∙ ap (λ ts. sexpr_atom c.args.word.now ∷ ts) (pattern_sexprs_taken c.loop-pattern.pattern-index c.args.patterns.now (omega arith)))
+
+pub spell_patterns-loop-pattern-preserved : goal.spell_patterns-loop-pattern-preserved
+spell_patterns-loop-pattern-preserved t c =
+    mapped_more (sexpr_atom c.args.word.now ∷ []) (λ p. pattern_sexpr (pattern_of p)) c.args.patterns.now c.loop-pattern.pattern-index
+    c.pattern-item.result _ _ _ c.loop-pattern-test.true c.pattern-item.is c.loop-pattern.invariant c.in_ok-spell_pattern.ensures
+    c.in_ok-list-2.ensures
