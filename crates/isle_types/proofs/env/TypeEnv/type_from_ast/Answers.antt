@@ -3,6 +3,7 @@ use Rattle.std.proofs.lemmas.Result.{err_from_is_err_and}
 use Rattle.isle_types.specs.Environment.{primitive, enum, struct, IsShape, HasAllowedSize}
 use Rattle.isle_syntax.specs.declared.ast.TypeValue.TheVariants.{Enum}
 use Rattle.isle_types.specs.TypeFaults.{TypeBreaks, marks_not_allowed, variants_break, fields_break}
+use Rattle.isle_types.proofs.Tables.{more_then}
 use Rattle.isle_types.proofs.ReportedFaults.{reported_then}
 use Rattle.isle_types.proofs.FieldReadings.{fault_at, named_kept}
 use Rattle.isle_types.proofs.TypeReadings.{reading_then, type_fault_reads, type_read, variants_once}
@@ -57,3 +58,21 @@ returns-in_ok-fields-in-Struct-clause-read c = λ known named.
     type_read known _ c.args.ty.now (struct read.fields) _ c.in_ok-check_marks.ensures.ok
     (subst (λ t. IsShape known t (struct read.fields)) (sym c.in-Struct.is) read.meant)
     (record { name = c.fields_from_ast.ensures.same.kept _ _ c.in_ok-name.ensures.symbol; is_extern = refl; is_nodebug = refl }, read.shown) refl
+
+pub returns-in_err-host-in-Primitive-clause-same : goal.returns-in_err-host-in-Primitive-clause-same
+returns-in_err-host-in-Primitive-clause-same c = more_then _ _ _ c.intern_mut.ensures.same c.intern_mut-in-Primitive.ensures.same
+
+pub returns-in_ok-host-in-Primitive-clause-same : goal.returns-in_ok-host-in-Primitive-clause-same
+returns-in_ok-host-in-Primitive-clause-same c = more_then _ _ _ c.intern_mut.ensures.same c.intern_mut-in-Primitive.ensures.same
+
+pub returns-in_err-variants-in-Enum-clause-same : goal.returns-in_err-variants-in-Enum-clause-same
+returns-in_err-variants-in-Enum-clause-same c = more_then _ _ _ c.intern_mut.ensures.same c.variants_from_ast.ensures.same
+
+pub returns-in_ok-variants-in-Enum-clause-same : goal.returns-in_ok-variants-in-Enum-clause-same
+returns-in_ok-variants-in-Enum-clause-same c = more_then _ _ _ c.intern_mut.ensures.same c.variants_from_ast.ensures.same
+
+pub returns-in_err-fields-in-Struct-clause-same : goal.returns-in_err-fields-in-Struct-clause-same
+returns-in_err-fields-in-Struct-clause-same c = more_then _ _ _ c.intern_mut.ensures.same c.fields_from_ast.ensures.same
+
+pub returns-in_ok-fields-in-Struct-clause-same : goal.returns-in_ok-fields-in-Struct-clause-same
+returns-in_ok-fields-in-Struct-clause-same c = more_then _ _ _ c.intern_mut.ensures.same c.fields_from_ast.ensures.same

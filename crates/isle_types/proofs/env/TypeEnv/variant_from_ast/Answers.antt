@@ -20,3 +20,16 @@ returns-clause-read c = λ known named.
     variant_read known c.fields_from_ast.new.self.names c.args.ty.now.name.0 c.args.variant.now _
     (last _ _ (c.intern_mut-2.ensures.same.kept _ _ c.in_ok-name.ensures.symbol)) (last _ _ full) refl
     (c.in_ok-fields.ensures.read known (named_kept _ _ known same named))
+
+pub returns-in_err-fullname-clause-same : goal.returns-in_err-fullname-clause-same
+returns-in_err-fullname-clause-same c = more_then _ _ _ c.intern_mut.ensures.same c.intern_mut-2.ensures.same
+
+pub returns-in_err-fields-clause-same : goal.returns-in_err-fields-clause-same
+returns-in_err-fields-clause-same c =
+    let named = more_then _ _ _ c.intern_mut.ensures.same c.intern_mut-2.ensures.same in
+    more_then _ _ _ named c.fields_from_ast.ensures.same
+
+pub returns-clause-same : goal.returns-clause-same
+returns-clause-same c =
+    let named = more_then _ _ _ c.intern_mut.ensures.same c.intern_mut-2.ensures.same in
+    more_then _ _ _ named c.fields_from_ast.ensures.same
