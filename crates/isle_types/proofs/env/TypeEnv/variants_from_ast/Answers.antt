@@ -58,3 +58,9 @@ returns-in_err-check_variants-clause-fault c = λ known named.
     (λ error here. type_fault_reads _ _ error
     (fault_at (VariantsBreak known c.args.variants.now) here.1.0.pos
     (variant_twice here.0 here.1.0 here.1.1.0 here.1.1.1) error here.1.1.2)) c.in_err-check_variants.ensures.fault)
+
+pub returns-in_err-variant_from_ast-clause-same : goal.returns-in_err-variant_from_ast-clause-same
+returns-in_err-variant_from_ast-clause-same c = more_then _ _ _ c.loop-variant.invariant.same c.variant_from_ast.ensures.same
+
+pub returns-in_err-push-clause-same : goal.returns-in_err-push-clause-same
+returns-in_err-push-clause-same c = more_then _ _ _ c.loop-variant.invariant.same c.variant_from_ast.ensures.same
