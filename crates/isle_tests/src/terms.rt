@@ -1,4 +1,3 @@
-mod clones;
 mod environments;
 mod recorder;
 pub mod signatures;

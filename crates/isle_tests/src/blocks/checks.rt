@@ -44,28 +44,35 @@ const TIED: &str = "(decl partial term (u8 u8) u8) (rule (term x @ 2 x) 7)";
 /// the right side, then the made option of a term that may fail.
 #[test]
 fn tests_pass_to_what_is_equal(rt: HostRuntime) -> Result<(), Fail> {
-    let alloc = rt.alloc();
-    let sets = checked(alloc, TIED)?;
+    let sets = checked(rt.alloc(), TIED)?;
     assert_eq!(rt; sets.len(), 1);
     assert_eq!(rt; sets[0].0, TermId(0));
-    let set = &sets[0].1;
+    assert!(rt; has_tied_sites(&sets[0].1));
+    assert!(rt; are_tied(sets[0].1.rules()));
+    Ok(())
+}
+
+fn has_tied_sites(set: &RuleSet) -> bool {
     let made = Binding::MakeSome {
         inner: BindingId(2),
     };
     let sites = [argument(0), argument(1), int(7), made];
-    assert!(rt; set.bindings() == sites.as_slice());
-    assert_eq!(rt; set.find_binding(&argument(1)), Some(BindingId(1)));
-    assert_eq!(rt; set.find_binding(&argument(2)), None);
-    assert_eq!(rt; set.rules().len(), 1);
-    let rule = &set.rules()[0];
+    set.bindings() == sites.as_slice()
+        && set.find_binding(&sites[1]) == Some(BindingId(1))
+        && set.find_binding(&argument(2)) == None
+}
+
+fn are_tied(rules: &[Rule]) -> bool {
+    let [rule] = rules else {
+        return false;
+    };
     let two = Constraint::ConstInt { val: 2, ty: U8 };
-    assert_eq!(rt; rule.total_constraints(), 2);
-    assert_eq!(rt; rule.get_constraint(BindingId(0)).copied(), Some(two));
-    assert_eq!(rt; rule.get_constraint(BindingId(1)).copied(), Some(two));
-    assert_eq!(rt; rule.get_constraint(BindingId(2)).copied(), None);
-    assert!(rt; rule.equals.is_empty());
-    assert_eq!(rt; rule.result, BindingId(3));
-    Ok(())
+    rule.total_constraints() == 2
+        && rule.get_constraint(BindingId(0)).copied() == Some(two)
+        && rule.get_constraint(BindingId(1)).copied() == Some(two)
+        && rule.get_constraint(BindingId(2)).copied() == None
+        && rule.equals.is_empty()
+        && rule.result == BindingId(3)
 }
 
 // The arguments' type `A` has the number 13, and its variant `V` the number 0.
@@ -83,24 +90,28 @@ const fn field(source: u16, field: u8) -> Binding {
 /// What equals a variant is one too, so that its fields are opened, behind all that the rule needs, and equal the other's.
 #[test]
 fn equal_sites_have_equal_fields(rt: HostRuntime) -> Result<(), Fail> {
-    let alloc = rt.alloc();
-    let sets = checked(alloc, OPENED)?;
+    let sets = checked(rt.alloc(), OPENED)?;
     assert_eq!(rt; sets.len(), 1);
     let set = &sets[0].1;
-    assert_eq!(rt; set.bindings().len(), 7);
-    let needed = [argument(0), field(0, 0), field(0, 1), argument(1), int(7)];
-    assert!(rt; &set.bindings()[..5] == needed.as_slice());
-    assert_eq!(rt; set.rules().len(), 1);
-    let rule = &set.rules()[0];
-    assert_eq!(rt; rule.total_constraints(), 6);
-    assert_eq!(rt;
-        rule.get_constraint(BindingId(3)).copied(),
-        Some(variant(13, 0))
-    );
+    assert!(rt; has_opened_sites(set.bindings()));
     let opened = set.find_binding(&field(3, 0)).expect(&rt, "a field");
-    assert!(rt; rule.equals.in_same_set(BindingId(1), opened));
-    assert!(rt; !rule.equals.in_same_set(BindingId(2), opened));
+    assert!(rt; are_opened(set.rules(), opened));
     Ok(())
+}
+
+fn has_opened_sites(sites: &[Binding]) -> bool {
+    let needed = [argument(0), field(0, 0), field(0, 1), argument(1), int(7)];
+    sites.len() == 7 && &sites[..5] == needed.as_slice()
+}
+
+fn are_opened(rules: &[Rule], opened: BindingId) -> bool {
+    let [rule] = rules else {
+        return false;
+    };
+    rule.total_constraints() == 6
+        && rule.get_constraint(BindingId(3)).copied() == Some(variant(13, 0))
+        && rule.equals.in_same_set(BindingId(1), opened)
+        && !rule.equals.in_same_set(BindingId(2), opened)
 }
 
 // The first three rules may match together, and the last with none of them.
@@ -183,17 +194,23 @@ const UNREACHABLE: &str = "(decl f (u8) u8) (rule (f (and 1 2)) 1) (rule (f 3) 2
 /// A rule that never matches is left out of its rule set, and its sites too, and it is the one that is reported.
 #[test]
 fn unreachable_rules_are_left_out(rt: HostRuntime) -> Result<(), Fail> {
-    let alloc = rt.alloc();
-    assert_eq!(rt; faults(alloc, UNREACHABLE)?.as_str(), "unreachable 23;");
-    let made = built(alloc, UNREACHABLE)?;
+    assert_eq!(rt;
+        faults(rt.alloc(), UNREACHABLE)?.as_str(),
+        "unreachable 23;"
+    );
+    let made = built(rt.alloc(), UNREACHABLE)?;
     assert_eq!(rt; made.sets.len(), 1);
-    let set = &made.sets[0].1;
-    let sites = [argument(0), int(2)];
-    assert!(rt; set.bindings() == sites.as_slice());
-    assert_eq!(rt; set.rules().len(), 1);
-    assert_eq!(rt; set.rules()[0].id, RuleId(1));
+    assert!(rt; is_of_the_second_rule(&made.sets[0].1));
     assert_eq!(rt; made.unreachable.len(), 1);
     Ok(())
+}
+
+fn is_of_the_second_rule(set: &RuleSet) -> bool {
+    let sites = [argument(0), int(2)];
+    match set.rules() {
+        [rule] => rule.id == RuleId(1) && set.bindings() == sites.as_slice(),
+        _ => false,
+    }
 }
 
 // The terms are `m`, `g`, `p` and `q`; no rules of the `multi` term `g` are rivals.
@@ -214,49 +231,68 @@ fn call(alloc: Global, term: TermId) -> Result<Binding, AllocError> {
 /// Argument 0 is the site 0, the call of it 1 and one value of the call 2, which is the result; both rules have them.
 #[test]
 fn multi_calls_give_iterators(rt: HostRuntime) -> Result<(), Fail> {
-    let alloc = rt.alloc();
-    let call = call(alloc, TermId(0))?;
-    let sets = checked(alloc, CALLS)?;
+    let sets = checked(rt.alloc(), CALLS)?;
     assert_eq!(rt; sets.len(), 2);
     assert_eq!(rt; sets[0].0, TermId(1));
     let set = &sets[0].1;
+    assert!(rt; has_sites_of_many(rt.alloc(), set.bindings())?);
+    assert!(rt; give_many(set.rules()));
+    Ok(())
+}
+
+fn has_sites_of_many(alloc: Global, sites: &[Binding]) -> Result<bool, AllocError> {
     let value = Binding::Iterator {
         source: BindingId(1),
     };
-    let sites = [argument(0), call, value];
-    assert!(rt; set.bindings() == sites.as_slice());
-    assert_eq!(rt; set.rules().len(), 2);
-    for rule in set.rules() {
-        assert!(rt; rule.iterators.as_slice() == [BindingId(1)].as_slice());
-        assert!(rt; rule.impure.as_slice() == [BindingId(2)].as_slice());
-        assert_eq!(rt; rule.result, BindingId(2));
+    let wanted = [argument(0), call(alloc, TermId(0))?, value];
+    Ok(sites == wanted.as_slice())
+}
+
+fn give_many(rules: &[Rule]) -> bool {
+    match rules {
+        [first, second] => gives_many(first) && gives_many(second),
+        _ => false,
     }
-    Ok(())
+}
+
+fn gives_many(rule: &Rule) -> bool {
+    rule.iterators.as_slice() == [BindingId(1)].as_slice()
+        && rule.impure.as_slice() == [BindingId(2)].as_slice()
+        && rule.result == BindingId(2)
 }
 
 /// Argument 0 is the site 0, the call of it 1 and the call's content 2, whose made option, the result, is 3.
 #[test]
 fn partial_calls_give_contents(rt: HostRuntime) -> Result<(), Fail> {
-    let alloc = rt.alloc();
-    let call = call(alloc, TermId(2))?;
-    let sets = checked(alloc, CALLS)?;
+    let sets = checked(rt.alloc(), CALLS)?;
     assert_eq!(rt; sets.len(), 2);
     assert_eq!(rt; sets[1].0, TermId(3));
     let set = &sets[1].1;
+    assert!(rt; has_sites_of_contents(rt.alloc(), set.bindings())?);
+    assert!(rt; give_contents(set.rules()));
+    Ok(())
+}
+
+fn has_sites_of_contents(alloc: Global, sites: &[Binding]) -> Result<bool, AllocError> {
     let content = Binding::MatchSome {
         source: BindingId(1),
     };
     let made = Binding::MakeSome {
         inner: BindingId(2),
     };
-    let sites = [argument(0), call, content, made];
-    assert!(rt; set.bindings() == sites.as_slice());
-    assert_eq!(rt; set.rules().len(), 1);
-    let rule = &set.rules()[0];
-    assert_eq!(rt; rule.iterators.as_slice().len(), 0);
-    assert!(rt; rule.impure.as_slice() == [BindingId(2)].as_slice());
-    assert_eq!(rt; rule.result, BindingId(3));
-    Ok(())
+    let wanted = [argument(0), call(alloc, TermId(2))?, content, made];
+    Ok(sites == wanted.as_slice())
+}
+
+fn give_contents(rules: &[Rule]) -> bool {
+    match rules {
+        [rule] => {
+            rule.iterators.as_slice().is_empty()
+                && rule.impure.as_slice() == [BindingId(2)].as_slice()
+                && rule.result == BindingId(3)
+        }
+        _ => false,
+    }
 }
 
 // The first two rules have one priority; the third has more, and the second one's test; the last has an equality left.
@@ -266,20 +302,24 @@ const RIVALS: &str =
 /// Rules of one priority overlap, one of a higher priority shadows; one with an equality left shadows none.
 #[test]
 fn rivals_are_listed_and_reported(rt: HostRuntime) -> Result<(), Fail> {
-    let alloc = rt.alloc();
     assert_eq!(rt;
-        faults(alloc, RIVALS)?.as_str(),
+        faults(rt.alloc(), RIVALS)?.as_str(),
         "overlapping 43 26;shadowing 60 43;"
     );
-    let made = built(alloc, RIVALS)?;
+    let made = built(rt.alloc(), RIVALS)?;
     assert_eq!(rt; made.sets.len(), 1);
-    let rules = made.sets[0].1.rules();
-    assert_eq!(rt; rules.len(), 4);
-    assert_eq!(rt; rules[3].total_constraints(), 2);
-    let found = faults_between(alloc, rules)?;
-    assert!(rt; found.overlaps.as_slice() == [(0, 1)].as_slice());
-    assert!(rt; found.shadows.as_slice() == [(2, 1)].as_slice());
+    assert!(rt; are_rivals(rt.alloc(), made.sets[0].1.rules())?);
     Ok(())
+}
+
+fn are_rivals(alloc: Global, rules: &[Rule]) -> Result<bool, AllocError> {
+    let found = faults_between(alloc, rules)?;
+    Ok(
+        rules.len() == 4
+            && rules[3].total_constraints() == 2
+            && found.overlaps.as_slice() == [(0, 1)].as_slice()
+            && found.shadows.as_slice() == [(2, 1)].as_slice(),
+    )
 }
 
 /// A rule at an offset of the first file.

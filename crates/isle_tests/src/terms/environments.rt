@@ -1,7 +1,7 @@
 //! What environments of terms tell by name.
 use super::visits::environments;
 use isle_syntax::files::Files;
-use isle_terms::Rule;
+use isle_terms::{Rule, TermEnv};
 use isle_types::{TermId, TypeEnv, TypeId};
 use std::alloc::{AllocError, Global};
 use std::test::Fail;
@@ -12,61 +12,49 @@ const TERMS: &str =
     (convert u8 A f) (extern extractor g take) (extern constructor g make)
     (rule first 3 (f x) (A.V x)) (rule (f 2) (A.V 1)) (rule last (f 3) (A.V 1))";
 
-/// Converters are found by their types.
-#[test]
-fn types_lead_to_converters(rt: HostRuntime) -> Result<(), Fail> {
-    let (_tyenv, env) = environments(rt.alloc(), TERMS)?;
-    assert_eq!(rt; env.converter(TypeId(1), TypeId(13)), Some(TermId(0)));
-    assert_eq!(rt; env.converter(TypeId(13), TypeId(1)), None);
-    Ok(())
+/// Whether converters are found by their types.
+fn has_its_converter(env: &TermEnv) -> bool {
+    env.converter(TypeId(1), TypeId(13)) == Some(TermId(0))
+        && env.converter(TypeId(13), TypeId(1)) == None
 }
 
-/// The maps have an entry for each name, and for each pair of types.
-#[test]
-fn maps_have_each_name(rt: HostRuntime) -> Result<(), Fail> {
-    let alloc = rt.alloc();
-    let (_tyenv, env) = environments(alloc, TERMS)?;
-    assert_eq!(rt; env.term_map().len(), 4);
-    assert_eq!(rt; env.rule_map().len(), 2);
-    assert_eq!(rt; env.converters().len(), 1);
-    assert_eq!(rt; env.terms().len(), 4);
-    assert_eq!(rt; env.rules().len(), 3);
-    assert!(rt; env.expand_internal_extractors());
-    Ok(())
+/// Whether the maps have an entry for each name, and for each pair of types.
+fn has_each_name(env: &TermEnv) -> bool {
+    env.term_map().len() == 4
+        && env.rule_map().len() == 2
+        && env.converters().len() == 1
+        && env.terms().len() == 4
+        && env.rules().len() == 3
+        && env.expand_internal_extractors()
 }
 
-/// What a rule is called, where its file is known.
-fn called(
-    alloc: Global,
-    tyenv: &TypeEnv,
-    files: &Files,
-    rule: &Rule,
-) -> Result<String, AllocError> {
-    if rule.pos.file < files.len() {
-        rule.identifier(tyenv, files, alloc)
-    } else {
-        Ok(String::new(alloc))
+/// The file of the terms.
+fn files(alloc: Global) -> Result<Files, AllocError> {
+    let name = String::from_str(alloc, "a.isle")?;
+    let text = String::from_str(alloc, TERMS)?;
+    Files::from_names_and_contents(alloc, vec![in alloc; (name, text)]?)
+}
+
+/// What each rule is called whose file is known.
+fn called(alloc: Global, tyenv: &TypeEnv, rules: &[Rule]) -> Result<String, AllocError> {
+    let files = files(alloc)?;
+    let mut text = String::new(alloc);
+    for rule in rules {
+        if rule.pos.file < files.len() {
+            text.push_str(rule.identifier(tyenv, &files, alloc)?.as_str())?;
+            text.push_str(";")?;
+        }
     }
+    Ok(text)
 }
 
 /// A rule is called by its name, or else by the line that it stands at.
 #[test]
-fn rules_are_called(rt: HostRuntime) -> Result<(), Fail> {
-    let alloc = rt.alloc();
-    let (tyenv, env) = environments(alloc, TERMS)?;
-    let text = vec![in alloc;
-        (
-            String::from_str(alloc, "a.isle")?,
-            String::from_str(alloc, TERMS)?
-        ),
-    ]?;
-    let files = Files::from_names_and_contents(alloc, text)?;
-    let rules = env.rules();
-    assert_eq!(rt; rules.len(), 3);
-    assert_eq!(rt; called(alloc, &tyenv, &files, &rules[0])?.as_str(), "first");
-    assert_eq!(rt;
-        called(alloc, &tyenv, &files, &rules[1])?.as_str(),
-        "a.isle line 3"
-    );
+fn environments_tell_names(rt: HostRuntime) -> Result<(), Fail> {
+    let (tyenv, env) = environments(rt.alloc(), TERMS)?;
+    assert!(rt; has_its_converter(&env));
+    assert!(rt; has_each_name(&env));
+    let called = called(rt.alloc(), &tyenv, env.rules())?;
+    assert_eq!(rt; called.as_str(), "first;a.isle line 3;last;");
     Ok(())
 }

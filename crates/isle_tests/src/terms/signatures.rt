@@ -1,7 +1,7 @@
 //! The functions of the host that stand for terms.
 use super::visits::environments;
-use isle_terms::{ExternalSig, TermFlags};
-use isle_types::{TermId, TypeId};
+use isle_terms::{ExternalSig, Term, TermFlags};
+use isle_types::{TermId, TypeEnv, TypeId};
 use std::alloc::{AllocError, Global};
 use std::test::Fail;
 
@@ -40,11 +40,15 @@ fn shown(alloc: Global, sig: Option<ExternalSig>) -> Result<String, AllocError> 
 /// The constructor and the extractor of a term.
 fn functions(alloc: Global, term: usize) -> Result<String, AllocError> {
     let (tyenv, termenv) = environments(alloc, TERMS)?;
-    let Some(term) = termenv.get_term(TermId(term)) else {
-        return Err(AllocError);
-    };
-    let constructor = shown(alloc, term.constructor_sig(alloc, &tyenv)?)?;
-    let extractor = shown(alloc, term.extractor_sig(alloc, &tyenv)?)?;
+    match termenv.get_term(TermId(term)) {
+        Some(term) => functions_of(alloc, &tyenv, term),
+        None => Err(AllocError),
+    }
+}
+
+fn functions_of(alloc: Global, tyenv: &TypeEnv, term: &Term) -> Result<String, AllocError> {
+    let constructor = shown(alloc, term.constructor_sig(alloc, tyenv)?)?;
+    let extractor = shown(alloc, term.extractor_sig(alloc, tyenv)?)?;
     format!(in alloc; "{}; {}", constructor.as_str(), extractor.as_str())
 }
 

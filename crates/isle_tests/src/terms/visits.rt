@@ -159,26 +159,53 @@ const_bool 0 false
 construct 13 0 false true false false of 16:13 17:0
 ";
 
-#[test]
-fn visits_tell_each_call_up_to_a_fault(rt: HostRuntime) -> Result<(), Fail> {
-    let alloc = rt.alloc();
-    let termenv = termenv(alloc)?;
-    let rule = example(alloc)?;
-    let mut whole = Recorder::new(alloc, 1000);
-    assert!(rt; matches!(rule.visit(alloc, &mut whole, &termenv), Ok(18)));
-    assert_eq!(rt; whole.calls(), CALLS);
+/// What a visit comes to whose call after so many is answered `Size`, and what it tells.
+pub fn visited(
+    alloc: Global,
+    termenv: &TermEnv,
+    rule: &Rule,
+    calls: usize,
+) -> (Result<usize, VisitFault>, Recorder) {
+    let mut recorder = Recorder::new(alloc, calls);
+    let value = rule.visit(alloc, &mut recorder, termenv);
+    (value, recorder)
+}
+
+/// Whether each visit that is answered `Size` at a call ends so, and tells the calls up to it.
+fn stops_at_each_call(alloc: Global, termenv: &TermEnv, rule: &Rule) -> Result<bool, AllocError> {
     let mut told = String::new(alloc);
     for (n, call) in CALLS.lines().enumerate() {
         told.push_str(call)?;
         told.push_str("\n")?;
-        let mut recorder = Recorder::new(alloc, n);
-        assert!(rt;
-            matches!(
-                rule.visit(alloc, &mut recorder, &termenv),
-                Err(VisitFault::Size)
-            )
-        );
-        assert_eq!(rt; recorder.calls(), told.as_str());
+        let (value, recorder) = visited(alloc, termenv, rule, n);
+        if !matches!(value, Err(VisitFault::Size)) || recorder.calls() != told.as_str() {
+            return Ok(false);
+        }
     }
+    Ok(true)
+}
+
+/// Whether a visit without a fault comes to the last name, and tells each call.
+fn tells_each_call(alloc: Global, termenv: &TermEnv, rule: &Rule) -> bool {
+    let (value, recorder) = visited(alloc, termenv, rule, 1000);
+    matches!(value, Ok(18)) && recorder.calls() == CALLS
+}
+
+/// Whether a copy of a rule has its parts, and is visited as the rule is.
+fn is_copied(alloc: Global, termenv: &TermEnv, rule: &Rule) -> Result<bool, AllocError> {
+    let copy = rule.clone()?;
+    let has_numbers = copy.id == rule.id && copy.root_term == rule.root_term;
+    let has_place = copy.prio == rule.prio && copy.pos == rule.pos;
+    let has_names = copy.name == rule.name && copy.vars == rule.vars;
+    Ok(has_numbers && has_place && has_names && tells_each_call(alloc, termenv, &copy))
+}
+
+#[test]
+fn visits_tell_each_call_up_to_a_fault(rt: HostRuntime) -> Result<(), Fail> {
+    let termenv = termenv(rt.alloc())?;
+    let rule = example(rt.alloc())?;
+    assert!(rt; tells_each_call(rt.alloc(), &termenv, &rule));
+    assert!(rt; stops_at_each_call(rt.alloc(), &termenv, &rule)?);
+    assert!(rt; is_copied(rt.alloc(), &termenv, &rule)?);
     Ok(())
 }
