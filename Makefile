@@ -10,15 +10,16 @@ run:
 	@echo "trial build: nothing is proved (make build proves the program)"
 	cd crates/isle_example && rt try -- '(simp (Op.Add 7 0))' '(simp (Op.Add 7 1))' '(simp (Op.Neg 3))' < ../../examples/first.isle
 
-# Proves the program and builds it, some twenty minutes from nothing. `rt run` answers a query file too, here an empty one.
+# Proves the program and builds it, from nothing half an hour or more. `rt run` answers a query file too, here an empty one.
 build:
 	@echo "every proof of the program and of the crates below it: this takes a while"
 	cd crates/islec && rt run -- run ../../examples/first.isle < /dev/null
 
-# The gate: every proof, and then the proved program's commands and vectors. Three checks at a time: each takes some 5 GB, of which
-# rt plans for more, so that by itself it would leave processors idle.
+# The gate: that the wrong bodies of tests/edits were refused on just this text, every proof, and the proved program's commands and
+# vectors. Two checks at a time, as many as the crates' order leaves work for: rt by itself plans more memory for each than it takes.
 test:
-	RT_JOBS=3 rt ci
+	tools/edits.py --known
+	RT_JOBS=2 rt ci
 	$(MAKE) commands
 
 # On the program as it was built last.
@@ -29,9 +30,10 @@ commands:
 	python3 tools/replay.py $(PROGRAM) run tests/vectors/*.json
 	python3 tools/replay.py $(PROGRAM) world tests/vectors/*.json
 
-# Wrong bodies beyond those that the gate tries, as long as the proof of their crates: all, or those of CRATES.
+# The wrong bodies of tests/edits, of which the prover must refuse each: those of CRATES, or of all crates that have changed since
+# theirs were tried. With ALL=--all also those of the others.
 edits:
-	tools/edits.sh $(CRATES)
+	tools/edits.py $(ALL) $(CRATES)
 
 install: build
 	install -D $(PROGRAM) $(DESTDIR)$(PREFIX)/bin/islec

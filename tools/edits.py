@@ -1,0 +1,205 @@
+#!/usr/bin/env python3
+"""Tries the wrong bodies of tests/edits: the prover must refuse each. Ends with 1 where one is not refused.
+
+usage: tools/edits.py [--all] [CRATE ..]     those of the crates that are named, or of all crates
+       tools/edits.py --known                tries nothing, and ends with 1 where a crate's wrong bodies are still to be tried
+
+tests/edits/CRATE/NAME.edit has a line 'file: src/FILE.rt' and pairs of lines 'old: TEXT' and 'new: TEXT', where TEXT stands once in that file.
+A function is proved from the contracts of those that it calls and not from their bodies, so one check tries many edits, as long as they are of
+different functions: each must leave a goal of its own function unproved. What isn't told apart so is tried once more by itself.
+
+tests/edits/tried.txt has for each crate a sum of all that the answers hang on: the crate, the sources and definitions of those below it, its
+edits, and the version of rt. Where that sum is still the crate's, its edits were all refused already, and are tried only with
+--all. A check goes on from what the last 'rt check' of the crate kept, where there is such work.
+"""
+import fcntl
+import hashlib
+import os
+import re
+import shutil
+import subprocess
+import sys
+import tempfile
+
+TRIED = "tests/edits/tried.txt"
+PARTS = ("src", "specs", "proofs")
+
+
+class Edit:
+    def __init__(self, crate, path):
+        self.crate, self.name, self.pairs, self.lines, self.functions = crate, os.path.basename(path), [], [], set()
+        file, old = "", ""
+        for line in open(path, encoding="utf-8").read().split("\n"):
+            word, _, text = line.partition(": ")
+            if word == "file":
+                file = text.strip()
+            elif word == "old":
+                old = text
+            elif word.rstrip(":") == "new":
+                self.pairs.append((file, old, text))
+        for file, old, _ in self.pairs:
+            self.place(file, old)
+
+    def place(self, file, old):
+        """Finds the function around the text, and its first and last line."""
+        whole = open(f"crates/{self.crate}/{file}", encoding="utf-8").read()
+        if not file.startswith("src/") or whole.count(old) != 1:
+            sys.exit(f"{self.crate}/{self.name}: an old text is in {file} {whole.count(old)} times, and not once")
+        rows, at = whole.split("\n"), whole[: whole.index(old)].count("\n")
+        first = next((i for i in range(at, -1, -1) if re.match(r"\s*(pub(\(\w+\))? )?(const )?fn \w+", rows[i])), None)
+        if first is None:
+            return
+        margin = re.match(r"\s*", rows[first])[0]
+        last = next((i for i in range(first, len(rows)) if rows[i] == margin + "}"), len(rows) - 1)
+        if first <= at <= last:
+            self.functions.add((file, re.search(r"fn (\w+)", rows[first])[1], first))
+            self.lines.append((file, first + 1, last + 1))
+
+    def is_refused(self, said):
+        """Returns whether some goal of its function was not proved, or an answer to one was refused for more than a name that is gone."""
+        notes = re.findall(r"(?m)^note: (src/\S+?):(\d+):\d+: it is not proved", said)
+        if any(file == its and first <= int(line) <= last for its, line in notes for file, first, last in self.lines):
+            return True
+        answers = re.findall(r"(?m)^(?:\./)?proofs/(\S+)/(?:Answers|Invariants)\.antt:\d+:\d+: error: (.*)", said)
+        answers = [its for its, why in answers if not re.search(r"has no field|is not in scope|has no `|was not admitted", why)]
+        parts = [(file[len("src/") : -len(".rt")], name) for file, name, _ in self.functions]
+        return any(re.fullmatch(rf"{re.escape(module)}/(\w+/)?{name}", its) for its in answers for module, name in parts)
+
+
+def text_of(path):
+    with open(path, "rb") as it:
+        return it.read()
+
+
+def files_below(folder):
+    return sorted(f"{at}/{name}" for at, _, files in os.walk(folder) for name in files)
+
+
+def libraries():
+    """Returns the repository's libraries below each crate."""
+    given = {}
+    for line in open("crates.txt", encoding="utf-8"):
+        name, _, deps = line.partition("#")[0].partition(":")
+        if name.strip():
+            given[name.split()[0]] = [it for it in deps.split() if it in given]
+    for name, deps in given.items():
+        given[name] = list(dict.fromkeys(it for dep in deps for it in [*given[dep], dep]))
+    return given
+
+
+def sum_of(crate, below):
+    """Returns a sum of all that the answers hang on. Proofs of the crates below do not count, as no other crate can see into them."""
+    made = hashlib.sha256(subprocess.run(["rt", "version"], stdout=subprocess.PIPE, check=True).stdout)
+    folders = [f"crates/{crate}/{part}" for part in PARTS]
+    folders += [f"crates/{name}/{part}" for name in sorted(below[crate]) for part in ("src", "specs")]
+    for path in [it for folder in [*folders, f"tests/edits/{crate}"] for it in files_below(folder)]:
+        made.update(path.encode() + b"\n" + text_of(path))
+    return made.hexdigest()
+
+
+def rounds(edits):
+    """Parts the edits into rounds of different functions. An edit of no function has a round of its own."""
+    made = []
+    for edit in edits:
+        free = [it for it in made if edit.functions and all(other.functions and not other.functions & edit.functions for other in it)]
+        if free:
+            free[0].append(edit)
+        else:
+            made.append([edit])
+    return made
+
+
+def check(room, edits):
+    """Checks the crate with these edits, and returns what the prover said of it and whether all of it is proved."""
+    crate = edits[0].crate
+    for part in PARTS:
+        shutil.rmtree(f"{room}/crates/{crate}/{part}", ignore_errors=True)
+        if os.path.isdir(f"crates/{crate}/{part}"):
+            shutil.copytree(f"crates/{crate}/{part}", f"{room}/crates/{crate}/{part}")
+    for edit in edits:
+        for file, old, new in edit.pairs:
+            path = f"{room}/crates/{crate}/{file}"
+            text = text_of(path).decode()
+            if text.count(old) != 1:
+                sys.exit(f"{crate}/{edit.name}: its old text is in {file} {text.count(old)} times beside other edits")
+            open(path, "w", encoding="utf-8").write(text.replace(old, new))
+    how = {"stdin": subprocess.DEVNULL, "stdout": subprocess.PIPE, "stderr": subprocess.STDOUT, "text": True, "errors": "replace"}
+    ran = subprocess.run(["rt", "check", "--jobs", "1"], cwd=f"{room}/crates/{crate}", **how)
+    if not re.search(r"(?m)^logic=(not-)?proved", ran.stdout):
+        names = " ".join(it.name for it in edits)
+        sys.exit(f"{crate}: the prover did not judge {names}:\n" + "\n".join(ran.stdout.split("\n")[-12:]))
+    return ran.stdout, ran.returncode == 0
+
+
+def tried(room, crate):
+    """Tries a crate's edits, and returns the names of those that are not refused."""
+    edits = [Edit(crate, it) for it in files_below(f"tests/edits/{crate}")]
+    let_through = []
+    for part in rounds(edits):
+        said, _ = check(room, part)
+        for edit in part:
+            refused = edit.is_refused(said)
+            if not refused:
+                _, is_proved = check(room, [edit])
+                refused = not is_proved
+            print(f"{crate}/{edit.name}: {'refused, as it must be' if refused else 'NOT REFUSED'}", flush=True)
+            let_through += [] if refused else [edit.name]
+    return let_through
+
+
+def copied(room, crate, below):
+    """Copies the sources of all crates, what was kept of this one, and the libraries below it, which a check only reads."""
+    shutil.copyfile("crates.txt", f"{room}/crates.txt")
+    for name in below:
+        for part in PARTS:
+            if os.path.isdir(f"crates/{name}/{part}"):
+                shutil.copytree(f"crates/{name}/{part}", f"{room}/crates/{name}/{part}")
+        if name in below[crate] and os.path.isdir(f"crates/{name}/out/rlib"):
+            shutil.copytree(f"crates/{name}/out/rlib", f"{room}/crates/{name}/out/rlib", copy_function=os.link)
+    if os.path.isdir(f"crates/{crate}/out/incremental"):
+        shutil.copytree(f"crates/{crate}/out/incremental", f"{room}/crates/{crate}/out/incremental")
+
+
+def tried_in_a_copy(crate, below):
+    with tempfile.TemporaryDirectory(prefix=".edits-", dir=".") as room:
+        copied(room, crate, below)
+        return tried(room, crate)
+
+
+def write_down(crate, made):
+    """Writes down that all edits of the crate were refused. Other crates may be tried at the same time."""
+    with open(TRIED, "a+", encoding="utf-8") as file:
+        fcntl.flock(file, fcntl.LOCK_EX)
+        file.seek(0)
+        known = dict(it.split() for it in file)
+        known[crate] = made
+        file.truncate(0)
+        file.write("".join(f"{name} {it}\n" for name, it in sorted(known.items())))
+
+
+def main(words):
+    os.chdir(os.path.dirname(os.path.dirname(os.path.realpath(__file__))))
+    below = libraries()
+    names = [it for it in words if not it.startswith("--")]
+    names = names or sorted(it for it in os.listdir("tests/edits") if os.path.isdir(f"tests/edits/{it}"))
+    known = dict(it.split() for it in open(TRIED, encoding="utf-8")) if os.path.isfile(TRIED) else {}
+    failed = []
+    for crate in names:
+        made, number = sum_of(crate, below), len(os.listdir(f"tests/edits/{crate}"))
+        if known.get(crate) == made and "--all" not in words:
+            print(f"{crate}: its {number} edits were all refused on just this text")
+        elif "--known" in words:
+            print(f"{crate}: its {number} edits are still to be tried: rt check in its folder, make edits CRATES={crate}, and commit {TRIED}")
+            failed.append(crate)
+        else:
+            let_through = tried_in_a_copy(crate, below)
+            failed += let_through
+            if not let_through:
+                write_down(crate, made)
+    if failed:
+        print(f"FAILED: {' '.join(failed)}")
+    return 1 if failed else 0
+
+
+if __name__ == "__main__":
+    sys.exit(main(sys.argv[1:]))
