@@ -9,8 +9,9 @@ A function is proved from the contracts of those that it calls and not from thei
 different functions: each must leave a goal of its own function unproved. What isn't told apart so is tried once more by itself.
 
 tests/edits/tried.txt has for each crate a sum of all that the answers hang on: the crate, the sources and definitions of those below it, its
-edits, and the version of rt. Where that sum is still the crate's, its edits were all refused already, and are tried only with
---all. A check goes on from what the last 'rt check' of the crate kept, where there is such work.
+edits, and the program logic that 'rt version' names. The kit's own name is left out: machines have kits of one logic under several names, and
+what a body breaks is false under each. Where that sum is still the crate's, its edits were all refused already, and are tried
+only with --all. A check goes on from what the last 'rt check' of the crate kept, where there is such work.
 """
 import fcntl
 import hashlib
@@ -87,9 +88,16 @@ def libraries():
     return given
 
 
+def logic():
+    """Returns the name of the program logic, which 'rt version' gives behind that of the kit."""
+    said = subprocess.run(["rt", "version"], stdout=subprocess.PIPE, check=True, text=True).stdout
+    found = re.search(r"\blogic (\w+)", said)
+    return found[1] if found else sys.exit(f"rt version names no program logic: {said.strip()}")
+
+
 def sum_of(crate, below):
     """Returns a sum of all that the answers hang on. Proofs of the crates below do not count, as no other crate can see into them."""
-    made = hashlib.sha256(subprocess.run(["rt", "version"], stdout=subprocess.PIPE, check=True).stdout)
+    made = hashlib.sha256(logic().encode())
     folders = [f"crates/{crate}/{part}" for part in PARTS]
     folders += [f"crates/{name}/{part}" for name in sorted(below[crate]) for part in ("src", "specs")]
     for path in [it for folder in [*folders, f"tests/edits/{crate}"] for it in files_below(folder)]:
@@ -131,6 +139,12 @@ def check(room, edits):
     return ran.stdout, ran.returncode == 0
 
 
+def first_error(said):
+    """Returns the first error that the prover told, or its first note of what isn't proved."""
+    found = re.search(r"(?m)^.*(?:: error|: it is not proved).*", said)
+    return found[0].strip()[:200] if found else "nothing told"
+
+
 def tried(room, crate):
     """Tries a crate's edits, and returns the names of those that are not refused."""
     edits = [Edit(crate, it) for it in files_below(f"tests/edits/{crate}")]
@@ -138,11 +152,11 @@ def tried(room, crate):
     for part in rounds(edits):
         said, _ = check(room, part)
         for edit in part:
-            refused = edit.is_refused(said)
+            refused, how = edit.is_refused(said), ""
             if not refused:
-                _, is_proved = check(room, [edit])
-                refused = not is_proved
-            print(f"{crate}/{edit.name}: {'refused, as it must be' if refused else 'NOT REFUSED'}", flush=True)
+                alone, is_proved = check(room, [edit])
+                refused, how = not is_proved, "" if edit.is_refused(alone) else f", by what is no goal of its own: {first_error(alone)}"
+            print(f"{crate}/{edit.name}: {f'refused, as it must be{how}' if refused else 'NOT REFUSED'}", flush=True)
             let_through += [] if refused else [edit.name]
     return let_through
 

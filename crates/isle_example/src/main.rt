@@ -35,13 +35,21 @@ fn line_of(alloc: Global, program: &Program, query: &str) -> Result<String, Allo
     }
 }
 
-/// Writes the line of each query, or what is wrong with the rules.
 fn run<R: Input + Print + Env + AllocGlobal>(rt: &R) -> io::Result<ExitCode> {
     let mut text = String::new(rt.alloc());
     rt.reader().read_to_string(&mut text)?;
+    let compiled = program_of(rt.alloc(), text)?;
+    answer(rt, &compiled)
+}
+
+/// Writes the line of each query, or what is wrong with the rules.
+fn answer<R: Print + Env + AllocGlobal>(
+    rt: &R,
+    compiled: &Result<Program, Refused>,
+) -> io::Result<ExitCode> {
     let mut output = io::writer(rt);
-    match program_of(rt.alloc(), text)? {
-        Ok(program) => answer_each(rt, &program, &mut output),
+    match compiled {
+        Ok(program) => answer_each(rt, program, &mut output),
         Err(Refused::Faults(errors)) => {
             write!(output, "{errors}")?;
             Ok(ExitCode::FAILURE)

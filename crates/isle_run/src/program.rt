@@ -3,6 +3,8 @@ ghost use Rattle.isle_types.specs.TypeTables.{TypeTables};
 ghost use Rattle.isle_terms.specs.declared.rules.Rule.{Rule as KnownRule};
 ghost use Rattle.isle_run.specs.LaidOut.Rules.{AreListedInOrder, AreRulesLaidOut, AreByPriority, ListsRule};
 ghost use Rattle.isle_run.specs.Facts.Asked.{AreNumbersOf};
+ghost use Rattle.isle_types.specs.declared.ids.TermId.{TermId as TermNumber};
+ghost use Rattle.isle_blocks.specs.RuleSets.{RulesOverSites};
 
 use crate::laid::LaidRule;
 use crate::numbers::Numbers;
@@ -31,9 +33,7 @@ pub struct Program {
 
 impl Program {
     ghost use Rattle.std.specs.Prelude.{◌↔◌, ◌<◌, ℕ, List, All, IfOk, IsTrue, None, MatchOption, false, length, map, slice_get, slice_index_or};
-    ghost use Rattle.isle_types.specs.declared.ids.TermId.{TermId as TermNumber};
     ghost use Rattle.isle_types.specs.TypeEnvs.{type_of_name};
-    ghost use Rattle.isle_blocks.specs.RuleSets.{RulesOverSites};
     ghost use Rattle.isle_run.specs.Facts.Asked.{AreRoots};
     ghost use Rattle.isle_run.specs.Facts.Inhabited.{AreAllInhabited};
     ghost use Rattle.isle_run.specs.Facts.Steps.{steps_in};
@@ -59,16 +59,14 @@ impl Program {
         ensures terms { IfOk result (λ program. terms_of program ≡ termenv) }
         ensures sets { IfOk result (λ program. rule_sets_of program ≡ rule_sets.items) }
     {
-        let rules_of = rules_by_term(alloc, &termenv)?;
-        let laid = lay_rules(alloc, &termenv)?;
-        let numbers = Numbers::new(alloc, &tyenv, &termenv, rule_sets.as_slice())?;
+        let known = Known::new(alloc, &tyenv, &termenv, rule_sets.as_slice())?;
         Ok(Program {
             tyenv,
             termenv,
             rule_sets,
-            rules_of,
-            laid,
-            numbers,
+            rules_of: known.rules_of,
+            laid: known.laid,
+            numbers: known.numbers,
         })
     }
 
@@ -237,6 +235,38 @@ impl Program {
         ensures { result.now ≡ rules_in self.now }
     {
         self.termenv.rules()
+    }
+}
+
+/// What is known of a program's rules before any is tried.
+#[derive(Debug, Drop)]
+struct Known {
+    rules_of: Vec<Vec<usize>>,
+    laid: Vec<LaidRule>,
+    numbers: Numbers,
+}
+
+impl Known {
+    fn new(
+        alloc: Global,
+        tyenv: &TypeEnv,
+        termenv: &TermEnv,
+        rule_sets: &[(TermId, RuleSet)],
+    ) -> Result<Known, AllocError>
+        requires rooted { All (λ rule. rule.root_term.0 < length termenv.now.terms) termenv.now.rules }
+        requires within { All (λ (set : TermNumber × RulesOverSites). set.0.0 < length termenv.now.terms) rule_sets.now }
+        ensures listed { IfOk result (λ known. AreListedInOrder termenv.now.rules known.rules_of.items) }
+        ensures laid_out { IfOk result (λ known. (types : TypeTables) → AreRulesLaidOut types termenv.now known.laid.items) }
+        ensures numbered { IfOk result (λ known. AreNumbersOf tyenv.now termenv.now rule_sets.now known.numbers) }
+    {
+        let rules_of = rules_by_term(alloc, termenv)?;
+        let laid = lay_rules(alloc, termenv)?;
+        let numbers = Numbers::new(alloc, tyenv, termenv, rule_sets)?;
+        Ok(Known {
+            rules_of,
+            laid,
+            numbers,
+        })
     }
 }
 

@@ -15,97 +15,159 @@ fn ids(alloc: Global, numbers: [u16; 2]) -> Result<Seq<BindingId>, AllocError> {
     Ok(Seq::new(vec![in alloc; BindingId(numbers[0]), BindingId(numbers[1])]?))
 }
 
-/// A site of each kind, in the order of kinds.
-fn sites(alloc: Global) -> Result<Vec<Binding>, AllocError> {
+/// How many kinds of sites there are.
+const KINDS: usize = 14;
+
+/// A site of a kind, by its place in the order of kinds.
+fn site_of(alloc: Global, kind: usize) -> Result<Binding, AllocError> {
+    match kind {
+        5 => called(alloc, 6, [8, 9], 1),
+        7 => made_variant(alloc, 0, [10, 11]),
+        9 => Ok(Binding::MakeStruct {
+            ty: A,
+            fields: ids(alloc, [12, 13])?,
+        }),
+        _ => Ok(simple_site(kind)),
+    }
+}
+
+/// A site of a kind that holds no list.
+fn simple_site(kind: usize) -> Binding {
     let source = BindingId(7);
     let field = TupleIndex(3);
-    Ok(vec![in alloc;
-        Binding::ConstBool {
+    match kind {
+        0 => Binding::ConstBool {
             val: true,
-            ty: TypeId(0)
+            ty: TypeId(0),
         },
-        Binding::ConstInt { val: -1, ty: U8 },
-        Binding::ConstPrim { val: Sym(4) },
-        Binding::Argument {
-            index: TupleIndex(2)
+        1 => Binding::ConstInt { val: -1, ty: U8 },
+        2 => Binding::ConstPrim { val: Sym(4) },
+        3 => Binding::Argument {
+            index: TupleIndex(2),
         },
-        Binding::Extractor {
+        4 => Binding::Extractor {
             term: TermId(5),
-            parameter: source
+            parameter: source,
         },
-        Binding::Constructor {
-            term: TermId(6),
-            parameters: ids(alloc, [8, 9])?,
-            instance: 1
-        },
-        Binding::Iterator { source },
-        Binding::MakeVariant {
-            ty: A,
-            variant: VariantId(0),
-            fields: ids(alloc, [10, 11])?
-        },
-        Binding::MatchVariant {
+        6 => Binding::Iterator { source },
+        8 => Binding::MatchVariant {
             source,
             variant: VariantId(0),
-            field
+            field,
         },
-        Binding::MakeStruct {
-            ty: A,
-            fields: ids(alloc, [12, 13])?
-        },
-        Binding::ExtractStruct { source, field },
-        Binding::MakeSome { inner: source },
-        Binding::MatchSome { source },
-        Binding::MatchTuple { source, field },
-    ]?)
+        10 => Binding::ExtractStruct { source, field },
+        11 => Binding::MakeSome { inner: source },
+        12 => Binding::MatchSome { source },
+        _ => Binding::MatchTuple { source, field },
+    }
+}
+
+fn int_site(val: i128, ty: usize) -> Binding {
+    Binding::ConstInt {
+        val,
+        ty: TypeId(ty),
+    }
+}
+
+fn field_site(source: u16, field: u8) -> Binding {
+    Binding::MatchTuple {
+        source: BindingId(source),
+        field: TupleIndex(field),
+    }
+}
+
+fn called(
+    alloc: Global,
+    term: usize,
+    parameters: [u16; 2],
+    instance: u32,
+) -> Result<Binding, AllocError> {
+    Ok(Binding::Constructor {
+        term: TermId(term),
+        parameters: ids(alloc, parameters)?,
+        instance,
+    })
+}
+
+fn made_variant(alloc: Global, variant: usize, fields: [u16; 2]) -> Result<Binding, AllocError> {
+    Ok(Binding::MakeVariant {
+        ty: A,
+        variant: VariantId(variant),
+        fields: ids(alloc, fields)?,
+    })
+}
+
+/// Whether one stands before the other.
+fn ascend(one: Binding, other: Binding) -> bool {
+    one < other
+}
+
+/// Whether a site of each kind stands before that of the next kind.
+fn kinds_ascend(alloc: Global) -> Result<bool, AllocError> {
+    for kind in 1..KINDS {
+        if !ascend(site_of(alloc, kind - 1)?, site_of(alloc, kind)?) {
+            return Ok(false);
+        }
+    }
+    Ok(true)
+}
+
+/// Writes the numbers of the parts that a site is made of.
+fn write_parts(out: &mut String, site: Binding) -> Result<(), AllocError> {
+    for part in site.sources() {
+        let number = format!(in *out.allocator(); " {}", part.index())?;
+        out.push_str(number.as_str())?;
+    }
+    out.push(';')
+}
+
+/// The numbers of the parts that the site of each kind is made of.
+fn parts_of_kinds(alloc: Global) -> Result<String, AllocError> {
+    let mut out = String::new(alloc);
+    for kind in 0..KINDS {
+        write_parts(&mut out, site_of(alloc, kind)?)?;
+    }
+    Ok(out)
 }
 
 /// Kinds are ordered as they are declared, and a site has the parts that it is made of.
 #[test]
 fn sites_ascend_by_kind(rt: HostRuntime) -> Result<(), Fail> {
-    let alloc = rt.alloc();
-    let sites = sites(alloc)?;
-    for i in 1..sites.len() {
-        assert!(rt; sites[i - 1] < sites[i]);
-    }
-    let mut parts = String::new(alloc);
-    for site in sites.as_slice() {
-        for part in site.sources() {
-            parts.push_str(format!(in alloc; " {}", part.index())?.as_str())?;
-        }
-        parts.push_str(";")?;
-    }
+    assert!(rt; kinds_ascend(rt.alloc())?);
     assert_eq!(rt;
-        parts.as_str(),
+        parts_of_kinds(rt.alloc())?.as_str(),
         ";;;; 7; 8 9; 7; 10 11; 7; 12 13; 7; 7; 7; 7;"
     );
     Ok(())
 }
 
+fn integers_ascend() -> bool {
+    ascend(int_site(-1, 9), int_site(0, 1))
+        && ascend(int_site(0, 1), int_site(0, 2))
+        && int_site(0, 1) == int_site(0, 1)
+}
+
+fn fields_ascend() -> bool {
+    ascend(field_site(1, 9), field_site(2, 0)) && ascend(field_site(1, 8), field_site(1, 9))
+}
+
+/// Whether one call stands before another of the same term.
+fn calls_ascend(
+    alloc: Global,
+    one: ([u16; 2], u32),
+    other: ([u16; 2], u32),
+) -> Result<bool, AllocError> {
+    let one = called(alloc, 0, one.0, one.1)?;
+    Ok(ascend(one, called(alloc, 0, other.0, other.1)?))
+}
+
 /// Within a kind, the fields decide in order.
 #[test]
 fn sites_ascend_by_fields(rt: HostRuntime) -> Result<(), Fail> {
-    let alloc = rt.alloc();
-    let int = |val: i128, ty: usize| Binding::ConstInt {
-        val,
-        ty: TypeId(ty),
-    };
-    assert!(rt; int(-1, 9) < int(0, 1));
-    assert!(rt; int(0, 1) < int(0, 2));
-    assert!(rt; int(0, 1) == int(0, 1));
-    let field = |source: u16, field: u8| Binding::MatchTuple {
-        source: BindingId(source),
-        field: TupleIndex(field),
-    };
-    assert!(rt; field(1, 9) < field(2, 0));
-    assert!(rt; field(1, 8) < field(1, 9));
-    let call = |parameters: Seq<BindingId>, instance: u32| Binding::Constructor {
-        term: TermId(0),
-        parameters,
-        instance,
-    };
-    assert!(rt; call(ids(alloc, [1, 2])?, 5) < call(ids(alloc, [1, 3])?, 0));
-    assert!(rt; call(ids(alloc, [1, 2])?, 0) < call(ids(alloc, [1, 2])?, 1));
+    assert!(rt; integers_ascend());
+    assert!(rt; fields_ascend());
+    assert!(rt; calls_ascend(rt.alloc(), ([1, 2], 5), ([1, 3], 0))?);
+    assert!(rt; calls_ascend(rt.alloc(), ([1, 2], 0), ([1, 2], 1))?);
     Ok(())
 }
 
@@ -117,71 +179,100 @@ const fn variant(ty: usize, variant: usize) -> Constraint {
     }
 }
 
-/// A test that passes makes the fields of a variant or a struct, or the content of an option.
-#[test]
-fn tests_make_sites(rt: HostRuntime) -> Result<(), Fail> {
-    let alloc = rt.alloc();
-    let source = BindingId(7);
-    let fields = variant(13, 4).bindings_for(alloc, source)?;
-    assert_eq!(rt; fields.as_slice().len(), 2);
+/// Whether a test that site 7 passes makes so many sites, of which this is the last.
+fn makes(
+    alloc: Global,
+    test: &Constraint,
+    count: usize,
+    last: &Binding,
+) -> Result<bool, AllocError> {
+    let made = test.bindings_for(alloc, BindingId(7))?;
+    Ok(made.as_slice().len() == count && made.as_slice().last() == Some(last))
+}
+
+/// Whether a test makes no site.
+fn makes_none(alloc: Global, test: &Constraint) -> Result<bool, AllocError> {
+    let made = test.bindings_for(alloc, BindingId(7))?;
+    Ok(made.as_slice().is_empty())
+}
+
+fn makes_field_of_variant(alloc: Global) -> Result<bool, AllocError> {
     let second = Binding::MatchVariant {
-        source,
+        source: BindingId(7),
         variant: VariantId(4),
         field: TupleIndex(1),
     };
-    assert!(rt; fields.as_slice()[1] == second);
-    let of_struct = Constraint::Struct {
+    makes(alloc, &variant(13, 4), 2, &second)
+}
+
+fn makes_field_of_struct(alloc: Global) -> Result<bool, AllocError> {
+    let test = Constraint::Struct {
         ty: A,
         fields: TupleIndex(1),
-    }
-    .bindings_for(alloc, source)?;
-    assert_eq!(rt; of_struct.as_slice().len(), 1);
-    assert!(rt;
-        of_struct.as_slice()[0]
-            == Binding::ExtractStruct {
-                source,
-                field: TupleIndex(0)
-            }
-    );
-    let content = Constraint::Some.bindings_for(alloc, source)?;
-    assert_eq!(rt; content.as_slice().len(), 1);
-    assert!(rt; content.as_slice()[0] == Binding::MatchSome { source });
-    let none = Constraint::ConstPrim { val: Sym(4) }.bindings_for(alloc, source)?;
-    assert_eq!(rt; none.as_slice().len(), 0);
+    };
+    let first = Binding::ExtractStruct {
+        source: BindingId(7),
+        field: TupleIndex(0),
+    };
+    makes(alloc, &test, 1, &first)
+}
+
+fn makes_content(alloc: Global) -> Result<bool, AllocError> {
+    let content = Binding::MatchSome {
+        source: BindingId(7),
+    };
+    makes(alloc, &Constraint::Some, 1, &content)
+}
+
+/// A test that passes makes the fields of a variant or a struct, or the content of an option.
+#[test]
+fn tests_make_sites(rt: HostRuntime) -> Result<(), Fail> {
+    assert!(rt; makes_field_of_variant(rt.alloc())?);
+    assert!(rt; makes_field_of_struct(rt.alloc())?);
+    assert!(rt; makes_content(rt.alloc())?);
+    assert!(rt; makes_none(rt.alloc(), &Constraint::ConstPrim { val: Sym(4) })?);
     Ok(())
+}
+
+fn int(val: i128, ty: usize) -> Constraint {
+    Constraint::ConstInt {
+        val,
+        ty: TypeId(ty),
+    }
+}
+
+/// Whether tests of variants, and of anything else, may be passed by a variant that is made.
+fn variants_meet(made: &Binding) -> bool {
+    variant(13, 4).compatible(made)
+        && !variant(13, 5).compatible(made)
+        && !variant(14, 4).compatible(made)
+        && int(5, 1).compatible(made)
+}
+
+fn integers_meet(literal: &Binding) -> bool {
+    int(5, 1).compatible(literal)
+        && !int(6, 1).compatible(literal)
+        && !int(5, 2).compatible(literal)
+}
+
+/// Whether a test of a truth value may be passed by the other one.
+fn truth_values_meet() -> bool {
+    let test = Constraint::ConstBool {
+        val: true,
+        ty: TypeId(0),
+    };
+    test.compatible(&Binding::ConstBool {
+        val: false,
+        ty: TypeId(0),
+    })
 }
 
 /// A test is told from another variant that is made, and from another literal, and from nothing else.
 #[test]
 fn tests_meet_what_is_made(rt: HostRuntime) -> Result<(), Fail> {
-    let alloc = rt.alloc();
-    let made = Binding::MakeVariant {
-        ty: A,
-        variant: VariantId(4),
-        fields: ids(alloc, [1, 2])?,
-    };
-    assert!(rt; variant(13, 4).compatible(&made));
-    assert!(rt; !variant(13, 5).compatible(&made));
-    assert!(rt; !variant(14, 4).compatible(&made));
-    let int = |val: i128, ty: usize| Constraint::ConstInt {
-        val,
-        ty: TypeId(ty),
-    };
-    let literal = Binding::ConstInt { val: 5, ty: U8 };
-    assert!(rt; int(5, 1).compatible(&literal));
-    assert!(rt; !int(6, 1).compatible(&literal));
-    assert!(rt; !int(5, 2).compatible(&literal));
-    assert!(rt; int(5, 1).compatible(&made));
-    assert!(rt;
-        Constraint::ConstBool {
-            val: true,
-            ty: TypeId(0)
-        }
-        .compatible(&Binding::ConstBool {
-            val: false,
-            ty: TypeId(0)
-        })
-    );
+    assert!(rt; variants_meet(&made_variant(rt.alloc(), 4, [1, 2])?));
+    assert!(rt; integers_meet(&int_site(5, 1)));
+    assert!(rt; truth_values_meet());
     Ok(())
 }
 

@@ -1,12 +1,43 @@
 //! Values, worlds, queries and calls of a program.
-mod calls;
-mod values;
-mod worlds;
+pub mod calls;
+pub mod values;
+pub mod worlds;
 
 use isle_run::{Answer, Program, World, compile};
 use isle_syntax::files::Files;
 use std::alloc::{AllocError, Global};
 use std::rc::Rc;
+use std::test::Fail;
+
+/// What is asked of a text in the program.
+#[derive(Clone, Copy)]
+pub enum InProgram {
+    /// What it is read as behind a type.
+    Value,
+    /// What a table world answers it, or what it comes to as a call in that world.
+    Answer,
+    /// What it comes to as a call behind what a world answers.
+    Judged,
+}
+
+/// The answer of a text.
+pub fn answer(alloc: Global, asked: InProgram, row: &str) -> Result<String, Fail> {
+    let program = program(alloc)?;
+    answer_in(alloc, &program, asked, row)
+}
+
+fn answer_in(
+    alloc: Global,
+    program: &Program,
+    asked: InProgram,
+    row: &str,
+) -> Result<String, Fail> {
+    match asked {
+        InProgram::Value => values::read(alloc, program, row),
+        InProgram::Answer => calls::answered(alloc, program, row),
+        InProgram::Judged => worlds::judged(alloc, program, row),
+    }
+}
 
 // Types: `Name` and `Op` come behind the builtin ones.
 pub const RULES: &str =
@@ -18,7 +49,7 @@ pub const RULES: &str =
     (decl first (Op) i8) (rule (first (op a _)) a)";
 
 /// The program of the rules.
-pub fn program(alloc: Global) -> Result<Program, AllocError> {
+fn program(alloc: Global) -> Result<Program, AllocError> {
     let texts = vec![in alloc;
         (
             String::from_str(alloc, "a.isle")?,

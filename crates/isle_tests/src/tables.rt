@@ -1,6 +1,11 @@
 //! Tables of texts, with what is wanted of each.
-use crate::layout::spellings::{LAYOUTS, SPELLINGS, laid_out};
+use crate::layout::spellings::{LAYOUTS, PARTS, SPELLINGS, laid_out, part};
 use crate::layout::writable::{NESTED, RENAMED, renamed};
+use crate::run;
+use crate::run::InProgram;
+use crate::run::calls::ANSWERS;
+use crate::run::values::{MADE, VALUES, made};
+use crate::run::worlds::JUDGED;
 use crate::syntax::lexer::{CLASSES, TOKENS, classes, listing};
 use crate::syntax::readings::{BOUNDS, FAULTS, OFFSETS, offsets, verdicts};
 use crate::syntax::trees::{CALLS, TEMPLATES, shown_filled, told};
@@ -29,12 +34,18 @@ pub enum Asked {
     Spellings,
     /// How it is laid out.
     Layouts,
+    /// What is printed of a part of that name.
+    Parts,
     /// Whether it can be written under another name.
     Renamed,
     /// The same at the bounds of nesting.
     Nested,
     /// Whether it keeps the rules of types.
     Types,
+    /// What the maker of that name makes.
+    Made,
+    /// What comes of it in a program.
+    Run(InProgram),
 }
 
 /// The texts of which it is asked.
@@ -49,9 +60,14 @@ fn table(asked: Asked) -> &'static str {
         Asked::Templates => TEMPLATES,
         Asked::Spellings => SPELLINGS,
         Asked::Layouts => LAYOUTS,
+        Asked::Parts => PARTS,
         Asked::Renamed => RENAMED,
         Asked::Nested => NESTED,
         Asked::Types => VERDICTS,
+        Asked::Made => MADE,
+        Asked::Run(InProgram::Value) => VALUES,
+        Asked::Run(InProgram::Answer) => ANSWERS,
+        Asked::Run(InProgram::Judged) => JUDGED,
     }
 }
 
@@ -64,8 +80,11 @@ fn answer(alloc: Global, asked: Asked, text: &str) -> Result<String, Fail> {
         Asked::Calls => told(alloc, text),
         Asked::Templates => shown_filled(alloc, text),
         Asked::Spellings | Asked::Layouts => laid_out(alloc, text),
+        Asked::Parts => part(alloc, text),
         Asked::Renamed | Asked::Nested => renamed(alloc, text),
         Asked::Types => judged(alloc, text),
+        Asked::Made => made(alloc, text),
+        Asked::Run(asked) => run::answer(alloc, asked, text),
     }
 }
 
@@ -104,8 +123,13 @@ fn texts_are_answered(rt: HostRuntime) -> Result<(), Fail> {
         Asked::Templates,
         Asked::Spellings,
         Asked::Layouts,
+        Asked::Parts,
         Asked::Renamed,
         Asked::Types,
+        Asked::Made,
+        Asked::Run(InProgram::Value),
+        Asked::Run(InProgram::Answer),
+        Asked::Run(InProgram::Judged),
     ] {
         assert_eq!(rt; first_mistake(rt.alloc(), asked)?.as_str(), "");
     }

@@ -30,3 +30,5 @@ pub mod CommandLemmas
 pub mod ValueLemmas
 -- What `islec` finds in words that are written out.
 pub mod CommandCases
+-- Where effects lead, and which world replies leave.
+pub mod ReplyCases

@@ -22,7 +22,7 @@ fn checked(alloc: Global, text: &str) -> Result<Vec<(TermId, RuleSet)>, Refused>
 }
 
 /// The rule sets of a text's terms, whatever is wrong with its rules.
-fn built(alloc: Global, text: &str) -> Result<TermSets, Refused> {
+fn sets_of(alloc: Global, text: &str) -> Result<TermSets, Refused> {
     let (_tyenv, termenv) = environments(alloc, text)?;
     build(alloc, &termenv)
 }
@@ -42,14 +42,11 @@ const TIED: &str = "(decl partial term (u8 u8) u8) (rule (term x @ 2 x) 7)";
 
 /// A name that stands again has the test of what it is bound to, so that no equality is left. The arguments come first, then
 /// the right side, then the made option of a term that may fail.
-#[test]
-fn tests_pass_to_what_is_equal(rt: HostRuntime) -> Result<(), Fail> {
-    let sets = checked(rt.alloc(), TIED)?;
-    assert_eq!(rt; sets.len(), 1);
-    assert_eq!(rt; sets[0].0, TermId(0));
-    assert!(rt; has_tied_sites(&sets[0].1));
-    assert!(rt; are_tied(sets[0].1.rules()));
-    Ok(())
+fn tests_pass_to_what_is_equal(sets: &[(TermId, RuleSet)]) -> bool {
+    match sets {
+        [(term, set)] => *term == TermId(0) && has_tied_sites(set) && are_tied(set.rules()),
+        _ => false,
+    }
 }
 
 fn has_tied_sites(set: &RuleSet) -> bool {
@@ -88,15 +85,14 @@ const fn field(source: u16, field: u8) -> Binding {
 }
 
 /// What equals a variant is one too, so that its fields are opened, behind all that the rule needs, and equal the other's.
-#[test]
-fn equal_sites_have_equal_fields(rt: HostRuntime) -> Result<(), Fail> {
-    let sets = checked(rt.alloc(), OPENED)?;
-    assert_eq!(rt; sets.len(), 1);
-    let set = &sets[0].1;
-    assert!(rt; has_opened_sites(set.bindings()));
-    let opened = set.find_binding(&field(3, 0)).expect(&rt, "a field");
-    assert!(rt; are_opened(set.rules(), opened));
-    Ok(())
+fn equal_sites_have_equal_fields(sets: &[(TermId, RuleSet)]) -> bool {
+    match sets {
+        [(_term, set)] => {
+            has_opened_sites(set.bindings())
+                && are_opened(set.rules(), set.find_binding(&field(3, 0)))
+        }
+        _ => false,
+    }
 }
 
 fn has_opened_sites(sites: &[Binding]) -> bool {
@@ -104,10 +100,14 @@ fn has_opened_sites(sites: &[Binding]) -> bool {
     sites.len() == 7 && &sites[..5] == needed.as_slice()
 }
 
-fn are_opened(rules: &[Rule], opened: BindingId) -> bool {
-    let [rule] = rules else {
-        return false;
-    };
+fn are_opened(rules: &[Rule], opened: Option<BindingId>) -> bool {
+    match (rules, opened) {
+        ([rule], Some(opened)) => is_opened(rule, opened),
+        _ => false,
+    }
+}
+
+fn is_opened(rule: &Rule, opened: BindingId) -> bool {
     rule.total_constraints() == 6
         && rule.get_constraint(BindingId(3)).copied() == Some(variant(13, 0))
         && rule.equals.in_same_set(BindingId(1), opened)
@@ -125,22 +125,17 @@ fn overlap(rules: &[Rule], first: usize, second: usize) -> Option<Overlap> {
     Some(first.may_overlap(second))
 }
 
+/// Whether two rules, in either order, are told so.
+fn are_told(rules: &[Rule], first: usize, second: usize, wanted: Overlap) -> bool {
+    overlap(rules, first, second) == Some(wanted) && overlap(rules, second, first) == Some(wanted)
+}
+
 /// Rules may match together unless a site has different tests in them; where one has all tests of the other, as a subset.
-#[test]
-fn overlaps_are_told(rt: HostRuntime) -> Result<(), Fail> {
-    let made = built(rt.alloc(), OVERLAPPING)?;
-    assert_eq!(rt; made.sets.len(), 1);
-    let rules = made.sets[0].1.rules();
-    for (first, second, wanted) in [
-        (0, 1, Overlap::Yes { subset: false }),
-        (1, 2, Overlap::Yes { subset: true }),
-        (0, 2, Overlap::Yes { subset: true }),
-        (0, 3, Overlap::No),
-    ] {
-        assert_eq!(rt; overlap(rules, first, second), Some(wanted));
-        assert_eq!(rt; overlap(rules, second, first), Some(wanted));
-    }
-    Ok(())
+fn overlaps_are_told(rules: &[Rule]) -> bool {
+    are_told(rules, 0, 1, Overlap::Yes { subset: false })
+        && are_told(rules, 1, 2, Overlap::Yes { subset: true })
+        && are_told(rules, 0, 2, Overlap::Yes { subset: true })
+        && are_told(rules, 0, 3, Overlap::No)
 }
 
 /// The offsets of spans, each behind a space.
@@ -191,20 +186,7 @@ fn faults(alloc: Global, text: &str) -> Result<String, AllocError> {
 // No value is both 1 and 2.
 const UNREACHABLE: &str = "(decl f (u8) u8) (rule (f (and 1 2)) 1) (rule (f 3) 2)";
 
-/// A rule that never matches is left out of its rule set, and its sites too, and it is the one that is reported.
-#[test]
-fn unreachable_rules_are_left_out(rt: HostRuntime) -> Result<(), Fail> {
-    assert_eq!(rt;
-        faults(rt.alloc(), UNREACHABLE)?.as_str(),
-        "unreachable 23;"
-    );
-    let made = built(rt.alloc(), UNREACHABLE)?;
-    assert_eq!(rt; made.sets.len(), 1);
-    assert!(rt; is_of_the_second_rule(&made.sets[0].1));
-    assert_eq!(rt; made.unreachable.len(), 1);
-    Ok(())
-}
-
+/// A rule that never matches is left out of its rule set, and its sites too.
 fn is_of_the_second_rule(set: &RuleSet) -> bool {
     let sites = [argument(0), int(2)];
     match set.rules() {
@@ -229,15 +211,18 @@ fn call(alloc: Global, term: TermId) -> Result<Binding, AllocError> {
 }
 
 /// Argument 0 is the site 0, the call of it 1 and one value of the call 2, which is the result; both rules have them.
-#[test]
-fn multi_calls_give_iterators(rt: HostRuntime) -> Result<(), Fail> {
-    let sets = checked(rt.alloc(), CALLS)?;
-    assert_eq!(rt; sets.len(), 2);
-    assert_eq!(rt; sets[0].0, TermId(1));
-    let set = &sets[0].1;
-    assert!(rt; has_sites_of_many(rt.alloc(), set.bindings())?);
-    assert!(rt; give_many(set.rules()));
-    Ok(())
+fn multi_calls_give_iterators(
+    alloc: Global,
+    sets: &[(TermId, RuleSet)],
+) -> Result<bool, AllocError> {
+    match sets {
+        [(term, set), _other] => Ok(
+            *term == TermId(1)
+                && has_sites_of_many(alloc, set.bindings())?
+                && give_many(set.rules()),
+        ),
+        _ => Ok(false),
+    }
 }
 
 fn has_sites_of_many(alloc: Global, sites: &[Binding]) -> Result<bool, AllocError> {
@@ -262,14 +247,66 @@ fn gives_many(rule: &Rule) -> bool {
 }
 
 /// Argument 0 is the site 0, the call of it 1 and the call's content 2, whose made option, the result, is 3.
+fn partial_calls_give_contents(
+    alloc: Global,
+    sets: &[(TermId, RuleSet)],
+) -> Result<bool, AllocError> {
+    match sets {
+        [_other, (term, set)] => Ok(
+            *term == TermId(3)
+                && has_sites_of_contents(alloc, set.bindings())?
+                && give_contents(set.rules()),
+        ),
+        _ => Ok(false),
+    }
+}
+
+/// What is asked of the rule sets of accepted rules.
+#[derive(Clone, Copy)]
+enum FaultlessRules {
+    Tied,
+    Opened,
+    Many,
+    Contents,
+}
+
+fn accepted_text(asked: FaultlessRules) -> &'static str {
+    match asked {
+        FaultlessRules::Tied => TIED,
+        FaultlessRules::Opened => OPENED,
+        FaultlessRules::Many | FaultlessRules::Contents => CALLS,
+    }
+}
+
+fn accepted_hold(
+    alloc: Global,
+    sets: &[(TermId, RuleSet)],
+    asked: FaultlessRules,
+) -> Result<bool, AllocError> {
+    match asked {
+        FaultlessRules::Tied => Ok(tests_pass_to_what_is_equal(sets)),
+        FaultlessRules::Opened => Ok(equal_sites_have_equal_fields(sets)),
+        FaultlessRules::Many => multi_calls_give_iterators(alloc, sets),
+        FaultlessRules::Contents => partial_calls_give_contents(alloc, sets),
+    }
+}
+
+/// Whether the rule sets of accepted rules are so.
+fn are_accepted(alloc: Global, asked: FaultlessRules) -> Result<bool, Fail> {
+    let sets = checked(alloc, accepted_text(asked))?;
+    Ok(accepted_hold(alloc, sets.as_slice(), asked)?)
+}
+
 #[test]
-fn partial_calls_give_contents(rt: HostRuntime) -> Result<(), Fail> {
-    let sets = checked(rt.alloc(), CALLS)?;
-    assert_eq!(rt; sets.len(), 2);
-    assert_eq!(rt; sets[1].0, TermId(3));
-    let set = &sets[1].1;
-    assert!(rt; has_sites_of_contents(rt.alloc(), set.bindings())?);
-    assert!(rt; give_contents(set.rules()));
+fn accepted_rules_have_their_sets(rt: HostRuntime) -> Result<(), Fail> {
+    for asked in [
+        FaultlessRules::Tied,
+        FaultlessRules::Opened,
+        FaultlessRules::Many,
+        FaultlessRules::Contents,
+    ] {
+        assert!(rt; are_accepted(rt.alloc(), asked)?);
+    }
     Ok(())
 }
 
@@ -299,16 +336,63 @@ fn give_contents(rules: &[Rule]) -> bool {
 const RIVALS: &str =
     "(decl f (u8 u8) u8) (rule (f 1 _) 2) (rule (f _ 1) 3) (rule 1 (f _ 1) 4) (rule 2 (f x x) 5)";
 
-/// Rules of one priority overlap, one of a higher priority shadows; one with an equality left shadows none.
+/// What is asked of the rule sets of any rules.
+#[derive(Clone, Copy)]
+enum AnyRules {
+    Overlapping,
+    Unreachable,
+    Rivals,
+}
+
+fn built_text(asked: AnyRules) -> &'static str {
+    match asked {
+        AnyRules::Overlapping => OVERLAPPING,
+        AnyRules::Unreachable => UNREACHABLE,
+        AnyRules::Rivals => RIVALS,
+    }
+}
+
+fn built_hold(alloc: Global, made: &TermSets, asked: AnyRules) -> Result<bool, AllocError> {
+    let [(_term, set)] = made.sets.as_slice() else {
+        return Ok(false);
+    };
+    match asked {
+        AnyRules::Overlapping => Ok(overlaps_are_told(set.rules())),
+        AnyRules::Unreachable => Ok(is_of_the_second_rule(set) && made.unreachable.len() == 1),
+        AnyRules::Rivals => are_rivals(alloc, set.rules()),
+    }
+}
+
+/// Whether the rule sets of rules are so, whatever is wrong with the rules.
+fn are_built(alloc: Global, asked: AnyRules) -> Result<bool, Fail> {
+    let made = sets_of(alloc, built_text(asked))?;
+    Ok(built_hold(alloc, &made, asked)?)
+}
+
 #[test]
-fn rivals_are_listed_and_reported(rt: HostRuntime) -> Result<(), Fail> {
+fn rules_have_their_sets(rt: HostRuntime) -> Result<(), Fail> {
+    for asked in [
+        AnyRules::Overlapping,
+        AnyRules::Unreachable,
+        AnyRules::Rivals,
+    ] {
+        assert!(rt; are_built(rt.alloc(), asked)?);
+    }
+    Ok(())
+}
+
+/// A rule that never matches is the one that is reported. Rules of one priority overlap, one of a higher priority shadows; one with an
+/// equality left shadows none.
+#[test]
+fn faults_are_listed(rt: HostRuntime) -> Result<(), Fail> {
+    assert_eq!(rt;
+        faults(rt.alloc(), UNREACHABLE)?.as_str(),
+        "unreachable 23;"
+    );
     assert_eq!(rt;
         faults(rt.alloc(), RIVALS)?.as_str(),
         "overlapping 43 26;shadowing 60 43;"
     );
-    let made = built(rt.alloc(), RIVALS)?;
-    assert_eq!(rt; made.sets.len(), 1);
-    assert!(rt; are_rivals(rt.alloc(), made.sets[0].1.rules())?);
     Ok(())
 }
 

@@ -212,20 +212,22 @@ fn binding(alloc: Global) -> Result<String, AllocError> {
     SExpr::Binding(Text::from_str(alloc, "x")?, below).print(alloc, 0)
 }
 
-#[test]
-fn parts_print_alone(rt: HostRuntime) -> Result<(), Fail> {
-    let alloc = rt.alloc();
+/// Parts of definitions, by their names.
+pub const PARTS: &str = "
+| binding → x @ (f)
+| name → Op
+| item → @
+| wildcard → (if-let _ 1)
+| argument → a numbered argument of a template can't be printed";
+
+/// What is printed of a part by itself.
+pub fn part(alloc: Global, name: &str) -> Result<String, Fail> {
     let pos = Pos::default();
-    assert_eq!(rt; binding(alloc)?.as_str(), "x @ (f)");
-    assert_eq!(rt; shown_name(alloc, "Op")?.as_str(), "Op");
-    assert_eq!(rt; shown_item(alloc, KeptItem::At { pos })?.as_str(), "@");
-    assert_eq!(rt;
-        shown_clause(alloc, Pattern::Wildcard { pos })?.as_str(),
-        "(if-let _ 1)"
-    );
-    assert_eq!(rt;
-        shown_clause(alloc, Pattern::MacroArg { index: 0, pos })?.as_str(),
-        "a numbered argument of a template can't be printed"
-    );
-    Ok(())
+    match name {
+        "binding" => Ok(binding(alloc)?),
+        "name" => shown_name(alloc, "Op"),
+        "item" => shown_item(alloc, KeptItem::At { pos }),
+        "wildcard" => shown_clause(alloc, Pattern::Wildcard { pos }),
+        _ => shown_clause(alloc, Pattern::MacroArg { index: 0, pos }),
+    }
 }

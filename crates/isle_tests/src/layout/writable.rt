@@ -176,8 +176,12 @@ pub fn renamed(alloc: Global, row: &str) -> Result<String, Fail> {
     }
 }
 
-fn is_written(def: Def) -> bool {
-    writable(&def)
+fn is_written(alloc: Global, def: Def) -> Result<bool, AllocError> {
+    let defs = vec![in alloc; def]?;
+    match defs.first() {
+        Some(def) => Ok(writable(def)),
+        None => Ok(false),
+    }
 }
 
 fn extractor_of(alloc: Global, term: Ident, template: Pattern) -> Def {
@@ -192,7 +196,7 @@ fn extractor_of(alloc: Global, term: Ident, template: Pattern) -> Def {
 /// Whether the internal extractor `e` with this template is writable.
 fn is_template(alloc: Global, template: Pattern) -> Result<bool, AllocError> {
     let term = Ident(Text::from_str(alloc, "e")?, Pos::default());
-    Ok(is_written(extractor_of(alloc, term, template)))
+    is_written(alloc, extractor_of(alloc, term, template))
 }
 
 fn is_constant(alloc: Global, val: i128, big: bool) -> Result<bool, AllocError> {
@@ -231,7 +235,7 @@ fn struct_of(name: Ident, fields: Fields) -> Def {
 /// Whether the struct `T` with these fields is writable.
 fn is_struct(alloc: Global, fields: Fields) -> Result<bool, AllocError> {
     let name = Ident(Text::from_str(alloc, "T")?, Pos::default());
-    Ok(is_written(struct_of(name, fields)))
+    is_written(alloc, struct_of(name, fields))
 }
 
 /// Fields without names: one with this index, of this type.
@@ -277,7 +281,7 @@ fn kept_of(word: Ident, items: KeptItems) -> Def {
 fn is_kept(alloc: Global, item: KeptItem) -> Result<bool, AllocError> {
     let items = vec![in alloc; item]?;
     let word = Ident(Text::from_str(alloc, "attr")?, Pos::default());
-    Ok(is_written(kept_of(word, KeptItems::new(items))))
+    is_written(alloc, kept_of(word, KeptItems::new(items)))
 }
 
 fn is_symbol(alloc: Global, text: &str) -> Result<bool, AllocError> {
@@ -337,14 +341,17 @@ fn is_let(alloc: Global, name: &str) -> Result<bool, AllocError> {
     let expr = let_of(alloc, name)?;
     let sym = Ident(Text::from_str(alloc, "t")?, pos);
     let args = Patterns::new(Vec::new(alloc));
-    Ok(is_written(rule_of(alloc, Pattern::Term { sym, args, pos }, expr)))
+    is_written(
+        alloc,
+        rule_of(alloc, Pattern::Term { sym, args, pos }, expr),
+    )
 }
 
 /// Whether a rule is writable whose left side is a variable, which is no list.
 fn is_of_variable(alloc: Global) -> Result<bool, AllocError> {
     let pos = Pos::default();
     let var = Ident(Text::from_str(alloc, "x")?, pos);
-    Ok(is_written(rule_of(alloc, Pattern::Var { var, pos }, zero())))
+    is_written(alloc, rule_of(alloc, Pattern::Var { var, pos }, zero()))
 }
 
 fn are_sides(alloc: Global) -> Result<bool, AllocError> {

@@ -1,5 +1,5 @@
 //! Worlds that are asked, and calls in them.
-use super::{called, program};
+use super::called;
 use isle_run::{Program, TableWorld, Value, World, is_blank};
 use std::alloc::{AllocError, Global};
 use std::test::Fail;
@@ -23,24 +23,21 @@ fn told(alloc: Global, answer: Option<Value>) -> Result<String, AllocError> {
 }
 
 /// What an effect is answered.
-fn effect_of(alloc: Global, number: i128) -> Result<String, AllocError> {
-    let mut world = table(alloc, &program(alloc)?)?;
+fn effect_of(alloc: Global, world: &mut TableWorld, number: i128) -> Result<String, AllocError> {
     let args = vec![in alloc; Value::int(alloc, number)?]?;
     let answer = world.effect(alloc, "make", args.as_slice())?;
     told(alloc, answer)
 }
 
 /// What a pure constructor is answered.
-fn look_at(alloc: Global, number: i128) -> Result<String, AllocError> {
-    let world = table(alloc, &program(alloc)?)?;
+fn look_at(alloc: Global, world: &TableWorld, number: i128) -> Result<String, AllocError> {
     let args = vec![in alloc; Value::int(alloc, number)?]?;
     let answer = world.construct(alloc, "look", args.as_slice())?;
     told(alloc, answer)
 }
 
 /// The first output of an extractor.
-fn taken_of(alloc: Global, name: &str) -> Result<String, AllocError> {
-    let world = table(alloc, &program(alloc)?)?;
+fn taken_of(alloc: Global, world: &TableWorld, name: &str) -> Result<String, AllocError> {
     let value = Value::data(alloc, name, Vec::new(alloc))?;
     match world.extract(alloc, "op", &value)? {
         Some(outputs) => told(alloc, outputs.into_iter().next()),
@@ -48,40 +45,61 @@ fn taken_of(alloc: Global, name: &str) -> Result<String, AllocError> {
     }
 }
 
-/// A call is answered by its entry, else by the `else` of its term, else by none.
-#[test]
-fn worlds_answer(rt: HostRuntime) -> Result<(), Fail> {
-    let alloc = rt.alloc();
-    assert_eq!(rt; effect_of(alloc, 3)?.as_str(), "30");
-    assert_eq!(rt; effect_of(alloc, 5)?.as_str(), "40");
-    assert_eq!(rt; look_at(alloc, 5)?.as_str(), "6");
-    assert_eq!(rt; look_at(alloc, 3)?.as_str(), "none");
-    assert_eq!(rt; taken_of(alloc, "Op.Stop")?.as_str(), "1");
-    assert_eq!(rt; taken_of(alloc, "Op.Add")?.as_str(), "none");
-    Ok(())
+/// Terms with an argument: each is answered by its entry, else by the `else` of its term, else by none. Calls at depths: by a chosen
+/// rule, by none, of a total term that no rule fits, and without depth.
+pub const ANSWERS: &str = "
+| make 3 → 30
+| make 5 → 40
+| look 5 → 6
+| look 3 → none
+| op Op.Stop → 1
+| op Op.Add → none
+| (f 2) at 1 → 1 1 30
+| (f 5) at 1 → 2 1 40
+| (f 7) at 1 → 2 0 none
+| (first (Op.Stop)) at 1 → 1 0 1
+| (first (Op.Add 1 v2)) at 1 → 1 0 stuck
+| (f 2) at 0 → 0 0 spent
+| (g 2) at 1 → refused";
+
+/// What the world answers a term on an argument.
+fn asked(alloc: Global, world: &mut TableWorld, row: &str) -> Result<String, Fail> {
+    let (term, argument) = row.split_once(' ').ok_or("an argument")?;
+    match term {
+        "make" => Ok(effect_of(alloc, world, number(argument)?)?),
+        "look" => Ok(look_at(alloc, world, number(argument)?)?),
+        _ => Ok(taken_of(alloc, world, argument)?),
+    }
 }
 
-/// What a call of a text comes to in the world.
-fn answered(alloc: Global, text: &str, depth: u32) -> Result<String, AllocError> {
-    let program = program(alloc)?;
-    let mut world = table(alloc, &program)?;
-    called(alloc, &program, &mut world, depth, text)
+fn number(text: &str) -> Result<i128, Fail> {
+    Ok(text.parse().ok().ok_or("a number")?)
 }
 
-/// Calls by a chosen rule, by none, of a total term that no rule fits, and without depth.
+/// What a call at a depth comes to, or what the world answers a term on an argument.
+fn answered_in(
+    alloc: Global,
+    program: &Program,
+    world: &mut TableWorld,
+    row: &str,
+) -> Result<String, Fail> {
+    match row.split_once(" at ") {
+        Some((text, depth)) => {
+            let depth = depth.parse().ok().ok_or("a number")?;
+            Ok(called(alloc, program, world, depth, text)?)
+        }
+        None => asked(alloc, world, row),
+    }
+}
+
+/// The same in the world.
+pub fn answered(alloc: Global, program: &Program, row: &str) -> Result<String, Fail> {
+    let mut world = table(alloc, program)?;
+    answered_in(alloc, program, &mut world, row)
+}
+
 #[test]
-fn calls_are_answered(rt: HostRuntime) -> Result<(), Fail> {
-    let alloc = rt.alloc();
-    assert_eq!(rt; answered(alloc, "(f 2)", 1)?.as_str(), "1 1 30");
-    assert_eq!(rt; answered(alloc, "(f 5)", 1)?.as_str(), "2 1 40");
-    assert_eq!(rt; answered(alloc, "(f 7)", 1)?.as_str(), "2 0 none");
-    assert_eq!(rt; answered(alloc, "(first (Op.Stop))", 1)?.as_str(), "1 0 1");
-    assert_eq!(rt;
-        answered(alloc, "(first (Op.Add 1 v2))", 1)?.as_str(),
-        "1 0 stuck"
-    );
-    assert_eq!(rt; answered(alloc, "(f 2)", 0)?.as_str(), "0 0 spent");
-    assert_eq!(rt; answered(alloc, "(g 2)", 1)?.as_str(), "refused");
-    assert!(rt; is_blank(alloc, " ; a comment")?);
+fn comments_are_blank(rt: HostRuntime) -> Result<(), Fail> {
+    assert!(rt; is_blank(rt.alloc(), " ; a comment")?);
     Ok(())
 }

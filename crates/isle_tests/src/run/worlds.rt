@@ -1,6 +1,6 @@
 //! Worlds whose answers their declarations don't allow.
-use super::{called, program};
-use isle_run::{Value, World};
+use super::called;
+use isle_run::{Program, Value, World};
 use std::alloc::{AllocError, Global};
 use std::test::Fail;
 
@@ -77,62 +77,64 @@ fn outputs(alloc: Global, first: i128, count: u64) -> Result<Vec<Value>, AllocEr
     Ok(outputs)
 }
 
-/// What a call comes to where constructors are answered this integer, and how many effects the world has counted.
-fn made(alloc: Global, answer: Option<i128>, text: &str) -> Result<String, AllocError> {
-    let answer = match answer {
-        Some(number) => Some(Value::int(alloc, number)?),
-        None => None,
-    };
-    let mut world = Same {
-        answer,
-        outputs: None,
-        effects: 0,
-    };
-    let told = called(alloc, &program(alloc)?, &mut world, 1, text)?;
+/// What a call comes to, and how many effects the world has counted.
+fn counted(
+    alloc: Global,
+    program: &Program,
+    world: &mut Same,
+    text: &str,
+) -> Result<String, AllocError> {
+    let told = called(alloc, program, world, 1, text)?;
     format!(in alloc; "{told}, {} counted", world.effects)
 }
 
-/// What a call comes to where extractors are answered such outputs.
-fn taken(alloc: Global, first: i128, count: u64) -> Result<String, AllocError> {
-    let mut world = Same {
-        answer: None,
-        outputs: Some(outputs(alloc, first, count)?),
+/// An answer of constructors: an integer, or none.
+fn answer_of(alloc: Global, text: &str) -> Result<Option<Value>, AllocError> {
+    match text.parse().ok() {
+        Some(number) => Ok(Some(Value::int(alloc, number)?)),
+        None => Ok(None),
+    }
+}
+
+/// Outputs of extractors: their first and how many they are, or none.
+fn outputs_of(alloc: Global, text: &str) -> Result<Option<Vec<Value>>, Fail> {
+    match text.split_once(' ') {
+        Some((first, count)) => {
+            let first = first.parse().ok().ok_or("a number")?;
+            let count = count.parse().ok().ok_or("a number")?;
+            Ok(Some(outputs(alloc, first, count)?))
+        }
+        None => Ok(None),
+    }
+}
+
+/// The world of what constructors and extractors are answered.
+fn world_of(alloc: Global, answers: &str) -> Result<Same, Fail> {
+    let (answer, outputs) = answers.split_once(", ").ok_or("outputs")?;
+    let outputs = outputs_of(alloc, outputs)?;
+    Ok(Same {
+        answer: answer_of(alloc, answer)?,
+        outputs,
         effects: 0,
-    };
-    called(alloc, &program(alloc)?, &mut world, 1, "(first (Op.Stop))")
+    })
 }
 
-/// A constructor that answers a value of another type, or none of a total term; that of a condition is judged before any effect.
-#[test]
-fn answers_of_constructors_are_judged(rt: HostRuntime) -> Result<(), Fail> {
-    let alloc = rt.alloc();
-    assert_eq!(rt;
-        made(alloc, Some(127), "(f 2)")?.as_str(),
-        "1 1 127, 1 counted"
-    );
-    assert_eq!(rt;
-        made(alloc, Some(128), "(f 2)")?.as_str(),
-        "1 1 ill-typed, 1 counted"
-    );
-    assert_eq!(rt;
-        made(alloc, None, "(f 2)")?.as_str(),
-        "1 1 ill-typed, 1 counted"
-    );
-    assert_eq!(rt;
-        made(alloc, Some(128), "(f 3)")?.as_str(),
-        "2 0 ill-typed, 0 counted"
-    );
-    assert_eq!(rt; made(alloc, None, "(f 3)")?.as_str(), "2 0 none, 0 counted");
-    Ok(())
-}
+/// What constructors and extractors are answered, with calls: a value of another type, or none of a total term, which is judged before
+/// any effect in a condition; too few outputs, too many, or one of another type.
+pub const JUDGED: &str = "
+| 127, none: (f 2) → 1 1 127, 1 counted
+| 128, none: (f 2) → 1 1 ill-typed, 1 counted
+| none, none: (f 2) → 1 1 ill-typed, 1 counted
+| 128, none: (f 3) → 2 0 ill-typed, 0 counted
+| none, none: (f 3) → 2 0 none, 0 counted
+| none, -128 2: (first (Op.Stop)) → 1 0 -128, 0 counted
+| none, -129 2: (first (Op.Stop)) → 1 0 ill-typed, 0 counted
+| none, 1 1: (first (Op.Stop)) → 1 0 ill-typed, 0 counted
+| none, 1 3: (first (Op.Stop)) → 1 0 ill-typed, 0 counted";
 
-/// An extractor that answers too few outputs, too many, or one of another type.
-#[test]
-fn outputs_of_extractors_are_judged(rt: HostRuntime) -> Result<(), Fail> {
-    let alloc = rt.alloc();
-    assert_eq!(rt; taken(alloc, -128, 2)?.as_str(), "1 0 -128");
-    assert_eq!(rt; taken(alloc, -129, 2)?.as_str(), "1 0 ill-typed");
-    assert_eq!(rt; taken(alloc, 1, 1)?.as_str(), "1 0 ill-typed");
-    assert_eq!(rt; taken(alloc, 1, 3)?.as_str(), "1 0 ill-typed");
-    Ok(())
+/// What a call comes to behind what a world answers.
+pub fn judged(alloc: Global, program: &Program, row: &str) -> Result<String, Fail> {
+    let (answers, text) = row.split_once(": ").ok_or("answers")?;
+    let mut world = world_of(alloc, answers)?;
+    Ok(counted(alloc, program, &mut world, text)?)
 }

@@ -1,13 +1,11 @@
 //! What environments of terms tell by name.
-use super::visits::environments;
 use isle_syntax::files::Files;
 use isle_terms::{Rule, TermEnv};
 use isle_types::{TermId, TypeEnv, TypeId};
 use std::alloc::{AllocError, Global};
-use std::test::Fail;
 
 // The terms are `f`, `g`, `A.V` and `S`, in this order; `A` and `S` have the type numbers 13 and 14.
-const TERMS: &str =
+pub const TERMS: &str =
     "(type A (enum (V (a u8)))) (type S (struct (x u8))) (decl rec f (u8) A) (decl g (A) u8)
     (convert u8 A f) (extern extractor g take) (extern constructor g make)
     (rule first 3 (f x) (A.V x)) (rule (f 2) (A.V 1)) (rule last (f 3) (A.V 1))";
@@ -48,13 +46,11 @@ fn called(alloc: Global, tyenv: &TypeEnv, rules: &[Rule]) -> Result<String, Allo
     Ok(text)
 }
 
-/// A rule is called by its name, or else by the line that it stands at.
-#[test]
-fn environments_tell_names(rt: HostRuntime) -> Result<(), Fail> {
-    let (tyenv, env) = environments(rt.alloc(), TERMS)?;
-    assert!(rt; has_its_converter(&env));
-    assert!(rt; has_each_name(&env));
-    let called = called(rt.alloc(), &tyenv, env.rules())?;
-    assert_eq!(rt; called.as_str(), "first;a.isle line 3;last;");
-    Ok(())
+/// What each rule is called, by its name, or else by the line that it stands at, where the maps have their entries.
+pub fn names(alloc: Global, tyenv: &TypeEnv, env: &TermEnv) -> Result<String, AllocError> {
+    if has_its_converter(env) && has_each_name(env) {
+        called(alloc, tyenv, env.rules())
+    } else {
+        String::from_str(alloc, "other entries")
+    }
 }

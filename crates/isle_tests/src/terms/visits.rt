@@ -9,7 +9,6 @@ use isle_syntax::{Boxed, Refusal, Seq};
 use isle_terms::{BoundVar, Expr, IfLet, Pattern, Rule, TermEnv, VisitFault};
 use isle_types::{RuleId, Sym, TermId, TypeEnv, TypeId, VarId};
 use std::alloc::{AllocError, Global};
-use std::test::Fail;
 
 // The term `f` has the number 0, and `A.V` the number 1.
 pub const TERMS: &str = "(type A (enum (V (a u8) (b u8)))) (decl f (A bool) A) (rule (f x y) x)";
@@ -51,30 +50,33 @@ pub fn environments(alloc: Global, text: &str) -> Result<(TypeEnv, TermEnv), All
     Ok((tyenv, termenv))
 }
 
-fn termenv(alloc: Global) -> Result<TermEnv, AllocError> {
-    let (_tyenv, termenv) = environments(alloc, TERMS)?;
-    Ok(termenv)
-}
-
 fn bind(alloc: Global, ty: TypeId, var: VarId, sub: Pattern) -> Result<Pattern, AllocError> {
     Ok(Pattern::BindPattern(ty, var, Boxed::new(alloc, sub)?))
 }
 
-/// `(A.V (x @ 1) y)` and `(and true $C z)`.
+/// `(A.V (x @ 1) y)`.
+fn variant_arg(alloc: Global) -> Result<Pattern, AllocError> {
+    let mut fields = Vec::new(alloc);
+    fields.push(bind(alloc, U8, X, Pattern::ConstInt(U8, 1))?)?;
+    fields.push(bind(alloc, U8, Y, Pattern::Wildcard(U8))?)?;
+    Ok(Pattern::Term(A, V, Seq::new(fields)))
+}
+
+/// `(and true $C z)`.
+fn and_arg(alloc: Global) -> Result<Pattern, AllocError> {
+    let mut all = Vec::new(alloc);
+    all.push(Pattern::ConstBool(BOOL, true))?;
+    all.push(Pattern::ConstPrim(BOOL, Sym(7)))?;
+    all.push(bind(alloc, BOOL, Z, Pattern::Wildcard(BOOL))?)?;
+    Ok(Pattern::And(BOOL, Seq::new(all)))
+}
+
+/// Both.
 fn args(alloc: Global) -> Result<Seq<Pattern>, AllocError> {
-    let fields = vec![in alloc;
-        bind(alloc, U8, X, Pattern::ConstInt(U8, 1))?,
-        bind(alloc, U8, Y, Pattern::Wildcard(U8))?,
-    ]?;
-    let all = vec![in alloc;
-        Pattern::ConstBool(BOOL, true),
-        Pattern::ConstPrim(BOOL, Sym(7)),
-        bind(alloc, BOOL, Z, Pattern::Wildcard(BOOL))?,
-    ]?;
-    Ok(Seq::new(vec![in alloc;
-        Pattern::Term(A, V, Seq::new(fields)),
-        Pattern::And(BOOL, Seq::new(all)),
-    ]?))
+    let mut args = Vec::new(alloc);
+    args.push(variant_arg(alloc)?)?;
+    args.push(and_arg(alloc)?)?;
+    Ok(Seq::new(args))
 }
 
 /// `(if-let (A.V _ x) (A.V y 5))`.
@@ -87,17 +89,21 @@ fn iflet(alloc: Global) -> Result<IfLet, AllocError> {
     })
 }
 
+/// `(f (A.V y $D) false)`.
+fn called(alloc: Global) -> Result<Expr, AllocError> {
+    let fields = vec![in alloc; Expr::Var(U8, Y), Expr::ConstPrim(U8, Sym(9))]?;
+    let made = Expr::Term(A, V, Seq::new(fields));
+    let inputs = vec![in alloc; made, Expr::ConstBool(BOOL, false)]?;
+    Ok(Expr::Term(A, F, Seq::new(inputs)))
+}
+
 /// `(let ((w A (f (A.V y $D) false))) w)`.
 fn right_side(alloc: Global) -> Result<Expr, AllocError> {
-    let fields = vec![in alloc; Expr::Var(U8, Y), Expr::ConstPrim(U8, Sym(9))]?;
-    let inputs = vec![in alloc;
-        Expr::Term(A, V, Seq::new(fields)),
-        Expr::ConstBool(BOOL, false),
-    ]?;
-    let value = Boxed::new(alloc, Expr::Term(A, F, Seq::new(inputs)))?;
+    let value = Boxed::new(alloc, called(alloc)?)?;
+    let bindings = vec![in alloc; (W, A, value)]?;
     Ok(Expr::Let {
         ty: A,
-        bindings: Seq::new(vec![in alloc; (W, A, value)]?),
+        bindings: Seq::new(bindings),
         body: Boxed::new(alloc, Expr::Var(A, W))?,
     })
 }
@@ -111,7 +117,7 @@ fn variable(id: VarId, ty: TypeId) -> BoundVar {
 }
 
 /// A rule with each form of pattern and expression.
-pub fn example(alloc: Global) -> Result<Rule, AllocError> {
+fn example(alloc: Global) -> Result<Rule, AllocError> {
     let vars = vec![in alloc;
         variable(X, U8),
         variable(Y, U8),
@@ -160,7 +166,7 @@ construct 13 0 false true false false of 16:13 17:0
 ";
 
 /// What a visit comes to whose call after so many is answered `Size`, and what it tells.
-pub fn visited(
+fn visited(
     alloc: Global,
     termenv: &TermEnv,
     rule: &Rule,
@@ -200,12 +206,21 @@ fn is_copied(alloc: Global, termenv: &TermEnv, rule: &Rule) -> Result<bool, Allo
     Ok(has_numbers && has_place && has_names && tells_each_call(alloc, termenv, &copy))
 }
 
-#[test]
-fn visits_tell_each_call_up_to_a_fault(rt: HostRuntime) -> Result<(), Fail> {
-    let termenv = termenv(rt.alloc())?;
-    let rule = example(rt.alloc())?;
-    assert!(rt; tells_each_call(rt.alloc(), &termenv, &rule));
-    assert!(rt; stops_at_each_call(rt.alloc(), &termenv, &rule)?);
-    assert!(rt; is_copied(rt.alloc(), &termenv, &rule)?);
-    Ok(())
+/// Whether visits of a rule tell its calls, and so do those of its copy.
+fn is_told(alloc: Global, termenv: &TermEnv, rule: &Rule) -> Result<bool, AllocError> {
+    Ok(
+        tells_each_call(alloc, termenv, rule)
+            && stops_at_each_call(alloc, termenv, rule)?
+            && is_copied(alloc, termenv, rule)?,
+    )
+}
+
+/// The same of the rule with each form, `told` or `not told`.
+pub fn told(alloc: Global, termenv: &TermEnv) -> Result<String, AllocError> {
+    let rule = example(alloc)?;
+    if is_told(alloc, termenv, &rule)? {
+        String::from_str(alloc, "told")
+    } else {
+        String::from_str(alloc, "not told")
+    }
 }

@@ -121,10 +121,9 @@ fn are_named(env: &TypeEnv) -> bool {
         && env.types().len() == 15
 }
 
-fn has_two_types(alloc: Global, text: &str) -> Result<bool, Fail> {
-    let env = accepted(alloc, text)?;
+fn has_two_types(env: &TypeEnv) -> Result<bool, AllocError> {
     match (env.get_type(TypeId(13)), env.get_type(TypeId(14))) {
-        (Some(first), Some(second)) => Ok(are_named(&env) && are_the_types(&env, first, second)?),
+        (Some(first), Some(second)) => Ok(are_named(env) && are_the_types(env, first, second)?),
         _ => Ok(false),
     }
 }
@@ -151,10 +150,9 @@ fn has_constants(env: &TypeEnv) -> bool {
         && env.const_types().len() == 1
 }
 
-fn has_names(alloc: Global, texts: &str) -> Result<bool, Fail> {
+fn has_names(alloc: Global, env: &mut TypeEnv) -> Result<bool, AllocError> {
     let name = Ident(Text::from_str(alloc, "new")?, Pos::default());
-    let mut env = accepted(alloc, texts)?;
-    Ok(has_constants(&env) && is_interned(&mut env, &name)?)
+    Ok(has_constants(env) && is_interned(env, &name)?)
 }
 
 /// The second variant of an enum that has one.
@@ -182,10 +180,9 @@ fn is_the_variant(alloc: Global, env: &TypeEnv, variant: &Variant) -> Result<boo
     )
 }
 
-fn has_variant(alloc: Global, text: &str) -> Result<bool, Fail> {
-    let env = accepted(alloc, text)?;
-    match second_variant(&env, TypeId(13)) {
-        Some(variant) => Ok(is_the_variant(alloc, &env, variant)?),
+fn has_variant(alloc: Global, env: &TypeEnv) -> Result<bool, AllocError> {
+    match second_variant(env, TypeId(13)) {
+        Some(variant) => is_the_variant(alloc, env, variant),
         None => Ok(false),
     }
 }
@@ -209,11 +206,6 @@ fn are_kept(env: &mut TypeEnv) -> Result<bool, AllocError> {
     Ok(is_kept && is_told && env.errors().is_empty())
 }
 
-fn keeps_errors(alloc: Global) -> Result<bool, AllocError> {
-    let mut env = TypeEnv::new(alloc)?;
-    are_kept(&mut env)
-}
-
 const TWO_TYPES: &str = "
             (type UImm8 (primitive UImm8))
             (type A extern (enum (B (f1 u32) (f2 u32)) (C (f1 u32))))
@@ -222,11 +214,52 @@ const TWO_TYPES: &str = "
 const CONSTANTS: &str =
     "(extern const $X u8) (extern const $X bool) & (type A (struct (x u8) (y A)))";
 
+const VARIANTS: &str = "(type A (enum B (C u8 bool)))";
+
+/// What is asked of an environment.
+#[derive(Clone, Copy)]
+enum Asked {
+    TwoTypes,
+    Names,
+    Variant,
+    Errors,
+}
+
+/// The texts of the environment of which it is asked.
+fn texts(asked: Asked) -> &'static str {
+    match asked {
+        Asked::TwoTypes => TWO_TYPES,
+        Asked::Names => CONSTANTS,
+        Asked::Variant => VARIANTS,
+        Asked::Errors => "",
+    }
+}
+
+fn holds(alloc: Global, env: &mut TypeEnv, asked: Asked) -> Result<bool, AllocError> {
+    match asked {
+        Asked::TwoTypes => has_two_types(env),
+        Asked::Names => has_names(alloc, env),
+        Asked::Variant => has_variant(alloc, env),
+        Asked::Errors => are_kept(env),
+    }
+}
+
+/// Whether calls of the environment tell what they should.
+fn tells(alloc: Global, asked: Asked) -> Result<bool, Fail> {
+    let mut env = accepted(alloc, texts(asked))?;
+    Ok(holds(alloc, &mut env, asked)?)
+}
+
 #[test]
 fn environments_have_their_calls(rt: HostRuntime) -> Result<(), Fail> {
-    assert!(rt; has_two_types(rt.alloc(), TWO_TYPES)?);
-    assert!(rt; has_names(rt.alloc(), CONSTANTS)?);
-    assert!(rt; has_variant(rt.alloc(), "(type A (enum B (C u8 bool)))")?);
-    assert!(rt; keeps_errors(rt.alloc())?);
+    for asked in [Asked::TwoTypes, Asked::Names, Asked::Variant, Asked::Errors] {
+        assert!(rt; tells(rt.alloc(), asked)?);
+    }
+    Ok(())
+}
+
+#[test]
+fn environments_begin_empty(rt: HostRuntime) -> Result<(), Fail> {
+    assert_eq!(rt; TypeEnv::new(rt.alloc())?.errors().len(), 0);
     Ok(())
 }

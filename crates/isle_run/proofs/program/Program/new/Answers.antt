@@ -6,8 +6,8 @@ use Rattle.isle_run.proofs.program.Program.new.Goals as goal
 
 pub invariant_of-result : goal.invariant_of-result
 invariant_of-result c = record {
-  numbered = ∣ subst (λ (sets : List (TermId × RulesOverSites)). AreNumbersOf c.args.tyenv c.args.termenv sets c.in_ok-numbers.numbers)
-      c.as_slice.ensures.value c.in_ok-numbers.ensures ∣₁;
-  ordered = ∣ c.in_ok-rules_of.ensures ∣₁;
-  laid_out = ∣ c.in_ok-laid.ensures ∣₁;
+  numbered = ∣ subst (λ (sets : List (TermId × RulesOverSites)). AreNumbersOf c.args.tyenv c.args.termenv sets c.in_ok-known.known.numbers)
+      c.as_slice.ensures.value c.in_ok-known.ensures.numbered ∣₁;
+  ordered = ∣ c.in_ok-known.ensures.listed ∣₁;
+  laid_out = ∣ c.in_ok-known.ensures.laid_out ∣₁;
 }
