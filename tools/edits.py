@@ -6,7 +6,8 @@ usage: tools/edits.py [--all] [CRATE ..]     those of the crates that are named,
 
 tests/edits/CRATE/NAME.edit has a line 'file: src/FILE.rt' and pairs of lines 'old: TEXT' and 'new: TEXT', where TEXT stands once in that file.
 A function is proved from the contracts of those that it calls and not from their bodies, so one check tries many edits, as long as they are of
-different functions: each must leave a goal of its own function unproved. What isn't told apart so is tried once more by itself.
+different functions: each must leave a goal of its own function unproved, or an answer to one refused for more than a name that is gone.
+What isn't told apart so, as a constant, is tried once more by itself: then a goal or an answer of any function counts.
 
 tests/edits/tried.txt has for each crate a sum of all that the answers hang on: the crate, the sources and definitions of those below it, its
 edits, and the program logic that 'rt version' names. The kit's own name is left out: machines have kits of one logic under several names, and
@@ -58,13 +59,21 @@ class Edit:
 
     def is_refused(self, said):
         """Returns whether some goal of its function was not proved, or an answer to one was refused for more than a name that is gone."""
-        notes = re.findall(r"(?m)^note: (src/\S+?):(\d+):\d+: it is not proved", said)
-        if any(file == its and first <= int(line) <= last for its, line in notes for file, first, last in self.lines):
+        if any(file == its and first <= int(line) <= last for its, line in goals(said) for file, first, last in self.lines):
             return True
-        answers = re.findall(r"(?m)^(?:\./)?proofs/(\S+)/(?:Answers|Invariants)\.antt:\d+:\d+: error: (.*)", said)
-        answers = [its for its, why in answers if not re.search(r"has no field|is not in scope|has no `|was not admitted", why)]
         parts = [(file[len("src/") : -len(".rt")], name) for file, name, _ in self.functions]
-        return any(re.fullmatch(rf"{re.escape(module)}/(\w+/)?{name}", its) for its in answers for module, name in parts)
+        return any(re.fullmatch(rf"{re.escape(module)}/(\w+/)?{name}", its) for its in answers(said) for module, name in parts)
+
+
+def goals(said):
+    """Returns where the goals are that were not proved: the file and the line of each."""
+    return re.findall(r"(?m)^note: (src/\S+?):(\d+):\d+: it is not proved", said)
+
+
+def answers(said):
+    """Returns the functions of which an answer was refused for more than a name that is gone."""
+    found = re.findall(r"(?m)^(?:\./)?proofs/(\S+)/(?:Answers|Invariants)\.antt:\d+:\d+: error: (.*)", said)
+    return [its for its, why in found if not re.search(r"has no field|is not in scope|has no `|was not admitted", why)]
 
 
 def text_of(path):
@@ -152,11 +161,12 @@ def tried(room, crate):
     for part in rounds(edits):
         said, _ = check(room, part)
         for edit in part:
-            refused, how = edit.is_refused(said), ""
+            refused, why = edit.is_refused(said), ""
             if not refused:
                 alone, is_proved = check(room, [edit])
-                refused, how = not is_proved, "" if edit.is_refused(alone) else f", by what is no goal of its own: {first_error(alone)}"
-            print(f"{crate}/{edit.name}: {f'refused, as it must be{how}' if refused else 'NOT REFUSED'}", flush=True)
+                refused = bool(goals(alone) or answers(alone))
+                why = "" if is_proved else f", but for what tells nothing of its contract: {first_error(alone)}"
+            print(f"{crate}/{edit.name}: {'refused, as it must be' if refused else f'NOT REFUSED{why}'}", flush=True)
             let_through += [] if refused else [edit.name]
     return let_through
 
@@ -172,6 +182,8 @@ def copied(room, crate, below):
             shutil.copytree(f"crates/{name}/out/rlib", f"{room}/crates/{name}/out/rlib", copy_function=os.link)
     if os.path.isdir(f"crates/{crate}/out/incremental"):
         shutil.copytree(f"crates/{crate}/out/incremental", f"{room}/crates/{crate}/out/incremental")
+    else:
+        print(f"{crate}: nothing is kept of a check, or rt ci has it aside: this one begins from nothing", flush=True)
 
 
 def tried_in_a_copy(crate, below):

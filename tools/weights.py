@@ -5,7 +5,7 @@ usage: tools/weights.py CRATE [ROWS]
 
 A row has the megabytes kept of a function, or of functions that call one another ('+NAME'), its name, and the parts that weigh most. What rattle
 makes for a function's code (Lts, Proof, Tie) grows with its steps times the values that it holds, and with what is dropped at each
-way out; Answers and lemmas are those of proofs/.
+way out; Answers and lemmas are those of proofs/. What is kept of a function that is gone counts until out/ is removed.
 """
 import collections
 import os
