@@ -24,7 +24,7 @@ use std::collections::HashMap;
 use std::marker::Model;
 
 /// What is gathered of a rule while it is visited.
-#[derive(Debug, Drop)]
+#[derive(Drop)]
 pub(crate) struct RuleSetBuilder {
     alloc: Global,
     sites: Sites,
@@ -492,7 +492,7 @@ impl RuleVisitor for RuleSetBuilder {
 }
 
 /// What a rule's visit has made.
-#[derive(Debug, Drop)]
+#[derive(Drop)]
 pub(crate) struct BuiltRule {
     pub sites: Sites,
     pub has: Vec<(BindingId, Constraint)>,

@@ -18,7 +18,7 @@ pub struct FaultsBetween {
 }
 
 /// What can be wrong between two rules.
-#[derive(Debug, Clone, Copy)]
+#[derive(Clone, Copy)]
 pub(crate) enum Fault {
     /// They have one priority and may match together.
     Overlap,

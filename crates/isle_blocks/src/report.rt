@@ -19,7 +19,7 @@ pub struct RulePlace {
 }
 
 /// An error in the making: the rule that heads it, and the positions of the others, ascending.
-#[derive(Debug, Drop)]
+#[derive(Drop)]
 pub(crate) struct Group {
     pub(crate) fault: Fault,
     pub(crate) head: RulePlace,

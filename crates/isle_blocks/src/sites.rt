@@ -30,7 +30,7 @@ impl Model for Sites {
 }
 
 /// Why a site gets no number.
-#[derive(Debug, Clone, Copy, PartialEq, Eq)]
+#[derive(Clone, Copy)]
 pub(crate) enum SiteFault {
     /// There are 65,536 others.
     Size,

@@ -22,7 +22,7 @@ use isle_types::TermId;
 use std::alloc::{AllocError, Global};
 
 /// How far an expression is evaluated.
-#[derive(Debug, Drop)]
+#[derive(Drop)]
 pub struct Evaluation {
     /// The numbers of the values of the parts that have been evaluated.
     known: Vec<Option<usize>>,
@@ -33,7 +33,7 @@ pub struct Evaluation {
 }
 
 /// What an evaluation comes to.
-#[derive(Debug, Drop)]
+#[derive(Drop)]
 pub enum Evaluated {
     /// All that was asked has been evaluated.
     Done,
@@ -46,7 +46,7 @@ pub enum Evaluated {
 }
 
 /// What one part comes to.
-#[derive(Debug, Drop)]
+#[derive(Drop)]
 enum Step {
     /// It has this value.
     Is(usize),

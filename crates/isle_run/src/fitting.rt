@@ -27,7 +27,7 @@ use isle_types::{Sym, TermId, TypeId, VarId, VariantId};
 use std::alloc::{AllocError, Global};
 
 /// Whether a pattern fits a value, or that it met a call whose answer isn't allowed.
-#[derive(Debug, Drop)]
+#[derive(Drop)]
 pub enum Fitted {
     Fits,
     Leaves,

@@ -37,7 +37,7 @@ use isle_types::TermId;
 use std::alloc::{AllocError, Global};
 
 /// A call that runs, or waits for another.
-#[derive(Debug, Drop)]
+#[derive(Drop)]
 pub struct Frame<'a> {
     pub term: TermId,
     pub args: Vec<usize>,
@@ -52,7 +52,7 @@ pub struct Frame<'a> {
 }
 
 /// What a frame comes to.
-#[derive(Debug, Drop)]
+#[derive(Drop)]
 pub enum Advanced {
     Is(usize),
     Missing,
@@ -61,7 +61,7 @@ pub enum Advanced {
 }
 
 /// The same, of one rule.
-#[derive(Debug, Drop)]
+#[derive(Drop)]
 pub enum Ending {
     /// It goes on.
     On,

@@ -22,7 +22,7 @@ use isle_types::{TermId, TypeId};
 use std::alloc::{AllocError, Global};
 
 /// What a call of a world comes to: what it gives, none, or an answer that its declaration doesn't allow.
-#[derive(Debug, Drop)]
+#[derive(Drop)]
 pub enum Told<T> {
     Gives(T),
     Missing,

@@ -29,7 +29,7 @@ use isle_types::TermId;
 use std::alloc::{AllocError, Global};
 
 /// What follows when the innermost call has come to something.
-#[derive(Debug, Drop)]
+#[derive(Drop)]
 pub enum Next<'a> {
     /// This call runs on, or begins.
     Runs(Frame<'a>),

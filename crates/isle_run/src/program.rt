@@ -239,7 +239,7 @@ impl Program {
 }
 
 /// What is known of a program's rules before any is tried.
-#[derive(Debug, Drop)]
+#[derive(Drop)]
 struct Known {
     rules_of: Vec<Vec<usize>>,
     laid: Vec<LaidRule>,

@@ -14,7 +14,7 @@ use std::alloc::{AllocError, Global};
 use std::marker::Model;
 
 /// A value in a store: a leaf, or data with the numbers of its fields.
-#[derive(Debug, Clone, PartialEq, Eq, PartialOrd, Ord, Drop)]
+#[derive(Clone, PartialEq, Eq, PartialOrd, Ord, Drop)]
 pub enum Stored {
     Bool(bool),
     /// The 128 bits of an integer: a number from 2^127 on is the negative one of its bits.

@@ -153,7 +153,7 @@ impl Program {
 }
 
 /// What kind of values a type has.
-#[derive(Debug, Clone, Copy, PartialEq, Eq)]
+#[derive(Clone, Copy, PartialEq, Eq)]
 pub(crate) enum Kind {
     Bool,
     Int(IntType),

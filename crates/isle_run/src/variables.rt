@@ -5,7 +5,7 @@ use isle_types::VarId;
 use std::alloc::{AllocError, Global};
 
 /// The numbers of the values of a rule's variables in a store, each at the place of its variable's number.
-#[derive(Debug, Drop)]
+#[derive(Drop)]
 pub struct Variables {
     numbers: Vec<usize>,
     /// The number of the value that a variable has before it is bound.

@@ -1,5 +1,5 @@
 //! Sites and tests of rule sets.
-mod checks;
+pub mod checks;
 
 use isle_blocks::{Binding, BindingId, Constraint, TupleIndex};
 use isle_syntax::Seq;
@@ -164,10 +164,10 @@ fn calls_ascend(
 /// Within a kind, the fields decide in order.
 #[test]
 fn sites_ascend_by_fields(rt: HostRuntime) -> Result<(), Fail> {
-    assert!(rt; integers_ascend());
-    assert!(rt; fields_ascend());
-    assert!(rt; calls_ascend(rt.alloc(), ([1, 2], 5), ([1, 3], 0))?);
-    assert!(rt; calls_ascend(rt.alloc(), ([1, 2], 0), ([1, 2], 1))?);
+    let by_argument = calls_ascend(rt.alloc(), ([1, 2], 5), ([1, 3], 0))?;
+    let by_instance = calls_ascend(rt.alloc(), ([1, 2], 0), ([1, 2], 1))?;
+    let ascend = [integers_ascend(), fields_ascend(), by_argument, by_instance];
+    assert_eq!(rt; ascend, [true, true, true, true]);
     Ok(())
 }
 
@@ -179,58 +179,30 @@ const fn variant(ty: usize, variant: usize) -> Constraint {
     }
 }
 
-/// Whether a test that site 7 passes makes so many sites, of which this is the last.
-fn makes(
-    alloc: Global,
-    test: &Constraint,
-    count: usize,
-    last: &Binding,
-) -> Result<bool, AllocError> {
-    let made = test.bindings_for(alloc, BindingId(7))?;
-    Ok(made.as_slice().len() == count && made.as_slice().last() == Some(last))
-}
-
-/// Whether a test makes no site.
-fn makes_none(alloc: Global, test: &Constraint) -> Result<bool, AllocError> {
-    let made = test.bindings_for(alloc, BindingId(7))?;
-    Ok(made.as_slice().is_empty())
-}
-
-fn makes_field_of_variant(alloc: Global) -> Result<bool, AllocError> {
-    let second = Binding::MatchVariant {
-        source: BindingId(7),
-        variant: VariantId(4),
-        field: TupleIndex(1),
-    };
-    makes(alloc, &variant(13, 4), 2, &second)
-}
-
-fn makes_field_of_struct(alloc: Global) -> Result<bool, AllocError> {
-    let test = Constraint::Struct {
-        ty: A,
-        fields: TupleIndex(1),
-    };
-    let first = Binding::ExtractStruct {
-        source: BindingId(7),
-        field: TupleIndex(0),
-    };
-    makes(alloc, &test, 1, &first)
-}
-
-fn makes_content(alloc: Global) -> Result<bool, AllocError> {
-    let content = Binding::MatchSome {
-        source: BindingId(7),
-    };
-    makes(alloc, &Constraint::Some, 1, &content)
+/// The sites that a test makes that site 7 passes.
+fn made(alloc: Global, test: Constraint) -> Result<String, AllocError> {
+    let sites = test.bindings_for(alloc, BindingId(7))?;
+    format!(in alloc; "{:?}", sites.as_slice())
 }
 
 /// A test that passes makes the fields of a variant or a struct, or the content of an option.
 #[test]
 fn tests_make_sites(rt: HostRuntime) -> Result<(), Fail> {
-    assert!(rt; makes_field_of_variant(rt.alloc())?);
-    assert!(rt; makes_field_of_struct(rt.alloc())?);
-    assert!(rt; makes_content(rt.alloc())?);
-    assert!(rt; makes_none(rt.alloc(), &Constraint::ConstPrim { val: Sym(4) })?);
+    let fields = TupleIndex(1);
+    for (test, wanted) in [
+        (
+            variant(13, 4),
+            "[MatchVariant { source: BindingId(7), variant: VariantId(4), field: TupleIndex(0) }, MatchVariant { source: BindingId(7), variant: VariantId(4), field: TupleIndex(1) }]",
+        ),
+        (
+            Constraint::Struct { ty: A, fields },
+            "[ExtractStruct { source: BindingId(7), field: TupleIndex(0) }]",
+        ),
+        (Constraint::Some, "[MatchSome { source: BindingId(7) }]"),
+        (Constraint::ConstPrim { val: Sym(4) }, "[]"),
+    ] {
+        assert_eq!(rt; made(rt.alloc(), test)?.as_str(), wanted);
+    }
     Ok(())
 }
 
@@ -270,21 +242,33 @@ fn truth_values_meet() -> bool {
 /// A test is told from another variant that is made, and from another literal, and from nothing else.
 #[test]
 fn tests_meet_what_is_made(rt: HostRuntime) -> Result<(), Fail> {
-    assert!(rt; variants_meet(&made_variant(rt.alloc(), 4, [1, 2])?));
-    assert!(rt; integers_meet(&int_site(5, 1)));
-    assert!(rt; truth_values_meet());
+    let variants = variants_meet(&made_variant(rt.alloc(), 4, [1, 2])?);
+    let meet = [
+        variants,
+        integers_meet(&int_site(5, 1)),
+        truth_values_meet(),
+    ];
+    assert_eq!(rt; meet, [true, true, true]);
     Ok(())
 }
 
 /// Numbers past a byte, or past two, are refused.
 #[test]
-fn numbers_have_bounds(rt: HostRuntime) -> Result<(), Fail> {
-    assert!(rt; matches!(TupleIndex::try_from(255_usize), Ok(TupleIndex(255))));
-    assert!(rt; TupleIndex::try_from(256_usize).is_err());
-    assert_eq!(rt; TupleIndex(255).index(), 255);
-    assert!(rt; matches!(BindingId::try_from(65_535_usize), Ok(BindingId(65_535))));
-    assert!(rt; BindingId::try_from(65_536_usize).is_err());
-    assert!(rt; BindingId::from(9) == BindingId(9));
-    assert!(rt; TupleIndex::default() == TupleIndex(0) && BindingId::default() == BindingId(0));
-    Ok(())
+fn numbers_have_bounds(rt: HostRuntime) {
+    let bytes = [
+        matches!(TupleIndex::try_from(255_usize), Ok(TupleIndex(255))),
+        TupleIndex::try_from(256_usize).is_err(),
+        TupleIndex(255).index() == 255,
+        TupleIndex::default() == TupleIndex(0),
+    ];
+    let two_bytes = [
+        matches!(BindingId::try_from(65_535_usize), Ok(BindingId(65_535))),
+        BindingId::try_from(65_536_usize).is_err(),
+        BindingId::from(9) == BindingId(9),
+        BindingId::default() == BindingId(0),
+    ];
+    assert_eq!(rt;
+        (bytes, two_bytes),
+        ([true, true, true, true], [true, true, true, true])
+    );
 }

@@ -1,6 +1,7 @@
 //! Tables of texts, with what is wanted of each.
+use crate::blocks::checks::{BUILT, FAULTY, SETS, accepted, any, faults};
 use crate::layout::spellings::{LAYOUTS, PARTS, SPELLINGS, laid_out, part};
-use crate::layout::writable::{NESTED, RENAMED, renamed};
+use crate::layout::writable::{HAND_MADE, NESTED, RENAMED, hand_made, renamed};
 use crate::run;
 use crate::run::InProgram;
 use crate::run::calls::ANSWERS;
@@ -40,10 +41,18 @@ pub enum Asked {
     Renamed,
     /// The same at the bounds of nesting.
     Nested,
+    /// Whether what it tells to be made by hand can be written.
+    HandMade,
     /// Whether it keeps the rules of types.
     Types,
     /// What the maker of that name makes.
     Made,
+    /// The rule sets of its rules, which are accepted.
+    Sets,
+    /// What is told of its rules, whatever is wrong with them.
+    Rules,
+    /// What is wrong with its rules.
+    Faulty,
     /// What comes of it in a program.
     Run(InProgram),
 }
@@ -63,8 +72,12 @@ fn table(asked: Asked) -> &'static str {
         Asked::Parts => PARTS,
         Asked::Renamed => RENAMED,
         Asked::Nested => NESTED,
+        Asked::HandMade => HAND_MADE,
         Asked::Types => VERDICTS,
         Asked::Made => MADE,
+        Asked::Sets => SETS,
+        Asked::Rules => BUILT,
+        Asked::Faulty => FAULTY,
         Asked::Run(InProgram::Value) => VALUES,
         Asked::Run(InProgram::Answer) => ANSWERS,
         Asked::Run(InProgram::Judged) => JUDGED,
@@ -82,8 +95,12 @@ fn answer(alloc: Global, asked: Asked, text: &str) -> Result<String, Fail> {
         Asked::Spellings | Asked::Layouts => laid_out(alloc, text),
         Asked::Parts => part(alloc, text),
         Asked::Renamed | Asked::Nested => renamed(alloc, text),
+        Asked::HandMade => hand_made(alloc, text),
         Asked::Types => judged(alloc, text),
         Asked::Made => made(alloc, text),
+        Asked::Sets => accepted(alloc, text),
+        Asked::Rules => any(alloc, text),
+        Asked::Faulty => faults(alloc, text),
         Asked::Run(asked) => run::answer(alloc, asked, text),
     }
 }
@@ -125,8 +142,12 @@ fn texts_are_answered(rt: HostRuntime) -> Result<(), Fail> {
         Asked::Layouts,
         Asked::Parts,
         Asked::Renamed,
+        Asked::HandMade,
         Asked::Types,
         Asked::Made,
+        Asked::Sets,
+        Asked::Rules,
+        Asked::Faulty,
         Asked::Run(InProgram::Value),
         Asked::Run(InProgram::Answer),
         Asked::Run(InProgram::Judged),

@@ -36,7 +36,7 @@ fn told_in(
     asked: Asked,
 ) -> Result<String, AllocError> {
     match asked {
-        Asked::Visits => visits::told(alloc, termenv),
+        Asked::Visits => visits::told(alloc, tyenv, termenv),
         Asked::Names => environments::names(alloc, tyenv, termenv),
         Asked::Functions(term) => signatures::functions(alloc, tyenv, termenv, term),
     }

@@ -1,10 +1,27 @@
 -- Worked cases: where effects lead, and which world replies leave.
-use Rattle.std.proofs.Common.{arith, ◌≡◌, ◌<◌, ◌≤◌, ◌+◌, ◌++◌, ◌||◌, append-nil, ap₂, ℕ, suc, Bool, true, false, List, [], ◌∷◌, Option, refl, sym, ap, ◌∙◌, codes}
-use Rattle.isle_terms.specs.Values.{ValueTree, ValueTrees, no_values}
+use Rattle.std.proofs.Common.{arith, ◌≡◌, ◌≤◌, ◌+◌, ◌++◌, ◌||◌, append-nil, ap₂, ℕ, Bool, true, false, true≢false, List, [], ◌∷◌, Option, inr, map, refl, sym, ap}
+use Rattle.std.proofs.Common.{◌∙◌, codes}
+use Rattle.std.specs.Char.{encode_utf8}
+use Rattle.std.specs.Str.{IsUtf8, is_utf8, chars}
+use Rattle.std.proofs.lemmas.Fmt.{decimal_digit}
+use Rattle.std.proofs.lemmas.Option.{same_Some}
+use Rattle.std.proofs.lemmas.Str.{IsUtf8-nil, IsUtf8-from_is_utf8, is_utf8-from_IsUtf8}
+use Rattle.isle_syntax.specs.declared.lexer.Token.{Token}
+use Rattle.isle_syntax.specs.declared.lexer.Token.TheVariants.{Symbol}
+use Rattle.isle_syntax.specs.Tokens.Gaps.{run_of, after_run}
+use Rattle.isle_syntax.specs.Tokens.Gaps as gap
+use Rattle.isle_syntax.specs.Tokens.Finding.{Reading}
+use Rattle.isle_syntax.specs.Tokens.PlacedTokens.{Placed, placed_at}
+use Rattle.isle_syntax.specs.Tokens.TokensOf.{TokensOf, ended, token, word, pos_of_rest}
+use Rattle.isle_syntax.proofs.Tokens.Findings.{tokens_same}
+use Rattle.isle_terms.specs.Values.{ValueTree, ValueTrees}
 use Rattle.isle_terms.specs.Meaning.Worlds.{Answers, Event}
 use Rattle.isle_run.specs.declared.program.Program.{Program}
+use Rattle.isle_run.specs.declared.query.QueryFault.TheVariants.{Q1, Q2, Q3, Q4, Memory}
 use Rattle.isle_run.specs.Frames.Telling.{name_of_term}
-use Rattle.islec.specs.Replies.{Setting, Leads, Reaches, IsReply, Refuses}
+use Rattle.isle_run.specs.Values.Lists.{IsListOf}
+use Rattle.isle_run.specs.Values.TextTokens.{AreTokensOf, alone, bare}
+use Rattle.islec.specs.Replies.{Setting, Leads, Reaches, IsReply, no_text, blank, no_call, call, refused_line}
 use Rattle.islec.specs.Serving.{AreReplies}
 
 -- a world that counts effects
@@ -74,3 +91,116 @@ twice_is_no_other p a line reply out refused after c (one, rest, first, others, 
     let this = c.only 0 middle one first is in
     let that = c.only middle left last second also in
     (cc (append-nil last), told ∙ ap₂ (λ x y. x || y) this.1 (counted ∙ ap₂ (λ x y. x || y) that.1 well), omega (arith, stays, this.2, that.2))
+
+-- ---- replies to literal lines, in any program
+
+-- an empty line has no tokens, and the line `x` one
+no_tokens : AreTokensOf [] []
+no_tokens = ([], 0, ended (gap.none tt), refl)
+
+abbrev x : List ℕ
+x = codes "x"
+
+abbrev x_placed : List Placed
+x_placed = placed_at (pos_of_rest (alone x) x) (Symbol x) ∷ []
+
+x_tokens : TokensOf (alone x) x x_placed 1 true
+unfolding run_of after_run
+x_tokens = token (gap.none tt) (word refl) (ended (gap.none tt))
+
+only_x : (tokens : List Token) → AreTokensOf x tokens → tokens ≡ Symbol x ∷ []
+only_x tokens (placed, end, are, is) = is ∙ ap (λ (r : Reading). map bare r.left) (sym (tokens_same (alone x) are) ∙ tokens_same (alone x) x_tokens)
+
+only_none : (tokens : List Token) → AreTokensOf [] tokens → tokens ≡ []
+only_none tokens (placed, end, are, is) =
+    is ∙ ap (λ (r : Reading). map bare r.left) (sym (tokens_same (alone []) are) ∙ tokens_same (alone []) (ended (gap.none tt)))
+
+x_is_no_list : (tokens : List Token) (name : List ℕ) (rest : List Token) → AreTokensOf x tokens → IsListOf tokens name rest → ⊥
+x_is_no_list tokens name rest are list = let wrong = sym list.begins ∙ only_x tokens are in absurd cc
+
+x_is_text : IsUtf8 x
+unfolding is_utf8 chars encode_utf8
+x_is_text = IsUtf8-from_is_utf8 x refl
+
+abbrev byte : List ℕ
+byte = 255 ∷ []
+
+byte_is_no_text : ¬ IsUtf8 byte
+unfolding is_utf8 chars
+byte_is_no_text text = absurd (true≢false (sym (is_utf8-from_IsUtf8 byte text) ∙ refl))
+
+fourth_cause : refused_line 4 ≡ codes "refused 4\n"
+fourth_cause = ap (λ (digits : List ℕ). codes "refused " ++ (digits ++ codes "\n")) (decimal_digit 4 (omega arith))
+
+empty_is_passed_over : (p : Program) (a : Answers) (n : ℕ) → IsReply (counting p a) n [] [] false n
+empty_is_passed_over p a n = blank IsUtf8-nil no_tokens refl refl refl
+
+x_is_refused : (p : Program) (a : Answers) (n : ℕ) → IsReply (counting p a) n x (codes "refused 4\n") true n
+x_is_refused p a n =
+    no_call x_is_text (λ none. let wrong = only_x [] none in absurd cc) Q4 4
+    (inr (Symbol x ∷ [], (x_placed, 1, x_tokens, refl), λ name rest list. x_is_no_list (Symbol x ∷ []) name rest (x_placed, 1, x_tokens, refl) list))
+    refl (sym fourth_cause) refl refl
+
+byte_is_refused : (p : Program) (a : Answers) (n : ℕ) → IsReply (counting p a) n byte (codes "refused 4\n") true n
+byte_is_refused p a n = no_text byte_is_no_text (sym fourth_cause) refl refl
+
+-- these replies, and no others
+empty_only : (p : Program) (a : Answers) (n after : ℕ) (out : List ℕ) (refused : Bool) → IsReply (counting p a) n [] out refused after
+    → (out ≡ []) × (refused ≡ false) × (after ≡ n)
+empty_only p a n after out refused (no_text text o r s) = absurd (text IsUtf8-nil)
+empty_only p a n after out refused (blank text none o r s) = (o, r, s)
+empty_only p a n after out refused (no_call text some fault cause why number o r s) = absurd (some no_tokens)
+empty_only p a n after out refused (call text term args is answers) = let wrong = only_none _ is.spelt.1 in absurd cc
+
+x_only : (p : Program) (a : Answers) (n after : ℕ) (out : List ℕ) (refused : Bool) → IsReply (counting p a) n x out refused after
+    → (out ≡ codes "refused 4\n") × (refused ≡ true) × (after ≡ n)
+x_only p a n after out refused (no_text text o r s) = absurd (text x_is_text)
+x_only p a n after out refused (blank text none o r s) = let wrong = only_x [] none in absurd cc
+x_only p a n after out refused (no_call text some Q1 cause (name, rest, (tokens, are, list), why) number o r s) = absurd (x_is_no_list tokens name rest are list)
+x_only p a n after out refused (no_call text some Q2 cause (name, rest, term, (tokens, are, list), named, why) number o r s) =
+    absurd (x_is_no_list tokens name rest are list)
+x_only p a n after out refused (no_call text some Q3 cause (name, rest, term, (tokens, are, list), named, runs, why) number o r s) =
+    absurd (x_is_no_list tokens name rest are list)
+x_only p a n after out refused (no_call text some Q4 cause why number o r s) = (o ∙ (ap refused_line (sym (same_Some 4 cause number)) ∙ fourth_cause), r, s)
+x_only p a n after out refused (no_call text some (Memory e) cause why number o r s) = absurd cc
+x_only p a n after out refused (call text term args is answers) = let wrong = only_x _ is.spelt.1 in absurd cc
+
+byte_only : (p : Program) (a : Answers) (n after : ℕ) (out : List ℕ) (refused : Bool) → IsReply (counting p a) n byte out refused after
+    → (out ≡ codes "refused 4\n") × (refused ≡ true) × (after ≡ n)
+byte_only p a n after out refused (no_text text o r s) = (o ∙ fourth_cause, r, s)
+byte_only p a n after out refused (blank text none o r s) = absurd (byte_is_no_text text)
+byte_only p a n after out refused (no_call text some fault cause why number o r s) = absurd (byte_is_no_text text)
+byte_only p a n after out refused (call text term args is answers) = absurd (byte_is_no_text text)
+
+-- an empty line, `x` and bytes that are no text: two are refused, and no effect is made
+literal_lines : (p : Program) (a : Answers) → AreReplies (counting p a) 7 ([] ∷ x ∷ byte ∷ []) (codes "refused 4\nrefused 4\n") true 7
+literal_lines p a = (
+  [],
+  codes "refused 4\nrefused 4\n",
+  false,
+  true,
+  7,
+  empty_is_passed_over p a 7,
+  (
+    codes "refused 4\n",
+    codes "refused 4\n",
+    true,
+    true,
+    7,
+    x_is_refused p a 7,
+    (codes "refused 4\n", [], true, false, 7, byte_is_refused p a 7, (refl, refl, refl), refl, refl),
+    refl,
+    refl,
+  ),
+  refl,
+  refl,
+)
+
+literal_lines_only : (p : Program) (a : Answers) (out : List ℕ) (refused : Bool) (after : ℕ)
+    → AreReplies (counting p a) 7 ([] ∷ x ∷ byte ∷ []) out refused after → (out ≡ codes "refused 4\nrefused 4\n") × (refused ≡ true) × (after ≡ 7)
+literal_lines_only p a out refused after
+    (one, rest, first, others, middle, is, (two, behind, second, more, left, also, (three, none, third, no_other, end, last, (no_out, well, stays), outs, tells), joined, told), all, counted) =
+    let this = empty_only p a 7 middle one first is in
+    let that = x_only p a middle left two second also in
+    let those = byte_only p a left end three third last in
+    (cc (append-nil three), counted ∙ ap₂ (λ x y. x || y) this.1 (told ∙ ap₂ (λ x y. x || y) that.1 (tells ∙ ap₂ (λ x y. x || y) those.1 well)), omega (arith, stays, this.2, that.2, those.2))

@@ -24,3 +24,5 @@ pub mod Commands
 pub mod Rows
 -- What the words of a command line say.
 pub mod Lines
+-- Why a command was not begun, and what is told of it.
+pub mod Beginnings

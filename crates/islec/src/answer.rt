@@ -11,7 +11,7 @@ use isle_run::{Answer, Effect, Program, QueryFault, TermId, Value, World, is_bla
 use std::alloc::{AllocError, Global};
 
 /// What a line of input is answered.
-#[derive(Debug, Drop)]
+#[derive(Drop)]
 pub struct Reply {
     /// The lines to write, each ended by a newline.
     pub lines: String,

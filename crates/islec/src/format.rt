@@ -35,6 +35,7 @@ pub fn format<W: Write>(
         (map source_file texts.items) (W.contents writer.old) (W.contents writer.new)) }
     ensures memory { IfErr result (λ fault. fault ≡ ServeFault.Memory → Keeps
         (W.contents writer.old) (W.contents writer.new)) }
+    ensures fault { IfErr result (λ fault. fault ≢ ServeFault.Read) }
 {
     let files = Rc::new(alloc, Files::from_names_and_contents(alloc, texts)?)?;
     let mut printed = String::new(alloc);

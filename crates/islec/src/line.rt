@@ -17,7 +17,7 @@ use std::alloc::{AllocError, AllocFailed, Global};
 use std::convert::AsStr;
 
 /// What the words of a command line ask for.
-#[derive(Debug, Drop)]
+#[derive(Drop)]
 pub struct Line {
     pub job: Job,
     /// The names of the rule files, in order.
@@ -27,7 +27,7 @@ pub struct Line {
 }
 
 /// A command and its numbers.
-#[derive(Debug, Clone, Copy, PartialEq, Eq)]
+#[derive(Clone, Copy)]
 pub enum Job {
     /// Answers queries, with at most `depth` calls of terms with rules open at once; `plain` asks for the road that tries
     /// rules one by one, which is the only one so far.
@@ -39,7 +39,7 @@ pub enum Job {
 }
 
 /// Why words gave no command.
-#[derive(Debug, Drop)]
+#[derive(Drop)]
 pub enum LineFault {
     /// The words are no command, or ask for help.
     Usage(Error),

@@ -227,6 +227,7 @@ fn refuse_world<W: Write>(
         (world_fault_line program.now (record { name = name.now; text = text.now }) fault.now)) }
     ensures memory { IfErr result (λ why. why ≡ ServeFault.Memory → Keeps
         (W.contents writer.old) (W.contents writer.new)) }
+    ensures fault { IfErr result (λ why. why ≢ ServeFault.Read) }
 {
     let line = fault_line(alloc, program, name, text, fault)?;
     write_text(writer, line.as_str())?;
@@ -242,6 +243,7 @@ fn refuse<W: Write>(alloc: Global, errors: &Errors, writer: &mut W) -> Result<St
         (W.contents writer.old) (W.contents writer.new) (report_text errors.now)) }
     ensures memory { IfErr result (λ fault. fault ≡ ServeFault.Memory → Keeps
         (W.contents writer.old) (W.contents writer.new)) }
+    ensures fault { IfErr result (λ fault. fault ≢ ServeFault.Read) }
 {
     write_faults(alloc, errors, writer)?;
     Ok(Status::TextsRefused)
@@ -263,6 +265,7 @@ fn check<W: Write>(
         (map source_file texts.items) terms (W.contents writer.old) (W.contents writer.new)) }
     ensures memory { IfErr result (λ fault. fault ≡ ServeFault.Memory → Keeps
         (W.contents writer.old) (W.contents writer.new)) }
+    ensures fault { IfErr result (λ fault. fault ≢ ServeFault.Read) }
 {
     let files = Rc::new(alloc, Files::from_names_and_contents(alloc, texts)?)?;
     match compile(alloc, files) {
@@ -286,6 +289,7 @@ fn tell<W: Write>(
         × TellsProgram program.now terms text × AppendsBeginning (W.contents writer.old) (W.contents writer.new) text) }
     ensures memory { IfErr result (λ fault. fault ≡ ServeFault.Memory → Keeps
         (W.contents writer.old) (W.contents writer.new)) }
+    ensures fault { IfErr result (λ fault. fault ≢ ServeFault.Read) }
 {
     let text = program_text(alloc, program, terms)?;
     write_text(writer, text.as_str())?;
@@ -304,6 +308,7 @@ pub(crate) fn write_faults<W: Write>(
         (W.contents writer.old) (W.contents writer.new) (report_text errors.now)) }
     ensures memory { IfErr result (λ fault. fault ≡ ServeFault.Memory → Keeps
         (W.contents writer.old) (W.contents writer.new)) }
+    ensures fault { IfErr result (λ fault. fault ≢ ServeFault.Read) }
 {
     let text = errors.to_string(alloc)?;
     write_text(writer, text.as_str())

@@ -1,4 +1,10 @@
 //! The program: words, files, and the command on them.
+ghost use Rattle.std.specs.Prelude.{◌≡◌, ◌≢◌, ◌⊎◌, IfOk, IfErr, map, option_map};
+ghost use Rattle.islec.specs.Beginnings.{BecomesUnbegun, TellsUnbegun, IsUnread};
+ghost use Rattle.islec.specs.Statuses.{code_of};
+ghost use Rattle.islec.specs.declared.status.Status.{Status};
+ghost use Rattle.islec.specs.declared.program.Unbegun.TheVariants.{Memory};
+
 use crate::line::{Line, LineFault, line_of};
 use crate::perform::perform;
 use crate::status::{Status, out_of_memory};
@@ -21,18 +27,24 @@ enum Unbegun {
 }
 
 impl From<AllocError> for Unbegun {
+    ghost from_gives = { λ _ unbegun. unbegun ≡ Memory };
+
     fn from(_error: AllocError) -> Unbegun {
         Unbegun::Memory
     }
 }
 
 impl<T: Drop> From<AllocFailed<T>> for Unbegun {
+    ghost from_gives = { λ _ unbegun. unbegun ≡ Memory };
+
     fn from(_error: AllocFailed<T>) -> Unbegun {
         Unbegun::Memory
     }
 }
 
 impl From<LineFault> for Unbegun {
+    ghost from_gives = { BecomesUnbegun };
+
     fn from(fault: LineFault) -> Unbegun {
         match fault {
             LineFault::Usage(error) => Unbegun::Usage(error),
@@ -43,7 +55,9 @@ impl From<LineFault> for Unbegun {
 
 /// Reads the words of the command line and the files that they name, all before anything is
 /// compiled, does the command, and gives the exit status.
-pub fn run<R: Env + Files + Input + Print + AllocGlobal>(rt: &R) -> u8 {
+pub fn run<R: Env + Files + Input + Print + AllocGlobal>(rt: &R) -> u8
+    ensures ends { (status : Status) × (result ≡ code_of status) }
+{
     let mut output = io::writer(rt);
     match begin(rt, &mut output) {
         Ok(status) => status,
@@ -54,7 +68,9 @@ pub fn run<R: Env + Files + Input + Print + AllocGlobal>(rt: &R) -> u8 {
 fn begin<R: Env + Files + Input + AllocGlobal, W: Write>(
     rt: &R,
     output: &mut W,
-) -> Result<u8, Unbegun> {
+) -> Result<u8, Unbegun>
+    ensures ends { IfOk result (λ code. (status : Status) × (status ≢ Status.Usage) × (code ≡ code_of status)) }
+{
     let words = read_words(rt)?;
     let Line { job, files, world } = line_of(rt.alloc(), words.as_slice())?;
     let texts = read_texts(rt, files)?;
@@ -63,7 +79,10 @@ fn begin<R: Env + Files + Input + AllocGlobal, W: Write>(
     Ok(perform(rt.alloc(), job, texts, world, &mut input, output))
 }
 
-fn read_words<R: Env + AllocGlobal>(rt: &R) -> Result<Vec<String>, Unbegun> {
+// The words of the command line.
+fn read_words<R: Env + AllocGlobal>(rt: &R) -> Result<Vec<String>, Unbegun>
+    ensures refused { IfErr result (λ unbegun. (unbegun ≡ Unbegun.Memory) ⊎ (unbegun ≡ Unbegun.NotText)) }
+{
     match env::args(rt) {
         Ok(words) => Ok(words.collect(rt.alloc())?),
         Err(error) if error.kind() == ErrorKind::OutOfMemory => Err(Unbegun::Memory),
@@ -71,10 +90,14 @@ fn read_words<R: Env + AllocGlobal>(rt: &R) -> Result<Vec<String>, Unbegun> {
     }
 }
 
+// The files of these names, in order.
 fn read_texts<R: Files + AllocGlobal>(
     rt: &R,
     names: Vec<String>,
-) -> Result<Vec<(String, String)>, Unbegun> {
+) -> Result<Vec<(String, String)>, Unbegun>
+    ensures named { IfOk result (λ texts. map (λ text. text.0) texts.items ≡ names.items) }
+    ensures refused { IfErr result IsUnread }
+{
     let mut texts = Vec::new(rt.alloc());
     for name in names {
         texts.push(read_text(rt, name)?)?;
@@ -82,10 +105,14 @@ fn read_texts<R: Files + AllocGlobal>(
     Ok(texts)
 }
 
+// The world's file, where one is named.
 fn read_world<R: Files + AllocGlobal>(
     rt: &R,
     name: Option<String>,
-) -> Result<Option<(String, String)>, Unbegun> {
+) -> Result<Option<(String, String)>, Unbegun>
+    ensures named { IfOk result (λ world. option_map (λ text. text.0) world ≡ name) }
+    ensures refused { IfErr result IsUnread }
+{
     match name {
         Some(name) => Ok(Some(read_text(rt, name)?)),
         None => Ok(None),
@@ -93,7 +120,11 @@ fn read_world<R: Files + AllocGlobal>(
 }
 
 // The name and the contents of a file.
-fn read_text<R: Files + AllocGlobal>(rt: &R, name: String) -> Result<(String, String), Unbegun> {
+fn read_text<R: Files + AllocGlobal>(rt: &R, name: String) -> Result<(String, String), Unbegun>
+    ensures named { IfOk result (λ text. text.0 ≡ name) }
+    ensures refused { IfErr result (λ unbegun. (unbegun ≡ Unbegun.Memory) ⊎ (unbegun ≡ Unbegun.CannotRead name)) }
+    ensures unread { IfErr result IsUnread }
+{
     match fs::read_to_string(rt, name.as_str()) {
         Ok(text) => Ok((name, text)),
         Err(error) if error.kind() == ErrorKind::OutOfMemory => Err(Unbegun::Memory),
@@ -101,7 +132,10 @@ fn read_text<R: Files + AllocGlobal>(rt: &R, name: String) -> Result<(String, St
     }
 }
 
-fn tell<W: Write>(unbegun: Unbegun, output: &mut W) -> Status {
+// Writes why the command was not begun, and gives the exit status.
+fn tell<W: Write>(unbegun: Unbegun, output: &mut W) -> Status
+    ensures { TellsUnbegun unbegun result (W.contents output.old) (W.contents output.new) }
+{
     let (written, status) = match unbegun {
         Unbegun::Usage(error) if error.use_stderr() => (write!(output, "{error}"), Status::Usage),
         Unbegun::Usage(error) => (write!(output, "{error}"), Status::AllWell),

@@ -10,10 +10,9 @@ use crate::answer::reply_to;
 use isle_run::{Program, World};
 use std::alloc::{AllocError, AllocFailed, Global};
 use std::io::{BufRead, BufReader, ErrorKind, Read, Write};
-use thiserror::Error;
 
 /// How the lines of an input that was read to its end were answered.
-#[derive(Debug, Clone, Copy, PartialEq, Eq)]
+#[derive(Clone, Copy)]
 pub enum Served {
     AllWell,
     /// Some line was refused, stuck, spent or ill-typed.
@@ -30,13 +29,13 @@ impl Served {
 }
 
 /// Why an input was not answered to its end.
-#[derive(Debug, Drop, Error)]
+#[derive(Drop)]
 pub enum ServeFault {
-    #[error("reading failed")]
+    /// Reading failed.
     Read,
-    #[error("writing failed")]
+    /// Writing failed.
     Write,
-    #[error("out of memory")]
+    /// Memory ran out.
     Memory,
 }
 

@@ -6,7 +6,7 @@ use crate::serve::write_text;
 use std::io::Write;
 
 /// How the program ends.
-#[derive(Debug, Clone, Copy, PartialEq, Eq)]
+#[derive(Clone, Copy)]
 pub enum Status {
     /// All was well, or help was asked for.
     AllWell,

@@ -11,7 +11,7 @@ use crate::sites::Sites;
 use isle_types::VariantId;
 
 /// What a test opens: so many fields, of a variant, or of a struct where none is given.
-#[derive(Debug, Clone, Copy)]
+#[derive(Clone, Copy)]
 pub(super) struct Opening {
     pub(super) variant: Option<VariantId>,
     pub(super) fields: TupleIndex,

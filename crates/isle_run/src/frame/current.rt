@@ -7,7 +7,7 @@ use crate::variables::Variables;
 use isle_terms::Rule;
 
 /// A rule that is being tried, or was chosen.
-#[derive(Debug, Drop)]
+#[derive(Drop)]
 pub struct Current<'a> {
     pub rule: &'a Rule,
     pub laid: &'a LaidRule,
@@ -18,7 +18,7 @@ pub struct Current<'a> {
 }
 
 /// Where in a rule.
-#[derive(Debug, Clone, Copy, PartialEq, Eq)]
+#[derive(Clone, Copy)]
 pub enum At {
     /// The expression of the condition of this place is evaluated.
     IfLet(usize),

@@ -17,7 +17,7 @@ use isle_syntax::{Text, is_const_name, is_ident};
 use std::alloc::{AllocError, Global};
 
 /// Data whose fields are being read: the place of its node, and how many fields are read.
-#[derive(Debug, Clone, Copy, PartialEq, Eq, Drop)]
+#[derive(Clone, Copy, Drop)]
 pub(crate) struct Open {
     pub node: usize,
     pub fields: usize,

@@ -23,7 +23,7 @@ pub enum Side {
 }
 
 /// An entry: what a call of a term is answered.
-#[derive(Debug, Drop)]
+#[derive(Drop)]
 pub(crate) struct Entry {
     pub side: Side,
     pub term: Text,

@@ -19,7 +19,7 @@ use isle_types::{TermId, TypeId};
 use std::alloc::{AllocError, Global};
 
 /// The types of the values that a call hands over and that its answer has, and whether it may answer none.
-#[derive(Debug, Drop)]
+#[derive(Drop)]
 pub(crate) struct External {
     pub takes: Vec<TypeId>,
     pub gives: Vec<TypeId>,

@@ -20,7 +20,7 @@ use isle_types::{StableMap, TermId, TypeEnv, TypeId};
 use std::alloc::{AllocError, Global};
 
 /// Where a converter is ill, and why.
-#[derive(Debug, Drop)]
+#[derive(Drop)]
 struct IllConverter {
     pos: Pos,
     msg: &'static str,

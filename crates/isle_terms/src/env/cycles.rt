@@ -7,7 +7,7 @@ use std::alloc::{AllocError, Global};
 use std::marker::Model;
 
 /// What a search knows of a node.
-#[derive(Debug, Clone, Copy)]
+#[derive(Clone, Copy)]
 enum Mark {
     Unseen,
     /// It lies on the path that is being searched.
@@ -17,7 +17,7 @@ enum Mark {
 }
 
 /// A node of the path that is being searched, and how many of its targets are finished.
-#[derive(Debug, Clone, Copy)]
+#[derive(Clone, Copy)]
 struct Step {
     node: usize,
     place: usize,

@@ -9,14 +9,14 @@ use isle_syntax::lexer::Pos;
 use std::alloc::{AllocError, Global};
 
 /// The host's function that makes a term's values.
-#[derive(Debug, Clone, Copy)]
+#[derive(Clone, Copy)]
 pub struct HostConstructor<'a> {
     pub term: &'a Ident,
     pub function: &'a Ident,
 }
 
 /// The host's function that takes a term's values apart, and where it is given.
-#[derive(Debug, Clone, Copy)]
+#[derive(Clone, Copy)]
 pub struct HostExtractor<'a> {
     pub term: &'a Ident,
     pub function: &'a Ident,

@@ -6,7 +6,7 @@ use isle_types::StableMap;
 use std::alloc::{AllocError, Global};
 
 /// The first place of each name in a list of names.
-#[derive(Debug, Drop)]
+#[derive(Drop)]
 pub struct NameTable {
     alloc: Global,
     places: StableMap<String, usize>,

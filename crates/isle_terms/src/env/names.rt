@@ -18,7 +18,7 @@ use isle_types::TypeEnv;
 use std::alloc::{AllocError, Global};
 
 /// The tables of the names that definitions give.
-#[derive(Debug, Drop)]
+#[derive(Drop)]
 pub struct Names {
     /// The declared terms.
     pub declared: NameTable,

@@ -22,7 +22,7 @@ use isle_types::TypeEnv;
 use std::alloc::{AllocError, Global};
 
 /// A name, and where it is given.
-#[derive(Debug, Clone, Copy)]
+#[derive(Clone, Copy)]
 pub struct Named<'a> {
     pub name: &'a str,
     pub pos: Pos,

@@ -9,7 +9,7 @@ use isle_syntax::ast::{Converter, Decl, Def, Extractor, Rule};
 use std::alloc::{AllocError, Global};
 
 /// The definitions of terms and rules by kind, each in order.
-#[derive(Debug, Drop)]
+#[derive(Drop)]
 pub struct Parts<'a> {
     pub decls: Vec<&'a Decl>,
     pub rules: Vec<&'a Rule>,

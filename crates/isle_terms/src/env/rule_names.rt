@@ -22,7 +22,7 @@ use isle_types::{RuleId, StableMap, Sym, TypeEnv};
 use std::alloc::{AllocError, Global};
 
 /// Typed rules, each at the place of its id, and the id of each name.
-#[derive(Debug, Drop)]
+#[derive(Drop)]
 pub struct NamedRules {
     pub rules: Vec<Rule>,
     pub numbers: StableMap<Sym, RuleId>,

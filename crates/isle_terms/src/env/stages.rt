@@ -41,7 +41,7 @@ use isle_types::{StableMap, TermId, TypeEnv, TypeId};
 use std::alloc::{AllocError, Global};
 
 /// The terms that definitions make, each at the place of its id, and the table of their names.
-#[derive(Debug, Drop)]
+#[derive(Drop)]
 pub struct MadeTerms {
     pub terms: Vec<Term>,
     pub table: NameTable,

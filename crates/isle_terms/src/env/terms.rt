@@ -297,7 +297,7 @@ fn known_types(
 }
 
 /// The types of a declaration's arguments and of its value.
-#[derive(Debug, Drop)]
+#[derive(Drop)]
 struct DeclaredTypes {
     arguments: Vec<TypeId>,
     value: TypeId,

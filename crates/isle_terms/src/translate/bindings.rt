@@ -10,14 +10,14 @@ use std::collections::HashMap;
 use std::marker::Model;
 
 /// The variable of a name, and its type.
-#[derive(Debug, Clone, Copy, PartialEq, Eq)]
+#[derive(Clone, Copy)]
 pub struct BoundName {
     pub var: VarId,
     pub ty: TypeId,
 }
 
 /// A name that can be used, and what of the same name it hides.
-#[derive(Debug, Drop)]
+#[derive(Drop)]
 struct VisibleName {
     name: Text,
     bound: BoundName,
@@ -101,7 +101,7 @@ impl Scope {
 }
 
 /// A variable of a rule by the text of its name.
-#[derive(Debug, Drop)]
+#[derive(Drop)]
 pub struct RuleVariable {
     pub name: Text,
     pub ty: TypeId,

@@ -18,7 +18,7 @@ use isle_syntax::lexer::Pos;
 use isle_types::{BuiltinType, Sym, TermId, Type, TypeEnv, TypeId};
 
 /// What a term is used for.
-#[derive(Debug, Clone, Copy, PartialEq, Eq)]
+#[derive(Clone, Copy)]
 pub enum Role {
     /// To make a value, in an expression.
     Constructor,
@@ -34,7 +34,7 @@ pub struct NumberedTerm<'a> {
 }
 
 /// A constant: the symbol of its name, and its type.
-#[derive(Debug, Clone, Copy, PartialEq, Eq)]
+#[derive(Clone, Copy)]
 pub struct KnownConstant {
     pub name: Sym,
     pub ty: TypeId,

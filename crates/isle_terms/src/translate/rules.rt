@@ -20,7 +20,7 @@ use isle_syntax::lexer::Pos;
 use isle_syntax::{Refusal, ast};
 
 /// The typed parts of a rule.
-#[derive(Debug, Drop)]
+#[derive(Drop)]
 pub struct Parts {
     pub args: Vec<Pattern>,
     pub iflets: Vec<IfLet>,

@@ -1,9 +1,9 @@
 //! Rule sets of the rules of texts, and what is wrong with rules.
-use super::{A, U8, variant};
+use super::A;
 use crate::terms::visits::{TERMS, environments};
 use isle_blocks::{
-    Binding, BindingId, Constraint, Overlap, Rule, RulePlace, RuleSet, TermSets, TupleIndex, build,
-    check, faults_between, report_faults,
+    Binding, BindingId, Rule, RulePlace, RuleSet, TermSets, TupleIndex, build, check,
+    faults_between, report_faults,
 };
 use isle_syntax::error::{Error, Span};
 use isle_syntax::lexer::Pos;
@@ -22,120 +22,236 @@ fn checked(alloc: Global, text: &str) -> Result<Vec<(TermId, RuleSet)>, Refused>
 }
 
 /// The rule sets of a text's terms, whatever is wrong with its rules.
-fn sets_of(alloc: Global, text: &str) -> Result<TermSets, Refused> {
+fn built(alloc: Global, text: &str) -> Result<TermSets, Refused> {
     let (_tyenv, termenv) = environments(alloc, text)?;
     build(alloc, &termenv)
 }
 
-const fn argument(index: u8) -> Binding {
-    Binding::Argument {
-        index: TupleIndex(index),
+/// The sites of a rule set, a line each, behind the number by which each is found.
+fn write_sites(out: &mut String, set: &RuleSet) -> Result<(), AllocError> {
+    for site in set.bindings() {
+        let line = format!(in *out.allocator(); "{:?} {site:?}\n", set.find_binding(site))?;
+        out.push_str(line.as_str())?;
     }
+    Ok(())
 }
 
-const fn int(val: i128) -> Binding {
-    Binding::ConstInt { val, ty: U8 }
-}
-
-// The term `term` has the number 0.
-const TIED: &str = "(decl partial term (u8 u8) u8) (rule (term x @ 2 x) 7)";
-
-/// A name that stands again has the test of what it is bound to, so that no equality is left. The arguments come first, then
-/// the right side, then the made option of a term that may fail.
-fn tests_pass_to_what_is_equal(sets: &[(TermId, RuleSet)]) -> bool {
-    match sets {
-        [(term, set)] => *term == TermId(0) && has_tied_sites(set) && are_tied(set.rules()),
-        _ => false,
-    }
-}
-
-fn has_tied_sites(set: &RuleSet) -> bool {
-    let made = Binding::MakeSome {
-        inner: BindingId(2),
-    };
-    let sites = [argument(0), argument(1), int(7), made];
-    set.bindings() == sites.as_slice()
-        && set.find_binding(&sites[1]) == Some(BindingId(1))
-        && set.find_binding(&argument(2)) == None
-}
-
-fn are_tied(rules: &[Rule]) -> bool {
-    let [rule] = rules else {
-        return false;
-    };
-    let two = Constraint::ConstInt { val: 2, ty: U8 };
-    rule.total_constraints() == 2
-        && rule.get_constraint(BindingId(0)).copied() == Some(two)
-        && rule.get_constraint(BindingId(1)).copied() == Some(two)
-        && rule.get_constraint(BindingId(2)).copied() == None
-        && rule.equals.is_empty()
-        && rule.result == BindingId(3)
-}
-
-// The arguments' type `A` has the number 13, and its variant `V` the number 0.
-const OPENED: &str =
-    "(type A (enum (V (a u8) (b u8)))) (decl f (A A) u8) (rule (f x @ (A.V _ _) x) 7)";
-
-const fn field(source: u16, field: u8) -> Binding {
-    Binding::MatchVariant {
-        source: BindingId(source),
-        variant: VariantId(0),
-        field: TupleIndex(field),
-    }
-}
-
-/// What equals a variant is one too, so that its fields are opened, behind all that the rule needs, and equal the other's.
-fn equal_sites_have_equal_fields(sets: &[(TermId, RuleSet)]) -> bool {
-    match sets {
-        [(_term, set)] => {
-            has_opened_sites(set.bindings())
-                && are_opened(set.rules(), set.find_binding(&field(3, 0)))
+/// The first site that a site must be equal to, which is itself where it comes first.
+fn first_equal(rule: &Rule, site: BindingId) -> Option<BindingId> {
+    for other in 0..site.0 {
+        if rule.equals.in_same_set(BindingId(other), site) {
+            return Some(BindingId(other));
         }
-        _ => false,
     }
+    rule.equals.find(site).and(Some(site))
 }
 
-fn has_opened_sites(sites: &[Binding]) -> bool {
-    let needed = [argument(0), field(0, 0), field(0, 1), argument(1), int(7)];
-    sites.len() == 7 && &sites[..5] == needed.as_slice()
-}
-
-fn are_opened(rules: &[Rule], opened: Option<BindingId>) -> bool {
-    match (rules, opened) {
-        ([rule], Some(opened)) => is_opened(rule, opened),
-        _ => false,
+/// What a rule demands of a site: a test, and to be equal to others, of which the first stands.
+fn write_demands(out: &mut String, rule: &Rule, site: BindingId) -> Result<(), AllocError> {
+    let (test, equal) = (rule.get_constraint(site), first_equal(rule, site));
+    if test.is_none() && equal.is_none() {
+        return Ok(());
     }
+    let line = format!(in *out.allocator(); "  {} {test:?} {equal:?}\n", site.index())?;
+    out.push_str(line.as_str())
 }
 
-fn is_opened(rule: &Rule, opened: BindingId) -> bool {
-    rule.total_constraints() == 6
-        && rule.get_constraint(BindingId(3)).copied() == Some(variant(13, 0))
-        && rule.equals.in_same_set(BindingId(1), opened)
-        && !rule.equals.in_same_set(BindingId(2), opened)
+/// A rule: its number, that of its demands, the sites of its multi calls, of its impure calls and of its result; and its demands.
+fn write_rule(out: &mut String, set: &RuleSet, rule: &Rule) -> Result<(), AllocError> {
+    let (iterators, impure) = (rule.iterators.as_slice(), rule.impure.as_slice());
+    let head = format!(in *out.allocator();
+        "{:?} {} {iterators:?} {impure:?} {:?}\n",
+        rule.id,
+        rule.total_constraints(),
+        rule.result
+    )?;
+    out.push_str(head.as_str())?;
+    for site in set.bindings() {
+        if let Some(site) = set.find_binding(site) {
+            write_demands(out, rule, site)?;
+        }
+    }
+    Ok(())
 }
 
-// The first three rules may match together, and the last with none of them.
-const OVERLAPPING: &str = "(decl f (u8 u8) u8)
-    (rule 1 (f 1 _) 1) (rule (f _ 2) 2) (rule 2 (f 1 2) 3) (rule (f 2 3) 4)";
-
-/// Whether the rules at two places may match together.
-fn overlap(rules: &[Rule], first: usize, second: usize) -> Option<Overlap> {
-    let first = rules.get(first)?;
-    let second = rules.get(second)?;
-    Some(first.may_overlap(second))
+fn write_rules(out: &mut String, set: &RuleSet) -> Result<(), AllocError> {
+    for rule in set.rules() {
+        write_rule(out, set, rule)?;
+    }
+    Ok(())
 }
 
-/// Whether two rules, in either order, are told so.
-fn are_told(rules: &[Rule], first: usize, second: usize, wanted: Overlap) -> bool {
-    overlap(rules, first, second) == Some(wanted) && overlap(rules, second, first) == Some(wanted)
+/// Rule sets behind the numbers of their terms.
+fn told_sets(alloc: Global, sets: &[(TermId, RuleSet)]) -> Result<String, AllocError> {
+    let mut out = String::new(alloc);
+    for (term, set) in sets {
+        out.push_str(format!(in alloc; "{term:?}\n")?.as_str())?;
+        write_sites(&mut out, set)?;
+        write_rules(&mut out, set)?;
+    }
+    Ok(out)
 }
 
-/// Rules may match together unless a site has different tests in them; where one has all tests of the other, as a subset.
-fn overlaps_are_told(rules: &[Rule]) -> bool {
-    are_told(rules, 0, 1, Overlap::Yes { subset: false })
-        && are_told(rules, 1, 2, Overlap::Yes { subset: true })
-        && are_told(rules, 0, 2, Overlap::Yes { subset: true })
-        && are_told(rules, 0, 3, Overlap::No)
+// Accepted rules, and the rule sets of their terms.
+//
+// A name that stands again has the test of what it is bound to, so that no equality is left. The arguments come first, then
+// the right side, then the made option of a term that may fail.
+//
+// What equals a variant is one too, so that its fields are opened, behind all that the rule needs, and equal the other's. The type `A`
+// has the number 13.
+//
+// The terms `m`, `g`, `p` and `q` have the numbers 0 to 3. A call of a multi term gives values one by one, and one of a term that may fail
+// a content, for which a right side has no test. No rules of a multi term are rivals.
+pub const SETS: &str = "
+| (decl partial term (u8 u8) u8) (rule (term x @ 2 x) 7) → TermId(0)
+Some(BindingId(0)) Argument { index: TupleIndex(0) }
+Some(BindingId(1)) Argument { index: TupleIndex(1) }
+Some(BindingId(2)) ConstInt { val: 7, ty: TypeId(1) }
+Some(BindingId(3)) MakeSome { inner: BindingId(2) }
+RuleId(0) 2 [] [] BindingId(3)
+  0 Some(ConstInt { val: 2, ty: TypeId(1) }) None
+  1 Some(ConstInt { val: 2, ty: TypeId(1) }) None
+| (type A (enum (V (a u8) (b u8)))) (decl f (A A) u8) (rule (f x @ (A.V _ _) x) 7) → TermId(0)
+Some(BindingId(0)) Argument { index: TupleIndex(0) }
+Some(BindingId(1)) MatchVariant { source: BindingId(0), variant: VariantId(0), field: TupleIndex(0) }
+Some(BindingId(2)) MatchVariant { source: BindingId(0), variant: VariantId(0), field: TupleIndex(1) }
+Some(BindingId(3)) Argument { index: TupleIndex(1) }
+Some(BindingId(4)) ConstInt { val: 7, ty: TypeId(1) }
+Some(BindingId(5)) MatchVariant { source: BindingId(3), variant: VariantId(0), field: TupleIndex(0) }
+Some(BindingId(6)) MatchVariant { source: BindingId(3), variant: VariantId(0), field: TupleIndex(1) }
+RuleId(0) 6 [] [] BindingId(4)
+  0 Some(Variant { ty: TypeId(13), variant: VariantId(0), fields: TupleIndex(2) }) None
+  1 None Some(BindingId(1))
+  2 None Some(BindingId(2))
+  3 Some(Variant { ty: TypeId(13), variant: VariantId(0), fields: TupleIndex(2) }) None
+  5 None Some(BindingId(1))
+  6 None Some(BindingId(2))
+| (decl multi m (u8) u8) (extern constructor m m)
+(decl multi g (u8) u8) (rule (g x) (m x)) (rule (g y) (m y))
+(decl partial p (u8) u8) (extern constructor p p)
+(decl partial q (u8) u8) (rule (q x) (p x)) → TermId(1)
+Some(BindingId(0)) Argument { index: TupleIndex(0) }
+Some(BindingId(1)) Constructor { term: TermId(0), parameters: Seq { items: [BindingId(0)] }, instance: 1 }
+Some(BindingId(2)) Iterator { source: BindingId(1) }
+RuleId(0) 0 [BindingId(1)] [BindingId(2)] BindingId(2)
+RuleId(1) 0 [BindingId(1)] [BindingId(2)] BindingId(2)
+TermId(3)
+Some(BindingId(0)) Argument { index: TupleIndex(0) }
+Some(BindingId(1)) Constructor { term: TermId(2), parameters: Seq { items: [BindingId(0)] }, instance: 1 }
+Some(BindingId(2)) MatchSome { source: BindingId(1) }
+Some(BindingId(3)) MakeSome { inner: BindingId(2) }
+RuleId(2) 0 [] [BindingId(2)] BindingId(3)";
+
+/// The rule sets of accepted rules.
+pub fn accepted(alloc: Global, text: &str) -> Result<String, Fail> {
+    let sets = checked(alloc, text)?;
+    Ok(told_sets(alloc, sets.as_slice())?)
+}
+
+/// Whether a rule may match together with each of the rules.
+fn write_overlaps(out: &mut String, rule: &Rule, rules: &[Rule]) -> Result<(), AllocError> {
+    for other in rules {
+        let told = format!(in *out.allocator(); " {:?}", rule.may_overlap(other))?;
+        out.push_str(told.as_str())?;
+    }
+    out.push_str("\n")
+}
+
+/// Whether any two rules may match together, and which of them are faulty as rivals.
+fn write_rivals(out: &mut String, rules: &[Rule]) -> Result<(), AllocError> {
+    for rule in rules {
+        write_overlaps(out, rule, rules)?;
+    }
+    let found = faults_between(*out.allocator(), rules)?;
+    let (overlaps, shadows) = (found.overlaps.as_slice(), found.shadows.as_slice());
+    let told = format!(in *out.allocator(); "{overlaps:?} {shadows:?}\n")?;
+    out.push_str(told.as_str())
+}
+
+/// The same of the rules of each set.
+fn write_all_rivals(out: &mut String, sets: &[(TermId, RuleSet)]) -> Result<(), AllocError> {
+    for set in sets {
+        write_rivals(out, set.1.rules())?;
+    }
+    Ok(())
+}
+
+/// The rule sets of terms, the rules that never match, and what is told of each set's rules.
+fn told_built(alloc: Global, made: &TermSets) -> Result<String, AllocError> {
+    let mut out = told_sets(alloc, made.sets.as_slice())?;
+    out.push_str(listing(alloc, made.unreachable.as_slice())?.as_str())?;
+    out.push_str("\n")?;
+    write_all_rivals(&mut out, made.sets.as_slice())?;
+    Ok(out)
+}
+
+// Any rules, and their rule sets, the rules that never match, whether any two others may match together, and the rivals among them.
+//
+// A rule that never matches, since no value is both 1 and 2, is left out of its rule set, and its sites too.
+//
+// Rules may match together unless a site has different tests in them; where one has all tests of the other, as a subset. In the second
+// text the first three rules may match together, and the last with none of them.
+//
+// In the third text the first two rules have one priority; the third has more, and the second one's test; the last has an equality left.
+pub const BUILT: &str = "
+| (decl f (u8) u8) (rule (f (and 1 2)) 1) (rule (f 3) 2) → TermId(0)
+Some(BindingId(0)) Argument { index: TupleIndex(0) }
+Some(BindingId(1)) ConstInt { val: 2, ty: TypeId(1) }
+RuleId(1) 1 [] [] BindingId(1)
+  0 Some(ConstInt { val: 3, ty: TypeId(1) }) None
+unreachable 23;
+ Yes { subset: true }
+[] []
+| (decl f (u8 u8) u8) (rule 1 (f 1 _) 1) (rule (f _ 2) 2) (rule 2 (f 1 2) 3) (rule (f 2 3) 4) → TermId(0)
+Some(BindingId(0)) Argument { index: TupleIndex(0) }
+Some(BindingId(1)) Argument { index: TupleIndex(1) }
+Some(BindingId(2)) ConstInt { val: 1, ty: TypeId(1) }
+Some(BindingId(3)) ConstInt { val: 2, ty: TypeId(1) }
+Some(BindingId(4)) ConstInt { val: 3, ty: TypeId(1) }
+Some(BindingId(5)) ConstInt { val: 4, ty: TypeId(1) }
+RuleId(0) 1 [] [] BindingId(2)
+  0 Some(ConstInt { val: 1, ty: TypeId(1) }) None
+RuleId(1) 1 [] [] BindingId(3)
+  1 Some(ConstInt { val: 2, ty: TypeId(1) }) None
+RuleId(2) 2 [] [] BindingId(4)
+  0 Some(ConstInt { val: 1, ty: TypeId(1) }) None
+  1 Some(ConstInt { val: 2, ty: TypeId(1) }) None
+RuleId(3) 2 [] [] BindingId(5)
+  0 Some(ConstInt { val: 2, ty: TypeId(1) }) None
+  1 Some(ConstInt { val: 3, ty: TypeId(1) }) None
+
+ Yes { subset: true } Yes { subset: false } Yes { subset: true } No
+ Yes { subset: false } Yes { subset: true } Yes { subset: true } No
+ Yes { subset: true } Yes { subset: true } Yes { subset: true } No
+ No No No Yes { subset: true }
+[] []
+| (decl f (u8 u8) u8) (rule (f 1 _) 2) (rule (f _ 1) 3) (rule 1 (f _ 1) 4) (rule 2 (f x x) 5) → TermId(0)
+Some(BindingId(0)) Argument { index: TupleIndex(0) }
+Some(BindingId(1)) Argument { index: TupleIndex(1) }
+Some(BindingId(2)) ConstInt { val: 2, ty: TypeId(1) }
+Some(BindingId(3)) ConstInt { val: 3, ty: TypeId(1) }
+Some(BindingId(4)) ConstInt { val: 4, ty: TypeId(1) }
+Some(BindingId(5)) ConstInt { val: 5, ty: TypeId(1) }
+RuleId(0) 1 [] [] BindingId(2)
+  0 Some(ConstInt { val: 1, ty: TypeId(1) }) None
+RuleId(1) 1 [] [] BindingId(3)
+  1 Some(ConstInt { val: 1, ty: TypeId(1) }) None
+RuleId(2) 1 [] [] BindingId(4)
+  1 Some(ConstInt { val: 1, ty: TypeId(1) }) None
+RuleId(3) 2 [] [] BindingId(5)
+  0 None Some(BindingId(0))
+  1 None Some(BindingId(0))
+
+ Yes { subset: true } Yes { subset: false } Yes { subset: false } Yes { subset: false }
+ Yes { subset: false } Yes { subset: true } Yes { subset: true } Yes { subset: false }
+ Yes { subset: false } Yes { subset: true } Yes { subset: true } Yes { subset: false }
+ Yes { subset: false } Yes { subset: false } Yes { subset: false } Yes { subset: false }
+[(0, 1)] [(2, 1)]";
+
+/// What is told of any rules.
+pub fn any(alloc: Global, text: &str) -> Result<String, Fail> {
+    let made = built(alloc, text)?;
+    Ok(told_built(alloc, &made)?)
 }
 
 /// The offsets of spans, each behind a space.
@@ -174,236 +290,19 @@ fn listing(alloc: Global, errors: &[Error]) -> Result<String, AllocError> {
     Ok(text)
 }
 
+// Faulty rules, and the offsets of those at fault, the heading one first. A rule that never matches is the one that is reported. Rules of
+// one priority overlap, one of a higher priority shadows; one with an equality left shadows none.
+pub const FAULTY: &str = "
+| (decl f (u8) u8) (rule (f (and 1 2)) 1) (rule (f 3) 2) → unreachable 23;
+| (decl f (u8 u8) u8) (rule (f 1 _) 2) (rule (f _ 1) 3) (rule 1 (f _ 1) 4) (rule 2 (f x x) 5) → overlapping 43 26;shadowing 60 43;";
+
 /// What is wrong with the rules of a text.
-fn faults(alloc: Global, text: &str) -> Result<String, AllocError> {
+pub fn faults(alloc: Global, text: &str) -> Result<String, Fail> {
     match checked(alloc, text) {
-        Ok(_sets) => format!(in alloc; "accepted"),
-        Err(Refusal::Fault(errors)) => listing(alloc, errors.as_slice()),
-        Err(Refusal::Memory(e)) => Err(e),
+        Ok(_sets) => Ok(String::from_str(alloc, "accepted")?),
+        Err(Refusal::Fault(errors)) => Ok(listing(alloc, errors.as_slice())?),
+        Err(Refusal::Memory(e)) => Err(Fail::from(e)),
     }
-}
-
-// No value is both 1 and 2.
-const UNREACHABLE: &str = "(decl f (u8) u8) (rule (f (and 1 2)) 1) (rule (f 3) 2)";
-
-/// A rule that never matches is left out of its rule set, and its sites too.
-fn is_of_the_second_rule(set: &RuleSet) -> bool {
-    let sites = [argument(0), int(2)];
-    match set.rules() {
-        [rule] => rule.id == RuleId(1) && set.bindings() == sites.as_slice(),
-        _ => false,
-    }
-}
-
-// The terms are `m`, `g`, `p` and `q`; no rules of the `multi` term `g` are rivals.
-const CALLS: &str = "(decl multi m (u8) u8) (extern constructor m m)
-    (decl multi g (u8) u8) (rule (g x) (m x)) (rule (g y) (m y))
-    (decl partial p (u8) u8) (extern constructor p p)
-    (decl partial q (u8) u8) (rule (q x) (p x))";
-
-/// The first impure call of a term, of the site 0.
-fn call(alloc: Global, term: TermId) -> Result<Binding, AllocError> {
-    Ok(Binding::Constructor {
-        term,
-        parameters: Seq::new(vec![in alloc; BindingId(0)]?),
-        instance: 1,
-    })
-}
-
-/// Argument 0 is the site 0, the call of it 1 and one value of the call 2, which is the result; both rules have them.
-fn multi_calls_give_iterators(
-    alloc: Global,
-    sets: &[(TermId, RuleSet)],
-) -> Result<bool, AllocError> {
-    match sets {
-        [(term, set), _other] => Ok(
-            *term == TermId(1)
-                && has_sites_of_many(alloc, set.bindings())?
-                && give_many(set.rules()),
-        ),
-        _ => Ok(false),
-    }
-}
-
-fn has_sites_of_many(alloc: Global, sites: &[Binding]) -> Result<bool, AllocError> {
-    let value = Binding::Iterator {
-        source: BindingId(1),
-    };
-    let wanted = [argument(0), call(alloc, TermId(0))?, value];
-    Ok(sites == wanted.as_slice())
-}
-
-fn give_many(rules: &[Rule]) -> bool {
-    match rules {
-        [first, second] => gives_many(first) && gives_many(second),
-        _ => false,
-    }
-}
-
-fn gives_many(rule: &Rule) -> bool {
-    rule.iterators.as_slice() == [BindingId(1)].as_slice()
-        && rule.impure.as_slice() == [BindingId(2)].as_slice()
-        && rule.result == BindingId(2)
-}
-
-/// Argument 0 is the site 0, the call of it 1 and the call's content 2, whose made option, the result, is 3.
-fn partial_calls_give_contents(
-    alloc: Global,
-    sets: &[(TermId, RuleSet)],
-) -> Result<bool, AllocError> {
-    match sets {
-        [_other, (term, set)] => Ok(
-            *term == TermId(3)
-                && has_sites_of_contents(alloc, set.bindings())?
-                && give_contents(set.rules()),
-        ),
-        _ => Ok(false),
-    }
-}
-
-/// What is asked of the rule sets of accepted rules.
-#[derive(Clone, Copy)]
-enum FaultlessRules {
-    Tied,
-    Opened,
-    Many,
-    Contents,
-}
-
-fn accepted_text(asked: FaultlessRules) -> &'static str {
-    match asked {
-        FaultlessRules::Tied => TIED,
-        FaultlessRules::Opened => OPENED,
-        FaultlessRules::Many | FaultlessRules::Contents => CALLS,
-    }
-}
-
-fn accepted_hold(
-    alloc: Global,
-    sets: &[(TermId, RuleSet)],
-    asked: FaultlessRules,
-) -> Result<bool, AllocError> {
-    match asked {
-        FaultlessRules::Tied => Ok(tests_pass_to_what_is_equal(sets)),
-        FaultlessRules::Opened => Ok(equal_sites_have_equal_fields(sets)),
-        FaultlessRules::Many => multi_calls_give_iterators(alloc, sets),
-        FaultlessRules::Contents => partial_calls_give_contents(alloc, sets),
-    }
-}
-
-/// Whether the rule sets of accepted rules are so.
-fn are_accepted(alloc: Global, asked: FaultlessRules) -> Result<bool, Fail> {
-    let sets = checked(alloc, accepted_text(asked))?;
-    Ok(accepted_hold(alloc, sets.as_slice(), asked)?)
-}
-
-#[test]
-fn accepted_rules_have_their_sets(rt: HostRuntime) -> Result<(), Fail> {
-    for asked in [
-        FaultlessRules::Tied,
-        FaultlessRules::Opened,
-        FaultlessRules::Many,
-        FaultlessRules::Contents,
-    ] {
-        assert!(rt; are_accepted(rt.alloc(), asked)?);
-    }
-    Ok(())
-}
-
-fn has_sites_of_contents(alloc: Global, sites: &[Binding]) -> Result<bool, AllocError> {
-    let content = Binding::MatchSome {
-        source: BindingId(1),
-    };
-    let made = Binding::MakeSome {
-        inner: BindingId(2),
-    };
-    let wanted = [argument(0), call(alloc, TermId(2))?, content, made];
-    Ok(sites == wanted.as_slice())
-}
-
-fn give_contents(rules: &[Rule]) -> bool {
-    match rules {
-        [rule] => {
-            rule.iterators.as_slice().is_empty()
-                && rule.impure.as_slice() == [BindingId(2)].as_slice()
-                && rule.result == BindingId(3)
-        }
-        _ => false,
-    }
-}
-
-// The first two rules have one priority; the third has more, and the second one's test; the last has an equality left.
-const RIVALS: &str =
-    "(decl f (u8 u8) u8) (rule (f 1 _) 2) (rule (f _ 1) 3) (rule 1 (f _ 1) 4) (rule 2 (f x x) 5)";
-
-/// What is asked of the rule sets of any rules.
-#[derive(Clone, Copy)]
-enum AnyRules {
-    Overlapping,
-    Unreachable,
-    Rivals,
-}
-
-fn built_text(asked: AnyRules) -> &'static str {
-    match asked {
-        AnyRules::Overlapping => OVERLAPPING,
-        AnyRules::Unreachable => UNREACHABLE,
-        AnyRules::Rivals => RIVALS,
-    }
-}
-
-fn built_hold(alloc: Global, made: &TermSets, asked: AnyRules) -> Result<bool, AllocError> {
-    let [(_term, set)] = made.sets.as_slice() else {
-        return Ok(false);
-    };
-    match asked {
-        AnyRules::Overlapping => Ok(overlaps_are_told(set.rules())),
-        AnyRules::Unreachable => Ok(is_of_the_second_rule(set) && made.unreachable.len() == 1),
-        AnyRules::Rivals => are_rivals(alloc, set.rules()),
-    }
-}
-
-/// Whether the rule sets of rules are so, whatever is wrong with the rules.
-fn are_built(alloc: Global, asked: AnyRules) -> Result<bool, Fail> {
-    let made = sets_of(alloc, built_text(asked))?;
-    Ok(built_hold(alloc, &made, asked)?)
-}
-
-#[test]
-fn rules_have_their_sets(rt: HostRuntime) -> Result<(), Fail> {
-    for asked in [
-        AnyRules::Overlapping,
-        AnyRules::Unreachable,
-        AnyRules::Rivals,
-    ] {
-        assert!(rt; are_built(rt.alloc(), asked)?);
-    }
-    Ok(())
-}
-
-/// A rule that never matches is the one that is reported. Rules of one priority overlap, one of a higher priority shadows; one with an
-/// equality left shadows none.
-#[test]
-fn faults_are_listed(rt: HostRuntime) -> Result<(), Fail> {
-    assert_eq!(rt;
-        faults(rt.alloc(), UNREACHABLE)?.as_str(),
-        "unreachable 23;"
-    );
-    assert_eq!(rt;
-        faults(rt.alloc(), RIVALS)?.as_str(),
-        "overlapping 43 26;shadowing 60 43;"
-    );
-    Ok(())
-}
-
-fn are_rivals(alloc: Global, rules: &[Rule]) -> Result<bool, AllocError> {
-    let found = faults_between(alloc, rules)?;
-    Ok(
-        rules.len() == 4
-            && rules[3].total_constraints() == 2
-            && found.overlaps.as_slice() == [(0, 1)].as_slice()
-            && found.shadows.as_slice() == [(2, 1)].as_slice(),
-    )
 }
 
 /// A rule at an offset of the first file.

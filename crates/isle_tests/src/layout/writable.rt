@@ -176,14 +176,53 @@ pub fn renamed(alloc: Global, row: &str) -> Result<String, Fail> {
     }
 }
 
-fn is_written(alloc: Global, def: Def) -> Result<bool, AllocError> {
-    let defs = vec![in alloc; def]?;
-    match defs.first() {
-        Some(def) => Ok(writable(def)),
-        None => Ok(false),
+// Definitions that are made by hand, most of which no text spells, and whether each is writable: internal extractors whose template is an
+// integer, with the mark of a big one or without it, a numbered argument, or so many bindings; structs with one field without a name, of
+// this index and type, or with none; kept definitions of one item; and rules with a `let` of this name, or a variable as their left side.
+pub const HAND_MADE: &str = "
+| big -1 → true
+| big 0 → false
+| small 0 → true
+| argument → false
+| chain 100000 → true
+| field0 u8 → true
+| field1 u8 → false
+| field0 8 → false
+| unnamed → false
+| named → false
+| unit → true
+| symbol #x! → true
+| symbol -x → false
+| symbol x; → false
+| symbol  → false
+| number 170141183460469231731687303715884105728 → true
+| number 170141183460469231731687303715884105727 → false
+| let $x → true
+| let 1 → false
+| left x → false";
+
+fn ident(alloc: Global, name: &str) -> Result<Ident, AllocError> {
+    Ok(Ident(Text::from_str(alloc, name)?, Pos::default()))
+}
+
+fn integer(text: &str) -> Result<i128, Fail> {
+    Ok(text.parse().ok().ok_or("an integer")?)
+}
+
+fn template_of(alloc: Global, maker: &str, of: &str) -> Result<Pattern, Fail> {
+    let pos = Pos::default();
+    match maker {
+        "argument" => Ok(Pattern::MacroArg { index: 0, pos }),
+        "chain" => Ok(chain(alloc, of.parse().ok().ok_or("a number")?)?),
+        _ => Ok(Pattern::ConstInt {
+            val: integer(of)?,
+            big: maker == "big",
+            pos,
+        }),
     }
 }
 
+/// The internal extractor `e` with this template.
 fn extractor_of(alloc: Global, term: Ident, template: Pattern) -> Def {
     Def::Extractor(Extractor {
         term,
@@ -193,32 +232,25 @@ fn extractor_of(alloc: Global, term: Ident, template: Pattern) -> Def {
     })
 }
 
-/// Whether the internal extractor `e` with this template is writable.
-fn is_template(alloc: Global, template: Pattern) -> Result<bool, AllocError> {
-    let term = Ident(Text::from_str(alloc, "e")?, Pos::default());
-    is_written(alloc, extractor_of(alloc, term, template))
-}
-
-fn is_constant(alloc: Global, val: i128, big: bool) -> Result<bool, AllocError> {
+fn field(alloc: Global, index: usize, ty: &str) -> Result<TupleFields, AllocError> {
+    let ty = ident(alloc, ty)?;
     let pos = Pos::default();
-    is_template(alloc, Pattern::ConstInt { val, big, pos })
+    let fields = Seq::new(vec![in alloc; TupleField { index, ty, pos }]?);
+    Ok(TupleFields { fields })
 }
 
-fn are_constants(alloc: Global) -> Result<bool, AllocError> {
-    Ok(
-        is_constant(alloc, -1, true)?
-            && !is_constant(alloc, 0, true)?
-            && is_constant(alloc, 0, false)?,
-    )
-}
-
-/// Whether a long chain of bindings is writable, and a numbered argument is not.
-fn is_chain(alloc: Global) -> Result<bool, AllocError> {
-    let argument = Pattern::MacroArg {
-        index: 0,
-        pos: Pos::default(),
-    };
-    Ok(!is_template(alloc, argument)? && is_template(alloc, chain(alloc, 100_000)?)?)
+fn fields_of(alloc: Global, maker: &str, of: &str) -> Result<Fields, AllocError> {
+    match maker {
+        "field0" => Ok(Fields::Tuple(field(alloc, 0, of)?)),
+        "field1" => Ok(Fields::Tuple(field(alloc, 1, of)?)),
+        "unnamed" => Ok(Fields::Tuple(TupleFields {
+            fields: Seq::new(Vec::new(alloc)),
+        })),
+        "named" => Ok(Fields::Struct(StructFields {
+            fields: Seq::new(Vec::new(alloc)),
+        })),
+        _ => Ok(Fields::Unit),
+    }
 }
 
 fn struct_of(name: Ident, fields: Fields) -> Def {
@@ -232,41 +264,15 @@ fn struct_of(name: Ident, fields: Fields) -> Def {
     })
 }
 
-/// Whether the struct `T` with these fields is writable.
-fn is_struct(alloc: Global, fields: Fields) -> Result<bool, AllocError> {
-    let name = Ident(Text::from_str(alloc, "T")?, Pos::default());
-    is_written(alloc, struct_of(name, fields))
-}
-
-/// Fields without names: one with this index, of this type.
-fn tuple(alloc: Global, index: usize, ty: &str) -> Result<Fields, AllocError> {
+fn item_of(alloc: Global, maker: &str, of: &str) -> Result<KeptItem, Fail> {
     let pos = Pos::default();
-    let ty = Ident(Text::from_str(alloc, ty)?, pos);
-    let fields = Seq::new(vec![in alloc; TupleField { index, ty, pos }]?);
-    Ok(Fields::Tuple(TupleFields { fields }))
-}
-
-fn is_tuple(alloc: Global, index: usize, ty: &str) -> Result<bool, AllocError> {
-    let fields = tuple(alloc, index, ty)?;
-    is_struct(alloc, fields)
-}
-
-fn are_tuples(alloc: Global) -> Result<bool, AllocError> {
-    Ok(is_tuple(alloc, 0, "u8")? && !is_tuple(alloc, 1, "u8")? && !is_tuple(alloc, 0, "8")?)
-}
-
-/// Whether no fields are only a unit's.
-fn are_none(alloc: Global) -> Result<bool, AllocError> {
-    let tuple = TupleFields {
-        fields: Seq::new(Vec::new(alloc)),
-    };
-    if is_struct(alloc, Fields::Tuple(tuple))? {
-        return Ok(false);
+    match maker {
+        "symbol" => Ok(KeptItem::Symbol(ident(alloc, of)?)),
+        _ => Ok(KeptItem::Big {
+            val: of.parse().ok().ok_or("a number")?,
+            pos,
+        }),
     }
-    let named = StructFields {
-        fields: Seq::new(Vec::new(alloc)),
-    };
-    Ok(!is_struct(alloc, Fields::Struct(named))? && is_struct(alloc, Fields::Unit)?)
 }
 
 fn kept_of(word: Ident, items: KeptItems) -> Def {
@@ -275,34 +281,6 @@ fn kept_of(word: Ident, items: KeptItems) -> Def {
         items,
         pos: Pos::default(),
     })
-}
-
-/// Whether the kept definition `(attr ..)` with this item is writable.
-fn is_kept(alloc: Global, item: KeptItem) -> Result<bool, AllocError> {
-    let items = vec![in alloc; item]?;
-    let word = Ident(Text::from_str(alloc, "attr")?, Pos::default());
-    is_written(alloc, kept_of(word, KeptItems::new(items)))
-}
-
-fn is_symbol(alloc: Global, text: &str) -> Result<bool, AllocError> {
-    let name = Ident(Text::from_str(alloc, text)?, Pos::default());
-    is_kept(alloc, KeptItem::Symbol(name))
-}
-
-fn is_big(alloc: Global, val: u128) -> Result<bool, AllocError> {
-    let pos = Pos::default();
-    is_kept(alloc, KeptItem::Big { val, pos })
-}
-
-fn are_items(alloc: Global) -> Result<bool, AllocError> {
-    Ok(
-        is_symbol(alloc, "#x!")?
-            && !is_symbol(alloc, "-x")?
-            && !is_symbol(alloc, "x;")?
-            && !is_symbol(alloc, "")?
-            && is_big(alloc, 1 << 127)?
-            && !is_big(alloc, (1 << 127) - 1)?,
-    )
 }
 
 fn rule_of(alloc: Global, pattern: Pattern, expr: Expr) -> Def {
@@ -328,45 +306,67 @@ fn zero() -> Expr {
 fn let_of(alloc: Global, name: &str) -> Result<Expr, AllocError> {
     let pos = Pos::default();
     let body = BoxedExpr::new(alloc, zero())?;
-    let var = Ident(Text::from_str(alloc, name)?, pos);
-    let ty = Ident(Text::from_str(alloc, "u8")?, pos);
+    let var = ident(alloc, name)?;
+    let ty = ident(alloc, "u8")?;
     let val = zero();
     let defs = LetDefs::new(vec![in alloc; LetDef { var, ty, val, pos }]?);
     Ok(Expr::Let { defs, body, pos })
 }
 
-/// Whether a `let` of this name is writable at the right side of a rule.
-fn is_let(alloc: Global, name: &str) -> Result<bool, AllocError> {
+/// `(rule (t) (let ((NAME u8 0)) 0))`.
+fn rule_with_let(alloc: Global, name: &str) -> Result<Def, AllocError> {
     let pos = Pos::default();
     let expr = let_of(alloc, name)?;
-    let sym = Ident(Text::from_str(alloc, "t")?, pos);
+    let sym = ident(alloc, "t")?;
     let args = Patterns::new(Vec::new(alloc));
-    is_written(
-        alloc,
-        rule_of(alloc, Pattern::Term { sym, args, pos }, expr),
-    )
+    Ok(rule_of(alloc, Pattern::Term { sym, args, pos }, expr))
 }
 
-/// Whether a rule is writable whose left side is a variable, which is no list.
-fn is_of_variable(alloc: Global) -> Result<bool, AllocError> {
+fn rule_made(alloc: Global, maker: &str, of: &str) -> Result<Def, AllocError> {
     let pos = Pos::default();
-    let var = Ident(Text::from_str(alloc, "x")?, pos);
-    is_written(alloc, rule_of(alloc, Pattern::Var { var, pos }, zero()))
+    match maker {
+        "let" => rule_with_let(alloc, of),
+        _ => {
+            let var = ident(alloc, of)?;
+            Ok(rule_of(alloc, Pattern::Var { var, pos }, zero()))
+        }
+    }
 }
 
-fn are_sides(alloc: Global) -> Result<bool, AllocError> {
-    Ok(is_let(alloc, "$x")? && !is_let(alloc, "1")? && !is_of_variable(alloc)?)
+fn extractor_made(alloc: Global, maker: &str, of: &str) -> Result<Def, Fail> {
+    let term = ident(alloc, "e")?;
+    Ok(extractor_of(alloc, term, template_of(alloc, maker, of)?))
+}
+
+fn kept_made(alloc: Global, maker: &str, of: &str) -> Result<Def, Fail> {
+    let word = ident(alloc, "attr")?;
+    let items = vec![in alloc; item_of(alloc, maker, of)?]?;
+    Ok(kept_of(word, KeptItems::new(items)))
+}
+
+fn struct_made(alloc: Global, maker: &str, of: &str) -> Result<Def, AllocError> {
+    let name = ident(alloc, "T")?;
+    Ok(struct_of(name, fields_of(alloc, maker, of)?))
+}
+
+fn definition_of(alloc: Global, maker: &str, of: &str) -> Result<Def, Fail> {
+    match maker {
+        "big" | "small" | "argument" | "chain" => extractor_made(alloc, maker, of),
+        "symbol" | "number" => kept_made(alloc, maker, of),
+        "let" | "left" => Ok(rule_made(alloc, maker, of)?),
+        _ => Ok(struct_made(alloc, maker, of)?),
+    }
+}
+
+/// Whether the definition of a row is writable.
+pub fn hand_made(alloc: Global, row: &str) -> Result<String, Fail> {
+    let (maker, of) = row.split_once(' ').unwrap_or((row, ""));
+    let defs = vec![in alloc; definition_of(alloc, maker, of)?]?;
+    Ok(format!(in alloc; "{}", are_writable(defs.as_slice()))?)
 }
 
 #[test]
 fn what_is_spelt_is_writable(rt: HostRuntime) -> Result<(), Fail> {
-    let alloc = rt.alloc();
-    assert!(rt; are_all_writable(alloc, EVERY_FORM, 12)?);
-    assert!(rt; are_constants(alloc)?);
-    assert!(rt; is_chain(alloc)?);
-    assert!(rt; are_tuples(alloc)?);
-    assert!(rt; are_none(alloc)?);
-    assert!(rt; are_items(alloc)?);
-    assert!(rt; are_sides(alloc)?);
+    assert!(rt; are_all_writable(rt.alloc(), EVERY_FORM, 12)?);
     Ok(())
 }

@@ -91,10 +91,17 @@ fn are_same(alloc: Global, one: &str, other: &str) -> Result<bool, Fail> {
 
 #[test]
 fn values_are_compared(rt: HostRuntime) -> Result<(), Fail> {
-    assert!(rt; positions_are_keys(rt.alloc())?);
-    assert!(rt; names_are_keys(rt.alloc(), "(decl f (b a a) a)")?);
-    assert!(rt; are_in_order(rt.alloc())?);
-    assert!(rt; are_same(rt.alloc(), "(convert i o t)", "(convert i o t)")?);
-    assert!(rt; !are_same(rt.alloc(), "(convert i o t)", "(convert i o  t)")?);
+    let alloc = rt.alloc();
+    let keys = [
+        positions_are_keys(alloc)?,
+        names_are_keys(alloc, "(decl f (b a a) a)")?,
+    ];
+    let own = are_same(alloc, "(convert i o t)", "(convert i o t)")?;
+    let moved = are_same(alloc, "(convert i o t)", "(convert i o  t)")?;
+    let in_order = are_in_order(alloc)?;
+    assert_eq!(rt;
+        (keys, in_order, own, moved),
+        ([true, true], true, true, false)
+    );
     Ok(())
 }

@@ -29,9 +29,23 @@ impl Recorder {
         self.calls.as_str()
     }
 
-    /// Writes down a call.
-    fn note(&mut self, call: &str) -> Result<(), VisitFault> {
+    /// Writes a number behind a space.
+    fn write(&mut self, number: i128) -> Result<(), VisitFault> {
+        let shown = format!(in self.alloc; " {number}")?;
+        Ok(self.calls.push_str(shown.as_str())?)
+    }
+
+    /// Begins to write down a call, by its numbers; a truth value is 0 or 1.
+    fn begin(&mut self, call: &str, numbers: &[i128]) -> Result<(), VisitFault> {
         self.calls.push_str(call)?;
+        for number in numbers {
+            self.write(*number)?;
+        }
+        Ok(())
+    }
+
+    /// Ends the line of a call, and counts it.
+    fn end(&mut self) -> Result<(), VisitFault> {
         self.calls.push_str("\n")?;
         if self.left == 0 {
             return Err(VisitFault::Size);
@@ -40,38 +54,63 @@ impl Recorder {
         Ok(())
     }
 
-    /// Writes down a call that asks for a name.
-    fn named(&mut self, call: &str) -> Result<usize, VisitFault> {
-        self.note(call)?;
-        let name = self.names;
-        self.names = self.names.saturating_add(1);
-        Ok(name)
+    /// Writes down a call.
+    fn note(&mut self, call: &str, numbers: &[i128]) -> Result<(), VisitFault> {
+        self.begin(call, numbers)?;
+        self.end()
     }
 
-    /// Writes down a call that asks for a name for each type.
-    fn listed(&mut self, call: &str, tys: &[TypeId]) -> Result<Vec<usize>, VisitFault> {
-        let mut text = String::from_str(self.alloc, call)?;
-        for ty in tys {
-            let shown = format!(in self.alloc; " {}", ty.0)?;
-            text.push_str(shown.as_str())?;
-        }
-        self.note(text.as_str())?;
+    /// The next name.
+    fn name(&mut self) -> usize {
+        let name = self.names;
+        self.names = self.names.saturating_add(1);
+        name
+    }
+
+    /// Writes down a call that asks for a name.
+    fn named(&mut self, call: &str, numbers: &[i128]) -> Result<usize, VisitFault> {
+        self.note(call, numbers)?;
+        Ok(self.name())
+    }
+
+    /// So many names.
+    fn names(&mut self, count: usize) -> Result<Vec<usize>, VisitFault> {
         let mut names = Vec::new(self.alloc);
-        for _ in tys {
-            names.push(self.names)?;
-            self.names = self.names.saturating_add(1);
+        for _ in 0..count {
+            names.push(self.name())?;
         }
         Ok(names)
     }
 
-    /// Writes down a call with arguments, each with its type.
-    fn made(&mut self, call: &str, inputs: &[(usize, TypeId)]) -> Result<usize, VisitFault> {
-        let mut text = String::from_str(self.alloc, call)?;
-        for input in inputs {
-            let shown = format!(in self.alloc; " {}:{}", input.0, input.1.0)?;
-            text.push_str(shown.as_str())?;
+    /// Writes down a call that asks for a name for each type.
+    fn listed(
+        &mut self,
+        call: &str,
+        numbers: &[i128],
+        tys: &[TypeId],
+    ) -> Result<Vec<usize>, VisitFault> {
+        self.begin(call, numbers)?;
+        self.calls.push_str(" of")?;
+        for ty in tys {
+            self.write(ty.0 as i128)?;
         }
-        self.named(text.as_str())
+        self.end()?;
+        self.names(tys.len())
+    }
+
+    /// Writes down a call with arguments, each with its type behind it.
+    fn made(
+        &mut self,
+        call: &str,
+        numbers: &[i128],
+        inputs: &[(usize, TypeId)],
+    ) -> Result<usize, VisitFault> {
+        self.begin(call, numbers)?;
+        for (input, ty) in inputs {
+            self.begin(" of", &[*input as i128, ty.0 as i128])?;
+        }
+        self.end()?;
+        Ok(self.name())
     }
 }
 
@@ -85,8 +124,7 @@ impl PatternVisitor for Recorder {
     ghost pattern_step = { any_answer };
 
     fn add_match_equal(&mut self, a: usize, b: usize, ty: TypeId) -> Result<(), VisitFault> {
-        let call = format!(in self.alloc; "match_equal {a} {b} {}", ty.0)?;
-        self.note(call.as_str())
+        self.note("match_equal", &[a as i128, b as i128, ty.0 as i128])
     }
 
     fn add_match_bool(
@@ -95,18 +133,17 @@ impl PatternVisitor for Recorder {
         ty: TypeId,
         bool_val: bool,
     ) -> Result<(), VisitFault> {
-        let call = format!(in self.alloc; "match_bool {input} {} {bool_val}", ty.0)?;
-        self.note(call.as_str())
+        let numbers = [input as i128, ty.0 as i128, bool_val as i128];
+        self.note("match_bool", &numbers)
     }
 
     fn add_match_int(&mut self, input: usize, ty: TypeId, int_val: i128) -> Result<(), VisitFault> {
-        let call = format!(in self.alloc; "match_int {input} {} {int_val}", ty.0)?;
-        self.note(call.as_str())
+        self.note("match_int", &[input as i128, ty.0 as i128, int_val])
     }
 
     fn add_match_prim(&mut self, input: usize, ty: TypeId, val: Sym) -> Result<(), VisitFault> {
-        let call = format!(in self.alloc; "match_prim {input} {} {}", ty.0, val.0)?;
-        self.note(call.as_str())
+        let numbers = [input as i128, ty.0 as i128, val.0 as i128];
+        self.note("match_prim", &numbers)
     }
 
     fn add_match_variant(
@@ -116,8 +153,8 @@ impl PatternVisitor for Recorder {
         arg_tys: &[TypeId],
         variant: VariantId,
     ) -> Result<Vec<usize>, VisitFault> {
-        let call = format!(in self.alloc; "match_variant {input} {} {} of", input_ty.0, variant.0)?;
-        self.listed(call.as_str(), arg_tys)
+        let numbers = [input as i128, input_ty.0 as i128, variant.0 as i128];
+        self.listed("match_variant", &numbers, arg_tys)
     }
 
     fn add_extract_struct(
@@ -126,8 +163,8 @@ impl PatternVisitor for Recorder {
         input_ty: TypeId,
         arg_tys: &[TypeId],
     ) -> Result<Vec<usize>, VisitFault> {
-        let call = format!(in self.alloc; "extract_struct {input} {} of", input_ty.0)?;
-        self.listed(call.as_str(), arg_tys)
+        let numbers = [input as i128, input_ty.0 as i128];
+        self.listed("extract_struct", &numbers, arg_tys)
     }
 
     fn add_extract(
@@ -141,11 +178,14 @@ impl PatternVisitor for Recorder {
     ) -> Result<Vec<usize>, VisitFault>
         ensures { any_answer (extract_outputs input input_ty output_tys.items term infallible multi) self.old (listed result) self.new }
     {
-        let call = format!(in self.alloc;
-            "extract {input} {} {} {infallible} {multi} of",
-            input_ty.0, term.0
-        )?;
-        self.listed(call.as_str(), output_tys.as_slice())
+        let numbers = [
+            input as i128,
+            input_ty.0 as i128,
+            term.0 as i128,
+            infallible as i128,
+            multi as i128,
+        ];
+        self.listed("extract", &numbers, output_tys.as_slice())
     }
 }
 
@@ -158,18 +198,15 @@ impl ExprVisitor for Recorder {
     ghost expr_step = { any_answer };
 
     fn add_const_bool(&mut self, ty: TypeId, val: bool) -> Result<usize, VisitFault> {
-        let call = format!(in self.alloc; "const_bool {} {val}", ty.0)?;
-        self.named(call.as_str())
+        self.named("const_bool", &[ty.0 as i128, val as i128])
     }
 
     fn add_const_int(&mut self, ty: TypeId, val: i128) -> Result<usize, VisitFault> {
-        let call = format!(in self.alloc; "const_int {} {val}", ty.0)?;
-        self.named(call.as_str())
+        self.named("const_int", &[ty.0 as i128, val])
     }
 
     fn add_const_prim(&mut self, ty: TypeId, val: Sym) -> Result<usize, VisitFault> {
-        let call = format!(in self.alloc; "const_prim {} {}", ty.0, val.0)?;
-        self.named(call.as_str())
+        self.named("const_prim", &[ty.0 as i128, val.0 as i128])
     }
 
     fn add_create_variant(
@@ -180,8 +217,8 @@ impl ExprVisitor for Recorder {
     ) -> Result<usize, VisitFault>
         ensures { any_answer (create_variant inputs.items ty variant) self.old result self.new }
     {
-        let call = format!(in self.alloc; "create_variant {} {} of", ty.0, variant.0)?;
-        self.made(call.as_str(), inputs.as_slice())
+        let numbers = [ty.0 as i128, variant.0 as i128];
+        self.made("create_variant", &numbers, inputs.as_slice())
     }
 
     fn add_create_struct(
@@ -191,8 +228,7 @@ impl ExprVisitor for Recorder {
     ) -> Result<usize, VisitFault>
         ensures { any_answer (create_struct inputs.items ty) self.old result self.new }
     {
-        let call = format!(in self.alloc; "create_struct {} of", ty.0)?;
-        self.made(call.as_str(), inputs.as_slice())
+        self.made("create_struct", &[ty.0 as i128], inputs.as_slice())
     }
 
     fn add_construct(
@@ -207,11 +243,15 @@ impl ExprVisitor for Recorder {
     ) -> Result<usize, VisitFault>
         ensures { any_answer (construct inputs.items ty term pure infallible multi rec) self.old result self.new }
     {
-        let call = format!(in self.alloc;
-            "construct {} {} {pure} {infallible} {multi} {rec} of",
-            ty.0, term.0
-        )?;
-        self.made(call.as_str(), inputs.as_slice())
+        let numbers = [
+            ty.0 as i128,
+            term.0 as i128,
+            pure as i128,
+            infallible as i128,
+            multi as i128,
+            rec as i128,
+        ];
+        self.made("construct", &numbers, inputs.as_slice())
     }
 }
 
@@ -232,8 +272,7 @@ impl RuleVisitor for Recorder {
     ghost rule_steps = { itself };
 
     fn add_arg(&mut self, index: usize, ty: TypeId) -> Result<usize, VisitFault> {
-        let call = format!(in self.alloc; "arg {index} {}", ty.0)?;
-        self.named(call.as_str())
+        self.named("arg", &[index as i128, ty.0 as i128])
     }
 
     fn add_pattern(
@@ -243,7 +282,7 @@ impl RuleVisitor for Recorder {
         ensures { in_pattern itself (visits any_answer part.entry.termenv.now.terms (pattern_of part.entry.pattern.now)
             part.entry.input (scope_of part.entry.vars)) self.old (scope_left result) self.new }
     {
-        self.note("pattern")?;
+        self.note("pattern", &[])?;
         let vars = part.visit(self)?;
         Ok(vars)
     }
@@ -252,18 +291,16 @@ impl RuleVisitor for Recorder {
         ensures { in_expr itself (visits_typed any_answer part.entry.termenv.now.terms part.entry.expr.now
             (scope_of part.entry.vars)) self.old result self.new }
     {
-        self.note("expr")?;
+        self.note("expr", &[])?;
         let visited = part.visit(self)?;
         Ok(visited.value)
     }
 
     fn expr_as_pattern(&mut self, expr: usize) -> Result<usize, VisitFault> {
-        let call = format!(in self.alloc; "expr_as_pattern {expr}")?;
-        self.named(call.as_str())
+        self.named("expr_as_pattern", &[expr as i128])
     }
 
     fn pattern_as_expr(&mut self, pattern: usize) -> Result<usize, VisitFault> {
-        let call = format!(in self.alloc; "pattern_as_expr {pattern}")?;
-        self.named(call.as_str())
+        self.named("pattern_as_expr", &[pattern as i128])
     }
 }

@@ -3,33 +3,17 @@ ghost use Rattle.std.specs.Prelude.{IfOk};
 ghost use Rattle.isle_blocks.specs.DefinedSets.{AreDefined};
 
 use super::recorder::Recorder;
-use isle_syntax::lexer::{Lexer, Pos};
+use isle_syntax::lexer::Lexer;
 use isle_syntax::parser::parse;
-use isle_syntax::{Boxed, Refusal, Seq};
-use isle_terms::{BoundVar, Expr, IfLet, Pattern, Rule, TermEnv, VisitFault};
-use isle_types::{RuleId, Sym, TermId, TypeEnv, TypeId, VarId};
+use isle_terms::{Rule, TermEnv, VisitFault};
+use isle_types::{Sym, TypeEnv};
 use std::alloc::{AllocError, Global};
 
-// The term `f` has the number 0, and `A.V` the number 1.
-pub const TERMS: &str = "(type A (enum (V (a u8) (b u8)))) (decl f (A bool) A) (rule (f x y) x)";
-
-const BOOL: TypeId = TypeId(0);
-
-const U8: TypeId = TypeId(1);
-
-const A: TypeId = TypeId(13);
-
-const F: TermId = TermId(0);
-
-const V: TermId = TermId(1);
-
-const X: VarId = VarId(0);
-
-const Y: VarId = VarId(1);
-
-const Z: VarId = VarId(2);
-
-const W: VarId = VarId(3);
+// The types `bool`, `u8` and `A` have the numbers 0, 1 and 13; the term `f` has 0, and `A.V` 1. The rule has each form of pattern and
+// expression.
+pub const TERMS: &str = "(type A (enum (V (a u8) (b u8)))) (decl rec f (A bool) A)
+    (extern const $C bool) (extern const $D u8)
+    (rule (f (A.V x @ 1 y) (and true $C z)) (if-let (A.V _ x) (A.V y 5)) (let ((w A (f (A.V y $D) false))) w))";
 
 /// The environments of the definitions of a text.
 pub fn environments(alloc: Global, text: &str) -> Result<(TypeEnv, TermEnv), AllocError>
@@ -50,107 +34,21 @@ pub fn environments(alloc: Global, text: &str) -> Result<(TypeEnv, TermEnv), All
     Ok((tyenv, termenv))
 }
 
-fn bind(alloc: Global, ty: TypeId, var: VarId, sub: Pattern) -> Result<Pattern, AllocError> {
-    Ok(Pattern::BindPattern(ty, var, Boxed::new(alloc, sub)?))
-}
-
-/// `(A.V (x @ 1) y)`.
-fn variant_arg(alloc: Global) -> Result<Pattern, AllocError> {
-    let mut fields = Vec::new(alloc);
-    fields.push(bind(alloc, U8, X, Pattern::ConstInt(U8, 1))?)?;
-    fields.push(bind(alloc, U8, Y, Pattern::Wildcard(U8))?)?;
-    Ok(Pattern::Term(A, V, Seq::new(fields)))
-}
-
-/// `(and true $C z)`.
-fn and_arg(alloc: Global) -> Result<Pattern, AllocError> {
-    let mut all = Vec::new(alloc);
-    all.push(Pattern::ConstBool(BOOL, true))?;
-    all.push(Pattern::ConstPrim(BOOL, Sym(7)))?;
-    all.push(bind(alloc, BOOL, Z, Pattern::Wildcard(BOOL))?)?;
-    Ok(Pattern::And(BOOL, Seq::new(all)))
-}
-
-/// Both.
-fn args(alloc: Global) -> Result<Seq<Pattern>, AllocError> {
-    let mut args = Vec::new(alloc);
-    args.push(variant_arg(alloc)?)?;
-    args.push(and_arg(alloc)?)?;
-    Ok(Seq::new(args))
-}
-
-/// `(if-let (A.V _ x) (A.V y 5))`.
-fn iflet(alloc: Global) -> Result<IfLet, AllocError> {
-    let fields = vec![in alloc; Pattern::Wildcard(U8), Pattern::Var(U8, X)]?;
-    let inputs = vec![in alloc; Expr::Var(U8, Y), Expr::ConstInt(U8, 5)]?;
-    Ok(IfLet {
-        lhs: Pattern::Term(A, V, Seq::new(fields)),
-        rhs: Expr::Term(A, V, Seq::new(inputs)),
-    })
-}
-
-/// `(f (A.V y $D) false)`.
-fn called(alloc: Global) -> Result<Expr, AllocError> {
-    let fields = vec![in alloc; Expr::Var(U8, Y), Expr::ConstPrim(U8, Sym(9))]?;
-    let made = Expr::Term(A, V, Seq::new(fields));
-    let inputs = vec![in alloc; made, Expr::ConstBool(BOOL, false)]?;
-    Ok(Expr::Term(A, F, Seq::new(inputs)))
-}
-
-/// `(let ((w A (f (A.V y $D) false))) w)`.
-fn right_side(alloc: Global) -> Result<Expr, AllocError> {
-    let value = Boxed::new(alloc, called(alloc)?)?;
-    let bindings = vec![in alloc; (W, A, value)]?;
-    Ok(Expr::Let {
-        ty: A,
-        bindings: Seq::new(bindings),
-        body: Boxed::new(alloc, Expr::Var(A, W))?,
-    })
-}
-
-fn variable(id: VarId, ty: TypeId) -> BoundVar {
-    BoundVar {
-        id,
-        name: Sym(0),
-        ty,
-    }
-}
-
-/// A rule with each form of pattern and expression.
-fn example(alloc: Global) -> Result<Rule, AllocError> {
-    let vars = vec![in alloc;
-        variable(X, U8),
-        variable(Y, U8),
-        variable(Z, BOOL),
-        variable(W, A),
-    ]?;
-    Ok(Rule {
-        id: RuleId(0),
-        root_term: F,
-        args: args(alloc)?,
-        iflets: Seq::new(vec![in alloc; iflet(alloc)?]?),
-        rhs: right_side(alloc)?,
-        vars: Seq::new(vars),
-        prio: 0,
-        pos: Pos::new(0, 0),
-        name: None,
-    })
-}
-
+// The calls of a visit, in which constants stand for their numbers.
 const CALLS: &str = "arg 0 13
 pattern
 match_variant 0 13 0 of 1 1
 match_int 1 1 1
 arg 1 0
 pattern
-match_bool 3 0 true
-match_prim 3 0 7
+match_bool 3 0 1
+match_prim 3 0 $C
 pattern_as_expr 1
 pattern_as_expr 2
 pattern_as_expr 3
 expr
 const_int 1 5
-create_variant 13 0 of 5:1 7:1
+create_variant 13 0 of 5 1 of 7 1
 expr_as_pattern 8
 pattern
 match_variant 9 13 0 of 1 1
@@ -159,32 +57,60 @@ pattern_as_expr 1
 pattern_as_expr 2
 pattern_as_expr 3
 expr
-const_prim 1 9
-create_variant 13 0 of 13:1 15:1
-const_bool 0 false
-construct 13 0 false true false false of 16:13 17:0
+const_prim 1 $D
+create_variant 13 0 of 13 1 of 15 1
+const_bool 0 0
+construct 13 0 0 1 0 1 of 16 13 of 17 0
 ";
 
-/// What a visit comes to whose call after so many is answered `Size`, and what it tells.
-fn visited(
+/// Writes the number of a name that is known.
+fn write_number(out: &mut String, name: Option<Sym>) -> Result<(), AllocError> {
+    match name {
+        Some(sym) => out.push_str(format!(in *out.allocator(); "{}", sym.0)?.as_str()),
+        None => out.push_str("no name"),
+    }
+}
+
+/// Writes a call, a line, with the number of a constant for its name.
+fn write_call(out: &mut String, tyenv: &TypeEnv, call: &str) -> Result<(), AllocError> {
+    match call.split_once('$') {
+        Some((before, name)) => {
+            out.push_str(before)?;
+            write_number(out, tyenv.intern_name(name))?;
+        }
+        None => out.push_str(call)?,
+    }
+    out.push_str("\n")
+}
+
+/// The calls of a visit.
+fn calls(alloc: Global, tyenv: &TypeEnv) -> Result<String, AllocError> {
+    let mut out = String::new(alloc);
+    for call in CALLS.lines() {
+        write_call(&mut out, tyenv, call)?;
+    }
+    Ok(out)
+}
+
+/// Whether a visit whose call after so many is answered `Size` ends so, and tells these calls.
+fn stops_after(alloc: Global, termenv: &TermEnv, rule: &Rule, left: usize, calls: &str) -> bool {
+    let mut recorder = Recorder::new(alloc, left);
+    let value = rule.visit(alloc, &mut recorder, termenv);
+    matches!(value, Err(VisitFault::Size)) && recorder.calls() == calls
+}
+
+/// The same after any number of the calls.
+fn stops_at_each_call(
     alloc: Global,
     termenv: &TermEnv,
     rule: &Rule,
-    calls: usize,
-) -> (Result<usize, VisitFault>, Recorder) {
-    let mut recorder = Recorder::new(alloc, calls);
-    let value = rule.visit(alloc, &mut recorder, termenv);
-    (value, recorder)
-}
-
-/// Whether each visit that is answered `Size` at a call ends so, and tells the calls up to it.
-fn stops_at_each_call(alloc: Global, termenv: &TermEnv, rule: &Rule) -> Result<bool, AllocError> {
+    calls: &str,
+) -> Result<bool, AllocError> {
     let mut told = String::new(alloc);
-    for (n, call) in CALLS.lines().enumerate() {
+    for (n, call) in calls.lines().enumerate() {
         told.push_str(call)?;
         told.push_str("\n")?;
-        let (value, recorder) = visited(alloc, termenv, rule, n);
-        if !matches!(value, Err(VisitFault::Size)) || recorder.calls() != told.as_str() {
+        if !stops_after(alloc, termenv, rule, n, told.as_str()) {
             return Ok(false);
         }
     }
@@ -192,35 +118,40 @@ fn stops_at_each_call(alloc: Global, termenv: &TermEnv, rule: &Rule) -> Result<b
 }
 
 /// Whether a visit without a fault comes to the last name, and tells each call.
-fn tells_each_call(alloc: Global, termenv: &TermEnv, rule: &Rule) -> bool {
-    let (value, recorder) = visited(alloc, termenv, rule, 1000);
-    matches!(value, Ok(18)) && recorder.calls() == CALLS
+fn tells_each_call(alloc: Global, termenv: &TermEnv, rule: &Rule, calls: &str) -> bool {
+    let mut recorder = Recorder::new(alloc, 1000);
+    let value = rule.visit(alloc, &mut recorder, termenv);
+    matches!(value, Ok(18)) && recorder.calls() == calls
 }
 
 /// Whether a copy of a rule has its parts, and is visited as the rule is.
-fn is_copied(alloc: Global, termenv: &TermEnv, rule: &Rule) -> Result<bool, AllocError> {
+fn is_copied(
+    alloc: Global,
+    termenv: &TermEnv,
+    rule: &Rule,
+    calls: &str,
+) -> Result<bool, AllocError> {
     let copy = rule.clone()?;
     let has_numbers = copy.id == rule.id && copy.root_term == rule.root_term;
     let has_place = copy.prio == rule.prio && copy.pos == rule.pos;
     let has_names = copy.name == rule.name && copy.vars == rule.vars;
-    Ok(has_numbers && has_place && has_names && tells_each_call(alloc, termenv, &copy))
+    Ok(has_numbers && has_place && has_names && tells_each_call(alloc, termenv, &copy, calls))
 }
 
-/// Whether visits of a rule tell its calls, and so do those of its copy.
-fn is_told(alloc: Global, termenv: &TermEnv, rule: &Rule) -> Result<bool, AllocError> {
+/// Whether visits of a rule tell the calls, and so do those of its copy.
+fn is_told(alloc: Global, termenv: &TermEnv, rule: &Rule, calls: &str) -> Result<bool, AllocError> {
     Ok(
-        tells_each_call(alloc, termenv, rule)
-            && stops_at_each_call(alloc, termenv, rule)?
-            && is_copied(alloc, termenv, rule)?,
+        tells_each_call(alloc, termenv, rule, calls)
+            && stops_at_each_call(alloc, termenv, rule, calls)?
+            && is_copied(alloc, termenv, rule, calls)?,
     )
 }
 
-/// The same of the rule with each form, `told` or `not told`.
-pub fn told(alloc: Global, termenv: &TermEnv) -> Result<String, AllocError> {
-    let rule = example(alloc)?;
-    if is_told(alloc, termenv, &rule)? {
-        String::from_str(alloc, "told")
-    } else {
-        String::from_str(alloc, "not told")
+/// Whether the only rule is, `told` or `not told`.
+pub fn told(alloc: Global, tyenv: &TypeEnv, termenv: &TermEnv) -> Result<String, AllocError> {
+    let calls = calls(alloc, tyenv)?;
+    match termenv.rules() {
+        [rule] if is_told(alloc, termenv, rule, calls.as_str())? => String::from_str(alloc, "told"),
+        _ => String::from_str(alloc, "not told"),
     }
 }

@@ -65,9 +65,9 @@ fn are_joined(alloc: Global) -> Result<bool, AllocError> {
 
 #[test]
 fn sets_are_merged_and_removed(rt: HostRuntime) -> Result<(), Fail> {
-    assert!(rt; are_removed(rt.alloc())?);
-    assert!(rt; others_stay(rt.alloc())?);
-    assert!(rt; are_joined(rt.alloc())?);
-    assert!(rt; joins_through_an_item(rt.alloc())?);
+    let alloc = rt.alloc();
+    let joined = [are_joined(alloc)?, joins_through_an_item(alloc)?];
+    let removed = [are_removed(alloc)?, others_stay(alloc)?];
+    assert_eq!(rt; (joined, removed), ([true, true], [true, true]));
     Ok(())
 }

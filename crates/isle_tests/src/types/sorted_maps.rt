@@ -130,7 +130,7 @@ fn hands_back(alloc: Global) -> Result<bool, AllocError> {
 
 #[test]
 fn maps_are_sorted(rt: HostRuntime) -> Result<(), Fail> {
-    assert!(rt; finds_places(rt.alloc())?);
-    assert!(rt; hands_back(rt.alloc())?);
+    let alloc = rt.alloc();
+    assert_eq!(rt; [finds_places(alloc)?, hands_back(alloc)?], [true, true]);
     Ok(())
 }

@@ -76,20 +76,25 @@ fn holds_numbers(set: &mut StableSet<u32>) -> Result<bool, AllocError> {
     )
 }
 
+/// Whether a set has a text.
+fn has_text(alloc: Global, set: &StableSet<String>, of: &str) -> Result<bool, AllocError> {
+    let text = text(alloc, of)?;
+    Ok(set.contains(&text))
+}
+
+/// Whether a copy of a set has the texts `a` and the empty one.
+fn has_both(alloc: Global, set: &StableSet<String>) -> Result<bool, AllocError> {
+    let copy = set.clone()?;
+    let has = [has_text(alloc, &copy, "a")?, has_text(alloc, &copy, "")?];
+    Ok(has == [true, true] && !has_text(alloc, &copy, "b")? && copy.len() == 2)
+}
+
 /// The same of texts.
 fn holds_texts(alloc: Global, set: &mut StableSet<String>) -> Result<bool, AllocError> {
     let first = set.insert(text(alloc, "a")?)?;
     let again = set.insert(text(alloc, "a")?)?;
     let other = set.insert(text(alloc, "")?)?;
-    let copy = set.clone()?;
-    Ok(
-        first
-            && !again
-            && other
-            && copy.contains(&String::new(alloc))
-            && !copy.contains(&text(alloc, "b")?)
-            && copy.len() == 2,
-    )
+    Ok([first, again, other] == [true, false, true] && has_both(alloc, set)?)
 }
 
 /// Whether a map at numbers has the last value of each.
@@ -142,14 +147,15 @@ fn pairs(alloc: Global) -> Result<Vec<(String, u32)>, AllocError> {
 fn has_texts(alloc: Global, map: &mut StableMap<String, u32>) -> Result<bool, AllocError> {
     let is_made = map.len() == 2 && map.get_text("a") == Some(&3) && map.get_text("c") == None;
     put(map, text(alloc, "c")?, 4)?;
-    let copy = map.clone()?;
+    Ok(is_made && has_one_more(alloc, map)?)
+}
+
+/// Whether it has that one, and so has its copy.
+fn has_one_more(alloc: Global, map: &StableMap<String, u32>) -> Result<bool, AllocError> {
     let b = text(alloc, "b")?;
-    Ok(
-        is_made
-            && map.get_text("c") == Some(&4)
-            && map.get(&b) == Some(&2)
-            && copy.get_text("c") == Some(&4),
-    )
+    let has_own = map.get_text("c") == Some(&4) && map.get(&b) == Some(&2);
+    let copy = map.clone()?;
+    Ok(has_own && copy.get_text("c") == Some(&4))
 }
 
 fn is_of_pairs(alloc: Global) -> Result<bool, AllocError> {
@@ -165,9 +171,12 @@ fn are_sets(alloc: Global) -> Result<bool, AllocError> {
 
 #[test]
 fn sets_and_maps_have_their_calls(rt: HostRuntime) -> Result<(), Fail> {
-    assert!(rt; are_sets(rt.alloc())?);
-    assert!(rt; has_numbers(rt.alloc())?);
-    assert!(rt; is_of_table(rt.alloc())?);
-    assert!(rt; is_of_pairs(rt.alloc())?);
+    let alloc = rt.alloc();
+    let maps = [
+        has_numbers(alloc)?,
+        is_of_table(alloc)?,
+        is_of_pairs(alloc)?,
+    ];
+    assert_eq!(rt; (are_sets(alloc)?, maps), (true, [true, true, true]));
     Ok(())
 }
