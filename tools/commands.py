@@ -71,7 +71,7 @@ def run(program, case):
                 file.write(bytes_of(text_of(text)))
         with input_of(case) as given:
             done = subprocess.run(
-                [program, *case["args"]],
+                [program, *map(bytes_of, case["args"])],
                 cwd=folder,
                 stdin=given,
                 stdout=output,

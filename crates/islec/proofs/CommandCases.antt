@@ -8,14 +8,14 @@ use Rattle.islec.specs.Commands.{islec}
 use Rattle.islec.specs.Lines.{flag_of, number_of}
 
 -- a run of two files with a world and a depth
-abbrev run_words : List Text
+abbrev pub run_words : List Text
 run_words = codes "islec" ∷ codes "run" ∷ codes "--world=w.isle" ∷ codes "--depth" ∷ codes "7" ∷ codes "a.isle" ∷ codes "b.isle" ∷ []
 
 run_is_taken : fault_of islec run_words ≡ []
 unfolding clap_on_literals
 run_is_taken = refl
 
-run_files : option_map (λ p. all_of (codes "file") p.1) (subcommand_of islec run_words) ≡ Some (Some (codes "a.isle" ∷ codes "b.isle" ∷ []))
+pub run_files : option_map (λ p. all_of (codes "file") p.1) (subcommand_of islec run_words) ≡ Some (Some (codes "a.isle" ∷ codes "b.isle" ∷ []))
 unfolding clap_on_literals
 run_files = refl
 
@@ -23,7 +23,11 @@ run_depth : option_map (λ p. number_of (codes "depth") p.1) (subcommand_of isle
 unfolding clap_on_literals
 run_depth = refl
 
-run_world : option_map (λ p. first_of (codes "world") p.1) (subcommand_of islec run_words) ≡ Some (Some (codes "w.isle"))
+pub run_name : option_map (λ p. p.0) (subcommand_of islec run_words) ≡ Some (codes "run")
+unfolding clap_on_literals
+run_name = refl
+
+pub run_world : option_map (λ p. first_of (codes "world") p.1) (subcommand_of islec run_words) ≡ Some (Some (codes "w.isle"))
 unfolding clap_on_literals
 run_world = refl
 

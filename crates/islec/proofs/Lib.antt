@@ -28,7 +28,13 @@ pub mod FilledRows
 pub mod CommandLemmas
 -- The values that each command's rows hold.
 pub mod ValueLemmas
+-- How a whole command ends, by what its parts promise.
+pub mod EndingLemmas
 -- What `islec` finds in words that are written out.
 pub mod CommandCases
 -- Where effects lead, and which world replies leave.
 pub mod ReplyCases
+-- How commands of words that are written out may end.
+pub mod EndingCases
+-- Why a command was not begun, and what is told of it, case by case.
+pub mod BeginningCases

@@ -1,7 +1,8 @@
 -- How writes that follow one another add up.
 use Rattle.std.proofs.Common.{◌≡◌, ℕ, List, ◌+◌, ◌-◌, ◌≤◌, length, length-drop, sym, subst, take, take_all, drop, Option, Result, Ok, Err, OnOk, Some, None, ap, ◌++◌, ◌∙◌}
-use Rattle.std.proofs.Common.{OnErr, arith}
-use Rattle.std.proofs.Math.Seq.{take-add}
+use Rattle.std.proofs.Common.{OnErr, arith, min}
+use Rattle.std.proofs.Math.Seq.{take-add, take-append-add}
+use Rattle.std.proofs.lemmas.List.{take_min, take-append-le}
 use Rattle.std.specs.Io.KnownBytes.{Appends, Keeps}
 use Rattle.std.proofs.KnownBytes.{Appends-trans}
 use Rattle.islec.specs.Writing.{AppendsBeginning}
@@ -37,3 +38,16 @@ Appends-behind (Some x) (Some y) (Some z) text p q = q ∙ ap (λ l. l ++ text) 
 pub line_behind : (a : Option (List ℕ)) (c : Option (List ℕ)) (text : List ℕ) → (held : Option (List ℕ)) × Keeps a held × AppendsBeginning held c text
     → AppendsBeginning a c text
 line_behind a c text (held, kept, (count, wrote)) = (count, Appends-behind a held c (take count text) kept wrote)
+
+-- a beginning of a text is one of the text with more behind it
+pub begins_longer : (a b : Option (List ℕ)) (text more : List ℕ) → AppendsBeginning a b text → AppendsBeginning a b (text ++ more)
+begins_longer a b text more (count, wrote) =
+    let within : min count (length text) ≤ length text = omega arith in
+    let same : take count text ≡ take (min count (length text)) (text ++ more) =
+    sym (take_min count text) ∙ sym (take-append-le (min count (length text)) text more within) in
+    (min count (length text), subst (Appends a b) same wrote)
+
+-- a text, and then a beginning of what is behind it
+pub begins_behind : (a b c : Option (List ℕ)) (text more : List ℕ) → Appends a b text → AppendsBeginning b c more → AppendsBeginning a c (text ++ more)
+begins_behind a b c text more wrote (count, next) =
+    (length text + count, subst (Appends a c) (sym (take-append-add text more count)) (Appends-trans a b c _ _ wrote next))

@@ -26,3 +26,5 @@ pub mod Rows
 pub mod Lines
 -- Why a command was not begun, and what is told of it.
 pub mod Beginnings
+-- How a whole command ends, by its words.
+pub mod Endings

@@ -1,16 +1,20 @@
 //! The program: words, files, and the command on them.
-ghost use Rattle.std.specs.Prelude.{◌≡◌, ◌≢◌, ◌⊎◌, IfOk, IfErr, map, option_map};
-ghost use Rattle.islec.specs.Beginnings.{BecomesUnbegun, TellsUnbegun, IsUnread};
+ghost use Rattle.std.specs.Prelude.{◌≡◌, ◌⊎◌, IfOk, IfErr, OnOk, OnErr, map, option_map, string_bytes};
+ghost use Rattle.std.specs.Io.KnownBytes.{Appends};
+ghost use Rattle.islec.specs.Beginnings.{BecomesUnbegun, TellsUnbegun, IsUnread, IsUnreadFile, IsUnreadWorld, unread_line};
+ghost use Rattle.islec.specs.Endings.{Begins, EndsCommand, HoldsBack};
 ghost use Rattle.islec.specs.Statuses.{code_of};
+ghost use Rattle.islec.specs.Writing.{AppendsBeginning};
 ghost use Rattle.islec.specs.declared.status.Status.{Status};
 ghost use Rattle.islec.specs.declared.program.Unbegun.TheVariants.{Memory};
 
-use crate::line::{Line, LineFault, line_of};
+use crate::line::{Job, Line, LineFault, line_of};
 use crate::perform::perform;
+use crate::serve::{ServeFault, write_text};
 use crate::status::{Status, out_of_memory};
 use std::alloc::{AllocError, AllocFailed};
 use std::env::Env;
-use std::io::{ErrorKind, Write};
+use std::io::{ErrorKind, Read, Write};
 use std::rt::Files;
 use std::{env, fs, io};
 
@@ -53,30 +57,52 @@ impl From<LineFault> for Unbegun {
     }
 }
 
-/// Reads the words of the command line and the files that they name, all before anything is
-/// compiled, does the command, and gives the exit status.
+/// What a command begins with.
+#[derive(Drop)]
+struct Begun {
+    job: Job,
+    // The names and the texts of its files.
+    texts: Vec<(String, String)>,
+    // Those of its world's file.
+    world: Option<(String, String)>,
+}
+
+/// Does what the words of the command line say, and gives the exit status.
 pub fn run<R: Env + Files + Input + Print + AllocGlobal>(rt: &R) -> u8
     ensures ends { (status : Status) × (result ≡ code_of status) }
 {
     let mut output = io::writer(rt);
-    match begin(rt, &mut output) {
-        Ok(status) => status,
+    match read_words(rt) {
+        Ok(words) => command(rt, words.as_slice(), &mut rt.reader(), &mut output),
         Err(unbegun) => tell(unbegun, &mut output).code(),
     }
 }
 
-fn begin<R: Env + Files + Input + AllocGlobal, W: Write>(
+/// Reads the files that words name, all before anything is compiled, does the job that they say, and gives the exit status; or tells
+/// why it can't begin.
+pub fn command<R: Files + AllocGlobal, I: Read, W: Write>(
     rt: &R,
+    words: &[String],
+    input: &mut I,
     output: &mut W,
-) -> Result<u8, Unbegun>
-    ensures ends { IfOk result (λ code. (status : Status) × (status ≢ Status.Usage) × (code ≡ code_of status)) }
+) -> u8
+    ensures ends { EndsCommand (map string_bytes words.now) (I.remaining input.old) (W.contents output.old) (W.contents output.new) result }
 {
-    let words = read_words(rt)?;
-    let Line { job, files, world } = line_of(rt.alloc(), words.as_slice())?;
+    match begin(rt, words) {
+        Ok(Begun { job, texts, world }) => perform(rt.alloc(), job, texts, world, input, output),
+        Err(unbegun) => tell(unbegun, output).code(),
+    }
+}
+
+// Reads the files that words name.
+fn begin<R: Files + AllocGlobal>(rt: &R, words: &[String]) -> Result<Begun, Unbegun>
+    ensures begun { IfOk result (Begins (map string_bytes words.now)) }
+    ensures refused { IfErr result (HoldsBack (map string_bytes words.now)) }
+{
+    let Line { job, files, world } = line_of(rt.alloc(), words)?;
     let texts = read_texts(rt, files)?;
     let world = read_world(rt, world)?;
-    let mut input = rt.reader();
-    Ok(perform(rt.alloc(), job, texts, world, &mut input, output))
+    Ok(Begun { job, texts, world })
 }
 
 // The words of the command line.
@@ -96,7 +122,7 @@ fn read_texts<R: Files + AllocGlobal>(
     names: Vec<String>,
 ) -> Result<Vec<(String, String)>, Unbegun>
     ensures named { IfOk result (λ texts. map (λ text. text.0) texts.items ≡ names.items) }
-    ensures refused { IfErr result IsUnread }
+    ensures refused { IfErr result (IsUnread names.items) }
 {
     let mut texts = Vec::new(rt.alloc());
     for name in names {
@@ -111,7 +137,7 @@ fn read_world<R: Files + AllocGlobal>(
     name: Option<String>,
 ) -> Result<Option<(String, String)>, Unbegun>
     ensures named { IfOk result (λ world. option_map (λ text. text.0) world ≡ name) }
-    ensures refused { IfErr result IsUnread }
+    ensures refused { IfErr result (IsUnreadWorld name) }
 {
     match name {
         Some(name) => Ok(Some(read_text(rt, name)?)),
@@ -122,8 +148,7 @@ fn read_world<R: Files + AllocGlobal>(
 // The name and the contents of a file.
 fn read_text<R: Files + AllocGlobal>(rt: &R, name: String) -> Result<(String, String), Unbegun>
     ensures named { IfOk result (λ text. text.0 ≡ name) }
-    ensures refused { IfErr result (λ unbegun. (unbegun ≡ Unbegun.Memory) ⊎ (unbegun ≡ Unbegun.CannotRead name)) }
-    ensures unread { IfErr result IsUnread }
+    ensures refused { IfErr result (IsUnreadFile name) }
 {
     match fs::read_to_string(rt, name.as_str()) {
         Ok(text) => Ok((name, text)),
@@ -143,11 +168,31 @@ fn tell<W: Write>(unbegun: Unbegun, output: &mut W) -> Status
             let written = output.write_all(b"error: a word of the command line isn't UTF-8\n");
             (written, Status::Usage)
         }
-        Unbegun::CannotRead(name) => (writeln!(output, "cannot read {name}"), Status::InputOutput),
+        Unbegun::CannotRead(name) => return cannot_read(name.as_str(), output),
         Unbegun::Memory => return out_of_memory(output),
     };
     match written {
         Ok(()) => status,
         Err(_) => Status::InputOutput,
     }
+}
+
+// Tells which file can't be read, and gives that status.
+fn cannot_read<W: Write>(name: &str, output: &mut W) -> Status
+    ensures status { result ≡ Status.InputOutput }
+    ensures written { AppendsBeginning (W.contents output.old) (W.contents output.new) (unread_line name.now) }
+{
+    let _ = write_unread(name, output);
+    Status::InputOutput
+}
+
+// Writes the line that tells it, or a beginning of it where a write fails.
+fn write_unread<W: Write>(name: &str, output: &mut W) -> Result<(), ServeFault>
+    ensures ok { OnOk result (Appends (W.contents output.old) (W.contents output.new) (unread_line name.now)) }
+    ensures err { OnErr result (AppendsBeginning (W.contents output.old) (W.contents output.new) (unread_line name.now)) }
+    ensures fault { IfErr result (λ fault. fault ≡ ServeFault.Write) }
+{
+    write_text(output, "cannot read ")?;
+    write_text(output, name)?;
+    write_text(output, "\n")
 }

@@ -1,0 +1,106 @@
+-- Worked cases: how commands of words that are written out may end.
+use Rattle.std.proofs.Common.{◌≡◌, ◌∷◌, ◌∙◌, ℕ, List, [], Option, Some, None, inl, inr, refl, sym, ap, subst, Bool, true, false, true≢false, map, option_map, codes, string_bytes, bytes_eq}
+use Rattle.std.proofs.lemmas.Option.{same_Some}
+use Rattle.std.specs.Global.{Global}
+use Rattle.std.specs.Prelude.{String}
+use Rattle.clap.specs.Words.{IsAmong, Row, Text, all_of, fault_of, first_of, kind_of, subcommand_of}
+use Rattle.clap.specs.declared.error.kind.ErrorKind.{ErrorKind}
+use Rattle.clap.specs.declared.error.kind.ErrorKind.TheVariants as kind
+use Rattle.clap.proofs.OnLiterals.{clap_on_literals}
+use Rattle.isle_syntax.specs.Positions.Files.{SourceFile}
+use Rattle.islec.specs.Commands.{islec}
+use Rattle.islec.specs.Endings.{EndsJob, EndsCommand, IsWorld, done, told}
+use Rattle.islec.specs.Lines.{ReadsLine, SaysJob, names_of, world_of}
+use Rattle.islec.specs.Statuses.{code_of}
+use Rattle.islec.specs.declared.line.Job.{Job}
+use Rattle.islec.specs.declared.line.Line.{Line}
+use Rattle.islec.specs.declared.line.Job.TheVariants.{Run, Check, Fmt}
+use Rattle.islec.specs.declared.program.Unbegun.TheVariants.{Usage, NotText, CannotRead, Memory}
+use Rattle.islec.specs.declared.status.Status.TheVariants as status
+use Rattle.islec.proofs.CommandCases.{run_words, run_files, run_name, run_world}
+
+-- ---- statuses of jobs
+
+no_check_is_refused_a_query : (terms : Bool) (files : List SourceFile) (world : SourceFile) (input old new : Option (List ℕ))
+    → EndsJob (Check terms) files world input old new status.SomeRefused → ⊥
+no_check_is_refused_a_query terms files world input old new ends = ends
+
+no_print_is_refused_a_query : (width : ℕ) (files : List SourceFile) (world : SourceFile) (input old new : Option (List ℕ))
+    → EndsJob (Fmt width) files world input old new status.SomeRefused → ⊥
+no_print_is_refused_a_query width files world input old new ends = ends
+
+no_run_is_refused_its_words : (depth : ℕ) (plain : Bool) (files : List SourceFile) (world : SourceFile) (input old new : Option (List ℕ))
+    → EndsJob (Run depth plain) files world input old new status.Usage → ⊥
+no_run_is_refused_its_words depth plain files world input old new ends = ends
+
+-- ---- worlds
+
+no_world_is_empty : IsWorld None (record { name = codes "world"; text = [] })
+no_world_is_empty = refl
+
+no_world_has_no_text : IsWorld None (record { name = codes "world"; text = codes "(" }) → ⊥
+no_world_has_no_text is = let wrong = ap (λ (file : SourceFile). file.text) is in absurd cc
+
+-- ---- no command: it never ends well
+
+abbrev alone : List Text
+alone = codes "islec" ∷ []
+
+alone_lacks_a_command : fault_of islec alone ≡ kind.MissingSubcommand ∷ []
+unfolding clap_on_literals
+alone_lacks_a_command = refl
+
+lacks_only_that : (k : ErrorKind) → IsAmong k (fault_of islec alone) → k ≡ kind.MissingSubcommand
+lacks_only_that k among = only (subst (λ (ks : List ErrorKind). IsAmong k ks) alone_lacks_a_command among)
+  where
+    only : IsAmong k (kind.MissingSubcommand ∷ []) → k ≡ kind.MissingSubcommand
+    only (inl is) = is
+    only (inr never) = absurd never
+
+alone_is_not_well : (input old new : Option (List ℕ)) → EndsCommand alone input old new 0 → ⊥
+alone_is_not_well input old new (done line reads files named world of ended code ends) =
+    let wrong = sym reads.taken ∙ alone_lacks_a_command in absurd cc
+alone_is_not_well input old new (told (Usage e) holds status.AllWell code (inl other)) = absurd cc
+alone_is_not_well input old new (told (Usage e) holds status.AllWell code (inr (inl (inl help, same)))) =
+    let wrong = sym (lacks_only_that (kind_of e) holds) ∙ help in absurd cc
+alone_is_not_well input old new (told (Usage e) holds status.AllWell code (inr (inl (inr version, same)))) =
+    let wrong = sym (lacks_only_that (kind_of e) holds) ∙ version in absurd cc
+alone_is_not_well input old new (told (Usage e) holds status.AllWell code (inr (inr (no_help, other)))) = absurd cc
+alone_is_not_well input old new (told (Usage e) holds status.TextsRefused code tells) = absurd cc
+alone_is_not_well input old new (told (Usage e) holds status.Usage code tells) = absurd cc
+alone_is_not_well input old new (told (Usage e) holds status.SomeRefused code tells) = absurd cc
+alone_is_not_well input old new (told (Usage e) holds status.InputOutput code tells) = absurd cc
+alone_is_not_well input old new (told (Usage e) holds status.OutOfMemory code tells) = absurd cc
+alone_is_not_well input old new (told NotText holds ended code tells) = absurd holds
+alone_is_not_well input old new (told (CannotRead name) (line, reads, names) ended code tells) =
+    let wrong = sym reads.taken ∙ alone_lacks_a_command in absurd cc
+alone_is_not_well input old new (told Memory holds ended code (same, wrote)) = let wrong = code ∙ ap code_of same in absurd cc
+
+-- ---- a run of two files in a world, in the words of `CommandCases`: the files and the world have just these names
+
+run_names_its_files : (line : Line) (files : List SourceFile) → ReadsLine run_words line → map (λ file. file.name) files ≡ names_of line.files
+    → map (λ file. file.name) files ≡ codes "a.isle" ∷ codes "b.isle" ∷ []
+run_names_its_files line files reads named =
+    let found = sym (ap (option_map (λ p. all_of (codes "file") p.1)) reads.met) ∙ run_files in
+    named ∙ same_Some _ _ (sym reads.says.files ∙ same_Some _ _ found)
+
+world_is : (job : Job) (name : Text) (rows : List Row) → subcommand_of islec run_words ≡ Some (name, rows) → SaysJob name rows job
+    → world_of job rows ≡ Some (codes "w.isle")
+world_is (Run depth plain) name rows met says = same_Some _ _ (sym (ap (option_map (λ p. first_of (codes "world") p.1)) met) ∙ run_world)
+world_is (Check terms) name rows met (named, flag) =
+    let is_run = same_Some _ _ (sym (ap (option_map (λ p. p.0)) met) ∙ run_name) in
+    let wrong : true ≡ false = ap (λ (text : Text). bytes_eq text (codes "run")) (sym is_run ∙ named) in
+    absurd (true≢false wrong)
+world_is (Fmt width) name rows met (named, number) =
+    let is_run = same_Some _ _ (sym (ap (option_map (λ p. p.0)) met) ∙ run_name) in
+    let wrong : true ≡ false = ap (λ (text : Text). bytes_eq text (codes "run")) (sym is_run ∙ named) in
+    absurd (true≢false wrong)
+
+has_name : (world : Option (String Global)) (file : SourceFile) → option_map string_bytes world ≡ Some (codes "w.isle") → IsWorld world file
+    → file.name ≡ codes "w.isle"
+has_name None file none is = absurd cc
+has_name (Some name) file some is = is ∙ same_Some _ _ some
+
+run_names_its_world : (line : Line) (file : SourceFile) → ReadsLine run_words line → IsWorld line.world file → file.name ≡ codes "w.isle"
+run_names_its_world line file reads is =
+    has_name line.world file (reads.says.world ∙ world_is line.job reads.name reads.rows reads.met reads.says.job) is

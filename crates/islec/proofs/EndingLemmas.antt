@@ -1,0 +1,123 @@
+-- How a whole command ends, by what its parts promise.
+use Rattle.std.proofs.Common.{◌≡◌, ◌≢◌, ◌⊎◌, ◌∙◌, ℕ, Bool, true, false, List, [], ◌∷◌, Option, Some, None, String, inl, inr, refl, sym, ap, subst, map, codes, string_bytes}
+use Rattle.std.specs.Global.{Global}
+use Rattle.std.specs.List.{Contains}
+use Rattle.std.specs.Option.{option_map}
+use Rattle.clap.specs.Words.{Text}
+use Rattle.isle_syntax.specs.Positions.Files.{SourceFile, source_file}
+use Rattle.isle_run.specs.Compiled.{AreAccepted}
+use Rattle.islec.specs.Beginnings.{IsUnread, IsUnreadFile, IsUnreadWorld}
+use Rattle.islec.specs.Endings.{EndsJob, EndsCommand, Begins, HoldsBack, IsWorld, done, told}
+use Rattle.islec.specs.Formatting.{WritesPrints, WritesFault, CutsPrints}
+use Rattle.islec.specs.Lines.{ReadsLine}
+use Rattle.islec.specs.Running.{WritesFaults, WritesAccepted, WritesAnswers, WritesRefusal, CutsCheck, CutsRun, RunsOut}
+use Rattle.islec.specs.Statuses.{code_of}
+use Rattle.islec.specs.Worlds.{world_file}
+use Rattle.islec.specs.Writing.{AppendsBeginning}
+use Rattle.islec.specs.declared.line.Job.{Job}
+use Rattle.islec.specs.declared.line.Job.TheVariants.{Run, Check, Fmt}
+use Rattle.islec.specs.declared.line.Line.{Line}
+use Rattle.islec.specs.declared.program.Begun.{Begun}
+use Rattle.islec.specs.declared.program.Unbegun.{Unbegun}
+use Rattle.islec.specs.declared.status.Status.{Status}
+use Rattle.islec.specs.declared.status.Status.TheVariants.{AllWell, TextsRefused, Usage, SomeRefused, InputOutput, OutOfMemory}
+
+-- what `perform` promises of a job, number by number, is how the job ends
+pub ends_job : (job : Job) (files : List SourceFile) (world : SourceFile) (input old new : Option (List ℕ)) (code : ℕ)
+    → ((width : ℕ) → job ≡ Fmt width → code ≡ 0 → WritesPrints width files old new)
+    → ((width : ℕ) → job ≡ Fmt width → code ≡ 4 → CutsPrints width files old new)
+    → ((width : ℕ) → job ≡ Fmt width → code ≡ 5 → AppendsBeginning old new (codes "out of memory\n"))
+    → ((width : ℕ) → job ≡ Fmt width → code ≡ 1 → WritesFault files old new)
+    → ((width : ℕ) → job ≡ Fmt width → code ≢ 3)
+    → ((depth : ℕ) (plain : Bool) → job ≡ Run depth plain → (code ≡ 0) ⊎ (code ≡ 3) → AreAccepted files)
+    → ((depth : ℕ) (plain : Bool) → job ≡ Run depth plain → code ≡ 0 → WritesAnswers files world depth input false old new)
+    → ((depth : ℕ) (plain : Bool) → job ≡ Run depth plain → code ≡ 3 → WritesAnswers files world depth input true old new)
+    → ((depth : ℕ) (plain : Bool) → job ≡ Run depth plain → code ≡ 4 → CutsRun files world depth input old new)
+    → ((depth : ℕ) (plain : Bool) → job ≡ Run depth plain → code ≡ 5 → RunsOut files world depth input old new)
+    → ((depth : ℕ) (plain : Bool) → job ≡ Run depth plain → code ≡ 1 → WritesRefusal files world old new)
+    → ((terms : Bool) → job ≡ Check terms → code ≡ 0 → WritesAccepted files terms old new)
+    → ((terms : Bool) → job ≡ Check terms → code ≡ 1 → WritesFaults files old new)
+    → ((terms : Bool) → job ≡ Check terms → code ≡ 4 → CutsCheck files terms old new)
+    → ((terms : Bool) → job ≡ Check terms → code ≡ 5 → AppendsBeginning old new (codes "out of memory\n"))
+    → ((terms : Bool) → job ≡ Check terms → code ≢ 3)
+    → (status : Status) × (status ≢ Usage) × (code ≡ code_of status)
+    → (status : Status) × (code ≡ code_of status) × EndsJob job files world input old new status
+ends_job (Run depth plain) files world input old new code f0 f4 f5 f1 f3 r r0 r3 r4 r5 r1 c0 c1 c4 c5 c3 (AllWell, other, is) =
+    (AllWell, is, (r depth plain refl (inl is), r0 depth plain refl is))
+ends_job (Run depth plain) files world input old new code f0 f4 f5 f1 f3 r r0 r3 r4 r5 r1 c0 c1 c4 c5 c3 (TextsRefused, other, is) =
+    (TextsRefused, is, r1 depth plain refl is)
+ends_job (Run depth plain) files world input old new code f0 f4 f5 f1 f3 r r0 r3 r4 r5 r1 c0 c1 c4 c5 c3 (Usage, other, is) = absurd (other refl)
+ends_job (Run depth plain) files world input old new code f0 f4 f5 f1 f3 r r0 r3 r4 r5 r1 c0 c1 c4 c5 c3 (SomeRefused, other, is) =
+    (SomeRefused, is, (r depth plain refl (inr is), r3 depth plain refl is))
+ends_job (Run depth plain) files world input old new code f0 f4 f5 f1 f3 r r0 r3 r4 r5 r1 c0 c1 c4 c5 c3 (InputOutput, other, is) =
+    (InputOutput, is, r4 depth plain refl is)
+ends_job (Run depth plain) files world input old new code f0 f4 f5 f1 f3 r r0 r3 r4 r5 r1 c0 c1 c4 c5 c3 (OutOfMemory, other, is) =
+    (OutOfMemory, is, r5 depth plain refl is)
+ends_job (Check terms) files world input old new code f0 f4 f5 f1 f3 r r0 r3 r4 r5 r1 c0 c1 c4 c5 c3 (AllWell, other, is) =
+    (AllWell, is, c0 terms refl is)
+ends_job (Check terms) files world input old new code f0 f4 f5 f1 f3 r r0 r3 r4 r5 r1 c0 c1 c4 c5 c3 (TextsRefused, other, is) =
+    (TextsRefused, is, c1 terms refl is)
+ends_job (Check terms) files world input old new code f0 f4 f5 f1 f3 r r0 r3 r4 r5 r1 c0 c1 c4 c5 c3 (Usage, other, is) = absurd (other refl)
+ends_job (Check terms) files world input old new code f0 f4 f5 f1 f3 r r0 r3 r4 r5 r1 c0 c1 c4 c5 c3 (SomeRefused, other, is) =
+    absurd (c3 terms refl is)
+ends_job (Check terms) files world input old new code f0 f4 f5 f1 f3 r r0 r3 r4 r5 r1 c0 c1 c4 c5 c3 (InputOutput, other, is) =
+    (InputOutput, is, c4 terms refl is)
+ends_job (Check terms) files world input old new code f0 f4 f5 f1 f3 r r0 r3 r4 r5 r1 c0 c1 c4 c5 c3 (OutOfMemory, other, is) =
+    (OutOfMemory, is, c5 terms refl is)
+ends_job (Fmt width) files world input old new code f0 f4 f5 f1 f3 r r0 r3 r4 r5 r1 c0 c1 c4 c5 c3 (AllWell, other, is) =
+    (AllWell, is, f0 width refl is)
+ends_job (Fmt width) files world input old new code f0 f4 f5 f1 f3 r r0 r3 r4 r5 r1 c0 c1 c4 c5 c3 (TextsRefused, other, is) =
+    (TextsRefused, is, f1 width refl is)
+ends_job (Fmt width) files world input old new code f0 f4 f5 f1 f3 r r0 r3 r4 r5 r1 c0 c1 c4 c5 c3 (Usage, other, is) = absurd (other refl)
+ends_job (Fmt width) files world input old new code f0 f4 f5 f1 f3 r r0 r3 r4 r5 r1 c0 c1 c4 c5 c3 (SomeRefused, other, is) =
+    absurd (f3 width refl is)
+ends_job (Fmt width) files world input old new code f0 f4 f5 f1 f3 r r0 r3 r4 r5 r1 c0 c1 c4 c5 c3 (InputOutput, other, is) =
+    (InputOutput, is, f4 width refl is)
+ends_job (Fmt width) files world input old new code f0 f4 f5 f1 f3 r r0 r3 r4 r5 r1 c0 c1 c4 c5 c3 (OutOfMemory, other, is) =
+    (OutOfMemory, is, f5 width refl is)
+
+-- files have the names of their texts
+pub source_names : (texts : List (String Global × String Global)) → map (λ file. file.name) (map source_file texts) ≡ map string_bytes (map (λ text. text.0) texts)
+source_names [] = refl
+source_names (text ∷ others) = ap (λ (names : List Text). string_bytes text.0 ∷ names) (source_names others)
+
+-- so has a world
+pub world_named : (world : Option (String Global × String Global)) → IsWorld (option_map (λ text. text.0) world) (world_file world)
+world_named None = refl
+world_named (Some pair) = refl
+
+-- a command that begins as its words say ends as its job does
+pub ends_done : (words : List Text) (begun : Begun) (input old new : Option (List ℕ)) (code : ℕ) → Begins words begun
+    → (status : Status) × (code ≡ code_of status) × EndsJob begun.job (map source_file begun.texts.items) (world_file begun.world) input old new status
+    → EndsCommand words input old new code
+ends_done words begun input old new code begins (status, is, ends) =
+    done begins.line begins.reads (map source_file begun.texts.items)
+    (source_names begun.texts.items ∙ ap (λ (names : List (String Global)). map string_bytes names) begins.texts)
+    (world_file begun.world) (subst (λ (name : Option (String Global)). IsWorld name (world_file begun.world)) begins.world (world_named begun.world))
+    status is
+    (subst (λ (job : Job). EndsJob job (map source_file begun.texts.items) (world_file begun.world) input old new status) begins.job ends)
+
+-- however a command ends, it has a status
+pub status_of : (words : List Text) (input old new : Option (List ℕ)) (code : ℕ) → EndsCommand words input old new code
+    → (status : Status) × (code ≡ code_of status)
+status_of words input old new code (done line reads files named world of status is ends) = (status, is)
+status_of words input old new code (told why holds status is tells) = (status, is)
+
+-- a file that isn't read is one of the names
+pub unread_among : (names : List (String Global)) (name : String Global) (why : Unbegun) → Contains names name → IsUnreadFile name why → IsUnread names why
+unread_among names name why has (inl memory) = inl memory
+unread_among names name why has (inr unread) = inr (name, has, unread)
+
+-- or it is the world's
+pub unread_world : (world : Option (String Global)) (name : String Global) (why : Unbegun) → world ≡ Some name → IsUnreadFile name why → IsUnreadWorld world why
+unread_world world name why is (inl memory) = inl memory
+unread_world world name why is (inr unread) = inr (name, is, unread)
+
+-- words whose files aren't read may not begin
+pub files_hold_back : (words : List Text) (line : Line) (why : Unbegun) → ReadsLine words line → IsUnread line.files.items why → HoldsBack words why
+files_hold_back words line why reads (inl memory) = subst (λ (u : Unbegun). HoldsBack words u) (sym memory) tt
+files_hold_back words line why reads (inr (name, has, unread)) = subst (λ (u : Unbegun). HoldsBack words u) (sym unread) (line, reads, inl has)
+
+pub world_holds_back : (words : List Text) (line : Line) (why : Unbegun) → ReadsLine words line → IsUnreadWorld line.world why → HoldsBack words why
+world_holds_back words line why reads (inl memory) = subst (λ (u : Unbegun). HoldsBack words u) (sym memory) tt
+world_holds_back words line why reads (inr (name, is, unread)) = subst (λ (u : Unbegun). HoldsBack words u) (sym unread) (line, reads, inr is)

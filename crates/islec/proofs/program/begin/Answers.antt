@@ -1,0 +1,13 @@
+use Rattle.std.proofs.lemmas.Result.{err_from_is_err_and}
+use Rattle.islec.proofs.EndingLemmas.{files_hold_back, world_holds_back}
+use Rattle.islec.proofs.program.begin.Goals as goal
+
+pub returns-in_err-texts-clause-refused : goal.returns-in_err-texts-clause-refused
+returns-in_err-texts-clause-refused g c =
+    let e = err_from_is_err_and c.from_residual-in_err-texts.result c.from_residual-in_err-texts.ensures.1 in
+    rw (e.1, e.2) (files_hold_back _ c.in_ok-job.field-0 c.in_err-texts.field-0.0 c.in_ok-job.ensures.reads c.in_err-texts.ensures.refused)
+
+pub returns-in_err-world-clause-refused : goal.returns-in_err-world-clause-refused
+returns-in_err-world-clause-refused g c =
+    let e = err_from_is_err_and c.from_residual-in_err-world.result c.from_residual-in_err-world.ensures.1 in
+    rw (e.1, e.2) (world_holds_back _ c.in_ok-job.field-0 c.in_err-world.field-0.0 c.in_ok-job.ensures.reads c.in_err-world.ensures.refused)

@@ -1,0 +1,89 @@
+-- How a whole command ends, by its words.
+use Rattle.std.specs.Prelude.{◌≡◌, ◌⊎◌, ℕ, Bool, true, false, List, [], Option, Some, None, String, map, codes, string_bytes, ⊤}
+use Rattle.std.specs.Global.{Global}
+use Rattle.std.specs.List.{Contains}
+use Rattle.std.specs.Option.{option_map}
+use Rattle.clap.specs.Words.{IsAmong, Text, fault_of, kind_of}
+use Rattle.isle_syntax.specs.Positions.Files.{SourceFile}
+use Rattle.isle_run.specs.Compiled.{AreAccepted}
+use Rattle.islec.specs.Beginnings.{TellsUnbegun}
+use Rattle.islec.specs.Commands.{islec}
+use Rattle.islec.specs.Formatting.{WritesPrints, WritesFault, CutsPrints}
+use Rattle.islec.specs.Lines.{ReadsLine, names_of}
+use Rattle.islec.specs.Running.{WritesFaults, WritesAccepted, WritesAnswers, WritesRefusal, CutsCheck, CutsRun, RunsOut}
+use Rattle.islec.specs.Statuses.{code_of}
+use Rattle.islec.specs.Writing.{AppendsBeginning}
+use Rattle.islec.specs.declared.line.Job.{Job}
+use Rattle.islec.specs.declared.line.Job.TheVariants.{Run, Check, Fmt}
+use Rattle.islec.specs.declared.line.Line.{Line}
+use Rattle.islec.specs.declared.program.Begun.{Begun}
+use Rattle.islec.specs.declared.program.Unbegun.{Unbegun}
+use Rattle.islec.specs.declared.program.Unbegun.TheVariants as unbegun
+use Rattle.islec.specs.declared.status.Status.{Status}
+use Rattle.islec.specs.declared.status.Status.TheVariants.{AllWell, TextsRefused, Usage, SomeRefused, InputOutput, OutOfMemory}
+
+-- what is written of files that are run, by the status
+abbrev pub EndsRun : (depth : ℕ) → List SourceFile → (world : SourceFile) → (input old new : Option (List ℕ)) → Status → Type 0
+EndsRun depth files world input old new AllWell = AreAccepted files × WritesAnswers files world depth input false old new
+EndsRun depth files world input old new TextsRefused = WritesRefusal files world old new
+EndsRun depth files world input old new Usage = ⊥
+EndsRun depth files world input old new SomeRefused = AreAccepted files × WritesAnswers files world depth input true old new
+EndsRun depth files world input old new InputOutput = CutsRun files world depth input old new
+EndsRun depth files world input old new OutOfMemory = RunsOut files world depth input old new
+
+-- what is written of files that are checked
+abbrev pub EndsCheck : (terms : Bool) → List SourceFile → (old new : Option (List ℕ)) → Status → Type 0
+EndsCheck terms files old new AllWell = WritesAccepted files terms old new
+EndsCheck terms files old new TextsRefused = WritesFaults files old new
+EndsCheck terms files old new Usage = ⊥
+EndsCheck terms files old new SomeRefused = ⊥
+EndsCheck terms files old new InputOutput = CutsCheck files terms old new
+EndsCheck terms files old new OutOfMemory = AppendsBeginning old new (codes "out of memory\n")
+
+-- what is written of files that are printed
+abbrev pub EndsFmt : (width : ℕ) → List SourceFile → (old new : Option (List ℕ)) → Status → Type 0
+EndsFmt width files old new AllWell = WritesPrints width files old new
+EndsFmt width files old new TextsRefused = WritesFault files old new
+EndsFmt width files old new Usage = ⊥
+EndsFmt width files old new SomeRefused = ⊥
+EndsFmt width files old new InputOutput = CutsPrints width files old new
+EndsFmt width files old new OutOfMemory = AppendsBeginning old new (codes "out of memory\n")
+
+-- what is written of a job on files, in the world of a file, by the status with which it ends
+abbrev pub EndsJob : Job → List SourceFile → (world : SourceFile) → (input old new : Option (List ℕ)) → Status → Type 0
+EndsJob (Run depth plain) files world input old new status = EndsRun depth files world input old new status
+EndsJob (Check terms) files world input old new status = EndsCheck terms files old new status
+EndsJob (Fmt width) files world input old new status = EndsFmt width files old new status
+
+-- the file has the name that a line gives its world; where it gives none it is empty and named `world`
+abbrev pub IsWorld : Option (String Global) → SourceFile → Type 0
+IsWorld None file = file ≡ record { name = codes "world"; text = [] }
+IsWorld (Some name) file = file.name ≡ string_bytes name
+
+-- the line names this file, as one of its rules or as its world
+abbrev pub Names : Line → String Global → Type 0
+Names line name = Contains line.files.items name ⊎ (line.world ≡ Some name)
+
+-- why a command of these words may not begin: they have that fault, or a file that they name can't be read, or memory ran out
+abbrev pub HoldsBack : List Text → Unbegun → Type 0
+HoldsBack words (unbegun.Usage error) = IsAmong (kind_of error) (fault_of islec words)
+HoldsBack words unbegun.NotText = ⊥
+HoldsBack words (unbegun.CannotRead name) = (line : Line) × ReadsLine words line × Names line name
+HoldsBack words unbegun.Memory = ⊤
+
+-- how a command of these words ends, and what it writes: what the job of their line does on files of the names that they have, in order; or
+-- what is told of why it may not begin
+pub data EndsCommand (words : List Text) (input old new : Option (List ℕ)) (code : ℕ) : Type 0 where
+  done : (line : Line) → ReadsLine words line → (files : List SourceFile) → map (λ file. file.name) files ≡ names_of line.files
+      → (world : SourceFile) → IsWorld line.world world → (status : Status) → code ≡ code_of status
+      → EndsJob line.job files world input old new status → EndsCommand words input old new code
+  told : (why : Unbegun) → HoldsBack words why → (status : Status) → code ≡ code_of status → TellsUnbegun why status old new
+      → EndsCommand words input old new code
+
+-- a command begins as its words say: with their job, and with a text under each name that they have, in order
+pub record Begins (words : List Text) (begun : Begun) : Type 0 where
+  pub line : Line
+  pub reads : ReadsLine words line
+  pub job : begun.job ≡ line.job
+  pub texts : map (λ text. text.0) begun.texts.items ≡ line.files.items
+  pub world : option_map (λ text. text.0) begun.world ≡ line.world
