@@ -4,13 +4,13 @@ use Rattle.std.proofs.lemmas.Bool.{cases_lt}
 use Rattle.isle_types.specs.Names.{AreDistinct}
 use Rattle.isle_types.specs.declared.ids.Sym.{Sym}
 use Rattle.isle_terms.specs.TypedRules.{TypedRule}
-use Rattle.isle_terms.specs.Meaning.Facts.{TermFacts}
-use Rattle.isle_terms.specs.Meaning.Sites.{Site, iterator, make_some, site_of}
-use Rattle.isle_terms.specs.Meaning.Words.{word_of}
-use Rattle.isle_terms.specs.Meaning.Demands.{demands_of, vars_of, impure_of, result_of}
-use Rattle.isle_terms.specs.Meaning.Needs.{needs_of, IsNeeded}
-use Rattle.isle_terms.specs.Meaning.Numbered.{Row, make_some_row, At}
-use Rattle.isle_terms.proofs.Meaning.Numbering.{one_site}
+use Rattle.isle_meaning.specs.Facts.{TermFacts}
+use Rattle.isle_meaning.specs.Sites.{Site, iterator, make_some, site_of}
+use Rattle.isle_meaning.specs.Words.{word_of}
+use Rattle.isle_meaning.specs.Demands.{demands_of, vars_of, impure_of, result_of}
+use Rattle.isle_meaning.specs.Needs.{needs_of, IsNeeded}
+use Rattle.isle_meaning.specs.Numbered.{Row, make_some_row, At}
+use Rattle.isle_meaning.proofs.Matching.Numbering.{one_site}
 use Rattle.isle_blocks.specs.declared.ids.BindingId.{BindingId}
 use Rattle.isle_blocks.specs.declared.binding.Binding.{Binding}
 use Rattle.isle_blocks.specs.declared.binding.Binding.TheVariants.{MakeSome}

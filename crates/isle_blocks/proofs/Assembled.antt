@@ -9,12 +9,12 @@ use Rattle.std.specs.Map.{keys_of}
 use Rattle.std.proofs.lemmas.Option.{same_Some, slice_get-get_or, slice_get_within}
 use Rattle.isle_types.specs.JoinedSets.{AreDisjoint}
 use Rattle.isle_types.specs.declared.ids.Sym.{Sym}
-use Rattle.isle_terms.specs.Meaning.Sites.{Site, iterator}
-use Rattle.isle_terms.specs.Meaning.Demands as meaning
-use Rattle.isle_terms.specs.Meaning.Demands.{Demand, constrained, equal, Among, variant_constraint, struct_constraint}
-use Rattle.isle_terms.specs.Meaning.Derived.{Derived, flipped, shared, Closed}
-use Rattle.isle_terms.specs.Meaning.Numbered.{At, iterator_row}
-use Rattle.isle_terms.proofs.Meaning.Numbering.{one_site, numbers_say_demands}
+use Rattle.isle_meaning.specs.Sites.{Site, iterator}
+use Rattle.isle_meaning.specs.Demands as meaning
+use Rattle.isle_meaning.specs.Demands.{Demand, constrained, equal, Among, variant_constraint, struct_constraint}
+use Rattle.isle_meaning.specs.Derived.{Derived, flipped, shared, Closed}
+use Rattle.isle_meaning.specs.Numbered.{At, iterator_row}
+use Rattle.isle_meaning.proofs.Matching.Numbering.{one_site, numbers_say_demands}
 use Rattle.isle_blocks.specs.declared.ids.BindingId.{BindingId}
 use Rattle.isle_blocks.specs.declared.binding.Binding.{Binding}
 use Rattle.isle_blocks.specs.declared.binding.Binding.TheVariants.{Iterator}

@@ -15,13 +15,13 @@ use Rattle.std.proofs.lemmas.Map.Views.{Contains-from_any}
 use Rattle.std.specs.Set.{is_member}
 use Rattle.isle_types.specs.JoinedSets.{AreDisjoint, are_joined, members}
 use Rattle.isle_types.specs.declared.ids.Sym.{Sym}
-use Rattle.isle_terms.specs.Meaning.Sites.{Site}
-use Rattle.isle_terms.specs.Meaning.Demands.{Demand, constrained, equal, Among}
-use Rattle.isle_terms.specs.Meaning.Derived.{Derived, Closed}
-use Rattle.isle_terms.specs.Meaning.Faults as faults
-use Rattle.isle_terms.specs.Meaning.Faults.{AreSoMany, IsConstrained, IsLeftEqual}
-use Rattle.isle_terms.specs.Meaning.Numbered.{Row, At}
-use Rattle.isle_terms.proofs.Meaning.Numbering.{one_site}
+use Rattle.isle_meaning.specs.Sites.{Site}
+use Rattle.isle_meaning.specs.Demands.{Demand, constrained, equal, Among}
+use Rattle.isle_meaning.specs.Derived.{Derived, Closed}
+use Rattle.isle_meaning.specs.Faults as faults
+use Rattle.isle_meaning.specs.Faults.{AreSoMany, IsConstrained, IsLeftEqual}
+use Rattle.isle_meaning.specs.Numbered.{Row, At}
+use Rattle.isle_meaning.proofs.Matching.Numbering.{one_site}
 use Rattle.isle_types.proofs.RootedTables.{Contains-map}
 use Rattle.isle_blocks.specs.declared.ids.BindingId.{BindingId}
 use Rattle.isle_blocks.specs.declared.constraint.Constraint.{Constraint}

@@ -1,13 +1,13 @@
 -- What is said of numbers is said of sites.
 use Rattle.std.proofs.Common.{◌≡◌, ℕ, List, Contains, subst, sym, ap, ◌∙◌}
 use Rattle.isle_types.specs.declared.ids.Sym.{Sym}
-use Rattle.isle_terms.specs.Meaning.Sites.{Site}
-use Rattle.isle_terms.specs.Meaning.Demands.{Demand, constrained, Among}
-use Rattle.isle_terms.specs.Meaning.Demands as meaning
-use Rattle.isle_terms.specs.Meaning.Derived.{Derived}
-use Rattle.isle_terms.specs.Meaning.Faults as faults
-use Rattle.isle_terms.specs.Meaning.Numbered.{Row}
-use Rattle.isle_terms.proofs.Meaning.Numbering.{one_site}
+use Rattle.isle_meaning.specs.Sites.{Site}
+use Rattle.isle_meaning.specs.Demands.{Demand, constrained, Among}
+use Rattle.isle_meaning.specs.Demands as meaning
+use Rattle.isle_meaning.specs.Derived.{Derived}
+use Rattle.isle_meaning.specs.Faults as faults
+use Rattle.isle_meaning.specs.Numbered.{Row}
+use Rattle.isle_meaning.proofs.Matching.Numbering.{one_site}
 use Rattle.isle_blocks.specs.declared.ids.BindingId.{BindingId}
 use Rattle.isle_blocks.specs.declared.constraint.Constraint.{Constraint}
 use Rattle.isle_blocks.specs.Rows.{IsInjective, test_of}

@@ -10,7 +10,7 @@ use Rattle.isle_types.proofs.Zipped.{zipped_at, all_at}
 use Rattle.isle_types.proofs.Lists.{slice_get-pushed}
 use Rattle.isle_terms.specs.TypedRules.{TypedRule}
 use Rattle.isle_terms.specs.Shown.TermTables.{TermTables}
-use Rattle.isle_terms.specs.Meaning.Facts.{TermFacts}
+use Rattle.isle_meaning.specs.Facts.{TermFacts}
 use Rattle.isle_blocks.specs.declared.faults.Fault.{Fault}
 use Rattle.isle_blocks.specs.declared.faults.Fault.TheVariants.{Overlap, Shadow}
 use Rattle.isle_blocks.specs.declared.report.RulePlace.{RulePlace}

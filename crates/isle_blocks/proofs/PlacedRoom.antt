@@ -5,13 +5,13 @@ use Rattle.std.proofs.lemmas.Option.{slice_get_within, get_or_from_slice_get}
 use Rattle.std.proofs.lemmas.List.{length-map, map-append}
 use Rattle.isle_types.proofs.DefinitionTurns.{take_here}
 use Rattle.isle_types.specs.declared.ids.Sym.{Sym}
-use Rattle.isle_terms.specs.Meaning.Sites.{Site}
-use Rattle.isle_terms.specs.Meaning.Demands.{Demand, constrained, Among, variant_constraint, struct_constraint}
-use Rattle.isle_terms.specs.Meaning.Derived.{FieldOf, of_variant, of_struct}
-use Rattle.isle_terms.specs.Meaning.Faults.{IsUnreachable}
-use Rattle.isle_terms.specs.Meaning.Numbered.{Row, At, AreRecorded}
+use Rattle.isle_meaning.specs.Sites.{Site}
+use Rattle.isle_meaning.specs.Demands.{Demand, constrained, Among, variant_constraint, struct_constraint}
+use Rattle.isle_meaning.specs.Derived.{FieldOf, of_variant, of_struct}
+use Rattle.isle_meaning.specs.Faults.{IsUnreachable}
+use Rattle.isle_meaning.specs.Numbered.{Row, At, AreRecorded}
 use Rattle.std.proofs.lemmas.Bool.{cases_lt}
-use Rattle.isle_terms.proofs.Meaning.Numbering.{numbers_say_demands, one_site}
+use Rattle.isle_meaning.proofs.Matching.Numbering.{numbers_say_demands, one_site}
 use Rattle.isle_blocks.specs.declared.ids.BindingId.{BindingId}
 use Rattle.isle_blocks.specs.declared.binding.Binding.{Binding}
 use Rattle.isle_blocks.specs.declared.constraint.Constraint.{Constraint}

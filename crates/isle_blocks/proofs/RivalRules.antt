@@ -14,10 +14,10 @@ use Rattle.isle_terms.specs.Signatures.{Signature, flags_of}
 use Rattle.isle_terms.specs.TypedRules.{TypedRule}
 use Rattle.isle_terms.specs.Shown.TermTables.{TermTables}
 use Rattle.isle_terms.specs.Shown.ShownTerms.{term_shown, form_shown}
-use Rattle.isle_terms.specs.Meaning.Facts.{no_term}
-use Rattle.isle_terms.specs.Meaning.Demands.{Demand}
-use Rattle.isle_terms.specs.Meaning.Faults as faults
-use Rattle.isle_terms.specs.Meaning.Laws.{DemandOf}
+use Rattle.isle_meaning.specs.Facts.{no_term}
+use Rattle.isle_meaning.specs.Demands.{Demand}
+use Rattle.isle_meaning.specs.Faults as faults
+use Rattle.isle_meaning.specs.Laws.Matching.{DemandOf}
 use Rattle.isle_terms.proofs.Collections.TypeTerms.{count_at}
 use Rattle.isle_blocks.specs.declared.binding.Binding.{Binding}
 use Rattle.isle_blocks.specs.declared.rule.Rule.{Rule}

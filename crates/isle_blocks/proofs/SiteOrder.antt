@@ -1,9 +1,9 @@
 -- Sites are numbered in the order in which a rule first needs them, in the table of the rule set too.
 use Rattle.std.proofs.Common.{◌≡◌, ◌++◌, inl, inr, ℕ, List, [], ◌∷◌, refl, sym, ap, subst}
 use Rattle.isle_types.proofs.Lists.{slice_get-kept}
-use Rattle.isle_terms.specs.Meaning.Sites.{Site, bool_site, int_site, prim_site, argument, extractor_call, constructor_call, iterator}
-use Rattle.isle_terms.specs.Meaning.Sites.{make_variant, match_variant, make_struct, extract_struct, make_some, match_some, match_tuple}
-use Rattle.isle_terms.specs.Meaning.Numbered.{Row}
+use Rattle.isle_meaning.specs.Sites.{Site, bool_site, int_site, prim_site, argument, extractor_call, constructor_call, iterator}
+use Rattle.isle_meaning.specs.Sites.{make_variant, match_variant, make_struct, extract_struct, make_some, match_some, match_tuple}
+use Rattle.isle_meaning.specs.Numbered.{Row}
 use Rattle.isle_blocks.specs.Building.Standing.{Adds, begin, next, IsEntryOf}
 use Rattle.isle_blocks.specs.MovedSites.{Moves, none_moved, next_moved, moved_row, place_in}
 use Rattle.isle_blocks.specs.RowTables.{IsEntered}

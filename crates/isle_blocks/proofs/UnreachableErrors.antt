@@ -6,7 +6,7 @@ use Rattle.std.proofs.lemmas.Option.{same_Some, slice_get_cases}
 use Rattle.isle_types.proofs.Lists.{taken_more}
 use Rattle.isle_terms.specs.declared.rules.Rule.{Rule}
 use Rattle.isle_terms.specs.TypedRules.{TypedRule}
-use Rattle.isle_terms.specs.Meaning.Facts.{TermFacts}
+use Rattle.isle_meaning.specs.Facts.{TermFacts}
 use Rattle.isle_blocks.specs.Building.Contents.{Marked}
 use Rattle.isle_blocks.specs.RuleFaults.{NeverMatches, IsUnreachableAt, TellUnreachable, one_may_match, one_never_matches, unreachable_error}
 use Rattle.isle_blocks.proofs.GatheredRules.{zipped_back}

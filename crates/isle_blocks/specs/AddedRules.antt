@@ -10,14 +10,14 @@ use Rattle.isle_terms.specs.TypedRules.{TypedRule}
 use Rattle.isle_terms.specs.Definitions.{declared_by}
 use Rattle.isle_terms.specs.Shown.TermTables.{TermTables}
 use Rattle.isle_terms.specs.Collecting.Environments.{ShowsTerms}
-use Rattle.isle_terms.specs.Meaning.Facts.{TermFacts, facts_of}
-use Rattle.isle_terms.specs.Meaning.Sites.{Site, iterator}
-use Rattle.isle_terms.specs.Meaning.Demands.{demands_of, result_of, impure_of}
-use Rattle.isle_terms.specs.Meaning.Derived.{FieldOf}
-use Rattle.isle_terms.specs.Meaning.Faults.{IsUnreachable}
-use Rattle.isle_terms.specs.Meaning.Laws.{DemandOf}
-use Rattle.isle_terms.specs.Meaning.Needs.{needs_of, IsNeeded}
-use Rattle.isle_terms.specs.Meaning.Numbered.{Row, At, AreRecorded}
+use Rattle.isle_meaning.specs.Facts.{TermFacts, facts_of}
+use Rattle.isle_meaning.specs.Sites.{Site, iterator}
+use Rattle.isle_meaning.specs.Demands.{demands_of, result_of, impure_of}
+use Rattle.isle_meaning.specs.Derived.{FieldOf}
+use Rattle.isle_meaning.specs.Faults.{IsUnreachable}
+use Rattle.isle_meaning.specs.Laws.Matching.{DemandOf}
+use Rattle.isle_meaning.specs.Needs.{needs_of, IsNeeded}
+use Rattle.isle_meaning.specs.Numbered.{Row, At, AreRecorded}
 use Rattle.isle_blocks.specs.declared.binding.Binding.{Binding}
 use Rattle.isle_blocks.specs.declared.rule.Rule.{Rule}
 use Rattle.isle_blocks.specs.declared.ids.BindingId.{BindingId}

@@ -5,12 +5,12 @@ use Rattle.std.specs.List.Sorted.{IsStrictlySortedBy}
 use Rattle.std.specs.Map.{keys_of}
 use Rattle.isle_types.specs.JoinedSets.{AreDisjoint, are_joined, members}
 use Rattle.isle_types.specs.declared.ids.Sym.{Sym}
-use Rattle.isle_terms.specs.Meaning.Sites.{Site}
-use Rattle.isle_terms.specs.Meaning.Demands.{Demand, constrained, equal, Among}
-use Rattle.isle_terms.specs.Meaning.Demands as meaning
-use Rattle.isle_terms.specs.Meaning.Derived.{Derived, Closed}
-use Rattle.isle_terms.specs.Meaning.Faults as faults
-use Rattle.isle_terms.specs.Meaning.Numbered.{Row, At}
+use Rattle.isle_meaning.specs.Sites.{Site}
+use Rattle.isle_meaning.specs.Demands.{Demand, constrained, equal, Among}
+use Rattle.isle_meaning.specs.Demands as meaning
+use Rattle.isle_meaning.specs.Derived.{Derived, Closed}
+use Rattle.isle_meaning.specs.Faults as faults
+use Rattle.isle_meaning.specs.Numbered.{Row, At}
 use Rattle.isle_blocks.specs.declared.ids.BindingId.{BindingId}
 use Rattle.isle_blocks.specs.declared.constraint.Constraint.{Constraint}
 use Rattle.isle_blocks.specs.Rows.{IsInjective, test_of}

@@ -1,7 +1,7 @@
 -- Fields that tests open: of a variant, or of a struct where no variant is given.
 use Rattle.std.specs.Prelude.{◌≡◌, ◌<◌, ℕ, List, Option, Some, None, ◌↔◌, Contains, slice_get}
 use Rattle.isle_types.specs.Names.{AreDistinct}
-use Rattle.isle_terms.specs.Meaning.Sites.{Site, match_variant, extract_struct}
+use Rattle.isle_meaning.specs.Sites.{Site, match_variant, extract_struct}
 use Rattle.isle_blocks.specs.declared.ids.BindingId.{BindingId}
 use Rattle.isle_blocks.specs.declared.binding.Binding.{Binding}
 use Rattle.isle_blocks.specs.declared.binding.Binding.TheVariants as sites

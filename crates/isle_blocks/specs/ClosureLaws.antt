@@ -1,14 +1,14 @@
 -- What the closure of demands means, under whatever values of sites.
 use Rattle.std.specs.Prelude.{◌↔◌, ℕ, List}
-use Rattle.isle_terms.specs.Meaning.Values.{Got}
-use Rattle.isle_terms.specs.Meaning.Facts.{TermFacts}
-use Rattle.isle_terms.specs.Meaning.Sites.{Site}
-use Rattle.isle_terms.specs.Meaning.Held.{Held}
-use Rattle.isle_terms.specs.Meaning.Demands.{Demand, Among}
-use Rattle.isle_terms.specs.Meaning.Holds.{Holds, AllHold, IsProper, Respects}
-use Rattle.isle_terms.specs.Meaning.Derived.{Closed}
-use Rattle.isle_terms.specs.Meaning.Faults.{IsUnreachable}
-use Rattle.isle_terms.specs.Meaning.Sorts.{AllSuit}
+use Rattle.isle_meaning.specs.Values.{Got}
+use Rattle.isle_meaning.specs.Facts.{TermFacts}
+use Rattle.isle_meaning.specs.Sites.{Site}
+use Rattle.isle_meaning.specs.Held.{Held}
+use Rattle.isle_meaning.specs.Demands.{Demand, Among}
+use Rattle.isle_meaning.specs.Holds.{Holds, AllHold, IsProper, Respects}
+use Rattle.isle_meaning.specs.Derived.{Closed}
+use Rattle.isle_meaning.specs.Faults.{IsUnreachable}
+use Rattle.isle_meaning.specs.Sorts.{AllSuit}
 
 -- what holds of demands that are of their sites' types, under all values of sites of which fields are fields
 abbrev pub UnderAll : (List Demand → (Site → Got Held) → Type 0) → Type 0

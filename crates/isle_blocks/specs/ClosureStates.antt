@@ -2,10 +2,10 @@
 use Rattle.std.specs.Prelude.{◌≡◌, ◌≢◌, ◌<◌, ◌≤◌, ◌⊎◌, ◌++◌, ◌∷◌, ℕ, List, [], Bool, true, false, Contains, Option, Some, None, length, slice_get, slice_index}
 use Rattle.std.specs.Prelude.{slice_index_or}
 use Rattle.isle_types.specs.declared.ids.Sym.{Sym}
-use Rattle.isle_terms.specs.Meaning.Sites.{Site}
-use Rattle.isle_terms.specs.Meaning.Demands.{Demand}
-use Rattle.isle_terms.specs.Meaning.Derived.{AreEqual}
-use Rattle.isle_terms.specs.Meaning.Numbered.{At, Recorded}
+use Rattle.isle_meaning.specs.Sites.{Site}
+use Rattle.isle_meaning.specs.Demands.{Demand}
+use Rattle.isle_meaning.specs.Derived.{AreEqual}
+use Rattle.isle_meaning.specs.Numbered.{At, Recorded}
 use Rattle.isle_blocks.specs.declared.ids.BindingId.{BindingId}
 use Rattle.isle_blocks.specs.declared.binding.Binding.{Binding}
 use Rattle.isle_blocks.specs.declared.constraint.Constraint.{Constraint}

@@ -12,13 +12,13 @@ use Rattle.isle_terms.specs.TypedRules.{TypedRule}
 use Rattle.isle_terms.specs.Definitions.{declared_by}
 use Rattle.isle_terms.specs.Shown.TermTables.{TermTables}
 use Rattle.isle_terms.specs.Collecting.Environments.{ShowsTerms}
-use Rattle.isle_terms.specs.Meaning.Facts.{TermFacts, facts_of}
-use Rattle.isle_terms.specs.Meaning.Sites.{Site}
-use Rattle.isle_terms.specs.Meaning.Demands.{impure_of}
-use Rattle.isle_terms.specs.Meaning.Derived.{FieldOf}
-use Rattle.isle_terms.specs.Meaning.Laws.{DemandOf}
-use Rattle.isle_terms.specs.Meaning.Needs.{needs_of, IsNeeded}
-use Rattle.isle_terms.specs.Meaning.Numbered.{Row, At}
+use Rattle.isle_meaning.specs.Facts.{TermFacts, facts_of}
+use Rattle.isle_meaning.specs.Sites.{Site}
+use Rattle.isle_meaning.specs.Demands.{impure_of}
+use Rattle.isle_meaning.specs.Derived.{FieldOf}
+use Rattle.isle_meaning.specs.Laws.Matching.{DemandOf}
+use Rattle.isle_meaning.specs.Needs.{needs_of, IsNeeded}
+use Rattle.isle_meaning.specs.Numbered.{Row, At}
 use Rattle.isle_blocks.specs.declared.binding.Binding.{Binding}
 use Rattle.isle_blocks.specs.declared.rule.Rule.{Rule}
 use Rattle.isle_blocks.specs.AddedRules.{IsMultiCall, needs_in_order}

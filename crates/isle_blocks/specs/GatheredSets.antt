@@ -4,8 +4,8 @@ use Rattle.isle_types.specs.declared.ids.TermId.{TermId}
 use Rattle.isle_terms.specs.declared.rules.Rule as source
 use Rattle.isle_terms.specs.TypedRules.{TypedRule}
 use Rattle.isle_terms.specs.Shown.TermTables.{TermTables}
-use Rattle.isle_terms.specs.Meaning.Faults.{IsUnreachable}
-use Rattle.isle_terms.specs.Meaning.Laws.{DemandOf}
+use Rattle.isle_meaning.specs.Faults.{IsUnreachable}
+use Rattle.isle_meaning.specs.Laws.Matching.{DemandOf}
 use Rattle.isle_blocks.specs.declared.rule.Rule.{Rule}
 use Rattle.isle_blocks.specs.AddedRules.{IsDefinedRule, IsAddedRule, name_in, facts_in}
 use Rattle.isle_blocks.specs.Assembly.{IsToldOf}

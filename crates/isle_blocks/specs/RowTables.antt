@@ -1,8 +1,8 @@
 -- Tables of entries: parts before, each entry once.
 use Rattle.std.specs.Prelude.{◌≡◌, ◌<◌, ◌⊎◌, ℕ, List, [], ◌∷◌, ◌++◌, length, Contains, Some, slice_get}
-use Rattle.isle_terms.specs.Meaning.Numbered.{Row, bool_row, int_row, prim_row, argument_row, extractor_row, constructor_row, iterator_row}
-use Rattle.isle_terms.specs.Meaning.Numbered.{make_variant_row, match_variant_row, make_struct_row, extract_struct_row, make_some_row}
-use Rattle.isle_terms.specs.Meaning.Numbered.{match_some_row, match_tuple_row}
+use Rattle.isle_meaning.specs.Numbered.{Row, bool_row, int_row, prim_row, argument_row, extractor_row, constructor_row, iterator_row}
+use Rattle.isle_meaning.specs.Numbered.{make_variant_row, match_variant_row, make_struct_row, extract_struct_row, make_some_row}
+use Rattle.isle_meaning.specs.Numbered.{match_some_row, match_tuple_row}
 
 -- the parts of an entry
 abbrev pub sources : Row → List ℕ

@@ -1,10 +1,10 @@
 -- Sites and tests of the code as those of the rules' meaning: constants by their names, all else by number.
 use Rattle.std.specs.Prelude.{◌≡◌, ℕ, List, map}
 use Rattle.isle_types.specs.declared.ids.Sym.{Sym}
-use Rattle.isle_terms.specs.Meaning.Numbered.{Row, bool_row, int_row, prim_row, argument_row, extractor_row, constructor_row, iterator_row}
-use Rattle.isle_terms.specs.Meaning.Numbered.{make_variant_row, match_variant_row, make_struct_row, extract_struct_row, make_some_row}
-use Rattle.isle_terms.specs.Meaning.Numbered.{match_some_row, match_tuple_row}
-use Rattle.isle_terms.specs.Meaning.Demands as meaning
+use Rattle.isle_meaning.specs.Numbered.{Row, bool_row, int_row, prim_row, argument_row, extractor_row, constructor_row, iterator_row}
+use Rattle.isle_meaning.specs.Numbered.{make_variant_row, match_variant_row, make_struct_row, extract_struct_row, make_some_row}
+use Rattle.isle_meaning.specs.Numbered.{match_some_row, match_tuple_row}
+use Rattle.isle_meaning.specs.Demands as meaning
 use Rattle.isle_blocks.specs.declared.ids.BindingId.{BindingId}
 use Rattle.isle_blocks.specs.declared.binding.Binding.{Binding}
 use Rattle.isle_blocks.specs.declared.binding.Binding.TheVariants as sites

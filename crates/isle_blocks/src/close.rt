@@ -1,6 +1,6 @@
 //! The closure of a rule's demands.
 ghost use Rattle.std.specs.Prelude.{◌≡◌, ◌<◌, ◌≤◌, ℕ, List, Option, true, false, IfOk, IfErr, IfSome, IfNone, None, length, slice_index, slice_index_or, vec_len};
-ghost use Rattle.isle_terms.specs.Meaning.Faults.{IsUnreachable};
+ghost use Rattle.isle_meaning.specs.Faults.{IsUnreachable};
 ghost use Rattle.isle_blocks.specs.ClosureFields.{IsTable};
 ghost use Rattle.isle_blocks.specs.ClosureStates.{IsReady, ArePairsBelow, ForDemands, AreClosedClasses, IsReduced, IsState, IsFinished, RunsOut};
 ghost use Rattle.isle_blocks.specs.Closure.{ForRecorded, ClosesTo, LacksRoom};

@@ -1,7 +1,7 @@
 //! Rules put into the table of their rule set.
 ghost use Rattle.std.specs.Prelude.{◌≡◌, IfOk, IfErr, IfSome, OnOk, take, ◌≤◌, ◌<◌, length};
-ghost use Rattle.isle_terms.specs.Meaning.Demands.{Among};
-ghost use Rattle.isle_terms.specs.Meaning.Faults.{IsUnreachable};
+ghost use Rattle.isle_meaning.specs.Demands.{Among};
+ghost use Rattle.isle_meaning.specs.Faults.{IsUnreachable};
 ghost use Rattle.isle_blocks.specs.ClosureFields.{IsTable};
 ghost use Rattle.isle_blocks.specs.Rows.{rows_of};
 ghost use Rattle.isle_blocks.specs.Closure.{HasAllFields};

@@ -4,7 +4,7 @@ ghost use Rattle.std.specs.List.{AllZip};
 ghost use Rattle.std.specs.Global.{Global};
 ghost use Rattle.isle_syntax.specs.Errors.{IfFault};
 ghost use Rattle.isle_terms.specs.TypedRules.{TypedRule};
-ghost use Rattle.isle_terms.specs.Meaning.Facts.{TermFacts};
+ghost use Rattle.isle_meaning.specs.Facts.{TermFacts};
 ghost use Rattle.isle_blocks.specs.Building.Contents.{Marked};
 ghost use Rattle.isle_blocks.specs.ClosureFields.{IsTable};
 ghost use Rattle.isle_blocks.specs.DefinedSets.{AreDefined, facts_by, rules_by, ListsNumbers, AreSetsOf};

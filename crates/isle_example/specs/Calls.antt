@@ -1,16 +1,15 @@
 -- The value of a query's call.
 use Rattle.std.specs.Prelude.{◌≡◌, ◌⊎◌, ℕ, List, Option, Some, None, codes, ⊤}
 use Rattle.isle_types.specs.declared.ids.TermId.{TermId}
-use Rattle.isle_terms.specs.Meaning.Asking.{asks_value, Ended, EndsAt}
-use Rattle.isle_terms.specs.Meaning.Calls.{Means}
-use Rattle.isle_terms.specs.Meaning.GroundValues.{value_of, values_of}
-use Rattle.isle_terms.specs.Meaning.Worlds.{Event}
+use Rattle.isle_meaning.specs.Asking.{asks_value, Ended, EndsAt}
+use Rattle.isle_meaning.specs.Calls.{Means}
+use Rattle.isle_meaning.specs.GroundValues.{value_of, values_of}
+use Rattle.isle_meaning.specs.Worlds.{Event}
 use Rattle.isle_terms.specs.Values.{ValueTree, ValueTrees}
 use Rattle.isle_run.specs.declared.program.Program.{Program}
 use Rattle.isle_run.specs.declared.query.QueryFault.{QueryFault}
 use Rattle.isle_run.specs.declared.query.QueryFault.TheVariants.{Q1, Q2, Q3, Q4, Memory}
-use Rattle.isle_run.specs.Frames.Calls.{IsSoundProgram}
-use Rattle.isle_run.specs.Frames.Telling.{answers_in}
+use Rattle.isle_run.specs.Calls.Answers.{answers_in}
 use Rattle.isle_run.specs.Meanings.{checked}
 use Rattle.isle_run.specs.Values.Text.{value_text}
 use Rattle.isle_run.specs.Queries.{IsCallIn, RefusesText}
@@ -22,15 +21,15 @@ Constructs = List ℕ → ValueTrees → Option ValueTree
 abbrev pub Extracts : Type 0
 Extracts = List ℕ → ValueTree → Option ValueTrees
 
--- in a program as `compile` makes it a call means this value after some effects, with at most 100 calls open at once
+-- a call means this value after some effects, with at most 100 calls open at once
 abbrev pub MeansValue : Program → Constructs → Extracts → TermId → ValueTrees → ValueTree → Type 0
-MeansValue program constructs extracts term args v = IsSoundProgram program → (trace : List Event)
+MeansValue program constructs extracts term args v = (trace : List Event)
     × Means (checked program) (answers_in program constructs extracts) 100 term.0 (values_of (checked program).values args) trace
     (Some (value_of (checked program).values v))
 
--- in such a program a call means no value, or a chain of asking ends unanswered
+-- a call means no value, or a chain of asking ends unanswered
 abbrev pub MeansNoValue : Program → Constructs → Extracts → TermId → ValueTrees → Type 0
-MeansNoValue program constructs extracts term args = IsSoundProgram program → (trace : List Event)
+MeansNoValue program constructs extracts term args = (trace : List Event)
     × (Means (checked program) (answers_in program constructs extracts) 100 term.0 (values_of (checked program).values args) trace None
     ⊎ ((e : Ended) × EndsAt (checked program) (answers_in program constructs extracts) 100 (asks_value term.0 (values_of (checked program).values args))
     trace e))

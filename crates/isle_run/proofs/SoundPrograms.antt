@@ -3,8 +3,6 @@
 pub mod TypeTables
 -- What the tables say of terms and rules is what the definitions say.
 pub mod Agreeing
--- Which terms the variants and structs of types are.
-pub mod MadeData
 -- What is said of data by name.
 pub mod NamedData
 -- What the tables say is what the definitions say.
@@ -15,11 +13,9 @@ pub mod FittingTexts
 pub mod FittingRules
 -- Literals and constants of rules are values of their types.
 pub mod Literals
--- Conditions, and right sides of pure terms, make no impure calls.
-pub mod PureCalls
 -- The rules of terms that can be run are sound.
 pub mod Runnable
 -- A compiled program is sound.
 pub mod Whole
--- Soundness for the same terms said otherwise.
-pub mod Moved
+-- What is known of each program.
+pub mod Known

@@ -1,25 +1,9 @@
 -- How definitions are spelt and split into files means nothing.
--- Lists whose items are mapped.
-pub mod Zips
--- What definitions make, without positions.
-pub mod Bare
--- Patterns.
-pub mod Patterns
--- Expressions.
-pub mod Exprs
--- Rules.
-pub mod Rules
--- Types and constants.
-pub mod Types
--- Definitions of one kind, and what is said of names.
-pub mod Lists
--- Terms, converters and typed rules.
-pub mod Terms
--- What terms and values of definitions are.
-pub mod Programs
--- What calls mean, and faults.
-pub mod Meanings
+-- Faults.
+pub mod Faults
 -- Whole lists of texts.
 pub mod Whole
 -- Formatted files.
 pub mod Formatting
+-- Texts whose rules stand in another order.
+pub mod Ordered

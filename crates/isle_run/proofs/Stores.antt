@@ -8,7 +8,5 @@ pub mod Sharing
 pub mod Steps
 -- The sorted table of a store's nodes.
 pub mod Tables
--- Data of a compiled program is named by its type.
-pub mod Names
 -- What numbers stand for in a store.
 pub mod Values

@@ -12,7 +12,7 @@ use Rattle.isle_terms.specs.Definitions.{HaveTerms, TermEnvironment, MakesTerms,
 use Rattle.isle_terms.specs.TypedRules.{TypedRule}
 use Rattle.isle_terms.specs.TypingFaults.{AreTypingFaults}
 use Rattle.isle_terms.specs.Collecting.Environments.{ShowsTerms}
-use Rattle.isle_terms.specs.Meaning.Facts.{TermFacts, facts_of}
+use Rattle.isle_meaning.specs.Facts.{TermFacts, facts_of}
 use Rattle.isle_blocks.specs.Building.Naming.{HaveFewArguments}
 use Rattle.isle_blocks.specs.DefinedSets.{AreSetsOf}
 use Rattle.isle_blocks.specs.RuleFaults.{AreFaultless, AreRuleErrors}

@@ -1,9 +1,5 @@
--- What calls mean, and where chains of asking end.
-pub mod Calls
 -- What calls of compiled programs mean.
 pub mod Compiled
--- What a plain run means.
-pub mod Plain
 -- What a compiled program's tables say, and that its rules are sound.
 pub mod Sound
 -- What tables say of terms.

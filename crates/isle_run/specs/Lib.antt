@@ -1,5 +1,9 @@
 -- Which files are compiled, and which faults the others have.
 pub mod Compiled
+-- What tables of types and terms say, before a program is made of them.
+pub mod Tables
+-- What typing gives of tables.
+pub mod SoundTables
 -- What a program holds.
 pub mod Programs
 -- In which order a query is checked.
@@ -12,21 +16,15 @@ pub mod Worlds
 pub mod Facts
 -- What a program's tables say of its terms, types and rules, for the meaning of its calls.
 pub mod Meanings
--- The checked program that definitions make.
-pub mod DefinedPrograms
--- The plain run of a call.
-pub mod PlainRuns
--- What typing gives of a program's rules.
-pub mod SoundPrograms
--- Written-out expressions that are typed.
-pub mod TypedWords
--- What calls mean, whatever their depth and what is left open.
+-- What holds of compiled programs and their calls.
 pub mod Laws
+-- What typing gives of a program.
+pub mod Sound
 -- Values in a store.
 pub mod Stores
--- Rules laid out.
-pub mod LaidOut
--- Calls while they run.
-pub mod Frames
--- What the plain road answers.
+-- Calls of terms, whichever road answers them.
+pub mod Calls
+-- The plain road: rules tried one by one.
+pub mod Plain
+-- What a call on the plain road tells.
 pub mod PlainCalls

@@ -6,7 +6,7 @@ use Rattle.isle_terms.specs.Values.{ValueTrees}
 use Rattle.isle_run.specs.declared.program.Program.{Program}
 use Rattle.isle_run.specs.declared.query.QueryFault.{QueryFault}
 use Rattle.isle_run.specs.declared.query.QueryFault.TheVariants.{Q1, Q2, Q3, Q4, Memory}
-use Rattle.isle_terms.specs.Meaning.ValueTypes.{AreOfTypes}
+use Rattle.isle_meaning.specs.ValueTypes.{AreOfTypes}
 use Rattle.isle_syntax.specs.declared.lexer.Token.{Token}
 use Rattle.isle_run.specs.Values.Lists.{IsListOf}
 use Rattle.isle_run.specs.Programs.{term_named, types_of, terms_of, value_facts, types_taken}

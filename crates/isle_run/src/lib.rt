@@ -1,29 +1,20 @@
 //! Compiles rule files and answers calls of their terms.
 #![tactic(auto)]
 
-mod answer;
+mod calls;
 mod compiler;
-mod evaluation;
-mod fitting;
-mod frame;
-mod laid;
+mod facts;
 pub mod laws;
-mod numbers;
-mod outside;
-mod plain;
 mod program;
 mod query;
-mod store;
-mod tokens;
-mod typing;
-mod value;
-mod variables;
-mod world;
+mod roads;
+mod values;
+mod worlds;
 
-pub use answer::{Answer, Called, Effect};
+pub use calls::answer::{Answer, Called, Effect};
 pub use compiler::{Refused, compile};
 pub use isle_types::{TermId, TypeId};
 pub use program::Program;
 pub use query::{QueryFault, is_blank};
-pub use value::{Value, ValueFault};
-pub use world::{Side, TableWorld, World, WorldFault};
+pub use values::{Value, ValueFault};
+pub use worlds::{Side, TableWorld, World, WorldFault};

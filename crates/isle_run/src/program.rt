@@ -1,13 +1,14 @@
-ghost use Rattle.std.specs.Prelude.{◌≡◌, ◌<◌, ◌∷◌, [], ℕ, All, IfOk, OnOk, Some, length, slice_get};
+ghost use Rattle.std.specs.Prelude.{◌≡◌, ◌<◌, [], ℕ, All, IfOk, OnOk, Some, length, slice_get};
 ghost use Rattle.isle_types.specs.TypeTables.{TypeTables};
 ghost use Rattle.isle_terms.specs.declared.rules.Rule.{Rule as KnownRule};
-ghost use Rattle.isle_run.specs.LaidOut.Rules.{AreListedInOrder, AreRulesLaidOut, AreByPriority, ListsRule};
+ghost use Rattle.isle_run.specs.Plain.LaidOut.Rules.{AreListedInOrder, AreRulesLaidOut, AreByPriority, ListsRule};
 ghost use Rattle.isle_run.specs.Facts.Asked.{AreNumbersOf};
+ghost use Rattle.isle_run.specs.SoundTables.{AreSound};
 ghost use Rattle.isle_types.specs.declared.ids.TermId.{TermId as TermNumber};
 ghost use Rattle.isle_blocks.specs.RuleSets.{RulesOverSites};
 
-use crate::laid::LaidRule;
-use crate::numbers::Numbers;
+use crate::facts::Numbers;
+use crate::roads::plain::laid::LaidRule;
 use isle_blocks::RuleSet;
 use isle_terms::{ExtractorKind, Rule, TermEnv, TermKind};
 use isle_types::{TermId, TypeEnv, TypeId};
@@ -29,6 +30,7 @@ pub struct Program {
     ghost numbered: { ∥ AreNumbersOf tyenv termenv rule_sets.items numbers ∥₁ },
     ghost ordered: { ∥ AreListedInOrder termenv.rules rules_of.items ∥₁ },
     ghost laid_out: { ∥ ((types : TypeTables) → AreRulesLaidOut types termenv laid.items) ∥₁ },
+    ghost sound: { ∥ AreSound tyenv termenv ∥₁ },
 }
 
 impl Program {
@@ -41,9 +43,9 @@ impl Program {
     ghost use Rattle.isle_run.specs.Programs.{types_of, terms_of, rules_in, rule_sets_of, term_named, term_name, has_rules, number_of};
     ghost use Rattle.isle_run.specs.Programs.{types_taken};
     ghost use Rattle.isle_run.specs.Meanings.{checked};
-    ghost use Rattle.isle_run.specs.PlainRuns.{AreTriedInOrder};
-    ghost use Rattle.isle_run.specs.Frames.Laid.{IsLaidRule};
-    ghost use Rattle.isle_terms.specs.Meaning.Facts.{never_fails};
+    ghost use Rattle.isle_meaning.specs.PlainRuns.{AreTriedInOrder};
+    ghost use Rattle.isle_run.specs.Plain.Laid.{IsLaidRule};
+    ghost use Rattle.isle_meaning.specs.Facts.{never_fails};
     ghost use Rattle.isle_terms.specs.Shown.ShownTerms.{form_shown};
 
     /// The program of typed definitions and of the rule sets of their rules.
@@ -55,6 +57,7 @@ impl Program {
     ) -> Result<Program, AllocError>
         requires rooted { All (λ rule. rule.root_term.0 < length termenv.terms) termenv.rules }
         requires within { All (λ (set : TermNumber × RulesOverSites). set.0.0 < length termenv.terms) rule_sets.items }
+        requires sound { AreSound tyenv termenv }
         ensures types { IfOk result (λ program. types_of program ≡ tyenv) }
         ensures terms { IfOk result (λ program. terms_of program ≡ termenv) }
         ensures sets { IfOk result (λ program. rule_sets_of program ≡ rule_sets.items) }
@@ -151,7 +154,7 @@ impl Program {
     pub(crate) fn has_rules(&self, term: TermId) -> bool
         ensures { result ≡ has_rules self.now term }
     {
-        self.rules().iter().any(|rule| rule.root_term == term)
+        !self.rules_of(term).is_empty()
     }
 
     /// Whether the term may answer nothing.

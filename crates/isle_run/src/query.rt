@@ -1,6 +1,6 @@
 ghost use Rattle.std.specs.Prelude.{◌≡◌, ◌↔◌, ◌<◌, ℕ, List, [], IfOk, IfErr, IfSome, IfNone, IsTrue, map};
 ghost use Rattle.isle_terms.specs.Values.{ValueTrees, value_list};
-ghost use Rattle.isle_terms.specs.Meaning.ValueTypes.{AreOfTypes};
+ghost use Rattle.isle_meaning.specs.ValueTypes.{AreOfTypes};
 ghost use Rattle.isle_run.specs.Programs.{value_facts, number_of, types_taken};
 ghost use Rattle.isle_run.specs.Values.Settled.{settled_all};
 ghost use Rattle.isle_run.specs.Queries.{NoneAreTyped, AreSettled};
@@ -10,8 +10,8 @@ ghost use Rattle.isle_run.specs.Values.Lists.{Closes, IsListOf, opened_after};
 ghost use Rattle.isle_syntax.specs.declared.lexer.Token.{Token as ListToken};
 
 use crate::program::Program;
-use crate::tokens::tokens_of;
-use crate::value::{Value, read_front};
+use crate::values::tokens::tokens_of;
+use crate::values::{Value, read_front};
 use isle_syntax::Refusal;
 use isle_syntax::lexer::{Lexer, Token};
 use isle_types::{TermId, TypeId};

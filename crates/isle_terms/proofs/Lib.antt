@@ -40,5 +40,3 @@ pub mod Cases
 pub mod Sound
 -- The sizes of what trees stand for, and how rules fit their terms.
 pub mod Sizes
--- Sites, demands and matching of typed rules.
-pub mod Meaning

@@ -4,7 +4,6 @@
 mod clone;
 mod env;
 pub mod laws;
-pub mod meaning_laws;
 mod rules;
 mod signatures;
 mod terms;

@@ -15,10 +15,10 @@ use Rattle.isle_syntax.specs.Tokens.PlacedTokens.{Placed, placed_at}
 use Rattle.isle_syntax.specs.Tokens.TokensOf.{TokensOf, ended, token, word, pos_of_rest}
 use Rattle.isle_syntax.proofs.Tokens.Findings.{tokens_same}
 use Rattle.isle_terms.specs.Values.{ValueTree, ValueTrees}
-use Rattle.isle_terms.specs.Meaning.Worlds.{Answers, Event}
+use Rattle.isle_meaning.specs.Worlds.{Answers, Event}
 use Rattle.isle_run.specs.declared.program.Program.{Program}
 use Rattle.isle_run.specs.declared.query.QueryFault.TheVariants.{Q1, Q2, Q3, Q4, Memory}
-use Rattle.isle_run.specs.Frames.Telling.{name_of_term}
+use Rattle.isle_run.specs.Calls.Answers.{name_of_term}
 use Rattle.isle_run.specs.Values.Lists.{IsListOf}
 use Rattle.isle_run.specs.Values.TextTokens.{AreTokensOf, alone, bare}
 use Rattle.islec.specs.Replies.{Setting, Leads, Reaches, IsReply, no_text, blank, no_call, call, refused_line}

@@ -7,27 +7,20 @@ use Rattle.isle_run.specs.declared.compiler.Refused.{Refused}
 use Rattle.isle_run.specs.declared.compiler.Refused.TheVariants.{Faults}
 use Rattle.isle_run.specs.declared.program.Program.{Program}
 use Rattle.isle_run.specs.Compiled.{AreAccepted, AreFaults, IsProgramOf, IfFaults}
-use Rattle.isle_run.proofs.SoundPrograms.Whole.{compiled_programs_are_sound}
 use Rattle.islec.specs.declared.serve.ServeFault.{ServeFault}
 use Rattle.islec.specs.declared.serve.ServeFault.TheVariants.{Memory}
 use Rattle.islec.specs.declared.status.Status.{Status}
 use Rattle.islec.specs.declared.status.Status.TheVariants.{AllWell, TextsRefused}
-use Rattle.islec.specs.Running.{WritesFaults, WritesAnswers, WritesAccepted, WritesRefusal, CutsCheck, CutsRun, AnswersSome, AnswersIn, TellsWorld, CutsIn, StopsIn, IsSoundProgramOf}
+use Rattle.islec.specs.Running.{WritesFaults, WritesAnswers, WritesAccepted, WritesRefusal, CutsCheck, CutsRun, AnswersSome, AnswersIn, TellsWorld, CutsIn, StopsIn}
 use Rattle.islec.specs.Terms.{TellsProgram}
 use Rattle.islec.specs.Writing.{AppendsBeginning}
 use Rattle.islec.proofs.RefusedFiles.{writes_faults, cuts_faults}
-
--- the program of files is sound
-sound_program : (files : List SourceFile) (program : Program) → IsProgramOf files program → IsSoundProgramOf files program
-sound_program files program is =
-    let (agrees, named, sound) = compiled_programs_are_sound files program is in
-    record { is = is; sound = record { sound = sound; known = record { sound = sound.data_sound; printed = named } } }
 
 module _ (files all : List SourceFile) (same : files ≡ all) (program : Program) (is : IsProgramOf files program) (world : SourceFile) (depth : ℕ) (input old new : Option (List ℕ)) where
   pub answers_by : (refused : Bool) (status : Status) (r : Result Status ServeFault) → IfOk r (λ s. s ≡ status → AnswersIn program world depth input refused old new)
       → IfOk r (λ s. s ≡ status → WritesAnswers all world depth input refused old new)
   answers_by refused status (Err f) told = tt
-  answers_by refused status (Ok s) told = λ e. (program, sound_program all program (subst (λ l. IsProgramOf l program) same is), told e)
+  answers_by refused status (Ok s) told = λ e. (program, subst (λ l. IsProgramOf l program) same is, told e)
 
   pub tells_by : (r : Result Status ServeFault) → IfOk r (λ s. s ≡ TextsRefused → TellsWorld program world old new)
       → IfOk r (λ s. s ≡ TextsRefused → WritesRefusal all world old new)
@@ -37,12 +30,12 @@ module _ (files all : List SourceFile) (same : files ≡ all) (program : Program
   pub cuts_by : (r : Result Status ServeFault) → IfErr r (λ f. f ≢ Memory → CutsIn program world depth input old new)
       → IfErr r (λ f. f ≢ Memory → CutsRun all world depth input old new)
   cuts_by (Ok s) told = tt
-  cuts_by (Err f) told = λ e. inl (program, sound_program all program (subst (λ l. IsProgramOf l program) same is), told e)
+  cuts_by (Err f) told = λ e. inl (program, subst (λ l. IsProgramOf l program) same is, told e)
 
   pub stops_by : (r : Result Status ServeFault) → IfErr r (λ f. f ≡ Memory → StopsIn program world depth input old new)
       → IfErr r (λ f. f ≡ Memory → AnswersSome all world depth input old new)
   stops_by (Ok s) told = tt
-  stops_by (Err f) told = λ e. inr (program, sound_program all program (subst (λ l. IsProgramOf l program) same is), told e)
+  stops_by (Err f) told = λ e. inr (program, subst (λ l. IsProgramOf l program) same is, told e)
 
 module _ (files all : List SourceFile) (refused : Refused) (report : Report) (old new : Option (List ℕ)) (is : refused ≡ Faults report) (same : files ≡ all)
     (not_accepted : IfFaults refused (λ r. ¬ AreAccepted files)) (faults : IfFaults refused (λ r. AreFaults files r.errors))

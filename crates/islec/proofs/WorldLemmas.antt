@@ -3,7 +3,7 @@ use Rattle.std.proofs.Common.{◌≡◌, ◌≢◌, inl, inr, ℕ, Bool, List, O
 use Rattle.std.specs.Io.KnownBytes.{Appends, Keeps}
 use Rattle.isle_syntax.specs.Positions.Files.{SourceFile}
 use Rattle.isle_run.specs.declared.program.Program.{Program}
-use Rattle.isle_run.specs.declared.world.reading.WorldFault.{WorldFault}
+use Rattle.isle_run.specs.declared.worlds.reading.WorldFault.{WorldFault}
 use Rattle.isle_run.specs.Worlds.Entries.{EntryTree}
 use Rattle.isle_run.specs.Worlds.Texts.{RefusesWorld}
 use Rattle.islec.specs.declared.serve.ServeFault.{ServeFault}

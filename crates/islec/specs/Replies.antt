@@ -2,24 +2,20 @@
 use Rattle.std.specs.Prelude.{◌≡◌, ◌++◌, ℕ, Bool, true, false, List, [], Option, Some, None, codes, decimal, string_bytes, IsUtf8}
 use Rattle.std.specs.List.{flat_map, AllZip}
 use Rattle.isle_types.specs.declared.ids.TermId.{TermId}
-use Rattle.isle_terms.specs.Meaning.GroundValues.{values_of}
-use Rattle.isle_terms.specs.Meaning.Values.{Value as MeantValue}
-use Rattle.isle_terms.specs.Meaning.Worlds.{Answers, Event}
+use Rattle.isle_meaning.specs.GroundValues.{values_of}
+use Rattle.isle_meaning.specs.Worlds.{Answers, Event}
 use Rattle.isle_terms.specs.Values.{ValueTree, ValueTrees, value_list}
-use Rattle.isle_run.specs.declared.answer.Answer.{Answer}
-use Rattle.isle_run.specs.declared.answer.Answer.TheVariants.{Value, None as NoAnswer, Stuck, Spent, IllTyped}
-use Rattle.isle_run.specs.declared.answer.Effect.{Effect}
+use Rattle.isle_run.specs.declared.calls.answer.Answer.{Answer}
+use Rattle.isle_run.specs.declared.calls.answer.Answer.TheVariants.{Value, None as NoAnswer, Stuck, Spent, IllTyped}
+use Rattle.isle_run.specs.declared.calls.answer.Effect.{Effect}
 use Rattle.isle_run.specs.declared.program.Program.{Program}
 use Rattle.isle_run.specs.declared.query.QueryFault.{QueryFault}
 use Rattle.isle_run.specs.declared.query.QueryFault.TheVariants.{Q1, Q2, Q3, Q4, Memory}
-use Rattle.isle_run.specs.Frames.Calls.{IsSoundProgram}
-use Rattle.isle_run.specs.Laws.Plain.{IsMeant, IsAskedAtEnd}
 use Rattle.isle_run.specs.Meanings.{checked}
-use Rattle.isle_run.specs.PlainCalls.{TellsOutcome}
-use Rattle.isle_run.specs.PlainRuns.{Outcome, PlainRun}
+use Rattle.isle_run.specs.PlainCalls.{TellsPlainly}
 use Rattle.isle_run.specs.Programs.{term_name}
 use Rattle.isle_run.specs.Queries.{RefusesText, IsCallIn}
-use Rattle.isle_run.specs.Frames.Telling.{answers_in, name_of_term, IsEventOf, LeadsThrough}
+use Rattle.isle_run.specs.Calls.Answers.{answers_in, name_of_term, IsEventOf, LeadsThrough}
 use Rattle.isle_run.specs.Values.TextTokens.{AreTokensOf}
 use Rattle.isle_run.specs.Values.Text.{value_text, fields_text}
 use Rattle.islec.specs.declared.answer.Reply.{Reply}
@@ -91,17 +87,14 @@ Leads setting before made after = LeadsThrough setting.step (name_of_term settin
 abbrev pub Reaches : {V : Type 0} → Setting V → V → V → Type 0
 Reaches setting before after = (made : List Event) × Leads setting before made after
 
--- The effects and the answer of a call, in a program as `compile` makes it: the call is run by its term's rules, one by one, with just these
--- effects in order, which lead in steps from the world before to the one after, and comes to this answer; an answered call means this, and one
--- that ends unanswered asks for what it ends at. A pure term makes no effects.
+-- The effects and the answer of a call: it is run by its term's rules, one by one, with just these effects in order, which lead in steps from
+-- the world before to the one after, and comes to this answer; an answered call means this, and one that ends unanswered asks for what it ends
+-- at. A pure term makes no effects.
 abbrev pub IsOutcome : {V : Type 0} → Setting V → V → TermId → ValueTrees → List Effect → Answer → V → Type 0
-IsOutcome setting before term args effects answer after = IsSoundProgram setting.program
-    → (made : List Event) × AllZip (IsEventOf setting.program) effects made × Leads setting before made after
-    × (r : Outcome MeantValue) × TellsOutcome setting.program term.0 answer r × (tried : ℕ)
-    × PlainRun (checked setting.program) setting.answers setting.depth term.0 (values_of (checked setting.program).values args) tried made r
-    × IsMeant (checked setting.program) setting.answers setting.depth term.0 (values_of (checked setting.program).values args) made r
-    × IsAskedAtEnd (checked setting.program) setting.answers setting.depth term.0 (values_of (checked setting.program).values args) made r
-    × ((checked setting.program).terms.pure term.0 ≡ true → made ≡ [])
+IsOutcome setting before term args effects answer after =
+    (made : List Event) × AllZip (IsEventOf setting.program) effects made × Leads setting before made after × (steps : ℕ)
+    × TellsPlainly setting.program setting.answers setting.depth term.0 (values_of (checked setting.program).values args)
+    (record { answer = answer; steps = steps }) made
 
 -- the lines of a call's effects in order and that of its answer, and whether the answer counts as refused
 pub record AnswersCall {V : Type 0} (setting : Setting V) (before : V) (term : TermId) (args : ValueTrees) (lines : List ℕ) (refused : Bool) (after : V) : Type 0 where

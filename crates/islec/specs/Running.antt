@@ -7,8 +7,7 @@ use Rattle.isle_syntax.specs.declared.error.Error.{Error}
 use Rattle.isle_terms.specs.Values.{ValueTree, ValueTrees}
 use Rattle.isle_run.specs.Compiled.{AreAccepted, AreFaults, IsProgramOf}
 use Rattle.isle_run.specs.declared.program.Program.{Program}
-use Rattle.isle_run.specs.declared.world.reading.WorldFault.{WorldFault}
-use Rattle.isle_run.specs.Frames.Calls.{IsSoundProgram}
+use Rattle.isle_run.specs.declared.worlds.reading.WorldFault.{WorldFault}
 use Rattle.isle_run.specs.Worlds.Entries.{EntryTree}
 use Rattle.isle_run.specs.Worlds.Tables.{HasEntries, constructed, extracted}
 use Rattle.isle_run.specs.Worlds.Texts.{SpellsWorld, RefusesWorld}
@@ -17,11 +16,6 @@ use Rattle.islec.specs.Terms.{TellsProgram}
 use Rattle.islec.specs.Worlds.{world_fault_line}
 use Rattle.islec.specs.Serving.{AnswersAll, AnswersFirst, AnswersCut}
 use Rattle.islec.specs.Writing.{AppendsBeginning}
-
--- a program that `compile` makes of files: its rules are sound, and its data is named by its type
-pub record IsSoundProgramOf (files : List SourceFile) (program : Program) : Type 0 where
-  pub is : IsProgramOf files program
-  pub sound : IsSoundProgram program
 
 -- the files aren't accepted, and a writer that held `old` holds these bytes and behind them the report of their faults
 pub record WritesFaults (files : List SourceFile) (old new : Option (List ℕ)) : Type 0 where
@@ -93,7 +87,7 @@ StopsIn program world depth input old new = Keeps old new ⊎ ((table after : Li
 -- the replies of the files' program to each line of an input are written, in the world of a file
 abbrev pub WritesAnswers : List SourceFile → (world : SourceFile) → (depth : ℕ) → (input : Option (List ℕ)) → Bool → (old new : Option (List ℕ)) → Type 0
 WritesAnswers files world depth input refused old new =
-    (program : Program) × IsSoundProgramOf files program × AnswersIn program world depth input refused old new
+    (program : Program) × IsProgramOf files program × AnswersIn program world depth input refused old new
 
 -- the report of the files' faults is written, or, of accepted files, the line that tells why their world is refused
 abbrev pub WritesRefusal : List SourceFile → (world : SourceFile) → (old new : Option (List ℕ)) → Type 0
@@ -102,12 +96,12 @@ WritesRefusal files world old new = WritesFaults files old new ⊎ ((program : P
 -- a beginning of the replies, of the report of faults or of the line that tells why the world is refused is written
 abbrev pub CutsRun : List SourceFile → (world : SourceFile) → (depth : ℕ) → (input old new : Option (List ℕ)) → Type 0
 CutsRun files world depth input old new =
-    ((program : Program) × IsSoundProgramOf files program × CutsIn program world depth input old new) ⊎ CutsFaults files old new
+    ((program : Program) × IsProgramOf files program × CutsIn program world depth input old new) ⊎ CutsFaults files old new
 
 -- replies of the files' program to first lines of an input are written, or nothing is
 abbrev pub AnswersSome : List SourceFile → (world : SourceFile) → (depth : ℕ) → (input old new : Option (List ℕ)) → Type 0
 AnswersSome files world depth input old new =
-    Keeps old new ⊎ ((program : Program) × IsSoundProgramOf files program × StopsIn program world depth input old new)
+    Keeps old new ⊎ ((program : Program) × IsProgramOf files program × StopsIn program world depth input old new)
 
 -- the same, and behind it a beginning of the line `out of memory`
 abbrev pub RunsOut : List SourceFile → (world : SourceFile) → (depth : ℕ) → (input old new : Option (List ℕ)) → Type 0

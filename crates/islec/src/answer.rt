@@ -1,6 +1,6 @@
 //! The lines that answer a query.
 ghost use Rattle.std.specs.Prelude.{◌≡◌, ◌++◌, IfOk, OnOk, IsUtf8, string_bytes};
-ghost use Rattle.isle_terms.specs.Meaning.ValueTypes.{AreOfTypes};
+ghost use Rattle.isle_meaning.specs.ValueTypes.{AreOfTypes};
 ghost use Rattle.isle_terms.specs.Values.{value_list};
 ghost use Rattle.isle_run.specs.Facts.Reach.{IsRunnable};
 ghost use Rattle.isle_run.specs.Programs.{types_of, terms_of, types_taken, value_facts};

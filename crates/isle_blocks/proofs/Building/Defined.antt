@@ -17,7 +17,7 @@ use Rattle.isle_terms.specs.declared.visit.fault.VisitFault.TheVariants.{Size, U
 use Rattle.isle_terms.specs.TypedRules.{TypedRule}
 use Rattle.isle_terms.specs.Signatures.{Declared}
 use Rattle.isle_terms.specs.Definitions.{declared_by}
-use Rattle.isle_terms.specs.Meaning.Facts.{facts_of}
+use Rattle.isle_meaning.specs.Facts.{facts_of}
 use Rattle.isle_terms.specs.Collecting.Environments.{ShowsTerms}
 use Rattle.isle_terms.specs.Shown.RulesShown.{IsShownRule}
 use Rattle.isle_terms.specs.Shown.TermTables.{TermTables}

@@ -6,11 +6,11 @@ use Rattle.std.specs.Option.{option_map}
 use Rattle.std.proofs.Common.{Option, None}
 use Rattle.isle_types.proofs.Lists.{slice_get-kept, slice_get-last}
 use Rattle.isle_types.specs.declared.ids.Sym.{Sym}
-use Rattle.isle_terms.specs.Meaning.Sites.{Site, bool_site, int_site, prim_site, argument, extractor_call, constructor_call, iterator}
-use Rattle.isle_terms.specs.Meaning.Sites.{make_variant, match_variant, make_struct, extract_struct, make_some, match_some, match_tuple}
-use Rattle.isle_terms.specs.Meaning.Sites.{Sites, no_sites, more_sites}
-use Rattle.isle_terms.specs.Meaning.Demands.{Constraint, Demand, constrained, equal, Among}
-use Rattle.isle_terms.specs.Meaning.Numbered.{Row, At, AtAll, AreRecorded}
+use Rattle.isle_meaning.specs.Sites.{Site, bool_site, int_site, prim_site, argument, extractor_call, constructor_call, iterator}
+use Rattle.isle_meaning.specs.Sites.{make_variant, match_variant, make_struct, extract_struct, make_some, match_some, match_tuple}
+use Rattle.isle_meaning.specs.Sites.{Sites, no_sites, more_sites}
+use Rattle.isle_meaning.specs.Demands.{Constraint, Demand, constrained, equal, Among}
+use Rattle.isle_meaning.specs.Numbered.{Row, At, AtAll, AreRecorded}
 use Rattle.std.proofs.Common.{◌⊎◌}
 use Rattle.std.proofs.lemmas.List.Elements.{Contains-append_left, Contains-append_right, Contains-append_cases}
 use Rattle.isle_blocks.specs.declared.ids.BindingId.{BindingId}

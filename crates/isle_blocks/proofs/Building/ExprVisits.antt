@@ -21,11 +21,11 @@ use Rattle.isle_terms.specs.Visits.VisitorCalls.{ExprCall, making_of}
 use Rattle.isle_terms.specs.Visits.InternedTrees.{InternedExpr, InternedExprs, InternedBindings, term_expr, var_expr, bool_expr, int_expr}
 use Rattle.isle_terms.specs.Visits.InternedTrees.{prim_expr, let_expr, no_exprs, more_exprs, no_bindings, more_bindings}
 use Rattle.isle_terms.specs.Visits.Events.{visits_expr, visits_exprs, visits_bindings}
-use Rattle.isle_terms.specs.Meaning.Facts.{TermFacts, shape_of_form}
-use Rattle.isle_terms.specs.Meaning.Words.{set}
-use Rattle.isle_terms.specs.Meaning.Sites.{Site, bool_site, int_site, prim_site, make_variant, make_struct, Sites}
-use Rattle.isle_terms.specs.Meaning.Needs.{Log, applied, visit, visit_all, visit_lets}
-use Rattle.isle_terms.specs.Meaning.Numbered.{Row, At, AtAll}
+use Rattle.isle_meaning.specs.Facts.{TermFacts, shape_of_form}
+use Rattle.isle_meaning.specs.Words.{set}
+use Rattle.isle_meaning.specs.Sites.{Site, bool_site, int_site, prim_site, make_variant, make_struct, Sites}
+use Rattle.isle_meaning.specs.Needs.{Log, applied, visit, visit_all, visit_lets}
+use Rattle.isle_meaning.specs.Numbered.{Row, At, AtAll}
 use Rattle.isle_blocks.specs.declared.ids.BindingId.{BindingId}
 use Rattle.isle_blocks.specs.declared.binding.Binding.TheVariants as sites
 use Rattle.isle_blocks.specs.Rows.{IsInjective, numbers_of, rows_of}

@@ -4,11 +4,11 @@ use Rattle.std.proofs.Common.{refl, sym, ap, ◌∙◌, subst, append_assoc, add
 use Rattle.std.proofs.lemmas.List.{append-nil}
 use Rattle.isle_types.specs.declared.ids.Sym.{Sym}
 use Rattle.isle_types.specs.declared.ids.TermId.{TermId}
-use Rattle.isle_terms.specs.Meaning.Facts.{TermFacts}
-use Rattle.isle_terms.specs.Meaning.Sites.{Site, constructor_call, iterator, match_some}
-use Rattle.isle_terms.specs.Meaning.Sites.{Sites, answer_site}
-use Rattle.isle_terms.specs.Meaning.Needs.{Log, need, answer_needs, called}
-use Rattle.isle_terms.specs.Meaning.Numbered.{Row, constructor_row, At, AtAll}
+use Rattle.isle_meaning.specs.Facts.{TermFacts}
+use Rattle.isle_meaning.specs.Sites.{Site, constructor_call, iterator, match_some}
+use Rattle.isle_meaning.specs.Sites.{Sites, answer_site}
+use Rattle.isle_meaning.specs.Needs.{Log, need, answer_needs, called}
+use Rattle.isle_meaning.specs.Numbered.{Row, constructor_row, At, AtAll}
 use Rattle.isle_blocks.specs.declared.ids.BindingId.{BindingId}
 use Rattle.isle_blocks.specs.declared.binding.Binding.{Binding}
 use Rattle.isle_blocks.specs.declared.binding.Binding.TheVariants as sites

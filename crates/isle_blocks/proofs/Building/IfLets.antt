@@ -14,13 +14,13 @@ use Rattle.isle_terms.specs.Visits.VisitScopes.{Scope as Numbers}
 use Rattle.isle_terms.specs.Visits.InternedTrees.{pattern_of, expr_of}
 use Rattle.isle_terms.specs.Visits.Events.{visits}
 use Rattle.isle_terms.specs.Visits.RuleEvents.{visits_value, visits_iflets}
-use Rattle.isle_terms.specs.Meaning.Facts.{TermFacts}
-use Rattle.isle_terms.specs.Meaning.Words.{word_of, steps_of}
-use Rattle.isle_terms.specs.Meaning.Sites.{Site, site_of, step_site}
-use Rattle.isle_terms.specs.Meaning.Demands.{contents, bound, demands, iflet_site, iflets_bound, iflets_demands, args_bound}
-use Rattle.isle_terms.specs.Meaning.Needs.{Log, no_log, visit, needs, iflets_needs}
-use Rattle.isle_terms.specs.Meaning.Numbered.{Row, At}
-use Rattle.isle_terms.proofs.Meaning.Visited.{visit_is_written}
+use Rattle.isle_meaning.specs.Facts.{TermFacts}
+use Rattle.isle_meaning.specs.Words.{word_of, steps_of}
+use Rattle.isle_meaning.specs.Sites.{Site, site_of, step_site}
+use Rattle.isle_meaning.specs.Demands.{contents, bound, demands, iflet_site, iflets_bound, iflets_demands, args_bound}
+use Rattle.isle_meaning.specs.Needs.{Log, no_log, visit, needs, iflets_needs}
+use Rattle.isle_meaning.specs.Numbered.{Row, At}
+use Rattle.isle_meaning.proofs.Matching.Visited.{visit_is_written}
 use Rattle.isle_blocks.specs.declared.ids.BindingId.{BindingId}
 use Rattle.isle_blocks.specs.Rows.{IsInjective, rows_of}
 use Rattle.isle_blocks.specs.Building.Gathering.{Gathered}

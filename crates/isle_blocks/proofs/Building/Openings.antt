@@ -13,12 +13,12 @@ use Rattle.isle_terms.specs.declared.terms.TermKind.TheVariants.{EnumVariant, St
 use Rattle.isle_terms.specs.Signatures.{flags_of}
 use Rattle.isle_terms.specs.Shown.ShownTerms.{form_shown}
 use Rattle.isle_terms.specs.Visits.VisitorCalls.{PatternCall, opening_of, always_extracts}
-use Rattle.isle_terms.specs.Meaning.Facts.{TermShape, TermFacts, shape_of_form, never_fails}
-use Rattle.isle_terms.specs.Meaning.Sites.{Site, extractor_call, match_variant, extract_struct, extract_site, output}
-use Rattle.isle_terms.specs.Meaning.Demands.{Demand, constrained, opens, parts, extractor_demands}
-use Rattle.isle_terms.specs.Meaning.Demands as meaning
-use Rattle.isle_terms.specs.Meaning.Needs.{from_on, extract_needs, output_needs, open_needs}
-use Rattle.isle_terms.specs.Meaning.Numbered.{At}
+use Rattle.isle_meaning.specs.Facts.{TermShape, TermFacts, shape_of_form, never_fails}
+use Rattle.isle_meaning.specs.Sites.{Site, extractor_call, match_variant, extract_struct, extract_site, output}
+use Rattle.isle_meaning.specs.Demands.{Demand, constrained, opens, parts, extractor_demands}
+use Rattle.isle_meaning.specs.Demands as meaning
+use Rattle.isle_meaning.specs.Needs.{from_on, extract_needs, output_needs, open_needs}
+use Rattle.isle_meaning.specs.Numbered.{At}
 use Rattle.isle_blocks.specs.declared.ids.BindingId.{BindingId}
 use Rattle.isle_blocks.specs.declared.binding.Binding.TheVariants as sites
 use Rattle.isle_blocks.specs.declared.constraint.Constraint.TheVariants as tests

@@ -12,13 +12,13 @@ use Rattle.isle_terms.specs.declared.visit.fault.VisitFault.{VisitFault}
 use Rattle.isle_terms.specs.declared.visit.fault.VisitFault.TheVariants.{Size, Undefined, Memory}
 use Rattle.isle_terms.specs.TypedRules.{TypedRule}
 use Rattle.isle_terms.specs.Definitions.{declared_by}
-use Rattle.isle_terms.specs.Meaning.Facts.{facts_of}
-use Rattle.isle_terms.specs.Meaning.Needs.{needs_of, IsNeeded}
-use Rattle.isle_terms.specs.Meaning.Numbered.{Row, At}
-use Rattle.isle_terms.specs.Meaning.Sites.{Site}
+use Rattle.isle_meaning.specs.Facts.{facts_of}
+use Rattle.isle_meaning.specs.Needs.{needs_of, IsNeeded}
+use Rattle.isle_meaning.specs.Numbered.{Row, At}
+use Rattle.isle_meaning.specs.Sites.{Site}
 use Rattle.isle_terms.specs.Collecting.Environments.{ShowsTerms}
 use Rattle.isle_terms.specs.Shown.TermTables.{TermTables}
-use Rattle.isle_terms.proofs.Meaning.Numbering.{one_site}
+use Rattle.isle_meaning.proofs.Matching.Numbering.{one_site}
 use Rattle.isle_blocks.specs.declared.builder.BuiltRule.{BuiltRule}
 use Rattle.isle_blocks.specs.declared.binding.Binding.{Binding}
 use Rattle.isle_blocks.specs.Closure.{Stands}

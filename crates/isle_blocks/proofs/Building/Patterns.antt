@@ -19,12 +19,12 @@ use Rattle.isle_terms.specs.Visits.VisitorCalls.{PatternCall, match_equal, openi
 use Rattle.isle_terms.specs.Visits.InternedTrees.{InternedPattern, InternedPatterns, bind_pattern, var_pattern, bool_pattern, int_pattern}
 use Rattle.isle_terms.specs.Visits.InternedTrees.{prim_pattern, term_pattern, wildcard_pattern, and_pattern, no_patterns, more_patterns}
 use Rattle.isle_terms.specs.Visits.Events.{visits, visits_all, visits_each}
-use Rattle.isle_terms.specs.Meaning.Facts.{TermFacts, patterns}
-use Rattle.isle_terms.specs.Meaning.Words.{set}
-use Rattle.isle_terms.specs.Meaning.Sites.{Site}
-use Rattle.isle_terms.specs.Meaning.Demands.{Demand, constrained, equal, opens, parts, bound, bound_all, demands, demands_all}
-use Rattle.isle_terms.specs.Meaning.Needs.{open_needs, needs, needs_all}
-use Rattle.isle_terms.specs.Meaning.Numbered.{Row, At}
+use Rattle.isle_meaning.specs.Facts.{TermFacts, patterns}
+use Rattle.isle_meaning.specs.Words.{set}
+use Rattle.isle_meaning.specs.Sites.{Site}
+use Rattle.isle_meaning.specs.Demands.{Demand, constrained, equal, opens, parts, bound, bound_all, demands, demands_all}
+use Rattle.isle_meaning.specs.Needs.{open_needs, needs, needs_all}
+use Rattle.isle_meaning.specs.Numbered.{Row, At}
 use Rattle.isle_blocks.specs.declared.ids.BindingId.{BindingId}
 use Rattle.isle_blocks.specs.declared.constraint.Constraint.{Constraint}
 use Rattle.isle_blocks.specs.declared.constraint.Constraint.TheVariants as tests

@@ -16,11 +16,11 @@ use Rattle.isle_terms.specs.Visits.InternedTrees.{listed_patterns, pattern_of}
 use Rattle.isle_terms.specs.Visits.Events.{visits}
 use Rattle.isle_terms.specs.Visits.RuleSteps.{in_pattern}
 use Rattle.isle_terms.specs.Visits.RuleEvents.{visits_vars, visits_args}
-use Rattle.isle_terms.specs.Meaning.Facts.{TermFacts}
-use Rattle.isle_terms.specs.Meaning.Sites.{Site, argument}
-use Rattle.isle_terms.specs.Meaning.Demands.{bound, bound_all, demands, demands_all}
-use Rattle.isle_terms.specs.Meaning.Needs.{needs, args_needs}
-use Rattle.isle_terms.specs.Meaning.Numbered.{Row}
+use Rattle.isle_meaning.specs.Facts.{TermFacts}
+use Rattle.isle_meaning.specs.Sites.{Site, argument}
+use Rattle.isle_meaning.specs.Demands.{bound, bound_all, demands, demands_all}
+use Rattle.isle_meaning.specs.Needs.{needs, args_needs}
+use Rattle.isle_meaning.specs.Numbered.{Row}
 use Rattle.isle_blocks.specs.declared.ids.BindingId.{BindingId}
 use Rattle.isle_blocks.specs.declared.binding.Binding.TheVariants as sites
 use Rattle.isle_blocks.specs.Rows.{IsInjective, rows_of}

@@ -11,12 +11,12 @@ use Rattle.isle_terms.specs.Visits.Runs.{in_turn, on_some, stuck}
 use Rattle.isle_terms.specs.Visits.VisitScopes.{no_values}
 use Rattle.isle_terms.specs.Visits.InternedTrees.{listed_patterns, pattern_of, expr_of}
 use Rattle.isle_terms.specs.Visits.RuleEvents.{visits_args, visits_rest}
-use Rattle.isle_terms.specs.Meaning.Facts.{TermFacts, facts_of}
-use Rattle.isle_terms.specs.Meaning.Sites.{Site, argument}
-use Rattle.isle_terms.specs.Meaning.Demands.{Demand, nothing, demands_all, iflets_demands, args_bound, vars_of}
-use Rattle.isle_terms.specs.Meaning.Needs.{no_log, visit, args_needs, iflets_needs, needs_of}
-use Rattle.isle_terms.specs.Meaning.Numbered.{Row, At, AreRecorded}
-use Rattle.isle_terms.proofs.Meaning.Visited.{visit_is_written}
+use Rattle.isle_meaning.specs.Facts.{TermFacts, facts_of}
+use Rattle.isle_meaning.specs.Sites.{Site, argument}
+use Rattle.isle_meaning.specs.Demands.{Demand, nothing, demands_all, iflets_demands, args_bound, vars_of}
+use Rattle.isle_meaning.specs.Needs.{no_log, visit, args_needs, iflets_needs, needs_of}
+use Rattle.isle_meaning.specs.Numbered.{Row, At, AreRecorded}
+use Rattle.isle_meaning.proofs.Matching.Visited.{visit_is_written}
 use Rattle.isle_blocks.specs.declared.ids.BindingId.{BindingId}
 use Rattle.isle_blocks.specs.declared.constraint.Constraint.{Constraint}
 use Rattle.isle_blocks.specs.Rows.{IsInjective, rows_of, constraints_of, pairs_of}

@@ -5,12 +5,12 @@ use Rattle.std.proofs.lemmas.Option.{slice_get-map, slice_get_within}
 use Rattle.std.specs.Option.{option_map}
 use Rattle.isle_types.proofs.RootedTables.{Contains-map}
 use Rattle.isle_types.specs.declared.ids.Sym.{Sym}
-use Rattle.isle_terms.specs.Meaning.Sites.{Site, bool_site, int_site, prim_site, argument, extractor_call, constructor_call, iterator}
-use Rattle.isle_terms.specs.Meaning.Sites.{make_variant, match_variant, make_struct, extract_struct, make_some, match_some, match_tuple}
-use Rattle.isle_terms.specs.Meaning.Sites.{Sites, no_sites, more_sites}
-use Rattle.isle_terms.specs.Meaning.Numbered.{Row, bool_row, int_row, prim_row, argument_row, extractor_row, constructor_row, iterator_row}
-use Rattle.isle_terms.specs.Meaning.Numbered.{make_variant_row, match_variant_row, make_struct_row, extract_struct_row, make_some_row}
-use Rattle.isle_terms.specs.Meaning.Numbered.{match_some_row, match_tuple_row, At, AtAll}
+use Rattle.isle_meaning.specs.Sites.{Site, bool_site, int_site, prim_site, argument, extractor_call, constructor_call, iterator}
+use Rattle.isle_meaning.specs.Sites.{make_variant, match_variant, make_struct, extract_struct, make_some, match_some, match_tuple}
+use Rattle.isle_meaning.specs.Sites.{Sites, no_sites, more_sites}
+use Rattle.isle_meaning.specs.Numbered.{Row, bool_row, int_row, prim_row, argument_row, extractor_row, constructor_row, iterator_row}
+use Rattle.isle_meaning.specs.Numbered.{make_variant_row, match_variant_row, make_struct_row, extract_struct_row, make_some_row}
+use Rattle.isle_meaning.specs.Numbered.{match_some_row, match_tuple_row, At, AtAll}
 use Rattle.isle_blocks.specs.declared.ids.BindingId.{BindingId}
 use Rattle.isle_blocks.specs.declared.binding.Binding.{Binding}
 use Rattle.isle_blocks.specs.Bindings.{sources_of}

@@ -3,11 +3,11 @@ use Rattle.std.proofs.Common.{◌≡◌, ◌≢◌, ◌+◌, ◌⊎◌, ℕ, zer
 use Rattle.std.proofs.Common.{subst, inl, inr, append_assoc, add-one, arith}
 use Rattle.std.proofs.lemmas.List.{append-nil, map-append}
 use Rattle.isle_types.specs.declared.ids.Sym.{Sym}
-use Rattle.isle_terms.specs.Meaning.Sites.{Site, iterator, match_some, match_tuple, extract_site, output}
-use Rattle.isle_terms.specs.Meaning.Demands as meaning
-use Rattle.isle_terms.specs.Meaning.Demands.{Demand, constrained, equal, Among, extractor_demands}
-use Rattle.isle_terms.specs.Meaning.Needs.{from_on, extract_needs, output_needs}
-use Rattle.isle_terms.specs.Meaning.Numbered.{Row, At, AreRecorded}
+use Rattle.isle_meaning.specs.Sites.{Site, iterator, match_some, match_tuple, extract_site, output}
+use Rattle.isle_meaning.specs.Demands as meaning
+use Rattle.isle_meaning.specs.Demands.{Demand, constrained, equal, Among, extractor_demands}
+use Rattle.isle_meaning.specs.Needs.{from_on, extract_needs, output_needs}
+use Rattle.isle_meaning.specs.Numbered.{Row, At, AreRecorded}
 use Rattle.isle_blocks.specs.declared.ids.BindingId.{BindingId}
 use Rattle.isle_blocks.specs.declared.binding.Binding.{Binding}
 use Rattle.isle_blocks.specs.declared.binding.Binding.TheVariants as sites

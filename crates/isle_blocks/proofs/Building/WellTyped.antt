@@ -14,9 +14,9 @@ use Rattle.isle_terms.specs.Signatures.{Flags, Signature, Declared, flags_of}
 use Rattle.isle_terms.specs.Elaboration.{on_lhs}
 use Rattle.isle_terms.specs.SoundRules.WellTyped.{same_for_each, IsTypedPattern, AreTypedPatterns, IsTypedExpr, AreTypedExprs, AreTypedBindings}
 use Rattle.isle_terms.specs.SoundRules.WellTyped.{AreTypedIfLets}
-use Rattle.isle_terms.specs.Meaning.Facts.{TermShape, variant_shape, struct_shape, declared_shape, patterns, no_term, term_at, facts_of}
-use Rattle.isle_terms.specs.Meaning.Facts.{shape_of_form, never_fails}
-use Rattle.isle_terms.specs.Meaning.Words.{Word, var_word, Words, Step, set, flat, flat_all, flat_lets, apply}
+use Rattle.isle_meaning.specs.Facts.{TermShape, variant_shape, struct_shape, declared_shape, patterns, no_term, term_at, facts_of}
+use Rattle.isle_meaning.specs.Facts.{shape_of_form, never_fails}
+use Rattle.isle_meaning.specs.Words.{Word, var_word, Words, Step, set, flat, flat_all, flat_lets, apply}
 use Rattle.isle_blocks.specs.Building.Named.{AreKnownTerms, IsFilled, AreFilled, IfLetsAreFilled, CallNothingImpure}
 
 first_true : (a b : Bool) → (a && b) ≡ true → a ≡ true

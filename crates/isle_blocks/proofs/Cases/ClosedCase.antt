@@ -4,11 +4,11 @@ use Rattle.std.specs.Prelude.{IsTrue}
 use Rattle.std.specs.List.{All, IsDistinct}
 use Rattle.isle_types.specs.JoinedSets.{AreDisjoint, are_joined, members}
 use Rattle.isle_types.specs.declared.ids.Sym.{Sym}
-use Rattle.isle_terms.specs.Meaning.Sites.{Site, argument}
-use Rattle.isle_terms.specs.Meaning.Demands.{Demand, constrained, equal, Among}
-use Rattle.isle_terms.specs.Meaning.Demands as meaning
-use Rattle.isle_terms.specs.Meaning.Derived.{Derived, Closed, demanded, flipped, chained, shared, like_variant, like_struct}
-use Rattle.isle_terms.specs.Meaning.Numbered.{Row, At, argument_row}
+use Rattle.isle_meaning.specs.Sites.{Site, argument}
+use Rattle.isle_meaning.specs.Demands.{Demand, constrained, equal, Among}
+use Rattle.isle_meaning.specs.Demands as meaning
+use Rattle.isle_meaning.specs.Derived.{Derived, Closed, demanded, flipped, chained, shared, like_variant, like_struct}
+use Rattle.isle_meaning.specs.Numbered.{Row, At, argument_row}
 use Rattle.isle_blocks.specs.declared.ids.BindingId.{BindingId}
 use Rattle.isle_blocks.specs.ClosedRules.{AreDerived, AreLeftEqual, same_site}
 use Rattle.isle_blocks.proofs.ClosedEqualities.{in_one}

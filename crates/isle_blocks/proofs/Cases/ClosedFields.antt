@@ -3,12 +3,12 @@ use Rattle.std.proofs.Common.{◌≡◌, ◌<◌, ◌≤◌, inl, inr, ℕ, zero
 use Rattle.std.proofs.Common.{slice_index_or, refl, sym, ap, subst, ◌∙◌, arith}
 use Rattle.isle_types.proofs.Lists.{slice_get-kept}
 use Rattle.isle_types.specs.declared.ids.Sym.{Sym}
-use Rattle.isle_terms.specs.Meaning.Sites.{Site, argument, match_variant}
-use Rattle.isle_terms.specs.Meaning.Demands.{constrained, equal}
-use Rattle.isle_terms.specs.Meaning.Demands as meaning
-use Rattle.isle_terms.specs.Meaning.Derived.{Derived, AreEqual, FieldOf, of_variant}
-use Rattle.isle_terms.specs.Meaning.Numbered.{Row, argument_row, match_variant_row, At}
-use Rattle.isle_terms.proofs.Meaning.Numbering.{one_site}
+use Rattle.isle_meaning.specs.Sites.{Site, argument, match_variant}
+use Rattle.isle_meaning.specs.Demands.{constrained, equal}
+use Rattle.isle_meaning.specs.Demands as meaning
+use Rattle.isle_meaning.specs.Derived.{Derived, AreEqual, FieldOf, of_variant}
+use Rattle.isle_meaning.specs.Numbered.{Row, argument_row, match_variant_row, At}
+use Rattle.isle_meaning.proofs.Matching.Numbering.{one_site}
 use Rattle.isle_blocks.specs.declared.binding.Binding.{Binding}
 use Rattle.isle_blocks.specs.declared.constraint.Constraint.{Constraint}
 use Rattle.isle_blocks.specs.declared.ids.BindingId.{BindingId}

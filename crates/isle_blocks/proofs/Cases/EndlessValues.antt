@@ -5,11 +5,11 @@ use Rattle.isle_types.specs.Environment.{NamedType, no_fields, named_fields, enu
 use Rattle.isle_terms.specs.TypedRules.{TypedPattern, typed_bind, typed_var, typed_term, typed_wildcard, typed_and, no_typed, more_typed, built_int}
 use Rattle.isle_terms.specs.TypedRules.{TypedRule}
 use Rattle.isle_terms.specs.Signatures.{by_rules, variant_form, declared_form, Declared}
-use Rattle.isle_terms.specs.Meaning.Facts.{TermFacts, facts_of}
-use Rattle.isle_terms.specs.Meaning.Sites.{Site, argument, match_variant}
-use Rattle.isle_terms.specs.Meaning.Demands.{Demand, constrained, equal, variant_constraint, demands_of, Among}
-use Rattle.isle_terms.specs.Meaning.Demands as meaning
-use Rattle.isle_terms.specs.Meaning.Derived.{Derived, demanded, flipped, chained, shared, like_variant, like_struct, of_variant, directly, further_in}
+use Rattle.isle_meaning.specs.Facts.{TermFacts, facts_of}
+use Rattle.isle_meaning.specs.Sites.{Site, argument, match_variant}
+use Rattle.isle_meaning.specs.Demands.{Demand, constrained, equal, variant_constraint, demands_of, Among}
+use Rattle.isle_meaning.specs.Demands as meaning
+use Rattle.isle_meaning.specs.Derived.{Derived, demanded, flipped, chained, shared, like_variant, like_struct, of_variant, directly, further_in}
 use Rattle.isle_blocks.specs.declared.binding.Binding.{Binding}
 use Rattle.isle_blocks.specs.declared.binding.Binding.TheVariants as sites
 use Rattle.isle_blocks.specs.declared.constraint.Constraint.{Constraint}

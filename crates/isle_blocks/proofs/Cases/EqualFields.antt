@@ -1,12 +1,12 @@
 -- What follows from the rule (f x @ (A.V _ _) x): its arguments are equal, and so are their fields.
 use Rattle.std.proofs.Common.{◌≡◌, ◌<◌, inl, inr, ℕ, zero, suc, List, [], ◌∷◌, refl, sym, ap, subst, ◌∙◌, arith}
-use Rattle.isle_terms.specs.Meaning.Sites.{Site, argument, match_variant}
-use Rattle.isle_terms.specs.Meaning.Demands.{Demand, constrained, equal, variant_constraint, struct_constraint, Among}
-use Rattle.isle_terms.specs.Meaning.Demands as meaning
-use Rattle.isle_terms.specs.Meaning.Derived.{Derived, demanded, flipped, chained, shared, like_variant, like_struct, AreEqual}
-use Rattle.isle_terms.specs.Meaning.Derived.{FieldOf, of_variant, of_struct, Inside, directly, further_in}
-use Rattle.isle_terms.specs.Meaning.Faults.{IsUnreachable}
-use Rattle.isle_terms.specs.Meaning.Numbered.{Row, argument_row, match_variant_row}
+use Rattle.isle_meaning.specs.Sites.{Site, argument, match_variant}
+use Rattle.isle_meaning.specs.Demands.{Demand, constrained, equal, variant_constraint, struct_constraint, Among}
+use Rattle.isle_meaning.specs.Demands as meaning
+use Rattle.isle_meaning.specs.Derived.{Derived, demanded, flipped, chained, shared, like_variant, like_struct, AreEqual}
+use Rattle.isle_meaning.specs.Derived.{FieldOf, of_variant, of_struct, Inside, directly, further_in}
+use Rattle.isle_meaning.specs.Faults.{IsUnreachable}
+use Rattle.isle_meaning.specs.Numbered.{Row, argument_row, match_variant_row}
 use Rattle.isle_blocks.specs.Closure.{Stands}
 use Rattle.isle_blocks.proofs.Cases.MissingFields.{wanted}
 

@@ -6,10 +6,10 @@ use Rattle.isle_syntax.specs.declared.lexer.Pos.{Pos}
 use Rattle.isle_types.specs.Environment.{NamedType, no_fields, named_fields, enum}
 use Rattle.isle_terms.specs.TypedRules.{typed_bind, typed_var, typed_term, typed_wildcard, no_typed, more_typed, built_int, TypedRule}
 use Rattle.isle_terms.specs.Signatures.{by_rules, variant_form, declared_form, Declared}
-use Rattle.isle_terms.specs.Meaning.Facts.{TermFacts, facts_of}
-use Rattle.isle_terms.specs.Meaning.Sites.{argument, match_variant}
-use Rattle.isle_terms.specs.Meaning.Needs.{args_needs}
-use Rattle.isle_terms.specs.Meaning.Demands.{Demand, constrained, equal, variant_constraint, demands_of}
+use Rattle.isle_meaning.specs.Facts.{TermFacts, facts_of}
+use Rattle.isle_meaning.specs.Sites.{argument, match_variant}
+use Rattle.isle_meaning.specs.Needs.{args_needs}
+use Rattle.isle_meaning.specs.Demands.{Demand, constrained, equal, variant_constraint, demands_of}
 use Rattle.isle_types.proofs.Lists.{slice_get-kept}
 use Rattle.isle_blocks.specs.declared.binding.Binding.{Binding}
 use Rattle.isle_blocks.specs.declared.binding.Binding.TheVariants as sites

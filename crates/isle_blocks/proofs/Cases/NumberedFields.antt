@@ -2,10 +2,10 @@
 use Rattle.std.proofs.Common.{◌≡◌, ◌<◌, ◌≤◌, ◌+◌, inl, inr, ℕ, zero, suc, pos, false, List, [], ◌∷◌, length, refl, sym, subst, arith}
 use Rattle.std.proofs.lemmas.List.{length_push}
 use Rattle.isle_types.proofs.Lists.{slice_get-kept}
-use Rattle.isle_terms.specs.Meaning.Sites.{Site, argument, int_site, match_variant}
-use Rattle.isle_terms.specs.Meaning.Numbered.{Row, argument_row, int_row, match_variant_row, At}
-use Rattle.isle_terms.specs.Meaning.Derived.{FieldOf, of_variant}
-use Rattle.isle_terms.specs.Meaning.Laws.{DemandOf}
+use Rattle.isle_meaning.specs.Sites.{Site, argument, int_site, match_variant}
+use Rattle.isle_meaning.specs.Numbered.{Row, argument_row, int_row, match_variant_row, At}
+use Rattle.isle_meaning.specs.Derived.{FieldOf, of_variant}
+use Rattle.isle_meaning.specs.Laws.Matching.{DemandOf}
 use Rattle.isle_blocks.specs.Closure.{Stands}
 use Rattle.isle_blocks.proofs.Cases.EqualFields.{IsOf, tested, fielded}
 use Rattle.isle_blocks.specs.AddedRules.{needs_in_order}

@@ -9,9 +9,9 @@ use Rattle.isle_syntax.specs.declared.lexer.Pos.{Pos}
 use Rattle.isle_syntax.specs.declared.error.Error.{Error}
 use Rattle.isle_syntax.specs.declared.error.Error.TheVariants.{OverlapError}
 use Rattle.isle_terms.specs.TypedRules.{TypedRule, typed_wildcard}
-use Rattle.isle_terms.specs.Meaning.Facts.{TermFacts}
-use Rattle.isle_terms.specs.Meaning.Demands.{Demand, Among}
-use Rattle.isle_terms.specs.Meaning.Derived.{Derived, demanded, flipped, chained, shared, like_variant, like_struct}
+use Rattle.isle_meaning.specs.Facts.{TermFacts}
+use Rattle.isle_meaning.specs.Demands.{Demand, Among}
+use Rattle.isle_meaning.specs.Derived.{Derived, demanded, flipped, chained, shared, like_variant, like_struct}
 use Rattle.isle_blocks.specs.declared.faults.Fault.TheVariants.{Overlap}
 use Rattle.isle_blocks.specs.declared.report.RulePlace.{RulePlace}
 use Rattle.isle_blocks.specs.declared.report.Group.{Group}

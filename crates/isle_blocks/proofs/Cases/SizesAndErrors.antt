@@ -9,10 +9,10 @@ use Rattle.isle_syntax.specs.declared.error.Error.{Error}
 use Rattle.isle_syntax.specs.declared.error.Error.TheVariants.{SizeError, UnreachableError}
 use Rattle.isle_types.specs.TypeFaults.{IsSizeFault}
 use Rattle.isle_terms.specs.TypedRules.{TypedPattern, typed_int, typed_and, no_typed, more_typed, built_int, TypedRule}
-use Rattle.isle_terms.specs.Meaning.Facts.{TermFacts}
-use Rattle.isle_terms.specs.Meaning.Sites.{argument}
-use Rattle.isle_terms.specs.Meaning.Demands.{Demand, constrained, int_constraint, Among}
-use Rattle.isle_terms.specs.Meaning.Derived.{Derived, demanded, flipped, chained, shared, like_variant, like_struct}
+use Rattle.isle_meaning.specs.Facts.{TermFacts}
+use Rattle.isle_meaning.specs.Sites.{argument}
+use Rattle.isle_meaning.specs.Demands.{Demand, constrained, int_constraint, Among}
+use Rattle.isle_meaning.specs.Derived.{Derived, demanded, flipped, chained, shared, like_variant, like_struct}
 use Rattle.isle_blocks.specs.DefinedSets.{ListsNumbers}
 use Rattle.isle_blocks.specs.RuleFaults.{NeverMatches, MayMatch, TellUnreachable, no_rules_told, one_may_match, one_never_matches}
 use Rattle.isle_blocks.specs.RuleFaults.{IsOneSizeFault, size_error_at, unreachable_error}

@@ -2,9 +2,9 @@
 use Rattle.std.proofs.Common.{◌≡◌, ◌++◌, inl, inr, ℕ, List, [], ◌∷◌, Some, slice_get, pos, refl, sym, ap, subst}
 use Rattle.isle_types.proofs.Lists.{slice_get-kept}
 use Rattle.isle_terms.specs.TypedRules.{TypedRule}
-use Rattle.isle_terms.specs.Meaning.Sites.{Site, argument}
-use Rattle.isle_terms.specs.Meaning.Numbered.{Row, argument_row, int_row, make_some_row}
-use Rattle.isle_terms.specs.Meaning.Laws.{DemandOf}
+use Rattle.isle_meaning.specs.Sites.{Site, argument}
+use Rattle.isle_meaning.specs.Numbered.{Row, argument_row, int_row, make_some_row}
+use Rattle.isle_meaning.specs.Laws.Matching.{DemandOf}
 use Rattle.isle_blocks.specs.AddedRules.{needs_in_order}
 use Rattle.isle_blocks.specs.Building.Standing.{Adds, begin, next, IsEntryOf, IsPut, NumbersBehind}
 use Rattle.isle_blocks.specs.DefinedSets.{AreNumberedInOrder, none_numbered, rule_numbered}

@@ -3,10 +3,10 @@ use Rattle.std.proofs.Common.{◌≡◌, ℕ, zero, suc, List, [], ◌∷◌, ma
 use Rattle.std.specs.Prelude.{Contains}
 use Rattle.isle_types.proofs.RootedTables.{Contains-map}
 use Rattle.isle_types.specs.declared.ids.Sym.{Sym}
-use Rattle.isle_terms.specs.Meaning.Sites.{Site}
-use Rattle.isle_terms.specs.Meaning.Demands as meaning
-use Rattle.isle_terms.specs.Meaning.Demands.{constrained}
-use Rattle.isle_terms.specs.Meaning.Numbered.{At}
+use Rattle.isle_meaning.specs.Sites.{Site}
+use Rattle.isle_meaning.specs.Demands as meaning
+use Rattle.isle_meaning.specs.Demands.{constrained}
+use Rattle.isle_meaning.specs.Numbered.{At}
 use Rattle.isle_blocks.specs.declared.ids.BindingId.{BindingId}
 use Rattle.isle_blocks.specs.declared.binding.Binding.{Binding}
 use Rattle.isle_blocks.specs.declared.constraint.Constraint.{Constraint}

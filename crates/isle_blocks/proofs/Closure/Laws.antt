@@ -1,12 +1,12 @@
 -- The closure of demands says the same as they do.
-use Rattle.isle_terms.specs.Meaning.Values.{Got}
-use Rattle.isle_terms.specs.Meaning.Sites.{Site}
-use Rattle.isle_terms.specs.Meaning.Held.{Held}
-use Rattle.isle_terms.specs.Meaning.Demands.{Demand, constrained, equal, Among}
-use Rattle.isle_terms.specs.Meaning.Holds.{Holds, Respects}
-use Rattle.isle_terms.specs.Meaning.Derived.{Closed}
-use Rattle.isle_terms.proofs.Meaning.Closing.{derived_holds, is_reachable, from_closed}
-use Rattle.isle_terms.proofs.Meaning.Sorting.{among, each_of}
+use Rattle.isle_meaning.specs.Values.{Got}
+use Rattle.isle_meaning.specs.Sites.{Site}
+use Rattle.isle_meaning.specs.Held.{Held}
+use Rattle.isle_meaning.specs.Demands.{Demand, constrained, equal, Among}
+use Rattle.isle_meaning.specs.Holds.{Holds, Respects}
+use Rattle.isle_meaning.specs.Derived.{Closed}
+use Rattle.isle_meaning.proofs.Matching.Closing.{derived_holds, is_reachable, from_closed}
+use Rattle.isle_meaning.proofs.Matching.Sorting.{among, each_of}
 use Rattle.isle_blocks.specs.ClosureLaws.{ClosureSaysTheSame, UnreachableNeverHolds}
 
 closed_holds : (val : Site → Got Held) → Respects val → (D : Demand → Type 0) → ((d : Demand) → D d → Holds val d) → (d : Demand) → Closed D d → Holds val d

@@ -1,11 +1,11 @@
 -- Sites keep their numbers in a longer table.
 use Rattle.std.proofs.Common.{◌≡◌, ◌<◌, ℕ, List, [], ◌∷◌, length, Some, slice_get, subst}
 use Rattle.isle_types.specs.declared.ids.Sym.{Sym}
-use Rattle.isle_terms.specs.Meaning.Sites.{Site, bool_site, int_site, prim_site, argument, extractor_call, constructor_call, iterator}
-use Rattle.isle_terms.specs.Meaning.Sites.{make_variant, match_variant, make_struct, extract_struct, make_some, match_some, match_tuple}
-use Rattle.isle_terms.specs.Meaning.Sites.{Sites, no_sites, more_sites}
-use Rattle.isle_terms.specs.Meaning.Numbered.{Row, At, AtAll}
-use Rattle.isle_terms.proofs.Meaning.Numbering.{one_site}
+use Rattle.isle_meaning.specs.Sites.{Site, bool_site, int_site, prim_site, argument, extractor_call, constructor_call, iterator}
+use Rattle.isle_meaning.specs.Sites.{make_variant, match_variant, make_struct, extract_struct, make_some, match_some, match_tuple}
+use Rattle.isle_meaning.specs.Sites.{Sites, no_sites, more_sites}
+use Rattle.isle_meaning.specs.Numbered.{Row, At, AtAll}
+use Rattle.isle_meaning.proofs.Matching.Numbering.{one_site}
 use Rattle.isle_blocks.specs.declared.binding.Binding.{Binding}
 use Rattle.isle_blocks.specs.Rows.{rows_of}
 use Rattle.isle_blocks.specs.ClosureFields.{IsTable}

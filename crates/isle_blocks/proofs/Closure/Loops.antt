@@ -6,12 +6,12 @@ use Rattle.std.proofs.lemmas.Bool.{cases_eq, false≢true, eq-eqb}
 use Rattle.std.proofs.lemmas.Bool.Decides.{eqb_tells}
 use Rattle.std.proofs.lemmas.Option.{slice_get_within}
 use Rattle.isle_types.specs.declared.ids.Sym.{Sym}
-use Rattle.isle_terms.specs.Meaning.Sites.{Site, bool_site, int_site, prim_site, argument, extractor_call, constructor_call, iterator}
-use Rattle.isle_terms.specs.Meaning.Sites.{make_variant, match_variant, make_struct, extract_struct, make_some, match_some, match_tuple}
-use Rattle.isle_terms.specs.Meaning.Demands.{Demand, constrained}
-use Rattle.isle_terms.specs.Meaning.Derived.{Derived, demanded, flipped, AreEqual, FieldOf, of_variant, of_struct, Inside, directly, further_in}
-use Rattle.isle_terms.specs.Meaning.Faults.{Endless}
-use Rattle.isle_terms.specs.Meaning.Numbered.{At}
+use Rattle.isle_meaning.specs.Sites.{Site, bool_site, int_site, prim_site, argument, extractor_call, constructor_call, iterator}
+use Rattle.isle_meaning.specs.Sites.{make_variant, match_variant, make_struct, extract_struct, make_some, match_some, match_tuple}
+use Rattle.isle_meaning.specs.Demands.{Demand, constrained}
+use Rattle.isle_meaning.specs.Derived.{Derived, demanded, flipped, AreEqual, FieldOf, of_variant, of_struct, Inside, directly, further_in}
+use Rattle.isle_meaning.specs.Faults.{Endless}
+use Rattle.isle_meaning.specs.Numbered.{At}
 use Rattle.isle_blocks.specs.declared.binding.Binding.{Binding}
 use Rattle.isle_blocks.specs.declared.constraint.Constraint.{Constraint}
 use Rattle.isle_blocks.specs.Rows.{rows_of, test_of}

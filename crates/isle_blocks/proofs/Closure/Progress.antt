@@ -3,11 +3,11 @@ use Rattle.std.proofs.Common.{◌≡◌, ◌≢◌, ◌<◌, ◌⊎◌, inl, inr
 use Rattle.std.specs.Prelude.{Contains}
 use Rattle.std.proofs.lemmas.Option.{slice_get_within}
 use Rattle.std.proofs.lemmas.List.{get_or_default}
-use Rattle.isle_terms.specs.Meaning.Demands.{constrained}
-use Rattle.isle_terms.specs.Meaning.Derived.{Derived, demanded, AreEqual}
-use Rattle.isle_terms.specs.Meaning.Faults.{Conflict}
-use Rattle.isle_terms.specs.Meaning.Numbered.{At}
-use Rattle.isle_terms.proofs.Meaning.Numbering.{one_site}
+use Rattle.isle_meaning.specs.Demands.{constrained}
+use Rattle.isle_meaning.specs.Derived.{Derived, demanded, AreEqual}
+use Rattle.isle_meaning.specs.Faults.{Conflict}
+use Rattle.isle_meaning.specs.Numbered.{At}
+use Rattle.isle_meaning.proofs.Matching.Numbering.{one_site}
 use Rattle.isle_blocks.specs.declared.binding.Binding.{Binding}
 use Rattle.isle_blocks.specs.declared.constraint.Constraint.{Constraint}
 use Rattle.isle_blocks.specs.Rows.{rows_of, test_of}

@@ -5,13 +5,13 @@ use Rattle.isle_types.specs.Names.{AreDistinct}
 use Rattle.isle_types.proofs.RootedTables.{Contains-map}
 use Rattle.isle_types.specs.declared.ids.Sym.{Sym}
 use Rattle.isle_terms.specs.TypedRules.{TypedRule}
-use Rattle.isle_terms.specs.Meaning.Facts.{TermFacts}
-use Rattle.isle_terms.specs.Meaning.Sites.{Site}
-use Rattle.isle_terms.specs.Meaning.Demands.{constrained, demands_of}
-use Rattle.isle_terms.specs.Meaning.Laws.{DemandOf}
-use Rattle.isle_terms.specs.Meaning.Needs.{needs_of, IsNeeded, FieldsAreNeeded}
-use Rattle.isle_terms.specs.Meaning.Numbered.{Row, At, AreRecorded}
-use Rattle.isle_terms.proofs.Meaning.Needing.{needs_have_fields}
+use Rattle.isle_meaning.specs.Facts.{TermFacts}
+use Rattle.isle_meaning.specs.Sites.{Site}
+use Rattle.isle_meaning.specs.Demands.{constrained, demands_of}
+use Rattle.isle_meaning.specs.Laws.Matching.{DemandOf}
+use Rattle.isle_meaning.specs.Needs.{needs_of, IsNeeded, FieldsAreNeeded}
+use Rattle.isle_meaning.specs.Numbered.{Row, At, AreRecorded}
+use Rattle.isle_meaning.proofs.Matching.Needing.{needs_have_fields}
 use Rattle.isle_blocks.specs.declared.ids.BindingId.{BindingId}
 use Rattle.isle_blocks.specs.declared.binding.Binding.{Binding}
 use Rattle.isle_blocks.specs.declared.constraint.Constraint.{Constraint}

@@ -2,11 +2,11 @@
 use Rattle.std.proofs.Common.{◌≡◌, ◌<◌, ◌++◌, inl, inr, ℕ, List, [], ◌∷◌, length, get_or, Option, Some, slice_get, ◌∙◌, ap, subst, arith}
 use Rattle.isle_types.proofs.Lists.{slice_get-kept, slice_get-last}
 use Rattle.isle_types.specs.declared.ids.Sym.{Sym}
-use Rattle.isle_terms.specs.Meaning.Sites.{Site}
-use Rattle.isle_terms.specs.Meaning.Demands.{Demand, constrained}
-use Rattle.isle_terms.specs.Meaning.Derived.{demanded, AreEqual}
-use Rattle.isle_terms.specs.Meaning.Numbered.{At}
-use Rattle.isle_terms.proofs.Meaning.Numbering.{one_site}
+use Rattle.isle_meaning.specs.Sites.{Site}
+use Rattle.isle_meaning.specs.Demands.{Demand, constrained}
+use Rattle.isle_meaning.specs.Derived.{demanded, AreEqual}
+use Rattle.isle_meaning.specs.Numbered.{At}
+use Rattle.isle_meaning.proofs.Matching.Numbering.{one_site}
 use Rattle.isle_blocks.specs.declared.binding.Binding.{Binding}
 use Rattle.isle_blocks.specs.declared.constraint.Constraint.{Constraint}
 use Rattle.isle_blocks.specs.Rows.{rows_of, test_of}

@@ -5,13 +5,13 @@ use Rattle.std.proofs.lemmas.Bool.{cases_lt}
 use Rattle.isle_types.proofs.RootedTables.{Contains-map}
 use Rattle.isle_types.proofs.Lists.{slice_get-kept, slice_get-last}
 use Rattle.isle_types.specs.declared.ids.Sym.{Sym}
-use Rattle.isle_terms.specs.Meaning.Sites.{Site}
-use Rattle.isle_terms.specs.Meaning.Demands as meaning
-use Rattle.isle_terms.specs.Meaning.Demands.{Demand, constrained, equal}
-use Rattle.isle_terms.specs.Meaning.Derived.{Derived, demanded, AreEqual, FieldOf}
-use Rattle.isle_terms.specs.Meaning.Faults.{Conflict, IsUnreachable}
-use Rattle.isle_terms.specs.Meaning.Numbered.{Row, At}
-use Rattle.isle_terms.proofs.Meaning.Numbering.{one_site}
+use Rattle.isle_meaning.specs.Sites.{Site}
+use Rattle.isle_meaning.specs.Demands as meaning
+use Rattle.isle_meaning.specs.Demands.{Demand, constrained, equal}
+use Rattle.isle_meaning.specs.Derived.{Derived, demanded, AreEqual, FieldOf}
+use Rattle.isle_meaning.specs.Faults.{Conflict, IsUnreachable}
+use Rattle.isle_meaning.specs.Numbered.{Row, At}
+use Rattle.isle_meaning.proofs.Matching.Numbering.{one_site}
 use Rattle.isle_blocks.specs.declared.ids.BindingId.{BindingId}
 use Rattle.isle_blocks.specs.declared.binding.Binding.{Binding}
 use Rattle.isle_blocks.specs.declared.constraint.Constraint.{Constraint}

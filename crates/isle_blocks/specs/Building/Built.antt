@@ -2,12 +2,12 @@
 use Rattle.std.specs.Prelude.{ℕ, List, []}
 use Rattle.isle_types.specs.declared.ids.Sym.{Sym}
 use Rattle.isle_terms.specs.TypedRules.{TypedRule}
-use Rattle.isle_terms.specs.Meaning.Facts.{TermFacts}
-use Rattle.isle_terms.specs.Meaning.Words.{word_of}
-use Rattle.isle_terms.specs.Meaning.Sites.{site_of}
-use Rattle.isle_terms.specs.Meaning.Demands.{vars_of, demands_of, impure_of}
-use Rattle.isle_terms.specs.Meaning.Needs.{needs_of}
-use Rattle.isle_terms.specs.Meaning.Numbered.{At, AreRecorded}
+use Rattle.isle_meaning.specs.Facts.{TermFacts}
+use Rattle.isle_meaning.specs.Words.{word_of}
+use Rattle.isle_meaning.specs.Sites.{site_of}
+use Rattle.isle_meaning.specs.Demands.{vars_of, demands_of, impure_of}
+use Rattle.isle_meaning.specs.Needs.{needs_of}
+use Rattle.isle_meaning.specs.Numbered.{At, AreRecorded}
 use Rattle.isle_blocks.specs.declared.ids.BindingId.{BindingId}
 use Rattle.isle_blocks.specs.Rows.{rows_of, constraints_of, pairs_of}
 use Rattle.isle_blocks.specs.Building.Gathering.{Gathered}

@@ -15,8 +15,8 @@ use Rattle.isle_terms.specs.Visits.InternedTrees.{prim_pattern, term_pattern, wi
 use Rattle.isle_terms.specs.Visits.InternedTrees.{InternedExpr, InternedExprs, InternedBindings, term_expr, var_expr, bool_expr, int_expr}
 use Rattle.isle_terms.specs.Visits.InternedTrees.{prim_expr, let_expr, no_exprs, more_exprs, no_bindings, more_bindings}
 use Rattle.isle_terms.specs.Visits.InternedTrees.{listed_patterns, pattern_of, expr_of}
-use Rattle.isle_terms.specs.Meaning.Words.{steps_of}
-use Rattle.isle_terms.specs.Meaning.Facts.{TermFacts, patterns, shape_of_form, never_fails}
+use Rattle.isle_meaning.specs.Words.{steps_of}
+use Rattle.isle_meaning.specs.Facts.{TermFacts, patterns, shape_of_form, never_fails}
 
 abbrev mutual
   -- a pattern, where symbols have these names

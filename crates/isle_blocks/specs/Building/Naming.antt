@@ -11,10 +11,10 @@ use Rattle.isle_terms.specs.declared.visit.fault.VisitFault.{VisitFault}
 use Rattle.isle_terms.specs.declared.visit.fault.VisitFault.TheVariants.{Undefined}
 use Rattle.isle_terms.specs.TypedRules.{TypedRule}
 use Rattle.isle_terms.specs.Definitions.{declared_by}
-use Rattle.isle_terms.specs.Meaning.Facts.{TermFacts, facts_of}
-use Rattle.isle_terms.specs.Meaning.Needs.{needs_of, IsNeeded}
-use Rattle.isle_terms.specs.Meaning.Numbered.{Row}
-use Rattle.isle_terms.specs.Meaning.Sites.{Site}
+use Rattle.isle_meaning.specs.Facts.{TermFacts, facts_of}
+use Rattle.isle_meaning.specs.Needs.{needs_of, IsNeeded}
+use Rattle.isle_meaning.specs.Numbered.{Row}
+use Rattle.isle_meaning.specs.Sites.{Site}
 use Rattle.isle_terms.specs.Shown.ShownRules.{greatest}
 use Rattle.isle_terms.specs.Shown.TermTables.{TermTables}
 use Rattle.isle_terms.specs.Collecting.Environments.{ShowsTerms}

@@ -1,6 +1,6 @@
 //! The classes of sites that a rule's demands make equal.
 ghost use Rattle.std.specs.Prelude.{◌≡◌, ◌≢◌, ◌<◌, ◌≤◌, ◌⊎◌, ℕ, List, [], IfOk, IfSome, IfNone, MatchOption, Contains, length, slice_get, slice_index, slice_index_or, vec_len, Option};
-ghost use Rattle.isle_terms.specs.Meaning.Faults.{Conflict};
+ghost use Rattle.isle_meaning.specs.Faults.{Conflict};
 ghost use Rattle.isle_blocks.specs.Rows.{pairs_of};
 ghost use Rattle.isle_blocks.specs.ClosureFields.{IsTable, AreFields, kind_of};
 ghost use Rattle.isle_blocks.specs.ClosureStates.{HasOwn, AreOwn, HasTwo, IsJoined, LackLikeFields, HaveLikeFields, AreLikeFields, IsLike, IsChoice, IsClash, AllPairs, WasPushed};

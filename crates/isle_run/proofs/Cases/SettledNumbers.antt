@@ -6,8 +6,8 @@ use Rattle.std.proofs.lemmas.Int.{fits_signed_from_abs}
 use Rattle.isle_syntax.specs.declared.lexer.Token.TheVariants.{Big as BigToken}
 use Rattle.isle_types.specs.declared.types.IntType.TheVariants.{U128}
 use Rattle.isle_terms.specs.Values.{ValueTree, int_value, big_value, data_value, no_values, more_values}
-use Rattle.isle_terms.specs.Meaning.Facts.{struct_shape}
-use Rattle.isle_terms.specs.Meaning.ValueTypes.{ValueFacts, IsOfType, integer_kind, primitive_kind, data_kind}
+use Rattle.isle_meaning.specs.Facts.{struct_shape}
+use Rattle.isle_meaning.specs.ValueTypes.{ValueFacts, IsOfType, integer_kind, primitive_kind, data_kind}
 use Rattle.isle_run.specs.Values.Settled.{settled, SpellTyped}
 
 -- type 0 is primitive, 1 is `u128`, and 2 has the struct `Pair` with a field of each

@@ -3,7 +3,7 @@ use Rattle.std.proofs.Common.{◌≡◌, [], ◌∷◌, pos, true, refl}
 use Rattle.std.specs.Prelude.{codes}
 use Rattle.isle_syntax.specs.declared.lexer.Token.TheVariants.{LParen, RParen, At, Symbol, Int}
 use Rattle.isle_terms.specs.Values.{ValueTree, bool_value, int_value, const_value, data_value, no_values, more_values}
-use Rattle.isle_run.specs.declared.value.Node.TheVariants.{Int as IntNode, Data}
+use Rattle.isle_run.specs.declared.values.Node.TheVariants.{Int as IntNode, Data}
 use Rattle.isle_run.specs.Values.Nodes.{nodes_of, value_in}
 use Rattle.isle_run.specs.Values.Text.{value_text}
 use Rattle.isle_run.specs.Values.Tokens.{tokens_of}

@@ -3,7 +3,7 @@ use Rattle.std.proofs.Common.{◌≡◌, [], ◌∷◌, pos, Some, None, refl}
 use Rattle.std.specs.Prelude.{codes}
 use Rattle.isle_syntax.specs.declared.lexer.Token.TheVariants.{LParen, RParen, Symbol, Int}
 use Rattle.isle_terms.specs.Values.{int_value, no_values, more_values}
-use Rattle.isle_run.specs.declared.world.entry.Side.TheVariants.{Constructor, Extractor}
+use Rattle.isle_run.specs.declared.worlds.entry.Side.TheVariants.{Constructor, Extractor}
 use Rattle.isle_run.specs.Worlds.Entries.{EntryTree, entry_tokens}
 
 abbrev of_one : EntryTree

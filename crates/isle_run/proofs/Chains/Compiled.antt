@@ -1,6 +1,5 @@
 -- Calls of a compiled program have one meaning.
-use Rattle.std.proofs.Common.{◌≡◌, inl, inr, ◌<◌, ℕ, List, Bool, true, false, Option, Some, None, slice_get}
-use Rattle.std.proofs.Common.{refl, sym, ◌∙◌, ap, subst}
+use Rattle.std.proofs.Common.{◌≡◌, inl, inr, ◌<◌, ℕ, List, Bool, true, false, Option, Some, None, slice_get, refl, sym, ◌∙◌, ap, subst}
 use Rattle.std.specs.Prelude.{unwrap_or}
 use Rattle.std.specs.Option.{option_map, option_map_or}
 use Rattle.std.proofs.lemmas.Bool.{or_parts}
@@ -15,28 +14,28 @@ use Rattle.isle_terms.specs.Signatures.{Signature, flags_of}
 use Rattle.isle_terms.specs.Shown.ShownTerms.{term_shown, form_shown}
 use Rattle.isle_terms.specs.SoundRules.WellTyped.{IsTypedRule}
 use Rattle.isle_terms.specs.TypedRules.{TypedRule}
-use Rattle.isle_terms.specs.Meaning.Demands.{Demand}
-use Rattle.isle_terms.specs.Meaning.Facts.{TermFacts, no_term}
-use Rattle.isle_terms.specs.Meaning.Faults.{MayOverlap, Overlaps}
-use Rattle.isle_terms.specs.Meaning.Laws.{DemandOf}
-use Rattle.isle_terms.specs.Meaning.Worlds.{CheckedProgram}
+use Rattle.isle_meaning.specs.Demands.{Demand}
+use Rattle.isle_meaning.specs.Facts.{TermFacts, no_term}
+use Rattle.isle_meaning.specs.Faults.{MayOverlap, Overlaps}
+use Rattle.isle_meaning.specs.Laws.Matching.{DemandOf}
+use Rattle.isle_meaning.specs.Worlds.{CheckedProgram}
 use Rattle.isle_terms.proofs.Sound.RuleTypes.{rules_typed}
 use Rattle.isle_blocks.specs.RivalLists.{is_multi_kind, is_multi_in}
 use Rattle.isle_blocks.specs.RuleFaults.{AreFaultless, MayMatch}
 use Rattle.isle_run.specs.declared.program.Program.{Program}
-use Rattle.isle_run.specs.Laws.Calls.{HasNoOverlaps, HasNoTies, CallsOnly, FailsWherePartial, ExprCalls}
+use Rattle.isle_meaning.specs.Laws.Calls.{HasNoOverlaps, HasNoTies, CallsOnly, FailsWherePartial, ExprCalls}
 use Rattle.isle_run.specs.Compiled.{IsProgramOf, max_levels, max_nodes}
 use Rattle.isle_run.specs.Laws.Compiled.{every_term, FaultlessRulesHaveNoTies, CompiledMeaningsAreOne}
 use Rattle.isle_run.specs.Meanings.{checked}
 use Rattle.isle_run.specs.Programs.{types_of, terms_of}
-use Rattle.isle_run.specs.DefinedPrograms.{defined_program}
+use Rattle.isle_meaning.specs.DefinedPrograms.{defined_program}
 use Rattle.isle_run.specs.Laws.Sound.{RunsIn}
 use Rattle.isle_run.proofs.SoundPrograms.Whole.{compiled_programs_are_sound}
-use Rattle.isle_run.proofs.Chains.Always.{meanings_are}
-use Rattle.isle_run.proofs.Chains.Elaborated.{no_ties, typed_rules_call_well}
-use Rattle.isle_run.proofs.Chains.Ends.{below_or_above}
+use Rattle.isle_meaning.proofs.Chains.Always.{meanings_are}
+use Rattle.isle_meaning.proofs.Chains.Elaborated.{no_ties, typed_rules_call_well}
+use Rattle.isle_meaning.proofs.Chains.Ends.{below_or_above}
 use Rattle.isle_run.proofs.Chains.Inhabiting.{inhabited_programs_have_values}
-use Rattle.isle_run.proofs.Chains.Totals.{any_patterns, any_iflets, any_expr}
+use Rattle.isle_meaning.proofs.Chains.Totals.{any_patterns, any_iflets, any_expr}
 
 -- what differs one way differs the other way
 other_way : (D E : Demand → Type 0) → MayOverlap D E → MayOverlap E D

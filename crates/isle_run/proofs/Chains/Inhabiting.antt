@@ -23,28 +23,27 @@ use Rattle.isle_types.specs.TypeEnvs.{Shows, IsShown, IsShownShape, IsShownVaria
 use Rattle.isle_types.specs.Types.{field_types}
 use Rattle.isle_types.proofs.NamePlaces.{place_found}
 use Rattle.isle_types.proofs.Zipped.{mapped_at}
-use Rattle.isle_terms.specs.Definitions.{declared_by, IsDeclaration, IsTypeNumber, declarations, terms_of_types, terms_of_shape}
-use Rattle.isle_terms.specs.Definitions.{variant_terms}
+use Rattle.isle_terms.specs.Definitions.{declared_by, IsDeclaration, IsTypeNumber, declarations, terms_of_types, terms_of_shape, variant_terms}
 use Rattle.isle_terms.specs.Elaboration.{type_named}
 use Rattle.isle_terms.specs.Signatures.{Signature, Declared, variant_form, struct_form}
 use Rattle.isle_terms.specs.Shown.ShownTerms.{numbers_of}
 use Rattle.isle_terms.specs.Values.{ValueTree, ValueTrees, bool_value as bool_tree, int_value as int_tree, opaque_value as opaque_tree}
 use Rattle.isle_terms.specs.Values.{data_value as data_tree, no_values as no_trees, more_values as more_trees}
-use Rattle.isle_terms.specs.Meaning.Facts.{TermFacts, TermShape, variant_shape, struct_shape, no_term, shape_of_form, never_fails}
-use Rattle.isle_terms.specs.Meaning.GroundValues.{value_of, values_of}
-use Rattle.isle_terms.specs.Meaning.ValueTypes.{IsIntOf, IsOfType, AreOfTypes}
+use Rattle.isle_meaning.specs.Facts.{TermFacts, TermShape, variant_shape, struct_shape, no_term, shape_of_form, never_fails}
+use Rattle.isle_meaning.specs.GroundValues.{value_of, values_of}
+use Rattle.isle_meaning.specs.ValueTypes.{IsIntOf, IsOfType, AreOfTypes}
 use Rattle.isle_run.specs.declared.program.Program.{Program}
 use Rattle.isle_run.specs.Facts.Inhabited.{fields_for, IsInhabited, AreInhabited, has_value, no_values, more_values, AreAllInhabited}
-use Rattle.isle_terms.specs.Meaning.Worlds.{CheckedProgram}
+use Rattle.isle_meaning.specs.Worlds.{CheckedProgram}
 use Rattle.isle_run.specs.Meanings.{checked, fields_of_variant, variant_types, struct_types}
 use Rattle.isle_run.specs.Programs.{types_of, value_facts, kind_of_type}
-use Rattle.isle_run.specs.SoundPrograms.{HasSoundData}
+use Rattle.isle_meaning.specs.SoundPrograms.{HasSoundData}
 use Rattle.isle_run.proofs.SoundPrograms.TypeTables.{type_known}
 use Rattle.isle_run.proofs.SoundPrograms.Whole.{compiled_programs_are_sound}
-use Rattle.isle_run.specs.DefinedPrograms.{defined_program}
+use Rattle.isle_meaning.specs.DefinedPrograms.{defined_program}
 use Rattle.isle_run.specs.Compiled.{IsProgramOf}
 use Rattle.isle_run.specs.Laws.Compiled.{every_term, InhabitedProgramsHaveValues}
-use Rattle.isle_run.specs.Laws.Calls.{HasValues}
+use Rattle.isle_meaning.specs.Laws.Calls.{HasValues}
 
 -- an integer type has zero
 zero_number : (int : IntType) → HasNumber int (pos 0)

@@ -9,7 +9,7 @@ use Rattle.isle_syntax.proofs.Productions.OneReading.{whole_reading, spelt_has_n
 use Rattle.isle_types.specs.Environment.{Environment, Makes, AreWithinSizes}
 use Rattle.isle_types.proofs.OneEnvironment.{one_environment}
 use Rattle.isle_terms.specs.Definitions.{TermEnvironment, MakesTerms, declared_by}
-use Rattle.isle_terms.specs.Meaning.Facts.{facts_of}
+use Rattle.isle_meaning.specs.Facts.{facts_of}
 use Rattle.isle_terms.proofs.OneTermEnvironment.{one_term_environment}
 use Rattle.isle_blocks.specs.RuleFaults.{AreFaultless}
 use Rattle.isle_run.specs.Compiled.{AreSpelt, AreTypedFiles, AreAccepted, IsFirstFault, AreFaults, of_a_text, of_types, of_terms, of_rules}

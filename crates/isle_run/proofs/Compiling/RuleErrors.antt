@@ -1,6 +1,5 @@
 -- Errors of rules: where they stand, and that rules with some aren't faultless.
-use Rattle.std.proofs.Common.{◌≡◌, ◌<◌, ℕ, suc, List, [], ◌∷◌, ◌++◌, map, length, Option, Some, arith, refl, sym, subst, ap}
-use Rattle.std.proofs.Common.{inl, inr}
+use Rattle.std.proofs.Common.{◌≡◌, ◌<◌, ℕ, suc, List, [], ◌∷◌, ◌++◌, map, length, Option, Some, arith, refl, sym, subst, ap, inl, inr}
 use Rattle.std.specs.List.{All, AllZip, cons_option}
 use Rattle.std.specs.Option.{option_map}
 use Rattle.std.proofs.lemmas.List.{length-map, length-append, map-append}
@@ -18,7 +17,7 @@ use Rattle.isle_types.proofs.Zipped.{all_at}
 use Rattle.isle_terms.specs.declared.rules.Rule.{Rule}
 use Rattle.isle_terms.specs.TypedRules.{TypedRule}
 use Rattle.isle_terms.specs.TypedTrees.{TypedRuleAt}
-use Rattle.isle_terms.specs.Meaning.Facts.{TermFacts}
+use Rattle.isle_meaning.specs.Facts.{TermFacts}
 use Rattle.isle_terms.specs.Shown.RulesShown.{IsShownRule}
 use Rattle.isle_blocks.specs.declared.report.RulePlace.{RulePlace}
 use Rattle.isle_blocks.specs.Reports.{AreGroups, no_pairs, headed, IsGroup, IsReport, error_of, error_by, positions, partners, partner_count}

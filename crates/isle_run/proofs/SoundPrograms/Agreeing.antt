@@ -11,7 +11,7 @@ use Rattle.isle_terms.specs.TypedRules.{Variable, TypedRule}
 use Rattle.isle_terms.specs.Shown.TermTables.{TermTables}
 use Rattle.isle_terms.specs.Shown.ShownTerms.{ShowsDeclared}
 use Rattle.isle_terms.specs.Shown.RulesShown.{IsShownRule, IsShownVariable, IsShownName}
-use Rattle.isle_terms.specs.Meaning.Facts.{facts_of, shape_of_form, never_fails, no_term}
+use Rattle.isle_meaning.specs.Facts.{facts_of, shape_of_form, never_fails, no_term}
 use Rattle.isle_run.specs.Meanings.{term_facts, rule_shown}
 use Rattle.isle_run.proofs.SoundPrograms.TypeTables.{variant_types_agree, struct_types_agree, constants_agree}
 

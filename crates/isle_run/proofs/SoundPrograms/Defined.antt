@@ -1,6 +1,5 @@
 -- What a program's tables say is what its definitions say.
-use Rattle.std.proofs.Common.{◌≡◌, ℕ, zero, suc, List, [], ◌∷◌, ◌++◌, map, ◌||◌, Option, None, Some, slice_get, unwrap_or}
-use Rattle.std.proofs.Common.{refl, sym, ◌∙◌, ap}
+use Rattle.std.proofs.Common.{◌≡◌, ℕ, zero, suc, List, [], ◌∷◌, ◌++◌, map, ◌||◌, Option, None, Some, slice_get, unwrap_or, refl, sym, ◌∙◌, ap}
 use Rattle.std.specs.Prelude.{◌==◌}
 use Rattle.std.specs.List.{AllZip, list_any}
 use Rattle.std.specs.Option.{option_map, option_and_then}
@@ -19,16 +18,14 @@ use Rattle.isle_terms.specs.declared.terms.Term.{Term}
 use Rattle.isle_terms.specs.Signatures.{Signature, Declared, term_named}
 use Rattle.isle_terms.specs.TypedRules.{TypedRule}
 use Rattle.isle_terms.specs.Definitions.{declared_by}
-use Rattle.isle_terms.specs.Shown.ShownTerms.{ShowsDeclared, term_shown}
-use Rattle.isle_terms.specs.Shown.ShownTerms.{term_at as id_at}
+use Rattle.isle_terms.specs.Shown.ShownTerms.{ShowsDeclared, term_shown, term_at as id_at}
 use Rattle.isle_terms.specs.Shown.RulesShown.{IsShownRule}
-use Rattle.isle_terms.specs.Meaning.ValueTypes.{no_kind}
+use Rattle.isle_meaning.specs.ValueTypes.{no_kind}
 use Rattle.isle_run.specs.declared.program.Program.{Program}
 use Rattle.isle_run.specs.Compiled.{IsProgramOf}
-use Rattle.isle_run.specs.DefinedPrograms.{builtin_kind, shape_kind, data_of, data_shape, defined_program}
+use Rattle.isle_meaning.specs.DefinedPrograms.{builtin_kind, shape_kind, data_of, data_shape, defined_program}
 use Rattle.isle_run.specs.Meanings.{checked}
-use Rattle.isle_run.specs.Programs.{types_of, terms_of, kind_of_type, data_of_term, shape_of_term}
-use Rattle.isle_run.specs.Programs.{term_named as id_named}
+use Rattle.isle_run.specs.Programs.{types_of, terms_of, kind_of_type, data_of_term, shape_of_term, term_named as id_named}
 use Rattle.isle_run.proofs.SoundPrograms.Agreeing.{rules_agree, terms_agree}
 use Rattle.isle_run.proofs.SoundPrograms.NamedData.{data_shown, shape_shown}
 use Rattle.isle_run.proofs.SoundPrograms.TypeTables.{constants_agree}

@@ -8,11 +8,9 @@ use Rattle.isle_syntax.specs.declared.ast.Def.{Def}
 use Rattle.isle_syntax.specs.declared.ast.IfLet.{IfLet}
 use Rattle.isle_syntax.specs.declared.ast.Rule.{Rule as RuleTree}
 use Rattle.isle_syntax.specs.Trees.ExprTree.{ExprTree, ExprTrees, LetTrees, expr_term, expr_var, expr_bool, expr_int, expr_prim, expr_let}
-use Rattle.isle_syntax.specs.Trees.ExprTree.{no_exprs}
-use Rattle.isle_syntax.specs.Trees.ExprTree.{more_exprs, no_lets, more_lets}
+use Rattle.isle_syntax.specs.Trees.ExprTree.{no_exprs, more_exprs, no_lets, more_lets}
 use Rattle.isle_syntax.specs.Trees.ExprShape.{expr_of}
-use Rattle.isle_terms.specs.TypedRules.{TypedExpr, TypedExprs, TypedBindings, built_var, built_bool, built_int, built_prim, built_term}
-use Rattle.isle_terms.specs.TypedRules.{built_let}
+use Rattle.isle_terms.specs.TypedRules.{TypedExpr, TypedExprs, TypedBindings, built_var, built_bool, built_int, built_prim, built_term, built_let}
 use Rattle.isle_terms.specs.TypedRules.{no_built, more_built, no_bindings, more_bindings, TypedIfLet, TypedRule}
 use Rattle.isle_terms.specs.Signatures.{Flags, Declared}
 use Rattle.isle_terms.specs.Elaboration.{State, counted, bound, on_lhs, ExprJudgement, EachExpr, Binds, ExprNode, Builds, Conditions}

@@ -1,6 +1,5 @@
 -- The literals and constants of well typed rules are values of their types.
-use Rattle.std.proofs.Common.{◌≡◌, ℕ, suc, ◌+◌, ◌-◌, ◌<◌, ◌≤◌, ◌^◌, List, [], ◌∷◌, map, length, Bool, true, false, Option, None, Some}
-use Rattle.std.proofs.Common.{slice_get}
+use Rattle.std.proofs.Common.{◌≡◌, ℕ, suc, ◌+◌, ◌-◌, ◌<◌, ◌≤◌, ◌^◌, List, [], ◌∷◌, map, length, Bool, true, false, Option, None, Some, slice_get}
 use Rattle.std.proofs.Common.{refl, sym, ◌∙◌, ap, subst, arith, is_some, T, ltb, cond}
 use Rattle.std.specs.Prelude.{ℤ, pos, negsuc, FitsSigned, ◌+ℤ◌, ◌≤ℤ◌, if◌then◌else◌}
 use Rattle.std.specs.Int.{w128}
@@ -20,20 +19,20 @@ use Rattle.isle_types.specs.declared.types.BuiltinType.TheVariants.{Bool as Bool
 use Rattle.isle_types.specs.declared.types.«Type».{«Type» as KnownType}
 use Rattle.isle_types.specs.declared.types.«Type».TheVariants.{Builtin, Primitive, Enum as EnumType, Struct as StructType}
 use Rattle.isle_types.specs.IntTypes.{builtin_names, builtin_types, greatest_of, HasNumber}
-use Rattle.isle_types.specs.Environment.{Environment, Makes, IsType, IsConstant, type_names, type_definitions, constant_definitions}
-use Rattle.isle_types.specs.Environment.{constant_in}
+use Rattle.isle_types.specs.Environment.{Environment, Makes, IsType, IsConstant, type_names, type_definitions, constant_definitions, constant_in}
 use Rattle.isle_types.specs.Environment.{NamedType, TypeShape, primitive}
+use Rattle.isle_types.specs.TypeTables.{TypeTables}
 use Rattle.isle_types.specs.TypeEnvs.{Shows, IsShownShape}
 use Rattle.isle_types.proofs.Lists.{slice_get-kept}
 use Rattle.isle_terms.specs.Elaboration.{bool_number, of_integer, of_primitive}
 use Rattle.isle_terms.specs.SoundRules.WellTyped.{IsTypedLiteral}
 use Rattle.isle_terms.specs.Values.{bool_value as bool_tree, int_value as int_tree, big_value as big_tree, const_value as const_tree}
-use Rattle.isle_terms.specs.Meaning.Values.{bool_value, int_value, constant_value}
-use Rattle.isle_terms.specs.Meaning.ValueTypes.{TypeKind, integer_kind, primitive_kind, IsIntOf, HasConstants}
-use Rattle.isle_terms.specs.Meaning.GroundValues.{IsValueOf}
+use Rattle.isle_meaning.specs.Values.{bool_value, int_value, constant_value}
+use Rattle.isle_meaning.specs.ValueTypes.{TypeKind, integer_kind, primitive_kind, IsIntOf, HasConstants}
+use Rattle.isle_meaning.specs.GroundValues.{IsValueOf}
+use Rattle.isle_terms.specs.Shown.TermTables.{TermTables}
 use Rattle.isle_terms.proofs.Collections.TypeTerms.{zipped_length}
-use Rattle.isle_run.specs.declared.program.Program.{Program}
-use Rattle.isle_run.specs.Programs.{types_of, value_facts, kind_of_type}
+use Rattle.isle_run.specs.Tables.{value_facts_by, kind_of_type}
 use Rattle.isle_run.specs.Facts.Reach.{is_data_type}
 use Rattle.isle_run.proofs.SoundPrograms.TypeTables.{constants_agree, type_there, type_known}
 
@@ -107,27 +106,27 @@ primitive_is names type shape (EnumType name id is_extern is_nodebug variants at
 primitive_is names type shape (StructType name id is_extern is_nodebug members at) host shown e =
     absurd (subst (λ (s : TypeShape). IsShownShape names type s (StructType name id is_extern is_nodebug members at)) e shown)
 
-module _ (program : Program) (types : Environment) (shows : Shows (types_of program) types) where
+module _ (tyenv : TypeTables) (env : TermTables) (types : Environment) (shows : Shows tyenv types) where
   -- the kind of a builtin type
   builtin_kind : (ty : ℕ) (builtin : BuiltinType) → slice_get builtin_types ty ≡ Some builtin
-      → (value_facts program).kind ty ≡ kind_of_type (Some (Builtin builtin))
+      → (value_facts_by tyenv env).kind ty ≡ kind_of_type (Some (Builtin builtin))
   builtin_kind ty builtin at =
       let there = slice_get-map Builtin builtin_types ty ∙ ap (option_map Builtin) at in
       ap kind_of_type (ap (λ (l : List KnownType). slice_get l ty) shows.all
       ∙ slice_get-kept (map Builtin builtin_types) shows.made ty (Builtin builtin) there)
 
-  pub bool_sound : (b : Bool) (ty : ℕ) → ty ≡ bool_number → IsValueOf (value_facts program) (bool_value b) ty
+  pub bool_sound : (b : Bool) (ty : ℕ) → ty ≡ bool_number → IsValueOf (value_facts_by tyenv env) (bool_value b) ty
   bool_sound b ty is =
-      record { tree = bool_tree b; typed = ap (value_facts program).kind is ∙ builtin_kind bool_number BoolType refl; stands = refl }
+      record { tree = bool_tree b; typed = ap (value_facts_by tyenv env).kind is ∙ builtin_kind bool_number BoolType refl; stands = refl }
 
   -- an integer as it is
-  int_sound : (n : ℤ) (ty : ℕ) (kind : TypeKind) → (value_facts program).kind ty ≡ kind → IsIntOf n kind
-      → IsValueOf (value_facts program) (int_value n) ty
+  int_sound : (n : ℤ) (ty : ℕ) (kind : TypeKind) → (value_facts_by tyenv env).kind ty ≡ kind → IsIntOf n kind
+      → IsValueOf (value_facts_by tyenv env) (int_value n) ty
   int_sound n ty kind is fits = record { tree = int_tree n; typed = subst (IsIntOf n) (sym is) fits; stands = refl }
 
   -- an integer from 2^127 on by its bits
-  big_sound : (n : ℤ) (ty : ℕ) (int : IntType) → (value_facts program).kind ty ≡ integer_kind int → FitsSigned w128 n
-      → HasNumber int (n +ℤ pos (2 ^ 128)) → IsValueOf (value_facts program) (int_value n) ty
+  big_sound : (n : ℤ) (ty : ℕ) (int : IntType) → (value_facts_by tyenv env).kind ty ≡ integer_kind int → FitsSigned w128 n
+      → HasNumber int (n +ℤ pos (2 ^ 128)) → IsValueOf (value_facts_by tyenv env) (int_value n) ty
   big_sound (pos m) ty int is fits has =
       let large : 2 ^ 127 ≤ m + 2 ^ 128 = omega arith in
       let only = big_type int (m + 2 ^ 128) large has.high in
@@ -144,26 +143,26 @@ module _ (program : Program) (types : Environment) (shows : Shows (types_of prog
         stands = ap int_value (to_z-of_z w128 (negsuc m) fits);
       }
 
-  pub literal_sound : (n : ℤ) (ty : ℕ) → IsTypedLiteral types ty n → FitsSigned w128 n → IsValueOf (value_facts program) (int_value n) ty
+  pub literal_sound : (n : ℤ) (ty : ℕ) → IsTypedLiteral types ty n → FitsSigned w128 n → IsValueOf (value_facts_by tyenv env) (int_value n) ty
   literal_sound n ty (true, of_integer int at has) fits = big_sound n ty int (builtin_kind ty (Int int) at) fits has
   literal_sound n ty (false, of_integer int at has) fits = int_sound n ty (integer_kind int) (builtin_kind ty (Int int) at) (has, fits)
   literal_sound n ty (big, of_primitive place type host is at shape) fits =
-      let (made, there, shown) = type_there (types_of program) types shows place type at in
-      let kind = primitive_is (types_of program).names type type.shape made host shown.shape shape in
-      int_sound n ty primitive_kind (ap (value_facts program).kind is ∙ ap kind_of_type there ∙ kind) fits
+      let (made, there, shown) = type_there tyenv types shows place type at in
+      let kind = primitive_is tyenv.names type type.shape made host shown.shape shape in
+      int_sound n ty primitive_kind (ap (value_facts_by tyenv env).kind is ∙ ap kind_of_type there ∙ kind) fits
 
   pub constant_sound : (defs : List Def) → Makes defs types → (name : List ℕ) (ty : ℕ) → constant_in types.constants name ≡ Some ty
-      → is_data_type (slice_get (types_of program).types ty) ≡ false → IsValueOf (value_facts program) (constant_value name) ty
+      → is_data_type (slice_get tyenv.types ty) ≡ false → IsValueOf (value_facts_by tyenv env) (constant_value name) ty
   constant_sound defs made name ty e free =
       let low = constant_below (type_names defs) (constant_definitions defs) types.constants made.constants name ty e in
       let count = length-append builtin_names (map (λ (t : _). t.name.0) (type_definitions defs)) in
       let listed = length-map (type_definitions defs) (λ t. t.name.0) in
       let as_many = zipped_length (IsType (type_names defs)) (type_definitions defs) types.types made.types in
-      let (type, at) = type_known (types_of program) types shows ty (omega (arith, low, count, listed, as_many)) in
+      let (type, at) = type_known tyenv types shows ty (omega (arith, low, count, listed, as_many)) in
       record {
         tree = const_tree name;
         typed = (
-          constants_agree (types_of program) types shows name ∙ e,
+          constants_agree tyenv types shows name ∙ e,
           subst (λ (o : Option KnownType). HasConstants (kind_of_type o)) (sym at)
               (has_constants type (ap is_data_type (sym at) ∙ free)),
         );

@@ -1,11 +1,11 @@
--- What a program's tables say of data by name is what its definitions say.
-use Rattle.std.proofs.Common.{◌≡◌, ◌⊎◌, inl, inr, ℕ, List, [], map, length, Option, None, Some, slice_get, unwrap_or}
-use Rattle.std.proofs.Common.{refl, sym, ◌∙◌, ap}
+-- What tables say of data by name is what definitions say.
+use Rattle.std.proofs.Common.{◌≡◌, ◌⊎◌, inl, inr, ℕ, List, [], map, length, Option, None, Some, slice_get, unwrap_or, refl, sym, ◌∙◌, ap}
 use Rattle.std.specs.Option.{option_map, option_and_then}
 use Rattle.std.proofs.lemmas.Option.{same_Some, none-some, slice_get-map}
 use Rattle.isle_syntax.specs.declared.ast.Def.{Def}
 use Rattle.isle_types.specs.declared.ids.TermId.{TermId}
 use Rattle.isle_types.specs.IntTypes.{builtin_names}
+use Rattle.isle_types.specs.TypeTables.{TypeTables}
 use Rattle.isle_types.proofs.NamePlaces.{place_found, place_known}
 use Rattle.isle_types.proofs.Zipped.{mapped_at}
 use Rattle.isle_terms.specs.declared.terms.Term.{Term}
@@ -13,22 +13,20 @@ use Rattle.isle_terms.specs.declared.terms.TermKind.{TermKind}
 use Rattle.isle_terms.specs.declared.terms.TermKind.TheVariants.{EnumVariant, Struct, Decl}
 use Rattle.isle_terms.specs.Signatures.{Signature, Declared, TermForm, variant_form, struct_form, declared_form, term_named}
 use Rattle.isle_terms.specs.Definitions.{AreTerms}
-use Rattle.isle_terms.specs.Shown.ShownTerms.{ShowsDeclared, term_shown, form_shown}
-use Rattle.isle_terms.specs.Shown.ShownTerms.{term_at as id_at}
-use Rattle.isle_terms.specs.Meaning.Facts.{TermFacts, TermShape, variant_shape, struct_shape, declared_shape, facts_of, shape_of_form}
-use Rattle.isle_terms.specs.Meaning.Facts.{term_at}
-use Rattle.isle_terms.specs.Meaning.Facts.{no_term, TakesFields}
+use Rattle.isle_terms.specs.Shown.TermTables.{TermTables}
+use Rattle.isle_terms.specs.Shown.ShownTerms.{ShowsDeclared, term_shown, form_shown, term_at as id_at}
+use Rattle.isle_meaning.specs.Facts.{TermFacts, TermShape, variant_shape, struct_shape, declared_shape, facts_of, shape_of_form, term_at}
+use Rattle.isle_meaning.specs.Facts.{no_term, TakesFields}
 use Rattle.isle_terms.proofs.Visiting.SoundVisits.{term_shows}
-use Rattle.isle_run.specs.declared.program.Program.{Program}
-use Rattle.isle_run.specs.DefinedPrograms.{data_of_form, data_of, data_shape}
-use Rattle.isle_run.specs.Programs.{types_of, terms_of, value_facts, data_made, shape_made, data_of_term, shape_of_term}
-use Rattle.isle_run.specs.Programs.{term_named as id_named}
-use Rattle.isle_run.specs.Meanings.{checked, term_facts}
-use Rattle.isle_run.specs.SoundPrograms.{HasSoundData}
-use Rattle.isle_run.specs.Stores.Printing.{HasNamedData, variant_name, struct_name}
+use Rattle.isle_meaning.specs.DefinedPrograms.{data_of_form, data_of, data_shape}
+use Rattle.isle_run.specs.Laws.Terms.{term_facts}
+use Rattle.isle_run.specs.Tables.{value_facts_by, checked_by, data_made, shape_made, data_of_term, shape_of_term}
+use Rattle.isle_run.specs.Tables.{term_called as id_named, variant_name, struct_name}
+use Rattle.isle_meaning.specs.SoundPrograms.{HasSoundData}
+use Rattle.isle_run.specs.SoundTables.{IsDataNamed}
 use Rattle.isle_run.proofs.SoundPrograms.TypeTables.{variant_named, struct_named}
 use Rattle.isle_run.proofs.SoundPrograms.Agreeing.{terms_agree}
-use Rattle.isle_run.proofs.SoundPrograms.MadeData.{IsMadeOf, variant_made, struct_made, made_at}
+use Rattle.isle_meaning.proofs.SoundPrograms.MadeData.{IsMadeOf, variant_made, struct_made, made_at}
 
 -- so say the tables
 pub data_shown : (names : List (List ℕ)) (kind : TermKind) (types : ℕ × List ℕ)
@@ -88,7 +86,7 @@ made_as : (o : Option (ℕ × List ℕ)) (ty u : ℕ) (types : List ℕ) (fields
 made_as o ty u types fields is type parts =
     is ∙ ap (λ (l : List ℕ). Some (ty, l)) (sym parts) ∙ ap (λ (n : ℕ). Some (n, fields n)) (sym type)
 
-module _ (program : Program) (defs : List Def) (declared : Declared) (shows : ShowsDeclared (types_of program) (terms_of program) declared)
+module _ (tyenv : TypeTables) (env : TermTables) (defs : List Def) (declared : Declared) (shows : ShowsDeclared tyenv env declared)
     (are : AreTerms declared.types defs declared.terms) (takes : TakesFields declared) where
   -- the term of a name
   record IsNamed (name : List ℕ) : Type 0 where
@@ -99,7 +97,7 @@ module _ (program : Program) (defs : List Def) (declared : Declared) (shows : Sh
     called : term.name ≡ name
 
   -- where a name leads to something, there is its term
-  named_by : {X : Type 0} (f : TermId → Option X) (name : List ℕ) (x : X) → option_and_then f (id_named program name) ≡ Some x
+  named_by : {X : Type 0} (f : TermId → Option X) (name : List ℕ) (x : X) → option_and_then f (id_named tyenv env name) ≡ Some x
       → IsNamed name
   named_by {X} f name x e = go (term_named declared name) refl
     where
@@ -113,25 +111,25 @@ module _ (program : Program) (defs : List Def) (declared : Declared) (shows : Sh
   -- what is said of the name of a term
   module _ (name : List ℕ) (number : ℕ) (term : Signature) (named : term_named declared name ≡ Some number)
       (at : slice_get declared.terms number ≡ Some term) where
-    shown_there : (made : Term) × (slice_get (terms_of program).terms number ≡ Some made)
-        × (term_shown (types_of program).names made ≡ term)
+    shown_there : (made : Term) × (slice_get env.terms number ≡ Some made)
+        × (term_shown tyenv.names made ≡ term)
     shown_there =
         let there = ap (λ (l : List Signature). slice_get l number) shows.terms ∙ at in
-        term_shows (types_of program).names (terms_of program).terms number term there
+        term_shows tyenv.names env.terms number term there
 
-    data_there : (value_facts program).data_named name ≡ data_of term
+    data_there : (value_facts_by tyenv env).data_named name ≡ data_of term
     data_there =
         let (made, there, is) = shown_there in
-        ap (option_and_then (λ (id : TermId). option_and_then data_of_term (slice_get (terms_of program).terms id.0)))
+        ap (option_and_then (λ (id : TermId). option_and_then data_of_term (slice_get env.terms id.0)))
         (shows.named name ∙ ap (option_map id_at) named)
-        ∙ ap (option_and_then data_of_term) there ∙ data_shown (types_of program).names made.kind _ ∙ ap data_of is
+        ∙ ap (option_and_then data_of_term) there ∙ data_shown tyenv.names made.kind _ ∙ ap data_of is
 
-    shape_there : (value_facts program).shape_named name ≡ data_shape term.form
+    shape_there : (value_facts_by tyenv env).shape_named name ≡ data_shape term.form
     shape_there =
         let (made, there, is) = shown_there in
-        ap (option_and_then (λ (id : TermId). option_and_then shape_of_term (slice_get (terms_of program).terms id.0)))
+        ap (option_and_then (λ (id : TermId). option_and_then shape_of_term (slice_get env.terms id.0)))
         (shows.named name ∙ ap (option_map id_at) named)
-        ∙ ap (option_and_then shape_of_term) there ∙ shape_shown (types_of program).names made.kind
+        ∙ ap (option_and_then shape_of_term) there ∙ shape_shown tyenv.names made.kind
         ∙ ap (λ (s : Signature). data_shape s.form) is
 
   -- the term of data
@@ -143,11 +141,11 @@ module _ (program : Program) (defs : List Def) (declared : Declared) (shows : Sh
     made : data_of term ≡ Some (ty, types)
     ret : term.ret ≡ ty
     args : term.args ≡ types
-    shape : (value_facts program).shape_named name ≡ data_shape term.form
+    shape : (value_facts_by tyenv env).shape_named name ≡ data_shape term.form
 
-  data_term : (name : List ℕ) (ty : ℕ) (types : List ℕ) → (value_facts program).data_named name ≡ Some (ty, types) → IsData name ty types
+  data_term : (name : List ℕ) (ty : ℕ) (types : List ℕ) → (value_facts_by tyenv env).data_named name ≡ Some (ty, types) → IsData name ty types
   data_term name ty types e =
-      let is = named_by (λ (id : TermId). option_and_then data_of_term (slice_get (terms_of program).terms id.0)) name (ty, types) e in
+      let is = named_by (λ (id : TermId). option_and_then data_of_term (slice_get env.terms id.0)) name (ty, types) e in
       let made = sym (data_there name is.number is.term is.named is.at) ∙ e in
       let same = data_types is.term.form (is.term.ret, is.term.args) (ty, types) made in
       record {
@@ -167,8 +165,8 @@ module _ (program : Program) (defs : List Def) (declared : Declared) (shows : Sh
   data_made_of name ty types is =
       made_at declared.types defs declared.terms are is.number is.term is.at (never_declared is.term (ty, types) is.made)
 
-  abbrev agrees : term_facts (types_of program) (terms_of program) ≡ facts_of declared
-  agrees = terms_agree (types_of program) (terms_of program) declared shows
+  abbrev agrees : term_facts tyenv env ≡ facts_of declared
+  agrees = terms_agree tyenv env declared shows
 
   -- a term that isn't declared stands among the terms
   stands : (t : ℕ) → (shape_of_form (term_at declared t).form ≡ declared_shape → ⊥)
@@ -189,10 +187,10 @@ module _ (program : Program) (defs : List Def) (declared : Declared) (shows : Sh
   term_is t term at = ap (λ (x : Option Signature). unwrap_or x no_term) at
 
   -- what is said of the term of a variant
-  variant_of_term : (t k : ℕ) → (checked program).terms.shape t ≡ variant_shape k
-      → (name : List ℕ) × ((value_facts program).shape_named name ≡ Some (variant_shape k))
-      × ((value_facts program).data_named name
-      ≡ Some ((checked program).terms.type_of t, (checked program).terms.variant_fields ((checked program).terms.type_of t) k))
+  variant_of_term : (t k : ℕ) → (checked_by tyenv env).terms.shape t ≡ variant_shape k
+      → (name : List ℕ) × ((value_facts_by tyenv env).shape_named name ≡ Some (variant_shape k))
+      × ((value_facts_by tyenv env).data_named name
+      ≡ Some ((checked_by tyenv env).terms.type_of t, (checked_by tyenv env).terms.variant_fields ((checked_by tyenv env).terms.type_of t) k))
   variant_of_term t k e =
       let shape = sym (ap (λ (f : TermFacts). f.shape t) agrees) ∙ e in
       let (term, at) = stands t (λ d. let clash = sym shape ∙ d in absurd cc) in
@@ -202,15 +200,15 @@ module _ (program : Program) (defs : List Def) (declared : Declared) (shows : Sh
       let parts = ap (λ (f : TermFacts). f.variant_fields term.ret k) agrees ∙ takes.variant t k term at form in (
         term.name,
         shape_there term.name t term named at ∙ ap data_shape form,
-        made_as _ term.ret _ term.args (λ (u : ℕ). (checked program).terms.variant_fields u k)
+        made_as _ term.ret _ term.args (λ (u : ℕ). (checked_by tyenv env).terms.variant_fields u k)
             (data_there term.name t term named at ∙ ap (λ (x : TermForm). data_of_form x (term.ret, term.args)) form) type parts,
       )
 
   -- of a struct's
-  struct_of_term : (t : ℕ) → (checked program).terms.shape t ≡ struct_shape
-      → (name : List ℕ) × ((value_facts program).shape_named name ≡ Some struct_shape)
-      × ((value_facts program).data_named name
-      ≡ Some ((checked program).terms.type_of t, (checked program).terms.struct_fields ((checked program).terms.type_of t)))
+  struct_of_term : (t : ℕ) → (checked_by tyenv env).terms.shape t ≡ struct_shape
+      → (name : List ℕ) × ((value_facts_by tyenv env).shape_named name ≡ Some struct_shape)
+      × ((value_facts_by tyenv env).data_named name
+      ≡ Some ((checked_by tyenv env).terms.type_of t, (checked_by tyenv env).terms.struct_fields ((checked_by tyenv env).terms.type_of t)))
   struct_of_term t e =
       let shape = sym (ap (λ (f : TermFacts). f.shape t) agrees) ∙ e in
       let (term, at) = stands t (λ d. let clash = sym shape ∙ d in absurd cc) in
@@ -220,32 +218,32 @@ module _ (program : Program) (defs : List Def) (declared : Declared) (shows : Sh
       let parts = ap (λ (f : TermFacts). f.struct_fields term.ret) agrees ∙ takes.struct t term at form in (
         term.name,
         shape_there term.name t term named at ∙ ap data_shape form,
-        made_as _ term.ret _ term.args (λ (u : ℕ). (checked program).terms.struct_fields u)
+        made_as _ term.ret _ term.args (λ (u : ℕ). (checked_by tyenv env).terms.struct_fields u)
             (data_there term.name t term named at ∙ ap (λ (x : TermForm). data_of_form x (term.ret, term.args)) form) type parts,
       )
 
   -- the fields of data that is a variant
-  variant_parts : (name : List ℕ) (k ty : ℕ) (types : List ℕ) → (value_facts program).shape_named name ≡ Some (variant_shape k)
-      → (value_facts program).data_named name ≡ Some (ty, types) → types ≡ (checked program).terms.variant_fields ty k
+  variant_parts : (name : List ℕ) (k ty : ℕ) (types : List ℕ) → (value_facts_by tyenv env).shape_named name ≡ Some (variant_shape k)
+      → (value_facts_by tyenv env).data_named name ≡ Some (ty, types) → types ≡ (checked_by tyenv env).terms.variant_fields ty k
   variant_parts name k ty types s e =
       let is = data_term name ty types e in
       let form = variant_of is.term.form k (sym is.shape ∙ s) in
       sym is.args ∙ sym (takes.variant is.number k is.term is.at form)
       ∙ sym (ap (λ (f : TermFacts). f.variant_fields is.term.ret k) agrees)
-      ∙ ap (λ (u : ℕ). (checked program).terms.variant_fields u k) is.ret
+      ∙ ap (λ (u : ℕ). (checked_by tyenv env).terms.variant_fields u k) is.ret
 
   -- that is a struct
-  struct_parts : (name : List ℕ) (ty : ℕ) (types : List ℕ) → (value_facts program).shape_named name ≡ Some struct_shape
-      → (value_facts program).data_named name ≡ Some (ty, types) → types ≡ (checked program).terms.struct_fields ty
+  struct_parts : (name : List ℕ) (ty : ℕ) (types : List ℕ) → (value_facts_by tyenv env).shape_named name ≡ Some struct_shape
+      → (value_facts_by tyenv env).data_named name ≡ Some (ty, types) → types ≡ (checked_by tyenv env).terms.struct_fields ty
   struct_parts name ty types s e =
       let is = data_term name ty types e in
       let form = struct_of is.term.form (sym is.shape ∙ s) in
       sym is.args ∙ sym (takes.struct is.number is.term is.at form) ∙ sym (ap (λ (f : TermFacts). f.struct_fields is.term.ret) agrees)
-      ∙ ap (λ (u : ℕ). (checked program).terms.struct_fields u) is.ret
+      ∙ ap (λ (u : ℕ). (checked_by tyenv env).terms.struct_fields u) is.ret
 
-  shaped_data : (name : List ℕ) (ty : ℕ) (types : List ℕ) → (value_facts program).data_named name ≡ Some (ty, types)
-      → ((k : ℕ) × ((value_facts program).shape_named name ≡ Some (variant_shape k)))
-      ⊎ ((value_facts program).shape_named name ≡ Some struct_shape)
+  shaped_data : (name : List ℕ) (ty : ℕ) (types : List ℕ) → (value_facts_by tyenv env).data_named name ≡ Some (ty, types)
+      → ((k : ℕ) × ((value_facts_by tyenv env).shape_named name ≡ Some (variant_shape k)))
+      ⊎ ((value_facts_by tyenv env).shape_named name ≡ Some struct_shape)
   shaped_data name ty types e =
       let is = data_term name ty types e in elim (data_is is.term.form (is.term.ret, is.term.args) (ty, types) is.made) [
         | inl (k, s) ↦ inl (k, is.shape ∙ s)
@@ -254,34 +252,34 @@ module _ (program : Program) (defs : List Def) (declared : Declared) (shows : Sh
 
   -- the name by which a shape of a type is called
   abbrev name_of_shape : TermShape → ℕ → List ℕ
-  name_of_shape (variant_shape k) ty = variant_name (types_of program) ty k
-  name_of_shape struct_shape ty = struct_name (types_of program) ty
+  name_of_shape (variant_shape k) ty = variant_name tyenv ty k
+  name_of_shape struct_shape ty = struct_name tyenv ty
   name_of_shape declared_shape ty = []
 
   -- data has that name
-  data_called : (name : List ℕ) (shape : TermShape) (ty : ℕ) (types : List ℕ) → (value_facts program).shape_named name ≡ Some shape
-      → (value_facts program).data_named name ≡ Some (ty, types) → name_of_shape shape ty ≡ name
+  data_called : (name : List ℕ) (shape : TermShape) (ty : ℕ) (types : List ℕ) → (value_facts_by tyenv env).shape_named name ≡ Some shape
+      → (value_facts_by tyenv env).data_named name ≡ Some (ty, types) → name_of_shape shape ty ≡ name
   data_called name shape ty types s e =
       let is = data_term name ty types e in called is (data_made_of name ty types is)
     where
       called : (is : IsData name ty types) → IsMadeOf (length builtin_names) declared.types.types is.term → name_of_shape shape ty ≡ name
       called is (variant_made place k type variants variant at is_enum there form ret own) =
           let same : shape ≡ variant_shape k = same_Some shape (variant_shape k) (sym s ∙ is.shape ∙ ap data_shape form) in
-          ap (λ (x : TermShape). name_of_shape x ty) same ∙ ap (λ (u : ℕ). variant_name (types_of program) u k) (sym is.ret ∙ ret)
-          ∙ variant_named (types_of program) declared.types shows.types place type variants k variant at is_enum there ∙ sym own
+          ap (λ (x : TermShape). name_of_shape x ty) same ∙ ap (λ (u : ℕ). variant_name tyenv u k) (sym is.ret ∙ ret)
+          ∙ variant_named tyenv declared.types shows.types place type variants k variant at is_enum there ∙ sym own
           ∙ is.called
       called is (struct_made place type members at is_struct form ret own) =
           let same : shape ≡ struct_shape = same_Some shape struct_shape (sym s ∙ is.shape ∙ ap data_shape form) in
-          ap (λ (x : TermShape). name_of_shape x ty) same ∙ ap (struct_name (types_of program)) (sym is.ret ∙ ret)
-          ∙ struct_named (types_of program) declared.types shows.types place type members at is_struct ∙ sym own ∙ is.called
+          ap (λ (x : TermShape). name_of_shape x ty) same ∙ ap (struct_name tyenv) (sym is.ret ∙ ret)
+          ∙ struct_named tyenv declared.types shows.types place type members at is_struct ∙ sym own ∙ is.called
 
-  pub named_data : HasNamedData program
+  pub named_data : IsDataNamed tyenv env
   named_data = record {
     variants = λ name k ty types s e. data_called name (variant_shape k) ty types s e;
     structs = λ name ty types s e. data_called name struct_shape ty types s e;
   }
 
-  pub sound_data : HasSoundData (checked program)
+  pub sound_data : HasSoundData (checked_by tyenv env)
   sound_data = record {
     variant_name = variant_of_term;
     struct_name = struct_of_term;

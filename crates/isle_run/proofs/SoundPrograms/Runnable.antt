@@ -19,8 +19,7 @@ use Rattle.isle_terms.specs.declared.terms.TermKind.TheVariants.{EnumVariant, St
 use Rattle.isle_terms.specs.Signatures.{Flags, Signature, Declared, TermForm, by_rules, declared_form, flags_of}
 use Rattle.isle_terms.specs.TypedRules.{TypedPattern, TypedPatterns, typed_bind, typed_var, typed_bool, typed_int, typed_prim, typed_term}
 use Rattle.isle_terms.specs.TypedRules.{typed_wildcard, typed_and, no_typed, more_typed, TypedExpr, TypedExprs, TypedBindings, built_term}
-use Rattle.isle_terms.specs.TypedRules.{built_var, built_bool, built_int, built_prim, built_let, no_built, more_built, no_bindings}
-use Rattle.isle_terms.specs.TypedRules.{more_bindings}
+use Rattle.isle_terms.specs.TypedRules.{built_var, built_bool, built_int, built_prim, built_let, no_built, more_built, no_bindings, more_bindings}
 use Rattle.isle_terms.specs.TypedRules.{built_at, Variable, TypedIfLet, TypedRule}
 use Rattle.isle_terms.specs.Elaboration.{IsLiteralOf, on_lhs}
 use Rattle.isle_terms.specs.Definitions.{declared_by}
@@ -29,28 +28,26 @@ use Rattle.isle_terms.specs.Shown.TermTables.{TermTables}
 use Rattle.isle_terms.specs.Shown.ShownTerms.{term_shown, form_shown, ShowsDeclared}
 use Rattle.isle_terms.specs.Shown.ShownRules.{typed_list, typed_shown, built_shown, iflet_shown}
 use Rattle.isle_terms.specs.Collecting.Environments.{ShowsTerms}
-use Rattle.isle_terms.specs.Meaning.Facts.{TermFacts, facts_of, term_at, no_term}
-use Rattle.isle_terms.specs.Meaning.Scopes.{IsWellScopedRule, TakesOne, TakeOneEach, IfLetsTakeOne}
-use Rattle.isle_terms.specs.Meaning.Typing.{ExprTyped, RuleIsTyped}
-use Rattle.isle_terms.specs.Meaning.Laws.{IsRuleOfTypes}
-use Rattle.isle_terms.specs.Meaning.Words.{steps_of}
+use Rattle.isle_meaning.specs.Facts.{TermFacts, facts_of, term_at, no_term}
+use Rattle.isle_meaning.specs.Scopes.{IsWellScopedRule, TakesOne, TakeOneEach, IfLetsTakeOne}
+use Rattle.isle_meaning.specs.Typing.{ExprTyped, RuleIsTyped}
+use Rattle.isle_meaning.specs.Laws.Matching.{IsRuleOfTypes}
+use Rattle.isle_meaning.specs.Variables.{var_type}
+use Rattle.isle_meaning.specs.Words.{steps_of}
 use Rattle.isle_terms.proofs.Sound.RuleTypes.{rules_typed}
-use Rattle.isle_terms.proofs.Meaning.MadeFields.{rules_of_definitions_fit}
+use Rattle.isle_meaning.proofs.Matching.MadeFields.{rules_of_definitions_fit, made_terms_take_their_fields}
+use Rattle.isle_meaning.proofs.Matching.Bridging.{typed_by_variables}
 use Rattle.isle_blocks.specs.RivalLists.{is_multi_kind, is_multi_in}
-use Rattle.isle_run.specs.declared.program.Program.{Program}
-use Rattle.isle_run.specs.Programs.{types_of, terms_of}
 use Rattle.isle_run.specs.Facts.Reach.{is_hindering_pattern, are_hindering_patterns, is_hindering_expr, are_hindering_exprs}
 use Rattle.isle_run.specs.Facts.Reach.{are_hindering_bindings}
-use Rattle.isle_run.specs.Facts.Reach.{is_hindering_iflet, is_hindering_rule, is_hindered, terms_in, terms_in_all, terms_in_bound}
-use Rattle.isle_run.specs.Facts.Reach.{terms_in_iflets}
-use Rattle.isle_run.specs.Facts.Reach.{terms_made_by, Makes as MakesValues, at_once, onwards}
-use Rattle.isle_run.specs.Meanings.{checked, rule_shown, term_facts}
-use Rattle.isle_run.specs.SoundPrograms.{IsSoundExpr, AreSoundExprs, AreSoundBindings, AreSoundIfLets, IsSoundRule}
-use Rattle.isle_run.specs.SoundPrograms.{AskNothingImpure}
-use Rattle.isle_run.specs.Laws.Sound.{RunsIn}
+use Rattle.isle_run.specs.Facts.Reach.{is_hindering_iflet, is_hindering_rule, is_hindered, terms_in, terms_in_all, terms_in_bound, terms_in_iflets}
+use Rattle.isle_run.specs.Facts.Reach.{terms_made_by, Makes as MakesValues, at_once, onwards, IsRunnable}
+use Rattle.isle_run.specs.Laws.Terms.{term_facts}
+use Rattle.isle_run.specs.Tables.{rule_shown, checked_by}
+use Rattle.isle_meaning.specs.SoundPrograms.{IsSoundExpr, AreSoundExprs, AreSoundBindings, AreSoundIfLets, IsSoundRule, AskNothingImpure}
 use Rattle.isle_run.proofs.SoundPrograms.Agreeing.{rules_agree, terms_agree}
 use Rattle.isle_run.proofs.SoundPrograms.FittingRules.{BuiltFits, AllBuiltFit, BindingsFit, ConditionsFit, TypedRuleFits}
-use Rattle.isle_run.proofs.SoundPrograms.PureCalls.{steps_pure}
+use Rattle.isle_meaning.proofs.SoundPrograms.PureCalls.{steps_pure}
 use Rattle.isle_run.proofs.SoundPrograms.Literals.{bool_sound, literal_sound, constant_sound}
 
 -- where no item passes a test, one at a place doesn't
@@ -116,20 +113,20 @@ one_type declared facts variables caller vars (built_prim own name) ty u h k = s
 one_type declared facts variables caller vars (built_let own bs body) ty u h k =
     one_type declared facts variables caller vars body ty u h.2 k.1
 
-module _ (program : Program) (defs : List Def) (types : Environment) (made : Makes defs types) (levels max : ℕ)
-    (shows : ShowsTerms (types_of program) (terms_of program) types levels max defs) where
+module _ (tyenv : TypeTables) (env : TermTables) (defs : List Def) (types : Environment) (made : Makes defs types) (levels max : ℕ)
+    (shows : ShowsTerms tyenv env types levels max defs) where
   abbrev names : List (List ℕ)
-  names = (types_of program).names
+  names = tyenv.names
 
   abbrev declared : Declared
-  declared = declared_by types (terms_of program).expands shows.environment
+  declared = declared_by types env.expands shows.environment
 
-  abbrev agrees : term_facts (types_of program) (terms_of program) ≡ facts_of declared
-  agrees = terms_agree (types_of program) (terms_of program) declared shows.declared
+  abbrev agrees : term_facts tyenv env ≡ facts_of declared
+  agrees = terms_agree tyenv env declared shows.declared
 
   -- patterns that don't hinder take values apart by terms with one answer
   mutual
-    pattern_takes_one : (p : TypedPattern) → is_hindering_pattern (types_of program) (terms_of program) p ≡ false
+    pattern_takes_one : (p : TypedPattern) → is_hindering_pattern tyenv env p ≡ false
         → TakesOne (facts_of declared) p
     pattern_takes_one (typed_bind ty k p) h = pattern_takes_one p h
     pattern_takes_one (typed_var ty k) h = tt
@@ -137,27 +134,27 @@ module _ (program : Program) (defs : List Def) (types : Environment) (made : Mak
     pattern_takes_one (typed_int ty n) h = tt
     pattern_takes_one (typed_prim ty name) h = tt
     pattern_takes_one (typed_term ty t ps) h =
-        let parts = or_parts (is_multi_in (terms_of program) t) (are_hindering_patterns (types_of program) (terms_of program) ps) h in
-        (sym (multi_in (types_of program) (terms_of program) declared shows.declared t) ∙ parts.0, patterns_take_one ps parts.1)
+        let parts = or_parts (is_multi_in env t) (are_hindering_patterns tyenv env ps) h in
+        (sym (multi_in tyenv env declared shows.declared t) ∙ parts.0, patterns_take_one ps parts.1)
     pattern_takes_one (typed_wildcard ty) h = tt
     pattern_takes_one (typed_and ty ps) h = patterns_take_one ps h
 
-    patterns_take_one : (ps : TypedPatterns) → are_hindering_patterns (types_of program) (terms_of program) ps ≡ false
+    patterns_take_one : (ps : TypedPatterns) → are_hindering_patterns tyenv env ps ≡ false
         → TakeOneEach (facts_of declared) ps
     patterns_take_one no_typed h = tt
     patterns_take_one (more_typed p ps) h =
-        let parts = or_parts (is_hindering_pattern (types_of program) (terms_of program) p)
-        (are_hindering_patterns (types_of program) (terms_of program) ps) h in
+        let parts = or_parts (is_hindering_pattern tyenv env p)
+        (are_hindering_patterns tyenv env ps) h in
         (pattern_takes_one p parts.0, patterns_take_one ps parts.1)
 
-  iflets_take_one : (xs : List IfLet) → list_any (is_hindering_iflet (types_of program) (terms_of program)) xs ≡ false
+  iflets_take_one : (xs : List IfLet) → list_any (is_hindering_iflet tyenv env) xs ≡ false
       → IfLetsTakeOne (facts_of declared) (map (iflet_shown names) xs)
   iflets_take_one [] h = tt
   iflets_take_one (x ∷ xs) h =
-      let parts = or_parts (is_hindering_iflet (types_of program) (terms_of program) x)
-      (list_any (is_hindering_iflet (types_of program) (terms_of program)) xs) h in
-      let own = or_parts (is_hindering_pattern (types_of program) (terms_of program) (typed_shown names x.lhs))
-      (is_hindering_expr (types_of program) (built_shown names x.rhs)) parts.0 in
+      let parts = or_parts (is_hindering_iflet tyenv env x)
+      (list_any (is_hindering_iflet tyenv env) xs) h in
+      let own = or_parts (is_hindering_pattern tyenv env (typed_shown names x.lhs))
+      (is_hindering_expr tyenv (built_shown names x.rhs)) parts.0 in
       (pattern_takes_one (typed_shown names x.lhs) own.0, iflets_take_one xs parts.1)
 
   -- ---- expressions
@@ -165,7 +162,7 @@ module _ (program : Program) (defs : List Def) (types : Environment) (made : Mak
   module _ (variables : List Variable) (caller : Flags) where
     -- the terms with rules among these can be run
     abbrev RunEach : List ℕ → Type 0
-    RunEach terms = (t : ℕ) → Contains terms t → (checked program).has_rules t ≡ true → RunsIn program t
+    RunEach terms = (t : ℕ) → Contains terms t → (checked_by tyenv env).has_rules t ≡ true → IsRunnable tyenv env t
 
     front : (xs ys : List ℕ) → RunEach (xs ++ ys) → RunEach xs
     front xs ys run t is = run t (Contains-append_left xs ys t is)
@@ -175,67 +172,67 @@ module _ (program : Program) (defs : List Def) (types : Environment) (made : Mak
 
     mutual
       expr_sound : (ty : ℕ) (e : TypedExpr) → IsTypedExpr declared variables caller ty e → BuiltFits e
-          → is_hindering_expr (types_of program) e ≡ false → RunEach (terms_in e) → IsSoundExpr (checked program) (RunsIn program) e
+          → is_hindering_expr tyenv e ≡ false → RunEach (terms_in e) → IsSoundExpr (checked_by tyenv env) (IsRunnable tyenv env) e
       expr_sound ty (built_var own k) h fits free run = tt
-      expr_sound ty (built_bool own b) h fits free run = bool_sound program types shows.declared.types b own (h.0 ∙ h.1)
+      expr_sound ty (built_bool own b) h fits free run = bool_sound tyenv env types shows.declared.types b own (h.0 ∙ h.1)
       expr_sound ty (built_int own n) h fits free run =
           let is = subst (λ (u : ℕ). IsLiteralOf types u n h.1.0) (sym h.0) h.1.1 in
-          literal_sound program types shows.declared.types n own (h.1.0, is) fits
+          literal_sound tyenv env types shows.declared.types n own (h.1.0, is) fits
       expr_sound ty (built_prim own name) h fits free run =
-          constant_sound program types shows.declared.types defs made name own (h.1 ∙ ap Some (sym h.0)) free
+          constant_sound tyenv env types shows.declared.types defs made name own (h.1 ∙ ap Some (sym h.0)) free
       expr_sound ty (built_term own t es) (e, calls) fits free run = (
         run t (first_among t (terms_in_all es)),
         exprs_sound calls.term.args es calls.args fits free (back (t ∷ []) (terms_in_all es) run),
       )
       expr_sound ty (built_let own bs body) h fits free run =
-          let parts = or_parts (are_hindering_bindings (types_of program) bs) (is_hindering_expr (types_of program) body) free in (
+          let parts = or_parts (are_hindering_bindings tyenv bs) (is_hindering_expr tyenv body) free in (
             bindings_sound bs h.1 fits.0 parts.0 (front (terms_in_bound bs) (terms_in body) run),
             expr_sound ty body h.2 fits.1 parts.1 (back (terms_in_bound bs) (terms_in body) run),
           )
 
       exprs_sound : (tys : List ℕ) (es : TypedExprs) → AreTypedExprs declared variables caller tys es → AllBuiltFit es
-          → are_hindering_exprs (types_of program) es ≡ false → RunEach (terms_in_all es)
-          → AreSoundExprs (checked program) (RunsIn program) es
+          → are_hindering_exprs tyenv es ≡ false → RunEach (terms_in_all es)
+          → AreSoundExprs (checked_by tyenv env) (IsRunnable tyenv env) es
       exprs_sound [] no_built h fits free run = tt
       exprs_sound [] (more_built e es) h fits free run = absurd h
       exprs_sound (ty ∷ tys) no_built h fits free run = absurd h
       exprs_sound (ty ∷ tys) (more_built e es) h fits free run =
-          let parts = or_parts (is_hindering_expr (types_of program) e) (are_hindering_exprs (types_of program) es) free in (
+          let parts = or_parts (is_hindering_expr tyenv e) (are_hindering_exprs tyenv es) free in (
             expr_sound ty e h.0 fits.0 parts.0 (front (terms_in e) (terms_in_all es) run),
             exprs_sound tys es h.1 fits.1 parts.1 (back (terms_in e) (terms_in_all es) run),
           )
 
       bindings_sound : (bs : TypedBindings) → AreTypedBindings declared variables caller bs → BindingsFit bs
-          → are_hindering_bindings (types_of program) bs ≡ false → RunEach (terms_in_bound bs)
-          → AreSoundBindings (checked program) (RunsIn program) bs
+          → are_hindering_bindings tyenv bs ≡ false → RunEach (terms_in_bound bs)
+          → AreSoundBindings (checked_by tyenv env) (IsRunnable tyenv env) bs
       bindings_sound no_bindings h fits free run = tt
       bindings_sound (more_bindings k ty e bs) h fits free run =
-          let parts = or_parts (is_hindering_expr (types_of program) e) (are_hindering_bindings (types_of program) bs) free in (
+          let parts = or_parts (is_hindering_expr tyenv e) (are_hindering_bindings tyenv bs) free in (
             expr_sound ty e h.1 fits.0 parts.0 (front (terms_in e) (terms_in_bound bs) run),
             bindings_sound bs h.2 fits.1 parts.1 (back (terms_in e) (terms_in_bound bs) run),
           )
 
     iflets_sound : (xs : List IfLet) → AreTypedIfLets declared variables caller (map (iflet_shown names) xs)
         → ConditionsFit (map (iflet_shown names) xs)
-        → list_any (is_hindering_iflet (types_of program) (terms_of program)) xs ≡ false → RunEach (terms_in_iflets names xs)
-        → AreSoundIfLets (checked program) (RunsIn program) (map (iflet_shown names) xs)
+        → list_any (is_hindering_iflet tyenv env) xs ≡ false → RunEach (terms_in_iflets names xs)
+        → AreSoundIfLets (checked_by tyenv env) (IsRunnable tyenv env) (map (iflet_shown names) xs)
     iflets_sound [] h fits free run = tt
     iflets_sound (x ∷ xs) h fits free run =
-        let parts = or_parts (is_hindering_iflet (types_of program) (terms_of program) x)
-        (list_any (is_hindering_iflet (types_of program) (terms_of program)) xs) free in
-        let own = or_parts (is_hindering_pattern (types_of program) (terms_of program) (typed_shown names x.lhs))
-        (is_hindering_expr (types_of program) (built_shown names x.rhs)) parts.0 in
+        let parts = or_parts (is_hindering_iflet tyenv env x)
+        (list_any (is_hindering_iflet tyenv env) xs) free in
+        let own = or_parts (is_hindering_pattern tyenv env (typed_shown names x.lhs))
+        (is_hindering_expr tyenv (built_shown names x.rhs)) parts.0 in
         let value = built_shown names x.rhs in (
           expr_sound (built_at value) value h.0 fits.0 own.1 (front (terms_in value) (terms_in_iflets names xs) run),
           iflets_sound xs h.2 fits.1 parts.1 (back (terms_in value) (terms_in_iflets names xs) run),
         )
 
   -- what makes no impure calls by the declarations makes none by the tables
-  pure_steps : (e : TypedExpr) → steps_of (facts_of declared) e ≡ [] → steps_of (checked program).terms e ≡ []
+  pure_steps : (e : TypedExpr) → steps_of (facts_of declared) e ≡ [] → steps_of (checked_by tyenv env).terms e ≡ []
   pure_steps e h = ap (λ (f : TermFacts). steps_of f e) agrees ∙ h
 
   iflets_pure : (variables : List Variable) (flags : Flags) (xs : List TypedIfLet) → AreTypedIfLets declared variables (on_lhs flags) xs
-      → AskNothingImpure (checked program) xs
+      → AskNothingImpure (checked_by tyenv env) xs
   iflets_pure variables flags [] h = tt
   iflets_pure variables flags (x ∷ xs) h =
       let none = steps_pure declared variables (on_lhs flags) refl (built_at x.value) x.value h.0 in
@@ -243,7 +240,7 @@ module _ (program : Program) (defs : List Def) (types : Environment) (made : Mak
 
   -- a term that is pure by the tables has pure flags
   pure_flags : (t : ℕ) (term : Signature) (flags : Flags) → term_at declared t ≡ term
-      → ((extractor : _) × (term.form ≡ declared_form flags (Some by_rules) extractor)) → (checked program).terms.pure t ≡ true
+      → ((extractor : _) × (term.form ≡ declared_form flags (Some by_rules) extractor)) → (checked_by tyenv env).terms.pure t ≡ true
       → flags.pure ≡ true
   pure_flags t term flags is ruled pure =
       sym (ap (λ (s : Signature). (flags_of s.form).pure) is ∙ ap (λ (f : TermForm). (flags_of f).pure) ruled.1)
@@ -253,17 +250,15 @@ module _ (program : Program) (defs : List Def) (types : Environment) (made : Mak
 
   -- a rule of which no part hinders, and whose term gives one answer at most
   record IsFree (rule : Rule) : Type 0 where
-    args : are_hindering_patterns (types_of program) (terms_of program) (typed_list (map (typed_shown names) rule.args)) ≡ false
-    iflets : list_any (is_hindering_iflet (types_of program) (terms_of program)) rule.iflets ≡ false
-    right : is_hindering_expr (types_of program) (built_shown names rule.rhs) ≡ false
-    single : is_multi_in (terms_of program) rule.root_term.0 ≡ false
+    args : are_hindering_patterns tyenv env (typed_list (map (typed_shown names) rule.args)) ≡ false
+    iflets : list_any (is_hindering_iflet tyenv env) rule.iflets ≡ false
+    right : is_hindering_expr tyenv (built_shown names rule.rhs) ≡ false
+    single : is_multi_in env rule.root_term.0 ≡ false
 
   -- so is a rule of a term that isn't hindered
-  rule_free : (i : ℕ) (rule : Rule) → slice_get (terms_of program).rules i ≡ Some rule
-      → is_hindered (types_of program) (terms_of program) rule.root_term.0 ≡ false → IsFree rule
+  rule_free : (i : ℕ) (rule : Rule) → slice_get env.rules i ≡ Some rule
+      → is_hindered tyenv env rule.root_term.0 ≡ false → IsFree rule
   rule_free i rule at free =
-      let tyenv = types_of program in
-      let env = terms_of program in
       let parts = or_parts (is_multi_in env rule.root_term.0)
       (list_any (λ (r : Rule). (r.root_term.0 == rule.root_term.0) && is_hindering_rule tyenv env r) env.rules) free in
       let there = none_passes (λ (r : Rule). (r.root_term.0 == rule.root_term.0) && is_hindering_rule tyenv env r) env.rules i rule
@@ -276,33 +271,33 @@ module _ (program : Program) (defs : List Def) (types : Environment) (made : Mak
       record { args = args.0; iflets = rest.0; right = rest.1; single = parts.0 }
 
   -- what the table's rule shows stands at its place among the typed rules
-  typed_there : (i : ℕ) (rule : Rule) → slice_get (terms_of program).rules i ≡ Some rule
+  typed_there : (i : ℕ) (rule : Rule) → slice_get env.rules i ≡ Some rule
       → slice_get shows.environment.rules i ≡ Some (rule_shown names rule)
   typed_there i rule at =
-      let same = rules_agree names shows.environment.rules (terms_of program).rules shows.rules in
+      let same = rules_agree names shows.environment.rules env.rules shows.rules in
       ap (λ (l : List TypedRule). slice_get l i) (sym same)
-      ∙ slice_get-map (rule_shown names) (terms_of program).rules i ∙ ap (option_map (rule_shown names)) at
+      ∙ slice_get-map (rule_shown names) env.rules i ∙ ap (option_map (rule_shown names)) at
 
   -- each of these is well typed
   well_typed : (i : ℕ) (typed : TypedRule) → slice_get shows.environment.rules i ≡ Some typed → IsTypedRule declared typed
   well_typed i typed there =
-      let all = rules_typed types (terms_of program).expands levels max defs shows.environment shows.makes in
+      let all = rules_typed types env.expands levels max defs shows.environment shows.makes in
       all_at (IsTypedRule declared) shows.environment.rules all i typed there
 
   -- a term that gives one answer at most has such flags
-  single_flags : (typed : TypedRule) (is : IsTypedRule declared typed) → is_multi_in (terms_of program) typed.root ≡ false
+  single_flags : (typed : TypedRule) (is : IsTypedRule declared typed) → is_multi_in env typed.root ≡ false
       → is.flags.multi ≡ false
   single_flags typed is single =
       let root : term_at declared typed.root ≡ is.root = ap (λ (o : Option Signature). unwrap_or o no_term) is.known in
       sym (ap (λ (s : Signature). (flags_of s.form).multi) root ∙ ap (λ (f : TermForm). (flags_of f).multi) is.ruled.1)
-      ∙ sym (multi_in (types_of program) (terms_of program) declared shows.declared typed.root) ∙ single
+      ∙ sym (multi_in tyenv env declared shows.declared typed.root) ∙ single
 
   -- a free rule is one that the laws on matching speak of
-  fitting : (i : ℕ) (rule : Rule) → slice_get (terms_of program).rules i ≡ Some rule → IsFree rule
+  fitting : (i : ℕ) (rule : Rule) → slice_get env.rules i ≡ Some rule → IsFree rule
       → (is : IsTypedRule declared (rule_shown names rule)) → IsRuleOfTypes (facts_of declared) is.root.args (rule_shown names rule)
   fitting i rule at free is =
       let args = patterns_take_one (typed_list (map (typed_shown names) rule.args)) free.args in
-      rules_of_definitions_fit types (terms_of program).expands levels max defs shows.environment shows.makes i (rule_shown names rule)
+      rules_of_definitions_fit types env.expands levels max defs shows.environment shows.makes i (rule_shown names rule)
       (typed_there i rule at) is (single_flags (rule_shown names rule) is free.single) (args, iflets_take_one rule.iflets free.iflets)
 
   -- it is typed at its term's types
@@ -317,25 +312,45 @@ module _ (program : Program) (defs : List Def) (types : Environment) (made : Mak
       (subst (λ (u : ℕ). RuleIsTyped (facts_of declared) is.root.args u made_of.var_types rule) result made_of.typed)
 
   -- what holds by the declarations holds by the tables
-  well_by_tables : (rule : TypedRule) → IsWellScopedRule (facts_of declared) rule → IsWellScopedRule (checked program).terms rule
+  well_by_tables : (rule : TypedRule) → IsWellScopedRule (facts_of declared) rule → IsWellScopedRule (checked_by tyenv env).terms rule
   well_by_tables rule h = subst (λ (f : TermFacts). IsWellScopedRule f rule) (sym agrees) h
 
   typed_by_tables : (rule : TypedRule) (vars : ℕ → ℕ) → IsTypedAtRoot (facts_of declared) vars rule
-      → IsTypedAtRoot (checked program).terms vars rule
+      → IsTypedAtRoot (checked_by tyenv env).terms vars rule
   typed_by_tables rule vars h =
       subst (λ (f : TermFacts). IsTypedAtRoot f vars rule) (sym agrees) h
 
+  -- a rule of a term that can be run is typed where each of its variables has its type
+  typed_at_place : (i : ℕ) (rule : Rule) → slice_get env.rules i ≡ Some rule → IsRunnable tyenv env rule.root_term.0
+      → IsTypedAtRoot (checked_by tyenv env).terms (var_type (rule_shown names rule).variables) (rule_shown names rule)
+  typed_at_place i rule at runs =
+      let typed = rule_shown names rule in
+      let vars = var_type typed.variables in
+      let is = well_typed i typed (typed_there i rule at) in
+      let free = rule_free i rule at runs.free in
+      let takes = made_terms_take_their_fields types env.expands levels max defs shows.environment shows.makes in
+      let root : is.root ≡ term_at declared typed.root = sym (ap (λ (o : Option Signature). unwrap_or o no_term) is.known) in
+      typed_by_tables typed vars (subst (λ (s : Signature). RuleIsTyped (facts_of declared) s.args s.ret vars typed) root
+      (typed_by_variables declared typed is takes (single_flags typed is free.single)))
+
+  pub typed_at_places : (i : ℕ) (rule : TypedRule) → slice_get (checked_by tyenv env).rules i ≡ Some rule → IsRunnable tyenv env rule.root
+      → IsTypedAtRoot (checked_by tyenv env).terms (var_type rule.variables) rule
+  typed_at_places i rule at runs =
+      let (made_rule, there, is) = mapped_at (rule_shown names) env.rules i rule at in
+      subst (λ (r : TypedRule). IsTypedAtRoot (checked_by tyenv env).terms (var_type r.variables) r) is
+      (typed_at_place i made_rule there (subst (IsRunnable tyenv env) (sym (ap (λ (r : TypedRule). r.root) is)) runs))
+
   module _ (fit : (i : ℕ) (rule : TypedRule) → slice_get shows.environment.rules i ≡ Some rule → TypedRuleFits rule) where
     -- a term that a rule of one that can be run makes values by can be run, if it has rules
-    runs_on : (i : ℕ) (rule : Rule) → slice_get (terms_of program).rules i ≡ Some rule → RunsIn program rule.root_term.0
-        → (t : ℕ) → Contains (terms_made_by names rule) t → (checked program).has_rules t ≡ true → RunsIn program t
+    runs_on : (i : ℕ) (rule : Rule) → slice_get env.rules i ≡ Some rule → IsRunnable tyenv env rule.root_term.0
+        → (t : ℕ) → Contains (terms_made_by names rule) t → (checked_by tyenv env).has_rules t ≡ true → IsRunnable tyenv env t
     runs_on i rule at runs t is ruled =
-        let makes : MakesValues (types_of program) (terms_of program) rule.root_term.0 t =
-        record { rule = rule; among = among (terms_of program).rules i rule at; root = refl; made = is } in
+        let makes : MakesValues tyenv env rule.root_term.0 t =
+        record { rule = rule; among = among env.rules i rule at; root = refl; made = is } in
         record { rules = ruled; free = runs.reached t (at_once makes); reached = λ to reaches. runs.reached to (onwards makes reaches) }
 
-    rule_sound : (i : ℕ) (rule : Rule) → slice_get (terms_of program).rules i ≡ Some rule → RunsIn program rule.root_term.0
-        → IsSoundRule (checked program) (RunsIn program) (rule_shown names rule)
+    rule_sound : (i : ℕ) (rule : Rule) → slice_get env.rules i ≡ Some rule → IsRunnable tyenv env rule.root_term.0
+        → IsSoundRule (checked_by tyenv env) (IsRunnable tyenv env) (rule_shown names rule)
     rule_sound i rule at runs =
         let typed = rule_shown names rule in
         let there = typed_there i rule at in
@@ -358,17 +373,17 @@ module _ (program : Program) (defs : List Def) (types : Environment) (made : Mak
               pure_steps typed.right (steps_pure declared typed.variables is.flags flags is.root.ret typed.right is.right));
         }
 
-    pub rules_sound : (i : ℕ) (rule : TypedRule) → slice_get (checked program).rules i ≡ Some rule → RunsIn program rule.root
-        → IsSoundRule (checked program) (RunsIn program) rule
+    pub rules_sound : (i : ℕ) (rule : TypedRule) → slice_get (checked_by tyenv env).rules i ≡ Some rule → IsRunnable tyenv env rule.root
+        → IsSoundRule (checked_by tyenv env) (IsRunnable tyenv env) rule
     rules_sound i rule at runs =
-        let (made_rule, there, is) = mapped_at (rule_shown names) (terms_of program).rules i rule at in
-        subst (IsSoundRule (checked program) (RunsIn program)) is
-        (rule_sound i made_rule there (subst (RunsIn program) (sym (ap (λ (r : TypedRule). r.root) is)) runs))
+        let (made_rule, there, is) = mapped_at (rule_shown names) env.rules i rule at in
+        subst (IsSoundRule (checked_by tyenv env) (IsRunnable tyenv env)) is
+        (rule_sound i made_rule there (subst (IsRunnable tyenv env) (sym (ap (λ (r : TypedRule). r.root) is)) runs))
 
   -- the root of each rule has rules
-  pub rules_rooted : (i : ℕ) (rule : TypedRule) → slice_get (checked program).rules i ≡ Some rule
-      → (checked program).has_rules rule.root ≡ true
+  pub rules_rooted : (i : ℕ) (rule : TypedRule) → slice_get (checked_by tyenv env).rules i ≡ Some rule
+      → (checked_by tyenv env).has_rules rule.root ≡ true
   rules_rooted i rule at =
-      let (made_rule, there, is) = mapped_at (rule_shown names) (terms_of program).rules i rule at in
-      some_passes (λ (r : Rule). r.root_term.0 == rule.root) (terms_of program).rules i made_rule there
+      let (made_rule, there, is) = mapped_at (rule_shown names) env.rules i rule at in
+      some_passes (λ (r : Rule). r.root_term.0 == rule.root) env.rules i made_rule there
       (eq-eqb made_rule.root_term.0 rule.root (ap (λ (r : TypedRule). r.root) is))

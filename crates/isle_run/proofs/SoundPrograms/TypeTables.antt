@@ -1,6 +1,5 @@
 -- What the tables of types say of fields and names is what the definitions say.
-use Rattle.std.proofs.Common.{◌≡◌, ℕ, zero, suc, ◌+◌, ◌<◌, List, [], ◌∷◌, ◌++◌, map, length, Option, None, Some, slice_get, unwrap_or}
-use Rattle.std.proofs.Common.{codes}
+use Rattle.std.proofs.Common.{◌≡◌, ℕ, zero, suc, ◌+◌, ◌<◌, List, [], ◌∷◌, ◌++◌, map, length, Option, None, Some, slice_get, unwrap_or, codes}
 use Rattle.std.proofs.Common.{refl, ◌∙◌, ap, subst, arith}
 use Rattle.std.specs.List.{AllZip}
 use Rattle.std.specs.Option.{option_map, option_and_then}
@@ -16,8 +15,8 @@ use Rattle.isle_types.specs.Environment.{Environment, NamedType, NamedVariant, T
 use Rattle.isle_types.specs.TypeEnvs.{Shows, IsShown, IsShownShape, IsShownVariant, type_at, type_name, variants_of, type_of_constant}
 use Rattle.isle_types.specs.TypeTables.{TypeTables}
 use Rattle.isle_types.proofs.Zipped.{zipped_at}
-use Rattle.isle_terms.specs.Meaning.Facts.{type_shape}
-use Rattle.isle_terms.specs.Meaning.Facts as facts
+use Rattle.isle_meaning.specs.Facts.{type_shape}
+use Rattle.isle_meaning.specs.Facts as facts
 use Rattle.isle_terms.proofs.Collections.TypeTerms.{fields_numbers, zipped_length}
 use Rattle.isle_run.specs.Meanings.{fields_of_variant, variant_types, struct_types}
 use Rattle.isle_run.specs.Programs.{number_of}

@@ -7,10 +7,10 @@ use Rattle.isle_syntax.proofs.Productions.OneReading.{whole_reading, spells_of}
 use Rattle.isle_layout.proofs.ReadsBack.Prints.{print_reads_back}
 use Rattle.isle_layout.proofs.ReadsBack.Formatted.{spelt_is_writable}
 use Rattle.isle_run.specs.Compiled.{AreSpelt}
-use Rattle.isle_run.specs.Laws.Spelling.{AreAlike}
+use Rattle.isle_meaning.specs.Laws.Spelling.{AreAlike}
 use Rattle.isle_run.specs.Laws.Formatting.{AreFormatted, FormattedTextsAreAlike}
 use Rattle.isle_run.proofs.Compiling.OneAcceptance.{spelt_once}
-use Rattle.isle_run.proofs.Spelling.Lists.{map_joined}
+use Rattle.isle_meaning.proofs.Spelling.Lists.{map_joined}
 
 -- texts whose numbers count from one on
 formatted_from : (first width : ℕ) (files others : List SourceFile) (defs : List Def) → AreFormatted first width files others

@@ -6,23 +6,23 @@ use Rattle.isle_syntax.specs.Trees.WithoutPos.{def_without_pos}
 use Rattle.isle_types.specs.Environment.{Environment, Makes, AreWithinSizes}
 use Rattle.isle_types.proofs.OneEnvironment.{one_environment}
 use Rattle.isle_terms.specs.Definitions.{TermEnvironment, MakesTerms, declared_by}
-use Rattle.isle_terms.specs.Meaning.Facts.{TermFacts, facts_of}
-use Rattle.isle_terms.specs.Meaning.Worlds.{CheckedProgram}
+use Rattle.isle_meaning.specs.Facts.{TermFacts, facts_of}
+use Rattle.isle_meaning.specs.Worlds.{CheckedProgram}
 use Rattle.isle_terms.proofs.OneTermEnvironment.{one_term_environment}
 use Rattle.isle_blocks.specs.RuleFaults.{AreFaultless}
 use Rattle.isle_run.specs.declared.program.Program.{Program}
 use Rattle.isle_run.specs.Compiled.{IsProgramOf, max_levels, max_nodes}
-use Rattle.isle_run.specs.DefinedPrograms.{defined_program}
+use Rattle.isle_meaning.specs.DefinedPrograms.{defined_program}
 use Rattle.isle_run.specs.Meanings.{checked}
-use Rattle.isle_run.specs.Laws.Spelling.{AreAlike, AreAlikePrograms, AlikeTextsAreAcceptedAlike, AlikeTextsMakeAlikePrograms}
-use Rattle.isle_run.specs.Laws.Spelling.{typed_rule_without_pos}
+use Rattle.isle_meaning.specs.Laws.Spelling.{AreAlike, AreAlikePrograms, typed_rule_without_pos}
+use Rattle.isle_run.specs.Laws.Spelling.{AlikeTextsAreAcceptedAlike, AlikeTextsMakeAlikePrograms}
 use Rattle.isle_run.proofs.Compiling.OneAcceptance.{files_spelt_once}
 use Rattle.isle_run.proofs.SoundPrograms.Defined.{program_agrees}
-use Rattle.isle_run.proofs.Spelling.Bare.{bare_types, bare_terms}
-use Rattle.isle_run.proofs.Spelling.Meanings.{faultless_like}
-use Rattle.isle_run.proofs.Spelling.Programs.{facts_bare, program_bare, alike_back, alike_chain}
-use Rattle.isle_run.proofs.Spelling.Terms.{made_there, made_back}
-use Rattle.isle_run.proofs.Spelling.Types.{makes_there, makes_back, within_there, within_back}
+use Rattle.isle_meaning.proofs.Spelling.Bare.{bare_types, bare_terms}
+use Rattle.isle_run.proofs.Spelling.Faults.{faultless_like}
+use Rattle.isle_meaning.proofs.Spelling.Programs.{facts_bare, program_bare, alike_back, alike_chain}
+use Rattle.isle_meaning.proofs.Spelling.Terms.{made_there, made_back}
+use Rattle.isle_meaning.proofs.Spelling.Types.{makes_there, makes_back, within_there, within_back}
 
 -- the definitions of one list make what those of the other make, but for positions
 record Remade (types : Environment) (environment : TermEnvironment) (those : List Def) : Type 0 where

@@ -6,11 +6,11 @@ use Rattle.std.proofs.lemmas.List.{take_all, get_or-reverse, get_or_past}
 use Rattle.std.proofs.lemmas.Bool.{cases_lt}
 use Rattle.isle_terms.specs.Values.{ValueTree, ValueTrees, bool_value, int_value, big_value, const_value, opaque_value, data_value}
 use Rattle.isle_terms.specs.Values.{no_values, more_values}
-use Rattle.isle_run.specs.declared.value.Node.{Node}
-use Rattle.isle_run.specs.declared.value.Node.TheVariants.{Bool, Int, Big, Const, Opaque, Data}
+use Rattle.isle_run.specs.declared.values.Node.{Node}
+use Rattle.isle_run.specs.declared.values.Node.TheVariants.{Bool, Int, Big, Const, Opaque, Data}
 use Rattle.isle_run.specs.Values.Nodes.{count_of, sizes_of, nodes_of, nodes_all, first_values, later_values, put, values_in}
 use Rattle.isle_run.specs.Stores.Laying.{sizes_behind, AreLaid, IsLeaf}
-use Rattle.isle_run.proofs.Values.Printing.{sized_all}
+use Rattle.isle_run.proofs.GroundValues.Printing.{sized_all}
 use Rattle.isle_run.proofs.Stores.Sharing.{reverse_pushed}
 
 -- as many counts as values

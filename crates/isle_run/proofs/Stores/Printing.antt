@@ -15,20 +15,18 @@ use Rattle.isle_terms.specs.declared.terms.Term.{Term}
 use Rattle.isle_terms.specs.declared.terms.TermKind.{TermKind}
 use Rattle.isle_terms.specs.declared.terms.TermKind.TheVariants.{EnumVariant, Struct as StructTerm, Decl}
 use Rattle.isle_terms.specs.Values.{ValueTree, ValueTrees, bool_value as bool_tree, int_value as int_tree, big_value as big_tree}
-use Rattle.isle_terms.specs.Values.{const_value as const_tree, opaque_value as opaque_tree, data_value as data_tree}
-use Rattle.isle_terms.specs.Values.{no_values as no_trees}
+use Rattle.isle_terms.specs.Values.{const_value as const_tree, opaque_value as opaque_tree, data_value as data_tree, no_values as no_trees}
 use Rattle.isle_terms.specs.Values.{more_values as more_trees}
-use Rattle.isle_terms.specs.Meaning.Facts.{variant_shape, struct_shape}
-use Rattle.isle_terms.specs.Meaning.Values.{Value, Values}
-use Rattle.isle_terms.specs.Meaning.ValueTypes.{ValueFacts, TypeKind, truth_kind, integer_kind, primitive_kind, data_kind, no_kind}
-use Rattle.isle_terms.specs.Meaning.ValueTypes.{IsIntOf, IsBigOf}
-use Rattle.isle_terms.specs.Meaning.ValueTypes.{IsOfType, AreOfTypes}
-use Rattle.isle_terms.specs.Meaning.GroundValues.{value_of, values_of, data_of_shape, type_of_data, IsValueOf, AreValuesOf}
+use Rattle.isle_meaning.specs.Facts.{variant_shape, struct_shape}
+use Rattle.isle_meaning.specs.Values.{Value, Values}
+use Rattle.isle_meaning.specs.ValueTypes.{ValueFacts, TypeKind, truth_kind, integer_kind, primitive_kind, data_kind, no_kind, IsIntOf, IsBigOf}
+use Rattle.isle_meaning.specs.ValueTypes.{IsOfType, AreOfTypes}
+use Rattle.isle_meaning.specs.GroundValues.{value_of, values_of, data_of_shape, type_of_data, IsValueOf, AreValuesOf}
 use Rattle.isle_run.specs.declared.program.Program.{Program}
 use Rattle.isle_run.specs.Programs.{types_of, value_facts, shape_made, shape_of_term, data_made, data_of_term, types_of_term, term_named}
 use Rattle.isle_run.specs.Values.Settled.{field_types}
-use Rattle.isle_run.specs.Stores.Printing.{HasNamedData, printed_unsigned, printed_sized, printed_int, printed, printed_all, variant_name}
-use Rattle.isle_run.specs.Stores.Printing.{struct_name}
+use Rattle.isle_run.specs.Sound.{HasNamedData}
+use Rattle.isle_run.specs.Stores.Printing.{printed_unsigned, printed_sized, printed_int, printed, printed_all, variant_name, struct_name}
 
 -- an unsigned integer below 2^127 is printed as itself
 unsigned_printed : (n : ℤ) → HasNumber U128 n → printed_unsigned n ≡ int_tree n

@@ -1,20 +1,19 @@
 -- Values put into a store node by node.
 use Rattle.std.proofs.Common.{◌≡◌, ◌+◌, ◌-◌, ◌<◌, ◌≤◌, ◌++◌, ℕ, zero, suc, List, [], ◌∷◌, Option, Some, None, slice_get, length, take}
-use Rattle.std.proofs.Common.{drop, reverse}
-use Rattle.std.proofs.Common.{get_or, sym, ◌∙◌, ap, subst, arith}
+use Rattle.std.proofs.Common.{drop, reverse, get_or, sym, ◌∙◌, ap, subst, arith}
 use Rattle.std.proofs.lemmas.List.{append-nil, reverse-append, length-drop, drop_more, take_more, take_all, drop_all}
 use Rattle.isle_terms.specs.Values.{ValueTree, ValueTrees, no_values as no_trees, more_values as more_trees, value_list}
-use Rattle.isle_terms.specs.Meaning.Facts.{TermShape, variant_shape, struct_shape, declared_shape}
-use Rattle.isle_terms.specs.Meaning.Values.{Values, no_values, more_values}
-use Rattle.isle_terms.specs.Meaning.ValueTypes.{ValueFacts}
-use Rattle.isle_terms.specs.Meaning.GroundValues.{value_of, values_of, data_of_shape, type_of_data}
-use Rattle.isle_run.specs.declared.value.Node.{Node}
-use Rattle.isle_run.specs.declared.value.Node.TheVariants.{Bool, Int, Big, Const, Opaque, Data}
-use Rattle.isle_run.specs.declared.store.Stored.{Stored}
+use Rattle.isle_meaning.specs.Facts.{TermShape, variant_shape, struct_shape, declared_shape}
+use Rattle.isle_meaning.specs.Values.{Values, no_values, more_values}
+use Rattle.isle_meaning.specs.ValueTypes.{ValueFacts}
+use Rattle.isle_meaning.specs.GroundValues.{value_of, values_of, data_of_shape, type_of_data}
+use Rattle.isle_run.specs.declared.values.Node.{Node}
+use Rattle.isle_run.specs.declared.values.Node.TheVariants.{Bool, Int, Big, Const, Opaque, Data}
+use Rattle.isle_run.specs.declared.calls.store.Stored.{Stored}
 use Rattle.isle_run.specs.Values.Nodes.{first_values, later_values, put, nodes_of, values_in}
 use Rattle.isle_run.specs.Stores.Values.{Stands, StandEach, Extends}
 use Rattle.isle_run.specs.Stores.Sharing.{stored_data, stored_node, numbers_left}
-use Rattle.isle_run.proofs.Values.Laying.{values_before}
+use Rattle.isle_run.proofs.GroundValues.Laying.{values_before}
 use Rattle.isle_run.proofs.Stores.Values.{stand_longer}
 
 -- a list from its end is its last item before the others from theirs

@@ -6,24 +6,22 @@ use Rattle.std.proofs.lemmas.Option.{none-some}
 use Rattle.isle_types.specs.declared.ids.TypeId.{TypeId}
 use Rattle.isle_types.specs.TypeTables.{TypeTables}
 use Rattle.isle_types.specs.TypeEnvs.{type_at}
-use Rattle.isle_terms.specs.Values.{ValueTree, ValueTrees, data_value as data_tree, no_values as no_trees, more_values as more_trees}
-use Rattle.isle_terms.specs.Values.{value_list}
-use Rattle.isle_terms.specs.Meaning.Values.{Value, Values}
-use Rattle.isle_terms.specs.Meaning.Values.{no_values, more_values}
-use Rattle.isle_terms.specs.Meaning.ValueTypes.{ValueFacts, IsOfType, AreOfTypes}
-use Rattle.isle_terms.specs.Meaning.GroundValues.{value_of, values_of}
-use Rattle.isle_run.specs.declared.store.Stored.{Stored}
-use Rattle.isle_run.specs.declared.store.printing.Step.{Step}
-use Rattle.isle_run.specs.declared.store.printing.Step.TheVariants.{Number, Data}
+use Rattle.isle_terms.specs.Values.{ValueTree, ValueTrees, data_value as data_tree, no_values as no_trees, more_values as more_trees, value_list}
+use Rattle.isle_meaning.specs.Values.{Value, Values, no_values, more_values}
+use Rattle.isle_meaning.specs.ValueTypes.{ValueFacts, IsOfType, AreOfTypes}
+use Rattle.isle_meaning.specs.GroundValues.{value_of, values_of}
+use Rattle.isle_run.specs.declared.calls.store.Stored.{Stored}
+use Rattle.isle_run.specs.declared.calls.store.printing.Step.{Step}
+use Rattle.isle_run.specs.declared.calls.store.printing.Step.TheVariants.{Number, Data}
 use Rattle.isle_run.specs.Values.Nodes.{count_of, joined, first_values, later_values, put, nodes_of, value_in}
-use Rattle.isle_run.specs.declared.value.Node.{Node}
-use Rattle.isle_run.specs.declared.value.Node.TheVariants.{Bool as BoolNode, Int as IntNode, Big as BigNode, Const as ConstNode}
-use Rattle.isle_run.specs.declared.value.Node.TheVariants.{Opaque as OpaqueNode, Data as DataNode}
+use Rattle.isle_run.specs.declared.values.Node.{Node}
+use Rattle.isle_run.specs.declared.values.Node.TheVariants.{Bool as BoolNode, Int as IntNode, Big as BigNode, Const as ConstNode}
+use Rattle.isle_run.specs.declared.values.Node.TheVariants.{Opaque as OpaqueNode, Data as DataNode}
 use Rattle.isle_run.specs.Programs.{number_of}
 use Rattle.isle_run.specs.Stores.Values.{Stands, StandEach}
 use Rattle.isle_run.specs.Stores.Laying.{IsLeaf}
 use Rattle.isle_run.specs.Stores.Printing.{printed, printed_all, Leads, field_steps}
-use Rattle.isle_run.proofs.Values.Laying.{first_joined, later_joined, value_laid}
+use Rattle.isle_run.proofs.GroundValues.Laying.{first_joined, later_joined, value_laid}
 use Rattle.isle_run.proofs.Stores.Values.{stands_one}
 
 -- a leaf is put before values as the value of its node

@@ -15,14 +15,14 @@ use Rattle.isle_types.specs.Names.{AreDistinct}
 use Rattle.isle_types.proofs.Lists.{slice_get-kept, slice_get-last, slice_get-pushed}
 use Rattle.isle_blocks.proofs.EqualSites.{type-decides, variant-decides}
 use Rattle.isle_blocks.proofs.Numbering.{lookup-inserted, lookup-kept}
-use Rattle.isle_run.specs.declared.store.Stored.{Stored}
-use Rattle.isle_run.specs.declared.store.Stored.TheVariants.{Bool, Int, Const, Opaque, Variant, Struct}
-use Rattle.isle_run.specs.contracts.store.StoredPartialEq.TheImpl as stored_of
-use Rattle.isle_run.specs.contracts.store.StoredOrd.TheImpl as order
-use Rattle.isle_run.specs.contracts.store.StoredOrd.TheImpl.Laws as order_laws
-use Rattle.isle_run.specs.contracts.store.StoredClone.TheImpl.{by_variants}
+use Rattle.isle_run.specs.declared.calls.store.Stored.{Stored}
+use Rattle.isle_run.specs.declared.calls.store.Stored.TheVariants.{Bool, Int, Const, Opaque, Variant, Struct}
+use Rattle.isle_run.specs.contracts.calls.store.StoredPartialEq.TheImpl as stored_of
+use Rattle.isle_run.specs.contracts.calls.store.StoredOrd.TheImpl as order
+use Rattle.isle_run.specs.contracts.calls.store.StoredOrd.TheImpl.Laws as order_laws
+use Rattle.isle_run.specs.contracts.calls.store.StoredClone.TheImpl.{by_variants}
 use Rattle.isle_run.specs.Stores.Tables.{AreNumbered, IsFound}
-use Rattle.isle_run.proofs.Values.EqualNodes.{both, through}
+use Rattle.isle_run.proofs.GroundValues.EqualNodes.{both, through}
 
 -- `==` of nodes holds exactly where the two are the same
 pub stored-decides : (a b : Stored) → Decides ((stored_of.ghosts).eq a b) (a ≡ b)

@@ -8,10 +8,10 @@ use Rattle.isle_types.specs.TypeEnvs.{type_at}
 use Rattle.isle_types.specs.declared.ids.TypeId.{TypeId}
 use Rattle.isle_types.specs.declared.ids.VariantId.{VariantId}
 use Rattle.isle_types.proofs.Lists.{slice_get-kept}
-use Rattle.isle_terms.specs.Meaning.Values.{Value, Values, bool_value, int_value, constant_value, opaque_value, made_variant, made_struct}
-use Rattle.isle_terms.specs.Meaning.Values.{no_values, more_values}
-use Rattle.isle_run.specs.declared.store.Stored.{Stored}
-use Rattle.isle_run.specs.declared.store.Stored.TheVariants.{Bool, Int, Const, Opaque, Variant, Struct}
+use Rattle.isle_meaning.specs.Values.{Value, Values, bool_value, int_value, constant_value, opaque_value, made_variant, made_struct}
+use Rattle.isle_meaning.specs.Values.{no_values, more_values}
+use Rattle.isle_run.specs.declared.calls.store.Stored.{Stored}
+use Rattle.isle_run.specs.declared.calls.store.Stored.TheVariants.{Bool, Int, Const, Opaque, Variant, Struct}
 use Rattle.isle_run.specs.Stores.Values.{variant_at, Stands, StandEach, Extends}
 
 -- a store extends itself

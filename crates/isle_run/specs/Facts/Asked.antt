@@ -6,7 +6,7 @@ use Rattle.isle_types.specs.TypeTables.{TypeTables}
 use Rattle.isle_terms.specs.Shown.TermTables.{TermTables}
 use Rattle.isle_blocks.specs.Building.Contents.{Marked}
 use Rattle.isle_blocks.specs.RuleSets.{RulesOverSites}
-use Rattle.isle_run.specs.declared.numbers.Numbers.{Numbers}
+use Rattle.isle_run.specs.declared.facts.Numbers.{Numbers}
 use Rattle.isle_run.specs.Facts.Inhabited.{AreAllInhabited}
 use Rattle.isle_run.specs.Facts.Reach.{is_root, IsBarred}
 use Rattle.isle_run.specs.Facts.Steps.{steps_in}

@@ -1,18 +1,18 @@
 -- One call of a compiled program has one meaning.
 use Rattle.std.specs.Prelude.{◌≡◌, ℕ, Bool, true, false, List, Option}
 use Rattle.isle_syntax.specs.Positions.Files.{SourceFile}
-use Rattle.isle_terms.specs.Meaning.Values.{Value, Values}
-use Rattle.isle_terms.specs.Meaning.Worlds.{CheckedProgram, Answers, Event}
-use Rattle.isle_terms.specs.Meaning.Calls.{Means}
+use Rattle.isle_meaning.specs.Values.{Value, Values}
+use Rattle.isle_meaning.specs.Worlds.{CheckedProgram, Answers, Event}
+use Rattle.isle_meaning.specs.Calls.{Means}
 use Rattle.isle_blocks.specs.RuleFaults.{AreFaultless}
 use Rattle.isle_run.specs.declared.program.Program.{Program}
-use Rattle.isle_run.specs.Laws.Calls.{AreOne, HasNoTies, HasValues}
+use Rattle.isle_meaning.specs.Laws.Calls.{AreOne, HasNoTies, HasValues}
 use Rattle.isle_run.specs.Compiled.{IsProgramOf}
 use Rattle.isle_run.specs.Facts.Inhabited.{AreAllInhabited}
 use Rattle.isle_run.specs.Meanings.{checked}
 use Rattle.isle_run.specs.Programs.{types_of}
 use Rattle.isle_run.specs.Laws.Sound.{RunsIn}
-use Rattle.isle_run.specs.SoundPrograms.{IsSound}
+use Rattle.isle_meaning.specs.SoundPrograms.{IsSound}
 
 -- any term
 abbrev pub every_term : ℕ → Type 0

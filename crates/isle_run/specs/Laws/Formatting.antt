@@ -5,7 +5,7 @@ use Rattle.isle_syntax.specs.declared.ast.Def.{Def}
 use Rattle.isle_syntax.specs.Positions.Files.{SourceFile}
 use Rattle.isle_layout.specs.Formats.{Formats}
 use Rattle.isle_run.specs.Compiled.{AreSpelt}
-use Rattle.isle_run.specs.Laws.Spelling.{AreAlike}
+use Rattle.isle_meaning.specs.Laws.Spelling.{AreAlike}
 
 -- the texts of these files, which are numbered from `first`, formatted at this width, are those of the others
 abbrev pub AreFormatted : (first width : ℕ) → List SourceFile → List SourceFile → Type 0

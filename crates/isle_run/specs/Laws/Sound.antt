@@ -6,9 +6,9 @@ use Rattle.isle_run.specs.Programs.{types_of, terms_of}
 use Rattle.isle_run.specs.Facts.Reach.{IsRunnable}
 use Rattle.isle_run.specs.Meanings.{checked}
 use Rattle.isle_run.specs.Compiled.{IsProgramOf}
-use Rattle.isle_run.specs.DefinedPrograms.{defined_program}
-use Rattle.isle_run.specs.SoundPrograms.{IsSound}
-use Rattle.isle_run.specs.Stores.Printing.{HasNamedData}
+use Rattle.isle_meaning.specs.DefinedPrograms.{defined_program}
+use Rattle.isle_meaning.specs.SoundPrograms.{IsSound}
+use Rattle.isle_run.specs.Sound.{HasNamedData}
 
 -- a term of a program can be run
 abbrev pub RunsIn : Program → ℕ → Type 0

@@ -11,7 +11,7 @@ use Rattle.isle_types.specs.TypeEnvs.{type_of_constant}
 use Rattle.isle_terms.specs.Signatures.{Signature, flags_of}
 use Rattle.isle_terms.specs.Shown.TermTables.{TermTables}
 use Rattle.isle_terms.specs.Shown.ShownTerms.{term_shown, numbers_of}
-use Rattle.isle_terms.specs.Meaning.Facts.{TermFacts, shape_of_form, never_fails, no_term}
+use Rattle.isle_meaning.specs.Facts.{TermFacts, shape_of_form, never_fails, no_term}
 
 -- the term of a number
 abbrev pub signature_at : TypeTables → TermTables → ℕ → Signature

@@ -1,8 +1,8 @@
 -- Values that are laid out from the last to the first.
 use Rattle.std.specs.Prelude.{◌≡◌, ℕ, List, [], ◌∷◌, reverse}
 use Rattle.isle_terms.specs.Values.{ValueTrees, no_values, more_values}
-use Rattle.isle_run.specs.declared.value.Node.{Node}
-use Rattle.isle_run.specs.declared.value.Node.TheVariants.{Bool, Int, Big, Const, Opaque, Data}
+use Rattle.isle_run.specs.declared.values.Node.{Node}
+use Rattle.isle_run.specs.declared.values.Node.TheVariants.{Bool, Int, Big, Const, Opaque, Data}
 use Rattle.isle_run.specs.Values.Nodes.{sizes_of, nodes_all, values_in}
 
 -- for each value, how many nodes those behind it have in all

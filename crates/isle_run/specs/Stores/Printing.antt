@@ -1,48 +1,23 @@
 -- The values that the numbers of a store are printed to.
-use Rattle.std.specs.Prelude.{◌≡◌, ℕ, ℤ, pos, negsuc, List, [], ◌∷◌, Option, Some, None, slice_get, unwrap_or}
-use Rattle.std.specs.Option.{option_and_then}
+use Rattle.std.specs.Prelude.{◌≡◌, ℕ, ℤ, pos, negsuc, List, [], ◌∷◌}
 use Rattle.std.specs.Int.{w128, cast_unsigned}
-use Rattle.isle_types.specs.declared.types.Variant.{Variant}
 use Rattle.isle_types.specs.declared.types.IntType.{IntType}
 use Rattle.isle_types.specs.declared.types.IntType.TheVariants.{U8, U16, U32, U64, U128, USize, I8, I16, I32, I64, I128, ISize}
 use Rattle.isle_types.specs.TypeTables.{TypeTables}
-use Rattle.isle_types.specs.TypeEnvs.{name_of, type_name, type_at, variant_of}
+use Rattle.isle_types.specs.TypeEnvs.{type_at}
 use Rattle.isle_terms.specs.Values.{ValueTree, ValueTrees, bool_value as bool_tree, int_value as int_tree, big_value as big_tree}
-use Rattle.isle_terms.specs.Values.{const_value as const_tree, opaque_value as opaque_tree, data_value as data_tree}
-use Rattle.isle_terms.specs.Values.{no_values as no_trees}
+use Rattle.isle_terms.specs.Values.{const_value as const_tree, opaque_value as opaque_tree, data_value as data_tree, no_values as no_trees}
 use Rattle.isle_terms.specs.Values.{more_values as more_trees}
-use Rattle.isle_terms.specs.Meaning.Facts.{variant_shape, struct_shape}
-use Rattle.isle_terms.specs.Meaning.Values.{Value, Values, bool_value, int_value, constant_value, opaque_value, made_variant, made_struct}
-use Rattle.isle_terms.specs.Meaning.Values.{no_values, more_values}
-use Rattle.isle_terms.specs.Meaning.ValueTypes.{ValueFacts, TypeKind, truth_kind, integer_kind, primitive_kind, data_kind, no_kind}
-use Rattle.isle_run.specs.declared.program.Program.{Program}
-use Rattle.isle_run.specs.declared.store.Stored.{Stored}
-use Rattle.isle_run.specs.declared.store.printing.Step.{Step}
-use Rattle.isle_run.specs.declared.store.printing.Step.TheVariants.{Number, Data}
+use Rattle.isle_meaning.specs.Values.{Value, Values, bool_value, int_value, constant_value, opaque_value, made_variant, made_struct}
+use Rattle.isle_meaning.specs.Values.{no_values, more_values}
+use Rattle.isle_meaning.specs.ValueTypes.{ValueFacts, TypeKind, truth_kind, integer_kind, primitive_kind, data_kind, no_kind}
+use Rattle.isle_run.specs.declared.calls.store.Stored.{Stored}
+use Rattle.isle_run.specs.declared.calls.store.printing.Step.{Step}
+use Rattle.isle_run.specs.declared.calls.store.printing.Step.TheVariants.{Number, Data}
 use Rattle.isle_run.specs.Values.Nodes.{first_values, later_values}
-use Rattle.isle_run.specs.Programs.{types_of, value_facts}
 use Rattle.isle_run.specs.Values.Settled.{field_types}
-use Rattle.isle_run.specs.Stores.Values.{variant_at, Stands}
-
--- the full name of a variant; empty where there is none
-abbrev pub fullname_of : TypeTables → Option Variant → List ℕ
-fullname_of env None = []
-fullname_of env (Some variant) = unwrap_or (name_of env variant.fullname) []
-
--- the full name of a type's variant
-abbrev pub variant_name : TypeTables → ℕ → ℕ → List ℕ
-variant_name env ty k = fullname_of env (variant_of env (type_at ty) (variant_at k))
-
--- the name of a type; empty where there is none
-abbrev pub struct_name : TypeTables → ℕ → List ℕ
-struct_name env ty = unwrap_or (option_and_then (type_name env) (slice_get env.types ty)) []
-
--- data is named by its type
-pub record HasNamedData (program : Program) : Type 0 where
-  pub variants : (name : List ℕ) (k ty : ℕ) (types : List ℕ) → (value_facts program).shape_named name ≡ Some (variant_shape k)
-      → (value_facts program).data_named name ≡ Some (ty, types) → variant_name (types_of program) ty k ≡ name
-  pub structs : (name : List ℕ) (ty : ℕ) (types : List ℕ) → (value_facts program).shape_named name ≡ Some struct_shape
-      → (value_facts program).data_named name ≡ Some (ty, types) → struct_name (types_of program) ty ≡ name
+use Rattle.isle_run.specs.Stores.Values.{Stands}
+pub use Rattle.isle_run.specs.Tables.{fullname_of, variant_name, struct_name}
 
 -- the integer of 128 bits as an unsigned one
 abbrev pub printed_unsigned : ℤ → ValueTree

@@ -2,14 +2,14 @@
 use Rattle.std.specs.Prelude.{ℕ, List, take, drop, Option, Some, None}
 use Rattle.std.specs.Int.{w128, cast_signed}
 use Rattle.isle_types.specs.TypeEnvs.{type_at}
-use Rattle.isle_terms.specs.Meaning.Facts.{TermShape, variant_shape, struct_shape, declared_shape}
-use Rattle.isle_terms.specs.Meaning.ValueTypes.{ValueFacts}
-use Rattle.isle_terms.specs.Meaning.GroundValues.{type_of_data}
-use Rattle.isle_run.specs.declared.value.Node.{Node}
-use Rattle.isle_run.specs.declared.value.Node.TheVariants.{Bool as BoolNode, Int as IntNode, Big as BigNode, Const as ConstNode}
-use Rattle.isle_run.specs.declared.value.Node.TheVariants.{Opaque as OpaqueNode, Data}
-use Rattle.isle_run.specs.declared.store.Stored.{Stored}
-use Rattle.isle_run.specs.declared.store.Stored.TheVariants.{Bool, Int, Const, Opaque, Variant, Struct}
+use Rattle.isle_meaning.specs.Facts.{TermShape, variant_shape, struct_shape, declared_shape}
+use Rattle.isle_meaning.specs.ValueTypes.{ValueFacts}
+use Rattle.isle_meaning.specs.GroundValues.{type_of_data}
+use Rattle.isle_run.specs.declared.values.Node.{Node}
+use Rattle.isle_run.specs.declared.values.Node.TheVariants.{Bool as BoolNode, Int as IntNode, Big as BigNode, Const as ConstNode}
+use Rattle.isle_run.specs.declared.values.Node.TheVariants.{Opaque as OpaqueNode, Data}
+use Rattle.isle_run.specs.declared.calls.store.Stored.{Stored}
+use Rattle.isle_run.specs.declared.calls.store.Stored.TheVariants.{Bool, Int, Const, Opaque, Variant, Struct}
 use Rattle.isle_run.specs.Stores.Values.{variant_at}
 
 -- what is kept of data of this shape and type, by the numbers of its fields

@@ -3,10 +3,10 @@ use Rattle.std.specs.Prelude.{◌≢◌, ◌++◌, ℕ, List, []}
 use Rattle.isle_syntax.specs.declared.lexer.Token.{Token}
 use Rattle.isle_types.specs.declared.ids.TypeId.{TypeId}
 use Rattle.isle_terms.specs.Values.{ValueTree}
-use Rattle.isle_terms.specs.Meaning.ValueTypes.{IsOfType}
+use Rattle.isle_meaning.specs.ValueTypes.{IsOfType}
 use Rattle.isle_run.specs.declared.program.Program.{Program}
-use Rattle.isle_run.specs.declared.value.parsing.ValueFault.{ValueFault}
-use Rattle.isle_run.specs.declared.value.parsing.ValueFault.TheVariants.{V1, V2, V3, V4, Memory}
+use Rattle.isle_run.specs.declared.values.parsing.ValueFault.{ValueFault}
+use Rattle.isle_run.specs.declared.values.parsing.ValueFault.TheVariants.{V1, V2, V3, V4, Memory}
 use Rattle.isle_run.specs.Programs.{value_facts}
 use Rattle.isle_run.specs.Values.Settled.{settled}
 use Rattle.isle_run.specs.Values.TextTokens.{AreTokensOf, HasTokenFault}

@@ -1,8 +1,8 @@
 -- Values laid out node by node, each before its fields.
 use Rattle.std.specs.Prelude.{ℕ, suc, zero, ◌+◌, false, List, [], ◌∷◌, ◌++◌}
 use Rattle.isle_terms.specs.Values.{ValueTree, ValueTrees, bool_value, int_value, big_value, const_value, opaque_value, data_value, no_values, more_values}
-use Rattle.isle_run.specs.declared.value.Node.{Node}
-use Rattle.isle_run.specs.declared.value.Node.TheVariants.{Bool, Int, Big, Const, Opaque, Data}
+use Rattle.isle_run.specs.declared.values.Node.{Node}
+use Rattle.isle_run.specs.declared.values.Node.TheVariants.{Bool, Int, Big, Const, Opaque, Data}
 
 -- how many values
 abbrev pub count_of : ValueTrees → ℕ

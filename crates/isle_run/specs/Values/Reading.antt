@@ -4,9 +4,9 @@ use Rattle.isle_syntax.specs.Tokens.Names.{is_ident}
 use Rattle.isle_syntax.specs.declared.lexer.Token.{Token}
 use Rattle.isle_syntax.specs.declared.lexer.Token.TheVariants.{LParen, RParen, Symbol}
 use Rattle.isle_terms.specs.Values.{ValueTree, ValueTrees, data_value, no_values, more_values}
-use Rattle.isle_run.specs.declared.value.Node.{Node}
-use Rattle.isle_run.specs.declared.value.Node.TheVariants.{Data}
-use Rattle.isle_run.specs.declared.value.reading.Open.{Open}
+use Rattle.isle_run.specs.declared.values.Node.{Node}
+use Rattle.isle_run.specs.declared.values.Node.TheVariants.{Data}
+use Rattle.isle_run.specs.declared.values.reading.Open.{Open}
 use Rattle.isle_run.specs.Values.Nodes.{count_of, joined, nodes_of, nodes_all}
 use Rattle.isle_run.specs.Values.Tokens.{tokens_of, tokens_all, IsSpellable, AreSpellable}
 

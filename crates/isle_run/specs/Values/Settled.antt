@@ -3,7 +3,7 @@ use Rattle.std.specs.Prelude.{◌≡◌, ℕ, List, [], ◌∷◌, Option, Some,
 use Rattle.std.specs.Int.{w128, cast_signed}
 use Rattle.isle_syntax.specs.declared.lexer.Token.{Token}
 use Rattle.isle_terms.specs.Values.{ValueTree, ValueTrees, bool_value, int_value, big_value, const_value, opaque_value, data_value, no_values, more_values}
-use Rattle.isle_terms.specs.Meaning.ValueTypes.{TypeKind, ValueFacts, IsOfType, truth_kind, integer_kind, primitive_kind, data_kind, no_kind}
+use Rattle.isle_meaning.specs.ValueTypes.{TypeKind, ValueFacts, IsOfType, truth_kind, integer_kind, primitive_kind, data_kind, no_kind}
 use Rattle.isle_run.specs.Values.Tokens.{SpellValue}
 
 -- a number from 2^127 on, read at a kind of type

@@ -1,9 +1,9 @@
 -- Values that are settled node by node.
 use Rattle.std.specs.Prelude.{◌≡◌, ℕ, List, [], length}
 use Rattle.std.specs.Int.{w128, cast_signed}
-use Rattle.isle_terms.specs.Meaning.ValueTypes.{TypeKind, ValueFacts, truth_kind, integer_kind, primitive_kind, data_kind, no_kind}
-use Rattle.isle_run.specs.declared.value.Node.{Node}
-use Rattle.isle_run.specs.declared.value.Node.TheVariants.{Bool, Int, Big, Const, Opaque, Data}
+use Rattle.isle_meaning.specs.ValueTypes.{TypeKind, ValueFacts, truth_kind, integer_kind, primitive_kind, data_kind, no_kind}
+use Rattle.isle_run.specs.declared.values.Node.{Node}
+use Rattle.isle_run.specs.declared.values.Node.TheVariants.{Bool, Int, Big, Const, Opaque, Data}
 use Rattle.isle_run.specs.Values.Settled.{field_types}
 use Rattle.isle_run.specs.Values.TypedNodes.{NodeFits}
 

@@ -3,8 +3,8 @@ use Rattle.std.specs.Prelude.{◌≡◌, ◌+◌, ℕ, List, [], ◌∷◌, ◌+
 use Rattle.std.specs.Fmt.{decimal, signed_decimal}
 use Rattle.isle_terms.specs.Values.{ValueTree, ValueTrees, bool_value, int_value, big_value, const_value, opaque_value, data_value, no_values}
 use Rattle.isle_terms.specs.Values.{more_values}
-use Rattle.isle_run.specs.declared.value.Node.{Node}
-use Rattle.isle_run.specs.declared.value.Node.TheVariants.{Bool, Int, Big, Const, Opaque, Data}
+use Rattle.isle_run.specs.declared.values.Node.{Node}
+use Rattle.isle_run.specs.declared.values.Node.TheVariants.{Bool, Int, Big, Const, Opaque, Data}
 
 -- numbers in decimal, a constant behind `$`, an opaque value behind `v`, data in parentheses with their fields
 abbrev mutual

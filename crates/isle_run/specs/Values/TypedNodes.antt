@@ -1,11 +1,11 @@
 -- Values of a type, node by node.
 use Rattle.std.specs.Prelude.{◌≡◌, ◌<◌, ◌+◌, ◌^◌, ℕ, List, [], ◌∷◌, Some, length, slice_get}
-use Rattle.isle_terms.specs.Meaning.ValueTypes.{TypeKind, ValueFacts, IsIntOf, IsBigOf, HasConstants, truth_kind, integer_kind, primitive_kind, data_kind, no_kind}
-use Rattle.isle_run.specs.declared.value.Node.{Node}
-use Rattle.isle_run.specs.declared.value.Node.TheVariants.{Bool, Int, Big, Const, Opaque, Data}
+use Rattle.isle_meaning.specs.ValueTypes.{TypeKind, ValueFacts, IsIntOf, IsBigOf, HasConstants, truth_kind, integer_kind, primitive_kind, data_kind, no_kind}
+use Rattle.isle_run.specs.declared.values.Node.{Node}
+use Rattle.isle_run.specs.declared.values.Node.TheVariants.{Bool, Int, Big, Const, Opaque, Data}
 use Rattle.isle_run.specs.Values.Nodes.{nodes_below}
-use Rattle.isle_run.specs.declared.typing.Kind.{Kind}
-use Rattle.isle_run.specs.declared.typing.Kind.TheVariants.{Bool as KindBool, Int as KindInt, Primitive as KindPrimitive, Data as KindData, None as KindNone}
+use Rattle.isle_run.specs.declared.values.typing.Kind.{Kind}
+use Rattle.isle_run.specs.declared.values.typing.Kind.TheVariants.{Bool as KindBool, Int as KindInt, Primitive as KindPrimitive, Data as KindData, None as KindNone}
 
 -- a node is that of a value of a type, as far as the node itself tells
 abbrev pub NodeFits : ValueFacts → Node → ℕ → Type 0

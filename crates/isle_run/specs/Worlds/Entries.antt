@@ -1,15 +1,14 @@
 -- Entries of a table world's text, and the tokens that spell them.
-use Rattle.std.specs.Prelude.{◌≡◌, ◌++◌, ℕ, Bool, true, false, List, [], ◌∷◌, Option, Some, None, IsTrue, codes}
+use Rattle.std.specs.Prelude.{◌≡◌, ◌++◌, ℕ, Bool, true, false, List, [], ◌∷◌, Option, Some, None, IsTrue, codes, Vec}
 use Rattle.std.specs.Global.{Global}
 use Rattle.std.specs.Option.{option_map}
 use Rattle.isle_syntax.specs.Tokens.Names.{is_ident}
 use Rattle.isle_syntax.specs.declared.lexer.Token.{Token}
 use Rattle.isle_syntax.specs.declared.lexer.Token.TheVariants.{LParen, RParen, Symbol}
-use Rattle.std.specs.Prelude.{Vec}
 use Rattle.isle_terms.specs.Values.{ValueTree, ValueTrees, value_list}
-use Rattle.isle_run.specs.declared.world.entry.Side.{Side}
-use Rattle.isle_run.specs.declared.world.entry.Side.TheVariants.{Constructor, Extractor}
-use Rattle.isle_run.specs.declared.world.entry.Entry.{Entry}
+use Rattle.isle_run.specs.declared.worlds.entry.Side.{Side}
+use Rattle.isle_run.specs.declared.worlds.entry.Side.TheVariants.{Constructor, Extractor}
+use Rattle.isle_run.specs.declared.worlds.entry.Entry.{Entry}
 use Rattle.isle_run.specs.Values.Nodes.{count_of}
 use Rattle.isle_run.specs.Values.Tokens.{tokens_all, AreSpellable}
 

@@ -4,8 +4,8 @@ use Rattle.std.proofs.Common.{ap}
 use Rattle.std.specs.Coded.{Coded, coded_ℕ, coded_list, coded_option}
 use base.Stored.{Gv, gcons}
 use Rattle.isle_syntax.specs.Trees.Coded.{left, right}
-use Rattle.isle_run.specs.declared.world.entry.Side.{Side}
-use Rattle.isle_run.specs.declared.world.entry.Side.TheVariants.{Constructor, Extractor}
+use Rattle.isle_run.specs.declared.worlds.entry.Side.{Side}
+use Rattle.isle_run.specs.declared.worlds.entry.Side.TheVariants.{Constructor, Extractor}
 use Rattle.isle_run.specs.Values.Code.{value_trees_code}
 use Rattle.isle_run.specs.Worlds.Entries.{EntryTree}
 

@@ -9,11 +9,11 @@ use Rattle.isle_terms.specs.declared.terms.ExtractorKind.{ExtractorKind}
 use Rattle.isle_terms.specs.declared.terms.ExtractorKind.TheVariants.{InternalExtractor, ExternalExtractor}
 use Rattle.isle_terms.specs.Terms.{is_host_constructor}
 use Rattle.isle_terms.specs.Values.{ValueTrees}
-use Rattle.isle_terms.specs.Meaning.ValueTypes.{ValueFacts, AreOfTypes}
+use Rattle.isle_meaning.specs.ValueTypes.{ValueFacts, AreOfTypes}
 use Rattle.isle_run.specs.declared.program.Program.{Program}
-use Rattle.isle_run.specs.declared.world.entry.Side.{Side}
-use Rattle.isle_run.specs.declared.world.external.External.{External}
-use Rattle.isle_run.specs.declared.world.entry.Side.TheVariants.{Constructor, Extractor}
+use Rattle.isle_run.specs.declared.worlds.entry.Side.{Side}
+use Rattle.isle_run.specs.declared.worlds.external.External.{External}
+use Rattle.isle_run.specs.declared.worlds.entry.Side.TheVariants.{Constructor, Extractor}
 use Rattle.isle_run.specs.Worlds.Entries.{EntryTree}
 use Rattle.isle_run.specs.Programs.{number_of, term_named}
 use Rattle.isle_run.specs.Values.Settled.{settled_all}

@@ -4,9 +4,9 @@ use Rattle.isle_syntax.specs.declared.lexer.Token.{Token}
 use Rattle.isle_syntax.specs.Tokens.RemainingTokens.{RemainingTokens}
 use Rattle.isle_types.specs.declared.ids.TermId.{TermId}
 use Rattle.isle_run.specs.declared.program.Program.{Program}
-use Rattle.isle_run.specs.declared.world.entry.Side.{Side}
-use Rattle.isle_run.specs.declared.world.reading.WorldFault.{WorldFault}
-use Rattle.isle_run.specs.declared.world.reading.WorldFault.TheVariants.{X1, X2, X3, X4, X5, X6, Memory}
+use Rattle.isle_run.specs.declared.worlds.entry.Side.{Side}
+use Rattle.isle_run.specs.declared.worlds.reading.WorldFault.{WorldFault}
+use Rattle.isle_run.specs.declared.worlds.reading.WorldFault.TheVariants.{X1, X2, X3, X4, X5, X6, Memory}
 use Rattle.isle_run.specs.Programs.{term_name, value_facts}
 use Rattle.isle_run.specs.Worlds.Entries.{EntryTree, entry_tokens, IsSpellableEntry, HaveNoEntry}
 use Rattle.isle_run.specs.Worlds.Externals.{ExternalTypes, asked_by, asked_named, settled_entry, IsTypedEntry}

@@ -6,9 +6,9 @@ use Rattle.std.specs.Global.{Vec}
 use Rattle.std.specs.Coded.{coded_option}
 use Rattle.isle_syntax.specs.Trees.Equality.{same_coded}
 use Rattle.isle_terms.specs.Values.{ValueTree, ValueTrees, no_values, more_values}
-use Rattle.isle_run.specs.declared.world.entry.Side.{Side}
-use Rattle.isle_run.specs.declared.world.entry.Side.TheVariants.{Constructor, Extractor}
-use Rattle.isle_run.specs.declared.world.table.Key.{Key}
+use Rattle.isle_run.specs.declared.worlds.entry.Side.{Side}
+use Rattle.isle_run.specs.declared.worlds.entry.Side.TheVariants.{Constructor, Extractor}
+use Rattle.isle_run.specs.declared.worlds.table.Key.{Key}
 use Rattle.isle_run.specs.Values.Code.{value_trees_code}
 use Rattle.isle_run.specs.Worlds.EntryCode.{side_number}
 use Rattle.isle_run.specs.Worlds.Entries.{EntryTree, IsSameCall, part_shown}

@@ -1,6 +1,6 @@
 use Rattle.std.proofs.Common.{◌≡◌, inl, inr, Result, Ok, Err, rules}
 use Rattle.std.specs.Prelude.{IfOk, IfErr}
-use Rattle.isle_terms.specs.Meaning.Demands.{demands_of}
+use Rattle.isle_meaning.specs.Demands.{demands_of}
 use Rattle.isle_blocks.specs.AddedRules.{LacksRoomFor, name_in, facts_in}
 use Rattle.isle_blocks.specs.declared.sites.SiteFault.TheVariants.{Size}
 use Rattle.isle_blocks.proofs.Building.Naming.{name_by_injective}

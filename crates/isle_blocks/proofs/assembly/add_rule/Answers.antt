@@ -1,7 +1,7 @@
 use Rattle.std.proofs.Common.{List, Option, Some, None, subst}
 use Rattle.std.proofs.lemmas.Result.{err_from_is_err_and}
-use Rattle.isle_terms.specs.Meaning.Demands.{Among}
-use Rattle.isle_terms.specs.Meaning.Faults.{IsUnreachable}
+use Rattle.isle_meaning.specs.Demands.{Among}
+use Rattle.isle_meaning.specs.Faults.{IsUnreachable}
 use Rattle.isle_blocks.specs.declared.ids.BindingId.{BindingId}
 use Rattle.isle_blocks.specs.declared.constraint.Constraint.{Constraint}
 use Rattle.isle_blocks.specs.declared.placing.PlacedRule.{PlacedRule}

@@ -1,6 +1,6 @@
 use Rattle.std.proofs.Common.{ℕ, List, length, Option, inl, inr, subst, Vec, Global}
 use Rattle.std.specs.Prelude.{IfSome, IfNone}
-use Rattle.isle_terms.specs.Meaning.Faults.{Conflict}
+use Rattle.isle_meaning.specs.Faults.{Conflict}
 use Rattle.isle_blocks.specs.ClosureStates.{AreClasses, ForDemands, IsSound, HasLoop, demanded_in}
 use Rattle.isle_blocks.proofs.Closure.Demands.{owned}
 use Rattle.isle_blocks.proofs.Closure.Loops.{endless_of}

@@ -1,8 +1,8 @@
 use Rattle.std.proofs.Common.{◌≡◌, ℕ, List, length, map, sym, ◌∙◌, ap, subst, Option, Some, None, take, slice_get}
 use Rattle.std.proofs.lemmas.Result.{err_from_is_err_and}
 use Rattle.isle_types.specs.declared.ids.Sym.{Sym}
-use Rattle.isle_terms.specs.Meaning.Demands.{Demand, Among}
-use Rattle.isle_terms.specs.Meaning.Numbered.{AreRecorded}
+use Rattle.isle_meaning.specs.Demands.{Demand, Among}
+use Rattle.isle_meaning.specs.Numbered.{AreRecorded}
 use Rattle.isle_blocks.specs.declared.ids.BindingId.{BindingId}
 use Rattle.isle_blocks.specs.declared.binding.Binding.{Binding}
 use Rattle.isle_blocks.specs.declared.constraint.Constraint.{Constraint}
@@ -10,7 +10,7 @@ use Rattle.isle_blocks.specs.declared.close.Closed.{Closed}
 use Rattle.isle_blocks.specs.Rows.{IsInjective, rows_of, constraints_of, pairs_of}
 use Rattle.isle_blocks.specs.ClosureFields.{IsTable}
 use Rattle.isle_blocks.specs.ClosureStates.{IsReady}
-use Rattle.isle_terms.specs.Meaning.Faults.{IsUnreachable}
+use Rattle.isle_meaning.specs.Faults.{IsUnreachable}
 use Rattle.isle_blocks.specs.Closure.{ClosesTo, HasAllFields}
 use Rattle.isle_blocks.specs.FieldOrder.{AreFieldsInOrder}
 use Rattle.isle_blocks.specs.Placing.{GrowsFor, IsPutFirst}

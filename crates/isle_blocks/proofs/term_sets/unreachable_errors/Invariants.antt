@@ -1,6 +1,6 @@
 use Rattle.std.proofs.Common.{List, take}
 use Rattle.isle_terms.specs.TypedRules.{TypedRule}
-use Rattle.isle_terms.specs.Meaning.Facts.{TermFacts}
+use Rattle.isle_meaning.specs.Facts.{TermFacts}
 use Rattle.isle_blocks.specs.RuleFaults.{TellUnreachable}
 use Rattle.isle_blocks.proofs.UnreachableErrors.{Tells}
 use Rattle.isle_blocks.proofs.term_sets.unreachable_errors.Given as goal

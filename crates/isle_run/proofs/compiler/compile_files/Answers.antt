@@ -4,6 +4,7 @@ use Rattle.isle_syntax.specs.Positions.Printable.{IsPrintablePos}
 use Rattle.isle_terms.specs.TypedTrees.{TypedRuleAt}
 use Rattle.isle_terms.proofs.PlainTemplates.{plain_templates}
 use Rattle.isle_run.proofs.Compiling.Layers.{text_faults, type_faults, term_faults, rule_faults, rule_faults_at, ShowFiles, defined_files, accepts, program_of, sets_within, rules_within}
+use Rattle.isle_run.proofs.SoundPrograms.Whole.{tables_are_sound}
 use Rattle.isle_run.proofs.compiler.compile_files.Goals as goal
 
 pub returns-in_err-parsed-clause-faults : goal.returns-in_err-parsed-clause-faults
@@ -68,7 +69,11 @@ new-requires c =
     } in
     let env = c.in_ok-termenv.termenv in
     let d = defined_files c.args.files.now c.from_ast-2.new.tyenv env shown in
-    record { rooted = rules_within env d; within = sets_within env d c.in_ok-rule_sets.rule_sets.items (c.in_ok-rule_sets.ensures.sets d) }
+    record {
+      rooted = rules_within env d;
+      within = sets_within env d c.in_ok-rule_sets.rule_sets.items (c.in_ok-rule_sets.ensures.sets d);
+      sound = tables_are_sound c.args.files.now c.from_ast-2.new.tyenv env shown;
+    }
 
 pub returns-clause-accepted : goal.returns-clause-accepted
 returns-clause-accepted c =

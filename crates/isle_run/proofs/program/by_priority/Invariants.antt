@@ -1,5 +1,5 @@
 use Rattle.std.proofs.Common.{◌≡◌, map, take}
-use Rattle.isle_run.proofs.LaidOut.Order.{Key}
+use Rattle.isle_run.proofs.Plain.LaidOut.Order.{Key}
 use Rattle.isle_run.proofs.program.by_priority.Given as goal
 
 abbrev pub invariant-loop-key : goal.invariant-loop-key

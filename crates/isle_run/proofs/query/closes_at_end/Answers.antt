@@ -1,7 +1,7 @@
 use Rattle.std.proofs.Common.{◌≡◌, ◌+◌, ℕ, zero, suc, drop, length, sym, ◌∙◌, ap, subst, arith, eq-eqb}
 use Rattle.std.proofs.lemmas.Bool.{eqb-true}
 use Rattle.isle_run.specs.Values.Lists.{Closes, opened_after}
-use Rattle.isle_run.proofs.Values.ClosedLists.{next_step, few_opened, none_open}
+use Rattle.isle_run.proofs.GroundValues.ClosedLists.{next_step, few_opened, none_open}
 use Rattle.isle_run.proofs.query.closes_at_end.Goals as goal
 
 pub returns-then-opened-eq0 : goal.returns-then-opened-eq0

@@ -1,12 +1,12 @@
 use Rattle.std.proofs.Common.{◌≡◌, [], Vec, Global, Option, Some, None, Result, Ok, Err, IfOk, map, refl, sym, ◌∙◌, subst}
 use Rattle.std.specs.Prelude.{IfSome, IfNone}
 use Rattle.isle_terms.specs.Values.{ValueTree, ValueTrees, value_list}
-use Rattle.isle_terms.specs.Meaning.ValueTypes.{AreOfTypes}
+use Rattle.isle_meaning.specs.ValueTypes.{AreOfTypes}
 use Rattle.isle_run.specs.Programs.{value_facts, number_of, types_taken}
 use Rattle.isle_run.specs.Queries.{AreSettled, NoneAreTyped}
 use Rattle.isle_run.specs.Values.Settled.{settled_all}
 use Rattle.isle_run.specs.Values.Tokens.{SpellArguments}
-use Rattle.isle_run.proofs.Values.OneSpelling.{all_spelling}
+use Rattle.isle_run.proofs.GroundValues.OneSpelling.{all_spelling}
 use Rattle.isle_run.proofs.query.read_args.Goals as goal
 
 -- a fact of nothing, from another

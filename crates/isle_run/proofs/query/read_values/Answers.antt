@@ -4,7 +4,7 @@ use Rattle.std.proofs.lemmas.List.{length-drop, take_rest}
 use Rattle.isle_syntax.specs.declared.lexer.Token.{Token}
 use Rattle.isle_terms.specs.Values.{ValueTree, value_list}
 use Rattle.isle_run.specs.Values.Tokens.{tokens_all, AreSpellable, SpellValue, HaveNoValue}
-use Rattle.isle_run.proofs.Values.ReadValues.{none_read, some_count, left_behind, spelt_behind, pushed_spellable}
+use Rattle.isle_run.proofs.GroundValues.ReadValues.{none_read, some_count, left_behind, spelt_behind, pushed_spellable}
 use Rattle.isle_run.proofs.query.read_values.Goals as goal
 
 -- the value at the front of tokens

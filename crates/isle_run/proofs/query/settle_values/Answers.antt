@@ -3,10 +3,10 @@ use Rattle.std.specs.Prelude.{IfSome, IfNone}
 use Rattle.std.proofs.lemmas.List.{length-map}
 use Rattle.std.specs.Vec.Iter.{into_iter_items}
 use Rattle.isle_types.specs.declared.ids.TypeId.{TypeId}
-use Rattle.isle_terms.specs.Meaning.ValueTypes.{IsOfType, AreOfTypes}
+use Rattle.isle_meaning.specs.ValueTypes.{IsOfType, AreOfTypes}
 use Rattle.isle_run.specs.Programs.{value_facts, number_of}
 use Rattle.isle_run.specs.Values.Settled.{settled}
-use Rattle.isle_run.proofs.Values.SettledValues.{IsSettlingAll, as_many, all_refused, all_stepped, all_ended}
+use Rattle.isle_run.proofs.GroundValues.SettledValues.{IsSettlingAll, as_many, all_refused, all_stepped, all_ended}
 use Rattle.isle_run.proofs.query.settle_values.Goals as goal
 
 pub returns-then-len-types-clause-none : goal.returns-then-len-types-clause-none

@@ -1,7 +1,7 @@
 use Rattle.std.proofs.Common.{◌≡◌, length}
 use Rattle.std.specs.Vec.Iter.{into_iter_items, into_iter_len}
 use Rattle.isle_run.specs.Programs.{value_facts}
-use Rattle.isle_run.proofs.Values.SettledValues.{IsSettlingAll}
+use Rattle.isle_run.proofs.GroundValues.SettledValues.{IsSettlingAll}
 use Rattle.isle_run.proofs.query.settle_values.Given as goal
 
 -- the values so far are settled

@@ -1,11 +1,11 @@
 use Rattle.std.proofs.Common.{◌++◌, ◌∙◌, sym, ap, subst}
 use Rattle.std.proofs.lemmas.List.{take_all}
 use Rattle.std.specs.List.{flat_map, AllZip}
-use Rattle.isle_terms.specs.Meaning.ValueTypes.{AreOfTypes}
+use Rattle.isle_meaning.specs.ValueTypes.{AreOfTypes}
 use Rattle.isle_terms.specs.Values.{value_list}
-use Rattle.isle_run.specs.Frames.Telling.{IsEventOf}
+use Rattle.isle_run.specs.Calls.Answers.{IsEventOf}
 use Rattle.isle_run.specs.Programs.{value_facts}
-use Rattle.isle_run.proofs.Frames.Telling.{inputs_taken}
+use Rattle.isle_run.proofs.OpenCalls.Telling.{inputs_taken}
 use Rattle.islec.specs.Replies.{effect_line, answer_line}
 use Rattle.islec.proofs.answer.reply_to_call.Goals as goal
 
@@ -13,22 +13,12 @@ pub returns-clause-answers : goal.returns-clause-answers
 returns-clause-answers g c = record {
   effects = c.call_plain.new.effects.items;
   answer = c.in_ok-called.called.answer;
-  outcome = λ sound.
+  outcome =
       let typed = subst (λ types. AreOfTypes (value_facts c.args.program.now) (value_list c.args.args.items) types)
       (inputs_taken c.args.program.now c.args.term) c.requires.typed in
-      let (made, has, r, tells, run, meant, asked, pure) = c.in_ok-called.ensures.ran sound c.requires.callable typed in
-      let joined = has.joined ∙ ap (λ l. l ++ has.more) c.new-effects.ensures.items in (
-        made,
-        subst (λ l. AllZip (IsEventOf c.args.program.now) l made) (sym joined) has.shown,
-        has.steps,
-        r,
-        tells,
-        c.in_ok-called.called.steps,
-        run,
-        meant,
-        asked,
-        pure,
-      );
+      let (made, has, tells) = c.in_ok-called.ensures.ran c.requires.callable typed in
+      let joined = has.joined ∙ ap (λ l. l ++ has.more) c.new-effects.ensures.items in
+      (made, subst (λ l. AllZip (IsEventOf c.args.program.now) l made) (sym joined) has.shown, has.steps, c.in_ok-called.called.steps, tells);
   written = c.in_ok-push_answer.ensures ∙ ap (λ l. l ++ answer_line c.args.program.now c.in_ok-called.called.answer)
       (c.loop-effect.invariant ∙ ap (λ l. flat_map effect_line l)
       (take_all c.loop-effect.effect-index c.deref-effect-items.result.now c.loop-effect-test.false ∙ c.deref-effect-items.ensures.value));

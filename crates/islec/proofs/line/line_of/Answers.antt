@@ -1,7 +1,6 @@
-use Rattle.std.proofs.Common.{refl, sym, true≢false, codes, map}
+use Rattle.std.proofs.Common.{refl, sym, true≢false, codes, map, subst}
 use Rattle.clap.specs.Words.{found_of, rows_of}
 use Rattle.islec.proofs.CommandLemmas.{EntersOne, as_islec, check_fills, fmt_fills, met_rows, none_met, parses, reads_line, refused, run_fills}
-use Rattle.std.proofs.Common.{subst}
 use Rattle.islec.proofs.line.line_of.Goals as goal
 
 -- no fault, but what is found in the words

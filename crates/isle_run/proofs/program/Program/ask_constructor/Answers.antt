@@ -1,12 +1,12 @@
 use Rattle.std.proofs.Common.{◌≡◌, List, ℕ, option_copied, sym, ap, ◌∙◌, subst, map}
 use Rattle.std.proofs.lemmas.Result.{IfOk-weaker}
 use Rattle.isle_terms.specs.Values.{ValueTree, value_list}
-use Rattle.isle_terms.specs.Meaning.GroundValues.{AreValuesOf}
-use Rattle.isle_terms.specs.Meaning.ValueTypes.{AreOfTypes}
+use Rattle.isle_meaning.specs.GroundValues.{AreValuesOf}
+use Rattle.isle_meaning.specs.ValueTypes.{AreOfTypes}
 use Rattle.isle_run.specs.Meanings.{checked}
 use Rattle.isle_run.specs.Programs.{number_of}
-use Rattle.isle_run.specs.Frames.Telling.{name_of_term}
-use Rattle.isle_run.proofs.Frames.Telling.{construct_told, inputs_taken}
+use Rattle.isle_run.specs.Calls.Answers.{name_of_term}
+use Rattle.isle_run.proofs.OpenCalls.Telling.{construct_told, inputs_taken}
 use Rattle.isle_run.proofs.program.Program.ask_constructor.Goals as goal
 
 pub returns-clause-asked : goal.returns-clause-asked
@@ -20,8 +20,8 @@ returns-clause-asked g c =
     let answered : option_copied c.as_ref.result ≡ constructs (name_of_term program c.args.term.0) (value_list values) =
     c.as_ref.ensures.value ∙ c.in_ok-answer.ensures ∙ ap (λ (n : List ℕ). constructs n (value_list c.as_slice.result.now)) c.name.ensures
     ∙ ap (λ (l : List ValueTree). constructs (name_of_term program c.args.term.0) (value_list l)) c.as_slice.ensures.value in
-    IfOk-weaker c.judge_value.result _ _ (λ told judged vs known stand of.
-    let printed = c.in_ok-values.ensures (known.printed) vs stand (subst (AreValuesOf facts vs) (sym inputs) of) in
+    IfOk-weaker c.judge_value.result _ _ (λ told judged vs stand of.
+    let printed = c.in_ok-values.ensures vs stand (subst (AreValuesOf facts vs) (sym inputs) of) in
     construct_told program constructs (g.W.World.extracts c.args.world.now) c.judge_value.new.store c.args.term vs (value_list values)
     (option_copied c.as_ref.result) told (subst (AreOfTypes facts (value_list values)) inputs (printed.0)) (printed.1) answered judged)
     c.judge_value.ensures.judged

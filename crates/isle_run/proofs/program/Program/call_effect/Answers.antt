@@ -1,8 +1,8 @@
 use Rattle.std.proofs.Common.{◌≡◌, ◌∷◌, [], ◌++◌, List, ℕ, ap, ◌∙◌, refl, subst, string_bytes}
 use Rattle.isle_terms.specs.Values.{value_list}
-use Rattle.isle_run.specs.declared.answer.Effect.{Effect}
-use Rattle.isle_run.specs.Frames.Telling.{name_of_term}
-use Rattle.isle_run.proofs.Frames.Telling.{one_made}
+use Rattle.isle_run.specs.declared.calls.answer.Effect.{Effect}
+use Rattle.isle_run.specs.Calls.Answers.{name_of_term}
+use Rattle.isle_run.proofs.OpenCalls.Telling.{one_made}
 use Rattle.isle_run.proofs.program.Program.call_effect.Goals as goal
 
 pub returns-clause-called : goal.returns-clause-called

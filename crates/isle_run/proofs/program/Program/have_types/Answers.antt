@@ -1,7 +1,7 @@
 use Rattle.std.proofs.Common.{◌≤◌, length, arith}
 use Rattle.std.proofs.lemmas.Bool.Decides.{Decides-eqb}
 use Rattle.isle_run.specs.Programs.{value_facts}
-use Rattle.isle_run.proofs.Frames.Telling.{types_short, types_ended}
+use Rattle.isle_run.proofs.OpenCalls.Telling.{types_short, types_ended}
 use Rattle.isle_run.proofs.program.Program.have_types.Goals as goal
 
 pub returns-in_default : goal.returns-in_default

@@ -1,6 +1,6 @@
 use Rattle.std.proofs.Common.{◌↔◌, ◌≤◌, map, drop, length}
 use Rattle.isle_terms.specs.Values.{value_list}
-use Rattle.isle_terms.specs.Meaning.ValueTypes.{AreOfTypes}
+use Rattle.isle_meaning.specs.ValueTypes.{AreOfTypes}
 use Rattle.isle_run.specs.Programs.{value_facts, number_of}
 use Rattle.isle_run.proofs.program.Program.have_types.Given as goal
 

@@ -1,5 +1,5 @@
 use Rattle.isle_run.specs.Programs.{types_of, terms_of, rule_sets_of}
-use Rattle.isle_run.proofs.Facts.Told.{inhabited_told}
+use Rattle.isle_run.proofs.ProgramFacts.Told.{inhabited_told}
 use Rattle.isle_run.proofs.program.Program.inhabited.Goals as goal
 
 pub returns : goal.returns

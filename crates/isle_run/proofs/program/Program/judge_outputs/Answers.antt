@@ -1,8 +1,8 @@
 use Rattle.std.proofs.Common.{List, inr, refl, sym, subst, ◌∙◌}
 use Rattle.isle_terms.specs.Values.{ValueTree, value_list}
 use Rattle.isle_run.specs.Meanings.{checked}
-use Rattle.isle_run.specs.Frames.Telling.{IsCalledOn}
-use Rattle.isle_run.proofs.Frames.Telling.{inputs_taken, outputs_refused, none_refused}
+use Rattle.isle_run.specs.Calls.Answers.{IsCalledOn}
+use Rattle.isle_run.proofs.OpenCalls.Telling.{inputs_taken, outputs_refused, none_refused}
 use Rattle.isle_run.proofs.program.Program.judge_outputs.Goals as goal
 
 pub returns-in_ok-vec-in-Some-clause-judged : goal.returns-in_ok-vec-in-Some-clause-judged

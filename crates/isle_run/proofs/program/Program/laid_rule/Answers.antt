@@ -2,10 +2,10 @@ use Rattle.std.proofs.Common.{◌≡◌, List, length, Some, slice_get, refl, sy
 use Rattle.std.proofs.lemmas.Option.{slice_get_read}
 use Rattle.std.proofs.lemmas.Slice.Zip.{AllZip-long}
 use Rattle.isle_terms.specs.declared.rules.Rule.{Rule}
-use Rattle.isle_run.specs.LaidOut.Rules.{IsRuleLaidOut, AreRulesLaidOut}
-use Rattle.isle_run.specs.declared.laid.LaidRule.{LaidRule}
-use Rattle.isle_run.proofs.LaidOut.Told.{all_laid_told, zip_at}
-use Rattle.isle_run.proofs.LaidOut.Tried.{laid_rule_at}
+use Rattle.isle_run.specs.Plain.LaidOut.Rules.{IsRuleLaidOut, AreRulesLaidOut}
+use Rattle.isle_run.specs.declared.roads.plain.laid.LaidRule.{LaidRule}
+use Rattle.isle_run.proofs.Plain.LaidOut.Told.{all_laid_told, zip_at}
+use Rattle.isle_run.proofs.Plain.LaidOut.Tried.{laid_rule_at}
 use Rattle.isle_run.proofs.program.Program.laid_rule.Goals as goal
 
 pub returns-in_err-laid : goal.returns-in_err-laid

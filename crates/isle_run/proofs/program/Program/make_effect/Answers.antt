@@ -1,13 +1,14 @@
 use Rattle.std.proofs.Common.{◌≡◌, List, option_copied, sym, ◌∙◌, subst, map}
 use Rattle.std.proofs.lemmas.Result.{IfOk-weaker}
 use Rattle.isle_terms.specs.Values.{ValueTree, value_list}
-use Rattle.isle_terms.specs.Meaning.GroundValues.{AreValuesOf, values_of}
-use Rattle.isle_terms.specs.Meaning.ValueTypes.{AreOfTypes}
-use Rattle.isle_run.specs.declared.answer.Effect.{Effect}
+use Rattle.isle_meaning.specs.GroundValues.{AreValuesOf, values_of}
+use Rattle.isle_meaning.specs.ValueTypes.{AreOfTypes}
+use Rattle.isle_run.specs.declared.calls.answer.Effect.{Effect}
 use Rattle.isle_run.specs.Meanings.{checked}
 use Rattle.isle_run.specs.Programs.{number_of}
-use Rattle.isle_run.specs.Frames.Telling.{HasLast, IsCalledOn}
-use Rattle.isle_run.proofs.Frames.Telling.{effect_told, inputs_taken}
+use Rattle.isle_run.specs.Calls.Answers.{IsCalledOn}
+use Rattle.isle_run.specs.Calls.Host.{HasLast}
+use Rattle.isle_run.proofs.OpenCalls.Telling.{effect_told, inputs_taken}
 use Rattle.isle_run.proofs.program.Program.make_effect.Goals as goal
 
 pub returns-clause-asked : goal.returns-clause-asked
@@ -22,8 +23,8 @@ returns-clause-asked g c =
     let answer = called.0 in
     let answered : option_copied c.last_answer.result ≡ answer = c.last_answer.ensures answer
     (subst (λ (l : List Effect). HasLast l answer) (sym c.as_slice-2.ensures.value) (called.1)) in
-    IfOk-weaker c.judge_value.result _ _ (λ told judged vs known stand of.
-    let printed = c.in_ok-values.ensures (known.printed) vs stand (subst (AreValuesOf facts vs) (sym inputs) of) in
+    IfOk-weaker c.judge_value.result _ _ (λ told judged vs stand of.
+    let printed = c.in_ok-values.ensures vs stand (subst (AreValuesOf facts vs) (sym inputs) of) in
     let typed = subst (λ (l : List ValueTree). AreOfTypes facts (value_list l) (map number_of c.arg_types.result.now)) same (printed.0) in
     let stood = subst (λ (l : List ValueTree). values_of facts (value_list l) ≡ vs) same (printed.1) in (
       record { term = c.args.term.0; args = value_list values; answer = answer },

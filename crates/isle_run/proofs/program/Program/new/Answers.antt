@@ -10,4 +10,5 @@ invariant_of-result c = record {
       c.as_slice.ensures.value c.in_ok-known.ensures.numbered ∣₁;
   ordered = ∣ c.in_ok-known.ensures.listed ∣₁;
   laid_out = ∣ c.in_ok-known.ensures.laid_out ∣₁;
+  sound = ∣ c.requires.sound ∣₁;
 }

@@ -5,7 +5,7 @@ use Rattle.isle_types.specs.declared.ids.TypeId.{TypeId}
 use Rattle.isle_run.specs.Values.Nodes.{nodes_below}
 use Rattle.isle_run.specs.Programs.{value_facts, number_of}
 use Rattle.isle_run.specs.Values.TypedNodes.{NodesFit, NodeFits}
-use Rattle.isle_run.proofs.Values.TypedNodes.{next_type, same_fit}
+use Rattle.isle_run.proofs.GroundValues.TypedNodes.{next_type, same_fit}
 use Rattle.isle_run.proofs.program.Program.nodes_fit.Goals as goal
 
 abbrev none : TypeId

@@ -1,11 +1,11 @@
 use Rattle.std.proofs.Common.{◌≡◌, ℕ, Vec, List, length, Some, None, slice_get, refl, sym, ap, ◌∙◌, subst}
 use Rattle.std.specs.Global.{Global}
 use Rattle.std.proofs.lemmas.Option.{slice_get_read, slice_get_past}
-use Rattle.isle_run.specs.LaidOut.Rules.{listed_in, listed_at}
+use Rattle.isle_run.specs.Plain.LaidOut.Rules.{listed_in, listed_at}
 use Rattle.isle_run.specs.Meanings.{checked}
-use Rattle.isle_run.specs.PlainRuns.{AreTriedInOrder}
-use Rattle.isle_run.proofs.LaidOut.Told.{order_told}
-use Rattle.isle_run.proofs.LaidOut.Tried.{tried_in_order}
+use Rattle.isle_meaning.specs.PlainRuns.{AreTriedInOrder}
+use Rattle.isle_run.proofs.Plain.LaidOut.Told.{order_told}
+use Rattle.isle_run.proofs.Plain.LaidOut.Tried.{tried_in_order}
 use Rattle.isle_run.proofs.program.Program.rules_of.Goals as goal
 
 pub returns-in-Some : goal.returns-in-Some

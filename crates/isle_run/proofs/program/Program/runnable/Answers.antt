@@ -1,7 +1,7 @@
 use Rattle.std.proofs.Common.{◌≡◌, true, sym, ◌∙◌}
 use Rattle.isle_run.specs.Programs.{types_of, terms_of, rule_sets_of}
 use Rattle.isle_run.specs.Facts.Reach.{is_root}
-use Rattle.isle_run.proofs.Facts.Told.{is_runnable, runnable_free, opposite, opposite_back, apart}
+use Rattle.isle_run.proofs.ProgramFacts.Told.{is_runnable, runnable_free, opposite, opposite_back, apart}
 use Rattle.isle_run.proofs.program.Program.runnable.Goals as goal
 
 pub returns-then-has_rules : goal.returns-then-has_rules

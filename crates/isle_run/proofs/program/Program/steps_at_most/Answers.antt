@@ -1,7 +1,7 @@
 use Rattle.std.proofs.Common.{ℕ, List, get_or, sym, ap, ◌∙◌}
 use Rattle.std.proofs.lemmas.List.{get_or_past}
 use Rattle.isle_run.specs.Programs.{types_of, terms_of, rule_sets_of}
-use Rattle.isle_run.proofs.Facts.Told.{steps_told}
+use Rattle.isle_run.proofs.ProgramFacts.Told.{steps_told}
 use Rattle.isle_run.proofs.program.Program.steps_at_most.Goals as goal
 
 pub returns-in-Some : goal.returns-in-Some

@@ -2,7 +2,7 @@ use Rattle.std.proofs.Common.{List, sym, subst}
 use Rattle.isle_types.specs.declared.ids.TermId.{TermId}
 use Rattle.isle_run.specs.Facts.Asked.{AreRoots}
 use Rattle.isle_run.specs.Programs.{types_of, terms_of, rule_sets_of}
-use Rattle.isle_run.proofs.Facts.Told.{roots_told}
+use Rattle.isle_run.proofs.ProgramFacts.Told.{roots_told}
 use Rattle.isle_run.proofs.program.Program.terms_with_rules.Goals as goal
 
 pub returns : goal.returns

@@ -1,0 +1,9 @@
+-- Worked cases.
+-- What literal rules demand, what follows, and where they are unreachable.
+pub mod Demands
+-- What calls of literal rules mean, and where chains of asking end.
+pub mod CalledTerms
+-- Plain runs of literal rules.
+pub mod TriedRules
+-- Values of types, at both ends of a range.
+pub mod TypedValues

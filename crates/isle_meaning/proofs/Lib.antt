@@ -1,0 +1,12 @@
+-- Sites, demands and matching of typed rules.
+pub mod Matching
+-- The plain run of a call is its meaning.
+pub mod Calls
+-- Meanings at other depths, chains of asking, and what a call means.
+pub mod Chains
+-- What typing gives of a program's rules.
+pub mod SoundPrograms
+-- Where definitions stand, and in which order rules do, means nothing.
+pub mod Spelling
+-- Worked cases.
+pub mod Cases

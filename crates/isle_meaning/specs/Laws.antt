@@ -1,0 +1,10 @@
+-- What demands of rules mean for matching.
+pub mod Matching
+-- What calls mean, and where chains of asking end.
+pub mod Calls
+-- What a plain run means.
+pub mod Plain
+-- The order of rules.
+pub mod Order
+-- Positions of definitions and rules.
+pub mod Spelling

@@ -1,0 +1,17 @@
+//! Laws: public functions with nothing to do, whose contracts are statements about definitions.
+
+mod calls;
+mod matching;
+
+pub use calls::{
+    chain_stays, chains_join, completions_extend, end_stays, ends_are_asked, meaning_stays,
+    meanings_are_typed, no_overlaps_no_ties, one_meaning, one_meaning_always, plain_runs_are_meant,
+    trees_are_one, typed_rules_call_well,
+};
+pub use matching::{
+    both_match_overlap, demands_are_tested, demands_suit, derived_is_tested, elaborated_rules_fit,
+    fields_are_fields, made_terms_take_their_fields, matches_by_closed, matches_by_demands,
+    matches_by_proper, matches_derived, needs_have_fields, never_both, numbers_say_demands,
+    rules_of_definitions_fit, self_equalities_say_nothing, shadowed_is_never_chosen,
+    unreachable_is_dead, visit_is_written, wider_matches,
+};

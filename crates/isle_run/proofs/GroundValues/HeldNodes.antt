@@ -1,0 +1,40 @@
+-- Values of which each node can be held can be held.
+use Rattle.std.proofs.Common.{◌≡◌, ◌≤◌, ◌<◌, ◌+◌, ◌++◌, ℕ, List, [], ◌∷◌, length, take, get_or, sym, ◌∙◌, ap, subst, append_assoc}
+use Rattle.std.proofs.lemmas.List.{append-nil, take_more, take_all}
+use Rattle.isle_terms.specs.Values.{ValueTree, ValueTrees, bool_value, int_value, big_value, const_value, opaque_value, data_value, no_values, more_values}
+use Rattle.isle_run.specs.declared.values.Node.{Node}
+use Rattle.isle_run.specs.Values.Held.{IsHeld, AreHeld, IsHeldNode}
+use Rattle.isle_run.specs.Values.Nodes.{nodes_of, nodes_all}
+
+abbrev pub EachHeld : List Node → Type 0
+EachHeld [] = Unit {0}
+EachHeld (node ∷ nodes) = IsHeldNode node × EachHeld nodes
+
+one_more : (nodes : List Node) (node : Node) → EachHeld nodes → IsHeldNode node → EachHeld (nodes ++ node ∷ [])
+one_more [] node each held = (held, tt)
+one_more (n ∷ nodes) node each held = (each.0, one_more nodes node each.1 held)
+
+-- the next node
+pub held_next : (nodes : List Node) (at : ℕ) (node : Node) → at < length nodes → node ≡ get_or nodes at node → EachHeld (take at nodes) → IsHeldNode node
+    → EachHeld (take (at + 1) nodes)
+held_next nodes at node within is each held =
+    subst EachHeld (sym (take_more nodes at node within ∙ ap (λ n. take at nodes ++ n ∷ []) (sym is))) (one_more (take at nodes) node each held)
+
+mutual
+  held_first : (v : ValueTree) (rest : List Node) → EachHeld (nodes_of v ++ rest) → IsHeld v × EachHeld rest
+  held_first (bool_value b) rest each = each
+  held_first (int_value n) rest each = each
+  held_first (big_value n) rest each = each
+  held_first (const_value name) rest each = each
+  held_first (opaque_value n) rest each = each
+  held_first (data_value name vs) rest each = let (fields, more) = all_first vs rest each.1 in ((each.0, fields), more)
+
+  all_first : (vs : ValueTrees) (rest : List Node) → EachHeld (nodes_all vs ++ rest) → AreHeld vs × EachHeld rest
+  all_first no_values rest each = (tt, each)
+  all_first (more_values v vs) rest each =
+      let (first, others) = held_first v (nodes_all vs ++ rest) (subst EachHeld (append_assoc (nodes_of v) (nodes_all vs) rest) each) in
+      let (later, more) = all_first vs rest others in ((first, later), more)
+
+pub held_value : (v : ValueTree) (nodes : List Node) (at : ℕ) → nodes ≡ nodes_of v → length nodes ≤ at → EachHeld (take at nodes) → IsHeld v
+held_value v nodes at is end each =
+    (held_first v [] (subst EachHeld (take_all at nodes end ∙ is ∙ sym (append-nil (nodes_of v))) each)).0

@@ -1,0 +1,8 @@
+-- Calls that a world answers.
+pub mod Telling
+-- Effects made one after another.
+pub mod Made
+-- Frames that wait, one for the other.
+pub mod Stacked
+-- A call that runs.
+pub mod Running

@@ -1,0 +1,27 @@
+use Rattle.std.proofs.Common.{[]}
+use Rattle.isle_run.specs.declared.calls.frames.Advanced.TheVariants.{Missing}
+use Rattle.isle_run.specs.declared.roads.plain.frame.Ending.TheVariants.{Leaves, Comes}
+use Rattle.isle_run.proofs.OpenCalls.Made.{made_none, gone_none}
+use Rattle.isle_run.proofs.Plain.Frames.Told.{at_place}
+use Rattle.isle_run.proofs.Plain.Frames.Turns.{ends_none, left_leads}
+use Rattle.isle_run.proofs.roads.plain.frame.Driver.run.Goals as goal
+
+pub returns-in-Left-clause-ending : goal.returns-in-Left-clause-ending
+returns-in-Left-clause-ending g c = λ k others tried since runs h. (
+  [],
+  made_none _ _ _ _,
+  ends_none k c.args.self.now.store c.args.current.now others tried since Leaves (left_leads (at_place c.in-Left.is h)),
+)
+
+pub returns-in-Left-clause-goes_on : goal.returns-in-Left-clause-goes_on
+returns-in-Left-clause-goes_on g c = gone_none _ _
+
+pub returns-in-Missed-clause-ending : goal.returns-in-Missed-clause-ending
+returns-in-Missed-clause-ending g c = λ k others tried since runs h. (
+  [],
+  made_none _ _ _ _,
+  ends_none k c.args.self.now.store c.args.current.now others tried since (Comes Missing) ((at_place c.in-Missed.is h).at),
+)
+
+pub returns-in-Missed-clause-goes_on : goal.returns-in-Missed-clause-goes_on
+returns-in-Missed-clause-goes_on g c = gone_none _ _
