@@ -2,7 +2,7 @@
 //! program's words.
 #![tactic(auto)]
 
-ghost use Rattle.std.specs.Prelude.{None, IfOk, string_bytes};
+ghost use Rattle.std.specs.Prelude.{IfOk, string_bytes};
 ghost use Rattle.isle_example.specs.Calls.{TellsValue};
 
 mod host;
@@ -27,7 +27,7 @@ fn program_of(alloc: Global, text: String) -> Result<Result<Program, Refused>, A
 
 /// The value of a query's call, printed, or `none`.
 fn line_of(alloc: Global, program: &Program, query: &str) -> Result<String, AllocError>
-    ensures { IfOk result (λ line. TellsValue program.now (λ _ _. None) (λ _ _. None) query.now (string_bytes line)) }
+    ensures { IfOk result (λ line. TellsValue program.now query.now (string_bytes line)) }
 {
     match value_of(alloc, program, &mut Silent, query)? {
         Some(value) => value.print(alloc),

@@ -1,10 +1,10 @@
 //! The value of a query's call.
-ghost use Rattle.std.specs.Prelude.{IfOk, IfSome, IfNone};
+ghost use Rattle.std.specs.Prelude.{◌≡◌, IfOk};
 ghost use Rattle.isle_meaning.specs.ValueTypes.{AreOfTypes};
 ghost use Rattle.isle_terms.specs.Values.{value_list};
 ghost use Rattle.isle_run.specs.Facts.Reach.{IsRunnable};
 ghost use Rattle.isle_run.specs.Programs.{types_of, terms_of, types_taken, value_facts};
-ghost use Rattle.isle_example.specs.Calls.{HasValue, HasNoValue, MeansValue, MeansNoValue};
+ghost use Rattle.isle_example.specs.Calls.{Hosted, IsAnswered, IsValueOf};
 
 use isle_run::{Answer, Program, QueryFault, TermId, Value, World};
 use std::alloc::{AllocError, Global};
@@ -19,8 +19,8 @@ pub fn value_of<W: World>(
     world: &mut W,
     query: &str,
 ) -> Result<Option<Value>, AllocError>
-    ensures value { IfOk result (λ found. IfSome found (HasValue program.now (W.constructs world.old) (W.extracts world.old) query.now)) }
-    ensures none { IfOk result (λ found. IfNone found (HasNoValue program.now (W.constructs world.old) (W.extracts world.old) query.now)) }
+    ensures answered { IfOk result (IsAnswered program.now (record { constructs = W.constructs world.old; extracts = W.extracts world.old; step = W.step;
+        before = world.old; after = world.new }) query.now) }
 {
     match program.query(alloc, query) {
         Ok((term, args)) => value_of_call(alloc, program, world, term, args),
@@ -39,10 +39,8 @@ fn value_of_call<W: World>(
 ) -> Result<Option<Value>, AllocError>
     requires callable { IsRunnable (types_of program.now) (terms_of program.now) term.0 }
     requires typed { AreOfTypes (value_facts program.now) (value_list args.items) (types_taken program.now term) }
-    ensures value { IfOk result (λ found. IfSome found
-        (MeansValue program.now (W.constructs world.old) (W.extracts world.old) term (value_list args.items))) }
-    ensures none { IfOk result (λ found. IfNone found
-        (MeansNoValue program.now (W.constructs world.old) (W.extracts world.old) term (value_list args.items))) }
+    ensures value { IfOk result (IsValueOf program.now (record { constructs = W.constructs world.old; extracts = W.extracts world.old; step = W.step;
+        before = world.old; after = world.new }) term (value_list args.items)) }
 {
     let mut effects = Vec::new(alloc);
     let called = program.call_plain(alloc, term, args, DEPTH, world, &mut effects)?;

@@ -12,6 +12,8 @@ pub mod OneSpelling
 pub mod Printed
 -- What is printed of a value, node by node.
 pub mod Printing
+-- A text is one query.
+pub mod QueryTexts
 -- Values that are read one behind the other.
 pub mod ReadValues
 -- Reading a value from tokens.

@@ -10,3 +10,5 @@ pub mod Order
 pub mod Spelling
 -- Formatted files.
 pub mod Formatting
+-- What a text is as a query.
+pub mod Queries

@@ -15,6 +15,14 @@ use Rattle.isle_run.specs.Values.Settled.{settled_all}
 use Rattle.isle_run.specs.Values.TextTokens.{AreTokensOf, HasTokenFault}
 use Rattle.isle_run.specs.Values.Tokens.{tokens_all, AreSpellable, SpellArguments}
 
+-- a fault is one of a text, not want of memory
+abbrev pub IsOfText : QueryFault → Type 0
+IsOfText Q1 = Unit {0}
+IsOfText Q2 = Unit {0}
+IsOfText Q3 = Unit {0}
+IsOfText Q4 = Unit {0}
+IsOfText (Memory e) = ⊥
+
 -- a refusal of the call of a name: the first of its causes that holds
 abbrev pub RefusesName : Program → List ℕ → QueryFault → Type 0
 RefusesName program name Q1 = term_named program name ≡ None
@@ -53,10 +61,13 @@ RefusesText program text (Memory e) = Unit {0}
 abbrev pub SpellsCall : List ℕ → List ℕ → ValueTrees → Type 0
 SpellsCall text name args = AreSpellable args × AreTokensOf text (LParen ∷ Symbol name ∷ (tokens_all args ++ RParen ∷ []))
 
--- the call of a term that a text spells: its arguments are what is spelt, read at the types that the term takes
+-- the call of a term that a text spells: the term can be run, and its arguments are what is spelt, read at the types that it takes, and of these
+-- types
 pub record IsCallIn (program : Program) (text : List ℕ) (term : TermId) (args : ValueTrees) : Type 0 where
   pub name : List ℕ
   pub arguments : ValueTrees
   pub named : term_named program name ≡ Some term
+  pub callable : IsRunnable (types_of program) (terms_of program) term.0
   pub spelt : SpellsCall text name arguments
   pub settles : settled_all (value_facts program) arguments (types_taken program term) ≡ args
+  pub typed : AreOfTypes (value_facts program) args (types_taken program term)

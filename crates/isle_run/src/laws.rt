@@ -3,6 +3,7 @@ ghost use Rattle.isle_run.specs.Laws.Compiled.{CompiledMeaningsAreOne, Faultless
 ghost use Rattle.isle_run.specs.Laws.Formatting.{FormattedTextsAreAlike};
 ghost use Rattle.isle_meaning.specs.Laws.Order.{OrderMeansNothing};
 ghost use Rattle.isle_run.specs.Laws.Order.{OrderOfTextsMeansNothing};
+ghost use Rattle.isle_run.specs.Laws.Queries.{RefusedTextsAreNoCalls, TextsAreOneCall, TextsHaveOneFault};
 ghost use Rattle.isle_run.specs.Laws.Sound.{CompiledProgramsAreSound};
 ghost use Rattle.isle_meaning.specs.Laws.Spelling.{AlikeProgramsMeanTheSame};
 ghost use Rattle.isle_run.specs.Laws.Spelling.{AlikeTextsAreAcceptedAlike, AlikeTextsMakeAlikePrograms};
@@ -31,6 +32,13 @@ pub fn printed_values_read_back()
 /// A value of a type stays as it is when it is read at the type.
 pub fn typed_values_stay()
     ensures { (facts : ValueFacts) (v : ValueTree) (ty : ℕ) → IsOfType facts v ty → settled facts v ty ≡ v }
+{}
+
+/// A text is one call, or it is refused for one cause; never both.
+pub fn queries_are_one()
+    ensures call { TextsAreOneCall }
+    ensures refused { RefusedTextsAreNoCalls }
+    ensures fault { TextsHaveOneFault }
 {}
 
 /// A compiled program says what its definitions say, and its rules are sound.

@@ -1,5 +1,5 @@
 -- What a call tells: which effects were made, and of which outcome its answer is.
-use Rattle.std.specs.Prelude.{◌≡◌, ℕ, List, [], ◌∷◌, ◌++◌, Option, slice_get, string_bytes, ◌+◌}
+use Rattle.std.specs.Prelude.{◌≡◌, ℕ, List, [], ◌∷◌, ◌++◌, Option, slice_get, string_bytes}
 use Rattle.std.specs.List.{AllZip}
 use Rattle.isle_types.specs.declared.ids.TermId.{TermId}
 use Rattle.isle_terms.specs.Values.{ValueTree, ValueTrees, value_list}
