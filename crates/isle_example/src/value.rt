@@ -19,8 +19,13 @@ pub fn value_of<W: World>(
     world: &mut W,
     query: &str,
 ) -> Result<Option<Value>, AllocError>
-    ensures answered { IfOk result (IsAnswered program.now (record { constructs = W.constructs world.old; extracts = W.extracts world.old; step = W.step;
-        before = world.old; after = world.new }) query.now) }
+    ensures answered { IfOk result (IsAnswered program.now (record {
+      constructs = W.constructs world.old;
+      extracts = W.extracts world.old;
+      step = W.step;
+      before = world.old;
+      after = world.new;
+    }) query.now) }
 {
     match program.query(alloc, query) {
         Ok((term, args)) => value_of_call(alloc, program, world, term, args),
@@ -39,8 +44,13 @@ fn value_of_call<W: World>(
 ) -> Result<Option<Value>, AllocError>
     requires callable { IsRunnable (types_of program.now) (terms_of program.now) term.0 }
     requires typed { AreOfTypes (value_facts program.now) (value_list args.items) (types_taken program.now term) }
-    ensures value { IfOk result (IsValueOf program.now (record { constructs = W.constructs world.old; extracts = W.extracts world.old; step = W.step;
-        before = world.old; after = world.new }) term (value_list args.items)) }
+    ensures value { IfOk result (IsValueOf program.now (record {
+      constructs = W.constructs world.old;
+      extracts = W.extracts world.old;
+      step = W.step;
+      before = world.old;
+      after = world.new;
+    }) term (value_list args.items)) }
 {
     let mut effects = Vec::new(alloc);
     let called = program.call_plain(alloc, term, args, DEPTH, world, &mut effects)?;

@@ -11,37 +11,77 @@ returns-in-Value g c =
     let typed = subst (λ types. AreOfTypes (value_facts c.args.program.now) (value_list c.args.args.items) types)
     (inputs_taken c.args.program.now c.args.term) c.requires.typed in
     let (made, has, told) = c.in_ok-called.ensures.ran c.requires.callable typed in
-    record { value = record { made = made; leads = has.steps; answer = c.in_ok-called.called.answer; steps = c.in_ok-called.called.steps; told = told;
-    is = ap Some c.in-Value.value-is ∙ sym (ap value_in c.in-Value.is) } }
+    record {
+      value = record {
+        made = made;
+        leads = has.steps;
+        answer = c.in_ok-called.called.answer;
+        steps = c.in_ok-called.called.steps;
+        told = told;
+        is = ap Some c.in-Value.value-is ∙ sym (ap value_in c.in-Value.is);
+      };
+    }
 
 pub returns-in-None : goal.returns-in-None
 returns-in-None g c =
     let typed = subst (λ types. AreOfTypes (value_facts c.args.program.now) (value_list c.args.args.items) types)
     (inputs_taken c.args.program.now c.args.term) c.requires.typed in
     let (made, has, told) = c.in_ok-called.ensures.ran c.requires.callable typed in
-    record { value = record { made = made; leads = has.steps; answer = c.in_ok-called.called.answer; steps = c.in_ok-called.called.steps; told = told;
-    is = sym (ap value_in c.in-None.is) } }
+    record {
+      value = record {
+        made = made;
+        leads = has.steps;
+        answer = c.in_ok-called.called.answer;
+        steps = c.in_ok-called.called.steps;
+        told = told;
+        is = sym (ap value_in c.in-None.is);
+      };
+    }
 
 pub returns-in-Stuck : goal.returns-in-Stuck
 returns-in-Stuck g c =
     let typed = subst (λ types. AreOfTypes (value_facts c.args.program.now) (value_list c.args.args.items) types)
     (inputs_taken c.args.program.now c.args.term) c.requires.typed in
     let (made, has, told) = c.in_ok-called.ensures.ran c.requires.callable typed in
-    record { value = record { made = made; leads = has.steps; answer = c.in_ok-called.called.answer; steps = c.in_ok-called.called.steps; told = told;
-    is = sym (ap value_in c.in-Stuck.is) } }
+    record {
+      value = record {
+        made = made;
+        leads = has.steps;
+        answer = c.in_ok-called.called.answer;
+        steps = c.in_ok-called.called.steps;
+        told = told;
+        is = sym (ap value_in c.in-Stuck.is);
+      };
+    }
 
 pub returns-in-Spent : goal.returns-in-Spent
 returns-in-Spent g c =
     let typed = subst (λ types. AreOfTypes (value_facts c.args.program.now) (value_list c.args.args.items) types)
     (inputs_taken c.args.program.now c.args.term) c.requires.typed in
     let (made, has, told) = c.in_ok-called.ensures.ran c.requires.callable typed in
-    record { value = record { made = made; leads = has.steps; answer = c.in_ok-called.called.answer; steps = c.in_ok-called.called.steps; told = told;
-    is = sym (ap value_in c.in-Spent.is) } }
+    record {
+      value = record {
+        made = made;
+        leads = has.steps;
+        answer = c.in_ok-called.called.answer;
+        steps = c.in_ok-called.called.steps;
+        told = told;
+        is = sym (ap value_in c.in-Spent.is);
+      };
+    }
 
 pub returns : goal.returns
 returns g c =
     let typed = subst (λ types. AreOfTypes (value_facts c.args.program.now) (value_list c.args.args.items) types)
     (inputs_taken c.args.program.now c.args.term) c.requires.typed in
     let (made, has, told) = c.in_ok-called.ensures.ran c.requires.callable typed in
-    record { value = record { made = made; leads = has.steps; answer = c.in_ok-called.called.answer; steps = c.in_ok-called.called.steps; told = told;
-    is = sym (ap value_in c.in-IllTyped.is) } }
+    record {
+      value = record {
+        made = made;
+        leads = has.steps;
+        answer = c.in_ok-called.called.answer;
+        steps = c.in_ok-called.called.steps;
+        told = told;
+        is = sym (ap value_in c.in-IllTyped.is);
+      };
+    }
