@@ -40,3 +40,7 @@ pub mod Cases
 pub mod Sound
 -- The sizes of what trees stand for, and how rules fit their terms.
 pub mod Sizes
+-- The `==` of typed patterns and expressions holds exactly where the two are the same.
+pub mod EqualTrees
+-- So does that of terms, and of what they are made of.
+pub mod EqualTerms

@@ -8,6 +8,7 @@ ghost use Rattle.isle_terms.specs.Readings.Needs.{needed_of};
 
 mod bodies;
 mod checks;
+mod clone;
 mod converters;
 mod cycles;
 mod definitions;

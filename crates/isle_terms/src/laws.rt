@@ -3,6 +3,7 @@ ghost use Rattle.std.specs.Prelude.{◌≡◌, ℕ, ◌+◌, ◌*◌, Bool, List
 ghost use Rattle.isle_syntax.specs.declared.ast.Def.{Def};
 ghost use Rattle.isle_syntax.specs.declared.ast.Rule.{Rule};
 ghost use Rattle.isle_syntax.specs.declared.lexer.Pos.{Pos};
+ghost use Rattle.isle_syntax.specs.Trees.Comparisons.{DecidesSame};
 ghost use Rattle.isle_types.specs.Environment.{Environment};
 ghost use Rattle.isle_types.specs.TypeTables.{TypeTables};
 ghost use Rattle.isle_terms.specs.declared.rules.Rule.{Rule as MadeRule};
@@ -21,7 +22,27 @@ ghost use Rattle.isle_terms.specs.Sizes.{IsWithinSizes, HasSizes, HasFittingRule
 ghost use Rattle.isle_terms.specs.Visits.OwnFaults.{NeverUndefined, FindsAllDefined};
 ghost use Rattle.isle_terms.specs.Visits.RuleEvents.{visits_rule};
 
+use crate::rules::{BoundVar, Expr, Pattern};
+use crate::signatures::ReturnKind;
+use crate::terms::{ConstructorKind, ExtractorKind, Term, TermFlags, TermKind};
 use crate::visit::{ExprVisitor, PatternVisitor, RuleVisitor};
+
+/// Typed patterns and expressions are equal exactly where they are the same.
+pub fn equal_typed_trees_are_the_same()
+    ensures patterns { DecidesSame ⟦<Pattern as PartialEq>⟧.eq }
+    ensures expressions { DecidesSame ⟦<Expr as PartialEq>⟧.eq }
+    ensures variables { DecidesSame ⟦<BoundVar as PartialEq>⟧.eq }
+{}
+
+/// Terms, and what they are made of, are equal exactly where they are the same.
+pub fn equal_terms_are_the_same()
+    ensures terms { DecidesSame ⟦<Term as PartialEq>⟧.eq }
+    ensures kinds { DecidesSame ⟦<TermKind as PartialEq>⟧.eq }
+    ensures flags { DecidesSame ⟦<TermFlags as PartialEq>⟧.eq }
+    ensures constructors { DecidesSame ⟦<ConstructorKind as PartialEq>⟧.eq }
+    ensures extractors { DecidesSame ⟦<ExtractorKind as PartialEq>⟧.eq }
+    ensures returns { DecidesSame ⟦<ReturnKind as PartialEq>⟧.eq }
+{}
 
 /// Definitions make one environment of terms at most, whatever the sizes.
 pub fn definitions_make_one_environment()

@@ -26,9 +26,9 @@ impl Rule {
     /// What the rule is called: its name, or else `NAME line N` of where it stands, in a file that is known.
     pub fn identifier(
         &self,
+        alloc: Global,
         tyenv: &TypeEnv,
         files: &Files,
-        alloc: Global,
     ) -> Result<String, AllocError>
         requires { self.now.name ≡ None → self.now.pos.file < length files.now }
         ensures { IfOk result (λ text. Some (string_bytes text) ≡ identifier_of tyenv.now files.now self.now) }
@@ -56,7 +56,7 @@ pub struct IfLet {
 }
 
 /// A typed pattern. A name that binds is a `BindPattern` of a `Wildcard`.
-#[derive(Debug, Drop)]
+#[derive(Debug, PartialEq, Eq, Drop)]
 pub enum Pattern {
     BindPattern(TypeId, VarId, Boxed<Pattern>),
     Var(TypeId, VarId),
@@ -87,7 +87,7 @@ impl Pattern {
 }
 
 /// A typed expression. The variables of a `Let` are bound in order, each after its value.
-#[derive(Debug, Drop)]
+#[derive(Debug, PartialEq, Eq, Drop)]
 pub enum Expr {
     Term(TypeId, TermId, Seq<Expr>),
     Var(TypeId, VarId),

@@ -8,7 +8,7 @@ use crate::env::TermEnv;
 use crate::rules::{Expr, Pattern};
 use crate::visit::{ExprVisitor, PatternVisitor, VisitFault};
 use isle_types::{TypeId, VarId};
-use std::alloc::Global;
+use std::alloc::{AllocError, Global};
 use std::collections::HashMap;
 
 /// A pattern of a rule that is still to be visited, at a value, under the variables bound before it.
@@ -47,6 +47,20 @@ impl<'a, V: PatternVisitor> PatternPart<'a, V> {
 pub struct VisitedExpr<V: ExprVisitor> {
     pub ty: TypeId,
     pub value: V::ExprId,
+}
+
+/// The same type and value, which takes no memory.
+impl<V: ExprVisitor> Clone for VisitedExpr<V> {
+    ghost use Rattle.std.specs.Prelude.{◌≡◌};
+
+    ghost is_clone = { λ x y. y ≡ x };
+
+    fn clone(&self) -> Result<VisitedExpr<V>, AllocError> {
+        Ok(VisitedExpr {
+            ty: self.ty,
+            value: self.value,
+        })
+    }
 }
 
 /// An expression of a rule that is still to be visited, under the variables that it can use.
