@@ -25,3 +25,9 @@ pub mod Choosing
 pub mod Meant
 -- A call of a pure term makes no effects.
 pub mod Effectless
+-- A plain run begins with its effects; one of a pure term with none.
+pub mod Beginnings
+-- A plain run that isn't spent is the run at every greater depth.
+pub mod Staying
+-- Where no term reaches itself, no plain run is spent at a depth of at least the number of terms with rules.
+pub mod Spending

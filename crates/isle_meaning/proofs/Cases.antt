@@ -3,7 +3,11 @@
 pub mod Demands
 -- What calls of literal rules mean, and where chains of asking end.
 pub mod CalledTerms
+-- Which calls a call asks.
+pub mod AskedCalls
 -- Plain runs of literal rules.
 pub mod TriedRules
+-- Plain runs at other depths.
+pub mod SpentRuns
 -- Values of types, at both ends of a range.
 pub mod TypedValues

@@ -19,6 +19,8 @@ pub mod One
 pub mod Prefixed
 -- What is written out calls what is pure where it stands.
 pub mod PureCalls
+-- Subtrees of sites.
+pub mod Subtrees
 -- Where a word's run ends, it is at a call that the word makes.
 pub mod WordEnds
 -- Where a pattern's run ends, it is at an extractor's call that the pattern makes.

@@ -11,6 +11,8 @@ pub mod Written
 pub mod Scoping
 -- A site is known where its calls are answered.
 pub mod Known
+-- What is known stays so after more answers to impure calls.
+pub mod Later
 -- Contents of what a word asks.
 pub mod Contents
 -- The sites of the parts of a pattern.

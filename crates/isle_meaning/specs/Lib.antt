@@ -8,6 +8,8 @@ pub mod Facts
 pub mod Words
 -- What a rule can speak of.
 pub mod Sites
+-- The subtrees of a site.
+pub mod Subtrees
 -- What a rule demands of sites.
 pub mod Demands
 -- What follows from demands.
@@ -54,6 +56,10 @@ pub mod SoundPrograms
 pub mod Outcomes
 -- The plain run of a call.
 pub mod PlainRuns
+-- The effects with which one begins.
+pub mod PlainBeginnings
+-- Which terms with rules a call comes to.
+pub mod Reaching
 -- Written-out expressions that are typed.
 pub mod TypedWords
 -- The laws that join them.

@@ -6,7 +6,7 @@ use Rattle.isle_meaning.specs.ValueTypes.{IsOfType, AreOfTypes}
 use Rattle.isle_meaning.specs.GroundValues.{value_of, values_of, IsValueOf}
 use Rattle.isle_meaning.specs.Worlds.{CheckedProgram, Answers, AllowsValue, AllowsOutputs, answer_value, answer_values, Event}
 use Rattle.isle_meaning.specs.Calls.{Means}
-use Rattle.isle_meaning.specs.Asking.{Asked, asks_value, asks_outputs, Ended, stuck, ill_typed, EndsAt}
+use Rattle.isle_meaning.specs.Asking.{Asked, asks_value, asks_outputs, Ended, stuck, ill_typed, plain_links, EndsAt}
 
 -- what a call, or what needs calls, comes to: a value; nothing, where a call is answered none or a pattern doesn't fit; or an end
 pub data Outcome (A : Type 0) : Type 0 where
@@ -89,4 +89,4 @@ IsMeant p w n t args trace (ended e) = Unit {0}
 abbrev pub IsAskedAtEnd : CheckedProgram → Answers → ℕ → ℕ → Values → List Event → Outcome Value → Type 0
 IsAskedAtEnd p w n t args trace (given v) = Unit {0}
 IsAskedAtEnd p w n t args trace missing = Unit {0}
-IsAskedAtEnd p w n t args trace (ended e) = EndsAt p w n (asks_value t args) trace e
+IsAskedAtEnd p w n t args trace (ended e) = EndsAt p w (plain_links p w) n (asks_value t args) trace e

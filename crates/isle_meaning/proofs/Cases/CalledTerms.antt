@@ -20,7 +20,8 @@ use Rattle.isle_meaning.specs.Scopes.{Covers}
 use Rattle.isle_meaning.specs.Words.{word_of}
 use Rattle.isle_meaning.specs.Worlds.{CheckedProgram, Answers, Event}
 use Rattle.isle_meaning.specs.Calls.{Agrees, CoversAll, IsEffect, Makes, Means}
-use Rattle.isle_meaning.specs.Asking.{asks_value, no_link, to_choose, AsksToChoose, EndsAt, stuck, spent}
+use Rattle.isle_meaning.specs.Sites.{argument, constructor_call, no_sites, more_sites}
+use Rattle.isle_meaning.specs.Asking.{asks_value, no_link, to_choose, AsksToChoose, plain_links, EndsAt, stuck, spent}
 
 -- declared terms of one argument of the one type, of which these are pure and these may fail
 abbrev terms_of : (pure partial : ℕ → Bool) → TermFacts
@@ -38,11 +39,11 @@ terms_of pure partial = record {
 }
 
 -- a primitive type
-abbrev one_type : ValueFacts
+abbrev pub one_type : ValueFacts
 one_type = record { kind = λ ty. primitive_kind; constant = λ name. None; data_named = λ name. None; shape_named = λ name. None }
 
 -- a rule of a term of one argument
-abbrev rule_of : ℕ → ℤ → TypedPattern → List TypedIfLet → TypedExpr → TypedRule
+abbrev pub rule_of : ℕ → ℤ → TypedPattern → List TypedIfLet → TypedExpr → TypedRule
 rule_of root priority arg iflets right = record {
   root = root;
   args = more_typed arg no_typed;
@@ -55,7 +56,7 @@ rule_of root priority arg iflets right = record {
 }
 
 -- the variable, and a call on an expression
-abbrev x : TypedPattern
+abbrev pub x : TypedPattern
 x = typed_bind 1 0 (typed_wildcard 1)
 
 abbrev its_value : TypedExpr
@@ -246,11 +247,15 @@ asks_g depth n = record {
   place = 1;
   rule = first;
   at = record { listed = refl; of_term = refl };
-  fixed = λ c agrees covers. inr (inl (inr (on n, refl, refl)));
+  site = constructor_call 0 (more_sites (argument 0) no_sites) 0;
+  its = inr (inl refl);
+  call = constructor_call 0 (more_sites (argument 0) no_sites) 0;
+  within = inl refl;
+  fixed = λ c agrees covers. (refl, refl);
 }
 
 -- (f 3) is stuck at (g 3), which no rule matches
-gets_stuck : EndsAt conditional silent 2 (asks_value 1 (on 3)) [] (stuck 0 (on 3))
+gets_stuck : EndsAt conditional silent (plain_links conditional silent) 2 (asks_value 1 (on 3)) [] (stuck 0 (on 3))
 gets_stuck = record {
   left = 0;
   chain = to_choose refl (asks_g 1 3) no_link;
@@ -270,7 +275,7 @@ gets_stuck = record {
     no_match c (suc (suc (suc i))) rule at root m = absurd (none-some rule at)
 
 -- at depth 1 (f 1) is spent, since it asks (g 1)
-is_spent : EndsAt conditional silent 1 (asks_value 1 (on 1)) [] spent
+is_spent : EndsAt conditional silent (plain_links conditional silent) 1 (asks_value 1 (on 1)) [] spent
 is_spent = record { last = 0; args = on 1; chain = to_choose refl (asks_g 0 1) no_link; has_rules = refl }
 
 -- ---- (rule 1 (f 0) (emit (emit 1))) (rule 0 (f x) x) (rule (h x) (let ((_ u8 (emit x)) (_ u8 (emit x))) x)), where emit, which is 0, has

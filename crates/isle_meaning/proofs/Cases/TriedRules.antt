@@ -1,18 +1,24 @@
 -- Worked cases: plain runs of literal rules, with how many are tried.
-use Rattle.std.proofs.Common.{arith, ◌≡◌, ◌<◌, ◌⊎◌, ℕ, zero, suc, [], ◌∷◌, inl, inr, refl, sym, ◌∙◌, ap, subst₂, Some, slice_get}
-use Rattle.std.specs.Prelude.{Contains, ◌<ℤ◌}
+use Rattle.std.proofs.Common.{arith, ◌≡◌, ◌<◌, ◌⊎◌, ◌++◌, ℕ, zero, suc, List, Option, pos, [], ◌∷◌, inl, inr, refl, sym, ◌∙◌, ap, subst₂, Some, slice_get}
+use Rattle.std.specs.Prelude.{Contains, ◌<ℤ◌, FitsSigned}
+use Rattle.std.specs.Int.{w128}
+use Rattle.std.proofs.lemmas.Int.{fits_signed_from_abs}
 use Rattle.std.proofs.lemmas.Option.{none-some, same_Some}
 use Rattle.isle_terms.specs.TypedRules.{TypedRule}
-use Rattle.isle_meaning.specs.Words.{set}
-use Rattle.isle_meaning.specs.Worlds.{CheckedProgram}
+use Rattle.isle_terms.specs.Values.{ValueTree, ValueTrees, int_value as int_tree, no_values as no_trees, more_values as more_trees}
+use Rattle.isle_meaning.specs.Words.{set, int_word, no_words, more_words, steps_of}
+use Rattle.isle_meaning.specs.Worlds.{CheckedProgram, Event}
 use Rattle.isle_meaning.specs.Calls.{IsRuleAt}
 use Rattle.isle_meaning.specs.Asking.{stuck, spent}
 use Rattle.isle_meaning.specs.Outcomes.{given, missing, ended}
-use Rattle.isle_meaning.specs.PlainRuns.{no_variables, IsTriedBefore, AreTriedInOrder, PlainRun}
-use Rattle.isle_meaning.proofs.Cases.CalledTerms.{number, on, silent, conditional, emitting, nested}
+use Rattle.isle_meaning.specs.PlainRuns.{no_variables, WordsRun, IsTriedBefore, AreTriedInOrder, PlainRun}
+use Rattle.isle_meaning.specs.PlainBeginnings.{IsEffectOn, RightBegins, PlainBegins}
+use Rattle.isle_meaning.specs.Values.{Values, no_values}
+use Rattle.isle_meaning.specs.GroundValues.{values_of}
+use Rattle.isle_meaning.proofs.Cases.CalledTerms.{number, on, one_type, silent, conditional, emitting, emitted, nested}
 
 -- one place
-lone : (p : CheckedProgram) (t i : ℕ) (rule : TypedRule) → slice_get p.rules i ≡ Some rule → rule.root ≡ t
+pub lone : (p : CheckedProgram) (t i : ℕ) (rule : TypedRule) → slice_get p.rules i ≡ Some rule → rule.root ≡ t
     → ((j : ℕ) (other : TypedRule) → slice_get p.rules j ≡ Some other → other.root ≡ t → j ≡ i) → AreTriedInOrder p t (i ∷ [])
 lone p t i rule at root alone = record {
   all = λ j. (
@@ -99,7 +105,7 @@ inner = (
 )
 
 -- (f 1) tries one rule and is 5
-condition_holds : PlainRun conditional silent 2 1 (on 1) 1 [] (given (number 5))
+pub condition_holds : PlainRun conditional silent 2 1 (on 1) 1 [] (given (number 5))
 condition_holds = (
   1 ∷ 2 ∷ [],
   f_rules,
@@ -213,3 +219,56 @@ second_rule = (
     ),
   ),
 )
+
+-- ---- the effects with which (f 0) begins
+
+fits : (n : ℕ) → n < 100 → FitsSigned w128 (pos n)
+fits n small = fits_signed_from_abs w128 (pos n) (omega (arith, small))
+
+emits : (n m : ℕ) → n < 100 → IsEffectOn emitting 0 (on n) (emitted n m ∷ [])
+emits n m small = record {
+  args = more_trees (int_tree (pos n)) no_trees;
+  typed = (fits n small, tt);
+  stand = refl;
+  answer = Some (int_tree (pos m));
+  alone = refl;
+}
+
+nested_begins : (made : List Event) → RightBegins emitting silent (λ u vs effects q. (tried : ℕ) × PlainRun emitting silent 0 u vs tried effects q)
+    (PlainBegins emitting silent 0) no_variables [] (steps_of emitting.terms nested.right) made → PlainBegins emitting silent 1 1 (on 0) made
+nested_begins made begun = inr (
+  0 ∷ 1 ∷ [],
+  effect_rules,
+  (nested, refl, given no_variables, (given no_variables, (given no_variables, inl (refl, refl), refl), refl), begun),
+)
+
+-- it may stop before it emits, once it has emitted 1, and once it has emitted 2 besides
+stops_before : PlainBegins emitting silent 1 1 (on 0) []
+stops_before = inl refl
+
+stops_after_one : PlainBegins emitting silent 1 1 (on 0) (emitted 1 2 ∷ [])
+stops_after_one =
+    nested_begins (emitted 1 2 ∷ []) (inr (on 1, (given (number 1), refl, (given no_values, refl, refl)), inl (emits 1 2 (omega arith))))
+
+-- it doesn't begin with another effect
+wrong_effect : (args : ValueTrees) (answer : Option ValueTree) (vs : Values) (rest : List Event) → vs ≡ on 1 → values_of one_type args ≡ vs
+    → emitted 2 9 ∷ [] ≡ record { term = 0; args = args; answer = answer } ∷ rest → ⊥
+wrong_effect args answer vs rest is stand alone =
+    let event : emitted 2 9 ≡ record { term = 0; args = args; answer = answer } = cc in
+    let same : more_trees (int_tree (pos 2)) no_trees ≡ args = ap (λ (e : Event). e.args) event in
+    let two : on 2 ≡ on 1 = ap (values_of one_type) same ∙ stand ∙ is in absurd cc
+
+one_value : (vs : Values) → WordsRun emitting silent (λ u us effects q. (tried : ℕ) × PlainRun emitting silent 0 u us tried effects q) no_variables []
+    (more_words (int_word 1 (pos 1)) no_words) (given vs) → vs ≡ on 1
+one_value vs (given v, is, (given us, none, all)) = cc
+one_value vs (given v, is, (missing, none, all)) = absurd cc
+one_value vs (given v, is, (ended e, none, all)) = absurd cc
+one_value vs (missing, is, all) = absurd cc
+one_value vs (ended e, is, all) = absurd cc
+
+not_two : RightBegins emitting silent (λ u vs effects q. (tried : ℕ) × PlainRun emitting silent 0 u vs tried effects q) (PlainBegins emitting silent 0)
+    no_variables [] (steps_of emitting.terms nested.right) (emitted 2 9 ∷ []) → ⊥
+not_two (inl none) = absurd cc
+not_two (inr (vs, args, inl effect)) = wrong_effect effect.args effect.answer vs [] (one_value vs args) effect.stand effect.alone
+not_two (inr (vs, args, inr (effects, rest, v, joined, run, others))) =
+    wrong_effect run.args run.answer vs rest (one_value vs args) run.stand (joined ∙ ap (λ (l : List Event). l ++ rest) run.alone)

@@ -9,11 +9,11 @@ use Rattle.isle_meaning.specs.Values.{Value, Values}
 use Rattle.isle_meaning.specs.GroundValues.{AreValuesOf}
 use Rattle.isle_meaning.specs.Words.{word_of, steps_of}
 use Rattle.isle_meaning.specs.Answers.{Completion}
-use Rattle.isle_meaning.specs.Matching.{Matches}
+use Rattle.isle_meaning.specs.Matching.{MatchesWith, Matches}
 use Rattle.isle_meaning.specs.Scopes.{scope_of}
 use Rattle.isle_meaning.specs.Worlds.{CheckedProgram, Answers, Event}
-use Rattle.isle_meaning.specs.Calls.{Agrees, IsRuleAt, Means}
-use Rattle.isle_meaning.specs.Asking.{asks_value, no_link, Ended, stuck, spent, EndsAt}
+use Rattle.isle_meaning.specs.Calls.{Agrees, IsRuleAt, CoversAll, Means}
+use Rattle.isle_meaning.specs.Asking.{asks_value, plain_links, no_link, Ended, stuck, spent}
 use Rattle.isle_meaning.specs.Outcomes.{Outcome, given, missing, ended, unmatched, IsMeant}
 use Rattle.isle_meaning.specs.PlainRuns.{Tried, RuleRuns, RightRuns, RulesRun, IsTriedBefore, AreTriedInOrder, PlainRun}
 use Rattle.isle_meaning.specs.Laws.Plain.{EndsAreAsked}
@@ -24,11 +24,13 @@ use Rattle.isle_meaning.proofs.Calls.RuleGiving.{none_answered, rule_gives_typed
 use Rattle.isle_meaning.proofs.Calls.Saying.{OutcomeMeans, GivesMeant}
 use Rattle.isle_meaning.proofs.Calls.Matching.{rule_left, rule_matches}
 use Rattle.isle_meaning.proofs.Calls.Meant.{plain_run_meant}
+use Rattle.isle_meaning.specs.Demands.{vars_of}
+use Rattle.isle_meaning.proofs.Matching.Whole.{both_forward}
 use Rattle.isle_meaning.proofs.Chains.Prefixed.{choose_ends, finish_ends}
 use Rattle.isle_meaning.proofs.Chains.PureCalls.{calls_marked}
 use Rattle.isle_meaning.proofs.Chains.RightEnds.{right_ends}
 use Rattle.isle_meaning.proofs.Chains.RuleEnds.{rule_ends}
-use Rattle.isle_meaning.proofs.Chains.WordEnds.{EndsBelow}
+use Rattle.isle_meaning.proofs.Chains.WordEnds.{Ends, EndsBelow}
 
 -- what contains an item has it at a place
 place_of : (xs : List ℕ) (x : ℕ) → Contains xs x → (k : ℕ) × (slice_get xs k ≡ Some x)
@@ -48,7 +50,7 @@ equally : (one other : TypedRule) → one ≡ other → other.priority ≤ℤ on
 equally one other e = let q = ap (λ (r : TypedRule). r.priority) e in omega (arith, ints, q)
 
 -- two rules at one place are one
-one_rule : (p : CheckedProgram) (i j : ℕ) (one other : TypedRule) → i ≡ j → slice_get p.rules i ≡ Some one → slice_get p.rules j
+pub one_rule : (p : CheckedProgram) (i j : ℕ) (one other : TypedRule) → i ≡ j → slice_get p.rules i ≡ Some one → slice_get p.rules j
     ≡ Some other → one ≡ other
 one_rule p i j one other e h k = let q : Some one ≡ Some other = sym h ∙ (ap (slice_get p.rules) e ∙ k) in cc
 
@@ -61,7 +63,7 @@ below_or_above (suc l) (suc k) d = elim (below_or_above l k (λ e. d (ap suc e))
     [ inl h ↦ inl (omega (arith, h)) | inr h ↦ inr (omega (arith, h)) ]
 
 -- how rules that are tried end: the right side of one that is passed ends, the others end, or one that is tried ends
-tried_ended : (s : Outcome (ℕ → Value)) (right : (ℕ → Value) → List Event → Outcome Value → Type 0)
+pub tried_ended : (s : Outcome (ℕ → Value)) (right : (ℕ → Value) → List Event → Outcome Value → Type 0)
     (others : ℕ → List Event → Outcome Value → Type 0) (steps : ℕ) (trace : List Event) (e : Ended)
     → Tried s right others steps trace (ended e)
     → ((a : ℕ → Value) × (s ≡ given a) × right a trace (ended e))
@@ -134,11 +136,11 @@ module _ (p : CheckedProgram) (w : Answers) (R : ℕ → Type 0) (sound : IsSoun
 
   -- the call is stuck where all rules are left
   stuck_ends : (k : ℕ) (trace : List Event) (e : Ended) → IsFrom k [] → AreLeft k → trace ≡ [] → ended e
-      ≡ unmatched (p.terms.partial t) t args → EndsAt p w (suc n) (asks_value t args) trace e
+      ≡ unmatched (p.terms.partial t) t args → Ends p w (suc n) (asks_value t args) trace e
   stuck_ends k trace e end left nothing q =
       let its = unmatched_ended (p.terms.partial t) t args e q in
-      subst (λ (z : Ended). EndsAt p w (suc n) (asks_value t args) trace z) (sym (its.1))
-      (subst (λ (l : List Event). EndsAt p w (suc n) (asks_value t args) l (stuck t args)) (sym nothing) (record {
+      subst (λ (z : Ended). Ends p w (suc n) (asks_value t args) trace z) (sym (its.1))
+      (subst (λ (l : List Event). Ends p w (suc n) (asks_value t args) l (stuck t args)) (sym nothing) (record {
         left = n;
         chain = no_link;
         has_rules = sound.ruled t runs;
@@ -160,14 +162,14 @@ module _ (p : CheckedProgram) (w : Answers) (R : ℕ → Type 0) (sound : IsSoun
 
   -- an end by the parts of its effects
   ends_along : (trace before within : List Event) (e : Ended) → trace ≡ before ++ within
-      → EndsAt p w (suc n) (asks_value t args) (before ++ within) e → EndsAt p w (suc n) (asks_value t args) trace e
-  ends_along trace before within e split h = subst (λ (l : List Event). EndsAt p w (suc n) (asks_value t args) l e) (sym split) h
+      → Ends p w (suc n) (asks_value t args) (before ++ within) e → Ends p w (suc n) (asks_value t args) trace e
+  ends_along trace before within e split h = subst (λ (l : List Event). Ends p w (suc n) (asks_value t args) l e) (sym split) h
 
   -- the rule that is passed ends
   passed_ends : (k i : ℕ) (rule : TypedRule) (a : ℕ → Value) (trace : List Event) (e : Ended) → AreLeft k → slice_get places k ≡ Some i
       → slice_get p.rules i ≡ Some rule → RuleRuns p w below args rule (given a)
       → RightRuns p w below a [] (steps_of p.terms rule.right) (word_of p.terms rule.right) trace (ended e)
-      → EndsAt p w (suc n) (asks_value t args) trace e
+      → Ends p w (suc n) (asks_value t args) trace e
   passed_ends k i rule a trace e left here listed passed right =
       let at = of_term k i rule here listed in
       let its = rule_sound i rule at in
@@ -176,25 +178,27 @@ module _ (p : CheckedProgram) (w : Answers) (R : ℕ → Type 0) (sound : IsSoun
       let variables = rule_gives_typed p w R (sound.data_sound) below gives_typed rule args a its (rule_args i rule at) passed in
       let marked = calls_marked p.terms rule.right in
       let r = right_ends p w n R (sound.data_sound) below gives_typed meant ends (scope_of rule) its.var_types (calls_types p rule.right) a
-      variables (word_of p.terms rule.right) (p.terms.type_of rule.root) (typed.0) (marked.0) (steps_of p.terms rule.right) 0 [] trace e
-      refl (typed.1) (marked.1) (none_answered p _) right in
+      variables (word_of p.terms rule.right) (p.terms.type_of rule.root) (typed.0) (marked.0) args (vars_of p.terms rule)
+      (steps_of p.terms rule.right) 0 [] trace e refl (typed.1) (marked.1) (none_answered p _) right in
+      let holds : (c : Completion) → Agrees p w (Means p w n) c → CoversAll p c t args → MatchesWith p.terms c args rule a =
+      λ c ag covers. rule_matches p w below R (sound.data_sound) gives_typed (Means p w n) meant c ag rule args a its
+      (rule_args i rule at) passed (covers i rule at) in
       ends_along trace (r.before) (r.within) e (r.split)
-      (finish_ends p w n t args (r.asked) (r.before) (r.within) e (sound.ruled t runs) (record {
+      (finish_ends p w (plain_links p w) n t args (r.asked) (r.before) (r.within) e (sound.ruled t runs) (record {
         place = i;
         rule = rule;
         at = at;
+        call = r.call;
         fixed = λ c ag covers. record {
-          variables = a;
-          matches = rule_matches p w below R (sound.data_sound) gives_typed (Means p w n) meant c ag rule args a its (rule_args i rule at)
-              passed (covers i rule at);
+          matches = (a, holds c ag covers);
           greatest = greatest k i rule left here listed c ag;
-          makes = r.has c ag;
+          asks = r.asks c ag ((both_forward p.terms c args rule its.well a (holds c ag covers)).1);
         };
       }) (r.ends_so))
 
   -- Rules that are tried from a place on, before which all are left, end where a chain of asking does.
   pub rules_end : (suffix : List ℕ) (k : ℕ) → IsFrom k suffix → AreLeft k → (steps : ℕ) (trace : List Event) (e : Ended)
-      → RulesRun p w below t args suffix steps trace (ended e) → EndsAt p w (suc n) (asks_value t args) trace e
+      → RulesRun p w below t args suffix steps trace (ended e) → Ends p w (suc n) (asks_value t args) trace e
   rules_end [] k end left steps trace e run = stuck_ends k trace e end left (run.1) (run.2)
   rules_end (i ∷ is) k end left steps trace e run =
       let here : slice_get places k ≡ Some i = (let z : 0 + k ≡ k = omega arith in sym (ap (slice_get places) z) ∙ end 0) in
@@ -213,7 +217,16 @@ module _ (p : CheckedProgram) (w : Answers) (R : ℕ → Type 0) (sound : IsSoun
               let r = rule_ends p w n R (sound.data_sound) below gives_typed meant ends args rule e (rule_sound i rule at)
               (rule_args i rule at) (subst (RuleRuns p w below args rule) (q.0) (run.3)) in
               ends_along trace [] [] e (q.1)
-              (choose_ends p w n t args (r.asked) [] e (sound.ruled t runs) (record { place = i; rule = rule; at = at; fixed = r.fixed })
+              (choose_ends p w (plain_links p w) n t args (r.asked) [] e (sound.ruled t runs) (record {
+                place = i;
+                rule = rule;
+                at = at;
+                site = r.site;
+                its = r.its;
+                call = r.call;
+                within = r.within;
+                fixed = r.fixed;
+              })
               (r.ends_so))
         ]
       ]
@@ -243,12 +256,12 @@ module _ (p : CheckedProgram) (w : Answers) (R : ℕ → Type 0) (sound : IsSoun
   -- Where a plain run ends unanswered, a chain of asking ends so.
   pub runs_end : (n t : ℕ) (args : Values) (steps : ℕ) (trace : List Event) (e : Ended) → R t
       → AreValuesOf p.values args (p.terms.inputs t)
-      → PlainRun p w n t args steps trace (ended e) → EndsAt p w n (asks_value t args) trace e
+      → PlainRun p w n t args steps trace (ended e) → Ends p w n (asks_value t args) trace e
   runs_end zero t args steps trace e r h run =
       let q : ended e ≡ ended spent = run.2 in
       let o : spent ≡ e = cc in
-      subst (λ (z : Ended). EndsAt p w zero (asks_value t args) trace z) o
-      (subst (λ (l : List Event). EndsAt p w zero (asks_value t args) l spent) (sym (run.1))
+      subst (λ (z : Ended). Ends p w zero (asks_value t args) trace z) o
+      (subst (λ (l : List Event). Ends p w zero (asks_value t args) l spent) (sym (run.1))
       (record { last = t; args = args; chain = no_link; has_rules = sound.ruled t r }))
   runs_end (suc n) t args steps trace e r h run =
       rules_end p w R sound n (Below n) (runs_give_typed n) (runs_are_meant n)

@@ -3,7 +3,7 @@ use Rattle.std.proofs.Common.{◌≡◌, ◌≢◌, ◌⊎◌, inl, inr, ℕ, su
 use Rattle.std.proofs.lemmas.Bool.{eq-eqb}
 use Rattle.isle_terms.specs.TypedRules.{TypedPattern, typed_bind, typed_var, typed_bool, typed_int, typed_prim, typed_term, typed_wildcard}
 use Rattle.isle_terms.specs.TypedRules.{typed_and, TypedPatterns, no_typed, more_typed}
-use Rattle.isle_meaning.specs.Facts.{TermShape, variant_shape, struct_shape, declared_shape, TermFacts, patterns}
+use Rattle.isle_meaning.specs.Facts.{TermShape, variant_shape, struct_shape, declared_shape, patterns}
 use Rattle.isle_meaning.specs.Values.{Value, Values, made_variant, made_struct, no_values, more_values, Got, unknown, gives}
 use Rattle.isle_meaning.specs.Words.{set}
 use Rattle.isle_meaning.specs.Answers.{Completion}
@@ -13,14 +13,14 @@ use Rattle.isle_meaning.specs.Demands.{parts, bound, bound_all}
 use Rattle.isle_meaning.specs.Scopes.{scope, scope_all, IsWellOpened, IsWellScoped, AreWellScoped, OfCall, OfCalls, OfAllCalls}
 use Rattle.isle_meaning.specs.Worlds.{CheckedProgram, Answers}
 use Rattle.isle_meaning.specs.Calls.{Agrees, Means}
-use Rattle.isle_meaning.specs.Asking.{Asked, asks_outputs, OpensWith, PatternHas, PatternsHave, no_link, Ended, EndsAt}
+use Rattle.isle_meaning.specs.Asking.{Asked, asks_outputs, IsOpenedAt, IsSiteOfPattern, IsSiteOfPatterns, IsCallOn, no_link, Ended}
 use Rattle.isle_meaning.proofs.Matching.Basics.{field_at, struct_at}
 use Rattle.isle_meaning.proofs.Matching.Children.{IsAt, Agree, parts_at}
 use Rattle.isle_meaning.specs.Outcomes.{Outcome, given, missing, ended, WorldExtracts}
 use Rattle.isle_meaning.specs.PlainRuns.{Tests, OpenRuns, PatternRuns, PatternsRun, EachRuns}
 use Rattle.isle_meaning.proofs.Calls.Outcomes.{after_given}
 use Rattle.isle_meaning.proofs.Calls.Saying.{extract_says}
-use Rattle.isle_meaning.proofs.Chains.WordEnds.{after_ended, judged_ended}
+use Rattle.isle_meaning.proofs.Chains.WordEnds.{Ends, after_ended, judged_ended}
 
 -- an answered call's answer is known
 extracted_known : (b : Bool) (g : Got Values) → extracted b g ≢ unknown → g ≢ unknown
@@ -94,10 +94,10 @@ module _ (p : CheckedProgram) (w : Answers) (n : ℕ) where
   ]
 
   -- where an extractor's call ends, its answer isn't allowed
-  extract_ends : (t : ℕ) (v : Value) (e : Ended) → WorldExtracts p w t v (ended e) → EndsAt p w n (asks_outputs t v) [] e
+  extract_ends : (t : ℕ) (v : Value) (e : Ended) → WorldExtracts p w t v (ended e) → Ends p w n (asks_outputs t v) [] e
   extract_ends t v e run =
       let j = judged_ended _ _ _ e (run.judged) in
-      subst (λ (z : Ended). EndsAt p w n (asks_outputs t v) [] z) (sym (j.1)) (record {
+      subst (λ (z : Ended). Ends p w n (asks_outputs t v) [] z) (sym (j.1)) (record {
         left = n;
         chain = no_link;
         tree = run.arg;
@@ -106,34 +106,38 @@ module _ (p : CheckedProgram) (w : Answers) (n : ℕ) where
         wrong = j.0;
       })
 
-  -- the call at which a pattern ends
+  -- the call at which a pattern ends, by its site
   pub record PatternEnds (q : TypedPattern) (v : Value) (e : Ended) : Type 0 where
     pub asked : Asked
-    pub ends_so : EndsAt p w n asked [] e
-    pub at_site : (c : Completion) → Agrees p w (Means p w n) c → (args : Values) (s : Site) → value p.terms c args [] s
-        ≡ gives (held_value v) → OfCalls p.terms (IsAnswered p.terms c args []) q s → PatternHas p.terms c args q s asked
+    pub ends_so : Ends p w n asked [] e
+    pub call : Site → Site
+    pub its : (s : Site) → IsSiteOfPattern p.terms q s (call s)
+    pub on : (c : Completion) → Agrees p w (Means p w n) c → (args : Values) (s : Site) → value p.terms c args [] s ≡ gives (held_value v)
+        → OfCalls p.terms (IsAnswered p.terms c args []) q s → IsCallOn p.terms c args (call s) asked
 
   -- the call at which patterns end, each at its place
   pub record PatternsEnd (qs : TypedPatterns) (vs : Values) (e : Ended) : Type 0 where
     pub asked : Asked
-    pub ends_so : EndsAt p w n asked [] e
-    pub at_sites : (c : Completion) → Agrees p w (Means p w n) c → (args : Values) (at : ℕ → Site) → IsAt (value p.terms c args []) at vs
-        → OfAllCalls p.terms (IsAnswered p.terms c args []) qs at → PatternsHave p.terms c args qs at asked
+    pub ends_so : Ends p w n asked [] e
+    pub call : (ℕ → Site) → Site
+    pub its : (at : ℕ → Site) → IsSiteOfPatterns p.terms qs at (call at)
+    pub on : (c : Completion) → Agrees p w (Means p w n) c → (args : Values) (at : ℕ → Site) → IsAt (value p.terms c args []) at vs
+        → OfAllCalls p.terms (IsAnswered p.terms c args []) qs at → IsCallOn p.terms c args (call at) asked
 
   -- the call at which patterns end, all on one value
   pub record EachEnds (qs : TypedPatterns) (v : Value) (e : Ended) : Type 0 where
     pub asked : Asked
-    pub ends_so : EndsAt p w n asked [] e
-    pub at_site : (c : Completion) → Agrees p w (Means p w n) c → (args : Values) (s : Site) → value p.terms c args [] s
-        ≡ gives (held_value v)
-        → OfAllCalls p.terms (IsAnswered p.terms c args []) qs (λ i. s) → PatternsHave p.terms c args qs (λ i. s) asked
+    pub ends_so : Ends p w n asked [] e
+    pub call : Site → Site
+    pub its : (s : Site) → IsSiteOfPatterns p.terms qs (λ i. s) (call s)
+    pub on : (c : Completion) → Agrees p w (Means p w n) c → (args : Values) (s : Site) → value p.terms c args [] s ≡ gives (held_value v)
+        → OfAllCalls p.terms (IsAnswered p.terms c args []) qs (λ i. s) → IsCallOn p.terms c args (call s) asked
 
   -- an extractor's call opens so
-  opens_with : (facts : TermFacts) (c : Completion) (args : Values) (shape : TermShape) (t : ℕ) (s : Site) (v : Value)
-      → shape ≡ declared_shape → value facts c args [] s ≡ gives (held_value v) → OpensWith facts c args shape t s (asks_outputs t v)
-  opens_with facts c args (variant_shape k) t s v q e = absurd cc
-  opens_with facts c args struct_shape t s v q e = absurd cc
-  opens_with facts c args declared_shape t s v q e = inr (v, e, refl)
+  opened_at : (shape : TermShape) (t : ℕ) (s : Site) → shape ≡ declared_shape → IsOpenedAt shape t s (extractor_call t s)
+  opened_at (variant_shape k) t s q = absurd cc
+  opened_at struct_shape t s q = absurd cc
+  opened_at declared_shape t s q = refl
 
   mutual
     -- Where a pattern's run ends, the end is that of an extractor's call that it makes.
@@ -142,7 +146,7 @@ module _ (p : CheckedProgram) (w : Answers) (n : ℕ) where
     pattern_ends (typed_bind ty k q) S a v e well run = elim (after_ended (run.0) _ e (run.2)) [
       | inr h ↦ absurd (let o = h.2 in cc)
       | inl o ↦ (let r = pattern_ends q S a v e (well.0) (subst (PatternRuns p w a q v) o (run.1)) in
-          record { asked = r.asked; ends_so = r.ends_so; at_site = r.at_site })
+          record { asked = r.asked; ends_so = r.ends_so; call = r.call; its = r.its; on = r.on })
     ]
     pattern_ends (typed_var ty k) S a v e well (inl h) = absurd (let o = h.1 in cc)
     pattern_ends (typed_var ty k) S a v e well (inr h) = absurd (let o = h.1 in cc)
@@ -157,20 +161,24 @@ module _ (p : CheckedProgram) (w : Answers) (n : ℕ) where
           | inl h ↦ record {
             asked = asks_outputs t v;
             ends_so = extract_ends t v e (h.1);
-            at_site = λ c ag args s is answered. inl (opens_with p.terms c args (p.terms.shape t) t s v (h.0) is);
+            call = λ s. extractor_call t s;
+            its = λ s. inl (opened_at (p.terms.shape t) t s (h.0));
+            on = λ c ag args s is answered. (refl, is);
           }
           | inr h ↦ (let r = patterns_end qs S a (h.outputs) e (well.1) (h.reads) in
               record {
                 asked = r.asked;
                 ends_so = r.ends_so;
-                at_site = λ c ag args s is answered. inr (r.at_sites c ag args (parts p.terms (p.terms.shape t) t (patterns qs) s)
+                call = λ s. r.call (parts p.terms (p.terms.shape t) t (patterns qs) s);
+                its = λ s. inr (r.its (parts p.terms (p.terms.shape t) t (patterns qs) s));
+                on = λ c ag args s is answered. r.on c ag args (parts p.terms (p.terms.shape t) t (patterns qs) s)
                     (parts_have c ag args (p.terms.shape t) ty t (patterns qs) s v (h.outputs) (well.0) (h.opened) is (answered.0))
-                    (answered.1));
+                    (answered.1);
               })
         ]
     pattern_ends (typed_wildcard ty) S a v e well run = absurd cc
     pattern_ends (typed_and ty qs) S a v e well run =
-        let r = each_ends qs S a v e well run in record { asked = r.asked; ends_so = r.ends_so; at_site = r.at_site }
+        let r = each_ends qs S a v e well run in record { asked = r.asked; ends_so = r.ends_so; call = r.call; its = r.its; on = r.on }
 
     -- So is it of patterns, each at its place.
     pub patterns_end : (qs : TypedPatterns) (S : ℕ → Type 0) (a : ℕ → Value) (vs : Values) (e : Ended) → AreWellScoped p.terms qs S
@@ -183,13 +191,17 @@ module _ (p : CheckedProgram) (w : Answers) (n : ℕ) where
           record {
             asked = r.asked;
             ends_so = r.ends_so;
-            at_sites = λ c ag args at is answered. inl (r.at_site c ag args (at 0) (is 0 v refl) (answered.0));
+            call = λ at. r.call (at 0);
+            its = λ at. inl (r.its (at 0));
+            on = λ c ag args at is answered. r.on c ag args (at 0) (is 0 v refl) (answered.0);
           })
       | inr h ↦ (let r = patterns_end qs (scope q S) (h.0) vs e (well.1) (h.2) in
           record {
             asked = r.asked;
             ends_so = r.ends_so;
-            at_sites = λ c ag args at is answered. inr (r.at_sites c ag args (λ i. at (suc i)) (λ i x o. is (suc i) x o) (answered.1));
+            call = λ at. r.call (λ i. at (suc i));
+            its = λ at. inr (r.its (λ i. at (suc i)));
+            on = λ c ag args at is answered. r.on c ag args (λ i. at (suc i)) (λ i x o. is (suc i) x o) (answered.1);
           })
     ]
 
@@ -202,13 +214,17 @@ module _ (p : CheckedProgram) (w : Answers) (n : ℕ) where
           record {
             asked = r.asked;
             ends_so = r.ends_so;
-            at_site = λ c ag args s is answered. inl (r.at_site c ag args s is (answered.0));
+            call = r.call;
+            its = λ s. inl (r.its s);
+            on = λ c ag args s is answered. r.on c ag args s is (answered.0);
           })
       | inr h ↦ (let r = each_ends qs (scope q S) (h.0) v e (well.1) (h.2) in
           record {
             asked = r.asked;
             ends_so = r.ends_so;
-            at_site = λ c ag args s is answered. inr (r.at_site c ag args s is (answered.1));
+            call = r.call;
+            its = λ s. inr (r.its s);
+            on = λ c ag args s is answered. r.on c ag args s is (answered.1);
           })
     ]
 

@@ -2,14 +2,14 @@
 use Rattle.std.proofs.Common.{◌≡◌, inl, inr, ℕ, suc, ◌++◌, List, [], true, sym, ◌∙◌, ap, append_assoc}
 use Rattle.isle_meaning.specs.Values.{Values}
 use Rattle.isle_meaning.specs.Worlds.{CheckedProgram, Answers, Event}
-use Rattle.isle_meaning.specs.Asking.{Asked, asks_value, asks_outputs, AsksToChoose, AsksToFinish, Chain, to_choose, to_finish}
+use Rattle.isle_meaning.specs.Asking.{Asked, asks_value, asks_outputs, Links, Chain, to_choose, to_finish}
 use Rattle.isle_meaning.specs.Asking.{Ended, stuck, spent, ill_typed, EndsAt}
 
-module _ (p : CheckedProgram) (w : Answers) (n t : ℕ) (args : Values) (before : List Event) (r : Asked)
-    (further : (m : ℕ) (q : Asked) (trace : List Event) → Chain p w n r trace m q
-    → Chain p w (suc n) (asks_value t args) (before ++ trace) m q) where
+module _ (p : CheckedProgram) (w : Answers) (links : Links) (n t : ℕ) (args : Values) (before : List Event) (r : Asked)
+    (further : (m : ℕ) (q : Asked) (trace : List Event) → Chain p links n r trace m q
+    → Chain p links (suc n) (asks_value t args) (before ++ trace) m q) where
   -- one more link before a chain that ends
-  linked : (trace : List Event) (e : Ended) → EndsAt p w n r trace e → EndsAt p w (suc n) (asks_value t args) (before ++ trace) e
+  linked : (trace : List Event) (e : Ended) → EndsAt p w links n r trace e → EndsAt p w links (suc n) (asks_value t args) (before ++ trace) e
   linked trace (stuck u vs) h = record {
     left = h.left;
     chain = further _ _ trace (h.chain);
@@ -50,14 +50,14 @@ module _ (p : CheckedProgram) (w : Answers) (n t : ℕ) (args : Values) (before 
     wrong = h.wrong;
   }
 
--- a call that a rule has, whether or not it is chosen
-pub choose_ends : (p : CheckedProgram) (w : Answers) (n t : ℕ) (args : Values) (r : Asked) (trace : List Event) (e : Ended)
-    → p.has_rules t ≡ true → AsksToChoose p w n t args r → EndsAt p w n r trace e → EndsAt p w (suc n) (asks_value t args) trace e
-choose_ends p w n t args r trace e i asks h = linked p w n t args [] r (λ m q trace c. to_choose i asks c) trace e h
+-- a call that is asked before a rule is chosen
+pub choose_ends : (p : CheckedProgram) (w : Answers) (links : Links) (n t : ℕ) (args : Values) (r : Asked) (trace : List Event) (e : Ended)
+    → p.has_rules t ≡ true → links.chooses n t args r → EndsAt p w links n r trace e → EndsAt p w links (suc n) (asks_value t args) trace e
+choose_ends p w links n t args r trace e i asks h = linked p w links n t args [] r (λ m q trace c. to_choose i asks c) trace e h
 
 -- a call that the chosen right side makes
-pub finish_ends : (p : CheckedProgram) (w : Answers) (n t : ℕ) (args : Values) (r : Asked) (before trace : List Event) (e : Ended)
-    → p.has_rules t ≡ true → AsksToFinish p w n t args before r → EndsAt p w n r trace e
-    → EndsAt p w (suc n) (asks_value t args) (before ++ trace) e
-finish_ends p w n t args r before trace e i asks h =
-    linked p w n t args before r (λ m q trace c. to_finish before trace i asks c) trace e h
+pub finish_ends : (p : CheckedProgram) (w : Answers) (links : Links) (n t : ℕ) (args : Values) (r : Asked) (before trace : List Event) (e : Ended)
+    → p.has_rules t ≡ true → links.finishes n t args before r → EndsAt p w links n r trace e
+    → EndsAt p w links (suc n) (asks_value t args) (before ++ trace) e
+finish_ends p w links n t args r before trace e i asks h =
+    linked p w links n t args before r (λ m q trace c. to_finish before trace i asks c) trace e h

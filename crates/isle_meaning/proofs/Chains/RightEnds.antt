@@ -5,11 +5,12 @@ use Rattle.isle_meaning.specs.Values.{Value, Values, Got, unknown, fails, gives}
 use Rattle.isle_meaning.specs.GroundValues.{IsValueOf, AreValuesOf}
 use Rattle.isle_meaning.specs.Words.{Word, Step}
 use Rattle.isle_meaning.specs.Answers.{Completion}
-use Rattle.isle_meaning.specs.Matching.{word_values}
 use Rattle.isle_meaning.specs.Worlds.{CheckedProgram, Answers, Event}
 use Rattle.isle_meaning.specs.RightSides.{on_got}
 use Rattle.isle_meaning.specs.Calls.{Says, Agrees, MakesIf, Makes, Means}
-use Rattle.isle_meaning.specs.Asking.{Asked, asks_value, RightHas, no_link, Ended, EndsAt}
+use Rattle.isle_meaning.specs.Sites.{Site, extractor_call, constructor_call, sites_of}
+use Rattle.isle_meaning.specs.Held.{held_value, value, values}
+use Rattle.isle_meaning.specs.Asking.{Asked, asks_value, asks_outputs, IsCallOfWords, MayBeCallOn, RightAsks, no_link, Ended}
 use Rattle.isle_meaning.specs.Outcomes.{Outcome, given, missing, ended, Then, EffectsIf, ImpureRuns}
 use Rattle.isle_meaning.specs.PlainRuns.{WordsRun, RightRuns}
 use Rattle.isle_meaning.specs.SoundPrograms.{HasSoundData}
@@ -17,10 +18,12 @@ use Rattle.isle_meaning.specs.TypedWords.{IsTypedWord, AreTypedVariables, AreTyp
 use Rattle.isle_meaning.proofs.Calls.Outcomes.{one_longer}
 use Rattle.isle_meaning.proofs.Calls.Giving.{judged_given, words_give_typed_all}
 use Rattle.isle_meaning.proofs.Calls.RuleGiving.{answers_append, step_gives_typed}
-use Rattle.isle_meaning.proofs.Calls.Saying.{GivesMeant, words_say}
+use Rattle.isle_meaning.proofs.Calls.Saying.{GivesMeant}
+use Rattle.isle_meaning.proofs.Matching.Children.{Agree}
+use Rattle.isle_meaning.proofs.Matching.Later.{later}
 use Rattle.isle_meaning.proofs.Chains.PureCalls.{CallsPure, IsImpureStep}
 use Rattle.isle_meaning.proofs.Chains.Unique.{EachStep}
-use Rattle.isle_meaning.proofs.Chains.WordEnds.{EndsBelow, judged_ended, word_ends, words_end}
+use Rattle.isle_meaning.proofs.Chains.WordEnds.{Ends, EndsBelow, judged_ended, word_ends, words_end, sites_say}
 
 -- where what comes after ends, there was an end, or what comes after ends
 pub then_ended : {A : Type 0} (g : Outcome A) (next : A → List Event → Outcome Value → Type 0) (trace : List Event) (e : Ended)
@@ -41,11 +44,11 @@ module _ (p : CheckedProgram) (w : Answers) (n : ℕ) (R : ℕ → Type 0) (data
   -- where an impure call ends unanswered, a chain of asking from it does
   impure_ends : (b : Bool) (t : ℕ) (vs : Values) (effects : List Event) (e : Ended) → p.has_rules t ≡ b → (p.has_rules t ≡ true → R t)
       → p.terms.pure t ≡ false → AreValuesOf p.values vs (p.terms.inputs t) → EffectsIf p below b t vs effects (ended e)
-      → EndsAt p w n (asks_value t vs) effects e
+      → Ends p w n (asks_value t vs) effects e
   impure_ends true t vs effects e q ruled impure typed run = ends t vs effects e (ruled q) typed run
   impure_ends false t vs effects e q ruled impure typed run =
       let j = judged_ended _ _ _ e (run.judged) in
-      subst (λ (z : Ended). EndsAt p w n (asks_value t vs) effects z) (sym (j.1)) (inr (record {
+      subst (λ (z : Ended). Ends p w n (asks_value t vs) effects z) (sym (j.1)) (inr (record {
         left = n;
         before = [];
         chain = no_link;
@@ -76,16 +79,39 @@ module _ (p : CheckedProgram) (w : Answers) (n : ℕ) (R : ℕ → Type 0) (data
         gives_it = j.1;
       }
 
+  -- a pure call is a call that may be a step's
+  any_number : (c : Completion) (args : Values) (done : List (Option Value)) (k : ℕ) (s : Site) (q : Asked)
+      → MayBeCallOn p.terms c args done 0 s q → MayBeCallOn p.terms c args done k s q
+  any_number c args done k (extractor_call t s) (asks_outputs u v) h = h
+  any_number c args done k (constructor_call t ss i) (asks_value u vs) h = (inl (first (h.0)), h.1, h.2)
+    where
+      first : (i ≡ 0) ⊎ (i ≡ 0) → i ≡ 0
+      first (inl e) = e
+      first (inr e) = e
+  any_number c args done k s q h = absurd h
+
   module _ (S : ℕ → Type 0) (G D : ℕ → ℕ) (a : ℕ → Value) (variables : AreTypedVariables p S G a) (result : Word) (u : ℕ)
-      (result_typed : IsTypedWord p R S G D result u) (result_pure : CallsPure p.terms result) where
+      (result_typed : IsTypedWord p R S G D result u) (result_pure : CallsPure p.terms result) (args : Values) (vars : ℕ → Site) where
+    -- the variables have the values of their sites
+    abbrev pub VariablesAgree : Completion → Type 0
+    VariablesAgree c = Agree (value p.terms c args []) a S vars
+
+    -- they keep them after impure calls
+    agree_later : (c : Completion) (done : List (Option Value)) → VariablesAgree c → Agree (value p.terms c args done) a S vars
+    agree_later c done agree k i =
+        let here : value p.terms c args [] (vars k) ≡ gives (held_value (a k)) = agree k i in
+        later p.terms c args [] done (vars k) (λ e. let q : gives (held_value (a k)) ≡ unknown = sym here ∙ e in cc) ∙ here
+
     -- the call at which a right side ends, and the effects before it and within it
     pub record RightEnds (done : List (Option Value)) (steps : List Step) (trace : List Event) (e : Ended) : Type 0 where
       pub asked : Asked
       pub before : List Event
       pub within : List Event
       pub split : trace ≡ before ++ within
-      pub ends_so : EndsAt p w n asked within e
-      pub has : (c : Completion) → Agrees p w (Means p w n) c → RightHas c (Makes p (Means p w n)) a done steps result before asked
+      pub ends_so : Ends p w n asked within e
+      pub call : Site
+      pub asks : (c : Completion) → Agrees p w (Means p w n) c → VariablesAgree c
+          → RightAsks p.terms (IsCallOfWords p.terms vars) c (Makes p (Means p w n)) args vars done steps result before call asked
 
     -- the call at which a right side ends from a step on whose arguments have values
     stepped : (s : Step) (steps : List Step) (m : ℕ) (done : List (Option Value)) (trace : List Event) (e : Ended) (vs : Values)
@@ -97,11 +123,12 @@ module _ (p : CheckedProgram) (w : Answers) (n : ℕ) (R : ℕ → Type 0) (data
         → Then b (λ x rest r. RightRuns p w below a (done ++ Some x ∷ []) steps result rest r) rest (ended e)
         → RightEnds done (s ∷ steps) trace e
     stepped s steps m done trace e vs l t k answers runs effects rest b split made rec more =
-        let args = words_give_typed_all p w R data_sound below gives_typed S G D a done variables answers s.args (p.terms.inputs s.term) vs
-        (t.0.3) runs in
-        let says : (c : Completion) → Agrees p w (Means p w n) c → Says (word_values c a done s.args) (gives vs) =
-        λ c ag. words_say p w (Means p w n) c ag R data_sound below gives_typed meant S G D a done variables answers s.args
-        (p.terms.inputs s.term) (given vs) (t.0.3) runs in
+        let valued_args = words_give_typed_all p w R data_sound below gives_typed S G D a done variables answers s.args
+        (p.terms.inputs s.term) vs (t.0.3) runs in
+        let says : (c : Completion) → Agrees p w (Means p w n) c → VariablesAgree c
+        → Says (values p.terms c args done (sites_of p.terms vars s.args)) (gives vs) =
+        λ c ag agree. sites_say p w n R data_sound below gives_typed meant ends S G D a done variables answers c ag args vars
+        (agree_later c done agree) s.args (p.terms.inputs s.term) vs (t.0.3) runs in
         elim (then_ended b (λ (x : Value) (rest : List Event) (r : Outcome Value). RightRuns p w below a (done ++ Some x ∷ []) steps
         result rest r) rest e more) [
           | inl q ↦ record {
@@ -109,9 +136,14 @@ module _ (p : CheckedProgram) (w : Answers) (n : ℕ) (R : ℕ → Type 0) (data
             before = [];
             within = effects;
             split = split ∙ (ap (λ (z : List Event). effects ++ z) (q.1) ∙ append-nil effects);
-            ends_so = impure_ends (p.has_rules s.term) s.term vs effects e refl (t.0.1) (k.0.0) args
+            ends_so = impure_ends (p.has_rules s.term) s.term vs effects e refl (t.0.1) (k.0.0) valued_args
                 (subst (ImpureRuns p below s.term vs effects) (q.0) made);
-            has = λ c ag. inl (refl, inr (refl, says c ag));
+            call = constructor_call s.term (sites_of p.terms vars s.args) (suc s.place);
+            asks = λ c ag agree. inl (
+              refl,
+              inl refl,
+              (inr refl, refl, says c ag agree),
+            );
           }
           | inr h ↦
               let answered : ImpureRuns p below s.term vs effects (given (h.0)) =
@@ -128,13 +160,14 @@ module _ (p : CheckedProgram) (w : Answers) (n : ℕ) (R : ℕ → Type 0) (data
                 within = r.within;
                 split = split ∙ (ap (λ (z : List Event). effects ++ z) (r.split) ∙ sym (append_assoc effects (r.before) (r.within)));
                 ends_so = r.ends_so;
-                has = λ c ag. inr (on_says (word_values c a done s.args) vs _ _ (says c ag) (
+                call = r.call;
+                asks = λ c ag agree. inr (on_says (values p.terms c args done (sites_of p.terms vars s.args)) vs _ _ (says c ag agree) (
                   effects,
                   r.before,
                   h.0,
                   refl,
-                  impure_makes (p.has_rules s.term) s.term vs effects (h.0) refl (t.0.1) args answered,
-                  r.has c ag,
+                  impure_makes (p.has_rules s.term) s.term vs effects (h.0) refl (t.0.1) valued_args answered,
+                  r.asks c ag agree,
                 ));
               }
         ]
@@ -146,7 +179,15 @@ module _ (p : CheckedProgram) (w : Answers) (n : ℕ) (R : ℕ → Type 0) (data
     right_ends [] m done trace e l t k answers run =
         let r = word_ends p w n R data_sound below gives_typed meant ends S G D a done variables answers result u e result_typed
         result_pure (run.1) in
-        record { asked = r.asked; before = []; within = []; split = run.0; ends_so = r.ends_so; has = λ c ag. (refl, r.has c ag) }
+        record {
+          asked = r.asked;
+          before = [];
+          within = [];
+          split = run.0;
+          ends_so = r.ends_so;
+          call = r.call vars;
+          asks = λ c ag agree. (refl, inl (r.written vars), r.may c ag args vars (agree_later c done agree));
+        }
     right_ends (s ∷ steps) m done trace e l t k answers run =
         elim (then_ended (run.0) (λ (vs : Values) (trace : List Event) (r : Outcome Value). (effects : List Event) × (rest : List Event)
         × (b : Outcome Value) × (trace ≡ effects ++ rest) × ImpureRuns p below s.term vs effects b
@@ -160,7 +201,12 @@ module _ (p : CheckedProgram) (w : Answers) (n : ℕ) (R : ℕ → Type 0) (data
                 within = [];
                 split = q.1;
                 ends_so = r.ends_so;
-                has = λ c ag. inl (refl, inl (r.have c ag));
+                call = r.call vars;
+                asks = λ c ag agree. inl (
+                  refl,
+                  inr (r.written vars),
+                  any_number c args done (suc s.place) (r.call vars) r.asked (r.may c ag args vars (agree_later c done agree)),
+                );
               }
           | inr h ↦ stepped s steps m done trace e (h.0) l t k answers (subst (WordsRun p w below a done s.args) (h.1) (run.1))
               (h.2.0) (h.2.1) (h.2.2) (h.2.3) (h.2.4) (λ rest x ans o. right_ends steps (suc m) (done ++ Some x ∷ []) rest e

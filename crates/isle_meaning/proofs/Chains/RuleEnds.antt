@@ -13,7 +13,8 @@ use Rattle.isle_meaning.specs.Typing.{IfLetsTyped}
 use Rattle.isle_meaning.specs.Scopes.{scope, scope_all, IfLetsAreWellScoped, none, OfIfLets, Covers}
 use Rattle.isle_meaning.specs.Worlds.{CheckedProgram, Answers, Event}
 use Rattle.isle_meaning.specs.Calls.{Says, Agrees, Means}
-use Rattle.isle_meaning.specs.Asking.{Asked, IfLetsHave, RuleHas, Ended, EndsAt}
+use Rattle.isle_meaning.specs.Asking.{Asked, IsSiteOfIfLets, IsSiteOfRule, IsCallOn, Ended}
+use Rattle.isle_meaning.specs.Subtrees.{IsSubtree}
 use Rattle.isle_meaning.proofs.Matching.Children.{Agree}
 use Rattle.isle_meaning.proofs.Matching.Known.{known}
 use Rattle.isle_meaning.proofs.Matching.Scoping.{word_reads}
@@ -28,7 +29,8 @@ use Rattle.isle_meaning.proofs.Calls.Saying.{GivesMeant, word_says}
 use Rattle.isle_meaning.proofs.Calls.WordTyping.{calls_types, expr_typed}
 use Rattle.isle_meaning.proofs.Chains.PatternEnds.{pattern_ends, patterns_end, pattern_agrees, patterns_agree}
 use Rattle.isle_meaning.proofs.Chains.PureCalls.{calls_marked}
-use Rattle.isle_meaning.proofs.Chains.WordEnds.{EndsBelow, after_ended, word_ends}
+use Rattle.isle_meaning.proofs.Chains.Subtrees.{whole}
+use Rattle.isle_meaning.proofs.Chains.WordEnds.{Ends, EndsBelow, after_ended, word_ends}
 
 module _ (p : CheckedProgram) (w : Answers) (n : ℕ) (R : ℕ → Type 0) (data_sound : HasSoundData p)
     (below : ℕ → Values → List Event → Outcome Value → Type 0) (gives_typed : GivesTyped p R below)
@@ -47,12 +49,16 @@ module _ (p : CheckedProgram) (w : Answers) (n : ℕ) (R : ℕ → Type 0) (data
       (word_of p.terms x.value) u (given v) t run in
       same ∙ ap held (says (λ z. known p.terms c args [] (iflet_site p.terms vars x) answered (same ∙ ap held z)))
 
-  -- the call at which if-lets end
+  -- the call at which if-lets end, and the site that has it, by the sites of their variables
   record IfLetsEnd (xs : List TypedIfLet) (S : ℕ → Type 0) (a : ℕ → Value) (e : Ended) : Type 0 where
     asked : Asked
-    ends_so : EndsAt p w n asked [] e
-    at_sites : (c : Completion) → Agrees p w (Means p w n) c → (args : Values) (vars : ℕ → Site) → Agree (value p.terms c args []) a S vars
-        → OfIfLets p.terms (IsAnswered p.terms c args []) xs vars → IfLetsHave p.terms c args xs vars asked
+    ends_so : Ends p w n asked [] e
+    site : (ℕ → Site) → Site
+    its : (vars : ℕ → Site) → IsSiteOfIfLets p.terms xs vars (site vars)
+    call : (ℕ → Site) → Site
+    within : (vars : ℕ → Site) → IsSubtree (call vars) (site vars)
+    on : (c : Completion) → Agrees p w (Means p w n) c → (args : Values) (vars : ℕ → Site) → Agree (value p.terms c args []) a S vars
+        → OfIfLets p.terms (IsAnswered p.terms c args []) xs vars → IsCallOn p.terms c args (call vars) asked
 
   -- where if-lets end, it is at a call that they have
   iflets_end : (xs : List TypedIfLet) (S : ℕ → Type 0) (G : ℕ → ℕ) (a : ℕ → Value) (e : Ended) → IfLetsAreWellScoped p.terms xs S
@@ -70,7 +76,11 @@ module _ (p : CheckedProgram) (w : Answers) (n : ℕ) (R : ℕ → Type 0) (data
             record {
               asked = r.asked;
               ends_so = r.ends_so;
-              at_sites = λ c ag args vars agree answered. inl (r.at_site c ag refl args vars agree (answered.0));
+              site = λ vars. iflet_site p.terms vars x;
+              its = λ vars. inl refl;
+              call = r.call;
+              within = r.within;
+              on = λ c ag args vars agree answered. r.on c ag refl args vars agree (answered.0);
             }
         | inr h ↦
             let runs : WordRuns p w below a [] (word_of p.terms x.value) (given (h.0)) =
@@ -81,9 +91,13 @@ module _ (p : CheckedProgram) (w : Answers) (n : ℕ) (R : ℕ → Type 0) (data
                   record {
                     asked = r.asked;
                     ends_so = r.ends_so;
-                    at_sites = λ c ag args vars agree answered. inr (inl (r.at_site c ag args (iflet_site p.terms vars x)
+                    site = λ vars. r.call (iflet_site p.terms vars x);
+                    its = λ vars. inr (inl (r.its (iflet_site p.terms vars x)));
+                    call = λ vars. r.call (iflet_site p.terms vars x);
+                    within = λ vars. whole _;
+                    on = λ c ag args vars agree answered. r.on c ag args (iflet_site p.terms vars x)
                         (site_gives c ag args S G a vars x (t.0.0) (h.0) (well.0, well.1, tt) variables (its.0) agree runs (answered.0))
-                        (answered.1)));
+                        (answered.1);
                   }
               | inr k ↦
                   let passes : PatternRuns p w a x.pattern (h.0) (given (k.0)) = subst (PatternRuns p w a x.pattern (h.0)) (k.1) (h.2.1) in
@@ -94,20 +108,27 @@ module _ (p : CheckedProgram) (w : Answers) (n : ℕ) (R : ℕ → Type 0) (data
                   record {
                     asked = r.asked;
                     ends_so = r.ends_so;
-                    at_sites = λ c ag args vars agree answered. inr (inr (r.at_sites c ag args
-                        (bound p.terms x.pattern (iflet_site p.terms vars x) vars)
+                    site = λ vars. r.site (bound p.terms x.pattern (iflet_site p.terms vars x) vars);
+                    its = λ vars. inr (inr (r.its (bound p.terms x.pattern (iflet_site p.terms vars x) vars)));
+                    call = λ vars. r.call (bound p.terms x.pattern (iflet_site p.terms vars x) vars);
+                    within = λ vars. r.within (bound p.terms x.pattern (iflet_site p.terms vars x) vars);
+                    on = λ c ag args vars agree answered. r.on c ag args (bound p.terms x.pattern (iflet_site p.terms vars x) vars)
                         (pattern_agrees p w n c ag args x.pattern S vars (iflet_site p.terms vars x) a (k.0) (h.0) (well.1) agree
                         (site_gives c ag args S G a vars x (t.0.0) (h.0) (well.0, well.1, tt) variables (its.0) agree runs (answered.0))
-                        (answered.1) passes) (answered.2)));
+                        (answered.1) passes) (answered.2);
                   }
             ]
       ]
 
-  -- the call at which a rule ends that is tried
+  -- the call at which a rule ends that is tried, and the site that has it
   pub record RuleEnds (args : Values) (rule : TypedRule) (e : Ended) : Type 0 where
     pub asked : Asked
-    pub ends_so : EndsAt p w n asked [] e
-    pub fixed : (c : Completion) → Agrees p w (Means p w n) c → Covers p.terms c args rule → RuleHas p.terms c args rule asked
+    pub ends_so : Ends p w n asked [] e
+    pub site : Site
+    pub its : IsSiteOfRule p.terms rule site
+    pub call : Site
+    pub within : IsSubtree call site
+    pub fixed : (c : Completion) → Agrees p w (Means p w n) c → Covers p.terms c args rule → IsCallOn p.terms c args call asked
 
   -- Where a rule that is tried ends, the end is that of a call that its patterns or if-lets have.
   pub rule_ends : (args : Values) (rule : TypedRule) (e : Ended) → IsSoundRule p R rule
@@ -120,7 +141,11 @@ module _ (p : CheckedProgram) (w : Answers) (n : ℕ) (R : ℕ → Type 0) (data
         record {
           asked = r.asked;
           ends_so = r.ends_so;
-          fixed = λ c ag cover. inl (r.at_sites c ag args argument (λ i x o. ap held o) (cover.0));
+          site = r.call argument;
+          its = inl (r.its argument);
+          call = r.call argument;
+          within = whole _;
+          fixed = λ c ag cover. r.on c ag args argument (λ i x o. ap held o) (cover.0);
         }
     | inr h ↦
         let passes : PatternsRun p w no_variables rule.args args (given (h.0)) =
@@ -132,8 +157,12 @@ module _ (p : CheckedProgram) (w : Answers) (n : ℕ) (R : ℕ → Type 0) (data
         record {
           asked = r.asked;
           ends_so = r.ends_so;
-          fixed = λ c ag cover. inr (r.at_sites c ag args (args_bound p.terms rule)
+          site = r.site (args_bound p.terms rule);
+          its = inr (r.its (args_bound p.terms rule));
+          call = r.call (args_bound p.terms rule);
+          within = r.within (args_bound p.terms rule);
+          fixed = λ c ag cover. r.on c ag args (args_bound p.terms rule)
               (patterns_agree p w n c ag args rule.args none nothing argument no_variables (h.0) args (sound.well.args) (λ k i. absurd i)
-              (λ i x o. ap held o) (cover.0) passes) (cover.1));
+              (λ i x o. ap held o) (cover.0) passes) (cover.1);
         }
   ]

@@ -8,11 +8,12 @@ use Rattle.isle_meaning.specs.Words.{Word, var_word, bool_word, int_word, prim_w
 use Rattle.isle_meaning.specs.Words.{no_words, more_words}
 use Rattle.isle_meaning.specs.Answers.{Completion}
 use Rattle.isle_meaning.specs.Matching.{word_values}
-use Rattle.isle_meaning.specs.Sites.{Site, answer_site, site_of, sites_of}
+use Rattle.isle_meaning.specs.Sites.{Site, constructor_call, answer_site, site_of, sites_of}
+use Rattle.isle_meaning.specs.Subtrees.{IsSubtree, IsSubtreeOfOne}
 use Rattle.isle_meaning.specs.Held.{value, values, IsAnswered, AreAnswered}
 use Rattle.isle_meaning.specs.Worlds.{CheckedProgram, Answers, Event}
 use Rattle.isle_meaning.specs.Calls.{Says, Agrees, Means}
-use Rattle.isle_meaning.specs.Asking.{Asked, asks_value, HasCall, HaveCall, WordHas, WordsHave, no_link, Ended, ill_typed, EndsAt}
+use Rattle.isle_meaning.specs.Asking.{Asked, asks_value, IsCallOn, MayBeCallOn, IsCallOfWord, IsCallOfWords, plain_links, no_link, Ended, ill_typed, EndsAt}
 use Rattle.isle_meaning.proofs.Matching.Children.{Agree}
 use Rattle.isle_meaning.proofs.Matching.Known.{known_all}
 use Rattle.isle_meaning.proofs.Matching.Written.{words_sites}
@@ -24,6 +25,7 @@ use Rattle.isle_meaning.proofs.Calls.Giving.{words_give_typed_all}
 use Rattle.isle_meaning.proofs.Calls.Saying.{GivesMeant, words_say}
 use Rattle.isle_meaning.proofs.Chains.One.{typed_read_all}
 use Rattle.isle_meaning.proofs.Chains.PureCalls.{CallsPure, CallPure}
+use Rattle.isle_meaning.proofs.Chains.Subtrees.{in_answer}
 
 -- where what comes after ends, there was an end, or what comes after ends
 pub after_ended : {A B : Type 0} (g : Outcome A) (next : A → Outcome B → Type 0) (e : Ended) → After g next (ended e)
@@ -39,21 +41,18 @@ judged_ended allowed None q e (inl h) = absurd (let o : ended e ≡ missing = h.
 judged_ended allowed (Some x) q e (inl h) = absurd (let o : ended e ≡ given x = h.1 in cc)
 judged_ended allowed answer q e (inr h) = let o : ended e ≡ ended (ill_typed q) = h.1 in (h.0, cc)
 
+-- where a plain run ends, a chain of asking ends so
+abbrev pub Ends : CheckedProgram → Answers → ℕ → Asked → List Event → Ended → Type 0
+Ends p w n from trace e = EndsAt p w (plain_links p w) n from trace e
+
 -- where calls of these terms on arguments of their types end unanswered, chains of asking end so
 abbrev pub EndsBelow : CheckedProgram → Answers → ℕ → (ℕ → Type 0) → (ℕ → Values → List Event → Outcome Value → Type 0) → Type 0
 EndsBelow p w n R below = (t : ℕ) (vs : Values) (effects : List Event) (e : Ended) → R t → AreValuesOf p.values vs (p.terms.inputs t)
-    → below t vs effects (ended e) → EndsAt p w n (asks_value t vs) effects e
+    → below t vs effects (ended e) → Ends p w n (asks_value t vs) effects e
 
 -- what is said of what is known
 pub is_given : {A : Type 0} (g : Got A) (x : A) → Says g (gives x) → (g ≡ unknown → ⊥) → g ≡ gives x
 is_given g x s n = s n
-
--- a call that a site has, its answer's site has
-pub answer_has : (facts : TermFacts) (c : Completion) (args : Values) (multi partial : Bool) (s : Site) (q : Asked)
-    → HasCall facts c args s q → HasCall facts c args (answer_site multi partial s) q
-answer_has facts c args true partial s q h = h
-answer_has facts c args false true s q h = h
-answer_has facts c args false false s q h = h
 
 -- where an answer's site is answered, the call's is
 pub answer_answered : (facts : TermFacts) (c : Completion) (args : Values) (done : List (Option Value)) (multi partial : Bool) (s : Site)
@@ -68,11 +67,11 @@ module _ (p : CheckedProgram) (w : Answers) (n : ℕ) (R : ℕ → Type 0) (data
   -- where a pure call ends unanswered, a chain of asking from it does
   pub construct_ends : (b : Bool) (t : ℕ) (vs : Values) (e : Ended) → p.has_rules t ≡ b → (p.has_rules t ≡ true → R t)
       → p.terms.pure t ≡ true → AreValuesOf p.values vs (p.terms.inputs t) → ConstructsIf p w below b t vs (ended e)
-      → EndsAt p w n (asks_value t vs) [] e
+      → Ends p w n (asks_value t vs) [] e
   construct_ends true t vs e q ruled pure typed run = ends t vs [] e (ruled q) typed run
   construct_ends false t vs e q ruled pure typed run =
       let j = judged_ended _ _ _ e (run.judged) in
-      subst (λ (z : Ended). EndsAt p w n (asks_value t vs) [] z) (sym (j.1)) (inl (record {
+      subst (λ (z : Ended). Ends p w n (asks_value t vs) [] z) (sym (j.1)) (inl (record {
         left = n;
         chain = no_link;
         outside = q;
@@ -85,23 +84,42 @@ module _ (p : CheckedProgram) (w : Answers) (n : ℕ) (R : ℕ → Type 0) (data
 
   module _ (S : ℕ → Type 0) (G D : ℕ → ℕ) (a : ℕ → Value) (done : List (Option Value)) (variables : AreTypedVariables p S G a)
       (answers : AreTypedAnswers p D done) where
-    -- the call at which a word ends
+    -- the call at which a word ends, by the sites of its variables
     pub record WordEnds (x : Word) (e : Ended) : Type 0 where
       pub asked : Asked
-      pub ends_so : EndsAt p w n asked [] e
-      pub has : (c : Completion) → Agrees p w (Means p w n) c → WordHas c a done x asked
-      pub at_site : (c : Completion) → Agrees p w (Means p w n) c → done ≡ [] → (args : Values) (vars : ℕ → Site)
+      pub ends_so : Ends p w n asked [] e
+      pub call : (ℕ → Site) → Site
+      pub within : (vars : ℕ → Site) → IsSubtree (call vars) (site_of p.terms vars x)
+      pub written : (vars : ℕ → Site) → IsCallOfWord p.terms vars x (call vars)
+      pub may : (c : Completion) → Agrees p w (Means p w n) c → (args : Values) (vars : ℕ → Site)
+          → Agree (value p.terms c args done) a S vars → MayBeCallOn p.terms c args done 0 (call vars) asked
+      pub on : (c : Completion) → Agrees p w (Means p w n) c → done ≡ [] → (args : Values) (vars : ℕ → Site)
           → Agree (value p.terms c args []) a S vars → IsAnswered p.terms c args [] (site_of p.terms vars x)
-          → HasCall p.terms c args (site_of p.terms vars x) asked
+          → IsCallOn p.terms c args (call vars) asked
 
     -- the call at which words end
     pub record WordsEnd (xs : Words) (e : Ended) : Type 0 where
       pub asked : Asked
-      pub ends_so : EndsAt p w n asked [] e
-      pub have : (c : Completion) → Agrees p w (Means p w n) c → WordsHave c a done xs asked
-      pub at_sites : (c : Completion) → Agrees p w (Means p w n) c → done ≡ [] → (args : Values) (vars : ℕ → Site)
+      pub ends_so : Ends p w n asked [] e
+      pub call : (ℕ → Site) → Site
+      pub within : (vars : ℕ → Site) → IsSubtreeOfOne (call vars) (sites_of p.terms vars xs)
+      pub written : (vars : ℕ → Site) → IsCallOfWords p.terms vars xs (call vars)
+      pub may : (c : Completion) → Agrees p w (Means p w n) c → (args : Values) (vars : ℕ → Site)
+          → Agree (value p.terms c args done) a S vars → MayBeCallOn p.terms c args done 0 (call vars) asked
+      pub on : (c : Completion) → Agrees p w (Means p w n) c → done ≡ [] → (args : Values) (vars : ℕ → Site)
           → Agree (value p.terms c args []) a S vars → AreAnswered p.terms c args [] (sites_of p.terms vars xs)
-          → HaveCall p.terms c args (sites_of p.terms vars xs) asked
+          → IsCallOn p.terms c args (call vars) asked
+
+    -- what is said of the arguments' sites
+    pub sites_say : (c : Completion) → Agrees p w (Means p w n) c → (args : Values) (vars : ℕ → Site)
+        → Agree (value p.terms c args done) a S vars → (ws : Words) (us : List ℕ) (vs : Values) → AreTypedWords p R S G D ws us
+        → WordsRun p w below a done ws (given vs) → Says (values p.terms c args done (sites_of p.terms vars ws)) (gives vs)
+    sites_say c ag args vars agree ws us vs t run =
+        let same : values p.terms c args done (sites_of p.terms vars ws) ≡ word_values c a done ws =
+        words_sites p.terms c args done a vars S agree ws (typed_read_all p R S G D ws us t) in
+        let says : Says (word_values c a done ws) (gives vs) =
+        words_say p w (Means p w n) c ag R data_sound below gives_typed meant S G D a done variables answers ws us (given vs) t run in
+        λ k. same ∙ says (λ e. k (same ∙ e))
 
     -- the values of the arguments' sites
     sites_give : (c : Completion) → Agrees p w (Means p w n) c → done ≡ [] → (args : Values) (vars : ℕ → Site)
@@ -128,22 +146,25 @@ module _ (p : CheckedProgram) (w : Answers) (n : ℕ) (R : ℕ → Type 0) (data
       word_ends (variant_word ty k ws) u e t m run = elim (after_ended _ _ e (run.2)) [
         | inr h ↦ absurd (let q = h.2 in cc)
         | inl q ↦ (let r = words_end ws (p.terms.variant_fields ty k) e (t.2) m (subst (WordsRun p w below a done ws) q (run.1)) in
-            record { asked = r.asked; ends_so = r.ends_so; has = r.have; at_site = r.at_sites })
+            record { asked = r.asked; ends_so = r.ends_so; call = r.call; within = λ vars. inr (r.within vars); written = r.written; may = r.may; on = r.on })
       ]
       word_ends (struct_word ty ws) u e t m run = elim (after_ended _ _ e (run.2)) [
         | inr h ↦ absurd (let q = h.2 in cc)
         | inl q ↦ (let r = words_end ws (p.terms.struct_fields ty) e (t.2) m (subst (WordsRun p w below a done ws) q (run.1)) in
-            record { asked = r.asked; ends_so = r.ends_so; has = r.have; at_site = r.at_sites })
+            record { asked = r.asked; ends_so = r.ends_so; call = r.call; within = λ vars. inr (r.within vars); written = r.written; may = r.may; on = r.on })
       ]
       word_ends (call_word t ws zero) u e typed m run = elim (after_ended _ _ e (run.2)) [
         | inl q ↦ (let r = words_end ws (p.terms.inputs t) e (typed.3) (m.1) (subst (WordsRun p w below a done ws) q (run.1)) in
             record {
               asked = r.asked;
               ends_so = r.ends_so;
-              has = λ c ag. inl (r.have c ag);
-              at_site = λ c ag d args vars agree answered. answer_has p.terms c args (p.terms.multi t) (p.terms.partial t) _ _
-                  (inl (r.at_sites c ag d args vars agree (answer_answered p.terms c args [] (p.terms.multi t) (p.terms.partial t) _
-                  answered).0));
+              call = r.call;
+              within = λ vars. in_answer (p.terms.multi t) (p.terms.partial t) (r.call vars)
+                  (constructor_call t (sites_of p.terms vars ws) zero) (inr (r.within vars));
+              written = λ vars. inr (r.written vars);
+              may = r.may;
+              on = λ c ag d args vars agree answered. r.on c ag d args vars agree
+                  ((answer_answered p.terms c args [] (p.terms.multi t) (p.terms.partial t) _ answered).0);
             })
         | inr h ↦ (let runs : WordsRun p w below a done ws (given (h.0)) = subst (WordsRun p w below a done ws) (h.1) (run.1) in
             let args = words_give_typed_all p w R data_sound below gives_typed S G D a done variables answers ws (p.terms.inputs t) (h.0)
@@ -151,18 +172,16 @@ module _ (p : CheckedProgram) (w : Answers) (n : ℕ) (R : ℕ → Type 0) (data
             record {
               asked = asks_value t (h.0);
               ends_so = construct_ends (p.has_rules t) t (h.0) e refl (typed.1) (m.0) args (h.2);
-              has = λ c ag. inr (
+              call = λ vars. constructor_call t (sites_of p.terms vars ws) zero;
+              within = λ vars. in_answer (p.terms.multi t) (p.terms.partial t) (constructor_call t (sites_of p.terms vars ws) zero)
+                  (constructor_call t (sites_of p.terms vars ws) zero) (inl refl);
+              written = λ vars. inl refl;
+              may = λ c ag args vars agree. (inl refl, refl, sites_say c ag args vars agree ws (p.terms.inputs t) (h.0) (typed.3) runs);
+              on = λ c ag d args vars agree answered. (
                 refl,
-                words_say p w (Means p w n) c ag R data_sound below gives_typed meant S G D a done variables answers ws (p.terms.inputs t)
-                    (given (h.0)) (typed.3) runs,
+                sites_give c ag d args vars agree ws (p.terms.inputs t) (h.0) (typed.3) runs
+                    ((answer_answered p.terms c args [] (p.terms.multi t) (p.terms.partial t) _ answered).0),
               );
-              at_site = λ c ag d args vars agree answered. answer_has p.terms c args (p.terms.multi t) (p.terms.partial t) _ _
-                  (inr (
-                    h.0,
-                    sites_give c ag d args vars agree ws (p.terms.inputs t) (h.0) (typed.3) runs
-                        ((answer_answered p.terms c args [] (p.terms.multi t) (p.terms.partial t) _ answered).0),
-                    refl,
-                  ));
             })
       ]
       word_ends (call_word t ws (suc i)) u e typed m run =
@@ -173,10 +192,13 @@ module _ (p : CheckedProgram) (w : Answers) (n : ℕ) (R : ℕ → Type 0) (data
                 record {
                   asked = r.asked;
                   ends_so = r.ends_so;
-                  has = r.have;
-                  at_site = λ c ag d args vars agree answered. answer_has p.terms c args (p.terms.multi t) (p.terms.partial t) _ _
-                      (r.at_sites c ag d args vars agree (answer_answered p.terms c args [] (p.terms.multi t) (p.terms.partial t) _
-                      answered).0);
+                  call = r.call;
+                  within = λ vars. in_answer (p.terms.multi t) (p.terms.partial t) (r.call vars)
+                      (constructor_call t (sites_of p.terms vars ws) (suc i)) (inr (r.within vars));
+                  written = r.written;
+                  may = r.may;
+                  on = λ c ag d args vars agree answered. r.on c ag d args vars agree
+                      ((answer_answered p.terms c args [] (p.terms.multi t) (p.terms.partial t) _ answered).0);
                 })
           ]
 
@@ -191,8 +213,11 @@ module _ (p : CheckedProgram) (w : Answers) (n : ℕ) (R : ℕ → Type 0) (data
                 record {
                   asked = r.asked;
                   ends_so = r.ends_so;
-                  have = λ c ag. inl (r.has c ag);
-                  at_sites = λ c ag d args vars agree answered. inl (r.at_site c ag d args vars agree (answered.0));
+                  call = r.call;
+                  within = λ vars. inl (r.within vars);
+                  written = λ vars. inl (r.written vars);
+                  may = r.may;
+                  on = λ c ag d args vars agree answered. r.on c ag d args vars agree (answered.0);
                 })
             | inr h ↦ elim (after_ended (h.2.0) _ e (h.2.2)) [
               | inr k ↦ absurd (let q = k.2 in cc)
@@ -200,8 +225,11 @@ module _ (p : CheckedProgram) (w : Answers) (n : ℕ) (R : ℕ → Type 0) (data
                   record {
                     asked = r.asked;
                     ends_so = r.ends_so;
-                    have = λ c ag. inr (r.have c ag);
-                    at_sites = λ c ag d args vars agree answered. inr (r.at_sites c ag d args vars agree (answered.1));
+                    call = r.call;
+                    within = λ vars. inr (r.within vars);
+                    written = λ vars. inr (r.written vars);
+                    may = r.may;
+                    on = λ c ag d args vars agree answered. r.on c ag d args vars agree (answered.1);
                   })
             ]
           ]

@@ -18,7 +18,7 @@ use Rattle.isle_meaning.specs.Matching.{Matches}
 use Rattle.isle_meaning.specs.Sites.{Site}
 use Rattle.isle_meaning.specs.Worlds.{CheckedProgram, Answers, Event}
 use Rattle.isle_meaning.specs.Calls.{Agrees, IsRuleAt, CoversAll, Means}
-use Rattle.isle_meaning.specs.Asking.{Asked, Chain, Ended, spent, EndsAt}
+use Rattle.isle_meaning.specs.Asking.{Asked, plain_links, Chain, Ended, spent, EndsAt}
 use Rattle.isle_meaning.specs.SoundPrograms.{HasSoundData, IsSound}
 
 -- What a call means at a depth it means at the next.
@@ -28,18 +28,19 @@ MeaningStays = (p : CheckedProgram) (w : Answers) (n t : ℕ) (args : Values) (t
 
 -- Two chains of asking join, one after the other.
 abbrev pub ChainsJoin : Type 0
-ChainsJoin = (p : CheckedProgram) (w : Answers) (n m k : ℕ) (from mid to : Asked) (one other : List Event) → Chain p w n from one m mid
-    → Chain p w m mid other k to → Chain p w n from (one ++ other) k to
+ChainsJoin = (p : CheckedProgram) (w : Answers) (n m k : ℕ) (from mid to : Asked) (one other : List Event)
+    → Chain p (plain_links p w) n from one m mid → Chain p (plain_links p w) m mid other k to
+    → Chain p (plain_links p w) n from (one ++ other) k to
 
 -- A chain is one at the next depth, with more depth left.
 abbrev pub ChainStays : Type 0
-ChainStays = (p : CheckedProgram) (w : Answers) (n m : ℕ) (from to : Asked) (trace : List Event) → Chain p w n from trace m to
-    → Chain p w (suc n) from trace (suc m) to
+ChainStays = (p : CheckedProgram) (w : Answers) (n m : ℕ) (from to : Asked) (trace : List Event)
+    → Chain p (plain_links p w) n from trace m to → Chain p (plain_links p w) (suc n) from trace (suc m) to
 
 -- So is the end of one, but for want of depth.
 abbrev pub EndStays : Type 0
 EndStays = (p : CheckedProgram) (w : Answers) (n : ℕ) (from : Asked) (trace : List Event) (e : Ended) → e ≢ spent
-    → EndsAt p w n from trace e → EndsAt p w (suc n) from trace e
+    → EndsAt p w (plain_links p w) n from trace e → EndsAt p w (plain_links p w) (suc n) from trace e
 
 -- One value of a type has one tree.
 abbrev pub TreesAreOne : Type 0

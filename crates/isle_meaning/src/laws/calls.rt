@@ -2,7 +2,7 @@
 
 ghost use Rattle.isle_meaning.specs.Laws.Calls.{ChainsJoin, ChainStays, CompletionsExtend, EndStays, MeaningsAreTyped, MeaningStays};
 ghost use Rattle.isle_meaning.specs.Laws.Calls.{NoOverlapsNoTies, OneMeaning, OneMeaningAlways, TreesAreOne, TypedRulesCallWell};
-ghost use Rattle.isle_meaning.specs.Laws.Plain.{EndsAreAsked, PlainRunsAreMeant};
+ghost use Rattle.isle_meaning.specs.Laws.Plain.{EndsAreAsked, NoCyclesNoneSpent, PlainRunsAreMeant, PlainRunsBeginSo, PureRunsBeginSilently, RunStays};
 
 /// Where a plain run answers, that is the call's meaning.
 pub fn plain_runs_are_meant()
@@ -44,6 +44,12 @@ pub fn ends_are_asked()
     ensures { EndsAreAsked }
 {}
 
+/// A plain run begins with its effects, one of a pure term with none.
+pub fn plain_runs_begin_so()
+    ensures so { PlainRunsBeginSo }
+    ensures pure { PureRunsBeginSilently }
+{}
+
 /// Two meanings of one call are one, whether or not there are completions that answer every pure call.
 pub fn one_meaning_always()
     ensures { OneMeaningAlways }
@@ -67,4 +73,14 @@ pub fn no_overlaps_no_ties()
 /// Well typed rules call only what may not fail where their term may not.
 pub fn typed_rules_call_well()
     ensures { TypedRulesCallWell }
+{}
+
+/// A plain run that isn't spent is the run at every greater depth, with the same steps, effects and outcome.
+pub fn run_stays()
+    ensures { RunStays }
+{}
+
+/// No plain run is spent where no term reaches itself and the depth is at least the number of terms with rules.
+pub fn no_cycles_none_spent()
+    ensures { NoCyclesNoneSpent }
 {}
