@@ -1,6 +1,7 @@
 -- What a visit leaves, with the site of the rule's result.
-use Rattle.std.proofs.Common.{◌≡◌, ◌<◌, ◌++◌, ◌⊎◌, inl, inr, ℕ, suc, Bool, true, false, Option, Some, None, List, [], ◌∷◌, length, refl, sym, ◌∙◌, ap, subst, arith, length-append}
+use Rattle.std.proofs.Common.{◌≡◌, ◌<◌, ◌≤◌, ◌++◌, ◌⊎◌, inl, inr, ℕ, suc, Bool, true, false, Option, Some, None, List, [], ◌∷◌, length, refl, sym, ◌∙◌, ap, subst, arith, length-append}
 use Rattle.std.proofs.lemmas.Bool.{cases_lt}
+use Rattle.std.proofs.lemmas.List.{length-map}
 use Rattle.isle_types.specs.Names.{AreDistinct}
 use Rattle.isle_types.specs.declared.ids.Sym.{Sym}
 use Rattle.isle_terms.specs.TypedRules.{TypedRule}
@@ -19,7 +20,7 @@ use Rattle.isle_blocks.specs.Rows.{IsInjective, row_of, rows_of, constraints_of,
 use Rattle.isle_blocks.specs.Tables.{IsInterned, IsFull}
 use Rattle.isle_blocks.specs.ClosureFields.{IsTable}
 use Rattle.isle_blocks.specs.Closure.{Stands}
-use Rattle.isle_blocks.specs.AddedRules.{IsOwnOf, IsAdded, IsMultiCall, needs_in_order, HasNoRoomAlone, HasNoRoomBeside}
+use Rattle.isle_blocks.specs.AddedRules.{IsOwnOf, IsAdded, IsMultiCall, needs_in_order, HasRoomAlone, HasNoRoomAlone, HasNoRoomBeside}
 use Rattle.isle_blocks.specs.Placing.{HasNoRoomFor}
 use Rattle.isle_blocks.specs.declared.rule.Rule.{Rule}
 use Rattle.isle_blocks.specs.Assembly.{IsAssembled}
@@ -130,15 +131,16 @@ module _ (name : Sym → List ℕ) (injective : IsInjective name) (facts : TermF
 
   -- where no number is left for the option of its value, the rule has no room
   pub alone_partial : IsFull left.sites (MakeSome value) → HasNoRoomAlone facts true typed
-  alone_partial full table small all result =
+  alone_partial full room =
       let rows = rows_of name left.sites in let many = full.1 in
+      let table = room.table in let small : length room.table ≤ 65536 = room.few in
       let site = site_of facts (vars_of facts typed) (word_of facts typed.right) in
       let absent = absent_of name injective left.sites (MakeSome value) full.0 in
       let once_there = stands_once (needs_of facts typed) rows built.sites in
       let missing : (k : ℕ) → At rows (make_some site) k → ⊥ =
       λ k (j, is, at). let same : j ≡ value.0 = site_once rows once_there site j value.0 at built.result in
       absent k (is ∙ ap (λ (z : ℕ). Some (make_some_row z)) same) in
-      no_more name injective left.sites left_ok (make_some site) missing table (omega arith) (λ k s p. all s (only_needed s k p)) result
+      no_more name injective left.sites left_ok (make_some site) missing table (omega arith) (λ k s p. room.needed s (only_needed s k p)) room.result
 
 module _ (name : Sym → List ℕ) (facts : TermFacts) (partial : Bool) (typed : TypedRule) (base own table : List Binding)
     (has : List (BindingId × Constraint)) (same : List (BindingId × BindingId)) (impure : List BindingId) (result : BindingId)
@@ -154,10 +156,20 @@ module _ (name : Sym → List ℕ) (facts : TermFacts) (partial : Bool) (typed :
     ascending = are.ascending;
   }
 
+  -- the rule's own sites are room enough alone
+  room_alone : length own ≤ 65536 → HasRoomAlone facts partial typed
+  room_alone few = record {
+    table = rows_of name own;
+    few = subst (λ (n : ℕ). n ≤ 65536) (sym (length-map own (row_of name))) few;
+    needed = is.needed;
+    result = (result.0, is.value);
+  }
+
   -- what is assembled of a rule's own sites is the rule
-  pub added_of : (made : Option Rule) → IsAssembled name (demands_of facts typed) base own impure result table made → IsAdded name facts partial typed base table made
-  added_of None h = h
-  added_of (Some rule) h = record {
+  pub added_of : length own ≤ 65536 → (made : Option Rule) → IsAssembled name (demands_of facts typed) base own impure result table made
+      → IsAdded name facts partial typed base table made
+  added_of few None h = (h.0, room_alone few, h.1)
+  added_of few (Some rule) h = record {
     reachable = h.reachable;
     closed = h.closed;
     calls = calls_of (rows_of name table) rule.iterators h.calls;

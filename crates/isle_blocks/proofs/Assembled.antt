@@ -39,7 +39,8 @@ use Rattle.isle_blocks.proofs.Closure.Pairs.{own_in}
 use Rattle.isle_blocks.proofs.Closure.Trees.{stands, at_below, one_number, row_get, get_row}
 use Rattle.isle_blocks.proofs.RowsInjective.{row-injective}
 use Rattle.isle_blocks.proofs.Counting.{place_of, stands_at}
-use Rattle.isle_blocks.proofs.MultiCalls.{picked_of, picked, call_site, as_iterator, no_field}
+use Rattle.isle_blocks.proofs.MultiCalls.{picked_of, picked, picked_once, call_site, as_iterator, no_field}
+use Rattle.isle_blocks.proofs.StrictCalls.{once_moved, strictly}
 use Rattle.isle_blocks.proofs.Closure.Longer.{stays}
 use Rattle.isle_blocks.proofs.MovedRows.{new_place, moved_rows}
 use Rattle.isle_blocks.proofs.SiteOrder.{moved_adds}
@@ -157,24 +158,49 @@ module _ (name : Sym → List ℕ) (injective : IsInjective name) (ds : List Dem
       subst (λ (z : ℕ). At (rows_of name table) s z) (sym (new_place numbers id))
       (to_at p.between grown table numbers p.moved p.opened.sites p.closure.sites name injective s id.0 q)
 
+  -- a site that is one value of a call, and the call
+  called_of : (site : Binding) (id : BindingId) → Contains grown site → multi_call (new_number numbers) site ≡ Some id
+      → (source : BindingId) × (site ≡ Iterator source) × (j : ℕ) × (s : Site) × At (rows_of name grown) (iterator s) j
+      × At (rows_of name grown) s source.0 × At (rows_of name table) s id.0
+  called_of site id there called =
+      let (source, is, number) = call_site (new_number numbers) site id called in
+      let (j, at) = place_of grown site there in
+      let row : slice_get (rows_of name grown) j ≡ Some (iterator_row source.0) = row_get name grown j (Iterator source) (at ∙ ap Some is) in
+      let (t, q) = stands name grown p.closure.sites j (slice_get_within grown j site at) in
+      let (s, same, inner) = as_iterator (rows_of name grown) t j source.0 row q in (
+        source,
+        is,
+        j,
+        s,
+        subst (λ (z : Site). At (rows_of name grown) z j) same q,
+        inner,
+        subst (λ (z : BindingId). At (rows_of name table) s z.0) number (moved_grown s source inner),
+      )
+
   -- a number of a call stands for one of which a value stands among the own sites
   call_numbered : (id : BindingId) → Contains (filter_map (multi_call (new_number numbers)) grown) id
       → (s : Site) × Stands (rows_of name own) (iterator s) × At (rows_of name table) s id.0
   call_numbered id among =
       let (site, there, called) = picked_of (multi_call (new_number numbers)) grown id among in
-      let (source, is, number) = call_site (new_number numbers) site id called in
-      let (j, at) = place_of grown site there in
-      let row : slice_get (rows_of name grown) j ≡ Some (iterator_row source.0) = row_get name grown j (Iterator source) (at ∙ ap Some is) in
-      let (t, q) = stands name grown p.closure.sites j (slice_get_within grown j site at) in
-      let (s, same, inner) = as_iterator (rows_of name grown) t j source.0 row q in
-      let value = subst (λ (z : Site). At (rows_of name grown) z j) same q in (
+      let (source, is, j, s, value, inner, number) = called_of site id there called in (
         s,
         elim (grown_site base own base_ok own_ok name injective ds p.has p.same p.recorded grown each class p.closure (iterator s) j value) [
           | inl x ↦ x
           | inr (u, f) ↦ absurd (no_field (Among ds) u s f)
         ],
-        subst (λ (z : BindingId). At (rows_of name table) s z.0) number (moved_grown s source inner),
+        number,
       )
+
+  -- each call is of one site
+  call_once : (one other : Binding) (id : BindingId) → Contains grown one → Contains grown other → multi_call (new_number numbers) one ≡ Some id
+      → multi_call (new_number numbers) other ≡ Some id → one ≡ other
+  call_once one other id in_one in_other of_one of_other =
+      let (a, is_a, j, s, value_a, at_a, number_a) = called_of one id in_one of_one in
+      let (b, is_b, l, u, value_b, at_b, number_b) = called_of other id in_other of_other in
+      let site : s ≡ u = one_site (rows_of name table) s u id.0 number_a number_b in
+      let place : a.0 ≡ b.0 = one_number name grown injective p.closure.sites u a.0 b.0
+      (subst (λ (z : Site). At (rows_of name grown) z a.0) site at_a) at_b in
+      let same : a ≡ b = λ i. record { 0 = place i } in is_a ∙ ap Iterator same ∙ sym is_b
 
   -- and each such call has one
   call_there : (s : Site) → Stands (rows_of name own) (iterator s)
@@ -197,7 +223,8 @@ module _ (name : Sym → List ℕ) (injective : IsInjective name) (ds : List Dem
     all = λ s stands.
         let (id, among, at) = call_there s stands in
         (id, Contains-permutation (filter_map (multi_call (new_number numbers)) grown) calls id moved among, at);
-    ascending = sorted;
+    ascending = strictly calls sorted (once_moved (filter_map (multi_call (new_number numbers)) grown) calls moved
+        (picked_once (multi_call (new_number numbers)) grown (λ i j site e f. p.closure.sites.once site i j e f) call_once));
   }
 
   goes_on : (mid : List Binding) → ((k : ℕ) (b : Binding) → slice_get mid k ≡ Some b → slice_get table k ≡ Some b) → GoesOn (rows_of name mid) (rows_of name table)

@@ -25,6 +25,8 @@ pub mod PutSites
 pub mod OverlapReports
 -- The same where a rule shadows others.
 pub mod ShadowReports
+-- One rule that heads an overlap and a shadowing.
+pub mod SharedHeads
 -- The errors of three rules.
 pub mod RuleErrors
 -- Which rule shadows another.

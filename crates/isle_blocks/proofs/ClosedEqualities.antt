@@ -34,10 +34,10 @@ use Rattle.isle_blocks.specs.ClosedRules.{NumbersSayFree, NumbersSayCount, Numbe
 use Rattle.isle_blocks.proofs.ClosedRules.{numbers_say_differ, numbers_say_within, same_id}
 use Rattle.isle_blocks.proofs.Counting.{Once, counted, one_number, once_both, once_left, once_right, other_item, pairs_once}
 
-one_id : (a b : BindingId) → same_site a b ≡ true → a ≡ b
+pub one_id : (a b : BindingId) → same_site a b ≡ true → a ≡ b
 one_id a b e = same_id a b (eqb-true a.0 b.0 e)
 
-id_tells : (a b : BindingId) → (same_site a b ≡ true → a ≡ b) × (a ≡ b → same_site a b ≡ true)
+pub id_tells : (a b : BindingId) → (same_site a b ≡ true → a ≡ b) × (a ≡ b → same_site a b ≡ true)
 id_tells a b = (one_id a b, λ e. eq-eqb a.0 b.0 (ap (λ (i : BindingId). i.0) e))
 
 -- both stand in a set
@@ -47,7 +47,7 @@ pub record InOne (sets : List (List BindingId)) (x y : BindingId) : Type 0 where
   pub first : Contains set x
   pub second : Contains set y
 
-is_in : (q : BindingId) (set : List BindingId) → Contains set q → is_member same_site set q ≡ true
+pub is_in : (q : BindingId) (set : List BindingId) → Contains set q → is_member same_site set q ≡ true
 is_in q [] (k, within, is) = absurd (omega arith)
 is_in q (x ∷ set) (zero, within, is) = let e : same_site q x ≡ true = eq-eqb q.0 x.0 (ap (λ (i : BindingId). i.0) (sym is)) in rw e refl
 is_in q (x ∷ set) (suc k, within, is) = let e = is_in q set (k, omega arith, is) in elim (cases_Bool (same_site q x)) [
@@ -55,7 +55,7 @@ is_in q (x ∷ set) (suc k, within, is) = let e = is_in q set (k, omega arith, i
   | inr fails ↦ rw fails e
 ]
 
-both_true : (a b : Bool) → (a && b) ≡ true → (a ≡ true) × (b ≡ true)
+pub both_true : (a b : Bool) → (a && b) ≡ true → (a ≡ true) × (b ≡ true)
 both_true true b e = (refl, e)
 both_true false b e = absurd (true≢false (sym e))
 
@@ -68,7 +68,7 @@ in_one (set ∷ sets) x y e = elim (or_cases (is_member same_site set x && is_me
       record { set = r.set; stands = (suc k, omega arith, is); first = r.first; second = r.second }
 ]
 
-joined_at : (sets : List (List BindingId)) (x y : BindingId) (set : List BindingId) → Contains sets set → Contains set x → Contains set y
+pub joined_at : (sets : List (List BindingId)) (x y : BindingId) (set : List BindingId) → Contains sets set → Contains set x → Contains set y
     → are_joined same_site sets x y ≡ true
 joined_at [] x y set (k, within, is) p q = absurd (omega arith)
 joined_at (s ∷ sets) x y set (zero, within, is) p q =
@@ -89,7 +89,7 @@ set_of_member (set ∷ sets) x h = elim (Contains-append_cases set (members sets
   | inr q ↦ let (found, (k, within, is), stands) = set_of_member sets x q in (found, (suc k, omega arith, is), stands)
 ]
 
-member_of_set : (sets : List (List BindingId)) (x : BindingId) (set : List BindingId) → Contains sets set → Contains set x
+pub member_of_set : (sets : List (List BindingId)) (x : BindingId) (set : List BindingId) → Contains sets set → Contains set x
     → Contains (members sets) x
 member_of_set [] x set (k, within, is) h = absurd (omega arith)
 member_of_set (s ∷ sets) x set (zero, within, is) h =
@@ -102,10 +102,10 @@ set_once [] set once (k, within, is) = absurd (omega arith)
 set_once (s ∷ sets) set once (zero, within, is) = subst Once is (once_left s (members sets) once)
 set_once (s ∷ sets) set once (suc k, within, is) = set_once sets set (once_right s (members sets) once) (k, omega arith, is)
 
-set_long : (sets : List (List BindingId)) (set : List BindingId) → AreDisjoint same_site sets → Contains sets set → 2 ≤ length set
+pub set_long : (sets : List (List BindingId)) (set : List BindingId) → AreDisjoint same_site sets → Contains sets set → 2 ≤ length set
 set_long sets set d (k, within, is) = subst (λ l. 2 ≤ length l) is (d.at_least_two k set within)
 
-members_once : (sets : List (List BindingId)) → AreDisjoint same_site sets → Once (members sets)
+pub members_once : (sets : List (List BindingId)) → AreDisjoint same_site sets → Once (members sets)
 members_once sets d = pairs_once (members sets) (AllPairs-from_IsDistinct id_tells (members sets) d.distinct)
 
 less_apart : (m n : ℕ) → nat_cmp m n ≡ Less → m < n

@@ -17,6 +17,12 @@ pub mod Likes
 pub mod Quotient
 -- Marking sites after their children.
 pub mod Loops
+-- A list of a site, in the lists of all sites, under a write.
+pub mod Lists
+-- The sites that representatives represent, when two classes are joined.
+pub mod Members
+-- Sites that are still to be looked at, and sites that wait for an unmarked child.
+pub mod Marking
 -- Adding a missing field.
 pub mod Growth
 -- A missing field is added, or has no room.

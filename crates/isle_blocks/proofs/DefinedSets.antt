@@ -117,21 +117,28 @@ module _ (env : TermTables) (d : AreDefined env) (term : ℕ) where
   abbrev pub AreOfTerm : List ℕ → Type 0
   AreOfTerm places = (i : ℕ) (rule : TypedRule) → Contains places i → slice_get (rules_by env d) i ≡ Some rule → rule.root ≡ term
 
-  -- the sites of what is gathered are those of rules of the term that may match
-  pub gathered_explained : (places : List ℕ) (set : RulesOverSites) → GathersRules env d places set → AreOfTerm places → (s : Site)
-      → Stands (rows_of (name_of env d) set.sites) s → IsSiteOf (facts_by env d) (rules_by env d) term s
-  gathered_explained places set none_gathered own s (k, at) = let within = at_within [] s k at in absurd (omega arith)
-  gathered_explained places set (one_added {places = before} {old = old} i rule typed made new gathered at there is told pushed) own s stands =
+  -- the sites of what is gathered are those of rules of the term at the places that may match
+  pub gathered_from : (places : List ℕ) (set : RulesOverSites) → GathersRules env d places set → AreOfTerm places → (s : Site)
+      → Stands (rows_of (name_of env d) set.sites) s
+      → (is : IsSiteOf (facts_by env d) (rules_by env d) term s) × Contains places is.place
+  gathered_from places set none_gathered own s (k, at) = let within = at_within [] s k at in absurd (omega arith)
+  gathered_from places set (one_added {places = before} {old = old} i rule typed made new gathered at there is told pushed) own s stands =
       elim (is.explained s stands) [
-        | inl base ↦ gathered_explained before old gathered (λ j r among. own j r (Contains-append_left before (i ∷ []) j among)) s base
-        | inr more ↦ record {
-          place = i;
-          reached = record { rule = typed; at = there; of_term = own i typed (Contains-push before i) there; may = is.reachable };
-          from = more;
-        }
+        | inl base ↦
+            let (of, among) = gathered_from before old gathered (λ j r among. own j r (Contains-append_left before (i ∷ []) j among)) s base in
+            (of, Contains-append_left before (i ∷ []) of.place among)
+        | inr more ↦ (
+          record {
+            place = i;
+            reached = record { rule = typed; at = there; of_term = own i typed (Contains-push before i) there; may = is.reachable };
+            from = more;
+          },
+          Contains-push before i,
+        )
       ]
-  gathered_explained places set (one_dropped {places = before} {old = old} i typed gathered there never) own s stands =
-      gathered_explained before set gathered (λ j r among. own j r (Contains-append_left before (i ∷ []) j among)) s stands
+  gathered_from places set (one_dropped {places = before} {old = old} i typed gathered there never fits) own s stands =
+      let (of, among) = gathered_from before set gathered (λ j r among. own j r (Contains-append_left before (i ∷ []) j among)) s stands in
+      (of, Contains-append_left before (i ∷ []) of.place among)
 
   pub gathered_is : (places : List ℕ) (set : RulesOverSites) → GathersRules env d places set → Ascends places → AreOfTerm places
       → IsGathered places set
@@ -175,7 +182,7 @@ module _ (env : TermTables) (d : AreDefined env) (term : ℕ) where
             (made_kept name facts env.rules (rules_by env d) term old.sites set.sites is.kept) so_far.reached old.rules so_far.made) made_at);
         order = rule_numbered i typed (rows_of name set.sites) so_far.order there is.order;
       }
-  gathered_is places set (one_dropped {places = before} {old = old} i typed gathered there never) up own =
+  gathered_is places set (one_dropped {places = before} {old = old} i typed gathered there never fits) up own =
       let facts = facts_by env d in
       let so_far = gathered_is before set gathered (ascends_before before i up)
       (λ j r among. own j r (Contains-append_left before (i ∷ []) j among)) in
@@ -222,6 +229,6 @@ module _ (env : TermTables) (d : AreDefined env) (term : ℕ) where
         made = is.made;
         table = table;
         few = few;
-        explained = gathered_explained places set gathered own;
+        explained = λ s stands. (gathered_from places set gathered own s stands).0;
         order = is.order;
       }

@@ -19,7 +19,7 @@ use Rattle.isle_blocks.specs.DefinedSets.{AreDefined, name_of, facts_by, rules_b
 use Rattle.isle_blocks.specs.Reports.{AreGroups, no_pairs, headed, IsReport, error_of}
 use Rattle.isle_blocks.specs.Rows.{row_of, rows_of}
 use Rattle.isle_blocks.specs.RuleFaults.{NeverMatches, IsUnreachableAt, ListsEach, TellRivals}
-use Rattle.isle_blocks.specs.RuleFaults.{TellUnreachable, no_rules_told, one_may_match, one_never_matches, FitTogether, SitesStand, AreFaultless, places_from}
+use Rattle.isle_blocks.specs.RuleFaults.{TellUnreachable, no_rules_told, one_may_match, one_never_matches, FitTogether, SitesStand, AreWithinSize, AreFaultless, places_from}
 use Rattle.isle_blocks.specs.RuleSets.{RulesOverSites}
 use Rattle.isle_blocks.proofs.Counting.{place_of}
 
@@ -46,6 +46,24 @@ module _ (facts : TermFacts) where
     | inr (last, same) ↦ may (subst (λ (r : TypedRule). NeverMatches facts r) (sym same) u.never)
   ]
   all_may_match rules errors (one_never_matches {errors = before} rule never told) none i u = absurd (no_more before _ none)
+
+  -- faultless rules are within the size
+  pub faultless_within : (rules : List TypedRule) → AreFaultless facts rules → (term : ℕ) → AreWithinSize facts rules term
+  faultless_within rules faultless term =
+      let fit = faultless.fit term in
+      record {
+        alone = λ i rule at of_term. record {
+          table = fit.table;
+          few = fit.few;
+          own = (fit.stand i (record {
+            rule = rule;
+            at = at;
+            of_term = of_term;
+            may = λ never. faultless.reachable i (record { rule = rule; at = at; never = never });
+          })).own;
+        };
+        together = fit;
+      }
 
 -- groups are made of pairs
 no_groups : (fault : Fault) (rules : List RulePlace) (pairs : List (ℕ × ℕ)) (groups : List Group) → AreGroups fault rules pairs groups → groups ≡ [] → pairs ≡ []

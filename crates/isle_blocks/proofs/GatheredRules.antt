@@ -15,13 +15,16 @@ use Rattle.isle_terms.specs.Shown.ShownTerms.{term_shown}
 use Rattle.isle_terms.specs.Shown.RulesShown.{IsShownRule}
 use Rattle.isle_terms.specs.SoundRules.WellTyped.{IsTypedRule}
 use Rattle.isle_terms.proofs.Sound.RuleTypes.{rules_typed}
+use Rattle.isle_meaning.specs.Facts.{TermFacts}
+use Rattle.isle_meaning.specs.Demands.{result_of}
 use Rattle.isle_blocks.specs.declared.binding.Binding.{Binding}
-use Rattle.isle_blocks.specs.AddedRules.{IsDefinedRule, IsAddedRule, HasNoRoomAlone, HasNoRoomBeside, LacksRoomFor}
+use Rattle.isle_blocks.specs.AddedRules.{IsDefinedRule, IsAddedRule, HasRoomAlone, HasNoRoomAlone, HasNoRoomBeside, LacksRoomFor}
 use Rattle.isle_blocks.specs.DefinedSets.{AreDefined, rules_by, facts_by, name_of}
 use Rattle.isle_blocks.specs.GatheredSets.{AddsToSet, GathersRules, one_added, one_dropped, AreLost, MarksThose}
 use Rattle.isle_blocks.specs.Building.Contents.{Marked}
+use Rattle.isle_blocks.specs.Closure.{Stands}
 use Rattle.isle_blocks.specs.ClosureFields.{IsTable}
-use Rattle.isle_blocks.specs.RuleFaults.{NeverMatches, MayMatch}
+use Rattle.isle_blocks.specs.RuleFaults.{NeverMatches, MayMatch, FitsAlone}
 use Rattle.isle_blocks.specs.RuleSets.{RulesOverSites}
 
 -- what stands at a place of the second list stands for what stands there in the first
@@ -76,6 +79,28 @@ term_within env d place rule at =
     let (typed, there, shown) = typed_at env d place rule at in
     subst (λ (root : ℕ). root < length env.terms) (sym shown.root) (root_within env d place typed there)
 
+-- a rule that has room alone fits alone
+pub fits_alone : (facts : TermFacts) (typed : TypedRule) (partial : Bool) → partial ≡ facts.partial typed.root → HasRoomAlone facts partial typed
+    → FitsAlone facts typed
+fits_alone facts typed partial same room = record {
+  table = room.table;
+  few = room.few;
+  own = record {
+    needed = room.needed;
+    result = subst (λ (p : Bool). Stands room.table (result_of facts p typed)) same room.result;
+  };
+}
+
+-- and one that fits alone has room
+pub has_room_alone : (facts : TermFacts) (typed : TypedRule) (partial : Bool) → partial ≡ facts.partial typed.root → FitsAlone facts typed
+    → HasRoomAlone facts partial typed
+has_room_alone facts typed partial same fits = record {
+  table = fits.table;
+  few = fits.few;
+  needed = fits.own.needed;
+  result = subst (λ (p : Bool). Stands fits.table (result_of facts p typed)) (sym same) fits.own.result;
+}
+
 -- the next rule is gathered
 pub gather_next : (env : TermTables) (d : AreDefined env) (before : List ℕ) (place : ℕ) (rule : Rule) (old new : RulesOverSites)
     (partial added : Bool) → GathersRules env d before old → slice_get env.rules place ≡ Some rule → partial ≡ (facts_by env d).partial rule.root_term.0
@@ -89,8 +114,10 @@ gather_next env d before place rule old new partial true gathered at says adds =
     (subst (λ (p : Bool). IsAddedRule (name_of env d) (facts_by env d) p typed old.sites new.sites made) same is) told pushed
 gather_next env d before place rule old new partial false gathered at says adds =
     let (typed, there, shown) = typed_at env d place rule at in
-    let (never, stays) = adds (defined_at env d place rule at) in
-    subst (λ (set : RulesOverSites). GathersRules env d (before ++ place ∷ []) set) (sym stays) (one_dropped place typed gathered there never)
+    let (never, room, stays) = adds (defined_at env d place rule at) in
+    let same : partial ≡ (facts_by env d).partial typed.root = says ∙ ap (facts_by env d).partial shown.root in
+    subst (λ (set : RulesOverSites). GathersRules env d (before ++ place ∷ []) set) (sym stays)
+    (one_dropped place typed gathered there never (fits_alone (facts_by env d) typed partial same room))
 
 -- a rule that is added may match
 pub added_may : (env : TermTables) (d : AreDefined env) (place : ℕ) (rule : Rule) (typed : TypedRule) (old new : RulesOverSites) (partial : Bool)
@@ -110,7 +137,7 @@ pub dropped_never : (env : TermTables) (d : AreDefined env) (place : ℕ) (rule 
 unfolding typed_at defined_at
 dropped_never env d place rule typed old new partial at there adds =
     let (same, here, shown) = typed_at env d place rule at in
-    let (never, stays) = adds (defined_at env d place rule at) in
+    let (never, room, stays) = adds (defined_at env d place rule at) in
     let one : typed ≡ same = same_Some typed same (sym there ∙ here) in
     subst (λ (z : TypedRule). NeverMatches (facts_by env d) z) (sym one) never
 

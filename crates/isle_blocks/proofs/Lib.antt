@@ -8,6 +8,8 @@ pub mod Merging
 pub mod FaultKeys
 -- Groups of pairs.
 pub mod Grouping
+-- Groups sorted by the positions of their heads.
+pub mod SortedGroups
 -- Worked cases.
 mod Cases
 -- A table of sites and the sorted table of their numbers.
@@ -67,9 +69,23 @@ pub mod RivalRules
 pub mod RivalLists
 -- Rules without errors are faultless.
 pub mod Faultless
+-- Numbers in order, each once.
+pub mod StrictCalls
 -- The multi calls of a rule, by the values of them among its sites.
 pub mod MultiCalls
 -- Terms of definitions have 255 arguments at most.
 pub mod FewArguments
 -- Sites are numbered in the order in which a rule first needs them.
 pub mod SiteOrder
+-- A variant that a rule makes is that of a term.
+pub mod MadeVariants
+-- Each variant of a term is one of its type.
+pub mod VariantTerms
+-- What holds of each rule set.
+pub mod SetLaws
+-- Sets of equal sites taken out one by one.
+pub mod ListedSets
+-- Lists with the same items as often.
+pub mod SameLists
+-- What is wrong with rules is told in one way.
+pub mod OneReport

@@ -1,8 +1,8 @@
 -- Lists of numbers in ascending order, as they grow.
-use Rattle.std.proofs.Common.{refl, Vec, Some, set, slice_get, ◌≡◌, ◌<◌, ◌+◌, ◌++◌, ◌∷◌, ◌⊎◌, inl, inr, [], ℕ, List, length, get_or, sym, subst, arith, ◌∙◌}
+use Rattle.std.proofs.Common.{refl, Vec, Some, set, slice_get, ◌≡◌, ◌<◌, ◌↔◌, ◌+◌, ◌++◌, ◌∷◌, ◌⊎◌, inl, inr, [], ℕ, List, length, get_or, take, sym, ap, subst, arith, ◌∙◌}
 use Rattle.std.specs.Prelude.{Contains}
-use Rattle.std.proofs.lemmas.Bool.{cases_eq}
-use Rattle.std.proofs.lemmas.List.{get_or_append_left, get_or_at, get_or_default, length_push}
+use Rattle.std.proofs.lemmas.Bool.{cases_eq, cases_lt}
+use Rattle.std.proofs.lemmas.List.{get_or_append_left, get_or_at, get_or_default, get_or-take, length_push, length-take-le}
 use Rattle.std.proofs.lemmas.List.Elements.{Contains-append_left, Contains-push, Contains-push_cases}
 use Rattle.std.specs.Global.{Global}
 use Rattle.std.proofs.lemmas.Option.{same_Some}
@@ -112,6 +112,30 @@ numbers_same P Q numbers f g lists = record {
   all = λ i. (λ h. f i ((lists.all i).0 h), λ h. (lists.all i).1 (g i h));
   ascending = lists.ascending;
 }
+
+-- the numbers before one of a list are the smaller ones with P
+pub listed_before : (P : ℕ → Type 0) (numbers : List ℕ) (k n : ℕ) → ListsNumbers P numbers → k < length numbers → get_or numbers k n ≡ n → (i : ℕ)
+    → Contains (take k numbers) i ↔ ((i < n) × P i)
+listed_before P numbers k n lists here is i =
+    let at : get_or numbers k i ≡ n = get_or_default numbers k i n here ∙ is in (
+      λ (j, within, e).
+          let size = length-take-le k numbers (omega arith) in
+          let before : j < k = omega arith in
+          let there : get_or numbers j i ≡ i = sym (get_or-take k numbers j i before) ∙ e in
+          let up = lists.ascending j k i before here in
+          (omega arith, (lists.all i).0 (j, omega arith, there)),
+      λ (less, holds).
+          let (j, within, there) = (lists.all i).1 holds in
+          let before : j < k = elim (cases_lt j k) [
+            | inl low ↦ low
+            | inr high ↦ elim (cases_eq j k) [
+              | inl same ↦ let also : get_or numbers j i ≡ get_or numbers k i = ap (λ m. get_or numbers m i) same in absurd (omega arith)
+              | inr other ↦ let up = lists.ascending k j i (omega arith) within in absurd (omega arith)
+            ]
+          ] in
+          let size = length-take-le k numbers (omega arith) in
+          (j, omega arith, get_or-take k numbers j i before ∙ there),
+    )
 
 -- each number before the last is smaller
 abbrev pub Ascends : List ℕ → Type 0

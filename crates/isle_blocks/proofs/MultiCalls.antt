@@ -13,6 +13,7 @@ use Rattle.isle_blocks.specs.declared.ids.BindingId.{BindingId}
 use Rattle.isle_blocks.specs.declared.binding.Binding.{Binding}
 use Rattle.isle_blocks.specs.declared.binding.Binding.TheVariants as sites
 use Rattle.isle_blocks.specs.Assembly.{multi_call}
+use Rattle.isle_blocks.proofs.Counting.{Once, once_both, once_right, place_of}
 
 only_first : {X : Type 0} (x y : X) → Contains (x ∷ []) y → x ≡ y
 only_first x y (zero, within, is) = is
@@ -52,6 +53,31 @@ module _ {X Y : Type 0} (f : X → Option Y) where
     | inl one ↦ put_first (f z) (filter_map f xs) y (ap f (only_first z x one) ∙ e)
     | inr rest ↦ put_later (f z) (filter_map f xs) y (picked xs x y rest e)
   ]
+
+-- what stands nowhere may be put first
+single_once : {X : Type 0} (x : X) → Once (x ∷ [])
+single_once x zero zero y e f = refl
+single_once x zero (suc j) y e f = absurd cc
+single_once x (suc i) j y e f = absurd cc
+
+put_once : {Y : Type 0} (o : Option Y) (ys : List Y) → Once ys → ((y : Y) → o ≡ Some y → Contains ys y → ⊥) → Once (cons_option o ys)
+put_once None ys once apart = once
+put_once {Y} (Some z) ys once apart =
+    once_both (z ∷ []) ys (single_once z) once
+    (λ y one rest. apart z refl (subst (λ (x : Y). Contains ys x) (sym (only_first z y one)) rest))
+
+-- nothing is picked twice, where what gives it is one item
+pub picked_once : {X Y : Type 0} (f : X → Option Y) (xs : List X) → Once xs
+    → ((x z : X) (y : Y) → Contains xs x → Contains xs z → f x ≡ Some y → f z ≡ Some y → x ≡ z) → Once (filter_map f xs)
+picked_once f [] once one = λ i j y e g. absurd (none-some y e)
+picked_once {X} f (x ∷ xs) once one =
+    put_once (f x) (filter_map f xs)
+    (picked_once f xs (once_right (x ∷ []) xs once) (λ a b y in_a in_b. one a b y (later x xs a in_a) (later x xs b in_b)))
+    (λ y is among.
+    let (z, inside, also) = picked_of f xs y among in
+    let same : x ≡ z = one x z y (first x xs) (later x xs z inside) is also in
+    let (k, at) = place_of xs z inside in
+    let twice : 0 ≡ suc k = once 0 (suc k) x refl (at ∙ ap Some (sym same)) in omega (arith, twice))
 
 -- a call is of a site that is one value of it
 pub call_site : (to : BindingId → BindingId) (site : Binding) (id : BindingId) → multi_call to site ≡ Some id

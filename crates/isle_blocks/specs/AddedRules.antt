@@ -90,9 +90,16 @@ pub record IsAddedRule (name : Sym → List ℕ) (facts : TermFacts) (partial : 
   pub effects : StandEach (rows_of name table) made.impure (impure_of facts typed)
   pub order : NumbersBehind (rows_of name base) (needs_in_order facts partial typed) (DemandOf facts typed) (rows_of name table)
 
--- No values meet the rule's demands, and the table stays; or the rule is added.
+-- a table that has a number for each of its entries has all sites that a rule needs and that of its result
+pub record HasRoomAlone (facts : TermFacts) (partial : Bool) (typed : TypedRule) : Type 0 where
+  pub table : List Row
+  pub few : length table ≤ 65536
+  pub needed : (s : Site) → IsNeeded (needs_of facts typed) s → Stands table s
+  pub result : Stands table (result_of facts partial typed)
+
+-- No values meet the demands of the rule, which has room alone, and the table stays; or the rule is added.
 abbrev pub IsAdded : (Sym → List ℕ) → TermFacts → Bool → TypedRule → List Binding → List Binding → Option Rule → Type 0
-IsAdded name facts partial typed base table None = IsUnreachable (DemandOf facts typed) × (table ≡ base)
+IsAdded name facts partial typed base table None = IsUnreachable (DemandOf facts typed) × HasRoomAlone facts partial typed × (table ≡ base)
 IsAdded name facts partial typed base table (Some made) = IsAddedRule name facts partial typed base table made
 
 -- a visit left the own sites of the rule that definitions make
@@ -105,13 +112,11 @@ abbrev pub AddsRule : TermTables → source.Rule → Bool → List Binding → L
 AddsRule env rule partial base table made = (d : IsDefinedRule env rule)
     → IsAdded (name_in env rule d) (facts_in env rule d) partial d.typed base table made
 
--- no table that has a number for each of its entries has all sites that a rule needs and that of its result
+-- no such table has them
 abbrev pub HasNoRoomAlone : TermFacts → Bool → TypedRule → Type 0
-HasNoRoomAlone facts partial typed =
-    (table : List Row) → length table ≤ 65536 → ((s : Site) → IsNeeded (needs_of facts typed) s → Stands table s)
-    → Stands table (result_of facts partial typed) → ⊥
+HasNoRoomAlone facts partial typed = HasRoomAlone facts partial typed → ⊥
 
--- no such table has those, the sites of a table, and all fields that the rule's demands open
+-- none has those, the sites of a table, and all fields that the rule's demands open
 abbrev pub HasNoRoomBeside : (Sym → List ℕ) → TermFacts → Bool → TypedRule → List Binding → Type 0
 HasNoRoomBeside name facts partial typed base =
     (table : List Row) → length table ≤ 65536 → ((s : Site) → Stands (rows_of name base) s → Stands table s)

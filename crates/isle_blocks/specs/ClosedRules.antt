@@ -1,6 +1,6 @@
 -- The rules of a rule set as what follows from their demands: their tests are the derived constraints, and their equalities
 -- are those left.
-use Rattle.std.specs.Prelude.{◌≡◌, ◌≢◌, ◌+◌, ◌↔◌, ℕ, Bool, List, [], length, Contains, IsTrue, IsSorted, nat_eq}
+use Rattle.std.specs.Prelude.{◌≡◌, ◌≢◌, ◌+◌, ◌↔◌, ℕ, Bool, List, [], length, Contains, IsTrue, nat_eq}
 use Rattle.std.specs.List.Sorted.{IsStrictlySortedBy}
 use Rattle.std.specs.Map.{keys_of}
 use Rattle.isle_types.specs.JoinedSets.{AreDisjoint, are_joined, members}
@@ -22,11 +22,11 @@ use Rattle.isle_blocks.specs.Rules as rules
 abbrev pub StandOnce : List Row → Type 0
 StandOnce rows = (s : Site) (k l : ℕ) → At rows s k → At rows s l → k ≡ l
 
--- the numbers are those of the sites with P, ascending
+-- the numbers are those of the sites with P, each once, ascending
 pub record AreNumbersOf (rows : List Row) (P : Site → Type 0) (ids : List BindingId) : Type 0 where
   pub numbered : (id : BindingId) → Contains ids id → (s : Site) × P s × At rows s id.0
   pub all : (s : Site) → P s → (id : BindingId) × Contains ids id × At rows s id.0
-  pub ascending : IsSorted site_cmp ids
+  pub ascending : IsStrictlySortedBy site_cmp ids
 
 -- the tests are the constraints that follow from the demands
 pub record AreDerived (name : Sym → List ℕ) (rows : List Row) (D : Demand → Type 0) (tests : Tests) : Type 0 where

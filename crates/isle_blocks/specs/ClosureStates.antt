@@ -108,6 +108,20 @@ pub record AreLikeFields (table : List Binding) (member keep : ℕ) (test : Cons
 abbrev pub IsLike : List Binding → List ℕ → ℕ → ℕ → Constraint → ℕ → ℕ → Type 0
 IsLike table class drop keep test f g = (member : ℕ) × (slice_index class member ≡ drop) × AreLikeFields table member keep test f g
 
+-- the same, of a site that is listed
+abbrev pub IsLikeAmong : List Binding → List ℕ → ℕ → Constraint → ℕ → ℕ → Type 0
+IsLikeAmong table members keep test f g = (member : ℕ) × Contains members member × AreLikeFields table member keep test f g
+
+-- the sites that a site represents
+pub record AreMembers (class : List ℕ) (root : ℕ) (members : List ℕ) : Type 0 where
+  pub inside : (a : ℕ) → Contains members a → (a < length class) × (slice_index class a ≡ root)
+  pub all : (a : ℕ) → a < length class → slice_index class a ≡ root → Contains members a
+
+-- each site's list has the sites that it represents
+pub record ListMembers (class : List ℕ) (lists : List (List ℕ)) : Type 0 where
+  pub fits : length lists ≡ length class
+  pub each : (root : ℕ) → root < length class → AreMembers class root (slice_index_or lists root [])
+
 -- a site with two different tests
 pub record HasTwo (has : List (BindingId × Constraint)) : Type 0 where
   pub site : BindingId
@@ -173,9 +187,9 @@ pub record HasLoop (table : List Binding) (own : List (Option Constraint)) (clas
 abbrev pub is_marked : List Bool → ℕ → Bool
 is_marked marks k = slice_index_or marks k false
 
-pub record HasUnmarkedChild (table : List Binding) (own : List (Option Constraint)) (class : List ℕ) (marks : List Bool) (r : ℕ) : Type 0 where
+-- a child of a site isn't marked
+pub record IsUnmarkedChild (table : List Binding) (own : List (Option Constraint)) (class : List ℕ) (marks : List Bool) (r child : ℕ) : Type 0 where
   pub field : ℕ
-  pub child : ℕ
   pub is_child : IsChildAt table own class r field child
   pub unmarked : is_marked marks child ≡ false
 
@@ -186,10 +200,9 @@ ChildrenAreMarked table own class marks r = (g k : ℕ) → IsChildAt table own 
 abbrev pub IsRootOf : List Binding → List ℕ → Binding → ℕ → Type 0
 IsRootOf table class site k = (g : ℕ) × (slice_get table g ≡ Some site) × (slice_index class g ≡ k)
 
--- a field below a number is in a class that isn't marked
-abbrev pub HasUnmarkedField : List Binding → List ℕ → List Bool → ℕ → Option ℕ → ℕ → Type 0
-HasUnmarkedField table class marks r kind n =
-    (i : ℕ) × (k : ℕ) × (i < n) × IsRootOf table class (field_binding kind r i) k × (is_marked marks k ≡ false)
+-- a field below a number is in this class, which isn't marked
+abbrev pub IsUnmarkedField : List Binding → List ℕ → List Bool → ℕ → Option ℕ → ℕ → ℕ → Type 0
+IsUnmarkedField table class marks r kind n k = (i : ℕ) × (i < n) × IsRootOf table class (field_binding kind r i) k × (is_marked marks k ≡ false)
 
 abbrev pub FieldsAreMarked : List Binding → List ℕ → List Bool → ℕ → Option ℕ → ℕ → Type 0
 FieldsAreMarked table class marks r kind n = (i k : ℕ) → i < n → IsRootOf table class (field_binding kind r i) k → is_marked marks k ≡ true

@@ -6,6 +6,10 @@ pub mod Bindings
 pub mod Constraints
 -- How sites and tests are ordered.
 pub mod Orders
+-- What is hashed of sites and tests.
+pub mod Hashes
+-- The `==` of sites holds exactly where the two are the same, and then they are hashed alike.
+pub mod EqualSites
 -- Which rules of a rule set may match together.
 pub mod Rules
 -- Faults between the rules of a term.
@@ -34,6 +38,8 @@ pub mod ClosureStates
 pub mod FieldOrder
 -- What the closure of a rule's demands is.
 pub mod Closure
+-- The sites that a rule holds equal, set by set.
+pub mod ListedSets
 -- A rule's demands in the table of its rule set.
 pub mod Placing
 -- A rule of a rule set, made of what a visit leaves.
@@ -48,6 +54,8 @@ pub mod AddedRules
 pub mod RuleFaults
 -- The rule sets of the terms of definitions.
 pub mod DefinedSets
+-- What holds of each rule set that `check` gives.
+pub mod SetLaws
 -- How the rules of terms are gathered into their rule sets.
 pub mod GatheredSets
 -- How the faults between rules of all terms are listed.

@@ -1,5 +1,5 @@
 -- What is reported of rules that overlap or shadow others. Rules go by their places in a list.
-use Rattle.std.specs.Prelude.{◌≡◌, ◌≢◌, ◌<◌, ◌≤◌, ◌⊎◌, ◌==◌, ℕ, false, not, cond, List, [], ◌∷◌, ◌++◌, length, map, filter, count_by, codes}
+use Rattle.std.specs.Prelude.{◌≡◌, ◌≢◌, ◌<◌, ◌≤◌, ◌⊎◌, ◌==◌, ◌&&◌, ℕ, Bool, false, not, cond, List, [], ◌∷◌, ◌++◌, length, map, filter, count_by, codes}
 use Rattle.std.specs.Prelude.{All, Option, Some, None, IsSome, is_some, option_map, slice_get, slice_index, IsPermutation, IsSorted}
 use Rattle.std.specs.List.{AllZip, filter_map, flat_map}
 use Rattle.std.specs.List.Sorted.{IsSortedByKey}
@@ -96,7 +96,12 @@ error_by Shadow group = ShadowedError (map span_at group.others) (span_at group.
 abbrev pub error_of : Group → Error
 error_of group = error_by group.fault group
 
--- the errors of all groups, ascending by the positions of their heads
+-- whether a group's head stands at a position
+abbrev pub is_headed_at : Pos → Group → Bool
+is_headed_at pos group = (group.head.pos.file == pos.file) && (group.head.pos.offset == pos.offset)
+
+-- The errors of all groups, ascending by the positions of their heads. At one position those of overlaps stand first, and then
+-- those of shadows, each in the order in which they are made.
 pub record IsReport (rules : List RulePlace) (overlaps shadows : List (ℕ × ℕ)) (errors : List Error) : Type 0 where
   pub overlapping : List Group
   pub shadowing : List Group
@@ -105,6 +110,7 @@ pub record IsReport (rules : List RulePlace) (overlaps shadows : List (ℕ × �
   pub shadowing_are : AreGroups Shadow rules shadows shadowing
   pub moved : IsPermutation (overlapping ++ shadowing) sorted
   pub ascending : IsSortedByKey (λ (group : Group). group.head.pos) pos_order sorted
+  pub in_turn : (pos : Pos) → filter (is_headed_at pos) sorted ≡ filter (is_headed_at pos) overlapping ++ filter (is_headed_at pos) shadowing
   pub errors_are : errors ≡ map error_of sorted
 
 -- the error names a rule that heads each of some pairs, and its partners in them, and nothing else

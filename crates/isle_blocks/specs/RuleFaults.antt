@@ -1,11 +1,10 @@
 -- Faults of the rules that definitions make: rules that never match, rules that overlap or are shadowed, and too many sites.
-use Rattle.std.specs.Prelude.{◌≡◌, ◌<◌, ◌≤◌, ◌⊎◌, ◌↔◌, ℕ, suc, false, List, [], ◌∷◌, ◌++◌, length, Contains, Some, slice_get, codes}
+use Rattle.std.specs.Prelude.{◌≡◌, ◌<◌, ◌≤◌, ◌↔◌, ℕ, suc, false, List, [], ◌∷◌, ◌++◌, length, take, Contains, Some, slice_get, codes}
 use Rattle.isle_syntax.specs.Errors.{span_at}
 use Rattle.isle_syntax.specs.declared.lexer.Pos.{Pos}
 use Rattle.isle_syntax.specs.declared.error.Error.{Error}
 use Rattle.isle_syntax.specs.declared.error.Error.TheVariants.{SizeError, UnreachableError}
 use Rattle.isle_types.specs.Names.{AreDistinct}
-use Rattle.isle_types.specs.TypeFaults.{IsSizeFault}
 use Rattle.isle_terms.specs.TypedRules.{TypedRule}
 use Rattle.isle_meaning.specs.Facts.{TermFacts}
 use Rattle.isle_meaning.specs.Sites.{Site}
@@ -77,6 +76,17 @@ pub record FitTogether (facts : TermFacts) (rules : List TypedRule) (term : ℕ)
   pub few : length table ≤ 65536
   pub stand : (i : ℕ) (reached : MayMatchAt facts rules term i) → SitesStand facts table reached.rule
 
+-- a table of at most 65,536 sites has those that a rule needs and that of its result
+pub record FitsAlone (facts : TermFacts) (rule : TypedRule) : Type 0 where
+  pub table : List Row
+  pub few : length table ≤ 65536
+  pub own : NeedsStand facts table rule
+
+-- each rule of a term fits alone, whether it may match or not, and those that may match fit together
+pub record AreWithinSize (facts : TermFacts) (rules : List TypedRule) (term : ℕ) : Type 0 where
+  pub alone : (i : ℕ) (rule : TypedRule) → slice_get rules i ≡ Some rule → rule.root ≡ term → FitsAlone facts rule
+  pub together : FitTogether facts rules term
+
 -- rules without a fault: each may match, none overlap, none is shadowed, and those of a term fit in one table
 pub record AreFaultless (facts : TermFacts) (rules : List TypedRule) : Type 0 where
   pub reachable : (i : ℕ) → IsUnreachableAt facts rules i → ⊥
@@ -124,22 +134,31 @@ pub record TellRivals (facts : TermFacts) (rules : List TypedRule) (errors : Lis
   pub shadows_are : ListsEach (IsShadowing facts rules) shadows
   pub report : IsReport (places_from 0 rules) overlaps shadows errors
 
--- a rule at a position whose sites don't fit in one table, alone or with those of the term's other rules
+-- The rule at a position is the first that is too large: the rules of each term with a smaller number are within the size, and so
+-- are those of its own term before it, but not with it.
 pub record IsTooLargeAt (facts : TermFacts) (rules : List TypedRule) (pos : Pos) : Type 0 where
   pub place : ℕ
   pub rule : TypedRule
   pub at : slice_get rules place ≡ Some rule
   pub here : pos ≡ rule.pos
-  pub too_large : ((table : List Row) → length table ≤ 65536 → NeedsStand facts table rule → ⊥) ⊎ (FitTogether facts rules rule.root → ⊥)
+  pub lesser : (term : ℕ) → term < rule.root → AreWithinSize facts rules term
+  pub before : AreWithinSize facts (take place rules) rule.root
+  pub too_large : AreWithinSize facts (take (suc place) rules) rule.root → ⊥
 
--- one size error alone, at a rule that is too large
+-- one size error alone, at the first rule that is too large
 pub record IsOneSizeFault (facts : TermFacts) (rules : List TypedRule) (errors : List Error) : Type 0 where
-  pub error : Error
-  pub alone : errors ≡ error ∷ []
-  pub too_large : IsSizeFault (IsTooLargeAt facts rules) error
+  pub pos : Pos
+  pub alone : errors ≡ size_error_at pos ∷ []
+  pub too_large : IsTooLargeAt facts rules pos
 
--- the errors of faulty rules: one size error alone, or the rules that never match, then those that overlap or are shadowed
+-- The errors of faulty rules: one size error alone, or, where no rule is too large, the rules that never match, and then those that
+-- overlap or are shadowed.
 pub data AreRuleErrors (facts : TermFacts) (rules : List TypedRule) (errors : List Error) : Type 0 where
-  of_size : (error : Error) → errors ≡ error ∷ [] → IsSizeFault (IsTooLargeAt facts rules) error → AreRuleErrors facts rules errors
-  of_rules : (unreachable between : List Error) → TellUnreachable facts rules unreachable → TellRivals facts rules between
-      → errors ≡ unreachable ++ between → 0 < length errors → AreRuleErrors facts rules errors
+  of_size : (pos : Pos) → errors ≡ size_error_at pos ∷ [] → IsTooLargeAt facts rules pos → AreRuleErrors facts rules errors
+  of_rules : (unreachable between : List Error) → ((term : ℕ) → AreWithinSize facts rules term) → TellUnreachable facts rules unreachable
+      → TellRivals facts rules between → errors ≡ unreachable ++ between → 0 < length errors → AreRuleErrors facts rules errors
+
+-- What is wrong with rules is told in one way.
+abbrev pub RuleErrorsAreDetermined : Type 0
+RuleErrorsAreDetermined = (facts : TermFacts) (rules : List TypedRule) (one other : List Error)
+    → AreRuleErrors facts rules one → AreRuleErrors facts rules other → one ≡ other

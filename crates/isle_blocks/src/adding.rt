@@ -1,5 +1,5 @@
 //! Rules of definitions, added to a rule set's table.
-ghost use Rattle.std.specs.Prelude.{◌≡◌, IfOk, IfErr, IfSome};
+ghost use Rattle.std.specs.Prelude.{◌≡◌, ◌≤◌, IfOk, IfErr, IfSome, length};
 ghost use Rattle.isle_blocks.specs.AddedRules.{IsDefinedRule, IsOwnRule, AddsRule, LacksRoomAlone, LacksRoomFor};
 ghost use Rattle.isle_blocks.specs.Assembly.{IsToldOf};
 ghost use Rattle.isle_blocks.specs.ClosureFields.{IsTable};
@@ -19,6 +19,7 @@ fn own_rule(
     partial: bool,
 ) -> Result<BuiltRule, SiteFault>
     ensures own { IfOk result (λ built. IsOwnRule termenv.now source.now partial built) }
+    ensures few { IfOk result (λ built. length built.sites ≤ 65536) }
     ensures full { IfErr result (λ fault. fault ≡ SiteFault.Size → LacksRoomAlone termenv.now source.now partial) }
 {
     let mut built = match build_rule(alloc, termenv, source) {

@@ -5,6 +5,7 @@ use crate::ids::{BindingId, TupleIndex};
 use isle_syntax::Seq;
 use isle_terms::TermEnv;
 use isle_types::{Sym, TermId, TypeEnv, TypeId, VariantId};
+use std::hash::{Hash, Hasher};
 use std::slice;
 
 /// A site: a value that a rule tests or makes. Its parts are sites of the same rule set, by their numbers.
@@ -125,6 +126,47 @@ impl Binding {
             Binding::MakeSome { .. } => None,
             Binding::MatchSome { .. } => None,
             Binding::MatchTuple { .. } => None,
+        }
+    }
+}
+
+/// Its kind, then its fields in order.
+impl Hash for Binding {
+    ghost use Rattle.isle_blocks.specs.Hashes.{binding_hash};
+    ghost use Rattle.isle_blocks.specs.EqualSites.{same_sites-alike};
+
+    ghost hash_input = { binding_hash };
+
+    ghost respects_eq = { same_sites-alike };
+
+    fn hash<H: Hasher>(&self, state: &mut H) {
+        match self {
+            Binding::ConstBool { val, ty } => (0isize, *val, *ty).hash(state),
+            Binding::ConstInt { val, ty } => (1isize, *val, *ty).hash(state),
+            Binding::ConstPrim { val } => (2isize, *val).hash(state),
+            Binding::Argument { index } => (3isize, *index).hash(state),
+            Binding::Extractor { term, parameter } => (4isize, *term, *parameter).hash(state),
+            Binding::Constructor {
+                term,
+                parameters,
+                instance,
+            } => (5isize, *term, parameters.as_slice(), *instance).hash(state),
+            Binding::Iterator { source } => (6isize, *source).hash(state),
+            Binding::MakeVariant {
+                ty,
+                variant,
+                fields,
+            } => (7isize, *ty, *variant, fields.as_slice()).hash(state),
+            Binding::MatchVariant {
+                source,
+                variant,
+                field,
+            } => (8isize, *source, *variant, *field).hash(state),
+            Binding::MakeStruct { ty, fields } => (9isize, *ty, fields.as_slice()).hash(state),
+            Binding::ExtractStruct { source, field } => (10isize, *source, *field).hash(state),
+            Binding::MakeSome { inner } => (11isize, *inner).hash(state),
+            Binding::MatchSome { source } => (12isize, *source).hash(state),
+            Binding::MatchTuple { source, field } => (13isize, *source, *field).hash(state),
         }
     }
 }

@@ -10,6 +10,7 @@ mod classes;
 mod complete;
 mod depth;
 mod fields;
+mod lists;
 
 use crate::constraint::Constraint;
 use crate::ids::BindingId;

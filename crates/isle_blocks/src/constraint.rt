@@ -8,7 +8,7 @@ use isle_types::{Sym, TypeId, VariantId};
 use std::alloc::{AllocError, Global};
 
 /// A test of a site's value. Tests are ordered by kind, then by their fields.
-#[derive(Debug, Clone, Copy, PartialEq, Eq, PartialOrd, Ord)]
+#[derive(Debug, Clone, Copy, PartialEq, Eq, PartialOrd, Ord, Hash)]
 pub enum Constraint {
     /// The value is this variant; `fields` is the number of its fields.
     Variant {

@@ -4,6 +4,7 @@ ghost use Rattle.isle_types.specs.declared.ids.Sym.{Sym};
 ghost use Rattle.isle_blocks.specs.Rows.{IsInjective, row_of, test_of};
 ghost use Rattle.std.specs.Prelude.{nat_eq};
 ghost use Rattle.std.specs.Ordering.{nat_cmp};
+ghost use Rattle.std.specs.Hash.{u8 as u8_hash, u16 as u16_hash};
 ghost use Rattle.isle_blocks.specs.declared.ids.TupleIndex.{TupleIndex};
 ghost use Rattle.isle_blocks.specs.declared.ids.BindingId.{BindingId};
 ghost use Rattle.isle_blocks.specs.declared.binding.Binding.{Binding as Site};
@@ -16,25 +17,31 @@ ghost use Rattle.isle_blocks.specs.ClosedRules.{NumbersSayShadows, NumbersSaySub
 ghost use Rattle.isle_blocks.specs.DefinedSets.{TermsHaveFewArguments};
 ghost use Rattle.isle_blocks.specs.ClosureLaws.{ClosureSaysTheSame, UnreachableNeverHolds};
 ghost use Rattle.isle_blocks.specs.Reports.{ReportsListEachOnce};
+ghost use Rattle.isle_blocks.specs.RuleFaults.{RuleErrorsAreDetermined};
 ghost use Rattle.isle_blocks.specs.Rules.{site_cmp};
+ghost use Rattle.isle_blocks.specs.SetLaws.{EachNumberStands, EachSiteOnce, EachVariantKnown, OfEachSet};
 ghost use Rattle.isle_blocks.specs.Orders.{binding_order, constraint_order};
+ghost use Rattle.isle_blocks.specs.Hashes.{binding_hash, constraint_hash};
 
 use crate::binding::Binding;
 use crate::constraint::Constraint;
 use crate::ids::{BindingId, TupleIndex};
 use crate::rule::Rule;
 use isle_types::{sets_are_disjoint, sorted_keys_ascend};
+use std::hash::Hash;
 
 /// `TupleIndex`es are compared and hashed as their numbers.
 pub fn tuple_indices_are_numbers()
     ensures equality { (a b : TupleIndex) → ⟦<TupleIndex as PartialEq>⟧.eq a b ≡ nat_eq a.0 b.0 }
     ensures order { (a b : TupleIndex) → ⟦<TupleIndex as Ord>⟧.cmp a b ≡ nat_cmp a.0 b.0 }
+    ensures hashes { (a : TupleIndex) → ⟦<TupleIndex as Hash>⟧.hash_input a ≡ u8_hash a.0 }
 {}
 
 /// `BindingId`s are compared and hashed as their numbers.
 pub fn binding_ids_are_numbers()
     ensures equality { (a b : BindingId) → ⟦<BindingId as PartialEq>⟧.eq a b ≡ nat_eq a.0 b.0 }
     ensures order { (a b : BindingId) → ⟦<BindingId as Ord>⟧.cmp a b ≡ nat_cmp a.0 b.0 }
+    ensures hashes { (a : BindingId) → ⟦<BindingId as Hash>⟧.hash_input a ≡ u16_hash a.0 }
 {}
 
 /// Sites are ordered by kind, then by their fields in order.
@@ -47,6 +54,11 @@ pub fn equal_bindings_are_one()
     ensures { (a b : Site) → (⟦<Binding as PartialEq>⟧.eq a b ≡ true) ↔ (a ≡ b) }
 {}
 
+/// Sites are hashed by kind, then by their fields in order.
+pub fn bindings_are_hashed()
+    ensures { (a : Site) → ⟦<Binding as Hash>⟧.hash_input a ≡ binding_hash a }
+{}
+
 /// Tests are ordered by kind, then by their fields in order.
 pub fn constraints_are_ordered()
     ensures { (a b : Test) → ⟦<Constraint as Ord>⟧.cmp a b ≡ constraint_order a b }
@@ -55,6 +67,11 @@ pub fn constraints_are_ordered()
 /// Two tests are equal where they are one.
 pub fn equal_constraints_are_one()
     ensures { (a b : Test) → (⟦<Constraint as PartialEq>⟧.eq a b ≡ true) ↔ (a ≡ b) }
+{}
+
+/// Tests are hashed by kind, then by their fields in order.
+pub fn constraints_are_hashed()
+    ensures { (a : Test) → ⟦<Constraint as Hash>⟧.hash_input a ≡ constraint_hash a }
 {}
 
 /// Where names tell symbols apart, sites are told apart by their entries, and tests by their constraints.
@@ -72,6 +89,18 @@ pub fn rules_are_well_formed(rule: &Rule)
     sets_are_disjoint(&rule.equals);
 }
 
+/// In each rule set that `check` gives each number below the table's length stands for a site, and no site has two numbers.
+pub fn numbers_stand_for_sites()
+    ensures stands { OfEachSet EachNumberStands }
+    ensures one_number { OfEachSet EachSiteOnce }
+{}
+
+/// Each site of such a rule set has the term that `Binding::term` asks for: a variant that it makes is one of its type, and has
+/// a term.
+pub fn sites_have_terms()
+    ensures { OfEachSet EachVariantKnown }
+{}
+
 /// Rules that follow from demands differ, overlap and shadow each other exactly where the demands do, and their tests and
 /// equalities are as many.
 pub fn numbers_say_faults()
@@ -88,6 +117,11 @@ pub fn numbers_say_faults()
 /// In a report each pair of rules stands in exactly one error, as the rule that heads it and a partner, and nothing else does.
 pub fn reports_list_each_once()
     ensures { ReportsListEachOnce }
+{}
+
+/// What is wrong with rules is told in one way: two lists of errors that tell it are one.
+pub fn rule_errors_are_determined()
+    ensures { RuleErrorsAreDetermined }
 {}
 
 /// Under all values of sites of which fields are fields, demands hold exactly where their closure does, and those that can't

@@ -1,5 +1,5 @@
 ghost use Rattle.std.specs.Prelude.{◌≡◌, ◌≢◌, ◌<◌, ◌+◌, ◌↔◌, ◌∷◌, [], ℕ, IfOk, IsTrue, OnOk, count_by, is_some, length, not, map, slice_index, IsPermutation, IsSorted};
-ghost use Rattle.std.specs.List.Sorted.{IsSortedByKey};
+ghost use Rattle.std.specs.List.Sorted.{IsSortedByKey, IsStableByKey};
 ghost use Rattle.isle_syntax.specs.Errors.{span_at};
 ghost use Rattle.isle_blocks.specs.Reports.{AddsGroups, ArePairs, IsBelow, IsGreatest, IsGroup, IsReport, error_of, overlap_message, partner, partner_count};
 ghost use Rattle.isle_blocks.specs.Reports.{pairs_without, partners, pos_order, positions};
@@ -26,8 +26,8 @@ pub(crate) struct Group {
     pub(crate) others: Seq<Pos>,
 }
 
-/// The errors of all rules that overlap or shadow others, ascending by the position of the rule that heads them. The
-/// pairs are of places in the list of rules.
+/// The errors of all rules that overlap or shadow others, ascending by the position of the rule that heads them; of one
+/// rule's the overlaps first. The pairs are of places in the list of rules.
 pub fn report_faults(
     alloc: Global,
     rules: &[RulePlace],
@@ -45,9 +45,10 @@ pub fn report_faults(
     errors_from(alloc, groups.as_slice())
 }
 
-/// Sorts groups by the positions of their heads.
+/// Sorts groups by the positions of their heads; at one position they stay in the order in which they stood.
 fn sort_groups(groups: &mut Vec<Group>) -> Result<(), AllocError>
     ensures moved { IsPermutation groups.old.items groups.new.items }
+    ensures stable { IsStableByKey (λ group. group.head.pos) pos_order groups.old.items groups.new.items }
     ensures ascending { OnOk result (IsSortedByKey (λ group. group.head.pos) pos_order groups.new.items) }
 {
     groups.sort_by_key(|group: &Group| group.head.pos)

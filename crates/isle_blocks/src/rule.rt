@@ -1,16 +1,18 @@
-ghost use Rattle.std.specs.Prelude.{◌≡◌, ◌+◌, ◌↔◌, IsTrue, MatchOption, length};
+ghost use Rattle.std.specs.Prelude.{◌≡◌, ◌+◌, ◌↔◌, IfOk, IsTrue, MatchOption, length};
 ghost use Rattle.std.specs.BTreeMap.{is_at};
 ghost use Rattle.std.specs.Map.{lookup};
 ghost use Rattle.std.specs.Option.{option_copied};
 ghost use Rattle.std.specs.Ordering.{nat_cmp};
 ghost use Rattle.isle_types.specs.JoinedSets.{members};
+ghost use Rattle.isle_blocks.specs.ListedSets.{ListsEqualSites};
 ghost use Rattle.isle_blocks.specs.Rules.{AreApart, HaveInCommon, OverlapIs, Overlaps, Shadows, site_cmp};
 
 use crate::constraint::Constraint;
 use crate::ids::BindingId;
 use isle_syntax::Seq;
 use isle_syntax::lexer::Pos;
-use isle_types::{DisjointSets, RuleId, SortedMap, Sym};
+use isle_types::{DisjointSets, RuleId, SortedMap, Sym, sets_are_disjoint};
+use std::alloc::{AllocError, Global};
 use std::cmp::Ordering;
 
 /// A rule of a rule set, by what it demands of sites.
@@ -22,7 +24,7 @@ pub struct Rule {
     pub constraints: SortedMap<BindingId, Constraint>,
     /// The sites without a test whose values must be equal.
     pub equals: DisjointSets<BindingId>,
-    /// The sites of multi calls, ascending.
+    /// The sites of multi calls, each once, ascending.
     pub iterators: Seq<BindingId>,
     pub prio: i64,
     pub name: Option<Sym>,
@@ -54,6 +56,25 @@ impl Rule {
         ensures { result ≡ length self.now.constraints + length (members self.now.equals) }
     {
         self.constraints.len() + self.equals.len()
+    }
+
+    /// The sites that must be equal, set by set: each set once, its sites ascending, the set with the least site first.
+    pub fn equal_sites(&self, alloc: Global) -> Result<Vec<Seq<BindingId>>, AllocError>
+        ensures { IfOk result (λ sets. ListsEqualSites self.now.equals sets.items) }
+    {
+        let mut left = self.equals.clone()?;
+        let mut sets = Vec::new(alloc);
+        for number in 0..65536u32 {
+            if left.is_empty() {
+                break;
+            }
+            sets_are_disjoint(&left);
+            let set = left.remove_set_of(BindingId(number as u16))?;
+            if !set.is_empty() {
+                sets.push(Seq::new(set))?;
+            }
+        }
+        Ok(sets)
     }
 
     /// Whether some arguments may match both rules, which are of one rule set.

@@ -8,8 +8,8 @@ ghost use Rattle.isle_meaning.specs.Facts.{TermFacts};
 ghost use Rattle.isle_blocks.specs.Building.Contents.{Marked};
 ghost use Rattle.isle_blocks.specs.ClosureFields.{IsTable};
 ghost use Rattle.isle_blocks.specs.DefinedSets.{AreDefined, facts_by, rules_by, ListsNumbers, AreSetsOf};
-ghost use Rattle.isle_blocks.specs.GatheredSets.{AreSetsBelow, GathersRules, IsOfTerm, MarksThose, AreLost, IsLostBelow};
-ghost use Rattle.isle_blocks.specs.RuleFaults.{IsUnreachableAt, IsOneSizeFault, TellUnreachable, size_error_at, unreachable_error};
+ghost use Rattle.isle_blocks.specs.GatheredSets.{AreSetsBelow, AreRulesUpTo, GathersRules, IsOfTerm, MarksThose, AreLost, IsLostBelow};
+ghost use Rattle.isle_blocks.specs.RuleFaults.{AreWithinSize, IsUnreachableAt, IsOneSizeFault, TellUnreachable, size_error_at, unreachable_error};
 ghost use Rattle.isle_blocks.specs.RuleSets.{no_rules};
 
 use crate::rule_set::RuleSet;
@@ -28,13 +28,15 @@ pub struct TermSets {
     pub unreachable: Vec<Error>,
 }
 
-/// The rule sets of an environment of terms. A rule set with more than 65,536 sites is one size error alone, at the rule
-/// that can't be added.
+/// The rule sets of an environment of terms. Rules with more than 65,536 sites are one size error alone, at the first rule, term
+/// by term, that doesn't fit alone or beside its term's rules before it.
 pub fn build(alloc: Global, termenv: &TermEnv) -> Result<TermSets, Refusal<Vec<Error>>>
     requires defined { AreDefined termenv.now }
     ensures sets { IfOk result (λ made. (d : AreDefined termenv.now) → AreSetsOf termenv.now d made.sets.items) }
     ensures unreachable { IfOk result (λ made. (d : AreDefined termenv.now)
         → TellUnreachable (facts_by termenv.now d) (rules_by termenv.now d) made.unreachable.items) }
+    ensures within { IfOk result (λ _. (d : AreDefined termenv.now) (term : ℕ)
+        → AreWithinSize (facts_by termenv.now d) (rules_by termenv.now d) term) }
     ensures full { IfErr result (λ r. IfFault r (λ errors. (d : AreDefined termenv.now)
         → IsOneSizeFault (facts_by termenv.now d) (rules_by termenv.now d) errors.items)) }
 {
@@ -91,6 +93,8 @@ fn rule_sets(
     ensures sets { IfOk result (λ sets. (d : AreDefined termenv.now) → AreSetsBelow termenv.now d (length places.now) sets.items) }
     ensures lost { IfOk result (λ _. (d : AreDefined termenv.now)
         → MarksThose (IsLostBelow termenv.now d (length places.now)) lost.old.items lost.new.items) }
+    ensures within { IfOk result (λ _. (d : AreDefined termenv.now) (term : ℕ) → term < length places.now
+        → AreWithinSize (facts_by termenv.now d) (rules_by termenv.now d) term) }
     ensures full { IfErr result (λ r. IfFault r (λ errors. (d : AreDefined termenv.now)
         → IsOneSizeFault (facts_by termenv.now d) (rules_by termenv.now d) errors.items)) }
 {
@@ -122,7 +126,8 @@ fn rule_set_of(
     ensures lost { IfOk result (λ _. (d : AreDefined termenv.now)
         → MarksThose (AreLost termenv.now d places.now) lost.old.items lost.new.items) }
     ensures full { IfErr result (λ r. IfFault r (λ errors. (d : AreDefined termenv.now) (term : ℕ)
-        → All (IsOfTerm termenv.now.rules term) places.now
+        → ListsNumbers (IsOfTerm termenv.now.rules term) places.now
+        → ((lesser : ℕ) → lesser < term → AreWithinSize (facts_by termenv.now d) (rules_by termenv.now d) lesser)
         → IsOneSizeFault (facts_by termenv.now d) (rules_by termenv.now d) errors.items)) }
 {
     let mut set = RuleSet::new(alloc);
@@ -144,6 +149,7 @@ fn add_at(
     requires within { place < length termenv.now.rules }
     requires lost_fits { length lost.old.items ≡ length termenv.now.rules }
     requires table { IsTable set.old.sites }
+    requires fits { length set.old.sites ≤ 65536 }
     ensures gathered { IfOk result (λ _. (d : AreDefined termenv.now) (before : List ℕ) → GathersRules termenv.now d before set.old
         → GathersRules termenv.now d (before ++ place ∷ []) set.new) }
     ensures kept { IfOk result (λ _. IsTable set.new.sites) }
@@ -151,7 +157,8 @@ fn add_at(
     ensures lost { IfOk result (λ _. (d : AreDefined termenv.now)
         → MarksThose (AreLost termenv.now d (place ∷ [])) lost.old.items lost.new.items) }
     ensures full { IfErr result (λ r. IfFault r (λ errors. (d : AreDefined termenv.now) (before : List ℕ) (term : ℕ)
-        → GathersRules termenv.now d before set.old → All (IsOfTerm termenv.now.rules term) (before ++ place ∷ [])
+        → GathersRules termenv.now d before set.old → AreRulesUpTo termenv.now.rules term before place
+        → ((lesser : ℕ) → lesser < term → AreWithinSize (facts_by termenv.now d) (rules_by termenv.now d) lesser)
         → IsOneSizeFault (facts_by termenv.now d) (rules_by termenv.now d) errors.items)) }
 {
     let rule = &termenv.rules()[place];

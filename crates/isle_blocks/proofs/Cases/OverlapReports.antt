@@ -1,6 +1,10 @@
 -- Which rules head the errors of three rules, and which rules each error lists.
-use Rattle.std.proofs.Common.{◌≡◌, ◌<◌, ◌≤◌, ℕ, zero, suc, false, List, [], ◌∷◌, Some, slice_get, codes, refl, subst, arith}
+use Rattle.std.proofs.Common.{◌≡◌, ◌≢◌, ◌<◌, ◌≤◌, ℕ, zero, suc, true, false, List, [], ◌∷◌, ◌++◌, Some, slice_get, codes, refl, sym, subst, ◌∙◌, inl, inr, arith}
+use Rattle.std.specs.List.{filter}
 use Rattle.std.specs.List.Sorted.{IsSorted, IsSortedByKey}
+use Rattle.std.proofs.lemmas.Bool.{cases_Bool}
+use Rattle.std.proofs.lemmas.Bool.Decides.{nat_tests}
+use Rattle.std.proofs.lemmas.List.{append-nil}
 use Rattle.std.specs.Ordering.{is_gt}
 use Rattle.std.proofs.lemmas.List.Sorted.{IsPermutation-refl}
 use Rattle.isle_syntax.specs.declared.lexer.Pos.{Pos}
@@ -9,7 +13,7 @@ use Rattle.isle_syntax.specs.declared.error.Error.TheVariants.{OverlapError}
 use Rattle.isle_blocks.specs.declared.faults.Fault.TheVariants.{Overlap}
 use Rattle.isle_blocks.specs.declared.report.RulePlace.{RulePlace}
 use Rattle.isle_blocks.specs.declared.report.Group.{Group}
-use Rattle.isle_blocks.specs.Reports.{pos_order, place_order, partner_count, IsGreatest, AreGroups, no_pairs, headed, IsReport}
+use Rattle.isle_blocks.specs.Reports.{pos_order, place_order, partner_count, IsGreatest, AreGroups, no_pairs, headed, IsReport, is_headed_at}
 
 abbrev pub byte : ℕ → Pos
 byte offset = record { file = 0; offset = offset }
@@ -46,6 +50,26 @@ second_before_third (suc k) d low high = absurd (omega arith)
 second_before_fourth : IsSorted pos_order (byte 17 ∷ byte 47 ∷ [])
 second_before_fourth zero d low high = refl
 second_before_fourth (suc k) d low high = absurd (omega arith)
+
+-- one group at each position is in turn
+pub alone_in_turn : (group : Group) (pos : Pos)
+    → filter (is_headed_at pos) (group ∷ []) ≡ filter (is_headed_at pos) (group ∷ []) ++ filter (is_headed_at pos) []
+alone_in_turn group pos = sym (append-nil (filter (is_headed_at pos) (group ∷ [])))
+
+-- a group's head stands at the offset of its position
+pub same_offset : (group : Group) (pos : Pos) → is_headed_at pos group ≡ true → group.head.pos.offset ≡ pos.offset
+same_offset group pos is = grind (arith, nat_tests)
+
+-- so are two whose heads stand at different offsets
+pub apart_in_turn : (one other : Group) → one.head.pos.offset ≢ other.head.pos.offset → (pos : Pos)
+    → filter (is_headed_at pos) (other ∷ one ∷ []) ≡ filter (is_headed_at pos) (one ∷ other ∷ [])
+apart_in_turn one other apart pos = elim (cases_Bool (is_headed_at pos one)) [
+  | inl here ↦ elim (cases_Bool (is_headed_at pos other)) [
+    | inl there ↦ absurd (apart (same_offset one pos here ∙ sym (same_offset other pos there)))
+    | inr elsewhere ↦ rw (here, elsewhere) refl
+  ]
+  | inr away ↦ rw away refl
+]
 
 -- (rule (f _) 1), (rule (f _) 2) and (rule (f _) 3) overlap each with each
 abbrev each_with_each : List (ℕ × ℕ)
@@ -110,6 +134,8 @@ report_of_three = record {
   shadowing_are = no_pairs;
   moved = record { moves = (0, 1) ∷ []; below = (omega arith, omega arith, tt); is = refl };
   ascending = ascends;
+  in_turn = λ pos. apart_in_turn of_fourth of_third (λ same. omega (arith, same)) pos
+      ∙ sym (append-nil (filter (is_headed_at pos) (of_fourth ∷ of_third ∷ [])));
   errors_are = refl;
 }
   where
@@ -157,6 +183,7 @@ report_of_chain = record {
   shadowing_are = no_pairs;
   moved = IsPermutation-refl (of_middle ∷ []);
   ascending = λ k d low high. absurd (omega arith);
+  in_turn = alone_in_turn of_middle;
   errors_are = refl;
 }
 

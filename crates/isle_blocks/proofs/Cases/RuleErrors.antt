@@ -1,6 +1,6 @@
 -- The errors of the rules (f 5), (f (and 1 2)) and (f _): the second never matches, and the third overlaps the first.
-use Rattle.std.proofs.Common.{◌≡◌, ◌<◌, ◌≤◌, ◌<ℤ◌, inl, inr, ℕ, zero, suc, ℤ, pos, false, List, [], ◌∷◌, Some, slice_get}
-use Rattle.std.proofs.Common.{codes, refl, ap, subst, arith}
+use Rattle.std.proofs.Common.{◌≡◌, ◌<◌, ◌≤◌, ◌<ℤ◌, inl, inr, ℕ, zero, suc, ℤ, pos, Bool, true, false, List, [], ◌∷◌, ◌++◌, Some, slice_get}
+use Rattle.std.proofs.Common.{codes, refl, sym, ap, subst, arith}
 use Rattle.std.specs.Prelude.{Contains}
 use Rattle.std.specs.Ordering.{is_gt}
 use Rattle.std.proofs.lemmas.List.Sorted.{IsPermutation-refl}
@@ -8,17 +8,24 @@ use lib.Signed.{<ℤ_irrefl}
 use Rattle.isle_syntax.specs.declared.lexer.Pos.{Pos}
 use Rattle.isle_syntax.specs.declared.error.Error.{Error}
 use Rattle.isle_syntax.specs.declared.error.Error.TheVariants.{OverlapError}
-use Rattle.isle_terms.specs.TypedRules.{TypedRule, typed_wildcard}
+use Rattle.isle_terms.specs.TypedRules.{TypedPattern, TypedRule, typed_int, typed_wildcard, typed_and, no_typed, more_typed}
 use Rattle.isle_meaning.specs.Facts.{TermFacts}
-use Rattle.isle_meaning.specs.Demands.{Demand, Among}
-use Rattle.isle_meaning.specs.Derived.{Derived, demanded, flipped, chained, shared, like_variant, like_struct}
+use Rattle.isle_meaning.specs.Sites.{Site, argument, int_site}
+use Rattle.isle_meaning.specs.Demands.{Demand, Among, some_of}
+use Rattle.isle_meaning.specs.Derived.{Derived, demanded, flipped, chained, shared, like_variant, like_struct, FieldOf, of_variant, of_struct}
+use Rattle.isle_meaning.specs.Laws.Matching.{DemandOf}
+use Rattle.isle_meaning.specs.Needs.{needs, IsNeeded}
+use Rattle.isle_meaning.specs.Numbered.{Row, argument_row, int_row, make_some_row}
 use Rattle.isle_blocks.specs.declared.faults.Fault.TheVariants.{Overlap}
 use Rattle.isle_blocks.specs.declared.report.RulePlace.{RulePlace}
 use Rattle.isle_blocks.specs.declared.report.Group.{Group}
 use Rattle.isle_blocks.specs.Reports.{place_order, partner_count, IsGreatest, no_pairs, headed, IsReport}
+use Rattle.isle_blocks.specs.Closure.{Stands}
 use Rattle.isle_blocks.specs.RuleFaults.{NeverMatches, MayMatch, MayMatchAt, AreOverlapping, IsShadowing, one_may_match}
+use Rattle.isle_blocks.specs.RuleFaults.{NeedsStand, SitesStand, FitsAlone, AreWithinSize}
 use Rattle.isle_blocks.specs.RuleFaults.{TellRivals, AreRuleErrors, of_rules, places_from, unreachable_error}
-use Rattle.isle_blocks.proofs.Cases.SizesAndErrors.{here, there, rule_at, five, both, five_may_match, both_never_match, told}
+use Rattle.isle_blocks.proofs.Cases.OverlapReports.{alone_in_turn}
+use Rattle.isle_blocks.proofs.Cases.SizesAndErrors.{here, there, rule_at, five, both, five_may_match, both_never_match, told, alone}
 
 -- the byte 11 of that file
 abbrev last : Pos
@@ -144,6 +151,7 @@ module _ (facts : TermFacts) (single : facts.multi 4 ≡ false) where
     shadowing_are = no_pairs;
     moved = IsPermutation-refl (group ∷ []);
     ascending = λ k d low high. absurd (omega arith);
+    in_turn = alone_in_turn group;
     errors_are = refl;
   }
 
@@ -159,6 +167,70 @@ module _ (facts : TermFacts) (single : facts.multi 4 ≡ false) where
     report = reported;
   }
 
+  -- each of the three needs its argument and the literal, and their result may be the made option of that
+  abbrev sites : List Row
+  sites = argument_row 0 ∷ int_row (pos 0) 3 ∷ make_some_row 1 ∷ []
+
+  literal_stands : (partial : Bool) → Stands sites (some_of partial (int_site (pos 0) 3))
+  literal_stands true = (2, (1, refl, refl))
+  literal_stands false = (1, refl)
+
+  both_stand : (s : Site) → IsNeeded (argument 0 ∷ int_site (pos 0) 3 ∷ []) s → Stands sites s
+  both_stand s (inl first) = subst (λ (u : Site). Stands sites u) (sym first) (0, refl)
+  both_stand s (inr (inl second)) = subst (λ (u : Site). Stands sites u) (sym second) (1, refl)
+  both_stand s (inr (inr none)) = absurd none
+
+  sites_of : (pattern : TypedPattern) (at : Pos) → needs facts pattern (argument 0) ≡ [] → NeedsStand facts sites (rule_at at pattern)
+  sites_of pattern at nothing_more = record {
+    needed = λ s needed.
+        both_stand s (subst (λ (more : List Site). IsNeeded (argument 0 ∷ ((more ++ []) ++ (int_site (pos 0) 3 ∷ []))) s) nothing_more needed);
+    result = literal_stands (facts.partial 4);
+  }
+
+  no_field_of_five : (s u : Site) → FieldOf (DemandOf facts five) s u → ⊥
+  no_field_of_five s u (of_variant is less) = let same = alone _ is in absurd cc
+  no_field_of_five s u (of_struct is less) = let same = alone _ is in absurd cc
+
+  no_field_of_any : (s u : Site) → FieldOf (DemandOf facts any) s u → ⊥
+  no_field_of_any s u (of_variant is less) = nothing _ is
+  no_field_of_any s u (of_struct is less) = nothing _ is
+
+  each_stands : (term i : ℕ) (reached : MayMatchAt facts rules term i) → SitesStand facts sites reached.rule
+  each_stands term zero reached =
+      let same : five ≡ reached.rule = let e = reached.at in cc in
+      subst (λ (rule : TypedRule). SitesStand facts sites rule) same
+      (record { own = sites_of (typed_int 3 (pos 5)) here refl; fields = λ s u field. absurd (no_field_of_five s u field) })
+  each_stands term (suc zero) reached = absurd (not_second term reached)
+  each_stands term (suc (suc zero)) reached =
+      let same : any ≡ reached.rule = let e = reached.at in cc in
+      subst (λ (rule : TypedRule). SitesStand facts sites rule) same
+      (record { own = sites_of (typed_wildcard 3) last refl; fields = λ s u field. absurd (no_field_of_any s u field) })
+  each_stands term (suc (suc (suc i))) reached = absurd (not_beyond term i reached)
+
+  each_fits : (i : ℕ) (rule : TypedRule) → slice_get rules i ≡ Some rule → FitsAlone facts rule
+  each_fits zero rule at = let same : five ≡ rule = cc in
+      subst (λ (r : TypedRule). FitsAlone facts r) same
+      (record { table = sites; few = omega arith; own = sites_of (typed_int 3 (pos 5)) here refl })
+  each_fits (suc zero) rule at = let same : both ≡ rule = cc in
+      subst (λ (r : TypedRule). FitsAlone facts r) same
+      (record {
+        table = sites;
+        few = omega arith;
+        own = sites_of (typed_and 3 (more_typed (typed_int 3 (pos 1)) (more_typed (typed_int 3 (pos 2)) no_typed))) there refl;
+      })
+  each_fits (suc (suc zero)) rule at = let same : any ≡ rule = cc in
+      subst (λ (r : TypedRule). FitsAlone facts r) same
+      (record { table = sites; few = omega arith; own = sites_of (typed_wildcard 3) last refl })
+  each_fits (suc (suc (suc i))) rule at = absurd cc
+
+  -- so none of them is too large
+  pub within : (term : ℕ) → AreWithinSize facts rules term
+  within term = record {
+    alone = λ i rule at of_term. each_fits i rule at;
+    together = record { table = sites; few = omega arith; stand = each_stands term };
+  }
+
   -- first the rule that never matches, then the two that overlap
   pub errors : AreRuleErrors facts rules (unreachable_error there ∷ overlap ∷ [])
-  errors = of_rules (unreachable_error there ∷ []) (overlap ∷ []) (one_may_match any any_may_match (told facts)) rivals_told refl (omega arith)
+  errors =
+      of_rules (unreachable_error there ∷ []) (overlap ∷ []) within (one_may_match any any_may_match (told facts)) rivals_told refl (omega arith)

@@ -1,14 +1,15 @@
 -- The errors of a rule that shadows two others, which overlap each other.
-use Rattle.std.proofs.Common.{◌≡◌, ◌<◌, ◌≤◌, ℕ, zero, suc, false, List, [], ◌∷◌, Some, slice_get, codes, refl, arith}
+use Rattle.std.proofs.Common.{◌≡◌, ◌<◌, ◌≤◌, ℕ, zero, suc, false, List, [], ◌∷◌, Some, slice_get, codes, refl, ◌∙◌, arith}
 use Rattle.std.specs.List.Sorted.{IsSorted, IsSortedByKey}
 use Rattle.std.specs.Ordering.{is_gt}
+use Rattle.std.proofs.lemmas.List.Elements.{filter-append}
 use Rattle.std.proofs.lemmas.List.Sorted.{IsPermutation-refl}
 use Rattle.isle_syntax.specs.declared.error.Error.TheVariants.{OverlapError, ShadowedError}
 use Rattle.isle_blocks.specs.declared.faults.Fault.TheVariants.{Overlap, Shadow}
 use Rattle.isle_blocks.specs.declared.report.RulePlace.{RulePlace}
 use Rattle.isle_blocks.specs.declared.report.Group.{Group}
-use Rattle.isle_blocks.specs.Reports.{pos_order, place_order, partner_count, IsGreatest, no_pairs, headed, IsReport}
-use Rattle.isle_blocks.proofs.Cases.OverlapReports.{byte, span, second_line, third_line, fourth_line, lines, not_later, one_ascends}
+use Rattle.isle_blocks.specs.Reports.{pos_order, place_order, partner_count, IsGreatest, no_pairs, headed, IsReport, is_headed_at}
+use Rattle.isle_blocks.proofs.Cases.OverlapReports.{byte, span, second_line, third_line, fourth_line, lines, not_later, one_ascends, apart_in_turn}
 
 -- (rule 1 (f _) 1) leaves (rule (f _) 2) and (rule (f _) 3) nothing to match
 abbrev shadows : List (ℕ × ℕ)
@@ -75,6 +76,7 @@ report = record {
       (record { fault_is = refl; head_is = refl; moved = IsPermutation-refl (byte 32 ∷ byte 47 ∷ []); ascending = third_before_fourth }) no_pairs;
   moved = record { moves = (0, 1) ∷ []; below = (omega arith, omega arith, tt); is = refl };
   ascending = ascends;
+  in_turn = λ pos. apart_in_turn of_fourth of_second (λ same. omega (arith, same)) pos ∙ filter-append (is_headed_at pos) (of_fourth ∷ []) (of_second ∷ []);
   errors_are = refl;
 }
   where

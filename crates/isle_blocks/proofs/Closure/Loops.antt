@@ -16,7 +16,7 @@ use Rattle.isle_blocks.specs.declared.binding.Binding.{Binding}
 use Rattle.isle_blocks.specs.declared.constraint.Constraint.{Constraint}
 use Rattle.isle_blocks.specs.Rows.{rows_of, test_of}
 use Rattle.isle_blocks.specs.ClosureFields.{IsTable, field_binding, field_site}
-use Rattle.isle_blocks.specs.ClosureStates.{HasOwn, AreClasses, IsSound, IsChildAt, Reaches, Once, Further, HasLoop, HasUnmarkedChild}
+use Rattle.isle_blocks.specs.ClosureStates.{HasOwn, AreClasses, IsSound, IsChildAt, Reaches, Once, Further, HasLoop, IsUnmarkedChild}
 use Rattle.isle_blocks.specs.ClosureStates.{ChildrenAreMarked, is_marked}
 use Rattle.isle_blocks.proofs.Closure.Trees.{stands, field_at}
 use Rattle.isle_blocks.proofs.Closure.Merge.{equal_back, equal_chain, equal_has, equal_parts, field_of}
@@ -40,9 +40,6 @@ pub either : (b : Bool) → (b ≡ true) ⊎ (b ≡ false)
 either true = inl refl
 either false = inr refl
 
-unfoldable pub unmarked_count : List Bool → ℕ → ℕ
-unmarked_count marks n = count_to (λ k. opposite (is_marked marks k)) n
-
 pub mark_same : (marks : List Bool) (r : ℕ) → r < length marks → is_marked (set marks r true) r ≡ true
 mark_same marks r h = get_or-set_same marks r true false h
 
@@ -54,17 +51,6 @@ mark_keeps marks r k h e = elim (cases_eq k r) [
 
 pub mark_before : (marks : List Bool) (r k : ℕ) → is_marked (set marks r true) k ≡ true → (k ≡ r) ⊎ (is_marked marks k ≡ true)
 mark_before marks r k e = elim (cases_eq k r) [ inl s ↦ inl s | inr n ↦ inr (sym (get_or-set_other marks r k true false n) ∙ e) ]
-
-pub fewer_unmarked : (marks : List Bool) (n r : ℕ) → length marks ≡ n → r < n → is_marked marks r ≡ false → unmarked_count (set marks r true) n < unmarked_count marks n
-unfolding unmarked_count
-fewer_unmarked marks n r fits h e =
-    let l : r < length marks = omega arith in
-    count_falls (λ k. opposite (is_marked (set marks r true) k)) (λ k. opposite (is_marked marks k)) n r
-    (λ k m q. elim (either (is_marked marks k)) [
-      | inl t ↦ absurd (false≢true (sym (opposite-false (is_marked (set marks r true) k) (mark_keeps marks r k l t)) ∙ q))
-      | inr f ↦ opposite-true (is_marked marks k) f
-    ])
-    h (opposite-false (is_marked (set marks r true) r) (mark_same marks r l)) (opposite-true (is_marked marks r) e)
 
 module _ (table : List Binding) (own : List (Option Constraint)) (class : List ℕ) where
   -- the marked sites rank above their children
@@ -123,7 +109,7 @@ module _ (table : List Binding) (own : List (Option Constraint)) (class : List �
   }
 
   -- Where each unmarked site has an unmarked child, a walk comes back.
-  module _ (marks : List Bool) (stuck : (r : ℕ) → r < length table → is_marked marks r ≡ false → HasUnmarkedChild table own class marks r)
+  module _ (marks : List Bool) (stuck : (r : ℕ) → r < length table → is_marked marks r ≡ false → (k : ℕ) × IsUnmarkedChild table own class marks r k)
       (below : (g : ℕ) → g < length table → get_or class g 0 < length table) where
     abbrev pub with_one : (ℕ → Bool) → ℕ → ℕ → Bool
     with_one seen r k = cond (eqb k r) true (seen k)
@@ -134,8 +120,7 @@ module _ (table : List Binding) (own : List (Option Constraint)) (class : List �
     walk (suc fuel) seen r h l u reach = elim (either (seen r)) [
       | inl t ↦ record { at = r; inside = l; round = reach r t }
       | inr f ↦
-          let next = stuck r l u in
-          let k = next.child in
+          let (k, next) = stuck r l u in
           let c = next.is_child in
           let k_in : k < length table = subst (λ (z : ℕ). z < length table) (c.leads) (below (next.field) (slice_get_within table (next.field) (field_binding c.kind r c.index) c.field)) in
           let same : (j : ℕ) → j ≡ r → with_one seen r j ≡ true = λ j e. ap (λ (b : Bool). cond b true (seen j)) (eq-eqb j r e) in

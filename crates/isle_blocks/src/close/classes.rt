@@ -3,12 +3,13 @@ ghost use Rattle.std.specs.Prelude.{◌≡◌, ◌≢◌, ◌<◌, ◌≤◌, �
 ghost use Rattle.isle_meaning.specs.Faults.{Conflict};
 ghost use Rattle.isle_blocks.specs.Rows.{pairs_of};
 ghost use Rattle.isle_blocks.specs.ClosureFields.{IsTable, AreFields, kind_of};
-ghost use Rattle.isle_blocks.specs.ClosureStates.{HasOwn, AreOwn, HasTwo, IsJoined, LackLikeFields, HaveLikeFields, AreLikeFields, IsLike, IsChoice, IsClash, AllPairs, WasPushed};
-ghost use Rattle.isle_blocks.specs.ClosureStates.{LikesAreIn, ArePairsBelow, AreClasses, IsSound, IsClosed, ForDemands};
+ghost use Rattle.isle_blocks.specs.ClosureStates.{HasOwn, AreOwn, HasTwo, IsJoined, LackLikeFields, HaveLikeFields, AreLikeFields, IsChoice, IsClash, AllPairs, WasPushed};
+ghost use Rattle.isle_blocks.specs.ClosureStates.{LikesAreIn, ArePairsBelow, AreClasses, AreMembers, IsLikeAmong, IsSound, IsClosed, ForDemands, ListMembers};
 ghost use Rattle.isle_blocks.specs.declared.ids.BindingId.{BindingId as Number};
 ghost use Rattle.isle_blocks.specs.declared.constraint.Constraint.{Constraint as Test};
 
 use super::fields::{Opening, find_field, opens, same};
+use super::lists::SiteLists;
 use crate::constraint::Constraint;
 use crate::ids::BindingId;
 use crate::sites::Sites;
@@ -83,13 +84,12 @@ pub(super) fn next_apart(
 }
 
 /// Gives the members of one class to another.
-pub(super) fn relabel(class: &mut [usize], drop: usize, keep: usize)
+pub(super) fn relabel(class: &mut [usize], members: &[usize], drop: usize, keep: usize)
+    requires { AreMembers class.old drop members.now }
     ensures { IsJoined class.old class.new drop keep }
 {
-    for c in class.iter_mut() {
-        if *c == drop {
-            *c = keep;
-        }
+    for member in members {
+        class[*member] = keep;
     }
 }
 
@@ -138,41 +138,50 @@ pub(super) fn push_fields(
 /// Lists the fields of a class's members beside the like fields of another class's representative.
 pub(super) fn push_like(
     sites: &Sites,
-    class: &[usize],
-    drop: usize,
+    members: &[usize],
     keep: usize,
     test: Constraint,
     pending: &mut Vec<(usize, usize)>,
 ) -> Result<(), AllocError>
-    requires fits { length class.now ≡ length sites.now }
+    requires within { (a : ℕ) → Contains members.now a → a < length sites.now }
     requires bound { length sites.now ≤ 65536 }
     requires keep_in { keep < length sites.now }
     requires table { IsTable sites.now }
-    ensures pushed { AllPairs pending.new.items (λ a b. Contains pending.old.items (a, b) ⊎ IsLike sites.now class.now drop keep test a b) }
+    ensures pushed { AllPairs pending.new.items (λ a b. Contains pending.old.items (a, b) ⊎ IsLikeAmong sites.now members.now keep test a b) }
     ensures kept { IfOk result (λ _. AllPairs pending.old.items (λ a b. Contains pending.new.items (a, b))) }
-    ensures all { IfOk result (λ _. (f g : ℕ) → IsLike sites.now class.now drop keep test f g → Contains pending.new.items (f, g)) }
+    ensures all { IfOk result (λ _. (f g : ℕ) → IsLikeAmong sites.now members.now keep test f g → Contains pending.new.items (f, g)) }
 {
     let Some(opening) = opens(test) else {
         return Ok(());
     };
-    for (member, root) in class.iter().enumerate() {
-        if *root == drop {
-            push_fields(sites, member, keep, test, opening, pending)?;
-        }
+    for member in members {
+        push_fields(sites, *member, keep, test, opening, pending)?;
     }
     Ok(())
 }
 
-/// Which of two representatives to keep: one with a test, if there is one; nothing where they clash.
-pub(super) fn choose(own: &[Option<Constraint>], a: usize, b: usize) -> Option<(usize, usize)>
+/// Which of two representatives to keep: one with a test, if there is one, else that of more sites; nothing where they clash.
+pub(super) fn choose(
+    own: &[Option<Constraint>],
+    members: &SiteLists,
+    a: usize,
+    b: usize,
+) -> Option<(usize, usize)>
     requires a_in { a < length own.now }
     requires b_in { b < length own.now }
+    requires fits { length members.now ≡ length own.now }
     ensures { MatchOption result (IsClash own.now a b) (λ p. IsChoice own.now a b p.0 p.1) }
 {
     match (own[a], own[b]) {
-        (None, _) => Some((a, b)),
-        (Some(_), None) => Some((b, a)),
-        (Some(c), Some(d)) => { if same(c, d) { Some((a, b)) } else { None } }
+        (None, Some(_)) => return Some((a, b)),
+        (Some(_), None) => return Some((b, a)),
+        (Some(c), Some(d)) if !same(c, d) => return None,
+        _ => {}
+    }
+    if members.get(a).len() <= members.get(b).len() {
+        Some((a, b))
+    } else {
+        Some((b, a))
     }
 }
 
@@ -189,6 +198,7 @@ pub(super) fn join(
     sites: &Sites,
     own: &[Option<Constraint>],
     class: &mut [usize],
+    members: &mut SiteLists,
     drop: usize,
     keep: usize,
     pending: &mut Vec<(usize, usize)>,
@@ -196,17 +206,23 @@ pub(super) fn join(
     requires fits { length class.old ≡ length sites.now }
     requires own_fits { length own.now ≡ length sites.now }
     requires bound { length sites.now ≤ 65536 }
+    requires drop_in { drop < length sites.now }
     requires keep_in { keep < length sites.now }
+    requires apart { drop ≢ keep }
     requires table { IsTable sites.now }
+    requires members { ListMembers class.old members.old }
     ensures joined { IfOk result (λ _. IsJoined class.old class.new drop keep) }
+    ensures members { IfOk result (λ _. ListMembers class.new members.new) }
     ensures pushed { AllPairs pending.new.items (λ a b. WasPushed sites.now own.now class.old drop keep pending.old.items a b) }
     ensures kept { IfOk result (λ _. AllPairs pending.old.items (λ a b. Contains pending.new.items (a, b))) }
     ensures likes { IfOk result (λ _. LikesAreIn sites.now own.now class.old drop keep pending.new.items) }
 {
+    let dropped = members.get(drop);
     if let Some(test) = own_test(own, keep) {
-        push_like(sites, class, drop, keep, test, pending)?;
+        push_like(sites, dropped, keep, test, pending)?;
     }
-    relabel(class, drop, keep);
+    relabel(class, dropped, drop, keep);
+    members.join(drop, keep)?;
     Ok(())
 }
 
@@ -228,11 +244,22 @@ pub(super) fn unify(
     ensures clash { IfOk result (λ r. IfNone r (ForDemands sites.now equals.now own.now (λ name D. Conflict D))) }
 {
     let mut class = alone(alloc, sites.len())?;
+    let mut members = SiteLists::alone(alloc, sites.len())?;
     let mut pending = Vec::from_slice(alloc, equals)?;
     while let Some((x, y)) = next_apart(&mut pending, &class) {
-        match choose(own, class[x], class[y]) {
+        match choose(own, &members, class[x], class[y]) {
             None => return Ok(None),
-            Some((drop, keep)) => join(sites, own, &mut class, drop, keep, &mut pending)?,
+            Some((drop, keep)) => {
+                join(
+                    sites,
+                    own,
+                    &mut class,
+                    &mut members,
+                    drop,
+                    keep,
+                    &mut pending,
+                )?;
+            }
         }
     }
     Ok(Some(class))

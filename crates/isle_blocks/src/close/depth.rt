@@ -3,11 +3,12 @@ ghost use Rattle.std.specs.Prelude.{◌≡◌, ◌<◌, ◌≤◌, ℕ, Bool, tr
 ghost use Rattle.isle_types.specs.Names.{AreDistinct};
 ghost use Rattle.isle_blocks.specs.Tables.{IsAbsent};
 ghost use Rattle.isle_blocks.specs.ClosureFields.{field_binding, kind_of};
-ghost use Rattle.isle_blocks.specs.ClosureStates.{HasOwn, AreClasses, IsRootOf, HasUnmarkedField, FieldsAreMarked, HasUnmarkedChild, ChildrenAreMarked};
+ghost use Rattle.isle_blocks.specs.ClosureStates.{AreClasses, IsRootOf, IsUnmarkedField, FieldsAreMarked, IsUnmarkedChild, ChildrenAreMarked};
 ghost use Rattle.isle_blocks.specs.ClosureStates.{is_marked, IsRanked, HasLoop};
 
-use super::classes::own_test;
+use super::classes::{alone, own_test};
 use super::fields::{Opening, find_field, opens};
+use super::lists::SiteLists;
 use crate::constraint::Constraint;
 use crate::sites::Sites;
 use isle_types::VariantId;
@@ -29,82 +30,73 @@ fn field_root(
     Some(class[field])
 }
 
-/// Whether a field of a site is in a class that isn't marked.
-fn has_unmarked_field(
+/// The class of the first field of a site that isn't in a marked class.
+fn unmarked_field(
     sites: &Sites,
     class: &[usize],
     marks: &[bool],
     source: usize,
     opening: Opening,
-) -> bool
+) -> Option<usize>
     requires bound { length sites.now ≤ 65536 }
     requires once { AreDistinct sites.now }
     requires classes { AreClasses (length sites.now) class.now }
     requires marks { length marks.now ≡ length sites.now }
     requires source_in { source < length sites.now }
-    ensures yes { result ≡ true → HasUnmarkedField sites.now class.now marks.now source (kind_of opening.variant) opening.fields.0 }
-    ensures no { result ≡ false → FieldsAreMarked sites.now class.now marks.now source (kind_of opening.variant) opening.fields.0 }
+    ensures some { IfSome result (λ k. IsUnmarkedField sites.now class.now marks.now source (kind_of opening.variant) opening.fields.0 k) }
+    ensures none { IfNone result (FieldsAreMarked sites.now class.now marks.now source (kind_of opening.variant) opening.fields.0) }
 {
     for index in 0..opening.fields.0 {
         if let Some(k) = field_root(sites, class, opening.variant, source, index) {
             if !marks[k] {
-                return true;
+                return Some(k);
             }
         }
     }
-    false
+    None
 }
 
-/// Whether a site has a child that isn't marked.
-fn has_unmarked_child(
+/// A child of a site that isn't marked.
+fn unmarked_child(
     sites: &Sites,
     own: &[Option<Constraint>],
     class: &[usize],
     marks: &[bool],
     r: usize,
-) -> bool
-    requires bound { length sites.now ≤ 65536 }
-    requires once { AreDistinct sites.now }
-    requires own { length own.now ≡ length sites.now }
-    requires classes { AreClasses (length sites.now) class.now }
-    requires marks { length marks.now ≡ length sites.now }
-    requires r_in { r < length sites.now }
-    ensures yes { result ≡ true → HasUnmarkedChild sites.now own.now class.now marks.now r }
-    ensures no { result ≡ false → ChildrenAreMarked sites.now own.now class.now marks.now r }
-{
-    let Some(test) = own_test(own, r) else {
-        return false;
-    };
-    let Some(opening) = opens(test) else {
-        return false;
-    };
-    has_unmarked_field(sites, class, marks, r, opening)
-}
-
-/// A site that isn't marked, though all its children are.
-fn find_ready(
-    sites: &Sites,
-    own: &[Option<Constraint>],
-    class: &[usize],
-    marks: &[bool],
 ) -> Option<usize>
     requires bound { length sites.now ≤ 65536 }
     requires once { AreDistinct sites.now }
     requires own { length own.now ≡ length sites.now }
     requires classes { AreClasses (length sites.now) class.now }
     requires marks { length marks.now ≡ length sites.now }
-    ensures some { IfSome result (λ r. (r < length sites.now) × (is_marked marks.now r ≡ false) × ChildrenAreMarked sites.now own.now class.now marks.now r) }
-    ensures none { IfNone result ((r : ℕ) → r < length sites.now → is_marked marks.now r ≡ false → HasUnmarkedChild sites.now own.now class.now marks.now r) }
+    requires r_in { r < length sites.now }
+    ensures some { IfSome result (λ k. IsUnmarkedChild sites.now own.now class.now marks.now r k) }
+    ensures none { IfNone result (ChildrenAreMarked sites.now own.now class.now marks.now r) }
 {
-    for r in 0..marks.len() {
-        if !marks[r] && !has_unmarked_child(sites, own, class, marks, r) {
-            return Some(r);
-        }
-    }
-    None
+    let Some(test) = own_test(own, r) else {
+        return None;
+    };
+    let Some(opening) = opens(test) else {
+        return None;
+    };
+    unmarked_field(sites, class, marks, r, opening)
 }
 
-/// Whether no site reaches itself.
+/// Whether all sites are marked.
+fn are_marked(marks: &[bool]) -> bool
+    ensures all { result ≡ true → (k : ℕ) → k < length marks.now → is_marked marks.now k ≡ true }
+    ensures some { result ≡ false → (k : ℕ) × (k < length marks.now) × (is_marked marks.now k ≡ false) }
+{
+    for mark in marks {
+        if !*mark {
+            return false;
+        }
+    }
+    true
+}
+
+/// Whether no site reaches itself. Sites are marked whose children all are, the last ones first; one with a child that isn't marked
+/// waits for it.
 pub(super) fn is_finite(
     alloc: Global,
     sites: &Sites,
@@ -119,13 +111,16 @@ pub(super) fn is_finite(
     ensures looped { IfOk result (λ yes. yes ≡ false → HasLoop sites.now own.now class.now) }
 {
     let mut marks: Vec<bool> = vec![in alloc; false; sites.len()]?;
-    while let Some(r) = find_ready(sites, own, class, &marks) {
-        marks[r] = true;
-    }
-    for mark in &marks {
-        if !*mark {
-            return Ok(false);
+    let mut waiting = SiteLists::new(alloc, sites.len())?;
+    let mut pending = alone(alloc, sites.len())?;
+    while let Some(r) = pending.pop() {
+        match unmarked_child(sites, own, class, &marks, r) {
+            Some(child) => waiting.add(child, r)?,
+            None => {
+                marks[r] = true;
+                waiting.take(r, &mut pending)?;
+            }
         }
     }
-    Ok(true)
+    Ok(are_marked(&marks))
 }

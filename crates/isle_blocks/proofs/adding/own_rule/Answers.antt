@@ -30,9 +30,9 @@ returns-clause-own c = λ d.
     ] refl
 
 pub returns-in-Err-Size-clause-full : goal.returns-in-Err-Size-clause-full
-returns-in-Err-Size-clause-full c = λ size d table small all made.
+returns-in-Err-Size-clause-full c = λ size d room.
     c.in-Err-Size.ensures.full c.in-Err-Size.field-0-is d.tyenv d.types d.levels d.max d.defs d.once d.shows d.few d.place d.typed d.at d.typed_at
-    table small all
+    room.table room.few room.needed
 
 pub returns-in_err-built-clause-full : goal.returns-in_err-built-clause-full
 returns-in_err-built-clause-full c =

@@ -39,7 +39,7 @@ returns-in-Err-clause-full c =
     let at = slice_get_read env.rules (length env.rules) c.args.place rule refl c.requires.within
     (c.index-rules-place.is ∙ ap (λ rules. get_or rules c.args.place rule) c.rules.ensures) in
     fault_weaker _ _ c.site_error.result
-    (λ errors (size, alone) d before term gathered own.
+    (λ errors (size, alone) d before term gathered up lesser.
     one_size_fault env d term before c.args.place rule c.args.set.now c.is_partial-partial.result errors.items at
-    (c.is_partial-partial.ensures d (term_within env d c.args.place rule at)) (c.in-Err.ensures.full size) alone gathered own)
+    (c.is_partial-partial.ensures d (term_within env d c.args.place rule at)) (c.in-Err.ensures.full size) alone gathered c.requires.fits up lesser)
     c.site_error.ensures

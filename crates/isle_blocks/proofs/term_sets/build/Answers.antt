@@ -1,6 +1,7 @@
-use Rattle.std.proofs.Common.{◌≡◌, ◌<◌, ◌↔◌, ℕ, Bool, List, false, length, get_or, sym, ap, subst, ◌∙◌}
+use Rattle.std.proofs.Common.{◌≡◌, ◌<◌, ◌↔◌, inl, inr, ℕ, Bool, List, false, length, get_or, sym, ap, subst, ◌∙◌, arith}
 use Rattle.std.specs.Prelude.{All}
 use Rattle.std.specs.List.{AllZip}
+use Rattle.std.proofs.lemmas.Bool.{cases_lt}
 use Rattle.std.proofs.lemmas.Result.{err_from_is_err_and}
 use Rattle.std.proofs.Math.ListN.{replicate}
 use Rattle.std.proofs.lemmas.List.{length-replicate}
@@ -12,8 +13,9 @@ use Rattle.isle_blocks.specs.DefinedSets.{facts_by, rules_by}
 use Rattle.isle_blocks.specs.RuleFaults.{IsUnreachableAt}
 use Rattle.isle_blocks.proofs.Closure.Loops.{get_or-replicate}
 use Rattle.isle_blocks.proofs.DefinedSets.{zip_map}
-use Rattle.isle_blocks.proofs.GatheredRules.{term_within}
+use Rattle.isle_blocks.proofs.GatheredRules.{root_within, term_within}
 use Rattle.isle_blocks.proofs.SetsOfTerms.{all_places, sets_all, lost_all}
+use Rattle.isle_blocks.proofs.SizeFaults.{none_within}
 use Rattle.isle_blocks.proofs.term_sets.build.Goals as goal
 
 -- no mark is set yet
@@ -57,6 +59,18 @@ returns-clause-unreachable c = λ d.
     (lost_all env d limit all c.in_ok-lost.lost.items c.rule_sets.new.lost.items
     (none_marked c.in_ok-lost.lost.items (length c.rules-2.result.now) (c.in_ok-lost.ensures.items_if_clones_equal (λ y q. q)))
     (c.in_ok-sets.ensures.lost d)))
+
+pub returns-clause-within : goal.returns-clause-within
+returns-clause-within c = λ d term.
+    let env = c.args.termenv.now in
+    let limit = length c.as_slice.result.now in
+    let all : limit ≡ length env.terms =
+    ap (λ l. length l) c.as_slice.ensures.value ∙ c.in_ok-places.ensures.fits ∙ ap (λ terms. length terms) c.terms.ensures in
+    elim (cases_lt term limit) [
+      | inl less ↦ c.in_ok-sets.ensures.within d term less
+      | inr past ↦ none_within (facts_by env d) (rules_by env d) term (λ has.
+          let within = root_within env d has.place has.rule has.at in let root = has.of_term in omega arith)
+    ]
 
 pub returns-in_err-sets-clause-full : goal.returns-in_err-sets-clause-full
 returns-in_err-sets-clause-full c =

@@ -1,13 +1,14 @@
 use Rattle.std.proofs.Common.{◌≡◌, ◌≤◌, ◌+◌, ℕ, add-one, take_all, List, [], ◌∷◌, ◌++◌, length, take, get_or, arith, sym, ap, subst, ◌∙◌}
-use Rattle.std.specs.Prelude.{All}
 use Rattle.std.proofs.lemmas.Result.{err_from_is_err_and}
-use Rattle.std.proofs.lemmas.List.Elements.{All-take}
+use Rattle.std.proofs.lemmas.List.{get_or_default}
+use Rattle.std.proofs.lemmas.List.Elements.{Contains-get_or}
 use Rattle.std.proofs.Math.Seq.{take-suc}
 use Rattle.isle_types.proofs.Reading.{fault_weaker}
 use Rattle.isle_blocks.specs.RuleSets.{RulesOverSites}
 use Rattle.isle_blocks.specs.ClosureFields.{IsTable}
 use Rattle.isle_blocks.specs.GatheredSets.{GathersRules, none_gathered, MarksThose, AreLost, IsOfTerm}
 use Rattle.isle_blocks.proofs.GatheredRules.{no_lost, lost_more, empty_table}
+use Rattle.isle_blocks.proofs.ListedNumbers.{listed_before}
 use Rattle.isle_blocks.proofs.term_sets.rule_set_of.Goals as goal
 
 pub loop-place-init : goal.loop-place-init
@@ -60,10 +61,13 @@ returns-in_err-add_at-clause-full c =
     let places = c.args.places.now in
     let k = c.loop-place.place-index in
     let place = get_or places k 0 in
-    let more : take (k + 1) places ≡ take k places ++ place ∷ [] = ap (λ n. take n places) (add-one k) ∙ take-suc places k 0 (omega arith) in
     let (fits, table, few, all) = c.loop-place.invariant in
     let p = err_from_is_err_and c.from_residual.result c.from_residual.ensures.1 in
     rw (p.1, p.2) (fault_weaker _ _ c.in_err-add_at.field-0.0
-    (λ errors is d term own. is d (take k places) term (all d).0
-    (subst (λ (ps : List ℕ). All (IsOfTerm env.rules term) ps) more (All-take (IsOfTerm env.rules term) (k + 1) places own)))
+    (λ errors is d term listed lesser. is d (take k places) term (all d).0
+    (record {
+      here = (listed.all place).0 (Contains-get_or places k 0 (omega arith));
+      earlier = listed_before (IsOfTerm env.rules term) places k place listed (omega arith) (get_or_default places k place 0 (omega arith));
+    })
+    lesser)
     c.in_err-add_at.ensures.full)

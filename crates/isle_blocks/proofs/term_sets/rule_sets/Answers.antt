@@ -7,10 +7,11 @@ use Rattle.isle_types.proofs.Reading.{fault_weaker}
 use Rattle.isle_types.specs.declared.ids.TermId.{TermId}
 use Rattle.isle_terms.specs.declared.rules.Rule.{Rule}
 use Rattle.isle_blocks.specs.RuleSets.{RulesOverSites}
-use Rattle.isle_blocks.specs.DefinedSets.{ListsNumbers}
+use Rattle.isle_blocks.specs.DefinedSets.{ListsNumbers, facts_by, rules_by}
 use Rattle.isle_blocks.specs.GatheredSets.{AreSetsBelow, MarksThose, IsLostBelow, IsOfTerm}
 use Rattle.isle_blocks.proofs.DefinedSets.{set_is}
 use Rattle.isle_blocks.proofs.SetsOfTerms.{all_listed, has_rules, has_no_rules, sets_none, sets_skip, sets_push, lost_none, lost_skip, lost_next_term}
+use Rattle.isle_blocks.proofs.SizeFaults.{none_within, within_next, all_within}
 use Rattle.isle_blocks.proofs.term_sets.rule_sets.Goals as goal
 
 -- what is said of the list at a place is said of its slice
@@ -28,6 +29,7 @@ loop-term-init c = (
     subst (λ (sets : List (TermId × RulesOverSites)). AreSetsBelow c.args.termenv.now d 0 sets) (sym c.new-sets.ensures.items)
         (sets_none c.args.termenv.now d),
     lost_none c.args.termenv.now d c.args.lost.now.items,
+    λ lesser less. absurd (omega arith),
   ),
 )
 
@@ -52,6 +54,8 @@ loop-term-preserved-then-is_empty c =
       λ d. (
         sets_skip env d term c.loop-term.sets.items (all d).0 (has_no_rules env d term slice listed none),
         lost_skip env d term slice c.args.lost.now.items c.loop-term.lost.items listed none (all d).1,
+        within_next (facts_by env d) (rules_by env d) term (all d).2
+            (none_within (facts_by env d) (rules_by env d) term (has_no_rules env d term slice listed none)),
       ),
     )
 
@@ -72,6 +76,7 @@ loop-term-preserved c =
             (sets_push env d term set c.loop-term.sets.items (all d).0
             (has_rules env d term slice listed some, set_is env d term slice set listed (is.gathered d) is.table is.few)),
         lost_next_term env d term slice c.args.lost.now.items c.loop-term.lost.items c.rule_set_of.new.lost.items listed (all d).1 (is.lost d),
+        within_next (facts_by env d) (rules_by env d) term (all d).2 (all_within env d term slice set (is.gathered d) is.few listed),
       ),
     )
 
@@ -85,6 +90,9 @@ returns-clause-lost c = λ d.
     let done : c.loop-term.term ≡ length c.args.places.now = omega arith in
     subst (λ (n : ℕ). MarksThose (IsLostBelow c.args.termenv.now d n) c.args.lost.now.items c.loop-term.lost.items) done (c.loop-term.invariant.1 d).1
 
+pub returns-clause-within : goal.returns-clause-within
+returns-clause-within c = λ d lesser less. (c.loop-term.invariant.1 d).2 lesser (omega arith)
+
 pub returns-in_err-set-clause-full : goal.returns-in_err-set-clause-full
 returns-in_err-set-clause-full c =
     let rules = c.args.termenv.now.rules in let places = c.args.places.now in let term = c.loop-term.term in
@@ -93,5 +101,5 @@ returns-in_err-set-clause-full c =
     c.as_slice-own.ensures.value in
     let p = err_from_is_err_and c.from_residual.result c.from_residual.ensures.1 in
     rw (p.1, p.2) (fault_weaker _ _ c.in_err-set.field-0.0
-    (λ errors is d. is d term (all_listed (IsOfTerm rules term) (IsOfTerm rules term) slice listed (λ i holds. holds)))
+    (λ errors is d. is d term listed (c.loop-term.invariant.1 d).2)
     c.in_err-set.ensures.full)

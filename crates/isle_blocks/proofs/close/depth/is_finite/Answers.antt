@@ -1,60 +1,83 @@
-use Rattle.std.proofs.Common.{◌≡◌, ◌<◌, ℕ, ap, sym, ◌∙◌, subst, inl, inr, true, false, Bool, List, length, arith}
-use Rattle.std.proofs.lemmas.Bool.{cases_lt}
-use Rattle.isle_blocks.specs.ClosureStates.{IsChildAt, is_marked, ChildrenAreMarked, HasUnmarkedChild}
+use Rattle.std.proofs.Common.{◌≡◌, ◌<◌, [], ℕ, ap, sym, ◌∙◌, subst, true, false, Bool, List, length, set, arith}
+use Rattle.std.proofs.lemmas.List.{length-replicate}
+use Rattle.isle_blocks.specs.ClosureStates.{IsChildAt, IsUnmarkedChild, ChildrenAreMarked, is_marked}
 use Rattle.isle_blocks.proofs.Closure.Pairs.{own_in}
-use Rattle.isle_blocks.proofs.Closure.Loops.{peeled_none, peeled_more, fewer_unmarked, has_loop, get_or-replicate}
+use Rattle.isle_blocks.proofs.Closure.Loops.{has_loop, get_or-replicate}
+use Rattle.isle_blocks.proofs.Closure.Marking.{Marking, marking_first, marking_last, next_in, wait_more, mark_more, wait_less, mark_less, list_of, no_lists, child_within, work_left}
 use Rattle.isle_blocks.proofs.close.depth.is_finite.Goals as goal
 
 pub loop-r-init : goal.loop-r-init
 loop-r-init c =
     let e = c.in_ok-marks.ensures.items_if_clones_equal (λ y q. q) in
-    record {
-      fits = c.in_ok-marks.ensures.len ∙ c.len.ensures.count;
-      peeled = peeled_none c.args.sites.now c.args.own.now c.args.class.now c.in_ok-marks.marks.items
-          (λ k. ap (λ (l : List Bool). is_marked l k) e ∙ get_or-replicate _ k);
-    }
+    let w = c.in_ok-waiting.ensures in
+    let p = c.in_ok-pending.pending.ok.0 in let p' = c.in_ok-pending.ensures.0 in
+    let n1 = c.len.ensures.count in let n2 = c.len-2.ensures.count in let n3 = c.len-3.ensures.count in
+    let m = c.in_ok-marks.marks.ok.0 in let m' = c.in_ok-marks.ensures.len in
+    let lists : length c.in_ok-waiting.waiting ≡ length c.args.sites.now = ap length w ∙ length-replicate _ _ ∙ n2 in
+    marking_first c.args.sites.now c.args.own.now c.args.class.now c.in_ok-marks.marks.items c.in_ok-waiting.waiting c.in_ok-pending.pending.items
+    (omega arith) (λ k. ap (λ (l : List Bool). is_marked l k) e ∙ get_or-replicate _ k) lists
+    (λ k. ap (λ (l : List (List ℕ)). list_of l k) w ∙ no_lists _ k) (omega arith)
+    (λ a h. c.in_ok-pending.ensures.1 a (omega arith))
+
+pub unmarked_child-requires-clause-r_in : goal.unmarked_child-requires-clause-r_in
+unmarked_child-requires-clause-r_in c = next_in _ _ _ _ _ _ _ c.in-Some.r c.in-Some.ensures.items c.loop-r.invariant
+
+pub loop-r-smaller-in-Continue-branch-4 : goal.loop-r-smaller-in-Continue-branch-4
+loop-r-smaller-in-Continue-branch-4 c =
+    let table = c.args.sites.now in let own = c.args.own.now in let class = c.args.class.now in
+    let k = c.in-Some-unmarked_child.child in
+    let child = c.in-Some-unmarked_child.ensures.some in
+    let k_in = child_within table own class c.requires.classes c.in-Some.r child.field k child.is_child in
+    let f = c.loop-r.invariant.lists in
+    let less = wait_less c.loop-r.waiting c.loop-r.pending.items c.pop.new.self.items k c.in-Some.r (omega arith) c.in-Some.ensures.items in
+    subst (λ (l : List (List ℕ)). work_left l c.pop.new.self.items < work_left c.loop-r.waiting c.loop-r.pending.items) (sym c.in_ok-add-in-Some-unmarked_child.ensures) less
+
+pub loop-r-preserved-in-Continue-branch-4 : goal.loop-r-preserved-in-Continue-branch-4
+loop-r-preserved-in-Continue-branch-4 c =
+    let table = c.args.sites.now in let own = c.args.own.now in let class = c.args.class.now in
+    let k = c.in-Some-unmarked_child.child in let r = c.in-Some.r in
+    let child = subst (λ (l : List Bool). IsUnmarkedChild table own class l r k) c.deref.ensures.value c.in-Some-unmarked_child.ensures.some in
+    let k_in = child_within table own class c.requires.classes r child.field k child.is_child in
+    let more = wait_more table own class c.loop-r.marks.items c.loop-r.waiting c.loop-r.pending.items c.pop.new.self.items r c.in-Some.ensures.items c.loop-r.invariant k k_in child in
+    subst (λ (l : List (List ℕ)). Marking table own class c.loop-r.marks.items l c.pop.new.self.items) (sym c.in_ok-add-in-Some-unmarked_child.ensures) more
+
+pub index_mut-requires : goal.index_mut-requires
+index_mut-requires c = let n = next_in _ _ _ _ _ _ _ c.in-Some.r c.in-Some.ensures.items c.loop-r.invariant in let f = c.loop-r.invariant.fits in let o = c.loop-r.marks.ok.0 in omega arith
+
+pub take-requires : goal.take-requires
+take-requires c = let n = next_in _ _ _ _ _ _ _ c.in-Some.r c.in-Some.ensures.items c.loop-r.invariant in let f = c.loop-r.invariant.lists in omega arith
 
 pub loop-r-smaller : goal.loop-r-smaller
 loop-r-smaller c =
-    let (h, u, m) = c.in-Some.ensures.some in
-    let fits : length c.loop-r.marks.items ≡ length c.args.sites.now = sym c.loop-r.marks.ok.0 ∙ c.loop-r.invariant.fits in
-    fewer_unmarked c.loop-r.marks.items (length c.args.sites.now) c.in-Some.r fits h (subst (λ (l : List Bool). is_marked l c.in-Some.r ≡ false) c.deref.ensures.value u)
+    let r = c.in-Some.r in let rest = c.pop.new.self.items in let lists = c.loop-r.waiting in
+    let n = next_in _ _ _ _ _ _ _ r c.in-Some.ensures.items c.loop-r.invariant in let f = c.loop-r.invariant.lists in
+    let less = mark_less lists c.loop-r.pending.items rest r (omega arith) c.in-Some.ensures.items in
+    subst (λ (l : List (List ℕ)). work_left l c.take.new.others.items < work_left lists c.loop-r.pending.items) (sym c.in_ok-take-in-None.ensures.left)
+    (subst (λ (l : List ℕ). work_left (set lists r []) l < work_left lists c.loop-r.pending.items) (sym c.in_ok-take-in-None.ensures.taken) less)
 
 pub loop-r-preserved : goal.loop-r-preserved
 loop-r-preserved c =
-    let (h, u, m) = c.in-Some.ensures.some in
-    let fits : length c.loop-r.marks.items ≡ length c.args.sites.now = sym c.loop-r.marks.ok.0 ∙ c.loop-r.invariant.fits in
-    let l : c.in-Some.r < length c.loop-r.marks.items = omega arith in
-    record {
-      fits = c.loop-r.invariant.fits;
-      peeled = peeled_more c.args.sites.now c.args.own.now c.args.class.now c.loop-r.marks.items c.in-Some.r l
-          (subst (λ (l : List Bool). is_marked l c.in-Some.r ≡ false) c.deref.ensures.value u)
-          (subst (λ (l : List Bool). ChildrenAreMarked c.args.sites.now c.args.own.now c.args.class.now l c.in-Some.r) c.deref.ensures.value m) c.loop-r.invariant.peeled;
-    }
-
-pub loop-mark-init : goal.loop-mark-init
-loop-mark-init c = λ k h. absurd (omega arith)
-
-pub returns-then-not-mark-clause-looped : goal.returns-then-not-mark-clause-looped
-returns-then-not-mark-clause-looped c = λ e.
-    let none = c.in_default.ensures.none in
-    let stuck = subst (λ (l : List Bool). (r : ℕ) → r < length c.args.sites.now → is_marked l r ≡ false → HasUnmarkedChild c.args.sites.now c.args.own.now c.args.class.now l r) c.deref.ensures.value none in
-    let at : is_marked c.loop-r.marks.items c.loop-mark.mark-index ≡ false = sym (ap (λ (l : List Bool). is_marked l c.loop-mark.mark-index) c.deref-mark-items.ensures.value) ∙ c.if-not-mark.true in
-    let value = ap length c.deref-mark-items.ensures.value in let fits = c.loop-r.invariant.fits in let o = c.loop-r.marks.ok.0 in let test = c.loop-mark-test.true in
-    let lt : c.loop-mark.mark-index < length c.args.sites.now = omega arith in
-    has_loop c.args.sites.now c.args.own.now c.args.class.now c.loop-r.marks.items stuck c.requires.classes.below c.loop-mark.mark-index lt at
-
-pub loop-mark-preserved : goal.loop-mark-preserved
-loop-mark-preserved c = λ k h. elim (cases_lt k c.loop-mark.mark-index) [
-  | inl less ↦ c.loop-mark.invariant k less
-  | inr more ↦ let s : k ≡ c.loop-mark.mark-index = omega arith in ap (is_marked c.deref-mark-items.result.now) s ∙ c.if-not-mark.false
-]
+    let table = c.args.sites.now in let own = c.args.own.now in let class = c.args.class.now in
+    let r = c.in-Some.r in let lists = c.loop-r.waiting in
+    let children = subst (λ (l : List Bool). ChildrenAreMarked table own class l r) c.deref.ensures.value c.in-None.ensures.none in
+    let more = mark_more table own class c.loop-r.marks.items lists c.loop-r.pending.items c.pop.new.self.items r c.in-Some.ensures.items c.loop-r.invariant children in
+    subst (λ (l : List (List ℕ)). Marking table own class (set c.loop-r.marks.items r true) l c.take.new.others.items) (sym c.in_ok-take-in-None.ensures.left)
+    (subst (λ (l : List ℕ). Marking table own class (set c.loop-r.marks.items r true) (set lists r []) l) (sym c.in_ok-take-in-None.ensures.taken) more)
 
 pub returns-clause-ranked : goal.returns-clause-ranked
 returns-clause-ranked c = λ e.
     let p = c.loop-r.invariant.peeled in
     let all : (r g k : ℕ) → IsChildAt c.args.sites.now c.args.own.now c.args.class.now r g k → is_marked c.loop-r.marks.items r ≡ true = λ r g k x.
-    let r_in = own_in c.args.own.now r x.test (x.has) in
-    let value = ap length c.deref-mark-items.ensures.value in let fits = c.loop-r.invariant.fits in let o = c.loop-r.marks.ok.0 in let test = c.loop-mark-test.false in let f = c.requires.own in
-    subst (λ (l : List Bool). is_marked l r ≡ true) c.deref-mark-items.ensures.value (c.loop-mark.invariant r (omega arith)) in
+    let r_in = own_in c.args.own.now r x.test x.has in
+    let value = ap length c.deref-2.ensures.value in let fits = c.loop-r.invariant.fits in let f = c.requires.own in
+    subst (λ (l : List Bool). is_marked l r ≡ true) c.deref-2.ensures.value (c.are_marked.ensures.all e r (omega arith)) in
     record { rank = p.rank; falls = λ r g k x. p.falls r g k (all r g k x) x }
+
+pub returns-clause-looped : goal.returns-clause-looped
+returns-clause-looped c = λ e.
+    let (k, k_in, u) = c.are_marked.ensures.some e in
+    let value = ap length c.deref-2.ensures.value in let fits = c.loop-r.invariant.fits in
+    let unmarked = subst (λ (l : List Bool). is_marked l k ≡ false) c.deref-2.ensures.value u in
+    let none = c.in_default.ensures.cases.0 in let o = c.loop-r.pending.ok.0 in
+    let stuck = marking_last c.args.sites.now c.args.own.now c.args.class.now c.loop-r.marks.items c.loop-r.waiting c.loop-r.pending.items (omega arith) c.loop-r.invariant in
+    has_loop c.args.sites.now c.args.own.now c.args.class.now c.loop-r.marks.items stuck c.requires.classes.below k (omega arith) unmarked

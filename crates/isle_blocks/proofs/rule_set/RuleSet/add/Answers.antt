@@ -12,7 +12,7 @@ returns-in_default-clause-adds c = λ d.
     let env = c.args.termenv.now in let rule = c.args.source.now in
     let h = subst (λ made. IsAdded (name_in env rule d) (facts_in env rule d) c.args.partial d.typed c.self.inside.sites c.add_defined.new.table made)
     c.in_default.is (c.in_ok-made.ensures.added d) in
-    (h.0, ap (λ sites. record { rules = c.self.inside.rules.items; sites = sites }) h.1 ∙ c.self.view_is)
+    (h.0, h.1, ap (λ sites. record { rules = c.self.inside.rules.items; sites = sites }) h.2 ∙ c.self.view_is)
 
 pub returns-clause-adds : goal.returns-clause-adds
 returns-clause-adds c = λ d.

@@ -4,8 +4,8 @@ use Rattle.std.proofs.lemmas.Option.{slice_get_within}
 use Rattle.isle_blocks.specs.ClosureFields.{field_binding, kind_of}
 use Rattle.isle_blocks.specs.ClosureStates.{is_marked, IsRootOf}
 use Rattle.isle_blocks.proofs.Closure.Likes.{one_root}
-use Rattle.isle_blocks.proofs.close.depth.has_unmarked_field.Goals as goal
-use Rattle.isle_blocks.proofs.close.depth.has_unmarked_field.Goals.{in-Some+else-not-marks-k, in_default}
+use Rattle.isle_blocks.proofs.close.depth.unmarked_field.Goals as goal
+use Rattle.isle_blocks.proofs.close.depth.unmarked_field.Goals.{in-Some+else-not-marks-k, in_default}
 
 pub loop-index-preserved : goal.loop-index-preserved
 loop-index-preserved c = λ i k h root. elim (cases_lt i c.loop-index.index) [
@@ -27,5 +27,5 @@ bounds-marks-k c =
     let within = slice_get_within c.args.sites.now g _ at in let fits = c.requires.marks in
     let low = subst (λ (z : ℕ). z < length c.args.sites.now) leads (c.requires.classes.below g within) in omega arith
 
-pub returns-clause-no : goal.returns-clause-no
-returns-clause-no c = λ e i k h root. let t = c.loop-index-test.false in c.loop-index.invariant i k (omega arith) root
+pub returns-clause-none : goal.returns-clause-none
+returns-clause-none c = λ i k h root. let t = c.loop-index-test.false in c.loop-index.invariant i k (omega arith) root

@@ -1,0 +1,5 @@
+use Rattle.isle_blocks.proofs.OneReport as report
+use Rattle.isle_blocks.proofs.laws.rule_errors_are_determined.Goals as goal
+
+pub returns : goal.returns
+returns c = report.rule_errors_are_determined
