@@ -3,3 +3,5 @@
 pub mod Compiled
 -- Inhabited types have values.
 pub mod Inhabiting
+-- Programs whose terms don't reach themselves.
+pub mod Acyclic

@@ -1,5 +1,6 @@
 //! Laws of values, of calls and of compiled programs, each as a function whose contract states it.
-ghost use Rattle.isle_run.specs.Laws.Compiled.{CompiledMeaningsAreOne, FaultlessRulesHaveNoTies, InhabitedProgramsHaveValues};
+ghost use Rattle.isle_run.specs.Laws.Compiled.{AcyclicProgramsAreNotSpent, CompiledMeaningsAreOne, FaultlessRulesHaveNoTies};
+ghost use Rattle.isle_run.specs.Laws.Compiled.{InhabitedProgramsHaveValues, PremisesCanBeMet};
 ghost use Rattle.isle_run.specs.Laws.Formatting.{FormattedTextsAreAlike};
 ghost use Rattle.isle_meaning.specs.Laws.Order.{OrderMeansNothing};
 ghost use Rattle.isle_run.specs.Laws.Order.{OrderOfTextsMeansNothing};
@@ -19,8 +20,8 @@ ghost use Rattle.isle_run.specs.Values.Tokens.{IsSpellable};
 
 pub use isle_meaning::laws::{
     chain_stays, chains_join, completions_extend, end_stays, ends_are_asked, meaning_stays,
-    meanings_are_typed, no_overlaps_no_ties, one_meaning, one_meaning_always, plain_runs_are_meant,
-    trees_are_one, typed_rules_call_well,
+    meanings_are_typed, no_cycles_none_spent, no_overlaps_no_ties, one_meaning, one_meaning_always,
+    plain_runs_are_meant, plain_runs_begin_so, run_stays, trees_are_one, typed_rules_call_well,
 };
 
 /// A value of a type is printed to a text that is read back as it at the type.
@@ -75,4 +76,14 @@ pub fn inhabited_programs_have_values()
 /// Calls of a compiled program have one meaning.
 pub fn compiled_meanings_are_one()
     ensures { CompiledMeaningsAreOne }
+{}
+
+/// Where each type of a compiled program is inhabited, a call has a completion that agrees and answers what its rules ask.
+pub fn premises_can_be_met()
+    ensures { PremisesCanBeMet }
+{}
+
+/// No plain run of a program is spent where no term reaches itself and the depth is at least the number of terms with rules.
+pub fn acyclic_programs_are_not_spent()
+    ensures { AcyclicProgramsAreNotSpent }
 {}

@@ -1,5 +1,5 @@
 //! The roads by which calls are answered.
-ghost use Rattle.std.specs.Prelude.{◌≡◌, ◌++◌, List, [], IfOk};
+ghost use Rattle.std.specs.Prelude.{◌≡◌, ◌++◌, List, [], IfOk, OnErr};
 ghost use Rattle.isle_meaning.specs.Outcomes.{given, missing};
 ghost use Rattle.isle_meaning.specs.Values.{Value, Values};
 ghost use Rattle.isle_meaning.specs.Worlds.{Event};
@@ -7,7 +7,7 @@ ghost use Rattle.isle_run.specs.declared.calls.store.Stored.{Stored};
 ghost use Rattle.isle_run.specs.declared.program.Program.{Program as CompiledProgram};
 ghost use Rattle.isle_run.specs.Calls.Open.{CallOf};
 ghost use Rattle.isle_run.specs.Calls.States.{host, state, Makes, IsOpenIn, HasGoneOn};
-ghost use Rattle.isle_run.specs.Calls.Ways.{Way, Below, IsReady, IsWay, TurnsTo};
+ghost use Rattle.isle_run.specs.Calls.Ways.{Way, Below, HasBegun, IsReady, IsWay, TurnsTo};
 ghost use Rattle.isle_run.specs.Stores.Values.{Stands, StandEach};
 
 pub mod plain;
@@ -57,6 +57,11 @@ pub trait Road {
             × Makes (host W.step W.constructs W.extracts) (state (compiled self.old) world.old effects.old.items (stored self.old))
             (state (compiled self.new) world.new effects.new.items (stored self.new)) made
             × TurnsTo way k (stored self.new) frame.new (since ++ made) turn) }
+        ensures lost { OnErr result ((k : CallOf) (since : List Event)
+            → IsOpenIn (host W.step W.constructs W.extracts) k (state (compiled self.old) world.old effects.old.items (stored self.old))
+            → way.is_frame k (stored self.old) frame.old since → HasBegun (host W.step W.constructs W.extracts) way
+            (state (compiled self.old) world.old effects.old.items (stored self.old))
+            (state (compiled self.new) world.new effects.new.items (stored self.new)) k since) }
         ensures goes_on { HasGoneOn (host W.step W.constructs W.extracts)
             (state (compiled self.old) world.old effects.old.items (stored self.old))
             (state (compiled self.new) world.new effects.new.items (stored self.new)) };

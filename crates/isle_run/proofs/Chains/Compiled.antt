@@ -18,20 +18,28 @@ use Rattle.isle_meaning.specs.Demands.{Demand}
 use Rattle.isle_meaning.specs.Facts.{TermFacts, no_term}
 use Rattle.isle_meaning.specs.Faults.{MayOverlap, Overlaps}
 use Rattle.isle_meaning.specs.Laws.Matching.{DemandOf}
-use Rattle.isle_meaning.specs.Worlds.{CheckedProgram}
+use Rattle.isle_meaning.specs.Values.{Values}
+use Rattle.isle_meaning.specs.Answers.{Completion}
+use Rattle.isle_meaning.specs.Worlds.{CheckedProgram, Answers}
+use Rattle.isle_meaning.specs.Calls.{Agrees, CoversAll, Means}
+use Rattle.isle_meaning.specs.SoundPrograms.{IsSound}
 use Rattle.isle_terms.proofs.Sound.RuleTypes.{rules_typed}
 use Rattle.isle_blocks.specs.RivalLists.{is_multi_kind, is_multi_in}
 use Rattle.isle_blocks.specs.RuleFaults.{AreFaultless, MayMatch}
 use Rattle.isle_run.specs.declared.program.Program.{Program}
-use Rattle.isle_meaning.specs.Laws.Calls.{HasNoOverlaps, HasNoTies, CallsOnly, FailsWherePartial, ExprCalls}
+use Rattle.isle_meaning.specs.Laws.Calls.{HasNoOverlaps, HasNoTies, CallsOnly, FailsWherePartial, ExprCalls, Surely}
 use Rattle.isle_run.specs.Compiled.{IsProgramOf, max_levels, max_nodes}
-use Rattle.isle_run.specs.Laws.Compiled.{every_term, FaultlessRulesHaveNoTies, CompiledMeaningsAreOne}
+use Rattle.isle_run.specs.Laws.Compiled.{every_term, FaultlessRulesHaveNoTies, CompiledMeaningsAreOne, PremisesCanBeMet}
 use Rattle.isle_run.specs.Meanings.{checked}
 use Rattle.isle_run.specs.Programs.{types_of, terms_of}
 use Rattle.isle_meaning.specs.DefinedPrograms.{defined_program}
 use Rattle.isle_run.specs.Laws.Sound.{RunsIn}
 use Rattle.isle_run.proofs.SoundPrograms.Whole.{compiled_programs_are_sound}
-use Rattle.isle_meaning.proofs.Chains.Always.{meanings_are}
+use Rattle.isle_run.specs.Facts.Inhabited.{AreAllInhabited}
+use Rattle.isle_meaning.proofs.Chains.Always.{meanings_are, covering_at}
+use Rattle.isle_meaning.proofs.Chains.Growing.{open_completion, open_agrees, GivesGood}
+use Rattle.isle_meaning.proofs.Chains.Surely.{surely, follows}
+use Rattle.isle_meaning.proofs.Chains.Unique.{One}
 use Rattle.isle_meaning.proofs.Chains.Elaborated.{no_ties, typed_rules_call_well}
 use Rattle.isle_meaning.proofs.Chains.Ends.{below_or_above}
 use Rattle.isle_run.proofs.Chains.Inhabiting.{inhabited_programs_have_values}
@@ -144,13 +152,40 @@ compiled_faultless files program is agrees =
     subst (λ (l : List TypedRule). AreFaultless (checked program).terms l) (sym (rules_say files program is agrees))
     (subst (λ (f : TermFacts). AreFaultless f is.terms.environment.rules) (sym (terms_say files program is agrees)) is.faultless)
 
+module _ (files : List SourceFile) (program : Program) (is : IsProgramOf files program) (all : AreAllInhabited (types_of program).types)
+    (w : Answers) (n : ℕ) where
+  -- the program says what its definitions say
+  says : checked program ≡ defined_program is.types is.terms.environment
+  says = (compiled_programs_are_sound files program is).0
+
+  sound : IsSound (checked program) (RunsIn program)
+  sound = (compiled_programs_are_sound files program is).2
+
+  -- its rules have no ties
+  ties : HasNoTies (checked program) (RunsIn program)
+  ties = no_ties (checked program) (RunsIn program) sound
+      (none_overlap (checked program) (compiled_faultless files program is says) (RunsIn program) (runs_single program))
+
+  -- its meanings at a depth are one, and of their terms' types
+  meant : One (RunsIn program) (Means (checked program) w n) × GivesGood (checked program) (RunsIn program) (Means (checked program) w n)
+  meant = meanings_are (checked program) w (RunsIn program) every_term sound ties (calls_any (checked program) (RunsIn program))
+      (inhabited_programs_have_values files program is all) (compiled_sure files program is says) n
+
+  -- rules can't but be covered
+  covering : (t : ℕ) (args : Values) → RunsIn program t
+      → Surely ((c : Completion) × Agrees (checked program) w (Means (checked program) w n) c × CoversAll (checked program) c t args)
+  covering t args runs = follows
+      (covering_at (checked program) w (RunsIn program) every_term sound ties (calls_any (checked program) (RunsIn program))
+      (inhabited_programs_have_values files program is all) (compiled_sure files program is says) n (meant.0) (meant.1) t args
+      (open_completion (checked program) w (Means (checked program) w n)) runs
+      (open_agrees (checked program) w (Means (checked program) w n)))
+      (λ m. surely (m.next, m.agrees, m.covers))
+
 -- Calls of a compiled program have one meaning.
 pub compiled_meanings_are_one : CompiledMeaningsAreOne
 compiled_meanings_are_one files program is all w n t args one other x y runs h k =
-    let (agrees, named, sound) = compiled_programs_are_sound files program is in
-    let ties : HasNoTies (checked program) (RunsIn program) =
-    no_ties (checked program) (RunsIn program) sound
-    (none_overlap (checked program) (compiled_faultless files program is agrees) (RunsIn program) (runs_single program)) in
-    (meanings_are (checked program) w (RunsIn program) every_term sound ties (calls_any (checked program) (RunsIn program))
-    (inhabited_programs_have_values files program is all)
-    (compiled_sure files program is agrees) n).0 t args one other x y runs h k
+    (meant files program is all w n).0 t args one other x y runs h k
+
+-- What a call needs of completions can be met.
+pub premises_can_be_met : PremisesCanBeMet
+premises_can_be_met files program is all w n t args runs = covering files program is all w n t args runs

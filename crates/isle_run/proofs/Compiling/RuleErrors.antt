@@ -8,10 +8,8 @@ use Rattle.std.proofs.lemmas.List.Sorted.{All-permutation, IsPermutation-map, le
 use Rattle.std.proofs.lemmas.Option.{slice_get_cases}
 use Rattle.isle_syntax.specs.Errors.{ErrorAt, span_at}
 use Rattle.isle_syntax.specs.declared.error.Error.{Error}
-use Rattle.isle_syntax.specs.declared.error.Error.TheVariants.{SizeError, ParseError, TypeError, UnreachableError, OverlapError, ShadowedError}
 use Rattle.isle_syntax.specs.declared.error.Span.{Span}
 use Rattle.isle_syntax.specs.declared.lexer.Pos.{Pos}
-use Rattle.isle_types.specs.TypeFaults.{IsSizeFault}
 use Rattle.isle_types.proofs.Lists.{slice_get-kept, slice_get-last}
 use Rattle.isle_types.proofs.Zipped.{all_at}
 use Rattle.isle_terms.specs.declared.rules.Rule.{Rule}
@@ -21,8 +19,10 @@ use Rattle.isle_meaning.specs.Facts.{TermFacts}
 use Rattle.isle_terms.specs.Shown.RulesShown.{IsShownRule}
 use Rattle.isle_blocks.specs.declared.report.RulePlace.{RulePlace}
 use Rattle.isle_blocks.specs.Reports.{AreGroups, no_pairs, headed, IsGroup, IsReport, error_of, error_by, positions, partners, partner_count}
-use Rattle.isle_blocks.specs.RuleFaults.{MayMatch, IsUnreachableAt, AreFaultless, TellUnreachable, no_rules_told, one_may_match, one_never_matches}
-use Rattle.isle_blocks.specs.RuleFaults.{unreachable_error, places_from, ListsEach, TellRivals, IsTooLargeAt, AreRuleErrors, of_size, of_rules}
+use Rattle.isle_blocks.specs.RuleFaults.{IsUnreachableAt, AreFaultless, TellUnreachable, no_rules_told, one_may_match, one_never_matches}
+use Rattle.isle_blocks.specs.RuleFaults.{unreachable_error, size_error_at, places_from, ListsEach, TellRivals, IsTooLargeAt, AreRuleErrors, of_size, of_rules}
+use Rattle.isle_blocks.proofs.Faultless.{faultless_within}
+use Rattle.isle_blocks.proofs.SizeFaults.{within_before}
 
 -- ---- errors of rules stand where the rules do
 
@@ -108,26 +108,16 @@ module _ (At : Pos → Type 0) where
         (IsPermutation-map error_of (report.overlapping ++ report.shadowing) report.sorted report.moved)
         (subst (All (ErrorAt At)) (sym (map-append error_of report.overlapping report.shadowing)) both))
 
-  size_at : (Exceeded : Pos → Type 0) → ((pos : Pos) → Exceeded pos → At pos) → (error : Error) → IsSizeFault Exceeded error → ErrorAt At error
-  size_at Exceeded stands (ParseError message span) is = absurd is
-  size_at Exceeded stands (TypeError message span) is = absurd is
-  size_at Exceeded stands (UnreachableError message span) is = absurd is
-  size_at Exceeded stands (OverlapError message spans) is = absurd is
-  size_at Exceeded stands (ShadowedError spans span) is = absurd is
-  size_at Exceeded stands (SizeError message span) is = record {
-    named = omega arith;
-    placed = All-cons SpanAt span [] (stands span.from is) (All-nil SpanAt);
-  }
+  size_at : (pos : Pos) → At pos → ErrorAt At (size_error_at pos)
+  size_at pos here = record { named = omega arith; placed = All-cons SpanAt (span_at pos) [] here (All-nil SpanAt) }
 
   -- each error of rules names positions of rules
   pub rule_errors_at : (facts : TermFacts) (rules : List TypedRule) (errors : List Error) → All (RuleAt At) rules → AreRuleErrors facts rules errors
       → All (ErrorAt At) errors
-  rule_errors_at facts rules errors placed (of_size error alone is) =
-      let stands = λ (pos : Pos) (large : IsTooLargeAt facts rules pos).
-      subst At (sym large.here) (all_at (RuleAt At) rules placed large.place large.rule large.at) in
-      subst (All (ErrorAt At)) (sym alone)
-      (All-cons (ErrorAt At) error [] (size_at (IsTooLargeAt facts rules) stands error is) (All-nil (ErrorAt At)))
-  rule_errors_at facts rules errors placed (of_rules unreachable between told rivals joined some) =
+  rule_errors_at facts rules errors placed (of_size pos alone large) =
+      let stands = subst At (sym large.here) (all_at (RuleAt At) rules placed large.place large.rule large.at) in
+      subst (All (ErrorAt At)) (sym alone) (All-cons (ErrorAt At) (size_error_at pos) [] (size_at pos stands) (All-nil (ErrorAt At)))
+  rule_errors_at facts rules errors placed (of_rules unreachable between within told rivals joined some) =
       subst (All (ErrorAt At)) (sym joined)
       (All-append (ErrorAt At) unreachable between (unreachable_at facts rules unreachable told placed)
       (report_at (places_from 0 rules) (places_at 0 rules placed) rivals.overlaps rivals.shadows between rivals.report))
@@ -172,27 +162,13 @@ no_rivals facts rules errors faultless told =
 -- the size is kept where the rules of each term fit in one table
 never_too_large : (facts : TermFacts) (rules : List TypedRule) (pos : Pos) → AreFaultless facts rules → IsTooLargeAt facts rules pos → ⊥
 never_too_large facts rules pos faultless large =
-    let fit = faultless.fit large.rule.root in
-    let may : MayMatch facts large.rule = λ never. faultless.reachable large.place (record { rule = large.rule; at = large.at; never = never }) in
-    elim (large.too_large) [
-      | inl alone ↦
-          alone fit.table fit.few (fit.stand large.place (record { rule = large.rule; at = large.at; of_term = refl; may = may })).own
-      | inr together ↦ together fit
-    ]
-
-no_size_fault : (Exceeded : Pos → Type 0) → ((pos : Pos) → Exceeded pos → ⊥) → (error : Error) → IsSizeFault Exceeded error → ⊥
-no_size_fault Exceeded never (ParseError message span) is = absurd is
-no_size_fault Exceeded never (TypeError message span) is = absurd is
-no_size_fault Exceeded never (UnreachableError message span) is = absurd is
-no_size_fault Exceeded never (OverlapError message spans) is = absurd is
-no_size_fault Exceeded never (ShadowedError spans span) is = absurd is
-no_size_fault Exceeded never (SizeError message span) is = never span.from is
+    let term = large.rule.root in
+    large.too_large (within_before facts rules term (suc large.place) (faultless_within facts rules faultless term))
 
 -- rules with errors aren't faultless
 pub faulty : (facts : TermFacts) (rules : List TypedRule) (errors : List Error) → AreRuleErrors facts rules errors → AreFaultless facts rules → ⊥
-faulty facts rules errors (of_size error alone is) faultless =
-    no_size_fault (IsTooLargeAt facts rules) (λ pos large. never_too_large facts rules pos faultless large) error is
-faulty facts rules errors (of_rules unreachable between told rivals joined some) faultless =
+faulty facts rules errors (of_size pos alone large) faultless = never_too_large facts rules pos faultless large
+faulty facts rules errors (of_rules unreachable between within told rivals joined some) faultless =
     let first = no_unreachable facts rules unreachable told faultless.reachable in
     let second = no_rivals facts rules between faultless rivals in
     let both = length-append unreachable between in

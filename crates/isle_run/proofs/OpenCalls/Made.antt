@@ -1,5 +1,5 @@
 -- Effects made one after another.
-use Rattle.std.proofs.Common.{◌≡◌, ◌++◌, ℕ, List, [], ◌∷◌, Option, refl, sym, ◌∙◌, ap, subst, append_assoc}
+use Rattle.std.proofs.Common.{◌≡◌, ◌++◌, ℕ, List, [], ◌∷◌, Option, refl, sym, ◌∙◌, ap, subst, append_assoc, Result, Ok, Err, OnErr}
 use Rattle.std.proofs.lemmas.List.{append-nil}
 use Rattle.std.specs.List.{AllZip}
 use Rattle.isle_terms.specs.Values.{ValueTree, ValueTrees}
@@ -77,3 +77,8 @@ module _ {W : Type 0} (host : Host W) where
     in_world = is.in_world
         ∙ (λ i. answers_in (sym p.program i) (sym p.same.0 i) (sym p.same.1 i));
   }
+
+-- what holds anyway holds where there is an error
+pub on_err : {T E P : Type 0} (r : Result T E) → P → OnErr r P
+on_err (Ok x) p = tt
+on_err (Err e) p = p

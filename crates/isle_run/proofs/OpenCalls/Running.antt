@@ -9,9 +9,9 @@ use Rattle.isle_run.specs.declared.calls.frames.Next.TheVariants.{Runs}
 use Rattle.isle_run.specs.Calls.Open.{CallOf}
 use Rattle.isle_run.specs.Calls.Stacks.{AreStacked, GoesOn}
 use Rattle.isle_run.specs.Calls.States.{Host, State, Makes, IsOpenIn, HasGoneOn}
-use Rattle.isle_run.specs.Calls.Ways.{Way, IsWay, AdvancesTo}
+use Rattle.isle_run.specs.Calls.Ways.{Way, IsWay, AdvancesTo, Begins, HasBegun}
 use Rattle.isle_run.proofs.OpenCalls.Made.{makes_none, makes_again, gone_none, gone_again, open_later}
-use Rattle.isle_run.proofs.OpenCalls.Stacked.{stacked_longer, stacked_open}
+use Rattle.isle_run.proofs.OpenCalls.Stacked.{stacked_longer, stacked_open, stacked_begins}
 
 -- a frame that has gone on so far, and just its effects were made
 pub record IsGoing {W F : Type 0} (host : Host W) (way : Way F) (s : State W) (first : F) (t : State W) (now : F) : Type 0 where
@@ -44,6 +44,21 @@ module _ {W F : Type 0} (host : Host W) (way : Way F) (s : State W) where
         let (made, has, frame) = far.goes k since open_in is in
         let (more, makes, tells) = turn k (since ++ made) (open_later host far.gone k open_in) frame in
         (made ++ more, makes_again host s t u far.gone.program made more has makes, subst (P k) (append_assoc since made more) tells)
+
+  -- the first call has begun with the effects with which the innermost has
+  pub running_begun : (is_way : IsWay way) (goal : Values → CallOf) (ready : Values → Type 0) (t : State W) (waiting : List F) (top : F)
+      → IsRunning host way s goal ready t waiting top → ((vs : Values) → IsOpenIn host (goal vs) s) → (u : State W)
+      → ((k : CallOf) (since : List Event) → IsOpenIn host k t → way.is_frame k t.stored top since → HasBegun host way t u k since)
+      → (vs : Values) → ready vs → HasBegun host way s u (goal vs) []
+  running_begun is_way goal ready t waiting top far in_first u turn vs may =
+      let (k, start, since, has, stacked, frame) = far.runs vs may in
+      let in_now = open_later host far.gone k (stacked_open way host s (goal vs) t.stored (reverse waiting) k start stacked (in_first vs)) in
+      let (more, makes, begun) = turn k since in_now frame in (
+        (start ++ since) ++ more,
+        makes_again host s t u far.gone.program (start ++ since) more has makes,
+        subst (Begins way (goal vs)) (sym (append_assoc start since more))
+            (stacked_begins way is_way (goal vs) t.stored (reverse waiting) k start stacked (since ++ more) begun),
+      )
 
   module _ (goal : Values → CallOf) (ready : Values → Type 0) (t : State W) (waiting : List F) (top : F)
       (far : IsRunning host way s goal ready t waiting top) (in_first : (vs : Values) → IsOpenIn host (goal vs) s) (u : State W) (next_top : F)

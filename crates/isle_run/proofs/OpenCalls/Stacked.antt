@@ -1,8 +1,10 @@
 -- Frames that wait, one for the other: what the innermost call comes to, and how the first call ends with it.
+use Rattle.isle_run.specs.declared.calls.frames.Advanced.TheVariants.{Is, Missing, Ends, Calls}
+use Rattle.isle_run.specs.declared.calls.frames.Advanced.{Advanced}
 use Rattle.std.proofs.Common.{◌≡◌, ◌≤◌, refl, sym, ◌∙◌, ap, subst, ℕ, suc, List, [], ◌∷◌, ◌++◌, length, get_or, reverse, append_assoc, arith}
-use Rattle.std.proofs.lemmas.List.{reverse-append}
+use Rattle.std.proofs.lemmas.List.{reverse-append, append-nil}
 use Rattle.isle_meaning.specs.Asking.{Ended}
-use Rattle.isle_meaning.specs.Outcomes.{Outcome, ended}
+use Rattle.isle_meaning.specs.Outcomes.{Outcome, ended, given, missing}
 use Rattle.isle_meaning.specs.Values.{Value, Values}
 use Rattle.isle_meaning.specs.Worlds.{Event}
 use Rattle.isle_run.specs.declared.calls.answer.Answer.{Answer}
@@ -13,7 +15,7 @@ use Rattle.isle_run.specs.Calls.Answers.{IsEnd, TellsOutcome}
 use Rattle.isle_run.specs.Calls.Open.{CallOf, call_below}
 use Rattle.isle_run.specs.Calls.Stacks.{AreStacked, first_steps}
 use Rattle.isle_run.specs.Calls.States.{Host, State, IsOpenIn}
-use Rattle.isle_run.specs.Calls.Ways.{Way, Comes, Below, IsWay}
+use Rattle.isle_run.specs.Calls.Ways.{Way, Comes, Below, IsWay, Begins, BeginsBelow, AdvancesTo}
 use Rattle.isle_run.specs.Stores.Values.{Extends}
 
 -- what ends a call its answer tells
@@ -72,7 +74,17 @@ module _ {F : Type 0} (way : Way F) where
       CallAt : CallOf → ℕ → ℕ → Values → ℕ → List Event → Outcome Value → Type 0
       CallAt k n t args steps trace r = way.run k.program k.answers n t args steps trace r
 
+  -- a call below another begins with the effects with which that one's call begins
+  begins_below : (j k : CallOf) (term : ℕ) (made : List Event) → j.depth ≡ suc k.depth → k ≡ call_below j k.depth term k.args
+      → Begins way k made → BeginsBelow way j term k.args made
+  begins_below j k term made deeper is begun =
+      subst (λ d. way.begins j.program j.answers d term k.args made) (sym deeper) (subst (λ (c : CallOf). Begins way c made) is begun)
+
   module _ (is_way : IsWay way) (goal : CallOf) where
+    -- a call begins with the effects of its run
+    comes_begun : (k : CallOf) (steps : ℕ) (trace : List Event) (r : Outcome Value) → Comes way k steps trace r → Begins way k trace
+    comes_begun k steps trace r comes = is_way.begins_so k.program k.answers (suc k.depth) k.term k.args steps trace r comes
+
     -- they wait where more values are stored
     pub stacked_longer : {old new : List Stored} → Extends old new → (frames : List F) (k : CallOf) (start : List Event)
         → AreStacked way goal old frames k start → AreStacked way goal new frames k start
@@ -102,3 +114,25 @@ module _ {F : Type 0} (way : Way F) where
         let all = stacked_ends stored frames j before stacked (way.steps_of frame) (since ++ trace) e up in
         subst (λ (l : List Event). Comes way goal (first_steps way frames (way.steps_of frame)) l (ended e))
         (sym (ap (λ (l : List Event). l ++ trace) joined ∙ append_assoc before since trace)) all
+
+    -- the innermost call begins with these effects, and with it the first
+    pub stacked_begins : (stored : List Stored) (frames : List F) (k : CallOf) (start : List Event) → AreStacked way goal stored frames k start
+        → (made : List Event) → Begins way k made → Begins way goal (start ++ made)
+    stacked_begins stored [] k start stacked made begun =
+        subst (λ (l : List Event). Begins way goal (l ++ made)) (sym stacked.1)
+        (subst (λ (c : CallOf). Begins way c made) stacked.0 begun)
+    stacked_begins stored (frame ∷ frames) k start (j, before, since, term, deeper, is, waits, joined, stacked) made begun =
+        let below = begins_below j k term.0 made deeper is begun in
+        let up = is_way.begun_below j stored frame since made term k.args waits below in
+        let all = stacked_begins stored frames j before stacked (since ++ made) up in
+        subst (λ (l : List Event). Begins way goal l) (sym (ap (λ (l : List Event). l ++ made) joined ∙ append_assoc before since made)) all
+
+    -- a frame that has come to something has begun with its effects
+    pub advances_begun : (k : CallOf) (stored : List Stored) (frame : F) (since : List Event) (advanced : Advanced)
+        → AdvancesTo way k stored frame since advanced → Begins way k since
+    advances_begun k stored frame since (Is n) (v, stands, comes) = comes_begun k (way.steps_of frame) since (given v) comes
+    advances_begun k stored frame since Missing comes = comes_begun k (way.steps_of frame) since missing comes
+    advances_begun k stored frame since (Ends answer) (e, end, comes) = comes_begun k (way.steps_of frame) since (ended e) comes
+    advances_begun k stored frame since (Calls term numbers) (vs, stand, waits) =
+        subst (Begins way k) (append-nil since)
+        (is_way.begun_below k stored frame since [] term vs waits (is_way.stops k.program k.answers k.depth term.0 vs))

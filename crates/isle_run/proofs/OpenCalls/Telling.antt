@@ -14,7 +14,7 @@ use Rattle.isle_terms.specs.Values.{ValueTree, ValueTrees, value_list, bool_valu
 use Rattle.isle_meaning.specs.Facts.{no_term, shape_of_form, declared_shape}
 use Rattle.isle_meaning.specs.Values.{Value, Values, no_values, more_values}
 use Rattle.isle_meaning.specs.ValueTypes.{ValueFacts, IsOfType, AreOfTypes}
-use Rattle.isle_meaning.specs.Worlds.{Event, AllowsValue, AllowsOutputs, answer_value, answer_values}
+use Rattle.isle_meaning.specs.Worlds.{Event, AllowsValue, AllowsOutputs, answer_value, answer_values, CheckedProgram}
 use Rattle.isle_meaning.specs.Asking.{Asked, asks_value, asks_outputs, ill_typed}
 use Rattle.isle_meaning.specs.GroundValues.{value_of, values_of}
 use Rattle.isle_terms.specs.Shown.ShownTerms.{term_shown, form_shown}
@@ -32,18 +32,18 @@ use Rattle.isle_run.specs.Calls.Answers.{name_of_term, answers_in, IsCalledOn, I
 use Rattle.isle_run.specs.Calls.Host.{TellsValue, TellsOutputs}
 
 -- what is told of one outcome is told of another that it leads to
-pub value_leads : (facts : ValueFacts) (stored : List Stored) (q : Asked) (P Q : Outcome Value → Type 0) (told : Told ℕ)
-    → ((r : Outcome Value) → P r → Q r) → TellsValue facts stored q P told → TellsValue facts stored q Q told
-value_leads facts stored q P Q (Gives n) to (v, stands, run) = (v, stands, to (given v) run)
-value_leads facts stored q P Q Missing to run = to missing run
-value_leads facts stored q P Q (IllTyped term args) to (called, run) = (called, to (ended (ill_typed q)) run)
+pub value_leads : (p : CheckedProgram) (stored : List Stored) (q : Asked) (P Q : Outcome Value → Type 0) (told : Told ℕ)
+    → ((r : Outcome Value) → P r → Q r) → TellsValue p stored q P told → TellsValue p stored q Q told
+value_leads p stored q P Q (Gives n) to (v, stands, run) = (v, stands, to (given v) run)
+value_leads p stored q P Q Missing to run = to missing run
+value_leads p stored q P Q (IllTyped term args) to (called, run) = (called, to (ended (ill_typed q)) run)
 
 -- the same of outputs
-pub outputs_lead : (facts : ValueFacts) (stored : List Stored) (P Q : Outcome Values → Type 0) (told : Told (Vec ℕ Global))
-    → ((r : Outcome Values) → P r → Q r) → TellsOutputs facts stored P told → TellsOutputs facts stored Q told
-outputs_lead facts stored P Q (Gives ns) to (vs, stand, run) = (vs, stand, to (given vs) run)
-outputs_lead facts stored P Q Missing to run = to missing run
-outputs_lead facts stored P Q (IllTyped term args) to (q, called, run) = (q, called, to (ended (ill_typed q)) run)
+pub outputs_lead : (p : CheckedProgram) (stored : List Stored) (P Q : Outcome Values → Type 0) (told : Told (Vec ℕ Global))
+    → ((r : Outcome Values) → P r → Q r) → TellsOutputs p stored P told → TellsOutputs p stored Q told
+outputs_lead p stored P Q (Gives ns) to (vs, stand, run) = (vs, stand, to (given vs) run)
+outputs_lead p stored P Q Missing to run = to missing run
+outputs_lead p stored P Q (IllTyped term args) to (q, called, run) = (q, called, to (ended (ill_typed q)) run)
 
 -- the signature of a term that there is
 pub signature_found : (program : Program) (t : ℕ) (term : Term) → slice_get (terms_of program).terms t ≡ Some term
@@ -133,13 +133,13 @@ module _ (program : Program) (constructs : List ℕ → ValueTrees → Option Va
   pub construct_told : (vs : Values) (args : ValueTrees) (answer : Option ValueTree) (told : Told ℕ)
       → AreOfTypes (checked program).values args ((checked program).terms.inputs term.0) → values_of (checked program).values args ≡ vs
       → answer ≡ constructs (name_of_term program term.0) args
-      → ((q : Asked) → IsCalledOn (checked program).values q term args → TellsValue (checked program).values stored q
+      → ((q : Asked) → IsCalledOn (checked program) q term args → TellsValue (checked program) stored q
       (Judged (AllowsValue (checked program) term.0 answer) (answer_value (checked program) answer) q) told)
-      → TellsValue (checked program).values stored (asks_value term.0 vs)
+      → TellsValue (checked program) stored (asks_value term.0 vs)
       (WorldConstructs (checked program) (answers_in program constructs extracts) term.0 vs) told
   construct_told vs args answer told typed stand e judge =
       let q = asks_value term.0 vs in
-      value_leads (checked program).values stored q (Judged (AllowsValue (checked program) term.0 answer)
+      value_leads (checked program) stored q (Judged (AllowsValue (checked program) term.0 answer)
       (answer_value (checked program) answer) q)
       (WorldConstructs (checked program) (answers_in program constructs extracts) term.0 vs) told
       (λ r judged. record {
@@ -148,19 +148,19 @@ module _ (program : Program) (constructs : List ℕ → ValueTrees → Option Va
         stand = stand;
         judged = subst (λ (z : Option ValueTree). Judged (AllowsValue (checked program) term.0 z) (answer_value (checked program) z) q r)
             e judged;
-      }) (judge q (refl, stand))
+      }) (judge q (refl, record { typed = typed; stand = stand }))
 
   -- one of an impure constructor is what the effect comes to
   pub effect_told : (vs : Values) (args : ValueTrees) (answer given_answer : Option ValueTree) (told : Told ℕ)
       → AreOfTypes (checked program).values args ((checked program).terms.inputs term.0) → values_of (checked program).values args ≡ vs
       → answer ≡ given_answer
-      → ((q : Asked) → IsCalledOn (checked program).values q term args → TellsValue (checked program).values stored q
+      → ((q : Asked) → IsCalledOn (checked program) q term args → TellsValue (checked program) stored q
       (Judged (AllowsValue (checked program) term.0 answer) (answer_value (checked program) answer) q) told)
-      → TellsValue (checked program).values stored (asks_value term.0 vs)
+      → TellsValue (checked program) stored (asks_value term.0 vs)
       (WorldEffects (checked program) term.0 vs (record { term = term.0; args = args; answer = given_answer } ∷ [])) told
   effect_told vs args answer given_answer told typed stand e judge =
       let q = asks_value term.0 vs in
-      value_leads (checked program).values stored q (Judged (AllowsValue (checked program) term.0 answer)
+      value_leads (checked program) stored q (Judged (AllowsValue (checked program) term.0 answer)
       (answer_value (checked program) answer) q)
       (WorldEffects (checked program) term.0 vs (record { term = term.0; args = args; answer = given_answer } ∷ [])) told
       (λ r judged. record {
@@ -171,19 +171,19 @@ module _ (program : Program) (constructs : List ℕ → ValueTrees → Option Va
         alone = refl;
         judged = subst (λ (z : Option ValueTree). Judged (AllowsValue (checked program) term.0 z) (answer_value (checked program) z) q r)
             e judged;
-      }) (judge q (refl, stand))
+      }) (judge q (refl, record { typed = typed; stand = stand }))
 
   -- one of an extractor is what the world extracts
   pub extract_told : (v : Value) (arg : ValueTree) (answer : Option ValueTrees) (told : Told (Vec ℕ Global))
       → IsOfType (checked program).values arg ((checked program).terms.type_of term.0) → value_of (checked program).values arg ≡ v
       → answer ≡ extracts (name_of_term program term.0) arg
-      → ((q : Asked) → IsCalledOn (checked program).values q term (more_trees arg no_trees) → TellsOutputs (checked program).values stored
+      → ((q : Asked) → IsCalledOn (checked program) q term (more_trees arg no_trees) → TellsOutputs (checked program) stored
       (Judged (AllowsOutputs (checked program) term.0 answer) (answer_values (checked program) answer) q) told)
-      → TellsOutputs (checked program).values stored
+      → TellsOutputs (checked program) stored
       (WorldExtracts (checked program) (answers_in program constructs extracts) term.0 v) told
   extract_told v arg answer told typed stands e judge =
       let q = asks_outputs term.0 v in
-      outputs_lead (checked program).values stored (Judged (AllowsOutputs (checked program) term.0 answer)
+      outputs_lead (checked program) stored (Judged (AllowsOutputs (checked program) term.0 answer)
       (answer_values (checked program) answer) q)
       (WorldExtracts (checked program) (answers_in program constructs extracts) term.0 v) told
       (λ r judged. record {
@@ -194,8 +194,7 @@ module _ (program : Program) (constructs : List ℕ → ValueTrees → Option Va
             q r) e judged;
       }) (judge q (
         refl,
-        (let one : more_values (value_of (checked program).values arg) no_values ≡ more_values v no_values =
-            ap (λ (x : Value). more_values x no_values) stands in one),
+        record { typed = (typed, tt); stand = ap (λ (x : Value). more_values x no_values) stands },
       ))
 
 -- outputs that aren't of their types are not allowed

@@ -12,6 +12,8 @@ pub mod Ends
 pub mod Evaluated
 -- How a rule goes on where an expression has its value, and how the next rule is tried.
 pub mod Next
+-- With which effects a call has begun.
+pub mod Starts
 -- A right side from a place on: its impure calls, and the parts that they are.
 pub mod Steps
 -- What patterns that were read, and effects that were made, tell of a rule.

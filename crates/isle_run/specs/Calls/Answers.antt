@@ -4,9 +4,9 @@ use Rattle.std.specs.List.{AllZip}
 use Rattle.isle_types.specs.declared.ids.TermId.{TermId}
 use Rattle.isle_terms.specs.Values.{ValueTree, ValueTrees, value_list}
 use Rattle.isle_meaning.specs.Values.{Value, Values, no_values, more_values}
-use Rattle.isle_meaning.specs.ValueTypes.{ValueFacts, IsOfType}
+use Rattle.isle_meaning.specs.ValueTypes.{ValueFacts, IsOfType, AreOfTypes}
 use Rattle.isle_meaning.specs.GroundValues.{values_of, value_of}
-use Rattle.isle_meaning.specs.Worlds.{Answers, Event}
+use Rattle.isle_meaning.specs.Worlds.{CheckedProgram, Answers, Event}
 use Rattle.isle_meaning.specs.Asking.{Asked, asks_value, asks_outputs, ill_typed, Ended, stuck, spent}
 use Rattle.isle_run.specs.declared.calls.answer.Effect.{Effect}
 use Rattle.isle_run.specs.declared.program.Program.{Program}
@@ -27,10 +27,15 @@ answers_in program constructs extracts = record {
   extract = λ t tree. extracts (name_of_term program t) tree;
 }
 
--- it is the call of this term on these values
-abbrev pub IsCalledOn : ValueFacts → Asked → TermId → ValueTrees → Type 0
-IsCalledOn facts (asks_value t vs) term trees = (term.0 ≡ t) × (values_of facts trees ≡ vs)
-IsCalledOn facts (asks_outputs t v) term trees = (term.0 ≡ t) × (values_of facts trees ≡ more_values v no_values)
+-- these are the values, written at the types
+pub record AreWritten (facts : ValueFacts) (vs : Values) (types : List ℕ) (trees : ValueTrees) : Type 0 where
+  pub typed : AreOfTypes facts trees types
+  pub stand : values_of facts trees ≡ vs
+
+-- it is the call of this term on these values, each written at the type that the term takes there
+abbrev pub IsCalledOn : CheckedProgram → Asked → TermId → ValueTrees → Type 0
+IsCalledOn p (asks_value t vs) term trees = (term.0 ≡ t) × AreWritten p.values vs (p.terms.inputs t) trees
+IsCalledOn p (asks_outputs t v) term trees = (term.0 ≡ t) × AreWritten p.values (more_values v no_values) (p.terms.type_of t ∷ []) trees
 
 -- an effect, by its term's name
 pub record IsEventOf (program : Program) (effect : Effect) (event : Event) : Type 0 where
@@ -58,9 +63,10 @@ pub record HasMade {W : Type 0} (step : W → List ℕ → ValueTrees → Option
 abbrev pub IsEnd : Program → Answer → Ended → Type 0
 IsEnd program (ValueAnswer v) e = ⊥
 IsEnd program NoneAnswer e = ⊥
-IsEnd program (Stuck term args) e = (vs : Values) × (e ≡ stuck term.0 vs) × (values_of (checked program).values (value_list args.items) ≡ vs)
+IsEnd program (Stuck term args) e = (vs : Values) × (e ≡ stuck term.0 vs)
+    × AreWritten (checked program).values vs ((checked program).terms.inputs term.0) (value_list args.items)
 IsEnd program Spent e = e ≡ spent
-IsEnd program (IllTyped term args) e = (q : Asked) × (e ≡ ill_typed q) × IsCalledOn (checked program).values q term (value_list args.items)
+IsEnd program (IllTyped term args) e = (q : Asked) × (e ≡ ill_typed q) × IsCalledOn (checked program) q term (value_list args.items)
 
 -- the answer tells the outcome of a call of a term: a value of the term's type, none, or how the call ended
 abbrev pub TellsOutcome : Program → ℕ → Answer → Outcome Value → Type 0

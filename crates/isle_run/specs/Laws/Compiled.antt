@@ -1,16 +1,23 @@
 -- One call of a compiled program has one meaning.
-use Rattle.std.specs.Prelude.{◌≡◌, ℕ, Bool, true, false, List, Option}
+use Rattle.std.specs.Prelude.{◌≡◌, ◌≤◌, ℕ, Bool, true, false, List, Option, length}
 use Rattle.isle_syntax.specs.Positions.Files.{SourceFile}
 use Rattle.isle_meaning.specs.Values.{Value, Values}
 use Rattle.isle_meaning.specs.Worlds.{CheckedProgram, Answers, Event}
-use Rattle.isle_meaning.specs.Calls.{Means}
+use Rattle.isle_types.specs.declared.ids.TermId.{TermId}
+use Rattle.isle_meaning.specs.Answers.{Completion}
+use Rattle.isle_meaning.specs.Calls.{Agrees, CoversAll, Means}
+use Rattle.isle_meaning.specs.Asking.{spent}
+use Rattle.isle_meaning.specs.Outcomes.{ended}
+use Rattle.isle_meaning.specs.PlainRuns.{PlainRun}
 use Rattle.isle_blocks.specs.RuleFaults.{AreFaultless}
 use Rattle.isle_run.specs.declared.program.Program.{Program}
-use Rattle.isle_meaning.specs.Laws.Calls.{AreOne, HasNoTies, HasValues}
+use Rattle.isle_meaning.specs.Laws.Calls.{AreOne, HasNoTies, HasValues, Surely}
 use Rattle.isle_run.specs.Compiled.{IsProgramOf}
+use Rattle.isle_run.specs.Facts.Asked.{AreRoots}
 use Rattle.isle_run.specs.Facts.Inhabited.{AreAllInhabited}
+use Rattle.isle_run.specs.Facts.Reach.{Reaches, is_root}
 use Rattle.isle_run.specs.Meanings.{checked}
-use Rattle.isle_run.specs.Programs.{types_of}
+use Rattle.isle_run.specs.Programs.{types_of, terms_of}
 use Rattle.isle_run.specs.Laws.Sound.{RunsIn}
 use Rattle.isle_meaning.specs.SoundPrograms.{IsSound}
 
@@ -35,3 +42,17 @@ CompiledMeaningsAreOne = (files : List SourceFile) (program : Program) → IsPro
     → AreAllInhabited (types_of program).types
     → (w : Answers) (n t : ℕ) (args : Values) (one other : List Event) (x y : Option Value) → RunsIn program t
     → Means (checked program) w n t args one x → Means (checked program) w n t args other y → AreOne one x other y
+
+-- In a compiled program each of whose types is inhabited, for a call of a term that can be run there can't but be a completion that agrees
+-- one depth lower and answers what the call's rules ask.
+abbrev pub PremisesCanBeMet : Type 0
+PremisesCanBeMet = (files : List SourceFile) (program : Program) → IsProgramOf files program → AreAllInhabited (types_of program).types
+    → (w : Answers) (n t : ℕ) (args : Values) → RunsIn program t
+    → Surely ((c : Completion) × Agrees (checked program) w (Means (checked program) w n) c × CoversAll (checked program) c t args)
+
+-- Where no term of a program reaches itself, no plain run of a term with rules is spent at a depth of at least the number of such terms.
+abbrev pub AcyclicProgramsAreNotSpent : Type 0
+AcyclicProgramsAreNotSpent = (program : Program) → ((t : ℕ) → Reaches (types_of program) (terms_of program) t t → ⊥)
+    → (roots : List TermId) → AreRoots (terms_of program) roots
+    → (w : Answers) (n t : ℕ) (args : Values) (steps : ℕ) (trace : List Event) → length roots ≤ n → is_root (terms_of program) t ≡ true
+    → PlainRun (checked program) w n t args steps trace (ended spent) → ⊥

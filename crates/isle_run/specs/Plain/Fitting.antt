@@ -21,7 +21,6 @@ use Rattle.isle_meaning.specs.Outcomes.{Outcome, given, missing, ended, WorldExt
 use Rattle.isle_meaning.specs.PlainRuns.{PatternRuns, PatternsRun, EachRuns}
 use Rattle.isle_run.specs.Stores.Values.{Stands, StandEach}
 use Rattle.isle_terms.specs.Values.{value_list}
-use Rattle.isle_meaning.specs.ValueTypes.{ValueFacts}
 use Rattle.isle_meaning.specs.Asking.{Asked, ill_typed}
 use Rattle.isle_run.specs.declared.roads.plain.fitting.Fitted.{Fitted}
 use Rattle.isle_run.specs.declared.roads.plain.fitting.Fitted.TheVariants.{Fits, Leaves, IllTyped as UnfitCall}
@@ -36,10 +35,10 @@ abbrev pub HoldVariables : List Stored → Variables → (ℕ → Value) → Typ
 HoldVariables stored variables a = (k : ℕ) → Stands stored (a k) (number_of_variable variables k)
 
 -- what a pattern comes to: the values of its variables, the rule is left, or a call whose answer isn't allowed
-abbrev pub TellsFit : ValueFacts → List Stored → Variables → (Outcome (ℕ → Value) → Type 0) → Fitted → Type 0
-TellsFit facts stored variables P Fits = (b : ℕ → Value) × HoldVariables stored variables b × P (given b)
-TellsFit facts stored variables P Leaves = P missing
-TellsFit facts stored variables P (UnfitCall term args) = (q : Asked) × IsCalledOn facts q term (value_list args.items)
+abbrev pub TellsFit : CheckedProgram → List Stored → Variables → (Outcome (ℕ → Value) → Type 0) → Fitted → Type 0
+TellsFit p stored variables P Fits = (b : ℕ → Value) × HoldVariables stored variables b × P (given b)
+TellsFit p stored variables P Leaves = P missing
+TellsFit p stored variables P (UnfitCall term args) = (q : Asked) × IsCalledOn p q term (value_list args.items)
     × P (ended (ill_typed q))
 
 -- a pattern as definitions see it
@@ -54,19 +53,19 @@ all_shown_in program patterns = typed_list (map (typed_shown (types_of program).
 abbrev pub FitTold : Program → Answers → List Stored → List Stored → Variables → Variables → ℕ → Fitted → TypedPattern → Type 0
 FitTold program w old new before after n fitted q = (v : Value) (a : ℕ → Value) (types : ℕ → ℕ) (u : ℕ)
     → IsTyped (checked program).terms types q u → IsValueOf (checked program).values v u → Stands old v n → HoldVariables old before a
-    → TellsFit (checked program).values new after (PatternRuns (checked program) w a q v) fitted
+    → TellsFit (checked program) new after (PatternRuns (checked program) w a q v) fitted
 
 -- what patterns that were read on numbers, one each, tell
 abbrev pub FitAllTold : Program → Answers → List Stored → List Stored → Variables → Variables → List ℕ → Fitted → TypedPatterns → Type 0
 FitAllTold program w old new before after ns fitted qs = (vs : Values) (a : ℕ → Value) (types : ℕ → ℕ) (us : List ℕ)
     → AllTyped (checked program).terms types qs us → AreValuesOf (checked program).values vs us → StandEach old vs ns
-    → HoldVariables old before a → TellsFit (checked program).values new after (PatternsRun (checked program) w a qs vs) fitted
+    → HoldVariables old before a → TellsFit (checked program) new after (PatternsRun (checked program) w a qs vs) fitted
 
 -- what patterns that were read on one number tell
 abbrev pub FitEachTold : Program → Answers → List Stored → List Stored → Variables → Variables → ℕ → Fitted → TypedPatterns → Type 0
 FitEachTold program w old new before after n fitted qs = (v : Value) (a : ℕ → Value) (types : ℕ → ℕ) (u : ℕ)
     → EachTyped (checked program).terms types qs u → IsValueOf (checked program).values v u → Stands old v n → HoldVariables old before a
-    → TellsFit (checked program).values new after (EachRuns (checked program) w a qs v) fitted
+    → TellsFit (checked program) new after (EachRuns (checked program) w a qs v) fitted
 
 -- what a value opens into: the fields of a variant or struct, or an extractor's outputs
 abbrev pub OpensBy : CheckedProgram → Answers → TermShape → ℕ → ℕ → Value → Outcome Values → Type 0
@@ -82,7 +81,7 @@ OpensBy p w declared_shape ty t v g = WorldExtracts p w t v g
 abbrev pub OpensInto : Program → Answers → List Stored → List Stored → ℕ → ℕ → ℕ → Told (Vec ℕ Global) → Type 0
 OpensInto program w old new ty t n told = (v : Value) → Stands old v n
     → IsValueOf (checked program).values v ((checked program).terms.type_of t)
-    → TellsOutputs (checked program).values new (OpensBy (checked program) w ((checked program).terms.shape t) ty t v) told
+    → TellsOutputs (checked program) new (OpensBy (checked program) w ((checked program).terms.shape t) ty t v) told
 
 -- the fields of a node of a form, where it is of this form
 abbrev pub AreFieldsOf : Option Stored → (List ℕ → Stored) → Option (List ℕ) → Type 0

@@ -37,6 +37,7 @@ use Rattle.isle_run.specs.Plain.Laid.{IsLaidRule}
 use Rattle.isle_run.specs.Calls.States.{State, state}
 use Rattle.isle_meaning.specs.Outcomes.{Outcome, given, missing, ended, unmatched, ImpureRuns}
 use Rattle.isle_meaning.specs.PlainRuns.{RuleRuns, RightRuns, RulesRun, IfLetsRun, Tried, PlainRun}
+use Rattle.isle_meaning.specs.PlainBeginnings.{ImpureBegins, RightBegins, TriedBegins, RulesBegin, PlainBegins}
 use Rattle.isle_run.specs.Programs.{types_of}
 use Rattle.isle_run.specs.Stores.Values.{Stands, StandEach}
 use Rattle.isle_meaning.specs.SoundPrograms.{IsSoundRule}
@@ -52,6 +53,10 @@ use Rattle.isle_run.specs.Calls.Ways.{Way, AdvancesTo as AdvancesBy}
 abbrev pub CallComes : CallOf → ℕ → List Event → Outcome Value → Type 0
 CallComes k tried trace r = PlainRun (checked k.program) k.answers (suc k.depth) k.term k.args tried trace r
 
+-- its plain run begins with these effects
+abbrev pub CallBegins : CallOf → List Event → Type 0
+CallBegins k made = PlainBegins (checked k.program) k.answers (suc k.depth) k.term k.args made
+
 -- it ends so
 abbrev pub CallEnds : CallOf → ℕ → List Event → Answer → Type 0
 CallEnds k tried trace answer = (e : Ended) × IsEnd k.program answer e × CallComes k tried trace (ended e)
@@ -59,6 +64,10 @@ CallEnds k tried trace answer = (e : Ended) × IsEnd k.program answer e × CallC
 -- what the calls below it come to
 abbrev pub below_call : CallOf → ℕ → Values → List Event → Outcome Value → Type 0
 below_call k = runs_below (checked k.program) k.answers k.depth
+
+-- with which effects the calls below it begin
+abbrev pub begins_below : CallOf → ℕ → Values → List Event → Type 0
+begins_below k = PlainBegins (checked k.program) k.answers k.depth
 
 -- what an impure call that it makes comes to
 abbrev pub ImpureComes : CallOf → ℕ → Values → List Event → Outcome Value → Type 0
@@ -68,10 +77,15 @@ ImpureComes k t args effects r = ImpureRuns (checked k.program) (below_call k) t
 abbrev pub HasTypedArgs : CallOf → Type 0
 HasTypedArgs k = AreValuesOf (checked k.program).values k.args ((checked k.program).terms.inputs k.term)
 
+-- rules begin with these effects
+abbrev pub OthersBegin : CallOf → List ℕ → List Event → Type 0
+OthersBegin k others made = RulesBegin (checked k.program) k.answers (below_call k) (begins_below k) k.args others made
+
 -- the rules of these places are left to be tried, after so many
-abbrev pub RulesLead : CallOf → List ℕ → ℕ → Type 0
-RulesLead k others tried = (more : ℕ) (trace : List Event) (r : Outcome Value)
-    → RulesRun (checked k.program) k.answers (below_call k) k.term k.args others more trace r → CallComes k (tried + more) trace r
+pub record RulesLead (k : CallOf) (others : List ℕ) (tried : ℕ) : Type 0 where
+  pub comes : (more : ℕ) (trace : List Event) (r : Outcome Value)
+      → RulesRun (checked k.program) k.answers (below_call k) k.term k.args others more trace r → CallComes k (tried + more) trace r
+  pub begins : (made : List Event) → OthersBegin k others made → CallBegins k made
 
 -- a rule of a call that is tried: as it is known and laid out, the places of the rules that are left, and how many were tried with it
 pub record RuleTried : Type 0 where
@@ -113,11 +127,21 @@ StepsCome t a done steps trace r = RightRuns (checked t.call.program) t.call.ans
 abbrev pub RightComes : RuleTried → (ℕ → Value) → List Event → Outcome Value → Type 0
 RightComes t a trace r = StepsCome t a [] (right_steps t) trace r
 
+-- with these effects its impure calls begin, where those before them had these answers
+abbrev pub StepsBegin : RuleTried → (ℕ → Value) → List (Option Value) → List Step → List Event → Type 0
+StepsBegin t a done steps made = RightBegins (checked t.call.program) t.call.answers (below_call t.call) (begins_below t.call) a done steps made
+
+-- so does its right side
+abbrev pub RuleBegins : RuleTried → (ℕ → Value) → List Event → Type 0
+RuleBegins t a made = StepsBegin t a [] (right_steps t) made
+
 -- what the rule comes to, after so many, and then the others, the call comes to
-abbrev pub RuleLeads : RuleTried → ℕ → Type 0
-RuleLeads t before = (s : Outcome (ℕ → Value)) → RuleComes t s → (more : ℕ) (trace : List Event) (r : Outcome Value)
-    → Tried s (RightComes t) (RulesRun (checked t.call.program) t.call.answers (below_call t.call) t.call.term t.call.args t.others) more trace r
-    → CallComes t.call (before + more) trace r
+pub record RuleLeads (t : RuleTried) (before : ℕ) : Type 0 where
+  pub comes : (s : Outcome (ℕ → Value)) → RuleComes t s → (more : ℕ) (trace : List Event) (r : Outcome Value)
+      → Tried s (RightComes t) (RulesRun (checked t.call.program) t.call.answers (below_call t.call) t.call.term t.call.args t.others) more trace r
+      → CallComes t.call (before + more) trace r
+  pub begins : (s : Outcome (ℕ → Value)) → RuleComes t s → (made : List Event)
+      → TriedBegins s (RuleBegins t) (OthersBegin t.call t.others) made → CallBegins t.call made
 
 -- it is a rule of the call's term, laid out, and leads on after those that were tried before
 pub record IsTried (t : RuleTried) : Type 0 where
@@ -224,6 +248,7 @@ pub record RightSoFar (t : RuleTried) (is : IsTried t) (since : List Event) : Ty
   pub typed : AreTypedAnswers (checked t.call.program) answer_types done
   pub onward : (rest : List Event) (r : Outcome Value) → StepsCome t a done (drop (length done) (right_steps t)) rest r
       → RightComes t a (since ++ rest) r
+  pub begins : (rest : List Event) → StepsBegin t a done (drop (length done) (right_steps t)) rest → RuleBegins t a (since ++ rest)
 
 -- the surroundings of its expression
 abbrev pub around_right : {t : RuleTried} {is : IsTried t} {since : List Event} → RightSoFar t is since → Surroundings
@@ -304,6 +329,10 @@ awaited term numbers args = record { term = term; numbers = numbers; args = args
 abbrev pub AwaitedRuns : RuleTried → Awaited → List Event → Outcome Value → Type 0
 AwaitedRuns t call effects r = below_call t.call call.term.0 call.args effects r
 
+-- with these effects it begins, where it may be the world's
+abbrev pub AwaitedBegins : RuleTried → Awaited → List Event → Type 0
+AwaitedBegins t call made = ImpureBegins (checked t.call.program) (begins_below t.call) call.term.0 call.args made
+
 -- what it comes to, where it may be the world's
 abbrev pub AwaitedComes : RuleTried → Awaited → List Event → Outcome Value → Type 0
 AwaitedComes t call effects r = ImpureComes t.call call.term.0 call.args effects r
@@ -352,6 +381,7 @@ pub record IsWaitingFor (k : CallOf) (stored : List Stored) (frame : Frame) (sin
 abbrev pub plain_way : Way Frame
 plain_way = record {
   run = λ program. PlainRun (checked program);
+  begins = λ program. PlainBegins (checked program);
   is_frame = IsFrameOf;
   is_waiting = IsWaitingFor;
   steps_of = λ frame. frame.tried;

@@ -118,7 +118,7 @@ abbrev pub Tells : Surroundings → List Stored → Word → Evaluation → Eval
 Tells s stored whole e Done = IsUnderway s stored whole e × (e.todo.items ≡ [])
 Tells s stored whole e Missing = ComesTo s whole missing
 Tells s stored whole e (IllTyped term args) =
-    (vs : Values) × IsCalledOn (checked s.program).values (asks_value term.0 vs) term (value_list args.items)
+    (vs : Values) × IsCalledOn (checked s.program) (asks_value term.0 vs) term (value_list args.items)
     × ComesTo s whole (ended (ill_typed (asks_value term.0 vs)))
 Tells s stored whole e (Waits term numbers) =
     (args : Values) × IsUnderway s stored whole e × WaitsFor s stored e term numbers.items args
@@ -217,7 +217,7 @@ pub record IsCallAt (s : Surroundings) (stored : List Stored) (part : ℕ) (term
 
 -- a call whose answer isn't allowed, to which this comes
 abbrev pub ComesToRefused : Surroundings → Word → TermId → List ValueTree → Type 0
-ComesToRefused s x term trees = (vs : Values) × IsCalledOn (checked s.program).values (asks_value term.0 vs) term (value_list trees)
+ComesToRefused s x term trees = (vs : Values) × IsCalledOn (checked s.program) (asks_value term.0 vs) term (value_list trees)
     × ComesTo s x (ended (ill_typed (asks_value term.0 vs)))
 
 -- what a part comes to whose parts have been evaluated

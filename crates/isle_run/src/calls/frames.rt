@@ -1,5 +1,5 @@
 //! Calls of terms with rules that are open: one runs, and each of the others waits for the next.
-ghost use Rattle.std.specs.Prelude.{◌≡◌, ◌++◌, List, IfOk, reverse};
+ghost use Rattle.std.specs.Prelude.{◌≡◌, ◌++◌, List, IfOk, OnErr, reverse};
 ghost use Rattle.isle_types.specs.declared.ids.TermId.{TermId as TermNumber};
 ghost use Rattle.isle_meaning.specs.Outcomes.{Outcome, given, missing};
 ghost use Rattle.isle_meaning.specs.Values.{Value as MeantValue, Values};
@@ -10,7 +10,7 @@ ghost use Rattle.isle_run.specs.Calls.Answers.{TellsOutcome};
 ghost use Rattle.isle_run.specs.Calls.Open.{CallOf};
 ghost use Rattle.isle_run.specs.Calls.Stacks.{AreStacked, GoesOn, first_steps};
 ghost use Rattle.isle_run.specs.Calls.States.{host, state, answers_of, Makes, IsOpenIn, HasGoneOn};
-ghost use Rattle.isle_run.specs.Calls.Ways.{Below, Comes, IsReady, AdvancesTo};
+ghost use Rattle.isle_run.specs.Calls.Ways.{Below, Comes, HasBegun, IsReady, AdvancesTo};
 ghost use Rattle.isle_run.specs.Stores.Values.{Stands, StandEach};
 
 use crate::calls::answer::{Answer, Called, Effect};
@@ -66,6 +66,13 @@ pub fn answer_call<R: Road, W: World>(
         × R.way.run (R.compiled road.old)
         (answers_of (host W.step W.constructs W.extracts) (state (R.compiled road.old) world.old effects.old.items (R.stored road.old)))
         depth term.0 vs called.steps made r) }
+    ensures lost { OnErr result ((vs : Values) → StandEach (R.stored road.old) vs args.items → IsReady (R.compiled road.old) term.0 vs
+        → (made : List Event)
+        × Makes (host W.step W.constructs W.extracts) (state (R.compiled road.old) world.old effects.old.items (R.stored road.old))
+        (state (R.compiled road.new) world.new effects.new.items (R.stored road.new)) made
+        × R.way.begins (R.compiled road.old)
+        (answers_of (host W.step W.constructs W.extracts) (state (R.compiled road.old) world.old effects.old.items (R.stored road.old)))
+        depth term.0 vs made) }
     ensures goes_on { HasGoneOn (host W.step W.constructs W.extracts)
         (state (R.compiled road.old) world.old effects.old.items (R.stored road.old))
         (state (R.compiled road.new) world.new effects.new.items (R.stored road.new)) }
@@ -102,10 +109,16 @@ fn advance<R: Road, W: World>(
         × Makes (host W.step W.constructs W.extracts) (state (R.compiled road.old) world.old effects.old.items (R.stored road.old))
         (state (R.compiled road.new) world.new effects.new.items (R.stored road.new)) made
         × AdvancesTo R.way k (R.stored road.new) frame.new (since ++ made) advanced) }
+    ensures lost { OnErr result ((k : CallOf) (since : List Event)
+        → IsOpenIn (host W.step W.constructs W.extracts) k (state (R.compiled road.old) world.old effects.old.items (R.stored road.old))
+        → R.way.is_frame k (R.stored road.old) frame.old since → HasBegun (host W.step W.constructs W.extracts) R.way
+        (state (R.compiled road.old) world.old effects.old.items (R.stored road.old))
+        (state (R.compiled road.new) world.new effects.new.items (R.stored road.new)) k since) }
     ensures goes_on { HasGoneOn (host W.step W.constructs W.extracts)
         (state (R.compiled road.old) world.old effects.old.items (R.stored road.old))
         (state (R.compiled road.new) world.new effects.new.items (R.stored road.new)) }
 {
+    road.laws();
     for _ in 0..usize::MAX {
         match road.go(frame, world, effects)? {
             Turn::On => {}

@@ -1,5 +1,5 @@
 //! Calls that a world answers.
-ghost use Rattle.std.specs.Prelude.{◌≡◌, ◌↔◌, List, [], ◌∷◌, Option, IfOk, OnErr, IsTrue, map, option_copied};
+ghost use Rattle.std.specs.Prelude.{◌≡◌, ◌↔◌, ◌⊎◌, List, [], ◌∷◌, Option, IfOk, OnErr, IsTrue, map, option_copied};
 ghost use Rattle.isle_terms.specs.Values.{ValueTree, value_list, more_values, no_values};
 ghost use Rattle.isle_meaning.specs.Values.{Value as MeantValue, Values};
 ghost use Rattle.isle_meaning.specs.ValueTypes.{AreOfTypes};
@@ -9,6 +9,7 @@ ghost use Rattle.isle_meaning.specs.Asking.{Asked, asks_value};
 ghost use Rattle.isle_run.specs.Worlds.Entries.{part_shown};
 ghost use Rattle.isle_run.specs.Meanings.{checked};
 ghost use Rattle.isle_meaning.specs.Outcomes.{Judged, WorldConstructs, WorldExtracts, WorldEffects};
+ghost use Rattle.isle_meaning.specs.PlainBeginnings.{IsEffectOn};
 ghost use Rattle.isle_run.specs.Programs.{value_facts, number_of};
 ghost use Rattle.isle_run.specs.Stores.Values.{Stands, StandEach, Extends};
 ghost use Rattle.isle_run.specs.Calls.Answers.{answers_in, IsCalledOn, HasMade};
@@ -42,7 +43,7 @@ impl Program {
     ) -> Result<Told<usize>, AllocError>
         ensures asked { IfOk result (λ told. (vs : Values) → StandEach store.old vs args.now
             → AreValuesOf (checked self.now).values vs ((checked self.now).terms.inputs term.0)
-            → TellsValue (checked self.now).values store.new (asks_value term.0 vs)
+            → TellsValue (checked self.now) store.new (asks_value term.0 vs)
             (WorldConstructs (checked self.now) (answers_in self.now (W.constructs world.now) (W.extracts world.now)) term.0 vs) told) }
         ensures kept { Extends store.old store.new }
     {
@@ -64,8 +65,12 @@ impl Program {
         ensures asked { IfOk result (λ told. (vs : Values) → StandEach store.old vs args.now
             → AreValuesOf (checked self.now).values vs ((checked self.now).terms.inputs term.0) → (event : Event)
             × HasMade W.step self.now world.old effects.old.items world.new effects.new.items (event ∷ [])
-            × TellsValue (checked self.now).values store.new (asks_value term.0 vs)
+            × TellsValue (checked self.now) store.new (asks_value term.0 vs)
             (WorldEffects (checked self.now) term.0 vs (event ∷ [])) told) }
+        ensures lost { OnErr result ((vs : Values) → StandEach store.old vs args.now
+            → AreValuesOf (checked self.now).values vs ((checked self.now).terms.inputs term.0) → (events : List Event)
+            × HasMade W.step self.now world.old effects.old.items world.new effects.new.items events
+            × ((events ≡ []) ⊎ IsEffectOn (checked self.now) term.0 vs events)) }
         ensures made { (events : List Event) × HasMade W.step self.now world.old effects.old.items world.new effects.new.items events }
         ensures same { (W.constructs world.new ≡ W.constructs world.old) × (W.extracts world.new ≡ W.extracts world.old) }
         ensures kept { Extends store.old store.new }
@@ -111,8 +116,8 @@ impl Program {
         args: Vec<Value>,
         answer: Option<&Value>,
     ) -> Result<Told<usize>, AllocError>
-        ensures judged { IfOk result (λ told. (q : Asked) → IsCalledOn (checked self.now).values q term (value_list args.items)
-            → TellsValue (checked self.now).values store.new q
+        ensures judged { IfOk result (λ told. (q : Asked) → IsCalledOn (checked self.now) q term (value_list args.items)
+            → TellsValue (checked self.now) store.new q
             (Judged (AllowsValue (checked self.now) term.0 (option_copied answer.entry))
             (answer_value (checked self.now) (option_copied answer.entry)) q) told) }
         ensures kept { Extends store.old store.new }
@@ -146,7 +151,7 @@ impl Program {
     ) -> Result<Told<Vec<usize>>, AllocError>
         ensures asked { IfOk result (λ told. (v : MeantValue) → Stands store.old v arg
             → IsValueOf (checked self.now).values v ((checked self.now).terms.type_of term.0)
-            → TellsOutputs (checked self.now).values store.new
+            → TellsOutputs (checked self.now) store.new
             (WorldExtracts (checked self.now) (answers_in self.now (W.constructs world.now) (W.extracts world.now)) term.0 v) told) }
         ensures kept { Extends store.old store.new }
     {
@@ -164,8 +169,8 @@ impl Program {
         arg: Value,
         answer: Option<Vec<Value>>,
     ) -> Result<Told<Vec<usize>>, AllocError>
-        ensures judged { IfOk result (λ told. (q : Asked) → IsCalledOn (checked self.now).values q term (more_values arg no_values)
-            → TellsOutputs (checked self.now).values store.new
+        ensures judged { IfOk result (λ told. (q : Asked) → IsCalledOn (checked self.now) q term (more_values arg no_values)
+            → TellsOutputs (checked self.now) store.new
             (Judged (AllowsOutputs (checked self.now) term.0 (part_shown answer)) (answer_values (checked self.now) (part_shown answer))
             q) told) }
         ensures kept { Extends store.old store.new }

@@ -9,10 +9,9 @@ use Rattle.isle_types.specs.TypeTables.{name_at}
 use Rattle.isle_types.specs.TypeEnvs.{type_at}
 use Rattle.isle_terms.specs.Values.{value_list}
 use Rattle.isle_meaning.specs.Values.{Value, Values, bool_value, int_value, constant_value, made_variant, made_struct}
-use Rattle.isle_meaning.specs.ValueTypes.{ValueFacts}
 use Rattle.isle_meaning.specs.GroundValues.{AreValuesOf}
 use Rattle.isle_meaning.specs.Words.{Word, var_word, bool_word, int_word, prim_word, variant_word, struct_word, call_word, Words}
-use Rattle.isle_meaning.specs.Worlds.{Answers}
+use Rattle.isle_meaning.specs.Worlds.{Answers, CheckedProgram}
 use Rattle.isle_meaning.specs.Asking.{Asked, asks_value, ill_typed}
 use Rattle.isle_run.specs.declared.roads.plain.evaluation.Step.{Step}
 use Rattle.isle_run.specs.declared.roads.plain.evaluation.Step.TheVariants.{Is, Missing as Misses, IllTyped as Refused}
@@ -50,14 +49,14 @@ step_told (IllTyped term args) = Refused term args
 abbrev pub WorldTells : Program → Answers → List Stored → List Stored → TermId → List ℕ → Told ℕ → Type 0
 WorldTells program answers old new term numbers told = (vs : Values) → StandEach old vs numbers
     → AreValuesOf (checked program).values vs ((checked program).terms.inputs term.0)
-    → TellsValue (checked program).values new (asks_value term.0 vs) (WorldConstructs (checked program) answers term.0 vs) told
+    → TellsValue (checked program) new (asks_value term.0 vs) (WorldConstructs (checked program) answers term.0 vs) told
 
 -- what is told of one outcome is told of what follows from it
-pub tells_mapped : (facts : ValueFacts) (stored : List Stored) (q : Asked) (P Q : Outcome Value → Type 0) (told : Told ℕ)
-    → ((r : Outcome Value) → P r → Q r) → TellsValue facts stored q P told → TellsValue facts stored q Q told
-tells_mapped facts stored q P Q (Gives n) f (v, stands, h) = (v, stands, f (given v) h)
-tells_mapped facts stored q P Q Missing f h = f missing h
-tells_mapped facts stored q P Q (IllTyped term args) f (called, h) = (called, f _ h)
+pub tells_mapped : (p : CheckedProgram) (stored : List Stored) (q : Asked) (P Q : Outcome Value → Type 0) (told : Told ℕ)
+    → ((r : Outcome Value) → P r → Q r) → TellsValue p stored q P told → TellsValue p stored q Q told
+tells_mapped p stored q P Q (Gives n) f (v, stands, h) = (v, stands, f (given v) h)
+tells_mapped p stored q P Q Missing f h = f missing h
+tells_mapped p stored q P Q (IllTyped term args) f (called, h) = (called, f _ h)
 
 module _ (s : Surroundings) where
   -- the calls below give values of their types
@@ -299,7 +298,7 @@ module _ (s : Surroundings) (place : ℕ) where
   called_at : (old new : List Stored) (term : TermId) (ns numbers : List ℕ) → IsTypedAround s
       → (checked s.program).has_rules term.0 ≡ false → slice_get s.parts place ≡ Some (Call term ns) → AreKnown s old ns numbers
       → (told : Told ℕ) → WorldTells s.program s.answers old new term numbers told → (x : Word) (u : ℕ) → IsPart s x u place
-      → (vs : Values) × TellsValue (checked s.program).values new (asks_value term.0 vs) (ComesTo s x) told
+      → (vs : Values) × TellsValue (checked s.program) new (asks_value term.0 vs) (ComesTo s x) told
   called_at old new term ns numbers around outside there known told tells (var_word k) u ((other, is, of), typed) = absurd cc
   called_at old new term ns numbers around outside there known told tells (bool_word ty b) u (is, typed) = absurd cc
   called_at old new term ns numbers around outside there known told tells (int_word ty i) u (is, typed) = absurd cc
@@ -316,7 +315,7 @@ module _ (s : Surroundings) (place : ℕ) where
       let args = subst (λ z. AreValuesOf (checked s.program).values vs ((checked s.program).terms.inputs z)) (sym e)
       (args_typed s around ws _ vs (typed.3) ran) in (
         vs,
-        tells_mapped (checked s.program).values new (asks_value term.0 vs) (WorldConstructs (checked s.program) s.answers term.0 vs)
+        tells_mapped (checked s.program) new (asks_value term.0 vs) (WorldConstructs (checked s.program) s.answers term.0 vs)
             (ComesTo s (call_word t ws zero)) told
             (λ r made. world_answers t ws vs r (subst (λ z. (checked s.program).has_rules z ≡ false) e outside) ran
             (subst (λ z. WorldConstructs (checked s.program) s.answers z vs r) e made)) (tells vs stand args),
@@ -335,7 +334,7 @@ module _ (s : Surroundings) (place : ℕ) where
   comes_told old new term ns numbers around outside there known (IllTyped other args) tells = λ x u part.
       let (vs, (called, runs)) = called_at old new term ns numbers around outside there known (IllTyped other args) tells x u part in (
         vs,
-        subst (λ z. IsCalledOn (checked s.program).values (asks_value z vs) other (value_list args.items)) (sym (called.0)) called,
+        subst (λ z. IsCalledOn (checked s.program) (asks_value z vs) other (value_list args.items)) (sym (called.0)) called,
         subst (λ z. ComesTo s x (ended (ill_typed (asks_value z vs)))) (sym (called.0)) runs,
       )
 

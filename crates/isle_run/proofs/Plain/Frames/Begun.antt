@@ -220,6 +220,7 @@ module _ {t : RuleTried} (is : IsTried t) (s : Progress) (a : ℕ → Value) (ho
           result = whole;
           typed = none_answered p D;
           onward = λ rest r run. run;
+          begins = λ rest begun. begun;
         };
         hold = hold;
         stage = inl refl;

@@ -1,4 +1,5 @@
 -- The call that a rule waits for is answered, or comes to no value.
+use Rattle.isle_meaning.specs.PlainBeginnings.{ImpureBegins}
 use Rattle.std.proofs.Common.{◌≡◌, ◌++◌, ◌<◌, ◌≤◌, ◌⊎◌, inl, inr, ℕ, zero, suc, true, Bool, List, [], ◌∷◌, Some, None, length, slice_get}
 use Rattle.std.proofs.Common.{drop, refl, sym, ◌∙◌, ap, subst, arith, append_assoc}
 use Rattle.std.proofs.lemmas.List.{append-nil, length-set}
@@ -20,7 +21,7 @@ use Rattle.isle_meaning.specs.TypedWords.{IsTypedWord, IsTypedStep}
 use Rattle.isle_run.specs.Plain.Underway.{Surroundings, Stops, HasTypedValue, IsPart, ComesTo, AllComeTo, IsKnown, IsAnswered}
 use Rattle.isle_run.specs.Plain.Underway.{known_at, runs_below, WaitsFor}
 use Rattle.isle_run.specs.Plain.Asked.{IsAskedFor}
-use Rattle.isle_run.specs.Plain.Frames.{CallComes, below_call, ImpureComes, RuleTried, right_steps, right_word, StepsCome, RightComes}
+use Rattle.isle_run.specs.Plain.Frames.{CallComes, below_call, ImpureComes, RuleTried, right_steps, right_word, StepsCome, RightComes, AwaitedBegins, RuleBegins, StepsBegin, begins_below}
 use Rattle.isle_run.specs.Plain.Frames.{IsTried, Progress, later, around_condition, condition_word, IsAtIfLet, RightSoFar, around_right}
 use Rattle.isle_run.specs.Plain.Frames.{IsAtRight, root_at, Awaited, AwaitedRuns, AwaitedComes, WaitsAtIfLet, WaitsAtRight}
 use Rattle.isle_run.proofs.Stores.Values.{extends_same}
@@ -227,6 +228,21 @@ module _ {t : RuleTried} {is : IsTried t} {s : Progress} {place : ℕ} {since : 
         at_place = omega (arith, placed);
       }
 
+  -- the impure calls that are left: this one first
+  steps_left : (i : ℕ) (impure : w.waits.place ≡ suc i) → drop (length w.at.right.done) (right_steps t)
+      ≡ (step_here i impure).step ∷ drop (suc place) (right_steps t)
+  steps_left i impure = let h = step_here i impure in
+      ap (λ (n : ℕ). drop n (right_steps t)) h.none_done ∙ drop_there (right_steps t) place h.step h.there
+
+  -- the right side begins with this call
+  pub right_begins_here : (i : ℕ) → w.waits.place ≡ suc i → (made : List Event) → AwaitedBegins t call made
+      → RuleBegins t w.at.right.a (since ++ made)
+  right_begins_here i impure made begun =
+      let h = step_here i impure in
+      let its = subst (λ (n : ℕ). ImpureBegins (checked t.call.program) (begins_below t.call) n call.args made) h.of_term begun in
+      w.at.right.begins made (subst (λ (steps : List Step). StepsBegin t w.at.right.a w.at.right.done steps made) (sym (steps_left i impure))
+      (inr (call.args, h.ran, inl its)))
+
   module _ (i : ℕ) (impure : w.waits.place ≡ suc i) (effects : List Event) where
     -- what the right side does from this call on it does in the whole
     right_from_here : (b r : Outcome Value) (rest : List Event) → AwaitedComes t call effects b
@@ -234,14 +250,26 @@ module _ {t : RuleTried} {is : IsTried t} {s : Progress} {place : ℕ} {since : 
         → RightComes t w.at.right.a ((since ++ effects) ++ rest) r
     right_from_here b r rest made next =
         let h = step_here i impure in
-        let left : drop (length w.at.right.done) (right_steps t) ≡ h.step ∷ drop (suc place) (right_steps t) =
-        ap (λ (n : ℕ). drop n (right_steps t)) h.none_done ∙ drop_there (right_steps t) place h.step h.there in
+        let left = steps_left i impure in
         let its = subst (λ (n : ℕ). ImpureComes t.call n call.args effects b) h.of_term made in
         let run : StepsCome t w.at.right.a w.at.right.done (h.step ∷ drop (suc place) (right_steps t)) (effects ++ rest) r =
         (given call.args, h.ran, (effects, rest, b, refl, its, next)) in
         subst (λ (trace : List Event). RightComes t w.at.right.a trace r) (sym (append_assoc since effects rest))
         (w.at.right.onward (effects ++ rest) r
         (subst (λ (steps : List Step). StepsCome t w.at.right.a w.at.right.done steps (effects ++ rest) r) (sym left) run))
+
+    -- once the call is answered, the right side begins with what follows
+    begins_from_here : (v : Value) (rest : List Event) → AwaitedComes t call effects (given v)
+        → StepsBegin t w.at.right.a (w.at.right.done ++ Some v ∷ []) (drop (suc place) (right_steps t)) rest
+        → RuleBegins t w.at.right.a ((since ++ effects) ++ rest)
+    begins_from_here v rest made next =
+        let h = step_here i impure in
+        let its = subst (λ (n : ℕ). ImpureComes t.call n call.args effects (given v)) h.of_term made in
+        let begun : StepsBegin t w.at.right.a w.at.right.done (h.step ∷ drop (suc place) (right_steps t)) (effects ++ rest) =
+        inr (call.args, h.ran, inr (effects, rest, v, refl, its, next)) in
+        subst (λ (trace : List Event). RuleBegins t w.at.right.a trace) (sym (append_assoc since effects rest))
+        (w.at.right.begins (effects ++ rest)
+        (subst (λ (steps : List Step). StepsBegin t w.at.right.a w.at.right.done steps (effects ++ rest)) (sym (steps_left i impure)) begun))
 
     -- where the call comes to no value, so does the rule's call
     pub right_unanswered : (b : Outcome Value) → Stops b → AwaitedComes t call effects b
@@ -282,6 +310,8 @@ module _ {t : RuleTried} {is : IsTried t} {s : Progress} {place : ℕ} {since : 
       typed = answers_append (checked t.call.program) w.at.right.answer_types w.at.right.done v w.at.right.typed (answer_typed v made);
       onward = λ rest r run. right_from_here (given v) r rest made (subst (λ (n : ℕ). StepsCome t w.at.right.a
           (w.at.right.done ++ Some v ∷ []) (drop n (right_steps t)) rest r) (longer v) run);
+      begins = λ rest begun. begins_from_here v rest made (subst (λ (n : ℕ). StepsBegin t w.at.right.a
+          (w.at.right.done ++ Some v ∷ []) (drop n (right_steps t)) rest) (longer v) begun);
     }
 
     -- once it is answered the right side goes on

@@ -192,7 +192,7 @@ pub effect_ends : {k : CallOf} {old new : List Stored} → Extends old new → (
     {tried : ℕ} {since : List Event} {call : Awaited}
     → IsRuleHeldUp (rule_tried k current others tried) (progress old (record current { evaluation = before })) current.at since call
     → (effects : List Event) (after : Evaluation) (told : Told ℕ) (ending : Ending) → (checked k.program).has_rules call.term.0 ≡ false
-    → TellsValue (checked k.program).values new (asks_value call.term.0 call.args)
+    → TellsValue (checked k.program) new (asks_value call.term.0 call.args)
     (WorldEffects (checked k.program) call.term.0 call.args effects) told
     → IsEndingOf told before after ending → RuleEnds k new (record current { evaluation = after }) others tried (since ++ effects) ending
 effect_ends {k = k} {new = new} extends current before {others = others} {tried = tried} {since = since} {call = call} held effects after
@@ -202,7 +202,7 @@ effect_ends {k = k} {new = new} extends current before {others = others} {tried 
         → ImpureComes k call.term.0 call.args effects r
     effect r made = subst (λ b. EffectsIf (checked k.program) (below_call k) b call.term.0 call.args effects r) (sym outside) made
 
-    go : (told : Told ℕ) (ending : Ending) → TellsValue (checked k.program).values new (asks_value call.term.0 call.args)
+    go : (told : Told ℕ) (ending : Ending) → TellsValue (checked k.program) new (asks_value call.term.0 call.args)
         (WorldEffects (checked k.program) call.term.0 call.args effects) told
         → IsEndingOf told before after ending → RuleEnds k new (record current { evaluation = after }) others tried (since ++ effects) ending
     go (Gives number) ending (v, stands, made) (on, answered) =

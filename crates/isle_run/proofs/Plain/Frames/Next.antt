@@ -230,7 +230,7 @@ pub none_leads : (k : CallOf) (tried : ℕ) → RulesLead k [] tried
 none_leads k tried leads =
     let same : tried + 0 ≡ tried = omega arith in
     subst (λ (n : ℕ). CallComes k n [] (unmatched ((checked k.program).terms.partial k.term) k.term k.args)) same
-    (leads 0 [] _ (refl, refl, refl))
+    (leads.comes 0 [] _ (refl, refl, refl))
 
 module _ {t : RuleTried} (is : IsTried t) where
   -- a rule whose patterns don't fit is left
@@ -265,6 +265,9 @@ pub new_frame : (k : CallOf) (program : Program) (places : List ℕ) → k.progr
 new_frame k program places of_program tried =
     let its = subst (λ (p : Program). AreTriedInOrder (checked p) k.term places) (sym of_program) tried in (
       λ i h. (its.all i).0 h,
-      λ more trace r run.
-          (let same : more ≡ 0 + more = omega arith in subst (λ (n : ℕ). CallComes k n trace r) same (places, its, run)),
+      record {
+        comes = λ more trace r run.
+            (let same : more ≡ 0 + more = omega arith in subst (λ (n : ℕ). CallComes k n trace r) same (places, its, run));
+        begins = λ made begun. inr (places, its, begun);
+      },
     )

@@ -1,5 +1,6 @@
 -- What patterns that were read, effects that were made and what was evaluated tell of a rule.
-use Rattle.std.proofs.Common.{◌≡◌, ℕ, suc, List, [], ◌∷◌, Option, Some, slice_get, refl, sym, ◌∙◌, ap, subst}
+use Rattle.isle_meaning.specs.PlainBeginnings.{IsEffectOn}
+use Rattle.std.proofs.Common.{◌≡◌, ℕ, suc, List, [], ◌∷◌, Option, Some, slice_get, refl, sym, ◌∙◌, ap, subst, ◌⊎◌}
 use Rattle.std.specs.Prelude.{unwrap_or}
 use Rattle.isle_types.specs.declared.ids.TermId.{TermId}
 use Rattle.isle_terms.specs.declared.rules.IfLet.{IfLet as Condition}
@@ -47,7 +48,13 @@ use Rattle.isle_run.proofs.Plain.Frames.Next.{pattern_fits, shown_there, pattern
 abbrev pub EffectTold : (List Event → Type 0) → List Stored → List Stored → TermId → List ℕ → Told ℕ → Program → Type 0
 EffectTold X old new term numbers told program = (vs : Values) → StandEach old vs numbers
     → AreValuesOf (checked program).values vs ((checked program).terms.inputs term.0) → (event : Event) × X (event ∷ [])
-    × TellsValue (checked program).values new (asks_value term.0 vs) (WorldEffects (checked program) term.0 vs (event ∷ [])) told
+    × TellsValue (checked program) new (asks_value term.0 vs) (WorldEffects (checked program) term.0 vs (event ∷ [])) told
+
+-- what one tells that may have been made where memory is wanted
+abbrev pub EffectLost : (List Event → Type 0) → List Stored → TermId → List ℕ → Program → Type 0
+EffectLost X old term numbers program = (vs : Values) → StandEach old vs numbers
+    → AreValuesOf (checked program).values vs ((checked program).terms.inputs term.0) → (events : List Event) × X events
+    × ((events ≡ []) ⊎ IsEffectOn (checked program) term.0 vs events)
 
 -- what holds in a state of its program and of what its world answers holds of the call's
 pub of_open : {W : Type 0} {host : Host W} {k : CallOf} {s : State W} → IsOpenIn host k s → (P : Program → Answers → Type 0)
@@ -102,13 +109,13 @@ module _ {t : RuleTried} {s : Progress} {place : ℕ} {since : List Event} (tryi
   condition_ends fitted told =
       let p = checked t.call.program in let c = at.condition in
       let (n, known, (v, stands, comes)) = condition_value at empty in
-      go v comes fitted (subst (λ (q : TypedPattern). TellsFit p.values new found (PatternRuns p t.call.answers c.a q v) fitted)
+      go v comes fitted (subst (λ (q : TypedPattern). TellsFit p new found (PatternRuns p t.call.answers c.a q v) fitted)
       (sym pattern_is) (told v c.a trying.is.sound.var_types c.type
       (subst (λ (q : TypedPattern). IsTyped p.terms trying.is.sound.var_types q c.type) pattern_is c.fits) (value_typed c v comes)
       (subst (Stands s.stored v) (sym (number_is n known)) stands) at.hold))
     where
       go : (v : Value) → ComesTo (around_condition at.condition) (condition_word at.condition) (given v) → (fitted : Fitted)
-          → TellsFit (checked t.call.program).values new found (PatternComes at.condition v) fitted
+          → TellsFit (checked t.call.program) new found (PatternComes at.condition v) fitted
           → ConditionEnds t new found place since fitted
       go v comes Fits (b, hold, run) = λ after next begun. record {
         is = trying.is;
@@ -164,7 +171,10 @@ module _ (t : RuleTried) (may : may_run t.call.program t.call.term) (args_typed 
     args_typed = args_typed;
     before = before;
     counts = counts;
-    leads = λ s run more trace r rest. leads more trace r (rule_of t, laid_out.there, s, run, rest);
+    leads = record {
+      comes = λ s run more trace r rest. leads.comes more trace r (rule_of t, laid_out.there, s, run, rest);
+      begins = λ s run made begun. leads.begins made (rule_of t, laid_out.there, s, run, begun);
+    };
   }
 
   -- what the rule's patterns come to the call comes to
@@ -176,7 +186,7 @@ module _ (t : RuleTried) (may : may_run t.call.program t.call.term) (args_typed 
       is_tried.sound.var_types ((checked t.call.program).terms.inputs (rule_of t).root) is_tried.sound.typed.args (root_typed is_tried)
       stand (λ i. subst (Stands old (no_variables i)) (sym (each i)) stands))
     where
-      go : (fitted : Fitted) → TellsFit (checked t.call.program).values new found (PatternsCome t) fitted
+      go : (fitted : Fitted) → TellsFit (checked t.call.program) new found (PatternsCome t) fitted
           → PatternsEnd t new found fitted
       go Fits (b, hold, run) = λ after at begun. record {
         is = is_tried;

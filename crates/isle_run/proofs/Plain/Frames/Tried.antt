@@ -1,4 +1,5 @@
 -- A frame whose next rule is tried, or which has none left.
+use Rattle.isle_run.specs.Calls.Answers.{AreWritten}
 use Rattle.std.proofs.Common.{◌≡◌, ◌+◌, ◌<◌, ◌^◌, ℕ, zero, suc, false, List, [], ◌∷◌, Option, Some, None, length, map, slice_get}
 use Rattle.std.proofs.Common.{refl, sym, ◌∙◌, ap, subst, arith, Contains}
 use Rattle.std.proofs.lemmas.List.Elements.{Contains-append_right}
@@ -133,7 +134,12 @@ stuck_told k program of_program stored frame h types taken values printed partia
     (subst (λ (p : Program). AreValuesOf (value_facts p) k.args ((checked p).terms.inputs k.term)) of_program h.typed)) in
     let shown = printed k.args h.stand typed in (
       stuck frame.term.0 k.args,
-      (k.args, refl, subst (λ (p : Program). values_of (value_facts p) (value_list values.items) ≡ k.args) (sym of_program) shown.1),
+      (
+        k.args,
+        refl,
+        subst (λ (p : Program). AreWritten (checked p).values k.args ((checked p).terms.inputs frame.term.0) (value_list values.items))
+            (sym of_program) (record { typed = subst (AreOfTypes (value_facts program) (value_list values.items)) inputs shown.0; stand = shown.1 }),
+      ),
       ap (λ b. unmatched b k.term k.args) its ∙ ap (λ (t : ℕ). ended (stuck t k.args)) (sym h.term),
     )
 

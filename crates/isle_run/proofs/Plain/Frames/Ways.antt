@@ -1,4 +1,5 @@
 -- The plain road is a way to answer calls, and what a call of it tells is meant.
+use Rattle.isle_meaning.specs.PlainBeginnings.{PlainBegins}
 use Rattle.std.proofs.Common.{ℕ, List, refl}
 use Rattle.isle_meaning.specs.Outcomes.{Outcome, given, missing, ended, IsAskedAtEnd}
 use Rattle.isle_meaning.specs.PlainRuns.{PlainRun}
@@ -10,10 +11,12 @@ use Rattle.isle_run.specs.Calls.Answers.{TellsOutcome}
 use Rattle.isle_run.specs.Calls.Ways.{IsWay, IsReady}
 use Rattle.isle_run.specs.Meanings.{checked, may_run}
 use Rattle.isle_run.specs.Plain.Frames.{plain_way}
-use Rattle.isle_run.specs.PlainCalls.{TellsPlainly}
+use Rattle.isle_run.specs.PlainCalls.{TellsPlainly, BeginsPlainly}
 use Rattle.isle_meaning.proofs.Calls.Effectless.{pure_makes_nothing}
+use Rattle.isle_meaning.proofs.Calls.Beginnings.{plain_stops, plain_begins, pure_begins_empty}
 use Rattle.isle_meaning.proofs.Calls.Meant.{plain_run_meant}
 use Rattle.isle_meaning.proofs.Chains.Ends.{runs_end}
+use Rattle.isle_run.proofs.Plain.Frames.Starts.{frame_begun, waiting_begins}
 use Rattle.isle_run.proofs.Plain.Frames.Waiting.{waiting_ends, waiting_longer}
 use Rattle.isle_run.proofs.SoundPrograms.Known.{sound_of}
 
@@ -24,6 +27,10 @@ plain_is_way = record {
   typed = λ program w n t vs steps trace v ready run.
       (plain_run_meant (checked program) w (may_run program) (sound_of program).sound n t vs steps trace (given v) ready.may ready.typed run).1;
   ends = λ k stored frame since trace term vs e waits below. waiting_ends k stored frame since term vs waits trace e below;
+  stops = λ program w n t vs. plain_stops (checked program) w n t vs;
+  begins_so = λ program w n t vs steps trace r run. plain_begins (checked program) w n t vs steps trace r run;
+  begun = frame_begun;
+  begun_below = waiting_begins;
   longer = λ k old new frame since term vs extends waits. waiting_longer k old frame since term vs waits extends;
   deep = λ k stored frame since term vs waits. waits.for_call.depth;
   ready = λ k stored frame since term vs waits. record { may = waits.may_call; typed = waits.held.args_typed };
@@ -47,3 +54,11 @@ run_tells program w n t vs called made r ready told run = record {
     asked missing run = tt
     asked (ended e) run = runs_end (checked program) w (may_run program) (sound_of program).sound
         (plain_run_meant (checked program) w (may_run program) (sound_of program).sound) n t vs called.steps made e ready.may ready.typed run
+
+-- and one that stops begins with its effects
+pub run_begins : (program : Program) (w : Answers) (n t : ℕ) (vs : Values) (made : List Event) → IsReady program t vs
+    → PlainBegins (checked program) w n t vs made → BeginsPlainly program w n t vs made
+run_begins program w n t vs made ready begun = record {
+  begins = begun;
+  pure = λ pure. pure_begins_empty (checked program) w (may_run program) (sound_of program).sound n t vs made pure ready.may begun;
+}

@@ -35,7 +35,7 @@ module _ (program : Program) (w : Answers) (types : ℕ → ℕ) (P : Outcome (�
   -- where a pattern doesn't fit its value, the others aren't read
   pub all_gone : (numbers : List ℕ) (stored : List Stored) (variables : Variables) (i : ℕ) (fitted : Fitted) → (fitted ≡ Fits → ⊥)
       → AllGo (checked program) w types P stored variables (all_shown_in program (drop i patterns))
-      (drop i numbers) fitted → TellsFit (checked program).values stored variables P fitted
+      (drop i numbers) fitted → TellsFit (checked program) stored variables P fitted
   all_gone numbers stored variables i Fits differs h = absurd (differs refl)
   all_gone numbers stored variables i Leaves differs h = h
   all_gone numbers stored variables i (UnfitCall term args) differs h = h
@@ -43,7 +43,7 @@ module _ (program : Program) (w : Answers) (types : ℕ → ℕ) (P : Outcome (�
   -- the same on one value
   pub each_gone : (v : Value) (u n : ℕ) (stored : List Stored) (variables : Variables) (i : ℕ) (fitted : Fitted) → (fitted ≡ Fits → ⊥)
       → EachGo (checked program) w types P stored variables (all_shown_in program (drop i patterns))
-      v u n fitted → TellsFit (checked program).values stored variables P fitted
+      v u n fitted → TellsFit (checked program) stored variables P fitted
   each_gone v u n stored variables i Fits differs h = absurd (differs refl)
   each_gone v u n stored variables i Leaves differs h = h
   each_gone v u n stored variables i (UnfitCall term args) differs h = h
@@ -92,7 +92,7 @@ module _ (program : Program) (w : Answers) (types : ℕ → ℕ) (P : Outcome (�
       (fitted last : Fitted)
       → i < length patterns → x ≡ get_or patterns i x → slice_get numbers i ≡ Some n → Extends old new
       → FitTold program w old new before after n fitted (shown_in program x) → AllFrom numbers old before i
-      → fitted ≡ last → (last ≡ Fits → ⊥) → TellsFit (checked program).values new after P last
+      → fitted ≡ last → (last ≡ Fits → ⊥) → TellsFit (checked program) new after P last
   all_left_at numbers old new before after i x n fitted last m is at extends told reads e differs =
       all_gone numbers new after (i + 1) last differs (subst (AllGo (checked program) w types P new after
       (all_shown_in program (drop (i + 1) patterns))
@@ -113,7 +113,7 @@ module _ (program : Program) (w : Answers) (types : ℕ → ℕ) (P : Outcome (�
       → IsValueOf (checked program).values v u
       → i < length patterns → x ≡ get_or patterns i x → Extends old new
       → FitTold program w old new before after n fitted (shown_in program x) → EachFrom v u n old before i
-      → fitted ≡ last → (last ≡ Fits → ⊥) → TellsFit (checked program).values new after P last
+      → fitted ≡ last → (last ≡ Fits → ⊥) → TellsFit (checked program) new after P last
   each_left_at v u n old new before after i x fitted last of m is extends told reads e differs =
       each_gone v u n new after (i + 1) last differs (subst (EachGo (checked program) w types P new after
       (all_shown_in program (drop (i + 1) patterns)) v u n) e (each_step v u n old new before after i x fitted of m is extends told reads))
@@ -143,7 +143,7 @@ module _ (program : Program) (w : Answers) (types : ℕ → ℕ) (P : Outcome (�
       ↔ (length left ≡ 0)
       → AllReads (checked program) w types stored variables (all_shown_in program (drop i patterns))
       left P
-      → TellsFit (checked program).values stored variables P (if b then Fits else Leaves)
+      → TellsFit (checked program) stored variables P (if b then Fits else Leaves)
   past_all stored variables i [] true past level reads =
       let none : drop i patterns ≡ [] = drop_of_length-le patterns {i = i} past in
       all_done (checked program) w types P stored variables (subst (λ (ps : List Pattern). AllReads (checked program) w types stored
@@ -158,7 +158,7 @@ module _ (program : Program) (w : Answers) (types : ℕ → ℕ) (P : Outcome (�
   -- all patterns are read: they fit where no number is left
   pub all_past : (numbers : List ℕ) (stored : List Stored) (variables : Variables) (i : ℕ) → i ≡ length patterns → i ≤ length numbers
       → AllFrom numbers stored variables i
-      → TellsFit (checked program).values stored variables P (if length patterns == length numbers then Fits else Leaves)
+      → TellsFit (checked program) stored variables P (if length patterns == length numbers then Fits else Leaves)
   all_past numbers stored variables i e within reads =
       let both = Decides-eqb (length patterns) (length numbers) in
       past_all stored variables i (drop i numbers) (length patterns == length numbers) (omega (arith, e))
@@ -166,7 +166,7 @@ module _ (program : Program) (w : Answers) (types : ℕ → ℕ) (P : Outcome (�
 
   -- all patterns are read on one number
   pub each_past : (v : Value) (u n : ℕ) (stored : List Stored) (variables : Variables) (i : ℕ) → length patterns ≤ i
-      → EachFrom v u n stored variables i → TellsFit (checked program).values stored variables P Fits
+      → EachFrom v u n stored variables i → TellsFit (checked program) stored variables P Fits
   each_past v u n stored variables i past reads =
       let none : drop i patterns ≡ [] = drop_of_length-le patterns {i = i} past in
       each_done (checked program) w types P stored variables v u n

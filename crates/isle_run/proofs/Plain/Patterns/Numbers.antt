@@ -10,7 +10,6 @@ use Rattle.isle_terms.specs.TypedRules.{TypedPattern, TypedPatterns, no_typed, m
 use Rattle.isle_meaning.specs.Facts.{TermShape, variant_shape, struct_shape, declared_shape}
 use Rattle.isle_meaning.specs.Values.{Value, Values, bool_value, int_value, constant_value, opaque_value, made_variant, made_struct}
 use Rattle.isle_meaning.specs.Values.{no_values, more_values}
-use Rattle.isle_meaning.specs.ValueTypes.{ValueFacts}
 use Rattle.isle_meaning.specs.GroundValues.{IsValueOf, AreValuesOf}
 use Rattle.isle_meaning.specs.Typing.{part_types, IsTyped, AllTyped, EachTyped}
 use Rattle.isle_meaning.specs.Words.{set}
@@ -48,17 +47,17 @@ hold_set stored old new a k n v h s e = λ j. rw (e j) (go j (j == k))
     go j false = h j
 
 -- what is told of one outcome is told of another that it leads to
-pub fit_leads : (facts : ValueFacts) (stored : List Stored) (variables : Variables) (P Q : Outcome (ℕ → Value) → Type 0) (fitted : Fitted)
-    → ((r : Outcome (ℕ → Value)) → P r → Q r) → TellsFit facts stored variables P fitted → TellsFit facts stored variables Q fitted
-fit_leads facts stored variables P Q Fits to (b, hold, run) = (b, hold, to (given b) run)
-fit_leads facts stored variables P Q Leaves to run = to missing run
-fit_leads facts stored variables P Q (UnfitCall term args) to (q, called, run) = (q, called, to (ended (ill_typed q)) run)
+pub fit_leads : (p : CheckedProgram) (stored : List Stored) (variables : Variables) (P Q : Outcome (ℕ → Value) → Type 0) (fitted : Fitted)
+    → ((r : Outcome (ℕ → Value)) → P r → Q r) → TellsFit p stored variables P fitted → TellsFit p stored variables Q fitted
+fit_leads p stored variables P Q Fits to (b, hold, run) = (b, hold, to (given b) run)
+fit_leads p stored variables P Q Leaves to run = to missing run
+fit_leads p stored variables P Q (UnfitCall term args) to (q, called, run) = (q, called, to (ended (ill_typed q)) run)
 
 -- a test is told by whether it is passed
-pub test_told : (facts : ValueFacts) (stored : List Stored) (variables : Variables) (a : ℕ → Value) (passes : Type 0) (b : Truth)
-    → IsTrue b ↔ passes → HoldVariables stored variables a → TellsFit facts stored variables (Tests passes a) (if b then Fits else Leaves)
-test_told facts stored variables a passes true h hold = (a, hold, inl (h.0 refl, refl))
-test_told facts stored variables a passes false h hold = inr (λ p. false≢true (h.1 p), refl)
+pub test_told : (program : CheckedProgram) (stored : List Stored) (variables : Variables) (a : ℕ → Value) (passes : Type 0) (b : Truth)
+    → IsTrue b ↔ passes → HoldVariables stored variables a → TellsFit program stored variables (Tests passes a) (if b then Fits else Leaves)
+test_told program stored variables a passes true h hold = (a, hold, inl (h.0 refl, refl))
+test_told program stored variables a passes false h hold = inr (λ p. false≢true (h.1 p), refl)
 
 -- a number stands for a value exactly where its node is the value's
 pub node_decides : (stored : List Stored) (v w : Value) (n : ℕ) (b : Truth) → Stands stored v n → IsTrue b ↔ Stands stored w n → IsTrue b
@@ -117,25 +116,25 @@ module _ (p : CheckedProgram) (w : Answers) where
   -- the fields of a node are what a variant's pattern opens the value into
   pub variant_told : (stored : List Stored) (v : Value) (n t : ℕ) (ty : TypeId) (k : VariantId) (fields : Option (List ℕ))
       (told : Told (Vec ℕ Global)) → Stands stored v n → AreFieldsOf (slice_get stored n) (Variant ty k) fields → TellsFields fields told
-      → TellsOutputs p.values stored (OpensBy p w (variant_shape k.0) ty.0 t v) told
+      → TellsOutputs p stored (OpensBy p w (variant_shape k.0) ty.0 t v) told
   variant_told stored v n t ty k None told s f e =
-      subst (TellsOutputs p.values stored (OpensBy p w (variant_shape k.0) ty.0 t v)) (sym e)
+      subst (TellsOutputs p stored (OpensBy p w (variant_shape k.0) ty.0 t v)) (sym e)
       (λ vs q. let (gs, is, each) = subst (λ (z : Value). Stands stored z n) q s in f gs is)
   variant_told stored v n t ty k (Some fields) told s f (numbers, e, items) =
       let (vs, q, each) = variant_of_node stored v n ty k fields s f in
-      subst (TellsOutputs p.values stored (OpensBy p w (variant_shape k.0) ty.0 t v)) (sym e)
+      subst (TellsOutputs p stored (OpensBy p w (variant_shape k.0) ty.0 t v)) (sym e)
       (vs, subst (StandEach stored vs) (sym items) each, q)
 
   -- the same of a struct's
   pub struct_told : (stored : List Stored) (v : Value) (n t : ℕ) (ty : TypeId) (fields : Option (List ℕ)) (told : Told (Vec ℕ Global))
       → Stands stored v n → AreFieldsOf (slice_get stored n) (Struct ty) fields → TellsFields fields told
-      → TellsOutputs p.values stored (OpensBy p w struct_shape ty.0 t v) told
+      → TellsOutputs p stored (OpensBy p w struct_shape ty.0 t v) told
   struct_told stored v n t ty None told s f e =
-      subst (TellsOutputs p.values stored (OpensBy p w struct_shape ty.0 t v)) (sym e)
+      subst (TellsOutputs p stored (OpensBy p w struct_shape ty.0 t v)) (sym e)
       (λ vs q. let (gs, is, each) = subst (λ (z : Value). Stands stored z n) q s in f gs is)
   struct_told stored v n t ty (Some fields) told s f (numbers, e, items) =
       let (vs, q, each) = struct_of_node stored v n ty fields s f in
-      subst (TellsOutputs p.values stored (OpensBy p w struct_shape ty.0 t v)) (sym e)
+      subst (TellsOutputs p stored (OpensBy p w struct_shape ty.0 t v)) (sym e)
       (vs, subst (StandEach stored vs) (sym items) each, q)
 
   module _ (types : ℕ → ℕ) (P : Outcome (ℕ → Value) → Type 0) where
@@ -143,23 +142,23 @@ module _ (p : CheckedProgram) (w : Answers) where
     abbrev pub AllGo : List Stored → Variables → TypedPatterns → List ℕ → Fitted → Type 0
     AllGo stored variables qs numbers Fits = AllReads p w types stored variables qs numbers P
     AllGo stored variables qs numbers Leaves = P missing
-    AllGo stored variables qs numbers (UnfitCall term args) = TellsFit p.values stored variables P (UnfitCall term args)
+    AllGo stored variables qs numbers (UnfitCall term args) = TellsFit p stored variables P (UnfitCall term args)
 
     -- the same of patterns on one value
     abbrev pub EachGo : List Stored → Variables → TypedPatterns → Value → ℕ → ℕ → Fitted → Type 0
     EachGo stored variables qs v u number Fits = EachReads p w types stored variables qs v u number P
     EachGo stored variables qs v u number Leaves = P missing
-    EachGo stored variables qs v u number (UnfitCall term args) = TellsFit p.values stored variables P (UnfitCall term args)
+    EachGo stored variables qs v u number (UnfitCall term args) = TellsFit p stored variables P (UnfitCall term args)
 
     module _ (old new : List Stored) (extends : Extends old new) (before after : Variables) (q : TypedPattern) (n : ℕ) (fitted : Fitted)
         (told : (v : Value) (a : ℕ → Value) (u : ℕ) → IsTyped p.terms types q u → IsValueOf p.values v u → Stands old v n
-        → HoldVariables old before a → TellsFit p.values new after (PatternRuns p w a q v) fitted) where
+        → HoldVariables old before a → TellsFit p new after (PatternRuns p w a q v) fitted) where
       -- what follows when the pattern was read on the first value
       go_on : (qs : TypedPatterns) (ns : List ℕ) (v : Value) (vs : Values) (u : ℕ) (us : List ℕ) (a : ℕ → Value) → AllTyped p.terms types
           qs us
           → AreValuesOf p.values vs us → StandEach old vs ns → ((r : Outcome (ℕ → Value)) → PatternsRun p w a (more_typed q qs)
           (more_values v vs) r → P r)
-          → (f : Fitted) → TellsFit p.values new after (PatternRuns p w a q v) f → AllGo new after qs ns f
+          → (f : Fitted) → TellsFit p new after (PatternRuns p w a q v) f → AllGo new after qs ns f
       go_on qs ns v vs u us a t of s runs Fits (b, hold, run) = record {
         values = vs;
         held = b;
@@ -194,7 +193,7 @@ module _ (p : CheckedProgram) (w : Answers) where
       -- what follows when it was read on the one value
       each_on : (qs : TypedPatterns) (v : Value) (u : ℕ) (a : ℕ → Value) → EachTyped p.terms types qs u → Stands old v n
           → ((r : Outcome (ℕ → Value)) → EachRuns p w a (more_typed q qs) v r → P r)
-          → (f : Fitted) → TellsFit p.values new after (PatternRuns p w a q v) f → EachGo new after qs v u n f
+          → (f : Fitted) → TellsFit p new after (PatternRuns p w a q v) f → EachGo new after qs v u n f
       each_on qs v u a t s runs Fits (b, hold, run) = record {
         held = b;
         typed = t;
@@ -242,11 +241,11 @@ module _ (p : CheckedProgram) (w : Answers) where
       all_left (more_values v vs) a s runs = absurd s
 
       -- where there is neither, the variables have their values
-      pub all_done : AllReads p w types stored variables no_typed [] P → TellsFit p.values stored variables P Fits
+      pub all_done : AllReads p w types stored variables no_typed [] P → TellsFit p stored variables P Fits
       all_done reads = (reads.held, reads.hold, all_left (reads.values) (reads.held) (reads.stand) (reads.runs))
 
       -- the same of patterns on one value
-      pub each_done : (v : Value) (u n : ℕ) → EachReads p w types stored variables no_typed v u n P → TellsFit p.values stored variables
+      pub each_done : (v : Value) (u n : ℕ) → EachReads p w types stored variables no_typed v u n P → TellsFit p stored variables
           P Fits
       each_done v u n reads = (reads.held, reads.hold, reads.runs (given (reads.held)) refl)
 
@@ -254,7 +253,7 @@ module _ (p : CheckedProgram) (w : Answers) where
   pub bind_told : (stored : List Stored) (old new : Variables) (a : ℕ → Value) (q : TypedPattern) (ty k n : ℕ) (v : Value)
       → Stands stored v n
       → ((j : ℕ) → number_of_variable new j ≡ (if j == k then n else number_of_variable old j))
-      → TellsFit p.values stored old (PatternRuns p w a q v) Fits → TellsFit p.values stored new (PatternRuns p w a (typed_bind ty k q)
+      → TellsFit p stored old (PatternRuns p w a q v) Fits → TellsFit p stored new (PatternRuns p w a (typed_bind ty k q)
       v) Fits
   bind_told stored old new a q ty k n v s e (b, hold, run) =
       (set b k v, hold_set stored old new b k n v hold s e, (given b, run, refl))
@@ -263,7 +262,7 @@ module _ (p : CheckedProgram) (w : Answers) where
   pub bind_left : (stored : List Stored) (variables : Variables) (a : ℕ → Value) (q : TypedPattern) (ty k : ℕ) (v : Value)
       (fitted : Fitted)
       → (fitted ≡ Fits → ⊥)
-      → TellsFit p.values stored variables (PatternRuns p w a q v) fitted → TellsFit p.values stored variables
+      → TellsFit p stored variables (PatternRuns p w a q v) fitted → TellsFit p stored variables
       (PatternRuns p w a (typed_bind ty k q) v) fitted
   bind_left stored variables a q ty k v Fits differs h = absurd (differs refl)
   bind_left stored variables a q ty k v Leaves differs h = (missing, h, refl)

@@ -34,25 +34,25 @@ module _ (program : Program) (w : Answers) where
         → ((v x : Value) → Stands stored v (number_of_variable variables k) → Stands stored x n → IsTrue b ↔ (v ≡ x))
         → FitTold program w stored stored variables variables n (if b then Fits else Leaves) (typed_var ty k)
     reads_var k b same = λ v a types u t i s h.
-        test_told (checked program).values stored variables a (a k ≡ v) b (same (a k) v (h k) s) h
+        test_told (checked program) stored variables a (a k ≡ v) b (same (a k) v (h k) s) h
 
     -- a truth value
     pub reads_bool : (val b : Truth) → IsTrue b ↔ (slice_get stored n ≡ Some (Bool val))
         → FitTold program w stored stored variables variables n (if b then Fits else Leaves) (typed_bool ty val)
     reads_bool val b same = λ v a types u t i s h.
-        test_told (checked program).values stored variables a (v ≡ bool_value val) b (node_decides stored v (bool_value val) n b s same) h
+        test_told (checked program) stored variables a (v ≡ bool_value val) b (node_decides stored v (bool_value val) n b s same) h
 
     -- an integer
     pub reads_int : (val : ℤ) (b : Truth) → IsTrue b ↔ (slice_get stored n ≡ Some (Int val))
         → FitTold program w stored stored variables variables n (if b then Fits else Leaves) (typed_int ty val)
     reads_int val b same = λ v a types u t i s h.
-        test_told (checked program).values stored variables a (v ≡ int_value val) b (node_decides stored v (int_value val) n b s same) h
+        test_told (checked program) stored variables a (v ≡ int_value val) b (node_decides stored v (int_value val) n b s same) h
 
     -- a named constant
     pub reads_prim : (name : List ℕ) (b : Truth) → IsTrue b ↔ (slice_get stored n ≡ Some (Const name))
         → FitTold program w stored stored variables variables n (if b then Fits else Leaves) (typed_prim ty name)
     reads_prim name b same = λ v a types u t i s h.
-        test_told (checked program).values stored variables a (v ≡ constant_value name) b (node_decides stored v (constant_value name) n
+        test_told (checked program) stored variables a (v ≡ constant_value name) b (node_decides stored v (constant_value name) n
         b s same) h
 
   module _ (old new : List Stored) (before after : Variables) (ty n : ℕ) where
@@ -81,7 +81,7 @@ module _ (program : Program) (w : Answers) where
     reads_opened mid t qs ns fitted extends opened told = λ v a types u typed i s h.
         let shape = (checked program).terms.shape t in
         let (vs, stand, o) = opened v s (subst (IsValueOf (checked program).values v) (sym (typed.1)) i) in
-        fit_leads (checked program).values new after (PatternsRun (checked program) w a qs vs)
+        fit_leads (checked program) new after (PatternsRun (checked program) w a qs vs)
         (PatternRuns (checked program) w a (typed_term ty t qs) v) fitted
         (λ r run. opens_run (checked program) w shape ty t v (λ vs r. PatternsRun (checked program) w a qs vs r) (given vs) r o run)
         (told vs a types (part_types (checked program).terms shape ty t) (typed.2)

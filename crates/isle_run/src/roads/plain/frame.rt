@@ -1,5 +1,5 @@
 //! One call of a term with rules, as far as it has come.
-ghost use Rattle.std.specs.Prelude.{◌≡◌, ◌++◌, ℕ, List, [], None, IfOk};
+ghost use Rattle.std.specs.Prelude.{◌≡◌, ◌++◌, ℕ, List, [], None, IfOk, OnErr};
 ghost use Rattle.isle_meaning.specs.GroundValues.{AreValuesOf};
 ghost use Rattle.isle_meaning.specs.Values.{Value as MeantValue, Values};
 ghost use Rattle.isle_meaning.specs.Worlds.{Event};
@@ -10,7 +10,8 @@ ghost use Rattle.isle_run.specs.declared.roads.plain.frame.current.At.TheVariant
 ghost use Rattle.isle_run.specs.declared.roads.plain.frame.Ending.TheVariants.{On, Leaves, Comes};
 ghost use Rattle.isle_run.specs.declared.calls.store.Stored.{Stored as StoredValue};
 ghost use Rattle.isle_run.specs.Calls.Open.{CallOf};
-ghost use Rattle.isle_run.specs.Plain.Frames.{IsFrameOf, IsWaitingFor, below_call};
+ghost use Rattle.isle_run.specs.Plain.Frames.{IsFrameOf, IsWaitingFor, below_call, plain_way};
+ghost use Rattle.isle_run.specs.Calls.Ways.{HasBegun};
 ghost use Rattle.isle_run.specs.Calls.States.{host, IsOpenIn, HasGoneOn, Makes};
 ghost use Rattle.isle_run.specs.Plain.Frames.{driven, IsTrying, awaited, IsHeldUp, FrameEnds, RuleEnds, laid_at, root_there, root_at, at_missing};
 ghost use Rattle.isle_run.specs.Plain.Frames.{IsFrameFor, IsOnWay, IsFirstAt, IsBegun, IsBegunAt, ending_missing, IsEndingOf, UnmatchedIs};
@@ -125,6 +126,10 @@ impl<'a> Driver<'a> {
             × Makes (host W.step W.constructs W.extracts) (driven self.old world.old effects.old.items)
             (driven self.new world.new effects.new.items) made
             × FrameEnds k self.new.store frame.new (since ++ made) ending) }
+        ensures lost { OnErr result ((k : CallOf) (since : List Event)
+            → IsOpenIn (host W.step W.constructs W.extracts) k (driven self.old world.old effects.old.items)
+            → IsFrameOf k self.old.store frame.old since → HasBegun (host W.step W.constructs W.extracts) plain_way (driven self.old world.old effects.old.items)
+            (driven self.new world.new effects.new.items) k since) }
         ensures goes_on { HasGoneOn (host W.step W.constructs W.extracts) (driven self.old world.old effects.old.items)
             (driven self.new world.new effects.new.items) }
     {
@@ -207,6 +212,10 @@ impl<'a> Driver<'a> {
             × Makes (host W.step W.constructs W.extracts) (driven self.old world.old effects.old.items)
             (driven self.new world.new effects.new.items) made
             × RuleEnds k self.new.store current.new others tried (since ++ made) ending) }
+        ensures lost { OnErr result ((k : CallOf) (others : List ℕ) (tried : ℕ) (since : List Event)
+            → IsOpenIn (host W.step W.constructs W.extracts) k (driven self.old world.old effects.old.items)
+            → IsTrying k self.old.store current.old others tried since → HasBegun (host W.step W.constructs W.extracts) plain_way (driven self.old world.old effects.old.items)
+            (driven self.new world.new effects.new.items) k since) }
         ensures goes_on { HasGoneOn (host W.step W.constructs W.extracts) (driven self.old world.old effects.old.items)
             (driven self.new world.new effects.new.items) }
     {
@@ -230,6 +239,10 @@ impl<'a> Driver<'a> {
             × Makes (host W.step W.constructs W.extracts) (driven self.old world.old effects.old.items)
             (driven self.new world.new effects.new.items) made
             × RuleEnds k self.new.store current.new others tried (since ++ made) ending) }
+        ensures lost { OnErr result ((k : CallOf) (others : List ℕ) (tried : ℕ) (since : List Event)
+            → IsOpenIn (host W.step W.constructs W.extracts) k (driven self.old world.old effects.old.items)
+            → IsOnWay current.old.at → IsTrying k self.old.store current.old others tried since → HasBegun (host W.step W.constructs W.extracts) plain_way (driven self.old world.old effects.old.items)
+            (driven self.new world.new effects.new.items) k since) }
         ensures goes_on { HasGoneOn (host W.step W.constructs W.extracts) (driven self.old world.old effects.old.items)
             (driven self.new world.new effects.new.items) }
     {
@@ -277,6 +290,10 @@ impl<'a> Driver<'a> {
             × Makes (host W.step W.constructs W.extracts) (driven self.old world.old effects.old.items)
             (driven self.new world.new effects.new.items) made
             × RuleEnds k self.new.store (record current { evaluation = evaluation.new }) others tried (since ++ made) ending) }
+        ensures lost { OnErr result ((k : CallOf) (current : CurrentRule) (others : List ℕ) (tried : ℕ) (since : List Event) (vs : Values)
+            → IsOpenIn (host W.step W.constructs W.extracts) k (driven self.old world.old effects.old.items)
+            → IsHeldUp k self.old.store (record current { evaluation = evaluation.old }) others tried since (awaited term args.items vs) → HasBegun (host W.step W.constructs W.extracts) plain_way (driven self.old world.old effects.old.items)
+            (driven self.new world.new effects.new.items) k since) }
         ensures goes_on { HasGoneOn (host W.step W.constructs W.extracts) (driven self.old world.old effects.old.items)
             (driven self.new world.new effects.new.items) }
     {

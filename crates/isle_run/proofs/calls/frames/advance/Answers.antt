@@ -1,7 +1,7 @@
 use Rattle.std.proofs.Common.{◌++◌, subst}
 use Rattle.isle_run.specs.Calls.States.{host, state}
-use Rattle.isle_run.specs.Calls.Ways.{AdvancesTo, TurnsTo}
-use Rattle.isle_run.proofs.OpenCalls.Made.{gone_again}
+use Rattle.isle_run.specs.Calls.Ways.{AdvancesTo, TurnsTo, Begins}
+use Rattle.isle_run.proofs.OpenCalls.Made.{gone_again, on_err}
 use Rattle.isle_run.proofs.OpenCalls.Running.{going_first, going_turn}
 use Rattle.isle_run.proofs.calls.frames.advance.Goals as goal
 
@@ -40,3 +40,20 @@ loop-preserved g c =
           (λ k since open_in is. let (made, has, turns) = c.in_ok-go.ensures.turned k since open_in is in
           (made, has, subst (TurnsTo way k u.stored c.go.new.frame (since ++ made)) c.in-On.is turns));
     }
+
+pub returns-in_err-go-clause-lost : goal.returns-in_err-go-clause-lost
+returns-in_err-go-clause-lost g c =
+    let way = g.R.Road.way in
+    let u = state (g.R.Road.compiled c.go.new.self) c.go.new.world c.go.new.effects.items (g.R.Road.stored c.go.new.self) in
+    on_err c.from_residual.result (going_turn (host g.W.World.step g.W.World.constructs g.W.World.extracts) way
+    (state (g.R.Road.compiled c.args.road.now) c.args.world.now c.args.effects.now.items (g.R.Road.stored c.args.road.now)) c.args.frame.now
+    (state (g.R.Road.compiled c.loop.road) c.loop.world c.loop.effects.items (g.R.Road.stored c.loop.road)) c.loop.frame c.loop.invariant u
+    (Begins way) c.in_err-go.ensures.lost)
+
+pub returns-clause-lost : goal.returns-clause-lost
+returns-clause-lost g c = λ k since open_in is.
+    let way = g.R.Road.way in
+    let words = host g.W.World.step g.W.World.constructs g.W.World.extracts in
+    let t = state (g.R.Road.compiled c.loop.road) c.loop.world c.loop.effects.items (g.R.Road.stored c.loop.road) in
+    let (made, has, frame) = c.loop.invariant.goes k since open_in is in
+    (made, has, c.laws.ensures.begun k t.stored c.loop.frame (since ++ made) frame)

@@ -1,14 +1,16 @@
-use Rattle.std.proofs.Common.{◌≡◌, ◌-◌, ℕ, suc, [], refl, sym, ◌∙◌, subst, reverse, arith}
+use Rattle.std.proofs.lemmas.List.{append-nil}
+use Rattle.isle_run.proofs.OpenCalls.Stacked.{advances_begun}
+use Rattle.std.proofs.Common.{◌≡◌, ◌++◌, ◌-◌, ℕ, suc, [], refl, sym, ◌∙◌, subst, reverse, arith}
 use Rattle.isle_meaning.specs.Asking.{spent}
 use Rattle.isle_meaning.specs.Outcomes.{ended}
 use Rattle.isle_meaning.specs.Values.{Values}
 use Rattle.isle_run.specs.Calls.Open.{CallOf}
 use Rattle.isle_run.specs.Calls.Stacks.{AreStacked, GoesOn}
 use Rattle.isle_run.specs.Calls.States.{host, state, answers_of}
-use Rattle.isle_run.specs.Calls.Ways.{IsReady}
+use Rattle.isle_run.specs.Calls.Ways.{IsReady, Begins}
 use Rattle.isle_run.specs.Stores.Values.{StandEach}
-use Rattle.isle_run.proofs.OpenCalls.Made.{makes_none, gone_none, gone_again}
-use Rattle.isle_run.proofs.OpenCalls.Running.{running_turn, running_next}
+use Rattle.isle_run.proofs.OpenCalls.Made.{makes_none, gone_none, gone_again, on_err}
+use Rattle.isle_run.proofs.OpenCalls.Running.{running_turn, running_next, running_begun}
 use Rattle.isle_run.proofs.calls.frames.answer_call.Goals as goal
 
 pub returns-then-depth-eq0-clause-ran : goal.returns-then-depth-eq0-clause-ran
@@ -107,3 +109,71 @@ loop-preserved g c =
     c.advance.new.frame c.in_ok-advanced.advanced c.in_ok-advanced.ensures.goes_on c.in_ok-advanced.ensures.advanced c.next_frame.new.waiting.items
     c.in_ok-frame.field-0 c.laws.ensures
     (λ vs k start since ready stacked advances. c.in_ok-frame.ensures (goal vs) k start since still refl ready.1 stacked advances) c.in-Runs.frame c.in-Runs.is
+
+pub returns-in_err-advanced-clause-lost : goal.returns-in_err-advanced-clause-lost
+returns-in_err-advanced-clause-lost g c = on_err c.from_residual.result (λ vs stand ready.
+    let way = g.R.Road.way in
+    let words = host g.W.World.step g.W.World.constructs g.W.World.extracts in
+    let first = state (g.R.Road.compiled c.args.road.now) c.args.world.now c.args.effects.now.items (g.R.Road.stored c.args.road.now) in
+    let t = state (g.R.Road.compiled c.loop.road) c.loop.world c.loop.effects.items (g.R.Road.stored c.loop.road) in
+    let u = state (g.R.Road.compiled c.advance.new.road) c.advance.new.world c.advance.new.effects.items (g.R.Road.stored c.advance.new.road) in
+    let goal : Values → CallOf = λ vs. record {
+      program = first.program;
+      answers = answers_of words first;
+      depth = c.args.depth - 1;
+      term = c.args.term.0;
+      args = vs;
+    } in
+    let may : Values → Type 0 = λ vs. StandEach first.stored vs c.args.args.items × IsReady first.program c.args.term.0 vs in
+    let (made, has, begun) = running_begun words way first c.laws.ensures goal may t c.loop.waiting.items c.loop.top c.loop.invariant
+    (λ vs. record { of_program = refl; in_world = refl }) u c.in_err-advanced.ensures.lost vs (stand, ready) in
+    let deep : suc (c.args.depth - 1) ≡ c.args.depth = let some = c.if-depth-eq0.false in omega (arith, some) in
+    (made, has, subst (λ (d : ℕ). way.begins first.program (answers_of words first) d c.args.term.0 vs made) deep begun))
+
+pub returns-in_err-frame-clause-lost : goal.returns-in_err-frame-clause-lost
+returns-in_err-frame-clause-lost g c = on_err c.from_residual-in_err-frame.result (λ vs stand ready.
+    let way = g.R.Road.way in
+    let words = host g.W.World.step g.W.World.constructs g.W.World.extracts in
+    let first = state (g.R.Road.compiled c.args.road.now) c.args.world.now c.args.effects.now.items (g.R.Road.stored c.args.road.now) in
+    let t = state (g.R.Road.compiled c.loop.road) c.loop.world c.loop.effects.items (g.R.Road.stored c.loop.road) in
+    let u = state (g.R.Road.compiled c.advance.new.road) c.advance.new.world c.advance.new.effects.items (g.R.Road.stored c.advance.new.road) in
+    let goal : Values → CallOf = λ vs. record {
+      program = first.program;
+      answers = answers_of words first;
+      depth = c.args.depth - 1;
+      term = c.args.term.0;
+      args = vs;
+    } in
+    let may : Values → Type 0 = λ vs. StandEach first.stored vs c.args.args.items × IsReady first.program c.args.term.0 vs in
+    let (made, has, begun) = running_begun words way first c.laws.ensures goal may t c.loop.waiting.items c.loop.top c.loop.invariant
+    (λ vs. record { of_program = refl; in_world = refl }) u
+    (λ k since open_in is. let (made, has, advances) = c.in_ok-advanced.ensures.advanced k since open_in is in
+    (made, has, advances_begun way c.laws.ensures k k u.stored c.advance.new.frame (since ++ made) c.in_ok-advanced.advanced advances))
+    vs (stand, ready) in
+    let deep : suc (c.args.depth - 1) ≡ c.args.depth = let some = c.if-depth-eq0.false in omega (arith, some) in
+    (made, has, subst (λ (d : ℕ). way.begins first.program (answers_of words first) d c.args.term.0 vs made) deep begun))
+
+pub returns-clause-lost : goal.returns-clause-lost
+returns-clause-lost g c = λ vs stand ready.
+    let way = g.R.Road.way in
+    let words = host g.W.World.step g.W.World.constructs g.W.World.extracts in
+    let first = state (g.R.Road.compiled c.args.road.now) c.args.world.now c.args.effects.now.items (g.R.Road.stored c.args.road.now) in
+    let t = state (g.R.Road.compiled c.loop.road) c.loop.world c.loop.effects.items (g.R.Road.stored c.loop.road) in
+    let goal : Values → CallOf = λ vs. record {
+      program = first.program;
+      answers = answers_of words first;
+      depth = c.args.depth - 1;
+      term = c.args.term.0;
+      args = vs;
+    } in
+    let may : Values → Type 0 = λ vs. StandEach first.stored vs c.args.args.items × IsReady first.program c.args.term.0 vs in
+    let (made, has, begun) = running_begun words way first c.laws.ensures goal may t c.loop.waiting.items c.loop.top c.loop.invariant
+    (λ vs. record { of_program = refl; in_world = refl }) t
+    (λ k since open_in is. (
+      [],
+      makes_none words t,
+      subst (Begins way k) (sym (append-nil since)) (c.laws.ensures.begun k t.stored c.loop.top since is),
+    ))
+    vs (stand, ready) in
+    let deep : suc (c.args.depth - 1) ≡ c.args.depth = let some = c.if-depth-eq0.false in omega (arith, some) in
+    (made, has, subst (λ (d : ℕ). way.begins first.program (answers_of words first) d c.args.term.0 vs made) deep begun)

@@ -8,7 +8,7 @@ use Rattle.isle_run.proofs.program.Program.judge_outputs.Goals as goal
 pub returns-in_ok-vec-in-Some-clause-judged : goal.returns-in_ok-vec-in-Some-clause-judged
 returns-in_ok-vec-in-Some-clause-judged c = λ q called. (
   q,
-  subst (λ (l : List ValueTree). IsCalledOn (checked c.args.self.now).values q c.args.term (value_list l))
+  subst (λ (l : List ValueTree). IsCalledOn (checked c.args.self.now) q c.args.term (value_list l))
       (sym c.in_ok-vec-in-Some.ensures.items) called,
   inr (
     outputs_refused c.args.self.now c.args.term c.args.answer c.in-Some.outputs c.as_slice.result.now c.arg_types.result.now
@@ -22,7 +22,7 @@ returns-in_ok-vec-in-Some-clause-judged c = λ q called. (
 pub returns-in_ok-vec-in-None-clause-judged : goal.returns-in_ok-vec-in-None-clause-judged
 returns-in_ok-vec-in-None-clause-judged c = λ q called. (
   q,
-  subst (λ (l : List ValueTree). IsCalledOn (checked c.args.self.now).values q c.args.term (value_list l))
+  subst (λ (l : List ValueTree). IsCalledOn (checked c.args.self.now) q c.args.term (value_list l))
       (sym c.in_ok-vec-in-None.ensures.items) called,
   inr (
     none_refused c.args.self.now c.args.term c.args.answer c.never_fails.result c.in-None.is c.never_fails.ensures

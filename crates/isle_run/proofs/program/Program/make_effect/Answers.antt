@@ -1,4 +1,5 @@
-use Rattle.std.proofs.Common.{◌≡◌, List, option_copied, sym, ◌∙◌, subst, map}
+use Rattle.isle_run.proofs.OpenCalls.Made.{on_err, made_none}
+use Rattle.std.proofs.Common.{◌≡◌, List, option_copied, sym, ◌∙◌, subst, map, [], ◌∷◌, inl, inr, refl, subst₂}
 use Rattle.std.proofs.lemmas.Result.{IfOk-weaker}
 use Rattle.isle_terms.specs.Values.{ValueTree, value_list}
 use Rattle.isle_meaning.specs.GroundValues.{AreValuesOf, values_of}
@@ -6,7 +7,7 @@ use Rattle.isle_meaning.specs.ValueTypes.{AreOfTypes}
 use Rattle.isle_run.specs.declared.calls.answer.Effect.{Effect}
 use Rattle.isle_run.specs.Meanings.{checked}
 use Rattle.isle_run.specs.Programs.{number_of}
-use Rattle.isle_run.specs.Calls.Answers.{IsCalledOn}
+use Rattle.isle_run.specs.Calls.Answers.{IsCalledOn, HasMade}
 use Rattle.isle_run.specs.Calls.Host.{HasLast}
 use Rattle.isle_run.proofs.OpenCalls.Telling.{effect_told, inputs_taken}
 use Rattle.isle_run.proofs.program.Program.make_effect.Goals as goal
@@ -33,6 +34,34 @@ returns-clause-asked g c =
           c.args.term vs
           (value_list values) (option_copied c.last_answer.result) answer told (subst (AreOfTypes facts (value_list values)) inputs
           typed) stood answered
-          (λ q is. judged q (subst (λ (l : List ValueTree). IsCalledOn facts q c.args.term (value_list l)) (sym same) is)),
+          (λ q is. judged q (subst (λ (l : List ValueTree). IsCalledOn (checked c.args.self.now) q c.args.term (value_list l)) (sym same) is)),
     ))
     c.judge_value.ensures.judged
+
+pub returns-in_err-values-clause-lost : goal.returns-in_err-values-clause-lost
+returns-in_err-values-clause-lost g c = on_err c.from_residual.result (λ vs stand of. ([], made_none _ _ _ _, inl refl))
+
+pub returns-in_err-call_effect-clause-lost : goal.returns-in_err-call_effect-clause-lost
+returns-in_err-call_effect-clause-lost g c = on_err c.from_residual-in_err-call_effect.result (λ vs stand of.
+    let (world, effects) = c.in_err-call_effect.ensures.refused in (
+      [],
+      subst₂ (λ w e. HasMade g.W.World.step c.args.self.now c.args.world.now c.args.effects.now.items w e []) (sym world) (sym effects) (made_none _ _ _ _),
+      inl refl,
+    ))
+
+pub returns-clause-lost : goal.returns-clause-lost
+returns-clause-lost g c = on_err c.judge_value.result (λ vs stand of.
+    let program = c.args.self.now in
+    let facts = (checked program).values in
+    let inputs : map number_of c.arg_types.result.now ≡ (checked program).terms.inputs c.args.term.0 =
+    c.arg_types.ensures ∙ inputs_taken program c.args.term in
+    let values = c.as_slice.result.now in
+    let same : c.in_ok-values.values.items ≡ values = sym c.as_slice.ensures.value in
+    let printed = c.in_ok-values.ensures vs stand (subst (AreValuesOf facts vs) (sym inputs) of) in
+    let typed = subst (λ (l : List ValueTree). AreOfTypes facts (value_list l) (map number_of c.arg_types.result.now)) same (printed.0) in
+    let stood = subst (λ (l : List ValueTree). values_of facts (value_list l) ≡ vs) same (printed.1) in
+    let (answer, last, made) = c.in_ok-call_effect.ensures.called in (
+      record { term = c.args.term.0; args = value_list values; answer = answer } ∷ [],
+      made,
+      inr (record { args = value_list values; typed = subst (AreOfTypes facts (value_list values)) inputs typed; stand = stood; answer = answer; alone = refl }),
+    ))

@@ -296,7 +296,7 @@ fit_all-returns-clause-fitted g t c =
     let names = (types_of program).names in
     let ended : c.loop-i.i ≡ length c.args.patterns.now = omega arith in
     λ vs a types us typed of stand hold.
-    subst (TellsFit (checked program).values c.loop-i.store c.loop-i.variables (PatternsRun (checked program) w a
+    subst (TellsFit (checked program) c.loop-i.store c.loop-i.variables (PatternsRun (checked program) w a
     (all_shown_in program c.args.patterns.now) vs)) (sym c.if_fits.ensures)
     (all_past program w types (PatternsRun (checked program) w a (all_shown_in program c.args.patterns.now) vs)
     c.args.patterns.now c.args.numbers.now

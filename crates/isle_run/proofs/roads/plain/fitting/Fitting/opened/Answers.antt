@@ -29,7 +29,7 @@ returns-in-EnumVariant-clause-opened g c =
     let fields = subst (λ (o : Option Stored). AreFieldsOf o (Variant c.args.ty c.in-EnumVariant.variant) found) c.get.ensures
     c.variant_fields.ensures in
     IfOk-weaker c.fields_told.result _ _ (λ told is v stands of.
-    subst (λ (s : TermShape). TellsOutputs (checked program).values c.args.store.now (OpensBy (checked program) w s c.args.ty.0
+    subst (λ (s : TermShape). TellsOutputs (checked program) c.args.store.now (OpensBy (checked program) w s c.args.ty.0
     c.args.term.0 v) told)
     (sym shape) (variant_told (checked program) w c.args.store.now v c.args.number c.args.term.0 c.args.ty c.in-EnumVariant.variant found
     told
@@ -47,7 +47,7 @@ returns-in-Struct-clause-opened g c =
     let found = option_copied c.struct_fields.result in
     let fields = subst (λ (o : Option Stored). AreFieldsOf o (Struct c.args.ty) found) c.get-in-Struct.ensures c.struct_fields.ensures in
     IfOk-weaker c.fields_told-in-Struct.result _ _ (λ told is v stands of.
-    subst (λ (s : TermShape). TellsOutputs (checked program).values c.args.store.now (OpensBy (checked program) w s c.args.ty.0
+    subst (λ (s : TermShape). TellsOutputs (checked program) c.args.store.now (OpensBy (checked program) w s c.args.ty.0
     c.args.term.0 v) told)
     (sym shape) (struct_told (checked program) w c.args.store.now v c.args.number c.args.term.0 c.args.ty found told stands fields is))
     c.fields_told-in-Struct.ensures
@@ -62,7 +62,7 @@ returns-in-Decl-clause-opened g c =
     let shape : (checked program).terms.shape c.args.term.0 ≡ declared_shape =
     shape_found program c.args.term.0 c.in-Some.known.now at ∙ ap (λ (k : TermKind). shape_of_form (form_shown names k)) c.in-Decl.is in
     IfOk-weaker c.ask_extractor.result _ _ (λ told asked v stands of.
-    subst (λ (s : TermShape). TellsOutputs (checked program).values c.ask_extractor.new.store (OpensBy (checked program) w s c.args.ty.0
+    subst (λ (s : TermShape). TellsOutputs (checked program) c.ask_extractor.new.store (OpensBy (checked program) w s c.args.ty.0
     c.args.term.0 v) told)
     (sym shape) (asked v stands of)) c.ask_extractor.ensures.asked
 
@@ -74,6 +74,6 @@ returns-in-None-clause-opened g c =
     subst (λ (e : TermTables). slice_get e.terms c.args.term.0 ≡ None) c.terms.ensures (sym c.in-None.ensures) in
     let shape : (checked program).terms.shape c.args.term.0 ≡ declared_shape = shape_missing program c.args.term.0 at in
     IfOk-weaker c.ask_extractor-in-None.result _ _ (λ told asked v stands of.
-    subst (λ (s : TermShape). TellsOutputs (checked program).values c.ask_extractor-in-None.new.store
+    subst (λ (s : TermShape). TellsOutputs (checked program) c.ask_extractor-in-None.new.store
     (OpensBy (checked program) w s c.args.ty.0 c.args.term.0 v) told)
     (sym shape) (asked v stands of)) c.ask_extractor-in-None.ensures.asked

@@ -1,3 +1,4 @@
+use Rattle.isle_run.proofs.Plain.Frames.Starts.{held_effect}
 use Rattle.std.proofs.Common.{◌≡◌, [], ◌∷◌, true, false, List, ℕ, refl, sym, ◌∙◌, subst}
 use Rattle.isle_meaning.specs.Worlds.{Event}
 use Rattle.isle_run.specs.declared.calls.frames.Advanced.TheVariants.{Calls}
@@ -5,9 +6,9 @@ use Rattle.isle_run.specs.declared.roads.plain.frame.Ending.TheVariants.{Comes}
 use Rattle.isle_run.specs.declared.program.Program.{Program}
 use Rattle.isle_run.specs.Meanings.{checked}
 use Rattle.isle_run.specs.Calls.Answers.{HasMade}
-use Rattle.isle_run.proofs.OpenCalls.Made.{made_none, gone_none}
+use Rattle.isle_run.proofs.OpenCalls.Made.{made_none, gone_none, on_err}
 use Rattle.isle_run.proofs.Plain.Frames.Ends.{effect_ends}
-use Rattle.isle_run.proofs.Plain.Frames.Told.{EffectTold, of_open}
+use Rattle.isle_run.proofs.Plain.Frames.Told.{EffectTold, of_open, EffectLost}
 use Rattle.isle_run.proofs.Plain.Frames.Turns.{ends_none}
 use Rattle.isle_run.proofs.roads.plain.frame.Driver.call.Goals as goal
 
@@ -47,3 +48,14 @@ returns-clause-goes_on g c = record {
   made = c.make_effect.ensures.made;
   kept = c.make_effect.ensures.kept;
 }
+
+pub returns-in_err-told-clause-lost : goal.returns-in_err-told-clause-lost
+returns-in_err-told-clause-lost g c = on_err c.from_residual.result (λ k current others tried since vs runs held.
+    let outside : (checked k.program).has_rules c.args.term.0 ≡ false =
+    subst (λ (p : Program). (checked p).has_rules c.args.term.0 ≡ false) (sym runs.of_program) (sym c.has_rules.ensures ∙ c.if-has_rules.false) in
+    let X = λ (events : List Event). HasMade g.W.World.step c.args.self.now.program.now c.args.world.now c.args.effects.now.items
+    c.make_effect.new.world c.make_effect.new.effects.items events in
+    let lost = of_open runs (λ program w. EffectLost X c.args.self.now.store c.args.term c.args.args.items program)
+    (subst (λ (ns : List ℕ). EffectLost X c.args.self.now.store c.args.term ns c.args.self.now.program.now) c.as_slice.ensures.value
+    c.in_err-told.ensures.lost) in
+    let (events, made, effect) = lost vs held.args_stand held.args_typed in (events, made, held_effect held outside events effect))

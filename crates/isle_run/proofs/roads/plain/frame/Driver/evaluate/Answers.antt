@@ -1,5 +1,6 @@
+use Rattle.isle_run.proofs.Plain.Frames.Starts.{begun_still, trying_begun}
 use Rattle.std.proofs.Common.{◌≡◌, ◌++◌, List, [], refl, sym, ◌∙◌, ap, subst}
-use Rattle.std.proofs.lemmas.Result.{IfOk-weaker}
+use Rattle.std.proofs.lemmas.Result.{IfOk-weaker, on_err_weaker}
 use Rattle.isle_run.specs.declared.calls.answer.Answer.TheVariants.{IllTyped as IllTypedAnswer}
 use Rattle.isle_run.specs.declared.calls.frames.Advanced.TheVariants.{Ends}
 use Rattle.isle_run.specs.declared.roads.plain.frame.Ending.TheVariants.{Comes}
@@ -7,7 +8,7 @@ use Rattle.isle_run.specs.declared.roads.plain.laid.Part.{Part}
 use Rattle.isle_run.specs.declared.roads.plain.laid.Laid.{Laid}
 use Rattle.isle_run.specs.Plain.LaidOut.Words.{StandBehind}
 use Rattle.isle_run.specs.Plain.Frames.{RuleEnds}
-use Rattle.isle_run.proofs.OpenCalls.Made.{made_none}
+use Rattle.isle_run.proofs.OpenCalls.Made.{made_none, on_err}
 use Rattle.isle_run.proofs.Plain.Frames.Driven.{gone_stored, gone_after}
 use Rattle.isle_run.proofs.Plain.Frames.Told.{evaluated_in}
 use Rattle.isle_run.proofs.Plain.Frames.Turns.{behind_at, misses_end, ends_none}
@@ -79,3 +80,18 @@ returns-in-Waits-clause-ending g c = IfOk-weaker c.call.result _ _ (λ ending en
 
 pub returns-in-Waits-clause-goes_on : goal.returns-in-Waits-clause-goes_on
 returns-in-Waits-clause-goes_on g c = gone_after _ _ _ _ c.in_ok-evaluate.ensures.kept c.call.ensures.goes_on
+
+pub returns-in_err-evaluate-clause-lost : goal.returns-in_err-evaluate-clause-lost
+returns-in_err-evaluate-clause-lost g c = on_err c.from_residual.result (λ k others tried since runs way h. ([], made_none _ _ _ _, begun_still k since (trying_begun h)))
+
+pub returns-in-Done-clause-lost : goal.returns-in-Done-clause-lost
+returns-in-Done-clause-lost g c = on_err c.go_on.result
+    (λ k others tried since runs way h. ([], made_none _ _ _ _, begun_still k since (trying_begun h)))
+
+pub returns-in-Waits-clause-lost : goal.returns-in-Waits-clause-lost
+returns-in-Waits-clause-lost g c = on_err_weaker c.call.result (λ lost k others tried since runs way h.
+    let waits = evaluated_in runs c.in_ok-evaluate.ensures.kept c.args.current.now others tried since c.evaluate.new.evaluation
+    c.in_ok-evaluate.field-0 _ c.in-Waits.is way h c.in_ok-evaluate.ensures.later
+    c.as_slice.result.now (parts_there c.laid_at-laid.ensures c.as_slice.ensures.value) c.in_ok-evaluate.ensures.evaluated in
+    lost k c.args.current.now others tried since waits.0 (record { of_program = runs.of_program; in_world = runs.in_world }) waits.1)
+    c.call.ensures.lost

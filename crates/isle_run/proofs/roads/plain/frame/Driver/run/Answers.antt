@@ -1,4 +1,8 @@
-use Rattle.std.proofs.Common.{[]}
+use Rattle.std.proofs.Common.{◌≡◌, ◌⊎◌, inl, inr, ℕ, [], subst, sym}
+use Rattle.isle_run.specs.declared.roads.plain.frame.current.At.{At}
+use Rattle.isle_run.specs.declared.roads.plain.frame.current.At.TheVariants.{IfLet, Right}
+use Rattle.isle_run.specs.Plain.Frames.{IsOnWay}
+use Rattle.std.proofs.lemmas.Result.{on_err_weaker}
 use Rattle.isle_run.specs.declared.calls.frames.Advanced.TheVariants.{Missing}
 use Rattle.isle_run.specs.declared.roads.plain.frame.Ending.TheVariants.{Leaves, Comes}
 use Rattle.isle_run.proofs.OpenCalls.Made.{made_none, gone_none}
@@ -25,3 +29,11 @@ returns-in-Missed-clause-ending g c = λ k others tried since runs h. (
 
 pub returns-in-Missed-clause-goes_on : goal.returns-in-Missed-clause-goes_on
 returns-in-Missed-clause-goes_on g c = gone_none _ _
+
+on_way : {at : At} → ((n : ℕ) × (at ≡ IfLet n)) ⊎ ((n : ℕ) × (at ≡ Right n)) → IsOnWay at
+on_way (inl (n, is)) = subst IsOnWay (sym is) tt
+on_way (inr (n, is)) = subst IsOnWay (sym is) tt
+
+pub returns-in-IfLet-clause-lost : goal.returns-in-IfLet-clause-lost
+returns-in-IfLet-clause-lost g c = on_err_weaker c.evaluate.result (λ lost k others tried since runs h.
+    lost k others tried since runs (on_way c.in-IfLet.is) h) c.evaluate.ensures.lost
