@@ -21,17 +21,17 @@ use Rattle.islec.proofs.CommandCases.{run_words, run_files, run_name, run_world}
 
 -- ---- statuses of jobs
 
-no_check_is_refused_a_query : (terms : Bool) (files : List SourceFile) (world : SourceFile) (input old new : Option (List ℕ))
-    → EndsJob (Check terms) files world input old new status.SomeRefused → ⊥
-no_check_is_refused_a_query terms files world input old new ends = ends
+no_check_is_refused_a_query : (terms : Bool) (files : List SourceFile) (world : SourceFile) (input left old new : Option (List ℕ))
+    → EndsJob (Check terms) files world input left old new status.SomeRefused → ⊥
+no_check_is_refused_a_query terms files world input left old new ends = ends
 
-no_print_is_refused_a_query : (width : ℕ) (files : List SourceFile) (world : SourceFile) (input old new : Option (List ℕ))
-    → EndsJob (Fmt width) files world input old new status.SomeRefused → ⊥
-no_print_is_refused_a_query width files world input old new ends = ends
+no_print_is_refused_a_query : (width : ℕ) (files : List SourceFile) (world : SourceFile) (input left old new : Option (List ℕ))
+    → EndsJob (Fmt width) files world input left old new status.SomeRefused → ⊥
+no_print_is_refused_a_query width files world input left old new ends = ends
 
-no_run_is_refused_its_words : (depth : ℕ) (plain : Bool) (files : List SourceFile) (world : SourceFile) (input old new : Option (List ℕ))
-    → EndsJob (Run depth plain) files world input old new status.Usage → ⊥
-no_run_is_refused_its_words depth plain files world input old new ends = ends
+no_run_is_refused_its_words : (depth : ℕ) (plain : Bool) (files : List SourceFile) (world : SourceFile) (input left old new : Option (List ℕ))
+    → EndsJob (Run depth plain) files world input left old new status.Usage → ⊥
+no_run_is_refused_its_words depth plain files world input left old new ends = ends
 
 -- ---- worlds
 
@@ -57,24 +57,24 @@ lacks_only_that k among = only (subst (λ (ks : List ErrorKind). IsAmong k ks) a
     only (inl is) = is
     only (inr never) = absurd never
 
-alone_is_not_well : (input old new : Option (List ℕ)) → EndsCommand alone input old new 0 → ⊥
-alone_is_not_well input old new (done line reads files named world of ended code ends) =
+alone_is_not_well : (input left old new : Option (List ℕ)) → EndsCommand alone input left old new 0 → ⊥
+alone_is_not_well input left old new (done line reads files named world of ended code ends) =
     let wrong = sym reads.taken ∙ alone_lacks_a_command in absurd cc
-alone_is_not_well input old new (told (Usage e) holds status.AllWell code (inl other)) = absurd cc
-alone_is_not_well input old new (told (Usage e) holds status.AllWell code (inr (inl (inl help, same)))) =
+alone_is_not_well input left old new (told (Usage e) holds status.AllWell code (inl other)) = absurd cc
+alone_is_not_well input left old new (told (Usage e) holds status.AllWell code (inr (inl (inl help, same)))) =
     let wrong = sym (lacks_only_that (kind_of e) holds) ∙ help in absurd cc
-alone_is_not_well input old new (told (Usage e) holds status.AllWell code (inr (inl (inr version, same)))) =
+alone_is_not_well input left old new (told (Usage e) holds status.AllWell code (inr (inl (inr version, same)))) =
     let wrong = sym (lacks_only_that (kind_of e) holds) ∙ version in absurd cc
-alone_is_not_well input old new (told (Usage e) holds status.AllWell code (inr (inr (no_help, other)))) = absurd cc
-alone_is_not_well input old new (told (Usage e) holds status.TextsRefused code tells) = absurd cc
-alone_is_not_well input old new (told (Usage e) holds status.Usage code tells) = absurd cc
-alone_is_not_well input old new (told (Usage e) holds status.SomeRefused code tells) = absurd cc
-alone_is_not_well input old new (told (Usage e) holds status.InputOutput code tells) = absurd cc
-alone_is_not_well input old new (told (Usage e) holds status.OutOfMemory code tells) = absurd cc
-alone_is_not_well input old new (told NotText holds ended code tells) = absurd holds
-alone_is_not_well input old new (told (CannotRead name) (line, reads, names) ended code tells) =
+alone_is_not_well input left old new (told (Usage e) holds status.AllWell code (inr (inr (no_help, other)))) = absurd cc
+alone_is_not_well input left old new (told (Usage e) holds status.TextsRefused code tells) = absurd cc
+alone_is_not_well input left old new (told (Usage e) holds status.Usage code tells) = absurd cc
+alone_is_not_well input left old new (told (Usage e) holds status.SomeRefused code tells) = absurd cc
+alone_is_not_well input left old new (told (Usage e) holds status.InputOutput code tells) = absurd cc
+alone_is_not_well input left old new (told (Usage e) holds status.OutOfMemory code tells) = absurd cc
+alone_is_not_well input left old new (told NotText holds ended code tells) = absurd holds
+alone_is_not_well input left old new (told (CannotRead name) (line, reads, names) ended code tells) =
     let wrong = sym reads.taken ∙ alone_lacks_a_command in absurd cc
-alone_is_not_well input old new (told Memory holds ended code (same, wrote)) = let wrong = code ∙ ap code_of same in absurd cc
+alone_is_not_well input left old new (told Memory holds ended code (same, wrote)) = let wrong = code ∙ ap code_of same in absurd cc
 
 -- ---- a run of two files in a world, in the words of `CommandCases`: the files and the world have just these names
 

@@ -23,17 +23,17 @@ use Rattle.islec.specs.declared.status.Status.{Status}
 use Rattle.islec.specs.declared.status.Status.TheVariants.{AllWell, TextsRefused, Usage, SomeRefused, InputOutput, OutOfMemory}
 
 -- what `perform` promises of a job, number by number, is how the job ends
-pub ends_job : (job : Job) (files : List SourceFile) (world : SourceFile) (input old new : Option (List ℕ)) (code : ℕ)
+pub ends_job : (job : Job) (files : List SourceFile) (world : SourceFile) (input left old new : Option (List ℕ)) (code : ℕ)
     → ((width : ℕ) → job ≡ Fmt width → code ≡ 0 → WritesPrints width files old new)
     → ((width : ℕ) → job ≡ Fmt width → code ≡ 4 → CutsPrints width files old new)
     → ((width : ℕ) → job ≡ Fmt width → code ≡ 5 → AppendsBeginning old new (codes "out of memory\n"))
     → ((width : ℕ) → job ≡ Fmt width → code ≡ 1 → WritesFault files old new)
     → ((width : ℕ) → job ≡ Fmt width → code ≢ 3)
     → ((depth : ℕ) (plain : Bool) → job ≡ Run depth plain → (code ≡ 0) ⊎ (code ≡ 3) → AreAccepted files)
-    → ((depth : ℕ) (plain : Bool) → job ≡ Run depth plain → code ≡ 0 → WritesAnswers files world depth input false old new)
-    → ((depth : ℕ) (plain : Bool) → job ≡ Run depth plain → code ≡ 3 → WritesAnswers files world depth input true old new)
-    → ((depth : ℕ) (plain : Bool) → job ≡ Run depth plain → code ≡ 4 → CutsRun files world depth input old new)
-    → ((depth : ℕ) (plain : Bool) → job ≡ Run depth plain → code ≡ 5 → RunsOut files world depth input old new)
+    → ((depth : ℕ) (plain : Bool) → job ≡ Run depth plain → code ≡ 0 → WritesAnswers files world depth plain input false old new)
+    → ((depth : ℕ) (plain : Bool) → job ≡ Run depth plain → code ≡ 3 → WritesAnswers files world depth plain input true old new)
+    → ((depth : ℕ) (plain : Bool) → job ≡ Run depth plain → code ≡ 4 → CutsRun files world depth plain input old new)
+    → ((depth : ℕ) (plain : Bool) → job ≡ Run depth plain → code ≡ 5 → RunsOut files world depth plain input left old new)
     → ((depth : ℕ) (plain : Bool) → job ≡ Run depth plain → code ≡ 1 → WritesRefusal files world old new)
     → ((terms : Bool) → job ≡ Check terms → code ≡ 0 → WritesAccepted files terms old new)
     → ((terms : Bool) → job ≡ Check terms → code ≡ 1 → WritesFaults files old new)
@@ -41,39 +41,39 @@ pub ends_job : (job : Job) (files : List SourceFile) (world : SourceFile) (input
     → ((terms : Bool) → job ≡ Check terms → code ≡ 5 → AppendsBeginning old new (codes "out of memory\n"))
     → ((terms : Bool) → job ≡ Check terms → code ≢ 3)
     → (status : Status) × (status ≢ Usage) × (code ≡ code_of status)
-    → (status : Status) × (code ≡ code_of status) × EndsJob job files world input old new status
-ends_job (Run depth plain) files world input old new code f0 f4 f5 f1 f3 r r0 r3 r4 r5 r1 c0 c1 c4 c5 c3 (AllWell, other, is) =
+    → (status : Status) × (code ≡ code_of status) × EndsJob job files world input left old new status
+ends_job (Run depth plain) files world input left old new code f0 f4 f5 f1 f3 r r0 r3 r4 r5 r1 c0 c1 c4 c5 c3 (AllWell, other, is) =
     (AllWell, is, (r depth plain refl (inl is), r0 depth plain refl is))
-ends_job (Run depth plain) files world input old new code f0 f4 f5 f1 f3 r r0 r3 r4 r5 r1 c0 c1 c4 c5 c3 (TextsRefused, other, is) =
+ends_job (Run depth plain) files world input left old new code f0 f4 f5 f1 f3 r r0 r3 r4 r5 r1 c0 c1 c4 c5 c3 (TextsRefused, other, is) =
     (TextsRefused, is, r1 depth plain refl is)
-ends_job (Run depth plain) files world input old new code f0 f4 f5 f1 f3 r r0 r3 r4 r5 r1 c0 c1 c4 c5 c3 (Usage, other, is) = absurd (other refl)
-ends_job (Run depth plain) files world input old new code f0 f4 f5 f1 f3 r r0 r3 r4 r5 r1 c0 c1 c4 c5 c3 (SomeRefused, other, is) =
+ends_job (Run depth plain) files world input left old new code f0 f4 f5 f1 f3 r r0 r3 r4 r5 r1 c0 c1 c4 c5 c3 (Usage, other, is) = absurd (other refl)
+ends_job (Run depth plain) files world input left old new code f0 f4 f5 f1 f3 r r0 r3 r4 r5 r1 c0 c1 c4 c5 c3 (SomeRefused, other, is) =
     (SomeRefused, is, (r depth plain refl (inr is), r3 depth plain refl is))
-ends_job (Run depth plain) files world input old new code f0 f4 f5 f1 f3 r r0 r3 r4 r5 r1 c0 c1 c4 c5 c3 (InputOutput, other, is) =
+ends_job (Run depth plain) files world input left old new code f0 f4 f5 f1 f3 r r0 r3 r4 r5 r1 c0 c1 c4 c5 c3 (InputOutput, other, is) =
     (InputOutput, is, r4 depth plain refl is)
-ends_job (Run depth plain) files world input old new code f0 f4 f5 f1 f3 r r0 r3 r4 r5 r1 c0 c1 c4 c5 c3 (OutOfMemory, other, is) =
+ends_job (Run depth plain) files world input left old new code f0 f4 f5 f1 f3 r r0 r3 r4 r5 r1 c0 c1 c4 c5 c3 (OutOfMemory, other, is) =
     (OutOfMemory, is, r5 depth plain refl is)
-ends_job (Check terms) files world input old new code f0 f4 f5 f1 f3 r r0 r3 r4 r5 r1 c0 c1 c4 c5 c3 (AllWell, other, is) =
+ends_job (Check terms) files world input left old new code f0 f4 f5 f1 f3 r r0 r3 r4 r5 r1 c0 c1 c4 c5 c3 (AllWell, other, is) =
     (AllWell, is, c0 terms refl is)
-ends_job (Check terms) files world input old new code f0 f4 f5 f1 f3 r r0 r3 r4 r5 r1 c0 c1 c4 c5 c3 (TextsRefused, other, is) =
+ends_job (Check terms) files world input left old new code f0 f4 f5 f1 f3 r r0 r3 r4 r5 r1 c0 c1 c4 c5 c3 (TextsRefused, other, is) =
     (TextsRefused, is, c1 terms refl is)
-ends_job (Check terms) files world input old new code f0 f4 f5 f1 f3 r r0 r3 r4 r5 r1 c0 c1 c4 c5 c3 (Usage, other, is) = absurd (other refl)
-ends_job (Check terms) files world input old new code f0 f4 f5 f1 f3 r r0 r3 r4 r5 r1 c0 c1 c4 c5 c3 (SomeRefused, other, is) =
+ends_job (Check terms) files world input left old new code f0 f4 f5 f1 f3 r r0 r3 r4 r5 r1 c0 c1 c4 c5 c3 (Usage, other, is) = absurd (other refl)
+ends_job (Check terms) files world input left old new code f0 f4 f5 f1 f3 r r0 r3 r4 r5 r1 c0 c1 c4 c5 c3 (SomeRefused, other, is) =
     absurd (c3 terms refl is)
-ends_job (Check terms) files world input old new code f0 f4 f5 f1 f3 r r0 r3 r4 r5 r1 c0 c1 c4 c5 c3 (InputOutput, other, is) =
+ends_job (Check terms) files world input left old new code f0 f4 f5 f1 f3 r r0 r3 r4 r5 r1 c0 c1 c4 c5 c3 (InputOutput, other, is) =
     (InputOutput, is, c4 terms refl is)
-ends_job (Check terms) files world input old new code f0 f4 f5 f1 f3 r r0 r3 r4 r5 r1 c0 c1 c4 c5 c3 (OutOfMemory, other, is) =
+ends_job (Check terms) files world input left old new code f0 f4 f5 f1 f3 r r0 r3 r4 r5 r1 c0 c1 c4 c5 c3 (OutOfMemory, other, is) =
     (OutOfMemory, is, c5 terms refl is)
-ends_job (Fmt width) files world input old new code f0 f4 f5 f1 f3 r r0 r3 r4 r5 r1 c0 c1 c4 c5 c3 (AllWell, other, is) =
+ends_job (Fmt width) files world input left old new code f0 f4 f5 f1 f3 r r0 r3 r4 r5 r1 c0 c1 c4 c5 c3 (AllWell, other, is) =
     (AllWell, is, f0 width refl is)
-ends_job (Fmt width) files world input old new code f0 f4 f5 f1 f3 r r0 r3 r4 r5 r1 c0 c1 c4 c5 c3 (TextsRefused, other, is) =
+ends_job (Fmt width) files world input left old new code f0 f4 f5 f1 f3 r r0 r3 r4 r5 r1 c0 c1 c4 c5 c3 (TextsRefused, other, is) =
     (TextsRefused, is, f1 width refl is)
-ends_job (Fmt width) files world input old new code f0 f4 f5 f1 f3 r r0 r3 r4 r5 r1 c0 c1 c4 c5 c3 (Usage, other, is) = absurd (other refl)
-ends_job (Fmt width) files world input old new code f0 f4 f5 f1 f3 r r0 r3 r4 r5 r1 c0 c1 c4 c5 c3 (SomeRefused, other, is) =
+ends_job (Fmt width) files world input left old new code f0 f4 f5 f1 f3 r r0 r3 r4 r5 r1 c0 c1 c4 c5 c3 (Usage, other, is) = absurd (other refl)
+ends_job (Fmt width) files world input left old new code f0 f4 f5 f1 f3 r r0 r3 r4 r5 r1 c0 c1 c4 c5 c3 (SomeRefused, other, is) =
     absurd (f3 width refl is)
-ends_job (Fmt width) files world input old new code f0 f4 f5 f1 f3 r r0 r3 r4 r5 r1 c0 c1 c4 c5 c3 (InputOutput, other, is) =
+ends_job (Fmt width) files world input left old new code f0 f4 f5 f1 f3 r r0 r3 r4 r5 r1 c0 c1 c4 c5 c3 (InputOutput, other, is) =
     (InputOutput, is, f4 width refl is)
-ends_job (Fmt width) files world input old new code f0 f4 f5 f1 f3 r r0 r3 r4 r5 r1 c0 c1 c4 c5 c3 (OutOfMemory, other, is) =
+ends_job (Fmt width) files world input left old new code f0 f4 f5 f1 f3 r r0 r3 r4 r5 r1 c0 c1 c4 c5 c3 (OutOfMemory, other, is) =
     (OutOfMemory, is, f5 width refl is)
 
 -- files have the names of their texts
@@ -87,21 +87,21 @@ world_named None = refl
 world_named (Some pair) = refl
 
 -- a command that begins as its words say ends as its job does
-pub ends_done : (words : List Text) (begun : Begun) (input old new : Option (List ℕ)) (code : ℕ) → Begins words begun
-    → (status : Status) × (code ≡ code_of status) × EndsJob begun.job (map source_file begun.texts.items) (world_file begun.world) input old new status
-    → EndsCommand words input old new code
-ends_done words begun input old new code begins (status, is, ends) =
+pub ends_done : (words : List Text) (begun : Begun) (input left old new : Option (List ℕ)) (code : ℕ) → Begins words begun
+    → (status : Status) × (code ≡ code_of status) × EndsJob begun.job (map source_file begun.texts.items) (world_file begun.world) input left old new status
+    → EndsCommand words input left old new code
+ends_done words begun input left old new code begins (status, is, ends) =
     done begins.line begins.reads (map source_file begun.texts.items)
     (source_names begun.texts.items ∙ ap (λ (names : List (String Global)). map string_bytes names) begins.texts)
     (world_file begun.world) (subst (λ (name : Option (String Global)). IsWorld name (world_file begun.world)) begins.world (world_named begun.world))
     status is
-    (subst (λ (job : Job). EndsJob job (map source_file begun.texts.items) (world_file begun.world) input old new status) begins.job ends)
+    (subst (λ (job : Job). EndsJob job (map source_file begun.texts.items) (world_file begun.world) input left old new status) begins.job ends)
 
 -- however a command ends, it has a status
-pub status_of : (words : List Text) (input old new : Option (List ℕ)) (code : ℕ) → EndsCommand words input old new code
+pub status_of : (words : List Text) (input left old new : Option (List ℕ)) (code : ℕ) → EndsCommand words input left old new code
     → (status : Status) × (code ≡ code_of status)
-status_of words input old new code (done line reads files named world of status is ends) = (status, is)
-status_of words input old new code (told why holds status is tells) = (status, is)
+status_of words input left old new code (done line reads files named world of status is ends) = (status, is)
+status_of words input left old new code (told why holds status is tells) = (status, is)
 
 -- a file that isn't read is one of the names
 pub unread_among : (names : List (String Global)) (name : String Global) (why : Unbegun) → Contains names name → IsUnreadFile name why → IsUnread names why

@@ -1,8 +1,10 @@
 -- Lines of bytes as a reader gives them.
-use Rattle.std.proofs.Common.{◌≡◌, ◌++◌, ℕ, Bool, true, false, List, [], ◌∷◌, Option, Some, None, inl, inr, length, eqb, cond, refl, sym, ap, subst, ◌∙◌, append_assoc, append-nil, arith}
+use Rattle.std.specs.Io.{StopsAt}
+use Rattle.std.specs.Prelude.{All, ◌≢◌, ◌-◌, take}
+use Rattle.std.proofs.Common.{◌≡◌, ◌++◌, ℕ, Bool, true, false, List, [], ◌∷◌, Option, Some, None, inl, inr, length, eqb, cond, refl, sym, ap, subst, ◌∙◌, append_assoc, append-nil, arith, ◌<◌, suc}
 use Rattle.std.proofs.lemmas.Bool.{eqb-true, eqb-false}
 use Rattle.std.specs.Io.BufRead.{take_through, drop_through}
-use Rattle.std.specs.Io.KnownBytes.{IsAtEnd}
+use Rattle.std.specs.Io.KnownBytes.{IsAtEnd, Consumes}
 use Rattle.islec.specs.Serving.{lines_of, before_first, AreLinesOf, AreFirstLinesOf, GivesLines, TakesLine, LosesNewline}
 
 -- the bytes before the first newline, or all
@@ -86,3 +88,64 @@ pub gives_first : (a b : Option (List ℕ)) (lines : List (List ℕ)) → GivesL
 gives_first None b lines p = tt
 gives_first (Some x) None lines p = absurd p
 gives_first (Some x) (Some y) lines p = (lines_of y, p)
+
+-- where bytes were taken, and then others, both were
+pub consumes_none : (a : Option (List ℕ)) → Consumes a a []
+consumes_none None = tt
+consumes_none (Some bytes) = refl
+
+pub consumes_more : (a b c : Option (List ℕ)) (one other : List ℕ) → Consumes a b one → Consumes b c other → Consumes a c (one ++ other)
+consumes_more None b c one other p q = tt
+consumes_more (Some x) None c one other p q = absurd p
+consumes_more (Some x) (Some y) None one other p q = absurd q
+consumes_more (Some x) (Some y) (Some z) one other p q = p ∙ ap (λ l. one ++ l) q ∙ sym (append_assoc one other z)
+
+-- of a line that stops at its newline, so does the rest
+rest_stops : (x y : ℕ) (line : List ℕ) → StopsAt (x ∷ y ∷ line) 10 → (x ≢ 10) × StopsAt (y ∷ line) 10
+rest_stops x y line stops =
+    let one : length (x ∷ y ∷ line) - 1 ≡ suc (length line) = omega arith in
+    let other : length (y ∷ line) - 1 ≡ length line = omega arith in
+    let all = subst (λ n. All (λ b. b ≢ 10) (take n (x ∷ y ∷ line))) one stops in (
+      all 0 0 (omega arith),
+      subst (λ n. All (λ b. b ≢ 10) (take n (y ∷ line))) (sym other) (λ k d less. all (suc k) d (omega (arith, less))),
+    )
+
+tail_ends : (x z : ℕ) (line front : List ℕ) → x ∷ line ≡ z ∷ front → line ≡ front
+tail_ends x z line front e = cc
+
+further : (x : ℕ) (line rest : List ℕ) → x ≢ 10 → (b : Bool) → eqb x 10 ≡ b
+    → (take_through 10 (line ++ rest) ≡ line) × (drop_through 10 (line ++ rest) ≡ rest)
+    → (take_through 10 ((x ∷ line) ++ rest) ≡ x ∷ line) × (drop_through 10 ((x ∷ line) ++ rest) ≡ rest)
+further x line rest other true is more = absurd (other (eqb-true x 10 is))
+further x line rest other false is more = rw is (ap (λ l. x ∷ l) more.0, more.1)
+
+-- a line that has ended is the first of what it stands before
+ended_taken : (line rest front : List ℕ) → StopsAt line 10 → line ≡ front ++ 10 ∷ []
+    → (take_through 10 (line ++ rest) ≡ line) × (drop_through 10 (line ++ rest) ≡ rest)
+ended_taken [] rest [] stops ends = absurd cc
+ended_taken [] rest (y ∷ front) stops ends = absurd cc
+ended_taken (x ∷ []) rest [] stops ends =
+    let ten : x ≡ 10 = cc in
+    subst (λ n. (take_through 10 (n ∷ rest) ≡ n ∷ []) × (drop_through 10 (n ∷ rest) ≡ rest)) (sym ten) (refl, refl)
+ended_taken (x ∷ []) rest (y ∷ []) stops ends = absurd cc
+ended_taken (x ∷ []) rest (y ∷ z ∷ front) stops ends = absurd cc
+ended_taken (x ∷ y ∷ line) rest [] stops ends = absurd cc
+ended_taken (x ∷ y ∷ line) rest (z ∷ front) stops ends =
+    let (other, later) = rest_stops x y line stops in
+    further x (y ∷ line) rest other (eqb x 10) refl (ended_taken (y ∷ line) rest front later (tail_ends x z (y ∷ line) (front ++ 10 ∷ []) ends))
+
+pub ended_takes : (old new : Option (List ℕ)) (line front : List ℕ) → Consumes old new line → StopsAt line 10 → line ≡ front ++ 10 ∷ []
+    → 0 < length line → TakesLine old new line
+ended_takes None new line front took stops ends some = (some, tt)
+ended_takes (Some bytes) None line front took stops ends some = absurd took
+ended_takes (Some bytes) (Some rest) line front took stops ends some =
+    let (takes, drops) = ended_taken line rest front stops ends in
+    (some, (sym takes ∙ ap (take_through 10) (sym took), ap Some (sym drops ∙ ap (drop_through 10) (sym took))))
+
+-- one that has ended has a byte
+pub ended_some : (line front : List ℕ) → line ≡ front ++ 10 ∷ [] → 0 < length line
+ended_some line front ends = subst (λ l. 0 < length l) (sym ends) (some front)
+  where
+    some : (front : List ℕ) → 0 < length (front ++ 10 ∷ [])
+    some [] = omega arith
+    some (x ∷ front) = omega arith

@@ -33,10 +33,10 @@ abbrev lists : List (List ℕ) → List ℕ → ValueTrees → Option ValueTree 
 lists world name args answer next = next ≡ world ++ name ∷ []
 
 abbrev counting : Program → Answers → Setting ℕ
-counting program answers = record { program = program; answers = answers; step = counts; depth = 1 }
+counting program answers = record { program = program; answers = answers; step = counts; depth = 1; plain = true }
 
 abbrev listing : Program → Answers → Setting (List (List ℕ))
-listing program answers = record { program = program; answers = answers; step = lists; depth = 1 }
+listing program answers = record { program = program; answers = answers; step = lists; depth = 1; plain = true }
 
 -- ---- effects
 

@@ -1,5 +1,13 @@
 -- What is written of a call's parts, and what a refused or an answered query is written.
-use Rattle.std.proofs.Common.{◌≡◌, ◌<◌, ◌+◌, ◌++◌, ℕ, zero, suc, List, [], ◌∷◌, Some, Result, Ok, Err, IfOk, OnOk, length, take, get_or, refl, sym, subst, ap, ◌∙◌, append_assoc, append-nil, add-one, arith, string_bytes}
+use Rattle.isle_meaning.proofs.Calls.Beginnings.{plain_begins}
+use Rattle.isle_run.specs.PlainCalls.{TellsPlainly, BeginsPlainly}
+use Rattle.isle_run.specs.Meanings.{checked}
+use Rattle.isle_run.specs.declared.program.Program.{Program}
+use Rattle.isle_run.specs.declared.calls.answer.Answer.{Answer}
+use Rattle.isle_run.specs.declared.calls.answer.Called.{Called}
+use Rattle.isle_meaning.specs.Worlds.{Answers, Event}
+use Rattle.isle_meaning.specs.Values.{Values}
+use Rattle.std.proofs.Common.{◌≡◌, ◌<◌, ◌+◌, ◌++◌, ℕ, zero, suc, List, [], ◌∷◌, Some, Result, Ok, Err, IfOk, OnOk, length, take, get_or, refl, sym, subst, ap, ◌∙◌, append_assoc, append-nil, add-one, arith, string_bytes, Bool, true, false, inl, inr, OnErr}
 use Rattle.std.specs.Prelude.{codes, IsUtf8}
 use Rattle.std.specs.declared.alloc.AllocError.{AllocError}
 use Rattle.isle_types.specs.declared.ids.TermId.{TermId}
@@ -9,7 +17,7 @@ use Rattle.isle_run.specs.Queries.{RefusesText, IsCallIn}
 use Rattle.isle_run.specs.Values.TextTokens.{AreTokensOf}
 use Rattle.isle_run.specs.Values.Text.{value_text, fields_text}
 use Rattle.islec.specs.declared.answer.Reply.{Reply}
-use Rattle.islec.specs.Replies.{Setting, Refuses, IsReply, AnswersCall, Reaches, call_text, cause_number, no_call, call}
+use Rattle.islec.specs.Replies.{Setting, Refuses, IsReply, AnswersCall, Reaches, call_text, cause_number, no_call, call, TellsBy, BeginsBy, BeginsCall, LosesReply, no_text, blank}
 
 -- one argument more
 fields_more : (args : List ValueTree) (i : ℕ) (v : ValueTree) → i < length args → v ≡ get_or args i v
@@ -57,3 +65,47 @@ labelled (Err e) old put new label name own args items is named same wrote = tt
 labelled (Ok u) old put new label name own args items is named same wrote =
     wrote ∙ ap (λ l. l ++ call_text name args) is ∙ append_assoc old label (call_text name args)
     ∙ ap (λ l. old ++ (label ++ call_text l args)) named ∙ ap (λ l. old ++ (label ++ call_text own l)) same
+
+-- what a call on the plain road tells, a call tells on either road
+pub tells_by : (plain : Bool) (program : Program) (w : Answers) (depth term : ℕ) (args : Values) (called : Called) (made : List Event)
+    → TellsPlainly program w depth term args called made → TellsBy plain program w depth term args called.answer made
+tells_by true program w depth term args called made tells = (called.steps, tells)
+tells_by false program w depth term args called made tells =
+    record { outcome = tells.outcome; told = tells.told; meant = tells.meant; asked = tells.asked; pure = tells.pure }
+
+pub begins_by : (plain : Bool) (program : Program) (w : Answers) (depth term : ℕ) (args : Values) (made : List Event)
+    → BeginsPlainly program w depth term args made → BeginsBy plain program w depth term args made
+begins_by true program w depth term args made begun = begun
+begins_by false program w depth term args made begun = begun.pure
+
+-- a call that is answered has begun with its effects
+pub begins_with : (plain : Bool) (program : Program) (w : Answers) (depth term : ℕ) (args : Values) (answer : Answer) (made : List Event)
+    → TellsBy plain program w depth term args answer made → BeginsBy plain program w depth term args made
+begins_with true program w depth term args answer made (steps, tells) = record {
+  begins = plain_begins (checked program) w depth term args steps made tells.outcome tells.run;
+  pure = tells.pure;
+}
+begins_with false program w depth term args answer made tells = tells.pure
+
+pub answers_begin : {V : Type 0} (setting : Setting V) (before : V) (term : TermId) (args : ValueTrees) (lines : List ℕ) (refused : Bool) (after : V)
+    → AnswersCall setting before term args lines refused after → BeginsCall setting before term args after
+answers_begin setting before term args lines refused after answers =
+    let (made, shown, leads, tells) = answers.outcome in
+    (made, leads, begins_with setting.plain setting.program setting.answers setting.depth term.0 _ answers.answer made tells)
+
+-- a reply may be lost
+pub reply_lost : {V : Type 0} (setting : Setting V) (before : V) (line lines : List ℕ) (refused : Bool) (after : V)
+    → IsReply setting before line lines refused after → LosesReply setting before line after
+reply_lost setting before line lines refused after (no_text text out counted same) = inl same
+reply_lost setting before line lines refused after (blank utf8 none out counted same) = inl same
+reply_lost setting before line lines refused after (no_call utf8 some fault cause refuses number out counted same) = inl same
+reply_lost setting before line lines refused after (call utf8 term args is answers) =
+    inr (term, args, is, answers_begin setting before term args lines refused after answers)
+
+-- so may that of a query
+pub lost_query : {V : Type 0} (setting : Setting V) (before after : V) (line text : List ℕ) (term : TermId) (args : ValueTrees)
+    (r : Result Reply AllocError) → text ≡ line → IsCallIn setting.program text term args → OnErr r (BeginsCall setting before term args after)
+    → OnErr r (LosesReply setting before line after)
+lost_query setting before after line text term args (Ok reply) same spelt begun = tt
+lost_query setting before after line text term args (Err e) same spelt begun =
+    inr (term, args, subst (λ l. IsCallIn setting.program l term args) same spelt, begun)

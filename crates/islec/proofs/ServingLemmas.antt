@@ -1,8 +1,10 @@
 -- Replies to lines one after another.
-use Rattle.std.proofs.Common.{◌≡◌, ◌≢◌, ◌++◌, ◌||◌, ℕ, Bool, true, false, List, [], ◌∷◌, Option, Some, None, Result, Ok, Err, IfErr, length, take, refl, sym, ap, subst, ◌∙◌, append_assoc, append-nil, ◌+◌, IfOk, cond, eqb}
+use Rattle.std.specs.Io.{StopsAt}
+use Rattle.std.specs.Result.{IsErrAnd}
+use Rattle.std.proofs.Common.{arith, ◌≡◌, ◌≢◌, ◌++◌, ◌||◌, ℕ, Bool, true, false, List, [], ◌∷◌, Option, Some, None, Result, Ok, Err, IfErr, length, take, refl, sym, ap, subst, ◌∙◌, append_assoc, append-nil, ◌+◌, IfOk, cond, eqb, codes, inl, inr}
 use Rattle.std.specs.Io.Buffered.{reader_remaining, reader_inner, reader_buffer, reader_capacity}
 use Rattle.std.specs.declared.io.buffered.BufReader.{BufReader}
-use Rattle.std.specs.Io.KnownBytes.{Appends, prepend_known}
+use Rattle.std.specs.Io.KnownBytes.{Appends, prepend_known, Consumes}
 use Rattle.std.proofs.Math.Seq.{take-append-add}
 use Rattle.std.proofs.KnownBytes.{Appends-nil, Appends-trans, prepend_known-nil}
 use Rattle.islec.specs.declared.serve.ServeFault.{ServeFault}
@@ -10,12 +12,12 @@ use Rattle.islec.specs.declared.serve.Served.{Served}
 use Rattle.islec.specs.declared.serve.ServeFault.TheVariants.{Read, Write, Memory}
 use Rattle.isle_terms.specs.Values.{ValueTree, ValueTrees}
 use Rattle.isle_run.specs.declared.program.Program.{Program}
-use Rattle.islec.specs.Replies.{Setting, setting_in, IsReply, Reaches}
+use Rattle.islec.specs.Replies.{Setting, setting_in, IsReply, Reaches, LosesReply}
 use Rattle.islec.proofs.ReplyLemmas.{reaches_itself}
-use Rattle.islec.specs.Serving.{AreReplies, AreLinesOf, AreFirstLinesOf, WritesReplies, AnswersAll, AnswersFirst, AnswersCut, KeepsBack, KeepsFirst, GivesLines, some_refused}
+use Rattle.islec.specs.Serving.{AreReplies, AreLinesOf, AreFirstLinesOf, WritesReplies, AnswersAll, AnswersFirst, AnswersCut, KeepsBack, KeepsFirst, GivesLines, some_refused, BreaksOff, IsCutShort, LosesNewline}
 use Rattle.islec.specs.Writing.{AppendsBeginning, ContinuesBy}
 use Rattle.islec.proofs.WritingLemmas.{whole_begins}
-use Rattle.islec.proofs.LineLemmas.{gives_none, gives_more, gives_first}
+use Rattle.islec.proofs.LineLemmas.{gives_none, gives_more, gives_first, consumes_none, consumes_more}
 
 or_false : (b : Bool) → (b || false) ≡ b
 or_false true = refl
@@ -61,6 +63,8 @@ cut_behind a b c out kept count wrote more =
 -- replies to lines that a reader gave, of which an end is kept back
 pub record IsServing {V : Type 0} (setting : Setting V) (before : V) (input left old new : Option (List ℕ)) (kept : List ℕ) (refused : Bool) (after : V) : Type 0 where
   pub lines : List (List ℕ)
+  pub whole : List ℕ
+  pub read : Consumes input left whole
   pub gives : GivesLines input left lines
   pub keeps : KeepsBack setting before lines refused old new kept after
 
@@ -68,6 +72,8 @@ pub begins : {V : Type 0} (setting : Setting V) (world : V) (input old : Option 
     → IsServing setting world input input old old kept false world
 begins setting world input old kept none = record {
   lines = [];
+  whole = [];
+  read = consumes_none input;
   gives = gives_none input;
   keeps = record { out = []; replies = (none, refl, refl); written = Appends-nil old };
 }
@@ -75,9 +81,12 @@ begins setting world input old kept none = record {
 -- the reply to one line more
 pub answers_more : {V : Type 0} (setting : Setting V) (before middle after : V) (input a b old new : Option (List ℕ)) (kept line one grown : List ℕ)
     (refused first : Bool) → IsServing setting before input a old new kept refused middle → IsReply setting middle line one first after
-    → grown ≡ kept ++ one → GivesLines a b (line ∷ []) → IsServing setting before input b old new grown (refused || first) after
-answers_more setting before middle after input a b old new kept line one grown refused first serving reply is gives = record {
+    → grown ≡ kept ++ one → GivesLines a b (line ∷ []) → (took : List ℕ) × Consumes a b took
+    → IsServing setting before input b old new grown (refused || first) after
+answers_more setting before middle after input a b old new kept line one grown refused first serving reply is gives (took, takes) = record {
   lines = serving.lines ++ line ∷ [];
+  whole = serving.whole ++ took;
+  read = consumes_more input a b serving.whole took serving.read takes;
   gives = gives_more input a b serving.lines (line ∷ []) serving.gives gives;
   keeps = record {
     out = serving.keeps.out;
@@ -116,6 +125,8 @@ pub writes_more : {V : Type 0} (setting : Setting V) (before after : V) (input l
     → IsServing setting before input left old new rest refused after
 writes_more setting before after input left old mid new kept some rest refused serving wrote is = record {
   lines = serving.lines;
+  whole = serving.whole;
+  read = serving.read;
   gives = serving.gives;
   keeps = writes_some setting before after serving.lines old mid new kept some rest refused serving.keeps wrote is;
 }
@@ -134,11 +145,43 @@ cuts setting before after input left old mid new kept refused serving (count, wr
   reaches_itself setting after,
 )
 
--- what is kept back where the reading of lines stops
-pub stops : {V : Type 0} (setting : Setting V) (before reached after : V) (input left old new : Option (List ℕ)) (kept : List ℕ) (refused : Bool)
-    → IsServing setting before input left old new kept refused reached → Reaches setting reached after → KeepsFirst setting before input old new kept after
-stops setting before reached after input left old new kept refused serving more =
-    (serving.lines, refused, reached, gives_first input left serving.lines serving.gives, serving.keeps, more)
+-- what is kept back where the reading of lines breaks off
+pub stops : {V : Type 0} (setting : Setting V) (fault : ServeFault) (before reached after : V) (input middle left old new : Option (List ℕ))
+    (kept part : List ℕ) (refused : Bool) → IsServing setting before input middle old new kept refused reached → Consumes middle left part
+    → BreaksOff setting fault part reached after → KeepsFirst setting fault before input left old new kept after
+stops setting fault before reached after input middle left old new kept part refused serving rest breaks = (
+  serving.lines,
+  part,
+  refused,
+  reached,
+  record { whole = serving.whole; behind = middle; read = serving.read; gives = serving.gives; rest = rest },
+  serving.keeps,
+  breaks,
+)
+
+-- a reply that is lost has made some effects
+lost_reaches : {V : Type 0} (setting : Setting V) (before after : V) (line : List ℕ) → LosesReply setting before line after
+    → Reaches setting before after
+lost_reaches setting before after line (inl same) = subst (Reaches setting before) (sym same) (reaches_itself setting before)
+lost_reaches setting before after line (inr (term, args, is, (made, leads, begins))) = (made, leads)
+
+-- so has what breaks off
+break_reaches : {V : Type 0} (setting : Setting V) (fault : ServeFault) (part : List ℕ) (reached after : V)
+    → BreaksOff setting fault part reached after → Reaches setting reached after
+break_reaches setting Read part reached after (cut, same) = subst (Reaches setting reached) (sym same) (reaches_itself setting reached)
+break_reaches setting Write part reached after breaks = absurd breaks
+break_reaches setting Memory part reached after (cut, inl same) = subst (Reaches setting reached) (sym same) (reaches_itself setting reached)
+break_reaches setting Memory part reached after (cut, inr (line, loses, lost)) = lost_reaches setting reached after line lost
+
+-- replies to first lines of an input, of which an end is kept back and the others are written, and then at most effects
+abbrev pub KeepsSome : {V : Type 0} → Setting V → V → (input old new : Option (List ℕ)) → List ℕ → V → Type 0
+KeepsSome {V} setting before input old new kept after = (lines : List (List ℕ)) × (refused : Bool) × (reached : V) × AreFirstLinesOf input lines
+    × KeepsBack setting before lines refused old new kept reached × Reaches setting reached after
+
+keeps_some : {V : Type 0} (setting : Setting V) (fault : ServeFault) (before after : V) (input left old new : Option (List ℕ)) (kept : List ℕ)
+    → KeepsFirst setting fault before input left old new kept after → KeepsSome setting before input old new kept after
+keeps_some setting fault before after input left old new kept (lines, part, refused, reached, reads, keeps, breaks) =
+    (lines, refused, reached, gives_first input reads.behind lines reads.gives, keeps, break_reaches setting fault part reached after breaks)
 
 -- a reader that has buffered nothing yet has what the one behind it has
 pub unbuffered : {T A : Type 0} (remaining : T → Option (List ℕ)) (reader : BufReader T A) (inner : T) → reader_inner reader ≡ inner → reader_buffer reader ≡ []
@@ -152,23 +195,28 @@ all_first None lines all = tt
 all_first (Some bytes) lines all = ([], all ∙ sym (append-nil lines))
 
 -- what serving lines says where no write failed
-pub holds : {V : Type 0} (setting : Setting V) (before after : V) (input old new : Option (List ℕ)) (kept : List ℕ) (r : Result Served ServeFault)
+pub holds : {V : Type 0} (setting : Setting V) (before after : V) (input left old new : Option (List ℕ)) (kept : List ℕ) (r : Result Served ServeFault)
     → (r ≡ Err Write → ⊥)
     → IfOk r (λ served. (lines : List (List ℕ)) × AreLinesOf input lines × KeepsBack setting before lines (some_refused served) old new kept after)
-    → IfErr r (λ fault. fault ≢ Write → KeepsFirst setting before input old new kept after) → KeepsFirst setting before input old new kept after
-holds setting before after input old new kept (Ok served) never (lines, all, keeps) stopped =
+    → IfErr r (λ fault. fault ≢ Write → KeepsFirst setting fault before input left old new kept after) → KeepsSome setting before input old new kept after
+holds setting before after input left old new kept (Ok served) never (lines, all, keeps) stopped =
     (lines, some_refused served, after, all_first input lines all, keeps, reaches_itself setting after)
-holds setting before after input old new kept (Err e) never answered stopped = stopped (λ is. never (ap Err is))
+holds setting before after input left old new kept (Err e) never answered stopped =
+    keeps_some setting e before after input left old new kept (stopped (λ is. never (ap Err is)))
 
 -- all of it is written
-pub writes_first : {V : Type 0} (setting : Setting V) (before after : V) (input old mid new : Option (List ℕ)) (kept : List ℕ)
-    → KeepsFirst setting before input old mid kept after → Appends mid new kept → AnswersFirst setting before input old new after
-writes_first setting before after input old mid new kept (lines, refused, reached, first, keeps, more) wrote =
-    (lines, refused, reached, first, writes_all setting before reached lines old mid new kept refused keeps wrote, more)
+pub writes_first : {V : Type 0} (setting : Setting V) (before after : V) (input left old mid new : Option (List ℕ)) (kept : List ℕ)
+    (r : Result Served ServeFault) → Appends mid new kept
+    → IfErr r (λ fault. fault ≢ Write → KeepsFirst setting fault before input left old mid kept after)
+    → IfErr r (λ fault. fault ≢ Write → AnswersFirst setting fault before input left old new after)
+writes_first setting before after input left old mid new kept (Ok served) wrote stopped = tt
+writes_first setting before after input left old mid new kept (Err e) wrote stopped = λ other.
+    let (lines, part, refused, reached, reads, keeps, breaks) = stopped other in
+    (lines, part, refused, reached, reads, writes_all setting before reached lines old mid new kept refused keeps wrote, breaks)
 
 -- a beginning of it is written
 pub cuts_first : {V : Type 0} (setting : Setting V) (before after : V) (input old mid new : Option (List ℕ)) (kept : List ℕ)
-    → KeepsFirst setting before input old mid kept after → AppendsBeginning mid new kept → AnswersCut setting before input old new after
+    → KeepsSome setting before input old mid kept after → AppendsBeginning mid new kept → AnswersCut setting before input old new after
 cuts_first setting before after input old mid new kept (lines, refused, reached, first, keeps, more) (count, wrote) = (
   lines,
   refused,
@@ -189,32 +237,71 @@ writes_last setting before after input old mid new kept (Err e) wrote answered =
 writes_last setting before after input old mid new kept (Ok served) wrote (lines, all, keeps) =
     (lines, all, writes_all setting before after lines old mid new kept (some_refused served) keeps wrote)
 
-pub first_continues : {V : Type 0} (setting : Setting V) (before after : V) (input old new : Option (List ℕ)) → AnswersFirst setting before input old new after
-    → ContinuesBy old new
-first_continues setting before after input old new (lines, refused, reached, first, (out, replies, wrote), more) = (out, wrote)
-
 pub cut_continues : {V : Type 0} (setting : Setting V) (before after : V) (input old new : Option (List ℕ)) → AnswersCut setting before input old new after
     → ContinuesBy old new
 cut_continues setting before after input old new (lines, refused, out, reached, first, replies, (count, wrote), more) = (take count out, wrote)
 
-first_cut : {V : Type 0} (setting : Setting V) (before after : V) (input old new : Option (List ℕ)) → AnswersFirst setting before input old new after
-    → AnswersCut setting before input old new after
-first_cut setting before after input old new (lines, refused, reached, first, (out, replies, wrote), more) =
-    (lines, refused, out, reached, first, replies, whole_begins old new out wrote, more)
+first_cut : {V : Type 0} (setting : Setting V) (fault : ServeFault) (before after : V) (input left old new : Option (List ℕ))
+    → AnswersFirst setting fault before input left old new after → AnswersCut setting before input old new after
+first_cut setting fault before after input left old new (lines, part, refused, reached, reads, (out, replies, wrote), breaks) = (
+  lines,
+  refused,
+  out,
+  reached,
+  gives_first input reads.behind lines reads.gives,
+  replies,
+  whole_begins old new out wrote,
+  break_reaches setting fault part reached after breaks,
+)
 
 -- where a fault comes, a beginning of the replies is written, or all of them
-pub cuts_at : {V : Type 0} (setting : Setting V) (before after : V) (input old new : Option (List ℕ)) (fault : ServeFault)
-    → (fault ≢ Write → AnswersFirst setting before input old new after) → (fault ≡ Write → AnswersCut setting before input old new after)
+pub cuts_at : {V : Type 0} (setting : Setting V) (before after : V) (input left old new : Option (List ℕ)) (fault : ServeFault)
+    → (fault ≢ Write → AnswersFirst setting fault before input left old new after) → (fault ≡ Write → AnswersCut setting before input old new after)
     → AnswersCut setting before input old new after
-cuts_at setting before after input old new Write first cut = cut refl
-cuts_at setting before after input old new Read first cut = first_cut setting before after input old new (first (λ is. absurd cc))
-cuts_at setting before after input old new Memory first cut = first_cut setting before after input old new (first (λ is. absurd cc))
+cuts_at setting before after input left old new Write first cut = cut refl
+cuts_at setting before after input left old new Read first cut = first_cut setting Read before after input left old new (first (λ is. absurd cc))
+cuts_at setting before after input left old new Memory first cut = first_cut setting Memory before after input left old new (first (λ is. absurd cc))
 
 -- a reply in a world is one for another that answers pure terms alike
 pub same_setting : {V : Type 0} (step : V → List ℕ → ValueTrees → Option ValueTree → V → Type 0)
     (program : Program) (one other : List ℕ → ValueTrees → Option ValueTree) (some others : List ℕ → ValueTree → Option ValueTrees)
-    (depth : ℕ) (P : Setting V → Type 0) → one ≡ other → some ≡ others → P (setting_in step program one some depth)
-    → P (setting_in step program other others depth)
-same_setting step program one other some others depth P e f h =
-    subst (λ (c : List ℕ → ValueTrees → Option ValueTree). P (setting_in step program c others depth)) e
-    (subst (λ (x : List ℕ → ValueTree → Option ValueTrees). P (setting_in step program one x depth)) f h)
+    (depth : ℕ) (plain : Bool) (P : Setting V → Type 0) → one ≡ other → some ≡ others → P (setting_in step program one some depth plain)
+    → P (setting_in step program other others depth plain)
+same_setting step program one other some others depth plain P e f h =
+    subst (λ (c : List ℕ → ValueTrees → Option ValueTree). P (setting_in step program c others depth plain)) e
+    (subst (λ (x : List ℕ → ValueTree → Option ValueTrees). P (setting_in step program one x depth plain)) f h)
+
+-- where a line isn't read to its end, nothing is done for it
+pub breaks_unread : {V : Type 0} (setting : Setting V) (world : V) (fault : ServeFault) (part : List ℕ) → IsCutShort fault part
+    → BreaksOff setting fault part world world
+breaks_unread setting world Read part cut = (cut, refl)
+breaks_unread setting world Write part cut = absurd cut
+breaks_unread setting world Memory part cut = (cut, inl refl)
+
+-- what breaks off there breaks off in a world that answers pure terms alike
+pub breaks_in : {V : Type 0} (step : V → List ℕ → ValueTrees → Option ValueTree → V → Type 0)
+    (program : Program) (one other : List ℕ → ValueTrees → Option ValueTree) (some others : List ℕ → ValueTree → Option ValueTrees)
+    (depth : ℕ) (plain : Bool) (fault : ServeFault) (part : List ℕ) (reached after : V) → one ≡ other → some ≡ others
+    → BreaksOff (setting_in step program one some depth plain) fault part reached after
+    → BreaksOff (setting_in step program other others depth plain) fault part reached after
+breaks_in step program one other some others depth plain fault part reached after e f h =
+    same_setting step program one other some others depth plain (λ s. BreaksOff s fault part reached after) e f h
+
+-- where nothing is read behind lines, reading has failed there
+pub breaks_at_once : {V : Type 0} (setting : Setting V) (world : V) → BreaksOff setting Read [] world world
+breaks_at_once setting world = ((λ k d less. absurd (omega (arith, less)), λ front ended. never front ended), refl)
+  where
+    never : (front : List ℕ) → [] ≡ front ++ codes "\n" → ⊥
+    never [] ended = absurd cc
+    never (x ∷ front) ended = absurd cc
+
+-- what follows of an error holds of it
+pub err_and : {T E : Type 0} (r : Result T E) (P Q : E → Type 0) → IsErrAnd r P → ((e : E) → P e → Q e) → IfErr r Q
+err_and (Ok x) P Q is f = tt
+err_and (Err e) P Q is f = f e is
+
+-- where memory runs out behind a line, its reply is lost
+pub breaks_reply : {V : Type 0} (setting : Setting V) (before after : V) (fault : ServeFault) (part line : List ℕ) → fault ≡ Memory
+    → StopsAt part 10 → LosesNewline part line → LosesReply setting before line after → BreaksOff setting fault part before after
+breaks_reply setting before after fault part line is stops loses lost =
+    subst (λ f. BreaksOff setting f part before after) (sym is) (stops, inr (line, loses, lost))

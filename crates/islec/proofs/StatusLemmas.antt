@@ -36,6 +36,9 @@ same_width job a b p q = let e : Fmt a ≡ Fmt b = sym p ∙ q in cc
 pub same_depth : (job : Job) (a b : ℕ) (p q : Bool) → job ≡ Run a p → job ≡ Run b q → b ≡ a
 same_depth job a b p q e f = let h : Run a p ≡ Run b q = sym e ∙ f in cc
 
+pub same_plain : (job : Job) (a b : ℕ) (p q : Bool) → job ≡ Run a p → job ≡ Run b q → q ≡ p
+same_plain job a b p q e f = let h : Run a p ≡ Run b q = sym e ∙ f in cc
+
 pub same_terms : (job : Job) (a b : Bool) → job ≡ Check a → job ≡ Check b → b ≡ a
 same_terms job a b p q = let e : Check a ≡ Check b = sym p ∙ q in cc
 

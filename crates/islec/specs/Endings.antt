@@ -23,13 +23,13 @@ use Rattle.islec.specs.declared.status.Status.{Status}
 use Rattle.islec.specs.declared.status.Status.TheVariants.{AllWell, TextsRefused, Usage, SomeRefused, InputOutput, OutOfMemory}
 
 -- what is written of files that are run, by the status
-abbrev pub EndsRun : (depth : ℕ) → List SourceFile → (world : SourceFile) → (input old new : Option (List ℕ)) → Status → Type 0
-EndsRun depth files world input old new AllWell = AreAccepted files × WritesAnswers files world depth input false old new
-EndsRun depth files world input old new TextsRefused = WritesRefusal files world old new
-EndsRun depth files world input old new Usage = ⊥
-EndsRun depth files world input old new SomeRefused = AreAccepted files × WritesAnswers files world depth input true old new
-EndsRun depth files world input old new InputOutput = CutsRun files world depth input old new
-EndsRun depth files world input old new OutOfMemory = RunsOut files world depth input old new
+abbrev pub EndsRun : (depth : ℕ) → (plain : Bool) → List SourceFile → (world : SourceFile) → (input left old new : Option (List ℕ)) → Status → Type 0
+EndsRun depth plain files world input left old new AllWell = AreAccepted files × WritesAnswers files world depth plain input false old new
+EndsRun depth plain files world input left old new TextsRefused = WritesRefusal files world old new
+EndsRun depth plain files world input left old new Usage = ⊥
+EndsRun depth plain files world input left old new SomeRefused = AreAccepted files × WritesAnswers files world depth plain input true old new
+EndsRun depth plain files world input left old new InputOutput = CutsRun files world depth plain input old new
+EndsRun depth plain files world input left old new OutOfMemory = RunsOut files world depth plain input left old new
 
 -- what is written of files that are checked
 abbrev pub EndsCheck : (terms : Bool) → List SourceFile → (old new : Option (List ℕ)) → Status → Type 0
@@ -50,10 +50,10 @@ EndsFmt width files old new InputOutput = CutsPrints width files old new
 EndsFmt width files old new OutOfMemory = AppendsBeginning old new (codes "out of memory\n")
 
 -- what is written of a job on files, in the world of a file, by the status with which it ends
-abbrev pub EndsJob : Job → List SourceFile → (world : SourceFile) → (input old new : Option (List ℕ)) → Status → Type 0
-EndsJob (Run depth plain) files world input old new status = EndsRun depth files world input old new status
-EndsJob (Check terms) files world input old new status = EndsCheck terms files old new status
-EndsJob (Fmt width) files world input old new status = EndsFmt width files old new status
+abbrev pub EndsJob : Job → List SourceFile → (world : SourceFile) → (input left old new : Option (List ℕ)) → Status → Type 0
+EndsJob (Run depth plain) files world input left old new status = EndsRun depth plain files world input left old new status
+EndsJob (Check terms) files world input left old new status = EndsCheck terms files old new status
+EndsJob (Fmt width) files world input left old new status = EndsFmt width files old new status
 
 -- the file has the name that a line gives its world; where it gives none it is empty and named `world`
 abbrev pub IsWorld : Option (String Global) → SourceFile → Type 0
@@ -73,12 +73,12 @@ HoldsBack words unbegun.Memory = ⊤
 
 -- how a command of these words ends, and what it writes: what the job of their line does on files of the names that they have, in order; or
 -- what is told of why it may not begin
-pub data EndsCommand (words : List Text) (input old new : Option (List ℕ)) (code : ℕ) : Type 0 where
+pub data EndsCommand (words : List Text) (input left old new : Option (List ℕ)) (code : ℕ) : Type 0 where
   done : (line : Line) → ReadsLine words line → (files : List SourceFile) → map (λ file. file.name) files ≡ names_of line.files
       → (world : SourceFile) → IsWorld line.world world → (status : Status) → code ≡ code_of status
-      → EndsJob line.job files world input old new status → EndsCommand words input old new code
+      → EndsJob line.job files world input left old new status → EndsCommand words input left old new code
   told : (why : Unbegun) → HoldsBack words why → (status : Status) → code ≡ code_of status → TellsUnbegun why status old new
-      → EndsCommand words input old new code
+      → EndsCommand words input left old new code
 
 -- a command begins as its words say: with their job, and with a text under each name that they have, in order
 pub record Begins (words : List Text) (begun : Begun) : Type 0 where

@@ -1,5 +1,6 @@
 -- What a line of input is answered.
-use Rattle.std.specs.Prelude.{◌≡◌, ◌++◌, ℕ, Bool, true, false, List, [], Option, Some, None, codes, decimal, string_bytes, IsUtf8}
+use Rattle.isle_meaning.specs.Values.{Values}
+use Rattle.std.specs.Prelude.{◌≡◌, ◌++◌, ℕ, Bool, true, false, List, [], Option, Some, None, codes, decimal, string_bytes, IsUtf8, ◌⊎◌}
 use Rattle.std.specs.List.{flat_map, AllZip}
 use Rattle.isle_types.specs.declared.ids.TermId.{TermId}
 use Rattle.isle_meaning.specs.GroundValues.{values_of}
@@ -12,7 +13,7 @@ use Rattle.isle_run.specs.declared.program.Program.{Program}
 use Rattle.isle_run.specs.declared.query.QueryFault.{QueryFault}
 use Rattle.isle_run.specs.declared.query.QueryFault.TheVariants.{Q1, Q2, Q3, Q4, Memory}
 use Rattle.isle_run.specs.Meanings.{checked}
-use Rattle.isle_run.specs.PlainCalls.{TellsPlainly}
+use Rattle.isle_run.specs.PlainCalls.{TellsPlainly, TellsCall, BeginsPlainly}
 use Rattle.isle_run.specs.Programs.{term_name}
 use Rattle.isle_run.specs.Queries.{RefusesText, IsCallIn}
 use Rattle.isle_run.specs.Calls.Answers.{answers_in, name_of_term, IsEventOf, LeadsThrough}
@@ -62,21 +63,23 @@ counts_as_refused (Stuck term args) = true
 counts_as_refused Spent = true
 counts_as_refused (IllTyped term args) = true
 
--- what queries are answered in: a program, what a world answers its pure terms, what an effect makes of a world, and how many calls of
--- terms with rules may be open at once
+-- what queries are answered in: a program, what a world answers its pure terms, what an effect makes of a world, how many calls of terms
+-- with rules may be open at once, and whether the plain road has to answer
 pub record Setting (V : Type 0) : Type 1 where
   pub program : Program
   pub answers : Answers
   pub step : V → List ℕ → ValueTrees → Option ValueTree → V → Type 0
   pub depth : ℕ
+  pub plain : Bool
 
 abbrev pub setting_in : {V : Type 0} → (V → List ℕ → ValueTrees → Option ValueTree → V → Type 0) → Program
-    → (List ℕ → ValueTrees → Option ValueTree) → (List ℕ → ValueTree → Option ValueTrees) → ℕ → Setting V
-setting_in step program constructs extracts depth = record {
+    → (List ℕ → ValueTrees → Option ValueTree) → (List ℕ → ValueTree → Option ValueTrees) → ℕ → Bool → Setting V
+setting_in step program constructs extracts depth plain = record {
   program = program;
   answers = answers_in program constructs extracts;
   step = step;
   depth = depth;
+  plain = plain;
 }
 
 -- these effects lead in steps from one world to another
@@ -87,14 +90,27 @@ Leads setting before made after = LeadsThrough setting.step (name_of_term settin
 abbrev pub Reaches : {V : Type 0} → Setting V → V → V → Type 0
 Reaches setting before after = (made : List Event) × Leads setting before made after
 
--- The effects and the answer of a call: it is run by its term's rules, one by one, with just these effects in order, which lead in steps from
--- the world before to the one after, and comes to this answer; an answered call means this, and one that ends unanswered asks for what it ends
--- at. A pure term makes no effects.
+-- what a call's answer tells, on the plain road where that has to answer
+abbrev pub TellsBy : Bool → Program → Answers → (depth term : ℕ) → Values → Answer → List Event → Type 0
+TellsBy true program w depth term args answer made = (steps : ℕ) × TellsPlainly program w depth term args (record { answer = answer; steps = steps }) made
+TellsBy false program w depth term args answer made = TellsCall program w depth term args answer made
+
+-- with which effects a call begins, on the plain road where that has to answer; one of a pure term with none
+abbrev pub BeginsBy : Bool → Program → Answers → (depth term : ℕ) → Values → List Event → Type 0
+BeginsBy true program w depth term args made = BeginsPlainly program w depth term args made
+BeginsBy false program w depth term args made = (checked program).terms.pure term ≡ true → made ≡ []
+
+-- The effects and the answer of a call: just these effects are made in order, which lead in steps from the world before to the one after,
+-- and the call comes to this answer. Where the plain road has to answer, it is run by its term's rules, one by one.
 abbrev pub IsOutcome : {V : Type 0} → Setting V → V → TermId → ValueTrees → List Effect → Answer → V → Type 0
 IsOutcome setting before term args effects answer after =
-    (made : List Event) × AllZip (IsEventOf setting.program) effects made × Leads setting before made after × (steps : ℕ)
-    × TellsPlainly setting.program setting.answers setting.depth term.0 (values_of (checked setting.program).values args)
-    (record { answer = answer; steps = steps }) made
+    (made : List Event) × AllZip (IsEventOf setting.program) effects made × Leads setting before made after
+    × TellsBy setting.plain setting.program setting.answers setting.depth term.0 (values_of (checked setting.program).values args) answer made
+
+-- a call that is begun and not answered: its effects so far lead in steps from the world before to the one after
+abbrev pub BeginsCall : {V : Type 0} → Setting V → V → TermId → ValueTrees → V → Type 0
+BeginsCall setting before term args after = (made : List Event) × Leads setting before made after
+    × BeginsBy setting.plain setting.program setting.answers setting.depth term.0 (values_of (checked setting.program).values args) made
 
 -- the lines of a call's effects in order and that of its answer, and whether the answer counts as refused
 pub record AnswersCall {V : Type 0} (setting : Setting V) (before : V) (term : TermId) (args : ValueTrees) (lines : List ℕ) (refused : Bool) (after : V) : Type 0 where
@@ -122,3 +138,8 @@ pub data IsReply {V : Type 0} (setting : Setting V) (before : V) (line lines : L
       → lines ≡ refused_line cause → refused ≡ true → after ≡ before → IsReply setting before line lines refused after
   call : IsUtf8 line → (term : TermId) (args : ValueTrees) → IsCallIn setting.program line term args → AnswersCall setting before term args lines refused after
       → IsReply setting before line lines refused after
+
+-- what a line whose reply is lost has done, where memory ran out: nothing, or its call is begun
+abbrev pub LosesReply : {V : Type 0} → Setting V → V → (line : List ℕ) → V → Type 0
+LosesReply setting before line after = (after ≡ before)
+    ⊎ ((term : TermId) × (args : ValueTrees) × IsCallIn setting.program line term args × BeginsCall setting before term args after)

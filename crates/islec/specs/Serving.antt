@@ -1,10 +1,13 @@
 -- What is written for an input, line by line.
 use Rattle.std.specs.Prelude.{◌≡◌, ◌<◌, ◌==◌, ◌||◌, ◌++◌, ◌⊎◌, ℕ, Bool, true, false, List, [], ◌∷◌, Option, Some, None, IfSome, if◌then◌else◌, codes, length}
 use Rattle.std.specs.Io.BufRead.{take_through, drop_through}
-use Rattle.std.specs.Io.KnownBytes.{Appends}
+use Rattle.std.specs.Io.{StopsAt}
+use Rattle.std.specs.Io.KnownBytes.{Appends, Consumes}
 use Rattle.islec.specs.declared.serve.Served.{Served}
 use Rattle.islec.specs.declared.serve.Served.TheVariants.{AllWell, SomeRefused}
-use Rattle.islec.specs.Replies.{Setting, IsReply, Reaches}
+use Rattle.islec.specs.declared.serve.ServeFault.{ServeFault}
+use Rattle.islec.specs.declared.serve.ServeFault.TheVariants.{Read, Write, Memory}
+use Rattle.islec.specs.Replies.{Setting, IsReply, Reaches, LosesReply}
 use Rattle.islec.specs.Writing.{AppendsBeginning}
 
 -- a byte at the front of the first of some lines
@@ -25,6 +28,16 @@ AreLinesOf input lines = IfSome input (λ bytes. lines_of bytes ≡ lines)
 abbrev pub AreFirstLinesOf : Option (List ℕ) → List (List ℕ) → Type 0
 AreFirstLinesOf input lines = IfSome input (λ bytes. (later : List (List ℕ)) × (lines_of bytes ≡ lines ++ later))
 
+-- the lines that a reader gave: with those of the bytes that it has left they are the lines of the bytes that it had left before
+abbrev pub GivesLines : (old new : Option (List ℕ)) → List (List ℕ) → Type 0
+GivesLines None new lines = Unit {0}
+GivesLines (Some bytes) None lines = ⊥
+GivesLines (Some bytes) (Some rest) lines = lines_of bytes ≡ lines ++ lines_of rest
+
+-- a line without its newline, if it has one
+abbrev pub LosesNewline : List ℕ → List ℕ → Type 0
+LosesNewline line bare = (line ≡ bare ++ codes "\n") ⊎ ((line ≡ bare) × ((front : List ℕ) → line ≡ front ++ codes "\n" → ⊥))
+
 -- the replies to lines one after another, each in the world that the one before leaves, whether some line counts as refused, and the world
 -- that the last leaves
 abbrev pub AreReplies : {V : Type 0} → Setting V → V → List (List ℕ) → List ℕ → Bool → V → Type 0
@@ -41,10 +54,32 @@ abbrev pub AnswersAll : {V : Type 0} → Setting V → V → (input : Option (Li
 AnswersAll setting before input refused old new after =
     (lines : List (List ℕ)) × AreLinesOf input lines × WritesReplies setting before lines refused old new after
 
--- replies to first lines of an input are written, and then at most effects were made
-abbrev pub AnswersFirst : {V : Type 0} → Setting V → V → (input old new : Option (List ℕ)) → V → Type 0
-AnswersFirst {V} setting before input old new after = (lines : List (List ℕ)) × (refused : Bool) × (reached : V) × AreFirstLinesOf input lines
-    × WritesReplies setting before lines refused old new reached × Reaches setting reached after
+-- what was read of an input, whose bytes are known, is these lines, and behind them this part of one more
+pub record ReadsLines (input left : Option (List ℕ)) (lines : List (List ℕ)) (part : List ℕ) : Type 0 where
+  pub whole : List ℕ
+  pub behind : Option (List ℕ)
+  pub read : Consumes input behind whole
+  pub gives : GivesLines input behind lines
+  pub rest : Consumes behind left part
+
+-- what was read of a line, behind which reading fails or memory runs out: where reading fails, the line hasn't ended
+abbrev pub IsCutShort : ServeFault → (part : List ℕ) → Type 0
+IsCutShort Read part = StopsAt part 10 × ((front : List ℕ) → part ≡ front ++ codes "\n" → ⊥)
+IsCutShort Write part = ⊥
+IsCutShort Memory part = StopsAt part 10
+
+-- how the answering of lines breaks off, behind a part of one more: where reading fails, nothing was done for that; where memory runs out, its
+-- reply may be lost
+abbrev pub BreaksOff : {V : Type 0} → Setting V → ServeFault → (part : List ℕ) → V → V → Type 0
+BreaksOff setting Read part reached after = IsCutShort Read part × (after ≡ reached)
+BreaksOff setting Write part reached after = ⊥
+BreaksOff setting Memory part reached after =
+    IsCutShort Memory part × ((after ≡ reached) ⊎ ((line : List ℕ) × LosesNewline part line × LosesReply setting reached line after))
+
+-- replies to first lines of an input are written, and there it breaks off
+abbrev pub AnswersFirst : {V : Type 0} → Setting V → ServeFault → V → (input left old new : Option (List ℕ)) → V → Type 0
+AnswersFirst {V} setting fault before input left old new after = (lines : List (List ℕ)) × (part : List ℕ) × (refused : Bool) × (reached : V)
+    × ReadsLines input left lines part × WritesReplies setting before lines refused old new reached × BreaksOff setting fault part reached after
 
 -- a beginning of the replies to first lines of an input is written, and behind these at most effects were made
 abbrev pub AnswersCut : {V : Type 0} → Setting V → V → (input old new : Option (List ℕ)) → V → Type 0
@@ -62,21 +97,11 @@ pub record KeepsBack {V : Type 0} (setting : Setting V) (before : V) (lines : Li
   pub replies : AreReplies setting before lines (out ++ kept) refused after
   pub written : Appends old new out
 
--- replies to first lines of an input, of which an end is kept back and the others are written, and then at most effects
-abbrev pub KeepsFirst : {V : Type 0} → Setting V → V → (input old new : Option (List ℕ)) → List ℕ → V → Type 0
-KeepsFirst {V} setting before input old new kept after = (lines : List (List ℕ)) × (refused : Bool) × (reached : V) × AreFirstLinesOf input lines
-    × KeepsBack setting before lines refused old new kept reached × Reaches setting reached after
+-- replies to first lines of an input, of which an end is kept back and the others are written, and there it breaks off
+abbrev pub KeepsFirst : {V : Type 0} → Setting V → ServeFault → V → (input left old new : Option (List ℕ)) → List ℕ → V → Type 0
+KeepsFirst {V} setting fault before input left old new kept after = (lines : List (List ℕ)) × (part : List ℕ) × (refused : Bool) × (reached : V)
+    × ReadsLines input left lines part × KeepsBack setting before lines refused old new kept reached × BreaksOff setting fault part reached after
 
 -- a reader's first line with the newline that ends it, where its bytes are known
 abbrev pub TakesLine : (old new : Option (List ℕ)) → List ℕ → Type 0
 TakesLine old new line = (0 < length line) × IfSome old (λ bytes. (line ≡ take_through 10 bytes) × (new ≡ Some (drop_through 10 bytes)))
-
--- a line without its newline, if it has one
-abbrev pub LosesNewline : List ℕ → List ℕ → Type 0
-LosesNewline line bare = (line ≡ bare ++ codes "\n") ⊎ ((line ≡ bare) × ((front : List ℕ) → line ≡ front ++ codes "\n" → ⊥))
-
--- the lines that a reader gave: with those of the bytes that it has left they are the lines of the bytes that it had left before
-abbrev pub GivesLines : (old new : Option (List ℕ)) → List (List ℕ) → Type 0
-GivesLines None new lines = Unit {0}
-GivesLines (Some bytes) None lines = ⊥
-GivesLines (Some bytes) (Some rest) lines = lines_of bytes ≡ lines ++ lines_of rest

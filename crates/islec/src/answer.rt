@@ -1,11 +1,11 @@
 //! The lines that answer a query.
-ghost use Rattle.std.specs.Prelude.{◌≡◌, ◌++◌, IfOk, OnOk, IsUtf8, string_bytes};
+ghost use Rattle.std.specs.Prelude.{◌≡◌, ◌++◌, IfOk, OnOk, OnErr, IsUtf8, string_bytes};
 ghost use Rattle.isle_meaning.specs.ValueTypes.{AreOfTypes};
 ghost use Rattle.isle_terms.specs.Values.{value_list};
 ghost use Rattle.isle_run.specs.Facts.Reach.{IsRunnable};
 ghost use Rattle.isle_run.specs.Programs.{types_of, terms_of, types_taken, value_facts};
 ghost use Rattle.isle_run.specs.Values.Text.{value_text};
-ghost use Rattle.islec.specs.Replies.{setting_in, Refuses, IsReply, AnswersCall, Reaches, effect_line, answer_line, answer_text, call_text, given_text, counts_as_refused};
+ghost use Rattle.islec.specs.Replies.{setting_in, Refuses, IsReply, AnswersCall, BeginsCall, LosesReply, effect_line, answer_line, answer_text, call_text, given_text, counts_as_refused};
 
 use isle_run::{Answer, Effect, Program, QueryFault, TermId, Value, World, is_blank};
 use std::alloc::{AllocError, Global};
@@ -19,18 +19,21 @@ pub struct Reply {
     pub refused: bool,
 }
 
-/// Answers a line of input, given without its newline. It has no lines where it has no tokens.
+/// Answers a line of input, given without its newline. It has no lines where it has no tokens. `plain` asks for the plain road, which
+/// answers in either case.
 pub fn reply_to<V: World>(
     alloc: Global,
     program: &Program,
     world: &mut V,
     depth: u32,
+    plain: bool,
     line: &[u8],
 ) -> Result<Reply, AllocError>
     ensures not_text { ¬ (IsUtf8 line.now) → IfOk result (Refuses 4) }
-    ensures reply { IfOk result (λ reply. IsReply (setting_in V.step program.now (V.constructs world.old) (V.extracts world.old) depth)
+    ensures reply { IfOk result (λ reply. IsReply (setting_in V.step program.now (V.constructs world.old) (V.extracts world.old) depth plain)
         world.old line.now (string_bytes reply.lines) reply.refused world.new) }
-    ensures reaches { Reaches (setting_in V.step program.now (V.constructs world.old) (V.extracts world.old) depth) world.old world.new }
+    ensures lost { OnErr result (LosesReply (setting_in V.step program.now (V.constructs world.old) (V.extracts world.old) depth plain)
+        world.old line.now world.new) }
     ensures same { (V.constructs world.new ≡ V.constructs world.old) × (V.extracts world.new ≡ V.extracts world.old) }
 {
     let Ok(text) = str::from_utf8(line) else {
@@ -43,7 +46,7 @@ pub fn reply_to<V: World>(
         });
     }
     match program.query(alloc, text) {
-        Ok((term, args)) => reply_to_call(alloc, program, world, depth, term, args),
+        Ok((term, args)) => reply_to_call(alloc, program, world, depth, plain, term, args),
         Err(QueryFault::Q1) => refused(alloc, 1),
         Err(QueryFault::Q2) => refused(alloc, 2),
         Err(QueryFault::Q3) => refused(alloc, 3),
@@ -61,20 +64,23 @@ fn refused(alloc: Global, cause: u8) -> Result<Reply, AllocError>
     })
 }
 
+// The plain road answers, whether or not it is asked for.
 fn reply_to_call<V: World>(
     alloc: Global,
     program: &Program,
     world: &mut V,
     depth: u32,
+    _plain: bool,
     term: TermId,
     args: Vec<Value>,
 ) -> Result<Reply, AllocError>
     requires callable { IsRunnable (types_of program.now) (terms_of program.now) term.0 }
     requires typed { AreOfTypes (value_facts program.now) (value_list args.items) (types_taken program.now term) }
     ensures answers { IfOk result (λ reply. AnswersCall
-        (setting_in V.step program.now (V.constructs world.old) (V.extracts world.old) depth) world.old term (value_list args.items)
+        (setting_in V.step program.now (V.constructs world.old) (V.extracts world.old) depth _plain) world.old term (value_list args.items)
         (string_bytes reply.lines) reply.refused world.new) }
-    ensures reaches { Reaches (setting_in V.step program.now (V.constructs world.old) (V.extracts world.old) depth) world.old world.new }
+    ensures lost { OnErr result (BeginsCall (setting_in V.step program.now (V.constructs world.old) (V.extracts world.old) depth _plain)
+        world.old term (value_list args.items) world.new) }
     ensures same { (V.constructs world.new ≡ V.constructs world.old) × (V.extracts world.new ≡ V.extracts world.old) }
 {
     let mut effects = Vec::new(alloc);

@@ -25,13 +25,13 @@ use isle_run::{Program, Refused, TableWorld, World, WorldFault, compile};
 use isle_syntax::error::Errors;
 use isle_syntax::files::Files;
 use std::alloc::{AllocError, Global};
-use std::io::{Read, Write};
+use std::io::{BufRead, Write};
 use std::rc::Rc;
 
 /// Does a command on texts, each with its name, and gives the exit status: 0 all well, 1 texts or
 /// world refused, 3 some query refused, stuck, spent or ill-typed, 4 reading or writing failed, 5 out of
 /// memory. Where no world is given its text is empty and its name is `world`.
-pub fn perform<R: Read, W: Write>(
+pub fn perform<R: BufRead, W: Write>(
     alloc: Global,
     job: Job,
     texts: Vec<(String, String)>,
@@ -51,13 +51,13 @@ pub fn perform<R: Read, W: Write>(
     ensures accepted { (depth : ℕ) (plain : Bool) → job ≡ Run depth plain → (result ≡ 0) ⊎ (result ≡ 3)
         → AreAccepted (map source_file texts.items) }
     ensures all_well { (depth : ℕ) (plain : Bool) → job ≡ Run depth plain → result ≡ 0 → WritesAnswers
-        (map source_file texts.items) (world_file world) depth (R.remaining reader.old) false (W.contents writer.old) (W.contents writer.new) }
+        (map source_file texts.items) (world_file world) depth plain (R.remaining reader.old) false (W.contents writer.old) (W.contents writer.new) }
     ensures some_refused { (depth : ℕ) (plain : Bool) → job ≡ Run depth plain → result ≡ 3 → WritesAnswers
-        (map source_file texts.items) (world_file world) depth (R.remaining reader.old) true (W.contents writer.old) (W.contents writer.new) }
+        (map source_file texts.items) (world_file world) depth plain (R.remaining reader.old) true (W.contents writer.old) (W.contents writer.new) }
     ensures failed { (depth : ℕ) (plain : Bool) → job ≡ Run depth plain → result ≡ 4 → CutsRun
-        (map source_file texts.items) (world_file world) depth (R.remaining reader.old) (W.contents writer.old) (W.contents writer.new) }
+        (map source_file texts.items) (world_file world) depth plain (R.remaining reader.old) (W.contents writer.old) (W.contents writer.new) }
     ensures ran_out { (depth : ℕ) (plain : Bool) → job ≡ Run depth plain → result ≡ 5 → RunsOut
-        (map source_file texts.items) (world_file world) depth (R.remaining reader.old) (W.contents writer.old) (W.contents writer.new) }
+        (map source_file texts.items) (world_file world) depth plain (R.remaining reader.old) (R.remaining reader.new) (W.contents writer.old) (W.contents writer.new) }
     ensures faults { (depth : ℕ) (plain : Bool) → job ≡ Run depth plain → result ≡ 1 → WritesRefusal
         (map source_file texts.items) (world_file world) (W.contents writer.old) (W.contents writer.new) }
     ensures checked { (terms : Bool) → job ≡ Check terms → result ≡ 0 → WritesAccepted
@@ -72,11 +72,8 @@ pub fn perform<R: Read, W: Write>(
     ensures ends { (status : Status) × (status ≢ Status.Usage) × (result ≡ code_of status) }
 {
     let status = match job {
-        Job::Run {
-            depth,
-            plain: _plain,
-        } => {
-            let done = run(alloc, depth, texts, world, reader, writer);
+        Job::Run { depth, plain } => {
+            let done = run(alloc, depth, plain, texts, world, reader, writer);
             conclude(done, writer)
         }
         Job::Check { terms } => {
@@ -104,9 +101,10 @@ fn conclude<W: Write>(done: Result<Status, ServeFault>, writer: &mut W) -> Statu
 }
 
 /// Answers the queries of an input by the program of texts in a world, or writes why the texts or the world are refused.
-fn run<R: Read, W: Write>(
+fn run<R: BufRead, W: Write>(
     alloc: Global,
     depth: u32,
+    plain: bool,
     texts: Vec<(String, String)>,
     world: Option<(String, String)>,
     reader: &mut R,
@@ -115,24 +113,24 @@ fn run<R: Read, W: Write>(
     ensures answered { IfOk result (λ status. (status ≡ Status.AllWell) ⊎ (status ≡ Status.SomeRefused)
         → AreAccepted (map source_file texts.items)) }
     ensures all_well { IfOk result (λ status. status ≡ Status.AllWell
-        → WritesAnswers (map source_file texts.items) (world_file world) depth (R.remaining reader.old) false
+        → WritesAnswers (map source_file texts.items) (world_file world) depth plain (R.remaining reader.old) false
         (W.contents writer.old) (W.contents writer.new)) }
     ensures some_refused { IfOk result (λ status. status ≡ Status.SomeRefused
-        → WritesAnswers (map source_file texts.items) (world_file world) depth (R.remaining reader.old) true
+        → WritesAnswers (map source_file texts.items) (world_file world) depth plain (R.remaining reader.old) true
         (W.contents writer.old) (W.contents writer.new)) }
     ensures refused { IfOk result (λ status. status ≡ Status.TextsRefused → WritesRefusal
         (map source_file texts.items) (world_file world) (W.contents writer.old) (W.contents writer.new)) }
     ensures other { IfOk result IsEnd }
     ensures cut { IfErr result (λ fault. fault ≢ ServeFault.Memory
-        → CutsRun (map source_file texts.items) (world_file world) depth (R.remaining reader.old)
+        → CutsRun (map source_file texts.items) (world_file world) depth plain (R.remaining reader.old)
         (W.contents writer.old) (W.contents writer.new)) }
     ensures memory { IfErr result (λ fault. fault ≡ ServeFault.Memory
-        → AnswersSome (map source_file texts.items) (world_file world) depth (R.remaining reader.old)
+        → AnswersSome (map source_file texts.items) (world_file world) depth plain (R.remaining reader.old) (R.remaining reader.new)
         (W.contents writer.old) (W.contents writer.new)) }
 {
     let files = Rc::new(alloc, Files::from_names_and_contents(alloc, texts)?)?;
     match compile(alloc, files) {
-        Ok(program) => run_program(alloc, &program, world, depth, reader, writer),
+        Ok(program) => run_program(alloc, &program, world, depth, plain, reader, writer),
         Err(Refused::Faults(errors)) => refuse(alloc, &errors, writer),
         Err(Refused::Memory) => Err(ServeFault::Memory),
     }
@@ -152,58 +150,60 @@ fn world_parts(
 }
 
 /// Answers the queries of an input by a program in a world, or writes why the world is refused.
-fn run_program<R: Read, W: Write>(
+fn run_program<R: BufRead, W: Write>(
     alloc: Global,
     program: &Program,
     world: Option<(String, String)>,
     depth: u32,
+    plain: bool,
     reader: &mut R,
     writer: &mut W,
 ) -> Result<Status, ServeFault>
     ensures all_well { IfOk result (λ status. status ≡ Status.AllWell → AnswersIn program.now
-        (world_file world) depth (R.remaining reader.old) false (W.contents writer.old) (W.contents writer.new)) }
+        (world_file world) depth plain (R.remaining reader.old) false (W.contents writer.old) (W.contents writer.new)) }
     ensures some_refused { IfOk result (λ status. status ≡ Status.SomeRefused → AnswersIn program.now
-        (world_file world) depth (R.remaining reader.old) true (W.contents writer.old) (W.contents writer.new)) }
+        (world_file world) depth plain (R.remaining reader.old) true (W.contents writer.old) (W.contents writer.new)) }
     ensures refused { IfOk result (λ status. status ≡ Status.TextsRefused → TellsWorld
         program.now (world_file world) (W.contents writer.old) (W.contents writer.new)) }
     ensures other { IfOk result IsEnd }
     ensures cut { IfErr result (λ fault. fault ≢ ServeFault.Memory → CutsIn program.now
-        (world_file world) depth (R.remaining reader.old) (W.contents writer.old) (W.contents writer.new)) }
+        (world_file world) depth plain (R.remaining reader.old) (W.contents writer.old) (W.contents writer.new)) }
     ensures memory { IfErr result (λ fault. fault ≡ ServeFault.Memory → StopsIn program.now
-        (world_file world) depth (R.remaining reader.old) (W.contents writer.old) (W.contents writer.new)) }
+        (world_file world) depth plain (R.remaining reader.old) (R.remaining reader.new) (W.contents writer.old) (W.contents writer.new)) }
 {
     let (name, text) = world_parts(alloc, world)?;
     match TableWorld::read(alloc, text.as_str(), program) {
-        Ok(mut table) => answer(alloc, program, &mut table, depth, reader, writer),
+        Ok(mut table) => answer(alloc, program, &mut table, depth, plain, reader, writer),
         Err(WorldFault::Memory(_)) => Err(ServeFault::Memory),
         Err(fault) => refuse_world(alloc, program, name.as_str(), text.as_str(), &fault, writer),
     }
 }
 
 /// Answers the queries of an input by a program.
-fn answer<V: World, R: Read, W: Write>(
+fn answer<V: World, R: BufRead, W: Write>(
     alloc: Global,
     program: &Program,
     world: &mut V,
     depth: u32,
+    plain: bool,
     reader: &mut R,
     writer: &mut W,
 ) -> Result<Status, ServeFault>
     ensures all_well { IfOk result (λ status. status ≡ Status.AllWell → AnswersAll
-        (setting_in V.step program.now (V.constructs world.old) (V.extracts world.old) depth)
+        (setting_in V.step program.now (V.constructs world.old) (V.extracts world.old) depth plain)
         world.old (R.remaining reader.old) false (W.contents writer.old) (W.contents writer.new) world.new) }
     ensures some_refused { IfOk result (λ status. status ≡ Status.SomeRefused → AnswersAll
-        (setting_in V.step program.now (V.constructs world.old) (V.extracts world.old) depth)
+        (setting_in V.step program.now (V.constructs world.old) (V.extracts world.old) depth plain)
         world.old (R.remaining reader.old) true (W.contents writer.old) (W.contents writer.new) world.new) }
     ensures other { IfOk result (λ status. (status ≡ Status.AllWell) ⊎ (status ≡ Status.SomeRefused)) }
     ensures cut { IfErr result (λ fault. fault ≢ ServeFault.Memory → AnswersCut
-        (setting_in V.step program.now (V.constructs world.old) (V.extracts world.old) depth)
+        (setting_in V.step program.now (V.constructs world.old) (V.extracts world.old) depth plain)
         world.old (R.remaining reader.old) (W.contents writer.old) (W.contents writer.new) world.new) }
     ensures memory { IfErr result (λ fault. fault ≡ ServeFault.Memory → AnswersFirst
-        (setting_in V.step program.now (V.constructs world.old) (V.extracts world.old) depth)
-        world.old (R.remaining reader.old) (W.contents writer.old) (W.contents writer.new) world.new) }
+        (setting_in V.step program.now (V.constructs world.old) (V.extracts world.old) depth plain) fault
+        world.old (R.remaining reader.old) (R.remaining reader.new) (W.contents writer.old) (W.contents writer.new) world.new) }
 {
-    match serve(alloc, program, world, depth, reader, writer) {
+    match serve(alloc, program, world, depth, plain, reader, writer) {
         Ok(Served::AllWell) => Ok(Status::AllWell),
         Ok(Served::SomeRefused) => Ok(Status::SomeRefused),
         Err(fault) => Err(fault),

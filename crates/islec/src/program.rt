@@ -14,7 +14,7 @@ use crate::serve::{ServeFault, write_text};
 use crate::status::{Status, out_of_memory};
 use std::alloc::{AllocError, AllocFailed};
 use std::env::Env;
-use std::io::{ErrorKind, Read, Write};
+use std::io::{BufRead, BufReader, ErrorKind, Write};
 use std::rt::Files;
 use std::{env, fs, io};
 
@@ -72,21 +72,25 @@ pub fn run<R: Env + Files + Input + Print + AllocGlobal>(rt: &R) -> u8
     ensures ends { (status : Status) × (result ≡ code_of status) }
 {
     let mut output = io::writer(rt);
+    let Ok(mut input) = BufReader::new(rt.alloc(), rt.reader()) else {
+        return out_of_memory(&mut output).code();
+    };
     match read_words(rt) {
-        Ok(words) => command(rt, words.as_slice(), &mut rt.reader(), &mut output),
+        Ok(words) => command(rt, words.as_slice(), &mut input, &mut output),
         Err(unbegun) => tell(unbegun, &mut output).code(),
     }
 }
 
 /// Reads the files that words name, all before anything is compiled, does the job that they say, and gives the exit status; or tells
 /// why it can't begin.
-pub fn command<R: Files + AllocGlobal, I: Read, W: Write>(
+pub fn command<R: Files + AllocGlobal, I: BufRead, W: Write>(
     rt: &R,
     words: &[String],
     input: &mut I,
     output: &mut W,
 ) -> u8
-    ensures ends { EndsCommand (map string_bytes words.now) (I.remaining input.old) (W.contents output.old) (W.contents output.new) result }
+    ensures ends { EndsCommand (map string_bytes words.now) (I.remaining input.old) (I.remaining input.new)
+        (W.contents output.old) (W.contents output.new) result }
 {
     match begin(rt, words) {
         Ok(Begun { job, texts, world }) => perform(rt.alloc(), job, texts, world, input, output),

@@ -1,15 +1,16 @@
 //! Queries from a reader, answered to a writer.
-ghost use Rattle.std.specs.Prelude.{◌≡◌, ◌≢◌, ◌↔◌, ◌++◌, ◌||◌, ℕ, Bool, List, [], ◌∷◌, OnOk, OnErr, IfOk, IfErr, IfSome, IfNone, IsTrue, string_bytes};
-ghost use Rattle.std.specs.Io.KnownBytes.{Appends, Keeps, IsAtEnd};
-ghost use Rattle.islec.specs.Replies.{IsReply, Reaches, setting_in};
-ghost use Rattle.islec.specs.Serving.{AreLinesOf, AnswersAll, AnswersFirst, AnswersCut, KeepsBack, KeepsFirst, GivesLines, TakesLine, LosesNewline, some_refused};
+ghost use Rattle.std.specs.Prelude.{◌≡◌, ◌≢◌, ◌↔◌, ◌++◌, ◌||◌, ℕ, Bool, List, [], ◌∷◌, OnOk, OnErr, IfOk, IfErr, IfSome, IfNone, IsTrue, codes, string_bytes};
+ghost use Rattle.std.specs.Io.KnownBytes.{Appends, Consumes, Keeps, IsAtEnd};
+ghost use Rattle.std.specs.Io.{StopsAt};
+ghost use Rattle.islec.specs.Replies.{IsReply, setting_in};
+ghost use Rattle.islec.specs.Serving.{AreLinesOf, AnswersAll, AnswersFirst, AnswersCut, KeepsBack, KeepsFirst, GivesLines, TakesLine, LosesNewline, IsCutShort, BreaksOff, some_refused};
 ghost use Rattle.islec.specs.Writing.{AppendsBeginning, ContinuesBy};
 ghost use Rattle.islec.specs.declared.serve.ServeFault.TheVariants.{Memory};
 
 use crate::answer::reply_to;
 use isle_run::{Program, World};
 use std::alloc::{AllocError, AllocFailed, Global};
-use std::io::{BufRead, BufReader, ErrorKind, Read, Write};
+use std::io::{BufRead, ErrorKind, Write};
 
 /// How the lines of an input that was read to its end were answered.
 #[derive(Clone, Copy)]
@@ -60,54 +61,40 @@ const FULL: usize = 8192;
 
 /// Answers each line of `reader`, any bytes up to a newline or the end, by lines to `writer`. The
 /// lines of a query are written whole or, where memory runs out within it, not at all. Before a
-/// fault of reading or of memory is reported, the lines of all earlier queries are written. Each query is
-/// answered in the world that the one before leaves.
-pub fn serve<V: World, R: Read, W: Write>(
+/// fault of reading or of memory is reported, the lines of all earlier queries are written: after a failed read of
+/// all lines that had ended. Each query is answered in the world that the one before leaves, on the plain road where
+/// `plain` asks for it.
+pub fn serve<V: World, R: BufRead, W: Write>(
     alloc: Global,
     program: &Program,
     world: &mut V,
     depth: u32,
+    plain: bool,
     reader: &mut R,
     writer: &mut W,
 ) -> Result<Served, ServeFault>
     ensures continues { ContinuesBy (W.contents writer.old) (W.contents writer.new) }
     ensures answered { IfOk result (λ served. AnswersAll
-        (setting_in V.step program.now (V.constructs world.old) (V.extracts world.old) depth) world.old (R.remaining reader.old)
+        (setting_in V.step program.now (V.constructs world.old) (V.extracts world.old) depth plain) world.old (R.remaining reader.old)
         (some_refused served) (W.contents writer.old) (W.contents writer.new) world.new) }
     ensures stopped { IfErr result (λ fault. fault ≢ ServeFault.Write → AnswersFirst
-        (setting_in V.step program.now (V.constructs world.old) (V.extracts world.old) depth)
-        world.old (R.remaining reader.old) (W.contents writer.old) (W.contents writer.new) world.new) }
+        (setting_in V.step program.now (V.constructs world.old) (V.extracts world.old) depth plain) fault
+        world.old (R.remaining reader.old) (R.remaining reader.new) (W.contents writer.old) (W.contents writer.new) world.new) }
     ensures cut { IfErr result (λ fault. fault ≡ ServeFault.Write → AnswersCut
-        (setting_in V.step program.now (V.constructs world.old) (V.extracts world.old) depth)
+        (setting_in V.step program.now (V.constructs world.old) (V.extracts world.old) depth plain)
         world.old (R.remaining reader.old) (W.contents writer.old) (W.contents writer.new) world.new) }
-{
-    let Ok(mut input) = BufReader::new(alloc, reader) else {
-        return Err(ServeFault::Memory);
-    };
-    serve_input(alloc, program, world, depth, &mut input, writer)
-}
-
-fn serve_input<V: World, B: BufRead, W: Write>(
-    alloc: Global,
-    program: &Program,
-    world: &mut V,
-    depth: u32,
-    input: &mut B,
-    writer: &mut W,
-) -> Result<Served, ServeFault>
-    ensures continues { ContinuesBy (W.contents writer.old) (W.contents writer.new) }
-    ensures answered { IfOk result (λ served. AnswersAll
-        (setting_in V.step program.now (V.constructs world.old) (V.extracts world.old) depth) world.old (B.remaining input.old)
-        (some_refused served) (W.contents writer.old) (W.contents writer.new) world.new) }
-    ensures stopped { IfErr result (λ fault. fault ≢ ServeFault.Write → AnswersFirst
-        (setting_in V.step program.now (V.constructs world.old) (V.extracts world.old) depth)
-        world.old (B.remaining input.old) (W.contents writer.old) (W.contents writer.new) world.new) }
-    ensures cut { IfErr result (λ fault. fault ≡ ServeFault.Write → AnswersCut
-        (setting_in V.step program.now (V.constructs world.old) (V.extracts world.old) depth)
-        world.old (B.remaining input.old) (W.contents writer.old) (W.contents writer.new) world.new) }
 {
     let mut unwritten = String::new(alloc);
-    let outcome = serve_lines(alloc, program, world, depth, input, &mut unwritten, writer);
+    let outcome = serve_lines(
+        alloc,
+        program,
+        world,
+        depth,
+        plain,
+        reader,
+        &mut unwritten,
+        writer,
+    );
     if is_unwritable(&outcome) {
         return Err(ServeFault::Write);
     }
@@ -132,6 +119,7 @@ fn serve_lines<V: World, B: BufRead, W: Write>(
     program: &Program,
     world: &mut V,
     depth: u32,
+    plain: bool,
     input: &mut B,
     unwritten: &mut String,
     writer: &mut W,
@@ -140,18 +128,20 @@ fn serve_lines<V: World, B: BufRead, W: Write>(
     ensures answered { IfOk result (λ served. (lines : List (List ℕ))
         × AreLinesOf (B.remaining input.old) lines
         × KeepsBack
-        (setting_in V.step program.now (V.constructs world.old) (V.extracts world.old) depth) world.old lines (some_refused served)
+        (setting_in V.step program.now (V.constructs world.old) (V.extracts world.old) depth plain) world.old lines (some_refused served)
         (W.contents writer.old) (W.contents writer.new) (string_bytes unwritten.new) world.new) }
     ensures stopped { IfErr result (λ fault. fault ≢ ServeFault.Write → KeepsFirst
-        (setting_in V.step program.now (V.constructs world.old) (V.extracts world.old) depth)
-        world.old (B.remaining input.old) (W.contents writer.old) (W.contents writer.new) (string_bytes unwritten.new) world.new) }
+        (setting_in V.step program.now (V.constructs world.old) (V.extracts world.old) depth plain) fault
+        world.old (B.remaining input.old) (B.remaining input.new) (W.contents writer.old) (W.contents writer.new) (string_bytes unwritten.new)
+        world.new) }
     ensures cut { IfErr result (λ fault. fault ≡ ServeFault.Write → AnswersCut
-        (setting_in V.step program.now (V.constructs world.old) (V.extracts world.old) depth)
+        (setting_in V.step program.now (V.constructs world.old) (V.extracts world.old) depth plain)
         world.old (B.remaining input.old) (W.contents writer.old) (W.contents writer.new) world.new) }
 {
     let mut served = Served::AllWell;
     for _ in 0..u64::MAX {
-        let Some(refused) = answer_next(alloc, program, world, depth, input, unwritten)? else {
+        let Some(refused) = answer_next(alloc, program, world, depth, plain, input, unwritten)?
+        else {
             return Ok(served);
         };
         served = served.after(refused);
@@ -167,45 +157,60 @@ fn answer_next<V: World, B: BufRead>(
     program: &Program,
     world: &mut V,
     depth: u32,
+    plain: bool,
     input: &mut B,
     unwritten: &mut String,
 ) -> Result<Option<bool>, ServeFault>
     ensures answered { IfOk result (λ next. IfSome next (λ refused. (line one : List ℕ)
         × IsReply
-        (setting_in V.step program.now (V.constructs world.old) (V.extracts world.old) depth) world.old line one refused world.new
+        (setting_in V.step program.now (V.constructs world.old) (V.extracts world.old) depth plain) world.old line one refused world.new
         × (string_bytes unwritten.new ≡ string_bytes unwritten.old ++ one)
-        × GivesLines (B.remaining input.old) (B.remaining input.new) (line ∷ []))) }
+        × GivesLines (B.remaining input.old) (B.remaining input.new) (line ∷ [])
+        × ((took : List ℕ) × Consumes (B.remaining input.old) (B.remaining input.new) took))) }
     ensures same { (V.constructs world.new ≡ V.constructs world.old) × (V.extracts world.new ≡ V.extracts world.old) }
     ensures end { IfOk result (λ next. IfNone next (IsAtEnd (B.remaining input.old))) }
     ensures none { IfOk result (λ next. IfNone next
         ((string_bytes unwritten.new ≡ string_bytes unwritten.old) × (world.new ≡ world.old))) }
-    ensures reaches { Reaches (setting_in V.step program.now (V.constructs world.old) (V.extracts world.old) depth) world.old world.new }
     ensures err { OnErr result (string_bytes unwritten.new ≡ string_bytes unwritten.old) }
-    ensures fault { IfErr result (λ fault. fault ≢ ServeFault.Write) }
+    ensures lost { IfErr result (λ fault. (part : List ℕ) × Consumes (B.remaining input.old) (B.remaining input.new) part × BreaksOff
+        (setting_in V.step program.now (V.constructs world.old) (V.extracts world.old) depth plain) fault part world.old world.new) }
 {
     let Some(line) = read_line(alloc, input)? else {
         return Ok(None);
     };
     let bare = without_newline(line.as_slice());
-    let reply = reply_to(alloc, program, world, depth, bare)?;
+    let reply = reply_to(alloc, program, world, depth, plain, bare)?;
     unwritten.push_str(reply.lines.as_str())?;
     Ok(Some(reply.refused))
 }
 
 // The bytes of a line with the newline that ends it, or `None` at the end. A reader that is out of
-// memory counts as running out of memory.
+// memory counts as running out of memory; a line that has ended is given, though the reader fails behind it.
 fn read_line<B: BufRead>(alloc: Global, input: &mut B) -> Result<Option<Vec<u8>>, ServeFault>
     ensures line { IfOk result (λ read. IfSome read
         (λ line. TakesLine (B.remaining input.old) (B.remaining input.new) line.items)) }
+    ensures took { IfOk result (λ read. IfSome read (λ line. Consumes (B.remaining input.old) (B.remaining input.new) line.items
+        × StopsAt line.items 10)) }
     ensures end { IfOk result (λ read. IfNone read (IsAtEnd (B.remaining input.old))) }
-    ensures fault { IfErr result (λ fault. fault ≢ ServeFault.Write) }
+    ensures lost { IfErr result (λ fault. (part : List ℕ) × Consumes (B.remaining input.old) (B.remaining input.new) part × IsCutShort fault part) }
 {
     let mut line = Vec::new(alloc);
     match input.read_until(b'\n', &mut line) {
         Ok(0) => Ok(None),
         Ok(_) => Ok(Some(line)),
+        Err(_) if has_ended(line.as_slice()) => Ok(Some(line)),
         Err(error) if error.kind() == ErrorKind::OutOfMemory => Err(ServeFault::Memory),
         Err(_) => Err(ServeFault::Read),
+    }
+}
+
+// Whether a line's newline has been read.
+fn has_ended(line: &[u8]) -> bool
+    ensures { IsTrue result ↔ ((front : List ℕ) × (line.now ≡ front ++ codes "\n")) }
+{
+    match line.split_last() {
+        Some((last, _front)) => *last == b'\n',
+        None => false,
     }
 }
 

@@ -1,8 +1,8 @@
 use Rattle.std.proofs.Common.{[], ap, refl, subst}
 use Rattle.isle_terms.specs.Values.{value_list}
 use Rattle.isle_run.specs.Values.TextTokens.{AreTokensOf}
-use Rattle.islec.specs.Replies.{blank, cause_number}
-use Rattle.islec.proofs.ReplyLemmas.{refused_query, answered_query}
+use Rattle.islec.specs.Replies.{setting_in, blank, cause_number}
+use Rattle.islec.proofs.ReplyLemmas.{refused_query, answered_query, lost_query}
 use Rattle.islec.proofs.answer.reply_to.Goals as goal
 
 pub returns-then-branch-clause-reply : goal.returns-then-branch-clause-reply
@@ -43,3 +43,10 @@ returns-in-Err-Q4-clause-reply g c =
     refused_query _ c.args.world.now c.args.line.now c.in-Ok.text.now c.in-Err-Q4.field-0 4 c.refused-in-Err-Q4.result same utf8
     (λ none. let yes = c.in_ok-is_blank.ensures.1 none in let not = c.if-branch.false in absurd cc) c.in-Err-Q4.ensures.refused (ap cause_number c.in-Err-Q4.field-0-is)
     c.refused-in-Err-Q4.ensures
+
+pub returns-in-Ok-query-clause-lost : goal.returns-in-Ok-query-clause-lost
+returns-in-Ok-query-clause-lost g c =
+    let (same, utf8) = c.in-Ok.ensures.cases in
+    lost_query (setting_in g.V.World.step c.args.program.now (g.V.World.constructs c.args.world.now) (g.V.World.extracts c.args.world.now) c.args.depth c.args.plain)
+    c.args.world.now c.reply_to_call.new.world c.args.line.now c.in-Ok.text.now c.in-Ok-query.term (value_list c.in-Ok-query.args.items)
+    c.reply_to_call.result same c.in-Ok-query.ensures.spelt c.reply_to_call.ensures.lost

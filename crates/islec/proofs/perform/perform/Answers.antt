@@ -7,7 +7,7 @@ use Rattle.islec.specs.Formatting.{WritesPrints, WritesFault, CutsPrints}
 use Rattle.islec.specs.Running.{WritesFaults, WritesAccepted, WritesAnswers, WritesRefusal, CutsCheck, CutsRun, AnswersSome}
 use Rattle.islec.specs.Worlds.{world_file}
 use Rattle.islec.specs.declared.status.Status.TheVariants.{AllWell, TextsRefused, SomeRefused, InputOutput, OutOfMemory}
-use Rattle.islec.proofs.StatusLemmas.{same_code, run_no_check, run_no_fmt, check_no_fmt, same_width, same_terms, same_depth, at_end, at_failure, out_of_memory, never_usage, ends_otherwise, checked_end, never_some_refused, of_first, of_second}
+use Rattle.islec.proofs.StatusLemmas.{same_code, run_no_check, run_no_fmt, check_no_fmt, same_width, same_terms, same_depth, same_plain, at_end, at_failure, out_of_memory, never_usage, ends_otherwise, checked_end, never_some_refused, of_first, of_second}
 use Rattle.islec.proofs.WritingLemmas.{line_behind}
 use Rattle.islec.proofs.perform.perform.Goals.{in-Run, in-Check, in-Fmt}
 use Rattle.islec.proofs.perform.perform.Goals as goal
@@ -17,9 +17,9 @@ returns-clause-all_well g c = λ depth plain is code.
     let status = same_code c.match-job.status AllWell (sym c.code.ensures ∙ code) in
     elim c.match-job.branch [
       | in-Run w ↦ rw w.writer-is
-          (at_end (λ n. WritesAnswers (map source_file c.args.texts.items) (world_file c.args.world) depth (g.R.Read.remaining c.args.reader.now) false (g.W.Write.contents c.args.writer.now) n)
+          (at_end (λ n. WritesAnswers (map source_file c.args.texts.items) (world_file c.args.world) depth plain (g.R.Read.remaining c.args.reader.now) false (g.W.Write.contents c.args.writer.now) n)
           w.run-done.result AllWell w.conclude-status.result (g.W.Write.contents w.run-done.new.writer) (g.W.Write.contents w.conclude-status.new.writer)
-          w.conclude-status.ensures (sym w.status-is ∙ status) tt (rw (same_depth c.args.job depth w.in-Run.depth plain w.in-Run._plain is w.in-Run.is) at w.run-done.ensures.all_well))
+          w.conclude-status.ensures (sym w.status-is ∙ status) tt (rw (same_depth c.args.job depth w.in-Run.depth plain w.in-Run.plain is w.in-Run.is, same_plain c.args.job depth w.in-Run.depth plain w.in-Run.plain is w.in-Run.is) at w.run-done.ensures.all_well))
       | in-Check w ↦ absurd (run_no_check c.args.job depth plain w.in-Check.terms is w.in-Check.is)
       | in-Fmt w ↦ absurd (run_no_fmt c.args.job depth plain w.in-Fmt.width is w.in-Fmt.is)
     ]
@@ -29,9 +29,9 @@ returns-clause-some_refused g c = λ depth plain is code.
     let status = same_code c.match-job.status SomeRefused (sym c.code.ensures ∙ code) in
     elim c.match-job.branch [
       | in-Run w ↦ rw w.writer-is
-          (at_end (λ n. WritesAnswers (map source_file c.args.texts.items) (world_file c.args.world) depth (g.R.Read.remaining c.args.reader.now) true (g.W.Write.contents c.args.writer.now) n)
+          (at_end (λ n. WritesAnswers (map source_file c.args.texts.items) (world_file c.args.world) depth plain (g.R.Read.remaining c.args.reader.now) true (g.W.Write.contents c.args.writer.now) n)
           w.run-done.result SomeRefused w.conclude-status.result (g.W.Write.contents w.run-done.new.writer) (g.W.Write.contents w.conclude-status.new.writer)
-          w.conclude-status.ensures (sym w.status-is ∙ status) tt (rw (same_depth c.args.job depth w.in-Run.depth plain w.in-Run._plain is w.in-Run.is) at w.run-done.ensures.some_refused))
+          w.conclude-status.ensures (sym w.status-is ∙ status) tt (rw (same_depth c.args.job depth w.in-Run.depth plain w.in-Run.plain is w.in-Run.is, same_plain c.args.job depth w.in-Run.depth plain w.in-Run.plain is w.in-Run.is) at w.run-done.ensures.some_refused))
       | in-Check w ↦ absurd (run_no_check c.args.job depth plain w.in-Check.terms is w.in-Check.is)
       | in-Fmt w ↦ absurd (run_no_fmt c.args.job depth plain w.in-Fmt.width is w.in-Fmt.is)
     ]
@@ -52,7 +52,7 @@ pub returns-clause-checked : goal.returns-clause-checked
 returns-clause-checked g c = λ terms is code.
     let status = same_code c.match-job.status AllWell (sym c.code.ensures ∙ code) in
     elim c.match-job.branch [
-      | in-Run w ↦ absurd (run_no_check c.args.job w.in-Run.depth w.in-Run._plain terms w.in-Run.is is)
+      | in-Run w ↦ absurd (run_no_check c.args.job w.in-Run.depth w.in-Run.plain terms w.in-Run.is is)
       | in-Check w ↦ rw w.writer-is
           (at_end (λ n. WritesAccepted (map source_file c.args.texts.items) terms (g.W.Write.contents c.args.writer.now) n)
           w.check-done.result AllWell w.conclude-status-in-Check.result (g.W.Write.contents w.check-done.new.writer) (g.W.Write.contents w.conclude-status-in-Check.new.writer)
@@ -64,7 +64,7 @@ pub returns-clause-faulty : goal.returns-clause-faulty
 returns-clause-faulty g c = λ terms is code.
     let status = same_code c.match-job.status TextsRefused (sym c.code.ensures ∙ code) in
     elim c.match-job.branch [
-      | in-Run w ↦ absurd (run_no_check c.args.job w.in-Run.depth w.in-Run._plain terms w.in-Run.is is)
+      | in-Run w ↦ absurd (run_no_check c.args.job w.in-Run.depth w.in-Run.plain terms w.in-Run.is is)
       | in-Check w ↦ rw w.writer-is
           (at_end (λ n. WritesFaults (map source_file c.args.texts.items) (g.W.Write.contents c.args.writer.now) n)
           w.check-done.result TextsRefused w.conclude-status-in-Check.result (g.W.Write.contents w.check-done.new.writer) (g.W.Write.contents w.conclude-status-in-Check.new.writer)
@@ -76,7 +76,7 @@ pub returns-clause-formatted : goal.returns-clause-formatted
 returns-clause-formatted g c = λ width is code.
     let status = same_code c.match-job.status AllWell (sym c.code.ensures ∙ code) in
     elim c.match-job.branch [
-      | in-Run w ↦ absurd (run_no_fmt c.args.job w.in-Run.depth w.in-Run._plain width w.in-Run.is is)
+      | in-Run w ↦ absurd (run_no_fmt c.args.job w.in-Run.depth w.in-Run.plain width w.in-Run.is is)
       | in-Check w ↦ absurd (check_no_fmt c.args.job w.in-Check.terms width w.in-Check.is is)
       | in-Fmt w ↦ rw w.writer-is
           (at_end (λ n. WritesPrints width (map source_file c.args.texts.items) (g.W.Write.contents c.args.writer.now) n)
@@ -88,7 +88,7 @@ pub returns-clause-refused : goal.returns-clause-refused
 returns-clause-refused g c = λ width is code.
     let status = same_code c.match-job.status TextsRefused (sym c.code.ensures ∙ code) in
     elim c.match-job.branch [
-      | in-Run w ↦ absurd (run_no_fmt c.args.job w.in-Run.depth w.in-Run._plain width w.in-Run.is is)
+      | in-Run w ↦ absurd (run_no_fmt c.args.job w.in-Run.depth w.in-Run.plain width w.in-Run.is is)
       | in-Check w ↦ absurd (check_no_fmt c.args.job w.in-Check.terms width w.in-Check.is is)
       | in-Fmt w ↦ rw w.writer-is
           (at_end (λ n. WritesFault (map source_file c.args.texts.items) (g.W.Write.contents c.args.writer.now) n)
@@ -101,9 +101,9 @@ returns-clause-failed g c = λ depth plain is code.
     let status = same_code c.match-job.status InputOutput (sym c.code.ensures ∙ code) in
     elim c.match-job.branch [
       | in-Run w ↦ rw w.writer-is
-          (at_failure (λ n. CutsRun (map source_file c.args.texts.items) (world_file c.args.world) depth (g.R.Read.remaining c.args.reader.now) (g.W.Write.contents c.args.writer.now) n)
+          (at_failure (λ n. CutsRun (map source_file c.args.texts.items) (world_file c.args.world) depth plain (g.R.Read.remaining c.args.reader.now) (g.W.Write.contents c.args.writer.now) n)
           w.run-done.result w.conclude-status.result (g.W.Write.contents w.run-done.new.writer) (g.W.Write.contents w.conclude-status.new.writer)
-          w.conclude-status.ensures (sym w.status-is ∙ status) w.run-done.ensures.other (rw (same_depth c.args.job depth w.in-Run.depth plain w.in-Run._plain is w.in-Run.is) at w.run-done.ensures.cut))
+          w.conclude-status.ensures (sym w.status-is ∙ status) w.run-done.ensures.other (rw (same_depth c.args.job depth w.in-Run.depth plain w.in-Run.plain is w.in-Run.is, same_plain c.args.job depth w.in-Run.depth plain w.in-Run.plain is w.in-Run.is) at w.run-done.ensures.cut))
       | in-Check w ↦ absurd (run_no_check c.args.job depth plain w.in-Check.terms is w.in-Check.is)
       | in-Fmt w ↦ absurd (run_no_fmt c.args.job depth plain w.in-Fmt.width is w.in-Fmt.is)
     ]
@@ -112,10 +112,10 @@ pub returns-clause-ran_out : goal.returns-clause-ran_out
 returns-clause-ran_out g c = λ depth plain is code.
     let status = same_code c.match-job.status OutOfMemory (sym c.code.ensures ∙ code) in
     elim c.match-job.branch [
-      | in-Run w ↦ rw w.writer-is
-          (out_of_memory (λ n. AnswersSome (map source_file c.args.texts.items) (world_file c.args.world) depth (g.R.Read.remaining c.args.reader.now) (g.W.Write.contents c.args.writer.now) n)
+      | in-Run w ↦ rw (w.writer-is, w.reader-is)
+          (out_of_memory (λ n. AnswersSome (map source_file c.args.texts.items) (world_file c.args.world) depth plain (g.R.Read.remaining c.args.reader.now) (g.R.Read.remaining w.run-done.new.reader) (g.W.Write.contents c.args.writer.now) n)
           w.run-done.result w.conclude-status.result (g.W.Write.contents w.run-done.new.writer) (g.W.Write.contents w.conclude-status.new.writer)
-          w.conclude-status.ensures (sym w.status-is ∙ status) w.run-done.ensures.other (rw (same_depth c.args.job depth w.in-Run.depth plain w.in-Run._plain is w.in-Run.is) at w.run-done.ensures.memory))
+          w.conclude-status.ensures (sym w.status-is ∙ status) w.run-done.ensures.other (rw (same_depth c.args.job depth w.in-Run.depth plain w.in-Run.plain is w.in-Run.is, same_plain c.args.job depth w.in-Run.depth plain w.in-Run.plain is w.in-Run.is) at w.run-done.ensures.memory))
       | in-Check w ↦ absurd (run_no_check c.args.job depth plain w.in-Check.terms is w.in-Check.is)
       | in-Fmt w ↦ absurd (run_no_fmt c.args.job depth plain w.in-Fmt.width is w.in-Fmt.is)
     ]
@@ -140,7 +140,7 @@ pub returns-clause-unasked : goal.returns-clause-unasked
 returns-clause-unasked g c = λ terms is code.
     let status = same_code c.match-job.status SomeRefused (sym c.code.ensures ∙ code) in
     elim c.match-job.branch [
-      | in-Run w ↦ absurd (run_no_check c.args.job w.in-Run.depth w.in-Run._plain terms w.in-Run.is is)
+      | in-Run w ↦ absurd (run_no_check c.args.job w.in-Run.depth w.in-Run.plain terms w.in-Run.is is)
       | in-Check w ↦ never_some_refused w.check-done.result w.conclude-status-in-Check.result (g.W.Write.contents w.check-done.new.writer)
           (g.W.Write.contents w.conclude-status-in-Check.new.writer) w.conclude-status-in-Check.ensures w.check-done.ensures.other
           (sym w.status-is ∙ status)
@@ -151,7 +151,7 @@ pub returns-clause-unanswered : goal.returns-clause-unanswered
 returns-clause-unanswered g c = λ width is code.
     let status = same_code c.match-job.status SomeRefused (sym c.code.ensures ∙ code) in
     elim c.match-job.branch [
-      | in-Run w ↦ absurd (run_no_fmt c.args.job w.in-Run.depth w.in-Run._plain width w.in-Run.is is)
+      | in-Run w ↦ absurd (run_no_fmt c.args.job w.in-Run.depth w.in-Run.plain width w.in-Run.is is)
       | in-Check w ↦ absurd (check_no_fmt c.args.job w.in-Check.terms width w.in-Check.is is)
       | in-Fmt w ↦ never_some_refused w.format-done.result w.conclude-status-in-Fmt.result (g.W.Write.contents w.format-done.new.writer)
           (g.W.Write.contents w.conclude-status-in-Fmt.new.writer) w.conclude-status-in-Fmt.ensures w.format-done.ensures.other
@@ -184,7 +184,7 @@ pub returns-clause-check_failed : goal.returns-clause-check_failed
 returns-clause-check_failed g c = λ terms is code.
     let status = same_code c.match-job.status InputOutput (sym c.code.ensures ∙ code) in
     elim c.match-job.branch [
-      | in-Run w ↦ absurd (run_no_check c.args.job w.in-Run.depth w.in-Run._plain terms w.in-Run.is is)
+      | in-Run w ↦ absurd (run_no_check c.args.job w.in-Run.depth w.in-Run.plain terms w.in-Run.is is)
       | in-Check w ↦
           rw w.writer-is
           (at_failure (λ n. CutsCheck (map source_file c.args.texts.items) terms (g.W.Write.contents c.args.writer.now) n)
@@ -199,7 +199,7 @@ pub returns-clause-check_ran_out : goal.returns-clause-check_ran_out
 returns-clause-check_ran_out g c = λ terms is code.
     let status = same_code c.match-job.status OutOfMemory (sym c.code.ensures ∙ code) in
     elim c.match-job.branch [
-      | in-Run w ↦ absurd (run_no_check c.args.job w.in-Run.depth w.in-Run._plain terms w.in-Run.is is)
+      | in-Run w ↦ absurd (run_no_check c.args.job w.in-Run.depth w.in-Run.plain terms w.in-Run.is is)
       | in-Check w ↦
           rw w.writer-is
           (line_behind (g.W.Write.contents c.args.writer.now) (g.W.Write.contents w.conclude-status-in-Check.new.writer) (codes "out of memory\n")
@@ -214,7 +214,7 @@ pub returns-clause-format_failed : goal.returns-clause-format_failed
 returns-clause-format_failed g c = λ width is code.
     let status = same_code c.match-job.status InputOutput (sym c.code.ensures ∙ code) in
     elim c.match-job.branch [
-      | in-Run w ↦ absurd (run_no_fmt c.args.job w.in-Run.depth w.in-Run._plain width w.in-Run.is is)
+      | in-Run w ↦ absurd (run_no_fmt c.args.job w.in-Run.depth w.in-Run.plain width w.in-Run.is is)
       | in-Check w ↦ absurd (check_no_fmt c.args.job w.in-Check.terms width w.in-Check.is is)
       | in-Fmt w ↦
           rw w.writer-is
@@ -228,7 +228,7 @@ pub returns-clause-format_ran_out : goal.returns-clause-format_ran_out
 returns-clause-format_ran_out g c = λ width is code.
     let status = same_code c.match-job.status OutOfMemory (sym c.code.ensures ∙ code) in
     elim c.match-job.branch [
-      | in-Run w ↦ absurd (run_no_fmt c.args.job w.in-Run.depth w.in-Run._plain width w.in-Run.is is)
+      | in-Run w ↦ absurd (run_no_fmt c.args.job w.in-Run.depth w.in-Run.plain width w.in-Run.is is)
       | in-Check w ↦ absurd (check_no_fmt c.args.job w.in-Check.terms width w.in-Check.is is)
       | in-Fmt w ↦
           rw w.writer-is
