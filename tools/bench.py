@@ -71,6 +71,36 @@ def typed_rules(number):
     return "".join(parts)
 
 
+NESTING = "(type N (enum (Z) (S (p N))))\n"
+
+
+def nested(inner, depth):
+    """A pattern under so many fields."""
+    return "(N.S " * depth + inner + ")" * depth
+
+
+def extractor_chain(extractors, depth, arguments):
+    """A rule whose arguments are each a use of the last of so many extractors; each puts the one before it under so many fields."""
+    parts = [NESTING]
+    for i in range(extractors):
+        inner = f"(e{i - 1} a)" if i else "a"
+        parts.append(f"(decl e{i} (N) N)\n(extractor (e{i} a) {nested(inner, depth)})\n")
+    uses = " ".join(f"(e{extractors - 1} x{i})" for i in range(arguments))
+    return "".join(parts) + f"(decl f ({'N ' * arguments}) N)\n(rule (f {uses}) x0)\n"
+
+
+def equal_arguments(arguments, depth):
+    """A rule whose arguments are equal, each under so many fields."""
+    pattern = f"(and x {nested('_', depth)}) "
+    return NESTING + f"(decl f ({'N ' * arguments}) N)\n(rule (f {pattern * arguments}) x)\n"
+
+
+def lets(number):
+    """A rule of so many variables, each with the value of the one before it."""
+    variables = " ".join(f"(x{i + 1} u8 x{i})" for i in range(number))
+    return f"(decl f (u8) u8)\n(rule (f x0) (let ({variables}) x{number}))\n"
+
+
 def keys(number, mixed):
     """So many keys, each on a line, in descending or in mixed order."""
     ordered = list(range(number, 0, -1))
@@ -178,6 +208,9 @@ def main():
         measure(f"compile {number:,} rules", [islec, "check"], typed_rules(number), lambda it: it == "accepted\n")
     for number in (500, 1_000, 2_000, 4_000):
         measure(f"check {number:,} rules", [islec, "check"], typed_rules(number), lambda it: it == "accepted\n")
+    for title, text in (("16 arguments of 3,600 fields", extractor_chain(4, 900, 16)),
+                        ("60 equal arguments of 990 fields", equal_arguments(60, 990)), ("65,000 variables", lets(65_000))):
+        measure(f"check a rule of {title}", [islec, "check"], text, lambda it: it == "accepted\n")
     for number in (16_384, 65_536):
         for order in ("descending", "mixed"):
             text = keys(number, order == "mixed")

@@ -1,6 +1,8 @@
 //! Sites and tests of rule sets.
 pub mod checks;
+mod site_terms;
 
+use crate::syntax::orders::are_keys;
 use isle_blocks::{Binding, BindingId, Constraint, TupleIndex};
 use isle_syntax::Seq;
 use isle_types::{Sym, TermId, TypeId, VariantId};
@@ -168,6 +170,37 @@ fn sites_ascend_by_fields(rt: HostRuntime) -> Result<(), Fail> {
     let by_instance = calls_ascend(rt.alloc(), ([1, 2], 0), ([1, 2], 1))?;
     let ascend = [integers_ascend(), fields_ascend(), by_argument, by_instance];
     assert_eq!(rt; ascend, [true, true, true, true]);
+    Ok(())
+}
+
+fn sites_are_keys(alloc: Global) -> Result<bool, AllocError> {
+    let keys = [
+        made_variant(alloc, 4, [1, 2])?,
+        called(alloc, 0, [1, 2], 0)?,
+        made_variant(alloc, 4, [1, 3])?,
+    ];
+    let (second, other) = (called(alloc, 0, [1, 2], 0)?, called(alloc, 0, [1, 2], 1)?);
+    are_keys(alloc, &keys, &second, &other)
+}
+
+fn tests_are_keys(alloc: Global) -> Result<bool, AllocError> {
+    let keys = [Constraint::Some, variant(13, 4), int(5, 1)];
+    are_keys(alloc, &keys, &variant(13, 4), &variant(13, 5))
+}
+
+/// Sites, tests and their numbers are the keys of ordered and of hashed tables.
+#[test]
+fn sites_and_tests_are_keys(rt: HostRuntime) -> Result<(), Fail> {
+    let alloc = rt.alloc();
+    let numbers = [BindingId(3), BindingId(0), BindingId(4)];
+    let fields = [TupleIndex(3), TupleIndex(0), TupleIndex(4)];
+    let are_keys = [
+        sites_are_keys(alloc)?,
+        tests_are_keys(alloc)?,
+        are_keys(alloc, &numbers, &BindingId(0), &BindingId(1))?,
+        are_keys(alloc, &fields, &TupleIndex(0), &TupleIndex(1))?,
+    ];
+    assert_eq!(rt; are_keys, [true, true, true, true]);
     Ok(())
 }
 

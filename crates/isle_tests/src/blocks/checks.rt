@@ -56,6 +56,16 @@ fn write_demands(out: &mut String, rule: &Rule, site: BindingId) -> Result<(), A
     out.push_str(line.as_str())
 }
 
+/// The sets of sites that must be equal.
+fn write_equal_sites(out: &mut String, rule: &Rule) -> Result<(), AllocError> {
+    let alloc = *out.allocator();
+    for set in rule.equal_sites(alloc)? {
+        let line = format!(in alloc; "  equal {:?}\n", set.as_slice())?;
+        out.push_str(line.as_str())?;
+    }
+    Ok(())
+}
+
 /// A rule: its number, that of its demands, the sites of its multi calls, of its impure calls and of its result; and its demands.
 fn write_rule(out: &mut String, set: &RuleSet, rule: &Rule) -> Result<(), AllocError> {
     let (iterators, impure) = (rule.iterators.as_slice(), rule.impure.as_slice());
@@ -71,7 +81,7 @@ fn write_rule(out: &mut String, set: &RuleSet, rule: &Rule) -> Result<(), AllocE
             write_demands(out, rule, site)?;
         }
     }
-    Ok(())
+    write_equal_sites(out, rule)
 }
 
 fn write_rules(out: &mut String, set: &RuleSet) -> Result<(), AllocError> {
@@ -126,6 +136,8 @@ RuleId(0) 6 [] [] BindingId(4)
   3 Some(Variant { ty: TypeId(13), variant: VariantId(0), fields: TupleIndex(2) }) None
   5 None Some(BindingId(1))
   6 None Some(BindingId(2))
+  equal [BindingId(1), BindingId(5)]
+  equal [BindingId(2), BindingId(6)]
 | (decl multi m (u8) u8) (extern constructor m m)
 (decl multi g (u8) u8) (rule (g x) (m x)) (rule (g y) (m y))
 (decl partial p (u8) u8) (extern constructor p p)
@@ -241,6 +253,7 @@ RuleId(2) 1 [] [] BindingId(4)
 RuleId(3) 2 [] [] BindingId(5)
   0 None Some(BindingId(0))
   1 None Some(BindingId(0))
+  equal [BindingId(0), BindingId(1)]
 
  Yes { subset: true } Yes { subset: false } Yes { subset: false } Yes { subset: false }
  Yes { subset: false } Yes { subset: true } Yes { subset: true } Yes { subset: false }
@@ -277,6 +290,7 @@ fn shown(alloc: Global, error: &Error) -> Result<String, AllocError> {
             let offsets = offsets(alloc, shadowed.as_slice())?;
             format!(in alloc; "shadowing {}{};", mask.from.offset, offsets.as_str())
         }
+        Error::SizeError { span, .. } => format!(in alloc; "too large {};", span.from.offset),
         _ => format!(in alloc; "another fault;"),
     }
 }
@@ -291,10 +305,17 @@ fn listing(alloc: Global, errors: &[Error]) -> Result<String, AllocError> {
 }
 
 // Faulty rules, and the offsets of those at fault, the heading one first. A rule that never matches is the one that is reported. Rules of
-// one priority overlap, one of a higher priority shadows; one with an equality left shadows none.
+// one priority overlap, one of a higher priority shadows; one with an equality left shadows none. Where one rule heads both, the overlap
+// stands first.
+//
+// Each `(r)` opens 33,024 sites, so that a rule with two doesn't fit, whether it may match or not. Of two rules with one each the second is
+// too large, since it doesn't fit beside the first. Of two terms the one that is declared first is looked at first.
 pub const FAULTY: &str = "
 | (decl f (u8) u8) (rule (f (and 1 2)) 1) (rule (f 3) 2) → unreachable 23;
-| (decl f (u8 u8) u8) (rule (f 1 _) 2) (rule (f _ 1) 3) (rule 1 (f _ 1) 4) (rule 2 (f x x) 5) → overlapping 43 26;shadowing 60 43;";
+| (decl f (u8 u8) u8) (rule (f 1 _) 2) (rule (f _ 1) 3) (rule 1 (f _ 1) 4) (rule 2 (f x x) 5) → overlapping 43 26;shadowing 60 43;
+| (decl f (u8) u8) (rule 1 (f _) 1) (rule 1 (f _) 2) (rule (f _) 3) → shadowing 23 57;overlapping 40 23;shadowing 40 57;
+| (type S (struct«255× u8»)) (type R (struct«129× S»)) (decl s () S) (extractor (s) (S«255× _»)) (decl r () R) (extractor (r) (R«129× (s)»)) (decl f (R R) u8) (rule (f (r) _) 1) (rule (f _ (r)) 2) (rule (f _ _) 3) → too large 2196;
+| (type S (struct«255× u8»)) (type R (struct«129× S»)) (decl s () S) (extractor (s) (S«255× _»)) (decl r () R) (extractor (r) (R«129× (s)»)) (decl f (R R u8) u8) (decl g (R R) u8) (rule (g (r) (r)) 1) (rule (f (r) (r) (and 1 2)) 2) → too large 2219;";
 
 /// What is wrong with the rules of a text.
 pub fn faults(alloc: Global, text: &str) -> Result<String, Fail> {

@@ -1,4 +1,5 @@
-//! What environments of terms tell by name.
+//! What environments of terms tell by name, and what their copies do.
+use super::recorder::copied;
 use isle_syntax::files::Files;
 use isle_terms::{Rule, TermEnv};
 use isle_types::{TermId, TypeEnv, TypeId};
@@ -39,17 +40,52 @@ fn called(alloc: Global, tyenv: &TypeEnv, rules: &[Rule]) -> Result<String, Allo
     let mut text = String::new(alloc);
     for rule in rules {
         if rule.pos.file < files.len() {
-            text.push_str(rule.identifier(tyenv, &files, alloc)?.as_str())?;
+            text.push_str(rule.identifier(alloc, tyenv, &files)?.as_str())?;
             text.push_str(";")?;
         }
     }
     Ok(text)
 }
 
-/// What each rule is called, by its name, or else by the line that it stands at, where the maps have their entries.
+/// Whether values are told apart, through the bound.
+fn differ<T: PartialEq>(one: &T, other: &T) -> bool {
+    *one != *other
+}
+
+/// Whether the items of two lists are equal in pairs, and no item equals the one before it.
+fn are_copies<T: PartialEq>(items: &[T], copies: &[T]) -> bool {
+    for i in 1..items.len() {
+        if !differ(&items[i - 1], &items[i]) {
+            return false;
+        }
+    }
+    items == copies
+}
+
+/// Whether rules have the trees of their copies, and their right sides differ.
+fn have_same_trees(rules: &[Rule], copies: &[Rule]) -> bool {
+    for (rule, copy) in rules.iter().zip(copies) {
+        if differ(&rule.args, &copy.args) || differ(&rule.rhs, &copy.rhs) {
+            return false;
+        }
+    }
+    match rules {
+        [first, second, ..] => differ(&first.rhs, &second.rhs),
+        _ => false,
+    }
+}
+
+/// Whether an environment's copy has its terms and rules.
+fn is_copy(env: &TermEnv, copy: &TermEnv) -> bool {
+    are_copies(env.terms(), copy.terms()) && have_same_trees(env.rules(), copy.rules())
+}
+
+/// What each rule is called, by its name, or else by the line that it stands at, where the maps of the environment's copy
+/// have their entries.
 pub fn names(alloc: Global, tyenv: &TypeEnv, env: &TermEnv) -> Result<String, AllocError> {
-    if has_its_converter(env) && has_each_name(env) {
-        called(alloc, tyenv, env.rules())
+    let copy = copied(env)?;
+    if has_its_converter(&copy) && has_each_name(&copy) && is_copy(env, &copy) {
+        called(alloc, tyenv, copy.rules())
     } else {
         String::from_str(alloc, "other entries")
     }

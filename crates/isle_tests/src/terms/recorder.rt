@@ -1,8 +1,26 @@
 //! A visitor that writes down each call, a line each, and answers `Size` at one of them.
-use isle_terms::{ExprPart, ExprVisitor, PatternPart, PatternVisitor, RuleVisitor, VisitFault};
+ghost use Rattle.std.specs.Prelude.{◌≡◌, IfOk};
+
+use isle_terms::{
+    ExprPart, ExprVisitor, PatternPart, PatternVisitor, RuleVisitor, VisitFault, VisitedExpr,
+};
 use isle_types::{Sym, TermId, TypeId, VarId, VariantId};
-use std::alloc::Global;
+use std::alloc::{AllocError, Global};
 use std::collections::HashMap;
+
+/// A copy, through the bound.
+pub fn copied<T: Clone>(value: &T) -> Result<T, AllocError>
+    ensures { IfOk result (λ copy. T.is_clone value.now copy) }
+{
+    value.clone()
+}
+
+// What a caller knows of the copy of what was told of an expression.
+pub fn value_of_copy(visited: &VisitedExpr<Recorder>) -> Result<usize, AllocError>
+    ensures { IfOk result (λ value. value ≡ visited.now.value) }
+{
+    Ok(copied(visited)?.value)
+}
 
 /// The calls so far. Names of values are numbers in the order in which they are asked for.
 #[derive(Drop)]

@@ -1,12 +1,12 @@
 //! Visits of a rule: each call once, in order, and none past a fault.
-ghost use Rattle.std.specs.Prelude.{IfOk};
+ghost use Rattle.std.specs.Prelude.{◌≡◌, IfOk};
 ghost use Rattle.isle_blocks.specs.DefinedSets.{AreDefined};
 
-use super::recorder::Recorder;
+use super::recorder::{Recorder, value_of_copy};
 use isle_syntax::lexer::Lexer;
 use isle_syntax::parser::parse;
-use isle_terms::{Rule, TermEnv, VisitFault};
-use isle_types::{Sym, TypeEnv};
+use isle_terms::{Rule, TermEnv, VisitFault, VisitedExpr};
+use isle_types::{Sym, TypeEnv, TypeId};
 use std::alloc::{AllocError, Global};
 
 // The types `bool`, `u8` and `A` have the numbers 0, 1 and 13; the term `f` has 0, and `A.V` 1. The rule has each form of pattern and
@@ -17,7 +17,8 @@ pub const TERMS: &str = "(type A (enum (V (a u8) (b u8)))) (decl rec f (A bool) 
 
 /// The environments of the definitions of a text.
 pub fn environments(alloc: Global, text: &str) -> Result<(TypeEnv, TermEnv), AllocError>
-    ensures { IfOk result (λ made. AreDefined made.1) }
+    ensures defined { IfOk result (λ made. AreDefined made.1) }
+    ensures known { IfOk result (λ made. (d : AreDefined made.1) × (d.tyenv ≡ made.0)) }
 {
     let Ok(parsed) = parse(Lexer::new(alloc, 0, text)) else {
         return Err(AllocError);
@@ -124,6 +125,15 @@ fn tells_each_call(alloc: Global, termenv: &TermEnv, rule: &Rule, calls: &str) -
     matches!(value, Ok(18)) && recorder.calls() == calls
 }
 
+/// Whether what was told of an expression has a copy with its value.
+fn is_visit_copied() -> Result<bool, AllocError> {
+    let visited: VisitedExpr<Recorder> = VisitedExpr {
+        ty: TypeId(1),
+        value: 7,
+    };
+    Ok(value_of_copy(&visited)? == 7)
+}
+
 /// Whether a copy of a rule has its parts, and is visited as the rule is.
 fn is_copied(
     alloc: Global,
@@ -143,7 +153,8 @@ fn is_told(alloc: Global, termenv: &TermEnv, rule: &Rule, calls: &str) -> Result
     Ok(
         tells_each_call(alloc, termenv, rule, calls)
             && stops_at_each_call(alloc, termenv, rule, calls)?
-            && is_copied(alloc, termenv, rule, calls)?,
+            && is_copied(alloc, termenv, rule, calls)?
+            && is_visit_copied()?,
     )
 }
 

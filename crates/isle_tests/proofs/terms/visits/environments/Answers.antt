@@ -1,4 +1,6 @@
+use Rattle.std.proofs.Common.{refl}
 use Rattle.isle_terms.proofs.PlainTemplates.{plain_templates}
+use Rattle.isle_blocks.specs.DefinedSets.{AreDefined}
 use Rattle.isle_blocks.proofs.FewArguments.{few_arguments}
 use Rattle.isle_tests.proofs.terms.visits.environments.Goals as goal
 
@@ -13,7 +15,7 @@ returns c =
     let made = c.in-Ok-from_ast.ensures.made in
     let shows = c.in-Ok-from_ast-2.ensures.made made.environment made.shows in
     let defs = c.as_slice-defs.result.now in
-    record {
+    let defined : AreDefined c.in-Ok-from_ast-2.termenv = record {
       tyenv = c.from_ast-2.new.tyenv;
       types = made.environment;
       levels = 4096;
@@ -24,4 +26,5 @@ returns c =
       few =
           few_arguments c.from_ast-2.new.tyenv c.in-Ok-from_ast-2.termenv made.environment 4096 1048576 defs made.makes
           c.in-Ok-from_ast.ensures.within shows;
-    }
+    } in
+    record { defined = defined; known = (defined, refl) }
