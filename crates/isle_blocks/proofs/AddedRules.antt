@@ -31,7 +31,7 @@ use Rattle.isle_blocks.specs.Building.Built.{IsBuiltOf}
 use Rattle.isle_blocks.proofs.Building.Tables.{at_within, stands_before, stands_once, site_once, parts_before}
 use Rattle.isle_blocks.proofs.Building.Entries.{Grown, at_grown, put_grown, put_there, entry_at, absent_of, put_of, recorded_grown}
 use Rattle.isle_blocks.proofs.Building.Rules.{built_before}
-use Rattle.isle_blocks.proofs.FullTables.{no_more}
+use Rattle.isle_blocks.proofs.Rows.FullTables.{no_more}
 use Rattle.isle_blocks.proofs.Closure.Ready.{needed_stands, ready_of_recorded}
 
 more_needed : (xs : List Site) (s t : Site) → IsNeeded xs s → IsNeeded (xs ++ t ∷ []) s

@@ -37,15 +37,15 @@ use Rattle.isle_blocks.proofs.Closure.FieldOrder.{rows_in_order}
 use Rattle.isle_blocks.proofs.Building.OpenedFields.{opened}
 use Rattle.isle_blocks.proofs.Closure.Pairs.{own_in}
 use Rattle.isle_blocks.proofs.Closure.Trees.{stands, at_below, one_number, row_get, get_row}
-use Rattle.isle_blocks.proofs.RowsInjective.{row-injective}
+use Rattle.isle_blocks.proofs.Rows.RowsInjective.{row-injective}
 use Rattle.isle_blocks.proofs.Counting.{place_of, stands_at}
 use Rattle.isle_blocks.proofs.MultiCalls.{picked_of, picked, picked_once, call_site, as_iterator, no_field}
-use Rattle.isle_blocks.proofs.StrictCalls.{once_moved, strictly}
+use Rattle.isle_blocks.proofs.RuleFaults.StrictCalls.{once_moved, strictly}
 use Rattle.isle_blocks.proofs.Closure.Longer.{stays}
-use Rattle.isle_blocks.proofs.MovedRows.{new_place, moved_rows}
+use Rattle.isle_blocks.proofs.Rows.MovedRows.{new_place, moved_rows}
 use Rattle.isle_blocks.proofs.SiteOrder.{moved_adds}
-use Rattle.isle_blocks.proofs.Placed.{early_rows, after_ok, to_at, numbered_at, numbers_fit, still_stands, all_known}
-use Rattle.isle_blocks.proofs.PlacedRoom.{grown_site, recorded_field}
+use Rattle.isle_blocks.proofs.Rows.Placed.{early_rows, after_ok, to_at, numbered_at, numbers_fit, still_stands, all_known}
+use Rattle.isle_blocks.proofs.Rows.PlacedRoom.{grown_site, recorded_field}
 
 module _ (name : Sym → List ℕ) (injective : IsInjective name) (ds : List Demand) (base own grown table : List Binding) (placed : PlacedRule)
     (p : IsPlacedRule name ds base own grown table placed) (base_ok : IsTable base) (own_ok : IsTable own) where

@@ -13,7 +13,7 @@ use Rattle.isle_blocks.specs.declared.constraint.Constraint.{Constraint}
 use Rattle.isle_blocks.specs.Rows.{IsInjective, test_of}
 use Rattle.isle_blocks.specs.Rules.{Tests, AreApart, AreWithin}
 use Rattle.isle_blocks.specs.ClosedRules.{StandOnce, AreDerived, NumbersSayDiffer, NumbersSayWithin}
-use Rattle.isle_blocks.proofs.RowsInjective.{test-injective}
+use Rattle.isle_blocks.proofs.Rows.RowsInjective.{test-injective}
 
 pub same_id : (a b : BindingId) → a.0 ≡ b.0 → a ≡ b
 same_id a b e i = record { 0 = e i }

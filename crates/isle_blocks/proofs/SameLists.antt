@@ -11,7 +11,7 @@ use Rattle.std.proofs.lemmas.List.Elements.{Contains-append_left, Contains-appen
 use Rattle.std.proofs.lemmas.List.Sorted.{sorted_far}
 use Rattle.std.proofs.lemmas.List.Sums.{sum_by-append, sum_by-cons}
 use Rattle.isle_blocks.proofs.Counting.{Once, once_both, once_left, once_right}
-use Rattle.isle_blocks.proofs.ListedSets.{both_apart}
+use Rattle.isle_blocks.proofs.Sets.ListedSets.{both_apart}
 
 -- each sum over the two lists is the same
 pub record SameSums {X : Type 0} (xs ys : List X) : Type 0 where

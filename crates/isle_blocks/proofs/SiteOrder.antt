@@ -7,7 +7,7 @@ use Rattle.isle_meaning.specs.Numbered.{Row}
 use Rattle.isle_blocks.specs.Building.Standing.{Adds, begin, next, IsEntryOf}
 use Rattle.isle_blocks.specs.MovedSites.{Moves, none_moved, next_moved, moved_row, place_in}
 use Rattle.isle_blocks.specs.RowTables.{IsEntered}
-use Rattle.isle_blocks.proofs.MovedTables.{Kept, AreEarlier, at_moved, all_moved, moves_keep}
+use Rattle.isle_blocks.proofs.Rows.MovedTables.{Kept, AreEarlier, at_moved, all_moved, moves_keep}
 
 no_last : {X : Type 0} (xs : List X) (x : X) → xs ++ x ∷ [] ≡ [] → ⊥
 no_last [] x e = absurd cc

@@ -1,6 +1,6 @@
 -- What the closure of demands means, under whatever values of sites.
 use Rattle.std.specs.Prelude.{◌↔◌, ℕ, List}
-use Rattle.isle_meaning.specs.Values.{Got}
+use Rattle.isle_meaning.specs.Got.{Got}
 use Rattle.isle_meaning.specs.Facts.{TermFacts}
 use Rattle.isle_meaning.specs.Sites.{Site}
 use Rattle.isle_meaning.specs.Held.{Held}

@@ -62,3 +62,5 @@ pub mod GatheredSets
 pub mod RivalLists
 -- What the closure of demands means.
 pub mod ClosureLaws
+-- Trees of tests.
+pub mod Trees

@@ -1,6 +1,7 @@
 -- Answers to calls.
 use Rattle.std.specs.Prelude.{◌≡◌, ℕ, zero, suc, true, false, List, Option, Some, None, slice_get, length}
-use Rattle.isle_meaning.specs.Values.{Value, Values, Got, unknown, fails, gives, count}
+use Rattle.isle_meaning.specs.Got.{Got, unknown, fails, gives}
+use Rattle.isle_meaning.specs.Values.{Value, Values, count}
 use Rattle.isle_meaning.specs.Facts.{TermFacts}
 use Rattle.isle_meaning.specs.Sites.{Site}
 

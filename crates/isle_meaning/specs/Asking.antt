@@ -3,7 +3,8 @@ use Rattle.std.specs.Prelude.{◌≡◌, ◌⊎◌, ◌≤ℤ◌, ℕ, zero, suc
 use Rattle.isle_terms.specs.Values.{ValueTree, ValueTrees}
 use Rattle.isle_terms.specs.TypedRules.{TypedPattern, typed_bind, typed_var, typed_bool, typed_int, typed_prim, typed_term, typed_wildcard}
 use Rattle.isle_terms.specs.TypedRules.{typed_and, TypedPatterns, no_typed, more_typed, TypedIfLet, TypedRule}
-use Rattle.isle_meaning.specs.Values.{Value, Values, gives}
+use Rattle.isle_meaning.specs.Got.{gives}
+use Rattle.isle_meaning.specs.Values.{Value, Values}
 use Rattle.isle_meaning.specs.ValueTypes.{IsOfType, AreOfTypes}
 use Rattle.isle_meaning.specs.GroundValues.{value_of, values_of}
 use Rattle.isle_meaning.specs.Facts.{TermShape, variant_shape, struct_shape, declared_shape, TermFacts, patterns}

@@ -2,7 +2,8 @@
 use Rattle.std.specs.Prelude.{◌≡◌, ◌≢◌, ◌⊎◌, ◌≤ℤ◌, ℕ, zero, suc, Bool, true, false, List, [], ◌∷◌, Option, Some, slice_get}
 use Rattle.isle_terms.specs.Values.{ValueTree, ValueTrees}
 use Rattle.isle_terms.specs.TypedRules.{TypedRule}
-use Rattle.isle_meaning.specs.Values.{Value, Values, Got, unknown, gives}
+use Rattle.isle_meaning.specs.Got.{Got, unknown, gives}
+use Rattle.isle_meaning.specs.Values.{Value, Values}
 use Rattle.isle_meaning.specs.ValueTypes.{IsOfType, AreOfTypes}
 use Rattle.isle_meaning.specs.GroundValues.{value_of, values_of, IsValueOf, AreValuesOf}
 use Rattle.isle_meaning.specs.Answers.{Completion, IsAllowed}

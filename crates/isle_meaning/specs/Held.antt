@@ -1,7 +1,8 @@
 -- What a site holds.
 use Rattle.std.specs.Prelude.{◌≡◌, ◌≢◌, ℕ, Bool, true, false, List, Option, ◌==◌, if◌then◌else◌}
 use Rattle.isle_meaning.specs.Values.{Value, bool_value, int_value, constant_value, opaque_value, made_variant, made_struct, Values}
-use Rattle.isle_meaning.specs.Values.{no_values, more_values, Got, unknown, fails, gives, nth, nth_of, more, made, built, ask}
+use Rattle.isle_meaning.specs.Got.{Got, unknown, fails, gives}
+use Rattle.isle_meaning.specs.Values.{no_values, more_values, nth, nth_of, more, made, built, ask}
 use Rattle.isle_meaning.specs.Facts.{TermFacts}
 use Rattle.isle_meaning.specs.Sites.{Site, bool_site, int_site, prim_site, argument, extractor_call, constructor_call, iterator}
 use Rattle.isle_meaning.specs.Sites.{make_variant, match_variant, make_struct, extract_struct, make_some, match_some, match_tuple}

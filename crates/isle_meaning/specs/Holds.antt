@@ -1,6 +1,7 @@
 -- When a demand holds of what sites hold.
 use Rattle.std.specs.Prelude.{◌≡◌, ◌≢◌, ◌↔◌, ℕ, List, [], ◌∷◌}
-use Rattle.isle_meaning.specs.Values.{bool_value, int_value, constant_value, made_variant, made_struct, Value, Values, Got, gives, count, nth}
+use Rattle.isle_meaning.specs.Got.{Got, gives}
+use Rattle.isle_meaning.specs.Values.{bool_value, int_value, constant_value, made_variant, made_struct, Value, Values, count, nth}
 use Rattle.isle_meaning.specs.Sites.{Site, match_variant, extract_struct}
 use Rattle.isle_meaning.specs.Held.{Held, held_value, held_some}
 use Rattle.isle_meaning.specs.Demands.{Constraint, variant_constraint, struct_constraint, bool_constraint, int_constraint}

@@ -1,3 +1,5 @@
+-- What is known of something.
+pub use Rattle.isle_trees.specs.Got
 -- Values of terms, and what is known of them.
 pub mod Values
 -- Which values are of a type.

@@ -4,7 +4,8 @@ use Rattle.std.specs.Option.{option_map}
 use Rattle.isle_terms.specs.Values.{ValueTree, ValueTrees}
 use Rattle.isle_terms.specs.TypedRules.{TypedRule}
 use Rattle.isle_meaning.specs.Facts.{TermFacts}
-use Rattle.isle_meaning.specs.Values.{Value, Values, Got, fails, gives}
+use Rattle.isle_meaning.specs.Got.{Got, fails, gives}
+use Rattle.isle_meaning.specs.Values.{Value, Values}
 use Rattle.isle_meaning.specs.ValueTypes.{ValueFacts, IsOfType, AreOfTypes}
 use Rattle.isle_meaning.specs.GroundValues.{value_of, values_of}
 

@@ -18,7 +18,7 @@ use Rattle.isle_blocks.specs.declared.binding.Binding.{Binding}
 use Rattle.isle_blocks.specs.Rows.{IsInjective, row_of, rows_of}
 use Rattle.isle_blocks.specs.Tables.{IsAbsent, IsInterned}
 use Rattle.isle_blocks.specs.Building.Standing.{IsEntryOf, IsPut, Adds, begin, next}
-use Rattle.isle_blocks.proofs.RowsInjective.{row-injective}
+use Rattle.isle_blocks.proofs.Rows.RowsInjective.{row-injective}
 
 -- each entry is still there
 abbrev pub Grown : List Row → List Row → Type 0

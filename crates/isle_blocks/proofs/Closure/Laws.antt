@@ -1,5 +1,5 @@
 -- The closure of demands says the same as they do.
-use Rattle.isle_meaning.specs.Values.{Got}
+use Rattle.isle_meaning.specs.Got.{Got}
 use Rattle.isle_meaning.specs.Sites.{Site}
 use Rattle.isle_meaning.specs.Held.{Held}
 use Rattle.isle_meaning.specs.Demands.{Demand, constrained, equal, Among}

@@ -14,7 +14,7 @@ use Rattle.isle_blocks.specs.Rows.{rows_of, test_of}
 use Rattle.isle_blocks.specs.ClosureFields.{IsTable, field_binding}
 use Rattle.isle_blocks.specs.ClosureStates.{HasOwn, AreClasses, ArePairsBelow, ForDemands, IsJoined, IsSound, AreImplied, IsCovered}
 use Rattle.isle_blocks.specs.ClosureStates.{IsClosed, IsChoice, IsClash, WasPushed, LikesAreIn, demanded_in}
-use Rattle.isle_blocks.proofs.RowsInjective.{test-injective}
+use Rattle.isle_blocks.proofs.Rows.RowsInjective.{test-injective}
 use Rattle.isle_blocks.proofs.Closure.Trees.{stands}
 use Rattle.isle_blocks.proofs.Closure.Demands.{owned}
 use Rattle.isle_blocks.proofs.Closure.Merge.{equal_back, equal_chain, equal_has, drop_is, moved, moved_drop, joined_classes, joined_sound}

@@ -18,7 +18,7 @@ use Rattle.isle_blocks.specs.declared.binding.Binding.TheVariants as sites
 use Rattle.isle_blocks.specs.Bindings.{sources_of}
 use Rattle.isle_blocks.specs.Rows.{IsInjective, numbers_of, row_of, rows_of}
 use Rattle.isle_blocks.specs.ClosureFields.{IsTable, field_binding, field_site}
-use Rattle.isle_blocks.proofs.RowsInjective.{row-injective}
+use Rattle.isle_blocks.proofs.Rows.RowsInjective.{row-injective}
 
 abbrev pub field_row : Option ℕ → ℕ → ℕ → Row
 field_row (Some variant) source i = match_variant_row source variant i

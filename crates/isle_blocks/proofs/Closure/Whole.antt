@@ -19,7 +19,7 @@ use Rattle.isle_blocks.specs.Rows.{IsInjective, rows_of, test_of, pairs_of}
 use Rattle.isle_blocks.specs.ClosureFields.{field_binding, field_site}
 use Rattle.isle_blocks.specs.ClosureStates.{IsReady, HasOwn, AreOwn, HasTwo, AreClasses, IsClosed, IsState, IsRanked, IsSound, Grows, Still, Added, HasFields, HasNeed, IsMissingField, demanded_in}
 use Rattle.isle_blocks.specs.Closure.{Stands, HasAllFields, HasNoRoom, IsClosure}
-use Rattle.isle_blocks.proofs.RowsInjective.{test-injective}
+use Rattle.isle_blocks.proofs.Rows.RowsInjective.{test-injective}
 use Rattle.isle_blocks.proofs.Closure.Trees.{stands, at_below, at_field, field_at, one_number}
 use Rattle.isle_blocks.proofs.Closure.Demands.{of_image, owned, own_of}
 use Rattle.isle_blocks.proofs.Closure.Merge.{equal_back, equal_chain, equal_has, field_of}
@@ -28,7 +28,7 @@ use Rattle.isle_blocks.proofs.Closure.Longer.{stays, stood}
 use Rattle.isle_blocks.proofs.Closure.Growth.{grown_state, grown_longer}
 use Rattle.isle_blocks.proofs.Closure.Sound.{grown_owns, grown_sound}
 use Rattle.isle_blocks.proofs.Closure.Least.{shown, has_all_fields}
-use Rattle.isle_blocks.proofs.FullTables.{no_more}
+use Rattle.isle_blocks.proofs.Rows.FullTables.{no_more}
 
 -- recorded pairs stand in the table
 pub pairs_below : (table : List Binding) (has : List (BindingId × Constraint)) (same : List (BindingId × BindingId)) → IsReady table has same

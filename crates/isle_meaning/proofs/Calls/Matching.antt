@@ -2,7 +2,8 @@
 use Rattle.std.proofs.Common.{◌≡◌, ℕ, List, [], ◌∷◌, Option, refl, sym, ◌∙◌, ap, subst}
 use Rattle.isle_terms.specs.TypedRules.{TypedIfLet, TypedRule}
 use Rattle.isle_meaning.specs.Facts.{TermFacts}
-use Rattle.isle_meaning.specs.Values.{Value, Values, Got, fails, gives, more, made, built, ask}
+use Rattle.isle_meaning.specs.Got.{Got, fails, gives}
+use Rattle.isle_meaning.specs.Values.{Value, Values, more, made, built, ask}
 use Rattle.isle_meaning.specs.Words.{Word, var_word, bool_word, int_word, prim_word, variant_word, struct_word, call_word, Words}
 use Rattle.isle_meaning.specs.Words.{no_words, more_words, word_of}
 use Rattle.isle_meaning.specs.Answers.{Completion, answer_of}

@@ -1,6 +1,7 @@
 -- What a right side that runs comes to is what it does under each completion that agrees.
 use Rattle.std.proofs.Common.{◌≡◌, inl, inr, ℕ, suc, List, [], ◌∷◌, ◌++◌, length, Bool, true, false, Option, Some, None, refl, sym, ◌∙◌, ap, subst}
-use Rattle.isle_meaning.specs.Values.{Value, Values, Got, unknown, fails, gives}
+use Rattle.isle_meaning.specs.Got.{Got, unknown, fails, gives}
+use Rattle.isle_meaning.specs.Values.{Value, Values}
 use Rattle.isle_meaning.specs.GroundValues.{AreValuesOf, IsValueOf}
 use Rattle.isle_meaning.specs.Words.{Word, Step}
 use Rattle.isle_meaning.specs.Answers.{Completion}

@@ -1,6 +1,7 @@
 -- What a plain run comes to is what each completion says that agrees.
 use Rattle.std.proofs.Common.{◌≡◌, inl, inr, ℕ, zero, suc, List, [], ◌∷◌, Bool, true, false, Option, Some, None, slice_get, refl, sym, ◌∙◌, subst}
-use Rattle.isle_meaning.specs.Values.{Value, Values, no_values, more_values, Got, unknown, fails, gives, more, ask, made_variant, made_struct}
+use Rattle.isle_meaning.specs.Got.{Got, unknown, fails, gives}
+use Rattle.isle_meaning.specs.Values.{Value, Values, no_values, more_values, more, ask, made_variant, made_struct}
 use Rattle.isle_meaning.specs.GroundValues.{AreValuesOf}
 use Rattle.isle_meaning.specs.Words.{Word, var_word, bool_word, int_word, prim_word, variant_word, struct_word, call_word, Words}
 use Rattle.isle_meaning.specs.Words.{no_words, more_words}

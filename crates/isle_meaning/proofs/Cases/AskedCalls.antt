@@ -11,7 +11,8 @@ use Rattle.isle_terms.specs.Values.{data_value as data_tree}
 use Rattle.isle_terms.specs.TypedRules.{typed_bind, typed_term, typed_wildcard, no_typed, more_typed, built_var, built_term, no_built}
 use Rattle.isle_terms.specs.TypedRules.{more_built, TypedExpr, TypedRule}
 use Rattle.isle_meaning.specs.Facts.{declared_shape}
-use Rattle.isle_meaning.specs.Values.{Value, Values, bool_value, no_values, more_values, Got, unknown, fails, gives, count, more, ask}
+use Rattle.isle_meaning.specs.Got.{Got, unknown, fails, gives}
+use Rattle.isle_meaning.specs.Values.{Value, Values, bool_value, no_values, more_values, count, more, ask}
 use Rattle.isle_meaning.specs.ValueTypes.{ValueFacts, truth_kind, IsOfType, AreOfTypes}
 use Rattle.isle_meaning.specs.GroundValues.{value_of, values_of, AreValuesOf}
 use Rattle.isle_meaning.specs.Answers.{Completion}

@@ -9,7 +9,8 @@ use Rattle.isle_terms.specs.Values.{int_value as int_tree, no_values as no_trees
 use Rattle.isle_terms.specs.TypedRules.{TypedPattern, typed_bind, typed_int, typed_wildcard, no_typed, more_typed, TypedExpr}
 use Rattle.isle_terms.specs.TypedRules.{built_int, built_var, built_term, built_let, no_built, more_built, no_bindings, more_bindings, TypedIfLet, TypedRule}
 use Rattle.isle_meaning.specs.Facts.{TermFacts, variant_shape, declared_shape}
-use Rattle.isle_meaning.specs.Values.{Value, Values, int_value, no_values, more_values, Got, unknown, fails, gives, more, made}
+use Rattle.isle_meaning.specs.Got.{Got, unknown, fails, gives}
+use Rattle.isle_meaning.specs.Values.{Value, Values, int_value, no_values, more_values, more, made}
 use Rattle.isle_meaning.specs.ValueTypes.{ValueFacts, primitive_kind}
 use Rattle.isle_meaning.specs.Answers.{Completion}
 use Rattle.isle_meaning.specs.GroundValues.{AreValuesOf}

@@ -1,6 +1,7 @@
 -- A meaning stays at every greater depth.
 use Rattle.std.proofs.Common.{inl, inr, ℕ, zero, suc, ◌++◌, List, [], ◌∷◌, Bool, true, false, Option, Some, None}
-use Rattle.isle_meaning.specs.Values.{Value, Values, Got, unknown, fails, gives}
+use Rattle.isle_meaning.specs.Got.{Got, unknown, fails, gives}
+use Rattle.isle_meaning.specs.Values.{Value, Values}
 use Rattle.isle_meaning.specs.Words.{Word, Step, word_of, steps_of}
 use Rattle.isle_meaning.specs.Answers.{Completion}
 use Rattle.isle_meaning.specs.Matching.{word_values}

@@ -5,7 +5,8 @@ use Rattle.isle_terms.specs.Values.{ValueTree}
 use Rattle.isle_terms.specs.TypedRules.{TypedPattern, typed_bind, typed_var, typed_bool, typed_int, typed_prim, typed_term, typed_wildcard}
 use Rattle.isle_terms.specs.TypedRules.{typed_and, TypedPatterns, no_typed, more_typed, TypedIfLet, TypedRule}
 use Rattle.isle_meaning.specs.Facts.{TermShape, variant_shape, struct_shape, declared_shape}
-use Rattle.isle_meaning.specs.Values.{Value, Values, made_variant, made_struct, no_values, more_values, Got, unknown, fails, gives, more, ask}
+use Rattle.isle_meaning.specs.Got.{Got, unknown, fails, gives}
+use Rattle.isle_meaning.specs.Values.{Value, Values, made_variant, made_struct, no_values, more_values, more, ask}
 use Rattle.isle_meaning.specs.GroundValues.{IsValueOf, AreValuesOf}
 use Rattle.isle_meaning.specs.Words.{Word, var_word, bool_word, int_word, prim_word, variant_word, struct_word, call_word, Words}
 use Rattle.isle_meaning.specs.Words.{no_words, more_words, Step, word_of}

@@ -2,7 +2,8 @@
 use Rattle.std.proofs.Common.{◌≡◌, inl, inr, ◌≤ℤ◌, ℕ, zero, suc, List, [], ◌∷◌, true, Option, refl, sym, ◌∙◌, subst, arith}
 use Rattle.std.proofs.lemmas.Int.{ints}
 use Rattle.isle_terms.specs.TypedRules.{TypedIfLet, TypedRule}
-use Rattle.isle_meaning.specs.Values.{Value, Values, gives}
+use Rattle.isle_meaning.specs.Got.{gives}
+use Rattle.isle_meaning.specs.Values.{Value, Values}
 use Rattle.isle_meaning.specs.Words.{Word, var_word, bool_word, int_word, prim_word, variant_word, struct_word, call_word, Words}
 use Rattle.isle_meaning.specs.Words.{no_words, more_words, Step, word_of, steps_of}
 use Rattle.isle_meaning.specs.Answers.{Completion}

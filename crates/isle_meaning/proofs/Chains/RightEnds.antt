@@ -1,7 +1,8 @@
 -- Where a right side's run ends, the end is that of a call that it makes.
 use Rattle.std.proofs.Common.{◌≡◌, ◌⊎◌, inl, inr, ℕ, suc, List, [], ◌∷◌, ◌++◌, length, Bool, true, false, Option, Some}
 use Rattle.std.proofs.Common.{refl, sym, ◌∙◌, ap, subst, append_assoc, append-nil}
-use Rattle.isle_meaning.specs.Values.{Value, Values, Got, unknown, fails, gives}
+use Rattle.isle_meaning.specs.Got.{Got, unknown, fails, gives}
+use Rattle.isle_meaning.specs.Values.{Value, Values}
 use Rattle.isle_meaning.specs.GroundValues.{IsValueOf, AreValuesOf}
 use Rattle.isle_meaning.specs.Words.{Word, Step}
 use Rattle.isle_meaning.specs.Answers.{Completion}

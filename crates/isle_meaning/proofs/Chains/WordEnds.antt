@@ -2,7 +2,8 @@
 use Rattle.std.proofs.Common.{◌≡◌, ◌⊎◌, inl, inr, ℕ, zero, suc, List, [], ◌∷◌, Bool, true, false, Option, Some, None, slice_get}
 use Rattle.std.proofs.Common.{refl, sym, ◌∙◌, ap, subst}
 use Rattle.isle_meaning.specs.Facts.{TermFacts}
-use Rattle.isle_meaning.specs.Values.{Value, Values, more_values, Got, unknown, gives}
+use Rattle.isle_meaning.specs.Got.{Got, unknown, gives}
+use Rattle.isle_meaning.specs.Values.{Value, Values, more_values}
 use Rattle.isle_meaning.specs.GroundValues.{AreValuesOf}
 use Rattle.isle_meaning.specs.Words.{Word, var_word, bool_word, int_word, prim_word, variant_word, struct_word, call_word, Words}
 use Rattle.isle_meaning.specs.Words.{no_words, more_words}

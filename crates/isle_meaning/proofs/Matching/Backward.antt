@@ -1,7 +1,8 @@
 -- Where the demands hold, patterns fit and if-lets hold, the variables having the values of their sites.
 use Rattle.std.proofs.Common.{◌≡◌, ◌≢◌, inl, inr, ℕ, suc, List, [], ◌∷◌, Bool, true, false, refl, sym, ◌∙◌, ap, subst, arith}
 use Rattle.isle_meaning.specs.Values.{Value, bool_value, int_value, constant_value, made_variant, made_struct, Values, no_values}
-use Rattle.isle_meaning.specs.Values.{more_values, Got, unknown, fails, gives, count}
+use Rattle.isle_meaning.specs.Got.{Got, unknown, fails, gives}
+use Rattle.isle_meaning.specs.Values.{more_values, count}
 use Rattle.isle_terms.specs.TypedRules.{TypedPattern, typed_bind, typed_var, typed_bool, typed_int, typed_prim, typed_term, typed_wildcard}
 use Rattle.isle_terms.specs.TypedRules.{typed_and, TypedPatterns, no_typed, more_typed, TypedIfLet}
 use Rattle.isle_meaning.specs.Facts.{TermShape, variant_shape, struct_shape, declared_shape, TermFacts, patterns}

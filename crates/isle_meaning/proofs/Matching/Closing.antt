@@ -1,7 +1,8 @@
 -- What is derived holds wherever the demands do, and the demands wherever the closed ones do.
 use Rattle.std.proofs.Common.{◌≡◌, ◌≢◌, ◌<◌, ◌≤◌, ◌+◌, inl, inr, ℕ, zero, suc, List, refl, sym, ◌∙◌, ap, subst, arith}
 use Rattle.isle_meaning.specs.Values.{Value, bool_value, int_value, constant_value, opaque_value, made_variant, made_struct, Values}
-use Rattle.isle_meaning.specs.Values.{no_values, more_values, Got, unknown, fails, gives, nth, count}
+use Rattle.isle_meaning.specs.Got.{Got, unknown, fails, gives}
+use Rattle.isle_meaning.specs.Values.{no_values, more_values, nth, count}
 use Rattle.isle_meaning.specs.Facts.{TermFacts, nth_type}
 use Rattle.isle_meaning.specs.Sites.{Site, match_variant, extract_struct}
 use Rattle.isle_meaning.specs.Held.{Held, held_value, held_outputs, held_none, held_some, held_answers}

@@ -1,6 +1,7 @@
 -- What a value is made of, has values; and a word whose partial calls have contents has a value.
 use Rattle.std.proofs.Common.{◌≡◌, ℕ, zero, suc, List, [], Bool, true, false, Option, refl, ◌∙◌, ap, subst}
-use Rattle.isle_meaning.specs.Values.{Value, Values, more_values, Got, unknown, fails, gives, more, made, built, ask}
+use Rattle.isle_meaning.specs.Got.{Got, unknown, fails, gives}
+use Rattle.isle_meaning.specs.Values.{Value, Values, more_values, more, made, built, ask}
 use Rattle.isle_meaning.specs.Facts.{TermFacts}
 use Rattle.isle_meaning.specs.Words.{Word, var_word, bool_word, int_word, prim_word, variant_word, struct_word, call_word, Words}
 use Rattle.isle_meaning.specs.Words.{no_words, more_words}

@@ -1,6 +1,7 @@
 -- Where patterns fit and if-lets hold, the demands do.
 use Rattle.std.proofs.Common.{◌≡◌, ℕ, suc, List, [], ◌∷◌, Bool, true, false, refl, ◌∙◌, ap, subst, sym}
-use Rattle.isle_meaning.specs.Values.{Value, Values, no_values, more_values, gives, count}
+use Rattle.isle_meaning.specs.Got.{gives}
+use Rattle.isle_meaning.specs.Values.{Value, Values, no_values, more_values, count}
 use Rattle.isle_terms.specs.TypedRules.{TypedPattern, typed_bind, typed_var, typed_bool, typed_int, typed_prim, typed_term, typed_wildcard}
 use Rattle.isle_terms.specs.TypedRules.{typed_and, TypedPatterns, no_typed, more_typed, TypedIfLet}
 use Rattle.isle_meaning.specs.Facts.{TermShape, variant_shape, struct_shape, declared_shape, TermFacts, patterns}

@@ -1,6 +1,7 @@
 -- A site is known where its calls are answered.
 use Rattle.std.proofs.Common.{◌≡◌, ℕ, zero, suc, List, [], ◌∷◌, Bool, true, false, ◌==◌, Option, refl}
-use Rattle.isle_meaning.specs.Values.{Value, made_variant, made_struct, Values, no_values, more_values, Got, unknown, fails, gives}
+use Rattle.isle_meaning.specs.Got.{Got, unknown, fails, gives}
+use Rattle.isle_meaning.specs.Values.{Value, made_variant, made_struct, Values, no_values, more_values}
 use Rattle.isle_meaning.specs.Values.{nth, nth_of, more, made, built, ask}
 use Rattle.isle_meaning.specs.Facts.{TermFacts}
 use Rattle.isle_meaning.specs.Answers.{Completion}

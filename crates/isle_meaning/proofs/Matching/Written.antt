@@ -1,6 +1,7 @@
 -- A word and its site have one value.
 use Rattle.std.proofs.Common.{◌≡◌, ℕ, List, Bool, true, false, Option, refl, ◌∙◌, ap}
-use Rattle.isle_meaning.specs.Values.{Value, Values, Got, unknown, fails, gives, made, built, ask}
+use Rattle.isle_meaning.specs.Got.{Got, unknown, fails, gives}
+use Rattle.isle_meaning.specs.Values.{Value, Values, made, built, ask}
 use Rattle.isle_meaning.specs.Facts.{TermFacts}
 use Rattle.isle_meaning.specs.Words.{Word, var_word, bool_word, int_word, prim_word, variant_word, struct_word, call_word, Words}
 use Rattle.isle_meaning.specs.Words.{no_words, more_words}

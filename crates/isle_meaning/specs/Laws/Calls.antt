@@ -6,7 +6,8 @@ use Rattle.isle_terms.specs.TypedRules.{no_built, more_built, TypedBindings, no_
 use Rattle.isle_terms.specs.TypedRules.{TypedPattern, typed_bind, typed_var, typed_bool, typed_int, typed_prim, typed_term, typed_wildcard}
 use Rattle.isle_terms.specs.TypedRules.{typed_and, TypedPatterns, no_typed, more_typed}
 use Rattle.isle_meaning.specs.Facts.{TermShape, variant_shape, struct_shape, declared_shape, TermFacts, facts_of}
-use Rattle.isle_meaning.specs.Values.{Value, Values, unknown}
+use Rattle.isle_meaning.specs.Got.{unknown}
+use Rattle.isle_meaning.specs.Values.{Value, Values}
 use Rattle.isle_meaning.specs.ValueTypes.{IsOfType}
 use Rattle.isle_meaning.specs.GroundValues.{value_of, IsValueOf, AreValuesOf}
 use Rattle.isle_meaning.specs.Answers.{Completion}

@@ -29,8 +29,8 @@ use Rattle.isle_run.specs.Programs.{types_of, terms_of, rule_sets_of}
 use Rattle.isle_run.specs.Compiled.{AreSpelt, AreTyped, AreTypedFiles, AreAccepted, IsProgramOf, IsFirstFault, AreFaults, of_a_text, of_types}
 use Rattle.isle_run.specs.Compiled.{of_terms, of_rules, max_levels, max_nodes}
 use Rattle.isle_blocks.proofs.FewArguments.{few_arguments}
-use Rattle.isle_blocks.proofs.GatheredRules.{term_within, root_within}
-use Rattle.isle_blocks.proofs.SetsOfTerms.{all_places}
+use Rattle.isle_blocks.proofs.Sets.GatheredRules.{term_within, root_within}
+use Rattle.isle_blocks.proofs.Sets.SetsOfTerms.{all_places}
 use Rattle.isle_run.proofs.Compiling.RuleErrors.{typed_placed, rule_errors_at}
 
 pub text_faults : (files : List SourceFile) (told : Refusal (Vec Error Global))

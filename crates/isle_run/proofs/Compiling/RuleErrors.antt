@@ -21,8 +21,8 @@ use Rattle.isle_blocks.specs.declared.report.RulePlace.{RulePlace}
 use Rattle.isle_blocks.specs.Reports.{AreGroups, no_pairs, headed, IsGroup, IsReport, error_of, error_by, positions, partners, partner_count}
 use Rattle.isle_blocks.specs.RuleFaults.{IsUnreachableAt, AreFaultless, TellUnreachable, no_rules_told, one_may_match, one_never_matches}
 use Rattle.isle_blocks.specs.RuleFaults.{unreachable_error, size_error_at, places_from, ListsEach, TellRivals, IsTooLargeAt, AreRuleErrors, of_size, of_rules}
-use Rattle.isle_blocks.proofs.Faultless.{faultless_within}
-use Rattle.isle_blocks.proofs.SizeFaults.{within_before}
+use Rattle.isle_blocks.proofs.RuleFaults.Faultless.{faultless_within}
+use Rattle.isle_blocks.proofs.RuleFaults.SizeFaults.{within_before}
 
 -- ---- errors of rules stand where the rules do
 

@@ -5,7 +5,7 @@ use Rattle.isle_types.proofs.Reading.{fault_weaker, no_items, some_items}
 use Rattle.isle_blocks.specs.DefinedSets.{AreSetsOf}
 use Rattle.isle_blocks.specs.RuleFaults.{of_rules, of_size}
 use Rattle.isle_blocks.specs.RuleSets.{RulesOverSites}
-use Rattle.isle_blocks.proofs.Faultless.{faultless}
+use Rattle.isle_blocks.proofs.RuleFaults.Faultless.{faultless}
 use Rattle.isle_blocks.proofs.checking.check.Goals as goal
 
 pub rival_errors-requires-clause-sets : goal.rival_errors-requires-clause-sets

@@ -6,7 +6,7 @@ use Rattle.isle_blocks.specs.DefinedSets.{rules_by}
 use Rattle.isle_blocks.specs.Reports.{ArePairs, IsReport}
 use Rattle.isle_blocks.specs.RivalLists.{place_of}
 use Rattle.isle_blocks.specs.RuleFaults.{places_from}
-use Rattle.isle_blocks.proofs.RivalLists.{places_are, faults_listed, faults_are_pairs}
+use Rattle.isle_blocks.proofs.RuleFaults.RivalLists.{places_are, faults_listed, faults_are_pairs}
 use Rattle.isle_blocks.proofs.checking.rival_errors.Goals as goal
 
 pub report_faults-requires-clause-overlaps_in : goal.report_faults-requires-clause-overlaps_in

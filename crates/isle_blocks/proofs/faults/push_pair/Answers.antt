@@ -1,4 +1,4 @@
-use Rattle.isle_blocks.proofs.FaultKeys.{adds_pair}
+use Rattle.isle_blocks.proofs.RuleFaults.FaultKeys.{adds_pair}
 use Rattle.isle_blocks.proofs.faults.push_pair.Goals as goal
 
 pub returns-in_ok-push : goal.returns-in_ok-push

@@ -1,7 +1,7 @@
 use Rattle.std.proofs.Common.{◌≡◌, ◌<◌, ℕ, None, length, get_or, subst, arith}
 use Rattle.std.proofs.lemmas.Option.{slice_get-get_or}
 use Rattle.isle_blocks.specs.FaultKeys.{FindsFaults}
-use Rattle.isle_blocks.proofs.FaultKeys.{IsCompared, compared_none, compared_more, compared_all}
+use Rattle.isle_blocks.proofs.RuleFaults.FaultKeys.{IsCompared, compared_none, compared_more, compared_all}
 use Rattle.isle_blocks.proofs.faults.push_pairs_of.Goals as goal
 
 pub loop-second-init : goal.loop-second-init

@@ -1,6 +1,6 @@
 use Rattle.isle_blocks.specs.declared.ids.BindingId.{BindingId}
 use Rattle.isle_blocks.specs.FaultKeys.{AreKeys, FindsFaults, IsEarlier}
-use Rattle.isle_blocks.proofs.FaultKeys.{IsCompared}
+use Rattle.isle_blocks.proofs.RuleFaults.FaultKeys.{IsCompared}
 use Rattle.isle_blocks.proofs.faults.push_pairs_of.Given as goal
 
 abbrev pub invariant-loop-second : goal.invariant-loop-second

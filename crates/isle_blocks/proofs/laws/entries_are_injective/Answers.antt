@@ -1,4 +1,4 @@
-use Rattle.isle_blocks.proofs.RowsInjective.{row-injective, test-injective}
+use Rattle.isle_blocks.proofs.Rows.RowsInjective.{row-injective, test-injective}
 use Rattle.isle_blocks.proofs.laws.entries_are_injective.Goals as goal
 
 pub returns-clause-sites : goal.returns-clause-sites

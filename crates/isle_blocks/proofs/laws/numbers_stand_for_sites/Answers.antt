@@ -1,4 +1,4 @@
-use Rattle.isle_blocks.proofs.SetLaws.{numbers_stand, sites_once}
+use Rattle.isle_blocks.proofs.Sets.SetLaws.{numbers_stand, sites_once}
 use Rattle.isle_blocks.proofs.laws.numbers_stand_for_sites.Goals as goal
 
 pub returns-clause-stands : goal.returns-clause-stands

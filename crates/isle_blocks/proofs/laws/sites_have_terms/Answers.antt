@@ -1,4 +1,4 @@
-use Rattle.isle_blocks.proofs.SetLaws as sets
+use Rattle.isle_blocks.proofs.Sets.SetLaws as sets
 use Rattle.isle_blocks.proofs.laws.sites_have_terms.Goals as goal
 
 pub returns : goal.returns

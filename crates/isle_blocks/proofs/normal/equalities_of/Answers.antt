@@ -4,7 +4,7 @@ use Rattle.std.proofs.lemmas.Bool.{false≢true, eqb-true}
 use Rattle.std.proofs.lemmas.Option.{slice_get-get_or}
 use Rattle.isle_blocks.specs.declared.ids.BindingId.{BindingId}
 use Rattle.isle_blocks.specs.ClosureStates.{AreClasses}
-use Rattle.isle_blocks.proofs.NormalSets.{AreSetsBelow, sets_all, sets_skip, sets_more}
+use Rattle.isle_blocks.proofs.Sets.NormalSets.{AreSetsBelow, sets_all, sets_skip, sets_more}
 use Rattle.isle_blocks.specs.declared.constraint.Constraint.{Constraint}
 use Rattle.isle_blocks.specs.Placing.{AreSettled}
 use Rattle.isle_blocks.proofs.normal.equalities_of.Goals as goal

@@ -1,4 +1,4 @@
-use Rattle.isle_blocks.proofs.NormalSets.{AreSetsBelow}
+use Rattle.isle_blocks.proofs.Sets.NormalSets.{AreSetsBelow}
 use Rattle.isle_blocks.proofs.normal.equalities_of.Given as goal
 
 abbrev pub invariant-loop-k : goal.invariant-loop-k

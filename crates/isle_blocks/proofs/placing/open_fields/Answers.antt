@@ -15,8 +15,8 @@ use Rattle.isle_blocks.specs.Closure.{ClosesTo, HasAllFields}
 use Rattle.isle_blocks.specs.FieldOrder.{AreFieldsInOrder}
 use Rattle.isle_blocks.specs.Placing.{GrowsFor, IsPutFirst}
 use Rattle.isle_blocks.specs.MovedSites.{new_number, moved_test, moved_pair, MovesSites}
-use Rattle.isle_blocks.proofs.Placed.{by_number, by_number_injective, after_ok, still_ready, still_recorded}
-use Rattle.isle_blocks.proofs.PlacedRoom.{dead_recorded, recorded_field, closing_lacks_room, moving_lacks_room, closed_grows, moved_grows}
+use Rattle.isle_blocks.proofs.Rows.Placed.{by_number, by_number_injective, after_ok, still_ready, still_recorded}
+use Rattle.isle_blocks.proofs.Rows.PlacedRoom.{dead_recorded, recorded_field, closing_lacks_room, moving_lacks_room, closed_grows, moved_grows}
 use Rattle.isle_blocks.proofs.placing.open_fields.Goals as goal
 
 -- what the calls were lent is what was moved

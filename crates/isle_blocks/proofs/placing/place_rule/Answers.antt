@@ -17,10 +17,10 @@ use Rattle.isle_blocks.specs.Placing.{ForDemandsOf, GrowsFor, IsPutFirst, HasNoR
 use Rattle.isle_blocks.specs.MovedSites.{MovesSites, EndsFull}
 use Rattle.std.proofs.lemmas.Bool.{cases_lt}
 use Rattle.isle_blocks.specs.ClosureFields.{IsTable}
-use Rattle.isle_blocks.proofs.Placed.{by_number, by_number_injective, after_ok, to_at, settled}
+use Rattle.isle_blocks.proofs.Rows.Placed.{by_number, by_number_injective, after_ok, to_at, settled}
 use Rattle.isle_blocks.proofs.Closure.Longer.{stays}
 use Rattle.isle_blocks.proofs.Closure.FieldOrder.{none_added}
-use Rattle.isle_blocks.proofs.PlacedRoom.{dead_recorded, recorded_dead, stays_put, grown_site, own_lacks_room, grown_lacks_room}
+use Rattle.isle_blocks.proofs.Rows.PlacedRoom.{dead_recorded, recorded_dead, stays_put, grown_site, own_lacks_room, grown_lacks_room}
 use Rattle.isle_blocks.proofs.placing.place_rule.Goals as goal
 
 pub returns-in_err-closed-clause-full : goal.returns-in_err-closed-clause-full

@@ -1,6 +1,6 @@
 use Rattle.std.proofs.Common.{◌≡◌, length, sym, ◌∙◌, arith}
 use Rattle.std.proofs.lemmas.Bool.{false≢true}
-use Rattle.isle_blocks.proofs.Grouping.{best_takes, best_keeps, greatest_from_best}
+use Rattle.isle_blocks.proofs.RuleFaults.Grouping.{best_takes, best_keeps, greatest_from_best}
 use Rattle.isle_blocks.proofs.report.greatest.Goals as goal
 use Rattle.isle_blocks.proofs.report.greatest.Goals.{then-is_below, else-is_below}
 

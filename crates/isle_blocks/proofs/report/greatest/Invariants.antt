@@ -1,4 +1,4 @@
-use Rattle.isle_blocks.proofs.Grouping.{IsBest}
+use Rattle.isle_blocks.proofs.RuleFaults.Grouping.{IsBest}
 use Rattle.isle_blocks.proofs.report.greatest.Given as goal
 
 abbrev pub invariant-loop-place : goal.invariant-loop-place

@@ -1,4 +1,4 @@
-use Rattle.isle_blocks.proofs.Grouping.{head_is, some_place}
+use Rattle.isle_blocks.proofs.RuleFaults.Grouping.{head_is, some_place}
 use Rattle.isle_blocks.proofs.report.head_of.Goals as goal
 
 pub greatest-requires-clause-some : goal.greatest-requires-clause-some

@@ -1,6 +1,6 @@
 use Rattle.std.proofs.Common.{inl, inr}
 use Rattle.std.proofs.lemmas.Bool.Decides.{Decides-ltb}
-use Rattle.isle_blocks.proofs.Grouping.{below_by_count}
+use Rattle.isle_blocks.proofs.RuleFaults.Grouping.{below_by_count}
 use Rattle.isle_blocks.proofs.report.is_below.Goals as goal
 
 pub returns-else-counts-first : goal.returns-else-counts-first

@@ -1,6 +1,6 @@
 use Rattle.std.proofs.Common.{◌<◌, ◌++◌, ◌∷◌, [], length, get_or, sym, ap, ◌∙◌, arith}
 use Rattle.std.proofs.lemmas.Option.{slice_get-get_or}
-use Rattle.isle_blocks.proofs.Grouping.{positions_some, positions_none, partner_in_range, any_place}
+use Rattle.isle_blocks.proofs.RuleFaults.Grouping.{positions_some, positions_none, partner_in_range, any_place}
 use Rattle.isle_blocks.proofs.report.others_of.Goals as goal
 use Rattle.isle_blocks.proofs.report.others_of.Goals.{in-Some+in_ok-push, in_default}
 

@@ -1,5 +1,5 @@
 use Rattle.std.proofs.Common.{take}
-use Rattle.isle_blocks.proofs.Grouping.{AreCounts}
+use Rattle.isle_blocks.proofs.RuleFaults.Grouping.{AreCounts}
 use Rattle.isle_blocks.proofs.report.partner_counts.Given as goal
 
 abbrev pub invariant-loop-pair : goal.invariant-loop-pair

@@ -1,6 +1,6 @@
 use Rattle.std.proofs.Common.{◌<◌, arith}
 use Rattle.isle_blocks.specs.Reports.{partner_count, IsGreatest, IsGroup}
-use Rattle.isle_blocks.proofs.Grouping.{fewer_without, grouping_step, grouping_end, none_left}
+use Rattle.isle_blocks.proofs.RuleFaults.Grouping.{fewer_without, grouping_step, grouping_end, none_left}
 use Rattle.isle_blocks.proofs.report.push_groups.Goals as goal
 
 pub groups-smaller : goal.groups-smaller

@@ -1,5 +1,5 @@
 use Rattle.std.proofs.Common.{length}
-use Rattle.isle_blocks.proofs.Grouping.{IsGrouping}
+use Rattle.isle_blocks.proofs.RuleFaults.Grouping.{IsGrouping}
 use Rattle.isle_blocks.proofs.report.push_groups.Given as goal
 
 abbrev pub invariant-groups : goal.invariant-groups

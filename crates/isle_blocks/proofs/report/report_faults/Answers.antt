@@ -2,7 +2,7 @@ use Rattle.std.proofs.Common.{List, Result, Ok, Err, IfOk, map, subst, ap, ◌�
 use Rattle.isle_blocks.specs.declared.faults.Fault.TheVariants.{Overlap}
 use Rattle.isle_blocks.specs.declared.report.Group.{Group}
 use Rattle.isle_blocks.specs.Reports.{AddsGroups, error_of}
-use Rattle.isle_blocks.proofs.SortedGroups.{report_is}
+use Rattle.isle_blocks.proofs.RuleFaults.SortedGroups.{report_is}
 use Rattle.isle_blocks.proofs.report.report_faults.Goals as goal
 
 if_ok : {T E : Type 0} {P Q : T → Type 0} (r : Result T E) → ((v : T) → P v → Q v) → IfOk r P → IfOk r Q

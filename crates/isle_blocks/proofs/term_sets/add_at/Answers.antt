@@ -1,8 +1,8 @@
 use Rattle.std.proofs.Common.{length, get_or, inl, inr, refl, ◌∙◌, ap}
 use Rattle.std.proofs.lemmas.Option.{slice_get_read}
 use Rattle.isle_types.proofs.Reading.{fault_weaker}
-use Rattle.isle_blocks.proofs.SizeFaults.{one_size_fault}
-use Rattle.isle_blocks.proofs.GatheredRules.{defined_at, term_within, gather_next, lost_next}
+use Rattle.isle_blocks.proofs.RuleFaults.SizeFaults.{one_size_fault}
+use Rattle.isle_blocks.proofs.Sets.GatheredRules.{defined_at, term_within, gather_next, lost_next}
 use Rattle.isle_blocks.proofs.term_sets.add_at.Goals.{then-not-added, else-not-added}
 use Rattle.isle_blocks.proofs.term_sets.add_at.Goals as goal
 

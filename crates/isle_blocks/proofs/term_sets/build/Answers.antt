@@ -12,10 +12,10 @@ use Rattle.isle_blocks.specs.Building.Contents.{Marked}
 use Rattle.isle_blocks.specs.DefinedSets.{facts_by, rules_by}
 use Rattle.isle_blocks.specs.RuleFaults.{IsUnreachableAt}
 use Rattle.isle_blocks.proofs.Closure.Loops.{get_or-replicate}
-use Rattle.isle_blocks.proofs.DefinedSets.{zip_map}
-use Rattle.isle_blocks.proofs.GatheredRules.{root_within, term_within}
-use Rattle.isle_blocks.proofs.SetsOfTerms.{all_places, sets_all, lost_all}
-use Rattle.isle_blocks.proofs.SizeFaults.{none_within}
+use Rattle.isle_blocks.proofs.Sets.DefinedSets.{zip_map}
+use Rattle.isle_blocks.proofs.Sets.GatheredRules.{root_within, term_within}
+use Rattle.isle_blocks.proofs.Sets.SetsOfTerms.{all_places, sets_all, lost_all}
+use Rattle.isle_blocks.proofs.RuleFaults.SizeFaults.{none_within}
 use Rattle.isle_blocks.proofs.term_sets.build.Goals as goal
 
 -- no mark is set yet

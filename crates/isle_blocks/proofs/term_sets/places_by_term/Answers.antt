@@ -5,7 +5,7 @@ use Rattle.isle_types.proofs.Zipped.{all_at}
 use Rattle.isle_terms.specs.declared.rules.Rule.{Rule}
 use Rattle.isle_blocks.specs.DefinedSets.{ListsNumbers}
 use Rattle.isle_blocks.specs.GatheredSets.{IsOfTerm}
-use Rattle.isle_blocks.proofs.ListedNumbers.{rows_next, numbers_all, Below}
+use Rattle.isle_blocks.proofs.Sets.ListedNumbers.{rows_next, numbers_all, Below}
 use Rattle.isle_blocks.proofs.term_sets.places_by_term.Goals as goal
 
 pub loop-place-preserved : goal.loop-place-preserved

@@ -7,8 +7,8 @@ use Rattle.isle_types.proofs.Reading.{fault_weaker}
 use Rattle.isle_blocks.specs.RuleSets.{RulesOverSites}
 use Rattle.isle_blocks.specs.ClosureFields.{IsTable}
 use Rattle.isle_blocks.specs.GatheredSets.{GathersRules, none_gathered, MarksThose, AreLost, IsOfTerm}
-use Rattle.isle_blocks.proofs.GatheredRules.{no_lost, lost_more, empty_table}
-use Rattle.isle_blocks.proofs.ListedNumbers.{listed_before}
+use Rattle.isle_blocks.proofs.Sets.GatheredRules.{no_lost, lost_more, empty_table}
+use Rattle.isle_blocks.proofs.Sets.ListedNumbers.{listed_before}
 use Rattle.isle_blocks.proofs.term_sets.rule_set_of.Goals as goal
 
 pub loop-place-init : goal.loop-place-init

@@ -9,9 +9,9 @@ use Rattle.isle_terms.specs.declared.rules.Rule.{Rule}
 use Rattle.isle_blocks.specs.RuleSets.{RulesOverSites}
 use Rattle.isle_blocks.specs.DefinedSets.{ListsNumbers, facts_by, rules_by}
 use Rattle.isle_blocks.specs.GatheredSets.{AreSetsBelow, MarksThose, IsLostBelow, IsOfTerm}
-use Rattle.isle_blocks.proofs.DefinedSets.{set_is}
-use Rattle.isle_blocks.proofs.SetsOfTerms.{all_listed, has_rules, has_no_rules, sets_none, sets_skip, sets_push, lost_none, lost_skip, lost_next_term}
-use Rattle.isle_blocks.proofs.SizeFaults.{none_within, within_next, all_within}
+use Rattle.isle_blocks.proofs.Sets.DefinedSets.{set_is}
+use Rattle.isle_blocks.proofs.Sets.SetsOfTerms.{all_listed, has_rules, has_no_rules, sets_none, sets_skip, sets_push, lost_none, lost_skip, lost_next_term}
+use Rattle.isle_blocks.proofs.RuleFaults.SizeFaults.{none_within, within_next, all_within}
 use Rattle.isle_blocks.proofs.term_sets.rule_sets.Goals as goal
 
 -- what is said of the list at a place is said of its slice

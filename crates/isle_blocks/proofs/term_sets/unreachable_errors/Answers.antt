@@ -5,7 +5,7 @@ use Rattle.isle_syntax.specs.declared.error.Error.{Error}
 use Rattle.isle_terms.specs.TypedRules.{TypedRule}
 use Rattle.isle_terms.specs.declared.rules.Rule.{Rule}
 use Rattle.isle_blocks.specs.RuleFaults.{TellUnreachable, no_rules_told, unreachable_error}
-use Rattle.isle_blocks.proofs.UnreachableErrors.{next_may, next_never, as_long}
+use Rattle.isle_blocks.proofs.RuleFaults.UnreachableErrors.{next_may, next_never, as_long}
 use Rattle.isle_blocks.proofs.term_sets.unreachable_errors.Goals.{then-lost-place+in_ok-unreachable_at+in_ok-push, else-lost-place}
 use Rattle.isle_blocks.proofs.term_sets.unreachable_errors.Goals as goal
 

@@ -2,7 +2,7 @@ use Rattle.std.proofs.Common.{List, take}
 use Rattle.isle_terms.specs.TypedRules.{TypedRule}
 use Rattle.isle_meaning.specs.Facts.{TermFacts}
 use Rattle.isle_blocks.specs.RuleFaults.{TellUnreachable}
-use Rattle.isle_blocks.proofs.UnreachableErrors.{Tells}
+use Rattle.isle_blocks.proofs.RuleFaults.UnreachableErrors.{Tells}
 use Rattle.isle_blocks.proofs.term_sets.unreachable_errors.Given as goal
 
 abbrev pub invariant-loop-place : goal.invariant-loop-place

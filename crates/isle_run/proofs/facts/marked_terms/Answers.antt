@@ -3,7 +3,7 @@ use Rattle.std.proofs.lemmas.List.{map-append}
 use Rattle.isle_types.specs.declared.ids.TermId.{TermId}
 use Rattle.isle_blocks.specs.Building.Contents.{Marked}
 use Rattle.isle_blocks.specs.DefinedSets.{ListsNumbers}
-use Rattle.isle_blocks.proofs.ListedNumbers.{Below, numbers_none, numbers_push, numbers_skip, numbers_all}
+use Rattle.isle_blocks.proofs.Sets.ListedNumbers.{Below, numbers_none, numbers_push, numbers_skip, numbers_all}
 use Rattle.isle_run.specs.Facts.Asked.{term_number}
 use Rattle.isle_run.proofs.ProgramFacts.Spreading.{marked_within}
 use Rattle.isle_run.proofs.facts.marked_terms.Goals as goal

@@ -4,7 +4,7 @@ use Rattle.std.proofs.lemmas.Result.{IfOk-weaker}
 use Rattle.isle_types.specs.declared.ids.TermId.{TermId}
 use Rattle.isle_blocks.specs.Building.Contents.{Marked}
 use Rattle.isle_blocks.specs.DefinedSets.{ListsNumbers}
-use Rattle.isle_blocks.proofs.ListedNumbers.{numbers_same}
+use Rattle.isle_blocks.proofs.Sets.ListedNumbers.{numbers_same}
 use Rattle.isle_run.specs.Facts.Asked.{term_number, AreRoots}
 use Rattle.isle_run.specs.Facts.Reach.{is_root}
 use Rattle.isle_run.proofs.ProgramFacts.ListedTerms.{are_roots}

@@ -1,7 +1,7 @@
 use Rattle.std.proofs.Common.{◌+◌, ◌++◌, ◌∷◌, [], inl, inr, List, sym, ap, subst, ◌∙◌, arith}
 use Rattle.std.proofs.lemmas.Bool.{eqb-true, eqb-false}
 use Rattle.isle_blocks.specs.declared.ids.BindingId.{BindingId}
-use Rattle.isle_blocks.proofs.ListedSets.{AreListedBelow, Takes, none_listed, nothing_taken, one_taken, all_listed}
+use Rattle.isle_blocks.proofs.Sets.ListedSets.{AreListedBelow, Takes, none_listed, nothing_taken, one_taken, all_listed}
 use Rattle.isle_blocks.proofs.rule.Rule.equal_sites.Goals.{then-not-is_empty+in_ok-push, else-not-is_empty}
 use Rattle.isle_blocks.proofs.rule.Rule.equal_sites.Goals.{else-loop-number-test, then-loop-number-test+then-is_empty}
 use Rattle.isle_blocks.proofs.rule.Rule.equal_sites.Goals as goal

@@ -1,4 +1,4 @@
-use Rattle.isle_blocks.proofs.ListedSets.{AreListedBelow}
+use Rattle.isle_blocks.proofs.Sets.ListedSets.{AreListedBelow}
 use Rattle.isle_blocks.proofs.rule.Rule.equal_sites.Given as goal
 
 abbrev pub invariant-loop-number : goal.invariant-loop-number

@@ -1,7 +1,7 @@
 use Rattle.std.proofs.Common.{ℕ, List, subst, sym, arith, ◌+◌}
 use Rattle.isle_blocks.specs.Building.Contents.{Marked}
 use Rattle.isle_blocks.specs.DefinedSets.{ListsNumbers}
-use Rattle.isle_blocks.proofs.ListedNumbers.{Below, numbers_none, numbers_push, numbers_skip, numbers_all}
+use Rattle.isle_blocks.proofs.Sets.ListedNumbers.{Below, numbers_none, numbers_push, numbers_skip, numbers_all}
 use Rattle.isle_run.proofs.ProgramFacts.Spreading.{marked_within}
 use Rattle.isle_run.proofs.facts.spreading.marked_numbers.Goals as goal
 use Rattle.isle_run.proofs.facts.spreading.marked_numbers.Goals.{then-marks-n+in_ok-push, else-marks-n}

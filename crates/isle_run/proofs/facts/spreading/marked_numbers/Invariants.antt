@@ -1,6 +1,6 @@
 use Rattle.isle_blocks.specs.Building.Contents.{Marked}
 use Rattle.isle_blocks.specs.DefinedSets.{ListsNumbers}
-use Rattle.isle_blocks.proofs.ListedNumbers.{Below}
+use Rattle.isle_blocks.proofs.Sets.ListedNumbers.{Below}
 use Rattle.isle_run.proofs.facts.spreading.marked_numbers.Given as goal
 
 abbrev pub invariant-loop-n : goal.invariant-loop-n

@@ -1,0 +1,5 @@
+use Rattle.isle_trees.proofs.Whole.{whole_asked}
+use Rattle.isle_trees.proofs.trees_bind_what_rules_have.Goals as goal
+
+pub returns : goal.returns
+returns g c = whole_asked
