@@ -167,19 +167,21 @@ abbrev pub made_more : Option ℕ → List ℕ → ℕ → ℕ → List ℕ
 made_more None list x s = list
 made_more (Some t) list x s = added_at list t x s
 
--- two wants are tests, of which the first is the lesser; two wants are one test
+-- wants in their order: none, the tests by their order, one value
 abbrev pub lesser_want : {C V : Type 0} → Tests C V → Option (Want C) → Option (Want C) → Bool
+lesser_want T None None = false
+lesser_want T None (Some w) = true
+lesser_want T (Some w) None = false
 lesser_want T (Some (has c)) (Some (has d)) = not (T.at_most d c)
-lesser_want T (Some (has c)) (Some one_value) = false
-lesser_want T (Some (has c)) None = false
-lesser_want T (Some one_value) o = false
-lesser_want T None o = false
+lesser_want T (Some (has c)) (Some one_value) = true
+lesser_want T (Some one_value) (Some w) = false
 
 abbrev pub same_wants : {C V : Type 0} → Tests C V → Option (Want C) → Option (Want C) → Bool
-same_wants T None o = false
+same_wants T None None = true
+same_wants T None (Some w) = false
 same_wants T (Some w) o = is_want T w o
 
--- the first rule wants the lesser test of the site, or the same and precedes
+-- the first rule has the lesser want of the site, or the same and precedes
 abbrev pub comes_first : {C V : Type 0} → Rules C V → ℕ → ℕ → ℕ → Bool
 comes_first R s i j = lesser_want R.tests (R.at i s) (R.at j s) || (same_wants R.tests (R.at i s) (R.at j s) && precedes R i j)
 
@@ -187,6 +189,10 @@ comes_first R s i j = lesser_want R.tests (R.at i s) (R.at j s) || (same_wants R
 abbrev pub AreGrouped : {C V : Type 0} → Rules C V → ℕ → List ℕ → Type 0
 AreGrouped R s [] = Unit {0}
 AreGrouped R s (i ∷ is) = ((j : ℕ) → Elem j is → comes_first R s i j ≡ true) × AreGrouped R s is
+
+-- each of the rules wants a test of the site
+abbrev pub AllWant : {C V : Type 0} → Rules C V → List ℕ → ℕ → Type 0
+AllWant {C} R left s = (i : ℕ) → Elem i left → (c : C) × (R.at i s ≡ Some (has c))
 
 -- the rules at the front that want a test
 abbrev pub front : {C V : Type 0} → Rules C V → ℕ → C → List ℕ → List ℕ

@@ -1,0 +1,392 @@
+//! The best test of the rules left.
+ghost use Rattle.std.specs.Prelude.{◌≡◌, ◌≤◌, ◌++◌, ◌<◌, length, map, IfOk, MatchOption};
+ghost use Rattle.std.specs.List.{flat_map};
+ghost use Rattle.isle_trees.specs.Builds.{IsBest, HasNoTest, key};
+ghost use Rattle.isle_trees.specs.Ranking.{IsNoBetter, IsRanked};
+ghost use Rattle.isle_trees.specs.Rules.{Elem};
+ghost use Rattle.isle_trees.specs.Scopes.{IsReady, Test as AnyTest, counted, others, on_match, on_loop, on_equal};
+ghost use Rattle.isle_trees.specs.Search.{AreMarked, AreOffers, AreSound, ArePartsFirst, IsInOrder, can_bind, is_made, is_open, is_ready};
+ghost use Rattle.isle_blocks.specs.Rows.{numbers_of};
+ghost use Rattle.isle_blocks.specs.Trees.Builder.{IsFit, IsIndexOf, IsSerializable, best_shown, key_shown, offered, offered_in, offered_of, offered_with};
+ghost use Rattle.isle_blocks.specs.Trees.Builder.{rules_in, scope_of, test_shown, tests_shown};
+
+use crate::ids::BindingId;
+use crate::rule::Rule;
+use crate::rule_set::RuleSet;
+use crate::serialize::index::Index;
+use crate::serialize::known::{Key, Known, Ranked, Test, all_set, better, is_set};
+use isle_syntax::Seq;
+use std::alloc::{AllocError, Global};
+
+impl RuleSet {
+    /// Whether the test that makes a site has passed; other sites are made by none.
+    fn is_made(&self, index: &Index, known: &Known, site: BindingId) -> bool
+        requires index { IsIndexOf self.now (length self.now.sites) index.now }
+        requires site { site.0 < length self.now.sites }
+        requires fit { IsFit self.now (length self.now.sites) known.now }
+        ensures { result ≡ is_made (rules_in self.now).tests (scope_of self.now known.now) ((rules_in self.now).made site.0) }
+    {
+        let Some(source) = self.source(site) else {
+            return true;
+        };
+        match (index.opener(site), known.passed(source)) {
+            (Some(opener), Some(rule)) => self.same_want(opener, rule, source),
+            _ => false,
+        }
+    }
+
+    fn can_bind(&self, index: &Index, known: &Known, marks: &[bool], site: BindingId) -> bool
+        requires index { IsIndexOf self.now (length self.now.sites) index.now }
+        requires site { site.0 < length self.now.sites }
+        requires fit { IsFit self.now (length self.now.sites) known.now }
+        ensures { result ≡ can_bind (rules_in self.now) (scope_of self.now known.now) marks.now site.0 }
+    {
+        self.is_made(index, known, site) && all_set(marks, self.parts(site))
+    }
+
+    /// Marks the sites of a list that can be bound.
+    fn mark(&self, index: &Index, sites: &[BindingId], known: &Known, marks: &mut Vec<bool>)
+        requires index { IsIndexOf self.now (length self.now.sites) index.now }
+        requires fit { IsFit self.now (length self.now.sites) known.now }
+        requires size { length marks.old.items ≡ length self.now.sites }
+        requires below { AllBelow (numbers_of sites.now) (length self.now.sites) }
+        requires first { ArePartsFirst (rules_in self.now) (numbers_of sites.now) }
+        requires sound { AreSound (rules_in self.now) (scope_of self.now known.now) marks.old.items }
+        ensures sound { AreSound (rules_in self.now) (scope_of self.now known.now) marks.new.items }
+        ensures full { (s : ℕ) → Elem s (numbers_of sites.now) → IsAvailable (rules_in self.now) (scope_of self.now known.now) s
+            → is_marked marks.new.items s ≡ true }
+        ensures kept { (s : ℕ) → is_marked marks.old.items s ≡ true → is_marked marks.new.items s ≡ true }
+        ensures size { length marks.new.items ≡ length marks.old.items }
+    {
+        for site in sites {
+            if self.can_bind(index, known, marks, *site) {
+                marks[site.index()] = true;
+            }
+        }
+    }
+
+    /// The sites that the tests of the rules left ask, where they are available; those above stay so.
+    pub(crate) fn available(
+        &self,
+        alloc: Global,
+        index: &Index,
+        left: &[usize],
+        known: &Known,
+        above: &[bool],
+    ) -> Result<Vec<bool>, AllocError>
+        requires index { IsIndexOf self.now (length self.now.sites) index.now }
+        requires fit { IsFit self.now (length self.now.sites) known.now }
+        requires size { length above.now ≡ length self.now.sites }
+        requires sound { AreSound (rules_in self.now) (scope_of self.now known.now) above.now }
+        ensures size { IfOk result (λ v. length v.items ≡ length self.now.sites) }
+        ensures marked { IfOk result (λ v. AreMarked (rules_in self.now) left.now (scope_of self.now known.now) v.items) }
+    {
+        let mut marks = Vec::from_slice(alloc, above)?;
+        for rule in left {
+            self.mark(index, index.asked(*rule), known, &mut marks);
+        }
+        Ok(marks)
+    }
+
+    /// Whether a site is available and not tested.
+    fn is_open(&self, known: &Known, marks: &[bool], site: BindingId) -> bool
+        requires fit { IsFit self.now (length self.now.sites) known.now }
+        ensures { result ≡ is_open (scope_of self.now known.now) marks.now site.0 }
+    {
+        is_set(marks, site) && known.passed(site).is_none()
+    }
+
+    /// Whether a test can be made.
+    fn is_ready(&self, known: &Known, marks: &[bool], test: Test) -> bool
+        requires fit { IsFit self.now (length self.now.sites) known.now }
+        ensures { result ≡ is_ready (scope_of self.now known.now) marks.now (test_shown test) }
+    {
+        match test {
+            Test::Match(site) => self.is_open(known, marks, site),
+            Test::Equal(a, b) => {
+                a < b
+                    && (self.is_open(known, marks, a)
+                        && (self.is_open(known, marks, b) && known.label(a) != known.label(b)))
+            }
+            Test::Loop(site) => self.is_open(known, marks, site),
+        }
+    }
+
+    /// Adds a test, where it can be made.
+    fn offer(
+        &self,
+        known: &Known,
+        marks: &[bool],
+        test: Test,
+        offers: &mut Vec<Test>,
+    ) -> Result<(), AllocError>
+        requires fit { IsFit self.now (length self.now.sites) known.now }
+        ensures { IfOk result (λ _. tests_shown offers.new.items ≡ tests_shown offers.old.items
+            ++ offered (scope_of self.now known.now) marks.now (test_shown test)) }
+    {
+        if self.is_ready(known, marks, test) {
+            offers.push(test)?;
+        }
+        Ok(())
+    }
+
+    /// The tests of a rule's sites.
+    fn offer_tests(
+        &self,
+        known: &Known,
+        marks: &[bool],
+        rule: &Rule,
+        offers: &mut Vec<Test>,
+    ) -> Result<(), AllocError>
+        requires fit { IsFit self.now (length self.now.sites) known.now }
+        ensures { IfOk result (λ _. tests_shown offers.new.items ≡ tests_shown offers.old.items
+            ++ flat_map (λ e. offered (scope_of self.now known.now) marks.now (on_match e.0.0)) rule.now.constraints) }
+    {
+        for place in 0..rule.constraints.len() {
+            let (site, _) = rule.constraints.entry(place).unwrap();
+            self.offer(known, marks, Test::Match(*site), offers)?;
+        }
+        Ok(())
+    }
+
+    /// One value of each multi call that a rule uses.
+    fn offer_loops(
+        &self,
+        known: &Known,
+        marks: &[bool],
+        loops: &[BindingId],
+        offers: &mut Vec<Test>,
+    ) -> Result<(), AllocError>
+        requires fit { IsFit self.now (length self.now.sites) known.now }
+        ensures { IfOk result (λ _. tests_shown offers.new.items ≡ tests_shown offers.old.items
+            ++ flat_map (λ s. offered (scope_of self.now known.now) marks.now (on_loop s.0)) loops.now) }
+    {
+        for site in loops {
+            self.offer(known, marks, Test::Loop(*site), offers)?;
+        }
+        Ok(())
+    }
+
+    /// The equalities of a site with the sites of its class.
+    fn offer_with(
+        &self,
+        known: &Known,
+        marks: &[bool],
+        a: BindingId,
+        class: &[BindingId],
+        offers: &mut Vec<Test>,
+    ) -> Result<(), AllocError>
+        requires fit { IsFit self.now (length self.now.sites) known.now }
+        ensures { IfOk result (λ _. tests_shown offers.new.items ≡ tests_shown offers.old.items
+            ++ offered_with (scope_of self.now known.now) marks.now (numbers_of class.now) a.0) }
+    {
+        for b in class {
+            self.offer(known, marks, Test::Equal(a, *b), offers)?;
+        }
+        Ok(())
+    }
+
+    /// The equalities of a class.
+    fn offer_class(
+        &self,
+        known: &Known,
+        marks: &[bool],
+        class: &[BindingId],
+        offers: &mut Vec<Test>,
+    ) -> Result<(), AllocError>
+        requires fit { IsFit self.now (length self.now.sites) known.now }
+        ensures { IfOk result (λ _. tests_shown offers.new.items ≡ tests_shown offers.old.items
+            ++ offered_in (scope_of self.now known.now) marks.now class.now) }
+    {
+        for a in class {
+            self.offer_with(known, marks, *a, class, offers)?;
+        }
+        Ok(())
+    }
+
+    fn offer_classes(
+        &self,
+        known: &Known,
+        marks: &[bool],
+        classes: &[Seq<BindingId>],
+        offers: &mut Vec<Test>,
+    ) -> Result<(), AllocError>
+        requires fit { IsFit self.now (length self.now.sites) known.now }
+        ensures { IfOk result (λ _. tests_shown offers.new.items ≡ tests_shown offers.old.items
+            ++ flat_map (offered_in (scope_of self.now known.now) marks.now) classes.now) }
+    {
+        for class in classes {
+            self.offer_class(known, marks, class.as_slice(), offers)?;
+        }
+        Ok(())
+    }
+
+    /// The tests of a rule that can be made.
+    fn offer_rule(
+        &self,
+        known: &Known,
+        marks: &[bool],
+        rule: &Rule,
+        classes: &[Seq<BindingId>],
+        offers: &mut Vec<Test>,
+    ) -> Result<(), AllocError>
+        requires fit { IsFit self.now (length self.now.sites) known.now }
+        ensures { IfOk result (λ _. tests_shown offers.new.items ≡ tests_shown offers.old.items
+            ++ offered_of (scope_of self.now known.now) marks.now rule.now classes.now) }
+    {
+        self.offer_tests(known, marks, rule, offers)?;
+        self.offer_loops(known, marks, rule.iterators.as_slice(), offers)?;
+        self.offer_classes(known, marks, classes, offers)
+    }
+
+    /// The same of a rule by its number.
+    fn offer_rule_at(
+        &self,
+        index: &Index,
+        known: &Known,
+        marks: &[bool],
+        rule: usize,
+        offers: &mut Vec<Test>,
+    ) -> Result<(), AllocError>
+        requires index { IsIndexOf self.now (length self.now.sites) index.now }
+        requires fit { IsFit self.now (length self.now.sites) known.now }
+        ensures { IfOk result (λ _. AddsOffers (rules_in self.now) (scope_of self.now known.now) marks.now rule
+            (tests_shown offers.old.items) (tests_shown offers.new.items)) }
+    {
+        match self.rules().get(rule) {
+            Some(r) => self.offer_rule(known, marks, r, index.classes(rule), offers),
+            None => Ok(()),
+        }
+    }
+
+    /// The tests of the top rules that can be made.
+    fn offers(
+        &self,
+        alloc: Global,
+        index: &Index,
+        left: &[usize],
+        known: &Known,
+        marks: &[bool],
+    ) -> Result<Vec<Test>, AllocError>
+        requires index { IsIndexOf self.now (length self.now.sites) index.now }
+        requires fit { IsFit self.now (length self.now.sites) known.now }
+        requires order { IsInOrder (rules_in self.now) left.now }
+        ensures { IfOk result (λ v. AreOffers (rules_in self.now) left.now (scope_of self.now known.now) marks.now (tests_shown v.items)) }
+    {
+        let top = self.top(left);
+        let mut offers = Vec::new(alloc);
+        for rule in left {
+            if self.priority(*rule) < top {
+                return Ok(offers);
+            }
+            self.offer_rule_at(index, known, marks, *rule, &mut offers)?;
+        }
+        Ok(offers)
+    }
+
+    /// How a test is ranked.
+    fn key(&self, left: &[usize], known: &Known, test: Test) -> Key
+        requires order { IsInOrder (rules_in self.now) left.now }
+        ensures { key_shown result ≡ key (rules_in self.now) left.now (scope_of self.now known.now) (test_shown test) }
+    {
+        known.key_with(self.count(test, left), test)
+    }
+
+    /// The better of the best test so far and one more.
+    fn consider(
+        &self,
+        left: &[usize],
+        known: &Known,
+        best: Option<Ranked>,
+        test: Test,
+        most: usize,
+    ) -> Option<Ranked>
+        requires order { IsInOrder (rules_in self.now) left.now }
+        requires ready { IsReady (rules_in self.now) (scope_of self.now known.now) (test_shown test) }
+        requires most { length (counted (rules_in self.now) (test_shown test) left.now) ≤ most }
+        requires ranked { IsRanked (rules_in self.now) left.now (scope_of self.now known.now) (best_shown best) }
+        ensures ranked { IsRanked (rules_in self.now) left.now (scope_of self.now known.now) (best_shown result) }
+        ensures new { IsNoBetter (rules_in self.now) left.now (scope_of self.now known.now) (best_shown result) (test_shown test) }
+        ensures old { (u : AnyTest) → IsNoBetter (rules_in self.now) left.now (scope_of self.now known.now) (best_shown best) u
+            → IsNoBetter (rules_in self.now) left.now (scope_of self.now known.now) (best_shown result) u }
+    {
+        if !known.may_win(best, test, most) {
+            return best;
+        }
+        let key = self.key(left, known, test);
+        better(best, Ranked { test, key })
+    }
+
+    /// No test counts more rules than there are that have it.
+    fn most(&self, index: &Index, left: &[usize], test: Test) -> usize
+        requires order { IsInOrder (rules_in self.now) left.now }
+        requires index { IsIndexOf self.now (length self.now.sites) index.now }
+        ensures { length (counted (rules_in self.now) (test_shown test) left.now) ≤ result }
+    {
+        index.users(test.first()).len()
+    }
+
+    /// The best test, where one is left.
+    pub(crate) fn best(
+        &self,
+        alloc: Global,
+        index: &Index,
+        left: &[usize],
+        known: &Known,
+        marks: &[bool],
+    ) -> Result<Option<Test>, AllocError>
+        requires set { IsSerializable self.now }
+        requires index { IsIndexOf self.now (length self.now.sites) index.now }
+        requires fit { IsFit self.now (length self.now.sites) known.now }
+        requires order { IsInOrder (rules_in self.now) left.now }
+        requires marked { AreMarked (rules_in self.now) left.now (scope_of self.now known.now) marks.now }
+        ensures { IfOk result (λ b. MatchOption b (HasNoTest (rules_in self.now) left.now (scope_of self.now known.now))
+            (λ t. IsBest (rules_in self.now) left.now (scope_of self.now known.now) (test_shown t))) }
+    {
+        let offers = distinct(self.offers(alloc, index, left, known, marks)?);
+        let mut best = None;
+        for test in &offers {
+            let most = self.most(index, left, *test);
+            best = self.consider(left, known, best, *test, most);
+        }
+        match best {
+            None => Ok(None),
+            Some(ranked) => Ok(Some(ranked.test)),
+        }
+    }
+
+    /// The rules that a test counts, and the others, in order.
+    pub(crate) fn split(
+        &self,
+        alloc: Global,
+        test: Test,
+        left: &[usize],
+    ) -> Result<(Vec<usize>, Vec<usize>), AllocError>
+        requires order { IsInOrder (rules_in self.now) left.now }
+        ensures counted { IfOk result (λ p. p.0.items ≡ counted (rules_in self.now) (test_shown test) left.now) }
+        ensures others { IfOk result (λ p. p.1.items ≡ others (rules_in self.now) (test_shown test) left.now) }
+    {
+        let floor = self.floor(test, left);
+        let mut chosen = Vec::new(alloc);
+        let mut rest = Vec::new(alloc);
+        for rule in left {
+            if self.picks(test, floor, *rule) {
+                chosen.push(*rule)?;
+            } else {
+                rest.push(*rule)?;
+            }
+        }
+        Ok((chosen, rest))
+    }
+}
+
+/// Each test once.
+fn distinct(offers: Vec<Test>) -> Vec<Test>
+    ensures keeps { (t : AnyTest) → Elem t (tests_shown offers.items) → Elem t (tests_shown result.items) }
+    ensures adds_none { (t : AnyTest) → Elem t (tests_shown result.items) → Elem t (tests_shown offers.items) }
+{
+    let mut offers = offers;
+    offers.sort_unstable();
+    offers.dedup();
+    offers
+}

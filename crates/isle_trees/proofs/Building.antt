@@ -1,0 +1,29 @@
+-- What the builder's code needs.
+-- Members of lists.
+pub mod Lists
+-- Rules left in another order.
+pub mod Reorder
+-- Rules in order.
+pub mod InOrder
+-- What a test counts among them.
+pub mod Search
+-- The best test so far.
+pub mod Best
+-- A sort puts rules in order.
+pub mod Ordered
+-- How many rules a test may count.
+pub mod Bound
+-- The tests that the top rules offer.
+pub mod Offers
+-- Rules by what they want of a site.
+pub mod Runs
+-- What a path knows, as lists keep it.
+pub mod Scopes
+-- What is marked as available.
+pub mod Marks
+-- What is known past a test.
+pub mod Enter
+-- Sites bound in order.
+pub mod Emission
+-- Sites with what they are made of.
+pub mod Gathering
