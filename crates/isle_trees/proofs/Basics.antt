@@ -6,7 +6,7 @@ use Rattle.std.specs.List.{filter, list_all}
 use Rattle.isle_trees.specs.Got.{Got, unknown, fails, gives}
 use Rattle.isle_trees.specs.Answers.{HasValue, has_value}
 use Rattle.isle_trees.specs.Premises.{IsWellMade}
-use Rattle.isle_trees.specs.Rules.{Want, has, one_value, Source, Rules, Elem, passes_got, alike_got, Meets}
+use Rattle.isle_trees.specs.Rules.{Tests, Want, has, one_value, Source, Rules, Elem, passes_got, alike_got, Meets}
 use Rattle.isle_trees.specs.Scopes.{same_want, is_want, is_source, Test, is_test, is_one, has_test, allows, counts, counted, others}
 
 pub true_or : (b : Bool) → (b ≡ true) ⊎ (b ≡ false)
@@ -153,37 +153,64 @@ alike_sound R fails h w e = cc
 pub alike_full : {C V : Type 0} (R : Rules C V) (g h : Got V) → IsWellMade R → HasValue g → g ≡ h → alike_got R g h ≡ true
 alike_full R g h w given e = rw (sym e) (rw (given.1) (w.exact.alike_self (given.0)))
 
--- wants
+-- wants, where `same` tells tests apart
+abbrev pub SameIs : {C V : Type 0} → Tests C V → Type 0
+SameIs {C} T = (c d : C) → T.same c d ≡ true → c ≡ d
+
+abbrev pub SameSelf : {C V : Type 0} → Tests C V → Type 0
+SameSelf {C} T = (c : C) → T.same c c ≡ true
+
+pub want_is : {C V : Type 0} (T : Tests C V) (w u : Want C) → SameIs T → same_want T w u ≡ true → u ≡ w
+want_is T (has c) (has d) k e = ap has (sym (k c d e))
+want_is T (has c) one_value k e = cc
+want_is T one_value (has d) k e = cc
+want_is T one_value one_value k e = refl
+
+pub want_same : {C V : Type 0} (T : Tests C V) (w : Want C) → SameSelf T → same_want T w w ≡ true
+want_same T (has c) k = k c
+want_same T one_value k = refl
+
+pub is_want_is : {C V : Type 0} (T : Tests C V) (w : Want C) (o : Option (Want C)) → SameIs T → is_want T w o ≡ true → o ≡ Some w
+is_want_is T w None k e = cc
+is_want_is T w (Some u) k e = ap Some (want_is T w u k e)
+
+pub is_want_same : {C V : Type 0} (T : Tests C V) (w : Want C) (o : Option (Want C)) → SameSelf T → o ≡ Some w → is_want T w o ≡ true
+is_want_same T w o k e = rw e (want_same T w k)
+
+pub source_is : {C V : Type 0} (T : Tests C V) (s : ℕ) (w : Want C) (o : Option (Source C)) → SameIs T → is_source T s w o ≡ true
+    → o ≡ Some (record { site = s; want = w })
+source_is T s w None k e = cc
+source_is T s w (Some m) k e =
+    let both = and_both (m.site == s) _ e in
+    let p : m.site ≡ s = eqb-true _ _ (both.0) in
+    let q : m.want ≡ w = want_is T w m.want k (both.1) in
+    ap Some (λ i. record { site = p i; want = q i })
+
+pub source_same : {C V : Type 0} (T : Tests C V) (s : ℕ) (w : Want C) (o : Option (Source C)) → SameSelf T → o ≡ Some (record { site = s; want = w })
+    → is_source T s w o ≡ true
+source_same T s w o k e = rw e (both_and (s == s) _ (eq-eqb s s refl) (want_same T w k))
+
+-- the same of a rule set
 pub want_sound : {C V : Type 0} (R : Rules C V) (w u : Want C) → IsWellMade R → same_want R.tests w u ≡ true → u ≡ w
-want_sound R (has c) (has d) k e = ap has (sym (k.exact.same c d e))
-want_sound R (has c) one_value k e = cc
-want_sound R one_value (has d) k e = cc
-want_sound R one_value one_value k e = refl
+want_sound R w u k e = want_is R.tests w u k.exact.same e
 
 pub want_self : {C V : Type 0} (R : Rules C V) (w : Want C) → IsWellMade R → same_want R.tests w w ≡ true
-want_self R (has c) k = k.exact.same_self c
-want_self R one_value k = refl
+want_self R w k = want_same R.tests w k.exact.same_self
 
 pub is_want_sound : {C V : Type 0} (R : Rules C V) (w : Want C) (o : Option (Want C)) → IsWellMade R → is_want R.tests w o ≡ true → o ≡ Some w
-is_want_sound R w None k e = cc
-is_want_sound R w (Some u) k e = ap Some (want_sound R w u k e)
+is_want_sound R w o k e = is_want_is R.tests w o k.exact.same e
 
 pub is_want_full : {C V : Type 0} (R : Rules C V) (w : Want C) (o : Option (Want C)) → IsWellMade R → o ≡ Some w → is_want R.tests w o ≡ true
-is_want_full R w o k e = rw e (want_self R w k)
+is_want_full R w o k e = is_want_same R.tests w o k.exact.same_self e
 
 -- a field is made by its test
 pub made_by : {C V : Type 0} (R : Rules C V) (s : ℕ) (w : Want C) (o : Option (Source C)) → IsWellMade R → is_source R.tests s w o ≡ true
     → o ≡ Some (record { site = s; want = w })
-made_by R s w None k e = cc
-made_by R s w (Some m) k e =
-    let both = and_both (m.site == s) _ e in
-    let p : m.site ≡ s = eqb-true _ _ (both.0) in
-    let q : m.want ≡ w = want_sound R w m.want k (both.1) in
-    ap Some (λ i. record { site = p i; want = q i })
+made_by R s w o k e = source_is R.tests s w o k.exact.same e
 
 pub by_made : {C V : Type 0} (R : Rules C V) (s : ℕ) (w : Want C) (o : Option (Source C)) → IsWellMade R → o ≡ Some (record { site = s; want = w })
     → is_source R.tests s w o ≡ true
-by_made R s w o k e = rw e (both_and (s == s) _ (eq-eqb s s refl) (want_self R w k))
+by_made R s w o k e = source_same R.tests s w o k.exact.same_self e
 
 pub source_part : {C V : Type 0} (R : Rules C V) (s : ℕ) (m : Source C) → IsWellMade R → R.made s ≡ Some m → Elem m.site (R.parts s)
 source_part R s m w e = subst (λ (l : List ℕ). Elem m.site l) (sym (w.source s m e)) (inl refl)

@@ -7,7 +7,7 @@ use Rattle.isle_trees.specs.Rules.{Want, has, one_value, Source, Rules, Elem, As
 use Rattle.isle_trees.specs.Premises.{IsWellMade}
 use Rattle.isle_trees.specs.Scopes.{Scope, join, emit, emit_all, inside, IsAvailable, Test, on_match, on_equal, on_loop, sites_of, has_test, counted, IsReady}
 use Rattle.isle_trees.specs.Builds.{IsBest, Binds, wanting}
-use Rattle.isle_trees.proofs.Basics.{true_or, some_elem, from_filter, is_want_sound, test_of, one_of, counted_has, or_right}
+use Rattle.isle_trees.proofs.Basics.{true_or, some_elem, from_filter, SameIs, is_want_is, test_of, one_of, counted_has, or_right}
 use Rattle.isle_trees.proofs.Progress.{Carries}
 
 -- what the path knows is true
@@ -53,8 +53,11 @@ carries_inside R left less sc s w c f = λ i x u m e.
       | inr g ↦ c i x u (both.0) g
     ]
 
+pub wanting_is : {C V : Type 0} (R : Rules C V) (left : List ℕ) (s : ℕ) (c : C) → SameIs R.tests → (i : ℕ) → Elem i (wanting R s c left) → Elem i left × (R.at i s ≡ Some (has c))
+wanting_is R left s c k i m = let f = from_filter _ left i m in (f.0, is_want_is R.tests (has c) _ k (f.1))
+
 pub wanting_has : {C V : Type 0} (R : Rules C V) (left : List ℕ) (s : ℕ) (c : C) → IsWellMade R → (i : ℕ) → Elem i (wanting R s c left) → Elem i left × (R.at i s ≡ Some (has c))
-wanting_has R left s c w i m = let f = from_filter _ left i m in (f.0, is_want_sound R (has c) _ w (f.1))
+wanting_has R left s c w = wanting_is R left s c w.exact.same
 
 -- after a join, a site is labelled as before, or stood with the one and now with the other
 pub label_cases : (l m n : ℕ) → ((l ≡ m) × ((if l == m then n else l) ≡ n)) ⊎ ((l ≢ m) × ((if l == m then n else l) ≡ l))

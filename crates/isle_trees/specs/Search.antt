@@ -167,19 +167,21 @@ abbrev pub made_more : Option ℕ → List ℕ → ℕ → ℕ → List ℕ
 made_more None list x s = list
 made_more (Some t) list x s = added_at list t x s
 
--- two wants are tests, of which the first is the lesser; two wants are one test
+-- wants in their order: none, the tests by their order, one value
 abbrev pub lesser_want : {C V : Type 0} → Tests C V → Option (Want C) → Option (Want C) → Bool
+lesser_want T None None = false
+lesser_want T None (Some w) = true
+lesser_want T (Some w) None = false
 lesser_want T (Some (has c)) (Some (has d)) = not (T.at_most d c)
-lesser_want T (Some (has c)) (Some one_value) = false
-lesser_want T (Some (has c)) None = false
-lesser_want T (Some one_value) o = false
-lesser_want T None o = false
+lesser_want T (Some (has c)) (Some one_value) = true
+lesser_want T (Some one_value) (Some w) = false
 
 abbrev pub same_wants : {C V : Type 0} → Tests C V → Option (Want C) → Option (Want C) → Bool
-same_wants T None o = false
+same_wants T None None = true
+same_wants T None (Some w) = false
 same_wants T (Some w) o = is_want T w o
 
--- the first rule wants the lesser test of the site, or the same and precedes
+-- the first rule has the lesser want of the site, or the same and precedes
 abbrev pub comes_first : {C V : Type 0} → Rules C V → ℕ → ℕ → ℕ → Bool
 comes_first R s i j = lesser_want R.tests (R.at i s) (R.at j s) || (same_wants R.tests (R.at i s) (R.at j s) && precedes R i j)
 
