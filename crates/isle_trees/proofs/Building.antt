@@ -3,3 +3,9 @@
 pub mod Lists
 -- Rules left in another order.
 pub mod Reorder
+-- Rules in order.
+pub mod InOrder
+-- What a test counts among them.
+pub mod Search
+-- The best test so far.
+pub mod Best
