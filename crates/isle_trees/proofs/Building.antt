@@ -9,3 +9,7 @@ pub mod InOrder
 pub mod Search
 -- The best test so far.
 pub mod Best
+-- A sort puts rules in order.
+pub mod Ordered
+-- How many rules a test may count.
+pub mod Bound
