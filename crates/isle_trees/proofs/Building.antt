@@ -13,3 +13,5 @@ pub mod Best
 pub mod Ordered
 -- How many rules a test may count.
 pub mod Bound
+-- The tests that the top rules offer.
+pub mod Offers
