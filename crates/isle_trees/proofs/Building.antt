@@ -15,3 +15,5 @@ pub mod Ordered
 pub mod Bound
 -- The tests that the top rules offer.
 pub mod Offers
+-- Rules by what they want of a site.
+pub mod Runs
