@@ -17,3 +17,9 @@ pub mod Bound
 pub mod Offers
 -- Rules by what they want of a site.
 pub mod Runs
+-- What a path knows, as lists keep it.
+pub mod Scopes
+-- What is marked as available.
+pub mod Marks
+-- What is known past a test.
+pub mod Enter

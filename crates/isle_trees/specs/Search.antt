@@ -190,6 +190,10 @@ abbrev pub AreGrouped : {C V : Type 0} → Rules C V → ℕ → List ℕ → Ty
 AreGrouped R s [] = Unit {0}
 AreGrouped R s (i ∷ is) = ((j : ℕ) → Elem j is → comes_first R s i j ≡ true) × AreGrouped R s is
 
+-- each of the rules wants a test of the site
+abbrev pub AllWant : {C V : Type 0} → Rules C V → List ℕ → ℕ → Type 0
+AllWant {C} R left s = (i : ℕ) → Elem i left → (c : C) × (R.at i s ≡ Some (has c))
+
 -- the rules at the front that want a test
 abbrev pub front : {C V : Type 0} → Rules C V → ℕ → C → List ℕ → List ℕ
 front R s c [] = []

@@ -7,7 +7,7 @@ use Rattle.isle_trees.specs.Bag.{IsSameBag}
 use Rattle.isle_trees.specs.Builds.{IsLeast, wanting, not_wanting}
 use Rattle.isle_trees.specs.Rules.{Tests, Want, has, one_value, Rules, Elem}
 use Rattle.isle_trees.specs.Scopes.{is_want}
-use Rattle.isle_trees.specs.Search.{IsBuildable, precedes, IsInOrder, AreDistinct, lesser_want, same_wants, comes_first, AreGrouped, front, IsRun}
+use Rattle.isle_trees.specs.Search.{IsBuildable, precedes, IsInOrder, AreDistinct, lesser_want, same_wants, comes_first, AreGrouped, AllWant, front, IsRun}
 use Rattle.isle_trees.proofs.Basics.{true_or, and_both, and_fails, or_holds, or_fails, not_true, clash, from_filter, is_want_is, is_want_same}
 use Rattle.isle_trees.proofs.Building.InOrder.{in_order_distinct}
 use Rattle.isle_trees.proofs.Building.Lists.{drop_elem}
@@ -207,10 +207,6 @@ pub drop_grouped : {C V : Type 0} (R : Rules C V) (s i : ℕ) (xs : List ℕ) �
 drop_grouped R s zero xs g = g
 drop_grouped R s (suc i) [] g = g
 drop_grouped R s (suc i) (x ∷ xs) g = drop_grouped R s i xs (g.1)
-
--- each of the rules wants a test of the site
-abbrev pub AllWant : {C V : Type 0} → Rules C V → List ℕ → ℕ → Type 0
-AllWant {C} R left s = (i : ℕ) → Elem i left → (c : C) × (R.at i s ≡ Some (has c))
 
 not_lower : {C V : Type 0} (R : Rules C V) (s x y : ℕ) (c d : C) → AreOrdered R.tests → comes_first R s x y ≡ true → R.at x s ≡ Some (has c) → R.at y s ≡ Some (has d)
     → R.tests.at_most c d ≡ true

@@ -1,0 +1,84 @@
+-- What a path knows, as lists keep it.
+use Rattle.std.proofs.Common.{◌≡◌, ◌≢◌, ◌⊎◌, inl, inr, ℕ, suc, zero, ◌+◌, ◌<◌, ◌≤◌, ◌==◌, ◌++◌, List, [], ◌∷◌, Bool, false, Option, Some, None, length, refl, sym, ◌∙◌, ap, arith, get_or, map, set, length-set, eqb-true}
+use Rattle.std.proofs.lemmas.Bool.{eqb-false}
+use Rattle.std.proofs.lemmas.Grind.{common_steps}
+use Rattle.std.specs.Prelude.{◌||◌, if◌then◌else◌}
+use Rattle.isle_trees.specs.Rules.{Want, Rules}
+use Rattle.isle_trees.specs.Scopes.{Scope, join, is_source, inside}
+use Rattle.isle_trees.proofs.Basics.{true_or}
+use Rattle.isle_trees.proofs.Building.Lists.{less_or}
+
+pub scope_same : {C : Type 0} (a b : Scope C) → ((s : ℕ) → a.passed s ≡ b.passed s) → ((s : ℕ) → a.label s ≡ b.label s) → ((s : ℕ) → a.emitted s ≡ b.emitted s) → a ≡ b
+scope_same a b p l e = λ i. record { passed = λ s. p s i; label = λ s. l s i; emitted = λ s. e s i }
+
+-- a site past the lists isn't tested, is labelled by itself, and isn't bound
+abbrev pub listed_scope : {C : Type 0} → List (Option (Want C)) → List ℕ → List Bool → Scope C
+listed_scope passed labels emitted = record {
+  passed = λ s. get_or passed s None;
+  label = λ s. get_or labels s s;
+  emitted = λ s. get_or emitted s false;
+}
+
+abbrev pub relabel : ℕ → ℕ → ℕ → ℕ
+relabel from to label = if label == from then to else label
+
+pub map_length : {A B : Type 0} (f : A → B) (xs : List A) → length (map f xs) ≡ length xs
+map_length f [] = refl
+map_length f (x ∷ xs) = ap suc (map_length f xs)
+
+pub get_past : {A : Type 0} (xs : List A) (i : ℕ) (d : A) → length xs ≤ i → get_or xs i d ≡ d
+get_past [] i d l = refl
+get_past (x ∷ xs) zero d l = absurd (omega arith)
+get_past (x ∷ xs) (suc i) d l = get_past xs i d (omega arith)
+
+pub get_map : {A B : Type 0} (f : A → B) (xs : List A) (i : ℕ) (d : B) (e : A) → i < length xs → get_or (map f xs) i d ≡ f (get_or xs i e)
+get_map f [] i d e l = absurd (omega arith)
+get_map f (x ∷ xs) zero d e l = refl
+get_map f (x ∷ xs) (suc i) d e l = get_map f xs i d e (omega arith)
+
+pub relabelled : (xs : List ℕ) (a b x : ℕ) → get_or xs a a < length xs → get_or (map (relabel (get_or xs a a) b) xs) x x ≡ relabel (get_or xs a a) b (get_or xs x x)
+relabelled xs a b x l = elim (less_or x (length xs)) [
+  | inl m ↦ get_map (relabel (get_or xs a a) b) xs x x x m
+  | inr m ↦
+      let size = map_length (relabel (get_or xs a a) b) xs in
+      let p : get_or (map (relabel (get_or xs a a) b) xs) x x ≡ x = get_past (map (relabel (get_or xs a a) b) xs) x x (omega arith) in
+      let q : get_or xs x x ≡ x = get_past xs x x m in
+      elim (true_or (x == get_or xs a a)) [
+        | inl y ↦ let r : x ≡ get_or xs a a = eqb-true x _ y in absurd (omega arith)
+        | inr n ↦ p ∙ sym (rw (q, n) refl)
+      ]
+]
+
+pub relabel_below : (a b x n : ℕ) → b < n → x < n → relabel a b x < n
+relabel_below a b x n l m = elim (true_or (x == a)) [ inl e ↦ rw e l | inr e ↦ rw e m ]
+
+pub set_passed : {A : Type 0} (xs : List (Option A)) (s : ℕ) (w : A) (x : ℕ) → s < length xs → get_or (set xs s (Some w)) x None ≡ (if x == s then Some w else get_or xs x None)
+set_passed xs s w x l = elim (true_or (x == s)) [
+  | inl y ↦ let e : x ≡ s = eqb-true x s y in rw y (grind (arith, common_steps))
+  | inr n ↦ let e : x ≢ s = eqb-false x s n in rw n (grind (arith, common_steps))
+]
+
+-- after a join
+pub joined_scope : {C : Type 0} (passed : List (Option (Want C))) (labels new : List ℕ) (emitted : List Bool) (a b : ℕ) → get_or labels a a < length labels
+    → new ≡ map (relabel (get_or labels a a) (get_or labels b b)) labels → listed_scope passed new emitted ≡ join (listed_scope passed labels emitted) a b
+joined_scope passed labels new emitted a b l e =
+    scope_same _ _ (λ s. refl) (λ s. rw e (relabelled labels a (get_or labels b b) s l)) (λ s. refl)
+
+pub joined_below : (labels new : List ℕ) (a b n : ℕ) → length labels ≡ n → ((x : ℕ) → x < n → get_or labels x x < n) → b < n
+    → new ≡ map (relabel (get_or labels a a) (get_or labels b b)) labels → (x : ℕ) → x < n → get_or new x x < n
+joined_below labels new a b n size below lb e x l =
+    rw (e, get_map (relabel (get_or labels a a) (get_or labels b b)) labels x x x (omega arith)) (relabel_below _ _ _ n (below b lb) (below x l))
+
+-- past a test
+pub inside_scope : {C V : Type 0} (R : Rules C V) (n : ℕ) (passed new : List (Option (Want C))) (labels : List ℕ) (emitted marks : List Bool) (s : ℕ) (w : Want C) → s < length passed
+    → new ≡ set passed s (Some w) → length emitted ≡ n → length marks ≡ n
+    → ((y : ℕ) → y < n → get_or marks y false ≡ (is_source R.tests s w (R.made y) || get_or emitted y false)) → ((y : ℕ) → n ≤ y → R.made y ≡ None)
+    → listed_scope new labels marks ≡ inside R (listed_scope passed labels emitted) s w
+inside_scope R n passed new labels emitted marks s w l p old size e out =
+    scope_same _ _ (λ x. rw p (set_passed passed s w x l)) (λ x. refl) (λ x. elim (less_or x n) [
+      | inl h ↦ e x h
+      | inr h ↦
+          let a : get_or marks x false ≡ false = get_past marks x false (omega arith) in
+          let b : get_or emitted x false ≡ false = get_past emitted x false (omega arith) in
+          rw (a, out x h, b) refl
+    ])
