@@ -23,3 +23,5 @@ pub mod Scopes
 pub mod Marks
 -- What is known past a test.
 pub mod Enter
+-- Sites bound in order.
+pub mod Emission
