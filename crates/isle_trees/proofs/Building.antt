@@ -25,3 +25,5 @@ pub mod Marks
 pub mod Enter
 -- Sites bound in order.
 pub mod Emission
+-- Sites with what they are made of.
+pub mod Gathering
