@@ -27,3 +27,7 @@ pub mod Enter
 pub mod Emission
 -- Sites with what they are made of.
 pub mod Gathering
+-- Steps, arms and returns.
+pub mod Sorting
+-- What is left weighs less.
+pub mod Weights
