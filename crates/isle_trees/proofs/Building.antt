@@ -31,3 +31,9 @@ pub mod Gathering
 pub mod Sorting
 -- What is left weighs less.
 pub mod Weights
+-- What rules' tests ask, and what tests make.
+pub mod Asked
+-- The first place that passes.
+pub mod Listed
+-- What a binary search finds.
+pub mod Lookup
