@@ -37,3 +37,5 @@ pub mod Asked
 pub mod Listed
 -- What a binary search finds.
 pub mod Lookup
+-- Rules over other values.
+pub mod OtherValues

@@ -8,7 +8,7 @@ ghost use Rattle.isle_trees.specs.Answers.{Answers, Extends, Agree};
 ghost use Rattle.isle_trees.specs.Tree.{Steps};
 ghost use Rattle.isle_trees.specs.Rules.{Rules, IsPartOf, rights};
 ghost use Rattle.isle_trees.specs.Premises.{IsWellMade, IsSingle, UsesNoMulti, HasItsTests, Respects, KnowsAsked, IsStrict};
-ghost use Rattle.isle_trees.specs.Scopes.{nothing_known};
+ghost use Rattle.isle_trees.specs.Scopes.{Scope, nothing_known};
 ghost use Rattle.isle_trees.specs.Builds.{Builds, IsTreeOf};
 ghost use Rattle.isle_trees.specs.Walk.{goes, breaks, chooses, waits, walk};
 ghost use Rattle.isle_trees.specs.Choice.{IsRight, IsSure, LeavesOff, ReturnsInOrder, IsKept, AreKept};
@@ -19,6 +19,7 @@ ghost use Rattle.isle_trees.specs.Machine.{Makes, IsMadeBy, run};
 ghost use Rattle.isle_trees.specs.Bag.{Picks, pick, gave, Model, IsModel, IsMany, IsAscending, Tells, walk_all, bag, IsSameBag};
 ghost use Rattle.isle_trees.specs.Calls.{Lists, AreFunctions, model_of};
 ghost use Rattle.isle_trees.specs.Sample.{sample, sample_tree, with_call, sample_program, many_sample, many_tree, many_model};
+ghost use Rattle.isle_trees.specs.Values.{over_values};
 ghost use Rattle.isle_trees.specs.Depths.{Program, IsProgram, run_to, Means, Chain};
 
 /// Where all that the rules' tests ask is answered, the tree chooses as the rules do, and ends as the chosen rule's right side does.
@@ -117,6 +118,18 @@ pub fn answered_runs_mean_what_they_answer<C, V>()
 /// And one that isn't answered has asked a chain of calls that spends the depth, or ends at a term that may not fail and is stuck.
 pub fn unanswered_runs_have_a_chain<C, V>()
     ensures { (P : Program C V) (n t : ℕ) (args : List V) → IsProgram P → run_to P n t args ≡ unknown → Chain P n t args }
+{}
+
+/// Which trees rules build doesn't depend on how their tests pass, or how values compare.
+pub fn building_asks_no_values<C, V, W>()
+    ensures { (R : Rules C V) (passes : C → W → Bool) (alike : W → W → Bool) (left : List ℕ) (sc : Scope C) (T : Steps C) → Builds R left sc T
+        → Builds (over_values R passes alike) left sc T }
+{}
+
+/// Nor on the order in which the rules left stand.
+pub fn building_asks_no_order<C, V>()
+    ensures { (R : Rules C V) (left again : List ℕ) (sc : Scope C) (T : Steps C) → IsSameBag left again → Builds R left sc T
+        → Builds R again sc T }
 {}
 
 /// The premises can be met: a sample meets them.
