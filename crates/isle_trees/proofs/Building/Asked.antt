@@ -1,5 +1,5 @@
 -- What rules' tests ask, listed parts first; what tests make, listed.
-use Rattle.std.proofs.Common.{◌≡◌, ◌≢◌, inl, inr, ℕ, ◌+◌, ◌<◌, ◌≤◌, ◌==◌, ◌++◌, List, [], ◌∷◌, true, false, Option, Some, None, length, refl, sym, ◌∙◌, ap, subst, arith, get_or, take, length-append, eqb-true, eq-eqb}
+use Rattle.std.proofs.Common.{◌≡◌, inl, inr, ℕ, ◌+◌, ◌<◌, ◌==◌, ◌++◌, List, [], ◌∷◌, Option, Some, None, length, sym, ◌∙◌, subst, arith, get_or, length-append, eq-eqb}
 use Rattle.std.proofs.lemmas.Bool.{false≢true}
 use Rattle.std.proofs.lemmas.List.{take_at, take-append-le, get_or_append_left, get_or_at}
 use Rattle.isle_trees.specs.Ranking.{AllBelow}
@@ -101,9 +101,9 @@ made_step R x s old new (Some t) e q a =
       | inr h ↦
           let r : new ≡ old = rw h at q in
           subst P (sym r) (made_elsewhere R x s old a (λ m f g.
-              let z : Some t ≡ Some m.site = e m f in
-              let w : t ≡ m.site = cc in
-              false≢true (sym h ∙ eq-eqb s t (sym g ∙ sym w))))
+          let z : Some t ≡ Some m.site = e m f in
+          let w : t ≡ m.site = cc in
+          false≢true (sym h ∙ eq-eqb s t (sym g ∙ sym w))))
     ]
 
 pub made_none : {C V : Type 0} (R : Rules C V) (s : ℕ) (list : List ℕ) → list ≡ [] → AreMadeBelow R 0 s list

@@ -1,8 +1,8 @@
 -- Which trees rules build doesn't depend on how tests pass or values compare.
-use Rattle.std.proofs.Common.{◌≡◌, ◌⊎◌, inl, inr, ℕ, ◌<◌, ◌==◌, ◌&&◌, ◌||◌, not, List, [], ◌∷◌, Bool, Option, Some, None, length, refl, sym, ap, subst}
+use Rattle.std.proofs.Common.{◌≡◌, inl, inr, ℕ, ◌<◌, ◌==◌, ◌&&◌, ◌||◌, not, List, [], ◌∷◌, Bool, Option, Some, None, length, refl, sym, ap, subst}
 use Rattle.std.specs.List.{filter}
 use Rattle.isle_trees.specs.Builds.{Key, key, IsAtMost, IsBest, HasNoTest, IsOrder, Binds, BindsEach, Returns, Builds, BuildsArms, wanting, not_wanting, without}
-use Rattle.isle_trees.specs.Rules.{Tests, Want, has, one_value, Source, Rules, Elem, IsPartOf, rights}
+use Rattle.isle_trees.specs.Rules.{Want, has, one_value, Source, Rules, IsPartOf, rights}
 use Rattle.isle_trees.specs.Scopes.{Scope, emit, release, join, same_want, is_want, is_source, inside, IsAvailable, IsReady, Test, on_match, on_equal, on_loop, counted, others}
 use Rattle.isle_trees.specs.Tree.{Steps, done, «match», equal, loop, give, Arms, no_arm, arm}
 use Rattle.isle_trees.specs.Values.{over_values}

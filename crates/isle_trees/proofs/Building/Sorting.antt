@@ -1,12 +1,12 @@
 -- Steps, arms and returns make trees that the rules left build.
-use Rattle.std.proofs.Common.{◌≡◌, ◌≢◌, ℕ, ◌+◌, ◌<◌, ◌≤◌, List, [], ◌∷◌, Bool, true, Option, Some, None, length, refl, sym, ◌∙◌, ap, subst, arith, not}
+use Rattle.std.proofs.Common.{◌≡◌, ℕ, ◌+◌, ◌<◌, ◌≤◌, List, [], ◌∷◌, Bool, Option, Some, None, length, refl, sym, ◌∙◌, ap, subst, arith, not}
 use Rattle.isle_trees.specs.Bag.{IsSameBag}
 use Rattle.isle_trees.specs.Builds.{Builds, BuildsArms, Returns, HasNoTest, IsBest, IsLeast, Binds, wanting, not_wanting}
 use Rattle.isle_trees.specs.Ranking.{Emits, AreWithin, AreAllWithin}
-use Rattle.isle_trees.specs.Rules.{Want, has, one_value, Rules, Elem}
-use Rattle.isle_trees.specs.Scopes.{Scope, emit_all, release, join, is_want, inside, Test, on_match, on_equal, on_loop, has_test, counts, counted, others}
+use Rattle.isle_trees.specs.Rules.{has, one_value, Rules, Elem}
+use Rattle.isle_trees.specs.Scopes.{Scope, emit_all, release, join, is_want, inside, Test, on_match, on_equal, on_loop, counts, counted, others}
 use Rattle.isle_trees.specs.Search.{AllWant, AreMarked, IsBuildable, IsSamePath}
-use Rattle.isle_trees.specs.Tree.{Steps, done, «match», equal, loop, give, Arms, no_arm, arm}
+use Rattle.isle_trees.specs.Tree.{Steps, done, «match», equal, loop, give, Arms, arm}
 use Rattle.isle_trees.proofs.Basics.{SameSelf, from_filter, some_elem, counted_has, others_left, is_want_same, test_of, one_of}
 use Rattle.isle_trees.proofs.Building.Emission.{binds_from}
 use Rattle.isle_trees.proofs.Building.Enter.{marked_path}

@@ -1,10 +1,10 @@
 -- What a test counts and what it leaves weigh no more than the rules left.
-use Rattle.std.proofs.Common.{◌≡◌, ◌≢◌, ℕ, ◌+◌, ◌≤◌, List, [], ◌∷◌, Bool, true, Some, None, length, refl, sym, ◌∙◌, ap, subst, arith, not}
+use Rattle.std.proofs.Common.{◌≡◌, ◌≢◌, ℕ, ◌+◌, ◌≤◌, List, Bool, Some, None, refl, sym, ◌∙◌, ap, subst, arith, not}
 use Rattle.std.proofs.lemmas.List.Filters.{sum_by-filter_both}
 use Rattle.isle_trees.specs.Builds.{IsBest, IsLeast, wanting, not_wanting}
 use Rattle.isle_trees.specs.Counting.{weight, unlearned}
 use Rattle.isle_trees.specs.Rules.{has, one_value, Rules, Elem}
-use Rattle.isle_trees.specs.Scopes.{Scope, emit_all, release, join, is_want, inside, Test, on_equal, on_loop, counts, counted, others}
+use Rattle.isle_trees.specs.Scopes.{Scope, emit_all, release, join, is_want, inside, Test, on_equal, on_loop, counted, others}
 use Rattle.isle_trees.proofs.Basics.{SameIs, SameSelf, to_filter, some_elem, counted_has, is_want_same, one_of}
 use Rattle.isle_trees.proofs.Building.Sorting.{loop_untested}
 use Rattle.isle_trees.proofs.Path.{wanting_is, label_bound}
