@@ -7,7 +7,6 @@ use Rattle.std.proofs.lemmas.List.Filters.{sum_by-filter_both}
 use Rattle.isle_trees.specs.Answers.{Answers}
 use Rattle.isle_trees.specs.Builds.{wanting, not_wanting, Builds, BuildsArms}
 use Rattle.isle_trees.specs.Counting.{fresh, different, untested, unlearned, weight, after, if_bound, reached, reached_arms}
-use Rattle.isle_trees.specs.Premises.{IsWellMade}
 use Rattle.isle_trees.specs.Rules.{Want, has, one_value, Rules, Elem, passes_got, alike_got}
 use Rattle.isle_trees.specs.Scopes.{Scope, join, emit, emit_all, is_want, inside, Test, on_match, on_equal, on_loop, counts, counted, others}
 use Rattle.isle_trees.specs.Tree.{Steps, done, «match», equal, loop, give, Arms, no_arm, arm}
@@ -140,6 +139,13 @@ pass_less R sc s k i w e d =
     sums_lt (untested (inside R sc s k)) (untested sc) (R.demands i) s (λ x _. tested_no_more R sc s x k) (w i s k d) (tested_one_less R sc s k e) in
     omega arith
 
+-- what the weights of a tree's rules ask of a rule set
+pub record IsWeighed {C V : Type 0} (R : Rules C V) : Type 0 where
+  pub same : SameIs R.tests
+  pub same_self : SameSelf R.tests
+  pub listed : WantsAreListed R
+  pub grouped : ClassesAreListed R
+
 -- binding changes nothing
 pub bound_same : {C V : Type 0} (R : Rules C V) (sc : Scope C) (xs left : List ℕ) → weight R (emit_all sc xs) left ≡ weight R sc left
 bound_same R sc [] left = refl
@@ -216,7 +222,7 @@ not_bounded (arm d bindings body later) R v left sc s c i m h b =
 
 mutual
   -- a walk reaches no more steps than the rules left weigh
-  pub bounded : {C V : Type 0} (t : Steps C) (R : Rules C V) (v : Answers V) (left : List ℕ) (sc : Scope C) → IsWellMade R → Builds R left sc t → reached R v t ≤ weight R sc left
+  pub bounded : {C V : Type 0} (t : Steps C) (R : Rules C V) (v : Answers V) (left : List ℕ) (sc : Scope C) → IsWeighed R → Builds R left sc t → reached R v t ≤ weight R sc left
   bounded done R v left sc w b = omega arith
   bounded (give binds i next) R v left sc w b = first_weighs R sc left i (b.1.0.0)
   bounded (loop binds x body next) R v left sc w (s, made, best, rest) = let one = some_counted R left sc (on_loop s) best in first_weighs R sc left (one.0) (one.1)
@@ -242,13 +248,13 @@ mutual
       let t = if_small (bind v binds) ((if alike_got R (v a) (v b) then reached R v body else 0) + after (if alike_got R (v a) (v b) then walk R v body else ends) (reached R v next)) in
       omega arith
 
-  pub bounded_arms : {C V : Type 0} (arms : Arms C) (R : Rules C V) (v : Answers V) (left : List ℕ) (sc : Scope C) (s : ℕ) → IsWellMade R → sc.passed s ≡ None → 0 < length left
+  pub bounded_arms : {C V : Type 0} (arms : Arms C) (R : Rules C V) (v : Answers V) (left : List ℕ) (sc : Scope C) (s : ℕ) → IsWeighed R → sc.passed s ≡ None → 0 < length left
       → BuildsArms R left sc s arms → reached_arms R v s arms + 1 ≤ weight R sc left
   bounded_arms no_arm R v left sc s w e l b = absurd (nothing left l b)
   bounded_arms (arm c bindings body later) R v left sc s w e l b = elim (true_or (passes_got R c (v s))) [
     | inl y ↦ rw y (
         let p : reached R v body ≤ weight R (inside R sc s (has c)) (wanting R s c left) = bounded body R v (wanting R s c left) (inside R sc s (has c)) w (b.2) in
-        let q : weight R (inside R sc s (has c)) (wanting R s c left) + 1 ≤ weight R sc left = arm_weighs R sc s c left w.exact.same w.exact.same_self w.listed e (b.0.0.0) (b.0.0.1) (b.0.0.2) in
+        let q : weight R (inside R sc s (has c)) (wanting R s c left) + 1 ≤ weight R sc left = arm_weighs R sc s c left w.same w.same_self w.listed e (b.0.0.0) (b.0.0.1) (b.0.0.2) in
         omega arith)
     | inr n ↦ rw n (not_bounded later R v left sc s c (b.0.0.0) (b.0.0.1) (λ h. bounded_arms later R v (not_wanting R s c left) sc s w e h (b.3)) (b.3))
   ]

@@ -19,6 +19,7 @@ ghost use Rattle.isle_trees.specs.Machine.{Makes, IsMadeBy, run};
 ghost use Rattle.isle_trees.specs.Bag.{Picks, pick, gave, Model, IsModel, IsMany, IsAscending, Tells, walk_all, bag, IsSameBag};
 ghost use Rattle.isle_trees.specs.Calls.{Lists, AreFunctions, model_of};
 ghost use Rattle.isle_trees.specs.Sample.{sample, sample_tree, with_call, sample_program, many_sample, many_tree, many_model};
+ghost use Rattle.isle_trees.specs.Search.{IsBuildable};
 ghost use Rattle.isle_trees.specs.Values.{over_values};
 ghost use Rattle.isle_trees.specs.Depths.{Program, IsProgram, run_to, Means, Chain};
 
@@ -76,6 +77,16 @@ pub fn trees_bind_what_rules_have<C, V>()
 /// The arms of each step ascend by their tests.
 pub fn arms_ascend<C, V>()
     ensures { (R : Rules C V) (left : List ℕ) (T : Steps C) → IsWellMade R → Builds R left nothing_known T → Ascends R T }
+{}
+
+/// These three hold of whatever rules a tree is built from, whether or not two tests of a site may both pass.
+pub fn built_trees_are_short_and_ascend<C, V>()
+    ensures short { (R : Rules C V) (n : ℕ) (left : List ℕ) (T : Steps C) (v : Answers V) → IsBuildable R n left → Builds R left nothing_known T
+        → reached R v T ≤ steps_at_most R left }
+    ensures asks { (R : Rules C V) (n : ℕ) (left : List ℕ) (T : Steps C) → IsBuildable R n left → Builds R left nothing_known T
+        → AsksOnly R left T }
+    ensures ascends { (R : Rules C V) (n : ℕ) (left : List ℕ) (T : Steps C) → IsBuildable R n left → Builds R left nothing_known T
+        → Ascends R T }
 {}
 
 /// What a test makes is bound by it alone, up to a first return, but for contents of options that calls give.

@@ -11,7 +11,7 @@ use Rattle.isle_trees.specs.Rules.{has, one_value, Rules, Elem, Asked}
 use Rattle.isle_trees.specs.Scopes.{Scope, IsAvailable, IsReady, Test, on_match, on_equal, on_loop, has_test, allows, counts, counted}
 use Rattle.isle_trees.specs.Search.{IsInOrder, top, is_open, is_ready, is_marked, AreOffers, AreOffersOf, AreSound, AreMarked}
 use Rattle.isle_trees.proofs.Asking.{elem_append}
-use Rattle.isle_trees.proofs.Basics.{and_both, both_and, from_filter, all_gives, not_true, or_holds, some_elem, test_of, one_of, elem_contains, contains_elem}
+use Rattle.isle_trees.proofs.Basics.{JoinsBothWays, and_both, both_and, from_filter, all_gives, not_true, or_holds, some_elem, test_of, one_of, elem_contains, contains_elem}
 use Rattle.isle_trees.proofs.Building.Best.{key_count, none_least, HasCount}
 use Rattle.isle_trees.proofs.Building.Lists.{zero_or, not_same, elem_left, elem_right, last_or}
 use Rattle.isle_trees.proofs.Building.Search.{precedes_most, at_most_true}
@@ -94,10 +94,6 @@ ready_sound R sc marks (on_equal a b) h e =
     let x = open_sound R sc marks a h (q.0) in
     let y = open_sound R sc marks b h (r.0) in
     (ltb-true a b (p.0), x.0, y.0, x.1, y.1, eqb-false _ _ (not_true _ (r.1)))
-
--- two sites are joined in both directions
-abbrev pub JoinsBothWays : {C V : Type 0} → Rules C V → Type 0
-JoinsBothWays R = (i a b : ℕ) → R.joins i a b ≡ true → R.joins i b a ≡ true
 
 pub ready_full : {C V : Type 0} (R : Rules C V) (left : List ℕ) (sc : Scope C) (marks : List Bool) (t : Test) (i : ℕ) → JoinsBothWays R → AreMarked R left sc marks → Elem i left
     → has_test R i t ≡ true → IsReady R sc t → is_ready sc marks t ≡ true
