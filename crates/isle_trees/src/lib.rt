@@ -147,6 +147,7 @@ pub fn building_asks_no_order<C, V>()
 pub fn the_sample_meets_the_premises()
     ensures set { IsTreeOf sample (0 ∷ 1 ∷ []) sample_tree }
     ensures fields { HasItsTests sample × IsListed sample }
+    ensures buildable { IsBuildable sample 3 (0 ∷ 1 ∷ []) }
     ensures program { IsProgram sample_program }
     ensures answers { (g : Got Bool) → g ≢ fails → Respects sample (with_call g) × IsStrict sample (with_call g) }
     ensures unanswered { walk sample (with_call unknown) sample_tree ≡ waits 1 }
@@ -157,6 +158,7 @@ pub fn the_sample_meets_the_premises()
 /// So can those of a `multi` term: a sample meets them, and its walk answers once for each value of the call.
 pub fn the_multi_sample_meets_the_premises()
     ensures set { IsWellMade many_sample × IsMany many_sample × Builds many_sample (0 ∷ []) nothing_known many_tree }
+    ensures buildable { IsBuildable many_sample 3 (0 ∷ []) }
     ensures functions { AreFunctions many_sample (λ s xs. gives true) (λ s xs. true ∷ false ∷ []) (λ h. true) }
     ensures tells { Tells many_sample many_model (λ h i. true) }
     ensures rounds { (h : Picks Bool) → walk_all many_sample many_model many_tree h ≡ gave 0 (pick h 1 true) ∷ gave 0 (pick h 1 false) ∷ [] }
