@@ -2,11 +2,10 @@
 use Rattle.std.proofs.Common.{◌≡◌, ◌⊎◌, inl, inr, ℕ, ◌++◌, List, [], ◌∷◌, subst}
 use Rattle.isle_trees.specs.Asks.{AllAsked, AsksOnly, ArmsAskOnly}
 use Rattle.isle_trees.specs.Builds.{IsBest, Binds, own, BindsEach, without, wanting, not_wanting, Returns, Builds, BuildsArms}
-use Rattle.isle_trees.specs.Premises.{IsWellMade}
 use Rattle.isle_trees.specs.Rules.{has, one_value, Rules, rights, Elem, Asked, Used, IsPartOf}
 use Rattle.isle_trees.specs.Scopes.{Scope, join, emit, release, inside, Test, on_match, on_equal, on_loop, sites_of, counted, others}
 use Rattle.isle_trees.specs.Tree.{Steps, done, «match», equal, loop, give, Arms, no_arm, arm}
-use Rattle.isle_trees.proofs.Basics.{true_or, from_filter, some_elem, counted_has, counted_left, others_left}
+use Rattle.isle_trees.proofs.Basics.{JoinsBothWays, true_or, from_filter, some_elem, counted_has, counted_left, others_left}
 use Rattle.isle_trees.proofs.Leaf.{parts_up, part_more, in_all}
 use Rattle.isle_trees.proofs.Path.{asks}
 
@@ -14,7 +13,7 @@ part_asked : {C V : Type 0} (R : Rules C V) (i : ℕ) (sites : List ℕ) (x : �
 part_asked R i sites _ f (IsPartOf.itself s m) = f s m
 part_asked R i sites _ f (IsPartOf.of_part s p h m) = Asked.by_part s p (part_asked R i sites s f h) m
 
-step_asks : {C V : Type 0} (R : Rules C V) (all left : List ℕ) (sc from after : Scope C) (t : Test) (binds : List ℕ) → IsWellMade R → ((i : ℕ) → Elem i left → Elem i all)
+step_asks : {C V : Type 0} (R : Rules C V) (all left : List ℕ) (sc from after : Scope C) (t : Test) (binds : List ℕ) → JoinsBothWays R → ((i : ℕ) → Elem i left → Elem i all)
     → IsBest R left sc t → Binds R from (sites_of t) binds after → AllAsked R all binds
 step_asks R all left sc from after t binds w f best b x m =
     let one = some_elem (counted R t left) best.useful in
@@ -58,7 +57,7 @@ returns_ask (give binds i next) R all left sc (first, (after, each, rest)) =
     ((λ x m. used_part R i x (each_part (rights R i) R sc binds after each x m)), returns_ask next R all (without i left) after rest)
 
 mutual
-  pub asked : {C V : Type 0} (T : Steps C) (R : Rules C V) (all left : List ℕ) (sc : Scope C) → IsWellMade R → ((i : ℕ) → Elem i left → Elem i all) → Builds R left sc T → AsksOnly R all T
+  pub asked : {C V : Type 0} (T : Steps C) (R : Rules C V) (all left : List ℕ) (sc : Scope C) → JoinsBothWays R → ((i : ℕ) → Elem i left → Elem i all) → Builds R left sc T → AsksOnly R all T
   asked done R all left sc w f b = tt
   asked (give binds i next) R all left sc w f b = returns_ask (give binds i next) R all left sc (b.1)
   asked («match» binds s arms next) R all left sc w f (best, (after, bs, inner, rest)) = (
@@ -83,7 +82,7 @@ mutual
     ),
   )
 
-  pub asked_arms : {C V : Type 0} (arms : Arms C) (R : Rules C V) (all left : List ℕ) (sc : Scope C) (s : ℕ) → IsWellMade R → ((i : ℕ) → Elem i left → Elem i all) → BuildsArms R left sc s arms
+  pub asked_arms : {C V : Type 0} (arms : Arms C) (R : Rules C V) (all left : List ℕ) (sc : Scope C) (s : ℕ) → JoinsBothWays R → ((i : ℕ) → Elem i left → Elem i all) → BuildsArms R left sc s arms
       → ArmsAskOnly R all arms
   asked_arms no_arm R all left sc s w f b = tt
   asked_arms (arm c bindings body more) R all left sc s w f b = (

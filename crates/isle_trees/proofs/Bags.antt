@@ -95,7 +95,7 @@ step_past {C} R M d left sc from after t binds h u o fp fl best bs =
     let le : after.label ≡ sc.label = ap (λ (x : Scope C). x.label) bs.ending ∙ emit_label from bs.all ∙ fl in
     record {
       goes = all_goes (M.values h) binds (λ x m.
-          there_in R M d left sc h x u o ((step_there R left sc from after t binds u.made best bs x (in_all R from after (sites_of t) binds bs x m)).0));
+          there_in R M d left sc h x u o ((step_there R left sc from after t binds u.made.both best bs x (in_all R from after (sites_of t) binds bs x m)).0));
       on = round_same R M left sc after h pe le o;
       same = pe;
       there = λ s a. more_there R sc after s (λ y w e. at_site y _ _ pe ∙ e) a;

@@ -190,6 +190,10 @@ pub source_same : {C V : Type 0} (T : Tests C V) (s : ℕ) (w : Want C) (o : Opt
     → is_source T s w o ≡ true
 source_same T s w o k e = rw e (both_and (s == s) _ (eq-eqb s s refl) (want_same T w k))
 
+-- two sites are joined in both directions
+abbrev pub JoinsBothWays : {C V : Type 0} → Rules C V → Type 0
+JoinsBothWays R = (i a b : ℕ) → R.joins i a b ≡ true → R.joins i b a ≡ true
+
 -- the same of a rule set
 pub want_sound : {C V : Type 0} (R : Rules C V) (w u : Want C) → IsWellMade R → same_want R.tests w u ≡ true → u ≡ w
 want_sound R w u k e = want_is R.tests w u k.exact.same e

@@ -27,3 +27,15 @@ pub mod Enter
 pub mod Emission
 -- Sites with what they are made of.
 pub mod Gathering
+-- Steps, arms and returns.
+pub mod Sorting
+-- What is left weighs less.
+pub mod Weights
+-- What rules' tests ask, and what tests make.
+pub mod Asked
+-- The first place that passes.
+pub mod Listed
+-- What a binary search finds.
+pub mod Lookup
+-- Rules over other values.
+pub mod OtherValues

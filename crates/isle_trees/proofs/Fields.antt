@@ -41,7 +41,7 @@ step_whole : {C V : Type 0} (R : Rules C V) (left : List ℕ) (sc from after : S
     → Binds R from (sites_of t) binds after → AreWhole R binds
 step_whole R left sc from after t binds w f best bs x m =
     let n = in_all R from after (sites_of t) binds bs x m in
-    let av = (step_there R left sc from after t binds w best bs x n).0 in
+    let av = (step_there R left sc from after t binds w.both best bs x n).0 in
     elim (none_or (R.made x)) [
       | inl e ↦ e
       | inr k ↦ clash (from.emitted x) (f x (k.0) (k.1) ((available_parts R sc x av).1 (k.0) (k.1))) (order_new R from bs.all x bs.order n)

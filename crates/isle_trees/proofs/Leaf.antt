@@ -125,9 +125,9 @@ step_ends {C} R r left sc from after t binds w rs h a best bs = elim (order_ends
     rw bs.written (bind_valued r _ (λ x m. f x ((from_filter R.stands bs.all x m).0))),
     subst (λ (c : Scope C). AllValued r c) (sym bs.ending) b,
   )
-  | OrderEnd.one_open s m op b ↦ inr (s, ap (bind r) bs.written ∙ b, (step_there R left sc from after t binds w best bs s m).1, op)
+  | OrderEnd.one_open s m op b ↦ inr (s, ap (bind r) bs.written ∙ b, (step_there R left sc from after t binds w.both best bs s m).1, op)
   | OrderEnd.one_breaks s m ps f b ↦
-      let tested = (available_parts R sc s ((step_there R left sc from after t binds w best bs s m).0)).1 in
+      let tested = (available_parts R sc s ((step_there R left sc from after t binds w.both best bs s m).0)).1 in
       elim (none_or (R.made s)) [
         | inl e ↦ absurd (rs.whole s e ps f)
         | inr n ↦ absurd (given_holds (r s) (rs.field s (n.0) (n.1) (h.wants (n.0.site) (n.0.want) (tested (n.0) (n.1)))) f)

@@ -12,12 +12,12 @@ use Rattle.isle_trees.proofs.Basics.{true_or}
 use Rattle.isle_trees.proofs.Samples.{exact, lower}
 use Rattle.isle_trees.proofs.Sums.{filter_none}
 
-many_wants : (i s : ℕ) (w : Want Bool) → many_at i s ≡ Some w → (s ≡ 1) × (w ≡ one_value)
+pub many_wants : (i s : ℕ) (w : Want Bool) → many_at i s ≡ Some w → (s ≡ 1) × (w ≡ one_value)
 many_wants i zero w e = cc
 many_wants i (suc zero) w e = (refl, cc)
 many_wants i (suc (suc s)) w e = cc
 
-many_made_at : (s : ℕ) (m : Source Bool) → many_made s ≡ Some m → (s ≡ 2) × (m ≡ record { site = 1; want = one_value })
+pub many_made_at : (s : ℕ) (m : Source Bool) → many_made s ≡ Some m → (s ≡ 2) × (m ≡ record { site = 1; want = one_value })
 many_made_at zero m e = cc
 many_made_at (suc zero) m e = cc
 many_made_at (suc (suc zero)) m e = (refl, cc)

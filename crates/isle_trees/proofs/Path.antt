@@ -7,7 +7,7 @@ use Rattle.isle_trees.specs.Rules.{Want, has, one_value, Source, Rules, Elem, As
 use Rattle.isle_trees.specs.Premises.{IsWellMade}
 use Rattle.isle_trees.specs.Scopes.{Scope, join, emit, emit_all, inside, IsAvailable, Test, on_match, on_equal, on_loop, sites_of, has_test, counted, IsReady}
 use Rattle.isle_trees.specs.Builds.{IsBest, Binds, wanting}
-use Rattle.isle_trees.proofs.Basics.{true_or, some_elem, from_filter, SameIs, is_want_is, test_of, one_of, counted_has, or_right}
+use Rattle.isle_trees.proofs.Basics.{true_or, some_elem, from_filter, SameIs, JoinsBothWays, is_want_is, test_of, one_of, counted_has, or_right}
 use Rattle.isle_trees.proofs.Progress.{Carries}
 
 -- what the path knows is true
@@ -106,13 +106,13 @@ part_there R sc i sites _ f (IsPartOf.of_part s p h m) =
     ((available_parts R sc s (one.0)).0 p m, Asked.by_part s p (one.1) m)
 
 -- a rule that has a test asks its sites
-pub asks : {C V : Type 0} (R : Rules C V) (i : ℕ) (t : Test) → IsWellMade R → has_test R i t ≡ true → (s : ℕ) → Elem s (sites_of t) → Asked R i s
+pub asks : {C V : Type 0} (R : Rules C V) (i : ℕ) (t : Test) → JoinsBothWays R → has_test R i t ≡ true → (s : ℕ) → Elem s (sites_of t) → Asked R i s
 asks R i (on_match s) w h x (inl e) = let k = test_of _ h in subst (Asked R i) (sym e) (Asked.by_demand s (has (k.0)) (k.1))
 asks R i (on_match s) w h x (inr m) = absurd m
 asks R i (on_loop s) w h x (inl e) = subst (Asked R i) (sym e) (Asked.by_demand s one_value (one_of _ h))
 asks R i (on_loop s) w h x (inr m) = absurd m
 asks R i (on_equal a b) w h x (inl e) = subst (Asked R i) (sym e) (Asked.by_class a b h)
-asks R i (on_equal a b) w h x (inr (inl e)) = subst (Asked R i) (sym e) (Asked.by_class b a (w.both i a b h))
+asks R i (on_equal a b) w h x (inr (inl e)) = subst (Asked R i) (sym e) (Asked.by_class b a (w i a b h))
 asks R i (on_equal a b) w h x (inr (inr m)) = absurd m
 
 -- a ready test's sites are available
@@ -132,7 +132,7 @@ some_counted R left sc t best =
     (one.0, its.0, its.1)
 
 -- what comes before a step's test is available, and a rule left asks it
-pub step_there : {C V : Type 0} (R : Rules C V) (left : List ℕ) (sc from after : Scope C) (t : Test) (binds : List ℕ) → IsWellMade R → IsBest R left sc t
+pub step_there : {C V : Type 0} (R : Rules C V) (left : List ℕ) (sc from after : Scope C) (t : Test) (binds : List ℕ) → JoinsBothWays R → IsBest R left sc t
     → (bs : Binds R from (sites_of t) binds after) → (x : ℕ) → Elem x bs.all → IsAvailable R sc x × ((i : ℕ) × Elem i left × Asked R i x)
 step_there R left sc from after t binds w best bs x m =
     let its = some_counted R left sc t best in

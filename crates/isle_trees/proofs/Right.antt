@@ -58,7 +58,7 @@ on_bound {C} R r v left sc after t binds u o best bs valued = record {
   holds = subst (λ (c : Scope C). Holds R r c) (sym bs.ending) (holds_bound R r sc bs.all o.holds);
   valued = valued;
   calm = λ x f e. elim (emitted_or sc bs.all x (subst (λ (c : Scope C). c.emitted x ≡ true) bs.ending e)) [
-    | inl m ↦ let p = step_there R left sc sc after t binds u.made best bs x m in absurd (clash (R.effect x) f (u.single.pure (p.1.0) x (p.1.2)))
+    | inl m ↦ let p = step_there R left sc sc after t binds u.made.both best bs x m in absurd (clash (R.effect x) f (u.single.pure (p.1.0) x (p.1.2)))
     | inr g ↦ o.calm x f g
   ];
   closed = λ x p e m. subst (λ (c : Scope C). c.emitted p ≡ true) (sym bs.ending)

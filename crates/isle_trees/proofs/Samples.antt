@@ -22,14 +22,14 @@ exact = record {
 }
 
 -- only the first rule wants something, and of the call
-wants_at : (i s : ℕ) (w : Want Bool) → sample_at i s ≡ Some w → (i ≡ 0) × (s ≡ 1) × (w ≡ has true)
+pub wants_at : (i s : ℕ) (w : Want Bool) → sample_at i s ≡ Some w → (i ≡ 0) × (s ≡ 1) × (w ≡ has true)
 wants_at zero zero w e = cc
 wants_at zero (suc zero) w e = (refl, refl, cc)
 wants_at zero (suc (suc s)) w e = cc
 wants_at (suc i) s w e = cc
 
 -- and only its field is made
-made_at : (s : ℕ) (m : Source Bool) → sample_made s ≡ Some m → (s ≡ 2) × (m ≡ record { site = 1; want = has true })
+pub made_at : (s : ℕ) (m : Source Bool) → sample_made s ≡ Some m → (s ≡ 2) × (m ≡ record { site = 1; want = has true })
 made_at zero m e = cc
 made_at (suc zero) m e = cc
 made_at (suc (suc zero)) m e = (refl, cc)
@@ -158,7 +158,7 @@ builds = (
     emit_all nothing_known (0 ∷ 1 ∷ []),
     binds_call,
     (
-      ((0, inl refl, refl), (λ i d m e. refl)),
+      ((0, inl refl, refl), (λ i d m e. let h : has d ≡ has true = (wants_at i 1 (has d) e).2 in cc)),
       refl,
       (
         done_with (0 ∷ []) _ (inl refl),

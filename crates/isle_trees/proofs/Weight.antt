@@ -7,13 +7,12 @@ use Rattle.std.proofs.lemmas.List.Filters.{sum_by-filter_both}
 use Rattle.isle_trees.specs.Answers.{Answers}
 use Rattle.isle_trees.specs.Builds.{wanting, not_wanting, Builds, BuildsArms}
 use Rattle.isle_trees.specs.Counting.{fresh, different, untested, unlearned, weight, after, if_bound, reached, reached_arms}
-use Rattle.isle_trees.specs.Premises.{IsWellMade}
 use Rattle.isle_trees.specs.Rules.{Want, has, one_value, Rules, Elem, passes_got, alike_got}
 use Rattle.isle_trees.specs.Scopes.{Scope, join, emit, emit_all, is_want, inside, Test, on_match, on_equal, on_loop, counts, counted, others}
 use Rattle.isle_trees.specs.Tree.{Steps, done, «match», equal, loop, give, Arms, no_arm, arm}
 use Rattle.isle_trees.specs.Walk.{Bound, goes, opens, breaks, Outcome, chooses, ends, waits, stops, bind, walk, walk_arms}
-use Rattle.isle_trees.proofs.Basics.{true_or, to_filter, has_length, some_elem, is_want_full, counted_has}
-use Rattle.isle_trees.proofs.Path.{wanting_has, some_counted, passed_bound, label_bound}
+use Rattle.isle_trees.proofs.Basics.{true_or, to_filter, has_length, some_elem, SameIs, SameSelf, is_want_same, counted_has}
+use Rattle.isle_trees.proofs.Path.{wanting_is, some_counted, passed_bound, label_bound}
 
 any_elem : (x : ℕ) (xs : List ℕ) → Elem x xs → list_any (λ y. y == x) xs ≡ true
 any_elem x [] m = absurd m
@@ -111,10 +110,17 @@ sums_lt f g (y ∷ ys) x h (inl e) l =
     let p : f y + 1 ≤ g y = rw e at l in let q = sums_le f g ys (λ z n. h z (inr n)) in omega (arith, sum_by-cons f y ys, sum_by-cons g y ys)
 sums_lt f g (y ∷ ys) x h (inr m) l = let p = h y (inl refl) in let q = sums_lt f g ys x (λ z n. h z (inr n)) m l in omega (arith, sum_by-cons f y ys, sum_by-cons g y ys)
 
+-- what a rule wants is listed, and so are its classes
+abbrev pub WantsAreListed : {C V : Type 0} → Rules C V → Type 0
+WantsAreListed {C} R = (i s : ℕ) (w : Want C) → R.at i s ≡ Some w → Elem s (R.demands i)
+
+abbrev pub ClassesAreListed : {C V : Type 0} → Rules C V → Type 0
+ClassesAreListed R = (i a b : ℕ) → R.joins i a b ≡ true → (c : List ℕ) × Elem c (R.classes i) × Elem a c × Elem b c
+
 -- a join takes one from a rule that has it
-pub join_less : {C V : Type 0} (R : Rules C V) (sc : Scope C) (a b i : ℕ) → IsWellMade R → R.joins i a b ≡ true → sc.label a ≢ sc.label b → unlearned R (join sc a b) i + 1 ≤ unlearned R sc i
+pub join_less : {C V : Type 0} (R : Rules C V) (sc : Scope C) (a b i : ℕ) → ClassesAreListed R → R.joins i a b ≡ true → sc.label a ≢ sc.label b → unlearned R (join sc a b) i + 1 ≤ unlearned R sc i
 join_less R sc a b i w j n =
-    let g = w.grouped i a b j in
+    let g = w i a b j in
     let l : sum_by (λ c. different (map (join sc a b).label c)) (R.classes i) + 1 ≤ sum_by (λ c. different (map sc.label c)) (R.classes i) =
     sums_lt (λ c. different (map (join sc a b).label c)) (λ c. different (map sc.label c)) (R.classes i) (g.0)
     (λ c _. class_no_more sc a b c) (g.1) (class_one_less sc a b (g.0) n (g.2) (g.3)) in
@@ -127,11 +133,18 @@ tested_no_more R sc s x k = elim (true_or (x == s)) [ inl e ↦ rw e (omega arit
 tested_one_less : {C V : Type 0} (R : Rules C V) (sc : Scope C) (s : ℕ) (k : Want C) → sc.passed s ≡ None → untested (inside R sc s k) s + 1 ≤ untested sc s
 tested_one_less R sc s k e = rw (eq-eqb s s refl, e) (omega arith)
 
-pub pass_less : {C V : Type 0} (R : Rules C V) (sc : Scope C) (s : ℕ) (k : Want C) (i : ℕ) → IsWellMade R → sc.passed s ≡ None → R.at i s ≡ Some k → unlearned R (inside R sc s k) i + 1 ≤ unlearned R sc i
+pub pass_less : {C V : Type 0} (R : Rules C V) (sc : Scope C) (s : ℕ) (k : Want C) (i : ℕ) → WantsAreListed R → sc.passed s ≡ None → R.at i s ≡ Some k → unlearned R (inside R sc s k) i + 1 ≤ unlearned R sc i
 pass_less R sc s k i w e d =
     let l : sum_by (untested (inside R sc s k)) (R.demands i) + 1 ≤ sum_by (untested sc) (R.demands i) =
-    sums_lt (untested (inside R sc s k)) (untested sc) (R.demands i) s (λ x _. tested_no_more R sc s x k) (w.listed i s k d) (tested_one_less R sc s k e) in
+    sums_lt (untested (inside R sc s k)) (untested sc) (R.demands i) s (λ x _. tested_no_more R sc s x k) (w i s k d) (tested_one_less R sc s k e) in
     omega arith
+
+-- what the weights of a tree's rules ask of a rule set
+pub record IsWeighed {C V : Type 0} (R : Rules C V) : Type 0 where
+  pub same : SameIs R.tests
+  pub same_self : SameSelf R.tests
+  pub listed : WantsAreListed R
+  pub grouped : ClassesAreListed R
 
 -- binding changes nothing
 pub bound_same : {C V : Type 0} (R : Rules C V) (sc : Scope C) (xs left : List ℕ) → weight R (emit_all sc xs) left ≡ weight R sc left
@@ -151,29 +164,29 @@ all_less R sc to left less i m =
     sums_lt (λ j. unlearned R to j + 1) (λ j. unlearned R sc j + 1) left i (λ j n. let q = less j n in omega arith) m (let q = less i m in omega arith)
 
 -- the rules in an arm weigh less there
-pub arm_weighs : {C V : Type 0} (R : Rules C V) (sc : Scope C) (s : ℕ) (c : C) (left : List ℕ) → IsWellMade R → sc.passed s ≡ None → (i : ℕ) → Elem i left → R.at i s ≡ Some (has c)
+pub arm_weighs : {C V : Type 0} (R : Rules C V) (sc : Scope C) (s : ℕ) (c : C) (left : List ℕ) → SameIs R.tests → SameSelf R.tests → WantsAreListed R → sc.passed s ≡ None → (i : ℕ) → Elem i left → R.at i s ≡ Some (has c)
     → weight R (inside R sc s (has c)) (wanting R s c left) + 1 ≤ weight R sc left
-arm_weighs R sc s c left w e i m d =
-    let l = all_less R sc (inside R sc s (has c)) (wanting R s c left) (λ j n. pass_less R sc s (has c) j w e ((wanting_has R left s c w j n).1)) i
-    (to_filter _ left i m (is_want_full R (has c) _ w d)) in
+arm_weighs R sc s c left is self w e i m d =
+    let l = all_less R sc (inside R sc s (has c)) (wanting R s c left) (λ j n. pass_less R sc s (has c) j w e ((wanting_is R left s c is j n).1)) i
+    (to_filter _ left i m (is_want_same R.tests (has c) _ self d)) in
     let r = fewer_weigh R sc (λ j. is_want R.tests (has c) (R.at j s)) left in
     omega arith
 
-pub join_weighs : {C V : Type 0} (R : Rules C V) (sc : Scope C) (a b : ℕ) (left : List ℕ) → IsWellMade R → sc.label a ≢ sc.label b → ((i : ℕ) → Elem i left → R.joins i a b ≡ true)
+pub join_weighs : {C V : Type 0} (R : Rules C V) (sc : Scope C) (a b : ℕ) (left : List ℕ) → ClassesAreListed R → sc.label a ≢ sc.label b → ((i : ℕ) → Elem i left → R.joins i a b ≡ true)
     → 0 < length left → weight R (join sc a b) left + 1 ≤ weight R sc left
 join_weighs R sc a b left w n all l =
     let one = some_elem left l in
     all_less R sc (join sc a b) left (λ j m. join_less R sc a b j w (all j m) n) (one.0) (one.1)
 
 -- the rules in a loop weigh less there
-pub loop_weighs : {C V : Type 0} (R : Rules C V) (sc : Scope C) (s : ℕ) (left : List ℕ) → IsWellMade R → sc.passed s ≡ None → ((i : ℕ) → Elem i left → R.at i s ≡ Some one_value)
+pub loop_weighs : {C V : Type 0} (R : Rules C V) (sc : Scope C) (s : ℕ) (left : List ℕ) → WantsAreListed R → sc.passed s ≡ None → ((i : ℕ) → Elem i left → R.at i s ≡ Some one_value)
     → 0 < length left → weight R (inside R sc s one_value) left + 1 ≤ weight R sc left
 loop_weighs R sc s left w e all l =
     let one = some_elem left l in
     all_less R sc (inside R sc s one_value) left (λ j m. pass_less R sc s one_value j w e (all j m)) (one.0) (one.1)
 
 -- one return is reached
-first_weighs : {C V : Type 0} (R : Rules C V) (sc : Scope C) (left : List ℕ) (i : ℕ) → Elem i left → 1 ≤ weight R sc left
+pub first_weighs : {C V : Type 0} (R : Rules C V) (sc : Scope C) (left : List ℕ) (i : ℕ) → Elem i left → 1 ≤ weight R sc left
 first_weighs R sc [] i m = absurd m
 first_weighs R sc (x ∷ xs) i m = omega (arith, sum_by-cons (λ i. unlearned R sc i + 1) x xs)
 
@@ -209,7 +222,7 @@ not_bounded (arm d bindings body later) R v left sc s c i m h b =
 
 mutual
   -- a walk reaches no more steps than the rules left weigh
-  pub bounded : {C V : Type 0} (t : Steps C) (R : Rules C V) (v : Answers V) (left : List ℕ) (sc : Scope C) → IsWellMade R → Builds R left sc t → reached R v t ≤ weight R sc left
+  pub bounded : {C V : Type 0} (t : Steps C) (R : Rules C V) (v : Answers V) (left : List ℕ) (sc : Scope C) → IsWeighed R → Builds R left sc t → reached R v t ≤ weight R sc left
   bounded done R v left sc w b = omega arith
   bounded (give binds i next) R v left sc w b = first_weighs R sc left i (b.1.0.0)
   bounded (loop binds x body next) R v left sc w (s, made, best, rest) = let one = some_counted R left sc (on_loop s) best in first_weighs R sc left (one.0) (one.1)
@@ -229,19 +242,19 @@ mutual
       let apart : aft.label a ≢ aft.label b = λ e. best.ready.5 (sym (label_bound sc bs.all a) ∙ rw bs.ending at e ∙ label_bound sc bs.all b) in
       let p : reached R v body ≤ weight R (join aft a b) (counted R (on_equal a b) left) = bounded body R v (counted R (on_equal a b) left) (join aft a b) w inner in
       let l : weight R (join aft a b) (counted R (on_equal a b) left) + 1 ≤ weight R aft (counted R (on_equal a b) left) =
-      join_weighs R aft a b (counted R (on_equal a b) left) w apart (λ i m. (counted_has R (on_equal a b) left i m).1) best.useful in
+      join_weighs R aft a b (counted R (on_equal a b) left) w.grouped apart (λ i m. (counted_has R (on_equal a b) left i m).1) best.useful in
       let q : reached R v next ≤ weight R aft (others R (on_equal a b) left) = bounded next R v (others R (on_equal a b) left) aft w rest in
       let e = equal_bounded (alike_got R (v a) (v b)) (walk R v body) (reached R v body) (reached R v next) _ _ _ _ _ p l q split same in
       let t = if_small (bind v binds) ((if alike_got R (v a) (v b) then reached R v body else 0) + after (if alike_got R (v a) (v b) then walk R v body else ends) (reached R v next)) in
       omega arith
 
-  pub bounded_arms : {C V : Type 0} (arms : Arms C) (R : Rules C V) (v : Answers V) (left : List ℕ) (sc : Scope C) (s : ℕ) → IsWellMade R → sc.passed s ≡ None → 0 < length left
+  pub bounded_arms : {C V : Type 0} (arms : Arms C) (R : Rules C V) (v : Answers V) (left : List ℕ) (sc : Scope C) (s : ℕ) → IsWeighed R → sc.passed s ≡ None → 0 < length left
       → BuildsArms R left sc s arms → reached_arms R v s arms + 1 ≤ weight R sc left
   bounded_arms no_arm R v left sc s w e l b = absurd (nothing left l b)
   bounded_arms (arm c bindings body later) R v left sc s w e l b = elim (true_or (passes_got R c (v s))) [
     | inl y ↦ rw y (
         let p : reached R v body ≤ weight R (inside R sc s (has c)) (wanting R s c left) = bounded body R v (wanting R s c left) (inside R sc s (has c)) w (b.2) in
-        let q : weight R (inside R sc s (has c)) (wanting R s c left) + 1 ≤ weight R sc left = arm_weighs R sc s c left w e (b.0.0.0) (b.0.0.1) (b.0.0.2) in
+        let q : weight R (inside R sc s (has c)) (wanting R s c left) + 1 ≤ weight R sc left = arm_weighs R sc s c left w.same w.same_self w.listed e (b.0.0.0) (b.0.0.1) (b.0.0.2) in
         omega arith)
     | inr n ↦ rw n (not_bounded later R v left sc s c (b.0.0.0) (b.0.0.1) (λ h. bounded_arms later R v (not_wanting R s c left) sc s w e h (b.3)) (b.3))
   ]

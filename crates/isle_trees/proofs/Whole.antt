@@ -20,7 +20,8 @@ use Rattle.isle_trees.specs.Walk.{goes, opens, breaks, Outcome, chooses, ends, w
 use Rattle.isle_trees.proofs.Ascending.{ascending}
 use Rattle.isle_trees.proofs.Asking.{used_part, asked}
 use Rattle.isle_trees.proofs.Bags.{rounds}
-use Rattle.isle_trees.proofs.Basics.{none_or, given_holds}
+use Rattle.isle_trees.specs.Search.{IsBuildable}
+use Rattle.isle_trees.proofs.Basics.{SameSelf, JoinsBothWays, none_or, given_holds}
 use Rattle.isle_trees.proofs.Calling.{calls_model}
 use Rattle.isle_trees.proofs.Fields.{no_field}
 use Rattle.isle_trees.proofs.Path.{Holds}
@@ -30,7 +31,7 @@ use Rattle.isle_trees.proofs.Right.{IsRun, IsOn, Says, says}
 use Rattle.isle_trees.proofs.Rounds.{rest_of, gain, worth, IsPlaced}
 use Rattle.isle_trees.proofs.Running.{runs}
 use Rattle.isle_trees.proofs.Sums.{sum_same, sum_flat, sum_map, sum_filter, filter_all}
-use Rattle.isle_trees.proofs.Weight.{fresh_small, sums_le, bounded}
+use Rattle.isle_trees.proofs.Weight.{IsWeighed, fresh_small, sums_le, bounded}
 
 none_some : {A B : Type 0} (a : A) → None ≡ Some a → B
 none_some a e = cc
@@ -108,11 +109,17 @@ whole_fails R left T r i e tree its rs st is =
 pub whole_fields : {C V : Type 0} (R : Rules C V) (left : List ℕ) (T : Steps C) → IsWellMade R → HasItsTests R → Builds R left nothing_known T → BindsNoField R T
 whole_fields R left T w its b = no_field T R left nothing_known w its (carries_nothing R left) (λ x m e p. none_some m.want p) b
 
-pub whole_ascends : {C V : Type 0} (R : Rules C V) (left : List ℕ) (T : Steps C) → IsWellMade R → Builds R left nothing_known T → Ascends R T
+pub whole_ascends : {C V : Type 0} (R : Rules C V) (left : List ℕ) (T : Steps C) → SameSelf R.tests → Builds R left nothing_known T → Ascends R T
 whole_ascends R left T w b = ascending T R left nothing_known w b
 
-pub whole_asked : {C V : Type 0} (R : Rules C V) (left : List ℕ) (T : Steps C) → IsWellMade R → Builds R left nothing_known T → AsksOnly R left T
+pub whole_asked : {C V : Type 0} (R : Rules C V) (left : List ℕ) (T : Steps C) → JoinsBothWays R → Builds R left nothing_known T → AsksOnly R left T
 whole_asked R left T w b = asked T R left left nothing_known w (λ i m. m) b
+
+pub weighed_well : {C V : Type 0} (R : Rules C V) → IsWellMade R → IsWeighed R
+weighed_well R w = record { same = w.exact.same; same_self = w.exact.same_self; listed = w.listed; grouped = w.grouped }
+
+pub weighed_buildable : {C V : Type 0} (R : Rules C V) (n : ℕ) (rules : List ℕ) → IsBuildable R n rules → IsWeighed R
+weighed_buildable R n rules b = record { same = b.same; same_self = b.same_self; listed = b.listed; grouped = b.grouped }
 
 few_labels : (f : ℕ → ℕ) (c : List ℕ) → different (map f c) ≤ length c
 few_labels f [] = omega arith
@@ -125,7 +132,7 @@ few_sites sc (x ∷ xs) =
     let q : untested sc x ≤ 1 = elim (none_or (sc.passed x)) [ inl e ↦ rw e (omega arith) | inr e ↦ rw (e.1) (omega arith) ] in
     omega (arith, sum_by-cons (untested sc) x xs)
 
-pub whole_steps : {C V : Type 0} (R : Rules C V) (left : List ℕ) (T : Steps C) (v : Answers V) → IsWellMade R → Builds R left nothing_known T → reached R v T ≤ steps_at_most R left
+pub whole_steps : {C V : Type 0} (R : Rules C V) (left : List ℕ) (T : Steps C) (v : Answers V) → IsWeighed R → Builds R left nothing_known T → reached R v T ≤ steps_at_most R left
 whole_steps {C} R left T v w b =
     let p = bounded T R v left nothing_known w b in
     let q : weight R nothing_known left ≤ steps_at_most R left =

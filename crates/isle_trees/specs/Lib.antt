@@ -18,3 +18,4 @@ pub mod Sample
 pub mod Ranking
 pub mod Search
 pub mod Gathering
+pub mod Values

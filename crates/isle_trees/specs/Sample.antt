@@ -13,9 +13,14 @@ abbrev pub same_bool : Bool → Bool → Bool
 same_bool true b = b
 same_bool false b = not b
 
+-- false stands before true
+abbrev pub bool_at_most : Bool → Bool → Bool
+bool_at_most true d = d
+bool_at_most false d = true
+
 -- a value passes the test of being itself
 abbrev pub truth_tests : Tests Bool Bool
-truth_tests = record { same = same_bool; at_most = λ c d. true; passes = same_bool; alike = same_bool }
+truth_tests = record { same = same_bool; at_most = bool_at_most; passes = same_bool; alike = same_bool }
 
 abbrev pub sample_at : ℕ → ℕ → Option (Want Bool)
 sample_at zero zero = None

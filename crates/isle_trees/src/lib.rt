@@ -8,7 +8,7 @@ ghost use Rattle.isle_trees.specs.Answers.{Answers, Extends, Agree};
 ghost use Rattle.isle_trees.specs.Tree.{Steps};
 ghost use Rattle.isle_trees.specs.Rules.{Rules, IsPartOf, rights};
 ghost use Rattle.isle_trees.specs.Premises.{IsWellMade, IsSingle, UsesNoMulti, HasItsTests, Respects, KnowsAsked, IsStrict};
-ghost use Rattle.isle_trees.specs.Scopes.{nothing_known};
+ghost use Rattle.isle_trees.specs.Scopes.{Scope, nothing_known};
 ghost use Rattle.isle_trees.specs.Builds.{Builds, IsTreeOf};
 ghost use Rattle.isle_trees.specs.Walk.{goes, breaks, chooses, waits, walk};
 ghost use Rattle.isle_trees.specs.Choice.{IsRight, IsSure, LeavesOff, ReturnsInOrder, IsKept, AreKept};
@@ -19,6 +19,8 @@ ghost use Rattle.isle_trees.specs.Machine.{Makes, IsMadeBy, run};
 ghost use Rattle.isle_trees.specs.Bag.{Picks, pick, gave, Model, IsModel, IsMany, IsAscending, Tells, walk_all, bag, IsSameBag};
 ghost use Rattle.isle_trees.specs.Calls.{Lists, AreFunctions, model_of};
 ghost use Rattle.isle_trees.specs.Sample.{sample, sample_tree, with_call, sample_program, many_sample, many_tree, many_model};
+ghost use Rattle.isle_trees.specs.Search.{IsBuildable};
+ghost use Rattle.isle_trees.specs.Values.{over_values};
 ghost use Rattle.isle_trees.specs.Depths.{Program, IsProgram, run_to, Means, Chain};
 
 /// Where all that the rules' tests ask is answered, the tree chooses as the rules do, and ends as the chosen rule's right side does.
@@ -77,6 +79,16 @@ pub fn arms_ascend<C, V>()
     ensures { (R : Rules C V) (left : List ℕ) (T : Steps C) → IsWellMade R → Builds R left nothing_known T → Ascends R T }
 {}
 
+/// These three hold of whatever rules a tree is built from, whether or not two tests of a site may both pass.
+pub fn built_trees_are_short_and_ascend<C, V>()
+    ensures short { (R : Rules C V) (n : ℕ) (left : List ℕ) (T : Steps C) (v : Answers V) → IsBuildable R n left → Builds R left nothing_known T
+        → reached R v T ≤ steps_at_most R left }
+    ensures asks { (R : Rules C V) (n : ℕ) (left : List ℕ) (T : Steps C) → IsBuildable R n left → Builds R left nothing_known T
+        → AsksOnly R left T }
+    ensures ascends { (R : Rules C V) (n : ℕ) (left : List ℕ) (T : Steps C) → IsBuildable R n left → Builds R left nothing_known T
+        → Ascends R T }
+{}
+
 /// What a test makes is bound by it alone, up to a first return, but for contents of options that calls give.
 pub fn tests_bind_their_fields<C, V>()
     ensures { (R : Rules C V) (left : List ℕ) (T : Steps C) → IsWellMade R → HasItsTests R → Builds R left nothing_known T
@@ -119,10 +131,23 @@ pub fn unanswered_runs_have_a_chain<C, V>()
     ensures { (P : Program C V) (n t : ℕ) (args : List V) → IsProgram P → run_to P n t args ≡ unknown → Chain P n t args }
 {}
 
+/// Which trees rules build doesn't depend on how their tests pass, or how values compare.
+pub fn building_asks_no_values<C, V, W>()
+    ensures { (R : Rules C V) (passes : C → W → Bool) (alike : W → W → Bool) (left : List ℕ) (sc : Scope C) (T : Steps C) → Builds R left sc T
+        → Builds (over_values R passes alike) left sc T }
+{}
+
+/// Nor on the order in which the rules left stand.
+pub fn building_asks_no_order<C, V>()
+    ensures { (R : Rules C V) (left again : List ℕ) (sc : Scope C) (T : Steps C) → IsSameBag left again → Builds R left sc T
+        → Builds R again sc T }
+{}
+
 /// The premises can be met: a sample meets them.
 pub fn the_sample_meets_the_premises()
     ensures set { IsTreeOf sample (0 ∷ 1 ∷ []) sample_tree }
     ensures fields { HasItsTests sample × IsListed sample }
+    ensures buildable { IsBuildable sample 3 (0 ∷ 1 ∷ []) }
     ensures program { IsProgram sample_program }
     ensures answers { (g : Got Bool) → g ≢ fails → Respects sample (with_call g) × IsStrict sample (with_call g) }
     ensures unanswered { walk sample (with_call unknown) sample_tree ≡ waits 1 }
@@ -133,6 +158,7 @@ pub fn the_sample_meets_the_premises()
 /// So can those of a `multi` term: a sample meets them, and its walk answers once for each value of the call.
 pub fn the_multi_sample_meets_the_premises()
     ensures set { IsWellMade many_sample × IsMany many_sample × Builds many_sample (0 ∷ []) nothing_known many_tree }
+    ensures buildable { IsBuildable many_sample 3 (0 ∷ []) }
     ensures functions { AreFunctions many_sample (λ s xs. gives true) (λ s xs. true ∷ false ∷ []) (λ h. true) }
     ensures tells { Tells many_sample many_model (λ h i. true) }
     ensures rounds { (h : Picks Bool) → walk_all many_sample many_model many_tree h ≡ gave 0 (pick h 1 true) ∷ gave 0 (pick h 1 false) ∷ [] }

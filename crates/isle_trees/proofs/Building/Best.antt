@@ -1,7 +1,7 @@
 -- The best test is a maximum.
 use Rattle.std.proofs.Common.{◌≡◌, ◌≢◌, ◌⊎◌, inl, inr, ℕ, ◌<◌, ◌≤◌, ◌==◌, ◌&&◌, ◌||◌, nat_lt, List, Bool, true, false, Option, Some, None, length, refl, sym, ◌∙◌, subst, arith, eqb-true}
 use Rattle.std.proofs.lemmas.Bool.{ltb-true, ltb-false, eqb-false}
-use Rattle.isle_trees.specs.Builds.{Key, key, IsAtMost, IsBest, HasNoTest}
+use Rattle.isle_trees.specs.Builds.{Key, key, IsAtMost}
 use Rattle.isle_trees.specs.Ranking.{Ranked, above, better, IsRanked, IsNoBetter}
 use Rattle.isle_trees.specs.Rules.{Rules}
 use Rattle.isle_trees.specs.Scopes.{Scope, Test, on_match, on_equal, on_loop, counted, IsReady}

@@ -1,5 +1,5 @@
 -- A test counts no more rules than have it, and may be passed over by that.
-use Rattle.std.proofs.Common.{◌≡◌, ◌≢◌, inl, inr, ℕ, ◌+◌, ◌<◌, ◌≤◌, ◌==◌, ◌++◌, List, [], ◌∷◌, true, false, Option, Some, None, length, refl, sym, ◌∙◌, subst, arith, get_or, take, eqb-true, eq-eqb}
+use Rattle.std.proofs.Common.{◌≡◌, ◌≢◌, inl, inr, ℕ, ◌+◌, ◌<◌, ◌≤◌, ◌==◌, List, [], ◌∷◌, true, false, Option, Some, None, length, refl, sym, ◌∙◌, subst, arith, get_or, take, eqb-true, eq-eqb}
 use Rattle.std.proofs.lemmas.Bool.{false≢true}
 use Rattle.std.specs.Prelude.{if◌then◌else◌}
 use Rattle.isle_trees.specs.Builds.{Key, key, IsAtMost}

@@ -1,14 +1,14 @@
 -- Sites are bound in order.
-use Rattle.std.proofs.Common.{◌≡◌, ◌≢◌, ◌⊎◌, inl, inr, ℕ, ◌<◌, ◌==◌, ◌||◌, ◌++◌, List, [], ◌∷◌, Bool, true, false, length, refl, sym, ◌∙◌, ap, subst, arith, append_assoc, append-nil, eqb-true, eq-eqb}
+use Rattle.std.proofs.Common.{◌≡◌, ◌≢◌, inl, inr, ℕ, ◌<◌, ◌==◌, ◌||◌, ◌++◌, List, [], ◌∷◌, Bool, true, false, refl, sym, ◌∙◌, ap, subst, arith, append_assoc, append-nil, eqb-true, eq-eqb}
 use Rattle.std.specs.List.{filter}
 use Rattle.isle_trees.specs.Builds.{IsOrder, Binds, BindsEach, own}
 use Rattle.isle_trees.specs.Ranking.{AllBelow, Emits, EmitsOne, EmitsEach}
 use Rattle.isle_trees.specs.Rules.{Rules, Elem, IsPartOf}
 use Rattle.isle_trees.specs.Scopes.{Scope, emit, emit_all}
 use Rattle.isle_trees.proofs.Asking.{elem_append}
-use Rattle.isle_trees.proofs.Basics.{true_or, or_right}
+use Rattle.isle_trees.proofs.Basics.{true_or}
 use Rattle.isle_trees.proofs.Building.Lists.{elem_left, elem_right, filter_append}
-use Rattle.isle_trees.proofs.Leaf.{part_more, parts_up}
+use Rattle.isle_trees.proofs.Leaf.{part_more}
 use Rattle.isle_trees.proofs.Path.{still_emitted}
 
 -- parts stand before what is made of them
@@ -178,4 +178,3 @@ each_from R sc after us vs old new same none (binds, each, w) =
     let P : List ℕ → Type 0 = λ l. BindsEach R sc us l after in
     let Q : List ℕ → Type 0 = λ l. BindsEach R sc l new after in
     subst Q same (subst P (sym (w ∙ ap (λ (l : List ℕ). l ++ binds) none)) each)
-

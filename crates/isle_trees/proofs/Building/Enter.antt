@@ -1,9 +1,9 @@
 -- What is known inside an arm, bound from a list; the same path.
-use Rattle.std.proofs.Common.{◌≡◌, ◌⊎◌, inl, inr, ℕ, ◌+◌, ◌<◌, ◌≤◌, ◌==◌, ◌||◌, List, [], ◌∷◌, Bool, true, false, Option, Some, None, length, refl, sym, ◌∙◌, ap, subst, get_or, take, eqb-true, eq-eqb}
+use Rattle.std.proofs.Common.{◌≡◌, ◌⊎◌, inl, inr, ℕ, ◌+◌, ◌<◌, ◌≤◌, ◌==◌, ◌||◌, List, [], Bool, true, false, Some, None, length, refl, sym, ◌∙◌, ap, subst, get_or, take, eqb-true, eq-eqb}
 use Rattle.std.proofs.lemmas.List.{take_all}
 use Rattle.isle_trees.specs.Rules.{Want, Source, Rules, Elem}
 use Rattle.isle_trees.specs.Scopes.{Scope, emit, emit_all, join, release, is_source, inside, IsAvailable}
-use Rattle.isle_trees.specs.Search.{is_marked, AreSound, AreMarked, IsIndex, IsSamePath, with_made}
+use Rattle.isle_trees.specs.Search.{AreSound, AreMarked, IsIndex, IsSamePath, with_made}
 use Rattle.isle_trees.proofs.Basics.{SameIs, true_or, or_right, or_holds, source_is}
 use Rattle.isle_trees.proofs.Building.Lists.{both_ways, last_or}
 use Rattle.isle_trees.proofs.Building.Scopes.{scope_same}
@@ -71,7 +71,6 @@ pub entering_more : {C V : Type 0} (R : Rules C V) (s : ℕ) (w : Want C) (xs : 
     → Entering R s w (take (i + 1) xs) start new
 entering_more R s w xs i start now new l e h = let P : Scope _ → Type 0 = λ x. Entering R s w (take (i + 1) xs) start x in subst P (sym e) (entering_with R s w xs i start now l h)
 
-
 or_first : (a b : Bool) → a ≡ true → (a || b) ≡ true
 or_first true b e = refl
 or_first false b e = cc
@@ -138,4 +137,3 @@ pub path_released : {C : Type 0} (sc freed after last : Scope C) (s : ℕ) (xs :
 path_released sc freed after last s xs f e l =
     let P : Scope _ → Type 0 = λ x. IsSamePath after x in
     same_path_trans sc after last (path_freed sc freed after s xs f e) (subst P (sym l) (record { passed = λ y. refl; label = λ y. refl }))
-

@@ -1,10 +1,10 @@
 -- Rules in order stay so in their parts, and return from the front.
-use Rattle.std.proofs.Common.{◌≡◌, ◌≢◌, inl, inr, ℕ, suc, zero, ◌+◌, ◌<◌, ◌≤ℤ◌, ◌==◌, not, List, [], ◌∷◌, Bool, true, length, refl, sym, ap, subst, arith, get_or, drop, eqb-true, eq-eqb}
+use Rattle.std.proofs.Common.{◌≡◌, ◌≢◌, inl, inr, ℕ, suc, zero, ◌+◌, ◌<◌, ◌==◌, not, List, [], ◌∷◌, Bool, length, refl, sym, ap, subst, arith, get_or, drop, eqb-true, eq-eqb}
 use Rattle.std.proofs.lemmas.Int.{ints}
 use Rattle.std.proofs.lemmas.List.{drop_more}
 use Rattle.std.specs.List.{filter}
 use Rattle.isle_trees.specs.Builds.{IsFirst, BindsEach, Returns, without, wanting, not_wanting}
-use Rattle.isle_trees.specs.Rules.{has, Rules, Elem, rights}
+use Rattle.isle_trees.specs.Rules.{has, Rules, rights}
 use Rattle.isle_trees.specs.Scopes.{Scope, is_want, Test, counts, counted, others}
 use Rattle.isle_trees.specs.Search.{Precedes, IsInOrder, AreDistinct}
 use Rattle.isle_trees.specs.Tree.{Steps, give}
@@ -69,7 +69,6 @@ returns_more R left i sc after binds T o l b r =
     let P : List ℕ → Type 0 = λ x. Returns R x sc (give binds (get_or left i 0) T) in
     let Q : List ℕ → Type 0 = λ x. IsInOrder R x in
     subst P (sym e) (give_head R (get_or left i 0) (drop (i + 1) left) sc after binds T (subst Q e (drop_in_order R i left o)) b r)
-
 
 pub in_order_distinct : {C V : Type 0} (R : Rules C V) (xs : List ℕ) → IsInOrder R xs → AreDistinct xs
 in_order_distinct R [] o = tt

@@ -1,5 +1,5 @@
 -- What is available, marked over lists of sites whose parts come first.
-use Rattle.std.proofs.Common.{◌≡◌, ◌≢◌, ◌⊎◌, inl, inr, ℕ, ◌+◌, ◌<◌, List, [], ◌∷◌, Bool, true, false, Option, Some, None, length, refl, sym, ◌∙◌, ap, subst, get_or, set, take, length-set}
+use Rattle.std.proofs.Common.{◌≡◌, ◌≢◌, inl, inr, ℕ, ◌+◌, ◌<◌, List, [], Bool, true, false, Option, Some, None, length, refl, sym, ◌∙◌, subst, get_or, set, take, length-set}
 use Rattle.std.proofs.lemmas.List.{get_or-set_same, get_or-set_other}
 use Rattle.isle_trees.specs.Rules.{Tests, Source, Rules, Elem, Asked}
 use Rattle.isle_trees.specs.Scopes.{Scope, IsAvailable}
@@ -108,4 +108,3 @@ group_more R sc left i n asked old new l g all sound full kept size = record {
         ];
   };
 }
-

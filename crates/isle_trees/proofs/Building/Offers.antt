@@ -1,5 +1,5 @@
 -- The tests that the top rules offer are all that matter.
-use Rattle.std.proofs.Common.{◌≡◌, ◌≢◌, ◌⊎◌, inl, inr, ℕ, ℤ, suc, zero, ◌+◌, ◌<◌, ◌≤◌, ◌<ℤ◌, ◌≤ℤ◌, ◌==◌, ◌&&◌, ◌++◌, not, nat_lt, List, [], ◌∷◌, Bool, true, false, Option, Some, None, length, refl, sym, ◌∙◌, ap, subst, arith, get_or, take, map, Contains, below_more}
+use Rattle.std.proofs.Common.{◌≡◌, ◌⊎◌, inl, inr, ℕ, ℤ, suc, zero, ◌+◌, ◌<◌, ◌≤◌, ◌<ℤ◌, ◌≤ℤ◌, ◌==◌, ◌++◌, not, nat_lt, List, [], ◌∷◌, Bool, true, Option, Some, None, length, refl, sym, ◌∙◌, ap, subst, arith, get_or, take, map, Contains, below_more}
 use Rattle.std.proofs.lemmas.Bool.{lt-ltb, ltb-true, eqb-false}
 use Rattle.std.proofs.lemmas.Int.{ints}
 use Rattle.std.proofs.lemmas.List.{get_or_default, take_all}
@@ -7,13 +7,13 @@ use Rattle.std.proofs.lemmas.List.Elements.{Contains-get_or}
 use Rattle.std.specs.Prelude.{is_some}
 use Rattle.isle_trees.specs.Builds.{Key, key, IsAtMost, IsBest, HasNoTest}
 use Rattle.isle_trees.specs.Ranking.{Ranked, IsRanked, IsNoBetter}
-use Rattle.isle_trees.specs.Rules.{Want, has, one_value, Rules, Elem, Asked}
+use Rattle.isle_trees.specs.Rules.{has, one_value, Rules, Elem, Asked}
 use Rattle.isle_trees.specs.Scopes.{Scope, IsAvailable, IsReady, Test, on_match, on_equal, on_loop, has_test, allows, counts, counted}
 use Rattle.isle_trees.specs.Search.{IsInOrder, top, is_open, is_ready, is_marked, AreOffers, AreOffersOf, AreSound, AreMarked}
 use Rattle.isle_trees.proofs.Asking.{elem_append}
-use Rattle.isle_trees.proofs.Basics.{and_both, both_and, from_filter, all_gives, not_true, or_holds, some_elem, test_of, one_of, elem_contains, contains_elem}
+use Rattle.isle_trees.proofs.Basics.{JoinsBothWays, and_both, both_and, from_filter, all_gives, not_true, or_holds, some_elem, test_of, one_of, elem_contains, contains_elem}
 use Rattle.isle_trees.proofs.Building.Best.{key_count, none_least, HasCount}
-use Rattle.isle_trees.proofs.Building.Lists.{zero_or, not_same, elem_left, elem_right, elem_at, last_or}
+use Rattle.isle_trees.proofs.Building.Lists.{zero_or, not_same, elem_left, elem_right, last_or}
 use Rattle.isle_trees.proofs.Building.Search.{precedes_most, at_most_true}
 
 -- all that some rules have and that can be made, and nothing that can't
@@ -94,10 +94,6 @@ ready_sound R sc marks (on_equal a b) h e =
     let x = open_sound R sc marks a h (q.0) in
     let y = open_sound R sc marks b h (r.0) in
     (ltb-true a b (p.0), x.0, y.0, x.1, y.1, eqb-false _ _ (not_true _ (r.1)))
-
--- two sites are joined in both directions
-abbrev pub JoinsBothWays : {C V : Type 0} → Rules C V → Type 0
-JoinsBothWays R = (i a b : ℕ) → R.joins i a b ≡ true → R.joins i b a ≡ true
 
 pub ready_full : {C V : Type 0} (R : Rules C V) (left : List ℕ) (sc : Scope C) (marks : List Bool) (t : Test) (i : ℕ) → JoinsBothWays R → AreMarked R left sc marks → Elem i left
     → has_test R i t ≡ true → IsReady R sc t → is_ready sc marks t ≡ true
@@ -199,7 +195,7 @@ pub searched : {C V : Type 0} {A : Type 0} (R : Rules C V) (left : List ℕ) (sc
 searched R left sc marks f offers ds d best n w o h p keeps l k =
     all_no_better R left sc marks (map f offers) (map f ds) best w o h p
     (λ t m.
-        let one = map_elem f t offers m in
-        let P : Test → Type 0 = λ q. Elem q (map f ds) in
-        subst P (sym (one.2)) (elem_map f (one.0) ds (contains_elem (one.0) ds (keeps (one.0) (elem_contains (one.0) offers (one.1))))))
+    let one = map_elem f t offers m in
+    let P : Test → Type 0 = λ q. Elem q (map f ds) in
+    subst P (sym (one.2)) (elem_map f (one.0) ds (contains_elem (one.0) ds (keeps (one.0) (elem_contains (one.0) offers (one.1))))))
     (all_considered R left sc best f ds d n l k)

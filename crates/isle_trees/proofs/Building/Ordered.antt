@@ -1,5 +1,5 @@
 -- A sort puts rules in order.
-use Rattle.std.proofs.Common.{◌≡◌, ◌≢◌, ◌⊎◌, inl, inr, ℕ, ℤ, suc, ◌+◌, ◌<◌, ◌≤◌, ◌<ℤ◌, ◌≤ℤ◌, ◌==◌, nat_lt, List, [], ◌∷◌, true, false, length, refl, sym, ◌∙◌, ap, subst, arith, get_or, add-one, eqb-true, eq-eqb}
+use Rattle.std.proofs.Common.{◌≡◌, ◌≢◌, ◌⊎◌, inl, inr, ℕ, ℤ, suc, ◌+◌, ◌<◌, ◌≤◌, ◌<ℤ◌, ◌≤ℤ◌, ◌==◌, nat_lt, List, [], ◌∷◌, true, false, length, refl, sym, ◌∙◌, subst, arith, get_or, add-one, eqb-true, eq-eqb}
 use Rattle.std.proofs.lemmas.Bool.{ltb-true, ltb-false}
 use Rattle.std.proofs.lemmas.Bool.Decides.{Decides-int_eq}
 use Rattle.std.proofs.lemmas.Int.{ints}

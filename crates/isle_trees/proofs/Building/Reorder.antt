@@ -143,7 +143,6 @@ mutual
     same_arms R more (not_wanting R s c xs) (not_wanting R s c ys) sc s (same_filter (λ i. not (is_want R.tests (has c) (R.at i s))) xs ys h) (b.3),
   )
 
-
 pub same_weight : {C V : Type 0} (R : Rules C V) (sc : Scope C) (xs ys : List ℕ) → IsSameBag xs ys → weight R sc xs ≡ weight R sc ys
 same_weight R sc xs ys h = h (λ i. unlearned R sc i + 1)
 

@@ -1,5 +1,5 @@
 -- Rules by the test that they want of a site: runs at the front.
-use Rattle.std.proofs.Common.{◌≡◌, ◌≢◌, ◌⊎◌, inl, inr, ℕ, suc, zero, ◌+◌, ◌-◌, ◌<◌, ◌≤◌, not, List, [], ◌∷◌, Bool, true, false, Option, Some, None, length, refl, sym, ◌∙◌, ap, subst, arith, get_or, drop, add-one, length-drop}
+use Rattle.std.proofs.Common.{◌≡◌, ◌≢◌, ◌⊎◌, inl, inr, ℕ, suc, zero, ◌+◌, ◌-◌, ◌<◌, ◌≤◌, not, List, [], ◌∷◌, true, false, Option, Some, None, length, refl, sym, ◌∙◌, ap, subst, arith, get_or, drop, add-one, length-drop}
 use Rattle.std.proofs.lemmas.List.{drop_more, drop-drop}
 use Rattle.std.specs.Cmp.{IsStrictWeakOrder}
 use Rattle.std.specs.List.Sorted.{IsSortedBy}
@@ -194,8 +194,8 @@ pub sorted_grouped : {C V : Type 0} (R : Rules C V) (s : ℕ) (xs ys : List ℕ)
 sorted_grouped R s xs ys o d same h =
     grouped R s ys o
     (none_first R s ys o (λ k l.
-        let e : comes_first R s (get_or ys (k + 1) 0) (get_or ys k 0) ≡ false = h k 0 (omega arith) (omega arith) in
-        rw add-one at e))
+    let e : comes_first R s (get_or ys (k + 1) 0) (get_or ys k 0) ≡ false = h k 0 (omega arith) (omega arith) in
+    rw add-one at e))
     (same_distinct xs ys same d)
 
 -- the same where they were in order
@@ -250,9 +250,9 @@ later_want {C} R s x c xs k g w low e y (inr m) =
     let df : R.tests.at_most (d.0) (f.0) ≡ true = not_lower R s x y (d.0) (f.0) k (g.0 y m) (d.1) (f.1) in
     other_want R.tests c (f.0) (R.at y s) k
     (λ q.
-        let P : C → Type 0 = λ z. R.tests.at_most (d.0) z ≡ true in
-        let same : c ≡ d.0 = k.least_both c (d.0) cd (subst P (sym q) df) in
-        clash _ (is_want_same R.tests (has c) (R.at x s) k.same_self (d.1 ∙ ap (λ (z : C). Some (has z)) (sym same))) e)
+    let P : C → Type 0 = λ z. R.tests.at_most (d.0) z ≡ true in
+    let same : c ≡ d.0 = k.least_both c (d.0) cd (subst P (sym q) df) in
+    clash _ (is_want_same R.tests (has c) (R.at x s) k.same_self (d.1 ∙ ap (λ (z : C). Some (has z)) (sym same))) e)
     (f.1)
 
 pub front_is : {C V : Type 0} (R : Rules C V) (s : ℕ) (c : C) (xs : List ℕ) → AreOrdered R.tests → AreGrouped R s xs → AllWant R xs s → IsLow R s c xs

@@ -1,5 +1,5 @@
 -- What a path knows, as lists keep it.
-use Rattle.std.proofs.Common.{◌≡◌, ◌≢◌, ◌⊎◌, inl, inr, ℕ, suc, zero, ◌+◌, ◌<◌, ◌≤◌, ◌==◌, ◌++◌, List, [], ◌∷◌, Bool, false, Option, Some, None, length, refl, sym, ◌∙◌, ap, arith, get_or, map, set, length-set, eqb-true}
+use Rattle.std.proofs.Common.{◌≡◌, ◌≢◌, inl, inr, ℕ, suc, zero, ◌<◌, ◌≤◌, ◌==◌, List, [], ◌∷◌, Bool, false, Option, Some, None, length, refl, sym, ◌∙◌, ap, arith, get_or, map, set, eqb-true}
 use Rattle.std.proofs.lemmas.Bool.{eqb-false}
 use Rattle.std.proofs.lemmas.Grind.{common_steps}
 use Rattle.std.specs.Prelude.{◌||◌, if◌then◌else◌}

@@ -1,5 +1,5 @@
 -- What a test counts, among rules in order.
-use Rattle.std.proofs.Common.{◌≡◌, inl, inr, ℕ, ℤ, suc, zero, ◌+◌, ◌<◌, ◌≤◌, ◌<ℤ◌, ◌≤ℤ◌, ◌&&◌, ◌++◌, not, int_le, List, [], ◌∷◌, Bool, true, false, Option, Some, None, length, refl, sym, ◌∙◌, ap, arith, get_or, take}
+use Rattle.std.proofs.Common.{◌≡◌, inl, inr, ℕ, ℤ, suc, zero, ◌+◌, ◌<◌, ◌≤◌, ◌<ℤ◌, ◌≤ℤ◌, ◌&&◌, not, int_le, List, [], ◌∷◌, Bool, true, false, Option, Some, None, length, refl, sym, ◌∙◌, ap, arith, get_or, take}
 use Rattle.std.proofs.lemmas.Int.{ints}
 use Rattle.std.proofs.lemmas.List.{take_more, take_all, length_push, append-nil}
 use Rattle.std.specs.List.{filter, list_all}
@@ -111,4 +111,3 @@ count_stopped R t left f i n o e l r h = h ∙ ap length (count_stops R t f left
 pub count_ended : {C V : Type 0} (R : Rules C V) (t : Test) (left : List ℕ) (f : Option ℤ) (i n : ℕ) → IsInOrder R left → f ≡ floor R t left → length left ≤ i
     → n ≡ length (filter (picks R t f) (take i left)) → n ≡ length (counted R t left)
 count_ended R t left f i n o e l h = h ∙ ap length (ap (filter (picks R t f)) (take_all i left l) ∙ counted_with R t left f o e)
-
