@@ -18,6 +18,7 @@ mod placing;
 mod report;
 mod rule;
 mod rule_set;
+mod serialize;
 mod sites;
 mod term_sets;
 
@@ -29,4 +30,5 @@ pub use ids::{BindingId, TupleIndex};
 pub use report::{RulePlace, report_faults};
 pub use rule::{Overlap, Rule};
 pub use rule_set::RuleSet;
+pub use serialize::{Arms, Block, ControlFlow, EvalStep, MatchArm, Steps};
 pub use term_sets::{TermSets, build};

@@ -1,0 +1,6 @@
+-- Pieces of a block, and where they end.
+pub mod Ending
+-- What the nodes of a block return.
+pub mod Returns
+-- What appending nodes does to the pieces that they stand for.
+pub mod Laying
