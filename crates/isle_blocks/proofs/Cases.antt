@@ -31,3 +31,5 @@ pub mod SharedHeads
 pub mod RuleErrors
 -- Which rule shadows another.
 pub mod ShadowedRules
+-- What the nodes of a block show, and where their pieces end.
+pub mod ShownBlocks

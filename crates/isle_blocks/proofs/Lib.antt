@@ -45,5 +45,5 @@ pub mod MadeVariants
 pub mod VariantTerms
 -- Lists with the same items as often.
 pub mod SameLists
--- Trees of tests.
+-- Blocks, and the trees that they show.
 pub mod Trees

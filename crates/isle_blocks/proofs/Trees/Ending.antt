@@ -103,7 +103,7 @@ ends_more nodes old at node e h =
             let same : node ≡ m = cc in
             let P : ℕ → Type 0 = λ y. end_in (set old at v) y ≡ node_end m y (set old at v) in
             subst P (sym p) (end_here old at v (omega arith) ∙ ap (λ (x : Node). node_end x at old) same
-                ∙ sym (same_end m old at at v (omega arith) h.up))
+            ∙ sym (same_end m old at at v (omega arith) h.up))
         | inr d ↦ end_other old at i v d ∙ h.ends_at i m (omega arith) f ∙ sym (same_end m old at i v k h.up)
       ];
       up = λ i k. elim (eq_or i at) [

@@ -67,7 +67,7 @@ arm_count (arm test bindings body next) = arm_count next + 1
 abbrev pub GivesStep : Steps → Option EvalStep → Steps → Type 0
 GivesStep old None new = ((shown_steps old).tree ≡ done) × (shown_steps new ≡ shown_steps old)
 GivesStep old (Some step) new = record {
-  step : (shown_steps old).tree ≡ step_before step (shown_steps new).tree;
+  first : (shown_steps old).tree ≡ step_before step (shown_steps new).tree;
   rest : (shown_steps new).returns ≡ (shown_steps old).returns;
   parts : HasPartsOf (shown_steps old).returns step.check;
   returned : ReturnsOneOf (shown_steps old).returns step.check;
@@ -77,7 +77,7 @@ GivesStep old (Some step) new = record {
 abbrev pub GivesArm : Arms → Option MatchArm → Arms → Type 0
 GivesArm old None new = ((shown_arms old).arms ≡ no_arm) × (shown_arms new ≡ shown_arms old)
 GivesArm old (Some a) new = record {
-  arm : (shown_arms old).arms ≡ arm_before a (shown_arms new).arms;
+  first : (shown_arms old).arms ≡ arm_before a (shown_arms new).arms;
   rest : (shown_arms new).returns ≡ (shown_arms old).returns;
   body : (shown_steps a.body).returns ≡ (shown_arms old).returns;
 }

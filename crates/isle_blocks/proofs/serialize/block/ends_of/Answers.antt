@@ -22,7 +22,7 @@ nodes-preserved c =
     let next : c.nodes.at ≡ at + 1 = omega arith in
     let P : ℕ → Type 0 = λ i. AreEndsFrom nodes c.nodes.ends.items i in
     let value : c.node_end-end.result ≡ node_end node at c.nodes.ends.items =
-        c.node_end-end.ensures ∙ ap (λ (x : List ℕ). node_end node at x) c.deref.ensures.value in
+    c.node_end-end.ensures ∙ ap (λ (x : List ℕ). node_end node at x) c.deref.ensures.value in
     let Q : ℕ → Type 0 = λ x. AreEndsFrom nodes (set c.nodes.ends.items at x) at in
     record {
       ends = subst Q (sym value) (ends_more nodes c.nodes.ends.items at node there (subst P next c.nodes.invariant.ends));
