@@ -1,12 +1,13 @@
 -- What rules' tests ask, listed parts first; what tests make, listed.
-use Rattle.std.proofs.Common.{◌≡◌, inl, inr, ℕ, ◌+◌, ◌<◌, ◌==◌, ◌++◌, List, [], ◌∷◌, Option, Some, None, length, sym, ◌∙◌, subst, arith, get_or, length-append, eq-eqb}
+use Rattle.std.proofs.Common.{◌≡◌, ◌≤◌, true, refl, inl, inr, ℕ, ◌+◌, ◌<◌, ◌==◌, ◌++◌, List, [], ◌∷◌, Option, Some, None, length, sym, ◌∙◌, subst, arith, get_or, length-append, eq-eqb}
 use Rattle.std.proofs.lemmas.Bool.{false≢true}
 use Rattle.std.proofs.lemmas.List.{take_at, take-append-le, get_or_append_left, get_or_at}
-use Rattle.isle_trees.specs.Ranking.{AllBelow}
-use Rattle.isle_trees.specs.Rules.{Source, Rules, Elem, Asked}
-use Rattle.isle_trees.specs.Search.{ArePartsFirst, IsAskedBy, AreMadeBelow, HasUsers, IsIndex, made_more}
+use Rattle.isle_trees.specs.Ranking.{AllBelow, AreAllWithin}
+use Rattle.isle_trees.specs.Rules.{has, one_value, Source, Rules, Elem, Asked}
+use Rattle.isle_trees.specs.Scopes.{Test, on_match, on_equal, on_loop, has_test}
+use Rattle.isle_trees.specs.Search.{first_of, ArePartsFirst, IsAskedBy, AreMadeBelow, HasUsers, IsIndex, made_more}
 use Rattle.isle_trees.proofs.Asking.{elem_append}
-use Rattle.isle_trees.proofs.Basics.{true_or}
+use Rattle.isle_trees.proofs.Basics.{true_or, test_of, one_of}
 use Rattle.isle_trees.proofs.Building.Gathering.{IsTestedSite}
 use Rattle.isle_trees.proofs.Building.Lists.{less_or, elem_left, elem_right, place_of, take_elem, ascend_push}
 
@@ -123,3 +124,26 @@ index_of R n asked made users a m u b = record {
   made_ascend = λ s. (m s).ascend;
   used = u;
 }
+
+-- rules that have no test, from a number on, ask nothing
+pub asked_all : {C V : Type 0} (R : Rules C V) (n rules k : ℕ) (asked : ℕ → List ℕ) → ((i s : ℕ) → rules ≤ i → IsTestedSite R i s → ⊥) → rules ≤ k → ((i : ℕ) → rules ≤ i → asked i ≡ [])
+    → ((j : ℕ) → j < k → IsAskedBy R n j (asked j)) → (i : ℕ) → IsAskedBy R n i (asked i)
+asked_all R n rules k asked none l empty h i = elim (less_or i k) [
+  | inl m ↦ h i m
+  | inr m ↦ nothing_asked R n i (asked i) (empty i (omega arith)) (λ s t. none i s (omega arith) t)
+]
+
+-- the sites of a rule's tests
+pub has_tested : {C V : Type 0} (R : Rules C V) (i : ℕ) (t : Test) → has_test R i t ≡ true → IsTestedSite R i (first_of t)
+has_tested R i (on_match s) e = let k = test_of (R.at i s) e in IsTestedSite.wanted s (has (k.0)) (k.1)
+has_tested R i (on_loop s) e = IsTestedSite.wanted s one_value (one_of (R.at i s) e)
+has_tested R i (on_equal a b) e = IsTestedSite.joined a b e
+
+pub tested_below : {C V : Type 0} (R : Rules C V) (n i s : ℕ) → AreAllWithin R n → IsTestedSite R i s → s < n
+tested_below R n i _ w (IsTestedSite.wanted s (has c) e) = w i (on_match s) (rw e refl)
+tested_below R n i _ w (IsTestedSite.wanted s one_value e) = w i (on_loop s) (rw e refl)
+tested_below R n i _ w (IsTestedSite.joined a b e) = (w i (on_equal a b) e).0
+
+-- where each rule is listed at the sites of its tests
+pub users_of : {C V : Type 0} (R : Rules C V) (users : ℕ → List ℕ) → ((i s : ℕ) → IsTestedSite R i s → Elem i (users s)) → HasUsers R users
+users_of R users h i t e = h i (first_of t) (has_tested R i t e)

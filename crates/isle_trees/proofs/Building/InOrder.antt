@@ -1,13 +1,13 @@
 -- Rules in order stay so in their parts, and return from the front.
-use Rattle.std.proofs.Common.{◌≡◌, ◌≢◌, inl, inr, ℕ, suc, zero, ◌+◌, ◌<◌, ◌==◌, not, List, [], ◌∷◌, Bool, length, refl, sym, ap, subst, arith, get_or, drop, eqb-true, eq-eqb}
+use Rattle.std.proofs.Common.{◌≡◌, ◌≢◌, inl, inr, ℕ, suc, zero, ◌+◌, ◌<◌, ◌≤◌, ◌==◌, not, List, [], ◌∷◌, Bool, length, refl, sym, ap, subst, arith, get_or, drop, eqb-true, eq-eqb}
 use Rattle.std.proofs.lemmas.Int.{ints}
-use Rattle.std.proofs.lemmas.List.{drop_more}
+use Rattle.std.proofs.lemmas.List.{drop_more, drop_all}
 use Rattle.std.specs.List.{filter}
 use Rattle.isle_trees.specs.Builds.{IsFirst, BindsEach, Returns, without, wanting, not_wanting}
 use Rattle.isle_trees.specs.Rules.{has, Rules, rights}
 use Rattle.isle_trees.specs.Scopes.{Scope, is_want, Test, counts, counted, others}
 use Rattle.isle_trees.specs.Search.{Precedes, IsInOrder, AreDistinct}
-use Rattle.isle_trees.specs.Tree.{Steps, give}
+use Rattle.isle_trees.specs.Tree.{Steps, done, give}
 use Rattle.isle_trees.proofs.Basics.{true_or, from_filter}
 use Rattle.isle_trees.proofs.Sums.{filter_all}
 
@@ -69,6 +69,16 @@ returns_more R left i sc after binds T o l b r =
     let P : List ℕ → Type 0 = λ x. Returns R x sc (give binds (get_or left i 0) T) in
     let Q : List ℕ → Type 0 = λ x. IsInOrder R x in
     subst P (sym e) (give_head R (get_or left i 0) (drop (i + 1) left) sc after binds T (subst Q e (drop_in_order R i left o)) b r)
+
+-- the returns of the first rules, before those of the others
+pub returns_after : {C V : Type 0} (R : Rules C V) (left : List ℕ) (i : ℕ) (sc now after : Scope C) (binds : List ℕ) (f : Steps C → Steps C) → IsInOrder R left → i < length left
+    → BindsEach R now (rights R (get_or left i 0)) binds after → ((T : Steps C) → Returns R (drop i left) now T → Returns R left sc (f T))
+    → (T : Steps C) → Returns R (drop (i + 1) left) after T → Returns R left sc (f (give binds (get_or left i 0) T))
+returns_after R left i sc now after binds f o l b h T r = h (give binds (get_or left i 0) T) (returns_more R left i now after binds T o l b r)
+
+pub returns_all : {C V : Type 0} (R : Rules C V) (left : List ℕ) (i : ℕ) (sc now : Scope C) (f : Steps C → Steps C) → length left ≤ i
+    → ((T : Steps C) → Returns R (drop i left) now T → Returns R left sc (f T)) → Returns R left sc (f done)
+returns_all R left i sc now f l h = h done (drop_all i left l)
 
 pub in_order_distinct : {C V : Type 0} (R : Rules C V) (xs : List ℕ) → IsInOrder R xs → AreDistinct xs
 in_order_distinct R [] o = tt

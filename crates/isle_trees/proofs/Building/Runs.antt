@@ -12,6 +12,7 @@ use Rattle.isle_trees.proofs.Basics.{true_or, and_both, and_fails, or_holds, or_
 use Rattle.isle_trees.proofs.Building.InOrder.{in_order_distinct}
 use Rattle.isle_trees.proofs.Building.Lists.{drop_elem}
 use Rattle.isle_trees.proofs.Building.Ordered.{precedes_orders, precedes_true, precedes_false, level, same_distinct}
+use Rattle.isle_trees.proofs.Building.Reorder.{same_each}
 use Rattle.isle_trees.proofs.Sums.{filter_all, filter_none}
 
 -- tests have an order, and `same` tells them apart
@@ -339,3 +340,7 @@ run_of R s start group test rules end k l g w v f e =
       more = omega (arith, e, some);
       ends = omega (arith, e, short, size);
     }
+
+-- the same rules in another order want tests too
+pub same_want : {C V : Type 0} (R : Rules C V) (s : ℕ) (xs ys : List ℕ) → IsSameBag xs ys → AllWant R xs s → AllWant R ys s
+same_want {C} R s xs ys h w = same_each (λ i. (c : C) × (R.at i s ≡ Some (has c))) xs ys h w

@@ -1,5 +1,5 @@
 -- What a path knows, as lists keep it.
-use Rattle.std.proofs.Common.{◌≡◌, ◌≢◌, inl, inr, ℕ, suc, zero, ◌<◌, ◌≤◌, ◌==◌, List, [], ◌∷◌, Bool, false, Option, Some, None, length, refl, sym, ◌∙◌, ap, arith, get_or, map, set, eqb-true}
+use Rattle.std.proofs.Common.{◌≡◌, ◌≢◌, inl, inr, ℕ, suc, zero, ◌++◌, ◌+◌, ◌<◌, ◌≤◌, ◌==◌, List, [], ◌∷◌, Bool, false, Option, Some, None, length, refl, sym, ◌∙◌, ap, arith, get_or, map, set, eqb-true}
 use Rattle.std.proofs.lemmas.Bool.{eqb-false}
 use Rattle.std.proofs.lemmas.Grind.{common_steps}
 use Rattle.std.specs.Prelude.{◌||◌, if◌then◌else◌}
@@ -82,3 +82,14 @@ inside_scope R n passed new labels emitted marks s w l p old size e out =
           let b : get_or emitted x false ≡ false = get_past emitted x false (omega arith) in
           rw (a, out x h, b) refl
     ])
+
+-- one more mark
+pub marks_more : (f : ℕ → Bool) (marks more : List Bool) (n : ℕ) (b : Bool) → length marks ≡ n → ((y : ℕ) → y < n → get_or marks y false ≡ f y) → more ≡ marks ++ b ∷ [] → b ≡ f n
+    → (y : ℕ) → y < n + 1 → get_or more y false ≡ f y
+marks_more f marks more n b w h e q y l = elim (less_or y n) [
+  | inl m ↦ let p : get_or (marks ++ b ∷ []) y false ≡ get_or marks y false = grind (arith, common_steps) in rw e (p ∙ h y m)
+  | inr m ↦
+      let same : y ≡ n = omega arith in
+      let p : get_or (marks ++ b ∷ []) y false ≡ b = grind (arith, common_steps) in
+      rw e (p ∙ q ∙ ap f (sym same))
+]
