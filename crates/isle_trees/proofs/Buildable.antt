@@ -1,7 +1,7 @@
 -- The samples are sets that trees are built from.
-use Rattle.std.proofs.Common.{◌≡◌, inl, inr, ℕ, zero, suc, ◌<◌, List, [], ◌∷◌, Bool, true, false, Some, None, refl, sym, ap, subst, arith}
+use Rattle.std.proofs.Common.{◌≡◌, inl, inr, ℕ, zero, suc, ◌<◌, List, [], ◌∷◌, Bool, true, false, refl, sym, ap, subst, arith}
 use Rattle.isle_trees.specs.Ranking.{AreWithin}
-use Rattle.isle_trees.specs.Rules.{Want, has, one_value, Source, Elem, rights}
+use Rattle.isle_trees.specs.Rules.{has, one_value, Source, Elem}
 use Rattle.isle_trees.specs.Sample.{bool_at_most, sample_parts, sample, sample_result, many_sample}
 use Rattle.isle_trees.specs.Scopes.{Test, on_match, on_equal, on_loop, has_test}
 use Rattle.isle_trees.specs.Search.{IsBuildable}

@@ -1,12 +1,13 @@
 -- What rules' tests ask, listed parts first; what tests make, listed.
-use Rattle.std.proofs.Common.{◌≡◌, inl, inr, ℕ, ◌+◌, ◌<◌, ◌==◌, ◌++◌, List, [], ◌∷◌, Option, Some, None, length, sym, ◌∙◌, subst, arith, get_or, length-append, eq-eqb}
+use Rattle.std.proofs.Common.{◌≡◌, ◌≤◌, true, refl, inl, inr, ℕ, ◌+◌, ◌<◌, ◌==◌, ◌++◌, List, [], ◌∷◌, Option, Some, None, length, sym, ◌∙◌, subst, arith, get_or, length-append, eq-eqb}
 use Rattle.std.proofs.lemmas.Bool.{false≢true}
 use Rattle.std.proofs.lemmas.List.{take_at, take-append-le, get_or_append_left, get_or_at}
-use Rattle.isle_trees.specs.Ranking.{AllBelow}
-use Rattle.isle_trees.specs.Rules.{Source, Rules, Elem, Asked}
-use Rattle.isle_trees.specs.Search.{ArePartsFirst, IsAskedBy, AreMadeBelow, HasUsers, IsIndex, made_more}
+use Rattle.isle_trees.specs.Ranking.{AllBelow, AreAllWithin}
+use Rattle.isle_trees.specs.Rules.{has, one_value, Source, Rules, Elem, Asked}
+use Rattle.isle_trees.specs.Scopes.{Test, on_match, on_equal, on_loop, has_test}
+use Rattle.isle_trees.specs.Search.{first_of, ArePartsFirst, IsAskedBy, AreMadeBelow, HasUsers, IsIndex, made_more}
 use Rattle.isle_trees.proofs.Asking.{elem_append}
-use Rattle.isle_trees.proofs.Basics.{true_or}
+use Rattle.isle_trees.proofs.Basics.{true_or, test_of, one_of}
 use Rattle.isle_trees.proofs.Building.Gathering.{IsTestedSite}
 use Rattle.isle_trees.proofs.Building.Lists.{less_or, elem_left, elem_right, place_of, take_elem, ascend_push}
 
@@ -14,7 +15,8 @@ use Rattle.isle_trees.proofs.Building.Lists.{less_or, elem_left, elem_right, pla
 pub parts_none : {C V : Type 0} (R : Rules C V) → ArePartsFirst R []
 parts_none R j p l m = absurd (omega arith)
 
-pub parts_push : {C V : Type 0} (R : Rules C V) (list : List ℕ) (s : ℕ) → ArePartsFirst R list → ((p : ℕ) → Elem p (R.parts s) → Elem p list) → ArePartsFirst R (list ++ s ∷ [])
+pub parts_push : {C V : Type 0} (R : Rules C V) (list : List ℕ) (s : ℕ) → ArePartsFirst R list → ((p : ℕ) → Elem p (R.parts s) → Elem p list)
+    → ArePartsFirst R (list ++ s ∷ [])
 parts_push R list s f h j p l m = elim (less_or j (length list)) [
   | inl a ↦
       let e : get_or (list ++ s ∷ []) j 0 ≡ get_or list j 0 = get_or_append_left list (s ∷ []) 0 j a in
@@ -35,12 +37,14 @@ part_listed R list s p f m q =
     take_elem p (at.0) list (f (at.0) p (at.1) (subst P (sym (at.2)) q))
 
 -- where the sites of a rule's tests are listed, all that they ask is
-pub asked_full : {C V : Type 0} (R : Rules C V) (i : ℕ) (list : List ℕ) → ArePartsFirst R list → ((s : ℕ) → IsTestedSite R i s → Elem s list) → (s : ℕ) → Asked R i s → Elem s list
+pub asked_full : {C V : Type 0} (R : Rules C V) (i : ℕ) (list : List ℕ) → ArePartsFirst R list → ((s : ℕ) → IsTestedSite R i s → Elem s list)
+    → (s : ℕ) → Asked R i s → Elem s list
 asked_full R i list f h _ (Asked.by_demand s w e) = h s (IsTestedSite.wanted s w e)
 asked_full R i list f h _ (Asked.by_class a b e) = h a (IsTestedSite.joined a b e)
 asked_full R i list f h _ (Asked.by_part s p q m) = part_listed R list s p f (asked_full R i list f h s q) m
 
-pub asked_listed : {C V : Type 0} (R : Rules C V) (n i : ℕ) (list : List ℕ) → AllBelow list n → ArePartsFirst R list → ((s : ℕ) → IsTestedSite R i s → Elem s list) → IsAskedBy R n i list
+pub asked_listed : {C V : Type 0} (R : Rules C V) (n i : ℕ) (list : List ℕ) → AllBelow list n → ArePartsFirst R list
+    → ((s : ℕ) → IsTestedSite R i s → Elem s list) → IsAskedBy R n i list
 asked_listed R n i list b f h = record { below = b; first = f; full = asked_full R i list f h }
 
 -- a rule whose tests ask of no site asks nothing
@@ -55,7 +59,8 @@ nothing_asked R n i list e h =
     subst P (sym e) (record { below = λ x m. absurd m; first = parts_none R; full = λ s a. absurd (never_asked R i h s a) })
 
 -- one rule more
-pub asked_more : {C V : Type 0} (R : Rules C V) (n i : ℕ) (old new : ℕ → List ℕ) → ((j : ℕ) → j < i → new j ≡ old j) → IsAskedBy R n i (new i) → ((j : ℕ) → j < i → IsAskedBy R n j (old j))
+pub asked_more : {C V : Type 0} (R : Rules C V) (n i : ℕ) (old new : ℕ → List ℕ) → ((j : ℕ) → j < i → new j ≡ old j) → IsAskedBy R n i (new i)
+    → ((j : ℕ) → j < i → IsAskedBy R n j (old j))
     → (j : ℕ) → j < i + 1 → IsAskedBy R n j (new j)
 asked_more R n i old new keep h all j m = elim (less_or j i) [
   | inl k ↦ let P : List ℕ → Type 0 = λ l. IsAskedBy R n j l in subst P (sym (keep j k)) (all j k)
@@ -76,7 +81,8 @@ made_here R x s list a = record {
   ascend = ascend_push list x a.ascend a.below;
 }
 
-made_elsewhere : {C V : Type 0} (R : Rules C V) (x s : ℕ) (list : List ℕ) → AreMadeBelow R x s list → ((m : Source C) → R.made x ≡ Some m → m.site ≡ s → ⊥) → AreMadeBelow R (x + 1) s list
+made_elsewhere : {C V : Type 0} (R : Rules C V) (x s : ℕ) (list : List ℕ) → AreMadeBelow R x s list
+    → ((m : Source C) → R.made x ≡ Some m → m.site ≡ s → ⊥) → AreMadeBelow R (x + 1) s list
 made_elsewhere {C} R x s list a n = record {
   below = λ y m. let l = a.below y m in omega arith;
   all = λ y m l q r. elim (less_or y x) [
@@ -89,7 +95,8 @@ made_elsewhere {C} R x s list a n = record {
   ascend = a.ascend;
 }
 
-pub made_step : {C V : Type 0} (R : Rules C V) (x s : ℕ) (old new : List ℕ) (o : Option ℕ) → ((m : Source C) → R.made x ≡ Some m → o ≡ Some m.site) → new ≡ made_more o old x s
+pub made_step : {C V : Type 0} (R : Rules C V) (x s : ℕ) (old new : List ℕ) (o : Option ℕ) → ((m : Source C) → R.made x ≡ Some m → o ≡ Some m.site)
+    → new ≡ made_more o old x s
     → AreMadeBelow R x s old → AreMadeBelow R (x + 1) s new
 made_step R x s old new None e q a =
     let P : List ℕ → Type 0 = λ l. AreMadeBelow R (x + 1) s l in
@@ -112,7 +119,8 @@ made_none R s list e =
     subst P (sym e) (record { below = λ x m. absurd m; all = λ x m l. absurd (omega arith); ascend = tt })
 
 -- the three lists make an index, where all that tests make lies below the number
-pub index_of : {C V : Type 0} (R : Rules C V) (n : ℕ) (asked made users : ℕ → List ℕ) → ((i : ℕ) → IsAskedBy R n i (asked i)) → ((s : ℕ) → AreMadeBelow R n s (made s)) → HasUsers R users
+pub index_of : {C V : Type 0} (R : Rules C V) (n : ℕ) (asked made users : ℕ → List ℕ) → ((i : ℕ) → IsAskedBy R n i (asked i))
+    → ((s : ℕ) → AreMadeBelow R n s (made s)) → HasUsers R users
     → ((x : ℕ) (m : Source C) → R.made x ≡ Some m → x < n) → IsIndex R n asked made users
 index_of R n asked made users a m u b = record {
   within = λ i s e. (a i).below s e;
@@ -123,3 +131,27 @@ index_of R n asked made users a m u b = record {
   made_ascend = λ s. (m s).ascend;
   used = u;
 }
+
+-- rules that have no test, from a number on, ask nothing
+pub asked_all : {C V : Type 0} (R : Rules C V) (n rules k : ℕ) (asked : ℕ → List ℕ) → ((i s : ℕ) → rules ≤ i → IsTestedSite R i s → ⊥) → rules ≤ k
+    → ((i : ℕ) → rules ≤ i → asked i ≡ [])
+    → ((j : ℕ) → j < k → IsAskedBy R n j (asked j)) → (i : ℕ) → IsAskedBy R n i (asked i)
+asked_all R n rules k asked none l empty h i = elim (less_or i k) [
+  | inl m ↦ h i m
+  | inr m ↦ nothing_asked R n i (asked i) (empty i (omega arith)) (λ s t. none i s (omega arith) t)
+]
+
+-- the sites of a rule's tests
+pub has_tested : {C V : Type 0} (R : Rules C V) (i : ℕ) (t : Test) → has_test R i t ≡ true → IsTestedSite R i (first_of t)
+has_tested R i (on_match s) e = let k = test_of (R.at i s) e in IsTestedSite.wanted s (has (k.0)) (k.1)
+has_tested R i (on_loop s) e = IsTestedSite.wanted s one_value (one_of (R.at i s) e)
+has_tested R i (on_equal a b) e = IsTestedSite.joined a b e
+
+pub tested_below : {C V : Type 0} (R : Rules C V) (n i s : ℕ) → AreAllWithin R n → IsTestedSite R i s → s < n
+tested_below R n i _ w (IsTestedSite.wanted s (has c) e) = w i (on_match s) (rw e refl)
+tested_below R n i _ w (IsTestedSite.wanted s one_value e) = w i (on_loop s) (rw e refl)
+tested_below R n i _ w (IsTestedSite.joined a b e) = (w i (on_equal a b) e).0
+
+-- where each rule is listed at the sites of its tests
+pub users_of : {C V : Type 0} (R : Rules C V) (users : ℕ → List ℕ) → ((i s : ℕ) → IsTestedSite R i s → Elem i (users s)) → HasUsers R users
+users_of R users h i t e = h i (first_of t) (has_tested R i t e)

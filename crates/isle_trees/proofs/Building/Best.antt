@@ -62,7 +62,8 @@ most_count a b (inl l) h = omega arith
 most_count a b (inr l) h = let e : a.count ≡ b.count = l.0 in omega arith
 
 -- what the better one is
-pub better_old : {C V : Type 0} (R : Rules C V) (left : List ℕ) (sc : Scope C) (best : Option Ranked) (new : Ranked) (u : Test) → IsRanked R left sc best
+pub better_old : {C V : Type 0} (R : Rules C V) (left : List ℕ) (sc : Scope C) (best : Option Ranked) (new : Ranked) (u : Test)
+    → IsRanked R left sc best
     → IsNoBetter R left sc best u → IsNoBetter R left sc (better best new) u
 better_old R left sc None new u r h = elim (true_or (nat_lt 0 new.key.count)) [
   | inl e ↦ rw e (none_least _ _ h (ltb-true _ _ e))
@@ -73,7 +74,8 @@ better_old R left sc (Some old) new u r h = elim (true_or (above new.key old.key
   | inr e ↦ rw e h
 ]
 
-pub better_new : {C V : Type 0} (R : Rules C V) (left : List ℕ) (sc : Scope C) (best : Option Ranked) (new : Ranked) → new.key ≡ key R left sc new.test
+pub better_new : {C V : Type 0} (R : Rules C V) (left : List ℕ) (sc : Scope C) (best : Option Ranked) (new : Ranked)
+    → new.key ≡ key R left sc new.test
     → IsNoBetter R left sc (better best new) new.test
 better_new R left sc None new k = elim (true_or (nat_lt 0 new.key.count)) [
   | inl e ↦ rw e (rw (sym k) (at_most_self new.key))
@@ -84,7 +86,8 @@ better_new R left sc (Some old) new k = elim (true_or (above new.key old.key)) [
   | inr e ↦ rw e (rw (sym k) (not_above new.key old.key e))
 ]
 
-pub better_ranked : {C V : Type 0} (R : Rules C V) (left : List ℕ) (sc : Scope C) (best : Option Ranked) (new : Ranked) → new.key ≡ key R left sc new.test → IsReady R sc new.test
+pub better_ranked : {C V : Type 0} (R : Rules C V) (left : List ℕ) (sc : Scope C) (best : Option Ranked) (new : Ranked)
+    → new.key ≡ key R left sc new.test → IsReady R sc new.test
     → IsRanked R left sc best → IsRanked R left sc (better best new)
 better_ranked R left sc None new k r h = elim (true_or (nat_lt 0 new.key.count)) [
   | inl e ↦ rw e (r, k, ltb-true _ _ e)

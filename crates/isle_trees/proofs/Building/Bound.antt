@@ -22,7 +22,8 @@ fewer_most sc m n (on_match s) l = elim (less_or m n) [ inl k ↦ inl k | inr k 
 fewer_most sc m n (on_equal a b) l = elim (less_or m n) [ inl k ↦ inl k | inr k ↦ inr (omega arith, inr (refl, inr (refl, inr (refl, omega arith)))) ]
 fewer_most sc m n (on_loop s) l = elim (less_or m n) [ inl k ↦ inl k | inr k ↦ inr (omega arith, inr (refl, inr (refl, inr (refl, omega arith)))) ]
 
-pub passed_over : {C V : Type 0} (R : Rules C V) (left : List ℕ) (sc : Scope C) (best : Option Ranked) (t : Test) (n : ℕ) → length (counted R t left) ≤ n → may_win sc best t n ≡ false → IsNoBetter R left sc best t
+pub passed_over : {C V : Type 0} (R : Rules C V) (left : List ℕ) (sc : Scope C) (best : Option Ranked) (t : Test) (n : ℕ)
+    → length (counted R t left) ≤ n → may_win sc best t n ≡ false → IsNoBetter R left sc best t
 passed_over R left sc None t n l e = cc
 passed_over R left sc (Some old) t n l e =
     let P : Key → Type 0 = λ k. IsAtMost k old.key in
@@ -65,7 +66,8 @@ distinct_short (x ∷ xs) ys d h =
     still_there x z ys (λ e. d.0 (let P : ℕ → Type 0 = λ w. Elem w xs in subst P e m)) (h z (inr m))) in
     let q = one_less x ys (h x (inl refl)) in omega arith
 
-pub counted_short : {C V : Type 0} (R : Rules C V) (left users : List ℕ) (t : Test) → IsInOrder R left → ((i : ℕ) → has_test R i t ≡ true → Elem i users) → length (counted R t left) ≤ length users
+pub counted_short : {C V : Type 0} (R : Rules C V) (left users : List ℕ) (t : Test) → IsInOrder R left
+    → ((i : ℕ) → has_test R i t ≡ true → Elem i users) → length (counted R t left) ≤ length users
 counted_short R left users t o h =
     distinct_short (counted R t left) users (in_order_distinct R (counted R t left) (filter_in_order R (counts R t left) left o)) (λ i m. h i ((counted_has R t left i m).1))
 
@@ -88,8 +90,10 @@ users_more sites i x old new l a h s m = elim (last_or s 0 sites i l m) [
 ]
 
 -- one rule more is listed
-pub users_step : {C V : Type 0} (R : Rules C V) (i : ℕ) (old new : ℕ → List ℕ) → ((s x : ℕ) → Elem x (old s) → Elem x (new s)) → ((t : Test) → has_test R i t ≡ true → Elem i (new (first_of t)))
-    → ((j : ℕ) (t : Test) → j < i → has_test R j t ≡ true → Elem j (old (first_of t))) → (j : ℕ) (t : Test) → j < i + 1 → has_test R j t ≡ true → Elem j (new (first_of t))
+pub users_step : {C V : Type 0} (R : Rules C V) (i : ℕ) (old new : ℕ → List ℕ) → ((s x : ℕ) → Elem x (old s) → Elem x (new s))
+    → ((t : Test) → has_test R i t ≡ true → Elem i (new (first_of t)))
+    → ((j : ℕ) (t : Test) → j < i → has_test R j t ≡ true → Elem j (old (first_of t))) → (j : ℕ) (t : Test) → j < i + 1 → has_test R j t ≡ true
+    → Elem j (new (first_of t))
 users_step R i old new keep here h j t l e = elim (less_or j i) [
   | inl m ↦ keep (first_of t) j (h j t m e)
   | inr m ↦

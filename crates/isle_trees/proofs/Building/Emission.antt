@@ -16,7 +16,8 @@ abbrev pub PartsAreLower : {C V : Type 0} → Rules C V → Type 0
 PartsAreLower R = (s p : ℕ) → Elem p (R.parts s) → p < s
 
 -- one order after another
-pub order_append : {C V : Type 0} (R : Rules C V) (sc : Scope C) (xs ys : List ℕ) → IsOrder R sc xs → IsOrder R (emit_all sc xs) ys → IsOrder R sc (xs ++ ys)
+pub order_append : {C V : Type 0} (R : Rules C V) (sc : Scope C) (xs ys : List ℕ) → IsOrder R sc xs → IsOrder R (emit_all sc xs) ys
+    → IsOrder R sc (xs ++ ys)
 order_append R sc [] ys h g = g
 order_append R sc (x ∷ xs) ys h g = (h.0, h.1, order_append R (emit sc x) xs ys (h.2) g)
 
@@ -53,7 +54,8 @@ emits_already R sc s old e = record {
   bound = λ x m. elim m [ inl p ↦ ap sc.emitted p ∙ e | inr n ↦ absurd n ];
 }
 
-pub emits_more : {C V : Type 0} (R : Rules C V) (sc mid after : Scope C) (xs : List ℕ) (x : ℕ) (a b c : List ℕ) → Emits R sc xs a b mid → Emits R mid (x ∷ []) b c after
+pub emits_more : {C V : Type 0} (R : Rules C V) (sc mid after : Scope C) (xs : List ℕ) (x : ℕ) (a b c : List ℕ) → Emits R sc xs a b mid
+    → Emits R mid (x ∷ []) b c after
     → Emits R sc (xs ++ x ∷ []) a c after
 emits_more R sc mid after xs x a b c p q =
     let P : Scope _ → Type 0 = λ s. IsOrder R s (q.all) in
@@ -80,23 +82,27 @@ or_left : (a b : Bool) → a ≡ true → (a || b) ≡ true
 or_left true b e = refl
 or_left false b e = cc
 
-pub not_emitted : {C : Type 0} (sc : Scope C) (xs : List ℕ) (s : ℕ) → sc.emitted s ≡ false → ((x : ℕ) → Elem x xs → x < s) → (emit_all sc xs).emitted s ≡ false
+pub not_emitted : {C : Type 0} (sc : Scope C) (xs : List ℕ) (s : ℕ) → sc.emitted s ≡ false → ((x : ℕ) → Elem x xs → x < s)
+    → (emit_all sc xs).emitted s ≡ false
 not_emitted sc [] s e b = e
 not_emitted sc (x ∷ xs) s e b =
     let l : x < s = b x (inl refl) in
     not_emitted (emit sc x) xs s (other_or s x (sc.emitted s) (λ p. omega arith) e) (λ y m. b y (inr m))
 
 part_of : {C V : Type 0} (R : Rules C V) (s : ℕ) (parts : List ℕ) (x : ℕ) → parts ≡ R.parts s → IsPartOf R parts x → IsPartOf R (s ∷ []) x
-part_of R s parts _ same (IsPartOf.itself p m) = IsPartOf.of_part s p (IsPartOf.itself s (inl refl)) (let Q : List ℕ → Type 0 = λ l. Elem p l in subst Q same m)
+part_of R s parts _ same (IsPartOf.itself p m) =
+    IsPartOf.of_part s p (IsPartOf.itself s (inl refl)) (let Q : List ℕ → Type 0 = λ l. Elem p l in subst Q same m)
 part_of R s parts _ same (IsPartOf.of_part q p h m) = IsPartOf.of_part q p (part_of R s parts q same h) m
 
 -- a site after its parts
-pub emits_one : {C V : Type 0} (R : Rules C V) (sc mid after : Scope C) (s : ℕ) (parts a b c : List ℕ) → PartsAreLower R → parts ≡ R.parts s → sc.emitted s ≡ false
+pub emits_one : {C V : Type 0} (R : Rules C V) (sc mid after : Scope C) (s : ℕ) (parts a b c : List ℕ) → PartsAreLower R → parts ≡ R.parts s
+    → sc.emitted s ≡ false
     → Emits R sc parts a b mid → c ≡ b ++ own R s → after ≡ emit mid s → Emits R sc (s ∷ []) a c after
 emits_one R sc mid after s parts a b c low same e p w f =
     let P : Scope _ → Type 0 = λ x. IsOrder R x (s ∷ []) in
     let below : (x : ℕ) → Elem x (p.all) → x < s = λ x m. part_below R parts s x low (λ y n. let Q : List ℕ → Type 0 = λ l. Elem y l in low s y (subst Q same n)) (p.only x m) in
-    let fresh : mid.emitted s ≡ false = let Q : Scope _ → Type 0 = λ x. x.emitted s ≡ false in subst Q (sym (p.ending)) (not_emitted sc (p.all) s e below) in
+    let fresh : mid.emitted s ≡ false = let Q : Scope _ → Type 0 = λ x. x.emitted s ≡ false in
+    subst Q (sym (p.ending)) (not_emitted sc (p.all) s e below) in
     let last : IsOrder R mid (s ∷ []) = (fresh, (λ x m. p.bound x (let Q : List ℕ → Type 0 = λ l. Elem x l in subst Q (sym same) m)), tt) in
     record {
       all = p.all ++ s ∷ [];
@@ -114,7 +120,8 @@ emits_one R sc mid after s parts a b c low same e p w f =
           ∙ ap (λ (l : List ℕ). a ++ l) (ap (λ (l : List ℕ). filter R.stands (p.all) ++ l) (sym (own_filter R s)) ∙ sym (filter_append R.stands (p.all) (s ∷ [])));
     }
 
-pub binds_from : {C V : Type 0} (R : Rules C V) (sc after : Scope C) (sites old binds : List ℕ) → old ≡ [] → Emits R sc sites old binds after → Binds R sc sites binds after
+pub binds_from : {C V : Type 0} (R : Rules C V) (sc after : Scope C) (sites old binds : List ℕ) → old ≡ [] → Emits R sc sites old binds after
+    → Binds R sc sites binds after
 binds_from R sc after sites old binds none e =
     record { all = e.all; order = e.order; only = e.only; ending = e.ending; bound = e.bound; written = e.written ∙ ap (λ (l : List ℕ). l ++ filter R.stands (e.all)) none }
 
@@ -137,7 +144,8 @@ one_new R sc mid after s parts a b c same e p w f =
     )
 
 -- sites after others
-each_more : (us : List ℕ) {C V : Type 0} (R : Rules C V) (sc mid after : Scope C) (s : ℕ) (binds more : List ℕ) → BindsEach R sc us binds mid → EmitsOne R mid s [] more after
+each_more : (us : List ℕ) {C V : Type 0} (R : Rules C V) (sc mid after : Scope C) (s : ℕ) (binds more : List ℕ) → BindsEach R sc us binds mid
+    → EmitsOne R mid s [] more after
     → BindsEach R sc (us ++ s ∷ []) (binds ++ more) after
 each_more [] R sc mid after s binds more (none, same) (inl (e, n, f)) =
     let P : Scope _ → Type 0 = λ x. x.emitted s ≡ true in
@@ -163,17 +171,20 @@ each_more (u ∷ us) R sc mid after s binds more (inr (e, (front, rest, m, bs, b
 pub emits_each_none : {C V : Type 0} (R : Rules C V) (sc : Scope C) (old : List ℕ) → EmitsEach R sc [] old old sc
 emits_each_none R sc old = ([], (refl, refl), sym (append-nil old))
 
-one_shift : {C V : Type 0} (R : Rules C V) (sc after : Scope C) (s : ℕ) (old new : List ℕ) → EmitsOne R sc s old new after → (more : List ℕ) × EmitsOne R sc s [] more after × (new ≡ old ++ more)
+one_shift : {C V : Type 0} (R : Rules C V) (sc after : Scope C) (s : ℕ) (old new : List ℕ) → EmitsOne R sc s old new after
+    → (more : List ℕ) × EmitsOne R sc s [] more after × (new ≡ old ++ more)
 one_shift R sc after s old new (inl (e, n, f)) = ([], inl (e, refl, f), n ∙ sym (append-nil old))
 one_shift R sc after s old new (inr (e, front, mid, bs, f, w)) = (front ++ own R s, inr (e, front, mid, bs, f, refl), w)
 
-pub emits_each_more : {C V : Type 0} (R : Rules C V) (sc mid after : Scope C) (us : List ℕ) (s : ℕ) (a b c : List ℕ) → EmitsEach R sc us a b mid → EmitsOne R mid s b c after
+pub emits_each_more : {C V : Type 0} (R : Rules C V) (sc mid after : Scope C) (us : List ℕ) (s : ℕ) (a b c : List ℕ) → EmitsEach R sc us a b mid
+    → EmitsOne R mid s b c after
     → EmitsEach R sc (us ++ s ∷ []) a c after
 emits_each_more R sc mid after us s a b c (binds, each, w) one =
     let sh = one_shift R mid after s b c one in
     (binds ++ sh.0, each_more us R sc mid after s binds (sh.0) each (sh.1), sh.2 ∙ ap (λ (l : List ℕ). l ++ sh.0) w ∙ append_assoc a binds (sh.0))
 
-pub each_from : {C V : Type 0} (R : Rules C V) (sc after : Scope C) (us vs old new : List ℕ) → us ≡ vs → old ≡ [] → EmitsEach R sc us old new after → BindsEach R sc vs new after
+pub each_from : {C V : Type 0} (R : Rules C V) (sc after : Scope C) (us vs old new : List ℕ) → us ≡ vs → old ≡ [] → EmitsEach R sc us old new after
+    → BindsEach R sc vs new after
 each_from R sc after us vs old new same none (binds, each, w) =
     let P : List ℕ → Type 0 = λ l. BindsEach R sc us l after in
     let Q : List ℕ → Type 0 = λ l. BindsEach R sc l new after in

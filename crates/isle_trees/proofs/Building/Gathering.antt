@@ -52,7 +52,8 @@ gathers_already s marks list e = record {
   gathering = λ start g. g;
 }
 
-pub gathers_new : (s : ℕ) (marks new : List Bool) (list more : List ℕ) → s < length marks → is_marked marks s ≡ false → new ≡ set marks s true → more ≡ list ++ s ∷ []
+pub gathers_new : (s : ℕ) (marks new : List Bool) (list more : List ℕ) → s < length marks → is_marked marks s ≡ false → new ≡ set marks s true
+    → more ≡ list ++ s ∷ []
     → Gathers (s ∷ []) marks new list more
 gathers_new s marks new list more l e f h =
     let here : is_marked new s ≡ true = ap (λ (m : List Bool). is_marked m s) f ∙ marked_new marks s s l refl in
@@ -68,7 +69,8 @@ gathers_new s marks new list more l e f h =
       gathering = λ start g.
           let fresh : is_marked start s ≡ false = elim (true_or (is_marked start s)) [ inl q ↦ clash _ (g.kept s q) e | inr q ↦ q ] in
           let P : List ℕ → Type 0 = λ y. AreDistinct y in
-          let in_more : (x : ℕ) → Elem x list → Elem x more = λ x m. let Q : List ℕ → Type 0 = λ y. Elem x y in subst Q (sym h) (elem_left x list (s ∷ []) m) in
+          let in_more : (x : ℕ) → Elem x list → Elem x more = λ x m. let Q : List ℕ → Type 0 = λ y. Elem x y in
+          subst Q (sym h) (elem_left x list (s ∷ []) m) in
           let s_more : Elem s more = let Q : List ℕ → Type 0 = λ y. Elem s y in subst Q (sym h) (elem_right s list (s ∷ []) (inl refl)) in
           let cases : (x : ℕ) → Elem x more → Elem x list ⊎ (x ≡ s) = λ x m.
           let Q : List ℕ → Type 0 = λ y. Elem x y in
@@ -88,7 +90,8 @@ gathers_new s marks new list more l e f h =
           };
     }
 
-pub gathers_more : (xs : List ℕ) (x : ℕ) (m0 m1 m2 : List Bool) (l0 l1 l2 : List ℕ) → Gathers xs m0 m1 l0 l1 → Gathers (x ∷ []) m1 m2 l1 l2 → Gathers (xs ++ x ∷ []) m0 m2 l0 l2
+pub gathers_more : (xs : List ℕ) (x : ℕ) (m0 m1 m2 : List Bool) (l0 l1 l2 : List ℕ) → Gathers xs m0 m1 l0 l1 → Gathers (x ∷ []) m1 m2 l1 l2
+    → Gathers (xs ++ x ∷ []) m0 m2 l0 l2
 gathers_more xs x m0 m1 m2 l0 l1 l2 g h = record {
   more = g.more ++ h.more;
   list = h.list ∙ ap (λ (y : List ℕ). y ++ h.more) g.list ∙ append_assoc l0 g.more h.more;
@@ -113,7 +116,8 @@ pub record IsClosing {C V : Type 0} (R : Rules C V) (sites : List ℕ) (start ma
   pub bound : (x : ℕ) → Elem x sites → is_marked marks x ≡ true
   pub done : (x p : ℕ) → Elem x (take at list) → Elem p (R.parts x) → is_marked marks p ≡ true
 
-pub closing_start : {C V : Type 0} (R : Rules C V) (sites : List ℕ) (start marks : List Bool) (none list : List ℕ) → none ≡ [] → Gathers sites start marks none list → IsClosing R sites start marks list 0
+pub closing_start : {C V : Type 0} (R : Rules C V) (sites : List ℕ) (start marks : List Bool) (none list : List ℕ) → none ≡ []
+    → Gathers sites start marks none list → IsClosing R sites start marks list 0
 closing_start R sites start marks none list e g =
     let f : list ≡ g.more = g.list ∙ ap (λ (y : List ℕ). y ++ g.more) e in
     let P : List ℕ → Type 0 = λ y. IsGathering start start y in
@@ -129,7 +133,8 @@ take_append_short zero xs ys l = refl
 take_append_short (suc k) [] ys l = absurd (omega arith)
 take_append_short (suc k) (x ∷ xs) ys l = ap (λ (y : List ℕ). x ∷ y) (take_append_short k xs ys (omega arith))
 
-pub closing_more : {C V : Type 0} (R : Rules C V) (sites : List ℕ) (start m0 m1 : List Bool) (l0 l1 parts : List ℕ) (at : ℕ) → at < length l0 → parts ≡ R.parts (get_or l0 at 0) → Gathers parts m0 m1 l0 l1
+pub closing_more : {C V : Type 0} (R : Rules C V) (sites : List ℕ) (start m0 m1 : List Bool) (l0 l1 parts : List ℕ) (at : ℕ) → at < length l0
+    → parts ≡ R.parts (get_or l0 at 0) → Gathers parts m0 m1 l0 l1
     → IsClosing R sites start m0 l0 at → IsClosing R sites start m1 l1 (at + 1)
 closing_more R sites start m0 m1 l0 l1 parts at l e g c =
     let here : Elem (get_or l0 at 0) l0 = elem_at l0 at 0 l in
@@ -155,7 +160,8 @@ closing_more R sites start m0 m1 l0 l1 parts at l e g c =
           ];
     }
 
-pub closed : {C V : Type 0} (R : Rules C V) (sites : List ℕ) (start marks : List Bool) (list sorted : List ℕ) (at : ℕ) → take at list ≡ list → IsAscending sorted → IsSameBag list sorted
+pub closed : {C V : Type 0} (R : Rules C V) (sites : List ℕ) (start marks : List Bool) (list sorted : List ℕ) (at : ℕ) → take at list ≡ list
+    → IsAscending sorted → IsSameBag list sorted
     → IsClosing R sites start marks list at → IsClosure R sites start marks sorted
 closed R sites start marks list sorted at all up same c =
     let back : (x : ℕ) → Elem x sorted → Elem x list = λ x m. same_elem sorted list x (same_turned list sorted same) m in
@@ -174,7 +180,8 @@ closed R sites start marks list sorted at all up same c =
     }
 
 -- ascending, each stands after its parts
-pub order_up : {C V : Type 0} (R : Rules C V) (xs : List ℕ) (sc : Scope C) → PartsAreLower R → IsAscending xs → ((x : ℕ) → Elem x xs → sc.emitted x ≡ false)
+pub order_up : {C V : Type 0} (R : Rules C V) (xs : List ℕ) (sc : Scope C) → PartsAreLower R → IsAscending xs
+    → ((x : ℕ) → Elem x xs → sc.emitted x ≡ false)
     → ((x p : ℕ) → Elem x xs → Elem p (R.parts x) → (sc.emitted p ≡ true) ⊎ Elem p xs) → IsOrder R sc xs
 order_up R [] sc low up fresh parts = tt
 order_up R (y ∷ ys) sc low up fresh parts = (
@@ -198,8 +205,10 @@ emitted_elem sc [] x m = absurd m
 emitted_elem sc (y ∷ ys) x (inl e) = still_emitted (emit sc y) ys x (rw (eq-eqb x y e) refl)
 emitted_elem sc (y ∷ ys) x (inr m) = emitted_elem (emit sc y) ys x m
 
-pub emits_closure : {C V : Type 0} (R : Rules C V) (sites : List ℕ) (sc after : Scope C) (old new : List Bool) (list order more : List ℕ) → PartsAreLower R → IsClosure R sites old new list
-    → ((s : ℕ) → sc.emitted s ≡ is_marked old s) → ((s : ℕ) → after.emitted s ≡ is_marked new s) → IsSamePath sc after → more ≡ order ++ filter R.stands list
+pub emits_closure : {C V : Type 0} (R : Rules C V) (sites : List ℕ) (sc after : Scope C) (old new : List Bool) (list order more : List ℕ)
+    → PartsAreLower R → IsClosure R sites old new list
+    → ((s : ℕ) → sc.emitted s ≡ is_marked old s) → ((s : ℕ) → after.emitted s ≡ is_marked new s) → IsSamePath sc after
+    → more ≡ order ++ filter R.stands list
     → Emits R sc sites order more after
 emits_closure R sites sc after old new list order more low c before now path w = record {
   all = list;
@@ -216,14 +225,16 @@ emits_closure R sites sc after old new list order more low c before now path w =
   written = w;
 }
 
-pub closure_first : {C V : Type 0} (R : Rules C V) (n : ℕ) (sites : List ℕ) (old new : List Bool) (list : List ℕ) → PartsAreLower R → IsClean n old → IsClosure R sites old new list → ArePartsFirst R list
+pub closure_first : {C V : Type 0} (R : Rules C V) (n : ℕ) (sites : List ℕ) (old new : List Bool) (list : List ℕ) → PartsAreLower R → IsClean n old
+    → IsClosure R sites old new list → ArePartsFirst R list
 closure_first R n sites old new list low clean c j p l m =
     let here = elem_at list j 0 l in
     ascending_front list j p c.ascend l
     (elim (c.either p (c.closed (get_or list j 0) p here m)) [ inl o ↦ clash _ o (clean.clean p) | inr k ↦ k ])
     (low (get_or list j 0) p m)
 
-pub closure_full : {C V : Type 0} (R : Rules C V) (n : ℕ) (sites : List ℕ) (old new : List Bool) (list : List ℕ) → IsClean n old → IsClosure R sites old new list → (x : ℕ) → is_marked new x ≡ true → Elem x list
+pub closure_full : {C V : Type 0} (R : Rules C V) (n : ℕ) (sites : List ℕ) (old new : List Bool) (list : List ℕ) → IsClean n old
+    → IsClosure R sites old new list → (x : ℕ) → is_marked new x ≡ true → Elem x list
 closure_full R n sites old new list clean c x e = elim (c.either x e) [ inl o ↦ clash _ o (clean.clean x) | inr k ↦ k ]
 
 -- a sort of numbers that stand once
@@ -248,7 +259,8 @@ unmarked_old : (marks : List Bool) (s x : ℕ) → x ≢ s → is_marked (set ma
 unmarked_old marks s x n e = sym (get_or-set_other marks s x false false n) ∙ e
 
 -- what was marked for a list that is done with is taken away
-pub unmark_gone : (sites : List ℕ) (i : ℕ) (marks : List Bool) → i < length sites → get_or sites i 0 < length marks → ((x : ℕ) → Elem x (take i sites) → is_marked marks x ≡ true → ⊥)
+pub unmark_gone : (sites : List ℕ) (i : ℕ) (marks : List Bool) → i < length sites → get_or sites i 0 < length marks
+    → ((x : ℕ) → Elem x (take i sites) → is_marked marks x ≡ true → ⊥)
     → (x : ℕ) → Elem x (take (i + 1) sites) → is_marked (set marks (get_or sites i 0) false) x ≡ true → ⊥
 unmark_gone sites i marks l b h x m e = elim (eq_or x (get_or sites i 0)) [
   | inl same ↦ clash _ e (unmarked_here marks (get_or sites i 0) x b same)
@@ -266,8 +278,10 @@ unmark_old marks start s b h x e = elim (eq_or x s) [
 ]
 
 -- where none of a list is marked any more, and nothing else was, nothing is marked
-pub clean_again : (n i : ℕ) (sites : List ℕ) (start marks : List Bool) → length marks ≡ n → length sites ≤ i → ((x : ℕ) → is_marked start x ≡ true → Elem x sites)
-    → ((x : ℕ) → Elem x (take i sites) → is_marked marks x ≡ true → ⊥) → ((x : ℕ) → is_marked marks x ≡ true → is_marked start x ≡ true) → IsClean n marks
+pub clean_again : (n i : ℕ) (sites : List ℕ) (start marks : List Bool) → length marks ≡ n → length sites ≤ i
+    → ((x : ℕ) → is_marked start x ≡ true → Elem x sites)
+    → ((x : ℕ) → Elem x (take i sites) → is_marked marks x ≡ true → ⊥) → ((x : ℕ) → is_marked marks x ≡ true → is_marked start x ≡ true)
+    → IsClean n marks
 clean_again n i sites start marks size l all gone old = record {
   size = size;
   clean = λ x. elim (true_or (is_marked marks x)) [
@@ -281,15 +295,19 @@ pub data IsTestedSite {C V : Type 0} (R : Rules C V) (i : ℕ) : ℕ → Type 0 
   wanted : (s : ℕ) (w : Want C) → R.at i s ≡ Some w → IsTestedSite R i s
   joined : (a b : ℕ) → R.joins i a b ≡ true → IsTestedSite R i a
 
-asked_in : {C V : Type 0} (R : Rules C V) (n i : ℕ) (sites : List ℕ) (old new : List Bool) (list : List ℕ) → IsClean n old → IsClosure R sites old new list
+asked_in : {C V : Type 0} (R : Rules C V) (n i : ℕ) (sites : List ℕ) (old new : List Bool) (list : List ℕ) → IsClean n old
+    → IsClosure R sites old new list
     → ((s : ℕ) → IsTestedSite R i s → Elem s sites) → (s : ℕ) → Asked R i s → Elem s list
-asked_in R n i sites old new list clean c all _ (Asked.by_demand s w e) = closure_full R n sites old new list clean c s (c.bound s (all s (IsTestedSite.wanted s w e)))
-asked_in R n i sites old new list clean c all _ (Asked.by_class a b e) = closure_full R n sites old new list clean c a (c.bound a (all a (IsTestedSite.joined a b e)))
+asked_in R n i sites old new list clean c all _ (Asked.by_demand s w e) =
+    closure_full R n sites old new list clean c s (c.bound s (all s (IsTestedSite.wanted s w e)))
+asked_in R n i sites old new list clean c all _ (Asked.by_class a b e) =
+    closure_full R n sites old new list clean c a (c.bound a (all a (IsTestedSite.joined a b e)))
 asked_in R n i sites old new list clean c all _ (Asked.by_part s p h m) =
     closure_full R n sites old new list clean c p (c.closed s p (asked_in R n i sites old new list clean c all s h) m)
 
 -- what the tests of a rule ask, gathered from their sites
-pub asked_closure : {C V : Type 0} (R : Rules C V) (n i : ℕ) (sites : List ℕ) (old new : List Bool) (list : List ℕ) → PartsAreLower R → IsClean n old → IsClosure R sites old new list
+pub asked_closure : {C V : Type 0} (R : Rules C V) (n i : ℕ) (sites : List ℕ) (old new : List Bool) (list : List ℕ) → PartsAreLower R → IsClean n old
+    → IsClosure R sites old new list
     → ((s : ℕ) → IsTestedSite R i s → Elem s sites) → IsAskedBy R n i list
 asked_closure R n i sites old new list low clean c all = record {
   below = λ x m. let l = c.below x m in let e = clean.size in omega arith;

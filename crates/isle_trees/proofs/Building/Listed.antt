@@ -16,13 +16,15 @@ abbrev pub passes : {A : Type 0} → (A → Bool) → Option A → Bool
 passes p None = false
 passes p (Some x) = p x
 
-pub some_passes : {A : Type 0} (p : A → Bool) (items : List A) (x : ℕ) (d : A) → passes p (slice_get items x) ≡ true → (x < length items) × (p (get_or items x d) ≡ true)
+pub some_passes : {A : Type 0} (p : A → Bool) (items : List A) (x : ℕ) (d : A) → passes p (slice_get items x) ≡ true
+    → (x < length items) × (p (get_or items x d) ≡ true)
 some_passes p items x d e = elim (less_or x (length items)) [
   | inl l ↦ let q : slice_get items x ≡ Some (get_or items x d) = slice_get-get_or items x d l in (l, rw q at e)
   | inr l ↦ let q : slice_get items x ≡ None = slice_get_past items x l in clash (passes p None) (rw q at e) refl
 ]
 
-pub passes_at : {A : Type 0} (p : A → Bool) (items : List A) (x : ℕ) (d : A) → x < length items → p (get_or items x d) ≡ true → passes p (slice_get items x) ≡ true
+pub passes_at : {A : Type 0} (p : A → Bool) (items : List A) (x : ℕ) (d : A) → x < length items → p (get_or items x d) ≡ true
+    → passes p (slice_get items x) ≡ true
 passes_at p items x d l e = rw (slice_get-get_or items x d l) e
 
 position_none : {A : Type 0} (p : A → Bool) (xs : List A) (k : ℕ) (d : A) → position p xs ≡ None → k < length xs → p (get_or xs k d) ≡ false
@@ -37,7 +39,8 @@ position_none p xs k d e m = elim (true_or (nat_lt (position_or_len p xs) (lengt
 abbrev pub NoneOf : {A : Type 0} → (A → Bool) → List A → List ℕ → Type 0
 NoneOf p items xs = (z : ℕ) → Elem z xs → passes p (slice_get items z) ≡ false
 
-pub none_more : {A : Type 0} (p : A → Bool) (items : List A) (xs : List ℕ) (i : ℕ) → i < length xs → NoneOf p items (take i xs) → passes p (slice_get items (get_or xs i 0)) ≡ false
+pub none_more : {A : Type 0} (p : A → Bool) (items : List A) (xs : List ℕ) (i : ℕ) → i < length xs → NoneOf p items (take i xs)
+    → passes p (slice_get items (get_or xs i 0)) ≡ false
     → NoneOf p items (take (i + 1) xs)
 none_more p items xs i l h e z m = elim (last_or z 0 xs i l m) [
   | inl o ↦ h z o
@@ -47,7 +50,8 @@ none_more p items xs i l h e z m = elim (last_or z 0 xs i l m) [
 abbrev pub ListsAll : {A : Type 0} → (A → Bool) → List A → List ℕ → Type 0
 ListsAll p items xs = (z : ℕ) → passes p (slice_get items z) ≡ true → Elem z xs
 
-pub first_site : {A : Type 0} (p : A → Bool) (items : List A) (xs : List ℕ) (i : ℕ) (d : A) → ListsAll p items xs → IsAscending xs → i < length xs → NoneOf p items (take i xs)
+pub first_site : {A : Type 0} (p : A → Bool) (items : List A) (xs : List ℕ) (i : ℕ) (d : A) → ListsAll p items xs → IsAscending xs → i < length xs
+    → NoneOf p items (take i xs)
     → passes p (slice_get items (get_or xs i 0)) ≡ true → Some (get_or xs i 0) ≡ position p items
 first_site p items xs i d all a l none e =
     let here = some_passes p items (get_or xs i 0) d e in
@@ -67,7 +71,8 @@ first_site p items xs i d all a l none e =
           ap Some (sym same) ∙ sym (s.1)
     ]
 
-pub no_site : {A : Type 0} (p : A → Bool) (items : List A) (xs : List ℕ) (i : ℕ) (d : A) → ListsAll p items xs → length xs ≤ i → NoneOf p items (take i xs) → None ≡ position p items
+pub no_site : {A : Type 0} (p : A → Bool) (items : List A) (xs : List ℕ) (i : ℕ) (d : A) → ListsAll p items xs → length xs ≤ i
+    → NoneOf p items (take i xs) → None ≡ position p items
 no_site p items xs i d all l none = elim (none_or (position p items)) [
   | inl n ↦ sym n
   | inr s ↦

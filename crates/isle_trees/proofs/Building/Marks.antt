@@ -22,12 +22,14 @@ pub made_full : {C V : Type 0} (T : Tests C V) (sc : Scope C) (o : Option (Sourc
 made_full T sc None k h = refl
 made_full T sc (Some m) k h = is_want_same T m.want (sc.passed m.site) k (h m refl)
 
-pub bind_sound : {C V : Type 0} (R : Rules C V) (sc : Scope C) (marks : List Bool) (s : ℕ) → SameIs R.tests → AreSound R sc marks → can_bind R sc marks s ≡ true → IsAvailable R sc s
+pub bind_sound : {C V : Type 0} (R : Rules C V) (sc : Scope C) (marks : List Bool) (s : ℕ) → SameIs R.tests → AreSound R sc marks
+    → can_bind R sc marks s ≡ true → IsAvailable R sc s
 bind_sound R sc marks s k h e =
     let both = and_both (is_made R.tests sc (R.made s)) _ e in
     IsAvailable.from_parts s (λ p m. h p (all_gives (is_marked marks) (R.parts s) p (both.1) m)) (made_sound R.tests sc (R.made s) k (both.0))
 
-pub bind_full : {C V : Type 0} (R : Rules C V) (sc : Scope C) (marks : List Bool) (s : ℕ) → SameSelf R.tests → ((p : ℕ) → Elem p (R.parts s) → IsAvailable R sc p → is_marked marks p ≡ true)
+pub bind_full : {C V : Type 0} (R : Rules C V) (sc : Scope C) (marks : List Bool) (s : ℕ) → SameSelf R.tests
+    → ((p : ℕ) → Elem p (R.parts s) → IsAvailable R sc p → is_marked marks p ≡ true)
     → IsAvailable R sc s → can_bind R sc marks s ≡ true
 bind_full R sc marks s k h a =
     let both = available_parts R sc s a in
@@ -56,7 +58,8 @@ module _ {C V : Type 0} (R : Rules C V) (is : SameIs R.tests) (self : SameSelf R
   parts_marked : (p : ℕ) → Elem p (R.parts (get_or sites i 0)) → IsAvailable R sc p → is_marked marks p ≡ true
   parts_marked p m a = h.full p (first i p l m) a
 
-  pub marking_set : get_or sites i 0 < length marks → can_bind R sc marks (get_or sites i 0) ≡ true → Marking R sc (take (i + 1) sites) start (set marks (get_or sites i 0) true)
+  pub marking_set : get_or sites i 0 < length marks → can_bind R sc marks (get_or sites i 0) ≡ true
+      → Marking R sc (take (i + 1) sites) start (set marks (get_or sites i 0) true)
   marking_set b e = record {
     size = length-set marks (get_or sites i 0) true ∙ h.size;
     sound = λ s m. elim (eq_or s (get_or sites i 0)) [
@@ -89,13 +92,16 @@ pub record Group {C V : Type 0} (R : Rules C V) (sc : Scope C) (left : List ℕ)
   pub size : length marks ≡ n
   pub marked : AreMarked R left sc marks
 
-pub group_none : {C V : Type 0} (R : Rules C V) (sc : Scope C) (n : ℕ) (above marks : List Bool) → marks ≡ above → length above ≡ n → AreSound R sc above → Group R sc [] n marks
+pub group_none : {C V : Type 0} (R : Rules C V) (sc : Scope C) (n : ℕ) (above marks : List Bool) → marks ≡ above → length above ≡ n
+    → AreSound R sc above → Group R sc [] n marks
 group_none R sc n above marks e l h =
     let P : List Bool → Type 0 = λ m. Group R sc [] n m in
     subst P (sym e) (record { size = l; marked = record { sound = h; full = λ i s m. absurd m } })
 
-pub group_more : {C V : Type 0} (R : Rules C V) (sc : Scope C) (left : List ℕ) (i n : ℕ) (asked : List ℕ) (old new : List Bool) → i < length left → Group R sc (take i left) n old
-    → ((s : ℕ) → Asked R (get_or left i 0) s → Elem s asked) → AreSound R sc new → ((s : ℕ) → Elem s asked → IsAvailable R sc s → is_marked new s ≡ true)
+pub group_more : {C V : Type 0} (R : Rules C V) (sc : Scope C) (left : List ℕ) (i n : ℕ) (asked : List ℕ) (old new : List Bool) → i < length left
+    → Group R sc (take i left) n old
+    → ((s : ℕ) → Asked R (get_or left i 0) s → Elem s asked) → AreSound R sc new
+    → ((s : ℕ) → Elem s asked → IsAvailable R sc s → is_marked new s ≡ true)
     → ((s : ℕ) → is_marked old s ≡ true → is_marked new s ≡ true) → length new ≡ length old → Group R sc (take (i + 1) left) n new
 group_more R sc left i n asked old new l g all sound full kept size = record {
   size = size ∙ g.size;

@@ -28,7 +28,8 @@ offers_none R sc marks offers e =
 
 -- one rule more
 pub offers_step : {C V : Type 0} (R : Rules C V) (left : List ℕ) (sc : Scope C) (marks : List Bool) (i : ℕ) (old new : List Test) → i < length left
-    → OffersOf R (take i left) sc marks old → ((t : Test) → Elem t old → Elem t new) → ((t : Test) → Elem t new → Elem t old ⊎ (is_ready sc marks t ≡ true))
+    → OffersOf R (take i left) sc marks old → ((t : Test) → Elem t old → Elem t new)
+    → ((t : Test) → Elem t new → Elem t old ⊎ (is_ready sc marks t ≡ true))
     → ((t : Test) → has_test R (get_or left i 0) t ≡ true → is_ready sc marks t ≡ true → Elem t new) → OffersOf R (take (i + 1) left) sc marks new
 offers_step R left sc marks i old new l h keep only full = record {
   ready = λ t m. elim (only t m) [ inl o ↦ h.ready t o | inr e ↦ e ];
@@ -38,8 +39,10 @@ offers_step R left sc marks i old new l h keep only full = record {
   ];
 }
 
-pub offers_more : {C V : Type 0} (R : Rules C V) (left : List ℕ) (sc : Scope C) (marks : List Bool) (i : ℕ) (old more new : List Test) → i < length left
-    → OffersOf R (take i left) sc marks old → AreOffersOf R (get_or left i 0) sc marks more → new ≡ old ++ more → OffersOf R (take (i + 1) left) sc marks new
+pub offers_more : {C V : Type 0} (R : Rules C V) (left : List ℕ) (sc : Scope C) (marks : List Bool) (i : ℕ) (old more new : List Test)
+    → i < length left
+    → OffersOf R (take i left) sc marks old → AreOffersOf R (get_or left i 0) sc marks more → new ≡ old ++ more
+    → OffersOf R (take (i + 1) left) sc marks new
 offers_more R left sc marks i old more new l h o e =
     let P : List Test → Type 0 = λ l. OffersOf R (take (i + 1) left) sc marks l in
     subst P (sym e) (offers_step R left sc marks i old (old ++ more) l h
@@ -48,7 +51,8 @@ offers_more R left sc marks i old more new l h o e =
     (λ t a r. elem_right t old more (o.full t a r)))
 
 -- where a rule is below a priority, those of that priority stand before it
-front_has : {C V : Type 0} (R : Rules C V) (left : List ℕ) (i j : ℕ) (k : ℤ) → IsInOrder R left → i < length left → R.prio (get_or left i 0) <ℤ k → Elem j left → k ≤ℤ R.prio j
+front_has : {C V : Type 0} (R : Rules C V) (left : List ℕ) (i j : ℕ) (k : ℤ) → IsInOrder R left → i < length left → R.prio (get_or left i 0) <ℤ k
+    → Elem j left → k ≤ℤ R.prio j
     → Elem j (take i left)
 front_has R [] i j k o l p m q = absurd m
 front_has R (x ∷ xs) zero j k o l p m q = elim m [
@@ -57,7 +61,8 @@ front_has R (x ∷ xs) zero j k o l p m q = elim m [
 ]
 front_has R (x ∷ xs) (suc i) j k o l p m q = elim m [ inl e ↦ inl e | inr n ↦ inr (front_has R xs i j k (o.1) (omega arith) p n q) ]
 
-pub offers_stopped : {C V : Type 0} (R : Rules C V) (left : List ℕ) (sc : Scope C) (marks : List Bool) (i : ℕ) (offers : List Test) → IsInOrder R left → i < length left
+pub offers_stopped : {C V : Type 0} (R : Rules C V) (left : List ℕ) (sc : Scope C) (marks : List Bool) (i : ℕ) (offers : List Test) → IsInOrder R left
+    → i < length left
     → R.prio (get_or left i 0) <ℤ top R left → OffersOf R (take i left) sc marks offers → AreOffers R left sc marks offers
 offers_stopped R left sc marks i offers o l p h = record {
   ready = h.ready;
@@ -84,7 +89,8 @@ open_sound R sc marks s h e =
 open_full : {C : Type 0} (sc : Scope C) (marks : List Bool) (s : ℕ) → is_marked marks s ≡ true → sc.passed s ≡ None → is_open sc marks s ≡ true
 open_full sc marks s m n = both_and (is_marked marks s) _ m (rw n refl)
 
-pub ready_sound : {C V : Type 0} (R : Rules C V) (sc : Scope C) (marks : List Bool) (t : Test) → AreSound R sc marks → is_ready sc marks t ≡ true → IsReady R sc t
+pub ready_sound : {C V : Type 0} (R : Rules C V) (sc : Scope C) (marks : List Bool) (t : Test) → AreSound R sc marks → is_ready sc marks t ≡ true
+    → IsReady R sc t
 ready_sound R sc marks (on_match s) h e = open_sound R sc marks s h e
 ready_sound R sc marks (on_loop s) h e = open_sound R sc marks s h e
 ready_sound R sc marks (on_equal a b) h e =
@@ -95,7 +101,8 @@ ready_sound R sc marks (on_equal a b) h e =
     let y = open_sound R sc marks b h (r.0) in
     (ltb-true a b (p.0), x.0, y.0, x.1, y.1, eqb-false _ _ (not_true _ (r.1)))
 
-pub ready_full : {C V : Type 0} (R : Rules C V) (left : List ℕ) (sc : Scope C) (marks : List Bool) (t : Test) (i : ℕ) → JoinsBothWays R → AreMarked R left sc marks → Elem i left
+pub ready_full : {C V : Type 0} (R : Rules C V) (left : List ℕ) (sc : Scope C) (marks : List Bool) (t : Test) (i : ℕ) → JoinsBothWays R
+    → AreMarked R left sc marks → Elem i left
     → has_test R i t ≡ true → IsReady R sc t → is_ready sc marks t ≡ true
 ready_full R left sc marks (on_match s) i w h m e r =
     let k = test_of (R.at i s) e in open_full sc marks s (h.full i s m (Asked.by_demand s (has (k.0)) (k.1)) (r.0)) (r.1)
@@ -122,7 +129,8 @@ top_has R (x ∷ xs) t o l =
     ]
 
 -- each test that can be made and counts is offered
-pub offered_all : {C V : Type 0} (R : Rules C V) (left : List ℕ) (sc : Scope C) (marks : List Bool) (offers : List Test) (t : Test) → JoinsBothWays R → IsInOrder R left
+pub offered_all : {C V : Type 0} (R : Rules C V) (left : List ℕ) (sc : Scope C) (marks : List Bool) (offers : List Test) (t : Test) → JoinsBothWays R
+    → IsInOrder R left
     → AreMarked R left sc marks → AreOffers R left sc marks offers → IsReady R sc t → 0 < length (counted R t left) → Elem t offers
 offered_all R left sc marks offers t w o h f r l =
     let one = top_has R left t o l in
@@ -136,8 +144,10 @@ IsConsidered R left sc offers best = (t : Test) → Elem t offers → IsNoBetter
 abbrev pub IsSearched : {C V : Type 0} → Rules C V → List ℕ → Scope C → Option Ranked → Type 0
 IsSearched R left sc best = (t : Test) → IsReady R sc t → IsNoBetter R left sc best t ⊎ (length (counted R t left) ≡ 0)
 
-pub all_no_better : {C V : Type 0} (R : Rules C V) (left : List ℕ) (sc : Scope C) (marks : List Bool) (offers some : List Test) (best : Option Ranked) → JoinsBothWays R
-    → IsInOrder R left → AreMarked R left sc marks → AreOffers R left sc marks offers → ((t : Test) → Elem t offers → Elem t some) → IsConsidered R left sc some best
+pub all_no_better : {C V : Type 0} (R : Rules C V) (left : List ℕ) (sc : Scope C) (marks : List Bool) (offers some : List Test) (best : Option Ranked)
+    → JoinsBothWays R
+    → IsInOrder R left → AreMarked R left sc marks → AreOffers R left sc marks offers → ((t : Test) → Elem t offers → Elem t some)
+    → IsConsidered R left sc some best
     → IsSearched R left sc best
 all_no_better R left sc marks offers some best w o h f k c t r = elim (zero_or (length (counted R t left))) [
   | inl e ↦ inr e
@@ -147,7 +157,8 @@ all_no_better R left sc marks offers some best w o h f k c t r = elim (zero_or (
 pub nothing_best : {C V : Type 0} (R : Rules C V) (left : List ℕ) (sc : Scope C) → IsSearched R left sc None → HasNoTest R left sc
 nothing_best R left sc h t r = elim (h t r) [ inl e ↦ sym (key_count R left sc t) ∙ e | inr e ↦ e ]
 
-pub something_best : {C V : Type 0} (R : Rules C V) (left : List ℕ) (sc : Scope C) (b : Ranked) → IsRanked R left sc (Some b) → IsSearched R left sc (Some b) → IsBest R left sc b.test
+pub something_best : {C V : Type 0} (R : Rules C V) (left : List ℕ) (sc : Scope C) (b : Ranked) → IsRanked R left sc (Some b)
+    → IsSearched R left sc (Some b) → IsBest R left sc b.test
 something_best R left sc b r h = record {
   ready = r.0;
   useful = let e = key_count R left sc b.test in let l : 0 < (key R left sc b.test).count = subst HasCount (r.1) (r.2) in omega arith;
@@ -159,7 +170,8 @@ something_best R left sc b r h = record {
 
 -- one more is considered
 pub considered_more : {C V : Type 0} (R : Rules C V) (left : List ℕ) (sc : Scope C) (old new : Option Ranked) (f : ℕ → Test) (n : ℕ)
-    → ((t : Test) → IsNoBetter R left sc old t → IsNoBetter R left sc new t) → IsNoBetter R left sc new (f n) → ((k : ℕ) → k < n → IsNoBetter R left sc old (f k))
+    → ((t : Test) → IsNoBetter R left sc old t → IsNoBetter R left sc new t) → IsNoBetter R left sc new (f n)
+    → ((k : ℕ) → k < n → IsNoBetter R left sc old (f k))
     → (k : ℕ) → k < n + 1 → IsNoBetter R left sc new (f k)
 considered_more R left sc old new f n keep last h = below_more _ _ (λ k l. keep (f k) (h k l)) last
 
@@ -190,7 +202,8 @@ place_ready R left sc marks f offers ds d k h o a l =
 
 -- once the loop over what is offered has ended
 pub searched : {C V : Type 0} {A : Type 0} (R : Rules C V) (left : List ℕ) (sc : Scope C) (marks : List Bool) (f : A → Test) (offers ds : List A) (d : A) (best : Option Ranked) (n : ℕ)
-    → JoinsBothWays R → IsInOrder R left → AreMarked R left sc marks → AreOffers R left sc marks (map f offers) → ((x : A) → Contains offers x → Contains ds x) → length ds ≤ n
+    → JoinsBothWays R → IsInOrder R left → AreMarked R left sc marks → AreOffers R left sc marks (map f offers)
+    → ((x : A) → Contains offers x → Contains ds x) → length ds ≤ n
     → ((k : ℕ) → k < n → IsNoBetter R left sc best (f (get_or ds k d))) → IsSearched R left sc best
 searched R left sc marks f offers ds d best n w o h p keeps l k =
     all_no_better R left sc marks (map f offers) (map f ds) best w o h p

@@ -82,7 +82,8 @@ abbrev AllBefore : {C V : Type 0} → Rules C V → List ℕ → Type 0
 AllBefore R [] = Unit {0}
 AllBefore R (x ∷ xs) = ((y : ℕ) → Elem y xs → Before R x y) × AllBefore R xs
 
-all_before : {C V : Type 0} (R : Rules C V) (xs : List ℕ) → ((k : ℕ) → suc k < length xs → Before R (get_or xs k 0) (get_or xs (suc k) 0)) → AllBefore R xs
+all_before : {C V : Type 0} (R : Rules C V) (xs : List ℕ) → ((k : ℕ) → suc k < length xs → Before R (get_or xs k 0) (get_or xs (suc k) 0))
+    → AllBefore R xs
 all_before R [] h = tt
 all_before R (x ∷ []) h = (λ y m. absurd m, tt)
 all_before R (x ∷ y ∷ ys) h =

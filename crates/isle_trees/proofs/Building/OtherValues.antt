@@ -7,33 +7,40 @@ use Rattle.isle_trees.specs.Scopes.{Scope, emit, release, join, same_want, is_wa
 use Rattle.isle_trees.specs.Tree.{Steps, done, «match», equal, loop, give, Arms, no_arm, arm}
 use Rattle.isle_trees.specs.Values.{over_values}
 
-part_over : {C V W : Type 0} (R : Rules C V) (p : C → W → Bool) (a : W → W → Bool) (sites : List ℕ) (x : ℕ) → IsPartOf R sites x → IsPartOf (over_values R p a) sites x
+part_over : {C V W : Type 0} (R : Rules C V) (p : C → W → Bool) (a : W → W → Bool) (sites : List ℕ) (x : ℕ) → IsPartOf R sites x
+    → IsPartOf (over_values R p a) sites x
 part_over R p a sites _ (IsPartOf.itself s m) = IsPartOf.itself s m
 part_over R p a sites _ (IsPartOf.of_part s x h m) = IsPartOf.of_part s x (part_over R p a sites s h) m
 
-available_over : {C V W : Type 0} (R : Rules C V) (p : C → W → Bool) (a : W → W → Bool) (sc : Scope C) (s : ℕ) → IsAvailable R sc s → IsAvailable (over_values R p a) sc s
+available_over : {C V W : Type 0} (R : Rules C V) (p : C → W → Bool) (a : W → W → Bool) (sc : Scope C) (s : ℕ) → IsAvailable R sc s
+    → IsAvailable (over_values R p a) sc s
 available_over R p a sc _ (IsAvailable.from_parts s parts tested) = IsAvailable.from_parts s (λ x m. available_over R p a sc x (parts x m)) tested
 
-ready_over : {C V W : Type 0} (R : Rules C V) (p : C → W → Bool) (a : W → W → Bool) (sc : Scope C) (t : Test) → IsReady R sc t → IsReady (over_values R p a) sc t
+ready_over : {C V W : Type 0} (R : Rules C V) (p : C → W → Bool) (a : W → W → Bool) (sc : Scope C) (t : Test) → IsReady R sc t
+    → IsReady (over_values R p a) sc t
 ready_over R p a sc (on_match s) r = (available_over R p a sc s (r.0), r.1)
 ready_over R p a sc (on_loop s) r = (available_over R p a sc s (r.0), r.1)
 ready_over R p a sc (on_equal x y) r = (r.0, available_over R p a sc x (r.1), available_over R p a sc y (r.2), r.3, r.4, r.5)
 
 -- and back, since the rules over their own values are the rules
-ready_back : {C V W : Type 0} (R : Rules C V) (p : C → W → Bool) (a : W → W → Bool) (sc : Scope C) (t : Test) → IsReady (over_values R p a) sc t → IsReady R sc t
+ready_back : {C V W : Type 0} (R : Rules C V) (p : C → W → Bool) (a : W → W → Bool) (sc : Scope C) (t : Test) → IsReady (over_values R p a) sc t
+    → IsReady R sc t
 ready_back R p a sc t r = ready_over (over_values R p a) R.tests.passes R.tests.alike sc t r
 
-counted_over : {C V W : Type 0} (R : Rules C V) (p : C → W → Bool) (a : W → W → Bool) (t : Test) (left : List ℕ) → counted (over_values R p a) t left ≡ counted R t left
+counted_over : {C V W : Type 0} (R : Rules C V) (p : C → W → Bool) (a : W → W → Bool) (t : Test) (left : List ℕ)
+    → counted (over_values R p a) t left ≡ counted R t left
 counted_over R p a (on_match s) left = refl
 counted_over R p a (on_loop s) left = refl
 counted_over R p a (on_equal x y) left = refl
 
-key_over : {C V W : Type 0} (R : Rules C V) (p : C → W → Bool) (a : W → W → Bool) (left : List ℕ) (sc : Scope C) (t : Test) → key R left sc t ≡ key (over_values R p a) left sc t
+key_over : {C V W : Type 0} (R : Rules C V) (p : C → W → Bool) (a : W → W → Bool) (left : List ℕ) (sc : Scope C) (t : Test)
+    → key R left sc t ≡ key (over_values R p a) left sc t
 key_over R p a left sc (on_match s) = refl
 key_over R p a left sc (on_loop s) = refl
 key_over R p a left sc (on_equal x y) = refl
 
-best_over : {C V W : Type 0} (R : Rules C V) (p : C → W → Bool) (a : W → W → Bool) (left : List ℕ) (sc : Scope C) (t : Test) → IsBest R left sc t → IsBest (over_values R p a) left sc t
+best_over : {C V W : Type 0} (R : Rules C V) (p : C → W → Bool) (a : W → W → Bool) (left : List ℕ) (sc : Scope C) (t : Test) → IsBest R left sc t
+    → IsBest (over_values R p a) left sc t
 best_over R p a left sc t b = record {
   ready = ready_over R p a sc t b.ready;
   useful = let P : List ℕ → Type 0 = λ l. 0 < length l in subst P (sym (counted_over R p a t left)) b.useful;
@@ -43,10 +50,13 @@ best_over R p a left sc t b = record {
       subst P (key_over R p a left sc u) (subst Q (key_over R p a left sc t) (b.greatest u (ready_back R p a sc u r)));
 }
 
-none_over : {C V W : Type 0} (R : Rules C V) (p : C → W → Bool) (a : W → W → Bool) (left : List ℕ) (sc : Scope C) → HasNoTest R left sc → HasNoTest (over_values R p a) left sc
-none_over R p a left sc n u r = let P : List ℕ → Type 0 = λ l. length l ≡ 0 in subst P (sym (counted_over R p a u left)) (n u (ready_back R p a sc u r))
+none_over : {C V W : Type 0} (R : Rules C V) (p : C → W → Bool) (a : W → W → Bool) (left : List ℕ) (sc : Scope C) → HasNoTest R left sc
+    → HasNoTest (over_values R p a) left sc
+none_over R p a left sc n u r =
+    let P : List ℕ → Type 0 = λ l. length l ≡ 0 in subst P (sym (counted_over R p a u left)) (n u (ready_back R p a sc u r))
 
-order_over : {C V W : Type 0} (R : Rules C V) (p : C → W → Bool) (a : W → W → Bool) (sc : Scope C) (xs : List ℕ) → IsOrder R sc xs → IsOrder (over_values R p a) sc xs
+order_over : {C V W : Type 0} (R : Rules C V) (p : C → W → Bool) (a : W → W → Bool) (sc : Scope C) (xs : List ℕ) → IsOrder R sc xs
+    → IsOrder (over_values R p a) sc xs
 order_over R p a sc [] o = tt
 order_over R p a sc (x ∷ xs) o = (o.0, o.1, order_over R p a (emit sc x) xs (o.2))
 
@@ -78,13 +88,15 @@ returns_over R p a left sc (give binds i next) (first, (after, each, rest)) =
     (first, (after, each_over R p a sc (rights R i) binds after each, returns_over R p a (without i left) after next rest))
 
 -- wants
-want_over : {C V W : Type 0} (R : Rules C V) (p : C → W → Bool) (a : W → W → Bool) (w u : Want C) → same_want R.tests w u ≡ same_want (over_values R p a).tests w u
+want_over : {C V W : Type 0} (R : Rules C V) (p : C → W → Bool) (a : W → W → Bool) (w u : Want C)
+    → same_want R.tests w u ≡ same_want (over_values R p a).tests w u
 want_over R p a (has c) (has d) = refl
 want_over R p a (has c) one_value = refl
 want_over R p a one_value (has d) = refl
 want_over R p a one_value one_value = refl
 
-is_want_over : {C V W : Type 0} (R : Rules C V) (p : C → W → Bool) (a : W → W → Bool) (w : Want C) (o : Option (Want C)) → is_want R.tests w o ≡ is_want (over_values R p a).tests w o
+is_want_over : {C V W : Type 0} (R : Rules C V) (p : C → W → Bool) (a : W → W → Bool) (w : Want C) (o : Option (Want C))
+    → is_want R.tests w o ≡ is_want (over_values R p a).tests w o
 is_want_over R p a w None = refl
 is_want_over R p a w (Some u) = want_over R p a w u
 
@@ -93,17 +105,20 @@ source_over : {C V W : Type 0} (R : Rules C V) (p : C → W → Bool) (a : W →
 source_over R p a s w None = refl
 source_over R p a s w (Some m) = ap (λ (b : Bool). (m.site == s) && b) (want_over R p a w m.want)
 
-inside_over : {C V W : Type 0} (R : Rules C V) (p : C → W → Bool) (a : W → W → Bool) (sc : Scope C) (s : ℕ) (w : Want C) → inside R sc s w ≡ inside (over_values R p a) sc s w
+inside_over : {C V W : Type 0} (R : Rules C V) (p : C → W → Bool) (a : W → W → Bool) (sc : Scope C) (s : ℕ) (w : Want C)
+    → inside R sc s w ≡ inside (over_values R p a) sc s w
 inside_over R p a sc s w = λ i. record {
   passed = (inside R sc s w).passed;
   label = sc.label;
   emitted = λ x. source_over R p a s w (R.made x) i || sc.emitted x;
 }
 
-wanting_over : {C V W : Type 0} (R : Rules C V) (p : C → W → Bool) (a : W → W → Bool) (s : ℕ) (c : C) (left : List ℕ) → wanting R s c left ≡ wanting (over_values R p a) s c left
+wanting_over : {C V W : Type 0} (R : Rules C V) (p : C → W → Bool) (a : W → W → Bool) (s : ℕ) (c : C) (left : List ℕ)
+    → wanting R s c left ≡ wanting (over_values R p a) s c left
 wanting_over R p a s c left = λ i. filter (λ j. is_want_over R p a (has c) (R.at j s) i) left
 
-not_wanting_over : {C V W : Type 0} (R : Rules C V) (p : C → W → Bool) (a : W → W → Bool) (s : ℕ) (c : C) (left : List ℕ) → not_wanting R s c left ≡ not_wanting (over_values R p a) s c left
+not_wanting_over : {C V W : Type 0} (R : Rules C V) (p : C → W → Bool) (a : W → W → Bool) (s : ℕ) (c : C) (left : List ℕ)
+    → not_wanting R s c left ≡ not_wanting (over_values R p a) s c left
 not_wanting_over R p a s c left = λ i. filter (λ j. not (is_want_over R p a (has c) (R.at j s) i)) left
 
 mutual

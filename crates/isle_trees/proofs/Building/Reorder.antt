@@ -21,7 +21,8 @@ same_filter p xs ys h f = sum_filter f p xs ∙ h (λ x. if p x then f x else 0)
 
 length_sum : (xs : List ℕ) → length xs ≡ sum_by (λ x. 1) xs
 length_sum [] = refl
-length_sum (x ∷ xs) = let q = length_sum xs in let c : sum_by (λ (y : ℕ). 1) (x ∷ xs) ≡ 1 + sum_by (λ (y : ℕ). 1) xs = sum_by-cons (λ (y : ℕ). 1) x xs in omega arith
+length_sum (x ∷ xs) =
+    let q = length_sum xs in let c : sum_by (λ (y : ℕ). 1) (x ∷ xs) ≡ 1 + sum_by (λ (y : ℕ). 1) xs = sum_by-cons (λ (y : ℕ). 1) x xs in omega arith
 
 pub same_length : (xs ys : List ℕ) → IsSameBag xs ys → length xs ≡ length ys
 same_length xs ys h = length_sum xs ∙ h (λ x. 1) ∙ sym (length_sum ys)
@@ -31,8 +32,12 @@ is_one x y = if y == x then 1 else 0
 
 pub elem_sum : (x : ℕ) (xs : List ℕ) → Elem x xs → 0 < sum_by (is_one x) xs
 elem_sum x [] m = absurd m
-elem_sum x (y ∷ ys) (inl e) = let c : sum_by (is_one x) (y ∷ ys) ≡ is_one x y + sum_by (is_one x) ys = sum_by-cons (is_one x) y ys in let o : is_one x y ≡ 1 = rw (eq-eqb y x (sym e)) refl in omega arith
-elem_sum x (y ∷ ys) (inr m) = let c : sum_by (is_one x) (y ∷ ys) ≡ is_one x y + sum_by (is_one x) ys = sum_by-cons (is_one x) y ys in let q = elem_sum x ys m in omega arith
+elem_sum x (y ∷ ys) (inl e) =
+    let c : sum_by (is_one x) (y ∷ ys) ≡ is_one x y + sum_by (is_one x) ys = sum_by-cons (is_one x) y ys in
+    let o : is_one x y ≡ 1 = rw (eq-eqb y x (sym e)) refl in
+    omega arith
+elem_sum x (y ∷ ys) (inr m) =
+    let c : sum_by (is_one x) (y ∷ ys) ≡ is_one x y + sum_by (is_one x) ys = sum_by-cons (is_one x) y ys in let q = elem_sum x ys m in omega arith
 
 pub sum_elem : (x : ℕ) (xs : List ℕ) → 0 < sum_by (is_one x) xs → Elem x xs
 sum_elem x [] l = absurd (omega arith)
@@ -59,15 +64,19 @@ pub same_counted : {C V : Type 0} (R : Rules C V) (t : Test) (xs ys : List ℕ) 
 same_counted R t xs ys h f = ap (λ (c : ℕ → Bool). sum_by f (filter c xs)) (same_counts R t xs ys h) ∙ same_filter (counts R t ys) xs ys h f
 
 pub same_others : {C V : Type 0} (R : Rules C V) (t : Test) (xs ys : List ℕ) → IsSameBag xs ys → IsSameBag (others R t xs) (others R t ys)
-same_others R t xs ys h f = ap (λ (c : ℕ → Bool). sum_by f (filter (λ i. not (c i)) xs)) (same_counts R t xs ys h) ∙ same_filter (λ i. not (counts R t ys i)) xs ys h f
+same_others R t xs ys h f =
+    ap (λ (c : ℕ → Bool). sum_by f (filter (λ i. not (c i)) xs)) (same_counts R t xs ys h) ∙ same_filter (λ i. not (counts R t ys i)) xs ys h f
 
 same_count : {C V : Type 0} (R : Rules C V) (t : Test) (xs ys : List ℕ) → IsSameBag xs ys → length (counted R t xs) ≡ length (counted R t ys)
 same_count R t xs ys h = same_length (counted R t xs) (counted R t ys) (same_counted R t xs ys h)
 
 same_key : {C V : Type 0} (R : Rules C V) (sc : Scope C) (t : Test) (xs ys : List ℕ) → IsSameBag xs ys → key R xs sc t ≡ key R ys sc t
-same_key R sc (on_match s) xs ys h = ap (λ (n : ℕ). record { count = n; state = state sc (on_match s); kind = 2; first = s; second = s }) (same_count R (on_match s) xs ys h)
-same_key R sc (on_loop s) xs ys h = ap (λ (n : ℕ). record { count = n; state = state sc (on_loop s); kind = 0; first = s; second = s }) (same_count R (on_loop s) xs ys h)
-same_key R sc (on_equal a b) xs ys h = ap (λ (n : ℕ). record { count = n; state = state sc (on_equal a b); kind = 1; first = a; second = b }) (same_count R (on_equal a b) xs ys h)
+same_key R sc (on_match s) xs ys h =
+    ap (λ (n : ℕ). record { count = n; state = state sc (on_match s); kind = 2; first = s; second = s }) (same_count R (on_match s) xs ys h)
+same_key R sc (on_loop s) xs ys h =
+    ap (λ (n : ℕ). record { count = n; state = state sc (on_loop s); kind = 0; first = s; second = s }) (same_count R (on_loop s) xs ys h)
+same_key R sc (on_equal a b) xs ys h =
+    ap (λ (n : ℕ). record { count = n; state = state sc (on_equal a b); kind = 1; first = a; second = b }) (same_count R (on_equal a b) xs ys h)
 
 pub same_best : {C V : Type 0} (R : Rules C V) (sc : Scope C) (t : Test) (xs ys : List ℕ) → IsSameBag xs ys → IsBest R xs sc t → IsBest R ys sc t
 same_best R sc t xs ys h b = record {
@@ -84,7 +93,8 @@ same_no_test R sc xs ys h n u r = sym (same_count R u xs ys h) ∙ n u r
 
 same_nil : (xs ys : List ℕ) → IsSameBag xs ys → xs ≡ [] → ys ≡ []
 same_nil xs [] h e = refl
-same_nil xs (y ∷ ys) h e = let l : length xs ≡ length (y ∷ ys) = same_length xs (y ∷ ys) h in let k : length xs ≡ 0 = ap length e in absurd (omega arith)
+same_nil xs (y ∷ ys) h e =
+    let l : length xs ≡ length (y ∷ ys) = same_length xs (y ∷ ys) h in let k : length xs ≡ 0 = ap length e in absurd (omega arith)
 
 same_first : {C V : Type 0} (R : Rules C V) (xs ys : List ℕ) (i : ℕ) → IsSameBag xs ys → IsFirst R xs i → IsFirst R ys i
 same_first R xs ys i h f = (same_elem xs ys i h (f.0), λ j m. f.1 j (same_elem ys xs j (same_turned xs ys h) m))
@@ -101,7 +111,8 @@ same_least : {C V : Type 0} (R : Rules C V) (s : ℕ) (c : C) (xs ys : List ℕ)
 same_least R s c xs ys h f = ((f.0.0, same_elem xs ys (f.0.0) h (f.0.1), f.0.2), λ i j m e. f.1 i j (same_elem ys xs i (same_turned xs ys h) m) e)
 
 mutual
-  pub same_builds : {C V : Type 0} (R : Rules C V) (T : Steps C) (xs ys : List ℕ) (sc : Scope C) → IsSameBag xs ys → Builds R xs sc T → Builds R ys sc T
+  pub same_builds : {C V : Type 0} (R : Rules C V) (T : Steps C) (xs ys : List ℕ) (sc : Scope C) → IsSameBag xs ys → Builds R xs sc T
+      → Builds R ys sc T
   same_builds R done xs ys sc h b = same_nil xs ys h b
   same_builds R (give binds i next) xs ys sc h b = (same_no_test R sc xs ys h (b.0), same_returns R (give binds i next) xs ys sc h (b.1))
   same_builds R («match» binds s arms next) xs ys sc h b = (
@@ -134,7 +145,8 @@ mutual
     ),
   )
 
-  pub same_arms : {C V : Type 0} (R : Rules C V) (T : Arms C) (xs ys : List ℕ) (sc : Scope C) (s : ℕ) → IsSameBag xs ys → BuildsArms R xs sc s T → BuildsArms R ys sc s T
+  pub same_arms : {C V : Type 0} (R : Rules C V) (T : Arms C) (xs ys : List ℕ) (sc : Scope C) (s : ℕ) → IsSameBag xs ys → BuildsArms R xs sc s T
+      → BuildsArms R ys sc s T
   same_arms R no_arm xs ys sc s h b = same_nil xs ys h b
   same_arms R (arm c bindings body more) xs ys sc s h b = (
     same_least R s c xs ys h (b.0),

@@ -12,6 +12,7 @@ use Rattle.isle_trees.proofs.Basics.{true_or, and_both, and_fails, or_holds, or_
 use Rattle.isle_trees.proofs.Building.InOrder.{in_order_distinct}
 use Rattle.isle_trees.proofs.Building.Lists.{drop_elem}
 use Rattle.isle_trees.proofs.Building.Ordered.{precedes_orders, precedes_true, precedes_false, level, same_distinct}
+use Rattle.isle_trees.proofs.Building.Reorder.{same_each}
 use Rattle.isle_trees.proofs.Sums.{filter_all, filter_none}
 
 -- tests have an order, and `same` tells them apart
@@ -47,7 +48,8 @@ lesser_one_way T (Some (has c)) (Some (has d)) k e = ap not (k.least_either d c 
 lesser_one_way T (Some (has c)) (Some one_value) k e = refl
 lesser_one_way T (Some one_value) (Some w) k e = cc
 
-lesser_chain : {C V : Type 0} (T : Tests C V) (o p q : Option (Want C)) → AreOrdered T → lesser_want T o p ≡ true → lesser_want T p q ≡ true → lesser_want T o q ≡ true
+lesser_chain : {C V : Type 0} (T : Tests C V) (o p q : Option (Want C)) → AreOrdered T → lesser_want T o p ≡ true → lesser_want T p q ≡ true
+    → lesser_want T o q ≡ true
 lesser_chain T None None None k e f = cc
 lesser_chain T None (Some u) None k e f = cc
 lesser_chain T None p (Some w) k e f = refl
@@ -65,7 +67,8 @@ lesser_chain T (Some (has c)) (Some one_value) (Some w) k l m = cc
 lesser_chain T (Some one_value) (Some u) (Some w) k l m = cc
 
 -- of two wants that differ one is the lesser
-lesser_either : {C V : Type 0} (T : Tests C V) (o p : Option (Want C)) → AreOrdered T → lesser_want T o p ≡ false → (lesser_want T p o ≡ true) ⊎ (o ≡ p)
+lesser_either : {C V : Type 0} (T : Tests C V) (o p : Option (Want C)) → AreOrdered T → lesser_want T o p ≡ false
+    → (lesser_want T p o ≡ true) ⊎ (o ≡ p)
 lesser_either T None None k e = inr refl
 lesser_either T None (Some w) k e = cc
 lesser_either T (Some w) None k e = inl refl
@@ -190,7 +193,8 @@ grouped R s (x ∷ xs) o h d = (
   grouped R s xs o (h.1) (d.1),
 )
 
-pub sorted_grouped : {C V : Type 0} (R : Rules C V) (s : ℕ) (xs ys : List ℕ) → AreOrdered R.tests → AreDistinct xs → IsSameBag xs ys → IsSortedBy (comes_first R s) ys → AreGrouped R s ys
+pub sorted_grouped : {C V : Type 0} (R : Rules C V) (s : ℕ) (xs ys : List ℕ) → AreOrdered R.tests → AreDistinct xs → IsSameBag xs ys
+    → IsSortedBy (comes_first R s) ys → AreGrouped R s ys
 sorted_grouped R s xs ys o d same h =
     grouped R s ys o
     (none_first R s ys o (λ k l.
@@ -199,7 +203,8 @@ sorted_grouped R s xs ys o d same h =
     (same_distinct xs ys same d)
 
 -- the same where they were in order
-pub ordered_grouped : {C V : Type 0} (R : Rules C V) (s : ℕ) (xs ys : List ℕ) → AreOrdered R.tests → IsInOrder R xs → IsSameBag xs ys → IsSortedBy (comes_first R s) ys → AreGrouped R s ys
+pub ordered_grouped : {C V : Type 0} (R : Rules C V) (s : ℕ) (xs ys : List ℕ) → AreOrdered R.tests → IsInOrder R xs → IsSameBag xs ys
+    → IsSortedBy (comes_first R s) ys → AreGrouped R s ys
 ordered_grouped R s xs ys k o same h = sorted_grouped R s xs ys k (in_order_distinct R xs o) same h
 
 -- what is left of a group
@@ -208,7 +213,8 @@ drop_grouped R s zero xs g = g
 drop_grouped R s (suc i) [] g = g
 drop_grouped R s (suc i) (x ∷ xs) g = drop_grouped R s i xs (g.1)
 
-not_lower : {C V : Type 0} (R : Rules C V) (s x y : ℕ) (c d : C) → AreOrdered R.tests → comes_first R s x y ≡ true → R.at x s ≡ Some (has c) → R.at y s ≡ Some (has d)
+not_lower : {C V : Type 0} (R : Rules C V) (s x y : ℕ) (c d : C) → AreOrdered R.tests → comes_first R s x y ≡ true → R.at x s ≡ Some (has c)
+    → R.at y s ≡ Some (has d)
     → R.tests.at_most c d ≡ true
 not_lower {C} R s x y c d k e a b = elim (first_true R s x y k e) [
   | inl l ↦
@@ -240,7 +246,8 @@ none_want R s c xs h = (
 )
 
 -- where the first wants another test, no later one wants this
-later_want : {C V : Type 0} (R : Rules C V) (s x : ℕ) (c : C) (xs : List ℕ) → AreOrdered R.tests → AreGrouped R s (x ∷ xs) → AllWant R (x ∷ xs) s → IsLow R s c (x ∷ xs)
+later_want : {C V : Type 0} (R : Rules C V) (s x : ℕ) (c : C) (xs : List ℕ) → AreOrdered R.tests → AreGrouped R s (x ∷ xs) → AllWant R (x ∷ xs) s
+    → IsLow R s c (x ∷ xs)
     → is_want R.tests (has c) (R.at x s) ≡ false → (y : ℕ) → Elem y (x ∷ xs) → is_want R.tests (has c) (R.at y s) ≡ false
 later_want R s x c xs k g w low e y (inl q) = ap (λ (z : ℕ). is_want R.tests (has c) (R.at z s)) q ∙ e
 later_want {C} R s x c xs k g w low e y (inr m) =
@@ -268,7 +275,8 @@ front_is R s c (x ∷ xs) k g w h = elim (true_or (is_want R.tests (has c) (R.at
 ]
 
 -- those of one test are in order
-wanting_grouped : {C V : Type 0} (R : Rules C V) (s : ℕ) (c : C) (xs : List ℕ) → AreOrdered R.tests → AreGrouped R s xs → IsInOrder R (wanting R s c xs)
+wanting_grouped : {C V : Type 0} (R : Rules C V) (s : ℕ) (c : C) (xs : List ℕ) → AreOrdered R.tests → AreGrouped R s xs
+    → IsInOrder R (wanting R s c xs)
 wanting_grouped R s c [] k g = tt
 wanting_grouped {C} R s c (x ∷ xs) k g = elim (true_or (is_want R.tests (has c) (R.at x s))) [
   | inl e ↦ rw e (
@@ -286,14 +294,16 @@ wanting_grouped {C} R s c (x ∷ xs) k g = elim (true_or (is_want R.tests (has c
   | inr e ↦ rw e (wanting_grouped R s c xs k (g.1))
 ]
 
-head_low : {C V : Type 0} (R : Rules C V) (s x : ℕ) (c : C) (xs : List ℕ) → AreOrdered R.tests → AreGrouped R s (x ∷ xs) → R.at x s ≡ Some (has c) → IsLow R s c (x ∷ xs)
+head_low : {C V : Type 0} (R : Rules C V) (s x : ℕ) (c : C) (xs : List ℕ) → AreOrdered R.tests → AreGrouped R s (x ∷ xs) → R.at x s ≡ Some (has c)
+    → IsLow R s c (x ∷ xs)
 head_low {C} R s x c xs k g a y d (inl q) e =
     let f : Some (has c) ≡ Some (has d) = sym a ∙ ap (λ (z : ℕ). R.at z s) (sym q) ∙ e in
     let p : c ≡ d = cc in
     let P : C → Type 0 = λ z. R.tests.at_most c z ≡ true in subst P p (k.least_self c)
 head_low R s x c xs k g a y d (inr m) e = not_lower R s x y c d k (g.0 y m) a e
 
-front_some : {C V : Type 0} (R : Rules C V) (s x : ℕ) (c : C) (xs : List ℕ) → AreOrdered R.tests → R.at x s ≡ Some (has c) → 0 < length (front R s c (x ∷ xs))
+front_some : {C V : Type 0} (R : Rules C V) (s x : ℕ) (c : C) (xs : List ℕ) → AreOrdered R.tests → R.at x s ≡ Some (has c)
+    → 0 < length (front R s c (x ∷ xs))
 front_some R s x c xs k e = rw (is_want_same R.tests (has c) (R.at x s) k.same_self e) (omega arith)
 
 front_short : {C V : Type 0} (R : Rules C V) (s : ℕ) (c : C) (xs : List ℕ) → length (front R s c xs) ≤ length xs
@@ -303,12 +313,15 @@ front_short R s c (x ∷ xs) =
     elim (true_or (is_want R.tests (has c) (R.at x s))) [ inl e ↦ rw e (omega arith) | inr e ↦ rw e (omega arith) ]
 
 -- a run, of a group whose first rule wants the test
-run_here : {C V : Type 0} (R : Rules C V) (s x : ℕ) (c : C) (xs : List ℕ) → AreOrdered R.tests → AreGrouped R s (x ∷ xs) → AllWant R (x ∷ xs) s → R.at x s ≡ Some (has c)
+run_here : {C V : Type 0} (R : Rules C V) (s x : ℕ) (c : C) (xs : List ℕ) → AreOrdered R.tests → AreGrouped R s (x ∷ xs) → AllWant R (x ∷ xs) s
+    → R.at x s ≡ Some (has c)
     → IsLeast R s (x ∷ xs) c
 run_here R s x c xs k g w e = ((x, inl refl, e), λ i d m f. head_low R s x c xs k g e i d m f)
 
-pub run_of : {C V : Type 0} (R : Rules C V) (s start : ℕ) (group : List ℕ) (test : C) (rules : List ℕ) (end : ℕ) → AreOrdered R.tests → start < length group → AreGrouped R s group
-    → AllWant R group s → R.at (get_or group start 0) s ≡ Some (has test) → rules ≡ front R s test (drop start group) → end ≡ start + length rules → IsRun R s start group test rules end
+pub run_of : {C V : Type 0} (R : Rules C V) (s start : ℕ) (group : List ℕ) (test : C) (rules : List ℕ) (end : ℕ) → AreOrdered R.tests
+    → start < length group → AreGrouped R s group
+    → AllWant R group s → R.at (get_or group start 0) s ≡ Some (has test) → rules ≡ front R s test (drop start group) → end ≡ start + length rules
+    → IsRun R s start group test rules end
 run_of R s start group test rules end k l g w v f e =
     let x = get_or group start 0 in
     let xs = drop (start + 1) group in
@@ -326,7 +339,9 @@ run_of R s start group test rules end k l g w v f e =
     let low : IsLow R s test left = subst M (sym cut) (head_low R s x test xs k gd v) in
     let both = front_is R s test left k gl wl low in
     let size : length left ≡ length group - start = length-drop start group in
-    let short : length rules ≤ length left = let q = front_short R s test left in let p : length rules ≡ length (front R s test left) = ap length f in omega arith in
+    let short : length rules ≤ length left = let q = front_short R s test left in
+    let p : length rules ≡ length (front R s test left) = ap length f in
+    omega arith in
     let some : 0 < length rules =
     let q : 0 < length (front R s test (x ∷ xs)) = front_some R s x test xs k v in
     let p : length rules ≡ length (front R s test (x ∷ xs)) = ap length f ∙ ap (λ (ys : List ℕ). length (front R s test ys)) cut in
@@ -339,3 +354,7 @@ run_of R s start group test rules end k l g w v f e =
       more = omega (arith, e, some);
       ends = omega (arith, e, short, size);
     }
+
+-- the same rules in another order want tests too
+pub same_want : {C V : Type 0} (R : Rules C V) (s : ℕ) (xs ys : List ℕ) → IsSameBag xs ys → AllWant R xs s → AllWant R ys s
+same_want {C} R s xs ys h w = same_each (λ i. (c : C) × (R.at i s ≡ Some (has c))) xs ys h w

@@ -1,14 +1,15 @@
 -- What a path knows, as lists keep it.
-use Rattle.std.proofs.Common.{◌≡◌, ◌≢◌, inl, inr, ℕ, suc, zero, ◌<◌, ◌≤◌, ◌==◌, List, [], ◌∷◌, Bool, false, Option, Some, None, length, refl, sym, ◌∙◌, ap, arith, get_or, map, set, eqb-true}
+use Rattle.std.proofs.Common.{◌≡◌, ◌≢◌, inl, inr, ℕ, suc, zero, ◌++◌, ◌+◌, ◌<◌, ◌≤◌, ◌==◌, List, [], ◌∷◌, Bool, false, Option, Some, None, length, refl, sym, ◌∙◌, ap, arith, get_or, map, set, eqb-true}
 use Rattle.std.proofs.lemmas.Bool.{eqb-false}
 use Rattle.std.proofs.lemmas.Grind.{common_steps}
 use Rattle.std.specs.Prelude.{◌||◌, if◌then◌else◌}
 use Rattle.isle_trees.specs.Rules.{Want, Rules}
-use Rattle.isle_trees.specs.Scopes.{Scope, join, is_source, inside}
+use Rattle.isle_trees.specs.Scopes.{Scope, nothing_known, join, is_source, inside}
 use Rattle.isle_trees.proofs.Basics.{true_or}
 use Rattle.isle_trees.proofs.Building.Lists.{less_or}
 
-pub scope_same : {C : Type 0} (a b : Scope C) → ((s : ℕ) → a.passed s ≡ b.passed s) → ((s : ℕ) → a.label s ≡ b.label s) → ((s : ℕ) → a.emitted s ≡ b.emitted s) → a ≡ b
+pub scope_same : {C : Type 0} (a b : Scope C) → ((s : ℕ) → a.passed s ≡ b.passed s) → ((s : ℕ) → a.label s ≡ b.label s)
+    → ((s : ℕ) → a.emitted s ≡ b.emitted s) → a ≡ b
 scope_same a b p l e = λ i. record { passed = λ s. p s i; label = λ s. l s i; emitted = λ s. e s i }
 
 -- a site past the lists isn't tested, is labelled by itself, and isn't bound
@@ -18,6 +19,10 @@ listed_scope passed labels emitted = record {
   label = λ s. get_or labels s s;
   emitted = λ s. get_or emitted s false;
 }
+
+-- at the start nothing is known
+pub scope_start : {C : Type 0} (sc : Scope C) → ((s : ℕ) → sc.passed s ≡ None) → ((s : ℕ) → sc.label s ≡ s) → ((s : ℕ) → sc.emitted s ≡ false) → sc ≡ nothing_known
+scope_start sc p l e = scope_same sc nothing_known p l e
 
 abbrev pub relabel : ℕ → ℕ → ℕ → ℕ
 relabel from to label = if label == from then to else label
@@ -36,7 +41,8 @@ get_map f [] i d e l = absurd (omega arith)
 get_map f (x ∷ xs) zero d e l = refl
 get_map f (x ∷ xs) (suc i) d e l = get_map f xs i d e (omega arith)
 
-pub relabelled : (xs : List ℕ) (a b x : ℕ) → get_or xs a a < length xs → get_or (map (relabel (get_or xs a a) b) xs) x x ≡ relabel (get_or xs a a) b (get_or xs x x)
+pub relabelled : (xs : List ℕ) (a b x : ℕ) → get_or xs a a < length xs
+    → get_or (map (relabel (get_or xs a a) b) xs) x x ≡ relabel (get_or xs a a) b (get_or xs x x)
 relabelled xs a b x l = elim (less_or x (length xs)) [
   | inl m ↦ get_map (relabel (get_or xs a a) b) xs x x x m
   | inr m ↦
@@ -52,15 +58,18 @@ relabelled xs a b x l = elim (less_or x (length xs)) [
 pub relabel_below : (a b x n : ℕ) → b < n → x < n → relabel a b x < n
 relabel_below a b x n l m = elim (true_or (x == a)) [ inl e ↦ rw e l | inr e ↦ rw e m ]
 
-pub set_passed : {A : Type 0} (xs : List (Option A)) (s : ℕ) (w : A) (x : ℕ) → s < length xs → get_or (set xs s (Some w)) x None ≡ (if x == s then Some w else get_or xs x None)
+pub set_passed : {A : Type 0} (xs : List (Option A)) (s : ℕ) (w : A) (x : ℕ) → s < length xs
+    → get_or (set xs s (Some w)) x None ≡ (if x == s then Some w else get_or xs x None)
 set_passed xs s w x l = elim (true_or (x == s)) [
   | inl y ↦ let e : x ≡ s = eqb-true x s y in rw y (grind (arith, common_steps))
   | inr n ↦ let e : x ≢ s = eqb-false x s n in rw n (grind (arith, common_steps))
 ]
 
 -- after a join
-pub joined_scope : {C : Type 0} (passed : List (Option (Want C))) (labels new : List ℕ) (emitted : List Bool) (a b : ℕ) → get_or labels a a < length labels
-    → new ≡ map (relabel (get_or labels a a) (get_or labels b b)) labels → listed_scope passed new emitted ≡ join (listed_scope passed labels emitted) a b
+pub joined_scope : {C : Type 0} (passed : List (Option (Want C))) (labels new : List ℕ) (emitted : List Bool) (a b : ℕ)
+    → get_or labels a a < length labels
+    → new ≡ map (relabel (get_or labels a a) (get_or labels b b)) labels
+    → listed_scope passed new emitted ≡ join (listed_scope passed labels emitted) a b
 joined_scope passed labels new emitted a b l e =
     scope_same _ _ (λ s. refl) (λ s. rw e (relabelled labels a (get_or labels b b) s l)) (λ s. refl)
 
@@ -82,3 +91,15 @@ inside_scope R n passed new labels emitted marks s w l p old size e out =
           let b : get_or emitted x false ≡ false = get_past emitted x false (omega arith) in
           rw (a, out x h, b) refl
     ])
+
+-- one more mark
+pub marks_more : (f : ℕ → Bool) (marks more : List Bool) (n : ℕ) (b : Bool) → length marks ≡ n → ((y : ℕ) → y < n → get_or marks y false ≡ f y)
+    → more ≡ marks ++ b ∷ [] → b ≡ f n
+    → (y : ℕ) → y < n + 1 → get_or more y false ≡ f y
+marks_more f marks more n b w h e q y l = elim (less_or y n) [
+  | inl m ↦ let p : get_or (marks ++ b ∷ []) y false ≡ get_or marks y false = grind (arith, common_steps) in rw e (p ∙ h y m)
+  | inr m ↦
+      let same : y ≡ n = omega arith in
+      let p : get_or (marks ++ b ∷ []) y false ≡ b = grind (arith, common_steps) in
+      rw e (p ∙ q ∙ ap f (sym same))
+]

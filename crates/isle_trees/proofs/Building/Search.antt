@@ -36,7 +36,8 @@ and_comm false true = refl
 and_comm false false = refl
 
 -- all that lack the test are at most a rule just where the first of them is
-pub allows_is : {C V : Type 0} (R : Rules C V) (t : Test) (left : List ℕ) (i : ℕ) → IsInOrder R left → list_all (allows R t i) left ≡ reaches R (floor R t left) i
+pub allows_is : {C V : Type 0} (R : Rules C V) (t : Test) (left : List ℕ) (i : ℕ) → IsInOrder R left
+    → list_all (allows R t i) left ≡ reaches R (floor R t left) i
 allows_is R t [] i o = refl
 allows_is R t (x ∷ xs) i o = elim (true_or (has_test R x t)) [
   | inl h ↦ rw h (allows_is R t xs i (o.1))
@@ -49,16 +50,19 @@ allows_is R t (x ∷ xs) i o = elim (true_or (has_test R x t)) [
   ])
 ]
 
-pub counts_is : {C V : Type 0} (R : Rules C V) (t : Test) (left : List ℕ) (i : ℕ) → IsInOrder R left → counts R t left i ≡ picks R t (floor R t left) i
+pub counts_is : {C V : Type 0} (R : Rules C V) (t : Test) (left : List ℕ) (i : ℕ) → IsInOrder R left
+    → counts R t left i ≡ picks R t (floor R t left) i
 counts_is R t left i o = ap (λ (b : Bool). has_test R i t && b) (allows_is R t left i o) ∙ and_comm (has_test R i t) _
 
 pub counts_same : {C V : Type 0} (R : Rules C V) (t : Test) (left : List ℕ) → IsInOrder R left → counts R t left ≡ picks R t (floor R t left)
 counts_same R t left o = λ p. λ i. counts_is R t left i o p
 
-pub counted_is : {C V : Type 0} (R : Rules C V) (t : Test) (left : List ℕ) → IsInOrder R left → counted R t left ≡ filter (picks R t (floor R t left)) left
+pub counted_is : {C V : Type 0} (R : Rules C V) (t : Test) (left : List ℕ) → IsInOrder R left
+    → counted R t left ≡ filter (picks R t (floor R t left)) left
 counted_is R t left o = ap (λ (f : ℕ → Bool). filter f left) (counts_same R t left o)
 
-pub others_is : {C V : Type 0} (R : Rules C V) (t : Test) (left : List ℕ) → IsInOrder R left → others R t left ≡ filter (λ i. not (picks R t (floor R t left) i)) left
+pub others_is : {C V : Type 0} (R : Rules C V) (t : Test) (left : List ℕ) → IsInOrder R left
+    → others R t left ≡ filter (λ i. not (picks R t (floor R t left) i)) left
 others_is R t left o = ap (λ (f : ℕ → Bool). filter (λ i. not (f i)) left) (counts_same R t left o)
 
 below_fails : {C V : Type 0} (R : Rules C V) (f : Option ℤ) (x y : ℕ) → R.prio y ≤ℤ R.prio x → reaches R f x ≡ false → reaches R f y ≡ false
@@ -72,7 +76,8 @@ picks_fails : {C V : Type 0} (R : Rules C V) (t : Test) (f : Option ℤ) (x : �
 picks_fails R t f x e = rw e refl
 
 -- where one rule is below the floor, no later one is picked
-pub count_stops : {C V : Type 0} (R : Rules C V) (t : Test) (f : Option ℤ) (left : List ℕ) (i : ℕ) → IsInOrder R left → i < length left → reaches R f (get_or left i 0) ≡ false
+pub count_stops : {C V : Type 0} (R : Rules C V) (t : Test) (f : Option ℤ) (left : List ℕ) (i : ℕ) → IsInOrder R left → i < length left
+    → reaches R f (get_or left i 0) ≡ false
     → filter (picks R t f) (take i left) ≡ filter (picks R t f) left
 count_stops R t f [] i o l e = absurd (omega arith)
 count_stops R t f (x ∷ xs) zero o l e =
@@ -92,22 +97,28 @@ picked_few p zero xs = omega arith
 picked_few p (suc i) [] = omega arith
 picked_few p (suc i) (x ∷ xs) = let q = picked_few p i xs in elim (true_or (p x)) [ inl e ↦ rw e (omega arith) | inr e ↦ rw e (omega arith) ]
 
-pub picked_more : (p : ℕ → Bool) (xs : List ℕ) (i : ℕ) → i < length xs → p (get_or xs i 0) ≡ true → length (filter p (take (i + 1) xs)) ≡ length (filter p (take i xs)) + 1
+pub picked_more : (p : ℕ → Bool) (xs : List ℕ) (i : ℕ) → i < length xs → p (get_or xs i 0) ≡ true
+    → length (filter p (take (i + 1) xs)) ≡ length (filter p (take i xs)) + 1
 picked_more p xs i l e = rw (take_more xs i 0 l, filter_append) (rw e (length_push (filter p (take i xs)) (get_or xs i 0)))
 
-pub picked_same : (p : ℕ → Bool) (xs : List ℕ) (i : ℕ) → i < length xs → p (get_or xs i 0) ≡ false → length (filter p (take (i + 1) xs)) ≡ length (filter p (take i xs))
+pub picked_same : (p : ℕ → Bool) (xs : List ℕ) (i : ℕ) → i < length xs → p (get_or xs i 0) ≡ false
+    → length (filter p (take (i + 1) xs)) ≡ length (filter p (take i xs))
 picked_same p xs i l e = rw (take_more xs i 0 l, filter_append) (rw e (ap length (append-nil (filter p (take i xs)))))
 
-pub counted_with : {C V : Type 0} (R : Rules C V) (t : Test) (left : List ℕ) (f : Option ℤ) → IsInOrder R left → f ≡ floor R t left → filter (picks R t f) left ≡ counted R t left
+pub counted_with : {C V : Type 0} (R : Rules C V) (t : Test) (left : List ℕ) (f : Option ℤ) → IsInOrder R left → f ≡ floor R t left
+    → filter (picks R t f) left ≡ counted R t left
 counted_with R t left f o e = ap (λ (g : Option ℤ). filter (picks R t g) left) e ∙ sym (counted_is R t left o)
 
-pub others_with : {C V : Type 0} (R : Rules C V) (t : Test) (left : List ℕ) (f : Option ℤ) → IsInOrder R left → f ≡ floor R t left → filter (λ i. not (picks R t f i)) left ≡ others R t left
+pub others_with : {C V : Type 0} (R : Rules C V) (t : Test) (left : List ℕ) (f : Option ℤ) → IsInOrder R left → f ≡ floor R t left
+    → filter (λ i. not (picks R t f i)) left ≡ others R t left
 others_with R t left f o e = ap (λ (g : Option ℤ). filter (λ i. not (picks R t g i)) left) e ∙ sym (others_is R t left o)
 
-pub count_stopped : {C V : Type 0} (R : Rules C V) (t : Test) (left : List ℕ) (f : Option ℤ) (i n : ℕ) → IsInOrder R left → f ≡ floor R t left → i < length left → reaches R f (get_or left i 0) ≡ false
+pub count_stopped : {C V : Type 0} (R : Rules C V) (t : Test) (left : List ℕ) (f : Option ℤ) (i n : ℕ) → IsInOrder R left → f ≡ floor R t left
+    → i < length left → reaches R f (get_or left i 0) ≡ false
     → n ≡ length (filter (picks R t f) (take i left)) → n ≡ length (counted R t left)
 count_stopped R t left f i n o e l r h = h ∙ ap length (count_stops R t f left i o l r ∙ counted_with R t left f o e)
 
-pub count_ended : {C V : Type 0} (R : Rules C V) (t : Test) (left : List ℕ) (f : Option ℤ) (i n : ℕ) → IsInOrder R left → f ≡ floor R t left → length left ≤ i
+pub count_ended : {C V : Type 0} (R : Rules C V) (t : Test) (left : List ℕ) (f : Option ℤ) (i n : ℕ) → IsInOrder R left → f ≡ floor R t left
+    → length left ≤ i
     → n ≡ length (filter (picks R t f) (take i left)) → n ≡ length (counted R t left)
 count_ended R t left f i n o e l h = h ∙ ap length (ap (filter (picks R t f)) (take_all i left l) ∙ counted_with R t left f o e)

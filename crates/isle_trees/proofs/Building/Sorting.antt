@@ -24,17 +24,20 @@ one_arm {C} R sc inner s c group chosen rest bindings body T f bound p q r b a =
     let A : List ℕ → Type 0 = λ l. BuildsArms R l sc s T in
     (f, bound, subst P q (subst Q p b), subst A r a)
 
-pub rest_less : {C V : Type 0} (R : Rules C V) (s : ℕ) (c : C) (group rest : List ℕ) → SameSelf R.tests → IsLeast R s group c → rest ≡ not_wanting R s c group → length rest + 1 ≤ length group
+pub rest_less : {C V : Type 0} (R : Rules C V) (s : ℕ) (c : C) (group rest : List ℕ) → SameSelf R.tests → IsLeast R s group c
+    → rest ≡ not_wanting R s c group → length rest + 1 ≤ length group
 rest_less R s c group rest k f r =
     rw r (filter_less (λ i. not (is_want R.tests (has c) (R.at i s))) group (f.0.0) (f.0.1) (ap not (is_want_same R.tests (has c) _ k (f.0.2))))
 
-pub rest_wants : {C V : Type 0} (R : Rules C V) (s : ℕ) (c : C) (group rest : List ℕ) → rest ≡ not_wanting R s c group → AllWant R group s → AllWant R rest s
+pub rest_wants : {C V : Type 0} (R : Rules C V) (s : ℕ) (c : C) (group rest : List ℕ) → rest ≡ not_wanting R s c group → AllWant R group s
+    → AllWant R rest s
 rest_wants R s c group rest r w =
     let A : List ℕ → Type 0 = λ l. AllWant R l s in
     subst A (sym r) (λ i m. w i ((from_filter (λ i. not (is_want R.tests (has c) (R.at i s))) group i m).0))
 
 -- steps
-pub others_less : {C V : Type 0} (R : Rules C V) (left rest : List ℕ) (sc : Scope C) (t : Test) → IsBest R left sc t → rest ≡ others R t left → length rest + 1 ≤ length left
+pub others_less : {C V : Type 0} (R : Rules C V) (left rest : List ℕ) (sc : Scope C) (t : Test) → IsBest R left sc t → rest ≡ others R t left
+    → length rest + 1 ≤ length left
 others_less R left rest sc t best r =
     let one = some_elem (counted R t left) (best.useful) in
     let m = from_filter (counts R t left) left (one.0) (one.1) in
@@ -49,14 +52,17 @@ chosen_want R left chosen s r =
     subst A (sym r) (λ i m. test_of (R.at i s) ((counted_has R (on_match s) left i m).1))
 
 pub match_builds : {C V : Type 0} (R : Rules C V) (left chosen : List ℕ) (sc after : Scope C) (s : ℕ) (old binds : List ℕ) (arms : Arms C) (T : Steps C) → IsBest R left sc (on_match s) → old ≡ []
-    → Emits R sc (s ∷ []) old binds after → chosen ≡ counted R (on_match s) left → BuildsArms R chosen after s arms → Builds R (others R (on_match s) left) after T
+    → Emits R sc (s ∷ []) old binds after → chosen ≡ counted R (on_match s) left → BuildsArms R chosen after s arms
+    → Builds R (others R (on_match s) left) after T
     → Builds R left sc («match» binds s arms T)
 match_builds R left chosen sc after s old binds arms T best none e r a b =
     let A : List ℕ → Type 0 = λ l. BuildsArms R l after s arms in
     (best, (after, binds_from R sc after (s ∷ []) old binds none e, subst A r a, b))
 
-pub equal_builds : {C V : Type 0} (R : Rules C V) (left chosen : List ℕ) (sc after inner : Scope C) (x y : ℕ) (old binds : List ℕ) (body T : Steps C) → IsBest R left sc (on_equal x y) → old ≡ []
-    → Emits R sc (x ∷ y ∷ []) old binds after → chosen ≡ counted R (on_equal x y) left → inner ≡ join after x y → Builds R chosen inner body → Builds R (others R (on_equal x y) left) after T
+pub equal_builds : {C V : Type 0} (R : Rules C V) (left chosen : List ℕ) (sc after inner : Scope C) (x y : ℕ) (old binds : List ℕ) (body T : Steps C)
+    → IsBest R left sc (on_equal x y) → old ≡ []
+    → Emits R sc (x ∷ y ∷ []) old binds after → chosen ≡ counted R (on_equal x y) left → inner ≡ join after x y → Builds R chosen inner body
+    → Builds R (others R (on_equal x y) left) after T
     → Builds R left sc (equal binds x y body T)
 equal_builds {C} R left chosen sc after inner x y old binds body T best none e r j a b =
     let A : List ℕ → Type 0 = λ l. Builds R l (join after x y) body in
@@ -64,7 +70,8 @@ equal_builds {C} R left chosen sc after inner x y old binds body T best none e r
     (best, (after, binds_from R sc after (x ∷ y ∷ []) old binds none e, subst A r (subst J j a), b))
 
 pub loop_builds : {C V : Type 0} (R : Rules C V) (left chosen : List ℕ) (sc freed after inner last : Scope C) (s x : ℕ) (old binds : List ℕ) (body T : Steps C) → IsBest R left sc (on_loop s) → old ≡ []
-    → freed ≡ release sc s → Emits R freed (s ∷ []) old binds after → chosen ≡ counted R (on_loop s) left → inner ≡ inside R after s one_value → last ≡ release after s → R.value s ≡ Some x
+    → freed ≡ release sc s → Emits R freed (s ∷ []) old binds after → chosen ≡ counted R (on_loop s) left → inner ≡ inside R after s one_value
+    → last ≡ release after s → R.value s ≡ Some x
     → Builds R chosen inner body → Builds R (others R (on_loop s) left) last T → Builds R left sc (loop binds x body T)
 loop_builds {C} R left chosen sc freed after inner last s x old binds body T best none f e r j l v a b =
     let A : List ℕ → Type 0 = λ l. Builds R l (inside R after s one_value) body in
@@ -73,13 +80,15 @@ loop_builds {C} R left chosen sc freed after inner last s x old binds body T bes
     let E : Scope C → Type 0 = λ i. Binds R i (s ∷ []) binds after in
     (s, v, best, (after, subst E f (binds_from R freed after (s ∷ []) old binds none e), subst A r (subst J j a), subst L l b))
 
-pub loop_untested : {C : Type 0} (sc freed after : Scope C) (s : ℕ) (xs : List ℕ) → freed ≡ release sc s → after ≡ emit_all freed xs → sc.passed s ≡ None → after.passed s ≡ None
+pub loop_untested : {C : Type 0} (sc freed after : Scope C) (s : ℕ) (xs : List ℕ) → freed ≡ release sc s → after ≡ emit_all freed xs
+    → sc.passed s ≡ None → after.passed s ≡ None
 loop_untested sc freed after s xs f e n =
     let p : freed.passed s ≡ sc.passed s = rw f refl in
     rw e (passed_bound freed xs s ∙ p ∙ n)
 
 -- returns stand for a tree where no test is left
-pub returns_build : {C V : Type 0} (R : Rules C V) (left : List ℕ) (sc : Scope C) (T : Steps C) → HasNoTest R left sc → Returns R left sc T → Builds R left sc T
+pub returns_build : {C V : Type 0} (R : Rules C V) (left : List ℕ) (sc : Scope C) (T : Steps C) → HasNoTest R left sc → Returns R left sc T
+    → Builds R left sc T
 returns_build R left sc done n r = r
 returns_build R left sc («match» binds s arms next) n r = absurd r
 returns_build R left sc (equal binds a b body next) n r = absurd r
@@ -87,16 +96,20 @@ returns_build R left sc (loop binds x body next) n r = absurd r
 returns_build R left sc (give binds i next) n r = (n, r)
 
 -- what the best test tells
-pub best_within : {C V : Type 0} (R : Rules C V) (n : ℕ) (left : List ℕ) (sc : Scope C) (t : Test) → AreAllWithin R n → IsBest R left sc t → AreWithin t n
+pub best_within : {C V : Type 0} (R : Rules C V) (n : ℕ) (left : List ℕ) (sc : Scope C) (t : Test) → AreAllWithin R n → IsBest R left sc t
+    → AreWithin t n
 best_within R n left sc t w best = let one = some_counted R left sc t best in w (one.0) t (one.2)
 
-pub best_loops : {C V : Type 0} (R : Rules C V) (left : List ℕ) (sc : Scope C) (s : ℕ) → IsBest R left sc (on_loop s) → (i : ℕ) × Elem i left × (R.at i s ≡ Some one_value)
+pub best_loops : {C V : Type 0} (R : Rules C V) (left : List ℕ) (sc : Scope C) (s : ℕ) → IsBest R left sc (on_loop s)
+    → (i : ℕ) × Elem i left × (R.at i s ≡ Some one_value)
 best_loops R left sc s best = let one = some_counted R left sc (on_loop s) best in (one.0, one.1, one_of (R.at (one.0) s) (one.2))
 
-pub loop_value : {C V : Type 0} (R : Rules C V) (n : ℕ) (rules left : List ℕ) (sc : Scope C) (s : ℕ) → IsBuildable R n rules → IsBest R left sc (on_loop s) → (x : ℕ) × (R.value s ≡ Some x)
+pub loop_value : {C V : Type 0} (R : Rules C V) (n : ℕ) (rules left : List ℕ) (sc : Scope C) (s : ℕ) → IsBuildable R n rules
+    → IsBest R left sc (on_loop s) → (x : ℕ) × (R.value s ≡ Some x)
 loop_value R n rules left sc s b best = let one = best_loops R left sc s best in b.values (one.0) s (one.2)
 
-pub chosen_some : {C V : Type 0} (R : Rules C V) (left chosen group : List ℕ) (sc : Scope C) (t : Test) → IsBest R left sc t → chosen ≡ counted R t left → IsSameBag chosen group → 0 < length group
+pub chosen_some : {C V : Type 0} (R : Rules C V) (left chosen group : List ℕ) (sc : Scope C) (t : Test) → IsBest R left sc t
+    → chosen ≡ counted R t left → IsSameBag chosen group → 0 < length group
 chosen_some R left chosen group sc t best c same =
     let l : length chosen ≡ length group = same_length chosen group same in
     let e : length chosen ≡ length (counted R t left) = ap length c in
@@ -104,7 +117,8 @@ chosen_some R left chosen group sc t best c same =
     omega arith
 
 -- what is marked for the rules left is marked for those that a test leaves
-pub rest_marked : {C V : Type 0} (R : Rules C V) (left rest : List ℕ) (sc after : Scope C) (t : Test) (marks : List Bool) → IsSamePath sc after → rest ≡ others R t left
+pub rest_marked : {C V : Type 0} (R : Rules C V) (left rest : List ℕ) (sc after : Scope C) (t : Test) (marks : List Bool) → IsSamePath sc after
+    → rest ≡ others R t left
     → AreMarked R left sc marks → AreMarked R rest after marks
 rest_marked R left rest sc after t marks path r m =
     let P : List ℕ → Type 0 = λ l. AreMarked R l after marks in

@@ -11,10 +11,12 @@ use Rattle.isle_trees.proofs.Path.{wanting_is, label_bound}
 use Rattle.isle_trees.proofs.Weight.{WantsAreListed, ClassesAreListed, sums_lt, pass_less, first_weighs, bound_same, split_weighs, arm_weighs, join_weighs, loop_weighs, fewer_weigh}
 
 -- binding changes nothing
-pub after_weighs : {C V : Type 0} (R : Rules C V) (sc after : Scope C) (xs : List ℕ) → after ≡ emit_all sc xs → (some : List ℕ) → weight R after some ≡ weight R sc some
+pub after_weighs : {C V : Type 0} (R : Rules C V) (sc after : Scope C) (xs : List ℕ) → after ≡ emit_all sc xs → (some : List ℕ)
+    → weight R after some ≡ weight R sc some
 after_weighs R sc after xs e some = rw e (bound_same R sc xs some)
 
-pub loop_same : {C V : Type 0} (R : Rules C V) (sc freed after last : Scope C) (s : ℕ) (xs : List ℕ) → freed ≡ release sc s → after ≡ emit_all freed xs → last ≡ release after s
+pub loop_same : {C V : Type 0} (R : Rules C V) (sc freed after last : Scope C) (s : ℕ) (xs : List ℕ) → freed ≡ release sc s
+    → after ≡ emit_all freed xs → last ≡ release after s
     → (some : List ℕ) → weight R last some ≡ weight R sc some
 loop_same R sc freed after last s xs f e l some =
     let p : weight R (release after s) some ≡ weight R after some = refl in
@@ -23,7 +25,8 @@ loop_same R sc freed after last s xs f e l some =
     rw l (p ∙ q ∙ r)
 
 -- what is left after a test, and what it counts
-pub rest_share : {C V : Type 0} (R : Rules C V) (left chosen rest : List ℕ) (sc after : Scope C) (t : Test) → ((some : List ℕ) → weight R after some ≡ weight R sc some) → chosen ≡ counted R t left
+pub rest_share : {C V : Type 0} (R : Rules C V) (left chosen rest : List ℕ) (sc after : Scope C) (t : Test)
+    → ((some : List ℕ) → weight R after some ≡ weight R sc some) → chosen ≡ counted R t left
     → rest ≡ others R t left → weight R after chosen + weight R after rest ≡ weight R sc left
 rest_share R left chosen rest sc after t w c r =
     let p : weight R after chosen ≡ weight R after (counted R t left) = ap (weight R after) c in
@@ -32,13 +35,15 @@ rest_share R left chosen rest sc after t w c r =
     let l = w left in
     omega arith
 
-pub useful_weighs : {C V : Type 0} (R : Rules C V) (left chosen : List ℕ) (sc after : Scope C) (t : Test) → IsBest R left sc t → chosen ≡ counted R t left → 1 ≤ weight R after chosen
+pub useful_weighs : {C V : Type 0} (R : Rules C V) (left chosen : List ℕ) (sc after : Scope C) (t : Test) → IsBest R left sc t
+    → chosen ≡ counted R t left → 1 ≤ weight R after chosen
 useful_weighs R left chosen sc after t best c =
     let one = some_elem (counted R t left) (best.useful) in
     let P : List ℕ → Type 0 = λ l. 1 ≤ weight R after l in
     subst P (sym c) (first_weighs R after (counted R t left) (one.0) (one.1))
 
-pub joined_less : {C V : Type 0} (R : Rules C V) (left chosen : List ℕ) (sc after inner : Scope C) (x y : ℕ) (xs : List ℕ) → ClassesAreListed R → IsBest R left sc (on_equal x y)
+pub joined_less : {C V : Type 0} (R : Rules C V) (left chosen : List ℕ) (sc after inner : Scope C) (x y : ℕ) (xs : List ℕ) → ClassesAreListed R
+    → IsBest R left sc (on_equal x y)
     → after ≡ emit_all sc xs → chosen ≡ counted R (on_equal x y) left → inner ≡ join after x y → weight R inner chosen + 1 ≤ weight R after chosen
 joined_less R left chosen sc after inner x y xs w best e r j =
     let apart : after.label x ≢ after.label y = λ h. best.ready.5 (sym (label_bound sc xs x) ∙ rw e at h ∙ label_bound sc xs y) in
@@ -46,8 +51,10 @@ joined_less R left chosen sc after inner x y xs w best e r j =
     join_weighs R after x y (counted R (on_equal x y) left) w apart (λ i m. (counted_has R (on_equal x y) left i m).1) (best.useful) in
     rw (j, r) l
 
-pub looped_less : {C V : Type 0} (R : Rules C V) (left chosen : List ℕ) (sc freed after inner : Scope C) (s : ℕ) (xs : List ℕ) → WantsAreListed R → IsBest R left sc (on_loop s)
-    → freed ≡ release sc s → after ≡ emit_all freed xs → chosen ≡ counted R (on_loop s) left → inner ≡ inside R after s one_value → weight R inner chosen + 1 ≤ weight R after chosen
+pub looped_less : {C V : Type 0} (R : Rules C V) (left chosen : List ℕ) (sc freed after inner : Scope C) (s : ℕ) (xs : List ℕ) → WantsAreListed R
+    → IsBest R left sc (on_loop s)
+    → freed ≡ release sc s → after ≡ emit_all freed xs → chosen ≡ counted R (on_loop s) left → inner ≡ inside R after s one_value
+    → weight R inner chosen + 1 ≤ weight R after chosen
 looped_less R left chosen sc freed after inner s xs w best f e r j =
     let wants : (i : ℕ) → Elem i (counted R (on_loop s) left) → R.at i s ≡ Some one_value = λ i m. one_of (R.at i s) ((counted_has R (on_loop s) left i m).1) in
     let l : weight R (inside R after s one_value) (counted R (on_loop s) left) + 1 ≤ weight R after (counted R (on_loop s) left) =
@@ -55,11 +62,15 @@ looped_less R left chosen sc freed after inner s xs w best f e r j =
     rw (j, r) l
 
 -- what an arm takes, and what it leaves
-least_there : {C V : Type 0} (R : Rules C V) (s : ℕ) (c : C) (group : List ℕ) → SameSelf R.tests → (least : IsLeast R s group c) → Elem (least.0.0) (wanting R s c group)
-least_there R s c group k least = to_filter (λ i. is_want R.tests (has c) (R.at i s)) group (least.0.0) (least.0.1) (is_want_same R.tests (has c) _ k (least.0.2))
+least_there : {C V : Type 0} (R : Rules C V) (s : ℕ) (c : C) (group : List ℕ) → SameSelf R.tests → (least : IsLeast R s group c)
+    → Elem (least.0.0) (wanting R s c group)
+least_there R s c group k least =
+    to_filter (λ i. is_want R.tests (has c) (R.at i s)) group (least.0.0) (least.0.1) (is_want_same R.tests (has c) _ k (least.0.2))
 
-pub arm_share : {C V : Type 0} (R : Rules C V) (sc inner : Scope C) (s : ℕ) (c : C) (group rules rest : List ℕ) → SameIs R.tests → SameSelf R.tests → WantsAreListed R → sc.passed s ≡ None
-    → IsLeast R s group c → inner ≡ inside R sc s (has c) → rules ≡ wanting R s c group → rest ≡ not_wanting R s c group → weight R inner rules + weight R sc rest + 1 ≤ weight R sc group
+pub arm_share : {C V : Type 0} (R : Rules C V) (sc inner : Scope C) (s : ℕ) (c : C) (group rules rest : List ℕ) → SameIs R.tests → SameSelf R.tests
+    → WantsAreListed R → sc.passed s ≡ None
+    → IsLeast R s group c → inner ≡ inside R sc s (has c) → rules ≡ wanting R s c group → rest ≡ not_wanting R s c group
+    → weight R inner rules + weight R sc rest + 1 ≤ weight R sc group
 arm_share R sc inner s c group rules rest is self w e least i p q =
     let wants : ℕ → Bool = λ j. is_want R.tests (has c) (R.at j s) in
     let less : (j : ℕ) → Elem j (wanting R s c group) → unlearned R (inside R sc s (has c)) j + 1 ≤ unlearned R sc j =
@@ -75,19 +86,23 @@ arm_share R sc inner s c group rules rest is self w e least i p q =
     omega arith
 
 -- the same against all that were left
-pub inner_weighs : {C V : Type 0} (R : Rules C V) (sc inner : Scope C) (s : ℕ) (c : C) (group chosen : List ℕ) → SameIs R.tests → SameSelf R.tests → WantsAreListed R → sc.passed s ≡ None
+pub inner_weighs : {C V : Type 0} (R : Rules C V) (sc inner : Scope C) (s : ℕ) (c : C) (group chosen : List ℕ) → SameIs R.tests → SameSelf R.tests
+    → WantsAreListed R → sc.passed s ≡ None
     → IsLeast R s group c → inner ≡ inside R sc s (has c) → chosen ≡ wanting R s c group → weight R inner chosen + 1 ≤ weight R sc group
 inner_weighs R sc inner s c group chosen is self w e f p q =
     let l : weight R (inside R sc s (has c)) (wanting R s c group) + 1 ≤ weight R sc group = arm_weighs R sc s c group is self w e (f.0.0) (f.0.1) (f.0.2) in
     rw (p, q) l
 
-pub rest_weighs : {C V : Type 0} (R : Rules C V) (sc : Scope C) (s : ℕ) (c : C) (group rest : List ℕ) → rest ≡ not_wanting R s c group → weight R sc rest ≤ weight R sc group
+pub rest_weighs : {C V : Type 0} (R : Rules C V) (sc : Scope C) (s : ℕ) (c : C) (group rest : List ℕ) → rest ≡ not_wanting R s c group
+    → weight R sc rest ≤ weight R sc group
 rest_weighs R sc s c group rest r = rw r (fewer_weigh R sc (λ i. not (is_want R.tests (has c) (R.at i s))) group)
 
-pub others_weigh : {C V : Type 0} (R : Rules C V) (left rest : List ℕ) (sc after : Scope C) (t : Test) → ((some : List ℕ) → weight R after some ≡ weight R sc some) → rest ≡ others R t left
+pub others_weigh : {C V : Type 0} (R : Rules C V) (left rest : List ℕ) (sc after : Scope C) (t : Test)
+    → ((some : List ℕ) → weight R after some ≡ weight R sc some) → rest ≡ others R t left
     → weight R after rest ≤ weight R sc left
 others_weigh R left rest sc after t w r = let share = rest_share R left (counted R t left) rest sc after t w refl r in omega arith
 
-pub chosen_weigh : {C V : Type 0} (R : Rules C V) (left chosen : List ℕ) (sc after : Scope C) (t : Test) → ((some : List ℕ) → weight R after some ≡ weight R sc some) → chosen ≡ counted R t left
+pub chosen_weigh : {C V : Type 0} (R : Rules C V) (left chosen : List ℕ) (sc after : Scope C) (t : Test)
+    → ((some : List ℕ) → weight R after some ≡ weight R sc some) → chosen ≡ counted R t left
     → weight R after chosen ≤ weight R sc left
 chosen_weigh R left chosen sc after t w r = let share = rest_share R left chosen (others R t left) sc after t w r refl in omega arith
