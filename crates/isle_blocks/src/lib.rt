@@ -18,7 +18,7 @@ mod placing;
 mod report;
 mod rule;
 mod rule_set;
-mod serialize;
+mod serializer;
 mod sites;
 mod term_sets;
 
@@ -30,5 +30,5 @@ pub use ids::{BindingId, TupleIndex};
 pub use report::{RulePlace, report_faults};
 pub use rule::{Overlap, Rule};
 pub use rule_set::RuleSet;
-pub use serialize::{Arms, Block, ControlFlow, EvalStep, MatchArm, Steps, serialize};
+pub use serializer::{Arms, Block, ControlFlow, EvalStep, MatchArm, Steps, serialize};
 pub use term_sets::{TermSets, build};

@@ -5,8 +5,8 @@ use Rattle.isle_trees.specs.Tree.{Steps, done, «match», equal, loop, give, Arm
 use Rattle.isle_blocks.specs.declared.ids.BindingId.{BindingId}
 use Rattle.isle_blocks.specs.declared.constraint.Constraint.{Constraint}
 use Rattle.isle_blocks.specs.declared.constraint.Constraint.TheVariants as tests
-use Rattle.isle_blocks.specs.declared.serialize.node.Node.{Node}
-use Rattle.isle_blocks.specs.declared.serialize.node.Node.TheVariants as nodes
+use Rattle.isle_blocks.specs.declared.serializer.node.Node.{Node}
+use Rattle.isle_blocks.specs.declared.serializer.node.Node.TheVariants as nodes
 use Rattle.isle_blocks.specs.Trees.Nodes.{steps_piece, arms_piece}
 use Rattle.isle_blocks.specs.Trees.Ends.{here, end_in, node_end, AreEnds}
 use Rattle.isle_blocks.specs.Trees.Shown.{Returned, block_of}

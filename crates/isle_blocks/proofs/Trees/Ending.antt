@@ -4,8 +4,8 @@ use Rattle.std.proofs.Common.{set, length-set, slice_get, unwrap_or, add-one}
 use Rattle.std.proofs.lemmas.List.{drop_all}
 use Rattle.std.proofs.lemmas.Option.{slice_get_past, slice_get_within, slice_get_cases}
 use Rattle.isle_trees.proofs.Basics.{eq_or}
-use Rattle.isle_blocks.specs.declared.serialize.node.Node.{Node}
-use Rattle.isle_blocks.specs.declared.serialize.node.Node.TheVariants as nodes
+use Rattle.isle_blocks.specs.declared.serializer.node.Node.{Node}
+use Rattle.isle_blocks.specs.declared.serializer.node.Node.TheVariants as nodes
 use Rattle.isle_blocks.specs.Trees.Nodes.{later, read, put}
 use Rattle.isle_blocks.specs.Trees.Ends.{here, end_in, node_end, AreEnds}
 

@@ -4,7 +4,7 @@ use Rattle.std.specs.List.{cons_option}
 use Rattle.std.specs.Option.{ForSome}
 use Rattle.std.proofs.lemmas.List.{append-nil}
 use Rattle.std.proofs.lemmas.List.Elements.{filter_map-append}
-use Rattle.isle_blocks.specs.declared.serialize.node.Node.{Node}
+use Rattle.isle_blocks.specs.declared.serializer.node.Node.{Node}
 use Rattle.isle_blocks.specs.Trees.Shown.{Returned, return_of, returns_of}
 
 -- what is behind the first item is in the list

@@ -10,12 +10,12 @@ use Rattle.isle_blocks.specs.declared.binding.Binding.TheVariants as sites
 use Rattle.isle_blocks.specs.declared.constraint.Constraint.{Constraint}
 use Rattle.isle_blocks.specs.declared.constraint.Constraint.TheVariants as tests
 use Rattle.isle_blocks.specs.declared.rule.Rule.{Rule}
-use Rattle.isle_blocks.specs.declared.serialize.known.Test.{Test as TestOf}
-use Rattle.isle_blocks.specs.declared.serialize.known.Test.TheVariants as code
-use Rattle.isle_blocks.specs.declared.serialize.known.Key.{Key as KeyOf}
-use Rattle.isle_blocks.specs.declared.serialize.known.Ranked.{Ranked as RankedOf}
-use Rattle.isle_blocks.specs.declared.serialize.known.Known.{Known}
-use Rattle.isle_blocks.specs.declared.serialize.index.Index.{Index}
+use Rattle.isle_blocks.specs.declared.serializer.known.Test.{Test as TestOf}
+use Rattle.isle_blocks.specs.declared.serializer.known.Test.TheVariants as code
+use Rattle.isle_blocks.specs.declared.serializer.known.Key.{Key as KeyOf}
+use Rattle.isle_blocks.specs.declared.serializer.known.Ranked.{Ranked as RankedOf}
+use Rattle.isle_blocks.specs.declared.serializer.known.Known.{Known}
+use Rattle.isle_blocks.specs.declared.serializer.index.Index.{Index}
 use Rattle.isle_blocks.specs.Bindings.{sources_of}
 use Rattle.isle_blocks.specs.ClosedRules.{same_site}
 use Rattle.isle_blocks.specs.RuleSets.{RulesOverSites}

@@ -1,7 +1,7 @@
 -- Where the pieces of a block end.
 use Rattle.std.specs.Prelude.{◌≡◌, ℕ, ◌+◌, List, [], Some, drop, length, slice_get, unwrap_or}
-use Rattle.isle_blocks.specs.declared.serialize.node.Node.{Node}
-use Rattle.isle_blocks.specs.declared.serialize.node.Node.TheVariants as nodes
+use Rattle.isle_blocks.specs.declared.serializer.node.Node.{Node}
+use Rattle.isle_blocks.specs.declared.serializer.node.Node.TheVariants as nodes
 use Rattle.isle_blocks.specs.Trees.Nodes.{Piece, read}
 
 -- the pieces from a place on

@@ -1,6 +1,6 @@
 -- Places in a block, and what is read there.
 use Rattle.std.specs.Prelude.{List}
-use Rattle.isle_blocks.specs.declared.serialize.block.Place.{Place}
+use Rattle.isle_blocks.specs.declared.serializer.block.Place.{Place}
 use Rattle.isle_blocks.specs.Trees.Nodes.{Piece, first_steps, first_arms}
 use Rattle.isle_blocks.specs.Trees.Ends.{here}
 use Rattle.isle_blocks.specs.Trees.Shown.{Returned, BlockShown, ArmsShown, returns_of}

@@ -4,8 +4,8 @@ use Rattle.std.specs.List.{filter_map}
 use Rattle.isle_syntax.specs.declared.lexer.Pos.{Pos}
 use Rattle.isle_trees.specs.Tree.{Steps, Arms}
 use Rattle.isle_blocks.specs.declared.constraint.Constraint.{Constraint}
-use Rattle.isle_blocks.specs.declared.serialize.node.Node.{Node}
-use Rattle.isle_blocks.specs.declared.serialize.node.Node.TheVariants as nodes
+use Rattle.isle_blocks.specs.declared.serializer.node.Node.{Node}
+use Rattle.isle_blocks.specs.declared.serializer.node.Node.TheVariants as nodes
 use Rattle.isle_blocks.specs.Trees.Nodes.{first_steps, read}
 
 -- a return: the rule's number in its rule set, its place in the source, and the site of its result

@@ -2,12 +2,12 @@
 use Rattle.std.specs.Prelude.{◌≡◌, ℕ, ◌+◌, List, Contains, Option, None, Some}
 use Rattle.isle_trees.specs.Tree.{Steps as StepTree, done, «match», equal, loop, give, Arms as ArmTree, no_arm, arm}
 use Rattle.isle_blocks.specs.declared.constraint.Constraint.{Constraint}
-use Rattle.isle_blocks.specs.declared.serialize.views.Steps.{Steps}
-use Rattle.isle_blocks.specs.declared.serialize.views.Arms.{Arms}
-use Rattle.isle_blocks.specs.declared.serialize.views.EvalStep.{EvalStep}
-use Rattle.isle_blocks.specs.declared.serialize.views.MatchArm.{MatchArm}
-use Rattle.isle_blocks.specs.declared.serialize.views.ControlFlow.{ControlFlow}
-use Rattle.isle_blocks.specs.declared.serialize.views.ControlFlow.TheVariants as flows
+use Rattle.isle_blocks.specs.declared.serializer.views.Steps.{Steps}
+use Rattle.isle_blocks.specs.declared.serializer.views.Arms.{Arms}
+use Rattle.isle_blocks.specs.declared.serializer.views.EvalStep.{EvalStep}
+use Rattle.isle_blocks.specs.declared.serializer.views.MatchArm.{MatchArm}
+use Rattle.isle_blocks.specs.declared.serializer.views.ControlFlow.{ControlFlow}
+use Rattle.isle_blocks.specs.declared.serializer.views.ControlFlow.TheVariants as flows
 use Rattle.isle_blocks.specs.Rows.{numbers_of}
 use Rattle.isle_blocks.specs.Trees.Nodes.{fields_of}
 use Rattle.isle_blocks.specs.Trees.Shown.{Returned, BlockShown, ArmsShown}

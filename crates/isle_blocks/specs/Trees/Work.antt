@@ -6,12 +6,12 @@ use Rattle.isle_blocks.specs.declared.ids.BindingId.{BindingId}
 use Rattle.isle_blocks.specs.declared.constraint.Constraint.{Constraint}
 use Rattle.isle_blocks.specs.declared.rule.Rule.{Rule}
 use Rattle.isle_blocks.specs.declared.binding.Binding.{Binding}
-use Rattle.isle_blocks.specs.declared.serialize.known.Known.{Known}
-use Rattle.isle_blocks.specs.declared.serialize.node.Node.{Node}
-use Rattle.isle_blocks.specs.declared.serialize.node.Node.TheVariants as nodes
-use Rattle.isle_blocks.specs.declared.serialize.work.Open.{Open}
-use Rattle.isle_blocks.specs.declared.serialize.work.Task.{Task}
-use Rattle.isle_blocks.specs.declared.serialize.work.Task.TheVariants as tasks
+use Rattle.isle_blocks.specs.declared.serializer.known.Known.{Known}
+use Rattle.isle_blocks.specs.declared.serializer.node.Node.{Node}
+use Rattle.isle_blocks.specs.declared.serializer.node.Node.TheVariants as nodes
+use Rattle.isle_blocks.specs.declared.serializer.work.Open.{Open}
+use Rattle.isle_blocks.specs.declared.serializer.work.Task.{Task}
+use Rattle.isle_blocks.specs.declared.serializer.work.Task.TheVariants as tasks
 use Rattle.isle_blocks.specs.RuleSets.{RulesOverSites}
 use Rattle.isle_blocks.specs.Rows.{numbers_of}
 use Rattle.isle_blocks.specs.Trees.View.{calls_at}

@@ -1,6 +1,6 @@
 use Rattle.std.proofs.Common.{length, ◌≤◌}
 use Rattle.isle_blocks.proofs.Trees.Ending.{AreEndsFrom}
-use Rattle.isle_blocks.proofs.serialize.block.ends_of.Given as goal
+use Rattle.isle_blocks.proofs.serializer.block.ends_of.Given as goal
 
 abbrev pub invariant-nodes : goal.invariant-nodes
 invariant-nodes l = record {

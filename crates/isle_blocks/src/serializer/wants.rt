@@ -13,7 +13,7 @@ use crate::constraint::Constraint;
 use crate::ids::BindingId;
 use crate::rule::Rule;
 use crate::rule_set::RuleSet;
-use crate::serialize::known::Test;
+use crate::serializer::known::Test;
 use std::alloc::AllocError;
 use std::cmp::Ordering;
 

@@ -4,7 +4,7 @@ use Rattle.std.proofs.lemmas.Option.{gets}
 use Rattle.isle_blocks.specs.Trees.Ends.{here}
 use Rattle.isle_blocks.proofs.Trees.Ending.{here_end}
 use Rattle.isle_blocks.proofs.Trees.Returns.{returned_by}
-use Rattle.isle_blocks.proofs.serialize.block.Place.parts.Goals as goal
+use Rattle.isle_blocks.proofs.serializer.block.Place.parts.Goals as goal
 
 pub returns-clause-after : goal.returns-clause-after
 returns-clause-after c =

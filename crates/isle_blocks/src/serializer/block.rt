@@ -3,8 +3,8 @@
 ghost use Rattle.std.specs.Prelude.{◌≡◌, ◌<◌, length, IfOk};
 ghost use Rattle.isle_blocks.specs.Trees.Ends.{AreEnds, end_in, node_end};
 
-use crate::serialize::node::Node;
-use crate::serialize::views::Steps;
+use crate::serializer::node::Node;
+use crate::serializer::views::Steps;
 use std::alloc::{AllocError, Global};
 use std::marker::Model;
 

@@ -2,7 +2,7 @@ use Rattle.std.proofs.Common.{rules, arith, sym, ◌∙◌, ◌≡◌, ◌<◌, 
 use Rattle.std.proofs.lemmas.Option.{slice_get_read}
 use Rattle.isle_blocks.specs.Trees.Ends.{node_end}
 use Rattle.isle_blocks.proofs.Trees.Ending.{AreEndsFrom, ends_none, ends_more, ends_all}
-use Rattle.isle_blocks.proofs.serialize.block.ends_of.Goals as goal
+use Rattle.isle_blocks.proofs.serializer.block.ends_of.Goals as goal
 
 pub nodes-init : goal.nodes-init
 nodes-init c = record {

@@ -17,8 +17,8 @@ use crate::constraint::Constraint;
 use crate::ids::BindingId;
 use crate::rule::Rule;
 use crate::rule_set::RuleSet;
-use crate::serialize::index::Index;
-use crate::serialize::known::{Known, is_set};
+use crate::serializer::index::Index;
+use crate::serializer::known::{Known, is_set};
 use std::alloc::{AllocError, Global};
 
 /// Adds the sites that aren't marked to a list, and marks them.

@@ -3,8 +3,8 @@ ghost use Rattle.std.specs.Prelude.{◌≡◌};
 
 use crate::constraint::Constraint;
 use crate::ids::BindingId;
-use crate::serialize::block::Place;
-use crate::serialize::node::Node;
+use crate::serializer::block::Place;
+use crate::serializer::node::Node;
 use isle_syntax::Seq;
 use isle_syntax::lexer::Pos;
 

@@ -13,8 +13,8 @@ ghost use Rattle.isle_blocks.specs.Trees.Builder.{rules_in, scope_of, test_shown
 use crate::ids::BindingId;
 use crate::rule::Rule;
 use crate::rule_set::RuleSet;
-use crate::serialize::index::Index;
-use crate::serialize::known::{Key, Known, Ranked, Test, all_set, better, is_set};
+use crate::serializer::index::Index;
+use crate::serializer::known::{Key, Known, Ranked, Test, all_set, better, is_set};
 use isle_syntax::Seq;
 use std::alloc::{AllocError, Global};
 
