@@ -140,8 +140,8 @@ lies_two nodes ends i node e f g one two = record {
   up = let a = one.up in let b = two.up in omega arith;
 }
 
-lies_node : (node : Node) (nodes : List Node) (ends : List ℕ) (i : ℕ) → slice_get nodes i ≡ Some node → end_in ends i ≡ node_end node i ends
-    → ((j : ℕ) → i + 1 ≤ j → Lies nodes ends j) → Lies nodes ends i
+lies_node : (node : Node) (nodes : List Node) (ends : List ℕ) (i : ℕ) → slice_get nodes i ≡ Some node
+    → end_in ends i ≡ node_end node i ends → ((j : ℕ) → i + 1 ≤ j → Lies nodes ends j) → Lies nodes ends i
 lies_node nodes.End all ends i e f h = lies_one all ends i nodes.End e f refl
 lies_node nodes.NoArm all ends i e f h = lies_one all ends i nodes.NoArm e f refl
 lies_node (nodes.Match binds source) all ends i e f h =

@@ -20,14 +20,16 @@ first_option r None xs e = cc
 first_option r (Some x) xs e = let f : x ≡ r = cc in (zero, omega arith, f)
 
 -- what a node of the block returns is one of the block's returns
-pub returned_by : (nodes : List Node) (at : ℕ) (node : Node) → slice_get nodes at ≡ Some node → ForSome (return_of node) (Contains (returns_of nodes))
+pub returned_by : (nodes : List Node) (at : ℕ) (node : Node) → slice_get nodes at ≡ Some node
+    → ForSome (return_of node) (Contains (returns_of nodes))
 returned_by [] at node e r f = cc
 returned_by (x ∷ xs) zero node e r f =
     let same : x ≡ node = cc in first_option r (return_of x) (returns_of xs) (ap return_of same ∙ f)
 returned_by (x ∷ xs) (suc at) node e r f = behind_option r (return_of x) (returns_of xs) (returned_by xs at node e r f)
 
 -- a return that is laid out behind other nodes comes last
-pub returns_of-push_return : (xs : List Node) (node : Node) (r : Returned) → return_of node ≡ Some r → returns_of (xs ++ node ∷ []) ≡ returns_of xs ++ r ∷ []
+pub returns_of-push_return : (xs : List Node) (node : Node) (r : Returned) → return_of node ≡ Some r
+    → returns_of (xs ++ node ∷ []) ≡ returns_of xs ++ r ∷ []
 returns_of-push_return xs node r e =
     filter_map-append return_of xs (node ∷ []) ∙ ap (λ (o : Option Returned). returns_of xs ++ cons_option o []) e
 

@@ -14,15 +14,19 @@ use Rattle.isle_blocks.specs.declared.constraint.Constraint.{Constraint}
 use Rattle.isle_blocks.specs.declared.constraint.Constraint.TheVariants as tests
 use Rattle.isle_blocks.specs.Trees.Shown.{Returned, BlockShown}
 
+-- a type is stored as its number
 abbrev type_code : Coded TypeId
 type_code = code_by ℕ coded_ℕ (λ id. id.0) (λ n. record { 0 = n }) (λ _. refl)
 
+-- so is a variant
 abbrev variant_code : Coded VariantId
 variant_code = code_by ℕ coded_ℕ (λ id. id.0) (λ n. record { 0 = n }) (λ _. refl)
 
+-- so is the number of its fields
 abbrev place_code : Coded TupleIndex
 place_code = code_by ℕ coded_ℕ (λ id. id.0) (λ n. record { 0 = n }) (λ _. refl)
 
+-- so is a name
 abbrev name_code : Coded Sym
 name_code = code_by ℕ coded_ℕ (λ id. id.0) (λ n. record { 0 = n }) (λ _. refl)
 
@@ -36,6 +40,7 @@ test_code_of (tests.ConstInt val ty) = gcons (gnum 3) (gcons (coded_ℤ.code val
 test_code_of (tests.ConstPrim val) = gcons (gnum 4) (name_code.code val)
 test_code_of tests.Some = gnil
 
+-- tests that are stored alike are the same
 pub test_code_inj : (c d : Constraint) → test_code_of c ≡ test_code_of d → c ≡ d
 test_code_inj (tests.Variant ty1 variant1 fields1) (tests.Variant ty2 variant2 fields2) e =
     let ty_same = type_code.inj ty1 ty2 (ap (λ g. left (right g)) e) in
@@ -60,12 +65,15 @@ test_code_inj (tests.ConstPrim val1) (tests.ConstPrim val2) e =
 test_code_inj tests.Some tests.Some e = refl
 test_code_inj _ _ e = cc
 
+-- sites, by their numbers
 abbrev sites_code : Coded (List ℕ)
 sites_code = coded_list coded_ℕ
 
+-- the sites that a test binds
 abbrev fields_code : Coded (List (Option ℕ))
 fields_code = coded_list (coded_option coded_ℕ)
 
+-- steps and arms, by their kind and what they hold, with those after them
 abbrev mutual
   pub steps_code_of : Steps Constraint → Gv
   steps_code_of done = gnil
@@ -82,6 +90,7 @@ abbrev mutual
   arms_code_of (arm test fields body more) =
       gcons (test_code_of test) (gcons (fields_code.code fields) (gcons (steps_code_of body) (arms_code_of more)))
 
+-- trees that are stored alike are the same
 mutual
   pub steps_code_inj : (s t : Steps Constraint) → steps_code_of s ≡ steps_code_of t → s ≡ t
   steps_code_inj done done e = refl
@@ -121,9 +130,11 @@ mutual
       cc
   arms_code_inj _ _ e = cc
 
+-- a tree of steps
 abbrev pub tree_code : Coded (Steps Constraint)
 tree_code = record { code = steps_code_of; inj = steps_code_inj }
 
+-- a return is stored as the triple of its parts
 abbrev pub returned_code : Coded Returned
 returned_code = code_by (ℕ × (Pos × ℕ)) (coded× coded_ℕ (coded× pos_code coded_ℕ)) (λ r. (r.rule, (r.pos, r.result)))
     (λ p. record { rule = p.0; pos = p.1.0; result = p.1.1 }) (λ _. refl)
