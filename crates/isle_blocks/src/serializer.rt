@@ -1,5 +1,5 @@
 //! Rule sets as trees of tests.
-ghost use Rattle.std.specs.Prelude.{◌≡◌, ℕ, List, IfOk, length};
+ghost use Rattle.std.specs.Prelude.{◌≡◌, ℕ, List, IfOk, length, []};
 ghost use Rattle.isle_types.specs.declared.ids.Sym.{Sym};
 ghost use Rattle.isle_trees.specs.Builds.{Builds};
 ghost use Rattle.isle_trees.specs.Scopes.{nothing_known};

@@ -55,6 +55,10 @@ AreWithin (on_loop s) n = s < n
 abbrev pub AreAllWithin : {C V : Type 0} → Rules C V → ℕ → Type 0
 AreAllWithin R n = (i : ℕ) (t : Test) → has_test R i t ≡ true → AreWithin t n
 
+-- parts stand before what is made of them
+abbrev pub PartsAreLower : {C V : Type 0} → Rules C V → Type 0
+PartsAreLower R = (s p : ℕ) → Elem p (R.parts s) → p < s
+
 -- what binding sites adds to an order
 pub record Emits {C V : Type 0} (R : Rules C V) (sc : Scope C) (sites old new : List ℕ) (after : Scope C) : Type 0 where
   pub all : List ℕ

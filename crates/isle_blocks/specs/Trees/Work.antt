@@ -18,15 +18,11 @@ use Rattle.isle_blocks.specs.Trees.View.{calls_at}
 use Rattle.isle_blocks.specs.Trees.Nodes.{Piece, first_steps, first_arms, later, read}
 use Rattle.isle_blocks.specs.Trees.Builder.{IsFit, opens_at, rules_in, scope_of}
 use Rattle.isle_trees.specs.Tree.{done, no_arm}
-use Rattle.isle_trees.specs.Rules.{has, Rules, Elem}
+use Rattle.isle_trees.specs.Rules.{Rules, Elem}
 use Rattle.isle_trees.specs.Scopes.{Scope, Test, has_test, counted, others}
 use Rattle.isle_trees.specs.Builds.{Builds, BuildsArms, Returns, IsBest}
 use Rattle.isle_trees.specs.Counting.{weight}
-use Rattle.isle_trees.specs.Search.{AreGrouped, AreMarked, AreSound, IsInOrder, is_ready}
-
--- parts stand before what is made of them
-abbrev pub PartsAreLower : {C V : Type 0} → Rules C V → Type 0
-PartsAreLower R = (s p : ℕ) → Elem p (R.parts s) → p < s
+use Rattle.isle_trees.specs.Search.{AllWant, AreGrouped, AreMarked, AreSound, IsInOrder, is_ready}
 
 -- what is known of wants and of equal sites is the same, and of as many sites
 pub record IsSameKnown (old new : Known) : Type 0 where
@@ -67,10 +63,6 @@ pub record AddsOffers (R : Rules Constraint Held) (sc : Scope Constraint) (marks
   pub behind : new ≡ old ++ more
   pub ready : (t : Test) → Elem t more → is_ready sc marks t ≡ true
   pub full : (t : Test) → has_test R i t ≡ true → is_ready sc marks t ≡ true → Elem t more
-
--- each rule wants some test of the site
-abbrev pub AllWant : Rules Constraint Held → List ℕ → ℕ → Type 0
-AllWant R left s = (i : ℕ) → Elem i left → (c : Constraint) × (R.at i s ≡ Some (has c))
 
 -- rules of the set
 abbrev pub AreRules : RulesOverSites → List ℕ → Type 0

@@ -1,16 +1,18 @@
 //! What is bound before a test, in the arm of a test, and before a return.
+ghost use Rattle.isle_trees.specs.Builds.{BindsEach};
+ghost use Rattle.isle_blocks.specs.Trees.View.{call_at};
 ghost use Rattle.std.specs.Prelude.{◌≡◌, ◌<◌, ◌++◌, ◌∷◌, [], ℕ, List, length, map, sum_by, IfOk, true};
 ghost use Rattle.std.specs.List.{filter};
 ghost use Rattle.isle_trees.specs.Bag.{IsAscending};
 ghost use Rattle.isle_trees.specs.Gathering.{IsClosure, Gathers};
-ghost use Rattle.isle_trees.specs.Ranking.{AllBelow, Emits, EmitsOne, EmitsEach};
-ghost use Rattle.isle_trees.specs.Rules.{Elem, rights};
+ghost use Rattle.isle_trees.specs.Ranking.{PartsAreLower, AllBelow, Emits, EmitsOne, EmitsEach};
+ghost use Rattle.isle_trees.specs.Rules.{Elem, rights, Want, has};
 ghost use Rattle.isle_trees.specs.Scopes.{inside, is_source};
 ghost use Rattle.isle_trees.specs.Search.{AreDistinct, IsSamePath, with_made};
 ghost use Rattle.isle_blocks.specs.Rows.{numbers_of};
 ghost use Rattle.isle_blocks.specs.RuleSets.{RulesOverSites};
 ghost use Rattle.isle_blocks.specs.Trees.Builder.{IsFit, IsIndexOf, rules_in, scope_of, want_by};
-ghost use Rattle.isle_blocks.specs.Trees.Work.{PartsAreLower, IsSameKnown, options_shown};
+ghost use Rattle.isle_blocks.specs.Trees.Work.{IsSameKnown, options_shown, rights_in};
 
 use crate::binding::Binding;
 use crate::constraint::Constraint;

@@ -1,8 +1,7 @@
 //! Rules in order, and by their tests of a site.
 ghost use Rattle.std.specs.Prelude.{◌≡◌, ◌<◌, ℕ, Some, length, sum_by, IfOk};
-ghost use Rattle.isle_trees.specs.Builds.{AllWant};
 ghost use Rattle.isle_trees.specs.Rules.{has};
-ghost use Rattle.isle_trees.specs.Search.{AreDistinct, AreGrouped, IsInOrder, IsRun, below, front};
+ghost use Rattle.isle_trees.specs.Search.{AllWant, AreDistinct, AreGrouped, IsInOrder, IsRun, below, front};
 ghost use Rattle.isle_blocks.specs.Trees.Builder.{rules_in};
 
 use crate::constraint::Constraint;

@@ -1,14 +1,14 @@
 //! What the builder of trees looks up by rule and by site.
-ghost use Rattle.std.specs.Prelude.{◌≡◌, ◌≤◌, ◌<◌, ◌++◌, ℕ, length, map, IfOk, true, None};
+ghost use Rattle.isle_blocks.specs.Trees.Work.{AddsOnly, opener_among};
+ghost use Rattle.std.specs.Prelude.{◌≡◌, ◌≤◌, ◌<◌, ◌++◌, ℕ, length, map, IfOk, true, None, [], slice_get, slice_index_or};
 ghost use Rattle.std.specs.List.{flat_map};
-ghost use Rattle.isle_trees.specs.Ranking.{AllBelow};
+ghost use Rattle.isle_trees.specs.Ranking.{PartsAreLower, AllBelow};
 ghost use Rattle.isle_trees.specs.Rules.{Elem};
 ghost use Rattle.isle_trees.specs.Scopes.{Test, has_test};
 ghost use Rattle.isle_trees.specs.Search.{ArePartsFirst, AreMadeBelow, HasUsers, IsAskedBy, IsClean, added_at, first_of, is_marked, made_more};
 ghost use Rattle.isle_blocks.specs.Rows.{numbers_of};
 ghost use Rattle.isle_blocks.specs.Trees.Builder.{AreClasses, AreOpeners, IsIndexOf, IsRising, IsSerializable, asked_at, classes_at, items_at, made_at};
 ghost use Rattle.isle_blocks.specs.Trees.Builder.{opener_at, opens_at, rules_in, source_in, tested_in, users_at};
-ghost use Rattle.isle_blocks.specs.Trees.Work.{PartsAreLower};
 
 use crate::ids::BindingId;
 use crate::rule::Rule;

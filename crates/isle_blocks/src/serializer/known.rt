@@ -1,5 +1,6 @@
 //! What is known on a path of tests, and how tests are ranked.
-ghost use Rattle.std.specs.Prelude.{◌≡◌, ◌<◌, length, map, slice_index_or, IfOk, None, true, false};
+ghost use Rattle.isle_trees.specs.Builds.{state};
+ghost use Rattle.std.specs.Prelude.{◌≡◌, ◌<◌, length, map, slice_index_or, IfOk, None, true, false, slice_set, ℕ};
 ghost use Rattle.isle_trees.specs.Scopes.{emit, join, release, nothing_known};
 ghost use Rattle.isle_trees.specs.Ranking.{above, better, key_with, may_win};
 ghost use Rattle.isle_trees.specs.Search.{first_of, is_marked, all_marked};

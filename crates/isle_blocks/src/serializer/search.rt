@@ -1,8 +1,9 @@
 //! The best test of the rules left.
-ghost use Rattle.std.specs.Prelude.{◌≡◌, ◌≤◌, ◌++◌, ◌<◌, length, map, IfOk, MatchOption};
+ghost use Rattle.isle_blocks.specs.Trees.Work.{AddsOffers};
+ghost use Rattle.std.specs.Prelude.{◌≡◌, ◌≤◌, ◌++◌, ◌<◌, length, map, IfOk, MatchOption, ℕ};
 ghost use Rattle.std.specs.List.{flat_map};
 ghost use Rattle.isle_trees.specs.Builds.{IsBest, HasNoTest, key};
-ghost use Rattle.isle_trees.specs.Ranking.{IsNoBetter, IsRanked};
+ghost use Rattle.isle_trees.specs.Ranking.{IsNoBetter, IsRanked, AllBelow};
 ghost use Rattle.isle_trees.specs.Rules.{Elem};
 ghost use Rattle.isle_trees.specs.Scopes.{IsReady, Test as AnyTest, counted, others, on_match, on_loop, on_equal};
 ghost use Rattle.isle_trees.specs.Search.{AreMarked, AreOffers, AreSound, ArePartsFirst, IsInOrder, can_bind, is_made, is_open, is_ready};

@@ -1,6 +1,7 @@
 //! Blocks laid out node by node: a loop over what is still to be laid out, so that no path of tests needs the native stack.
 ghost use Rattle.std.specs.Prelude.{◌≡◌, ◌<◌, ◌++◌, ◌∷◌, [], ℕ, List, Some, length, drop, map, IfOk};
 ghost use Rattle.isle_trees.specs.Builds.{Builds};
+ghost use Rattle.isle_trees.specs.Ranking.{PartsAreLower};
 ghost use Rattle.isle_trees.specs.Rules.{has};
 ghost use Rattle.isle_trees.specs.Search.{AreMarked, IsInOrder};
 ghost use Rattle.isle_blocks.specs.Rows.{numbers_of};

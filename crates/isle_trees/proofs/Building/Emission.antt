@@ -2,7 +2,7 @@
 use Rattle.std.proofs.Common.{◌≡◌, ◌≢◌, inl, inr, ℕ, ◌<◌, ◌==◌, ◌||◌, ◌++◌, List, [], ◌∷◌, Bool, true, false, refl, sym, ◌∙◌, ap, subst, arith, append_assoc, append-nil, eqb-true, eq-eqb}
 use Rattle.std.specs.List.{filter}
 use Rattle.isle_trees.specs.Builds.{IsOrder, Binds, BindsEach, own}
-use Rattle.isle_trees.specs.Ranking.{AllBelow, Emits, EmitsOne, EmitsEach}
+use Rattle.isle_trees.specs.Ranking.{PartsAreLower, AllBelow, Emits, EmitsOne, EmitsEach}
 use Rattle.isle_trees.specs.Rules.{Rules, Elem, IsPartOf}
 use Rattle.isle_trees.specs.Scopes.{Scope, emit, emit_all}
 use Rattle.isle_trees.proofs.Asking.{elem_append}
@@ -10,10 +10,6 @@ use Rattle.isle_trees.proofs.Basics.{true_or}
 use Rattle.isle_trees.proofs.Building.Lists.{elem_left, elem_right, filter_append}
 use Rattle.isle_trees.proofs.Leaf.{part_more}
 use Rattle.isle_trees.proofs.Path.{still_emitted}
-
--- parts stand before what is made of them
-abbrev pub PartsAreLower : {C V : Type 0} → Rules C V → Type 0
-PartsAreLower R = (s p : ℕ) → Elem p (R.parts s) → p < s
 
 -- one order after another
 pub order_append : {C V : Type 0} (R : Rules C V) (sc : Scope C) (xs ys : List ℕ) → IsOrder R sc xs → IsOrder R (emit_all sc xs) ys

@@ -5,14 +5,13 @@ use Rattle.std.specs.List.{filter}
 use Rattle.isle_trees.specs.Bag.{IsAscending, IsSameBag}
 use Rattle.isle_trees.specs.Builds.{IsOrder}
 use Rattle.isle_trees.specs.Gathering.{IsGathering, Gathers, IsClosure}
-use Rattle.isle_trees.specs.Ranking.{Emits}
+use Rattle.isle_trees.specs.Ranking.{PartsAreLower, Emits}
 use Rattle.isle_trees.specs.Rules.{Want, Rules, Elem, IsPartOf, Asked}
 use Rattle.isle_trees.specs.Scopes.{Scope, emit, emit_all}
 use Rattle.isle_trees.specs.Search.{is_marked, below, AreDistinct, ArePartsFirst, IsClean, IsSamePath, IsAskedBy}
 use Rattle.isle_trees.proofs.Asking.{elem_append}
 use Rattle.isle_trees.proofs.Basics.{true_or, or_right, eq_or, clash}
 use Rattle.isle_trees.proofs.Building.Bound.{distinct_short}
-use Rattle.isle_trees.proofs.Building.Emission.{PartsAreLower}
 use Rattle.isle_trees.proofs.Building.Lists.{both_ways, elem_left, elem_right, elem_at, elem_below, length_below, distinct_push, ascending_front, last_or}
 use Rattle.isle_trees.proofs.Building.Marks.{marked_new, marked_kept, marked_old}
 use Rattle.isle_trees.proofs.Building.Reorder.{same_elem, same_turned}
