@@ -121,11 +121,11 @@ abbrev pub offered : Scope Constraint → List Bool → Test → List Test
 offered sc marks t = if is_ready sc marks t then t ∷ [] else []
 
 -- the equalities of a site with those of its class, and all of a class
-abbrev pub offered_with : Scope Constraint → List Bool → List ℕ → ℕ → List Test
-offered_with sc marks class a = flat_map (λ b. offered sc marks (on_equal a b)) class
+abbrev pub offered_with : Scope Constraint → List Bool → List BindingId → BindingId → List Test
+offered_with sc marks class a = flat_map (λ b. offered sc marks (on_equal a.0 b.0)) class
 
 abbrev pub offered_in : Scope Constraint → List Bool → List BindingId → List Test
-offered_in sc marks class = flat_map (offered_with sc marks (numbers_of class)) (numbers_of class)
+offered_in sc marks class = flat_map (offered_with sc marks class) class
 
 -- the tests of a rule that can be made
 abbrev pub offered_of : Scope Constraint → List Bool → Rule → List (List BindingId) → List Test

@@ -1,13 +1,14 @@
 //! The best test of the rules left.
 ghost use Rattle.isle_blocks.specs.Trees.Work.{AddsOffers};
-ghost use Rattle.std.specs.Prelude.{◌≡◌, ◌≤◌, ◌++◌, ◌<◌, length, map, IfOk, MatchOption, ℕ};
+ghost use Rattle.std.specs.Prelude.{◌≡◌, ◌≤◌, ◌++◌, ◌<◌, length, map, IfOk, Contains, MatchOption, ℕ, true};
 ghost use Rattle.std.specs.List.{flat_map};
 ghost use Rattle.isle_trees.specs.Builds.{IsBest, HasNoTest, key};
 ghost use Rattle.isle_trees.specs.Ranking.{IsNoBetter, IsRanked, AllBelow};
 ghost use Rattle.isle_trees.specs.Rules.{Elem};
-ghost use Rattle.isle_trees.specs.Scopes.{IsReady, Test as AnyTest, counted, others, on_match, on_loop, on_equal};
-ghost use Rattle.isle_trees.specs.Search.{AreMarked, AreOffers, AreSound, ArePartsFirst, IsInOrder, can_bind, is_made, is_open, is_ready};
+ghost use Rattle.isle_trees.specs.Scopes.{IsReady, Test as AnyTest, counted, others, on_match, on_loop, on_equal, IsAvailable};
+ghost use Rattle.isle_trees.specs.Search.{AreMarked, AreOffers, AreSound, ArePartsFirst, IsInOrder, can_bind, is_made, is_open, is_ready, is_marked};
 ghost use Rattle.isle_blocks.specs.Rows.{numbers_of};
+ghost use Rattle.isle_blocks.specs.declared.serializer.known.Test.{Test as CodeTest};
 ghost use Rattle.isle_blocks.specs.Trees.Builder.{IsFit, IsIndexOf, IsSerializable, best_shown, key_shown, offered, offered_in, offered_of, offered_with};
 ghost use Rattle.isle_blocks.specs.Trees.Builder.{rules_in, scope_of, test_shown, tests_shown};
 
@@ -179,7 +180,7 @@ impl RuleSet {
     ) -> Result<(), AllocError>
         requires fit { IsFit self.now (length self.now.sites) known.now }
         ensures { IfOk result (λ _. tests_shown offers.new.items ≡ tests_shown offers.old.items
-            ++ offered_with (scope_of self.now known.now) marks.now (numbers_of class.now) a.0) }
+            ++ offered_with (scope_of self.now known.now) marks.now class.now a) }
     {
         for b in class {
             self.offer(known, marks, Test::Equal(a, *b), offers)?;
@@ -383,8 +384,8 @@ impl RuleSet {
 
 /// Each test once.
 fn distinct(offers: Vec<Test>) -> Vec<Test>
-    ensures keeps { (t : AnyTest) → Elem t (tests_shown offers.items) → Elem t (tests_shown result.items) }
-    ensures adds_none { (t : AnyTest) → Elem t (tests_shown result.items) → Elem t (tests_shown offers.items) }
+    ensures keeps { (t : CodeTest) → Contains offers.items t → Contains result.items t }
+    ensures adds_none { (t : CodeTest) → Contains result.items t → Contains offers.items t }
 {
     let mut offers = offers;
     offers.sort_unstable();

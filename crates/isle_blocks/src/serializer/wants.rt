@@ -1,7 +1,8 @@
 //! What the rules of a set want of sites, by numbers.
+ghost use Rattle.isle_blocks.specs.ClosedRules.{same_site};
 ghost use Rattle.std.specs.Option.{option_map};
 ghost use Rattle.std.specs.List.{list_any};
-ghost use Rattle.std.specs.Prelude.{◌≡◌, ℕ, Some, is_some, length, slice_get, IfOk, option_copied};
+ghost use Rattle.std.specs.Prelude.{◌≡◌, ℕ, Some, is_some, length, slice_get, IfOk, option_copied, false, None, ◌++◌};
 ghost use Rattle.std.specs.Ordering.{is_lt};
 ghost use Rattle.isle_trees.specs.Builds.{own};
 ghost use Rattle.isle_trees.specs.Scopes.{has_test, counted};

@@ -10,7 +10,7 @@ ghost use Rattle.isle_blocks.specs.declared.serializer.work.Task.TheVariants as 
 ghost use Rattle.isle_blocks.specs.declared.serializer.known.Test.TheVariants as kinds;
 ghost use Rattle.isle_blocks.specs.Trees.Nodes.{Piece, first_steps, given, put, read};
 ghost use Rattle.isle_blocks.specs.Trees.Builder.{IsFit, IsIndexOf, IsSerializable, rules_in, scope_of, test_shown};
-ghost use Rattle.isle_blocks.specs.Trees.Work.{AreArms, AreOfRules, AreReturns, AreRules, IsFan, IsOpen, IsSplit, IsTask, Moves, PartsAreLower};
+ghost use Rattle.isle_blocks.specs.Trees.Work.{AreArms, AreOfRules, AreReturns, AreRules, IsFan, IsOpen, IsSplit, IsTask, Moves};
 ghost use Rattle.isle_blocks.specs.Trees.Work.{WantsArms, WantsBlock};
 
 use crate::constraint::Constraint;
