@@ -3,3 +3,5 @@
 pub mod Compare
 -- A rule set as the rules of a tree.
 pub mod View
+-- What the theory of trees asks of a rule set.
+pub mod Laws

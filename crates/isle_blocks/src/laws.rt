@@ -21,6 +21,7 @@ ghost use Rattle.isle_blocks.specs.RuleFaults.{RuleErrorsAreDetermined};
 ghost use Rattle.isle_blocks.specs.Rules.{site_cmp};
 ghost use Rattle.isle_blocks.specs.SetLaws.{EachNumberStands, EachSiteOnce, EachVariantKnown, OfEachSet};
 ghost use Rattle.isle_blocks.specs.Orders.{binding_order, constraint_order};
+ghost use Rattle.isle_blocks.specs.Trees.Laws.{EachCanBeBuilt, SetsCanBeBuilt};
 ghost use Rattle.isle_blocks.specs.Hashes.{binding_hash, constraint_hash};
 
 use crate::binding::Binding;
@@ -134,4 +135,11 @@ pub fn closure_says_the_same()
 /// No term that definitions within the sizes make has more than 255 arguments.
 pub fn terms_have_few_arguments()
     ensures { TermsHaveFewArguments }
+{}
+
+/// A tree of tests can be built of the rules of each rule set, whatever terms they call: parts stand before what is made of them,
+/// all lies within the set's sites, and each multi call that a rule uses has the site of its value.
+pub fn rule_sets_can_be_built()
+    ensures sets { SetsCanBeBuilt }
+    ensures checked { OfEachSet EachCanBeBuilt }
 {}
