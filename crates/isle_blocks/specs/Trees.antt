@@ -3,5 +3,13 @@
 pub mod Compare
 -- A rule set as the rules of a tree.
 pub mod View
+-- The trees of a table's sites, and what they hold.
+pub mod SiteTrees
+-- What a site is, where its parts hold these.
+pub mod Makes
+-- The rule sets of terms that ask no `multi` term.
+pub mod Premises
+-- The choice of a walk, as the typed rules say it.
+pub mod Choices
 -- What the theory of trees asks of a rule set.
 pub mod Laws

@@ -1,9 +1,9 @@
 -- A tree can be built of each rule set, whatever terms its rules call.
-use Rattle.std.proofs.Common.{◌≡◌, ◌≢◌, ◌&&◌, inl, inr, ℕ, zero, suc, ◌<◌, Bool, true, false, List, [], ◌∷◌, ◌++◌, map, length, Option, Some, None, slice_get}
-use Rattle.std.proofs.Common.{refl, ap, sym, subst, ◌∙◌, arith, Contains, eqb-true, eq-eqb}
+use Rattle.std.proofs.Common.{◌≡◌, ◌≢◌, ◌&&◌, inl, inr, ℕ, zero, suc, ◌<◌, true, List, [], ◌∷◌, ◌++◌, map, length, Option, Some, None, slice_get}
+use Rattle.std.proofs.Common.{refl, ap, sym, subst, ◌∙◌, arith, Contains}
 use Rattle.std.specs.Set.{is_member}
 use Rattle.std.specs.Map.{keys_of}
-use Rattle.std.proofs.lemmas.Option.{same_Some, slice_get_cases, slice_get_within}
+use Rattle.std.proofs.lemmas.Option.{same_Some, slice_get_cases}
 use Rattle.isle_types.specs.JoinedSets.{are_joined, members}
 use Rattle.isle_types.specs.declared.ids.Sym.{Sym}
 use Rattle.isle_types.specs.declared.ids.TermId.{TermId}
@@ -13,9 +13,6 @@ use Rattle.isle_terms.specs.TypedRules.{TypedRule}
 use Rattle.isle_meaning.specs.Facts.{TermFacts}
 use Rattle.isle_meaning.specs.Held.{Held}
 use Rattle.isle_meaning.specs.Sites.{Site, iterator}
-use Rattle.isle_meaning.specs.Demands.{Demand, constrained, equal}
-use Rattle.isle_meaning.specs.Derived.{Derived}
-use Rattle.isle_meaning.specs.Laws.Matching.{DemandOf}
 use Rattle.isle_meaning.specs.Numbered.{Row, iterator_row, At}
 use Rattle.isle_blocks.specs.declared.ids.BindingId.{BindingId}
 use Rattle.isle_blocks.specs.declared.binding.Binding.{Binding}
@@ -30,7 +27,7 @@ use Rattle.isle_blocks.specs.DefinedSets.{name_of, facts_by, rules_by, IsSetOf, 
 use Rattle.isle_blocks.specs.SetLaws.{OfEachSet}
 use Rattle.isle_blocks.specs.Trees.Laws.{EachCanBeBuilt}
 use Rattle.isle_blocks.specs.RuleSets.{RulesOverSites}
-use Rattle.isle_blocks.specs.Rows.{IsInjective, numbers_of, rows_of, test_of}
+use Rattle.isle_blocks.specs.Rows.{IsInjective, numbers_of, rows_of}
 use Rattle.isle_blocks.specs.Trees.View.{id_of, read_or, test_at, has_loop, want_at, rule_joins, made_by, option_site, with_option, call_at, calls_at}
 use Rattle.isle_blocks.specs.Trees.View.{rules_of}
 use Rattle.isle_blocks.proofs.ClosedEqualities.{in_one, joined_at, set_long, members_once}
