@@ -22,6 +22,7 @@ of_first f (h ∷ hs) = f h
 
 -- What a site is, where its parts hold these: a call's answer, made data, a field, or a constant.
 module _ (facts : TermFacts) (c : Completion) (args : Values) (done : List (Option Value)) where
+  -- what the site is
   abbrev pub made_of_parts : Site → List Held → Got Held
   made_of_parts (bool_site b ty) hs = gives (held_value (bool_value b))
   made_of_parts (int_site n ty) hs = gives (held_value (int_value n))

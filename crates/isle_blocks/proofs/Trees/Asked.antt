@@ -43,6 +43,7 @@ use Rattle.isle_meaning.proofs.Sites.Pure.{pure_carried, demands_are_pure}
 use Rattle.isle_blocks.proofs.Trees.WellMade.{made_rule, fit_of, derived_test, test_wanted, joined_other}
 use Rattle.isle_blocks.proofs.Trees.Listed.{variant_opens, struct_opens, some_is, opening_is, no_iterator, uses_no_multi}
 
+-- what is impure is a constructor's call with a number
 impure_is : (b : Binding) → is_impure b ≡ true → (t : _) × (ps : _) × (n : ℕ) × (b ≡ sites.Constructor t ps (suc n))
 impure_is (sites.Constructor t ps zero) e = absurd cc
 impure_is (sites.Constructor t ps (suc n)) e = (t, ps, n, refl)
@@ -50,12 +51,15 @@ impure_is b e = absurd cc
 
 module _ (name : Sym → List ℕ) (facts : TermFacts) (sources : List source.Rule) (rules : List TypedRule) (term : ℕ) (set : RulesOverSites)
     (h : IsRunnableSet name facts sources rules term set) where
+  -- the entries of the set's sites
   abbrev rows : List Row
   rows = rows_of name set.sites
 
+  -- the set as trees see it
   abbrev R : Rules Constraint Held
   R = rules_of name set
 
+  -- what a rule is made of
   abbrev Made : ℕ → Rule → Type 0
   Made p r = IsMadeAt name facts sources rules term set.sites p r
 
@@ -65,10 +69,12 @@ module _ (name : Sym → List ℕ) (facts : TermFacts) (sources : List source.Ru
   asked_rule i _ (Asked.by_class a b e) = let (r, at, q) = read_true (rule_joins a b) (slice_get set.rules i) e in (r, at)
   asked_rule i _ (Asked.by_part s p a m) = asked_rule i s a
 
+  -- at one place stands one rule
   same_rule : (i : ℕ) (r k : Rule) → slice_get set.rules i ≡ Some r → slice_get set.rules i ≡ Some k → k ≡ r
   same_rule i r k e f = same_Some k r (sym f ∙ e)
 
   module _ (i : ℕ) (r : Rule) (at : slice_get set.rules i ≡ Some r) (p : ℕ) (m : Made p r) where
+    -- what its typed rule demands
     abbrev D : Demand → Type 0
     D = DemandOf facts m.reached.rule
 
@@ -89,6 +95,7 @@ module _ (name : Sym → List ℕ) (facts : TermFacts) (sources : List source.Ru
         (s, here, (f (equal s u) same).0)
     asked_holds P f g _ (Asked.by_part s q a n) = pass_on name set.sites P g s q (asked_holds P f g s a) n
 
+    -- What is derived is tested.
     pub tests_of : (d : Demand) → Derived D d → SpeaksOf (IsTested (Derived D)) d
     tests_of (constrained s c) e =
         derived_is_tested facts m.reached.rule (fit_of name facts sources rules term set h p r m).well (constrained s c) e
@@ -105,6 +112,7 @@ module _ (name : Sym → List ℕ) (facts : TermFacts) (sources : List source.Ru
         let same : id.0 ≡ a = one_number name set.sites h.injective table t id.0 a at_id at_a in
         (test, test_found r a test closed.ascending (subst (λ (x : BindingId). Contains r.constraints (x, test)) (same_id id (id_of a) same) inside), is)
 
+    -- a number's tree
     abbrev tree : ℕ → Site
     tree = tree_of name set.sites
 
@@ -142,6 +150,7 @@ module _ (name : Sym → List ℕ) (facts : TermFacts) (sources : List source.Ru
     field_tested s (sites.Iterator a) k t e at_t tested is = absurd (no_iterator name facts sources rules term set h s a e)
     field_tested s b k t e at_t tested is = absurd cc
 
+    -- a field that is asked has its own test
     asked_tested : (s : ℕ) (k : Source Constraint) → Asked R i s → R.made s ≡ Some k → R.at i k.site ≡ Some k.want
     asked_tested s k a e =
         let (t, at_t, tested) = asked_holds (IsTested (Derived D)) tests_of (tested_part (Derived D)) s a in
@@ -154,6 +163,7 @@ module _ (name : Sym → List ℕ) (facts : TermFacts) (sources : List source.Ru
         let run = h.runnable in
         (demands_are_pure facts m.reached.rule (run.pure p m.reached.rule m.reached.at m.reached.of_term)).0 d e
 
+  -- Each field that tests ask has its test.
   pub tests_are_there : AreTests R
   tests_are_there i s k a e =
       let (r, at) = asked_rule i s a in let (p, m) = made_rule name facts sources rules term set h i r at in asked_tested i r at p m s k a e
@@ -169,6 +179,7 @@ module _ (name : Sym → List ℕ) (facts : TermFacts) (sources : List source.Ru
       (λ part inside. part_at name set.sites table s (sites.Constructor f ps (suc n)) part at' inside) in
       (f.0, trees_of (tree_of name set.sites) ps, n, one_site rows t (constructor_call f.0 (trees_of (tree_of name set.sites) ps) (suc n)) s at_t there)
 
+  -- Tests ask no impure call.
   pub asked_is_pure : (i s : ℕ) → Asked R i s → R.effect s ≡ false
   asked_is_pure i s a =
       let (r, at) = asked_rule i s a in let (p, m) = made_rule name facts sources rules term set h i r at in

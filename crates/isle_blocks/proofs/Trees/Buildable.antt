@@ -1,5 +1,6 @@
 -- A tree can be built of each rule set, whatever terms its rules call.
-use Rattle.std.proofs.Common.{◌≡◌, ◌≢◌, ◌&&◌, inl, inr, ℕ, zero, suc, ◌<◌, true, List, [], ◌∷◌, ◌++◌, map, length, Option, Some, None, slice_get}
+use Rattle.std.proofs.Common.{◌≡◌, ◌≢◌, ◌&&◌, inl, inr, ℕ, zero, suc, ◌<◌, true, List, [], ◌∷◌, ◌++◌, map, length, Option, Some, None}
+use Rattle.std.proofs.Common.{slice_get}
 use Rattle.std.proofs.Common.{refl, ap, sym, subst, ◌∙◌, arith, Contains}
 use Rattle.std.specs.Set.{is_member}
 use Rattle.std.specs.Map.{keys_of}
@@ -28,7 +29,8 @@ use Rattle.isle_blocks.specs.SetLaws.{OfEachSet}
 use Rattle.isle_blocks.specs.Trees.Laws.{EachCanBeBuilt}
 use Rattle.isle_blocks.specs.RuleSets.{RulesOverSites}
 use Rattle.isle_blocks.specs.Rows.{IsInjective, numbers_of, rows_of}
-use Rattle.isle_blocks.specs.Trees.View.{id_of, read_or, test_at, has_loop, want_at, rule_joins, made_by, option_site, with_option, call_at, calls_at}
+use Rattle.isle_blocks.specs.Trees.View.{id_of, read_or, test_at, has_loop, want_at, rule_joins, made_by, option_site, with_option}
+use Rattle.isle_blocks.specs.Trees.View.{call_at, calls_at}
 use Rattle.isle_blocks.specs.Trees.View.{rules_of}
 use Rattle.isle_blocks.proofs.ClosedEqualities.{in_one, joined_at, set_long, members_once}
 use Rattle.isle_blocks.proofs.Closure.Trees.{at_below, get_row, one_number}
@@ -38,7 +40,8 @@ use Rattle.isle_blocks.proofs.Sets.GatheredRules.{zipped_back}
 use Rattle.isle_blocks.proofs.Sets.SetsOfTerms.{all_places}
 use Rattle.isle_blocks.proofs.Building.Naming.{name_by_injective}
 use Rattle.isle_blocks.proofs.Trees.Order.{same_is, same_itself, least_self, least_chain, least_both, least_either}
-use Rattle.isle_blocks.proofs.Trees.Reading.{read_some, read_true, want_test, want_one, found_test, found_loop, place_full, numbered, number_in}
+use Rattle.isle_blocks.proofs.Trees.Reading.{read_some, read_true, want_test, want_one, found_test, found_loop, place_full, numbered}
+use Rattle.isle_blocks.proofs.Trees.Reading.{number_in}
 use Rattle.isle_blocks.proofs.Trees.Reading.{elem_left, elem_right}
 use Rattle.isle_trees.specs.Ranking.{AreWithin}
 use Rattle.isle_trees.specs.Rules.{Want, has, one_value, Source, Rules, rights, Elem}

@@ -80,7 +80,8 @@ module _ (name : Sym → List ℕ) (facts : TermFacts) (sources : List source.Ru
   rule_placed i p e = zip_left Made h.is.places set.rules i p h.is.made e
 
   -- Allowed answers that cover a rule settle whether it matches.
-  pub settles : (c : Completion) (args : Values) → IsAllowed facts c → count args ≡ length h.runnable.types → (p : ℕ) (rule : TypedRule) → IsRuleOf rules term p rule
+  pub settles : (c : Completion) (args : Values) → IsAllowed facts c → count args ≡ length h.runnable.types → (p : ℕ) (rule : TypedRule)
+      → IsRuleOf rules term p rule
       → Covers facts c args rule → Settles facts c args rule
   settles c args allowed takes p rule is covers =
       let fit = h.runnable.fit p rule is.listed is.of_term in
@@ -182,7 +183,8 @@ module _ (name : Sym → List ℕ) (facts : TermFacts) (sources : List source.Ru
   -- A machine does as the walk.
   pub machine_walks : (left : List ℕ) (T : Steps Constraint) → Builds (rules_of name set) left nothing_known T → (c : Completion) (args : Values)
       → IsAllowed facts c → count args ≡ length h.runnable.types
-      → run (rules_of name set) (makes_of name set.sites facts c args []) T (λ s. None) ≡ walk (rules_of name set) (held_by name set.sites facts c args []) T
+      → run (rules_of name set) (makes_of name set.sites facts c args []) T (λ s. None)
+      ≡ walk (rules_of name set) (held_by name set.sites facts c args []) T
   machine_walks left T builds c args allowed takes =
       whole_run R left T (makes_of name set.sites facts c args []) (held_by name set.sites facts c args [])
       (well_made name facts sources rules term set h) (are_listed name facts sources rules term set h) builds

@@ -1,5 +1,6 @@
 -- Impure calls that a rule's sites have stand before them, and each once.
-use Rattle.std.proofs.Common.{◌≡◌, ◌⊎◌, inl, inr, ℕ, zero, suc, ◌<◌, ◌+◌, Bool, true, false, List, [], ◌∷◌, ◌++◌, length, map, Option, Some, None, slice_get, refl, ap, sym, subst}
+use Rattle.std.proofs.Common.{◌≡◌, ◌⊎◌, inl, inr, ℕ, zero, suc, ◌<◌, ◌+◌, Bool, true, false, List, [], ◌∷◌, ◌++◌, length, map, Option}
+use Rattle.std.proofs.Common.{Some, None, slice_get, refl, ap, sym, subst}
 use Rattle.std.proofs.Common.{◌∙◌, arith, append_assoc, append-nil}
 use Rattle.std.proofs.lemmas.Option.{same_Some, none-some}
 use Rattle.isle_types.specs.declared.ids.Sym.{Sym}
@@ -42,6 +43,7 @@ use Rattle.isle_blocks.proofs.Trees.WellMade.{made_rule}
 use Rattle.isle_blocks.proofs.Trees.Listed.{site_kinded}
 use Rattle.isle_blocks.proofs.Trees.Asked.{effect_site, tests_are_there, asked_is_pure}
 
+-- the option that an entry is the content of
 abbrev row_option : Row → Option ℕ
 row_option (bool_row b ty) = None
 row_option (int_row n ty) = None
@@ -58,6 +60,7 @@ row_option (make_some_row j) = None
 row_option (match_some_row j) = Some j
 row_option (match_tuple_row j i) = None
 
+-- it is the site's
 same_option : (name : Sym → List ℕ) (b : Binding) → row_option (row_of name b) ≡ option_site b
 same_option name (sites.ConstBool v t) = refl
 same_option name (sites.ConstInt v t) = refl
@@ -75,16 +78,19 @@ same_option name (sites.MatchSome a) = refl
 same_option name (sites.MatchTuple a i) = refl
 
 -- an item of a longer list was there, or is the last
-get_or_last : {A : Type 0} (xs : List A) (x : A) (j : ℕ) (y : A) → slice_get (xs ++ x ∷ []) j ≡ Some y → (slice_get xs j ≡ Some y) ⊎ ((x ≡ y) × (j ≡ length xs))
+get_or_last : {A : Type 0} (xs : List A) (x : A) (j : ℕ) (y : A) → slice_get (xs ++ x ∷ []) j ≡ Some y
+    → (slice_get xs j ≡ Some y) ⊎ ((x ≡ y) × (j ≡ length xs))
 get_or_last [] x zero y e = inr (same_Some x y e, refl)
 get_or_last [] x (suc j) y e = absurd (none-some y e)
 get_or_last (z ∷ xs) x zero y e = inl e
 get_or_last (z ∷ xs) x (suc j) y e = elim (get_or_last xs x j y e) [ inl p ↦ inl p | inr p ↦ inr (p.0, ap suc (p.1)) ]
 
+-- At the length nothing stands.
 pub slice_get_past : {A : Type 0} (xs : List A) → slice_get xs (length xs) ≡ None
 slice_get_past [] = refl
 slice_get_past (x ∷ xs) = slice_get_past xs
 
+-- what stands somewhere stands below the length
 get_below : {A : Type 0} (xs : List A) (j : ℕ) (x : A) → slice_get xs j ≡ Some x → j < length xs
 get_below [] j x e = absurd (none-some x e)
 get_below (y ∷ xs) zero x e = omega arith
@@ -92,22 +98,28 @@ get_below (y ∷ xs) (suc j) x e = let l = get_below xs j x e in omega arith
 
 module _ (name : Sym → List ℕ) (facts : TermFacts) (sources : List source.Rule) (rules : List TypedRule) (term : ℕ) (set : RulesOverSites)
     (h : IsRunnableSet name facts sources rules term set) where
+  -- the entries of the set's sites
   abbrev rows : List Row
   rows = rows_of name set.sites
 
+  -- the set as trees see it
   abbrev R : Rules Constraint Held
   R = rules_of name set
 
+  -- what a rule is made of
   abbrev Made : ℕ → Rule → Type 0
   Made p r = IsMadeAt name facts sources rules term set.sites p r
 
   -- what is a part at any depth has the same
-  part_effects : (Q : Site → Type 0) (ns : List ℕ) → ((u : ℕ) → Elem u ns → (t : Site) × At rows t u × ImpureCallsAre Q t) → (x : ℕ) → IsPartOf R ns x
+  part_effects : (Q : Site → Type 0) (ns : List ℕ) → ((u : ℕ) → Elem u ns → (t : Site) × At rows t u × ImpureCallsAre Q t) → (x : ℕ)
+      → IsPartOf R ns x
       → (t : Site) × At rows t x × ImpureCallsAre Q t
   part_effects Q ns f _ (itself s m) = f s m
-  part_effects Q ns f _ (of_part s p i m) = pass_on name set.sites (ImpureCallsAre Q) (part_of (λ (u : Site). IsImpureCall u → Q u)) s p (part_effects Q ns f s i) m
+  part_effects Q ns f _ (of_part s p i m) =
+      pass_on name set.sites (ImpureCallsAre Q) (part_of (λ (u : Site). IsImpureCall u → Q u)) s p (part_effects Q ns f s i) m
 
   module _ (vars : ℕ → Site) (pure : (k : ℕ) → IsPure (vars k)) where
+    -- a call of one of these steps
     abbrev Called : List Step → Site → Type 0
     Called steps t = IsCallOf facts vars steps t
 
@@ -124,12 +136,14 @@ module _ (name : Sym → List ℕ) (facts : TermFacts) (sources : List source.Ru
         let call = constructor_call f ss (suc n) in
         let (j, s, get, same) = subst (ImpureCallsAre (Called before)) q ok call (whole call) tt in
         let (a, at_a, inside) = is.all j s get in
-        let one : a ≡ x = one_number name set.sites h.injective h.is.table (call_of facts vars s) a x at_a (subst (λ (z : Site). At rows z x) (q ∙ same) at) in
+        let one : a ≡ x =
+        one_number name set.sites h.injective h.is.table (call_of facts vars s) a x at_a (subst (λ (z : Site). At rows z x) (q ∙ same) at) in
         subst (λ (z : ℕ). Elem z seen) one inside
 
     -- parts of what has such parts are seen
     parts_seen : (before : List Step) (seen : List ℕ) → IsSeen before seen → (t : Site) (u : ℕ) → At rows t u
-        → ((w : Site) → IsOneOf (parts_of t) w → ImpureCallsAre (Called before) w) → (x : ℕ) → IsPartOf R (R.parts u) x → R.effect x ≡ true → Elem x seen
+        → ((w : Site) → IsOneOf (parts_of t) w → ImpureCallsAre (Called before) w) → (x : ℕ) → IsPartOf R (R.parts u) x → R.effect x ≡ true
+        → Elem x seen
     parts_seen before seen is t u at f x i e =
         seen_effect before seen is x (part_effects (Called before) (R.parts u) (λ p m.
         let (w, inside, there) = in_all rows (parts_of t) (R.parts u) p (parts_stand name set.sites t u at) m in (w, there, f w inside)) x i) e
@@ -152,6 +166,7 @@ module _ (name : Sym → List ℕ) (facts : TermFacts) (sources : List source.Ru
           let l = get_below before j t get in
           absurd (omega arith)
 
+      -- with it more is seen
       grown : (more : List ℕ) → ((x : ℕ) → Elem x more → R.effect x ≡ true → Elem x (a ∷ seen)) → ((x : ℕ) → Elem x (a ∷ seen) → Elem x more)
           → IsSeen (before ++ s ∷ []) more
       grown more f g = record {
@@ -165,15 +180,18 @@ module _ (name : Sym → List ℕ) (facts : TermFacts) (sources : List source.Ru
         ];
       }
 
+      -- its own impure calls are those of the steps and itself
       call_effects : ImpureCallsAre (Called (before ++ s ∷ [])) (call_of facts vars s)
       call_effects = of_whole (λ (u : Site). IsImpureCall u → Called (before ++ s ∷ []) u) (call_of facts vars s)
           (λ i. (length before, s, get_last before s, refl))
           (λ u m x k i. let (j, t, get, e) = words_steps facts vars pure before s.args cites u m x k i in
           (j, t, get_append before (s ∷ []) j t get, e))
 
+    -- the option that a number is the content of, by its entry
     option_at : (id : BindingId) (row : Row) → slice_get rows id.0 ≡ Some row → read_or None option_site (slice_get set.sites id.0) ≡ row_option row
     option_at id row e = let (b, at, is) = get_row name set.sites id.0 row e in rw at (sym (same_option name b) ∙ ap row_option is)
 
+    -- what a result has is seen
     last_seen : (before : List Step) (seen : List ℕ) → IsSeen before seen → (r : ℕ) (t : Site) → At rows t r → ImpureCallsAre (Called before) t
         → (x : ℕ) → IsPartOf R (r ∷ []) x → R.effect x ≡ true → Elem x seen
     last_seen before seen is r t at ok x i e =
@@ -182,14 +200,17 @@ module _ (name : Sym → List ℕ) (facts : TermFacts) (sources : List source.Ru
           | inr z ↦ absurd z
         ]) x i) e
 
+    -- a content is no impure call
     not_content : (s : Site) (x : ℕ) → At rows (match_some s) x → R.effect x ≡ true → ⊥
     not_content s x at e = let (f, ss, n, q) = effect_site name facts sources rules term set h (match_some s) x at e in cc
 
     -- the rest of the steps, by the call's answer
     module _ (r : ℕ) (t : Site) (at_r : At rows t r) where
+      -- the rest of the calls are listed so
       Rest : List Step → List BindingId → Type 0
       Rest before ids = (seen : List ℕ) → IsSeen before seen → EffectsFirst R r seen (calls_at set.sites ids)
 
+      -- a step's call, and its content where it has one
       one_step : (m b : Bool) (before : List Step) (seen : List ℕ) → IsSeen before seen → (s : Step) → s.place ≡ length before → Placed 0 before
           → CitesAll before s.args → (id : BindingId) (ids : List BindingId) → At rows (answer_site m b (call_of facts vars s)) id.0
           → ((more : List ℕ) → IsSeen (before ++ s ∷ []) more → EffectsFirst R r more (calls_at set.sites ids))
@@ -227,7 +248,9 @@ module _ (name : Sym → List ℕ) (facts : TermFacts) (sources : List source.Ru
             ),
           )
 
-      all_steps : (steps before : List Step) (ids : List BindingId) (seen : List ℕ) → IsSeen before seen → Placed 0 before → Placed (length before) steps
+      -- so all steps' calls
+      all_steps : (steps before : List Step) (ids : List BindingId) (seen : List ℕ) → IsSeen before seen → Placed 0 before
+          → Placed (length before) steps
           → Causal before steps → StandEach rows ids (map (step_site facts vars) steps) → ImpureCallsAre (Called (before ++ steps)) t
           → EffectsFirst R r seen (calls_at set.sites ids)
       all_steps [] before [] seen is p q c st ok =
@@ -261,11 +284,13 @@ module _ (name : Sym → List ℕ) (facts : TermFacts) (sources : List source.Ru
           let m' : Elem p (R.parts n) = subst (λ (z : ℕ). Elem p (R.parts z)) same m in
           absurd (subst (λ (o : Option Binding). Elem p (read_or [] (λ (b : Binding). numbers_of (sources_of b)) o)) none m')
 
+  -- impure calls stand before what is made of them
   effects_first : (i : ℕ) → EffectsFirst R (R.result i) [] (R.calls i)
   effects_first i = elim (none_or (slice_get set.rules i)) [
     | inl none ↦
         let past : slice_get set.sites (length set.sites) ≡ None = slice_get_past set.sites in
-        subst (λ (o : Option Rule). EffectsFirst R (read_or (length set.sites) (λ (k : Rule). k.result.0) o) [] (read_or [] (λ (k : Rule). calls_at set.sites k.impure) o))
+        subst (λ (o : Option Rule). EffectsFirst R (read_or (length set.sites) (λ (k : Rule). k.result.0) o) []
+        (read_or [] (λ (k : Rule). calls_at set.sites k.impure) o))
         (sym none) (λ x i e. absurd (past_effects (length set.sites) past x i e))
     | inr there ↦
         let (r, at) = there in
@@ -277,11 +302,13 @@ module _ (name : Sym → List ℕ) (facts : TermFacts) (sources : List source.Ru
         let ok : ImpureCallsAre (IsCallOf facts vars (steps_of facts rule.right)) (result_of facts (facts.partial rule.root) rule) =
         some_effects (IsCallOf facts vars (steps_of facts rule.right)) (facts.partial rule.root) (site_of facts vars (word_of facts rule.right))
         (word_steps facts vars pure (steps_of facts rule.right) (word_of facts rule.right) (causal.1)) in
-        subst (λ (o : Option Rule). EffectsFirst R (read_or (length set.sites) (λ (k : Rule). k.result.0) o) [] (read_or [] (λ (k : Rule). calls_at set.sites k.impure) o))
+        subst (λ (o : Option Rule). EffectsFirst R (read_or (length set.sites) (λ (k : Rule). k.result.0) o) []
+        (read_or [] (λ (k : Rule). calls_at set.sites k.impure) o))
         (sym at) (all_steps vars pure r.result.0 (result_of facts (facts.partial rule.root) rule) m.value (steps_of facts rule.right) [] r.impure []
         (record { all = λ j s get. absurd (none-some s get); only = λ x k e. absurd k }) tt (steps_placed facts rule.right) (causal.0) m.effects ok)
   ]
 
+  -- What tests ask has its tests and no impure call, and impure calls come first.
   pub is_single : IsSingle (rules_of name set)
   is_single = record {
     tested = tests_are_there name facts sources rules term set h;

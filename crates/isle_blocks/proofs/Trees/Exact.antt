@@ -15,16 +15,19 @@ use Rattle.isle_trees.proofs.Basics.{and_both, both_and}
 use Rattle.isle_blocks.specs.Trees.Compare.{same_name, same_bool, same_value, same_values, same_answers, same_held, meets}
 use Rattle.isle_blocks.specs.Trees.View.{tests_by}
 
+-- truth values that are the same are one
 bool_sound : (a b : Bool) → same_bool a b ≡ true → a ≡ b
 bool_sound true true e = refl
 bool_sound true false e = absurd cc
 bool_sound false true e = absurd cc
 bool_sound false false e = refl
 
+-- each is the same as itself
 bool_self : (a : Bool) → same_bool a a ≡ true
 bool_self true = refl
 bool_self false = refl
 
+-- so are names
 name_sound : (xs ys : List ℕ) → same_name xs ys ≡ true → xs ≡ ys
 name_sound [] [] e = refl
 name_sound [] (y ∷ ys) e = absurd cc
@@ -32,6 +35,7 @@ name_sound (x ∷ xs) [] e = absurd cc
 name_sound (x ∷ xs) (y ∷ ys) e =
     let h = and_both (x == y) (same_name xs ys) e in let p : x ≡ y = eqb-true x y (h.0) in let q = name_sound xs ys (h.1) in cc
 
+-- each is the same as itself
 name_self : (xs : List ℕ) → same_name xs xs ≡ true
 name_self [] = refl
 name_self (x ∷ xs) = both_and (x == x) (same_name xs xs) (eq-eqb x x refl) (name_self xs)
@@ -51,6 +55,7 @@ mutual
       let p : ty ≡ uy = eqb-true ty uy (h.0) in let r = values_sound xs ys (h.1) in cc
   value_sound x y e = absurd cc
 
+  -- so are lists of values
   values_sound : (xs ys : Values) → same_values xs ys ≡ true → xs ≡ ys
   values_sound no_values no_values e = refl
   values_sound no_values (more_values y ys) e = absurd cc
@@ -68,10 +73,12 @@ mutual
       both_and (ty == ty) ((k == k) && same_values xs xs) (eq-eqb ty ty refl) (both_and (k == k) (same_values xs xs) (eq-eqb k k refl) (values_self xs))
   value_self (made_struct ty xs) = both_and (ty == ty) (same_values xs xs) (eq-eqb ty ty refl) (values_self xs)
 
+  -- so is each list
   values_self : (xs : Values) → same_values xs xs ≡ true
   values_self no_values = refl
   values_self (more_values x xs) = both_and (same_value x x) (same_values xs xs) (value_self x) (values_self xs)
 
+-- so are the answers of multi calls
 answers_sound : (xs ys : List Values) → same_answers xs ys ≡ true → xs ≡ ys
 answers_sound [] [] e = refl
 answers_sound [] (y ∷ ys) e = absurd cc
@@ -79,10 +86,12 @@ answers_sound (x ∷ xs) [] e = absurd cc
 answers_sound (x ∷ xs) (y ∷ ys) e =
     let h = and_both (same_values x y) (same_answers xs ys) e in let p = values_sound x y (h.0) in let q = answers_sound xs ys (h.1) in cc
 
+-- each are the same as themselves
 answers_self : (xs : List Values) → same_answers xs xs ≡ true
 answers_self [] = refl
 answers_self (x ∷ xs) = both_and (same_values x x) (same_answers xs xs) (values_self x) (answers_self xs)
 
+-- What is held is one where it is the same.
 pub held_sound : (x y : Held) → same_held x y ≡ true → x ≡ y
 held_sound (held_value x) (held_value y) e = ap held_value (value_sound x y e)
 held_sound (held_outputs x) (held_outputs y) e = ap held_outputs (values_sound x y e)
@@ -91,6 +100,7 @@ held_sound (held_some x) (held_some y) e = ap held_some (held_sound x y e)
 held_sound (held_answers x) (held_answers y) e = ap held_answers (answers_sound x y e)
 held_sound x y e = absurd cc
 
+-- Each is the same as itself.
 pub held_self : (x : Held) → same_held x x ≡ true
 held_self (held_value x) = value_self x
 held_self (held_outputs x) = values_self x
@@ -98,6 +108,7 @@ held_self held_none = refl
 held_self (held_some x) = held_self x
 held_self (held_answers x) = answers_self x
 
+-- Tests and what is held are compared exactly.
 pub are_exact : (name : Sym → List ℕ) → AreExact (tests_by name)
 are_exact name = record {
   same = λ c d e. (constraint-decides c d).0 e;

@@ -1,5 +1,6 @@
 -- What is looked up for a test that a rule has.
-use Rattle.std.proofs.Common.{◌≡◌, inl, inr, ℕ, zero, suc, ◌<◌, Bool, true, List, [], ◌∷◌, map, Option, Some, None, slice_get, refl, ap, sym, subst, ◌∙◌, arith}
+use Rattle.std.proofs.Common.{◌≡◌, inl, inr, ℕ, zero, suc, ◌<◌, Bool, true, List, [], ◌∷◌, map, Option, Some, None, slice_get, refl}
+use Rattle.std.proofs.Common.{ap, sym, subst, ◌∙◌, arith}
 use Rattle.std.proofs.Common.{◌==◌, eq-eqb, eqb-true}
 use Rattle.std.specs.Prelude.{nat_lt}
 use Rattle.std.proofs.lemmas.Bool.Decides.{nat_tests}
@@ -84,7 +85,8 @@ module _ (name : Sym → List ℕ) (facts : TermFacts) (sources : List source.Ru
       → Elem b (bindings_made c (id_of s)) → made_by set.rules b ≡ Some (record { site = s; want = has c })
   made_so i r s (tests.Variant ty v n) at t b m =
       let (f, l, e) = below_elem (variant_field (id_of s) v) n.0 b m in
-      let o : opens_field (Some v.0) f (tests.Variant ty v n) ≡ true = both_and (v.0 == v.0) (nat_lt f n.0) (eq-eqb v.0 v.0 refl) (grind (arith, nat_tests)) in
+      let o : opens_field (Some v.0) f (tests.Variant ty v n) ≡ true =
+      both_and (v.0 == v.0) (nat_lt f n.0) (eq-eqb v.0 v.0 refl) (grind (arith, nat_tests)) in
       let is = opening_is name facts sources rules term set h i r s (Some v.0) f (tests.Variant ty v n) at t o in
       ap (made_by set.rules) e ∙ ap (λ (d : Constraint). Some (record { site = s; want = has d })) is
   made_so i r s (tests.Struct ty n) at t b m =
@@ -119,4 +121,5 @@ module _ (name : Sym → List ℕ) (facts : TermFacts) (sources : List source.Ru
       let (x, stands) = m.stand.fields u (field_site kind u f) (field_of_test name (DemandOf facts m.reached.rule) kind f c u o du) in
       let (a, there, at_a) = at_field name set.sites h.injective kind u f x stands in
       let same : a ≡ s = one_number name set.sites h.injective h.is.table u a s at_a at_u in
-      (x, place_found (field_binding kind s f) set.sites x h.is.table.once (subst (λ (z : ℕ). slice_get set.sites x ≡ Some (field_binding kind z f)) same there))
+      let here = subst (λ (z : ℕ). slice_get set.sites x ≡ Some (field_binding kind z f)) same there in
+      (x, place_found (field_binding kind s f) set.sites x h.is.table.once here)

@@ -1,5 +1,6 @@
 -- What the rule sets of runnable terms list, and the tests of what they ask.
-use Rattle.std.proofs.Common.{◌≡◌, inl, inr, ℕ, zero, suc, ◌<◌, true, false, List, [], ◌∷◌, map, Option, Some, None, slice_get, refl, ap, sym, subst}
+use Rattle.std.proofs.Common.{◌≡◌, inl, inr, ℕ, zero, suc, ◌<◌, true, false, List, [], ◌∷◌, map, Option, Some, None, slice_get, refl}
+use Rattle.std.proofs.Common.{ap, sym, subst}
 use Rattle.std.proofs.Common.{◌∙◌, ◌==◌, arith, eqb-true, eq-eqb}
 use Rattle.std.specs.Prelude.{nat_lt}
 use Rattle.std.proofs.lemmas.Bool.Decides.{nat_tests}
@@ -34,11 +35,13 @@ use Rattle.isle_trees.specs.Reads.{IsListed}
 use Rattle.isle_trees.specs.Scopes.{is_source}
 use Rattle.isle_trees.proofs.Basics.{none_or, and_both, both_and, eq_or, by_made, made_by as source_made}
 use Rattle.isle_blocks.specs.ClosureFields.{field_binding}
-use Rattle.isle_blocks.specs.Trees.View.{id_of, test_at, has_loop, want_at, made_by, opening, any_opening, first_opening, opens_field, place_of, tests_by, made_at, field_of, rules_of}
+use Rattle.isle_blocks.specs.Trees.View.{id_of, test_at, has_loop, want_at, made_by, opening, any_opening, first_opening, opens_field}
+use Rattle.isle_blocks.specs.Trees.View.{place_of, tests_by, made_at, field_of, rules_of}
 use Rattle.isle_blocks.specs.Trees.SiteTrees.{tree_of}
 use Rattle.isle_blocks.specs.Trees.Premises.{IsRunnableSet}
 use Rattle.isle_meaning.specs.Kinds.{IsKinded, HasItsFields, IsKindedDemand}
-use Rattle.isle_blocks.proofs.Trees.Reading.{read_some, want_one, place_sound, place_found, opening_found, opening_there, keep_some, keep_full, elem_map, map_elem, elem_left, elem_right}
+use Rattle.isle_blocks.proofs.Trees.Reading.{read_some, want_one, place_sound, place_found, opening_found, opening_there, keep_some}
+use Rattle.isle_blocks.proofs.Trees.Reading.{keep_full, elem_map, map_elem, elem_left, elem_right}
 use Rattle.isle_blocks.proofs.Trees.Standing.{part_at}
 use Rattle.isle_meaning.proofs.Sites.DerivedKinds.{rules_are_kinded}
 use Rattle.isle_blocks.proofs.Trees.WellMade.{made_rule, kinds_of, derived_test, suits_of, no_loops, well_made}
@@ -60,6 +63,7 @@ module _ (name : Sym → List ℕ) (facts : TermFacts) (tys : List ℕ) (t : Sit
       let many : n.0 ≡ m.0 = cc in cc
   same_opening kind i c d e f p q a b = absurd cc
 
+-- A test of a variant opens its fields.
 pub variant_opens : (name : Sym → List ℕ) (c : Constraint) (ty k n i : ℕ) → test_of name c ≡ variant_constraint ty k n → i < n
     → opens_field (Some k) i c ≡ true
 variant_opens name (tests.Variant uy v m) ty k n i e l =
@@ -71,6 +75,7 @@ variant_opens name (tests.ConstInt v uy) ty k n i e l = absurd cc
 variant_opens name (tests.ConstPrim v) ty k n i e l = absurd cc
 variant_opens name tests.Some ty k n i e l = absurd cc
 
+-- One of a struct opens its fields.
 pub struct_opens : (name : Sym → List ℕ) (c : Constraint) (ty n i : ℕ) → test_of name c ≡ struct_constraint ty n → i < n
     → opens_field None i c ≡ true
 struct_opens name (tests.Variant uy v m) ty n i e l = absurd cc
@@ -80,6 +85,7 @@ struct_opens name (tests.ConstInt v uy) ty n i e l = absurd cc
 struct_opens name (tests.ConstPrim v) ty n i e l = absurd cc
 struct_opens name tests.Some ty n i e l = absurd cc
 
+-- One of an option is that test.
 pub some_is : (name : Sym → List ℕ) (c : Constraint) → test_of name c ≡ some_constraint → c ≡ tests.Some
 some_is name (tests.Variant uy v m) e = absurd cc
 some_is name (tests.Struct uy m) e = absurd cc
@@ -88,6 +94,7 @@ some_is name (tests.ConstInt v uy) e = absurd cc
 some_is name (tests.ConstPrim v) e = absurd cc
 some_is name tests.Some e = refl
 
+-- a field below the number is among them
 elem_below : (g : ℕ → Binding) (n i : ℕ) → i < n → Elem (g i) (fields_below g n)
 elem_below g zero i l = absurd (omega arith)
 elem_below g (suc n) i l = elim (eq_or i n) [
@@ -95,6 +102,7 @@ elem_below g (suc n) i l = elim (eq_or i n) [
   | inr e ↦ elem_left (g i) (fields_below g n) (g n ∷ []) (elem_below g n i (omega arith))
 ]
 
+-- What is said to open a field does.
 pub opening_opens : (rules : List Rule) (kind : Option ℕ) (s i : ℕ) → opens_field kind i (opening rules kind s i) ≡ true
 opening_opens rules kind s i = elim (none_or (first_opening kind i s rules)) [
   | inl e ↦ rw e (any_opens kind i)
@@ -115,6 +123,7 @@ opens_made (Some k) s i (tests.Variant ty v n) e =
 opens_made None s i (tests.Struct ty n) e = elem_below (struct_field (id_of s)) n.0 i (grind (arith, nat_tests))
 opens_made kind s i c e = absurd cc
 
+-- what a test makes is among what it makes
 made_in : (rules : List Rule) (b : Binding) (s : ℕ) (c : Constraint) → made_by rules b ≡ Some (record { site = s; want = has c })
     → Elem b (bindings_made c (id_of s))
 made_in rules (sites.MatchVariant a v i) s c e =
@@ -143,12 +152,15 @@ made_in rules b s c e = absurd cc
 
 module _ (name : Sym → List ℕ) (facts : TermFacts) (sources : List source.Rule) (rules : List TypedRule) (term : ℕ) (set : RulesOverSites)
     (h : IsRunnableSet name facts sources rules term set) where
+  -- the entries of the set's sites
   abbrev rows : List Row
   rows = rows_of name set.sites
 
+  -- the set as trees see it
   abbrev R : Rules Constraint Held
   R = rules_of name set
 
+  -- what a rule is made of
   abbrev Made : ℕ → Rule → Type 0
   Made p r = IsMadeAt name facts sources rules term set.sites p r
 
@@ -180,6 +192,7 @@ module _ (name : Sym → List ℕ) (facts : TermFacts) (sources : List source.Ru
       site_kinded (iterator (tree_of name set.sites a.0)) k
       (a.0, row_get name set.sites k _ e, part_at name set.sites is.table k (sites.Iterator a) a e (0, omega arith, refl))
 
+  -- No rule uses a multi call.
   pub uses_no_multi : (left : List ℕ) → UsesNoMulti R left
   uses_no_multi left i s m e =
       let (r, at, w) = read_some (want_at s) (slice_get set.rules i) one_value e in
@@ -215,7 +228,9 @@ module _ (name : Sym → List ℕ) (facts : TermFacts) (sources : List source.Ru
 
   -- ---- what is listed
 
-  not_taken : (x : ℕ) (b : Binding) (s : ℕ) → slice_get set.sites x ≡ Some b → made_by set.rules b ≡ Some (record { site = s; want = one_value }) → ⊥
+  -- no site is made by taking one value
+  not_taken : (x : ℕ) (b : Binding) (s : ℕ) → slice_get set.sites x ≡ Some b
+      → made_by set.rules b ≡ Some (record { site = s; want = one_value }) → ⊥
   not_taken x (sites.Iterator a) s at e = no_iterator x a at
   not_taken x (sites.MatchVariant a v i) s at e =
       let w : has (opening set.rules (Some v.0) a.0 i.0) ≡ one_value = ap (λ (m : Source Constraint). m.want) (same_Some _ _ e) in cc
@@ -225,6 +240,7 @@ module _ (name : Sym → List ℕ) (facts : TermFacts) (sources : List source.Ru
       let w : has tests.Some ≡ one_value = ap (λ (m : Source Constraint). m.want) (same_Some _ _ e) in cc
   not_taken x b s at e = cc
 
+  -- The fields of each test are listed.
   pub are_listed : IsListed R
   are_listed =
       let well = well_made name facts sources rules term set h in

@@ -153,7 +153,8 @@ module _ (name : Sym → List ℕ) (facts : TermFacts) (sources : List source.Ru
     closed_matches f = record { wants = want_met f; equals = equal_met f }
 
     -- A rule of the set matches exactly where its typed rule does.
-    pub matches_as_typed : Settles facts c args m.reached.rule → Matches R (held_by name set.sites facts c args []) i ↔ matching.Matches facts c args m.reached.rule
+    pub matches_as_typed : Settles facts c args m.reached.rule
+        → Matches R (held_by name set.sites facts c args []) i ↔ matching.Matches facts c args m.reached.rule
     matches_as_typed settles =
         let law = matches_by_closed facts h.runnable.types c args m.reached.rule (fit_of name facts sources rules term set h p r m) settles in
         (λ w. law.1 (holds_closed w), λ w. closed_matches (law.0 w))

@@ -1,5 +1,6 @@
 -- What is read of a rule set.
-use Rattle.std.proofs.Common.{◌≡◌, ◌⊎◌, inl, inr, ℕ, zero, suc, Bool, true, false, List, [], ◌∷◌, ◌++◌, map, Option, Some, None, slice_get, refl, ap, sym, subst}
+use Rattle.std.proofs.Common.{◌≡◌, ◌⊎◌, inl, inr, ℕ, zero, suc, Bool, true, false, List, [], ◌∷◌, ◌++◌, map, Option, Some, None}
+use Rattle.std.proofs.Common.{slice_get, refl, ap, sym, subst}
 use Rattle.std.proofs.Common.{◌∙◌, eqb-true, arith}
 use Rattle.std.specs.Prelude.{Contains, if◌then◌else◌}
 use Rattle.std.specs.BTreeMap.{is_at}
@@ -23,7 +24,8 @@ use Rattle.isle_blocks.proofs.ClosedRules.{same_id}
 use Rattle.isle_blocks.proofs.EqualSites.{binding-decides}
 use Rattle.isle_trees.specs.Rules.{has, one_value, Elem}
 use Rattle.isle_trees.proofs.Basics.{true_or, none_or}
-use Rattle.isle_blocks.specs.Trees.View.{id_of, same_binding, read_or, or_else, keep, test_at, has_loop, want_or, place_of, opens_field, first_opening}
+use Rattle.isle_blocks.specs.Trees.View.{id_of, same_binding, read_or, or_else, keep, test_at, has_loop, want_or, place_of}
+use Rattle.isle_blocks.specs.Trees.View.{opens_field, first_opening}
 
 -- What is read is read of something.
 pub read_some : {A B : Type 0} (f : A → Option B) (o : Option A) (y : B) → read_or None f o ≡ Some y → (x : A) × (o ≡ Some x) × (f x ≡ Some y)

@@ -1,5 +1,6 @@
 -- Numbers of a table stand for their trees.
-use Rattle.std.proofs.Common.{◌≡◌, inl, inr, ℕ, zero, suc, ◌<◌, List, [], ◌∷◌, Option, Some, slice_get, refl, ap, sym, subst, ◌∙◌, arith, Contains}
+use Rattle.std.proofs.Common.{◌≡◌, inl, inr, ℕ, zero, suc, ◌<◌, List, [], ◌∷◌, Option, Some, slice_get, refl, ap, sym, subst, ◌∙◌}
+use Rattle.std.proofs.Common.{arith, Contains}
 use Rattle.std.proofs.lemmas.Option.{slice_get_within, slice_get_cases}
 use Rattle.isle_types.specs.declared.ids.Sym.{Sym}
 use Rattle.isle_meaning.specs.Sites.{Site, bool_site, int_site, prim_site, argument, extractor_call, constructor_call, iterator}
@@ -21,6 +22,7 @@ use Rattle.isle_blocks.specs.Trees.View.{read_or}
 use Rattle.isle_meaning.specs.Parts.{parts_of, IsOneOf}
 use Rattle.isle_blocks.specs.Trees.SiteTrees.{trees_of, tree_from, tree_to, tree_of}
 
+-- the parts of an entry
 abbrev pub row_parts : Row → List ℕ
 row_parts (bool_row b ty) = []
 row_parts (int_row n ty) = []
@@ -37,6 +39,7 @@ row_parts (make_some_row j) = j ∷ []
 row_parts (match_some_row j) = j ∷ []
 row_parts (match_tuple_row j i) = j ∷ []
 
+-- they are the site's
 same_parts : (name : Sym → List ℕ) (b : Binding) → row_parts (row_of name b) ≡ numbers_of (sources_of b)
 same_parts name (sites.ConstBool v t) = refl
 same_parts name (sites.ConstInt v t) = refl
@@ -53,6 +56,7 @@ same_parts name (sites.MakeSome a) = refl
 same_parts name (sites.MatchSome a) = refl
 same_parts name (sites.MatchTuple a i) = refl
 
+-- Each of some numbers stands for one of the sites.
 pub in_all : (table : List Row) (ss : Sites) (ks : List ℕ) (p : ℕ) → AtAll table ss ks → Elem p ks → (u : Site) × IsOneOf ss u × At table u p
 in_all table no_sites [] p h m = absurd m
 in_all table no_sites (k ∷ ks) p h m = absurd h
@@ -61,12 +65,15 @@ in_all table (more_sites s ss) (k ∷ ks) p h (inl e) = (s, inl refl, subst (At 
 in_all table (more_sites s ss) (k ∷ ks) p h (inr m) = let (u, i, q) = in_all table ss ks p (h.1) m in (u, inr i, q)
 
 module _ (name : Sym → List ℕ) (table : List Binding) where
+  -- the table's entries
   abbrev rows : List Row
   rows = rows_of name table
 
+  -- the parts of a number
   abbrev parts_at : ℕ → List ℕ
   parts_at k = read_or [] (λ (b : Binding). numbers_of (sources_of b)) (slice_get table k)
 
+  -- they are its entry's
   parts_by : (k : ℕ) (row : Row) → slice_get rows k ≡ Some row → parts_at k ≡ row_parts row
   parts_by k row e = let (b, at, is) = get_row name table k row e in rw at (sym (same_parts name b) ∙ ap row_parts is)
 
@@ -94,12 +101,15 @@ module _ (name : Sym → List ℕ) (table : List Binding) where
       let (s, at, ok) = h in let (u, i, there) = in_all rows (parts_of s) (parts_at k) p (parts_stand s k at) m in (u, there, f s u ok i)
 
   module _ (tree : ℕ → Site) where
+    -- numbers stand for the trees of parts that do
     all_at : (parts : List BindingId) → ((part : BindingId) → Contains parts part → At rows (tree part.0) part.0)
         → AtAll rows (trees_of tree parts) (numbers_of parts)
     all_at [] each = tt
     all_at (x ∷ xs) each = (each x (0, omega arith, refl), all_at xs (λ y h. each y (suc h.0, omega (arith, h.1), h.2)))
 
-    pub from_at : (k : ℕ) (b : Binding) → slice_get table k ≡ Some b → ((part : BindingId) → Contains (sources_of b) part → At rows (tree part.0) part.0)
+    -- A number stands for the tree of its entry, of its parts' trees.
+    pub from_at : (k : ℕ) (b : Binding) → slice_get table k ≡ Some b
+        → ((part : BindingId) → Contains (sources_of b) part → At rows (tree part.0) part.0)
         → At rows (tree_from name tree (Some b)) k
     from_at k (sites.ConstBool v t) e each = row_get name table k _ e
     from_at k (sites.ConstInt v t) e each = row_get name table k _ e
@@ -117,6 +127,7 @@ module _ (name : Sym → List ℕ) (table : List Binding) where
     from_at k (sites.MatchTuple a i) e each = (a.0, row_get name table k _ e, each a (0, omega arith, refl))
 
   module _ (ok : IsTable table) where
+    -- a number stands for its tree, to a depth
     tree_stands : (n k : ℕ) (b : Binding) → k < n → slice_get table k ≡ Some b → At rows (tree_to name table n k) k
     tree_stands zero k b l e = absurd (omega arith)
     tree_stands (suc n) k b l e =
@@ -129,9 +140,11 @@ module _ (name : Sym → List ℕ) (table : List Binding) where
         ]) in
         subst (λ (o : Option Binding). At rows (tree_from name (tree_to name table n) o) k) (sym e) here
 
+    -- A number stands for its tree.
     pub tree_at : (k : ℕ) (b : Binding) → slice_get table k ≡ Some b → At rows (tree_of name table k) k
     tree_at k b e = tree_stands (suc k) k b (omega arith) e
 
+    -- So does each part.
     pub part_at : (k : ℕ) (b : Binding) (part : BindingId) → slice_get table k ≡ Some b → Contains (sources_of b) part
         → At rows (tree_of name table part.0) part.0
     part_at k b part e inside =
@@ -148,6 +161,7 @@ module _ (name : Sym → List ℕ) (table : List Binding) where
         one_site rows (tree_of name table k) (tree_from name (tree_of name table) (Some b)) k (tree_at k b e)
         (from_at (tree_of name table) k b e (λ part inside. part_at k b part e inside))
 
+    -- It stands for no other site.
     pub tree_one : (s : Site) (k : ℕ) → At rows s k → tree_of name table k ≡ s
     tree_one s k at =
         let l = at_below name table s k at in

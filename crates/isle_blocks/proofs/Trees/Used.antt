@@ -1,5 +1,6 @@
 -- What a rule has, has its tests, contents of constructors' calls aside.
-use Rattle.std.proofs.Common.{◌≡◌, ◌⊎◌, inl, inr, ℕ, Bool, true, false, List, [], ◌∷◌, ◌++◌, length, Option, Some, None, slice_get, refl, ap, sym, subst, ◌∙◌}
+use Rattle.std.proofs.Common.{◌≡◌, ◌⊎◌, inl, inr, ℕ, Bool, true, false, List, [], ◌∷◌, ◌++◌, length, Option, Some, None, slice_get}
+use Rattle.std.proofs.Common.{refl, ap, sym, subst, ◌∙◌}
 use Rattle.std.proofs.Common.{arith}
 use Rattle.std.proofs.lemmas.Option.{same_Some, none-some}
 use Rattle.isle_types.specs.declared.ids.Sym.{Sym}
@@ -34,7 +35,8 @@ use Rattle.isle_trees.proofs.Basics.{none_or}
 use Rattle.isle_blocks.specs.Trees.View.{read_or, option_site, is_constructor, with_option, call_at, calls_at, made_by, rules_of}
 use Rattle.isle_meaning.specs.Parts.{parts_of, IsOneOf}
 use Rattle.isle_blocks.specs.Trees.SiteTrees.{tree_of}
-use Rattle.isle_meaning.proofs.Sites.OwnTests.{HasTest, HasTests, IsConstructor, own_test, part_tests, tested_has, tested_part, right_side_has}
+use Rattle.isle_meaning.proofs.Sites.OwnTests.{HasTest, HasTests, IsConstructor, own_test, part_tests, tested_has, tested_part}
+use Rattle.isle_meaning.proofs.Sites.OwnTests.{right_side_has}
 use Rattle.isle_meaning.proofs.Sites.Parts.{EachSite}
 use Rattle.isle_blocks.specs.Trees.Premises.{IsRunnableSet}
 use Rattle.isle_blocks.proofs.Trees.Reading.{read_some, place_sound}
@@ -46,6 +48,7 @@ use Rattle.isle_blocks.proofs.Trees.Listed.{variant_opens, struct_opens, some_is
 use Rattle.isle_blocks.proofs.Trees.Effects.{slice_get_past}
 use Rattle.isle_blocks.proofs.Trees.Asked.{asked_rule, asked_holds, tests_of, its_test, tests_are_there}
 
+-- the entry is a constructor's call
 abbrev row_constructs : Row → Bool
 row_constructs (bool_row b ty) = false
 row_constructs (int_row n ty) = false
@@ -62,6 +65,7 @@ row_constructs (make_some_row j) = false
 row_constructs (match_some_row j) = false
 row_constructs (match_tuple_row j i) = false
 
+-- so is its site
 same_constructs : (name : Sym → List ℕ) (b : Binding) → row_constructs (row_of name b) ≡ is_constructor b
 same_constructs name (sites.ConstBool v t) = refl
 same_constructs name (sites.ConstInt v t) = refl
@@ -80,20 +84,25 @@ same_constructs name (sites.MatchTuple a i) = refl
 
 module _ (name : Sym → List ℕ) (facts : TermFacts) (sources : List source.Rule) (rules : List TypedRule) (term : ℕ) (set : RulesOverSites)
     (h : IsRunnableSet name facts sources rules term set) where
+  -- the entries of the set's sites
   abbrev rows : List Row
   rows = rows_of name set.sites
 
+  -- the set as trees see it
   abbrev R : Rules Constraint Held
   R = rules_of name set
 
+  -- what a rule is made of
   abbrev Made : ℕ → Rule → Type 0
   Made p r = IsMadeAt name facts sources rules term set.sites p r
 
+  -- a number's tree
   abbrev tree : ℕ → Site
   tree = tree_of name set.sites
 
   -- the calls of a rule, and options that they give
-  calls_have : (P : Site → Type 0) → ((s u : Site) → P s → IsOneOf (parts_of s) u → P u) → (ids : List BindingId) (ts : List Site) → StandEach rows ids ts
+  calls_have : (P : Site → Type 0) → ((s u : Site) → P s → IsOneOf (parts_of s) u → P u) → (ids : List BindingId) (ts : List Site)
+      → StandEach rows ids ts
       → EachSite P ts → (s : ℕ) → Elem s (calls_at set.sites ids) → (t : Site) × At rows t s × P t
   calls_have P f [] ts st k s m = absurd m
   calls_have P f (id ∷ ids) [] st k s m = absurd st
@@ -118,6 +127,7 @@ module _ (name : Sym → List ℕ) (facts : TermFacts) (sources : List source.Ru
   ]
 
   module _ (i : ℕ) (r : Rule) (at : slice_get set.rules i ≡ Some r) (p : ℕ) (m : Made p r) where
+    -- what its typed rule demands
     abbrev D : Demand → Type 0
     D = DemandOf facts m.reached.rule
 
@@ -132,12 +142,14 @@ module _ (name : Sym → List ℕ) (facts : TermFacts) (sources : List source.Ru
     -- so has all that it has
     used_has : (s : ℕ) → Used R i s → (t : Site) × At rows t s × HasTests (Derived D) t
     used_has _ (Used.by_asked s a) =
-        let (t, at_t, ok) = asked_holds name facts sources rules term set h i r at p m (IsTested (Derived D)) (tests_of name facts sources rules term set h i r at p m)
+        let (t, at_t, ok) = asked_holds name facts sources rules term set h i r at p m (IsTested (Derived D))
+        (tests_of name facts sources rules term set h i r at p m)
         (tested_part (Derived D)) s a in
         (t, at_t, tested_has (Derived D) (Derived D) (λ d x. x) t ok)
     used_has _ (Used.by_right s e) =
         let e' : Elem s (calls_at set.sites r.impure ++ r.result.0 ∷ []) =
-        subst (λ (o : Option Rule). Elem s (read_or [] (λ (k : Rule). calls_at set.sites k.impure) o ++ read_or (length set.sites) (λ (k : Rule). k.result.0) o ∷ [])) at e in
+        subst (λ (o : Option Rule). Elem s (read_or [] (λ (k : Rule). calls_at set.sites k.impure) o
+        ++ read_or (length set.sites) (λ (k : Rule). k.result.0) o ∷ [])) at e in
         elim (elem_append s (calls_at set.sites r.impure) (r.result.0 ∷ []) e') [
           | inl c ↦ calls_have (HasTests (Derived D)) (part_tests (Derived D)) r.impure (impure_of facts m.reached.rule) m.effects (right_has.1) s c
           | inr c ↦ elim c [
@@ -147,12 +159,14 @@ module _ (name : Sym → List ℕ) (facts : TermFacts) (sources : List source.Ru
         ]
     used_has _ (Used.by_part_of s q u k) = pass_on name set.sites (HasTests (Derived D)) (part_tests (Derived D)) s q (used_has s u) k
 
+    -- a constructor's call is one in the table
     constructs : (u : Site) (a : ℕ) → At rows u a → IsConstructor u → read_or false is_constructor (slice_get set.sites a) ≡ true
     constructs u a at_u (t, ss, n, q) =
         let (js, row, rest) = subst (λ (z : Site). At rows z a) q at_u in
         let (b, at_b, is) = get_row name set.sites a (constructor_row t js n) row in
         rw at_b (sym (same_constructs name b) ∙ ap row_constructs is)
 
+    -- a field with its test has the rule's, a content may be a call's
     field_has : (s : ℕ) (b : Binding) (k : Source Constraint) (t : Site) → slice_get set.sites s ≡ Some b → At rows t s
         → HasTest (Derived D) t → made_by set.rules b ≡ Some k → (R.at i k.site ≡ Some k.want) ⊎ (R.content s ≡ true)
     field_has s (sites.MatchVariant a v f) k t e at_t tested is =
@@ -190,7 +204,8 @@ module _ (name : Sym → List ℕ) (facts : TermFacts) (sources : List source.Ru
   past_used : (i : ℕ) → slice_get set.rules i ≡ None → (s : ℕ) → Used R i s → s ≡ length set.sites
   past_used i none _ (Used.by_asked s a) = let (r, at) = asked_rule name facts sources rules term set h i s a in absurd (none-some r (sym none ∙ at))
   past_used i none _ (Used.by_right s e) =
-      elim (subst (λ (o : Option Rule). Elem s (read_or [] (λ (k : Rule). calls_at set.sites k.impure) o ++ read_or (length set.sites) (λ (k : Rule). k.result.0) o ∷ [])) none e) [
+      elim (subst (λ (o : Option Rule). Elem s (read_or [] (λ (k : Rule). calls_at set.sites k.impure) o
+      ++ read_or (length set.sites) (λ (k : Rule). k.result.0) o ∷ [])) none e) [
         | inl q ↦ q
         | inr z ↦ absurd z
       ]
@@ -199,6 +214,7 @@ module _ (name : Sym → List ℕ) (facts : TermFacts) (sources : List source.Ru
       let k' : Elem q (R.parts (length set.sites)) = subst (λ (z : ℕ). Elem q (R.parts z)) same k in
       absurd (subst (λ (o : Option Binding). Elem q (read_or [] (λ (b : Binding). numbers_of (sources_of b)) o)) (slice_get_past set.sites) k')
 
+  -- what a rule has, has its tests, contents of calls aside
   contents : (i s : ℕ) (k : Source Constraint) → Used R i s → R.made s ≡ Some k → (R.at i k.site ≡ Some k.want) ⊎ (R.content s ≡ true)
   contents i s k u e =
       let (b, at_b, is) = read_some (made_by set.rules) (slice_get set.sites s) k e in
@@ -213,9 +229,11 @@ module _ (name : Sym → List ℕ) (facts : TermFacts) (sources : List source.Ru
             field_has i r at p m s b k t at_b at_t (own_test (Derived (DemandOf facts m.reached.rule)) t ok) is
       ]
 
+  -- What a rule has, has its tests.
   pub has_its_tests : HasItsTests (rules_of name set)
   has_its_tests = record {
     tested = tests_are_there name facts sources rules term set h;
     contents = contents;
-    call_whole = λ s x e. absurd (no_iterator name facts sources rules term set h x (record { 0 = s }) (place_sound (sites.Iterator (record { 0 = s })) set.sites x e));
+    call_whole = λ s x e. absurd (no_iterator name facts sources rules term set h x (record { 0 = s })
+        (place_sound (sites.Iterator (record { 0 = s })) set.sites x e));
   }

@@ -145,7 +145,8 @@ WalksChooseAsTyped = OfEach (λ name facts sources rules term set h. HavePriorit
 abbrev pub MachinesWalk : Type 0
 MachinesWalk = OfEach (λ name facts sources rules term set h. (left : List ℕ) (T : Steps Constraint) → Builds (rules_of name set) left nothing_known T
     → (c : Completion) (args : Values) → IsAllowed facts c → count args ≡ length h.runnable.types
-    → run (rules_of name set) (makes_of name set.sites facts c args []) T (λ s. None) ≡ walk (rules_of name set) (held_by name set.sites facts c args []) T)
+    → run (rules_of name set) (makes_of name set.sites facts c args []) T (λ s. None)
+    ≡ walk (rules_of name set) (held_by name set.sites facts c args []) T)
 
 -- ---- which sets these are
 

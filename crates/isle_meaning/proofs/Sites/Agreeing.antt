@@ -28,7 +28,8 @@ same_self : {A : Type 0} (g : Got A) → AgreeIfKnown g g
 same_self g a b = refl
 
 -- what is made of something that isn't known isn't known
-same_ask : {A B : Type 0} (f k : A → Got B) (g h : Got A) → ((x : A) → AgreeIfKnown (f x) (k x)) → AgreeIfKnown g h → AgreeIfKnown (ask f g) (ask k h)
+same_ask : {A B : Type 0} (f k : A → Got B) (g h : Got A) → ((x : A) → AgreeIfKnown (f x) (k x)) → AgreeIfKnown g h
+    → AgreeIfKnown (ask f g) (ask k h)
 same_ask f k unknown h e s a b = absurd (a refl)
 same_ask f k g unknown e s a b = absurd (b refl)
 same_ask f k fails h e s a b = let q = s (λ p. cc) (λ p. b (ap (ask k) p)) in ap (ask k) q

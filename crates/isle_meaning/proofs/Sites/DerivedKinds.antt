@@ -3,7 +3,8 @@ use Rattle.std.proofs.Common.{ℕ, List}
 use Rattle.isle_meaning.specs.Facts.{TermFacts}
 use Rattle.isle_meaning.specs.Sites.{Site}
 use Rattle.isle_meaning.specs.Demands.{Demand, constrained, equal, variant_constraint, struct_constraint}
-use Rattle.isle_meaning.specs.Derived.{Derived, demanded, flipped, chained, shared, like_variant, like_struct, FieldOf, of_variant, of_struct}
+use Rattle.isle_meaning.specs.Derived.{Derived, demanded, flipped, chained, shared, like_variant, like_struct, FieldOf, of_variant}
+use Rattle.isle_meaning.specs.Derived.{of_struct}
 use Rattle.isle_meaning.specs.Sorts.{AllSuit}
 use Rattle.isle_meaning.proofs.Matching.Closing.{derived_suits}
 use Rattle.isle_meaning.specs.Kinds.{IsKinded, IsKindedDemand}
@@ -12,7 +13,8 @@ use Rattle.isle_meaning.specs.Laws.Sites.{RulesAreKinded}
 use Rattle.isle_meaning.proofs.Matching.Sorting.{demands_suit}
 use Rattle.isle_meaning.proofs.Sites.Kinded.{rule_seen}
 
-module _ (facts : TermFacts) (tys : List ℕ) (D : Demand → Type 0) (suit : AllSuit facts tys D) (fit : (d : Demand) → D d → IsKindedDemand facts tys d) where
+module _ (facts : TermFacts) (tys : List ℕ) (D : Demand → Type 0) (suit : AllSuit facts tys D)
+    (fit : (d : Demand) → D d → IsKindedDemand facts tys d) where
   -- What is derived is of its kind.
   pub derived_kinded : (d : Demand) → Derived D d → IsKindedDemand facts tys d
   derived_kinded d (demanded h) = fit d h
@@ -31,9 +33,9 @@ module _ (facts : TermFacts) (tys : List ℕ) (D : Demand → Type 0) (suit : Al
   -- So is a field.
   pub field_kinded : (t s : Site) → FieldOf D t s → IsKinded facts tys s
   field_kinded t s (of_variant {ty = ty} {k = k} {n = n} {i = i} h l) =
-      ((derived_kinded (constrained t (variant_constraint ty k n)) h).0, (ty, derived_suits facts tys D suit (constrained t (variant_constraint ty k n)) h))
+      let c = constrained t (variant_constraint ty k n) in ((derived_kinded c h).0, (ty, derived_suits facts tys D suit c h))
   field_kinded t s (of_struct {ty = ty} {n = n} {i = i} h l) =
-      ((derived_kinded (constrained t (struct_constraint ty n)) h).0, (ty, derived_suits facts tys D suit (constrained t (struct_constraint ty n)) h))
+      let c = constrained t (struct_constraint ty n) in ((derived_kinded c h).0, (ty, derived_suits facts tys D suit c h))
 
 pub rules_are_kinded : RulesAreKinded
 rules_are_kinded facts tys rule is =

@@ -1,5 +1,6 @@
 -- What sites of kinds hold.
-use Rattle.std.proofs.Common.{◌≡◌, inl, inr, ℕ, zero, suc, ◌<◌, ◌==◌, List, [], ◌∷◌, length, Bool, true, false, Option, Some, None, slice_get}
+use Rattle.std.proofs.Common.{◌≡◌, inl, inr, ℕ, zero, suc, ◌<◌, ◌==◌, List, [], ◌∷◌, length, Bool, true, false, Option, Some, None}
+use Rattle.std.proofs.Common.{slice_get}
 use Rattle.std.proofs.Common.{refl, sym, ap, subst, ◌∙◌, arith}
 use Rattle.std.specs.Prelude.{if◌then◌else◌}
 use Rattle.isle_trees.specs.Answers.{HasValue}
@@ -13,7 +14,8 @@ use Rattle.isle_meaning.specs.Sites.{make_variant, match_variant, make_struct, e
 use Rattle.isle_meaning.specs.Sites.{Sites, no_sites, more_sites}
 use Rattle.isle_meaning.specs.Held.{Held, held_value, held_outputs, held_some, held, plain, outputs_of, extracted, constructed}
 use Rattle.isle_meaning.specs.Held.{extract_held, construct_held, several, variant_field, field_if, struct_field, output_of, value, values}
-use Rattle.isle_meaning.specs.Sorts.{Sort, plain_sort, option_sort, sort, of_outputs, extract_sort, construct_sort, inner_sort, output_sort, field_sort}
+use Rattle.isle_meaning.specs.Sorts.{Sort, plain_sort, option_sort, sort, of_outputs, extract_sort, construct_sort, inner_sort}
+use Rattle.isle_meaning.specs.Sorts.{output_sort, field_sort}
 use Rattle.isle_meaning.proofs.Matching.Basics.{ask_gives, content_gives}
 use Rattle.isle_meaning.specs.Kinds.{IsPlain, IsKinded, AreKinded, IsOfKind}
 use Rattle.isle_meaning.specs.Parts.{parts_of, IsOneOf}
@@ -148,7 +150,8 @@ module _ (facts : TermFacts) (tys : List ℕ) (c : Completion) (args : Values) (
       let (v, e) = plain_held_kind (sort facts tys s) (h.0) p (kind s (h.0) w (h.1)) in (v, h.1 ∙ ap (λ (x : Held). gives x) e)
 
   -- so do sites
-  values_there : (ss : Sites) → AreKinded facts tys ss → ((u : Site) → IsOneOf ss u → HasValue (val u)) → (vs : Values) × (values facts c args done ss ≡ gives vs)
+  values_there : (ss : Sites) → AreKinded facts tys ss → ((u : Site) → IsOneOf ss u → HasValue (val u))
+      → (vs : Values) × (values facts c args done ss ≡ gives vs)
   values_there no_sites w h = (no_values, refl)
   values_there (more_sites s ss) w h =
       let (v, e) = plain_there s (w.0.0) (w.0.1) (h s (inl refl)) in
@@ -200,7 +203,8 @@ module _ (facts : TermFacts) (tys : List ℕ) (c : Completion) (args : Values) (
   IsWhole (match_tuple s i) = Unit {0}
 
   -- Such a site doesn't fail where its parts have values.
-  pub whole : count args ≡ length tys → (s : Site) → IsKinded facts tys s → IsWhole s → ((u : Site) → IsOneOf (parts_of s) u → HasValue (val u)) → val s ≡ fails → ⊥
+  pub whole : count args ≡ length tys → (s : Site) → IsKinded facts tys s → IsWhole s
+      → ((u : Site) → IsOneOf (parts_of s) u → HasValue (val u)) → val s ≡ fails → ⊥
   whole n (bool_site b ty) k w h e = cc
   whole n (int_site j ty) k w h e = cc
   whole n (prim_site j) k w h e = cc
@@ -227,12 +231,14 @@ module _ (facts : TermFacts) (tys : List ℕ) (c : Completion) (args : Values) (
   whole n (extract_struct s i) k w h e = w
   whole n (make_some s) k w h e =
       let (x, q) = h s (inl refl) in
-      let r : ask (λ (y : Held). gives (held_some y)) (gives x) ≡ fails = subst (λ (g : Got Held). ask (λ (y : Held). gives (held_some y)) g ≡ fails) q e in cc
+      let r : ask (λ (y : Held). gives (held_some y)) (gives x) ≡ fails =
+      subst (λ (g : Got Held). ask (λ (y : Held). gives (held_some y)) g ≡ fails) q e in cc
   whole n (match_some s) k w h e = w
   whole n (match_tuple s i) (k, (ts, p, l)) w h e =
       let (x, q) = h s (inl refl) in
       let (vs, o, a) = subst (λ (z : Sort). IsOfKind z x) p (kind s x k q) in
-      let r : ask (output_of i) (gives (held_outputs vs)) ≡ fails = subst (λ (g : Got Held). ask (output_of i) g ≡ fails) (q ∙ ap (λ (y : Held). gives y) o) e in
+      let r : ask (output_of i) (gives (held_outputs vs)) ≡ fails =
+      subst (λ (g : Got Held). ask (output_of i) g ≡ fails) (q ∙ ap (λ (y : Held). gives y) o) e in
       let (y, f) = nth_there vs i (omega arith) in
       let z : held (gives y) ≡ fails = subst (λ (g : Got Value). held g ≡ fails) f r in cc
 

@@ -56,7 +56,8 @@ module _ (facts : TermFacts) (c : Completion) (makes : ℕ → Values → List E
   words_are done ws r = words_sites facts c args done a vars S (at_any done) ws r
 
   -- what the right side does from a step on, whose arguments have values, where the rest does this
-  abbrev After : (List (Option Value) → List Event → Option Value → Type 0) → List (Option Value) → Step → List Event → Option Value → Values → Type 0
+  abbrev After : (List (Option Value) → List Event → Option Value → Type 0) → List (Option Value) → Step → List Event → Option Value → Values
+      → Type 0
   After rest done s trace b vs = (effects : List Event) × (more : List Event) × (o : Option Value) × (trace ≡ effects ++ more)
       × makes s.term vs effects o × on_answer o (IsFailure more b) (rest (done ++ o ∷ []) more b)
 

@@ -7,7 +7,8 @@ use Rattle.isle_meaning.specs.Answers.{Completion, answer_of}
 use Rattle.isle_meaning.specs.Sites.{Site, bool_site, int_site, prim_site, argument, extractor_call, constructor_call, iterator}
 use Rattle.isle_meaning.specs.Sites.{make_variant, match_variant, make_struct, extract_struct, make_some, match_some, match_tuple}
 use Rattle.isle_meaning.specs.Sites.{Sites, no_sites, more_sites}
-use Rattle.isle_meaning.specs.Held.{Held, held_some, held, plain, constructed, extract_held, construct_held, variant_field, struct_field, content_of, output_of, value, values}
+use Rattle.isle_meaning.specs.Held.{Held, held_some, held, plain, constructed, extract_held, construct_held, variant_field}
+use Rattle.isle_meaning.specs.Held.{struct_field, content_of, output_of, value, values}
 use Rattle.isle_meaning.specs.Kinds.{IsKinded, AreKinded}
 
 -- one's answers to calls that aren't `multi`, with another's to those that are

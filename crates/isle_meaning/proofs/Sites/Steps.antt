@@ -7,7 +7,8 @@ use Rattle.isle_terms.specs.TypedRules.{no_built, more_built, TypedBindings, no_
 use Rattle.isle_meaning.specs.Facts.{TermShape, variant_shape, struct_shape, declared_shape, TermFacts}
 use Rattle.isle_meaning.specs.Words.{Word, var_word, bool_word, int_word, prim_word, variant_word, struct_word, call_word, Words}
 use Rattle.isle_meaning.specs.Words.{no_words, more_words, Step, set, flat, flat_all, flat_lets, call, apply, steps_of}
-use Rattle.isle_meaning.specs.Sites.{Site, bool_site, int_site, prim_site, constructor_call, iterator, make_variant, make_struct, match_some}
+use Rattle.isle_meaning.specs.Sites.{Site, bool_site, int_site, prim_site, constructor_call, iterator, make_variant, make_struct}
+use Rattle.isle_meaning.specs.Sites.{match_some}
 use Rattle.isle_meaning.specs.Sites.{answer_site, site_of, sites_of}
 use Rattle.isle_meaning.specs.Parts.{IsOneOf}
 use Rattle.isle_meaning.specs.Scopes.{Reads, ReadAll, IsSingle, let_scope, ReadsExpr, ReadExprs, ReadsLets}
@@ -55,19 +56,23 @@ module _ (facts : TermFacts) where
     flat_placed (built_bool ty b) vars steps h = h
     flat_placed (built_int ty n) vars steps h = h
     flat_placed (built_prim ty n) vars steps h = h
-    flat_placed (built_term ty t es) vars steps h = apply_placed (facts.shape t) (facts.pure t) ty t (flat_all facts vars steps es) (all_placed es vars steps h)
+    flat_placed (built_term ty t es) vars steps h =
+        apply_placed (facts.shape t) (facts.pure t) ty t (flat_all facts vars steps es) (all_placed es vars steps h)
     flat_placed (built_let ty bs body) vars steps h =
         flat_placed body ((flat_lets facts vars steps bs).0) ((flat_lets facts vars steps bs).1) (lets_placed bs vars steps h)
 
+    -- so are those of expressions
     all_placed : (es : TypedExprs) (vars : ℕ → Word) (steps : List Step) → Placed 0 steps → Placed 0 ((flat_all facts vars steps es).1)
     all_placed no_built vars steps h = h
     all_placed (more_built e es) vars steps h = all_placed es vars ((flat facts vars steps e).1) (flat_placed e vars steps h)
 
+    -- and of bindings
     lets_placed : (bs : TypedBindings) (vars : ℕ → Word) (steps : List Step) → Placed 0 steps → Placed 0 ((flat_lets facts vars steps bs).1)
     lets_placed no_bindings vars steps h = h
     lets_placed (more_bindings k ty e bs) vars steps h =
         lets_placed bs (set vars k ((flat facts vars steps e).0)) ((flat facts vars steps e).1) (flat_placed e vars steps h)
 
+  -- The steps of an expression are placed from the first on.
   pub steps_placed : (e : TypedExpr) → Placed 0 (steps_of facts e)
   steps_placed e = flat_placed e var_word [] tt
 
@@ -135,7 +140,8 @@ module _ (facts : TermFacts) (Z : ℕ → Type 0) where
     where
       go : (b : Bool) → (k == j) ≡ b → (k ≡ j) ⊎ S k → Reads facts (set vars j w k) Z
       go true p x = rw p h
-      go false p (inl q) = absurd (let z : (k == k) ≡ false = subst (λ (y : ℕ). (k == y) ≡ false) (sym q) p in let y : (k == k) ≡ true = eq-eqb k k refl in cc)
+      go false p (inl q) = absurd (let z : (k == k) ≡ false = subst (λ (y : ℕ). (k == y) ≡ false) (sym q) p in
+          let y : (k == k) ≡ true = eq-eqb k k refl in cc)
       go false p (inr x) = rw p (v k x)
 
   -- a call reads what its arguments do
