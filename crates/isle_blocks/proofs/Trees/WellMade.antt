@@ -6,7 +6,8 @@ use Rattle.isle_terms.specs.TypedRules.{TypedRule}
 use Rattle.isle_meaning.specs.Facts.{TermFacts}
 use Rattle.isle_meaning.specs.Held.{Held}
 use Rattle.isle_meaning.specs.Sites.{Site, iterator}
-use Rattle.isle_meaning.specs.Demands.{Constraint as Limit, Demand, constrained, equal}
+use Rattle.isle_meaning.specs.Demands.{Demand, constrained, equal}
+use Rattle.isle_meaning.specs.Demands as meaning
 use Rattle.isle_meaning.specs.Derived.{Derived}
 use Rattle.isle_meaning.specs.Kinds.{IsKinded}
 use Rattle.isle_meaning.specs.Laws.Matching.{DemandOf, IsRuleOfTypes}
@@ -140,7 +141,7 @@ module _ (name : Sym → List ℕ) (facts : TermFacts) (sources : List source.Ru
   -- A joined site has another.
   pub joined_other : (p : ℕ) (r : Rule) (m : Made p r) (a b : ℕ) → rule_joins a b r ≡ true
       → (s : Site) × (u : Site) × At rows s a × Derived (DemandOf facts m.reached.rule) (equal s u)
-      × ((c : Limit) → Derived (DemandOf facts m.reached.rule) (constrained s c) → ⊥)
+      × ((c : meaning.Constraint) → Derived (DemandOf facts m.reached.rule) (constrained s c) → ⊥)
   joined_other p r m a b j =
       let (y, apart, joined) = other_joined name facts sources rules term set h.injective h.is p r m a b j in
       let closed = m.closed in

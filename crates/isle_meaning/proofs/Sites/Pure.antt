@@ -9,6 +9,8 @@ use Rattle.isle_meaning.specs.Sites.{Site, argument, extractor_call}
 use Rattle.isle_meaning.specs.Demands.{bound, iflet_site, args_bound, nothing}
 use Rattle.isle_meaning.specs.Scopes.{OfCall, OfCalls, OfAllCalls, OfIfLets}
 use Rattle.isle_meaning.specs.ImpureCalls.{IsImpureCall, IsPure, IfLetsArePure}
+use Rattle.isle_meaning.specs.SoundPrograms.{AskNothingImpure}
+use Rattle.isle_meaning.specs.Worlds.{CheckedProgram}
 use Rattle.isle_meaning.specs.Laws.Sites.{DemandsArePure}
 use Rattle.isle_meaning.proofs.Chains.Causing.{Cites, steps_are_causal}
 use Rattle.isle_meaning.proofs.Sites.Parts.{of_whole, of_one}
@@ -89,3 +91,8 @@ demands_are_pure facts rule h = (
   rule_carries facts IsPure pure_carried rule (args_pure facts rule) (lets_pure facts rule h),
   variables_carry facts IsPure pure_carried rule (args_pure facts rule) (lets_pure facts rule h),
 )
+
+-- The if-lets of a sound program's rule make no impure calls.
+pub sound_iflets_are_pure : (p : CheckedProgram) (xs : List TypedIfLet) → AskNothingImpure p xs → IfLetsArePure p.terms xs
+sound_iflets_are_pure p [] h = tt
+sound_iflets_are_pure p (x ∷ xs) h = (h.0, sound_iflets_are_pure p xs (h.1))
