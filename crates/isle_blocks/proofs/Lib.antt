@@ -45,5 +45,5 @@ pub mod MadeVariants
 pub mod VariantTerms
 -- Lists with the same items as often.
 pub mod SameLists
--- Blocks, and the trees that they show.
+-- Rule sets as what trees speak of.
 pub mod Trees

@@ -4,3 +4,40 @@ pub mod Ending
 pub mod Returns
 -- What appending nodes does to the pieces that they stand for.
 pub mod Laying
+-- Rule sets as what trees speak of.
+-- What is read of a rule set.
+pub mod Reading
+-- The order of tests.
+pub mod Order
+-- A tree can be built of each rule set.
+pub mod Buildable
+-- Tests and what is held are compared exactly.
+pub mod Exact
+-- Numbers of a table stand for their trees.
+pub mod Standing
+-- Rule sets are well made.
+pub mod WellMade
+-- The fields of tests are listed.
+pub mod Listed
+-- What tests ask has its tests, and no impure call.
+pub mod Asked
+-- Impure calls stand before what is made of them.
+pub mod Effects
+-- What a rule has, has its tests.
+pub mod Used
+-- What sites hold is as trees ask.
+pub mod Answered
+-- Answers keep to fields and calls.
+pub mod Respected
+-- What the code looks up.
+pub mod Found
+-- Rules match as the typed rules do.
+pub mod Matched
+-- Walks choose as the typed rules do.
+pub mod Chosen
+-- The rule sets of definitions.
+pub mod Defined
+-- Worked cases.
+mod Cases
+-- The tests that rules offer, as code lists them.
+pub mod Offered

@@ -19,3 +19,13 @@ pub mod Views
 pub mod Builder
 -- What is still to be laid out of a tree, and what laying out one node does to it.
 pub mod Work
+-- The trees of a table's sites, and what they hold.
+pub mod SiteTrees
+-- What a site is, where its parts hold these.
+pub mod Makes
+-- The rule sets of terms that ask no `multi` term.
+pub mod Premises
+-- The choice of a walk, as the typed rules say it.
+pub mod Choices
+-- What the theory of trees asks of a rule set.
+pub mod Laws

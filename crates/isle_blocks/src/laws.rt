@@ -21,6 +21,10 @@ ghost use Rattle.isle_blocks.specs.RuleFaults.{RuleErrorsAreDetermined};
 ghost use Rattle.isle_blocks.specs.Rules.{site_cmp};
 ghost use Rattle.isle_blocks.specs.SetLaws.{EachNumberStands, EachSiteOnce, EachVariantKnown, OfEachSet};
 ghost use Rattle.isle_blocks.specs.Orders.{binding_order, constraint_order};
+ghost use Rattle.isle_blocks.specs.Trees.Laws.{EachCanBeBuilt, SetsCanBeBuilt, SetsAreWellMade, SetsAreSingle, SetsUseNoMulti, SetsAreListed};
+ghost use Rattle.isle_blocks.specs.Trees.Laws.{SetsHaveTheirTests, FieldsAreLookedUp, FoundSitesArePlaces, AnswersRespect, AnswersAreStrict};
+ghost use Rattle.isle_blocks.specs.Trees.Laws.{AnswersAreMadeByParts, AnswersAgree, AnswersKnowWhatIsAsked, OpenSitesAreCalls, RulesMatchAsTyped};
+ghost use Rattle.isle_blocks.specs.Trees.Laws.{MachinesWalk, WalksChooseAsTyped, BuiltSetsAreRunnable, DefinitionsHavePriorities};
 ghost use Rattle.isle_blocks.specs.Hashes.{binding_hash, constraint_hash};
 
 use crate::binding::Binding;
@@ -134,4 +138,101 @@ pub fn closure_says_the_same()
 /// No term that definitions within the sizes make has more than 255 arguments.
 pub fn terms_have_few_arguments()
     ensures { TermsHaveFewArguments }
+{}
+
+/// A tree of tests can be built of the rules of each rule set, whatever terms they call: parts stand before what is made of them,
+/// all lies within the set's sites, and each multi call that a rule uses has the site of its value.
+pub fn rule_sets_can_be_built()
+    ensures sets { SetsCanBeBuilt }
+    ensures checked { OfEachSet EachCanBeBuilt }
+{}
+
+/// The rule sets of terms that ask no `multi` term are well made.
+pub fn rule_sets_are_well_made()
+    ensures { SetsAreWellMade }
+{}
+
+/// What their tests ask has its tests and no impure call, and impure calls are listed before what is made of them, each once.
+pub fn rule_sets_are_single()
+    ensures { SetsAreSingle }
+{}
+
+/// None of their rules uses a multi call.
+pub fn rule_sets_use_no_multi_call()
+    ensures { SetsUseNoMulti }
+{}
+
+/// The fields of each test are listed.
+pub fn rule_sets_are_listed()
+    ensures { SetsAreListed }
+{}
+
+/// What a rule has, has its tests, contents of constructors' calls aside.
+pub fn rule_sets_have_their_tests()
+    ensures { SetsHaveTheirTests }
+{}
+
+/// The fields of a test that a rule has are what the test makes, each looked up among the sites.
+pub fn fields_are_looked_up()
+    ensures { FieldsAreLookedUp }
+{}
+
+/// What a look-up of a site finds is its place in the table.
+pub fn found_sites_are_places()
+    ensures { FoundSitesArePlaces }
+{}
+
+/// Answers keep to fields and calls.
+pub fn answers_respect_rules()
+    ensures { AnswersRespect }
+{}
+
+/// What has a value is made of what has.
+pub fn answers_are_strict()
+    ensures { AnswersAreStrict }
+{}
+
+/// A site holds what is made of what its parts hold.
+pub fn answers_are_made_by_parts()
+    ensures { AnswersAreMadeByParts }
+{}
+
+/// Under completions that agree, what both know is the same.
+pub fn answers_agree()
+    ensures { AnswersAgree }
+{}
+
+/// Under a completion that covers the term, all that its tests ask is known.
+pub fn answers_know_what_is_asked()
+    ensures { AnswersKnowWhatIsAsked }
+{}
+
+/// An open site is a call that isn't answered.
+pub fn open_sites_are_calls()
+    ensures { OpenSitesAreCalls }
+{}
+
+/// A rule of the set matches exactly where its typed rule does.
+pub fn rules_match_as_typed()
+    ensures { RulesMatchAsTyped }
+{}
+
+/// A machine that keeps only what it bound does as the walk.
+pub fn machines_walk_as_answers()
+    ensures { MachinesWalk }
+{}
+
+/// A run's outcome says what the typed rules choose.
+pub fn walks_choose_as_typed()
+    ensures { WalksChooseAsTyped }
+{}
+
+/// The rule set of definitions for a term that asks no `multi` term is such a set.
+pub fn built_sets_are_runnable()
+    ensures { BuiltSetsAreRunnable }
+{}
+
+/// Rules of definitions have the priorities of the typed rules.
+pub fn definitions_have_priorities()
+    ensures { DefinitionsHavePriorities }
 {}

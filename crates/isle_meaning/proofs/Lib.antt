@@ -1,5 +1,7 @@
 -- Sites, demands and matching of typed rules.
 pub mod Matching
+-- What sites are and hold, and the sites of rules.
+pub mod Sites
 -- The plain run of a call is its meaning.
 pub mod Calls
 -- Meanings at other depths, chains of asking, and what a call means.

@@ -1,5 +1,7 @@
 -- What demands of rules mean for matching.
 pub mod Matching
+-- What sites are and hold.
+pub mod Sites
 -- What calls mean, and where chains of asking end.
 pub mod Calls
 -- What a plain run means.

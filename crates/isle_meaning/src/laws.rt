@@ -2,6 +2,7 @@
 
 mod calls;
 mod matching;
+mod sites;
 
 pub use calls::{
     chain_stays, chains_join, completions_extend, end_stays, ends_are_asked, meaning_stays,
@@ -14,4 +15,9 @@ pub use matching::{
     matches_by_proper, matches_derived, needs_have_fields, never_both, numbers_say_demands,
     rules_of_definitions_fit, self_equalities_say_nothing, shadowed_is_never_chosen,
     unreachable_is_dead, visit_is_written, wider_matches,
+};
+pub use sites::{
+    completions_agree_on_sites, demanded_calls_are_had, demands_are_answered, demands_are_pure,
+    right_sides_are_their_sites, rules_are_kinded, sites_are_made_by_parts, sites_are_strict,
+    sites_keep_kinds, unknown_sites_are_open_calls,
 };

@@ -1,0 +1,125 @@
+-- What is looked up for a test that a rule has.
+use Rattle.std.proofs.Common.{◌≡◌, inl, inr, ℕ, zero, suc, ◌<◌, Bool, true, List, [], ◌∷◌, map, Option, Some, None, slice_get, refl}
+use Rattle.std.proofs.Common.{ap, sym, subst, ◌∙◌, arith}
+use Rattle.std.proofs.Common.{◌==◌, eq-eqb, eqb-true}
+use Rattle.std.specs.Prelude.{nat_lt}
+use Rattle.std.proofs.lemmas.Bool.Decides.{nat_tests}
+use Rattle.isle_types.specs.declared.ids.Sym.{Sym}
+use Rattle.isle_terms.specs.declared.rules.Rule as source
+use Rattle.isle_terms.specs.TypedRules.{TypedRule}
+use Rattle.isle_meaning.specs.Facts.{TermFacts}
+use Rattle.isle_meaning.specs.Held.{Held}
+use Rattle.isle_meaning.specs.Sites.{Site}
+use Rattle.isle_meaning.specs.Demands.{Demand, constrained}
+use Rattle.isle_meaning.specs.Derived.{Derived, FieldOf, of_variant, of_struct}
+use Rattle.isle_meaning.specs.Laws.Matching.{DemandOf}
+use Rattle.isle_blocks.specs.declared.ids.BindingId.{BindingId}
+use Rattle.isle_blocks.specs.declared.binding.Binding.{Binding}
+use Rattle.isle_blocks.specs.declared.constraint.Constraint.{Constraint}
+use Rattle.isle_blocks.specs.declared.constraint.Constraint.TheVariants as tests
+use Rattle.isle_blocks.specs.declared.rule.Rule.{Rule}
+use Rattle.isle_blocks.specs.ClosureFields.{field_binding, field_site}
+use Rattle.isle_blocks.specs.Constraints.{bindings_made, fields_below, variant_field, struct_field}
+use Rattle.isle_blocks.specs.Rows.{test_of}
+use Rattle.isle_blocks.specs.RuleSets.{RulesOverSites}
+use Rattle.isle_blocks.specs.Tables.{IsFound}
+use Rattle.isle_types.specs.Names.{AreDistinct}
+use Rattle.std.specs.Option.{option_map}
+use Rattle.isle_blocks.proofs.Closure.Trees.{at_field, one_number}
+use Rattle.isle_trees.specs.Rules.{has, Rules, Elem}
+use Rattle.isle_trees.specs.Scopes.{is_source}
+use Rattle.isle_trees.proofs.Basics.{none_or, and_both, both_and, by_made}
+use Rattle.isle_blocks.specs.Trees.View.{id_of, keep, test_at, made_by, made_at, place_of, opens_field, tests_by, field_of, rules_of}
+use Rattle.isle_blocks.specs.Trees.Premises.{IsRunnableSet}
+use Rattle.isle_blocks.proofs.Trees.Reading.{place_sound, place_found}
+use Rattle.isle_trees.proofs.Asking.{elem_append}
+use Rattle.isle_blocks.proofs.Trees.WellMade.{made_rule, derived_test, wanted_test, well_made}
+use Rattle.isle_blocks.proofs.Trees.Listed.{opening_is}
+
+-- What a look-up finds is the place of the site.
+pub found_place : (table : List Binding) (b : Binding) (o : Option BindingId) → AreDistinct table → IsFound table b o
+    → option_map (λ (id : BindingId). id.0) o ≡ place_of b table
+found_place table b (Some id) once f = sym (place_found b table id.0 once f)
+found_place table b None once f = elim (none_or (place_of b table)) [
+  | inl e ↦ sym e
+  | inr e ↦ absurd (f (e.0) (place_sound b table (e.0) (e.1)))
+]
+
+-- a field below a number is one of the first fields
+below_elem : (g : ℕ → Binding) (n : ℕ) (b : Binding) → Elem b (fields_below g n) → (i : ℕ) × (i < n) × (b ≡ g i)
+below_elem g zero b m = absurd m
+below_elem g (suc n) b m = elim (elem_append b (fields_below g n) (g n ∷ []) m) [
+  | inl old ↦ let (i, l, e) = below_elem g n b old in (i, omega arith, e)
+  | inr new ↦ elim new [ inl e ↦ (n, omega arith, e) | inr z ↦ absurd z ]
+]
+
+-- what is made alike is one
+map_same : {X Y : Type 0} (f g : X → Y) (xs : List X) → ((x : X) → Elem x xs → f x ≡ g x) → map f xs ≡ map g xs
+map_same f g [] h = refl
+map_same f g (x ∷ xs) h = let p = h x (inl refl) in let q = map_same f g xs (λ y m. h y (inr m)) in λ i. p i ∷ q i
+
+-- all is kept where all passes
+keep_same : {A : Type 0} (p : A → Bool) (o : Option A) → ((x : A) → o ≡ Some x → p x ≡ true) → keep p o ≡ o
+keep_same p None h = refl
+keep_same p (Some x) h = rw (h x refl) refl
+
+-- a field that a derived test opens
+field_of_test : (name : Sym → List ℕ) (D : Demand → Type 0) (kind : Option ℕ) (f : ℕ) (c : Constraint) (u : Site) → opens_field kind f c ≡ true
+    → Derived D (constrained u (test_of name c)) → FieldOf D u (field_site kind u f)
+field_of_test name D (Some k) f (tests.Variant ty v n) u o d =
+    let b = and_both (v.0 == k) (nat_lt f n.0) o in
+    let e : v.0 ≡ k = eqb-true v.0 k (b.0) in
+    let l : f < n.0 = let t = b.1 in grind (arith, nat_tests) in
+    subst (λ (j : ℕ). FieldOf D u (field_site (Some j) u f)) e (of_variant {ty = ty.0} {k = v.0} {n = n.0} {i = f} d l)
+field_of_test name D None f (tests.Struct ty n) u o d = of_struct {ty = ty.0} {n = n.0} {i = f} d (grind (arith, nat_tests))
+field_of_test name D kind f c u o d = absurd cc
+
+module _ (name : Sym → List ℕ) (facts : TermFacts) (sources : List source.Rule) (rules : List TypedRule) (term : ℕ) (set : RulesOverSites)
+    (h : IsRunnableSet name facts sources rules term set) where
+  -- the set as trees see it
+  abbrev R : Rules Constraint Held
+  R = rules_of name set
+
+  -- what a rule's test makes is made by it
+  made_so : (i : ℕ) (r : Rule) (s : ℕ) (c : Constraint) → slice_get set.rules i ≡ Some r → test_at s r ≡ Some c → (b : Binding)
+      → Elem b (bindings_made c (id_of s)) → made_by set.rules b ≡ Some (record { site = s; want = has c })
+  made_so i r s (tests.Variant ty v n) at t b m =
+      let (f, l, e) = below_elem (variant_field (id_of s) v) n.0 b m in
+      let o : opens_field (Some v.0) f (tests.Variant ty v n) ≡ true =
+      both_and (v.0 == v.0) (nat_lt f n.0) (eq-eqb v.0 v.0 refl) (grind (arith, nat_tests)) in
+      let is = opening_is name facts sources rules term set h i r s (Some v.0) f (tests.Variant ty v n) at t o in
+      ap (made_by set.rules) e ∙ ap (λ (d : Constraint). Some (record { site = s; want = has d })) is
+  made_so i r s (tests.Struct ty n) at t b m =
+      let (f, l, e) = below_elem (struct_field (id_of s)) n.0 b m in
+      let o : opens_field None f (tests.Struct ty n) ≡ true = grind (arith, nat_tests) in
+      let is = opening_is name facts sources rules term set h i r s None f (tests.Struct ty n) at t o in
+      ap (made_by set.rules) e ∙ ap (λ (d : Constraint). Some (record { site = s; want = has d })) is
+  made_so i r s (tests.ConstBool v ty) at t b m = absurd m
+  made_so i r s (tests.ConstInt v ty) at t b m = absurd m
+  made_so i r s (tests.ConstPrim v) at t b m = absurd m
+  made_so i r s tests.Some at t b (inl e) = ap (made_by set.rules) e
+  made_so i r s tests.Some at t b (inr z) = absurd z
+
+  -- For a test that a rule has the fields are those that it makes, each looked up in the table.
+  pub fields_found : (i s : ℕ) (c : Constraint) → R.at i s ≡ Some (has c)
+      → R.fields s c ≡ map (λ (b : Binding). place_of b set.sites) (bindings_made c (id_of s))
+  fields_found i s c e =
+      let (r, at, t) = wanted_test name facts sources rules term set h i s c e in
+      let well = well_made name facts sources rules term set h in
+      map_same (field_of name set s c) (λ (b : Binding). place_of b set.sites) (bindings_made c (id_of s)) (λ b m.
+      keep_same (λ (x : ℕ). is_source (tests_by name) s (has c) (made_at set x)) (place_of b set.sites) (λ x q.
+      let there = place_sound b set.sites x q in
+      by_made R s (has c) (made_at set x) well (rw there (made_so i r s c at t b m))))
+
+  -- A field of a variant or struct that a rule tests stands in the table.
+  pub fields_stand : (i s : ℕ) (c : Constraint) (kind : Option ℕ) (f : ℕ) → R.at i s ≡ Some (has c) → opens_field kind f c ≡ true
+      → (x : ℕ) × (place_of (field_binding kind s f) set.sites ≡ Some x)
+  fields_stand i s c kind f e o =
+      let (r, at, t) = wanted_test name facts sources rules term set h i s c e in
+      let (p, m) = made_rule name facts sources rules term set h i r at in
+      let (u, at_u, du) = derived_test name facts sources rules term set h p r m s c t in
+      let (x, stands) = m.stand.fields u (field_site kind u f) (field_of_test name (DemandOf facts m.reached.rule) kind f c u o du) in
+      let (a, there, at_a) = at_field name set.sites h.injective kind u f x stands in
+      let same : a ≡ s = one_number name set.sites h.injective h.is.table u a s at_a at_u in
+      let here = subst (λ (z : ℕ). slice_get set.sites x ≡ Some (field_binding kind z f)) same there in
+      (x, place_found (field_binding kind s f) set.sites x h.is.table.once here)
