@@ -41,3 +41,5 @@ pub mod Defined
 mod Cases
 -- The tests that rules offer, as code lists them.
 pub mod Offered
+-- What makes a site, by the rule that opens it.
+pub mod Opened

@@ -3,6 +3,7 @@ use Rattle.std.specs.Prelude.{◌≡◌, ◌≢◌, ℕ, ◌<◌, ◌≤◌, ◌
 use Rattle.std.specs.Prelude.{slice_get, slice_index_or, is_some}
 use Rattle.std.specs.List.{flat_map, list_any}
 use Rattle.std.specs.Global.{Vec}
+use Rattle.isle_types.specs.JoinedSets.{are_joined}
 use Rattle.isle_meaning.specs.Held.{Held}
 use Rattle.isle_blocks.specs.declared.ids.BindingId.{BindingId}
 use Rattle.isle_blocks.specs.declared.binding.Binding.{Binding}
@@ -108,7 +109,7 @@ pub record AreOpeners (set : RulesOverSites) (n : ℕ) (openers : ℕ → Option
 abbrev pub AreClasses : RulesOverSites → ℕ → List (List BindingId) → Type 0
 AreClasses set i classes =
     (a b : BindingId) → (rules_in set).joins i a.0 b.0 ≡ true
-    → list_any (λ class. list_any (same_site a) class && list_any (same_site b) class) classes ≡ true
+    → are_joined same_site classes a b ≡ true
 
 -- what is looked up by rule and by site
 pub record IsIndexOf (set : RulesOverSites) (n : ℕ) (index : Index) : Type 0 where

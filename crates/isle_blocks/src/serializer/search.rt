@@ -31,9 +31,12 @@ impl RuleSet {
         let Some(source) = self.source(site) else {
             return true;
         };
-        match (index.opener(site), known.passed(source)) {
-            (Some(opener), Some(rule)) => self.same_want(opener, rule, source),
-            _ => false,
+        let Some(rule) = known.passed(source) else {
+            return false;
+        };
+        match index.opener(site) {
+            Some(opener) => self.same_want(opener, rule, source),
+            None => false,
         }
     }
 
@@ -238,7 +241,8 @@ impl RuleSet {
     {
         self.offer_tests(known, marks, rule, offers)?;
         self.offer_loops(known, marks, rule.iterators.as_slice(), offers)?;
-        self.offer_classes(known, marks, classes, offers)
+        self.offer_classes(known, marks, classes, offers)?;
+        Ok(())
     }
 
     /// The same of a rule by its number.
@@ -256,7 +260,10 @@ impl RuleSet {
             (tests_shown offers.old.items) (tests_shown offers.new.items)) }
     {
         match self.rules().get(rule) {
-            Some(r) => self.offer_rule(known, marks, r, index.classes(rule), offers),
+            Some(r) => {
+                self.offer_rule(known, marks, r, index.classes(rule), offers)?;
+                Ok(())
+            }
             None => Ok(()),
         }
     }

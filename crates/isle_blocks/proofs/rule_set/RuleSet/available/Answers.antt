@@ -1,0 +1,26 @@
+use Rattle.std.proofs.Common.{arith, ◌<◌, sym, subst, List, ℕ, get_or, length}
+use Rattle.isle_trees.specs.Rules.{Elem, Asked}
+use Rattle.isle_trees.specs.Search.{ArePartsFirst}
+use Rattle.isle_trees.proofs.Building.Marks.{group_more}
+use Rattle.isle_blocks.specs.Rows.{numbers_of}
+use Rattle.isle_blocks.specs.Trees.Builder.{rules_in, scope_of}
+use Rattle.isle_blocks.proofs.rule_set.RuleSet.available.Goals as goal
+
+pub mark-requires-clause-below : goal.mark-requires-clause-below
+mark-requires-clause-below c x m =
+    let P : List ℕ → Type 0 = λ l. Elem x l in
+    c.requires.index.is.within (get_or c.args.left.now c.loop-rule.rule-index 0) x (subst P c.asked.ensures m)
+
+pub mark-requires-clause-first : goal.mark-requires-clause-first
+mark-requires-clause-first c =
+    let P : List ℕ → Type 0 = λ l. ArePartsFirst (rules_in c.args.self.now) l in
+    subst P (sym c.asked.ensures) (c.requires.index.is.first (get_or c.args.left.now c.loop-rule.rule-index 0))
+
+pub loop-rule-preserved : goal.loop-rule-preserved
+loop-rule-preserved c =
+    let i = get_or c.args.left.now c.loop-rule.rule-index 0 in
+    let all : (s : ℕ) → Asked (rules_in c.args.self.now) i s → Elem s (numbers_of c.asked.result.now) = λ s a.
+    let P : List ℕ → Type 0 = λ l. Elem s l in subst P (sym c.asked.ensures) (c.requires.index.is.full i s a) in
+    group_more (rules_in c.args.self.now) (scope_of c.args.self.now c.args.known.now) c.args.left.now c.loop-rule.rule-index (length c.args.self.now.sites)
+    (numbers_of c.asked.result.now) c.loop-rule.marks.items c.mark.new.marks.items
+    c.loop-rule-test.true c.loop-rule.invariant all c.mark.ensures.sound c.mark.ensures.full c.mark.ensures.kept c.mark.ensures.size
