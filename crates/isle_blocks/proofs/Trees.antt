@@ -4,3 +4,5 @@ pub mod Ending
 pub mod Returns
 -- What appending nodes does to the pieces that they stand for.
 pub mod Laying
+-- What is known, as the code's lists keep it.
+pub mod Known
