@@ -6,3 +6,5 @@ pub mod Returns
 pub mod Laying
 -- What is known, as the code's lists keep it.
 pub mod Known
+-- Sites by their numbers, as lists of them change.
+pub mod Binding
