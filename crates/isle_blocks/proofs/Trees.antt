@@ -43,3 +43,7 @@ mod Cases
 pub mod Offered
 -- What makes a site, by the rule that opens it.
 pub mod Opened
+-- What is known, as the code's lists keep it.
+pub mod Known
+-- Sites by their numbers, as lists of them change.
+pub mod Binding

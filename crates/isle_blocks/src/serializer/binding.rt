@@ -218,10 +218,13 @@ impl RuleSet {
         ensures { (w : Want Constraint) → (rules_in self.now).at rule source.0 ≡ Some w
             → result ≡ is_source (rules_in self.now).tests source.0 w ((rules_in self.now).made site.0) }
     {
-        match (self.source(site), index.opener(site)) {
-            (Some(own), Some(opener)) => own == source && self.same_want(opener, rule, source),
-            _ => false,
-        }
+        let Some(own) = self.source(site) else {
+            return false;
+        };
+        let Some(opener) = index.opener(site) else {
+            return false;
+        };
+        own == source && self.same_want(opener, rule, source)
     }
 
     /// Binds a site where the want makes it.

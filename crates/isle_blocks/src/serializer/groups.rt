@@ -1,8 +1,9 @@
 //! Rules in order, and by their tests of a site.
-ghost use Rattle.std.specs.Prelude.{◌≡◌, ◌<◌, ℕ, Some, length, sum_by, IfOk};
+ghost use Rattle.std.specs.Prelude.{◌≡◌, ◌<◌, ℕ, Some, length, slice_index, sum_by, IfOk};
 ghost use Rattle.isle_trees.specs.Rules.{has};
+ghost use Rattle.isle_trees.specs.Scopes.{is_want};
 ghost use Rattle.isle_trees.specs.Search.{AllWant, AreDistinct, AreGrouped, IsInOrder, IsRun, below, front};
-ghost use Rattle.isle_blocks.specs.Trees.Builder.{rules_in};
+ghost use Rattle.isle_blocks.specs.Trees.Builder.{IsSerializable, rules_in};
 
 use crate::constraint::Constraint;
 use crate::ids::BindingId;
@@ -84,7 +85,7 @@ impl RuleSet {
         requires start { start < length group.now }
         requires grouped { AreGrouped (rules_in self.now) site.0 group.now }
         requires want { AllWant (rules_in self.now) group.now site.0 }
-        requires test { (rules_in self.now).at (get_or group.now start 0) site.0 ≡ Some (has test) }
+        requires test { (rules_in self.now).at (slice_index group.now start) site.0 ≡ Some (has test) }
         ensures { IfOk result (λ r. IsRun (rules_in self.now) site.0 start group.now r.test r.rules.items r.end) }
     {
         let rules = self.front(alloc, &group[start..], site, test)?;
