@@ -12,7 +12,7 @@ returns-in_ok-offer_rule-in-Some c =
     let P : List (List BindingId) → Type 0 = λ l. AreClasses c.args.self.now c.args.rule l in
     rule_offers c.args.self.now (scope_of c.args.self.now c.args.known.now) c.args.marks.now c.args.rule c.in-Some.r.now c.classes.result.now e
     (subst P (sym c.classes.ensures) (c.requires.index.classes c.args.rule)) (tests_shown c.args.offers.now.items)
-    (tests_shown c.offer_rule.new.offers.items) c.in_ok-offer_rule.ensures
+    (tests_shown c.offer_rule.new.offers.items) c.in_ok-offer_rule-in-Some.ensures
 
 pub returns-in-None : goal.returns-in-None
 returns-in-None c =
