@@ -47,3 +47,7 @@ pub mod Opened
 pub mod Known
 -- Sites by their numbers, as lists of them change.
 pub mod Binding
+-- What is still to be laid out.
+pub mod Working
+-- What laying out a node does to what is still to be laid out.
+pub mod Moving
