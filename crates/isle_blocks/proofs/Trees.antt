@@ -4,3 +4,7 @@ pub mod Ending
 pub mod Returns
 -- What appending nodes does to the pieces that they stand for.
 pub mod Laying
+-- What rules of a set test, listed by rule and by site.
+pub mod Indexed
+-- Which rule opens a site: the first whose test makes it.
+pub mod Openers
