@@ -51,3 +51,7 @@ pub mod Binding
 pub mod Working
 -- What laying out a node does to what is still to be laid out.
 pub mod Moving
+-- What rules of a set test, listed by rule and by site.
+pub mod Indexed
+-- Which rule opens a site: the first whose test makes it.
+pub mod Openers

@@ -22,7 +22,7 @@ use Rattle.isle_blocks.specs.ClosedRules.{same_site}
 use Rattle.isle_blocks.specs.RuleSets.{RulesOverSites}
 use Rattle.isle_blocks.specs.Rows.{numbers_of}
 use Rattle.isle_blocks.specs.Trees.View.{rules_of, read_or, has_loop, test_at, opens_field}
-use Rattle.isle_trees.specs.Rules.{Rules, Want, has, one_value, Source}
+use Rattle.isle_trees.specs.Rules.{Rules, Want, has, one_value, Source, Elem}
 use Rattle.isle_trees.specs.Scopes.{Scope, Test, on_match, on_equal, on_loop}
 use Rattle.isle_trees.specs.Builds.{Key}
 use Rattle.isle_trees.specs.Ranking.{Ranked}
@@ -110,6 +110,10 @@ abbrev pub AreClasses : RulesOverSites → ℕ → List (List BindingId) → Typ
 AreClasses set i classes =
     (a b : BindingId) → (rules_in set).joins i a.0 b.0 ≡ true
     → are_joined same_site classes a b ≡ true
+
+-- a site that stands in one of these classes is one that the rule joins, as far as its number is one of 16 bits
+abbrev pub AreMembers : RulesOverSites → ℕ → List (List BindingId) → Type 0
+AreMembers set i classes = (x : ℕ) → x < 65536 → Elem x (flat_map numbers_of classes) → (rules_in set).joins i x x ≡ true
 
 -- what is looked up by rule and by site
 pub record IsIndexOf (set : RulesOverSites) (n : ℕ) (index : Index) : Type 0 where

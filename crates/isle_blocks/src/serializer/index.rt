@@ -1,14 +1,15 @@
 //! What the builder of trees looks up by rule and by site.
 ghost use Rattle.isle_blocks.specs.Trees.Work.{AddsOnly, opener_among};
-ghost use Rattle.std.specs.Prelude.{◌≡◌, ◌≤◌, ◌<◌, ◌++◌, ℕ, length, map, IfOk, true, None, [], slice_get, slice_index_or};
+ghost use Rattle.std.specs.Prelude.{◌≡◌, ◌≤◌, ◌<◌, ◌++◌, ℕ, length, map, IfOk, true, None, [], ◌∷◌, slice_get, slice_index_or};
 ghost use Rattle.std.specs.List.{flat_map};
 ghost use Rattle.isle_trees.specs.Ranking.{PartsAreLower, AllBelow};
 ghost use Rattle.isle_trees.specs.Rules.{Elem};
 ghost use Rattle.isle_trees.specs.Scopes.{Test, has_test};
 ghost use Rattle.isle_trees.specs.Search.{ArePartsFirst, AreMadeBelow, HasUsers, IsAskedBy, IsClean, added_at, first_of, is_marked, made_more};
 ghost use Rattle.isle_blocks.specs.Rows.{numbers_of};
-ghost use Rattle.isle_blocks.specs.Trees.Builder.{AreClasses, AreOpeners, IsIndexOf, IsRising, IsSerializable, asked_at, classes_at, items_at, made_at};
+ghost use Rattle.isle_blocks.specs.Trees.Builder.{AreClasses, AreMembers, AreOpeners, IsIndexOf, IsRising, IsSerializable, asked_at, classes_at, items_at, made_at};
 ghost use Rattle.isle_blocks.specs.Trees.Builder.{opener_at, opens_at, rules_in, source_in, tested_in, users_at};
+ghost use Rattle.isle_blocks.specs.Trees.View.{read_or};
 
 use crate::ids::BindingId;
 use crate::rule::Rule;
@@ -103,7 +104,8 @@ fn tested(
     rule: &Rule,
     classes: &[Seq<BindingId>],
 ) -> Result<Vec<BindingId>, AllocError>
-    ensures { IfOk result (λ v. numbers_of v.items ≡ tested_in rule.now classes.now) }
+    ensures sites { IfOk result (λ v. numbers_of v.items ≡ tested_in rule.now classes.now) }
+    ensures low { IfOk result (λ _. AllBelow (flat_map numbers_of classes.now) 65536) }
 {
     let mut all = Vec::new(alloc);
     push_keys(rule, &mut all)?;
@@ -123,12 +125,32 @@ fn push_keys(rule: &Rule, all: &mut Vec<BindingId>) -> Result<(), AllocError>
     Ok(())
 }
 
+/// The sites of classes. Each has a number of 16 bits.
 fn push_members(classes: &[Seq<BindingId>], all: &mut Vec<BindingId>) -> Result<(), AllocError>
-    ensures { IfOk result (λ _. numbers_of all.new.items ≡ numbers_of all.old.items ++ flat_map numbers_of classes.now) }
+    ensures added { IfOk result (λ _. numbers_of all.new.items ≡ numbers_of all.old.items ++ flat_map numbers_of classes.now) }
+    ensures low { IfOk result (λ _. AllBelow (flat_map numbers_of classes.now) 65536) }
 {
     for class in classes {
-        all.extend_from_slice(class.as_slice())?;
+        push_sites(class.as_slice(), all)?;
     }
+    Ok(())
+}
+
+fn push_sites(sites: &[BindingId], all: &mut Vec<BindingId>) -> Result<(), AllocError>
+    ensures added { IfOk result (λ _. numbers_of all.new.items ≡ numbers_of all.old.items ++ numbers_of sites.now) }
+    ensures low { IfOk result (λ _. AllBelow (numbers_of sites.now) 65536) }
+{
+    for site in sites {
+        push_site(*site, all)?;
+    }
+    Ok(())
+}
+
+fn push_site(site: BindingId, all: &mut Vec<BindingId>) -> Result<(), AllocError>
+    ensures added { IfOk result (λ _. all.new.items ≡ all.old.items ++ site ∷ []) }
+    ensures low { site.0 < 65536 }
+{
+    all.push(site)?;
     Ok(())
 }
 
@@ -144,7 +166,10 @@ fn classes_of(classes: &[Vec<Seq<BindingId>>], rule: usize) -> &[Seq<BindingId>]
 impl RuleSet {
     /// For each rule its sets of equal sites.
     fn class_lists(&self, alloc: Global) -> Result<Vec<Vec<Seq<BindingId>>>, AllocError>
-        ensures { IfOk result (λ v. (i : ℕ) → AreClasses self.now i (items_at v.items i)) }
+        requires set { IsSerializable self.now }
+        requires few { length self.now.sites ≤ 65536 }
+        ensures classes { IfOk result (λ v. (i : ℕ) → AreClasses self.now i (items_at v.items i)) }
+        ensures members { IfOk result (λ v. (i : ℕ) → AreMembers self.now i (items_at v.items i)) }
     {
         let mut lists = Vec::new(alloc);
         for rule in self.rules() {
@@ -161,6 +186,7 @@ impl RuleSet {
     ) -> Result<Vec<Vec<BindingId>>, AllocError>
         requires set { IsSerializable self.now }
         requires classes { (i : ℕ) → AreClasses self.now i (items_at classes.now i) }
+        requires members { (i : ℕ) → AreMembers self.now i (items_at classes.now i) }
         ensures { IfOk result (λ v. (i : ℕ) → IsAskedBy (rules_in self.now) (length self.now.sites) i (numbers_of (items_at v.items i))) }
     {
         let mut marks = vec![in alloc; false; self.site_count()]?;
@@ -181,7 +207,7 @@ impl RuleSet {
         marks: &mut Vec<bool>,
     ) -> Result<Vec<BindingId>, AllocError>
         requires lower { PartsAreLower (rules_in self.now) }
-        requires below { AllBelow (tested_in rule.now classes.now) (length self.now.sites) }
+        requires below { AllBelow (flat_map numbers_of classes.now) 65536 → AllBelow (tested_in rule.now classes.now) (length self.now.sites) }
         requires clean { IsClean (length self.now.sites) marks.old.items }
         ensures clean { IfOk result (λ _. IsClean (length self.now.sites) marks.new.items) }
         ensures below { IfOk result (λ v. AllBelow (numbers_of v.items) (length self.now.sites)) }
@@ -233,6 +259,7 @@ impl RuleSet {
     ) -> Result<Vec<Vec<usize>>, AllocError>
         requires set { IsSerializable self.now }
         requires classes { (i : ℕ) → AreClasses self.now i (items_at classes.now i) }
+        requires members { (i : ℕ) → AreMembers self.now i (items_at classes.now i) }
         ensures users { IfOk result (λ v. HasUsers (rules_in self.now) (items_at v.items)) }
         ensures rising { IfOk result (λ v. (s : ℕ) → IsRising (items_at v.items s)) }
     {
