@@ -8,3 +8,5 @@ pub mod Laying
 pub mod Known
 -- Sites by their numbers, as lists of them change.
 pub mod Binding
+-- Which want makes a site, and where the sites of fields stand.
+pub mod Fields
