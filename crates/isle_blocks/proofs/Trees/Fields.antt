@@ -146,3 +146,8 @@ fields_more set s c front b old new found kept d f k p h =
         k ∙ ap (keep (λ x. is_source (rules_in set).tests s (has c) ((rules_in set).made x))) (sym (found_place set.sites b found d f)) in
     ap options_shown p ∙ map-append (option_map number) old (kept ∷ []) ∙ ap (λ (l : List (Option ℕ)). l ++ option_map number kept ∷ []) h
     ∙ ap (λ (o : Option ℕ). map (field_of (λ s. []) set s c) front ++ o ∷ []) one ∙ sym (map-append (field_of (λ s. []) set s c) front (b ∷ []))
+
+-- the same site, by its number in a list
+pub bound_at : {C V : Type 0} (R : Rules C V) (s : ℕ) (w : Want C) (sc new : Scope C) (x y : ℕ) → y ≡ x → new ≡ with_made R s w sc x
+    → new ≡ with_made R s w sc y
+bound_at R s w sc new x y e f = f ∙ ap (with_made R s w sc) (sym e)
