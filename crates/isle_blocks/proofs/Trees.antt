@@ -55,3 +55,5 @@ pub mod Moving
 pub mod Indexed
 -- Which rule opens a site: the first whose test makes it.
 pub mod Openers
+-- Which want makes a site, and where the sites of fields stand.
+pub mod Fields

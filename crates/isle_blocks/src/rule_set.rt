@@ -1,5 +1,6 @@
 //! Rule sets: the rules of a term over one table of sites.
 ghost use Rattle.std.specs.Prelude.{◌≡◌, ◌≤◌, [], IfOk, IfErr, length};
+ghost use Rattle.isle_types.specs.Names.{AreDistinct};
 ghost use Rattle.isle_blocks.specs.AddedRules.{IsDefinedRule, LacksRoomFor};
 ghost use Rattle.isle_blocks.specs.ClosureFields.{IsTable};
 ghost use Rattle.isle_blocks.specs.GatheredSets.{AddsToSet};
@@ -77,6 +78,15 @@ impl RuleSet {
         ensures { result.now ≡ self.now.sites }
     {
         self.sites.bindings()
+    }
+
+    /// The number of sites, of which each stands once.
+    pub(crate) fn binding_count(&self) -> usize
+        ensures count { result ≡ length self.now.sites }
+        ensures bound { length self.now.sites ≤ 65536 }
+        ensures once { AreDistinct self.now.sites }
+    {
+        self.sites.len()
     }
 
     /// The number of a site, if the rules speak of it.

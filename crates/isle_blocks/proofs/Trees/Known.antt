@@ -1,11 +1,16 @@
 -- What is known of sites, as the code's lists keep it.
-use Rattle.std.proofs.Common.{◌≡◌, ◌≢◌, ℕ, ◌<◌, ◌==◌, List, Bool, false, Option, Some, None, refl, sym, ◌∙◌, ap, subst, arith, get_or, length, map, set}
+use Rattle.std.proofs.Common.{◌≡◌, ◌⊎◌, inl, inr, ℕ, ◌<◌, ◌==◌, List, Bool, false, Option, Some, None, refl, sym, ◌∙◌, ap, subst, arith, get_or, length, map, set, length-set, eqb-true, eq-eqb}
+use Rattle.std.proofs.lemmas.Option.{same_Some}
 use Rattle.std.proofs.lemmas.List.{length-map}
-use Rattle.isle_trees.specs.Scopes.{Scope, emit, join, release}
-use Rattle.isle_trees.proofs.Building.Scopes.{scope_same, relabelled, joined_below}
+use Rattle.isle_trees.specs.Rules.{Want}
+use Rattle.isle_trees.specs.Scopes.{inside, join}
+use Rattle.isle_trees.specs.Search.{IsSamePath}
+use Rattle.isle_trees.proofs.Basics.{true_or}
+use Rattle.isle_trees.proofs.Building.Scopes.{scope_same, relabelled, joined_below, set_passed}
 use Rattle.isle_blocks.specs.RuleSets.{RulesOverSites}
+use Rattle.isle_blocks.specs.declared.constraint.Constraint.{Constraint}
 use Rattle.isle_blocks.specs.declared.serializer.known.Known.{Known}
-use Rattle.isle_blocks.specs.Trees.Builder.{rules_in, want_by, scope_of}
+use Rattle.isle_blocks.specs.Trees.Builder.{IsFit, rules_in, want_by, scope_of}
 use Rattle.isle_blocks.specs.Trees.Work.{IsSameKnown, relabel}
 
 -- sites that are joined have one label
@@ -14,13 +19,13 @@ pub joined_labels : (old new : Known) (a b x y : ℕ) (from made : List ℕ) →
     → new.labels.items ≡ map (relabel (get_or old.labels.items a a) (get_or old.labels.items b b)) old.labels.items
 joined_labels old new a b x y from made e f g h k = rw (← e, ← f, ← g) (h ∙ k)
 
-pub joined_known : (set : RulesOverSites) (old new : Known) (a b : ℕ) → get_or old.labels.items a a < length old.labels.items
+pub joined_known : (rules : RulesOverSites) (old new : Known) (a b : ℕ) → get_or old.labels.items a a < length old.labels.items
     → new.passed.items ≡ old.passed.items → new.emitted.items ≡ old.emitted.items
     → new.labels.items ≡ map (relabel (get_or old.labels.items a a) (get_or old.labels.items b b)) old.labels.items
-    → scope_of set new ≡ join (scope_of set old) a b
-joined_known set old new a b l p m e =
+    → scope_of rules new ≡ join (scope_of rules old) a b
+joined_known rules old new a b l p m e =
     scope_same _ _
-    (λ x. ap (λ (xs : List (Option ℕ)). want_by set (get_or xs x None) x) p)
+    (λ x. ap (λ (xs : List (Option ℕ)). want_by rules (get_or xs x None) x) p)
     (λ x. rw e (relabelled old.labels.items a (get_or old.labels.items b b) x l))
     (λ x. ap (λ (xs : List Bool). get_or xs x false) m)
 
@@ -37,3 +42,54 @@ joined_known_below old new a b lb below e x l =
 
 pub same_known_trans : (a b c : Known) → IsSameKnown a b → IsSameKnown b c → IsSameKnown a c
 same_known_trans a b c p q = record { passed = q.passed ∙ p.passed; labels = q.labels ∙ p.labels; emitted = q.emitted ∙ p.emitted }
+
+-- what is known stays fit where only marks change
+pub fit_same : (rules : RulesOverSites) (n : ℕ) (a b : Known) → IsFit rules n a → IsSameKnown a b → IsFit rules n b
+fit_same rules n a b f k = record {
+  passed = ap length k.passed ∙ f.passed;
+  labels = ap length k.labels ∙ f.labels;
+  emitted = k.emitted ∙ f.emitted;
+  below = λ x l. let P : List ℕ → Type 0 = λ xs. get_or xs x x < n in subst P (sym k.labels) (f.below x l);
+  wanted = λ x i e. f.wanted x i (ap (λ (xs : List (Option ℕ)). get_or xs x None) (sym k.passed) ∙ e);
+}
+
+-- a rule's want is met
+passed_or : (old new : Known) (s rule y : ℕ) → s < length old.passed.items → new.passed.items ≡ set old.passed.items s (Some rule)
+    → ((y ≡ s) × (get_or new.passed.items y None ≡ Some rule)) ⊎ (((y == s) ≡ false) × (get_or new.passed.items y None ≡ get_or old.passed.items y None))
+passed_or old new s rule y l e =
+    let q = ap (λ (xs : List (Option ℕ)). get_or xs y None) e ∙ set_passed old.passed.items s rule y l in
+    elim (true_or (y == s)) [
+      | inl t ↦ inl (eqb-true y s t, q ∙ rw t refl)
+      | inr f ↦ inr (f, q ∙ rw f refl)
+    ]
+
+pub passed_path : (rules : RulesOverSites) (old new : Known) (s rule : ℕ) (w : Want Constraint) → s < length old.passed.items
+    → new.passed.items ≡ set old.passed.items s (Some rule) → new.labels.items ≡ old.labels.items → (rules_in rules).at rule s ≡ Some w
+    → IsSamePath (inside (rules_in rules) (scope_of rules old) s w) (scope_of rules new)
+passed_path rules old new s rule w l e k h = record {
+  passed = λ y. elim (passed_or old new s rule y l e) [
+    | inl p ↦
+        ap (λ (o : Option ℕ). want_by rules o y) p.1 ∙ ap (λ (z : ℕ). (rules_in rules).at rule z) p.0 ∙ h ∙ sym (rw (eq-eqb y s p.0) refl)
+    | inr p ↦ ap (λ (o : Option ℕ). want_by rules o y) p.1 ∙ sym (rw p.0 refl)
+  ];
+  label = λ y. ap (λ (xs : List ℕ). get_or xs y y) k;
+}
+
+pub passed_fit : (rules : RulesOverSites) (n : ℕ) (old new : Known) (s rule : ℕ) → IsFit rules n old → s < n
+    → new.passed.items ≡ set old.passed.items s (Some rule) → new.labels.items ≡ old.labels.items → new.emitted.items ≡ old.emitted.items
+    → (w : Want Constraint) × ((rules_in rules).at rule s ≡ Some w) → IsFit rules n new
+passed_fit rules n old new s rule f l e k m has =
+    let size = f.passed in
+    let b : s < length old.passed.items = omega arith in
+    record {
+      passed = ap length e ∙ length-set old.passed.items s (Some rule) ∙ f.passed;
+      labels = ap length k ∙ f.labels;
+      emitted = ap length m ∙ f.emitted;
+      below = λ x i. let P : List ℕ → Type 0 = λ xs. get_or xs x x < n in subst P (sym k) (f.below x i);
+      wanted = λ x i q. elim (passed_or old new s rule x b e) [
+        | inl p ↦
+            let same : rule ≡ i = same_Some _ _ (sym p.1 ∙ q) in
+            (has.0, ap (λ (z : ℕ). (rules_in rules).at i z) p.0 ∙ ap (λ (z : ℕ). (rules_in rules).at z s) (sym same) ∙ has.1)
+        | inr p ↦ f.wanted x i (sym p.1 ∙ q)
+      ];
+    }

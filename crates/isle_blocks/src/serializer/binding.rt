@@ -1,8 +1,9 @@
 //! What is bound before a test, in the arm of a test, and before a return.
 ghost use Rattle.isle_trees.specs.Builds.{BindsEach};
-ghost use Rattle.isle_blocks.specs.Trees.View.{call_at};
-ghost use Rattle.std.specs.Prelude.{◌≡◌, ◌<◌, ◌++◌, ◌∷◌, [], ℕ, List, length, map, sum_by, IfOk, true};
+ghost use Rattle.isle_blocks.specs.Trees.View.{call_at, keep};
+ghost use Rattle.std.specs.Prelude.{◌≡◌, ◌<◌, ◌++◌, ◌∷◌, [], ℕ, List, Option, Some, length, map, sum_by, IfOk, true};
 ghost use Rattle.std.specs.List.{filter};
+ghost use Rattle.std.specs.Option.{option_map};
 ghost use Rattle.isle_trees.specs.Bag.{IsAscending};
 ghost use Rattle.isle_trees.specs.Gathering.{IsClosure, Gathers};
 ghost use Rattle.isle_trees.specs.Ranking.{PartsAreLower, AllBelow, Emits, EmitsOne, EmitsEach};
@@ -300,6 +301,7 @@ impl RuleSet {
         requires wants { (rules_in self.now).at rule site.0 ≡ Some (has test) }
         ensures { IfOk result (λ v. options_shown v.items ≡ (rules_in self.now).fields site.0 test) }
     {
+        let _count = self.binding_count();
         let bindings = test.bindings_for(alloc, site)?;
         let mut all = Vec::new(alloc);
         for binding in bindings.as_slice() {
@@ -314,6 +316,7 @@ impl RuleSet {
         requires made { (x : ℕ) × ((rules_in self.now).value site.0 ≡ Some x) }
         ensures { (rules_in self.now).value site.0 ≡ Some result.0 }
     {
+        let _count = self.binding_count();
         match self.find_binding(&Binding::Iterator { source: site }) {
             Some(value) => value,
             None => BindingId(0),
