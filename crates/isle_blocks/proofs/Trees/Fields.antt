@@ -1,9 +1,8 @@
 -- Which want makes a site, and where the sites of fields stand.
-use Rattle.std.proofs.Common.{◌≡◌, ◌≢◌, inl, inr, ℕ, zero, suc, ◌<◌, ◌==◌, ◌&&◌, ◌++◌, List, [], ◌∷◌, Bool, true, false, Option, Some, None, length, refl, sym, ◌∙◌, ap, subst, arith, map, slice_get, eqb-true}
+use Rattle.std.proofs.Common.{◌≡◌, inl, inr, ℕ, zero, suc, ◌<◌, ◌==◌, ◌&&◌, ◌++◌, List, [], ◌∷◌, true, false, Option, Some, None, length, refl, sym, ◌∙◌, ap, subst, arith, map, slice_get, eqb-true}
 use Rattle.std.proofs.lemmas.List.{map-append}
 use Rattle.std.proofs.lemmas.Option.{same_Some, slice_get_within}
 use Rattle.std.specs.Option.{option_map}
-use Rattle.isle_meaning.specs.Held.{Held}
 use Rattle.isle_types.specs.Names.{AreDistinct}
 use Rattle.isle_trees.specs.Rules.{Tests, Want, has, Source, Rules}
 use Rattle.isle_trees.specs.Scopes.{Scope, emit, same_want, is_source}
@@ -56,19 +55,9 @@ made_source rules (Some (sites.MakeSome inner)) = refl
 made_source rules (Some (sites.MatchSome source)) = refl
 made_source rules (Some (sites.MatchTuple source field)) = refl
 
-no_site : (o : Option (Source Constraint)) → option_map site_of o ≡ None → o ≡ None
-no_site None e = refl
-no_site (Some m) e = cc
-
 some_site : (o : Option (Source Constraint)) (s : ℕ) → option_map site_of o ≡ Some s → (m : Source Constraint) × (o ≡ Some m) × (m.site ≡ s)
 some_site None s e = cc
 some_site (Some m) s e = (m, refl, same_Some _ _ e)
-
--- no want makes a site that has no source
-pub made_of_none : (set : RulesOverSites) (x source : ℕ) (w : Want Constraint) → source_in (slice_get set.sites x) ≡ None
-    → is_source (rules_in set).tests source w ((rules_in set).made x) ≡ false
-made_of_none set x source w e =
-    rw (no_site ((rules_in set).made x) (sym (made_source set.rules (slice_get set.sites x)) ∙ e)) refl
 
 -- no rule's want makes a site that no rule opens
 pub made_unopened : (set : RulesOverSites) (n : ℕ) (openers : ℕ → Option ℕ) (x rule source : ℕ) (w : Want Constraint) → AreOpeners set n openers
@@ -82,7 +71,8 @@ made_unopened set n openers x rule source w h l e f =
     ]
 
 -- else a rule's want makes it that is the want of its opener
-pub made_opened : (set : RulesOverSites) (n : ℕ) (openers : ℕ → Option ℕ) (x own opener rule source : ℕ) (w : Want Constraint) → AreOpeners set n openers
+pub made_opened : (set : RulesOverSites) (n : ℕ) (openers : ℕ → Option ℕ) (x own opener rule source : ℕ) (w : Want Constraint)
+    → AreOpeners set n openers
     → source_in (slice_get set.sites x) ≡ Some own → openers x ≡ Some opener → (rules_in set).at rule source ≡ Some w
     → ((own == source) && same_wants (rules_in set).tests ((rules_in set).at opener source) ((rules_in set).at rule source))
     ≡ is_source (rules_in set).tests source w ((rules_in set).made x)
@@ -126,7 +116,8 @@ found_place all b (Some id) d h = place_first b all id.0 d h
 
 pub found_below : (all : List Binding) (b : Binding) (o : Option BindingId) → IsFound all b o → (x : BindingId) → o ≡ Some x → x.0 < length all
 found_below all b None h x e = cc
-found_below all b (Some id) h x e = slice_get_within all x.0 b (let P : BindingId → Type 0 = λ z. slice_get all z.0 ≡ Some b in subst P (same_Some _ _ e) h)
+found_below all b (Some id) h x e =
+    slice_get_within all x.0 b (let P : BindingId → Type 0 = λ z. slice_get all z.0 ≡ Some b in subst P (same_Some _ _ e) h)
 
 abbrev number : BindingId → ℕ
 number id = id.0
@@ -136,14 +127,14 @@ pub bound_made : {C V : Type 0} (R : Rules C V) (s : ℕ) (w : Want C) (sc new :
 bound_made R s w sc new x e f = rw e f
 
 -- fields so far, and one more
-pub fields_more : (set : RulesOverSites) (s : ℕ) (c : Constraint) (front : List Binding) (b : Binding) (old new : List (Option BindingId)) (found kept : Option BindingId)
-    → AreDistinct set.sites → IsFound set.sites b found
+pub fields_more : (set : RulesOverSites) (s : ℕ) (c : Constraint) (front : List Binding) (b : Binding) (old new : List (Option BindingId))
+    (found kept : Option BindingId) → AreDistinct set.sites → IsFound set.sites b found
     → option_map number kept ≡ keep (λ x. is_source (rules_in set).tests s (has c) ((rules_in set).made x)) (option_map number found)
     → new ≡ old ++ kept ∷ []
     → options_shown old ≡ map (field_of (λ s. []) set s c) front → options_shown new ≡ map (field_of (λ s. []) set s c) (front ++ b ∷ [])
 fields_more set s c front b old new found kept d f k p h =
     let one : option_map number kept ≡ field_of (λ s. []) set s c b =
-        k ∙ ap (keep (λ x. is_source (rules_in set).tests s (has c) ((rules_in set).made x))) (sym (found_place set.sites b found d f)) in
+    k ∙ ap (keep (λ x. is_source (rules_in set).tests s (has c) ((rules_in set).made x))) (sym (found_place set.sites b found d f)) in
     ap options_shown p ∙ map-append (option_map number) old (kept ∷ []) ∙ ap (λ (l : List (Option ℕ)). l ++ option_map number kept ∷ []) h
     ∙ ap (λ (o : Option ℕ). map (field_of (λ s. []) set s c) front ++ o ∷ []) one ∙ sym (map-append (field_of (λ s. []) set s c) front (b ∷ []))
 

@@ -11,7 +11,7 @@ use Rattle.isle_blocks.specs.RuleSets.{RulesOverSites}
 use Rattle.isle_blocks.specs.declared.constraint.Constraint.{Constraint}
 use Rattle.isle_blocks.specs.declared.serializer.known.Known.{Known}
 use Rattle.isle_blocks.specs.Trees.Builder.{IsFit, rules_in, want_by, scope_of}
-use Rattle.isle_blocks.specs.Trees.Work.{IsSameKnown, relabel}
+use Rattle.isle_blocks.specs.Trees.Work.{IsCopy, IsSameKnown, relabel}
 
 -- sites that are joined have one label
 pub joined_labels : (old new : Known) (a b x y : ℕ) (from made : List ℕ) → x ≡ get_or old.labels.items a a → y ≡ get_or old.labels.items b b
@@ -35,7 +35,7 @@ pub joined_known_below : (old new : Known) (a b : ℕ) → b < length old.labels
     → (x : ℕ) → x < length new.labels.items → get_or new.labels.items x x < length new.labels.items
 joined_known_below old new a b lb below e x l =
     let n : length new.labels.items ≡ length old.labels.items =
-        ap length e ∙ length-map old.labels.items (relabel (get_or old.labels.items a a) (get_or old.labels.items b b)) in
+    ap length e ∙ length-map old.labels.items (relabel (get_or old.labels.items a a) (get_or old.labels.items b b)) in
     let m : x < length old.labels.items = omega arith in
     let h = joined_below old.labels.items new.labels.items a b (length old.labels.items) refl below lb e x m in
     omega arith
@@ -55,7 +55,8 @@ fit_same rules n a b f k = record {
 
 -- a rule's want is met
 passed_or : (old new : Known) (s rule y : ℕ) → s < length old.passed.items → new.passed.items ≡ set old.passed.items s (Some rule)
-    → ((y ≡ s) × (get_or new.passed.items y None ≡ Some rule)) ⊎ (((y == s) ≡ false) × (get_or new.passed.items y None ≡ get_or old.passed.items y None))
+    → ((y ≡ s) × (get_or new.passed.items y None ≡ Some rule))
+    ⊎ (((y == s) ≡ false) × (get_or new.passed.items y None ≡ get_or old.passed.items y None))
 passed_or old new s rule y l e =
     let q = ap (λ (xs : List (Option ℕ)). get_or xs y None) e ∙ set_passed old.passed.items s rule y l in
     elim (true_or (y == s)) [
@@ -93,3 +94,26 @@ passed_fit rules n old new s rule f l e k m has =
         | inr p ↦ f.wanted x i (sym p.1 ∙ q)
       ];
     }
+
+-- it stays fit where sites are joined, and in a copy
+pub fit_joined : (rules : RulesOverSites) (n : ℕ) (old new : Known) → IsFit rules n old → new.passed.items ≡ old.passed.items
+    → new.emitted.items ≡ old.emitted.items → length new.labels.items ≡ length old.labels.items
+    → ((x : ℕ) → x < length new.labels.items → get_or new.labels.items x x < length new.labels.items) → IsFit rules n new
+fit_joined rules n old new f p m size below =
+    let k : length new.labels.items ≡ n = size ∙ f.labels in
+    record {
+      passed = ap length p ∙ f.passed;
+      labels = k;
+      emitted = ap length m ∙ f.emitted;
+      below = λ x l. let h = below x (omega arith) in omega arith;
+      wanted = λ x i e. f.wanted x i (ap (λ (xs : List (Option ℕ)). get_or xs x None) (sym p) ∙ e);
+    }
+
+pub fit_copy : (rules : RulesOverSites) (n : ℕ) (a b : Known) → IsCopy a b → IsFit rules n b → IsFit rules n a
+fit_copy rules n a b c f = fit_same rules n b a f (record { passed = c.passed; labels = c.labels; emitted = ap length c.emitted })
+
+pub copy_scope : (rules : RulesOverSites) (a b : Known) → IsCopy a b → scope_of rules a ≡ scope_of rules b
+copy_scope rules a b c = scope_same _ _
+    (λ x. ap (λ (xs : List (Option ℕ)). want_by rules (get_or xs x None) x) c.passed)
+    (λ x. ap (λ (xs : List ℕ). get_or xs x x) c.labels)
+    (λ x. ap (λ (xs : List Bool). get_or xs x false) c.emitted)

@@ -1,18 +1,17 @@
 //! What is bound before a test, in the arm of a test, and before a return.
-ghost use Rattle.isle_trees.specs.Builds.{BindsEach};
-ghost use Rattle.isle_blocks.specs.Trees.View.{call_at, keep};
-ghost use Rattle.std.specs.Prelude.{◌≡◌, ◌<◌, ◌++◌, ◌∷◌, [], ℕ, List, Option, Some, length, map, sum_by, IfOk, true};
+ghost use Rattle.std.specs.Prelude.{◌≡◌, ◌<◌, ◌++◌, ◌∷◌, [], ℕ, Option, Some, length, sum_by, IfOk};
 ghost use Rattle.std.specs.List.{filter};
 ghost use Rattle.std.specs.Option.{option_map};
 ghost use Rattle.isle_trees.specs.Bag.{IsAscending};
+ghost use Rattle.isle_trees.specs.Builds.{BindsEach};
 ghost use Rattle.isle_trees.specs.Gathering.{IsClosure, Gathers};
 ghost use Rattle.isle_trees.specs.Ranking.{PartsAreLower, AllBelow, Emits, EmitsOne, EmitsEach};
-ghost use Rattle.isle_trees.specs.Rules.{Elem, rights, Want, has};
+ghost use Rattle.isle_trees.specs.Rules.{Want, has};
 ghost use Rattle.isle_trees.specs.Scopes.{inside, is_source};
-ghost use Rattle.isle_trees.specs.Search.{AreDistinct, IsSamePath, with_made};
+ghost use Rattle.isle_trees.specs.Search.{AreDistinct, with_made};
 ghost use Rattle.isle_blocks.specs.Rows.{numbers_of};
-ghost use Rattle.isle_blocks.specs.RuleSets.{RulesOverSites};
-ghost use Rattle.isle_blocks.specs.Trees.Builder.{IsFit, IsIndexOf, rules_in, scope_of, want_by};
+ghost use Rattle.isle_blocks.specs.Trees.Builder.{IsFit, IsIndexOf, rules_in, scope_of};
+ghost use Rattle.isle_blocks.specs.Trees.View.{call_at, keep};
 ghost use Rattle.isle_blocks.specs.Trees.Work.{IsSameKnown, options_shown, rights_in};
 
 use crate::binding::Binding;
@@ -89,11 +88,7 @@ impl RuleSet {
     }
 
     /// Puts sites into an order, where they stand in one.
-    fn push_each(
-        &self,
-        sites: &[BindingId],
-        order: &mut Vec<BindingId>,
-    ) -> Result<(), AllocError>
+    fn push_each(&self, sites: &[BindingId], order: &mut Vec<BindingId>) -> Result<(), AllocError>
         ensures { IfOk result (λ _. numbers_of order.new.items ≡ numbers_of order.old.items ++ filter (rules_in self.now).stands (numbers_of sites.now)) }
     {
         for site in sites {

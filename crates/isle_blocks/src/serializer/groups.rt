@@ -13,7 +13,6 @@ use std::alloc::{AllocError, Global};
 /// The rules of a group that want one test of a site, which end at a place in it.
 #[derive(Drop)]
 pub(crate) struct Run {
-    pub(crate) test: Constraint,
     pub(crate) rules: Vec<usize>,
     pub(crate) end: usize,
 }
@@ -31,7 +30,11 @@ impl RuleSet {
     }
 
     /// Rules by the test that they want of the site, those of one test in order.
-    pub(crate) fn by_test(&self, rules: Vec<usize>, site: BindingId) -> Result<Vec<usize>, AllocError>
+    pub(crate) fn by_test(
+        &self,
+        rules: Vec<usize>,
+        site: BindingId,
+    ) -> Result<Vec<usize>, AllocError>
         requires set { IsSerializable self.now }
         requires order { IsInOrder (rules_in self.now) rules.items }
         ensures grouped { IfOk result (λ v. AreGrouped (rules_in self.now) site.0 v.items) }
@@ -86,11 +89,11 @@ impl RuleSet {
         requires grouped { AreGrouped (rules_in self.now) site.0 group.now }
         requires want { AllWant (rules_in self.now) group.now site.0 }
         requires test { (rules_in self.now).at (slice_index group.now start) site.0 ≡ Some (has test) }
-        ensures { IfOk result (λ r. IsRun (rules_in self.now) site.0 start group.now r.test r.rules.items r.end) }
+        ensures { IfOk result (λ r. IsRun (rules_in self.now) site.0 start group.now test r.rules.items r.end) }
     {
         let rules = self.front(alloc, &group[start..], site, test)?;
         let end = start + rules.len();
-        Ok(Run { test, rules, end })
+        Ok(Run { rules, end })
     }
 }
 

@@ -230,7 +230,12 @@ impl Known {
     }
 
     /// Two sites are equal: those that have the label of the first get that of the second.
-    pub(crate) fn join(&mut self, alloc: Global, a: BindingId, b: BindingId) -> Result<(), AllocError>
+    pub(crate) fn join(
+        &mut self,
+        alloc: Global,
+        a: BindingId,
+        b: BindingId,
+    ) -> Result<(), AllocError>
         requires a { a.0 < length self.old.labels.items }
         requires b { b.0 < length self.old.labels.items }
         requires below { (x : ℕ) → x < length self.old.labels.items → slice_index_or self.old.labels.items x x < length self.old.labels.items }

@@ -1,4 +1,4 @@
-use Rattle.std.proofs.Common.{rules, arith, ◌∙◌, ◌≡◌, ◌<◌, ◌≤◌, ◌+◌, get_or, length, subst, sym, List, ℕ, ap, refl}
+use Rattle.std.proofs.Common.{rules, arith, ◌∙◌, ◌≡◌, ◌<◌, ◌≤◌, ◌+◌, get_or, length, subst, sym, List, ℕ, ap}
 use Rattle.std.proofs.lemmas.List.{take_all, length-append}
 use Rattle.isle_trees.specs.Rules.{Elem}
 use Rattle.isle_trees.proofs.Building.Gathering.{closing_start, closing_more, closed, gathering_short}
@@ -29,7 +29,7 @@ gather-requires-in-parts c x m =
     let l0 : c.parts.at < length xs = search rules in
     let at : c.index.result.now ≡ get_or xs c.parts.at (id_of 0) = c.index.ensures ∙ get_any xs c.parts.at c.index.result.now (id_of 0) l0 in
     let e : numbers_of c.parts-in-parts.result.now ≡ R.parts site =
-        c.parts-in-parts.ensures ∙ ap R.parts (ap (λ (id : BindingId). id.0) at ∙ sym (number_get xs c.parts.at)) in
+    c.parts-in-parts.ensures ∙ ap R.parts (ap (λ (id : BindingId). id.0) at ∙ sym (number_get xs c.parts.at)) in
     let l : x < site = c.requires.lower site x (subst P e m) in
     let n = numbers_length xs in
     let b = c.parts.invariant.closing.gathering.below site (elem_at (numbers_of xs) c.parts.at 0 (omega arith)) in
@@ -51,12 +51,12 @@ parts-preserved c =
     let l0 : c.parts.at < length xs = search rules in
     let at : c.index.result.now ≡ get_or xs c.parts.at (id_of 0) = c.index.ensures ∙ get_any xs c.parts.at c.index.result.now (id_of 0) l0 in
     let e : numbers_of c.parts-in-parts.result.now ≡ R.parts site =
-        c.parts-in-parts.ensures ∙ ap R.parts (ap (λ (id : BindingId). id.0) at ∙ sym (number_get xs c.parts.at)) in
+    c.parts-in-parts.ensures ∙ ap R.parts (ap (λ (id : BindingId). id.0) at ∙ sym (number_get xs c.parts.at)) in
     let g = c.in_ok-gather-2.ensures in
     let k = numbers_length xs in
     let j = numbers_length c.gather-in-parts.new.list.items in
     let n : length (numbers_of c.gather-in-parts.new.list.items) ≡ length (numbers_of xs) + length g.more =
-        ap length g.list ∙ length-append (numbers_of xs) g.more in
+    ap length g.list ∙ length-append (numbers_of xs) g.more in
     record {
       closing = closing_more R (numbers_of c.args.sites.now) c.args.marks.now.items c.parts.marks.items c.gather-in-parts.new.marks.items
           (numbers_of xs) (numbers_of c.gather-in-parts.new.list.items) (numbers_of c.parts-in-parts.result.now) c.parts.at

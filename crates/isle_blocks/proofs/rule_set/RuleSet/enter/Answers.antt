@@ -1,11 +1,10 @@
-use Rattle.std.proofs.Common.{◌<◌, ◌∙◌, ℕ, List, Bool, false, ap, arith, get_or, length, refl, subst, sym}
+use Rattle.std.proofs.Common.{◌∙◌, ℕ, List, Bool, false, ap, arith, get_or, length, refl, subst, sym}
 use Rattle.std.proofs.lemmas.List.{take_all}
 use Rattle.isle_trees.specs.Rules.{Elem}
 use Rattle.isle_trees.proofs.Building.Enter.{Entering, entering_none, entering_more, entered}
 use Rattle.isle_blocks.specs.Rows.{numbers_of}
 use Rattle.isle_blocks.specs.Trees.Builder.{rules_in, scope_of}
 use Rattle.isle_blocks.specs.Trees.View.{id_of}
-
 use Rattle.isle_blocks.proofs.Trees.Binding.{number_elem, number_get, numbers_length}
 use Rattle.isle_blocks.proofs.Trees.Fields.{tests_apart, bound_at}
 use Rattle.isle_blocks.proofs.Trees.Known.{fit_same, passed_fit, passed_path, same_known_trans}

@@ -16,7 +16,7 @@ loop-binding-preserved c =
     let i = c.loop-binding.binding-index in
     let b = c.binding-item.result in
     let more : take (i + 1) items ≡ take i items ++ b ∷ [] =
-        take_more items i b c.loop-binding-test.true ∙ ap (λ (x : Binding). take i items ++ x ∷ []) (sym c.binding-item.is) in
+    take_more items i b c.loop-binding-test.true ∙ ap (λ (x : Binding). take i items ++ x ∷ []) (sym c.binding-item.is) in
     rw more (fields_more c.args.self.now c.args.site.0 c.args.test (take i items) b c.loop-binding.all.items c.push.new.self.items
     c.find_binding-found.result c.keep_made.result c.binding_count-count.ensures.once c.find_binding-found.ensures
     (c.keep_made.ensures (has c.args.test) c.requires.wants) c.in_ok-push.ensures.items c.loop-binding.invariant)
@@ -25,4 +25,5 @@ pub returns : goal.returns
 returns c =
     c.loop-binding.invariant
     ∙ ap (λ (l : List Binding). map (field_of (λ s. []) c.args.self.now c.args.site.0 c.args.test) l)
-    (take_all c.loop-binding.binding-index c.as_slice-binding-items.result.now c.loop-binding-test.false ∙ c.as_slice-binding-items.ensures ∙ c.in_ok-bindings.ensures)
+    (take_all c.loop-binding.binding-index c.as_slice-binding-items.result.now c.loop-binding-test.false ∙ c.as_slice-binding-items.ensures
+    ∙ c.in_ok-bindings.ensures)

@@ -8,4 +8,5 @@ use Rattle.isle_blocks.proofs.rule_set.RuleSet.push_each.Goals as goal
 pub loop-site-preserved : goal.loop-site-preserved
 loop-site-preserved c =
     rw (numbers_more c.args.sites.now c.loop-site.site-index (id_of 0) c.loop-site-test.true)
-    (written_more (rules_in c.args.self.now) (numbers_of (take c.loop-site.site-index c.args.sites.now)) _ _ _ _ c.loop-site.invariant c.in_ok-push_own.ensures)
+    (written_more (rules_in c.args.self.now) (numbers_of (take c.loop-site.site-index c.args.sites.now)) _ _ _ _
+    c.loop-site.invariant c.in_ok-push_own.ensures)

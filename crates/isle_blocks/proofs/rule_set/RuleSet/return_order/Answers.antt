@@ -1,4 +1,4 @@
-use Rattle.std.proofs.Common.{ℕ, List, subst, sym, ap, ◌∙◌}
+use Rattle.std.proofs.Common.{ℕ, List, subst, ap, ◌∙◌}
 use Rattle.isle_trees.specs.Rules.{Elem}
 use Rattle.isle_trees.proofs.Building.Emission.{each_from}
 use Rattle.isle_blocks.specs.Rows.{numbers_of}
@@ -11,4 +11,5 @@ emit_rights-requires-clause-below c x m =
 
 pub returns-clause-each : goal.returns-clause-each
 returns-clause-each c =
-    each_from _ _ _ _ _ _ _ (ap numbers_of c.deref.ensures.value ∙ c.in_ok-rights.ensures) (ap numbers_of c.new-order.ensures.items) c.in_ok-emit_rights.ensures.each
+    each_from _ _ _ _ _ _ _ (ap numbers_of c.deref.ensures.value
+    ∙ c.in_ok-rights.ensures) (ap numbers_of c.new-order.ensures.items) c.in_ok-emit_rights.ensures.each

@@ -1,4 +1,4 @@
-use Rattle.std.proofs.Common.{take, ◌≡◌, ◌++◌}
+use Rattle.std.proofs.Common.{take, ◌≡◌}
 use Rattle.isle_blocks.specs.Rows.{numbers_of}
 use Rattle.isle_blocks.specs.Trees.View.{calls_at}
 use Rattle.isle_blocks.proofs.rule_set.RuleSet.rights.Given as goal

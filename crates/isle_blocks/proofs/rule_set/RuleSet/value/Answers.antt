@@ -1,10 +1,12 @@
-use Rattle.std.proofs.Common.{◌≡◌, ◌∙◌, ℕ, Option, Some, None, sym}
+use Rattle.std.proofs.Common.{◌≡◌, ◌∙◌, Some, None, sym}
 use Rattle.isle_blocks.specs.declared.binding.Binding.TheVariants as sites
 use Rattle.isle_blocks.proofs.Trees.Fields.{found_place}
 use Rattle.isle_blocks.proofs.rule_set.RuleSet.value.Goals as goal
 
 pub returns-in-Some : goal.returns-in-Some
-returns-in-Some c = found_place c.args.self.now.sites (sites.Iterator c.args.site) (Some c.in-Some.value) c.binding_count-count.ensures.once c.in-Some.ensures
+returns-in-Some c =
+    found_place c.args.self.now.sites (sites.Iterator c.args.site) (Some c.in-Some.value)
+    c.binding_count-count.ensures.once c.in-Some.ensures
 
 pub returns : goal.returns
 returns c =
