@@ -57,3 +57,5 @@ pub mod Indexed
 pub mod Openers
 -- Which want makes a site, and where the sites of fields stand.
 pub mod Fields
+-- What a step of the builder finds where the best test is known.
+pub mod Stepping

@@ -1,0 +1,87 @@
+use Rattle.std.proofs.Common.{◌≡◌, ◌<◌, ◌++◌, ◌∷◌, [], ℕ, Bool, List, Some, ap, sym, subst, ◌∙◌, refl, map, length, arith, inl, inr, ◌⊎◌}
+use Rattle.isle_trees.specs.Rules.{Elem, Want, has, one_value}
+use Rattle.isle_trees.specs.Scopes.{Scope, inside, join, on_equal, on_loop, release}
+use Rattle.isle_trees.specs.Search.{AreSound, IsSamePath}
+use Rattle.isle_blocks.specs.declared.constraint.Constraint.{Constraint}
+use Rattle.isle_blocks.specs.Rows.{numbers_of}
+use Rattle.isle_blocks.specs.Trees.Builder.{rules_in, scope_of}
+use Rattle.isle_trees.proofs.Building.Enter.{path_bound, sound_join, sound_path}
+use Rattle.isle_trees.proofs.Building.Sorting.{rest_marked}
+use Rattle.isle_blocks.proofs.Trees.Known.{fit_joined, fit_same}
+use Rattle.isle_blocks.proofs.Trees.Moving.{moved_equal}
+use Rattle.isle_blocks.proofs.Trees.Stepping.{chosen_ordered, chosen_rules, rest_ordered, rest_rules, test_within}
+use Rattle.isle_blocks.proofs.rule_set.RuleSet.step_equal.Goals as goal
+
+pub emit_each-requires-clause-below : goal.emit_each-requires-clause-below
+emit_each-requires-clause-below c =
+    let t = on_equal c.args.a.0 c.args.b.0 in
+    let w = test_within c.args.self.now c.args.place t c.args.chosen.items c.args.rest.items c.requires.split c.requires.set in
+    let p = w.0 in
+    let q = w.1 in
+    λ x m. elim m [ inl e ↦ omega (arith, e) | inr o ↦ elim o [ inl e ↦ omega (arith, e) | inr z ↦ absurd z ] ]
+
+pub push_rest-requires-clause-order : goal.push_rest-requires-clause-order
+push_rest-requires-clause-order c =
+    rest_ordered c.args.self.now c.args.place (on_equal c.args.a.0 c.args.b.0) c.args.chosen.items c.args.rest.items c.requires.split
+
+pub push_rest-requires-clause-rules : goal.push_rest-requires-clause-rules
+push_rest-requires-clause-rules c =
+    rest_rules c.args.self.now c.args.place (on_equal c.args.a.0 c.args.b.0) c.args.chosen.items c.args.rest.items c.requires.split
+
+pub push_rest-requires-clause-marked : goal.push_rest-requires-clause-marked
+push_rest-requires-clause-marked c =
+    let sc = scope_of c.args.self.now c.args.place.known in
+    let mid = scope_of c.args.self.now c.emit_each.new.known in
+    let emits = c.in_ok-emit_each.ensures.emits in
+    let path : IsSamePath sc mid = path_bound sc mid emits.all emits.ending in
+    rest_marked (rules_in c.args.self.now) c.args.place.left.items c.args.rest.items sc mid (on_equal c.args.a.0 c.args.b.0) c.args.place.marks.items path
+    c.requires.split.rest_is c.requires.split.open_is.marked
+
+pub join-requires-clause-a : goal.join-requires-clause-a
+join-requires-clause-a c =
+    let t = on_equal c.args.a.0 c.args.b.0 in
+    let w = test_within c.args.self.now c.args.place t c.args.chosen.items c.args.rest.items c.requires.split c.requires.set in
+    let p = w.0 in
+    let f = c.requires.split.open_is.fit.labels in
+    let e : length c.emit_each.new.known.labels.items ≡ length c.args.place.known.labels.items = ap length c.in_ok-emit_each.ensures.known.labels in
+    omega (arith, p, f, e)
+
+pub join-requires-clause-b : goal.join-requires-clause-b
+join-requires-clause-b c =
+    let t = on_equal c.args.a.0 c.args.b.0 in
+    let w = test_within c.args.self.now c.args.place t c.args.chosen.items c.args.rest.items c.requires.split c.requires.set in
+    let p = w.1 in
+    let f = c.requires.split.open_is.fit.labels in
+    let e : length c.emit_each.new.known.labels.items ≡ length c.args.place.known.labels.items = ap length c.in_ok-emit_each.ensures.known.labels in
+    omega (arith, p, f, e)
+
+pub available-requires-clause-sound : goal.available-requires-clause-sound
+available-requires-clause-sound c =
+    let set = c.args.self.now in
+    let R = rules_in set in
+    let sc = scope_of set c.args.place.known in
+    let mid = scope_of set c.emit_each.new.known in
+    let emits = c.in_ok-emit_each.ensures.emits in
+    let path : IsSamePath sc mid = path_bound sc mid emits.all emits.ending in
+    let S : Scope Constraint → Type 0 = λ x. AreSound R x c.args.place.marks.items in
+    let M : List Bool → Type 0 = λ m. AreSound R (scope_of set c.join.new.self) m in
+    subst M (sym c.deref-2.ensures.value)
+    (subst S (sym (c.in_ok-join.ensures.scope set))
+    (sound_join R mid c.args.a.0 c.args.b.0 c.args.place.marks.items (sound_path R sc mid c.args.place.marks.items path c.requires.split.open_is.marked.sound)))
+
+pub push_body-requires-clause-order : goal.push_body-requires-clause-order
+push_body-requires-clause-order c =
+    chosen_ordered c.args.self.now c.args.place (on_equal c.args.a.0 c.args.b.0) c.args.chosen.items c.args.rest.items c.requires.split
+
+pub push_body-requires-clause-rules : goal.push_body-requires-clause-rules
+push_body-requires-clause-rules c =
+    chosen_rules c.args.self.now c.args.place (on_equal c.args.a.0 c.args.b.0) c.args.chosen.items c.args.rest.items c.requires.split
+
+pub returns : goal.returns
+returns c =
+    let set = c.args.self.now in
+    moved_equal set c.args.place c.args.chosen.items c.args.rest.items c.args.a c.args.b (scope_of set c.emit_each.new.known) (scope_of set c.join.new.self)
+    (numbers_of c.new-order.result.items) c.emit_each.new.order.items c.equal_node.result c.args.work.now.items c.push_rest.new.work.items
+    c.push_body.new.work.items c.args.nodes.now.items c.push.new.self.items c.requires.set c.requires.split c.in_ok-emit_each.ensures.emits
+    (ap numbers_of c.new-order.ensures.items) c.equal_node.ensures c.in_ok-push.ensures.items c.in_ok-push_rest.ensures (c.in_ok-join.ensures.scope set)
+    c.in_ok-push_body.ensures
