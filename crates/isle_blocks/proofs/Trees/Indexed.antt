@@ -1,9 +1,10 @@
 -- What rules of a set test, listed by rule and by site.
-use Rattle.std.proofs.Common.{◌≡◌, ◌⊎◌, ◌<◌, ◌≤◌, ◌+◌, ◌-◌, ◌&&◌, ◌++◌, ℕ, suc, zero, inl, inr, true, false, List, [], ◌∷◌, map, Option, Some, None}
+use Rattle.std.proofs.Common.{◌≡◌, ◌⊎◌, ◌<◌, ◌≤◌, ◌+◌, ◌-◌, ◌&&◌, ◌==◌, ◌++◌, ℕ, suc, zero, inl, inr, true, false, List, [], ◌∷◌, map, Option, Some, None}
 use Rattle.std.proofs.Common.{length, length-append, take, set, append_assoc, eq-eqb, ◌≢◌, refl, sym, ◌∙◌, ap, subst, arith, get_or, slice_get, Bool}
 use Rattle.std.proofs.lemmas.Bool.Decides.{nat_tests}
-use Rattle.std.proofs.lemmas.List.{get_or_append_left, get_or-append_right, map-append, take_more}
+use Rattle.std.proofs.lemmas.List.{get_or_append_left, get_or-append_right, append-nil, map-append, take_more}
 use Rattle.std.proofs.lemmas.Option.{get_or_from_slice_get, slice_get-get_or, slice_get_past, slice_get_within}
+use Rattle.std.proofs.Math.ListN.{get_or-map, length-map}
 use Rattle.std.specs.BTreeMap.{is_at}
 use Rattle.std.specs.Global.{Vec}
 use Rattle.std.specs.List.{flat_map, list_any}
@@ -18,7 +19,7 @@ use Rattle.isle_trees.proofs.Asking.{elem_append}
 use Rattle.isle_trees.proofs.Basics.{true_or, or_holds, eq_or, or_left, or_right, and_both, both_and, clash}
 use Rattle.isle_trees.proofs.Building.Asked.{has_tested, tested_below}
 use Rattle.isle_trees.proofs.Building.Gathering.{IsTestedSite}
-use Rattle.isle_trees.proofs.Building.Lists.{less_or, not_same, elem_left, elem_right, elem_at, into_flat}
+use Rattle.isle_trees.proofs.Building.Lists.{less_or, not_same, elem_left, elem_right, elem_at, last_or, flat_append}
 use Rattle.isle_blocks.specs.declared.ids.BindingId.{BindingId}
 use Rattle.isle_blocks.specs.declared.constraint.Constraint.{Constraint}
 use Rattle.isle_blocks.specs.declared.rule.Rule.{Rule}
@@ -115,6 +116,47 @@ keys_more es i e old now new there before step =
     take_more es i e (slice_get_within es i e there) ∙ ap (λ (x : BindingId × Constraint). take i es ++ x ∷ []) (get_or_from_slice_get es i e e there) in
     let keys : map key (take (i + 1) es) ≡ map key (take i es) ++ e.0.0 ∷ [] = ap (map key) one ∙ map-append key (take i es) (e ∷ []) in
     step ∙ (ap (λ (x : List ℕ). x ++ e.0.0 ∷ []) before ∙ (append_assoc old (map key (take i es)) (e.0.0 ∷ []) ∙ ap (λ (x : List ℕ). old ++ x) (sym keys)))
+
+-- the number of a site at a place
+pub number_at : (sites : List BindingId) (i : ℕ) → get_or (numbers_of sites) i 0 ≡ (get_or sites i (record { 0 = 0 })).0
+number_at sites i = let number : BindingId → ℕ = λ id. id.0 in let some : BindingId = record { 0 = 0 } in get_or-map number sites i some
+
+pub number_low : (sites : List BindingId) (i n : ℕ) → AllBelow (numbers_of sites) n → i < length sites → (get_or sites i (record { 0 = 0 })).0 < n
+number_low sites i n all low =
+    let within : i < length (numbers_of sites) = simp length-map low in
+    let e = number_at sites i in
+    let l = all (get_or (numbers_of sites) i 0) (elem_at (numbers_of sites) i 0 within) in
+    omega arith
+
+-- one site more, and one class more
+pub sites_more : (sites : List BindingId) (i : ℕ) (old now new : List ℕ) → i < length sites → now ≡ old ++ take i (numbers_of sites)
+    → new ≡ now ++ (get_or sites i (record { 0 = 0 })).0 ∷ [] → new ≡ old ++ take (i + 1) (numbers_of sites)
+sites_more sites i old now new low before step =
+    let some : BindingId = record { 0 = 0 } in
+    let within : i < length (numbers_of sites) = simp length-map low in
+    let one : take (i + 1) (numbers_of sites) ≡ take i (numbers_of sites) ++ (get_or sites i some).0 ∷ [] =
+    take_more (numbers_of sites) i 0 within
+    ∙ ap (λ (x : ℕ). take i (numbers_of sites) ++ x ∷ []) (number_at sites i) in
+    step ∙ (ap (λ (x : List ℕ). x ++ (get_or sites i some).0 ∷ []) before
+    ∙ (append_assoc old (take i (numbers_of sites)) ((get_or sites i some).0 ∷ []) ∙ ap (λ (x : List ℕ). old ++ x) (sym one)))
+
+pub low_more : (sites : List BindingId) (i n : ℕ) → i < length sites → AllBelow (take i (numbers_of sites)) n → (get_or sites i (record { 0 = 0 })).0 < n
+    → AllBelow (take (i + 1) (numbers_of sites)) n
+low_more sites i n low all here x m =
+    let some : BindingId = record { 0 = 0 } in
+    let within : i < length (numbers_of sites) = simp length-map low in
+    elim (last_or x 0 (numbers_of sites) i within m) [
+      | inl o ↦ all x o
+      | inr e ↦ let f : x ≡ (get_or sites i some).0 = e ∙ number_at sites i in omega arith
+    ]
+
+pub members_more : (classes : List (List BindingId)) (i : ℕ) (class : List BindingId) → i < length classes → class ≡ get_or classes i class
+    → flat_map numbers_of (take (i + 1) classes) ≡ flat_map numbers_of (take i classes) ++ numbers_of class
+members_more classes i class low is =
+    let one : take (i + 1) classes ≡ take i classes ++ class ∷ [] =
+    take_more classes i class low ∙ ap (λ (c : List BindingId). take i classes ++ c ∷ []) (sym is) in
+    ap (flat_map numbers_of) one
+    ∙ (flat_append numbers_of (take i classes) (class ∷ []) ∙ ap (λ (l : List ℕ). flat_map numbers_of (take i classes) ++ l) (append-nil (numbers_of class)))
 
 -- one list more, and those past the last
 pub list_more : {A : Type 0} (P : ℕ → List A → Type 0) (lists new : List (Vec A)) (v : Vec A) (n : ℕ) → length lists ≡ n → new ≡ lists ++ v ∷ []
@@ -252,6 +294,28 @@ module _ (set : RulesOverSites) where
     pub members_are : (sets : List (List BindingId)) → ListsEqualSites rule.equals sets → AreMembers set i sets
     members_are sets lists x low m = joins_is x x ∙ (sym (lists.joined (id_of x) (id_of x) (omega arith)) ∙ listed_class (id_of x) sets m)
 
+-- numbers added behind a list
+module _ (i : ℕ) (old new : List ℕ) (adds : AddsOnly i old new) where
+  pub adds_once : (at s : ℕ) (last : List ℕ) → last ≡ added_at new at i s → AddsOnly i old last
+  adds_once at s last e = elim (true_or (s == at)) [
+    | inl h ↦
+        let f : last ≡ new ++ i ∷ [] = e ∙ (rw h refl) in
+        record {
+          more = adds.more ++ i ∷ [];
+          behind = f ∙ (ap (λ (y : List ℕ). y ++ i ∷ []) adds.behind ∙ append_assoc old adds.more (i ∷ []));
+          only = λ x m. elim (elem_append x adds.more (i ∷ []) m) [
+            | inl k ↦ adds.only x k
+            | inr k ↦ elim k [ inl q ↦ q | inr z ↦ absurd z ]
+          ];
+        }
+    | inr h ↦
+        let f : last ≡ new = e ∙ (rw h refl) in
+        record { more = adds.more; behind = f ∙ adds.behind; only = adds.only }
+  ]
+
+  pub kept_still : (x : ℕ) → Elem x old → Elem x new
+  kept_still x m = let P : List ℕ → Type 0 = λ l. Elem x l in subst P (sym adds.behind) (elem_left x old adds.more m)
+
 -- a list stays in order where a number is added that none of it passes
 module _ (i : ℕ) (old new : List ℕ) (low : (x : ℕ) → Elem x old → x ≤ i) (adds : AddsOnly i old new) where
   pub low_still : (x : ℕ) → Elem x new → x ≤ i
@@ -281,6 +345,3 @@ module _ (i : ℕ) (old new : List ℕ) (low : (x : ℕ) → Elem x old → x �
         let f : get_or new k d ≤ i = low_still (get_or new k d) (elem_at new k d (omega arith)) in
         omega arith
   ]
-
-  pub kept_still : (x : ℕ) → Elem x old → Elem x new
-  kept_still x m = let P : List ℕ → Type 0 = λ l. Elem x l in subst P (sym adds.behind) (elem_left x old adds.more m)
