@@ -3,7 +3,7 @@ use Rattle.std.proofs.Common.{◌≡◌, ◌⊎◌, ◌<◌, ◌≤◌, ◌+◌,
 use Rattle.std.proofs.Common.{length, length-append, take, set, append_assoc, eq-eqb, ◌≢◌, refl, sym, ◌∙◌, ap, subst, arith, get_or, slice_get, Bool}
 use Rattle.std.proofs.lemmas.Bool.Decides.{nat_tests}
 use Rattle.std.proofs.lemmas.List.{get_or_append_left, get_or-append_right, append-nil, map-append, take_more}
-use Rattle.std.proofs.lemmas.Option.{get_or_from_slice_get, slice_get-get_or, slice_get_past, slice_get_within}
+use Rattle.std.proofs.lemmas.Option.{get_or_from_slice_get, slice_get-get_or, slice_get_past, slice_get_read, slice_get_within}
 use Rattle.std.proofs.Math.ListN.{get_or-map, length-map}
 use Rattle.std.specs.BTreeMap.{is_at}
 use Rattle.std.specs.Global.{Vec}
@@ -221,6 +221,14 @@ has_want loops o c e = rw e refl
 loop_want : (loops : Bool) (o : Option Constraint) → loops ≡ true → (w : Want Constraint) × (want_or loops o ≡ Some w)
 loop_want loops None e = (one_value, rw e refl)
 loop_want loops (Some c) e = (has c, refl)
+
+-- the rule at a place
+pub rule_there : (rules seen all : List Rule) (at : ℕ) (rule : Rule) → seen ≡ rules → all ≡ rules → at < length all → rule ≡ get_or seen at rule
+    → slice_get rules at ≡ Some rule
+rule_there rules seen all at rule e f low is =
+    let m = ap length e in
+    let n = ap length f in
+    sym (ap (λ (l : List Rule). slice_get l at) e) ∙ slice_get_read seen (length seen) at rule refl (omega (arith, m, n)) is
 
 module _ (set : RulesOverSites) where
   -- past the last rule nothing is tested

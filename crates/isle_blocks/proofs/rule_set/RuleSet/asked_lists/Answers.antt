@@ -1,6 +1,5 @@
 use Rattle.std.proofs.Common.{arith, refl, sym, ◌∙◌, ap, ◌≡◌, ◌≤◌, ◌+◌, ℕ, [], Some, List, length, slice_get, subst}
 use Rattle.std.proofs.lemmas.List.{length_push}
-use Rattle.std.proofs.lemmas.Option.{slice_get_read}
 use Rattle.std.specs.List.{flat_map}
 use Rattle.isle_trees.specs.Ranking.{AllBelow}
 use Rattle.isle_trees.specs.Search.{IsAskedBy}
@@ -8,7 +7,7 @@ use Rattle.isle_trees.proofs.Building.Asked.{asked_listed, nothing_asked}
 use Rattle.isle_blocks.specs.declared.ids.BindingId.{BindingId}
 use Rattle.isle_blocks.specs.Rows.{numbers_of}
 use Rattle.isle_blocks.specs.Trees.Builder.{AreClasses, AreMembers, rules_in, tested_in}
-use Rattle.isle_blocks.proofs.Trees.Indexed.{tested_few, tested_listed, never_tested, list_more, list_all}
+use Rattle.isle_blocks.proofs.Trees.Indexed.{rule_there, tested_few, tested_listed, never_tested, list_more, list_all}
 use Rattle.isle_blocks.proofs.rule_set.RuleSet.asked_lists.Goals as goal
 
 pub asked_by-requires-clause-below : goal.asked_by-requires-clause-below
@@ -16,11 +15,8 @@ asked_by-requires-clause-below c =
     let set = c.args.self.now in
     let at = c.loop-rule.rule in
     let rule = c.index-rules-rule.result in
-    let inside = ap length c.rules.ensures in
-    let all = ap length c.rules-rule-end.ensures in
     let there : slice_get set.rules at ≡ Some rule =
-    sym (ap (λ l. slice_get l at) c.rules.ensures)
-    ∙ slice_get_read c.rules.result.now (length c.rules.result.now) at rule refl (let l = c.loop-rule-test.true in omega (arith, l, inside, all)) c.index-rules-rule.is in
+    rule_there set.rules c.rules.result.now c.rules-rule-end.result.now at rule c.rules.ensures c.rules-rule-end.ensures c.loop-rule-test.true c.index-rules-rule.is in
     let P : List (List BindingId) → Type 0 = λ l. AreMembers set at l in
     tested_few set at rule there c.classes_of.result.now c.requires.set.within (subst P (sym c.classes_of.ensures) (c.requires.members at))
 
@@ -34,11 +30,8 @@ loop-rule-preserved c =
     let lists = c.loop-rule.lists.items in
     let size = c.loop-rule.invariant.size in
     let pushed = c.in_ok-push.ensures.items in
-    let inside = ap length c.rules.ensures in
-    let all = ap length c.rules-rule-end.ensures in
     let there : slice_get set.rules at ≡ Some rule =
-    sym (ap (λ l. slice_get l at) c.rules.ensures)
-    ∙ slice_get_read c.rules.result.now (length c.rules.result.now) at rule refl (let l = c.loop-rule-test.true in omega (arith, l, inside, all)) c.index-rules-rule.is in
+    rule_there set.rules c.rules.result.now c.rules-rule-end.result.now at rule c.rules.ensures c.rules-rule-end.ensures c.loop-rule-test.true c.index-rules-rule.is in
     let P : List (List BindingId) → Type 0 = λ l. AreClasses set at l in
     let classes : AreClasses set at c.classes_of.result.now = subst P (sym c.classes_of.ensures) (c.requires.classes at) in
     record {

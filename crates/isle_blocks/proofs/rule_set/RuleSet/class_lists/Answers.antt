@@ -1,9 +1,8 @@
 use Rattle.std.proofs.Common.{◌≡◌, ◌<◌, ◌≤◌, ◌+◌, ℕ, [], Some, length, slice_get, ap, sym, ◌∙◌, arith, refl, subst, List}
 use Rattle.std.proofs.lemmas.List.{length_push}
-use Rattle.std.proofs.lemmas.Option.{slice_get_read}
 use Rattle.isle_blocks.specs.declared.ids.BindingId.{BindingId}
 use Rattle.isle_blocks.specs.Trees.Builder.{AreClasses, AreMembers}
-use Rattle.isle_blocks.proofs.Trees.Indexed.{classes_are, members_are, list_more, list_all, no_classes}
+use Rattle.isle_blocks.proofs.Trees.Indexed.{rule_there, classes_are, members_are, list_more, list_all, no_classes}
 use Rattle.isle_blocks.proofs.rule_set.RuleSet.class_lists.Goals as goal
 
 pub loop-rule-preserved : goal.loop-rule-preserved
@@ -15,8 +14,8 @@ loop-rule-preserved c =
     let lists = c.loop-rule.lists.items in
     let pushed = c.in_ok-push.ensures.items in
     let there : slice_get set.rules at ≡ Some rule =
-    sym (ap (λ l. slice_get l at) c.rules-rule-items.ensures)
-    ∙ slice_get_read c.rules-rule-items.result.now (length c.rules-rule-items.result.now) at rule refl c.loop-rule-test.true c.rule-item.is in
+    rule_there set.rules c.rules-rule-items.result.now c.rules-rule-items.result.now at rule c.rules-rule-items.ensures c.rules-rule-items.ensures
+    c.loop-rule-test.true c.rule-item.is in
     let size = c.loop-rule.invariant.size in
     record {
       size = ap length pushed ∙ length_push lists sets ∙ ap (λ (x : ℕ). x + 1) size;

@@ -1,5 +1,4 @@
 use Rattle.std.proofs.Common.{arith, refl, sym, ◌∙◌, ap, ◌≡◌, ◌<◌, ◌≤◌, ◌+◌, ℕ, Some, List, length, slice_get, subst}
-use Rattle.std.proofs.lemmas.Option.{slice_get_read}
 use Rattle.isle_trees.specs.Rules.{Elem}
 use Rattle.isle_trees.specs.Search.{first_of}
 use Rattle.isle_trees.proofs.Building.Asked.{has_tested}
@@ -8,7 +7,7 @@ use Rattle.isle_blocks.specs.declared.ids.BindingId.{BindingId}
 use Rattle.isle_blocks.specs.Rows.{numbers_of}
 use Rattle.isle_blocks.specs.Trees.Builder.{AreClasses, AreMembers, items_at, rules_in, tested_in}
 use Rattle.isle_blocks.specs.Trees.Work.{AddsOnly}
-use Rattle.isle_blocks.proofs.Trees.Indexed.{tested_few, tested_listed, never_has, kept_still, low_still, rising_still}
+use Rattle.isle_blocks.proofs.Trees.Indexed.{rule_there, tested_few, tested_listed, never_has, kept_still, low_still, rising_still}
 use Rattle.isle_blocks.proofs.rule_set.RuleSet.user_lists.Goals as goal
 
 pub add_each-requires : goal.add_each-requires
@@ -16,11 +15,8 @@ add_each-requires c =
     let set = c.args.self.now in
     let at = c.loop-rule.rule in
     let rule = c.index-rules-rule.result in
-    let inside = ap length c.rules.ensures in
-    let all = ap length c.rules-rule-end.ensures in
     let there : slice_get set.rules at ≡ Some rule =
-    sym (ap (λ l. slice_get l at) c.rules.ensures)
-    ∙ slice_get_read c.rules.result.now (length c.rules.result.now) at rule refl (let l = c.loop-rule-test.true in omega (arith, l, inside, all)) c.index-rules-rule.is in
+    rule_there set.rules c.rules.result.now c.rules-rule-end.result.now at rule c.rules.ensures c.rules-rule-end.ensures c.loop-rule-test.true c.index-rules-rule.is in
     let P : List (List BindingId) → Type 0 = λ l. AreMembers set at l in
     let members : AreMembers set at c.classes_of.result.now = subst P (sym c.classes_of.ensures) (c.requires.members at) in
     record {
@@ -36,11 +32,8 @@ loop-rule-preserved c =
     let set = c.args.self.now in
     let at = c.loop-rule.rule in
     let rule = c.index-rules-rule.result in
-    let inside = ap length c.rules.ensures in
-    let all = ap length c.rules-rule-end.ensures in
     let there : slice_get set.rules at ≡ Some rule =
-    sym (ap (λ l. slice_get l at) c.rules.ensures)
-    ∙ slice_get_read c.rules.result.now (length c.rules.result.now) at rule refl (let l = c.loop-rule-test.true in omega (arith, l, inside, all)) c.index-rules-rule.is in
+    rule_there set.rules c.rules.result.now c.rules-rule-end.result.now at rule c.rules.ensures c.rules-rule-end.ensures c.loop-rule-test.true c.index-rules-rule.is in
     let P : List (List BindingId) → Type 0 = λ l. AreClasses set at l in
     let classes : AreClasses set at c.classes_of.result.now = subst P (sym c.classes_of.ensures) (c.requires.classes at) in
     let old = c.loop-rule.lists.items in
