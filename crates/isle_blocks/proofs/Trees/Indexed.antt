@@ -29,7 +29,7 @@ use Rattle.isle_blocks.specs.RuleSets.{RulesOverSites}
 use Rattle.isle_blocks.specs.Rows.{numbers_of}
 use Rattle.isle_blocks.specs.Rules.{site_cmp}
 use Rattle.isle_blocks.specs.Trees.Builder.{AreClasses, AreMembers, IsRising, items_at, items_in, rules_in, tested_in}
-use Rattle.isle_blocks.specs.Trees.View.{has_loop, id_of, made_at, read_or, rule_joins, test_at, want_at, want_or}
+use Rattle.isle_blocks.specs.Trees.View.{has_loop, id_of, read_or, rule_joins, test_at, want_at, want_or}
 use Rattle.isle_blocks.specs.Trees.Work.{AddsOnly}
 
 -- sites by their numbers

@@ -1,13 +1,13 @@
 -- Which rule opens a site: the first whose test makes it.
-use Rattle.std.proofs.Common.{◌≡◌, ◌≢◌, ◌<◌, ◌≤◌, ◌&&◌, ◌==◌, ℕ, suc, zero, inl, inr, true, false, not, nat_lt, is_some, Bool, List, [], ◌∷◌, Option, Some, None}
+use Rattle.std.proofs.Common.{◌≡◌, ◌≢◌, ◌<◌, ◌≤◌, ◌&&◌, ℕ, suc, zero, inl, inr, true, false, not, is_some, Bool, List, [], ◌∷◌, Option, Some, None}
 use Rattle.std.proofs.Common.{length, refl, sym, ◌∙◌, ap, subst, arith, get_or, slice_get}
 use Rattle.std.proofs.lemmas.Bool.Decides.{nat_tests}
 use Rattle.std.proofs.lemmas.Option.{same_Some}
-use Rattle.isle_trees.specs.Rules.{Want, has, one_value, Source, Elem}
-use Rattle.isle_trees.specs.Scopes.{Test, on_match, on_loop, has_test}
+use Rattle.isle_trees.specs.Rules.{has, one_value, Source, Elem}
+use Rattle.isle_trees.specs.Scopes.{on_match, on_loop}
 use Rattle.isle_trees.specs.Search.{HasUsers}
 use Rattle.isle_trees.proofs.Basics.{true_or, none_or, and_both, not_true, clash}
-use Rattle.isle_trees.proofs.Building.Lists.{less_or, place_of}
+use Rattle.isle_trees.proofs.Building.Lists.{place_of}
 use Rattle.isle_blocks.specs.declared.binding.Binding.{Binding}
 use Rattle.isle_blocks.specs.declared.binding.Binding.TheVariants as sites
 use Rattle.isle_blocks.specs.declared.constraint.Constraint.{Constraint}

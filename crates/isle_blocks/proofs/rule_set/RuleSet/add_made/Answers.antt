@@ -1,6 +1,4 @@
-use Rattle.std.proofs.Common.{arith, sym, ◌∙◌, ◌<◌, Some, None, ℕ, ◌≡◌, slice_get}
-use Rattle.std.specs.Option.{option_map}
-use Rattle.isle_blocks.specs.declared.ids.BindingId.{BindingId}
+use Rattle.std.proofs.Common.{arith, sym, ◌<◌, Some, ◌≡◌, slice_get}
 use Rattle.isle_blocks.specs.Trees.Builder.{source_in}
 use Rattle.isle_blocks.proofs.Trees.Openers.{source_part}
 use Rattle.isle_blocks.proofs.rule_set.RuleSet.add_made.Goals as goal

@@ -1,4 +1,4 @@
-use Rattle.std.proofs.Common.{arith, refl, ◌∙◌, ◌≡◌, ℕ, length, subst, slice_get}
+use Rattle.std.proofs.Common.{arith, ◌∙◌, ◌≡◌, ℕ, length, subst, slice_get}
 use Rattle.isle_trees.specs.Search.{AreMadeBelow}
 use Rattle.isle_trees.proofs.Building.Asked.{made_step}
 use Rattle.isle_blocks.specs.Rows.{numbers_of}

@@ -1,4 +1,4 @@
-use Rattle.std.proofs.Common.{arith, ◌≡◌, ◌<◌, ◌++◌, ◌∷◌, ◌+◌, ℕ, inl, inr, [], None, Option, List, length, get_or, slice_get, ap, sym, ◌∙◌, subst}
+use Rattle.std.proofs.Common.{arith, ◌≡◌, ◌++◌, ◌∷◌, ◌+◌, ℕ, inl, inr, [], None, Option, List, length, get_or, slice_get, ap, ◌∙◌, subst}
 use Rattle.std.proofs.lemmas.List.{length_push, get_or_append_left, get_or_at}
 use Rattle.isle_trees.proofs.Building.Lists.{less_or}
 use Rattle.isle_blocks.specs.Trees.Builder.{items_at, source_in}

@@ -1,11 +1,11 @@
-use Rattle.std.proofs.Common.{arith, refl, sym, ◌∙◌, ap, ◌≡◌, ◌<◌, ◌≤◌, ◌+◌, ℕ, Some, List, length, slice_get, subst}
+use Rattle.std.proofs.Common.{arith, sym, ◌∙◌, ap, ◌≡◌, ◌<◌, ◌≤◌, ℕ, Some, List, length, slice_get, subst}
 use Rattle.isle_trees.specs.Rules.{Elem}
 use Rattle.isle_trees.specs.Search.{first_of}
 use Rattle.isle_trees.proofs.Building.Asked.{has_tested}
 use Rattle.isle_trees.proofs.Building.Bound.{users_all, users_step}
 use Rattle.isle_blocks.specs.declared.ids.BindingId.{BindingId}
 use Rattle.isle_blocks.specs.Rows.{numbers_of}
-use Rattle.isle_blocks.specs.Trees.Builder.{AreClasses, AreMembers, items_at, rules_in, tested_in}
+use Rattle.isle_blocks.specs.Trees.Builder.{AreClasses, AreMembers, items_at, rules_in}
 use Rattle.isle_blocks.specs.Trees.Work.{AddsOnly}
 use Rattle.isle_blocks.proofs.Trees.Indexed.{rule_there, tested_few, tested_listed, never_has, kept_still, low_still, rising_still}
 use Rattle.isle_blocks.proofs.rule_set.RuleSet.user_lists.Goals as goal

@@ -1,4 +1,4 @@
-use Rattle.std.proofs.Common.{arith, ◌<◌, ◌≡◌, ℕ, length, ap, sym, ◌∙◌}
+use Rattle.std.proofs.Common.{arith, ◌<◌, ℕ, length, ap, sym, ◌∙◌}
 use Rattle.std.proofs.Math.ListN.{length-map}
 use Rattle.isle_trees.specs.Search.{added_at}
 use Rattle.isle_trees.proofs.Building.Bound.{users_more}

@@ -1,7 +1,5 @@
-use Rattle.std.proofs.Common.{arith, ◌≡◌, ◌<◌, ◌++◌, ◌∷◌, [], ℕ, length, get_or, sym, ◌∙◌, ap, subst, set}
-use Rattle.std.specs.Global.{Vec}
+use Rattle.std.proofs.Common.{◌≡◌, ◌++◌, ◌∷◌, [], ℕ, sym, ◌∙◌, ap, subst, set}
 use Rattle.isle_trees.specs.Search.{added_at}
-use Rattle.isle_blocks.specs.declared.ids.BindingId.{BindingId}
 use Rattle.isle_blocks.specs.Rows.{numbers_of}
 use Rattle.isle_blocks.specs.Trees.Builder.{items_at}
 use Rattle.isle_blocks.proofs.Trees.Indexed.{number_added, items_read}

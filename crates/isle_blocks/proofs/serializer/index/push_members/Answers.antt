@@ -1,4 +1,4 @@
-use Rattle.std.proofs.Common.{◌≡◌, ◌≤◌, ◌++◌, ◌+◌, ◌<◌, ℕ, List, inl, inr, append_assoc, length, ap, sym, ◌∙◌, subst, take}
+use Rattle.std.proofs.Common.{◌≡◌, ◌++◌, ◌+◌, ℕ, List, inl, inr, append_assoc, ap, sym, ◌∙◌, subst, take}
 use Rattle.std.proofs.lemmas.List.{take_all}
 use Rattle.std.specs.List.{flat_map}
 use Rattle.isle_trees.specs.Ranking.{AllBelow}

@@ -1,4 +1,4 @@
-use Rattle.std.proofs.Common.{◌≡◌, ◌≤◌, ◌++◌, ◌∷◌, [], ◌<◌, ℕ, List, length, get_or, ap, ◌∙◌, arith, subst, take}
+use Rattle.std.proofs.Common.{◌≡◌, ◌≤◌, ◌++◌, ◌∷◌, [], ℕ, List, length, get_or, ap, ◌∙◌, subst, take}
 use Rattle.std.proofs.Math.ListN.{length-map}
 use Rattle.std.proofs.lemmas.List.{map-append, take_all}
 use Rattle.isle_trees.specs.Ranking.{AllBelow}

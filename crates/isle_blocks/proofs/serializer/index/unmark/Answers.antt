@@ -1,9 +1,8 @@
-use Rattle.std.proofs.Common.{arith, ◌<◌, ◌≤◌, ◌≡◌, ◌+◌, ℕ, List, get_or, length, ◌∙◌, sym, subst, false, true, length-set, set, take}
+use Rattle.std.proofs.Common.{arith, ◌<◌, ◌≤◌, ◌≡◌, ◌+◌, ℕ, get_or, length, ◌∙◌, sym, subst, false, true, length-set, set, take}
 use Rattle.std.proofs.Math.ListN.{length-map}
 use Rattle.isle_trees.specs.Rules.{Elem}
 use Rattle.isle_trees.specs.Search.{is_marked}
 use Rattle.isle_trees.proofs.Building.Gathering.{unmark_gone, unmark_old, clean_again}
-use Rattle.isle_blocks.specs.declared.ids.BindingId.{BindingId}
 use Rattle.isle_blocks.specs.Rows.{numbers_of}
 use Rattle.isle_blocks.proofs.Trees.Indexed.{number_at, number_low}
 use Rattle.isle_blocks.proofs.serializer.index.unmark.Goals as goal
