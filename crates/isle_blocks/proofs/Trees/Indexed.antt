@@ -10,6 +10,7 @@ use Rattle.std.specs.Global.{Vec}
 use Rattle.std.specs.List.{flat_map, list_any}
 use Rattle.std.specs.Map.{lookup}
 use Rattle.std.specs.Ordering.{is_eq, nat_cmp}
+use Rattle.isle_types.proofs.Lists.{slice_get-last}
 use Rattle.isle_types.specs.JoinedSets.{are_joined}
 use Rattle.isle_trees.specs.Ranking.{AllBelow, AreAllWithin}
 use Rattle.isle_trees.specs.Rules.{Want, has, one_value, Source, Elem}
@@ -46,20 +47,20 @@ site_same : (a b : BindingId) → a.0 ≡ b.0 → same_site a b ≡ true
 site_same a b e = grind (arith, nat_tests)
 
 -- a site that is found among others is one of them
-pub listed_any : (a : BindingId) (ids : List BindingId) → list_any (same_site a) ids ≡ true → Elem a.0 (numbers_of ids)
+listed_any : (a : BindingId) (ids : List BindingId) → list_any (same_site a) ids ≡ true → Elem a.0 (numbers_of ids)
 listed_any a [] e = cc
 listed_any a (x ∷ xs) e = elim (or_holds (same_site a x) (list_any (same_site a) xs) e) [
   | inl h ↦ inl (site_is a x h)
   | inr h ↦ inr (listed_any a xs h)
 ]
 
-pub any_listed : (a : BindingId) (ids : List BindingId) → Elem a.0 (numbers_of ids) → list_any (same_site a) ids ≡ true
+any_listed : (a : BindingId) (ids : List BindingId) → Elem a.0 (numbers_of ids) → list_any (same_site a) ids ≡ true
 any_listed a [] m = absurd m
 any_listed a (x ∷ xs) (inl e) = or_left (same_site a x) (list_any (same_site a) xs) (site_same a x e)
 any_listed a (x ∷ xs) (inr m) = or_right (same_site a x) (list_any (same_site a) xs) (any_listed a xs m)
 
 -- a site that has a test stands among the keys
-pub key_listed : (s : ℕ) (es : List (BindingId × Constraint)) (c : Constraint) → lookup (is_at (site_cmp (id_of s))) es ≡ Some c
+key_listed : (s : ℕ) (es : List (BindingId × Constraint)) (c : Constraint) → lookup (is_at (site_cmp (id_of s))) es ≡ Some c
     → Elem s (map (λ e. e.0.0) es)
 key_listed s [] c e = cc
 key_listed s (d ∷ ds) c e = elim (true_or (is_eq (nat_cmp s d.0.0))) [
@@ -67,7 +68,7 @@ key_listed s (d ∷ ds) c e = elim (true_or (is_eq (nat_cmp s d.0.0))) [
   | inr h ↦ inr (key_listed s ds c (rw h at e))
 ]
 
-pub listed_key : (s : ℕ) (es : List (BindingId × Constraint)) → Elem s (map (λ e. e.0.0) es)
+listed_key : (s : ℕ) (es : List (BindingId × Constraint)) → Elem s (map (λ e. e.0.0) es)
     → (c : Constraint) × (lookup (is_at (site_cmp (id_of s))) es ≡ Some c)
 listed_key s [] m = absurd m
 listed_key s (d ∷ ds) m = elim (true_or (is_eq (nat_cmp s d.0.0))) [
@@ -79,17 +80,18 @@ listed_key s (d ∷ ds) m = elim (true_or (is_eq (nat_cmp s d.0.0))) [
 ]
 
 -- a class that has both sites has the first
-pub class_listed : (a b : BindingId) (classes : List (List BindingId))
-    → list_any (λ class. list_any (same_site a) class && list_any (same_site b) class) classes ≡ true → Elem a.0 (flat_map numbers_of classes)
+class_listed : (a b : BindingId) (classes : List (List BindingId)) → are_joined same_site classes a b ≡ true → Elem a.0 (flat_map numbers_of classes)
 class_listed a b [] e = cc
 class_listed a b (x ∷ xs) e =
-    elim (or_holds (list_any (same_site a) x && list_any (same_site b) x) (list_any (λ class. list_any (same_site a) class && list_any (same_site b) class) xs) e) [
-      | inl h ↦ elem_left a.0 (numbers_of x) (flat_map numbers_of xs) (listed_any a x ((and_both (list_any (same_site a) x) (list_any (same_site b) x) h).0))
+    let first = list_any (same_site a) x in
+    let second = list_any (same_site b) x in
+    elim (or_holds (first && second) (are_joined same_site xs a b) e) [
+      | inl h ↦ elem_left a.0 (numbers_of x) (flat_map numbers_of xs) (listed_any a x ((and_both first second h).0))
       | inr h ↦ elem_right a.0 (numbers_of x) (flat_map numbers_of xs) (class_listed a b xs h)
     ]
 
 -- a site of a class is joined with itself
-pub listed_class : (a : BindingId) (classes : List (List BindingId)) → Elem a.0 (flat_map numbers_of classes) → are_joined same_site classes a a ≡ true
+listed_class : (a : BindingId) (classes : List (List BindingId)) → Elem a.0 (flat_map numbers_of classes) → are_joined same_site classes a a ≡ true
 listed_class a [] m = absurd m
 listed_class a (x ∷ xs) m = elim (elem_append a.0 (numbers_of x) (flat_map numbers_of xs) m) [
   | inl h ↦
@@ -103,19 +105,17 @@ slice_get_left [] ys i l = absurd (omega arith)
 slice_get_left (x ∷ xs) ys zero l = refl
 slice_get_left (x ∷ xs) ys (suc i) l = slice_get_left xs ys i (omega arith)
 
-slice_get_last : {A : Type 0} (xs : List A) (x : A) → slice_get (xs ++ x ∷ []) (length xs) ≡ Some x
-slice_get_last [] x = refl
-slice_get_last (y ∷ ys) x = slice_get_last ys x
-
 -- one entry more
 pub keys_more : (es : List (BindingId × Constraint)) (i : ℕ) (e : BindingId × Constraint) (old now new : List ℕ) → slice_get es i ≡ Some e
     → now ≡ old ++ map (λ e. e.0.0) (take i es) → new ≡ now ++ e.0.0 ∷ [] → new ≡ old ++ map (λ e. e.0.0) (take (i + 1) es)
 keys_more es i e old now new there before step =
     let key : BindingId × Constraint → ℕ = λ e. e.0.0 in
     let one : take (i + 1) es ≡ take i es ++ e ∷ [] =
-    take_more es i e (slice_get_within es i e there) ∙ ap (λ (x : BindingId × Constraint). take i es ++ x ∷ []) (get_or_from_slice_get es i e e there) in
+    take_more es i e (slice_get_within es i e there)
+    ∙ ap (λ (x : BindingId × Constraint). take i es ++ x ∷ []) (get_or_from_slice_get es i e e there) in
     let keys : map key (take (i + 1) es) ≡ map key (take i es) ++ e.0.0 ∷ [] = ap (map key) one ∙ map-append key (take i es) (e ∷ []) in
-    step ∙ (ap (λ (x : List ℕ). x ++ e.0.0 ∷ []) before ∙ (append_assoc old (map key (take i es)) (e.0.0 ∷ []) ∙ ap (λ (x : List ℕ). old ++ x) (sym keys)))
+    step ∙ (ap (λ (x : List ℕ). x ++ e.0.0 ∷ []) before
+    ∙ (append_assoc old (map key (take i es)) (e.0.0 ∷ []) ∙ ap (λ (x : List ℕ). old ++ x) (sym keys)))
 
 -- the number of a site at a place
 pub number_at : (sites : List BindingId) (i : ℕ) → get_or (numbers_of sites) i 0 ≡ (get_or sites i (record { 0 = 0 })).0
@@ -167,7 +167,7 @@ list_more {A} P lists new v n size e all here i l = elim (less_or i n) [
       subst (P i) (sym (ap items_in f)) (all i k)
   | inr k ↦
       let same : i ≡ length lists = omega arith in
-      let f : slice_get new i ≡ Some v = ap (λ (y : List (Vec A)). slice_get y i) e ∙ (ap (slice_get (lists ++ v ∷ [])) same ∙ slice_get_last lists v) in
+      let f : slice_get new i ≡ Some v = ap (λ (y : List (Vec A)). slice_get y i) e ∙ (ap (slice_get (lists ++ v ∷ [])) same ∙ slice_get-last lists v) in
       let at : n ≡ i = omega arith in
       subst (P i) (sym (ap items_in f)) (subst (λ (j : ℕ). P j v.items) at here)
 ]
@@ -192,10 +192,12 @@ items_other (l ∷ ls) zero (suc s) v n = refl
 items_other (l ∷ ls) (suc at) zero v n = refl
 items_other (l ∷ ls) (suc at) (suc s) v n = items_other ls at s v (λ e. n (ap suc e))
 
-pub items_read : (lists : List (Vec BindingId)) (at k : ℕ) (v : Vec BindingId) → at < length lists → k ≡ at → v ≡ get_or lists k v → v.items ≡ items_at lists at
+pub items_read : (lists : List (Vec BindingId)) (at k : ℕ) (v : Vec BindingId) → at < length lists → k ≡ at → v ≡ get_or lists k v
+    → v.items ≡ items_at lists at
 items_read lists at k v low same is =
     let e : slice_get lists at ≡ Some (get_or lists at v) = slice_get-get_or lists at v low in
-    ap (λ (w : Vec BindingId). w.items) is ∙ (ap (λ (j : ℕ). (get_or lists j v).items) same ∙ sym (ap (λ (o : Option (Vec BindingId)). items_in o) e))
+    ap (λ (w : Vec BindingId). w.items) is
+    ∙ (ap (λ (j : ℕ). (get_or lists j v).items) same ∙ sym (ap (λ (o : Option (Vec BindingId)). items_in o) e))
 
 pub number_added : (lists : List (Vec BindingId)) (at s : ℕ) (v : Vec BindingId) (site : BindingId) → at < length lists
     → v.items ≡ items_at lists at ++ site ∷ []

@@ -14,7 +14,8 @@ asked_by-requires-clause-below c =
     let at = c.loop-rule.rule in
     let rule = c.index-rules-rule.result in
     let there : slice_get set.rules at ≡ Some rule =
-    rule_there set.rules c.rules.result.now c.rules-rule-end.result.now at rule c.rules.ensures c.rules-rule-end.ensures c.loop-rule-test.true c.index-rules-rule.is in
+    rule_there set.rules c.rules.result.now c.rules-rule-end.result.now at rule c.rules.ensures c.rules-rule-end.ensures c.loop-rule-test.true
+    c.index-rules-rule.is in
     let P : List (List BindingId) → Type 0 = λ l. AreMembers set at l in
     tested_few set at rule there c.classes_of.result.now c.requires.set.within (subst P (sym c.classes_of.ensures) (c.requires.members at))
 
@@ -29,7 +30,8 @@ loop-rule-preserved c =
     let size = c.loop-rule.invariant.size in
     let pushed = c.in_ok-push.ensures.items in
     let there : slice_get set.rules at ≡ Some rule =
-    rule_there set.rules c.rules.result.now c.rules-rule-end.result.now at rule c.rules.ensures c.rules-rule-end.ensures c.loop-rule-test.true c.index-rules-rule.is in
+    rule_there set.rules c.rules.result.now c.rules-rule-end.result.now at rule c.rules.ensures c.rules-rule-end.ensures c.loop-rule-test.true
+    c.index-rules-rule.is in
     let P : List (List BindingId) → Type 0 = λ l. AreClasses set at l in
     let classes : AreClasses set at c.classes_of.result.now = subst P (sym c.classes_of.ensures) (c.requires.classes at) in
     record {
@@ -44,6 +46,7 @@ pub returns : goal.returns
 returns c =
     let set = c.args.self.now in
     let n = length set.sites in
-    let end : length set.rules ≤ c.loop-rule.rule = let e = ap length c.rules-rule-end.ensures in let l = c.loop-rule-test.false in omega (arith, e, l) in
-    list_all (λ i l. IsAskedBy (rules_in set) n i (numbers_of l)) c.loop-rule.lists.items c.loop-rule.rule c.loop-rule.invariant.size c.loop-rule.invariant.each
-    (λ i l. nothing_asked (rules_in set) n i [] refl (λ s t. never_tested set i s (omega arith) t))
+    let end : length set.rules ≤ c.loop-rule.rule =
+    let e = ap length c.rules-rule-end.ensures in let l = c.loop-rule-test.false in omega (arith, e, l) in
+    list_all (λ i l. IsAskedBy (rules_in set) n i (numbers_of l)) c.loop-rule.lists.items c.loop-rule.rule c.loop-rule.invariant.size
+    c.loop-rule.invariant.each (λ i l. nothing_asked (rules_in set) n i [] refl (λ s t. never_tested set i s (omega arith) t))

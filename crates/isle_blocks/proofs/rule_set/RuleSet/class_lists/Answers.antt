@@ -27,7 +27,8 @@ loop-rule-preserved c =
 pub returns : goal.returns
 returns c =
     let set = c.args.self.now in
-    let end : length set.rules ≤ c.loop-rule.rule-index = let e = ap length c.rules-rule-items.ensures in let l = c.loop-rule-test.false in omega (arith, e, l) in
+    let end : length set.rules ≤ c.loop-rule.rule-index =
+    let e = ap length c.rules-rule-items.ensures in let l = c.loop-rule-test.false in omega (arith, e, l) in
     record {
       classes = list_all (AreClasses set) c.loop-rule.lists.items c.loop-rule.rule-index c.loop-rule.invariant.size c.loop-rule.invariant.classes
           (λ i l. no_classes set i (omega arith));

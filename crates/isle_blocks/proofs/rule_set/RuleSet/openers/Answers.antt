@@ -13,11 +13,13 @@ loop-site-preserved c =
     let at = c.loop-site.site in
     let size = c.loop-site.invariant.size in
     let pushed = c.in_ok-push.ensures.items in
-    let P : ℕ → Option ℕ → Type 0 = λ x o. o ≡ opener_among c.args.self.now (read_or [] (items_at c.args.users.now) (source_in (slice_get c.args.self.now.sites x))) x in
+    let P : ℕ → Option ℕ → Type 0 =
+    λ x o. o ≡ opener_among c.args.self.now (read_or [] (items_at c.args.users.now) (source_in (slice_get c.args.self.now.sites x))) x in
     record {
       size = ap length pushed ∙ length_push old c.opener.result ∙ ap (λ (x : ℕ). x + 1) size;
       each = λ x l.
-          let e : get_or c.push.new.self.items x None ≡ get_or (old ++ c.opener.result ∷ []) x None = ap (λ (y : List (Option ℕ)). get_or y x None) pushed in
+          let e : get_or c.push.new.self.items x None ≡ get_or (old ++ c.opener.result ∷ []) x None =
+          ap (λ (y : List (Option ℕ)). get_or y x None) pushed in
           elim (less_or x at) [
             | inl k ↦ e ∙ (get_or_append_left old (c.opener.result ∷ []) None x (omega arith) ∙ c.loop-site.invariant.each x k)
             | inr k ↦

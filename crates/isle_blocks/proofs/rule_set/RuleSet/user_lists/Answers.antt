@@ -16,13 +16,15 @@ add_each-requires c =
     let at = c.loop-rule.rule in
     let rule = c.index-rules-rule.result in
     let there : slice_get set.rules at ≡ Some rule =
-    rule_there set.rules c.rules.result.now c.rules-rule-end.result.now at rule c.rules.ensures c.rules-rule-end.ensures c.loop-rule-test.true c.index-rules-rule.is in
+    rule_there set.rules c.rules.result.now c.rules-rule-end.result.now at rule c.rules.ensures c.rules-rule-end.ensures c.loop-rule-test.true
+    c.index-rules-rule.is in
     let P : List (List BindingId) → Type 0 = λ l. AreMembers set at l in
     let members : AreMembers set at c.classes_of.result.now = subst P (sym c.classes_of.ensures) (c.requires.members at) in
     record {
       below = λ x m.
           let Q : List ℕ → Type 0 = λ l. Elem x l in
-          let l : x < length set.sites = tested_few set at rule there c.classes_of.result.now c.requires.set.within members c.in_ok-sites.ensures.low x
+          let l : x < length set.sites =
+          tested_few set at rule there c.classes_of.result.now c.requires.set.within members c.in_ok-sites.ensures.low x
           (subst Q (ap numbers_of c.deref.ensures.value ∙ c.in_ok-sites.ensures.sites) m) in
           let k = c.loop-rule.invariant.size in omega (arith, l, k);
     }
@@ -33,7 +35,8 @@ loop-rule-preserved c =
     let at = c.loop-rule.rule in
     let rule = c.index-rules-rule.result in
     let there : slice_get set.rules at ≡ Some rule =
-    rule_there set.rules c.rules.result.now c.rules-rule-end.result.now at rule c.rules.ensures c.rules-rule-end.ensures c.loop-rule-test.true c.index-rules-rule.is in
+    rule_there set.rules c.rules.result.now c.rules-rule-end.result.now at rule c.rules.ensures c.rules-rule-end.ensures c.loop-rule-test.true
+    c.index-rules-rule.is in
     let P : List (List BindingId) → Type 0 = λ l. AreClasses set at l in
     let classes : AreClasses set at c.classes_of.result.now = subst P (sym c.classes_of.ensures) (c.requires.classes at) in
     let old = c.loop-rule.lists.items in
@@ -55,5 +58,7 @@ loop-rule-preserved c =
 pub returns-clause-users : goal.returns-clause-users
 returns-clause-users c =
     let set = c.args.self.now in
-    let end : length set.rules ≤ c.loop-rule.rule = let e = ap length c.rules-rule-end.ensures in let l = c.loop-rule-test.false in omega (arith, e, l) in
-    users_all (rules_in set) (length set.rules) c.loop-rule.rule (items_at c.loop-rule.lists.items) (λ i t l e. never_has set i t l e) end c.loop-rule.invariant.users
+    let end : length set.rules ≤ c.loop-rule.rule =
+    let e = ap length c.rules-rule-end.ensures in let l = c.loop-rule-test.false in omega (arith, e, l) in
+    users_all (rules_in set) (length set.rules) c.loop-rule.rule (items_at c.loop-rule.lists.items) (never_has set) end
+    c.loop-rule.invariant.users

@@ -24,7 +24,8 @@ loop-site-preserved c =
     let e : c.index.result ≡ get_or (numbers_of sites) at 0 = c.index.ensures ∙ sym (number_at sites at) in
     let within : at < length (numbers_of sites) = simp length-map c.loop-site-test.true in
     let low : c.index.result < length marks =
-    let l = number_low sites at (length c.args.marks.now.items) c.requires.below c.loop-site-test.true in let f = c.index.ensures in omega (arith, l, f, size) in
+    let l = number_low sites at (length c.args.marks.now.items) c.requires.below c.loop-site-test.true in
+    let f = c.index.ensures in omega (arith, l, f, size) in
     let P : ℕ → Type 0 = λ k. (x : ℕ) → Elem x (take (at + 1) (numbers_of sites)) → is_marked (set marks k false) x ≡ true → ⊥ in
     record {
       size = length-set marks c.index.result false ∙ size;
