@@ -1,14 +1,16 @@
 -- What rules of a set test, listed by rule and by site.
-use Rattle.std.proofs.Common.{◌≡◌, ◌⊎◌, ◌<◌, ◌≤◌, ◌+◌, ◌-◌, ◌&&◌, ◌++◌, ℕ, suc, zero, inl, inr, true, false, List, [], ◌∷◌, map, Option, Some, None}
+use Rattle.std.proofs.Common.{◌≡◌, ◌⊎◌, ◌<◌, ◌≤◌, ◌+◌, ◌-◌, ◌&&◌, ◌==◌, ◌++◌, ℕ, suc, zero, inl, inr, true, false, List, [], ◌∷◌, map, Option, Some, None}
 use Rattle.std.proofs.Common.{length, length-append, take, set, append_assoc, eq-eqb, ◌≢◌, refl, sym, ◌∙◌, ap, subst, arith, get_or, slice_get, Bool}
 use Rattle.std.proofs.lemmas.Bool.Decides.{nat_tests}
-use Rattle.std.proofs.lemmas.List.{get_or_append_left, get_or-append_right, map-append, take_more}
-use Rattle.std.proofs.lemmas.Option.{get_or_from_slice_get, slice_get-get_or, slice_get_past, slice_get_within}
+use Rattle.std.proofs.lemmas.List.{get_or_append_left, get_or-append_right, append-nil, map-append, take_more}
+use Rattle.std.proofs.lemmas.Option.{get_or_from_slice_get, slice_get-get_or, slice_get_past, slice_get_read, slice_get_within}
+use Rattle.std.proofs.Math.ListN.{get_or-map, length-map}
 use Rattle.std.specs.BTreeMap.{is_at}
 use Rattle.std.specs.Global.{Vec}
 use Rattle.std.specs.List.{flat_map, list_any}
 use Rattle.std.specs.Map.{lookup}
 use Rattle.std.specs.Ordering.{is_eq, nat_cmp}
+use Rattle.isle_types.proofs.Lists.{slice_get-last}
 use Rattle.isle_types.specs.JoinedSets.{are_joined}
 use Rattle.isle_trees.specs.Ranking.{AllBelow, AreAllWithin}
 use Rattle.isle_trees.specs.Rules.{Want, has, one_value, Source, Elem}
@@ -18,7 +20,7 @@ use Rattle.isle_trees.proofs.Asking.{elem_append}
 use Rattle.isle_trees.proofs.Basics.{true_or, or_holds, eq_or, or_left, or_right, and_both, both_and, clash}
 use Rattle.isle_trees.proofs.Building.Asked.{has_tested, tested_below}
 use Rattle.isle_trees.proofs.Building.Gathering.{IsTestedSite}
-use Rattle.isle_trees.proofs.Building.Lists.{less_or, not_same, elem_left, elem_right, elem_at, into_flat}
+use Rattle.isle_trees.proofs.Building.Lists.{less_or, not_same, elem_left, elem_right, elem_at, last_or, flat_append}
 use Rattle.isle_blocks.specs.declared.ids.BindingId.{BindingId}
 use Rattle.isle_blocks.specs.declared.constraint.Constraint.{Constraint}
 use Rattle.isle_blocks.specs.declared.rule.Rule.{Rule}
@@ -28,7 +30,7 @@ use Rattle.isle_blocks.specs.RuleSets.{RulesOverSites}
 use Rattle.isle_blocks.specs.Rows.{numbers_of}
 use Rattle.isle_blocks.specs.Rules.{site_cmp}
 use Rattle.isle_blocks.specs.Trees.Builder.{AreClasses, AreMembers, IsRising, items_at, items_in, rules_in, tested_in}
-use Rattle.isle_blocks.specs.Trees.View.{has_loop, id_of, made_at, read_or, rule_joins, test_at, want_at, want_or}
+use Rattle.isle_blocks.specs.Trees.View.{has_loop, id_of, read_or, rule_joins, test_at, want_at, want_or}
 use Rattle.isle_blocks.specs.Trees.Work.{AddsOnly}
 
 -- sites by their numbers
@@ -45,20 +47,20 @@ site_same : (a b : BindingId) → a.0 ≡ b.0 → same_site a b ≡ true
 site_same a b e = grind (arith, nat_tests)
 
 -- a site that is found among others is one of them
-pub listed_any : (a : BindingId) (ids : List BindingId) → list_any (same_site a) ids ≡ true → Elem a.0 (numbers_of ids)
+listed_any : (a : BindingId) (ids : List BindingId) → list_any (same_site a) ids ≡ true → Elem a.0 (numbers_of ids)
 listed_any a [] e = cc
 listed_any a (x ∷ xs) e = elim (or_holds (same_site a x) (list_any (same_site a) xs) e) [
   | inl h ↦ inl (site_is a x h)
   | inr h ↦ inr (listed_any a xs h)
 ]
 
-pub any_listed : (a : BindingId) (ids : List BindingId) → Elem a.0 (numbers_of ids) → list_any (same_site a) ids ≡ true
+any_listed : (a : BindingId) (ids : List BindingId) → Elem a.0 (numbers_of ids) → list_any (same_site a) ids ≡ true
 any_listed a [] m = absurd m
 any_listed a (x ∷ xs) (inl e) = or_left (same_site a x) (list_any (same_site a) xs) (site_same a x e)
 any_listed a (x ∷ xs) (inr m) = or_right (same_site a x) (list_any (same_site a) xs) (any_listed a xs m)
 
 -- a site that has a test stands among the keys
-pub key_listed : (s : ℕ) (es : List (BindingId × Constraint)) (c : Constraint) → lookup (is_at (site_cmp (id_of s))) es ≡ Some c
+key_listed : (s : ℕ) (es : List (BindingId × Constraint)) (c : Constraint) → lookup (is_at (site_cmp (id_of s))) es ≡ Some c
     → Elem s (map (λ e. e.0.0) es)
 key_listed s [] c e = cc
 key_listed s (d ∷ ds) c e = elim (true_or (is_eq (nat_cmp s d.0.0))) [
@@ -66,7 +68,7 @@ key_listed s (d ∷ ds) c e = elim (true_or (is_eq (nat_cmp s d.0.0))) [
   | inr h ↦ inr (key_listed s ds c (rw h at e))
 ]
 
-pub listed_key : (s : ℕ) (es : List (BindingId × Constraint)) → Elem s (map (λ e. e.0.0) es)
+listed_key : (s : ℕ) (es : List (BindingId × Constraint)) → Elem s (map (λ e. e.0.0) es)
     → (c : Constraint) × (lookup (is_at (site_cmp (id_of s))) es ≡ Some c)
 listed_key s [] m = absurd m
 listed_key s (d ∷ ds) m = elim (true_or (is_eq (nat_cmp s d.0.0))) [
@@ -78,17 +80,18 @@ listed_key s (d ∷ ds) m = elim (true_or (is_eq (nat_cmp s d.0.0))) [
 ]
 
 -- a class that has both sites has the first
-pub class_listed : (a b : BindingId) (classes : List (List BindingId))
-    → list_any (λ class. list_any (same_site a) class && list_any (same_site b) class) classes ≡ true → Elem a.0 (flat_map numbers_of classes)
+class_listed : (a b : BindingId) (classes : List (List BindingId)) → are_joined same_site classes a b ≡ true → Elem a.0 (flat_map numbers_of classes)
 class_listed a b [] e = cc
 class_listed a b (x ∷ xs) e =
-    elim (or_holds (list_any (same_site a) x && list_any (same_site b) x) (list_any (λ class. list_any (same_site a) class && list_any (same_site b) class) xs) e) [
-      | inl h ↦ elem_left a.0 (numbers_of x) (flat_map numbers_of xs) (listed_any a x ((and_both (list_any (same_site a) x) (list_any (same_site b) x) h).0))
+    let first = list_any (same_site a) x in
+    let second = list_any (same_site b) x in
+    elim (or_holds (first && second) (are_joined same_site xs a b) e) [
+      | inl h ↦ elem_left a.0 (numbers_of x) (flat_map numbers_of xs) (listed_any a x ((and_both first second h).0))
       | inr h ↦ elem_right a.0 (numbers_of x) (flat_map numbers_of xs) (class_listed a b xs h)
     ]
 
 -- a site of a class is joined with itself
-pub listed_class : (a : BindingId) (classes : List (List BindingId)) → Elem a.0 (flat_map numbers_of classes) → are_joined same_site classes a a ≡ true
+listed_class : (a : BindingId) (classes : List (List BindingId)) → Elem a.0 (flat_map numbers_of classes) → are_joined same_site classes a a ≡ true
 listed_class a [] m = absurd m
 listed_class a (x ∷ xs) m = elim (elem_append a.0 (numbers_of x) (flat_map numbers_of xs) m) [
   | inl h ↦
@@ -102,19 +105,58 @@ slice_get_left [] ys i l = absurd (omega arith)
 slice_get_left (x ∷ xs) ys zero l = refl
 slice_get_left (x ∷ xs) ys (suc i) l = slice_get_left xs ys i (omega arith)
 
-slice_get_last : {A : Type 0} (xs : List A) (x : A) → slice_get (xs ++ x ∷ []) (length xs) ≡ Some x
-slice_get_last [] x = refl
-slice_get_last (y ∷ ys) x = slice_get_last ys x
-
 -- one entry more
 pub keys_more : (es : List (BindingId × Constraint)) (i : ℕ) (e : BindingId × Constraint) (old now new : List ℕ) → slice_get es i ≡ Some e
     → now ≡ old ++ map (λ e. e.0.0) (take i es) → new ≡ now ++ e.0.0 ∷ [] → new ≡ old ++ map (λ e. e.0.0) (take (i + 1) es)
 keys_more es i e old now new there before step =
     let key : BindingId × Constraint → ℕ = λ e. e.0.0 in
     let one : take (i + 1) es ≡ take i es ++ e ∷ [] =
-    take_more es i e (slice_get_within es i e there) ∙ ap (λ (x : BindingId × Constraint). take i es ++ x ∷ []) (get_or_from_slice_get es i e e there) in
+    take_more es i e (slice_get_within es i e there)
+    ∙ ap (λ (x : BindingId × Constraint). take i es ++ x ∷ []) (get_or_from_slice_get es i e e there) in
     let keys : map key (take (i + 1) es) ≡ map key (take i es) ++ e.0.0 ∷ [] = ap (map key) one ∙ map-append key (take i es) (e ∷ []) in
-    step ∙ (ap (λ (x : List ℕ). x ++ e.0.0 ∷ []) before ∙ (append_assoc old (map key (take i es)) (e.0.0 ∷ []) ∙ ap (λ (x : List ℕ). old ++ x) (sym keys)))
+    step ∙ (ap (λ (x : List ℕ). x ++ e.0.0 ∷ []) before
+    ∙ (append_assoc old (map key (take i es)) (e.0.0 ∷ []) ∙ ap (λ (x : List ℕ). old ++ x) (sym keys)))
+
+-- the number of a site at a place
+pub number_at : (sites : List BindingId) (i : ℕ) → get_or (numbers_of sites) i 0 ≡ (get_or sites i (record { 0 = 0 })).0
+number_at sites i = let number : BindingId → ℕ = λ id. id.0 in let some : BindingId = record { 0 = 0 } in get_or-map number sites i some
+
+pub number_low : (sites : List BindingId) (i n : ℕ) → AllBelow (numbers_of sites) n → i < length sites → (get_or sites i (record { 0 = 0 })).0 < n
+number_low sites i n all low =
+    let within : i < length (numbers_of sites) = simp length-map low in
+    let e = number_at sites i in
+    let l = all (get_or (numbers_of sites) i 0) (elem_at (numbers_of sites) i 0 within) in
+    omega arith
+
+-- one site more, and one class more
+pub sites_more : (sites : List BindingId) (i : ℕ) (old now new : List ℕ) → i < length sites → now ≡ old ++ take i (numbers_of sites)
+    → new ≡ now ++ (get_or sites i (record { 0 = 0 })).0 ∷ [] → new ≡ old ++ take (i + 1) (numbers_of sites)
+sites_more sites i old now new low before step =
+    let some : BindingId = record { 0 = 0 } in
+    let within : i < length (numbers_of sites) = simp length-map low in
+    let one : take (i + 1) (numbers_of sites) ≡ take i (numbers_of sites) ++ (get_or sites i some).0 ∷ [] =
+    take_more (numbers_of sites) i 0 within
+    ∙ ap (λ (x : ℕ). take i (numbers_of sites) ++ x ∷ []) (number_at sites i) in
+    step ∙ (ap (λ (x : List ℕ). x ++ (get_or sites i some).0 ∷ []) before
+    ∙ (append_assoc old (take i (numbers_of sites)) ((get_or sites i some).0 ∷ []) ∙ ap (λ (x : List ℕ). old ++ x) (sym one)))
+
+pub low_more : (sites : List BindingId) (i n : ℕ) → i < length sites → AllBelow (take i (numbers_of sites)) n → (get_or sites i (record { 0 = 0 })).0 < n
+    → AllBelow (take (i + 1) (numbers_of sites)) n
+low_more sites i n low all here x m =
+    let some : BindingId = record { 0 = 0 } in
+    let within : i < length (numbers_of sites) = simp length-map low in
+    elim (last_or x 0 (numbers_of sites) i within m) [
+      | inl o ↦ all x o
+      | inr e ↦ let f : x ≡ (get_or sites i some).0 = e ∙ number_at sites i in omega arith
+    ]
+
+pub members_more : (classes : List (List BindingId)) (i : ℕ) (class : List BindingId) → i < length classes → class ≡ get_or classes i class
+    → flat_map numbers_of (take (i + 1) classes) ≡ flat_map numbers_of (take i classes) ++ numbers_of class
+members_more classes i class low is =
+    let one : take (i + 1) classes ≡ take i classes ++ class ∷ [] =
+    take_more classes i class low ∙ ap (λ (c : List BindingId). take i classes ++ c ∷ []) (sym is) in
+    ap (flat_map numbers_of) one
+    ∙ (flat_append numbers_of (take i classes) (class ∷ []) ∙ ap (λ (l : List ℕ). flat_map numbers_of (take i classes) ++ l) (append-nil (numbers_of class)))
 
 -- one list more, and those past the last
 pub list_more : {A : Type 0} (P : ℕ → List A → Type 0) (lists new : List (Vec A)) (v : Vec A) (n : ℕ) → length lists ≡ n → new ≡ lists ++ v ∷ []
@@ -125,7 +167,7 @@ list_more {A} P lists new v n size e all here i l = elim (less_or i n) [
       subst (P i) (sym (ap items_in f)) (all i k)
   | inr k ↦
       let same : i ≡ length lists = omega arith in
-      let f : slice_get new i ≡ Some v = ap (λ (y : List (Vec A)). slice_get y i) e ∙ (ap (slice_get (lists ++ v ∷ [])) same ∙ slice_get_last lists v) in
+      let f : slice_get new i ≡ Some v = ap (λ (y : List (Vec A)). slice_get y i) e ∙ (ap (slice_get (lists ++ v ∷ [])) same ∙ slice_get-last lists v) in
       let at : n ≡ i = omega arith in
       subst (P i) (sym (ap items_in f)) (subst (λ (j : ℕ). P j v.items) at here)
 ]
@@ -150,10 +192,12 @@ items_other (l ∷ ls) zero (suc s) v n = refl
 items_other (l ∷ ls) (suc at) zero v n = refl
 items_other (l ∷ ls) (suc at) (suc s) v n = items_other ls at s v (λ e. n (ap suc e))
 
-pub items_read : (lists : List (Vec BindingId)) (at k : ℕ) (v : Vec BindingId) → at < length lists → k ≡ at → v ≡ get_or lists k v → v.items ≡ items_at lists at
+pub items_read : (lists : List (Vec BindingId)) (at k : ℕ) (v : Vec BindingId) → at < length lists → k ≡ at → v ≡ get_or lists k v
+    → v.items ≡ items_at lists at
 items_read lists at k v low same is =
     let e : slice_get lists at ≡ Some (get_or lists at v) = slice_get-get_or lists at v low in
-    ap (λ (w : Vec BindingId). w.items) is ∙ (ap (λ (j : ℕ). (get_or lists j v).items) same ∙ sym (ap (λ (o : Option (Vec BindingId)). items_in o) e))
+    ap (λ (w : Vec BindingId). w.items) is
+    ∙ (ap (λ (j : ℕ). (get_or lists j v).items) same ∙ sym (ap (λ (o : Option (Vec BindingId)). items_in o) e))
 
 pub number_added : (lists : List (Vec BindingId)) (at s : ℕ) (v : Vec BindingId) (site : BindingId) → at < length lists
     → v.items ≡ items_at lists at ++ site ∷ []
@@ -179,6 +223,14 @@ has_want loops o c e = rw e refl
 loop_want : (loops : Bool) (o : Option Constraint) → loops ≡ true → (w : Want Constraint) × (want_or loops o ≡ Some w)
 loop_want loops None e = (one_value, rw e refl)
 loop_want loops (Some c) e = (has c, refl)
+
+-- the rule at a place
+pub rule_there : (rules seen all : List Rule) (at : ℕ) (rule : Rule) → seen ≡ rules → all ≡ rules → at < length all → rule ≡ get_or seen at rule
+    → slice_get rules at ≡ Some rule
+rule_there rules seen all at rule e f low is =
+    let m = ap length e in
+    let n = ap length f in
+    sym (ap (λ (l : List Rule). slice_get l at) e) ∙ slice_get_read seen (length seen) at rule refl (omega (arith, m, n)) is
 
 module _ (set : RulesOverSites) where
   -- past the last rule nothing is tested
@@ -252,6 +304,28 @@ module _ (set : RulesOverSites) where
     pub members_are : (sets : List (List BindingId)) → ListsEqualSites rule.equals sets → AreMembers set i sets
     members_are sets lists x low m = joins_is x x ∙ (sym (lists.joined (id_of x) (id_of x) (omega arith)) ∙ listed_class (id_of x) sets m)
 
+-- numbers added behind a list
+module _ (i : ℕ) (old new : List ℕ) (adds : AddsOnly i old new) where
+  pub adds_once : (at s : ℕ) (last : List ℕ) → last ≡ added_at new at i s → AddsOnly i old last
+  adds_once at s last e = elim (true_or (s == at)) [
+    | inl h ↦
+        let f : last ≡ new ++ i ∷ [] = e ∙ (rw h refl) in
+        record {
+          more = adds.more ++ i ∷ [];
+          behind = f ∙ (ap (λ (y : List ℕ). y ++ i ∷ []) adds.behind ∙ append_assoc old adds.more (i ∷ []));
+          only = λ x m. elim (elem_append x adds.more (i ∷ []) m) [
+            | inl k ↦ adds.only x k
+            | inr k ↦ elim k [ inl q ↦ q | inr z ↦ absurd z ]
+          ];
+        }
+    | inr h ↦
+        let f : last ≡ new = e ∙ (rw h refl) in
+        record { more = adds.more; behind = f ∙ adds.behind; only = adds.only }
+  ]
+
+  pub kept_still : (x : ℕ) → Elem x old → Elem x new
+  kept_still x m = let P : List ℕ → Type 0 = λ l. Elem x l in subst P (sym adds.behind) (elem_left x old adds.more m)
+
 -- a list stays in order where a number is added that none of it passes
 module _ (i : ℕ) (old new : List ℕ) (low : (x : ℕ) → Elem x old → x ≤ i) (adds : AddsOnly i old new) where
   pub low_still : (x : ℕ) → Elem x new → x ≤ i
@@ -281,6 +355,3 @@ module _ (i : ℕ) (old new : List ℕ) (low : (x : ℕ) → Elem x old → x �
         let f : get_or new k d ≤ i = low_still (get_or new k d) (elem_at new k d (omega arith)) in
         omega arith
   ]
-
-  pub kept_still : (x : ℕ) → Elem x old → Elem x new
-  kept_still x m = let P : List ℕ → Type 0 = λ l. Elem x l in subst P (sym adds.behind) (elem_left x old adds.more m)

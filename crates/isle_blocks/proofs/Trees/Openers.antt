@@ -1,13 +1,13 @@
 -- Which rule opens a site: the first whose test makes it.
-use Rattle.std.proofs.Common.{◌≡◌, ◌≢◌, ◌<◌, ◌≤◌, ◌&&◌, ◌==◌, ℕ, suc, zero, inl, inr, true, false, not, nat_lt, is_some, Bool, List, [], ◌∷◌, Option, Some, None}
+use Rattle.std.proofs.Common.{◌≡◌, ◌≢◌, ◌<◌, ◌≤◌, ◌&&◌, ℕ, suc, zero, inl, inr, true, false, not, is_some, Bool, List, [], ◌∷◌, Option, Some, None}
 use Rattle.std.proofs.Common.{length, refl, sym, ◌∙◌, ap, subst, arith, get_or, slice_get}
 use Rattle.std.proofs.lemmas.Bool.Decides.{nat_tests}
 use Rattle.std.proofs.lemmas.Option.{same_Some}
-use Rattle.isle_trees.specs.Rules.{Want, has, one_value, Source, Elem}
-use Rattle.isle_trees.specs.Scopes.{Test, on_match, on_loop, has_test}
+use Rattle.isle_trees.specs.Rules.{has, one_value, Source, Elem}
+use Rattle.isle_trees.specs.Scopes.{on_match, on_loop}
 use Rattle.isle_trees.specs.Search.{HasUsers}
 use Rattle.isle_trees.proofs.Basics.{true_or, none_or, and_both, not_true, clash}
-use Rattle.isle_trees.proofs.Building.Lists.{less_or, place_of}
+use Rattle.isle_trees.proofs.Building.Lists.{place_of}
 use Rattle.isle_blocks.specs.declared.binding.Binding.{Binding}
 use Rattle.isle_blocks.specs.declared.binding.Binding.TheVariants as sites
 use Rattle.isle_blocks.specs.declared.constraint.Constraint.{Constraint}
@@ -17,7 +17,8 @@ use Rattle.isle_blocks.specs.Bindings.{sources_of}
 use Rattle.isle_blocks.specs.RuleSets.{RulesOverSites}
 use Rattle.isle_blocks.specs.Rows.{numbers_of}
 use Rattle.isle_blocks.specs.Trees.Builder.{AreOpeners, IsRising, is_some_test, loops_at, opens_at, opens_by, opens_site, rules_in, source_in}
-use Rattle.isle_blocks.specs.Trees.View.{any_opening, first_opening, has_loop, keep, made_by, opening, opens_field, or_else, read_or, test_at, want_at, want_or}
+use Rattle.isle_blocks.specs.Trees.View.{any_opening, first_opening, has_loop, keep, made_by, opening, opens_field, or_else, read_or}
+use Rattle.isle_blocks.specs.Trees.View.{test_at, want_at, want_or}
 use Rattle.isle_blocks.specs.Trees.Work.{opener_among}
 use Rattle.isle_blocks.proofs.Trees.Indexed.{made_below}
 
@@ -176,9 +177,9 @@ module _ (set : RulesOverSites) (x : ℕ) (b : Binding) (stands : slice_get set.
       let opens = sym (opens_is i rule there) ∙ e in
       let P : ℕ → Type 0 = λ y. Elem i (users y) in
       let by_test : (p : Constraint → Bool) (t : ℕ) → opens_by p (test_at t rule) ≡ true → Elem i (users t) = λ p t h.
-          let (c, test, passes) = opened_some p (test_at t rule) h in
-          let wants : (rules_in set).at i t ≡ Some (has c) = want_in i rule t there ∙ wants_test rule t c test in
-          used i (on_match t) (rw wants refl) in
+      let (c, test, passes) = opened_some p (test_at t rule) h in
+      let wants : (rules_in set).at i t ≡ Some (has c) = want_in i rule t there ∙ wants_test rule t c test in
+      used i (on_match t) (rw wants refl) in
       elim (making set.rules b) [
         | IsMadeBy.by_field kind t f own parts makes shows ↦
             subst P (same_Some t s (sym own ∙ src)) (by_test (opens_field kind f) t (sym (shows rule) ∙ opens))
@@ -227,10 +228,10 @@ module _ (set : RulesOverSites) (x : ℕ) (b : Binding) (stands : slice_get set.
             let same = same_Some _ m (sym makes ∙ made) in
             let (c, test, passes) = opened_some (opens_field kind f) (test_at t rule) (sym (shows rule) ∙ opens) in
             let first : first_opening kind f t set.rules ≡ Some c = first_here kind f t set.rules i rule c there test passes (λ j r l g.
-                elim (true_or (opens_by (opens_field kind f) (test_at t r))) [
-                  | inl h ↦ (let low : i ≤ j = least j (opens_is j r g ∙ (shows r ∙ h)) in absurd (omega arith))
-                  | inr h ↦ h
-                ]) in
+            elim (true_or (opens_by (opens_field kind f) (test_at t r))) [
+              | inl h ↦ (let low : i ≤ j = least j (opens_is j r g ∙ (shows r ∙ h)) in absurd (omega arith))
+              | inr h ↦ h
+            ]) in
             subst P same (wants_test rule t c test ∙ ap (λ (o : Option Constraint). Some (has (read_or (any_opening kind f) (λ y. y) o))) (sym first))
         | IsMadeBy.by_option t own parts makes shows ↦
             let same = same_Some _ m (sym makes ∙ made) in

@@ -4,11 +4,10 @@ ghost use Rattle.std.specs.Prelude.{◌≡◌, ◌≤◌, ◌<◌, ◌++◌, ℕ
 ghost use Rattle.std.specs.List.{flat_map};
 ghost use Rattle.isle_trees.specs.Ranking.{PartsAreLower, AllBelow};
 ghost use Rattle.isle_trees.specs.Rules.{Elem};
-ghost use Rattle.isle_trees.specs.Scopes.{Test, has_test};
-ghost use Rattle.isle_trees.specs.Search.{ArePartsFirst, AreMadeBelow, HasUsers, IsAskedBy, IsClean, added_at, first_of, is_marked, made_more};
+ghost use Rattle.isle_trees.specs.Search.{ArePartsFirst, AreMadeBelow, HasUsers, IsAskedBy, IsClean, added_at, is_marked, made_more};
 ghost use Rattle.isle_blocks.specs.Rows.{numbers_of};
-ghost use Rattle.isle_blocks.specs.Trees.Builder.{AreClasses, AreMembers, AreOpeners, IsIndexOf, IsRising, IsSerializable, asked_at, classes_at, items_at, made_at};
-ghost use Rattle.isle_blocks.specs.Trees.Builder.{opener_at, opens_at, rules_in, source_in, tested_in, users_at};
+ghost use Rattle.isle_blocks.specs.Trees.Builder.{AreClasses, AreMembers, AreOpeners, IsIndexOf, IsRising, IsSerializable, asked_at, classes_at};
+ghost use Rattle.isle_blocks.specs.Trees.Builder.{items_at, made_at, opener_at, opens_at, rules_in, source_in, tested_in, users_at};
 ghost use Rattle.isle_blocks.specs.Trees.View.{read_or};
 
 use crate::ids::BindingId;
@@ -192,7 +191,12 @@ impl RuleSet {
         let mut marks = vec![in alloc; false; self.site_count()]?;
         let mut lists = Vec::new(alloc);
         for rule in 0..self.rules().len() {
-            let list = self.asked_by(alloc, &self.rules()[rule], classes_of(classes, rule), &mut marks)?;
+            let list = self.asked_by(
+                alloc,
+                &self.rules()[rule],
+                classes_of(classes, rule),
+                &mut marks,
+            )?;
             lists.push(list)?;
         }
         Ok(lists)
@@ -234,11 +238,7 @@ impl RuleSet {
     }
 
     /// Adds a site to the list of its source.
-    fn add_made(
-        &self,
-        lists: &mut Vec<Vec<BindingId>>,
-        site: BindingId,
-    ) -> Result<(), AllocError>
+    fn add_made(&self, lists: &mut Vec<Vec<BindingId>>, site: BindingId) -> Result<(), AllocError>
         requires lower { PartsAreLower (rules_in self.now) }
         requires site { site.0 < length lists.old.items }
         ensures added { IfOk result (λ _. (s : ℕ) → numbers_of (items_at lists.new.items s)
@@ -272,11 +272,7 @@ impl RuleSet {
     }
 
     /// For each site the first rule whose want makes it.
-    fn openers(
-        &self,
-        alloc: Global,
-        users: &[Vec<usize>],
-    ) -> Result<Vec<Option<usize>>, AllocError>
+    fn openers(&self, alloc: Global, users: &[Vec<usize>]) -> Result<Vec<Option<usize>>, AllocError>
         requires few { length self.now.sites ≤ 65536 }
         requires users { HasUsers (rules_in self.now) (items_at users.now) }
         requires rising { (s : ℕ) → IsRising (items_at users.now s) }
@@ -331,7 +327,8 @@ fn add_site(
     site: BindingId,
 ) -> Result<(), AllocError>
     requires { at.0 < length lists.old.items }
-    ensures added { IfOk result (λ _. (s : ℕ) → numbers_of (items_at lists.new.items s) ≡ added_at (numbers_of (items_at lists.old.items s)) at.0 site.0 s) }
+    ensures added { IfOk result (λ _. (s : ℕ) → numbers_of (items_at lists.new.items s)
+        ≡ added_at (numbers_of (items_at lists.old.items s)) at.0 site.0 s) }
     ensures size { length lists.new.items ≡ length lists.old.items }
 {
     lists[at.index()].push(site)?;
@@ -348,11 +345,7 @@ fn add_rule(lists: &mut Vec<Vec<usize>>, at: BindingId, rule: usize) -> Result<(
 }
 
 /// Adds a rule to the lists of sites.
-fn add_each(
-    lists: &mut Vec<Vec<usize>>,
-    sites: &[BindingId],
-    rule: usize,
-) -> Result<(), AllocError>
+fn add_each(lists: &mut Vec<Vec<usize>>, sites: &[BindingId], rule: usize) -> Result<(), AllocError>
     requires below { AllBelow (numbers_of sites.now) (length lists.old.items) }
     ensures size { IfOk result (λ _. length lists.new.items ≡ length lists.old.items) }
     ensures added { IfOk result (λ _. (s : ℕ) → AddsOnly rule (items_at lists.old.items s) (items_at lists.new.items s)) }

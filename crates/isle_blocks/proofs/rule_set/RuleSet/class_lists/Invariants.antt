@@ -6,5 +6,5 @@ abbrev pub invariant-loop-rule : goal.invariant-loop-rule
 invariant-loop-rule l = record {
   size : length l.lists.items ≡ l.rule-index;
   classes : (i : ℕ) → i < l.rule-index → AreClasses l.self i (items_at l.lists.items i);
-  members : (i : ℕ) → AreMembers l.self i (items_at l.lists.items i);
+  members : (i : ℕ) → i < l.rule-index → AreMembers l.self i (items_at l.lists.items i);
 }

@@ -1,4 +1,4 @@
-use Rattle.std.proofs.Common.{◌≡◌, ◌<◌, ◌++◌, take, ℕ}
+use Rattle.std.proofs.Common.{◌≡◌, ◌++◌, take}
 use Rattle.isle_trees.specs.Ranking.{AllBelow}
 use Rattle.isle_blocks.specs.Rows.{numbers_of}
 use Rattle.isle_blocks.proofs.serializer.index.push_sites.Given as goal

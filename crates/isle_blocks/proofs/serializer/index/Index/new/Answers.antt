@@ -1,0 +1,15 @@
+use Rattle.std.proofs.Common.{length}
+use Rattle.isle_trees.proofs.Building.Asked.{index_of}
+use Rattle.isle_blocks.specs.Rows.{numbers_of}
+use Rattle.isle_blocks.specs.Trees.Builder.{items_at, rules_in}
+use Rattle.isle_blocks.proofs.Trees.Indexed.{made_below}
+use Rattle.isle_blocks.proofs.serializer.index.Index.new.Goals as goal
+
+pub returns : goal.returns
+returns c = record {
+  is = index_of (rules_in c.args.set.now) (length c.args.set.now.sites) (λ i. numbers_of (items_at c.in_ok-asked.asked.items i))
+      (λ s. numbers_of (items_at c.in_ok-made.made.items s)) (items_at c.in_ok-users.users.items) c.in_ok-asked.ensures c.in_ok-made.ensures
+      c.in_ok-users.ensures.users (made_below c.args.set.now);
+  openers = c.in_ok-openers.ensures;
+  classes = c.in_ok-classes.ensures.classes;
+}
