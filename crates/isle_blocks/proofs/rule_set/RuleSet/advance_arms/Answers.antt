@@ -1,25 +1,67 @@
-use Rattle.std.proofs.Common.{◌≡◌, ◌<◌, ◌++◌, ◌∷◌, [], ℕ, Bool, List, Some, ap, sym, subst, ◌∙◌, refl, map, length, arith, inl, inr, ◌⊎◌}
-use Rattle.isle_trees.specs.Rules.{Elem, Want, has, one_value}
-use Rattle.isle_trees.specs.Scopes.{Scope, inside, join, on_equal, on_loop, release}
-use Rattle.isle_trees.specs.Search.{AreSound, IsSamePath}
-use Rattle.isle_blocks.specs.declared.constraint.Constraint.{Constraint}
-use Rattle.isle_blocks.specs.Rows.{numbers_of}
-use Rattle.isle_blocks.specs.Trees.Builder.{rules_in, scope_of}
+use Rattle.std.proofs.Common.{◌≡◌, ◌<◌, ℕ, Bool, List, Option, Some, ap, sym, subst, ◌∙◌, length, drop, get_or}
+use Rattle.std.specs.Option.{IsSome}
+use Rattle.isle_trees.specs.Rules.{Elem, Want, has}
+use Rattle.isle_trees.specs.Scopes.{Scope, inside}
+use Rattle.isle_trees.specs.Search.{AreSound, IsRun}
 use Rattle.isle_trees.proofs.Building.Enter.{sound_inside}
+use Rattle.isle_trees.proofs.Building.Lists.{elem_at, get_any}
+use Rattle.isle_blocks.specs.declared.constraint.Constraint.{Constraint}
+use Rattle.isle_blocks.specs.Trees.Builder.{rules_in, scope_of}
 use Rattle.isle_blocks.proofs.Trees.Moving.{moved_arm}
+use Rattle.isle_blocks.proofs.Trees.Stepping.{run_rules, test_wanted, wanted_test}
 use Rattle.isle_blocks.proofs.rule_set.RuleSet.advance_arms.Goals as goal
 
 pub unwrap-test-requires : goal.unwrap-test-requires
-unwrap-test-requires c = ?
+unwrap-test-requires c =
+    let set = c.args.self.now in
+    let group = c.args.place.left.items in
+    let fan = c.requires.fan in
+    let at : c.index-rule.result.now ≡ get_or group c.args.start 0 = c.index-rule.ensures ∙ get_any group c.args.start c.index-rule.result.now 0 fan.more in
+    let want = fan.arms.want (get_or group c.args.start 0) (elem_at group c.args.start 0 fan.more) in
+    let wanted : (rules_in set).at c.index-rule.result.now c.args.site.0 ≡ Some (has want.0) =
+      subst (λ (i : ℕ). (rules_in set).at i c.args.site.0 ≡ Some (has want.0)) (sym at) want.1 in
+    subst IsSome (sym (c.test_at.ensures ∙ test_wanted set c.index-rule.result.now c.args.site.0 want.0 wanted)) tt
 
 pub enter-requires-clause-wants : goal.enter-requires-clause-wants
-enter-requires-clause-wants c = ?
+enter-requires-clause-wants c =
+    let set = c.args.self.now in
+    let group = c.args.place.left.items in
+    let fan = c.requires.fan in
+    let at : c.index-rule.result.now ≡ get_or group c.args.start 0 = c.index-rule.ensures ∙ get_any group c.args.start c.index-rule.result.now 0 fan.more in
+    let want = fan.arms.want (get_or group c.args.start 0) (elem_at group c.args.start 0 fan.more) in
+    let wanted : (rules_in set).at c.index-rule.result.now c.args.site.0 ≡ Some (has want.0) =
+      subst (λ (i : ℕ). (rules_in set).at i c.args.site.0 ≡ Some (has want.0)) (sym at) want.1 in
+    (has want.0, wanted)
 
 pub available-requires-clause-sound : goal.available-requires-clause-sound
-available-requires-clause-sound c = ?
+available-requires-clause-sound c =
+    let set = c.args.self.now in
+    let group = c.args.place.left.items in
+    let fan = c.requires.fan in
+    let test : (rules_in set).at c.index-rule.result.now c.args.site.0 ≡ Some (has c.unwrap-test.result) =
+      wanted_test set c.index-rule.result.now c.args.site.0 c.unwrap-test.result (sym c.test_at.ensures ∙ c.unwrap-test.ensures) in
+    let inner = c.enter.ensures.scope (has c.unwrap-test.result) test in
+    let R = rules_in set in
+    let sc = scope_of set c.args.place.known in
+    let S : Scope Constraint → Type 0 = λ x. AreSound R x c.args.place.marks.items in
+    let M : List Bool → Type 0 = λ m. AreSound R (scope_of set c.enter.new.known) m in
+    subst M (sym c.deref-3.ensures.value) (subst S (sym inner)
+    (sound_inside R sc c.args.site.0 (has c.unwrap-test.result) c.args.place.marks.items fan.arms.untested fan.arms.sound))
 
 pub push_body-requires-clause-rules : goal.push_body-requires-clause-rules
 push_body-requires-clause-rules c = ?
 
 pub returns : goal.returns
-returns c = ?
+returns c =
+    let set = c.args.self.now in
+    let group = c.args.place.left.items in
+    let fan = c.requires.fan in
+    let test : (rules_in set).at c.index-rule.result.now c.args.site.0 ≡ Some (has c.unwrap-test.result) =
+      wanted_test set c.index-rule.result.now c.args.site.0 c.unwrap-test.result (sym c.test_at.ensures ∙ c.unwrap-test.ensures) in
+    let inner = c.enter.ensures.scope (has c.unwrap-test.result) test in
+    let R = rules_in set in
+    let P : List ℕ → Type 0 = λ l. IsRun R c.args.site.0 c.args.start l c.unwrap-test.result c.in_ok-one.one.rules.items c.in_ok-one.one.end in
+    moved_arm set c.args.place c.args.site c.args.start c.unwrap-test.result c.in_ok-one.one.rules.items c.in_ok-one.one.end (scope_of set c.enter.new.known)
+    c.in_ok-bindings.bindings.items c.arm_node.result c.args.work.now.items c.push_more.new.work.items c.push_body.new.work.items c.args.nodes.now.items
+    c.push.new.self.items c.requires.set fan (subst P c.deref.ensures.value c.in_ok-one.ensures) c.in_ok-bindings.ensures c.arm_node.ensures
+    c.in_ok-push.ensures.items c.in_ok-push_more.ensures inner c.in_ok-push_body.ensures

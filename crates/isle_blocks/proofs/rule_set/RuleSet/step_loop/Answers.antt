@@ -1,4 +1,4 @@
-use Rattle.std.proofs.Common.{◌≡◌, ◌<◌, ◌++◌, ◌∷◌, [], ℕ, Bool, List, Some, ap, sym, subst, ◌∙◌, refl, map, length, arith, inl, inr, ◌⊎◌}
+use Rattle.std.proofs.Common.{◌≡◌, ◌<◌, ◌++◌, ◌∷◌, [], ℕ, Bool, List, Some, ap, sym, subst, ◌∙◌, refl, map, length, arith, get_or, rules}
 use Rattle.isle_trees.specs.Rules.{Elem, Want, has, one_value}
 use Rattle.isle_trees.specs.Scopes.{Scope, inside, join, on_equal, on_loop, release}
 use Rattle.isle_trees.specs.Search.{AreSound, IsSamePath}
@@ -6,11 +6,12 @@ use Rattle.isle_blocks.specs.declared.constraint.Constraint.{Constraint}
 use Rattle.isle_blocks.specs.Rows.{numbers_of}
 use Rattle.isle_blocks.specs.Trees.Builder.{rules_in, scope_of}
 use Rattle.isle_trees.proofs.Building.Enter.{path_freed, path_released, sound_inside, sound_path}
-use Rattle.isle_trees.proofs.Building.Sorting.{best_loops, loop_untested, loop_value, rest_marked}
+use Rattle.isle_trees.proofs.Building.Lists.{get_any}
+use Rattle.isle_trees.proofs.Building.Sorting.{loop_untested, loop_value, rest_marked}
 use Rattle.isle_trees.specs.Search.{below}
 use Rattle.isle_blocks.proofs.Trees.Known.{copy_scope, fit_copy, fit_same}
 use Rattle.isle_blocks.proofs.Trees.Moving.{moved_loop}
-use Rattle.isle_blocks.proofs.Trees.Stepping.{chosen_ordered, chosen_rules, released_copy, rest_ordered, rest_rules, test_within}
+use Rattle.isle_blocks.proofs.Trees.Stepping.{chosen_ordered, chosen_rules, first_chosen, loop_wants, released_copy, rest_ordered, rest_rules, test_within}
 use Rattle.isle_blocks.proofs.rule_set.RuleSet.step_loop.Goals as goal
 
 pub release-requires : goal.release-requires
@@ -24,13 +25,21 @@ emit-requires-clause-site c =
     test_within c.args.self.now c.args.place (on_loop c.args.site.0) c.args.chosen.items c.args.rest.items c.requires.split c.requires.set
 
 pub value-requires : goal.value-requires
-value-requires c =
-    let set = c.args.self.now in
-    loop_value (rules_in set) (length set.sites) (below (length set.rules)) c.args.place.left.items (scope_of set c.args.place.known) c.args.site.0
-    c.requires.set c.requires.split.best
+value-requires c = record {
+  made =
+      let set = c.args.self.now in
+      loop_value (rules_in set) (length set.sites) (below (length set.rules)) c.args.place.left.items (scope_of set c.args.place.known) c.args.site.0
+      c.requires.set c.requires.split.best;
+}
 
 pub release-requires-2 : goal.release-requires-2
-release-requires-2 c = ?
+release-requires-2 c =
+    let l = test_within c.args.self.now c.args.place (on_loop c.args.site.0) c.args.chosen.items c.args.rest.items c.requires.split c.requires.set in
+    let f = c.requires.split.open_is.fit.emitted in
+    let g = c.release.ensures.size in
+    let h = c.in_ok-emit.ensures.known.emitted in
+    let e : length c.in_ok-last.last.emitted.items ≡ length c.emit.new.known.emitted.items = ap length c.in_ok-last.ensures.emitted in
+    omega (arith, l, f, g, h, e)
 
 pub push_rest-requires-clause-order : goal.push_rest-requires-clause-order
 push_rest-requires-clause-order c =
@@ -59,10 +68,34 @@ enter-requires-clause-site c =
     test_within c.args.self.now c.args.place (on_loop c.args.site.0) c.args.chosen.items c.args.rest.items c.requires.split c.requires.set
 
 pub enter-requires-clause-wants : goal.enter-requires-clause-wants
-enter-requires-clause-wants c = ?
+enter-requires-clause-wants c =
+    let set = c.args.self.now in
+    let first = first_chosen set c.args.place (on_loop c.args.site.0) c.args.chosen.items c.args.rest.items c.requires.split in
+    let some : 0 < length c.args.chosen.items = search rules in
+    let at : c.index.result.now ≡ get_or c.args.chosen.items 0 0 = c.index.ensures ∙ get_any c.args.chosen.items 0 c.index.result.now 0 some in
+    let want = loop_wants set c.args.place c.args.site.0 c.args.chosen.items c.args.rest.items c.requires.split (get_or c.args.chosen.items 0 0) first in
+    (one_value, subst (λ (i : ℕ). (rules_in set).at i c.args.site.0 ≡ Some one_value) (sym at) want)
 
 pub available-requires-clause-sound : goal.available-requires-clause-sound
-available-requires-clause-sound c = ?
+available-requires-clause-sound c =
+    let set = c.args.self.now in
+    let R = rules_in set in
+    let sc = scope_of set c.args.place.known in
+    let freed = scope_of set c.release.new.self in
+    let mid = scope_of set c.emit.new.known in
+    let emits = c.in_ok-emit.ensures.emits in
+    let path : IsSamePath sc mid = path_freed sc freed mid c.args.site.0 emits.all (c.release.ensures.scope set) emits.ending in
+    let untested = loop_untested sc freed mid c.args.site.0 emits.all (c.release.ensures.scope set) emits.ending c.requires.split.best.ready.1 in
+    let S : Scope Constraint → Type 0 = λ x. AreSound R x c.args.place.marks.items in
+    let M : List Bool → Type 0 = λ m. AreSound R (scope_of set c.enter.new.known) m in
+    let first = first_chosen set c.args.place (on_loop c.args.site.0) c.args.chosen.items c.args.rest.items c.requires.split in
+    let some : 0 < length c.args.chosen.items = search rules in
+    let at : c.index.result.now ≡ get_or c.args.chosen.items 0 0 = c.index.ensures ∙ get_any c.args.chosen.items 0 c.index.result.now 0 some in
+    let want = loop_wants set c.args.place c.args.site.0 c.args.chosen.items c.args.rest.items c.requires.split (get_or c.args.chosen.items 0 0) first in
+    let inner = c.enter.ensures.scope one_value (subst (λ (i : ℕ). (rules_in set).at i c.args.site.0 ≡ Some one_value) (sym at) want) in
+    subst M (sym c.deref-2.ensures.value) (subst S (sym inner)
+    (sound_inside R mid c.args.site.0 one_value c.args.place.marks.items untested
+    (sound_path R sc mid c.args.place.marks.items path c.requires.split.open_is.marked.sound)))
 
 pub push_body-requires-clause-order : goal.push_body-requires-clause-order
 push_body-requires-clause-order c =
@@ -73,4 +106,19 @@ push_body-requires-clause-rules c =
     chosen_rules c.args.self.now c.args.place (on_loop c.args.site.0) c.args.chosen.items c.args.rest.items c.requires.split
 
 pub returns : goal.returns
-returns c = ?
+returns c =
+    let set = c.args.self.now in
+    let mid = scope_of set c.emit.new.known in
+    let last = scope_of set c.release-2.new.self in
+    let copy = copy_scope set c.in_ok-last.last c.emit.new.known c.in_ok-last.ensures in
+    let end = released_copy (scope_of set c.in_ok-last.last) mid last c.args.site.0 copy (c.release-2.ensures.scope set) in
+    let first = first_chosen set c.args.place (on_loop c.args.site.0) c.args.chosen.items c.args.rest.items c.requires.split in
+    let some : 0 < length c.args.chosen.items = search rules in
+    let at : c.index.result.now ≡ get_or c.args.chosen.items 0 0 = c.index.ensures ∙ get_any c.args.chosen.items 0 c.index.result.now 0 some in
+    let want = loop_wants set c.args.place c.args.site.0 c.args.chosen.items c.args.rest.items c.requires.split (get_or c.args.chosen.items 0 0) first in
+    let inner = c.enter.ensures.scope one_value (subst (λ (i : ℕ). (rules_in set).at i c.args.site.0 ≡ Some one_value) (sym at) want) in
+    moved_loop set c.args.place c.args.chosen.items c.args.rest.items c.args.site c.value.result (scope_of set c.release.new.self) mid
+    (scope_of set c.enter.new.known) last (numbers_of c.new-order.result.items) c.emit.new.order.items c.loop_node.result c.args.work.now.items
+    c.push_rest.new.work.items c.push_body.new.work.items c.args.nodes.now.items c.push.new.self.items c.requires.set c.requires.split
+    (c.release.ensures.scope set) c.in_ok-emit.ensures.emits (ap numbers_of c.new-order.ensures.items) c.value.ensures c.loop_node.ensures
+    c.in_ok-push.ensures.items end c.in_ok-push_rest.ensures inner c.in_ok-push_body.ensures
