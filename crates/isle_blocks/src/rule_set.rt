@@ -81,7 +81,7 @@ impl RuleSet {
     }
 
     /// The number of sites, of which each stands once.
-    pub(crate) fn binding_count(&self) -> usize
+    pub(crate) fn site_count(&self) -> usize
         ensures count { result ≡ length self.now.sites }
         ensures bound { length self.now.sites ≤ 65536 }
         ensures once { AreDistinct self.now.sites }

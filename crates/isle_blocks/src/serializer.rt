@@ -35,7 +35,8 @@ pub fn serialize(alloc: Global, set: &RuleSet) -> Result<Block, AllocError>
     ensures builds { IfOk result (λ block. Builds (rules_in set.now) (below (length set.now.rules)) nothing_known block.tree) }
 {
     let nodes = nodes_of(alloc, set)?;
-    Block::new(alloc, nodes)
+    let block = Block::new(alloc, nodes)?;
+    Ok(block)
 }
 
 /// The nodes of a rule set's tree.
@@ -45,9 +46,11 @@ fn nodes_of(alloc: Global, set: &RuleSet) -> Result<Vec<Node>, AllocError>
     ensures told { IfOk result (λ v. AreOfRules set.now v.items) }
 {
     let left = set.in_order(numbers(alloc, set.rules().len())?)?;
-    let known = Known::start(alloc, set.site_count())?;
-    let none = vec![in alloc; false; set.site_count()]?;
+    let sites = set.site_count();
+    let known = Known::start(alloc, sites)?;
+    let none = vec![in alloc; false; sites]?;
     let index = Index::new(alloc, set)?;
     let marks = set.available(alloc, &index, &left, &known, &none)?;
-    set.lay_out(alloc, &index, left, known, marks)
+    let nodes = set.lay_out(alloc, &index, left, known, marks)?;
+    Ok(nodes)
 }

@@ -296,7 +296,7 @@ impl RuleSet {
         requires wants { (rules_in self.now).at rule site.0 ≡ Some (has test) }
         ensures { IfOk result (λ v. options_shown v.items ≡ (rules_in self.now).fields site.0 test) }
     {
-        let _count = self.binding_count();
+        let _count = self.site_count();
         let bindings = test.bindings_for(alloc, site)?;
         let mut all = Vec::new(alloc);
         for binding in bindings.as_slice() {
@@ -311,7 +311,7 @@ impl RuleSet {
         requires made { (x : ℕ) × ((rules_in self.now).value site.0 ≡ Some x) }
         ensures { (rules_in self.now).value site.0 ≡ Some result.0 }
     {
-        let _count = self.binding_count();
+        let _count = self.site_count();
         match self.find_binding(&Binding::Iterator { source: site }) {
             Some(value) => value,
             None => BindingId(0),

@@ -67,13 +67,6 @@ fn contains(sites: &[BindingId], site: BindingId) -> bool
 }
 
 impl RuleSet {
-    /// The number of sites, which is at most 65,536.
-    pub(crate) fn site_count(&self) -> usize
-        ensures count { result ≡ length self.now.sites }
-    {
-        self.bindings().len()
-    }
-
     fn site(&self, site: BindingId) -> Option<&Binding>
         ensures { option_copied result ≡ slice_get self.now.sites site.0 }
     {

@@ -1,4 +1,4 @@
-use Rattle.std.proofs.Common.{◌≡◌, ◌<◌, ℕ, Bool, List, Option, Some, ap, sym, subst, ◌∙◌, length, drop, get_or}
+use Rattle.std.proofs.Common.{◌≡◌, ◌<◌, ℕ, Bool, List, Option, Some, ap, sym, subst, ◌∙◌, refl, length, drop, get_or}
 use Rattle.std.specs.Option.{IsSome}
 use Rattle.isle_trees.specs.Rules.{Elem, Want, has}
 use Rattle.isle_trees.specs.Scopes.{Scope, inside}
@@ -20,7 +20,7 @@ unwrap-test-requires c =
     let want = fan.arms.want (get_or group c.args.start 0) (elem_at group c.args.start 0 fan.more) in
     let wanted : (rules_in set).at c.index-rule.result.now c.args.site.0 ≡ Some (has want.0) =
       subst (λ (i : ℕ). (rules_in set).at i c.args.site.0 ≡ Some (has want.0)) (sym at) want.1 in
-    subst IsSome (sym (c.test_at.ensures ∙ test_wanted set c.index-rule.result.now c.args.site.0 want.0 wanted)) tt
+    subst IsSome (sym (c.test_at.ensures ∙ test_wanted set c.index-rule.result.now c.args.site.0 want.0 wanted)) refl
 
 pub enter-requires-clause-wants : goal.enter-requires-clause-wants
 enter-requires-clause-wants c =
@@ -49,7 +49,12 @@ available-requires-clause-sound c =
     (sound_inside R sc c.args.site.0 (has c.unwrap-test.result) c.args.place.marks.items fan.arms.untested fan.arms.sound))
 
 pub push_body-requires-clause-rules : goal.push_body-requires-clause-rules
-push_body-requires-clause-rules c = ?
+push_body-requires-clause-rules c =
+    let set = c.args.self.now in
+    let R = rules_in set in
+    let P : List ℕ → Type 0 = λ l. IsRun R c.args.site.0 c.args.start l c.unwrap-test.result c.in_ok-one.one.rules.items c.in_ok-one.one.end in
+    let one = subst P c.deref.ensures.value c.in_ok-one.ensures in
+    run_rules set c.args.site.0 c.args.start c.unwrap-test.result c.args.place.left.items c.in_ok-one.one.rules.items one.run c.requires.fan.arms.rules
 
 pub returns : goal.returns
 returns c =

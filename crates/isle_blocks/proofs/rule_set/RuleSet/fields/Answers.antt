@@ -18,7 +18,7 @@ loop-binding-preserved c =
     let more : take (i + 1) items ≡ take i items ++ b ∷ [] =
     take_more items i b c.loop-binding-test.true ∙ ap (λ (x : Binding). take i items ++ x ∷ []) (sym c.binding-item.is) in
     rw more (fields_more c.args.self.now c.args.site.0 c.args.test (take i items) b c.loop-binding.all.items c.push.new.self.items
-    c.find_binding-found.result c.keep_made.result c.binding_count-count.ensures.once c.find_binding-found.ensures
+    c.find_binding-found.result c.keep_made.result c.site_count-count.ensures.once c.find_binding-found.ensures
     (c.keep_made.ensures (has c.args.test) c.requires.wants) c.in_ok-push.ensures.items c.loop-binding.invariant)
 
 pub returns : goal.returns

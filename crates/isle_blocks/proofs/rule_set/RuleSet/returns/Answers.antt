@@ -1,7 +1,9 @@
 use Rattle.std.proofs.Common.{◌≡◌, ◌<◌, ◌≤◌, ◌++◌, ◌∷◌, [], ℕ, List, Some, ap, sym, subst, ◌∙◌, refl, length, map, get_or, slice_get, arith, rules}
+use Rattle.std.proofs.lemmas.Option.{slice_get-get_or}
 use Rattle.isle_trees.specs.Builds.{BindsEach}
 use Rattle.isle_trees.specs.Rules.{Elem, rights}
 use Rattle.isle_trees.proofs.Building.Lists.{elem_at, elem_below}
+use Rattle.isle_blocks.specs.declared.rule.Rule.{Rule}
 use Rattle.isle_blocks.specs.declared.serializer.node.Node.{Node}
 use Rattle.isle_blocks.specs.Rows.{numbers_of}
 use Rattle.isle_blocks.specs.Trees.Nodes.{Piece, given, put}
@@ -33,7 +35,9 @@ return_order-requires-clause-below c x m =
       c.requires.rules _ (elem_at c.args.left.now c.loop-number.number-index 0 c.loop-number-test.true) in
     let i = get_or c.args.left.now c.loop-number.number-index 0 in
     let rule = c.index-rules-number.result in
-    let is : slice_get set.rules i ≡ Some rule = ? in
+    let is : slice_get set.rules i ≡ Some rule = 
+      subst (λ (y : List Rule). slice_get y i ≡ Some rule) c.rules.ensures
+      (slice_get-get_or c.rules.result.now i rule (subst (λ (n : ℕ). i < n) (sym (ap length c.rules.ensures)) l) ∙ ap Some (sym c.index-rules-number.is)) in
     c.requires.set.rights i x (elem_below i (length set.rules) l) (subst (λ (y : List ℕ). Elem x y) (sym (rights_are set i rule is)) m)
 
 pub loop-number-preserved : goal.loop-number-preserved
@@ -44,7 +48,9 @@ loop-number-preserved c =
       c.requires.rules _ (elem_at c.args.left.now c.loop-number.number-index 0 c.loop-number-test.true) in
     let i = get_or c.args.left.now c.loop-number.number-index 0 in
     let rule = c.index-rules-number.result in
-    let is : slice_get set.rules i ≡ Some rule = ? in
+    let is : slice_get set.rules i ≡ Some rule = 
+      subst (λ (y : List Rule). slice_get y i ≡ Some rule) c.rules.ensures
+      (slice_get-get_or c.rules.result.now i rule (subst (λ (n : ℕ). i < n) (sym (ap length c.rules.ensures)) l) ∙ ap Some (sym c.index-rules-number.is)) in
     let now = scope_of set c.loop-number.known in
     let after = scope_of set c.return_order.new.known in
     let binds : BindsEach R now (rights R i) (numbers_of c.in_ok-order.order.items) after =

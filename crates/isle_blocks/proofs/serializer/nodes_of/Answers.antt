@@ -1,0 +1,32 @@
+use Rattle.std.proofs.Common.{◌≡◌, ◌<◌, ◌≤◌, ℕ, List, ap, sym, subst, ◌∙◌, length, arith}
+use Rattle.isle_trees.specs.Builds.{Builds}
+use Rattle.isle_trees.specs.Rules.{Elem}
+use Rattle.isle_trees.specs.Scopes.{Scope}
+use Rattle.isle_trees.specs.Search.{AreDistinct, below}
+use Rattle.isle_trees.proofs.Building.Lists.{ascending_distinct, below_ascends, below_less}
+use Rattle.isle_trees.proofs.Building.Reorder.{same_builds, same_elem, same_turned}
+use Rattle.isle_blocks.specs.declared.constraint.Constraint.{Constraint}
+use Rattle.isle_blocks.specs.Trees.Builder.{IsFit, rules_in, scope_of}
+use Rattle.isle_blocks.specs.Trees.Nodes.{first_steps, read}
+use Rattle.isle_blocks.proofs.serializer.nodes_of.Goals as goal
+
+pub in_order-requires : goal.in_order-requires
+in_order-requires c =
+    let n = length c.args.set.now.rules in
+    let e : c.in_ok-numbers.field-0.items ≡ below n = c.in_ok-numbers.ensures ∙ ap (λ (l : ℕ). below l) (ap length c.rules.ensures) in
+    subst AreDistinct (sym e) (ascending_distinct (below n) (below_ascends n))
+
+pub available-requires-clause-fit : goal.available-requires-clause-fit
+available-requires-clause-fit c =
+    subst (λ (n : ℕ). IsFit c.args.set.now n c.in_ok-known.known) c.site_count-sites.ensures.count (c.in_ok-known.ensures.fit c.args.set.now)
+
+pub lay_out-requires-clause-fit : goal.lay_out-requires-clause-fit
+lay_out-requires-clause-fit c =
+    subst (λ (n : ℕ). IsFit c.args.set.now n c.in_ok-known.known) c.site_count-sites.ensures.count (c.in_ok-known.ensures.fit c.args.set.now)
+
+pub lay_out-requires-clause-rules : goal.lay_out-requires-clause-rules
+lay_out-requires-clause-rules c i m =
+    let n = length c.args.set.now.rules in
+    let e : c.in_ok-numbers.field-0.items ≡ below n = c.in_ok-numbers.ensures ∙ ap (λ (l : ℕ). below l) (ap length c.rules.ensures) in
+    let old : Elem i c.in_ok-numbers.field-0.items = same_elem c.in_ok-left.left.items c.in_ok-numbers.field-0.items i (λ f. sym (c.in_ok-left.ensures.same f)) m in
+    below_less i n (subst (λ (l : List ℕ). Elem i l) e old)
