@@ -59,3 +59,7 @@ pub mod Openers
 pub mod Fields
 -- What a step of the builder finds where the best test is known.
 pub mod Stepping
+-- A tree that rules build does not depend on what constants are called.
+pub mod Named
+-- What is promised of a rule set's tree.
+pub mod Promised

@@ -29,3 +29,5 @@ pub mod Premises
 pub mod Choices
 -- What the theory of trees asks of a rule set.
 pub mod Laws
+-- What the tree of a rule set promises.
+pub mod Promises

@@ -6,6 +6,7 @@ ghost use Rattle.isle_trees.specs.Scopes.{nothing_known};
 ghost use Rattle.isle_trees.specs.Search.{below};
 ghost use Rattle.isle_blocks.specs.Trees.Builder.{IsSerializable, rules_in};
 ghost use Rattle.isle_blocks.specs.Trees.Nodes.{first_steps, read};
+ghost use Rattle.isle_blocks.specs.Trees.Promises.{BindsWhatIsAsked, ChoosesAsRules, HasArmsInOrder, IsBuilt, IsCheckedSet, IsShort, ReturnsItsRules};
 ghost use Rattle.isle_blocks.specs.Trees.Work.{AreOfRules};
 
 mod binding;
@@ -29,10 +30,18 @@ use known::Known;
 use node::Node;
 use std::alloc::{AllocError, Global};
 
-/// The tree of tests of a rule set.
+/// The tree of tests of a rule set. A path of tests takes no native stack, however long it is. Want of memory leaves nothing.
+///
+/// The best test at each point is the one that most of the rules left have, down to the greatest priority of a rule that lacks it;
+/// then one whose sites are bound already; then a match before a comparison before a loop; then that of the lesser sites.
 pub fn serialize(alloc: Global, set: &RuleSet) -> Result<Block, AllocError>
-    requires set { IsSerializable set.now }
-    ensures builds { IfOk result (λ block. Builds (rules_in set.now) (below (length set.now.rules)) nothing_known block.tree) }
+    requires checked { IsCheckedSet set.now }
+    ensures builds { IfOk result (IsBuilt set.now) }
+    ensures returns { IfOk result (ReturnsItsRules set.now) }
+    ensures chooses { IfOk result (ChoosesAsRules set.now) }
+    ensures asks { IfOk result (BindsWhatIsAsked set.now) }
+    ensures ascends { IfOk result (HasArmsInOrder set.now) }
+    ensures few { IfOk result (IsShort set.now) }
 {
     let nodes = nodes_of(alloc, set)?;
     let block = Block::new(alloc, nodes)?;

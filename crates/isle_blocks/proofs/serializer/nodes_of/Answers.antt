@@ -1,12 +1,12 @@
-use Rattle.std.proofs.Common.{◌≡◌, ◌<◌, ◌≤◌, ℕ, List, ap, sym, subst, ◌∙◌, length, arith}
+use Rattle.std.proofs.Common.{◌≡◌, ◌<◌, ◌≤◌, ℕ, List, [], ap, sym, subst, ◌∙◌, length, arith}
 use Rattle.isle_trees.specs.Builds.{Builds}
 use Rattle.isle_trees.specs.Rules.{Elem}
-use Rattle.isle_trees.specs.Scopes.{Scope}
+use Rattle.isle_trees.specs.Scopes.{Scope, nothing_known}
 use Rattle.isle_trees.specs.Search.{AreDistinct, below}
 use Rattle.isle_trees.proofs.Building.Lists.{ascending_distinct, below_ascends, below_less}
-use Rattle.isle_trees.proofs.Building.Reorder.{same_builds, same_elem, same_turned}
+use Rattle.isle_trees.proofs.Building.Reorder.{same_builds, same_elem}
 use Rattle.isle_blocks.specs.declared.constraint.Constraint.{Constraint}
-use Rattle.isle_blocks.specs.Trees.Builder.{IsFit, rules_in, scope_of}
+use Rattle.isle_blocks.specs.Trees.Builder.{IsFit, rules_in}
 use Rattle.isle_blocks.specs.Trees.Nodes.{first_steps, read}
 use Rattle.isle_blocks.proofs.serializer.nodes_of.Goals as goal
 
@@ -30,3 +30,15 @@ lay_out-requires-clause-rules c i m =
     let e : c.in_ok-numbers.field-0.items ≡ below n = c.in_ok-numbers.ensures ∙ ap (λ (l : ℕ). below l) (ap length c.rules.ensures) in
     let old : Elem i c.in_ok-numbers.field-0.items = same_elem c.in_ok-left.left.items c.in_ok-numbers.field-0.items i (λ f. sym (c.in_ok-left.ensures.same f)) m in
     below_less i n (subst (λ (l : List ℕ). Elem i l) e old)
+
+pub returns-clause-builds : goal.returns-clause-builds
+returns-clause-builds c =
+    let set = c.args.set.now in
+    let R = rules_in set in
+    let T = first_steps (read c.in_ok-nodes.nodes.items []) in
+    let n = length set.rules in
+    let e : c.in_ok-numbers.field-0.items ≡ below n = c.in_ok-numbers.ensures ∙ ap (λ (l : ℕ). below l) (ap length c.rules.ensures) in
+    let start : Builds R c.in_ok-left.left.items nothing_known T =
+      subst (λ (sc : Scope Constraint). Builds R c.in_ok-left.left.items sc T) (c.in_ok-known.ensures.nothing set) c.in_ok-nodes.ensures.builds in
+    subst (λ (l : List ℕ). Builds R l nothing_known T) e
+    (same_builds R T c.in_ok-left.left.items c.in_ok-numbers.field-0.items nothing_known (λ f. sym (c.in_ok-left.ensures.same f)) start)
