@@ -20,15 +20,14 @@ mod views;
 mod wants;
 mod work;
 
-pub use block::Block;
-pub use views::{Arms, ControlFlow, EvalStep, MatchArm, Steps};
-
 use crate::rule_set::RuleSet;
+pub use block::Block;
 use groups::numbers;
 use index::Index;
 use known::Known;
 use node::Node;
 use std::alloc::{AllocError, Global};
+pub use views::{Arms, ControlFlow, EvalStep, MatchArm, Steps};
 
 /// The tree of tests of a rule set. A path of tests takes no native stack, however long it is. Want of memory leaves nothing.
 ///

@@ -1,11 +1,10 @@
 -- What laying out a node does to what is still to be laid out.
-use Rattle.std.proofs.Common.{◌≡◌, ℕ, ◌+◌, ◌<◌, ◌≤◌, ◌++◌, List, [], ◌∷◌, Option, Some, None, length, map, refl, sym, ◌∙◌, ap, subst, arith, drop, append_assoc}
+use Rattle.std.proofs.Common.{◌≡◌, ℕ, ◌++◌, List, [], ◌∷◌, Option, Some, refl, sym, ◌∙◌, ap, subst, arith, drop, append_assoc}
 use Rattle.std.proofs.lemmas.List.{append-nil}
-use Rattle.isle_trees.specs.Tree.{Steps}
 use Rattle.isle_trees.specs.Bag.{IsSameBag}
-use Rattle.isle_trees.specs.Rules.{has, one_value, Elem}
-use Rattle.isle_trees.specs.Scopes.{Scope, release, join, inside, Test, on_match, on_equal, on_loop, counted, others}
-use Rattle.isle_trees.specs.Builds.{Builds, BuildsArms, IsBest, HasNoTest}
+use Rattle.isle_trees.specs.Rules.{has, one_value}
+use Rattle.isle_trees.specs.Scopes.{Scope, release, join, inside, on_match, on_equal, on_loop}
+use Rattle.isle_trees.specs.Builds.{Builds, BuildsArms, HasNoTest}
 use Rattle.isle_trees.specs.Counting.{weight}
 use Rattle.isle_trees.specs.Ranking.{Emits}
 use Rattle.isle_trees.specs.Search.{IsRun}
@@ -43,7 +42,7 @@ moved_match set o arms chosen rest s after old binds node w0 w1 w2 n0 n1 split e
     let share = rest_share R o.left.items chosen rest sc after (on_match s.0) again split.chosen_is split.rest_is in
     let useful = useful_weighs R o.left.items chosen sc after (on_match s.0) best split.chosen_is in
     let g : weight R (scope_of set arms.known) arms.left.items ≡ weight R after chosen =
-      ap (λ (x : Scope Constraint). weight R x arms.left.items) at ∙ sym (same_weight R after chosen arms.left.items same) in
+    ap (λ (x : Scope Constraint). weight R x arms.left.items) at ∙ sym (same_weight R after chosen arms.left.items same) in
     let two = sizes_two set want.task (tasks.Arms s 0 arms) in
     let z = want.size in
     record {
@@ -59,7 +58,7 @@ moved_match set o arms chosen rest s after old binds node w0 w1 w2 n0 n1 split e
           let A : Scope Constraint → Type 0 = λ x. BuildsArms R arms.left.items x s.0 (first_arms pieces) in
           let B : List ℕ → Type 0 = λ l. Builds R l after (first_steps (later pieces)) in
           let inner : BuildsArms R chosen after s.0 (first_arms pieces) =
-            same_arms R (first_arms pieces) arms.left.items chosen after s.0 (λ h. sym (same h)) (subst A at d.0.1) in
+          same_arms R (first_arms pieces) arms.left.items chosen after s.0 (λ h. sym (same h)) (subst A at d.0.1) in
           subst P (sym is)
           (match_builds R o.left.items chosen sc after s.0 old (numbers_of binds) (first_arms pieces) (first_steps (later pieces)) best none emits
           split.chosen_is inner (subst B split.rest_is (want.due (later pieces) d.1)));
@@ -152,7 +151,7 @@ moved_arm set o s start test rules end inner bindings node w0 w1 w2 n0 n1 good f
     let group = drop start o.left.items in
     let rest = drop end o.left.items in
     let share = arm_share R sc inner s.0 test group rules rest good.same good.same_self good.listed fan.arms.untested is_run.least in_is is_run.run
-      is_run.rest in
+    is_run.rest in
     let two = sizes_two set want.task body.task in
     let z = want.size in
     let y = body.size in

@@ -1,5 +1,5 @@
 -- A tree that rules build doesn't depend on what constants are called.
-use Rattle.std.proofs.Common.{◌≡◌, ℕ, List, [], ◌∷◌, Option, Some, None, Bool, true, false, length, map, refl, sym, ap, subst, slice_get}
+use Rattle.std.proofs.Common.{◌≡◌, ℕ, List, [], ◌∷◌, Option, Some, None, Bool, map, refl, subst}
 use Rattle.isle_types.specs.declared.ids.Sym.{Sym}
 use Rattle.isle_meaning.specs.Held.{Held}
 use Rattle.isle_trees.specs.Tree.{Steps}
@@ -9,13 +9,11 @@ use Rattle.isle_trees.specs.Builds.{Builds}
 use Rattle.isle_trees.specs.Search.{IsBuildable}
 use Rattle.isle_trees.specs.Values.{over_values}
 use Rattle.isle_trees.proofs.Building.OtherValues.{builds_over}
-use Rattle.isle_blocks.specs.declared.binding.Binding.{Binding}
 use Rattle.isle_blocks.specs.declared.constraint.Constraint.{Constraint}
 use Rattle.isle_blocks.specs.Constraints.{bindings_made}
 use Rattle.isle_blocks.specs.RuleSets.{RulesOverSites}
 use Rattle.isle_blocks.specs.Trees.Compare.{meets, same_held}
 use Rattle.isle_blocks.specs.Trees.View.{field_of, id_of, keep, made_at, place_of, rules_of, tests_by}
-use Rattle.isle_blocks.specs.Trees.Builder.{rules_in}
 
 -- whether a test makes a site asks no names
 source_named : (name other : Sym → List ℕ) (s : ℕ) (c : Constraint) (o : Option (Source Constraint))

@@ -1,12 +1,9 @@
 -- The tests that rules offer, as code lists them.
-use Rattle.std.proofs.Common.{◌≡◌, ◌⊎◌, ◌&&◌, ◌++◌, ◌+◌, ◌<◌, inl, inr, ℕ, Bool, true, false, List, [], ◌∷◌, Option, Some, None, get_or, take, length, map, slice_get, Bor, refl}
+use Rattle.std.proofs.Common.{◌≡◌, ◌++◌, ◌+◌, ◌<◌, inl, inr, ℕ, Bool, true, false, List, [], ◌∷◌, Option, Some, None, get_or, take, length, slice_get, Bor, refl}
 use Rattle.std.proofs.Common.{sym, ap, ◌∙◌, subst}
-use Rattle.std.specs.Prelude.{is_some}
 use Rattle.std.specs.Bool.{Decides}
-use Rattle.std.specs.BTreeMap.{is_at}
 use Rattle.std.specs.Cmp.{IsEquivalence}
-use Rattle.std.specs.List.{flat_map, list_any}
-use Rattle.std.specs.Map.{lookup, keys_of}
+use Rattle.std.specs.List.{flat_map}
 use Rattle.std.specs.Option.{option_map}
 use Rattle.std.proofs.lemmas.Option.{get_or_from_slice_get, same_Some}
 use Rattle.std.proofs.lemmas.List.{append-nil, append_assoc, take_more}
@@ -23,13 +20,12 @@ use Rattle.isle_blocks.specs.declared.rule.Rule.{Rule}
 use Rattle.isle_blocks.specs.declared.serializer.known.Test.{Test as CodeTest}
 use Rattle.isle_blocks.specs.declared.serializer.known.Test.TheVariants as kinds
 use Rattle.isle_blocks.specs.contracts.serializer.known.TestPartialEq.TheImpl as equals_of
-use Rattle.isle_blocks.specs.ClosedRules.{same_site}
 use Rattle.isle_blocks.specs.EqualSites.{both, through, id-decides}
 use Rattle.isle_blocks.specs.RuleSets.{RulesOverSites}
-use Rattle.isle_blocks.specs.Rules.{Tests, site_cmp}
+use Rattle.isle_blocks.specs.Rules.{Tests}
 use Rattle.isle_blocks.proofs.ClosedEqualities.{in_one}
 use Rattle.isle_blocks.proofs.Trees.Reading.{found_loop, found_test, read_some, want_one, want_test}
-use Rattle.isle_blocks.specs.Trees.View.{has_loop, id_of, read_or, test_at, want_at, want_or}
+use Rattle.isle_blocks.specs.Trees.View.{has_loop, id_of, test_at, want_at}
 use Rattle.isle_blocks.specs.Trees.Builder.{AreClasses, offered, offered_in, offered_of, offered_with, rules_in}
 use Rattle.isle_blocks.specs.Trees.Work.{AddsOffers}
 
@@ -112,8 +108,8 @@ rule_ready sc marks rule classes t m =
         | inr b ↦ flat_ready sc marks _ rule.iterators (λ s q n. offered_ready sc marks (on_loop s.0) q n) t b
       ]
       | inr b ↦ flat_ready sc marks _ classes
-        (λ c q n. flat_ready sc marks _ c (λ x r k. flat_ready sc marks _ c (λ y z j. offered_ready sc marks (on_equal x.0 y.0) z j) r k) q n)
-        t b
+          (λ c q n. flat_ready sc marks _ c (λ x r k. flat_ready sc marks _ c (λ y z j. offered_ready sc marks (on_equal x.0 y.0) z j) r k) q n)
+          t b
     ]
 
 module _ (set : RulesOverSites) (sc : Scope Constraint) (marks : List Bool) (i : ℕ) (rule : Rule) (classes : List (List BindingId))

@@ -1,5 +1,5 @@
 -- What makes a site, by the rule that opens it.
-use Rattle.std.proofs.Common.{◌≡◌, ◌≢◌, ◌<◌, inl, inr, ℕ, true, false, List, Option, Some, None, slice_get, slice_index_or, refl, sym, ap, ◌∙◌, subst}
+use Rattle.std.proofs.Common.{◌≡◌, ◌≢◌, ◌<◌, inl, inr, ℕ, false, List, Option, Some, None, slice_get, slice_index_or, refl, sym, ap, subst}
 use Rattle.isle_trees.specs.Rules.{Want, Source}
 use Rattle.isle_trees.specs.Scopes.{is_want}
 use Rattle.isle_trees.specs.Search.{is_made, same_wants}
@@ -64,7 +64,7 @@ module _ (set : RulesOverSites) (n : ℕ) (openers : ℕ → Option ℕ) (known 
   made_untested e =
       let (m, made, at) = made_from_source set.rules (slice_get set.sites x) s from in
       let none : want_by set (slice_index_or known.passed.items m.site None) m.site ≡ None =
-        subst (λ (y : ℕ). want_by set (slice_index_or known.passed.items y None) y ≡ None) (sym at) (ap (λ (o : Option ℕ). want_by set o s) e) in
+      subst (λ (y : ℕ). want_by set (slice_index_or known.passed.items y None) y ≡ None) (sym at) (ap (λ (o : Option ℕ). want_by set o s) e) in
       rw made (ap (λ (o : Option (Want Constraint)). is_want (rules_in set).tests m.want o) none)
 
   -- where a rule's want of it was met, and a rule opens the site
@@ -74,7 +74,7 @@ module _ (set : RulesOverSites) (n : ℕ) (openers : ℕ → Option ℕ) (known 
       let (m, made, at) = made_from_source set.rules (slice_get set.sites x) s from in
       let opens = subst (λ (y : ℕ). (rules_in set).at i y ≡ Some m.want) at (h.first x i m made o) in
       let passed : want_by set (slice_index_or known.passed.items m.site None) m.site ≡ (rules_in set).at j s =
-        subst (λ (y : ℕ). want_by set (slice_index_or known.passed.items y None) y ≡ (rules_in set).at j s) (sym at) (ap (λ (o : Option ℕ). want_by set o s) e) in
+      subst (λ (y : ℕ). want_by set (slice_index_or known.passed.items y None) y ≡ (rules_in set).at j s) (sym at) (ap (λ (o : Option ℕ). want_by set o s) e) in
       rw made (rw opens (sym (ap (λ (o : Option (Want Constraint)). is_want (rules_in set).tests m.want o) passed)))
 
   -- where no rule opens it

@@ -1,17 +1,14 @@
 -- What is promised of a rule set's tree, from the nodes that are laid out.
-use Rattle.std.proofs.Common.{◌≡◌, ◌<◌, ◌+◌, ◌⊎◌, ℕ, zero, suc, List, [], ◌∷◌, Option, Some, None, Contains, length, refl, sym, ap, subst, slice_get, arith, inl, inr}
-use Rattle.std.specs.List.{filter_map, cons_option}
+use Rattle.std.proofs.Common.{◌≡◌, ◌⊎◌, zero, suc, List, [], ◌∷◌, Option, Some, None, Contains, length, refl, sym, ap, subst, arith, inl, inr}
+use Rattle.std.specs.List.{cons_option}
 use Rattle.std.proofs.lemmas.Option.{same_Some}
-use Rattle.isle_types.specs.declared.ids.Sym.{Sym}
 use Rattle.isle_trees.specs.Tree.{Steps}
-use Rattle.isle_trees.specs.Rules.{Elem}
 use Rattle.isle_trees.specs.Builds.{Builds}
 use Rattle.isle_trees.specs.Scopes.{nothing_known}
 use Rattle.isle_trees.proofs.Whole.{weighed_buildable, whole_ascends, whole_asked, whole_steps}
 use Rattle.isle_trees.proofs.Building.Lists.{below_less, elem_below}
 use Rattle.isle_blocks.specs.declared.ids.BindingId.{BindingId}
 use Rattle.isle_blocks.specs.declared.constraint.Constraint.{Constraint}
-use Rattle.isle_blocks.specs.declared.rule.Rule.{Rule}
 use Rattle.isle_blocks.specs.declared.serializer.node.Node.{Node}
 use Rattle.isle_blocks.specs.declared.serializer.node.Node.TheVariants as nodes
 use Rattle.isle_blocks.specs.DefinedSets.{facts_by, name_of, rules_by}

@@ -1,7 +1,7 @@
 -- What a step of the builder finds where the best test is known, over plain variables.
-use Rattle.std.proofs.Common.{◌≡◌, ℕ, ◌<◌, List, Some, None, length, drop, get_or, slice_get, refl, sym, ◌∙◌, ap, subst}
+use Rattle.std.proofs.Common.{◌≡◌, ℕ, ◌<◌, List, Some, None, length, drop, get_or, slice_get, sym, ◌∙◌, ap, subst}
 use Rattle.isle_trees.specs.Rules.{Elem, has, one_value}
-use Rattle.isle_trees.specs.Scopes.{Scope, Test, on_loop, counted, counts, is_want, others, release}
+use Rattle.isle_trees.specs.Scopes.{Scope, Test, on_loop, counts, is_want, release}
 use Rattle.isle_trees.specs.Ranking.{AreWithin}
 use Rattle.isle_trees.specs.Search.{IsInOrder}
 use Rattle.isle_trees.specs.Builds.{wanting}

@@ -1,19 +1,17 @@
 -- What is still to be laid out, over plain variables.
-use Rattle.std.proofs.Common.{◌≡◌, ◌⊎◌, inl, inr, ℕ, ◌+◌, ◌<◌, ◌≤◌, ◌++◌, List, [], ◌∷◌, Bool, Some, length, refl, sym, ◌∙◌, ap, subst, arith, drop, append_assoc, get_or, slice_get}
+use Rattle.std.proofs.Common.{◌≡◌, inl, inr, ℕ, ◌+◌, ◌<◌, ◌≤◌, ◌++◌, List, [], ◌∷◌, Bool, length, refl, sym, ◌∙◌, ap, subst, arith, drop, append_assoc, get_or}
 use Rattle.std.proofs.lemmas.List.{append-nil, drop_all}
 use Rattle.std.proofs.lemmas.List.Sums.{sum_by-append, sum_by-cons}
-use Rattle.isle_trees.specs.Tree.{Steps}
-use Rattle.isle_trees.specs.Rules.{Elem, rights}
+use Rattle.isle_trees.specs.Rules.{rights}
 use Rattle.isle_trees.specs.Scopes.{Scope}
 use Rattle.isle_trees.specs.Builds.{Builds, BuildsArms, Returns, BindsEach}
 use Rattle.isle_trees.specs.Counting.{weight}
 use Rattle.isle_trees.specs.Search.{AreMarked, AreSound, IsInOrder}
 use Rattle.isle_trees.proofs.Asking.{elem_append}
-use Rattle.isle_trees.proofs.Building.InOrder.{returns_more, returns_all}
+use Rattle.isle_trees.proofs.Building.InOrder.{returns_more}
 use Rattle.isle_trees.proofs.Building.Scopes.{scope_same}
 use Rattle.isle_blocks.specs.declared.ids.BindingId.{BindingId}
 use Rattle.isle_blocks.specs.declared.constraint.Constraint.{Constraint}
-use Rattle.isle_blocks.specs.declared.rule.Rule.{Rule}
 use Rattle.isle_blocks.specs.declared.serializer.known.Known.{Known}
 use Rattle.isle_blocks.specs.declared.serializer.node.Node.{Node}
 use Rattle.isle_blocks.specs.declared.serializer.node.Node.TheVariants as nodes
@@ -197,7 +195,7 @@ wants_copied set o task known marks w0 w1 is copy same fit order rules size mark
     let M : List Bool → Type 0 = λ m. AreMarked R o.left.items (scope_of set known) m in
     let S : Scope Constraint → Type 0 = λ x. AreMarked R o.left.items x o.marks.items in
     let w : weight R (scope_of set o.known) o.left.items ≡ weight R (scope_of set known) o.left.items =
-      ap (λ (x : Scope Constraint). weight R x o.left.items) at in
+    ap (λ (x : Scope Constraint). weight R x o.left.items) at in
     record {
       task = tasks.Block o;
       work = e ∙ ap (λ (t : Task). w0 ++ t ∷ []) is;
@@ -223,7 +221,7 @@ wants_more set s start site o task known marks w0 w1 number is copy same arms mo
     let M : List Bool → Type 0 = λ m. AreSound R (scope_of set known) m in
     let S : Scope Constraint → Type 0 = λ x. AreSound R x o.marks.items in
     let w : weight R (scope_of set o.known) (drop start o.left.items) ≡ weight R (scope_of set known) (drop start o.left.items) =
-      ap (λ (x : Scope Constraint). weight R x (drop start o.left.items)) at in
+    ap (λ (x : Scope Constraint). weight R x (drop start o.left.items)) at in
     let fan : AreArms set s o.left.items o.known o.marks.items = record {
       fit = copied_fit set (length set.sites) o.known known copy arms.fit;
       size = ap length same ∙ arms.size;

@@ -1,7 +1,7 @@
 -- What the builder of trees knows, seen as the scopes and tests of the theory.
-use Rattle.std.specs.Prelude.{◌≡◌, ◌≢◌, ℕ, ◌<◌, ◌≤◌, ◌&&◌, ◌==◌, ◌++◌, nat_lt, Bool, true, false, not, List, [], ◌∷◌, Option, Some, None, if◌then◌else◌, map, length}
+use Rattle.std.specs.Prelude.{◌≡◌, ◌≢◌, ℕ, ◌<◌, ◌≤◌, ◌&&◌, ◌++◌, Bool, true, false, not, List, [], ◌∷◌, Option, Some, None, if◌then◌else◌, map, length}
 use Rattle.std.specs.Prelude.{slice_get, slice_index_or, is_some}
-use Rattle.std.specs.List.{flat_map, list_any}
+use Rattle.std.specs.List.{flat_map}
 use Rattle.std.specs.Global.{Vec}
 use Rattle.isle_types.specs.JoinedSets.{are_joined}
 use Rattle.isle_meaning.specs.Held.{Held}
@@ -17,12 +17,11 @@ use Rattle.isle_blocks.specs.declared.serializer.known.Key.{Key as KeyOf}
 use Rattle.isle_blocks.specs.declared.serializer.known.Ranked.{Ranked as RankedOf}
 use Rattle.isle_blocks.specs.declared.serializer.known.Known.{Known}
 use Rattle.isle_blocks.specs.declared.serializer.index.Index.{Index}
-use Rattle.isle_blocks.specs.Bindings.{sources_of}
 use Rattle.isle_blocks.specs.ClosedRules.{same_site}
 use Rattle.isle_blocks.specs.RuleSets.{RulesOverSites}
 use Rattle.isle_blocks.specs.Rows.{numbers_of}
 use Rattle.isle_blocks.specs.Trees.View.{rules_of, read_or, has_loop, test_at, opens_field}
-use Rattle.isle_trees.specs.Rules.{Rules, Want, has, one_value, Source, Elem}
+use Rattle.isle_trees.specs.Rules.{Rules, Want, Source, Elem}
 use Rattle.isle_trees.specs.Scopes.{Scope, Test, on_match, on_equal, on_loop}
 use Rattle.isle_trees.specs.Builds.{Key}
 use Rattle.isle_trees.specs.Ranking.{Ranked}

@@ -1,5 +1,5 @@
 -- What is still to be laid out of a tree, and what laying out one node does to it.
-use Rattle.std.specs.Prelude.{◌≡◌, ◌≢◌, ℕ, ◌<◌, ◌≤◌, ◌+◌, ◌-◌, ◌*◌, ◌++◌, ◌==◌, List, [], ◌∷◌, Bool, true, Option, Some, None, if◌then◌else◌, length, drop, map, sum_by, slice_get}
+use Rattle.std.specs.Prelude.{◌≡◌, ℕ, ◌<◌, ◌≤◌, ◌+◌, ◌-◌, ◌*◌, ◌++◌, ◌==◌, List, [], ◌∷◌, Bool, true, Option, Some, None, if◌then◌else◌, length, drop, map, sum_by, slice_get}
 use Rattle.std.specs.Option.{option_map}
 use Rattle.isle_meaning.specs.Held.{Held}
 use Rattle.isle_blocks.specs.declared.ids.BindingId.{BindingId}
@@ -13,7 +13,6 @@ use Rattle.isle_blocks.specs.declared.serializer.work.Open.{Open}
 use Rattle.isle_blocks.specs.declared.serializer.work.Task.{Task}
 use Rattle.isle_blocks.specs.declared.serializer.work.Task.TheVariants as tasks
 use Rattle.isle_blocks.specs.RuleSets.{RulesOverSites}
-use Rattle.isle_blocks.specs.Rows.{numbers_of}
 use Rattle.isle_blocks.specs.Trees.View.{calls_at}
 use Rattle.isle_blocks.specs.Trees.Nodes.{Piece, first_steps, first_arms, later, read}
 use Rattle.isle_blocks.specs.Trees.Builder.{IsFit, opens_at, rules_in, scope_of}

@@ -39,11 +39,13 @@ impl Rule {
                 variant,
                 field,
             } => match self.get_constraint(*source) {
-                Some(Constraint::Variant {
-                    variant: wanted,
-                    fields,
-                    ..
-                }) => *wanted == *variant && field.0 < fields.0,
+                Some(
+                    Constraint::Variant {
+                        variant: wanted,
+                        fields,
+                        ..
+                    },
+                ) => *wanted == *variant && field.0 < fields.0,
                 _ => false,
             },
             Binding::ExtractStruct { source, field } => match self.get_constraint(*source) {

@@ -1,4 +1,4 @@
-use Rattle.std.proofs.Common.{◌≡◌, ◌<◌, ◌≤◌, ℕ, List, [], ap, sym, subst, ◌∙◌, length, arith}
+use Rattle.std.proofs.Common.{◌≡◌, ℕ, List, [], ap, sym, subst, ◌∙◌, length}
 use Rattle.isle_trees.specs.Builds.{Builds}
 use Rattle.isle_trees.specs.Rules.{Elem}
 use Rattle.isle_trees.specs.Scopes.{Scope, nothing_known}
@@ -39,6 +39,6 @@ returns-clause-builds c =
     let n = length set.rules in
     let e : c.in_ok-numbers.field-0.items ≡ below n = c.in_ok-numbers.ensures ∙ ap (λ (l : ℕ). below l) (ap length c.rules.ensures) in
     let start : Builds R c.in_ok-left.left.items nothing_known T =
-      subst (λ (sc : Scope Constraint). Builds R c.in_ok-left.left.items sc T) (c.in_ok-known.ensures.nothing set) c.in_ok-nodes.ensures.builds in
+    subst (λ (sc : Scope Constraint). Builds R c.in_ok-left.left.items sc T) (c.in_ok-known.ensures.nothing set) c.in_ok-nodes.ensures.builds in
     subst (λ (l : List ℕ). Builds R l nothing_known T) e
     (same_builds R T c.in_ok-left.left.items c.in_ok-numbers.field-0.items nothing_known (λ f. sym (c.in_ok-left.ensures.same f)) start)

@@ -1,7 +1,7 @@
-use Rattle.std.proofs.Common.{◌≡◌, ◌<◌, ℕ, Bool, List, Option, Some, ap, sym, subst, ◌∙◌, refl, length, drop, get_or}
+use Rattle.std.proofs.Common.{◌≡◌, ℕ, Bool, List, Some, sym, subst, ◌∙◌, refl, get_or}
 use Rattle.std.specs.Option.{IsSome}
-use Rattle.isle_trees.specs.Rules.{Elem, Want, has}
-use Rattle.isle_trees.specs.Scopes.{Scope, inside}
+use Rattle.isle_trees.specs.Rules.{has}
+use Rattle.isle_trees.specs.Scopes.{Scope}
 use Rattle.isle_trees.specs.Search.{AreSound, IsRun}
 use Rattle.isle_trees.proofs.Building.Enter.{sound_inside}
 use Rattle.isle_trees.proofs.Building.Lists.{elem_at, get_any}
@@ -19,7 +19,7 @@ unwrap-test-requires c =
     let at : c.index-rule.result.now ≡ get_or group c.args.start 0 = c.index-rule.ensures ∙ get_any group c.args.start c.index-rule.result.now 0 fan.more in
     let want = fan.arms.want (get_or group c.args.start 0) (elem_at group c.args.start 0 fan.more) in
     let wanted : (rules_in set).at c.index-rule.result.now c.args.site.0 ≡ Some (has want.0) =
-      subst (λ (i : ℕ). (rules_in set).at i c.args.site.0 ≡ Some (has want.0)) (sym at) want.1 in
+    subst (λ (i : ℕ). (rules_in set).at i c.args.site.0 ≡ Some (has want.0)) (sym at) want.1 in
     subst IsSome (sym (c.test_at.ensures ∙ test_wanted set c.index-rule.result.now c.args.site.0 want.0 wanted)) refl
 
 pub enter-requires-clause-wants : goal.enter-requires-clause-wants
@@ -30,7 +30,7 @@ enter-requires-clause-wants c =
     let at : c.index-rule.result.now ≡ get_or group c.args.start 0 = c.index-rule.ensures ∙ get_any group c.args.start c.index-rule.result.now 0 fan.more in
     let want = fan.arms.want (get_or group c.args.start 0) (elem_at group c.args.start 0 fan.more) in
     let wanted : (rules_in set).at c.index-rule.result.now c.args.site.0 ≡ Some (has want.0) =
-      subst (λ (i : ℕ). (rules_in set).at i c.args.site.0 ≡ Some (has want.0)) (sym at) want.1 in
+    subst (λ (i : ℕ). (rules_in set).at i c.args.site.0 ≡ Some (has want.0)) (sym at) want.1 in
     (has want.0, wanted)
 
 pub available-requires-clause-sound : goal.available-requires-clause-sound
@@ -39,7 +39,7 @@ available-requires-clause-sound c =
     let group = c.args.place.left.items in
     let fan = c.requires.fan in
     let test : (rules_in set).at c.index-rule.result.now c.args.site.0 ≡ Some (has c.unwrap-test.result) =
-      wanted_test set c.index-rule.result.now c.args.site.0 c.unwrap-test.result (sym c.test_at.ensures ∙ c.unwrap-test.ensures) in
+    wanted_test set c.index-rule.result.now c.args.site.0 c.unwrap-test.result (sym c.test_at.ensures ∙ c.unwrap-test.ensures) in
     let inner = c.enter.ensures.scope (has c.unwrap-test.result) test in
     let R = rules_in set in
     let sc = scope_of set c.args.place.known in
@@ -62,7 +62,7 @@ returns c =
     let group = c.args.place.left.items in
     let fan = c.requires.fan in
     let test : (rules_in set).at c.index-rule.result.now c.args.site.0 ≡ Some (has c.unwrap-test.result) =
-      wanted_test set c.index-rule.result.now c.args.site.0 c.unwrap-test.result (sym c.test_at.ensures ∙ c.unwrap-test.ensures) in
+    wanted_test set c.index-rule.result.now c.args.site.0 c.unwrap-test.result (sym c.test_at.ensures ∙ c.unwrap-test.ensures) in
     let inner = c.enter.ensures.scope (has c.unwrap-test.result) test in
     let R = rules_in set in
     let P : List ℕ → Type 0 = λ l. IsRun R c.args.site.0 c.args.start l c.unwrap-test.result c.in_ok-one.one.rules.items c.in_ok-one.one.end in

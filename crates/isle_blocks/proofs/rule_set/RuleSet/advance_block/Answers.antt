@@ -1,7 +1,6 @@
-use Rattle.std.proofs.Common.{◌≡◌, List, ℕ, Option, Some, None, MatchOption, ap, subst, sym, ◌∙◌}
+use Rattle.std.proofs.Common.{List, ℕ, Option, MatchOption, ap, subst, ◌∙◌}
 use Rattle.isle_trees.specs.Builds.{HasNoTest, IsBest}
-use Rattle.isle_trees.specs.Scopes.{Scope, counted, others}
-use Rattle.isle_blocks.specs.declared.constraint.Constraint.{Constraint}
+use Rattle.isle_trees.specs.Scopes.{counted, others}
 use Rattle.isle_blocks.specs.declared.serializer.known.Test.{Test as CodeTest}
 use Rattle.isle_blocks.specs.Trees.Builder.{rules_in, scope_of, test_shown}
 use Rattle.isle_blocks.proofs.Trees.Moving.{moved_returns}

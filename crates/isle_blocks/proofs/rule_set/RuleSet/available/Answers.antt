@@ -1,4 +1,4 @@
-use Rattle.std.proofs.Common.{arith, ◌<◌, sym, subst, List, ℕ, get_or, length}
+use Rattle.std.proofs.Common.{sym, subst, List, ℕ, get_or, length}
 use Rattle.isle_trees.specs.Rules.{Elem, Asked}
 use Rattle.isle_trees.specs.Search.{ArePartsFirst}
 use Rattle.isle_trees.proofs.Building.Marks.{group_more}

@@ -1,5 +1,5 @@
-use Rattle.std.proofs.Common.{arith, Option, subst, sym, ◌≡◌, ℕ, ◌<◌, get_or, ap, Contains, List, Some, None}
-use Rattle.isle_trees.specs.Ranking.{Ranked, IsRanked}
+use Rattle.std.proofs.Common.{arith, Option, subst, sym, get_or, Contains, List}
+use Rattle.isle_trees.specs.Ranking.{IsRanked}
 use Rattle.isle_trees.proofs.Building.Offers.{IsSearched, considered_more, nothing_best, place_ready, searched, something_best}
 use Rattle.isle_blocks.specs.declared.serializer.known.Test.{Test as CodeTest}
 use Rattle.isle_blocks.specs.declared.serializer.known.Test.TheVariants.{Match}

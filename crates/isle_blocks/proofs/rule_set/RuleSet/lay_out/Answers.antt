@@ -1,10 +1,10 @@
-use Rattle.std.proofs.Common.{◌≡◌, ◌+◌, ◌≤◌, ◌++◌, ◌∷◌, [], ℕ, List, subst, sym, rules, arith}
+use Rattle.std.proofs.Common.{◌≡◌, ◌+◌, ◌≤◌, ◌++◌, ◌∷◌, [], List, subst, sym, rules, arith}
 use Rattle.isle_trees.specs.Builds.{Builds}
 use Rattle.isle_blocks.specs.declared.serializer.node.Node.{Node}
 use Rattle.isle_blocks.specs.declared.serializer.work.Task.{Task}
 use Rattle.isle_blocks.specs.Trees.Nodes.{first_steps, read}
 use Rattle.isle_blocks.specs.Trees.Builder.{rules_in, scope_of}
-use Rattle.isle_blocks.specs.Trees.Work.{AreDue, AreOfRules, AreTasks, sizes}
+use Rattle.isle_blocks.specs.Trees.Work.{AreDue, AreTasks, sizes}
 use Rattle.isle_blocks.proofs.Trees.Working.{begun, begun_valid, tasks_right, turned, turned_smaller, turned_told, turned_valid}
 use Rattle.isle_blocks.proofs.rule_set.RuleSet.lay_out.Goals as goal
 
@@ -28,11 +28,11 @@ work-preserved c =
     let e : c.work.work.items ≡ c.pop.new.self.items ++ c.in-Some.task ∷ [] = search rules in
     record {
       valid = turned_valid set c.in-Some.task c.work.work.items c.pop.new.self.items c.advance.new.work.items c.work.nodes.items c.advance.new.nodes.items e
-        c.work.invariant.valid c.in_ok-advance.ensures;
+          c.work.invariant.valid c.in_ok-advance.ensures;
       told = turned_told set c.in-Some.task c.pop.new.self.items c.advance.new.work.items c.work.nodes.items c.advance.new.nodes.items
-        c.in_ok-advance.ensures c.work.invariant.told;
+          c.in_ok-advance.ensures c.work.invariant.told;
       so_far = turned set c.args.left.items sc c.in-Some.task c.work.work.items c.pop.new.self.items c.advance.new.work.items c.work.nodes.items
-        c.advance.new.nodes.items e c.in_ok-advance.ensures c.work.invariant.so_far;
+          c.advance.new.nodes.items e c.in_ok-advance.ensures c.work.invariant.so_far;
     }
 
 pub work-smaller : goal.work-smaller
@@ -40,8 +40,8 @@ work-smaller c =
     let set = c.args.self.now in
     let e : c.work.work.items ≡ c.pop.new.self.items ++ c.in-Some.task ∷ [] = search rules in
     let l : sizes set c.advance.new.work.items + 1 ≤ sizes set c.work.work.items =
-      turned_smaller set c.in-Some.task c.work.work.items c.pop.new.self.items c.advance.new.work.items c.work.nodes.items c.advance.new.nodes.items e
-      c.in_ok-advance.ensures in
+    turned_smaller set c.in-Some.task c.work.work.items c.pop.new.self.items c.advance.new.work.items c.work.nodes.items c.advance.new.nodes.items e
+    c.in_ok-advance.ensures in
     omega (arith, l)
 
 pub advance-requires-clause-task : goal.advance-requires-clause-task

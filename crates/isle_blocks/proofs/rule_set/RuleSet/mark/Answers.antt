@@ -1,4 +1,4 @@
-use Rattle.std.proofs.Common.{◌≡◌, ◌<◌, ◌+◌, ℕ, true, set, sym, ◌∙◌, subst, List, Bool, take, get_or, length, map, arith}
+use Rattle.std.proofs.Common.{◌≡◌, ◌<◌, ◌+◌, ℕ, true, set, sym, ◌∙◌, subst, List, Bool, take, get_or, length, arith}
 use Rattle.std.specs.Global.{Vec}
 use Rattle.isle_trees.specs.Search.{can_bind}
 use Rattle.isle_trees.proofs.Building.Lists.{elem_at}
@@ -36,8 +36,8 @@ loop-site-preserved c =
     let at : get_or sites i 0 ≡ site = get_map (λ (id : BindingId). id.0) c.args.sites.now i 0 (record { 0 = 0 }) c.loop-site-test.true in
     let P : Vec Bool → Type 0 = λ v. Marking R sc (take (i + 1) sites) c.args.marks.now.items v.items in
     let answer : c.can_bind.result ≡ can_bind R sc c.loop-site.marks.items (get_or sites i 0) =
-      subst (λ (m : List Bool). c.can_bind.result ≡ can_bind R sc m (get_or sites i 0)) c.deref.ensures.value
-      (subst (λ (y : ℕ). c.can_bind.result ≡ can_bind R sc c.deref.result.now y) (sym at) c.can_bind.ensures) in
+    subst (λ (m : List Bool). c.can_bind.result ≡ can_bind R sc m (get_or sites i 0)) c.deref.ensures.value
+    (subst (λ (y : ℕ). c.can_bind.result ≡ can_bind R sc c.deref.result.now y) (sym at) c.can_bind.ensures) in
     let below : get_or sites i 0 < length c.args.self.now.sites = c.requires.below _ (elem_at sites i 0 within) in
     let start = c.requires.size in
     let size = c.loop-site.invariant.size in

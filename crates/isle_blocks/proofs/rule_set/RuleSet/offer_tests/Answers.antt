@@ -1,4 +1,4 @@
-use Rattle.std.proofs.Common.{◌≡◌, ◌++◌, ◌<◌, List, Bor, get_or, ap, sym, ◌∙◌, length, arith}
+use Rattle.std.proofs.Common.{◌++◌, ◌<◌, List, Bor, ap, sym, ◌∙◌, length, arith}
 use Rattle.isle_trees.specs.Scopes.{Test, on_match}
 use Rattle.isle_blocks.specs.declared.ids.BindingId.{BindingId}
 use Rattle.isle_blocks.specs.declared.constraint.Constraint.{Constraint}

@@ -1,7 +1,7 @@
 use Rattle.std.proofs.Common.{◌≡◌, ◌++◌, take}
 use Rattle.std.specs.List.{flat_map}
-use Rattle.isle_trees.specs.Scopes.{on_match, on_equal, on_loop}
-use Rattle.isle_blocks.specs.Trees.Builder.{offered, offered_with, offered_in, scope_of, tests_shown}
+use Rattle.isle_trees.specs.Scopes.{on_match}
+use Rattle.isle_blocks.specs.Trees.Builder.{offered, scope_of, tests_shown}
 use Rattle.isle_blocks.proofs.rule_set.RuleSet.offer_tests.Given as goal
 
 abbrev pub invariant-loop-place : goal.invariant-loop-place

@@ -1,4 +1,4 @@
-use Rattle.std.proofs.Common.{◌≡◌, ◌<ℤ◌, get_or, arith}
+use Rattle.std.proofs.Common.{◌<ℤ◌, get_or, arith}
 use Rattle.std.proofs.lemmas.Int.{ints}
 use Rattle.isle_trees.specs.Search.{top}
 use Rattle.isle_trees.proofs.Building.Offers.{offers_stopped, offers_ended, offers_more}
@@ -10,7 +10,7 @@ returns-then-priority-top c =
     let p = c.priority.ensures in
     let t = c.top-top.ensures in
     let l : (rules_in c.args.self.now).prio (get_or c.args.left.now c.loop-rule.rule-index 0) <ℤ top (rules_in c.args.self.now) c.args.left.now =
-      omega (arith, ints, p, t, c.if-priority-top.true) in
+    omega (arith, ints, p, t, c.if-priority-top.true) in
     offers_stopped (rules_in c.args.self.now) c.args.left.now (scope_of c.args.self.now c.args.known.now) c.args.marks.now c.loop-rule.rule-index
     (tests_shown c.loop-rule.offers.items) c.requires.order c.loop-rule-test.true l c.loop-rule.invariant
 

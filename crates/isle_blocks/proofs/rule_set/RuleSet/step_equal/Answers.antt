@@ -1,13 +1,11 @@
-use Rattle.std.proofs.Common.{◌≡◌, ◌<◌, ◌++◌, ◌∷◌, [], ℕ, Bool, List, Some, ap, sym, subst, ◌∙◌, refl, map, length, arith, inl, inr, ◌⊎◌}
-use Rattle.isle_trees.specs.Rules.{Elem, Want, has, one_value}
-use Rattle.isle_trees.specs.Scopes.{Scope, inside, join, on_equal, on_loop, release}
+use Rattle.std.proofs.Common.{◌≡◌, Bool, List, ap, sym, subst, length, arith, inl, inr}
+use Rattle.isle_trees.specs.Scopes.{Scope, on_equal}
 use Rattle.isle_trees.specs.Search.{AreSound, IsSamePath}
 use Rattle.isle_blocks.specs.declared.constraint.Constraint.{Constraint}
 use Rattle.isle_blocks.specs.Rows.{numbers_of}
 use Rattle.isle_blocks.specs.Trees.Builder.{rules_in, scope_of}
 use Rattle.isle_trees.proofs.Building.Enter.{path_bound, sound_join, sound_path}
 use Rattle.isle_trees.proofs.Building.Sorting.{rest_marked}
-use Rattle.isle_blocks.proofs.Trees.Known.{fit_joined, fit_same}
 use Rattle.isle_blocks.proofs.Trees.Moving.{moved_equal}
 use Rattle.isle_blocks.proofs.Trees.Stepping.{chosen_ordered, chosen_rules, rest_ordered, rest_rules, test_within}
 use Rattle.isle_blocks.proofs.rule_set.RuleSet.step_equal.Goals as goal

@@ -1,6 +1,6 @@
-use Rattle.std.proofs.Common.{◌≡◌, ◌<◌, ◌++◌, ◌∷◌, [], ℕ, Bool, List, Some, ap, sym, subst, ◌∙◌, refl, map, length, arith, get_or, rules}
-use Rattle.isle_trees.specs.Rules.{Elem, Want, has, one_value}
-use Rattle.isle_trees.specs.Scopes.{Scope, inside, join, on_equal, on_loop, release}
+use Rattle.std.proofs.Common.{◌≡◌, ◌<◌, ℕ, Bool, List, Some, ap, sym, subst, ◌∙◌, length, arith, get_or, rules}
+use Rattle.isle_trees.specs.Rules.{one_value}
+use Rattle.isle_trees.specs.Scopes.{Scope, on_loop}
 use Rattle.isle_trees.specs.Search.{AreSound, IsSamePath}
 use Rattle.isle_blocks.specs.declared.constraint.Constraint.{Constraint}
 use Rattle.isle_blocks.specs.Rows.{numbers_of}
@@ -9,7 +9,7 @@ use Rattle.isle_trees.proofs.Building.Enter.{path_freed, path_released, sound_in
 use Rattle.isle_trees.proofs.Building.Lists.{get_any}
 use Rattle.isle_trees.proofs.Building.Sorting.{loop_untested, loop_value, rest_marked}
 use Rattle.isle_trees.specs.Search.{below}
-use Rattle.isle_blocks.proofs.Trees.Known.{copy_scope, fit_copy, fit_same}
+use Rattle.isle_blocks.proofs.Trees.Known.{copy_scope}
 use Rattle.isle_blocks.proofs.Trees.Moving.{moved_loop}
 use Rattle.isle_blocks.proofs.Trees.Stepping.{chosen_ordered, chosen_rules, first_chosen, loop_wants, released_copy, rest_ordered, rest_rules, test_within}
 use Rattle.isle_blocks.proofs.rule_set.RuleSet.step_loop.Goals as goal

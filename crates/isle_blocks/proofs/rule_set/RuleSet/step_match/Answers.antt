@@ -1,4 +1,4 @@
-use Rattle.std.proofs.Common.{◌≡◌, ◌++◌, ◌∷◌, [], List, ap, ◌∙◌, refl, map, length}
+use Rattle.std.proofs.Common.{◌++◌, ◌∷◌, [], ap, ◌∙◌, refl, length}
 use Rattle.isle_trees.specs.Scopes.{on_match}
 use Rattle.isle_trees.specs.Search.{IsSamePath}
 use Rattle.isle_trees.proofs.Building.Enter.{path_bound, sound_path}
@@ -62,8 +62,8 @@ returns c =
       untested = still_untested sc mid emits.all c.args.site.0 emits.ending split.best.ready.1;
       grouped = c.in_ok-group.ensures.grouped;
       rules = same_each _ c.args.chosen.items c.in_ok-group.group.items c.in_ok-group.ensures.same
-        (chosen_rules set o t c.args.chosen.items c.args.rest.items split);
+          (chosen_rules set o t c.args.chosen.items c.args.rest.items split);
       want = same_want R c.args.site.0 c.args.chosen.items c.in_ok-group.group.items c.in_ok-group.ensures.same
-        (chosen_want R o.left.items c.args.chosen.items c.args.site.0 split.chosen_is);
+          (chosen_want R o.left.items c.args.chosen.items c.args.site.0 split.chosen_is);
     })
     refl c.in_ok-group.ensures.same (c.in_ok-push-2.ensures.items ∙ ap (λ (t : Task). c.push_rest.new.work.items ++ t ∷ []) c.arms_task.ensures)
