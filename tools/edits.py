@@ -9,7 +9,7 @@ A function is proved from the contracts of those that it calls and not from thei
 different functions: each must leave a goal of its own function unproved, or an answer to one refused for more than a name that is gone.
 What isn't told apart so, as a constant, is tried once more by itself: then a goal or an answer of any function counts.
 
-tests/edits/tried.txt has for each crate a sum of all that the answers hang on: the crate and those below it, its edits, this file, crates.txt,
+tests/edits/tried.txt has for each crate a sum of all that the answers hang on: the crate and those below it, its edits, this file,
 and the program logic that 'rt version' names. The kit's own name is left out: machines have kits of one logic under several names, and
 what a body breaks is false under each. Where that sum is still the crate's, its edits were all refused already, and are tried
 only with --all. A check goes on from what the last 'rt check' of the crate kept, where there is such work.
@@ -109,7 +109,8 @@ def sum_of(crate, below):
     made = hashlib.sha256(logic().encode())
     folders = [f"crates/{name}/{part}" for name in [crate, *sorted(below[crate])] for part in PARTS]
     files = [it for folder in [*folders, f"tests/edits/{crate}"] for it in files_below(folder)]
-    for path in ["tools/edits.py", "crates.txt", *files]:
+    made.update(" ".join([crate, *below[crate]]).encode() + b"\n")
+    for path in ["tools/edits.py", *files]:
         made.update(path.encode() + b"\n" + text_of(path))
     return made.hexdigest()
 
