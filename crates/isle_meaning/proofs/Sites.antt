@@ -27,3 +27,5 @@ pub mod Made
 pub mod OwnTests
 -- A right side is what its sites say.
 pub mod RightSites
+-- Fields, contents and values of multi calls in what any rule demands and has.
+pub mod Owned

@@ -34,6 +34,8 @@ pub mod Scopes
 pub mod Typing
 -- The types of a rule's variables.
 pub mod Variables
+-- Rules as elaboration makes them, whatever terms they ask.
+pub mod Elaborated
 -- Sites as numbers of a table.
 pub mod Numbered
 -- Sites whose fields and contents are made by tests.

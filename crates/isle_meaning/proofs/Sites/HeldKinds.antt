@@ -134,7 +134,7 @@ module _ (facts : TermFacts) (tys : List ℕ) (c : Completion) (args : Values) (
       let (x, y) = struct_gives i v h r in plain_field facts.struct_fields (sort facts tys s) i x h p y
   kind (make_some s) h w e =
       let (g, q, r) = ask_gives (λ x. gives (held_some x)) (val s) h e in
-      inr (g, (let z : held_some g ≡ h = cc in sym z), kind s g w q)
+      inr (g, (let z : held_some g ≡ h = cc in sym z), kind s g (w.0) q)
   kind (match_some s) h (w, (j, p)) e =
       let q = content_gives (val s) h e in inner_kind (sort facts tys s) j h p (kind s (held_some h) w q)
   kind (match_tuple s i) h (w, (ts, p, l)) e =

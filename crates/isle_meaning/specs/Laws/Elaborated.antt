@@ -1,0 +1,25 @@
+-- What holds of each rule that elaboration makes, whatever terms it asks.
+use Rattle.std.specs.Prelude.{ℕ, List, Bool, true}
+use Rattle.isle_terms.specs.TypedRules.{TypedRule}
+use Rattle.isle_meaning.specs.Facts.{TermFacts}
+use Rattle.isle_meaning.specs.Sites.{Site}
+use Rattle.isle_meaning.specs.Sorts.{AllSuit}
+use Rattle.isle_meaning.specs.Demands.{Demand, result_of}
+use Rattle.isle_meaning.specs.Derived.{Derived, FieldOf}
+use Rattle.isle_meaning.specs.Needs.{needs_of, IsNeeded}
+use Rattle.isle_meaning.specs.Kinds.{HasItsKind, IsOfItsKind}
+use Rattle.isle_meaning.specs.Elaborated.{IsElaborated}
+use Rattle.isle_meaning.specs.Laws.Matching.{DemandOf}
+
+-- The sites that a rule needs, its result, and the fields that its demands open are of their kinds, so that one value is taken of multi
+-- calls alone. What follows from its demands is of such sites and of their types, with as many fields as its type.
+pub record HasItsKinds (facts : TermFacts) (tys : List ℕ) (rule : TypedRule) : Type 0 where
+  pub needed : (s : Site) → IsNeeded (needs_of facts rule) s → HasItsKind true facts tys s
+  pub result : (partial : Bool) → HasItsKind true facts tys (result_of facts partial rule)
+  pub fields : (t s : Site) → FieldOf (DemandOf facts rule) t s → HasItsKind true facts tys s
+  pub demands : (d : Demand) → Derived (DemandOf facts rule) d → IsOfItsKind true facts tys d
+  pub suit : AllSuit facts tys (Derived (DemandOf facts rule))
+
+-- So are those of each rule that elaboration makes.
+abbrev pub ElaboratedAreKinded : Type 0
+ElaboratedAreKinded = (facts : TermFacts) (tys : List ℕ) (rule : TypedRule) → IsElaborated facts tys rule → HasItsKinds facts tys rule
