@@ -56,6 +56,14 @@ pub several_so : (several : Bool) (P : Type 0) → OfSeveral several P → P
 several_so false P h = absurd h
 several_so true P h = h
 
+-- A term's patterns are as many as its types.
+pub typed_count : (facts : TermFacts) (tys : List ℕ) (G : ℕ → ℕ) (ps : TypedPatterns) (us : List ℕ) → AllTyped facts G ps us
+    → patterns ps ≡ length us
+typed_count facts tys G no_typed [] t = refl
+typed_count facts tys G no_typed (u ∷ us) t = absurd t
+typed_count facts tys G (more_typed p ps) [] t = absurd t
+typed_count facts tys G (more_typed p ps) (u ∷ us) t = ap suc (typed_count facts tys G ps us (t.1))
+
 module _ (several : Bool) (facts : TermFacts) (tys : List ℕ) where
   -- what is said of terms, where variables and calls are looked at
   abbrev seen_facts : TermFacts
@@ -199,13 +207,6 @@ module _ (several : Bool) (facts : TermFacts) (tys : List ℕ) where
             let z : (k == k) ≡ false = subst (λ (w : ℕ). (k == w) ≡ false) (sym q) p in cc)
         go false p (inr x) = rw p (g k x)
 
-    -- A term's patterns are as many as its types.
-    pub typed_count : (ps : TypedPatterns) (us : List ℕ) → AllTyped facts G ps us → patterns ps ≡ length us
-    typed_count no_typed [] t = refl
-    typed_count no_typed (u ∷ us) t = absurd t
-    typed_count (more_typed p ps) [] t = absurd t
-    typed_count (more_typed p ps) (u ∷ us) t = ap suc (typed_count ps us (t.1))
-
     -- what patterns need, demand and bind
     abbrev Seen : List Site → List Demand → (ℕ → Type 0) → (ℕ → Site) → Type 0
     Seen needed ds S vars = EachSite W needed × Each Fits ds × AreGood S vars
@@ -222,7 +223,7 @@ module _ (several : Bool) (facts : TermFacts) (tys : List ℕ) where
       seen (typed_prim ty n) u S vars s w t g h = (tt, (((h.1, tt), (u, h.0)), tt), g)
       seen (typed_term ty t ps) u S vars s w p g h =
           let h' : IsGood s ty = subst (IsGood s) (sym (p.0)) h in
-          let l = typed_count ps (part_types facts (facts.shape t) ty t) (p.2) in
+          let l = typed_count facts tys G ps (part_types facts (facts.shape t) ty t) (p.2) in
           let (a, b, c) = seen_all ps (part_types facts (facts.shape t) ty t) S vars (parts facts (facts.shape t) t (patterns ps) s) (w.1) (p.2) g
           (λ i j. parts_good (facts.shape t) ty t (patterns ps) s i (w.0) l j h') in (
             sites_append W (open_needs facts (facts.shape t) t (patterns ps) s) _ (opened_needs (facts.shape t) t ty (patterns ps) s (w.0) h') a,
@@ -399,7 +400,7 @@ module _ (several : Bool) (facts : TermFacts) (tys : List ℕ) where
   sites_seen rule well u G typed =
       let begins : AreGood G none nothing = λ k n. absurd n in
       let (a, b, c) = seen_all G rule.args tys none nothing argument well.args typed.args begins
-      (λ i l. let m = typed_count G rule.args tys typed.args in (refl, omega arith)) in
+      (λ i l. let m = typed_count facts tys G rule.args tys typed.args in (refl, omega arith)) in
       let args = args_seen G rule.args tys 0 none nothing well.args typed.args begins
       (λ j l. let e : 0 + j ≡ j = omega arith in subst (λ (k : ℕ). IsGood (argument k) (nth_type tys j)) (sym e) (refl, l)) in
       let (d, e, f) = iflets_seen G rule rule.iflets [] (λ k. scope_all rule.args none k) well.iflets typed.iflets c in

@@ -18,13 +18,13 @@ use Rattle.isle_meaning.specs.Derived.{Derived, demanded, flipped, chained, shar
 use Rattle.isle_meaning.specs.Holds.{Each}
 use Rattle.isle_meaning.specs.Laws.Calls.{CallOf, ExprCalls, ExprsCall, BindingsCall}
 use Rattle.isle_meaning.specs.Laws.Matching.{DemandOf}
-use Rattle.isle_meaning.specs.Needs.{extract_needs, open_needs, needs, needs_all, args_needs, Log, no_log, answer_needs, called}
-use Rattle.isle_meaning.specs.Needs.{applied, visit, visit_all, visit_lets, iflets_needs, needs_of, IsNeeded}
+use Rattle.isle_meaning.specs.Needs.{from_on, extract_needs, output_needs, open_needs, needs, needs_all, args_needs, Log, no_log, need}
+use Rattle.isle_meaning.specs.Needs.{answer_needs, called, applied, visit, visit_all, visit_lets, iflets_needs, needs_of, IsNeeded}
 use Rattle.isle_meaning.proofs.Matching.Basics.{each_append}
 use Rattle.isle_meaning.proofs.Matching.Sorting.{among}
 use Rattle.isle_meaning.proofs.Matching.Visited.{visited, visit_is_written}
 use Rattle.isle_meaning.proofs.Chains.Subtrees.{whole}
-use Rattle.isle_meaning.proofs.Sites.Parts.{OfSubtrees, of_part, of_whole, of_one, EachSite, each_append as sites_append}
+use Rattle.isle_meaning.proofs.Sites.Parts.{OfSubtrees, of_only, of_part, of_whole, of_one, EachSite, each_append as sites_append, each_needed}
 
 -- a field or content has its test among these demands, and a value of a multi call is one of these sites
 abbrev pub IsOwn : (Demand → Type 0) → (Site → Type 0) → Site → Type 0
@@ -86,6 +86,11 @@ needed_either : (s : Site) (xs ys : List Site) → IsNeeded (xs ++ ys) s → IsN
 needed_either s [] ys h = inr h
 needed_either s (x ∷ xs) ys (inl e) = inl (inl e)
 needed_either s (x ∷ xs) ys (inr h) = elim (needed_either s xs ys h) [ inl k ↦ inl (inr k) | inr k ↦ inr k ]
+
+-- each of two lists'
+each_split : (P : Site → Type 0) (ss us : List Site) → EachSite P (ss ++ us) → EachSite P ss × EachSite P us
+each_split P [] us h = (tt, h)
+each_split P (s ∷ ss) us h = let r = each_split P ss us (h.1) in ((h.0, r.0), r.1)
 
 -- a term's call is of any
 any_call : (shape : TermShape) (t : ℕ) → CallOf (λ t. Unit {0}) shape t
@@ -182,36 +187,75 @@ module _ (facts : TermFacts) (D : Demand → Type 0) (N : Site → Type 0) where
       output_own n _ i (extract_own (facts.multi t) (facts.infallible t) (extractor_call t s) w
       (in_left (extract_needs (facts.multi t) (facts.infallible t) (extractor_call t s)) _ (λ u j. m u (inr j))) (call_own t s h))
 
+  -- fields, from one on
+  fields_own : (f : ℕ → Site) (i n : ℕ) → ((j : ℕ) → i < suc j → j < i + n → A (f j)) → EachSite A (from_on f i n)
+  fields_own f i zero h = tt
+  fields_own f i (suc n) h = (h i (omega arith) (omega arith), fields_own f (suc i) n (λ j p q. h j (omega arith) (omega arith)))
+
+  -- outputs
+  outputs_own : (n : ℕ) (s : Site) → A s → EachSite A (output_needs n s)
+  outputs_own zero s h = tt
+  outputs_own (suc zero) s h = tt
+  outputs_own (suc (suc n)) s h = fields_own (match_tuple s) 0 (suc (suc n)) (λ j p q. of_whole (IsOwn D N) (match_tuple s j) tt (above s h))
+
+  -- what an extractor needs
+  given_own : (m b : Bool) (s : Site) → Within (extractor_demands m b s) D → AreIn (extract_needs m b s) N → A s
+      → EachSite A (extract_needs m b s)
+  given_own true b s w n h = (extract_own true b s w n h, tt)
+  given_own false true s w n h = tt
+  given_own false false s w n h = (extract_own false false s w n h, tt)
+
+  -- what a pattern needs at its own site
+  open_own : (shape : TermShape) (ty t n : ℕ) (s : Site) → Within (opens facts shape ty t n s) D → AreIn (open_needs facts shape t n s) N → A s
+      → EachSite A (open_needs facts shape t n s)
+  open_own (variant_shape k) ty t n s w m h = fields_own (match_variant s k) 0 n (λ j p q. parts_own (variant_shape k) ty t n s w m h j (omega arith))
+  open_own struct_shape ty t n s w m h = fields_own (extract_struct s) 0 n (λ j p q. parts_own struct_shape ty t n s w m h j (omega arith))
+  open_own declared_shape ty t n s w m h =
+      let call = call_own t s h in let c = extractor_call t s in
+      let mid = in_left (extract_needs (facts.multi t) (facts.infallible t) c) _ (λ u j. m u (inr j)) in
+      let given = extract_own (facts.multi t) (facts.infallible t) c w mid call in (
+        call,
+        sites_append A (extract_needs (facts.multi t) (facts.infallible t) c) _ (given_own (facts.multi t) (facts.infallible t) c w mid call)
+            (outputs_own n (extract_site (facts.multi t) (facts.infallible t) c) given),
+      )
+
+  -- what patterns demand, bind and need
+  abbrev Owned : List Demand → (ℕ → Site) → List Site → Type 0
+  Owned ds vars ss = Each (SpeaksOf A) ds × AllOwn vars × EachSite A ss
+
   mutual
-    -- what a pattern demands and binds
+    -- what a pattern does
     pattern_own : (p : TypedPattern) (vars : ℕ → Site) (s : Site) → AllOwn vars → A s → Within (demands facts p s vars) D
-        → AreIn (needs facts p s) N → Each (SpeaksOf A) (demands facts p s vars) × AllOwn (bound facts p s vars)
+        → AreIn (needs facts p s) N → Owned (demands facts p s vars) (bound facts p s vars) (needs facts p s)
     pattern_own (typed_bind ty j p) vars s v h w n =
-        let r = pattern_own p vars s v h w n in (r.0, set_own (bound facts p s vars) j s (r.1) h)
-    pattern_own (typed_var ty k) vars s v h w n = (((h, v k), tt), v)
-    pattern_own (typed_bool ty b) vars s v h w n = ((h, tt), v)
-    pattern_own (typed_int ty m) vars s v h w n = ((h, tt), v)
-    pattern_own (typed_prim ty m) vars s v h w n = ((h, tt), v)
+        let (a, b, c) = pattern_own p vars s v h w n in (a, set_own (bound facts p s vars) j s b h, c)
+    pattern_own (typed_var ty k) vars s v h w n = (((h, v k), tt), v, tt)
+    pattern_own (typed_bool ty b) vars s v h w n = ((h, tt), v, tt)
+    pattern_own (typed_int ty m) vars s v h w n = ((h, tt), v, tt)
+    pattern_own (typed_prim ty m) vars s v h w n = ((h, tt), v, tt)
     pattern_own (typed_term ty t ps) vars s v h w n =
         let here = opens facts (facts.shape t) ty t (patterns ps) s in
         let own = open_needs facts (facts.shape t) t (patterns ps) s in
-        let r = patterns_own ps vars (parts facts (facts.shape t) t (patterns ps) s) v
-        (parts_own (facts.shape t) ty t (patterns ps) s (ds_left here _ w) (in_left own _ n) h) (ds_right here _ w) (in_right own _ n) in
-        (each_append (SpeaksOf A) here _ (opens_own (facts.shape t) ty t (patterns ps) s h) (r.0), r.1)
-    pattern_own (typed_wildcard ty) vars s v h w n = (tt, v)
+        let (a, b, c) = patterns_own ps vars (parts facts (facts.shape t) t (patterns ps) s) v
+        (parts_own (facts.shape t) ty t (patterns ps) s (ds_left here _ w) (in_left own _ n) h) (ds_right here _ w) (in_right own _ n) in (
+          each_append (SpeaksOf A) here _ (opens_own (facts.shape t) ty t (patterns ps) s h) a,
+          b,
+          sites_append A own _ (open_own (facts.shape t) ty t (patterns ps) s (ds_left here _ w) (in_left own _ n) h) c,
+        )
+    pattern_own (typed_wildcard ty) vars s v h w n = (tt, v, tt)
     pattern_own (typed_and ty ps) vars s v h w n = patterns_own ps vars (λ i. s) v (λ i l. h) w n
 
     -- what patterns do
     patterns_own : (ps : TypedPatterns) (vars : ℕ → Site) (at : ℕ → Site) → AllOwn vars → ((i : ℕ) → i < patterns ps → A (at i))
         → Within (demands_all facts ps at vars) D → AreIn (needs_all facts ps at) N
-        → Each (SpeaksOf A) (demands_all facts ps at vars) × AllOwn (bound_all facts ps at vars)
-    patterns_own no_typed vars at v h w n = (tt, v)
+        → Owned (demands_all facts ps at vars) (bound_all facts ps at vars) (needs_all facts ps at)
+    patterns_own no_typed vars at v h w n = (tt, v, tt)
     patterns_own (more_typed p ps) vars at v h w n =
         let first = demands facts p (at 0) vars in
-        let r = pattern_own p vars (at 0) v (h 0 (omega arith)) (ds_left first _ w) (in_left (needs facts p (at 0)) _ n) in
-        let q = patterns_own ps (bound facts p (at 0) vars) (λ i. at (suc i)) (r.1) (λ i l. h (suc i) (omega arith)) (ds_right first _ w)
+        let (a, b, c) = pattern_own p vars (at 0) v (h 0 (omega arith)) (ds_left first _ w) (in_left (needs facts p (at 0)) _ n) in
+        let (d, e, f) = patterns_own ps (bound facts p (at 0) vars) (λ i. at (suc i)) b (λ i l. h (suc i) (omega arith)) (ds_right first _ w)
         (in_right (needs facts p (at 0)) _ n) in
-        (each_append (SpeaksOf A) first _ (r.0) (q.0), q.1)
+        (each_append (SpeaksOf A) first _ a d, e, sites_append A (needs facts p (at 0)) _ c f)
 
   -- what patterns need at arguments, from one on
   args_in : (ps : TypedPatterns) (i : ℕ) (at : ℕ → Site) → ((j : ℕ) → at j ≡ argument (i + j)) → AreIn (args_needs facts ps i) N
@@ -225,6 +269,18 @@ module _ (facts : TermFacts) (D : Demand → Type 0) (N : Site → Type 0) where
         args_in ps (suc i) (λ j. at (suc j)) (λ j. e (suc j) ∙ ap argument (let q : i + suc j ≡ suc i + j = omega arith in q))
         (λ u j. n u (inr (needed_right u (needs facts p (argument i)) _ j))) s k
   ]
+
+  -- so are they, and the arguments
+  args_own : (ps : TypedPatterns) (i : ℕ) (at : ℕ → Site) → ((j : ℕ) → at j ≡ argument (i + j)) → EachSite A (needs_all facts ps at)
+      → EachSite A (args_needs facts ps i)
+  args_own no_typed i at e h = tt
+  args_own (more_typed p ps) i at e h =
+      let z : at 0 ≡ argument i = e 0 ∙ ap argument (let q : i + 0 ≡ i = omega arith in q) in
+      let both = each_split A (needs facts p (at 0)) _ h in (
+        of_whole (IsOwn D N) (argument i) tt (λ u m. absurd m),
+        sites_append A (needs facts p (argument i)) _ (subst (λ (x : Site). EachSite A (needs facts p x)) z (both.0))
+            (args_own ps (suc i) (λ j. at (suc j)) (λ j. e (suc j) ∙ ap argument (let q : i + suc j ≡ suc i + j = omega arith in q)) (both.1)),
+      )
 
   -- ---- expressions
 
@@ -286,51 +342,65 @@ module _ (facts : TermFacts) (D : Demand → Type 0) (N : Site → Type 0) where
     whole_gives : (s : Site) → IsOwn D N s → ((u : Site) → IsOneOf (parts_of s) u → Gives u) → Gives s
     whole_gives s h f g = of_whole (IsOwn D N) s h (λ u m. f u m (down s u g m))
 
-    -- what a constructor's call gives
+    -- what a constructor's call gives, and needs
     answer_gives : (m b : Bool) (t : ℕ) (ss : Sites) (i : ℕ) → Q t → facts.partial t ≡ b → ((u : Site) → IsOneOf ss u → Gives u)
-        → AreIn (answer_needs m b (constructor_call t ss i)) N → Gives (answer_site m b (constructor_call t ss i))
-    answer_gives true b t ss i q e f n g =
+        → AreIn (answer_needs m b (constructor_call t ss i)) N
+        → Gives (answer_site m b (constructor_call t ss i)) × EachSite Gives (answer_needs m b (constructor_call t ss i))
+    answer_gives true b t ss i q e f n =
         let c = constructor_call t ss i in
-        of_whole (IsOwn D N) (iterator c) (n (iterator c) (inr (inl refl)))
-        (above c (whole_gives c tt f (down (iterator c) c g (inl refl))))
-    answer_gives false true t ss i q e f n g =
+        let call : Gives c = whole_gives c tt f in
+        let all : Gives (iterator c) = whole_gives (iterator c) (n (iterator c) (inr (inl refl))) (λ u m. of_only Gives c u call m) in
+        (all, (call, (all, tt)))
+    answer_gives false true t ss i q e f n =
         let c = constructor_call t ss i in
-        of_whole (IsOwn D N) (match_some c) (content t ss i q e g)
-        (above c (whole_gives c tt f (down (match_some c) c g (inl refl))))
-    answer_gives false false t ss i q e f n g = whole_gives (constructor_call t ss i) tt f g
+        let call : Gives c = whole_gives c tt f in
+        let all : Gives (match_some c) = λ g. whole_gives (match_some c) (content t ss i q e g) (λ u m. of_only Gives c u call m) g in
+        (all, (call, (all, tt)))
+    answer_gives false false t ss i q e f n =
+        let call : Gives (constructor_call t ss i) = whole_gives (constructor_call t ss i) tt f in (call, (call, tt))
 
-    -- arguments and impure calls so far
+    -- the impure calls and what is needed so far
+    abbrev Logged : Log → Type 0
+    Logged log = EachSite Gives log.impure × EachSite Gives log.needed
+
+    -- arguments
     abbrev Args : Sites → Log → Type 0
-    Args ss log = ((u : Site) → IsOneOf ss u → Gives u) × EachSite Gives log.impure
+    Args ss log = ((u : Site) → IsOneOf ss u → Gives u) × Logged log
 
-    -- a visit's site and impure calls
+    -- a visit's site
     abbrev Visited : Site → Log → Type 0
-    Visited s log = Gives s × EachSite Gives log.impure
+    Visited s log = Gives s × Logged log
 
     -- those of a call
     called_gives : (b : Bool) (t : ℕ) (r : Sites × Log) → Q t → Args (r.0) (r.1) → AreIn ((called facts b t r).1.needed) N
         → Visited ((called facts b t r).0) ((called facts b t r).1)
     called_gives true t r q h n =
-        (answer_gives (facts.multi t) (facts.partial t) t (r.0) zero q refl (h.0) (in_right (r.1.needed) _ n), h.1)
+        let a = answer_gives (facts.multi t) (facts.partial t) t (r.0) zero q refl (h.0) (in_right (r.1.needed) _ n) in
+        (a.0, (h.1.0, sites_append Gives (r.1.needed) _ (h.1.1) (a.1)))
     called_gives false t r q h n =
         let a = answer_gives (facts.multi t) (facts.partial t) t (r.0) (suc (length (r.1.impure))) q refl (h.0) (in_right (r.1.needed) _ n) in
-        (a, sites_append Gives (r.1.impure) _ (h.1) (a, tt))
+        (a.0, (sites_append Gives (r.1.impure) _ (h.1.0) (a.0, tt), sites_append Gives (r.1.needed) _ (h.1.1) (a.1)))
+
+    -- a constant, made data
+    needs_one : (s : Site) (log : Log) → Gives s → Logged log → Visited s (need (s ∷ []) log)
+    needs_one s log g h = (g, (h.0, sites_append Gives log.needed _ (h.1) (g, tt)))
 
     -- those of a term
     applied_gives : (shape : TermShape) (ty t : ℕ) (r : Sites × Log) → CallOf Q shape t → Args (r.0) (r.1)
         → AreIn ((applied facts shape ty t r).1.needed) N → Visited ((applied facts shape ty t r).0) ((applied facts shape ty t r).1)
-    applied_gives (variant_shape k) ty t r q h n = (whole_gives (make_variant ty k (r.0)) tt (h.0), h.1)
-    applied_gives struct_shape ty t r q h n = (whole_gives (make_struct ty (r.0)) tt (h.0), h.1)
+    applied_gives (variant_shape k) ty t r q h n =
+        needs_one (make_variant ty k (r.0)) (r.1) (whole_gives (make_variant ty k (r.0)) tt (h.0)) (h.1)
+    applied_gives struct_shape ty t r q h n = needs_one (make_struct ty (r.0)) (r.1) (whole_gives (make_struct ty (r.0)) tt (h.0)) (h.1)
     applied_gives declared_shape ty t r q h n = called_gives (facts.pure t) t r q h n
 
     mutual
       -- those of an expression
-      visit_gives : (e : TypedExpr) (vars : ℕ → Site) (log : Log) → ExprCalls facts Q e → AllGive vars → EachSite Gives log.impure
+      visit_gives : (e : TypedExpr) (vars : ℕ → Site) (log : Log) → ExprCalls facts Q e → AllGive vars → Logged log
           → AreIn ((visit facts vars log e).1.needed) N → Visited ((visit facts vars log e).0) ((visit facts vars log e).1)
       visit_gives (built_var ty k) vars log c v h n = (v k, h)
-      visit_gives (built_bool ty b) vars log c v h n = (whole_gives (bool_site b ty) tt (λ u m. absurd m), h)
-      visit_gives (built_int ty m) vars log c v h n = (whole_gives (int_site m ty) tt (λ u m. absurd m), h)
-      visit_gives (built_prim ty m) vars log c v h n = (whole_gives (prim_site m) tt (λ u m. absurd m), h)
+      visit_gives (built_bool ty b) vars log c v h n = needs_one (bool_site b ty) log (whole_gives (bool_site b ty) tt (λ u m. absurd m)) h
+      visit_gives (built_int ty m) vars log c v h n = needs_one (int_site m ty) log (whole_gives (int_site m ty) tt (λ u m. absurd m)) h
+      visit_gives (built_prim ty m) vars log c v h n = needs_one (prim_site m) log (whole_gives (prim_site m) tt (λ u m. absurd m)) h
       visit_gives (built_term ty t es) vars log c v h n =
           let r = visit_all facts vars log es in
           applied_gives (facts.shape t) ty t r (c.0) (all_give es vars log (c.1) v h (applied_keeps (facts.shape t) ty t r n)) n
@@ -340,7 +410,7 @@ module _ (facts : TermFacts) (D : Demand → Type 0) (N : Site → Type 0) where
           visit_gives body ((visit_lets facts vars log bs).0) ((visit_lets facts vars log bs).1) (c.1) (r.0) (r.1) n
 
       -- those of expressions
-      all_give : (es : TypedExprs) (vars : ℕ → Site) (log : Log) → ExprsCall facts Q es → AllGive vars → EachSite Gives log.impure
+      all_give : (es : TypedExprs) (vars : ℕ → Site) (log : Log) → ExprsCall facts Q es → AllGive vars → Logged log
           → AreIn ((visit_all facts vars log es).1.needed) N → Args ((visit_all facts vars log es).0) ((visit_all facts vars log es).1)
       all_give no_built vars log c v h n = (λ u m. absurd m, h)
       all_give (more_built e es) vars log c v h n =
@@ -354,9 +424,9 @@ module _ (facts : TermFacts) (D : Demand → Type 0) (N : Site → Type 0) where
           one_of u s ss g f (inr m) = f u m
 
       -- those of bindings
-      lets_give : (bs : TypedBindings) (vars : ℕ → Site) (log : Log) → BindingsCall facts Q bs → AllGive vars → EachSite Gives log.impure
+      lets_give : (bs : TypedBindings) (vars : ℕ → Site) (log : Log) → BindingsCall facts Q bs → AllGive vars → Logged log
           → AreIn ((visit_lets facts vars log bs).1.needed) N
-          → AllGive ((visit_lets facts vars log bs).0) × EachSite Gives ((visit_lets facts vars log bs).1.impure)
+          → AllGive ((visit_lets facts vars log bs).0) × Logged ((visit_lets facts vars log bs).1)
       lets_give no_bindings vars log c v h n = (v, h)
       lets_give (more_bindings k ty e bs) vars log c v h n =
           let mid = (visit facts vars log e).1 in
@@ -416,24 +486,35 @@ module _ (facts : TermFacts) (D : Demand → Type 0) (N : Site → Type 0) where
     all_contents (more_sites s ss) h =
         each_append (SpeaksOf A) (contents s) (contents_all ss) (contents_own s (h s (inl refl))) (all_contents ss (λ u m. h u (inr m)))
 
-  -- what if-lets demand and bind
+  -- a site whose contents are demanded is its own
+  abbrev IfOpen : Site → Type 0
+  IfOpen s = Within (contents s) D → A s
+
+  -- so are such that are
+  all_open : (ss : List Site) → EachSite A ss → EachSite IfOpen ss
+  all_open [] h = tt
+  all_open (s ∷ ss) h = (λ w. h.0, all_open ss (h.1))
+
+  -- what if-lets demand, bind and need
   iflets_own : (xs : List TypedIfLet) (vars : ℕ → Site) → AllOwn vars → Within (iflets_demands facts xs vars) D
-      → AreIn (iflets_needs facts xs vars) N → Each (SpeaksOf A) (iflets_demands facts xs vars) × AllOwn (iflets_bound facts xs vars)
-  iflets_own [] vars v w n = (tt, v)
+      → AreIn (iflets_needs facts xs vars) N
+      → Each (SpeaksOf A) (iflets_demands facts xs vars) × AllOwn (iflets_bound facts xs vars) × EachSite IfOpen (iflets_needs facts xs vars)
+  iflets_own [] vars v w n = (tt, v, tt)
   iflets_own (x ∷ xs) vars v w n =
       let site = iflet_site facts vars x in
       let asked = (visit facts vars no_log x.value).1.needed in
       let first = ds_left (contents site) _ w in let rest = ds_right (contents site) _ w in
       let later = in_right asked _ n in
-      let (g, im) = visit_gives (λ t. Unit {0}) (λ s. Within (contents s) D) contents_down (λ t ss i q e z. z _ (inl refl))
-      x.value vars no_log (any_calls facts x.value) (λ k z. v k) tt (in_left asked _ n) in
+      let (g, (im, all)) = visit_gives (λ t. Unit {0}) (λ s. Within (contents s) D) contents_down (λ t ss i q e z. z _ (inl refl))
+      x.value vars no_log (any_calls facts x.value) (λ k z. v k) (tt, tt) (in_left asked _ n) in
       let same = (visited facts vars x.value (λ k. var_word k) vars (λ j. refl) [] no_log refl).0 in
-      let h : A site = subst (λ (z : Site). Within (contents z) D → A z) same g first in
+      let h : A site = subst IfOpen same g first in
       let ds = demands facts x.pattern site vars in let ns = needs facts x.pattern site in
-      let r = pattern_own x.pattern vars site v h (ds_left ds _ rest) (in_left ns _ later) in
-      let q = iflets_own xs (bound facts x.pattern site vars) (r.1) (ds_right ds _ rest) (in_right ns _ later) in (
-        each_append (SpeaksOf A) (contents site) _ (contents_own site h) (each_append (SpeaksOf A) ds _ (r.0) (q.0)),
-        q.1,
+      let (a, b, c) = pattern_own x.pattern vars site v h (ds_left ds _ rest) (in_left ns _ later) in
+      let (d, e, f) = iflets_own xs (bound facts x.pattern site vars) b (ds_right ds _ rest) (in_right ns _ later) in (
+        each_append (SpeaksOf A) (contents site) _ (contents_own site h) (each_append (SpeaksOf A) ds _ a d),
+        e,
+        sites_append IfOpen asked _ all (sites_append IfOpen ns _ (all_open ns c) f),
       )
 
 module _ (D E : Demand → Type 0) (N : Site → Type 0) (more : (d : Demand) → D d → E d) where
@@ -490,50 +571,91 @@ module _ (facts : TermFacts) (rule : TypedRule) where
   abbrev N : Site → Type 0
   N = IsNeeded (needs_of facts rule)
 
-  -- of its demands and its variables
+  -- each site is one whose contents are demanded, or isn't
+  abbrev IsOpened : Site → Type 0
+  IsOpened s = Within (contents s) D → AreOwn D N s
+
+  -- of its demands, its variables, and what it needs before its right side
   rule_own : Each (SpeaksOf (AreOwn D N)) (demands_of facts rule) × ((k : ℕ) → AreOwn D N (vars_of facts rule k))
+      × EachSite IsOpened (args_needs facts rule.args 0 ++ iflets_needs facts rule.iflets (args_bound facts rule))
   rule_own =
       let args = demands_all facts rule.args argument nothing in
       let asked = args_needs facts rule.args 0 in
       let all : Within (demands_of facts rule) D = λ d i. i in
       let every : AreIn (needs_of facts rule) N = λ s i. i in
       let blank : (k : ℕ) → AreOwn D N (nothing k) = λ k. of_whole (IsOwn D N) (nothing k) tt (λ u m. absurd m) in
-      let r = patterns_own facts D N rule.args nothing argument blank
+      let from_first : (j : ℕ) → argument j ≡ argument (0 + j) = λ j. ap argument (let q : j ≡ 0 + j = omega arith in q) in
+      let (a, b, c) = patterns_own facts D N rule.args nothing argument blank
       (λ i l. of_whole (IsOwn D N) (argument i) tt (λ u m. absurd m)) (ds_left facts D N args _ all)
-      (args_in facts D N rule.args 0 argument (λ j. ap argument (let q : j ≡ 0 + j = omega arith in q)) (in_left facts D N asked _ every)) in
-      let q = iflets_own facts D N rule.iflets (args_bound facts rule) (r.1) (ds_right facts D N args _ all)
-      (in_left facts D N (iflets_needs facts rule.iflets (args_bound facts rule)) _ (in_right facts D N asked _ every)) in
-      (each_append (SpeaksOf (AreOwn D N)) args _ (r.0) (q.0), q.1)
+      (args_in facts D N rule.args 0 argument from_first (in_left facts D N asked _ every)) in
+      let (d, e, f) = iflets_own facts D N rule.iflets (args_bound facts rule) b (ds_right facts D N args _ all)
+      (in_left facts D N (iflets_needs facts rule.iflets (args_bound facts rule)) _ (in_right facts D N asked _ every)) in (
+        each_append (SpeaksOf (AreOwn D N)) args _ a d,
+        e,
+        sites_append IsOpened asked _ (all_open facts D N asked (args_own facts D N rule.args 0 argument from_first c)) f,
+      )
 
   -- What follows from a rule's demands speaks of sites whose fields and contents have their tests, and whose values of multi calls are needed.
   pub derived_own : (d : Demand) → Derived D d → SpeaksOf (AreOwn (Derived D) N) d
   derived_own d e =
       derived_owned D N (λ f i. speaks_more D (Derived D) N (λ g h. demanded h) f (among (SpeaksOf (AreOwn D N)) (demands_of facts rule) (rule_own.0) f i)) d e
 
-  -- So do its result and its impure calls, where its right side calls nothing partial.
-  pub right_own : ExprCalls facts (λ t. facts.partial t ≡ false) rule.right
-      → ((partial : Bool) → AreOwn (Derived D) N (result_of facts partial rule)) × EachSite (AreOwn (Derived D) N) (impure_of facts rule)
-  right_own calls =
-      let every : AreIn (needs_of facts rule) N = λ s i. i in
-      let last = in_right facts D N (iflets_needs facts rule.iflets (args_bound facts rule)) _
-      (in_right facts D N (args_needs facts rule.args 0) _ every) in
-      let (g, im) = visit_gives facts D N (λ t. facts.partial t ≡ false) (λ s. Unit {0}) (λ s u z m. tt)
-      (λ t ss i q e z. absurd (let f : false ≡ true = sym q ∙ e in cc)) rule.right (vars_of facts rule) no_log calls
-      (λ k z. rule_own.1 k) tt last in
-      let written = visit_is_written facts rule in
-      let more = all_more D (Derived D) N (λ f h. demanded h) in
-      let result : AreOwn D N (site_of facts (vars_of facts rule) (word_of facts rule.right)) = subst (AreOwn D N) (written.0) (g tt) in (
-        λ b. some_own b (site_of facts (vars_of facts rule) (word_of facts rule.right)) (more _ result),
-        each_more ((visit facts (vars_of facts rule) no_log rule.right).1.impure) (impure_of facts rule) (written.1) im,
-      )
-    where
-      some_own : (b : Bool) (s : Site) → AreOwn (Derived D) N s → AreOwn (Derived D) N (some_of b s)
-      some_own true s h = of_whole (IsOwn (Derived D) N) (make_some s) tt (λ u m. of_one (IsOwn (Derived D) N) s u h m)
-      some_own false s h = h
+  -- with what follows
+  more_own : (s : Site) → AreOwn D N s → AreOwn (Derived D) N s
+  more_own s h = all_more D (Derived D) N (λ f i. demanded i) s h
 
-      weaker : (ss : List Site) → EachSite (λ s. Unit {0} → AreOwn D N s) ss → EachSite (AreOwn (Derived D) N) ss
-      weaker [] h = tt
-      weaker (s ∷ ss) h = (all_more D (Derived D) N (λ f i. demanded i) s (h.0 tt), weaker ss (h.1))
+  -- whatever is demanded
+  abbrev Freely : Site → Type 0
+  Freely s = Unit {0} → AreOwn D N s
 
-      each_more : (ss us : List Site) → ss ≡ us → EachSite (λ s. Unit {0} → AreOwn D N s) ss → EachSite (AreOwn (Derived D) N) us
-      each_more ss us e h = subst (EachSite (AreOwn (Derived D) N)) e (weaker ss h)
+  -- with what follows, each
+  each_more : (ss : List Site) → EachSite Freely ss → EachSite (AreOwn (Derived D) N) ss
+  each_more [] h = tt
+  each_more (s ∷ ss) h = (more_own s (h.0 tt), each_more ss (h.1))
+
+  -- so of a made option
+  some_own : (b : Bool) (s : Site) → AreOwn (Derived D) N s → AreOwn (Derived D) N (some_of b s)
+  some_own true s h = of_whole (IsOwn (Derived D) N) (make_some s) tt (λ u m. of_one (IsOwn (Derived D) N) s u h m)
+  some_own false s h = h
+
+  module _ (calls : ExprCalls facts (λ t. facts.partial t ≡ false) rule.right) where
+    -- no call of it is partial
+    whole_calls : (t : ℕ) (ss : Sites) (i : ℕ) → facts.partial t ≡ false → facts.partial t ≡ true → Unit {0}
+        → D (constrained (constructor_call t ss i) some_constraint)
+    whole_calls t ss i q e z = absurd (let f : false ≡ true = sym q ∙ e in cc)
+
+    -- of the right side
+    right_gives : Visited facts D N (λ t. facts.partial t ≡ false) (λ s. Unit {0}) (λ s u z m. tt)
+        whole_calls ((visit facts (vars_of facts rule) no_log rule.right).0)
+        ((visit facts (vars_of facts rule) no_log rule.right).1)
+    right_gives =
+        let every : AreIn (needs_of facts rule) N = λ s i. i in
+        visit_gives facts D N (λ t. facts.partial t ≡ false) (λ s. Unit {0}) (λ s u z m. tt)
+        whole_calls rule.right (vars_of facts rule) no_log calls
+        (λ k z. rule_own.1 k) (tt, tt)
+        (in_right facts D N (iflets_needs facts rule.iflets (args_bound facts rule)) _
+        (in_right facts D N (args_needs facts rule.args 0) _ every))
+
+    -- So do its result and its impure calls, where its right side calls nothing partial.
+    pub right_own : ((partial : Bool) → AreOwn (Derived D) N (result_of facts partial rule)) × EachSite (AreOwn (Derived D) N) (impure_of facts rule)
+    right_own =
+        let (g, (im, all)) = right_gives in
+        let written = visit_is_written facts rule in (
+          λ b. some_own b (site_of facts (vars_of facts rule) (word_of facts rule.right))
+              (more_own _ (subst (AreOwn D N) (written.0) (g tt))),
+          subst (EachSite (AreOwn (Derived D) N)) (written.1) (each_more ((visit facts (vars_of facts rule) no_log rule.right).1.impure) im),
+        )
+
+    -- So does each site that it needs whose contents it demands.
+    pub needed_own : (s : Site) → IsNeeded (needs_of facts rule) s → ((d : Demand) → Among (contents s) d → DemandOf facts rule d)
+        → AreOwn (Derived D) N s
+    needed_own s i w =
+        let asked = args_needs facts rule.args 0 in let later = iflets_needs facts rule.iflets (args_bound facts rule) in
+        let front : EachSite IsOpened asked × EachSite IsOpened later = each_split IsOpened asked later (rule_own.2) in
+        elim (needed_either s asked _ i) [
+          | inl k ↦ more_own s (each_needed IsOpened asked s (front.0) k w)
+          | inr k ↦ elim (needed_either s later _ k) [
+            | inl j ↦ more_own s (each_needed IsOpened later s (front.1) j w)
+            | inr j ↦ more_own s (each_needed Freely ((visit facts (vars_of facts rule) no_log rule.right).1.needed) s (right_gives.1.1) j tt)
+          ]
+        ]
