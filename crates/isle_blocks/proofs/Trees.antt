@@ -31,5 +31,7 @@ pub mod Matched
 pub mod Chosen
 -- The rule sets of definitions.
 pub mod Defined
+-- The rule sets of any terms are well made.
+pub mod Elaborated
 -- Worked cases.
 mod Cases

@@ -11,5 +11,7 @@ pub mod Makes
 pub mod Premises
 -- The choice of a walk, as the typed rules say it.
 pub mod Choices
+-- The rule sets of any terms, and of `multi` ones.
+pub mod ElaboratedSets
 -- What the theory of trees asks of a rule set.
 pub mod Laws
