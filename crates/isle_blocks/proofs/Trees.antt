@@ -33,5 +33,7 @@ pub mod Chosen
 pub mod Defined
 -- The rule sets of any terms are well made.
 pub mod Elaborated
+-- Those of `multi` terms are as the bag asks.
+pub mod Many
 -- Worked cases.
 mod Cases

@@ -15,3 +15,7 @@ pub mod Choices
 pub mod ElaboratedSets
 -- What the theory of trees asks of a rule set.
 pub mod Laws
+-- What sites are where calls are functions into finite lists.
+pub mod Functions
+-- What the rule sets of `multi` terms give.
+pub mod Bags

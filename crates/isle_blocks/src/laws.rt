@@ -25,6 +25,7 @@ ghost use Rattle.isle_blocks.specs.Trees.Laws.{EachCanBeBuilt, SetsCanBeBuilt, S
 ghost use Rattle.isle_blocks.specs.Trees.Laws.{SetsHaveTheirTests, FieldsAreLookedUp, FoundSitesArePlaces, AnswersRespect, AnswersAreStrict};
 ghost use Rattle.isle_blocks.specs.Trees.Laws.{AnswersAreMadeByParts, AnswersAgree, AnswersKnowWhatIsAsked, OpenSitesAreCalls, RulesMatchAsTyped};
 ghost use Rattle.isle_blocks.specs.Trees.Laws.{MachinesWalk, WalksChooseAsTyped, BuiltSetsAreRunnable, DefinitionsHavePriorities};
+ghost use Rattle.isle_blocks.specs.Trees.Bags.{ElaboratedAreWellMade, ElaboratedAreListed, MultiSetsAreMany};
 ghost use Rattle.isle_blocks.specs.Hashes.{binding_hash, constraint_hash};
 
 use crate::binding::Binding;
@@ -235,4 +236,15 @@ pub fn built_sets_are_runnable()
 /// Rules of definitions have the priorities of the typed rules.
 pub fn definitions_have_priorities()
     ensures { DefinitionsHavePriorities }
+{}
+
+/// The rule sets of any terms are well made, and list the fields of their tests and the values of their multi calls.
+pub fn any_rule_sets_are_well_made()
+    ensures made { ElaboratedAreWellMade }
+    ensures listed { ElaboratedAreListed }
+{}
+
+/// Those of `multi` terms have no priorities, and all that a rule has, has its tests and its multi calls.
+pub fn multi_sets_are_many()
+    ensures { MultiSetsAreMany }
 {}

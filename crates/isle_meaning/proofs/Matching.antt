@@ -25,6 +25,8 @@ pub mod Backward
 pub mod Sorting
 -- The laws on matching.
 pub mod Whole
+-- What follows where demands hold, equalities of a site with itself aside.
+pub mod Proper
 -- Equalities of a site with itself; what faults mean for matching.
 pub mod Leaving
 -- Recorded numbers say the demands.

@@ -1,0 +1,76 @@
+-- What the rule sets of `multi` terms give to the theory of trees: the bag of their rules.
+use Rattle.std.specs.Prelude.{◌≡◌, ◌↔◌, ℕ, List, length, Bool, true, Some, slice_get}
+use Rattle.isle_types.specs.declared.ids.Sym.{Sym}
+use Rattle.isle_terms.specs.declared.rules.Rule as source
+use Rattle.isle_terms.specs.TypedRules.{TypedRule}
+use Rattle.isle_meaning.specs.Got.{Got}
+use Rattle.isle_meaning.specs.Values.{Values}
+use Rattle.isle_meaning.specs.Facts.{TermFacts}
+use Rattle.isle_meaning.specs.Answers.{Completion}
+use Rattle.isle_meaning.specs.Held.{Held}
+use Rattle.isle_meaning.specs.Holds.{Holds, IsProper, Respects}
+use Rattle.isle_meaning.specs.Demands.{Demand}
+use Rattle.isle_meaning.specs.Sites.{Site}
+use Rattle.isle_meaning.specs.Numbered.{At}
+use Rattle.isle_meaning.specs.Laws.Matching.{DemandOf}
+use Rattle.isle_blocks.specs.declared.constraint.Constraint.{Constraint}
+use Rattle.isle_blocks.specs.AddedRules.{IsMultiCall}
+use Rattle.isle_blocks.specs.Rows.{rows_of}
+use Rattle.isle_blocks.specs.Trees.Functions.{functions_of, lists_of, functions_model}
+use Rattle.isle_blocks.specs.RuleSets.{RulesOverSites}
+use Rattle.isle_blocks.specs.Trees.Choices.{HavePriorities}
+use Rattle.isle_blocks.specs.Trees.ElaboratedSets.{IsElaboratedSet, IsMultiTerm}
+use Rattle.isle_blocks.specs.Trees.View.{rules_of}
+use Rattle.isle_trees.specs.Answers.{Answers, HasValue}
+use Rattle.isle_trees.specs.Bag.{Picks, IsMany, IsSameBag, Tells, walk_all, bag}
+use Rattle.isle_trees.specs.Builds.{Builds}
+use Rattle.isle_trees.specs.Calls.{AreFunctions}
+use Rattle.isle_trees.specs.Premises.{IsWellMade}
+use Rattle.isle_trees.specs.Reads.{IsListed}
+use Rattle.isle_trees.specs.Rules.{Matches}
+use Rattle.isle_trees.specs.Scopes.{nothing_known}
+use Rattle.isle_trees.specs.Search.{below}
+use Rattle.isle_trees.specs.Tree.{Steps}
+
+-- what holds of each rule set whose rules are as elaboration makes them
+abbrev pub OfElaborated : ((name : Sym → List ℕ) (facts : TermFacts) (sources : List source.Rule) (rules : List TypedRule) (term : ℕ)
+    (set : RulesOverSites) → IsElaboratedSet name facts sources rules term set → Type 0) → Type 0
+OfElaborated P = (name : Sym → List ℕ) (facts : TermFacts) (sources : List source.Rule) (rules : List TypedRule) (term : ℕ)
+    (set : RulesOverSites) (h : IsElaboratedSet name facts sources rules term set) → P name facts sources rules term set h
+
+-- They are well made.
+abbrev pub ElaboratedAreWellMade : Type 0
+ElaboratedAreWellMade = OfElaborated (λ name facts sources rules term set h. IsWellMade (rules_of name set))
+
+-- The fields of each test are listed, and the value of each multi call.
+abbrev pub ElaboratedAreListed : Type 0
+ElaboratedAreListed = OfElaborated (λ name facts sources rules term set h. IsListed (rules_of name set))
+
+-- Those of `multi` terms are as the bag asks: no priorities, and all that a rule has, has its tests and its multi calls.
+abbrev pub MultiSetsAreMany : Type 0
+MultiSetsAreMany = OfElaborated (λ name facts sources rules term set h. IsMultiTerm facts rules term → HavePriorities sources rules
+    → IsMany (rules_of name set))
+
+-- Calls that are functions, and what they list, are as the bag asks.
+abbrev pub FunctionsAreFunctions : Type 0
+FunctionsAreFunctions = OfElaborated (λ name facts sources rules term set h. (c : Completion) (args : Values)
+    → AreFunctions (rules_of name set) (functions_of name set facts c args) (lists_of name set facts c args) (λ p. true))
+
+-- A rule of the set matches exactly where what its typed rule demands holds of what the sites hold, and each multi call that it uses has a
+-- list.
+abbrev pub RulesMatchByNumbers : Type 0
+RulesMatchByNumbers = OfElaborated (λ name facts sources rules term set h. (v : Answers Held) (val : Site → Got Held) → Respects val
+    → ((s : Site) (k : ℕ) → At (rows_of name set.sites) s k → val s ≡ v k) → (i p : ℕ) (rule : TypedRule)
+    → slice_get h.is.places i ≡ Some p → slice_get rules p ≡ Some rule
+    → Matches (rules_of name set) v i
+    ↔ (((d : Demand) → DemandOf facts rule d → IsProper d → Holds val d)
+    × ((s : Site) → IsMultiCall facts (facts.partial rule.root) rule s → HasValue (val s))))
+
+-- The walk of a `multi` term's tree answers the bag of its rules: for each rule, and each way to take one item of each multi call that it
+-- has, one answer where it matches then.
+abbrev pub WalksMakeBags : Type 0
+WalksMakeBags = OfElaborated (λ name facts sources rules term set h. IsMultiTerm facts rules term → HavePriorities sources rules
+    → (c : Completion) (args : Values) (T : Steps Constraint) → Builds (rules_of name set) (below (length set.rules)) nothing_known T
+    → (d : Picks Held → ℕ → Bool) → Tells (rules_of name set) (functions_model name set facts c args) d → (p : Picks Held)
+    → IsSameBag (walk_all (rules_of name set) (functions_model name set facts c args) T p)
+    (bag (rules_of name set) (functions_model name set facts c args) d p (below (length set.rules))))
