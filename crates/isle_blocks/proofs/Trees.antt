@@ -35,5 +35,9 @@ pub mod Defined
 pub mod Elaborated
 -- Those of `multi` terms are as the bag asks.
 pub mod Many
+-- Calls are functions as the bag asks, and walks answer bags.
+pub mod Functional
+-- Rules match as what they demand holds.
+pub mod MatchedByNumbers
 -- Worked cases.
 mod Cases

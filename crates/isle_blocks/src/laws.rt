@@ -25,7 +25,8 @@ ghost use Rattle.isle_blocks.specs.Trees.Laws.{EachCanBeBuilt, SetsCanBeBuilt, S
 ghost use Rattle.isle_blocks.specs.Trees.Laws.{SetsHaveTheirTests, FieldsAreLookedUp, FoundSitesArePlaces, AnswersRespect, AnswersAreStrict};
 ghost use Rattle.isle_blocks.specs.Trees.Laws.{AnswersAreMadeByParts, AnswersAgree, AnswersKnowWhatIsAsked, OpenSitesAreCalls, RulesMatchAsTyped};
 ghost use Rattle.isle_blocks.specs.Trees.Laws.{MachinesWalk, WalksChooseAsTyped, BuiltSetsAreRunnable, DefinitionsHavePriorities};
-ghost use Rattle.isle_blocks.specs.Trees.Bags.{ElaboratedAreWellMade, ElaboratedAreListed, MultiSetsAreMany};
+ghost use Rattle.isle_blocks.specs.Trees.Bags.{ElaboratedAreWellMade, ElaboratedAreListed, MultiSetsAreMany, FunctionsAreFunctions};
+ghost use Rattle.isle_blocks.specs.Trees.Bags.{RulesMatchByNumbers, WalksMakeBags};
 ghost use Rattle.isle_blocks.specs.Hashes.{binding_hash, constraint_hash};
 
 use crate::binding::Binding;
@@ -247,4 +248,20 @@ pub fn any_rule_sets_are_well_made()
 /// Those of `multi` terms have no priorities, and all that a rule has, has its tests and its multi calls.
 pub fn multi_sets_are_many()
     ensures { MultiSetsAreMany }
+{}
+
+/// Calls that are functions into finite lists are as the bag asks.
+pub fn functions_are_functions()
+    ensures { FunctionsAreFunctions }
+{}
+
+/// A rule of the set matches exactly where what its typed rule demands holds of what its sites hold, and its multi calls have lists.
+pub fn rules_match_by_numbers()
+    ensures { RulesMatchByNumbers }
+{}
+
+/// The walk of a `multi` term's tree answers the bag of its rules: for each rule, and each way to take one item of each multi call that
+/// it has, one answer where it matches then.
+pub fn walks_make_bags()
+    ensures { WalksMakeBags }
 {}

@@ -179,6 +179,11 @@ module _ (name : Sym → List ℕ) (facts : TermFacts) (sources : List source.Ru
         absurd (no_list facts h.types t (test_of name (there.0)) k ((test_suits p r m s t (there.0) at (there.1)).0) list)
   ]
 
+  -- One value of it is wanted.
+  pub loop_wanted : (i : ℕ) (r : Rule) (at : slice_get set.rules i ≡ Some r) (p : ℕ) (m : Made p r) (s : ℕ) → has_loop s r ≡ true
+      → R.at i s ≡ Some one_value
+  loop_wanted i r at p m s e = rw (at, loop_untested p r m s e, e) refl
+
   -- A joined site has another.
   pub joined_other : (p : ℕ) (r : Rule) (m : Made p r) (a b : ℕ) → rule_joins a b r ≡ true
       → (s : Site) × (u : Site) × At rows s a × Derived (DemandOf facts m.reached.rule) (equal s u)

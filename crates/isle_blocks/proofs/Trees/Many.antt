@@ -1,10 +1,9 @@
 -- The rule sets of `multi` terms are as the bag asks.
-use Rattle.std.proofs.Common.{◌≡◌, ◌⊎◌, inl, inr, ℕ, zero, suc, ◌<◌, pos, true, false, List, [], ◌∷◌, ◌++◌, length, Option, Some, None, slice_get}
+use Rattle.std.proofs.Common.{◌≡◌, inl, inr, ℕ, suc, ◌<◌, pos, true, List, [], ◌∷◌, ◌++◌, length, Option, Some, None, slice_get}
 use Rattle.std.proofs.Common.{refl, ap, sym, subst, ◌∙◌, arith, Contains, get_or, Bool, Less}
 use Rattle.std.specs.List.Sorted.{IsStrictlySortedBy}
 use Rattle.std.proofs.lemmas.Map.Keys.{Less-from_sorted}
 use Rattle.std.proofs.lemmas.Bool.Decides.{nat_tests}
-
 use Rattle.std.specs.Ordering.{nat_cmp}
 use Rattle.std.proofs.lemmas.Option.{same_Some, none-some}
 use Rattle.isle_types.specs.declared.ids.Sym.{Sym}
@@ -27,7 +26,6 @@ use Rattle.isle_blocks.specs.declared.binding.Binding.{Binding}
 use Rattle.isle_blocks.specs.declared.binding.Binding.TheVariants as sites
 use Rattle.isle_blocks.specs.declared.constraint.Constraint.{Constraint}
 use Rattle.isle_blocks.specs.declared.rule.Rule.{Rule}
-use Rattle.isle_blocks.specs.AddedRules.{IsMultiCall}
 use Rattle.isle_blocks.specs.Bindings.{sources_of}
 use Rattle.isle_blocks.specs.Building.Standing.{StandEach}
 use Rattle.isle_blocks.specs.DefinedSets.{IsMadeAt}
@@ -43,7 +41,7 @@ use Rattle.isle_blocks.proofs.Closure.Trees.{row_get, one_number}
 use Rattle.isle_blocks.proofs.ClosedRules.{same_id}
 use Rattle.isle_blocks.proofs.Trees.Buildable.{loop_of_rule, option_part}
 use Rattle.isle_blocks.proofs.Trees.Effects.{slice_get_past}
-use Rattle.isle_blocks.proofs.Trees.Elaborated.{made_rule, derived_test, its_test, test_wanted, loop_site, loop_untested, joined_other, opening_is}
+use Rattle.isle_blocks.proofs.Trees.Elaborated.{made_rule, derived_test, its_test, test_wanted, loop_site, loop_wanted, joined_other, opening_is}
 use Rattle.isle_blocks.proofs.Trees.Listed.{variant_opens, struct_opens, some_is}
 use Rattle.isle_blocks.proofs.Trees.Reading.{read_some, read_true, want_test, want_one, found_loop, loop_found, numbered, number_in}
 use Rattle.isle_blocks.proofs.Trees.Standing.{part_at, pass_on}
@@ -123,11 +121,6 @@ module _ (name : Sym → List ℕ) (facts : TermFacts) (sources : List source.Ru
   asked_rule i _ (Asked.by_class a b e) = let (r, at, q) = read_true (rule_joins a b) (slice_get set.rules i) e in (r, at)
   asked_rule i _ (Asked.by_part s p a m) = asked_rule i s a
 
-  -- a used multi call is wanted
-  loop_wanted : (i : ℕ) (r : Rule) (at : slice_get set.rules i ≡ Some r) (p : ℕ) (m : Made p r) (s : ℕ) → has_loop s r ≡ true
-      → R.at i s ≡ Some one_value
-  loop_wanted i r at p m s e = rw (at, loop_untested name facts sources rules term set h p r m s e, e) refl
-
   -- one that is listed is wanted
   looped : (i s : ℕ) → Elem s (R.loops i) → R.at i s ≡ Some one_value
   looped i s m = elim (none_or (slice_get set.rules i)) [
@@ -137,7 +130,7 @@ module _ (name : Sym → List ℕ) (facts : TermFacts) (sources : List source.Ru
         let (p, made) = made_rule name facts sources rules term set h i r at in
         let m' : Elem s (numbers_of r.iterators) = subst (λ (o : Option Rule). Elem s (read_or [] (λ (k : Rule). numbers_of k.iterators) o)) at m in
         let (id, inside, e) = numbered (λ (id : BindingId). id.0) r.iterators s m' in
-        loop_wanted i r at p made s (loop_found r s (subst (Contains r.iterators) (same_id id (id_of s) e) inside))
+        loop_wanted name facts sources rules term set h i r at p made s (loop_found r s (subst (Contains r.iterators) (same_id id (id_of s) e) inside))
   ]
 
   -- one that is wanted is listed
@@ -266,7 +259,7 @@ module _ (name : Sym → List ℕ) (facts : TermFacts) (sources : List source.Ru
           let (id, inside, at_id) = calls.all (tree a.0) (inl n) in
           let one : id.0 ≡ a.0 = one_number name set.sites h.injective h.is.table (tree a.0) id.0 a.0 at_id below in
           subst (λ (x : Source Constraint). R.at i x.site ≡ Some x.want) (same_Some _ k is)
-          (loop_wanted i r at p m a.0 (loop_found r a.0 (subst (Contains r.iterators) (same_id id (id_of a.0) one) inside)))
+          (loop_wanted name facts sources rules term set h i r at p m a.0 (loop_found r a.0 (subst (Contains r.iterators) (same_id id (id_of a.0) one) inside)))
       field_own s b k t e at_t own is = absurd cc
 
     -- without a rule nothing is used but a number past the table

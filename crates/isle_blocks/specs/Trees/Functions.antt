@@ -1,5 +1,5 @@
 -- What a set's sites are where calls are functions into finite lists, and one item is taken of the list of each multi call.
-use Rattle.std.specs.Prelude.{ℕ, zero, List, [], map, Bool, true, Option, Some, None}
+use Rattle.std.specs.Prelude.{ℕ, zero, List, [], map, true, Option, Some, None}
 use Rattle.isle_types.specs.declared.ids.Sym.{Sym}
 use Rattle.isle_meaning.specs.Got.{Got, unknown, fails, gives}
 use Rattle.isle_meaning.specs.Values.{Values}
