@@ -15,7 +15,8 @@ use Rattle.isle_meaning.specs.Laws.Matching.{MadeTermsTakeTheirFields, RulesOfDe
 use Rattle.isle_terms.specs.SoundRules.KeptScopes.{KeepsScopes}
 use Rattle.isle_types.proofs.Zipped.{all_at}
 use Rattle.isle_terms.proofs.Sound.RuleScopes.{rules_keep_scopes}
-use Rattle.isle_meaning.proofs.Matching.Bridging.{elaborated_rules_fit}
+use Rattle.isle_meaning.specs.Laws.Elaborated.{DefinitionsAreElaborated}
+use Rattle.isle_meaning.proofs.Matching.Bridging.{elaborated_rules_fit, typed_rules_are_elaborated}
 
 -- where an item of two lists stands
 either_list : {X : Type 0} (xs ys : List X) (i : ℕ) (x : X) → slice_get (xs ++ ys) i ≡ Some x
@@ -166,3 +167,9 @@ rules_of_definitions_fit types expands levels max defs environment made place ru
     elaborated_rules_fit (declared_by types expands environment) rule typed
     (all_at KeepsScopes environment.rules (rules_keep_scopes types expands levels max defs environment made) place rule h)
     (takes types expands levels max defs environment made) one takes_one
+
+pub definitions_are_elaborated : DefinitionsAreElaborated
+definitions_are_elaborated types expands levels max defs environment made place rule h typed =
+    typed_rules_are_elaborated (declared_by types expands environment) rule typed
+    (all_at KeepsScopes environment.rules (rules_keep_scopes types expands levels max defs environment made) place rule h)
+    (takes types expands levels max defs environment made)

@@ -1,7 +1,13 @@
 -- What holds of each rule that elaboration makes, whatever terms it asks.
-use Rattle.std.specs.Prelude.{ℕ, List, Bool, true}
+use Rattle.std.specs.Prelude.{◌≡◌, ℕ, Bool, true, List, Some, slice_get}
+use Rattle.isle_syntax.specs.declared.ast.Def.{Def}
+use Rattle.isle_types.specs.Environment.{Environment}
+use Rattle.isle_terms.specs.Definitions.{TermEnvironment, declared_by, MakesTerms}
+use Rattle.isle_terms.specs.Signatures.{Declared}
+use Rattle.isle_terms.specs.SoundRules.KeptScopes.{KeepsScopes}
+use Rattle.isle_terms.specs.SoundRules.WellTyped.{IsTypedRule}
 use Rattle.isle_terms.specs.TypedRules.{TypedRule}
-use Rattle.isle_meaning.specs.Facts.{TermFacts}
+use Rattle.isle_meaning.specs.Facts.{TermFacts, TakesFields, facts_of}
 use Rattle.isle_meaning.specs.Sites.{Site}
 use Rattle.isle_meaning.specs.Sorts.{AllSuit}
 use Rattle.isle_meaning.specs.Demands.{Demand, result_of}
@@ -23,3 +29,16 @@ pub record HasItsKinds (facts : TermFacts) (tys : List ℕ) (rule : TypedRule) :
 -- So are those of each rule that elaboration makes.
 abbrev pub ElaboratedAreKinded : Type 0
 ElaboratedAreKinded = (facts : TermFacts) (tys : List ℕ) (rule : TypedRule) → IsElaborated facts tys rule → HasItsKinds facts tys rule
+
+-- Each well typed rule that keeps scopes is as elaboration makes it.
+abbrev pub TypedRulesAreElaborated : Type 0
+TypedRulesAreElaborated = (declared : Declared) (rule : TypedRule) (typed : IsTypedRule declared rule) → KeepsScopes rule → TakesFields declared
+    → IsElaborated (facts_of declared) typed.root.args rule
+
+-- So is each rule of definitions.
+abbrev pub DefinitionsAreElaborated : Type 0
+DefinitionsAreElaborated =
+    (types : Environment) (expands : Bool) (levels max : ℕ) (defs : List Def) (environment : TermEnvironment)
+    → MakesTerms types expands levels max defs environment → (place : ℕ) (rule : TypedRule)
+    → slice_get environment.rules place ≡ Some rule → (typed : IsTypedRule (declared_by types expands environment) rule)
+    → IsElaborated (facts_of (declared_by types expands environment)) typed.root.args rule

@@ -3,7 +3,6 @@
 ghost use Rattle.isle_meaning.specs.Laws.Sites.{CompletionsAgreeOnSites, DemandedCallsAreHad, DemandsAreAnswered, DemandsArePure, KnownIsOfKnown};
 ghost use Rattle.isle_meaning.specs.Laws.Sites.{RightSidesAreTheirSites, RulesAreKinded, SitesAreMadeByParts, SitesAreStrict, SitesKeepKinds};
 ghost use Rattle.isle_meaning.specs.Laws.Sites.{UnknownSitesAreOpenCalls};
-ghost use Rattle.isle_meaning.specs.Laws.Elaborated.{ElaboratedAreKinded};
 
 /// What has a value is made of sites that have one, and what is known of sites that are known.
 pub fn sites_are_strict()
@@ -54,9 +53,4 @@ pub fn demanded_calls_are_had()
 /// Where a rule matches, its right side is what its sites say.
 pub fn right_sides_are_their_sites()
     ensures { RightSidesAreTheirSites }
-{}
-
-/// The sites that any rule needs, demands and gives are of their kinds, and its demands of their types.
-pub fn elaborated_are_kinded()
-    ensures { ElaboratedAreKinded }
 {}
