@@ -39,5 +39,7 @@ pub mod Many
 pub mod Functional
 -- Rules match as what they demand holds.
 pub mod MatchedByNumbers
+-- Those of definitions.
+pub mod DefinedMany
 -- Worked cases.
 mod Cases

@@ -26,7 +26,7 @@ ghost use Rattle.isle_blocks.specs.Trees.Laws.{SetsHaveTheirTests, FieldsAreLook
 ghost use Rattle.isle_blocks.specs.Trees.Laws.{AnswersAreMadeByParts, AnswersAgree, AnswersKnowWhatIsAsked, OpenSitesAreCalls, RulesMatchAsTyped};
 ghost use Rattle.isle_blocks.specs.Trees.Laws.{MachinesWalk, WalksChooseAsTyped, BuiltSetsAreRunnable, DefinitionsHavePriorities};
 ghost use Rattle.isle_blocks.specs.Trees.Bags.{ElaboratedAreWellMade, ElaboratedAreListed, MultiSetsAreMany, FunctionsAreFunctions};
-ghost use Rattle.isle_blocks.specs.Trees.Bags.{RulesMatchByNumbers, WalksMakeBags};
+ghost use Rattle.isle_blocks.specs.Trees.Bags.{RulesMatchByNumbers, WalksMakeBags, BuiltSetsAreElaborated, BuiltMultiTerms};
 ghost use Rattle.isle_blocks.specs.Hashes.{binding_hash, constraint_hash};
 
 use crate::binding::Binding;
@@ -264,4 +264,11 @@ pub fn rules_match_by_numbers()
 /// it has, one answer where it matches then.
 pub fn walks_make_bags()
     ensures { WalksMakeBags }
+{}
+
+/// The rule set of definitions for any term has rules as elaboration makes them; those of a `multi` term have no priority, and their
+/// right sides call nothing partial.
+pub fn built_sets_are_elaborated()
+    ensures sets { BuiltSetsAreElaborated }
+    ensures multi { BuiltMultiTerms }
 {}

@@ -41,3 +41,5 @@ pub mod Needing
 pub mod Bridging
 -- The terms of variants and structs take exactly their fields.
 pub mod MadeFields
+-- No term is `multi` and partial.
+pub mod OneAnswer

@@ -11,7 +11,8 @@ pub use calls::{
     plain_runs_are_meant, plain_runs_begin_so, run_stays, trees_are_one, typed_rules_call_well,
 };
 pub use elaborated::{
-    definitions_are_elaborated, elaborated_are_kinded, typed_rules_are_elaborated,
+    definitions_are_elaborated, elaborated_are_kinded, none_is_multi_and_partial,
+    typed_rules_are_elaborated,
 };
 pub use matching::{
     both_match_overlap, demands_are_tested, demands_suit, derived_is_tested, elaborated_rules_fit,

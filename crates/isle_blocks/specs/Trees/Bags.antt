@@ -3,6 +3,7 @@ use Rattle.std.specs.Prelude.{◌≡◌, ◌↔◌, ℕ, List, length, Bool, tru
 use Rattle.isle_types.specs.declared.ids.Sym.{Sym}
 use Rattle.isle_terms.specs.declared.rules.Rule as source
 use Rattle.isle_terms.specs.TypedRules.{TypedRule}
+use Rattle.isle_terms.specs.Shown.TermTables.{TermTables}
 use Rattle.isle_meaning.specs.Got.{Got}
 use Rattle.isle_meaning.specs.Values.{Values}
 use Rattle.isle_meaning.specs.Facts.{TermFacts}
@@ -15,11 +16,12 @@ use Rattle.isle_meaning.specs.Numbered.{At}
 use Rattle.isle_meaning.specs.Laws.Matching.{DemandOf}
 use Rattle.isle_blocks.specs.declared.constraint.Constraint.{Constraint}
 use Rattle.isle_blocks.specs.AddedRules.{IsMultiCall}
+use Rattle.isle_blocks.specs.DefinedSets.{AreDefined, IsSetOf, name_of, facts_by, rules_by}
 use Rattle.isle_blocks.specs.Rows.{rows_of}
 use Rattle.isle_blocks.specs.Trees.Functions.{functions_of, lists_of, functions_model}
 use Rattle.isle_blocks.specs.RuleSets.{RulesOverSites}
 use Rattle.isle_blocks.specs.Trees.Choices.{HavePriorities}
-use Rattle.isle_blocks.specs.Trees.ElaboratedSets.{IsElaboratedSet, IsMultiTerm}
+use Rattle.isle_blocks.specs.Trees.ElaboratedSets.{IsElaboratedSet, OpensItsMultiCalls, IsMultiTerm}
 use Rattle.isle_blocks.specs.Trees.View.{rules_of}
 use Rattle.isle_trees.specs.Answers.{Answers, HasValue}
 use Rattle.isle_trees.specs.Bag.{Picks, IsMany, IsSameBag, Tells, walk_all, bag}
@@ -74,3 +76,15 @@ WalksMakeBags = OfElaborated (λ name facts sources rules term set h. IsMultiTer
     → (d : Picks Held → ℕ → Bool) → Tells (rules_of name set) (functions_model name set facts c args) d → (p : Picks Held)
     → IsSameBag (walk_all (rules_of name set) (functions_model name set facts c args) T p)
     (bag (rules_of name set) (functions_model name set facts c args) d p (below (length set.rules))))
+
+-- The rule set of definitions for any term is such a set.
+abbrev pub BuiltSetsAreElaborated : Type 0
+BuiltSetsAreElaborated = (env : TermTables) (d : AreDefined env) (term : ℕ) (set : RulesOverSites)
+    → IsSetOf (name_of env d) (facts_by env d) env.rules (rules_by env d) term set
+    → IsElaboratedSet (name_of env d) (facts_by env d) env.rules (rules_by env d) term set
+
+-- Of definitions the rules of a `multi` term have no priority, and their right sides call nothing partial.
+abbrev pub BuiltMultiTerms : Type 0
+BuiltMultiTerms = (env : TermTables) (d : AreDefined env) (term : ℕ) → (facts_by env d).multi term ≡ true
+    → ((i : ℕ) (rule : TypedRule) → slice_get (rules_by env d) i ≡ Some rule → rule.root ≡ term → OpensItsMultiCalls (facts_by env d) rule)
+    → IsMultiTerm (facts_by env d) (rules_by env d) term

@@ -1,5 +1,5 @@
 -- What holds of each rule that elaboration makes, whatever terms it asks.
-use Rattle.std.specs.Prelude.{◌≡◌, ℕ, Bool, true, List, Some, slice_get}
+use Rattle.std.specs.Prelude.{◌≡◌, ℕ, Bool, true, false, List, Some, slice_get}
 use Rattle.isle_syntax.specs.declared.ast.Def.{Def}
 use Rattle.isle_types.specs.Environment.{Environment}
 use Rattle.isle_terms.specs.Definitions.{TermEnvironment, declared_by, MakesTerms}
@@ -42,3 +42,10 @@ DefinitionsAreElaborated =
     → MakesTerms types expands levels max defs environment → (place : ℕ) (rule : TypedRule)
     → slice_get environment.rules place ≡ Some rule → (typed : IsTypedRule (declared_by types expands environment) rule)
     → IsElaborated (facts_of (declared_by types expands environment)) typed.root.args rule
+
+-- No term that definitions make is `multi` and partial.
+abbrev pub NoneIsMultiAndPartial : Type 0
+NoneIsMultiAndPartial =
+    (types : Environment) (expands : Bool) (levels max : ℕ) (defs : List Def) (environment : TermEnvironment)
+    → MakesTerms types expands levels max defs environment → (t : ℕ) → (facts_of (declared_by types expands environment)).multi t ≡ true
+    → (facts_of (declared_by types expands environment)).partial t ≡ false

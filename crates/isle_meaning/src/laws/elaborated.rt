@@ -1,6 +1,6 @@
 //! Rules as elaboration makes them, whatever `multi` terms they ask.
 
-ghost use Rattle.isle_meaning.specs.Laws.Elaborated.{DefinitionsAreElaborated, ElaboratedAreKinded, TypedRulesAreElaborated};
+ghost use Rattle.isle_meaning.specs.Laws.Elaborated.{DefinitionsAreElaborated, ElaboratedAreKinded, NoneIsMultiAndPartial, TypedRulesAreElaborated};
 
 /// The sites that such a rule needs, demands and gives are of their kinds, and its demands of their types.
 pub fn elaborated_are_kinded()
@@ -15,4 +15,9 @@ pub fn typed_rules_are_elaborated()
 /// Each rule of definitions is one.
 pub fn definitions_are_elaborated()
     ensures { DefinitionsAreElaborated }
+{}
+
+/// No term that definitions make is `multi` and partial.
+pub fn none_is_multi_and_partial()
+    ensures { NoneIsMultiAndPartial }
 {}
