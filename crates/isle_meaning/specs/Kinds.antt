@@ -1,8 +1,9 @@
 -- Sites whose parts are of the kinds that they take, and what a site of a kind holds.
 use Rattle.std.specs.Prelude.{◌≡◌, ◌<◌, ◌⊎◌, ℕ, Bool, true, false, List, length}
-use Rattle.isle_meaning.specs.Values.{Value, Values, count}
+use Rattle.isle_meaning.specs.Got.{gives}
+use Rattle.isle_meaning.specs.Values.{Value, Values, count, nth_of}
 use Rattle.isle_meaning.specs.Facts.{TermFacts}
-use Rattle.isle_meaning.specs.Held.{Held, held_value, held_outputs, held_none, held_some}
+use Rattle.isle_meaning.specs.Held.{Held, held_value, held_outputs, held_none, held_some, held_answers, outputs_of}
 use Rattle.isle_meaning.specs.Sites.{Site, bool_site, int_site, prim_site, argument, extractor_call, constructor_call, iterator}
 use Rattle.isle_meaning.specs.Sites.{make_variant, match_variant, make_struct, extract_struct, make_some, match_some, match_tuple}
 use Rattle.isle_meaning.specs.Sites.{Sites, no_sites, more_sites}
@@ -65,7 +66,8 @@ abbrev pub IsOfKind : Sort → Held → Type 0
 IsOfKind (plain_sort ty) h = (v : Value) × (h ≡ held_value v)
 IsOfKind (tuple_sort ts) h = (vs : Values) × (h ≡ held_outputs vs) × (count vs ≡ length ts)
 IsOfKind (option_sort k) h = (h ≡ held_none) ⊎ ((x : Held) × (h ≡ held_some x) × IsOfKind k x)
-IsOfKind (list_sort k) h = Unit {0}
+IsOfKind (list_sort k) h =
+    (l : List Values) × (h ≡ held_answers l) × ((n : ℕ) (vs : Values) → nth_of l n ≡ gives vs → IsOfKind k (outputs_of vs))
 
 -- a constraint has as many fields as its type
 abbrev pub HasItsFields : TermFacts → Constraint → Type 0

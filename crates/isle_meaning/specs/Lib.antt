@@ -70,6 +70,8 @@ pub mod TypedWords
 pub mod Parts
 -- Sites whose parts are of the kinds that they take.
 pub mod Kinds
+-- Completions whose calls are functions into finite lists.
+pub mod Functions
 -- The impure calls that a site has.
 pub mod ImpureCalls
 -- The calls that a rule's patterns and if-lets have.
