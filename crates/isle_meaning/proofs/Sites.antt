@@ -29,3 +29,5 @@ pub mod OwnTests
 pub mod RightSites
 -- Fields, contents and values of multi calls in what any rule demands and has.
 pub mod Owned
+-- Sites whose impure calls are taken as functions.
+pub mod PureSites
