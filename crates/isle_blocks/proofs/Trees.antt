@@ -39,6 +39,8 @@ pub mod Many
 pub mod Functional
 -- Rules match as what they demand holds.
 pub mod MatchedByNumbers
+-- Sites are what they hold where items are taken at places.
+pub mod AtPlaces
 -- Those of definitions.
 pub mod DefinedMany
 -- Worked cases.

@@ -26,7 +26,8 @@ ghost use Rattle.isle_blocks.specs.Trees.Laws.{SetsHaveTheirTests, FieldsAreLook
 ghost use Rattle.isle_blocks.specs.Trees.Laws.{AnswersAreMadeByParts, AnswersAgree, AnswersKnowWhatIsAsked, OpenSitesAreCalls, RulesMatchAsTyped};
 ghost use Rattle.isle_blocks.specs.Trees.Laws.{MachinesWalk, WalksChooseAsTyped, BuiltSetsAreRunnable, DefinitionsHavePriorities};
 ghost use Rattle.isle_blocks.specs.Trees.Bags.{ElaboratedAreWellMade, ElaboratedAreListed, MultiSetsAreMany, FunctionsAreFunctions};
-ghost use Rattle.isle_blocks.specs.Trees.Bags.{RulesMatchByNumbers, WalksMakeBags, BuiltSetsAreElaborated, BuiltMultiTerms};
+ghost use Rattle.isle_blocks.specs.Trees.Bags.{RulesMatchByNumbers, WalksMakeBags, SitesHoldTheirValues, RulesMatchAtPlaces};
+ghost use Rattle.isle_blocks.specs.Trees.Bags.{BuiltSetsAreElaborated, BuiltMultiTerms};
 ghost use Rattle.isle_blocks.specs.Hashes.{binding_hash, constraint_hash};
 
 use crate::binding::Binding;
@@ -264,6 +265,17 @@ pub fn rules_match_by_numbers()
 /// it has, one answer where it matches then.
 pub fn walks_make_bags()
     ensures { WalksMakeBags }
+{}
+
+/// Where of each multi call that a site is made of the item at its place is taken, the site is what it holds, and a multi call lists the
+/// items that it holds.
+pub fn sites_hold_their_values()
+    ensures { SitesHoldTheirValues }
+{}
+
+/// So a rule of a `multi` term matches exactly where what its typed rule demands holds of what its sites hold.
+pub fn rules_match_at_places()
+    ensures { RulesMatchAtPlaces }
 {}
 
 /// The rule set of definitions for any term has rules as elaboration makes them; those of a `multi` term have no priority, and their

@@ -25,10 +25,10 @@ pub mod Backward
 pub mod Sorting
 -- The laws on matching.
 pub mod Whole
--- What follows where demands hold, equalities of a site with itself aside.
-pub mod Proper
 -- Equalities of a site with itself; what faults mean for matching.
 pub mod Leaving
+-- What follows where demands hold, equalities of a site with itself aside.
+pub mod Proper
 -- Recorded numbers say the demands.
 pub mod Numbering
 -- Fields and contents are made by tests.

@@ -10,6 +10,7 @@ use Rattle.isle_meaning.specs.Values.{Values, nth, ask}
 use Rattle.isle_meaning.specs.Facts.{TermFacts}
 use Rattle.isle_meaning.specs.Answers.{Completion}
 use Rattle.isle_meaning.specs.Held.{Held, held_value, held, plain_of, variant_field, struct_field, content_of}
+use Rattle.isle_meaning.specs.Functions.{as_pure}
 use Rattle.isle_meaning.specs.Making.{made_of_parts}
 use Rattle.isle_meaning.specs.Sites.{Site}
 use Rattle.isle_meaning.proofs.Matching.Basics.{field_at, struct_at}
@@ -21,7 +22,7 @@ use Rattle.isle_blocks.specs.RuleSets.{RulesOverSites}
 use Rattle.isle_blocks.specs.Trees.Bags.{FunctionsAreFunctions, WalksMakeBags}
 use Rattle.isle_blocks.specs.Trees.Compare.{meets}
 use Rattle.isle_blocks.specs.Trees.ElaboratedSets.{IsElaboratedSet}
-use Rattle.isle_blocks.specs.Trees.Functions.{as_pure, settled, functions_of, lists_of, functions_model}
+use Rattle.isle_blocks.specs.Trees.Functions.{settled, functions_of, lists_of, functions_model}
 use Rattle.isle_blocks.specs.Trees.SiteTrees.{tree_of}
 use Rattle.isle_blocks.specs.Trees.View.{made_by, opening, rules_of}
 use Rattle.isle_blocks.proofs.Trees.Elaborated.{well_made}

@@ -28,6 +28,7 @@ use Rattle.isle_blocks.specs.declared.constraint.Constraint.{Constraint}
 use Rattle.isle_blocks.specs.declared.rule.Rule.{Rule}
 use Rattle.isle_blocks.specs.Bindings.{sources_of}
 use Rattle.isle_blocks.specs.Building.Standing.{StandEach}
+use Rattle.isle_blocks.specs.AddedRules.{IsMultiCall}
 use Rattle.isle_blocks.specs.DefinedSets.{IsMadeAt}
 use Rattle.isle_blocks.specs.RuleSets.{RulesOverSites}
 use Rattle.isle_blocks.specs.Rows.{rows_of, numbers_of}
@@ -172,16 +173,20 @@ module _ (name : Sym → List ℕ) (facts : TermFacts) (sources : List source.Ru
       right_side : ((partial : Bool) → A (result_of facts partial rule)) × EachSite A (impure_of facts rule)
       right_side = right_own facts rule (multi.whole p rule m.reached.at m.reached.of_term)
 
-      -- so is a multi call that it uses
-      loop_own : (s : ℕ) → has_loop s r ≡ true → (t : Site) × At rows t s × A t
-      loop_own s e =
-          let (t, at_t, used, list) = loop_site name facts sources rules term set h p r m s e in
+      -- So is a multi call of it.
+      pub multi_own : (t : Site) → IsMultiCall facts (facts.partial rule.root) rule t → A t
+      multi_own t used =
           let whole = multi.whole p rule m.reached.at m.reached.of_term in
           let one : A (iterator t) = elim used [
             | inl n ↦ needed_own facts rule whole (iterator t) n (multi.opens p rule m.reached.at m.reached.of_term t n)
             | inr q ↦ subst A (sym q) (right_side.0 (facts.partial rule.root))
           ] in
-          (t, at_t, own_part (Derived D) (IsNeeded (needs_of facts rule)) (iterator t) t one (inl refl))
+          own_part (Derived D) (IsNeeded (needs_of facts rule)) (iterator t) t one (inl refl)
+
+      -- one that the rule of the set has
+      loop_own : (s : ℕ) → has_loop s r ≡ true → (t : Site) × At rows t s × A t
+      loop_own s e =
+          let (t, at_t, used, list) = loop_site name facts sources rules term set h p r m s e in (t, at_t, multi_own t used)
 
       -- so is all that it asks
       asked_own : (s : ℕ) → Asked R i s → (t : Site) × At rows t s × A t

@@ -1,16 +1,18 @@
 -- What the rule sets of `multi` terms give to the theory of trees: the bag of their rules.
-use Rattle.std.specs.Prelude.{◌≡◌, ◌↔◌, ℕ, List, length, Bool, true, Some, slice_get}
+use Rattle.std.specs.Prelude.{◌≡◌, ◌⊎◌, ◌↔◌, ℕ, List, length, Bool, true, Some, slice_get}
 use Rattle.isle_types.specs.declared.ids.Sym.{Sym}
 use Rattle.isle_terms.specs.declared.rules.Rule as source
 use Rattle.isle_terms.specs.TypedRules.{TypedRule}
 use Rattle.isle_terms.specs.Shown.TermTables.{TermTables}
 use Rattle.isle_meaning.specs.Got.{Got}
-use Rattle.isle_meaning.specs.Values.{Values}
+use Rattle.isle_meaning.specs.Values.{Values, count}
+use Rattle.isle_meaning.specs.Functions.{AreFiniteFunctions, as_pure}
 use Rattle.isle_meaning.specs.Facts.{TermFacts}
 use Rattle.isle_meaning.specs.Answers.{Completion}
 use Rattle.isle_meaning.specs.Held.{Held}
 use Rattle.isle_meaning.specs.Holds.{Holds, IsProper, Respects}
-use Rattle.isle_meaning.specs.Demands.{Demand}
+use Rattle.isle_meaning.specs.Demands.{Demand, constrained, equal}
+use Rattle.isle_meaning.specs.Derived.{Derived}
 use Rattle.isle_meaning.specs.Sites.{Site}
 use Rattle.isle_meaning.specs.Numbered.{At}
 use Rattle.isle_meaning.specs.Laws.Matching.{DemandOf}
@@ -18,7 +20,7 @@ use Rattle.isle_blocks.specs.declared.constraint.Constraint.{Constraint}
 use Rattle.isle_blocks.specs.AddedRules.{IsMultiCall}
 use Rattle.isle_blocks.specs.DefinedSets.{AreDefined, IsSetOf, name_of, facts_by, rules_by}
 use Rattle.isle_blocks.specs.Rows.{rows_of}
-use Rattle.isle_blocks.specs.Trees.Functions.{functions_of, lists_of, functions_model}
+use Rattle.isle_blocks.specs.Trees.Functions.{functions_of, lists_of, functions_model, items_of, held_at, HasItem, TakesItsPlaces}
 use Rattle.isle_blocks.specs.RuleSets.{RulesOverSites}
 use Rattle.isle_blocks.specs.Trees.Choices.{HavePriorities}
 use Rattle.isle_blocks.specs.Trees.ElaboratedSets.{IsElaboratedSet, OpensItsMultiCalls, IsMultiTerm}
@@ -58,12 +60,22 @@ abbrev pub FunctionsAreFunctions : Type 0
 FunctionsAreFunctions = OfElaborated (λ name facts sources rules term set h. (c : Completion) (args : Values)
     → AreFunctions (rules_of name set) (functions_of name set facts c args) (lists_of name set facts c args) (λ p. true))
 
+-- a demand speaks of the site
+abbrev pub IsSpokenOf : Demand → Site → Type 0
+IsSpokenOf (constrained t c) s = s ≡ t
+IsSpokenOf (equal t u) s = (s ≡ t) ⊎ (s ≡ u)
+
+-- what follows from a rule's demands speaks of the site, or it is a multi call of the rule
+abbrev pub IsAskedSite : TermFacts → TypedRule → Site → Type 0
+IsAskedSite facts rule s =
+    ((d : Demand) × Derived (DemandOf facts rule) d × IsSpokenOf d s) ⊎ IsMultiCall facts (facts.partial rule.root) rule s
+
 -- A rule of the set matches exactly where what its typed rule demands holds of what the sites hold, and each multi call that it uses has a
 -- list.
 abbrev pub RulesMatchByNumbers : Type 0
 RulesMatchByNumbers = OfElaborated (λ name facts sources rules term set h. (v : Answers Held) (val : Site → Got Held) → Respects val
-    → ((s : Site) (k : ℕ) → At (rows_of name set.sites) s k → val s ≡ v k) → (i p : ℕ) (rule : TypedRule)
-    → slice_get h.is.places i ≡ Some p → slice_get rules p ≡ Some rule
+    → (i p : ℕ) (rule : TypedRule) → slice_get h.is.places i ≡ Some p → slice_get rules p ≡ Some rule
+    → ((s : Site) (k : ℕ) → At (rows_of name set.sites) s k → IsAskedSite facts rule s → val s ≡ v k)
     → Matches (rules_of name set) v i
     ↔ (((d : Demand) → DemandOf facts rule d → IsProper d → Holds val d)
     × ((s : Site) → IsMultiCall facts (facts.partial rule.root) rule s → HasValue (val s))))
@@ -76,6 +88,26 @@ WalksMakeBags = OfElaborated (λ name facts sources rules term set h. IsMultiTer
     → (d : Picks Held → ℕ → Bool) → Tells (rules_of name set) (functions_model name set facts c args) d → (p : Picks Held)
     → IsSameBag (walk_all (rules_of name set) (functions_model name set facts c args) T p)
     (bag (rules_of name set) (functions_model name set facts c args) d p (below (length set.rules))))
+
+-- Where of each multi call that a site is made of the item at its place is taken, the site is what it holds, and a multi call lists the
+-- items that it holds.
+abbrev pub SitesHoldTheirValues : Type 0
+SitesHoldTheirValues = OfElaborated (λ name facts sources rules term set h. (c : Completion) (args : Values) → AreFiniteFunctions facts c
+    → count args ≡ length h.types → (p : Picks Held) (s : Site) (k : ℕ) → At (rows_of name set.sites) s k
+    → TakesItsPlaces name set facts c args p s
+    → ((functions_model name set facts c args).values p k ≡ held_at facts c args s)
+    × ((functions_model name set facts c args).many p k ≡ items_of (held_at facts c args s)))
+
+-- So a rule of a `multi` term matches, where of each of its multi calls the item at its place is taken, exactly where what its typed rule
+-- demands holds of what its sites hold.
+abbrev pub RulesMatchAtPlaces : Type 0
+RulesMatchAtPlaces = OfElaborated (λ name facts sources rules term set h. IsMultiTerm facts rules term → (c : Completion) (args : Values)
+    → AreFiniteFunctions facts c → count args ≡ length h.types → (p : Picks Held) (i place : ℕ) (rule : TypedRule)
+    → slice_get h.is.places i ≡ Some place → slice_get rules place ≡ Some rule
+    → ((s : Site) (k : ℕ) → IsMultiCall facts (facts.partial rule.root) rule s → At (rows_of name set.sites) s k
+    → HasItem (held_at facts c args s) (c.place (as_pure s)) (p k))
+    → Matches (rules_of name set) ((functions_model name set facts c args).values p) i
+    ↔ ((d : Demand) → DemandOf facts rule d → IsProper d → Holds (held_at facts c args) d))
 
 -- The rule set of definitions for any term is such a set.
 abbrev pub BuiltSetsAreElaborated : Type 0

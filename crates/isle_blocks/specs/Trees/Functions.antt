@@ -1,39 +1,25 @@
 -- What a set's sites are where calls are functions into finite lists, and one item is taken of the list of each multi call.
-use Rattle.std.specs.Prelude.{ℕ, zero, List, [], map, true, Option, Some, None}
+use Rattle.std.specs.Prelude.{◌≡◌, ℕ, List, [], map, true, Option, Some, None}
 use Rattle.isle_types.specs.declared.ids.Sym.{Sym}
 use Rattle.isle_meaning.specs.Got.{Got, unknown, fails, gives}
-use Rattle.isle_meaning.specs.Values.{Values}
+use Rattle.isle_meaning.specs.Values.{Values, nth_of}
 use Rattle.isle_meaning.specs.Facts.{TermFacts}
 use Rattle.isle_meaning.specs.Answers.{Completion}
-use Rattle.isle_meaning.specs.Held.{Held, held_value, held_outputs, held_none, held_some, held_answers, outputs_of}
+use Rattle.isle_meaning.specs.Held.{Held, held_value, held_outputs, held_none, held_some, held_answers, outputs_of, value}
+use Rattle.isle_meaning.specs.Functions.{as_pure}
 use Rattle.isle_meaning.specs.Making.{made_of_parts}
-use Rattle.isle_meaning.specs.Sites.{Site, bool_site, int_site, prim_site, argument, extractor_call, constructor_call, iterator}
-use Rattle.isle_meaning.specs.Sites.{make_variant, match_variant, make_struct, extract_struct, make_some, match_some, match_tuple}
+use Rattle.isle_meaning.specs.Numbered.{At}
+use Rattle.isle_meaning.specs.Sites.{Site, iterator}
+use Rattle.isle_meaning.specs.Subtrees.{IsSubtree}
+use Rattle.isle_blocks.specs.Rows.{rows_of}
 use Rattle.isle_blocks.specs.declared.constraint.Constraint.{Constraint}
 use Rattle.isle_blocks.specs.RuleSets.{RulesOverSites}
 use Rattle.isle_blocks.specs.Trees.View.{rules_of}
 use Rattle.isle_blocks.specs.Trees.SiteTrees.{tree_of}
-use Rattle.isle_trees.specs.Bag.{Model}
+use Rattle.isle_trees.specs.Bag.{Picks, Model}
 use Rattle.isle_trees.specs.Calls.{Lists, model_of}
 use Rattle.isle_trees.specs.Machine.{Makes}
 use Rattle.isle_trees.specs.Rules.{Source}
-
--- an impure call is taken as a function too
-abbrev pub as_pure : Site → Site
-as_pure (bool_site b ty) = bool_site b ty
-as_pure (int_site n ty) = int_site n ty
-as_pure (prim_site n) = prim_site n
-as_pure (argument i) = argument i
-as_pure (extractor_call t s) = extractor_call t s
-as_pure (constructor_call t ss i) = constructor_call t ss zero
-as_pure (iterator s) = iterator s
-as_pure (make_variant ty k ss) = make_variant ty k ss
-as_pure (match_variant s k i) = match_variant s k i
-as_pure (make_struct ty ss) = make_struct ty ss
-as_pure (extract_struct s i) = extract_struct s i
-as_pure (make_some s) = make_some s
-as_pure (match_some s) = match_some s
-as_pure (match_tuple s i) = match_tuple s i
 
 -- Only what a test makes may fail: where its parts are of other kinds than it takes, any other site holds nothing.
 abbrev pub settled : Option (Source Constraint) → Got Held → Got Held
@@ -65,3 +51,16 @@ module _ (name : Sym → List ℕ) (set : RulesOverSites) (facts : TermFacts) (c
   -- what sites are and multi calls list, whatever items are taken
   abbrev pub functions_model : Model Held
   functions_model = model_of (rules_of name set) functions_of lists_of (λ p. true)
+
+-- what a site holds, where impure calls are functions too and of each multi call the item at its place is taken
+abbrev pub held_at : TermFacts → Completion → Values → Site → Got Held
+held_at facts c args s = value facts c args [] (as_pure s)
+
+-- a list is held, and this is its item at a place
+abbrev pub HasItem : Got Held → ℕ → Held → Type 0
+HasItem g n x = (l : List Values) × (vs : Values) × (g ≡ gives (held_answers l)) × (nth_of l n ≡ gives vs) × (x ≡ outputs_of vs)
+
+-- of each multi call of which the site takes an item, the one at its place is taken
+abbrev pub TakesItsPlaces : (Sym → List ℕ) → RulesOverSites → TermFacts → Completion → Values → Picks Held → Site → Type 0
+TakesItsPlaces name set facts c args p s = (u : Site) (k : ℕ) → IsSubtree (iterator u) s → At (rows_of name set.sites) u k
+    → HasItem (held_at facts c args u) (c.place (as_pure u)) (p k)

@@ -4,9 +4,14 @@ use Rattle.isle_meaning.specs.Got.{Got, unknown, fails, gives}
 use Rattle.isle_meaning.specs.Sites.{Site, match_variant, extract_struct}
 use Rattle.isle_meaning.specs.Held.{Held}
 use Rattle.isle_meaning.specs.Demands.{variant_constraint, struct_constraint, Demand, constrained, equal}
-use Rattle.isle_meaning.specs.Derived.{Derived, demanded, flipped, chained, shared, like_variant, like_struct, Closed}
+use Rattle.isle_meaning.specs.Derived.{Derived, demanded, flipped, chained, shared, like_variant, like_struct, Closed, FieldOf, of_variant}
+use Rattle.isle_meaning.specs.Derived.{of_struct, Inside, directly, further_in}
 use Rattle.isle_meaning.specs.Holds.{Holds, IsProper, Respects}
-use Rattle.isle_meaning.proofs.Matching.Closing.{derived_holds}
+use Rattle.isle_meaning.specs.Facts.{TermFacts}
+use Rattle.isle_meaning.specs.Faults.{IsUnreachable}
+use Rattle.isle_meaning.specs.Sorts.{AllSuit}
+use Rattle.isle_meaning.proofs.Matching.Closing.{derived_holds, is_reachable}
+use Rattle.isle_meaning.proofs.Matching.Leaving.{inside_apart}
 use Rattle.isle_meaning.proofs.Matching.Deciding.{stable}
 
 module _ (val : Site → Got Held) (respects : Respects val) (D : Demand → Type 0) (holds : (d : Demand) → D d → IsProper d → Holds val d) where
@@ -63,3 +68,37 @@ module _ (val : Site → Got Held) (respects : Respects val) (D : Demand → Typ
   pub closed_holds_proper : (d : Demand) → Closed D d → Holds val d
   closed_holds_proper (constrained s c) h = derived_holds_proper (constrained s c) h tt
   closed_holds_proper (equal s u) h = derived_holds_proper (equal s u) (h.0) (h.1)
+
+  -- what is derived, equalities of a site with itself aside
+  abbrev Proper : Demand → Type 0
+  Proper d = Derived D d × IsProper d
+
+  -- a field is one by that
+  field_proper : (s u : Site) → FieldOf D s u → FieldOf Proper s u
+  field_proper s u (of_variant {ty = ty} {k = k} {n = n} h l) = of_variant (demanded (h, tt)) l
+  field_proper s u (of_struct {ty = ty} {n = n} h l) = of_struct (demanded (h, tt)) l
+
+  -- so inside
+  inside_proper : (s u : Site) → Inside D s u → Inside Proper s u
+  inside_proper s u (directly f) = directly (field_proper s u f)
+  inside_proper s u (further_in {u = w} h f) = further_in (inside_proper s w h) (field_proper w u f)
+
+  -- Such demands aren't unreachable.
+  pub reachable_proper : (facts : TermFacts) (tys : List ℕ) → AllSuit facts tys (Derived D) → IsUnreachable D → ⊥
+  reachable_proper facts tys suit fault =
+      is_reachable val respects Proper (λ d h. derived_holds_proper d (h.0) (h.1)) facts tys (λ d h. suit d (h.0)) (elim fault [
+        | inl c ↦ inl (record {
+          site = c.site;
+          one = c.one;
+          other = c.other;
+          has_one = demanded (c.has_one, tt);
+          has_other = demanded (c.has_other, tt);
+          differ = c.differ;
+        })
+        | inr c ↦ inr (record {
+          site = c.site;
+          part = c.part;
+          inside = inside_proper c.site c.part c.inside;
+          same = demanded (c.same, inside_apart D c.site c.part c.inside);
+        })
+      ])
