@@ -35,6 +35,8 @@ pub mod Defined
 pub mod Elaborated
 -- Those of `multi` terms are as the bag asks.
 pub mod Many
+-- Whether a rule matches is decided.
+pub mod Decided
 -- Calls are functions as the bag asks, and walks answer bags.
 pub mod Functional
 -- Rules match as what they demand holds.
@@ -45,3 +47,5 @@ pub mod AtPlaces
 pub mod DefinedMany
 -- Worked cases.
 mod Cases
+-- Two rules over a multi call of two values.
+mod TwoValues

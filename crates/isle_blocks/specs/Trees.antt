@@ -17,5 +17,7 @@ pub mod ElaboratedSets
 pub mod Laws
 -- What sites are where calls are functions into finite lists.
 pub mod Functions
+-- Whether a rule of a set matches.
+pub mod Deciding
 -- What the rule sets of `multi` terms give.
 pub mod Bags

@@ -27,7 +27,7 @@ ghost use Rattle.isle_blocks.specs.Trees.Laws.{AnswersAreMadeByParts, AnswersAgr
 ghost use Rattle.isle_blocks.specs.Trees.Laws.{MachinesWalk, WalksChooseAsTyped, BuiltSetsAreRunnable, DefinitionsHavePriorities};
 ghost use Rattle.isle_blocks.specs.Trees.Bags.{ElaboratedAreWellMade, ElaboratedAreListed, MultiSetsAreMany, FunctionsAreFunctions};
 ghost use Rattle.isle_blocks.specs.Trees.Bags.{RulesMatchByNumbers, WalksMakeBags, SitesHoldTheirValues, RulesMatchAtPlaces};
-ghost use Rattle.isle_blocks.specs.Trees.Bags.{BuiltSetsAreElaborated, BuiltMultiTerms};
+ghost use Rattle.isle_blocks.specs.Trees.Bags.{MatchingIsDecided, MatchingRulesAreListed, BuiltSetsAreElaborated, BuiltMultiTerms};
 ghost use Rattle.isle_blocks.specs.Hashes.{binding_hash, constraint_hash};
 
 use crate::binding::Binding;
@@ -259,6 +259,13 @@ pub fn functions_are_functions()
 /// A rule of the set matches exactly where what its typed rule demands holds of what its sites hold, and its multi calls have lists.
 pub fn rules_match_by_numbers()
     ensures { RulesMatchByNumbers }
+{}
+
+/// Whether a rule matches is decided by its tests, its multi calls and its classes, and one of which all that it demands holds is in the
+/// set.
+pub fn matching_is_decided()
+    ensures decided { MatchingIsDecided }
+    ensures listed { MatchingRulesAreListed }
 {}
 
 /// The walk of a `multi` term's tree answers the bag of its rules: for each rule, and each way to take one item of each multi call that

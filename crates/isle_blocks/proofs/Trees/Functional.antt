@@ -25,6 +25,8 @@ use Rattle.isle_blocks.specs.Trees.ElaboratedSets.{IsElaboratedSet}
 use Rattle.isle_blocks.specs.Trees.Functions.{settled, functions_of, lists_of, functions_model}
 use Rattle.isle_blocks.specs.Trees.SiteTrees.{tree_of}
 use Rattle.isle_blocks.specs.Trees.View.{made_by, opening, rules_of}
+use Rattle.isle_blocks.specs.Trees.Deciding.{matches_here}
+use Rattle.isle_blocks.proofs.Trees.Decided.{decided}
 use Rattle.isle_blocks.proofs.Trees.Elaborated.{well_made}
 use Rattle.isle_blocks.proofs.Trees.Exact.{passed_meets}
 use Rattle.isle_blocks.proofs.Trees.Listed.{opening_opens}
@@ -142,10 +144,15 @@ pub functions_are_functions : FunctionsAreFunctions
 functions_are_functions name facts sources rules term set h c args = are_functions name facts sources rules term set h c args
 
 pub walks_make_bags : WalksMakeBags
-walks_make_bags name facts sources rules term set h multi priorities c args T builds d tells p =
+walks_make_bags name facts sources rules term set h multi priorities c args T builds p =
     let R = rules_of name set in
     let well = well_made name facts sources rules term set h in
     let makes = functions_of name set facts c args in let lists = lists_of name set facts c args in
-    whole_bag R (below (length set.rules)) T (functions_model name set facts c args) d p well (is_many name facts sources rules term set h multi priorities)
-    (below_ascends (length set.rules)) builds (whole_calls R makes lists (λ q. true) well (are_functions name facts sources rules term set h c args))
-    tells refl
+    let M = functions_model name set facts c args in
+    whole_bag R (below (length set.rules)) T M (λ q i. matches_here name set (M.values q) i) p well
+    (is_many name facts sources rules term set h multi priorities) (below_ascends (length set.rules)) builds
+    (whole_calls R makes lists (λ q. true) well (are_functions name facts sources rules term set h c args))
+    (record {
+      sound = λ q i e. (decided name facts sources rules term set h (M.values q) i).0 e;
+      full = λ q i w. (decided name facts sources rules term set h (M.values q) i).1 w;
+    }) refl

@@ -1,5 +1,5 @@
 -- What the rule sets of `multi` terms give to the theory of trees: the bag of their rules.
-use Rattle.std.specs.Prelude.{◌≡◌, ◌⊎◌, ◌↔◌, ℕ, List, length, Bool, true, Some, slice_get}
+use Rattle.std.specs.Prelude.{◌≡◌, ◌⊎◌, ◌↔◌, ℕ, List, length, true, Some, slice_get}
 use Rattle.isle_types.specs.declared.ids.Sym.{Sym}
 use Rattle.isle_terms.specs.declared.rules.Rule as source
 use Rattle.isle_terms.specs.TypedRules.{TypedRule}
@@ -23,10 +23,11 @@ use Rattle.isle_blocks.specs.Rows.{rows_of}
 use Rattle.isle_blocks.specs.Trees.Functions.{functions_of, lists_of, functions_model, items_of, held_at, HasItem, TakesItsPlaces}
 use Rattle.isle_blocks.specs.RuleSets.{RulesOverSites}
 use Rattle.isle_blocks.specs.Trees.Choices.{HavePriorities}
+use Rattle.isle_blocks.specs.Trees.Deciding.{matches_here}
 use Rattle.isle_blocks.specs.Trees.ElaboratedSets.{IsElaboratedSet, OpensItsMultiCalls, IsMultiTerm}
 use Rattle.isle_blocks.specs.Trees.View.{rules_of}
 use Rattle.isle_trees.specs.Answers.{Answers, HasValue}
-use Rattle.isle_trees.specs.Bag.{Picks, IsMany, IsSameBag, Tells, walk_all, bag}
+use Rattle.isle_trees.specs.Bag.{Picks, Model, Round, IsMany, IsSameBag, walk_all, bag}
 use Rattle.isle_trees.specs.Builds.{Builds}
 use Rattle.isle_trees.specs.Calls.{AreFunctions}
 use Rattle.isle_trees.specs.Premises.{IsWellMade}
@@ -80,14 +81,27 @@ RulesMatchByNumbers = OfElaborated (λ name facts sources rules term set h. (v :
     ↔ (((d : Demand) → DemandOf facts rule d → IsProper d → Holds val d)
     × ((s : Site) → IsMultiCall facts (facts.partial rule.root) rule s → HasValue (val s))))
 
--- The walk of a `multi` term's tree answers the bag of its rules: for each rule, and each way to take one item of each multi call that it
--- has, one answer where it matches then.
+-- Whether a rule of the set matches is decided by its tests, its multi calls and its classes.
+abbrev pub MatchingIsDecided : Type 0
+MatchingIsDecided = OfElaborated (λ name facts sources rules term set h. (v : Answers Held) (i : ℕ)
+    → (matches_here name set v i ≡ true) ↔ Matches (rules_of name set) v i)
+
+-- A rule of the term of which all that it demands holds is one of the set.
+abbrev pub MatchingRulesAreListed : Type 0
+MatchingRulesAreListed = OfElaborated (λ name facts sources rules term set h. (val : Site → Got Held) → Respects val → (place : ℕ)
+    (rule : TypedRule) → slice_get rules place ≡ Some rule → rule.root ≡ term
+    → ((d : Demand) → DemandOf facts rule d → IsProper d → Holds val d) → (i : ℕ) × (slice_get h.is.places i ≡ Some place))
+
+-- the bag of a set's rules: for each rule, and each way to take one item of each multi call that it has, one answer where it matches then
+abbrev pub bag_of : (Sym → List ℕ) → RulesOverSites → Model Held → Picks Held → List (Round Held)
+bag_of name set M p = bag (rules_of name set) M (λ q i. matches_here name set (M.values q) i) p (below (length set.rules))
+
+-- The walk of a `multi` term's tree answers the bag of its rules.
 abbrev pub WalksMakeBags : Type 0
 WalksMakeBags = OfElaborated (λ name facts sources rules term set h. IsMultiTerm facts rules term → HavePriorities sources rules
     → (c : Completion) (args : Values) (T : Steps Constraint) → Builds (rules_of name set) (below (length set.rules)) nothing_known T
-    → (d : Picks Held → ℕ → Bool) → Tells (rules_of name set) (functions_model name set facts c args) d → (p : Picks Held)
-    → IsSameBag (walk_all (rules_of name set) (functions_model name set facts c args) T p)
-    (bag (rules_of name set) (functions_model name set facts c args) d p (below (length set.rules))))
+    → (p : Picks Held)
+    → IsSameBag (walk_all (rules_of name set) (functions_model name set facts c args) T p) (bag_of name set (functions_model name set facts c args) p))
 
 -- Where of each multi call that a site is made of the item at its place is taken, the site is what it holds, and a multi call lists the
 -- items that it holds.

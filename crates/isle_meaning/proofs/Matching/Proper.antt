@@ -1,5 +1,5 @@
 -- Where demands hold, equalities of a site with itself aside, all that follows from them does.
-use Rattle.std.proofs.Common.{◌≡◌, ◌≢◌, ◌⊎◌, inl, inr, refl, sym, ◌∙◌, ap, subst}
+use Rattle.std.proofs.Common.{◌≡◌, ◌≢◌, ◌⊎◌, inl, inr, ℕ, List, refl, sym, ◌∙◌, ap, subst}
 use Rattle.isle_meaning.specs.Got.{Got, unknown, fails, gives}
 use Rattle.isle_meaning.specs.Sites.{Site, match_variant, extract_struct}
 use Rattle.isle_meaning.specs.Held.{Held}
