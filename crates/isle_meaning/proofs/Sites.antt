@@ -31,3 +31,5 @@ pub mod RightSites
 pub mod Owned
 -- Sites whose impure calls are taken as functions.
 pub mod PureSites
+-- Contents in the multi calls of if-lets have their tests.
+pub mod Opened

@@ -12,7 +12,7 @@ pub use calls::{
 };
 pub use elaborated::{
     definitions_are_elaborated, elaborated_are_kinded, none_is_multi_and_partial,
-    typed_rules_are_elaborated,
+    rules_without_lets_open, typed_rules_are_elaborated,
 };
 pub use matching::{
     both_match_overlap, demands_are_tested, demands_suit, derived_is_tested, elaborated_rules_fit,

@@ -178,7 +178,7 @@ module _ (name : Sym → List ℕ) (facts : TermFacts) (sources : List source.Ru
       multi_own t used =
           let whole = multi.whole p rule m.reached.at m.reached.of_term in
           let one : A (iterator t) = elim used [
-            | inl n ↦ needed_own facts rule whole (iterator t) n (multi.opens p rule m.reached.at m.reached.of_term t n)
+            | inl n ↦ needed_own facts rule whole (iterator t) n (multi.opens p rule m.reached.at m.reached.of_term t)
             | inr q ↦ subst A (sym q) (right_side.0 (facts.partial rule.root))
           ] in
           own_part (Derived D) (IsNeeded (needs_of facts rule)) (iterator t) t one (inl refl)

@@ -7,6 +7,7 @@ use Rattle.isle_terms.specs.Shown.TermTables.{TermTables}
 use Rattle.isle_meaning.specs.Got.{Got}
 use Rattle.isle_meaning.specs.Values.{Values, count}
 use Rattle.isle_meaning.specs.Functions.{AreFiniteFunctions, as_pure}
+use Rattle.isle_meaning.specs.Elaborated.{OpensItsMultiCalls}
 use Rattle.isle_meaning.specs.Facts.{TermFacts}
 use Rattle.isle_meaning.specs.Answers.{Completion}
 use Rattle.isle_meaning.specs.Held.{Held}
@@ -24,7 +25,7 @@ use Rattle.isle_blocks.specs.Trees.Functions.{functions_of, lists_of, functions_
 use Rattle.isle_blocks.specs.RuleSets.{RulesOverSites}
 use Rattle.isle_blocks.specs.Trees.Choices.{HavePriorities}
 use Rattle.isle_blocks.specs.Trees.Deciding.{matches_here}
-use Rattle.isle_blocks.specs.Trees.ElaboratedSets.{IsElaboratedSet, OpensItsMultiCalls, IsMultiTerm}
+use Rattle.isle_blocks.specs.Trees.ElaboratedSets.{IsElaboratedSet, IsMultiTerm}
 use Rattle.isle_blocks.specs.Trees.View.{rules_of}
 use Rattle.isle_trees.specs.Answers.{Answers, HasValue}
 use Rattle.isle_trees.specs.Bag.{Picks, Model, Round, IsMany, IsSameBag, walk_all, bag}

@@ -4,12 +4,8 @@ use Rattle.isle_types.specs.declared.ids.Sym.{Sym}
 use Rattle.isle_terms.specs.declared.rules.Rule as source
 use Rattle.isle_terms.specs.TypedRules.{TypedRule}
 use Rattle.isle_meaning.specs.Facts.{TermFacts}
-use Rattle.isle_meaning.specs.Elaborated.{IsElaborated}
-use Rattle.isle_meaning.specs.Demands.{Demand, Among, contents}
-use Rattle.isle_meaning.specs.Needs.{needs_of, IsNeeded}
-use Rattle.isle_meaning.specs.Sites.{Site, iterator}
+use Rattle.isle_meaning.specs.Elaborated.{IsElaborated, OpensItsMultiCalls}
 use Rattle.isle_meaning.specs.Laws.Calls.{ExprCalls}
-use Rattle.isle_meaning.specs.Laws.Matching.{DemandOf}
 use Rattle.isle_blocks.specs.DefinedSets.{IsSetOf}
 use Rattle.isle_blocks.specs.RuleSets.{RulesOverSites}
 use Rattle.isle_blocks.specs.Rows.{IsInjective}
@@ -22,12 +18,8 @@ pub record IsElaboratedSet (name : Sym → List ℕ) (facts : TermFacts) (source
   pub fit : (i : ℕ) (rule : TypedRule) → slice_get rules i ≡ Some rule → rule.root ≡ term → IsElaborated facts types rule
   pub is : IsSetOf name facts sources rules term set
 
--- each content in what a multi call of the rule is made of has its test among what the rule demands
-abbrev pub OpensItsMultiCalls : TermFacts → TypedRule → Type 0
-OpensItsMultiCalls facts rule =
-    (s : Site) → IsNeeded (needs_of facts rule) (iterator s) → (d : Demand) → Among (contents s) d → DemandOf facts rule d
-
--- The rules of a `multi` term: they have no priority, their right sides call nothing partial, and each multi call has its tests.
+-- The rules of a `multi` term: they have no priority, their right sides call nothing partial, and what the multi calls of their if-lets
+-- are made of has its tests.
 pub record IsMultiTerm (facts : TermFacts) (rules : List TypedRule) (term : ℕ) : Type 0 where
   pub multi : facts.multi term ≡ true
   pub even : (i : ℕ) (rule : TypedRule) → slice_get rules i ≡ Some rule → rule.root ≡ term → rule.priority ≡ pos 0

@@ -16,6 +16,7 @@ use Rattle.isle_meaning.specs.Demands.{opens, parts, bound, bound_all, demands, 
 use Rattle.isle_meaning.specs.Demands.{iflets_demands, nothing, args_bound, vars_of, demands_of, impure_of, result_of, some_of, Among}
 use Rattle.isle_meaning.specs.Derived.{Derived, demanded, flipped, chained, shared, like_variant, like_struct}
 use Rattle.isle_meaning.specs.Holds.{Each}
+use Rattle.isle_meaning.specs.Elaborated.{IfLetsNeed}
 use Rattle.isle_meaning.specs.Laws.Calls.{CallOf, ExprCalls, ExprsCall, BindingsCall}
 use Rattle.isle_meaning.specs.Laws.Matching.{DemandOf}
 use Rattle.isle_meaning.specs.Needs.{from_on, extract_needs, output_needs, open_needs, needs, needs_all, args_needs, Log, no_log, need}
@@ -486,20 +487,16 @@ module _ (facts : TermFacts) (D : Demand → Type 0) (N : Site → Type 0) where
     all_contents (more_sites s ss) h =
         each_append (SpeaksOf A) (contents s) (contents_all ss) (contents_own s (h s (inl refl))) (all_contents ss (λ u m. h u (inr m)))
 
-  -- a site whose contents are demanded is its own
-  abbrev IfOpen : Site → Type 0
-  IfOpen s = Within (contents s) D → A s
-
-  -- so are such that are
-  all_open : (ss : List Site) → EachSite A ss → EachSite IfOpen ss
-  all_open [] h = tt
-  all_open (s ∷ ss) h = (λ w. h.0, all_open ss (h.1))
+  -- a site of if-lets is its own, if its contents are demanded where an expression needs it
+  abbrev IfOpen : List TypedIfLet → (ℕ → Site) → Site → Type 0
+  IfOpen xs vars s = (IfLetsNeed facts xs vars s → Within (contents s) D) → A s
 
   -- what if-lets demand, bind and need
   iflets_own : (xs : List TypedIfLet) (vars : ℕ → Site) → AllOwn vars → Within (iflets_demands facts xs vars) D
       → AreIn (iflets_needs facts xs vars) N
-      → Each (SpeaksOf A) (iflets_demands facts xs vars) × AllOwn (iflets_bound facts xs vars) × EachSite IfOpen (iflets_needs facts xs vars)
-  iflets_own [] vars v w n = (tt, v, tt)
+      → Each (SpeaksOf A) (iflets_demands facts xs vars) × AllOwn (iflets_bound facts xs vars)
+      × ((s : Site) → IsNeeded (iflets_needs facts xs vars) s → IfOpen xs vars s)
+  iflets_own [] vars v w n = (tt, v, λ s i. absurd i)
   iflets_own (x ∷ xs) vars v w n =
       let site = iflet_site facts vars x in
       let asked = (visit facts vars no_log x.value).1.needed in
@@ -508,13 +505,19 @@ module _ (facts : TermFacts) (D : Demand → Type 0) (N : Site → Type 0) where
       let (g, (im, all)) = visit_gives (λ t. Unit {0}) (λ s. Within (contents s) D) contents_down (λ t ss i q e z. z _ (inl refl))
       x.value vars no_log (any_calls facts x.value) (λ k z. v k) (tt, tt) (in_left asked _ n) in
       let same = (visited facts vars x.value (λ k. var_word k) vars (λ j. refl) [] no_log refl).0 in
-      let h : A site = subst IfOpen same g first in
+      let h : A site = subst (λ (z : Site). Within (contents z) D → A z) same g first in
       let ds = demands facts x.pattern site vars in let ns = needs facts x.pattern site in
       let (a, b, c) = pattern_own x.pattern vars site v h (ds_left ds _ rest) (in_left ns _ later) in
       let (d, e, f) = iflets_own xs (bound facts x.pattern site vars) b (ds_right ds _ rest) (in_right ns _ later) in (
         each_append (SpeaksOf A) (contents site) _ (contents_own site h) (each_append (SpeaksOf A) ds _ a d),
         e,
-        sites_append IfOpen asked _ all (sites_append IfOpen ns _ (all_open ns c) f),
+        λ s i fine. elim (needed_either s asked _ i) [
+          | inl k ↦ each_needed (λ (u : Site). Within (contents u) D → A u) asked s all k (fine (inl k))
+          | inr k ↦ elim (needed_either s ns _ k) [
+            | inl l ↦ each_needed A ns s c l
+            | inr l ↦ f s l (λ z. fine (inr z))
+          ]
+        ],
       )
 
 module _ (D E : Demand → Type 0) (N : Site → Type 0) (more : (d : Demand) → D d → E d) where
@@ -571,13 +574,14 @@ module _ (facts : TermFacts) (rule : TypedRule) where
   abbrev N : Site → Type 0
   N = IsNeeded (needs_of facts rule)
 
-  -- each site is one whose contents are demanded, or isn't
-  abbrev IsOpened : Site → Type 0
-  IsOpened s = Within (contents s) D → AreOwn D N s
+  -- the contents of a site are demanded, where the expression of an if-let needs it
+  abbrev pub IsOpened : Site → Type 0
+  IsOpened s = IfLetsNeed facts rule.iflets (args_bound facts rule) s → (d : Demand) → Among (contents s) d → DemandOf facts rule d
 
   -- of its demands, its variables, and what it needs before its right side
   rule_own : Each (SpeaksOf (AreOwn D N)) (demands_of facts rule) × ((k : ℕ) → AreOwn D N (vars_of facts rule k))
-      × EachSite IsOpened (args_needs facts rule.args 0 ++ iflets_needs facts rule.iflets (args_bound facts rule))
+      × ((s : Site) → IsNeeded (args_needs facts rule.args 0 ++ iflets_needs facts rule.iflets (args_bound facts rule)) s → IsOpened s
+      → AreOwn D N s)
   rule_own =
       let args = demands_all facts rule.args argument nothing in
       let asked = args_needs facts rule.args 0 in
@@ -592,7 +596,10 @@ module _ (facts : TermFacts) (rule : TypedRule) where
       (in_left facts D N (iflets_needs facts rule.iflets (args_bound facts rule)) _ (in_right facts D N asked _ every)) in (
         each_append (SpeaksOf (AreOwn D N)) args _ a d,
         e,
-        sites_append IsOpened asked _ (all_open facts D N asked (args_own facts D N rule.args 0 argument from_first c)) f,
+        λ s i fine. elim (needed_either s asked _ i) [
+          | inl k ↦ each_needed (AreOwn D N) asked s (args_own facts D N rule.args 0 argument from_first c) k
+          | inr k ↦ f s k fine
+        ],
       )
 
   -- What follows from a rule's demands speaks of sites whose fields and contents have their tests, and whose values of multi calls are needed.
@@ -646,16 +653,14 @@ module _ (facts : TermFacts) (rule : TypedRule) where
           subst (EachSite (AreOwn (Derived D) N)) (written.1) (each_more ((visit facts (vars_of facts rule) no_log rule.right).1.impure) im),
         )
 
-    -- So does each site that it needs whose contents it demands.
-    pub needed_own : (s : Site) → IsNeeded (needs_of facts rule) s → ((d : Demand) → Among (contents s) d → DemandOf facts rule d)
-        → AreOwn (Derived D) N s
-    needed_own s i w =
+    -- So does each site that it needs, if its contents are demanded where the expression of an if-let needs it.
+    pub needed_own : (s : Site) → IsNeeded (needs_of facts rule) s → IsOpened s → AreOwn (Derived D) N s
+    needed_own s i fine =
         let asked = args_needs facts rule.args 0 in let later = iflets_needs facts rule.iflets (args_bound facts rule) in
-        let front : EachSite IsOpened asked × EachSite IsOpened later = each_split IsOpened asked later (rule_own.2) in
         elim (needed_either s asked _ i) [
-          | inl k ↦ more_own s (each_needed IsOpened asked s (front.0) k w)
+          | inl k ↦ more_own s (rule_own.2 s (needed_left s asked later k) fine)
           | inr k ↦ elim (needed_either s later _ k) [
-            | inl j ↦ more_own s (each_needed IsOpened later s (front.1) j w)
+            | inl j ↦ more_own s (rule_own.2 s (needed_right s asked later j) fine)
             | inr j ↦ more_own s (each_needed Freely ((visit facts (vars_of facts rule) no_log rule.right).1.needed) s (right_gives.1.1) j tt)
           ]
         ]

@@ -14,7 +14,7 @@ use Rattle.isle_meaning.specs.Demands.{Demand, result_of}
 use Rattle.isle_meaning.specs.Derived.{Derived, FieldOf}
 use Rattle.isle_meaning.specs.Needs.{needs_of, IsNeeded}
 use Rattle.isle_meaning.specs.Kinds.{HasItsKind, IsOfItsKind}
-use Rattle.isle_meaning.specs.Elaborated.{IsElaborated}
+use Rattle.isle_meaning.specs.Elaborated.{IsElaborated, OpensItsMultiCalls, IfLetsHaveNoLet}
 use Rattle.isle_meaning.specs.Laws.Matching.{DemandOf}
 
 -- The sites that a rule needs, its result, and the fields that its demands open are of their kinds, so that one value is taken of multi
@@ -49,3 +49,7 @@ NoneIsMultiAndPartial =
     (types : Environment) (expands : Bool) (levels max : ℕ) (defs : List Def) (environment : TermEnvironment)
     → MakesTerms types expands levels max defs environment → (t : ℕ) → (facts_of (declared_by types expands environment)).multi t ≡ true
     → (facts_of (declared_by types expands environment)).partial t ≡ false
+
+-- A rule whose if-lets have no `let` opens its multi calls.
+abbrev pub RulesWithoutLetsOpen : Type 0
+RulesWithoutLetsOpen = (facts : TermFacts) (rule : TypedRule) → IfLetsHaveNoLet rule.iflets → OpensItsMultiCalls facts rule
