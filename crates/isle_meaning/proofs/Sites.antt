@@ -29,7 +29,7 @@ pub mod OwnTests
 pub mod RightSites
 -- Fields, contents and values of multi calls in what any rule demands and has.
 pub mod Owned
--- Sites whose impure calls are taken as functions.
-pub mod PureSites
+-- What sites hold where calls are functions.
+pub mod Functional
 -- Contents in the multi calls of if-lets have their tests.
 pub mod Opened

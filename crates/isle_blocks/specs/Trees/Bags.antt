@@ -1,16 +1,16 @@
 -- What the rule sets of `multi` terms give to the theory of trees: the bag of their rules.
-use Rattle.std.specs.Prelude.{◌≡◌, ◌⊎◌, ◌↔◌, ℕ, List, length, true, Some, slice_get}
+use Rattle.std.specs.Prelude.{Option, ◌≡◌, ◌⊎◌, ◌↔◌, ℕ, List, length, true, Some, slice_get}
 use Rattle.isle_types.specs.declared.ids.Sym.{Sym}
 use Rattle.isle_terms.specs.declared.rules.Rule as source
 use Rattle.isle_terms.specs.TypedRules.{TypedRule}
 use Rattle.isle_terms.specs.Shown.TermTables.{TermTables}
 use Rattle.isle_meaning.specs.Got.{Got}
-use Rattle.isle_meaning.specs.Values.{Values, count}
-use Rattle.isle_meaning.specs.Functions.{AreFiniteFunctions, as_pure}
+use Rattle.isle_meaning.specs.Values.{Value, Values, count}
+use Rattle.isle_meaning.specs.Functions.{AreFiniteFunctions, AreAsFunctions}
 use Rattle.isle_meaning.specs.Elaborated.{OpensItsMultiCalls}
 use Rattle.isle_meaning.specs.Facts.{TermFacts}
 use Rattle.isle_meaning.specs.Answers.{Completion}
-use Rattle.isle_meaning.specs.Held.{Held}
+use Rattle.isle_meaning.specs.Held.{Held, value}
 use Rattle.isle_meaning.specs.Holds.{Holds, IsProper, Respects}
 use Rattle.isle_meaning.specs.Demands.{Demand, constrained, equal}
 use Rattle.isle_meaning.specs.Derived.{Derived}
@@ -21,7 +21,7 @@ use Rattle.isle_blocks.specs.declared.constraint.Constraint.{Constraint}
 use Rattle.isle_blocks.specs.AddedRules.{IsMultiCall}
 use Rattle.isle_blocks.specs.DefinedSets.{AreDefined, IsSetOf, name_of, facts_by, rules_by}
 use Rattle.isle_blocks.specs.Rows.{rows_of}
-use Rattle.isle_blocks.specs.Trees.Functions.{functions_of, lists_of, functions_model, items_of, held_at, HasItem, TakesItsPlaces}
+use Rattle.isle_blocks.specs.Trees.Functions.{functions_of, lists_of, functions_model, items_of, HasItem, TakesItsPlaces}
 use Rattle.isle_blocks.specs.RuleSets.{RulesOverSites}
 use Rattle.isle_blocks.specs.Trees.Choices.{HavePriorities}
 use Rattle.isle_blocks.specs.Trees.Deciding.{matches_here}
@@ -104,25 +104,26 @@ WalksMakeBags = OfElaborated (λ name facts sources rules term set h. IsMultiTer
     → (p : Picks Held)
     → IsSameBag (walk_all (rules_of name set) (functions_model name set facts c args) T p) (bag_of name set (functions_model name set facts c args) p))
 
--- Where of each multi call that a site is made of the item at its place is taken, the site is what it holds, and a multi call lists the
--- items that it holds.
+-- Where of each multi call that a site is made of the item at its place is taken, and impure calls were answered as functions answer them,
+-- the site is what it holds, and a multi call lists the items that it holds.
 abbrev pub SitesHoldTheirValues : Type 0
-SitesHoldTheirValues = OfElaborated (λ name facts sources rules term set h. (c : Completion) (args : Values) → AreFiniteFunctions facts c
-    → count args ≡ length h.types → (p : Picks Held) (s : Site) (k : ℕ) → At (rows_of name set.sites) s k
-    → TakesItsPlaces name set facts c args p s
-    → ((functions_model name set facts c args).values p k ≡ held_at facts c args s)
-    × ((functions_model name set facts c args).many p k ≡ items_of (held_at facts c args s)))
+SitesHoldTheirValues = OfElaborated (λ name facts sources rules term set h. (c : Completion) (args : Values) (done : List (Option Value))
+    → AreFiniteFunctions facts c → count args ≡ length h.types → (p : Picks Held) (s : Site) (k : ℕ) → At (rows_of name set.sites) s k
+    → TakesItsPlaces name set facts c args done p s → AreAsFunctions facts c args done s
+    → ((functions_model name set facts c args).values p k ≡ value facts c args done s)
+    × ((functions_model name set facts c args).many p k ≡ items_of (value facts c args done s)))
 
 -- So a rule of a `multi` term matches, where of each of its multi calls the item at its place is taken, exactly where what its typed rule
 -- demands holds of what its sites hold.
 abbrev pub RulesMatchAtPlaces : Type 0
 RulesMatchAtPlaces = OfElaborated (λ name facts sources rules term set h. IsMultiTerm facts rules term → (c : Completion) (args : Values)
-    → AreFiniteFunctions facts c → count args ≡ length h.types → (p : Picks Held) (i place : ℕ) (rule : TypedRule)
-    → slice_get h.is.places i ≡ Some place → slice_get rules place ≡ Some rule
+    (done : List (Option Value)) → AreFiniteFunctions facts c → count args ≡ length h.types → (p : Picks Held) (i place : ℕ)
+    (rule : TypedRule) → slice_get h.is.places i ≡ Some place → slice_get rules place ≡ Some rule
     → ((s : Site) (k : ℕ) → IsMultiCall facts (facts.partial rule.root) rule s → At (rows_of name set.sites) s k
-    → HasItem (held_at facts c args s) (c.place (as_pure s)) (p k))
+    → HasItem (value facts c args done s) (c.place s) (p k))
+    → ((s : Site) → IsAskedSite facts rule s → AreAsFunctions facts c args done s)
     → Matches (rules_of name set) ((functions_model name set facts c args).values p) i
-    ↔ ((d : Demand) → DemandOf facts rule d → IsProper d → Holds (held_at facts c args) d))
+    ↔ ((d : Demand) → DemandOf facts rule d → IsProper d → Holds (value facts c args done) d))
 
 -- The rule set of definitions for any term is such a set.
 abbrev pub BuiltSetsAreElaborated : Type 0

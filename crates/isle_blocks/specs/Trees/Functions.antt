@@ -2,7 +2,7 @@
 use Rattle.std.specs.Prelude.{◌≡◌, ℕ, List, [], map, true, Option, Some, None}
 use Rattle.isle_types.specs.declared.ids.Sym.{Sym}
 use Rattle.isle_meaning.specs.Got.{Got, unknown, fails, gives}
-use Rattle.isle_meaning.specs.Values.{Values, nth_of}
+use Rattle.isle_meaning.specs.Values.{Value, Values, nth_of}
 use Rattle.isle_meaning.specs.Facts.{TermFacts}
 use Rattle.isle_meaning.specs.Answers.{Completion}
 use Rattle.isle_meaning.specs.Held.{Held, held_value, held_outputs, held_none, held_some, held_answers, outputs_of, value}
@@ -52,15 +52,11 @@ module _ (name : Sym → List ℕ) (set : RulesOverSites) (facts : TermFacts) (c
   abbrev pub functions_model : Model Held
   functions_model = model_of (rules_of name set) functions_of lists_of (λ p. true)
 
--- what a site holds, where impure calls are functions too and of each multi call the item at its place is taken
-abbrev pub held_at : TermFacts → Completion → Values → Site → Got Held
-held_at facts c args s = value facts c args [] (as_pure s)
-
 -- a list is held, and this is its item at a place
 abbrev pub HasItem : Got Held → ℕ → Held → Type 0
 HasItem g n x = (l : List Values) × (vs : Values) × (g ≡ gives (held_answers l)) × (nth_of l n ≡ gives vs) × (x ≡ outputs_of vs)
 
 -- of each multi call of which the site takes an item, the one at its place is taken
-abbrev pub TakesItsPlaces : (Sym → List ℕ) → RulesOverSites → TermFacts → Completion → Values → Picks Held → Site → Type 0
-TakesItsPlaces name set facts c args p s = (u : Site) (k : ℕ) → IsSubtree (iterator u) s → At (rows_of name set.sites) u k
-    → HasItem (held_at facts c args u) (c.place (as_pure u)) (p k)
+abbrev pub TakesItsPlaces : (Sym → List ℕ) → RulesOverSites → TermFacts → Completion → Values → List (Option Value) → Picks Held → Site → Type 0
+TakesItsPlaces name set facts c args done p s = (u : Site) (k : ℕ) → IsSubtree (iterator u) s → At (rows_of name set.sites) u k
+    → HasItem (value facts c args done u) (c.place u) (p k)
