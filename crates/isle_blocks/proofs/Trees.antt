@@ -43,6 +43,8 @@ pub mod Functional
 pub mod MatchedByNumbers
 -- Sites are what they hold where items are taken at places.
 pub mod AtPlaces
+-- Each way takes items.
+pub mod Ways
 -- Those of definitions.
 pub mod DefinedMany
 -- Worked cases.

@@ -27,7 +27,7 @@ ghost use Rattle.isle_blocks.specs.Trees.Laws.{AnswersAreMadeByParts, AnswersAgr
 ghost use Rattle.isle_blocks.specs.Trees.Laws.{MachinesWalk, WalksChooseAsTyped, BuiltSetsAreRunnable, DefinitionsHavePriorities};
 ghost use Rattle.isle_blocks.specs.Trees.Bags.{ElaboratedAreWellMade, ElaboratedAreListed, MultiSetsAreMany, FunctionsAreFunctions};
 ghost use Rattle.isle_blocks.specs.Trees.Bags.{RulesMatchByNumbers, WalksMakeBags, SitesHoldTheirValues, RulesMatchAtPlaces};
-ghost use Rattle.isle_blocks.specs.Trees.Bags.{MatchingIsDecided, MatchingRulesAreListed, BuiltSetsAreElaborated, BuiltMultiTerms};
+ghost use Rattle.isle_blocks.specs.Trees.Bags.{MatchingIsDecided, MatchingRulesAreListed, WaysTakeItems, BuiltSetsAreElaborated, BuiltMultiTerms};
 ghost use Rattle.isle_blocks.specs.Hashes.{binding_hash, constraint_hash};
 
 use crate::binding::Binding;
@@ -278,6 +278,11 @@ pub fn walks_make_bags()
 /// items that it holds.
 pub fn sites_hold_their_values()
     ensures { SitesHoldTheirValues }
+{}
+
+/// Each way that a rule has takes of each of its multi calls one of the items that this lists.
+pub fn ways_take_items()
+    ensures { WaysTakeItems }
 {}
 
 /// So a rule of a `multi` term matches exactly where what its typed rule demands holds of what its sites hold.

@@ -140,8 +140,8 @@ module _ (name : Sym → List ℕ) (facts : TermFacts) (sources : List source.Ru
       let (r, at, l) = loop_of_rule name facts sources rules term set h.injective h.is i s e in
       rw at (number_in (λ (id : BindingId). id.0) r.iterators (id_of s) (found_loop r s l))
 
-  -- they ascend
-  ascending : (i : ℕ) → IsAscending (R.loops i)
+  -- A rule's multi calls ascend.
+  pub ascending : (i : ℕ) → IsAscending (R.loops i)
   ascending i = elim (none_or (slice_get set.rules i)) [
     | inl none ↦ rw none tt
     | inr there ↦

@@ -28,12 +28,12 @@ use Rattle.isle_blocks.specs.Trees.Deciding.{matches_here}
 use Rattle.isle_blocks.specs.Trees.ElaboratedSets.{IsElaboratedSet, IsMultiTerm}
 use Rattle.isle_blocks.specs.Trees.View.{rules_of}
 use Rattle.isle_trees.specs.Answers.{Answers, HasValue}
-use Rattle.isle_trees.specs.Bag.{Picks, Model, Round, IsMany, IsSameBag, walk_all, bag}
+use Rattle.isle_trees.specs.Bag.{Picks, Model, Round, ways, IsMany, IsSameBag, walk_all, bag}
 use Rattle.isle_trees.specs.Builds.{Builds}
 use Rattle.isle_trees.specs.Calls.{AreFunctions}
 use Rattle.isle_trees.specs.Premises.{IsWellMade}
 use Rattle.isle_trees.specs.Reads.{IsListed}
-use Rattle.isle_trees.specs.Rules.{Matches}
+use Rattle.isle_trees.specs.Rules.{Elem, Matches}
 use Rattle.isle_trees.specs.Scopes.{nothing_known}
 use Rattle.isle_trees.specs.Search.{below}
 use Rattle.isle_trees.specs.Tree.{Steps}
@@ -112,6 +112,12 @@ SitesHoldTheirValues = OfElaborated (λ name facts sources rules term set h. (c 
     → TakesItsPlaces name set facts c args done p s → AreAsFunctions facts c args done s
     → ((functions_model name set facts c args).values p k ≡ value facts c args done s)
     × ((functions_model name set facts c args).many p k ≡ items_of (value facts c args done s)))
+
+-- Each way that a rule has takes of each of its multi calls one of the items that this lists.
+abbrev pub WaysTakeItems : Type 0
+WaysTakeItems = OfElaborated (λ name facts sources rules term set h. (c : Completion) (args : Values) (i : ℕ) (p g : Picks Held)
+    → Elem g (ways (functions_model name set facts c args) ((rules_of name set).loops i) p) → (k : ℕ) → Elem k ((rules_of name set).loops i)
+    → Elem (g k) ((functions_model name set facts c args).many g k))
 
 -- So a rule of a `multi` term matches, where of each of its multi calls the item at its place is taken, exactly where what its typed rule
 -- demands holds of what its sites hold.
