@@ -27,7 +27,15 @@ pub mod Makes
 pub mod Premises
 -- The choice of a walk, as the typed rules say it.
 pub mod Choices
+-- The rule sets of any terms, and of `multi` ones.
+pub mod ElaboratedSets
 -- What the theory of trees asks of a rule set.
 pub mod Laws
 -- What the tree of a rule set promises.
 pub mod Promises
+-- What sites are where calls are functions into finite lists.
+pub mod Functions
+-- Whether a rule of a set matches.
+pub mod Deciding
+-- What the rule sets of `multi` terms give.
+pub mod Bags

@@ -25,6 +25,9 @@ ghost use Rattle.isle_blocks.specs.Trees.Laws.{EachCanBeBuilt, SetsCanBeBuilt, S
 ghost use Rattle.isle_blocks.specs.Trees.Laws.{SetsHaveTheirTests, FieldsAreLookedUp, FoundSitesArePlaces, AnswersRespect, AnswersAreStrict};
 ghost use Rattle.isle_blocks.specs.Trees.Laws.{AnswersAreMadeByParts, AnswersAgree, AnswersKnowWhatIsAsked, OpenSitesAreCalls, RulesMatchAsTyped};
 ghost use Rattle.isle_blocks.specs.Trees.Laws.{MachinesWalk, WalksChooseAsTyped, BuiltSetsAreRunnable, DefinitionsHavePriorities};
+ghost use Rattle.isle_blocks.specs.Trees.Bags.{ElaboratedAreWellMade, ElaboratedAreListed, MultiSetsAreMany, FunctionsAreFunctions};
+ghost use Rattle.isle_blocks.specs.Trees.Bags.{RulesMatchByNumbers, WalksMakeBags, SitesHoldTheirValues, RulesMatchAtPlaces};
+ghost use Rattle.isle_blocks.specs.Trees.Bags.{MatchingIsDecided, MatchingRulesAreListed, WaysTakeItems, BuiltSetsAreElaborated, BuiltMultiTerms};
 ghost use Rattle.isle_blocks.specs.Hashes.{binding_hash, constraint_hash};
 
 use crate::binding::Binding;
@@ -235,4 +238,61 @@ pub fn built_sets_are_runnable()
 /// Rules of definitions have the priorities of the typed rules.
 pub fn definitions_have_priorities()
     ensures { DefinitionsHavePriorities }
+{}
+
+/// The rule sets of any terms are well made, and list the fields of their tests and the values of their multi calls.
+pub fn any_rule_sets_are_well_made()
+    ensures made { ElaboratedAreWellMade }
+    ensures listed { ElaboratedAreListed }
+{}
+
+/// Those of `multi` terms have no priorities, and all that a rule has, has its tests and its multi calls.
+pub fn multi_sets_are_many()
+    ensures { MultiSetsAreMany }
+{}
+
+/// Calls that are functions into finite lists are as the bag asks.
+pub fn functions_are_functions()
+    ensures { FunctionsAreFunctions }
+{}
+
+/// A rule of the set matches exactly where what its typed rule demands holds of what its sites hold, and its multi calls have lists.
+pub fn rules_match_by_numbers()
+    ensures { RulesMatchByNumbers }
+{}
+
+/// Whether a rule matches is decided by its tests, its multi calls and its classes, and one of which all that it demands holds is in the
+/// set.
+pub fn matching_is_decided()
+    ensures decided { MatchingIsDecided }
+    ensures listed { MatchingRulesAreListed }
+{}
+
+/// The walk of a `multi` term's tree answers the bag of its rules: for each rule, and each way to take one item of each multi call that
+/// it has, one answer where it matches then.
+pub fn walks_make_bags()
+    ensures { WalksMakeBags }
+{}
+
+/// Where of each multi call that a site is made of the item at its place is taken, the site is what it holds, and a multi call lists the
+/// items that it holds.
+pub fn sites_hold_their_values()
+    ensures { SitesHoldTheirValues }
+{}
+
+/// Each way that a rule has takes of each of its multi calls one of the items that this lists.
+pub fn ways_take_items()
+    ensures { WaysTakeItems }
+{}
+
+/// So a rule of a `multi` term matches exactly where what its typed rule demands holds of what its sites hold.
+pub fn rules_match_at_places()
+    ensures { RulesMatchAtPlaces }
+{}
+
+/// The rule set of definitions for any term has rules as elaboration makes them; those of a `multi` term have no priority, and their
+/// right sides call nothing partial.
+pub fn built_sets_are_elaborated()
+    ensures sets { BuiltSetsAreElaborated }
+    ensures multi { BuiltMultiTerms }
 {}

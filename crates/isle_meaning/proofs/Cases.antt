@@ -11,3 +11,5 @@ pub mod TriedRules
 pub mod SpentRuns
 -- Values of types, at both ends of a range.
 pub mod TypedValues
+-- A multi call in a `let` that is not used.
+pub mod UnusedLets

@@ -27,6 +27,8 @@ pub mod Sorting
 pub mod Whole
 -- Equalities of a site with itself; what faults mean for matching.
 pub mod Leaving
+-- What follows where demands hold, equalities of a site with itself aside.
+pub mod Proper
 -- Recorded numbers say the demands.
 pub mod Numbering
 -- Fields and contents are made by tests.
@@ -39,3 +41,5 @@ pub mod Needing
 pub mod Bridging
 -- The terms of variants and structs take exactly their fields.
 pub mod MadeFields
+-- No term is `multi` and partial.
+pub mod OneAnswer

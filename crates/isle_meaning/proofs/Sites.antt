@@ -27,3 +27,9 @@ pub mod Made
 pub mod OwnTests
 -- A right side is what its sites say.
 pub mod RightSites
+-- Fields, contents and values of multi calls in what any rule demands and has.
+pub mod Owned
+-- What sites hold where calls are functions.
+pub mod Functional
+-- Contents in the multi calls of if-lets have their tests.
+pub mod Opened

@@ -10,3 +10,5 @@ pub mod Plain
 pub mod Order
 -- Positions of definitions and rules.
 pub mod Spelling
+-- What holds of each rule that elaboration makes.
+pub mod Elaborated

@@ -34,6 +34,8 @@ pub mod Scopes
 pub mod Typing
 -- The types of a rule's variables.
 pub mod Variables
+-- Rules as elaboration makes them, whatever terms they ask.
+pub mod Elaborated
 -- Sites as numbers of a table.
 pub mod Numbered
 -- Sites whose fields and contents are made by tests.
@@ -68,6 +70,8 @@ pub mod TypedWords
 pub mod Parts
 -- Sites whose parts are of the kinds that they take.
 pub mod Kinds
+-- Completions whose calls are functions into finite lists.
+pub mod Functions
 -- The impure calls that a site has.
 pub mod ImpureCalls
 -- The calls that a rule's patterns and if-lets have.

@@ -1,6 +1,7 @@
 //! Laws: public functions with nothing to do, whose contracts are statements about definitions.
 
 mod calls;
+mod elaborated;
 mod matching;
 mod sites;
 
@@ -8,6 +9,10 @@ pub use calls::{
     chain_stays, chains_join, completions_extend, end_stays, ends_are_asked, meaning_stays,
     meanings_are_typed, no_cycles_none_spent, no_overlaps_no_ties, one_meaning, one_meaning_always,
     plain_runs_are_meant, plain_runs_begin_so, run_stays, trees_are_one, typed_rules_call_well,
+};
+pub use elaborated::{
+    definitions_are_elaborated, elaborated_are_kinded, none_is_multi_and_partial,
+    rules_without_lets_open, typed_rules_are_elaborated,
 };
 pub use matching::{
     both_match_overlap, demands_are_tested, demands_suit, derived_is_tested, elaborated_rules_fit,

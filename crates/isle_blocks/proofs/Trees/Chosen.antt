@@ -42,8 +42,8 @@ use Rattle.isle_blocks.proofs.Trees.Respected.{respects, held_agree}
 use Rattle.isle_blocks.proofs.Trees.Answered.{answers_are_strict, answers_are_made_by_parts}
 use Rattle.isle_blocks.proofs.Trees.Matched.{knows_asked, matches_as_typed}
 
--- what stands at a place of the first list has its own in the second
-zip_left : {A B : Type 0} (R : A → B → Type 0) (xs : List A) (ys : List B) (i : ℕ) (x : A) → AllZip R xs ys → slice_get xs i ≡ Some x
+-- What stands at a place of the first list has its own in the second.
+pub zip_left : {A B : Type 0} (R : A → B → Type 0) (xs : List A) (ys : List B) (i : ℕ) (x : A) → AllZip R xs ys → slice_get xs i ≡ Some x
     → (y : B) × (slice_get ys i ≡ Some y) × R x y
 zip_left R [] [] i x h e = absurd (none-some x e)
 zip_left R [] (z ∷ ys) i x h e = absurd h

@@ -47,8 +47,8 @@ use Rattle.isle_meaning.proofs.Sites.DerivedKinds.{rules_are_kinded}
 use Rattle.isle_blocks.proofs.Trees.WellMade.{made_rule, kinds_of, derived_test, suits_of, no_loops, well_made}
 
 module _ (name : Sym → List ℕ) (facts : TermFacts) (tys : List ℕ) (t : Site) where
-  -- tests of one site that open one field are one
-  same_opening : (kind : Option ℕ) (i : ℕ) (c d : Constraint) → opens_field kind i c ≡ true → opens_field kind i d ≡ true
+  -- Tests of one site that open one field are one.
+  pub same_opening : (kind : Option ℕ) (i : ℕ) (c d : Constraint) → opens_field kind i c ≡ true → opens_field kind i d ≡ true
       → Suits facts tys (constrained t (test_of name c)) → Suits facts tys (constrained t (test_of name d))
       → HasItsFields facts (test_of name c) → HasItsFields facts (test_of name d) → test_of name c ≡ test_of name d
   same_opening (Some k) i (tests.Variant ty v n) (tests.Variant uy w m) e f p q a b =
@@ -123,8 +123,8 @@ opens_made (Some k) s i (tests.Variant ty v n) e =
 opens_made None s i (tests.Struct ty n) e = elem_below (struct_field (id_of s)) n.0 i (grind (arith, nat_tests))
 opens_made kind s i c e = absurd cc
 
--- what a test makes is among what it makes
-made_in : (rules : List Rule) (b : Binding) (s : ℕ) (c : Constraint) → made_by rules b ≡ Some (record { site = s; want = has c })
+-- What a test makes is among what it makes.
+pub made_in : (rules : List Rule) (b : Binding) (s : ℕ) (c : Constraint) → made_by rules b ≡ Some (record { site = s; want = has c })
     → Elem b (bindings_made c (id_of s))
 made_in rules (sites.MatchVariant a v i) s c e =
     let m = same_Some _ _ e in

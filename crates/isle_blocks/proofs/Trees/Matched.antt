@@ -43,8 +43,8 @@ use Rattle.isle_blocks.proofs.Trees.WellMade.{made_rule, fit_of, derived_test, w
 use Rattle.isle_blocks.proofs.Trees.Listed.{uses_no_multi}
 use Rattle.isle_blocks.proofs.Trees.Asked.{asked_rule, asked_holds, its_test}
 
--- what passes is there
-passed : (name : Sym → List ℕ) (set : RulesOverSites) (d : Constraint) (g : Got Held) → passes_got (rules_of name set) d g ≡ true
+-- What passes is there.
+pub passed : (name : Sym → List ℕ) (set : RulesOverSites) (d : Constraint) (g : Got Held) → passes_got (rules_of name set) d g ≡ true
     → (x : Held) × (g ≡ gives x) × (meets name d x ≡ true)
 passed name set d unknown e = absurd cc
 passed name set d fails e = absurd cc

@@ -42,8 +42,8 @@ use Rattle.isle_meaning.proofs.Sites.HeldKinds.{nth_there, whole, IsWhole}
 use Rattle.isle_blocks.proofs.Trees.Answered.{parts_valued, held_plain}
 use Rattle.isle_blocks.proofs.Trees.Listed.{site_kinded, no_iterator, opening_opens}
 
--- what meets a test that opens a field has the field
-variant_there : (name : Sym → List ℕ) (k i : ℕ) (c : Constraint) (x : Held) → opens_field (Some k) i c ≡ true → holds.Meets (test_of name c) x
+-- What meets a test that opens a field has the field.
+pub variant_there : (name : Sym → List ℕ) (k i : ℕ) (c : Constraint) (x : Held) → opens_field (Some k) i c ≡ true → holds.Meets (test_of name c) x
     → (ty : ℕ) × (vs : Values) × (y : Value) × (x ≡ held_value (made_variant ty k vs)) × (nth vs i ≡ gives y)
 variant_there name k i (tests.Variant ty v n) x o (vs, p, q) =
     let b = and_both (v.0 == k) (nat_lt i n.0) o in
@@ -53,8 +53,8 @@ variant_there name k i (tests.Variant ty v n) x o (vs, p, q) =
     (ty.0, vs, y, p ∙ ap (λ (j : ℕ). held_value (made_variant ty.0 j vs)) e, at)
 variant_there name k i c x o m = absurd cc
 
--- what meets one of a struct has its field
-struct_there : (name : Sym → List ℕ) (i : ℕ) (c : Constraint) (x : Held) → opens_field None i c ≡ true → holds.Meets (test_of name c) x
+-- What meets one of a struct has its field.
+pub struct_there : (name : Sym → List ℕ) (i : ℕ) (c : Constraint) (x : Held) → opens_field None i c ≡ true → holds.Meets (test_of name c) x
     → (ty : ℕ) × (vs : Values) × (y : Value) × (x ≡ held_value (made_struct ty vs)) × (nth vs i ≡ gives y)
 struct_there name i (tests.Struct ty n) x o (vs, p, q) =
     let l : i < n.0 = grind (arith, nat_tests) in

@@ -38,26 +38,26 @@ use Rattle.isle_trees.proofs.Basics.{true_or, none_or}
 
 -- ---- by the kinds of sites
 
--- what a test makes is no call
-made_pure : (rules : List Rule) (b : Binding) (m : Source Constraint) → made_by rules b ≡ Some m → is_impure b ≡ false
+-- What a test makes is no call.
+pub made_pure : (rules : List Rule) (b : Binding) (m : Source Constraint) → made_by rules b ≡ Some m → is_impure b ≡ false
 made_pure rules (sites.Constructor t ps n) m e = absurd cc
 made_pure rules b m e = refl
 
--- it is bound
-made_stands : (rules : List Rule) (b : Binding) (m : Source Constraint) → made_by rules b ≡ Some m → is_bound b ≡ true
+-- It is bound.
+pub made_stands : (rules : List Rule) (b : Binding) (m : Source Constraint) → made_by rules b ≡ Some m → is_bound b ≡ true
 made_stands rules (sites.Iterator a) m e = refl
 made_stands rules (sites.MatchVariant a v i) m e = refl
 made_stands rules (sites.ExtractStruct a i) m e = refl
 made_stands rules (sites.MatchSome a) m e = refl
 made_stands rules b m e = absurd cc
 
--- so is an impure call
-impure_stands : (b : Binding) → is_impure b ≡ true → is_bound b ≡ true
+-- So is an impure call.
+pub impure_stands : (b : Binding) → is_impure b ≡ true → is_bound b ≡ true
 impure_stands (sites.Constructor t ps n) e = refl
 impure_stands b e = absurd cc
 
--- nothing is wanted where neither a test nor one value is
-no_want : (b : Bool) (o : Option Constraint) → b ≡ false → o ≡ None → want_or b o ≡ None
+-- Nothing is wanted where neither a test nor one value is.
+pub no_want : (b : Bool) (o : Option Constraint) → b ≡ false → o ≡ None → want_or b o ≡ None
 no_want b o e f = rw (e, f) refl
 
 module _ (name : Sym → List ℕ) (facts : TermFacts) (sources : List source.Rule) (rules : List TypedRule) (term : ℕ) (set : RulesOverSites)

@@ -36,6 +36,10 @@ module _ (D : Demand → Type 0) where
   inside_deeper s u (directly f) = field_deeper s u f
   inside_deeper s u (further_in {u = w} h f) = let a = inside_deeper s w h in let b = field_deeper w u f in omega arith
 
+  -- A site isn't inside itself.
+  pub inside_apart : (s u : Site) → Inside D s u → s ≢ u
+  inside_apart s u h e = let below = inside_deeper s u h in let q : deep s ≡ deep u = ap deep e in omega arith
+
 module _ (D E : Demand → Type 0) (more : (d : Demand) → D d → E d ⊎ IsReflexive d) where
   through : (s u : Site) → (P : Site → Type 0) → s ≡ u → P s → P u
   through s u P e h = subst P e h

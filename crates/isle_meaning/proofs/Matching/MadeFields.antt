@@ -15,10 +15,11 @@ use Rattle.isle_meaning.specs.Laws.Matching.{MadeTermsTakeTheirFields, RulesOfDe
 use Rattle.isle_terms.specs.SoundRules.KeptScopes.{KeepsScopes}
 use Rattle.isle_types.proofs.Zipped.{all_at}
 use Rattle.isle_terms.proofs.Sound.RuleScopes.{rules_keep_scopes}
-use Rattle.isle_meaning.proofs.Matching.Bridging.{elaborated_rules_fit}
+use Rattle.isle_meaning.specs.Laws.Elaborated.{DefinitionsAreElaborated}
+use Rattle.isle_meaning.proofs.Matching.Bridging.{elaborated_rules_fit, typed_rules_are_elaborated}
 
--- where an item of two lists stands
-either_list : {X : Type 0} (xs ys : List X) (i : ℕ) (x : X) → slice_get (xs ++ ys) i ≡ Some x
+-- Where an item of two lists stands.
+pub either_list : {X : Type 0} (xs ys : List X) (i : ℕ) (x : X) → slice_get (xs ++ ys) i ≡ Some x
     → (slice_get xs i ≡ Some x) ⊎ ((j : ℕ) × (i ≡ length xs + j) × (slice_get ys j ≡ Some x))
 either_list [] ys i x h = inr (i, omega arith, h)
 either_list (y ∷ xs) ys zero x h = inl h
@@ -81,7 +82,7 @@ pub record OfTypes (first : ℕ) (types : List NamedType) (term : Signature) : T
   pub at : slice_get types place ≡ Some type
   pub shape : OfShape (first + place) term type.shape
 
-of_types : (first : ℕ) (types : List NamedType) (i : ℕ) (term : Signature) → slice_get (terms_of_types first types) i ≡ Some term
+pub of_types : (first : ℕ) (types : List NamedType) (i : ℕ) (term : Signature) → slice_get (terms_of_types first types) i ≡ Some term
     → OfTypes first types term
 of_types first [] i term h = absurd cc
 of_types first (t ∷ ts) i term h = elim (either_list (terms_of_shape first t t.shape) (terms_of_types (suc first) ts) i term h) [
@@ -166,3 +167,9 @@ rules_of_definitions_fit types expands levels max defs environment made place ru
     elaborated_rules_fit (declared_by types expands environment) rule typed
     (all_at KeepsScopes environment.rules (rules_keep_scopes types expands levels max defs environment made) place rule h)
     (takes types expands levels max defs environment made) one takes_one
+
+pub definitions_are_elaborated : DefinitionsAreElaborated
+definitions_are_elaborated types expands levels max defs environment made place rule h typed =
+    typed_rules_are_elaborated (declared_by types expands environment) rule typed
+    (all_at KeepsScopes environment.rules (rules_keep_scopes types expands levels max defs environment made) place rule h)
+    (takes types expands levels max defs environment made)

@@ -50,7 +50,7 @@ module _ (facts : TermFacts) (vars : ℕ → Site) where
   applied_site declared_shape ty t r q e f = called_site (facts.pure t) t r q e f
 
   mutual
-    visited : (e : TypedExpr) (iflets : ℕ → Word) (sites : ℕ → Site) → ((j : ℕ) → sites j ≡ site_of facts vars (iflets j))
+    pub visited : (e : TypedExpr) (iflets : ℕ → Word) (sites : ℕ → Site) → ((j : ℕ) → sites j ≡ site_of facts vars (iflets j))
         → (steps : List Step) (log : Log) → log.impure ≡ map (step_site facts vars) steps
         → ((visit facts sites log e).0 ≡ site_of facts vars ((flat facts iflets steps e).0))
         × ((visit facts sites log e).1.impure ≡ map (step_site facts vars) ((flat facts iflets steps e).1))

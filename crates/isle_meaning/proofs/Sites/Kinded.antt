@@ -1,4 +1,4 @@
--- The sites of a rule that asks no `multi` term are of their kinds.
+-- The sites of a rule are of their kinds, and its demands are of their sites' types.
 use Rattle.std.proofs.Common.{◌≡◌, ◌⊎◌, inl, inr, ℕ, zero, suc, ◌<◌, ◌+◌, ◌==◌, List, [], ◌∷◌, ◌++◌, length, Bool, true, false, refl}
 use Rattle.std.proofs.Common.{sym, ap, subst, ◌∙◌, arith, eqb-true, eq-eqb}
 use Rattle.isle_terms.specs.TypedRules.{TypedPattern, typed_bind, typed_var, typed_bool, typed_int, typed_prim, typed_term, typed_wildcard}
@@ -10,7 +10,7 @@ use Rattle.isle_meaning.specs.Words.{set, word_of}
 use Rattle.isle_meaning.specs.Sites.{Site, bool_site, int_site, prim_site, argument, extractor_call, constructor_call, iterator}
 use Rattle.isle_meaning.specs.Sites.{make_variant, match_variant, make_struct, extract_struct, make_some, match_some, match_tuple}
 use Rattle.isle_meaning.specs.Sites.{Sites, no_sites, more_sites, answer_site, extract_site, output, site_of}
-use Rattle.isle_meaning.specs.Sorts.{plain_sort, of_outputs, sort}
+use Rattle.isle_meaning.specs.Sorts.{plain_sort, of_outputs, sort, Suits}
 use Rattle.isle_meaning.specs.Demands.{Demand, extractor_demands, opens, parts, bound, bound_all, demands, demands_all, contents}
 use Rattle.isle_meaning.specs.Demands.{contents_all}
 use Rattle.isle_meaning.specs.Demands.{iflet_site, iflets_bound, iflets_demands, nothing, args_bound, vars_of, demands_of, some_of}
@@ -21,46 +21,88 @@ use Rattle.isle_meaning.specs.Needs.{answer_needs}
 use Rattle.isle_meaning.specs.Needs.{called, applied, visit, visit_all, visit_lets, iflets_needs, needs_of, IsNeeded}
 use Rattle.isle_meaning.specs.Scopes.{scope, scope_all, iflets_scope, IsWellOpened, IsWellScoped, AreWellScoped, IsSingle, let_scope}
 use Rattle.isle_meaning.specs.Scopes.{ReadsExpr}
-use Rattle.isle_meaning.specs.Scopes.{ReadExprs, ReadsLets, IfLetsAreWellScoped, none, scope_of}
-use Rattle.isle_meaning.specs.Typing.{part_types, IsTyped, AllTyped, EachTyped, ExprTyped, ExprsTyped, BindingsTyped, IfLetsTyped}
+use Rattle.isle_meaning.specs.Scopes.{ReadExprs, ReadsLets, IfLetsAreWellScoped, none, scope_of, IsWellScopedRule}
+use Rattle.isle_meaning.specs.Typing.{part_types, IsTyped, AllTyped, EachTyped, ExprTyped, ExprsTyped, BindingsTyped, IfLetsTyped, RuleIsTyped}
 use Rattle.isle_meaning.specs.Laws.Matching.{IsRuleOfTypes, DemandOf}
+use Rattle.isle_meaning.specs.Elaborated.{IsElaborated}
 use Rattle.isle_meaning.proofs.Matching.Basics.{each_append}
 use Rattle.isle_meaning.proofs.Matching.Sorting.{among}
-use Rattle.isle_meaning.specs.Kinds.{IsKinded, AreKinded, IsKindedDemand}
+use Rattle.isle_meaning.specs.Kinds.{MayBeCalled, OfSeveral, HasItsKind, HaveTheirKinds, IsOfItsKind}
 use Rattle.isle_meaning.proofs.Matching.Visited.{visit_is_written}
 use Rattle.isle_meaning.proofs.Sites.Parts.{EachSite, each_append as sites_append, each_needed}
 
-module _ (facts : TermFacts) (tys : List ℕ) where
+-- the terms that are taken to be `multi` where variables and calls are looked at: none, where several answers are asked
+abbrev pub flags_for : (several : Bool) → TermFacts → ℕ → Bool
+flags_for false facts = facts.multi
+flags_for true facts = λ t. false
+
+-- what is said of terms then
+abbrev pub facts_for : (several : Bool) → TermFacts → TermFacts
+facts_for several facts = record facts { multi = flags_for several facts }
+
+-- a term that isn't taken to be `multi` may be called
+may_call : (several : Bool) (facts : TermFacts) (t : ℕ) → flags_for several facts t ≡ false → MayBeCalled several facts t
+may_call false facts t m = m
+may_call true facts t m = tt
+
+-- where one that is `multi` may be called, several answers are asked
+several_asked : (several : Bool) (facts : TermFacts) (t : ℕ) (P : Type 0) → MayBeCalled several facts t → facts.multi t ≡ true → P
+    → OfSeveral several P
+several_asked false facts t P may m p = absurd (let e : false ≡ true = sym may ∙ m in cc)
+several_asked true facts t P may m p = p
+
+-- What is so where several answers are asked is so.
+pub several_so : (several : Bool) (P : Type 0) → OfSeveral several P → P
+several_so false P h = absurd h
+several_so true P h = h
+
+-- A term's patterns are as many as its types.
+pub typed_count : (facts : TermFacts) (tys : List ℕ) (G : ℕ → ℕ) (ps : TypedPatterns) (us : List ℕ) → AllTyped facts G ps us
+    → patterns ps ≡ length us
+typed_count facts tys G no_typed [] t = refl
+typed_count facts tys G no_typed (u ∷ us) t = absurd t
+typed_count facts tys G (more_typed p ps) [] t = absurd t
+typed_count facts tys G (more_typed p ps) (u ∷ us) t = ap suc (typed_count facts tys G ps us (t.1))
+
+module _ (several : Bool) (facts : TermFacts) (tys : List ℕ) where
+  -- what is said of terms, where variables and calls are looked at
+  abbrev seen_facts : TermFacts
+  seen_facts = facts_for several facts
+
   -- the site is of its kind
   abbrev W : Site → Type 0
-  W = IsKinded facts tys
+  W = HasItsKind several facts tys
 
   -- the site holds a value of the type, and is of its kind
   abbrev IsGood : Site → ℕ → Type 0
-  IsGood s u = (sort facts tys s ≡ plain_sort u) × IsKinded facts tys s
+  IsGood s u = (sort facts tys s ≡ plain_sort u) × W s
+
+  -- a demand is of its kind and of its sites' types
+  abbrev Fits : Demand → Type 0
+  Fits d = IsOfItsKind several facts tys d × Suits facts tys d
 
   -- what is looked into on the way fits
   mutual
-    contents_fit : (s : Site) → IsKinded facts tys s → Each (IsKindedDemand facts tys) (contents s)
+    contents_fit : (s : Site) → W s → Each Fits (contents s)
     contents_fit (bool_site b ty) h = tt
     contents_fit (int_site n ty) h = tt
     contents_fit (prim_site n) h = tt
     contents_fit (argument i) h = tt
     contents_fit (extractor_call t s) h = contents_fit s (h.0)
     contents_fit (constructor_call t ss i) h = all_fit ss (h.0)
-    contents_fit (iterator s) h = absurd h
+    contents_fit (iterator s) h = contents_fit s ((several_so several _ h).0)
     contents_fit (make_variant ty k ss) h = all_fit ss h
     contents_fit (match_variant s k i) h = contents_fit s (h.0)
     contents_fit (make_struct ty ss) h = all_fit ss h
     contents_fit (extract_struct s i) h = contents_fit s (h.0)
-    contents_fit (make_some s) h = contents_fit s h
-    contents_fit (match_some s) h = ((h.0, tt), contents_fit s (h.0))
+    contents_fit (make_some s) h = contents_fit s (h.0)
+    contents_fit (match_some s) h = (((h.0, tt), h.1), contents_fit s (h.0))
     contents_fit (match_tuple s i) h = contents_fit s (h.0)
 
     -- so is what is looked into in sites
-    all_fit : (ss : Sites) → AreKinded facts tys ss → Each (IsKindedDemand facts tys) (contents_all ss)
+    all_fit : (ss : Sites) → HaveTheirKinds several facts tys ss → Each Fits (contents_all ss)
     all_fit no_sites h = tt
-    all_fit (more_sites s ss) h = each_append (IsKindedDemand facts tys) (contents s) (contents_all ss) (contents_fit s (h.0.0)) (all_fit ss (h.1))
+    all_fit (more_sites s ss) h = each_append Fits (contents s) (contents_all ss) (contents_fit s (h.0.0)) (all_fit ss (h.1))
 
   -- fields from one on are of their kinds
   fields_kinded : (f : ℕ → Site) (i n : ℕ) → ((j : ℕ) → i < suc j → j < i + n → W (f j)) → EachSite W (from_on f i n)
@@ -87,62 +129,66 @@ module _ (facts : TermFacts) (tys : List ℕ) where
   output_good (suc (suc n)) s (t ∷ []) i l j e h = absurd (omega arith)
   output_good (suc (suc n)) s (t ∷ (u ∷ us)) i l j e h = (rw e refl, (h, (t ∷ (u ∷ us), e, omega arith)))
 
-  -- an extractor's call and what it gives
-  call_kinded : (t u : ℕ) (s : Site) → facts.multi t ≡ false → IsGood s u → W (extractor_call t s)
-  call_kinded t u s m h = (h.1, (u, h.0), m)
+  -- an extractor's call is of its kind
+  call_kinded : (t u : ℕ) (s : Site) → MayBeCalled several facts t → IsGood s u → W (extractor_call t s)
+  call_kinded t u s may h = (h.1, (u, h.0), may)
 
   -- what an extractor gives holds its outputs
-  given_kinded : (b : Bool) (t u : ℕ) (s : Site) → facts.multi t ≡ false → facts.infallible t ≡ b → IsGood s u
-      → W (extract_site false b (extractor_call t s)) × (sort facts tys (extract_site false b (extractor_call t s)) ≡ of_outputs (facts.inputs t))
-  given_kinded true t u s m e h = (call_kinded t u s m h, rw (m, e) refl)
-  given_kinded false t u s m e h = ((call_kinded t u s m h, (of_outputs (facts.inputs t), rw (m, e) refl)), rw (m, e) refl)
+  given_kinded : (m b : Bool) (t u : ℕ) (s : Site) → MayBeCalled several facts t → facts.multi t ≡ m → facts.infallible t ≡ b → IsGood s u
+      → W (extract_site m b (extractor_call t s)) × (sort facts tys (extract_site m b (extractor_call t s)) ≡ of_outputs (facts.inputs t))
+  given_kinded true b t u s may m e h = (
+    several_asked several facts t _ may m (call_kinded t u s may h, (of_outputs (facts.inputs t), rw m refl)),
+    rw m refl,
+  )
+  given_kinded false true t u s may m e h = (call_kinded t u s may h, rw (m, e) refl)
+  given_kinded false false t u s may m e h =
+      ((call_kinded t u s may h, (of_outputs (facts.inputs t), rw (m, e) refl)), rw (m, e) refl)
 
   -- what it needs is of its kind
-  extract_kinded : (b : Bool) (t u : ℕ) (s : Site) → facts.multi t ≡ false → facts.infallible t ≡ b → IsGood s u
-      → EachSite W (extract_needs false b (extractor_call t s))
-  extract_kinded true t u s m e h = tt
-  extract_kinded false t u s m e h = ((given_kinded false t u s m e h).0, tt)
+  extract_kinded : (m b : Bool) (t u : ℕ) (s : Site) → MayBeCalled several facts t → facts.multi t ≡ m → facts.infallible t ≡ b → IsGood s u
+      → EachSite W (extract_needs m b (extractor_call t s))
+  extract_kinded true b t u s may m e h = ((given_kinded true b t u s may m e h).0, tt)
+  extract_kinded false true t u s may m e h = tt
+  extract_kinded false false t u s may m e h = ((given_kinded false false t u s may m e h).0, tt)
 
   -- so is what a pattern's term needs
-  opened_needs : (shape : TermShape) (t u n : ℕ) (s : Site) → IsWellOpened facts shape t n → IsGood s u → EachSite W (open_needs facts shape t n s)
+  opened_needs : (shape : TermShape) (t u n : ℕ) (s : Site) → IsWellOpened seen_facts shape t n → IsGood s u
+      → EachSite W (open_needs facts shape t n s)
   opened_needs (variant_shape k) t u n s w h = fields_kinded (match_variant s k) 0 n (λ j p q. (h.1, (u, h.0)))
   opened_needs struct_shape t u n s w h = fields_kinded (extract_struct s) 0 n (λ j p q. (h.1, (u, h.0)))
   opened_needs declared_shape t u n s w h =
-      let g = given_kinded (facts.infallible t) t u s (w.1) refl h in
-      let all : EachSite W (extractor_call t s ∷ (extract_needs false (facts.infallible t) (extractor_call t s)
-      ++ output_needs n (extract_site false (facts.infallible t) (extractor_call t s)))) = (
-        call_kinded t u s (w.1) h,
-        sites_append W (extract_needs false (facts.infallible t) (extractor_call t s)) _
-            (extract_kinded (facts.infallible t) t u s (w.1) refl h)
-            (output_kinded n (extract_site false (facts.infallible t) (extractor_call t s)) (facts.inputs t) (w.0) (g.1) (g.0)),
-      ) in
-      subst (λ (b : Bool). EachSite W (extractor_call t s ∷ (extract_needs b (facts.infallible t) (extractor_call t s)
-      ++ output_needs n (extract_site b (facts.infallible t) (extractor_call t s))))) (sym (w.1)) all
+      let may = may_call several facts t (w.1) in
+      let g = given_kinded (facts.multi t) (facts.infallible t) t u s may refl refl h in (
+        call_kinded t u s may h,
+        sites_append W (extract_needs (facts.multi t) (facts.infallible t) (extractor_call t s)) _
+            (extract_kinded (facts.multi t) (facts.infallible t) t u s may refl refl h)
+            (output_kinded n (extract_site (facts.multi t) (facts.infallible t) (extractor_call t s)) (facts.inputs t) (w.0) (g.1) (g.0)),
+      )
 
   -- the sites of a pattern's parts hold values of their types
-  parts_good : (shape : TermShape) (ty t n : ℕ) (s : Site) (i : ℕ) → IsWellOpened facts shape t n → n ≡ length (part_types facts shape ty t)
-      → i < n → IsGood s ty → IsGood (parts facts shape t n s i) (nth_type (part_types facts shape ty t) i)
+  parts_good : (shape : TermShape) (ty t n : ℕ) (s : Site) (i : ℕ) → IsWellOpened seen_facts shape t n
+      → n ≡ length (part_types facts shape ty t) → i < n → IsGood s ty
+      → IsGood (parts facts shape t n s i) (nth_type (part_types facts shape ty t) i)
   parts_good (variant_shape k) ty t n s i w l j h = (rw (h.0) refl, (h.1, (ty, h.0)))
   parts_good struct_shape ty t n s i w l j h = (rw (h.0) refl, (h.1, (ty, h.0)))
   parts_good declared_shape ty t n s i w l j h =
-      let g = given_kinded (facts.infallible t) t ty s (w.1) refl h in
-      subst (λ (b : Bool). IsGood (output n (extract_site b (facts.infallible t) (extractor_call t s)) i) (nth_type (facts.inputs t) i))
-      (sym (w.1)) (output_good n (extract_site false (facts.infallible t) (extractor_call t s)) (facts.inputs t) i (w.0) j (g.1) (g.0))
+      let g = given_kinded (facts.multi t) (facts.infallible t) t ty s (may_call several facts t (w.1)) refl refl h in
+      output_good n (extract_site (facts.multi t) (facts.infallible t) (extractor_call t s)) (facts.inputs t) i (w.0) j (g.1) (g.0)
 
   -- what an extractor demands is of its kind
-  extractor_fits : (b : Bool) (t u : ℕ) (s : Site) → facts.multi t ≡ false → IsGood s u
-      → Each (IsKindedDemand facts tys) (extractor_demands false b (extractor_call t s))
-  extractor_fits true t u s m h = tt
-  extractor_fits false t u s m h = ((call_kinded t u s m h, tt), tt)
+  extractor_fits : (m b : Bool) (t u : ℕ) (s : Site) → MayBeCalled several facts t → facts.multi t ≡ m → facts.infallible t ≡ b → IsGood s u
+      → Each Fits (extractor_demands m b (extractor_call t s))
+  extractor_fits true b t u s may m e h = tt
+  extractor_fits false true t u s may m e h = tt
+  extractor_fits false false t u s may m e h = (((call_kinded t u s may h, tt), (of_outputs (facts.inputs t), rw (m, e) refl)), tt)
 
   -- so is what a pattern demands of its own site
-  opens_fit : (shape : TermShape) (ty t n : ℕ) (s : Site) → IsWellOpened facts shape t n → n ≡ length (part_types facts shape ty t) → IsGood s ty
-      → Each (IsKindedDemand facts tys) (opens facts shape ty t n s)
-  opens_fit (variant_shape k) ty t n s w l h = ((h.1, l), tt)
-  opens_fit struct_shape ty t n s w l h = ((h.1, l), tt)
+  opens_fit : (shape : TermShape) (ty t n : ℕ) (s : Site) → IsWellOpened seen_facts shape t n → n ≡ length (part_types facts shape ty t)
+      → IsGood s ty → Each Fits (opens facts shape ty t n s)
+  opens_fit (variant_shape k) ty t n s w l h = (((h.1, l), h.0), tt)
+  opens_fit struct_shape ty t n s w l h = (((h.1, l), h.0), tt)
   opens_fit declared_shape ty t n s w l h =
-      subst (λ (b : Bool). Each (IsKindedDemand facts tys) (extractor_demands b (facts.infallible t) (extractor_call t s))) (sym (w.1))
-      (extractor_fits (facts.infallible t) t ty s (w.1) h)
+      extractor_fits (facts.multi t) (facts.infallible t) t ty s (may_call several facts t (w.1)) refl refl h
 
   module _ (G : ℕ → ℕ) where
     -- the variables' sites hold values of their types
@@ -161,33 +207,27 @@ module _ (facts : TermFacts) (tys : List ℕ) where
             let z : (k == k) ≡ false = subst (λ (w : ℕ). (k == w) ≡ false) (sym q) p in cc)
         go false p (inr x) = rw p (g k x)
 
-    -- A term's patterns are as many as its types.
-    pub typed_count : (ps : TypedPatterns) (us : List ℕ) → AllTyped facts G ps us → patterns ps ≡ length us
-    typed_count no_typed [] t = refl
-    typed_count no_typed (u ∷ us) t = absurd t
-    typed_count (more_typed p ps) [] t = absurd t
-    typed_count (more_typed p ps) (u ∷ us) t = ap suc (typed_count ps us (t.1))
-
     -- what patterns need, demand and bind
     abbrev Seen : List Site → List Demand → (ℕ → Type 0) → (ℕ → Site) → Type 0
-    Seen needed ds S vars = EachSite W needed × Each (IsKindedDemand facts tys) ds × AreGood S vars
+    Seen needed ds S vars = EachSite W needed × Each Fits ds × AreGood S vars
 
     mutual
-      seen : (p : TypedPattern) (u : ℕ) (S : ℕ → Type 0) (vars : ℕ → Site) (s : Site) → IsWellScoped facts p S → IsTyped facts G p u
+      seen : (p : TypedPattern) (u : ℕ) (S : ℕ → Type 0) (vars : ℕ → Site) (s : Site) → IsWellScoped seen_facts p S → IsTyped facts G p u
           → AreGood S vars → IsGood s u → Seen (needs facts p s) (demands facts p s vars) (scope p S) (bound facts p s vars)
       seen (typed_bind ty j p) u S vars s w t g h =
           let (a, b, c) = seen p u S vars s (w.0) (t.2) g h in (a, b, set_good (scope p S) (bound facts p s vars) j s u c h (t.1))
-      seen (typed_var ty k) u S vars s w t g h = (tt, ((h.1, (g k w).1), tt), g)
-      seen (typed_bool ty b) u S vars s w t g h = (tt, ((h.1, tt), tt), g)
-      seen (typed_int ty n) u S vars s w t g h = (tt, ((h.1, tt), tt), g)
-      seen (typed_prim ty n) u S vars s w t g h = (tt, ((h.1, tt), tt), g)
+      seen (typed_var ty k) u S vars s w t g h =
+          let x = g k w in (tt, (((h.1, x.1), (u, h.0, x.0 ∙ ap plain_sort (t.1))), tt), g)
+      seen (typed_bool ty b) u S vars s w t g h = (tt, (((h.1, tt), h.0 ∙ ap plain_sort (sym t)), tt), g)
+      seen (typed_int ty n) u S vars s w t g h = (tt, (((h.1, tt), h.0 ∙ ap plain_sort (sym t)), tt), g)
+      seen (typed_prim ty n) u S vars s w t g h = (tt, (((h.1, tt), (u, h.0)), tt), g)
       seen (typed_term ty t ps) u S vars s w p g h =
           let h' : IsGood s ty = subst (IsGood s) (sym (p.0)) h in
-          let l = typed_count ps (part_types facts (facts.shape t) ty t) (p.2) in
+          let l = typed_count facts tys G ps (part_types facts (facts.shape t) ty t) (p.2) in
           let (a, b, c) = seen_all ps (part_types facts (facts.shape t) ty t) S vars (parts facts (facts.shape t) t (patterns ps) s) (w.1) (p.2) g
           (λ i j. parts_good (facts.shape t) ty t (patterns ps) s i (w.0) l j h') in (
             sites_append W (open_needs facts (facts.shape t) t (patterns ps) s) _ (opened_needs (facts.shape t) t ty (patterns ps) s (w.0) h') a,
-            each_append (IsKindedDemand facts tys) (opens facts (facts.shape t) ty t (patterns ps) s) _
+            each_append Fits (opens facts (facts.shape t) ty t (patterns ps) s) _
                 (opens_fit (facts.shape t) ty t (patterns ps) s (w.0) l h') b,
             c,
           )
@@ -195,7 +235,7 @@ module _ (facts : TermFacts) (tys : List ℕ) where
       seen (typed_and ty ps) u S vars s w t g h = seen_each ps u S vars s w (t.1) g h
 
       -- what patterns do, each at its own site
-      seen_all : (ps : TypedPatterns) (us : List ℕ) (S : ℕ → Type 0) (vars : ℕ → Site) (at : ℕ → Site) → AreWellScoped facts ps S
+      seen_all : (ps : TypedPatterns) (us : List ℕ) (S : ℕ → Type 0) (vars : ℕ → Site) (at : ℕ → Site) → AreWellScoped seen_facts ps S
           → AllTyped facts G ps us → AreGood S vars → ((i : ℕ) → i < patterns ps → IsGood (at i) (nth_type us i))
           → Seen (needs_all facts ps at) (demands_all facts ps at vars) (scope_all ps S) (bound_all facts ps at vars)
       seen_all no_typed us S vars at w t g h = (tt, tt, g)
@@ -203,20 +243,20 @@ module _ (facts : TermFacts) (tys : List ℕ) where
       seen_all (more_typed p ps) (u ∷ us) S vars at w t g h =
           let (a, b, c) = seen p u S vars (at 0) (w.0) (t.0) g (h 0 (omega arith)) in
           let (d, e, f) = seen_all ps us (scope p S) (bound facts p (at 0) vars) (λ i. at (suc i)) (w.1) (t.1) c (λ i l. h (suc i) (omega arith))
-          in (sites_append W (needs facts p (at 0)) _ a d, each_append (IsKindedDemand facts tys) (demands facts p (at 0) vars) _ b e, f)
+          in (sites_append W (needs facts p (at 0)) _ a d, each_append Fits (demands facts p (at 0) vars) _ b e, f)
 
       -- what patterns do, all at one site
-      seen_each : (ps : TypedPatterns) (u : ℕ) (S : ℕ → Type 0) (vars : ℕ → Site) (s : Site) → AreWellScoped facts ps S
+      seen_each : (ps : TypedPatterns) (u : ℕ) (S : ℕ → Type 0) (vars : ℕ → Site) (s : Site) → AreWellScoped seen_facts ps S
           → EachTyped facts G ps u → AreGood S vars → IsGood s u
           → Seen (needs_all facts ps (λ i. s)) (demands_all facts ps (λ i. s) vars) (scope_all ps S) (bound_all facts ps (λ i. s) vars)
       seen_each no_typed u S vars s w t g h = (tt, tt, g)
       seen_each (more_typed p ps) u S vars s w t g h =
           let (a, b, c) = seen p u S vars s (w.0) (t.0) g h in
           let (d, e, f) = seen_each ps u (scope p S) (bound facts p s vars) s (w.1) (t.1) c h in
-          (sites_append W (needs facts p s) _ a d, each_append (IsKindedDemand facts tys) (demands facts p s vars) _ b e, f)
+          (sites_append W (needs facts p s) _ a d, each_append Fits (demands facts p s vars) _ b e, f)
 
     -- arguments and their patterns
-    args_seen : (ps : TypedPatterns) (us : List ℕ) (i : ℕ) (S : ℕ → Type 0) (vars : ℕ → Site) → AreWellScoped facts ps S → AllTyped facts G ps us
+    args_seen : (ps : TypedPatterns) (us : List ℕ) (i : ℕ) (S : ℕ → Type 0) (vars : ℕ → Site) → AreWellScoped seen_facts ps S → AllTyped facts G ps us
         → AreGood S vars → ((j : ℕ) → j < length us → IsGood (argument (i + j)) (nth_type us j)) → EachSite W (args_needs facts ps i)
     args_seen no_typed us i S vars w t g h = tt
     args_seen (more_typed p ps) [] i S vars w t g h = absurd t
@@ -236,37 +276,36 @@ module _ (facts : TermFacts) (tys : List ℕ) where
 
     -- one of arguments does
     abbrev Args : Sites → List Site → Type 0
-    Args ss needed = AreKinded facts tys ss × EachSite W needed
+    Args ss needed = HaveTheirKinds several facts tys ss × EachSite W needed
 
     -- what a call gives holds a value
-    answer_good : (b : Bool) (t u : ℕ) (ss : Sites) (i : ℕ) → facts.multi t ≡ false → facts.partial t ≡ b → facts.type_of t ≡ u
-        → AreKinded facts tys ss
-        → IsGood (answer_site false b (constructor_call t ss i)) u × EachSite W (answer_needs false b (constructor_call t ss i))
-    answer_good true t u ss i m e f h =
-        let call : W (constructor_call t ss i) = (h, m) in
+    answer_good : (m b : Bool) (t u : ℕ) (ss : Sites) (i : ℕ) → MayBeCalled several facts t → facts.multi t ≡ m → facts.partial t ≡ b
+        → facts.type_of t ≡ u → HaveTheirKinds several facts tys ss
+        → IsGood (answer_site m b (constructor_call t ss i)) u × EachSite W (answer_needs m b (constructor_call t ss i))
+    answer_good true b t u ss i may m e f h =
+        let call : W (constructor_call t ss i) = (h, may) in
+        let given : W (iterator (constructor_call t ss i)) =
+        several_asked several facts t _ may m (call, (plain_sort (facts.type_of t), rw m refl)) in
+        ((rw (m, f) refl, given), (call, (given, tt)))
+    answer_good false true t u ss i may m e f h =
+        let call : W (constructor_call t ss i) = (h, may) in
         let given : W (match_some (constructor_call t ss i)) = (call, (plain_sort (facts.type_of t), rw (m, e) refl)) in
         ((rw (m, e, f) refl, given), (call, (given, tt)))
-    answer_good false t u ss i m e f h = let call : W (constructor_call t ss i) = (h, m) in ((rw (m, e, f) refl, call), (call, tt))
-
-    -- whatever it calls
-    any_answer : (t u : ℕ) (ss : Sites) (i : ℕ) → facts.multi t ≡ false → facts.type_of t ≡ u → AreKinded facts tys ss
-        → IsGood (answer_site (facts.multi t) (facts.partial t) (constructor_call t ss i)) u
-        × EachSite W (answer_needs (facts.multi t) (facts.partial t) (constructor_call t ss i))
-    any_answer t u ss i m f h =
-        subst (λ (b : Bool). IsGood (answer_site b (facts.partial t) (constructor_call t ss i)) u
-        × EachSite W (answer_needs b (facts.partial t) (constructor_call t ss i)))
-        (sym m) (answer_good (facts.partial t) t u ss i m refl f h)
+    answer_good false false t u ss i may m e f h =
+        let call : W (constructor_call t ss i) = (h, may) in ((rw (m, e, f) refl, call), (call, tt))
 
     -- so does a call
-    called_good : (b : Bool) (t u : ℕ) (r : Sites × Log) → facts.multi t ≡ false → facts.type_of t ≡ u → Args (r.0) (r.1.needed)
+    called_good : (b : Bool) (t u : ℕ) (r : Sites × Log) → flags_for several facts t ≡ false → facts.type_of t ≡ u → Args (r.0) (r.1.needed)
         → Visited ((called facts b t r).0) u ((called facts b t r).1.needed)
     called_good true t u r m f h =
-        let a = any_answer t u (r.0) zero m f (h.0) in (a.0, sites_append W (r.1.needed) _ (h.1) (a.1))
+        let a = answer_good (facts.multi t) (facts.partial t) t u (r.0) zero (may_call several facts t m) refl refl f (h.0) in
+        (a.0, sites_append W (r.1.needed) _ (h.1) (a.1))
     called_good false t u r m f h =
-        let a = any_answer t u (r.0) (suc (length (r.1.impure))) m f (h.0) in (a.0, sites_append W (r.1.needed) _ (h.1) (a.1))
+        let a = answer_good (facts.multi t) (facts.partial t) t u (r.0) (suc (length (r.1.impure))) (may_call several facts t m) refl refl f (h.0)
+        in (a.0, sites_append W (r.1.needed) _ (h.1) (a.1))
 
     -- so does a term
-    applied_good : (shape : TermShape) (ty t u : ℕ) (r : Sites × Log) → IsSingle facts shape t → ty ≡ u → facts.type_of t ≡ u
+    applied_good : (shape : TermShape) (ty t u : ℕ) (r : Sites × Log) → IsSingle seen_facts shape t → ty ≡ u → facts.type_of t ≡ u
         → Args (r.0) (r.1.needed)
         → Visited ((applied facts shape ty t r).0) u ((applied facts shape ty t r).1.needed)
     applied_good (variant_shape k) ty t u r m e f h = ((ap plain_sort e, h.0), sites_append W (r.1.needed) _ (h.1) (h.0, tt))
@@ -274,7 +313,7 @@ module _ (facts : TermFacts) (tys : List ℕ) where
     applied_good declared_shape ty t u r m e f h = called_good (facts.pure t) t u r m f h
 
     mutual
-      visit_seen : (e : TypedExpr) (u : ℕ) (S : ℕ → Type 0) (vars : ℕ → Site) (log : Log) → ReadsExpr facts e S → ExprTyped facts G e u
+      visit_seen : (e : TypedExpr) (u : ℕ) (S : ℕ → Type 0) (vars : ℕ → Site) (log : Log) → ReadsExpr seen_facts e S → ExprTyped facts G e u
           → AreGood S vars → EachSite W log.needed → Visited ((visit facts vars log e).0) u ((visit facts vars log e).1.needed)
       visit_seen (built_var ty k) u S vars log r t g h = (subst (IsGood (vars k)) (t.1) (g k r), h)
       visit_seen (built_bool ty b) u S vars log r t g h = ((ap plain_sort t, tt), sites_append W log.needed _ h (tt, tt))
@@ -288,7 +327,7 @@ module _ (facts : TermFacts) (tys : List ℕ) where
           visit_seen body u (let_scope bs S) ((visit_lets facts vars log bs).0) ((visit_lets facts vars log bs).1) (r.1) (t.1) (q.0) (q.1)
 
       -- what visits of expressions do
-      visit_all_seen : (es : TypedExprs) (us : List ℕ) (S : ℕ → Type 0) (vars : ℕ → Site) (log : Log) → ReadExprs facts es S
+      visit_all_seen : (es : TypedExprs) (us : List ℕ) (S : ℕ → Type 0) (vars : ℕ → Site) (log : Log) → ReadExprs seen_facts es S
           → ExprsTyped facts G es us → AreGood S vars → EachSite W log.needed
           → Args ((visit_all facts vars log es).0) ((visit_all facts vars log es).1.needed)
       visit_all_seen no_built us S vars log r t g h = (tt, h)
@@ -299,7 +338,7 @@ module _ (facts : TermFacts) (tys : List ℕ) where
           (((p.0.1, (u, p.0.0)), q.0), q.1)
 
       -- what visits of bindings do
-      visit_lets_seen : (bs : TypedBindings) (S : ℕ → Type 0) (vars : ℕ → Site) (log : Log) → ReadsLets facts bs S → BindingsTyped facts G bs
+      visit_lets_seen : (bs : TypedBindings) (S : ℕ → Type 0) (vars : ℕ → Site) (log : Log) → ReadsLets seen_facts bs S → BindingsTyped facts G bs
           → AreGood S vars → EachSite W log.needed
           → AreGood (let_scope bs S) ((visit_lets facts vars log bs).0) × EachSite W ((visit_lets facts vars log bs).1.needed)
       visit_lets_seen no_bindings S vars log r t g h = (g, h)
@@ -324,7 +363,7 @@ module _ (facts : TermFacts) (tys : List ℕ) where
     written rule before e = (visit_is_written facts (record rule { iflets = before; right = e })).0
 
     -- what the rest of a rule's if-lets need, demand and bind
-    iflets_seen : (rule : TypedRule) (xs before : List TypedIfLet) (S : ℕ → Type 0) → IfLetsAreWellScoped facts xs S → IfLetsTyped facts G xs
+    iflets_seen : (rule : TypedRule) (xs before : List TypedIfLet) (S : ℕ → Type 0) → IfLetsAreWellScoped seen_facts xs S → IfLetsTyped facts G xs
         → AreGood S (vars_after rule before)
         → Seen (iflets_needs facts xs (vars_after rule before)) (iflets_demands facts xs (vars_after rule before)) (iflets_scope xs S)
         (iflets_bound facts xs (vars_after rule before))
@@ -341,35 +380,47 @@ module _ (facts : TermFacts) (tys : List ℕ) where
         (iflets_scope xs (scope x.pattern S)) (iflets_bound facts xs z)) more rest in (
           sites_append W ((visit facts (vars_after rule before) no_log x.value).1.needed) _ (v.1)
               (sites_append W (needs facts x.pattern (iflet_site facts (vars_after rule before) x)) _ a d),
-          each_append (IsKindedDemand facts tys) (contents (iflet_site facts (vars_after rule before) x)) _
+          each_append Fits (contents (iflet_site facts (vars_after rule before) x)) _
               (contents_fit (iflet_site facts (vars_after rule before) x) (h.1))
-              (each_append (IsKindedDemand facts tys)
+              (each_append Fits
               (demands facts x.pattern (iflet_site facts (vars_after rule before) x) (vars_after rule before)) _ b f),
           i,
         )
 
   -- a made option is of its kind
-  some_kinded : (b : Bool) (s : Site) → W s → W (some_of b s)
-  some_kinded true s h = h
-  some_kinded false s h = h
+  some_kinded : (b : Bool) (s : Site) (u : ℕ) → IsGood s u → W (some_of b s)
+  some_kinded true s u h = (h.1, (u, h.0))
+  some_kinded false s u h = h.1
 
-  -- what a rule needs, its result, and what it demands
-  pub rule_seen : (rule : TypedRule) → IsRuleOfTypes facts tys rule
-      → ((s : Site) → IsNeeded (needs_of facts rule) s → IsKinded facts tys s)
-      × ((b : Bool) → IsKinded facts tys (result_of facts b rule))
-      × ((d : Demand) → DemandOf facts rule d → IsKindedDemand facts tys d)
-  rule_seen rule is =
-      let G = is.var_types in let well = is.well in let typed = is.typed in
+  -- What a rule needs, its result, and what it demands.
+  pub sites_seen : (rule : TypedRule) → IsWellScopedRule seen_facts rule → (u : ℕ) (G : ℕ → ℕ) → RuleIsTyped facts tys u G rule
+      → ((s : Site) → IsNeeded (needs_of facts rule) s → HasItsKind several facts tys s)
+      × ((b : Bool) → HasItsKind several facts tys (result_of facts b rule))
+      × ((d : Demand) → DemandOf facts rule d → IsOfItsKind several facts tys d × Suits facts tys d)
+  sites_seen rule well u G typed =
       let begins : AreGood G none nothing = λ k n. absurd n in
       let (a, b, c) = seen_all G rule.args tys none nothing argument well.args typed.args begins
-      (λ i l. let m = typed_count G rule.args tys typed.args in (refl, omega arith)) in
+      (λ i l. let m = typed_count facts tys G rule.args tys typed.args in (refl, omega arith)) in
       let args = args_seen G rule.args tys 0 none nothing well.args typed.args begins
       (λ j l. let e : 0 + j ≡ j = omega arith in subst (λ (k : ℕ). IsGood (argument k) (nth_type tys j)) (sym e) (refl, l)) in
       let (d, e, f) = iflets_seen G rule rule.iflets [] (λ k. scope_all rule.args none k) well.iflets typed.iflets c in
-      let v = visit_seen G rule.right is.result_type (scope_of rule) (vars_of facts rule) no_log well.right typed.right f tt in (
+      let v = visit_seen G rule.right u (scope_of rule) (vars_of facts rule) no_log well.right typed.right f tt in (
         λ s n. each_needed W (needs_of facts rule) s
             (sites_append W (args_needs facts rule.args 0) _ args (sites_append W (iflets_needs facts rule.iflets (args_bound facts rule)) _ d (v.1))) n,
-        λ k. some_kinded k _ (subst W ((visit_is_written facts rule).0) (v.0.1)),
-        among (IsKindedDemand facts tys) (demands_of facts rule)
-            (each_append (IsKindedDemand facts tys) (demands_all facts rule.args argument nothing) _ b e),
+        λ k. some_kinded k _ u (subst (λ (z : Site). IsGood z u) ((visit_is_written facts rule).0) (v.0)),
+        among Fits (demands_of facts rule) (each_append Fits (demands_all facts rule.args argument nothing) _ b e),
       )
+
+-- What a rule that asks no `multi` term needs, its result, and what it demands.
+pub rule_seen : (facts : TermFacts) (tys : List ℕ) (rule : TypedRule) → IsRuleOfTypes facts tys rule
+    → ((s : Site) → IsNeeded (needs_of facts rule) s → HasItsKind false facts tys s)
+    × ((b : Bool) → HasItsKind false facts tys (result_of facts b rule))
+    × ((d : Demand) → DemandOf facts rule d → IsOfItsKind false facts tys d × Suits facts tys d)
+rule_seen facts tys rule is = sites_seen false facts tys rule is.well is.result_type is.var_types is.typed
+
+-- What any rule does.
+pub any_seen : (facts : TermFacts) (tys : List ℕ) (rule : TypedRule) → IsElaborated facts tys rule
+    → ((s : Site) → IsNeeded (needs_of facts rule) s → HasItsKind true facts tys s)
+    × ((b : Bool) → HasItsKind true facts tys (result_of facts b rule))
+    × ((d : Demand) → DemandOf facts rule d → IsOfItsKind true facts tys d × Suits facts tys d)
+any_seen facts tys rule is = sites_seen true facts tys rule is.well is.result_type is.var_types is.typed

@@ -53,7 +53,7 @@ module _ (facts : TermFacts) (tys : List ℕ) (c d : Completion) (args : Values)
     same_singly (match_variant s v i) k = ap (λ (g : Got Held). ask (variant_field v i) (plain g)) (same_singly s (k.0))
     same_singly (make_struct ty ss) k = ap (λ (g : Got Values). held (built ty g)) (all_singly ss k)
     same_singly (extract_struct s i) k = ap (λ (g : Got Held). ask (struct_field i) (plain g)) (same_singly s (k.0))
-    same_singly (make_some s) k = ap (ask (λ h. gives (held_some h))) (same_singly s k)
+    same_singly (make_some s) k = ap (ask (λ h. gives (held_some h))) (same_singly s (k.0))
     same_singly (match_some s) k = ap (ask content_of) (same_singly s (k.0))
     same_singly (match_tuple s i) k = ap (ask (output_of i)) (same_singly s (k.0))
 

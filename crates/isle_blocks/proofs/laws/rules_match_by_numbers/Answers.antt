@@ -1,0 +1,5 @@
+use Rattle.isle_blocks.proofs.Trees.MatchedByNumbers as its
+use Rattle.isle_blocks.proofs.laws.rules_match_by_numbers.Goals as goal
+
+pub returns : goal.returns
+returns c = its.rules_match_by_numbers

@@ -1,0 +1,5 @@
+use Rattle.isle_blocks.proofs.Trees.Ways as its
+use Rattle.isle_blocks.proofs.laws.ways_take_items.Goals as goal
+
+pub returns : goal.returns
+returns c = its.ways_take_items
