@@ -1,6 +1,7 @@
 //! Sites and tests of rule sets.
 pub mod checks;
 mod site_terms;
+mod trees;
 
 use crate::syntax::orders::are_keys;
 use isle_blocks::{Binding, BindingId, Constraint, TupleIndex};
