@@ -39,20 +39,8 @@ pub mod Chosen
 pub mod Defined
 -- The rule sets of any terms are well made.
 pub mod Elaborated
--- Those of `multi` terms are as the bag asks.
-pub mod Many
--- Whether a rule matches is decided.
-pub mod Decided
--- Calls are functions as the bag asks, and walks answer bags.
-pub mod Functional
--- Rules match as what they demand holds.
-pub mod MatchedByNumbers
--- Sites are what they hold where items are taken at places.
-pub mod AtPlaces
--- Each way takes items.
-pub mod Ways
--- Those of definitions.
-pub mod DefinedMany
+-- Rule sets of `multi` terms, whose walks answer bags.
+pub mod Bags
 -- Worked cases.
 mod Cases
 -- The tests that rules offer, as code lists them.
@@ -79,5 +67,3 @@ pub mod Stepping
 pub mod Named
 -- What is promised of a rule set's tree.
 pub mod Promised
--- Two rules over a multi call of two values.
-mod TwoValues

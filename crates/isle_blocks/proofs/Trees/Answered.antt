@@ -9,9 +9,9 @@ use Rattle.isle_meaning.specs.Answers.{Completion}
 use Rattle.isle_meaning.specs.Held.{Held, value}
 use Rattle.isle_meaning.specs.Sites.{Site, Sites, no_sites, more_sites, prim_site}
 use Rattle.isle_meaning.specs.Numbered.{Row, At, AtAll}
-use Rattle.isle_meaning.specs.Parts.{parts_of, IsOneOf}
-use Rattle.isle_meaning.specs.Agreeing.{IsOpenCall}
-use Rattle.isle_meaning.specs.Making.{HoldEach}
+use Rattle.isle_meaning.specs.AboutSites.Parts.{parts_of, IsOneOf}
+use Rattle.isle_meaning.specs.AboutSites.Agreeing.{IsOpenCall}
+use Rattle.isle_meaning.specs.AboutSites.Making.{HoldEach}
 use Rattle.isle_meaning.proofs.Sites.Agreeing.{open_call, strict}
 use Rattle.isle_meaning.proofs.Sites.Made.{held_made}
 use Rattle.isle_blocks.specs.declared.binding.Binding.{Binding}

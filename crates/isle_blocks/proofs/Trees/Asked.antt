@@ -29,10 +29,10 @@ use Rattle.isle_trees.specs.Rules.{has, one_value, Source, Rules, Asked}
 use Rattle.isle_trees.specs.Premises.{IsTested as AreTests}
 use Rattle.isle_trees.proofs.Basics.{true_or}
 use Rattle.isle_blocks.specs.Trees.View.{id_of, test_at, has_loop, want_at, made_by, rule_joins, is_impure, rules_of}
-use Rattle.isle_meaning.specs.Parts.{parts_of, IsOneOf}
+use Rattle.isle_meaning.specs.AboutSites.Parts.{parts_of, IsOneOf}
 use Rattle.isle_blocks.specs.Trees.SiteTrees.{trees_of, tree_of}
-use Rattle.isle_meaning.specs.ImpureCalls.{IsPure}
-use Rattle.isle_meaning.specs.Parts.{SpeaksOf}
+use Rattle.isle_meaning.specs.AboutSites.ImpureCalls.{IsPure}
+use Rattle.isle_meaning.specs.AboutSites.Parts.{SpeaksOf}
 use Rattle.isle_blocks.specs.Trees.Premises.{IsRunnableSet}
 use Rattle.isle_blocks.proofs.ClosedRules.{same_id}
 use Rattle.isle_blocks.proofs.Trees.Reading.{read_some, read_true, want_test, test_found}

@@ -31,8 +31,8 @@ use Rattle.isle_trees.proofs.Basics.{none_or}
 use Rattle.isle_trees.specs.Rules.{Rules, Elem, IsPartOf, itself, of_part}
 use Rattle.isle_trees.specs.Premises.{IsSingle, EffectsFirst}
 use Rattle.isle_blocks.specs.Trees.View.{read_or, option_site, with_option, calls_at, rules_of}
-use Rattle.isle_meaning.specs.Parts.{parts_of, IsOneOf}
-use Rattle.isle_meaning.specs.ImpureCalls.{IsImpureCall, ImpureCallsAre, IsPure}
+use Rattle.isle_meaning.specs.AboutSites.Parts.{parts_of, IsOneOf}
+use Rattle.isle_meaning.specs.AboutSites.ImpureCalls.{IsImpureCall, ImpureCallsAre, IsPure}
 use Rattle.isle_blocks.specs.Trees.Premises.{IsRunnableSet}
 use Rattle.isle_blocks.proofs.Trees.Standing.{pass_on, parts_stand, in_all}
 use Rattle.isle_meaning.proofs.Sites.Pure.{demands_are_pure}

@@ -11,7 +11,7 @@ use Rattle.isle_meaning.specs.Sites.{Site, iterator}
 use Rattle.isle_meaning.specs.Demands.{Demand, constrained, equal}
 use Rattle.isle_meaning.specs.Demands as meaning
 use Rattle.isle_meaning.specs.Derived.{Derived}
-use Rattle.isle_meaning.specs.Kinds.{HasItsKind}
+use Rattle.isle_meaning.specs.AboutSites.Kinds.{HasItsKind}
 use Rattle.isle_meaning.specs.Laws.Elaborated.{HasItsKinds}
 use Rattle.isle_meaning.specs.Laws.Matching.{DemandOf}
 use Rattle.isle_meaning.specs.Numbered.{Row, At}

@@ -39,7 +39,7 @@ use Rattle.isle_blocks.specs.Trees.View.{id_of, test_at, has_loop, want_at, made
 use Rattle.isle_blocks.specs.Trees.View.{place_of, tests_by, made_at, field_of, rules_of}
 use Rattle.isle_blocks.specs.Trees.SiteTrees.{tree_of}
 use Rattle.isle_blocks.specs.Trees.Premises.{IsRunnableSet}
-use Rattle.isle_meaning.specs.Kinds.{IsKinded, HasItsFields, IsKindedDemand}
+use Rattle.isle_meaning.specs.AboutSites.Kinds.{IsKinded, HasItsFields, IsKindedDemand}
 use Rattle.isle_blocks.proofs.Trees.Reading.{read_some, want_one, place_sound, place_found, opening_found, opening_there, keep_some}
 use Rattle.isle_blocks.proofs.Trees.Reading.{keep_full, elem_map, map_elem, elem_left, elem_right}
 use Rattle.isle_blocks.proofs.Trees.Standing.{part_at}

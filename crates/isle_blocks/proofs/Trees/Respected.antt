@@ -30,9 +30,9 @@ use Rattle.isle_blocks.specs.Trees.Compare.{meets}
 use Rattle.isle_blocks.specs.Trees.View.{read_or, made_by, opening, opens_field, rules_of}
 use Rattle.isle_blocks.specs.Trees.SiteTrees.{trees_of, tree_from, tree_to, tree_of, held_by}
 use Rattle.isle_blocks.specs.Trees.Makes.{AllowsDone}
-use Rattle.isle_meaning.specs.Kinds.{IsKinded}
+use Rattle.isle_meaning.specs.AboutSites.Kinds.{IsKinded}
 use Rattle.isle_blocks.specs.Trees.Premises.{IsRunnableSet}
-use Rattle.isle_meaning.specs.Agreeing.{AgreeIfKnown, AgreeOnCalls}
+use Rattle.isle_meaning.specs.AboutSites.Agreeing.{AgreeIfKnown, AgreeOnCalls}
 use Rattle.isle_meaning.proofs.Sites.Agreeing.{agrees}
 use Rattle.isle_meaning.proofs.Sites.Singly.{singly, same_singly}
 use Rattle.isle_blocks.proofs.Trees.Exact.{passed_meets}

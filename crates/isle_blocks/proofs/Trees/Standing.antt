@@ -19,7 +19,7 @@ use Rattle.isle_blocks.specs.Rows.{numbers_of, row_of, rows_of}
 use Rattle.isle_blocks.proofs.Closure.Trees.{row_get, get_row, at_below}
 use Rattle.isle_trees.specs.Rules.{Elem}
 use Rattle.isle_blocks.specs.Trees.View.{read_or}
-use Rattle.isle_meaning.specs.Parts.{parts_of, IsOneOf}
+use Rattle.isle_meaning.specs.AboutSites.Parts.{parts_of, IsOneOf}
 use Rattle.isle_blocks.specs.Trees.SiteTrees.{trees_of, tree_from, tree_to, tree_of}
 
 -- the parts of an entry

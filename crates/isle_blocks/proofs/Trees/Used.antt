@@ -33,7 +33,7 @@ use Rattle.isle_trees.specs.Rules.{has, Source, Rules, Elem, Used}
 use Rattle.isle_trees.specs.Premises.{HasItsTests}
 use Rattle.isle_trees.proofs.Basics.{none_or}
 use Rattle.isle_blocks.specs.Trees.View.{read_or, option_site, is_constructor, with_option, call_at, calls_at, made_by, rules_of}
-use Rattle.isle_meaning.specs.Parts.{parts_of, IsOneOf}
+use Rattle.isle_meaning.specs.AboutSites.Parts.{parts_of, IsOneOf}
 use Rattle.isle_blocks.specs.Trees.SiteTrees.{tree_of}
 use Rattle.isle_meaning.proofs.Sites.OwnTests.{HasTest, HasTests, IsConstructor, own_test, part_tests, tested_has, tested_part}
 use Rattle.isle_meaning.proofs.Sites.OwnTests.{right_side_has}

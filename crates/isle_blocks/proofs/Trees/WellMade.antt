@@ -9,7 +9,7 @@ use Rattle.isle_meaning.specs.Sites.{Site, iterator}
 use Rattle.isle_meaning.specs.Demands.{Demand, constrained, equal}
 use Rattle.isle_meaning.specs.Demands as meaning
 use Rattle.isle_meaning.specs.Derived.{Derived}
-use Rattle.isle_meaning.specs.Kinds.{IsKinded}
+use Rattle.isle_meaning.specs.AboutSites.Kinds.{IsKinded}
 use Rattle.isle_meaning.specs.Laws.Matching.{DemandOf, IsRuleOfTypes}
 use Rattle.isle_meaning.specs.Laws.Sites.{IsKindedRule}
 use Rattle.isle_meaning.specs.Numbered.{Row, At}

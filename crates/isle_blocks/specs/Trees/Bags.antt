@@ -6,7 +6,7 @@ use Rattle.isle_terms.specs.TypedRules.{TypedRule}
 use Rattle.isle_terms.specs.Shown.TermTables.{TermTables}
 use Rattle.isle_meaning.specs.Got.{Got}
 use Rattle.isle_meaning.specs.Values.{Value, Values, count}
-use Rattle.isle_meaning.specs.Functions.{AreFiniteFunctions, AreAsFunctions}
+use Rattle.isle_meaning.specs.AboutSites.Functions.{AreFiniteFunctions, AreAsFunctions}
 use Rattle.isle_meaning.specs.Elaborated.{OpensItsMultiCalls}
 use Rattle.isle_meaning.specs.Facts.{TermFacts}
 use Rattle.isle_meaning.specs.Answers.{Completion}

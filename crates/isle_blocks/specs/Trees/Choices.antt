@@ -10,7 +10,7 @@ use Rattle.isle_meaning.specs.Scopes.{Covers}
 use Rattle.isle_blocks.specs.RuleSets.{RulesOverSites}
 use Rattle.isle_trees.specs.Rules.{Elem}
 use Rattle.isle_trees.specs.Walk.{Outcome, chooses, ends, waits, stops}
-use Rattle.isle_meaning.specs.Agreeing.{AgreeIfKnown}
+use Rattle.isle_meaning.specs.AboutSites.Agreeing.{AgreeIfKnown}
 
 -- the rules as they are written have the typed rules' priorities
 abbrev pub HavePriorities : List source.Rule → List TypedRule → Type 0

@@ -6,8 +6,8 @@ use Rattle.isle_meaning.specs.Values.{Value, Values, nth_of}
 use Rattle.isle_meaning.specs.Facts.{TermFacts}
 use Rattle.isle_meaning.specs.Answers.{Completion}
 use Rattle.isle_meaning.specs.Held.{Held, held_value, held_outputs, held_none, held_some, held_answers, outputs_of, value}
-use Rattle.isle_meaning.specs.Functions.{as_pure}
-use Rattle.isle_meaning.specs.Making.{made_of_parts}
+use Rattle.isle_meaning.specs.AboutSites.Functions.{as_pure}
+use Rattle.isle_meaning.specs.AboutSites.Making.{made_of_parts}
 use Rattle.isle_meaning.specs.Numbered.{At}
 use Rattle.isle_meaning.specs.Sites.{Site, iterator}
 use Rattle.isle_meaning.specs.Subtrees.{IsSubtree}

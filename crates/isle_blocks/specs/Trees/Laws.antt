@@ -9,7 +9,7 @@ use Rattle.isle_terms.specs.Shown.TermTables.{TermTables}
 use Rattle.isle_meaning.specs.Values.{Value, Values, count}
 use Rattle.isle_meaning.specs.Facts.{TermFacts}
 use Rattle.isle_meaning.specs.Answers.{Completion, IsAllowed}
-use Rattle.isle_meaning.specs.Agreeing.{IsOpenCall}
+use Rattle.isle_meaning.specs.AboutSites.Agreeing.{IsOpenCall}
 use Rattle.isle_meaning.specs.Matching as matching
 use Rattle.isle_meaning.specs.Laws.Matching.{Settles}
 use Rattle.isle_blocks.specs.declared.ids.BindingId.{BindingId}

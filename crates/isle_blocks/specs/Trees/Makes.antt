@@ -6,7 +6,7 @@ use Rattle.isle_meaning.specs.Facts.{TermFacts}
 use Rattle.isle_meaning.specs.Answers.{Completion}
 use Rattle.isle_meaning.specs.Sites.{Sites, constructor_call}
 use Rattle.isle_meaning.specs.Held.{Held}
-use Rattle.isle_meaning.specs.Making.{made_of_parts}
+use Rattle.isle_meaning.specs.AboutSites.Making.{made_of_parts}
 use Rattle.isle_meaning.specs.Numbered.{At}
 use Rattle.isle_trees.specs.Machine.{Makes}
 use Rattle.isle_blocks.specs.declared.binding.Binding.{Binding}

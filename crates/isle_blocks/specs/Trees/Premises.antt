@@ -4,7 +4,7 @@ use Rattle.isle_types.specs.declared.ids.Sym.{Sym}
 use Rattle.isle_terms.specs.declared.rules.Rule as source
 use Rattle.isle_terms.specs.TypedRules.{TypedRule}
 use Rattle.isle_meaning.specs.Facts.{TermFacts}
-use Rattle.isle_meaning.specs.ImpureCalls.{IfLetsArePure}
+use Rattle.isle_meaning.specs.AboutSites.ImpureCalls.{IfLetsArePure}
 use Rattle.isle_meaning.specs.Laws.Matching.{IsRuleOfTypes}
 use Rattle.isle_blocks.specs.DefinedSets.{IsSetOf}
 use Rattle.isle_blocks.specs.RuleSets.{RulesOverSites}

@@ -9,12 +9,12 @@ use Rattle.isle_meaning.specs.Facts.{TermFacts}
 use Rattle.isle_meaning.specs.Sites.{Site, bool_site, int_site, prim_site, argument, extractor_call, constructor_call, iterator}
 use Rattle.isle_meaning.specs.Sites.{make_variant, match_variant, make_struct, extract_struct, make_some, match_some, match_tuple}
 use Rattle.isle_meaning.specs.Sites.{Sites, no_sites, more_sites}
-use Rattle.isle_meaning.specs.Parts.{parts_of, IsOneOf}
+use Rattle.isle_meaning.specs.AboutSites.Parts.{parts_of, IsOneOf}
 use Rattle.isle_meaning.specs.Answers.{Completion, answer_of}
 use Rattle.isle_meaning.specs.Held.{Held, held_value, held_outputs, held_none, held_some, held_answers, variant_field, struct_field}
 use Rattle.isle_meaning.specs.Held.{content_of, output_of, held, plain, plain_of, extracted, constructed, extract_held, construct_held}
 use Rattle.isle_meaning.specs.Held.{item_of, value, values}
-use Rattle.isle_meaning.specs.Agreeing.{AgreeIfKnown, AgreeOnCalls, IsOpenCall}
+use Rattle.isle_meaning.specs.AboutSites.Agreeing.{AgreeIfKnown, AgreeOnCalls, IsOpenCall}
 use Rattle.isle_meaning.specs.Laws.Sites.{CompletionsAgreeOnSites, SitesAreStrict, KnownIsOfKnown, UnknownSitesAreOpenCalls}
 use Rattle.isle_meaning.proofs.Chains.Unique.{known_more, known_ask}
 use Rattle.isle_meaning.proofs.Matching.Basics.{ask_gives, plain_gives, more_gives, more_unknown}

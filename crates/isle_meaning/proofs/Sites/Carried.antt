@@ -7,7 +7,7 @@ use Rattle.isle_meaning.specs.Words.{set}
 use Rattle.isle_meaning.specs.Sites.{Site, bool_site, int_site, prim_site, argument, extractor_call, constructor_call, iterator}
 use Rattle.isle_meaning.specs.Sites.{make_variant, match_variant, make_struct, extract_struct, make_some, match_some, match_tuple}
 use Rattle.isle_meaning.specs.Sites.{Sites, no_sites, more_sites, extract_site, output}
-use Rattle.isle_meaning.specs.Parts.{parts_of, IsOneOf, SpeaksOf}
+use Rattle.isle_meaning.specs.AboutSites.Parts.{parts_of, IsOneOf, SpeaksOf}
 use Rattle.isle_meaning.specs.Demands.{Demand, equal, extractor_demands, opens, parts, bound, bound_all, demands, demands_all, contents}
 use Rattle.isle_meaning.specs.Demands.{contents_all, iflet_site, vars_of, iflets_bound, iflets_demands, nothing, args_bound, demands_of}
 use Rattle.isle_meaning.specs.Derived.{Derived, demanded, flipped, chained, shared, like_variant, like_struct}

@@ -7,7 +7,7 @@ use Rattle.isle_meaning.specs.Answers.{Completion}
 use Rattle.isle_meaning.specs.Sites.{Site, bool_site, int_site, prim_site, argument, extractor_call, constructor_call, iterator}
 use Rattle.isle_meaning.specs.Sites.{make_variant, match_variant, make_struct, extract_struct, make_some, match_some, match_tuple}
 use Rattle.isle_meaning.specs.Sites.{Sites, no_sites, more_sites}
-use Rattle.isle_meaning.specs.Parts.{parts_of, IsOneOf}
+use Rattle.isle_meaning.specs.AboutSites.Parts.{parts_of, IsOneOf}
 use Rattle.isle_meaning.specs.Held.{IsAnswered, AreAnswered}
 use Rattle.isle_meaning.specs.Demands.{vars_of}
 use Rattle.isle_meaning.specs.Scopes.{Covers}

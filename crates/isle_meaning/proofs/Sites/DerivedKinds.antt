@@ -7,7 +7,7 @@ use Rattle.isle_meaning.specs.Derived.{Derived, demanded, flipped, chained, shar
 use Rattle.isle_meaning.specs.Derived.{of_struct}
 use Rattle.isle_meaning.specs.Sorts.{AllSuit}
 use Rattle.isle_meaning.proofs.Matching.Closing.{derived_suits}
-use Rattle.isle_meaning.specs.Kinds.{HasItsKind, IsOfItsKind}
+use Rattle.isle_meaning.specs.AboutSites.Kinds.{HasItsKind, IsOfItsKind}
 use Rattle.isle_meaning.specs.Laws.Matching.{DemandOf}
 use Rattle.isle_meaning.specs.Laws.Sites.{RulesAreKinded}
 use Rattle.isle_meaning.specs.Laws.Elaborated.{ElaboratedAreKinded}

@@ -4,11 +4,11 @@ use Rattle.isle_meaning.specs.Got.{Got, unknown, fails, gives}
 use Rattle.isle_meaning.specs.Values.{Value, Values, ask}
 use Rattle.isle_meaning.specs.Facts.{TermFacts}
 use Rattle.isle_meaning.specs.Answers.{Completion, answered}
-use Rattle.isle_meaning.specs.Functions.{AreFiniteFunctions, as_pure, AreAsFunctions}
+use Rattle.isle_meaning.specs.AboutSites.Functions.{AreFiniteFunctions, as_pure, AreAsFunctions}
 use Rattle.isle_meaning.specs.Held.{Held, several, constructed, extract_held, construct_held, value, values, IsAnswered, AreAnswered}
-use Rattle.isle_meaning.specs.Kinds.{HasItsKind}
-use Rattle.isle_meaning.specs.Making.{made_of_parts}
-use Rattle.isle_meaning.specs.Parts.{parts_of}
+use Rattle.isle_meaning.specs.AboutSites.Kinds.{HasItsKind}
+use Rattle.isle_meaning.specs.AboutSites.Making.{made_of_parts}
+use Rattle.isle_meaning.specs.AboutSites.Parts.{parts_of}
 use Rattle.isle_meaning.specs.Sites.{Site, bool_site, int_site, prim_site, argument, extractor_call, constructor_call, iterator}
 use Rattle.isle_meaning.specs.Sites.{make_variant, match_variant, make_struct, extract_struct, make_some, match_some, match_tuple}
 use Rattle.isle_meaning.specs.Sites.{Sites, no_sites, more_sites}

@@ -4,11 +4,11 @@ use Rattle.isle_terms.specs.TypedRules.{TypedPattern, typed_bind, typed_var, typ
 use Rattle.isle_terms.specs.TypedRules.{typed_and, TypedPatterns, no_typed, more_typed, TypedIfLet, TypedRule}
 use Rattle.isle_meaning.specs.Facts.{TermShape, variant_shape, struct_shape, declared_shape, TermFacts, patterns}
 use Rattle.isle_meaning.specs.Sites.{Site, argument, extractor_call}
-use Rattle.isle_meaning.specs.Parts.{parts_of, IsOneOf}
+use Rattle.isle_meaning.specs.AboutSites.Parts.{parts_of, IsOneOf}
 use Rattle.isle_meaning.specs.Demands.{parts, bound, iflet_site, args_bound, vars_of}
 use Rattle.isle_meaning.specs.Scopes.{OfCall, OfCalls, OfAllCalls, OfIfLets}
 use Rattle.isle_meaning.specs.Asking.{IsOpenedAt, IsSiteOfPattern, IsSiteOfPatterns, IsSiteOfIfLets, IsSiteOfRule}
-use Rattle.isle_meaning.specs.RuleCalls.{IsCall, IsWithinRule, ItsCallsAreHad}
+use Rattle.isle_meaning.specs.AboutSites.RuleCalls.{IsCall, IsWithinRule, ItsCallsAreHad}
 use Rattle.isle_meaning.specs.Laws.Sites.{DemandedCallsAreHad}
 use Rattle.isle_meaning.proofs.Sites.Parts.{of_part}
 use Rattle.isle_meaning.proofs.Sites.Carried.{IsCarried, subtrees_carry, rule_carries, variables_carry}

@@ -12,16 +12,16 @@ use Rattle.isle_meaning.specs.Answers.{Completion, IsAllowed, answered, answer_o
 use Rattle.isle_meaning.specs.Sites.{Site, bool_site, int_site, prim_site, argument, extractor_call, constructor_call, iterator}
 use Rattle.isle_meaning.specs.Sites.{make_variant, match_variant, make_struct, extract_struct, make_some, match_some, match_tuple}
 use Rattle.isle_meaning.specs.Sites.{Sites, no_sites, more_sites}
-use Rattle.isle_meaning.specs.Functions.{GivesLists}
+use Rattle.isle_meaning.specs.AboutSites.Functions.{GivesLists}
 use Rattle.isle_meaning.specs.Held.{item_of}
 use Rattle.isle_meaning.specs.Held.{Held, held_value, held_outputs, held_some, held, plain, outputs_of, extracted, constructed}
 use Rattle.isle_meaning.specs.Held.{held_answers, extract_held, construct_held, several as several_of, variant_field, field_if, struct_field, output_of, value, values}
 use Rattle.isle_meaning.specs.Sorts.{Sort, plain_sort, option_sort, list_sort, sort, of_outputs, extract_sort, construct_sort, inner_sort}
 use Rattle.isle_meaning.specs.Sorts.{output_sort, field_sort}
 use Rattle.isle_meaning.proofs.Matching.Basics.{ask_gives, content_gives}
-use Rattle.isle_meaning.specs.Kinds.{IsPlain, MayBeCalled, HasItsKind, HaveTheirKinds, IsKinded, IsOfKind}
+use Rattle.isle_meaning.specs.AboutSites.Kinds.{IsPlain, MayBeCalled, HasItsKind, HaveTheirKinds, IsKinded, IsOfKind}
 use Rattle.isle_meaning.proofs.Sites.Kinded.{several_so}
-use Rattle.isle_meaning.specs.Parts.{parts_of, IsOneOf}
+use Rattle.isle_meaning.specs.AboutSites.Parts.{parts_of, IsOneOf}
 use Rattle.isle_meaning.specs.Laws.Sites.{SitesKeepKinds}
 
 -- A value below the count is there.

@@ -27,7 +27,7 @@ use Rattle.isle_meaning.specs.Laws.Matching.{IsRuleOfTypes, DemandOf}
 use Rattle.isle_meaning.specs.Elaborated.{IsElaborated}
 use Rattle.isle_meaning.proofs.Matching.Basics.{each_append}
 use Rattle.isle_meaning.proofs.Matching.Sorting.{among}
-use Rattle.isle_meaning.specs.Kinds.{MayBeCalled, OfSeveral, HasItsKind, HaveTheirKinds, IsOfItsKind}
+use Rattle.isle_meaning.specs.AboutSites.Kinds.{MayBeCalled, OfSeveral, HasItsKind, HaveTheirKinds, IsOfItsKind}
 use Rattle.isle_meaning.proofs.Matching.Visited.{visit_is_written}
 use Rattle.isle_meaning.proofs.Sites.Parts.{EachSite, each_append as sites_append, each_needed}
 

@@ -7,10 +7,10 @@ use Rattle.isle_meaning.specs.Answers.{Completion}
 use Rattle.isle_meaning.specs.Sites.{Site, bool_site, int_site, prim_site, argument, extractor_call, constructor_call, iterator}
 use Rattle.isle_meaning.specs.Sites.{make_variant, match_variant, make_struct, extract_struct, make_some, match_some, match_tuple}
 use Rattle.isle_meaning.specs.Sites.{Sites, no_sites, more_sites}
-use Rattle.isle_meaning.specs.Parts.{parts_of}
+use Rattle.isle_meaning.specs.AboutSites.Parts.{parts_of}
 use Rattle.isle_meaning.specs.Held.{Held, held_some, held, plain, plain_of, extract_held, construct_held, variant_field, struct_field}
 use Rattle.isle_meaning.specs.Held.{content_of, output_of, item_of, value, values}
-use Rattle.isle_meaning.specs.Making.{plain_values, of_first, made_of_parts, HoldEach}
+use Rattle.isle_meaning.specs.AboutSites.Making.{plain_values, of_first, made_of_parts, HoldEach}
 use Rattle.isle_meaning.specs.Laws.Sites.{SitesAreMadeByParts}
 
 module _ (facts : TermFacts) (c : Completion) (args : Values) (done : List (Option Value)) where

@@ -7,7 +7,7 @@ use Rattle.isle_meaning.specs.Words.{no_words, more_words, Step, word_of, steps_
 use Rattle.isle_meaning.specs.Sites.{Site, bool_site, int_site, prim_site, argument, extractor_call, constructor_call, iterator}
 use Rattle.isle_meaning.specs.Sites.{make_variant, match_variant, make_struct, extract_struct, make_some, match_some, match_tuple}
 use Rattle.isle_meaning.specs.Sites.{Sites, no_sites, more_sites, answer_site, site_of, sites_of, step_site}
-use Rattle.isle_meaning.specs.Parts.{parts_of, IsOneOf}
+use Rattle.isle_meaning.specs.AboutSites.Parts.{parts_of, IsOneOf}
 use Rattle.isle_meaning.specs.Demands.{Demand, constrained, variant_constraint, struct_constraint, some_constraint, vars_of, impure_of}
 use Rattle.isle_meaning.specs.Demands.{result_of, some_of}
 use Rattle.isle_meaning.specs.Derived.{Derived, demanded}

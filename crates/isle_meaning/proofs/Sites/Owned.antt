@@ -10,7 +10,7 @@ use Rattle.isle_meaning.specs.Words.{var_word, set, word_of}
 use Rattle.isle_meaning.specs.Sites.{Site, bool_site, int_site, prim_site, argument, extractor_call, constructor_call, iterator}
 use Rattle.isle_meaning.specs.Sites.{make_variant, match_variant, make_struct, extract_struct, make_some, match_some, match_tuple}
 use Rattle.isle_meaning.specs.Sites.{Sites, no_sites, more_sites, answer_site, extract_site, output, site_of}
-use Rattle.isle_meaning.specs.Parts.{parts_of, IsOneOf, SpeaksOf}
+use Rattle.isle_meaning.specs.AboutSites.Parts.{parts_of, IsOneOf, SpeaksOf}
 use Rattle.isle_meaning.specs.Demands.{Demand, constrained, equal, variant_constraint, struct_constraint, some_constraint, extractor_demands}
 use Rattle.isle_meaning.specs.Demands.{opens, parts, bound, bound_all, demands, demands_all, contents, contents_all, iflet_site, iflets_bound}
 use Rattle.isle_meaning.specs.Demands.{iflets_demands, nothing, args_bound, vars_of, demands_of, impure_of, result_of, some_of, Among}

@@ -8,7 +8,7 @@ use Rattle.isle_meaning.specs.Words.{Step, word_of, steps_of}
 use Rattle.isle_meaning.specs.Sites.{Site, argument, extractor_call}
 use Rattle.isle_meaning.specs.Demands.{bound, iflet_site, args_bound, nothing}
 use Rattle.isle_meaning.specs.Scopes.{OfCall, OfCalls, OfAllCalls, OfIfLets}
-use Rattle.isle_meaning.specs.ImpureCalls.{IsImpureCall, IsPure, IfLetsArePure}
+use Rattle.isle_meaning.specs.AboutSites.ImpureCalls.{IsImpureCall, IsPure, IfLetsArePure}
 use Rattle.isle_meaning.specs.SoundPrograms.{AskNothingImpure}
 use Rattle.isle_meaning.specs.Worlds.{CheckedProgram}
 use Rattle.isle_meaning.specs.Laws.Sites.{DemandsArePure}

@@ -12,7 +12,7 @@ use Rattle.isle_meaning.specs.Matching.{word_value, word_values, MatchesWith}
 use Rattle.isle_meaning.specs.Demands.{vars_of}
 use Rattle.isle_meaning.specs.Scopes.{Reads, ReadAll, IsWellScopedRule, scope_of}
 use Rattle.isle_meaning.specs.RightSides.{IsFailure, IsValue, on_got, on_answer, Right, RightOf}
-use Rattle.isle_meaning.specs.RightSites.{RightBySites, RightOfSites}
+use Rattle.isle_meaning.specs.AboutSites.RightSites.{RightBySites, RightOfSites}
 use Rattle.isle_meaning.specs.Worlds.{Event}
 use Rattle.isle_meaning.specs.Calls.{Makes, Means}
 use Rattle.isle_meaning.specs.Laws.Sites.{RightSidesAreTheirSites}

@@ -9,7 +9,7 @@ use Rattle.isle_meaning.specs.Sites.{make_variant, match_variant, make_struct, e
 use Rattle.isle_meaning.specs.Sites.{Sites, no_sites, more_sites}
 use Rattle.isle_meaning.specs.Held.{Held, held_some, held, plain, constructed, extract_held, construct_held, variant_field}
 use Rattle.isle_meaning.specs.Held.{struct_field, content_of, output_of, value, values}
-use Rattle.isle_meaning.specs.Kinds.{IsKinded, AreKinded}
+use Rattle.isle_meaning.specs.AboutSites.Kinds.{IsKinded, AreKinded}
 
 -- one's answers to calls that aren't `multi`, with another's to those that are
 abbrev pub singly : Completion → Completion → Completion

@@ -10,9 +10,9 @@ use Rattle.isle_meaning.specs.Words.{no_words, more_words, Step, set, flat, flat
 use Rattle.isle_meaning.specs.Sites.{Site, bool_site, int_site, prim_site, constructor_call, iterator, make_variant, make_struct}
 use Rattle.isle_meaning.specs.Sites.{match_some}
 use Rattle.isle_meaning.specs.Sites.{answer_site, site_of, sites_of}
-use Rattle.isle_meaning.specs.Parts.{IsOneOf}
+use Rattle.isle_meaning.specs.AboutSites.Parts.{IsOneOf}
 use Rattle.isle_meaning.specs.Scopes.{Reads, ReadAll, IsSingle, let_scope, ReadsExpr, ReadExprs, ReadsLets}
-use Rattle.isle_meaning.specs.ImpureCalls.{IsImpureCall, ImpureCallsAre, IsPure}
+use Rattle.isle_meaning.specs.AboutSites.ImpureCalls.{IsImpureCall, ImpureCallsAre, IsPure}
 use Rattle.isle_meaning.proofs.Chains.Causing.{Cites, CitesAll}
 use Rattle.isle_meaning.proofs.Chains.Unique.{EachStep}
 use Rattle.isle_meaning.proofs.Sites.Parts.{of_whole, of_one}

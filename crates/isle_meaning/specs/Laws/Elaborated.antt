@@ -13,7 +13,7 @@ use Rattle.isle_meaning.specs.Sorts.{AllSuit}
 use Rattle.isle_meaning.specs.Demands.{Demand, result_of}
 use Rattle.isle_meaning.specs.Derived.{Derived, FieldOf}
 use Rattle.isle_meaning.specs.Needs.{needs_of, IsNeeded}
-use Rattle.isle_meaning.specs.Kinds.{HasItsKind, IsOfItsKind}
+use Rattle.isle_meaning.specs.AboutSites.Kinds.{HasItsKind, IsOfItsKind}
 use Rattle.isle_meaning.specs.Elaborated.{IsElaborated, OpensItsMultiCalls, IfLetsHaveNoLet}
 use Rattle.isle_meaning.specs.Laws.Matching.{DemandOf}
 

@@ -7,7 +7,7 @@ use Rattle.isle_meaning.specs.Values.{Value, Values}
 use Rattle.isle_meaning.specs.Facts.{TermFacts}
 use Rattle.isle_meaning.specs.Sites.{Site}
 use Rattle.isle_meaning.specs.Sorts.{sort}
-use Rattle.isle_meaning.specs.Parts.{parts_of, IsOneOf, SpeaksOf}
+use Rattle.isle_meaning.specs.AboutSites.Parts.{parts_of, IsOneOf, SpeaksOf}
 use Rattle.isle_meaning.specs.Demands.{Demand, result_of, vars_of}
 use Rattle.isle_meaning.specs.Derived.{Derived, FieldOf}
 use Rattle.isle_meaning.specs.Needs.{needs_of, IsNeeded}
@@ -18,12 +18,12 @@ use Rattle.isle_meaning.specs.Scopes.{Covers, IsWellScopedRule}
 use Rattle.isle_meaning.specs.Worlds.{CheckedProgram, Answers, Event}
 use Rattle.isle_meaning.specs.RightSides.{RightOf}
 use Rattle.isle_meaning.specs.Calls.{Makes, Means}
-use Rattle.isle_meaning.specs.Kinds.{IsKinded, IsOfKind, IsKindedDemand}
-use Rattle.isle_meaning.specs.ImpureCalls.{IsPure, IfLetsArePure}
-use Rattle.isle_meaning.specs.RuleCalls.{ItsCallsAreHad}
-use Rattle.isle_meaning.specs.Agreeing.{AgreeIfKnown, AgreeOnCalls, IsOpenCall}
-use Rattle.isle_meaning.specs.Making.{made_of_parts, HoldEach}
-use Rattle.isle_meaning.specs.RightSites.{RightOfSites}
+use Rattle.isle_meaning.specs.AboutSites.Kinds.{IsKinded, IsOfKind, IsKindedDemand}
+use Rattle.isle_meaning.specs.AboutSites.ImpureCalls.{IsPure, IfLetsArePure}
+use Rattle.isle_meaning.specs.AboutSites.RuleCalls.{ItsCallsAreHad}
+use Rattle.isle_meaning.specs.AboutSites.Agreeing.{AgreeIfKnown, AgreeOnCalls, IsOpenCall}
+use Rattle.isle_meaning.specs.AboutSites.Making.{made_of_parts, HoldEach}
+use Rattle.isle_meaning.specs.AboutSites.RightSites.{RightOfSites}
 use Rattle.isle_meaning.specs.Laws.Matching.{IsRuleOfTypes, DemandOf}
 
 -- ---- what sites hold

@@ -1,4 +1,4 @@
-use Rattle.isle_blocks.proofs.Trees.DefinedMany as its
+use Rattle.isle_blocks.proofs.Trees.Bags.DefinedMany as its
 use Rattle.isle_blocks.proofs.laws.built_sets_are_elaborated.Goals as goal
 
 pub returns-clause-sets : goal.returns-clause-sets

@@ -1,4 +1,4 @@
-use Rattle.isle_blocks.proofs.Trees.Decided as its
+use Rattle.isle_blocks.proofs.Trees.Bags.Decided as its
 use Rattle.isle_blocks.proofs.laws.matching_is_decided.Goals as goal
 
 pub returns-clause-decided : goal.returns-clause-decided

@@ -1,4 +1,4 @@
-use Rattle.isle_blocks.proofs.Trees.MatchedByNumbers as its
+use Rattle.isle_blocks.proofs.Trees.Bags.MatchedByNumbers as its
 use Rattle.isle_blocks.proofs.laws.rules_match_by_numbers.Goals as goal
 
 pub returns : goal.returns

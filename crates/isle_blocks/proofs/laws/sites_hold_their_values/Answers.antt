@@ -1,4 +1,4 @@
-use Rattle.isle_blocks.proofs.Trees.AtPlaces as its
+use Rattle.isle_blocks.proofs.Trees.Bags.AtPlaces as its
 use Rattle.isle_blocks.proofs.laws.sites_hold_their_values.Goals as goal
 
 pub returns : goal.returns

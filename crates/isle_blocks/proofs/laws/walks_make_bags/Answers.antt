@@ -1,4 +1,4 @@
-use Rattle.isle_blocks.proofs.Trees.Functional as its
+use Rattle.isle_blocks.proofs.Trees.Bags.Functional as its
 use Rattle.isle_blocks.proofs.laws.walks_make_bags.Goals as goal
 
 pub returns : goal.returns

@@ -1,4 +1,4 @@
-use Rattle.isle_blocks.proofs.Trees.Ways as its
+use Rattle.isle_blocks.proofs.Trees.Bags.Ways as its
 use Rattle.isle_blocks.proofs.laws.ways_take_items.Goals as goal
 
 pub returns : goal.returns

@@ -4,8 +4,8 @@ use Rattle.isle_blocks.specs.Trees.Bags.{WaysTakeItems}
 use Rattle.isle_blocks.specs.Trees.Functions.{functions_of, lists_of, functions_model}
 use Rattle.isle_blocks.specs.Trees.View.{rules_of}
 use Rattle.isle_blocks.proofs.Trees.Elaborated.{well_made}
-use Rattle.isle_blocks.proofs.Trees.Functional.{are_functions}
-use Rattle.isle_blocks.proofs.Trees.Many.{ascending}
+use Rattle.isle_blocks.proofs.Trees.Bags.Functional.{are_functions}
+use Rattle.isle_blocks.proofs.Trees.Bags.Many.{ascending}
 use Rattle.isle_trees.specs.Bag.{Picks, pick, Model, IsModel, IsAscending, ways}
 use Rattle.isle_trees.specs.Premises.{IsWellMade}
 use Rattle.isle_trees.specs.Rules.{Rules, Elem}

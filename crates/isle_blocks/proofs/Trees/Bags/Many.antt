@@ -17,7 +17,7 @@ use Rattle.isle_meaning.specs.Derived.{Derived}
 use Rattle.isle_meaning.specs.Laws.Matching.{DemandOf}
 use Rattle.isle_meaning.specs.Needs.{needs_of, IsNeeded}
 use Rattle.isle_meaning.specs.Numbered.{Row, At}
-use Rattle.isle_meaning.specs.Parts.{parts_of, IsOneOf}
+use Rattle.isle_meaning.specs.AboutSites.Parts.{parts_of, IsOneOf}
 use Rattle.isle_meaning.proofs.Matching.Numbering.{one_site}
 use Rattle.isle_meaning.proofs.Sites.Owned.{IsOwn, AreOwn, own_itself, own_part, derived_own, right_own, needed_own}
 use Rattle.isle_meaning.proofs.Sites.Parts.{EachSite}

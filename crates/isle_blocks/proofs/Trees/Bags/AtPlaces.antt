@@ -9,14 +9,14 @@ use Rattle.isle_meaning.specs.Got.{Got, unknown, fails, gives}
 use Rattle.isle_meaning.specs.Values.{Value, Values, count, ask}
 use Rattle.isle_meaning.specs.Facts.{TermFacts}
 use Rattle.isle_meaning.specs.Answers.{Completion}
-use Rattle.isle_meaning.specs.Functions.{AreFiniteFunctions, as_pure, AreAsFunctions}
+use Rattle.isle_meaning.specs.AboutSites.Functions.{AreFiniteFunctions, as_pure, AreAsFunctions}
 use Rattle.isle_meaning.specs.Held.{Held, held_answers, outputs_of, item_of, value}
 use Rattle.isle_meaning.specs.Holds as holds
 use Rattle.isle_meaning.specs.Demands.{Demand, constrained, equal}
 use Rattle.isle_meaning.specs.Laws.Matching.{DemandOf}
-use Rattle.isle_meaning.specs.Making.{made_of_parts, HoldEach}
+use Rattle.isle_meaning.specs.AboutSites.Making.{made_of_parts, HoldEach}
 use Rattle.isle_meaning.specs.Numbered.{Row, At, AtAll}
-use Rattle.isle_meaning.specs.Parts.{parts_of, IsOneOf}
+use Rattle.isle_meaning.specs.AboutSites.Parts.{parts_of, IsOneOf}
 use Rattle.isle_meaning.specs.Sites.{Site, constructor_call, iterator, Sites, no_sites, more_sites}
 use Rattle.isle_meaning.specs.Subtrees.{IsSubtree}
 use Rattle.isle_meaning.proofs.Chains.Subtrees.{whole as itself, deeper}
@@ -43,8 +43,8 @@ use Rattle.isle_blocks.specs.Trees.View.{made_by, rules_of}
 use Rattle.isle_blocks.proofs.Closure.Trees.{at_below}
 use Rattle.isle_blocks.proofs.Trees.Chosen.{zip_left}
 use Rattle.isle_blocks.proofs.Trees.Elaborated.{well_made, site_kinded}
-use Rattle.isle_blocks.proofs.Trees.Many.{multi_own}
-use Rattle.isle_blocks.proofs.Trees.MatchedByNumbers.{matches_by_numbers}
+use Rattle.isle_blocks.proofs.Trees.Bags.Many.{multi_own}
+use Rattle.isle_blocks.proofs.Trees.Bags.MatchedByNumbers.{matches_by_numbers}
 use Rattle.isle_blocks.proofs.Trees.Standing.{parts_stand, part_at, tree_is, tree_one}
 use Rattle.isle_trees.specs.Answers.{HasValue}
 use Rattle.isle_trees.specs.Bag.{Picks}

@@ -10,8 +10,8 @@ use Rattle.isle_meaning.specs.Values.{Values, nth, ask}
 use Rattle.isle_meaning.specs.Facts.{TermFacts}
 use Rattle.isle_meaning.specs.Answers.{Completion}
 use Rattle.isle_meaning.specs.Held.{Held, held_value, held, plain_of, variant_field, struct_field, content_of}
-use Rattle.isle_meaning.specs.Functions.{as_pure}
-use Rattle.isle_meaning.specs.Making.{made_of_parts}
+use Rattle.isle_meaning.specs.AboutSites.Functions.{as_pure}
+use Rattle.isle_meaning.specs.AboutSites.Making.{made_of_parts}
 use Rattle.isle_meaning.specs.Sites.{Site}
 use Rattle.isle_meaning.proofs.Matching.Basics.{field_at, struct_at}
 use Rattle.isle_blocks.specs.declared.binding.Binding.{Binding}
@@ -26,11 +26,11 @@ use Rattle.isle_blocks.specs.Trees.Functions.{settled, functions_of, lists_of, f
 use Rattle.isle_blocks.specs.Trees.SiteTrees.{tree_of}
 use Rattle.isle_blocks.specs.Trees.View.{made_by, opening, rules_of}
 use Rattle.isle_blocks.specs.Trees.Deciding.{matches_here}
-use Rattle.isle_blocks.proofs.Trees.Decided.{decided}
+use Rattle.isle_blocks.proofs.Trees.Bags.Decided.{decided}
 use Rattle.isle_blocks.proofs.Trees.Elaborated.{well_made}
 use Rattle.isle_blocks.proofs.Trees.Exact.{passed_meets}
 use Rattle.isle_blocks.proofs.Trees.Listed.{opening_opens}
-use Rattle.isle_blocks.proofs.Trees.Many.{is_many}
+use Rattle.isle_blocks.proofs.Trees.Bags.Many.{is_many}
 use Rattle.isle_blocks.proofs.Trees.Reading.{read_some}
 use Rattle.isle_blocks.proofs.Trees.Respected.{variant_there, struct_there}
 use Rattle.isle_blocks.proofs.Trees.Standing.{tree_is}
