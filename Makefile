@@ -2,6 +2,7 @@
 
 PREFIX ?= $(HOME)/.local
 PROGRAM = crates/islec/out/islec
+VECTORS = tests/vectors/first.json tests/vectors/mixed.json tests/vectors/equal.json
 
 .PHONY: run build test commands edits install replay bench
 
@@ -25,10 +26,11 @@ test:
 # On the program as it was built last.
 commands:
 	python3 tools/commands.py $(PROGRAM) tests/commands/*.json
-	python3 tools/replay.py $(PROGRAM) check tests/vectors/*.json
-	python3 tools/replay.py $(PROGRAM) plain tests/vectors/*.json
-	python3 tools/replay.py $(PROGRAM) run tests/vectors/*.json
-	python3 tools/replay.py $(PROGRAM) world tests/vectors/*.json
+	python3 tools/replay.py $(PROGRAM) check $(VECTORS)
+	python3 tools/replay.py $(PROGRAM) plain $(VECTORS)
+	python3 tools/replay.py $(PROGRAM) run $(VECTORS)
+	python3 tools/replay.py $(PROGRAM) world $(VECTORS)
+	python3 tools/replay.py $(PROGRAM) blocks tests/vectors/trees.json
 
 # The wrong bodies of tests/edits, of which the prover must refuse each: those of CRATES, or of all crates that have changed since
 # theirs were tried. With ALL=--all also those of the others.

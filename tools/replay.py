@@ -1,7 +1,7 @@
 #!/usr/bin/env python3
-"""Runs `islec check`, `run` or `run --plain` on programs with known answers; `world` runs them without queries.
+"""Runs `islec check`, `run`, `run --plain` or `blocks` on programs with known answers; `world` runs them without queries.
 
-    replay.py PROGRAM check|run|plain|world FILE.json ..
+    replay.py PROGRAM check|run|plain|world|blocks FILE.json ..
 
 Each FILE is a list of cases, as tests/vectors/README.md describes them. Prints the name of each
 case that fails with what differs, and last `N passed, M failed`. Exits with 1 where one failed.
@@ -51,8 +51,8 @@ def comparable(output, status):
 
 def words_of(command, case):
     """The words of a command on a case, without the names of its files."""
-    if command == "check":
-        return ["check"]
+    if command in ("check", "blocks"):
+        return [command]
     words = ["run", "--depth", str(case["depth"])]
     if command == "plain":
         words.append("--plain")
@@ -72,7 +72,7 @@ def run(program, command, case):
         done = subprocess.run(
             [program, *words, *sorted(case["files"])],
             cwd=folder,
-            input=b"" if command == "world" else case["queries"].encode(),
+            input=b"" if command in ("world", "blocks") else case["queries"].encode(),
             stdout=subprocess.PIPE,
             stderr=subprocess.PIPE,
             timeout=SECONDS,
@@ -86,6 +86,8 @@ def wanted_of(command, case):
     if command == "world":
         # A run without queries writes something only where texts or world are refused.
         return (case["run"], 1) if case["run_status"] == 1 else ("", 0)
+    if command == "blocks":
+        return case["blocks"], 0
     if command == "check":
         return case["check"], case["check_status"]
     return case["run" if command == "plain" else "blocks_run"], case["run_status"]
@@ -110,7 +112,7 @@ def differences(program, command, case):
 
 
 def main():
-    if len(sys.argv) < 4 or sys.argv[2] not in ("check", "run", "plain", "world"):
+    if len(sys.argv) < 4 or sys.argv[2] not in ("check", "run", "plain", "world", "blocks"):
         sys.exit(__doc__)
     program = os.path.abspath(sys.argv[1])
     command = sys.argv[2]

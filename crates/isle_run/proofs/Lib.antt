@@ -1,5 +1,7 @@
 -- Which files are compiled, and the faults of others.
 pub mod Compiling
+-- What is printed of rule sets and trees, piece by piece.
+pub mod TreeTexts
 -- Values read, settled at types and printed.
 pub mod GroundValues
 -- Worked cases.

@@ -6,6 +6,10 @@ pub mod Tables
 pub mod SoundTables
 -- What a program holds.
 pub mod Programs
+-- The trees of a program's rule sets.
+pub mod Trees
+-- What is printed of them.
+pub mod TreeTexts
 -- In which order a query is checked.
 pub mod Queries
 -- Values and their texts.

@@ -8,6 +8,7 @@ pub mod laws;
 mod program;
 mod query;
 mod roads;
+mod trees;
 mod values;
 mod worlds;
 

@@ -233,6 +233,13 @@ impl Program {
         &self.termenv
     }
 
+    /// The rule sets of the terms with rules, ascending by the term.
+    pub(crate) fn rule_sets(&self) -> &[(TermId, RuleSet)]
+        ensures { result.now ≡ rule_sets_of self.now }
+    {
+        self.rule_sets.as_slice()
+    }
+
     /// The rules, in the order of the texts.
     pub(crate) fn rules(&self) -> &[Rule]
         ensures { result.now ≡ rules_in self.now }

@@ -5,7 +5,7 @@ use Rattle.clap.specs.Words.{fault_of, subcommand_of}
 use Rattle.clap.specs.declared.error.kind.ErrorKind.TheVariants as kind
 use Rattle.clap.proofs.OnLiterals.{clap_on_literals}
 use Rattle.islec.specs.Commands.{islec}
-use Rattle.islec.specs.Lines.{flag_of, number_of}
+use Rattle.islec.specs.Lines.{each_of, flag_of, number_of}
 
 -- a run of two files with a world and a depth
 abbrev pub run_words : List Text
@@ -40,6 +40,16 @@ check_flag = refl
 fmt_width : option_map (λ p. number_of (codes "width") p.1) (subcommand_of islec (codes "islec" ∷ codes "fmt" ∷ codes "a.isle" ∷ [])) ≡ Some (Some 80)
 unfolding clap_on_literals
 fmt_width = refl
+
+-- trees of two terms, and of all
+blocks_terms : option_map (λ p. each_of (codes "term") p.1)
+    (subcommand_of islec (codes "islec" ∷ codes "blocks" ∷ codes "--term" ∷ codes "f" ∷ codes "--term=g" ∷ codes "a.isle" ∷ [])) ≡ Some (codes "f" ∷ codes "g" ∷ [])
+unfolding clap_on_literals
+blocks_terms = refl
+
+blocks_of_all : option_map (λ p. each_of (codes "term") p.1) (subcommand_of islec (codes "islec" ∷ codes "blocks" ∷ codes "a.isle" ∷ [])) ≡ Some []
+unfolding clap_on_literals
+blocks_of_all = refl
 
 -- words that are refused
 no_command : fault_of islec (codes "islec" ∷ []) ≡ kind.MissingSubcommand ∷ []

@@ -25,7 +25,7 @@ use Rattle.islec.specs.Lines.{ReadsLine, RefusesLine, SaysLine}
 use Rattle.islec.specs.declared.line.Line.{Line}
 use Rattle.islec.specs.declared.line.LineFault.{LineFault}
 use Rattle.islec.specs.declared.line.LineFault.TheVariants.{Usage, Memory}
-use Rattle.islec.specs.Commands.{IsArgument, IsCommand, check_rules, fmt_rules, islec, run_rules}
+use Rattle.islec.specs.Commands.{IsArgument, IsCommand, blocks_rules, check_rules, fmt_rules, islec, run_rules}
 use Rattle.islec.specs.Rows.{FillsRules}
 use Rattle.islec.proofs.WalkRows.{OwnRules}
 use Rattle.islec.proofs.WalkStops.{start_elsewhere, walk_elsewhere}
@@ -72,6 +72,18 @@ check_own = (
   ),
 )
 
+blocks_own : OwnRules blocks_rules
+blocks_own = (
+  record { own = refl; keeps = omega arith; wants = λ e. omega arith; default = λ e. omega arith },
+  (
+    record { own = refl; keeps = omega arith; wants = λ e. omega arith; default = λ e. omega arith },
+    (
+      record { own = refl; keeps = tt; wants = unset _ refl; default = unset _ refl },
+      tt,
+    ),
+  ),
+)
+
 fmt_own : OwnRules fmt_rules
 fmt_own = (
   record { own = refl; keeps = omega arith; wants = λ e. omega arith; default = λ e. omega arith },
@@ -84,25 +96,27 @@ fmt_own = (
   ),
 )
 
--- the first of four that passes
-first_of_four : {X : Type 0} (f : X → Bool) (a b c d x : X) → find f (a ∷ b ∷ c ∷ d ∷ []) ≡ Some x
-    → (f x ≡ true) × ((x ≡ a) ⊎ ((x ≡ b) ⊎ ((x ≡ c) ⊎ (x ≡ d))))
-first_of_four f a b c d x e = go (f a) (f b) (f c) (f d) refl refl refl refl e
+-- the first of five that passes
+first_of_five : {X : Type 0} (f : X → Bool) (a b c d k x : X) → find f (a ∷ b ∷ c ∷ d ∷ k ∷ []) ≡ Some x
+    → (f x ≡ true) × ((x ≡ a) ⊎ ((x ≡ b) ⊎ ((x ≡ c) ⊎ ((x ≡ d) ⊎ (x ≡ k)))))
+first_of_five f a b c d k x e = go (f a) (f b) (f c) (f d) (f k) refl refl refl refl refl e
   where
-    go : (p q r s : Bool) → f a ≡ p → f b ≡ q → f c ≡ r → f d ≡ s
-        → cond p (Some a) (cond q (Some b) (cond r (Some c) (cond s (Some d) None))) ≡ Some x
-        → (f x ≡ true) × ((x ≡ a) ⊎ ((x ≡ b) ⊎ ((x ≡ c) ⊎ (x ≡ d))))
-    go true q r s fa fb fc fd e = let same = ap (λ o. unwrap_or o a) e in (ap f (sym same) ∙ fa, inl (sym same))
-    go false true r s fa fb fc fd e = let same = ap (λ o. unwrap_or o a) e in (ap f (sym same) ∙ fb, inr (inl (sym same)))
-    go false false true s fa fb fc fd e = let same = ap (λ o. unwrap_or o a) e in (ap f (sym same) ∙ fc, inr (inr (inl (sym same))))
-    go false false false true fa fb fc fd e = let same = ap (λ o. unwrap_or o a) e in (ap f (sym same) ∙ fd, inr (inr (inr (sym same))))
-    go false false false false fa fb fc fd e = absurd (true≢false (sym (ap is_some e)))
+    go : (p q r s t : Bool) → f a ≡ p → f b ≡ q → f c ≡ r → f d ≡ s → f k ≡ t
+        → cond p (Some a) (cond q (Some b) (cond r (Some c) (cond s (Some d) (cond t (Some k) None)))) ≡ Some x
+        → (f x ≡ true) × ((x ≡ a) ⊎ ((x ≡ b) ⊎ ((x ≡ c) ⊎ ((x ≡ d) ⊎ (x ≡ k)))))
+    go true q r s t fa fb fc fd fk e = let same = ap (λ o. unwrap_or o a) e in (ap f (sym same) ∙ fa, inl (sym same))
+    go false true r s t fa fb fc fd fk e = let same = ap (λ o. unwrap_or o a) e in (ap f (sym same) ∙ fb, inr (inl (sym same)))
+    go false false true s t fa fb fc fd fk e = let same = ap (λ o. unwrap_or o a) e in (ap f (sym same) ∙ fc, inr (inr (inl (sym same))))
+    go false false false true t fa fb fc fd fk e = let same = ap (λ o. unwrap_or o a) e in (ap f (sym same) ∙ fd, inr (inr (inr (inl (sym same)))))
+    go false false false false true fa fb fc fd fk e = let same = ap (λ o. unwrap_or o a) e in (ap f (sym same) ∙ fk, inr (inr (inr (inr (sym same)))))
+    go false false false false false fa fb fc fd fk e = absurd (true≢false (sym (ap is_some e)))
 
 -- one of the commands was entered, and its rows are what it asks
 abbrev pub EntersOne : Option (Text × List Row) → Type 0
 EntersOne None = ⊥
 EntersOne (Some p) = ((p.0 ≡ codes "run") × FillsRules run_rules p.1)
-    ⊎ (((p.0 ≡ codes "check") × FillsRules check_rules p.1) ⊎ ((p.0 ≡ codes "fmt") × FillsRules fmt_rules p.1))
+    ⊎ (((p.0 ≡ codes "check") × FillsRules check_rules p.1) ⊎ (((p.0 ≡ codes "blocks") × FillsRules blocks_rules p.1)
+    ⊎ ((p.0 ≡ codes "fmt") × FillsRules fmt_rules p.1)))
 
 -- the subcommand at a place
 abbrev sub : ℕ → Shape
@@ -112,12 +126,13 @@ one_shape : (s : Shape) (name : Text) (words : List Text) → find (λ x. answer
     → bytes_eq name (codes "help") ≡ false
     → level_fault s [] nothing_held words false [] ≡ [] → EntersOne (Some (rows_at s words))
 one_shape s name words is other e =
-    let f = first_of_four (λ x. answers_to name (label_of x)) (sub 0) (sub 1) (sub 2) (sub 3) s is in
+    let f = first_of_five (λ x. answers_to name (label_of x)) (sub 0) (sub 1) (sub 2) (sub 3) (sub 4) s is in
     elim f.1 [
       | inl h ↦ inl (named s (sub 0) h, filled s (sub 0) run_rules words h refl refl refl run_own e)
       | inr (inl h) ↦ inr (inl (named s (sub 1) h, filled s (sub 1) check_rules words h refl refl refl check_own e))
-      | inr (inr (inl h)) ↦ inr (inr (named s (sub 2) h, filled s (sub 2) fmt_rules words h refl refl refl fmt_own e))
-      | inr (inr (inr h)) ↦
+      | inr (inr (inl h)) ↦ inr (inr (inl (named s (sub 2) h, filled s (sub 2) blocks_rules words h refl refl refl blocks_own e)))
+      | inr (inr (inr (inl h))) ↦ inr (inr (inr (named s (sub 3) h, filled s (sub 3) fmt_rules words h refl refl refl fmt_own e)))
+      | inr (inr (inr (inr h))) ↦
           let answers : (bytes_eq (codes "help") name || false) ≡ true = ap (λ x. answers_to name (label_of x)) (sym h) ∙ f.0 in
           let same : codes "help" ≡ name = (bytes_eq-Decides (codes "help") name).0 (alone _ answers) in
           absurd (true≢false (sym ((bytes_eq-Decides name (codes "help")).1 (sym same)) ∙ other))
@@ -206,13 +221,14 @@ module _ {Z : Type 0} where
   name_and_rows None name rows is has = absurd (true≢false (sym (ap is_some is)))
   name_and_rows (Some b) name rows is has = ap₂ (λ n rs. Some (n, rs)) (ap (λ o. unwrap_or o name) is) (ap (λ o. unwrap_or o rows) has)
 
-  one_of_three : (o : Option (Box SubCommand Z)) → EntersOne (subcommand_rows o) → (entered_name o ≡ Some (codes "run") → ⊥)
-      → (entered_name o ≡ Some (codes "check") → ⊥)
+  one_of_four : (o : Option (Box SubCommand Z)) → EntersOne (subcommand_rows o) → (entered_name o ≡ Some (codes "run") → ⊥)
+      → (entered_name o ≡ Some (codes "check") → ⊥) → (entered_name o ≡ Some (codes "blocks") → ⊥)
       → (entered_name o ≡ Some (codes "fmt") → ⊥) → ⊥
-  one_of_three None one r k f = one
-  one_of_three (Some b) (inl h) r k f = r (ap Some h.0)
-  one_of_three (Some b) (inr (inl h)) r k f = k (ap Some h.0)
-  one_of_three (Some b) (inr (inr h)) r k f = f (ap Some h.0)
+  one_of_four None one r k b f = one
+  one_of_four (Some s) (inl h) r k b f = r (ap Some h.0)
+  one_of_four (Some s) (inr (inl h)) r k b f = k (ap Some h.0)
+  one_of_four (Some s) (inr (inr (inl h))) r k b f = b (ap Some h.0)
+  one_of_four (Some s) (inr (inr (inr h))) r k b f = f (ap Some h.0)
 
 -- a command that was met, with its rows
 pub met_rows : (m : ArgMatches) (name : Text) (rows : List Row) → subcommand_name_of m ≡ Some name
@@ -227,23 +243,32 @@ apart x y xs ys differ e = absurd (differ (ap (λ t. slice_index t 0) e))
 pub run_fills : (rows : List Row) → EntersOne (Some (codes "run", rows)) → FillsRules run_rules rows
 run_fills rows (inl h) = h.1
 run_fills rows (inr (inl h)) = apart 114 99 _ _ (λ e. omega (arith, e)) h.0
-run_fills rows (inr (inr h)) = apart 114 102 _ _ (λ e. omega (arith, e)) h.0
+run_fills rows (inr (inr (inl h))) = apart 114 98 _ _ (λ e. omega (arith, e)) h.0
+run_fills rows (inr (inr (inr h))) = apart 114 102 _ _ (λ e. omega (arith, e)) h.0
 
 pub check_fills : (rows : List Row) → EntersOne (Some (codes "check", rows)) → FillsRules check_rules rows
 check_fills rows (inl h) = apart 99 114 _ _ (λ e. omega (arith, e)) h.0
 check_fills rows (inr (inl h)) = h.1
-check_fills rows (inr (inr h)) = apart 99 102 _ _ (λ e. omega (arith, e)) h.0
+check_fills rows (inr (inr (inl h))) = apart 99 98 _ _ (λ e. omega (arith, e)) h.0
+check_fills rows (inr (inr (inr h))) = apart 99 102 _ _ (λ e. omega (arith, e)) h.0
+
+pub blocks_fills : (rows : List Row) → EntersOne (Some (codes "blocks", rows)) → FillsRules blocks_rules rows
+blocks_fills rows (inl h) = apart 98 114 _ _ (λ e. omega (arith, e)) h.0
+blocks_fills rows (inr (inl h)) = apart 98 99 _ _ (λ e. omega (arith, e)) h.0
+blocks_fills rows (inr (inr (inl h))) = h.1
+blocks_fills rows (inr (inr (inr h))) = apart 98 102 _ _ (λ e. omega (arith, e)) h.0
 
 pub fmt_fills : (rows : List Row) → EntersOne (Some (codes "fmt", rows)) → FillsRules fmt_rules rows
 fmt_fills rows (inl h) = apart 102 114 _ _ (λ e. omega (arith, e)) h.0
 fmt_fills rows (inr (inl h)) = apart 102 99 _ _ (λ e. omega (arith, e)) h.0
-fmt_fills rows (inr (inr h)) = h.1
+fmt_fills rows (inr (inr (inl h))) = apart 102 98 _ _ (λ e. omega (arith, e)) h.0
+fmt_fills rows (inr (inr (inr h))) = h.1
 
--- one of the three was met
+-- one of the four was met
 pub none_met : (m : ArgMatches) → EntersOne (subcommand_rows_of m) → (subcommand_name_of m ≡ Some (codes "run") → ⊥)
-    → (subcommand_name_of m ≡ Some (codes "check") → ⊥)
+    → (subcommand_name_of m ≡ Some (codes "check") → ⊥) → (subcommand_name_of m ≡ Some (codes "blocks") → ⊥)
     → (subcommand_name_of m ≡ Some (codes "fmt") → ⊥) → ⊥
-none_met m = one_of_three (out-ArgMatches m).subcommand
+none_met m = one_of_four (out-ArgMatches m).subcommand
 
 -- the line of a command that was met
 pub reads_line : (words : List Text) (m : ArgMatches) (name : Text) (rows : List Row) (line : Line) → Parses words m

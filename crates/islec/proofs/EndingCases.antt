@@ -2,7 +2,7 @@
 use Rattle.std.proofs.Common.{◌≡◌, ◌∷◌, ◌∙◌, ℕ, List, [], Option, Some, None, inl, inr, refl, sym, ap, subst, Bool, true, false, true≢false, map, option_map, codes, string_bytes, bytes_eq}
 use Rattle.std.proofs.lemmas.Option.{same_Some}
 use Rattle.std.specs.Global.{Global}
-use Rattle.std.specs.Prelude.{String}
+use Rattle.std.specs.Prelude.{String, Vec}
 use Rattle.clap.specs.Words.{IsAmong, Row, Text, all_of, fault_of, first_of, kind_of, subcommand_of}
 use Rattle.clap.specs.declared.error.kind.ErrorKind.{ErrorKind}
 use Rattle.clap.specs.declared.error.kind.ErrorKind.TheVariants as kind
@@ -14,7 +14,7 @@ use Rattle.islec.specs.Lines.{ReadsLine, SaysJob, names_of, world_of}
 use Rattle.islec.specs.Statuses.{code_of}
 use Rattle.islec.specs.declared.line.Job.{Job}
 use Rattle.islec.specs.declared.line.Line.{Line}
-use Rattle.islec.specs.declared.line.Job.TheVariants.{Run, Check, Fmt}
+use Rattle.islec.specs.declared.line.Job.TheVariants.{Run, Check, Blocks, Fmt}
 use Rattle.islec.specs.declared.program.Unbegun.TheVariants.{Usage, NotText, CannotRead, Memory}
 use Rattle.islec.specs.declared.status.Status.TheVariants as status
 use Rattle.islec.proofs.CommandCases.{run_words, run_files, run_name, run_world}
@@ -28,6 +28,10 @@ no_check_is_refused_a_query terms files world input left old new ends = ends
 no_print_is_refused_a_query : (width : ℕ) (files : List SourceFile) (world : SourceFile) (input left old new : Option (List ℕ))
     → EndsJob (Fmt width) files world input left old new status.SomeRefused → ⊥
 no_print_is_refused_a_query width files world input left old new ends = ends
+
+no_tree_is_refused_a_query : (terms : Vec (String Global) Global) (files : List SourceFile) (world : SourceFile) (input left old new : Option (List ℕ))
+    → EndsJob (Blocks terms) files world input left old new status.SomeRefused → ⊥
+no_tree_is_refused_a_query terms files world input left old new ends = ends
 
 no_run_is_refused_its_words : (depth : ℕ) (plain : Bool) (files : List SourceFile) (world : SourceFile) (input left old new : Option (List ℕ))
     → EndsJob (Run depth plain) files world input left old new status.Usage → ⊥
@@ -88,6 +92,10 @@ world_is : (job : Job) (name : Text) (rows : List Row) → subcommand_of islec r
     → world_of job rows ≡ Some (codes "w.isle")
 world_is (Run depth plain) name rows met says = same_Some _ _ (sym (ap (option_map (λ p. first_of (codes "world") p.1)) met) ∙ run_world)
 world_is (Check terms) name rows met (named, flag) =
+    let is_run = same_Some _ _ (sym (ap (option_map (λ p. p.0)) met) ∙ run_name) in
+    let wrong : true ≡ false = ap (λ (text : Text). bytes_eq text (codes "run")) (sym is_run ∙ named) in
+    absurd (true≢false wrong)
+world_is (Blocks terms) name rows met (named, names) =
     let is_run = same_Some _ _ (sym (ap (option_map (λ p. p.0)) met) ∙ run_name) in
     let wrong : true ≡ false = ap (λ (text : Text). bytes_eq text (codes "run")) (sym is_run ∙ named) in
     absurd (true≢false wrong)

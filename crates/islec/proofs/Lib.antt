@@ -6,8 +6,8 @@ pub mod PrintsLemmas
 pub mod SpeltPrints
 -- What is written of files that are refused.
 pub mod RefusedFiles
--- Statuses by their numbers.
-pub mod StatusLemmas
+-- How jobs end, by what their parts promise.
+pub mod JobLemmas
 -- What is written of a call's parts, and what a refused or an answered query is written.
 pub mod ReplyLemmas
 -- Lines of bytes as a reader gives them.
@@ -16,6 +16,8 @@ pub mod LineLemmas
 pub mod ServingLemmas
 -- What a run of texts writes, by what its parts write.
 pub mod RunLemmas
+-- What is written of the trees of a program's rules, by what its parts write.
+pub mod DrawingLemmas
 -- What is written of a world that is refused.
 pub mod WorldLemmas
 -- Words that a simple command takes give values that fit its arguments.

@@ -22,8 +22,8 @@ use Rattle.clap.specs.declared.parser.matches.Found.{Found}
 use Rattle.clap.proofs.CallerReads.{signed_reads}
 use Rattle.clap.proofs.ValueTestLemmas.{accepts-Accepts}
 use Rattle.clap.proofs.WalkLemmas.{both, one_text-rows, raw_values-rows}
-use Rattle.islec.specs.Lines.{names_of, number_of}
-use Rattle.islec.specs.Commands.{check_rules, fmt_rules, run_rules}
+use Rattle.islec.specs.Lines.{each_of, names_of, number_of}
+use Rattle.islec.specs.Commands.{blocks_rules, check_rules, fmt_rules, run_rules}
 use Rattle.islec.specs.Rows.{Each, FillsRules, FitsRow, FitsRule}
 use Rattle.islec.proofs.FilledRows.{row_of_rule}
 
@@ -88,6 +88,11 @@ check_terms rows f = let v = one_reads check_rules (rule check_rules 0) rows ref
 
 pub check_files : (rows : List Row) → FillsRules check_rules rows → (vs : List Text) × (all_of (codes "file") rows ≡ Some vs) × (0 < length vs)
 check_files rows f = let v = all_reads check_rules (rule check_rules 1) rows refl f.fits (f.whole.1.0 (inl refl)) in (v.0, v.1, v.2)
+
+-- ---- blocks
+
+pub blocks_files : (rows : List Row) → FillsRules blocks_rules rows → (vs : List Text) × (all_of (codes "file") rows ≡ Some vs) × (0 < length vs)
+blocks_files rows f = let v = all_reads blocks_rules (rule blocks_rules 1) rows refl f.fits (f.whole.1.0 (inl refl)) in (v.0, v.1, v.2)
 
 -- ---- fmt
 
@@ -167,3 +172,16 @@ pub files_read : (f : Found) (vs : List Text) (o : Option (Bor (List (Bor Text))
 files_read f vs o d got v values found is copied =
     let names = copied ∙ found_texts o d got vs (found ∙ raw_values-rows f (codes "file") ∙ values) is in
     (values ∙ ap Some (sym names), v.ok.0 ∙ sym (length-map (vec_items v) string_bytes) ∙ ap length names)
+
+-- the texts behind a slice, none where none was found
+any_texts : (o : Option (Bor (List (Bor Text)))) (d got : Bor (List (Bor Text))) → d.now ≡ [] → got ≡ unwrap_or o d
+    → map (λ v. v.now) got.now ≡ unwrap_or (option_map (λ s. map (λ v. v.now) s.now) o) []
+any_texts None d got none e = ap (λ (b : Bor (List (Bor Text))). map (λ (v : Bor Text). v.now) b.now) e ∙ ap (λ (l : List (Bor Text)). map (λ (v : Bor Text). v.now) l) none
+any_texts (Some s) d got none e = ap (λ (b : Bor (List (Bor Text))). map (λ (v : Bor Text). v.now) b.now) e
+
+-- the copies of the texts of an option that may be given any number of times
+pub names_read : (f : Found) (id : Text) (o : Option (Bor (List (Bor Text)))) (d got : Bor (List (Bor Text))) (v : Vec (String Global) Global)
+    → d.now ≡ [] → option_map (λ s. map (λ x. x.now) s.now) o ≡ option_map raw_values (matched_of f id)
+    → got ≡ unwrap_or o d → names_of v ≡ map (λ x. x.now) got.now → each_of id (rows_of f) ≡ names_of v
+names_read f id o d got v none found is copied =
+    ap (λ (l : Option (List Text)). unwrap_or l []) (sym (found ∙ raw_values-rows f id)) ∙ sym (any_texts o d got none is) ∙ sym copied

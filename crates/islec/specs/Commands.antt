@@ -30,6 +30,10 @@ plain = record (new_rule (codes "plain")) { long = Some (codes "plain"); action 
 abbrev pub terms : Rule
 terms = record (new_rule (codes "terms")) { long = Some (codes "terms"); action = Some SetTrue }
 
+-- `--term NAME`, any number of times
+abbrev pub term : Rule
+term = record (new_rule (codes "term")) { long = Some (codes "term"); value_names = 1; action = Some Append }
+
 -- `--width N`: a number up to a million, and 80 where it is left out
 abbrev pub width : Rule
 width = record (new_rule (codes "width")) {
@@ -61,6 +65,10 @@ run = with_rule (with_rule (with_rule (with_rule (new_app (codes "run")) world) 
 abbrev pub check : App
 check = with_rule (with_rule (new_app (codes "check")) terms) rule_files
 
+-- `blocks`, with names of terms and files
+abbrev pub blocks : App
+blocks = with_rule (with_rule (new_app (codes "blocks")) term) rule_files
+
 -- `fmt`, with a width and a file
 abbrev pub fmt : App
 fmt = with_rule (with_rule (new_app (codes "fmt")) width) one_file
@@ -69,10 +77,10 @@ fmt = with_rule (with_rule (new_app (codes "fmt")) width) one_file
 abbrev pub with_required : App → App
 with_required a = record a { top = record a.top { subcommand_required = true } }
 
--- the command `islec`, which is one of `run`, `check` and `fmt`
+-- the command `islec`, which is one of `run`, `check`, `blocks` and `fmt`
 abbrev pub islec : App
-islec = with_subcommand (with_subcommand (with_subcommand (with_required (new_app (codes "islec")))
-    run.top) check.top) fmt.top
+islec = with_subcommand (with_subcommand (with_subcommand (with_subcommand (with_required (new_app (codes "islec")))
+    run.top) check.top) blocks.top) fmt.top
 
 -- the arguments of `run` as they are read, with `--help`
 abbrev pub run_rules : List Rule
@@ -81,6 +89,10 @@ run_rules = (built_leaf run.top).rules
 -- the arguments of `check` as they are read, with `--help`
 abbrev pub check_rules : List Rule
 check_rules = (built_leaf check.top).rules
+
+-- the arguments of `blocks` as they are read, with `--help`
+abbrev pub blocks_rules : List Rule
+blocks_rules = (built_leaf blocks.top).rules
 
 -- the arguments of `fmt` as they are read, with `--help`
 abbrev pub fmt_rules : List Rule

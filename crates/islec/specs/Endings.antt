@@ -8,13 +8,14 @@ use Rattle.isle_syntax.specs.Positions.Files.{SourceFile}
 use Rattle.isle_run.specs.Compiled.{AreAccepted}
 use Rattle.islec.specs.Beginnings.{TellsUnbegun}
 use Rattle.islec.specs.Commands.{islec}
+use Rattle.islec.specs.Drawing.{WritesTrees, WritesUnknown, CutsTrees}
 use Rattle.islec.specs.Formatting.{WritesPrints, WritesFault, CutsPrints}
 use Rattle.islec.specs.Lines.{ReadsLine, names_of}
 use Rattle.islec.specs.Running.{WritesFaults, WritesAccepted, WritesAnswers, WritesRefusal, CutsCheck, CutsRun, RunsOut}
 use Rattle.islec.specs.Statuses.{code_of}
 use Rattle.islec.specs.Writing.{AppendsBeginning}
 use Rattle.islec.specs.declared.line.Job.{Job}
-use Rattle.islec.specs.declared.line.Job.TheVariants.{Run, Check, Fmt}
+use Rattle.islec.specs.declared.line.Job.TheVariants.{Run, Check, Blocks, Fmt}
 use Rattle.islec.specs.declared.line.Line.{Line}
 use Rattle.islec.specs.declared.program.Begun.{Begun}
 use Rattle.islec.specs.declared.program.Unbegun.{Unbegun}
@@ -40,6 +41,15 @@ EndsCheck terms files old new SomeRefused = ⊥
 EndsCheck terms files old new InputOutput = CutsCheck files terms old new
 EndsCheck terms files old new OutOfMemory = AppendsBeginning old new (codes "out of memory\n")
 
+-- what is written of files whose trees are printed, of the terms of these names or of all
+abbrev pub EndsBlocks : List (List ℕ) → List SourceFile → (old new : Option (List ℕ)) → Status → Type 0
+EndsBlocks names files old new AllWell = WritesTrees files names old new
+EndsBlocks names files old new TextsRefused = WritesFaults files old new
+EndsBlocks names files old new Usage = WritesUnknown files names old new
+EndsBlocks names files old new SomeRefused = ⊥
+EndsBlocks names files old new InputOutput = CutsTrees files names old new
+EndsBlocks names files old new OutOfMemory = AppendsBeginning old new (codes "out of memory\n")
+
 -- what is written of files that are printed
 abbrev pub EndsFmt : (width : ℕ) → List SourceFile → (old new : Option (List ℕ)) → Status → Type 0
 EndsFmt width files old new AllWell = WritesPrints width files old new
@@ -53,6 +63,7 @@ EndsFmt width files old new OutOfMemory = AppendsBeginning old new (codes "out o
 abbrev pub EndsJob : Job → List SourceFile → (world : SourceFile) → (input left old new : Option (List ℕ)) → Status → Type 0
 EndsJob (Run depth plain) files world input left old new status = EndsRun depth plain files world input left old new status
 EndsJob (Check terms) files world input left old new status = EndsCheck terms files old new status
+EndsJob (Blocks terms) files world input left old new status = EndsBlocks (names_of terms) files old new status
 EndsJob (Fmt width) files world input left old new status = EndsFmt width files old new status
 
 -- the file has the name that a line gives its world; where it gives none it is empty and named `world`

@@ -18,6 +18,8 @@ pub mod Faults
 pub mod Worlds
 -- What a check writes of a program.
 pub mod Terms
+-- What is written of the trees of a program's rules.
+pub mod Drawing
 -- The command `islec` and its arguments, as `clap` reads them.
 pub mod Commands
 -- What holds of the values that a simple command finds in words that it takes.

@@ -1,5 +1,5 @@
 -- What the words of a command line say.
-use Rattle.std.specs.Prelude.{◌≡◌, ℕ, Bool, List, [], Option, Some, None, Vec, String, map, codes, false, option_map, string_bytes, vec_items, ⊤}
+use Rattle.std.specs.Prelude.{◌≡◌, ℕ, Bool, List, [], Option, Some, None, Vec, String, map, codes, false, option_map, string_bytes, vec_items, unwrap_or, ⊤}
 use Rattle.std.specs.Global.{Global}
 use Rattle.std.specs.Option.{option_map_or}
 use Rattle.std.specs.Str.{bytes_eq}
@@ -7,7 +7,7 @@ use Rattle.std.specs.Str.Parse.{digits_value, without_leading_plus}
 use Rattle.clap.specs.Words.{IsAmong, Row, Text, all_of, fault_of, first_of, kind_of, one_of, subcommand_of}
 use Rattle.islec.specs.Commands.{islec}
 use Rattle.islec.specs.declared.line.Job.{Job}
-use Rattle.islec.specs.declared.line.Job.TheVariants.{Run, Check, Fmt}
+use Rattle.islec.specs.declared.line.Job.TheVariants.{Run, Check, Blocks, Fmt}
 use Rattle.islec.specs.declared.line.Line.{Line}
 use Rattle.islec.specs.declared.line.LineFault.{LineFault}
 use Rattle.islec.specs.declared.line.LineFault.TheVariants.{Usage, Memory}
@@ -20,21 +20,26 @@ number_of id rows = option_map (λ t. digits_value 10 (without_leading_plus t)) 
 abbrev pub flag_of : Text → List Row → Bool
 flag_of id rows = option_map_or (λ t. bytes_eq t (codes "true")) (one_of id rows) false
 
+-- texts of strings
+abbrev pub names_of : Vec (String Global) Global → List Text
+names_of names = map string_bytes (vec_items names)
+
+-- the values of an option that may be given any number of times
+abbrev pub each_of : Text → List Row → List Text
+each_of id rows = unwrap_or (all_of id rows) []
+
 -- the job is the command of this name, with the numbers and flags that its rows hold
 abbrev pub SaysJob : Text → List Row → Job → Type 0
 SaysJob name rows (Run depth plain) =
     (name ≡ codes "run") × (number_of (codes "depth") rows ≡ Some depth) × (flag_of (codes "plain") rows ≡ plain)
 SaysJob name rows (Check terms) = (name ≡ codes "check") × (flag_of (codes "terms") rows ≡ terms)
+SaysJob name rows (Blocks terms) = (name ≡ codes "blocks") × (each_of (codes "term") rows ≡ names_of terms)
 SaysJob name rows (Fmt width) = (name ≡ codes "fmt") × (number_of (codes "width") rows ≡ Some width)
 
 -- the name of a world's file, which only `run` takes
 abbrev pub world_of : Job → List Row → Option Text
 world_of (Run depth plain) rows = first_of (codes "world") rows
 world_of _ rows = None
-
--- texts of strings
-abbrev pub names_of : Vec (String Global) Global → List Text
-names_of names = map string_bytes (vec_items names)
 
 -- the line is what a command and its rows say
 pub record SaysLine (name : Text) (rows : List Row) (line : Line) : Type 0 where

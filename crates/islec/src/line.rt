@@ -4,7 +4,7 @@ ghost use Rattle.clap.specs.Words.{found_of, rows_of};
 ghost use Rattle.islec.specs.declared.line.LineFault.TheVariants.{Memory};
 ghost use Rattle.islec.specs.Faults.{BecomesFault};
 ghost use Rattle.islec.specs.Jobs.{HasFiles};
-ghost use Rattle.islec.specs.Commands.{IsArgument, IsCommand, check, check_rules, fmt};
+ghost use Rattle.islec.specs.Commands.{IsArgument, IsCommand, blocks, blocks_rules, check, check_rules, fmt};
 ghost use Rattle.islec.specs.Commands.{depth as the_depth, rule_files as the_files};
 ghost use Rattle.islec.specs.Commands.{fmt_rules, islec, run, run_rules};
 ghost use Rattle.islec.specs.Lines.{ReadsLine, RefusesLine, SaysLine, names_of};
@@ -27,13 +27,15 @@ pub struct Line {
 }
 
 /// A command and its numbers.
-#[derive(Clone, Copy)]
+#[derive(Drop)]
 pub enum Job {
     /// Answers queries, with at most `depth` calls of terms with rules open at once; `plain` asks for the road that tries
     /// rules one by one, which is the only one so far.
     Run { depth: u32, plain: bool },
     /// Tells whether the files are accepted, and with `terms` which terms can be run.
     Check { terms: bool },
+    /// Prints the trees of the rules of the terms of these names; of all terms with rules where there is none.
+    Blocks { terms: Vec<String> },
     /// Prints the one file laid out at a width, from 0 to 1,000,000.
     Fmt { width: u32 },
 }
@@ -80,6 +82,9 @@ pub fn line_of<S: AsStr>(alloc: Global, words: &[S]) -> Result<Line, LineFault>
     if let Some(check) = matches.subcommand_matches("check") {
         return Ok(check_line(alloc, check)?);
     }
+    if let Some(blocks) = matches.subcommand_matches("blocks") {
+        return Ok(blocks_line(alloc, blocks)?);
+    }
     let Some(fmt) = matches.subcommand_matches("fmt") else {
         unreachable!()
     };
@@ -94,6 +99,7 @@ fn command<'a>(alloc: Global) -> Result<Command<'a>, AllocError>
         .subcommand_required(true)
         .subcommand(run_command(alloc)?)?
         .subcommand(check_command(alloc)?)?
+        .subcommand(blocks_command(alloc)?)?
         .subcommand(fmt_command(alloc)?)
 }
 
@@ -137,6 +143,20 @@ fn check_command<'a>(alloc: Global) -> Result<Command<'a>, AllocError>
     Command::new(alloc, "check")
         .about("Tells whether the files are accepted, or what is wrong with them")
         .arg(terms)?
+        .arg(rule_files(alloc))
+}
+
+fn blocks_command<'a>(alloc: Global) -> Result<Command<'a>, AllocError>
+    ensures { IfOk result (IsCommand blocks) }
+{
+    let term = Arg::new(alloc, "term")
+        .long("term")
+        .value_name("NAME")
+        .help("A term whose tree is printed; all trees where none is named")
+        .action(ArgAction::Append);
+    Command::new(alloc, "blocks")
+        .about("Prints the trees of tests that the rules become")
+        .arg(term)?
         .arg(rule_files(alloc))
 }
 
@@ -200,6 +220,20 @@ fn check_line(alloc: Global, matches: &ArgMatches<'_>) -> Result<Line, AllocErro
     let terms = matches.get_flag("terms");
     Ok(Line {
         job: Job::Check { terms },
+        files,
+        world: None,
+    })
+}
+
+fn blocks_line(alloc: Global, matches: &ArgMatches<'_>) -> Result<Line, AllocError>
+    requires { FillsRules blocks_rules (rows_of (found_of matches.now)) }
+    ensures files { IfOk result (λ line. HasFiles line.job (vec_len line.files)) }
+    ensures says { IfOk result (λ line. SaysLine (codes "blocks") (rows_of (found_of matches.now)) line) }
+{
+    let files = copies(alloc, matches.get_strs("file").unwrap_or(&[]))?;
+    let terms = copies(alloc, matches.get_strs("term").unwrap_or(&[]))?;
+    Ok(Line {
+        job: Job::Blocks { terms },
         files,
         world: None,
     })

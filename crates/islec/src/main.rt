@@ -2,6 +2,7 @@
 #![tactic(auto)]
 
 pub mod answer;
+pub mod blocks;
 pub mod format;
 pub mod line;
 pub mod perform;

@@ -1,20 +1,20 @@
 //! A whole command on texts.
-ghost use Rattle.std.specs.Prelude.{◌≡◌, ◌≢◌, ◌⊎◌, ℕ, List, Bool, true, false, codes, map, IfOk, IfErr, OnOk};
+ghost use Rattle.std.specs.Prelude.{◌≡◌, ◌≢◌, ◌⊎◌, ℕ, List, true, false, map, IfOk, IfErr, OnOk};
 ghost use Rattle.std.specs.Io.KnownBytes.{Appends, Keeps};
 ghost use Rattle.isle_syntax.specs.Errors.{report_text};
 ghost use Rattle.isle_syntax.specs.Positions.Files.{source_file};
 ghost use Rattle.isle_run.specs.Compiled.{AreAccepted};
-ghost use Rattle.islec.specs.Formatting.{WritesPrints, WritesFault, CutsPrints};
+ghost use Rattle.islec.specs.Endings.{EndsJob};
 ghost use Rattle.islec.specs.Replies.{setting_in};
-ghost use Rattle.islec.specs.Running.{WritesFaults, WritesAccepted, WritesAnswers, WritesRefusal, CutsCheck, CutsRun, AnswersSome, RunsOut, AnswersIn, TellsWorld, CutsIn, StopsIn};
+ghost use Rattle.islec.specs.Running.{WritesFaults, WritesAccepted, WritesAnswers, WritesRefusal, CutsCheck, CutsRun, AnswersSome, AnswersIn, TellsWorld, CutsIn, StopsIn};
 ghost use Rattle.islec.specs.Worlds.{world_file, world_fault_line};
 ghost use Rattle.islec.specs.Terms.{TellsProgram};
 ghost use Rattle.islec.specs.Serving.{AnswersAll, AnswersFirst, AnswersCut};
 ghost use Rattle.islec.specs.Writing.{AppendsBeginning};
 ghost use Rattle.islec.specs.Statuses.{code_of, IsEnd, EndsAs};
-ghost use Rattle.islec.specs.declared.line.Job.TheVariants.{Run, Check, Fmt};
 ghost use Rattle.islec.specs.declared.status.Status.{Status};
 
+use crate::blocks::blocks;
 use crate::format::format;
 use crate::line::Job;
 use crate::serve::{ServeFault, Served, serve, write_text};
@@ -29,8 +29,8 @@ use std::io::{BufRead, Write};
 use std::rc::Rc;
 
 /// Does a command on texts, each with its name, and gives the exit status: 0 all well, 1 texts or
-/// world refused, 3 some query refused, stuck, spent or ill-typed, 4 reading or writing failed, 5 out of
-/// memory. Where no world is given its text is empty and its name is `world`.
+/// world refused, 2 no term has a name that was asked for, 3 some query refused, stuck, spent or ill-typed, 4 reading or
+/// writing failed, 5 out of memory. Where no world is given its text is empty and its name is `world`.
 pub fn perform<R: BufRead, W: Write>(
     alloc: Global,
     job: Job,
@@ -39,37 +39,8 @@ pub fn perform<R: BufRead, W: Write>(
     reader: &mut R,
     writer: &mut W,
 ) -> u8
-    ensures formatted { (width : ℕ) → job ≡ Fmt width → result ≡ 0 → WritesPrints width
-        (map source_file texts.items) (W.contents writer.old) (W.contents writer.new) }
-    ensures format_failed { (width : ℕ) → job ≡ Fmt width → result ≡ 4 → CutsPrints width
-        (map source_file texts.items) (W.contents writer.old) (W.contents writer.new) }
-    ensures format_ran_out { (width : ℕ) → job ≡ Fmt width → result ≡ 5 → AppendsBeginning
-        (W.contents writer.old) (W.contents writer.new) (codes "out of memory\n") }
-    ensures refused { (width : ℕ) → job ≡ Fmt width → result ≡ 1 → WritesFault
-        (map source_file texts.items) (W.contents writer.old) (W.contents writer.new) }
-    ensures unanswered { (width : ℕ) → job ≡ Fmt width → result ≢ 3 }
-    ensures accepted { (depth : ℕ) (plain : Bool) → job ≡ Run depth plain → (result ≡ 0) ⊎ (result ≡ 3)
-        → AreAccepted (map source_file texts.items) }
-    ensures all_well { (depth : ℕ) (plain : Bool) → job ≡ Run depth plain → result ≡ 0 → WritesAnswers
-        (map source_file texts.items) (world_file world) depth plain (R.remaining reader.old) false (W.contents writer.old) (W.contents writer.new) }
-    ensures some_refused { (depth : ℕ) (plain : Bool) → job ≡ Run depth plain → result ≡ 3 → WritesAnswers
-        (map source_file texts.items) (world_file world) depth plain (R.remaining reader.old) true (W.contents writer.old) (W.contents writer.new) }
-    ensures failed { (depth : ℕ) (plain : Bool) → job ≡ Run depth plain → result ≡ 4 → CutsRun
-        (map source_file texts.items) (world_file world) depth plain (R.remaining reader.old) (W.contents writer.old) (W.contents writer.new) }
-    ensures ran_out { (depth : ℕ) (plain : Bool) → job ≡ Run depth plain → result ≡ 5 → RunsOut
-        (map source_file texts.items) (world_file world) depth plain (R.remaining reader.old) (R.remaining reader.new) (W.contents writer.old) (W.contents writer.new) }
-    ensures faults { (depth : ℕ) (plain : Bool) → job ≡ Run depth plain → result ≡ 1 → WritesRefusal
-        (map source_file texts.items) (world_file world) (W.contents writer.old) (W.contents writer.new) }
-    ensures checked { (terms : Bool) → job ≡ Check terms → result ≡ 0 → WritesAccepted
-        (map source_file texts.items) terms (W.contents writer.old) (W.contents writer.new) }
-    ensures faulty { (terms : Bool) → job ≡ Check terms → result ≡ 1 → WritesFaults
-        (map source_file texts.items) (W.contents writer.old) (W.contents writer.new) }
-    ensures check_failed { (terms : Bool) → job ≡ Check terms → result ≡ 4 → CutsCheck
-        (map source_file texts.items) terms (W.contents writer.old) (W.contents writer.new) }
-    ensures check_ran_out { (terms : Bool) → job ≡ Check terms → result ≡ 5 → AppendsBeginning (W.contents writer.old)
-        (W.contents writer.new) (codes "out of memory\n") }
-    ensures unasked { (terms : Bool) → job ≡ Check terms → result ≢ 3 }
-    ensures ends { (status : Status) × (status ≢ Status.Usage) × (result ≡ code_of status) }
+    ensures ends { (status : Status) × (result ≡ code_of status) × EndsJob job (map source_file texts.items) (world_file world)
+        (R.remaining reader.old) (R.remaining reader.new) (W.contents writer.old) (W.contents writer.new) status }
 {
     let status = match job {
         Job::Run { depth, plain } => {
@@ -78,6 +49,10 @@ pub fn perform<R: BufRead, W: Write>(
         }
         Job::Check { terms } => {
             let done = check(alloc, terms, texts, writer);
+            conclude(done, writer)
+        }
+        Job::Blocks { terms } => {
+            let done = blocks(alloc, terms.as_slice(), texts, writer);
             conclude(done, writer)
         }
         Job::Fmt { width } => {
@@ -235,7 +210,11 @@ fn refuse_world<W: Write>(
 }
 
 /// Writes what is printed of faults, for which texts are refused.
-fn refuse<W: Write>(alloc: Global, errors: &Errors, writer: &mut W) -> Result<Status, ServeFault>
+pub(crate) fn refuse<W: Write>(
+    alloc: Global,
+    errors: &Errors,
+    writer: &mut W,
+) -> Result<Status, ServeFault>
     ensures status { IfOk result (λ status. status ≡ Status.TextsRefused) }
     ensures written { OnOk result
         (Appends (W.contents writer.old) (W.contents writer.new) (report_text errors.now)) }

@@ -1,6 +1,6 @@
 use Rattle.std.proofs.Common.{refl, sym, true≢false, codes, map, subst}
 use Rattle.clap.specs.Words.{found_of, rows_of}
-use Rattle.islec.proofs.CommandLemmas.{EntersOne, as_islec, check_fills, fmt_fills, met_rows, none_met, parses, reads_line, refused, run_fills}
+use Rattle.islec.proofs.CommandLemmas.{EntersOne, as_islec, blocks_fills, check_fills, fmt_fills, met_rows, none_met, parses, reads_line, refused, run_fills}
 use Rattle.islec.proofs.line.line_of.Goals as goal
 
 -- no fault, but what is found in the words
@@ -46,13 +46,31 @@ returns-in-Some-subcommand_matches-clause-reads g c =
     let met = met_rows m (codes "check") rows (c.in-Some-subcommand_matches.ensures.found.0 refl) c.in-Some-subcommand_matches.ensures.rows in
     reads_line words m (codes "check") rows c.in_ok-check_line.field-0 parsed met c.in_ok-check_line.ensures.says
 
+pub blocks_line-requires : goal.blocks_line-requires
+blocks_line-requires g c =
+    let m = c.in_ok-matches.matches in
+    let parsed = parses c.in_ok-command.command
+    (map g.S.AsStr.text c.args.words.now) m c.in_ok-command.ensures c.in_ok-matches.ensures.ok.2 c.in_ok-matches.ensures.kinds in
+    let rows = rows_of (found_of c.in-Some-subcommand_matches-2.blocks.now) in
+    let met = met_rows m (codes "blocks") rows (c.in-Some-subcommand_matches-2.ensures.found.0 refl) c.in-Some-subcommand_matches-2.ensures.rows in
+    blocks_fills rows (subst EntersOne met parsed.one)
+
+pub returns-in-Some-subcommand_matches-2-clause-reads : goal.returns-in-Some-subcommand_matches-2-clause-reads
+returns-in-Some-subcommand_matches-2-clause-reads g c =
+    let m = c.in_ok-matches.matches in
+    let words = map g.S.AsStr.text c.args.words.now in
+    let parsed = parses c.in_ok-command.command words m c.in_ok-command.ensures c.in_ok-matches.ensures.ok.2 c.in_ok-matches.ensures.kinds in
+    let rows = rows_of (found_of c.in-Some-subcommand_matches-2.blocks.now) in
+    let met = met_rows m (codes "blocks") rows (c.in-Some-subcommand_matches-2.ensures.found.0 refl) c.in-Some-subcommand_matches-2.ensures.rows in
+    reads_line words m (codes "blocks") rows c.in_ok-blocks_line.field-0 parsed met c.in_ok-blocks_line.ensures.says
+
 pub fmt_line-requires : goal.fmt_line-requires
 fmt_line-requires g c =
     let m = c.in_ok-matches.matches in
     let parsed = parses c.in_ok-command.command
     (map g.S.AsStr.text c.args.words.now) m c.in_ok-command.ensures c.in_ok-matches.ensures.ok.2 c.in_ok-matches.ensures.kinds in
-    let rows = rows_of (found_of c.in-Some-subcommand_matches-2.fmt.now) in
-    let met = met_rows m (codes "fmt") rows (c.in-Some-subcommand_matches-2.ensures.found.0 refl) c.in-Some-subcommand_matches-2.ensures.rows in
+    let rows = rows_of (found_of c.in-Some-subcommand_matches-3.fmt.now) in
+    let met = met_rows m (codes "fmt") rows (c.in-Some-subcommand_matches-3.ensures.found.0 refl) c.in-Some-subcommand_matches-3.ensures.rows in
     fmt_fills rows (subst EntersOne met parsed.one)
 
 pub returns-clause-reads : goal.returns-clause-reads
@@ -60,8 +78,8 @@ returns-clause-reads g c =
     let m = c.in_ok-matches.matches in
     let words = map g.S.AsStr.text c.args.words.now in
     let parsed = parses c.in_ok-command.command words m c.in_ok-command.ensures c.in_ok-matches.ensures.ok.2 c.in_ok-matches.ensures.kinds in
-    let rows = rows_of (found_of c.in-Some-subcommand_matches-2.fmt.now) in
-    let met = met_rows m (codes "fmt") rows (c.in-Some-subcommand_matches-2.ensures.found.0 refl) c.in-Some-subcommand_matches-2.ensures.rows in
+    let rows = rows_of (found_of c.in-Some-subcommand_matches-3.fmt.now) in
+    let met = met_rows m (codes "fmt") rows (c.in-Some-subcommand_matches-3.ensures.found.0 refl) c.in-Some-subcommand_matches-3.ensures.rows in
     reads_line words m (codes "fmt") rows c.in_ok-fmt_line.field-0 parsed met c.in_ok-fmt_line.ensures.says
 
 pub unreachable-requires : goal.unreachable-requires
@@ -72,3 +90,4 @@ unreachable-requires g c =
     none_met m parsed.one (λ e. true≢false (sym (c.in_default.ensures.found.1 e)))
     (λ e. true≢false (sym (c.in_default-subcommand_matches.ensures.found.1 e)))
     (λ e. true≢false (sym (c.in_default-subcommand_matches-2.ensures.found.1 e)))
+    (λ e. true≢false (sym (c.in_default-subcommand_matches-3.ensures.found.1 e)))

@@ -1,0 +1,5 @@
+-- What is printed of rule sets and trees, piece by piece.
+-- Texts of items in turn.
+pub mod Joined
+-- What is printed of what is left of a tree.
+pub mod Left

@@ -1,0 +1,85 @@
+//! The trees of a program's rules, in words.
+ghost use Rattle.std.specs.Prelude.{◌≡◌, IfOk, string_bytes};
+ghost use Rattle.isle_blocks.specs.Trees.Promises.{IsCheckedSet};
+ghost use Rattle.isle_run.specs.Compiled.{IsProgramOf};
+ghost use Rattle.isle_run.specs.TreeTexts.Sets.{IsEntryText, IsSetText, TellsTrees, is_asked};
+
+mod names;
+mod rules;
+mod sites;
+mod steps;
+
+use crate::program::Program;
+use isle_blocks::{RuleSet, serialize};
+use isle_syntax::files::Files;
+use isle_types::TermId;
+use rules::rules_text;
+use sites::sites_text;
+use std::alloc::{AllocError, Global};
+use steps::steps_text;
+
+/// Whether a term is among those that are asked for; where none is, all are.
+fn is_asked(asked: &[TermId], term: TermId) -> bool
+    ensures { result ≡ is_asked asked.now term }
+{
+    asked.is_empty() || asked.contains(&term)
+}
+
+/// The line of a term, the lines of its rule set, and those of its tree.
+fn set_text(
+    alloc: Global,
+    program: &Program,
+    files: &Files,
+    term: TermId,
+    set: &RuleSet,
+) -> Result<String, AllocError>
+    requires { IsCheckedSet set.now }
+    ensures { IfOk result (λ text. IsSetText program.now files.now term set.now (string_bytes text)) }
+{
+    let tree = serialize(alloc, set)?;
+    let number = term.index();
+    let name = program.name(term);
+    let sites = sites_text(alloc, program, set.bindings())?;
+    let rules = rules_text(alloc, program, files, set.rules())?;
+    let steps = steps_text(alloc, program, files, set.rules(), tree.steps())?;
+    format!(in alloc; "term {number} {name}\n  sites\n{sites}{rules}  block\n{steps}")
+}
+
+/// What is printed of a term's rule set and tree: nothing where the term isn't asked for.
+fn entry_text(
+    alloc: Global,
+    program: &Program,
+    files: &Files,
+    asked: &[TermId],
+    set: &(TermId, RuleSet),
+) -> Result<String, AllocError>
+    requires { IsCheckedSet set.now.1 }
+    ensures { IfOk result (λ text. IsEntryText program.now files.now asked.now set.now (string_bytes text)) }
+{
+    if is_asked(asked, set.0) {
+        set_text(alloc, program, files, set.0, &set.1)
+    } else {
+        Ok(String::new(alloc))
+    }
+}
+
+impl Program {
+    /// The rule sets of these terms and the trees that they become, in words, ascending by the term; of all terms with rules where none
+    /// is named. `files` are those that were compiled. The trees are made anew.
+    pub fn trees_text(
+        &self,
+        alloc: Global,
+        files: &Files,
+        asked: &[TermId],
+    ) -> Result<String, AllocError>
+        requires { IsProgramOf files.now self.now }
+        ensures { IfOk result (λ text. TellsTrees self.now files.now asked.now (string_bytes text)) }
+    {
+        let mut text = String::new(alloc);
+        for set in self.rule_sets() {
+            let one = entry_text(alloc, self, files, asked, set)?;
+            text.push_str(one.as_str())?;
+        }
+        Ok(text)
+    }
+}

@@ -1,0 +1,65 @@
+-- What is written of the trees of a program's rules, by what its parts write.
+use Rattle.std.proofs.Common.{◌≡◌, ◌≢◌, ◌<◌, ◌∙◌, ◌++◌, ◌∷◌, [], inl, inr, ℕ, Bool, true, List, Option, Some, None, Result, Ok, Err, IfOk, IfErr, OnOk, OnErr, subst, map, sym, ap, refl, IsTrue}
+use Rattle.std.specs.List.{AllZip}
+use Rattle.std.specs.Io.KnownBytes.{Appends}
+use Rattle.std.proofs.lemmas.Slice.Zip.{all_zipped_more}
+use Rattle.isle_syntax.specs.Errors.{Report, report_text}
+use Rattle.isle_syntax.specs.Positions.Files.{SourceFile}
+use Rattle.isle_types.specs.declared.ids.TermId.{TermId}
+use Rattle.isle_run.specs.declared.compiler.Refused.{Refused}
+use Rattle.isle_run.specs.declared.compiler.Refused.TheVariants.{Faults}
+use Rattle.isle_run.specs.declared.program.Program.{Program}
+use Rattle.isle_run.specs.Compiled.{AreAccepted, AreFaults, IsProgramOf, IfFaults}
+use Rattle.islec.specs.declared.serve.ServeFault.{ServeFault}
+use Rattle.islec.specs.declared.serve.ServeFault.TheVariants.{Memory}
+use Rattle.islec.specs.declared.status.Status.{Status}
+use Rattle.islec.specs.declared.status.Status.TheVariants.{AllWell, Usage}
+use Rattle.islec.specs.Drawing.{CutsTrees, DrawsTrees, IsUnknown, TellsTreesOf, WritesTrees, WritesUnknown, unknown_line}
+use Rattle.islec.specs.Writing.{AppendsBeginning}
+use Rattle.islec.proofs.RefusedFiles.{cuts_faults}
+
+module _ (files all : List SourceFile) (same : files ≡ all) (program : Program) (is : IsProgramOf files program) (accepted : AreAccepted files)
+    (names : List (List ℕ)) (old new : Option (List ℕ)) where
+  pub draws_by : (r : Result Status ServeFault) → IfOk r (λ s. s ≡ AllWell → (text : List ℕ) × DrawsTrees program files names text × Appends old new text)
+      → IfOk r (λ s. s ≡ AllWell → WritesTrees all names old new)
+  draws_by (Err f) told = tt
+  draws_by (Ok s) told = λ e.
+      let (text, drawn, written) = told e in
+      record {
+        accepted = subst AreAccepted same accepted;
+        program = program;
+        is = subst (λ l. IsProgramOf l program) same is;
+        text = text;
+        drawn = subst (λ l. DrawsTrees program l names text) same drawn;
+        written = written;
+      }
+
+  pub unknown_by : (r : Result Status ServeFault) → IfOk r (λ s. s ≡ Usage → (name : List ℕ) × IsUnknown program names name × Appends old new (unknown_line name))
+      → IfOk r (λ s. s ≡ Usage → WritesUnknown all names old new)
+  unknown_by (Err f) told = tt
+  unknown_by (Ok s) told = λ e.
+      let (name, unknown, written) = told e in
+      record {
+        accepted = subst AreAccepted same accepted;
+        program = program;
+        is = subst (λ l. IsProgramOf l program) same is;
+        name = name;
+        unknown = unknown;
+        written = written;
+      }
+
+  pub draw_cut : (r : Result Status ServeFault)
+      → IfErr r (λ f. f ≢ Memory → (text : List ℕ) × TellsTreesOf program files names text × AppendsBeginning old new text)
+      → IfErr r (λ f. f ≢ Memory → CutsTrees all names old new)
+  draw_cut (Ok s) told = tt
+  draw_cut (Err f) told = λ e.
+      let (text, tells, begun) = told e in
+      inl (program, subst (λ l. IsProgramOf l program) same is, text, subst (λ l. TellsTreesOf program l names text) same tells, begun)
+
+module _ (files all : List SourceFile) (refused : Refused) (report : Report) (old new : Option (List ℕ)) (is : refused ≡ Faults report) (same : files ≡ all)
+    (not_accepted : IfFaults refused (λ r. ¬ AreAccepted files)) (faults : IfFaults refused (λ r. AreFaults files r.errors))
+    (of_files : IfFaults refused (λ r. r.files ≡ files)) where
+  pub refusal_undrawn : (names : List (List ℕ)) (r : Result Status ServeFault) → IfErr r (λ f. f ≢ Memory → AppendsBeginning old new (report_text report))
+      → IfErr r (λ f. f ≢ Memory → CutsTrees all names old new)
+  refusal_undrawn names (Ok s) wrote = tt
+  refusal_undrawn names (Err f) wrote = λ e. inr (cuts_faults files all refused report old new is same not_accepted faults of_files (wrote e))

@@ -1,0 +1,40 @@
+use Rattle.std.proofs.Common.{◌≡◌, map, arith}
+use Rattle.std.specs.Prelude.{string_bytes}
+use Rattle.isle_syntax.specs.Positions.Files.{source_file}
+use Rattle.islec.proofs.DrawingLemmas.{draw_cut, draws_by, refusal_undrawn, unknown_by}
+use Rattle.islec.proofs.RunLemmas.{faults_by}
+use Rattle.islec.proofs.blocks.blocks.Goals as goal
+
+pub returns-in-Err-Faults-clause-refused : goal.returns-in-Err-Faults-clause-refused
+returns-in-Err-Faults-clause-refused g c =
+    let same : c.in_ok-clone.field-0.value ≡ map source_file c.args.texts.items = grind arith in
+    let told = c.in-Err-Faults.ensures in
+    faults_by c.in_ok-clone.field-0.value (map source_file c.args.texts.items) c.in-Err-Faults.field-0 c.in-Err-Faults.errors
+    (g.W.Write.contents c.args.writer.now) (g.W.Write.contents c.refuse.new.writer) c.in-Err-Faults.field-0-is same
+    told.refused told.faults told.of_files c.refuse.result c.refuse.ensures.written
+
+pub returns-in-Err-Faults-clause-cut : goal.returns-in-Err-Faults-clause-cut
+returns-in-Err-Faults-clause-cut g c =
+    let same : c.in_ok-clone.field-0.value ≡ map source_file c.args.texts.items = grind arith in
+    let told = c.in-Err-Faults.ensures in
+    refusal_undrawn c.in_ok-clone.field-0.value (map source_file c.args.texts.items) c.in-Err-Faults.field-0 c.in-Err-Faults.errors
+    (g.W.Write.contents c.args.writer.now) (g.W.Write.contents c.refuse.new.writer) c.in-Err-Faults.field-0-is same
+    told.refused told.faults told.of_files (map string_bytes c.args.names.now) c.refuse.result c.refuse.ensures.cut
+
+pub returns-in-Ok-clause-drawn : goal.returns-in-Ok-clause-drawn
+returns-in-Ok-clause-drawn g c =
+    let same : c.in_ok-clone.field-0.value ≡ map source_file c.args.texts.items = grind arith in
+    draws_by c.in_ok-clone.field-0.value (map source_file c.args.texts.items) same c.in-Ok.program c.in-Ok.ensures.compiled c.in-Ok.ensures.accepted
+    (map string_bytes c.args.names.now) (g.W.Write.contents c.args.writer.now) (g.W.Write.contents c.draw.new.writer) c.draw.result c.draw.ensures.drawn
+
+pub returns-in-Ok-clause-unknown : goal.returns-in-Ok-clause-unknown
+returns-in-Ok-clause-unknown g c =
+    let same : c.in_ok-clone.field-0.value ≡ map source_file c.args.texts.items = grind arith in
+    unknown_by c.in_ok-clone.field-0.value (map source_file c.args.texts.items) same c.in-Ok.program c.in-Ok.ensures.compiled c.in-Ok.ensures.accepted
+    (map string_bytes c.args.names.now) (g.W.Write.contents c.args.writer.now) (g.W.Write.contents c.draw.new.writer) c.draw.result c.draw.ensures.unknown
+
+pub returns-in-Ok-clause-cut : goal.returns-in-Ok-clause-cut
+returns-in-Ok-clause-cut g c =
+    let same : c.in_ok-clone.field-0.value ≡ map source_file c.args.texts.items = grind arith in
+    draw_cut c.in_ok-clone.field-0.value (map source_file c.args.texts.items) same c.in-Ok.program c.in-Ok.ensures.compiled c.in-Ok.ensures.accepted
+    (map string_bytes c.args.names.now) (g.W.Write.contents c.args.writer.now) (g.W.Write.contents c.draw.new.writer) c.draw.result c.draw.ensures.cut

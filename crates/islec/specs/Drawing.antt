@@ -1,0 +1,69 @@
+-- What is written of the trees of a program's rules.
+use Rattle.std.specs.Prelude.{◌≡◌, ◌⊎◌, ◌++◌, ◌∷◌, ℕ, List, Option, None, Some, codes, map}
+use Rattle.std.specs.Io.KnownBytes.{Appends}
+use Rattle.isle_syntax.specs.Positions.Files.{SourceFile}
+use Rattle.isle_types.specs.declared.ids.TermId.{TermId}
+use Rattle.isle_run.specs.Compiled.{AreAccepted, IsProgramOf}
+use Rattle.isle_run.specs.Programs.{term_named}
+use Rattle.isle_run.specs.TreeTexts.Sets.{TellsTrees}
+use Rattle.isle_run.specs.declared.program.Program.{Program}
+use Rattle.islec.specs.declared.blocks.Asked.{Asked}
+use Rattle.islec.specs.declared.blocks.Asked.TheVariants.{Terms, Unknown}
+use Rattle.islec.specs.Running.{CutsFaults}
+use Rattle.islec.specs.Writing.{AppendsBeginning}
+
+-- the terms of these names, in their order
+abbrev pub AreNamed : Program → List (List ℕ) → List TermId → Type 0
+AreNamed program names terms = map (term_named program) names ≡ map Some terms
+
+-- the first of these names that is that of no term
+pub record IsUnknown (program : Program) (names : List (List ℕ)) (name : List ℕ) : Type 0 where
+  pub before : List (List ℕ)
+  pub after : List (List ℕ)
+  pub terms : List TermId
+  pub among : names ≡ before ++ name ∷ after
+  pub known : AreNamed program before terms
+  pub unknown : term_named program name ≡ None
+
+-- the terms of all the names, or the first name that is that of none
+abbrev pub AreAsked : Program → List (List ℕ) → Asked → Type 0
+AreAsked program names (Terms terms) = AreNamed program names terms.items
+AreAsked program names (Unknown name) = IsUnknown program names name.now
+
+-- the line that tells which name is that of no term
+abbrev pub unknown_line : List ℕ → List ℕ
+unknown_line name = codes "error: no term is named " ++ (name ++ codes "\n")
+
+-- the text of the program's trees, of the terms of these names or of all
+pub record DrawsTrees (program : Program) (files : List SourceFile) (names : List (List ℕ)) (text : List ℕ) : Type 0 where
+  pub terms : List TermId
+  pub named : AreNamed program names terms
+  pub told : TellsTrees program files terms text
+
+-- the files are accepted, and a writer that held `old` holds these bytes and behind them the trees of their program
+pub record WritesTrees (files : List SourceFile) (names : List (List ℕ)) (old new : Option (List ℕ)) : Type 0 where
+  pub accepted : AreAccepted files
+  pub program : Program
+  pub is : IsProgramOf files program
+  pub text : List ℕ
+  pub drawn : DrawsTrees program files names text
+  pub written : Appends old new text
+
+-- the files are accepted, and the line is written that tells which name is that of no term
+pub record WritesUnknown (files : List SourceFile) (names : List (List ℕ)) (old new : Option (List ℕ)) : Type 0 where
+  pub accepted : AreAccepted files
+  pub program : Program
+  pub is : IsProgramOf files program
+  pub name : List ℕ
+  pub unknown : IsUnknown program names name
+  pub written : Appends old new (unknown_line name)
+
+-- a text of a program's trees: the trees, or the line that tells which name is unknown
+abbrev pub TellsTreesOf : Program → List SourceFile → List (List ℕ) → List ℕ → Type 0
+TellsTreesOf program files names text = DrawsTrees program files names text
+    ⊎ ((name : List ℕ) × IsUnknown program names name × (text ≡ unknown_line name))
+
+-- a beginning of such a text is written, or one of the report of faults
+abbrev pub CutsTrees : List SourceFile → List (List ℕ) → (old new : Option (List ℕ)) → Type 0
+CutsTrees files names old new = ((program : Program) × IsProgramOf files program
+    × ((text : List ℕ) × TellsTreesOf program files names text × AppendsBeginning old new text)) ⊎ CutsFaults files old new

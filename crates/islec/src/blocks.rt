@@ -1,0 +1,91 @@
+//! The trees of a program's rules.
+ghost use Rattle.std.specs.Prelude.{◌≡◌, ◌≢◌, ◌⊎◌, ℕ, List, IfOk, IfErr, map, string_bytes};
+ghost use Rattle.std.specs.Io.KnownBytes.{Appends, Keeps};
+ghost use Rattle.isle_syntax.specs.Positions.Files.{source_file};
+ghost use Rattle.isle_run.specs.Compiled.{IsProgramOf};
+ghost use Rattle.islec.specs.Drawing.{AreAsked, CutsTrees, DrawsTrees, IsUnknown, TellsTreesOf, WritesTrees, WritesUnknown, unknown_line};
+ghost use Rattle.islec.specs.Running.{WritesFaults};
+ghost use Rattle.islec.specs.Writing.{AppendsBeginning};
+ghost use Rattle.islec.specs.declared.status.Status.{Status};
+
+use crate::perform::refuse;
+use crate::serve::{ServeFault, write_text};
+use crate::status::Status;
+use isle_run::{Program, Refused, TermId, compile};
+use isle_syntax::files::Files;
+use std::alloc::{AllocError, Global};
+use std::io::Write;
+use std::rc::Rc;
+
+/// Writes the trees of the texts' rules, of the terms of these names or of all, or why there are none.
+pub fn blocks<W: Write>(
+    alloc: Global,
+    names: &[String],
+    texts: Vec<(String, String)>,
+    writer: &mut W,
+) -> Result<Status, ServeFault> {
+    let files = Rc::new(alloc, Files::from_names_and_contents(alloc, texts)?)?;
+    match compile(alloc, files.clone()?) {
+        Ok(program) => draw(alloc, names, &files, &program, writer),
+        Err(Refused::Faults(errors)) => refuse(alloc, &errors, writer),
+        Err(Refused::Memory) => Err(ServeFault::Memory),
+    }
+}
+
+/// What names ask for: terms, or the first name that is that of none.
+enum Asked<'a> {
+    Terms(Vec<TermId>),
+    Unknown(&'a str),
+}
+
+/// Writes the trees of an accepted program, or which name is that of no term.
+fn draw<W: Write>(
+    alloc: Global,
+    names: &[String],
+    files: &Files,
+    program: &Program,
+    writer: &mut W,
+) -> Result<Status, ServeFault>
+    requires { IsProgramOf files.now program.now }
+    ensures drawn { IfOk result (λ status. status ≡ Status.AllWell → (text : List ℕ)
+        × DrawsTrees program.now files.now (map string_bytes names.now) text × Appends (W.contents writer.old) (W.contents writer.new) text) }
+    ensures unknown { IfOk result (λ status. status ≡ Status.Usage → (name : List ℕ)
+        × IsUnknown program.now (map string_bytes names.now) name × Appends (W.contents writer.old) (W.contents writer.new) (unknown_line name)) }
+    ensures other { IfOk result (λ status. (status ≡ Status.AllWell) ⊎ (status ≡ Status.Usage)) }
+    ensures cut { IfErr result (λ fault. fault ≢ ServeFault.Memory → (text : List ℕ)
+        × TellsTreesOf program.now files.now (map string_bytes names.now) text × AppendsBeginning (W.contents writer.old) (W.contents writer.new) text) }
+    ensures memory { IfErr result (λ fault. fault ≡ ServeFault.Memory → Keeps
+        (W.contents writer.old) (W.contents writer.new)) }
+    ensures fault { IfErr result (λ fault. fault ≢ ServeFault.Read) }
+{
+    match asked_terms(alloc, names, program)? {
+        Asked::Terms(terms) => {
+            let text = program.trees_text(alloc, files, terms.as_slice())?;
+            write_text(writer, text.as_str())?;
+            Ok(Status::AllWell)
+        }
+        Asked::Unknown(name) => {
+            let line = format!(in alloc; "error: no term is named {name}\n")?;
+            write_text(writer, line.as_str())?;
+            Ok(Status::Usage)
+        }
+    }
+}
+
+/// The terms of these names, or the first name that is that of none.
+fn asked_terms<'a>(
+    alloc: Global,
+    names: &'a [String],
+    program: &Program,
+) -> Result<Asked<'a>, AllocError>
+    ensures { IfOk result (AreAsked program.now (map string_bytes names.now)) }
+{
+    let mut terms = Vec::new(alloc);
+    for name in names {
+        match program.term(name.as_str()) {
+            Some(term) => terms.push(term)?,
+            None => return Ok(Asked::Unknown(name.as_str())),
+        }
+    }
+    Ok(Asked::Terms(terms))
+}
