@@ -107,6 +107,11 @@ def equal_arguments(arguments, depth):
     return NESTING + f"(decl f ({'N ' * arguments}) N)\n(rule (f {pattern * arguments}) x)\n"
 
 
+def equal_fields(fields):
+    """A rule of a struct of so many fields, which are equal."""
+    return f"(type S (struct{' u8' * fields}))\n(decl f (S) u8)\n(rule (f (S{' x' * fields})) x)\n"
+
+
 def lets(number):
     """A rule of so many variables, each with the value of the one before it."""
     variables = " ".join(f"(x{i + 1} u8 x{i})" for i in range(number))
@@ -232,9 +237,11 @@ def all_trees(bench):
         measure_trees(f"{number:,} rules of a term", bench, typed_rules(number), 1)
     for number in (4_000, 8_000, 16_000):
         measure_trees(f"{number:,} constants", bench, constants(number), 1)
-    for structs in (4, 16, 235):
+    # The time grows with the square of a path's tests, and with the cube of the number of equal sites.
+    for structs in (4, 8, 16):
         measure_trees(f"a rule of {structs * 256 + 1:,} tests", bench, path(structs, 255), 1)
-    measure_trees("a rule of 60 equal arguments of 990 fields", bench, equal_arguments(60, 990), 1)
+    measure_trees("a rule of 60 equal arguments of 30 fields", bench, equal_arguments(60, 30), 1)
+    measure_trees("a rule of 255 equal fields", bench, equal_fields(255), 1)
 
 
 def main():
