@@ -1,4 +1,4 @@
-"""Times reading, typing and formatting generated rule files, worlds and queries, answering calls, and a
+"""Times reading, typing and formatting generated rule files, trees of rules, worlds and queries, answering calls, and a
 sorted map: MB a second, or seconds, and the most memory it took.
 
     bench.py ISLE_BENCH ISLEC
