@@ -43,7 +43,7 @@ install: build
 replay: build
 	$(MAKE) commands
 
-# Times reading, typing, compiling and formatting generated files, worlds and queries, answering calls, and a sorted map.
+# Times reading, typing, compiling and formatting generated files, trees of rules, worlds and queries, answering calls, and a sorted map.
 bench: build
 	cd crates/isle_bench && rt run < stdin
 	python3 tools/bench.py crates/isle_bench/out/isle_bench $(PROGRAM)

@@ -1,4 +1,4 @@
-"""Times reading, typing and formatting generated rule files, worlds and queries, answering calls, and a
+"""Times reading, typing and formatting generated rule files, trees of rules, worlds and queries, answering calls, and a
 sorted map: MB a second, or seconds, and the most memory it took.
 
     bench.py ISLE_BENCH ISLEC
@@ -41,7 +41,7 @@ def enums(number, variants):
 
 
 # A rule of a backend's style: an extractor that is put in twice, a clause, a converter and a `let`.
-TYPED = """(rule r{i} {i} (lower (op{o} x (op{p} y z)))
+TYPED = """(rule r{i} {i} ({term} (op{o} x (op{p} y z)))
   (if-let c (small z))
   (let ((a Reg x) (b Reg (emit (Opcode.Op{p}) y a))) (emit_imm (Opcode.Op{o}) b c)))
 """
@@ -53,7 +53,6 @@ TERMS = """(type Value (primitive Value)) (type Reg (primitive Reg))
 (decl put (Value) Reg) (extern constructor put put) (convert Value Reg put)
 (decl emit (Opcode Reg Reg) Reg) (extern constructor emit emit)
 (decl emit_imm (Opcode Reg u64) Reg) (extern constructor emit_imm emit_imm)
-(decl partial lower (Value) Reg)
 """
 
 OPCODES = 200
@@ -61,14 +60,27 @@ OPCODES = 200
 ISLEC = os.path.abspath(sys.argv[2])
 
 
-def typed_rules(number):
-    """A text of so many rules of one term, over 200 opcodes with an extractor each."""
+def typed_rules(number, terms=("lower",), outer=OPCODES):
+    """A text of so many rules of these terms in turn, over 200 opcodes with an extractor each; so many are the outer ones."""
     parts = [TERMS, "(type Opcode (enum " + " ".join(f"Op{i}" for i in range(OPCODES)) + "))\n"]
+    parts.extend(f"(decl partial {term} (Value) Reg)\n" for term in terms)
     for i in range(OPCODES):
         parts.append(f"(decl op{i} (Value Value) Value)\n")
         parts.append(f"(extractor (op{i} a b) (inst_data (InstData.Binary (Opcode.Op{i}) a b)))\n")
-    parts.extend(TYPED.format(i=i, o=i % OPCODES, p=i // OPCODES % OPCODES) for i in range(number))
+    for i in range(number):
+        place = i // len(terms)
+        parts.append(TYPED.format(i=i, term=terms[i % len(terms)], o=place % outer, p=place // outer % OPCODES))
     return "".join(parts)
+
+
+def backend(number):
+    """So many rules, twenty a term, of five outer opcodes."""
+    return typed_rules(number, [f"lower{i}" for i in range(number // 20)], 5)
+
+
+def constants(number):
+    """So many rules of one term, each for a constant of its own."""
+    return "(decl f (u32) u32)\n" + "".join(f"(rule (f {i}) {i})\n" for i in range(number))
 
 
 NESTING = "(type N (enum (Z) (S (p N))))\n"
@@ -95,10 +107,24 @@ def equal_arguments(arguments, depth):
     return NESTING + f"(decl f ({'N ' * arguments}) N)\n(rule (f {pattern * arguments}) x)\n"
 
 
+def equal_fields(fields):
+    """A rule of a struct of so many fields, which are equal."""
+    return f"(type S (struct{' u8' * fields}))\n(decl f (S) u8)\n(rule (f (S{' x' * fields})) x)\n"
+
+
 def lets(number):
     """A rule of so many variables, each with the value of the one before it."""
     variables = " ".join(f"(x{i + 1} u8 x{i})" for i in range(number))
     return f"(decl f (u8) u8)\n(rule (f x0) (let ({variables}) x{number}))\n"
+
+
+def path(structs, fields):
+    """A rule of a test for each of so many fields of so many structs, for each of these and for the struct of all."""
+    return (
+        f"(type S (struct{' u8' * fields}))\n(type R (struct{' S' * structs}))\n"
+        f"(decl s () S)\n(extractor (s) (S{' 1' * fields}))\n(decl r () R)\n(extractor (r) (R{' (s)' * structs}))\n"
+        "(decl f (R) u8)\n(rule (f (r)) 7)\n"
+    )
 
 
 def keys(number, mixed):
@@ -197,6 +223,27 @@ def measure_calls(title, program, world, queries, check):
     print(f"{title}: {seconds:.3f} s, {memory:.0f} MB of memory")
 
 
+def measure_trees(title, bench, text, sets):
+    """Prints what rule sets of a text take, and what they take with their trees."""
+    measure(f"check {title}", [bench, "sets"], text, lambda it: it == f"{sets}\n")
+    measure(f"check {title} and make trees", [bench, "trees"], text, lambda it: it == f"{sets}\n")
+
+
+def all_trees(bench):
+    """Trees of generated backends, of one term, of one match and of one path."""
+    for number in (500, 1_000, 2_000, 4_000, 8_000):
+        measure_trees(f"{number:,} rules, 20 a term", bench, backend(number), number // 20)
+    for number in (500, 1_000, 2_000, 4_000):
+        measure_trees(f"{number:,} rules of a term", bench, typed_rules(number), 1)
+    for number in (4_000, 8_000, 16_000):
+        measure_trees(f"{number:,} constants", bench, constants(number), 1)
+    # The time grows with the square of a path's tests, and with the cube of the number of equal sites.
+    for structs in (4, 8, 16):
+        measure_trees(f"a rule of {structs * 256 + 1:,} tests", bench, path(structs, 255), 1)
+    measure_trees("a rule of 60 equal arguments of 30 fields", bench, equal_arguments(60, 30), 1)
+    measure_trees("a rule of 255 equal fields", bench, equal_fields(255), 1)
+
+
 def main():
     bench, islec = os.path.abspath(sys.argv[1]), ISLEC
     for megabytes in (2, 4, 8):
@@ -211,6 +258,7 @@ def main():
     for title, text in (("16 arguments of 3,600 fields", extractor_chain(4, 900, 16)),
                         ("60 equal arguments of 990 fields", equal_arguments(60, 990)), ("65,000 variables", lets(65_000))):
         measure(f"check a rule of {title}", [islec, "check"], text, lambda it: it == "accepted\n")
+    all_trees(bench)
     for number in (16_384, 65_536):
         for order in ("descending", "mixed"):
             text = keys(number, order == "mixed")

@@ -1,11 +1,15 @@
 //! Reads the standard input and tells what it holds, for `make bench`: how many definitions a text spells; at the word
-//! `types` how many types there are, builtin ones too; at `keys` how many different numbers stand on its lines.
+//! `types` how many types there are, builtin ones too; at `sets` and `trees` how many rule sets its rules make, and how many trees
+//! these; at `keys` how many different numbers stand on its lines.
 #![tactic(auto)]
+
+mod rules;
 
 use isle_syntax::Refusal;
 use isle_syntax::lexer::Lexer;
 use isle_syntax::parser::parse;
 use isle_types::{SortedMap, TypeEnv};
+use rules::{count_sets, count_trees};
 use std::alloc::{AllocError, Global};
 use std::env::{self, Env};
 use std::io::{self, Read, Write};
@@ -57,6 +61,8 @@ fn run<R: Input + Print + Env + AllocGlobal>(rt: &R) -> io::Result<()> {
     let mut output = io::writer(rt);
     let counted = match word.as_str() {
         "types" => count_types(rt.alloc(), text.as_str()),
+        "sets" => count_sets(rt.alloc(), text.as_str()).ok(),
+        "trees" => count_trees(rt.alloc(), text.as_str()).ok(),
         "keys" => count_keys(rt.alloc(), text.as_str()).ok(),
         _ => count(rt.alloc(), text.as_str()),
     };

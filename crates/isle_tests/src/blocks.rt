@@ -2,6 +2,7 @@
 pub mod checks;
 mod site_terms;
 mod trees;
+mod walks;
 
 use crate::syntax::orders::are_keys;
 use isle_blocks::{Binding, BindingId, Constraint, TupleIndex};

@@ -166,7 +166,7 @@ fn parentheses_nest_to_the_bound(rt: HostRuntime) -> Result<(), Fail> {
 }
 
 /// A text in which `«3×ab»` stands for `ababab`.
-fn written_out(alloc: Global, text: &str) -> Result<String, Fail> {
+pub fn written_out(alloc: Global, text: &str) -> Result<String, Fail> {
     let mut out = String::new(alloc);
     for part in text.split('»') {
         write_part(&mut out, part)?;

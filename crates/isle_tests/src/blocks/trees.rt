@@ -57,14 +57,22 @@ fn write_block(out: &mut String, block: &Block) -> Result<(), AllocError> {
     Ok(())
 }
 
-/// The trees of a text's rules, which are accepted.
-fn told_trees(alloc: Global, text: &str) -> Result<String, Fail> {
+/// The trees of a text's rules, which are accepted, one for each term that has rules.
+pub fn blocks_of(alloc: Global, text: &str) -> Result<Vec<Block>, Fail> {
     let (_, termenv) = environments(alloc, text)?;
     let sets = check(alloc, &termenv)?;
-    let mut out = String::new(alloc);
+    let mut blocks = Vec::new(alloc);
     for set in &sets {
-        let block = serialize(alloc, &set.1)?;
-        write_block(&mut out, &block)?;
+        blocks.push(serialize(alloc, &set.1)?)?;
+    }
+    Ok(blocks)
+}
+
+/// What is written of the trees of a text's rules.
+fn told_trees(alloc: Global, text: &str) -> Result<String, Fail> {
+    let mut out = String::new(alloc);
+    for block in &blocks_of(alloc, text)? {
+        write_block(&mut out, block)?;
     }
     Ok(out)
 }
@@ -104,6 +112,50 @@ bind [] return rule 1, BindingId(1)
         told_trees(rt.alloc(), text)?.as_str(),
         "bind [BindingId(1)] loop BindingId(2)
 bind [] return rule 0, BindingId(2)
+"
+    );
+    Ok(())
+}
+
+/// Only the second rule wants the arguments to be equal, so that this counts nothing before the first rule's test.
+#[test]
+fn trees_test_the_first_rule_before_equality(rt: HostRuntime) -> Result<(), Fail> {
+    let text = "(decl f (u8 u8) u8) (rule 2 (f 1 _) 7) (rule 1 (f x x) 8) (rule (f x _) x)";
+    assert_eq!(rt;
+        told_trees(rt.alloc(), text)?.as_str(),
+        "bind [] match BindingId(0)
+ConstInt { val: 1, ty: TypeId(1) } []
+bind [] return rule 0, BindingId(2)
+bind [] equal BindingId(0) BindingId(1)
+bind [] return rule 1, BindingId(3)
+bind [] return rule 2, BindingId(0)
+"
+    );
+    Ok(())
+}
+
+/// Impure calls that may fail are bound in order, each before its content, also where that isn't used; then the result.
+#[test]
+fn trees_bind_calls_with_their_contents(rt: HostRuntime) -> Result<(), Fail> {
+    let text = "(decl partial emit (u8) u8) (extern constructor emit emit)
+        (decl partial f (u8) u8) (rule (f x) (let ((_ u8 (emit x))) (emit x)))";
+    assert_eq!(rt;
+        told_trees(rt.alloc(), text)?.as_str(),
+        "bind [BindingId(1), BindingId(2), BindingId(3), BindingId(4), BindingId(5)] return rule 0, BindingId(5)
+"
+    );
+    Ok(())
+}
+
+/// An arm has a site for each field of its variant, also for the first, of which no rule speaks.
+#[test]
+fn arms_have_all_fields(rt: HostRuntime) -> Result<(), Fail> {
+    let text = "(type A (enum (V (a u8) (b u8)))) (decl partial f (A) u8) (rule (f (A.V _ y)) y)";
+    assert_eq!(rt;
+        told_trees(rt.alloc(), text)?.as_str(),
+        "bind [] match BindingId(0)
+Variant { ty: TypeId(13), variant: VariantId(0), fields: TupleIndex(2) } [Some(BindingId(1)), Some(BindingId(2))]
+bind [BindingId(3)] return rule 0, BindingId(3)
 "
     );
     Ok(())

@@ -2,7 +2,7 @@ use Rattle.std.proofs.Common.{◌≡◌, ◌<◌, List, length, get_or, sym, ap,
 use Rattle.isle_types.specs.declared.ids.TermId.{TermId}
 use Rattle.isle_blocks.specs.DefinedSets.{IsTermSet}
 use Rattle.isle_blocks.specs.RuleSets.{RulesOverSites}
-use Rattle.isle_tests.proofs.blocks.trees.told_trees.Goals as goal
+use Rattle.isle_bench.proofs.rules.trees.Goals as goal
 
 pub serialize-requires : goal.serialize-requires
 serialize-requires c =
