@@ -7,3 +7,5 @@ pub mod SettledNumbers
 pub mod TypesWithValues
 -- Entries of worlds.
 pub mod WorldEntries
+-- Lines of trees.
+pub mod TreeTexts

@@ -3,3 +3,5 @@
 pub mod Joined
 -- What is printed of what is left of a tree.
 pub mod Left
+-- The rule sets of a program of files are ones that the builder of trees takes.
+pub mod CheckedSets

@@ -1,20 +1,24 @@
 -- What is written of the trees of a program's rules, by what its parts write.
-use Rattle.std.proofs.Common.{◌≡◌, ◌≢◌, ◌<◌, ◌∙◌, ◌++◌, ◌∷◌, [], inl, inr, ℕ, Bool, true, List, Option, Some, None, Result, Ok, Err, IfOk, IfErr, OnOk, OnErr, subst, map, sym, ap, refl, IsTrue}
-use Rattle.std.specs.List.{AllZip}
+use Rattle.std.proofs.Common.{◌≡◌, ◌≢◌, ◌<◌, ◌+◌, ◌∙◌, ◌++◌, ◌∷◌, [], inl, inr, ℕ, suc, List, Option, Some, None, Result, Ok, Err, IfOk, IfErr, subst, map, sym, ap, ap₂, take, drop, length, get_or, String, arith}
+use Rattle.std.specs.Global.{Global}
+use Rattle.std.specs.Prelude.{string_bytes}
+use Rattle.std.proofs.Math.Seq.{drop-cons}
+use Rattle.std.proofs.lemmas.List.{map-append, take-append-drop}
 use Rattle.std.specs.Io.KnownBytes.{Appends}
-use Rattle.std.proofs.lemmas.Slice.Zip.{all_zipped_more}
 use Rattle.isle_syntax.specs.Errors.{Report, report_text}
 use Rattle.isle_syntax.specs.Positions.Files.{SourceFile}
 use Rattle.isle_types.specs.declared.ids.TermId.{TermId}
+use Rattle.isle_types.proofs.DefinitionTurns.{take_here}
 use Rattle.isle_run.specs.declared.compiler.Refused.{Refused}
 use Rattle.isle_run.specs.declared.compiler.Refused.TheVariants.{Faults}
 use Rattle.isle_run.specs.declared.program.Program.{Program}
 use Rattle.isle_run.specs.Compiled.{AreAccepted, AreFaults, IsProgramOf, IfFaults}
+use Rattle.isle_run.specs.Programs.{term_named}
 use Rattle.islec.specs.declared.serve.ServeFault.{ServeFault}
 use Rattle.islec.specs.declared.serve.ServeFault.TheVariants.{Memory}
 use Rattle.islec.specs.declared.status.Status.{Status}
 use Rattle.islec.specs.declared.status.Status.TheVariants.{AllWell, Usage}
-use Rattle.islec.specs.Drawing.{CutsTrees, DrawsTrees, IsUnknown, TellsTreesOf, WritesTrees, WritesUnknown, unknown_line}
+use Rattle.islec.specs.Drawing.{AreNamed, CutsTrees, DrawsTrees, IsUnknown, TellsTreesOf, WritesTrees, WritesUnknown, unknown_line}
 use Rattle.islec.specs.Writing.{AppendsBeginning}
 use Rattle.islec.proofs.RefusedFiles.{cuts_faults}
 
@@ -63,3 +67,34 @@ module _ (files all : List SourceFile) (refused : Refused) (report : Report) (ol
       → IfErr r (λ f. f ≢ Memory → CutsTrees all names old new)
   refusal_undrawn names (Ok s) wrote = tt
   refusal_undrawn names (Err f) wrote = λ e. inr (cuts_faults files all refused report old new is same not_accepted faults of_files (wrote e))
+
+-- names before a place, this one, and those after it
+parted : (names : List (String Global)) (i : ℕ) (name : String Global) → i < length names → name ≡ get_or names i name
+    → names ≡ take i names ++ name ∷ drop (i + 1) names
+parted names i name low is =
+    let next : suc i ≡ i + 1 = omega arith in
+    sym (take-append-drop i names) ∙ ap (λ (l : List (String Global)). take i names ++ l)
+    (drop-cons names i name low ∙ ap₂ (λ (n : String Global) (k : ℕ). n ∷ drop k names) (sym is) next)
+
+module _ (program : Program) (names : List (String Global)) (terms : List TermId) (i : ℕ) (name : String Global) (low : i < length names)
+    (is : name ≡ get_or names i name) (before : AreNamed program (map string_bytes (take i names)) terms) where
+  -- one more name, that of a term
+  pub one_more : (term : TermId) → term_named program (string_bytes name) ≡ Some term → AreNamed program (map string_bytes (take (i + 1) names)) (terms ++ term ∷ [])
+  one_more term named =
+      let all : take (i + 1) names ≡ take i names ++ name ∷ [] = take_here names i name low is in
+      ap (λ (l : List (String Global)). map (term_named program) (map string_bytes l)) all
+      ∙ ap (map (term_named program)) (map-append string_bytes (take i names) (name ∷ []))
+      ∙ map-append (term_named program) (map string_bytes (take i names)) (string_bytes name ∷ [])
+      ∙ ap₂ (λ (l m : List (Option TermId)). l ++ m) before (ap (λ (t : Option TermId). t ∷ []) named)
+      ∙ sym (map-append Some terms (term ∷ []))
+
+  -- a name that is that of no term
+  pub first_unknown : term_named program (string_bytes name) ≡ None → IsUnknown program (map string_bytes names) (string_bytes name)
+  first_unknown none = record {
+    before = map string_bytes (take i names);
+    after = map string_bytes (drop (i + 1) names);
+    terms = terms;
+    among = ap (map string_bytes) (parted names i name low is) ∙ map-append string_bytes (take i names) (name ∷ drop (i + 1) names);
+    known = before;
+    unknown = none;
+  }

@@ -1,9 +1,12 @@
--- What is still to be printed of a tree.
-use Rattle.std.specs.Prelude.{◌≡◌, ◌<◌, ◌+◌, ℕ, List, [], ◌∷◌, ◌++◌, Option, None, Some, String, string_bytes}
+-- What is still to be printed of a tree, and what stands between two sites of a list.
+use Rattle.std.specs.Prelude.{◌≡◌, ◌<◌, ◌+◌, ℕ, List, [], ◌∷◌, ◌++◌, Option, None, Some, String, codes, string_bytes}
+use Rattle.std.specs.Fmt.{decimal}
+use Rattle.std.specs.Option.{option_map}
 use Rattle.std.specs.Global.{Global}
 use Rattle.isle_syntax.specs.Positions.Files.{SourceFile}
 use Rattle.isle_trees.specs.Tree.{Steps, Arms, done, «match», equal, loop, give, no_arm, arm}
 use Rattle.isle_blocks.specs.declared.constraint.Constraint.{Constraint}
+use Rattle.isle_blocks.specs.declared.ids.BindingId.{BindingId}
 use Rattle.isle_blocks.specs.declared.rule.Rule.{Rule}
 use Rattle.isle_blocks.specs.declared.serializer.views.ControlFlow.{ControlFlow}
 use Rattle.isle_blocks.specs.declared.serializer.views.ControlFlow.TheVariants as flows
@@ -11,7 +14,20 @@ use Rattle.isle_blocks.specs.Trees.Views.{shown_steps, shown_arms}
 use Rattle.isle_run.specs.declared.program.Program.{Program}
 use Rattle.isle_run.specs.declared.trees.steps.Part.{Part}
 use Rattle.isle_run.specs.declared.trees.steps.Part.TheVariants as parts
+use Rattle.isle_run.specs.TreeTexts.Names.{field_text}
 use Rattle.isle_run.specs.TreeTexts.Steps.{arms_text, equal_line, loop_line, match_line, return_line, steps_text}
+
+-- the number of a site behind a space
+abbrev pub behind_space : BindingId → List ℕ
+behind_space id = codes " " ++ decimal id.0
+
+-- a field of an arm
+abbrev pub field_shown : Option BindingId → List ℕ
+field_shown field = field_text (option_map (λ (id : BindingId). id.0) field)
+
+-- a field behind a space
+abbrev pub field_behind_space : Option BindingId → List ℕ
+field_behind_space field = codes " " ++ field_shown field
 
 -- the line of a check
 abbrev pub check_line : List SourceFile → List Rule → (level : ℕ) → ControlFlow → List ℕ

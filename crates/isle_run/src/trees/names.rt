@@ -1,10 +1,12 @@
 //! What is printed of types, variants, terms, numbers and places.
-ghost use Rattle.std.specs.Prelude.{◌≡◌, ◌+◌, ◌-◌, ◌∷◌, IfOk, slice_index, string_bytes};
+ghost use Rattle.std.specs.Prelude.{◌≡◌, ◌+◌, ◌++◌, ◌-◌, ◌∷◌, IfOk, slice_index, string_bytes};
+ghost use Rattle.std.specs.Fmt.{decimal};
+ghost use Rattle.std.specs.List.{flat_map};
 ghost use Rattle.isle_syntax.specs.Positions.Lines.{starts_up_to};
 ghost use Rattle.isle_blocks.specs.Rows.{numbers_of};
 ghost use Rattle.isle_blocks.specs.Trees.Nodes.{fields_of};
-ghost use Rattle.std.specs.Option.{option_map};
-ghost use Rattle.isle_run.specs.TreeTexts.Names.{field_text as shown_field, fields_text, indent, numbers_text, pos_text, symbol_name, type_name_of, type_text, variant_name};
+ghost use Rattle.isle_run.specs.TreeTexts.Parts.{behind_space, field_behind_space, field_shown};
+ghost use Rattle.isle_run.specs.TreeTexts.Names.{fields_text, indent, numbers_text, pos_text, symbol_name, type_name_of, type_text, variant_name};
 
 use crate::program::Program;
 use isle_blocks::BindingId;
@@ -56,9 +58,16 @@ pub(crate) fn symbol_name(program: &Program, sym: Sym) -> &str
 pub(crate) fn spaced(alloc: Global, ids: &[BindingId]) -> Result<String, AllocError>
     ensures { IfOk result (λ text. string_bytes text ≡ numbers_text (numbers_of ids.now)) }
 {
-    let Some((first, others)) = ids.split_first() else {
-        return Ok(String::new(alloc));
-    };
+    match ids.split_first() {
+        Some((first, others)) => joined(alloc, *first, others),
+        None => Ok(String::new(alloc)),
+    }
+}
+
+/// A number, and others, each behind a space.
+fn joined(alloc: Global, first: BindingId, others: &[BindingId]) -> Result<String, AllocError>
+    ensures { IfOk result (λ text. string_bytes text ≡ decimal first.0 ++ flat_map behind_space others.now) }
+{
     let number = first.index();
     let mut text = format!(in alloc; "{number}")?;
     for id in others {
@@ -76,21 +85,33 @@ pub(crate) fn spaced_fields(
 ) -> Result<String, AllocError>
     ensures { IfOk result (λ text. string_bytes text ≡ fields_text (fields_of fields.now)) }
 {
-    let Some((first, others)) = fields.split_first() else {
-        return Ok(String::new(alloc));
-    };
-    let mut text = field_text(alloc, *first)?;
+    match fields.split_first() {
+        Some((first, others)) => joined_fields(alloc, *first, others),
+        None => Ok(String::new(alloc)),
+    }
+}
+
+/// A field, and others, each behind a space.
+fn joined_fields(
+    alloc: Global,
+    first: Option<BindingId>,
+    others: &[Option<BindingId>],
+) -> Result<String, AllocError>
+    ensures { IfOk result (λ text. string_bytes text ≡ field_shown first ++ flat_map field_behind_space others.now) }
+{
+    let mut text = field_text(alloc, first)?;
     for field in others {
         let one = field_text(alloc, *field)?;
-        text.push_str(" ")?;
-        text.push_str(one.as_str())?;
+        let one = one.as_str();
+        let behind = format!(in alloc; " {one}")?;
+        text.push_str(behind.as_str())?;
     }
     Ok(text)
 }
 
 /// The number of a site, and `_` where there is none.
 fn field_text(alloc: Global, field: Option<BindingId>) -> Result<String, AllocError>
-    ensures { IfOk result (λ text. string_bytes text ≡ shown_field (option_map (λ id. id.0) field)) }
+    ensures { IfOk result (λ text. string_bytes text ≡ field_shown field) }
 {
     match field {
         Some(id) => {
