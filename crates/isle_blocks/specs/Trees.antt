@@ -39,3 +39,5 @@ pub mod Functions
 pub mod Deciding
 -- What the rule sets of `multi` terms give.
 pub mod Bags
+-- The bag of a `multi` term.
+pub mod RuleBags

@@ -1,4 +1,5 @@
 use Rattle.isle_blocks.proofs.Trees.Promised.{built_ascends, built_asks, built_chooses, built_from, built_returns, built_short, checked_buildable}
+use Rattle.isle_blocks.proofs.Trees.Bags.RuleBags.{built_bag}
 use Rattle.isle_blocks.proofs.serializer.serialize.Goals as goal
 
 pub nodes_of-requires : goal.nodes_of-requires
@@ -14,6 +15,11 @@ returns-clause-returns c =
 pub returns-clause-chooses : goal.returns-clause-chooses
 returns-clause-chooses c =
     built_chooses c.args.set.now c.in_ok-block.block
+    (built_from c.args.set.now c.in_ok-block.block c.in_ok-nodes.nodes.items c.in_ok-block.ensures c.in_ok-nodes.ensures.builds)
+
+pub returns-clause-bag : goal.returns-clause-bag
+returns-clause-bag c =
+    built_bag c.args.set.now c.in_ok-block.block
     (built_from c.args.set.now c.in_ok-block.block c.in_ok-nodes.nodes.items c.in_ok-block.ensures c.in_ok-nodes.ensures.builds)
 
 pub returns-clause-asks : goal.returns-clause-asks
