@@ -33,3 +33,5 @@ mod TwoValues
 mod ThreeItems
 -- Three rules without multi calls.
 mod ThreeRules
+-- A rule over a multi call that nothing opens.
+mod UnopenedLoops
