@@ -1,4 +1,4 @@
--- The bag of a `multi` term: its rules that match, once for each way to take one item of each multi call that they have; and the walk that returns it.
+-- The bag of a `multi` term: its rules that match, once for each way to take one item of each multi call that they have; and its walk.
 use Rattle.std.specs.Prelude.{◌≡◌, ◌++◌, ℕ, true, List, [], ◌∷◌, Option, Contains, None, Some, length, slice_get}
 use Rattle.std.specs.List.{AllPairs, AllZip}
 use Rattle.isle_terms.specs.Shown.TermTables.{TermTables}

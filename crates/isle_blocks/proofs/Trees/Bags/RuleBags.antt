@@ -1,5 +1,5 @@
 -- The walk of a `multi` term's tree answers the bag of the term's rules.
-use Rattle.std.proofs.Common.{◌≡◌, ◌⊎◌, inl, inr, ℕ, ◌<◌, Bool, true, List, [], ◌∷◌, ◌++◌, length, map, Some, slice_get}
+use Rattle.std.proofs.Common.{◌≡◌, ◌⊎◌, inl, inr, ℕ, ◌<◌, Bool, true, List, [], ◌∷◌, ◌++◌, length, Option, map, Some, slice_get}
 use Rattle.std.proofs.Common.{get_or, refl, ap, sym, subst, ◌∙◌, arith}
 use Rattle.std.specs.List.{AllZip, filter, flat_map}
 use Rattle.std.proofs.lemmas.List.{map-append}
@@ -7,7 +7,7 @@ use Rattle.std.proofs.lemmas.Option.{same_Some, slice_get_within, get_or_from_sl
 use Rattle.isle_types.specs.declared.ids.Sym.{Sym}
 use Rattle.isle_terms.specs.declared.rules.Rule as source
 use Rattle.isle_terms.specs.TypedRules.{TypedRule}
-use Rattle.isle_meaning.specs.Values.{Values, count}
+use Rattle.isle_meaning.specs.Values.{Value, Values, count}
 use Rattle.isle_meaning.specs.Facts.{TermFacts}
 use Rattle.isle_meaning.specs.Answers.{Completion}
 use Rattle.isle_meaning.specs.AboutSites.Functions.{AreFiniteFunctions, AreAsFunctions}
@@ -136,7 +136,8 @@ module _ (name : Sym → List ℕ) (facts : TermFacts) (sources : List source.Ru
   Made place r = IsMadeAt name facts sources rules term set.sites place r
 
   -- each rule of the set, with its place
-  made_here : (i : ℕ) → i < length set.rules → (r : Rule) × (slice_get set.rules i ≡ Some r) × (slice_get h.is.places i ≡ Some (place_at i)) × Made (place_at i) r
+  made_here : (i : ℕ) → i < length set.rules → (r : Rule) × (slice_get set.rules i ≡ Some r) × (slice_get h.is.places i ≡ Some (place_at i))
+      × Made (place_at i) r
   made_here i l =
       let (r, at) = get_there set.rules i l in
       let (q, at_place, m) = zipped_back Made h.is.places set.rules h.is.made i r at in
@@ -147,13 +148,17 @@ module _ (name : Sym → List ℕ) (facts : TermFacts) (sources : List source.Ru
   is_rule : (place : ℕ) (r : Rule) (m : Made place r) → IsRuleOf rules term place m.reached.rule
   is_rule place r m = record { listed = m.reached.at; of_term = m.reached.of_term }
 
+  -- what the impure calls of a rule are answered in a way
+  abbrev done_in : TypedRule → Way → List (Option Value)
+  done_in rule way = impure_answers facts (taking c way) args rule
+
   -- items are taken in any way of functions
   functions_taking : (way : Way) → AreFiniteFunctions facts (taking c way)
   functions_taking way = taking_functions facts c functions way
 
   -- impure calls are answered as functions answer them
   fine : (place : ℕ) (r : Rule) (m : Made place r) (way : Way) (s : Site) → IsAskedSite facts m.reached.rule s ⊎ (s ≡ own_result facts m.reached.rule)
-      → AreAsFunctions facts (taking c way) args (impure_answers facts (taking c way) args m.reached.rule) s
+      → AreAsFunctions facts (taking c way) args (done_in m.reached.rule way) s
   fine place r m way s asked =
       answered_as_functions facts m.reached.rule (pure place m.reached.rule (is_rule place r m)) (taking c way) (functions_taking way) args s asked
 
@@ -177,7 +182,8 @@ module _ (name : Sym → List ℕ) (facts : TermFacts) (sources : List source.Ru
       let (low, within, told) = entry_is e inside in
       let (r, at, at_place, m) = made_here (e.0) low in
       let fine' = fine (place_at (e.0)) r m (way_of e) in
-      let items = items_there name facts sources rules term set h multi c args (way_of e) (impure_answers facts (taking c (way_of e)) args m.reached.rule) functions takes (e.0) r at (place_at (e.0)) m
+      let items = items_there name facts sources rules term set h multi c args (way_of e) (done_in m.reached.rule (way_of e)) functions takes
+      (e.0) r at (place_at (e.0)) m
       fine' p (λ k. 0) (e.1) within (its_places e) in
       record {
         rule = m.reached.rule;
@@ -185,7 +191,8 @@ module _ (name : Sym → List ℕ) (facts : TermFacts) (sources : List source.Ru
         takes = λ s used.
             let (k, here, among) = loop_number name facts sources rules term set h (e.0) r at (place_at (e.0)) m s used in
             (e.1.0 k, items s k used here);
-        holds = (matches_there name facts sources rules term set h multi c args (way_of e) (impure_answers facts (taking c (way_of e)) args m.reached.rule) functions takes (e.0) r at (place_at (e.0)) m
+        holds = (matches_there name facts sources rules term set h multi c args (way_of e) (done_in m.reached.rule (way_of e)) functions takes
+            (e.0) r at (place_at (e.0)) m
             fine' (e.1.0) items).0 ((decided name facts sources rules term set h (M.values (e.1.0)) (e.0)).0 told);
       }
 
@@ -195,9 +202,11 @@ module _ (name : Sym → List ℕ) (facts : TermFacts) (sources : List source.Ru
       let (low, within, told) = entry_is e inside in
       let (r, at, at_place, m) = made_here (e.0) low in
       let fine' = fine (place_at (e.0)) r m (way_of e) in
-      let items = items_there name facts sources rules term set h multi c args (way_of e) (impure_answers facts (taking c (way_of e)) args m.reached.rule) functions takes (e.0) r at (place_at (e.0)) m
+      let items = items_there name facts sources rules term set h multi c args (way_of e) (done_in m.reached.rule (way_of e)) functions takes
+      (e.0) r at (place_at (e.0)) m
       fine' p (λ k. 0) (e.1) within (its_places e) in
-      let gives = result_there name facts sources rules term set h multi c args (way_of e) (impure_answers facts (taking c (way_of e)) args m.reached.rule) functions takes (e.0) r at (place_at (e.0)) m
+      let gives = result_there name facts sources rules term set h multi c args (way_of e) (done_in m.reached.rule (way_of e)) functions takes
+      (e.0) r at (place_at (e.0)) m
       fine' (e.1.0) items in (
         at_place,
         λ rule listed. subst (λ (z : TypedRule). M.values (e.1.0) (R.result (e.0)) ≡ held_at facts c args z (way_of e) (own_result facts z))
@@ -205,8 +214,8 @@ module _ (name : Sym → List ℕ) (facts : TermFacts) (sources : List source.Ru
       )
 
   -- a match of a rule of the set is an entry
-  entry_from : (n : Match) (i : ℕ) (r : Rule) (at : slice_get set.rules i ≡ Some r) (at_place : slice_get h.is.places i ≡ Some n.rule) (m : Made n.rule r)
-      (is : IsMatch facts c args rules term n) → (e : Entry) × Elem e entries × AreOne facts rules n (match_of e)
+  entry_from : (n : Match) (i : ℕ) (r : Rule) (at : slice_get set.rules i ≡ Some r) (at_place : slice_get h.is.places i ≡ Some n.rule)
+      (m : Made n.rule r) (is : IsMatch facts c args rules term n) → (e : Entry) × Elem e entries × AreOne facts rules n (match_of e)
   entry_from n i r at at_place m is =
       let rule = m.reached.rule in
       let listed = is.is in
@@ -214,15 +223,17 @@ module _ (name : Sym → List ℕ) (facts : TermFacts) (sources : List source.Ru
       let fine' = fine n.rule r m n.way in
       let there = subst (λ (z : TypedRule). (s : Site) → HasMultiCall facts z s
       → (x : Held) × HasItem (held_at facts c args z n.way s) (n.way s) x) same is.takes in
-      let (x, inside, places, items) = is_placed name facts sources rules term set h multi c args n.way (impure_answers facts (taking c n.way) args rule) functions takes i r at n.rule m fine' p
-      there (λ k. 0) in
+      let (x, inside, places, items) = is_placed name facts sources rules term set h multi c args n.way (done_in rule n.way) functions
+      takes i r at n.rule m fine' p there (λ k. 0) in
       let holds = subst (λ (z : TypedRule). (d : Demand) → DemandOf facts z d → IsProper d → Holds (held_at facts c args z n.way) d) same is.holds in
-      let matches = (matches_there name facts sources rules term set h multi c args n.way (impure_answers facts (taking c n.way) args rule) functions takes i r at n.rule m fine' (x.0) items).1 holds in
+      let matches = (matches_there name facts sources rules term set h multi c args n.way (done_in rule n.way) functions
+      takes i r at n.rule m fine' (x.0) items).1 holds in
       let told = (decided name facts sources rules term set h (M.values (x.0)) i).1 matches in
       let low = slice_get_within set.rules i r at in (
         (i, x),
         in_flat entries_of i (i, x) (below (length set.rules)) (elem_below i (length set.rules) low)
-            (in_map (λ (x : Picks Held × Picks ℕ). (i, x)) x (chosen_of i) (to_filter (λ (x : Picks Held × Picks ℕ). tells (x.0) i) (ways_of i) x inside told)),
+            (in_map (λ (x : Picks Held × Picks ℕ). (i, x)) x (chosen_of i)
+            (to_filter (λ (x : Picks Held × Picks ℕ). tells (x.0) i) (ways_of i) x inside told)),
         (
           sym (get_or_from_slice_get h.is.places i n.rule 0 at_place),
           λ other at_other s used.
@@ -238,7 +249,7 @@ module _ (name : Sym → List ℕ) (facts : TermFacts) (sources : List source.Ru
   is_full n is =
       let listed = is.is in
       let (i, at_place) = matching_rules_are_listed name facts sources rules term set h (held_at facts c args is.rule n.way)
-      (value_respects facts (taking c n.way) args (impure_answers facts (taking c n.way) args is.rule)) n.rule is.rule listed.listed listed.of_term is.holds in
+      (value_respects facts (taking c n.way) args (done_in is.rule n.way)) n.rule is.rule listed.listed listed.of_term is.holds in
       let (r, at, m) = zip_left Made h.is.places set.rules i n.rule h.is.made at_place in
       entry_from n i r at at_place m is
 
