@@ -39,3 +39,5 @@ pub mod Functions
 pub mod Deciding
 -- What the rule sets of `multi` terms give.
 pub mod Bags
+-- What the steps of a rule set's tree read, and what its arms bind.
+pub mod ReadPromises

@@ -1,4 +1,5 @@
 use Rattle.isle_blocks.proofs.Trees.Promised.{built_ascends, built_asks, built_chooses, built_from, built_returns, built_short, checked_buildable}
+use Rattle.isle_blocks.proofs.Trees.Promises.Reads.{built_by_tests, built_fields, built_reads}
 use Rattle.isle_blocks.proofs.serializer.serialize.Goals as goal
 
 pub nodes_of-requires : goal.nodes_of-requires
@@ -29,4 +30,19 @@ returns-clause-ascends c =
 pub returns-clause-few : goal.returns-clause-few
 returns-clause-few c =
     built_short c.args.set.now c.in_ok-block.block (checked_buildable c.args.set.now c.requires.checked)
+    (built_from c.args.set.now c.in_ok-block.block c.in_ok-nodes.nodes.items c.in_ok-block.ensures c.in_ok-nodes.ensures.builds)
+
+pub returns-clause-reads : goal.returns-clause-reads
+returns-clause-reads c =
+    built_reads c.args.set.now c.in_ok-block.block c.requires.checked
+    (built_from c.args.set.now c.in_ok-block.block c.in_ok-nodes.nodes.items c.in_ok-block.ensures c.in_ok-nodes.ensures.builds)
+
+pub returns-clause-fields : goal.returns-clause-fields
+returns-clause-fields c =
+    built_fields c.args.set.now c.in_ok-block.block c.requires.checked
+    (built_from c.args.set.now c.in_ok-block.block c.in_ok-nodes.nodes.items c.in_ok-block.ensures c.in_ok-nodes.ensures.builds)
+
+pub returns-clause-by_tests : goal.returns-clause-by_tests
+returns-clause-by_tests c =
+    built_by_tests c.args.set.now c.in_ok-block.block
     (built_from c.args.set.now c.in_ok-block.block c.in_ok-nodes.nodes.items c.in_ok-block.ensures c.in_ok-nodes.ensures.builds)
