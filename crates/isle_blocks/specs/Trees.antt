@@ -41,3 +41,5 @@ pub mod Deciding
 pub mod Bags
 -- What the steps of a rule set's tree read, and what its arms bind.
 pub mod ReadPromises
+-- Rules of equal priority.
+pub mod Ties
