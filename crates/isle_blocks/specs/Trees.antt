@@ -43,3 +43,5 @@ pub mod Bags
 pub mod ReadPromises
 -- Rules of equal priority.
 pub mod Ties
+-- Calls that take values of their types.
+pub mod TypedCalls

@@ -1,5 +1,6 @@
 use Rattle.isle_blocks.proofs.Trees.Promised.{built_ascends, built_asks, built_chooses, built_from, built_returns, built_short, checked_buildable}
 use Rattle.isle_blocks.proofs.Trees.Promises.Reads.{built_by_tests, built_fields, built_reads}
+use Rattle.isle_blocks.proofs.Trees.Promises.TypedCalls.{calls_take_their_types}
 use Rattle.isle_blocks.proofs.serializer.serialize.Goals as goal
 
 pub nodes_of-requires : goal.nodes_of-requires
@@ -46,3 +47,6 @@ pub returns-clause-by_tests : goal.returns-clause-by_tests
 returns-clause-by_tests c =
     built_by_tests c.args.set.now c.in_ok-block.block
     (built_from c.args.set.now c.in_ok-block.block c.in_ok-nodes.nodes.items c.in_ok-block.ensures c.in_ok-nodes.ensures.builds)
+
+pub returns-clause-typed : goal.returns-clause-typed
+returns-clause-typed c = calls_take_their_types c.args.set.now c.in_ok-block.block
