@@ -45,3 +45,5 @@ pub mod ReadPromises
 pub mod Ties
 -- Calls that take values of their types.
 pub mod TypedCalls
+-- What the tree of a rule set promises of right sides.
+pub mod RightPromises

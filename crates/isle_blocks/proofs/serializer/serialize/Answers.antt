@@ -1,5 +1,6 @@
 use Rattle.isle_blocks.proofs.Trees.Promised.{built_ascends, built_asks, built_chooses, built_from, built_returns, built_short, checked_buildable}
 use Rattle.isle_blocks.proofs.Trees.Promises.Reads.{built_by_tests, built_fields, built_reads}
+use Rattle.isle_blocks.proofs.Trees.Promises.RightSides.{built_answers}
 use Rattle.isle_blocks.proofs.Trees.Promises.TypedCalls.{calls_take_their_types}
 use Rattle.isle_blocks.proofs.serializer.serialize.Goals as goal
 
@@ -50,3 +51,8 @@ returns-clause-by_tests c =
 
 pub returns-clause-typed : goal.returns-clause-typed
 returns-clause-typed c = calls_take_their_types c.args.set.now c.in_ok-block.block
+
+pub returns-clause-answers : goal.returns-clause-answers
+returns-clause-answers c =
+    built_answers c.args.set.now c.in_ok-block.block
+    (built_from c.args.set.now c.in_ok-block.block c.in_ok-nodes.nodes.items c.in_ok-block.ensures c.in_ok-nodes.ensures.builds)
