@@ -41,3 +41,11 @@ pub mod Deciding
 pub mod Bags
 -- The bag of a `multi` term.
 pub mod RuleBags
+-- What the steps of a rule set's tree read, and what its arms bind.
+pub mod ReadPromises
+-- Rules of equal priority.
+pub mod Ties
+-- Calls that take values of their types.
+pub mod TypedCalls
+-- What the tree of a rule set promises of right sides.
+pub mod RightPromises
