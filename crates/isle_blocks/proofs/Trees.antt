@@ -67,3 +67,5 @@ pub mod Stepping
 pub mod Named
 -- What is promised of a rule set's tree.
 pub mod Promised
+-- What more is promised of it.
+pub mod Promises

@@ -39,3 +39,13 @@ pub mod Functions
 pub mod Deciding
 -- What the rule sets of `multi` terms give.
 pub mod Bags
+-- The bag of a `multi` term.
+pub mod RuleBags
+-- What the steps of a rule set's tree read, and what its arms bind.
+pub mod ReadPromises
+-- Rules of equal priority.
+pub mod Ties
+-- Calls that take values of their types.
+pub mod TypedCalls
+-- What the tree of a rule set promises of right sides.
+pub mod RightPromises

@@ -27,6 +27,7 @@ ghost use Rattle.isle_blocks.specs.Trees.Laws.{AnswersAreMadeByParts, AnswersAgr
 ghost use Rattle.isle_blocks.specs.Trees.Laws.{MachinesWalk, WalksChooseAsTyped, BuiltSetsAreRunnable, DefinitionsHavePriorities};
 ghost use Rattle.isle_blocks.specs.Trees.Bags.{ElaboratedAreWellMade, ElaboratedAreListed, MultiSetsAreMany, FunctionsAreFunctions};
 ghost use Rattle.isle_blocks.specs.Trees.Bags.{RulesMatchByNumbers, WalksMakeBags, SitesHoldTheirValues, RulesMatchAtPlaces};
+ghost use Rattle.isle_blocks.specs.Trees.Ties.{EqualPrioritiesNeverBothMatch};
 ghost use Rattle.isle_blocks.specs.Trees.Bags.{MatchingIsDecided, MatchingRulesAreListed, WaysTakeItems, BuiltSetsAreElaborated, BuiltMultiTerms};
 ghost use Rattle.isle_blocks.specs.Hashes.{binding_hash, constraint_hash};
 
@@ -295,4 +296,9 @@ pub fn rules_match_at_places()
 pub fn built_sets_are_elaborated()
     ensures sets { BuiltSetsAreElaborated }
     ensures multi { BuiltMultiTerms }
+{}
+
+/// Of rules without a fault two of equal priority, of a term that asks no `multi` term and is none, never both match.
+pub fn equal_priorities_never_both_match()
+    ensures { EqualPrioritiesNeverBothMatch }
 {}

@@ -7,6 +7,10 @@ ghost use Rattle.isle_trees.specs.Search.{below};
 ghost use Rattle.isle_blocks.specs.Trees.Builder.{IsSerializable, rules_in};
 ghost use Rattle.isle_blocks.specs.Trees.Nodes.{first_steps, read};
 ghost use Rattle.isle_blocks.specs.Trees.Promises.{BindsWhatIsAsked, ChoosesAsRules, HasArmsInOrder, IsBuilt, IsCheckedSet, IsShort, ReturnsItsRules};
+ghost use Rattle.isle_blocks.specs.Trees.RuleBags.{MakesItsBag};
+ghost use Rattle.isle_blocks.specs.Trees.ReadPromises.{BindsFieldsByTests, BindsItsFields, ReadsWhatIsBound};
+ghost use Rattle.isle_blocks.specs.Trees.RightPromises.{AnswersAsRules};
+ghost use Rattle.isle_blocks.specs.Trees.TypedCalls.{CallsTakeTheirTypes};
 ghost use Rattle.isle_blocks.specs.Trees.Work.{AreOfRules};
 
 mod binding;
@@ -38,9 +42,15 @@ pub fn serialize(alloc: Global, set: &RuleSet) -> Result<Block, AllocError>
     ensures builds { IfOk result (IsBuilt set.now) }
     ensures returns { IfOk result (ReturnsItsRules set.now) }
     ensures chooses { IfOk result (ChoosesAsRules set.now) }
+    ensures bag { IfOk result (MakesItsBag set.now) }
     ensures asks { IfOk result (BindsWhatIsAsked set.now) }
     ensures ascends { IfOk result (HasArmsInOrder set.now) }
     ensures few { IfOk result (IsShort set.now) }
+    ensures reads { IfOk result (ReadsWhatIsBound set.now) }
+    ensures fields { IfOk result (BindsItsFields set.now) }
+    ensures by_tests { IfOk result (BindsFieldsByTests set.now) }
+    ensures typed { IfOk result (CallsTakeTheirTypes set.now) }
+    ensures answers { IfOk result (AnswersAsRules set.now) }
 {
     let nodes = nodes_of(alloc, set)?;
     let block = Block::new(alloc, nodes)?;

@@ -11,7 +11,27 @@ pub mod MatchedByNumbers
 pub mod AtPlaces
 -- Each way takes items.
 pub mod Ways
+-- The impure calls of what a rule needs.
+pub mod ImpureSites
+-- What functions answer to them.
+pub mod ImpureAnswers
 -- Those of definitions.
 pub mod DefinedMany
+-- Ways with the places of the items that they take.
+pub mod Placed
+-- Whether two sites are one, and a site's number.
+pub mod SameSites
+-- Places in a completion say nothing where items are taken.
+pub mod AnyPlaces
+-- A rule in a way to take items.
+pub mod Taken
+-- Walks answer the bags of rules.
+pub mod RuleBags
 -- Two rules over a multi call of two values.
 mod TwoValues
+-- One rule over a multi call of three items.
+mod ThreeItems
+-- Three rules without multi calls.
+mod ThreeRules
+-- A rule over a multi call that nothing opens.
+mod UnopenedLoops

@@ -110,8 +110,8 @@ module _ (name : Sym → List ℕ) (facts : TermFacts) (sources : List source.Ru
   abbrev Made : ℕ → Rule → Type 0
   Made p r = IsMadeAt name facts sources rules term set.sites p r
 
-  -- what is a part at any depth has the same
-  part_effects : (Q : Site → Type 0) (ns : List ℕ) → ((u : ℕ) → Elem u ns → (t : Site) × At rows t u × ImpureCallsAre Q t) → (x : ℕ)
+  -- What is a part at any depth has the same.
+  pub part_effects : (Q : Site → Type 0) (ns : List ℕ) → ((u : ℕ) → Elem u ns → (t : Site) × At rows t u × ImpureCallsAre Q t) → (x : ℕ)
       → IsPartOf R ns x
       → (t : Site) × At rows t x × ImpureCallsAre Q t
   part_effects Q ns f _ (itself s m) = f s m
@@ -264,8 +264,8 @@ module _ (name : Sym → List ℕ) (facts : TermFacts) (sources : List source.Ru
           (subst (λ (n : ℕ). Placed n steps) (sym (length_more before s)) (q.1)) (c.1) (st.1)
           (subst (λ (l : List Step). ImpureCallsAre (Called l) t) (sym (append_assoc before (s ∷ []) steps)) ok))
 
-  -- a made option has the impure calls of what it is made of
-  some_effects : (Q : Site → Type 0) (b : Bool) (s : Site) → ImpureCallsAre Q s → ImpureCallsAre Q (some_of b s)
+  -- A made option has the impure calls of what it is made of.
+  pub some_effects : (Q : Site → Type 0) (b : Bool) (s : Site) → ImpureCallsAre Q s → ImpureCallsAre Q (some_of b s)
   some_effects Q true s k = of_whole (λ (u : Site). IsImpureCall u → Q u) (make_some s) (λ i. absurd i)
       (λ u m. of_one (λ (z : Site). IsImpureCall z → Q z) s u k m)
   some_effects Q false s k = k

@@ -26,12 +26,14 @@ use Rattle.isle_blocks.specs.Tables.{IsFound}
 use Rattle.isle_types.specs.Names.{AreDistinct}
 use Rattle.std.specs.Option.{option_map}
 use Rattle.isle_blocks.proofs.Closure.Trees.{at_field, one_number}
+use Rattle.isle_trees.specs.Premises.{IsWellMade}
 use Rattle.isle_trees.specs.Rules.{has, Rules, Elem}
 use Rattle.isle_trees.specs.Scopes.{is_source}
 use Rattle.isle_trees.proofs.Basics.{none_or, and_both, both_and, by_made}
-use Rattle.isle_blocks.specs.Trees.View.{id_of, keep, test_at, made_by, made_at, place_of, opens_field, tests_by, field_of, rules_of}
+use Rattle.isle_blocks.specs.Trees.View.{id_of, keep, test_at, has_loop, want_at, made_by, made_at, opening, place_of, opens_field, tests_by}
+use Rattle.isle_blocks.specs.Trees.View.{field_of, rules_of}
 use Rattle.isle_blocks.specs.Trees.Premises.{IsRunnableSet}
-use Rattle.isle_blocks.proofs.Trees.Reading.{place_sound, place_found}
+use Rattle.isle_blocks.proofs.Trees.Reading.{read_some, want_test, place_sound, place_found}
 use Rattle.isle_trees.proofs.Asking.{elem_append}
 use Rattle.isle_blocks.proofs.Trees.WellMade.{made_rule, derived_test, wanted_test, well_made}
 use Rattle.isle_blocks.proofs.Trees.Listed.{opening_is}
@@ -74,12 +76,9 @@ field_of_test name D (Some k) f (tests.Variant ty v n) u o d =
 field_of_test name D None f (tests.Struct ty n) u o d = of_struct {ty = ty.0} {n = n.0} {i = f} d (grind (arith, nat_tests))
 field_of_test name D kind f c u o d = absurd cc
 
-module _ (name : Sym → List ℕ) (facts : TermFacts) (sources : List source.Rule) (rules : List TypedRule) (term : ℕ) (set : RulesOverSites)
-    (h : IsRunnableSet name facts sources rules term set) where
-  -- the set as trees see it
-  abbrev R : Rules Constraint Held
-  R = rules_of name set
-
+module _ (name : Sym → List ℕ) (set : RulesOverSites) (well : IsWellMade (rules_of name set))
+    (opens : (i : ℕ) (r : Rule) (s : ℕ) (kind : Option ℕ) (f : ℕ) (c : Constraint) → slice_get set.rules i ≡ Some r → test_at s r ≡ Some c
+    → opens_field kind f c ≡ true → opening set.rules kind s f ≡ c) where
   -- what a rule's test makes is made by it
   made_so : (i : ℕ) (r : Rule) (s : ℕ) (c : Constraint) → slice_get set.rules i ≡ Some r → test_at s r ≡ Some c → (b : Binding)
       → Elem b (bindings_made c (id_of s)) → made_by set.rules b ≡ Some (record { site = s; want = has c })
@@ -87,12 +86,12 @@ module _ (name : Sym → List ℕ) (facts : TermFacts) (sources : List source.Ru
       let (f, l, e) = below_elem (variant_field (id_of s) v) n.0 b m in
       let o : opens_field (Some v.0) f (tests.Variant ty v n) ≡ true =
       both_and (v.0 == v.0) (nat_lt f n.0) (eq-eqb v.0 v.0 refl) (grind (arith, nat_tests)) in
-      let is = opening_is name facts sources rules term set h i r s (Some v.0) f (tests.Variant ty v n) at t o in
+      let is = opens i r s (Some v.0) f (tests.Variant ty v n) at t o in
       ap (made_by set.rules) e ∙ ap (λ (d : Constraint). Some (record { site = s; want = has d })) is
   made_so i r s (tests.Struct ty n) at t b m =
       let (f, l, e) = below_elem (struct_field (id_of s)) n.0 b m in
       let o : opens_field None f (tests.Struct ty n) ≡ true = grind (arith, nat_tests) in
-      let is = opening_is name facts sources rules term set h i r s None f (tests.Struct ty n) at t o in
+      let is = opens i r s None f (tests.Struct ty n) at t o in
       ap (made_by set.rules) e ∙ ap (λ (d : Constraint). Some (record { site = s; want = has d })) is
   made_so i r s (tests.ConstBool v ty) at t b m = absurd m
   made_so i r s (tests.ConstInt v ty) at t b m = absurd m
@@ -100,16 +99,28 @@ module _ (name : Sym → List ℕ) (facts : TermFacts) (sources : List source.Ru
   made_so i r s tests.Some at t b (inl e) = ap (made_by set.rules) e
   made_so i r s tests.Some at t b (inr z) = absurd z
 
+  -- Where a test that opens a field is the one that makes it, the fields of a test that a rule has are those that it makes, each looked up.
+  pub fields_looked_up : (i s : ℕ) (c : Constraint) → (rules_of name set).at i s ≡ Some (has c)
+      → (rules_of name set).fields s c ≡ map (λ (b : Binding). place_of b set.sites) (bindings_made c (id_of s))
+  fields_looked_up i s c e =
+      let (r, at, w) = read_some (want_at s) (slice_get set.rules i) (has c) e in
+      let t = want_test (has_loop s r) (test_at s r) c w in
+      map_same (field_of name set s c) (λ (b : Binding). place_of b set.sites) (bindings_made c (id_of s)) (λ b m.
+      keep_same (λ (x : ℕ). is_source (tests_by name) s (has c) (made_at set x)) (place_of b set.sites) (λ x q.
+      let there = place_sound b set.sites x q in
+      by_made (rules_of name set) s (has c) (made_at set x) well (rw there (made_so i r s c at t b m))))
+
+module _ (name : Sym → List ℕ) (facts : TermFacts) (sources : List source.Rule) (rules : List TypedRule) (term : ℕ) (set : RulesOverSites)
+    (h : IsRunnableSet name facts sources rules term set) where
+  -- the set as trees see it
+  abbrev R : Rules Constraint Held
+  R = rules_of name set
+
   -- For a test that a rule has the fields are those that it makes, each looked up in the table.
   pub fields_found : (i s : ℕ) (c : Constraint) → R.at i s ≡ Some (has c)
       → R.fields s c ≡ map (λ (b : Binding). place_of b set.sites) (bindings_made c (id_of s))
   fields_found i s c e =
-      let (r, at, t) = wanted_test name facts sources rules term set h i s c e in
-      let well = well_made name facts sources rules term set h in
-      map_same (field_of name set s c) (λ (b : Binding). place_of b set.sites) (bindings_made c (id_of s)) (λ b m.
-      keep_same (λ (x : ℕ). is_source (tests_by name) s (has c) (made_at set x)) (place_of b set.sites) (λ x q.
-      let there = place_sound b set.sites x q in
-      by_made R s (has c) (made_at set x) well (rw there (made_so i r s c at t b m))))
+      fields_looked_up name set (well_made name facts sources rules term set h) (opening_is name facts sources rules term set h) i s c e
 
   -- A field of a variant or struct that a rule tests stands in the table.
   pub fields_stand : (i s : ℕ) (c : Constraint) (kind : Option ℕ) (f : ℕ) → R.at i s ≡ Some (has c) → opens_field kind f c ≡ true

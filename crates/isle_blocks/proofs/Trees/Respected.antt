@@ -1,5 +1,5 @@
 -- The answers of a rule set keep to fields and calls, and agree where completions do.
-use Rattle.std.proofs.Common.{◌≡◌, ◌≢◌, inl, inr, ℕ, ◌<◌, true, List, [], length, Option, Some, None, slice_get, refl, ap, sym, subst}
+use Rattle.std.proofs.Common.{◌≡◌, ◌≢◌, inl, inr, ℕ, suc, ◌<◌, true, List, [], length, Option, Some, None, slice_get, refl, ap, sym, subst}
 use Rattle.std.proofs.Common.{◌∙◌, ◌==◌, arith, eqb-true}
 use Rattle.std.specs.Prelude.{nat_lt}
 use Rattle.std.proofs.lemmas.Bool.Decides.{nat_tests}
@@ -12,7 +12,7 @@ use Rattle.isle_meaning.specs.Facts.{TermFacts}
 use Rattle.isle_meaning.specs.Answers.{Completion, IsAllowed}
 use Rattle.isle_meaning.specs.Held.{Held, held_value, held, content_of, value}
 use Rattle.isle_meaning.specs.Holds as holds
-use Rattle.isle_meaning.specs.Sites.{Site, constructor_call, prim_site, match_variant, extract_struct}
+use Rattle.isle_meaning.specs.Sites.{Site, Sites, constructor_call, prim_site, match_variant, extract_struct}
 use Rattle.isle_meaning.specs.Numbered.{At}
 use Rattle.isle_meaning.proofs.Matching.Basics.{field_at, struct_at}
 use Rattle.isle_blocks.specs.declared.binding.Binding.{Binding}
@@ -95,8 +95,8 @@ module _ (name : Sym → List ℕ) (facts : TermFacts) (sources : List source.Ru
     passed d fails e = absurd cc
     passed d (gives x) e = (x, refl, e)
 
-    -- a field is there where its test passes
-    field_there : (s : ℕ) (b : Binding) (m : Source Constraint) → slice_get set.sites s ≡ Some b → made_by set.rules b ≡ Some m
+    -- A field is there where its test passes.
+    pub field_there : (s : ℕ) (b : Binding) (m : Source Constraint) → slice_get set.sites s ≡ Some b → made_by set.rules b ≡ Some m
         → Meets R m.want (r m.site) → HasValue (r s)
     field_there s (sites.MatchVariant a v i) m at is e =
         let d = opening set.rules (Some v.0) a.0 i.0 in
@@ -131,32 +131,37 @@ module _ (name : Sym → List ℕ) (facts : TermFacts) (sources : List source.Ru
     field_there s (sites.Iterator a) m at is e = absurd (no_iterator name facts sources rules term set h s a at)
     field_there s b m at is e = absurd cc
 
-    module _ (allowed : IsAllowed facts c) (takes : count args ≡ length h.runnable.types) (fine : AllowsDone name set.sites facts done) where
+    module _ (allowed : IsAllowed facts c) (takes : count args ≡ length h.runnable.types) where
+      -- if the site is an impure call that was answered none, its term may fail
+      abbrev pub MayFailAt : ℕ → Type 0
+      MayFailAt s = (f n : ℕ) (ss : Sites) → At (rows_of name set.sites) (constructor_call f ss (suc n)) s → slice_get done n ≡ Some None
+          → facts.partial f ≡ true
+
       -- what no test makes is no field, content, or value of a multi call
-      is_whole : (s : ℕ) (b : Binding) → slice_get set.sites s ≡ Some b → made_by set.rules b ≡ None
+      is_whole : (s : ℕ) (b : Binding) → MayFailAt s → slice_get set.sites s ≡ Some b → made_by set.rules b ≡ None
           → IsWhole facts h.runnable.types c args done allowed (tree_from name tree (Some b))
-      is_whole s (sites.ConstBool v t) at e = tt
-      is_whole s (sites.ConstInt v t) at e = tt
-      is_whole s (sites.ConstPrim v) at e = tt
-      is_whole s (sites.Argument i) at e = tt
-      is_whole s (sites.Extractor t a) at e = tt
-      is_whole s (sites.Constructor t ps i) at e = λ n q z.
+      is_whole s (sites.ConstBool v t) fine at e = tt
+      is_whole s (sites.ConstInt v t) fine at e = tt
+      is_whole s (sites.ConstPrim v) fine at e = tt
+      is_whole s (sites.Argument i) fine at e = tt
+      is_whole s (sites.Extractor t a) fine at e = tt
+      is_whole s (sites.Constructor t ps i) fine at e = λ n q z.
           let there = from_at name set.sites tree s (sites.Constructor t ps i) at
           (λ part inside. part_at name set.sites h.is.table s (sites.Constructor t ps i) part at inside) in
-          fine s t.0 n (trees_of tree ps)
+          fine t.0 n (trees_of tree ps)
           (subst (λ (j : ℕ). At (rows_of name set.sites) (constructor_call t.0 (trees_of tree ps) j) s) q there) z
-      is_whole s (sites.Iterator a) at e = absurd (no_iterator name facts sources rules term set h s a at)
-      is_whole s (sites.MakeVariant t v fs) at e = tt
-      is_whole s (sites.MatchVariant a v i) at e = absurd cc
-      is_whole s (sites.MakeStruct t fs) at e = tt
-      is_whole s (sites.ExtractStruct a i) at e = absurd cc
-      is_whole s (sites.MakeSome a) at e = tt
-      is_whole s (sites.MatchSome a) at e = absurd cc
-      is_whole s (sites.MatchTuple a i) at e = tt
+      is_whole s (sites.Iterator a) fine at e = absurd (no_iterator name facts sources rules term set h s a at)
+      is_whole s (sites.MakeVariant t v fs) fine at e = tt
+      is_whole s (sites.MatchVariant a v i) fine at e = absurd cc
+      is_whole s (sites.MakeStruct t fs) fine at e = tt
+      is_whole s (sites.ExtractStruct a i) fine at e = absurd cc
+      is_whole s (sites.MakeSome a) fine at e = tt
+      is_whole s (sites.MatchSome a) fine at e = absurd cc
+      is_whole s (sites.MatchTuple a i) fine at e = tt
 
-      -- so it doesn't fail where its parts have values
-      made_whole : (s : ℕ) → R.made s ≡ None → ((p : ℕ) → Elem p (R.parts s) → HasValue (r p)) → r s ≢ fails
-      made_whole s n g e = elim (none_or (slice_get set.sites s)) [
+      -- So it doesn't fail where its parts have values.
+      pub made_whole : (s : ℕ) → MayFailAt s → R.made s ≡ None → ((p : ℕ) → Elem p (R.parts s) → HasValue (r p)) → r s ≢ fails
+      made_whole s fine n g e = elim (none_or (slice_get set.sites s)) [
         | inl q ↦
             let t : tree s ≡ prim_site [] = ap (tree_from name (tree_to name set.sites s)) q in
             let v : val (prim_site []) ≡ fails = subst (λ (z : Site). val z ≡ fails) t e in cc
@@ -164,15 +169,15 @@ module _ (name : Sym → List ℕ) (facts : TermFacts) (sources : List source.Ru
             let (b, at) = q in
             let free : made_by set.rules b ≡ None = subst (λ (o : Option Binding). read_or None (made_by set.rules) o ≡ None) at n in
             whole facts h.runnable.types c args done allowed takes (tree s) (tree_kinded s)
-            (subst (IsWhole facts h.runnable.types c args done allowed) (sym (tree_is name set.sites h.is.table s b at)) (is_whole s b at free))
+            (subst (IsWhole facts h.runnable.types c args done allowed) (sym (tree_is name set.sites h.is.table s b at)) (is_whole s b fine at free))
             (parts_valued name set.sites h.is.table facts c args done s b at g) e
       ]
 
       -- Answers keep to fields and calls.
-      pub respects : Respects R r
-      respects = record {
+      pub respects : AllowsDone name set.sites facts done → Respects R r
+      respects fine = record {
         field = λ s m e w. let (b, at, is) = read_some (made_by set.rules) (slice_get set.sites s) m e in field_there s b m at is w;
-        whole = made_whole;
+        whole = λ s. made_whole s (fine s);
         plain = held_plain name set.sites h.is.table facts c args done;
       }
 

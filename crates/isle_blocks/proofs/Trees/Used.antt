@@ -100,8 +100,8 @@ module _ (name : Sym → List ℕ) (facts : TermFacts) (sources : List source.Ru
   abbrev tree : ℕ → Site
   tree = tree_of name set.sites
 
-  -- the calls of a rule, and options that they give
-  calls_have : (P : Site → Type 0) → ((s u : Site) → P s → IsOneOf (parts_of s) u → P u) → (ids : List BindingId) (ts : List Site)
+  -- The calls of a rule, and options that they give.
+  pub calls_have : (P : Site → Type 0) → ((s u : Site) → P s → IsOneOf (parts_of s) u → P u) → (ids : List BindingId) (ts : List Site)
       → StandEach rows ids ts
       → EachSite P ts → (s : ℕ) → Elem s (calls_at set.sites ids) → (t : Site) × At rows t s × P t
   calls_have P f [] ts st k s m = absurd m

@@ -28,12 +28,15 @@ use Rattle.isle_trees.specs.Rules.{Tests, Want, has, one_value, Source, Rules}
 use Rattle.isle_trees.specs.Scopes.{is_source}
 use Rattle.isle_blocks.specs.Trees.Compare.{same_held, meets}
 
+-- the site of a number
 abbrev pub id_of : ℕ → BindingId
 id_of s = record { 0 = s }
 
+-- whether two sites are the same, as `==` says
 abbrev pub same_binding : Binding → Binding → Bool
 same_binding = (binding_of.ghosts).eq
 
+-- whether two tests are the same, as `==` says
 abbrev pub same_test : Constraint → Constraint → Bool
 same_test = (constraint_of.ghosts).eq
 
@@ -42,10 +45,12 @@ abbrev pub read_or : {A B : Type 0} → B → (A → B) → Option A → B
 read_or b f None = b
 read_or b f (Some x) = f x
 
+-- the first of the two that is there
 abbrev pub or_else : {A : Type 0} → Option A → Option A → Option A
 or_else None o = o
 or_else (Some x) o = Some x
 
+-- an item that passes, and nothing of another
 abbrev pub keep : {A : Type 0} → (A → Bool) → Option A → Option A
 keep p None = None
 keep p (Some x) = if p x then Some x else None
@@ -54,6 +59,7 @@ keep p (Some x) = if p x then Some x else None
 abbrev pub test_at : ℕ → Rule → Option Constraint
 test_at s rule = lookup (is_at (site_cmp (id_of s))) rule.constraints
 
+-- whether a rule takes one value of the site, a multi call
 abbrev pub has_loop : ℕ → Rule → Bool
 has_loop s rule = list_any (same_site (id_of s)) rule.iterators
 
@@ -63,9 +69,11 @@ want_or loops (Some c) = Some (has c)
 want_or true None = Some one_value
 want_or false None = None
 
+-- what a rule wants of the site of a number
 abbrev pub want_at : ℕ → Rule → Option (Want Constraint)
 want_at s rule = want_or (has_loop s rule) (test_at s rule)
 
+-- whether a rule wants that two sites are equal
 abbrev pub rule_joins : ℕ → ℕ → Rule → Bool
 rule_joins a b rule = are_joined same_site rule.equals (id_of a) (id_of b)
 
@@ -90,6 +98,7 @@ abbrev pub any_opening : Option ℕ → ℕ → Constraint
 any_opening (Some k) i = tests.Variant (record { 0 = 0 }) (record { 0 = k }) (record { 0 = suc i })
 any_opening None i = tests.Struct (record { 0 = 0 }) (record { 0 = suc i })
 
+-- a test that opens the field of a site: the first that a rule has, if one does
 abbrev pub opening : List Rule → Option ℕ → ℕ → ℕ → Constraint
 opening rules kind s i = read_or (any_opening kind i) (λ c. c) (first_opening kind i s rules)
 
@@ -111,10 +120,12 @@ made_by rules (sites.MakeSome inner) = None
 made_by rules (sites.MatchSome source) = Some (record { site = source.0; want = has tests.Some })
 made_by rules (sites.MatchTuple source field) = None
 
+-- not 0, as the instance of an impure call is
 abbrev pub is_positive : ℕ → Bool
 is_positive zero = false
 is_positive (suc n) = true
 
+-- whether a site is an impure call
 abbrev pub is_impure : Binding → Bool
 is_impure (sites.ConstBool val ty) = false
 is_impure (sites.ConstInt val ty) = false
@@ -131,6 +142,7 @@ is_impure (sites.MakeSome inner) = false
 is_impure (sites.MatchSome source) = false
 is_impure (sites.MatchTuple source field) = false
 
+-- whether a site is a call of a constructor
 abbrev pub is_constructor : Binding → Bool
 is_constructor (sites.ConstBool val ty) = false
 is_constructor (sites.ConstInt val ty) = false
@@ -164,6 +176,7 @@ option_site (sites.MakeSome inner) = None
 option_site (sites.MatchSome source) = Some source.0
 option_site (sites.MatchTuple source field) = None
 
+-- whether there are parts
 abbrev pub has_parts : List BindingId → Bool
 has_parts [] = false
 has_parts (x ∷ xs) = true
@@ -190,16 +203,20 @@ abbrev pub with_option : Option ℕ → ℕ → List ℕ
 with_option None s = s ∷ []
 with_option (Some o) s = o ∷ s ∷ []
 
+-- an impure call of a table before its content, where the site is that content
 abbrev pub call_at : List Binding → BindingId → List ℕ
 call_at table id = with_option (read_or None option_site (slice_get table id.0)) id.0
 
+-- the impure calls of sites, each before its content
 abbrev pub calls_at : List Binding → List BindingId → List ℕ
 calls_at table [] = []
 calls_at table (id ∷ ids) = call_at table id ++ calls_at table ids
 
+-- the tests of sites, where symbols have these names: their order, and what passes them
 abbrev pub tests_by : (Sym → List ℕ) → Tests Constraint Held
 tests_by name = record { same = same_test; at_most = λ c d. is_le (constraint_order c d); passes = meets name; alike = same_held }
 
+-- what makes the site of a number
 abbrev pub made_at : RulesOverSites → ℕ → Option (Source Constraint)
 made_at set s = read_or None (made_by set.rules) (slice_get set.sites s)
 
@@ -207,6 +224,7 @@ made_at set s = read_or None (made_by set.rules) (slice_get set.sites s)
 abbrev pub field_of : (Sym → List ℕ) → RulesOverSites → ℕ → Constraint → Binding → Option ℕ
 field_of name set s c site = keep (λ x. is_source (tests_by name) s (has c) (made_at set x)) (place_of site set.sites)
 
+-- a rule set as rules over numbered sites, where symbols have these names
 abbrev pub rules_of : (Sym → List ℕ) → RulesOverSites → Rules Constraint Held
 rules_of name set = record {
   tests = tests_by name;

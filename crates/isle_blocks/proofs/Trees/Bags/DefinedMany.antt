@@ -7,6 +7,7 @@ use Rattle.isle_terms.specs.SoundRules.WellTyped.{IsTypedRule}
 use Rattle.isle_terms.specs.Shown.TermTables.{TermTables}
 use Rattle.isle_terms.specs.TypedRules.{TypedRule}
 use Rattle.isle_terms.proofs.Sound.RuleTypes.{rules_typed}
+use Rattle.isle_meaning.specs.AboutSites.ImpureCalls.{IfLetsArePure}
 use Rattle.isle_meaning.specs.Elaborated.{IsElaborated}
 use Rattle.isle_meaning.specs.Facts.{TermFacts, no_term, term_at}
 use Rattle.isle_meaning.proofs.Chains.Elaborated.{typed_rules_call_well}
@@ -15,6 +16,7 @@ use Rattle.isle_meaning.proofs.Matching.OneAnswer.{none_is_multi_and_partial}
 use Rattle.isle_blocks.specs.DefinedSets.{AreDefined, facts_by, rules_by}
 use Rattle.isle_blocks.specs.Trees.Bags.{BuiltSetsAreElaborated, BuiltMultiTerms}
 use Rattle.isle_blocks.proofs.Building.Naming.{name_by_injective}
+use Rattle.isle_blocks.proofs.Trees.Bags.ImpureAnswers.{typed_iflets_pure}
 
 module _ (env : TermTables) (d : AreDefined env) where
   -- what definitions declare
@@ -34,8 +36,8 @@ module _ (env : TermTables) (d : AreDefined env) where
   root_is : (rule : TypedRule) (typed : IsTypedRule declared rule) → term_at declared rule.root ≡ typed.root
   root_is rule typed = ap (λ (o : Option Signature). unwrap_or o no_term) typed.known
 
-  -- each rule of a term is as elaboration makes it
-  fit : (term i : ℕ) (rule : TypedRule) → slice_get (rules_by env d) i ≡ Some rule → rule.root ≡ term → IsElaborated facts (facts.inputs term) rule
+  -- Each rule of a term is as elaboration makes it.
+  pub fit : (term i : ℕ) (rule : TypedRule) → slice_get (rules_by env d) i ≡ Some rule → rule.root ≡ term → IsElaborated facts (facts.inputs term) rule
   fit term i rule at of_term =
       let typed = typed_rule i rule at in
       let types : typed.root.args ≡ facts.inputs term = sym (ap (λ (s : Signature). s.args) (root_is rule typed)) ∙ ap facts.inputs of_term in
@@ -48,6 +50,12 @@ module _ (env : TermTables) (d : AreDefined env) where
       let typed = typed_rule i rule at in
       let flags = ap (λ (s : Signature). (flags_of s.form).multi) (root_is rule typed) ∙ ap (λ f. (flags_of f).multi) typed.ruled.1 in
       typed.unordered (sym flags ∙ multi)
+
+-- The if-lets of a rule make no impure calls.
+pub built_iflets_pure : (env : TermTables) (d : AreDefined env) (i : ℕ) (rule : TypedRule) → slice_get (rules_by env d) i ≡ Some rule
+    → IfLetsArePure (facts_by env d) rule.iflets
+built_iflets_pure env d i rule at =
+    let typed = typed_rule env d i rule at in typed_iflets_pure (declared env d) rule.variables typed.flags rule.iflets typed.iflets
 
 pub built_sets_are_elaborated : BuiltSetsAreElaborated
 built_sets_are_elaborated env d term set is =

@@ -88,8 +88,8 @@ ascends_more (x ∷ xs) n up low = (
   ascends_more xs n (up.1) (λ y m. low y (inr m)),
 )
 
--- the numbers below one ascend
-below_ascends : (n : ℕ) → IsAscending (below n)
+-- The numbers below one ascend.
+pub below_ascends : (n : ℕ) → IsAscending (below n)
 below_ascends zero = tt
 below_ascends (suc n) = ascends_more (below n) n (below_ascends n) (λ x m. below_less n x m)
 

@@ -23,8 +23,8 @@ module _ {C V : Type 0} (R : Rules C V) (M : Model V) (well : IsWellMade R) (mod
       (λ p m. let q : p < x = well.lower x p m in same_below h g n p (omega arith) (λ u r. f u (omega arith)))
       (λ m e one. f m.site (well.lower x m.site (source_part R x m well e)))
 
-  -- so are its items
-  many_below : (h g : Picks V) (s : ℕ) → ((u : ℕ) → u < s → h u ≡ g u) → M.many h s ≡ M.many g s
+  -- So are its items.
+  pub many_below : (h g : Picks V) (s : ℕ) → ((u : ℕ) → u < s → h u ≡ g u) → M.many h s ≡ M.many g s
   many_below h g s f =
       model.many_by_parts h g s
       (λ p m. let q : p < s = well.lower s p m in same_below h g (suc p) p (omega arith) (λ u r. f u (omega arith)))
