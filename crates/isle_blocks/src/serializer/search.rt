@@ -1,6 +1,6 @@
 //! The best test of the rules left.
 ghost use Rattle.isle_blocks.specs.Trees.Work.{AddsOffers};
-ghost use Rattle.std.specs.Prelude.{◌≡◌, ◌≤◌, ◌++◌, ◌<◌, length, map, IfOk, Contains, MatchOption, ℕ, true};
+ghost use Rattle.std.specs.Prelude.{◌≡◌, ◌≤◌, ◌++◌, ◌<◌, ◌&&◌, not, length, map, IfOk, Contains, MatchOption, ℕ, true};
 ghost use Rattle.std.specs.List.{flat_map};
 ghost use Rattle.isle_trees.specs.Builds.{IsBest, HasNoTest, key};
 ghost use Rattle.isle_trees.specs.Ranking.{IsNoBetter, IsRanked, AllBelow};
@@ -49,6 +49,16 @@ impl RuleSet {
         self.is_made(index, known, site) && all_set(marks, self.parts(site))
     }
 
+    /// Whether a site that isn't marked can be bound.
+    fn needs_mark(&self, index: &Index, known: &Known, marks: &[bool], site: BindingId) -> bool
+        requires index { IsIndexOf self.now (length self.now.sites) index.now }
+        requires site { site.0 < length self.now.sites }
+        requires fit { IsFit self.now (length self.now.sites) known.now }
+        ensures { result ≡ (not (is_marked marks.now site.0) && can_bind (rules_in self.now) (scope_of self.now known.now) marks.now site.0) }
+    {
+        !is_set(marks, site) && self.can_bind(index, known, marks, site)
+    }
+
     /// Marks the sites of a list that can be bound.
     fn mark(&self, index: &Index, sites: &[BindingId], known: &Known, marks: &mut Vec<bool>)
         requires index { IsIndexOf self.now (length self.now.sites) index.now }
@@ -64,7 +74,7 @@ impl RuleSet {
         ensures size { length marks.new.items ≡ length marks.old.items }
     {
         for site in sites {
-            if self.can_bind(index, known, marks, *site) {
+            if self.needs_mark(index, known, marks, *site) {
                 marks[site.index()] = true;
             }
         }
