@@ -45,6 +45,10 @@ pub mod Bags
 mod Cases
 -- The tests that rules offer, as code lists them.
 pub mod Offered
+-- A list of sites is gone over, some of which are marked already.
+pub mod Marked
+-- The best test of all that rules have.
+pub mod Considered
 -- What makes a site, by the rule that opens it.
 pub mod Opened
 -- What is known, as the code's lists keep it.

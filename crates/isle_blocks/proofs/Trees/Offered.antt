@@ -23,10 +23,10 @@ use Rattle.isle_blocks.specs.contracts.serializer.known.TestPartialEq.TheImpl as
 use Rattle.isle_blocks.specs.EqualSites.{both, through, id-decides}
 use Rattle.isle_blocks.specs.RuleSets.{RulesOverSites}
 use Rattle.isle_blocks.specs.Rules.{Tests}
-use Rattle.isle_blocks.proofs.ClosedEqualities.{in_one}
 use Rattle.isle_blocks.proofs.Trees.Reading.{found_loop, found_test, read_some, want_one, want_test}
 use Rattle.isle_blocks.specs.Trees.View.{has_loop, id_of, test_at, want_at}
-use Rattle.isle_blocks.specs.Trees.Builder.{AreClasses, offered, offered_in, offered_of, offered_with, rules_in}
+use Rattle.isle_blocks.specs.Trees.Builder.{offered, offered_of, rules_in}
+use Rattle.isle_blocks.specs.Trees.Best.{unjoined}
 use Rattle.isle_blocks.specs.Trees.Work.{AddsOffers}
 
 -- ---- the `==` of tests
@@ -83,9 +83,9 @@ offered_full : (sc : Scope Constraint) (marks : List Bool) (t : Test) → is_rea
 offered_full sc marks t e = rw e (inl refl)
 
 -- where there is no rule, there is no test
-none_has : (set : RulesOverSites) (i : ℕ) → slice_get set.rules i ≡ None → (t : Test) → has_test (rules_in set) i t ≡ true → ⊥
+none_has : (set : RulesOverSites) (i : ℕ) → slice_get set.rules i ≡ None → (t : Test) → has_test (unjoined (rules_in set)) i t ≡ true → ⊥
 none_has set i e (on_match s) h = let k : false ≡ true = rw e at h in cc
-none_has set i e (on_equal a b) h = let k : false ≡ true = rw e at h in cc
+none_has set i e (on_equal a b) h = cc
 none_has set i e (on_loop s) h = let k : false ≡ true = rw e at h in cc
 
 -- where each item's tests can be made, all can
@@ -97,74 +97,55 @@ flat_ready sc marks f (x ∷ xs) h t m = elim (elem_append t (f x) (flat_map f x
   | inr b ↦ flat_ready sc marks f xs h t b
 ]
 
-rule_ready : (sc : Scope Constraint) (marks : List Bool) (rule : Rule) (classes : List (List BindingId)) (t : Test)
-    → Elem t (offered_of sc marks rule classes) → is_ready sc marks t ≡ true
-rule_ready sc marks rule classes t m =
+rule_ready : (sc : Scope Constraint) (marks : List Bool) (rule : Rule) (t : Test) → Elem t (offered_of sc marks rule) → is_ready sc marks t ≡ true
+rule_ready sc marks rule t m =
     let tests = flat_map (λ e. offered sc marks (on_match e.0.0)) rule.constraints in
     let loops = flat_map (λ s. offered sc marks (on_loop s.0)) rule.iterators in
-    elim (elem_append t (tests ++ loops) (flat_map (offered_in sc marks) classes) m) [
-      | inl a ↦ elim (elem_append t tests loops a) [
-        | inl b ↦ flat_ready sc marks _ rule.constraints (λ e q n. offered_ready sc marks (on_match e.0.0) q n) t b
-        | inr b ↦ flat_ready sc marks _ rule.iterators (λ s q n. offered_ready sc marks (on_loop s.0) q n) t b
-      ]
-      | inr b ↦ flat_ready sc marks _ classes
-          (λ c q n. flat_ready sc marks _ c (λ x r k. flat_ready sc marks _ c (λ y z j. offered_ready sc marks (on_equal x.0 y.0) z j) r k) q n)
-          t b
+    elim (elem_append t tests loops m) [
+      | inl b ↦ flat_ready sc marks _ rule.constraints (λ e q n. offered_ready sc marks (on_match e.0.0) q n) t b
+      | inr b ↦ flat_ready sc marks _ rule.iterators (λ s q n. offered_ready sc marks (on_loop s.0) q n) t b
     ]
 
-module _ (set : RulesOverSites) (sc : Scope Constraint) (marks : List Bool) (i : ℕ) (rule : Rule) (classes : List (List BindingId))
-    (is : slice_get set.rules i ≡ Some rule) (listed : AreClasses set i classes) where
+module _ (set : RulesOverSites) (sc : Scope Constraint) (marks : List Bool) (i : ℕ) (rule : Rule) (is : slice_get set.rules i ≡ Some rule) where
   match_offered : (s : ℕ) → has_test (rules_in set) i (on_match s) ≡ true → is_ready sc marks (on_match s) ≡ true
-      → Elem (on_match s) (offered_of sc marks rule classes)
+      → Elem (on_match s) (offered_of sc marks rule)
   match_offered s h r =
       let (c, e) = test_of ((rules_in set).at i s) h in
       let (x, at, w) = read_some (want_at s) (slice_get set.rules i) (has c) e in
       let same : x ≡ rule = same_Some x rule (sym at ∙ is) in
       let found = found_test rule s c (want_test (has_loop s rule) (test_at s rule) c (subst (λ (y : Rule). want_at s y ≡ Some (has c)) same w)) in
-      elem_left (on_match s) _ (flat_map (offered_in sc marks) classes)
-      (elem_left (on_match s) _ (flat_map (λ s. offered sc marks (on_loop s.0)) rule.iterators)
+      elem_left (on_match s) _ (flat_map (λ s. offered sc marks (on_loop s.0)) rule.iterators)
       (into_flat (λ (e : BindingId × Constraint). offered sc marks (on_match e.0.0)) rule.constraints (id_of s, c) (on_match s)
-      (contains_elem (id_of s, c) rule.constraints found) (offered_full sc marks (on_match s) r)))
+      (contains_elem (id_of s, c) rule.constraints found) (offered_full sc marks (on_match s) r))
 
   loop_offered : (s : ℕ) → has_test (rules_in set) i (on_loop s) ≡ true → is_ready sc marks (on_loop s) ≡ true
-      → Elem (on_loop s) (offered_of sc marks rule classes)
+      → Elem (on_loop s) (offered_of sc marks rule)
   loop_offered s h r =
       let e = one_of ((rules_in set).at i s) h in
       let (x, at, w) = read_some (want_at s) (slice_get set.rules i) one_value e in
       let same : x ≡ rule = same_Some x rule (sym at ∙ is) in
       let one = want_one (has_loop s rule) (test_at s rule) (subst (λ (y : Rule). want_at s y ≡ Some one_value) same w) in
-      elem_left (on_loop s) _ (flat_map (offered_in sc marks) classes)
-      (elem_right (on_loop s) (flat_map (λ e. offered sc marks (on_match e.0.0)) rule.constraints) _
+      elem_right (on_loop s) (flat_map (λ e. offered sc marks (on_match e.0.0)) rule.constraints) _
       (into_flat (λ (x : BindingId). offered sc marks (on_loop x.0)) rule.iterators (id_of s) (on_loop s)
-      (contains_elem (id_of s) rule.iterators (found_loop rule s (one.1))) (offered_full sc marks (on_loop s) r)))
+      (contains_elem (id_of s) rule.iterators (found_loop rule s (one.1))) (offered_full sc marks (on_loop s) r))
 
-  equal_offered : (a b : ℕ) → has_test (rules_in set) i (on_equal a b) ≡ true → is_ready sc marks (on_equal a b) ≡ true
-      → Elem (on_equal a b) (offered_of sc marks rule classes)
-  equal_offered a b h r =
-      let one = in_one classes (id_of a) (id_of b) (listed (id_of a) (id_of b) h) in
-      elem_right (on_equal a b) (flat_map (λ e. offered sc marks (on_match e.0.0)) rule.constraints ++ flat_map (λ s. offered sc marks (on_loop s.0)) rule.iterators) _
-      (into_flat (offered_in sc marks) classes one.set (on_equal a b) (contains_elem one.set classes one.stands)
-      (into_flat (offered_with sc marks one.set) one.set (id_of a) (on_equal a b) (contains_elem (id_of a) one.set one.first)
-      (into_flat (λ (y : BindingId). offered sc marks (on_equal a y.0)) one.set (id_of b) (on_equal a b) (contains_elem (id_of b) one.set one.second)
-      (offered_full sc marks (on_equal a b) r))))
-
-  all_offered : (t : Test) → has_test (rules_in set) i t ≡ true → is_ready sc marks t ≡ true → Elem t (offered_of sc marks rule classes)
+  all_offered : (t : Test) → has_test (unjoined (rules_in set)) i t ≡ true → is_ready sc marks t ≡ true → Elem t (offered_of sc marks rule)
   all_offered (on_match s) h r = match_offered s h r
-  all_offered (on_equal a b) h r = equal_offered a b h r
+  all_offered (on_equal a b) h r = cc
   all_offered (on_loop s) h r = loop_offered s h r
 
   -- A rule's tests are offered, those that can be made.
-  pub rule_offers : (old new : List Test) → new ≡ old ++ offered_of sc marks rule classes → AddsOffers (rules_in set) sc marks i old new
+  pub rule_offers : (old new : List Test) → new ≡ old ++ offered_of sc marks rule → AddsOffers (unjoined (rules_in set)) sc marks i old new
   rule_offers old new e = record {
-    more = offered_of sc marks rule classes;
+    more = offered_of sc marks rule;
     behind = e;
-    ready = rule_ready sc marks rule classes;
+    ready = rule_ready sc marks rule;
     full = all_offered;
   }
 
 -- A number without a rule has no tests.
 pub no_offers : (set : RulesOverSites) (sc : Scope Constraint) (marks : List Bool) (i : ℕ) (old : List Test) → slice_get set.rules i ≡ None
-    → AddsOffers (rules_in set) sc marks i old old
+    → AddsOffers (unjoined (rules_in set)) sc marks i old old
 no_offers set sc marks i old e = record {
   more = [];
   behind = sym (append-nil old);

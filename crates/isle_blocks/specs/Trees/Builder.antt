@@ -124,18 +124,10 @@ pub record IsIndexOf (set : RulesOverSites) (n : ℕ) (index : Index) : Type 0 w
 abbrev pub offered : Scope Constraint → List Bool → Test → List Test
 offered sc marks t = if is_ready sc marks t then t ∷ [] else []
 
--- the equalities of a site with those of its class, and all of a class
-abbrev pub offered_with : Scope Constraint → List Bool → List BindingId → BindingId → List Test
-offered_with sc marks class a = flat_map (λ b. offered sc marks (on_equal a.0 b.0)) class
-
-abbrev pub offered_in : Scope Constraint → List Bool → List BindingId → List Test
-offered_in sc marks class = flat_map (offered_with sc marks class) class
-
--- the tests of a rule that can be made
-abbrev pub offered_of : Scope Constraint → List Bool → Rule → List (List BindingId) → List Test
-offered_of sc marks rule classes =
-    (flat_map (λ e. offered sc marks (on_match e.0.0)) rule.constraints ++ flat_map (λ s. offered sc marks (on_loop s.0)) rule.iterators)
-    ++ flat_map (offered_in sc marks) classes
+-- the tests of a rule that can be made, but for equalities
+abbrev pub offered_of : Scope Constraint → List Bool → Rule → List Test
+offered_of sc marks rule =
+    flat_map (λ e. offered sc marks (on_match e.0.0)) rule.constraints ++ flat_map (λ s. offered sc marks (on_loop s.0)) rule.iterators
 
 -- the site whose test makes this one
 abbrev pub source_in : Option Binding → Option ℕ

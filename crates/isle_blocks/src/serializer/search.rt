@@ -1,15 +1,16 @@
 //! The best test of the rules left.
 ghost use Rattle.isle_blocks.specs.Trees.Work.{AddsOffers};
-ghost use Rattle.std.specs.Prelude.{◌≡◌, ◌≤◌, ◌++◌, ◌<◌, length, map, IfOk, Contains, MatchOption, ℕ, true};
+ghost use Rattle.isle_blocks.specs.Trees.Best.{AreClassesPassed, AreEqualitiesPassed, IsClassPassed, IsPassed, IsRowPassed, IsStillRanked, unjoined};
+ghost use Rattle.std.specs.Prelude.{◌≡◌, ◌≤◌, ◌++◌, ◌<◌, ◌&&◌, not, length, map, IfOk, Contains, MatchOption, ℕ, true};
 ghost use Rattle.std.specs.List.{flat_map};
 ghost use Rattle.isle_trees.specs.Builds.{IsBest, HasNoTest, key};
-ghost use Rattle.isle_trees.specs.Ranking.{IsNoBetter, IsRanked, AllBelow};
+ghost use Rattle.isle_trees.specs.Ranking.{IsNoBetter, IsRanked, AllBelow, may_win};
 ghost use Rattle.isle_trees.specs.Rules.{Elem};
 ghost use Rattle.isle_trees.specs.Scopes.{IsReady, Test as AnyTest, counted, others, on_match, on_loop, on_equal, IsAvailable};
-ghost use Rattle.isle_trees.specs.Search.{AreMarked, AreOffers, AreSound, ArePartsFirst, IsInOrder, can_bind, is_made, is_open, is_ready, is_marked};
+ghost use Rattle.isle_trees.specs.Search.{AreMarked, AreOffers, AreSound, ArePartsFirst, IsInOrder, can_bind, is_made, is_open, is_ready, is_marked, first_of};
 ghost use Rattle.isle_blocks.specs.Rows.{numbers_of};
 ghost use Rattle.isle_blocks.specs.declared.serializer.known.Test.{Test as CodeTest};
-ghost use Rattle.isle_blocks.specs.Trees.Builder.{IsFit, IsIndexOf, IsSerializable, best_shown, key_shown, offered, offered_in, offered_of, offered_with};
+ghost use Rattle.isle_blocks.specs.Trees.Builder.{IsFit, IsIndexOf, IsSerializable, best_shown, key_shown, offered, offered_of};
 ghost use Rattle.isle_blocks.specs.Trees.Builder.{rules_in, scope_of, test_shown, tests_shown};
 
 use crate::ids::BindingId;
@@ -49,6 +50,16 @@ impl RuleSet {
         self.is_made(index, known, site) && all_set(marks, self.parts(site))
     }
 
+    /// Whether a site that isn't marked can be bound.
+    fn needs_mark(&self, index: &Index, known: &Known, marks: &[bool], site: BindingId) -> bool
+        requires index { IsIndexOf self.now (length self.now.sites) index.now }
+        requires site { site.0 < length self.now.sites }
+        requires fit { IsFit self.now (length self.now.sites) known.now }
+        ensures { result ≡ (not (is_marked marks.now site.0) && can_bind (rules_in self.now) (scope_of self.now known.now) marks.now site.0) }
+    {
+        !is_set(marks, site) && self.can_bind(index, known, marks, site)
+    }
+
     /// Marks the sites of a list that can be bound.
     fn mark(&self, index: &Index, sites: &[BindingId], known: &Known, marks: &mut Vec<bool>)
         requires index { IsIndexOf self.now (length self.now.sites) index.now }
@@ -64,7 +75,7 @@ impl RuleSet {
         ensures size { length marks.new.items ≡ length marks.old.items }
     {
         for site in sites {
-            if self.can_bind(index, known, marks, *site) {
+            if self.needs_mark(index, known, marks, *site) {
                 marks[site.index()] = true;
             }
         }
@@ -172,115 +183,55 @@ impl RuleSet {
         Ok(())
     }
 
-    /// The equalities of a site with the sites of its class.
-    fn offer_with(
-        &self,
-        known: &Known,
-        marks: &[bool],
-        a: BindingId,
-        class: &[BindingId],
-        offers: &mut Vec<Test>,
-    ) -> Result<(), AllocError>
-        requires fit { IsFit self.now (length self.now.sites) known.now }
-        ensures { IfOk result (λ _. tests_shown offers.new.items ≡ tests_shown offers.old.items
-            ++ offered_with (scope_of self.now known.now) marks.now class.now a) }
-    {
-        for b in class {
-            self.offer(known, marks, Test::Equal(a, *b), offers)?;
-        }
-        Ok(())
-    }
-
-    /// The equalities of a class.
-    fn offer_class(
-        &self,
-        known: &Known,
-        marks: &[bool],
-        class: &[BindingId],
-        offers: &mut Vec<Test>,
-    ) -> Result<(), AllocError>
-        requires fit { IsFit self.now (length self.now.sites) known.now }
-        ensures { IfOk result (λ _. tests_shown offers.new.items ≡ tests_shown offers.old.items
-            ++ offered_in (scope_of self.now known.now) marks.now class.now) }
-    {
-        for a in class {
-            self.offer_with(known, marks, *a, class, offers)?;
-        }
-        Ok(())
-    }
-
-    fn offer_classes(
-        &self,
-        known: &Known,
-        marks: &[bool],
-        classes: &[Seq<BindingId>],
-        offers: &mut Vec<Test>,
-    ) -> Result<(), AllocError>
-        requires fit { IsFit self.now (length self.now.sites) known.now }
-        ensures { IfOk result (λ _. tests_shown offers.new.items ≡ tests_shown offers.old.items
-            ++ flat_map (offered_in (scope_of self.now known.now) marks.now) classes.now) }
-    {
-        for class in classes {
-            self.offer_class(known, marks, class.as_slice(), offers)?;
-        }
-        Ok(())
-    }
-
-    /// The tests of a rule that can be made.
+    /// The tests of a rule that can be made, but for equalities.
     fn offer_rule(
         &self,
         known: &Known,
         marks: &[bool],
         rule: &Rule,
-        classes: &[Seq<BindingId>],
         offers: &mut Vec<Test>,
     ) -> Result<(), AllocError>
         requires fit { IsFit self.now (length self.now.sites) known.now }
         ensures { IfOk result (λ _. tests_shown offers.new.items ≡ tests_shown offers.old.items
-            ++ offered_of (scope_of self.now known.now) marks.now rule.now classes.now) }
+            ++ offered_of (scope_of self.now known.now) marks.now rule.now) }
     {
         self.offer_tests(known, marks, rule, offers)?;
         self.offer_loops(known, marks, rule.iterators.as_slice(), offers)?;
-        self.offer_classes(known, marks, classes, offers)?;
         Ok(())
     }
 
     /// The same of a rule by its number.
     fn offer_rule_at(
         &self,
-        index: &Index,
         known: &Known,
         marks: &[bool],
         rule: usize,
         offers: &mut Vec<Test>,
     ) -> Result<(), AllocError>
-        requires index { IsIndexOf self.now (length self.now.sites) index.now }
         requires fit { IsFit self.now (length self.now.sites) known.now }
-        ensures { IfOk result (λ _. AddsOffers (rules_in self.now) (scope_of self.now known.now) marks.now rule
+        ensures { IfOk result (λ _. AddsOffers (unjoined (rules_in self.now)) (scope_of self.now known.now) marks.now rule
             (tests_shown offers.old.items) (tests_shown offers.new.items)) }
     {
         match self.rules().get(rule) {
             Some(r) => {
-                self.offer_rule(known, marks, r, index.classes(rule), offers)?;
+                self.offer_rule(known, marks, r, offers)?;
                 Ok(())
             }
             None => Ok(()),
         }
     }
 
-    /// The tests of the top rules that can be made.
+    /// The tests of the top rules that can be made, but for equalities.
     fn offers(
         &self,
         alloc: Global,
-        index: &Index,
         left: &[usize],
         known: &Known,
         marks: &[bool],
     ) -> Result<Vec<Test>, AllocError>
-        requires index { IsIndexOf self.now (length self.now.sites) index.now }
         requires fit { IsFit self.now (length self.now.sites) known.now }
         requires order { IsInOrder (rules_in self.now) left.now }
-        ensures { IfOk result (λ v. AreOffers (rules_in self.now) left.now (scope_of self.now known.now) marks.now (tests_shown v.items)) }
+        ensures { IfOk result (λ v. AreOffers (unjoined (rules_in self.now)) left.now (scope_of self.now known.now) marks.now (tests_shown v.items)) }
     {
         let top = self.top(left);
         let mut offers = Vec::new(alloc);
@@ -288,7 +239,7 @@ impl RuleSet {
             if self.priority(*rule) < top {
                 return Ok(offers);
             }
-            self.offer_rule_at(index, known, marks, *rule, &mut offers)?;
+            self.offer_rule_at(known, marks, *rule, &mut offers)?;
         }
         Ok(offers)
     }
@@ -326,13 +277,203 @@ impl RuleSet {
         better(best, Ranked { test, key })
     }
 
-    /// No test counts more rules than there are that have it.
-    fn most(&self, index: &Index, left: &[usize], test: Test) -> usize
+    /// No test of a site counts more rules than are left, nor than there are that test it.
+    fn most(&self, index: &Index, left: &[usize], site: BindingId) -> usize
         requires order { IsInOrder (rules_in self.now) left.now }
         requires index { IsIndexOf self.now (length self.now.sites) index.now }
-        ensures { length (counted (rules_in self.now) (test_shown test) left.now) ≤ result }
+        ensures { (t : AnyTest) → first_of t ≡ site.0 → length (counted (rules_in self.now) t left.now) ≤ result }
     {
-        index.users(test.first()).len()
+        index.users(site).len().min(left.len())
+    }
+
+    /// The best of tests that can be made.
+    fn best_offer(
+        &self,
+        index: &Index,
+        left: &[usize],
+        known: &Known,
+        offers: &[Test],
+    ) -> Option<Ranked>
+        requires index { IsIndexOf self.now (length self.now.sites) index.now }
+        requires order { IsInOrder (rules_in self.now) left.now }
+        requires ready { (t : CodeTest) → Contains offers.now t → IsReady (rules_in self.now) (scope_of self.now known.now) (test_shown t) }
+        ensures ranked { IsRanked (rules_in self.now) left.now (scope_of self.now known.now) (best_shown result) }
+        ensures passed { (t : CodeTest) → Contains offers.now t → IsNoBetter (rules_in self.now) left.now (scope_of self.now known.now) (best_shown result) (test_shown t) }
+    {
+        let mut best = None;
+        for test in offers {
+            let most = self.most(index, left, test.first());
+            best = self.consider(left, known, best, *test, most);
+        }
+        best
+    }
+
+    /// The better of the best test so far and one more, where that can be made.
+    fn consider_ready(
+        &self,
+        left: &[usize],
+        known: &Known,
+        marks: &[bool],
+        test: Test,
+        most: usize,
+        best: Option<Ranked>,
+    ) -> Option<Ranked>
+        requires fit { IsFit self.now (length self.now.sites) known.now }
+        requires order { IsInOrder (rules_in self.now) left.now }
+        requires sound { AreSound (rules_in self.now) (scope_of self.now known.now) marks.now }
+        requires most { length (counted (rules_in self.now) (test_shown test) left.now) ≤ most }
+        requires ranked { IsRanked (rules_in self.now) left.now (scope_of self.now known.now) (best_shown best) }
+        ensures kept { IsStillRanked (rules_in self.now) left.now (scope_of self.now known.now) (best_shown best) (best_shown result) }
+        ensures passed { IsPassed (rules_in self.now) left.now (scope_of self.now known.now) marks.now (best_shown result) (test_shown test) }
+    {
+        if !self.is_ready(known, marks, test) {
+            return best;
+        }
+        self.consider(left, known, best, test, most)
+    }
+
+    /// The best test so far or an equality of a site with one of a class, whichever is the best.
+    fn consider_each(
+        &self,
+        left: &[usize],
+        known: &Known,
+        marks: &[bool],
+        class: &[BindingId],
+        a: BindingId,
+        most: usize,
+        best: Option<Ranked>,
+    ) -> Option<Ranked>
+        requires fit { IsFit self.now (length self.now.sites) known.now }
+        requires order { IsInOrder (rules_in self.now) left.now }
+        requires sound { AreSound (rules_in self.now) (scope_of self.now known.now) marks.now }
+        requires most { (b : ℕ) → length (counted (rules_in self.now) (on_equal a.0 b) left.now) ≤ most }
+        requires ranked { IsRanked (rules_in self.now) left.now (scope_of self.now known.now) (best_shown best) }
+        ensures kept { IsStillRanked (rules_in self.now) left.now (scope_of self.now known.now) (best_shown best) (best_shown result) }
+        ensures passed { IsRowPassed (rules_in self.now) left.now (scope_of self.now known.now) marks.now class.now (best_shown result) a }
+    {
+        let mut best = best;
+        for b in class {
+            best = self.consider_ready(left, known, marks, Test::Equal(a, *b), most, best);
+        }
+        best
+    }
+
+    /// Whether an equality of a site with a later one may be better than the best test so far.
+    fn may_join(
+        &self,
+        known: &Known,
+        marks: &[bool],
+        a: BindingId,
+        most: usize,
+        best: Option<Ranked>,
+    ) -> bool
+        requires fit { IsFit self.now (length self.now.sites) known.now }
+        ensures { result ≡ (is_open (scope_of self.now known.now) marks.now a.0 && may_win (scope_of self.now known.now) (best_shown best) (on_equal a.0 a.0) most) }
+    {
+        self.is_open(known, marks, a) && known.may_win(best, Test::Equal(a, a), most)
+    }
+
+    /// The same as `consider_each`, which is called only where an equality of the site may be better.
+    fn consider_row(
+        &self,
+        index: &Index,
+        left: &[usize],
+        known: &Known,
+        marks: &[bool],
+        class: &[BindingId],
+        a: BindingId,
+        best: Option<Ranked>,
+    ) -> Option<Ranked>
+        requires index { IsIndexOf self.now (length self.now.sites) index.now }
+        requires fit { IsFit self.now (length self.now.sites) known.now }
+        requires order { IsInOrder (rules_in self.now) left.now }
+        requires sound { AreSound (rules_in self.now) (scope_of self.now known.now) marks.now }
+        requires ranked { IsRanked (rules_in self.now) left.now (scope_of self.now known.now) (best_shown best) }
+        ensures kept { IsStillRanked (rules_in self.now) left.now (scope_of self.now known.now) (best_shown best) (best_shown result) }
+        ensures passed { IsRowPassed (rules_in self.now) left.now (scope_of self.now known.now) marks.now class.now (best_shown result) a }
+    {
+        let most = self.most(index, left, a);
+        if !self.may_join(known, marks, a, most, best) {
+            return best;
+        }
+        self.consider_each(left, known, marks, class, a, most, best)
+    }
+
+    /// The best test so far or an equality of a class, whichever is the best.
+    fn consider_class(
+        &self,
+        index: &Index,
+        left: &[usize],
+        known: &Known,
+        marks: &[bool],
+        class: &[BindingId],
+        best: Option<Ranked>,
+    ) -> Option<Ranked>
+        requires index { IsIndexOf self.now (length self.now.sites) index.now }
+        requires fit { IsFit self.now (length self.now.sites) known.now }
+        requires order { IsInOrder (rules_in self.now) left.now }
+        requires sound { AreSound (rules_in self.now) (scope_of self.now known.now) marks.now }
+        requires ranked { IsRanked (rules_in self.now) left.now (scope_of self.now known.now) (best_shown best) }
+        ensures kept { IsStillRanked (rules_in self.now) left.now (scope_of self.now known.now) (best_shown best) (best_shown result) }
+        ensures passed { IsClassPassed (rules_in self.now) left.now (scope_of self.now known.now) marks.now (best_shown result) class.now }
+    {
+        let mut best = best;
+        for a in class {
+            best = self.consider_row(index, left, known, marks, class, *a, best);
+        }
+        best
+    }
+
+    fn consider_classes(
+        &self,
+        index: &Index,
+        left: &[usize],
+        known: &Known,
+        marks: &[bool],
+        classes: &[Seq<BindingId>],
+        best: Option<Ranked>,
+    ) -> Option<Ranked>
+        requires index { IsIndexOf self.now (length self.now.sites) index.now }
+        requires fit { IsFit self.now (length self.now.sites) known.now }
+        requires order { IsInOrder (rules_in self.now) left.now }
+        requires sound { AreSound (rules_in self.now) (scope_of self.now known.now) marks.now }
+        requires ranked { IsRanked (rules_in self.now) left.now (scope_of self.now known.now) (best_shown best) }
+        ensures kept { IsStillRanked (rules_in self.now) left.now (scope_of self.now known.now) (best_shown best) (best_shown result) }
+        ensures passed { AreClassesPassed (rules_in self.now) left.now (scope_of self.now known.now) marks.now (best_shown result) classes.now }
+    {
+        let mut best = best;
+        for class in classes {
+            best = self.consider_class(index, left, known, marks, class.as_slice(), best);
+        }
+        best
+    }
+
+    /// The best test so far or an equality of the top rules, whichever is the best.
+    fn consider_equalities(
+        &self,
+        index: &Index,
+        left: &[usize],
+        known: &Known,
+        marks: &[bool],
+        best: Option<Ranked>,
+    ) -> Option<Ranked>
+        requires index { IsIndexOf self.now (length self.now.sites) index.now }
+        requires fit { IsFit self.now (length self.now.sites) known.now }
+        requires order { IsInOrder (rules_in self.now) left.now }
+        requires sound { AreSound (rules_in self.now) (scope_of self.now known.now) marks.now }
+        requires ranked { IsRanked (rules_in self.now) left.now (scope_of self.now known.now) (best_shown best) }
+        ensures kept { IsStillRanked (rules_in self.now) left.now (scope_of self.now known.now) (best_shown best) (best_shown result) }
+        ensures passed { AreEqualitiesPassed (rules_in self.now) left.now (scope_of self.now known.now) marks.now (best_shown result) }
+    {
+        let top = self.top(left);
+        let mut best = best;
+        for rule in left {
+            if self.priority(*rule) < top {
+                return best;
+            }
+            best = self.consider_classes(index, left, known, marks, index.classes(*rule), best);
+        }
+        best
     }
 
     /// The best test, where one is left.
@@ -352,13 +493,9 @@ impl RuleSet {
         ensures { IfOk result (λ b. MatchOption b (HasNoTest (rules_in self.now) left.now (scope_of self.now known.now))
             (λ t. IsBest (rules_in self.now) left.now (scope_of self.now known.now) (test_shown t))) }
     {
-        let offers = distinct(self.offers(alloc, index, left, known, marks)?);
-        let mut best = None;
-        for test in &offers {
-            let most = self.most(index, left, *test);
-            best = self.consider(left, known, best, *test, most);
-        }
-        match best {
+        let offers = distinct(self.offers(alloc, left, known, marks)?);
+        let best = self.best_offer(index, left, known, &offers);
+        match self.consider_equalities(index, left, known, marks, best) {
             None => Ok(None),
             Some(ranked) => Ok(Some(ranked.test)),
         }

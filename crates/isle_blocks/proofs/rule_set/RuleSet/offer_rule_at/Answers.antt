@@ -1,17 +1,14 @@
-use Rattle.std.proofs.Common.{◌≡◌, Some, None, slice_get, arith, sym, subst, List}
+use Rattle.std.proofs.Common.{◌≡◌, Some, None, slice_get, arith}
 use Rattle.std.proofs.lemmas.Grind.{common_steps}
 use Rattle.std.proofs.lemmas.Option.{gets}
-use Rattle.isle_blocks.specs.declared.ids.BindingId.{BindingId}
-use Rattle.isle_blocks.specs.Trees.Builder.{AreClasses, scope_of, tests_shown}
+use Rattle.isle_blocks.specs.Trees.Builder.{scope_of, tests_shown}
 use Rattle.isle_blocks.proofs.Trees.Offered.{no_offers, rule_offers}
 use Rattle.isle_blocks.proofs.rule_set.RuleSet.offer_rule_at.Goals as goal
 
 pub returns-in_ok-offer_rule-in-Some : goal.returns-in_ok-offer_rule-in-Some
 returns-in_ok-offer_rule-in-Some c =
     let e : slice_get c.args.self.now.rules c.args.rule ≡ Some c.in-Some.r.now = grind (arith, common_steps, gets) in
-    let P : List (List BindingId) → Type 0 = λ l. AreClasses c.args.self.now c.args.rule l in
-    rule_offers c.args.self.now (scope_of c.args.self.now c.args.known.now) c.args.marks.now c.args.rule c.in-Some.r.now c.classes.result.now e
-    (subst P (sym c.classes.ensures) (c.requires.index.classes c.args.rule)) (tests_shown c.args.offers.now.items)
+    rule_offers c.args.self.now (scope_of c.args.self.now c.args.known.now) c.args.marks.now c.args.rule c.in-Some.r.now e (tests_shown c.args.offers.now.items)
     (tests_shown c.offer_rule.new.offers.items) c.in_ok-offer_rule-in-Some.ensures
 
 pub returns-in-None : goal.returns-in-None
