@@ -27,7 +27,13 @@ returns c =
         builds = c.in_ok-tree.ensures.builds;
         returns = c.in_ok-tree.ensures.returns;
         chooses = c.in_ok-tree.ensures.chooses;
+        answers = c.in_ok-tree.ensures.answers;
+        bag = c.in_ok-tree.ensures.bag;
         asks = c.in_ok-tree.ensures.asks;
+        reads = c.in_ok-tree.ensures.reads;
+        fields = c.in_ok-tree.ensures.fields;
+        by_tests = c.in_ok-tree.ensures.by_tests;
+        typed = c.in_ok-tree.ensures.typed;
         ascends = c.in_ok-tree.ensures.ascends;
         few = c.in_ok-tree.ensures.few;
       };
