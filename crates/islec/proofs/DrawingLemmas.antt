@@ -58,7 +58,7 @@ module _ (files all : List SourceFile) (same : files ≡ all) (program : Program
   draw_cut (Ok s) told = tt
   draw_cut (Err f) told = λ e.
       let (text, tells, begun) = told e in
-      inl (program, subst (λ l. IsProgramOf l program) same is, text, subst (λ l. TellsTreesOf program l names text) same tells, begun)
+      inl (program, subst (λ l. IsProgramOf l program) same is, (text, subst (λ l. TellsTreesOf program l names text) same tells, begun))
 
 module _ (files all : List SourceFile) (refused : Refused) (report : Report) (old new : Option (List ℕ)) (is : refused ≡ Faults report) (same : files ≡ all)
     (not_accepted : IfFaults refused (λ r. ¬ AreAccepted files)) (faults : IfFaults refused (λ r. AreFaults files r.errors))

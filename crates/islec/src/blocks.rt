@@ -23,7 +23,20 @@ pub fn blocks<W: Write>(
     names: &[String],
     texts: Vec<(String, String)>,
     writer: &mut W,
-) -> Result<Status, ServeFault> {
+) -> Result<Status, ServeFault>
+    ensures drawn { IfOk result (λ status. status ≡ Status.AllWell → WritesTrees
+        (map source_file texts.items) (map string_bytes names.now) (W.contents writer.old) (W.contents writer.new)) }
+    ensures unknown { IfOk result (λ status. status ≡ Status.Usage → WritesUnknown
+        (map source_file texts.items) (map string_bytes names.now) (W.contents writer.old) (W.contents writer.new)) }
+    ensures refused { IfOk result (λ status. status ≡ Status.TextsRefused → WritesFaults
+        (map source_file texts.items) (W.contents writer.old) (W.contents writer.new)) }
+    ensures other { IfOk result (λ status. (status ≡ Status.AllWell) ⊎ ((status ≡ Status.Usage) ⊎ (status ≡ Status.TextsRefused))) }
+    ensures cut { IfErr result (λ fault. fault ≢ ServeFault.Memory → CutsTrees
+        (map source_file texts.items) (map string_bytes names.now) (W.contents writer.old) (W.contents writer.new)) }
+    ensures memory { IfErr result (λ fault. fault ≡ ServeFault.Memory → Keeps
+        (W.contents writer.old) (W.contents writer.new)) }
+    ensures fault { IfErr result (λ fault. fault ≢ ServeFault.Read) }
+{
     let files = Rc::new(alloc, Files::from_names_and_contents(alloc, texts)?)?;
     match compile(alloc, files.clone()?) {
         Ok(program) => draw(alloc, names, &files, &program, writer),

@@ -1,6 +1,7 @@
-use Rattle.std.proofs.Common.{◌≡◌, map, arith}
+use Rattle.std.proofs.Common.{◌≡◌, List, map, arith, subst}
 use Rattle.std.specs.Prelude.{string_bytes}
-use Rattle.isle_syntax.specs.Positions.Files.{source_file}
+use Rattle.isle_syntax.specs.Positions.Files.{SourceFile, source_file}
+use Rattle.isle_run.specs.Compiled.{AreAccepted, IsProgramOf}
 use Rattle.islec.proofs.DrawingLemmas.{draw_cut, draws_by, refusal_undrawn, unknown_by}
 use Rattle.islec.proofs.RunLemmas.{faults_by}
 use Rattle.islec.proofs.blocks.blocks.Goals as goal
@@ -23,18 +24,24 @@ returns-in-Err-Faults-clause-cut g c =
 
 pub returns-in-Ok-clause-drawn : goal.returns-in-Ok-clause-drawn
 returns-in-Ok-clause-drawn g c =
-    let same : c.in_ok-clone.field-0.value ≡ map source_file c.args.texts.items = grind arith in
-    draws_by c.in_ok-clone.field-0.value (map source_file c.args.texts.items) same c.in-Ok.program c.in-Ok.ensures.compiled c.in-Ok.ensures.accepted
+    let copy : c.in_ok-clone.field-0.value ≡ c.deref.result.now = grind arith in
+    let same : c.deref.result.now ≡ map source_file c.args.texts.items = grind arith in
+    draws_by c.deref.result.now (map source_file c.args.texts.items) same c.in-Ok.program
+    (subst (λ (l : List SourceFile). IsProgramOf l c.in-Ok.program) copy c.in-Ok.ensures.compiled) (subst AreAccepted copy c.in-Ok.ensures.accepted)
     (map string_bytes c.args.names.now) (g.W.Write.contents c.args.writer.now) (g.W.Write.contents c.draw.new.writer) c.draw.result c.draw.ensures.drawn
 
 pub returns-in-Ok-clause-unknown : goal.returns-in-Ok-clause-unknown
 returns-in-Ok-clause-unknown g c =
-    let same : c.in_ok-clone.field-0.value ≡ map source_file c.args.texts.items = grind arith in
-    unknown_by c.in_ok-clone.field-0.value (map source_file c.args.texts.items) same c.in-Ok.program c.in-Ok.ensures.compiled c.in-Ok.ensures.accepted
+    let copy : c.in_ok-clone.field-0.value ≡ c.deref.result.now = grind arith in
+    let same : c.deref.result.now ≡ map source_file c.args.texts.items = grind arith in
+    unknown_by c.deref.result.now (map source_file c.args.texts.items) same c.in-Ok.program
+    (subst (λ (l : List SourceFile). IsProgramOf l c.in-Ok.program) copy c.in-Ok.ensures.compiled) (subst AreAccepted copy c.in-Ok.ensures.accepted)
     (map string_bytes c.args.names.now) (g.W.Write.contents c.args.writer.now) (g.W.Write.contents c.draw.new.writer) c.draw.result c.draw.ensures.unknown
 
 pub returns-in-Ok-clause-cut : goal.returns-in-Ok-clause-cut
 returns-in-Ok-clause-cut g c =
-    let same : c.in_ok-clone.field-0.value ≡ map source_file c.args.texts.items = grind arith in
-    draw_cut c.in_ok-clone.field-0.value (map source_file c.args.texts.items) same c.in-Ok.program c.in-Ok.ensures.compiled c.in-Ok.ensures.accepted
+    let copy : c.in_ok-clone.field-0.value ≡ c.deref.result.now = grind arith in
+    let same : c.deref.result.now ≡ map source_file c.args.texts.items = grind arith in
+    draw_cut c.deref.result.now (map source_file c.args.texts.items) same c.in-Ok.program
+    (subst (λ (l : List SourceFile). IsProgramOf l c.in-Ok.program) copy c.in-Ok.ensures.compiled) (subst AreAccepted copy c.in-Ok.ensures.accepted)
     (map string_bytes c.args.names.now) (g.W.Write.contents c.args.writer.now) (g.W.Write.contents c.draw.new.writer) c.draw.result c.draw.ensures.cut

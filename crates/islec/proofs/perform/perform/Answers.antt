@@ -1,10 +1,10 @@
-use Rattle.std.proofs.Common.{map, sym, subst}
+use Rattle.std.proofs.Common.{ℕ, List, String, ap, map, sym, subst}
+use Rattle.std.specs.Global.{Global}
+use Rattle.std.specs.Prelude.{string_bytes}
 use Rattle.isle_syntax.specs.Positions.Files.{source_file}
-use Rattle.islec.specs.Endings.{EndsJob}
-use Rattle.islec.specs.Lines.{names_of}
+use Rattle.islec.specs.Endings.{EndsBlocks, EndsJob}
 use Rattle.islec.specs.Worlds.{world_file}
 use Rattle.islec.specs.declared.line.Job.{Job}
-use Rattle.islec.specs.declared.status.Status.{Status}
 use Rattle.islec.proofs.JobLemmas.{run_ends, check_ends, blocks_ends, fmt_ends}
 use Rattle.islec.proofs.perform.perform.Goals.{in-Run, in-Check, in-Blocks, in-Fmt}
 use Rattle.islec.proofs.perform.perform.Goals as goal
@@ -41,8 +41,10 @@ returns g c =
               let did = w.blocks-done.ensures in
               rw (w.status-is, w.writer-is, w.reader-is)
               (subst (λ (j : Job). EndsJob j files world input input old new w.conclude-status-in-Blocks.result) (sym w.in-Blocks.is)
-              (blocks_ends (names_of w.in-Blocks.terms) files old (g.W.Write.contents w.blocks-done.new.writer) w.blocks-done.result
-              w.conclude-status-in-Blocks.result new w.conclude-status-in-Blocks.ensures did.drawn did.unknown did.refused did.other did.cut did.memory))
+              (subst (λ (names : List (List ℕ)). EndsBlocks names files old new w.conclude-status-in-Blocks.result)
+              (ap (λ (l : List (String Global)). map string_bytes l) w.as_slice.ensures.value)
+              (blocks_ends (map string_bytes w.as_slice.result.now) files old (g.W.Write.contents w.blocks-done.new.writer) w.blocks-done.result
+              w.conclude-status-in-Blocks.result new w.conclude-status-in-Blocks.ensures did.drawn did.unknown did.refused did.other did.cut did.memory)))
           | in-Fmt w ↦
               let new = g.W.Write.contents w.conclude-status-in-Fmt.new.writer in
               let did = w.format-done.ensures in
