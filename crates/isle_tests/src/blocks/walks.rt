@@ -50,7 +50,10 @@ fn behind<'a>(check: ControlFlow<'a>, passed: Passed<'_>) -> Option<Steps<'a>> {
 
 /// The next step of the innermost steps that have one left.
 fn take<'a>(around: &mut Vec<Steps<'a>>) -> Result<Option<EvalStep<'a>>, AllocError> {
-    while let Some(here) = around.pop() {
+    for _ in 0..around.len() {
+        let Some(here) = around.pop() else {
+            return Ok(None);
+        };
         if let Some((step, rest)) = here.next() {
             around.push(rest)?;
             return Ok(Some(step));
