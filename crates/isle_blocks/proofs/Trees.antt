@@ -53,6 +53,8 @@ pub mod Considered
 pub mod Opened
 -- What is known, as the code's lists keep it.
 pub mod Known
+-- A list in rows, read and set at a place.
+pub mod Tables
 -- Sites by their numbers, as lists of them change.
 pub mod Binding
 -- What is still to be laid out.

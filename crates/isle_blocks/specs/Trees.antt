@@ -17,6 +17,8 @@ pub mod Places
 pub mod Views
 -- What the builder of trees knows, seen as the scopes and tests of the theory.
 pub mod Builder
+-- Lists that are kept in rows.
+pub mod Tables
 -- How the best test is found among equalities.
 pub mod Best
 -- What is still to be laid out of a tree, and what laying out one node does to it.

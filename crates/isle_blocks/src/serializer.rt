@@ -20,6 +20,7 @@ mod index;
 mod known;
 mod node;
 mod search;
+mod table;
 mod views;
 mod wants;
 mod work;
@@ -31,6 +32,7 @@ use index::Index;
 use known::Known;
 use node::Node;
 use std::alloc::{AllocError, Global};
+use table::Table;
 pub use views::{Arms, ControlFlow, EvalStep, MatchArm, Steps};
 
 /// The tree of tests of a rule set. A path of tests takes no native stack, however long it is. Want of memory leaves nothing.
@@ -66,9 +68,9 @@ fn nodes_of(alloc: Global, set: &RuleSet) -> Result<Vec<Node>, AllocError>
     let left = set.in_order(numbers(alloc, set.rules().len())?)?;
     let sites = set.site_count();
     let known = Known::start(alloc, sites)?;
-    let none = vec![in alloc; false; sites]?;
+    let none = Table::from_slice(alloc, &vec![in alloc; false; sites]?)?;
     let index = Index::new(alloc, set)?;
-    let marks = set.available(alloc, &index, &left, &known, &none)?;
+    let marks = set.available(&index, &left, &known, &none)?;
     let nodes = set.lay_out(alloc, &index, left, known, marks)?;
     Ok(nodes)
 }

@@ -14,30 +14,30 @@ use Rattle.isle_blocks.specs.Trees.Builder.{IsFit, rules_in, want_by, scope_of}
 use Rattle.isle_blocks.specs.Trees.Work.{IsCopy, IsSameKnown, relabel}
 
 -- sites that are joined have one label
-pub joined_labels : (old new : Known) (a b x y : ℕ) (from made : List ℕ) → x ≡ get_or old.labels.items a a → y ≡ get_or old.labels.items b b
-    → from ≡ old.labels.items → new.labels.items ≡ made → made ≡ map (relabel x y) from
-    → new.labels.items ≡ map (relabel (get_or old.labels.items a a) (get_or old.labels.items b b)) old.labels.items
+pub joined_labels : (old new : Known) (a b x y : ℕ) (from made : List ℕ) → x ≡ get_or old.labels a a → y ≡ get_or old.labels b b
+    → from ≡ old.labels → new.labels ≡ made → made ≡ map (relabel x y) from
+    → new.labels ≡ map (relabel (get_or old.labels a a) (get_or old.labels b b)) old.labels
 joined_labels old new a b x y from made e f g h k = rw (← e, ← f, ← g) (h ∙ k)
 
-pub joined_known : (rules : RulesOverSites) (old new : Known) (a b : ℕ) → get_or old.labels.items a a < length old.labels.items
-    → new.passed.items ≡ old.passed.items → new.emitted.items ≡ old.emitted.items
-    → new.labels.items ≡ map (relabel (get_or old.labels.items a a) (get_or old.labels.items b b)) old.labels.items
+pub joined_known : (rules : RulesOverSites) (old new : Known) (a b : ℕ) → get_or old.labels a a < length old.labels
+    → new.passed ≡ old.passed → new.emitted ≡ old.emitted
+    → new.labels ≡ map (relabel (get_or old.labels a a) (get_or old.labels b b)) old.labels
     → scope_of rules new ≡ join (scope_of rules old) a b
 joined_known rules old new a b l p m e =
     scope_same _ _
     (λ x. ap (λ (xs : List (Option ℕ)). want_by rules (get_or xs x None) x) p)
-    (λ x. rw e (relabelled old.labels.items a (get_or old.labels.items b b) x l))
+    (λ x. rw e (relabelled old.labels a (get_or old.labels b b) x l))
     (λ x. ap (λ (xs : List Bool). get_or xs x false) m)
 
-pub joined_known_below : (old new : Known) (a b : ℕ) → b < length old.labels.items
-    → ((x : ℕ) → x < length old.labels.items → get_or old.labels.items x x < length old.labels.items)
-    → new.labels.items ≡ map (relabel (get_or old.labels.items a a) (get_or old.labels.items b b)) old.labels.items
-    → (x : ℕ) → x < length new.labels.items → get_or new.labels.items x x < length new.labels.items
+pub joined_known_below : (old new : Known) (a b : ℕ) → b < length old.labels
+    → ((x : ℕ) → x < length old.labels → get_or old.labels x x < length old.labels)
+    → new.labels ≡ map (relabel (get_or old.labels a a) (get_or old.labels b b)) old.labels
+    → (x : ℕ) → x < length new.labels → get_or new.labels x x < length new.labels
 joined_known_below old new a b lb below e x l =
-    let n : length new.labels.items ≡ length old.labels.items =
-    ap length e ∙ length-map old.labels.items (relabel (get_or old.labels.items a a) (get_or old.labels.items b b)) in
-    let m : x < length old.labels.items = omega arith in
-    let h = joined_below old.labels.items new.labels.items a b (length old.labels.items) refl below lb e x m in
+    let n : length new.labels ≡ length old.labels =
+    ap length e ∙ length-map old.labels (relabel (get_or old.labels a a) (get_or old.labels b b)) in
+    let m : x < length old.labels = omega arith in
+    let h = joined_below old.labels new.labels a b (length old.labels) refl below lb e x m in
     omega arith
 
 pub same_known_trans : (a b c : Known) → IsSameKnown a b → IsSameKnown b c → IsSameKnown a c
@@ -54,18 +54,18 @@ fit_same rules n a b f k = record {
 }
 
 -- a rule's want is met
-passed_or : (old new : Known) (s rule y : ℕ) → s < length old.passed.items → new.passed.items ≡ set old.passed.items s (Some rule)
-    → ((y ≡ s) × (get_or new.passed.items y None ≡ Some rule))
-    ⊎ (((y == s) ≡ false) × (get_or new.passed.items y None ≡ get_or old.passed.items y None))
+passed_or : (old new : Known) (s rule y : ℕ) → s < length old.passed → new.passed ≡ set old.passed s (Some rule)
+    → ((y ≡ s) × (get_or new.passed y None ≡ Some rule))
+    ⊎ (((y == s) ≡ false) × (get_or new.passed y None ≡ get_or old.passed y None))
 passed_or old new s rule y l e =
-    let q = ap (λ (xs : List (Option ℕ)). get_or xs y None) e ∙ set_passed old.passed.items s rule y l in
+    let q = ap (λ (xs : List (Option ℕ)). get_or xs y None) e ∙ set_passed old.passed s rule y l in
     elim (true_or (y == s)) [
       | inl t ↦ inl (eqb-true y s t, q ∙ rw t refl)
       | inr f ↦ inr (f, q ∙ rw f refl)
     ]
 
-pub passed_path : (rules : RulesOverSites) (old new : Known) (s rule : ℕ) (w : Want Constraint) → s < length old.passed.items
-    → new.passed.items ≡ set old.passed.items s (Some rule) → new.labels.items ≡ old.labels.items → (rules_in rules).at rule s ≡ Some w
+pub passed_path : (rules : RulesOverSites) (old new : Known) (s rule : ℕ) (w : Want Constraint) → s < length old.passed
+    → new.passed ≡ set old.passed s (Some rule) → new.labels ≡ old.labels → (rules_in rules).at rule s ≡ Some w
     → IsSamePath (inside (rules_in rules) (scope_of rules old) s w) (scope_of rules new)
 passed_path rules old new s rule w l e k h = record {
   passed = λ y. elim (passed_or old new s rule y l e) [
@@ -77,13 +77,13 @@ passed_path rules old new s rule w l e k h = record {
 }
 
 pub passed_fit : (rules : RulesOverSites) (n : ℕ) (old new : Known) (s rule : ℕ) → IsFit rules n old → s < n
-    → new.passed.items ≡ set old.passed.items s (Some rule) → new.labels.items ≡ old.labels.items → new.emitted.items ≡ old.emitted.items
+    → new.passed ≡ set old.passed s (Some rule) → new.labels ≡ old.labels → new.emitted ≡ old.emitted
     → (w : Want Constraint) × ((rules_in rules).at rule s ≡ Some w) → IsFit rules n new
 passed_fit rules n old new s rule f l e k m has =
     let size = f.passed in
-    let b : s < length old.passed.items = omega arith in
+    let b : s < length old.passed = omega arith in
     record {
-      passed = ap length e ∙ length-set old.passed.items s (Some rule) ∙ f.passed;
+      passed = ap length e ∙ length-set old.passed s (Some rule) ∙ f.passed;
       labels = ap length k ∙ f.labels;
       emitted = ap length m ∙ f.emitted;
       below = λ x i. let P : List ℕ → Type 0 = λ xs. get_or xs x x < n in subst P (sym k) (f.below x i);
@@ -96,11 +96,11 @@ passed_fit rules n old new s rule f l e k m has =
     }
 
 -- it stays fit where sites are joined, and in a copy
-pub fit_joined : (rules : RulesOverSites) (n : ℕ) (old new : Known) → IsFit rules n old → new.passed.items ≡ old.passed.items
-    → new.emitted.items ≡ old.emitted.items → length new.labels.items ≡ length old.labels.items
-    → ((x : ℕ) → x < length new.labels.items → get_or new.labels.items x x < length new.labels.items) → IsFit rules n new
+pub fit_joined : (rules : RulesOverSites) (n : ℕ) (old new : Known) → IsFit rules n old → new.passed ≡ old.passed
+    → new.emitted ≡ old.emitted → length new.labels ≡ length old.labels
+    → ((x : ℕ) → x < length new.labels → get_or new.labels x x < length new.labels) → IsFit rules n new
 fit_joined rules n old new f p m size below =
-    let k : length new.labels.items ≡ n = size ∙ f.labels in
+    let k : length new.labels ≡ n = size ∙ f.labels in
     record {
       passed = ap length p ∙ f.passed;
       labels = k;

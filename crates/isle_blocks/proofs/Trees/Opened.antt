@@ -60,21 +60,21 @@ unwanted set (Some j) y w e n = n j e
 module _ (set : RulesOverSites) (n : ℕ) (openers : ℕ → Option ℕ) (known : Known) (h : AreOpeners set n openers) (x s : ℕ)
     (from : source_in (slice_get set.sites x) ≡ Some s) where
   -- where no want of the source was met
-  pub made_untested : slice_index_or known.passed.items s None ≡ None → is_made (rules_in set).tests (scope_of set known) ((rules_in set).made x) ≡ false
+  pub made_untested : slice_index_or known.passed s None ≡ None → is_made (rules_in set).tests (scope_of set known) ((rules_in set).made x) ≡ false
   made_untested e =
       let (m, made, at) = made_from_source set.rules (slice_get set.sites x) s from in
-      let none : want_by set (slice_index_or known.passed.items m.site None) m.site ≡ None =
-      subst (λ (y : ℕ). want_by set (slice_index_or known.passed.items y None) y ≡ None) (sym at) (ap (λ (o : Option ℕ). want_by set o s) e) in
+      let none : want_by set (slice_index_or known.passed m.site None) m.site ≡ None =
+      subst (λ (y : ℕ). want_by set (slice_index_or known.passed y None) y ≡ None) (sym at) (ap (λ (o : Option ℕ). want_by set o s) e) in
       rw made (ap (λ (o : Option (Want Constraint)). is_want (rules_in set).tests m.want o) none)
 
   -- where a rule's want of it was met, and a rule opens the site
-  pub made_opened : (i j : ℕ) → openers x ≡ Some i → slice_index_or known.passed.items s None ≡ Some j
+  pub made_opened : (i j : ℕ) → openers x ≡ Some i → slice_index_or known.passed s None ≡ Some j
       → same_wants (rules_in set).tests ((rules_in set).at i s) ((rules_in set).at j s) ≡ is_made (rules_in set).tests (scope_of set known) ((rules_in set).made x)
   made_opened i j o e =
       let (m, made, at) = made_from_source set.rules (slice_get set.sites x) s from in
       let opens = subst (λ (y : ℕ). (rules_in set).at i y ≡ Some m.want) at (h.first x i m made o) in
-      let passed : want_by set (slice_index_or known.passed.items m.site None) m.site ≡ (rules_in set).at j s =
-      subst (λ (y : ℕ). want_by set (slice_index_or known.passed.items y None) y ≡ (rules_in set).at j s) (sym at) (ap (λ (o : Option ℕ). want_by set o s) e) in
+      let passed : want_by set (slice_index_or known.passed m.site None) m.site ≡ (rules_in set).at j s =
+      subst (λ (y : ℕ). want_by set (slice_index_or known.passed y None) y ≡ (rules_in set).at j s) (sym at) (ap (λ (o : Option ℕ). want_by set o s) e) in
       rw made (rw opens (sym (ap (λ (o : Option (Want Constraint)). is_want (rules_in set).tests m.want o) passed)))
 
   -- where no rule opens it
@@ -85,6 +85,6 @@ module _ (set : RulesOverSites) (n : ℕ) (openers : ℕ → Option ℕ) (known 
       rw made (elim (true_or (is_want (rules_in set).tests m.want (sc.passed m.site))) [
         | inl e ↦
             let met : sc.passed m.site ≡ Some m.want = is_want_is (rules_in set).tests m.want (sc.passed m.site) same_is e in
-            absurd (unwanted set (slice_index_or known.passed.items m.site None) m.site m.want met (λ i. h.none x i m l made o))
+            absurd (unwanted set (slice_index_or known.passed m.site None) m.site m.want met (λ i. h.none x i m l made o))
         | inr e ↦ e
       ])

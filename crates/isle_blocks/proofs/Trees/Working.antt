@@ -186,14 +186,14 @@ given_all set left i sc now old mid new l e g =
 -- ---- what is to be laid out, with copies of what is known
 
 pub wants_copied : (set : RulesOverSites) (o : Open) (task : Task) (known : Known) (marks : List Bool) (w0 w1 : List Task) → task ≡ tasks.Block o
-    → IsCopy o.known known → o.marks.items ≡ marks → IsFit set (length set.sites) known → IsInOrder (rules_in set) o.left.items → AreRules set o.left.items
+    → IsCopy o.known known → o.marks ≡ marks → IsFit set (length set.sites) known → IsInOrder (rules_in set) o.left.items → AreRules set o.left.items
     → length marks ≡ length set.sites → AreMarked (rules_in set) o.left.items (scope_of set known) marks → 0 < length o.left.items
     → w1 ≡ w0 ++ task ∷ [] → WantsBlock set o.left.items (scope_of set known) w0 w1
 wants_copied set o task known marks w0 w1 is copy same fit order rules size marked some e =
     let R = rules_in set in
     let at : scope_of set o.known ≡ scope_of set known = copied_scope set o.known known copy in
     let M : List Bool → Type 0 = λ m. AreMarked R o.left.items (scope_of set known) m in
-    let S : Scope Constraint → Type 0 = λ x. AreMarked R o.left.items x o.marks.items in
+    let S : Scope Constraint → Type 0 = λ x. AreMarked R o.left.items x o.marks in
     let w : weight R (scope_of set o.known) o.left.items ≡ weight R (scope_of set known) o.left.items =
     ap (λ (x : Scope Constraint). weight R x o.left.items) at in
     record {
@@ -213,16 +213,16 @@ wants_copied set o task known marks w0 w1 is copy same fit order rules size mark
 
 pub wants_more : (set : RulesOverSites) (s start : ℕ) (at : BindingId) (o : Open) (task : Task) (known : Known) (marks : List Bool) (w0 w1 : List Task)
     → s ≡ at.0 → task ≡ tasks.Arms at start o
-    → IsCopy o.known known → o.marks.items ≡ marks → AreArms set s o.left.items known marks → start < length o.left.items → w1 ≡ w0 ++ task ∷ []
+    → IsCopy o.known known → o.marks ≡ marks → AreArms set s o.left.items known marks → start < length o.left.items → w1 ≡ w0 ++ task ∷ []
     → WantsArms set (drop start o.left.items) (scope_of set known) s w0 w1
 wants_more set s start site o task known marks w0 w1 number is copy same arms more e =
     let R = rules_in set in
     let at : scope_of set o.known ≡ scope_of set known = copied_scope set o.known known copy in
     let M : List Bool → Type 0 = λ m. AreSound R (scope_of set known) m in
-    let S : Scope Constraint → Type 0 = λ x. AreSound R x o.marks.items in
+    let S : Scope Constraint → Type 0 = λ x. AreSound R x o.marks in
     let w : weight R (scope_of set o.known) (drop start o.left.items) ≡ weight R (scope_of set known) (drop start o.left.items) =
     ap (λ (x : Scope Constraint). weight R x (drop start o.left.items)) at in
-    let fan : AreArms set s o.left.items o.known o.marks.items = record {
+    let fan : AreArms set s o.left.items o.known o.marks = record {
       fit = copied_fit set (length set.sites) o.known known copy arms.fit;
       size = ap length same ∙ arms.size;
       sound = subst S (sym at) (subst M (sym same) arms.sound);
@@ -235,7 +235,7 @@ wants_more set s start site o task known marks w0 w1 number is copy same arms mo
     record {
       task = tasks.Arms site start o;
       work = e ∙ ap (λ (t : Task). w0 ++ t ∷ []) is;
-      valid = record { arms = subst (λ (x : ℕ). AreArms set x o.left.items o.known o.marks.items) number fan; more = more };
+      valid = record { arms = subst (λ (x : ℕ). AreArms set x o.left.items o.known o.marks) number fan; more = more };
       due = λ pieces d.
           let B : Scope Constraint → Type 0 = λ x. BuildsArms R (drop start o.left.items) x s (first_arms pieces) in
           subst B at (subst (λ (x : ℕ). BuildsArms R (drop start o.left.items) (scope_of set o.known) x (first_arms pieces)) (sym number) d);

@@ -62,18 +62,18 @@ want_by set (Some i) s = (rules_in set).at i s
 -- the site's want that a rule of this number has was met; sites of one label are joined; a marked site is bound
 abbrev pub scope_of : RulesOverSites → Known → Scope Constraint
 scope_of set k = record {
-  passed = λ x. want_by set (slice_index_or k.passed.items x None) x;
-  label = λ x. slice_index_or k.labels.items x x;
-  emitted = λ x. slice_index_or k.emitted.items x false;
+  passed = λ x. want_by set (slice_index_or k.passed x None) x;
+  label = λ x. slice_index_or k.labels x x;
+  emitted = λ x. slice_index_or k.emitted x false;
 }
 
 -- the lists of what is known are as long as the sites, and what is known of a want is one that a rule has
 pub record IsFit (set : RulesOverSites) (n : ℕ) (k : Known) : Type 0 where
-  pub passed : length k.passed.items ≡ n
-  pub labels : length k.labels.items ≡ n
-  pub emitted : length k.emitted.items ≡ n
-  pub below : (x : ℕ) → x < n → slice_index_or k.labels.items x x < n
-  pub wanted : (x i : ℕ) → slice_index_or k.passed.items x None ≡ Some i → (w : Want Constraint) × ((rules_in set).at i x ≡ Some w)
+  pub passed : length k.passed ≡ n
+  pub labels : length k.labels ≡ n
+  pub emitted : length k.emitted ≡ n
+  pub below : (x : ℕ) → x < n → slice_index_or k.labels x x < n
+  pub wanted : (x i : ℕ) → slice_index_or k.passed x None ≡ Some i → (w : Want Constraint) × ((rules_in set).at i x ≡ Some w)
 
 -- the items of the list at a place
 abbrev pub items_in : {A : Type 0} → Option (Vec A) → List A

@@ -25,14 +25,14 @@ use Rattle.isle_trees.specs.Search.{AllWant, AreGrouped, AreMarked, AreSound, Is
 
 -- what is known of wants and of equal sites is the same, and of as many sites
 pub record IsSameKnown (old new : Known) : Type 0 where
-  pub passed : new.passed.items ≡ old.passed.items
-  pub labels : new.labels.items ≡ old.labels.items
-  pub emitted : length new.emitted.items ≡ length old.emitted.items
+  pub passed : new.passed ≡ old.passed
+  pub labels : new.labels ≡ old.labels
+  pub emitted : length new.emitted ≡ length old.emitted
 
 pub record IsCopy (a b : Known) : Type 0 where
-  pub passed : a.passed.items ≡ b.passed.items
-  pub labels : a.labels.items ≡ b.labels.items
-  pub emitted : a.emitted.items ≡ b.emitted.items
+  pub passed : a.passed ≡ b.passed
+  pub labels : a.labels ≡ b.labels
+  pub emitted : a.emitted ≡ b.emitted
 
 abbrev pub relabel : ℕ → ℕ → ℕ → ℕ
 relabel from to label = if label == from then to else label
@@ -72,8 +72,8 @@ pub record IsOpen (set : RulesOverSites) (o : Open) : Type 0 where
   pub fit : IsFit set (length set.sites) o.known
   pub order : IsInOrder (rules_in set) o.left.items
   pub rules : AreRules set o.left.items
-  pub size : length o.marks.items ≡ length set.sites
-  pub marked : AreMarked (rules_in set) o.left.items (scope_of set o.known) o.marks.items
+  pub size : length o.marks ≡ length set.sites
+  pub marked : AreMarked (rules_in set) o.left.items (scope_of set o.known) o.marks
   pub some : 0 < length o.left.items
 
 -- a group of rules that want tests of a site
@@ -89,7 +89,7 @@ pub record AreArms (set : RulesOverSites) (s : ℕ) (group : List ℕ) (known : 
 
 -- arms to be laid out, from a place in the group on
 pub record IsFan (set : RulesOverSites) (s start : ℕ) (o : Open) : Type 0 where
-  pub arms : AreArms set s o.left.items o.known o.marks.items
+  pub arms : AreArms set s o.left.items o.known o.marks
   pub more : start < length o.left.items
 
 abbrev pub IsTask : RulesOverSites → Task → Type 0

@@ -21,16 +21,17 @@ use crate::rule::Rule;
 use crate::rule_set::RuleSet;
 use crate::serializer::index::Index;
 use crate::serializer::known::{Known, is_set};
+use crate::serializer::table::Table;
 use std::alloc::{AllocError, Global};
 
 /// Adds the sites that aren't marked to a list, and marks them.
 fn gather(
     sites: &[BindingId],
-    marks: &mut Vec<bool>,
+    marks: &mut Table<bool>,
     list: &mut Vec<BindingId>,
 ) -> Result<(), AllocError>
-    requires { AllBelow (numbers_of sites.now) (length marks.old.items) }
-    ensures { IfOk result (λ _. Gathers (numbers_of sites.now) marks.old.items marks.new.items (numbers_of list.old.items) (numbers_of list.new.items)) }
+    requires { AllBelow (numbers_of sites.now) (length marks.old) }
+    ensures { IfOk result (λ _. Gathers (numbers_of sites.now) marks.old marks.new (numbers_of list.old.items) (numbers_of list.new.items)) }
 {
     for site in sites {
         gather_one(*site, marks, list)?;
@@ -40,17 +41,17 @@ fn gather(
 
 fn gather_one(
     site: BindingId,
-    marks: &mut Vec<bool>,
+    marks: &mut Table<bool>,
     list: &mut Vec<BindingId>,
 ) -> Result<(), AllocError>
-    requires { site.0 < length marks.old.items }
-    ensures { IfOk result (λ _. Gathers (site.0 ∷ []) marks.old.items marks.new.items (numbers_of list.old.items) (numbers_of list.new.items)) }
+    requires { site.0 < length marks.old }
+    ensures { IfOk result (λ _. Gathers (site.0 ∷ []) marks.old marks.new (numbers_of list.old.items) (numbers_of list.new.items)) }
 {
     if is_set(marks, site) {
         return Ok(());
     }
     list.push(site)?;
-    marks[site.index()] = true;
+    marks.set(site.index(), true)?;
     Ok(())
 }
 
@@ -70,12 +71,12 @@ impl RuleSet {
         &self,
         alloc: Global,
         sites: &[BindingId],
-        marks: &mut Vec<bool>,
+        marks: &mut Table<bool>,
     ) -> Result<Vec<BindingId>, AllocError>
         requires lower { PartsAreLower (rules_in self.now) }
-        requires size { length marks.old.items ≡ length self.now.sites }
+        requires size { length marks.old ≡ length self.now.sites }
         requires below { AllBelow (numbers_of sites.now) (length self.now.sites) }
-        ensures { IfOk result (λ v. IsClosure (rules_in self.now) (numbers_of sites.now) marks.old.items marks.new.items (numbers_of v.items)) }
+        ensures { IfOk result (λ v. IsClosure (rules_in self.now) (numbers_of sites.now) marks.old marks.new (numbers_of v.items)) }
     {
         let mut list = Vec::new(alloc);
         gather(sites, marks, &mut list)?;
@@ -107,7 +108,7 @@ impl RuleSet {
     ) -> Result<(), AllocError>
         requires lower { PartsAreLower (rules_in self.now) }
         requires below { AllBelow (numbers_of sites.now) (length self.now.sites) }
-        requires size { length known.old.emitted.items ≡ length self.now.sites }
+        requires size { length known.old.emitted ≡ length self.now.sites }
         ensures emits { IfOk result (λ _. Emits (rules_in self.now) (scope_of self.now known.old) (numbers_of sites.now)
             (numbers_of order.old.items) (numbers_of order.new.items) (scope_of self.now known.new)) }
         ensures known { IfOk result (λ _. IsSameKnown known.old known.new) }
@@ -127,7 +128,7 @@ impl RuleSet {
     ) -> Result<(), AllocError>
         requires lower { PartsAreLower (rules_in self.now) }
         requires site { site.0 < length self.now.sites }
-        requires size { length known.old.emitted.items ≡ length self.now.sites }
+        requires size { length known.old.emitted ≡ length self.now.sites }
         ensures emits { IfOk result (λ _. Emits (rules_in self.now) (scope_of self.now known.old) (site.0 ∷ [])
             (numbers_of order.old.items) (numbers_of order.new.items) (scope_of self.now known.new)) }
         ensures one { IfOk result (λ _. EmitsOne (rules_in self.now) (scope_of self.now known.old) site.0
@@ -139,7 +140,7 @@ impl RuleSet {
         }
         self.emit_each(alloc, self.parts(site), known, order)?;
         self.push_own(site, order)?;
-        known.set_emitted(site);
+        known.set_emitted(site)?;
         Ok(())
     }
 
@@ -153,7 +154,7 @@ impl RuleSet {
     ) -> Result<(), AllocError>
         requires lower { PartsAreLower (rules_in self.now) }
         requires below { AllBelow (numbers_of sites.now) (length self.now.sites) }
-        requires size { length known.old.emitted.items ≡ length self.now.sites }
+        requires size { length known.old.emitted ≡ length self.now.sites }
         ensures each { IfOk result (λ _. EmitsEach (rules_in self.now) (scope_of self.now known.old) (numbers_of sites.now)
             (numbers_of order.old.items) (numbers_of order.new.items) (scope_of self.now known.new)) }
         ensures known { IfOk result (λ _. IsSameKnown known.old known.new) }
@@ -196,7 +197,7 @@ impl RuleSet {
     ) -> Result<Vec<BindingId>, AllocError>
         requires lower { PartsAreLower (rules_in self.now) }
         requires below { AllBelow (rights_in self.now.sites rule.now) (length self.now.sites) }
-        requires size { length known.old.emitted.items ≡ length self.now.sites }
+        requires size { length known.old.emitted ≡ length self.now.sites }
         ensures each { IfOk result (λ v. BindsEach (rules_in self.now) (scope_of self.now known.old) (rights_in self.now.sites rule.now)
             (numbers_of v.items) (scope_of self.now known.new)) }
         ensures known { IfOk result (λ _. IsSameKnown known.old known.new) }
@@ -231,33 +232,41 @@ impl RuleSet {
         source: BindingId,
         rule: usize,
         site: BindingId,
-    )
+    ) -> Result<(), AllocError>
         requires index { IsIndexOf self.now (length self.now.sites) index.now }
         requires site { site.0 < length self.now.sites }
-        requires size { length known.old.emitted.items ≡ length self.now.sites }
-        ensures scope { (w : Want Constraint) → (rules_in self.now).at rule source.0 ≡ Some w
-            → scope_of self.now known.new ≡ with_made (rules_in self.now) source.0 w (scope_of self.now known.old) site.0 }
-        ensures known { IsSameKnown known.old known.new }
+        requires size { length known.old.emitted ≡ length self.now.sites }
+        ensures scope { IfOk result (λ _. (w : Want Constraint) → (rules_in self.now).at rule source.0 ≡ Some w
+            → scope_of self.now known.new ≡ with_made (rules_in self.now) source.0 w (scope_of self.now known.old) site.0) }
+        ensures known { IfOk result (λ _. IsSameKnown known.old known.new) }
     {
         if self.makes(index, source, rule, site) {
-            known.set_emitted(site);
+            known.set_emitted(site)?;
         }
+        Ok(())
     }
 
     /// Goes into the arm of a rule's want: it is met, and what it makes is bound.
-    pub(crate) fn enter(&self, index: &Index, known: &mut Known, site: BindingId, rule: usize)
+    pub(crate) fn enter(
+        &self,
+        index: &Index,
+        known: &mut Known,
+        site: BindingId,
+        rule: usize,
+    ) -> Result<(), AllocError>
         requires index { IsIndexOf self.now (length self.now.sites) index.now }
         requires fit { IsFit self.now (length self.now.sites) known.old }
         requires site { site.0 < length self.now.sites }
         requires wants { (w : Want Constraint) × ((rules_in self.now).at rule site.0 ≡ Some w) }
-        ensures scope { (w : Want Constraint) → (rules_in self.now).at rule site.0 ≡ Some w
-            → scope_of self.now known.new ≡ inside (rules_in self.now) (scope_of self.now known.old) site.0 w }
-        ensures fit { IsFit self.now (length self.now.sites) known.new }
+        ensures scope { IfOk result (λ _. (w : Want Constraint) → (rules_in self.now).at rule site.0 ≡ Some w
+            → scope_of self.now known.new ≡ inside (rules_in self.now) (scope_of self.now known.old) site.0 w) }
+        ensures fit { IfOk result (λ _. IsFit self.now (length self.now.sites) known.new) }
     {
-        known.pass(site, rule);
+        known.pass(site, rule)?;
         for made in index.made_from(site) {
-            self.bind_made(index, known, site, rule, *made);
+            self.bind_made(index, known, site, rule, *made)?;
         }
+        Ok(())
     }
 
     /// The site, where a rule's want of the source makes it.

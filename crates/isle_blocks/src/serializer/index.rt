@@ -13,6 +13,7 @@ ghost use Rattle.isle_blocks.specs.Trees.View.{read_or};
 use crate::ids::BindingId;
 use crate::rule::Rule;
 use crate::rule_set::RuleSet;
+use crate::serializer::table::Table;
 use isle_syntax::Seq;
 use std::alloc::{AllocError, Global};
 
@@ -188,7 +189,8 @@ impl RuleSet {
         requires members { (i : ℕ) → AreMembers self.now i (items_at classes.now i) }
         ensures { IfOk result (λ v. (i : ℕ) → IsAskedBy (rules_in self.now) (length self.now.sites) i (numbers_of (items_at v.items i))) }
     {
-        let mut marks = vec![in alloc; false; self.site_count()]?;
+        let none = vec![in alloc; false; self.site_count()]?;
+        let mut marks = Table::from_slice(alloc, &none)?;
         let mut lists = Vec::new(alloc);
         for rule in 0..self.rules().len() {
             let list = self.asked_by(
@@ -208,19 +210,19 @@ impl RuleSet {
         alloc: Global,
         rule: &Rule,
         classes: &[Seq<BindingId>],
-        marks: &mut Vec<bool>,
+        marks: &mut Table<bool>,
     ) -> Result<Vec<BindingId>, AllocError>
         requires lower { PartsAreLower (rules_in self.now) }
         requires below { AllBelow (flat_map numbers_of classes.now) 65536 → AllBelow (tested_in rule.now classes.now) (length self.now.sites) }
-        requires clean { IsClean (length self.now.sites) marks.old.items }
-        ensures clean { IfOk result (λ _. IsClean (length self.now.sites) marks.new.items) }
+        requires clean { IsClean (length self.now.sites) marks.old }
+        ensures clean { IfOk result (λ _. IsClean (length self.now.sites) marks.new) }
         ensures below { IfOk result (λ v. AllBelow (numbers_of v.items) (length self.now.sites)) }
         ensures first { IfOk result (λ v. ArePartsFirst (rules_in self.now) (numbers_of v.items)) }
         ensures full { IfOk result (λ v. (x : ℕ) → Elem x (tested_in rule.now classes.now) → Elem x (numbers_of v.items)) }
     {
         let sites = tested(alloc, rule, classes)?;
         let list = self.closure(alloc, &sites, marks)?;
-        unmark(&list, marks);
+        unmark(&list, marks)?;
         Ok(list)
     }
 
@@ -357,12 +359,13 @@ fn add_each(lists: &mut Vec<Vec<usize>>, sites: &[BindingId], rule: usize) -> Re
     Ok(())
 }
 
-fn unmark(sites: &[BindingId], marks: &mut Vec<bool>)
-    requires below { AllBelow (numbers_of sites.now) (length marks.old.items) }
-    requires marked { (x : ℕ) → is_marked marks.old.items x ≡ true → Elem x (numbers_of sites.now) }
-    ensures { IsClean (length marks.old.items) marks.new.items }
+fn unmark(sites: &[BindingId], marks: &mut Table<bool>) -> Result<(), AllocError>
+    requires below { AllBelow (numbers_of sites.now) (length marks.old) }
+    requires marked { (x : ℕ) → is_marked marks.old x ≡ true → Elem x (numbers_of sites.now) }
+    ensures { IfOk result (λ _. IsClean (length marks.old) marks.new) }
 {
     for site in sites {
-        marks[site.index()] = false;
+        marks.set(site.index(), false)?;
     }
+    Ok(())
 }

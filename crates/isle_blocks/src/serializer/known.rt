@@ -7,11 +7,11 @@ ghost use Rattle.isle_trees.specs.Search.{first_of, is_marked, all_marked};
 ghost use Rattle.isle_blocks.specs.Rows.{numbers_of};
 ghost use Rattle.isle_blocks.specs.RuleSets.{RulesOverSites};
 ghost use Rattle.isle_blocks.specs.Trees.Builder.{IsFit, scope_of, test_shown, key_shown, ranked_shown, best_shown};
-ghost use Rattle.isle_blocks.specs.Trees.Work.{IsCopy, relabel};
+ghost use Rattle.isle_blocks.specs.Trees.Work.{IsCopy};
 
 use crate::ids::BindingId;
+use crate::serializer::table::Table;
 use std::alloc::{AllocError, Global};
-use std::mem::swap;
 
 /// What a rule may need of its sites: a test of one, two that are equal, or one value of a multi call.
 #[derive(Clone, Copy, PartialEq, Eq, PartialOrd, Ord)]
@@ -39,26 +39,23 @@ pub(crate) struct Ranked {
 }
 
 /// What a path knows of each site: a rule whose want of it was met, its label, which it has in common with the sites that
-/// are known to be equal, and whether it is bound.
+/// are known to be equal, and whether it is bound. A copy shares what it has in common.
 #[derive(Drop)]
 pub(crate) struct Known {
-    pub(crate) passed: Vec<Option<usize>>,
-    pub(crate) labels: Vec<usize>,
-    pub(crate) emitted: Vec<bool>,
+    pub(crate) passed: Table<Option<usize>>,
+    pub(crate) labels: Table<usize>,
+    pub(crate) emitted: Table<bool>,
 }
 
 /// Whether a site is marked.
-pub(crate) fn is_set(marks: &[bool], site: BindingId) -> bool
+pub(crate) fn is_set(marks: &Table<bool>, site: BindingId) -> bool
     ensures { result ≡ is_marked marks.now site.0 }
 {
-    match marks.get(site.index()) {
-        Some(mark) => *mark,
-        None => false,
-    }
+    marks.get_or(site.index(), false)
 }
 
 /// Whether all of these sites are marked.
-pub(crate) fn all_set(marks: &[bool], sites: &[BindingId]) -> bool
+pub(crate) fn all_set(marks: &Table<bool>, sites: &[BindingId]) -> bool
     ensures { result ≡ all_marked marks.now (numbers_of sites.now) }
 {
     for site in sites {
@@ -113,25 +110,19 @@ pub(crate) fn better(best: Option<Ranked>, new: Ranked) -> Option<Ranked>
 impl Known {
     /// The rule whose want of the site was met.
     pub(crate) fn passed(&self, site: BindingId) -> Option<usize>
-        ensures { result ≡ slice_index_or self.now.passed.items site.0 None }
+        ensures { result ≡ slice_index_or self.now.passed site.0 None }
     {
-        match self.passed.get(site.index()) {
-            Some(rule) => *rule,
-            None => None,
-        }
+        self.passed.get_or(site.index(), None)
     }
 
     pub(crate) fn label(&self, site: BindingId) -> usize
-        ensures { result ≡ slice_index_or self.now.labels.items site.0 site.0 }
+        ensures { result ≡ slice_index_or self.now.labels site.0 site.0 }
     {
-        match self.labels.get(site.index()) {
-            Some(label) => *label,
-            None => site.index(),
-        }
+        self.labels.get_or(site.index(), site.index())
     }
 
     pub(crate) fn is_emitted(&self, site: BindingId) -> bool
-        ensures { result ≡ slice_index_or self.now.emitted.items site.0 false }
+        ensures { result ≡ slice_index_or self.now.emitted site.0 false }
     {
         is_set(&self.emitted, site)
     }
@@ -181,32 +172,35 @@ impl Known {
     }
 
     /// A site is bound.
-    pub(crate) fn set_emitted(&mut self, site: BindingId)
-        requires { site.0 < length self.old.emitted.items }
-        ensures scope { (set : RulesOverSites) → scope_of set self.new ≡ emit (scope_of set self.old) site.0 }
-        ensures others { (self.new.passed.items ≡ self.old.passed.items) × (self.new.labels.items ≡ self.old.labels.items) }
-        ensures size { length self.new.emitted.items ≡ length self.old.emitted.items }
+    pub(crate) fn set_emitted(&mut self, site: BindingId) -> Result<(), AllocError>
+        requires { site.0 < length self.old.emitted }
+        ensures scope { IfOk result (λ _. (set : RulesOverSites) → scope_of set self.new ≡ emit (scope_of set self.old) site.0) }
+        ensures others { (self.new.passed ≡ self.old.passed) × (self.new.labels ≡ self.old.labels) }
+        ensures size { IfOk result (λ _. length self.new.emitted ≡ length self.old.emitted) }
     {
-        self.emitted[site.index()] = true;
+        self.emitted.set(site.index(), true)?;
+        Ok(())
     }
 
     /// A multi call can be bound again.
-    pub(crate) fn release(&mut self, site: BindingId)
-        requires { site.0 < length self.old.emitted.items }
-        ensures scope { (set : RulesOverSites) → scope_of set self.new ≡ release (scope_of set self.old) site.0 }
-        ensures others { (self.new.passed.items ≡ self.old.passed.items) × (self.new.labels.items ≡ self.old.labels.items) }
-        ensures size { length self.new.emitted.items ≡ length self.old.emitted.items }
+    pub(crate) fn release(&mut self, site: BindingId) -> Result<(), AllocError>
+        requires { site.0 < length self.old.emitted }
+        ensures scope { IfOk result (λ _. (set : RulesOverSites) → scope_of set self.new ≡ release (scope_of set self.old) site.0) }
+        ensures others { (self.new.passed ≡ self.old.passed) × (self.new.labels ≡ self.old.labels) }
+        ensures size { IfOk result (λ _. length self.new.emitted ≡ length self.old.emitted) }
     {
-        self.emitted[site.index()] = false;
+        self.emitted.set(site.index(), false)?;
+        Ok(())
     }
 
     /// A rule's want of a site is met.
-    pub(crate) fn pass(&mut self, site: BindingId, rule: usize)
-        requires { site.0 < length self.old.passed.items }
-        ensures passed { self.new.passed.items ≡ slice_set self.old.passed.items site.0 (Some rule) }
-        ensures others { (self.new.labels.items ≡ self.old.labels.items) × (self.new.emitted.items ≡ self.old.emitted.items) }
+    pub(crate) fn pass(&mut self, site: BindingId, rule: usize) -> Result<(), AllocError>
+        requires { site.0 < length self.old.passed }
+        ensures passed { IfOk result (λ _. self.new.passed ≡ slice_set self.old.passed site.0 (Some rule)) }
+        ensures others { (self.new.labels ≡ self.old.labels) × (self.new.emitted ≡ self.old.emitted) }
     {
-        self.passed[site.index()] = Some(rule);
+        self.passed.set(site.index(), Some(rule))?;
+        Ok(())
     }
 
     /// Nothing is known: each site has a label of its own.
@@ -223,9 +217,9 @@ impl Known {
             emitted.push(false)?;
         }
         Ok(Known {
-            passed,
-            labels,
-            emitted,
+            passed: Table::from_slice(alloc, &passed)?,
+            labels: Table::from_slice(alloc, &labels)?,
+            emitted: Table::from_slice(alloc, &emitted)?,
         })
     }
 
@@ -236,46 +230,29 @@ impl Known {
         a: BindingId,
         b: BindingId,
     ) -> Result<(), AllocError>
-        requires a { a.0 < length self.old.labels.items }
-        requires b { b.0 < length self.old.labels.items }
-        requires below { (x : ℕ) → x < length self.old.labels.items → slice_index_or self.old.labels.items x x < length self.old.labels.items }
+        requires a { a.0 < length self.old.labels }
+        requires b { b.0 < length self.old.labels }
+        requires below { (x : ℕ) → x < length self.old.labels → slice_index_or self.old.labels x x < length self.old.labels }
         ensures scope { IfOk result (λ _. (set : RulesOverSites) → scope_of set self.new ≡ join (scope_of set self.old) a.0 b.0) }
-        ensures others { (self.new.passed.items ≡ self.old.passed.items) × (self.new.emitted.items ≡ self.old.emitted.items) }
-        ensures size { length self.new.labels.items ≡ length self.old.labels.items }
-        ensures below { (x : ℕ) → x < length self.new.labels.items → slice_index_or self.new.labels.items x x < length self.new.labels.items }
+        ensures others { (self.new.passed ≡ self.old.passed) × (self.new.emitted ≡ self.old.emitted) }
+        ensures size { length self.new.labels ≡ length self.old.labels }
+        ensures below { (x : ℕ) → x < length self.new.labels → slice_index_or self.new.labels x x < length self.new.labels }
     {
-        let mut labels = relabel_all(alloc, &self.labels, self.label(a), self.label(b))?;
-        swap(&mut self.labels, &mut labels);
+        let labels = self.labels.relabeled(alloc, self.label(a), self.label(b))?;
+        self.labels = labels;
         Ok(())
     }
 
     pub(crate) fn copy(&self) -> Result<Known, AllocError>
         ensures { IfOk result (λ k. IsCopy k self.now) }
     {
-        let passed = self.passed.clone()?;
-        let labels = self.labels.clone()?;
-        let emitted = self.emitted.clone()?;
+        let passed = self.passed.copy()?;
+        let labels = self.labels.copy()?;
+        let emitted = self.emitted.copy()?;
         Ok(Known {
             passed,
             labels,
             emitted,
         })
     }
-}
-
-fn relabel(label: usize, from: usize, to: usize) -> usize
-    ensures { result ≡ relabel from to label }
-{
-    if label == from { to } else { label }
-}
-
-fn relabel_all(
-    alloc: Global,
-    labels: &[usize],
-    from: usize,
-    to: usize,
-) -> Result<Vec<usize>, AllocError>
-    ensures { IfOk result (λ v. v.items ≡ map (relabel from to) labels.now) }
-{
-    labels.iter().map(|l| relabel(*l, from, to)).collect(alloc)
 }

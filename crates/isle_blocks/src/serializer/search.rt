@@ -18,6 +18,7 @@ use crate::rule::Rule;
 use crate::rule_set::RuleSet;
 use crate::serializer::index::Index;
 use crate::serializer::known::{Key, Known, Ranked, Test, all_set, better, is_set};
+use crate::serializer::table::Table;
 use isle_syntax::Seq;
 use std::alloc::{AllocError, Global};
 
@@ -41,7 +42,7 @@ impl RuleSet {
         }
     }
 
-    fn can_bind(&self, index: &Index, known: &Known, marks: &[bool], site: BindingId) -> bool
+    fn can_bind(&self, index: &Index, known: &Known, marks: &Table<bool>, site: BindingId) -> bool
         requires index { IsIndexOf self.now (length self.now.sites) index.now }
         requires site { site.0 < length self.now.sites }
         requires fit { IsFit self.now (length self.now.sites) known.now }
@@ -51,7 +52,7 @@ impl RuleSet {
     }
 
     /// Whether a site that isn't marked can be bound.
-    fn needs_mark(&self, index: &Index, known: &Known, marks: &[bool], site: BindingId) -> bool
+    fn needs_mark(&self, index: &Index, known: &Known, marks: &Table<bool>, site: BindingId) -> bool
         requires index { IsIndexOf self.now (length self.now.sites) index.now }
         requires site { site.0 < length self.now.sites }
         requires fit { IsFit self.now (length self.now.sites) known.now }
@@ -61,51 +62,57 @@ impl RuleSet {
     }
 
     /// Marks the sites of a list that can be bound.
-    fn mark(&self, index: &Index, sites: &[BindingId], known: &Known, marks: &mut Vec<bool>)
+    fn mark(
+        &self,
+        index: &Index,
+        sites: &[BindingId],
+        known: &Known,
+        marks: &mut Table<bool>,
+    ) -> Result<(), AllocError>
         requires index { IsIndexOf self.now (length self.now.sites) index.now }
         requires fit { IsFit self.now (length self.now.sites) known.now }
-        requires size { length marks.old.items ≡ length self.now.sites }
+        requires size { length marks.old ≡ length self.now.sites }
         requires below { AllBelow (numbers_of sites.now) (length self.now.sites) }
         requires first { ArePartsFirst (rules_in self.now) (numbers_of sites.now) }
-        requires sound { AreSound (rules_in self.now) (scope_of self.now known.now) marks.old.items }
-        ensures sound { AreSound (rules_in self.now) (scope_of self.now known.now) marks.new.items }
-        ensures full { (s : ℕ) → Elem s (numbers_of sites.now) → IsAvailable (rules_in self.now) (scope_of self.now known.now) s
-            → is_marked marks.new.items s ≡ true }
-        ensures kept { (s : ℕ) → is_marked marks.old.items s ≡ true → is_marked marks.new.items s ≡ true }
-        ensures size { length marks.new.items ≡ length marks.old.items }
+        requires sound { AreSound (rules_in self.now) (scope_of self.now known.now) marks.old }
+        ensures sound { IfOk result (λ _. AreSound (rules_in self.now) (scope_of self.now known.now) marks.new) }
+        ensures full { IfOk result (λ _. (s : ℕ) → Elem s (numbers_of sites.now) → IsAvailable (rules_in self.now) (scope_of self.now known.now) s
+            → is_marked marks.new s ≡ true) }
+        ensures kept { IfOk result (λ _. (s : ℕ) → is_marked marks.old s ≡ true → is_marked marks.new s ≡ true) }
+        ensures size { IfOk result (λ _. length marks.new ≡ length marks.old) }
     {
         for site in sites {
             if self.needs_mark(index, known, marks, *site) {
-                marks[site.index()] = true;
+                marks.set(site.index(), true)?;
             }
         }
+        Ok(())
     }
 
     /// The sites that the tests of the rules left ask, where they are available; those above stay so.
     pub(crate) fn available(
         &self,
-        alloc: Global,
         index: &Index,
         left: &[usize],
         known: &Known,
-        above: &[bool],
-    ) -> Result<Vec<bool>, AllocError>
+        above: &Table<bool>,
+    ) -> Result<Table<bool>, AllocError>
         requires index { IsIndexOf self.now (length self.now.sites) index.now }
         requires fit { IsFit self.now (length self.now.sites) known.now }
         requires size { length above.now ≡ length self.now.sites }
         requires sound { AreSound (rules_in self.now) (scope_of self.now known.now) above.now }
-        ensures size { IfOk result (λ v. length v.items ≡ length self.now.sites) }
-        ensures marked { IfOk result (λ v. AreMarked (rules_in self.now) left.now (scope_of self.now known.now) v.items) }
+        ensures size { IfOk result (λ v. length v ≡ length self.now.sites) }
+        ensures marked { IfOk result (λ v. AreMarked (rules_in self.now) left.now (scope_of self.now known.now) v) }
     {
-        let mut marks = Vec::from_slice(alloc, above)?;
+        let mut marks = above.copy()?;
         for rule in left {
-            self.mark(index, index.asked(*rule), known, &mut marks);
+            self.mark(index, index.asked(*rule), known, &mut marks)?;
         }
         Ok(marks)
     }
 
     /// Whether a site is available and not tested.
-    fn is_open(&self, known: &Known, marks: &[bool], site: BindingId) -> bool
+    fn is_open(&self, known: &Known, marks: &Table<bool>, site: BindingId) -> bool
         requires fit { IsFit self.now (length self.now.sites) known.now }
         ensures { result ≡ is_open (scope_of self.now known.now) marks.now site.0 }
     {
@@ -113,7 +120,7 @@ impl RuleSet {
     }
 
     /// Whether a test can be made.
-    fn is_ready(&self, known: &Known, marks: &[bool], test: Test) -> bool
+    fn is_ready(&self, known: &Known, marks: &Table<bool>, test: Test) -> bool
         requires fit { IsFit self.now (length self.now.sites) known.now }
         ensures { result ≡ is_ready (scope_of self.now known.now) marks.now (test_shown test) }
     {
@@ -132,7 +139,7 @@ impl RuleSet {
     fn offer(
         &self,
         known: &Known,
-        marks: &[bool],
+        marks: &Table<bool>,
         test: Test,
         offers: &mut Vec<Test>,
     ) -> Result<(), AllocError>
@@ -150,7 +157,7 @@ impl RuleSet {
     fn offer_tests(
         &self,
         known: &Known,
-        marks: &[bool],
+        marks: &Table<bool>,
         rule: &Rule,
         offers: &mut Vec<Test>,
     ) -> Result<(), AllocError>
@@ -169,7 +176,7 @@ impl RuleSet {
     fn offer_loops(
         &self,
         known: &Known,
-        marks: &[bool],
+        marks: &Table<bool>,
         loops: &[BindingId],
         offers: &mut Vec<Test>,
     ) -> Result<(), AllocError>
@@ -187,7 +194,7 @@ impl RuleSet {
     fn offer_rule(
         &self,
         known: &Known,
-        marks: &[bool],
+        marks: &Table<bool>,
         rule: &Rule,
         offers: &mut Vec<Test>,
     ) -> Result<(), AllocError>
@@ -204,7 +211,7 @@ impl RuleSet {
     fn offer_rule_at(
         &self,
         known: &Known,
-        marks: &[bool],
+        marks: &Table<bool>,
         rule: usize,
         offers: &mut Vec<Test>,
     ) -> Result<(), AllocError>
@@ -227,7 +234,7 @@ impl RuleSet {
         alloc: Global,
         left: &[usize],
         known: &Known,
-        marks: &[bool],
+        marks: &Table<bool>,
     ) -> Result<Vec<Test>, AllocError>
         requires fit { IsFit self.now (length self.now.sites) known.now }
         requires order { IsInOrder (rules_in self.now) left.now }
@@ -313,7 +320,7 @@ impl RuleSet {
         &self,
         left: &[usize],
         known: &Known,
-        marks: &[bool],
+        marks: &Table<bool>,
         test: Test,
         most: usize,
         best: Option<Ranked>,
@@ -337,7 +344,7 @@ impl RuleSet {
         &self,
         left: &[usize],
         known: &Known,
-        marks: &[bool],
+        marks: &Table<bool>,
         class: &[BindingId],
         a: BindingId,
         most: usize,
@@ -362,7 +369,7 @@ impl RuleSet {
     fn may_join(
         &self,
         known: &Known,
-        marks: &[bool],
+        marks: &Table<bool>,
         a: BindingId,
         most: usize,
         best: Option<Ranked>,
@@ -379,7 +386,7 @@ impl RuleSet {
         index: &Index,
         left: &[usize],
         known: &Known,
-        marks: &[bool],
+        marks: &Table<bool>,
         class: &[BindingId],
         a: BindingId,
         best: Option<Ranked>,
@@ -405,7 +412,7 @@ impl RuleSet {
         index: &Index,
         left: &[usize],
         known: &Known,
-        marks: &[bool],
+        marks: &Table<bool>,
         class: &[BindingId],
         best: Option<Ranked>,
     ) -> Option<Ranked>
@@ -429,7 +436,7 @@ impl RuleSet {
         index: &Index,
         left: &[usize],
         known: &Known,
-        marks: &[bool],
+        marks: &Table<bool>,
         classes: &[Seq<BindingId>],
         best: Option<Ranked>,
     ) -> Option<Ranked>
@@ -454,7 +461,7 @@ impl RuleSet {
         index: &Index,
         left: &[usize],
         known: &Known,
-        marks: &[bool],
+        marks: &Table<bool>,
         best: Option<Ranked>,
     ) -> Option<Ranked>
         requires index { IsIndexOf self.now (length self.now.sites) index.now }
@@ -483,7 +490,7 @@ impl RuleSet {
         index: &Index,
         left: &[usize],
         known: &Known,
-        marks: &[bool],
+        marks: &Table<bool>,
     ) -> Result<Option<Test>, AllocError>
         requires set { IsSerializable self.now }
         requires index { IsIndexOf self.now (length self.now.sites) index.now }

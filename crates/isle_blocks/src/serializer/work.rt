@@ -20,6 +20,7 @@ use crate::rule_set::RuleSet;
 use crate::serializer::index::Index;
 use crate::serializer::known::{Known, Test};
 use crate::serializer::node::Node;
+use crate::serializer::table::Table;
 use isle_syntax::Seq;
 use std::alloc::{AllocError, Global};
 
@@ -28,7 +29,7 @@ use std::alloc::{AllocError, Global};
 pub(crate) struct Open {
     pub(crate) left: Vec<usize>,
     pub(crate) known: Known,
-    pub(crate) marks: Vec<bool>,
+    pub(crate) marks: Table<bool>,
 }
 
 /// What is still to be laid out.
@@ -53,15 +54,15 @@ impl RuleSet {
         index: &Index,
         left: Vec<usize>,
         known: Known,
-        marks: Vec<bool>,
+        marks: Table<bool>,
     ) -> Result<Vec<Node>, AllocError>
         requires set { IsSerializable self.now }
         requires index { IsIndexOf self.now (length self.now.sites) index.now }
         requires fit { IsFit self.now (length self.now.sites) known }
         requires order { IsInOrder (rules_in self.now) left.items }
         requires rules { AreRules self.now left.items }
-        requires size { length marks.items ≡ length self.now.sites }
-        requires marked { AreMarked (rules_in self.now) left.items (scope_of self.now known) marks.items }
+        requires size { length marks ≡ length self.now.sites }
+        requires marked { AreMarked (rules_in self.now) left.items (scope_of self.now known) marks }
         ensures builds { IfOk result (λ v. Builds (rules_in self.now) left.items (scope_of self.now known) (first_steps (read v.items []))) }
         ensures told { IfOk result (λ v. AreOfRules self.now v.items) }
     {
@@ -151,7 +152,7 @@ impl RuleSet {
         nodes: &mut Vec<Node>,
     ) -> Result<(), AllocError>
         requires set { IsSerializable self.now }
-        requires size { length known.old.emitted.items ≡ length self.now.sites }
+        requires size { length known.old.emitted ≡ length self.now.sites }
         requires order { IsInOrder (rules_in self.now) left.now }
         requires rules { AreRules self.now left.now }
         ensures { IfOk result (λ _. AreReturns self.now left.now (scope_of self.now known.old) nodes.old.items nodes.new.items) }
@@ -242,7 +243,7 @@ impl RuleSet {
         nodes.push(equal_node(order, a, b))?;
         self.push_rest(rest, &known, &place.marks, work)?;
         known.join(alloc, a, b)?;
-        let marks = self.available(alloc, index, &chosen, &known, &place.marks)?;
+        let marks = self.available(index, &chosen, &known, &place.marks)?;
         self.push_body(chosen, known, marks, work)?;
         Ok(())
     }
@@ -264,15 +265,15 @@ impl RuleSet {
         ensures { IfOk result (λ _. Moves self.now (tasks.Block place) work.old.items work.new.items nodes.old.items nodes.new.items) }
     {
         let mut known = place.known;
-        known.release(site);
+        known.release(site)?;
         let mut order = Vec::new(alloc);
         self.emit(alloc, site, &mut known, &mut order)?;
         nodes.push(loop_node(order, self.value(site)))?;
         let mut last = known.copy()?;
-        last.release(site);
+        last.release(site)?;
         self.push_rest(rest, &last, &place.marks, work)?;
-        self.enter(index, &mut known, site, chosen[0]);
-        let marks = self.available(alloc, index, &chosen, &known, &place.marks)?;
+        self.enter(index, &mut known, site, chosen[0])?;
+        let marks = self.available(index, &chosen, &known, &place.marks)?;
         self.push_body(chosen, known, marks, work)?;
         Ok(())
     }
@@ -301,8 +302,8 @@ impl RuleSet {
         let bindings = self.fields(alloc, index, site, rule, test)?;
         nodes.push(arm_node(test, bindings))?;
         self.push_more(site, one.end, group, &known, &place.marks, work)?;
-        self.enter(index, &mut known, site, rule);
-        let marks = self.available(alloc, index, &one.rules, &known, &place.marks)?;
+        self.enter(index, &mut known, site, rule)?;
+        let marks = self.available(index, &one.rules, &known, &place.marks)?;
         self.push_body(one.rules, known, marks, work)?;
         Ok(())
     }
@@ -312,14 +313,14 @@ impl RuleSet {
         &self,
         left: Vec<usize>,
         known: Known,
-        marks: Vec<bool>,
+        marks: Table<bool>,
         work: &mut Vec<Task>,
     ) -> Result<(), AllocError>
         requires fit { IsFit self.now (length self.now.sites) known }
         requires order { IsInOrder (rules_in self.now) left.items }
         requires rules { AreRules self.now left.items }
-        requires size { length marks.items ≡ length self.now.sites }
-        requires marked { AreMarked (rules_in self.now) left.items (scope_of self.now known) marks.items }
+        requires size { length marks ≡ length self.now.sites }
+        requires marked { AreMarked (rules_in self.now) left.items (scope_of self.now known) marks }
         ensures { IfOk result (λ _. WantsBlock self.now left.items (scope_of self.now known) work.old.items work.new.items) }
     {
         if left.is_empty() {
@@ -336,14 +337,14 @@ impl RuleSet {
         &self,
         left: Vec<usize>,
         known: &Known,
-        marks: &Vec<bool>,
+        marks: &Table<bool>,
         work: &mut Vec<Task>,
     ) -> Result<(), AllocError>
         requires fit { IsFit self.now (length self.now.sites) known.now }
         requires order { IsInOrder (rules_in self.now) left.items }
         requires rules { AreRules self.now left.items }
-        requires size { length marks.now.items ≡ length self.now.sites }
-        requires marked { AreMarked (rules_in self.now) left.items (scope_of self.now known.now) marks.now.items }
+        requires size { length marks.now ≡ length self.now.sites }
+        requires marked { AreMarked (rules_in self.now) left.items (scope_of self.now known.now) marks.now }
         ensures { IfOk result (λ _. WantsBlock self.now left.items (scope_of self.now known.now) work.old.items work.new.items) }
     {
         if left.is_empty() {
@@ -351,7 +352,7 @@ impl RuleSet {
             Ok(())
         } else {
             let known = known.copy()?;
-            let marks = copy_marks(marks)?;
+            let marks = marks.copy()?;
             push_task(block_task(left, known, marks), work)?;
             Ok(())
         }
@@ -364,15 +365,15 @@ impl RuleSet {
         start: usize,
         group: Vec<usize>,
         known: &Known,
-        marks: &Vec<bool>,
+        marks: &Table<bool>,
         work: &mut Vec<Task>,
     ) -> Result<(), AllocError>
-        requires { AreArms self.now site.0 group.items known.now marks.now.items }
+        requires { AreArms self.now site.0 group.items known.now marks.now }
         ensures { IfOk result (λ _. WantsArms self.now (drop start group.items) (scope_of self.now known.now) site.0 work.old.items work.new.items) }
     {
         if start < group.len() {
             let known = known.copy()?;
-            let marks = copy_marks(marks)?;
+            let marks = marks.copy()?;
             push_task(arms_from(site, start, group, known, marks), work)?;
             Ok(())
         } else {
@@ -380,12 +381,6 @@ impl RuleSet {
             Ok(())
         }
     }
-}
-
-fn copy_marks(marks: &Vec<bool>) -> Result<Vec<bool>, AllocError>
-    ensures { IfOk result (λ v. v.items ≡ marks.now.items) }
-{
-    marks.clone()
 }
 
 fn push_node(node: Node, nodes: &mut Vec<Node>) -> Result<(), AllocError>
@@ -450,13 +445,13 @@ fn arm_node(constraint: Constraint, bindings: Vec<Option<BindingId>>) -> Node
     }
 }
 
-fn block_task(left: Vec<usize>, known: Known, marks: Vec<bool>) -> Task
+fn block_task(left: Vec<usize>, known: Known, marks: Table<bool>) -> Task
     ensures { result ≡ tasks.Block (record { left = left; known = known; marks = marks }) }
 {
     Task::Block(Open { left, known, marks })
 }
 
-fn arms_task(site: BindingId, left: Vec<usize>, known: Known, marks: Vec<bool>) -> Task
+fn arms_task(site: BindingId, left: Vec<usize>, known: Known, marks: Table<bool>) -> Task
     ensures { result ≡ tasks.Arms site 0 (record { left = left; known = known; marks = marks }) }
 {
     arms_from(site, 0, left, known, marks)
@@ -467,7 +462,7 @@ fn arms_from(
     start: usize,
     left: Vec<usize>,
     known: Known,
-    marks: Vec<bool>,
+    marks: Table<bool>,
 ) -> Task
     ensures { result ≡ tasks.Arms site start (record { left = left; known = known; marks = marks }) }
 {

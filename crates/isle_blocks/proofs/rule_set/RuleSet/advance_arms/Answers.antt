@@ -1,4 +1,4 @@
-use Rattle.std.proofs.Common.{◌≡◌, ℕ, Bool, List, Some, sym, subst, ◌∙◌, refl, get_or}
+use Rattle.std.proofs.Common.{◌≡◌, ℕ, List, Some, sym, subst, ◌∙◌, refl, get_or}
 use Rattle.std.specs.Option.{IsSome}
 use Rattle.isle_trees.specs.Rules.{has}
 use Rattle.isle_trees.specs.Scopes.{Scope}
@@ -40,13 +40,12 @@ available-requires-clause-sound c =
     let fan = c.requires.fan in
     let test : (rules_in set).at c.index-rule.result.now c.args.site.0 ≡ Some (has c.unwrap-test.result) =
     wanted_test set c.index-rule.result.now c.args.site.0 c.unwrap-test.result (sym c.test_at.ensures ∙ c.unwrap-test.ensures) in
-    let inner = c.enter.ensures.scope (has c.unwrap-test.result) test in
+    let inner = c.in_ok-enter.ensures.scope (has c.unwrap-test.result) test in
     let R = rules_in set in
     let sc = scope_of set c.args.place.known in
-    let S : Scope Constraint → Type 0 = λ x. AreSound R x c.args.place.marks.items in
-    let M : List Bool → Type 0 = λ m. AreSound R (scope_of set c.enter.new.known) m in
-    subst M (sym c.deref-3.ensures.value) (subst S (sym inner)
-    (sound_inside R sc c.args.site.0 (has c.unwrap-test.result) c.args.place.marks.items fan.arms.untested fan.arms.sound))
+    let S : Scope Constraint → Type 0 = λ x. AreSound R x c.args.place.marks in
+    subst S (sym inner)
+    (sound_inside R sc c.args.site.0 (has c.unwrap-test.result) c.args.place.marks fan.arms.untested fan.arms.sound)
 
 pub push_body-requires-clause-rules : goal.push_body-requires-clause-rules
 push_body-requires-clause-rules c =
@@ -63,7 +62,7 @@ returns c =
     let fan = c.requires.fan in
     let test : (rules_in set).at c.index-rule.result.now c.args.site.0 ≡ Some (has c.unwrap-test.result) =
     wanted_test set c.index-rule.result.now c.args.site.0 c.unwrap-test.result (sym c.test_at.ensures ∙ c.unwrap-test.ensures) in
-    let inner = c.enter.ensures.scope (has c.unwrap-test.result) test in
+    let inner = c.in_ok-enter.ensures.scope (has c.unwrap-test.result) test in
     let R = rules_in set in
     let P : List ℕ → Type 0 = λ l. IsRun R c.args.site.0 c.args.start l c.unwrap-test.result c.in_ok-one.one.rules.items c.in_ok-one.one.end in
     moved_arm set c.args.place c.args.site c.args.start c.unwrap-test.result c.in_ok-one.one.rules.items c.in_ok-one.one.end (scope_of set c.enter.new.known)

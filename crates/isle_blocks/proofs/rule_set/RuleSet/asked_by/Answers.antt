@@ -21,7 +21,7 @@ pub unmark-requires-clause-marked : goal.unmark-requires-clause-marked
 unmark-requires-clause-marked c x e =
     let P : List ℕ → Type 0 = λ l. Elem x l in
     subst P (sym (ap numbers_of c.deref-2.ensures.value))
-    (closure_full (rules_in c.args.self.now) (length c.args.self.now.sites) (numbers_of c.deref.result.now) c.args.marks.now.items c.closure.new.marks.items
+    (closure_full (rules_in c.args.self.now) (length c.args.self.now.sites) (numbers_of c.deref.result.now) c.args.marks.now c.closure.new.marks
     (numbers_of c.in_ok-list.list.items) c.requires.clean c.in_ok-list.ensures x e)
 
 pub returns-clause-below : goal.returns-clause-below
@@ -29,12 +29,12 @@ returns-clause-below c x m = let l = c.in_ok-list.ensures.below x m in let e = c
 
 pub returns-clause-first : goal.returns-clause-first
 returns-clause-first c =
-    closure_first (rules_in c.args.self.now) (length c.args.self.now.sites) (numbers_of c.deref.result.now) c.args.marks.now.items c.closure.new.marks.items
+    closure_first (rules_in c.args.self.now) (length c.args.self.now.sites) (numbers_of c.deref.result.now) c.args.marks.now c.closure.new.marks
     (numbers_of c.in_ok-list.list.items) c.requires.lower c.requires.clean c.in_ok-list.ensures
 
 pub returns-clause-full : goal.returns-clause-full
 returns-clause-full c x m =
     let P : List ℕ → Type 0 = λ l. Elem x l in
-    closure_full (rules_in c.args.self.now) (length c.args.self.now.sites) (numbers_of c.deref.result.now) c.args.marks.now.items c.closure.new.marks.items
+    closure_full (rules_in c.args.self.now) (length c.args.self.now.sites) (numbers_of c.deref.result.now) c.args.marks.now c.closure.new.marks
     (numbers_of c.in_ok-list.list.items) c.requires.clean c.in_ok-list.ensures x
     (c.in_ok-list.ensures.bound x (subst P (sym (ap numbers_of c.deref.ensures.value ∙ c.in_ok-sites.ensures.sites)) m))

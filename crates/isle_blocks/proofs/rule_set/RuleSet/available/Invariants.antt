@@ -4,4 +4,4 @@ use Rattle.isle_blocks.specs.Trees.Builder.{rules_in, scope_of}
 use Rattle.isle_blocks.proofs.rule_set.RuleSet.available.Given as goal
 
 abbrev pub invariant-loop-rule : goal.invariant-loop-rule
-invariant-loop-rule l = Group (rules_in l.self) (scope_of l.self l.known) (take l.rule-index l.left) (length l.self.sites) l.marks.items
+invariant-loop-rule l = Group (rules_in l.self) (scope_of l.self l.known) (take l.rule-index l.left) (length l.self.sites) l.marks

@@ -15,7 +15,7 @@ gather-requires c x m = let l = c.requires.below x m in let e = c.requires.size 
 
 pub parts-init : goal.parts-init
 parts-init c = record {
-  closing = closing_start (rules_in c.args.self.now) (numbers_of c.args.sites.now) c.args.marks.now.items c.gather.new.marks.items
+  closing = closing_start (rules_in c.args.self.now) (numbers_of c.args.sites.now) c.args.marks.now c.gather.new.marks
       (numbers_of c.new-list.result.items) (numbers_of c.gather.new.list.items) (ap numbers_of c.new-list.ensures.items) c.in_ok-gather.ensures;
   ends = omega arith;
 }
@@ -38,7 +38,7 @@ gather-requires-in-parts c x m =
 
 pub parts-smaller : goal.parts-smaller
 parts-smaller c =
-    let s = gathering_short c.args.marks.now.items c.parts.marks.items (numbers_of c.parts.list.items) c.parts.invariant.closing.gathering in
+    let s = gathering_short c.args.marks.now c.parts.marks (numbers_of c.parts.list.items) c.parts.invariant.closing.gathering in
     let n = numbers_length c.parts.list.items in
     let l : c.parts.at < length c.parts.list.items = search rules in
     omega (arith, s, n, l)
@@ -58,7 +58,7 @@ parts-preserved c =
     let n : length (numbers_of c.gather-in-parts.new.list.items) ≡ length (numbers_of xs) + length g.more =
     ap length g.list ∙ length-append (numbers_of xs) g.more in
     record {
-      closing = closing_more R (numbers_of c.args.sites.now) c.args.marks.now.items c.parts.marks.items c.gather-in-parts.new.marks.items
+      closing = closing_more R (numbers_of c.args.sites.now) c.args.marks.now c.parts.marks c.gather-in-parts.new.marks
           (numbers_of xs) (numbers_of c.gather-in-parts.new.list.items) (numbers_of c.parts-in-parts.result.now) c.parts.at
           (omega arith) e g c.parts.invariant.closing;
       ends = omega (arith, n, l0, k, j);
@@ -68,6 +68,6 @@ pub returns : goal.returns
 returns c =
     let l : length c.parts.list.items ≤ c.parts.at = search rules in
     let n = numbers_length c.parts.list.items in
-    closed (rules_in c.args.self.now) (numbers_of c.args.sites.now) c.args.marks.now.items c.parts.marks.items
+    closed (rules_in c.args.self.now) (numbers_of c.args.sites.now) c.args.marks.now c.parts.marks
     (numbers_of c.parts.list.items) (numbers_of c.ascending.result.items) c.parts.at
     (take_all c.parts.at (numbers_of c.parts.list.items) (omega arith)) c.ascending.ensures.ascending c.ascending.ensures.same c.parts.invariant.closing

@@ -13,9 +13,9 @@ emit_each-requires-clause-below c x m =
 pub returns-clause-emits : goal.returns-clause-emits
 returns-clause-emits c =
     emits_one _ _ _ _ c.args.site.0 _ _ _ _ (c.requires.lower) c.parts.ensures (sym c.is_emitted.ensures ∙ c.if-is_emitted.false)
-    (c.in_ok-emit_each.ensures.emits) (c.in_ok-push_own.ensures) (c.set_emitted.ensures.scope c.args.self.now)
+    (c.in_ok-emit_each.ensures.emits) (c.in_ok-push_own.ensures) (c.in_ok-set_emitted.ensures.scope c.args.self.now)
 
 pub returns-clause-one : goal.returns-clause-one
 returns-clause-one c =
     one_new _ _ _ _ c.args.site.0 _ _ _ _ c.parts.ensures (sym c.is_emitted.ensures ∙ c.if-is_emitted.false)
-    (c.in_ok-emit_each.ensures.emits) (c.in_ok-push_own.ensures) (c.set_emitted.ensures.scope c.args.self.now)
+    (c.in_ok-emit_each.ensures.emits) (c.in_ok-push_own.ensures) (c.in_ok-set_emitted.ensures.scope c.args.self.now)

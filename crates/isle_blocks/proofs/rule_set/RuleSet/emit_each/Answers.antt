@@ -14,7 +14,7 @@ returns-clause-emits c =
     let old = c.args.known.now in
     let order = numbers_of c.args.order.now.items in
     let new : Known = record { passed = old.passed; labels = old.labels; emitted = c.closure.new.marks } in
-    emits_closure R (numbers_of c.args.sites.now) (scope_of set old) (scope_of set new) old.emitted.items c.closure.new.marks.items
+    emits_closure R (numbers_of c.args.sites.now) (scope_of set old) (scope_of set new) old.emitted c.closure.new.marks
     (numbers_of c.in_ok-list.list.items) order (numbers_of c.push_each.new.order.items)
     c.requires.lower c.in_ok-list.ensures (λ s. refl) (λ s. refl) (record { passed = λ s. refl; label = λ s. refl })
     (c.in_ok-push_each.ensures ∙ ap (λ (l : List BindingId). order ++ filter R.stands (numbers_of l)) c.deref.ensures.value)

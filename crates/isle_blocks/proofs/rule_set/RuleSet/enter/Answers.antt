@@ -24,7 +24,7 @@ bind_made-requires-clause-site c =
     (subst P c.made_from-made-items.ensures (number_elem items c.loop-made.made-index (id_of 0) c.loop-made-test.true))
 
 pub bind_made-requires-clause-size : goal.bind_made-requires-clause-size
-bind_made-requires-clause-size c = c.loop-made.invariant.same.emitted ∙ ap length c.pass.ensures.others.1 ∙ c.requires.fit.emitted
+bind_made-requires-clause-size c = c.loop-made.invariant.same.emitted ∙ ap length c.in_ok-pass.ensures.others.1 ∙ c.requires.fit.emitted
 
 pub loop-made-preserved : goal.loop-made-preserved
 loop-made-preserved c =
@@ -35,8 +35,8 @@ loop-made-preserved c =
     record {
       entering = λ w e. entering_more (rules_in set) c.args.site.0 w (numbers_of items) i (scope_of set c.pass.new.self) (scope_of set c.loop-made.known)
           (scope_of set c.bind_made.new.known) (let l = c.loop-made-test.true in omega arith)
-          (bound_at (rules_in set) c.args.site.0 w _ _ _ _ (number_get items i) (c.bind_made.ensures.scope w e)) (c.loop-made.invariant.entering w e);
-      same = same_known_trans _ _ _ c.loop-made.invariant.same c.bind_made.ensures.known;
+          (bound_at (rules_in set) c.args.site.0 w _ _ _ _ (number_get items i) (c.in_ok-bind_made.ensures.scope w e)) (c.loop-made.invariant.entering w e);
+      same = same_known_trans _ _ _ c.loop-made.invariant.same c.in_ok-bind_made.ensures.known;
     }
 
 pub returns-clause-scope : goal.returns-clause-scope
@@ -52,8 +52,8 @@ returns-clause-scope c w e =
     let P : List ℕ → Type 0 = λ l. Entering R s w l (scope_of set c.pass.new.self) (scope_of set c.loop-made.known) in
     entered R s w (numbers_of items) (scope_of set old) (scope_of set c.pass.new.self) (scope_of set c.loop-made.known) (tests_apart set)
     (λ x m f g. let Q : List ℕ → Type 0 = λ l. Elem x l in subst Q (sym c.made_from-made-items.ensures) (c.requires.index.is.made_from s x m f g))
-    (passed_path set old c.pass.new.self s c.args.rule w (omega arith) c.pass.ensures.passed c.pass.ensures.others.0 e)
-    (λ y. ap (λ (l : List Bool). get_or l y false) c.pass.ensures.others.1)
+    (passed_path set old c.pass.new.self s c.args.rule w (omega arith) c.in_ok-pass.ensures.passed c.in_ok-pass.ensures.others.0 e)
+    (λ y. ap (λ (l : List Bool). get_or l y false) c.in_ok-pass.ensures.others.1)
     (subst P (take_all c.loop-made.made-index (numbers_of items) (let l = c.loop-made-test.false in omega arith)) (c.loop-made.invariant.entering w e))
 
 pub returns-clause-fit : goal.returns-clause-fit
@@ -61,5 +61,5 @@ returns-clause-fit c =
     let set = c.args.self.now in
     fit_same set (length set.sites) c.pass.new.self c.loop-made.known
     (passed_fit set (length set.sites) c.args.known.now c.pass.new.self c.args.site.0 c.args.rule c.requires.fit c.requires.site
-    c.pass.ensures.passed c.pass.ensures.others.0 c.pass.ensures.others.1 c.requires.wants)
+    c.in_ok-pass.ensures.passed c.in_ok-pass.ensures.others.0 c.in_ok-pass.ensures.others.1 c.requires.wants)
     c.loop-made.invariant.same

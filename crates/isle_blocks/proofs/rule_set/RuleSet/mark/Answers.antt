@@ -1,5 +1,4 @@
 use Rattle.std.proofs.Common.{◌≡◌, ◌<◌, ◌+◌, ◌&&◌, not, ℕ, true, set, sym, ◌∙◌, subst, List, Bool, take, get_or, length, arith}
-use Rattle.std.specs.Global.{Vec}
 use Rattle.isle_trees.specs.Search.{can_bind, is_marked}
 use Rattle.isle_trees.proofs.Basics.{and_both}
 use Rattle.isle_trees.proofs.Building.Lists.{elem_at}
@@ -12,20 +11,19 @@ use Rattle.isle_blocks.specs.Trees.View.{id_of}
 use Rattle.isle_blocks.proofs.Trees.Binding.{number_elem}
 use Rattle.isle_blocks.proofs.Trees.Marked.{marking_passed}
 use Rattle.isle_blocks.proofs.Trees.Order.{same_is, same_itself}
-use Rattle.isle_blocks.proofs.rule_set.RuleSet.mark.Goals.{then-needs_mark, else-needs_mark}
+use Rattle.isle_blocks.proofs.rule_set.RuleSet.mark.Goals.{then-needs_mark+in_ok-set, else-needs_mark}
 use Rattle.isle_blocks.proofs.rule_set.RuleSet.mark.Goals as goal
 
 pub needs_mark-requires-clause-site : goal.needs_mark-requires-clause-site
 needs_mark-requires-clause-site c = c.requires.below _ (number_elem c.args.sites.now c.loop-site.site-index (id_of 0) c.loop-site-test.true)
 
-pub index_mut-requires : goal.index_mut-requires
-index_mut-requires c =
+pub set-requires : goal.set-requires
+set-requires c =
     let below = c.requires.below _ (number_elem c.args.sites.now c.loop-site.site-index (id_of 0) c.loop-site-test.true) in
     let at = c.index.ensures in
     let start = c.requires.size in
     let size = c.loop-site.invariant.size in
-    let v = c.loop-site.marks.ok.0 in
-    omega (arith, below, at, start, size, v)
+    omega (arith, below, at, start, size)
 
 pub loop-site-preserved : goal.loop-site-preserved
 loop-site-preserved c =
@@ -36,20 +34,19 @@ loop-site-preserved c =
     let within : i < length sites = subst (λ (n : ℕ). i < n) (sym (map_length (λ (id : BindingId). id.0) c.args.sites.now)) c.loop-site-test.true in
     let site : ℕ = (get_or c.args.sites.now i (record { 0 = 0 })).0 in
     let at : get_or sites i 0 ≡ site = get_map (λ (id : BindingId). id.0) c.args.sites.now i 0 (record { 0 = 0 }) c.loop-site-test.true in
-    let P : Vec Bool → Type 0 = λ v. Marking R sc (take (i + 1) sites) c.args.marks.now.items v.items in
+    let P : List Bool → Type 0 = λ m. Marking R sc (take (i + 1) sites) c.args.marks.now m in
     let needs : List Bool → ℕ → Bool = λ m y. not (is_marked m y) && can_bind R sc m y in
-    let answer : c.needs_mark.result ≡ needs c.loop-site.marks.items (get_or sites i 0) =
-    subst (λ (m : List Bool). c.needs_mark.result ≡ needs m (get_or sites i 0)) c.deref.ensures.value
-    (subst (λ (y : ℕ). c.needs_mark.result ≡ needs c.deref.result.now y) (sym at) c.needs_mark.ensures) in
+    let answer : c.needs_mark.result ≡ needs c.loop-site.marks (get_or sites i 0) =
+    subst (λ (y : ℕ). c.needs_mark.result ≡ needs c.loop-site.marks y) (sym at) c.needs_mark.ensures in
     let below : get_or sites i 0 < length c.args.self.now.sites = c.requires.below _ (elem_at sites i 0 within) in
     let start = c.requires.size in
     let size = c.loop-site.invariant.size in
     elim c.if-needs_mark.branch [
-      | then-needs_mark w ↦ subst P (sym w.marks-is)
-          (subst (λ (y : ℕ). Marking R sc (take (i + 1) sites) c.args.marks.now.items (set c.loop-site.marks.items y true)) (at ∙ sym w.index.ensures)
-          (marking_set R same_is same_itself sc sites c.args.marks.now.items c.loop-site.marks.items i within c.requires.first c.loop-site.invariant
-          (omega (arith, below, start, size)) (and_both (not (is_marked c.loop-site.marks.items (get_or sites i 0))) _ (sym answer ∙ w.if-needs_mark.true)).1))
+      | then-needs_mark+in_ok-set w ↦ subst P (sym (w.marks-is ∙ w.in_ok-set.ensures))
+          (subst (λ (y : ℕ). Marking R sc (take (i + 1) sites) c.args.marks.now (set c.loop-site.marks y true)) (at ∙ sym w.index.ensures)
+          (marking_set R same_is same_itself sc sites c.args.marks.now c.loop-site.marks i within c.requires.first c.loop-site.invariant
+          (omega (arith, below, start, size)) (and_both (not (is_marked c.loop-site.marks (get_or sites i 0))) _ (sym answer ∙ w.if-needs_mark.true)).1))
       | else-needs_mark w ↦ subst P (sym w.marks-is)
-          (marking_passed R same_is same_itself sc sites c.args.marks.now.items c.loop-site.marks.items i within c.requires.first c.loop-site.invariant
+          (marking_passed R same_is same_itself sc sites c.args.marks.now c.loop-site.marks i within c.requires.first c.loop-site.invariant
           (sym answer ∙ w.if-needs_mark.false))
     ]

@@ -1,4 +1,4 @@
-use Rattle.std.proofs.Common.{◌≡◌, Bool, List, ap, sym, subst, length, arith, inl, inr}
+use Rattle.std.proofs.Common.{◌≡◌, ap, sym, subst, length, arith, inl, inr}
 use Rattle.isle_trees.specs.Scopes.{Scope, on_equal}
 use Rattle.isle_trees.specs.Search.{AreSound, IsSamePath}
 use Rattle.isle_blocks.specs.declared.constraint.Constraint.{Constraint}
@@ -32,7 +32,7 @@ push_rest-requires-clause-marked c =
     let mid = scope_of c.args.self.now c.emit_each.new.known in
     let emits = c.in_ok-emit_each.ensures.emits in
     let path : IsSamePath sc mid = path_bound sc mid emits.all emits.ending in
-    rest_marked (rules_in c.args.self.now) c.args.place.left.items c.args.rest.items sc mid (on_equal c.args.a.0 c.args.b.0) c.args.place.marks.items path
+    rest_marked (rules_in c.args.self.now) c.args.place.left.items c.args.rest.items sc mid (on_equal c.args.a.0 c.args.b.0) c.args.place.marks path
     c.requires.split.rest_is c.requires.split.open_is.marked
 
 pub join-requires-clause-a : goal.join-requires-clause-a
@@ -41,7 +41,7 @@ join-requires-clause-a c =
     let w = test_within c.args.self.now c.args.place t c.args.chosen.items c.args.rest.items c.requires.split c.requires.set in
     let p = w.0 in
     let f = c.requires.split.open_is.fit.labels in
-    let e : length c.emit_each.new.known.labels.items ≡ length c.args.place.known.labels.items = ap length c.in_ok-emit_each.ensures.known.labels in
+    let e : length c.emit_each.new.known.labels ≡ length c.args.place.known.labels = ap length c.in_ok-emit_each.ensures.known.labels in
     omega (arith, p, f, e)
 
 pub join-requires-clause-b : goal.join-requires-clause-b
@@ -50,7 +50,7 @@ join-requires-clause-b c =
     let w = test_within c.args.self.now c.args.place t c.args.chosen.items c.args.rest.items c.requires.split c.requires.set in
     let p = w.1 in
     let f = c.requires.split.open_is.fit.labels in
-    let e : length c.emit_each.new.known.labels.items ≡ length c.args.place.known.labels.items = ap length c.in_ok-emit_each.ensures.known.labels in
+    let e : length c.emit_each.new.known.labels ≡ length c.args.place.known.labels = ap length c.in_ok-emit_each.ensures.known.labels in
     omega (arith, p, f, e)
 
 pub available-requires-clause-sound : goal.available-requires-clause-sound
@@ -61,11 +61,9 @@ available-requires-clause-sound c =
     let mid = scope_of set c.emit_each.new.known in
     let emits = c.in_ok-emit_each.ensures.emits in
     let path : IsSamePath sc mid = path_bound sc mid emits.all emits.ending in
-    let S : Scope Constraint → Type 0 = λ x. AreSound R x c.args.place.marks.items in
-    let M : List Bool → Type 0 = λ m. AreSound R (scope_of set c.join.new.self) m in
-    subst M (sym c.deref-2.ensures.value)
-    (subst S (sym (c.in_ok-join.ensures.scope set))
-    (sound_join R mid c.args.a.0 c.args.b.0 c.args.place.marks.items (sound_path R sc mid c.args.place.marks.items path c.requires.split.open_is.marked.sound)))
+    let S : Scope Constraint → Type 0 = λ x. AreSound R x c.args.place.marks in
+    subst S (sym (c.in_ok-join.ensures.scope set))
+    (sound_join R mid c.args.a.0 c.args.b.0 c.args.place.marks (sound_path R sc mid c.args.place.marks path c.requires.split.open_is.marked.sound))
 
 pub push_body-requires-clause-order : goal.push_body-requires-clause-order
 push_body-requires-clause-order c =

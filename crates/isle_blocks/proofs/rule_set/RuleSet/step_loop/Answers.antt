@@ -1,4 +1,4 @@
-use Rattle.std.proofs.Common.{◌≡◌, ◌<◌, ℕ, Bool, List, Some, ap, sym, subst, ◌∙◌, length, arith, get_or, rules}
+use Rattle.std.proofs.Common.{◌≡◌, ◌<◌, ℕ, Some, ap, sym, subst, ◌∙◌, length, arith, get_or, rules}
 use Rattle.isle_trees.specs.Rules.{one_value}
 use Rattle.isle_trees.specs.Scopes.{Scope, on_loop}
 use Rattle.isle_trees.specs.Search.{AreSound, IsSamePath}
@@ -36,9 +36,9 @@ pub release-requires-2 : goal.release-requires-2
 release-requires-2 c =
     let l = test_within c.args.self.now c.args.place (on_loop c.args.site.0) c.args.chosen.items c.args.rest.items c.requires.split c.requires.set in
     let f = c.requires.split.open_is.fit.emitted in
-    let g = c.release.ensures.size in
+    let g = c.in_ok-release.ensures.size in
     let h = c.in_ok-emit.ensures.known.emitted in
-    let e : length c.in_ok-last.last.emitted.items ≡ length c.emit.new.known.emitted.items = ap length c.in_ok-last.ensures.emitted in
+    let e : length c.in_ok-last.last.emitted ≡ length c.emit.new.known.emitted = ap length c.in_ok-last.ensures.emitted in
     omega (arith, l, f, g, h, e)
 
 pub push_rest-requires-clause-order : goal.push_rest-requires-clause-order
@@ -57,10 +57,10 @@ push_rest-requires-clause-marked c =
     let mid = scope_of set c.emit.new.known in
     let last = scope_of set c.release-2.new.self in
     let copy = copy_scope set c.in_ok-last.last c.emit.new.known c.in_ok-last.ensures in
-    let end = released_copy (scope_of set c.in_ok-last.last) mid last c.args.site.0 copy (c.release-2.ensures.scope set) in
+    let end = released_copy (scope_of set c.in_ok-last.last) mid last c.args.site.0 copy (c.in_ok-release-2.ensures.scope set) in
     let emits = c.in_ok-emit.ensures.emits in
-    let path : IsSamePath sc last = path_released sc freed mid last c.args.site.0 emits.all (c.release.ensures.scope set) emits.ending end in
-    rest_marked (rules_in set) c.args.place.left.items c.args.rest.items sc last (on_loop c.args.site.0) c.args.place.marks.items path
+    let path : IsSamePath sc last = path_released sc freed mid last c.args.site.0 emits.all (c.in_ok-release.ensures.scope set) emits.ending end in
+    rest_marked (rules_in set) c.args.place.left.items c.args.rest.items sc last (on_loop c.args.site.0) c.args.place.marks path
     c.requires.split.rest_is c.requires.split.open_is.marked
 
 pub enter-requires-clause-site : goal.enter-requires-clause-site
@@ -84,18 +84,17 @@ available-requires-clause-sound c =
     let freed = scope_of set c.release.new.self in
     let mid = scope_of set c.emit.new.known in
     let emits = c.in_ok-emit.ensures.emits in
-    let path : IsSamePath sc mid = path_freed sc freed mid c.args.site.0 emits.all (c.release.ensures.scope set) emits.ending in
-    let untested = loop_untested sc freed mid c.args.site.0 emits.all (c.release.ensures.scope set) emits.ending c.requires.split.best.ready.1 in
-    let S : Scope Constraint → Type 0 = λ x. AreSound R x c.args.place.marks.items in
-    let M : List Bool → Type 0 = λ m. AreSound R (scope_of set c.enter.new.known) m in
+    let path : IsSamePath sc mid = path_freed sc freed mid c.args.site.0 emits.all (c.in_ok-release.ensures.scope set) emits.ending in
+    let untested = loop_untested sc freed mid c.args.site.0 emits.all (c.in_ok-release.ensures.scope set) emits.ending c.requires.split.best.ready.1 in
+    let S : Scope Constraint → Type 0 = λ x. AreSound R x c.args.place.marks in
     let first = first_chosen set c.args.place (on_loop c.args.site.0) c.args.chosen.items c.args.rest.items c.requires.split in
     let some : 0 < length c.args.chosen.items = search rules in
     let at : c.index.result.now ≡ get_or c.args.chosen.items 0 0 = c.index.ensures ∙ get_any c.args.chosen.items 0 c.index.result.now 0 some in
     let want = loop_wants set c.args.place c.args.site.0 c.args.chosen.items c.args.rest.items c.requires.split (get_or c.args.chosen.items 0 0) first in
-    let inner = c.enter.ensures.scope one_value (subst (λ (i : ℕ). (rules_in set).at i c.args.site.0 ≡ Some one_value) (sym at) want) in
-    subst M (sym c.deref-2.ensures.value) (subst S (sym inner)
-    (sound_inside R mid c.args.site.0 one_value c.args.place.marks.items untested
-    (sound_path R sc mid c.args.place.marks.items path c.requires.split.open_is.marked.sound)))
+    let inner = c.in_ok-enter.ensures.scope one_value (subst (λ (i : ℕ). (rules_in set).at i c.args.site.0 ≡ Some one_value) (sym at) want) in
+    subst S (sym inner)
+    (sound_inside R mid c.args.site.0 one_value c.args.place.marks untested
+    (sound_path R sc mid c.args.place.marks path c.requires.split.open_is.marked.sound))
 
 pub push_body-requires-clause-order : goal.push_body-requires-clause-order
 push_body-requires-clause-order c =
@@ -111,14 +110,14 @@ returns c =
     let mid = scope_of set c.emit.new.known in
     let last = scope_of set c.release-2.new.self in
     let copy = copy_scope set c.in_ok-last.last c.emit.new.known c.in_ok-last.ensures in
-    let end = released_copy (scope_of set c.in_ok-last.last) mid last c.args.site.0 copy (c.release-2.ensures.scope set) in
+    let end = released_copy (scope_of set c.in_ok-last.last) mid last c.args.site.0 copy (c.in_ok-release-2.ensures.scope set) in
     let first = first_chosen set c.args.place (on_loop c.args.site.0) c.args.chosen.items c.args.rest.items c.requires.split in
     let some : 0 < length c.args.chosen.items = search rules in
     let at : c.index.result.now ≡ get_or c.args.chosen.items 0 0 = c.index.ensures ∙ get_any c.args.chosen.items 0 c.index.result.now 0 some in
     let want = loop_wants set c.args.place c.args.site.0 c.args.chosen.items c.args.rest.items c.requires.split (get_or c.args.chosen.items 0 0) first in
-    let inner = c.enter.ensures.scope one_value (subst (λ (i : ℕ). (rules_in set).at i c.args.site.0 ≡ Some one_value) (sym at) want) in
+    let inner = c.in_ok-enter.ensures.scope one_value (subst (λ (i : ℕ). (rules_in set).at i c.args.site.0 ≡ Some one_value) (sym at) want) in
     moved_loop set c.args.place c.args.chosen.items c.args.rest.items c.args.site c.value.result (scope_of set c.release.new.self) mid
     (scope_of set c.enter.new.known) last (numbers_of c.new-order.result.items) c.emit.new.order.items c.loop_node.result c.args.work.now.items
     c.push_rest.new.work.items c.push_body.new.work.items c.args.nodes.now.items c.push.new.self.items c.requires.set c.requires.split
-    (c.release.ensures.scope set) c.in_ok-emit.ensures.emits (ap numbers_of c.new-order.ensures.items) c.value.ensures c.loop_node.ensures
+    (c.in_ok-release.ensures.scope set) c.in_ok-emit.ensures.emits (ap numbers_of c.new-order.ensures.items) c.value.ensures c.loop_node.ensures
     c.in_ok-push.ensures.items end c.in_ok-push_rest.ensures inner c.in_ok-push_body.ensures

@@ -32,7 +32,7 @@ push_rest-requires-clause-marked c =
     let mid = scope_of c.args.self.now c.emit.new.known in
     let emits = c.in_ok-emit.ensures.emits in
     let path : IsSamePath sc mid = path_bound sc mid emits.all emits.ending in
-    rest_marked (rules_in c.args.self.now) c.args.place.left.items c.args.rest.items sc mid (on_match c.args.site.0) c.args.place.marks.items path
+    rest_marked (rules_in c.args.self.now) c.args.place.left.items c.args.rest.items sc mid (on_match c.args.site.0) c.args.place.marks path
     c.requires.split.rest_is c.requires.split.open_is.marked
 
 pub by_test-requires-clause-order : goal.by_test-requires-clause-order
@@ -57,7 +57,7 @@ returns c =
     (record {
       fit = fit_same set (length set.sites) o.known c.emit.new.known split.open_is.fit c.in_ok-emit.ensures.known;
       size = split.open_is.size;
-      sound = sound_path R sc mid o.marks.items path split.open_is.marked.sound;
+      sound = sound_path R sc mid o.marks path split.open_is.marked.sound;
       site = test_within set o t c.args.chosen.items c.args.rest.items split c.requires.set;
       untested = still_untested sc mid emits.all c.args.site.0 emits.ending split.best.ready.1;
       grouped = c.in_ok-group.ensures.grouped;

@@ -5,4 +5,4 @@ use Rattle.isle_blocks.proofs.serializer.binding.gather.Given as goal
 
 abbrev pub invariant-loop-site : goal.invariant-loop-site
 invariant-loop-site l =
-    Gathers (numbers_of (take l.site-index l.sites)) l.initial.marks.items l.marks.items (numbers_of l.initial.list.items) (numbers_of l.list.items)
+    Gathers (numbers_of (take l.site-index l.sites)) l.initial.marks l.marks (numbers_of l.initial.list.items) (numbers_of l.list.items)

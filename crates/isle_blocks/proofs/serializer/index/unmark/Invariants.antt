@@ -6,7 +6,7 @@ use Rattle.isle_blocks.proofs.serializer.index.unmark.Given as goal
 
 abbrev pub invariant-loop-site : goal.invariant-loop-site
 invariant-loop-site l = record {
-  size : length l.marks.items ≡ length l.initial.marks.items;
-  gone : (x : ℕ) → Elem x (take l.site-index (numbers_of l.sites)) → is_marked l.marks.items x ≡ true → ⊥;
-  old : (x : ℕ) → is_marked l.marks.items x ≡ true → is_marked l.initial.marks.items x ≡ true;
+  size : length l.marks ≡ length l.initial.marks;
+  gone : (x : ℕ) → Elem x (take l.site-index (numbers_of l.sites)) → is_marked l.marks x ≡ true → ⊥;
+  old : (x : ℕ) → is_marked l.marks x ≡ true → is_marked l.initial.marks x ≡ true;
 }
