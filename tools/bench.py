@@ -237,7 +237,7 @@ def all_trees(bench):
         measure_trees(f"{number:,} rules of a term", bench, typed_rules(number), 1)
     for number in (4_000, 8_000, 16_000):
         measure_trees(f"{number:,} constants", bench, constants(number), 1)
-    # The time grows with the square of a path's tests, and with the cube of the number of equal sites.
+    # The time grows with the tests that can be made at once at each step of a path, and with the cube of the number of equal sites.
     for structs in (4, 8, 16):
         measure_trees(f"a rule of {structs * 256 + 1:,} tests", bench, path(structs, 255), 1)
     measure_trees("a rule of 60 equal arguments of 30 fields", bench, equal_arguments(60, 30), 1)

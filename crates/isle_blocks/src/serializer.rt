@@ -18,7 +18,9 @@ mod block;
 mod groups;
 mod index;
 mod known;
+mod marking;
 mod node;
+mod ready;
 mod search;
 mod views;
 mod wants;
@@ -69,6 +71,7 @@ fn nodes_of(alloc: Global, set: &RuleSet) -> Result<Vec<Node>, AllocError>
     let none = vec![in alloc; false; sites]?;
     let index = Index::new(alloc, set)?;
     let marks = set.available(alloc, &index, &left, &known, &none)?;
-    let nodes = set.lay_out(alloc, &index, left, known, marks)?;
+    let ready = set.all_ready(alloc, &index, &known, &marks)?;
+    let nodes = set.lay_out(alloc, &index, left, known, marks, ready)?;
     Ok(nodes)
 }

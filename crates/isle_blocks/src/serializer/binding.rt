@@ -24,7 +24,7 @@ use crate::serializer::known::{Known, is_set};
 use std::alloc::{AllocError, Global};
 
 /// Adds the sites that aren't marked to a list, and marks them.
-fn gather(
+pub(crate) fn gather(
     sites: &[BindingId],
     marks: &mut Vec<bool>,
     list: &mut Vec<BindingId>,

@@ -14,7 +14,7 @@ use std::alloc::{AllocError, Global};
 use std::mem::swap;
 
 /// What a rule may need of its sites: a test of one, two that are equal, or one value of a multi call.
-#[derive(Clone, Copy, PartialEq, Eq, PartialOrd, Ord)]
+#[derive(Clone, Copy)]
 pub(crate) enum Test {
     Match(BindingId),
     Equal(BindingId, BindingId),
@@ -55,6 +55,15 @@ pub(crate) fn is_set(marks: &[bool], site: BindingId) -> bool
         Some(mark) => *mark,
         None => false,
     }
+}
+
+/// A site is marked.
+pub(crate) fn set_mark(marks: &mut Vec<bool>, site: BindingId) -> Result<(), AllocError>
+    requires { site.0 < length marks.old.items }
+    ensures { IfOk result (λ _. marks.new.items ≡ slice_set marks.old.items site.0 true) }
+{
+    marks[site.index()] = true;
+    Ok(())
 }
 
 /// Whether all of these sites are marked.
