@@ -239,7 +239,7 @@ def all_trees(bench):
         measure_trees(f"{number:,} constants", bench, constants(number), 1)
     for depth in (225, 450, 900):
         measure_trees(f"a rule of {64 * depth:,} nested tests", bench, extractor_chain(4, depth, 16), 1)
-    # The time grows with the cube of the number of equal sites.
+    # The time grows with the tests that can be made at once at each step of a path, and with the cube of the number of equal sites.
     for structs in (4, 8, 16):
         measure_trees(f"a rule of {structs * 256 + 1:,} tests", bench, path(structs, 255), 1)
     measure_trees("a rule of 60 equal arguments of 30 fields", bench, equal_arguments(60, 30), 1)

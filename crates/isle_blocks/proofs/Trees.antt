@@ -43,10 +43,10 @@ pub mod Elaborated
 pub mod Bags
 -- Worked cases.
 mod Cases
--- The tests that rules offer, as code lists them.
-pub mod Offered
 -- A list of sites is gone over, some of which are marked already.
 pub mod Marked
+-- What is marked from step to step.
+pub mod Marking
 -- The best test of all that rules have.
 pub mod Considered
 -- What makes a site, by the rule that opens it.

@@ -15,11 +15,13 @@ pub mod ShownCode
 pub mod Places
 -- Steps and arms of blocks.
 pub mod Views
+-- What is marked from step to step, as tests pass.
+pub mod Marking
 -- What the builder of trees knows, seen as the scopes and tests of the theory.
 pub mod Builder
 -- Lists that are kept in rows.
 pub mod Tables
--- How the best test is found among equalities.
+-- How the best test is found.
 pub mod Best
 -- What is still to be laid out of a tree, and what laying out one node does to it.
 pub mod Work

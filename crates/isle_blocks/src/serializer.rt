@@ -18,7 +18,9 @@ mod block;
 mod groups;
 mod index;
 mod known;
+mod marking;
 mod node;
+mod ready;
 mod search;
 mod table;
 mod views;
@@ -29,10 +31,9 @@ use crate::rule_set::RuleSet;
 pub use block::Block;
 use groups::numbers;
 use index::Index;
-use known::Known;
+use known::{Known, no_marks};
 use node::Node;
 use std::alloc::{AllocError, Global};
-use table::Table;
 pub use views::{Arms, ControlFlow, EvalStep, MatchArm, Steps};
 
 /// The tree of tests of a rule set. A path of tests takes no native stack, however long it is. Want of memory leaves nothing.
@@ -68,9 +69,10 @@ fn nodes_of(alloc: Global, set: &RuleSet) -> Result<Vec<Node>, AllocError>
     let left = set.in_order(numbers(alloc, set.rules().len())?)?;
     let sites = set.site_count();
     let known = Known::start(alloc, sites)?;
-    let none = Table::from_slice(alloc, &vec![in alloc; false; sites]?)?;
+    let none = no_marks(alloc, sites)?;
     let index = Index::new(alloc, set)?;
     let marks = set.available(&index, &left, &known, &none)?;
-    let nodes = set.lay_out(alloc, &index, left, known, marks)?;
+    let ready = set.all_ready(alloc, &index, &known, &marks)?;
+    let nodes = set.lay_out(alloc, &index, left, known, marks, ready)?;
     Ok(nodes)
 }

@@ -35,6 +35,12 @@ number_elem [] i d l = absurd (omega arith)
 number_elem (y ∷ ys) zero d l = inl refl
 number_elem (y ∷ ys) (suc i) d l = inr (number_elem ys i d (omega arith))
 
+-- a number is that of a site
+pub number_of : (s : ℕ) (xs : List BindingId) → Elem s (numbers_of xs) → (x : BindingId) × Elem x xs × (x.0 ≡ s)
+number_of s [] m = absurd m
+number_of s (y ∷ ys) (inl e) = (y, inl refl, sym e)
+number_of s (y ∷ ys) (inr m) = let rest = number_of s ys m in (rest.0, inr rest.1, rest.2)
+
 pub numbers_more : (xs : List BindingId) (i : ℕ) (d : BindingId) → i < length xs
     → numbers_of (take (i + 1) xs) ≡ numbers_of (take i xs) ++ (get_or xs i d).0 ∷ []
 numbers_more xs i d l = numbers_push (take (i + 1) xs) (take i xs) (get_or xs i d) (take_more xs i d l)

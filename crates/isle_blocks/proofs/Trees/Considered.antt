@@ -1,33 +1,27 @@
--- The best test of all that rules have, where equalities are gone over class by class.
-use Rattle.std.proofs.Common.{◌≡◌, inl, inr, ℕ, ◌+◌, ◌<◌, ◌≤◌, ℤ, ◌≤ℤ◌, ◌<ℤ◌, suc, zero, map, Contains, ◌&&◌, nat_lt, List, [], ◌∷◌, Bool, true, false, Option, Some, None, length, refl, sym, ap, subst, arith, get_or, take}
+-- The best test of all that rules have, where sites are gone over, and equalities class by class.
+use Rattle.std.proofs.Common.{◌≡◌, inl, inr, ℕ, ◌+◌, ◌<◌, ◌≤◌, ℤ, ◌≤ℤ◌, ◌<ℤ◌, suc, zero, ◌&&◌, nat_lt, List, [], ◌∷◌, Bool, true, false, Option, Some, None, length, refl, sym, ap, subst, arith, get_or, take}
 use Rattle.std.proofs.lemmas.Bool.{ltb-true}
 use Rattle.std.proofs.lemmas.Int.{ints}
 use Rattle.isle_trees.specs.Builds.{key, state, IsAtMost}
 use Rattle.isle_trees.specs.Ranking.{Ranked, IsNoBetter, key_with, may_win}
-use Rattle.isle_trees.specs.Rules.{Rules, Elem}
-use Rattle.isle_trees.specs.Scopes.{Scope, IsReady, Test, on_match, on_equal, on_loop, has_test, counted}
-use Rattle.isle_trees.specs.Search.{AreMarked, AreOffers, AreSound, IsInOrder, is_open, is_ready, top}
-use Rattle.isle_trees.proofs.Basics.{JoinsBothWays, and_both, and_fails, clash, contains_elem, elem_contains, true_or}
+use Rattle.isle_trees.specs.Rules.{Want, has, one_value, Rules, Elem}
+use Rattle.isle_trees.specs.Scopes.{Scope, Test, on_match, on_equal, on_loop, has_test, counted}
+use Rattle.isle_trees.specs.Search.{AreMarked, IsInOrder, is_open, is_ready, top}
+use Rattle.isle_trees.proofs.Basics.{JoinsBothWays, and_both, and_fails, clash, contains_elem, one_of, test_of, true_or}
 use Rattle.isle_trees.proofs.Building.Best.{at_most_trans, not_above}
 use Rattle.isle_trees.proofs.Building.Lists.{last_or, less_or, zero_or}
-use Rattle.isle_trees.proofs.Building.Offers.{IsConsidered, IsSearched, elem_map, map_elem, ready_full, ready_sound, top_has}
+use Rattle.isle_trees.proofs.Building.Offers.{IsSearched, ready_full, top_has}
 use Rattle.isle_trees.proofs.Building.Search.{precedes_most}
 use Rattle.isle_blocks.specs.declared.ids.BindingId.{BindingId}
 use Rattle.isle_blocks.specs.declared.constraint.Constraint.{Constraint}
 use Rattle.isle_blocks.specs.RuleSets.{RulesOverSites}
-use Rattle.isle_blocks.specs.Trees.Best.{AreClassesPassed, AreEqualitiesPassed, IsRowPassed, IsRulePassed, IsStillRanked, unjoined}
+use Rattle.isle_blocks.specs.Trees.Best.{AreClassesPassed, AreEqualitiesPassed, AreSitesPassed, IsRowPassed, IsRulePassed, IsStillRanked}
+use Rattle.isle_blocks.specs.Rows.{numbers_of}
 use Rattle.isle_blocks.specs.Trees.Builder.{AreClasses, rules_in}
+use Rattle.isle_blocks.specs.Trees.Marking.{AreReady}
 use Rattle.isle_blocks.specs.Trees.View.{id_of}
 use Rattle.isle_blocks.proofs.ClosedEqualities.{in_one}
-
--- rules stand in the same order without their equalities
-pub order_unjoined : {C V : Type 0} (R : Rules C V) (left : List ℕ) → IsInOrder R left → IsInOrder (unjoined R) left
-order_unjoined R [] o = tt
-order_unjoined R (i ∷ is) o = (o.0, order_unjoined R is o.1)
-
-pub top_unjoined : {C V : Type 0} (R : Rules C V) (left : List ℕ) → top (unjoined R) left ≡ top R left
-top_unjoined R [] = refl
-top_unjoined R (i ∷ is) = refl
+use Rattle.isle_blocks.proofs.Trees.Binding.{number_of}
 
 -- an equality of bound sites has a first site that is bound
 state_first : {C : Type 0} (sc : Scope C) (a b : ℕ) → state sc (on_equal a b) ≤ state sc (on_equal a a)
@@ -103,18 +97,11 @@ rule_passed set left sc marks best i classes listed h a b j r =
     let one = in_one classes (id_of a) (id_of b) (listed (id_of a) (id_of b) j) in
     h one.set (contains_elem one.set classes one.stands) (id_of a) (contains_elem (id_of a) one.set one.first) (id_of b) (contains_elem (id_of b) one.set one.second) r
 
--- what is offered can be made
-pub offer_ready : {C V : Type 0} {A : Type 0} (R : Rules C V) (left : List ℕ) (sc : Scope C) (marks : List Bool) (f : A → Test) (offers ds : List A)
-    → AreSound R sc marks → AreOffers (unjoined R) left sc marks (map f offers) → ((x : A) → Contains ds x → Contains offers x) → (x : A)
-    → Contains ds x → IsReady R sc (f x)
-offer_ready R left sc marks f offers ds h o a x m =
-    ready_sound R sc marks (f x) h (o.ready (f x) (elem_map f x offers (contains_elem x offers (a x m))))
-
--- all tests are searched, where those of one site are considered and the equalities passed
-pub searched_all : {C V : Type 0} (R : Rules C V) (left : List ℕ) (sc : Scope C) (marks : List Bool) (offers : List Test) (best : Option Ranked)
-    → JoinsBothWays R → IsInOrder R left → AreMarked R left sc marks → AreOffers (unjoined R) left sc marks offers
-    → IsConsidered R left sc offers best → AreEqualitiesPassed R left sc marks best → IsSearched R left sc best
-searched_all R left sc marks offers best w o h f c p t r = elim (zero_or (length (counted R t left))) [
+-- all tests are searched, where those of the sites that can be tested and the equalities are passed
+pub searched_all : {C V : Type 0} (R : Rules C V) (left : List ℕ) (sc : Scope C) (marks : List Bool) (sites : List BindingId) (old new : Option Ranked)
+    → JoinsBothWays R → IsInOrder R left → AreMarked R left sc marks → AreReady R left sc marks (numbers_of sites)
+    → AreSitesPassed R left sc marks old sites → IsStillRanked R left sc old new → AreEqualitiesPassed R left sc marks new → IsSearched R left sc new
+searched_all {C} R left sc marks sites old new w o h listed passed still equalities t r = elim (zero_or (length (counted R t left))) [
   | inl e ↦ inr e
   | inr l ↦
       let one = top_has R left t o l in
@@ -122,23 +109,19 @@ searched_all R left sc marks offers best w o h f c p t r = elim (zero_or (length
       inl (by t (one.0) (one.1) (one.2) (one.3) made)
 ]
   where
-    in_top : (i : ℕ) → top R left ≤ℤ R.prio i → top (unjoined R) left ≤ℤ R.prio i
-    in_top i q = let P : ℤ → Type 0 = λ k. k ≤ℤ R.prio i in subst P (sym (top_unjoined R left)) q
+    site : (i s : ℕ) (v : Want C) → Elem i left → R.at i s ≡ Some v → is_open sc marks s ≡ true → (x : BindingId) × Elem x sites × (x.0 ≡ s)
+    site i s v m e f = number_of s sites (listed i s v m e f)
 
-    by : (t : Test) (i : ℕ) → Elem i left → top R left ≤ℤ R.prio i → has_test R i t ≡ true → is_ready sc marks t ≡ true → IsNoBetter R left sc best t
-    by (on_match s) i m q a e = c (on_match s) (f.full i (on_match s) m (in_top i q) a e)
-    by (on_loop s) i m q a e = c (on_loop s) (f.full i (on_loop s) m (in_top i q) a e)
-    by (on_equal a b) i m q j e = p i m q a b j e
-
--- the same, once what is offered was considered
-pub all_searched : {C V : Type 0} {A : Type 0} (R : Rules C V) (left : List ℕ) (sc : Scope C) (marks : List Bool) (f : A → Test) (offers ds : List A)
-    (old new : Option Ranked) → JoinsBothWays R → IsInOrder R left → AreMarked R left sc marks → AreOffers (unjoined R) left sc marks (map f offers)
-    → ((x : A) → Contains offers x → Contains ds x) → ((x : A) → Contains ds x → IsNoBetter R left sc old (f x)) → IsStillRanked R left sc old new
-    → AreEqualitiesPassed R left sc marks new → IsSearched R left sc new
-all_searched R left sc marks f offers ds old new w o h p keeps k still passed =
-    searched_all R left sc marks (map f offers) new w o h p
-    (λ t m.
-    let one = map_elem f t offers m in
-    let P : Test → Type 0 = λ q. IsNoBetter R left sc new q in
-    subst P (sym (one.2)) (still.kept (f (one.0)) (k (one.0) (keeps (one.0) (elem_contains (one.0) offers (one.1))))))
-    passed
+    by : (t : Test) (i : ℕ) → Elem i left → top R left ≤ℤ R.prio i → has_test R i t ≡ true → is_ready sc marks t ≡ true → IsNoBetter R left sc new t
+    by (on_match s) i m q a e =
+        let (c, f) = test_of (R.at i s) a in
+        let (x, n, same) = site i s (has c) m f e in
+        let P : ℕ → Type 0 = λ y. IsNoBetter R left sc old (on_match y) in
+        let Q : ℕ → Type 0 = λ y. is_open sc marks y ≡ true in
+        still.kept (on_match s) (subst P same ((passed x n).by_match (subst Q (sym same) e)))
+    by (on_loop s) i m q a e =
+        let (x, n, same) = site i s one_value m (one_of (R.at i s) a) e in
+        let P : ℕ → Type 0 = λ y. IsNoBetter R left sc old (on_loop y) in
+        let Q : ℕ → Type 0 = λ y. is_open sc marks y ≡ true in
+        still.kept (on_loop s) (subst P same ((passed x n).by_loop (subst Q (sym same) e)))
+    by (on_equal a b) i m q j e = equalities i m q a b j e

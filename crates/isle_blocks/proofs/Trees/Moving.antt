@@ -32,7 +32,7 @@ pub moved_match : (set : RulesOverSites) (o arms : Open) (chosen rest : List ℕ
     (binds : List BindingId) (node : Node) (w0 w1 w2 : List Task) (n0 n1 : List Node)
     → IsSplit set o (on_match s.0) chosen rest → Emits (rules_in set) (scope_of set o.known) (s.0 ∷ []) old (numbers_of binds) after → old ≡ []
     → node ≡ nodes.Match binds s → n1 ≡ n0 ++ node ∷ [] → WantsBlock set rest after w0 w1
-    → AreArms set s.0 arms.left.items arms.known arms.marks → scope_of set arms.known ≡ after → IsSameBag chosen arms.left.items
+    → AreArms set s.0 arms.left.items arms.known arms.marks (numbers_of arms.ready.items) → scope_of set arms.known ≡ after → IsSameBag chosen arms.left.items
     → w2 ≡ w1 ++ tasks.Arms s 0 arms ∷ [] → Moves set (tasks.Block o) w0 w2 n0 n1
 moved_match set o arms chosen rest s after old binds node w0 w1 w2 n0 n1 split emits none is e want fan at same f =
     let R = rules_in set in

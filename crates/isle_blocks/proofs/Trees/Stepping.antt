@@ -29,13 +29,17 @@ module _ (set : RulesOverSites) (o : Open) (t : Test) (chosen rest : List ℕ) (
   pub rest_ordered : IsInOrder (rules_in set) rest
   rest_ordered = others_in_order (rules_in set) t o.left.items rest split.rest_is split.open_is.order
 
+  pub chosen_left : (i : ℕ) → Elem i chosen → Elem i o.left.items
+  chosen_left i m = (from_filter (counts (rules_in set) t o.left.items) o.left.items i (subst (λ (l : List ℕ). Elem i l) split.chosen_is m)).0
+
   pub chosen_rules : AreRules set chosen
-  chosen_rules i m =
-      split.open_is.rules i
-      ((from_filter (counts (rules_in set) t o.left.items) o.left.items i (subst (λ (l : List ℕ). Elem i l) split.chosen_is m)).0)
+  chosen_rules i m = split.open_is.rules i (chosen_left i m)
+
+  pub rest_left : (i : ℕ) → Elem i rest → Elem i o.left.items
+  rest_left i m = others_left (rules_in set) t o.left.items i (subst (λ (l : List ℕ). Elem i l) split.rest_is m)
 
   pub rest_rules : AreRules set rest
-  rest_rules i m = split.open_is.rules i (others_left (rules_in set) t o.left.items i (subst (λ (l : List ℕ). Elem i l) split.rest_is m))
+  rest_rules i m = split.open_is.rules i (rest_left i m)
 
 -- what a copy is released to
 pub released_copy : (copy mid last : Scope Constraint) (s : ℕ) → copy ≡ mid → last ≡ release copy s → last ≡ release mid s
@@ -67,8 +71,12 @@ wanted_test set i s c e =
     rw at (test_want (has_loop s r) (test_at s r) c t)
 
 -- rules of a group from a place on are of the group
+pub run_left : (set : RulesOverSites) (s start : ℕ) (c : Constraint) (group rules : List ℕ) → rules ≡ wanting (rules_in set) s c (drop start group)
+    → (i : ℕ) → Elem i rules → Elem i group
+run_left set s start c group rules e i m =
+    drop_elem i start group
+    ((from_filter (λ j. is_want (rules_in set).tests (has c) ((rules_in set).at j s)) (drop start group) i (subst (λ (l : List ℕ). Elem i l) e m)).0)
+
 pub run_rules : (set : RulesOverSites) (s start : ℕ) (c : Constraint) (group rules : List ℕ) → rules ≡ wanting (rules_in set) s c (drop start group)
     → AreRules set group → AreRules set rules
-run_rules set s start c group rules e h i m =
-    h i (drop_elem i start group
-    ((from_filter (λ j. is_want (rules_in set).tests (has c) ((rules_in set).at j s)) (drop start group) i (subst (λ (l : List ℕ). Elem i l) e m)).0))
+run_rules set s start c group rules e h i m = h i (run_left set s start c group rules e i m)

@@ -6,7 +6,7 @@ use Rattle.isle_trees.specs.Rules.{rights}
 use Rattle.isle_trees.specs.Scopes.{Scope}
 use Rattle.isle_trees.specs.Builds.{Builds, BuildsArms, Returns, BindsEach}
 use Rattle.isle_trees.specs.Counting.{weight}
-use Rattle.isle_trees.specs.Search.{AreMarked, AreSound, IsInOrder}
+use Rattle.isle_trees.specs.Search.{AreMarked, IsInOrder}
 use Rattle.isle_trees.proofs.Asking.{elem_append}
 use Rattle.isle_trees.proofs.Building.InOrder.{returns_more}
 use Rattle.isle_trees.proofs.Building.Scopes.{scope_same}
@@ -20,6 +20,8 @@ use Rattle.isle_blocks.specs.declared.serializer.work.Task.{Task}
 use Rattle.isle_blocks.specs.declared.serializer.work.Task.TheVariants as tasks
 use Rattle.isle_blocks.specs.RuleSets.{RulesOverSites}
 use Rattle.isle_blocks.specs.Trees.Nodes.{Piece, first_arms, first_steps, given, later, put, read}
+use Rattle.isle_blocks.specs.Rows.{numbers_of}
+use Rattle.isle_blocks.specs.Trees.Marking.{AreReady}
 use Rattle.isle_blocks.specs.Trees.Builder.{IsFit, rules_in, scope_of}
 use Rattle.isle_blocks.specs.Trees.Work.{all_taken, AreArms, AreDue, AreGiven, AreOfRules, AreReturns, AreRules, AreTasks, IsCopy, IsDue, IsOfRule, Moves}
 use Rattle.isle_blocks.specs.Trees.Work.{sizes, task_size, WantsArms, WantsBlock}
@@ -185,15 +187,19 @@ given_all set left i sc now old mid new l e g =
 
 -- ---- what is to be laid out, with copies of what is known
 
-pub wants_copied : (set : RulesOverSites) (o : Open) (task : Task) (known : Known) (marks : List Bool) (w0 w1 : List Task) → task ≡ tasks.Block o
-    → IsCopy o.known known → o.marks ≡ marks → IsFit set (length set.sites) known → IsInOrder (rules_in set) o.left.items → AreRules set o.left.items
-    → length marks ≡ length set.sites → AreMarked (rules_in set) o.left.items (scope_of set known) marks → 0 < length o.left.items
+pub wants_copied : (set : RulesOverSites) (o : Open) (task : Task) (known : Known) (marks : List Bool) (ready : List BindingId) (w0 w1 : List Task)
+    → task ≡ tasks.Block o → IsCopy o.known known → o.marks ≡ marks → o.ready.items ≡ ready → IsFit set (length set.sites) known → IsInOrder (rules_in set) o.left.items → AreRules set o.left.items
+    → length marks ≡ length set.sites → AreMarked (rules_in set) o.left.items (scope_of set known) marks
+    → AreReady (rules_in set) o.left.items (scope_of set known) marks (numbers_of ready) → 0 < length o.left.items
     → w1 ≡ w0 ++ task ∷ [] → WantsBlock set o.left.items (scope_of set known) w0 w1
-wants_copied set o task known marks w0 w1 is copy same fit order rules size marked some e =
+wants_copied set o task known marks ready w0 w1 is copy same listed fit order rules size marked open_ready some e =
     let R = rules_in set in
     let at : scope_of set o.known ≡ scope_of set known = copied_scope set o.known known copy in
     let M : List Bool → Type 0 = λ m. AreMarked R o.left.items (scope_of set known) m in
     let S : Scope Constraint → Type 0 = λ x. AreMarked R o.left.items x o.marks in
+    let N : List Bool → Type 0 = λ m. AreReady R o.left.items (scope_of set known) m (numbers_of o.ready.items) in
+    let T : Scope Constraint → Type 0 = λ x. AreReady R o.left.items x o.marks (numbers_of o.ready.items) in
+    let L : List BindingId → Type 0 = λ l. AreReady R o.left.items (scope_of set known) marks (numbers_of l) in
     let w : weight R (scope_of set o.known) o.left.items ≡ weight R (scope_of set known) o.left.items =
     ap (λ (x : Scope Constraint). weight R x o.left.items) at in
     record {
@@ -205,27 +211,33 @@ wants_copied set o task known marks w0 w1 is copy same fit order rules size mark
         rules = rules;
         size = ap length same ∙ size;
         marked = subst S (sym at) (subst M (sym same) marked);
+        ready = subst T (sym at) (subst N (sym same) (subst L (sym listed) open_ready));
         some = some;
       };
       due = λ pieces d. let B : Scope Constraint → Type 0 = λ x. Builds R o.left.items x (first_steps pieces) in subst B at d;
       size = omega arith;
     }
 
-pub wants_more : (set : RulesOverSites) (s start : ℕ) (at : BindingId) (o : Open) (task : Task) (known : Known) (marks : List Bool) (w0 w1 : List Task)
+pub wants_more : (set : RulesOverSites) (s start : ℕ) (at : BindingId) (o : Open) (task : Task) (known : Known) (marks : List Bool)
+    (ready : List BindingId) (w0 w1 : List Task)
     → s ≡ at.0 → task ≡ tasks.Arms at start o
-    → IsCopy o.known known → o.marks ≡ marks → AreArms set s o.left.items known marks → start < length o.left.items → w1 ≡ w0 ++ task ∷ []
+    → IsCopy o.known known → o.marks ≡ marks → o.ready.items ≡ ready → AreArms set s o.left.items known marks (numbers_of ready) → start < length o.left.items → w1 ≡ w0 ++ task ∷ []
     → WantsArms set (drop start o.left.items) (scope_of set known) s w0 w1
-wants_more set s start site o task known marks w0 w1 number is copy same arms more e =
+wants_more set s start site o task known marks ready w0 w1 number is copy same listed arms more e =
     let R = rules_in set in
     let at : scope_of set o.known ≡ scope_of set known = copied_scope set o.known known copy in
-    let M : List Bool → Type 0 = λ m. AreSound R (scope_of set known) m in
-    let S : Scope Constraint → Type 0 = λ x. AreSound R x o.marks in
+    let M : List Bool → Type 0 = λ m. AreMarked R o.left.items (scope_of set known) m in
+    let S : Scope Constraint → Type 0 = λ x. AreMarked R o.left.items x o.marks in
+    let N : List Bool → Type 0 = λ m. AreReady R o.left.items (scope_of set known) m (numbers_of o.ready.items) in
+    let T : Scope Constraint → Type 0 = λ x. AreReady R o.left.items x o.marks (numbers_of o.ready.items) in
+    let L : List BindingId → Type 0 = λ l. AreReady R o.left.items (scope_of set known) marks (numbers_of l) in
     let w : weight R (scope_of set o.known) (drop start o.left.items) ≡ weight R (scope_of set known) (drop start o.left.items) =
     ap (λ (x : Scope Constraint). weight R x (drop start o.left.items)) at in
-    let fan : AreArms set s o.left.items o.known o.marks = record {
+    let fan : AreArms set s o.left.items o.known o.marks (numbers_of o.ready.items) = record {
       fit = copied_fit set (length set.sites) o.known known copy arms.fit;
       size = ap length same ∙ arms.size;
-      sound = subst S (sym at) (subst M (sym same) arms.sound);
+      marked = subst S (sym at) (subst M (sym same) arms.marked);
+      ready = subst T (sym at) (subst N (sym same) (subst L (sym listed) arms.ready));
       site = arms.site;
       untested = ap (λ (x : Scope Constraint). x.passed s) at ∙ arms.untested;
       grouped = arms.grouped;
@@ -235,7 +247,7 @@ wants_more set s start site o task known marks w0 w1 number is copy same arms mo
     record {
       task = tasks.Arms site start o;
       work = e ∙ ap (λ (t : Task). w0 ++ t ∷ []) is;
-      valid = record { arms = subst (λ (x : ℕ). AreArms set x o.left.items o.known o.marks) number fan; more = more };
+      valid = record { arms = subst (λ (x : ℕ). AreArms set x o.left.items o.known o.marks (numbers_of o.ready.items)) number fan; more = more };
       due = λ pieces d.
           let B : Scope Constraint → Type 0 = λ x. BuildsArms R (drop start o.left.items) x s (first_arms pieces) in
           subst B at (subst (λ (x : ℕ). BuildsArms R (drop start o.left.items) (scope_of set o.known) x (first_arms pieces)) (sym number) d);

@@ -1,14 +1,10 @@
--- How the best test is found among equalities: class by class, and site by site.
-use Rattle.std.specs.Prelude.{◌≡◌, ℕ, ◌≤ℤ◌, Bool, true, false, List, Option}
+-- How the best test is found: site by site, and among equalities class by class.
+use Rattle.std.specs.Prelude.{◌≡◌, ℕ, ◌≤ℤ◌, Bool, true, List, Option}
 use Rattle.isle_blocks.specs.declared.ids.BindingId.{BindingId}
 use Rattle.isle_trees.specs.Ranking.{IsNoBetter, IsRanked, Ranked}
 use Rattle.isle_trees.specs.Rules.{Elem, Rules}
-use Rattle.isle_trees.specs.Scopes.{Scope, Test, on_equal}
+use Rattle.isle_trees.specs.Scopes.{Scope, Test, on_match, on_equal, on_loop}
 use Rattle.isle_trees.specs.Search.{is_ready, top}
-
--- the rules without their equalities
-abbrev pub unjoined : {C V : Type 0} → Rules C V → Rules C V
-unjoined R = record R { joins = λ i a b. false }
 
 -- a best test is ranked, and what is no better than the one before is no better than it
 pub record IsStillRanked {C V : Type 0} (R : Rules C V) (left : List ℕ) (sc : Scope C) (old new : Option Ranked) : Type 0 where
@@ -18,6 +14,15 @@ pub record IsStillRanked {C V : Type 0} (R : Rules C V) (left : List ℕ) (sc : 
 -- a test that can be made is no better than the best
 abbrev pub IsPassed : {C V : Type 0} → Rules C V → List ℕ → Scope C → List Bool → Option Ranked → Test → Type 0
 IsPassed R left sc marks best t = is_ready sc marks t ≡ true → IsNoBetter R left sc best t
+
+-- no test of a site is better, but for equalities
+pub record IsSitePassed {C V : Type 0} (R : Rules C V) (left : List ℕ) (sc : Scope C) (marks : List Bool) (best : Option Ranked) (x : BindingId) : Type 0 where
+  pub by_match : IsPassed R left sc marks best (on_match x.0)
+  pub by_loop : IsPassed R left sc marks best (on_loop x.0)
+
+-- no test of these sites is better, but for equalities
+abbrev pub AreSitesPassed : {C V : Type 0} → Rules C V → List ℕ → Scope C → List Bool → Option Ranked → List BindingId → Type 0
+AreSitesPassed R left sc marks best sites = (x : BindingId) → Elem x sites → IsSitePassed R left sc marks best x
 
 -- no equality of a site with one of a class is better
 abbrev pub IsRowPassed : {C V : Type 0} → Rules C V → List ℕ → Scope C → List Bool → List BindingId → Option Ranked → BindingId → Type 0

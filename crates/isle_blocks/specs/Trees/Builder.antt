@@ -1,5 +1,5 @@
 -- What the builder of trees knows, seen as the scopes and tests of the theory.
-use Rattle.std.specs.Prelude.{◌≡◌, ◌≢◌, ℕ, ◌<◌, ◌≤◌, ◌&&◌, ◌++◌, Bool, true, false, not, List, [], ◌∷◌, Option, Some, None, if◌then◌else◌, map, length}
+use Rattle.std.specs.Prelude.{◌≡◌, ◌≢◌, ℕ, ◌<◌, ◌≤◌, ◌&&◌, ◌++◌, Bool, true, false, not, List, [], Option, Some, None, map, length}
 use Rattle.std.specs.Prelude.{slice_get, slice_index_or, is_some}
 use Rattle.std.specs.List.{flat_map}
 use Rattle.std.specs.Global.{Vec}
@@ -20,12 +20,13 @@ use Rattle.isle_blocks.specs.declared.serializer.index.Index.{Index}
 use Rattle.isle_blocks.specs.ClosedRules.{same_site}
 use Rattle.isle_blocks.specs.RuleSets.{RulesOverSites}
 use Rattle.isle_blocks.specs.Rows.{numbers_of}
+use Rattle.isle_blocks.specs.Trees.Marking.{AreDependents}
 use Rattle.isle_blocks.specs.Trees.View.{rules_of, read_or, has_loop, test_at, opens_field}
 use Rattle.isle_trees.specs.Rules.{Rules, Want, Source, Elem}
 use Rattle.isle_trees.specs.Scopes.{Scope, Test, on_match, on_equal, on_loop}
 use Rattle.isle_trees.specs.Builds.{Key}
 use Rattle.isle_trees.specs.Ranking.{Ranked}
-use Rattle.isle_trees.specs.Search.{is_ready, IsIndex, IsBuildable, below}
+use Rattle.isle_trees.specs.Search.{IsIndex, IsBuildable, below}
 
 -- a rule set as the rules of a tree, whatever names constants have
 abbrev pub rules_in : RulesOverSites → Rules Constraint Held
@@ -40,9 +41,6 @@ abbrev pub test_shown : TestOf → Test
 test_shown (code.Match s) = on_match s.0
 test_shown (code.Equal a b) = on_equal a.0 b.0
 test_shown (code.Loop s) = on_loop s.0
-
-abbrev pub tests_shown : List TestOf → List Test
-tests_shown ts = map test_shown ts
 
 abbrev pub key_shown : KeyOf → Key
 key_shown k = record { count = k.count; state = k.state; kind = k.kind; first = k.first; second = k.second }
@@ -87,6 +85,9 @@ items_at lists i = items_in (slice_get lists i)
 abbrev pub asked_at : Index → ℕ → List ℕ
 asked_at index i = numbers_of (items_at index.asked.items i)
 
+abbrev pub dependents_at : Index → ℕ → List ℕ
+dependents_at index s = numbers_of (items_at index.dependents.items s)
+
 abbrev pub made_at : Index → ℕ → List ℕ
 made_at index s = numbers_of (items_at index.made.items s)
 
@@ -117,17 +118,9 @@ AreMembers set i classes = (x : ℕ) → x < 65536 → Elem x (flat_map numbers_
 -- what is looked up by rule and by site
 pub record IsIndexOf (set : RulesOverSites) (n : ℕ) (index : Index) : Type 0 where
   pub is : IsIndex (rules_in set) n (asked_at index) (made_at index) (users_at index)
+  pub dependents : AreDependents (rules_in set) n (dependents_at index)
   pub openers : AreOpeners set n (opener_at index)
   pub classes : (i : ℕ) → AreClasses set i (classes_at index i)
-
--- a test, where it can be made
-abbrev pub offered : Scope Constraint → List Bool → Test → List Test
-offered sc marks t = if is_ready sc marks t then t ∷ [] else []
-
--- the tests of a rule that can be made, but for equalities
-abbrev pub offered_of : Scope Constraint → List Bool → Rule → List Test
-offered_of sc marks rule =
-    flat_map (λ e. offered sc marks (on_match e.0.0)) rule.constraints ++ flat_map (λ s. offered sc marks (on_loop s.0)) rule.iterators
 
 -- the site whose test makes this one
 abbrev pub source_in : Option Binding → Option ℕ

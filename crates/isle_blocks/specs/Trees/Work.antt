@@ -1,7 +1,6 @@
 -- What is still to be laid out of a tree, and what laying out one node does to it.
-use Rattle.std.specs.Prelude.{◌≡◌, ℕ, ◌<◌, ◌≤◌, ◌+◌, ◌-◌, ◌*◌, ◌++◌, ◌==◌, List, [], ◌∷◌, Bool, true, Option, Some, None, if◌then◌else◌, length, drop, map, sum_by, slice_get}
+use Rattle.std.specs.Prelude.{◌≡◌, ℕ, ◌<◌, ◌≤◌, ◌+◌, ◌-◌, ◌*◌, ◌++◌, ◌==◌, List, [], ◌∷◌, Bool, Option, Some, None, if◌then◌else◌, length, drop, map, sum_by, slice_get}
 use Rattle.std.specs.Option.{option_map}
-use Rattle.isle_meaning.specs.Held.{Held}
 use Rattle.isle_blocks.specs.declared.ids.BindingId.{BindingId}
 use Rattle.isle_blocks.specs.declared.constraint.Constraint.{Constraint}
 use Rattle.isle_blocks.specs.declared.rule.Rule.{Rule}
@@ -15,13 +14,15 @@ use Rattle.isle_blocks.specs.declared.serializer.work.Task.TheVariants as tasks
 use Rattle.isle_blocks.specs.RuleSets.{RulesOverSites}
 use Rattle.isle_blocks.specs.Trees.View.{calls_at}
 use Rattle.isle_blocks.specs.Trees.Nodes.{Piece, first_steps, first_arms, later, read}
+use Rattle.isle_blocks.specs.Rows.{numbers_of}
+use Rattle.isle_blocks.specs.Trees.Marking.{AreReady}
 use Rattle.isle_blocks.specs.Trees.Builder.{IsFit, opens_at, rules_in, scope_of}
 use Rattle.isle_trees.specs.Tree.{done, no_arm}
-use Rattle.isle_trees.specs.Rules.{Rules, Elem}
-use Rattle.isle_trees.specs.Scopes.{Scope, Test, has_test, counted, others}
+use Rattle.isle_trees.specs.Rules.{Elem}
+use Rattle.isle_trees.specs.Scopes.{Scope, Test, counted, others}
 use Rattle.isle_trees.specs.Builds.{Builds, BuildsArms, Returns, IsBest}
 use Rattle.isle_trees.specs.Counting.{weight}
-use Rattle.isle_trees.specs.Search.{AllWant, AreGrouped, AreMarked, AreSound, IsInOrder, is_ready}
+use Rattle.isle_trees.specs.Search.{AllWant, AreGrouped, AreMarked, IsInOrder}
 
 -- what is known of wants and of equal sites is the same, and of as many sites
 pub record IsSameKnown (old new : Known) : Type 0 where
@@ -56,31 +57,26 @@ pub record AddsOnly (i : ℕ) (old new : List ℕ) : Type 0 where
   pub behind : new ≡ old ++ more
   pub only : (x : ℕ) → Elem x more → x ≡ i
 
--- tests were added to others: all those of a rule that can be made, and none that can't
-pub record AddsOffers (R : Rules Constraint Held) (sc : Scope Constraint) (marks : List Bool) (i : ℕ) (old new : List Test) : Type 0 where
-  pub more : List Test
-  pub behind : new ≡ old ++ more
-  pub ready : (t : Test) → Elem t more → is_ready sc marks t ≡ true
-  pub full : (t : Test) → has_test R i t ≡ true → is_ready sc marks t ≡ true → Elem t more
-
 -- rules of the set
 abbrev pub AreRules : RulesOverSites → List ℕ → Type 0
 AreRules set left = (i : ℕ) → Elem i left → i < length set.rules
 
--- a block to be laid out: rules are left, and of what they ask all that is available is marked
+-- a block to be laid out: rules are left, of what they ask all that is available is marked, and what of that can be tested is listed
 pub record IsOpen (set : RulesOverSites) (o : Open) : Type 0 where
   pub fit : IsFit set (length set.sites) o.known
   pub order : IsInOrder (rules_in set) o.left.items
   pub rules : AreRules set o.left.items
   pub size : length o.marks ≡ length set.sites
   pub marked : AreMarked (rules_in set) o.left.items (scope_of set o.known) o.marks
+  pub ready : AreReady (rules_in set) o.left.items (scope_of set o.known) o.marks (numbers_of o.ready.items)
   pub some : 0 < length o.left.items
 
 -- a group of rules that want tests of a site
-pub record AreArms (set : RulesOverSites) (s : ℕ) (group : List ℕ) (known : Known) (marks : List Bool) : Type 0 where
+pub record AreArms (set : RulesOverSites) (s : ℕ) (group : List ℕ) (known : Known) (marks : List Bool) (sites : List ℕ) : Type 0 where
   pub fit : IsFit set (length set.sites) known
   pub size : length marks ≡ length set.sites
-  pub sound : AreSound (rules_in set) (scope_of set known) marks
+  pub marked : AreMarked (rules_in set) group (scope_of set known) marks
+  pub ready : AreReady (rules_in set) group (scope_of set known) marks sites
   pub site : s < length set.sites
   pub untested : (scope_of set known).passed s ≡ None
   pub grouped : AreGrouped (rules_in set) s group
@@ -89,7 +85,7 @@ pub record AreArms (set : RulesOverSites) (s : ℕ) (group : List ℕ) (known : 
 
 -- arms to be laid out, from a place in the group on
 pub record IsFan (set : RulesOverSites) (s start : ℕ) (o : Open) : Type 0 where
-  pub arms : AreArms set s o.left.items o.known o.marks
+  pub arms : AreArms set s o.left.items o.known o.marks (numbers_of o.ready.items)
   pub more : start < length o.left.items
 
 abbrev pub IsTask : RulesOverSites → Task → Type 0

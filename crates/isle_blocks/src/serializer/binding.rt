@@ -25,7 +25,7 @@ use crate::serializer::table::Table;
 use std::alloc::{AllocError, Global};
 
 /// Adds the sites that aren't marked to a list, and marks them.
-fn gather(
+pub(crate) fn gather(
     sites: &[BindingId],
     marks: &mut Table<bool>,
     list: &mut Vec<BindingId>,

@@ -6,13 +6,16 @@ ghost use Rattle.isle_trees.specs.Ranking.{PartsAreLower, AllBelow};
 ghost use Rattle.isle_trees.specs.Rules.{Elem};
 ghost use Rattle.isle_trees.specs.Search.{ArePartsFirst, AreMadeBelow, HasUsers, IsAskedBy, IsClean, added_at, is_marked, made_more};
 ghost use Rattle.isle_blocks.specs.Rows.{numbers_of};
-ghost use Rattle.isle_blocks.specs.Trees.Builder.{AreClasses, AreMembers, AreOpeners, IsIndexOf, IsRising, IsSerializable, asked_at, classes_at};
+ghost use Rattle.isle_blocks.specs.Trees.Builder.{AreClasses, AreMembers, AreOpeners, IsIndexOf, IsRising, IsSerializable, asked_at, classes_at, dependents_at};
 ghost use Rattle.isle_blocks.specs.Trees.Builder.{items_at, made_at, opener_at, opens_at, rules_in, source_in, tested_in, users_at};
+ghost use Rattle.isle_blocks.specs.Trees.Marking.{AreDependents, ListsAt};
 ghost use Rattle.isle_blocks.specs.Trees.View.{read_or};
 
 use crate::ids::BindingId;
 use crate::rule::Rule;
 use crate::rule_set::RuleSet;
+use crate::serializer::binding::gather;
+use crate::serializer::known::no_marks;
 use crate::serializer::table::Table;
 use isle_syntax::Seq;
 use std::alloc::{AllocError, Global};
@@ -24,6 +27,8 @@ pub(crate) struct Index {
     pub(crate) classes: Vec<Vec<Seq<BindingId>>>,
     /// For each rule the sites that its tests ask, with all their parts, parts first.
     pub(crate) asked: Vec<Vec<BindingId>>,
+    /// For each site those sites that some rule's tests ask and that have it among their parts.
+    pub(crate) dependents: Vec<Vec<BindingId>>,
     /// For each site the sites that its tests make, ascending.
     pub(crate) made: Vec<Vec<BindingId>>,
     /// For each site the rules whose tests have it, ascending.
@@ -40,12 +45,14 @@ impl Index {
     {
         let classes = set.class_lists(alloc)?;
         let asked = set.asked_lists(alloc, &classes)?;
+        let dependents = set.dependent_lists(alloc, &asked)?;
         let made = set.made_lists(alloc)?;
         let users = set.user_lists(alloc, &classes)?;
         let openers = set.openers(alloc, &users)?;
         Ok(Index {
             classes,
             asked,
+            dependents,
             made,
             users,
             openers,
@@ -65,6 +72,15 @@ impl Index {
         ensures { numbers_of result.now ≡ asked_at self.now rule }
     {
         match self.asked.get(rule) {
+            Some(sites) => sites,
+            None => &[],
+        }
+    }
+
+    pub(crate) fn dependents(&self, site: BindingId) -> &[BindingId]
+        ensures { numbers_of result.now ≡ dependents_at self.now site.0 }
+    {
+        match self.dependents.get(site.index()) {
             Some(sites) => sites,
             None => &[],
         }
@@ -189,8 +205,7 @@ impl RuleSet {
         requires members { (i : ℕ) → AreMembers self.now i (items_at classes.now i) }
         ensures { IfOk result (λ v. (i : ℕ) → IsAskedBy (rules_in self.now) (length self.now.sites) i (numbers_of (items_at v.items i))) }
     {
-        let none = vec![in alloc; false; self.site_count()]?;
-        let mut marks = Table::from_slice(alloc, &none)?;
+        let mut marks = no_marks(alloc, self.site_count())?;
         let mut lists = Vec::new(alloc);
         for rule in 0..self.rules().len() {
             let list = self.asked_by(
@@ -224,6 +239,42 @@ impl RuleSet {
         let list = self.closure(alloc, &sites, marks)?;
         unmark(&list, marks)?;
         Ok(list)
+    }
+
+    /// For each site what is made of it and asked by some rule's tests.
+    fn dependent_lists(
+        &self,
+        alloc: Global,
+        asked: &[Vec<BindingId>],
+    ) -> Result<Vec<Vec<BindingId>>, AllocError>
+        requires lower { PartsAreLower (rules_in self.now) }
+        requires asked { (i : ℕ) → IsAskedBy (rules_in self.now) (length self.now.sites) i (numbers_of (items_at asked.now i)) }
+        ensures { IfOk result (λ v. AreDependents (rules_in self.now) (length self.now.sites) (λ p. numbers_of (items_at v.items p))) }
+    {
+        let sites = all_of(alloc, asked, self.site_count())?;
+        let mut lists = empty_lists(alloc, self.site_count())?;
+        for site in &sites {
+            self.add_dependent(&mut lists, *site)?;
+        }
+        Ok(lists)
+    }
+
+    /// Adds a site to the lists of its parts.
+    fn add_dependent(
+        &self,
+        lists: &mut Vec<Vec<BindingId>>,
+        site: BindingId,
+    ) -> Result<(), AllocError>
+        requires lower { PartsAreLower (rules_in self.now) }
+        requires site { site.0 < length lists.old.items }
+        ensures size { IfOk result (λ _. length lists.new.items ≡ length lists.old.items) }
+        ensures lists { IfOk result (λ _. ListsAt site.0 ((rules_in self.now).parts site.0)
+            (λ p. numbers_of (items_at lists.old.items p)) (λ p. numbers_of (items_at lists.new.items p))) }
+    {
+        for part in self.parts(site) {
+            add_site(lists, *part, site)?;
+        }
+        Ok(())
     }
 
     /// For each site what its tests make.
@@ -344,6 +395,24 @@ fn add_rule(lists: &mut Vec<Vec<usize>>, at: BindingId, rule: usize) -> Result<(
 {
     lists[at.index()].push(rule)?;
     Ok(())
+}
+
+/// The sites of some lists, each once.
+fn all_of(
+    alloc: Global,
+    lists: &[Vec<BindingId>],
+    count: usize,
+) -> Result<Vec<BindingId>, AllocError>
+    requires { (i : ℕ) → AllBelow (numbers_of (items_at lists.now i)) count }
+    ensures below { IfOk result (λ v. AllBelow (numbers_of v.items) count) }
+    ensures full { IfOk result (λ v. (i x : ℕ) → Elem x (numbers_of (items_at lists.now i)) → Elem x (numbers_of v.items)) }
+{
+    let mut marks = no_marks(alloc, count)?;
+    let mut all = Vec::new(alloc);
+    for list in lists {
+        gather(list, &mut marks, &mut all)?;
+    }
+    Ok(all)
 }
 
 /// Adds a rule to the lists of sites.

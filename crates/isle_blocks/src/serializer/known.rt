@@ -3,7 +3,7 @@ ghost use Rattle.isle_trees.specs.Builds.{state};
 ghost use Rattle.std.specs.Prelude.{◌≡◌, ◌<◌, length, map, slice_index_or, IfOk, None, true, false, slice_set, ℕ};
 ghost use Rattle.isle_trees.specs.Scopes.{emit, join, release, nothing_known};
 ghost use Rattle.isle_trees.specs.Ranking.{above, better, key_with, may_win};
-ghost use Rattle.isle_trees.specs.Search.{first_of, is_marked, all_marked};
+ghost use Rattle.isle_trees.specs.Search.{IsClean, first_of, is_marked, all_marked};
 ghost use Rattle.isle_blocks.specs.Rows.{numbers_of};
 ghost use Rattle.isle_blocks.specs.RuleSets.{RulesOverSites};
 ghost use Rattle.isle_blocks.specs.Trees.Builder.{IsFit, scope_of, test_shown, key_shown, ranked_shown, best_shown};
@@ -14,7 +14,7 @@ use crate::serializer::table::Table;
 use std::alloc::{AllocError, Global};
 
 /// What a rule may need of its sites: a test of one, two that are equal, or one value of a multi call.
-#[derive(Clone, Copy, PartialEq, Eq, PartialOrd, Ord)]
+#[derive(Clone, Copy)]
 pub(crate) enum Test {
     Match(BindingId),
     Equal(BindingId, BindingId),
@@ -52,6 +52,24 @@ pub(crate) fn is_set(marks: &Table<bool>, site: BindingId) -> bool
     ensures { result ≡ is_marked marks.now site.0 }
 {
     marks.get_or(site.index(), false)
+}
+
+/// No site is marked.
+pub(crate) fn no_marks(alloc: Global, count: usize) -> Result<Table<bool>, AllocError>
+    ensures { IfOk result (IsClean count) }
+{
+    let none = vec![in alloc; false; count]?;
+    let marks = Table::from_slice(alloc, &none)?;
+    Ok(marks)
+}
+
+/// A site is marked.
+pub(crate) fn set_mark(marks: &mut Table<bool>, site: BindingId) -> Result<(), AllocError>
+    requires { site.0 < length marks.old }
+    ensures { IfOk result (λ _. marks.new ≡ slice_set marks.old site.0 true) }
+{
+    marks.set(site.index(), true)?;
+    Ok(())
 }
 
 /// Whether all of these sites are marked.

@@ -1,20 +1,17 @@
 //! The best test of the rules left.
-ghost use Rattle.isle_blocks.specs.Trees.Work.{AddsOffers};
-ghost use Rattle.isle_blocks.specs.Trees.Best.{AreClassesPassed, AreEqualitiesPassed, IsClassPassed, IsPassed, IsRowPassed, IsStillRanked, unjoined};
-ghost use Rattle.std.specs.Prelude.{◌≡◌, ◌≤◌, ◌++◌, ◌<◌, ◌&&◌, not, length, map, IfOk, Contains, MatchOption, ℕ, true};
-ghost use Rattle.std.specs.List.{flat_map};
+ghost use Rattle.isle_blocks.specs.Trees.Best.{AreClassesPassed, AreEqualitiesPassed, AreSitesPassed, IsClassPassed, IsPassed, IsRowPassed, IsSitePassed, IsStillRanked};
+ghost use Rattle.std.specs.Prelude.{◌≡◌, ◌≤◌, ◌<◌, ◌&&◌, not, length, IfOk, MatchOption, ℕ, true};
 ghost use Rattle.isle_trees.specs.Builds.{IsBest, HasNoTest, key};
 ghost use Rattle.isle_trees.specs.Ranking.{IsNoBetter, IsRanked, AllBelow, may_win};
 ghost use Rattle.isle_trees.specs.Rules.{Elem};
 ghost use Rattle.isle_trees.specs.Scopes.{IsReady, Test as AnyTest, counted, others, on_match, on_loop, on_equal, IsAvailable};
-ghost use Rattle.isle_trees.specs.Search.{AreMarked, AreOffers, AreSound, ArePartsFirst, IsInOrder, can_bind, is_made, is_open, is_ready, is_marked, first_of};
+ghost use Rattle.isle_trees.specs.Search.{AreMarked, AreSound, ArePartsFirst, IsInOrder, can_bind, is_made, is_open, is_ready, is_marked, first_of};
 ghost use Rattle.isle_blocks.specs.Rows.{numbers_of};
-ghost use Rattle.isle_blocks.specs.declared.serializer.known.Test.{Test as CodeTest};
-ghost use Rattle.isle_blocks.specs.Trees.Builder.{IsFit, IsIndexOf, IsSerializable, best_shown, key_shown, offered, offered_of};
-ghost use Rattle.isle_blocks.specs.Trees.Builder.{rules_in, scope_of, test_shown, tests_shown};
+ghost use Rattle.isle_blocks.specs.Trees.Builder.{IsFit, IsIndexOf, IsSerializable, best_shown, key_shown};
+ghost use Rattle.isle_blocks.specs.Trees.Marking.{AreReady};
+ghost use Rattle.isle_blocks.specs.Trees.Builder.{rules_in, scope_of, test_shown};
 
 use crate::ids::BindingId;
-use crate::rule::Rule;
 use crate::rule_set::RuleSet;
 use crate::serializer::index::Index;
 use crate::serializer::known::{Key, Known, Ranked, Test, all_set, better, is_set};
@@ -52,7 +49,13 @@ impl RuleSet {
     }
 
     /// Whether a site that isn't marked can be bound.
-    fn needs_mark(&self, index: &Index, known: &Known, marks: &Table<bool>, site: BindingId) -> bool
+    pub(crate) fn needs_mark(
+        &self,
+        index: &Index,
+        known: &Known,
+        marks: &Table<bool>,
+        site: BindingId,
+    ) -> bool
         requires index { IsIndexOf self.now (length self.now.sites) index.now }
         requires site { site.0 < length self.now.sites }
         requires fit { IsFit self.now (length self.now.sites) known.now }
@@ -112,7 +115,7 @@ impl RuleSet {
     }
 
     /// Whether a site is available and not tested.
-    fn is_open(&self, known: &Known, marks: &Table<bool>, site: BindingId) -> bool
+    pub(crate) fn is_open(&self, known: &Known, marks: &Table<bool>, site: BindingId) -> bool
         requires fit { IsFit self.now (length self.now.sites) known.now }
         ensures { result ≡ is_open (scope_of self.now known.now) marks.now site.0 }
     {
@@ -133,122 +136,6 @@ impl RuleSet {
             }
             Test::Loop(site) => self.is_open(known, marks, site),
         }
-    }
-
-    /// Adds a test, where it can be made.
-    fn offer(
-        &self,
-        known: &Known,
-        marks: &Table<bool>,
-        test: Test,
-        offers: &mut Vec<Test>,
-    ) -> Result<(), AllocError>
-        requires fit { IsFit self.now (length self.now.sites) known.now }
-        ensures { IfOk result (λ _. tests_shown offers.new.items ≡ tests_shown offers.old.items
-            ++ offered (scope_of self.now known.now) marks.now (test_shown test)) }
-    {
-        if self.is_ready(known, marks, test) {
-            offers.push(test)?;
-        }
-        Ok(())
-    }
-
-    /// The tests of a rule's sites.
-    fn offer_tests(
-        &self,
-        known: &Known,
-        marks: &Table<bool>,
-        rule: &Rule,
-        offers: &mut Vec<Test>,
-    ) -> Result<(), AllocError>
-        requires fit { IsFit self.now (length self.now.sites) known.now }
-        ensures { IfOk result (λ _. tests_shown offers.new.items ≡ tests_shown offers.old.items
-            ++ flat_map (λ e. offered (scope_of self.now known.now) marks.now (on_match e.0.0)) rule.now.constraints) }
-    {
-        for place in 0..rule.constraints.len() {
-            let (site, _) = rule.constraints.entry(place).unwrap();
-            self.offer(known, marks, Test::Match(*site), offers)?;
-        }
-        Ok(())
-    }
-
-    /// One value of each multi call that a rule uses.
-    fn offer_loops(
-        &self,
-        known: &Known,
-        marks: &Table<bool>,
-        loops: &[BindingId],
-        offers: &mut Vec<Test>,
-    ) -> Result<(), AllocError>
-        requires fit { IsFit self.now (length self.now.sites) known.now }
-        ensures { IfOk result (λ _. tests_shown offers.new.items ≡ tests_shown offers.old.items
-            ++ flat_map (λ s. offered (scope_of self.now known.now) marks.now (on_loop s.0)) loops.now) }
-    {
-        for site in loops {
-            self.offer(known, marks, Test::Loop(*site), offers)?;
-        }
-        Ok(())
-    }
-
-    /// The tests of a rule that can be made, but for equalities.
-    fn offer_rule(
-        &self,
-        known: &Known,
-        marks: &Table<bool>,
-        rule: &Rule,
-        offers: &mut Vec<Test>,
-    ) -> Result<(), AllocError>
-        requires fit { IsFit self.now (length self.now.sites) known.now }
-        ensures { IfOk result (λ _. tests_shown offers.new.items ≡ tests_shown offers.old.items
-            ++ offered_of (scope_of self.now known.now) marks.now rule.now) }
-    {
-        self.offer_tests(known, marks, rule, offers)?;
-        self.offer_loops(known, marks, rule.iterators.as_slice(), offers)?;
-        Ok(())
-    }
-
-    /// The same of a rule by its number.
-    fn offer_rule_at(
-        &self,
-        known: &Known,
-        marks: &Table<bool>,
-        rule: usize,
-        offers: &mut Vec<Test>,
-    ) -> Result<(), AllocError>
-        requires fit { IsFit self.now (length self.now.sites) known.now }
-        ensures { IfOk result (λ _. AddsOffers (unjoined (rules_in self.now)) (scope_of self.now known.now) marks.now rule
-            (tests_shown offers.old.items) (tests_shown offers.new.items)) }
-    {
-        match self.rules().get(rule) {
-            Some(r) => {
-                self.offer_rule(known, marks, r, offers)?;
-                Ok(())
-            }
-            None => Ok(()),
-        }
-    }
-
-    /// The tests of the top rules that can be made, but for equalities.
-    fn offers(
-        &self,
-        alloc: Global,
-        left: &[usize],
-        known: &Known,
-        marks: &Table<bool>,
-    ) -> Result<Vec<Test>, AllocError>
-        requires fit { IsFit self.now (length self.now.sites) known.now }
-        requires order { IsInOrder (rules_in self.now) left.now }
-        ensures { IfOk result (λ v. AreOffers (unjoined (rules_in self.now)) left.now (scope_of self.now known.now) marks.now (tests_shown v.items)) }
-    {
-        let top = self.top(left);
-        let mut offers = Vec::new(alloc);
-        for rule in left {
-            if self.priority(*rule) < top {
-                return Ok(offers);
-            }
-            self.offer_rule_at(known, marks, *rule, &mut offers)?;
-        }
-        Ok(offers)
     }
 
     /// How a test is ranked.
@@ -293,28 +180,6 @@ impl RuleSet {
         index.users(site).len().min(left.len())
     }
 
-    /// The best of tests that can be made.
-    fn best_offer(
-        &self,
-        index: &Index,
-        left: &[usize],
-        known: &Known,
-        offers: &[Test],
-    ) -> Option<Ranked>
-        requires index { IsIndexOf self.now (length self.now.sites) index.now }
-        requires order { IsInOrder (rules_in self.now) left.now }
-        requires ready { (t : CodeTest) → Contains offers.now t → IsReady (rules_in self.now) (scope_of self.now known.now) (test_shown t) }
-        ensures ranked { IsRanked (rules_in self.now) left.now (scope_of self.now known.now) (best_shown result) }
-        ensures passed { (t : CodeTest) → Contains offers.now t → IsNoBetter (rules_in self.now) left.now (scope_of self.now known.now) (best_shown result) (test_shown t) }
-    {
-        let mut best = None;
-        for test in offers {
-            let most = self.most(index, left, test.first());
-            best = self.consider(left, known, best, *test, most);
-        }
-        best
-    }
-
     /// The better of the best test so far and one more, where that can be made.
     fn consider_ready(
         &self,
@@ -337,6 +202,52 @@ impl RuleSet {
             return best;
         }
         self.consider(left, known, best, test, most)
+    }
+
+    /// The best test so far or one of a site, but for equalities, whichever is the best.
+    fn consider_site(
+        &self,
+        index: &Index,
+        left: &[usize],
+        known: &Known,
+        marks: &Table<bool>,
+        site: BindingId,
+        best: Option<Ranked>,
+    ) -> Option<Ranked>
+        requires index { IsIndexOf self.now (length self.now.sites) index.now }
+        requires fit { IsFit self.now (length self.now.sites) known.now }
+        requires order { IsInOrder (rules_in self.now) left.now }
+        requires sound { AreSound (rules_in self.now) (scope_of self.now known.now) marks.now }
+        requires ranked { IsRanked (rules_in self.now) left.now (scope_of self.now known.now) (best_shown best) }
+        ensures kept { IsStillRanked (rules_in self.now) left.now (scope_of self.now known.now) (best_shown best) (best_shown result) }
+        ensures passed { IsSitePassed (rules_in self.now) left.now (scope_of self.now known.now) marks.now (best_shown result) site }
+    {
+        let most = self.most(index, left, site);
+        let first = self.consider_ready(left, known, marks, Test::Match(site), most, best);
+        self.consider_ready(left, known, marks, Test::Loop(site), most, first)
+    }
+
+    /// The best test of some sites, but for equalities.
+    fn best_of(
+        &self,
+        index: &Index,
+        left: &[usize],
+        known: &Known,
+        marks: &Table<bool>,
+        sites: &[BindingId],
+    ) -> Option<Ranked>
+        requires index { IsIndexOf self.now (length self.now.sites) index.now }
+        requires fit { IsFit self.now (length self.now.sites) known.now }
+        requires order { IsInOrder (rules_in self.now) left.now }
+        requires sound { AreSound (rules_in self.now) (scope_of self.now known.now) marks.now }
+        ensures ranked { IsRanked (rules_in self.now) left.now (scope_of self.now known.now) (best_shown result) }
+        ensures passed { AreSitesPassed (rules_in self.now) left.now (scope_of self.now known.now) marks.now (best_shown result) sites.now }
+    {
+        let mut best = None;
+        for site in sites {
+            best = self.consider_site(index, left, known, marks, *site, best);
+        }
+        best
     }
 
     /// The best test so far or an equality of a site with one of a class, whichever is the best.
@@ -486,25 +397,25 @@ impl RuleSet {
     /// The best test, where one is left.
     pub(crate) fn best(
         &self,
-        alloc: Global,
         index: &Index,
         left: &[usize],
         known: &Known,
         marks: &Table<bool>,
-    ) -> Result<Option<Test>, AllocError>
+        ready: &[BindingId],
+    ) -> Option<Test>
         requires set { IsSerializable self.now }
         requires index { IsIndexOf self.now (length self.now.sites) index.now }
         requires fit { IsFit self.now (length self.now.sites) known.now }
         requires order { IsInOrder (rules_in self.now) left.now }
         requires marked { AreMarked (rules_in self.now) left.now (scope_of self.now known.now) marks.now }
-        ensures { IfOk result (λ b. MatchOption b (HasNoTest (rules_in self.now) left.now (scope_of self.now known.now))
-            (λ t. IsBest (rules_in self.now) left.now (scope_of self.now known.now) (test_shown t))) }
+        requires ready { AreReady (rules_in self.now) left.now (scope_of self.now known.now) marks.now (numbers_of ready.now) }
+        ensures { MatchOption result (HasNoTest (rules_in self.now) left.now (scope_of self.now known.now))
+            (λ t. IsBest (rules_in self.now) left.now (scope_of self.now known.now) (test_shown t)) }
     {
-        let offers = distinct(self.offers(alloc, left, known, marks)?);
-        let best = self.best_offer(index, left, known, &offers);
+        let best = self.best_of(index, left, known, marks, ready);
         match self.consider_equalities(index, left, known, marks, best) {
-            None => Ok(None),
-            Some(ranked) => Ok(Some(ranked.test)),
+            None => None,
+            Some(ranked) => Some(ranked.test),
         }
     }
 
@@ -531,15 +442,4 @@ impl RuleSet {
         }
         Ok((chosen, rest))
     }
-}
-
-/// Each test once.
-fn distinct(offers: Vec<Test>) -> Vec<Test>
-    ensures keeps { (t : CodeTest) → Contains offers.items t → Contains result.items t }
-    ensures adds_none { (t : CodeTest) → Contains result.items t → Contains offers.items t }
-{
-    let mut offers = offers;
-    offers.sort_unstable();
-    offers.dedup();
-    offers
 }

@@ -10,6 +10,7 @@ ghost use Rattle.isle_blocks.specs.declared.serializer.work.Task.TheVariants as 
 ghost use Rattle.isle_blocks.specs.declared.serializer.known.Test.TheVariants as kinds;
 ghost use Rattle.isle_blocks.specs.Trees.Nodes.{Piece, first_steps, given, put, read};
 ghost use Rattle.isle_blocks.specs.Trees.Builder.{IsFit, IsIndexOf, IsSerializable, rules_in, scope_of, test_shown};
+ghost use Rattle.isle_blocks.specs.Trees.Marking.{AreReady};
 ghost use Rattle.isle_blocks.specs.Trees.Work.{AreArms, AreOfRules, AreReturns, AreRules, IsFan, IsOpen, IsSplit, IsTask, Moves};
 ghost use Rattle.isle_blocks.specs.Trees.Work.{WantsArms, WantsBlock};
 
@@ -30,6 +31,8 @@ pub(crate) struct Open {
     pub(crate) left: Vec<usize>,
     pub(crate) known: Known,
     pub(crate) marks: Table<bool>,
+    /// The sites that can be tested, among them all that the rules left test.
+    pub(crate) ready: Vec<BindingId>,
 }
 
 /// What is still to be laid out.
@@ -55,6 +58,7 @@ impl RuleSet {
         left: Vec<usize>,
         known: Known,
         marks: Table<bool>,
+        ready: Vec<BindingId>,
     ) -> Result<Vec<Node>, AllocError>
         requires set { IsSerializable self.now }
         requires index { IsIndexOf self.now (length self.now.sites) index.now }
@@ -63,12 +67,13 @@ impl RuleSet {
         requires rules { AreRules self.now left.items }
         requires size { length marks ≡ length self.now.sites }
         requires marked { AreMarked (rules_in self.now) left.items (scope_of self.now known) marks }
+        requires ready { AreReady (rules_in self.now) left.items (scope_of self.now known) marks (numbers_of ready.items) }
         ensures builds { IfOk result (λ v. Builds (rules_in self.now) left.items (scope_of self.now known) (first_steps (read v.items []))) }
         ensures told { IfOk result (λ v. AreOfRules self.now v.items) }
     {
         let mut work = Vec::new(alloc);
         let mut nodes = Vec::new(alloc);
-        self.push_body(left, known, marks, &mut work)?;
+        self.push_body(left, known, marks, ready, &mut work)?;
         'work: while let Some(task) = work.pop() {
             self.advance(alloc, index, task, &mut work, &mut nodes)?;
         }
@@ -119,7 +124,7 @@ impl RuleSet {
         requires place { IsOpen self.now place }
         ensures { IfOk result (λ _. Moves self.now (tasks.Block place) work.old.items work.new.items nodes.old.items nodes.new.items) }
     {
-        match self.best(alloc, index, &place.left, &place.known, &place.marks)? {
+        match self.best(index, &place.left, &place.known, &place.marks, &place.ready) {
             None => {
                 self.finish(alloc, place, nodes)?;
                 Ok(())
@@ -185,9 +190,7 @@ impl RuleSet {
     {
         match test {
             Test::Match(site) => self.step_match(alloc, site, place, chosen, rest, work, nodes),
-            Test::Equal(a, b) => {
-                self.step_equal(alloc, index, a, b, place, chosen, rest, work, nodes)
-            }
+            Test::Equal(a, b) => self.step_equal(alloc, a, b, place, chosen, rest, work, nodes),
             Test::Loop(site) => self.step_loop(
                 alloc, index, site, place, chosen, rest, work, nodes,
             ),
@@ -210,19 +213,19 @@ impl RuleSet {
     {
         let mut known = place.known;
         let marks = place.marks;
+        let ready = place.ready;
         let mut order = Vec::new(alloc);
         self.emit(alloc, site, &mut known, &mut order)?;
         nodes.push(match_node(order, site))?;
-        self.push_rest(rest, &known, &marks, work)?;
+        self.push_rest(rest, &known, &marks, &ready, work)?;
         let group = self.by_test(chosen, site)?;
-        work.push(arms_task(site, group, known, marks))?;
+        work.push(arms_task(site, group, known, marks, ready))?;
         Ok(())
     }
 
     fn step_equal(
         &self,
         alloc: Global,
-        index: &Index,
         a: BindingId,
         b: BindingId,
         place: Open,
@@ -232,7 +235,6 @@ impl RuleSet {
         nodes: &mut Vec<Node>,
     ) -> Result<(), AllocError>
         requires set { IsSerializable self.now }
-        requires index { IsIndexOf self.now (length self.now.sites) index.now }
         requires split { IsSplit self.now place (test_shown (kinds.Equal a b)) chosen.items rest.items }
         ensures { IfOk result (λ _. Moves self.now (tasks.Block place) work.old.items work.new.items nodes.old.items nodes.new.items) }
     {
@@ -241,10 +243,9 @@ impl RuleSet {
         let both = [a, b];
         self.emit_each(alloc, &both, &mut known, &mut order)?;
         nodes.push(equal_node(order, a, b))?;
-        self.push_rest(rest, &known, &place.marks, work)?;
+        self.push_rest(rest, &known, &place.marks, &place.ready, work)?;
         known.join(alloc, a, b)?;
-        let marks = self.available(index, &chosen, &known, &place.marks)?;
-        self.push_body(chosen, known, marks, work)?;
+        self.push_body(chosen, known, place.marks, place.ready, work)?;
         Ok(())
     }
 
@@ -271,10 +272,12 @@ impl RuleSet {
         nodes.push(loop_node(order, self.value(site)))?;
         let mut last = known.copy()?;
         last.release(site)?;
-        self.push_rest(rest, &last, &place.marks, work)?;
+        self.push_rest(rest, &last, &place.marks, &place.ready, work)?;
         self.enter(index, &mut known, site, chosen[0])?;
-        let marks = self.available(index, &chosen, &known, &place.marks)?;
-        self.push_body(chosen, known, marks, work)?;
+        let mut marks = place.marks;
+        let more = self.spread(alloc, index, &known, site, &mut marks)?;
+        let ready = self.ready_past(alloc, index, &known, &marks, &place.ready, &more)?;
+        self.push_body(chosen, known, marks, ready, work)?;
         Ok(())
     }
 
@@ -301,10 +304,20 @@ impl RuleSet {
         let one = self.run(alloc, &group, start, site, test)?;
         let bindings = self.fields(alloc, index, site, rule, test)?;
         nodes.push(arm_node(test, bindings))?;
-        self.push_more(site, one.end, group, &known, &place.marks, work)?;
+        self.push_more(
+            site,
+            one.end,
+            group,
+            &known,
+            &place.marks,
+            &place.ready,
+            work,
+        )?;
         self.enter(index, &mut known, site, rule)?;
-        let marks = self.available(index, &one.rules, &known, &place.marks)?;
-        self.push_body(one.rules, known, marks, work)?;
+        let mut marks = place.marks;
+        let more = self.spread(alloc, index, &known, site, &mut marks)?;
+        let ready = self.ready_past(alloc, index, &known, &marks, &place.ready, &more)?;
+        self.push_body(one.rules, known, marks, ready, work)?;
         Ok(())
     }
 
@@ -314,6 +327,7 @@ impl RuleSet {
         left: Vec<usize>,
         known: Known,
         marks: Table<bool>,
+        ready: Vec<BindingId>,
         work: &mut Vec<Task>,
     ) -> Result<(), AllocError>
         requires fit { IsFit self.now (length self.now.sites) known }
@@ -321,13 +335,14 @@ impl RuleSet {
         requires rules { AreRules self.now left.items }
         requires size { length marks ≡ length self.now.sites }
         requires marked { AreMarked (rules_in self.now) left.items (scope_of self.now known) marks }
+        requires ready { AreReady (rules_in self.now) left.items (scope_of self.now known) marks (numbers_of ready.items) }
         ensures { IfOk result (λ _. WantsBlock self.now left.items (scope_of self.now known) work.old.items work.new.items) }
     {
         if left.is_empty() {
             push_task(Task::End, work)?;
             Ok(())
         } else {
-            push_task(block_task(left, known, marks), work)?;
+            push_task(block_task(left, known, marks, ready), work)?;
             Ok(())
         }
     }
@@ -338,6 +353,7 @@ impl RuleSet {
         left: Vec<usize>,
         known: &Known,
         marks: &Table<bool>,
+        ready: &Vec<BindingId>,
         work: &mut Vec<Task>,
     ) -> Result<(), AllocError>
         requires fit { IsFit self.now (length self.now.sites) known.now }
@@ -345,6 +361,7 @@ impl RuleSet {
         requires rules { AreRules self.now left.items }
         requires size { length marks.now ≡ length self.now.sites }
         requires marked { AreMarked (rules_in self.now) left.items (scope_of self.now known.now) marks.now }
+        requires ready { AreReady (rules_in self.now) left.items (scope_of self.now known.now) marks.now (numbers_of ready.now.items) }
         ensures { IfOk result (λ _. WantsBlock self.now left.items (scope_of self.now known.now) work.old.items work.new.items) }
     {
         if left.is_empty() {
@@ -353,7 +370,8 @@ impl RuleSet {
         } else {
             let known = known.copy()?;
             let marks = marks.copy()?;
-            push_task(block_task(left, known, marks), work)?;
+            let ready = copy_ready(ready)?;
+            push_task(block_task(left, known, marks, ready), work)?;
             Ok(())
         }
     }
@@ -366,21 +384,29 @@ impl RuleSet {
         group: Vec<usize>,
         known: &Known,
         marks: &Table<bool>,
+        ready: &Vec<BindingId>,
         work: &mut Vec<Task>,
     ) -> Result<(), AllocError>
-        requires { AreArms self.now site.0 group.items known.now marks.now }
+        requires { AreArms self.now site.0 group.items known.now marks.now (numbers_of ready.now.items) }
         ensures { IfOk result (λ _. WantsArms self.now (drop start group.items) (scope_of self.now known.now) site.0 work.old.items work.new.items) }
     {
         if start < group.len() {
             let known = known.copy()?;
             let marks = marks.copy()?;
-            push_task(arms_from(site, start, group, known, marks), work)?;
+            let ready = copy_ready(ready)?;
+            push_task(arms_from(site, start, group, known, marks, ready), work)?;
             Ok(())
         } else {
             push_task(Task::NoArm, work)?;
             Ok(())
         }
     }
+}
+
+fn copy_ready(ready: &Vec<BindingId>) -> Result<Vec<BindingId>, AllocError>
+    ensures { IfOk result (λ v. v.items ≡ ready.now.items) }
+{
+    ready.clone()
 }
 
 fn push_node(node: Node, nodes: &mut Vec<Node>) -> Result<(), AllocError>
@@ -445,16 +471,27 @@ fn arm_node(constraint: Constraint, bindings: Vec<Option<BindingId>>) -> Node
     }
 }
 
-fn block_task(left: Vec<usize>, known: Known, marks: Table<bool>) -> Task
-    ensures { result ≡ tasks.Block (record { left = left; known = known; marks = marks }) }
+fn block_task(left: Vec<usize>, known: Known, marks: Table<bool>, ready: Vec<BindingId>) -> Task
+    ensures { result ≡ tasks.Block (record { left = left; known = known; marks = marks; ready = ready }) }
 {
-    Task::Block(Open { left, known, marks })
+    Task::Block(Open {
+        left,
+        known,
+        marks,
+        ready,
+    })
 }
 
-fn arms_task(site: BindingId, left: Vec<usize>, known: Known, marks: Table<bool>) -> Task
-    ensures { result ≡ tasks.Arms site 0 (record { left = left; known = known; marks = marks }) }
+fn arms_task(
+    site: BindingId,
+    left: Vec<usize>,
+    known: Known,
+    marks: Table<bool>,
+    ready: Vec<BindingId>,
+) -> Task
+    ensures { result ≡ tasks.Arms site 0 (record { left = left; known = known; marks = marks; ready = ready }) }
 {
-    arms_from(site, 0, left, known, marks)
+    arms_from(site, 0, left, known, marks, ready)
 }
 
 fn arms_from(
@@ -463,12 +500,18 @@ fn arms_from(
     left: Vec<usize>,
     known: Known,
     marks: Table<bool>,
+    ready: Vec<BindingId>,
 ) -> Task
-    ensures { result ≡ tasks.Arms site start (record { left = left; known = known; marks = marks }) }
+    ensures { result ≡ tasks.Arms site start (record { left = left; known = known; marks = marks; ready = ready }) }
 {
     Task::Arms {
         site,
         start,
-        place: Open { left, known, marks },
+        place: Open {
+            left,
+            known,
+            marks,
+            ready,
+        },
     }
 }

@@ -6,8 +6,10 @@ use Rattle.isle_trees.specs.Search.{AreDistinct, below}
 use Rattle.isle_trees.proofs.Building.Lists.{ascending_distinct, below_ascends, below_less}
 use Rattle.isle_trees.proofs.Building.Reorder.{same_builds, same_elem}
 use Rattle.isle_blocks.specs.declared.constraint.Constraint.{Constraint}
-use Rattle.isle_blocks.specs.Trees.Builder.{IsFit, rules_in}
+use Rattle.isle_blocks.specs.Rows.{numbers_of}
+use Rattle.isle_blocks.specs.Trees.Builder.{IsFit, rules_in, scope_of, users_at}
 use Rattle.isle_blocks.specs.Trees.Nodes.{first_steps, read}
+use Rattle.isle_blocks.proofs.Trees.Marking.Ready.{ready_all}
 use Rattle.isle_blocks.proofs.serializer.nodes_of.Goals as goal
 
 pub in_order-requires : goal.in_order-requires
@@ -23,6 +25,19 @@ available-requires-clause-fit c =
 pub lay_out-requires-clause-fit : goal.lay_out-requires-clause-fit
 lay_out-requires-clause-fit c =
     subst (λ (n : ℕ). IsFit c.args.set.now n c.in_ok-known.known) c.site_count-sites.ensures.count (c.in_ok-known.ensures.fit c.args.set.now)
+
+pub all_ready-requires-clause-fit : goal.all_ready-requires-clause-fit
+all_ready-requires-clause-fit c =
+    subst (λ (n : ℕ). IsFit c.args.set.now n c.in_ok-known.known) c.site_count-sites.ensures.count (c.in_ok-known.ensures.fit c.args.set.now)
+
+pub lay_out-requires-clause-ready : goal.lay_out-requires-clause-ready
+lay_out-requires-clause-ready c =
+    let set = c.args.set.now in
+    let users = users_at c.in_ok-index.index in
+    let sc = scope_of set c.in_ok-known.known in
+    ready_all (rules_in set) (length set.sites) users c.in_ok-left.left.items sc
+    c.in_ok-marks.marks (numbers_of c.in_ok-ready.ready.items) c.in_ok-index.ensures.is.used c.in_ok-marks.ensures.size
+    c.in_ok-ready.ensures
 
 pub lay_out-requires-clause-rules : goal.lay_out-requires-clause-rules
 lay_out-requires-clause-rules c i m =

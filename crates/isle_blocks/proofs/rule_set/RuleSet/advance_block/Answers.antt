@@ -15,7 +15,7 @@ step-requires-clause-split c =
     let P : Option CodeTest → Type 0 = λ x. MatchOption x (HasNoTest R c.deref.result.now sc) (λ y. IsBest R c.deref.result.now sc (test_shown y)) in
     record {
       open_is = c.requires.place;
-      best = subst (λ (l : List ℕ). IsBest R l sc t) c.deref.ensures.value (subst P c.in-Some.is c.in_ok-best.ensures);
+      best = subst (λ (l : List ℕ). IsBest R l sc t) c.deref.ensures.value (subst P c.in-Some.is c.best.ensures);
       chosen_is = c.in_ok-chosen-in-Some.ensures.counted ∙ ap (λ (l : List ℕ). counted R t l) c.deref-in-Some.ensures.value;
       rest_is = c.in_ok-chosen-in-Some.ensures.others ∙ ap (λ (l : List ℕ). others R t l) c.deref-in-Some.ensures.value;
     }
@@ -27,4 +27,4 @@ returns-in_ok-finish-in-None c =
     let sc = scope_of set c.args.place.known in
     let P : Option CodeTest → Type 0 = λ x. MatchOption x (HasNoTest R c.deref.result.now sc) (λ y. IsBest R c.deref.result.now sc (test_shown y)) in
     moved_returns set c.args.place c.args.work.now.items c.args.nodes.now.items c.finish.new.nodes.items c.requires.place
-    (subst (λ (l : List ℕ). HasNoTest R l sc) c.deref.ensures.value (subst P c.in-None.is c.in_ok-best.ensures)) c.in_ok-finish-in-None.ensures
+    (subst (λ (l : List ℕ). HasNoTest R l sc) c.deref.ensures.value (subst P c.in-None.is c.best.ensures)) c.in_ok-finish-in-None.ensures

@@ -1,13 +1,14 @@
-use Rattle.std.proofs.Common.{◌≡◌, ap, sym, subst, length, arith, inl, inr}
-use Rattle.isle_trees.specs.Scopes.{Scope, on_equal}
-use Rattle.isle_trees.specs.Search.{AreSound, IsSamePath}
-use Rattle.isle_blocks.specs.declared.constraint.Constraint.{Constraint}
+use Rattle.std.proofs.Common.{◌≡◌, ap, length, arith, inl, inr}
+use Rattle.isle_trees.specs.Scopes.{on_equal}
+use Rattle.isle_trees.specs.Search.{IsSamePath}
 use Rattle.isle_blocks.specs.Rows.{numbers_of}
 use Rattle.isle_blocks.specs.Trees.Builder.{rules_in, scope_of}
-use Rattle.isle_trees.proofs.Building.Enter.{path_bound, sound_join, sound_path}
+use Rattle.isle_trees.proofs.Building.Enter.{path_bound}
 use Rattle.isle_trees.proofs.Building.Sorting.{rest_marked}
+use Rattle.isle_blocks.proofs.Trees.Marking.Spreading.{marked_joined}
+use Rattle.isle_blocks.proofs.Trees.Marking.Ready.{ready_joined, ready_path}
 use Rattle.isle_blocks.proofs.Trees.Moving.{moved_equal}
-use Rattle.isle_blocks.proofs.Trees.Stepping.{chosen_ordered, chosen_rules, rest_ordered, rest_rules, test_within}
+use Rattle.isle_blocks.proofs.Trees.Stepping.{chosen_left, chosen_ordered, chosen_rules, rest_left, rest_ordered, rest_rules, test_within}
 use Rattle.isle_blocks.proofs.rule_set.RuleSet.step_equal.Goals as goal
 
 pub emit_each-requires-clause-below : goal.emit_each-requires-clause-below
@@ -35,6 +36,16 @@ push_rest-requires-clause-marked c =
     rest_marked (rules_in c.args.self.now) c.args.place.left.items c.args.rest.items sc mid (on_equal c.args.a.0 c.args.b.0) c.args.place.marks path
     c.requires.split.rest_is c.requires.split.open_is.marked
 
+pub push_rest-requires-clause-ready : goal.push_rest-requires-clause-ready
+push_rest-requires-clause-ready c =
+    let set = c.args.self.now in
+    let sc = scope_of set c.args.place.known in
+    let mid = scope_of set c.emit_each.new.known in
+    let emits = c.in_ok-emit_each.ensures.emits in
+    let path : IsSamePath sc mid = path_bound sc mid emits.all emits.ending in
+    ready_path (rules_in set) c.args.place.left.items c.args.rest.items sc mid c.args.place.marks (numbers_of c.args.place.ready.items) path.passed
+    (rest_left set c.args.place (on_equal c.args.a.0 c.args.b.0) c.args.chosen.items c.args.rest.items c.requires.split) c.requires.split.open_is.ready
+
 pub join-requires-clause-a : goal.join-requires-clause-a
 join-requires-clause-a c =
     let t = on_equal c.args.a.0 c.args.b.0 in
@@ -53,17 +64,27 @@ join-requires-clause-b c =
     let e : length c.emit_each.new.known.labels ≡ length c.args.place.known.labels = ap length c.in_ok-emit_each.ensures.known.labels in
     omega (arith, p, f, e)
 
-pub available-requires-clause-sound : goal.available-requires-clause-sound
-available-requires-clause-sound c =
+pub push_body-requires-clause-marked : goal.push_body-requires-clause-marked
+push_body-requires-clause-marked c =
     let set = c.args.self.now in
-    let R = rules_in set in
     let sc = scope_of set c.args.place.known in
     let mid = scope_of set c.emit_each.new.known in
     let emits = c.in_ok-emit_each.ensures.emits in
     let path : IsSamePath sc mid = path_bound sc mid emits.all emits.ending in
-    let S : Scope Constraint → Type 0 = λ x. AreSound R x c.args.place.marks in
-    subst S (sym (c.in_ok-join.ensures.scope set))
-    (sound_join R mid c.args.a.0 c.args.b.0 c.args.place.marks (sound_path R sc mid c.args.place.marks path c.requires.split.open_is.marked.sound))
+    marked_joined (rules_in set) c.args.place.left.items c.args.chosen.items sc mid (scope_of set c.join.new.self) c.args.a.0 c.args.b.0
+    c.args.place.marks path (c.in_ok-join.ensures.scope set)
+    (chosen_left set c.args.place (on_equal c.args.a.0 c.args.b.0) c.args.chosen.items c.args.rest.items c.requires.split) c.requires.split.open_is.marked
+
+pub push_body-requires-clause-ready : goal.push_body-requires-clause-ready
+push_body-requires-clause-ready c =
+    let set = c.args.self.now in
+    let sc = scope_of set c.args.place.known in
+    let mid = scope_of set c.emit_each.new.known in
+    let emits = c.in_ok-emit_each.ensures.emits in
+    let path : IsSamePath sc mid = path_bound sc mid emits.all emits.ending in
+    ready_joined (rules_in set) c.args.place.left.items c.args.chosen.items sc mid (scope_of set c.join.new.self) c.args.a.0 c.args.b.0
+    c.args.place.marks (numbers_of c.args.place.ready.items) path (c.in_ok-join.ensures.scope set)
+    (chosen_left set c.args.place (on_equal c.args.a.0 c.args.b.0) c.args.chosen.items c.args.rest.items c.requires.split) c.requires.split.open_is.ready
 
 pub push_body-requires-clause-order : goal.push_body-requires-clause-order
 push_body-requires-clause-order c =

@@ -1,0 +1,11 @@
+use Rattle.std.proofs.Common.{◌≡◌, ◌++◌, take}
+use Rattle.std.specs.List.{filter}
+use Rattle.isle_blocks.specs.Rows.{numbers_of}
+use Rattle.isle_blocks.specs.Trees.Builder.{scope_of, users_at}
+use Rattle.isle_blocks.specs.Trees.Marking.{is_testable}
+use Rattle.isle_blocks.proofs.rule_set.RuleSet.add_ready.Given as goal
+
+abbrev pub invariant-loop-site : goal.invariant-loop-site
+invariant-loop-site l =
+    numbers_of l.ready.items ≡ numbers_of l.initial.ready.items
+    ++ filter (is_testable (users_at l.index) (scope_of l.self l.known) l.marks) (numbers_of (take l.site-index l.sites))
