@@ -1,6 +1,6 @@
 -- Worked case: what is printed of (rule (f 5) 7), whole, and what isn't.
 use Rattle.std.proofs.Common.{◌≡◌, ◌++◌, ◌∷◌, ◌∙◌, [], ℕ, true, false, List, None, refl, ap, sym, codes, arith, length, get_or, drop, length-append, append-nil, subst}
-use Rattle.std.specs.Prelude.{pos, slice_get, unwrap_or}
+use Rattle.std.specs.Prelude.{slice_get, unwrap_or}
 use Rattle.std.specs.Fmt.{decimal}
 use Rattle.std.specs.List.{IsDistinct, flat_map}
 use Rattle.std.specs.List.Sorted.{IsStrictlySortedBy}
@@ -15,21 +15,18 @@ use Rattle.isle_types.specs.TypeTables.{TypeTables, no_tables}
 use Rattle.isle_terms.specs.declared.terms.Term.{Term}
 use Rattle.isle_terms.specs.declared.terms.TermKind.TheVariants as kind
 use Rattle.isle_terms.specs.Shown.TermTables.{TermTables}
-use Rattle.isle_trees.specs.Tree.{Steps, done, «match», give, no_arm, arm}
+use Rattle.isle_trees.specs.Tree.{arm}
 use Rattle.isle_blocks.specs.declared.binding.Binding.TheVariants as sites
-use Rattle.isle_blocks.specs.declared.constraint.Constraint.{Constraint}
-use Rattle.isle_blocks.specs.declared.constraint.Constraint.TheVariants as tests
-use Rattle.isle_blocks.specs.declared.rule.Rule.{Rule}
 use Rattle.isle_blocks.specs.ListedSets.{ListsEqualSites}
 use Rattle.isle_blocks.specs.RuleSets.{RulesOverSites}
 use Rattle.isle_run.specs.declared.program.Program.{Program}
 use Rattle.isle_run.specs.Programs.{name_in, rule_sets_of, terms_of, types_of, term_name}
-use Rattle.isle_run.specs.Trees.{IsSetTree}
 use Rattle.isle_run.specs.TreeTexts.Names.{AreTexts, no_texts, more_texts, type_text}
 use Rattle.isle_run.specs.TreeTexts.Rules.{IsRuleText, equal_line, heading_line, test_line}
 use Rattle.isle_run.specs.TreeTexts.Sites.{sites_text}
 use Rattle.isle_run.specs.TreeTexts.Sets.{IsEntryText, IsSetText, TellsTrees}
 use Rattle.isle_run.specs.TreeTexts.Steps.{steps_text}
+use Rattle.isle_run.proofs.Cases.SetTrees.{block, five, is_set_tree, rule, set, tree}
 use Rattle.isle_run.proofs.Cases.Decimals.{zero_text, one_text, two_text, three_text, five_text, seven_text}
 
 -- the types and the names of two terms, f and g
@@ -63,30 +60,6 @@ terms = record {
 -- the file that the rule stands in
 abbrev pub files : List SourceFile
 files = (record { name = codes "f.isle"; text = codes "; f\n(rule (f 5) 7)" }) ∷ []
-
--- the rule
-abbrev five : Constraint
-five = tests.ConstInt (pos 5) (record { 0 = 1 })
-
-abbrev pub rule : Rule
-rule = record {
-  id = record { 0 = 3 };
-  pos = record { file = 0; offset = 4 };
-  constraints = (record { 0 = 0 }, five) ∷ [];
-  equals = [];
-  iterators = [];
-  prio = pos 0;
-  name = None;
-  impure = [];
-  result = record { 0 = 1 };
-}
-
--- its set, and its tree
-abbrev pub set : RulesOverSites
-set = record { rules = rule ∷ []; sites = sites.Argument (record { 0 = 0 }) ∷ sites.ConstInt (pos 7) (record { 0 = 1 }) ∷ [] }
-
-abbrev pub tree : Steps Constraint
-tree = «match» [] 0 (arm five [] (give [] 0 done) no_arm) done
 
 -- its lines
 abbrev sites_lines : List ℕ
@@ -194,19 +167,18 @@ module _ (program : Program) (has_types : types_of program ≡ tables) (has_term
     not_empty_for_f : TellsTrees program files (record { 0 = 0 } ∷ []) [] → ⊥
     not_empty_for_f told = let its = told_of (record { 0 = 0 } ∷ []) [] told in let is = its.is in cc
 
-  module _ (built : IsSetTree set (record { tree = tree; returns = [] })) where
-    its_text : IsSetText program files (record { 0 = 0 }) set set_lines
-    its_text = record {
-      tree = record { tree = tree; returns = [] };
-      built = built;
-      rules = rule_lines;
-      told = more_texts its_lines no_texts;
-      is = rw (type_named, term_is_f, seven_text, five_text, two_text, one_text, zero_text);
-    }
+  its_text : IsSetText program files (record { 0 = 0 }) set set_lines
+  its_text = record {
+    tree = block;
+    built = is_set_tree;
+    rules = rule_lines;
+    told = more_texts its_lines no_texts;
+    is = rw (type_named, term_is_f, seven_text, five_text, two_text, one_text, zero_text);
+  }
 
-    module _ (has_sets : rule_sets_of program ≡ (record { 0 = 0 }, set) ∷ []) where
-      all_told : TellsTrees program files [] set_lines
-      all_told = tells has_sets [] set_lines its_text
+  module _ (has_sets : rule_sets_of program ≡ (record { 0 = 0 }, set) ∷ []) where
+    all_told : TellsTrees program files [] set_lines
+    all_told = tells has_sets [] set_lines its_text
 
-      f_told : TellsTrees program files (record { 0 = 0 } ∷ []) set_lines
-      f_told = tells has_sets (record { 0 = 0 } ∷ []) set_lines its_text
+    f_told : TellsTrees program files (record { 0 = 0 } ∷ []) set_lines
+    f_told = tells has_sets (record { 0 = 0 } ∷ []) set_lines its_text
