@@ -6,7 +6,6 @@ use Rattle.isle_syntax.specs.Positions.Files.{SourceFile}
 use Rattle.isle_types.specs.declared.ids.TermId.{TermId}
 use Rattle.isle_types.specs.TypeTables.{TypeTables, no_tables}
 use Rattle.isle_terms.specs.Shown.TermTables.{TermTables}
-use Rattle.isle_blocks.specs.RuleSets.{RulesOverSites}
 use Rattle.isle_run.specs.declared.program.Program.{Program}
 use Rattle.isle_run.specs.Compiled.{AreAccepted, IsProgramOf}
 use Rattle.isle_run.specs.Programs.{rule_sets_of, term_named, terms_of, types_of}
@@ -122,10 +121,10 @@ module _ (program : Program) (has : HasBoth program) where
           none_is_no_term term (sym h_missing ∙ ap (term_named program) is_h ∙ first_of (term_named program) name before term others known)
 
   -- where f alone has a rule set, and its trees are this text
-  module _ (files : List SourceFile) (set : RulesOverSites) (has_set : rule_sets_of program ≡ (f, set) ∷ []) (text : List ℕ)
+  module _ (files : List SourceFile) (set : _) (has_set : rule_sets_of program ≡ (f, set) ∷ []) (text : List ℕ)
       (told : IsSetText program files f set text) where
     tells : (asked : List TermId) (drawn : List ℕ) → IsEntryText program files asked (f, set) drawn → TellsTrees program files asked drawn
-    tells asked drawn is = subst (λ (sets : List (TermId × RulesOverSites)). AreTexts (IsEntryText program files asked) sets drawn) (sym has_set)
+    tells asked drawn is = subst (λ (sets : _). AreTexts (IsEntryText program files asked) sets drawn) (sym has_set)
         (subst (AreTexts (IsEntryText program files asked) ((f, set) ∷ [])) (append-nil drawn) (more_texts is no_texts))
 
     -- all of it is drawn, or that of f, and nothing of g
@@ -147,7 +146,7 @@ module _ (program : Program) (has : HasBoth program) where
         no_text_for_g (term ∷ []) named tells =
             let is_g = same_Some g term (sym g_found ∙ first_of (term_named program) (codes "g") [] term [] named) in
             let of_f = text_of_one (IsEntryText program files (term ∷ [])) (f, set) (codes "term 0 f\n")
-            (subst (λ (sets : List (TermId × RulesOverSites)). AreTexts (IsEntryText program files (term ∷ [])) sets (codes "term 0 f\n")) has_set tells) in
+            (subst (λ (sets : _). AreTexts (IsEntryText program files (term ∷ [])) sets (codes "term 0 f\n")) has_set tells) in
             let none : codes "term 0 f\n" ≡ [] =
             subst (λ (t : TermId). IsEntryText program files (t ∷ []) (f, set) (codes "term 0 f\n")) (sym is_g) of_f in
             cc
@@ -187,7 +186,7 @@ module _ (program : Program) (has : HasBoth program) where
       drawn = record {
         terms = [];
         named = refl;
-        told = subst (λ (sets : List (TermId × RulesOverSites)). AreTexts (IsEntryText program files []) sets []) (sym none) no_texts;
+        told = subst (λ (sets : _). AreTexts (IsEntryText program files []) sets []) (sym none) no_texts;
       };
       written = refl;
     }

@@ -15,8 +15,6 @@ use Rattle.isle_types.specs.TypeTables.{TypeTables, no_tables}
 use Rattle.isle_terms.specs.declared.terms.Term.{Term}
 use Rattle.isle_terms.specs.declared.terms.TermKind.TheVariants as kind
 use Rattle.isle_terms.specs.Shown.TermTables.{TermTables}
-use Rattle.isle_trees.specs.Tree.{arm}
-use Rattle.isle_blocks.specs.declared.binding.Binding.TheVariants as sites
 use Rattle.isle_blocks.specs.ListedSets.{ListsEqualSites}
 use Rattle.isle_blocks.specs.RuleSets.{RulesOverSites}
 use Rattle.isle_run.specs.declared.program.Program.{Program}
