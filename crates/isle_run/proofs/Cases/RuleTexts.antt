@@ -1,5 +1,5 @@
 -- Worked case: the lines of a rule that has a name, a test, equal sites, a multi call and impure calls.
-use Rattle.std.proofs.Common.{◌≡◌, ◌≤◌, ◌||◌, ◌&&◌, ◌∷◌, [], ℕ, zero, suc, Bool, true, false, List, Some, refl, ap, codes, length, arith}
+use Rattle.std.proofs.Common.{◌≡◌, ◌≤◌, ◌||◌, ◌&&◌, ◌∷◌, [], ℕ, zero, suc, Bool, true, false, List, Some, refl, ap, codes, length, arith, sym, ◌∙◌}
 use Rattle.std.specs.Prelude.{negsuc, unwrap_or}
 use Rattle.std.specs.List.{All, IsDistinct}
 use Rattle.std.specs.List.Sorted.{IsStrictlySortedBy}
@@ -69,6 +69,7 @@ ascending_sites : ListsEqualSites joined listed
 unfolding IsDistinct IsStrictlySortedBy
 ascending_sites = record {
   joined = λ a b l. either_order (same_site a (id 0)) (same_site a (id 2)) (same_site b (id 0)) (same_site b (id 2));
+  only = λ a b both. sym (either_order (same_site a (id 0)) (same_site a (id 2)) (same_site b (id 0)) (same_site b (id 2))) ∙ both;
   disjoint = record { at_least_two = at_least_two; distinct = ((refl, tt), (tt, tt)) };
   ascending = ascend;
   in_order = (tt, tt);
@@ -81,6 +82,10 @@ descending_sites lists = let wrong = (lists.ascending 0 [] (omega arith)).0.0 in
 
 no_sites : ListsEqualSites joined [] → ⊥
 no_sites lists = let wrong = lists.joined (id 0) (id 2) (omega arith) in cc
+
+-- and no other sites are, however great their numbers
+other_sites : ListsEqualSites joined ((id 65536 ∷ id 65537 ∷ []) ∷ listed) → ⊥
+other_sites lists = let wrong = lists.only (id 65536) (id 65537) refl in cc
 
 module _ (program : Program) (has_name : types_of program ≡ record no_tables { names = codes "first" ∷ [] }) where
   named : symbol_name program (record { 0 = 0 }) ≡ codes "first"

@@ -5,6 +5,7 @@ use Rattle.std.specs.Fmt.{decimal}
 use Rattle.std.specs.List.{IsDistinct, flat_map}
 use Rattle.std.specs.List.Sorted.{IsStrictlySortedBy}
 use Rattle.std.specs.Option.{option_and_then}
+use Rattle.std.proofs.lemmas.List.Elements.{Contains-get_or}
 use Rattle.isle_syntax.specs.Positions.Files.{SourceFile}
 use Rattle.isle_types.specs.declared.ids.TermId.{TermId}
 use Rattle.isle_types.specs.declared.types.BuiltinType.TheVariants as builtin
@@ -15,7 +16,9 @@ use Rattle.isle_types.specs.TypeTables.{TypeTables, no_tables}
 use Rattle.isle_terms.specs.declared.terms.Term.{Term}
 use Rattle.isle_terms.specs.declared.terms.TermKind.TheVariants as kind
 use Rattle.isle_terms.specs.Shown.TermTables.{TermTables}
+use Rattle.isle_blocks.specs.declared.ids.BindingId.{BindingId}
 use Rattle.isle_blocks.specs.ListedSets.{ListsEqualSites}
+use Rattle.isle_blocks.proofs.ClosedEqualities.{joined_at}
 use Rattle.isle_blocks.specs.RuleSets.{RulesOverSites}
 use Rattle.isle_run.specs.declared.program.Program.{Program}
 use Rattle.isle_run.specs.Programs.{name_in, rule_sets_of, terms_of, types_of, term_name}
@@ -89,10 +92,21 @@ no_sets : ListsEqualSites [] []
 unfolding IsDistinct IsStrictlySortedBy
 no_sets = record {
   joined = λ a b l. refl;
+  only = λ a b both. both;
   disjoint = record { at_least_two = λ k d l. absurd (omega arith); distinct = tt };
   ascending = λ k d l. absurd (omega arith);
   in_order = tt;
 }
+
+-- and no others do
+no_others : (sets : List (List BindingId)) → ListsEqualSites [] sets → sets ≡ []
+no_others [] lists = refl
+no_others (set ∷ sets) lists =
+    let two = lists.disjoint.at_least_two 0 [] (omega arith) in
+    let first = get_or set 0 (record { 0 = 0 }) in
+    let has = Contains-get_or set 0 (record { 0 = 0 }) (omega arith) in
+    let wrong : false ≡ true = lists.only first first (joined_at (set ∷ sets) first first set (0, omega arith, refl) has has) in
+    absurd cc
 
 module _ (program : Program) (has_types : types_of program ≡ tables) (has_terms : terms_of program ≡ terms) where
   -- names
@@ -131,6 +145,16 @@ module _ (program : Program) (has_types : types_of program ≡ tables) (has_term
       ap (drop 76) (rw (type_named, three_text, five_text, two_text, one_text, zero_text) at told.is) in
       let none : 0 ≡ length (flat_map equal_line told.sets ++ codes "    result 1\n") = ap (length {A = ℕ}) rest in
       omega (arith, none, length-append (flat_map equal_line told.sets) (codes "    result 1\n"))
+
+  -- no other text is its lines, such as one with a line of equal sites
+  no_other_lines : (text : List ℕ) → IsRuleText program files rule text → text ≡ rule_lines
+  no_other_lines text told =
+      let none = no_others told.sets told.listed in
+      told.is ∙ (rw (none, type_named, three_text, five_text, two_text, one_text, zero_text))
+
+  with_equal_sites : IsRuleText program files rule
+      (codes "  rule 3 at f.isle:2:1 name - prio 0 constraints 1\n    0 is ConstInt 5 u8#1\n    equal 65536 65537\n    result 1\n") → ⊥
+  with_equal_sites told = let letter = ap (λ (text : List ℕ). get_or text 80 0) (no_other_lines _ told) in omega (arith, letter)
 
   -- without the heading of its rule the text is none
   without_rule : IsSetText program files (record { 0 = 0 }) set without_heading_lines → ⊥
