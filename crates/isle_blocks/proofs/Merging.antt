@@ -1,5 +1,5 @@
 -- Two lists of tests with ascending sites, gone through side by side.
-use Rattle.std.proofs.Common.{◌≡◌, ℕ, ◌+◌, ◌<◌, ◌≤◌, ◌⊎◌, ◌↔◌, length, get_or, Contains, refl, sym, ap, ◌∙◌, inl, inr, arith}
+use Rattle.std.proofs.Common.{◌≡◌, ℕ, ◌+◌, ◌<◌, ◌≤◌, ◌⊎◌, ◌↔◌, length, get_or, Contains, sym, ap, ◌∙◌, inl, inr, arith}
 use Rattle.std.specs.List.Sorted.{IsStrictlySortedBy}
 use Rattle.std.specs.Map.{keys_of}
 use Rattle.std.specs.Ordering.{nat_cmp}
@@ -61,13 +61,6 @@ pub record IsMerged (first second : Tests) (i j common : ℕ) : Type 0 where
 
 half_swapped : {first second : Tests} {i j common : ℕ} → IsMerged first second i j common → IsMerged second first j i common
 half_swapped m = record { left = m.right; right = m.left; agree = λ p q d lp lq e. sym (m.agree q p d lq lp (sym e)) }
-
-pub merged_start : (first second : Tests) → IsMerged first second 0 0 0
-merged_start first second = record {
-  left = record { before = λ p q d l. absurd (omega arith); in_range = omega arith; no_more = omega arith; each = λ e p d l. absurd (omega arith); only = λ h. refl };
-  right = record { before = λ p q d l. absurd (omega arith); in_range = omega arith; no_more = omega arith; each = λ e p d l. absurd (omega arith); only = λ h. refl };
-  agree = λ p q d l. absurd (omega arith);
-}
 
 module _ (first second : Tests) (first_ascends : Ascends first) (second_ascends : Ascends second) (i j common : ℕ) where
   -- a test whose site is below all that are left on the other side stands nowhere there

@@ -87,13 +87,6 @@ pub record AreTestsBelow (numbers : List BindingId) (each : List (Option Constra
   pub own : (id : BindingId) (test : Constraint) → Contains tests (id, test) → (k : ℕ) × (k < n) × (slice_get numbers k ≡ Some id) × HasOwn each k test
   pub all : (k : ℕ) (id : BindingId) (test : Constraint) → k < n → slice_get numbers k ≡ Some id → HasOwn each k test → Contains tests (id, test)
 
-pub tests_before : (numbers : List BindingId) (each : List (Option Constraint)) (tests : List (BindingId × Constraint)) → tests ≡ []
-    → AreTestsBelow numbers each 0 tests
-tests_before numbers each tests e = record {
-  own = λ id test h. let k : Contains [] (id, test) = subst (λ (l : List (BindingId × Constraint)). Contains l (id, test)) e h in absurd (omega arith);
-  all = λ k id test l at h. absurd (omega arith);
-}
-
 pub tests_all : (numbers : List BindingId) (each : List (Option Constraint)) (tests : List (BindingId × Constraint))
     → AreTestsBelow numbers each (length each) tests → AreTestsOf numbers each tests
 tests_all numbers each tests are = λ id test. (

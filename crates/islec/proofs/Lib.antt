@@ -40,3 +40,5 @@ pub mod ReplyCases
 pub mod EndingCases
 -- Why a command was not begun, and what is told of it, case by case.
 pub mod BeginningCases
+-- Which terms are asked for, what is drawn of them, and how a command that draws ends, case by case.
+pub mod DrawingCases

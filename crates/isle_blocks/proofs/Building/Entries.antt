@@ -24,9 +24,6 @@ use Rattle.isle_blocks.proofs.Rows.RowsInjective.{row-injective}
 abbrev pub Grown : List Row → List Row → Type 0
 Grown rows new = (k : ℕ) (row : Row) → slice_get rows k ≡ Some row → slice_get new k ≡ Some row
 
-abbrev pub grown_then : (a b c : List Row) → Grown a b → Grown b c → Grown a c
-grown_then a b c h g k row e = g k row (h k row e)
-
 module _ (rows new : List Row) (g : Grown rows new) where
   mutual
     pub at_grown : (s : Site) (k : ℕ) → At rows s k → At new s k

@@ -32,7 +32,7 @@ use Rattle.isle_blocks.proofs.Building.Entries.{adds_then, recorded_grown}
 use Rattle.isle_blocks.proofs.Building.Told.{told_then}
 use Rattle.isle_blocks.proofs.Building.Exprs.{visited_rows}
 use Rattle.isle_blocks.proofs.Building.RuleVisits.{follow_args}
-use Rattle.isle_blocks.proofs.Building.Tables.{stands_before, stands_once, parts_before, site_once}
+use Rattle.isle_blocks.proofs.Building.Tables.{stands_before, parts_before}
 use Rattle.isle_blocks.proofs.Building.WellTyped.{all_filled, iflets_filled, typed_calls}
 use Rattle.isle_blocks.proofs.Building.IfLets.{visited_adds, follow_value, follow_iflets}
 
@@ -135,7 +135,3 @@ follow_typed name injective names declared terms known rule typed value s' h is 
 pub built_before : (name : Sym → List ℕ) (facts : TermFacts) (rule : TypedRule) (left : Gathered) (value : BindingId)
     → IsBuiltOf name facts rule left value → PartsAreBefore left.sites
 built_before name facts rule left value h = parts_before name left.sites (stands_before (needs_of facts rule) (rows_of name left.sites) h.sites)
-
-pub built_once : (name : Sym → List ℕ) (facts : TermFacts) (rule : TypedRule) (left : Gathered) (value : BindingId)
-    → IsBuiltOf name facts rule left value → (s : Site) (j k : ℕ) → At (rows_of name left.sites) s j → At (rows_of name left.sites) s k → j ≡ k
-built_once name facts rule left value h = site_once (rows_of name left.sites) (stands_once (needs_of facts rule) (rows_of name left.sites) h.sites)

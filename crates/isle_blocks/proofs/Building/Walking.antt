@@ -1,11 +1,9 @@
 -- A walk down a table.
-use Rattle.std.proofs.Common.{◌≡◌, ◌<◌, ◌+◌, ◌⊎◌, ℕ, zero, suc, Bool, List, [], ◌∷◌, ◌++◌, Some, length, slice_get, Contains, refl, sym, ap, ◌∙◌}
+use Rattle.std.proofs.Common.{◌≡◌, ◌<◌, ◌+◌, ◌⊎◌, ℕ, zero, suc, Bool, List, [], ◌∷◌, Some, length, slice_get, Contains, refl, sym, ap, ◌∙◌}
 use Rattle.std.proofs.Common.{subst, inl, inr, arith, drop, drop-cons, get_or, add-one}
-use Rattle.std.proofs.lemmas.List.Elements.{Contains-append_left, Contains-push, Contains-push_cases}
 use Rattle.isle_blocks.specs.declared.ids.BindingId.{BindingId}
 use Rattle.isle_blocks.specs.declared.binding.Binding.{Binding}
 use Rattle.isle_blocks.specs.declared.binding.Binding.TheVariants.{MatchSome}
-use Rattle.isle_blocks.specs.Bindings.{sources_of}
 use Rattle.isle_blocks.specs.Building.Contents.{PartsAreBefore, Reached, here, through, AreAsked, Marked, HasPart, MarksMore, Walked, IsWalk, IsStart}
 
 pub cons_cases : {A : Type 0} (x : A) (xs : List A) (y : A) → Contains (x ∷ xs) y → (x ≡ y) ⊎ Contains xs y
@@ -42,55 +40,6 @@ marks_cons x xs a b c h k = record {
     | inl e ↦ k.kept part.0 (subst (λ (w : BindingId). Marked b w.0) e (h.all x (cons_here x []) (subst (λ (w : BindingId). w.0 < length a) (sym e) m)))
     | inr w ↦ k.all part w (let f = h.fits in omega arith)
   ];
-}
-
-module _ (sites : List Binding) (k : ℕ) (marks new : List Bool) (site : Binding) (get : slice_get sites k ≡ Some site) (marked : Marked marks k)
-    (more : MarksMore (sources_of site) marks new) where
-  walked_from : (i : ℕ) → Marked new i → Marked marks i ⊎ (Marked marks k × HasPart sites k i)
-  walked_from i m = elim (more.from i m) [ inl h ↦ inl h | inr c ↦ inr (marked, (site, c.0, get, c.1, c.2)) ]
-
-  walked_all : (i : ℕ) → Marked marks k → HasPart sites k i → i < length marks → Marked new i
-  walked_all i m h b =
-      let g = h.2 in
-      let same : h.0 ≡ site = cc in
-      subst (λ z. Marked new z) h.4 (more.all h.1 (subst (λ (r : Binding). Contains (sources_of r) h.1) same h.3)
-      (subst (λ z. z < length marks) (sym h.4) b))
-
-  pub walked_none : (calls : List BindingId) → ((call : BindingId) → site ≡ MatchSome call → ⊥) → Walked sites k marks calls new calls
-  walked_none calls plain = record {
-    fits = more.fits;
-    kept = more.kept;
-    from = walked_from;
-    all = walked_all;
-    calls_kept = λ u c. c;
-    calls_from = λ u c. inl c;
-    calls_all = λ u m g. absurd (plain u (cc));
-  }
-
-  pub walked_call : (calls : List BindingId) (call : BindingId) → site ≡ MatchSome call → Walked sites k marks calls new (calls ++ call ∷ [])
-  walked_call calls call is = record {
-    fits = more.fits;
-    kept = more.kept;
-    from = walked_from;
-    all = walked_all;
-    calls_kept = λ u c. Contains-append_left calls (call ∷ []) u c;
-    calls_from = λ u c. elim (Contains-push_cases calls call u c) [
-      | inl h ↦ inl h
-      | inr e ↦ inr (marked, subst (λ z. slice_get sites k ≡ Some (MatchSome z)) e (get ∙ ap (λ r. Some r) is))
-    ];
-    calls_all = λ u m g. let same : call ≡ u = cc in subst (λ z. Contains (calls ++ call ∷ []) z) same (Contains-push calls call);
-  }
-
-pub walked_not : (sites : List Binding) (k : ℕ) (marks : List Bool) (calls : List BindingId) → (Marked marks k → ⊥)
-    → Walked sites k marks calls marks calls
-walked_not sites k marks calls plain = record {
-  fits = refl;
-  kept = λ i h. h;
-  from = λ i h. inl h;
-  all = λ i m h b. absurd (plain m);
-  calls_kept = λ u c. c;
-  calls_from = λ u c. inl c;
-  calls_all = λ u m g. absurd (plain m);
 }
 
 reached_more : (sites : List Binding) (x k i : ℕ) → Reached sites x k → HasPart sites k i → Reached sites x i

@@ -32,10 +32,6 @@ opposite-true b e = ap opposite e
 pub opposite-false : (b : Bool) → b ≡ true → opposite b ≡ false
 opposite-false b e = ap opposite e
 
-pub false-opposite : (b : Bool) → opposite b ≡ true → b ≡ false
-false-opposite true e = absurd (false≢true e)
-false-opposite false e = refl
-
 pub either : (b : Bool) → (b ≡ true) ⊎ (b ≡ false)
 either true = inl refl
 either false = inr refl

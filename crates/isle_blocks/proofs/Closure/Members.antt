@@ -37,9 +37,6 @@ module _ (old class members : List ℕ) (keep i : ℕ) (i_in : i < length member
         elim (before.1 a) [ inl e ↦ inl (o ∙ e) | inr (c, e) ↦ inr (c, o ∙ e) ]
   ]
 
-  pub relabeled_more : IsRelabeled old (set class member keep) members keep (i + 1)
-  relabeled_more = (relabeled_done, relabeled_same)
-
 pub relabeled : (old class members : List ℕ) (drop keep : ℕ) → AreMembers old drop members → IsRelabeled old class members keep (length members)
     → IsJoined old class drop keep
 relabeled old class members drop keep are after a a_in = elim (cases_eq (get_or old a 0) drop) [

@@ -1,7 +1,6 @@
 -- What the visit of a rule leaves is ready to be closed.
 use Rattle.std.proofs.Common.{◌≡◌, ◌++◌, inl, inr, ℕ, List, [], ◌∷◌, Option, Some, slice_get, sym, subst}
 use Rattle.std.specs.Prelude.{Contains}
-use Rattle.isle_types.specs.Names.{AreDistinct}
 use Rattle.isle_types.proofs.RootedTables.{Contains-map}
 use Rattle.isle_types.specs.declared.ids.Sym.{Sym}
 use Rattle.isle_terms.specs.TypedRules.{TypedRule}
@@ -20,12 +19,9 @@ use Rattle.isle_blocks.specs.Rows.{IsInjective, rows_of, test_of, constraints_of
 use Rattle.isle_blocks.specs.Closure.{Stands}
 use Rattle.isle_blocks.specs.ClosureFields.{IsTable, Opens, field_binding, field_site}
 use Rattle.isle_blocks.specs.ClosureStates.{IsReady, HasField}
-use Rattle.isle_blocks.specs.Building.Gathering.{Gathered}
 use Rattle.isle_blocks.specs.Building.Standing.{Adds, begin, next}
-use Rattle.isle_blocks.specs.Building.Built.{IsBuiltOf}
 use Rattle.isle_blocks.proofs.Closure.Trees.{at_below, at_field, one_number}
 use Rattle.isle_blocks.proofs.Building.Entries.{at_grown, put_grown, put_there, entry_at}
-use Rattle.isle_blocks.proofs.Building.Rules.{built_before}
 
 needed_cases : (xs : List Site) (s t : Site) → IsNeeded (xs ++ t ∷ []) s → (P : Type 0) → (IsNeeded xs s → P) → (s ≡ t → P) → P
 needed_cases [] s t (inl e) P f g = g e
@@ -84,11 +80,3 @@ module _ (name : Sym → List ℕ) (injective : IsInjective name) (facts : TermF
         let (s, u, p, q, d) = recorded.equality a.0 b.0 (Contains-map pair same (a, b) h) in at_below name table u b.0 q;
     fields = field_stands;
   }
-
--- What a visit leaves is ready to be closed.
-pub ready_of_built : (name : Sym → List ℕ) → IsInjective name → (facts : TermFacts) (rule : TypedRule) (left : Gathered) (value : BindingId)
-    → IsBuiltOf name facts rule left value → AreDistinct left.sites → IsReady left.sites left.has left.same
-ready_of_built name injective facts rule left value built once =
-    ready_of_recorded name injective facts rule left.sites left.has left.same
-    (record { earlier = built_before name facts rule left value built; once = once }) built.demands
-    (needed_stands [] (needs_of facts rule) (rows_of name left.sites) built.sites)

@@ -20,14 +20,6 @@ use Rattle.isle_blocks.specs.Rows.{IsInjective, numbers_of, row_of, rows_of}
 use Rattle.isle_blocks.specs.ClosureFields.{IsTable, field_binding, field_site}
 use Rattle.isle_blocks.proofs.Rows.RowsInjective.{row-injective}
 
-abbrev pub field_row : Option ℕ → ℕ → ℕ → Row
-field_row (Some variant) source i = match_variant_row source variant i
-field_row None source i = extract_struct_row source i
-
-row_of_field : (name : Sym → List ℕ) (kind : Option ℕ) (a i : ℕ) → row_of name (field_binding kind a i) ≡ field_row kind a i
-row_of_field name (Some v) a i = refl
-row_of_field name None a i = refl
-
 pub field_parts : (kind : Option ℕ) (s i : ℕ) (other : Option ℕ) (t j : ℕ) → field_binding kind s i ≡ field_binding other t j → (s ≡ t) × (kind ≡ other) × (i ≡ j)
 field_parts (Some v) s i (Some w) t j e =
     let p : ◌≡◌ {A = BindingId} (record { 0 = s }) (record { 0 = t }) = cc in let q : ◌≡◌ {A = VariantId} (record { 0 = v }) (record { 0 = w }) = cc in

@@ -200,7 +200,3 @@ moved_grows name injective ds base own between numbers moved base_ok own_ok = re
   kept = grown base own between numbers moved base_ok own_ok name injective;
   explained = λ s (k, q). elim (all_known base own between numbers moved base_ok own_ok name injective s k q) [ inl x ↦ inl x | inr x ↦ inr (inl x) ];
 }
-
--- a table has grown by nothing
-pub nothing_grows : (name : Sym → List ℕ) (ds : List Demand) (base own : List Binding) → IsTable base → GrowsFor name ds base own base
-nothing_grows name ds base own base_ok = record { sites = base_ok; kept = λ k b e. e; explained = λ s stands. inl stands }

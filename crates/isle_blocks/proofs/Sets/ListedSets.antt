@@ -291,8 +291,7 @@ module _ (equals left sets : List (List BindingId)) (n : ℕ) (listed : AreListe
 pub all_listed : (equals left sets : List (List BindingId)) (n : ℕ) → AreListedBelow equals left sets n → (left ≡ []) ⊎ (65536 ≤ n)
     → ListsEqualSites equals sets
 all_listed equals left sets n listed done = record {
-  joined = λ a b small. bool_same (are_joined same_site sets a b) (are_joined same_site equals a b)
-      (λ both. joined_of equals a b ((listed.split a b).1 (inl (in_one sets a b both))))
+  joined = λ a b small. bool_same (are_joined same_site sets a b) (are_joined same_site equals a b) (only a b)
       (λ both. elim ((listed.split a b).0 (in_one equals a b both)) [
         | inl mine ↦ joined_of sets a b mine
         | inr other ↦ elim done [
@@ -300,7 +299,11 @@ all_listed equals left sets n listed done = record {
           | inr past ↦ absurd (let low = listed.later a (member_of_set left a other.set other.stands other.first) in omega arith)
         ]
       ]);
+  only = only;
   disjoint = record { at_least_two = listed.long; distinct = IsDistinct-from_AllPairs id_tells (members sets) (once_pairs (members sets) listed.once) };
   ascending = listed.ascending;
   in_order = listed.in_order;
 }
+  where
+    only : (a b : BindingId) → are_joined same_site sets a b ≡ true → are_joined same_site equals a b ≡ true
+    only a b both = joined_of equals a b ((listed.split a b).1 (inl (in_one sets a b both)))

@@ -67,16 +67,6 @@ entered_later m l e = record { free = e.free; site = e.site; below = (let b = e.
 together_later : {each : List (Option Constraint)} {class : List ℕ} {n : ℕ} (m : ℕ) {a b : ℕ} → n ≤ m → AreTogether each class n a b → AreTogether each class m a b
 together_later m l t = (entered_later m l t.0, entered_later m l t.1, t.2)
 
-pub sets_before : (numbers : List BindingId) (each : List (Option Constraint)) (class : List ℕ) (sets : List (List BindingId)) → sets ≡ []
-    → AreSetsBelow numbers each class 0 sets
-sets_before numbers each class sets e = record {
-  joined = λ a b. (
-    λ h. absurd (false≢true (ap (λ (l : List (List BindingId)). are_joined site_eq l a b) (sym e) ∙ h)),
-    λ (k, l, at, there, t). absurd (let below = t.0.below in omega arith),
-  );
-  none = λ h. e;
-}
-
 module _ (numbers : List BindingId) (once : AreDistinct numbers) (each : List (Option Constraint)) (class : List ℕ)
     (classes : AreClasses (length class) class) (shared : HaveClassTests each class) where
   -- The sets are those of the classes once all sites are merged.

@@ -1,7 +1,7 @@
 -- What is looked up for a test that a rule has.
 use Rattle.std.proofs.Common.{◌≡◌, inl, inr, ℕ, zero, suc, ◌<◌, Bool, true, List, [], ◌∷◌, map, Option, Some, None, slice_get, refl}
-use Rattle.std.proofs.Common.{ap, sym, subst, ◌∙◌, arith}
-use Rattle.std.proofs.Common.{◌==◌, eq-eqb, eqb-true}
+use Rattle.std.proofs.Common.{ap, sym, ◌∙◌, arith}
+use Rattle.std.proofs.Common.{◌==◌, eq-eqb}
 use Rattle.std.specs.Prelude.{nat_lt}
 use Rattle.std.proofs.lemmas.Bool.Decides.{nat_tests}
 use Rattle.isle_types.specs.declared.ids.Sym.{Sym}
@@ -9,33 +9,26 @@ use Rattle.isle_terms.specs.declared.rules.Rule as source
 use Rattle.isle_terms.specs.TypedRules.{TypedRule}
 use Rattle.isle_meaning.specs.Facts.{TermFacts}
 use Rattle.isle_meaning.specs.Held.{Held}
-use Rattle.isle_meaning.specs.Sites.{Site}
-use Rattle.isle_meaning.specs.Demands.{Demand, constrained}
-use Rattle.isle_meaning.specs.Derived.{Derived, FieldOf, of_variant, of_struct}
-use Rattle.isle_meaning.specs.Laws.Matching.{DemandOf}
 use Rattle.isle_blocks.specs.declared.ids.BindingId.{BindingId}
 use Rattle.isle_blocks.specs.declared.binding.Binding.{Binding}
 use Rattle.isle_blocks.specs.declared.constraint.Constraint.{Constraint}
 use Rattle.isle_blocks.specs.declared.constraint.Constraint.TheVariants as tests
 use Rattle.isle_blocks.specs.declared.rule.Rule.{Rule}
-use Rattle.isle_blocks.specs.ClosureFields.{field_binding, field_site}
 use Rattle.isle_blocks.specs.Constraints.{bindings_made, fields_below, variant_field, struct_field}
-use Rattle.isle_blocks.specs.Rows.{test_of}
 use Rattle.isle_blocks.specs.RuleSets.{RulesOverSites}
 use Rattle.isle_blocks.specs.Tables.{IsFound}
 use Rattle.isle_types.specs.Names.{AreDistinct}
 use Rattle.std.specs.Option.{option_map}
-use Rattle.isle_blocks.proofs.Closure.Trees.{at_field, one_number}
 use Rattle.isle_trees.specs.Premises.{IsWellMade}
 use Rattle.isle_trees.specs.Rules.{has, Rules, Elem}
 use Rattle.isle_trees.specs.Scopes.{is_source}
-use Rattle.isle_trees.proofs.Basics.{none_or, and_both, both_and, by_made}
+use Rattle.isle_trees.proofs.Basics.{none_or, both_and, by_made}
 use Rattle.isle_blocks.specs.Trees.View.{id_of, keep, test_at, has_loop, want_at, made_by, made_at, opening, place_of, opens_field, tests_by}
 use Rattle.isle_blocks.specs.Trees.View.{field_of, rules_of}
 use Rattle.isle_blocks.specs.Trees.Premises.{IsRunnableSet}
 use Rattle.isle_blocks.proofs.Trees.Reading.{read_some, want_test, place_sound, place_found}
 use Rattle.isle_trees.proofs.Asking.{elem_append}
-use Rattle.isle_blocks.proofs.Trees.WellMade.{made_rule, derived_test, wanted_test, well_made}
+use Rattle.isle_blocks.proofs.Trees.WellMade.{well_made}
 use Rattle.isle_blocks.proofs.Trees.Listed.{opening_is}
 
 -- What a look-up finds is the place of the site.
@@ -64,17 +57,6 @@ map_same f g (x ∷ xs) h = let p = h x (inl refl) in let q = map_same f g xs (�
 keep_same : {A : Type 0} (p : A → Bool) (o : Option A) → ((x : A) → o ≡ Some x → p x ≡ true) → keep p o ≡ o
 keep_same p None h = refl
 keep_same p (Some x) h = rw (h x refl) refl
-
--- a field that a derived test opens
-field_of_test : (name : Sym → List ℕ) (D : Demand → Type 0) (kind : Option ℕ) (f : ℕ) (c : Constraint) (u : Site) → opens_field kind f c ≡ true
-    → Derived D (constrained u (test_of name c)) → FieldOf D u (field_site kind u f)
-field_of_test name D (Some k) f (tests.Variant ty v n) u o d =
-    let b = and_both (v.0 == k) (nat_lt f n.0) o in
-    let e : v.0 ≡ k = eqb-true v.0 k (b.0) in
-    let l : f < n.0 = let t = b.1 in grind (arith, nat_tests) in
-    subst (λ (j : ℕ). FieldOf D u (field_site (Some j) u f)) e (of_variant {ty = ty.0} {k = v.0} {n = n.0} {i = f} d l)
-field_of_test name D None f (tests.Struct ty n) u o d = of_struct {ty = ty.0} {n = n.0} {i = f} d (grind (arith, nat_tests))
-field_of_test name D kind f c u o d = absurd cc
 
 module _ (name : Sym → List ℕ) (set : RulesOverSites) (well : IsWellMade (rules_of name set))
     (opens : (i : ℕ) (r : Rule) (s : ℕ) (kind : Option ℕ) (f : ℕ) (c : Constraint) → slice_get set.rules i ≡ Some r → test_at s r ≡ Some c
@@ -121,16 +103,3 @@ module _ (name : Sym → List ℕ) (facts : TermFacts) (sources : List source.Ru
       → R.fields s c ≡ map (λ (b : Binding). place_of b set.sites) (bindings_made c (id_of s))
   fields_found i s c e =
       fields_looked_up name set (well_made name facts sources rules term set h) (opening_is name facts sources rules term set h) i s c e
-
-  -- A field of a variant or struct that a rule tests stands in the table.
-  pub fields_stand : (i s : ℕ) (c : Constraint) (kind : Option ℕ) (f : ℕ) → R.at i s ≡ Some (has c) → opens_field kind f c ≡ true
-      → (x : ℕ) × (place_of (field_binding kind s f) set.sites ≡ Some x)
-  fields_stand i s c kind f e o =
-      let (r, at, t) = wanted_test name facts sources rules term set h i s c e in
-      let (p, m) = made_rule name facts sources rules term set h i r at in
-      let (u, at_u, du) = derived_test name facts sources rules term set h p r m s c t in
-      let (x, stands) = m.stand.fields u (field_site kind u f) (field_of_test name (DemandOf facts m.reached.rule) kind f c u o du) in
-      let (a, there, at_a) = at_field name set.sites h.injective kind u f x stands in
-      let same : a ≡ s = one_number name set.sites h.injective h.is.table u a s at_a at_u in
-      let here = subst (λ (z : ℕ). slice_get set.sites x ≡ Some (field_binding kind z f)) same there in
-      (x, place_found (field_binding kind s f) set.sites x h.is.table.once here)

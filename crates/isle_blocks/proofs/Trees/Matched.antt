@@ -68,10 +68,6 @@ module _ (name : Sym → List ℕ) (facts : TermFacts) (sources : List source.Ru
   abbrev tree : ℕ → Site
   tree = tree_of name set.sites
 
-  -- the completion covers each rule of the term
-  abbrev CoverAll : Type 0
-  CoverAll = (p : ℕ) (rule : TypedRule) → slice_get rules p ≡ Some rule → rule.root ≡ term → Covers facts c args rule
-
   -- All that tests ask is known.
   pub knows_asked : (done : List (Option Value))
       → ((p : ℕ) (rule : TypedRule) → slice_get rules p ≡ Some rule → rule.root ≡ term → Covers facts c args rule)

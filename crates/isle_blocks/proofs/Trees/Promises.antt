@@ -20,3 +20,5 @@ pub mod RightSteps
 pub mod RightSides
 -- Worked cases.
 mod Cases
+-- Worked cases: a tree that chooses as its rules, and one that doesn't.
+mod ChoiceCases

@@ -1,6 +1,6 @@
--- Worked cases: what trees of one rule read, bind, call and answer.
-use Rattle.std.proofs.Common.{◌≡◌, ◌==◌, inl, inr, ℕ, Bool, true, false, List, [], ◌∷◌, Option, Some, None, refl}
-use Rattle.std.specs.Prelude.{pos}
+-- Worked cases: what trees of one rule read, bind, ask, call and answer, and how many steps their walks reach.
+use Rattle.std.proofs.Common.{◌≡◌, ◌≤◌, ◌+◌, ◌==◌, inl, inr, ℕ, Bool, true, false, List, [], ◌∷◌, Option, Some, None, refl, subst, arith}
+use Rattle.std.specs.Prelude.{pos, if◌then◌else◌}
 use Rattle.isle_types.specs.declared.ids.Sym.{Sym}
 use Rattle.isle_terms.specs.Values.{ValueTree, bool_value as bool_tree, int_value as int_tree, big_value as big_tree, const_value as const_tree}
 use Rattle.isle_terms.specs.Values.{opaque_value as opaque_tree, data_value as data_tree}
@@ -12,17 +12,22 @@ use Rattle.isle_meaning.specs.Held.{held_value}
 use Rattle.isle_meaning.specs.Values.{Value, Values, bool_value, int_value, more_values, no_values}
 use Rattle.isle_meaning.specs.ValueTypes.{IsOfType, ValueFacts, truth_kind}
 use Rattle.isle_meaning.specs.Worlds.{CheckedProgram}
+use Rattle.isle_trees.specs.Counting.{after}
 use Rattle.isle_trees.specs.Reads.{IsClosed, IsReadable, computed, is_bound}
-use Rattle.isle_trees.specs.Tree.{Steps, done, «match», give, no_arm, arm}
-use Rattle.isle_trees.specs.Walk.{breaks, chooses, goes, opens, walk}
+use Rattle.isle_trees.specs.Rules.{Asked, by_demand, by_class, by_part, by_right, has, passes_got}
+use Rattle.isle_trees.specs.Tree.{Steps, done, «match», equal, give, no_arm, arm}
+use Rattle.isle_trees.specs.Walk.{breaks, chooses, ends, goes, opens, walk}
 use Rattle.isle_blocks.specs.declared.binding.Binding.{Binding}
 use Rattle.isle_blocks.specs.declared.binding.Binding.TheVariants as sites
 use Rattle.isle_blocks.specs.declared.constraint.Constraint.{Constraint}
 use Rattle.isle_blocks.specs.declared.constraint.Constraint.TheVariants as tests
+use Rattle.isle_blocks.specs.declared.ids.BindingId.{BindingId}
 use Rattle.isle_blocks.specs.declared.rule.Rule.{Rule}
 use Rattle.isle_blocks.specs.RuleSets.{RulesOverSites}
+use Rattle.isle_blocks.specs.Trees.Promises.{BindsWhatIsAsked, IsShort}
 use Rattle.isle_blocks.specs.Trees.ReadPromises.{BindsFields}
 use Rattle.isle_blocks.specs.Trees.RightPromises.{AnswersWith}
+use Rattle.isle_blocks.specs.Trees.Shown.{BlockShown}
 use Rattle.isle_blocks.specs.Trees.SiteTrees.{held_by}
 use Rattle.isle_blocks.specs.Trees.TypedCalls.{TakesItsTypes}
 use Rattle.isle_blocks.specs.Trees.View.{rules_of}
@@ -138,3 +143,70 @@ whole_return : (name : Sym → List ℕ) (c : Completion) (v : Value)
     → (walk (rules_of name opened) (held_by name opened.sites facts c truth (Some v ∷ [])) returned ≡ chooses 0 goes (1 ∷ []))
     × AnswersWith false (held_by name opened.sites facts c truth (Some v ∷ []) 2) goes (Some v)
 whole_return name c v = (refl, (v, refl, refl))
+
+abbrev id : ℕ → BindingId
+id n = record { 0 = n }
+
+abbrev block : Steps Constraint → BlockShown
+block tree = record { tree = tree; returns = [] }
+
+-- (rule (t (first x)) x): the argument, the call of `first` on it, which is tested, and its content
+abbrev called : RulesOverSites
+called = record {
+  rules = record one_rule { constraints = (id 1, tests.Some) ∷ []; impure = [] } ∷ [];
+  sites = sites.Argument (record { 0 = 0 }) ∷ sites.Extractor (record { 0 = 1 }) (id 0) ∷ sites.MatchSome (id 1) ∷ [];
+}
+
+-- where a rule tests the call, a tree may bind it before the test
+asked_call : BindsWhatIsAsked called (block (tested (Some 2 ∷ [])))
+asked_call name = (
+  (λ x m. elim m [ inl e ↦ (0, inl refl, rw e (by_demand 1 (has tests.Some) refl)) | inr z ↦ absurd z ]),
+  ((((λ x m. absurd m), tt), tt), tt),
+)
+
+-- where none does, no test asks anything, and no tree binds the call before one
+nothing_asked : (name : Sym → List ℕ) (s : ℕ) → Asked (rules_of name opened) 0 s → ⊥
+nothing_asked name s (by_demand t w e) = cc
+nothing_asked name s (by_class t b e) = cc
+nothing_asked name s (by_part t u asked m) = nothing_asked name t asked
+
+unasked_call : BindsWhatIsAsked opened (block (tested (Some 2 ∷ []))) → ⊥
+unasked_call binds =
+    let (i, left, asked) = (binds (λ s. [])).0 1 (inl refl) in
+    elim left [ inl e ↦ nothing_asked (λ s. []) 1 (subst (λ (k : ℕ). Asked (rules_of (λ s. []) opened) k 1) e asked) | inr z ↦ absurd z ]
+
+-- but its return may bind it
+returned_call : BindsWhatIsAsked opened (block returned)
+returned_call name = (
+  (λ x m. elim m [ inl e ↦ by_right x (inl e) | inr n ↦ elim n [ inl e ↦ by_right x (inr (inl e)) | inr z ↦ absurd z ] ]),
+  tt,
+)
+
+-- (rule (t 5) 7): the argument, which is tested, and 7
+abbrev five : Constraint
+five = tests.ConstInt (pos 5) (record { 0 = 1 })
+
+abbrev on_five : RulesOverSites
+on_five = record {
+  rules = record one_rule { constraints = (id 0, five) ∷ []; impure = []; result = id 1 } ∷ [];
+  sites = sites.Argument (record { 0 = 0 }) ∷ sites.ConstInt (pos 7) (record { 0 = 1 }) ∷ [];
+}
+
+-- its tree, and one that compares the argument with itself before the test
+abbrev five_tested : Steps Constraint
+five_tested = «match» [] 0 (arm five [] (give [] 0 done) no_arm) done
+
+abbrev compared : Steps Constraint
+compared = equal [] 0 0 five_tested done
+
+-- the walk of its tree reaches the two steps that one test and one rule allow, or one
+one_or_two : (passed : Bool) → 1 + ((if passed then 1 else 0) + after (if passed then chooses 0 goes [] else ends) 0) ≤ 2
+one_or_two true = omega arith
+one_or_two false = omega arith
+
+test_is_short : IsShort on_five (block five_tested)
+test_is_short name held = one_or_two (passes_got (rules_of name on_five) five (held 0))
+
+-- on 5 the other's reaches a third
+compared_is_long : IsShort on_five (block compared) → ⊥
+compared_is_long short = let three = short (λ s. []) (λ s. gives (held_value (int_value (pos 5)))) in omega (arith, three)
