@@ -326,7 +326,15 @@ pub(crate) fn steps_graph(
     let by = By::Start;
     branches.push(Branch::Steps(Way { from: 0, by }, steps))?;
     'branches: while let Some(branch) = branches.pop() {
-        number = advance(alloc, files, scene, branch, number, &mut branches, &mut text)?;
+        number = advance(
+            alloc,
+            files,
+            scene,
+            branch,
+            number,
+            &mut branches,
+            &mut text,
+        )?;
     }
     Ok(text)
 }

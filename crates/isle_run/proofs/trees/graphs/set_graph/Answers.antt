@@ -25,7 +25,7 @@ returns c =
     same_drawn program files c.index-term.result c.args.term.0 rules set.rules sites set.sites types (types_told set.sites set.rules)
     c.index-term.ensures c.rules-rules.ensures c.bindings-sites.ensures told in
     let steps : steps_graph (made_of program files c.index-term.result rules sites types) start 1 (shown_steps c.steps.result).tree
-        ≡ steps_graph (drawn_of program files c.args.term set) start 1 tree.tree =
+    ≡ steps_graph (drawn_of program files c.args.term set) start 1 tree.tree =
     ap (λ (d : Drawn). steps_graph d start 1 (shown_steps c.steps.result).tree) same
     ∙ ap (λ (b : BlockShown). steps_graph (drawn_of program files c.args.term set) start 1 b.tree) c.steps.ensures in
     IfOk-weaker c.format.result _ _

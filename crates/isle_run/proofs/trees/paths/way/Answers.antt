@@ -63,8 +63,7 @@ loop-preserved c =
     let written : string_bytes c.push_str-in-loop.new.self ≡ (words ++ link) ++ codes " of " =
     c.in_ok-push_str-2.ensures.bytes
     ∙ ap (λ (l : List ℕ). l ++ codes " of ")
-    (c.in_ok-push_str.ensures.bytes ∙ ap (λ (l : List ℕ). words ++ l) (c.as_str.ensures.value ∙ c.in_ok-link.ensures)) in
-    (
+    (c.in_ok-push_str.ensures.bytes ∙ ap (λ (l : List ℕ). words ++ l) (c.as_str.ensures.value ∙ c.in_ok-link.ensures)) in (
       ap (λ (l : List ℕ). l ++ rest) written
           ∙ append_assoc (words ++ link) (codes " of ") rest
           ∙ append_assoc words link (codes " of " ++ rest)
