@@ -5,3 +5,9 @@ pub mod Joined
 pub mod Left
 -- The rule sets of a program of files are ones that the builder of trees takes.
 pub mod CheckedSets
+-- What is drawn of what is left of a tree.
+pub mod DotLeft
+-- What trees are drawn from, part by part.
+pub mod DotScenes
+-- What sites are of others, level by level.
+pub mod DotWays

@@ -11,3 +11,17 @@ pub mod Steps
 pub mod Sets
 -- What is still to be printed of a tree.
 pub mod Parts
+-- Texts as labels of a graph.
+pub mod DotLabels
+-- The types of sites that tests of variants and structs tell.
+pub mod DotTypes
+-- The names of fields.
+pub mod DotFields
+-- Sites as expressions.
+pub mod DotSites
+-- Nodes and edges of a tree.
+pub mod DotSteps
+-- What is still to be drawn of a tree.
+pub mod DotParts
+-- Whole graphs.
+pub mod DotSets

@@ -4,10 +4,16 @@ ghost use Rattle.isle_blocks.specs.Trees.Promises.{IsCheckedSet};
 ghost use Rattle.isle_run.specs.Compiled.{IsProgramOf};
 ghost use Rattle.isle_run.specs.TreeTexts.Sets.{IsEntryText, IsSetText, TellsTrees, is_asked};
 
+mod fields;
+mod graph;
+mod graphs;
 mod names;
+mod paths;
+mod quoted;
 mod rules;
 mod sites;
 mod steps;
+mod tested;
 
 use crate::program::Program;
 use isle_blocks::{RuleSet, serialize};
@@ -19,7 +25,7 @@ use std::alloc::{AllocError, Global};
 use steps::steps_text;
 
 /// Whether a term is among those that are asked for; where none is, all are.
-fn is_asked(asked: &[TermId], term: TermId) -> bool
+pub(crate) fn is_asked(asked: &[TermId], term: TermId) -> bool
     ensures { result ≡ is_asked asked.now term }
 {
     asked.is_empty() || asked.contains(&term)

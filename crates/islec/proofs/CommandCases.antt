@@ -1,5 +1,5 @@
 -- What `islec` finds in words that are written out.
-use Rattle.std.proofs.Common.{◌≡◌, refl, List, [], ◌∷◌, Some, true, codes, option_map}
+use Rattle.std.proofs.Common.{◌≡◌, refl, List, [], ◌∷◌, Some, true, false, codes, option_map}
 use Rattle.clap.specs.Walk.{Text, all_of, first_of}
 use Rattle.clap.specs.Words.{fault_of, subcommand_of}
 use Rattle.clap.specs.declared.error.kind.ErrorKind.TheVariants as kind
@@ -50,6 +50,16 @@ blocks_terms = refl
 blocks_of_all : option_map (λ p. each_of (codes "term") p.1) (subcommand_of islec (codes "islec" ∷ codes "blocks" ∷ codes "a.isle" ∷ [])) ≡ Some []
 unfolding clap_on_literals
 blocks_of_all = refl
+
+-- trees as a graph, and in words
+blocks_dot : option_map (λ p. flag_of (codes "dot") p.1)
+    (subcommand_of islec (codes "islec" ∷ codes "blocks" ∷ codes "--dot" ∷ codes "a.isle" ∷ [])) ≡ Some true
+unfolding clap_on_literals
+blocks_dot = refl
+
+blocks_words : option_map (λ p. flag_of (codes "dot") p.1) (subcommand_of islec (codes "islec" ∷ codes "blocks" ∷ codes "a.isle" ∷ [])) ≡ Some false
+unfolding clap_on_literals
+blocks_words = refl
 
 -- words that are refused
 no_command : fault_of islec (codes "islec" ∷ []) ≡ kind.MissingSubcommand ∷ []

@@ -1,5 +1,5 @@
 -- What is written of the trees of a program's rules, by what its parts write.
-use Rattle.std.proofs.Common.{◌≡◌, ◌≢◌, ◌<◌, ◌+◌, ◌∙◌, ◌++◌, ◌∷◌, [], inl, inr, ℕ, suc, List, Option, Some, None, Result, Ok, Err, IfOk, IfErr, subst, map, sym, ap, ap₂, take, drop, length, get_or, String, arith}
+use Rattle.std.proofs.Common.{◌≡◌, ◌≢◌, ◌<◌, ◌+◌, ◌∙◌, ◌++◌, ◌∷◌, [], inl, inr, ℕ, suc, List, Bool, Option, Some, None, Result, Ok, Err, IfOk, IfErr, subst, map, sym, ap, ap₂, take, drop, length, get_or, String, arith}
 use Rattle.std.specs.Global.{Global}
 use Rattle.std.specs.Prelude.{string_bytes}
 use Rattle.std.proofs.Math.Seq.{drop-cons}
@@ -23,9 +23,9 @@ use Rattle.islec.specs.Writing.{AppendsBeginning}
 use Rattle.islec.proofs.RefusedFiles.{cuts_faults}
 
 module _ (files all : List SourceFile) (same : files ≡ all) (program : Program) (is : IsProgramOf files program) (accepted : AreAccepted files)
-    (names : List (List ℕ)) (old new : Option (List ℕ)) where
-  pub draws_by : (r : Result Status ServeFault) → IfOk r (λ s. s ≡ AllWell → (text : List ℕ) × DrawsTrees program files names text × Appends old new text)
-      → IfOk r (λ s. s ≡ AllWell → WritesTrees all names old new)
+    (names : List (List ℕ)) (dot : Bool) (old new : Option (List ℕ)) where
+  pub draws_by : (r : Result Status ServeFault) → IfOk r (λ s. s ≡ AllWell → (text : List ℕ) × DrawsTrees program files names dot text × Appends old new text)
+      → IfOk r (λ s. s ≡ AllWell → WritesTrees all names dot old new)
   draws_by (Err f) told = tt
   draws_by (Ok s) told = λ e.
       let (text, drawn, written) = told e in
@@ -34,7 +34,7 @@ module _ (files all : List SourceFile) (same : files ≡ all) (program : Program
         program = program;
         is = subst (λ l. IsProgramOf l program) same is;
         text = text;
-        drawn = subst (λ l. DrawsTrees program l names text) same drawn;
+        drawn = subst (λ l. DrawsTrees program l names dot text) same drawn;
         written = written;
       }
 
@@ -53,20 +53,20 @@ module _ (files all : List SourceFile) (same : files ≡ all) (program : Program
       }
 
   pub draw_cut : (r : Result Status ServeFault)
-      → IfErr r (λ f. f ≢ Memory → (text : List ℕ) × TellsTreesOf program files names text × AppendsBeginning old new text)
-      → IfErr r (λ f. f ≢ Memory → CutsTrees all names old new)
+      → IfErr r (λ f. f ≢ Memory → (text : List ℕ) × TellsTreesOf program files names dot text × AppendsBeginning old new text)
+      → IfErr r (λ f. f ≢ Memory → CutsTrees all names dot old new)
   draw_cut (Ok s) told = tt
   draw_cut (Err f) told = λ e.
       let (text, tells, begun) = told e in
-      inl (program, subst (λ l. IsProgramOf l program) same is, (text, subst (λ l. TellsTreesOf program l names text) same tells, begun))
+      inl (program, subst (λ l. IsProgramOf l program) same is, (text, subst (λ l. TellsTreesOf program l names dot text) same tells, begun))
 
 module _ (files all : List SourceFile) (refused : Refused) (report : Report) (old new : Option (List ℕ)) (is : refused ≡ Faults report) (same : files ≡ all)
     (not_accepted : IfFaults refused (λ r. ¬ AreAccepted files)) (faults : IfFaults refused (λ r. AreFaults files r.errors))
     (of_files : IfFaults refused (λ r. r.files ≡ files)) where
-  pub refusal_undrawn : (names : List (List ℕ)) (r : Result Status ServeFault) → IfErr r (λ f. f ≢ Memory → AppendsBeginning old new (report_text report))
-      → IfErr r (λ f. f ≢ Memory → CutsTrees all names old new)
-  refusal_undrawn names (Ok s) wrote = tt
-  refusal_undrawn names (Err f) wrote = λ e. inr (cuts_faults files all refused report old new is same not_accepted faults of_files (wrote e))
+  pub refusal_undrawn : (names : List (List ℕ)) (dot : Bool) (r : Result Status ServeFault) → IfErr r (λ f. f ≢ Memory → AppendsBeginning old new (report_text report))
+      → IfErr r (λ f. f ≢ Memory → CutsTrees all names dot old new)
+  refusal_undrawn names dot (Ok s) wrote = tt
+  refusal_undrawn names dot (Err f) wrote = λ e. inr (cuts_faults files all refused report old new is same not_accepted faults of_files (wrote e))
 
 -- names before a place, this one, and those after it
 parted : (names : List (String Global)) (i : ℕ) (name : String Global) → i < length names → name ≡ get_or names i name

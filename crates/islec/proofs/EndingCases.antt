@@ -29,9 +29,9 @@ no_print_is_refused_a_query : (width : ℕ) (files : List SourceFile) (world : S
     → EndsJob (Fmt width) files world input left old new status.SomeRefused → ⊥
 no_print_is_refused_a_query width files world input left old new ends = ends
 
-no_tree_is_refused_a_query : (terms : Vec (String Global) Global) (files : List SourceFile) (world : SourceFile) (input left old new : Option (List ℕ))
-    → EndsJob (Blocks terms) files world input left old new status.SomeRefused → ⊥
-no_tree_is_refused_a_query terms files world input left old new ends = ends
+no_tree_is_refused_a_query : (terms : Vec (String Global) Global) (dot : Bool) (files : List SourceFile) (world : SourceFile) (input left old new : Option (List ℕ))
+    → EndsJob (Blocks terms dot) files world input left old new status.SomeRefused → ⊥
+no_tree_is_refused_a_query terms dot files world input left old new ends = ends
 
 no_run_is_refused_its_words : (depth : ℕ) (plain : Bool) (files : List SourceFile) (world : SourceFile) (input left old new : Option (List ℕ))
     → EndsJob (Run depth plain) files world input left old new status.Usage → ⊥
@@ -95,7 +95,7 @@ world_is (Check terms) name rows met (named, flag) =
     let is_run = same_Some _ _ (sym (ap (option_map (λ p. p.0)) met) ∙ run_name) in
     let wrong : true ≡ false = ap (λ (text : Text). bytes_eq text (codes "run")) (sym is_run ∙ named) in
     absurd (true≢false wrong)
-world_is (Blocks terms) name rows met (named, names) =
+world_is (Blocks terms dot) name rows met (named, names) =
     let is_run = same_Some _ _ (sym (ap (option_map (λ p. p.0)) met) ∙ run_name) in
     let wrong : true ≡ false = ap (λ (text : Text). bytes_eq text (codes "run")) (sym is_run ∙ named) in
     absurd (true≢false wrong)

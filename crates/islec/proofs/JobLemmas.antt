@@ -64,27 +64,27 @@ module _ (terms : Bool) (files : List SourceFile) (old mid : Option (List ℕ)) 
   check_ends (Err Memory) status new (is, wrote) accepted refused other cut memory =
       subst (λ s. EndsCheck terms files old new s) (sym is) (line_behind old new (codes "out of memory\n") (mid, memory refl, wrote))
 
-module _ (names : List (List ℕ)) (files : List SourceFile) (old mid : Option (List ℕ)) where
+module _ (names : List (List ℕ)) (dot : Bool) (files : List SourceFile) (old mid : Option (List ℕ)) where
   pub blocks_ends : (done : Result Status ServeFault) (status : Status) (new : Option (List ℕ)) → EndsAs done status mid new
-      → IfOk done (λ s. s ≡ AllWell → WritesTrees files names old mid)
+      → IfOk done (λ s. s ≡ AllWell → WritesTrees files names dot old mid)
       → IfOk done (λ s. s ≡ Usage → WritesUnknown files names old mid)
       → IfOk done (λ s. s ≡ TextsRefused → WritesFaults files old mid)
       → IfOk done (λ s. (s ≡ AllWell) ⊎ ((s ≡ Usage) ⊎ (s ≡ TextsRefused)))
-      → IfErr done (λ f. f ≢ Memory → CutsTrees files names old mid)
+      → IfErr done (λ f. f ≢ Memory → CutsTrees files names dot old mid)
       → IfErr done (λ f. f ≡ Memory → Keeps old mid)
-      → EndsBlocks names files old new status
+      → EndsBlocks names dot files old new status
   blocks_ends (Ok own) status new (is, same) drawn unknown refused (inl e) cut memory =
-      moved (λ n s. EndsBlocks names files old n s) AllWell status mid new (is ∙ e) same (drawn e)
+      moved (λ n s. EndsBlocks names dot files old n s) AllWell status mid new (is ∙ e) same (drawn e)
   blocks_ends (Ok own) status new (is, same) drawn unknown refused (inr (inl e)) cut memory =
-      moved (λ n s. EndsBlocks names files old n s) Usage status mid new (is ∙ e) same (unknown e)
+      moved (λ n s. EndsBlocks names dot files old n s) Usage status mid new (is ∙ e) same (unknown e)
   blocks_ends (Ok own) status new (is, same) drawn unknown refused (inr (inr e)) cut memory =
-      moved (λ n s. EndsBlocks names files old n s) TextsRefused status mid new (is ∙ e) same (refused e)
+      moved (λ n s. EndsBlocks names dot files old n s) TextsRefused status mid new (is ∙ e) same (refused e)
   blocks_ends (Err Read) status new (is, same) drawn unknown refused other cut memory =
-      moved (λ n s. EndsBlocks names files old n s) InputOutput status mid new is same (cut (λ no. absurd cc))
+      moved (λ n s. EndsBlocks names dot files old n s) InputOutput status mid new is same (cut (λ no. absurd cc))
   blocks_ends (Err Write) status new (is, same) drawn unknown refused other cut memory =
-      moved (λ n s. EndsBlocks names files old n s) InputOutput status mid new is same (cut (λ no. absurd cc))
+      moved (λ n s. EndsBlocks names dot files old n s) InputOutput status mid new is same (cut (λ no. absurd cc))
   blocks_ends (Err Memory) status new (is, wrote) drawn unknown refused other cut memory =
-      subst (λ s. EndsBlocks names files old new s) (sym is) (line_behind old new (codes "out of memory\n") (mid, memory refl, wrote))
+      subst (λ s. EndsBlocks names dot files old new s) (sym is) (line_behind old new (codes "out of memory\n") (mid, memory refl, wrote))
 
 module _ (width : ℕ) (files : List SourceFile) (old mid : Option (List ℕ)) where
   pub fmt_ends : (done : Result Status ServeFault) (status : Status) (new : Option (List ℕ)) → EndsAs done status mid new

@@ -91,8 +91,12 @@ check_files rows f = let v = all_reads check_rules (rule check_rules 1) rows ref
 
 -- ---- blocks
 
+pub blocks_dot : (rows : List Row) → FillsRules blocks_rules rows
+    → (one_of (codes "dot") rows ≡ Some (codes "true")) ⊎ (one_of (codes "dot") rows ≡ Some (codes "false"))
+blocks_dot rows f = let v = one_reads blocks_rules (rule blocks_rules 1) rows refl f.fits (f.whole.1.0 (inr (omega arith))) in bool_word _ v.0 v.1 v.2
+
 pub blocks_files : (rows : List Row) → FillsRules blocks_rules rows → (vs : List Text) × (all_of (codes "file") rows ≡ Some vs) × (0 < length vs)
-blocks_files rows f = let v = all_reads blocks_rules (rule blocks_rules 1) rows refl f.fits (f.whole.1.0 (inl refl)) in (v.0, v.1, v.2)
+blocks_files rows f = let v = all_reads blocks_rules (rule blocks_rules 2) rows refl f.fits (f.whole.1.1.0 (inl refl)) in (v.0, v.1, v.2)
 
 -- ---- fmt
 

@@ -34,6 +34,10 @@ terms = record (new_rule (codes "terms")) { long = Some (codes "terms"); action 
 abbrev pub term : Rule
 term = record (new_rule (codes "term")) { long = Some (codes "term"); value_names = 1; action = Some Append }
 
+-- `--dot`
+abbrev pub dot : Rule
+dot = record (new_rule (codes "dot")) { long = Some (codes "dot"); action = Some SetTrue }
+
 -- `--width N`: a number up to a million, and 80 where it is left out
 abbrev pub width : Rule
 width = record (new_rule (codes "width")) {
@@ -65,9 +69,9 @@ run = with_rule (with_rule (with_rule (with_rule (new_app (codes "run")) world) 
 abbrev pub check : App
 check = with_rule (with_rule (new_app (codes "check")) terms) rule_files
 
--- `blocks`, with names of terms and files
+-- `blocks`, with names of terms, `--dot` and files
 abbrev pub blocks : App
-blocks = with_rule (with_rule (new_app (codes "blocks")) term) rule_files
+blocks = with_rule (with_rule (with_rule (new_app (codes "blocks")) term) dot) rule_files
 
 -- `fmt`, with a width and a file
 abbrev pub fmt : App

@@ -1,10 +1,11 @@
 -- What is written of the trees of a program's rules.
-use Rattle.std.specs.Prelude.{◌≡◌, ◌⊎◌, ◌++◌, ◌∷◌, ℕ, List, Option, None, Some, codes, map}
+use Rattle.std.specs.Prelude.{◌≡◌, ◌⊎◌, ◌++◌, ◌∷◌, ℕ, Bool, true, false, List, Option, None, Some, codes, map}
 use Rattle.std.specs.Io.KnownBytes.{Appends}
 use Rattle.isle_syntax.specs.Positions.Files.{SourceFile}
 use Rattle.isle_types.specs.declared.ids.TermId.{TermId}
 use Rattle.isle_run.specs.Compiled.{AreAccepted, IsProgramOf}
 use Rattle.isle_run.specs.Programs.{term_named}
+use Rattle.isle_run.specs.TreeTexts.DotSets.{TellsGraph}
 use Rattle.isle_run.specs.TreeTexts.Sets.{TellsTrees}
 use Rattle.isle_run.specs.declared.program.Program.{Program}
 use Rattle.islec.specs.declared.blocks.Asked.{Asked}
@@ -34,19 +35,24 @@ AreAsked program names (Unknown name) = IsUnknown program names name.now
 abbrev pub unknown_line : List ℕ → List ℕ
 unknown_line name = codes "error: no term is named " ++ (name ++ codes "\n")
 
--- the text of the program's trees, of the terms of these names or of all
-pub record DrawsTrees (program : Program) (files : List SourceFile) (names : List (List ℕ)) (text : List ℕ) : Type 0 where
+-- the trees of these terms or of all, as one graph or in words
+abbrev pub TellsAs : (dot : Bool) → Program → List SourceFile → List TermId → List ℕ → Type 0
+TellsAs true program files terms text = TellsGraph program files terms text
+TellsAs false program files terms text = TellsTrees program files terms text
+
+-- the text of the program's trees, of the terms of these names or of all, as one graph where that is asked for
+pub record DrawsTrees (program : Program) (files : List SourceFile) (names : List (List ℕ)) (dot : Bool) (text : List ℕ) : Type 0 where
   pub terms : List TermId
   pub named : AreNamed program names terms
-  pub told : TellsTrees program files terms text
+  pub told : TellsAs dot program files terms text
 
 -- the files are accepted, and a writer that held `old` holds these bytes and behind them the trees of their program
-pub record WritesTrees (files : List SourceFile) (names : List (List ℕ)) (old new : Option (List ℕ)) : Type 0 where
+pub record WritesTrees (files : List SourceFile) (names : List (List ℕ)) (dot : Bool) (old new : Option (List ℕ)) : Type 0 where
   pub accepted : AreAccepted files
   pub program : Program
   pub is : IsProgramOf files program
   pub text : List ℕ
-  pub drawn : DrawsTrees program files names text
+  pub drawn : DrawsTrees program files names dot text
   pub written : Appends old new text
 
 -- the files are accepted, and the line is written that tells which name is that of no term
@@ -59,11 +65,11 @@ pub record WritesUnknown (files : List SourceFile) (names : List (List ℕ)) (ol
   pub written : Appends old new (unknown_line name)
 
 -- a text of a program's trees: the trees, or the line that tells which name is unknown
-abbrev pub TellsTreesOf : Program → List SourceFile → List (List ℕ) → List ℕ → Type 0
-TellsTreesOf program files names text = DrawsTrees program files names text
+abbrev pub TellsTreesOf : Program → List SourceFile → List (List ℕ) → (dot : Bool) → List ℕ → Type 0
+TellsTreesOf program files names dot text = DrawsTrees program files names dot text
     ⊎ ((name : List ℕ) × IsUnknown program names name × (text ≡ unknown_line name))
 
 -- a beginning of such a text is written, or one of the report of faults
-abbrev pub CutsTrees : List SourceFile → List (List ℕ) → (old new : Option (List ℕ)) → Type 0
-CutsTrees files names old new = ((program : Program) × IsProgramOf files program
-    × ((text : List ℕ) × TellsTreesOf program files names text × AppendsBeginning old new text)) ⊎ CutsFaults files old new
+abbrev pub CutsTrees : List SourceFile → List (List ℕ) → (dot : Bool) → (old new : Option (List ℕ)) → Type 0
+CutsTrees files names dot old new = ((program : Program) × IsProgramOf files program
+    × ((text : List ℕ) × TellsTreesOf program files names dot text × AppendsBeginning old new text)) ⊎ CutsFaults files old new

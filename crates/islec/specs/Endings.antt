@@ -41,14 +41,14 @@ EndsCheck terms files old new SomeRefused = ⊥
 EndsCheck terms files old new InputOutput = CutsCheck files terms old new
 EndsCheck terms files old new OutOfMemory = AppendsBeginning old new (codes "out of memory\n")
 
--- what is written of files whose trees are printed, of the terms of these names or of all
-abbrev pub EndsBlocks : List (List ℕ) → List SourceFile → (old new : Option (List ℕ)) → Status → Type 0
-EndsBlocks names files old new AllWell = WritesTrees files names old new
-EndsBlocks names files old new TextsRefused = WritesFaults files old new
-EndsBlocks names files old new Usage = WritesUnknown files names old new
-EndsBlocks names files old new SomeRefused = ⊥
-EndsBlocks names files old new InputOutput = CutsTrees files names old new
-EndsBlocks names files old new OutOfMemory = AppendsBeginning old new (codes "out of memory\n")
+-- what is written of files whose trees are printed, of the terms of these names or of all, as one graph where that is asked for
+abbrev pub EndsBlocks : List (List ℕ) → (dot : Bool) → List SourceFile → (old new : Option (List ℕ)) → Status → Type 0
+EndsBlocks names dot files old new AllWell = WritesTrees files names dot old new
+EndsBlocks names dot files old new TextsRefused = WritesFaults files old new
+EndsBlocks names dot files old new Usage = WritesUnknown files names old new
+EndsBlocks names dot files old new SomeRefused = ⊥
+EndsBlocks names dot files old new InputOutput = CutsTrees files names dot old new
+EndsBlocks names dot files old new OutOfMemory = AppendsBeginning old new (codes "out of memory\n")
 
 -- what is written of files that are printed
 abbrev pub EndsFmt : (width : ℕ) → List SourceFile → (old new : Option (List ℕ)) → Status → Type 0
@@ -63,7 +63,7 @@ EndsFmt width files old new OutOfMemory = AppendsBeginning old new (codes "out o
 abbrev pub EndsJob : Job → List SourceFile → (world : SourceFile) → (input left old new : Option (List ℕ)) → Status → Type 0
 EndsJob (Run depth plain) files world input left old new status = EndsRun depth plain files world input left old new status
 EndsJob (Check terms) files world input left old new status = EndsCheck terms files old new status
-EndsJob (Blocks terms) files world input left old new status = EndsBlocks (names_of terms) files old new status
+EndsJob (Blocks terms dot) files world input left old new status = EndsBlocks (names_of terms) dot files old new status
 EndsJob (Fmt width) files world input left old new status = EndsFmt width files old new status
 
 -- the file has the name that a line gives its world; where it gives none it is empty and named `world`

@@ -7,5 +7,5 @@ use Rattle.islec.specs.declared.line.Job.TheVariants.{Run, Check, Blocks, Fmt}
 abbrev pub HasFiles : Job → ℕ → Type 0
 HasFiles (Run depth plain) files = 0 < files
 HasFiles (Check terms) files = 0 < files
-HasFiles (Blocks terms) files = 0 < files
+HasFiles (Blocks terms dot) files = 0 < files
 HasFiles (Fmt width) files = files ≡ 1

@@ -33,7 +33,8 @@ abbrev pub SaysJob : Text → List Row → Job → Type 0
 SaysJob name rows (Run depth plain) =
     (name ≡ codes "run") × (number_of (codes "depth") rows ≡ Some depth) × (flag_of (codes "plain") rows ≡ plain)
 SaysJob name rows (Check terms) = (name ≡ codes "check") × (flag_of (codes "terms") rows ≡ terms)
-SaysJob name rows (Blocks terms) = (name ≡ codes "blocks") × (each_of (codes "term") rows ≡ names_of terms)
+SaysJob name rows (Blocks terms dot) =
+    (name ≡ codes "blocks") × (each_of (codes "term") rows ≡ names_of terms) × (flag_of (codes "dot") rows ≡ dot)
 SaysJob name rows (Fmt width) = (name ≡ codes "fmt") × (number_of (codes "width") rows ≡ Some width)
 
 -- the name of a world's file, which only `run` takes

@@ -34,8 +34,9 @@ pub enum Job {
     Run { depth: u32, plain: bool },
     /// Tells whether the files are accepted, and with `terms` which terms can be run.
     Check { terms: bool },
-    /// Prints the trees of the rules of the terms of these names; of all terms with rules where there is none.
-    Blocks { terms: Vec<String> },
+    /// Prints the trees of the rules of the terms of these names; of all terms with rules where there is none. With `dot` they are one
+    /// graph.
+    Blocks { terms: Vec<String>, dot: bool },
     /// Prints the one file laid out at a width, from 0 to 1,000,000.
     Fmt { width: u32 },
 }
@@ -154,9 +155,14 @@ fn blocks_command<'a>(alloc: Global) -> Result<Command<'a>, AllocError>
         .value_name("NAME")
         .help("A term whose tree is printed; all trees where none is named")
         .action(ArgAction::Append);
+    let dot = Arg::new(alloc, "dot")
+        .long("dot")
+        .help("Print the trees as one graph, in the language of Graphviz")
+        .action(ArgAction::SetTrue);
     Command::new(alloc, "blocks")
         .about("Prints the trees of tests that the rules become")
         .arg(term)?
+        .arg(dot)?
         .arg(rule_files(alloc))
 }
 
@@ -232,8 +238,9 @@ fn blocks_line(alloc: Global, matches: &ArgMatches<'_>) -> Result<Line, AllocErr
 {
     let files = copies(alloc, matches.get_strs("file").unwrap_or(&[]))?;
     let terms = copies(alloc, matches.get_strs("term").unwrap_or(&[]))?;
+    let dot = matches.get_flag("dot");
     Ok(Line {
-        job: Job::Blocks { terms },
+        job: Job::Blocks { terms, dot },
         files,
         world: None,
     })

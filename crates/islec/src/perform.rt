@@ -51,8 +51,8 @@ pub fn perform<R: BufRead, W: Write>(
             let done = check(alloc, terms, texts, writer);
             conclude(done, writer)
         }
-        Job::Blocks { terms } => {
-            let done = blocks(alloc, terms.as_slice(), texts, writer);
+        Job::Blocks { terms, dot } => {
+            let done = blocks(alloc, terms.as_slice(), dot, texts, writer);
             conclude(done, writer)
         }
         Job::Fmt { width } => {

@@ -54,7 +54,7 @@ step_has (flows.Loop result body) binds next = refl
 step_has (flows.Return rule pos result) binds next = omega arith
 
 -- a line, what is behind it and what comes after, before what else is left
-line_first : (old line behind rest left : List ℕ) → (old ++ line) ++ (behind ++ (rest ++ left)) ≡ old ++ ((line ++ (behind ++ rest)) ++ left)
+pub line_first : (old line behind rest left : List ℕ) → (old ++ line) ++ (behind ++ (rest ++ left)) ≡ old ++ ((line ++ (behind ++ rest)) ++ left)
 line_first old line behind rest left =
     append_assoc old line (behind ++ (rest ++ left))
     ∙ ap (λ l. old ++ l) (ap (λ l. line ++ l) (sym (append_assoc behind rest left)) ∙ sym (append_assoc line (behind ++ rest) left))

@@ -25,7 +25,7 @@ pub(crate) fn type_text(alloc: Global, program: &Program, ty: TypeId) -> Result<
 }
 
 /// The name of a type; empty where there is none.
-fn type_name(program: &Program, ty: TypeId) -> &str
+pub(crate) fn type_name(program: &Program, ty: TypeId) -> &str
     ensures { result.now ≡ type_name_of program.now ty }
 {
     match program.types().get_type(ty) {

@@ -20,7 +20,7 @@ returns-in-Err-Faults-clause-cut g c =
     let told = c.in-Err-Faults.ensures in
     refusal_undrawn c.in_ok-clone.field-0.value (map source_file c.args.texts.items) c.in-Err-Faults.field-0 c.in-Err-Faults.errors
     (g.W.Write.contents c.args.writer.now) (g.W.Write.contents c.refuse.new.writer) c.in-Err-Faults.field-0-is same
-    told.refused told.faults told.of_files (map string_bytes c.args.names.now) c.refuse.result c.refuse.ensures.cut
+    told.refused told.faults told.of_files (map string_bytes c.args.names.now) c.args.dot c.refuse.result c.refuse.ensures.cut
 
 pub returns-in-Ok-clause-drawn : goal.returns-in-Ok-clause-drawn
 returns-in-Ok-clause-drawn g c =
@@ -28,7 +28,7 @@ returns-in-Ok-clause-drawn g c =
     let same : c.deref.result.now ≡ map source_file c.args.texts.items = grind arith in
     draws_by c.deref.result.now (map source_file c.args.texts.items) same c.in-Ok.program
     (subst (λ (l : List SourceFile). IsProgramOf l c.in-Ok.program) copy c.in-Ok.ensures.compiled) (subst AreAccepted copy c.in-Ok.ensures.accepted)
-    (map string_bytes c.args.names.now) (g.W.Write.contents c.args.writer.now) (g.W.Write.contents c.draw.new.writer) c.draw.result c.draw.ensures.drawn
+    (map string_bytes c.args.names.now) c.args.dot (g.W.Write.contents c.args.writer.now) (g.W.Write.contents c.draw.new.writer) c.draw.result c.draw.ensures.drawn
 
 pub returns-in-Ok-clause-unknown : goal.returns-in-Ok-clause-unknown
 returns-in-Ok-clause-unknown g c =
@@ -36,7 +36,7 @@ returns-in-Ok-clause-unknown g c =
     let same : c.deref.result.now ≡ map source_file c.args.texts.items = grind arith in
     unknown_by c.deref.result.now (map source_file c.args.texts.items) same c.in-Ok.program
     (subst (λ (l : List SourceFile). IsProgramOf l c.in-Ok.program) copy c.in-Ok.ensures.compiled) (subst AreAccepted copy c.in-Ok.ensures.accepted)
-    (map string_bytes c.args.names.now) (g.W.Write.contents c.args.writer.now) (g.W.Write.contents c.draw.new.writer) c.draw.result c.draw.ensures.unknown
+    (map string_bytes c.args.names.now) c.args.dot (g.W.Write.contents c.args.writer.now) (g.W.Write.contents c.draw.new.writer) c.draw.result c.draw.ensures.unknown
 
 pub returns-in-Ok-clause-cut : goal.returns-in-Ok-clause-cut
 returns-in-Ok-clause-cut g c =
@@ -44,4 +44,4 @@ returns-in-Ok-clause-cut g c =
     let same : c.deref.result.now ≡ map source_file c.args.texts.items = grind arith in
     draw_cut c.deref.result.now (map source_file c.args.texts.items) same c.in-Ok.program
     (subst (λ (l : List SourceFile). IsProgramOf l c.in-Ok.program) copy c.in-Ok.ensures.compiled) (subst AreAccepted copy c.in-Ok.ensures.accepted)
-    (map string_bytes c.args.names.now) (g.W.Write.contents c.args.writer.now) (g.W.Write.contents c.draw.new.writer) c.draw.result c.draw.ensures.cut
+    (map string_bytes c.args.names.now) c.args.dot (g.W.Write.contents c.args.writer.now) (g.W.Write.contents c.draw.new.writer) c.draw.result c.draw.ensures.cut

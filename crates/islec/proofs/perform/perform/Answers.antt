@@ -41,9 +41,9 @@ returns g c =
               let did = w.blocks-done.ensures in
               rw (w.status-is, w.writer-is, w.reader-is)
               (subst (λ (j : Job). EndsJob j files world input input old new w.conclude-status-in-Blocks.result) (sym w.in-Blocks.is)
-              (subst (λ (names : List (List ℕ)). EndsBlocks names files old new w.conclude-status-in-Blocks.result)
+              (subst (λ (names : List (List ℕ)). EndsBlocks names w.in-Blocks.dot files old new w.conclude-status-in-Blocks.result)
               (ap (λ (l : List (String Global)). map string_bytes l) w.as_slice.ensures.value)
-              (blocks_ends (map string_bytes w.as_slice.result.now) files old (g.W.Write.contents w.blocks-done.new.writer) w.blocks-done.result
+              (blocks_ends (map string_bytes w.as_slice.result.now) w.in-Blocks.dot files old (g.W.Write.contents w.blocks-done.new.writer) w.blocks-done.result
               w.conclude-status-in-Blocks.result new w.conclude-status-in-Blocks.ensures did.drawn did.unknown did.refused did.other did.cut did.memory)))
           | in-Fmt w ↦
               let new = g.W.Write.contents w.conclude-status-in-Fmt.new.writer in
