@@ -1,6 +1,8 @@
 -- What is printed of rule sets and trees, piece by piece.
 -- Texts of items in turn.
 pub mod Joined
+-- The entries of a sorted map in turn, and what is printed of them.
+pub mod Entries
 -- What is printed of what is left of a tree.
 pub mod Left
 -- The rule sets of a program of files are ones that the builder of trees takes.

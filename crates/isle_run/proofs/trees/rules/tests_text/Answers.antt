@@ -2,7 +2,7 @@ use Rattle.std.proofs.Common.{◌<◌, ◌++◌, ◌∙◌, [], ℕ, List, Bor, 
 use Rattle.std.specs.Prelude.{string_bytes}
 use Rattle.isle_blocks.specs.declared.ids.BindingId.{BindingId}
 use Rattle.isle_blocks.specs.declared.constraint.Constraint.{Constraint}
-use Rattle.isle_blocks.proofs.Trees.Offered.{entry_is, flat_step}
+use Rattle.isle_run.proofs.TreeTexts.Entries.{entry_is, flat_step}
 use Rattle.isle_run.specs.TreeTexts.Rules.{test_line}
 use Rattle.isle_run.proofs.trees.rules.tests_text.Goals as goal
 

@@ -3,7 +3,7 @@ use Rattle.std.proofs.lemmas.List.Sums.{fold_more}
 use Rattle.isle_types.specs.declared.ids.TypeId.{TypeId}
 use Rattle.isle_blocks.specs.declared.ids.BindingId.{BindingId}
 use Rattle.isle_blocks.specs.declared.constraint.Constraint.{Constraint}
-use Rattle.isle_blocks.proofs.Trees.Offered.{entry_is}
+use Rattle.isle_run.proofs.TreeTexts.Entries.{entry_is}
 use Rattle.isle_run.specs.TreeTexts.DotTypes.{with_test}
 use Rattle.isle_run.proofs.trees.tested.add_rule.Goals as goal
 
