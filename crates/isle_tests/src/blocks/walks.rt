@@ -123,17 +123,19 @@ fn walks_reach_each_test_on_their_way(rt: HostRuntime) -> Result<(), Fail> {
     Ok(())
 }
 
-/// A path of a test for the struct of all, for each of three structs in it and for each of their fields, and last a return. The time of
-/// building grows with the square of a path's tests, since each step looks at all of them, so that more would take a trial build too long.
+/// A path of 57,600 tests and a return: sixteen arguments, each under 3,600 fields, of which four extractors open 900 each.
 const PATH: &str =
-    "(type S (struct«255× u8»)) (type R (struct«3× S»)) (decl s () S) (extractor (s) (S«255× 1»))
-    (decl r () R) (extractor (r) (R«3× (s)»)) (decl f (R) u8) (rule (f (r)) 7)";
+    "(type N (enum (Z) (S (p N)))) (decl e0 (N) N) (extractor (e0 a) «900×(N.S »a«900×)»)
+    (decl e1 (N) N) (extractor (e1 a) «900×(N.S »(e0 a)«900×)») (decl e2 (N) N) (extractor (e2 a) «900×(N.S »(e1 a)«900×)»)
+    (decl e3 (N) N) (extractor (e3 a) «900×(N.S »(e2 a)«900×)») (decl f («16×N ») N)
+    (rule (f (e3 x0) (e3 x1) (e3 x2) (e3 x3) (e3 x4) (e3 x5) (e3 x6) (e3 x7) (e3 x8) (e3 x9) (e3 x10) (e3 x11)
+        (e3 x12) (e3 x13) (e3 x14) (e3 x15)) x0)";
 
 /// A long path of tests is built, walked to its end and dropped.
 #[test]
 fn paths_of_tests_take_no_native_stack(rt: HostRuntime) -> Result<(), Fail> {
     let text = written_out(rt.alloc(), PATH)?;
     let reached = walked(rt.alloc(), text.as_str(), Passed::All)?;
-    assert_eq!(rt; reached, (770, Some(0)));
+    assert_eq!(rt; reached, (57_601, Some(0)));
     Ok(())
 }
