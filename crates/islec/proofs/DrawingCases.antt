@@ -128,35 +128,35 @@ module _ (program : Program) (has : HasBoth program) where
         (subst (AreTexts (IsEntryText program files asked) ((f, set) ∷ [])) (append-nil drawn) (more_texts is no_texts))
 
     -- all of it is drawn, or that of f, and nothing of g
-    draws_all : DrawsTrees program files [] text
+    draws_all : DrawsTrees program files [] false text
     draws_all = record { terms = []; named = refl; told = tells [] text told }
 
-    draws_f : DrawsTrees program files (codes "f" ∷ []) text
+    draws_f : DrawsTrees program files (codes "f" ∷ []) false text
     draws_f = record { terms = f ∷ []; named = rw f_found; told = tells (f ∷ []) text told }
 
-    draws_g : DrawsTrees program files (codes "g" ∷ []) []
+    draws_g : DrawsTrees program files (codes "g" ∷ []) false []
     draws_g = record { terms = g ∷ []; named = rw g_found; told = tells (g ∷ []) [] refl }
 
-    draws_no_f_for_g : DrawsTrees program files (codes "g" ∷ []) (codes "term 0 f\n") → ⊥
+    draws_no_f_for_g : DrawsTrees program files (codes "g" ∷ []) false (codes "term 0 f\n") → ⊥
     draws_no_f_for_g draws = no_text_for_g draws.terms draws.named draws.told
       where
         no_text_for_g : (asked : List TermId) → AreNamed program (codes "g" ∷ []) asked → TellsTrees program files asked (codes "term 0 f\n") → ⊥
-        no_text_for_g [] named tells = cc
-        no_text_for_g (term ∷ another ∷ others) named tells = cc
-        no_text_for_g (term ∷ []) named tells =
+        no_text_for_g [] named shown = cc
+        no_text_for_g (term ∷ another ∷ others) named shown = cc
+        no_text_for_g (term ∷ []) named shown =
             let is_g = same_Some g term (sym g_found ∙ first_of (term_named program) (codes "g") [] term [] named) in
             let of_f = text_of_one (IsEntryText program files (term ∷ [])) (f, set) (codes "term 0 f\n")
-            (subst (λ (sets : _). AreTexts (IsEntryText program files (term ∷ [])) sets (codes "term 0 f\n")) has_set tells) in
+            (subst (λ (sets : _). AreTexts (IsEntryText program files (term ∷ [])) sets (codes "term 0 f\n")) has_set shown) in
             let none : codes "term 0 f\n" ≡ [] =
             subst (λ (t : TermId). IsEntryText program files (t ∷ []) (f, set) (codes "term 0 f\n")) (sym is_g) of_f in
             cc
 
-    draws_no_h : (drawn : List ℕ) → DrawsTrees program files (codes "h" ∷ []) drawn → ⊥
+    draws_no_h : (drawn : List ℕ) → DrawsTrees program files (codes "h" ∷ []) false drawn → ⊥
     draws_no_h drawn draws = h_not_named draws.terms draws.named
 
   -- the command ends as the names say, where the files are accepted
   module _ (files : List SourceFile) (accepted : AreAccepted files) (is : IsProgramOf files program) where
-    tells_h : EndsBlocks (codes "h" ∷ []) files (Some (codes "old\n")) (Some (codes "old\nerror: no term is named h\n")) status.Usage
+    tells_h : EndsBlocks (codes "h" ∷ []) false files (Some (codes "old\n")) (Some (codes "old\nerror: no term is named h\n")) status.Usage
     tells_h = record {
       accepted = accepted;
       program = program;
@@ -166,7 +166,7 @@ module _ (program : Program) (has : HasBoth program) where
       written = refl;
     }
 
-    cuts_h : EndsBlocks (codes "h" ∷ []) files (Some []) (Some (codes "error: no")) status.InputOutput
+    cuts_h : EndsBlocks (codes "h" ∷ []) false files (Some []) (Some (codes "error: no")) status.InputOutput
     cuts_h = inl (
       program,
       is,
@@ -177,7 +177,7 @@ module _ (program : Program) (has : HasBoth program) where
       ),
     )
 
-    draws_nothing : rule_sets_of program ≡ [] → EndsBlocks [] files (Some (codes "old\n")) (Some (codes "old\n")) status.AllWell
+    draws_nothing : rule_sets_of program ≡ [] → EndsBlocks [] false files (Some (codes "old\n")) (Some (codes "old\n")) status.AllWell
     draws_nothing none = record {
       accepted = accepted;
       program = program;
@@ -191,30 +191,30 @@ module _ (program : Program) (has : HasBoth program) where
       written = refl;
     }
 
-    not_refused : (names : List (List ℕ)) (old new : Option (List ℕ)) → EndsBlocks names files old new status.TextsRefused → ⊥
+    not_refused : (names : List (List ℕ)) (old new : Option (List ℕ)) → EndsBlocks names false files old new status.TextsRefused → ⊥
     not_refused names old new ends = ends.refused accepted
 
 -- where each program of the files has both, h is never drawn, and f never unknown
 module _ (files : List SourceFile) (each : (program : Program) → IsProgramOf files program → HasBoth program) (old new : Option (List ℕ)) where
-  h_is_not_well : EndsBlocks (codes "h" ∷ []) files old new status.AllWell → ⊥
+  h_is_not_well : EndsBlocks (codes "h" ∷ []) false files old new status.AllWell → ⊥
   h_is_not_well ends = h_not_named ends.program (each ends.program ends.is) ends.drawn.terms ends.drawn.named
 
-  f_is_used_well : EndsBlocks (codes "f" ∷ []) files old new status.Usage → ⊥
+  f_is_used_well : EndsBlocks (codes "f" ∷ []) false files old new status.Usage → ⊥
   f_is_used_well ends =
       let wrong = ends.unknown in
       let is_f = only_one (codes "f") ends.name wrong.before wrong.after wrong.among in
       none_is_no_term f (sym wrong.unknown ∙ ap (term_named ends.program) (sym is_f) ∙ f_found ends.program (each ends.program ends.is))
 
 -- what is told where memory runs out, or its beginning
-out_of_memory : (names : List (List ℕ)) (files : List SourceFile) → EndsBlocks names files (Some []) (Some (codes "out of memory\n")) status.OutOfMemory
+out_of_memory : (names : List (List ℕ)) (files : List SourceFile) → EndsBlocks names false files (Some []) (Some (codes "out of memory\n")) status.OutOfMemory
 out_of_memory names files = (14, refl)
 
-begins_out_of_memory : (names : List (List ℕ)) (files : List SourceFile) → EndsBlocks names files (Some []) (Some (codes "out")) status.OutOfMemory
+begins_out_of_memory : (names : List (List ℕ)) (files : List SourceFile) → EndsBlocks names false files (Some []) (Some (codes "out")) status.OutOfMemory
 begins_out_of_memory names files = (3, refl)
 
-nothing_else : (names : List (List ℕ)) (files : List SourceFile) → EndsBlocks names files (Some []) (Some (codes "error")) status.OutOfMemory → ⊥
+nothing_else : (names : List (List ℕ)) (files : List SourceFile) → EndsBlocks names false files (Some []) (Some (codes "error")) status.OutOfMemory → ⊥
 nothing_else names files (zero, written) = cc
 nothing_else names files (suc count, written) = let first = ap (λ (text : List ℕ). get_or text 0 0) written in omega (arith, first)
 
-no_query_is_refused : (names : List (List ℕ)) (files : List SourceFile) (old new : Option (List ℕ)) → EndsBlocks names files old new status.SomeRefused → ⊥
+no_query_is_refused : (names : List (List ℕ)) (files : List SourceFile) (old new : Option (List ℕ)) → EndsBlocks names false files old new status.SomeRefused → ⊥
 no_query_is_refused names files old new ends = ends

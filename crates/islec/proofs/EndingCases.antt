@@ -95,7 +95,7 @@ world_is (Check terms) name rows met (named, flag) =
     let is_run = same_Some _ _ (sym (ap (option_map (λ p. p.0)) met) ∙ run_name) in
     let wrong : true ≡ false = ap (λ (text : Text). bytes_eq text (codes "run")) (sym is_run ∙ named) in
     absurd (true≢false wrong)
-world_is (Blocks terms dot) name rows met (named, names) =
+world_is (Blocks terms dot) name rows met (named, names, flag) =
     let is_run = same_Some _ _ (sym (ap (option_map (λ p. p.0)) met) ∙ run_name) in
     let wrong : true ≡ false = ap (λ (text : Text). bytes_eq text (codes "run")) (sym is_run ∙ named) in
     absurd (true≢false wrong)
