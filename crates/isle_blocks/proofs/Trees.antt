@@ -75,3 +75,5 @@ pub mod Named
 pub mod Promised
 -- What more is promised of it.
 pub mod Promises
+-- What the tree of a term's rule set owes to the term's rules.
+pub mod TermTrees

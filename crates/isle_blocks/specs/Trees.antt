@@ -55,3 +55,5 @@ pub mod Ties
 pub mod TypedCalls
 -- What the tree of a rule set promises of right sides.
 pub mod RightPromises
+-- Rule sets and their blocks as the machine has them.
+pub mod TermTrees

@@ -28,6 +28,7 @@ ghost use Rattle.isle_blocks.specs.Trees.Laws.{MachinesWalk, WalksChooseAsTyped,
 ghost use Rattle.isle_blocks.specs.Trees.Bags.{ElaboratedAreWellMade, ElaboratedAreListed, MultiSetsAreMany, FunctionsAreFunctions};
 ghost use Rattle.isle_blocks.specs.Trees.Bags.{RulesMatchByNumbers, WalksMakeBags, SitesHoldTheirValues, RulesMatchAtPlaces};
 ghost use Rattle.isle_blocks.specs.Trees.Ties.{EqualPrioritiesNeverBothMatch};
+ghost use Rattle.isle_blocks.specs.Trees.TermTrees.{TreesAreOfTerms};
 ghost use Rattle.isle_blocks.specs.Trees.Bags.{MatchingIsDecided, MatchingRulesAreListed, WaysTakeItems, BuiltSetsAreElaborated, BuiltMultiTerms};
 ghost use Rattle.isle_blocks.specs.Hashes.{binding_hash, constraint_hash};
 
@@ -301,4 +302,9 @@ pub fn built_sets_are_elaborated()
 /// Of rules without a fault two of equal priority, of a term that asks no `multi` term and is none, never both match.
 pub fn equal_priorities_never_both_match()
     ensures { EqualPrioritiesNeverBothMatch }
+{}
+
+/// The tree that is built of a term's rule set is what the machine of a sound program runs for the term: it is that of the term's rules.
+pub fn trees_are_of_terms()
+    ensures { TreesAreOfTerms }
 {}

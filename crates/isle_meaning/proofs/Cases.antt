@@ -9,6 +9,8 @@ pub mod AskedCalls
 pub mod TriedRules
 -- Plain runs at other depths.
 pub mod SpentRuns
+-- Machine's runs of literal trees.
+pub mod MachineRuns
 -- Values of types, at both ends of a range.
 pub mod TypedValues
 -- A multi call in a `let` that is not used.

@@ -6,6 +6,8 @@ pub mod Sites
 pub mod Calls
 -- Meanings at other depths, chains of asking, and what a call means.
 pub mod Chains
+-- A machine's run of a call is its meaning.
+pub mod Machine
 -- What typing gives of a program's rules.
 pub mod SoundPrograms
 -- Where definitions stand, and in which order rules do, means nothing.

@@ -6,6 +6,8 @@ pub mod Sites
 pub mod Calls
 -- What a plain run means.
 pub mod Plain
+-- What a machine's run means.
+pub mod Machine
 -- The order of rules.
 pub mod Order
 -- Positions of definitions and rules.

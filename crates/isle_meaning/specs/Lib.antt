@@ -62,6 +62,8 @@ pub mod Outcomes
 pub mod PlainRuns
 -- The effects with which one begins.
 pub mod PlainBeginnings
+-- The machine's run of a call.
+pub mod Machine
 -- Which terms with rules a call comes to.
 pub mod Reaching
 -- Written-out expressions that are typed.

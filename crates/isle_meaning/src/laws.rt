@@ -2,6 +2,7 @@
 
 mod calls;
 mod elaborated;
+mod machine;
 mod matching;
 mod sites;
 
@@ -13,6 +14,11 @@ pub use calls::{
 pub use elaborated::{
     definitions_are_elaborated, elaborated_are_kinded, none_is_multi_and_partial,
     rules_without_lets_open, typed_rules_are_elaborated,
+};
+pub use machine::{
+    machine_ends_are_asked, machine_runs_are_meant, machine_runs_are_one, machine_runs_are_short,
+    machine_runs_begin_so, machine_runs_stay, no_machine_run_spent, roads_agree,
+    term_trees_are_walkable, the_sample_has_a_tree,
 };
 pub use matching::{
     both_match_overlap, demands_are_tested, demands_suit, derived_is_tested, elaborated_rules_fit,

@@ -12,6 +12,8 @@ pub mod Callers
 pub mod Reaching
 -- The steps of rules.
 pub mod Steps
+-- Where the rule sets of terms stand, and what stands there.
+pub mod Places
 -- A term is the root of a rule where some are tried for it.
 pub mod RootedTerms
 -- The terms with rules as a list.

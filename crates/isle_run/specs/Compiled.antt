@@ -19,7 +19,8 @@ use Rattle.isle_blocks.specs.RuleFaults.{AreFaultless, AreRuleErrors}
 use Rattle.isle_run.specs.declared.program.Program.{Program}
 use Rattle.isle_run.specs.declared.compiler.Refused.{Refused}
 use Rattle.isle_run.specs.declared.compiler.Refused.TheVariants.{Faults, Memory}
-use Rattle.isle_run.specs.Programs.{types_of, terms_of, rule_sets_of}
+use Rattle.isle_run.specs.Programs.{types_of, terms_of, rule_sets_of, set_trees_of}
+use Rattle.isle_run.specs.Trees.{AreSetTrees}
 
 -- the texts of files, which are numbered from `first`, spell these definitions, joined in the order of the files
 abbrev pub AreSpelt : (first : ℕ) → List SourceFile → List Def → Type 0
@@ -64,7 +65,7 @@ pub record AreAccepted (files : List SourceFile) : Type 0 where
 
 -- the program of files: their texts are spelt, the definitions make an environment of types and one of terms over it, and the
 -- program's tables show both, with internal extractors put in; each name is interned once, and no rule has a fault; the program has
--- the rule set of each term with rules
+-- the rule set of each term with rules, and its tree
 pub record IsProgramOf (files : List SourceFile) (program : Program) : Type 0 where
   pub defs : List Def
   pub types : Environment
@@ -86,6 +87,7 @@ pub record IsProgramOf (files : List SourceFile) (program : Program) : Type 0 wh
     shows = terms;
     few = few;
   }) (rule_sets_of program)
+  pub trees : AreSetTrees (rule_sets_of program) (set_trees_of program)
 
 -- an error is the fault of the first text that isn't spelt
 pub record IsFirstFault (files : List SourceFile) (error : Error) : Type 0 where

@@ -9,6 +9,7 @@ use Rattle.isle_types.specs.TypeEnvs.{name_of}
 use Rattle.isle_terms.specs.declared.rules.Rule.{Rule}
 use Rattle.isle_terms.specs.Shown.TermTables.{TermTables}
 use Rattle.isle_blocks.specs.RuleSets.{RulesOverSites}
+use Rattle.isle_blocks.specs.Trees.Shown.{BlockShown}
 use Rattle.isle_run.specs.declared.program.Program.{Program}
 use Rattle.isle_run.specs.Facts.Reach.{is_root}
 use Rattle.isle_run.specs.Tables.{term_called, value_facts_by}
@@ -29,6 +30,10 @@ rules_in program = program.termenv.rules
 -- the rule sets of its terms with rules, ascending by the term
 abbrev pub rule_sets_of : Program → List (TermId × RulesOverSites)
 rule_sets_of program = program.rule_sets.items
+
+-- the trees of these rule sets, in their order
+abbrev pub set_trees_of : Program → List BlockShown
+set_trees_of program = program.trees.items
 
 -- the term of a name
 abbrev pub term_named : Program → List ℕ → Option TermId

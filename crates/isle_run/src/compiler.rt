@@ -6,10 +6,14 @@ ghost use Rattle.isle_syntax.specs.Errors.{IfFault, IsFaultAnd, RefusalAt, Refus
 ghost use Rattle.isle_syntax.specs.Trees.MacroArgs.{HasNoMacroArgs};
 ghost use Rattle.isle_syntax.specs.Grammar.Texts.{Spells, IsFaultIn};
 ghost use Rattle.isle_syntax.specs.declared.error.Error.{Error};
+ghost use Rattle.isle_types.specs.declared.ids.TermId.{TermId as TermNumber};
+ghost use Rattle.isle_blocks.specs.RuleSets.{RulesOverSites};
+ghost use Rattle.isle_blocks.specs.Trees.Promises.{IsCheckedSet};
+ghost use Rattle.isle_run.specs.Trees.{AreSetTrees};
 ghost use Rattle.isle_run.specs.Compiled.{AreSpelt, AreAccepted, IsProgramOf, IsFirstFault, AreFaults, IfFaults};
 
 use crate::program::Program;
-use isle_blocks::check;
+use isle_blocks::{Block, RuleSet, check, serialize};
 use isle_syntax::Refusal;
 use isle_syntax::ast::Def;
 use isle_syntax::error::{Error, Errors};
@@ -17,7 +21,7 @@ use isle_syntax::files::Files;
 use isle_syntax::lexer::Lexer;
 use isle_syntax::parser::parse;
 use isle_terms::TermEnv;
-use isle_types::TypeEnv;
+use isle_types::{TermId, TypeEnv};
 use std::alloc::{AllocError, Global};
 use std::rc::Rc;
 
@@ -57,7 +61,20 @@ fn compile_files(alloc: Global, files: &Files) -> Result<Program, Refusal<Vec<Er
     let termenv = TermEnv::from_ast(alloc, &mut tyenv, defs, true)?;
     let _names = tyenv.syms();
     let rule_sets = check(alloc, &termenv)?;
-    Ok(Program::new(alloc, tyenv, termenv, rule_sets)?)
+    let trees = trees_of_sets(alloc, rule_sets.as_slice())?;
+    Ok(Program::new(alloc, tyenv, termenv, rule_sets, trees)?)
+}
+
+/// The trees of rule sets.
+fn trees_of_sets(alloc: Global, sets: &[(TermId, RuleSet)]) -> Result<Vec<Block>, AllocError>
+    requires { All (λ (set : TermNumber × RulesOverSites). IsCheckedSet set.1) sets.now }
+    ensures { IfOk result (λ trees. AreSetTrees sets.now trees.items) }
+{
+    let mut trees = Vec::with_capacity(alloc, sets.len())?;
+    for set in sets {
+        trees.push(serialize(alloc, &set.1)?)?;
+    }
+    Ok(trees)
 }
 
 /// The definitions of all texts, or the fault of the first one that has one.

@@ -11,11 +11,13 @@ mod callers;
 mod hindrances;
 mod inhabited;
 mod made;
+mod places;
 mod spreading;
 mod steps;
 
 use crate::facts::barred::{barred_terms, roots};
 use crate::facts::inhabited::are_inhabited;
+use crate::facts::places::places_by_term;
 use crate::facts::steps::steps_by_term;
 use isle_blocks::RuleSet;
 use isle_terms::TermEnv;
@@ -29,6 +31,8 @@ pub(crate) struct Numbers {
     pub(crate) with_rules: Vec<TermId>,
     /// For each term how many steps its rules take at most.
     pub(crate) steps: Vec<u128>,
+    /// For each term the place of its rule set among all.
+    pub(crate) places: Vec<usize>,
     /// Whether each type has a value.
     pub(crate) inhabited: bool,
     /// For each term whether it can't be run yet, by itself or for a term that it reaches.
@@ -50,6 +54,7 @@ impl Numbers {
         Ok(Numbers {
             with_rules: terms_with_rules(alloc, termenv)?,
             steps: steps_by_term(alloc, termenv.terms().len(), sets)?,
+            places: places_by_term(alloc, termenv.terms().len(), sets)?,
             inhabited: are_inhabited(alloc, tyenv.types())?,
             barred: barred_terms(alloc, tyenv, termenv)?,
         })

@@ -9,7 +9,7 @@ ghost use Rattle.isle_blocks.specs.RuleSets.{RulesOverSites};
 
 use crate::facts::Numbers;
 use crate::roads::plain::laid::LaidRule;
-use isle_blocks::RuleSet;
+use isle_blocks::{Block, RuleSet};
 use isle_terms::{ExtractorKind, Rule, TermEnv, TermKind};
 use isle_types::{TermId, TypeEnv, TypeId};
 use std::alloc::{AllocError, Global};
@@ -22,6 +22,8 @@ pub struct Program {
     termenv: TermEnv,
     /// The rule sets of the terms with rules, ascending by the term.
     rule_sets: Vec<(TermId, RuleSet)>,
+    /// The tree of each rule set.
+    trees: Vec<Block>,
     /// For each term the places of its rules, by descending priority, then in the order of the texts.
     rules_of: Vec<Vec<usize>>,
     /// The expressions of each rule laid out.
@@ -40,20 +42,23 @@ impl Program {
     ghost use Rattle.isle_run.specs.Facts.Inhabited.{AreAllInhabited};
     ghost use Rattle.isle_run.specs.Facts.Steps.{steps_in};
     ghost use Rattle.isle_run.specs.Facts.Reach.{IsRunnable};
-    ghost use Rattle.isle_run.specs.Programs.{types_of, terms_of, rules_in, rule_sets_of, term_named, term_name, has_rules, number_of};
+    ghost use Rattle.isle_run.specs.Programs.{types_of, terms_of, rules_in, rule_sets_of, set_trees_of, term_named, term_name, has_rules, number_of};
     ghost use Rattle.isle_run.specs.Programs.{types_taken};
     ghost use Rattle.isle_run.specs.Meanings.{checked};
+    ghost use Rattle.isle_run.specs.Trees.{set_and_tree};
+    ghost use Rattle.std.specs.Option.{option_map};
     ghost use Rattle.isle_meaning.specs.PlainRuns.{AreTriedInOrder};
     ghost use Rattle.isle_run.specs.Plain.Laid.{IsLaidRule};
     ghost use Rattle.isle_meaning.specs.Facts.{never_fails};
     ghost use Rattle.isle_terms.specs.Shown.ShownTerms.{form_shown};
 
-    /// The program of typed definitions and of the rule sets of their rules.
+    /// The program of typed definitions, of the rule sets of their rules, and of the trees of these.
     pub(crate) fn new(
         alloc: Global,
         tyenv: TypeEnv,
         termenv: TermEnv,
         rule_sets: Vec<(TermId, RuleSet)>,
+        trees: Vec<Block>,
     ) -> Result<Program, AllocError>
         requires rooted { All (λ rule. rule.root_term.0 < length termenv.terms) termenv.rules }
         requires within { All (λ (set : TermNumber × RulesOverSites). set.0.0 < length termenv.terms) rule_sets.items }
@@ -61,12 +66,14 @@ impl Program {
         ensures types { IfOk result (λ program. types_of program ≡ tyenv) }
         ensures terms { IfOk result (λ program. terms_of program ≡ termenv) }
         ensures sets { IfOk result (λ program. rule_sets_of program ≡ rule_sets.items) }
+        ensures trees { IfOk result (λ program. set_trees_of program ≡ trees.items) }
     {
         let known = Known::new(alloc, &tyenv, &termenv, rule_sets.as_slice())?;
         Ok(Program {
             tyenv,
             termenv,
             rule_sets,
+            trees,
             rules_of: known.rules_of,
             laid: known.laid,
             numbers: known.numbers,
@@ -238,6 +245,23 @@ impl Program {
         ensures { result.now ≡ rule_sets_of self.now }
     {
         self.rule_sets.as_slice()
+    }
+
+    /// The trees of the rule sets, in their order.
+    pub(crate) fn trees(&self) -> &[Block]
+        ensures { result.now ≡ set_trees_of self.now }
+    {
+        self.trees.as_slice()
+    }
+
+    /// The rule set of a term and its tree, where the term has rules.
+    pub(crate) fn tree_of(&self, term: TermId) -> Option<(&RuleSet, &Block)>
+        ensures { option_map (λ found. (found.0.now, found.1.now)) result ≡ set_and_tree (rule_sets_of self.now) (set_trees_of self.now) term.0 }
+    {
+        let place = *self.numbers.places.get(term.index())?;
+        let set = self.rule_sets.get(place)?;
+        let tree = self.trees.get(place)?;
+        Some((&set.1, tree))
     }
 
     /// The rules, in the order of the texts.

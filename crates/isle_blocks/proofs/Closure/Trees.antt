@@ -50,7 +50,7 @@ module _ (name : Sym → List ℕ) (table : List Binding) where
       go (Some b) q = (b, q, same_Some _ _ (sym (slice_get-map (row_of name) table k ∙ ap (option_map (row_of name)) q) ∙ e))
 
   -- a number that stands for a site is a place of the table
-  at_row : (s : Site) (k : ℕ) → At rows s k → (row : Row) × (slice_get rows k ≡ Some row)
+  pub at_row : (s : Site) (k : ℕ) → At rows s k → (row : Row) × (slice_get rows k ≡ Some row)
   at_row (bool_site b ty) k p = (bool_row b ty, p)
   at_row (int_site n ty) k p = (int_row n ty, p)
   at_row (prim_site n) k p = (prim_row n, p)

@@ -43,8 +43,8 @@ use Rattle.isle_blocks.proofs.Trees.WellMade.{made_rule}
 use Rattle.isle_blocks.proofs.Trees.Listed.{site_kinded}
 use Rattle.isle_blocks.proofs.Trees.Asked.{effect_site, tests_are_there, asked_is_pure}
 
--- the option that an entry is the content of
-abbrev row_option : Row → Option ℕ
+-- The option that an entry is the content of.
+abbrev pub row_option : Row → Option ℕ
 row_option (bool_row b ty) = None
 row_option (int_row n ty) = None
 row_option (prim_row n) = None
@@ -60,8 +60,8 @@ row_option (make_some_row j) = None
 row_option (match_some_row j) = Some j
 row_option (match_tuple_row j i) = None
 
--- it is the site's
-same_option : (name : Sym → List ℕ) (b : Binding) → row_option (row_of name b) ≡ option_site b
+-- It is the site's.
+pub same_option : (name : Sym → List ℕ) (b : Binding) → row_option (row_of name b) ≡ option_site b
 same_option name (sites.ConstBool v t) = refl
 same_option name (sites.ConstInt v t) = refl
 same_option name (sites.ConstPrim v) = refl

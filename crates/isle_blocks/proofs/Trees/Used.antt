@@ -139,8 +139,8 @@ module _ (name : Sym → List ℕ) (facts : TermFacts) (sources : List source.Ru
         let has = right_side_has facts rule (fit_of name facts sources rules term set h p r m).well in
         (has.0 (facts.partial rule.root), has.1)
 
-    -- so has all that it has
-    used_has : (s : ℕ) → Used R i s → (t : Site) × At rows t s × HasTests (Derived D) t
+    -- So has all that it has.
+    pub used_has : (s : ℕ) → Used R i s → (t : Site) × At rows t s × HasTests (Derived D) t
     used_has _ (Used.by_asked s a) =
         let (t, at_t, ok) = asked_holds name facts sources rules term set h i r at p m (IsTested (Derived D))
         (tests_of name facts sources rules term set h i r at p m)

@@ -21,7 +21,7 @@ module _ (p : CheckedProgram) (w : Answers) (runs : ℕ → Values → List Even
 
   module _ (begins : (t : ℕ) (vs : Values) (made : List Event) (r : Outcome Value) → runs t vs made r → below t vs made) where
     -- an impure call begins with its effects
-    impure_begins : (b : Bool) (t : ℕ) (vs : Values) (effects : List Event) (r : Outcome Value) → EffectsIf p runs b t vs effects r
+    pub impure_begins : (b : Bool) (t : ℕ) (vs : Values) (effects : List Event) (r : Outcome Value) → EffectsIf p runs b t vs effects r
         → EffectsBegin p below b t vs effects
     impure_begins true t vs effects r run = begins t vs effects r run
     impure_begins false t vs effects r run = record { args = run.args; typed = run.typed; stand = run.stand; answer = run.answer; alone = run.alone }

@@ -98,7 +98,7 @@ module _ (p : CheckedProgram) (w : Answers) (R : ℕ → Type 0) (data_sound : H
   meant_answers t vs effects (ended e) h = tt
 
   -- an impure call makes its effects, and is answered so
-  impure_answers : (b : Bool) (t : ℕ) (vs : Values) (effects : List Event) (r : Outcome Value) → p.has_rules t ≡ b
+  pub impure_answers : (b : Bool) (t : ℕ) (vs : Values) (effects : List Event) (r : Outcome Value) → p.has_rules t ≡ b
       → (p.has_rules t ≡ true → R t) → AreValuesOf p.values vs (p.terms.inputs t) → EffectsIf p below b t vs effects r
       → IsAnswer (MakesIf p means b t vs effects) r
   impure_answers true t vs effects r e ruled h run = meant_answers t vs effects r (meant t vs effects r (ruled e) h run)

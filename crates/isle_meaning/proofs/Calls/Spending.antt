@@ -26,18 +26,18 @@ use Rattle.isle_meaning.proofs.Chains.Unique.{EachStep}
 use Rattle.isle_meaning.proofs.Chains.WordEnds.{after_ended, judged_ended}
 
 -- a list has a number
-abbrev Has : List ℕ → ℕ → Type 0
+abbrev pub Has : List ℕ → ℕ → Type 0
 Has [] x = ⊥
 Has (y ∷ ys) x = (x ≡ y) ⊎ Has ys x
 
 -- what a list contains, it has
-contained : (xs : List ℕ) (x : ℕ) → Contains xs x → Has xs x
+pub contained : (xs : List ℕ) (x : ℕ) → Contains xs x → Has xs x
 contained [] x (k, within, is) = absurd (omega (arith, within))
 contained (y ∷ ys) x (zero, within, is) = inl (sym is)
 contained (y ∷ ys) x (suc k, within, is) = inr (contained ys x (k, omega (arith, within), is))
 
 -- a list without one that it has is shorter, and has the others
-taken : (xs : List ℕ) (x : ℕ) → Has xs x
+pub taken : (xs : List ℕ) (x : ℕ) → Has xs x
     → (ys : List ℕ) × (length xs ≡ suc (length ys)) × ((v : ℕ) → Has xs v → (v ≡ x → ⊥) → Has ys v)
 taken [] x h = absurd h
 taken (y ∷ ys) x (inl e) = (ys, refl, λ v h n. elim h [ inl q ↦ absurd (n (q ∙ sym e)) | inr q ↦ q ])
@@ -54,7 +54,7 @@ module _ (facts : TermFacts) where
 
   mutual
     -- an expression calls what is called in it
-    expr_called : (Q : ℕ → Type 0) (e : TypedExpr) → ((u : ℕ) → IsCalledIn facts e u → Q u) → ExprCalls facts Q e
+    pub expr_called : (Q : ℕ → Type 0) (e : TypedExpr) → ((u : ℕ) → IsCalledIn facts e u → Q u) → ExprCalls facts Q e
     expr_called Q (built_var ty k) f = tt
     expr_called Q (built_bool ty b) f = tt
     expr_called Q (built_int ty n) f = tt
@@ -124,11 +124,11 @@ module _ (p : CheckedProgram) (w : Answers) where
 -- no rule is spent of whose calls none is
 module _ (p : CheckedProgram) (w : Answers) (below : ℕ → Values → List Event → Outcome Value → Type 0) (Q : ℕ → Type 0)
     (never : (u : ℕ) (vs : Values) (effects : List Event) → Q u → p.has_rules u ≡ true → below u vs effects (ended spent) → ⊥) where
-  pure_never : (b : Bool) (u : ℕ) (vs : Values) → p.has_rules u ≡ b → Q u → ConstructsIf p w below b u vs (ended spent) → ⊥
+  pub pure_never : (b : Bool) (u : ℕ) (vs : Values) → p.has_rules u ≡ b → Q u → ConstructsIf p w below b u vs (ended spent) → ⊥
   pure_never true u vs e q run = never u vs [] q e run
   pure_never false u vs e q run = let o = (judged_ended _ _ _ spent (run.judged)).1 in cc
 
-  impure_never : (b : Bool) (u : ℕ) (vs : Values) (effects : List Event) → p.has_rules u ≡ b → Q u
+  pub impure_never : (b : Bool) (u : ℕ) (vs : Values) (effects : List Event) → p.has_rules u ≡ b → Q u
       → EffectsIf p below b u vs effects (ended spent) → ⊥
   impure_never true u vs effects e q run = never u vs effects q e run
   impure_never false u vs effects e q run = let o = (judged_ended _ _ _ spent (run.judged)).1 in cc

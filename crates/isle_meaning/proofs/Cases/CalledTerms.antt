@@ -82,7 +82,7 @@ silent = record { construct = λ t vs. None; extract = λ t v. None }
 
 -- ---- (rule (g x) x) (rule (f x) (g x)), where g is 0 and f is 1
 
-abbrev chain : CheckedProgram
+abbrev pub chain : CheckedProgram
 chain = record {
   terms = terms_of (λ t. false) (λ t. false);
   values = one_type;

@@ -24,11 +24,11 @@ use Rattle.isle_meaning.proofs.Sites.Parts.{of_only}
 -- ---- completions that agree
 
 -- what is one agrees with itself
-same_self : {A : Type 0} (g : Got A) → AgreeIfKnown g g
+pub same_self : {A : Type 0} (g : Got A) → AgreeIfKnown g g
 same_self g a b = refl
 
 -- what is made of something that isn't known isn't known
-same_ask : {A B : Type 0} (f k : A → Got B) (g h : Got A) → ((x : A) → AgreeIfKnown (f x) (k x)) → AgreeIfKnown g h
+pub same_ask : {A B : Type 0} (f k : A → Got B) (g h : Got A) → ((x : A) → AgreeIfKnown (f x) (k x)) → AgreeIfKnown g h
     → AgreeIfKnown (ask f g) (ask k h)
 same_ask f k unknown h e s a b = absurd (a refl)
 same_ask f k g unknown e s a b = absurd (b refl)
@@ -38,7 +38,7 @@ same_ask f k (gives x) h e s a b =
     ap (ask k) q ∙ e x a (λ p. b (ap (ask k) q ∙ p))
 
 -- a value before values
-same_more : (g h : Got Value) (gs hs : Got Values) → AgreeIfKnown g h → AgreeIfKnown gs hs → AgreeIfKnown (more g gs) (more h hs)
+pub same_more : (g h : Got Value) (gs hs : Got Values) → AgreeIfKnown g h → AgreeIfKnown gs hs → AgreeIfKnown (more g gs) (more h hs)
 same_more g h gs hs s t a b =
     let p = s (λ e. a (ap (λ (x : Got Value). more x gs) e)) (λ e. b (ap (λ (x : Got Value). more x hs) e)) in
     let q = t (λ e. a (ap (more g) e ∙ more_unknown g)) (λ e. b (ap (more h) e ∙ more_unknown h)) in
@@ -59,11 +59,11 @@ same_if true g h k l s t = s
 same_if false g h k l s t = t
 
 -- a value that is held
-same_held : (g h : Got Value) → AgreeIfKnown g h → AgreeIfKnown (held g) (held h)
+pub same_held : (g h : Got Value) → AgreeIfKnown g h → AgreeIfKnown (held g) (held h)
 same_held g h s = same_ask _ _ g h (λ x. same_self _) s
 
 -- what is held as a value
-same_plain : (g h : Got Held) → AgreeIfKnown g h → AgreeIfKnown (plain g) (plain h)
+pub same_plain : (g h : Got Held) → AgreeIfKnown g h → AgreeIfKnown (plain g) (plain h)
 same_plain g h s = same_ask _ _ g h (λ x. same_self _) s
 
 module _ (facts : TermFacts) (c d : Completion) (args : Values) (done : List (Option Value)) (a : AgreeOnCalls c d) where
@@ -155,7 +155,7 @@ held_known : (g : Got Value) → g ≢ unknown → held g ≢ unknown
 held_known g k = known_ask _ g (λ x e. cc) k
 
 -- so is what is held as a value
-plain_known : (g : Got Held) → g ≢ unknown → plain g ≢ unknown
+pub plain_known : (g : Got Held) → g ≢ unknown → plain g ≢ unknown
 plain_known g k = known_ask plain_of g plain_of_known k
 
 module _ (facts : TermFacts) (c : Completion) where
@@ -189,7 +189,7 @@ module _ (facts : TermFacts) (c : Completion) (args : Values) (done : List (Opti
   val s = value facts c args done s
 
   -- sites that are known have known values
-  values_known : (ss : Sites) → ((u : Site) → IsOneOf ss u → val u ≢ unknown) → values facts c args done ss ≢ unknown
+  pub values_known : (ss : Sites) → ((u : Site) → IsOneOf ss u → val u ≢ unknown) → values facts c args done ss ≢ unknown
   values_known no_sites k e = cc
   values_known (more_sites s ss) k e =
       known_more _ _ (plain_known _ (k s (inl refl))) (values_known ss (λ u m. k u (inr m))) e
@@ -221,7 +221,7 @@ module _ (facts : TermFacts) (c : Completion) (args : Values) (done : List (Opti
   ask_part_has f g (y, e) = let (x, p, q) = ask_gives f g y e in (x, p)
 
   -- sites with values have each its own
-  values_have : (ss : Sites) → HasValue (values facts c args done ss) → (u : Site) → IsOneOf ss u → HasValue (val u)
+  pub values_have : (ss : Sites) → HasValue (values facts c args done ss) → (u : Site) → IsOneOf ss u → HasValue (val u)
   values_have no_sites h u m = absurd m
   values_have (more_sites s ss) (vs, e) u m =
       let (x, xs, p, q) = more_gives (plain (val s)) (values facts c args done ss) vs e in elim m [

@@ -184,3 +184,55 @@ module _ (facts : TermFacts) (A : Site → Type 0) (carried : IsCarried A) where
       let o = iflets_carry rule.iflets (args_bound facts rule) k (r.1) in
       derived_carries (DemandOf facts rule) (among (SpeaksOf A) (demands_of facts rule)
       (each_append (SpeaksOf A) (demands_all facts rule.args argument nothing) _ (r.0) (o.0))) d e
+
+-- where this holds of each extractor's call
+module _ (facts : TermFacts) (P : Site → Type 0) (carried : IsCarried (OfSubtrees P)) (opened : (t : ℕ) (s : Site) → P (extractor_call t s)) where
+  -- of the subtrees of one on such a site
+  call_carried : (shape : TermShape) (t : ℕ) (s : Site) → OfSubtrees P s → OfCall (OfSubtrees P) shape t s
+  call_carried (variant_shape k) t s h = tt
+  call_carried struct_shape t s h = tt
+  call_carried declared_shape t s h = of_whole P (extractor_call t s) (opened t s) (λ u m. of_one P s u h m)
+
+  mutual
+    -- of those of a pattern
+    calls_carried : (p : TypedPattern) (s : Site) → OfSubtrees P s → OfCalls facts (OfSubtrees P) p s
+    calls_carried (typed_bind ty k p) s h = calls_carried p s h
+    calls_carried (typed_var ty k) s h = tt
+    calls_carried (typed_bool ty b) s h = tt
+    calls_carried (typed_int ty n) s h = tt
+    calls_carried (typed_prim ty n) s h = tt
+    calls_carried (typed_term ty t ps) s h =
+        let q = call_carried (facts.shape t) t s h in
+        (q, all_calls_carried ps _ (λ i. parts_carried facts (OfSubtrees P) carried (facts.shape t) t (patterns ps) s i q h))
+    calls_carried (typed_wildcard ty) s h = tt
+    calls_carried (typed_and ty ps) s h = all_calls_carried ps (λ i. s) (λ i. h)
+
+    -- and of patterns
+    all_calls_carried : (ps : TypedPatterns) (at : ℕ → Site) → ((i : ℕ) → OfSubtrees P (at i)) → OfAllCalls facts (OfSubtrees P) ps at
+    all_calls_carried no_typed at h = tt
+    all_calls_carried (more_typed p ps) at h = (calls_carried p (at 0) (h 0), all_calls_carried ps (λ i. at (suc i)) (λ i. h (suc i)))
+
+  -- Of those of a rule's patterns.
+  pub args_carried : (rule : TypedRule) → OfAllCalls facts (OfSubtrees P) rule.args argument
+  args_carried rule = all_calls_carried rule.args argument carried.argument
+
+  -- the expressions of if-lets pass it on from their variables
+  abbrev pub PassOn : List TypedIfLet → Type 0
+  PassOn [] = Unit {0}
+  PassOn (x ∷ xs) = ((vars : ℕ → Site) → ((k : ℕ) → OfSubtrees P (vars k)) → OfSubtrees P (iflet_site facts vars x)) × PassOn xs
+
+  -- of those of if-lets
+  iflets_carried : (xs : List TypedIfLet) (vars : ℕ → Site) → ((k : ℕ) → OfSubtrees P (vars k)) → PassOn xs
+      → OfIfLets facts (OfSubtrees P) xs vars
+  iflets_carried [] vars v h = tt
+  iflets_carried (x ∷ xs) vars v h =
+      let s = (h.0) vars v in
+      let q = calls_carried x.pattern (iflet_site facts vars x) s in
+      let r = pattern_carries facts (OfSubtrees P) carried x.pattern (iflet_site facts vars x) vars q v s in
+      (s, q, iflets_carried xs (bound facts x.pattern (iflet_site facts vars x) vars) (r.1) (h.1))
+
+  -- Of those of a rule's.
+  pub lets_carried : (rule : TypedRule) → PassOn rule.iflets → OfIfLets facts (OfSubtrees P) rule.iflets (args_bound facts rule)
+  lets_carried rule h =
+      let r = patterns_carry facts (OfSubtrees P) carried rule.args argument nothing (args_carried rule) carried.nothing carried.argument in
+      iflets_carried rule.iflets (args_bound facts rule) (r.1) h

@@ -24,8 +24,11 @@ use Rattle.isle_terms.specs.Collecting.Environments.{ShowsTerms}
 use Rattle.isle_blocks.specs.DefinedSets.{AreDefined, facts_by, rules_by, AreSetsOf, IsTermSet}
 use Rattle.isle_blocks.specs.RuleSets.{RulesOverSites}
 use Rattle.isle_blocks.specs.RuleFaults.{AreFaultless, AreRuleErrors}
+use Rattle.isle_blocks.specs.Trees.Promises.{IsCheckedSet}
+use Rattle.isle_blocks.specs.Trees.Shown.{BlockShown}
 use Rattle.isle_run.specs.declared.program.Program.{Program}
-use Rattle.isle_run.specs.Programs.{types_of, terms_of, rule_sets_of}
+use Rattle.isle_run.specs.Programs.{types_of, terms_of, rule_sets_of, set_trees_of}
+use Rattle.isle_run.specs.Trees.{AreSetTrees}
 use Rattle.isle_run.specs.Compiled.{AreSpelt, AreTyped, AreTypedFiles, AreAccepted, IsProgramOf, IsFirstFault, AreFaults, of_a_text, of_types}
 use Rattle.isle_run.specs.Compiled.{of_terms, of_rules, max_levels, max_nodes}
 use Rattle.isle_blocks.proofs.FewArguments.{few_arguments}
@@ -109,11 +112,12 @@ module _ (files : List SourceFile) (tyenv : TypeTables) (env : TermTables) (show
       rule_errors_at (IsPrintablePos files) (facts_by env defined_files) (rules_by env defined_files) errors.items
       (typed_placed (IsPrintablePos files) tyenv.names (rules_by env defined_files) env.rules shown.terms.rules placed) (faults defined_files)
 
--- tables with the rule sets of their rules are a program's
+-- tables with the rule sets of their rules and the trees of these are a program's
 pub program_of : (files : List SourceFile) (program : Program) (tyenv : TypeTables) (env : TermTables) (sets : List (TermId × RulesOverSites))
-    (shown : ShowFiles files tyenv env) → types_of program ≡ tyenv → terms_of program ≡ env → rule_sets_of program ≡ sets
-    → ((d : AreDefined env) → AreFaultless (facts_by env d) (rules_by env d)) → ((d : AreDefined env) → AreSetsOf env d sets) → IsProgramOf files program
-program_of files program tyenv env sets shown same_types same_terms same_sets faultless are_sets =
+    (trees : List BlockShown) (shown : ShowFiles files tyenv env) → types_of program ≡ tyenv → terms_of program ≡ env → rule_sets_of program ≡ sets
+    → set_trees_of program ≡ trees → ((d : AreDefined env) → AreFaultless (facts_by env d) (rules_by env d))
+    → ((d : AreDefined env) → AreSetsOf env d sets) → AreSetTrees sets trees → IsProgramOf files program
+program_of files program tyenv env sets trees shown same_types same_terms same_sets same_trees faultless are_sets are_trees =
     let own : ShowFiles files (types_of program) (terms_of program) = subst₂ (ShowFiles files) (sym same_types) (sym same_terms) shown in
     let d = defined_files files (types_of program) (terms_of program) own in
     let none : AreFaultless (facts_by (terms_of program) d) (rules_by (terms_of program) d) =
@@ -133,6 +137,7 @@ program_of files program tyenv env sets shown same_types same_terms same_sets fa
       faultless = none;
       few = d.few;
       sets = mine;
+      trees = subst₂ AreSetTrees (sym same_sets) (sym same_trees) are_trees;
     }
 
 -- the terms of rule sets are the environment's
@@ -141,6 +146,12 @@ pub sets_within : (env : TermTables) (d : AreDefined env) (sets : List (TermId �
 sets_within env d sets are = All-weaker (IsTermSet env d) (λ (set : TermId × RulesOverSites). set.0.0 < length env.terms)
     (λ set has. subst (λ (n : ℕ). n < length env.terms) has.0.of_term (root_within env d has.0.place has.0.rule has.0.at)) sets are.each
 
--- so are those of rules
+-- trees are built of each of them
+pub sets_checked : (env : TermTables) (d : AreDefined env) (sets : List (TermId × RulesOverSites)) → AreSetsOf env d sets
+    → All (λ (set : TermId × RulesOverSites). IsCheckedSet set.1) sets
+sets_checked env d sets are = All-weaker (IsTermSet env d) (λ (set : TermId × RulesOverSites). IsCheckedSet set.1)
+    (λ set is. record { env = env; defined = d; term = set.0; is = is }) sets are.each
+
+-- the terms of rules are too
 pub rules_within : (env : TermTables) → AreDefined env → All (λ (rule : Rule). rule.root_term.0 < length env.terms) env.rules
 rules_within env d = all_places (λ (rule : Rule). rule.root_term.0 < length env.terms) env.rules (term_within env d)

@@ -1,5 +1,5 @@
 -- What the numbers of a program tell, of which it is known that there is a proof.
-use Rattle.std.proofs.Common.{◌≡◌, ◌↔◌, inl, inr, ℕ, Bool, true, false, List, map, get_or, refl, sym, arith}
+use Rattle.std.proofs.Common.{◌≡◌, ◌↔◌, inl, inr, ℕ, Bool, true, false, List, length, map, get_or, refl, sym, arith}
 use Rattle.std.proofs.Math.Logic.{∥∥₁_elim}
 use Rattle.std.proofs.Math.Bool.{Bool-set}
 use Rattle.std.proofs.Math.Nat.{ℕ_set}
@@ -15,6 +15,7 @@ use Rattle.isle_run.specs.Facts.Asked.{AreNumbersOf, AreRoots, term_number}
 use Rattle.isle_run.specs.Facts.Inhabited.{AreAllInhabited}
 use Rattle.isle_run.specs.Facts.Reach.{is_hindered, is_root, IsBarred, IsRunnable}
 use Rattle.isle_run.specs.Facts.Steps.{steps_in}
+use Rattle.isle_run.specs.Trees.{place_of_set}
 use Rattle.isle_run.proofs.ProgramFacts.InhabitedTypes.{are_decided}
 
 -- a truth value whose opposite is true, and the other way about
@@ -64,6 +65,9 @@ module _ (tyenv : TypeTables) (env : TermTables) (sets : List (TermId × RulesOv
 
   pub steps_told : (n : ℕ) → get_or numbers.steps.items n 0 ≡ steps_in sets n
   steps_told n = ∥∥₁_elim known (ℕ_set _ _) (λ all. all.steps n)
+
+  pub places_told : (n : ℕ) → get_or numbers.places.items n (length sets) ≡ place_of_set sets n
+  places_told n = ∥∥₁_elim known (ℕ_set _ _) (λ all. all.places n)
 
   pub inhabited_told : (numbers.inhabited ≡ true) ↔ AreAllInhabited tyenv.types
   inhabited_told = (

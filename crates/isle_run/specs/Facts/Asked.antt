@@ -10,6 +10,7 @@ use Rattle.isle_run.specs.declared.facts.Numbers.{Numbers}
 use Rattle.isle_run.specs.Facts.Inhabited.{AreAllInhabited}
 use Rattle.isle_run.specs.Facts.Reach.{is_root, IsBarred}
 use Rattle.isle_run.specs.Facts.Steps.{steps_in}
+use Rattle.isle_run.specs.Trees.{place_of_set}
 
 -- the number of a term
 abbrev pub term_number : TermId → ℕ
@@ -25,5 +26,6 @@ pub record AreRoots (env : TermTables) (terms : List TermId) : Type 0 where
 pub record AreNumbersOf (tyenv : TypeTables) (env : TermTables) (sets : List (TermId × RulesOverSites)) (numbers : Numbers) : Type 0 where
   pub with_rules : AreRoots env numbers.with_rules.items
   pub steps : (n : ℕ) → slice_index_or numbers.steps.items n 0 ≡ steps_in sets n
+  pub places : (n : ℕ) → slice_index_or numbers.places.items n (length sets) ≡ place_of_set sets n
   pub inhabited : IsTrue numbers.inhabited ↔ AreAllInhabited tyenv.types
   pub barred : (n : ℕ) → Marked numbers.barred.items n ↔ IsBarred tyenv env n

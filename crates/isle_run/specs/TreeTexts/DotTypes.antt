@@ -1,5 +1,5 @@
 -- The types of sites that tests of variants and structs tell.
-use Rattle.std.specs.Prelude.{ℕ, List, Option, None, Some, length, replicate, slice_set}
+use Rattle.std.specs.Prelude.{List, Option, None, Some, length, replicate, slice_set}
 use Rattle.std.specs.List.{fold}
 use Rattle.std.specs.Option.{option_map_or}
 use Rattle.isle_types.specs.declared.ids.TypeId.{TypeId}

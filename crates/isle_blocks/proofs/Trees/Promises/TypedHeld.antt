@@ -8,7 +8,7 @@ use Rattle.isle_meaning.specs.Values.{Value, bool_value, int_value, constant_val
 use Rattle.isle_meaning.specs.Values.{more_values, count, nth, more, made, built}
 use Rattle.isle_meaning.specs.ValueTypes.{ValueFacts, AreOfTypes}
 use Rattle.isle_meaning.specs.GroundValues.{IsValueOf, AreValuesOf, values_of}
-use Rattle.isle_meaning.specs.Facts.{TermFacts, nth_type}
+use Rattle.isle_meaning.specs.Facts.{TermFacts, variant_shape, struct_shape, nth_type}
 use Rattle.isle_meaning.specs.Answers.{Completion, answered, answer_of}
 use Rattle.isle_meaning.specs.Calls.{HasTypedAnswers}
 use Rattle.isle_meaning.specs.Worlds.{CheckedProgram}
@@ -44,11 +44,12 @@ trees_count facts vs (u ∷ us) no_trees t e = absurd t
 trees_count facts vs [] (more_trees x xs) t e = absurd t
 trees_count facts vs (u ∷ us) (more_trees x xs) t e = ap count (sym e) ∙ ap suc (trees_count facts (values_of facts xs) us xs (t.1) refl)
 
-values_count : (facts : ValueFacts) (vs : Values) (us : List ℕ) → AreValuesOf facts vs us → count vs ≡ length us
+-- Values are as many as their types.
+pub values_count : (facts : ValueFacts) (vs : Values) (us : List ℕ) → AreValuesOf facts vs us → count vs ≡ length us
 values_count facts vs us h = trees_count facts vs us h.trees h.typed h.stand
 
--- one of them is of its type
-nth_typed : (facts : ValueFacts) (vs : Values) (us : List ℕ) (i : ℕ) (v : Value) → AreValuesOf facts vs us → nth vs i ≡ gives v
+-- One of them is of its type.
+pub nth_typed : (facts : ValueFacts) (vs : Values) (us : List ℕ) (i : ℕ) (v : Value) → AreValuesOf facts vs us → nth vs i ≡ gives v
     → IsValueOf facts v (nth_type us i)
 nth_typed facts no_values us i v h e = absurd cc
 nth_typed facts (more_values x xs) [] i v h e = absurd (let n = values_count facts (more_values x xs) [] h in omega arith)
@@ -70,8 +71,8 @@ outputs_typed p us vs h = by_count us vs h (values_count p.values vs us h)
     by_count (t ∷ (u ∷ us)) (more_values x no_values) h e = absurd (omega arith)
     by_count (t ∷ (u ∷ us)) (more_values x (more_values y ys)) h e = (more_values x (more_values y ys), refl, h)
 
--- what is held of a value is a value
-held_gives : (g : Got Value) (h : Held) → held g ≡ gives h → (v : Value) × (g ≡ gives v) × (h ≡ held_value v)
+-- What is held of a value is a value.
+pub held_gives : (g : Got Value) (h : Held) → held g ≡ gives h → (v : Value) × (g ≡ gives v) × (h ≡ held_value v)
 held_gives g h e = let (v, q, r) = ask_gives (λ (x : Value). gives (held_value x)) g h e in (v, q, (let z : held_value v ≡ h = cc in sym z))
 
 -- what is of a plain sort is a value of the type
@@ -79,6 +80,59 @@ pub plain_typed : (p : CheckedProgram) (k : Sort) (u : ℕ) (v : Value) → k �
 plain_typed p k u v e o =
     let (w, q, t) = subst (λ (s : Sort). IsHeldOf p s (held_value v)) e o in
     let same : w ≡ v = cc in subst (λ (z : Value). IsValueOf p.values z u) same t
+
+-- An output is of its type.
+pub output_typed : (p : CheckedProgram) (i : ℕ) (g h : Held) (ts : List ℕ) → IsHeldOf p (tuple_sort ts) g → output_of i g ≡ gives h
+    → IsHeldOf p (plain_sort (nth_type ts i)) h
+output_typed p i g h ts (vs, q, t) e =
+    let r : held (nth vs i) ≡ gives h = subst (λ (x : Held). output_of i x ≡ gives h) q e in
+    let (w, there, is) = held_gives (nth vs i) h r in (w, is, nth_typed p.values vs ts i w t there)
+
+-- A content is of its sort.
+pub content_typed : (p : CheckedProgram) (k : Sort) (h : Held) → IsHeldOf p (option_sort k) (held_some h) → IsHeldOf p k h
+content_typed p k h (inl q) = absurd cc
+content_typed p k h (inr (x, q, t)) = let same : x ≡ h = cc in subst (IsHeldOf p k) same t
+
+module _ (p : CheckedProgram) (sound_data : HasSoundData p) where
+  -- A variant's field is of its type.
+  pub field_typed : (k i : ℕ) (v : Value) (h : Held) (u : ℕ) → IsValueOf p.values v u → variant_field k i v ≡ gives h
+      → IsHeldOf p (plain_sort (nth_type (p.terms.variant_fields u k) i)) h
+  field_typed k i (made_variant ty j vs) h u t e = go (j == k) refl e
+    where
+      go : (b : Bool) → (j == k) ≡ b → field_if b vs i ≡ gives h → IsHeldOf p (plain_sort (nth_type (p.terms.variant_fields u k) i)) h
+      go true s q =
+          let (w, there, is) = held_gives (nth vs i) h q in
+          let fields = subst (λ (n : ℕ). AreValuesOf p.values vs (p.terms.variant_fields u n)) (eqb-true j k s)
+          (variant_opened p sound_data ty j vs u t) in
+          (w, is, nth_typed p.values vs (p.terms.variant_fields u k) i w fields there)
+      go false s q = absurd cc
+  field_typed k i v h u t e = absurd cc
+
+  -- So is a struct's.
+  pub struct_typed : (i : ℕ) (v : Value) (h : Held) (u : ℕ) → IsValueOf p.values v u → struct_field i v ≡ gives h
+      → IsHeldOf p (plain_sort (nth_type (p.terms.struct_fields u) i)) h
+  struct_typed i (made_struct ty vs) h u t e =
+      let (w, there, is) = held_gives (nth vs i) h e in
+      (w, is, nth_typed p.values vs (p.terms.struct_fields u) i w (struct_opened p sound_data ty vs u t) there)
+  struct_typed i v h u t e = absurd cc
+
+  -- A variant of fields of their types is of its type.
+  pub variant_typed : (ty n : ℕ) (vs : Values) → (t : ℕ) × (p.terms.shape t ≡ variant_shape n) × (p.terms.type_of t ≡ ty)
+      → AreValuesOf p.values vs (p.terms.variant_fields ty n) → IsValueOf p.values (made_variant ty n vs) ty
+  variant_typed ty n vs (t, shape, of) fields =
+      let fine : AreValuesOf p.values vs (p.terms.variant_fields (p.terms.type_of t) n)
+      → IsValueOf p.values (made_variant (p.terms.type_of t) n vs) (p.terms.type_of t) =
+      variant_made p sound_data t n vs shape in
+      subst (λ (z : ℕ). AreValuesOf p.values vs (p.terms.variant_fields z n) → IsValueOf p.values (made_variant z n vs) z) of fine fields
+
+  -- So is a struct.
+  pub made_struct_typed : (ty : ℕ) (vs : Values) → (t : ℕ) × (p.terms.shape t ≡ struct_shape) × (p.terms.type_of t ≡ ty)
+      → AreValuesOf p.values vs (p.terms.struct_fields ty) → IsValueOf p.values (made_struct ty vs) ty
+  made_struct_typed ty vs (t, shape, of) fields =
+      let fine : AreValuesOf p.values vs (p.terms.struct_fields (p.terms.type_of t))
+      → IsValueOf p.values (made_struct (p.terms.type_of t) vs) (p.terms.type_of t) =
+      struct_made p sound_data t vs shape in
+      subst (λ (z : ℕ). AreValuesOf p.values vs (p.terms.struct_fields z) → IsValueOf p.values (made_struct z vs) z) of fine fields
 
 module _ (p : CheckedProgram) (sound_data : HasSoundData p) (tys : List ℕ) (c : Completion) (typed : HasTypedAnswers p c) (args : Values)
     (own : AreValuesOf p.values args tys) (done : List (Option Value)) where
@@ -140,40 +194,6 @@ module _ (p : CheckedProgram) (sound_data : HasSoundData p) (tys : List ℕ) (c 
       constructed_typed (facts.partial t) (facts.type_of t) (answer_of c done t i vs) h (λ v q. answer_typed t i ss vs v calls q)
       (subst (λ (b : Bool). (if b then several (c.constructs t vs) else constructed (facts.partial t) (answer_of c done t i vs)) ≡ gives h) m e)
 
-  -- a variant's field is of its type
-  field_typed : (k i : ℕ) (v : Value) (h : Held) (u : ℕ) → IsValueOf p.values v u → variant_field k i v ≡ gives h
-      → IsHeldOf p (plain_sort (nth_type (facts.variant_fields u k) i)) h
-  field_typed k i (made_variant ty j vs) h u t e = go (j == k) refl e
-    where
-      go : (b : Bool) → (j == k) ≡ b → field_if b vs i ≡ gives h → IsHeldOf p (plain_sort (nth_type (facts.variant_fields u k) i)) h
-      go true s q =
-          let (w, there, is) = held_gives (nth vs i) h q in
-          let fields = subst (λ (n : ℕ). AreValuesOf p.values vs (facts.variant_fields u n)) (eqb-true j k s)
-          (variant_opened p sound_data ty j vs u t) in
-          (w, is, nth_typed p.values vs (facts.variant_fields u k) i w fields there)
-      go false s q = absurd cc
-  field_typed k i v h u t e = absurd cc
-
-  -- so is a struct's
-  struct_typed : (i : ℕ) (v : Value) (h : Held) (u : ℕ) → IsValueOf p.values v u → struct_field i v ≡ gives h
-      → IsHeldOf p (plain_sort (nth_type (facts.struct_fields u) i)) h
-  struct_typed i (made_struct ty vs) h u t e =
-      let (w, there, is) = held_gives (nth vs i) h e in
-      (w, is, nth_typed p.values vs (facts.struct_fields u) i w (struct_opened p sound_data ty vs u t) there)
-  struct_typed i v h u t e = absurd cc
-
-  -- and an output
-  output_typed : (i : ℕ) (g h : Held) (ts : List ℕ) → IsHeldOf p (tuple_sort ts) g → output_of i g ≡ gives h
-      → IsHeldOf p (plain_sort (nth_type ts i)) h
-  output_typed i g h ts (vs, q, t) e =
-      let r : held (nth vs i) ≡ gives h = subst (λ (x : Held). output_of i x ≡ gives h) q e in
-      let (w, there, is) = held_gives (nth vs i) h r in (w, is, nth_typed p.values vs ts i w t there)
-
-  -- a content is of its sort
-  content_typed : (k : Sort) (h : Held) → IsHeldOf p (option_sort k) (held_some h) → IsHeldOf p k h
-  content_typed k h (inl q) = absurd cc
-  content_typed k h (inr (x, q, t)) = let same : x ≡ h = cc in subst (IsHeldOf p k) same t
-
   -- the impure calls of some sites were answered of their types
   abbrev pub HaveTypedCalls : Sites → Type 0
   HaveTypedCalls ss = (t n : ℕ) (us : Sites) (v : Value) → IsSubtreeOfOne (constructor_call t us (suc n)) ss → slice_get done n ≡ Some (Some v)
@@ -197,33 +217,24 @@ module _ (p : CheckedProgram) (sound_data : HasSoundData p) (tys : List ℕ) (c 
         let (v, q, is) = held_gives (made ty n (values facts c args done ss)) h e in
         let (vs, there, same) = ask_gives (λ (xs : Values). gives (made_variant ty n xs)) (values facts c args done ss) v q in
         let fields = sites_typed ss (facts.variant_fields ty n) vs (k.1) (λ t m us w i. calls t m us w (inr i)) there in
-        let (t, shape, of) = k.0 in
-        let fine : AreValuesOf p.values vs (facts.variant_fields (facts.type_of t) n)
-        → IsValueOf p.values (made_variant (facts.type_of t) n vs) (facts.type_of t) =
-        variant_made p sound_data t n vs shape in
-        let good = subst (λ (z : ℕ). AreValuesOf p.values vs (facts.variant_fields z n) → IsValueOf p.values (made_variant z n vs) z)
-        of fine fields in
-        let one : made_variant ty n vs ≡ v = cc in (v, is, subst (λ (z : Value). IsValueOf p.values z ty) one good)
+        let one : made_variant ty n vs ≡ v = cc in
+        (v, is, subst (λ (z : Value). IsValueOf p.values z ty) one (variant_typed p sound_data ty n vs (k.0) fields))
     site_typed (match_variant s n i) h (k, (u, plain_is)) calls e =
         let (v, q, r) = ask_gives (variant_field n i) (plain (val s)) h e in
         let here = site_typed s (held_value v) k (λ t m us w x. calls t m us w (inr x)) (plain_gives (val s) v q) in
         subst (λ (z : Sort). IsHeldOf p (field_sort (λ (t : ℕ). facts.variant_fields t n) z i) h) (sym plain_is)
-        (field_typed n i v h u (plain_typed p (sort facts tys s) u v plain_is here) r)
+        (field_typed p sound_data n i v h u (plain_typed p (sort facts tys s) u v plain_is here) r)
     site_typed (make_struct ty ss) h k calls e =
         let (v, q, is) = held_gives (built ty (values facts c args done ss)) h e in
         let (vs, there, same) = ask_gives (λ (xs : Values). gives (made_struct ty xs)) (values facts c args done ss) v q in
         let fields = sites_typed ss (facts.struct_fields ty) vs (k.1) (λ t m us w i. calls t m us w (inr i)) there in
-        let (t, shape, of) = k.0 in
-        let fine : AreValuesOf p.values vs (facts.struct_fields (facts.type_of t))
-        → IsValueOf p.values (made_struct (facts.type_of t) vs) (facts.type_of t) =
-        struct_made p sound_data t vs shape in
-        let good = subst (λ (z : ℕ). AreValuesOf p.values vs (facts.struct_fields z) → IsValueOf p.values (made_struct z vs) z) of fine fields in
-        let one : made_struct ty vs ≡ v = cc in (v, is, subst (λ (z : Value). IsValueOf p.values z ty) one good)
+        let one : made_struct ty vs ≡ v = cc in
+        (v, is, subst (λ (z : Value). IsValueOf p.values z ty) one (made_struct_typed p sound_data ty vs (k.0) fields))
     site_typed (extract_struct s i) h (k, (u, plain_is)) calls e =
         let (v, q, r) = ask_gives (struct_field i) (plain (val s)) h e in
         let here = site_typed s (held_value v) k (λ t m us w x. calls t m us w (inr x)) (plain_gives (val s) v q) in
         subst (λ (z : Sort). IsHeldOf p (field_sort facts.struct_fields z i) h) (sym plain_is)
-        (struct_typed i v h u (plain_typed p (sort facts tys s) u v plain_is here) r)
+        (struct_typed p sound_data i v h u (plain_typed p (sort facts tys s) u v plain_is here) r)
     site_typed (make_some s) h k calls e =
         let (g, q, r) = ask_gives (λ (x : Held). gives (held_some x)) (val s) h e in
         inr (g, (let z : held_some g ≡ h = cc in sym z), site_typed s g (k.0) (λ t m us w x. calls t m us w (inr x)) q)
@@ -231,12 +242,12 @@ module _ (p : CheckedProgram) (sound_data : HasSoundData p) (tys : List ℕ) (c 
         let q = content_gives (val s) h e in
         let here = site_typed s (held_some h) k (λ t m us w x. calls t m us w (inr x)) q in
         subst (λ (z : Sort). IsHeldOf p (inner_sort z) h) (sym option_is)
-        (content_typed j h (subst (λ (z : Sort). IsHeldOf p z (held_some h)) option_is here))
+        (content_typed p j h (subst (λ (z : Sort). IsHeldOf p z (held_some h)) option_is here))
     site_typed (match_tuple s i) h (k, (ts, tuple_is, l)) calls e =
         let (g, q, r) = ask_gives (output_of i) (val s) h e in
         let here = site_typed s g k (λ t m us w x. calls t m us w (inr x)) q in
         subst (λ (z : Sort). IsHeldOf p (output_sort z i) h) (sym tuple_is)
-        (output_typed i g h ts (subst (λ (z : Sort). IsHeldOf p z g) tuple_is here) r)
+        (output_typed p i g h ts (subst (λ (z : Sort). IsHeldOf p z g) tuple_is here) r)
 
     -- Typed sites hold values of their types.
     pub sites_typed : (ss : Sites) (us : List ℕ) (vs : Values) → AreTypedSites p tys ss us → HaveTypedCalls ss

@@ -30,6 +30,7 @@ use Rattle.isle_meaning.specs.Scopes.{ReadsExpr}
 use Rattle.isle_meaning.specs.Scopes.{ReadExprs, ReadsLets, IfLetsAreWellScoped, none, scope_of}
 use Rattle.isle_meaning.specs.Typing.{part_types, IsTyped, AllTyped, EachTyped, ExprTyped, ExprsTyped, BindingsTyped, IfLetsTyped}
 use Rattle.isle_meaning.specs.Laws.Matching.{DemandOf}
+use Rattle.isle_meaning.specs.Machine.Trees.{option_sort_if}
 use Rattle.isle_meaning.proofs.Matching.Basics.{each_append}
 use Rattle.isle_meaning.proofs.Matching.Sorting.{among}
 use Rattle.isle_meaning.proofs.Matching.Visited.{visit_is_written}
@@ -388,6 +389,34 @@ module _ (p : CheckedProgram) (tys : List ℕ) where
   some_typed true s u h = (h.1, (u, h.0))
   some_typed false s u h = h.1
 
+-- the sites of a sound rule: of its patterns, of its if-lets, and what its right side's visit gives
+rule_seen : (p : CheckedProgram) (R : ℕ → Type 0) (rule : TypedRule) → IsSoundRule p R rule
+    → EachSite (IsTypedSite p (p.terms.inputs rule.root)) (args_needs p.terms rule.args 0)
+    × EachSite (IsTypedSite p (p.terms.inputs rule.root)) (iflets_needs p.terms rule.iflets (args_bound p.terms rule))
+    × Each (SpeaksOf (IsTypedSite p (p.terms.inputs rule.root))) (demands_of p.terms rule)
+    × (IsGood p (p.terms.inputs rule.root) ((visit p.terms (vars_of p.terms rule) no_log rule.right).0) (p.terms.type_of rule.root)
+    × EachSite (IsTypedSite p (p.terms.inputs rule.root)) ((visit p.terms (vars_of p.terms rule) no_log rule.right).1.needed))
+rule_seen p R rule sound =
+    let facts = p.terms in
+    let tys = p.terms.inputs rule.root in
+    let F : Demand → Type 0 = SpeaksOf (IsTypedSite p tys) in
+    let G = sound.var_types in
+    let well = sound.well in
+    let typed = sound.typed in
+    let begins : AreGood p tys G none nothing = λ k n. absurd n in
+    let (a, b, c) = seen_all p tys G rule.args tys none nothing argument well.args typed.args begins
+    (λ i l. let m = typed_count facts tys G rule.args tys typed.args in (refl, omega arith)) in
+    let args = args_seen p tys G rule.args tys 0 none nothing well.args typed.args begins
+    (λ j l. let e : 0 + j ≡ j = omega arith in subst (λ (k : ℕ). IsGood p tys (argument k) (nth_type tys j)) (sym e) (refl, l)) in
+    let (d, e, f) = iflets_seen p tys G R rule rule.iflets [] (λ k. scope_all rule.args none k) sound.iflets well.iflets typed.iflets c in
+    let v = visit_seen p tys G R rule.right (p.terms.type_of rule.root) (scope_of rule) (vars_of facts rule) no_log sound.right well.right typed.right
+    f tt in (
+      args,
+      d,
+      each_append F (demands_all facts rule.args argument nothing) _ b e,
+      v,
+    )
+
 -- What a sound rule needs, its result, and what it demands.
 pub rule_typed : (p : CheckedProgram) (R : ℕ → Type 0) (rule : TypedRule) → IsSoundRule p R rule
     → ((s : Site) → IsNeeded (needs_of p.terms rule) s → IsTypedSite p (p.terms.inputs rule.root) s)
@@ -397,21 +426,26 @@ rule_typed p R rule sound =
     let facts = p.terms in
     let tys = p.terms.inputs rule.root in
     let W : Site → Type 0 = IsTypedSite p tys in
-    let F : Demand → Type 0 = SpeaksOf W in
-    let G = sound.var_types in
     let u = p.terms.type_of rule.root in
-    let well = sound.well in
-    let typed = sound.typed in
-    let begins : AreGood p tys G none nothing = λ k n. absurd n in
-    let (a, b, c) = seen_all p tys G rule.args tys none nothing argument well.args typed.args begins
-    (λ i l. let m = typed_count facts tys G rule.args tys typed.args in (refl, omega arith)) in
-    let args = args_seen p tys G rule.args tys 0 none nothing well.args typed.args begins
-    (λ j l. let e : 0 + j ≡ j = omega arith in subst (λ (k : ℕ). IsGood p tys (argument k) (nth_type tys j)) (sym e) (refl, l)) in
-    let (d, e, f) = iflets_seen p tys G R rule rule.iflets [] (λ k. scope_all rule.args none k) sound.iflets well.iflets typed.iflets c in
-    let v = visit_seen p tys G R rule.right u (scope_of rule) (vars_of facts rule) no_log sound.right well.right typed.right f tt in (
+    let (args, d, fits, v) = rule_seen p R rule sound in (
       λ s n. each_needed W (needs_of facts rule) s
           (sites_append W (args_needs facts rule.args 0) _ args
           (sites_append W (iflets_needs facts rule.iflets (args_bound facts rule)) _ d (v.1))) n,
       λ k. some_typed p tys k _ u (subst (λ (z : Site). IsGood p tys z u) ((visit_is_written facts rule).0) (v.0)),
-      among F (demands_of facts rule) (each_append F (demands_all facts rule.args argument nothing) _ b e),
+      among (SpeaksOf W) (demands_of facts rule) fits,
     )
+
+-- Its result is of the term's type, or an option of one where the term may fail.
+pub result_sort : (p : CheckedProgram) (R : ℕ → Type 0) (rule : TypedRule) → IsSoundRule p R rule → (b : Bool)
+    → sort p.terms (p.terms.inputs rule.root) (result_of p.terms b rule) ≡ option_sort_if b (plain_sort (p.terms.type_of rule.root))
+result_sort p R rule sound b =
+    let (args, d, fits, v) = rule_seen p R rule sound in
+    let u = p.terms.type_of rule.root in
+    let tys = p.terms.inputs rule.root in
+    of_option b (site_of p.terms (vars_of p.terms rule) (word_of p.terms rule.right))
+    ((subst (λ (z : Site). IsGood p tys z u) ((visit_is_written p.terms rule).0) (v.0)).0)
+  where
+    of_option : (b : Bool) (s : Site) → sort p.terms (p.terms.inputs rule.root) s ≡ plain_sort (p.terms.type_of rule.root)
+        → sort p.terms (p.terms.inputs rule.root) (some_of b s) ≡ option_sort_if b (plain_sort (p.terms.type_of rule.root))
+    of_option true s e = ap option_sort e
+    of_option false s e = e

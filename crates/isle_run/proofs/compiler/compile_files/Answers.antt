@@ -1,9 +1,14 @@
+use Rattle.std.proofs.Common.{List, subst, sym}
 use Rattle.std.specs.List.{All}
 use Rattle.std.proofs.lemmas.Result.{err_from_is_err_and}
 use Rattle.isle_syntax.specs.Positions.Printable.{IsPrintablePos}
+use Rattle.isle_types.specs.declared.ids.TermId.{TermId}
 use Rattle.isle_terms.specs.TypedTrees.{TypedRuleAt}
 use Rattle.isle_terms.proofs.PlainTemplates.{plain_templates}
-use Rattle.isle_run.proofs.Compiling.Layers.{text_faults, type_faults, term_faults, rule_faults, rule_faults_at, ShowFiles, defined_files, accepts, program_of, sets_within, rules_within}
+use Rattle.isle_blocks.specs.RuleSets.{RulesOverSites}
+use Rattle.isle_blocks.specs.Trees.Promises.{IsCheckedSet}
+use Rattle.isle_run.specs.Trees.{AreSetTrees}
+use Rattle.isle_run.proofs.Compiling.Layers.{text_faults, type_faults, term_faults, rule_faults, rule_faults_at, ShowFiles, defined_files, accepts, program_of, sets_checked, sets_within, rules_within}
 use Rattle.isle_run.proofs.SoundPrograms.Whole.{tables_are_sound}
 use Rattle.isle_run.proofs.compiler.compile_files.Goals as goal
 
@@ -54,6 +59,24 @@ check-requires c =
     } in
     record { defined = defined_files c.args.files.now c.from_ast-2.new.tyenv c.in_ok-termenv.termenv shown }
 
+pub trees_of_sets-requires : goal.trees_of_sets-requires
+trees_of_sets-requires c =
+    let made = c.in_ok-tyenv.ensures.made in
+    let shown : ShowFiles c.args.files.now c.from_ast-2.new.tyenv c.in_ok-termenv.termenv = record {
+      defs = c.as_slice-defs.result.now;
+      types = made.environment;
+      spelt = rw c.as_slice-defs.ensures.value c.in_ok-parsed.ensures.spelt;
+      made = made.makes;
+      within = c.in_ok-tyenv.ensures.within;
+      once = c.syms-names.ensures.once;
+      terms = c.in_ok-termenv.ensures.made made.environment made.shows;
+      expands = c.in_ok-termenv.ensures.expands;
+    } in
+    let env = c.in_ok-termenv.termenv in
+    let d = defined_files c.args.files.now c.from_ast-2.new.tyenv env shown in
+    subst (λ (sets : List (TermId × RulesOverSites)). All (λ (set : TermId × RulesOverSites). IsCheckedSet set.1) sets) (sym c.as_slice.ensures.value)
+    (sets_checked env d c.in_ok-rule_sets.rule_sets.items (c.in_ok-rule_sets.ensures.sets d))
+
 pub new-requires : goal.new-requires
 new-requires c =
     let made = c.in_ok-tyenv.ensures.made in
@@ -103,8 +126,10 @@ returns-clause-compiled c =
       terms = c.in_ok-termenv.ensures.made made.environment made.shows;
       expands = c.in_ok-termenv.ensures.expands;
     } in
-    program_of c.args.files.now c.in_ok-new.field-0 c.from_ast-2.new.tyenv c.in_ok-termenv.termenv c.in_ok-rule_sets.rule_sets.items shown
-    c.in_ok-new.ensures.types c.in_ok-new.ensures.terms c.in_ok-new.ensures.sets c.in_ok-rule_sets.ensures.faultless c.in_ok-rule_sets.ensures.sets
+    program_of c.args.files.now c.in_ok-new.field-0 c.from_ast-2.new.tyenv c.in_ok-termenv.termenv c.in_ok-rule_sets.rule_sets.items
+    c.in_ok-trees.trees.items shown c.in_ok-new.ensures.types c.in_ok-new.ensures.terms c.in_ok-new.ensures.sets c.in_ok-new.ensures.trees
+    c.in_ok-rule_sets.ensures.faultless c.in_ok-rule_sets.ensures.sets
+    (subst (λ (sets : List (TermId × RulesOverSites)). AreSetTrees sets c.in_ok-trees.trees.items) c.as_slice.ensures.value c.in_ok-trees.ensures)
 
 pub returns-in_err-rule_sets-clause-faults : goal.returns-in_err-rule_sets-clause-faults
 returns-in_err-rule_sets-clause-faults c =

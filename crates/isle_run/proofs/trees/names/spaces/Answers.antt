@@ -1,4 +1,4 @@
-use Rattle.std.proofs.Common.{◌≡◌, ◌+◌, ◌++◌, ◌∙◌, ℕ, suc, ap, arith, codes}
+use Rattle.std.proofs.Common.{◌≡◌, ◌+◌, ◌++◌, ◌∙◌, suc, ap, arith, codes}
 use Rattle.isle_run.specs.TreeTexts.Names.{indent}
 use Rattle.isle_run.proofs.TreeTexts.Joined.{indent_more}
 use Rattle.isle_run.proofs.trees.names.spaces.Goals as goal

@@ -1,4 +1,4 @@
-use Rattle.std.proofs.Common.{◌<◌, ◌≡◌, ◌∙◌, List, Option, Bor, ap, arith, fold, length, sym, take}
+use Rattle.std.proofs.Common.{◌<◌, ◌∙◌, List, Option, Bor, ap, arith, fold, length, sym, take}
 use Rattle.std.proofs.lemmas.List.Sums.{fold_more}
 use Rattle.isle_types.specs.declared.ids.TypeId.{TypeId}
 use Rattle.isle_blocks.specs.declared.ids.BindingId.{BindingId}

@@ -1,0 +1,5 @@
+use Rattle.isle_meaning.proofs.Machine.One as its
+use Rattle.isle_meaning.proofs.laws.machine.machine_runs_are_one.Goals as goal
+
+pub returns : goal.returns
+returns g c = its.machine_runs_are_one
