@@ -31,6 +31,8 @@ commands:
 	python3 tools/replay.py $(PROGRAM) run $(VECTORS)
 	python3 tools/replay.py $(PROGRAM) world $(VECTORS)
 	python3 tools/replay.py $(PROGRAM) blocks tests/vectors/trees.json
+	python3 tools/replay.py $(PROGRAM) steps tests/vectors/trees.json
+	python3 tools/replay.py $(PROGRAM) plain-steps tests/vectors/trees.json
 
 # The wrong bodies of tests/edits, of which the prover must refuse each: those of CRATES, or of all crates that have changed since
 # theirs were tried. With ALL=--all also those of the others.

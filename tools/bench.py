@@ -218,9 +218,10 @@ def instructions(number):
 
 
 def measure_calls(title, program, world, queries, check):
-    """Prints the best of three runs on queries whose calls may be 100,000 deep."""
-    seconds, memory = best_run(title, program, world, queries, check, ["--plain", "--depth", "100000"])
-    print(f"{title}: {seconds:.3f} s, {memory:.0f} MB of memory")
+    """Prints the best of three runs on queries whose calls may be 100,000 deep, by trees and by rules."""
+    for road, options in (("by trees", []), ("by rules", ["--plain"])):
+        seconds, memory = best_run(title, program, world, queries, check, [*options, "--depth", "100000"])
+        print(f"{title} {road}: {seconds:.3f} s, {memory:.0f} MB of memory")
 
 
 def measure_trees(title, bench, text, sets):

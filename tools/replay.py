@@ -1,7 +1,8 @@
 #!/usr/bin/env python3
-"""Runs `islec check`, `run`, `run --plain` or `blocks` on programs with known answers; `world` runs them without queries.
+"""Runs `islec check`, `run`, `run --plain` or `blocks` on programs with known answers; `world` runs them without queries, and `steps` and
+`plain-steps` run them with the steps of each call.
 
-    replay.py PROGRAM check|run|plain|world|blocks FILE.json ..
+    replay.py PROGRAM check|run|plain|steps|plain-steps|world|blocks FILE.json ..
 
 Each FILE is a list of cases, as tests/vectors/README.md describes them. Prints the name of each
 case that fails with what differs, and last `N passed, M failed`. Exits with 1 where one failed.
@@ -17,6 +18,8 @@ import sys
 import tempfile
 
 SECONDS = 60
+COMMANDS = ("check", "run", "plain", "steps", "plain-steps", "world", "blocks")
+UNANSWERED = ("stuck", "spent", "ill-typed")
 SHOWN_LINES = 12
 
 FAULT = re.compile(r"^(?P<place>.+:\d+:\d+): (?P<kind>parse error|type error|unreachable rule"
@@ -43,9 +46,18 @@ def kind_alone(text):
     return "type error\n" if fault and fault["kind"] == "type error" else text
 
 
+def answered_steps(text):
+    """The lines of a run, without the steps of calls that aren't answered, of which nothing is fixed."""
+    kept = []
+    for line in text.split("\n"):
+        if not (line.startswith("# steps ") and kept and kept[-1].startswith(UNANSWERED)):
+            kept.append(line)
+    return "\n".join(kept)
+
+
 def comparable(output, status):
     """What two outputs of one status have in common where both are right."""
-    text = output.decode("utf-8", "backslashreplace")
+    text = answered_steps(output.decode("utf-8", "backslashreplace"))
     return kind_alone(without_messages(text)) if status == 1 else text
 
 
@@ -54,8 +66,10 @@ def words_of(command, case):
     if command in ("check", "blocks"):
         return [command]
     words = ["run", "--depth", str(case["depth"])]
-    if command == "plain":
+    if command.startswith("plain"):
         words.append("--plain")
+    if command.endswith("steps"):
+        words.append("--steps")
     return words if case["world"] is None else [*words, "--world", "world"]
 
 
@@ -90,6 +104,9 @@ def wanted_of(command, case):
         return case["blocks"], 0
     if command == "check":
         return case["check"], case["check_status"]
+    if command.endswith("steps"):
+        text = case["run_steps" if command == "plain-steps" else "blocks_run_steps"]
+        return text, 3 if any(line.startswith(("refused", *UNANSWERED)) for line in text.split("\n")) else 0
     return case["run" if command == "plain" else "blocks_run"], case["run_status"]
 
 
@@ -112,7 +129,7 @@ def differences(program, command, case):
 
 
 def main():
-    if len(sys.argv) < 4 or sys.argv[2] not in ("check", "run", "plain", "world", "blocks"):
+    if len(sys.argv) < 4 or sys.argv[2] not in COMMANDS:
         sys.exit(__doc__)
     program = os.path.abspath(sys.argv[1])
     command = sys.argv[2]

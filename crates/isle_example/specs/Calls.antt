@@ -11,7 +11,7 @@ use Rattle.isle_run.specs.declared.program.Program.{Program}
 use Rattle.isle_run.specs.declared.query.QueryFault.{QueryFault}
 use Rattle.isle_run.specs.Calls.Answers.{answers_in, name_of_term, LeadsThrough}
 use Rattle.isle_run.specs.Meanings.{checked}
-use Rattle.isle_run.specs.PlainCalls.{TellsPlainly}
+use Rattle.isle_run.specs.TreeCalls.{TellsByTree}
 use Rattle.isle_run.specs.Queries.{IsCallIn, IsOfText, RefusesText}
 use Rattle.isle_run.specs.Values.Text.{value_text}
 
@@ -49,7 +49,7 @@ pub record IsValueOf {W : Type 0} (program : Program) (host : Hosted W) (term : 
   pub leads : LeadsThrough host.step (name_of_term program) host.before made host.after
   pub answer : Answer
   pub steps : ℕ
-  pub told : TellsPlainly program (answers_in program host.constructs host.extracts) 100 term.0 (values_of (checked program).values args)
+  pub told : TellsByTree program (answers_in program host.constructs host.extracts) 100 term.0 (values_of (checked program).values args)
       (record { answer = answer; steps = steps }) made
   pub is : found ≡ value_in answer
 

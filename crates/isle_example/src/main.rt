@@ -3,6 +3,7 @@
 #![tactic(auto)]
 
 ghost use Rattle.std.specs.Prelude.{IfOk, string_bytes};
+ghost use Rattle.isle_run.specs.TreeCalls.{IsCompiled};
 ghost use Rattle.isle_example.specs.Calls.{TellsValue};
 
 mod host;
@@ -19,7 +20,9 @@ use std::rc::Rc;
 use value::value_of;
 
 /// The program of one text, or why it has none.
-fn program_of(alloc: Global, text: String) -> Result<Result<Program, Refused>, AllocError> {
+fn program_of(alloc: Global, text: String) -> Result<Result<Program, Refused>, AllocError>
+    ensures { IfOk result (λ compiled. IfOk compiled IsCompiled) }
+{
     let name = String::from_str(alloc, "rules.isle")?;
     let files = Files::from_names_and_contents(alloc, vec![in alloc; (name, text)]?)?;
     Ok(compile(alloc, Rc::new(alloc, files)?))
@@ -27,6 +30,7 @@ fn program_of(alloc: Global, text: String) -> Result<Result<Program, Refused>, A
 
 /// The value of a query's call, printed, or `none`.
 fn line_of(alloc: Global, program: &Program, query: &str) -> Result<String, AllocError>
+    requires { IsCompiled program.now }
     ensures { IfOk result (λ line. TellsValue program.now query.now (string_bytes line)) }
 {
     match value_of(alloc, program, &mut Silent, query)? {
@@ -46,7 +50,9 @@ fn run<R: Input + Print + Env + AllocGlobal>(rt: &R) -> io::Result<ExitCode> {
 fn answer<R: Print + Env + AllocGlobal>(
     rt: &R,
     compiled: &Result<Program, Refused>,
-) -> io::Result<ExitCode> {
+) -> io::Result<ExitCode>
+    requires { IfOk compiled.now IsCompiled }
+{
     let mut output = io::writer(rt);
     match compiled {
         Ok(program) => answer_each(rt, program, &mut output),
@@ -62,7 +68,9 @@ fn answer_each<R: Env + AllocGlobal, W: Write>(
     rt: &R,
     program: &Program,
     output: &mut W,
-) -> io::Result<ExitCode> {
+) -> io::Result<ExitCode>
+    requires { IsCompiled program.now }
+{
     for query in env::args(rt)?.skip(1) {
         let line = line_of(rt.alloc(), program, query.as_str())?;
         writeln!(output, "{line}")?;

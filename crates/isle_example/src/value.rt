@@ -4,6 +4,7 @@ ghost use Rattle.isle_meaning.specs.ValueTypes.{AreOfTypes};
 ghost use Rattle.isle_terms.specs.Values.{value_list};
 ghost use Rattle.isle_run.specs.Facts.Reach.{IsRunnable};
 ghost use Rattle.isle_run.specs.Programs.{types_of, terms_of, types_taken, value_facts};
+ghost use Rattle.isle_run.specs.TreeCalls.{IsCompiled};
 ghost use Rattle.isle_example.specs.Calls.{Hosted, IsAnswered, IsValueOf};
 
 use isle_run::{Answer, Program, QueryFault, TermId, Value, World};
@@ -12,13 +13,15 @@ use std::alloc::{AllocError, Global};
 // How many calls of terms with rules may be open at once.
 const DEPTH: u32 = 100;
 
-/// The value of the call that a query spells; none where it spells no call, or the call is answered no value.
+/// The value of the call that a query spells, in a compiled program (its condition); none where it spells no call, or the call is answered no
+/// value.
 pub fn value_of<W: World>(
     alloc: Global,
     program: &Program,
     world: &mut W,
     query: &str,
 ) -> Result<Option<Value>, AllocError>
+    requires { IsCompiled program.now }
     ensures answered { IfOk result (IsAnswered program.now (record {
       constructs = W.constructs world.old;
       extracts = W.extracts world.old;
@@ -42,6 +45,7 @@ fn value_of_call<W: World>(
     term: TermId,
     args: Vec<Value>,
 ) -> Result<Option<Value>, AllocError>
+    requires compiled { IsCompiled program.now }
     requires callable { IsRunnable (types_of program.now) (terms_of program.now) term.0 }
     requires typed { AreOfTypes (value_facts program.now) (value_list args.items) (types_taken program.now term) }
     ensures value { IfOk result (IsValueOf program.now (record {
@@ -53,7 +57,7 @@ fn value_of_call<W: World>(
     }) term (value_list args.items)) }
 {
     let mut effects = Vec::new(alloc);
-    let called = program.call_plain(alloc, term, args, DEPTH, world, &mut effects)?;
+    let called = program.call(alloc, term, args, DEPTH, world, &mut effects)?;
     match called.answer {
         Answer::Value(value) => Ok(Some(value)),
         Answer::None => Ok(None),

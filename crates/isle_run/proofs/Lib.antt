@@ -22,3 +22,5 @@ pub mod Chains
 pub mod OpenCalls
 -- The plain road.
 pub mod Plain
+-- The road over trees.
+pub mod Blocks

@@ -6,3 +6,5 @@ pub mod Made
 pub mod Stacked
 -- A call that runs.
 pub mod Running
+-- A call of which no rule is left.
+pub mod Unmatched

@@ -5,8 +5,8 @@ pub mod Joined
 pub mod Entries
 -- What is printed of what is left of a tree.
 pub mod Left
--- The rule sets of a program of files are ones that the builder of trees takes.
-pub mod CheckedSets
+-- The rule sets of a program of files beside the trees that it has of them.
+pub mod KeptTrees
 -- What is drawn of what is left of a tree.
 pub mod DotLeft
 -- What trees are drawn from, part by part.

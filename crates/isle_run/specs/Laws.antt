@@ -12,3 +12,5 @@ pub mod Spelling
 pub mod Formatting
 -- What a text is as a query.
 pub mod Queries
+-- Calls of compiled programs by their trees.
+pub mod TreeCalls

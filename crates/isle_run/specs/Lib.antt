@@ -28,6 +28,10 @@ pub mod Sound
 pub mod Stores
 -- Calls of terms, whichever road answers them.
 pub mod Calls
+-- The road over trees: a call walks the tree of its term.
+pub mod Blocks
+-- What a call tells that walks the tree of its term.
+pub mod TreeCalls
 -- The plain road: rules tried one by one.
 pub mod Plain
 -- What a call on the plain road tells.

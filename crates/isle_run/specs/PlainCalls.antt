@@ -1,24 +1,14 @@
--- What a call tells, on either road and on the plain one.
+-- What a call tells that goes by the plain road.
 use Rattle.std.specs.Prelude.{◌≡◌, ℕ, true, List, []}
 use Rattle.isle_meaning.specs.Outcomes.{Outcome, IsMeant, IsAskedAtEnd}
 use Rattle.isle_meaning.specs.PlainRuns.{PlainRun}
 use Rattle.isle_meaning.specs.PlainBeginnings.{PlainBegins}
 use Rattle.isle_meaning.specs.Values.{Value, Values}
 use Rattle.isle_meaning.specs.Worlds.{Answers, Event}
-use Rattle.isle_run.specs.declared.calls.answer.Answer.{Answer}
 use Rattle.isle_run.specs.declared.calls.answer.Called.{Called}
 use Rattle.isle_run.specs.declared.program.Program.{Program}
 use Rattle.isle_run.specs.Calls.Answers.{TellsOutcome}
 use Rattle.isle_run.specs.Meanings.{checked}
-
--- What a call tells on either road: its answer tells an outcome; an answered call means this, and one that ends unanswered asks for what
--- it ends at. A pure term makes no effects.
-pub record TellsCall (program : Program) (w : Answers) (depth term : ℕ) (args : Values) (answer : Answer) (made : List Event) : Type 0 where
-  pub outcome : Outcome Value
-  pub told : TellsOutcome program term answer outcome
-  pub meant : IsMeant (checked program) w depth term args made outcome
-  pub asked : IsAskedAtEnd (checked program) w depth term args made outcome
-  pub pure : (checked program).terms.pure term ≡ true → made ≡ []
 
 -- What a call on the plain road tells: its answer is that of its plain run, with these effects and after so many rules; an answered call
 -- means this, and one that ends unanswered asks for what it ends at. A pure term makes no effects.

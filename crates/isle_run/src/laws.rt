@@ -6,6 +6,7 @@ ghost use Rattle.isle_meaning.specs.Laws.Order.{OrderMeansNothing};
 ghost use Rattle.isle_run.specs.Laws.Order.{OrderOfTextsMeansNothing};
 ghost use Rattle.isle_run.specs.Laws.Queries.{RefusedTextsAreNoCalls, TextsAreOneCall, TextsHaveOneFault};
 ghost use Rattle.isle_run.specs.Laws.Sound.{CompiledProgramsAreSound};
+ghost use Rattle.isle_run.specs.Laws.TreeCalls.{AcyclicCallsAreNotSpent, CallsAgree};
 ghost use Rattle.isle_meaning.specs.Laws.Spelling.{AlikeProgramsMeanTheSame};
 ghost use Rattle.isle_run.specs.Laws.Spelling.{AlikeTextsAreAcceptedAlike, AlikeTextsMakeAlikePrograms};
 ghost use Rattle.std.specs.Prelude.{◌≡◌, ℕ, List};
@@ -86,4 +87,15 @@ pub fn premises_can_be_met()
 /// No plain run of a program is spent where no term reaches itself and the depth is at least the number of terms with rules.
 pub fn acyclic_programs_are_not_spent()
     ensures { AcyclicProgramsAreNotSpent }
+{}
+
+/// No call of a compiled program by its trees is spent where no term reaches itself and the depth is at least the number of terms with rules.
+pub fn acyclic_calls_are_not_spent()
+    ensures { AcyclicCallsAreNotSpent }
+{}
+
+/// Where a call of a compiled program is answered by its trees and by its rules, at whatever depths, both answers and effects are one. Each type
+/// is inhabited.
+pub fn roads_agree()
+    ensures { CallsAgree }
 {}

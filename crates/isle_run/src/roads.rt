@@ -10,6 +10,7 @@ ghost use Rattle.isle_run.specs.Calls.States.{host, state, Makes, IsOpenIn, HasG
 ghost use Rattle.isle_run.specs.Calls.Ways.{Way, Below, HasBegun, IsReady, IsWay, TurnsTo};
 ghost use Rattle.isle_run.specs.Stores.Values.{Stands, StandEach};
 
+pub mod blocks;
 pub mod plain;
 
 use crate::calls::answer::Effect;
@@ -42,7 +43,7 @@ pub trait Road {
     /// Begins a call: of a term on the values of numbers, where so many may be open below.
     fn begin(&self, term: TermId, args: Vec<usize>, depth: u32) -> Self::Frame
         ensures { (k : CallOf) (stored : List Stored) → k.program ≡ compiled self.now → k.depth ≡ depth → k.term ≡ term.0
-            → StandEach stored k.args args.items → IsReady k.program k.term k.args → way.is_frame k stored result [] };
+            → StandEach stored k.args args.items → IsReady way.holds k.program k.term k.args → way.is_frame k stored result [] };
 
     /// Goes on with a frame.
     fn go<W: World>(

@@ -1,7 +1,7 @@
 //! The trees of a program's rules, in words.
 ghost use Rattle.std.specs.Prelude.{◌≡◌, IfOk, string_bytes};
-ghost use Rattle.isle_blocks.specs.Trees.Promises.{IsCheckedSet};
 ghost use Rattle.isle_run.specs.Compiled.{IsProgramOf};
+ghost use Rattle.isle_run.specs.Trees.{IsSetTree};
 ghost use Rattle.isle_run.specs.TreeTexts.Sets.{IsEntryText, IsSetText, TellsTrees, is_asked};
 
 mod fields;
@@ -16,7 +16,7 @@ mod steps;
 mod tested;
 
 use crate::program::Program;
-use isle_blocks::{RuleSet, serialize};
+use isle_blocks::{Block, RuleSet};
 use isle_syntax::files::Files;
 use isle_types::TermId;
 use rules::rules_text;
@@ -38,11 +38,11 @@ fn set_text(
     files: &Files,
     term: TermId,
     set: &RuleSet,
+    tree: &Block,
 ) -> Result<String, AllocError>
-    requires { IsCheckedSet set.now }
-    ensures { IfOk result (λ text. IsSetText program.now files.now term set.now (string_bytes text)) }
+    requires { IsSetTree set.now tree.now }
+    ensures { IfOk result (λ text. IsSetText program.now files.now term set.now tree.now (string_bytes text)) }
 {
-    let tree = serialize(alloc, set)?;
     let number = term.index();
     let name = program.name(term);
     let sites = sites_text(alloc, program, set.bindings())?;
@@ -58,20 +58,21 @@ fn entry_text(
     files: &Files,
     asked: &[TermId],
     set: &(TermId, RuleSet),
+    tree: &Block,
 ) -> Result<String, AllocError>
-    requires { IsCheckedSet set.now.1 }
-    ensures { IfOk result (λ text. IsEntryText program.now files.now asked.now set.now (string_bytes text)) }
+    requires { IsSetTree set.now.1 tree.now }
+    ensures { IfOk result (λ text. IsEntryText program.now files.now asked.now (set.now, tree.now) (string_bytes text)) }
 {
     if is_asked(asked, set.0) {
-        set_text(alloc, program, files, set.0, &set.1)
+        set_text(alloc, program, files, set.0, &set.1, tree)
     } else {
         Ok(String::new(alloc))
     }
 }
 
 impl Program {
-    /// The rule sets of these terms and the trees that they become, in words, ascending by the term; of all terms with rules where none
-    /// is named. `files` are those that were compiled. The trees are made anew.
+    /// The rule sets of these terms and the trees that the program has of them, in words, ascending by the term; of all terms with rules
+    /// where none is named. `files` are those that were compiled.
     pub fn trees_text(
         &self,
         alloc: Global,
@@ -81,9 +82,11 @@ impl Program {
         requires { IsProgramOf files.now self.now }
         ensures { IfOk result (λ text. TellsTrees self.now files.now asked.now (string_bytes text)) }
     {
+        let sets = self.rule_sets();
+        let trees = self.trees();
         let mut text = String::new(alloc);
-        for set in self.rule_sets() {
-            let one = entry_text(alloc, self, files, asked, set)?;
+        for place in 0..sets.len() {
+            let one = entry_text(alloc, self, files, asked, &sets[place], &trees[place])?;
             text.push_str(one.as_str())?;
         }
         Ok(text)

@@ -74,7 +74,8 @@ fn answer_text(alloc: Global, answer: &Answer) -> Result<String, AllocError> {
     }
 }
 
-/// What a call of a text comes to: the number of rules that were tried, that of its effects, and its answer.
+/// What a call of a text comes to, by its term's rules, or behind ` by tree` by the term's tree: its steps, the number of its effects, and its
+/// answer.
 pub fn called<W: World>(
     alloc: Global,
     program: &Program,
@@ -82,11 +83,20 @@ pub fn called<W: World>(
     depth: u32,
     text: &str,
 ) -> Result<String, AllocError> {
-    let Ok((term, args)) = program.query(alloc, text) else {
+    let by_tree = text.split_once(" by tree");
+    let query = match by_tree {
+        Some((query, _end)) => query,
+        None => text,
+    };
+    let Ok((term, args)) = program.query(alloc, query) else {
         return String::from_str(alloc, "refused");
     };
     let mut effects = Vec::new(alloc);
-    let called = program.call_plain(alloc, term, args, depth, world, &mut effects)?;
+    let called = if by_tree.is_some() {
+        program.call(alloc, term, args, depth, world, &mut effects)?
+    } else {
+        program.call_plain(alloc, term, args, depth, world, &mut effects)?
+    };
     let answer = answer_text(alloc, &called.answer)?;
     format!(in alloc; "{} {} {answer}", called.steps, effects.len())
 }

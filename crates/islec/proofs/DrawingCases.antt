@@ -1,5 +1,6 @@
 -- Worked cases: which terms are asked for, what is drawn of them, and how a command that draws ends.
 use Rattle.std.proofs.Common.{◌≡◌, ◌++◌, ◌∷◌, ◌∙◌, inl, inr, ℕ, zero, suc, false, List, [], Option, Some, None, refl, ap, sym, subst, map, codes, get_or, append-nil, arith}
+use Rattle.std.specs.List.{zip}
 use Rattle.std.specs.Option.{option_map_or}
 use Rattle.std.proofs.lemmas.Option.{same_Some}
 use Rattle.isle_syntax.specs.Positions.Files.{SourceFile}
@@ -8,10 +9,10 @@ use Rattle.isle_types.specs.TypeTables.{TypeTables, no_tables}
 use Rattle.isle_terms.specs.Shown.TermTables.{TermTables}
 use Rattle.isle_run.specs.declared.program.Program.{Program}
 use Rattle.isle_run.specs.Compiled.{AreAccepted, IsProgramOf}
-use Rattle.isle_run.specs.Programs.{rule_sets_of, term_named, terms_of, types_of}
+use Rattle.isle_run.specs.Programs.{rule_sets_of, set_trees_of, term_named, terms_of, types_of}
 use Rattle.isle_run.specs.Tables.{term_called}
 use Rattle.isle_run.specs.TreeTexts.Names.{AreTexts, no_texts, more_texts}
-use Rattle.isle_run.specs.TreeTexts.Sets.{IsEntryText, IsSetText, TellsTrees}
+use Rattle.isle_run.specs.TreeTexts.Sets.{IsEntryText, IsSetText, TellsTrees, sets_and_trees}
 use Rattle.islec.specs.Drawing.{AreNamed, DrawsTrees, IsUnknown}
 use Rattle.islec.specs.Endings.{EndsBlocks}
 use Rattle.islec.specs.declared.status.Status.TheVariants as status
@@ -120,12 +121,15 @@ module _ (program : Program) (has : HasBoth program) where
           let is_h : codes "h" ≡ name = ap (λ (names : List (List ℕ)). get_or names 0 []) among in
           none_is_no_term term (sym h_missing ∙ ap (term_named program) is_h ∙ first_of (term_named program) name before term others known)
 
-  -- where f alone has a rule set, and its trees are this text
-  module _ (files : List SourceFile) (set : _) (has_set : rule_sets_of program ≡ (f, set) ∷ []) (text : List ℕ)
-      (told : IsSetText program files f set text) where
-    tells : (asked : List TermId) (drawn : List ℕ) → IsEntryText program files asked (f, set) drawn → TellsTrees program files asked drawn
-    tells asked drawn is = subst (λ (sets : _). AreTexts (IsEntryText program files asked) sets drawn) (sym has_set)
-        (subst (AreTexts (IsEntryText program files asked) ((f, set) ∷ [])) (append-nil drawn) (more_texts is no_texts))
+  -- where f alone has a rule set and a tree, and both are this text
+  module _ (files : List SourceFile) (set tree : _) (has_set : rule_sets_of program ≡ (f, set) ∷ [])
+      (has_tree : set_trees_of program ≡ tree ∷ []) (text : List ℕ) (told : IsSetText program files f set tree text) where
+    has_both : sets_and_trees program ≡ ((f, set), tree) ∷ []
+    has_both = λ i. zip (has_set i) (has_tree i)
+
+    tells : (asked : List TermId) (drawn : List ℕ) → IsEntryText program files asked ((f, set), tree) drawn → TellsTrees program files asked drawn
+    tells asked drawn is = subst (λ (all : _). AreTexts (IsEntryText program files asked) all drawn) (sym has_both)
+        (subst (AreTexts (IsEntryText program files asked) (((f, set), tree) ∷ [])) (append-nil drawn) (more_texts is no_texts))
 
     -- all of it is drawn, or that of f, and nothing of g
     draws_all : DrawsTrees program files [] false text
@@ -145,10 +149,10 @@ module _ (program : Program) (has : HasBoth program) where
         no_text_for_g (term ∷ another ∷ others) named shown = cc
         no_text_for_g (term ∷ []) named shown =
             let is_g = same_Some g term (sym g_found ∙ first_of (term_named program) (codes "g") [] term [] named) in
-            let of_f = text_of_one (IsEntryText program files (term ∷ [])) (f, set) (codes "term 0 f\n")
-            (subst (λ (sets : _). AreTexts (IsEntryText program files (term ∷ [])) sets (codes "term 0 f\n")) has_set shown) in
+            let of_f = text_of_one (IsEntryText program files (term ∷ [])) ((f, set), tree) (codes "term 0 f\n")
+            (subst (λ (all : _). AreTexts (IsEntryText program files (term ∷ [])) all (codes "term 0 f\n")) has_both shown) in
             let none : codes "term 0 f\n" ≡ [] =
-            subst (λ (t : TermId). IsEntryText program files (t ∷ []) (f, set) (codes "term 0 f\n")) (sym is_g) of_f in
+            subst (λ (t : TermId). IsEntryText program files (t ∷ []) ((f, set), tree) (codes "term 0 f\n")) (sym is_g) of_f in
             cc
 
     draws_no_h : (drawn : List ℕ) → DrawsTrees program files (codes "h" ∷ []) false drawn → ⊥
@@ -186,7 +190,7 @@ module _ (program : Program) (has : HasBoth program) where
       drawn = record {
         terms = [];
         named = refl;
-        told = subst (λ (sets : _). AreTexts (IsEntryText program files []) sets []) (sym none) no_texts;
+        told = subst (λ (all : _). AreTexts (IsEntryText program files []) all []) (sym (ap (λ (sets : _). zip sets (set_trees_of program)) none)) no_texts;
       };
       written = refl;
     }

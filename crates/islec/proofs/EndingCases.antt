@@ -8,6 +8,7 @@ use Rattle.clap.specs.declared.error.kind.ErrorKind.{ErrorKind}
 use Rattle.clap.specs.declared.error.kind.ErrorKind.TheVariants as kind
 use Rattle.clap.proofs.OnLiterals.{clap_on_literals}
 use Rattle.isle_syntax.specs.Positions.Files.{SourceFile}
+use Rattle.islec.specs.declared.answer.Manner.{Manner}
 use Rattle.islec.specs.Commands.{islec}
 use Rattle.islec.specs.Endings.{EndsJob, EndsCommand, IsWorld, done, told}
 use Rattle.islec.specs.Lines.{ReadsLine, SaysJob, names_of, world_of}
@@ -33,9 +34,9 @@ no_tree_is_refused_a_query : (terms : Vec (String Global) Global) (dot : Bool) (
     → EndsJob (Blocks terms dot) files world input left old new status.SomeRefused → ⊥
 no_tree_is_refused_a_query terms dot files world input left old new ends = ends
 
-no_run_is_refused_its_words : (depth : ℕ) (plain : Bool) (files : List SourceFile) (world : SourceFile) (input left old new : Option (List ℕ))
-    → EndsJob (Run depth plain) files world input left old new status.Usage → ⊥
-no_run_is_refused_its_words depth plain files world input left old new ends = ends
+no_run_is_refused_its_words : (manner : Manner) (files : List SourceFile) (world : SourceFile) (input left old new : Option (List ℕ))
+    → EndsJob (Run manner) files world input left old new status.Usage → ⊥
+no_run_is_refused_its_words manner files world input left old new ends = ends
 
 -- ---- worlds
 
@@ -90,7 +91,7 @@ run_names_its_files line files reads named =
 
 world_is : (job : Job) (name : Text) (rows : List Row) → subcommand_of islec run_words ≡ Some (name, rows) → SaysJob name rows job
     → world_of job rows ≡ Some (codes "w.isle")
-world_is (Run depth plain) name rows met says = same_Some _ _ (sym (ap (option_map (λ p. first_of (codes "world") p.1)) met) ∙ run_world)
+world_is (Run manner) name rows met says = same_Some _ _ (sym (ap (option_map (λ p. first_of (codes "world") p.1)) met) ∙ run_world)
 world_is (Check terms) name rows met (named, flag) =
     let is_run = same_Some _ _ (sym (ap (option_map (λ p. p.0)) met) ∙ run_name) in
     let wrong : true ≡ false = ap (λ (text : Text). bytes_eq text (codes "run")) (sym is_run ∙ named) in

@@ -1,26 +1,20 @@
 -- How a whole command ends, by what its parts promise.
-use Rattle.std.proofs.Common.{◌≡◌, ◌≢◌, ◌⊎◌, ◌∙◌, ℕ, Bool, true, false, List, [], ◌∷◌, Option, Some, None, String, inl, inr, refl, sym, ap, subst, map, codes, string_bytes}
+use Rattle.std.proofs.Common.{◌≡◌, ◌∙◌, ℕ, List, [], ◌∷◌, Option, Some, None, String, inl, inr, refl, sym, ap, subst, map, string_bytes}
 use Rattle.std.specs.Global.{Global}
 use Rattle.std.specs.List.{Contains}
 use Rattle.std.specs.Option.{option_map}
 use Rattle.clap.specs.Words.{Text}
-use Rattle.isle_syntax.specs.Positions.Files.{SourceFile, source_file}
-use Rattle.isle_run.specs.Compiled.{AreAccepted}
+use Rattle.isle_syntax.specs.Positions.Files.{source_file}
 use Rattle.islec.specs.Beginnings.{IsUnread, IsUnreadFile, IsUnreadWorld}
 use Rattle.islec.specs.Endings.{EndsJob, EndsCommand, Begins, HoldsBack, IsWorld, done, told}
-use Rattle.islec.specs.Formatting.{WritesPrints, WritesFault, CutsPrints}
 use Rattle.islec.specs.Lines.{ReadsLine}
-use Rattle.islec.specs.Running.{WritesFaults, WritesAccepted, WritesAnswers, WritesRefusal, CutsCheck, CutsRun, RunsOut}
 use Rattle.islec.specs.Statuses.{code_of}
 use Rattle.islec.specs.Worlds.{world_file}
-use Rattle.islec.specs.Writing.{AppendsBeginning}
 use Rattle.islec.specs.declared.line.Job.{Job}
-use Rattle.islec.specs.declared.line.Job.TheVariants.{Run, Check, Fmt}
 use Rattle.islec.specs.declared.line.Line.{Line}
 use Rattle.islec.specs.declared.program.Begun.{Begun}
 use Rattle.islec.specs.declared.program.Unbegun.{Unbegun}
 use Rattle.islec.specs.declared.status.Status.{Status}
-use Rattle.islec.specs.declared.status.Status.TheVariants.{AllWell, TextsRefused, Usage, SomeRefused, InputOutput, OutOfMemory}
 
 -- files have the names of their texts
 pub source_names : (texts : List (String Global × String Global)) → map (λ file. file.name) (map source_file texts) ≡ map string_bytes (map (λ text. text.0) texts)

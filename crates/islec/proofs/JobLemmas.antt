@@ -4,6 +4,7 @@ use Rattle.std.specs.Prelude.{codes}
 use Rattle.std.specs.Io.KnownBytes.{Keeps}
 use Rattle.isle_syntax.specs.Positions.Files.{SourceFile}
 use Rattle.isle_run.specs.Compiled.{AreAccepted}
+use Rattle.islec.specs.declared.answer.Manner.{Manner}
 use Rattle.islec.specs.Drawing.{WritesTrees, WritesUnknown, CutsTrees}
 use Rattle.islec.specs.Endings.{EndsRun, EndsCheck, EndsBlocks, EndsFmt}
 use Rattle.islec.specs.Formatting.{WritesPrints, WritesFault, CutsPrints}
@@ -19,31 +20,31 @@ use Rattle.islec.proofs.WritingLemmas.{line_behind}
 moved : (P : Option (List ℕ) → Status → Type 0) (own status : Status) (mid new : Option (List ℕ)) → status ≡ own → new ≡ mid → P mid own → P new status
 moved P own status mid new is same p = subst (P new) (sym is) (subst (λ n. P n own) (sym same) p)
 
-module _ (depth : ℕ) (plain : Bool) (files : List SourceFile) (world : SourceFile) (input left old mid : Option (List ℕ)) where
+module _ (manner : Manner) (files : List SourceFile) (world : SourceFile) (input left old mid : Option (List ℕ)) where
   pub run_ends : (done : Result Status ServeFault) (status : Status) (new : Option (List ℕ)) → EndsAs done status mid new
       → IfOk done (λ s. (s ≡ AllWell) ⊎ (s ≡ SomeRefused) → AreAccepted files)
-      → IfOk done (λ s. s ≡ AllWell → WritesAnswers files world depth plain input false old mid)
-      → IfOk done (λ s. s ≡ SomeRefused → WritesAnswers files world depth plain input true old mid)
+      → IfOk done (λ s. s ≡ AllWell → WritesAnswers files world manner input false old mid)
+      → IfOk done (λ s. s ≡ SomeRefused → WritesAnswers files world manner input true old mid)
       → IfOk done (λ s. s ≡ TextsRefused → WritesRefusal files world old mid)
       → IfOk done IsEnd
-      → IfErr done (λ f. f ≢ Memory → CutsRun files world depth plain input old mid)
-      → IfErr done (λ f. f ≡ Memory → AnswersSome files world depth plain input left old mid)
-      → EndsRun depth plain files world input left old new status
+      → IfErr done (λ f. f ≢ Memory → CutsRun files world manner input old mid)
+      → IfErr done (λ f. f ≡ Memory → AnswersSome files world manner input left old mid)
+      → EndsRun manner files world input left old new status
   run_ends (Ok AllWell) status new (is, same) accepted well some refused other cut memory =
-      moved (λ n s. EndsRun depth plain files world input left old n s) AllWell status mid new is same (accepted (inl refl), well refl)
+      moved (λ n s. EndsRun manner files world input left old n s) AllWell status mid new is same (accepted (inl refl), well refl)
   run_ends (Ok TextsRefused) status new (is, same) accepted well some refused other cut memory =
-      moved (λ n s. EndsRun depth plain files world input left old n s) TextsRefused status mid new is same (refused refl)
+      moved (λ n s. EndsRun manner files world input left old n s) TextsRefused status mid new is same (refused refl)
   run_ends (Ok Usage) status new (is, same) accepted well some refused other cut memory = absurd other
   run_ends (Ok SomeRefused) status new (is, same) accepted well some refused other cut memory =
-      moved (λ n s. EndsRun depth plain files world input left old n s) SomeRefused status mid new is same (accepted (inr refl), some refl)
+      moved (λ n s. EndsRun manner files world input left old n s) SomeRefused status mid new is same (accepted (inr refl), some refl)
   run_ends (Ok InputOutput) status new (is, same) accepted well some refused other cut memory = absurd other
   run_ends (Ok OutOfMemory) status new (is, same) accepted well some refused other cut memory = absurd other
   run_ends (Err Read) status new (is, same) accepted well some refused other cut memory =
-      moved (λ n s. EndsRun depth plain files world input left old n s) InputOutput status mid new is same (cut (λ no. absurd cc))
+      moved (λ n s. EndsRun manner files world input left old n s) InputOutput status mid new is same (cut (λ no. absurd cc))
   run_ends (Err Write) status new (is, same) accepted well some refused other cut memory =
-      moved (λ n s. EndsRun depth plain files world input left old n s) InputOutput status mid new is same (cut (λ no. absurd cc))
+      moved (λ n s. EndsRun manner files world input left old n s) InputOutput status mid new is same (cut (λ no. absurd cc))
   run_ends (Err Memory) status new (is, wrote) accepted well some refused other cut memory =
-      subst (λ s. EndsRun depth plain files world input left old new s) (sym is) (mid, memory refl, wrote)
+      subst (λ s. EndsRun manner files world input left old new s) (sym is) (mid, memory refl, wrote)
 
 module _ (terms : Bool) (files : List SourceFile) (old mid : Option (List ℕ)) where
   pub check_ends : (done : Result Status ServeFault) (status : Status) (new : Option (List ℕ)) → EndsAs done status mid new

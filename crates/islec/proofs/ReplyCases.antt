@@ -21,6 +21,7 @@ use Rattle.isle_run.specs.declared.query.QueryFault.TheVariants.{Q1, Q2, Q3, Q4,
 use Rattle.isle_run.specs.Calls.Answers.{name_of_term}
 use Rattle.isle_run.specs.Values.Lists.{IsListOf}
 use Rattle.isle_run.specs.Values.TextTokens.{AreTokensOf, alone, bare}
+use Rattle.islec.specs.declared.answer.Manner.{Manner}
 use Rattle.islec.specs.Replies.{Setting, Leads, Reaches, IsReply, no_text, blank, no_call, call, refused_line}
 use Rattle.islec.specs.Serving.{AreReplies}
 
@@ -32,11 +33,15 @@ counts world name args answer next = next ≡ world + 1
 abbrev lists : List (List ℕ) → List ℕ → ValueTrees → Option ValueTree → List (List ℕ) → Type 0
 lists world name args answer next = next ≡ world ++ name ∷ []
 
+-- the plain road, on which one call may be open
+abbrev by_rules : Manner
+by_rules = record { depth = 1; plain = true; steps = false }
+
 abbrev counting : Program → Answers → Setting ℕ
-counting program answers = record { program = program; answers = answers; step = counts; depth = 1; plain = true }
+counting program answers = record { program = program; answers = answers; step = counts; manner = by_rules }
 
 abbrev listing : Program → Answers → Setting (List (List ℕ))
-listing program answers = record { program = program; answers = answers; step = lists; depth = 1; plain = true }
+listing program answers = record { program = program; answers = answers; step = lists; manner = by_rules }
 
 -- ---- effects
 

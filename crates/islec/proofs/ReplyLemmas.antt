@@ -1,9 +1,9 @@
 -- What is written of a call's parts, and what a refused or an answered query is written.
 use Rattle.isle_meaning.proofs.Calls.Beginnings.{plain_begins}
-use Rattle.isle_run.specs.PlainCalls.{TellsPlainly, BeginsPlainly}
+use Rattle.isle_meaning.proofs.Machine.Beginnings.{machine_begins}
+use Rattle.isle_run.specs.Blocks.Frames.{term_trees}
 use Rattle.isle_run.specs.Meanings.{checked}
 use Rattle.isle_run.specs.declared.program.Program.{Program}
-use Rattle.isle_run.specs.declared.calls.answer.Answer.{Answer}
 use Rattle.isle_run.specs.declared.calls.answer.Called.{Called}
 use Rattle.isle_meaning.specs.Worlds.{Answers, Event}
 use Rattle.isle_meaning.specs.Values.{Values}
@@ -66,32 +66,23 @@ labelled (Ok u) old put new label name own args items is named same wrote =
     wrote ∙ ap (λ l. l ++ call_text name args) is ∙ append_assoc old label (call_text name args)
     ∙ ap (λ l. old ++ (label ++ call_text l args)) named ∙ ap (λ l. old ++ (label ++ call_text own l)) same
 
--- what a call on the plain road tells, a call tells on either road
-pub tells_by : (plain : Bool) (program : Program) (w : Answers) (depth term : ℕ) (args : Values) (called : Called) (made : List Event)
-    → TellsPlainly program w depth term args called made → TellsBy plain program w depth term args called.answer made
-tells_by true program w depth term args called made tells = (called.steps, tells)
-tells_by false program w depth term args called made tells =
-    record { outcome = tells.outcome; told = tells.told; meant = tells.meant; asked = tells.asked; pure = tells.pure }
-
-pub begins_by : (plain : Bool) (program : Program) (w : Answers) (depth term : ℕ) (args : Values) (made : List Event)
-    → BeginsPlainly program w depth term args made → BeginsBy plain program w depth term args made
-begins_by true program w depth term args made begun = begun
-begins_by false program w depth term args made begun = begun.pure
-
 -- a call that is answered has begun with its effects
-pub begins_with : (plain : Bool) (program : Program) (w : Answers) (depth term : ℕ) (args : Values) (answer : Answer) (made : List Event)
-    → TellsBy plain program w depth term args answer made → BeginsBy plain program w depth term args made
-begins_with true program w depth term args answer made (steps, tells) = record {
-  begins = plain_begins (checked program) w depth term args steps made tells.outcome tells.run;
+pub begins_with : (plain : Bool) (program : Program) (w : Answers) (depth term : ℕ) (args : Values) (called : Called) (made : List Event)
+    → TellsBy plain program w depth term args called made → BeginsBy plain program w depth term args made
+begins_with true program w depth term args called made tells = record {
+  begins = plain_begins (checked program) w depth term args called.steps made tells.outcome tells.run;
   pure = tells.pure;
 }
-begins_with false program w depth term args answer made tells = tells.pure
+begins_with false program w depth term args called made tells = record {
+  begins = machine_begins (checked program) w (term_trees program) depth term args called.steps made tells.outcome tells.run;
+  pure = tells.pure;
+}
 
 pub answers_begin : {V : Type 0} (setting : Setting V) (before : V) (term : TermId) (args : ValueTrees) (lines : List ℕ) (refused : Bool) (after : V)
     → AnswersCall setting before term args lines refused after → BeginsCall setting before term args after
 answers_begin setting before term args lines refused after answers =
     let (made, shown, leads, tells) = answers.outcome in
-    (made, leads, begins_with setting.plain setting.program setting.answers setting.depth term.0 _ answers.answer made tells)
+    (made, leads, begins_with setting.manner.plain setting.program setting.answers setting.manner.depth term.0 _ answers.called made tells)
 
 -- a reply may be lost
 pub reply_lost : {V : Type 0} (setting : Setting V) (before : V) (line lines : List ℕ) (refused : Bool) (after : V)

@@ -7,6 +7,7 @@ use Rattle.isle_run.specs.declared.compiler.Refused.{Refused}
 use Rattle.isle_run.specs.declared.compiler.Refused.TheVariants.{Faults}
 use Rattle.isle_run.specs.declared.program.Program.{Program}
 use Rattle.isle_run.specs.Compiled.{AreAccepted, AreFaults, IsProgramOf, IfFaults}
+use Rattle.islec.specs.declared.answer.Manner.{Manner}
 use Rattle.islec.specs.declared.serve.ServeFault.{ServeFault}
 use Rattle.islec.specs.declared.serve.ServeFault.TheVariants.{Memory}
 use Rattle.islec.specs.declared.status.Status.{Status}
@@ -16,9 +17,9 @@ use Rattle.islec.specs.Terms.{TellsProgram}
 use Rattle.islec.specs.Writing.{AppendsBeginning}
 use Rattle.islec.proofs.RefusedFiles.{writes_faults, cuts_faults}
 
-module _ (files all : List SourceFile) (same : files ≡ all) (program : Program) (is : IsProgramOf files program) (world : SourceFile) (depth : ℕ) (plain : Bool) (input left old new : Option (List ℕ)) where
-  pub answers_by : (refused : Bool) (status : Status) (r : Result Status ServeFault) → IfOk r (λ s. s ≡ status → AnswersIn program world depth plain input refused old new)
-      → IfOk r (λ s. s ≡ status → WritesAnswers all world depth plain input refused old new)
+module _ (files all : List SourceFile) (same : files ≡ all) (program : Program) (is : IsProgramOf files program) (world : SourceFile) (manner : Manner) (input left old new : Option (List ℕ)) where
+  pub answers_by : (refused : Bool) (status : Status) (r : Result Status ServeFault) → IfOk r (λ s. s ≡ status → AnswersIn program world manner input refused old new)
+      → IfOk r (λ s. s ≡ status → WritesAnswers all world manner input refused old new)
   answers_by refused status (Err f) told = tt
   answers_by refused status (Ok s) told = λ e. (program, subst (λ l. IsProgramOf l program) same is, told e)
 
@@ -27,13 +28,13 @@ module _ (files all : List SourceFile) (same : files ≡ all) (program : Program
   tells_by (Err f) told = tt
   tells_by (Ok s) told = λ e. inr (program, subst (λ l. IsProgramOf l program) same is, told e)
 
-  pub cuts_by : (r : Result Status ServeFault) → IfErr r (λ f. f ≢ Memory → CutsIn program world depth plain input old new)
-      → IfErr r (λ f. f ≢ Memory → CutsRun all world depth plain input old new)
+  pub cuts_by : (r : Result Status ServeFault) → IfErr r (λ f. f ≢ Memory → CutsIn program world manner input old new)
+      → IfErr r (λ f. f ≢ Memory → CutsRun all world manner input old new)
   cuts_by (Ok s) told = tt
   cuts_by (Err f) told = λ e. inl (program, subst (λ l. IsProgramOf l program) same is, told e)
 
-  pub stops_by : (r : Result Status ServeFault) → IfErr r (λ f. f ≡ Memory → StopsIn program world depth plain input left old new)
-      → IfErr r (λ f. f ≡ Memory → AnswersSome all world depth plain input left old new)
+  pub stops_by : (r : Result Status ServeFault) → IfErr r (λ f. f ≡ Memory → StopsIn program world manner input left old new)
+      → IfErr r (λ f. f ≡ Memory → AnswersSome all world manner input left old new)
   stops_by (Ok s) told = tt
   stops_by (Err f) told = λ e. inr (program, subst (λ l. IsProgramOf l program) same is, told e)
 
@@ -49,10 +50,10 @@ module _ (files all : List SourceFile) (refused : Refused) (report : Report) (ol
   refuses_by world (Err f) wrote = tt
   refuses_by world (Ok s) wrote = λ _. inl (writes_faults files all refused report old new is same not_accepted faults of_files wrote)
 
-  pub refusal_cut : (world : SourceFile) (depth : ℕ) (plain : Bool) (input : Option (List ℕ)) (r : Result Status ServeFault) → IfErr r (λ f. f ≢ Memory → AppendsBeginning old new (report_text report))
-      → IfErr r (λ f. f ≢ Memory → CutsRun all world depth plain input old new)
-  refusal_cut world depth plain input (Ok s) wrote = tt
-  refusal_cut world depth plain input (Err f) wrote = λ e. inr (cuts_faults files all refused report old new is same not_accepted faults of_files (wrote e))
+  pub refusal_cut : (world : SourceFile) (manner : Manner) (input : Option (List ℕ)) (r : Result Status ServeFault) → IfErr r (λ f. f ≢ Memory → AppendsBeginning old new (report_text report))
+      → IfErr r (λ f. f ≢ Memory → CutsRun all world manner input old new)
+  refusal_cut world manner input (Ok s) wrote = tt
+  refusal_cut world manner input (Err f) wrote = λ e. inr (cuts_faults files all refused report old new is same not_accepted faults of_files (wrote e))
 
   pub refusal_uncheckable : (asked : Bool) (r : Result Status ServeFault) → IfErr r (λ f. f ≢ Memory → AppendsBeginning old new (report_text report))
       → IfErr r (λ f. f ≢ Memory → CutsCheck all asked old new)
@@ -79,7 +80,7 @@ module _ (files all : List SourceFile) (same : files ≡ all) (program : Program
   tells_cut (Err f) told = λ e. inl (program, subst (λ l. IsProgramOf l program) same is, told e)
 
 -- nothing is written
-pub nothing_by : (files : List SourceFile) (world : SourceFile) (depth : ℕ) (plain : Bool) (input left old new : Option (List ℕ)) (r : Result Status ServeFault) → left ≡ input
-    → IfErr r (λ f. f ≡ Memory → Keeps old new) → IfErr r (λ f. f ≡ Memory → AnswersSome files world depth plain input left old new)
-nothing_by files world depth plain input left old new (Ok s) same kept = tt
-nothing_by files world depth plain input left old new (Err f) same kept = λ e. inl (same, kept e)
+pub nothing_by : (files : List SourceFile) (world : SourceFile) (manner : Manner) (input left old new : Option (List ℕ)) (r : Result Status ServeFault) → left ≡ input
+    → IfErr r (λ f. f ≡ Memory → Keeps old new) → IfErr r (λ f. f ≡ Memory → AnswersSome files world manner input left old new)
+nothing_by files world manner input left old new (Ok s) same kept = tt
+nothing_by files world manner input left old new (Err f) same kept = λ e. inl (same, kept e)

@@ -7,6 +7,7 @@ use Rattle.std.specs.declared.io.buffered.BufReader.{BufReader}
 use Rattle.std.specs.Io.KnownBytes.{Appends, prepend_known, Consumes}
 use Rattle.std.proofs.Math.Seq.{take-append-add}
 use Rattle.std.proofs.KnownBytes.{Appends-nil, Appends-trans, prepend_known-nil}
+use Rattle.islec.specs.declared.answer.Manner.{Manner}
 use Rattle.islec.specs.declared.serve.ServeFault.{ServeFault}
 use Rattle.islec.specs.declared.serve.Served.{Served}
 use Rattle.islec.specs.declared.serve.ServeFault.TheVariants.{Read, Write, Memory}
@@ -265,11 +266,11 @@ cuts_at setting before after input left old new Memory first cut = first_cut set
 -- a reply in a world is one for another that answers pure terms alike
 pub same_setting : {V : Type 0} (step : V → List ℕ → ValueTrees → Option ValueTree → V → Type 0)
     (program : Program) (one other : List ℕ → ValueTrees → Option ValueTree) (some others : List ℕ → ValueTree → Option ValueTrees)
-    (depth : ℕ) (plain : Bool) (P : Setting V → Type 0) → one ≡ other → some ≡ others → P (setting_in step program one some depth plain)
-    → P (setting_in step program other others depth plain)
-same_setting step program one other some others depth plain P e f h =
-    subst (λ (c : List ℕ → ValueTrees → Option ValueTree). P (setting_in step program c others depth plain)) e
-    (subst (λ (x : List ℕ → ValueTree → Option ValueTrees). P (setting_in step program one x depth plain)) f h)
+    (manner : Manner) (P : Setting V → Type 0) → one ≡ other → some ≡ others → P (setting_in step program one some manner)
+    → P (setting_in step program other others manner)
+same_setting step program one other some others manner P e f h =
+    subst (λ (c : List ℕ → ValueTrees → Option ValueTree). P (setting_in step program c others manner)) e
+    (subst (λ (x : List ℕ → ValueTree → Option ValueTrees). P (setting_in step program one x manner)) f h)
 
 -- where a line isn't read to its end, nothing is done for it
 pub breaks_unread : {V : Type 0} (setting : Setting V) (world : V) (fault : ServeFault) (part : List ℕ) → IsCutShort fault part
@@ -281,11 +282,11 @@ breaks_unread setting world Memory part cut = (cut, inl refl)
 -- what breaks off there breaks off in a world that answers pure terms alike
 pub breaks_in : {V : Type 0} (step : V → List ℕ → ValueTrees → Option ValueTree → V → Type 0)
     (program : Program) (one other : List ℕ → ValueTrees → Option ValueTree) (some others : List ℕ → ValueTree → Option ValueTrees)
-    (depth : ℕ) (plain : Bool) (fault : ServeFault) (part : List ℕ) (reached after : V) → one ≡ other → some ≡ others
-    → BreaksOff (setting_in step program one some depth plain) fault part reached after
-    → BreaksOff (setting_in step program other others depth plain) fault part reached after
-breaks_in step program one other some others depth plain fault part reached after e f h =
-    same_setting step program one other some others depth plain (λ s. BreaksOff s fault part reached after) e f h
+    (manner : Manner) (fault : ServeFault) (part : List ℕ) (reached after : V) → one ≡ other → some ≡ others
+    → BreaksOff (setting_in step program one some manner) fault part reached after
+    → BreaksOff (setting_in step program other others manner) fault part reached after
+breaks_in step program one other some others manner fault part reached after e f h =
+    same_setting step program one other some others manner (λ s. BreaksOff s fault part reached after) e f h
 
 -- where nothing is read behind lines, reading has failed there
 pub breaks_at_once : {V : Type 0} (setting : Setting V) (world : V) → BreaksOff setting Read [] world world

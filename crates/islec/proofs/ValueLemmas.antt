@@ -77,8 +77,12 @@ pub run_plain : (rows : List Row) → FillsRules run_rules rows
     → (one_of (codes "plain") rows ≡ Some (codes "true")) ⊎ (one_of (codes "plain") rows ≡ Some (codes "false"))
 run_plain rows f = let v = one_reads run_rules (rule run_rules 2) rows refl f.fits (f.whole.1.1.0 (inr (omega arith))) in bool_word _ v.0 v.1 v.2
 
+pub run_steps : (rows : List Row) → FillsRules run_rules rows
+    → (one_of (codes "steps") rows ≡ Some (codes "true")) ⊎ (one_of (codes "steps") rows ≡ Some (codes "false"))
+run_steps rows f = let v = one_reads run_rules (rule run_rules 3) rows refl f.fits (f.whole.1.1.1.0 (inr (omega arith))) in bool_word _ v.0 v.1 v.2
+
 pub run_files : (rows : List Row) → FillsRules run_rules rows → (vs : List Text) × (all_of (codes "file") rows ≡ Some vs) × (0 < length vs)
-run_files rows f = let v = all_reads run_rules (rule run_rules 3) rows refl f.fits (f.whole.1.1.1.0 (inl refl)) in (v.0, v.1, v.2)
+run_files rows f = let v = all_reads run_rules (rule run_rules 4) rows refl f.fits (f.whole.1.1.1.1.0 (inl refl)) in (v.0, v.1, v.2)
 
 -- ---- check
 

@@ -6,6 +6,7 @@ use Rattle.isle_run.specs.declared.program.Program.{Program}
 use Rattle.isle_run.specs.declared.worlds.reading.WorldFault.{WorldFault}
 use Rattle.isle_run.specs.Worlds.Entries.{EntryTree}
 use Rattle.isle_run.specs.Worlds.Texts.{RefusesWorld}
+use Rattle.islec.specs.declared.answer.Manner.{Manner}
 use Rattle.islec.specs.declared.serve.ServeFault.{ServeFault}
 use Rattle.islec.specs.declared.serve.ServeFault.TheVariants.{Memory}
 use Rattle.islec.specs.declared.status.Status.{Status}
@@ -16,12 +17,12 @@ use Rattle.islec.specs.Serving.{AnswersAll, AnswersFirst, AnswersCut}
 use Rattle.islec.specs.Worlds.{world_fault_line}
 use Rattle.islec.specs.Writing.{AppendsBeginning}
 
-module _ (program : Program) (world file : SourceFile) (depth : ℕ) (plain : Bool) (same : file ≡ world) (fault : WorldFault) (refuses : RefusesWorld program file.text fault) (input left old new : Option (List ℕ)) where
+module _ (program : Program) (world file : SourceFile) (manner : Manner) (same : file ≡ world) (fault : WorldFault) (refuses : RefusesWorld program file.text fault) (input left old new : Option (List ℕ)) where
   refused_in : RefusesWorld program world.text fault
   refused_in = subst (λ (f : SourceFile). RefusesWorld program f.text fault) same refuses
 
   pub never_answers : (refused : Bool) (want : Status) (r : Result Status ServeFault) → IfOk r (λ s. s ≡ TextsRefused) → (want ≡ TextsRefused → ⊥)
-      → IfOk r (λ s. s ≡ want → AnswersIn program world depth plain input refused old new)
+      → IfOk r (λ s. s ≡ want → AnswersIn program world manner input refused old new)
   never_answers refused want (Err f) status other = tt
   never_answers refused want (Ok s) status other = λ e. absurd (other (sym e ∙ status))
 
@@ -34,27 +35,27 @@ module _ (program : Program) (world file : SourceFile) (depth : ℕ) (plain : Bo
   ends (Ok s) status = subst IsEnd (sym status) tt
 
   pub cuts : (r : Result Status ServeFault) → IfErr r (λ f. f ≢ Memory → AppendsBeginning old new (world_fault_line program file fault))
-      → IfErr r (λ f. f ≢ Memory → CutsIn program world depth plain input old new)
+      → IfErr r (λ f. f ≢ Memory → CutsIn program world manner input old new)
   cuts (Ok s) wrote = tt
   cuts (Err f) wrote = λ e. inr (record { fault = fault; refused = refused_in; written = subst (λ f. AppendsBeginning old new (world_fault_line program f fault)) same (wrote e) })
 
-  pub stops : (r : Result Status ServeFault) → left ≡ input → IfErr r (λ f. f ≡ Memory → Keeps old new) → IfErr r (λ f. f ≡ Memory → StopsIn program world depth plain input left old new)
+  pub stops : (r : Result Status ServeFault) → left ≡ input → IfErr r (λ f. f ≡ Memory → Keeps old new) → IfErr r (λ f. f ≡ Memory → StopsIn program world manner input left old new)
   stops (Ok s) still kept = tt
   stops (Err f) still kept = λ e. inl (still, kept e)
 
-module _ (program : Program) (world : SourceFile) (depth : ℕ) (plain : Bool) (entries after : List EntryTree) (spells : IsTableOf program world entries) (input left old new : Option (List ℕ)) where
+module _ (program : Program) (world : SourceFile) (manner : Manner) (entries after : List EntryTree) (spells : IsTableOf program world entries) (input left old new : Option (List ℕ)) where
   pub answers_in_world : (refused : Bool) (want : Status) (r : Result Status ServeFault)
-      → IfOk r (λ s. s ≡ want → AnswersAll (in_entries program entries depth plain) entries input refused old new after)
-      → IfOk r (λ s. s ≡ want → AnswersIn program world depth plain input refused old new)
+      → IfOk r (λ s. s ≡ want → AnswersAll (in_entries program entries manner) entries input refused old new after)
+      → IfOk r (λ s. s ≡ want → AnswersIn program world manner input refused old new)
   answers_in_world refused want (Err f) told = tt
   answers_in_world refused want (Ok s) told = λ e. (entries, after, spells, told e)
 
-  pub cuts_in_world : (r : Result Status ServeFault) → IfErr r (λ f. f ≢ Memory → AnswersCut (in_entries program entries depth plain) entries input old new after)
-      → IfErr r (λ f. f ≢ Memory → CutsIn program world depth plain input old new)
+  pub cuts_in_world : (r : Result Status ServeFault) → IfErr r (λ f. f ≢ Memory → AnswersCut (in_entries program entries manner) entries input old new after)
+      → IfErr r (λ f. f ≢ Memory → CutsIn program world manner input old new)
   cuts_in_world (Ok s) told = tt
   cuts_in_world (Err f) told = λ e. inl (entries, after, spells, told e)
 
-  pub stops_in_world : (r : Result Status ServeFault) → IfErr r (λ f. f ≡ Memory → AnswersFirst (in_entries program entries depth plain) f entries input left old new after)
-      → IfErr r (λ f. f ≡ Memory → StopsIn program world depth plain input left old new)
+  pub stops_in_world : (r : Result Status ServeFault) → IfErr r (λ f. f ≡ Memory → AnswersFirst (in_entries program entries manner) f entries input left old new after)
+      → IfErr r (λ f. f ≡ Memory → StopsIn program world manner input left old new)
   stops_in_world (Ok s) told = tt
-  stops_in_world (Err f) told = λ e. inr (entries, after, spells, subst (λ fault. AnswersFirst (in_entries program entries depth plain) fault entries input left old new after) e (told e))
+  stops_in_world (Err f) told = λ e. inr (entries, after, spells, subst (λ fault. AnswersFirst (in_entries program entries manner) fault entries input left old new after) e (told e))

@@ -26,6 +26,10 @@ depth = record (new_rule (codes "depth")) {
 abbrev pub plain : Rule
 plain = record (new_rule (codes "plain")) { long = Some (codes "plain"); action = Some SetTrue }
 
+-- `--steps`
+abbrev pub steps : Rule
+steps = record (new_rule (codes "steps")) { long = Some (codes "steps"); action = Some SetTrue }
+
 -- `--terms`
 abbrev pub terms : Rule
 terms = record (new_rule (codes "terms")) { long = Some (codes "terms"); action = Some SetTrue }
@@ -60,9 +64,9 @@ rule_files = record (new_rule (codes "file")) {
 abbrev pub one_file : Rule
 one_file = record (new_rule (codes "file")) { value_names = 1; required = true }
 
--- `run`, with a world, a depth, `--plain` and files
+-- `run`, with a world, a depth, `--plain`, `--steps` and files
 abbrev pub run : App
-run = with_rule (with_rule (with_rule (with_rule (new_app (codes "run")) world) depth) plain)
+run = with_rule (with_rule (with_rule (with_rule (with_rule (new_app (codes "run")) world) depth) plain) steps)
     rule_files
 
 -- `check`, with `--terms` and files

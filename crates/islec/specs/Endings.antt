@@ -6,6 +6,7 @@ use Rattle.std.specs.Option.{option_map}
 use Rattle.clap.specs.Words.{IsAmong, Text, fault_of, kind_of}
 use Rattle.isle_syntax.specs.Positions.Files.{SourceFile}
 use Rattle.isle_run.specs.Compiled.{AreAccepted}
+use Rattle.islec.specs.declared.answer.Manner.{Manner}
 use Rattle.islec.specs.Beginnings.{TellsUnbegun}
 use Rattle.islec.specs.Commands.{islec}
 use Rattle.islec.specs.Drawing.{WritesTrees, WritesUnknown, CutsTrees}
@@ -24,13 +25,13 @@ use Rattle.islec.specs.declared.status.Status.{Status}
 use Rattle.islec.specs.declared.status.Status.TheVariants.{AllWell, TextsRefused, Usage, SomeRefused, InputOutput, OutOfMemory}
 
 -- what is written of files that are run, by the status
-abbrev pub EndsRun : (depth : ℕ) → (plain : Bool) → List SourceFile → (world : SourceFile) → (input left old new : Option (List ℕ)) → Status → Type 0
-EndsRun depth plain files world input left old new AllWell = AreAccepted files × WritesAnswers files world depth plain input false old new
-EndsRun depth plain files world input left old new TextsRefused = WritesRefusal files world old new
-EndsRun depth plain files world input left old new Usage = ⊥
-EndsRun depth plain files world input left old new SomeRefused = AreAccepted files × WritesAnswers files world depth plain input true old new
-EndsRun depth plain files world input left old new InputOutput = CutsRun files world depth plain input old new
-EndsRun depth plain files world input left old new OutOfMemory = RunsOut files world depth plain input left old new
+abbrev pub EndsRun : (manner : Manner) → List SourceFile → (world : SourceFile) → (input left old new : Option (List ℕ)) → Status → Type 0
+EndsRun manner files world input left old new AllWell = AreAccepted files × WritesAnswers files world manner input false old new
+EndsRun manner files world input left old new TextsRefused = WritesRefusal files world old new
+EndsRun manner files world input left old new Usage = ⊥
+EndsRun manner files world input left old new SomeRefused = AreAccepted files × WritesAnswers files world manner input true old new
+EndsRun manner files world input left old new InputOutput = CutsRun files world manner input old new
+EndsRun manner files world input left old new OutOfMemory = RunsOut files world manner input left old new
 
 -- what is written of files that are checked
 abbrev pub EndsCheck : (terms : Bool) → List SourceFile → (old new : Option (List ℕ)) → Status → Type 0
@@ -61,7 +62,7 @@ EndsFmt width files old new OutOfMemory = AppendsBeginning old new (codes "out o
 
 -- what is written of a job on files, in the world of a file, by the status with which it ends
 abbrev pub EndsJob : Job → List SourceFile → (world : SourceFile) → (input left old new : Option (List ℕ)) → Status → Type 0
-EndsJob (Run depth plain) files world input left old new status = EndsRun depth plain files world input left old new status
+EndsJob (Run manner) files world input left old new status = EndsRun manner files world input left old new status
 EndsJob (Check terms) files world input left old new status = EndsCheck terms files old new status
 EndsJob (Blocks terms dot) files world input left old new status = EndsBlocks (names_of terms) dot files old new status
 EndsJob (Fmt width) files world input left old new status = EndsFmt width files old new status

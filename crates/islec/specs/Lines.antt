@@ -30,8 +30,9 @@ each_of id rows = unwrap_or (all_of id rows) []
 
 -- the job is the command of this name, with the numbers and flags that its rows hold
 abbrev pub SaysJob : Text → List Row → Job → Type 0
-SaysJob name rows (Run depth plain) =
-    (name ≡ codes "run") × (number_of (codes "depth") rows ≡ Some depth) × (flag_of (codes "plain") rows ≡ plain)
+SaysJob name rows (Run manner) =
+    (name ≡ codes "run") × (number_of (codes "depth") rows ≡ Some manner.depth) × (flag_of (codes "plain") rows ≡ manner.plain)
+    × (flag_of (codes "steps") rows ≡ manner.steps)
 SaysJob name rows (Check terms) = (name ≡ codes "check") × (flag_of (codes "terms") rows ≡ terms)
 SaysJob name rows (Blocks terms dot) =
     (name ≡ codes "blocks") × (each_of (codes "term") rows ≡ names_of terms) × (flag_of (codes "dot") rows ≡ dot)
@@ -39,7 +40,7 @@ SaysJob name rows (Fmt width) = (name ≡ codes "fmt") × (number_of (codes "wid
 
 -- the name of a world's file, which only `run` takes
 abbrev pub world_of : Job → List Row → Option Text
-world_of (Run depth plain) rows = first_of (codes "world") rows
+world_of (Run manner) rows = first_of (codes "world") rows
 world_of _ rows = None
 
 -- the line is what a command and its rows say

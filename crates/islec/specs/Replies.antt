@@ -8,17 +8,20 @@ use Rattle.isle_meaning.specs.Worlds.{Answers, Event}
 use Rattle.isle_terms.specs.Values.{ValueTree, ValueTrees, value_list}
 use Rattle.isle_run.specs.declared.calls.answer.Answer.{Answer}
 use Rattle.isle_run.specs.declared.calls.answer.Answer.TheVariants.{Value, None as NoAnswer, Stuck, Spent, IllTyped}
+use Rattle.isle_run.specs.declared.calls.answer.Called.{Called}
 use Rattle.isle_run.specs.declared.calls.answer.Effect.{Effect}
 use Rattle.isle_run.specs.declared.program.Program.{Program}
 use Rattle.isle_run.specs.declared.query.QueryFault.{QueryFault}
 use Rattle.isle_run.specs.declared.query.QueryFault.TheVariants.{Q1, Q2, Q3, Q4, Memory}
 use Rattle.isle_run.specs.Meanings.{checked}
-use Rattle.isle_run.specs.PlainCalls.{TellsPlainly, TellsCall, BeginsPlainly}
+use Rattle.isle_run.specs.PlainCalls.{TellsPlainly, BeginsPlainly}
+use Rattle.isle_run.specs.TreeCalls.{TellsByTree, BeginsByTree}
 use Rattle.isle_run.specs.Programs.{term_name}
 use Rattle.isle_run.specs.Queries.{RefusesText, IsCallIn}
 use Rattle.isle_run.specs.Calls.Answers.{answers_in, name_of_term, IsEventOf, LeadsThrough}
 use Rattle.isle_run.specs.Values.TextTokens.{AreTokensOf}
 use Rattle.isle_run.specs.Values.Text.{value_text, fields_text}
+use Rattle.islec.specs.declared.answer.Manner.{Manner}
 use Rattle.islec.specs.declared.answer.Reply.{Reply}
 
 -- the line that tells for which of the four causes a query is refused
@@ -63,23 +66,25 @@ counts_as_refused (Stuck term args) = true
 counts_as_refused Spent = true
 counts_as_refused (IllTyped term args) = true
 
--- what queries are answered in: a program, what a world answers its pure terms, what an effect makes of a world, how many calls of terms
--- with rules may be open at once, and whether the plain road has to answer
+-- the line that tells how many steps a call took, where it is asked for
+abbrev pub steps_line : Bool → ℕ → List ℕ
+steps_line true steps = codes "# steps " ++ (decimal steps ++ codes "\n")
+steps_line false steps = []
+
+-- what queries are answered in: a program, what a world answers its pure terms, what an effect makes of a world, and how they are answered
 pub record Setting (V : Type 0) : Type 1 where
   pub program : Program
   pub answers : Answers
   pub step : V → List ℕ → ValueTrees → Option ValueTree → V → Type 0
-  pub depth : ℕ
-  pub plain : Bool
+  pub manner : Manner
 
 abbrev pub setting_in : {V : Type 0} → (V → List ℕ → ValueTrees → Option ValueTree → V → Type 0) → Program
-    → (List ℕ → ValueTrees → Option ValueTree) → (List ℕ → ValueTree → Option ValueTrees) → ℕ → Bool → Setting V
-setting_in step program constructs extracts depth plain = record {
+    → (List ℕ → ValueTrees → Option ValueTree) → (List ℕ → ValueTree → Option ValueTrees) → Manner → Setting V
+setting_in step program constructs extracts manner = record {
   program = program;
   answers = answers_in program constructs extracts;
   step = step;
-  depth = depth;
-  plain = plain;
+  manner = manner;
 }
 
 -- these effects lead in steps from one world to another
@@ -90,35 +95,36 @@ Leads setting before made after = LeadsThrough setting.step (name_of_term settin
 abbrev pub Reaches : {V : Type 0} → Setting V → V → V → Type 0
 Reaches setting before after = (made : List Event) × Leads setting before made after
 
--- what a call's answer tells, on the plain road where that has to answer
-abbrev pub TellsBy : Bool → Program → Answers → (depth term : ℕ) → Values → Answer → List Event → Type 0
-TellsBy true program w depth term args answer made = (steps : ℕ) × TellsPlainly program w depth term args (record { answer = answer; steps = steps }) made
-TellsBy false program w depth term args answer made = TellsCall program w depth term args answer made
+-- what a call tells: on the plain road, where rules are tried one by one, or by the tree of its term
+abbrev pub TellsBy : Bool → Program → Answers → (depth term : ℕ) → Values → Called → List Event → Type 0
+TellsBy true program w depth term args called made = TellsPlainly program w depth term args called made
+TellsBy false program w depth term args called made = TellsByTree program w depth term args called made
 
--- with which effects a call begins, on the plain road where that has to answer; one of a pure term with none
+-- with which effects a call begins, on either road; one of a pure term with none
 abbrev pub BeginsBy : Bool → Program → Answers → (depth term : ℕ) → Values → List Event → Type 0
 BeginsBy true program w depth term args made = BeginsPlainly program w depth term args made
-BeginsBy false program w depth term args made = (checked program).terms.pure term ≡ true → made ≡ []
+BeginsBy false program w depth term args made = BeginsByTree program w depth term args made
 
 -- The effects and the answer of a call: just these effects are made in order, which lead in steps from the world before to the one after,
--- and the call comes to this answer. Where the plain road has to answer, it is run by its term's rules, one by one.
-abbrev pub IsOutcome : {V : Type 0} → Setting V → V → TermId → ValueTrees → List Effect → Answer → V → Type 0
-IsOutcome setting before term args effects answer after =
+-- and the call comes to this answer, on the road that is asked for, after so many steps.
+abbrev pub IsOutcome : {V : Type 0} → Setting V → V → TermId → ValueTrees → List Effect → Called → V → Type 0
+IsOutcome setting before term args effects called after =
     (made : List Event) × AllZip (IsEventOf setting.program) effects made × Leads setting before made after
-    × TellsBy setting.plain setting.program setting.answers setting.depth term.0 (values_of (checked setting.program).values args) answer made
+    × TellsBy setting.manner.plain setting.program setting.answers setting.manner.depth term.0 (values_of (checked setting.program).values args) called made
 
 -- a call that is begun and not answered: its effects so far lead in steps from the world before to the one after
 abbrev pub BeginsCall : {V : Type 0} → Setting V → V → TermId → ValueTrees → V → Type 0
 BeginsCall setting before term args after = (made : List Event) × Leads setting before made after
-    × BeginsBy setting.plain setting.program setting.answers setting.depth term.0 (values_of (checked setting.program).values args) made
+    × BeginsBy setting.manner.plain setting.program setting.answers setting.manner.depth term.0 (values_of (checked setting.program).values args) made
 
--- the lines of a call's effects in order and that of its answer, and whether the answer counts as refused
+-- the lines of a call's effects in order and that of its answer, with that of its steps where it is asked for, and whether the answer counts as
+-- refused
 pub record AnswersCall {V : Type 0} (setting : Setting V) (before : V) (term : TermId) (args : ValueTrees) (lines : List ℕ) (refused : Bool) (after : V) : Type 0 where
   pub effects : List Effect
-  pub answer : Answer
-  pub outcome : IsOutcome setting before term args effects answer after
-  pub written : lines ≡ flat_map effect_line effects ++ answer_line setting.program answer
-  pub counted : refused ≡ counts_as_refused answer
+  pub called : Called
+  pub outcome : IsOutcome setting before term args effects called after
+  pub written : lines ≡ flat_map effect_line effects ++ (answer_line setting.program called.answer ++ steps_line setting.manner.steps called.steps)
+  pub counted : refused ≡ counts_as_refused called.answer
 
 -- the number of a cause for which a query is refused
 abbrev pub cause_number : QueryFault → Option ℕ

@@ -11,6 +11,7 @@ use Rattle.isle_run.specs.declared.worlds.reading.WorldFault.{WorldFault}
 use Rattle.isle_run.specs.Worlds.Entries.{EntryTree}
 use Rattle.isle_run.specs.Worlds.Tables.{HasEntries, constructed, extracted}
 use Rattle.isle_run.specs.Worlds.Texts.{SpellsWorld, RefusesWorld}
+use Rattle.islec.specs.declared.answer.Manner.{Manner}
 use Rattle.islec.specs.declared.serve.ServeFault.TheVariants.{Memory}
 use Rattle.islec.specs.Replies.{Setting, setting_in}
 use Rattle.islec.specs.Terms.{TellsProgram}
@@ -50,18 +51,18 @@ CutsCheck files asked old new = ((program : Program) × IsProgramOf files progra
 abbrev pub leaves : List EntryTree → List ℕ → ValueTrees → Option ValueTree → List EntryTree → Type 0
 leaves table name args answer next = (answer ≡ constructed table name args) × (next ≡ table)
 
--- a program, in the world of entries, by which so many calls may be open at once, on the plain road where that has to answer
-abbrev pub in_entries : Program → List EntryTree → ℕ → Bool → Setting (List EntryTree)
-in_entries program entries depth plain = setting_in leaves program (constructed entries) (extracted entries) depth plain
+-- a program in the world of entries, asked in this manner
+abbrev pub in_entries : Program → List EntryTree → Manner → Setting (List EntryTree)
+in_entries program entries manner = setting_in leaves program (constructed entries) (extracted entries) manner
 
 -- a table has exactly the entries that a world's file spells
 abbrev pub IsTableOf : Program → (world : SourceFile) → (table : List EntryTree) → Type 0
 IsTableOf program world table = (entries : List EntryTree) × SpellsWorld program world.text entries × HasEntries table entries
 
 -- a program's replies to each line of an input are written, in the world of a file
-abbrev pub AnswersIn : Program → (world : SourceFile) → (depth : ℕ) → (plain : Bool) → (input : Option (List ℕ)) → Bool → (old new : Option (List ℕ)) → Type 0
-AnswersIn program world depth plain input refused old new = (table after : List EntryTree) × IsTableOf program world table
-    × AnswersAll (in_entries program table depth plain) table input refused old new after
+abbrev pub AnswersIn : Program → (world : SourceFile) → (manner : Manner) → (input : Option (List ℕ)) → Bool → (old new : Option (List ℕ)) → Type 0
+AnswersIn program world manner input refused old new = (table after : List EntryTree) × IsTableOf program world table
+    × AnswersAll (in_entries program table manner) table input refused old new after
 
 -- the line that tells why a world is refused is written
 pub record TellsWorld (program : Program) (world : SourceFile) (old new : Option (List ℕ)) : Type 0 where
@@ -76,39 +77,39 @@ pub record CutsWorld (program : Program) (world : SourceFile) (old new : Option 
   pub written : AppendsBeginning old new (world_fault_line program world fault)
 
 -- a beginning of a program's replies to first lines of an input is written, or one of the line that tells why a world is refused
-abbrev pub CutsIn : Program → (world : SourceFile) → (depth : ℕ) → (plain : Bool) → (input old new : Option (List ℕ)) → Type 0
-CutsIn program world depth plain input old new = ((table after : List EntryTree) × IsTableOf program world table
-    × AnswersCut (in_entries program table depth plain) table input old new after) ⊎ CutsWorld program world old new
+abbrev pub CutsIn : Program → (world : SourceFile) → (manner : Manner) → (input old new : Option (List ℕ)) → Type 0
+CutsIn program world manner input old new = ((table after : List EntryTree) × IsTableOf program world table
+    × AnswersCut (in_entries program table manner) table input old new after) ⊎ CutsWorld program world old new
 
 -- nothing is read and nothing is written
 abbrev pub IsUntouched : (input left old new : Option (List ℕ)) → Type 0
 IsUntouched input left old new = (left ≡ input) × Keeps old new
 
 -- replies of a program to first lines of an input are written, or nothing is read and written
-abbrev pub StopsIn : Program → (world : SourceFile) → (depth : ℕ) → (plain : Bool) → (input left old new : Option (List ℕ)) → Type 0
-StopsIn program world depth plain input left old new = IsUntouched input left old new ⊎ ((table after : List EntryTree) × IsTableOf program world table
-    × AnswersFirst (in_entries program table depth plain) Memory table input left old new after)
+abbrev pub StopsIn : Program → (world : SourceFile) → (manner : Manner) → (input left old new : Option (List ℕ)) → Type 0
+StopsIn program world manner input left old new = IsUntouched input left old new ⊎ ((table after : List EntryTree) × IsTableOf program world table
+    × AnswersFirst (in_entries program table manner) Memory table input left old new after)
 
 -- the replies of the files' program to each line of an input are written, in the world of a file
-abbrev pub WritesAnswers : List SourceFile → (world : SourceFile) → (depth : ℕ) → (plain : Bool) → (input : Option (List ℕ)) → Bool → (old new : Option (List ℕ)) → Type 0
-WritesAnswers files world depth plain input refused old new =
-    (program : Program) × IsProgramOf files program × AnswersIn program world depth plain input refused old new
+abbrev pub WritesAnswers : List SourceFile → (world : SourceFile) → (manner : Manner) → (input : Option (List ℕ)) → Bool → (old new : Option (List ℕ)) → Type 0
+WritesAnswers files world manner input refused old new =
+    (program : Program) × IsProgramOf files program × AnswersIn program world manner input refused old new
 
 -- the report of the files' faults is written, or, of accepted files, the line that tells why their world is refused
 abbrev pub WritesRefusal : List SourceFile → (world : SourceFile) → (old new : Option (List ℕ)) → Type 0
 WritesRefusal files world old new = WritesFaults files old new ⊎ ((program : Program) × IsProgramOf files program × TellsWorld program world old new)
 
 -- a beginning of the replies, of the report of faults or of the line that tells why the world is refused is written
-abbrev pub CutsRun : List SourceFile → (world : SourceFile) → (depth : ℕ) → (plain : Bool) → (input old new : Option (List ℕ)) → Type 0
-CutsRun files world depth plain input old new =
-    ((program : Program) × IsProgramOf files program × CutsIn program world depth plain input old new) ⊎ CutsFaults files old new
+abbrev pub CutsRun : List SourceFile → (world : SourceFile) → (manner : Manner) → (input old new : Option (List ℕ)) → Type 0
+CutsRun files world manner input old new =
+    ((program : Program) × IsProgramOf files program × CutsIn program world manner input old new) ⊎ CutsFaults files old new
 
 -- replies of the files' program to first lines of an input are written, or nothing is read and written
-abbrev pub AnswersSome : List SourceFile → (world : SourceFile) → (depth : ℕ) → (plain : Bool) → (input left old new : Option (List ℕ)) → Type 0
-AnswersSome files world depth plain input left old new =
-    IsUntouched input left old new ⊎ ((program : Program) × IsProgramOf files program × StopsIn program world depth plain input left old new)
+abbrev pub AnswersSome : List SourceFile → (world : SourceFile) → (manner : Manner) → (input left old new : Option (List ℕ)) → Type 0
+AnswersSome files world manner input left old new =
+    IsUntouched input left old new ⊎ ((program : Program) × IsProgramOf files program × StopsIn program world manner input left old new)
 
 -- the same, and behind it a beginning of the line `out of memory`
-abbrev pub RunsOut : List SourceFile → (world : SourceFile) → (depth : ℕ) → (plain : Bool) → (input left old new : Option (List ℕ)) → Type 0
-RunsOut files world depth plain input left old new =
-    (held : Option (List ℕ)) × AnswersSome files world depth plain input left old held × AppendsBeginning held new (codes "out of memory\n")
+abbrev pub RunsOut : List SourceFile → (world : SourceFile) → (manner : Manner) → (input left old new : Option (List ℕ)) → Type 0
+RunsOut files world manner input left old new =
+    (held : Option (List ℕ)) × AnswersSome files world manner input left old held × AppendsBeginning held new (codes "out of memory\n")

@@ -1,14 +1,30 @@
 //! The lines that answer a query.
-ghost use Rattle.std.specs.Prelude.{◌≡◌, ◌++◌, IfOk, OnOk, OnErr, IsUtf8, string_bytes};
+ghost use Rattle.std.specs.Prelude.{◌≡◌, ◌++◌, List, IfOk, OnOk, OnErr, IsUtf8, string_bytes};
+ghost use Rattle.isle_meaning.specs.GroundValues.{values_of};
 ghost use Rattle.isle_meaning.specs.ValueTypes.{AreOfTypes};
+ghost use Rattle.isle_meaning.specs.Worlds.{Event};
 ghost use Rattle.isle_terms.specs.Values.{value_list};
+ghost use Rattle.isle_run.specs.Calls.Answers.{answers_in, HasMade};
 ghost use Rattle.isle_run.specs.Facts.Reach.{IsRunnable};
+ghost use Rattle.isle_run.specs.Meanings.{checked};
 ghost use Rattle.isle_run.specs.Programs.{types_of, terms_of, types_taken, value_facts};
+ghost use Rattle.isle_run.specs.TreeCalls.{IsCompiled};
 ghost use Rattle.isle_run.specs.Values.Text.{value_text};
-ghost use Rattle.islec.specs.Replies.{setting_in, Refuses, IsReply, AnswersCall, BeginsCall, LosesReply, effect_line, answer_line, answer_text, call_text, given_text, counts_as_refused};
+ghost use Rattle.islec.specs.Replies.{BeginsBy, TellsBy, steps_line, setting_in, Refuses, IsReply, AnswersCall, BeginsCall, LosesReply, effect_line, answer_line, answer_text, call_text, given_text, counts_as_refused};
 
-use isle_run::{Answer, Effect, Program, QueryFault, TermId, Value, World, is_blank};
+use isle_run::{Answer, Called, Effect, Program, QueryFault, TermId, Value, World, is_blank};
 use std::alloc::{AllocError, Global};
+
+/// How queries are answered.
+#[derive(Clone, Copy)]
+pub struct Manner {
+    /// How many calls of terms with rules may be open at once.
+    pub depth: u32,
+    /// Whether a term's rules are tried one by one. Else the term's tree is walked.
+    pub plain: bool,
+    /// Whether each answer is followed by a line that tells how many steps its call took.
+    pub steps: bool,
+}
 
 /// What a line of input is answered.
 #[derive(Drop)]
@@ -19,20 +35,19 @@ pub struct Reply {
     pub refused: bool,
 }
 
-/// Answers a line of input, given without its newline. It has no lines where it has no tokens. `plain` asks for the plain road, which
-/// answers in either case.
+/// Answers a line of input, given without its newline, by a compiled program (its condition). It has no lines where it has no tokens.
 pub fn reply_to<V: World>(
     alloc: Global,
     program: &Program,
     world: &mut V,
-    depth: u32,
-    plain: bool,
+    manner: Manner,
     line: &[u8],
 ) -> Result<Reply, AllocError>
+    requires { IsCompiled program.now }
     ensures not_text { ¬ (IsUtf8 line.now) → IfOk result (Refuses 4) }
-    ensures reply { IfOk result (λ reply. IsReply (setting_in V.step program.now (V.constructs world.old) (V.extracts world.old) depth plain)
+    ensures reply { IfOk result (λ reply. IsReply (setting_in V.step program.now (V.constructs world.old) (V.extracts world.old) manner)
         world.old line.now (string_bytes reply.lines) reply.refused world.new) }
-    ensures lost { OnErr result (LosesReply (setting_in V.step program.now (V.constructs world.old) (V.extracts world.old) depth plain)
+    ensures lost { OnErr result (LosesReply (setting_in V.step program.now (V.constructs world.old) (V.extracts world.old) manner)
         world.old line.now world.new) }
     ensures same { (V.constructs world.new ≡ V.constructs world.old) × (V.extracts world.new ≡ V.extracts world.old) }
 {
@@ -46,7 +61,7 @@ pub fn reply_to<V: World>(
         });
     }
     match program.query(alloc, text) {
-        Ok((term, args)) => reply_to_call(alloc, program, world, depth, plain, term, args),
+        Ok((term, args)) => reply_to_call(alloc, program, world, manner, term, args),
         Err(QueryFault::Q1) => refused(alloc, 1),
         Err(QueryFault::Q2) => refused(alloc, 2),
         Err(QueryFault::Q3) => refused(alloc, 3),
@@ -64,36 +79,66 @@ fn refused(alloc: Global, cause: u8) -> Result<Reply, AllocError>
     })
 }
 
-// The plain road answers, whether or not it is asked for.
 fn reply_to_call<V: World>(
     alloc: Global,
     program: &Program,
     world: &mut V,
-    depth: u32,
-    _plain: bool,
+    manner: Manner,
     term: TermId,
     args: Vec<Value>,
 ) -> Result<Reply, AllocError>
+    requires compiled { IsCompiled program.now }
     requires callable { IsRunnable (types_of program.now) (terms_of program.now) term.0 }
     requires typed { AreOfTypes (value_facts program.now) (value_list args.items) (types_taken program.now term) }
     ensures answers { IfOk result (λ reply. AnswersCall
-        (setting_in V.step program.now (V.constructs world.old) (V.extracts world.old) depth _plain) world.old term (value_list args.items)
+        (setting_in V.step program.now (V.constructs world.old) (V.extracts world.old) manner) world.old term (value_list args.items)
         (string_bytes reply.lines) reply.refused world.new) }
-    ensures lost { OnErr result (BeginsCall (setting_in V.step program.now (V.constructs world.old) (V.extracts world.old) depth _plain)
+    ensures lost { OnErr result (BeginsCall (setting_in V.step program.now (V.constructs world.old) (V.extracts world.old) manner)
         world.old term (value_list args.items) world.new) }
     ensures same { (V.constructs world.new ≡ V.constructs world.old) × (V.extracts world.new ≡ V.extracts world.old) }
 {
     let mut effects = Vec::new(alloc);
-    let called = program.call_plain(alloc, term, args, depth, world, &mut effects)?;
+    let called = call_by(alloc, program, world, manner, term, args, &mut effects)?;
     let mut lines = String::new(alloc);
     for effect in &effects {
         push_effect(alloc, &mut lines, effect)?;
     }
     push_answer(alloc, &mut lines, program, &called.answer)?;
+    push_steps(alloc, &mut lines, manner.steps, called.steps)?;
     Ok(Reply {
         lines,
         refused: is_refused(&called.answer),
     })
+}
+
+/// Answers a call by the road that is asked for.
+fn call_by<V: World>(
+    alloc: Global,
+    program: &Program,
+    world: &mut V,
+    manner: Manner,
+    term: TermId,
+    args: Vec<Value>,
+    effects: &mut Vec<Effect>,
+) -> Result<Called, AllocError>
+    requires compiled { IsCompiled program.now }
+    requires callable { IsRunnable (types_of program.now) (terms_of program.now) term.0 }
+    requires typed { AreOfTypes (checked program.now).values (value_list args.items) ((checked program.now).terms.inputs term.0) }
+    ensures ran { IfOk result (λ called. (made : List Event)
+        × HasMade V.step program.now world.old effects.old.items world.new effects.new.items made
+        × TellsBy manner.plain program.now (answers_in program.now (V.constructs world.old) (V.extracts world.old)) manner.depth term.0
+        (values_of (checked program.now).values (value_list args.items)) called made) }
+    ensures lost { OnErr result ((made : List Event)
+        × HasMade V.step program.now world.old effects.old.items world.new effects.new.items made
+        × BeginsBy manner.plain program.now (answers_in program.now (V.constructs world.old) (V.extracts world.old)) manner.depth term.0
+        (values_of (checked program.now).values (value_list args.items)) made) }
+    ensures same { (V.constructs world.new ≡ V.constructs world.old) × (V.extracts world.new ≡ V.extracts world.old) }
+{
+    if manner.plain {
+        program.call_plain(alloc, term, args, manner.depth, world, effects)
+    } else {
+        program.call(alloc, term, args, manner.depth, world, effects)
+    }
 }
 
 /// Whether an answer counts as refused.
@@ -138,6 +183,18 @@ fn push_answer(
 {
     push_answer_text(alloc, lines, program, answer)?;
     lines.push_str("\n")
+}
+
+/// Writes the line `# steps N` behind others where it is asked for.
+fn push_steps(alloc: Global, lines: &mut String, asked: bool, steps: u128) -> Result<(), AllocError>
+    ensures { OnOk result (string_bytes lines.new ≡ string_bytes lines.old ++ steps_line asked steps) }
+{
+    if asked {
+        let line = format!(in alloc; "# steps {steps}\n")?;
+        lines.push_str(line.as_str())
+    } else {
+        Ok(())
+    }
 }
 
 fn push_answer_text(

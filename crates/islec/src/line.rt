@@ -5,11 +5,12 @@ ghost use Rattle.islec.specs.declared.line.LineFault.TheVariants.{Memory};
 ghost use Rattle.islec.specs.Faults.{BecomesFault};
 ghost use Rattle.islec.specs.Jobs.{HasFiles};
 ghost use Rattle.islec.specs.Commands.{IsArgument, IsCommand, blocks, blocks_rules, check, check_rules, fmt};
-ghost use Rattle.islec.specs.Commands.{depth as the_depth, rule_files as the_files};
+ghost use Rattle.islec.specs.Commands.{depth as the_depth, plain as the_plain, rule_files as the_files, steps as the_steps};
 ghost use Rattle.islec.specs.Commands.{fmt_rules, islec, run, run_rules};
 ghost use Rattle.islec.specs.Lines.{ReadsLine, RefusesLine, SaysLine, names_of};
 ghost use Rattle.islec.specs.Rows.{FillsRules};
 
+use crate::answer::Manner;
 use clap::builder::ValueParser;
 use clap::error::ErrorKind;
 use clap::{Arg, ArgAction, ArgMatches, Command, Error};
@@ -29,9 +30,8 @@ pub struct Line {
 /// A command and its numbers.
 #[derive(Drop)]
 pub enum Job {
-    /// Answers queries, with at most `depth` calls of terms with rules open at once; `plain` asks for the road that tries
-    /// rules one by one, which is the only one so far.
-    Run { depth: u32, plain: bool },
+    /// Answers queries, so.
+    Run(Manner),
     /// Tells whether the files are accepted, and with `terms` which terms can be run.
     Check { terms: bool },
     /// Prints the trees of the rules of the terms of these names; of all terms with rules where there is none. With `dot` they are one
@@ -111,15 +111,12 @@ fn run_command<'a>(alloc: Global) -> Result<Command<'a>, AllocError>
         .long("world")
         .value_name("FILE")
         .help("The file that tells what external terms answer");
-    let plain = Arg::new(alloc, "plain")
-        .long("plain")
-        .help("Try rules one by one")
-        .action(ArgAction::SetTrue);
     Command::new(alloc, "run")
         .about("Answers queries from standard input, one a line")
         .arg(world)?
         .arg(depth(alloc))?
-        .arg(plain)?
+        .arg(plain(alloc))?
+        .arg(steps(alloc))?
         .arg(rule_files(alloc))
 }
 
@@ -132,6 +129,24 @@ fn depth<'a>(alloc: Global) -> Arg<'a>
         .help("How many calls of terms with rules may be open at once")
         .value_parser(clap::value_parser!(u32))
         .default_value("100")
+}
+
+fn plain<'a>(alloc: Global) -> Arg<'a>
+    ensures { IsArgument the_plain result }
+{
+    Arg::new(alloc, "plain")
+        .long("plain")
+        .help("Try rules one by one")
+        .action(ArgAction::SetTrue)
+}
+
+fn steps<'a>(alloc: Global) -> Arg<'a>
+    ensures { IsArgument the_steps result }
+{
+    Arg::new(alloc, "steps")
+        .long("steps")
+        .help("Tell behind each answer how many steps its call took")
+        .action(ArgAction::SetTrue)
 }
 
 fn check_command<'a>(alloc: Global) -> Result<Command<'a>, AllocError>
@@ -206,12 +221,17 @@ fn run_line(alloc: Global, matches: &ArgMatches<'_>) -> Result<Line, AllocError>
     };
     let files = copies(alloc, matches.get_strs("file").unwrap_or(&[]))?;
     let plain = matches.get_flag("plain");
+    let steps = matches.get_flag("steps");
     let world = match matches.get_str("world") {
         Some(name) => Some(String::from_str(alloc, name)?),
         None => None,
     };
     Ok(Line {
-        job: Job::Run { depth, plain },
+        job: Job::Run(Manner {
+            depth,
+            plain,
+            steps,
+        }),
         files,
         world,
     })

@@ -4,6 +4,7 @@ ghost use Rattle.std.specs.Io.KnownBytes.{Appends, Keeps};
 ghost use Rattle.isle_syntax.specs.Errors.{report_text};
 ghost use Rattle.isle_syntax.specs.Positions.Files.{source_file};
 ghost use Rattle.isle_run.specs.Compiled.{AreAccepted};
+ghost use Rattle.isle_run.specs.TreeCalls.{IsCompiled};
 ghost use Rattle.islec.specs.Endings.{EndsJob};
 ghost use Rattle.islec.specs.Replies.{setting_in};
 ghost use Rattle.islec.specs.Running.{WritesFaults, WritesAccepted, WritesAnswers, WritesRefusal, CutsCheck, CutsRun, AnswersSome, AnswersIn, TellsWorld, CutsIn, StopsIn};
@@ -14,6 +15,7 @@ ghost use Rattle.islec.specs.Writing.{AppendsBeginning};
 ghost use Rattle.islec.specs.Statuses.{code_of, IsEnd, EndsAs};
 ghost use Rattle.islec.specs.declared.status.Status.{Status};
 
+use crate::answer::Manner;
 use crate::blocks::blocks;
 use crate::format::format;
 use crate::line::Job;
@@ -43,8 +45,8 @@ pub fn perform<R: BufRead, W: Write>(
         (R.remaining reader.old) (R.remaining reader.new) (W.contents writer.old) (W.contents writer.new) status }
 {
     let status = match job {
-        Job::Run { depth, plain } => {
-            let done = run(alloc, depth, plain, texts, world, reader, writer);
+        Job::Run(manner) => {
+            let done = run(alloc, manner, texts, world, reader, writer);
             conclude(done, writer)
         }
         Job::Check { terms } => {
@@ -78,8 +80,7 @@ fn conclude<W: Write>(done: Result<Status, ServeFault>, writer: &mut W) -> Statu
 /// Answers the queries of an input by the program of texts in a world, or writes why the texts or the world are refused.
 fn run<R: BufRead, W: Write>(
     alloc: Global,
-    depth: u32,
-    plain: bool,
+    manner: Manner,
     texts: Vec<(String, String)>,
     world: Option<(String, String)>,
     reader: &mut R,
@@ -88,24 +89,24 @@ fn run<R: BufRead, W: Write>(
     ensures answered { IfOk result (λ status. (status ≡ Status.AllWell) ⊎ (status ≡ Status.SomeRefused)
         → AreAccepted (map source_file texts.items)) }
     ensures all_well { IfOk result (λ status. status ≡ Status.AllWell
-        → WritesAnswers (map source_file texts.items) (world_file world) depth plain (R.remaining reader.old) false
+        → WritesAnswers (map source_file texts.items) (world_file world) manner (R.remaining reader.old) false
         (W.contents writer.old) (W.contents writer.new)) }
     ensures some_refused { IfOk result (λ status. status ≡ Status.SomeRefused
-        → WritesAnswers (map source_file texts.items) (world_file world) depth plain (R.remaining reader.old) true
+        → WritesAnswers (map source_file texts.items) (world_file world) manner (R.remaining reader.old) true
         (W.contents writer.old) (W.contents writer.new)) }
     ensures refused { IfOk result (λ status. status ≡ Status.TextsRefused → WritesRefusal
         (map source_file texts.items) (world_file world) (W.contents writer.old) (W.contents writer.new)) }
     ensures other { IfOk result IsEnd }
     ensures cut { IfErr result (λ fault. fault ≢ ServeFault.Memory
-        → CutsRun (map source_file texts.items) (world_file world) depth plain (R.remaining reader.old)
+        → CutsRun (map source_file texts.items) (world_file world) manner (R.remaining reader.old)
         (W.contents writer.old) (W.contents writer.new)) }
     ensures memory { IfErr result (λ fault. fault ≡ ServeFault.Memory
-        → AnswersSome (map source_file texts.items) (world_file world) depth plain (R.remaining reader.old) (R.remaining reader.new)
+        → AnswersSome (map source_file texts.items) (world_file world) manner (R.remaining reader.old) (R.remaining reader.new)
         (W.contents writer.old) (W.contents writer.new)) }
 {
     let files = Rc::new(alloc, Files::from_names_and_contents(alloc, texts)?)?;
     match compile(alloc, files) {
-        Ok(program) => run_program(alloc, &program, world, depth, plain, reader, writer),
+        Ok(program) => run_program(alloc, &program, world, manner, reader, writer),
         Err(Refused::Faults(errors)) => refuse(alloc, &errors, writer),
         Err(Refused::Memory) => Err(ServeFault::Memory),
     }
@@ -129,26 +130,26 @@ fn run_program<R: BufRead, W: Write>(
     alloc: Global,
     program: &Program,
     world: Option<(String, String)>,
-    depth: u32,
-    plain: bool,
+    manner: Manner,
     reader: &mut R,
     writer: &mut W,
 ) -> Result<Status, ServeFault>
+    requires { IsCompiled program.now }
     ensures all_well { IfOk result (λ status. status ≡ Status.AllWell → AnswersIn program.now
-        (world_file world) depth plain (R.remaining reader.old) false (W.contents writer.old) (W.contents writer.new)) }
+        (world_file world) manner (R.remaining reader.old) false (W.contents writer.old) (W.contents writer.new)) }
     ensures some_refused { IfOk result (λ status. status ≡ Status.SomeRefused → AnswersIn program.now
-        (world_file world) depth plain (R.remaining reader.old) true (W.contents writer.old) (W.contents writer.new)) }
+        (world_file world) manner (R.remaining reader.old) true (W.contents writer.old) (W.contents writer.new)) }
     ensures refused { IfOk result (λ status. status ≡ Status.TextsRefused → TellsWorld
         program.now (world_file world) (W.contents writer.old) (W.contents writer.new)) }
     ensures other { IfOk result IsEnd }
     ensures cut { IfErr result (λ fault. fault ≢ ServeFault.Memory → CutsIn program.now
-        (world_file world) depth plain (R.remaining reader.old) (W.contents writer.old) (W.contents writer.new)) }
+        (world_file world) manner (R.remaining reader.old) (W.contents writer.old) (W.contents writer.new)) }
     ensures memory { IfErr result (λ fault. fault ≡ ServeFault.Memory → StopsIn program.now
-        (world_file world) depth plain (R.remaining reader.old) (R.remaining reader.new) (W.contents writer.old) (W.contents writer.new)) }
+        (world_file world) manner (R.remaining reader.old) (R.remaining reader.new) (W.contents writer.old) (W.contents writer.new)) }
 {
     let (name, text) = world_parts(alloc, world)?;
     match TableWorld::read(alloc, text.as_str(), program) {
-        Ok(mut table) => answer(alloc, program, &mut table, depth, plain, reader, writer),
+        Ok(mut table) => answer(alloc, program, &mut table, manner, reader, writer),
         Err(WorldFault::Memory(_)) => Err(ServeFault::Memory),
         Err(fault) => refuse_world(alloc, program, name.as_str(), text.as_str(), &fault, writer),
     }
@@ -159,26 +160,26 @@ fn answer<V: World, R: BufRead, W: Write>(
     alloc: Global,
     program: &Program,
     world: &mut V,
-    depth: u32,
-    plain: bool,
+    manner: Manner,
     reader: &mut R,
     writer: &mut W,
 ) -> Result<Status, ServeFault>
+    requires { IsCompiled program.now }
     ensures all_well { IfOk result (λ status. status ≡ Status.AllWell → AnswersAll
-        (setting_in V.step program.now (V.constructs world.old) (V.extracts world.old) depth plain)
+        (setting_in V.step program.now (V.constructs world.old) (V.extracts world.old) manner)
         world.old (R.remaining reader.old) false (W.contents writer.old) (W.contents writer.new) world.new) }
     ensures some_refused { IfOk result (λ status. status ≡ Status.SomeRefused → AnswersAll
-        (setting_in V.step program.now (V.constructs world.old) (V.extracts world.old) depth plain)
+        (setting_in V.step program.now (V.constructs world.old) (V.extracts world.old) manner)
         world.old (R.remaining reader.old) true (W.contents writer.old) (W.contents writer.new) world.new) }
     ensures other { IfOk result (λ status. (status ≡ Status.AllWell) ⊎ (status ≡ Status.SomeRefused)) }
     ensures cut { IfErr result (λ fault. fault ≢ ServeFault.Memory → AnswersCut
-        (setting_in V.step program.now (V.constructs world.old) (V.extracts world.old) depth plain)
+        (setting_in V.step program.now (V.constructs world.old) (V.extracts world.old) manner)
         world.old (R.remaining reader.old) (W.contents writer.old) (W.contents writer.new) world.new) }
     ensures memory { IfErr result (λ fault. fault ≡ ServeFault.Memory → AnswersFirst
-        (setting_in V.step program.now (V.constructs world.old) (V.extracts world.old) depth plain) fault
+        (setting_in V.step program.now (V.constructs world.old) (V.extracts world.old) manner) fault
         world.old (R.remaining reader.old) (R.remaining reader.new) (W.contents writer.old) (W.contents writer.new) world.new) }
 {
-    match serve(alloc, program, world, depth, plain, reader, writer) {
+    match serve(alloc, program, world, manner, reader, writer) {
         Ok(Served::AllWell) => Ok(Status::AllWell),
         Ok(Served::SomeRefused) => Ok(Status::SomeRefused),
         Err(fault) => Err(fault),

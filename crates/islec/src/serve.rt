@@ -2,12 +2,13 @@
 ghost use Rattle.std.specs.Prelude.{◌≡◌, ◌≢◌, ◌↔◌, ◌++◌, ◌||◌, ℕ, Bool, List, [], ◌∷◌, OnOk, OnErr, IfOk, IfErr, IfSome, IfNone, IsTrue, codes, string_bytes};
 ghost use Rattle.std.specs.Io.KnownBytes.{Appends, Consumes, Keeps, IsAtEnd};
 ghost use Rattle.std.specs.Io.{StopsAt};
+ghost use Rattle.isle_run.specs.TreeCalls.{IsCompiled};
 ghost use Rattle.islec.specs.Replies.{IsReply, setting_in};
 ghost use Rattle.islec.specs.Serving.{AreLinesOf, AnswersAll, AnswersFirst, AnswersCut, KeepsBack, KeepsFirst, GivesLines, TakesLine, LosesNewline, IsCutShort, BreaksOff, some_refused};
 ghost use Rattle.islec.specs.Writing.{AppendsBeginning, ContinuesBy};
 ghost use Rattle.islec.specs.declared.serve.ServeFault.TheVariants.{Memory};
 
-use crate::answer::reply_to;
+use crate::answer::{Manner, reply_to};
 use isle_run::{Program, World};
 use std::alloc::{AllocError, AllocFailed, Global};
 use std::io::{BufRead, ErrorKind, Write};
@@ -62,26 +63,26 @@ const FULL: usize = 8192;
 /// Answers each line of `reader`, any bytes up to a newline or the end, by lines to `writer`. The
 /// lines of a query are written whole or, where memory runs out within it, not at all. Before a
 /// fault of reading or of memory is reported, the lines of all earlier queries are written: after a failed read of
-/// all lines that had ended. Each query is answered in the world that the one before leaves, on the plain road where
-/// `plain` asks for it.
+/// all lines that had ended. Each query is answered in the world that the one before leaves. The program is a
+/// compiled one (its condition).
 pub fn serve<V: World, R: BufRead, W: Write>(
     alloc: Global,
     program: &Program,
     world: &mut V,
-    depth: u32,
-    plain: bool,
+    manner: Manner,
     reader: &mut R,
     writer: &mut W,
 ) -> Result<Served, ServeFault>
+    requires { IsCompiled program.now }
     ensures continues { ContinuesBy (W.contents writer.old) (W.contents writer.new) }
     ensures answered { IfOk result (λ served. AnswersAll
-        (setting_in V.step program.now (V.constructs world.old) (V.extracts world.old) depth plain) world.old (R.remaining reader.old)
+        (setting_in V.step program.now (V.constructs world.old) (V.extracts world.old) manner) world.old (R.remaining reader.old)
         (some_refused served) (W.contents writer.old) (W.contents writer.new) world.new) }
     ensures stopped { IfErr result (λ fault. fault ≢ ServeFault.Write → AnswersFirst
-        (setting_in V.step program.now (V.constructs world.old) (V.extracts world.old) depth plain) fault
+        (setting_in V.step program.now (V.constructs world.old) (V.extracts world.old) manner) fault
         world.old (R.remaining reader.old) (R.remaining reader.new) (W.contents writer.old) (W.contents writer.new) world.new) }
     ensures cut { IfErr result (λ fault. fault ≡ ServeFault.Write → AnswersCut
-        (setting_in V.step program.now (V.constructs world.old) (V.extracts world.old) depth plain)
+        (setting_in V.step program.now (V.constructs world.old) (V.extracts world.old) manner)
         world.old (R.remaining reader.old) (W.contents writer.old) (W.contents writer.new) world.new) }
 {
     let mut unwritten = String::new(alloc);
@@ -89,8 +90,7 @@ pub fn serve<V: World, R: BufRead, W: Write>(
         alloc,
         program,
         world,
-        depth,
-        plain,
+        manner,
         reader,
         &mut unwritten,
         writer,
@@ -118,30 +118,29 @@ fn serve_lines<V: World, B: BufRead, W: Write>(
     alloc: Global,
     program: &Program,
     world: &mut V,
-    depth: u32,
-    plain: bool,
+    manner: Manner,
     input: &mut B,
     unwritten: &mut String,
     writer: &mut W,
 ) -> Result<Served, ServeFault>
-    requires { string_bytes unwritten.old ≡ [] }
+    requires compiled { IsCompiled program.now }
+    requires empty { string_bytes unwritten.old ≡ [] }
     ensures answered { IfOk result (λ served. (lines : List (List ℕ))
         × AreLinesOf (B.remaining input.old) lines
         × KeepsBack
-        (setting_in V.step program.now (V.constructs world.old) (V.extracts world.old) depth plain) world.old lines (some_refused served)
+        (setting_in V.step program.now (V.constructs world.old) (V.extracts world.old) manner) world.old lines (some_refused served)
         (W.contents writer.old) (W.contents writer.new) (string_bytes unwritten.new) world.new) }
     ensures stopped { IfErr result (λ fault. fault ≢ ServeFault.Write → KeepsFirst
-        (setting_in V.step program.now (V.constructs world.old) (V.extracts world.old) depth plain) fault
+        (setting_in V.step program.now (V.constructs world.old) (V.extracts world.old) manner) fault
         world.old (B.remaining input.old) (B.remaining input.new) (W.contents writer.old) (W.contents writer.new) (string_bytes unwritten.new)
         world.new) }
     ensures cut { IfErr result (λ fault. fault ≡ ServeFault.Write → AnswersCut
-        (setting_in V.step program.now (V.constructs world.old) (V.extracts world.old) depth plain)
+        (setting_in V.step program.now (V.constructs world.old) (V.extracts world.old) manner)
         world.old (B.remaining input.old) (W.contents writer.old) (W.contents writer.new) world.new) }
 {
     let mut served = Served::AllWell;
     for _ in 0..u64::MAX {
-        let Some(refused) = answer_next(alloc, program, world, depth, plain, input, unwritten)?
-        else {
+        let Some(refused) = answer_next(alloc, program, world, manner, input, unwritten)? else {
             return Ok(served);
         };
         served = served.after(refused);
@@ -156,14 +155,14 @@ fn answer_next<V: World, B: BufRead>(
     alloc: Global,
     program: &Program,
     world: &mut V,
-    depth: u32,
-    plain: bool,
+    manner: Manner,
     input: &mut B,
     unwritten: &mut String,
 ) -> Result<Option<bool>, ServeFault>
+    requires { IsCompiled program.now }
     ensures answered { IfOk result (λ next. IfSome next (λ refused. (line one : List ℕ)
         × IsReply
-        (setting_in V.step program.now (V.constructs world.old) (V.extracts world.old) depth plain) world.old line one refused world.new
+        (setting_in V.step program.now (V.constructs world.old) (V.extracts world.old) manner) world.old line one refused world.new
         × (string_bytes unwritten.new ≡ string_bytes unwritten.old ++ one)
         × GivesLines (B.remaining input.old) (B.remaining input.new) (line ∷ [])
         × ((took : List ℕ) × Consumes (B.remaining input.old) (B.remaining input.new) took))) }
@@ -173,13 +172,13 @@ fn answer_next<V: World, B: BufRead>(
         ((string_bytes unwritten.new ≡ string_bytes unwritten.old) × (world.new ≡ world.old))) }
     ensures err { OnErr result (string_bytes unwritten.new ≡ string_bytes unwritten.old) }
     ensures lost { IfErr result (λ fault. (part : List ℕ) × Consumes (B.remaining input.old) (B.remaining input.new) part × BreaksOff
-        (setting_in V.step program.now (V.constructs world.old) (V.extracts world.old) depth plain) fault part world.old world.new) }
+        (setting_in V.step program.now (V.constructs world.old) (V.extracts world.old) manner) fault part world.old world.new) }
 {
     let Some(line) = read_line(alloc, input)? else {
         return Ok(None);
     };
     let bare = without_newline(line.as_slice());
-    let reply = reply_to(alloc, program, world, depth, plain, bare)?;
+    let reply = reply_to(alloc, program, world, manner, bare)?;
     unwritten.push_str(reply.lines.as_str())?;
     Ok(Some(reply.refused))
 }

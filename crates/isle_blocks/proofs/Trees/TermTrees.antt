@@ -7,5 +7,7 @@ pub mod Rules
 pub mod Callees
 -- What the sites of a set hold is of their sorts.
 pub mod Typing
+-- How many steps it takes at most.
+pub mod Counted
 -- The tree of a term.
 pub mod Whole

@@ -1,5 +1,9 @@
 -- Rule sets and their blocks as the machine has them.
-use Rattle.std.specs.Prelude.{◌≡◌, ℕ, Bool, true, List, length, slice_get}
+use Rattle.std.specs.Prelude.{◌≡◌, ◌+◌, ℕ, Bool, true, List, Some, length, slice_get}
+use Rattle.std.specs.List.{sum_by}
+use Rattle.isle_types.specs.JoinedSets.{members}
+use Rattle.isle_trees.specs.Counting.{steps_at_most}
+use Rattle.isle_trees.specs.Rules.{Elem}
 use Rattle.isle_types.specs.declared.ids.Sym.{Sym}
 use Rattle.isle_terms.specs.Shown.TermTables.{TermTables}
 use Rattle.isle_meaning.specs.Machine.Runs.{TermTree}
@@ -24,9 +28,26 @@ term_tree name set block = record {
   tree = block.tree;
 }
 
--- The tree that is built of the rule set of a term that a sound program of its definitions runs is that of the term's rules.
+-- each rule of a set is one of these numbers
+abbrev pub HaveEachRule : RulesOverSites → List ℕ → Type 0
+HaveEachRule set numbers = (i : ℕ) (rule : Rule) → slice_get set.rules i ≡ Some rule → Elem i numbers
+
+-- a rule's steps: one for each site that it tests or that must be equal to others, and one of its own
+abbrev pub rule_steps : Rule → ℕ
+rule_steps rule = length rule.constraints + length (members rule.equals) + 1
+
+-- the steps of the rules of a set
+abbrev pub set_steps : RulesOverSites → ℕ
+set_steps set = sum_by rule_steps set.rules
+
+-- A tree is that of a term's rules; each rule of the set is one that is left, and they take as many steps at most as the set says.
+abbrev pub IsTreeOfSet : CheckedProgram → (ℕ → Type 0) → ℕ → (Sym → List ℕ) → RulesOverSites → BlockShown → Type 0
+IsTreeOfSet p runs term name set block = (is : IsTermTree p runs term (term_tree name set block)) × HaveEachRule set is.left
+    × (steps_at_most is.set is.left ≡ set_steps set)
+
+-- The tree that is built of the rule set of a term that a sound program of its definitions runs is such a tree.
 abbrev pub TreesAreOfTerms : Type 0
 TreesAreOfTerms = (env : TermTables) (d : AreDefined env) (term : ℕ) (set : RulesOverSites) (block : BlockShown)
     → IsSetOf (name_of env d) (facts_by env d) env.rules (rules_by env d) term set → IsBuilt set block
     → (p : CheckedProgram) (run : ℕ → Bool) → p.terms ≡ facts_by env d → p.rules ≡ rules_by env d → IsSound p (λ t. run t ≡ true)
-    → run term ≡ true → IsTermTree p (λ t. run t ≡ true) term (term_tree (name_of env d) set block)
+    → run term ≡ true → IsTreeOfSet p (λ t. run t ≡ true) term (name_of env d) set block

@@ -11,13 +11,13 @@ use Rattle.isle_meaning.proofs.Chains.Always.{one_meaning_always}
 use Rattle.isle_meaning.proofs.Machine.Meant.{machine_runs_are_meant}
 
 -- an answer is meant
-answer_meant : (p : CheckedProgram) (w : Answers) (n t : ℕ) (args : Values) (trace : List Event) (x : Option Value)
+pub answer_meant : (p : CheckedProgram) (w : Answers) (n t : ℕ) (args : Values) (trace : List Event) (x : Option Value)
     → IsMeant p w n t args trace (outcome_of x) → Means p w n t args trace x
 answer_meant p w n t args trace None h = h
 answer_meant p w n t args trace (Some v) h = h.0
 
 -- so it is at greater depths
-meant_deeper : (p : CheckedProgram) (w : Answers) (k n t : ℕ) (args : Values) (trace : List Event) (x : Option Value)
+pub meant_deeper : (p : CheckedProgram) (w : Answers) (k n t : ℕ) (args : Values) (trace : List Event) (x : Option Value)
     → Means p w n t args trace x → Means p w (k + n) t args trace x
 meant_deeper p w zero n t args trace x h =
     let e : n ≡ zero + n = omega arith in subst (λ (m : ℕ). Means p w m t args trace x) e h

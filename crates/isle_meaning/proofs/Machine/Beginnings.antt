@@ -19,7 +19,7 @@ use Rattle.isle_meaning.specs.Laws.Machine.{MachineRunsBeginSo, MachineMayStop, 
 use Rattle.isle_meaning.specs.Machine.Runs.{TermTree, Env, nothing_bound, Runs, Going, RowRuns, Goes, BindsRun, opened, Returns, EqualRuns}
 use Rattle.isle_meaning.specs.Machine.Runs.{StepsRun, ArmsRun, Unmatched, MachineRun}
 use Rattle.isle_meaning.specs.Machine.Beginnings.{Begun, Silent, RowBegins, BindsBegin, EqualBegins, StepsBegin, ArmsBegin, MachineBegins}
-use Rattle.isle_meaning.specs.Machine.Trees.{is_effect, calls_of, IsTermTree}
+use Rattle.isle_meaning.specs.Machine.Trees.{is_effect, calls_of, IsTermTree, HasTermTrees}
 use Rattle.isle_meaning.proofs.Calls.Beginnings.{impure_begins}
 use Rattle.isle_meaning.proofs.Machine.Rows.{row_calm}
 use Rattle.isle_meaning.proofs.Machine.Bound.{AllAre, BindsOnly, ArmsBindOnly, tree_binds}
@@ -241,11 +241,16 @@ pure_tree_calm p R sound t runs pure b B = tree_binds p R t b B (λ k. B.set.eff
     first i e = subst (λ (l : List ℕ). EffectsFirst B.set (B.set.result i) [] l) e (B.tree.single.first i)
 
 -- One of a pure term begins with none.
-pub pure_machine_runs_are_silent : {C : Type 0} → PureMachineRunsAreSilent C
-pure_machine_runs_are_silent p w runs trees sound H zero t args made may pure h = h
-pure_machine_runs_are_silent p w runs trees sound H (suc n) t args made may pure (inl e) = e
-pure_machine_runs_are_silent p w runs trees sound H (suc n) t args made may pure (inr h) =
+pub pure_run_silent : {C : Type 0} (p : CheckedProgram) (w : Answers) (R : ℕ → Type 0) (trees : ℕ → TermTree C) → IsSound p R → HasTermTrees p R trees
+    → (n t : ℕ) (args : Values) (made : List Event) → R t → p.terms.pure t ≡ true → MachineBegins p trees w n t args made → made ≡ []
+pure_run_silent p w R trees sound H zero t args made may pure h = h
+pure_run_silent p w R trees sound H (suc n) t args made may pure (inl e) = e
+pure_run_silent p w R trees sound H (suc n) t args made may pure (inr h) =
     let B = H.of_term t may in
-    steps_silent p w (λ u. runs u ≡ true) (λ u vs effects q. (reached : ℕ) × MachineRun p trees w n u vs reached effects q)
-    (MachineBegins p trees w n) t args (trees t) B (trees t).tree (pure_tree_calm p (λ u. runs u ≡ true) sound t may pure (trees t) B) nothing_bound
+    steps_silent p w R (λ u vs effects q. (reached : ℕ) × MachineRun p trees w n u vs reached effects q)
+    (MachineBegins p trees w n) t args (trees t) B (trees t).tree (pure_tree_calm p R sound t may pure (trees t) B) nothing_bound
     Silent (λ made e. e) made h
+
+pub pure_machine_runs_are_silent : {C : Type 0} → PureMachineRunsAreSilent C
+pure_machine_runs_are_silent p w runs trees sound H n t args made may pure h =
+    pure_run_silent p w (λ u. runs u ≡ true) trees sound H n t args made may pure h

@@ -1,5 +1,5 @@
 -- A machine's run reaches no more steps than the rules have constraints, and one for each rule.
-use Rattle.std.proofs.Common.{◌≡◌, ◌≢◌, inl, inr, ℕ, zero, suc, ◌+◌, ◌<◌, ◌≤◌, not, Bool, List, [], ◌∷◌, Some, None, length, map, sum_by, sym, ◌∙◌, ap, arith}
+use Rattle.std.proofs.Common.{◌≡◌, ◌≢◌, inl, inr, ℕ, zero, suc, ◌+◌, ◌<◌, ◌≤◌, not, Bool, true, List, [], ◌∷◌, Some, None, length, map, sum_by, sym, ◌∙◌, ap, arith}
 use Rattle.std.proofs.lemmas.List.Sums.{sum_by-cons}
 use Rattle.isle_trees.proofs.Basics.{none_or, counted_has, some_elem, has_length}
 use Rattle.isle_trees.proofs.Path.{passed_bound, label_bound}
@@ -14,6 +14,7 @@ use Rattle.isle_meaning.specs.Held.{Held}
 use Rattle.isle_meaning.specs.Laws.Machine.{MachineRunsAreShort}
 use Rattle.isle_meaning.specs.Machine.Runs.{TermTree, Env, Runs, Going, nothing_bound, Goes, BindsRun, opened, Returns, StepsRun, ArmsRun}
 use Rattle.isle_meaning.specs.Machine.Runs.{EqualRuns, Unmatched, MachineRun}
+use Rattle.isle_meaning.specs.Machine.Trees.{HasTermTrees}
 use Rattle.isle_meaning.specs.Outcomes.{Outcome, given, missing, ended}
 use Rattle.isle_meaning.specs.Values.{Value, Values}
 use Rattle.isle_meaning.specs.Words.{set}
@@ -145,11 +146,17 @@ whole_few {C} R left = sums_le (λ i. unlearned R nothing_known i + 1) (λ i. to
     omega arith)
 
 -- A call reaches no more steps than its rules have constraints and sites made equal, and one for each rule.
-pub machine_runs_are_short : {C : Type 0} → MachineRunsAreShort C
-machine_runs_are_short p w runs trees H zero t args steps trace r h run = let e : steps ≡ 0 = run.0 in omega arith
-machine_runs_are_short p w runs trees H (suc n) t args steps trace r h run =
+pub machine_run_short : {C : Type 0} (p : CheckedProgram) (w : Answers) (R : ℕ → Type 0) (trees : ℕ → TermTree C) (H : HasTermTrees p R trees)
+    (n t : ℕ) (args : Values) (steps : ℕ) (trace : List Event) (r : Outcome Value) (h : R t) → MachineRun p trees w n t args steps trace r
+    → steps ≤ steps_at_most (H.of_term t h).set (H.of_term t h).left
+machine_run_short p w R trees H zero t args steps trace r h run = let e : steps ≡ 0 = run.0 in omega arith
+machine_run_short p w R trees H (suc n) t args steps trace r h run =
     let B = H.of_term t h in
     let q = steps_few p w (λ u vs effects q. (reached : ℕ) × MachineRun p trees w n u vs reached effects q) (trees t) (p.terms.partial t) args B.set B.tree.made
     (trees t).tree B.left nothing_known nothing_bound (Unmatched p t args) 0 B.tree.builds (λ m trace r u. let z : m ≡ 0 = u.0 in omega arith) steps trace r run in
     let l = whole_few B.set B.left in
     omega arith
+
+pub machine_runs_are_short : {C : Type 0} → MachineRunsAreShort C
+machine_runs_are_short p w runs trees H n t args steps trace r h run =
+    machine_run_short p w (λ u. runs u ≡ true) trees H n t args steps trace r h run

@@ -1,6 +1,6 @@
 -- Where no term reaches itself, no machine's run is spent at a depth of at least the number of terms with rules.
 use Rattle.std.proofs.Common.{◌≡◌, inl, inr, ◌≤◌, ℕ, zero, suc, Bool, true, false, List, [], ◌∷◌, length, Some, slice_get}
-use Rattle.std.proofs.Common.{refl, subst, arith}
+use Rattle.std.proofs.Common.{Contains, refl, subst, arith}
 use Rattle.isle_trees.specs.Tree.{Steps, done, «match», equal, loop, give, Arms, no_arm, arm}
 use Rattle.isle_meaning.specs.Values.{Values}
 use Rattle.isle_meaning.specs.Words.{set}
@@ -13,6 +13,7 @@ use Rattle.isle_meaning.specs.Asking.{Ended, spent}
 use Rattle.isle_meaning.specs.Outcomes.{Outcome, given, missing, ended, WorldExtracts, ConstructsIf, EffectsIf, unmatched}
 use Rattle.isle_meaning.specs.Reaching.{Calls, Reaches, at_once, onwards}
 use Rattle.isle_meaning.specs.Laws.Machine.{NoMachineRunSpent}
+use Rattle.isle_meaning.specs.SoundPrograms.{IsSound}
 use Rattle.isle_meaning.specs.Machine.Runs.{TermTree, Env, nothing_bound, Runs, Going, made_of, read, RowRuns, Goes, BindsRun, opened}
 use Rattle.isle_meaning.specs.Machine.Runs.{Returns, EqualRuns, StepsRun, ArmsRun, Unmatched, MachineRun}
 use Rattle.isle_meaning.specs.Machine.Trees.{IsTermTree, HasTermTrees}
@@ -142,11 +143,18 @@ module _ {C : Type 0} (p : CheckedProgram) (w : Answers) (R : ℕ → Type 0) (t
       steps trace run
 
 -- Where no term reaches itself, no machine's run is spent at a depth of at least the number of terms with rules.
-pub no_machine_run_spent : {C : Type 0} → NoMachineRunSpent C
-no_machine_run_spent p w runs trees sound H acyclic terms all n t args steps trace l may run =
-    spent_never p w (λ u. runs u ≡ true) trees H acyclic n terms t l (contained terms t (all t (sound.ruled t may)))
+pub never_spent : {C : Type 0} (p : CheckedProgram) (w : Answers) (R : ℕ → Type 0) (trees : ℕ → TermTree C) → IsSound p R → HasTermTrees p R trees
+    → ((t : ℕ) → Reaches p t t → ⊥) → (terms : List ℕ) → ((t : ℕ) → p.has_rules t ≡ true → Contains terms t)
+    → (n t : ℕ) (args : Values) (steps : ℕ) (trace : List Event) → length terms ≤ n → R t
+    → MachineRun p trees w n t args steps trace (ended spent) → ⊥
+never_spent p w R trees sound H acyclic terms all n t args steps trace l may run =
+    spent_never p w R trees H acyclic n terms t l (contained terms t (all t (sound.ruled t may)))
     (λ v h. contained terms v (all v (reached_ruled t v h))) args steps trace may run
   where
     reached_ruled : (t v : ℕ) → Reaches p t v → p.has_rules v ≡ true
     reached_ruled t v (at_once h) = h.has_rules
     reached_ruled t v (onwards h k) = reached_ruled _ v k
+
+pub no_machine_run_spent : {C : Type 0} → NoMachineRunSpent C
+no_machine_run_spent p w runs trees sound H acyclic terms all n t args steps trace l may run =
+    never_spent p w (λ u. runs u ≡ true) trees sound H acyclic terms all n t args steps trace l may run

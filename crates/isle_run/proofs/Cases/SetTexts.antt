@@ -2,7 +2,7 @@
 use Rattle.std.proofs.Common.{◌≡◌, ◌++◌, ◌∷◌, ◌∙◌, [], ℕ, true, false, List, None, refl, ap, sym, codes, arith, length, get_or, drop, length-append, append-nil, subst}
 use Rattle.std.specs.Prelude.{slice_get, unwrap_or}
 use Rattle.std.specs.Fmt.{decimal}
-use Rattle.std.specs.List.{IsDistinct, flat_map}
+use Rattle.std.specs.List.{IsDistinct, flat_map, zip}
 use Rattle.std.specs.List.Sorted.{IsStrictlySortedBy}
 use Rattle.std.specs.Option.{option_and_then}
 use Rattle.std.proofs.lemmas.List.Elements.{Contains-get_or}
@@ -20,12 +20,13 @@ use Rattle.isle_blocks.specs.declared.ids.BindingId.{BindingId}
 use Rattle.isle_blocks.specs.ListedSets.{ListsEqualSites}
 use Rattle.isle_blocks.proofs.ClosedEqualities.{joined_at}
 use Rattle.isle_blocks.specs.RuleSets.{RulesOverSites}
+use Rattle.isle_blocks.specs.Trees.Shown.{BlockShown}
 use Rattle.isle_run.specs.declared.program.Program.{Program}
-use Rattle.isle_run.specs.Programs.{name_in, rule_sets_of, terms_of, types_of, term_name}
+use Rattle.isle_run.specs.Programs.{name_in, rule_sets_of, set_trees_of, terms_of, types_of, term_name}
 use Rattle.isle_run.specs.TreeTexts.Names.{AreTexts, no_texts, more_texts, type_text}
 use Rattle.isle_run.specs.TreeTexts.Rules.{IsRuleText, equal_line, heading_line, test_line}
 use Rattle.isle_run.specs.TreeTexts.Sites.{sites_text}
-use Rattle.isle_run.specs.TreeTexts.Sets.{IsEntryText, IsSetText, TellsTrees}
+use Rattle.isle_run.specs.TreeTexts.Sets.{IsEntryText, IsSetText, TellsTrees, sets_and_trees}
 use Rattle.isle_run.specs.TreeTexts.Steps.{steps_text}
 use Rattle.isle_run.proofs.Cases.SetTrees.{block, five, is_set_tree, rule, set, tree}
 use Rattle.isle_run.proofs.Cases.Decimals.{zero_text, one_text, two_text, three_text, five_text, seven_text}
@@ -82,6 +83,10 @@ set_lines = codes "term 0 f\n  sites\n" ++ (sites_lines ++ (rule_lines ++ (codes
 -- the text without the heading of its rule
 abbrev without_heading_lines : List ℕ
 without_heading_lines = codes "term 0 f\n  sites\n" ++ (sites_lines ++ (codes "    0 is ConstInt 5 u8#1\n    result 1\n" ++ (codes "  block\n" ++ block_lines)))
+
+-- the term with its set and its tree
+abbrev entry : (TermId × RulesOverSites) × BlockShown
+entry = ((record { 0 = 0 }, set), block)
 
 -- the texts of one item
 only_one : {X : Type 0} (Is : X → List ℕ → Type 0) (x : X) (text : List ℕ) → AreTexts Is (x ∷ []) text → Is x text
@@ -156,10 +161,10 @@ module _ (program : Program) (has_types : types_of program ≡ tables) (has_term
       (codes "  rule 3 at f.isle:2:1 name - prio 0 constraints 1\n    0 is ConstInt 5 u8#1\n    equal 65536 65537\n    result 1\n") → ⊥
   with_equal_sites told = let letter = ap (λ (text : List ℕ). get_or text 80 0) (no_other_lines _ told) in omega (arith, letter)
 
-  -- without the heading of its rule the text is none
-  without_rule : IsSetText program files (record { 0 = 0 }) set without_heading_lines → ⊥
-  without_rule told =
-      let more : List ℕ = codes "  block\n" ++ steps_text program files set.rules 2 told.tree.tree in
+  -- without the heading of its rule the text is none, whichever the tree
+  without_rule : (any : BlockShown) → IsSetText program files (record { 0 = 0 }) set any without_heading_lines → ⊥
+  without_rule any told =
+      let more : List ℕ = codes "  block\n" ++ steps_text program files set.rules 2 any.tree in
       let rest : codes "    0 is ConstInt 5 u8#1\n    result 1\n  block\n" ++ block_lines ≡ told.rules ++ more =
       ap (drop 60) (rw (type_named, term_is_f, seven_text, one_text, zero_text) at told.is) in
       let its = only_one (IsRuleText program files) rule told.rules told.told in
@@ -167,15 +172,19 @@ module _ (program : Program) (has_types : types_of program ≡ tables) (has_term
       (subst (λ (lines : List ℕ). codes "    0 is ConstInt 5 u8#1\n    result 1\n  block\n" ++ block_lines ≡ lines ++ more) its.is rest) in
       omega (arith, third)
 
-  module _ (has_sets : rule_sets_of program ≡ (record { 0 = 0 }, set) ∷ []) where
-    -- where g alone is asked for, nothing is printed, and else something is
-    tells : (asked : List TermId) (text : List ℕ) → IsEntryText program files asked (record { 0 = 0 }, set) text → TellsTrees program files asked text
-    tells asked text is = subst (λ (sets : List (TermId × RulesOverSites)). AreTexts (IsEntryText program files asked) sets text) (sym has_sets)
-        (subst (AreTexts (IsEntryText program files asked) ((record { 0 = 0 }, set) ∷ [])) (append-nil text) (more_texts is no_texts))
+  module _ (has_sets : rule_sets_of program ≡ (record { 0 = 0 }, set) ∷ []) (has_trees : set_trees_of program ≡ block ∷ []) where
+    has_both : sets_and_trees program ≡ entry ∷ []
+    has_both = λ i. zip (has_sets i) (has_trees i)
 
-    told_of : (asked : List TermId) (text : List ℕ) → TellsTrees program files asked text → IsEntryText program files asked (record { 0 = 0 }, set) text
-    told_of asked text told = only_one (IsEntryText program files asked) (record { 0 = 0 }, set) text
-        (subst (λ (sets : List (TermId × RulesOverSites)). AreTexts (IsEntryText program files asked) sets text) has_sets told)
+    -- where g alone is asked for, nothing is printed, and else something is
+    tells : (asked : List TermId) (text : List ℕ) → IsEntryText program files asked entry text → TellsTrees program files asked text
+    tells asked text is =
+        subst (λ (all : List ((TermId × RulesOverSites) × BlockShown)). AreTexts (IsEntryText program files asked) all text) (sym has_both)
+        (subst (AreTexts (IsEntryText program files asked) (entry ∷ [])) (append-nil text) (more_texts is no_texts))
+
+    told_of : (asked : List TermId) (text : List ℕ) → TellsTrees program files asked text → IsEntryText program files asked entry text
+    told_of asked text told = only_one (IsEntryText program files asked) entry text
+        (subst (λ (all : List ((TermId × RulesOverSites) × BlockShown)). AreTexts (IsEntryText program files asked) all text) has_both told)
 
     asked_for_g : TellsTrees program files (record { 0 = 1 } ∷ []) []
     asked_for_g = tells (record { 0 = 1 } ∷ []) [] refl
@@ -189,18 +198,17 @@ module _ (program : Program) (has_types : types_of program ≡ tables) (has_term
     not_empty_for_f : TellsTrees program files (record { 0 = 0 } ∷ []) [] → ⊥
     not_empty_for_f told = let its = told_of (record { 0 = 0 } ∷ []) [] told in let is = its.is in cc
 
-  its_text : IsSetText program files (record { 0 = 0 }) set set_lines
+  its_text : IsSetText program files (record { 0 = 0 }) set block set_lines
   its_text = record {
-    tree = block;
     built = is_set_tree;
     rules = rule_lines;
     told = more_texts its_lines no_texts;
     is = rw (type_named, term_is_f, seven_text, five_text, two_text, one_text, zero_text);
   }
 
-  module _ (has_sets : rule_sets_of program ≡ (record { 0 = 0 }, set) ∷ []) where
+  module _ (has_sets : rule_sets_of program ≡ (record { 0 = 0 }, set) ∷ []) (has_trees : set_trees_of program ≡ block ∷ []) where
     all_told : TellsTrees program files [] set_lines
-    all_told = tells has_sets [] set_lines its_text
+    all_told = tells has_sets has_trees [] set_lines its_text
 
     f_told : TellsTrees program files (record { 0 = 0 } ∷ []) set_lines
-    f_told = tells has_sets (record { 0 = 0 } ∷ []) set_lines its_text
+    f_told = tells has_sets has_trees (record { 0 = 0 } ∷ []) set_lines its_text

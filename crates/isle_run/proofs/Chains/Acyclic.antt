@@ -94,7 +94,7 @@ module _ (tyenv : TypeTables) (env : TermTables) where
           (called_made (checked_by tyenv env).terms (built_shown tyenv.names rule.rhs) to k)
 
   -- so is what it reaches
-  reaches_in : (from to : ℕ) → Reaches (checked_by tyenv env) from to → tables.Reaches tyenv env from to
+  pub reaches_in : (from to : ℕ) → Reaches (checked_by tyenv env) from to → tables.Reaches tyenv env from to
   reaches_in from to (at_once h) = tables.at_once (calls_make from to h)
   reaches_in from to (onwards {middle = middle} h k) = tables.onwards (calls_make from middle h) (reaches_in middle to k)
 

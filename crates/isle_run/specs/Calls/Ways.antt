@@ -3,7 +3,7 @@ use Rattle.std.specs.Prelude.{◌≡◌, ◌++◌, ℕ, zero, suc, List, []}
 use Rattle.isle_types.specs.declared.ids.TermId.{TermId}
 use Rattle.isle_meaning.specs.Asking.{Ended, spent}
 use Rattle.isle_meaning.specs.GroundValues.{IsValueOf, AreValuesOf}
-use Rattle.isle_meaning.specs.Outcomes.{Outcome, given, missing, ended}
+use Rattle.isle_meaning.specs.Outcomes.{Outcome, given, missing, ended, unmatched}
 use Rattle.isle_meaning.specs.Values.{Value, Values}
 use Rattle.isle_meaning.specs.Worlds.{Answers, Event}
 use Rattle.isle_run.specs.declared.calls.frames.Advanced.{Advanced}
@@ -18,10 +18,12 @@ use Rattle.isle_run.specs.Calls.States.{Host, State, Makes}
 use Rattle.isle_run.specs.Meanings.{checked, may_run}
 use Rattle.isle_run.specs.Stores.Values.{Stands, StandEach, Extends}
 
--- a way to answer calls: what a call of a program's term comes to where the world answers so and so many calls may be open, with its steps
--- and effects, and with which effects it begins; when a frame is that of a call that runs, after these effects of its own, or of one that waits for the call of a term on
--- these values; how many steps a frame's call has taken, and how many calls may be open below it
+-- a way to answer calls: what it asks of a program; what a call of a program's term comes to where the world answers so and so many calls
+-- may be open, with its steps and effects, and with which effects it begins; when a frame is that of a call that runs, after these effects of
+-- its own, or of one that waits for the call of a term on these values; how many steps a frame's call has taken, and how many calls may be open
+-- below it
 pub record Way (F : Type 0) : Type 1 where
+  pub holds : Program → Type 0
   pub run : Program → Answers → ℕ → ℕ → Values → ℕ → List Event → Outcome Value → Type 0
   pub begins : Program → Answers → ℕ → ℕ → Values → List Event → Type 0
   pub is_frame : CallOf → List Stored → F → List Event → Type 0
@@ -45,8 +47,9 @@ Begins way k made = way.begins k.program k.answers (suc k.depth) k.term k.args m
 abbrev pub BeginsBelow : {F : Type 0} → Way F → CallOf → ℕ → Values → List Event → Type 0
 BeginsBelow way k t vs made = way.begins k.program k.answers k.depth t vs made
 
--- a call of a term that can be run, on arguments of its types
-pub record IsReady (program : Program) (t : ℕ) (vs : Values) : Type 0 where
+-- a call of a term that can be run, on arguments of its types, of a program of which this holds
+pub record IsReady (Holds : Program → Type 0) (program : Program) (t : ℕ) (vs : Values) : Type 0 where
+  pub holds : Holds program
   pub may : may_run program t
   pub typed : AreValuesOf (checked program).values vs ((checked program).terms.inputs t)
 
@@ -54,7 +57,7 @@ pub record IsReady (program : Program) (t : ℕ) (vs : Values) : Type 0 where
 pub record IsWay {F : Type 0} (way : Way F) : Type 0 where
   pub spent_at_once : (program : Program) (w : Answers) (t : ℕ) (vs : Values) → way.run program w zero t vs zero [] (ended spent)
   -- what a call is given is of its term's type
-  pub typed : (program : Program) (w : Answers) (n t : ℕ) (vs : Values) (steps : ℕ) (trace : List Event) (v : Value) → IsReady program t vs
+  pub typed : (program : Program) (w : Answers) (n t : ℕ) (vs : Values) (steps : ℕ) (trace : List Event) (v : Value) → IsReady way.holds program t vs
       → way.run program w n t vs steps trace (given v) → IsValueOf (checked program).values v ((checked program).terms.type_of t)
   -- as the call ends that a frame waits for, its own ends
   pub ends : (k : CallOf) (stored : List Stored) (frame : F) (since trace : List Event) (term : TermId) (vs : Values) (e : Ended)
@@ -76,7 +79,7 @@ pub record IsWay {F : Type 0} (way : Way F) : Type 0 where
       → way.is_waiting k stored frame since term vs → way.depth_of frame ≡ k.depth
   -- the call that it waits for may be made
   pub ready : (k : CallOf) (stored : List Stored) (frame : F) (since : List Event) (term : TermId) (vs : Values)
-      → way.is_waiting k stored frame since term vs → IsReady k.program term.0 vs
+      → way.is_waiting k stored frame since term vs → IsReady way.holds k.program term.0 vs
 
 -- just these effects were made up to a state, and a call of which there were others begins with all
 abbrev pub HasBegun : {W F : Type 0} → Host W → Way F → State W → State W → CallOf → List Event → Type 0
@@ -95,3 +98,11 @@ AdvancesTo way k stored frame since (Calls term numbers) =
 abbrev pub TurnsTo : {F : Type 0} → Way F → CallOf → List Stored → F → List Event → Turn → Type 0
 TurnsTo way k stored frame since On = way.is_frame k stored frame since
 TurnsTo way k stored frame since (ComesTo advanced) = AdvancesTo way k stored frame since advanced
+
+-- what a call comes to of which no rule is left
+abbrev pub UnmatchedIs : CallOf → Advanced → Type 0
+UnmatchedIs k (Is n) = ⊥
+UnmatchedIs k Missing = unmatched ((checked k.program).terms.partial k.term) k.term k.args ≡ missing
+UnmatchedIs k (Ends answer) = (e : Ended) × IsEnd k.program answer e
+    × (unmatched ((checked k.program).terms.partial k.term) k.term k.args ≡ ended e)
+UnmatchedIs k (Calls term numbers) = ⊥

@@ -1,18 +1,8 @@
 -- How many steps the rules of a term take at most.
-use Rattle.std.specs.Prelude.{◌==◌, ◌+◌, ℕ, List, [], ◌∷◌, length, Option, None, Some, if◌then◌else◌}
-use Rattle.std.specs.List.{sum_by}
+use Rattle.std.specs.Prelude.{◌==◌, ℕ, List, [], ◌∷◌, Option, None, Some, if◌then◌else◌}
 use Rattle.isle_types.specs.declared.ids.TermId.{TermId}
-use Rattle.isle_types.specs.JoinedSets.{members}
-use Rattle.isle_blocks.specs.declared.rule.Rule.{Rule}
 use Rattle.isle_blocks.specs.RuleSets.{RulesOverSites}
-
--- a rule's steps: one for each site that it tests or that must be equal to others, and one of its own
-abbrev pub rule_steps : Rule → ℕ
-rule_steps rule = length rule.constraints + length (members rule.equals) + 1
-
--- the steps of the rules of a set
-abbrev pub set_steps : RulesOverSites → ℕ
-set_steps set = sum_by rule_steps set.rules
+pub use Rattle.isle_blocks.specs.Trees.TermTrees.{rule_steps, set_steps}
 
 -- the rule set of a term, if it has rules
 abbrev pub set_of : List (TermId × RulesOverSites) → ℕ → Option RulesOverSites

@@ -11,6 +11,7 @@ use Rattle.isle_meaning.specs.Scopes.{scope, scope_all, none}
 use Rattle.isle_meaning.specs.Words.{Word, call_word, Step, word_of, steps_of}
 use Rattle.isle_meaning.specs.Worlds.{Event}
 use Rattle.isle_meaning.specs.Asking.{Ended}
+use Rattle.isle_run.specs.declared.program.Program.{Program}
 use Rattle.isle_run.specs.declared.calls.answer.Answer.{Answer}
 use Rattle.isle_run.specs.declared.calls.answer.Answer.TheVariants.{IllTyped}
 use Rattle.isle_run.specs.declared.calls.answer.Effect.{Effect}
@@ -35,7 +36,7 @@ use Rattle.isle_meaning.specs.Calls.{IsRuleAt}
 use Rattle.isle_run.specs.Meanings.{checked, rule_shown, may_run}
 use Rattle.isle_run.specs.Plain.Laid.{IsLaidRule}
 use Rattle.isle_run.specs.Calls.States.{State, state}
-use Rattle.isle_meaning.specs.Outcomes.{Outcome, given, missing, ended, unmatched, ImpureRuns}
+use Rattle.isle_meaning.specs.Outcomes.{Outcome, given, missing, ended, ImpureRuns}
 use Rattle.isle_meaning.specs.PlainRuns.{RuleRuns, RightRuns, RulesRun, IfLetsRun, Tried, PlainRun}
 use Rattle.isle_meaning.specs.PlainBeginnings.{ImpureBegins, RightBegins, TriedBegins, RulesBegin, PlainBegins}
 use Rattle.isle_run.specs.Programs.{types_of}
@@ -377,9 +378,14 @@ pub record IsWaitingFor (k : CallOf) (stored : List Stored) (frame : Frame) (sin
   pub ruled : (checked k.program).has_rules term.0 ≡ true
   pub may_call : may_run k.program term.0
 
+-- it asks nothing of a program
+abbrev pub AnyProgram : Program → Type 0
+AnyProgram program = Unit {0}
+
 -- what the plain road says of calls: they come to what their plain runs do, and the steps are the rules tried
 abbrev pub plain_way : Way Frame
 plain_way = record {
+  holds = AnyProgram;
   run = λ program. PlainRun (checked program);
   begins = λ program. PlainBegins (checked program);
   is_frame = IsFrameOf;
@@ -472,11 +478,3 @@ abbrev pub IsEndingOf : Told ℕ → Evaluation → Evaluation → Ending → Ty
 IsEndingOf (Gives number) before after ending = (ending ≡ On) × IsAnswered before number after
 IsEndingOf NotTold before after ending = ending ≡ Comes Missing
 IsEndingOf (IllTypedTold term args) before after ending = ending ≡ Comes (Ends (IllTyped term args))
-
--- what a call comes to of which no rule is left
-abbrev pub UnmatchedIs : CallOf → Advanced → Type 0
-UnmatchedIs k (Is n) = ⊥
-UnmatchedIs k Missing = unmatched ((checked k.program).terms.partial k.term) k.term k.args ≡ missing
-UnmatchedIs k (Ends answer) = (e : Ended) × IsEnd k.program answer e
-    × (unmatched ((checked k.program).terms.partial k.term) k.term k.args ≡ ended e)
-UnmatchedIs k (Calls term numbers) = ⊥

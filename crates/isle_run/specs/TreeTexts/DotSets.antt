@@ -6,13 +6,13 @@ use Rattle.isle_types.specs.declared.ids.TermId.{TermId}
 use Rattle.isle_blocks.specs.RuleSets.{RulesOverSites}
 use Rattle.isle_blocks.specs.Trees.Shown.{BlockShown}
 use Rattle.isle_run.specs.declared.program.Program.{Program}
-use Rattle.isle_run.specs.Programs.{rule_sets_of, term_name}
+use Rattle.isle_run.specs.Programs.{term_name}
 use Rattle.isle_run.specs.Trees.{IsSetTree}
 use Rattle.isle_run.specs.TreeTexts.DotLabels.{quoted}
 use Rattle.isle_run.specs.TreeTexts.DotSteps.{Drawn, start, steps_graph}
 use Rattle.isle_run.specs.TreeTexts.DotTypes.{types_told}
 use Rattle.isle_run.specs.TreeTexts.Names.{AreTexts}
-use Rattle.isle_run.specs.TreeTexts.Sets.{IsTextIf, is_asked}
+use Rattle.isle_run.specs.TreeTexts.Sets.{IsTextIf, is_asked, sets_and_trees}
 
 -- the line of a term's node, which is the first of its tree
 abbrev pub term_line : Program → TermId → List ℕ
@@ -30,18 +30,19 @@ drawn_of program files term set = record {
   types = types_told set.sites set.rules;
 }
 
--- the lines of a term's tree: the node of the term, and those of the steps with the edges to them
-pub record IsSetGraph (program : Program) (files : List SourceFile) (term : TermId) (set : RulesOverSites) (text : List ℕ) : Type 0 where
-  pub tree : BlockShown
+-- the lines of this tree of a term, which is its rule set's: the node of the term, and those of the steps with the edges to them
+pub record IsSetGraph (program : Program) (files : List SourceFile) (term : TermId) (set : RulesOverSites) (tree : BlockShown) (text : List ℕ)
+    : Type 0 where
   pub built : IsSetTree set tree
   pub is : text ≡ term_line program term ++ steps_graph (drawn_of program files term set) start 1 tree.tree
 
 -- what is drawn of a term's rule set: its tree if the term is asked for, else nothing
-abbrev pub IsEntryGraph : Program → List SourceFile → List TermId → TermId × RulesOverSites → List ℕ → Type 0
-IsEntryGraph program files asked set text = IsTextIf (is_asked asked set.0) (IsSetGraph program files set.0 set.1 text) text
+abbrev pub IsEntryGraph : Program → List SourceFile → List TermId → (TermId × RulesOverSites) × BlockShown → List ℕ → Type 0
+IsEntryGraph program files asked entry text =
+    IsTextIf (is_asked asked entry.0.0) (IsSetGraph program files entry.0.0 entry.0.1 entry.1 text) text
 
--- the graph of the trees of a program's rule sets, of these terms or of all
+-- the graph of the trees that a program has of its rule sets, of these terms or of all
 pub record TellsGraph (program : Program) (files : List SourceFile) (asked : List TermId) (text : List ℕ) : Type 0 where
   pub sets : List ℕ
-  pub told : AreTexts (IsEntryGraph program files asked) (rule_sets_of program) sets
+  pub told : AreTexts (IsEntryGraph program files asked) (sets_and_trees program) sets
   pub is : text ≡ codes "digraph trees {\n" ++ (sets ++ codes "}\n")

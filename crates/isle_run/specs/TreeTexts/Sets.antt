@@ -1,22 +1,26 @@
 -- What is printed of rule sets and their trees.
 use Rattle.std.specs.Prelude.{◌≡◌, ℕ, Bool, true, false, List, [], ◌∷◌, ◌++◌, codes, nat_eq}
 use Rattle.std.specs.Fmt.{decimal}
-use Rattle.std.specs.List.{list_any}
+use Rattle.std.specs.List.{list_any, zip}
 use Rattle.isle_syntax.specs.Positions.Files.{SourceFile}
 use Rattle.isle_types.specs.declared.ids.TermId.{TermId}
 use Rattle.isle_blocks.specs.RuleSets.{RulesOverSites}
 use Rattle.isle_blocks.specs.Trees.Shown.{BlockShown}
 use Rattle.isle_run.specs.declared.program.Program.{Program}
-use Rattle.isle_run.specs.Programs.{rule_sets_of, term_name}
+use Rattle.isle_run.specs.Programs.{rule_sets_of, set_trees_of, term_name}
 use Rattle.isle_run.specs.Trees.{IsSetTree}
 use Rattle.isle_run.specs.TreeTexts.Names.{AreTexts}
 use Rattle.isle_run.specs.TreeTexts.Rules.{IsRuleText}
 use Rattle.isle_run.specs.TreeTexts.Sites.{sites_text}
 use Rattle.isle_run.specs.TreeTexts.Steps.{steps_text}
 
--- the lines of a term's rule set and its tree: the term, the sites, the rules, and the steps
-pub record IsSetText (program : Program) (files : List SourceFile) (term : TermId) (set : RulesOverSites) (text : List ℕ) : Type 0 where
-  pub tree : BlockShown
+-- the rule sets that a program has, each beside its tree
+abbrev pub sets_and_trees : Program → List ((TermId × RulesOverSites) × BlockShown)
+sets_and_trees program = zip (rule_sets_of program) (set_trees_of program)
+
+-- the lines of a term's rule set and of this tree, which is the set's: the term, the sites, the rules, and the steps
+pub record IsSetText (program : Program) (files : List SourceFile) (term : TermId) (set : RulesOverSites) (tree : BlockShown) (text : List ℕ)
+    : Type 0 where
   pub built : IsSetTree set tree
   pub rules : List ℕ
   pub told : AreTexts (IsRuleText program files) set.rules rules
@@ -33,10 +37,11 @@ abbrev pub IsTextIf : Bool → Type 0 → List ℕ → Type 0
 IsTextIf true lines text = lines
 IsTextIf false lines text = text ≡ []
 
--- what is printed of a term's rule set and its tree: its lines if the term is asked for, else nothing
-abbrev pub IsEntryText : Program → List SourceFile → List TermId → TermId × RulesOverSites → List ℕ → Type 0
-IsEntryText program files asked set text = IsTextIf (is_asked asked set.0) (IsSetText program files set.0 set.1 text) text
+-- what is printed of a term's rule set and its tree: their lines if the term is asked for, else nothing
+abbrev pub IsEntryText : Program → List SourceFile → List TermId → (TermId × RulesOverSites) × BlockShown → List ℕ → Type 0
+IsEntryText program files asked entry text =
+    IsTextIf (is_asked asked entry.0.0) (IsSetText program files entry.0.0 entry.0.1 entry.1 text) text
 
--- what is printed of a program's rule sets and their trees, of these terms or of all
+-- what is printed of the rule sets and the trees that a program has, of these terms or of all
 abbrev pub TellsTrees : Program → List SourceFile → List TermId → List ℕ → Type 0
-TellsTrees program files asked text = AreTexts (IsEntryText program files asked) (rule_sets_of program) text
+TellsTrees program files asked text = AreTexts (IsEntryText program files asked) (sets_and_trees program) text

@@ -1,6 +1,7 @@
 //! Calls of terms with rules that are open: one runs, and each of the others waits for the next.
 ghost use Rattle.std.specs.Prelude.{◌≡◌, ◌++◌, List, IfOk, OnErr, reverse};
 ghost use Rattle.isle_types.specs.declared.ids.TermId.{TermId as TermNumber};
+ghost use Rattle.isle_meaning.specs.GroundValues.{AreValuesOf};
 ghost use Rattle.isle_meaning.specs.Outcomes.{Outcome, given, missing};
 ghost use Rattle.isle_meaning.specs.Values.{Value as MeantValue, Values};
 ghost use Rattle.isle_meaning.specs.Worlds.{Event};
@@ -10,10 +11,13 @@ ghost use Rattle.isle_run.specs.Calls.Answers.{TellsOutcome};
 ghost use Rattle.isle_run.specs.Calls.Open.{CallOf};
 ghost use Rattle.isle_run.specs.Calls.Stacks.{AreStacked, GoesOn, first_steps};
 ghost use Rattle.isle_run.specs.Calls.States.{host, state, answers_of, Makes, IsOpenIn, HasGoneOn};
-ghost use Rattle.isle_run.specs.Calls.Ways.{Below, Comes, HasBegun, IsReady, AdvancesTo};
+ghost use Rattle.isle_run.specs.Calls.Ways.{Below, Comes, HasBegun, IsReady, AdvancesTo, UnmatchedIs};
+ghost use Rattle.isle_run.specs.Meanings.{checked};
 ghost use Rattle.isle_run.specs.Stores.Values.{Stands, StandEach};
 
 use crate::calls::answer::{Answer, Called, Effect};
+use crate::calls::store::Store;
+use crate::program::Program;
 use crate::roads::Road;
 use crate::values::Value;
 use crate::worlds::World;
@@ -58,7 +62,7 @@ pub fn answer_call<R: Road, W: World>(
     world: &mut W,
     effects: &mut Vec<Effect>,
 ) -> Result<Called, AllocError>
-    ensures ran { IfOk result (λ called. (vs : Values) → StandEach (R.stored road.old) vs args.items → IsReady (R.compiled road.old) term.0 vs
+    ensures ran { IfOk result (λ called. (vs : Values) → StandEach (R.stored road.old) vs args.items → IsReady R.way.holds (R.compiled road.old) term.0 vs
         → (made : List Event)
         × Makes (host W.step W.constructs W.extracts) (state (R.compiled road.old) world.old effects.old.items (R.stored road.old))
         (state (R.compiled road.new) world.new effects.new.items (R.stored road.new)) made
@@ -66,7 +70,7 @@ pub fn answer_call<R: Road, W: World>(
         × R.way.run (R.compiled road.old)
         (answers_of (host W.step W.constructs W.extracts) (state (R.compiled road.old) world.old effects.old.items (R.stored road.old)))
         depth term.0 vs called.steps made r) }
-    ensures lost { OnErr result ((vs : Values) → StandEach (R.stored road.old) vs args.items → IsReady (R.compiled road.old) term.0 vs
+    ensures lost { OnErr result ((vs : Values) → StandEach (R.stored road.old) vs args.items → IsReady R.way.holds (R.compiled road.old) term.0 vs
         → (made : List Event)
         × Makes (host W.step W.constructs W.extracts) (state (R.compiled road.old) world.old effects.old.items (R.stored road.old))
         (state (R.compiled road.new) world.new effects.new.items (R.stored road.new)) made
@@ -138,7 +142,7 @@ fn next_frame<R: Road>(
     top: R::Frame,
 ) -> Result<Next<R::Frame>, AllocError>
     ensures { IfOk result (λ next. (goal k : CallOf) (start since : List Event) → goal.program ≡ R.compiled road.now → goal.term ≡ term.0
-        → IsReady goal.program goal.term goal.args → AreStacked R.way goal (R.stored road.now) (reverse waiting.old.items) k start
+        → IsReady R.way.holds goal.program goal.term goal.args → AreStacked R.way goal (R.stored road.now) (reverse waiting.old.items) k start
         → AdvancesTo R.way k (R.stored road.now) top since advanced
         → GoesOn R.way goal (R.stored road.now) (reverse waiting.new.items) (start ++ since) next) }
 {
@@ -198,7 +202,7 @@ fn value_answer<R: Road>(
     top: &R::Frame,
 ) -> Result<Called, AllocError>
     ensures { IfOk result (λ called. (goal : CallOf) (since : List Event) → goal.program ≡ R.compiled road.now → goal.term ≡ term.0
-        → IsReady goal.program goal.term goal.args → AdvancesTo R.way goal (R.stored road.now) top.now since (Is number)
+        → IsReady R.way.holds goal.program goal.term goal.args → AdvancesTo R.way goal (R.stored road.now) top.now since (Is number)
         → (r : Outcome MeantValue) × TellsOutcome goal.program goal.term called.answer r × Comes R.way goal called.steps since r) }
 {
     road.laws();
@@ -242,4 +246,22 @@ fn first_steps<R: Road>(road: &R, waiting: &[R::Frame], top: &R::Frame) -> u128
         [first, _rest @ ..] => road.steps(first),
         [] => road.steps(top),
     }
+}
+
+/// What a call comes to of which no rule is left: none, where its term may fail; else it is stuck.
+pub fn unmatched(
+    alloc: Global,
+    program: &Program,
+    store: &Store,
+    term: TermId,
+    args: &[usize],
+) -> Result<Advanced, AllocError>
+    ensures { IfOk result (λ advanced. (k : CallOf) → k.program ≡ program.now → k.term ≡ term.0 → StandEach store.now k.args args.now
+        → AreValuesOf (checked k.program).values k.args ((checked k.program).terms.inputs k.term) → UnmatchedIs k advanced) }
+{
+    if program.is_partial(term) {
+        return Ok(Advanced::Missing);
+    }
+    let args = store.print_all(alloc, program, args, program.arg_types(term))?;
+    Ok(Advanced::Ends(Answer::Stuck(term, args)))
 }

@@ -1,10 +1,10 @@
 //! The trees of a program's rules, as a graph.
 ghost use Rattle.std.specs.Prelude.{◌≡◌, IfOk, string_bytes};
-ghost use Rattle.isle_blocks.specs.Trees.Promises.{IsCheckedSet};
 ghost use Rattle.isle_run.specs.Compiled.{IsProgramOf};
 ghost use Rattle.isle_run.specs.TreeTexts.DotSets.{IsEntryGraph, IsSetGraph, TellsGraph, term_line};
 ghost use Rattle.isle_run.specs.TreeTexts.Names.{AreTexts};
-ghost use Rattle.isle_run.specs.Programs.{rule_sets_of};
+ghost use Rattle.isle_run.specs.TreeTexts.Sets.{sets_and_trees};
+ghost use Rattle.isle_run.specs.Trees.{IsSetTree};
 
 use crate::program::Program;
 use crate::trees::graph::{Scene, steps_graph};
@@ -12,7 +12,7 @@ use crate::trees::is_asked;
 use crate::trees::paths::Table;
 use crate::trees::quoted::quoted;
 use crate::trees::tested::types_told;
-use isle_blocks::{RuleSet, serialize};
+use isle_blocks::{Block, RuleSet};
 use isle_syntax::files::Files;
 use isle_types::TermId;
 use std::alloc::{AllocError, Global};
@@ -35,11 +35,11 @@ fn set_graph(
     files: &Files,
     term: TermId,
     set: &RuleSet,
+    tree: &Block,
 ) -> Result<String, AllocError>
-    requires { IsCheckedSet set.now }
-    ensures { IfOk result (λ text. IsSetGraph program.now files.now term set.now (string_bytes text)) }
+    requires { IsSetTree set.now tree.now }
+    ensures { IfOk result (λ text. IsSetGraph program.now files.now term set.now tree.now (string_bytes text)) }
 {
-    let tree = serialize(alloc, set)?;
     let line = term_line(alloc, program, term)?;
     let rules = set.rules();
     let sites = set.bindings();
@@ -62,12 +62,13 @@ fn entry_graph(
     files: &Files,
     asked: &[TermId],
     set: &(TermId, RuleSet),
+    tree: &Block,
 ) -> Result<String, AllocError>
-    requires { IsCheckedSet set.now.1 }
-    ensures { IfOk result (λ text. IsEntryGraph program.now files.now asked.now set.now (string_bytes text)) }
+    requires { IsSetTree set.now.1 tree.now }
+    ensures { IfOk result (λ text. IsEntryGraph program.now files.now asked.now (set.now, tree.now) (string_bytes text)) }
 {
     if is_asked(asked, set.0) {
-        set_graph(alloc, program, files, set.0, &set.1)
+        set_graph(alloc, program, files, set.0, &set.1, tree)
     } else {
         Ok(String::new(alloc))
     }
@@ -81,19 +82,21 @@ fn sets_graph(
     asked: &[TermId],
 ) -> Result<String, AllocError>
     requires { IsProgramOf files.now program.now }
-    ensures { IfOk result (λ text. AreTexts (IsEntryGraph program.now files.now asked.now) (rule_sets_of program.now) (string_bytes text)) }
+    ensures { IfOk result (λ text. AreTexts (IsEntryGraph program.now files.now asked.now) (sets_and_trees program.now) (string_bytes text)) }
 {
+    let sets = program.rule_sets();
+    let trees = program.trees();
     let mut text = String::new(alloc);
-    for set in program.rule_sets() {
-        let one = entry_graph(alloc, program, files, asked, set)?;
+    for place in 0..sets.len() {
+        let one = entry_graph(alloc, program, files, asked, &sets[place], &trees[place])?;
         text.push_str(one.as_str())?;
     }
     Ok(text)
 }
 
 impl Program {
-    /// The trees of these terms as a graph in the language of Graphviz, ascending by the term; of all terms with rules where none is
-    /// named. `files` are those that were compiled. The trees are made anew.
+    /// The trees that the program has of these terms as a graph in the language of Graphviz, ascending by the term; of all terms with
+    /// rules where none is named. `files` are those that were compiled.
     pub fn trees_graph(
         &self,
         alloc: Global,

@@ -46,7 +46,7 @@ fn taken_of(alloc: Global, world: &TableWorld, name: &str) -> Result<String, All
 }
 
 /// Terms with an argument: each is answered by its entry, else by the `else` of its term, else by none. Calls at depths: by a chosen
-/// rule, by none, of a total term that no rule fits, and without depth.
+/// rule, by none, of a total term that no rule fits, and without depth; by rules and by trees.
 pub const ANSWERS: &str = "
 | make 3 → 30
 | make 5 → 40
@@ -60,6 +60,13 @@ pub const ANSWERS: &str = "
 | (first (Op.Stop)) at 1 → 1 0 1
 | (first (Op.Add 1 v2)) at 1 → 1 0 stuck
 | (f 2) at 0 → 0 0 spent
+| (f 2) by tree at 1 → 2 1 30
+| (f 5) by tree at 1 → 3 1 40
+| (f 7) by tree at 1 → 2 0 none
+| (first (Op.Stop)) by tree at 1 → 2 0 1
+| (first (Op.Add 1 v2)) by tree at 1 → 1 0 stuck
+| (f 2) by tree at 0 → 0 0 spent
+| (g 2) by tree at 1 → refused
 | (g 2) at 1 → refused";
 
 /// What the world answers a term on an argument.

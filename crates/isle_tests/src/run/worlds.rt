@@ -130,7 +130,16 @@ pub const JUDGED: &str = "
 | none, -128 2: (first (Op.Stop)) → 1 0 -128, 0 counted
 | none, -129 2: (first (Op.Stop)) → 1 0 ill-typed, 0 counted
 | none, 1 1: (first (Op.Stop)) → 1 0 ill-typed, 0 counted
-| none, 1 3: (first (Op.Stop)) → 1 0 ill-typed, 0 counted";
+| none, 1 3: (first (Op.Stop)) → 1 0 ill-typed, 0 counted
+| 127, none: (f 2) by tree → 2 1 127, 1 counted
+| 128, none: (f 2) by tree → 2 1 ill-typed, 1 counted
+| none, none: (f 2) by tree → 2 1 ill-typed, 1 counted
+| 128, none: (f 3) by tree → 2 0 ill-typed, 0 counted
+| none, none: (f 3) by tree → 2 0 none, 0 counted
+| none, -128 2: (first (Op.Stop)) by tree → 2 0 -128, 0 counted
+| none, -129 2: (first (Op.Stop)) by tree → 1 0 ill-typed, 0 counted
+| none, 1 1: (first (Op.Stop)) by tree → 1 0 ill-typed, 0 counted
+| none, 1 3: (first (Op.Stop)) by tree → 1 0 ill-typed, 0 counted";
 
 /// What a call comes to behind what a world answers.
 pub fn judged(alloc: Global, program: &Program, row: &str) -> Result<String, Fail> {

@@ -65,8 +65,8 @@ module _ (p : CheckedProgram) (tys : List ℕ) (D : Demand → Type 0) (suit : A
   field_typed t s (of_struct {ty = ty} {n = n} {i = i} h l) =
       let c = constrained t (struct_constraint ty n) in (derived_typed c h, (ty, derived_suits p.terms tys D suit c h))
 
-module _ (name : Sym → List ℕ) (p : CheckedProgram) (run : ℕ → Bool) (sound : IsSound p (λ t. run t ≡ true)) (sources : List source.Rule)
-    (term : ℕ) (runs : run term ≡ true) (set : RulesOverSites) (is : IsSetOf name p.terms sources p.rules term set) where
+module _ (name : Sym → List ℕ) (p : CheckedProgram) (run : ℕ → Type 0) (sound : IsSound p run) (sources : List source.Rule)
+    (term : ℕ) (runs : run term) (set : RulesOverSites) (is : IsSetOf name p.terms sources p.rules term set) where
   -- the entries of the set's sites
   abbrev rows : List Row
   rows = rows_of name set.sites
@@ -88,8 +88,8 @@ module _ (name : Sym → List ℕ) (p : CheckedProgram) (run : ℕ → Bool) (so
   -- so with each rule of the set
   reached_typed : (place : ℕ) (r : MayMatchAt p.terms p.rules term place) → IsTypedThere r.rule tys × IsRuleOfTypes p.terms tys r.rule
   reached_typed place r =
-      let its = sound.rules place r.rule r.at (subst (λ (t : ℕ). run t ≡ true) (sym r.of_term) runs) in (
-        subst (λ (t : ℕ). IsTypedThere r.rule (p.terms.inputs t)) r.of_term (rule_typed p (λ t. run t ≡ true) r.rule its),
+      let its = sound.rules place r.rule r.at (subst run (sym r.of_term) runs) in (
+        subst (λ (t : ℕ). IsTypedThere r.rule (p.terms.inputs t)) r.of_term (rule_typed p run r.rule its),
         subst (λ (t : ℕ). IsRuleOfTypes p.terms (p.terms.inputs t) r.rule) r.of_term
             (record { well = its.well; result_type = p.terms.type_of r.rule.root; var_types = its.var_types; typed = its.typed }),
       )
@@ -172,4 +172,4 @@ calls_take_their_types set block env d term is p run same_terms same_rules sound
     let whole = subst (λ (rules : List TypedRule). IsSetOf name p.terms env.rules rules term set) (sym same_rules) by_terms in
     let Typed : ℕ → Type 0 =
     λ s. HasTypedCalls p answers (tree_of name set.sites s) → IsTypedCall p (held_by name set.sites p.terms c args answers) set s in
-    each_bound Typed (calls_typed name p run sound env.rules term runs set whole c typed args own answers) block.tree
+    each_bound Typed (calls_typed name p (λ t. run t ≡ true) sound env.rules term runs set whole c typed args own answers) block.tree

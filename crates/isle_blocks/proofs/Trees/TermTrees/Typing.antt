@@ -1,5 +1,5 @@
 -- What the sites of a term that a sound program runs hold is of their sorts, and their calls are of terms that may be called so.
-use Rattle.std.proofs.Common.{◌≡◌, inl, inr, ℕ, zero, suc, List, [], ◌∷◌, map, Bool, true, false, Some, slice_get, refl, sym}
+use Rattle.std.proofs.Common.{◌≡◌, inl, inr, ℕ, zero, suc, List, [], ◌∷◌, map, true, false, Some, slice_get, refl, sym}
 use Rattle.std.proofs.Common.{subst, ◌∙◌}
 use Rattle.isle_types.specs.declared.ids.Sym.{Sym}
 use Rattle.isle_terms.specs.declared.rules.Rule as source
@@ -159,8 +159,8 @@ part_sorts p tys tree (j ∷ js) (u ∷ us) k =
 
 -- ---- by number
 
-module _ (name : Sym → List ℕ) (p : CheckedProgram) (run : ℕ → Bool) (sound : IsSound p (λ t. run t ≡ true)) (sources : List source.Rule)
-    (term : ℕ) (runs : run term ≡ true) (set : RulesOverSites) (is : IsSetOf name p.terms sources p.rules term set) where
+module _ (name : Sym → List ℕ) (p : CheckedProgram) (run : ℕ → Type 0) (sound : IsSound p run) (sources : List source.Rule)
+    (term : ℕ) (runs : run term) (set : RulesOverSites) (is : IsSetOf name p.terms sources p.rules term set) where
   -- the rows of the set's sites
   abbrev rows : List Row
   rows = rows_of name set.sites
@@ -177,14 +177,14 @@ module _ (name : Sym → List ℕ) (p : CheckedProgram) (run : ℕ → Bool) (so
   pub rules_fit : (i : ℕ) (rule : TypedRule) → slice_get p.rules i ≡ Some rule → rule.root ≡ term
       → IsRuleOfTypes p.terms (p.terms.inputs term) rule
   rules_fit i rule at of_term =
-      let its = sound.rules i rule at (subst (λ (t : ℕ). run t ≡ true) (sym of_term) runs) in
+      let its = sound.rules i rule at (subst run (sym of_term) runs) in
       subst (λ (t : ℕ). IsRuleOfTypes p.terms (p.terms.inputs t) rule) of_term
       (record { well = its.well; result_type = p.terms.type_of rule.root; var_types = its.var_types; typed = its.typed })
 
   -- Their if-lets make no impure calls.
   pub rules_ask_purely : (i : ℕ) (rule : TypedRule) → slice_get p.rules i ≡ Some rule → rule.root ≡ term → IfLetsArePure p.terms rule.iflets
   rules_ask_purely i rule at of_term =
-      let its = sound.rules i rule at (subst (λ (t : ℕ). run t ≡ true) (sym of_term) runs) in
+      let its = sound.rules i rule at (subst run (sym of_term) runs) in
       sound_iflets_are_pure p rule.iflets its.pure_iflets
 
   -- so the set is that of a runnable term
@@ -202,29 +202,29 @@ module _ (name : Sym → List ℕ) (p : CheckedProgram) (run : ℕ → Bool) (so
       (stands_typed name p run sound sources term runs set is (tree k) (k, row_stands name set.sites is.table k row at))
 
   -- a field is no call
-  field_may : (D : Demand → Type 0) (t s : Site) → FieldOf D t s → CallsAsItMay p (λ u. run u ≡ true) s
+  field_may : (D : Demand → Type 0) (t s : Site) → FieldOf D t s → CallsAsItMay p run s
   field_may D t s (of_variant h l) = tt
   field_may D t s (of_struct h l) = tt
 
   -- each site's call is of a term that may be called so
-  stands_may : (s : Site) → Stands rows s → CallsAsItMay p (λ u. run u ≡ true) s
+  stands_may : (s : Site) → Stands rows s → CallsAsItMay p run s
   stands_may s at =
       let from = is.explained s at in
       let r = from.reached in
-      let its = sound.rules from.place r.rule r.at (subst (λ (t : ℕ). run t ≡ true) (sym r.of_term) runs) in
-      let may = rule_may p (λ u. run u ≡ true) r.rule its in
+      let its = sound.rules from.place r.rule r.at (subst run (sym r.of_term) runs) in
+      let may = rule_may p run r.rule its in
       elim from.from [
         | inl n ↦ may.0 s n
         | inr other ↦ elim other [
-          | inl q ↦ subst (CallsAsItMay p (λ u. run u ≡ true)) (sym q) (may.1 (p.terms.partial r.rule.root))
+          | inl q ↦ subst (CallsAsItMay p run) (sym q) (may.1 (p.terms.partial r.rule.root))
           | inr q ↦ field_may (DemandOf p.terms r.rule) (q.0) s (q.1)
         ]
       ]
 
   -- so is a row's
-  row_may : (k t i : ℕ) (js : List ℕ) → slice_get rows k ≡ Some (constructor_row t js i) → MayBeCalled p (λ u. run u ≡ true) t i
+  row_may : (k t i : ℕ) (js : List ℕ) → slice_get rows k ≡ Some (constructor_row t js i) → MayBeCalled p run t i
   row_may k t i js at =
-      subst (CallsAsItMay p (λ u. run u ≡ true)) (sites_are name set.sites is.table k (constructor_row t js i) at)
+      subst (CallsAsItMay p run) (sites_are name set.sites is.table k (constructor_row t js i) at)
       (stands_may (tree k) (k, row_stands name set.sites is.table k (constructor_row t js i) at))
 
   -- Calls without a number are of pure terms.
@@ -237,10 +237,10 @@ module _ (name : Sym → List ℕ) (p : CheckedProgram) (run : ℕ → Bool) (so
 
   -- Of the terms with rules only those are called that are run.
   pub called_are : (k t i : ℕ) (js : List ℕ) → slice_get (rows_of name set.sites) k ≡ Some (constructor_row t js i) → p.has_rules t ≡ true
-      → run t ≡ true
+      → run t
   called_are k t i js at = of_number i (row_may k t i js at)
     where
-      of_number : (i : ℕ) → MayBeCalled p (λ u. run u ≡ true) t i → p.has_rules t ≡ true → run t ≡ true
+      of_number : (i : ℕ) → MayBeCalled p run t i → p.has_rules t ≡ true → run t
       of_number zero h = h.0
       of_number (suc i) h = h.0
 
@@ -277,7 +277,7 @@ module _ (name : Sym → List ℕ) (p : CheckedProgram) (run : ℕ → Bool) (so
       → sort p.terms (p.terms.inputs term) (result_of p.terms (p.terms.partial term) rule)
       ≡ option_sort_if (p.terms.partial term) (plain_sort (p.terms.type_of term))
   result_is_typed i rule at of_term =
-      let its = sound.rules i rule at (subst (λ (t : ℕ). run t ≡ true) (sym of_term) runs) in
+      let its = sound.rules i rule at (subst run (sym of_term) runs) in
       subst (λ (t : ℕ). sort p.terms (p.terms.inputs t) (result_of p.terms (p.terms.partial t) rule)
       ≡ option_sort_if (p.terms.partial t) (plain_sort (p.terms.type_of t))) of_term
-      (result_sort p (λ t. run t ≡ true) rule its (p.terms.partial rule.root))
+      (result_sort p run rule its (p.terms.partial rule.root))

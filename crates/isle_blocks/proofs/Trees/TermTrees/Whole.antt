@@ -1,7 +1,9 @@
 -- The tree that is built of a term's rule set is that of the term's rules.
-use Rattle.std.proofs.Common.{◌≡◌, ℕ, List, [], Bool, true, refl, sym, subst, ap, ◌∙◌}
+use Rattle.std.proofs.Common.{◌≡◌, ℕ, List, [], true, length, refl, sym, subst, ap, ◌∙◌}
+use Rattle.std.proofs.lemmas.Option.{slice_get_within}
 use Rattle.isle_types.specs.declared.ids.Sym.{Sym}
 use Rattle.isle_terms.specs.declared.rules.Rule as source
+use Rattle.isle_terms.specs.Shown.TermTables.{TermTables}
 use Rattle.isle_terms.specs.TypedRules.{TypedRule}
 use Rattle.isle_meaning.specs.Facts.{TermFacts}
 use Rattle.isle_meaning.specs.Held.{Held}
@@ -14,16 +16,17 @@ use Rattle.isle_trees.specs.Builds.{Builds, IsTreeOf}
 use Rattle.isle_trees.specs.Rules.{Asked, Elem, Rules, Used}
 use Rattle.isle_trees.specs.Scopes.{nothing_known}
 use Rattle.isle_trees.proofs.Whole.{whole_closed}
+use Rattle.isle_trees.proofs.Building.Lists.{elem_below}
 use Rattle.isle_blocks.specs.declared.constraint.Constraint.{Constraint}
-use Rattle.isle_blocks.specs.DefinedSets.{IsSetOf, name_of, rules_by}
+use Rattle.isle_blocks.specs.DefinedSets.{AreDefined, IsSetOf, facts_by, name_of, rules_by}
 use Rattle.isle_blocks.specs.Rows.{IsInjective}
 use Rattle.isle_blocks.specs.RuleSets.{RulesOverSites}
 use Rattle.isle_blocks.specs.Trees.Choices.{HavePriorities}
 use Rattle.isle_blocks.specs.Trees.Premises.{IsRunnableSet}
-use Rattle.isle_blocks.specs.Trees.Promises.{all_rules}
+use Rattle.isle_blocks.specs.Trees.Promises.{IsBuilt, all_rules}
 use Rattle.isle_blocks.specs.Trees.Shown.{BlockShown}
 use Rattle.isle_blocks.specs.Trees.SiteTrees.{tree_of}
-use Rattle.isle_blocks.specs.Trees.TermTrees.{TreesAreOfTerms, term_tree}
+use Rattle.isle_blocks.specs.Trees.TermTrees.{IsTreeOfSet, TreesAreOfTerms, term_tree}
 use Rattle.isle_blocks.specs.Trees.View.{rules_of}
 use Rattle.isle_blocks.proofs.Building.Naming.{name_by_injective}
 use Rattle.isle_blocks.proofs.Trees.Chosen.{no_done}
@@ -40,10 +43,11 @@ use Rattle.isle_blocks.proofs.Trees.TermTrees.Tables.{bound_are, effects_are, op
 use Rattle.isle_blocks.proofs.Trees.TermTrees.Tables.{sites_are, tree_once}
 use Rattle.isle_blocks.proofs.Trees.TermTrees.Typing.{called_are, extracts_are, impure_are, inputs_are, makes_are, pure_are, result_is_typed, runnable}
 use Rattle.isle_blocks.proofs.Trees.TermTrees.Typing.{singles_are}
-use Rattle.isle_blocks.proofs.Trees.WellMade.{well_made}
+use Rattle.isle_blocks.proofs.Trees.TermTrees.Counted.{steps_counted}
+use Rattle.isle_blocks.proofs.Trees.WellMade.{made_rule, no_loops, well_made}
 
-module _ (name : Sym → List ℕ) (injective : IsInjective name) (p : CheckedProgram) (run : ℕ → Bool) (sound : IsSound p (λ t. run t ≡ true))
-    (sources : List source.Rule) (priorities : HavePriorities sources p.rules) (term : ℕ) (runs : run term ≡ true) (set : RulesOverSites)
+module _ (name : Sym → List ℕ) (injective : IsInjective name) (p : CheckedProgram) (run : ℕ → Type 0) (sound : IsSound p run)
+    (sources : List source.Rule) (priorities : HavePriorities sources p.rules) (term : ℕ) (runs : run term) (set : RulesOverSites)
     (is : IsSetOf name p.terms sources p.rules term set) (block : BlockShown)
     (built : Builds (rules_of name set) (all_rules set) nothing_known block.tree) where
   -- the set as trees see it
@@ -81,7 +85,7 @@ module _ (name : Sym → List ℕ) (injective : IsInjective name) (p : CheckedPr
       ∙ result_is_typed name p run sound sources term runs set is (place_at is.places i) (rule i) its.listed its.of_term
 
   -- the tree is that of the term's rules
-  is_tree : IsTermTree p (λ t. run t ≡ true) term (term_tree name set block)
+  abbrev is_tree : IsTermTree p run term (term_tree name set block)
   is_tree = record {
     set = rules_of name set;
     left = all_rules set;
@@ -131,11 +135,27 @@ module _ (name : Sym → List ℕ) (injective : IsInjective name) (p : CheckedPr
         (λ place rule at root. covers place rule (record { listed = at; of_term = root }));
   }
 
+  -- each rule of the set is left, and they take as many steps at most as the set says
+  pub tree_of_set : IsTreeOfSet p run term name set block
+  tree_of_set = (
+    is_tree,
+    λ i rule at. elem_below i (length set.rules) (slice_get_within set.rules i rule at),
+    steps_counted name set (λ i r at s.
+        let (place, m) = made_rule name p.terms sources p.rules term set h i r at in no_loops name p.terms sources p.rules term set h place r m s),
+  )
+
 -- So is that of each term of definitions that a sound program of them runs.
-pub trees_are_of_terms : TreesAreOfTerms
-trees_are_of_terms env d term set block is built p run same_terms same_rules sound runs =
+pub tree_is_of_term : (env : TermTables) (d : AreDefined env) (term : ℕ) (set : RulesOverSites) (block : BlockShown)
+    → IsSetOf (name_of env d) (facts_by env d) env.rules (rules_by env d) term set → IsBuilt set block
+    → (p : CheckedProgram) (run : ℕ → Type 0) → p.terms ≡ facts_by env d → p.rules ≡ rules_by env d → IsSound p run → run term
+    → IsTreeOfSet p run term (name_of env d) set block
+tree_is_of_term env d term set block is built p run same_terms same_rules sound runs =
     let name = name_of env d in
     let by_terms = subst (λ (f : TermFacts). IsSetOf name f env.rules (rules_by env d) term set) (sym same_terms) is in
     let whole = subst (λ (rules : List TypedRule). IsSetOf name p.terms env.rules rules term set) (sym same_rules) by_terms in
     let priorities = subst (HavePriorities env.rules) (sym same_rules) (definitions_have_priorities env d) in
-    is_tree name (name_by_injective d.tyenv.names d.once) p run sound env.rules priorities term runs set whole block (built name)
+    tree_of_set name (name_by_injective d.tyenv.names d.once) p run sound env.rules priorities term runs set whole block (built name)
+
+pub trees_are_of_terms : TreesAreOfTerms
+trees_are_of_terms env d term set block is built p run same_terms same_rules sound runs =
+    tree_is_of_term env d term set block is built p (λ t. run t ≡ true) same_terms same_rules sound runs

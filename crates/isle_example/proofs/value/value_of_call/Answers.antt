@@ -10,7 +10,7 @@ pub returns-in-Value : goal.returns-in-Value
 returns-in-Value g c =
     let typed = subst (λ types. AreOfTypes (value_facts c.args.program.now) (value_list c.args.args.items) types)
     (inputs_taken c.args.program.now c.args.term) c.requires.typed in
-    let (made, has, told) = c.in_ok-called.ensures.ran c.requires.callable typed in
+    let (made, has, told) = c.in_ok-called.ensures.ran c.requires.compiled c.requires.callable typed in
     record {
       value = record {
         made = made;
@@ -26,7 +26,7 @@ pub returns-in-None : goal.returns-in-None
 returns-in-None g c =
     let typed = subst (λ types. AreOfTypes (value_facts c.args.program.now) (value_list c.args.args.items) types)
     (inputs_taken c.args.program.now c.args.term) c.requires.typed in
-    let (made, has, told) = c.in_ok-called.ensures.ran c.requires.callable typed in
+    let (made, has, told) = c.in_ok-called.ensures.ran c.requires.compiled c.requires.callable typed in
     record {
       value = record {
         made = made;
@@ -42,7 +42,7 @@ pub returns-in-Stuck : goal.returns-in-Stuck
 returns-in-Stuck g c =
     let typed = subst (λ types. AreOfTypes (value_facts c.args.program.now) (value_list c.args.args.items) types)
     (inputs_taken c.args.program.now c.args.term) c.requires.typed in
-    let (made, has, told) = c.in_ok-called.ensures.ran c.requires.callable typed in
+    let (made, has, told) = c.in_ok-called.ensures.ran c.requires.compiled c.requires.callable typed in
     record {
       value = record {
         made = made;
@@ -58,7 +58,7 @@ pub returns-in-Spent : goal.returns-in-Spent
 returns-in-Spent g c =
     let typed = subst (λ types. AreOfTypes (value_facts c.args.program.now) (value_list c.args.args.items) types)
     (inputs_taken c.args.program.now c.args.term) c.requires.typed in
-    let (made, has, told) = c.in_ok-called.ensures.ran c.requires.callable typed in
+    let (made, has, told) = c.in_ok-called.ensures.ran c.requires.compiled c.requires.callable typed in
     record {
       value = record {
         made = made;
@@ -74,7 +74,7 @@ pub returns : goal.returns
 returns g c =
     let typed = subst (λ types. AreOfTypes (value_facts c.args.program.now) (value_list c.args.args.items) types)
     (inputs_taken c.args.program.now c.args.term) c.requires.typed in
-    let (made, has, told) = c.in_ok-called.ensures.ran c.requires.callable typed in
+    let (made, has, told) = c.in_ok-called.ensures.ran c.requires.compiled c.requires.callable typed in
     record {
       value = record {
         made = made;

@@ -1,6 +1,5 @@
 -- A frame whose next rule is tried, or which has none left.
-use Rattle.isle_run.specs.Calls.Answers.{AreWritten}
-use Rattle.std.proofs.Common.{◌≡◌, ◌+◌, ◌<◌, ◌^◌, ℕ, zero, suc, false, List, [], ◌∷◌, Option, Some, None, length, map, slice_get}
+use Rattle.std.proofs.Common.{◌≡◌, ◌+◌, ◌<◌, ◌^◌, ℕ, zero, suc, List, [], ◌∷◌, Option, Some, None, length, slice_get}
 use Rattle.std.proofs.Common.{refl, sym, ◌∙◌, ap, subst, arith, Contains}
 use Rattle.std.proofs.lemmas.List.Elements.{Contains-append_right}
 use Rattle.std.specs.Prelude.{Vec}
@@ -8,19 +7,12 @@ use Rattle.std.specs.Global.{Global}
 use Rattle.std.specs.List.{AllZip}
 use Rattle.isle_types.specs.TypeTables.{TypeTables}
 use Rattle.isle_types.specs.declared.ids.TermId.{TermId}
-use Rattle.isle_types.specs.declared.ids.TypeId.{TypeId}
 use Rattle.isle_terms.specs.Shown.TermTables.{TermTables}
-use Rattle.isle_terms.specs.Values.{ValueTree, value_list}
 use Rattle.isle_terms.specs.declared.rules.IfLet.{IfLet as Condition}
 use Rattle.isle_terms.specs.declared.rules.Pattern.{Pattern}
 use Rattle.isle_terms.specs.declared.rules.Rule.{Rule}
-use Rattle.isle_meaning.specs.Values.{Values}
-use Rattle.isle_meaning.specs.GroundValues.{AreValuesOf, values_of}
-use Rattle.isle_meaning.specs.ValueTypes.{AreOfTypes}
 use Rattle.isle_meaning.specs.PlainRuns.{no_variables}
 use Rattle.isle_meaning.specs.Worlds.{Answers, Event}
-use Rattle.isle_meaning.specs.Asking.{stuck}
-use Rattle.isle_run.specs.declared.calls.answer.Answer.TheVariants.{Stuck}
 use Rattle.isle_run.specs.declared.roads.plain.fitting.Fitted.{Fitted}
 use Rattle.isle_run.specs.declared.calls.frames.Advanced.{Advanced}
 use Rattle.isle_run.specs.declared.calls.frames.Advanced.TheVariants.{Is, Missing, Ends, Calls}
@@ -32,18 +24,14 @@ use Rattle.isle_run.specs.declared.roads.plain.laid.LaidRule.{LaidRule}
 use Rattle.isle_run.specs.declared.program.Program.{Program}
 use Rattle.isle_run.specs.declared.calls.store.Stored.{Stored}
 use Rattle.isle_run.specs.Plain.LaidOut.Words.{IsLaidOut, StandBehind}
-use Rattle.isle_run.specs.Meanings.{checked}
-use Rattle.isle_meaning.specs.Outcomes.{ended, unmatched}
-use Rattle.isle_run.specs.Programs.{number_of, types_taken, value_facts}
 use Rattle.isle_run.specs.Stores.Values.{Stands, StandEach, Extends}
 use Rattle.isle_run.specs.Plain.Laid.{IsLaidRule, AllStandBehind}
 use Rattle.isle_run.specs.Calls.Open.{CallOf}
 use Rattle.isle_run.specs.Calls.States.{Host, State, IsOpenIn, answers_of}
 use Rattle.isle_run.specs.Plain.Fitting.{number_of_variable, all_shown_in, FitAllTold}
 use Rattle.isle_run.specs.Plain.Frames.{CallComes, RulesLead, RuleTried, IsTryingRule, IsTrying, Goes, IsFrameFor, IsFrameOf, AdvancesTo}
-use Rattle.isle_run.specs.Plain.Frames.{UnmatchedIs}
+use Rattle.isle_run.specs.Calls.Ways.{UnmatchedIs}
 use Rattle.isle_run.proofs.Stores.Values.{stand_longer, extends_again}
-use Rattle.isle_run.proofs.OpenCalls.Telling.{inputs_taken}
 use Rattle.isle_run.proofs.Plain.Frames.Next.{none_leads}
 use Rattle.isle_run.proofs.Plain.Frames.Told.{of_open, PatternsEnd, patterns_come}
 
@@ -113,35 +101,6 @@ module _ {W : Type 0} {host : Host W} {k : CallOf} {z : State W} (runs : IsOpenI
             (subst (λ (p : Program). IsLaidRule p place known laid) (sym runs.of_program) laid_out) listed middle new unbound found
             frame.args.items fitted unset each stands (stand_longer kept k.args frame.args.items of.for_call.stand) its),
       )
-
--- a call of a term that may not fail of which no rule is left is stuck
-pub stuck_told : (k : CallOf) (program : Program) → k.program ≡ program → (stored : List Stored) (frame : Frame)
-    → IsFrameFor k stored frame → (types : List TypeId) → map number_of types ≡ types_taken program frame.term → (values : Vec
-    ValueTree Global)
-    → ((vs : Values) → StandEach stored vs frame.args.items → AreValuesOf (value_facts program) vs (map
-    number_of types)
-    → AreOfTypes (value_facts program) (value_list values.items) (map number_of types)
-    × (values_of (value_facts program) (value_list values.items) ≡ vs))
-    → (checked program).terms.partial frame.term.0 ≡ false → UnmatchedIs k (Ends (Stuck frame.term values))
-stuck_told k program of_program stored frame h types taken values printed partial =
-    let inputs : map number_of types ≡ (checked program).terms.inputs frame.term.0 = taken ∙ inputs_taken program frame.term in
-    let its : (checked k.program).terms.partial k.term ≡ false =
-    subst (λ (p : Program). (checked p).terms.partial k.term ≡ false) (sym of_program)
-    (subst (λ (t : ℕ). (checked program).terms.partial t ≡ false) h.term partial) in
-    let typed : AreValuesOf (value_facts program) k.args (map number_of types) =
-    subst (AreValuesOf (value_facts program) k.args) (sym inputs)
-    (subst (λ (t : ℕ). AreValuesOf (value_facts program) k.args ((checked program).terms.inputs t)) (sym h.term)
-    (subst (λ (p : Program). AreValuesOf (value_facts p) k.args ((checked p).terms.inputs k.term)) of_program h.typed)) in
-    let shown = printed k.args h.stand typed in (
-      stuck frame.term.0 k.args,
-      (
-        k.args,
-        refl,
-        subst (λ (p : Program). AreWritten (checked p).values k.args ((checked p).terms.inputs frame.term.0) (value_list values.items))
-            (sym of_program) (record { typed = subst (AreOfTypes (value_facts program) (value_list values.items)) inputs shown.0; stand = shown.1 }),
-      ),
-      ap (λ b. unmatched b k.term k.args) its ∙ ap (λ (t : ℕ). ended (stuck t k.args)) (sym h.term),
-    )
 
 -- where no rule is left the frame comes to that
 pub unmatched_advances : (k : CallOf) (stored : List Stored) (frame : Frame) (advanced : Advanced) → RulesLead k [] frame.tried →

@@ -9,6 +9,7 @@ use Rattle.isle_run.specs.declared.calls.answer.Called.{Called}
 use Rattle.isle_run.specs.declared.program.Program.{Program}
 use Rattle.isle_run.specs.Calls.Answers.{TellsOutcome}
 use Rattle.isle_run.specs.Calls.Ways.{IsWay, IsReady}
+use Rattle.isle_run.specs.Plain.Frames.{AnyProgram}
 use Rattle.isle_run.specs.Meanings.{checked, may_run}
 use Rattle.isle_run.specs.Plain.Frames.{plain_way}
 use Rattle.isle_run.specs.PlainCalls.{TellsPlainly, BeginsPlainly}
@@ -33,12 +34,12 @@ plain_is_way = record {
   begun_below = waiting_begins;
   longer = λ k old new frame since term vs extends waits. waiting_longer k old frame since term vs waits extends;
   deep = λ k stored frame since term vs waits. waits.for_call.depth;
-  ready = λ k stored frame since term vs waits. record { may = waits.may_call; typed = waits.held.args_typed };
+  ready = λ k stored frame since term vs waits. record { holds = tt; may = waits.may_call; typed = waits.held.args_typed };
 }
 
 -- what a run comes to, and its answer tells, the call on the plain road tells
 pub run_tells : (program : Program) (w : Answers) (n t : ℕ) (vs : Values) (called : Called) (made : List Event) (r : Outcome Value)
-    → IsReady program t vs → TellsOutcome program t called.answer r → PlainRun (checked program) w n t vs called.steps made r
+    → IsReady AnyProgram program t vs → TellsOutcome program t called.answer r → PlainRun (checked program) w n t vs called.steps made r
     → TellsPlainly program w n t vs called made
 run_tells program w n t vs called made r ready told run = record {
   outcome = r;
@@ -56,7 +57,7 @@ run_tells program w n t vs called made r ready told run = record {
         (plain_run_meant (checked program) w (may_run program) (sound_of program).sound) n t vs called.steps made e ready.may ready.typed run
 
 -- and one that stops begins with its effects
-pub run_begins : (program : Program) (w : Answers) (n t : ℕ) (vs : Values) (made : List Event) → IsReady program t vs
+pub run_begins : (program : Program) (w : Answers) (n t : ℕ) (vs : Values) (made : List Event) → IsReady AnyProgram program t vs
     → PlainBegins (checked program) w n t vs made → BeginsPlainly program w n t vs made
 run_begins program w n t vs made ready begun = record {
   begins = begun;

@@ -16,27 +16,13 @@ pub returns : goal.returns
 returns c =
     let program = c.args.program.now in let files = c.args.files.now in
     let own : List Rule = c.args.set.now.rules in
-    let tree : BlockShown = c.in_ok-tree.tree in
+    let tree : BlockShown = c.args.tree.now in
     let steps : steps_text program files c.rules-2.result.now 2 (shown_steps c.steps.result).tree ≡ steps_text program files own 2 tree.tree =
     ap (λ (l : List Rule). steps_text program files l 2 (shown_steps c.steps.result).tree) c.rules-2.ensures
     ∙ ap (λ (b : BlockShown). steps_text program files own 2 b.tree) c.steps.ensures in
     IfOk-weaker c.format.result _ _
     (λ text is. record {
-      tree = tree;
-      built = record {
-        builds = c.in_ok-tree.ensures.builds;
-        returns = c.in_ok-tree.ensures.returns;
-        chooses = c.in_ok-tree.ensures.chooses;
-        answers = c.in_ok-tree.ensures.answers;
-        bag = c.in_ok-tree.ensures.bag;
-        asks = c.in_ok-tree.ensures.asks;
-        reads = c.in_ok-tree.ensures.reads;
-        fields = c.in_ok-tree.ensures.fields;
-        by_tests = c.in_ok-tree.ensures.by_tests;
-        typed = c.in_ok-tree.ensures.typed;
-        ascends = c.in_ok-tree.ensures.ascends;
-        few = c.in_ok-tree.ensures.few;
-      };
+      built = c.requires;
       rules = string_bytes c.in_ok-rules.rules;
       told = subst (λ (l : List Rule). AreTexts (IsRuleText program files) l (string_bytes c.in_ok-rules.rules)) c.rules.ensures c.in_ok-rules.ensures;
       is =

@@ -14,7 +14,7 @@ ghost use Rattle.isle_run.specs.Plain.Frames.{IsFrameOf, IsWaitingFor, below_cal
 ghost use Rattle.isle_run.specs.Calls.Ways.{HasBegun};
 ghost use Rattle.isle_run.specs.Calls.States.{host, IsOpenIn, HasGoneOn, Makes};
 ghost use Rattle.isle_run.specs.Plain.Frames.{driven, IsTrying, awaited, IsHeldUp, FrameEnds, RuleEnds, laid_at, root_there, root_at, at_missing};
-ghost use Rattle.isle_run.specs.Plain.Frames.{IsFrameFor, IsOnWay, IsFirstAt, IsBegun, IsBegunAt, ending_missing, IsEndingOf, UnmatchedIs};
+ghost use Rattle.isle_run.specs.Plain.Frames.{IsFrameFor, IsOnWay, IsFirstAt, IsBegun, IsBegunAt, ending_missing, IsEndingOf};
 ghost use Rattle.isle_run.specs.Plain.Laid.{AllStandBehind};
 ghost use Rattle.isle_run.specs.Meanings.{checked};
 ghost use Rattle.isle_meaning.specs.Outcomes.{given, missing};
@@ -24,7 +24,7 @@ ghost use Rattle.isle_run.specs.Meanings.{may_run};
 mod current;
 
 use crate::calls::answer::{Answer, Effect};
-use crate::calls::frames::Advanced;
+use crate::calls::frames::{Advanced, unmatched};
 use crate::calls::host::Told;
 use crate::calls::store::{Store, Stored};
 use crate::program::Program;
@@ -152,7 +152,14 @@ impl<'a> Driver<'a> {
         ensures program { self.new.program.now ≡ self.old.program.now }
     {
         let Some((place, others)) = frame.others.split_first() else {
-            return Ok(Ending::Comes(self.unmatched(frame)?));
+            let comes = unmatched(
+                self.alloc,
+                self.program,
+                &self.store,
+                frame.term,
+                frame.args.as_slice(),
+            )?;
+            return Ok(Ending::Comes(comes));
         };
         let Some((rule, laid)) = self.program.laid_rule(*place) else {
             frame.others = others;
@@ -180,23 +187,6 @@ impl<'a> Driver<'a> {
             Fitted::Leaves => Ok(Ending::On),
             Fitted::IllTyped(term, args) => Ok(ill_typed(term, args)),
         }
-    }
-
-    /// What a call comes to of which no rule is left.
-    fn unmatched(&self, frame: &Frame<'a>) -> Result<Advanced, AllocError>
-        ensures { IfOk result (λ advanced. (k : CallOf) → k.program ≡ self.now.program.now
-            → IsFrameFor k self.now.store frame.now → UnmatchedIs k advanced) }
-    {
-        if self.program.is_partial(frame.term) {
-            return Ok(Advanced::Missing);
-        }
-        let args = self.store.print_all(
-            self.alloc,
-            self.program,
-            frame.args.as_slice(),
-            self.program.arg_types(frame.term),
-        )?;
-        Ok(Advanced::Ends(Answer::Stuck(frame.term, args)))
     }
 
     /// Goes on with the rule that is being tried, or was chosen.

@@ -2,7 +2,7 @@ use Rattle.std.proofs.Common.{ap, sym, refl, ◌∙◌, Some, codes, option_map,
 use Rattle.std.specs.Str.Parse.{ExplainsUnsignedError, HasUnsignedDigitsIfOk, ParsesUnsigned}
 use Rattle.clap.specs.Words.{found_of, rows_of}
 use Rattle.clap.proofs.WalkLemmas.{first_value-rows, one_text-rows}
-use Rattle.islec.proofs.ValueLemmas.{depth_is, files_read, flag_reads, has_depth, run_files, run_plain}
+use Rattle.islec.proofs.ValueLemmas.{depth_is, files_read, flag_reads, has_depth, run_files, run_plain, run_steps}
 use Rattle.islec.proofs.line.run_line.Goals.{in-Some-get_str+in_ok-from_str-in-Some-get_str, in-None}
 use Rattle.islec.proofs.line.run_line.Goals as goal
 
@@ -32,12 +32,15 @@ returns-clause-says c =
     let read = files_read found files.0 c.get_strs.result _ c.unwrap_or.result c.in_ok-files.files files.1
     c.get_strs.ensures c.unwrap_or.ensures c.in_ok-files.ensures in
     let plain = one_text-rows found (codes "plain") in
+    let steps = one_text-rows found (codes "steps") in
     record {
       job = (
         refl,
         depth ∙ c.in-Some.is,
         flag_reads _ c.get_flag-plain.result (run_plain (rows_of found) c.requires) (λ e. c.get_flag-plain.ensures.value (plain ∙ e))
             (λ e. c.get_flag-plain.ensures.other (plain ∙ e)),
+        flag_reads _ c.get_flag-steps.result (run_steps (rows_of found) c.requires) (λ e. c.get_flag-steps.ensures.value (steps ∙ e))
+            (λ e. c.get_flag-steps.ensures.other (steps ∙ e)),
       );
       files = read.0;
       world = elim c.match-get_str.branch [

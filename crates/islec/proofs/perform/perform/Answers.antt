@@ -26,7 +26,7 @@ returns g c =
               let did = w.run-done.ensures in
               rw (w.status-is, w.writer-is, w.reader-is)
               (subst (λ (j : Job). EndsJob j files world input left old new w.conclude-status.result) (sym w.in-Run.is)
-              (run_ends w.in-Run.depth w.in-Run.plain files world input left old (g.W.Write.contents w.run-done.new.writer)
+              (run_ends w.in-Run.manner files world input left old (g.W.Write.contents w.run-done.new.writer)
               w.run-done.result w.conclude-status.result new w.conclude-status.ensures did.answered did.all_well did.some_refused did.refused did.other did.cut
               did.memory))
           | in-Check w ↦

@@ -25,12 +25,12 @@ returns g c =
     let refuses : RefusesWorld program file.text fault = subst (λ (t : List ℕ). RefusesWorld program t fault) (c.as_str.ensures.value ∙ sym told) c.in-Err.ensures.refused in
     let input = g.R.Read.remaining c.args.reader.now in let old = g.W.Write.contents c.args.writer.now in let new = g.W.Write.contents c.refuse_world.new.writer in
     let r = c.refuse_world.result in record {
-      all_well = never_answers program world file c.args.depth c.args.plain same fault refuses input input old new false AllWell r c.refuse_world.ensures.status all_well_is_other;
-      some_refused = never_answers program world file c.args.depth c.args.plain same fault refuses input input old new true SomeRefused r c.refuse_world.ensures.status some_refused_is_other;
-      refused = tells program world file c.args.depth c.args.plain same fault refuses input input old new r c.refuse_world.ensures.written;
-      other = ends program world file c.args.depth c.args.plain same fault refuses input input old new r c.refuse_world.ensures.status;
-      cut = cuts program world file c.args.depth c.args.plain same fault refuses input input old new r c.refuse_world.ensures.cut;
-      memory = stops program world file c.args.depth c.args.plain same fault refuses input input old new r refl c.refuse_world.ensures.memory;
+      all_well = never_answers program world file c.args.manner same fault refuses input input old new false AllWell r c.refuse_world.ensures.status all_well_is_other;
+      some_refused = never_answers program world file c.args.manner same fault refuses input input old new true SomeRefused r c.refuse_world.ensures.status some_refused_is_other;
+      refused = tells program world file c.args.manner same fault refuses input input old new r c.refuse_world.ensures.written;
+      other = ends program world file c.args.manner same fault refuses input input old new r c.refuse_world.ensures.status;
+      cut = cuts program world file c.args.manner same fault refuses input input old new r c.refuse_world.ensures.cut;
+      memory = stops program world file c.args.manner same fault refuses input input old new r refl c.refuse_world.ensures.memory;
     }
 
 pub returns-in-Ok-clause-all_well : goal.returns-in-Ok-clause-all_well
@@ -42,7 +42,7 @@ returns-in-Ok-clause-all_well g c =
           (subst (λ (t : List ℕ). SpellsWorld c.args.program.now t entries) c.as_str.ensures.value spelt),
       has,
     ) in
-    answers_in_world c.args.program.now (world_file c.args.world) c.args.depth c.args.plain c.in-Ok.table c.answer.new.world spells (g.R.Read.remaining c.args.reader.now) (g.R.Read.remaining c.answer.new.reader)
+    answers_in_world c.args.program.now (world_file c.args.world) c.args.manner c.in-Ok.table c.answer.new.world spells (g.R.Read.remaining c.args.reader.now) (g.R.Read.remaining c.answer.new.reader)
     (g.W.Write.contents c.args.writer.now) (g.W.Write.contents c.answer.new.writer) false AllWell c.answer.result c.answer.ensures.all_well
 
 pub returns-in-Ok-clause-some_refused : goal.returns-in-Ok-clause-some_refused
@@ -54,7 +54,7 @@ returns-in-Ok-clause-some_refused g c =
           (subst (λ (t : List ℕ). SpellsWorld c.args.program.now t entries) c.as_str.ensures.value spelt),
       has,
     ) in
-    answers_in_world c.args.program.now (world_file c.args.world) c.args.depth c.args.plain c.in-Ok.table c.answer.new.world spells (g.R.Read.remaining c.args.reader.now) (g.R.Read.remaining c.answer.new.reader)
+    answers_in_world c.args.program.now (world_file c.args.world) c.args.manner c.in-Ok.table c.answer.new.world spells (g.R.Read.remaining c.args.reader.now) (g.R.Read.remaining c.answer.new.reader)
     (g.W.Write.contents c.args.writer.now) (g.W.Write.contents c.answer.new.writer) true SomeRefused c.answer.result c.answer.ensures.some_refused
 
 pub returns-in-Ok-clause-cut : goal.returns-in-Ok-clause-cut
@@ -66,7 +66,7 @@ returns-in-Ok-clause-cut g c =
           (subst (λ (t : List ℕ). SpellsWorld c.args.program.now t entries) c.as_str.ensures.value spelt),
       has,
     ) in
-    cuts_in_world c.args.program.now (world_file c.args.world) c.args.depth c.args.plain c.in-Ok.table c.answer.new.world spells (g.R.Read.remaining c.args.reader.now) (g.R.Read.remaining c.answer.new.reader)
+    cuts_in_world c.args.program.now (world_file c.args.world) c.args.manner c.in-Ok.table c.answer.new.world spells (g.R.Read.remaining c.args.reader.now) (g.R.Read.remaining c.answer.new.reader)
     (g.W.Write.contents c.args.writer.now) (g.W.Write.contents c.answer.new.writer) c.answer.result c.answer.ensures.cut
 
 pub returns-in-Ok-clause-memory : goal.returns-in-Ok-clause-memory
@@ -78,5 +78,5 @@ returns-in-Ok-clause-memory g c =
           (subst (λ (t : List ℕ). SpellsWorld c.args.program.now t entries) c.as_str.ensures.value spelt),
       has,
     ) in
-    stops_in_world c.args.program.now (world_file c.args.world) c.args.depth c.args.plain c.in-Ok.table c.answer.new.world spells (g.R.Read.remaining c.args.reader.now) (g.R.Read.remaining c.answer.new.reader)
+    stops_in_world c.args.program.now (world_file c.args.world) c.args.manner c.in-Ok.table c.answer.new.world spells (g.R.Read.remaining c.args.reader.now) (g.R.Read.remaining c.answer.new.reader)
     (g.W.Write.contents c.args.writer.now) (g.W.Write.contents c.answer.new.writer) c.answer.result c.answer.ensures.memory

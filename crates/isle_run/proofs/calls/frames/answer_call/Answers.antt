@@ -79,7 +79,7 @@ returns-in-Answers-clause-ran g c = λ vs stand ready.
       term = c.args.term.0;
       args = vs;
     } in
-    let may : Values → Type 0 = λ vs. StandEach first.stored vs c.args.args.items × IsReady first.program c.args.term.0 vs in
+    let may : Values → Type 0 = λ vs. StandEach first.stored vs c.args.args.items × IsReady g.R.Road.way.holds first.program c.args.term.0 vs in
     let still : first.program ≡ u.program = sym (c.in_ok-advanced.ensures.goes_on.program ∙ c.loop.invariant.gone.program) in
     let (made, has, goes) = running_turn words way first goal may t c.loop.waiting.items c.loop.top c.loop.invariant (λ vs. record { of_program = refl; in_world = refl }) u
     c.advance.new.frame c.in_ok-advanced.advanced c.in_ok-advanced.ensures.goes_on c.in_ok-advanced.ensures.advanced c.next_frame.new.waiting.items
@@ -103,7 +103,7 @@ loop-preserved g c =
       term = c.args.term.0;
       args = vs;
     } in
-    let may : Values → Type 0 = λ vs. StandEach first.stored vs c.args.args.items × IsReady first.program c.args.term.0 vs in
+    let may : Values → Type 0 = λ vs. StandEach first.stored vs c.args.args.items × IsReady g.R.Road.way.holds first.program c.args.term.0 vs in
     let still : first.program ≡ u.program = sym (c.in_ok-advanced.ensures.goes_on.program ∙ c.loop.invariant.gone.program) in
     running_next words way first goal may t c.loop.waiting.items c.loop.top c.loop.invariant (λ vs. record { of_program = refl; in_world = refl }) u
     c.advance.new.frame c.in_ok-advanced.advanced c.in_ok-advanced.ensures.goes_on c.in_ok-advanced.ensures.advanced c.next_frame.new.waiting.items
@@ -124,7 +124,7 @@ returns-in_err-advanced-clause-lost g c = on_err c.from_residual.result (λ vs s
       term = c.args.term.0;
       args = vs;
     } in
-    let may : Values → Type 0 = λ vs. StandEach first.stored vs c.args.args.items × IsReady first.program c.args.term.0 vs in
+    let may : Values → Type 0 = λ vs. StandEach first.stored vs c.args.args.items × IsReady g.R.Road.way.holds first.program c.args.term.0 vs in
     let (made, has, begun) = running_begun words way first c.laws.ensures goal may t c.loop.waiting.items c.loop.top c.loop.invariant
     (λ vs. record { of_program = refl; in_world = refl }) u c.in_err-advanced.ensures.lost vs (stand, ready) in
     let deep : suc (c.args.depth - 1) ≡ c.args.depth = let some = c.if-depth-eq0.false in omega (arith, some) in
@@ -144,7 +144,7 @@ returns-in_err-frame-clause-lost g c = on_err c.from_residual-in_err-frame.resul
       term = c.args.term.0;
       args = vs;
     } in
-    let may : Values → Type 0 = λ vs. StandEach first.stored vs c.args.args.items × IsReady first.program c.args.term.0 vs in
+    let may : Values → Type 0 = λ vs. StandEach first.stored vs c.args.args.items × IsReady g.R.Road.way.holds first.program c.args.term.0 vs in
     let (made, has, begun) = running_begun words way first c.laws.ensures goal may t c.loop.waiting.items c.loop.top c.loop.invariant
     (λ vs. record { of_program = refl; in_world = refl }) u
     (λ k since open_in is. let (made, has, advances) = c.in_ok-advanced.ensures.advanced k since open_in is in
@@ -166,7 +166,7 @@ returns-clause-lost g c = λ vs stand ready.
       term = c.args.term.0;
       args = vs;
     } in
-    let may : Values → Type 0 = λ vs. StandEach first.stored vs c.args.args.items × IsReady first.program c.args.term.0 vs in
+    let may : Values → Type 0 = λ vs. StandEach first.stored vs c.args.args.items × IsReady g.R.Road.way.holds first.program c.args.term.0 vs in
     let (made, has, begun) = running_begun words way first c.laws.ensures goal may t c.loop.waiting.items c.loop.top c.loop.invariant
     (λ vs. record { of_program = refl; in_world = refl }) t
     (λ k since open_in is. (

@@ -12,5 +12,5 @@ invariant-loop g l =
     let first = state (g.R.Road.compiled l.fn.road) l.fn.world l.fn.effects.items (g.R.Road.stored l.fn.road) in
     IsRunning words g.R.Road.way first
     (λ vs. record { program = first.program; answers = answers_of words first; depth = l.fn.depth - 1; term = l.fn.term.0; args = vs })
-    (λ vs. StandEach first.stored vs l.fn.args.items × IsReady first.program l.fn.term.0 vs)
+    (λ vs. StandEach first.stored vs l.fn.args.items × IsReady g.R.Road.way.holds first.program l.fn.term.0 vs)
     (state (g.R.Road.compiled l.road) l.world l.effects.items (g.R.Road.stored l.road)) l.waiting.items l.top

@@ -8,6 +8,7 @@ use Rattle.isle_run.specs.Calls.Answers.{answers_in}
 use Rattle.isle_run.specs.Calls.Ways.{IsReady}
 use Rattle.isle_run.specs.Meanings.{checked}
 use Rattle.isle_run.specs.Stores.Values.{StandEach}
+use Rattle.isle_run.specs.Plain.Frames.{AnyProgram}
 use Rattle.isle_run.proofs.Plain.Frames.Ways.{run_tells, run_begins}
 use Rattle.isle_run.proofs.program.Program.call_plain.Goals as goal
 
@@ -18,7 +19,7 @@ returns-clause-ran g c = IfOk-weaker c.answer_call.result _ _ (λ called told ma
     let vs = values_of (checked program).values trees in
     let stand = subst (λ (l : List ValueTree). StandEach c.share_all.new.self (values_of (checked program).values (value_list l)) c.in_ok-shared.shared.items)
     c.as_slice.ensures.value c.in_ok-shared.ensures.numbers in
-    let ready : IsReady program c.args.term.0 vs = record { may = may; typed = record { trees = trees; typed = typed; stand = refl } } in
+    let ready : IsReady AnyProgram program c.args.term.0 vs = record { holds = tt; may = may; typed = record { trees = trees; typed = typed; stand = refl } } in
     let (made, has, r, tells, run) = told vs stand ready in (
       made,
       has,
@@ -40,7 +41,7 @@ returns-clause-lost g c = on_err_weaker c.answer_call.result (λ lost may typed.
     let vs = values_of (checked program).values trees in
     let stand = subst (λ (l : List ValueTree). StandEach c.share_all.new.self (values_of (checked program).values (value_list l)) c.in_ok-shared.shared.items)
     c.as_slice.ensures.value c.in_ok-shared.ensures.numbers in
-    let ready : IsReady program c.args.term.0 vs = record { may = may; typed = record { trees = trees; typed = typed; stand = refl } } in
+    let ready : IsReady AnyProgram program c.args.term.0 vs = record { holds = tt; may = may; typed = record { trees = trees; typed = typed; stand = refl } } in
     let (made, has, begun) = lost vs stand ready in (
       made,
       has,

@@ -61,6 +61,7 @@ returns c =
     ∙ slice_get_read c.deref-2.result.now (length c.deref-2.result.now) place own refl c.in_ok-set.ensures.lookup.3.0 c.in_ok-set.ensures.lookup.1 in
     let other : slice_get trees place ≡ Some tree =
     ap (λ (l : List BlockShown). slice_get l place) (sym c.deref-3.ensures.value)
-    ∙ slice_get_read c.deref-3.result.now (length c.deref-3.result.now) place tree refl c.in_ok-tree.ensures.lookup.3.0 c.in_ok-tree.ensures.lookup.1 in
+    ∙ slice_get_read c.deref-3.result.now (length c.deref-3.result.now) place tree refl c.in_ok-tree.ensures.lookup.3.0
+    c.in_ok-tree.ensures.lookup.1 in
     sym (found_at_place sets trees term own tree (subst (λ (k : ℕ). slice_get sets k ≡ Some own) at one)
     (subst (λ (k : ℕ). slice_get trees k ≡ Some tree) at other))

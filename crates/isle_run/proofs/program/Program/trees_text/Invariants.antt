@@ -1,9 +1,8 @@
 use Rattle.std.proofs.Common.{take}
 use Rattle.std.specs.Prelude.{string_bytes}
-use Rattle.isle_run.specs.Programs.{rule_sets_of}
 use Rattle.isle_run.specs.TreeTexts.Names.{AreTexts}
-use Rattle.isle_run.specs.TreeTexts.Sets.{IsEntryText}
+use Rattle.isle_run.specs.TreeTexts.Sets.{IsEntryText, sets_and_trees}
 use Rattle.isle_run.proofs.program.Program.trees_text.Given as goal
 
-abbrev pub invariant-loop-set : goal.invariant-loop-set
-invariant-loop-set l = AreTexts (IsEntryText l.self l.files l.asked) (take l.set-index (rule_sets_of l.self)) (string_bytes l.text)
+abbrev pub invariant-loop-place : goal.invariant-loop-place
+invariant-loop-place l = AreTexts (IsEntryText l.self l.files l.asked) (take l.place (sets_and_trees l.self)) (string_bytes l.text)

@@ -14,7 +14,7 @@ use Rattle.isle_run.proofs.trees.graphs.set_graph.Goals as goal
 pub returns : goal.returns
 returns c =
     let program = c.args.program.now in let files = c.args.files.now in let set = c.args.set.now in
-    let tree : BlockShown = c.in_ok-tree.tree in
+    let tree : BlockShown = c.args.tree.now in
     let rules : List Rule = c.rules-rules.result.now in
     let sites : List Binding = c.bindings-sites.result.now in
     let types : List (Option TypeId) = c.as_slice.result.now in
@@ -30,21 +30,7 @@ returns c =
     ∙ ap (λ (b : BlockShown). steps_graph (drawn_of program files c.args.term set) start 1 b.tree) c.steps.ensures in
     IfOk-weaker c.format.result _ _
     (λ text is. record {
-      tree = tree;
-      built = record {
-        builds = c.in_ok-tree.ensures.builds;
-        returns = c.in_ok-tree.ensures.returns;
-        chooses = c.in_ok-tree.ensures.chooses;
-        answers = c.in_ok-tree.ensures.answers;
-        bag = c.in_ok-tree.ensures.bag;
-        asks = c.in_ok-tree.ensures.asks;
-        reads = c.in_ok-tree.ensures.reads;
-        fields = c.in_ok-tree.ensures.fields;
-        by_tests = c.in_ok-tree.ensures.by_tests;
-        typed = c.in_ok-tree.ensures.typed;
-        ascends = c.in_ok-tree.ensures.ascends;
-        few = c.in_ok-tree.ensures.few;
-      };
+      built = c.requires;
       is = is ∙ ap₂ (λ (l m : List ℕ). l ++ m) c.in_ok-line.ensures (c.in_ok-steps.ensures ∙ steps);
     })
     c.format.ensures.ok

@@ -4,6 +4,7 @@ use Rattle.isle_run.specs.declared.roads.plain.frame.current.Current.{Current}
 use Rattle.isle_run.specs.declared.program.Program.{Program}
 use Rattle.isle_run.specs.Plain.Frames.{CallComes, RulesLead, Goes, FrameEnds, AdvancesTo}
 use Rattle.isle_run.specs.Meanings.{checked}
+use Rattle.isle_run.specs.Stores.Values.{StandEach}
 use Rattle.isle_meaning.specs.Outcomes.{ended}
 use Rattle.isle_run.proofs.Plain.Frames.Ends.{with_rule}
 use Rattle.isle_run.proofs.Plain.Frames.Tried.{laid_behind, patterns_read, unmatched_advances, began}
@@ -18,10 +19,11 @@ returns-in_default-clause-ending g c = λ k since runs of none.
     let frame = c.args.frame.now in
     let goes = subst (λ (o : Option Current). Goes k c.args.self.now.store o frame.others.now frame.tried since) none of.goes in
     let empty : frame.others.now ≡ [] = no_items frame.others.now c.in_default.ensures.cases in
-    subst (λ (s : List Event). AdvancesTo k c.args.self.now.store c.args.frame.now s c.in_ok-unmatched.field-0) (sym goes.0)
-    (unmatched_advances k c.args.self.now.store c.args.frame.now c.in_ok-unmatched.field-0
+    subst (λ (s : List Event). AdvancesTo k c.args.self.now.store c.args.frame.now s c.in_ok-comes.comes) (sym goes.0)
+    (unmatched_advances k c.args.self.now.store c.args.frame.now c.in_ok-comes.comes
     (subst (λ (l : List ℕ). RulesLead k l c.args.frame.now.tried) empty goes.1)
-    (c.in_ok-unmatched.ensures k runs.of_program of.for_call))
+    (c.in_ok-comes.ensures k runs.of_program (sym of.for_call.term)
+    (subst (λ (ns : List ℕ). StandEach c.args.self.now.store k.args ns) (sym c.as_slice.ensures.value) of.for_call.stand) of.for_call.typed))
 
 pub returns-in_default-laid_rule-clause-ending : goal.returns-in_default-laid_rule-clause-ending
 returns-in_default-laid_rule-clause-ending g c = λ k since runs of none.
@@ -45,8 +47,8 @@ returns-in_ok-begin-in-Fits-clause-ending g c = λ k since runs of none.
     (record c.args.frame.now { others = c.in-Some.others; tried = c.saturating_add-frame.result }) refl refl refl c.in-Some.ensures.cases.0
     counts c.in-Some-laid_rule.rule.now c.in-Some-laid_rule.laid.now c.in-Some-laid_rule.ensures
     c.in_ok-unset.ensures.kept c.in_ok-fit_all.ensures.kept c.new-variables.result c.fit_all.new.variables c.in_ok-fit_all.field-0 _ c.in-Fits.is
-    c.in_ok-unset.unset c.new-variables.ensures c.in_ok-unset.ensures.number c.as_slice.result.now c.as_slice.ensures c.as_slice-2.result.now
-    c.as_slice-2.ensures.value c.in_ok-fit_all.ensures.fitted in
+    c.in_ok-unset.unset c.new-variables.ensures c.in_ok-unset.ensures.number c.as_slice-2.result.now c.as_slice-2.ensures c.as_slice-3.result.now
+    c.as_slice-3.ensures.value c.in_ok-fit_all.ensures.fitted in
     let begun = c.in_ok-begin-in-Fits.ensures in
     record {
       for_call = with_rule for_call _;
@@ -62,8 +64,8 @@ returns-in-Leaves-clause-ending g c = λ k since runs of none.
     (record c.args.frame.now { others = c.in-Some.others; tried = c.saturating_add-frame.result }) refl refl refl c.in-Some.ensures.cases.0
     counts c.in-Some-laid_rule.rule.now c.in-Some-laid_rule.laid.now c.in-Some-laid_rule.ensures
     c.in_ok-unset.ensures.kept c.in_ok-fit_all.ensures.kept c.new-variables.result c.fit_all.new.variables c.in_ok-fit_all.field-0 _ c.in-Leaves.is
-    c.in_ok-unset.unset c.new-variables.ensures c.in_ok-unset.ensures.number c.as_slice.result.now c.as_slice.ensures c.as_slice-2.result.now
-    c.as_slice-2.ensures.value c.in_ok-fit_all.ensures.fitted in
+    c.in_ok-unset.unset c.new-variables.ensures c.in_ok-unset.ensures.number c.as_slice-2.result.now c.as_slice-2.ensures c.as_slice-3.result.now
+    c.as_slice-3.ensures.value c.in_ok-fit_all.ensures.fitted in
     record {
       for_call = for_call;
       goes = subst (λ (o : Option Current). Goes k c.fit_all.new.store o c.in-Some.others.now c.saturating_add-frame.result since) (sym none)
@@ -78,8 +80,8 @@ returns-in-IllTyped-clause-ending g c = λ k since runs of none.
     (record c.args.frame.now { others = c.in-Some.others; tried = c.saturating_add-frame.result }) refl refl refl c.in-Some.ensures.cases.0
     counts c.in-Some-laid_rule.rule.now c.in-Some-laid_rule.laid.now c.in-Some-laid_rule.ensures
     c.in_ok-unset.ensures.kept c.in_ok-fit_all.ensures.kept c.new-variables.result c.fit_all.new.variables c.in_ok-fit_all.field-0 _ c.in-IllTyped.is
-    c.in_ok-unset.unset c.new-variables.ensures c.in_ok-unset.ensures.number c.as_slice.result.now c.as_slice.ensures c.as_slice-2.result.now
-    c.as_slice-2.ensures.value c.in_ok-fit_all.ensures.fitted in
+    c.in_ok-unset.unset c.new-variables.ensures c.in_ok-unset.ensures.number c.as_slice-2.result.now c.as_slice-2.ensures c.as_slice-3.result.now
+    c.as_slice-3.ensures.value c.in_ok-fit_all.ensures.fitted in
     subst (FrameEnds k c.fit_all.new.store (record c.args.frame.now { others = c.in-Some.others; tried = c.saturating_add-frame.result }) since)
     (sym c.ill_typed.ensures)
     (unfit.0, unfit.1, subst (λ (s : List Event). CallComes k c.saturating_add-frame.result s (ended unfit.0)) (sym alone) unfit.2)
