@@ -7,6 +7,7 @@ Each FILE is a list of cases, as tests/commands/README.md describes them. Prints
 case that fails with what differs, and last `N passed, M failed`. Exits with 1 where one failed.
 """
 
+import contextlib
 import json
 import os
 import resource
@@ -15,6 +16,7 @@ import socket
 import subprocess
 import sys
 import tempfile
+import threading
 
 SECONDS = 60
 
@@ -34,6 +36,13 @@ def text_of(parts):
     )
 
 
+def fill(filled, text, step):
+    """Gives a text in steps of so many bytes, until the other end is closed, and ends the input."""
+    with filled, contextlib.suppress(OSError):
+        for at in range(0, len(text), step):
+            filled.sendall(text[at:at + step])
+
+
 def input_of(case):
     """A socket that gives the input of a case, and then ends or fails."""
     step = case.get("stdin_step")
@@ -43,10 +52,8 @@ def input_of(case):
         # What is left unread at the other end makes reading fail once the bytes are read.
         given.send(b"unread")
     text = bytes_of(text_of(case["stdin"]))
-    step = step or max(len(text), 1)
-    for at in range(0, len(text), step):
-        filled.send(text[at:at + step])
-    filled.close()
+    # An input that is longer than what a socket holds is given while the program reads.
+    threading.Thread(target=fill, args=(filled, text, step or max(len(text), 1)), daemon=True).start()
     return given
 
 

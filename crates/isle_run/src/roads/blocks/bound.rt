@@ -1,6 +1,7 @@
 //! What is bound, by site.
 
-ghost use Rattle.std.specs.Prelude.{◌≡◌, ◌-◌, ℕ, List, [], OnOk, OnErr, length, option_copied, reverse};
+ghost use Rattle.std.specs.Prelude.{◌≡◌, ◌≤◌, ◌+◌, ◌-◌, ℕ, List, [], OnOk, OnErr, length, option_copied, reverse};
+ghost use Rattle.std.specs.Vec.{vec_len, vec_capacity};
 ghost use Rattle.isle_run.specs.Blocks.Bounds.{held_at, place_in, AreIndexed};
 
 use std::alloc::{AllocError, Global};
@@ -37,6 +38,20 @@ impl<T> Model for Bound<T> {
     ghost view = { λ bound. shown bound.bindings.items };
 
     ghost invariant = { λ bound. AreIndexed bound.bindings.items bound.places };
+}
+
+/// Makes room for one more in a list. One that is empty gets just that: of most lists of a call that waits one item is all, and as
+/// many calls wait as are nested.
+pub fn make_room<T>(list: &mut Vec<T>) -> Result<(), AllocError>
+    ensures items { list.new.items ≡ list.old.items }
+    ensures len { vec_len list.new ≡ vec_len list.old }
+    ensures ok { OnOk result (vec_len list.new + 1 ≤ vec_capacity list.new) }
+{
+    if list.is_empty() {
+        list.reserve_exact(1)
+    } else {
+        list.reserve(1)
+    }
 }
 
 /// Where the last binding of a site stands.
@@ -105,7 +120,7 @@ impl<T> Bound<T> {
         ensures bound { OnOk result (self.new ≡ (site, held) ∷ self.old) }
         ensures kept { OnErr result (self.new ≡ self.old) }
     {
-        self.bindings.reserve(1)?;
+        make_room(&mut self.bindings)?;
         let place = self.bindings.len();
         let before = if place < FEW {
             None

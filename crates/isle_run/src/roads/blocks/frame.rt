@@ -8,7 +8,7 @@ ghost use Rattle.isle_run.specs.Calls.Open.{CallOf};
 ghost use Rattle.isle_run.specs.Calls.Ways.{IsReady};
 ghost use Rattle.isle_run.specs.Stores.Values.{StandEach};
 
-use super::bound::Bound;
+use super::bound::{Bound, make_room};
 use super::holding::Holding;
 use crate::program::Program;
 use isle_blocks::{Binding, BindingId, ControlFlow, Steps};
@@ -144,6 +144,7 @@ impl<'a> Frame<'a> {
         ensures { IfOk result (λ _. (k : CallOf) (stored : List Stored) (since : List Event)
             → IsPassing k stored self.old opens.now body.entry behind.entry since → IsFrameOf k stored self.new since) }
     {
+        make_room(&mut self.later)?;
         self.later.push(Later {
             steps: behind,
             bindings: self.bound.len(),

@@ -11,9 +11,9 @@ invariant_of-self-2 g c =
     let b : BoundSite _ = record { site = c.args.site; held = c.args.held; before = c.if-place-lt-FEW.before } in
     elim c.if-place-lt-FEW.branch [
       | then-place-lt-FEW w ↦
-          rw (c.in_ok-push.ensures.items, w.self-inside-is, c.reserve.ensures.items)
+          rw (c.in_ok-push.ensures.items, w.self-inside-is, c.make_room.ensures.items)
           (AreIndexed-push_few xs b c.self.inside.places (omega arith) c.self.invariant)
       | else-place-lt-FEW+in_ok-before w ↦
-          rw (c.in_ok-push.ensures.items, w.self-inside-is, c.reserve.ensures.items)
+          rw (c.in_ok-push.ensures.items, w.self-inside-is, c.make_room.ensures.items)
           (AreIndexed-push xs b c.self.inside.places w.insert.new.self c.len-place.result (omega arith) (omega arith) (w.before-is ∙ w.in_ok-before.ensures.old) w.in_ok-before.ensures.updates c.self.invariant)
     ]
