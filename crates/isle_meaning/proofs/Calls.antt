@@ -27,6 +27,10 @@ pub mod Meant
 pub mod Effectless
 -- A plain run begins with its effects; one of a pure term with none.
 pub mod Beginnings
+-- What the world answers is one thing.
+pub mod Answered
+-- Two plain runs of one call at one depth are one, or their effects first differ in the world's answer.
+pub mod One
 -- A plain run that isn't spent is the run at every greater depth.
 pub mod Staying
 -- Where no term reaches itself, no plain run is spent at a depth of at least the number of terms with rules.

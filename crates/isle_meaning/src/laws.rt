@@ -9,7 +9,8 @@ mod sites;
 pub use calls::{
     chain_stays, chains_join, completions_extend, end_stays, ends_are_asked, meaning_stays,
     meanings_are_typed, no_cycles_none_spent, no_overlaps_no_ties, one_meaning, one_meaning_always,
-    plain_runs_are_meant, plain_runs_begin_so, run_stays, trees_are_one, typed_rules_call_well,
+    plain_runs_are_meant, plain_runs_are_one, plain_runs_begin_so, run_stays, trees_are_one,
+    typed_rules_call_well,
 };
 pub use elaborated::{
     definitions_are_elaborated, elaborated_are_kinded, none_is_multi_and_partial,

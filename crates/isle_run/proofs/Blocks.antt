@@ -40,3 +40,5 @@ pub mod Walking
 pub mod Telling
 -- Calls by trees and plain runs.
 pub mod Agreeing
+-- What runs say, and that each call has one.
+pub mod Runs

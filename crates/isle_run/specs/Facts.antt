@@ -1,6 +1,6 @@
 -- Which types have values.
 pub mod Inhabited
--- Which terms a call reaches, and what keeps them from being run yet.
+-- Which terms a call reaches, and what keeps them from being run.
 pub mod Reach
 -- Lists of the terms whose rules make values by a term.
 pub mod Callers

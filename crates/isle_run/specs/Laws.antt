@@ -14,3 +14,5 @@ pub mod Formatting
 pub mod Queries
 -- Calls of compiled programs by their trees.
 pub mod TreeCalls
+-- Runs of calls by trees and by rules.
+pub mod Runs

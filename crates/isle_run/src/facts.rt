@@ -35,7 +35,7 @@ pub(crate) struct Numbers {
     pub(crate) places: Vec<usize>,
     /// Whether each type has a value.
     pub(crate) inhabited: bool,
-    /// For each term whether it can't be run yet, by itself or for a term that it reaches.
+    /// For each term whether it can't be run, by itself or for a term that it reaches.
     pub(crate) barred: Vec<bool>,
 }
 

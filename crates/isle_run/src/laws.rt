@@ -5,6 +5,8 @@ ghost use Rattle.isle_run.specs.Laws.Formatting.{FormattedTextsAreAlike};
 ghost use Rattle.isle_meaning.specs.Laws.Order.{OrderMeansNothing};
 ghost use Rattle.isle_run.specs.Laws.Order.{OrderOfTextsMeansNothing};
 ghost use Rattle.isle_run.specs.Laws.Queries.{RefusedTextsAreNoCalls, TextsAreOneCall, TextsHaveOneFault};
+ghost use Rattle.isle_run.specs.Laws.Runs.{RunsByTreesSaySo, RunsByRulesSaySo, RunsByTreesAreOne, RunsByRulesAreOne};
+ghost use Rattle.isle_run.specs.Laws.Runs.{DeeperRunsByTreesAreOne, DeeperRunsByRulesAreOne};
 ghost use Rattle.isle_run.specs.Laws.Sound.{CompiledProgramsAreSound};
 ghost use Rattle.isle_run.specs.Laws.TreeCalls.{AcyclicCallsAreNotSpent, CallsAgree};
 ghost use Rattle.isle_meaning.specs.Laws.Spelling.{AlikeProgramsMeanTheSame};
@@ -20,9 +22,12 @@ ghost use Rattle.isle_run.specs.Values.Text.{value_text};
 ghost use Rattle.isle_run.specs.Values.Tokens.{IsSpellable};
 
 pub use isle_meaning::laws::{
-    chain_stays, chains_join, completions_extend, end_stays, ends_are_asked, meaning_stays,
-    meanings_are_typed, no_cycles_none_spent, no_overlaps_no_ties, one_meaning, one_meaning_always,
-    plain_runs_are_meant, plain_runs_begin_so, run_stays, trees_are_one, typed_rules_call_well,
+    chain_stays, chains_join, completions_extend, end_stays, ends_are_asked,
+    machine_ends_are_asked, machine_runs_are_meant, machine_runs_are_one, machine_runs_are_short,
+    machine_runs_begin_so, machine_runs_stay, meaning_stays, meanings_are_typed,
+    no_cycles_none_spent, no_machine_run_spent, no_overlaps_no_ties, one_meaning,
+    one_meaning_always, plain_runs_are_meant, plain_runs_are_one, plain_runs_begin_so, run_stays,
+    trees_are_one, typed_rules_call_well,
 };
 
 /// A value of a type is printed to a text that is read back as it at the type.
@@ -74,7 +79,8 @@ pub fn inhabited_programs_have_values()
     ensures { InhabitedProgramsHaveValues }
 {}
 
-/// Calls of a compiled program have one meaning.
+/// Two meanings of one call of a compiled program are one, or their effects first differ in the world's answer to the same call. The term can be
+/// run, and each type is inhabited.
 pub fn compiled_meanings_are_one()
     ensures { CompiledMeaningsAreOne }
 {}
@@ -94,8 +100,25 @@ pub fn acyclic_calls_are_not_spent()
     ensures { AcyclicCallsAreNotSpent }
 {}
 
-/// Where a call of a compiled program is answered by its trees and by its rules, at whatever depths, both answers and effects are one. Each type
-/// is inhabited.
+/// Where a call of a compiled program is answered by its trees and by its rules, at whatever depths, both answers and effects are one, or the
+/// effects first differ in the world's answer to the same call. The term can be run, and each type is inhabited.
 pub fn roads_agree()
     ensures { CallsAgree }
+{}
+
+/// What a run of a call says: an answer is what the call means, any other end is that of a chain of asking, and a pure term makes no effects. By
+/// trees the program is compiled, and a run reaches no more steps than its term's rules take at most. The term can be run, and the values are of
+/// its types.
+pub fn runs_say_so()
+    ensures by_trees { RunsByTreesSaySo }
+    ensures by_rules { RunsByRulesSaySo }
+{}
+
+/// Two runs of one call on one road at one depth are one, with the same steps, effects and outcome, or their effects first differ in the world's
+/// answer to the same call. So are one that isn't spent and one at a greater depth.
+pub fn runs_are_one()
+    ensures by_trees { RunsByTreesAreOne }
+    ensures by_rules { RunsByRulesAreOne }
+    ensures by_trees_deeper { DeeperRunsByTreesAreOne }
+    ensures by_rules_deeper { DeeperRunsByRulesAreOne }
 {}

@@ -147,7 +147,7 @@ impl Program {
         self.has_rules(term) && !self.is_barred(term)
     }
 
-    /// Whether a term can't be run yet, by itself or for a term that it reaches.
+    /// Whether a term can't be run, by itself or for a term that it reaches.
     fn is_barred(&self, term: TermId) -> bool
         ensures { result ≡ slice_index_or self.now.numbers.barred.items term.0 false }
     {

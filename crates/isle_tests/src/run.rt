@@ -46,7 +46,9 @@ pub const RULES: &str =
     (decl make (i8) i8) (extern constructor make make)
     (decl pure partial look (i8) i8) (extern constructor look look)
     (decl op (i8 Name) Op) (extern extractor op take)
-    (decl first (Op) i8) (rule (first (op a _)) a)";
+    (decl first (Op) i8) (rule (first (op a _)) a)
+    (decl both (i8 Name) Op) (extern extractor infallible both both)
+    (decl partial left (Op) i8) (rule (left (both a _)) a)";
 
 /// The program of the rules.
 fn program(alloc: Global) -> Result<Program, AllocError> {

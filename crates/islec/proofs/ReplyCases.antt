@@ -22,7 +22,7 @@ use Rattle.isle_run.specs.Calls.Answers.{name_of_term}
 use Rattle.isle_run.specs.Values.Lists.{IsListOf}
 use Rattle.isle_run.specs.Values.TextTokens.{AreTokensOf, alone, bare}
 use Rattle.islec.specs.declared.answer.Manner.{Manner}
-use Rattle.islec.specs.Replies.{Setting, Leads, Reaches, IsReply, no_text, blank, no_call, call, refused_line}
+use Rattle.islec.specs.Replies.{Setting, Leads, IsReply, no_text, blank, no_call, call, refused_line}
 use Rattle.islec.specs.Serving.{AreReplies}
 
 -- a world that counts effects
@@ -62,12 +62,12 @@ effects_go_in_order : (p : Program) (a : Answers) (one two : Event) (after : Lis
 effects_go_in_order p a one two after leads =
     (leads.2).2 ∙ ((leads.2).1 ∙ ap (λ (w : List (List ℕ)). w ++ name_of_term p two.term ∷ []) leads.1)
 
--- some effects reach a later count, and none an earlier one
-later_is_reached : (p : Program) (a : Answers) (one two : Event) → Reaches (counting p a) 3 5
+-- some effects lead to a later count, and none to an earlier one
+later_is_reached : (p : Program) (a : Answers) (one two : Event) → (made : List Event) × Leads (counting p a) 3 made 5
 later_is_reached p a one two = (one ∷ two ∷ [], two_effects_count_two p a one two)
 
-earlier_is_not_reached : (p : Program) (a : Answers) → Reaches (counting p a) 5 3 → ⊥
-earlier_is_not_reached p a reaches = omega (arith, never_less (reaches.0) 5 3 (reaches.1))
+earlier_is_not_reached : (p : Program) (a : Answers) (made : List Event) → Leads (counting p a) 5 made 3 → ⊥
+earlier_is_not_reached p a made leads = omega (arith, never_less made 5 3 leads)
   where
     never_less : (made : List Event) (before after : ℕ) → Leads (counting p a) before made after → before ≤ after
     never_less [] before after leads = omega (arith, leads)

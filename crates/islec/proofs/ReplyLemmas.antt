@@ -17,7 +17,7 @@ use Rattle.isle_run.specs.Queries.{RefusesText, IsCallIn}
 use Rattle.isle_run.specs.Values.TextTokens.{AreTokensOf}
 use Rattle.isle_run.specs.Values.Text.{value_text, fields_text}
 use Rattle.islec.specs.declared.answer.Reply.{Reply}
-use Rattle.islec.specs.Replies.{Setting, Refuses, IsReply, AnswersCall, Reaches, call_text, cause_number, no_call, call, TellsBy, BeginsBy, BeginsCall, LosesReply, no_text, blank}
+use Rattle.islec.specs.Replies.{Setting, Refuses, IsReply, AnswersCall, call_text, cause_number, no_call, call, TellsBy, BeginsBy, BeginsCall, LosesReply, no_text, blank}
 
 -- one argument more
 fields_more : (args : List ValueTree) (i : ℕ) (v : ValueTree) → i < length args → v ≡ get_or args i v
@@ -36,10 +36,6 @@ pub next_argument : (old name : List ℕ) (args : List ValueTree) (i : ℕ) (v :
     → grown ≡ old ++ (codes "(" ++ (name ++ fields_text (value_list (take (i + 1) args))))
 next_argument old name args i v was spaced grown within is written space text =
     rw (add-one i, fields_more args i v within is, text, space, written) (simp append_assoc)
-
--- a world is reached from itself, by no effects
-pub reaches_itself : {V : Type 0} (setting : Setting V) (world : V) → Reaches setting world world
-reaches_itself setting world = ([], refl)
 
 -- a query that is refused
 pub refused_query : {V : Type 0} (setting : Setting V) (world : V) (line text : List ℕ) (fault : QueryFault) (cause : ℕ) (r : Result Reply AllocError) → text ≡ line → IsUtf8 line

@@ -13,8 +13,7 @@ use Rattle.islec.specs.declared.serve.Served.{Served}
 use Rattle.islec.specs.declared.serve.ServeFault.TheVariants.{Read, Write, Memory}
 use Rattle.isle_terms.specs.Values.{ValueTree, ValueTrees}
 use Rattle.isle_run.specs.declared.program.Program.{Program}
-use Rattle.islec.specs.Replies.{Setting, setting_in, IsReply, Reaches, LosesReply}
-use Rattle.islec.proofs.ReplyLemmas.{reaches_itself}
+use Rattle.islec.specs.Replies.{Setting, setting_in, IsReply, LosesReply}
 use Rattle.islec.specs.Serving.{AreReplies, AreLinesOf, AreFirstLinesOf, WritesReplies, AnswersAll, AnswersFirst, AnswersCut, KeepsBack, KeepsFirst, GivesLines, some_refused, BreaksOff, IsCutShort, LosesNewline}
 use Rattle.islec.specs.Writing.{AppendsBeginning, ContinuesBy}
 use Rattle.islec.proofs.WritingLemmas.{whole_begins}
@@ -143,7 +142,7 @@ cuts setting before after input left old mid new kept refused serving (count, wr
   gives_first input left serving.lines serving.gives,
   serving.keeps.replies,
   cut_behind old mid new serving.keeps.out kept count serving.keeps.written wrote,
-  reaches_itself setting after,
+  ([], inl refl),
 )
 
 -- what is kept back where the reading of lines breaks off
@@ -160,29 +159,23 @@ stops setting fault before reached after input middle left old new kept part ref
   breaks,
 )
 
--- a reply that is lost has made some effects
-lost_reaches : {V : Type 0} (setting : Setting V) (before after : V) (line : List ℕ) → LosesReply setting before line after
-    → Reaches setting before after
-lost_reaches setting before after line (inl same) = subst (Reaches setting before) (sym same) (reaches_itself setting before)
-lost_reaches setting before after line (inr (term, args, is, (made, leads, begins))) = (made, leads)
+-- where answering breaks off at most a reply is lost
+break_loses : {V : Type 0} (setting : Setting V) (fault : ServeFault) (part : List ℕ) (reached after : V)
+    → BreaksOff setting fault part reached after → (line : List ℕ) × LosesReply setting reached line after
+break_loses setting Read part reached after (cut, same) = ([], inl same)
+break_loses setting Write part reached after breaks = absurd breaks
+break_loses setting Memory part reached after (cut, inl same) = ([], inl same)
+break_loses setting Memory part reached after (cut, inr (line, loses, lost)) = (line, lost)
 
--- so has what breaks off
-break_reaches : {V : Type 0} (setting : Setting V) (fault : ServeFault) (part : List ℕ) (reached after : V)
-    → BreaksOff setting fault part reached after → Reaches setting reached after
-break_reaches setting Read part reached after (cut, same) = subst (Reaches setting reached) (sym same) (reaches_itself setting reached)
-break_reaches setting Write part reached after breaks = absurd breaks
-break_reaches setting Memory part reached after (cut, inl same) = subst (Reaches setting reached) (sym same) (reaches_itself setting reached)
-break_reaches setting Memory part reached after (cut, inr (line, loses, lost)) = lost_reaches setting reached after line lost
-
--- replies to first lines of an input, of which an end is kept back and the others are written, and then at most effects
+-- replies to first lines of an input, of which an end is kept back and the others are written, and then at most a reply is lost
 abbrev pub KeepsSome : {V : Type 0} → Setting V → V → (input old new : Option (List ℕ)) → List ℕ → V → Type 0
 KeepsSome {V} setting before input old new kept after = (lines : List (List ℕ)) × (refused : Bool) × (reached : V) × AreFirstLinesOf input lines
-    × KeepsBack setting before lines refused old new kept reached × Reaches setting reached after
+    × KeepsBack setting before lines refused old new kept reached × ((line : List ℕ) × LosesReply setting reached line after)
 
 keeps_some : {V : Type 0} (setting : Setting V) (fault : ServeFault) (before after : V) (input left old new : Option (List ℕ)) (kept : List ℕ)
     → KeepsFirst setting fault before input left old new kept after → KeepsSome setting before input old new kept after
 keeps_some setting fault before after input left old new kept (lines, part, refused, reached, reads, keeps, breaks) =
-    (lines, refused, reached, gives_first input reads.behind lines reads.gives, keeps, break_reaches setting fault part reached after breaks)
+    (lines, refused, reached, gives_first input reads.behind lines reads.gives, keeps, break_loses setting fault part reached after breaks)
 
 -- a reader that has buffered nothing yet has what the one behind it has
 pub unbuffered : {T A : Type 0} (remaining : T → Option (List ℕ)) (reader : BufReader T A) (inner : T) → reader_inner reader ≡ inner → reader_buffer reader ≡ []
@@ -201,7 +194,7 @@ pub holds : {V : Type 0} (setting : Setting V) (before after : V) (input left ol
     → IfOk r (λ served. (lines : List (List ℕ)) × AreLinesOf input lines × KeepsBack setting before lines (some_refused served) old new kept after)
     → IfErr r (λ fault. fault ≢ Write → KeepsFirst setting fault before input left old new kept after) → KeepsSome setting before input old new kept after
 holds setting before after input left old new kept (Ok served) never (lines, all, keeps) stopped =
-    (lines, some_refused served, after, all_first input lines all, keeps, reaches_itself setting after)
+    (lines, some_refused served, after, all_first input lines all, keeps, ([], inl refl))
 holds setting before after input left old new kept (Err e) never answered stopped =
     keeps_some setting e before after input left old new kept (stopped (λ is. never (ap Err is)))
 
@@ -252,7 +245,7 @@ first_cut setting fault before after input left old new (lines, part, refused, r
   gives_first input reads.behind lines reads.gives,
   replies,
   whole_begins old new out wrote,
-  break_reaches setting fault part reached after breaks,
+  break_loses setting fault part reached after breaks,
 )
 
 -- where a fault comes, a beginning of the replies is written, or all of them

@@ -91,10 +91,6 @@ setting_in step program constructs extracts manner = record {
 abbrev pub Leads : {V : Type 0} → Setting V → V → List Event → V → Type 0
 Leads setting before made after = LeadsThrough setting.step (name_of_term setting.program) before made after
 
--- some effects do
-abbrev pub Reaches : {V : Type 0} → Setting V → V → V → Type 0
-Reaches setting before after = (made : List Event) × Leads setting before made after
-
 -- what a call tells: on the plain road, where rules are tried one by one, or by the tree of its term
 abbrev pub TellsBy : Bool → Program → Answers → (depth term : ℕ) → Values → Called → List Event → Type 0
 TellsBy true program w depth term args called made = TellsPlainly program w depth term args called made

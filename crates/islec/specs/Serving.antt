@@ -7,7 +7,7 @@ use Rattle.islec.specs.declared.serve.Served.{Served}
 use Rattle.islec.specs.declared.serve.Served.TheVariants.{AllWell, SomeRefused}
 use Rattle.islec.specs.declared.serve.ServeFault.{ServeFault}
 use Rattle.islec.specs.declared.serve.ServeFault.TheVariants.{Read, Write, Memory}
-use Rattle.islec.specs.Replies.{Setting, IsReply, Reaches, LosesReply}
+use Rattle.islec.specs.Replies.{Setting, IsReply, LosesReply}
 use Rattle.islec.specs.Writing.{AppendsBeginning}
 
 -- a byte at the front of the first of some lines
@@ -81,10 +81,11 @@ abbrev pub AnswersFirst : {V : Type 0} → Setting V → ServeFault → V → (i
 AnswersFirst {V} setting fault before input left old new after = (lines : List (List ℕ)) × (part : List ℕ) × (refused : Bool) × (reached : V)
     × ReadsLines input left lines part × WritesReplies setting before lines refused old new reached × BreaksOff setting fault part reached after
 
--- a beginning of the replies to first lines of an input is written, and behind these at most effects were made
+-- a beginning of the replies to first lines of an input is written, and at most the reply to one more was lost
 abbrev pub AnswersCut : {V : Type 0} → Setting V → V → (input old new : Option (List ℕ)) → V → Type 0
 AnswersCut {V} setting before input old new after = (lines : List (List ℕ)) × (refused : Bool) × (out : List ℕ) × (reached : V)
-    × AreFirstLinesOf input lines × AreReplies setting before lines out refused reached × AppendsBeginning old new out × Reaches setting reached after
+    × AreFirstLinesOf input lines × AreReplies setting before lines out refused reached × AppendsBeginning old new out
+    × ((line : List ℕ) × LosesReply setting reached line after)
 
 -- whether some line counted as refused
 abbrev pub some_refused : Served → Bool

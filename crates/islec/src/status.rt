@@ -10,9 +10,9 @@ use std::io::Write;
 pub enum Status {
     /// All was well, or help was asked for.
     AllWell,
-    /// A text was refused.
+    /// A text or a world was refused.
     TextsRefused,
-    /// The words of the command line were refused.
+    /// The words of the command line were refused, or no term has a name that was asked for.
     Usage,
     /// A query was refused, stuck, spent or ill-typed.
     SomeRefused,

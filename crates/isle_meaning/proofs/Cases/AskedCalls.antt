@@ -31,8 +31,8 @@ use Rattle.isle_meaning.proofs.Cases.CalledTerms.{number, on, silent, one_type, 
 
 -- ---- (decl e (u8 u8) u8) (extern extractor infallible e e) (decl partial f (u8) u8) (rule (f (e x y)) x), where e is 0 and f is 1
 
-abbrev opening : CheckedProgram
-opening = record {
+abbrev pub with_opener : CheckedProgram
+with_opener = record {
   terms = record {
     shape = λ t. declared_shape;
     pure = λ t. false;
@@ -54,11 +54,11 @@ abbrev opens : TypedRule
 opens = rule_of 1 (pos 0) (typed_term 1 0 (more_typed x (more_typed (typed_bind 1 1 (typed_wildcard 1)) no_typed))) [] (built_var 1 0)
 
 -- its rule demands nothing
-demands_nothing : demands_of opening.terms opens ≡ []
+demands_nothing : demands_of with_opener.terms opens ≡ []
 demands_nothing = refl
 
 -- none has a greater priority
-opens_alone : (i : ℕ) (rule : TypedRule) → slice_get opening.rules i ≡ Some rule → rule.priority ≤ℤ pos 0
+opens_alone : (i : ℕ) (rule : TypedRule) → slice_get with_opener.rules i ≡ Some rule → rule.priority ≤ℤ pos 0
 opens_alone zero rule at = subst (λ (r : TypedRule). r.priority ≤ℤ pos 0) (same_Some _ rule at) (omega arith)
 opens_alone (suc i) rule at = absurd (none-some rule at)
 
@@ -68,7 +68,7 @@ record Opened (g : Got Values) : Type 0 where
   other : Value
   both : g ≡ gives (more_values one (more_values other no_values))
 
-opened : (c : Completion) → Agrees opening silent (Means opening silent 0) c → CoversAll opening c 1 (on 4) → Opened (c.extract 0 (number 4))
+opened : (c : Completion) → Agrees with_opener silent (Means with_opener silent 0) c → CoversAll with_opener c 1 (on 4) → Opened (c.extract 0 (number 4))
 opened c agrees covers = by (c.extract 0 (number 4)) refl
   where
     two : (vs : Values) → count vs ≡ 2 → Opened (gives vs)
@@ -83,7 +83,7 @@ opened c agrees covers = by (c.extract 0 (number 4)) refl
     by (gives vs) e = subst Opened (sym e) (two vs (agrees.allowed.outputs 0 (number 4) vs e))
 
 -- (f 4) asks e for its result alone, which is a variable that e gives
-asks_behind_variable : AsksToFinish opening silent (IsNeededCall opening.terms) 0 1 (on 4) [] (asks_outputs 0 (number 4))
+asks_behind_variable : AsksToFinish with_opener silent (IsNeededCall with_opener.terms) 0 1 (on 4) [] (asks_outputs 0 (number 4))
 asks_behind_variable = record {
   place = 0;
   rule = opens;
@@ -104,7 +104,7 @@ asks_behind_variable = record {
 
 -- so a run that asks what is needed ends at e, which may not fail but is answered none, whatever it asks before a choice
 ends_behind_variable : (chooses : ℕ → ℕ → Values → Asked → Type 0)
-    → EndsAt opening silent (record { chooses = chooses; finishes = AsksToFinish opening silent (IsNeededCall opening.terms) }) 1
+    → EndsAt with_opener silent (record { chooses = chooses; finishes = AsksToFinish with_opener silent (IsNeededCall with_opener.terms) }) 1
     (asks_value 1 (on 4)) [] (ill_typed (asks_outputs 0 (number 4)))
 ends_behind_variable chooses = record {
   left = 0;
@@ -128,7 +128,7 @@ where_e_gives_ones = record {
   place = λ s. 0;
 }
 
-where_e_gives_ones_agrees : Agrees opening silent (Means opening silent 0) where_e_gives_ones
+where_e_gives_ones_agrees : Agrees with_opener silent (Means with_opener silent 0) where_e_gives_ones
 where_e_gives_ones_agrees = record {
   outside = λ t trees outside typed allowed known. absurd (known refl);
   outputs = λ t tree typed allowed known. free (t == 0) allowed known;
@@ -163,22 +163,22 @@ where_e_gives_ones_agrees = record {
     }
     of_types false vs e = absurd cc
 
-where_e_gives_ones_covers : CoversAll opening where_e_gives_ones 1 (on 4)
-where_e_gives_ones_covers zero rule at = subst (Covers opening.terms where_e_gives_ones (on 4)) (same_Some _ rule (at.listed))
+where_e_gives_ones_covers : CoversAll with_opener where_e_gives_ones 1 (on 4)
+where_e_gives_ones_covers zero rule at = subst (Covers with_opener.terms where_e_gives_ones (on 4)) (same_Some _ rule (at.listed))
     ((((tt, λ v e k. cc), (tt, (tt, tt))), tt), tt)
 where_e_gives_ones_covers (suc i) rule at = absurd (none-some rule (at.listed))
 
 -- the rule is chosen there, and writes e's call
 abbrev Writes : Site → TypedRule → Type 0
-Writes call rule = ChosenAsks opening (Means opening silent 0) (IsWrittenCall opening.terms rule) where_e_gives_ones 1 (on 4) rule [] call
+Writes call rule = ChosenAsks with_opener (Means with_opener silent 0) (IsWrittenCall with_opener.terms rule) where_e_gives_ones 1 (on 4) rule [] call
     (asks_outputs 0 (number 4))
 
 -- but no call is written in its right side
-writes_none : AsksToFinish opening silent (IsWrittenCall opening.terms) 0 1 (on 4) [] (asks_outputs 0 (number 4)) → ⊥
+writes_none : AsksToFinish with_opener silent (IsWrittenCall with_opener.terms) 0 1 (on 4) [] (asks_outputs 0 (number 4)) → ⊥
 writes_none h = by (h.place) (h.rule) (h.at.listed)
     (h.fixed where_e_gives_ones where_e_gives_ones_agrees where_e_gives_ones_covers)
   where
-    by : (i : ℕ) (rule : TypedRule) → slice_get opening.rules i ≡ Some rule → Writes (h.call) rule → ⊥
+    by : (i : ℕ) (rule : TypedRule) → slice_get with_opener.rules i ≡ Some rule → Writes (h.call) rule → ⊥
     by zero rule at chosen =
         let its : Writes (h.call) opens = subst (Writes (h.call)) (sym (same_Some _ rule at)) chosen in
         elim (its.asks.1) [ inl e ↦ e | inr e ↦ e ]

@@ -9,15 +9,17 @@ use Rattle.isle_meaning.specs.Values.{Value, Values, bool_value, made_variant, n
 use Rattle.isle_meaning.specs.GroundValues.{values_of}
 use Rattle.isle_meaning.specs.Demands.{Constraint, variant_constraint, int_constraint, bool_constraint}
 use Rattle.isle_meaning.specs.Held.{Held, held_value, held_none, held_some}
-use Rattle.isle_meaning.specs.Numbered.{Row, int_row, argument_row, constructor_row, match_variant_row, make_some_row, match_some_row}
+use Rattle.isle_meaning.specs.Numbered.{Row, int_row, argument_row, extractor_row, constructor_row, match_variant_row, make_some_row, match_some_row, match_tuple_row}
 use Rattle.isle_meaning.specs.Worlds.{CheckedProgram, Answers, Event}
-use Rattle.isle_meaning.specs.Asking.{stuck, spent}
-use Rattle.isle_meaning.specs.Outcomes.{Outcome, given, missing, ended, WorldEffects}
+use Rattle.isle_meaning.specs.Asking.{asks_outputs, stuck, spent, ill_typed}
+use Rattle.isle_meaning.specs.Outcomes.{Outcome, given, missing, ended, WorldExtracts, WorldEffects}
 use Rattle.isle_meaning.specs.Machine.Runs.{TermTree, nothing_bound, Runs, RowRuns, MachineRun}
 use Rattle.isle_meaning.specs.Machine.Beginnings.{RowBegins, MachineBegins}
 use Rattle.isle_meaning.specs.Machine.Sample.{sample_terms, sample_program, sample_tree, on_truth}
+use Rattle.isle_meaning.proofs.Cases.AskedCalls.{with_opener}
 use Rattle.isle_meaning.proofs.Cases.CalledTerms.{number, on, one_type, silent, chain, emitting, emitted}
-use Rattle.isle_meaning.proofs.Machine.One.{machine_runs_are_one}
+use Rattle.isle_meaning.proofs.Chains.Stable.{none_first}
+use Rattle.isle_meaning.proofs.Machine.One.{machine_runs_one}
 use Rattle.isle_meaning.proofs.Machine.Sample.{the_sample_is_sound, the_sample_meets_the_premises, the_sample_is_run, the_sample_fails}
 use Rattle.isle_meaning.proofs.Machine.Staying.{machine_runs_stay}
 use Rattle.isle_meaning.proofs.Machine.Beginnings.{pure_machine_runs_are_silent}
@@ -28,8 +30,8 @@ use Rattle.isle_meaning.proofs.Machine.Beginnings.{pure_machine_runs_are_silent}
 sample_alone : (w : Answers) (steps : ℕ) (r : Outcome Value) → MachineRun sample_program (λ t. sample_tree) w 1 0 (on_truth true) steps [] r
     → (2 ≡ steps) × (given (bool_value true) ≡ r)
 sample_alone w steps r run =
-    let (n, traces, is) = machine_runs_are_one sample_program w (λ t. sample_tree) (the_sample_is_sound.data_sound) 1 0 (on_truth true) 2 steps [] []
-    (given (bool_value true)) r [] [] (the_sample_is_run w) run refl in
+    let (n, traces, is) = machine_runs_one sample_program w (λ t. sample_tree) (the_sample_is_sound.data_sound) 1 0 (on_truth true) 2 steps [] []
+    (given (bool_value true)) r (the_sample_is_run w) run (none_first []) in
     (n, is)
 
 -- not nothing
@@ -48,8 +50,8 @@ not_three_steps w run = let n : 2 ≡ 3 = (sample_alone w 3 (given (bool_value t
 -- where its argument is `false` it doesn't answer `true`
 not_on_false : (w : Answers) (steps : ℕ) → MachineRun sample_program (λ t. sample_tree) w 1 0 (on_truth false) steps [] (given (bool_value true)) → ⊥
 not_on_false w steps run =
-    let (n, traces, is) = machine_runs_are_one sample_program w (λ t. sample_tree) (the_sample_is_sound.data_sound) 1 0 (on_truth false) 1 steps [] []
-    missing (given (bool_value true)) [] [] (the_sample_fails w) run refl in
+    let (n, traces, is) = machine_runs_one sample_program w (λ t. sample_tree) (the_sample_is_sound.data_sound) 1 0 (on_truth false) 1 steps [] []
+    missing (given (bool_value true)) (the_sample_fails w) run (none_first []) in
     let q : missing ≡ given (bool_value true) = is in cc
 
 -- its term is pure, and it makes no effects
@@ -128,6 +130,41 @@ called_spent = (
   (constructor_row 0 (0 ∷ []) 1, [], [], ended spent, refl, (on 4, ended spent, refl, (0, (refl, refl, refl)), refl), refl, (refl, refl, refl)),
 )
 
+-- a small number is of the type
+fits : (n : ℕ) → n < 100 → FitsSigned w128 (pos n)
+fits n small = fits_signed_from_abs w128 (pos n) (omega (arith, small))
+
+-- ---- (rule (f (e x y)) x) of AskedCalls, where e may not fail: f demands nothing, and opens its argument for its result alone
+
+abbrev opening_tree : TermTree ℤ
+opening_tree = record {
+  sites = argument_row 0 ∷ extractor_row 0 0 ∷ match_tuple_row 1 0 ∷ make_some_row 2 ∷ [];
+  test = λ n. int_constraint n 1;
+  result = λ i. 3;
+  tree = give (1 ∷ 3 ∷ []) 0 done;
+}
+
+-- e is answered none, which isn't allowed
+none_not_allowed : WorldExtracts with_opener silent 0 (number 4) (ended (ill_typed (asks_outputs 0 (number 4))))
+none_not_allowed = record { arg = int_tree (pos 4); typed = fits 4 (omega arith); stands = refl; judged = inr ((λ allowed. cc), refl) }
+
+-- so (f 4) ends as ill-typed there, behind its choice, in one step
+is_ill_typed : MachineRun with_opener (λ t. opening_tree) silent 1 1 (on 4) 1 [] (ended (ill_typed (asks_outputs 0 (number 4))))
+is_ill_typed = (
+  0,
+  refl,
+  (
+    extractor_row 0 0,
+    [],
+    [],
+    ended (ill_typed (asks_outputs 0 (number 4))),
+    refl,
+    (number 4, ended (ill_typed (asks_outputs 0 (number 4))), refl, none_not_allowed, refl, refl),
+    refl,
+    (refl, refl, refl),
+  ),
+)
+
 -- ---- the rules of CalledTerms that emit: (f 0) emits 1, then what that is answered; else (f x) is x
 
 abbrev emitting_tree : TermTree ℤ
@@ -137,10 +174,6 @@ emitting_tree = record {
   result = λ i. if i == 0 then 3 else 0;
   tree = «match» [] 0 (arm (pos 0) [] (give (2 ∷ 3 ∷ []) 0 done) no_arm) (give [] 1 done);
 }
-
--- a small number is of the type
-fits : (n : ℕ) → n < 100 → FitsSigned w128 (pos n)
-fits n small = fits_signed_from_abs w128 (pos n) (omega (arith, small))
 
 -- emit on a number is answered a number
 makes : (n m : ℕ) → n < 100 → m < 100 → WorldEffects emitting 0 (on n) (emitted n m ∷ []) (given (number m))

@@ -10,6 +10,7 @@ use Rattle.isle_meaning.specs.Values.{Value}
 use Rattle.isle_meaning.specs.Worlds.{Event}
 use Rattle.isle_meaning.proofs.Matching.Deciding.{Decided, decide}
 use Rattle.isle_meaning.specs.Laws.Calls.{FirstDiffer, AreOne, Surely}
+use Rattle.isle_meaning.proofs.Chains.Unique.{behind}
 
 -- numbers are equal or not
 number : (k j : ℕ) → Decided k j
@@ -102,7 +103,7 @@ differ x y =
     answers e d (inr n) = inl (record { term = e; args = d; answer = n })
 
 -- no effects don't differ from others
-none_first : (other : List Event) → FirstDiffer [] other → ⊥
+pub none_first : (other : List Event) → FirstDiffer [] other → ⊥
 none_first other d = go (d.shared) (d.one_is)
   where
     go : (shared : List Event) → [] ≡ shared ++ d.here ∷ d.more → ⊥
@@ -177,7 +178,7 @@ later x y xs ys e d = record {
 }
 
 -- effects first differ in an answer, or not
-first_differ : (xs ys : List Event) → FirstDiffer xs ys ⊎ (FirstDiffer xs ys → ⊥)
+pub first_differ : (xs ys : List Event) → FirstDiffer xs ys ⊎ (FirstDiffer xs ys → ⊥)
 first_differ [] ys = inr (none_first ys)
 first_differ (x ∷ xs) [] = inr (none_second (x ∷ xs))
 first_differ (x ∷ xs) (y ∷ ys) = elim (differ x y) [
@@ -189,6 +190,22 @@ first_differ (x ∷ xs) (y ∷ ys) = elim (differ x y) [
       | inr m ↦ inr (λ d. elim (split x y xs ys d) [ inl h ↦ n h | inr h ↦ m (h.1) ])
     ]
   ]
+]
+
+-- effects don't first differ where what begins with them doesn't
+pub front_alike : (xs ys more others : List Event) → (FirstDiffer (xs ++ more) (ys ++ others) → ⊥) → FirstDiffer xs ys → ⊥
+front_alike xs ys more others alike d = alike (behind xs ys more others d)
+
+-- nor where the same effects before them don't
+pub rest_alike : (es xs ys : List Event) → (FirstDiffer (es ++ xs) (es ++ ys) → ⊥) → FirstDiffer xs ys → ⊥
+rest_alike [] xs ys alike d = alike d
+rest_alike (e ∷ es) xs ys alike d = rest_alike es xs ys (λ f. alike (later e e (es ++ xs) (es ++ ys) refl f)) d
+
+-- one call is answered one way, where effects don't first differ in its answer
+pub one_answer : (x y : Event) → x.term ≡ y.term → x.args ≡ y.args → (FirstDiffer (x ∷ []) (y ∷ []) → ⊥) → x.answer ≡ y.answer
+one_answer x y term args alike = elim (answer (x.answer) (y.answer)) [
+  | inl e ↦ e
+  | inr n ↦ absurd (alike (here_first x y [] [] (record { term = term; args = args; answer = n })))
 ]
 
 -- answers are equal or not

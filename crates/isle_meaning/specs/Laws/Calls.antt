@@ -20,6 +20,7 @@ use Rattle.isle_meaning.specs.Sites.{Site}
 use Rattle.isle_meaning.specs.Worlds.{CheckedProgram, Answers, Event}
 use Rattle.isle_meaning.specs.Calls.{Agrees, IsRuleAt, CoversAll, Means}
 use Rattle.isle_meaning.specs.Asking.{Asked, plain_links, Chain, Ended, spent, EndsAt}
+use Rattle.isle_meaning.specs.Outcomes.{Outcome}
 use Rattle.isle_meaning.specs.SoundPrograms.{HasSoundData, IsSound}
 
 -- What a call means at a depth it means at the next.
@@ -64,6 +65,10 @@ pub record FirstDiffer (one other : List Event) : Type 0 where
 -- the same effects and answers, or effects that first differ in the world's answer
 abbrev pub AreOne : List Event → Option Value → List Event → Option Value → Type 0
 AreOne one x other y = ((one ≡ other) × (x ≡ y)) ⊎ FirstDiffer one other
+
+-- the same steps, effects and outcome of two runs, or effects that first differ in the world's answer to the same call
+abbrev pub AreOneRun : ℕ → List Event → Outcome Value → ℕ → List Event → Outcome Value → Type 0
+AreOneRun m one r n other q = ((m ≡ n) × (one ≡ other) × (r ≡ q)) ⊎ FirstDiffer one other
 
 -- two matching rules of one term and one priority are one
 abbrev pub HasNoTies : CheckedProgram → (ℕ → Type 0) → Type 0

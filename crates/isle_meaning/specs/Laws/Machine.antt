@@ -1,5 +1,5 @@
 -- What a machine's run means, and how it stands to a plain run. `C` is the type of tests of a site.
-use Rattle.std.specs.Prelude.{◌≡◌, ◌≢◌, ◌≤◌, ℕ, Bool, true, List, [], ◌++◌, length, Contains, Option}
+use Rattle.std.specs.Prelude.{◌≡◌, ◌≢◌, ◌≤◌, ℕ, Bool, true, List, [], length, Contains, Option}
 use Rattle.isle_trees.specs.Counting.{steps_at_most}
 use Rattle.isle_meaning.specs.Values.{Value, Values}
 use Rattle.isle_meaning.specs.GroundValues.{AreValuesOf}
@@ -13,7 +13,7 @@ use Rattle.isle_meaning.specs.Machine.Runs.{TermTree, MachineRun}
 use Rattle.isle_meaning.specs.Machine.Beginnings.{MachineBegins}
 use Rattle.isle_meaning.specs.Machine.Trees.{HasTermTrees}
 use Rattle.isle_meaning.specs.Machine.Asking.{machine_links}
-use Rattle.isle_meaning.specs.Laws.Calls.{AreOne, IsWhole}
+use Rattle.isle_meaning.specs.Laws.Calls.{AreOne, AreOneRun, IsWhole}
 
 -- Where a machine's run of a term on arguments of its types answers, that is the call's meaning.
 abbrev pub MachineRunsAreMeant : Type 0 → Type 0
@@ -42,11 +42,11 @@ abbrev pub MachineRunsStay : Type 0 → Type 0
 MachineRunsStay C = (p : CheckedProgram) (w : Answers) (trees : ℕ → TermTree C) (n m t : ℕ) (args : Values) (steps : ℕ) (trace : List Event)
     (r : Outcome Value) → n ≤ m → r ≢ ended spent → MachineRun p trees w n t args steps trace r → MachineRun p trees w m t args steps trace r
 
--- Two runs of one call at one depth are one, where their effects don't contradict each other: where some events continue both to the same.
+-- Two runs of one call at one depth are one, or their effects first differ in the world's answer to the same call.
 abbrev pub MachineRunsAreOne : Type 0 → Type 0
 MachineRunsAreOne C = (p : CheckedProgram) (w : Answers) (trees : ℕ → TermTree C) → HasSoundData p → (depth t : ℕ) (args : Values) (m n : ℕ)
-    (one other : List Event) (r q : Outcome Value) (more others : List Event) → MachineRun p trees w depth t args m one r
-    → MachineRun p trees w depth t args n other q → one ++ more ≡ other ++ others → (m ≡ n) × (one ≡ other) × (r ≡ q)
+    (one other : List Event) (r q : Outcome Value) → MachineRun p trees w depth t args m one r → MachineRun p trees w depth t args n other q
+    → AreOneRun m one r n other q
 
 -- A machine's run begins with its effects.
 abbrev pub MachineRunsBeginSo : Type 0 → Type 0

@@ -8,7 +8,8 @@ use Rattle.isle_meaning.specs.Outcomes.{Outcome, ended, IsMeant}
 use Rattle.isle_meaning.specs.PlainRuns.{PlainRun}
 use Rattle.isle_meaning.specs.PlainBeginnings.{PlainBegins}
 use Rattle.isle_meaning.specs.Reaching.{Reaches}
-use Rattle.isle_meaning.specs.SoundPrograms.{IsSound}
+use Rattle.isle_meaning.specs.Laws.Calls.{AreOneRun}
+use Rattle.isle_meaning.specs.SoundPrograms.{HasSoundData, IsSound}
 
 -- Where a plain run of a term on arguments of its types answers, that is the call's meaning.
 abbrev pub PlainRunsAreMeant : Type 0
@@ -27,6 +28,11 @@ EndsAreAsked = (p : CheckedProgram) (w : Answers) (runs : ℕ → Bool) → IsSo
 abbrev pub RunStays : Type 0
 RunStays = (p : CheckedProgram) (w : Answers) (n m t : ℕ) (args : Values) (steps : ℕ) (trace : List Event) (r : Outcome Value) → n ≤ m
     → r ≢ ended spent → PlainRun p w n t args steps trace r → PlainRun p w m t args steps trace r
+
+-- Two plain runs of one call at one depth are one, or their effects first differ in the world's answer to the same call.
+abbrev pub PlainRunsAreOne : Type 0
+PlainRunsAreOne = (p : CheckedProgram) (w : Answers) → HasSoundData p → (depth t : ℕ) (args : Values) (m n : ℕ) (one other : List Event)
+    (r q : Outcome Value) → PlainRun p w depth t args m one r → PlainRun p w depth t args n other q → AreOneRun m one r n other q
 
 -- Where no term reaches itself, no plain run of a term with rules is spent at a depth of at least the number of terms with rules.
 abbrev pub NoCyclesNoneSpent : Type 0

@@ -2,7 +2,8 @@
 
 ghost use Rattle.isle_meaning.specs.Laws.Calls.{ChainsJoin, ChainStays, CompletionsExtend, EndStays, MeaningsAreTyped, MeaningStays};
 ghost use Rattle.isle_meaning.specs.Laws.Calls.{NoOverlapsNoTies, OneMeaning, OneMeaningAlways, TreesAreOne, TypedRulesCallWell};
-ghost use Rattle.isle_meaning.specs.Laws.Plain.{EndsAreAsked, NoCyclesNoneSpent, PlainRunsAreMeant, PlainRunsBeginSo, PureRunsBeginSilently, RunStays};
+ghost use Rattle.isle_meaning.specs.Laws.Plain.{EndsAreAsked, NoCyclesNoneSpent, PlainRunsAreMeant, PlainRunsAreOne, PlainRunsBeginSo};
+ghost use Rattle.isle_meaning.specs.Laws.Plain.{PureRunsBeginSilently, RunStays};
 
 /// Where a plain run answers, that is the call's meaning.
 pub fn plain_runs_are_meant()
@@ -78,6 +79,11 @@ pub fn typed_rules_call_well()
 /// A plain run that isn't spent is the run at every greater depth, with the same steps, effects and outcome.
 pub fn run_stays()
     ensures { RunStays }
+{}
+
+/// Two plain runs of one call at one depth are one, or their effects first differ in the world's answer to the same call.
+pub fn plain_runs_are_one()
+    ensures { PlainRunsAreOne }
 {}
 
 /// No plain run is spent where no term reaches itself and the depth is at least the number of terms with rules.

@@ -33,7 +33,7 @@ pub fn machine_runs_stay<C>()
     ensures { MachineRunsStay C }
 {}
 
-/// Two runs of one call at one depth are one, where the world answers their effects alike.
+/// Two runs of one call at one depth are one, or their effects first differ in the world's answer to the same call.
 pub fn machine_runs_are_one<C>()
     ensures { MachineRunsAreOne C }
 {}

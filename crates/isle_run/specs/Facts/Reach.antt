@@ -1,4 +1,4 @@
--- Which terms a call of a term reaches, and which of them can't be run yet.
+-- Which terms a call of a term reaches, and which of them can't be run.
 use Rattle.std.specs.Prelude.{◌≡◌, ◌⊎◌, ◌==◌, ◌&&◌, ◌||◌, ℕ, Bool, true, false, List, [], ◌∷◌, ◌++◌, map, Option, None, Some, slice_get, Contains}
 use Rattle.std.specs.List.{list_any}
 use Rattle.isle_types.specs.declared.types.«Type».{«Type» as KnownType}

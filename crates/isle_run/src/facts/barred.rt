@@ -1,4 +1,4 @@
-//! Which terms can't be run yet, for what their rules do or those of terms that they reach.
+//! Which terms can't be run, for what their rules do or those of terms that they reach.
 ghost use Rattle.std.specs.Prelude.{◌≡◌, ◌<◌, ◌↔◌, ℕ, true, false, IfOk, All, length, map, slice_get, slice_set, slice_index_or};
 ghost use Rattle.isle_terms.specs.declared.terms.Term.{Term as TermRecord};
 ghost use Rattle.isle_blocks.specs.Building.Contents.{Marked};
@@ -12,7 +12,7 @@ use isle_terms::{Term, TermEnv};
 use isle_types::{TermId, TypeEnv};
 use std::alloc::{AllocError, Global};
 
-/// The terms that can't be run yet: those that are hindered, and those that reach one that is.
+/// The terms that can't be run: those that are hindered, and those that reach one that is.
 pub(super) fn barred_terms(
     alloc: Global,
     tyenv: &TypeEnv,

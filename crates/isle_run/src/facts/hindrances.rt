@@ -1,4 +1,4 @@
-//! What keeps rules from being run yet.
+//! What keeps rules from being run.
 ghost use Rattle.std.specs.Prelude.{◌≡◌, map, slice_get};
 ghost use Rattle.std.specs.List.{list_any};
 ghost use Rattle.isle_types.specs.declared.ids.VarId.{VarId as VarNumber};

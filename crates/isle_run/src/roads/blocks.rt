@@ -32,9 +32,9 @@ use isle_types::TermId;
 use std::alloc::{AllocError, Global};
 
 impl Program {
-    /// Answers a call by the tree of its term. Conditions: the term is runnable and the arguments are of its types. At most `depth`
-    /// calls of terms with rules are open at once; `effects` is only appended to. `steps` is the number of steps of the tree that the
-    /// call itself reached. A call that goes on for 2^64 - 1 changes of the running call ends as one for which memory is refused.
+    /// Answers a call by the tree of its term. Conditions: the program is compiled, the term is runnable and the arguments are of its types.
+    /// At most `depth` calls of terms with rules are open at once; `effects` is only appended to. `steps` is the number of steps of the tree that
+    /// the call itself reached. A call that goes on for 2^64 - 1 changes of the running call ends as one for which memory is refused.
     pub fn call<W: World>(
         &self,
         alloc: Global,

@@ -5,7 +5,7 @@ use std::alloc::{AllocError, Global};
 use std::test::Fail;
 
 const WORLD: &str = "(constructor make (3) 30) (constructor make else 40) (constructor look (5) 6)
-    (extractor op (Op.Stop) (1 v2))";
+    (extractor op (Op.Stop) (1 v2)) (extractor both else (0 v0))";
 
 fn table(alloc: Global, program: &Program) -> Result<TableWorld, AllocError> {
     match TableWorld::read(alloc, WORLD, program) {

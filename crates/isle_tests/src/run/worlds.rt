@@ -120,7 +120,7 @@ fn world_of(alloc: Global, answers: &str) -> Result<Same, Fail> {
 }
 
 /// What constructors and extractors are answered, with calls: a value of another type, or none of a total term, which is judged before
-/// any effect in a condition; too few outputs, too many, or one of another type.
+/// any effect in a condition; too few outputs, too many, or one of another type. What `both` opens is asked for its result alone, behind the choice.
 pub const JUDGED: &str = "
 | 127, none: (f 2) → 1 1 127, 1 counted
 | 128, none: (f 2) → 1 1 ill-typed, 1 counted
@@ -139,7 +139,15 @@ pub const JUDGED: &str = "
 | none, -128 2: (first (Op.Stop)) by tree → 2 0 -128, 0 counted
 | none, -129 2: (first (Op.Stop)) by tree → 1 0 ill-typed, 0 counted
 | none, 1 1: (first (Op.Stop)) by tree → 1 0 ill-typed, 0 counted
-| none, 1 3: (first (Op.Stop)) by tree → 1 0 ill-typed, 0 counted";
+| none, 1 3: (first (Op.Stop)) by tree → 1 0 ill-typed, 0 counted
+| none, 1 2: (left (Op.Stop)) → 1 0 1, 0 counted
+| none, none: (left (Op.Stop)) → 1 0 ill-typed, 0 counted
+| none, 128 2: (left (Op.Stop)) → 1 0 ill-typed, 0 counted
+| none, 1 1: (left (Op.Stop)) → 1 0 ill-typed, 0 counted
+| none, 1 2: (left (Op.Stop)) by tree → 1 0 1, 0 counted
+| none, none: (left (Op.Stop)) by tree → 1 0 ill-typed, 0 counted
+| none, 128 2: (left (Op.Stop)) by tree → 1 0 ill-typed, 0 counted
+| none, 1 1: (left (Op.Stop)) by tree → 1 0 ill-typed, 0 counted";
 
 /// What a call comes to behind what a world answers.
 pub fn judged(alloc: Global, program: &Program, row: &str) -> Result<String, Fail> {
