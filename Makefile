@@ -33,6 +33,7 @@ commands:
 	python3 tools/replay.py $(PROGRAM) blocks tests/vectors/trees.json
 	python3 tools/replay.py $(PROGRAM) steps tests/vectors/trees.json
 	python3 tools/replay.py $(PROGRAM) plain-steps tests/vectors/trees.json
+	python3 tools/manual.py $(PROGRAM)
 	$(MAKE) refusals
 
 # Each request for memory is refused in turn.

@@ -44,6 +44,12 @@ PIECES = [b"(", b")", b"@", b"_", b"0", b"1", b"255", b"256", b"-1", b"true", b"
 Program = collections.namedtuple("Program", "files world queries depth")
 
 
+def is_long(case):
+    """Whether a text of a case has a part that stands for many."""
+    texts = [*case["files"].values(), case.get("stdin", "")]
+    return any(part["count"] * len(part["each"]) > LONGEST for text in texts for part in text if isinstance(part, dict))
+
+
 def texts_of(case):
     """A case's program: its rule files, its world or none, its queries, and a depth."""
     files = {name: bytes_of(text_of(text)) for name, text in case["files"].items()}
@@ -64,7 +70,7 @@ def programs():
         for name in sorted(os.listdir(os.path.join(ROOT, folder))):
             if name.endswith(".json"):
                 with open(os.path.join(ROOT, folder, name), encoding="utf-8") as file:
-                    found += [texts_of(case) for case in json.load(file)]
+                    found += [texts_of(case) for case in json.load(file) if not is_long(case)]
     examples = os.path.join(ROOT, "examples")
     for name in sorted(os.listdir(examples)):
         stem, kind = os.path.splitext(name)
