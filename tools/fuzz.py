@@ -34,6 +34,8 @@ COUNT = 20000
 LONGEST = 6000
 # An output that is cut off there is as good as one that ends.
 ROOM = 1 << 26
+# A call without end takes that much room, and no more.
+DEEPEST = 10000
 UNANSWERED = ("stuck", "spent", "ill-typed")
 PLACE = re.compile(rb":\d+:\d+")
 TOKEN = re.compile(rb"[()@]|[^\s()@;]+|;[^\n]*|\s+")
@@ -177,7 +179,7 @@ def changed(chance, all_programs):
             queries = change(chance, queries, other.queries or b"(f 1)\n")
         elif world is not None:
             world = change(chance, world, other.world or b"(constructor f else none)\n")
-    return Program(files, world, queries, chance.choice((program.depth, 1, 50, 1000)))
+    return Program(files, world, queries, min(chance.choice((program.depth, 1, 50, 1000)), DEEPEST))
 
 
 class Fault(Exception):
