@@ -21,6 +21,8 @@ import json
 import os
 import random
 import re
+import resource
+import signal
 import subprocess
 import sys
 import tempfile
@@ -182,6 +184,11 @@ def changed(chance, all_programs):
     return Program(files, world, queries, min(chance.choice((program.depth, 1, 50, 1000)), DEEPEST))
 
 
+def few_seconds():
+    """Sets how long a process may have the processor."""
+    resource.setrlimit(resource.RLIMIT_CPU, (SECONDS, SECONDS))
+
+
 class Fault(Exception):
     """What a command does that it mustn't."""
 
@@ -197,16 +204,26 @@ class Folder:
         with open(os.path.join(self.path, name), "wb") as file:
             file.write(text)
 
+    def once(self, words, stdin, output, seconds, limit):
+        """A run of a command from a file to another one, within so many seconds, and within what is set before."""
+        return subprocess.run([self.program, *words], cwd=self.path, stdin=stdin, stdout=output, stderr=subprocess.PIPE,
+                              timeout=seconds, preexec_fn=limit, check=False)
+
     def run(self, *words, given=b""):
         """The output and the status of a command."""
         with tempfile.TemporaryFile() as output, tempfile.TemporaryFile() as stdin:
             stdin.write(given)
             stdin.seek(0)
-            command = [self.program, *words]
             try:
-                done = subprocess.run(command, cwd=self.path, stdin=stdin, stdout=output, stderr=subprocess.PIPE, timeout=SECONDS, check=False)
+                done = self.once(words, stdin, output, SECONDS, None)
             except subprocess.TimeoutExpired:
-                raise Fault(f"{words}: no end within {SECONDS} seconds") from None
+                # Other work may have had the processor: what counts are the seconds that the program had it.
+                stdin.seek(0)
+                output.seek(0)
+                output.truncate()
+                done = self.once(words, stdin, output, None, few_seconds)
+                if done.returncode == -signal.SIGXCPU:
+                    raise Fault(f"{words}: no end within {SECONDS} seconds") from None
             output.seek(0)
             written = output.read(ROOM)
         if not 0 <= done.returncode <= 5:
