@@ -4,7 +4,7 @@ PREFIX ?= $(HOME)/.local
 PROGRAM = crates/islec/out/islec
 VECTORS = tests/vectors/first.json tests/vectors/mixed.json tests/vectors/equal.json
 
-.PHONY: run build test commands edits install replay bench
+.PHONY: run build test commands refusals fuzz edits install replay bench
 
 # The trial build: compiled with checks in the place of proofs. It is that of the library's example, which is made sooner than the program.
 run:
@@ -33,6 +33,16 @@ commands:
 	python3 tools/replay.py $(PROGRAM) blocks tests/vectors/trees.json
 	python3 tools/replay.py $(PROGRAM) steps tests/vectors/trees.json
 	python3 tools/replay.py $(PROGRAM) plain-steps tests/vectors/trees.json
+	python3 tools/manual.py $(PROGRAM)
+	$(MAKE) refusals
+
+# Each request for memory is refused in turn.
+refusals:
+	python3 tools/refusals.py $(PROGRAM)
+
+# 20,000 texts that are made of those of tests and examples by changes at random; not of the gate.
+fuzz:
+	python3 tools/fuzz.py $(PROGRAM) $(COUNT)
 
 # The wrong bodies of tests/edits, of which the prover must refuse each: those of CRATES, or of all crates that have changed since
 # theirs were tried. With ALL=--all also those of the others.

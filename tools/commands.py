@@ -19,6 +19,8 @@ import tempfile
 import threading
 
 SECONDS = 60
+# Bytes of native stack that the program has.
+STACK = 8 << 20
 
 
 def bytes_of(text):
@@ -30,10 +32,14 @@ def text_of(parts):
     """A text, or its parts one after the other, of which some stand for many with the numbers from 0."""
     if isinstance(parts, str):
         return parts
-    return "".join(
-        part if isinstance(part, str) else "".join(part["each"].replace("#", str(i)) for i in range(part["count"]))
-        for part in parts
-    )
+    return "".join(part if isinstance(part, str) else repeated(part["each"], part["count"]) for part in parts)
+
+
+def repeated(each, count):
+    """A text so many times, with the numbers from 0 in the place of `#`."""
+    if "#" not in each:
+        return each * count
+    return "".join(each.replace("#", str(number)) for number in range(count))
 
 
 def fill(filled, text, step):
@@ -58,14 +64,14 @@ def input_of(case):
 
 
 def limits_of(case):
-    """What the program's process sets before it starts: how many bytes a file may have."""
+    """What the program's process sets before it starts: its native stack, and how many bytes a file may have."""
     room = case.get("stdout_room")
-    if room is None:
-        return None
 
     def set_limits():
-        signal.signal(signal.SIGXFSZ, signal.SIG_IGN)
-        resource.setrlimit(resource.RLIMIT_FSIZE, (room, room))
+        resource.setrlimit(resource.RLIMIT_STACK, (STACK, resource.getrlimit(resource.RLIMIT_STACK)[1]))
+        if room is not None:
+            signal.signal(signal.SIGXFSZ, signal.SIG_IGN)
+            resource.setrlimit(resource.RLIMIT_FSIZE, (room, room))
 
     return set_limits
 
