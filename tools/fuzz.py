@@ -34,7 +34,7 @@ SECONDS = 10
 COUNT = 20000
 # Longer files are left out: they are tests of sizes.
 LONGEST = 6000
-# An output that is cut off there is as good as one that ends.
+# Longer outputs are cut off there; what is printed of lists that nest deep grows with the square of their depth.
 ROOM = 1 << 26
 # A call without end takes that much room, and no more.
 DEEPEST = 10000
@@ -297,12 +297,12 @@ def look(binary, made, path):
             ending = "called"
     for name in names:
         printed, fmt_status = folder.run("fmt", "--width", str(len(made.files[name]) % 90), name)
-        if fmt_status == 0:
+        if fmt_status == 0 and len(printed) < ROOM:
             folder.write(name, printed)
             again, _ = folder.run("fmt", "--width", str(len(made.files[name]) % 90), name)
             if again != printed:
                 raise Fault(f"{name} is printed again in another way")
-        elif status == 0:
+        elif fmt_status != 0 and status == 0:
             raise Fault(f"{name} is accepted and isn't printed")
     formatted, formatted_status = folder.run("check", "--terms", *names)
     if formatted_status != status or kinds_of(formatted) != kinds_of(checked):

@@ -8,7 +8,8 @@ them, where `stdout` may be a list of replies. tests/refusals/refuse.c is compil
 by LD_PRELOAD. A case is first run with ample memory, and must be as it says. Then its N-th request is refused, and then
 all from the N-th on, for N from 1 upwards until a run ends with none refused; past REQUESTS in steps of STEP. Each run
 must end as with ample memory, byte for byte, or want memory: `out of memory` with status 5, behind some whole replies.
-Prints each run that ends otherwise, and last how many runs there were. Exits with 1 where one ended otherwise.
+Prints each run that ends otherwise, with REFUSALS_SHOWN=1 also each case with its requests, and last how many runs there
+were. Exits with 1 where one ended otherwise.
 """
 
 import concurrent.futures
