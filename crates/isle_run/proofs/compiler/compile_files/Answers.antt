@@ -166,3 +166,13 @@ returns-in_err-rule_sets-clause-printable c =
     c.in_ok-termenv.ensures.placed c.args.files.now (rw c.as_slice-defs.ensures.value c.in_ok-parsed.ensures.placed) in
     rw (p.1, p.2) (rule_faults_at c.args.files.now c.from_ast.new.tyenv c.in_ok-termenv.termenv shown c.in_err-rule_sets.field-0.0 placed
     c.in_err-rule_sets.ensures.faults)
+
+pub returns-in_err-trees-clause-faults : goal.returns-in_err-trees-clause-faults
+returns-in_err-trees-clause-faults c =
+    let p = err_from_is_err_and c.from_residual-in_err-trees.result c.from_residual-in_err-trees.ensures.1 in
+    rw (p.1, p.2) tt
+
+pub returns-in_err-trees-clause-printable : goal.returns-in_err-trees-clause-printable
+returns-in_err-trees-clause-printable c =
+    let p = err_from_is_err_and c.from_residual-in_err-trees.result c.from_residual-in_err-trees.ensures.1 in
+    rw (p.1, p.2) tt
