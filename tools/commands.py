@@ -17,10 +17,13 @@ import subprocess
 import sys
 import tempfile
 import threading
+import time
 
 SECONDS = 60
 # Bytes of native stack that the program has.
 STACK = 8 << 20
+# How long one turn of a program that is given its input in turns may take.
+TURN_SECONDS = 10
 
 
 def bytes_of(text):
@@ -47,6 +50,33 @@ def fill(filled, text, step):
     with filled, contextlib.suppress(OSError):
         for at in range(0, len(text), step):
             filled.sendall(text[at:at + step])
+
+
+def comes(output, text):
+    """Whether all that is written comes to be a text, within some seconds."""
+    end = time.monotonic() + TURN_SECONDS
+    while time.monotonic() < end:
+        if os.pread(output.fileno(), len(text) + 1, 0) == text:
+            return True
+        time.sleep(0.005)
+    return False
+
+
+def take_turns(filled, turns, output, missed):
+    """Gives each text once all that is written is what the one before wants, and ends the input."""
+    with filled, contextlib.suppress(OSError, ValueError):
+        for given, wanted in turns:
+            filled.sendall(bytes_of(given))
+            if not comes(output, bytes_of(wanted)):
+                missed.append(f"no {wanted!r} was written before more than {given!r} was given")
+                return
+
+
+def turns_of(case, output, missed):
+    """A socket that gives the input of a case in turns, and then ends."""
+    given, filled = socket.socketpair(socket.AF_UNIX, socket.SOCK_STREAM)
+    threading.Thread(target=take_turns, args=(filled, case["turns"], output, missed), daemon=True).start()
+    return given
 
 
 def input_of(case):
@@ -76,13 +106,13 @@ def limits_of(case):
     return set_limits
 
 
-def run(program, case):
-    """The output and the exit status of the program on a case."""
+def run(program, case, missed):
+    """The output and the exit status of the program on a case, whose turns that are missed are told."""
     with tempfile.TemporaryDirectory() as folder, tempfile.TemporaryFile() as output:
         for name, text in case["files"].items():
             with open(os.path.join(folder, name), "wb") as file:
                 file.write(bytes_of(text_of(text)))
-        with input_of(case) as given:
+        with turns_of(case, output, missed) if "turns" in case else input_of(case) as given:
             done = subprocess.run(
                 [program, *map(bytes_of, case["args"])],
                 cwd=folder,
@@ -99,11 +129,11 @@ def run(program, case):
 
 def differences(program, case):
     """The lines that tell how a case fails: none where it passes."""
+    found = []
     try:
-        output, status = run(program, case)
+        output, status = run(program, case, found)
     except subprocess.TimeoutExpired:
         return [f"no end within {SECONDS} seconds"]
-    found = []
     if status != case["status"]:
         found.append(f"status {status}, wanted {case['status']}")
     if "stdout" in case and output != bytes_of(text_of(case["stdout"])):

@@ -1,19 +1,22 @@
 #!/usr/bin/env python3
 """Tries the wrong bodies of tests/edits: the prover must refuse each. Ends with 1 where one is not refused.
 
-usage: tools/edits.py [--all] [CRATE ..]     those of the crates that are named, or of all crates
-       tools/edits.py --known                tries nothing, and ends with 1 where a crate's wrong bodies are still to be tried
+usage: tools/edits.py [--all] [--rooms=N] [CRATE ..]     those of the crates that are named, or of all crates
+       tools/edits.py --known                            tries nothing, and ends with 1 where a crate's wrong bodies are still to be tried
 
 tests/edits/CRATE/NAME.edit has a line 'file: src/FILE.rt' and pairs of lines 'old: TEXT' and 'new: TEXT', where TEXT stands once in that file.
 A function is proved from the contracts of those that it calls and not from their bodies, so one check tries many edits, as long as they are of
 different functions: each must leave a goal of its own function unproved, or an answer to one refused for more than a name that is gone.
+An answer is known by the file of its function, or by its name alone where no other edit of the check is of a function of that name.
 What isn't told apart so, as a constant, is tried once more by itself: then a goal or an answer of any function counts.
+With --rooms=N checks of N rounds go on side by side, each in a copy of its own, which wants 2 to 4 GB.
 
 tests/edits/tried.txt has for each crate a sum of all that the answers hang on: the crate and those below it, its edits, this file,
 and the program logic that 'rt version' names. The kit's own name is left out: machines have kits of one logic under several names, and
 what a body breaks is false under each. Where that sum is still the crate's, its edits were all refused already, and are tried
 only with --all. A check goes on from what the last 'rt check' of the crate kept, where there is such work.
 """
+import concurrent.futures
 import fcntl
 import hashlib
 import os
@@ -57,12 +60,18 @@ class Edit:
             self.functions.add((file, re.search(r"fn (\w+)", rows[first])[1], first))
             self.lines.append((file, first + 1, last + 1))
 
-    def is_refused(self, said):
-        """Returns whether some goal of its function was not proved, or an answer to one was refused for more than a name that is gone."""
+    def names(self):
+        return {name for _, name, _ in self.functions}
+
+    def is_refused(self, said, beside):
+        """Returns whether some goal of its function was not proved, or an answer to one refused for more than a name that is gone."""
         if any(file == its and first <= int(line) <= last for its, line in goals(said) for file, first, last in self.lines):
             return True
         parts = [(file[len("src/") : -len(".rt")], name) for file, name, _ in self.functions]
-        return any(re.fullmatch(rf"{re.escape(module)}/(\w+/)?{name}", its) for its in answers(said) for module, name in parts)
+        if any(re.fullmatch(rf"{re.escape(module)}/(\w+/)?{name}", its) for its in answers(said) for module, name in parts):
+            return True
+        own = self.names().difference(*(it.names() for it in beside if it is not self))
+        return any(its.rsplit("/", 1)[-1] in own for its in answers(said))
 
 
 def goals(said):
@@ -155,20 +164,18 @@ def first_error(said):
     return found[0].strip()[:200] if found else "nothing told"
 
 
-def tried(room, crate):
-    """Tries a crate's edits, and returns the names of those that are not refused."""
-    edits = [Edit(crate, it) for it in files_below(f"tests/edits/{crate}")]
+def tried(room, part):
+    """Tries a round of edits, and returns the names of those that are not refused."""
+    said, _ = check(room, part)
     let_through = []
-    for part in rounds(edits):
-        said, _ = check(room, part)
-        for edit in part:
-            refused, why = edit.is_refused(said), ""
-            if not refused:
-                alone, is_proved = check(room, [edit])
-                refused = bool(goals(alone) or answers(alone))
-                why = "" if is_proved else f", but for what tells nothing of its contract: {first_error(alone)}"
-            print(f"{crate}/{edit.name}: {'refused, as it must be' if refused else f'NOT REFUSED{why}'}", flush=True)
-            let_through += [] if refused else [edit.name]
+    for edit in part:
+        refused, why = edit.is_refused(said, part), ""
+        if not refused:
+            alone, is_proved = check(room, [edit])
+            refused = bool(goals(alone) or answers(alone))
+            why = "" if is_proved else f", but for what tells nothing of its contract: {first_error(alone)}"
+        print(f"{edit.crate}/{edit.name}: {'refused, as it must be' if refused else f'NOT REFUSED{why}'}", flush=True)
+        let_through += [] if refused else [edit.name]
     return let_through
 
 
@@ -187,10 +194,23 @@ def copied(room, crate, below):
         print(f"{crate}: nothing is kept of a check, or rt ci has it aside: this one begins from nothing", flush=True)
 
 
-def tried_in_a_copy(crate, below):
+def tried_in_a_copy(crate, below, parts):
+    """Tries rounds of edits that no other room takes, in a room of its own."""
+    let_through = []
     with tempfile.TemporaryDirectory(prefix=".edits-", dir=".") as room:
         copied(room, crate, below)
-        return tried(room, crate)
+        for part in parts:
+            let_through += tried(room, part)
+    return let_through
+
+
+def tried_in_rooms(crate, below, rooms):
+    """Tries a crate's edits, some rounds at a time, and returns the names of those that are not refused."""
+    parts = rounds([Edit(crate, it) for it in files_below(f"tests/edits/{crate}")])
+    taken = iter(parts)
+    with concurrent.futures.ThreadPoolExecutor(rooms) as pool:
+        tries = [pool.submit(tried_in_a_copy, crate, below, taken) for _ in range(min(rooms, len(parts)))]
+        return [name for it in tries for name in it.result()]
 
 
 def write_down(crate, made):
@@ -210,6 +230,7 @@ def main(words):
     names = [it for it in words if not it.startswith("--")]
     names = names or sorted(it for it in os.listdir("tests/edits") if os.path.isdir(f"tests/edits/{it}"))
     known = dict(it.split() for it in open(TRIED, encoding="utf-8")) if os.path.isfile(TRIED) else {}
+    rooms = next((int(it[len("--rooms=") :]) for it in words if it.startswith("--rooms=")), 1)
     failed = []
     for crate in names:
         made, number = sum_of(crate, below), len(os.listdir(f"tests/edits/{crate}"))
@@ -219,7 +240,7 @@ def main(words):
             print(f"{crate}: its {number} edits are still to be tried: rt check in its folder, make edits CRATES={crate}, and commit {TRIED}")
             failed.append(crate)
         else:
-            let_through = tried_in_a_copy(crate, below)
+            let_through = tried_in_rooms(crate, below, rooms)
             failed += let_through
             if not let_through:
                 write_down(crate, made)

@@ -42,14 +42,22 @@ pub fn compile(alloc: Global, files: Rc<Files>) -> Result<Program, Refused>
     ensures faults { IfErr result (λ refused. IfFaults refused (λ report. AreFaults files.value report.errors)) }
     ensures of_files { IfErr result (λ refused. IfFaults refused (λ report. report.files ≡ files.value)) }
 {
-    match compile_files(alloc, &files) {
+    let Ok(kept) = files.clone() else {
+        return Err(Refused::Memory);
+    };
+    match compile_files(alloc, &files, kept) {
         Ok(program) => Ok(program),
         Err(Refusal::Fault(errors)) => Err(Refused::Faults(Errors::new(errors, files))),
         Err(Refusal::Memory(_)) => Err(Refused::Memory),
     }
 }
 
-fn compile_files(alloc: Global, files: &Files) -> Result<Program, Refusal<Vec<Error>>>
+/// The program of files, which messages of faults name.
+fn compile_files(
+    alloc: Global,
+    files: &Files,
+    named: Rc<Files>,
+) -> Result<Program, Refusal<Vec<Error>>>
     ensures accepted { OnOk result (AreAccepted files.now) }
     ensures compiled { IfOk result (IsProgramOf files.now) }
     ensures faults { IfErr result (λ r. IfFault r (λ errors. AreFaults files.now errors.items)) }
@@ -57,7 +65,7 @@ fn compile_files(alloc: Global, files: &Files) -> Result<Program, Refusal<Vec<Er
 {
     let parsed = parse_files(alloc, files)?;
     let defs = parsed.as_slice();
-    let mut tyenv = TypeEnv::from_ast(alloc, defs)?;
+    let mut tyenv = TypeEnv::from_files(alloc, named, defs)?;
     let termenv = TermEnv::from_ast(alloc, &mut tyenv, defs, true)?;
     let _names = tyenv.syms();
     let rule_sets = check(alloc, &termenv)?;

@@ -14,6 +14,7 @@ mod cycles;
 mod definitions;
 mod from_ast;
 mod graph;
+mod messages;
 mod name_table;
 mod named;
 mod names;

@@ -2,11 +2,13 @@
 pub mod bindings;
 pub mod exprs;
 pub mod frames;
+pub mod messages;
 pub mod names;
 pub mod patterns;
 pub mod rules;
 
 use crate::env::TermEnv;
+use isle_syntax::ast::Pattern;
 use isle_syntax::lexer::Pos;
 use isle_types::TypeEnv;
 use std::alloc::Global;
@@ -21,4 +23,6 @@ pub struct Context<'a> {
     pub max_nodes: usize,
     /// Where the rule stands.
     pub rule: Pos,
+    /// The pattern at the root of the rule.
+    pub root: &'a Pattern,
 }

@@ -1,6 +1,7 @@
 mod errors;
 mod fields;
 mod lookup;
+mod messages;
 mod reading;
 
 use crate::ids::{Sym, TypeId};
@@ -8,8 +9,10 @@ use crate::stablemapset::StableMap;
 use crate::symbols::Symbols;
 use crate::types::Type;
 use isle_syntax::error::Error;
+use isle_syntax::files::Files;
 use std::alloc::Global;
 use std::marker::Model;
+use std::rc::Rc;
 
 /// The types and constants of a list of definitions, and the names interned for them:
 /// `cranelift_isle::sema::TypeEnv`. Contracts see its tables, by name.
@@ -21,6 +24,8 @@ pub struct TypeEnv {
     type_map: StableMap<Sym, TypeId>,
     const_types: StableMap<Sym, TypeId>,
     errors: Vec<Error>,
+    // The source files, for messages.
+    files: Option<Rc<Files>>,
 }
 
 impl Model for TypeEnv {

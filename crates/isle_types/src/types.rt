@@ -86,6 +86,24 @@ impl IntType {
         }
     }
 
+    /// The numbers of the type, as a message tells them.
+    pub fn bounds(self) -> &'static str {
+        match self {
+            IntType::U8 => "0 to 255",
+            IntType::U16 => "0 to 65535",
+            IntType::U32 => "0 to 4294967295",
+            IntType::U64 | IntType::USize => "0 to 18446744073709551615",
+            IntType::U128 => "0 to 340282366920938463463374607431768211455",
+            IntType::I8 => "-128 to 127",
+            IntType::I16 => "-32768 to 32767",
+            IntType::I32 => "-2147483648 to 2147483647",
+            IntType::I64 | IntType::ISize => "-9223372036854775808 to 9223372036854775807",
+            IntType::I128 => {
+                "-170141183460469231731687303715884105728 to 170141183460469231731687303715884105727"
+            }
+        }
+    }
+
     /// Whether the type has a literal's number: `val` itself, or where `big` is set the number from 2^127 on of which
     /// `val` keeps the 128 bits.
     pub fn holds(self, val: i128, big: bool) -> bool

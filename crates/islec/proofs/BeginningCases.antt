@@ -7,7 +7,11 @@ use Rattle.std.specs.Prelude.{String}
 use Rattle.clap.specs.Words.{kind_of}
 use Rattle.clap.specs.declared.error.Error.{Error}
 use Rattle.clap.specs.declared.error.kind.ErrorKind.TheVariants.{DisplayHelp, DisplayVersion, UnknownArgument}
-use Rattle.islec.specs.Beginnings.{AsksForHelp, BecomesUnbegun, IsUnread, IsUnreadWorld, TellsUnbegun, unread_line}
+use Rattle.islec.specs.Beginnings.{AsksForHelp, BecomesUnbegun, IsUnread, IsUnreadWorld, TellsUnbegun, unread_lines}
+use Rattle.std.specs.declared.io.ErrorKind.TheVariants as kind
+use Rattle.islec.specs.Causes.{cause_text}
+use Rattle.islec.specs.Writing.{AppendsBeginning}
+use Rattle.islec.specs.declared.cause.Cause.TheVariants.{Fails}
 use Rattle.islec.specs.declared.line.LineFault.TheVariants as line_fault
 use Rattle.islec.specs.declared.program.Unbegun.TheVariants.{Usage, NotText, CannotRead, Memory}
 use Rattle.islec.specs.declared.status.Status.{Status}
@@ -29,20 +33,34 @@ memory_stays = refl
 memory_is_unread : IsUnread [] Memory
 memory_is_unread = inl refl
 
-file_is_unread : (name : String Global) → IsUnread (name ∷ []) (CannotRead name)
-file_is_unread name = inr (name, (0, omega arith, refl), refl)
+file_is_unread : (name words : String Global) → string_bytes words ≡ codes "a directory" → IsUnread (name ∷ []) (CannotRead name words)
+file_is_unread name words is = inr (name, (0, omega arith, refl), (Fails kind.IsADirectory, inr (words, is, refl)))
 
-no_file_is_unread : (name : String Global) → IsUnread [] (CannotRead name) → ⊥
-no_file_is_unread name (inl is) = absurd cc
-no_file_is_unread name (inr (other, (k, within, at), is)) = omega (arith, within)
+no_file_is_unread : (name words : String Global) → IsUnread [] (CannotRead name words) → ⊥
+no_file_is_unread name words (inl is) = absurd cc
+no_file_is_unread name words (inr (other, (k, within, at), is)) = omega (arith, within)
 
 words_are_not_unread : (name : String Global) → IsUnread (name ∷ []) NotText → ⊥
 words_are_not_unread name (inl is) = absurd cc
-words_are_not_unread name (inr (other, has, is)) = absurd cc
+words_are_not_unread name (inr (other, has, (cause, inl is))) = absurd cc
+words_are_not_unread name (inr (other, has, (cause, inr (words, text, is)))) = absurd cc
 
-no_world_is_unread : (name : String Global) → IsUnreadWorld None (CannotRead name) → ⊥
-no_world_is_unread name (inl is) = absurd cc
-no_world_is_unread name (inr (own, named, is)) = absurd cc
+-- ---- causes in words
+
+folder_is_told : cause_text (Fails kind.IsADirectory) ≡ codes "a directory"
+folder_is_told = refl
+
+missing_file_is_told : cause_text (Fails kind.NotFound) ≡ codes "not found"
+missing_file_is_told = refl
+
+other_kind_is_told : cause_text (Fails kind.BrokenPipe) ≡ codes "an error of reading"
+other_kind_is_told = refl
+
+-- ---- worlds that aren't read
+
+no_world_is_unread : (name words : String Global) → IsUnreadWorld None (CannotRead name words) → ⊥
+no_world_is_unread name words (inl is) = absurd cc
+no_world_is_unread name words (inr (own, named, is)) = absurd cc
 
 -- ---- help
 
@@ -89,24 +107,33 @@ no_text_ends_not_well : (old new : Option (List ℕ)) → TellsUnbegun NotText s
 no_text_ends_not_well old new (inl other) = absurd cc
 no_text_ends_not_well old new (inr (other, is)) = absurd cc
 
-unread_file_is_told : (name : String Global) → string_bytes name ≡ codes "a.isle"
-    → TellsUnbegun (CannotRead name) status.InputOutput one (Some (1 ∷ codes "cannot read a.isle\n"))
-unread_file_is_told name is =
-    (refl, (19, subst (λ (of : List ℕ). Appends one (Some (1 ∷ codes "cannot read a.isle\n")) (take 19 (unread_line of))) (sym is) refl))
+told_so : AppendsBeginning one (Some (1 ∷ codes "cannot read a.isle\n  not found\n")) (unread_lines (codes "a.isle") (codes "not found"))
+told_so = (31, refl)
 
-another_name_is_not_told : (name : String Global) → string_bytes name ≡ codes "a.isle"
-    → TellsUnbegun (CannotRead name) status.InputOutput (Some []) (Some (codes "cannot read b.isle\n")) → ⊥
-another_name_is_not_told name is (same, (count, told)) =
-    let wrote : codes "cannot read b.isle\n" ≡ take count (codes "cannot read a.isle\n") =
-    subst (λ (of : List ℕ). codes "cannot read b.isle\n" ≡ take count (unread_line of)) is told in
-    let long : 19 ≡ min count 19 = ap length wrote ∙ length-take count (codes "cannot read a.isle\n") in
-    let both = wrote ∙ take_all count (codes "cannot read a.isle\n") (omega (arith, long)) in
-    let wrong : true ≡ false = ap (λ (text : List ℕ). bytes_eq text (codes "cannot read b.isle\n")) both in
+unread_file_is_told : (name words : String Global) → string_bytes name ≡ codes "a.isle" → string_bytes words ≡ codes "not found"
+    → TellsUnbegun (CannotRead name words) status.InputOutput one (Some (1 ∷ codes "cannot read a.isle\n  not found\n"))
+unread_file_is_told name words is cause = (
+  refl,
+  subst (λ (of : List ℕ). AppendsBeginning one (Some (1 ∷ codes "cannot read a.isle\n  not found\n")) (unread_lines of (string_bytes words))) (sym is)
+      (subst (λ (why : List ℕ). AppendsBeginning one (Some (1 ∷ codes "cannot read a.isle\n  not found\n")) (unread_lines (codes "a.isle") why))
+      (sym cause) told_so),
+)
+
+another_name_is_not_told : (name words : String Global) → string_bytes name ≡ codes "a.isle" → string_bytes words ≡ codes "not found"
+    → TellsUnbegun (CannotRead name words) status.InputOutput (Some []) (Some (codes "cannot read b.isle\n  not found\n")) → ⊥
+another_name_is_not_told name words is cause (same, (count, told)) =
+    let named : codes "cannot read b.isle\n  not found\n" ≡ take count (unread_lines (codes "a.isle") (string_bytes words)) =
+    subst (λ (of : List ℕ). codes "cannot read b.isle\n  not found\n" ≡ take count (unread_lines of (string_bytes words))) is told in
+    let wrote : codes "cannot read b.isle\n  not found\n" ≡ take count (codes "cannot read a.isle\n  not found\n") =
+    subst (λ (why : List ℕ). codes "cannot read b.isle\n  not found\n" ≡ take count (unread_lines (codes "a.isle") why)) cause named in
+    let long : 31 ≡ min count 31 = ap length wrote ∙ length-take count (codes "cannot read a.isle\n  not found\n") in
+    let both = wrote ∙ take_all count (codes "cannot read a.isle\n  not found\n") (omega (arith, long)) in
+    let wrong : true ≡ false = ap (λ (text : List ℕ). bytes_eq text (codes "cannot read b.isle\n  not found\n")) both in
     absurd (true≢false wrong)
 
-unread_file_only_fails : (name : String Global) (ended : Status) (old new : Option (List ℕ)) → TellsUnbegun (CannotRead name) ended old new
+unread_file_only_fails : (name words : String Global) (ended : Status) (old new : Option (List ℕ)) → TellsUnbegun (CannotRead name words) ended old new
     → ended ≡ status.InputOutput
-unread_file_only_fails name ended old new is = is.0
+unread_file_only_fails name words ended old new is = is.0
 
 memory_is_told : TellsUnbegun Memory status.OutOfMemory one (Some (1 ∷ codes "out of memory\n"))
 memory_is_told = (refl, (14, refl))

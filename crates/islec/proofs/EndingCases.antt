@@ -77,7 +77,7 @@ alone_is_not_well input left old new (told (Usage e) holds status.SomeRefused co
 alone_is_not_well input left old new (told (Usage e) holds status.InputOutput code tells) = absurd cc
 alone_is_not_well input left old new (told (Usage e) holds status.OutOfMemory code tells) = absurd cc
 alone_is_not_well input left old new (told NotText holds ended code tells) = absurd holds
-alone_is_not_well input left old new (told (CannotRead name) (line, reads, names) ended code tells) =
+alone_is_not_well input left old new (told (CannotRead name words) (line, reads, names, cause) ended code tells) =
     let wrong = sym reads.taken ∙ alone_lacks_a_command in absurd cc
 alone_is_not_well input left old new (told Memory holds ended code (same, wrote)) = let wrong = code ∙ ap code_of same in absurd cc
 

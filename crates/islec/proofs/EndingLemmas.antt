@@ -45,19 +45,21 @@ status_of words input left old new code (told why holds status is tells) = (stat
 
 -- a file that isn't read is one of the names
 pub unread_among : (names : List (String Global)) (name : String Global) (why : Unbegun) → Contains names name → IsUnreadFile name why → IsUnread names why
-unread_among names name why has (inl memory) = inl memory
-unread_among names name why has (inr unread) = inr (name, has, unread)
+unread_among names name why has unread = inr (name, has, unread)
 
 -- or it is the world's
 pub unread_world : (world : Option (String Global)) (name : String Global) (why : Unbegun) → world ≡ Some name → IsUnreadFile name why → IsUnreadWorld world why
-unread_world world name why is (inl memory) = inl memory
-unread_world world name why is (inr unread) = inr (name, is, unread)
+unread_world world name why is unread = inr (name, is, unread)
 
 -- words whose files aren't read may not begin
 pub files_hold_back : (words : List Text) (line : Line) (why : Unbegun) → ReadsLine words line → IsUnread line.files.items why → HoldsBack words why
 files_hold_back words line why reads (inl memory) = subst (λ (u : Unbegun). HoldsBack words u) (sym memory) tt
-files_hold_back words line why reads (inr (name, has, unread)) = subst (λ (u : Unbegun). HoldsBack words u) (sym unread) (line, reads, inl has)
+files_hold_back words line why reads (inr (name, has, (cause, inl memory))) = subst (λ (u : Unbegun). HoldsBack words u) (sym memory) tt
+files_hold_back words line why reads (inr (name, has, (cause, inr (own, text, unread)))) =
+    subst (λ (u : Unbegun). HoldsBack words u) (sym unread) (line, reads, inl has, (cause, text))
 
 pub world_holds_back : (words : List Text) (line : Line) (why : Unbegun) → ReadsLine words line → IsUnreadWorld line.world why → HoldsBack words why
 world_holds_back words line why reads (inl memory) = subst (λ (u : Unbegun). HoldsBack words u) (sym memory) tt
-world_holds_back words line why reads (inr (name, is, unread)) = subst (λ (u : Unbegun). HoldsBack words u) (sym unread) (line, reads, inr is)
+world_holds_back words line why reads (inr (name, is, (cause, inl memory))) = subst (λ (u : Unbegun). HoldsBack words u) (sym memory) tt
+world_holds_back words line why reads (inr (name, is, (cause, inr (own, text, unread)))) =
+    subst (λ (u : Unbegun). HoldsBack words u) (sym unread) (line, reads, inr is, (cause, text))

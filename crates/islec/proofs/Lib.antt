@@ -18,6 +18,8 @@ pub mod ServingLemmas
 pub mod RunLemmas
 -- What is written of the trees of a program's rules, by what its parts write.
 pub mod DrawingLemmas
+-- How drawing ends.
+pub mod StatusLemmas
 -- What is written of a world that is refused.
 pub mod WorldLemmas
 -- Words that a simple command takes give values that fit its arguments.

@@ -4,9 +4,9 @@ use Rattle.std.specs.Result.{IsErrAnd}
 use Rattle.std.proofs.Common.{arith, ◌≡◌, ◌≢◌, ◌++◌, ◌||◌, ℕ, Bool, true, false, List, [], ◌∷◌, Option, Some, None, Result, Ok, Err, IfErr, length, take, refl, sym, ap, subst, ◌∙◌, append_assoc, append-nil, ◌+◌, IfOk, cond, eqb, codes, inl, inr}
 use Rattle.std.specs.Io.Buffered.{reader_remaining, reader_inner, reader_buffer, reader_capacity}
 use Rattle.std.specs.declared.io.buffered.BufReader.{BufReader}
-use Rattle.std.specs.Io.KnownBytes.{Appends, prepend_known, Consumes}
+use Rattle.std.specs.Io.KnownBytes.{Appends, prepend_known, Consumes, Keeps, IsAtEnd}
 use Rattle.std.proofs.Math.Seq.{take-append-add}
-use Rattle.std.proofs.KnownBytes.{Appends-nil, Appends-trans, prepend_known-nil}
+use Rattle.std.proofs.KnownBytes.{Appends-nil, Appends-trans, Consumes-kept, prepend_known-nil}
 use Rattle.islec.specs.declared.answer.Manner.{Manner}
 use Rattle.islec.specs.declared.serve.ServeFault.{ServeFault}
 use Rattle.islec.specs.declared.serve.Served.{Served}
@@ -14,10 +14,11 @@ use Rattle.islec.specs.declared.serve.ServeFault.TheVariants.{Read, Write, Memor
 use Rattle.isle_terms.specs.Values.{ValueTree, ValueTrees}
 use Rattle.isle_run.specs.declared.program.Program.{Program}
 use Rattle.islec.specs.Replies.{Setting, setting_in, IsReply, LosesReply}
-use Rattle.islec.specs.Serving.{AreReplies, AreLinesOf, AreFirstLinesOf, WritesReplies, AnswersAll, AnswersFirst, AnswersCut, KeepsBack, KeepsFirst, GivesLines, some_refused, BreaksOff, IsCutShort, LosesNewline}
+use Rattle.islec.specs.Serving.{AreReplies, AreLinesOf, AreFirstLinesOf, WritesReplies, AnswersAll, AnswersFirst, AnswersCut, KeepsBack, KeepsFirst, GivesLines, some_refused, BreaksOff, IsCutShort, LosesNewline, WritesFirst}
 use Rattle.islec.specs.Writing.{AppendsBeginning, ContinuesBy}
 use Rattle.islec.proofs.WritingLemmas.{whole_begins}
-use Rattle.islec.proofs.LineLemmas.{gives_none, gives_more, gives_first, consumes_none, consumes_more}
+use Rattle.islec.specs.Serving.{lines_of}
+use Rattle.islec.proofs.LineLemmas.{gives_all, gives_none, gives_more, gives_first, consumes_none, consumes_more}
 
 or_false : (b : Bool) → (b || false) ≡ b
 or_false true = refl
@@ -130,6 +131,35 @@ writes_more setting before after input left old mid new kept some rest refused s
   gives = serving.gives;
   keeps = writes_some setting before after serving.lines old mid new kept some rest refused serving.keeps wrote is;
 }
+
+-- a reader that keeps its bytes gives the same lines
+keeps_gives : (a b c : Option (List ℕ)) (lines : List (List ℕ)) → GivesLines a b lines → Keeps b c → GivesLines a c lines
+keeps_gives None b c lines gives keeps = tt
+keeps_gives (Some x) None c lines gives keeps = absurd gives
+keeps_gives (Some x) (Some y) None lines gives keeps = absurd keeps
+keeps_gives (Some x) (Some y) (Some z) lines gives keeps = gives ∙ ap (λ l. lines ++ lines_of l) (sym keeps)
+
+-- before a reader is waited for, what is kept back is written
+pub awaits : {V : Type 0} (setting : Setting V) (before after : V) (input left next old mid new : Option (List ℕ)) (kept rest : List ℕ) (refused : Bool)
+    → IsServing setting before input left old mid kept refused after → Keeps left next → WritesFirst kept rest mid new
+    → IsServing setting before input next old new rest refused after
+awaits setting before after input left next old mid new kept rest refused serving keeps (some, wrote, is) = record {
+  lines = serving.lines;
+  whole = serving.whole;
+  read = Consumes-kept input left next serving.whole serving.read keeps;
+  gives = keeps_gives input left next serving.lines serving.gives keeps;
+  keeps = writes_some setting before after serving.lines old mid new kept some rest refused serving.keeps wrote is;
+}
+
+-- where a reader has come to its end, all its lines are answered
+pub ends_there : {V : Type 0} (setting : Setting V) (before after : V) (input left next old mid new : Option (List ℕ)) (kept rest : List ℕ) (refused : Bool)
+    → IsServing setting before input left old mid kept refused after → IsAtEnd left → WritesFirst kept rest mid new
+    → (lines : List (List ℕ)) × AreLinesOf input lines × KeepsBack setting before lines refused old new rest after
+ends_there setting before after input left next old mid new kept rest refused serving end (some, wrote, is) = (
+  serving.lines,
+  gives_all input left serving.lines serving.gives end,
+  writes_some setting before after serving.lines old mid new kept some rest refused serving.keeps wrote is,
+)
 
 -- a beginning of it
 pub cuts : {V : Type 0} (setting : Setting V) (before after : V) (input left old mid new : Option (List ℕ)) (kept : List ℕ) (refused : Bool)
@@ -288,6 +318,12 @@ breaks_at_once setting world = ((λ k d less. absurd (omega (arith, less)), λ f
     never : (front : List ℕ) → [] ≡ front ++ codes "\n" → ⊥
     never [] ended = absurd cc
     never (x ∷ front) ended = absurd cc
+
+-- where nothing is read behind lines, nothing is done
+pub breaks_idle : {V : Type 0} (setting : Setting V) (world : V) (fault : ServeFault) → fault ≢ Write → BreaksOff setting fault [] world world
+breaks_idle setting world Read other = breaks_at_once setting world
+breaks_idle setting world Write other = absurd (other refl)
+breaks_idle setting world Memory other = ((λ k d less. absurd (omega (arith, less))), inl refl)
 
 -- what follows of an error holds of it
 pub err_and : {T E : Type 0} (r : Result T E) (P Q : E → Type 0) → IsErrAnd r P → ((e : E) → P e → Q e) → IfErr r Q

@@ -51,3 +51,8 @@ begins_longer a b text more (count, wrote) =
 pub begins_behind : (a b c : Option (List ℕ)) (text more : List ℕ) → Appends a b text → AppendsBeginning b c more → AppendsBeginning a c (text ++ more)
 begins_behind a b c text more wrote (count, next) =
     (length text + count, subst (Appends a c) (sym (take-append-add text more count)) (Appends-trans a b c _ _ wrote next))
+
+-- what holds anyway holds where it fails
+pub on_any : {E P : Type 0} (r : Result (Unit {0}) E) → P → OnErr r P
+on_any (Ok u) p = tt
+on_any (Err e) p = p

@@ -6,6 +6,10 @@ use Rattle.std.specs.Io.KnownBytes.{Appends}
 use Rattle.clap.specs.Words.{kind_of}
 use Rattle.clap.specs.declared.error.Error.{Error}
 use Rattle.clap.specs.declared.error.kind.ErrorKind.TheVariants.{DisplayHelp, DisplayVersion}
+use Rattle.std.specs.Str.Lossy.{utf8_valid_len}
+use Rattle.islec.specs.Causes.{cause_text}
+use Rattle.islec.specs.declared.cause.Cause.{Cause}
+use Rattle.islec.specs.declared.cause.Cause.TheVariants.{NotUtf8}
 use Rattle.islec.specs.declared.line.LineFault.{LineFault}
 use Rattle.islec.specs.declared.line.LineFault.TheVariants as line_fault
 use Rattle.islec.specs.declared.program.Unbegun.{Unbegun}
@@ -19,25 +23,38 @@ abbrev pub BecomesUnbegun : LineFault → Unbegun → Type 0
 BecomesUnbegun (line_fault.Usage error) unbegun = unbegun ≡ Usage error
 BecomesUnbegun (line_fault.Memory error) unbegun = unbegun ≡ Memory
 
--- memory ran out, or the file of this name can't be read
+-- memory ran out, or the file of this name can't be read, for this cause
+abbrev pub IsUnreadFor : String Global → Cause → Unbegun → Type 0
+IsUnreadFor name cause unbegun =
+    (unbegun ≡ Memory) ⊎ ((words : String Global) × (string_bytes words ≡ cause_text cause) × (unbegun ≡ CannotRead name words))
+
+-- the same, for some cause
 abbrev pub IsUnreadFile : String Global → Unbegun → Type 0
-IsUnreadFile name unbegun = (unbegun ≡ Memory) ⊎ (unbegun ≡ CannotRead name)
+IsUnreadFile name unbegun = (cause : Cause) × IsUnreadFor name cause unbegun
+
+-- memory ran out, or the file of this name has bytes that aren't UTF-8 from some byte on
+abbrev pub IsNoText : String Global → List ℕ → Unbegun → Type 0
+IsNoText name bytes unbegun = IsUnreadFor name (NotUtf8 (utf8_valid_len bytes)) unbegun
 
 -- memory ran out, or a file of these names can't be read
 abbrev pub IsUnread : List (String Global) → Unbegun → Type 0
-IsUnread names unbegun = (unbegun ≡ Memory) ⊎ ((name : String Global) × Contains names name × (unbegun ≡ CannotRead name))
+IsUnread names unbegun = (unbegun ≡ Memory) ⊎ ((name : String Global) × Contains names name × IsUnreadFile name unbegun)
 
 -- memory ran out, or the file of that name can't be read, where one is named
 abbrev pub IsUnreadWorld : Option (String Global) → Unbegun → Type 0
-IsUnreadWorld name unbegun = (unbegun ≡ Memory) ⊎ ((own : String Global) × (name ≡ Some own) × (unbegun ≡ CannotRead own))
+IsUnreadWorld name unbegun = (unbegun ≡ Memory) ⊎ ((own : String Global) × (name ≡ Some own) × IsUnreadFile own unbegun)
 
 -- help or the version is asked for
 abbrev pub AsksForHelp : Error → Type 0
 AsksForHelp error = (kind_of error ≡ DisplayHelp) ⊎ (kind_of error ≡ DisplayVersion)
 
--- the line that tells which file can't be read
-abbrev pub unread_line : List ℕ → List ℕ
-unread_line name = codes "cannot read " ++ (name ++ codes "\n")
+-- a line of two parts
+abbrev pub line_of_two : List ℕ → List ℕ → List ℕ
+line_of_two first second = first ++ (second ++ codes "\n")
+
+-- the line that tells which file can't be read, and the one that tells why
+abbrev pub unread_lines : (name cause : List ℕ) → List ℕ
+unread_lines name cause = line_of_two (codes "cannot read ") name ++ line_of_two (codes "  ") cause
 
 -- the status of a command that was not begun, and what is written of it where no write fails: all is well where help was asked for, else
 -- the words are refused, or a file can't be read, or memory ran out; a write that fails has a status of its own
@@ -46,5 +63,6 @@ TellsUnbegun (Usage error) ended old new = (ended ≡ status.InputOutput)
     ⊎ ((AsksForHelp error × (ended ≡ status.AllWell)) ⊎ ((¬ AsksForHelp error) × (ended ≡ status.Usage)))
 TellsUnbegun NotText ended old new = (ended ≡ status.InputOutput)
     ⊎ ((ended ≡ status.Usage) × Appends old new (codes "error: a word of the command line isn't UTF-8\n"))
-TellsUnbegun (CannotRead name) ended old new = (ended ≡ status.InputOutput) × AppendsBeginning old new (unread_line (string_bytes name))
+TellsUnbegun (CannotRead name cause) ended old new =
+    (ended ≡ status.InputOutput) × AppendsBeginning old new (unread_lines (string_bytes name) (string_bytes cause))
 TellsUnbegun Memory ended old new = (ended ≡ status.OutOfMemory) × AppendsBeginning old new (codes "out of memory\n")

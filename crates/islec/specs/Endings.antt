@@ -8,6 +8,7 @@ use Rattle.isle_syntax.specs.Positions.Files.{SourceFile}
 use Rattle.isle_run.specs.Compiled.{AreAccepted}
 use Rattle.islec.specs.declared.answer.Manner.{Manner}
 use Rattle.islec.specs.Beginnings.{TellsUnbegun}
+use Rattle.islec.specs.Causes.{cause_text}
 use Rattle.islec.specs.Commands.{islec}
 use Rattle.islec.specs.Drawing.{WritesTrees, WritesUnknown, CutsTrees}
 use Rattle.islec.specs.Formatting.{WritesPrints, WritesFault, CutsPrints}
@@ -15,6 +16,7 @@ use Rattle.islec.specs.Lines.{ReadsLine, names_of}
 use Rattle.islec.specs.Running.{WritesFaults, WritesAccepted, WritesAnswers, WritesRefusal, CutsCheck, CutsRun, RunsOut}
 use Rattle.islec.specs.Statuses.{code_of}
 use Rattle.islec.specs.Writing.{AppendsBeginning}
+use Rattle.islec.specs.declared.cause.Cause.{Cause}
 use Rattle.islec.specs.declared.line.Job.{Job}
 use Rattle.islec.specs.declared.line.Job.TheVariants.{Run, Check, Blocks, Fmt}
 use Rattle.islec.specs.declared.line.Line.{Line}
@@ -76,11 +78,13 @@ IsWorld (Some name) file = file.name ≡ string_bytes name
 abbrev pub Names : Line → String Global → Type 0
 Names line name = Contains line.files.items name ⊎ (line.world ≡ Some name)
 
--- why a command of these words may not begin: they have that fault, or a file that they name can't be read, or memory ran out
+-- why a command of these words may not begin: they have that fault, or a file that they name can't be read, for a cause that is told, or
+-- memory ran out
 abbrev pub HoldsBack : List Text → Unbegun → Type 0
 HoldsBack words (unbegun.Usage error) = IsAmong (kind_of error) (fault_of islec words)
 HoldsBack words unbegun.NotText = ⊥
-HoldsBack words (unbegun.CannotRead name) = (line : Line) × ReadsLine words line × Names line name
+HoldsBack words (unbegun.CannotRead name words_of_cause) = (line : Line) × ReadsLine words line × Names line name
+    × ((cause : Cause) × (string_bytes words_of_cause ≡ cause_text cause))
 HoldsBack words unbegun.Memory = ⊤
 
 -- how a command of these words ends, and what it writes: what the job of their line does on files of the names that they have, in order; or

@@ -26,6 +26,8 @@ pub mod Commands
 pub mod Rows
 -- What the words of a command line say.
 pub mod Lines
+-- Why a file can't be read, in words.
+pub mod Causes
 -- Why a command was not begun, and what is told of it.
 pub mod Beginnings
 -- How a whole command ends, by its words.

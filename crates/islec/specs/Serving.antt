@@ -103,6 +103,10 @@ abbrev pub KeepsFirst : {V : Type 0} → Setting V → ServeFault → V → (inp
 KeepsFirst {V} setting fault before input left old new kept after = (lines : List (List ℕ)) × (part : List ℕ) × (refused : Bool) × (reached : V)
     × ReadsLines input left lines part × KeepsBack setting before lines refused old new kept reached × BreaksOff setting fault part reached after
 
+-- of what was kept back a beginning is written, and the rest is still kept back
+abbrev pub WritesFirst : (kept rest : List ℕ) → (old new : Option (List ℕ)) → Type 0
+WritesFirst kept rest old new = (some : List ℕ) × Appends old new some × (kept ≡ some ++ rest)
+
 -- a reader's first line with the newline that ends it, where its bytes are known
 abbrev pub TakesLine : (old new : Option (List ℕ)) → List ℕ → Type 0
 TakesLine old new line = (0 < length line) × IfSome old (λ bytes. (line ≡ take_through 10 bytes) × (new ≡ Some (drop_through 10 bytes)))

@@ -3,6 +3,7 @@
 
 pub mod answer;
 pub mod blocks;
+pub mod cause;
 pub mod format;
 pub mod line;
 pub mod perform;

@@ -1,18 +1,19 @@
 //! The program: words, files, and the command on them.
 ghost use Rattle.std.specs.Prelude.{◌≡◌, ◌⊎◌, IfOk, IfErr, OnOk, OnErr, map, option_map, string_bytes};
 ghost use Rattle.std.specs.Io.KnownBytes.{Appends};
-ghost use Rattle.islec.specs.Beginnings.{BecomesUnbegun, TellsUnbegun, IsUnread, IsUnreadFile, IsUnreadWorld, unread_line};
+ghost use Rattle.islec.specs.Beginnings.{BecomesUnbegun, TellsUnbegun, IsNoText, IsUnread, IsUnreadFile, IsUnreadFor, IsUnreadWorld, line_of_two, unread_lines};
 ghost use Rattle.islec.specs.Endings.{Begins, EndsCommand, HoldsBack};
 ghost use Rattle.islec.specs.Statuses.{code_of};
 ghost use Rattle.islec.specs.Writing.{AppendsBeginning};
 ghost use Rattle.islec.specs.declared.status.Status.{Status};
 ghost use Rattle.islec.specs.declared.program.Unbegun.TheVariants.{Memory};
 
+use crate::cause::{Cause, cause_words};
 use crate::line::{Job, Line, LineFault, line_of};
 use crate::perform::perform;
 use crate::serve::{ServeFault, write_text};
 use crate::status::{Status, out_of_memory};
-use std::alloc::{AllocError, AllocFailed};
+use std::alloc::{AllocError, AllocFailed, Global};
 use std::env::Env;
 use std::io::{BufRead, BufReader, ErrorKind, Write};
 use std::rt::Files;
@@ -25,8 +26,8 @@ enum Unbegun {
     Usage(clap::Error),
     /// A word isn't UTF-8.
     NotText,
-    /// The file of this name can't be read or isn't UTF-8.
-    CannotRead(String),
+    /// The file of this name can't be read or isn't UTF-8, for a cause in these words.
+    CannotRead(String, String),
     Memory,
 }
 
@@ -154,10 +155,35 @@ fn read_text<R: Files + AllocGlobal>(rt: &R, name: String) -> Result<(String, St
     ensures named { IfOk result (λ text. text.0 ≡ name) }
     ensures refused { IfErr result (IsUnreadFile name) }
 {
-    match fs::read_to_string(rt, name.as_str()) {
-        Ok(text) => Ok((name, text)),
+    match fs::read(rt, name.as_str()) {
+        Ok(bytes) => text_of(rt.alloc(), name, bytes),
         Err(error) if error.kind() == ErrorKind::OutOfMemory => Err(Unbegun::Memory),
-        Err(_) => Err(Unbegun::CannotRead(name)),
+        Err(error) => Err(unread(rt.alloc(), name, Cause::Fails(error.kind()))),
+    }
+}
+
+// The name and the text of a file that has these bytes.
+fn text_of(alloc: Global, name: String, bytes: Vec<u8>) -> Result<(String, String), Unbegun>
+    ensures named { IfOk result (λ text. text.0 ≡ name) }
+    ensures text { IfOk result (λ text. string_bytes text.1 ≡ bytes.items) }
+    ensures refused { IfErr result (IsNoText name bytes.items) }
+{
+    match String::from_utf8(bytes) {
+        Ok(text) => Ok((name, text)),
+        Err(error) => {
+            let at = error.utf8_error().valid_up_to();
+            Err(unread(alloc, name, Cause::NotUtf8(at)))
+        }
+    }
+}
+
+// That the file of a name can't be read, with its cause in words; or that memory ran out.
+fn unread(alloc: Global, name: String, cause: Cause) -> Unbegun
+    ensures { IsUnreadFor name cause result }
+{
+    match cause_words(alloc, &cause) {
+        Ok(words) => Unbegun::CannotRead(name, words),
+        Err(_) => Unbegun::Memory,
     }
 }
 
@@ -172,7 +198,9 @@ fn tell<W: Write>(unbegun: Unbegun, output: &mut W) -> Status
             let written = output.write_all(b"error: a word of the command line isn't UTF-8\n");
             (written, Status::Usage)
         }
-        Unbegun::CannotRead(name) => return cannot_read(name.as_str(), output),
+        Unbegun::CannotRead(name, cause) => {
+            return cannot_read(name.as_str(), cause.as_str(), output);
+        }
         Unbegun::Memory => return out_of_memory(output),
     };
     match written {
@@ -181,22 +209,32 @@ fn tell<W: Write>(unbegun: Unbegun, output: &mut W) -> Status
     }
 }
 
-// Tells which file can't be read, and gives that status.
-fn cannot_read<W: Write>(name: &str, output: &mut W) -> Status
+// Tells which file can't be read, and why, and gives that status.
+fn cannot_read<W: Write>(name: &str, cause: &str, output: &mut W) -> Status
     ensures status { result ≡ Status.InputOutput }
-    ensures written { AppendsBeginning (W.contents output.old) (W.contents output.new) (unread_line name.now) }
+    ensures written { AppendsBeginning (W.contents output.old) (W.contents output.new) (unread_lines name.now cause.now) }
 {
-    let _ = write_unread(name, output);
+    let _ = write_unread(name, cause, output);
     Status::InputOutput
 }
 
-// Writes the line that tells it, or a beginning of it where a write fails.
-fn write_unread<W: Write>(name: &str, output: &mut W) -> Result<(), ServeFault>
-    ensures ok { OnOk result (Appends (W.contents output.old) (W.contents output.new) (unread_line name.now)) }
-    ensures err { OnErr result (AppendsBeginning (W.contents output.old) (W.contents output.new) (unread_line name.now)) }
+// Writes the lines that tell it, or a beginning of them where a write fails.
+fn write_unread<W: Write>(name: &str, cause: &str, output: &mut W) -> Result<(), ServeFault>
+    ensures ok { OnOk result (Appends (W.contents output.old) (W.contents output.new) (unread_lines name.now cause.now)) }
+    ensures err { OnErr result (AppendsBeginning (W.contents output.old) (W.contents output.new) (unread_lines name.now cause.now)) }
     ensures fault { IfErr result (λ fault. fault ≡ ServeFault.Write) }
 {
-    write_text(output, "cannot read ")?;
-    write_text(output, name)?;
+    write_line(output, "cannot read ", name)?;
+    write_line(output, "  ", cause)
+}
+
+// Writes a line of two parts, or a beginning of it where a write fails.
+fn write_line<W: Write>(output: &mut W, first: &str, second: &str) -> Result<(), ServeFault>
+    ensures ok { OnOk result (Appends (W.contents output.old) (W.contents output.new) (line_of_two first.now second.now)) }
+    ensures err { OnErr result (AppendsBeginning (W.contents output.old) (W.contents output.new) (line_of_two first.now second.now)) }
+    ensures fault { IfErr result (λ fault. fault ≡ ServeFault.Write) }
+{
+    write_text(output, first)?;
+    write_text(output, second)?;
     write_text(output, "\n")
 }

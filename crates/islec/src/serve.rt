@@ -4,7 +4,7 @@ ghost use Rattle.std.specs.Io.KnownBytes.{Appends, Consumes, Keeps, IsAtEnd};
 ghost use Rattle.std.specs.Io.{StopsAt};
 ghost use Rattle.isle_run.specs.TreeCalls.{IsCompiled};
 ghost use Rattle.islec.specs.Replies.{IsReply, setting_in};
-ghost use Rattle.islec.specs.Serving.{AreLinesOf, AnswersAll, AnswersFirst, AnswersCut, KeepsBack, KeepsFirst, GivesLines, TakesLine, LosesNewline, IsCutShort, BreaksOff, some_refused};
+ghost use Rattle.islec.specs.Serving.{AreLinesOf, AnswersAll, AnswersFirst, AnswersCut, KeepsBack, KeepsFirst, WritesFirst, GivesLines, TakesLine, LosesNewline, IsCutShort, BreaksOff, some_refused};
 ghost use Rattle.islec.specs.Writing.{AppendsBeginning, ContinuesBy};
 ghost use Rattle.islec.specs.declared.serve.ServeFault.TheVariants.{Memory};
 
@@ -61,7 +61,7 @@ impl<T: Drop> From<AllocFailed<T>> for ServeFault {
 const FULL: usize = 8192;
 
 /// Answers each line of `reader`, any bytes up to a newline or the end, by lines to `writer`. The
-/// lines of a query are written whole or, where memory runs out within it, not at all. Before a
+/// lines of a query are written whole or, where memory runs out within it, not at all. They are written before the reader is waited for. Before a
 /// fault of reading or of memory is reported, the lines of all earlier queries are written: after a failed read of
 /// all lines that had ended. Each query is answered in the world that the one before leaves. The program is a
 /// compiled one (its condition).
@@ -139,14 +139,58 @@ fn serve_lines<V: World, B: BufRead, W: Write>(
         world.old (B.remaining input.old) (W.contents writer.old) (W.contents writer.new) world.new) }
 {
     let mut served = Served::AllWell;
+    let mut ready = 0;
     for _ in 0..u64::MAX {
+        let Some(lines) = await_lines(ready, input, unwritten, writer)? else {
+            return Ok(served);
+        };
         let Some(refused) = answer_next(alloc, program, world, manner, input, unwritten)? else {
             return Ok(served);
         };
+        ready = lines.saturating_sub(1);
         served = served.after(refused);
         write_full(unwritten, writer)?;
     }
     Err(ServeFault::Read)
+}
+
+// How many whole lines the reader can give without waiting, of which `ready` are known; `None` at the end. What is kept back is
+// written before the reader is waited for.
+fn await_lines<B: BufRead, W: Write>(
+    ready: usize,
+    input: &mut B,
+    unwritten: &mut String,
+    writer: &mut W,
+) -> Result<Option<usize>, ServeFault>
+    ensures kept { Keeps (B.remaining input.old) (B.remaining input.new) }
+    ensures end { IfOk result (λ ready. IfNone ready (IsAtEnd (B.remaining input.old))) }
+    ensures written { OnOk result (WritesFirst (string_bytes unwritten.old) (string_bytes unwritten.new)
+        (W.contents writer.old) (W.contents writer.new)) }
+    ensures unread { IfErr result (λ fault. fault ≢ ServeFault.Write → WritesFirst (string_bytes unwritten.old) (string_bytes unwritten.new)
+        (W.contents writer.old) (W.contents writer.new)) }
+    ensures cut { IfErr result (λ fault. fault ≡ ServeFault.Write → AppendsBeginning (W.contents writer.old) (W.contents writer.new)
+        (string_bytes unwritten.old)) }
+{
+    if ready > 0 {
+        return Ok(Some(ready));
+    }
+    write_out(unwritten, writer)?;
+    count_lines(input)
+}
+
+// How many whole lines stand in the reader's buffer, which is filled where it is empty; `None` at the end.
+fn count_lines<B: BufRead>(input: &mut B) -> Result<Option<usize>, ServeFault>
+    ensures kept { Keeps (B.remaining input.old) (B.remaining input.new) }
+    ensures end { IfOk result (λ ready. IfNone ready (IsAtEnd (B.remaining input.old))) }
+    ensures fault { IfErr result (λ fault. fault ≢ ServeFault.Write) }
+{
+    match input.fill_buf() {
+        Ok(bytes) if bytes.is_empty() => Ok(None),
+        Ok(bytes) => Ok(Some(bytes.iter().filter(|byte| **byte == b'\n').count())),
+        Err(error) if error.kind() == ErrorKind::Interrupted => Ok(Some(0)),
+        Err(error) if error.kind() == ErrorKind::OutOfMemory => Err(ServeFault::Memory),
+        Err(_) => Err(ServeFault::Read),
+    }
 }
 
 // Puts the reply to the next line behind what is unwritten, and tells whether it counts as
@@ -221,6 +265,19 @@ fn without_newline(line: &[u8]) -> &[u8]
         return line;
     };
     if *last == b'\n' { front } else { line }
+}
+
+// Writes all that is kept back, so that it is seen.
+fn write_out<W: Write>(unwritten: &mut String, writer: &mut W) -> Result<(), ServeFault>
+    ensures ok { OnOk result (Appends (W.contents writer.old) (W.contents writer.new) (string_bytes unwritten.old)) }
+    ensures empty { OnOk result (string_bytes unwritten.new ≡ []) }
+    ensures err { OnErr result (AppendsBeginning (W.contents writer.old) (W.contents writer.new)
+        (string_bytes unwritten.old)) }
+    ensures fault { IfErr result (λ fault. fault ≡ ServeFault.Write) }
+{
+    write_text(writer, unwritten.as_str())?;
+    unwritten.clear();
+    flush(writer)
 }
 
 // Writes what is kept back once it is long.

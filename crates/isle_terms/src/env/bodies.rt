@@ -6,6 +6,7 @@ ghost use Rattle.isle_terms.specs.Collecting.Checks.{Checks};
 ghost use Rattle.isle_terms.specs.Definitions.{is_among};
 ghost use Rattle.isle_terms.specs.Collecting.ExtractorChecks.{Adds, BodyNamesUnknown, BodyNamesKnown, IsUnknownAt, NamesUnknown, NamesKnown};
 
+use crate::env::messages;
 use crate::env::name_table::NameTable;
 use crate::env::named::named_terms;
 use crate::env::report::report;
@@ -62,11 +63,6 @@ fn check_term(
     if known.has(term.0.as_str()) {
         return Ok(());
     }
-    report(
-        errors,
-        tyenv,
-        term.1,
-        "an extractor's body names an unknown term",
-    )?;
+    report(errors, term.1, messages::undeclared(tyenv, term))?;
     Ok(())
 }

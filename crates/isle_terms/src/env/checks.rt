@@ -10,6 +10,7 @@ ghost use Rattle.isle_terms.specs.Collecting.DefinitionLists.{host_constructor_s
 ghost use Rattle.isle_terms.specs.Collecting.DefinitionChecks.{is_ill_root, is_ill_host, is_ill_extractor, is_ill_name, is_unused, is_ill_marked};
 
 use crate::env::definitions::{HostConstructor, HostExtractor};
+use crate::env::messages;
 use crate::env::name_table::NameTable;
 use crate::env::report::report;
 use isle_syntax::ast::{Decl, Extractor, Ident, Pattern, Rule};
@@ -64,12 +65,7 @@ pub fn check_roots(
 {
     for rule in rules {
         if is_ill_root(rule, declared) {
-            report(
-                &mut *errors,
-                tyenv,
-                rule.pos,
-                "the root of a rule must be a declared term",
-            )?;
+            report(&mut *errors, rule.pos, messages::ill_root(tyenv, rule))?;
         }
     }
     Ok(())
@@ -97,9 +93,8 @@ pub fn check_host_constructors(
         if is_ill_host(host, declared, roots) {
             report(
                 &mut *errors,
-                tyenv,
                 host.term.1,
-                "an external constructor must be of a declared term without rules",
+                messages::ill_host(tyenv, host.term, declared),
             )?;
         }
     }
@@ -135,9 +130,8 @@ pub fn check_extractors(
         if is_ill_extractor(extractor, decls, declared) {
             report(
                 &mut *errors,
-                tyenv,
                 extractor.pos,
-                "an internal extractor must be of a declared term that is not `multi`",
+                messages::ill_extractor(tyenv, &extractor.term, declared),
             )?;
         }
     }
@@ -165,9 +159,8 @@ pub fn check_host_extractors(
         if is_ill_name(host, declared) {
             report(
                 &mut *errors,
-                tyenv,
                 host.pos,
-                "an external extractor must be of a declared term",
+                messages::undeclared(tyenv, host.term),
             )?;
         }
     }
@@ -198,12 +191,7 @@ pub fn check_defined(
 {
     for decl in decls {
         if is_unused(decl, roots, hosts, extractors) {
-            report(
-                &mut *errors,
-                tyenv,
-                decl.pos,
-                "no rule, extractor or external constructor defines this term",
-            )?;
+            report(&mut *errors, decl.pos, messages::unused(tyenv, decl))?;
         }
     }
     Ok(())
@@ -226,12 +214,7 @@ pub fn check_marks(
 {
     for decl in decls {
         if is_ill_marked(decl) {
-            report(
-                &mut *errors,
-                tyenv,
-                decl.pos,
-                "a term is not both `multi` and `partial`",
-            )?;
+            report(&mut *errors, decl.pos, messages::ill_marked(tyenv, decl))?;
         }
     }
     Ok(())

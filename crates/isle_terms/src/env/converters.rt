@@ -11,6 +11,7 @@ ghost use Rattle.isle_terms.specs.Collecting.Checks.{Checks};
 ghost use Rattle.isle_terms.specs.Collecting.NameTables.{IsTableOf};
 ghost use Rattle.isle_terms.specs.Collecting.ReadConverters.{IsReadAs, IsIllConverter, AreReadConverters};
 
+use crate::env::messages::{self, IllPart};
 use crate::env::name_table::NameTable;
 use crate::env::report::report;
 use isle_syntax::ast::Converter;
@@ -23,7 +24,7 @@ use std::alloc::{AllocError, Global};
 #[derive(Drop)]
 struct IllConverter {
     pos: Pos,
-    msg: &'static str,
+    part: IllPart,
 }
 
 /// The types and the term of a converter, if no earlier one has these types.
@@ -42,25 +43,25 @@ fn read_converter(
     let Some(inner) = tyenv.get_type_by_name(&converter.inner_ty) else {
         return Err(IllConverter {
             pos: converter.inner_ty.1,
-            msg: "the inner type of this converter is not known",
+            part: IllPart::Inner,
         });
     };
     let Some(outer) = tyenv.get_type_by_name(&converter.outer_ty) else {
         return Err(IllConverter {
             pos: converter.outer_ty.1,
-            msg: "the outer type of this converter is not known",
+            part: IllPart::Outer,
         });
     };
     let Some(place) = terms.place(converter.term.0.as_str()) else {
         return Err(IllConverter {
             pos: converter.term.1,
-            msg: "the term of this converter is not known",
+            part: IllPart::Term,
         });
     };
     if table.contains_key(&(inner, outer)) {
         return Err(IllConverter {
             pos: converter.pos,
-            msg: "there is a converter of these types already",
+            part: IllPart::Twice,
         });
     }
     Ok(((inner, outer), TermId(place)))
@@ -85,7 +86,11 @@ pub fn collect_converters(
             Ok((types, term)) => {
                 table.insert(types, term)?;
             }
-            Err(ill) => report(&mut *errors, tyenv, ill.pos, ill.msg)?,
+            Err(ill) => report(
+                &mut *errors,
+                ill.pos,
+                messages::ill_converter(tyenv, converter, ill.part),
+            )?,
         }
     }
     Ok(table)

@@ -46,7 +46,7 @@ fn name_declared(
         alloc,
         tyenv,
         named.as_slice(),
-        "a term of this name is declared already",
+        "is declared already",
         errors,
     )
 }
@@ -68,7 +68,7 @@ fn name_host_constructors(
         alloc,
         tyenv,
         named.as_slice(),
-        "there is an external constructor of this term already",
+        "has an external constructor already",
         errors,
     )
 }
@@ -90,7 +90,7 @@ fn name_extractors(
         alloc,
         tyenv,
         named.as_slice(),
-        "there is an extractor of this term already",
+        "has an extractor already",
         errors,
     )
 }

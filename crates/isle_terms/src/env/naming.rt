@@ -12,6 +12,7 @@ ghost use Rattle.isle_terms.specs.Collecting.DeclaredTerms.{IsShownTerm};
 ghost use Rattle.isle_terms.specs.Signatures.{Signature};
 
 use crate::env::definitions::{HostConstructor, HostExtractor};
+use crate::env::messages;
 use crate::env::name_table::NameTable;
 use crate::env::report::report;
 use crate::terms::Term;
@@ -111,7 +112,7 @@ pub fn term_names<'a>(
     Ok(all)
 }
 
-/// The table of names, each of which is reported where it occurs already.
+/// The table of names, each of which is reported where it occurs already; `msg` says of what.
 pub fn name_all(
     alloc: Global,
     tyenv: &TypeEnv,
@@ -126,7 +127,11 @@ pub fn name_all(
     let mut table = NameTable::new(alloc);
     for i in 0..named.len() {
         if !table.add(named[i].name, i)? {
-            report(&mut *errors, tyenv, named[i].pos, msg)?;
+            report(
+                &mut *errors,
+                named[i].pos,
+                messages::taken(tyenv, named, &table, i, msg),
+            )?;
         }
     }
     Ok(table)

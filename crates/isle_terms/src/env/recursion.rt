@@ -9,6 +9,7 @@ ghost use Rattle.isle_terms.specs.Collecting.ExtractorGraphs.{IsGraphOf, IsRecur
 
 use crate::env::cycles::find_cycle;
 use crate::env::graph::Graph;
+use crate::env::messages;
 use crate::env::named::named_terms;
 use crate::env::report::report;
 use isle_syntax::Text;
@@ -29,7 +30,7 @@ pub fn check_recursion(
         errors.old.items errors.new.items) }
 {
     match find_recursion(alloc, extractors)? {
-        Some(pos) => report(errors, tyenv, pos, "an extractor comes to its own term"),
+        Some(pos) => report(errors, pos, messages::recursive(tyenv, extractors, pos)),
         None => Ok(()),
     }
 }

@@ -1,27 +1,24 @@
-ghost use Rattle.std.specs.Prelude.{◌≡◌, [], ◌∷◌, ◌++◌, OnOk};
+ghost use Rattle.std.specs.Prelude.{◌≡◌, ℕ, List, [], ◌∷◌, ◌++◌, OnOk};
 ghost use Rattle.isle_syntax.specs.declared.error.Error.TheVariants.{TypeError};
 ghost use Rattle.isle_syntax.specs.Errors.{span_at};
 
-use isle_syntax::Refusal;
-use isle_syntax::error::Error;
+use isle_syntax::Text;
+use isle_syntax::error::{Error, Span};
 use isle_syntax::lexer::Pos;
-use isle_types::TypeEnv;
 use std::alloc::AllocError;
 
-/// Adds a type error at a position.
+/// Adds a type error at a position, with a message that is made.
 pub fn report(
     errors: &mut Vec<Error>,
-    tyenv: &TypeEnv,
     pos: Pos,
-    msg: &str,
+    msg: Result<String, AllocError>,
 ) -> Result<(), AllocError>
-    ensures { OnOk result (errors.new.items ≡ errors.old.items ++ TypeError msg.now (span_at pos) ∷ []) }
+    ensures { OnOk result ((text : List ℕ) × (errors.new.items ≡ errors.old.items ++ TypeError text (span_at pos) ∷ [])) }
 {
-    match tyenv.type_error(pos, msg) {
-        Refusal::Memory(e) => Err(e),
-        Refusal::Fault(error) => {
-            errors.push(error)?;
-            Ok(())
-        }
-    }
+    let msg = Text::new(msg?);
+    errors.push(Error::TypeError {
+        msg,
+        span: Span::at(pos),
+    })?;
+    Ok(())
 }

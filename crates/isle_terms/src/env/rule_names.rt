@@ -117,7 +117,7 @@ pub fn check_rule_names(
         alloc,
         tyenv,
         placed.as_slice(),
-        "a rule of this name is there already",
+        "is the name of a rule already",
         errors,
     )?;
     Ok(())

@@ -29,10 +29,10 @@ ghost use Rattle.isle_terms.specs.Readings.Contexts.{known_in};
 use crate::env::TermEnv;
 use crate::rules::{BoundVar, Rule};
 use crate::terms::{Term, TermFlags, TermKind};
-use crate::translate::Context;
 use crate::translate::bindings::{Bindings, RuleVariable};
-use crate::translate::names::{ill_typed, known_number, known_term};
+use crate::translate::names::{known_number, known_term};
 use crate::translate::rules::{Parts, translate_parts};
+use crate::translate::{Context, messages};
 use isle_syntax::ast::{self, Ident};
 use isle_syntax::error::Error;
 use isle_syntax::lexer::Pos;
@@ -100,18 +100,10 @@ fn check_root(
         (only_if (may_have_priority (flags_shown root.now.flags) tree.now.prio) tree.now.pos next)) e) }
 {
     if root.args.len() != root.term.arg_tys.as_slice().len() {
-        return Err(ill_typed(
-            context,
-            root.pos,
-            "this rule has another number of arguments than its term",
-        ));
+        return Err(messages::ill_count(context, root.pos, root.term, root.args.len()));
     }
     if root.flags.multi && tree.prio.is_some() {
-        return Err(ill_typed(
-            context,
-            tree.pos,
-            "a rule of a `multi` term has no priority",
-        ));
+        return Err(messages::ill_priority(context, tree.pos, root.term));
     }
     Ok(())
 }
@@ -128,11 +120,7 @@ fn read_rule(
     ensures symbols { IfOk result (λ read. parts_limit read.parts ≤ length context.now.tyenv.now.names) }
 {
     let Some(root) = rule_root(context, tree) else {
-        return Err(ill_typed(
-            context,
-            tree.pos,
-            "the root of a rule must be a declared term",
-        ));
+        return Err(messages::ill_root(context, tree.pos, &tree.pattern));
     };
     check_root(context, &root, tree)?;
     let (parts, bindings) = translate_parts(
@@ -240,6 +228,7 @@ pub fn typed_rule(
         termenv,
         max_nodes,
         rule: tree.pos,
+        root: &tree.pattern,
     };
     let read = read_rule(&context, levels, tree)?;
     Ok(make_rule(alloc, &mut *tyenv, id, tree, read)?)

@@ -131,7 +131,7 @@ fn complete(
         alloc,
         tyenv,
         named.as_slice(),
-        "a term of this name is there already",
+        "is defined already",
         &mut errors,
     )?;
     match refuse(errors) {

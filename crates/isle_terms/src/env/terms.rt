@@ -272,7 +272,7 @@ fn known_type(tyenv: &TypeEnv, name: &Ident) -> Result<TypeId, Refusal<Error>>
 {
     match tyenv.get_type_by_name(name) {
         Some(ty) => Ok(ty),
-        None => Err(tyenv.type_error(name.1, "this type is not known")),
+        None => Err(tyenv.unknown_type(name)),
     }
 }
 

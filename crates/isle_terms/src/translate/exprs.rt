@@ -18,11 +18,12 @@ ghost use Rattle.isle_terms.specs.Readings.ExprReadings.{is_call, read_let, bind
 use super::Context;
 use super::bindings::Bindings;
 use super::names::{
-    NumberedTerm, Role, fitting_converter, has_number, ill_typed, is_callable, is_usable,
-    known_constant, known_number, known_term, too_large,
+    NumberedTerm, Role, fitting_converter, has_number, is_callable, is_usable, known_constant,
+    known_number, known_term, too_large,
 };
 use crate::rules::Expr;
-use crate::terms::{Term, TermFlags};
+use crate::terms::TermFlags;
+use crate::translate::messages;
 use isle_syntax::ast::{self, Ident};
 use isle_syntax::error::Error;
 use isle_syntax::lexer::Pos;
@@ -55,12 +56,12 @@ fn translate_int(
     ensures symbols { IfOk result (λ made. expr_limit made ≤ length context.now.tyenv.now.names) }
 {
     let Some(ty) = want else {
-        return Err(ill_typed(context, pos, "nothing tells the type of this integer"));
+        return Err(messages::untyped_integer(context, pos, val, big));
     };
     if has_number(context.tyenv, ty, val, big) {
         Ok(Expr::ConstInt(ty, val))
     } else {
-        Err(ill_typed(context, pos, "this integer does not have this type"))
+        Err(messages::ill_integer(context, pos, val, big, ty))
     }
 }
 
@@ -80,7 +81,7 @@ fn translate_bool(
     if is_expected(want, TypeId::BOOL) {
         Ok(Expr::ConstBool(TypeId::BOOL, val))
     } else {
-        Err(ill_typed(context, pos, "a boolean does not have this type"))
+        Err(messages::ill_boolean(context, pos, val, want))
     }
 }
 
@@ -98,12 +99,12 @@ fn translate_constant(
     ensures symbols { IfOk result (λ made. expr_limit made ≤ length context.now.tyenv.now.names) }
 {
     let Some(constant) = known_constant(context, name) else {
-        return Err(ill_typed(context, pos, "this constant is not known"));
+        return Err(messages::unknown_constant(context, pos, name));
     };
     if is_expected(want, constant.ty) {
         Ok(Expr::ConstPrim(constant.ty, constant.name))
     } else {
-        Err(ill_typed(context, pos, "this constant has another type"))
+        Err(messages::ill_constant(context, pos, name, constant.ty, want))
     }
 }
 
@@ -112,21 +113,22 @@ fn check_call(
     context: &Context<'_>,
     caller: TermFlags,
     pos: Pos,
-    term: &Term,
+    called: &NumberedTerm<'_>,
     count: usize,
 ) -> Result<(), Refusal<Error>>
-    ensures ok { OnOk result (is_call (flags_shown caller) (term_shown context.now.tyenv.now.names term.now) count ≡ true) }
-    ensures err { OnErr result (is_call (flags_shown caller) (term_shown context.now.tyenv.now.names term.now) count ≡ false) }
+    ensures ok { OnOk result (is_call (flags_shown caller) (term_shown context.now.tyenv.now.names called.now.term.now) count ≡ true) }
+    ensures err { OnErr result (is_call (flags_shown caller) (term_shown context.now.tyenv.now.names called.now.term.now) count ≡ false) }
     ensures at { IfErr result (λ e. IfFault e (IsErrorAt type_error pos)) }
 {
+    let term = called.term;
     if count != term.arg_tys.as_slice().len() {
-        return Err(ill_typed(context, pos, "this term has another number of arguments"));
+        return Err(messages::ill_count(context, pos, term, count));
     }
     if !is_usable(term, Role::Constructor) {
-        return Err(ill_typed(context, pos, "this term can not be used in an expression"));
+        return Err(messages::unusable(context, pos, term, Role::Constructor));
     }
     if !is_callable(caller, term) {
-        return Err(ill_typed(context, pos, "the flags of this term do not allow it here"));
+        return Err(messages::not_callable(context, pos, caller, called));
     }
     Ok(())
 }
@@ -243,7 +245,7 @@ fn translate_variable(
     ensures scope { OnOk result (bindings.new.scope ≡ bindings.old.scope) }
 {
     let Some(bound) = bindings.lookup(&name.0) else {
-        return Err(ill_typed(context, pos, "this variable is not bound"));
+        return Err(messages::unbound(context, pos, name));
     };
     if is_expected(want, bound.ty) {
         return Ok(Expr::Var(bound.ty, bound.var));
@@ -277,15 +279,19 @@ fn translate_term(
     ensures scope { OnOk result (bindings.new.scope ≡ bindings.old.scope) }
 {
     let Some(id) = known_number(context, sym) else {
-        return Err(ill_typed(context, pos, "this term is not known"));
+        return Err(messages::undeclared(context, pos, sym));
     };
     let Some(term) = known_term(context, id) else {
-        return Err(ill_typed(context, pos, "this term is not known"));
+        return Err(messages::undeclared(context, pos, sym));
     };
     if !is_expected(want, term.ret_ty) {
         return translate_repaired(context, levels, caller, expr, term.ret_ty, want, bindings);
     }
-    let called = NumberedTerm { id, term };
+    let called = NumberedTerm {
+        id,
+        term,
+        is_put: false,
+    };
     translate_call(context, levels, caller, pos, &called, args, bindings)
 }
 
@@ -310,7 +316,7 @@ fn translate_call(
     ensures symbols { IfOk result (λ made. expr_limit made ≤ length context.now.tyenv.now.names) }
     ensures scope { OnOk result (bindings.new.scope ≡ bindings.old.scope) }
 {
-    check_call(context, caller, pos, called.term, args.len())?;
+    check_call(context, caller, pos, called, args.len())?;
     let tys = called.term.arg_tys.as_slice();
     let made = translate_each(context, levels, caller, pos, args, tys, bindings)?;
     Ok(Expr::Term(called.term.ret_ty, called.id, Seq::new(made)))
@@ -367,7 +373,7 @@ fn translate_repaired(
     ensures scope { OnOk result (bindings.new.scope ≡ bindings.old.scope) }
 {
     let Some(fit) = converter_wanted(context, inner, want) else {
-        return Err(ill_typed(context, expr.pos(), "this expression has another type"));
+        return Err(messages::ill_expr(context, expr.pos(), expr, inner, want));
     };
     if levels == 0 {
         return Err(too_large(context, "this rule nests too deep"));
@@ -463,7 +469,7 @@ fn translate_def(
     ensures scope { OnOk result (drop 1 bindings.new.scope ≡ bindings.old.scope) }
 {
     let Some(ty) = context.tyenv.get_type_by_name(&def.ty) else {
-        return Err(ill_typed(context, def.ty.1, "this type is not known"));
+        return Err(context.tyenv.unknown_type(&def.ty));
     };
     let value = translate_expr(context, levels, caller, &def.val, Some(ty), bindings)?;
     let var = bindings.bind(&def.var.0, ty)?;

@@ -31,6 +31,8 @@ pub enum Role {
 pub struct NumberedTerm<'a> {
     pub id: TermId,
     pub term: &'a Term,
+    /// Whether it is a converter that is put in where no text calls it.
+    pub is_put: bool,
 }
 
 /// A constant: the symbol of its name, and its type.
@@ -165,7 +167,11 @@ pub fn fitting_converter<'a>(
     let id = context.termenv.converter(inner, outer)?;
     let term = known_term(context, id)?;
     if fits(term, role, inner, outer) {
-        Some(NumberedTerm { id, term })
+        Some(NumberedTerm {
+            id,
+            term,
+            is_put: true,
+        })
     } else {
         None
     }

@@ -25,6 +25,7 @@ use super::names::{
 };
 use crate::rules::Pattern;
 use crate::terms::{ExtractorKind, Term, TermKind};
+use crate::translate::messages;
 use isle_syntax::ast::Ident;
 use isle_syntax::error::Error;
 use isle_syntax::lexer::Pos;
@@ -99,7 +100,7 @@ fn read_name(
             if bound.ty == ty {
                 Ok(Pattern::Var(ty, bound.var))
             } else {
-                Err(ill_typed(context, pos, "this name is bound at another type"))
+                Err(messages::ill_name(context, pos, name, bound, ty))
             }
         }
     }
@@ -128,7 +129,7 @@ fn bind_below(
             let var = bindings.bind(&name.0, ty)?;
             Ok(Pattern::BindPattern(ty, var, below))
         }
-        Some(_) => Err(ill_typed(context, pos, "this name is bound already")),
+        Some(_) => Err(messages::bound_already(context, pos, name)),
     }
 }
 
@@ -146,7 +147,7 @@ fn read_bool(
     if ty.index() == 0 {
         Ok(Pattern::ConstBool(ty, val))
     } else {
-        Err(ill_typed(context, pos, "a boolean does not have this type"))
+        Err(messages::ill_boolean(context, pos, val, Some(ty)))
     }
 }
 
@@ -167,7 +168,7 @@ fn read_int(
     if has_number(context.tyenv, ty, *val, big) {
         Ok(Pattern::ConstInt(ty, *val))
     } else {
-        Err(ill_typed(context, pos, "this type does not have this integer"))
+        Err(messages::ill_integer(context, pos, *val, big, ty))
     }
 }
 
@@ -185,12 +186,13 @@ fn read_constant(
     ensures symbols { IfOk result (HasKnownSymbols context.now) }
 {
     match known_constant(context, name) {
-        None => Err(ill_typed(context, pos, "this constant is not known")),
+        None => Err(messages::unknown_constant(context, pos, name)),
         Some(constant) => {
             if constant.ty == ty {
                 Ok(Pattern::ConstPrim(ty, constant.name))
             } else {
-                Err(ill_typed(context, pos, "this constant has another type"))
+                let known = constant.ty;
+                Err(messages::ill_constant(context, pos, name, known, Some(ty)))
             }
         }
     }
@@ -352,10 +354,10 @@ fn read_term(
     ensures symbols { IfOk result (HasKnownSymbols context.now) }
 {
     let Some(id) = known_number(context, sym) else {
-        return Err(ill_typed(context, pos, "this term is not known"));
+        return Err(messages::undeclared(context, pos, sym));
     };
     let Some(term) = known_term(context, id) else {
-        return Err(ill_typed(context, pos, "this term is not known"));
+        return Err(messages::undeclared(context, pos, sym));
     };
     if term.ret_ty != ty {
         return read_repaired(context, levels, part, term.ret_ty, ty, pos, bindings);
@@ -385,7 +387,7 @@ fn read_repaired(
     ensures symbols { IfOk result (HasKnownSymbols context.now) }
 {
     let Some(fit) = fitting_converter(context, Role::Extractor, inner, outer) else {
-        return Err(ill_typed(context, pos, "this term has another type"));
+        return Err(messages::ill_pattern(context, pos, &*part.pattern, inner, outer));
     };
     if levels == 0 {
         return Err(too_large(context, "a pattern of this rule is too deep"));
@@ -425,10 +427,10 @@ fn read_use(
     ensures symbols { IfOk result (HasKnownSymbols context.now) }
 {
     if args.len() != term.arg_tys.as_slice().len() {
-        return Err(ill_typed(context, pos, "this term has another number of arguments"));
+        return Err(messages::ill_count(context, pos, term, args.len()));
     }
     if !is_usable(term, Role::Extractor) {
-        return Err(ill_typed(context, pos, "this term cannot be used in a pattern"));
+        return Err(messages::unusable(context, pos, term, Role::Extractor));
     }
     match template_for(context, &*term) {
         None => {
@@ -444,7 +446,7 @@ fn read_use(
         }
         Some(template) => {
             if lacks_argument(context, id, args.len()) {
-                return Err(ill_typed(context, pos, "this term lacks an argument of its template"));
+                return Err(messages::lacking(context, pos, term));
             }
             let body = Given {
                 pattern: &*template,

@@ -86,7 +86,7 @@ impl TypeEnv {
         if allowed {
             Ok(())
         } else {
-            Err(self.type_error(ty.pos, "this type may not be marked so"))
+            Err(self.ill_marked(ty))
         }
     }
 
@@ -233,7 +233,7 @@ impl TypeEnv {
     {
         match self.get_type_by_name(name) {
             Some(ty) => Ok(ty),
-            None => Err(self.type_error(name.1, "this type is not known")),
+            None => Err(self.unknown_type(name)),
         }
     }
 
@@ -253,10 +253,10 @@ impl TypeEnv {
         let names = field_names(self.alloc, fields)?;
         match duplicate(self.alloc, names.as_slice())? {
             None => Ok(()),
-            Some(place) => Err(self.type_error(
-                trees[place].pos,
-                "a field of this name is defined already",
-            )),
+            Some(place) => {
+                let tree = &trees[place];
+                Err(self.part_twice(tree.pos, "field", &tree.name))
+            }
         }
     }
 
@@ -276,10 +276,10 @@ impl TypeEnv {
         let names = variant_names(self.alloc, variants)?;
         match duplicate(self.alloc, names.as_slice())? {
             None => Ok(()),
-            Some(place) => Err(self.type_error(
-                trees[place].pos,
-                "a variant of this name is defined already",
-            )),
+            Some(place) => {
+                let tree = &trees[place];
+                Err(self.part_twice(tree.pos, "variant", &tree.name))
+            }
         }
     }
 }

@@ -11,9 +11,14 @@ use crate::ids::{Sym, TypeId, VariantId};
 use crate::stablemapset::StableMap;
 use crate::types::{Type, Variant};
 use isle_syntax::ast::Ident;
-use std::alloc::AllocError;
+use std::alloc::{AllocError, Global};
 
 impl TypeEnv {
+    /// Where the environment takes its memory from.
+    pub fn alloc(&self) -> Global {
+        self.alloc
+    }
+
     /// The symbol of a name, if it is interned.
     pub fn intern(&self, ident: &Ident) -> Option<Sym>
         ensures { result ≡ sym_named self.now ident.now.0 }

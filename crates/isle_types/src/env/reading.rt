@@ -22,7 +22,9 @@ use crate::types::{BuiltinType, Type};
 use isle_syntax::Refusal;
 use isle_syntax::ast::{Def, Extern, Ident};
 use isle_syntax::error::Error;
+use isle_syntax::files::Files;
 use std::alloc::{AllocError, Global};
+use std::rc::Rc;
 
 impl TypeEnv {
     /// The environment of the builtin types.
@@ -48,6 +50,7 @@ impl TypeEnv {
             type_map: StableMap::new(alloc),
             const_types: StableMap::new(alloc),
             errors: Vec::new(alloc),
+            files: None,
         }
     }
 
@@ -82,6 +85,35 @@ impl TypeEnv {
         let mut env = TypeEnv::new(alloc)?;
         env.read(defs)?;
         Ok(env)
+    }
+
+    /// The environment of these definitions, as `from_ast` makes it, which keeps the files for messages that name a place.
+    pub fn from_files(
+        alloc: Global,
+        files: Rc<Files>,
+        defs: &[Def],
+    ) -> Result<TypeEnv, Refusal<Vec<Error>>>
+        ensures no_errors { IfOk result (λ env. env.errors ≡ []) }
+        ensures within { OnOk result (AreWithinSizes defs.now) }
+        ensures made { IfOk result (IsEnvironmentOf defs.now) }
+        ensures faults { IfErr result (λ r. IfFault r (λ errors. AreFaultsOf defs.now errors.items)) }
+        ensures refused { IfErr result (λ r. IfFault r (λ _. ¬ HaveEnvironment defs.now)) }
+        ensures placed { (texts : List SourceFile) → All (DefAt (IsPrintablePos texts)) defs.now
+            → IfOk result (HasPrintablePositions texts) }
+        ensures printable { (texts : List SourceFile) → All (DefAt (IsPrintablePos texts)) defs.now
+            → IfErr result (RefusalsAt (IsPrintablePos texts)) }
+    {
+        let mut env = TypeEnv::new(alloc)?;
+        env.keep_files(files);
+        env.read(defs)?;
+        Ok(env)
+    }
+
+    /// Keeps the files for messages.
+    fn keep_files(&mut self, files: Rc<Files>)
+        ensures { self.new ≡ self.old }
+    {
+        self.files = Some(files);
     }
 
     /// Reads the definitions into the environment of the builtin types.
@@ -138,7 +170,7 @@ impl TypeEnv {
         for def in defs {
             if let Def::TypeDef(ty) = def {
                 if !self.name_type(ty.name.0.as_str(), TypeId(next))? {
-                    self.report_error(ty.pos, "a type of this name is defined already")?;
+                    self.report_taken(ty, defs)?;
                 }
                 next += 1;
             }
@@ -188,7 +220,7 @@ impl TypeEnv {
             if let Some((name, ty)) = constant(def) {
                 match self.get_type_by_name(ty) {
                     Some(id) => self.set_constant(name, id)?,
-                    None => self.report_error(ty.1, "this type is not known")?,
+                    None => self.report_unknown(ty)?,
                 }
             }
         }

@@ -23,8 +23,8 @@ returns-in_err-tyenv-clause-faults c =
     rw (p.1, p.2) (type_faults c.args.files.now c.as_slice-defs.result.now c.in_err-tyenv.field-0.0
     (rw c.as_slice-defs.ensures.value c.in_ok-parsed.ensures.spelt) c.in_err-tyenv.ensures.faults c.in_err-tyenv.ensures.refused)
 
-pub from_ast-requires-2 : goal.from_ast-requires-2
-from_ast-requires-2 c = record {
+pub from_ast-requires : goal.from_ast-requires
+from_ast-requires c = record {
   environment = c.in_ok-tyenv.ensures.made;
   plain = plain_templates c.as_slice-defs.result.now (rw c.as_slice-defs.ensures.value c.in_ok-parsed.ensures.no_macro_args);
 }
@@ -47,7 +47,7 @@ returns-in_err-termenv-clause-printable c =
 pub check-requires : goal.check-requires
 check-requires c =
     let made = c.in_ok-tyenv.ensures.made in
-    let shown : ShowFiles c.args.files.now c.from_ast-2.new.tyenv c.in_ok-termenv.termenv = record {
+    let shown : ShowFiles c.args.files.now c.from_ast.new.tyenv c.in_ok-termenv.termenv = record {
       defs = c.as_slice-defs.result.now;
       types = made.environment;
       spelt = rw c.as_slice-defs.ensures.value c.in_ok-parsed.ensures.spelt;
@@ -57,12 +57,12 @@ check-requires c =
       terms = c.in_ok-termenv.ensures.made made.environment made.shows;
       expands = c.in_ok-termenv.ensures.expands;
     } in
-    record { defined = defined_files c.args.files.now c.from_ast-2.new.tyenv c.in_ok-termenv.termenv shown }
+    record { defined = defined_files c.args.files.now c.from_ast.new.tyenv c.in_ok-termenv.termenv shown }
 
 pub trees_of_sets-requires : goal.trees_of_sets-requires
 trees_of_sets-requires c =
     let made = c.in_ok-tyenv.ensures.made in
-    let shown : ShowFiles c.args.files.now c.from_ast-2.new.tyenv c.in_ok-termenv.termenv = record {
+    let shown : ShowFiles c.args.files.now c.from_ast.new.tyenv c.in_ok-termenv.termenv = record {
       defs = c.as_slice-defs.result.now;
       types = made.environment;
       spelt = rw c.as_slice-defs.ensures.value c.in_ok-parsed.ensures.spelt;
@@ -73,14 +73,14 @@ trees_of_sets-requires c =
       expands = c.in_ok-termenv.ensures.expands;
     } in
     let env = c.in_ok-termenv.termenv in
-    let d = defined_files c.args.files.now c.from_ast-2.new.tyenv env shown in
+    let d = defined_files c.args.files.now c.from_ast.new.tyenv env shown in
     subst (λ (sets : List (TermId × RulesOverSites)). All (λ (set : TermId × RulesOverSites). IsCheckedSet set.1) sets) (sym c.as_slice.ensures.value)
     (sets_checked env d c.in_ok-rule_sets.rule_sets.items (c.in_ok-rule_sets.ensures.sets d))
 
 pub new-requires : goal.new-requires
 new-requires c =
     let made = c.in_ok-tyenv.ensures.made in
-    let shown : ShowFiles c.args.files.now c.from_ast-2.new.tyenv c.in_ok-termenv.termenv = record {
+    let shown : ShowFiles c.args.files.now c.from_ast.new.tyenv c.in_ok-termenv.termenv = record {
       defs = c.as_slice-defs.result.now;
       types = made.environment;
       spelt = rw c.as_slice-defs.ensures.value c.in_ok-parsed.ensures.spelt;
@@ -91,17 +91,17 @@ new-requires c =
       expands = c.in_ok-termenv.ensures.expands;
     } in
     let env = c.in_ok-termenv.termenv in
-    let d = defined_files c.args.files.now c.from_ast-2.new.tyenv env shown in
+    let d = defined_files c.args.files.now c.from_ast.new.tyenv env shown in
     record {
       rooted = rules_within env d;
       within = sets_within env d c.in_ok-rule_sets.rule_sets.items (c.in_ok-rule_sets.ensures.sets d);
-      sound = tables_are_sound c.args.files.now c.from_ast-2.new.tyenv env shown;
+      sound = tables_are_sound c.args.files.now c.from_ast.new.tyenv env shown;
     }
 
 pub returns-clause-accepted : goal.returns-clause-accepted
 returns-clause-accepted c =
     let made = c.in_ok-tyenv.ensures.made in
-    let shown : ShowFiles c.args.files.now c.from_ast-2.new.tyenv c.in_ok-termenv.termenv = record {
+    let shown : ShowFiles c.args.files.now c.from_ast.new.tyenv c.in_ok-termenv.termenv = record {
       defs = c.as_slice-defs.result.now;
       types = made.environment;
       spelt = rw c.as_slice-defs.ensures.value c.in_ok-parsed.ensures.spelt;
@@ -111,12 +111,12 @@ returns-clause-accepted c =
       terms = c.in_ok-termenv.ensures.made made.environment made.shows;
       expands = c.in_ok-termenv.ensures.expands;
     } in
-    accepts c.args.files.now c.from_ast-2.new.tyenv c.in_ok-termenv.termenv shown c.in_ok-rule_sets.ensures.faultless
+    accepts c.args.files.now c.from_ast.new.tyenv c.in_ok-termenv.termenv shown c.in_ok-rule_sets.ensures.faultless
 
 pub returns-clause-compiled : goal.returns-clause-compiled
 returns-clause-compiled c =
     let made = c.in_ok-tyenv.ensures.made in
-    let shown : ShowFiles c.args.files.now c.from_ast-2.new.tyenv c.in_ok-termenv.termenv = record {
+    let shown : ShowFiles c.args.files.now c.from_ast.new.tyenv c.in_ok-termenv.termenv = record {
       defs = c.as_slice-defs.result.now;
       types = made.environment;
       spelt = rw c.as_slice-defs.ensures.value c.in_ok-parsed.ensures.spelt;
@@ -126,7 +126,7 @@ returns-clause-compiled c =
       terms = c.in_ok-termenv.ensures.made made.environment made.shows;
       expands = c.in_ok-termenv.ensures.expands;
     } in
-    program_of c.args.files.now c.in_ok-new.field-0 c.from_ast-2.new.tyenv c.in_ok-termenv.termenv c.in_ok-rule_sets.rule_sets.items
+    program_of c.args.files.now c.in_ok-new.field-0 c.from_ast.new.tyenv c.in_ok-termenv.termenv c.in_ok-rule_sets.rule_sets.items
     c.in_ok-trees.trees.items shown c.in_ok-new.ensures.types c.in_ok-new.ensures.terms c.in_ok-new.ensures.sets c.in_ok-new.ensures.trees
     c.in_ok-rule_sets.ensures.faultless c.in_ok-rule_sets.ensures.sets
     (subst (λ (sets : List (TermId × RulesOverSites)). AreSetTrees sets c.in_ok-trees.trees.items) c.as_slice.ensures.value c.in_ok-trees.ensures)
@@ -134,7 +134,7 @@ returns-clause-compiled c =
 pub returns-in_err-rule_sets-clause-faults : goal.returns-in_err-rule_sets-clause-faults
 returns-in_err-rule_sets-clause-faults c =
     let made = c.in_ok-tyenv.ensures.made in
-    let shown : ShowFiles c.args.files.now c.from_ast-2.new.tyenv c.in_ok-termenv.termenv = record {
+    let shown : ShowFiles c.args.files.now c.from_ast.new.tyenv c.in_ok-termenv.termenv = record {
       defs = c.as_slice-defs.result.now;
       types = made.environment;
       spelt = rw c.as_slice-defs.ensures.value c.in_ok-parsed.ensures.spelt;
@@ -145,13 +145,13 @@ returns-in_err-rule_sets-clause-faults c =
       expands = c.in_ok-termenv.ensures.expands;
     } in
     let p = err_from_is_err_and c.from_residual-in_err-rule_sets.result c.from_residual-in_err-rule_sets.ensures.1 in
-    rw (p.1, p.2) (rule_faults c.args.files.now c.from_ast-2.new.tyenv c.in_ok-termenv.termenv shown c.in_err-rule_sets.field-0.0
+    rw (p.1, p.2) (rule_faults c.args.files.now c.from_ast.new.tyenv c.in_ok-termenv.termenv shown c.in_err-rule_sets.field-0.0
     c.in_err-rule_sets.ensures.faults)
 
 pub returns-in_err-rule_sets-clause-printable : goal.returns-in_err-rule_sets-clause-printable
 returns-in_err-rule_sets-clause-printable c =
     let made = c.in_ok-tyenv.ensures.made in
-    let shown : ShowFiles c.args.files.now c.from_ast-2.new.tyenv c.in_ok-termenv.termenv = record {
+    let shown : ShowFiles c.args.files.now c.from_ast.new.tyenv c.in_ok-termenv.termenv = record {
       defs = c.as_slice-defs.result.now;
       types = made.environment;
       spelt = rw c.as_slice-defs.ensures.value c.in_ok-parsed.ensures.spelt;
@@ -164,5 +164,15 @@ returns-in_err-rule_sets-clause-printable c =
     let p = err_from_is_err_and c.from_residual-in_err-rule_sets.result c.from_residual-in_err-rule_sets.ensures.1 in
     let placed : All (TypedRuleAt (IsPrintablePos c.args.files.now)) c.in_ok-termenv.termenv.rules =
     c.in_ok-termenv.ensures.placed c.args.files.now (rw c.as_slice-defs.ensures.value c.in_ok-parsed.ensures.placed) in
-    rw (p.1, p.2) (rule_faults_at c.args.files.now c.from_ast-2.new.tyenv c.in_ok-termenv.termenv shown c.in_err-rule_sets.field-0.0 placed
+    rw (p.1, p.2) (rule_faults_at c.args.files.now c.from_ast.new.tyenv c.in_ok-termenv.termenv shown c.in_err-rule_sets.field-0.0 placed
     c.in_err-rule_sets.ensures.faults)
+
+pub returns-in_err-trees-clause-faults : goal.returns-in_err-trees-clause-faults
+returns-in_err-trees-clause-faults c =
+    let p = err_from_is_err_and c.from_residual-in_err-trees.result c.from_residual-in_err-trees.ensures.1 in
+    rw (p.1, p.2) tt
+
+pub returns-in_err-trees-clause-printable : goal.returns-in_err-trees-clause-printable
+returns-in_err-trees-clause-printable c =
+    let p = err_from_is_err_and c.from_residual-in_err-trees.result c.from_residual-in_err-trees.ensures.1 in
+    rw (p.1, p.2) tt

@@ -4,6 +4,7 @@ use Rattle.isle_syntax.specs.Positions.Files.{SourceFile, source_file}
 use Rattle.isle_run.specs.Compiled.{AreAccepted, IsProgramOf}
 use Rattle.islec.proofs.DrawingLemmas.{draw_cut, draws_by, refusal_undrawn, unknown_by}
 use Rattle.islec.proofs.RunLemmas.{faults_by}
+use Rattle.islec.proofs.StatusLemmas.{drawn_ends, drawn_not_refused}
 use Rattle.islec.proofs.blocks.blocks.Goals as goal
 
 pub returns-in-Err-Faults-clause-refused : goal.returns-in-Err-Faults-clause-refused
@@ -45,3 +46,9 @@ returns-in-Ok-clause-cut g c =
     draw_cut c.deref.result.now (map source_file c.args.texts.items) same c.in-Ok.program
     (subst (λ (l : List SourceFile). IsProgramOf l c.in-Ok.program) copy c.in-Ok.ensures.compiled) (subst AreAccepted copy c.in-Ok.ensures.accepted)
     (map string_bytes c.args.names.now) c.args.dot (g.W.Write.contents c.args.writer.now) (g.W.Write.contents c.draw.new.writer) c.draw.result c.draw.ensures.cut
+
+pub returns-in-Ok-clause-refused : goal.returns-in-Ok-clause-refused
+returns-in-Ok-clause-refused g c = drawn_not_refused _ c.draw.result c.draw.ensures.other
+
+pub returns-in-Ok-clause-other : goal.returns-in-Ok-clause-other
+returns-in-Ok-clause-other g c = drawn_ends c.draw.result c.draw.ensures.other

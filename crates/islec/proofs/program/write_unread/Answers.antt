@@ -1,32 +1,23 @@
-use Rattle.std.proofs.Common.{codes, ◌++◌, Result, Ok, Err, OnErr}
+use Rattle.std.proofs.Common.{codes}
 use Rattle.std.proofs.lemmas.Result.{on_ok_weaker, on_err_weaker}
 use Rattle.std.proofs.KnownBytes.{Appends-trans}
-use Rattle.islec.proofs.WritingLemmas.{begins_longer, begins_behind}
+use Rattle.islec.specs.Beginnings.{line_of_two}
+use Rattle.islec.proofs.WritingLemmas.{begins_longer, begins_behind, on_any}
 use Rattle.islec.proofs.program.write_unread.Goals as goal
 
-on_any : {E P : Type 0} (r : Result (Unit {0}) E) → P → OnErr r P
-on_any (Ok u) p = tt
-on_any (Err e) p = p
-
-pub returns-in_err-write_text-clause-err : goal.returns-in_err-write_text-clause-err
-returns-in_err-write_text-clause-err g c =
+pub returns-in_err-write_line-clause-err : goal.returns-in_err-write_line-clause-err
+returns-in_err-write_line-clause-err g c =
     on_any c.from_residual.result
-    (begins_longer _ _ (codes "cannot read ") (c.args.name.now ++ codes "\n") c.in_err-write_text.ensures.err)
-
-pub returns-in_err-write_text-2-clause-err : goal.returns-in_err-write_text-2-clause-err
-returns-in_err-write_text-2-clause-err g c =
-    on_any c.from_residual-in_err-write_text-2.result
-    (begins_behind _ _ _ (codes "cannot read ") (c.args.name.now ++ codes "\n") c.in_ok-write_text.ensures.ok
-    (begins_longer _ _ c.args.name.now (codes "\n") c.in_err-write_text-2.ensures.err))
+    (begins_longer _ _ (line_of_two (codes "cannot read ") c.args.name.now) (line_of_two (codes "  ") c.args.cause.now) c.in_err-write_line.ensures.err)
 
 pub returns-clause-ok : goal.returns-clause-ok
 returns-clause-ok g c =
-    on_ok_weaker c.write_text-3.result
-    (λ last. Appends-trans _ _ _ (codes "cannot read ") (c.args.name.now ++ codes "\n") c.in_ok-write_text.ensures.ok
-    (Appends-trans _ _ _ c.args.name.now (codes "\n") c.in_ok-write_text-2.ensures.ok last)) c.write_text-3.ensures.ok
+    on_ok_weaker c.write_line-2.result
+    (λ last. Appends-trans _ _ _ (line_of_two (codes "cannot read ") c.args.name.now) (line_of_two (codes "  ") c.args.cause.now)
+    c.in_ok-write_line.ensures.ok last) c.write_line-2.ensures.ok
 
 pub returns-clause-err : goal.returns-clause-err
 returns-clause-err g c =
-    on_err_weaker c.write_text-3.result
-    (λ last. begins_behind _ _ _ (codes "cannot read ") (c.args.name.now ++ codes "\n") c.in_ok-write_text.ensures.ok
-    (begins_behind _ _ _ c.args.name.now (codes "\n") c.in_ok-write_text-2.ensures.ok last)) c.write_text-3.ensures.err
+    on_err_weaker c.write_line-2.result
+    (λ last. begins_behind _ _ _ (line_of_two (codes "cannot read ") c.args.name.now) (line_of_two (codes "  ") c.args.cause.now)
+    c.in_ok-write_line.ensures.ok last) c.write_line-2.ensures.err

@@ -1,4 +1,4 @@
-use Rattle.std.proofs.Common.{◌≡◌, ◌∙◌, ap, sym, refl, ℕ, List, true, is_some, codes}
+use Rattle.std.proofs.Common.{◌≡◌, ◌∙◌, ap, sym, refl, ℕ, List, true, is_some}
 use Rattle.isle_syntax.specs.declared.error.Error.TheVariants.{TypeError}
 use Rattle.isle_syntax.specs.Errors.{span_at}
 use Rattle.isle_types.specs.Names.{position_of}
@@ -17,7 +17,7 @@ returns-then-has c = λ names known.
 pub returns : goal.returns
 returns c = λ names known.
     adds_one (IsUnknownAt names c.args.term.now) (is_among c.args.term.now.0 names ≡ true) c.args.errors.now.items c.report.new.errors.items
-    (TypeError (codes "an extractor's body names an unknown term") (span_at c.args.term.now.1)) c.in_ok-report.ensures (
+    (TypeError c.in_ok-report.ensures.0 (span_at c.args.term.now.1)) c.in_ok-report.ensures.1 (
       sym (found_among names c.args.term.now.0) ∙ ap (λ (name : List ℕ). is_some (position_of names name)) (sym c.as_str.ensures)
           ∙ sym (c.has.ensures names known) ∙ c.if-has.false,
       refl,

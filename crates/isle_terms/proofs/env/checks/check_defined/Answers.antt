@@ -13,7 +13,7 @@ loop-decl-preserved c = λ ruled hosted extracted is_ruled is_hosted is_extracte
     elim c.if-is_unused.branch [
       | then-is_unused+in_ok-report w ↦ each_ill items (is_unused ruled hosted extracted) (λ (decl : DeclTree). decl.pos) i _
           c.if-is_unused.errors.items _ _ here
-          (ap (λ v. v.items) w.errors-is ∙ w.in_ok-report.ensures) (sym (c.is_unused.ensures ruled hosted extracted is_ruled is_hosted
+          (ap (λ v. v.items) w.errors-is ∙ w.in_ok-report.ensures.1) (sym (c.is_unused.ensures ruled hosted extracted is_ruled is_hosted
           is_extracted) ∙ w.if-is_unused.true) refl (c.loop-decl.invariant ruled hosted extracted is_ruled is_hosted is_extracted)
       | else-is_unused w ↦ each_well items (is_unused ruled hosted extracted) (λ (decl : DeclTree). decl.pos) i _ c.if-is_unused.errors.items here
           (ap (λ v. v.items) w.errors-is)

@@ -13,7 +13,7 @@ loop-extractor-preserved c = λ names is_names.
     elim c.if-is_ill_extractor.branch [
       | then-is_ill_extractor+in_ok-report w ↦ each_ill items (is_ill_extractor names (map (λ decl. decl.now) c.args.decls.now)) (λ (extractor :
           ExtractorTree). extractor.pos) i _ c.if-is_ill_extractor.errors.items _ _ here
-          (ap (λ v. v.items) w.errors-is ∙ w.in_ok-report.ensures) (sym (c.is_ill_extractor.ensures names is_names)
+          (ap (λ v. v.items) w.errors-is ∙ w.in_ok-report.ensures.1) (sym (c.is_ill_extractor.ensures names is_names)
           ∙ w.if-is_ill_extractor.true) refl (c.loop-extractor.invariant names is_names)
       | else-is_ill_extractor w ↦ each_well items (is_ill_extractor names (map (λ decl. decl.now) c.args.decls.now)) (λ (extractor :
           ExtractorTree). extractor.pos) i _ c.if-is_ill_extractor.errors.items here (ap (λ v. v.items) w.errors-is)

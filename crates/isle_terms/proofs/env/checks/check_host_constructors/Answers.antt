@@ -12,7 +12,7 @@ loop-host-preserved c = λ names ruled is_names is_ruled.
     let here = item_at host_constructor_shown c.args.hosts.now i c.host-item.result c.loop-host-test.true c.host-item.is in
     elim c.if-is_ill_host.branch [
       | then-is_ill_host+in_ok-report w ↦ each_ill items (is_ill_host names ruled) (λ host. host.0.1) i _ c.if-is_ill_host.errors.items _ _ here
-          (ap (λ v. v.items) w.errors-is ∙ w.in_ok-report.ensures) (sym (c.is_ill_host.ensures names ruled is_names is_ruled)
+          (ap (λ v. v.items) w.errors-is ∙ w.in_ok-report.ensures.1) (sym (c.is_ill_host.ensures names ruled is_names is_ruled)
           ∙ w.if-is_ill_host.true) refl (c.loop-host.invariant names ruled is_names is_ruled)
       | else-is_ill_host w ↦ each_well items (is_ill_host names ruled) (λ host. host.0.1) i _ c.if-is_ill_host.errors.items here (ap (λ v. v.items)
           w.errors-is)

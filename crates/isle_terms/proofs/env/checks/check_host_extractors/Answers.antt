@@ -14,7 +14,7 @@ loop-host-preserved c = λ names is_names.
     elim c.if-is_ill_name.branch [
       | then-is_ill_name+in_ok-report w ↦ each_ill items (is_ill_name names) (λ (host : ExternalExtractor). host.pos) i _
           c.if-is_ill_name.errors.items _ _ here
-          (ap (λ v. v.items) w.errors-is ∙ w.in_ok-report.ensures) (sym (c.is_ill_name.ensures names is_names)
+          (ap (λ v. v.items) w.errors-is ∙ w.in_ok-report.ensures.1) (sym (c.is_ill_name.ensures names is_names)
           ∙ w.if-is_ill_name.true) refl (c.loop-host.invariant names is_names)
       | else-is_ill_name w ↦ each_well items (is_ill_name names) (λ (host : ExternalExtractor). host.pos) i _ c.if-is_ill_name.errors.items here
           (ap (λ v. v.items) w.errors-is)

@@ -13,7 +13,7 @@ loop-decl-preserved c =
     elim c.if-is_ill_marked.branch [
       | then-is_ill_marked+in_ok-report w ↦ each_ill items (is_ill_marked) (λ (decl : DeclTree). decl.pos) i _ c.if-is_ill_marked.errors.items _ _
           here
-          (ap (λ v. v.items) w.errors-is ∙ w.in_ok-report.ensures) (sym (c.is_ill_marked.ensures)
+          (ap (λ v. v.items) w.errors-is ∙ w.in_ok-report.ensures.1) (sym (c.is_ill_marked.ensures)
           ∙ w.if-is_ill_marked.true) refl c.loop-decl.invariant
       | else-is_ill_marked w ↦ each_well items (is_ill_marked) (λ (decl : DeclTree). decl.pos) i _ c.if-is_ill_marked.errors.items here (ap (λ v.
           v.items) w.errors-is)

@@ -13,7 +13,7 @@ loop-rule-preserved c = λ names is_names.
     elim c.if-is_ill_root.branch [
       | then-is_ill_root+in_ok-report w ↦ each_ill items (is_ill_root names) (λ (rule : RuleTree). rule.pos) i _ c.if-is_ill_root.errors.items _ _
           here
-          (ap (λ v. v.items) w.errors-is ∙ w.in_ok-report.ensures) (sym (c.is_ill_root.ensures names is_names)
+          (ap (λ v. v.items) w.errors-is ∙ w.in_ok-report.ensures.1) (sym (c.is_ill_root.ensures names is_names)
           ∙ w.if-is_ill_root.true) refl (c.loop-rule.invariant names is_names)
       | else-is_ill_root w ↦ each_well items (is_ill_root names) (λ (rule : RuleTree). rule.pos) i _ c.if-is_ill_root.errors.items here (ap (λ v.
           v.items) w.errors-is)

@@ -21,7 +21,7 @@ loop-converter-preserved c = λ types defs signatures shows placed same.
           (λ pair. ap (λ table. value_at same_types table pair) w.table-is ∙ w.in_ok-insert-in-Ok.ensures.values pair)
           (ap (λ v. v.items) w.errors-is) before
       | in-Err+in_ok-report-in-Err w ↦ read_ill types defs signatures c.loop-converter.table _ i c.converter-item.result.now _ _ _ _ _ here
-          (w.in-Err.ensures.ill types _ shows placed) w.table-is (ap (λ v. v.items) w.errors-is ∙ w.in_ok-report-in-Err.ensures) before
+          (w.in-Err.ensures.ill types _ shows placed) w.table-is (ap (λ v. v.items) w.errors-is ∙ w.in_ok-report-in-Err.ensures.1) before
     ]
 
 pub returns : goal.returns

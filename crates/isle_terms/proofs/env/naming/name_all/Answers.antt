@@ -20,8 +20,8 @@ loop-i-preserved c =
       subst (λ names. IsTableOf names c.add.new.self) (sym (names_more pairs i _ at))
           (c.in_ok-add.ensures.added (names_of (take i pairs)) table (count_so_far pairs i low)),
       elim c.if-not-branch.branch [
-        | then-not-branch+in_ok-report w ↦ check_fault c.if-not-branch.errors.items c.args.msg.now _
-            (ap (λ v. v.items) w.errors-is ∙ w.in_ok-report.ensures)
+        | then-not-branch+in_ok-report w ↦ check_fault c.if-not-branch.errors.items _ _
+            (ap (λ v. v.items) w.errors-is ∙ w.in_ok-report.ensures.1)
             (found_is_taken pairs i _ _ at refl (sym (c.in_ok-add.ensures.new _ table) ∙ w.if-not-branch.true)) checks
         | else-not-branch w ↦ check_same c.if-not-branch.errors.items (ap (λ v. v.items) w.errors-is)
             (new_is_distinct pairs i _ _ at refl (sym (c.in_ok-add.ensures.new _ table) ∙ w.if-not-branch.false)) checks

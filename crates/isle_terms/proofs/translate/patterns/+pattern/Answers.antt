@@ -162,7 +162,7 @@ read_use-returns-then-args-as_slice-clause-err t c =
     fails_along c.args.context.now.rule _ _ _
     (use_miscounted (known_in c.args.context.now) (reads_in c.args.context.now c.args.levels) c.args.pos c.args.id.0
     (term_shown c.args.context.now.tyenv.now.names c.args.term.now) c.args.args.now _
-    (other_number _ _ (omega arith))) c.ill_typed.ensures
+    (other_number _ _ (omega arith))) c.ill_count.ensures
 
 pub read_use-returns-in_err-made-in-None-clause-err : goal.read_use-returns-in_err-made-in-None-clause-err
 read_use-returns-in_err-made-in-None-clause-err t c =
@@ -189,7 +189,7 @@ read_use-returns-then-lacks_argument-clause-err t c =
     (same_number _ _ (omega arith)) (sym (c.is_usable.ensures c.args.context.now.tyenv.now.names) ∙ c.if-not-is_usable.false) c.in-Some.ensures
     (lacks (known_in c.args.context.now) (term_shown c.args.context.now.tyenv.now.names c.args.term.now) _ _ c.in-Some.ensures
     (sym c.if-lacks_argument.true ∙ c.lacks_argument.ensures _ c.requires)))
-    c.ill_typed-then-lacks_argument.ensures
+    c.lacking.ensures
 
 pub read_use-returns-in_ok-made-in-None-clause-ok : goal.read_use-returns-in_ok-made-in-None-clause-ok
 read_use-returns-in_ok-made-in-None-clause-ok t c =

@@ -1,4 +1,4 @@
-use Rattle.std.proofs.Common.{◌<◌, ℕ, List, length, map, refl, ap, sym, subst, ◌∙◌, rules}
+use Rattle.std.proofs.Common.{◌<◌, ℕ, List, length, map, refl, subst, ◌∙◌, rules}
 use Rattle.std.specs.Option.{MatchOption}
 use Rattle.std.proofs.lemmas.Option.{slice_get_read}
 use Rattle.isle_syntax.specs.declared.ast.StructField.{StructField as StructFieldTree}
@@ -6,7 +6,7 @@ use Rattle.isle_types.specs.declared.types.StructField.{StructField}
 use Rattle.isle_types.specs.Names.{AreDistinct, IsDuplicate}
 use Rattle.isle_types.specs.TypeTables.{TypeTables}
 use Rattle.isle_types.proofs.NamedItems.{once_through, duplicate_through, duplicate_tree}
-use Rattle.isle_types.proofs.ReportedFaults.{reported}
+use Rattle.isle_types.proofs.ReportedFaults.{reported_so}
 use Rattle.isle_types.proofs.env.TypeEnv.check_fields.Goals as goal
 use Rattle.isle_types.proofs.env.TypeEnv.check_fields.Goals.{In-Some}
 
@@ -42,13 +42,10 @@ offset_bounds-trees-place c = let within = within_of c in search rules
 pub bounds-trees-place : goal.bounds-trees-place
 bounds-trees-place c = within_of c
 
-pub bounds-trees-place-in-Some : goal.bounds-trees-place-in-Some
-bounds-trees-place-in-Some c = within_of c
-
 pub returns-clause-fault : goal.returns-clause-fault
 returns-clause-fault c =
     let inside = (goal.at.returns-clause-fault c).In-Some in
-    reported c.type_error.result _ _ c.type_error.ensures (
+    reported_so c.part_twice.result _ _ c.part_twice.ensures (λ _. (
       c.in-Some.place,
       (
         c.index-trees-place.result,
@@ -56,7 +53,7 @@ returns-clause-fault c =
           slice_get_read c.args.trees.now (length c.args.trees.now) c.in-Some.place c.index-trees-place.result refl
               (within_of inside) c.index-trees-place.is,
           duplicate_of inside,
-          ap (λ (tree : StructFieldTree). tree.pos) (sym c.index-trees-place.is),
+          refl,
         ),
       ),
-    )
+    ))

@@ -8,7 +8,7 @@ use Rattle.isle_types.proofs.DefinitionTurns.{no_type}
 use Rattle.isle_types.specs.Environment.{as_type, type_names}
 use Rattle.isle_types.proofs.NamingTurns.{NamedSoFar, named_at_start, named_passing, named_newly, named_again}
 use Rattle.isle_types.proofs.env.TypeEnv.collect_names.Goals as goal
-use Rattle.isle_types.proofs.env.TypeEnv.collect_names.Goals.{in-TypeDef+in_ok-name_type, then-not-branch+in_ok-report_error, else-not-branch}
+use Rattle.isle_types.proofs.env.TypeEnv.collect_names.Goals.{in-TypeDef+in_ok-name_type, then-not-branch+in_ok-report_taken, else-not-branch}
 use Rattle.isle_types.proofs.env.TypeEnv.collect_names.Goals.{in_default}
 
 pub loop-def-init : goal.loop-def-init
@@ -31,12 +31,12 @@ loop-def-preserved c =
           (w.in_ok-name_type.ensures.named known so_far.named so_far.counted) in
           let new = w.in_ok-name_type.ensures.new known so_far.named ∙ ap (λ (name : List ℕ). is_none (position_of known name)) text in
           elim w.if-not-branch.branch [
-            | then-not-branch+in_ok-report_error w' ↦
+            | then-not-branch+in_ok-report_taken w' ↦
                 subst (NamedSoFar defs (i + 1) start c.match-def.self) (sym w.next-is)
                 (subst (λ (env : TypeTables). NamedSoFar defs (i + 1) start env (c.loop-def.next + 1)) (sym (w.self-is ∙ w'.self-is))
-                (named_again defs i def tree _ start c.loop-def.self w.name_type.new.self w'.report_error.new.self c.loop-def.next
+                (named_again defs i def tree _ start c.loop-def.self w.name_type.new.self w'.report_taken.new.self c.loop-def.next
                 c.loop-def-test.true c.def-item.is some so_far named w.name_type.ensures.same (sym w'.if-not-branch.true ∙ new)
-                w'.in_ok-report_error.ensures.ok))
+                w'.in_ok-report_taken.ensures.ok.1))
             | else-not-branch w' ↦
                 subst (NamedSoFar defs (i + 1) start c.match-def.self) (sym w.next-is)
                 (subst (λ (env : TypeTables). NamedSoFar defs (i + 1) start env (c.loop-def.next + 1)) (sym (w.self-is ∙ w'.self-is))
