@@ -2,6 +2,7 @@
 //! asked.
 
 pub mod answer;
+pub mod choices;
 pub mod frames;
 pub mod host;
 pub mod store;

@@ -13,6 +13,7 @@ mod values;
 mod worlds;
 
 pub use calls::answer::{Answer, Called, Effect};
+pub use calls::choices::Choice;
 pub use compiler::{Refused, compile};
 pub use isle_types::{TermId, TypeId};
 pub use program::Program;
