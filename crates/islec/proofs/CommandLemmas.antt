@@ -94,10 +94,13 @@ fmt_own : OwnRules fmt_rules
 fmt_own = (
   record { own = refl; keeps = omega arith; wants = λ e. omega arith; default = λ e. omega arith },
   (
-    record { own = refl; keeps = omega arith; wants = λ e. omega arith; default = λ e. omega arith },
+    record { own = refl; keeps = omega arith; wants = unset _ refl; default = unset _ refl },
     (
-      record { own = refl; keeps = tt; wants = unset _ refl; default = unset _ refl },
-      tt,
+      record { own = refl; keeps = omega arith; wants = λ e. omega arith; default = λ e. omega arith },
+      (
+        record { own = refl; keeps = tt; wants = unset _ refl; default = unset _ refl },
+        tt,
+      ),
     ),
   ),
 )

@@ -7,7 +7,7 @@ use Rattle.isle_run.specs.Compiled.{AreAccepted}
 use Rattle.islec.specs.declared.answer.Manner.{Manner}
 use Rattle.islec.specs.Drawing.{WritesTrees, WritesUnknown, CutsTrees}
 use Rattle.islec.specs.Endings.{EndsRun, EndsCheck, EndsBlocks, EndsFmt}
-use Rattle.islec.specs.Formatting.{WritesPrints, WritesFault, CutsPrints}
+use Rattle.islec.specs.Formatting.{WritesPrints, RefusesPrints, CutsPrints}
 use Rattle.islec.specs.Running.{WritesFaults, WritesAccepted, WritesAnswers, WritesRefusal, CutsCheck, CutsRun, AnswersSome}
 use Rattle.islec.specs.Statuses.{IsEnd, EndsAs}
 use Rattle.islec.specs.declared.serve.ServeFault.{ServeFault}
@@ -87,21 +87,21 @@ module _ (names : List (List ℕ)) (dot : Bool) (files : List SourceFile) (old m
   blocks_ends (Err Memory) status new (is, wrote) drawn unknown refused other cut memory =
       subst (λ s. EndsBlocks names dot files old new s) (sym is) (line_behind old new (codes "out of memory\n") (mid, memory refl, wrote))
 
-module _ (width : ℕ) (files : List SourceFile) (old mid : Option (List ℕ)) where
+module _ (unformatted : Bool) (width : ℕ) (files : List SourceFile) (old mid : Option (List ℕ)) where
   pub fmt_ends : (done : Result Status ServeFault) (status : Status) (new : Option (List ℕ)) → EndsAs done status mid new
-      → IfOk done (λ s. s ≡ AllWell → WritesPrints width files old mid)
-      → IfOk done (λ s. s ≡ TextsRefused → WritesFault files old mid)
+      → IfOk done (λ s. s ≡ AllWell → WritesPrints unformatted width files old mid)
+      → IfOk done (λ s. s ≡ TextsRefused → RefusesPrints unformatted width files old mid)
       → IfOk done (λ s. (s ≡ AllWell) ⊎ (s ≡ TextsRefused))
-      → IfErr done (λ f. f ≢ Memory → CutsPrints width files old mid)
+      → IfErr done (λ f. f ≢ Memory → CutsPrints unformatted width files old mid)
       → IfErr done (λ f. f ≡ Memory → Keeps old mid)
-      → EndsFmt width files old new status
+      → EndsFmt unformatted width files old new status
   fmt_ends (Ok own) status new (is, same) printed refused (inl e) cut memory =
-      moved (λ n s. EndsFmt width files old n s) AllWell status mid new (is ∙ e) same (printed e)
+      moved (λ n s. EndsFmt unformatted width files old n s) AllWell status mid new (is ∙ e) same (printed e)
   fmt_ends (Ok own) status new (is, same) printed refused (inr e) cut memory =
-      moved (λ n s. EndsFmt width files old n s) TextsRefused status mid new (is ∙ e) same (refused e)
+      moved (λ n s. EndsFmt unformatted width files old n s) TextsRefused status mid new (is ∙ e) same (refused e)
   fmt_ends (Err Read) status new (is, same) printed refused other cut memory =
-      moved (λ n s. EndsFmt width files old n s) InputOutput status mid new is same (cut (λ no. absurd cc))
+      moved (λ n s. EndsFmt unformatted width files old n s) InputOutput status mid new is same (cut (λ no. absurd cc))
   fmt_ends (Err Write) status new (is, same) printed refused other cut memory =
-      moved (λ n s. EndsFmt width files old n s) InputOutput status mid new is same (cut (λ no. absurd cc))
+      moved (λ n s. EndsFmt unformatted width files old n s) InputOutput status mid new is same (cut (λ no. absurd cc))
   fmt_ends (Err Memory) status new (is, wrote) printed refused other cut memory =
-      subst (λ s. EndsFmt width files old new s) (sym is) (line_behind old new (codes "out of memory\n") (mid, memory refl, wrote))
+      subst (λ s. EndsFmt unformatted width files old new s) (sym is) (line_behind old new (codes "out of memory\n") (mid, memory refl, wrote))

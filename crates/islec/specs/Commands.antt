@@ -60,9 +60,9 @@ rule_files = record (new_rule (codes "file")) {
   required = true;
 }
 
--- one file
-abbrev pub one_file : Rule
-one_file = record (new_rule (codes "file")) { value_names = 1; required = true }
+-- `--check`
+abbrev pub unformatted : Rule
+unformatted = record (new_rule (codes "check")) { long = Some (codes "check"); action = Some SetTrue }
 
 -- `run`, with a world, a depth, `--plain`, `--steps` and files
 abbrev pub run : App
@@ -77,17 +77,21 @@ check = with_rule (with_rule (new_app (codes "check")) terms) rule_files
 abbrev pub blocks : App
 blocks = with_rule (with_rule (with_rule (new_app (codes "blocks")) term) dot) rule_files
 
--- `fmt`, with a width and a file
+-- `fmt`, with a width, `--check` and files
 abbrev pub fmt : App
-fmt = with_rule (with_rule (new_app (codes "fmt")) width) one_file
+fmt = with_rule (with_rule (with_rule (new_app (codes "fmt")) width) unformatted) rule_files
 
 -- a command that does nothing without a subcommand
 abbrev pub with_required : App → App
 with_required a = record a { top = record a.top { subcommand_required = true } }
 
--- the command `islec`, which is one of `run`, `check`, `blocks` and `fmt`
+-- a command that has a version
+abbrev pub with_version : App → App
+with_version a = record a { top = record a.top { has_version = true } }
+
+-- the command `islec`, which has a version, and is one of `run`, `check`, `blocks` and `fmt`
 abbrev pub islec : App
-islec = with_subcommand (with_subcommand (with_subcommand (with_subcommand (with_required (new_app (codes "islec")))
+islec = with_subcommand (with_subcommand (with_subcommand (with_subcommand (with_required (with_version (new_app (codes "islec"))))
     run.top) check.top) blocks.top) fmt.top
 
 -- the arguments of `run` as they are read, with `--help`

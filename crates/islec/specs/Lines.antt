@@ -36,7 +36,8 @@ SaysJob name rows (Run manner) =
 SaysJob name rows (Check terms) = (name ≡ codes "check") × (flag_of (codes "terms") rows ≡ terms)
 SaysJob name rows (Blocks terms dot) =
     (name ≡ codes "blocks") × (each_of (codes "term") rows ≡ names_of terms) × (flag_of (codes "dot") rows ≡ dot)
-SaysJob name rows (Fmt width) = (name ≡ codes "fmt") × (number_of (codes "width") rows ≡ Some width)
+SaysJob name rows (Fmt width unformatted) =
+    (name ≡ codes "fmt") × (number_of (codes "width") rows ≡ Some width) × (flag_of (codes "check") rows ≡ unformatted)
 
 -- the name of a world's file, which only `run` takes
 abbrev pub world_of : Job → List Row → Option Text

@@ -3,7 +3,7 @@ ghost use Rattle.std.specs.Prelude.{◌≡◌, ◌<◌, IfErr, IfOk, codes, map,
 ghost use Rattle.clap.specs.Words.{found_of, rows_of};
 ghost use Rattle.islec.specs.declared.line.LineFault.TheVariants.{Memory};
 ghost use Rattle.islec.specs.Faults.{BecomesFault};
-ghost use Rattle.islec.specs.Jobs.{HasFiles};
+ghost use Rattle.islec.specs.Jobs.{HasFiles, reads_input};
 ghost use Rattle.islec.specs.Commands.{IsArgument, IsCommand, blocks, blocks_rules, check, check_rules, fmt};
 ghost use Rattle.islec.specs.Commands.{depth as the_depth, plain as the_plain, rule_files as the_files, steps as the_steps};
 ghost use Rattle.islec.specs.Commands.{fmt_rules, islec, run, run_rules};
@@ -37,8 +37,20 @@ pub enum Job {
     /// Prints the trees of the rules of the terms of these names; of all terms with rules where there is none. With `dot` they are one
     /// graph.
     Blocks { terms: Vec<String>, dot: bool },
-    /// Prints the one file laid out at a width, from 0 to 1,000,000.
-    Fmt { width: u32 },
+    /// Prints the files laid out at a width, from 0 to 1,000,000; or with `unformatted` tells the names of those that aren't so.
+    Fmt { width: u32, unformatted: bool },
+}
+
+impl Job {
+    /// Whether a file named `-` is standard input: not where that has the queries.
+    pub fn reads_input(&self) -> bool
+        ensures { result ≡ reads_input self.now }
+    {
+        match self {
+            Job::Run(_) => false,
+            Job::Check { .. } | Job::Blocks { .. } | Job::Fmt { .. } => true,
+        }
+    }
 }
 
 /// Why words gave no command.
@@ -96,6 +108,7 @@ fn command<'a>(alloc: Global) -> Result<Command<'a>, AllocError>
     ensures { IfOk result (IsCommand islec) }
 {
     Command::new(alloc, "islec")
+        .version("0.137.1")
         .about("Compiles files of ISLE rules and answers queries by them")
         .subcommand_required(true)
         .subcommand(run_command(alloc)?)?
@@ -186,7 +199,7 @@ fn rule_files<'a>(alloc: Global) -> Arg<'a>
 {
     Arg::new(alloc, "file")
         .value_name("FILE")
-        .help("The rule files, compiled together in this order")
+        .help("The rule files, taken together in this order")
         .action(ArgAction::Append)
         .num_args(1..)
         .required(true)
@@ -201,14 +214,17 @@ fn fmt_command<'a>(alloc: Global) -> Result<Command<'a>, AllocError>
         .help("How many characters a list on one line may have, at most 1000000")
         .value_parser(ValueParser::Unsigned(0, 1_000_000))
         .default_value("80");
-    let file = Arg::new(alloc, "file")
-        .value_name("FILE")
-        .help("The file to print")
-        .required(true);
+    let unformatted = Arg::new(alloc, "check")
+        .long("check")
+        .help(
+            "Print only the names of the files that aren't formatted, with status 1 if there are any",
+        )
+        .action(ArgAction::SetTrue);
     Command::new(alloc, "fmt")
-        .about("Prints a file formatted")
+        .about("Prints files formatted, without their comments")
         .arg(width)?
-        .arg(file)
+        .arg(unformatted)?
+        .arg(rule_files(alloc))
 }
 
 fn run_line(alloc: Global, matches: &ArgMatches<'_>) -> Result<Line, AllocError>
@@ -275,8 +291,9 @@ fn fmt_line(alloc: Global, matches: &ArgMatches<'_>) -> Result<Line, AllocError>
         unreachable!()
     };
     let files = copies(alloc, matches.get_strs("file").unwrap_or(&[]))?;
+    let unformatted = matches.get_flag("check");
     Ok(Line {
-        job: Job::Fmt { width },
+        job: Job::Fmt { width, unformatted },
         files,
         world: None,
     })

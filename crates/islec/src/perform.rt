@@ -57,8 +57,8 @@ pub fn perform<R: BufRead, W: Write>(
             let done = blocks(alloc, terms.as_slice(), dot, texts, writer);
             conclude(done, writer)
         }
-        Job::Fmt { width } => {
-            let done = format(alloc, width, texts, writer);
+        Job::Fmt { width, unformatted } => {
+            let done = format(alloc, width, unformatted, texts, writer);
             conclude(done, writer)
         }
     };
