@@ -10,6 +10,7 @@ mod query;
 mod roads;
 mod trees;
 mod values;
+pub mod warnings;
 mod worlds;
 
 pub use calls::answer::{Answer, Called, Effect};
@@ -18,5 +19,6 @@ pub use compiler::{Refused, compile};
 pub use isle_types::{TermId, TypeId};
 pub use program::Program;
 pub use query::{QueryFault, is_blank};
+pub use trees::names::{place_text, spaces};
 pub use values::{Value, ValueFault};
 pub use worlds::{Side, TableWorld, World, WorldFault};

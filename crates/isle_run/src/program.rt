@@ -265,7 +265,7 @@ impl Program {
     }
 
     /// The rules, in the order of the texts.
-    pub(crate) fn rules(&self) -> &[Rule]
+    pub fn rules(&self) -> &[Rule]
         ensures { result.now ≡ rules_in self.now }
     {
         self.termenv.rules()

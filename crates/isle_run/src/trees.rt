@@ -7,7 +7,7 @@ ghost use Rattle.isle_run.specs.TreeTexts.Sets.{IsEntryText, IsSetText, TellsTre
 mod fields;
 mod graph;
 mod graphs;
-mod names;
+pub mod names;
 mod paths;
 mod quoted;
 mod rules;

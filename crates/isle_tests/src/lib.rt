@@ -1,4 +1,4 @@
-//! Tests of the libraries, over their public calls: what no clause says, each public call once with memory at hand,
+//! Tests of the libraries up to `isle_blocks`, over their public calls: what no clause says, each public call once with memory at hand,
 //! and the words and bounds that definitions and code could get wrong together.
 #![tactic(auto)]
 
@@ -6,8 +6,6 @@
 mod blocks;
 #[cfg(test)]
 mod layout;
-#[cfg(test)]
-mod run;
 #[cfg(test)]
 mod syntax;
 #[cfg(test)]

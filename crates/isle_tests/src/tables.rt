@@ -2,11 +2,6 @@
 use crate::blocks::checks::{BUILT, FAULTY, SETS, accepted, any, faults};
 use crate::layout::spellings::{LAYOUTS, PARTS, SPELLINGS, laid_out, part};
 use crate::layout::writable::{HAND_MADE, NESTED, RENAMED, hand_made, renamed};
-use crate::run;
-use crate::run::InProgram;
-use crate::run::calls::ANSWERS;
-use crate::run::values::{MADE, VALUES, made};
-use crate::run::worlds::JUDGED;
 use crate::syntax::lexer::{CLASSES, TOKENS, classes, listing};
 use crate::syntax::readings::{BOUNDS, FAULTS, OFFSETS, offsets, verdicts};
 use crate::syntax::trees::{CALLS, TEMPLATES, shown_filled, told};
@@ -45,16 +40,12 @@ pub enum Asked {
     HandMade,
     /// Whether it keeps the rules of types.
     Types,
-    /// What the maker of that name makes.
-    Made,
     /// The rule sets of its rules, which are accepted.
     Sets,
     /// What is told of its rules, whatever is wrong with them.
     Rules,
     /// What is wrong with its rules.
     Faulty,
-    /// What comes of it in a program.
-    Run(InProgram),
 }
 
 /// The texts of which it is asked.
@@ -74,13 +65,9 @@ fn table(asked: Asked) -> &'static str {
         Asked::Nested => NESTED,
         Asked::HandMade => HAND_MADE,
         Asked::Types => VERDICTS,
-        Asked::Made => MADE,
         Asked::Sets => SETS,
         Asked::Rules => BUILT,
         Asked::Faulty => FAULTY,
-        Asked::Run(InProgram::Value) => VALUES,
-        Asked::Run(InProgram::Answer) => ANSWERS,
-        Asked::Run(InProgram::Judged) => JUDGED,
     }
 }
 
@@ -97,11 +84,9 @@ fn answer(alloc: Global, asked: Asked, text: &str) -> Result<String, Fail> {
         Asked::Renamed | Asked::Nested => renamed(alloc, text),
         Asked::HandMade => hand_made(alloc, text),
         Asked::Types => judged(alloc, text),
-        Asked::Made => made(alloc, text),
         Asked::Sets => accepted(alloc, text),
         Asked::Rules => any(alloc, text),
         Asked::Faulty => faults(alloc, text),
-        Asked::Run(asked) => run::answer(alloc, asked, text),
     }
 }
 
@@ -144,13 +129,9 @@ fn texts_are_answered(rt: HostRuntime) -> Result<(), Fail> {
         Asked::Renamed,
         Asked::HandMade,
         Asked::Types,
-        Asked::Made,
         Asked::Sets,
         Asked::Rules,
         Asked::Faulty,
-        Asked::Run(InProgram::Value),
-        Asked::Run(InProgram::Answer),
-        Asked::Run(InProgram::Judged),
     ] {
         assert_eq!(rt; first_mistake(rt.alloc(), asked)?.as_str(), "");
     }

@@ -52,10 +52,19 @@ run_own = (
       (
         record { own = refl; keeps = omega arith; wants = unset _ refl; default = unset _ refl },
         (
-          record { own = refl; keeps = omega arith; wants = λ e. omega arith; default = λ e. omega arith },
+          record { own = refl; keeps = omega arith; wants = unset _ refl; default = unset _ refl },
           (
-            record { own = refl; keeps = tt; wants = unset _ refl; default = unset _ refl },
-            tt,
+            record { own = refl; keeps = omega arith; wants = unset _ refl; default = unset _ refl },
+            (
+              record { own = refl; keeps = omega arith; wants = unset _ refl; default = unset _ refl },
+              (
+                record { own = refl; keeps = omega arith; wants = λ e. omega arith; default = λ e. omega arith },
+                (
+                  record { own = refl; keeps = tt; wants = unset _ refl; default = unset _ refl },
+                  tt,
+                ),
+              ),
+            ),
           ),
         ),
       ),
@@ -67,10 +76,13 @@ check_own : OwnRules check_rules
 check_own = (
   record { own = refl; keeps = omega arith; wants = unset _ refl; default = unset _ refl },
   (
-    record { own = refl; keeps = omega arith; wants = λ e. omega arith; default = λ e. omega arith },
+    record { own = refl; keeps = omega arith; wants = unset _ refl; default = unset _ refl },
     (
-      record { own = refl; keeps = tt; wants = unset _ refl; default = unset _ refl },
-      tt,
+      record { own = refl; keeps = omega arith; wants = λ e. omega arith; default = λ e. omega arith },
+      (
+        record { own = refl; keeps = tt; wants = unset _ refl; default = unset _ refl },
+        tt,
+      ),
     ),
   ),
 )

@@ -22,9 +22,9 @@ use Rattle.islec.proofs.CommandCases.{run_words, run_files, run_name, run_world}
 
 -- ---- statuses of jobs
 
-no_check_is_refused_a_query : (terms : Bool) (files : List SourceFile) (world : SourceFile) (input left old new : Option (List ℕ))
-    → EndsJob (Check terms) files world input left old new status.SomeRefused → ⊥
-no_check_is_refused_a_query terms files world input left old new ends = ends.0
+no_check_is_refused_a_query : (terms warn : Bool) (files : List SourceFile) (world : SourceFile) (input left old new : Option (List ℕ))
+    → EndsJob (Check terms warn) files world input left old new status.SomeRefused → ⊥
+no_check_is_refused_a_query terms warn files world input left old new ends = ends.0
 
 no_print_is_refused_a_query : (width : ℕ) (unformatted : Bool) (files : List SourceFile) (world : SourceFile) (input left old new : Option (List ℕ))
     → EndsJob (Fmt width unformatted) files world input left old new status.SomeRefused → ⊥
@@ -92,7 +92,7 @@ run_names_its_files line files reads named =
 world_is : (job : Job) (name : Text) (rows : List Row) → subcommand_of islec run_words ≡ Some (name, rows) → SaysJob name rows job
     → world_of job rows ≡ Some (codes "w.isle")
 world_is (Run manner) name rows met says = same_Some _ _ (sym (ap (option_map (λ p. first_of (codes "world") p.1)) met) ∙ run_world)
-world_is (Check terms) name rows met (named, flag) =
+world_is (Check terms warn) name rows met (named, flag, warned) =
     let is_run = same_Some _ _ (sym (ap (option_map (λ p. p.0)) met) ∙ run_name) in
     let wrong : true ≡ false = ap (λ (text : Text). bytes_eq text (codes "run")) (sym is_run ∙ named) in
     absurd (true≢false wrong)

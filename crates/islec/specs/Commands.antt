@@ -30,9 +30,25 @@ plain = record (new_rule (codes "plain")) { long = Some (codes "plain"); action 
 abbrev pub steps : Rule
 steps = record (new_rule (codes "steps")) { long = Some (codes "steps"); action = Some SetTrue }
 
+-- `--trace`
+abbrev pub trace : Rule
+trace = record (new_rule (codes "trace")) { long = Some (codes "trace"); action = Some SetTrue }
+
+-- `--coverage`
+abbrev pub coverage : Rule
+coverage = record (new_rule (codes "coverage")) { long = Some (codes "coverage"); action = Some SetTrue }
+
+-- `--unanswered`
+abbrev pub unanswered : Rule
+unanswered = record (new_rule (codes "unanswered")) { long = Some (codes "unanswered"); action = Some SetTrue }
+
 -- `--terms`
 abbrev pub terms : Rule
 terms = record (new_rule (codes "terms")) { long = Some (codes "terms"); action = Some SetTrue }
+
+-- `--warn`
+abbrev pub warn : Rule
+warn = record (new_rule (codes "warn")) { long = Some (codes "warn"); action = Some SetTrue }
 
 -- `--term NAME`, any number of times
 abbrev pub term : Rule
@@ -64,14 +80,14 @@ rule_files = record (new_rule (codes "file")) {
 abbrev pub unformatted : Rule
 unformatted = record (new_rule (codes "check")) { long = Some (codes "check"); action = Some SetTrue }
 
--- `run`, with a world, a depth, `--plain`, `--steps` and files
+-- `run`, with a world, a depth, `--plain`, `--steps`, `--trace`, `--coverage`, `--unanswered` and files
 abbrev pub run : App
-run = with_rule (with_rule (with_rule (with_rule (with_rule (new_app (codes "run")) world) depth) plain) steps)
-    rule_files
+run = with_rule (with_rule (with_rule (with_rule (with_rule (with_rule (with_rule (with_rule (new_app (codes "run")) world) depth) plain) steps)
+    trace) coverage) unanswered) rule_files
 
--- `check`, with `--terms` and files
+-- `check`, with `--terms`, `--warn` and files
 abbrev pub check : App
-check = with_rule (with_rule (new_app (codes "check")) terms) rule_files
+check = with_rule (with_rule (with_rule (new_app (codes "check")) terms) warn) rule_files
 
 -- `blocks`, with names of terms, `--dot` and files
 abbrev pub blocks : App

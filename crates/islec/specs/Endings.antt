@@ -38,13 +38,13 @@ EndsRun manner files world input left old new InputOutput = CutsRun files world 
 EndsRun manner files world input left old new OutOfMemory = RunsOut files world manner input left old new
 
 -- what is written of files that are checked
-abbrev pub EndsCheck : (terms : Bool) → List SourceFile → (old new : Option (List ℕ)) → Status → Type 0
-EndsCheck terms files old new AllWell = WritesAccepted files terms old new
-EndsCheck terms files old new TextsRefused = WritesFaults files old new
-EndsCheck terms files old new Usage = ⊥
-EndsCheck terms files old new SomeRefused = ⊥
-EndsCheck terms files old new InputOutput = CutsCheck files terms old new
-EndsCheck terms files old new OutOfMemory = AppendsBeginning old new (codes "out of memory\n")
+abbrev pub EndsCheck : (terms warn : Bool) → List SourceFile → (old new : Option (List ℕ)) → Status → Type 0
+EndsCheck terms warn files old new AllWell = WritesAccepted files terms warn old new
+EndsCheck terms warn files old new TextsRefused = WritesFaults files old new
+EndsCheck terms warn files old new Usage = ⊥
+EndsCheck terms warn files old new SomeRefused = ⊥
+EndsCheck terms warn files old new InputOutput = CutsCheck files terms warn old new
+EndsCheck terms warn files old new OutOfMemory = AppendsBeginning old new (codes "out of memory\n")
 
 -- what is written of files whose trees are printed, of the terms of these names or of all, as one graph where that is asked for
 abbrev pub EndsBlocks : List (List ℕ) → (dot : Bool) → List SourceFile → (old new : Option (List ℕ)) → Status → Type 0
@@ -67,7 +67,7 @@ EndsFmt unformatted width files old new OutOfMemory = AppendsBeginning old new (
 -- what is written of a job on files, in the world of a file, by the status with which it ends; only a run reads the input
 abbrev pub EndsJob : Job → List SourceFile → (world : SourceFile) → (input left old new : Option (List ℕ)) → Status → Type 0
 EndsJob (Run manner) files world input left old new status = EndsRun manner files world input left old new status
-EndsJob (Check terms) files world input left old new status = EndsCheck terms files old new status × (left ≡ input)
+EndsJob (Check terms warn) files world input left old new status = EndsCheck terms warn files old new status × (left ≡ input)
 EndsJob (Blocks terms dot) files world input left old new status = EndsBlocks (names_of terms) dot files old new status × (left ≡ input)
 EndsJob (Fmt width unformatted) files world input left old new status = EndsFmt unformatted width files old new status × (left ≡ input)
 

@@ -6,13 +6,13 @@ use Rattle.islec.specs.declared.line.Job.TheVariants.{Run, Check, Blocks, Fmt}
 -- each takes one or more
 abbrev pub HasFiles : Job → ℕ → Type 0
 HasFiles (Run manner) files = 0 < files
-HasFiles (Check terms) files = 0 < files
+HasFiles (Check terms warn) files = 0 < files
 HasFiles (Blocks terms dot) files = 0 < files
 HasFiles (Fmt width unformatted) files = 0 < files
 
 -- whether a file named `-` is standard input: not of a run, where that has the queries
 abbrev pub reads_input : Job → Bool
 reads_input (Run manner) = false
-reads_input (Check terms) = true
+reads_input (Check terms warn) = true
 reads_input (Blocks terms dot) = true
 reads_input (Fmt width unformatted) = true

@@ -32,8 +32,10 @@ each_of id rows = unwrap_or (all_of id rows) []
 abbrev pub SaysJob : Text → List Row → Job → Type 0
 SaysJob name rows (Run manner) =
     (name ≡ codes "run") × (number_of (codes "depth") rows ≡ Some manner.depth) × (flag_of (codes "plain") rows ≡ manner.plain)
-    × (flag_of (codes "steps") rows ≡ manner.steps)
-SaysJob name rows (Check terms) = (name ≡ codes "check") × (flag_of (codes "terms") rows ≡ terms)
+    × (flag_of (codes "steps") rows ≡ manner.steps) × (flag_of (codes "trace") rows ≡ manner.trace)
+    × (flag_of (codes "coverage") rows ≡ manner.coverage) × (flag_of (codes "unanswered") rows ≡ manner.unanswered)
+SaysJob name rows (Check terms warn) =
+    (name ≡ codes "check") × (flag_of (codes "terms") rows ≡ terms) × (flag_of (codes "warn") rows ≡ warn)
 SaysJob name rows (Blocks terms dot) =
     (name ≡ codes "blocks") × (each_of (codes "term") rows ≡ names_of terms) × (flag_of (codes "dot") rows ≡ dot)
 SaysJob name rows (Fmt width unformatted) =

@@ -6,6 +6,7 @@ ghost use Rattle.islec.specs.Faults.{BecomesFault};
 ghost use Rattle.islec.specs.Jobs.{HasFiles, reads_input};
 ghost use Rattle.islec.specs.Commands.{IsArgument, IsCommand, blocks, blocks_rules, check, check_rules, fmt};
 ghost use Rattle.islec.specs.Commands.{depth as the_depth, plain as the_plain, rule_files as the_files, steps as the_steps};
+ghost use Rattle.islec.specs.Commands.{coverage as the_coverage, trace as the_trace, unanswered as the_unanswered};
 ghost use Rattle.islec.specs.Commands.{fmt_rules, islec, run, run_rules};
 ghost use Rattle.islec.specs.Lines.{ReadsLine, RefusesLine, SaysLine, names_of};
 ghost use Rattle.islec.specs.Rows.{FillsRules};
@@ -32,8 +33,8 @@ pub struct Line {
 pub enum Job {
     /// Answers queries, so.
     Run(Manner),
-    /// Tells whether the files are accepted, and with `terms` which terms can be run.
-    Check { terms: bool },
+    /// Tells whether the files are accepted, with `terms` which terms can be run, and with `warn` what is likely to be a slip.
+    Check { terms: bool, warn: bool },
     /// Prints the trees of the rules of the terms of these names; of all terms with rules where there is none. With `dot` they are one
     /// graph.
     Blocks { terms: Vec<String>, dot: bool },
@@ -130,6 +131,9 @@ fn run_command<'a>(alloc: Global) -> Result<Command<'a>, AllocError>
         .arg(depth(alloc))?
         .arg(plain(alloc))?
         .arg(steps(alloc))?
+        .arg(trace(alloc))?
+        .arg(coverage(alloc))?
+        .arg(unanswered(alloc))?
         .arg(rule_files(alloc))
 }
 
@@ -162,6 +166,33 @@ fn steps<'a>(alloc: Global) -> Arg<'a>
         .action(ArgAction::SetTrue)
 }
 
+fn trace<'a>(alloc: Global) -> Arg<'a>
+    ensures { IsArgument the_trace result }
+{
+    Arg::new(alloc, "trace")
+        .long("trace")
+        .help("Tell before each answer which rules were chosen")
+        .action(ArgAction::SetTrue)
+}
+
+fn coverage<'a>(alloc: Global) -> Arg<'a>
+    ensures { IsArgument the_coverage result }
+{
+    Arg::new(alloc, "coverage")
+        .long("coverage")
+        .help("Tell at the end which rules no call chose")
+        .action(ArgAction::SetTrue)
+}
+
+fn unanswered<'a>(alloc: Global) -> Arg<'a>
+    ensures { IsArgument the_unanswered result }
+{
+    Arg::new(alloc, "unanswered")
+        .long("unanswered")
+        .help("Tell at the end for which calls the world has no entry of their own")
+        .action(ArgAction::SetTrue)
+}
+
 fn check_command<'a>(alloc: Global) -> Result<Command<'a>, AllocError>
     ensures { IfOk result (IsCommand check) }
 {
@@ -169,9 +200,14 @@ fn check_command<'a>(alloc: Global) -> Result<Command<'a>, AllocError>
         .long("terms")
         .help("Tell of each term with rules whether it can be run, and its most steps")
         .action(ArgAction::SetTrue);
+    let warn = Arg::new(alloc, "warn")
+        .long("warn")
+        .help("Tell what is likely to be a slip, as a variable that isn't used")
+        .action(ArgAction::SetTrue);
     Command::new(alloc, "check")
         .about("Tells whether the files are accepted, or what is wrong with them")
         .arg(terms)?
+        .arg(warn)?
         .arg(rule_files(alloc))
 }
 
@@ -238,6 +274,9 @@ fn run_line(alloc: Global, matches: &ArgMatches<'_>) -> Result<Line, AllocError>
     let files = copies(alloc, matches.get_strs("file").unwrap_or(&[]))?;
     let plain = matches.get_flag("plain");
     let steps = matches.get_flag("steps");
+    let trace = matches.get_flag("trace");
+    let coverage = matches.get_flag("coverage");
+    let unanswered = matches.get_flag("unanswered");
     let world = match matches.get_str("world") {
         Some(name) => Some(String::from_str(alloc, name)?),
         None => None,
@@ -247,6 +286,9 @@ fn run_line(alloc: Global, matches: &ArgMatches<'_>) -> Result<Line, AllocError>
             depth,
             plain,
             steps,
+            trace,
+            coverage,
+            unanswered,
         }),
         files,
         world,
@@ -260,8 +302,9 @@ fn check_line(alloc: Global, matches: &ArgMatches<'_>) -> Result<Line, AllocErro
 {
     let files = copies(alloc, matches.get_strs("file").unwrap_or(&[]))?;
     let terms = matches.get_flag("terms");
+    let warn = matches.get_flag("warn");
     Ok(Line {
-        job: Job::Check { terms },
+        job: Job::Check { terms, warn },
         files,
         world: None,
     })

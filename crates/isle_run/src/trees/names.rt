@@ -147,7 +147,7 @@ fn start_of(map: &LineMap, offset: usize) -> usize
 }
 
 /// `FILE:LINE:COLUMN` of a place; nothing where its file isn't known.
-pub(crate) fn place_text(alloc: Global, files: &Files, pos: Pos) -> Result<String, AllocError>
+pub fn place_text(alloc: Global, files: &Files, pos: Pos) -> Result<String, AllocError>
     ensures { IfOk result (λ text. string_bytes text ≡ pos_text files.now pos) }
 {
     let (Some(name), Some(map)) = (files.file_name(pos.file), files.file_line_map(pos.file)) else {
@@ -159,7 +159,7 @@ pub(crate) fn place_text(alloc: Global, files: &Files, pos: Pos) -> Result<Strin
 }
 
 /// So many levels of two spaces.
-pub(crate) fn spaces(alloc: Global, levels: usize) -> Result<String, AllocError>
+pub fn spaces(alloc: Global, levels: usize) -> Result<String, AllocError>
     ensures { IfOk result (λ text. string_bytes text ≡ indent levels) }
 {
     let mut text = String::new(alloc);

@@ -138,6 +138,20 @@ impl TableWorld {
         Ok(self.answers.contains_key(&key))
     }
 
+    /// Whether a call has an entry of its own.
+    pub fn has_entry(
+        &self,
+        alloc: Global,
+        side: Side,
+        term: &str,
+        call: &[Value],
+    ) -> Result<bool, AllocError>
+        ensures { IfOk result (λ found. IsTrue found ↔ IsSome (entry_at self.now side term.now (Some (value_list call.now)))) }
+    {
+        let key = call_key(alloc, side, term, copies(alloc, call)?)?;
+        Ok(self.answers.contains_key(&key))
+    }
+
     /// What a call is answered: by its entry, else by the term's `else`, else none.
     fn answer(
         &self,

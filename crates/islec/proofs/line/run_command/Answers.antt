@@ -13,4 +13,7 @@ returns c =
     let two = adds _ _ _ _ _ one c.depth.ensures c.in_ok-arg-2.ensures in
     let three = adds _ _ _ _ _ two c.plain.ensures c.in_ok-arg-3.ensures in
     let four = adds _ _ _ _ _ three c.steps.ensures c.in_ok-arg-4.ensures in
-    IfOk-weaker c.arg-5.result _ _ (λ new added. adds _ new _ _ _ four c.rule_files.ensures added) c.arg-5.ensures
+    let five = adds _ _ _ _ _ four c.trace.ensures c.in_ok-arg-5.ensures in
+    let six = adds _ _ _ _ _ five c.coverage.ensures c.in_ok-arg-6.ensures in
+    let seven = adds _ _ _ _ _ six c.unanswered.ensures c.in_ok-arg-7.ensures in
+    IfOk-weaker c.arg-8.result _ _ (λ new added. adds _ new _ _ _ seven c.rule_files.ensures added) c.arg-8.ensures

@@ -34,7 +34,7 @@ returns g c =
               let did = w.check-done.ensures in
               rw (w.status-is, w.writer-is, w.reader-is)
               (subst (λ (j : Job). EndsJob j files world input input old new w.conclude-status-in-Check.result) (sym w.in-Check.is) (
-                check_ends w.in-Check.terms files old (g.W.Write.contents w.check-done.new.writer) w.check-done.result w.conclude-status-in-Check.result new
+                check_ends w.in-Check.terms w.in-Check.warn files old (g.W.Write.contents w.check-done.new.writer) w.check-done.result w.conclude-status-in-Check.result new
                     w.conclude-status-in-Check.ensures did.accepted did.refused did.other did.cut did.memory,
                 refl,
               ))

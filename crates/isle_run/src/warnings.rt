@@ -1,0 +1,40 @@
+//! What a rule writer should be warned of in accepted files.
+
+mod binders;
+mod converters;
+mod extractors;
+mod messages;
+mod terms;
+mod uses;
+mod variables;
+
+use crate::program::Program;
+use crate::warnings::converters::warn_of_converters;
+use crate::warnings::extractors::warn_of_extractors;
+use crate::warnings::terms::warn_of_terms;
+use crate::warnings::variables::warn_of_rules;
+use isle_syntax::ast::Def;
+use isle_syntax::lexer::Pos;
+use std::alloc::{AllocError, Global};
+
+/// What a rule writer should be warned of, and where it stands.
+#[derive(Debug, Drop)]
+pub struct Warning {
+    pub pos: Pos,
+    pub text: String,
+}
+
+/// The warnings of the definitions that a program was compiled from, in ascending order of their positions.
+pub fn warnings(
+    alloc: Global,
+    program: &Program,
+    defs: &[Def],
+) -> Result<Vec<Warning>, AllocError> {
+    let mut found = Vec::new(alloc);
+    warn_of_rules(alloc, program, defs, &mut found)?;
+    warn_of_terms(alloc, program, defs, &mut found)?;
+    warn_of_extractors(alloc, program, defs, &mut found)?;
+    warn_of_converters(alloc, program, defs, &mut found)?;
+    found.sort_by_key(|warning: &Warning| warning.pos)?;
+    Ok(found)
+}

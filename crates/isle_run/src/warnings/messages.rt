@@ -1,0 +1,59 @@
+//! What warnings say.
+
+use crate::program::Program;
+use crate::warnings::Warning;
+use isle_syntax::ast::{Converter, Ident};
+use isle_terms::TermKind;
+use std::alloc::{AllocError, Global};
+
+/// Whether a name says by its first character that it isn't used.
+pub fn is_silent(name: &Ident) -> bool {
+    name.0.as_str().starts_with('_')
+}
+
+/// `x is not used`.
+pub fn unused(alloc: Global, name: &Ident) -> Result<Warning, AllocError> {
+    let text = name.0.as_str();
+    Ok(Warning {
+        pos: name.1,
+        text: format!(in alloc; "{text} is not used")?,
+    })
+}
+
+/// `the converter t fits nothing`.
+pub fn unfit(alloc: Global, converter: &Converter) -> Result<Warning, AllocError> {
+    let text = converter.term.0.as_str();
+    Ok(Warning {
+        pos: converter.pos,
+        text: format!(in alloc; "the converter {text} fits nothing")?,
+    })
+}
+
+/// `T.A is a variant: write (T.A)`, where a name is that of a variant's or a struct's term.
+pub fn bare(
+    alloc: Global,
+    program: &Program,
+    name: &Ident,
+) -> Result<Option<Warning>, AllocError> {
+    let Some(id) = program.terms().get_term_by_name(program.types(), name) else {
+        return Ok(None);
+    };
+    let Some(term) = program.terms().get_term(id) else {
+        return Ok(None);
+    };
+    let what = match &term.kind {
+        TermKind::EnumVariant { .. } => "variant",
+        TermKind::Struct => "struct",
+        TermKind::Decl { .. } => return Ok(None),
+    };
+    let below = if term.arg_tys.as_slice().is_empty() {
+        ""
+    } else {
+        " .."
+    };
+    let text = name.0.as_str();
+    Ok(Some(Warning {
+        pos: name.1,
+        text: format!(in alloc; "{text} is a {what}: write ({text}{below})")?,
+    }))
+}
