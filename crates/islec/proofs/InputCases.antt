@@ -1,5 +1,5 @@
 -- Worked cases: which files are standard input, what they take of it, and what is told of files that are formatted or not.
-use Rattle.std.proofs.Common.{◌≡◌, ◌∙◌, ◌∷◌, ℕ, List, [], Option, Some, None, refl, sym, ap, true, false, true≢false, codes, bytes_eq}
+use Rattle.std.proofs.Common.{◌≡◌, ◌∙◌, ◌∷◌, ◌++◌, ℕ, List, [], Option, Some, None, refl, sym, ap, true, false, true≢false, codes, bytes_eq}
 use Rattle.std.proofs.lemmas.Option.{same_Some}
 use Rattle.isle_syntax.specs.Positions.Files.{SourceFile}
 use Rattle.islec.specs.Formatting.{status_behind, told_of}
@@ -23,8 +23,10 @@ input_is_read_once : ReadsFiles true (file (codes "-") (codes "ab") ∷ file (co
 input_is_read_once = (Some [], (refl, refl), (Some [], refl, (Some [], (refl, refl), refl)))
 
 part_is_not_read : (left : Option (List ℕ)) → ReadsFiles true (file (codes "-") (codes "a") ∷ []) (Some (codes "ab")) left → ⊥
-part_is_not_read left (middle, (is, end), same) =
-    let wrong : true ≡ false = ap (λ (text : List ℕ). bytes_eq text (codes "a")) is in absurd (true≢false wrong)
+part_is_not_read left (None, (took, end), same) = took
+part_is_not_read left (Some rest, (took, end), same) =
+    let is : codes "ab" ≡ codes "a" = took ∙ ap (λ (bytes : List ℕ). codes "a" ++ bytes) end in
+    let wrong : true ≡ false = ap (λ (text : List ℕ). bytes_eq text (codes "ab")) is in absurd (true≢false wrong)
 
 file_takes_nothing : (input left : Option (List ℕ)) → ReadsFiles true (file (codes "a") (codes "ab") ∷ []) input left → left ≡ input
 file_takes_nothing input left (middle, same, also) = also ∙ same

@@ -1,7 +1,7 @@
 -- Which files are standard input, and what is read of it.
-use Rattle.std.specs.Prelude.{◌≡◌, ◌&&◌, ℕ, Bool, true, false, List, [], ◌∷◌, Option, IfSome, codes}
+use Rattle.std.specs.Prelude.{◌≡◌, ◌&&◌, ℕ, Bool, true, false, List, [], ◌∷◌, Option, codes}
 use Rattle.std.specs.Str.{bytes_eq}
-use Rattle.std.specs.Io.KnownBytes.{IsAtEnd}
+use Rattle.std.specs.Io.KnownBytes.{Consumes, IsAtEnd}
 use Rattle.isle_syntax.specs.Positions.Files.{SourceFile}
 
 -- whether a file of this name is standard input: its name is `-`, where that is how it is read
@@ -10,7 +10,7 @@ is_input reads name = reads && bytes_eq name (codes "-")
 
 -- a text that is standard input is all that is left of it, and nothing is left then; for any other it stays as it is
 abbrev pub ReadsText : Bool → (text : List ℕ) → (input left : Option (List ℕ)) → Type 0
-ReadsText true text input left = IfSome input (λ bytes. text ≡ bytes) × IsAtEnd left
+ReadsText true text input left = Consumes input left text × IsAtEnd left
 ReadsText false text input left = left ≡ input
 
 -- what is read of standard input for a file

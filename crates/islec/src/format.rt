@@ -65,7 +65,6 @@ fn push_told(
     file: usize,
     print: &str,
 ) -> Result<(), AllocError>
-    requires { file < length files.now }
     ensures { OnOk result (IfSome (slice_get files.now file) (λ from.
         string_bytes told.new ≡ string_bytes told.old ++ told_of unformatted from print.now)) }
 {

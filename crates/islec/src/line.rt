@@ -57,7 +57,7 @@ impl Job {
 /// Why words gave no command.
 #[derive(Drop)]
 pub enum LineFault {
-    /// The words are no command, or ask for help.
+    /// The words are no command, or ask for help or the version.
     Usage(Error),
     Memory(AllocError),
 }
@@ -134,7 +134,7 @@ fn run_command<'a>(alloc: Global) -> Result<Command<'a>, AllocError>
         .arg(trace(alloc))?
         .arg(coverage(alloc))?
         .arg(unanswered(alloc))?
-        .arg(rule_files(alloc))
+        .arg(rule_files(alloc, "The rule files, compiled together in this order"))
 }
 
 fn depth<'a>(alloc: Global) -> Arg<'a>
@@ -208,7 +208,10 @@ fn check_command<'a>(alloc: Global) -> Result<Command<'a>, AllocError>
         .about("Tells whether the files are accepted, or what is wrong with them")
         .arg(terms)?
         .arg(warn)?
-        .arg(rule_files(alloc))
+        .arg(rule_files(
+            alloc,
+            "The rule files, compiled together in this order; - is standard input",
+        ))
 }
 
 fn blocks_command<'a>(alloc: Global) -> Result<Command<'a>, AllocError>
@@ -227,15 +230,18 @@ fn blocks_command<'a>(alloc: Global) -> Result<Command<'a>, AllocError>
         .about("Prints the trees of tests that the rules become")
         .arg(term)?
         .arg(dot)?
-        .arg(rule_files(alloc))
+        .arg(rule_files(
+            alloc,
+            "The rule files, compiled together in this order; - is standard input",
+        ))
 }
 
-fn rule_files<'a>(alloc: Global) -> Arg<'a>
+fn rule_files<'a>(alloc: Global, help: &'a str) -> Arg<'a>
     ensures { IsArgument the_files result }
 {
     Arg::new(alloc, "file")
         .value_name("FILE")
-        .help("The rule files, taken together in this order")
+        .help(help)
         .action(ArgAction::Append)
         .num_args(1..)
         .required(true)
@@ -257,10 +263,13 @@ fn fmt_command<'a>(alloc: Global) -> Result<Command<'a>, AllocError>
         )
         .action(ArgAction::SetTrue);
     Command::new(alloc, "fmt")
-        .about("Prints files formatted, without their comments")
+        .about("Prints files formatted; keeps neither comments nor the radix of numbers")
         .arg(width)?
         .arg(unformatted)?
-        .arg(rule_files(alloc))
+        .arg(rule_files(
+            alloc,
+            "The files, printed in this order; - is standard input",
+        ))
 }
 
 fn run_line(alloc: Global, matches: &ArgMatches<'_>) -> Result<Line, AllocError>

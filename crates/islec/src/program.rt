@@ -24,7 +24,7 @@ use std::{env, fs, io};
 /// Why the command was not begun.
 #[derive(Drop)]
 enum Unbegun {
-    /// The words are no command, or ask for help.
+    /// The words are no command, or ask for help or the version.
     Usage(clap::Error),
     /// A word isn't UTF-8.
     NotText,
@@ -84,9 +84,8 @@ pub fn run<R: Env + Files + Input + Print + AllocGlobal>(rt: &R) -> u8
     }
 }
 
-/// Reads the files that words name, all before anything is compiled, and of which one named `-` is the input where that has no queries, does the
-/// job that they say, and gives the exit status; or tells
-/// why it can't begin.
+/// Reads the files that words name, all before anything is compiled, does the job that they say, and gives the exit status; or tells why it can't
+/// begin. A file named `-` is the input, where that has no queries.
 pub fn command<R: Files + AllocGlobal, I: BufRead, W: Write>(
     rt: &R,
     words: &[String],
