@@ -159,24 +159,33 @@ def shown(path):
     return "\n".join(it for it in kept if it).encode()
 
 
-def part_of_sum(crate, path):
-    """Returns what counts of a file: of the crate itself all. A body is refused for a goal that its contract and those of the functions which it
-    calls make false, whatever their bodies and proofs are: so of a crate below count its definitions and what is seen of its code."""
-    if path.startswith((f"crates/{crate}/", "tests/edits/", "tools/")) or "/specs/" in path:
-        return text_of(path)
-    return shown(path) if path.endswith(".rt") else b""
+def cited(text):
+    """Returns the files of definitions of this repository that a text names."""
+    found = set()
+    for crate, path in re.findall(r"Rattle\.(\w+)\.specs\.([\w.]+)", text.decode()):
+        parts = path.rstrip(".").split(".")
+        names = [f"crates/{crate}/specs/{'/'.join(parts[:end])}.antt" for end in range(len(parts), 0, -1)]
+        found.update([it for it in names if os.path.isfile(it)][:1])
+    return found
 
 
 def sum_of(crate, below):
-    """Returns a sum of all that the answers hang on."""
+    """Returns a sum of all that the answers hang on: of the crate itself all. A body is refused for a goal that its contract and those of the
+    functions which it calls make false, whatever their bodies and proofs are: so of the crates below count what is seen of their code, and the
+    definitions that this, or the crate itself, stands on."""
+    folders = [f"crates/{crate}/{part}" for part in PARTS] + [f"tests/edits/{crate}"]
+    texts = {it: text_of(it) for it in ["tools/edits.py", *(it for folder in folders for it in files_below(folder))]}
+    texts |= {it: shown(it) for name in below[crate] for it in files_below(f"crates/{name}/src")}
+    left = [it for text in [*texts.values()] for it in cited(text)]
+    while left:
+        path = left.pop()
+        if path not in texts:
+            texts[path] = text_of(path)
+            left += cited(texts[path])
     made = hashlib.sha256(logic().encode())
-    folders = [f"crates/{name}/{part}" for name in [crate, *sorted(below[crate])] for part in PARTS]
-    files = [it for folder in [*folders, f"tests/edits/{crate}"] for it in files_below(folder)]
     made.update(" ".join([crate, *below[crate]]).encode() + b"\n")
-    for path in ["tools/edits.py", *files]:
-        counts = part_of_sum(crate, path)
-        if counts:
-            made.update(path.encode() + b"\n" + counts)
+    for path in sorted(it for it in texts if texts[it]):
+        made.update(path.encode() + b"\n" + texts[path])
     return made.hexdigest()
 
 
