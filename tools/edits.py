@@ -11,7 +11,7 @@ An answer is known by the file of its function, or by its name alone where no ot
 What isn't told apart so, as a constant, is tried once more by itself: then a goal or an answer of any function counts.
 With --rooms=N checks of N rounds go on side by side, each in a copy of its own, which wants 2 to 4 GB.
 
-tests/edits/tried.txt has for each crate a sum of all that the answers hang on: the crate and those below it, its edits, this file,
+tests/edits/tried.txt has for each crate a sum of all that the answers hang on: the crate, what it sees of those below it, its edits, this file,
 and the program logic that 'rt version' names. The kit's own name is left out: machines have kits of one logic under several names, and
 what a body breaks is false under each. Where that sum is still the crate's, its edits were all refused already, and are tried
 only with --all. A check goes on from what the last 'rt check' of the crate kept, where there is such work.
@@ -113,14 +113,79 @@ def logic():
     return found[1] if found else sys.exit(f"rt version names no program logic: {said.strip()}")
 
 
+def end_of_head(rows, at, margin):
+    """Returns where the head of a function ends: at the brace that opens its body, or at its end where it has none."""
+    while not rows[at].endswith((";", "{}")) and rows[at] != margin + "{" and not (rows[at].endswith(" {") and re.match(margin + r"\S", rows[at])):
+        at += 1
+    return at
+
+
+def heads(rows):
+    """Returns the lines without comments, the bodies of functions, and the functions that other crates can't call."""
+    kept, at, of_trait = [], 0, False
+    while at < len(rows):
+        row = rows[at]
+        found = re.match(r"(\s*)(pub(\(\w+\))? )?(const )?fn \w", row)
+        of_trait = " for " in row if row.startswith("impl") else of_trait and row != "}"
+        if found is None:
+            kept += [] if re.match(r"\s*//", row) else [row]
+        else:
+            first, at = at, end_of_head(rows, at, found[1])
+            is_seen = found[2] == "pub " or rows[at].endswith(";") or (of_trait and found[1])
+            kept += rows[first : at + 1] if is_seen else []
+            at = at if rows[at].endswith((";", "{}")) else rows.index(found[1] + "}", at)
+        at += 1
+    return kept
+
+
+def needed(row, words):
+    """Returns an import with those of its names alone that are among some words, or None where none is."""
+    found = re.match(r"(\s*(?:pub )?(?:ghost )?use )(.*?)(?:\{(.*)\})?;$", row)
+    if found is None or row.lstrip().startswith("pub "):
+        return row
+    names = [it.strip() for it in (found[3] or re.split(r"::|\.", found[2])[-1]).split(",")]
+    names = [it for it in names if it.split()[-1] in words]
+    return f"{found[1]}{found[2]}{names}" if names else None
+
+
+def shown(path):
+    """Returns what other crates see of a source file: types, traits, and the heads of functions that they can call, with the contracts. Private
+    fields and modules, and imports of names that nothing of this has, are left out; and all of a file that has nothing for other crates."""
+    kept = [it for it in heads(text_of(path).decode().split("\n")) if not re.match(r"\s+\w+: \S.*,$|(pub\(\w+\) )?mod \w+;$", it)]
+    if not any(re.match(r"\s*pub |impl.* for ", it) for it in kept):
+        return b""
+    words = {word for it in kept if not re.match(r"\s*(ghost )?use ", it) for word in re.findall(r"[^\s(){}.,;:]+", it)}
+    kept = [needed(it, words) for it in kept if it]
+    return "\n".join(it for it in kept if it).encode()
+
+
+def cited(text):
+    """Returns the files of definitions of this repository that a text names."""
+    found = set()
+    for crate, path in re.findall(r"Rattle\.(\w+)\.specs\.([\w.]+)", text.decode()):
+        parts = path.rstrip(".").split(".")
+        names = [f"crates/{crate}/specs/{'/'.join(parts[:end])}.antt" for end in range(len(parts), 0, -1)]
+        found.update([it for it in names if os.path.isfile(it)][:1])
+    return found
+
+
 def sum_of(crate, below):
-    """Returns a sum of all that the answers hang on. Proofs of the crates below count: those of this crate import lemmas from them."""
+    """Returns a sum of all that the answers hang on: of the crate itself all. A body is refused for a goal that its contract and those of the
+    functions which it calls make false, whatever their bodies and proofs are: so of the crates below count what is seen of their code, and the
+    definitions that this, or the crate itself, stands on."""
+    folders = [f"crates/{crate}/{part}" for part in PARTS] + [f"tests/edits/{crate}"]
+    texts = {it: text_of(it) for it in ["tools/edits.py", *(it for folder in folders for it in files_below(folder))]}
+    texts |= {it: shown(it) for name in below[crate] for it in files_below(f"crates/{name}/src")}
+    left = [it for text in [*texts.values()] for it in cited(text)]
+    while left:
+        path = left.pop()
+        if path not in texts:
+            texts[path] = text_of(path)
+            left += cited(texts[path])
     made = hashlib.sha256(logic().encode())
-    folders = [f"crates/{name}/{part}" for name in [crate, *sorted(below[crate])] for part in PARTS]
-    files = [it for folder in [*folders, f"tests/edits/{crate}"] for it in files_below(folder)]
     made.update(" ".join([crate, *below[crate]]).encode() + b"\n")
-    for path in ["tools/edits.py", *files]:
-        made.update(path.encode() + b"\n" + text_of(path))
+    for path in sorted(it for it in texts if texts[it]):
+        made.update(path.encode() + b"\n" + texts[path])
     return made.hexdigest()
 
 
