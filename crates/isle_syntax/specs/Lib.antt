@@ -10,5 +10,7 @@ pub mod Reading
 pub mod Positions
 -- What errors name of source files, and what they print.
 pub mod Errors
+-- refusals that say more than others
+pub mod Told
 -- `Seq`, `Boxed` and `Shared` as types that may hold the type that holds them
 pub mod formers

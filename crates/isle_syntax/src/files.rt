@@ -57,7 +57,7 @@ impl LineMap {
 
 impl LineMap {
     // Where the line of an offset starts.
-    fn start(&self, p: usize) -> usize
+    pub(crate) fn start(&self, p: usize) -> usize
         ensures value { result ≡ slice_index (0 ∷ self.now) (starts_up_to self.now p) }
         ensures below { result ≤ p }
     {

@@ -14,6 +14,7 @@ use crate::error::{Error, Span};
 use crate::files::Files;
 use crate::gap::{Lead, after_char, after_gap, lead_of};
 use crate::number::number;
+use crate::parser::unclosed::Source;
 use crate::symbol::symbol;
 pub use crate::symbol::{is_const_name, is_ident, is_name, is_pname, is_symbol};
 use crate::text::Text;
@@ -111,6 +112,7 @@ pub struct Lexer<'src> {
     alloc: Global,
     file: usize,
     size: usize,
+    text: &'src str,
     rest: &'src str,
     start: usize,
     lookahead: Lookahead,
@@ -145,6 +147,7 @@ impl<'src> Lexer<'src> {
             alloc,
             file,
             size,
+            text: src,
             rest,
             start,
             lookahead,
@@ -222,6 +225,15 @@ impl<'src> Lexer<'src> {
         ensures remaining { IsRemaining self.now }
     {
         matches!(&self.lookahead, Lookahead::End)
+    }
+
+    /// The whole text, for messages.
+    pub(crate) fn source(&self) -> Source<'src> {
+        Source {
+            alloc: self.alloc,
+            file: self.file,
+            text: self.text,
+        }
     }
 
     /// The allocator that the tokens are made on.

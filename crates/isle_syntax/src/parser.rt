@@ -1,19 +1,22 @@
 ghost use Rattle.std.specs.Prelude.{◌≡◌, All, IfOk, IfErr};
 ghost use Rattle.isle_syntax.specs.Positions.Printable.{IsIn};
-ghost use Rattle.isle_syntax.specs.Errors.{IfKind, IsOfKinds, RefusalAt, parse_error, size_error};
+ghost use Rattle.isle_syntax.specs.Tokens.LexerCalls.{IsRemaining};
+ghost use Rattle.isle_syntax.specs.Errors.{IfFault, IfKind, IsOfKinds, RefusalAt, parse_error, size_error};
 ghost use Rattle.isle_syntax.specs.Positions.DefPositions.{DefAt};
 ghost use Rattle.isle_syntax.specs.Trees.MacroArgs.{HasNoMacroArgs};
 ghost use Rattle.isle_syntax.specs.Positions.RuleOrder.{RulesAscend};
-ghost use Rattle.isle_syntax.specs.Grammar.Verdict.{IsSpelt, IsSpeltWithoutPos, FaultAt, DeepAt};
+ghost use Rattle.isle_syntax.specs.Grammar.Verdict.{IsSpelt, IsSpeltWithoutPos, IsFaultOf, FaultAt, DeepAt};
 
 mod definitions;
 mod exprs;
 mod items;
+mod messages;
 mod patterns;
 mod rules;
 mod terms;
 mod tokens;
 mod types;
+pub(crate) mod unclosed;
 
 use crate::Refusal;
 use crate::ast::Def;
@@ -36,6 +39,28 @@ pub fn parse(lexer: Lexer<'_>) -> Result<Vec<Def>, Refusal<Error>>
     ensures refused { IfErr result (RefusalAt (IsIn lexer.entry.source)) }
     ensures no_macro_args { IfOk result (λ defs. All HasNoMacroArgs defs.items) }
     ensures ascending { IfOk result (λ defs. RulesAscend defs.items) }
+{
+    parse_told(lexer)
+}
+
+/// The same, where a parse error names the definition that isn't closed, if one is open.
+fn parse_told(lexer: Lexer<'_>) -> Result<Vec<Def>, Refusal<Error>>
+    ensures spelt { IfOk result (λ defs. IsSpelt lexer.entry defs.items) }
+    ensures fault { IfErr result (λ refusal. IfFault refusal (IsFaultOf lexer.entry)) }
+    ensures remaining { IsRemaining lexer.entry }
+{
+    let source = lexer.source();
+    match parse_untold(lexer) {
+        Ok(defs) => Ok(defs),
+        Err(refusal) => Err(source.tell(refusal)),
+    }
+}
+
+/// The same, where a parse error says what was expected and what stands there.
+fn parse_untold(lexer: Lexer<'_>) -> Result<Vec<Def>, Refusal<Error>>
+    ensures spelt { IfOk result (λ defs. IsSpelt lexer.entry defs.items) }
+    ensures fault { IfErr result (λ refusal. IfFault refusal (IsFaultOf lexer.entry)) }
+    ensures remaining { IsRemaining lexer.entry }
 {
     Parser::new(lexer).parse_defs()
 }

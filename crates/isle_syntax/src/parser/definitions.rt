@@ -45,7 +45,7 @@ impl<'src> Parser<'src> {
             Keyword::Extern => self.parse_extern_def(depth_left),
             Keyword::Convert => self.parse_converter_def(depth_left),
             Keyword::Kept => self.parse_kept_def(depth_left),
-            _ => Err(self.unexpected("expected a definition")),
+            _ => Err(self.unexpected("a definition")),
         }
     }
 

@@ -29,10 +29,10 @@ impl<'src> Parser<'src> {
             Kind::Const => self.parse_expr_const(),
             Kind::Wildcard => self.parse_expr_var(),
             Kind::Name => self.parse_expr_var(),
-            Kind::End => Err(self.unexpected("expected an expression")),
-            Kind::Close => Err(self.unexpected("expected an expression")),
-            Kind::At => Err(self.unexpected("expected an expression")),
-            Kind::Other => Err(self.unexpected("expected an expression")),
+            Kind::End => Err(self.unexpected("an expression")),
+            Kind::Close => Err(self.unexpected("an expression")),
+            Kind::At => Err(self.unexpected("an expression")),
+            Kind::Other => Err(self.unexpected("an expression")),
         }
     }
 
@@ -50,7 +50,7 @@ impl<'src> Parser<'src> {
     fn parse_expr_bool(&mut self, val: bool) -> Result<Expr, Refusal<Error>>
         ensures { Gives expr_of self.old self.new result (read_map (λ x. expr_bool val x.1) (any_symbol self.old.left)) }
     {
-        let name = self.symbol("expected an expression")?;
+        let name = self.symbol("an expression")?;
         Ok(Expr::ConstBool { val, pos: name.1 })
     }
 
@@ -67,7 +67,7 @@ impl<'src> Parser<'src> {
     fn parse_expr_var(&mut self) -> Result<Expr, Refusal<Error>>
         ensures { Gives expr_of self.old self.new result (read_map (λ x. expr_var x x.1) (any_symbol self.old.left)) }
     {
-        let name = self.symbol("expected an expression")?;
+        let name = self.symbol("an expression")?;
         let pos = name.1;
         Ok(Expr::Var { name, pos })
     }
@@ -103,7 +103,7 @@ impl<'src> Parser<'src> {
         ensures { Gives expr_of self.old self.new result
             (read_map (λ x. expr_term x.0 (expr_trees x.1) pos) (seq identifier (rest_of (expr depth_left)) self.old.left)) }
     {
-        let sym = self.ident()?;
+        let sym = self.ident("a term's name")?;
         let args = self.parse_exprs(depth_left)?;
         let args = Exprs::new(args);
         Ok(Expr::Term { sym, args, pos })
@@ -161,8 +161,8 @@ impl<'src> Parser<'src> {
         ensures { Gives binding_of self.old self.new result (let_binding depth_left self.old.left) }
     {
         let pos = self.open(depth_left)?;
-        let var = self.ident()?;
-        let ty = self.ident()?;
+        let var = self.ident("a variable's name")?;
+        let ty = self.ident("a type's name")?;
         let val = self.parse_expr_closed(depth_left - 1)?;
         Ok(LetDef { var, ty, val, pos })
     }

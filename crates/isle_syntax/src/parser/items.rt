@@ -18,8 +18,8 @@ impl<'src> Parser<'src> {
     {
         match self.kind()? {
             Kind::Open => self.parse_item_list(depth_left),
-            Kind::Close => Err(self.unexpected("expected an item")),
-            Kind::End => Err(self.unexpected("expected an item")),
+            Kind::Close => Err(self.unexpected("an item")),
+            Kind::End => Err(self.unexpected("an item")),
             Kind::At => Ok(KeptItem::At {
                 pos: self.at_sign()?,
             }),
@@ -27,7 +27,7 @@ impl<'src> Parser<'src> {
                 (pos, Literal::Int(val)) => Ok(KeptItem::Int { val, pos }),
                 (pos, Literal::Big(val)) => Ok(KeptItem::Big { val, pos }),
             },
-            _ => Ok(KeptItem::Symbol(self.symbol("expected an item")?)),
+            _ => Ok(KeptItem::Symbol(self.symbol("an item")?)),
         }
     }
 

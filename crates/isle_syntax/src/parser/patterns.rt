@@ -51,10 +51,10 @@ impl<'src> Parser<'src> {
             Kind::Const => self.parse_pattern_const(),
             Kind::Wildcard => self.parse_pattern_wildcard(),
             Kind::Name => self.parse_pattern_var(),
-            Kind::End => Err(self.unexpected("expected a pattern")),
-            Kind::Close => Err(self.unexpected("expected a pattern")),
-            Kind::At => Err(self.unexpected("expected a pattern")),
-            Kind::Other => Err(self.unexpected("expected a pattern")),
+            Kind::End => Err(self.unexpected("a pattern")),
+            Kind::Close => Err(self.unexpected("a pattern")),
+            Kind::At => Err(self.unexpected("a pattern")),
+            Kind::Other => Err(self.unexpected("a pattern")),
         }
     }
 
@@ -72,7 +72,7 @@ impl<'src> Parser<'src> {
     fn parse_pattern_bool(&mut self, val: bool) -> Result<Pattern, Refusal<Error>>
         ensures { Gives pattern_of self.old self.new result (read_map (λ x. pattern_bool val x.1) (any_symbol self.old.left)) }
     {
-        let name = self.symbol("expected a pattern")?;
+        let name = self.symbol("a pattern")?;
         Ok(Pattern::ConstBool { val, pos: name.1 })
     }
 
@@ -89,7 +89,7 @@ impl<'src> Parser<'src> {
     fn parse_pattern_wildcard(&mut self) -> Result<Pattern, Refusal<Error>>
         ensures { Gives pattern_of self.old self.new result (read_map (λ x. pattern_wildcard x.1) (any_symbol self.old.left)) }
     {
-        let name = self.symbol("expected a pattern")?;
+        let name = self.symbol("a pattern")?;
         Ok(Pattern::Wildcard { pos: name.1 })
     }
 
@@ -97,7 +97,7 @@ impl<'src> Parser<'src> {
     fn parse_pattern_var(&mut self) -> Result<Pattern, Refusal<Error>>
         ensures { Gives pattern_of self.old self.new result (read_map (λ x. pattern_var x x.1) (any_symbol self.old.left)) }
     {
-        let var = self.symbol("expected a pattern")?;
+        let var = self.symbol("a pattern")?;
         let pos = var.1;
         Ok(Pattern::Var { var, pos })
     }
@@ -138,9 +138,9 @@ impl<'src> Parser<'src> {
         ensures { Gives (λ x. x) self.old self.new result (symbol_of is_head self.old.left) }
     {
         if !self.is_head()? {
-            return Err(self.unexpected("expected a term"));
+            return Err(self.unexpected("a term's name"));
         }
-        self.symbol("expected a term")
+        self.symbol("a term's name")
     }
 
     /// Whether the word `and` or an identifier stands next; a refusal where what stands next is no token.

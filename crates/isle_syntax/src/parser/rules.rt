@@ -41,7 +41,7 @@ impl<'src> Parser<'src> {
         if !self.is_ident()? {
             return Ok(None);
         }
-        Ok(Some(self.ident()?))
+        Ok(Some(self.rule_name()?))
     }
 
     /// Takes a rule's priority where one stands next.

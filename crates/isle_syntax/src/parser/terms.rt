@@ -44,10 +44,10 @@ impl<'src> Parser<'src> {
     ) -> Result<(Ident, Vec<Ident>, Ident), Refusal<Error>>
         ensures { Gives (λ x. (x.0, x.1.items, x.2)) self.old self.new result (read_map signature_parts (signature depth_left self.old.left)) }
     {
-        let term = self.ident()?;
-        let _pos = self.open(depth_left)?;
-        let arg_tys = self.parse_idents()?;
-        let ret_ty = self.last_ident()?;
+        let term = self.ident("a term's name")?;
+        let _pos = self.open_arguments(&term, depth_left)?;
+        let arg_tys = self.parse_idents("a type's name or ')'")?;
+        let ret_ty = self.last_ident("a type's name")?;
         Ok((term, arg_tys, ret_ty))
     }
 
@@ -56,8 +56,8 @@ impl<'src> Parser<'src> {
         ensures { Gives (λ x. x) self.old self.new result (extractor depth_left self.old.left) }
     {
         let pos = self.open(depth_left)?;
-        let term = self.ident()?;
-        let args = self.parse_idents()?;
+        let term = self.ident("a term's name")?;
+        let args = self.parse_idents("an argument's name or ')'")?;
         let template = self.parse_pattern(depth_left)?;
         self.close()?;
         Ok(Extractor {
@@ -76,7 +76,7 @@ impl<'src> Parser<'src> {
             Keyword::Constructor => self.parse_extern_constructor(),
             Keyword::Extractor => self.parse_extern_extractor(),
             Keyword::Const => self.parse_extern_const(),
-            _ => Err(self.unexpected("expected `constructor`, `extractor` or `const`")),
+            _ => Err(self.unexpected("constructor, extractor or const")),
         }
     }
 
@@ -84,7 +84,7 @@ impl<'src> Parser<'src> {
         ensures { Gives (λ x. x) self.old self.new result (extern_on keyword.Constructor self.old.left) }
     {
         let pos = self.word("constructor")?;
-        let (term, func) = self.last_idents()?;
+        let (term, func) = self.last_idents("a term's name", "the host's name")?;
         Ok(Extern::Constructor { term, func, pos })
     }
 
@@ -93,7 +93,7 @@ impl<'src> Parser<'src> {
     {
         let pos = self.word("extractor")?;
         let infallible = self.take_word("infallible")?;
-        let (term, func) = self.last_idents()?;
+        let (term, func) = self.last_idents("a term's name", "the host's name")?;
         Ok(Extern::Extractor {
             term,
             func,
@@ -107,7 +107,7 @@ impl<'src> Parser<'src> {
     {
         let pos = self.word("const")?;
         let name = self.constant()?;
-        let ty = self.last_ident()?;
+        let ty = self.last_ident("a type's name")?;
         Ok(Extern::Const { name, ty, pos })
     }
 
@@ -115,9 +115,9 @@ impl<'src> Parser<'src> {
     pub(crate) fn parse_converter(&mut self) -> Result<Converter, Refusal<Error>>
         ensures { Gives (λ x. x) self.old self.new result (converter self.old.left) }
     {
-        let inner_ty = self.ident()?;
+        let inner_ty = self.ident("a type's name")?;
         let pos = inner_ty.1;
-        let (outer_ty, term) = self.last_idents()?;
+        let (outer_ty, term) = self.last_idents("a type's name", "a term's name")?;
         Ok(Converter {
             term,
             inner_ty,
@@ -145,9 +145,9 @@ impl<'src> Parser<'src> {
         ensures { Gives (λ x. x) self.old self.new result (symbol_of is_kept_word self.old.left) }
     {
         if !self.is_kept_next()? {
-            return Err(self.unexpected("expected a definition"));
+            return Err(self.unexpected("a definition"));
         }
-        self.symbol("expected a definition")
+        self.symbol("a definition")
     }
 
     /// Whether the word of a kept definition stands next; a refusal where what stands next is no token.

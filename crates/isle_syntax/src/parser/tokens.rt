@@ -17,6 +17,7 @@ use crate::gap::after_char;
 use crate::kind::{Keyword, Kind, Literal, is_const, keyword_in, kind_of};
 use crate::lexer::{Pos, Token};
 use crate::parser::Parser;
+use crate::parser::messages::{expected, in_order};
 use crate::symbol::is_ident;
 use crate::text::Text;
 use std::alloc::{AllocError, Global};
@@ -41,8 +42,11 @@ impl<'src> Parser<'src> {
         ensures { RefusesAt self.now self.now result (at_fault self.now.left) }
     {
         let span = Span::at(self.pos());
-        match Text::from_str(self.allocator(), wanted) {
-            Ok(msg) => Refusal::Fault(Error::ParseError { msg, span }),
+        match expected(self.allocator(), wanted, self.lexer.peek()) {
+            Ok(msg) => Refusal::Fault(Error::ParseError {
+                msg: Text::new(msg),
+                span,
+            }),
             Err(e) => Refusal::Memory(e),
         }
     }
@@ -68,7 +72,7 @@ impl<'src> Parser<'src> {
             return Ok(kind_of(token));
         }
         match self.lexer.next()? {
-            Some(_) => Err(self.unexpected("expected a token")),
+            Some(_) => Err(self.unexpected("a token")),
             None => Ok(Kind::End),
         }
     }
@@ -106,7 +110,7 @@ impl<'src> Parser<'src> {
     {
         match self.lexer.next()? {
             Some(token) => Ok(token),
-            None => Err(self.unexpected("expected a token")),
+            None => Err(self.unexpected("a token")),
         }
     }
 
@@ -118,7 +122,22 @@ impl<'src> Parser<'src> {
         match self.kind()? {
             Kind::Open if depth_left == 0 => Err(self.too_deep()),
             Kind::Open => Ok(self.take()?.0),
-            _ => Err(self.unexpected("expected `(`")),
+            _ => Err(self.unexpected("'('")),
+        }
+    }
+
+    /// Takes the opening parenthesis behind the name of a declared term. A refusal where that is a flag says the flags' order.
+    pub(crate) fn open_arguments(
+        &mut self,
+        term: &Ident,
+        depth_left: usize,
+    ) -> Result<Pos, Refusal<Error>>
+        ensures opened { Gives (λ p. p) self.old self.new result (opened_within depth_left self.old.left) }
+        ensures some_depth_left { IfOk result (λ p. 0 < depth_left) }
+    {
+        match self.open(depth_left) {
+            Ok(pos) => Ok(pos),
+            Err(refusal) => Err(in_order(refusal, term)),
         }
     }
 
@@ -131,7 +150,7 @@ impl<'src> Parser<'src> {
                 let _close = self.take()?;
                 Ok(())
             }
-            _ => Err(self.unexpected("expected `)`")),
+            _ => Err(self.unexpected("')'")),
         }
     }
 
@@ -239,31 +258,42 @@ impl<'src> Parser<'src> {
         }
     }
 
-    /// Takes an identifier.
-    pub(crate) fn ident(&mut self) -> Result<Ident, Refusal<Error>>
+    /// Takes an identifier, of which a message says what is wanted.
+    pub(crate) fn ident(&mut self, wanted: &str) -> Result<Ident, Refusal<Error>>
         ensures { Gives (λ x. x) self.old self.new result (identifier self.old.left) }
     {
         if !self.is_ident()? {
-            return Err(self.unexpected("expected an identifier"));
+            return Err(self.unexpected(wanted));
         }
-        self.symbol("expected an identifier")
+        self.symbol(wanted)
+    }
+
+    /// Takes an identifier, the name of a rule.
+    pub(crate) fn rule_name(&mut self) -> Result<Ident, Refusal<Error>>
+        ensures { Gives (λ x. x) self.old self.new result (identifier self.old.left) }
+    {
+        self.ident("a rule's name")
     }
 
     /// Takes an identifier and the closing parenthesis behind it.
-    pub(crate) fn last_ident(&mut self) -> Result<Ident, Refusal<Error>>
+    pub(crate) fn last_ident(&mut self, wanted: &str) -> Result<Ident, Refusal<Error>>
         ensures { Gives (λ x. (x, tt)) self.old self.new result (seq identifier closed self.old.left) }
     {
-        let ident = self.ident()?;
+        let ident = self.ident(wanted)?;
         self.close()?;
         Ok(ident)
     }
 
     /// Takes two identifiers and the closing parenthesis behind them.
-    pub(crate) fn last_idents(&mut self) -> Result<(Ident, Ident), Refusal<Error>>
+    pub(crate) fn last_idents(
+        &mut self,
+        wanted: &str,
+        behind: &str,
+    ) -> Result<(Ident, Ident), Refusal<Error>>
         ensures { Gives (λ x. (x.0, (x.1, tt))) self.old self.new result (seq identifier (seq identifier closed) self.old.left) }
     {
-        let first = self.ident()?;
-        let second = self.last_ident()?;
+        let first = self.ident(wanted)?;
+        let second = self.last_ident(behind)?;
         Ok((first, second))
     }
 
@@ -273,7 +303,7 @@ impl<'src> Parser<'src> {
     {
         match self.kind()? {
             Kind::At => Ok(self.take()?.0),
-            _ => Err(self.unexpected("expected `@`")),
+            _ => Err(self.unexpected("'@'")),
         }
     }
 
@@ -282,12 +312,12 @@ impl<'src> Parser<'src> {
         ensures { Gives (λ x. (x.0, literal_of x.1)) self.old self.new result (integer self.old.left) }
     {
         if !self.is_int()? {
-            return Err(self.unexpected("expected an integer"));
+            return Err(self.unexpected("an integer"));
         }
         match self.take()? {
             (pos, Token::Int(val)) => Ok((pos, Literal::Int(val))),
             (pos, Token::Big(val)) => Ok((pos, Literal::Big(val))),
-            _ => Err(self.unexpected("expected an integer")),
+            _ => Err(self.unexpected("an integer")),
         }
     }
 
@@ -309,9 +339,9 @@ impl<'src> Parser<'src> {
         ensures { Gives (λ x. x) self.old self.new result (constant self.old.left) }
     {
         if !self.is_const()? {
-            return Err(self.unexpected("expected a constant"));
+            return Err(self.unexpected("a constant"));
         }
-        let name = self.symbol("expected a constant")?;
+        let name = self.symbol("a constant")?;
         Ok(Ident(self.after_dollar(name.0.as_str())?, name.1))
     }
 

@@ -19,7 +19,7 @@ impl<'src> Parser<'src> {
     pub(crate) fn parse_type(&mut self, depth_left: usize) -> Result<Type, Refusal<Error>>
         ensures { Gives (λ x. x) self.old self.new result (type_def depth_left self.old.left) }
     {
-        let name = self.ident()?;
+        let name = self.ident("a type's name")?;
         let pos = name.1;
         let (is_extern, is_nodebug, ty) = self.parse_marked(depth_left)?;
         self.close()?;
@@ -71,7 +71,7 @@ impl<'src> Parser<'src> {
         match self.keyword()? {
             Keyword::Primitive => {
                 self.says("primitive")?;
-                let name = self.last_ident()?;
+                let name = self.last_ident("the host's name")?;
                 Ok(TypeValue::Primitive(name, pos))
             }
             Keyword::Enum => {
@@ -84,7 +84,7 @@ impl<'src> Parser<'src> {
                 let fields = self.parse_type_fields(depth_left)?;
                 Ok(TypeValue::Struct(fields, pos))
             }
-            _ => Err(self.unexpected("expected `primitive`, `enum` or `struct`")),
+            _ => Err(self.unexpected("primitive, enum or struct")),
         }
     }
 
@@ -103,7 +103,7 @@ impl<'src> Parser<'src> {
         ensures { Gives (λ x. x) self.old self.new result (variant depth_left self.old.left) }
     {
         if self.is_symbol()? {
-            let name = self.ident()?;
+            let name = self.ident("a variant's name")?;
             let pos = name.1;
             return Ok(Variant {
                 name,
@@ -112,7 +112,7 @@ impl<'src> Parser<'src> {
             });
         }
         let pos = self.open(depth_left)?;
-        let name = self.ident()?;
+        let name = self.ident("a variant's name")?;
         let fields = self.parse_type_fields(depth_left - 1)?;
         Ok(Variant { name, fields, pos })
     }
@@ -148,7 +148,7 @@ impl<'src> Parser<'src> {
         ensures { Gives (λ x. x) self.old self.new result (field depth_left self.old.left) }
     {
         let pos = self.open(depth_left)?;
-        let (name, ty) = self.last_idents()?;
+        let (name, ty) = self.last_idents("a field's name", "a type's name")?;
         Ok(StructField { name, ty, pos })
     }
 
@@ -158,7 +158,7 @@ impl<'src> Parser<'src> {
     {
         let mut fields = Vec::new(self.allocator());
         'types: while !self.take_close()? {
-            let ty = self.ident()?;
+            let ty = self.ident("a type's name or ')'")?;
             let index = fields.len();
             let pos = ty.1;
             fields.push(TupleField { index, ty, pos })?;
@@ -172,12 +172,12 @@ impl<'src> Parser<'src> {
     }
 
     /// The identifiers up to the closing parenthesis.
-    pub(crate) fn parse_idents(&mut self) -> Result<Vec<Ident>, Refusal<Error>>
+    pub(crate) fn parse_idents(&mut self, wanted: &str) -> Result<Vec<Ident>, Refusal<Error>>
         ensures { Gives (λ v. v.items) self.old self.new result (rest_of identifier self.old.left) }
     {
         let mut idents = Vec::new(self.allocator());
         'idents: while !self.take_close()? {
-            idents.push(self.ident()?)?;
+            idents.push(self.ident(wanted)?)?;
         }
         Ok(idents)
     }
