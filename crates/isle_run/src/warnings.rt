@@ -1,4 +1,8 @@
 //! What a rule writer should be warned of in accepted files.
+ghost use Rattle.std.specs.Prelude.{List, All, IfOk};
+ghost use Rattle.isle_syntax.specs.Positions.Files.{SourceFile};
+ghost use Rattle.isle_syntax.specs.Positions.Printable.{IsPrintablePos};
+ghost use Rattle.isle_syntax.specs.Positions.DefPositions.{DefAt};
 
 mod binders;
 mod converters;
@@ -29,7 +33,10 @@ pub fn warnings(
     alloc: Global,
     program: &Program,
     defs: &[Def],
-) -> Result<Vec<Warning>, AllocError> {
+) -> Result<Vec<Warning>, AllocError>
+    ensures placed { (files : List SourceFile) → All (DefAt (IsPrintablePos files)) defs.now
+        → IfOk result (λ found. All (λ warning. IsPrintablePos files warning.pos) found.items) }
+{
     let mut found = Vec::new(alloc);
     warn_of_rules(alloc, program, defs, &mut found)?;
     warn_of_terms(alloc, program, defs, &mut found)?;

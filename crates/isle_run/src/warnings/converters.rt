@@ -1,4 +1,9 @@
 //! Warnings of converters.
+ghost use Rattle.std.specs.Prelude.{List, All, OnOk};
+ghost use Rattle.isle_syntax.specs.Positions.Files.{SourceFile};
+ghost use Rattle.isle_syntax.specs.Positions.Printable.{IsPrintablePos};
+ghost use Rattle.isle_syntax.specs.Positions.DefPositions.{DefAt};
+ghost use Rattle.isle_run.specs.Warnings.{WarningAt};
 
 use crate::program::Program;
 use crate::warnings::Warning;
@@ -14,7 +19,10 @@ pub fn warn_of_converters(
     program: &Program,
     defs: &[Def],
     found: &mut Vec<Warning>,
-) -> Result<(), AllocError> {
+) -> Result<(), AllocError>
+    ensures { OnOk result ((files : List SourceFile) → All (DefAt (IsPrintablePos files)) defs.now → All (WarningAt (IsPrintablePos files)) found.old.items
+        → All (WarningAt (IsPrintablePos files)) found.new.items) }
+{
     for def in defs {
         if let Def::Converter(converter) = def {
             if !may_fit(program, converter) {

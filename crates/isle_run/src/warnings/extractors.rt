@@ -1,4 +1,9 @@
 //! Warnings of internal extractors.
+ghost use Rattle.std.specs.Prelude.{List, All, OnOk};
+ghost use Rattle.isle_syntax.specs.Positions.Files.{SourceFile};
+ghost use Rattle.isle_syntax.specs.Positions.Printable.{IsPrintablePos};
+ghost use Rattle.isle_syntax.specs.Positions.DefPositions.{IdentAt, ExtractorAt, DefAt};
+ghost use Rattle.isle_run.specs.Warnings.{NameAt, WarningAt};
 
 use crate::program::Program;
 use crate::warnings::Warning;
@@ -15,7 +20,10 @@ pub fn warn_of_extractors(
     program: &Program,
     defs: &[Def],
     found: &mut Vec<Warning>,
-) -> Result<(), AllocError> {
+) -> Result<(), AllocError>
+    ensures { OnOk result ((files : List SourceFile) → All (DefAt (IsPrintablePos files)) defs.now → All (WarningAt (IsPrintablePos files)) found.old.items
+        → All (WarningAt (IsPrintablePos files)) found.new.items) }
+{
     for def in defs {
         if let Def::Extractor(extractor) = def {
             warn_of_extractor(alloc, program, extractor, found)?;
@@ -29,7 +37,10 @@ fn warn_of_extractor(
     program: &Program,
     extractor: &Extractor,
     found: &mut Vec<Warning>,
-) -> Result<(), AllocError> {
+) -> Result<(), AllocError>
+    ensures { OnOk result ((files : List SourceFile) → ExtractorAt (IsPrintablePos files) extractor.now → All (WarningAt (IsPrintablePos files)) found.old.items
+        → All (WarningAt (IsPrintablePos files)) found.new.items) }
+{
     let names = names_of_pattern(alloc, &extractor.template)?;
     let args = extractor.args.as_slice();
     warn_of_args(alloc, args, names.as_slice(), found)?;
@@ -42,7 +53,10 @@ fn warn_of_args(
     args: &[Ident],
     names: &[PatternName<'_>],
     found: &mut Vec<Warning>,
-) -> Result<(), AllocError> {
+) -> Result<(), AllocError>
+    ensures { OnOk result ((files : List SourceFile) → All (IdentAt (IsPrintablePos files)) args.now → All (WarningAt (IsPrintablePos files)) found.old.items
+        → All (WarningAt (IsPrintablePos files)) found.new.items) }
+{
     let used = names_alone(alloc, names)?;
     for arg in args {
         if !is_silent(arg) && !used.contains(&arg.0) {
@@ -70,7 +84,10 @@ fn warn_of_captures(
     args: &[Ident],
     names: &[PatternName<'_>],
     found: &mut Vec<Warning>,
-) -> Result<(), AllocError> {
+) -> Result<(), AllocError>
+    ensures { OnOk result ((files : List SourceFile) → All (NameAt (IsPrintablePos files)) names.now → All (WarningAt (IsPrintablePos files)) found.old.items
+        → All (WarningAt (IsPrintablePos files)) found.new.items) }
+{
     let mut seen = texts_of(alloc, args)?;
     for name in names {
         if seen.insert(name.name.0.clone()?)? {

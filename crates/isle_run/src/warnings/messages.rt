@@ -1,4 +1,5 @@
 //! What warnings say.
+ghost use Rattle.std.specs.Prelude.{◌≡◌, IfOk, IfSome};
 
 use crate::program::Program;
 use crate::warnings::Warning;
@@ -12,7 +13,9 @@ pub fn is_silent(name: &Ident) -> bool {
 }
 
 /// `x is not used`.
-pub fn unused(alloc: Global, name: &Ident) -> Result<Warning, AllocError> {
+pub fn unused(alloc: Global, name: &Ident) -> Result<Warning, AllocError>
+    ensures { IfOk result (λ warning. warning.pos ≡ name.now.1) }
+{
     let text = name.0.as_str();
     Ok(Warning {
         pos: name.1,
@@ -21,7 +24,9 @@ pub fn unused(alloc: Global, name: &Ident) -> Result<Warning, AllocError> {
 }
 
 /// `the converter t fits nothing`.
-pub fn unfit(alloc: Global, converter: &Converter) -> Result<Warning, AllocError> {
+pub fn unfit(alloc: Global, converter: &Converter) -> Result<Warning, AllocError>
+    ensures { IfOk result (λ warning. warning.pos ≡ converter.now.pos) }
+{
     let text = converter.term.0.as_str();
     Ok(Warning {
         pos: converter.pos,
@@ -34,7 +39,9 @@ pub fn bare(
     alloc: Global,
     program: &Program,
     name: &Ident,
-) -> Result<Option<Warning>, AllocError> {
+) -> Result<Option<Warning>, AllocError>
+    ensures { IfOk result (λ found. IfSome found (λ warning. warning.pos ≡ name.now.1)) }
+{
     let Some(id) = program.terms().get_term_by_name(program.types(), name) else {
         return Ok(None);
     };

@@ -1,4 +1,9 @@
 //! Warnings of terms that nothing uses.
+ghost use Rattle.std.specs.Prelude.{List, All, OnOk};
+ghost use Rattle.isle_syntax.specs.Positions.Files.{SourceFile};
+ghost use Rattle.isle_syntax.specs.Positions.Printable.{IsPrintablePos};
+ghost use Rattle.isle_syntax.specs.Positions.DefPositions.{DefAt};
+ghost use Rattle.isle_run.specs.Warnings.{WarningAt};
 
 use crate::program::Program;
 use crate::warnings::Warning;
@@ -73,7 +78,10 @@ pub fn warn_of_terms(
     program: &Program,
     defs: &[Def],
     found: &mut Vec<Warning>,
-) -> Result<(), AllocError> {
+) -> Result<(), AllocError>
+    ensures { OnOk result ((files : List SourceFile) → All (DefAt (IsPrintablePos files)) defs.now → All (WarningAt (IsPrintablePos files)) found.old.items
+        → All (WarningAt (IsPrintablePos files)) found.new.items) }
+{
     let named = named_terms(alloc, program, defs)?;
     for def in defs {
         if let Def::Decl(decl) = def {

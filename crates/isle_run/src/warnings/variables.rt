@@ -1,4 +1,9 @@
 //! Warnings of the variables of rules.
+ghost use Rattle.std.specs.Prelude.{List, All, IfOk, OnOk};
+ghost use Rattle.isle_syntax.specs.Positions.Files.{SourceFile};
+ghost use Rattle.isle_syntax.specs.Positions.Printable.{IsPrintablePos};
+ghost use Rattle.isle_syntax.specs.Positions.DefPositions.{IdentAt, RuleAt, DefAt};
+ghost use Rattle.isle_run.specs.Warnings.{NameAt, WarningAt};
 
 use crate::program::Program;
 use crate::warnings::Warning;
@@ -17,7 +22,10 @@ pub fn warn_of_rules(
     program: &Program,
     defs: &[Def],
     found: &mut Vec<Warning>,
-) -> Result<(), AllocError> {
+) -> Result<(), AllocError>
+    ensures { OnOk result ((files : List SourceFile) → All (DefAt (IsPrintablePos files)) defs.now → All (WarningAt (IsPrintablePos files)) found.old.items
+        → All (WarningAt (IsPrintablePos files)) found.new.items) }
+{
     let rules = rules_in(alloc, defs)?;
     for i in 0..rules.len() {
         if let Some(typed) = program.rules().get(i) {
@@ -28,7 +36,9 @@ pub fn warn_of_rules(
 }
 
 /// The rules of definitions, in their order.
-fn rules_in(alloc: Global, defs: &[Def]) -> Result<Vec<&Rule>, AllocError> {
+fn rules_in(alloc: Global, defs: &[Def]) -> Result<Vec<&Rule>, AllocError>
+    ensures { (files : List SourceFile) → All (DefAt (IsPrintablePos files)) defs.now → IfOk result (λ rules. All (λ rule. RuleAt (IsPrintablePos files) rule.now) rules.items) }
+{
     let mut rules = Vec::new(alloc);
     for def in defs {
         if let Def::Rule(rule) = def {
@@ -45,7 +55,10 @@ fn warn_of_rule(
     rule: &Rule,
     typed: &TypedRule,
     found: &mut Vec<Warning>,
-) -> Result<(), AllocError> {
+) -> Result<(), AllocError>
+    ensures { OnOk result ((files : List SourceFile) → RuleAt (IsPrintablePos files) rule.now → All (WarningAt (IsPrintablePos files)) found.old.items
+        → All (WarningAt (IsPrintablePos files)) found.new.items) }
+{
     let uses = Uses::of_rule(alloc, typed)?;
     let names = names_of_rule(alloc, rule)?;
     let mut used = uses.names_used(alloc, program, typed)?;
@@ -62,7 +75,10 @@ fn warn_of_data(
     names: &[PatternName<'_>],
     used: &mut StableSet<Text>,
     found: &mut Vec<Warning>,
-) -> Result<(), AllocError> {
+) -> Result<(), AllocError>
+    ensures { OnOk result ((files : List SourceFile) → All (NameAt (IsPrintablePos files)) names.now → All (WarningAt (IsPrintablePos files)) found.old.items
+        → All (WarningAt (IsPrintablePos files)) found.new.items) }
+{
     let mut seen = StableSet::new(alloc);
     for name in names {
         if !seen.insert(name.name.0.clone()?)? {
@@ -81,7 +97,10 @@ fn warn_of_names(
     names: &[PatternName<'_>],
     used: &StableSet<Text>,
     found: &mut Vec<Warning>,
-) -> Result<(), AllocError> {
+) -> Result<(), AllocError>
+    ensures { OnOk result ((files : List SourceFile) → All (NameAt (IsPrintablePos files)) names.now → All (WarningAt (IsPrintablePos files)) found.old.items
+        → All (WarningAt (IsPrintablePos files)) found.new.items) }
+{
     for name in names {
         if !is_silent(name.name) && !used.contains(&name.name.0) {
             found.push(unused(alloc, name.name)?)?;
@@ -96,7 +115,10 @@ fn warn_of_lets(
     lets: &[&Ident],
     uses: &Uses,
     found: &mut Vec<Warning>,
-) -> Result<(), AllocError> {
+) -> Result<(), AllocError>
+    ensures { OnOk result ((files : List SourceFile) → All (λ name. IdentAt (IsPrintablePos files) name.now) lets.now → All (WarningAt (IsPrintablePos files)) found.old.items
+        → All (WarningAt (IsPrintablePos files)) found.new.items) }
+{
     for i in 0..lets.len() {
         if !is_silent(lets[i]) && !uses.is_let_used(i) {
             found.push(unused(alloc, lets[i])?)?;
