@@ -18,13 +18,11 @@ mod traced;
 mod variables;
 
 use crate::calls::answer::{Called, Effect};
-use crate::calls::choices::Choice;
 use crate::calls::frames::{Turn, answer_call};
 use crate::calls::store::Store;
 use crate::program::Program;
 use crate::roads::Road;
 use crate::roads::plain::frame::{Driver, Ending, Frame};
-use crate::roads::plain::traced::TracedDriver;
 use crate::values::Value;
 use crate::worlds::World;
 use isle_types::TermId;
@@ -65,45 +63,6 @@ impl Program {
             store,
         };
         answer_call(alloc, &mut driver, term, shared, depth, world, effects)
-    }
-
-    /// Answers a call as `call_plain` does, under its conditions, and lists the rule that is chosen for it and for each call of a term with rules
-    /// below it, in the order in which they are. Which rules are listed is not promised.
-    pub fn trace_plain<W: World>(
-        &self,
-        alloc: Global,
-        term: TermId,
-        args: Vec<Value>,
-        depth: u32,
-        world: &mut W,
-        effects: &mut Vec<Effect>,
-    ) -> Result<(Called, Vec<Choice>), AllocError>
-        ensures ran { IfOk result (λ traced. IsRunnable (types_of self.now) (terms_of self.now) term.0
-            → AreOfTypes (checked self.now).values (value_list args.items) ((checked self.now).terms.inputs term.0) → (made : List Event)
-            × HasMade W.step self.now world.old effects.old.items world.new effects.new.items made
-            × TellsPlainly self.now (answers_in self.now (W.constructs world.old) (W.extracts world.old)) depth term.0
-            (values_of (checked self.now).values (value_list args.items)) traced.0 made) }
-        ensures lost { OnErr result (IsRunnable (types_of self.now) (terms_of self.now) term.0
-            → AreOfTypes (checked self.now).values (value_list args.items) ((checked self.now).terms.inputs term.0) → (made : List Event)
-            × HasMade W.step self.now world.old effects.old.items world.new effects.new.items made
-            × BeginsPlainly self.now (answers_in self.now (W.constructs world.old) (W.extracts world.old)) depth term.0
-            (values_of (checked self.now).values (value_list args.items)) made) }
-        ensures made { (made : List Event) × HasMade W.step self.now world.old effects.old.items world.new effects.new.items made }
-        ensures same { (W.constructs world.new ≡ W.constructs world.old) × (W.extracts world.new ≡ W.extracts world.old) }
-    {
-        let mut store = Store::new(alloc);
-        let shared = store.share_all(self, args.as_slice())?;
-        let mut traced = TracedDriver {
-            driver: Driver {
-                alloc,
-                program: self,
-                store,
-            },
-            choices: Vec::new(alloc),
-            fresh: false,
-        };
-        let called = answer_call(alloc, &mut traced, term, shared, depth, world, effects)?;
-        Ok((called, traced.choices))
     }
 }
 

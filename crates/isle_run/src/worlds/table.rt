@@ -148,8 +148,8 @@ impl TableWorld {
     ) -> Result<bool, AllocError>
         ensures { IfOk result (λ found. IsTrue found ↔ IsSome (entry_at self.now side term.now (Some (value_list call.now)))) }
     {
-        let key = call_key(alloc, side, term, copies(alloc, call)?)?;
-        Ok(self.answers.contains_key(&key))
+        let wanted = call_key(alloc, side, term, copies(alloc, call)?)?;
+        Ok(self.answers.contains_key(&wanted))
     }
 
     /// What a call is answered: by its entry, else by the term's `else`, else none.

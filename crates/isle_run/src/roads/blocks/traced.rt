@@ -1,18 +1,29 @@
 //! The road over trees, with the rules that are chosen on it.
+ghost use Rattle.std.specs.Prelude.{◌≡◌, List, IfOk, OnErr};
+ghost use Rattle.isle_terms.specs.Values.{value_list};
+ghost use Rattle.isle_meaning.specs.GroundValues.{values_of};
+ghost use Rattle.isle_meaning.specs.ValueTypes.{AreOfTypes};
+ghost use Rattle.isle_meaning.specs.Worlds.{Event};
 ghost use Rattle.isle_run.specs.Blocks.Frames.{tree_way};
+ghost use Rattle.isle_run.specs.Calls.Answers.{answers_in, HasMade};
+ghost use Rattle.isle_run.specs.Facts.Reach.{IsRunnable};
+ghost use Rattle.isle_run.specs.Meanings.{checked};
+ghost use Rattle.isle_run.specs.Programs.{types_of, terms_of};
+ghost use Rattle.isle_run.specs.TreeCalls.{IsCompiled, TellsByTree, BeginsByTree};
 
 use super::frame::{At, Frame};
 use super::reading::Machine;
-use crate::calls::answer::Effect;
+use crate::calls::answer::{Called, Effect};
 use crate::calls::choices::{Choice, Chosen};
-use crate::calls::frames::Turn;
+use crate::calls::frames::{Turn, answer_call};
 use crate::calls::store::Store;
 use crate::program::Program;
 use crate::roads::Road;
+use crate::values::Value;
 use crate::worlds::World;
 use isle_blocks::{ControlFlow, Steps};
 use isle_types::TermId;
-use std::alloc::AllocError;
+use std::alloc::{AllocError, Global};
 
 /// A machine that lists the rules which are chosen, in the order in which they are.
 #[derive(Drop)]
@@ -58,6 +69,46 @@ impl<'a> TracedMachine<'a> {
             Some(choice) => Ok(self.choices.push(choice)?),
             None => Ok(()),
         }
+    }
+}
+
+impl Program {
+    /// Answers a call as `call` does, under its conditions, and lists the rule that is chosen for it and for each call of a term with rules below
+    /// it, in the order in which they are. Which rules are listed is not promised.
+    pub fn trace<W: World>(
+        &self,
+        alloc: Global,
+        term: TermId,
+        args: Vec<Value>,
+        depth: u32,
+        world: &mut W,
+        effects: &mut Vec<Effect>,
+    ) -> Result<(Called, Vec<Choice>), AllocError>
+        ensures ran { IfOk result (λ traced. IsCompiled self.now → IsRunnable (types_of self.now) (terms_of self.now) term.0
+            → AreOfTypes (checked self.now).values (value_list args.items) ((checked self.now).terms.inputs term.0) → (made : List Event)
+            × HasMade W.step self.now world.old effects.old.items world.new effects.new.items made
+            × TellsByTree self.now (answers_in self.now (W.constructs world.old) (W.extracts world.old)) depth term.0
+            (values_of (checked self.now).values (value_list args.items)) traced.0 made) }
+        ensures lost { OnErr result (IsCompiled self.now → IsRunnable (types_of self.now) (terms_of self.now) term.0
+            → AreOfTypes (checked self.now).values (value_list args.items) ((checked self.now).terms.inputs term.0) → (made : List Event)
+            × HasMade W.step self.now world.old effects.old.items world.new effects.new.items made
+            × BeginsByTree self.now (answers_in self.now (W.constructs world.old) (W.extracts world.old)) depth term.0
+            (values_of (checked self.now).values (value_list args.items)) made) }
+        ensures made { (made : List Event) × HasMade W.step self.now world.old effects.old.items world.new effects.new.items made }
+        ensures same { (W.constructs world.new ≡ W.constructs world.old) × (W.extracts world.new ≡ W.extracts world.old) }
+    {
+        let mut store = Store::new(alloc);
+        let shared = store.share_all(self, args.as_slice())?;
+        let mut traced = TracedMachine {
+            machine: Machine {
+                alloc,
+                program: self,
+                store,
+            },
+            choices: Vec::new(alloc),
+        };
+        let called = answer_call(alloc, &mut traced, term, shared, depth, world, effects)?;
+        Ok((called, traced.choices))
     }
 }
 

@@ -1,7 +1,6 @@
 use Rattle.isle_meaning.proofs.Machine.Beginnings.{machine_stops}
 use Rattle.isle_run.proofs.OpenCalls.Made.{made_none, on_err}
 use Rattle.std.proofs.Common.{List, refl, subst, []}
-use Rattle.std.proofs.lemmas.Result.{IfOk-weaker, on_err_weaker}
 use Rattle.isle_terms.specs.Values.{ValueTree, value_list}
 use Rattle.isle_meaning.specs.GroundValues.{values_of}
 use Rattle.isle_run.specs.Blocks.Frames.{IsGrown, term_trees}
@@ -14,7 +13,7 @@ use Rattle.isle_run.proofs.Blocks.Telling.{tree_tells, tree_stops}
 use Rattle.isle_run.proofs.program.Program.trace.Goals as goal
 
 pub returns-clause-ran : goal.returns-clause-ran
-returns-clause-ran g c = IfOk-weaker c.answer_call.result _ _ (λ called told compiled may typed.
+returns-clause-ran g c = λ compiled may typed.
     let program = c.args.self.now in
     let trees = value_list c.args.args.items in
     let vs = values_of (checked program).values trees in
@@ -22,12 +21,12 @@ returns-clause-ran g c = IfOk-weaker c.answer_call.result _ _ (λ called told co
     c.as_slice.ensures.value c.in_ok-shared.ensures.numbers in
     let ready : IsReady IsGrown program c.args.term.0 vs =
     record { holds = compiled_grown program compiled; may = may; typed = record { trees = trees; typed = typed; stand = refl } } in
-    let (made, has, r, tells, run) = told vs stand ready in (
+    let (made, has, r, tells, run) = c.in_ok-called.ensures.ran vs stand ready in (
       made,
       has,
       tree_tells program (answers_in program (g.W.World.constructs c.args.world.now) (g.W.World.extracts c.args.world.now)) c.args.depth c.args.term.0 vs
-          called made r ready tells run,
-    )) c.answer_call.ensures.ran
+          c.in_ok-called.called made r ready tells run,
+    )
 
 pub returns-in_err-shared-clause-lost : goal.returns-in_err-shared-clause-lost
 returns-in_err-shared-clause-lost g c = on_err c.from_residual.result (λ compiled may typed. (
@@ -36,8 +35,8 @@ returns-in_err-shared-clause-lost g c = on_err c.from_residual.result (λ compil
   record { begins = machine_stops (checked c.args.self.now) _ (term_trees c.args.self.now) c.args.depth c.args.term.0 _; pure = λ pure. refl },
 ))
 
-pub returns-clause-lost : goal.returns-clause-lost
-returns-clause-lost g c = on_err_weaker c.answer_call.result (λ lost compiled may typed.
+pub returns-in_err-called-clause-lost : goal.returns-in_err-called-clause-lost
+returns-in_err-called-clause-lost g c = on_err c.from_residual-in_err-called.result (λ compiled may typed.
     let program = c.args.self.now in
     let trees = value_list c.args.args.items in
     let vs = values_of (checked program).values trees in
@@ -45,9 +44,9 @@ returns-clause-lost g c = on_err_weaker c.answer_call.result (λ lost compiled m
     c.as_slice.ensures.value c.in_ok-shared.ensures.numbers in
     let ready : IsReady IsGrown program c.args.term.0 vs =
     record { holds = compiled_grown program compiled; may = may; typed = record { trees = trees; typed = typed; stand = refl } } in
-    let (made, has, begun) = lost vs stand ready in (
+    let (made, has, begun) = c.in_err-called.ensures.lost vs stand ready in (
       made,
       has,
       tree_stops program (answers_in program (g.W.World.constructs c.args.world.now) (g.W.World.extracts c.args.world.now)) c.args.depth c.args.term.0 vs
           made ready begun,
-    )) c.answer_call.ensures.lost
+    ))
