@@ -44,8 +44,8 @@ refusals:
 fuzz:
 	python3 tools/fuzz.py $(PROGRAM) $(COUNT)
 
-# The wrong bodies of tests/edits, of which the prover must refuse each: those of CRATES, or of all crates that have changed since
-# theirs were tried. With ALL=--all also those of the others.
+# The wrong bodies of tests/edits, of which the prover must refuse each: those of CRATES, or of all crates, that have changed since they
+# were tried. With ALL=--all also the others.
 edits:
 	tools/edits.py $(ALL) $(CRATES)
 

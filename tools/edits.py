@@ -11,10 +11,10 @@ An answer is known by the file of its function, or by its name alone where no ot
 What isn't told apart so, as a constant, is tried once more by itself: then a goal or an answer of any function counts.
 With --rooms=N checks of N rounds go on side by side, each in a copy of its own, which wants 2 to 4 GB.
 
-tests/edits/tried.txt has for each crate a sum of all that the answers hang on: the crate, what it sees of those below it, its edits, this file,
-and the program logic that 'rt version' names. The kit's own name is left out: machines have kits of one logic under several names, and
-what a body breaks is false under each. Where that sum is still the crate's, its edits were all refused already, and are tried
-only with --all. A check goes on from what the last 'rt check' of the crate kept, where there is such work.
+tests/edits/tried.txt has for each edit a sum of all that its refusal hangs on (`sums_of` says what), the program logic that 'rt version' names
+among it. The kit's own name is left out: machines have kits of one logic under several names, and what a body breaks is false under each. Where
+that sum is still the edit's, it was refused already, and is tried only with --all. A check goes on from what the last 'rt check' of the crate
+kept, where there is such work.
 """
 import concurrent.futures
 import fcntl
@@ -28,6 +28,8 @@ import tempfile
 
 TRIED = "tests/edits/tried.txt"
 PARTS = ("src", "specs", "proofs")
+# Counted up where edits are judged otherwise: then all are to be tried again.
+TRIAL = 1
 
 
 class Edit:
@@ -169,24 +171,84 @@ def cited(text):
     return found
 
 
-def sum_of(crate, below):
-    """Returns a sum of all that the answers hang on: of the crate itself all. A body is refused for a goal that its contract and those of the
-    functions which it calls make false, whatever their bodies and proofs are: so of the crates below count what is seen of their code, and the
-    definitions that this, or the crate itself, stands on."""
-    folders = [f"crates/{crate}/{part}" for part in PARTS] + [f"tests/edits/{crate}"]
-    texts = {it: text_of(it) for it in ["tools/edits.py", *(it for folder in folders for it in files_below(folder))]}
-    texts |= {it: shown(it) for name in below[crate] for it in files_below(f"crates/{name}/src")}
-    left = [it for text in [*texts.values()] for it in cited(text)]
+def pieces(crate):
+    """Returns the heads of a crate's functions with their contracts, the definitions of its types and traits, and what is implemented for them:
+    lists by name."""
+    functions, types = {}, {}
+    for path in files_below(f"crates/{crate}/src"):
+        rows, at, of = [it for it in text_of(path).decode().split("\n") if not re.match(r"\s*//", it)], 0, None
+        while at < len(rows):
+            row, first = rows[at], at
+            function = re.match(r"(\s*)(?:pub(?:\(\w+\))? )?(?:const )?fn (\w+)", row)
+            begun = re.match(r"(?:pub(?:\(\w+\))? )?(?:struct|enum|trait|impl.* for) (\w+)|impl", row)
+            of = begun[1] if begun else None if row == "}" else of
+            if function:
+                at = end_of_head(rows, at, function[1])
+                head = [re.sub(r"^(\s*)pub(\(\w+\))? ", r"\1", row), *rows[first + 1 : at + 1]]
+                functions.setdefault(function[2], []).append("\n".join(head))
+                at = at if rows[at].endswith((";", "{}")) else rows.index(function[1] + "}", at)
+            elif of:
+                types.setdefault(of, []).append(re.sub(r"^(\s*)pub(\(\w+\))? ", r"\1", row))
+            at += 1
+    return functions, types
+
+
+def lemmas(crate, text):
+    """Returns the files of lemmas of this crate that a text names."""
+    found = set()
+    for path in re.findall(rf"Rattle\.{crate}\.proofs\.([\w.]+)", text.decode()):
+        parts = path.rstrip(".").split(".")
+        names = [f"crates/{crate}/proofs/{'/'.join(parts[:end])}.antt" for end in range(len(parts), 0, -1)]
+        found.update([it for it in names if os.path.isfile(it)][:1])
+    return found
+
+
+def own_texts(edit, functions, types):
+    """Returns the texts of an edit and of its functions, with what they name of the crate's functions and types, and their proofs."""
+    texts = {f"tests/edits/{edit.crate}/{edit.name}": text_of(f"tests/edits/{edit.crate}/{edit.name}")}
+    for file in {file for file, _, _ in edit.pairs}:
+        rows = text_of(f"crates/{edit.crate}/{file}").decode().split("\n")
+        parts = [rows[first - 1 : last] for its, first, last in edit.lines if its == file] or [rows]
+        whole = "\n".join(it for part in parts for it in part if not re.match(r"\s*//", it))
+        called = sorted(set(re.findall(r"\b(\w+)(?:::<[^>]*>)?\(", whole + str(edit.pairs))))
+        named = sorted(set(re.findall(r"\b[A-Z]\w*", whole + str(edit.pairs))))
+        imports = "\n".join(it for it in rows if "ghost use " in it)
+        heads = [it for name in called for it in functions.get(name, [])] + [it for name in named for it in types.get(name, [])]
+        texts[file] = "\n".join([whole, imports, *heads]).encode()
+    for path in files_below(f"crates/{edit.crate}/proofs"):
+        if os.path.basename(os.path.dirname(path)) in edit.names():
+            texts[path] = text_of(path)
+    return texts
+
+
+def closure(crate, texts):
+    """Adds the definitions, and the crate's own lemmas, that texts stand on."""
+    left = [it for text in [*texts.values()] for it in cited(text) | lemmas(crate, text)]
     while left:
         path = left.pop()
         if path not in texts:
             texts[path] = text_of(path)
-            left += cited(texts[path])
-    made = hashlib.sha256(logic().encode())
-    made.update(" ".join([crate, *below[crate]]).encode() + b"\n")
-    for path in sorted(it for it in texts if texts[it]):
-        made.update(path.encode() + b"\n" + texts[path])
-    return made.hexdigest()
+            left += cited(texts[path]) | lemmas(crate, texts[path])
+    return texts
+
+
+def sums_of(crate, below):
+    """Returns for each edit of a crate a sum of all that its refusal hangs on. A body is refused for a goal that its contract and those of the
+    functions which it calls make false, whatever their bodies and proofs are: so there count its function with its proof, the heads of what it
+    calls, the definitions and own lemmas that these stand on, and what is seen of the crates below."""
+    functions, types = pieces(crate)
+    judged = f"{logic()} {TRIAL}".encode()
+    lower = b"".join(shown(it) for name in below[crate] for it in files_below(f"crates/{name}/src"))
+    lower = closure(crate, {"below": lower})
+    sums = {}
+    for path in files_below(f"tests/edits/{crate}"):
+        edit = Edit(crate, path)
+        made = hashlib.sha256(judged)
+        texts = {**lower, **closure(crate, own_texts(edit, functions, types))}
+        for name in sorted(texts):
+            made.update(name.encode() + b"\n" + texts[name])
+        sums[f"{crate}/{edit.name}"] = made.hexdigest()[:32]
+    return sums
 
 
 def rounds(edits):
@@ -269,24 +331,29 @@ def tried_in_a_copy(crate, below, parts):
     return let_through
 
 
-def tried_in_rooms(crate, below, rooms):
-    """Tries a crate's edits, some rounds at a time, and returns the names of those that are not refused."""
-    parts = rounds([Edit(crate, it) for it in files_below(f"tests/edits/{crate}")])
+def tried_in_rooms(crate, below, edits, rooms):
+    """Tries edits of a crate, some rounds at a time, and returns the names of those that are not refused."""
+    parts = rounds(edits)
     taken = iter(parts)
     with concurrent.futures.ThreadPoolExecutor(rooms) as pool:
         tries = [pool.submit(tried_in_a_copy, crate, below, taken) for _ in range(min(rooms, len(parts)))]
         return [name for it in tries for name in it.result()]
 
 
-def write_down(crate, made):
-    """Writes down that all edits of the crate were refused. Other crates may be tried at the same time."""
+def known():
+    """Returns the sums that are written down."""
+    return dict(it.split() for it in open(TRIED, encoding="utf-8")) if os.path.isfile(TRIED) else {}
+
+
+def write_down(crate, sums):
+    """Writes down of which texts a crate's edits were refused. Other crates may be tried at the same time."""
     with open(TRIED, "a+", encoding="utf-8") as file:
         fcntl.flock(file, fcntl.LOCK_EX)
         file.seek(0)
-        known = dict(it.split() for it in file)
-        known[crate] = made
+        rows = dict(it.split() for it in file)
+        rows = {name: it for name, it in rows.items() if not name.startswith(f"{crate}/")} | sums
         file.truncate(0)
-        file.write("".join(f"{name} {it}\n" for name, it in sorted(known.items())))
+        file.write("".join(f"{name} {it}\n" for name, it in sorted(rows.items())))
 
 
 def main(words):
@@ -294,21 +361,21 @@ def main(words):
     below = libraries()
     names = [it for it in words if not it.startswith("--")]
     names = names or sorted(it for it in os.listdir("tests/edits") if os.path.isdir(f"tests/edits/{it}"))
-    known = dict(it.split() for it in open(TRIED, encoding="utf-8")) if os.path.isfile(TRIED) else {}
     rooms = next((int(it[len("--rooms=") :]) for it in words if it.startswith("--rooms=")), 1)
     failed = []
     for crate in names:
-        made, number = sum_of(crate, below), len(os.listdir(f"tests/edits/{crate}"))
-        if known.get(crate) == made and "--all" not in words:
-            print(f"{crate}: its {number} edits were all refused on just this text")
+        sums, refused = sums_of(crate, below), known()
+        left = [it for it in sums if refused.get(it) != sums[it] or "--all" in words]
+        if not left:
+            print(f"{crate}: its {len(sums)} edits were all refused on just this text")
         elif "--known" in words:
-            print(f"{crate}: its {number} edits are still to be tried: rt check in its folder, make edits CRATES={crate}, and commit {TRIED}")
+            print(f"{crate}: {len(left)} of its {len(sums)} edits are still to be tried, as {left[0]}: rt check in its folder,")
+            print(f"  make edits CRATES={crate}, and commit {TRIED}")
             failed.append(crate)
         else:
-            let_through = tried_in_rooms(crate, below, rooms)
+            let_through = tried_in_rooms(crate, below, [Edit(crate, f"tests/edits/{it}") for it in left], rooms)
             failed += let_through
-            if not let_through:
-                write_down(crate, made)
+            write_down(crate, {it: made for it, made in sums.items() if it.split("/")[1] not in let_through})
     if failed:
         print(f"FAILED: {' '.join(failed)}")
     return 1 if failed else 0
