@@ -36,3 +36,5 @@ pub mod TreeCalls
 pub mod Plain
 -- What a call on the plain road tells.
 pub mod PlainCalls
+-- Where what is warned of stands.
+pub mod Warnings

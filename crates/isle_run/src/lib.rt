@@ -10,6 +10,7 @@ mod query;
 mod roads;
 mod trees;
 mod values;
+pub mod warnings;
 mod worlds;
 
 pub use calls::answer::{Answer, Called, Effect};
