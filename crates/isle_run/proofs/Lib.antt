@@ -24,3 +24,5 @@ pub mod OpenCalls
 pub mod Plain
 -- The road over trees.
 pub mod Blocks
+-- Where the parts of definitions stand that warnings are of.
+pub mod WarningPlaces

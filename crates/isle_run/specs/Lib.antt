@@ -36,5 +36,5 @@ pub mod TreeCalls
 pub mod Plain
 -- What a call on the plain road tells.
 pub mod PlainCalls
--- What rule writers are warned of.
+-- Where what is warned of stands.
 pub mod Warnings

@@ -43,7 +43,7 @@ fn definitions(alloc: Global, files: &Files) -> Result<Vec<Def>, AllocError> {
         let text = files.file_text(file).unwrap_or("");
         match parse(Lexer::new(alloc, file, text)) {
             Ok(parsed) => append(&mut defs, parsed)?,
-            Err(Refusal::Fault(_)) => {}
+            Err(Refusal::Fault(_fault)) => {}
             Err(Refusal::Memory(e)) => return Err(e),
         }
     }

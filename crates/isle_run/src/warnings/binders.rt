@@ -45,7 +45,8 @@ fn push_of_iflets<'a>(
     iflets: &'a [IfLet],
     names: &mut Vec<PatternName<'a>>,
 ) -> Result<(), AllocError>
-    ensures { OnOk result ((files : List SourceFile) → All (IfLetAt (IsPrintablePos files)) iflets.now → All (NameAt (IsPrintablePos files)) names.old.items
+    ensures { OnOk result ((files : List SourceFile) → All (IfLetAt (IsPrintablePos files)) iflets.now
+        → All (NameAt (IsPrintablePos files)) names.old.items
         → All (NameAt (IsPrintablePos files)) names.new.items) }
 {
     for iflet in iflets {
@@ -57,11 +58,9 @@ fn push_of_iflets<'a>(
 /// Adds the names of a pattern. A chain `x @ y @ ..` is walked by a loop, since it nests without parentheses.
 #[cycle(push_names)]
 #[tactic(auto, using(isle_syntax::proofs::Trees::PatternSizes::most_pattern_size))]
-fn push_names<'a>(
-    pattern: &'a Pattern,
-    names: &mut Vec<PatternName<'a>>,
-) -> Result<(), AllocError>
-    ensures { OnOk result ((files : List SourceFile) → PatternAt (IsPrintablePos files) pattern.now → All (NameAt (IsPrintablePos files)) names.old.items
+fn push_names<'a>(pattern: &'a Pattern, names: &mut Vec<PatternName<'a>>) -> Result<(), AllocError>
+    ensures { OnOk result ((files : List SourceFile) → PatternAt (IsPrintablePos files) pattern.now
+        → All (NameAt (IsPrintablePos files)) names.old.items
         → All (NameAt (IsPrintablePos files)) names.new.items) }
 {
     let mut at = pattern;
@@ -85,11 +84,9 @@ fn push_names<'a>(
 
 /// Adds the names of patterns.
 #[cycle(push_names)]
-fn push_all<'a>(
-    patterns: &'a [Pattern],
-    names: &mut Vec<PatternName<'a>>,
-) -> Result<(), AllocError>
-    ensures { OnOk result ((files : List SourceFile) → All (PatternAt (IsPrintablePos files)) patterns.now → All (NameAt (IsPrintablePos files)) names.old.items
+fn push_all<'a>(patterns: &'a [Pattern], names: &mut Vec<PatternName<'a>>) -> Result<(), AllocError>
+    ensures { OnOk result ((files : List SourceFile) → All (PatternAt (IsPrintablePos files)) patterns.now
+        → All (NameAt (IsPrintablePos files)) names.old.items
         → All (NameAt (IsPrintablePos files)) names.new.items) }
 {
     for pattern in patterns {
@@ -127,11 +124,9 @@ pub fn lets_of_rule(alloc: Global, rule: &Rule) -> Result<Vec<&Ident>, AllocErro
 }
 
 /// Adds the variables of the `let`s of conditions.
-fn push_lets_of_iflets<'a>(
-    iflets: &'a [IfLet],
-    lets: &mut Vec<&'a Ident>,
-) -> Result<(), AllocError>
-    ensures { OnOk result ((files : List SourceFile) → All (IfLetAt (IsPrintablePos files)) iflets.now → All (λ name. IdentAt (IsPrintablePos files) name.now) lets.old.items
+fn push_lets_of_iflets<'a>(iflets: &'a [IfLet], lets: &mut Vec<&'a Ident>) -> Result<(), AllocError>
+    ensures { OnOk result ((files : List SourceFile) → All (IfLetAt (IsPrintablePos files)) iflets.now
+        → All (λ name. IdentAt (IsPrintablePos files) name.now) lets.old.items
         → All (λ name. IdentAt (IsPrintablePos files) name.now) lets.new.items) }
 {
     for iflet in iflets {
@@ -144,7 +139,8 @@ fn push_lets_of_iflets<'a>(
 #[cycle(push_lets)]
 #[tactic(auto, using(isle_syntax::proofs::Trees::ExprSizes::most_expr_size, isle_syntax::proofs::Trees::ExprSizes::most_let_size))]
 fn push_lets<'a>(expr: &'a Expr, lets: &mut Vec<&'a Ident>) -> Result<(), AllocError>
-    ensures { OnOk result ((files : List SourceFile) → ExprAt (IsPrintablePos files) expr.now → All (λ name. IdentAt (IsPrintablePos files) name.now) lets.old.items
+    ensures { OnOk result ((files : List SourceFile) → ExprAt (IsPrintablePos files) expr.now
+        → All (λ name. IdentAt (IsPrintablePos files) name.now) lets.old.items
         → All (λ name. IdentAt (IsPrintablePos files) name.now) lets.new.items) }
 {
     match expr {
@@ -164,7 +160,8 @@ fn push_lets<'a>(expr: &'a Expr, lets: &mut Vec<&'a Ident>) -> Result<(), AllocE
 #[cycle(push_lets)]
 #[tactic(auto, using(isle_syntax::proofs::Trees::ExprSizes::most_expr_size, isle_syntax::proofs::Trees::ExprSizes::most_let_size))]
 fn push_lets_of_all<'a>(exprs: &'a [Expr], lets: &mut Vec<&'a Ident>) -> Result<(), AllocError>
-    ensures { OnOk result ((files : List SourceFile) → All (ExprAt (IsPrintablePos files)) exprs.now → All (λ name. IdentAt (IsPrintablePos files) name.now) lets.old.items
+    ensures { OnOk result ((files : List SourceFile) → All (ExprAt (IsPrintablePos files)) exprs.now
+        → All (λ name. IdentAt (IsPrintablePos files) name.now) lets.old.items
         → All (λ name. IdentAt (IsPrintablePos files) name.now) lets.new.items) }
 {
     for expr in exprs {
@@ -177,7 +174,8 @@ fn push_lets_of_all<'a>(exprs: &'a [Expr], lets: &mut Vec<&'a Ident>) -> Result<
 #[cycle(push_lets)]
 #[tactic(auto, using(isle_syntax::proofs::Trees::ExprSizes::most_expr_size, isle_syntax::proofs::Trees::ExprSizes::most_let_size))]
 fn push_variables<'a>(defs: &'a [LetDef], lets: &mut Vec<&'a Ident>) -> Result<(), AllocError>
-    ensures { OnOk result ((files : List SourceFile) → All (LetDefAt (IsPrintablePos files)) defs.now → All (λ name. IdentAt (IsPrintablePos files) name.now) lets.old.items
+    ensures { OnOk result ((files : List SourceFile) → All (LetDefAt (IsPrintablePos files)) defs.now
+        → All (λ name. IdentAt (IsPrintablePos files) name.now) lets.old.items
         → All (λ name. IdentAt (IsPrintablePos files) name.now) lets.new.items) }
 {
     for def in defs {

@@ -20,7 +20,8 @@ pub fn warn_of_converters(
     defs: &[Def],
     found: &mut Vec<Warning>,
 ) -> Result<(), AllocError>
-    ensures { OnOk result ((files : List SourceFile) → All (DefAt (IsPrintablePos files)) defs.now → All (WarningAt (IsPrintablePos files)) found.old.items
+    ensures { OnOk result ((files : List SourceFile) → All (DefAt (IsPrintablePos files)) defs.now
+        → All (WarningAt (IsPrintablePos files)) found.old.items
         → All (WarningAt (IsPrintablePos files)) found.new.items) }
 {
     for def in defs {

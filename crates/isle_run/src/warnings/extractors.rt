@@ -8,7 +8,7 @@ ghost use Rattle.isle_run.specs.Warnings.{NameAt, WarningAt};
 use crate::program::Program;
 use crate::warnings::Warning;
 use crate::warnings::binders::{PatternName, names_of_pattern};
-use crate::warnings::messages::{bare, is_silent, unused};
+use crate::warnings::messages::{is_silent, unused, warn_of_bare};
 use isle_syntax::Text;
 use isle_syntax::ast::{Def, Extractor, Ident};
 use isle_types::StableSet;
@@ -21,7 +21,8 @@ pub fn warn_of_extractors(
     defs: &[Def],
     found: &mut Vec<Warning>,
 ) -> Result<(), AllocError>
-    ensures { OnOk result ((files : List SourceFile) → All (DefAt (IsPrintablePos files)) defs.now → All (WarningAt (IsPrintablePos files)) found.old.items
+    ensures { OnOk result ((files : List SourceFile) → All (DefAt (IsPrintablePos files)) defs.now
+        → All (WarningAt (IsPrintablePos files)) found.old.items
         → All (WarningAt (IsPrintablePos files)) found.new.items) }
 {
     for def in defs {
@@ -38,7 +39,8 @@ fn warn_of_extractor(
     extractor: &Extractor,
     found: &mut Vec<Warning>,
 ) -> Result<(), AllocError>
-    ensures { OnOk result ((files : List SourceFile) → ExtractorAt (IsPrintablePos files) extractor.now → All (WarningAt (IsPrintablePos files)) found.old.items
+    ensures { OnOk result ((files : List SourceFile) → ExtractorAt (IsPrintablePos files) extractor.now
+        → All (WarningAt (IsPrintablePos files)) found.old.items
         → All (WarningAt (IsPrintablePos files)) found.new.items) }
 {
     let names = names_of_pattern(alloc, &extractor.template)?;
@@ -54,7 +56,8 @@ fn warn_of_args(
     names: &[PatternName<'_>],
     found: &mut Vec<Warning>,
 ) -> Result<(), AllocError>
-    ensures { OnOk result ((files : List SourceFile) → All (IdentAt (IsPrintablePos files)) args.now → All (WarningAt (IsPrintablePos files)) found.old.items
+    ensures { OnOk result ((files : List SourceFile) → All (IdentAt (IsPrintablePos files)) args.now
+        → All (WarningAt (IsPrintablePos files)) found.old.items
         → All (WarningAt (IsPrintablePos files)) found.new.items) }
 {
     let used = names_alone(alloc, names)?;
@@ -85,15 +88,14 @@ fn warn_of_captures(
     names: &[PatternName<'_>],
     found: &mut Vec<Warning>,
 ) -> Result<(), AllocError>
-    ensures { OnOk result ((files : List SourceFile) → All (NameAt (IsPrintablePos files)) names.now → All (WarningAt (IsPrintablePos files)) found.old.items
+    ensures { OnOk result ((files : List SourceFile) → All (NameAt (IsPrintablePos files)) names.now
+        → All (WarningAt (IsPrintablePos files)) found.old.items
         → All (WarningAt (IsPrintablePos files)) found.new.items) }
 {
     let mut seen = texts_of(alloc, args)?;
     for name in names {
         if seen.insert(name.name.0.clone()?)? {
-            if let Some(warning) = bare(alloc, program, name.name)? {
-                found.push(warning)?;
-            }
+            let _ = warn_of_bare(alloc, program, name.name, found)?;
         }
     }
     Ok(())

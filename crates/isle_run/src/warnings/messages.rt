@@ -1,5 +1,9 @@
 //! What warnings say.
-ghost use Rattle.std.specs.Prelude.{◌≡◌, IfOk, IfSome};
+ghost use Rattle.std.specs.Prelude.{◌≡◌, List, All, IfOk, IfSome, OnOk};
+ghost use Rattle.isle_syntax.specs.Positions.Files.{SourceFile};
+ghost use Rattle.isle_syntax.specs.Positions.Printable.{IsPrintablePos};
+ghost use Rattle.isle_syntax.specs.Positions.DefPositions.{IdentAt};
+ghost use Rattle.isle_run.specs.Warnings.{WarningAt};
 
 use crate::program::Program;
 use crate::warnings::Warning;
@@ -35,11 +39,7 @@ pub fn unfit(alloc: Global, converter: &Converter) -> Result<Warning, AllocError
 }
 
 /// `T.A is a variant: write (T.A)`, where a name is that of a variant's or a struct's term.
-pub fn bare(
-    alloc: Global,
-    program: &Program,
-    name: &Ident,
-) -> Result<Option<Warning>, AllocError>
+fn bare(alloc: Global, program: &Program, name: &Ident) -> Result<Option<Warning>, AllocError>
     ensures { IfOk result (λ found. IfSome found (λ warning. warning.pos ≡ name.now.1)) }
 {
     let Some(id) = program.terms().get_term_by_name(program.types(), name) else {
@@ -63,4 +63,24 @@ pub fn bare(
         pos: name.1,
         text: format!(in alloc; "{text} is a {what}: write ({text}{below})")?,
     }))
+}
+
+/// Adds the warning of a name that is a variant's or a struct's, and tells whether it is one.
+pub fn warn_of_bare(
+    alloc: Global,
+    program: &Program,
+    name: &Ident,
+    found: &mut Vec<Warning>,
+) -> Result<bool, AllocError>
+    ensures { OnOk result ((files : List SourceFile) → IdentAt (IsPrintablePos files) name.now
+        → All (WarningAt (IsPrintablePos files)) found.old.items
+        → All (WarningAt (IsPrintablePos files)) found.new.items) }
+{
+    match bare(alloc, program, name)? {
+        Some(warning) => {
+            found.push(warning)?;
+            Ok(true)
+        }
+        None => Ok(false),
+    }
 }

@@ -59,14 +59,17 @@ impl Named<'_> {
     }
 
     fn read_rule(&mut self, rule: &Rule) {
-        rule.pattern.terms(&mut |_: Pos, sym: &Ident| self.mark(sym));
+        rule.pattern
+            .terms(&mut |_: Pos, sym: &Ident| self.mark(sym));
         rule.expr.terms(&mut |_: Pos, sym: &Ident| self.mark(sym));
         self.read_iflets(rule.iflets.as_slice());
     }
 
     fn read_iflets(&mut self, iflets: &[IfLet]) {
         for iflet in iflets {
-            iflet.pattern.terms(&mut |_: Pos, sym: &Ident| self.mark(sym));
+            iflet
+                .pattern
+                .terms(&mut |_: Pos, sym: &Ident| self.mark(sym));
             iflet.expr.terms(&mut |_: Pos, sym: &Ident| self.mark(sym));
         }
     }
@@ -79,7 +82,8 @@ pub fn warn_of_terms(
     defs: &[Def],
     found: &mut Vec<Warning>,
 ) -> Result<(), AllocError>
-    ensures { OnOk result ((files : List SourceFile) → All (DefAt (IsPrintablePos files)) defs.now → All (WarningAt (IsPrintablePos files)) found.old.items
+    ensures { OnOk result ((files : List SourceFile) → All (DefAt (IsPrintablePos files)) defs.now
+        → All (WarningAt (IsPrintablePos files)) found.old.items
         → All (WarningAt (IsPrintablePos files)) found.new.items) }
 {
     let named = named_terms(alloc, program, defs)?;

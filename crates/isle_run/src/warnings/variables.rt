@@ -8,7 +8,7 @@ ghost use Rattle.isle_run.specs.Warnings.{NameAt, WarningAt};
 use crate::program::Program;
 use crate::warnings::Warning;
 use crate::warnings::binders::{PatternName, lets_of_rule, names_of_rule};
-use crate::warnings::messages::{bare, is_silent, unused};
+use crate::warnings::messages::{is_silent, unused, warn_of_bare};
 use crate::warnings::uses::Uses;
 use isle_syntax::Text;
 use isle_syntax::ast::{Def, Ident, Rule};
@@ -23,7 +23,8 @@ pub fn warn_of_rules(
     defs: &[Def],
     found: &mut Vec<Warning>,
 ) -> Result<(), AllocError>
-    ensures { OnOk result ((files : List SourceFile) → All (DefAt (IsPrintablePos files)) defs.now → All (WarningAt (IsPrintablePos files)) found.old.items
+    ensures { OnOk result ((files : List SourceFile) → All (DefAt (IsPrintablePos files)) defs.now
+        → All (WarningAt (IsPrintablePos files)) found.old.items
         → All (WarningAt (IsPrintablePos files)) found.new.items) }
 {
     let rules = rules_in(alloc, defs)?;
@@ -37,7 +38,8 @@ pub fn warn_of_rules(
 
 /// The rules of definitions, in their order.
 fn rules_in(alloc: Global, defs: &[Def]) -> Result<Vec<&Rule>, AllocError>
-    ensures { (files : List SourceFile) → All (DefAt (IsPrintablePos files)) defs.now → IfOk result (λ rules. All (λ rule. RuleAt (IsPrintablePos files) rule.now) rules.items) }
+    ensures { (files : List SourceFile)
+        → All (DefAt (IsPrintablePos files)) defs.now → IfOk result (λ rules. All (λ rule. RuleAt (IsPrintablePos files) rule.now) rules.items) }
 {
     let mut rules = Vec::new(alloc);
     for def in defs {
@@ -76,16 +78,15 @@ fn warn_of_data(
     used: &mut StableSet<Text>,
     found: &mut Vec<Warning>,
 ) -> Result<(), AllocError>
-    ensures { OnOk result ((files : List SourceFile) → All (NameAt (IsPrintablePos files)) names.now → All (WarningAt (IsPrintablePos files)) found.old.items
+    ensures { OnOk result ((files : List SourceFile) → All (NameAt (IsPrintablePos files)) names.now
+        → All (WarningAt (IsPrintablePos files)) found.old.items
         → All (WarningAt (IsPrintablePos files)) found.new.items) }
 {
     let mut seen = StableSet::new(alloc);
     for name in names {
-        if !seen.insert(name.name.0.clone()?)? {
+        let is_new = seen.insert(name.name.0.clone()?)?;
+        if !is_new || warn_of_bare(alloc, program, name.name, found)? {
             let _ = used.insert(name.name.0.clone()?)?;
-        } else if let Some(warning) = bare(alloc, program, name.name)? {
-            let _ = used.insert(name.name.0.clone()?)?;
-            found.push(warning)?;
         }
     }
     Ok(())
@@ -98,7 +99,8 @@ fn warn_of_names(
     used: &StableSet<Text>,
     found: &mut Vec<Warning>,
 ) -> Result<(), AllocError>
-    ensures { OnOk result ((files : List SourceFile) → All (NameAt (IsPrintablePos files)) names.now → All (WarningAt (IsPrintablePos files)) found.old.items
+    ensures { OnOk result ((files : List SourceFile) → All (NameAt (IsPrintablePos files)) names.now
+        → All (WarningAt (IsPrintablePos files)) found.old.items
         → All (WarningAt (IsPrintablePos files)) found.new.items) }
 {
     for name in names {
@@ -116,7 +118,8 @@ fn warn_of_lets(
     uses: &Uses,
     found: &mut Vec<Warning>,
 ) -> Result<(), AllocError>
-    ensures { OnOk result ((files : List SourceFile) → All (λ name. IdentAt (IsPrintablePos files) name.now) lets.now → All (WarningAt (IsPrintablePos files)) found.old.items
+    ensures { OnOk result ((files : List SourceFile) → All (λ name. IdentAt (IsPrintablePos files) name.now) lets.now
+        → All (WarningAt (IsPrintablePos files)) found.old.items
         → All (WarningAt (IsPrintablePos files)) found.new.items) }
 {
     for i in 0..lets.len() {
