@@ -122,45 +122,6 @@ def end_of_head(rows, at, margin):
     return at
 
 
-def heads(rows):
-    """Returns the lines without comments, the bodies of functions, and the functions that other crates can't call."""
-    kept, at, of_trait = [], 0, False
-    while at < len(rows):
-        row = rows[at]
-        found = re.match(r"(\s*)(pub(\(\w+\))? )?(const )?fn \w", row)
-        of_trait = " for " in row if row.startswith("impl") else of_trait and row != "}"
-        if found is None:
-            kept += [] if re.match(r"\s*//", row) else [row]
-        else:
-            first, at = at, end_of_head(rows, at, found[1])
-            is_seen = found[2] == "pub " or rows[at].endswith(";") or (of_trait and found[1])
-            kept += rows[first : at + 1] if is_seen else []
-            at = at if rows[at].endswith((";", "{}")) else rows.index(found[1] + "}", at)
-        at += 1
-    return kept
-
-
-def needed(row, words):
-    """Returns an import with those of its names alone that are among some words, or None where none is."""
-    found = re.match(r"(\s*(?:pub )?(?:ghost )?use )(.*?)(?:\{(.*)\})?;$", row)
-    if found is None or row.lstrip().startswith("pub "):
-        return row
-    names = [it.strip() for it in (found[3] or re.split(r"::|\.", found[2])[-1]).split(",")]
-    names = [it for it in names if it.split()[-1] in words]
-    return f"{found[1]}{found[2]}{names}" if names else None
-
-
-def shown(path):
-    """Returns what other crates see of a source file: types, traits, and the heads of functions that they can call, with the contracts. Private
-    fields and modules, and imports of names that nothing of this has, are left out; and all of a file that has nothing for other crates."""
-    kept = [it for it in heads(text_of(path).decode().split("\n")) if not re.match(r"\s+\w+: \S.*,$|(pub\(\w+\) )?mod \w+;$", it)]
-    if not any(re.match(r"\s*pub |impl.* for ", it) for it in kept):
-        return b""
-    words = {word for it in kept if not re.match(r"\s*(ghost )?use ", it) for word in re.findall(r"[^\s(){}.,;:]+", it)}
-    kept = [needed(it, words) for it in kept if it]
-    return "\n".join(it for it in kept if it).encode()
-
-
 def cited(text):
     """Returns the files of definitions of this repository that a text names."""
     found = set()
@@ -171,9 +132,9 @@ def cited(text):
     return found
 
 
-def pieces(crate):
+def pieces(crate, of_others):
     """Returns the heads of a crate's functions with their contracts, the definitions of its types and traits, and what is implemented for them:
-    lists by name."""
+    lists by name. Of another crate only functions that can be called and fields that can be read count."""
     functions, types = {}, {}
     for path in files_below(f"crates/{crate}/src"):
         rows, at, of = [it for it in text_of(path).decode().split("\n") if not re.match(r"\s*//", it)], 0, None
@@ -185,9 +146,10 @@ def pieces(crate):
             if function:
                 at = end_of_head(rows, at, function[1])
                 head = [re.sub(r"^(\s*)pub(\(\w+\))? ", r"\1", row), *rows[first + 1 : at + 1]]
-                functions.setdefault(function[2], []).append("\n".join(head))
+                if not of_others or re.match(r"\s*pub (const )?fn ", row) or rows[at].endswith(";"):
+                    functions.setdefault(function[2], []).append("\n".join(head))
                 at = at if rows[at].endswith((";", "{}")) else rows.index(function[1] + "}", at)
-            elif of:
+            elif of and not (of_others and re.match(r"\s+\w+: \S.*,$", row)):
                 types.setdefault(of, []).append(re.sub(r"^(\s*)pub(\(\w+\))? ", r"\1", row))
             at += 1
     return functions, types
@@ -204,7 +166,7 @@ def lemmas(crate, text):
 
 
 def own_texts(edit, functions, types):
-    """Returns the texts of an edit and of its functions, with what they name of the crate's functions and types, and their proofs."""
+    """Returns the texts of an edit and of its functions, with what they name of functions and types, and their proofs."""
     texts = {f"tests/edits/{edit.crate}/{edit.name}": text_of(f"tests/edits/{edit.crate}/{edit.name}")}
     for file in {file for file, _, _ in edit.pairs}:
         rows = text_of(f"crates/{edit.crate}/{file}").decode().split("\n")
@@ -234,17 +196,19 @@ def closure(crate, texts):
 
 def sums_of(crate, below):
     """Returns for each edit of a crate a sum of all that its refusal hangs on. A body is refused for a goal that its contract and those of the
-    functions which it calls make false, whatever their bodies and proofs are: so there count its function with its proof, the heads of what it
-    calls, the definitions and own lemmas that these stand on, and what is seen of the crates below."""
-    functions, types = pieces(crate)
+    functions which it calls make false, whatever their bodies and proofs are: so there count its function with its proof, the heads of all
+    functions of the names that it calls, in this crate and those below, the types that it names, and the definitions and own lemmas that these stand on."""
+    functions, types = {}, {}
+    for name in [*below[crate], crate]:
+        for all_of, own in zip((functions, types), pieces(name, name != crate)):
+            for word, heads in own.items():
+                all_of.setdefault(word, []).extend(heads)
     judged = f"{logic()} {TRIAL}".encode()
-    lower = b"".join(shown(it) for name in below[crate] for it in files_below(f"crates/{name}/src"))
-    lower = closure(crate, {"below": lower})
     sums = {}
     for path in files_below(f"tests/edits/{crate}"):
         edit = Edit(crate, path)
         made = hashlib.sha256(judged)
-        texts = {**lower, **closure(crate, own_texts(edit, functions, types))}
+        texts = closure(crate, own_texts(edit, functions, types))
         for name in sorted(texts):
             made.update(name.encode() + b"\n" + texts[name])
         sums[f"{crate}/{edit.name}"] = made.hexdigest()[:32]
