@@ -1,6 +1,6 @@
 -- What a line of input is answered.
 use Rattle.isle_meaning.specs.Values.{Values}
-use Rattle.std.specs.Prelude.{◌≡◌, ◌++◌, ◌-◌, min, ℕ, Bool, true, false, List, [], Option, Some, None, codes, decimal, string_bytes, IsUtf8, ◌⊎◌}
+use Rattle.std.specs.Prelude.{◌≡◌, ◌++◌, ◌-◌, min, ℕ, Bool, true, false, List, [], Option, Some, None, if◌then◌else◌, codes, decimal, string_bytes, IsUtf8, ◌⊎◌}
 use Rattle.std.specs.List.{flat_map, AllZip}
 use Rattle.isle_syntax.specs.declared.lexer.Pos.{Pos}
 use Rattle.isle_syntax.specs.Positions.Files.{SourceFile}
@@ -59,11 +59,7 @@ choice_line program files depth choice = indent (level_of depth choice.depth) ++
 
 -- the lines of choices, or nothing where no trace is asked for
 abbrev pub trace_lines : Program → List SourceFile → Manner → List Choice → List ℕ
-trace_lines program files manner choices = lines_if manner.trace
-  where
-    lines_if : Bool → List ℕ
-    lines_if true = flat_map (choice_line program files manner.depth) choices
-    lines_if false = []
+trace_lines program files manner choices = if manner.trace then flat_map (choice_line program files manner.depth) choices else []
 
 -- a value, or `none`
 abbrev pub given_text : Option ValueTree → List ℕ

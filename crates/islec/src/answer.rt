@@ -109,8 +109,9 @@ fn reply_to_call<V: World>(
 {
     let mut effects = Vec::new(alloc);
     let told = answer_by(alloc, program, world, manner, term, args, &mut effects)?;
-    watch.keep(manner, told.1.as_slice())?;
-    let mut lines = trace_text(alloc, program, watch.files, manner, told.1.as_slice())?;
+    let choices = told.1.as_slice();
+    watch.keep(manner, choices)?;
+    let mut lines = trace_text(alloc, program, watch.files, manner, choices)?;
     push_reply(alloc, &mut lines, program, manner, effects.as_slice(), &told.0)?;
     Ok(Reply {
         lines,
@@ -134,7 +135,8 @@ fn push_reply(
         push_effect(alloc, lines, effect)?;
     }
     push_answer(alloc, lines, program, &called.answer)?;
-    push_steps(alloc, lines, manner.steps, called.steps)
+    push_steps(alloc, lines, manner.steps, called.steps)?;
+    Ok(())
 }
 
 /// Answers a call by the road that is asked for, with the rules that are chosen where these are asked for.

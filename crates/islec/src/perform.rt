@@ -187,10 +187,34 @@ fn answer_all<R: BufRead, W: Write>(
         (W.contents writer.old) (W.contents writer.new) world.new) }
 {
     let mut watch = Watch::new(alloc, files);
-    let status = answer(alloc, program, world, manner, &mut watch, reader, writer)?;
-    let text = summary(alloc, program, manner, &watch, world)?;
+    match answer(alloc, program, world, manner, &mut watch, reader, writer) {
+        Ok(status) => match tell_summary(alloc, program, manner, &watch, world, writer) {
+            Ok(()) => Ok(status),
+            Err(fault) => Err(fault),
+        },
+        Err(fault) => Err(fault),
+    }
+}
+
+/// Writes what is told behind all answers.
+fn tell_summary<W: Write>(
+    alloc: Global,
+    program: &Program,
+    manner: Manner,
+    watch: &Watch<'_>,
+    world: &WatchedTable,
+    writer: &mut W,
+) -> Result<(), ServeFault>
+    ensures written { OnOk result ((lines : List ℕ) × IsSummary manner lines × Appends (W.contents writer.old) (W.contents writer.new) lines) }
+    ensures cut { IfErr result (λ fault. fault ≢ ServeFault.Memory → (lines : List ℕ)
+        × IsSummary manner lines × AppendsBeginning (W.contents writer.old) (W.contents writer.new) lines) }
+    ensures memory { IfErr result (λ fault. fault ≡ ServeFault.Memory → Keeps
+        (W.contents writer.old) (W.contents writer.new)) }
+    ensures fault { IfErr result (λ fault. fault ≢ ServeFault.Read) }
+{
+    let text = summary(alloc, program, manner, watch, world)?;
     write_text(writer, text.as_str())?;
-    Ok(status)
+    Ok(())
 }
 
 /// What is told behind all answers.
@@ -203,6 +227,20 @@ fn summary(
 ) -> Result<String, AllocError>
     ensures { IfOk result (λ text. IsSummary manner (string_bytes text)) }
 {
+    if manner.coverage || manner.unanswered {
+        return summary_lines(alloc, program, manner, watch, world);
+    }
+    Ok(String::new(alloc))
+}
+
+/// The lines of rules that were not chosen, where these are asked for, and of calls without an entry, where these are.
+fn summary_lines(
+    alloc: Global,
+    program: &Program,
+    manner: Manner,
+    watch: &Watch<'_>,
+    world: &WatchedTable,
+) -> Result<String, AllocError> {
     let mut text = String::new(alloc);
     if manner.coverage {
         text.push_str(watch.unchosen(alloc, program)?.as_str())?;
@@ -349,10 +387,11 @@ fn checked_text(
     ensures { IfOk result (λ text. TellsChecked program.now terms warn (string_bytes text)) }
 {
     let mut text = program_text(alloc, program, terms)?;
-    if warn {
-        let warnings = warnings_text(alloc, program, files)?;
-        text.push_str(warnings.as_str())?;
+    if !warn {
+        return Ok(text);
     }
+    let warnings = warnings_text(alloc, program, files)?;
+    text.push_str(warnings.as_str())?;
     Ok(text)
 }
 

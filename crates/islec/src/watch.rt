@@ -79,10 +79,11 @@ pub fn trace_text(
     ensures { IfOk result (λ text. string_bytes text ≡ trace_lines program.now files.now manner choices.now) }
 {
     let mut lines = String::new(alloc);
-    if manner.trace {
-        for choice in choices {
-            push_choice(alloc, &mut lines, program, files, manner.depth, choice)?;
-        }
+    if !manner.trace {
+        return Ok(lines);
+    }
+    for choice in choices {
+        push_choice(alloc, &mut lines, program, files, manner.depth, choice)?;
     }
     Ok(lines)
 }

@@ -1,12 +1,13 @@
 use Rattle.isle_run.proofs.OpenCalls.Made.{on_err}
 use Rattle.islec.proofs.ReplyLemmas.{begins_with}
-use Rattle.std.proofs.Common.{◌++◌, ◌∙◌, sym, ap, refl, subst}
+use Rattle.std.proofs.Common.{◌++◌, ◌∙◌, sym, ap, string_bytes, subst}
 use Rattle.std.specs.List.{flat_map, AllZip}
 use Rattle.isle_meaning.specs.ValueTypes.{AreOfTypes}
 use Rattle.isle_terms.specs.Values.{value_list}
 use Rattle.isle_run.specs.Calls.Answers.{IsEventOf}
 use Rattle.isle_run.specs.Programs.{value_facts}
 use Rattle.isle_run.proofs.OpenCalls.Telling.{inputs_taken}
+use Rattle.islec.specs.Replies.{effect_line, answer_line, steps_line}
 use Rattle.islec.proofs.answer.reply_to_call.Goals as goal
 
 pub answer_by-requires : goal.answer_by-requires
@@ -18,7 +19,20 @@ answer_by-requires g c = record {
 }
 
 pub returns-clause-answers : goal.returns-clause-answers
-returns-clause-answers g c = ?
+returns-clause-answers g c = record {
+  effects = c.answer_by.new.effects.items;
+  called = c.in_ok-told.told.0;
+  outcome =
+      let (made, has, tells) = c.in_ok-told.ensures.ran in
+      let joined = has.joined ∙ ap (λ l. l ++ has.more) c.new-effects.ensures.items in
+      (made, subst (λ l. AllZip (IsEventOf c.args.program.now) l made) (sym joined) has.shown, has.steps, tells);
+  told = string_bytes c.in_ok-lines.lines;
+  traced = (_, _, c.in_ok-lines.ensures);
+  written = c.in_ok-push_reply.ensures
+      ∙ ap (λ l. string_bytes c.in_ok-lines.lines ++ (flat_map effect_line l ++ (answer_line c.args.program.now c.in_ok-told.told.0.answer
+      ++ steps_line c.args.manner.steps c.in_ok-told.told.0.steps))) c.as_slice.ensures.value;
+  counted = search;
+}
 
 pub returns-in_err-told-clause-lost : goal.returns-in_err-told-clause-lost
 returns-in_err-told-clause-lost g c =

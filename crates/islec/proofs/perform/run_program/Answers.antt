@@ -43,7 +43,7 @@ returns-in-Ok-clause-all_well g c =
       has,
     ) in
     answers_in_world c.args.program.now (world_file c.args.world) c.args.manner c.in-Ok.table c.answer_all.new.world spells (g.R.Read.remaining c.args.reader.now) (g.R.Read.remaining c.answer_all.new.reader)
-    (g.W.Write.contents c.args.writer.now) (g.W.Write.contents c.answer_all.new.writer) false AllWell c.answer_all.result c.answer_all.ensures.all_well
+    (g.W.Write.contents c.args.writer.now) (g.W.Write.contents c.answer_all.new.writer) false AllWell c.answer_all.result (rw c.new-world.ensures at c.answer_all.ensures.all_well)
 
 pub returns-in-Ok-clause-some_refused : goal.returns-in-Ok-clause-some_refused
 returns-in-Ok-clause-some_refused g c =
@@ -55,7 +55,7 @@ returns-in-Ok-clause-some_refused g c =
       has,
     ) in
     answers_in_world c.args.program.now (world_file c.args.world) c.args.manner c.in-Ok.table c.answer_all.new.world spells (g.R.Read.remaining c.args.reader.now) (g.R.Read.remaining c.answer_all.new.reader)
-    (g.W.Write.contents c.args.writer.now) (g.W.Write.contents c.answer_all.new.writer) true SomeRefused c.answer_all.result c.answer_all.ensures.some_refused
+    (g.W.Write.contents c.args.writer.now) (g.W.Write.contents c.answer_all.new.writer) true SomeRefused c.answer_all.result (rw c.new-world.ensures at c.answer_all.ensures.some_refused)
 
 pub returns-in-Ok-clause-cut : goal.returns-in-Ok-clause-cut
 returns-in-Ok-clause-cut g c =
@@ -67,7 +67,7 @@ returns-in-Ok-clause-cut g c =
       has,
     ) in
     cuts_in_world c.args.program.now (world_file c.args.world) c.args.manner c.in-Ok.table c.answer_all.new.world spells (g.R.Read.remaining c.args.reader.now) (g.R.Read.remaining c.answer_all.new.reader)
-    (g.W.Write.contents c.args.writer.now) (g.W.Write.contents c.answer_all.new.writer) c.answer_all.result c.answer_all.ensures.cut
+    (g.W.Write.contents c.args.writer.now) (g.W.Write.contents c.answer_all.new.writer) c.answer_all.result (rw c.new-world.ensures at c.answer_all.ensures.cut)
 
 pub returns-in-Ok-clause-memory : goal.returns-in-Ok-clause-memory
 returns-in-Ok-clause-memory g c =
@@ -79,4 +79,4 @@ returns-in-Ok-clause-memory g c =
       has,
     ) in
     stops_in_world c.args.program.now (world_file c.args.world) c.args.manner c.in-Ok.table c.answer_all.new.world spells (g.R.Read.remaining c.args.reader.now) (g.R.Read.remaining c.answer_all.new.reader)
-    (g.W.Write.contents c.args.writer.now) (g.W.Write.contents c.answer_all.new.writer) c.answer_all.result c.answer_all.ensures.memory
+    (g.W.Write.contents c.args.writer.now) (g.W.Write.contents c.answer_all.new.writer) c.answer_all.result (rw c.new-world.ensures at c.answer_all.ensures.memory)
