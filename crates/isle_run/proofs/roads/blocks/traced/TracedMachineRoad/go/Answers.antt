@@ -6,11 +6,11 @@ use Rattle.isle_run.proofs.OpenCalls.Made.{made_none, on_err}
 use Rattle.isle_run.proofs.roads.blocks.traced.TracedMachineRoad.go.Goals as goal
 
 pub returns-in_err-note-clause-lost : goal.returns-in_err-note-clause-lost
-returns-in_err-note-clause-lost g c = rw c.note.ensures (on_err c.from_residual.result (λ k since o f. (
+returns-in_err-note-clause-lost g c = on_err c.from_residual.result (λ k since o f. (
   [],
   made_none _ _ _ _,
   subst (CallBegins k) (sym (append-nil since)) (frame_has_begun k c.args.self.now.machine.store c.args.frame.now since f),
-)))
+))
 
 pub returns-clause-turned : goal.returns-clause-turned
 returns-clause-turned g c = rw c.note.ensures at c.go.ensures.turned
