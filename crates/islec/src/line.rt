@@ -7,6 +7,7 @@ ghost use Rattle.islec.specs.Jobs.{HasFiles, reads_input};
 ghost use Rattle.islec.specs.Commands.{IsArgument, IsCommand, blocks, blocks_rules, check, check_rules, fmt};
 ghost use Rattle.islec.specs.Commands.{depth as the_depth, plain as the_plain, rule_files as the_files, steps as the_steps};
 ghost use Rattle.islec.specs.Commands.{coverage as the_coverage, trace as the_trace, unanswered as the_unanswered};
+ghost use Rattle.islec.specs.Commands.{terms as the_terms, warn as the_warn, world as the_world};
 ghost use Rattle.islec.specs.Commands.{fmt_rules, islec, run, run_rules};
 ghost use Rattle.islec.specs.Lines.{ReadsLine, RefusesLine, SaysLine, names_of};
 ghost use Rattle.islec.specs.Rows.{FillsRules};
@@ -121,13 +122,9 @@ fn command<'a>(alloc: Global) -> Result<Command<'a>, AllocError>
 fn run_command<'a>(alloc: Global) -> Result<Command<'a>, AllocError>
     ensures { IfOk result (IsCommand run) }
 {
-    let world = Arg::new(alloc, "world")
-        .long("world")
-        .value_name("FILE")
-        .help("The file that tells what external terms answer");
     Command::new(alloc, "run")
         .about("Answers queries from standard input, one a line")
-        .arg(world)?
+        .arg(world(alloc))?
         .arg(depth(alloc))?
         .arg(plain(alloc))?
         .arg(steps(alloc))?
@@ -135,6 +132,15 @@ fn run_command<'a>(alloc: Global) -> Result<Command<'a>, AllocError>
         .arg(coverage(alloc))?
         .arg(unanswered(alloc))?
         .arg(rule_files(alloc, "The rule files, compiled together in this order"))
+}
+
+fn world<'a>(alloc: Global) -> Arg<'a>
+    ensures { IsArgument the_world result }
+{
+    Arg::new(alloc, "world")
+        .long("world")
+        .value_name("FILE")
+        .help("The file that tells what external terms answer")
 }
 
 fn depth<'a>(alloc: Global) -> Arg<'a>
@@ -196,22 +202,32 @@ fn unanswered<'a>(alloc: Global) -> Arg<'a>
 fn check_command<'a>(alloc: Global) -> Result<Command<'a>, AllocError>
     ensures { IfOk result (IsCommand check) }
 {
-    let terms = Arg::new(alloc, "terms")
-        .long("terms")
-        .help("Tell of each term with rules whether it can be run, and its most steps")
-        .action(ArgAction::SetTrue);
-    let warn = Arg::new(alloc, "warn")
-        .long("warn")
-        .help("Tell what is likely to be a slip, as a variable that isn't used")
-        .action(ArgAction::SetTrue);
     Command::new(alloc, "check")
         .about("Tells whether the files are accepted, or what is wrong with them")
-        .arg(terms)?
-        .arg(warn)?
+        .arg(terms(alloc))?
+        .arg(warn(alloc))?
         .arg(rule_files(
             alloc,
             "The rule files, compiled together in this order; - is standard input",
         ))
+}
+
+fn terms<'a>(alloc: Global) -> Arg<'a>
+    ensures { IsArgument the_terms result }
+{
+    Arg::new(alloc, "terms")
+        .long("terms")
+        .help("Tell of each term with rules whether it can be run, and its most steps")
+        .action(ArgAction::SetTrue)
+}
+
+fn warn<'a>(alloc: Global) -> Arg<'a>
+    ensures { IsArgument the_warn result }
+{
+    Arg::new(alloc, "warn")
+        .long("warn")
+        .help("Tell what is likely to be a slip, as a variable that isn't used")
+        .action(ArgAction::SetTrue)
 }
 
 fn blocks_command<'a>(alloc: Global) -> Result<Command<'a>, AllocError>
