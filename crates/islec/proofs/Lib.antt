@@ -14,6 +14,8 @@ pub mod ReplyLemmas
 pub mod LineLemmas
 -- Replies to lines one after another.
 pub mod ServingLemmas
+-- What is written of all replies and of what is told behind them.
+pub mod SummaryLemmas
 -- What a run of texts writes, by what its parts write.
 pub mod RunLemmas
 -- What is written of the trees of a program's rules, by what its parts write.

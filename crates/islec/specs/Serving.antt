@@ -2,7 +2,7 @@
 use Rattle.std.specs.Prelude.{◌≡◌, ◌<◌, ◌==◌, ◌||◌, ◌++◌, ◌⊎◌, ℕ, Bool, true, false, List, [], ◌∷◌, Option, Some, None, IfSome, if◌then◌else◌, codes, length}
 use Rattle.std.specs.Io.BufRead.{take_through, drop_through}
 use Rattle.std.specs.Io.{StopsAt}
-use Rattle.std.specs.Io.KnownBytes.{Appends, Consumes}
+use Rattle.std.specs.Io.KnownBytes.{Appends, Consumes, Keeps}
 use Rattle.islec.specs.declared.answer.Manner.{Manner}
 use Rattle.islec.specs.declared.serve.Served.{Served}
 use Rattle.islec.specs.declared.serve.Served.TheVariants.{AllWell, SomeRefused}
@@ -109,7 +109,8 @@ AnswersOrTellsCut setting before input old new after = AnswersCut setting before
 -- where memory runs out, replies to first lines are written, or all of them
 abbrev pub AnswersUntilMemory : {V : Type 0} → Setting V → V → (input left old new : Option (List ℕ)) → V → Type 0
 AnswersUntilMemory setting before input left old new after =
-    AnswersFirst setting Memory before input left old new after ⊎ ((refused : Bool) × AnswersAll setting before input refused old new after)
+    AnswersFirst setting Memory before input left old new after
+    ⊎ ((refused : Bool) × (middle : Option (List ℕ)) × AnswersAll setting before input refused old middle after × Keeps middle new)
 
 -- whether some line counted as refused
 abbrev pub some_refused : Served → Bool

@@ -188,23 +188,22 @@ fn answer_all<R: BufRead, W: Write>(
 {
     let mut watch = Watch::new(alloc, files);
     match answer(alloc, program, world, manner, &mut watch, reader, writer) {
-        Ok(status) => match tell_summary(alloc, program, manner, &watch, world, writer) {
-            Ok(()) => Ok(status),
-            Err(fault) => Err(fault),
-        },
+        Ok(status) => tell_summary(alloc, program, manner, &watch, world, status, writer),
         Err(fault) => Err(fault),
     }
 }
 
-/// Writes what is told behind all answers.
+/// Writes what is told behind all answers, which gave this status.
 fn tell_summary<W: Write>(
     alloc: Global,
     program: &Program,
     manner: Manner,
     watch: &Watch<'_>,
     world: &WatchedTable,
+    status: Status,
     writer: &mut W,
-) -> Result<(), ServeFault>
+) -> Result<Status, ServeFault>
+    ensures status { IfOk result (λ given. given ≡ status) }
     ensures written { OnOk result ((lines : List ℕ) × IsSummary manner lines × Appends (W.contents writer.old) (W.contents writer.new) lines) }
     ensures cut { IfErr result (λ fault. fault ≢ ServeFault.Memory → (lines : List ℕ)
         × IsSummary manner lines × AppendsBeginning (W.contents writer.old) (W.contents writer.new) lines) }
@@ -214,7 +213,7 @@ fn tell_summary<W: Write>(
 {
     let text = summary(alloc, program, manner, watch, world)?;
     write_text(writer, text.as_str())?;
-    Ok(())
+    Ok(status)
 }
 
 /// What is told behind all answers.
