@@ -52,19 +52,10 @@ run_own = (
       (
         record { own = refl; keeps = omega arith; wants = unset _ refl; default = unset _ refl },
         (
-          record { own = refl; keeps = omega arith; wants = unset _ refl; default = unset _ refl },
+          record { own = refl; keeps = omega arith; wants = λ e. omega arith; default = λ e. omega arith },
           (
-            record { own = refl; keeps = omega arith; wants = unset _ refl; default = unset _ refl },
-            (
-              record { own = refl; keeps = omega arith; wants = unset _ refl; default = unset _ refl },
-              (
-                record { own = refl; keeps = omega arith; wants = λ e. omega arith; default = λ e. omega arith },
-                (
-                  record { own = refl; keeps = tt; wants = unset _ refl; default = unset _ refl },
-                  tt,
-                ),
-              ),
-            ),
+            record { own = refl; keeps = tt; wants = unset _ refl; default = unset _ refl },
+            tt,
           ),
         ),
       ),
@@ -76,13 +67,10 @@ check_own : OwnRules check_rules
 check_own = (
   record { own = refl; keeps = omega arith; wants = unset _ refl; default = unset _ refl },
   (
-    record { own = refl; keeps = omega arith; wants = unset _ refl; default = unset _ refl },
+    record { own = refl; keeps = omega arith; wants = λ e. omega arith; default = λ e. omega arith },
     (
-      record { own = refl; keeps = omega arith; wants = λ e. omega arith; default = λ e. omega arith },
-      (
-        record { own = refl; keeps = tt; wants = unset _ refl; default = unset _ refl },
-        tt,
-      ),
+      record { own = refl; keeps = tt; wants = unset _ refl; default = unset _ refl },
+      tt,
     ),
   ),
 )
@@ -106,13 +94,10 @@ fmt_own : OwnRules fmt_rules
 fmt_own = (
   record { own = refl; keeps = omega arith; wants = λ e. omega arith; default = λ e. omega arith },
   (
-    record { own = refl; keeps = omega arith; wants = unset _ refl; default = unset _ refl },
+    record { own = refl; keeps = omega arith; wants = λ e. omega arith; default = λ e. omega arith },
     (
-      record { own = refl; keeps = omega arith; wants = λ e. omega arith; default = λ e. omega arith },
-      (
-        record { own = refl; keeps = tt; wants = unset _ refl; default = unset _ refl },
-        tt,
-      ),
+      record { own = refl; keeps = tt; wants = unset _ refl; default = unset _ refl },
+      tt,
     ),
   ),
 )

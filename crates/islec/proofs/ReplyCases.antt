@@ -35,7 +35,7 @@ lists world name args answer next = next ≡ world ++ name ∷ []
 
 -- the plain road, on which one call may be open
 abbrev by_rules : Manner
-by_rules = record { depth = 1; plain = true; steps = false; trace = false; coverage = false; unanswered = false }
+by_rules = record { depth = 1; plain = true; steps = false }
 
 abbrev counting : Program → Answers → Setting ℕ
 counting program answers = record { program = program; answers = answers; step = counts; manner = by_rules }

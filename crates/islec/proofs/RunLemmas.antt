@@ -12,7 +12,8 @@ use Rattle.islec.specs.declared.serve.ServeFault.{ServeFault}
 use Rattle.islec.specs.declared.serve.ServeFault.TheVariants.{Memory}
 use Rattle.islec.specs.declared.status.Status.{Status}
 use Rattle.islec.specs.declared.status.Status.TheVariants.{AllWell, TextsRefused}
-use Rattle.islec.specs.Running.{TellsChecked, WritesFaults, WritesAnswers, WritesAccepted, WritesRefusal, CutsCheck, CutsRun, AnswersSome, AnswersIn, TellsWorld, CutsIn, StopsIn}
+use Rattle.islec.specs.Running.{WritesFaults, WritesAnswers, WritesAccepted, WritesRefusal, CutsCheck, CutsRun, AnswersSome, AnswersIn, TellsWorld, CutsIn, StopsIn}
+use Rattle.islec.specs.Terms.{TellsProgram}
 use Rattle.islec.specs.Writing.{AppendsBeginning}
 use Rattle.islec.proofs.RefusedFiles.{writes_faults, cuts_faults}
 
@@ -54,15 +55,15 @@ module _ (files all : List SourceFile) (refused : Refused) (report : Report) (ol
   refusal_cut world manner input (Ok s) wrote = tt
   refusal_cut world manner input (Err f) wrote = λ e. inr (cuts_faults files all refused report old new is same not_accepted faults of_files (wrote e))
 
-  pub refusal_uncheckable : (asked warned : Bool) (r : Result Status ServeFault) → IfErr r (λ f. f ≢ Memory → AppendsBeginning old new (report_text report))
-      → IfErr r (λ f. f ≢ Memory → CutsCheck all asked warned old new)
-  refusal_uncheckable asked warned (Ok s) wrote = tt
-  refusal_uncheckable asked warned (Err f) wrote = λ e. inr (cuts_faults files all refused report old new is same not_accepted faults of_files (wrote e))
+  pub refusal_uncheckable : (asked : Bool) (r : Result Status ServeFault) → IfErr r (λ f. f ≢ Memory → AppendsBeginning old new (report_text report))
+      → IfErr r (λ f. f ≢ Memory → CutsCheck all asked old new)
+  refusal_uncheckable asked (Ok s) wrote = tt
+  refusal_uncheckable asked (Err f) wrote = λ e. inr (cuts_faults files all refused report old new is same not_accepted faults of_files (wrote e))
 
-module _ (files all : List SourceFile) (same : files ≡ all) (program : Program) (is : IsProgramOf files program) (accepted : AreAccepted files) (asked warned : Bool)
+module _ (files all : List SourceFile) (same : files ≡ all) (program : Program) (is : IsProgramOf files program) (accepted : AreAccepted files) (asked : Bool)
     (old new : Option (List ℕ)) where
-  pub accepts_by : (r : Result Status ServeFault) → OnOk r ((text : List ℕ) × TellsChecked program asked warned text × Appends old new text)
-      → IfOk r (λ s. s ≡ AllWell → WritesAccepted all asked warned old new)
+  pub accepts_by : (r : Result Status ServeFault) → OnOk r ((text : List ℕ) × TellsProgram program asked text × Appends old new text)
+      → IfOk r (λ s. s ≡ AllWell → WritesAccepted all asked old new)
   accepts_by (Err f) told = tt
   accepts_by (Ok s) told = λ _. record {
     accepted = subst AreAccepted same accepted;
@@ -73,8 +74,8 @@ module _ (files all : List SourceFile) (same : files ≡ all) (program : Program
     written = told.2;
   }
 
-  pub tells_cut : (r : Result Status ServeFault) → IfErr r (λ f. f ≢ Memory → (text : List ℕ) × TellsChecked program asked warned text × AppendsBeginning old new text)
-      → IfErr r (λ f. f ≢ Memory → CutsCheck all asked warned old new)
+  pub tells_cut : (r : Result Status ServeFault) → IfErr r (λ f. f ≢ Memory → (text : List ℕ) × TellsProgram program asked text × AppendsBeginning old new text)
+      → IfErr r (λ f. f ≢ Memory → CutsCheck all asked old new)
   tells_cut (Ok s) told = tt
   tells_cut (Err f) told = λ e. inl (program, subst (λ l. IsProgramOf l program) same is, told e)
 

@@ -13,7 +13,7 @@ use Rattle.islec.specs.declared.status.Status.{Status}
 use Rattle.islec.specs.declared.status.Status.TheVariants.{TextsRefused}
 use Rattle.islec.specs.Statuses.{IsEnd}
 use Rattle.islec.specs.Running.{AnswersIn, TellsWorld, CutsIn, StopsIn, IsTableOf, in_entries}
-use Rattle.islec.specs.Serving.{AnswersAndTells, AnswersOrTellsCut, AnswersUntilMemory}
+use Rattle.islec.specs.Serving.{AnswersAll, AnswersFirst, AnswersCut}
 use Rattle.islec.specs.Worlds.{world_fault_line}
 use Rattle.islec.specs.Writing.{AppendsBeginning}
 
@@ -45,17 +45,17 @@ module _ (program : Program) (world file : SourceFile) (manner : Manner) (same :
 
 module _ (program : Program) (world : SourceFile) (manner : Manner) (entries after : List EntryTree) (spells : IsTableOf program world entries) (input left old new : Option (List ℕ)) where
   pub answers_in_world : (refused : Bool) (want : Status) (r : Result Status ServeFault)
-      → IfOk r (λ s. s ≡ want → AnswersAndTells (in_entries program entries manner) entries input refused old new after)
+      → IfOk r (λ s. s ≡ want → AnswersAll (in_entries program entries manner) entries input refused old new after)
       → IfOk r (λ s. s ≡ want → AnswersIn program world manner input refused old new)
   answers_in_world refused want (Err f) told = tt
   answers_in_world refused want (Ok s) told = λ e. (entries, after, spells, told e)
 
-  pub cuts_in_world : (r : Result Status ServeFault) → IfErr r (λ f. f ≢ Memory → AnswersOrTellsCut (in_entries program entries manner) entries input old new after)
+  pub cuts_in_world : (r : Result Status ServeFault) → IfErr r (λ f. f ≢ Memory → AnswersCut (in_entries program entries manner) entries input old new after)
       → IfErr r (λ f. f ≢ Memory → CutsIn program world manner input old new)
   cuts_in_world (Ok s) told = tt
   cuts_in_world (Err f) told = λ e. inl (entries, after, spells, told e)
 
-  pub stops_in_world : (r : Result Status ServeFault) → IfErr r (λ f. f ≡ Memory → AnswersUntilMemory (in_entries program entries manner) entries input left old new after)
+  pub stops_in_world : (r : Result Status ServeFault) → IfErr r (λ f. f ≡ Memory → AnswersFirst (in_entries program entries manner) f entries input left old new after)
       → IfErr r (λ f. f ≡ Memory → StopsIn program world manner input left old new)
   stops_in_world (Ok s) told = tt
-  stops_in_world (Err f) told = λ e. inr (entries, after, spells, told e)
+  stops_in_world (Err f) told = λ e. inr (entries, after, spells, subst (λ fault. AnswersFirst (in_entries program entries manner) fault entries input left old new after) e (told e))

@@ -1,4 +1,4 @@
--- How many files a command takes, and whether one may be standard input.
+-- How many files a command takes.
 pub mod Jobs
 -- How a command ends.
 pub mod Statuses
@@ -26,8 +26,6 @@ pub mod Commands
 pub mod Rows
 -- What the words of a command line say.
 pub mod Lines
--- Which files are standard input, and what is read of it.
-pub mod Inputs
 -- Why a file can't be read, in words.
 pub mod Causes
 -- Why a command was not begun, and what is told of it.

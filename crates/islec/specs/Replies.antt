@@ -1,9 +1,7 @@
 -- What a line of input is answered.
 use Rattle.isle_meaning.specs.Values.{Values}
-use Rattle.std.specs.Prelude.{◌≡◌, ◌++◌, ◌-◌, min, ℕ, Bool, true, false, List, [], Option, Some, None, if◌then◌else◌, codes, decimal, string_bytes, IsUtf8, ◌⊎◌}
+use Rattle.std.specs.Prelude.{◌≡◌, ◌++◌, ℕ, Bool, true, false, List, [], Option, Some, None, codes, decimal, string_bytes, IsUtf8, ◌⊎◌}
 use Rattle.std.specs.List.{flat_map, AllZip}
-use Rattle.isle_syntax.specs.declared.lexer.Pos.{Pos}
-use Rattle.isle_syntax.specs.Positions.Files.{SourceFile}
 use Rattle.isle_types.specs.declared.ids.TermId.{TermId}
 use Rattle.isle_meaning.specs.GroundValues.{values_of}
 use Rattle.isle_meaning.specs.Worlds.{Answers, Event}
@@ -12,14 +10,12 @@ use Rattle.isle_run.specs.declared.calls.answer.Answer.{Answer}
 use Rattle.isle_run.specs.declared.calls.answer.Answer.TheVariants.{Value, None as NoAnswer, Stuck, Spent, IllTyped}
 use Rattle.isle_run.specs.declared.calls.answer.Called.{Called}
 use Rattle.isle_run.specs.declared.calls.answer.Effect.{Effect}
-use Rattle.isle_run.specs.declared.calls.choices.Choice.{Choice}
 use Rattle.isle_run.specs.declared.program.Program.{Program}
 use Rattle.isle_run.specs.declared.query.QueryFault.{QueryFault}
 use Rattle.isle_run.specs.declared.query.QueryFault.TheVariants.{Q1, Q2, Q3, Q4, Memory}
 use Rattle.isle_run.specs.Meanings.{checked}
 use Rattle.isle_run.specs.PlainCalls.{TellsPlainly, BeginsPlainly}
 use Rattle.isle_run.specs.TreeCalls.{TellsByTree, BeginsByTree}
-use Rattle.isle_run.specs.TreeTexts.Names.{indent, pos_text}
 use Rattle.isle_run.specs.Programs.{term_name}
 use Rattle.isle_run.specs.Queries.{RefusesText, IsCallIn}
 use Rattle.isle_run.specs.Calls.Answers.{answers_in, name_of_term, IsEventOf, LeadsThrough}
@@ -40,26 +36,6 @@ pub record Refuses (cause : ℕ) (reply : Reply) : Type 0 where
 -- a call, as `(TERM ARG ..)`
 abbrev pub call_text : List ℕ → List ValueTree → List ℕ
 call_text name args = codes "(" ++ (name ++ (fields_text (value_list args) ++ codes ")"))
-
--- ---- rules that are chosen for calls
-
--- how many levels the line of a call is indented below which so many calls may be open: one for each call around it, but no more than 40
-abbrev pub level_of : (depth below : ℕ) → ℕ
-level_of depth below = min (depth - 1 - below) 40
-
--- where a rule stands, or `no rule`
-abbrev pub chosen_text : List SourceFile → Option Pos → List ℕ
-chosen_text files (Some pos) = pos_text files pos
-chosen_text files None = codes "no rule"
-
--- the line of a choice, `. (TERM ARG ..) -> FILE:LINE:COLUMN`, two spaces deeper for each call around it
-abbrev pub choice_line : Program → List SourceFile → (depth : ℕ) → Choice → List ℕ
-choice_line program files depth choice = indent (level_of depth choice.depth) ++ (codes ". " ++ (call_text (term_name program choice.term) choice.args.items
-    ++ (codes " -> " ++ (chosen_text files choice.rule ++ codes "\n"))))
-
--- the lines of choices, or nothing where no trace is asked for
-abbrev pub trace_lines : Program → List SourceFile → Manner → List Choice → List ℕ
-trace_lines program files manner choices = if manner.trace then flat_map (choice_line program files manner.depth) choices else []
 
 -- a value, or `none`
 abbrev pub given_text : Option ValueTree → List ℕ
@@ -137,19 +113,13 @@ abbrev pub BeginsCall : {V : Type 0} → Setting V → V → TermId → ValueTre
 BeginsCall setting before term args after = (made : List Event) × Leads setting before made after
     × BeginsBy setting.manner.plain setting.program setting.answers setting.manner.depth term.0 (values_of (checked setting.program).values args) made
 
--- the lines of some choices, where a trace is asked for: in some files, whose places they tell
-abbrev pub AreTraced : {V : Type 0} → Setting V → List ℕ → Type 0
-AreTraced setting told = (files : List SourceFile) × (choices : List Choice) × (told ≡ trace_lines setting.program files setting.manner choices)
-
--- the lines of a call's effects in order and that of its answer, behind those of the rules that were chosen where a trace is asked for, and with
--- that of its steps where it is asked for, and whether the answer counts as refused
+-- the lines of a call's effects in order and that of its answer, with that of its steps where it is asked for, and whether the answer counts as
+-- refused
 pub record AnswersCall {V : Type 0} (setting : Setting V) (before : V) (term : TermId) (args : ValueTrees) (lines : List ℕ) (refused : Bool) (after : V) : Type 0 where
   pub effects : List Effect
   pub called : Called
   pub outcome : IsOutcome setting before term args effects called after
-  pub told : List ℕ
-  pub traced : AreTraced setting told
-  pub written : lines ≡ told ++ (flat_map effect_line effects ++ (answer_line setting.program called.answer ++ steps_line setting.manner.steps called.steps))
+  pub written : lines ≡ flat_map effect_line effects ++ (answer_line setting.program called.answer ++ steps_line setting.manner.steps called.steps)
   pub counted : refused ≡ counts_as_refused called.answer
 
 -- the number of a cause for which a query is refused

@@ -1,5 +1,5 @@
 -- What a run or a check writes of files that are accepted or refused.
-use Rattle.std.specs.Prelude.{◌≡◌, ◌⊎◌, ◌++◌, ℕ, Bool, false, List, [], Option, codes}
+use Rattle.std.specs.Prelude.{◌≡◌, ◌⊎◌, ℕ, Bool, List, Option, codes}
 use Rattle.std.specs.Io.KnownBytes.{Appends, Keeps}
 use Rattle.isle_syntax.specs.Errors.{report_text}
 use Rattle.isle_syntax.specs.Positions.Files.{SourceFile}
@@ -12,10 +12,11 @@ use Rattle.isle_run.specs.Worlds.Entries.{EntryTree}
 use Rattle.isle_run.specs.Worlds.Tables.{HasEntries, constructed, extracted}
 use Rattle.isle_run.specs.Worlds.Texts.{SpellsWorld, RefusesWorld}
 use Rattle.islec.specs.declared.answer.Manner.{Manner}
+use Rattle.islec.specs.declared.serve.ServeFault.TheVariants.{Memory}
 use Rattle.islec.specs.Replies.{Setting, setting_in}
 use Rattle.islec.specs.Terms.{TellsProgram}
 use Rattle.islec.specs.Worlds.{world_fault_line}
-use Rattle.islec.specs.Serving.{AnswersAndTells, AnswersOrTellsCut, AnswersUntilMemory}
+use Rattle.islec.specs.Serving.{AnswersAll, AnswersFirst, AnswersCut}
 use Rattle.islec.specs.Writing.{AppendsBeginning}
 
 -- the files aren't accepted, and a writer that held `old` holds these bytes and behind them the report of their faults
@@ -32,24 +33,18 @@ pub record CutsFaults (files : List SourceFile) (old new : Option (List ℕ)) : 
   pub faults : AreFaults files errors
   pub written : AppendsBeginning old new (report_text (record { errors = errors; files = files }))
 
--- what a check tells of a program: what is told of it, and behind that lines of warnings where these are asked for
-abbrev pub TellsChecked : Program → (asked warned : Bool) → List ℕ → Type 0
-TellsChecked program asked warned text =
-    (told lines : List ℕ) × TellsProgram program asked told × (warned ≡ false → lines ≡ []) × (text ≡ told ++ lines)
-
 -- the files are accepted, and a writer that held `old` holds these bytes and behind them what a check tells of their program
-pub record WritesAccepted (files : List SourceFile) (asked warned : Bool) (old new : Option (List ℕ)) : Type 0 where
+pub record WritesAccepted (files : List SourceFile) (asked : Bool) (old new : Option (List ℕ)) : Type 0 where
   pub accepted : AreAccepted files
   pub program : Program
   pub is : IsProgramOf files program
   pub text : List ℕ
-  pub told : TellsChecked program asked warned text
+  pub told : TellsProgram program asked text
   pub written : Appends old new text
 
 -- a beginning of what a check tells of the files' program is written, or one of the report of faults
-abbrev pub CutsCheck : List SourceFile → (asked warned : Bool) → (old new : Option (List ℕ)) → Type 0
-CutsCheck files asked warned old new = ((program : Program) × IsProgramOf files program
-    × ((text : List ℕ) × TellsChecked program asked warned text × AppendsBeginning old new text))
+abbrev pub CutsCheck : List SourceFile → (asked : Bool) → (old new : Option (List ℕ)) → Type 0
+CutsCheck files asked old new = ((program : Program) × IsProgramOf files program × ((text : List ℕ) × TellsProgram program asked text × AppendsBeginning old new text))
     ⊎ CutsFaults files old new
 
 -- a table answers an effect as it answers pure terms, and stays as it is
@@ -64,10 +59,10 @@ in_entries program entries manner = setting_in leaves program (constructed entri
 abbrev pub IsTableOf : Program → (world : SourceFile) → (table : List EntryTree) → Type 0
 IsTableOf program world table = (entries : List EntryTree) × SpellsWorld program world.text entries × HasEntries table entries
 
--- a program's replies to each line of an input are written, in the world of a file, and behind them what is told behind all
+-- a program's replies to each line of an input are written, in the world of a file
 abbrev pub AnswersIn : Program → (world : SourceFile) → (manner : Manner) → (input : Option (List ℕ)) → Bool → (old new : Option (List ℕ)) → Type 0
 AnswersIn program world manner input refused old new = (table after : List EntryTree) × IsTableOf program world table
-    × AnswersAndTells (in_entries program table manner) table input refused old new after
+    × AnswersAll (in_entries program table manner) table input refused old new after
 
 -- the line that tells why a world is refused is written
 pub record TellsWorld (program : Program) (world : SourceFile) (old new : Option (List ℕ)) : Type 0 where
@@ -81,11 +76,10 @@ pub record CutsWorld (program : Program) (world : SourceFile) (old new : Option 
   pub refused : RefusesWorld program world.text fault
   pub written : AppendsBeginning old new (world_fault_line program world fault)
 
--- a beginning of a program's replies to first lines of an input is written, or of what is told behind all, or one of the line that tells why a
--- world is refused
+-- a beginning of a program's replies to first lines of an input is written, or one of the line that tells why a world is refused
 abbrev pub CutsIn : Program → (world : SourceFile) → (manner : Manner) → (input old new : Option (List ℕ)) → Type 0
 CutsIn program world manner input old new = ((table after : List EntryTree) × IsTableOf program world table
-    × AnswersOrTellsCut (in_entries program table manner) table input old new after) ⊎ CutsWorld program world old new
+    × AnswersCut (in_entries program table manner) table input old new after) ⊎ CutsWorld program world old new
 
 -- nothing is read and nothing is written
 abbrev pub IsUntouched : (input left old new : Option (List ℕ)) → Type 0
@@ -94,7 +88,7 @@ IsUntouched input left old new = (left ≡ input) × Keeps old new
 -- replies of a program to first lines of an input are written, or nothing is read and written
 abbrev pub StopsIn : Program → (world : SourceFile) → (manner : Manner) → (input left old new : Option (List ℕ)) → Type 0
 StopsIn program world manner input left old new = IsUntouched input left old new ⊎ ((table after : List EntryTree) × IsTableOf program world table
-    × AnswersUntilMemory (in_entries program table manner) table input left old new after)
+    × AnswersFirst (in_entries program table manner) Memory table input left old new after)
 
 -- the replies of the files' program to each line of an input are written, in the world of a file
 abbrev pub WritesAnswers : List SourceFile → (world : SourceFile) → (manner : Manner) → (input : Option (List ℕ)) → Bool → (old new : Option (List ℕ)) → Type 0

@@ -1,6 +1,5 @@
 //! The lines that answer a query.
 ghost use Rattle.std.specs.Prelude.{◌≡◌, ◌++◌, List, IfOk, OnOk, OnErr, IsUtf8, string_bytes};
-ghost use Rattle.std.specs.List.{flat_map};
 ghost use Rattle.isle_meaning.specs.GroundValues.{values_of};
 ghost use Rattle.isle_meaning.specs.ValueTypes.{AreOfTypes};
 ghost use Rattle.isle_meaning.specs.Worlds.{Event};
@@ -13,8 +12,7 @@ ghost use Rattle.isle_run.specs.TreeCalls.{IsCompiled};
 ghost use Rattle.isle_run.specs.Values.Text.{value_text};
 ghost use Rattle.islec.specs.Replies.{BeginsBy, TellsBy, steps_line, setting_in, Refuses, IsReply, AnswersCall, BeginsCall, LosesReply, effect_line, answer_line, answer_text, call_text, given_text, counts_as_refused};
 
-use crate::watch::{Watch, trace_text};
-use isle_run::{Answer, Called, Choice, Effect, Program, QueryFault, TermId, Value, World, is_blank};
+use isle_run::{Answer, Called, Effect, Program, QueryFault, TermId, Value, World, is_blank};
 use std::alloc::{AllocError, Global};
 
 /// How queries are answered.
@@ -26,12 +24,6 @@ pub struct Manner {
     pub plain: bool,
     /// Whether each answer is followed by a line that tells how many steps its call took.
     pub steps: bool,
-    /// Whether before each answer a line tells which rule was chosen for its call, and one for each call below it.
-    pub trace: bool,
-    /// Whether behind all answers the rules are told that no call chose.
-    pub coverage: bool,
-    /// Whether behind all answers the calls are told for which the world has no entry of their own.
-    pub unanswered: bool,
 }
 
 /// What a line of input is answered.
@@ -49,7 +41,6 @@ pub fn reply_to<V: World>(
     program: &Program,
     world: &mut V,
     manner: Manner,
-    watch: &mut Watch<'_>,
     line: &[u8],
 ) -> Result<Reply, AllocError>
     requires { IsCompiled program.now }
@@ -70,7 +61,7 @@ pub fn reply_to<V: World>(
         });
     }
     match program.query(alloc, text) {
-        Ok((term, args)) => reply_to_call(alloc, program, world, manner, watch, term, args),
+        Ok((term, args)) => reply_to_call(alloc, program, world, manner, term, args),
         Err(QueryFault::Q1) => refused(alloc, 1),
         Err(QueryFault::Q2) => refused(alloc, 2),
         Err(QueryFault::Q3) => refused(alloc, 3),
@@ -93,7 +84,6 @@ fn reply_to_call<V: World>(
     program: &Program,
     world: &mut V,
     manner: Manner,
-    watch: &mut Watch<'_>,
     term: TermId,
     args: Vec<Value>,
 ) -> Result<Reply, AllocError>
@@ -108,95 +98,17 @@ fn reply_to_call<V: World>(
     ensures same { (V.constructs world.new ≡ V.constructs world.old) × (V.extracts world.new ≡ V.extracts world.old) }
 {
     let mut effects = Vec::new(alloc);
-    let told = answer_by(alloc, program, world, manner, term, args, &mut effects)?;
-    let choices = told.1.as_slice();
-    watch.keep(manner, choices)?;
-    let mut lines = trace_text(alloc, program, watch.files, manner, choices)?;
-    push_reply(alloc, &mut lines, program, manner, effects.as_slice(), &told.0)?;
+    let called = call_by(alloc, program, world, manner, term, args, &mut effects)?;
+    let mut lines = String::new(alloc);
+    for effect in &effects {
+        push_effect(alloc, &mut lines, effect)?;
+    }
+    push_answer(alloc, &mut lines, program, &called.answer)?;
+    push_steps(alloc, &mut lines, manner.steps, called.steps)?;
     Ok(Reply {
         lines,
-        refused: is_refused(&told.0.answer),
+        refused: is_refused(&called.answer),
     })
-}
-
-/// Writes the lines of effects and of the answer behind them, and that of its steps where it is asked for.
-fn push_reply(
-    alloc: Global,
-    lines: &mut String,
-    program: &Program,
-    manner: Manner,
-    effects: &[Effect],
-    called: &Called,
-) -> Result<(), AllocError>
-    ensures { OnOk result (string_bytes lines.new ≡ string_bytes lines.old ++ (flat_map effect_line effects.now
-        ++ (answer_line program.now called.now.answer ++ steps_line manner.steps called.now.steps))) }
-{
-    for effect in effects {
-        push_effect(alloc, lines, effect)?;
-    }
-    push_answer(alloc, lines, program, &called.answer)?;
-    push_steps(alloc, lines, manner.steps, called.steps)?;
-    Ok(())
-}
-
-/// Answers a call by the road that is asked for, with the rules that are chosen where these are asked for.
-fn answer_by<V: World>(
-    alloc: Global,
-    program: &Program,
-    world: &mut V,
-    manner: Manner,
-    term: TermId,
-    args: Vec<Value>,
-    effects: &mut Vec<Effect>,
-) -> Result<(Called, Vec<Choice>), AllocError>
-    requires compiled { IsCompiled program.now }
-    requires callable { IsRunnable (types_of program.now) (terms_of program.now) term.0 }
-    requires typed { AreOfTypes (checked program.now).values (value_list args.items) ((checked program.now).terms.inputs term.0) }
-    ensures ran { IfOk result (λ told. (made : List Event)
-        × HasMade V.step program.now world.old effects.old.items world.new effects.new.items made
-        × TellsBy manner.plain program.now (answers_in program.now (V.constructs world.old) (V.extracts world.old)) manner.depth term.0
-        (values_of (checked program.now).values (value_list args.items)) told.0 made) }
-    ensures lost { OnErr result ((made : List Event)
-        × HasMade V.step program.now world.old effects.old.items world.new effects.new.items made
-        × BeginsBy manner.plain program.now (answers_in program.now (V.constructs world.old) (V.extracts world.old)) manner.depth term.0
-        (values_of (checked program.now).values (value_list args.items)) made) }
-    ensures same { (V.constructs world.new ≡ V.constructs world.old) × (V.extracts world.new ≡ V.extracts world.old) }
-{
-    if manner.trace || manner.coverage {
-        return trace_by(alloc, program, world, manner, term, args, effects);
-    }
-    let called = call_by(alloc, program, world, manner, term, args, effects)?;
-    Ok((called, Vec::new(alloc)))
-}
-
-/// Answers a call by the road that is asked for, with the rules that are chosen.
-fn trace_by<V: World>(
-    alloc: Global,
-    program: &Program,
-    world: &mut V,
-    manner: Manner,
-    term: TermId,
-    args: Vec<Value>,
-    effects: &mut Vec<Effect>,
-) -> Result<(Called, Vec<Choice>), AllocError>
-    requires compiled { IsCompiled program.now }
-    requires callable { IsRunnable (types_of program.now) (terms_of program.now) term.0 }
-    requires typed { AreOfTypes (checked program.now).values (value_list args.items) ((checked program.now).terms.inputs term.0) }
-    ensures ran { IfOk result (λ told. (made : List Event)
-        × HasMade V.step program.now world.old effects.old.items world.new effects.new.items made
-        × TellsBy manner.plain program.now (answers_in program.now (V.constructs world.old) (V.extracts world.old)) manner.depth term.0
-        (values_of (checked program.now).values (value_list args.items)) told.0 made) }
-    ensures lost { OnErr result ((made : List Event)
-        × HasMade V.step program.now world.old effects.old.items world.new effects.new.items made
-        × BeginsBy manner.plain program.now (answers_in program.now (V.constructs world.old) (V.extracts world.old)) manner.depth term.0
-        (values_of (checked program.now).values (value_list args.items)) made) }
-    ensures same { (V.constructs world.new ≡ V.constructs world.old) × (V.extracts world.new ≡ V.extracts world.old) }
-{
-    if manner.plain {
-        program.trace_plain(alloc, term, args, manner.depth, world, effects)
-    } else {
-        program.trace(alloc, term, args, manner.depth, world, effects)
-    }
 }
 
 /// Answers a call by the road that is asked for.
@@ -309,7 +221,7 @@ fn push_answer_text(
 }
 
 /// Writes a call, as `(TERM ARG ..)`, behind a text.
-pub(crate) fn push_call(
+fn push_call(
     alloc: Global,
     lines: &mut String,
     name: &str,
@@ -327,7 +239,7 @@ pub(crate) fn push_call(
 }
 
 /// Writes a value behind a text.
-pub(crate) fn push_value(alloc: Global, lines: &mut String, value: &Value) -> Result<(), AllocError>
+fn push_value(alloc: Global, lines: &mut String, value: &Value) -> Result<(), AllocError>
     ensures { OnOk result (string_bytes lines.new ≡ string_bytes lines.old ++ value_text value.now) }
 {
     lines.push_str(value.print(alloc)?.as_str())

@@ -11,9 +11,6 @@ pub mod program;
 pub mod serve;
 pub mod status;
 pub mod terms;
-pub mod warn;
-pub mod watch;
-pub mod watched;
 pub mod world;
 
 use std::process::ExitCode;
