@@ -6,10 +6,10 @@ VECTORS = tests/vectors/first.json tests/vectors/mixed.json tests/vectors/equal.
 
 .PHONY: run build test commands refusals fuzz edits install replay bench
 
-# The trial build: compiled with checks in the place of proofs. It is that of the library's example, which is made sooner than the program.
+# The trial build of the program: compiled with checks in the place of proofs.
 run:
 	@echo "trial build: nothing is proved (make build proves the program)"
-	cd crates/isle_example && rt try -- '(simp (Op.Add 7 0))' '(simp (Op.Add 7 1))' '(simp (Op.Neg 3))' < ../../examples/first.isle
+	cd crates/islec && rt try --data first.isle=../../examples/first.isle -- run first.isle < ../../examples/first.queries
 
 # Proves the program and builds it, from nothing half an hour or more. `rt run` answers a query file too, here an empty one.
 build:

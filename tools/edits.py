@@ -1,7 +1,7 @@
 #!/usr/bin/env python3
 """Tries the wrong bodies of tests/edits: the prover must refuse each. Ends with 1 where one is not refused.
 
-usage: tools/edits.py [--all] [--rooms=N] [CRATE ..]     those of the crates that are named, or of all crates
+usage: tools/edits.py [--all] [--rooms=N] [--stubs] [CRATE ..]     those of the crates that are named, or of all crates
        tools/edits.py --known                            tries nothing, and ends with 1 where a crate's wrong bodies are still to be tried
 
 tests/edits/CRATE/NAME.edit has a line 'file: src/FILE.rt' and pairs of lines 'old: TEXT' and 'new: TEXT', where TEXT stands once in that file.
@@ -10,6 +10,8 @@ different functions: each must leave a goal of its own function unproved, or an 
 An answer is known by the file of its function, or by its name alone where no other edit of the check is of a function of that name.
 What isn't told apart so, as a constant, is tried once more by itself: then a goal or an answer of any function counts.
 With --rooms=N checks of N rounds go on side by side, each in a copy of its own, which wants 2 to 4 GB.
+With --stubs a check has only the code of the functions that edits are of, over libraries without any (tools/stubs.py): a function is proved from the
+contracts of what it calls, and so it fails over these as it does over the libraries themselves. First the same functions are checked without the edits.
 
 tests/edits/tried.txt has for each edit a sum of all that its refusal hangs on (`sums_of` says what), the program logic that 'rt version' names
 among it. The kit's own name is left out: machines have kits of one logic under several names, and what a body breaks is false under each. Where
@@ -227,13 +229,18 @@ def rounds(edits):
     return made
 
 
-def check(room, edits):
-    """Checks the crate with these edits, and returns what the prover said of it and whether all of it is proved."""
-    crate = edits[0].crate
+def fresh(room, crate):
+    """Copies the sources of a crate anew."""
     for part in PARTS:
         shutil.rmtree(f"{room}/crates/{crate}/{part}", ignore_errors=True)
         if os.path.isdir(f"crates/{crate}/{part}"):
             shutil.copytree(f"crates/{crate}/{part}", f"{room}/crates/{crate}/{part}")
+
+
+def check(room, edits, over_stubs):
+    """Checks the crate with these edits, and returns what the prover said of it and whether all of it is proved."""
+    crate = edits[0].crate
+    fresh(room, crate)
     for edit in edits:
         for file, old, new in edit.pairs:
             path = f"{room}/crates/{crate}/{file}"
@@ -241,12 +248,33 @@ def check(room, edits):
             if text.count(old) != 1:
                 sys.exit(f"{crate}/{edit.name}: its old text is in {file} {text.count(old)} times beside other edits")
             open(path, "w", encoding="utf-8").write(text.replace(old, new))
+    said, is_proved = judged_over_stubs(room, crate, edits) if over_stubs else judged(room, crate)
+    if not re.search(r"(?m)^(logic=(not-)?proved|only=\d)", said):
+        names = " ".join(it.name for it in edits)
+        sys.exit(f"{crate}: the prover did not judge {names}:\n" + "\n".join(said.split("\n")[-12:]))
+    return said, is_proved
+
+
+def judged(room, crate):
     how = {"stdin": subprocess.DEVNULL, "stdout": subprocess.PIPE, "stderr": subprocess.STDOUT, "text": True, "errors": "replace"}
     ran = subprocess.run(["rt", "check", "--jobs", "1"], cwd=f"{room}/crates/{crate}", **how)
-    if not re.search(r"(?m)^logic=(not-)?proved", ran.stdout):
-        names = " ".join(it.name for it in edits)
-        sys.exit(f"{crate}: the prover did not judge {names}:\n" + "\n".join(ran.stdout.split("\n")[-12:]))
     return ran.stdout, ran.returncode == 0
+
+
+def judged_over_stubs(room, crate, edits):
+    """The same of the functions of these edits alone, over libraries without code."""
+    import stubs
+
+    wanted = {(file, name) for edit in edits for file, name, _ in edit.functions}
+    wanted |= {(file, "") for edit in edits if not edit.functions for file, _, _ in edit.pairs}
+    stubs.stub_all_but(crate, f"{room}/crates/{crate}", wanted)
+    modules = sorted({file[len("src/") : -len(".rt")].replace("/", "::") for file, _ in wanted})
+    said = stubs.ran(crate, f"{room}/crates/{crate}", ["--jobs", stubs.JOBS, *[word for it in modules for word in ("--only", it)]])
+    # (the code that was taken away leaves a goal where no hole could be given, as in a method of a trait)
+    spans = [span for edit in edits for span in edit.lines] + [(file, 0, 1 << 30) for file, name in wanted if not name]
+    is_own = lambda row: any(file == its and first <= int(line) <= last for its, line in goals(row) for file, first, last in spans)
+    said = "\n".join(row for row in said.split("\n") if not goals(row) or is_own(row))
+    return said, not goals(said) and not answers(said)
 
 
 def first_error(said):
@@ -255,19 +283,26 @@ def first_error(said):
     return found[0].strip()[:200] if found else "nothing told"
 
 
-def tried(room, part):
+def tried(room, part, over_stubs):
     """Tries a round of edits, and returns the names of those that are not refused."""
-    said, _ = check(room, part)
+    said, _ = check(room, part, over_stubs)
     let_through = []
     for edit in part:
         refused, why = edit.is_refused(said, part), ""
         if not refused:
-            alone, is_proved = check(room, [edit])
+            alone, is_proved = check(room, [edit], over_stubs)
             refused = bool(goals(alone) or answers(alone))
             why = "" if is_proved else f", but for what tells nothing of its contract: {first_error(alone)}"
         print(f"{edit.crate}/{edit.name}: {'refused, as it must be' if refused else f'NOT REFUSED{why}'}", flush=True)
         let_through += [] if refused else [edit.name]
     return let_through
+
+
+def make_stubs(room, crate):
+    import stubs
+
+    stubs.make_libraries(crate)
+    stubs.copy_kept(crate, f"{room}/crates/{crate}")
 
 
 def copied(room, crate, below):
@@ -285,22 +320,37 @@ def copied(room, crate, below):
         print(f"{crate}: nothing is kept of a check, or rt ci has it aside: this one begins from nothing", flush=True)
 
 
-def tried_in_a_copy(crate, below, parts):
+def stop_where_open(crate, edits):
+    """Ends where the functions of edits aren't proved without these, over libraries without code."""
+    with tempfile.TemporaryDirectory(prefix=".edits-") as room:
+        make_stubs(room, crate)
+        fresh(room, crate)
+        said, is_proved = judged_over_stubs(room, crate, edits)
+        if not is_proved:
+            sys.exit(f"{crate}: not proved as it stands: {first_error(said)}")
+
+
+def tried_in_a_copy(crate, below, parts, over_stubs):
     """Tries rounds of edits that no other room takes, in a room of its own."""
     let_through = []
-    with tempfile.TemporaryDirectory(prefix=".edits-", dir=".") as room:
-        copied(room, crate, below)
+    with tempfile.TemporaryDirectory(prefix=".edits-", dir=None if over_stubs else ".") as room:
+        if over_stubs:
+            make_stubs(room, crate)
+        else:
+            copied(room, crate, below)
         for part in parts:
-            let_through += tried(room, part)
+            let_through += tried(room, part, over_stubs)
     return let_through
 
 
-def tried_in_rooms(crate, below, edits, rooms):
+def tried_in_rooms(crate, below, edits, rooms, over_stubs):
     """Tries edits of a crate, some rounds at a time, and returns the names of those that are not refused."""
     parts = rounds(edits)
     taken = iter(parts)
+    if over_stubs:
+        stop_where_open(crate, edits)
     with concurrent.futures.ThreadPoolExecutor(rooms) as pool:
-        tries = [pool.submit(tried_in_a_copy, crate, below, taken) for _ in range(min(rooms, len(parts)))]
+        tries = [pool.submit(tried_in_a_copy, crate, below, taken, over_stubs) for _ in range(min(rooms, len(parts)))]
         return [name for it in tries for name in it.result()]
 
 
@@ -337,7 +387,7 @@ def main(words):
             print(f"  make edits CRATES={crate}, and commit {TRIED}")
             failed.append(crate)
         else:
-            let_through = tried_in_rooms(crate, below, [Edit(crate, f"tests/edits/{it}") for it in left], rooms)
+            let_through = tried_in_rooms(crate, below, [Edit(crate, f"tests/edits/{it}") for it in left], rooms, "--stubs" in words)
             failed += let_through
             write_down(crate, {it: made for it, made in sums.items() if it.split("/")[1] not in let_through})
     if failed:

@@ -50,6 +50,8 @@ pub mod NormalRules
 pub mod RuleSets
 -- A rule of definitions in its term's rule set.
 pub mod AddedRules
+-- What a rule demands by itself.
+pub mod RuleDemands
 -- Faults of the rules that definitions make.
 pub mod RuleFaults
 -- The rule sets of the terms of definitions.

@@ -12,7 +12,7 @@ use isle_terms::{TermEnv, VisitFault};
 use std::alloc::Global;
 
 /// The own sites of a rule that definitions make, with that of its result.
-fn own_rule(
+pub(crate) fn own_rule(
     alloc: Global,
     termenv: &TermEnv,
     source: &isle_terms::Rule,

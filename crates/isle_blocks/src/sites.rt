@@ -86,6 +86,17 @@ impl Sites {
         self.bindings.as_slice()
     }
 
+    /// The sites alone, each at its number.
+    pub(crate) fn into_bindings(self) -> Vec<Binding>
+        ensures { result.items ≡ self }
+    {
+        let Sites {
+            bindings,
+            numbers: _numbers,
+        } = self;
+        bindings
+    }
+
     /// The site with a number.
     pub(crate) fn get(&self, id: BindingId) -> Option<&Binding>
         ensures { option_copied result ≡ slice_get self.now id.0 }

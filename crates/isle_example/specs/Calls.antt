@@ -1,19 +1,21 @@
 -- What a query is answered.
-use Rattle.std.specs.Prelude.{◌≡◌, ℕ, List, Option, Some, None, codes}
+use Rattle.std.specs.Prelude.{◌≡◌, ◌⊎◌, ℕ, List, Option, Some, None}
+use Rattle.std.specs.List.{AllZip}
 use Rattle.isle_types.specs.declared.ids.TermId.{TermId}
 use Rattle.isle_meaning.specs.GroundValues.{values_of}
 use Rattle.isle_meaning.specs.Worlds.{Event}
 use Rattle.isle_terms.specs.Values.{ValueTree, ValueTrees}
-use Rattle.isle_example.specs.declared.host.Silent.{Silent}
+use Rattle.isle_example.specs.declared.query.Reply.{Reply}
+use Rattle.isle_example.specs.declared.query.Reply.TheVariants.{Refused, Answered}
 use Rattle.isle_run.specs.declared.calls.answer.Answer.{Answer}
-use Rattle.isle_run.specs.declared.calls.answer.Answer.TheVariants.{Value, None as NoAnswer, Stuck, Spent, IllTyped}
+use Rattle.isle_run.specs.declared.calls.answer.Effect.{Effect}
 use Rattle.isle_run.specs.declared.program.Program.{Program}
 use Rattle.isle_run.specs.declared.query.QueryFault.{QueryFault}
-use Rattle.isle_run.specs.Calls.Answers.{answers_in, name_of_term, LeadsThrough}
+use Rattle.isle_run.specs.declared.query.QueryFault.TheVariants.{Q1, Q2, Q3, Q4, Memory}
+use Rattle.isle_run.specs.Calls.Answers.{answers_in, name_of_term, IsEventOf, LeadsThrough}
 use Rattle.isle_run.specs.Meanings.{checked}
-use Rattle.isle_run.specs.TreeCalls.{TellsByTree}
-use Rattle.isle_run.specs.Queries.{IsCallIn, IsOfText, RefusesText}
-use Rattle.isle_run.specs.Values.Text.{value_text}
+use Rattle.isle_run.specs.TreeCalls.{TellsByTree, BeginsByTree}
+use Rattle.isle_run.specs.Queries.{IsCallIn, RefusesText}
 
 -- what a host answers a constructor and an extractor that make no effects
 abbrev pub Constructs : Type 0
@@ -34,48 +36,45 @@ pub record Hosted (W : Type 0) : Type 1 where
   pub before : W
   pub after : W
 
--- the value of an answer, where it is one
-abbrev pub value_in : Answer → Option ValueTree
-value_in (Value v) = Some v
-value_in NoAnswer = None
-value_in (Stuck term args) = None
-value_in Spent = None
-value_in (IllTyped term args) = None
+-- the host of a world, of which these are what is answered and how it steps
+abbrev pub hosted : {W : Type 0} → (W → Constructs) → (W → Extracts) → Steps W → W → W → Hosted W
+hosted constructs extracts step before after =
+    record { constructs = constructs before; extracts = extracts before; step = step; before = before; after = after }
 
--- A call is run with at most 100 calls open at once; its effects lead from the host before to the one after; and this is its value, none where
--- its answer is another.
-pub record IsValueOf {W : Type 0} (program : Program) (host : Hosted W) (term : TermId) (args : ValueTrees) (found : Option ValueTree) : Type 0 where
+-- A call is run with at most 100 calls open at once, makes just these effects, in order, and comes to this answer; the effects lead from the host
+-- before to the one after.
+pub record IsAnswerOf {W : Type 0} (program : Program) (host : Hosted W) (term : TermId) (args : ValueTrees) (effects : List Effect)
+    (answer : Answer) : Type 0 where
   pub made : List Event
+  pub shown : AllZip (IsEventOf program) effects made
   pub leads : LeadsThrough host.step (name_of_term program) host.before made host.after
-  pub answer : Answer
   pub steps : ℕ
   pub told : TellsByTree program (answers_in program host.constructs host.extracts) 100 term.0 (values_of (checked program).values args)
       (record { answer = answer; steps = steps }) made
-  pub is : found ≡ value_in answer
 
--- What a query is answered: the value of the call that it spells; none where it is refused, and then the host stays as it is.
-pub data IsAnswered {W : Type 0} (program : Program) (host : Hosted W) (text : List ℕ) (found : Option ValueTree) : Type 0 where
-  called : (term : TermId) (args : ValueTrees) → IsCallIn program text term args → IsValueOf program host term args found
-      → IsAnswered program host text found
-  refused : (fault : QueryFault) → IsOfText fault → RefusesText program text fault → found ≡ None → host.after ≡ host.before
-      → IsAnswered program host text found
+-- A call is begun, and its answer lost: the effects so far lead from the host before to the one after.
+pub record IsBegun {W : Type 0} (program : Program) (host : Hosted W) (term : TermId) (args : ValueTrees) : Type 0 where
+  pub made : List Event
+  pub leads : LeadsThrough host.step (name_of_term program) host.before made host.after
+  pub begins : BeginsByTree program (answers_in program host.constructs host.extracts) 100 term.0 (values_of (checked program).values args) made
 
--- a value, printed, or `none`
-abbrev pub text_of : Option ValueTree → List ℕ
-text_of None = codes "none"
-text_of (Some v) = value_text v
+-- the number of a cause for which a query is refused
+abbrev pub cause_number : QueryFault → Option ℕ
+cause_number Q1 = Some 1
+cause_number Q2 = Some 2
+cause_number Q3 = Some 3
+cause_number Q4 = Some 4
+cause_number (Memory e) = None
 
--- a host that answers nothing, and stays as it is
-abbrev pub silent : {W : Type 0} → W → W → Hosted W
-silent before after = record {
-  constructs = λ _ _. None;
-  extracts = λ _ _. None;
-  step = λ world _ _ answer next. (answer ≡ None) × (next ≡ world);
-  before = before;
-  after = after;
-}
+-- What a query is answered: the effects and the answer of the call that it spells, or the number of the cause for which it is refused. A query that
+-- is refused leaves the host as it is.
+abbrev pub IsAnswered : {W : Type 0} → Program → Hosted W → List ℕ → Reply → Type 0
+IsAnswered program host text (Answered effects answer) =
+    (term : TermId) × (args : ValueTrees) × IsCallIn program text term args × IsAnswerOf program host term args effects.items answer
+IsAnswered program host text (Refused cause) =
+    (fault : QueryFault) × (cause_number fault ≡ Some cause) × RefusesText program text fault × (host.after ≡ host.before)
 
--- the line of what a query is answered by a host that answers nothing
-abbrev pub TellsValue : Program → List ℕ → List ℕ → Type 0
-TellsValue program text line = (before : Silent) × (after : Silent) × (found : Option ValueTree) × IsAnswered program (silent before after) text found
-    × (line ≡ text_of found)
+-- What a query has done whose reply is lost, where memory ran out: nothing, or the call that it spells is begun.
+abbrev pub IsLost : {W : Type 0} → Program → Hosted W → List ℕ → Type 0
+IsLost program host text =
+    (host.after ≡ host.before) ⊎ ((term : TermId) × (args : ValueTrees) × IsCallIn program text term args × IsBegun program host term args)

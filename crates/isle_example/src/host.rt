@@ -1,46 +1,76 @@
-//! A host of rules that name no functions of it.
-ghost use Rattle.std.specs.Prelude.{◌≡◌, None};
-ghost use Rattle.std.proofs.Common.{refl};
+//! A host that computes on numbers and gives out registers.
+ghost use Rattle.std.specs.Prelude.{◌≡◌};
 
+use crate::bytes::{byte_in, byte_value, combined_values, taken_apart};
 use isle_run::{Value, World};
 use std::alloc::{AllocError, Global};
 
-/// A host that answers nothing: a call of an external function has no value, and changes nothing.
-#[derive(Debug, Clone, Copy)]
-pub struct Silent;
+/// A host that answers `checked_add`, `less_than`, `at_most` and `half`, and numbers the registers that `emit` gives out.
+#[derive(Debug, Drop)]
+pub struct Registers {
+    /// The number of the next register.
+    pub next: u64,
+}
 
-impl World for Silent {
-    ghost constructs = { λ _ _ _. None };
+impl Registers {
+    /// No register is given out yet.
+    pub fn new() -> Registers
+        ensures { result.next ≡ 0 }
+    {
+        Registers { next: 0 }
+    }
+}
 
-    ghost extracts = { λ _ _ _. None };
+impl World for Registers {
+    ghost use Rattle.std.proofs.Common.{refl};
+    ghost use Rattle.isle_example.specs.Registers.{constructed, extracted, Emits};
 
-    ghost step = { λ world _ _ answer next. (answer ≡ None) × (next ≡ world) };
+    ghost constructs = { λ _. constructed };
+
+    ghost extracts = { λ _. extracted };
+
+    ghost step = { Emits };
 
     fn construct(
         &self,
-        _alloc: Global,
-        _term: &str,
-        _args: &[Value],
+        alloc: Global,
+        term: &str,
+        args: &[Value],
     ) -> Result<Option<Value>, AllocError> {
-        Ok(None)
+        if args.len() != 2 {
+            return Ok(None);
+        }
+        combined_values(alloc, term, &args[0], &args[1])
     }
 
     fn extract(
         &self,
-        _alloc: Global,
-        _term: &str,
-        _arg: &Value,
+        alloc: Global,
+        term: &str,
+        arg: &Value,
     ) -> Result<Option<Vec<Value>>, AllocError> {
-        Ok(None)
+        let Some(number) = byte_in(alloc, arg)? else {
+            return Ok(None);
+        };
+        match taken_apart(term, number) {
+            Some(part) => Ok(Some(vec![in alloc; byte_value(alloc, part)?]?)),
+            None => Ok(None),
+        }
     }
 
+    // The value is made before the count goes on: where memory is refused, no number is lost.
     fn effect(
         &mut self,
-        _alloc: Global,
-        _term: &str,
+        alloc: Global,
+        term: &str,
         _args: &[Value],
     ) -> Result<Option<Value>, AllocError> {
-        Ok(None)
+        if term != "emit" || self.next == u64::MAX {
+            return Ok(None);
+        }
+        let register = Value::opaque(alloc, self.next)?;
+        self.next += 1;
+        Ok(Some(register))
     }
 
     ghost keeps = { λ _ _ _ _ _ _. (refl, refl) };

@@ -1,23 +1,26 @@
 //! The library from a caller's side: compiles the rules of the standard input, and prints what the queries are answered that are the
-//! program's words.
+//! program's words, by a host that computes and gives out registers.
 #![tactic(auto)]
 
 ghost use Rattle.std.specs.Prelude.{IfOk, string_bytes};
 ghost use Rattle.isle_run.specs.TreeCalls.{IsCompiled};
-ghost use Rattle.isle_example.specs.Calls.{TellsValue};
+ghost use Rattle.isle_example.specs.Lines.{TellsReply};
 
+mod bytes;
 mod host;
-mod value;
+mod lines;
+mod query;
 
-use host::Silent;
+use host::Registers;
 use isle_run::{Program, Refused, compile};
 use isle_syntax::files::Files;
+use lines::lines_of;
+use query::reply_to;
 use std::alloc::{AllocError, Global};
 use std::env::{self, Env};
 use std::io::{self, Read, Write};
 use std::process::ExitCode;
 use std::rc::Rc;
-use value::value_of;
 
 /// The program of one text, or why it has none.
 fn program_of(alloc: Global, text: String) -> Result<Result<Program, Refused>, AllocError>
@@ -28,15 +31,18 @@ fn program_of(alloc: Global, text: String) -> Result<Result<Program, Refused>, A
     Ok(compile(alloc, Rc::new(alloc, files)?))
 }
 
-/// The value of a query's call, printed, or `none`.
-fn line_of(alloc: Global, program: &Program, query: &str) -> Result<String, AllocError>
+/// The lines that tell what a query is answered.
+fn lines_for(
+    alloc: Global,
+    program: &Program,
+    host: &mut Registers,
+    query: &str,
+) -> Result<String, AllocError>
     requires { IsCompiled program.now }
-    ensures { IfOk result (λ line. TellsValue program.now query.now (string_bytes line)) }
+    ensures { IfOk result (λ lines. TellsReply program.now host.old query.now (string_bytes lines) host.new) }
 {
-    match value_of(alloc, program, &mut Silent, query)? {
-        Some(value) => value.print(alloc),
-        None => String::from_str(alloc, "none"),
-    }
+    let reply = reply_to(alloc, program, host, query)?;
+    lines_of(alloc, program, &reply)
 }
 
 fn run<R: Input + Print + Env + AllocGlobal>(rt: &R) -> io::Result<ExitCode> {
@@ -46,7 +52,7 @@ fn run<R: Input + Print + Env + AllocGlobal>(rt: &R) -> io::Result<ExitCode> {
     answer(rt, &compiled)
 }
 
-/// Writes the line of each query, or what is wrong with the rules.
+/// Writes the lines of each query, or what is wrong with the rules.
 fn answer<R: Print + Env + AllocGlobal>(
     rt: &R,
     compiled: &Result<Program, Refused>,
@@ -64,6 +70,7 @@ fn answer<R: Print + Env + AllocGlobal>(
     }
 }
 
+/// Writes the lines of each query. The host goes on from one to the next.
 fn answer_each<R: Env + AllocGlobal, W: Write>(
     rt: &R,
     program: &Program,
@@ -71,9 +78,10 @@ fn answer_each<R: Env + AllocGlobal, W: Write>(
 ) -> io::Result<ExitCode>
     requires { IsCompiled program.now }
 {
+    let mut host = Registers::new();
     for query in env::args(rt)?.skip(1) {
-        let line = line_of(rt.alloc(), program, query.as_str())?;
-        writeln!(output, "{line}")?;
+        let lines = lines_for(rt.alloc(), program, &mut host, query.as_str())?;
+        write!(output, "{lines}")?;
     }
     Ok(ExitCode::SUCCESS)
 }

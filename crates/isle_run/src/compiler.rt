@@ -86,7 +86,7 @@ fn trees_of_sets(alloc: Global, sets: &[(TermId, RuleSet)]) -> Result<Vec<Block>
 }
 
 /// The definitions of all texts, or the fault of the first one that has one.
-fn parse_files(alloc: Global, files: &Files) -> Result<Vec<Def>, Refusal<Vec<Error>>>
+pub(crate) fn parse_files(alloc: Global, files: &Files) -> Result<Vec<Def>, Refusal<Vec<Error>>>
     ensures spelt { IfOk result (λ defs. AreSpelt 0 files.now defs.items) }
     ensures fault { IfErr result (λ r. IfFault r (λ errors. (error : Error)
         × (errors.items ≡ error ∷ []) × IsFirstFault files.now error)) }

@@ -8,11 +8,11 @@ ghost use Rattle.isle_run.specs.Facts.Asked.{term_number, AreRoots, AreNumbersOf
 
 mod barred;
 mod callers;
-mod hindrances;
+pub(crate) mod hindrances;
 mod inhabited;
-mod made;
+pub(crate) mod made;
 mod places;
-mod spreading;
+pub(crate) mod spreading;
 mod steps;
 
 use crate::facts::barred::{barred_terms, roots};

@@ -81,7 +81,7 @@ fn closes_at_end(tokens: &[Token]) -> bool
 }
 
 /// The name at the head of one balanced list, and the tokens behind it.
-fn head_of(tokens: &[Token]) -> Option<(&str, &[Token])>
+pub(crate) fn head_of(tokens: &[Token]) -> Option<(&str, &[Token])>
     ensures some { IfSome result (λ p. IsListOf tokens.now p.0.now p.1.now) }
     ensures none { IfNone result ((name : List ℕ) (rest : List ListToken) → IsListOf tokens.now name rest → ⊥) }
 {

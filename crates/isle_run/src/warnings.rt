@@ -7,6 +7,7 @@ ghost use Rattle.std.specs.List.Sorted.{IsSortedByKey};
 ghost use Rattle.isle_blocks.specs.Reports.{pos_order};
 
 mod binders;
+mod conditions;
 mod converters;
 mod extractors;
 mod messages;

@@ -3,9 +3,9 @@ ghost use Rattle.std.specs.Prelude.{◌≡◌, ℕ, List, Option, IfOk, OnErr};
 ghost use Rattle.isle_terms.specs.Values.{ValueTree, ValueTrees, value_list};
 ghost use Rattle.isle_run.specs.Worlds.Entries.{part_shown};
 
-mod entry;
-mod external;
-mod reading;
+pub(crate) mod entry;
+pub(crate) mod external;
+pub(crate) mod reading;
 mod table;
 
 use crate::values::Value;

@@ -1,5 +1,6 @@
-//! Values, worlds, queries and calls of a program.
+//! Values, worlds, queries and calls of a program, and why they are refused.
 pub mod calls;
+pub mod reasons;
 pub mod values;
 pub mod worlds;
 
@@ -18,6 +19,12 @@ pub enum InProgram {
     Answer,
     /// What it comes to as a call behind what a world answers.
     Judged,
+    /// Why the term of that name can't be run.
+    TermReason,
+    /// Why it is no call.
+    QueryReason,
+    /// Why it is no world.
+    WorldReason,
 }
 
 /// The answer of a text.
@@ -36,6 +43,9 @@ fn answer_in(
         InProgram::Value => values::read(alloc, program, row),
         InProgram::Answer => calls::answered(alloc, program, row),
         InProgram::Judged => worlds::judged(alloc, program, row),
+        InProgram::TermReason => reasons::of_term(alloc, program, row),
+        InProgram::QueryReason => reasons::of_query(alloc, program, row),
+        InProgram::WorldReason => reasons::of_world(alloc, program, row),
     }
 }
 
@@ -48,7 +58,11 @@ pub const RULES: &str =
     (decl op (i8 Name) Op) (extern extractor op take)
     (decl first (Op) i8) (rule (first (op a _)) a)
     (decl both (i8 Name) Op) (extern extractor infallible both both)
-    (decl partial left (Op) i8) (rule (left (both a _)) a)";
+    (decl partial left (Op) i8) (rule (left (both a _)) a)
+    (decl multi each (i8) i8) (extern extractor each each)
+    (decl hard (i8) i8) (rule (hard (each x)) x)
+    (decl near (i8) i8) (rule (near x) (hard x))
+    (decl far (i8) i8) (rule (far x) (near x))";
 
 /// The program of the rules.
 fn program(alloc: Global) -> Result<Program, AllocError> {

@@ -2,6 +2,7 @@
 use crate::run;
 use crate::run::InProgram;
 use crate::run::calls::ANSWERS;
+use crate::run::reasons::{QUERIES, TERMS, WORLDS};
 use crate::run::values::{MADE, VALUES, made};
 use crate::run::worlds::JUDGED;
 use std::alloc::Global;
@@ -23,6 +24,9 @@ fn table(asked: Asked) -> &'static str {
         Asked::Run(InProgram::Value) => VALUES,
         Asked::Run(InProgram::Answer) => ANSWERS,
         Asked::Run(InProgram::Judged) => JUDGED,
+        Asked::Run(InProgram::TermReason) => TERMS,
+        Asked::Run(InProgram::QueryReason) => QUERIES,
+        Asked::Run(InProgram::WorldReason) => WORLDS,
     }
 }
 
@@ -63,6 +67,9 @@ fn texts_are_answered(rt: HostRuntime) -> Result<(), Fail> {
         Asked::Run(InProgram::Value),
         Asked::Run(InProgram::Answer),
         Asked::Run(InProgram::Judged),
+        Asked::Run(InProgram::TermReason),
+        Asked::Run(InProgram::QueryReason),
+        Asked::Run(InProgram::WorldReason),
     ] {
         assert_eq!(rt; first_mistake(rt.alloc(), asked)?.as_str(), "");
     }

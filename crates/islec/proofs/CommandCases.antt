@@ -41,6 +41,17 @@ fmt_width : option_map (λ p. number_of (codes "width") p.1) (subcommand_of isle
 unfolding clap_on_literals
 fmt_width = refl
 
+-- a layout of two files, which are asked whether they are formatted
+two_files : option_map (λ p. all_of (codes "file") p.1)
+    (subcommand_of islec (codes "islec" ∷ codes "fmt" ∷ codes "--check" ∷ codes "a" ∷ codes "-" ∷ [])) ≡ Some (Some (codes "a" ∷ codes "-" ∷ []))
+unfolding clap_on_literals
+two_files = refl
+
+fmt_flag : option_map (λ p. flag_of (codes "check") p.1)
+    (subcommand_of islec (codes "islec" ∷ codes "fmt" ∷ codes "--check" ∷ codes "a" ∷ codes "-" ∷ [])) ≡ Some true
+unfolding clap_on_literals
+fmt_flag = refl
+
 -- trees of two terms, and of all
 blocks_terms : option_map (λ p. each_of (codes "term") p.1)
     (subcommand_of islec (codes "islec" ∷ codes "blocks" ∷ codes "--term" ∷ codes "f" ∷ codes "--term=g" ∷ codes "a.isle" ∷ [])) ≡ Some (codes "f" ∷ codes "g" ∷ [])
@@ -70,9 +81,17 @@ no_file : fault_of islec (codes "islec" ∷ codes "run" ∷ []) ≡ kind.Missing
 unfolding clap_on_literals
 no_file = refl
 
-two_files : fault_of islec (codes "islec" ∷ codes "fmt" ∷ codes "a" ∷ codes "b" ∷ []) ≡ kind.UnknownArgument ∷ []
+no_flag : fault_of islec (codes "islec" ∷ codes "fmt" ∷ codes "--checks" ∷ codes "a" ∷ []) ≡ kind.UnknownArgument ∷ []
 unfolding clap_on_literals
-two_files = refl
+no_flag = refl
+
+asks_for_version : fault_of islec (codes "islec" ∷ codes "--version" ∷ []) ≡ kind.DisplayVersion ∷ []
+unfolding clap_on_literals
+asks_for_version = refl
+
+version_of_no_command : fault_of islec (codes "islec" ∷ codes "run" ∷ codes "--version" ∷ []) ≡ kind.UnknownArgument ∷ []
+unfolding clap_on_literals
+version_of_no_command = refl
 
 no_number : fault_of islec (codes "islec" ∷ codes "fmt" ∷ codes "--width=1000001" ∷ codes "a" ∷ []) ≡ kind.ValueValidation ∷ []
 unfolding clap_on_literals

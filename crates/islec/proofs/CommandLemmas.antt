@@ -52,10 +52,22 @@ run_own = (
       (
         record { own = refl; keeps = omega arith; wants = unset _ refl; default = unset _ refl },
         (
-          record { own = refl; keeps = omega arith; wants = λ e. omega arith; default = λ e. omega arith },
+          record { own = refl; keeps = omega arith; wants = unset _ refl; default = unset _ refl },
           (
-            record { own = refl; keeps = tt; wants = unset _ refl; default = unset _ refl },
-            tt,
+            record { own = refl; keeps = omega arith; wants = unset _ refl; default = unset _ refl },
+            (
+              record { own = refl; keeps = omega arith; wants = unset _ refl; default = unset _ refl },
+              (
+                record { own = refl; keeps = omega arith; wants = unset _ refl; default = unset _ refl },
+                (
+                  record { own = refl; keeps = omega arith; wants = λ e. omega arith; default = λ e. omega arith },
+                  (
+                    record { own = refl; keeps = tt; wants = unset _ refl; default = unset _ refl },
+                    tt,
+                  ),
+                ),
+              ),
+            ),
           ),
         ),
       ),
@@ -67,10 +79,16 @@ check_own : OwnRules check_rules
 check_own = (
   record { own = refl; keeps = omega arith; wants = unset _ refl; default = unset _ refl },
   (
-    record { own = refl; keeps = omega arith; wants = λ e. omega arith; default = λ e. omega arith },
+    record { own = refl; keeps = omega arith; wants = unset _ refl; default = unset _ refl },
     (
-      record { own = refl; keeps = tt; wants = unset _ refl; default = unset _ refl },
-      tt,
+      record { own = refl; keeps = omega arith; wants = unset _ refl; default = unset _ refl },
+      (
+        record { own = refl; keeps = omega arith; wants = λ e. omega arith; default = λ e. omega arith },
+        (
+          record { own = refl; keeps = tt; wants = unset _ refl; default = unset _ refl },
+          tt,
+        ),
+      ),
     ),
   ),
 )
@@ -94,10 +112,13 @@ fmt_own : OwnRules fmt_rules
 fmt_own = (
   record { own = refl; keeps = omega arith; wants = λ e. omega arith; default = λ e. omega arith },
   (
-    record { own = refl; keeps = omega arith; wants = λ e. omega arith; default = λ e. omega arith },
+    record { own = refl; keeps = omega arith; wants = unset _ refl; default = unset _ refl },
     (
-      record { own = refl; keeps = tt; wants = unset _ refl; default = unset _ refl },
-      tt,
+      record { own = refl; keeps = omega arith; wants = λ e. omega arith; default = λ e. omega arith },
+      (
+        record { own = refl; keeps = tt; wants = unset _ refl; default = unset _ refl },
+        tt,
+      ),
     ),
   ),
 )

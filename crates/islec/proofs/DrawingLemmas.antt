@@ -1,11 +1,11 @@
 -- What is written of the trees of a program's rules, by what its parts write.
-use Rattle.std.proofs.Common.{◌≡◌, ◌≢◌, ◌<◌, ◌+◌, ◌∙◌, ◌++◌, ◌∷◌, [], inl, inr, ℕ, suc, List, Bool, Option, Some, None, Result, Ok, Err, IfOk, IfErr, subst, map, sym, ap, ap₂, take, drop, length, get_or, String, arith}
+use Rattle.std.proofs.Common.{◌≡◌, ◌≢◌, ◌<◌, ◌+◌, ◌∙◌, ◌++◌, ◌∷◌, [], inl, inr, ℕ, suc, List, Bool, false, Option, Some, None, Result, Ok, Err, IfOk, IfErr, subst, map, sym, ap, ap₂, take, drop, length, get_or, String, arith}
 use Rattle.std.specs.Global.{Global}
 use Rattle.std.specs.Prelude.{string_bytes}
 use Rattle.std.proofs.Math.Seq.{drop-cons}
 use Rattle.std.proofs.lemmas.List.{map-append, take-append-drop}
 use Rattle.std.specs.Io.KnownBytes.{Appends}
-use Rattle.isle_syntax.specs.Errors.{Report, report_text}
+use Rattle.isle_syntax.specs.Errors.{Report}
 use Rattle.isle_syntax.specs.Positions.Files.{SourceFile}
 use Rattle.isle_types.specs.declared.ids.TermId.{TermId}
 use Rattle.isle_types.proofs.DefinitionTurns.{take_here}
@@ -14,6 +14,7 @@ use Rattle.isle_run.specs.declared.compiler.Refused.TheVariants.{Faults}
 use Rattle.isle_run.specs.declared.program.Program.{Program}
 use Rattle.isle_run.specs.Compiled.{AreAccepted, AreFaults, IsProgramOf, IfFaults}
 use Rattle.isle_run.specs.Programs.{term_named}
+use Rattle.islec.specs.Reasons.{ReportsFaults}
 use Rattle.islec.specs.declared.serve.ServeFault.{ServeFault}
 use Rattle.islec.specs.declared.serve.ServeFault.TheVariants.{Memory}
 use Rattle.islec.specs.declared.status.Status.{Status}
@@ -63,10 +64,12 @@ module _ (files all : List SourceFile) (same : files ≡ all) (program : Program
 module _ (files all : List SourceFile) (refused : Refused) (report : Report) (old new : Option (List ℕ)) (is : refused ≡ Faults report) (same : files ≡ all)
     (not_accepted : IfFaults refused (λ r. ¬ AreAccepted files)) (faults : IfFaults refused (λ r. AreFaults files r.errors))
     (of_files : IfFaults refused (λ r. r.files ≡ files)) where
-  pub refusal_undrawn : (names : List (List ℕ)) (dot : Bool) (r : Result Status ServeFault) → IfErr r (λ f. f ≢ Memory → AppendsBeginning old new (report_text report))
+  pub refusal_undrawn : (names : List (List ℕ)) (dot : Bool) (r : Result Status ServeFault)
+      → IfErr r (λ f. f ≢ Memory → (text : List ℕ) × ReportsFaults false report text × AppendsBeginning old new text)
       → IfErr r (λ f. f ≢ Memory → CutsTrees all names dot old new)
   refusal_undrawn names dot (Ok s) wrote = tt
-  refusal_undrawn names dot (Err f) wrote = λ e. inr (cuts_faults files all refused report old new is same not_accepted faults of_files (wrote e))
+  refusal_undrawn names dot (Err f) wrote = λ e. let (text, told, cut) = wrote e in
+      inr (cuts_faults false text files all refused report old new is same not_accepted faults of_files told cut)
 
 -- names before a place, this one, and those after it
 parted : (names : List (String Global)) (i : ℕ) (name : String Global) → i < length names → name ≡ get_or names i name

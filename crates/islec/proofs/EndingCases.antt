@@ -18,21 +18,22 @@ use Rattle.islec.specs.declared.line.Line.{Line}
 use Rattle.islec.specs.declared.line.Job.TheVariants.{Run, Check, Blocks, Fmt}
 use Rattle.islec.specs.declared.program.Unbegun.TheVariants.{Usage, NotText, CannotRead, Memory}
 use Rattle.islec.specs.declared.status.Status.TheVariants as status
+use Rattle.islec.specs.declared.terms.Telling.{Telling}
 use Rattle.islec.proofs.CommandCases.{run_words, run_files, run_name, run_world}
 
 -- ---- statuses of jobs
 
-no_check_is_refused_a_query : (terms : Bool) (files : List SourceFile) (world : SourceFile) (input left old new : Option (List ℕ))
-    → EndsJob (Check terms) files world input left old new status.SomeRefused → ⊥
-no_check_is_refused_a_query terms files world input left old new ends = ends
+no_check_is_refused_a_query : (telling : Telling) (files : List SourceFile) (world : SourceFile) (input left old new : Option (List ℕ))
+    → EndsJob (Check telling) files world input left old new status.SomeRefused → ⊥
+no_check_is_refused_a_query telling files world input left old new ends = ends.0
 
-no_print_is_refused_a_query : (width : ℕ) (files : List SourceFile) (world : SourceFile) (input left old new : Option (List ℕ))
-    → EndsJob (Fmt width) files world input left old new status.SomeRefused → ⊥
-no_print_is_refused_a_query width files world input left old new ends = ends
+no_print_is_refused_a_query : (width : ℕ) (unformatted : Bool) (files : List SourceFile) (world : SourceFile) (input left old new : Option (List ℕ))
+    → EndsJob (Fmt width unformatted) files world input left old new status.SomeRefused → ⊥
+no_print_is_refused_a_query width unformatted files world input left old new ends = ends.0
 
 no_tree_is_refused_a_query : (terms : Vec (String Global) Global) (dot : Bool) (files : List SourceFile) (world : SourceFile) (input left old new : Option (List ℕ))
     → EndsJob (Blocks terms dot) files world input left old new status.SomeRefused → ⊥
-no_tree_is_refused_a_query terms dot files world input left old new ends = ends
+no_tree_is_refused_a_query terms dot files world input left old new ends = ends.0
 
 no_run_is_refused_its_words : (manner : Manner) (files : List SourceFile) (world : SourceFile) (input left old new : Option (List ℕ))
     → EndsJob (Run manner) files world input left old new status.Usage → ⊥
@@ -63,7 +64,7 @@ lacks_only_that k among = only (subst (λ (ks : List ErrorKind). IsAmong k ks) a
     only (inr never) = absurd never
 
 alone_is_not_well : (input left old new : Option (List ℕ)) → EndsCommand alone input left old new 0 → ⊥
-alone_is_not_well input left old new (done line reads files named world of ended code ends) =
+alone_is_not_well input left old new (done line reads files named world of middle inputs ended code ends) =
     let wrong = sym reads.taken ∙ alone_lacks_a_command in absurd cc
 alone_is_not_well input left old new (told (Usage e) holds status.AllWell code (inl other)) = absurd cc
 alone_is_not_well input left old new (told (Usage e) holds status.AllWell code (inr (inl (inl help, same)))) =
@@ -92,7 +93,7 @@ run_names_its_files line files reads named =
 world_is : (job : Job) (name : Text) (rows : List Row) → subcommand_of islec run_words ≡ Some (name, rows) → SaysJob name rows job
     → world_of job rows ≡ Some (codes "w.isle")
 world_is (Run manner) name rows met says = same_Some _ _ (sym (ap (option_map (λ p. first_of (codes "world") p.1)) met) ∙ run_world)
-world_is (Check terms) name rows met (named, flag) =
+world_is (Check telling) name rows met (named, flag, warned, explained) =
     let is_run = same_Some _ _ (sym (ap (option_map (λ p. p.0)) met) ∙ run_name) in
     let wrong : true ≡ false = ap (λ (text : Text). bytes_eq text (codes "run")) (sym is_run ∙ named) in
     absurd (true≢false wrong)
@@ -100,7 +101,7 @@ world_is (Blocks terms dot) name rows met (named, names, flag) =
     let is_run = same_Some _ _ (sym (ap (option_map (λ p. p.0)) met) ∙ run_name) in
     let wrong : true ≡ false = ap (λ (text : Text). bytes_eq text (codes "run")) (sym is_run ∙ named) in
     absurd (true≢false wrong)
-world_is (Fmt width) name rows met (named, number) =
+world_is (Fmt width unformatted) name rows met (named, number, flag) =
     let is_run = same_Some _ _ (sym (ap (option_map (λ p. p.0)) met) ∙ run_name) in
     let wrong : true ≡ false = ap (λ (text : Text). bytes_eq text (codes "run")) (sym is_run ∙ named) in
     absurd (true≢false wrong)

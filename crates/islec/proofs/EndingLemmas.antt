@@ -27,20 +27,20 @@ world_named None = refl
 world_named (Some pair) = refl
 
 -- a command that begins as its words say ends as its job does
-pub ends_done : (words : List Text) (begun : Begun) (input left old new : Option (List ℕ)) (code : ℕ) → Begins words begun
-    → (status : Status) × (code ≡ code_of status) × EndsJob begun.job (map source_file begun.texts.items) (world_file begun.world) input left old new status
+pub ends_done : (words : List Text) (begun : Begun) (input left old new : Option (List ℕ)) (code : ℕ) (middle : Option (List ℕ)) → Begins words input middle begun
+    → (status : Status) × (code ≡ code_of status) × EndsJob begun.job (map source_file begun.texts.items) (world_file begun.world) middle left old new status
     → EndsCommand words input left old new code
-ends_done words begun input left old new code begins (status, is, ends) =
+ends_done words begun input left old new code middle begins (status, is, ends) =
     done begins.line begins.reads (map source_file begun.texts.items)
     (source_names begun.texts.items ∙ ap (λ (names : List (String Global)). map string_bytes names) begins.texts)
     (world_file begun.world) (subst (λ (name : Option (String Global)). IsWorld name (world_file begun.world)) begins.world (world_named begun.world))
-    status is
-    (subst (λ (job : Job). EndsJob job (map source_file begun.texts.items) (world_file begun.world) input left old new status) begins.job ends)
+    middle begins.inputs status is
+    (subst (λ (job : Job). EndsJob job (map source_file begun.texts.items) (world_file begun.world) middle left old new status) begins.job ends)
 
 -- however a command ends, it has a status
 pub status_of : (words : List Text) (input left old new : Option (List ℕ)) (code : ℕ) → EndsCommand words input left old new code
     → (status : Status) × (code ≡ code_of status)
-status_of words input left old new code (done line reads files named world of status is ends) = (status, is)
+status_of words input left old new code (done line reads files named world of middle inputs status is ends) = (status, is)
 status_of words input left old new code (told why holds status is tells) = (status, is)
 
 -- a file that isn't read is one of the names

@@ -7,12 +7,13 @@ use Rattle.isle_run.specs.Compiled.{AreAccepted}
 use Rattle.islec.specs.declared.answer.Manner.{Manner}
 use Rattle.islec.specs.Drawing.{WritesTrees, WritesUnknown, CutsTrees}
 use Rattle.islec.specs.Endings.{EndsRun, EndsCheck, EndsBlocks, EndsFmt}
-use Rattle.islec.specs.Formatting.{WritesPrints, WritesFault, CutsPrints}
+use Rattle.islec.specs.Formatting.{WritesPrints, RefusesPrints, CutsPrints}
 use Rattle.islec.specs.Running.{WritesFaults, WritesAccepted, WritesAnswers, WritesRefusal, CutsCheck, CutsRun, AnswersSome}
 use Rattle.islec.specs.Statuses.{IsEnd, EndsAs}
 use Rattle.islec.specs.declared.serve.ServeFault.{ServeFault}
 use Rattle.islec.specs.declared.serve.ServeFault.TheVariants.{Read, Write, Memory}
 use Rattle.islec.specs.declared.status.Status.{Status}
+use Rattle.islec.specs.declared.terms.Telling.{Telling}
 use Rattle.islec.specs.declared.status.Status.TheVariants.{AllWell, TextsRefused, Usage, SomeRefused, InputOutput, OutOfMemory}
 use Rattle.islec.proofs.WritingLemmas.{line_behind}
 
@@ -25,7 +26,7 @@ module _ (manner : Manner) (files : List SourceFile) (world : SourceFile) (input
       → IfOk done (λ s. (s ≡ AllWell) ⊎ (s ≡ SomeRefused) → AreAccepted files)
       → IfOk done (λ s. s ≡ AllWell → WritesAnswers files world manner input false old mid)
       → IfOk done (λ s. s ≡ SomeRefused → WritesAnswers files world manner input true old mid)
-      → IfOk done (λ s. s ≡ TextsRefused → WritesRefusal files world old mid)
+      → IfOk done (λ s. s ≡ TextsRefused → WritesRefusal files world manner old mid)
       → IfOk done IsEnd
       → IfErr done (λ f. f ≢ Memory → CutsRun files world manner input old mid)
       → IfErr done (λ f. f ≡ Memory → AnswersSome files world manner input left old mid)
@@ -46,30 +47,30 @@ module _ (manner : Manner) (files : List SourceFile) (world : SourceFile) (input
   run_ends (Err Memory) status new (is, wrote) accepted well some refused other cut memory =
       subst (λ s. EndsRun manner files world input left old new s) (sym is) (mid, memory refl, wrote)
 
-module _ (terms : Bool) (files : List SourceFile) (old mid : Option (List ℕ)) where
+module _ (telling : Telling) (files : List SourceFile) (old mid : Option (List ℕ)) where
   pub check_ends : (done : Result Status ServeFault) (status : Status) (new : Option (List ℕ)) → EndsAs done status mid new
-      → IfOk done (λ s. s ≡ AllWell → WritesAccepted files terms old mid)
-      → IfOk done (λ s. s ≡ TextsRefused → WritesFaults files old mid)
+      → IfOk done (λ s. s ≡ AllWell → WritesAccepted files telling old mid)
+      → IfOk done (λ s. s ≡ TextsRefused → WritesFaults telling.explain files old mid)
       → IfOk done (λ s. (s ≡ AllWell) ⊎ (s ≡ TextsRefused))
-      → IfErr done (λ f. f ≢ Memory → CutsCheck files terms old mid)
+      → IfErr done (λ f. f ≢ Memory → CutsCheck files telling old mid)
       → IfErr done (λ f. f ≡ Memory → Keeps old mid)
-      → EndsCheck terms files old new status
+      → EndsCheck telling files old new status
   check_ends (Ok own) status new (is, same) accepted refused (inl e) cut memory =
-      moved (λ n s. EndsCheck terms files old n s) AllWell status mid new (is ∙ e) same (accepted e)
+      moved (λ n s. EndsCheck telling files old n s) AllWell status mid new (is ∙ e) same (accepted e)
   check_ends (Ok own) status new (is, same) accepted refused (inr e) cut memory =
-      moved (λ n s. EndsCheck terms files old n s) TextsRefused status mid new (is ∙ e) same (refused e)
+      moved (λ n s. EndsCheck telling files old n s) TextsRefused status mid new (is ∙ e) same (refused e)
   check_ends (Err Read) status new (is, same) accepted refused other cut memory =
-      moved (λ n s. EndsCheck terms files old n s) InputOutput status mid new is same (cut (λ no. absurd cc))
+      moved (λ n s. EndsCheck telling files old n s) InputOutput status mid new is same (cut (λ no. absurd cc))
   check_ends (Err Write) status new (is, same) accepted refused other cut memory =
-      moved (λ n s. EndsCheck terms files old n s) InputOutput status mid new is same (cut (λ no. absurd cc))
+      moved (λ n s. EndsCheck telling files old n s) InputOutput status mid new is same (cut (λ no. absurd cc))
   check_ends (Err Memory) status new (is, wrote) accepted refused other cut memory =
-      subst (λ s. EndsCheck terms files old new s) (sym is) (line_behind old new (codes "out of memory\n") (mid, memory refl, wrote))
+      subst (λ s. EndsCheck telling files old new s) (sym is) (line_behind old new (codes "out of memory\n") (mid, memory refl, wrote))
 
 module _ (names : List (List ℕ)) (dot : Bool) (files : List SourceFile) (old mid : Option (List ℕ)) where
   pub blocks_ends : (done : Result Status ServeFault) (status : Status) (new : Option (List ℕ)) → EndsAs done status mid new
       → IfOk done (λ s. s ≡ AllWell → WritesTrees files names dot old mid)
       → IfOk done (λ s. s ≡ Usage → WritesUnknown files names old mid)
-      → IfOk done (λ s. s ≡ TextsRefused → WritesFaults files old mid)
+      → IfOk done (λ s. s ≡ TextsRefused → WritesFaults false files old mid)
       → IfOk done (λ s. (s ≡ AllWell) ⊎ ((s ≡ Usage) ⊎ (s ≡ TextsRefused)))
       → IfErr done (λ f. f ≢ Memory → CutsTrees files names dot old mid)
       → IfErr done (λ f. f ≡ Memory → Keeps old mid)
@@ -87,21 +88,21 @@ module _ (names : List (List ℕ)) (dot : Bool) (files : List SourceFile) (old m
   blocks_ends (Err Memory) status new (is, wrote) drawn unknown refused other cut memory =
       subst (λ s. EndsBlocks names dot files old new s) (sym is) (line_behind old new (codes "out of memory\n") (mid, memory refl, wrote))
 
-module _ (width : ℕ) (files : List SourceFile) (old mid : Option (List ℕ)) where
+module _ (unformatted : Bool) (width : ℕ) (files : List SourceFile) (old mid : Option (List ℕ)) where
   pub fmt_ends : (done : Result Status ServeFault) (status : Status) (new : Option (List ℕ)) → EndsAs done status mid new
-      → IfOk done (λ s. s ≡ AllWell → WritesPrints width files old mid)
-      → IfOk done (λ s. s ≡ TextsRefused → WritesFault files old mid)
+      → IfOk done (λ s. s ≡ AllWell → WritesPrints unformatted width files old mid)
+      → IfOk done (λ s. s ≡ TextsRefused → RefusesPrints unformatted width files old mid)
       → IfOk done (λ s. (s ≡ AllWell) ⊎ (s ≡ TextsRefused))
-      → IfErr done (λ f. f ≢ Memory → CutsPrints width files old mid)
+      → IfErr done (λ f. f ≢ Memory → CutsPrints unformatted width files old mid)
       → IfErr done (λ f. f ≡ Memory → Keeps old mid)
-      → EndsFmt width files old new status
+      → EndsFmt unformatted width files old new status
   fmt_ends (Ok own) status new (is, same) printed refused (inl e) cut memory =
-      moved (λ n s. EndsFmt width files old n s) AllWell status mid new (is ∙ e) same (printed e)
+      moved (λ n s. EndsFmt unformatted width files old n s) AllWell status mid new (is ∙ e) same (printed e)
   fmt_ends (Ok own) status new (is, same) printed refused (inr e) cut memory =
-      moved (λ n s. EndsFmt width files old n s) TextsRefused status mid new (is ∙ e) same (refused e)
+      moved (λ n s. EndsFmt unformatted width files old n s) TextsRefused status mid new (is ∙ e) same (refused e)
   fmt_ends (Err Read) status new (is, same) printed refused other cut memory =
-      moved (λ n s. EndsFmt width files old n s) InputOutput status mid new is same (cut (λ no. absurd cc))
+      moved (λ n s. EndsFmt unformatted width files old n s) InputOutput status mid new is same (cut (λ no. absurd cc))
   fmt_ends (Err Write) status new (is, same) printed refused other cut memory =
-      moved (λ n s. EndsFmt width files old n s) InputOutput status mid new is same (cut (λ no. absurd cc))
+      moved (λ n s. EndsFmt unformatted width files old n s) InputOutput status mid new is same (cut (λ no. absurd cc))
   fmt_ends (Err Memory) status new (is, wrote) printed refused other cut memory =
-      subst (λ s. EndsFmt width files old new s) (sym is) (line_behind old new (codes "out of memory\n") (mid, memory refl, wrote))
+      subst (λ s. EndsFmt unformatted width files old new s) (sym is) (line_behind old new (codes "out of memory\n") (mid, memory refl, wrote))

@@ -14,6 +14,8 @@ pub mod ReplyLemmas
 pub mod LineLemmas
 -- Replies to lines one after another.
 pub mod ServingLemmas
+-- What is written of all replies and of what is told behind them.
+pub mod SummaryLemmas
 -- What a run of texts writes, by what its parts write.
 pub mod RunLemmas
 -- What is written of the trees of a program's rules, by what its parts write.
@@ -32,6 +34,8 @@ pub mod FilledRows
 pub mod CommandLemmas
 -- The values that each command's rows hold.
 pub mod ValueLemmas
+-- What is read of standard input for files one after another.
+pub mod InputLemmas
 -- How a whole command ends, by what its parts promise.
 pub mod EndingLemmas
 -- What `islec` finds in words that are written out.
@@ -44,3 +48,7 @@ pub mod EndingCases
 pub mod BeginningCases
 -- Which terms are asked for, what is drawn of them, and how a command that draws ends, case by case.
 pub mod DrawingCases
+-- Which files are standard input, what they take of it, and what is told of files that are formatted or not, case by case.
+pub mod InputCases
+-- What is told of faults with their reasons and without, and of a depth that is used up, case by case.
+pub mod ReasonCases

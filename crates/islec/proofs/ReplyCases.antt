@@ -1,5 +1,5 @@
 -- Worked cases: where effects lead, and which world replies leave.
-use Rattle.std.proofs.Common.{arith, ◌≡◌, ◌≤◌, ◌+◌, ◌++◌, ◌||◌, append-nil, ap₂, ℕ, Bool, true, false, true≢false, List, [], ◌∷◌, Option, inr, map, refl, sym, ap}
+use Rattle.std.proofs.Common.{arith, ◌≡◌, ◌≤◌, ◌+◌, ◌++◌, ◌||◌, append-nil, ap₂, ℕ, Bool, true, false, true≢false, List, [], ◌∷◌, Option, inl, inr, map, refl, sym, ap, subst}
 use Rattle.std.proofs.Common.{◌∙◌, codes}
 use Rattle.std.specs.Char.{encode_utf8}
 use Rattle.std.specs.Str.{IsUtf8, is_utf8, chars}
@@ -22,7 +22,8 @@ use Rattle.isle_run.specs.Calls.Answers.{name_of_term}
 use Rattle.isle_run.specs.Values.Lists.{IsListOf}
 use Rattle.isle_run.specs.Values.TextTokens.{AreTokensOf, alone, bare}
 use Rattle.islec.specs.declared.answer.Manner.{Manner}
-use Rattle.islec.specs.Replies.{Setting, Leads, IsReply, no_text, blank, no_call, call, refused_line}
+use Rattle.islec.specs.Reasons.{IsReason}
+use Rattle.islec.specs.Replies.{Setting, Leads, IsReply, TellsRefused, no_text, blank, no_call, call, refused_line}
 use Rattle.islec.specs.Serving.{AreReplies}
 
 -- a world that counts effects
@@ -35,7 +36,7 @@ lists world name args answer next = next ≡ world ++ name ∷ []
 
 -- the plain road, on which one call may be open
 abbrev by_rules : Manner
-by_rules = record { depth = 1; plain = true; steps = false }
+by_rules = record { depth = 1; plain = true; steps = false; trace = false; coverage = false; unanswered = false; explain = false }
 
 abbrev counting : Program → Answers → Setting ℕ
 counting program answers = record { program = program; answers = answers; step = counts; manner = by_rules }
@@ -137,6 +138,21 @@ byte_is_no_text text = absurd (true≢false (sym (is_utf8-from_IsUtf8 byte text)
 fourth_cause : refused_line 4 ≡ codes "refused 4\n"
 fourth_cause = ap (λ (digits : List ℕ). codes "refused " ++ (digits ++ codes "\n")) (decimal_digit 4 (omega arith))
 
+-- where no reasons are asked for the line stands alone, and it always may
+unreasoned : (told : List ℕ) → IsReason false told → told ≡ []
+unreasoned told (inl none) = none
+unreasoned told (inr (asked, (words, is))) = absurd (true≢false (sym asked))
+
+stands_alone : (lines : List ℕ) → TellsRefused false 4 lines → lines ≡ codes "refused 4\n"
+stands_alone lines (told, reason, is) = is ∙ ap (λ l. refused_line 4 ++ l) (unreasoned told reason) ∙ append-nil (refused_line 4) ∙ fourth_cause
+
+may_stand_alone : (asked : Bool) → TellsRefused asked 4 (codes "refused 4\n")
+may_stand_alone asked = ([], inl refl, sym (append-nil (refused_line 4) ∙ fourth_cause))
+
+-- where they are asked for it may have words below it, on one line
+with_words : TellsRefused true 4 (refused_line 4 ++ codes "  no\n")
+with_words = (codes "  no\n", inr (refl, (codes "no", refl)), refl)
+
 empty_is_passed_over : (p : Program) (a : Answers) (n : ℕ) → IsReply (counting p a) n [] [] false n
 empty_is_passed_over p a n = blank IsUtf8-nil no_tokens refl refl refl
 
@@ -144,10 +160,10 @@ x_is_refused : (p : Program) (a : Answers) (n : ℕ) → IsReply (counting p a) 
 x_is_refused p a n =
     no_call x_is_text (λ none. let wrong = only_x [] none in absurd cc) Q4 4
     (inr (Symbol x ∷ [], (x_placed, 1, x_tokens, refl), λ name rest list. x_is_no_list (Symbol x ∷ []) name rest (x_placed, 1, x_tokens, refl) list))
-    refl (sym fourth_cause) refl refl
+    refl (may_stand_alone false) refl refl
 
 byte_is_refused : (p : Program) (a : Answers) (n : ℕ) → IsReply (counting p a) n byte (codes "refused 4\n") true n
-byte_is_refused p a n = no_text byte_is_no_text (sym fourth_cause) refl refl
+byte_is_refused p a n = no_text byte_is_no_text (may_stand_alone false) refl refl
 
 -- these replies, and no others
 empty_only : (p : Program) (a : Answers) (n after : ℕ) (out : List ℕ) (refused : Bool) → IsReply (counting p a) n [] out refused after
@@ -166,13 +182,14 @@ x_only p a n after out refused (no_call text some Q2 cause (name, rest, term, (t
     absurd (x_is_no_list tokens name rest are list)
 x_only p a n after out refused (no_call text some Q3 cause (name, rest, term, (tokens, are, list), named, runs, why) number o r s) =
     absurd (x_is_no_list tokens name rest are list)
-x_only p a n after out refused (no_call text some Q4 cause why number o r s) = (o ∙ (ap refused_line (sym (same_Some 4 cause number)) ∙ fourth_cause), r, s)
+x_only p a n after out refused (no_call text some Q4 cause why number o r s) =
+    (stands_alone out (subst (λ c. TellsRefused false c out) (sym (same_Some 4 cause number)) o), r, s)
 x_only p a n after out refused (no_call text some (Memory e) cause why number o r s) = absurd cc
 x_only p a n after out refused (call text term args is answers) = let wrong = only_x _ is.spelt.1 in absurd cc
 
 byte_only : (p : Program) (a : Answers) (n after : ℕ) (out : List ℕ) (refused : Bool) → IsReply (counting p a) n byte out refused after
     → (out ≡ codes "refused 4\n") × (refused ≡ true) × (after ≡ n)
-byte_only p a n after out refused (no_text text o r s) = (o ∙ fourth_cause, r, s)
+byte_only p a n after out refused (no_text text o r s) = (stands_alone out o, r, s)
 byte_only p a n after out refused (blank text none o r s) = absurd (byte_is_no_text text)
 byte_only p a n after out refused (no_call text some fault cause why number o r s) = absurd (byte_is_no_text text)
 byte_only p a n after out refused (call text term args is answers) = absurd (byte_is_no_text text)

@@ -38,13 +38,20 @@ next_argument old name args i v was spaced grown within is written space text =
     rw (add-one i, fields_more args i v within is, text, space, written) (simp append_assoc)
 
 -- a query that is refused
-pub refused_query : {V : Type 0} (setting : Setting V) (world : V) (line text : List ℕ) (fault : QueryFault) (cause : ℕ) (r : Result Reply AllocError) → text ≡ line → IsUtf8 line
-    → ¬ AreTokensOf text [] → RefusesText setting.program text fault → cause_number fault ≡ Some cause → IfOk r (Refuses cause)
+pub refused_query : {V : Type 0} (setting : Setting V) (world : V) (line text : List ℕ) (fault : QueryFault) (r : Result Reply AllocError) → text ≡ line → IsUtf8 line
+    → ¬ AreTokensOf text [] → RefusesText setting.program text fault
+    → IfOk r (λ reply. (cause : ℕ) × (cause_number fault ≡ Some cause) × Refuses setting.manner.explain cause reply)
     → IfOk r (λ reply. IsReply setting world line (string_bytes reply.lines) reply.refused world)
-refused_query setting world line text fault cause (Err e) same utf8 some refuses number told = tt
-refused_query setting world line text fault cause (Ok reply) same utf8 some refuses number told =
+refused_query setting world line text fault (Err e) same utf8 some refuses told = tt
+refused_query setting world line text fault (Ok reply) same utf8 some refuses (cause, number, told) =
     no_call utf8 (subst (λ l. ¬ AreTokensOf l []) same some) fault cause (subst (λ l. RefusesText setting.program l fault) same refuses) number
     told.lines told.refused refl
+
+-- bytes that are no text are refused
+pub refused_bytes : {V : Type 0} (setting : Setting V) (world : V) (line : List ℕ) (r : Result Reply AllocError) → ¬ IsUtf8 line
+    → IfOk r (Refuses setting.manner.explain 4) → IfOk r (λ reply. IsReply setting world line (string_bytes reply.lines) reply.refused world)
+refused_bytes setting world line (Err e) none told = tt
+refused_bytes setting world line (Ok reply) none told = no_text none told.lines told.refused refl
 
 -- a query that is answered
 pub answered_query : {V : Type 0} (setting : Setting V) (before after : V) (line text : List ℕ) (term : TermId) (args : ValueTrees) (r : Result Reply AllocError) → text ≡ line → IsUtf8 line

@@ -81,8 +81,24 @@ pub run_steps : (rows : List Row) → FillsRules run_rules rows
     → (one_of (codes "steps") rows ≡ Some (codes "true")) ⊎ (one_of (codes "steps") rows ≡ Some (codes "false"))
 run_steps rows f = let v = one_reads run_rules (rule run_rules 3) rows refl f.fits (f.whole.1.1.1.0 (inr (omega arith))) in bool_word _ v.0 v.1 v.2
 
+pub run_trace : (rows : List Row) → FillsRules run_rules rows
+    → (one_of (codes "trace") rows ≡ Some (codes "true")) ⊎ (one_of (codes "trace") rows ≡ Some (codes "false"))
+run_trace rows f = let v = one_reads run_rules (rule run_rules 4) rows refl f.fits (f.whole.1.1.1.1.0 (inr (omega arith))) in bool_word _ v.0 v.1 v.2
+
+pub run_coverage : (rows : List Row) → FillsRules run_rules rows
+    → (one_of (codes "coverage") rows ≡ Some (codes "true")) ⊎ (one_of (codes "coverage") rows ≡ Some (codes "false"))
+run_coverage rows f = let v = one_reads run_rules (rule run_rules 5) rows refl f.fits (f.whole.1.1.1.1.1.0 (inr (omega arith))) in bool_word _ v.0 v.1 v.2
+
+pub run_unanswered : (rows : List Row) → FillsRules run_rules rows
+    → (one_of (codes "unanswered") rows ≡ Some (codes "true")) ⊎ (one_of (codes "unanswered") rows ≡ Some (codes "false"))
+run_unanswered rows f = let v = one_reads run_rules (rule run_rules 6) rows refl f.fits (f.whole.1.1.1.1.1.1.0 (inr (omega arith))) in bool_word _ v.0 v.1 v.2
+
+pub run_explain : (rows : List Row) → FillsRules run_rules rows
+    → (one_of (codes "explain") rows ≡ Some (codes "true")) ⊎ (one_of (codes "explain") rows ≡ Some (codes "false"))
+run_explain rows f = let v = one_reads run_rules (rule run_rules 7) rows refl f.fits (f.whole.1.1.1.1.1.1.1.0 (inr (omega arith))) in bool_word _ v.0 v.1 v.2
+
 pub run_files : (rows : List Row) → FillsRules run_rules rows → (vs : List Text) × (all_of (codes "file") rows ≡ Some vs) × (0 < length vs)
-run_files rows f = let v = all_reads run_rules (rule run_rules 4) rows refl f.fits (f.whole.1.1.1.1.0 (inl refl)) in (v.0, v.1, v.2)
+run_files rows f = let v = all_reads run_rules (rule run_rules 8) rows refl f.fits (f.whole.1.1.1.1.1.1.1.1.0 (inl refl)) in (v.0, v.1, v.2)
 
 -- ---- check
 
@@ -90,8 +106,16 @@ pub check_terms : (rows : List Row) → FillsRules check_rules rows
     → (one_of (codes "terms") rows ≡ Some (codes "true")) ⊎ (one_of (codes "terms") rows ≡ Some (codes "false"))
 check_terms rows f = let v = one_reads check_rules (rule check_rules 0) rows refl f.fits (f.whole.0 (inr (omega arith))) in bool_word _ v.0 v.1 v.2
 
+pub check_warn : (rows : List Row) → FillsRules check_rules rows
+    → (one_of (codes "warn") rows ≡ Some (codes "true")) ⊎ (one_of (codes "warn") rows ≡ Some (codes "false"))
+check_warn rows f = let v = one_reads check_rules (rule check_rules 1) rows refl f.fits (f.whole.1.0 (inr (omega arith))) in bool_word _ v.0 v.1 v.2
+
+pub check_explain : (rows : List Row) → FillsRules check_rules rows
+    → (one_of (codes "explain") rows ≡ Some (codes "true")) ⊎ (one_of (codes "explain") rows ≡ Some (codes "false"))
+check_explain rows f = let v = one_reads check_rules (rule check_rules 2) rows refl f.fits (f.whole.1.1.0 (inr (omega arith))) in bool_word _ v.0 v.1 v.2
+
 pub check_files : (rows : List Row) → FillsRules check_rules rows → (vs : List Text) × (all_of (codes "file") rows ≡ Some vs) × (0 < length vs)
-check_files rows f = let v = all_reads check_rules (rule check_rules 1) rows refl f.fits (f.whole.1.0 (inl refl)) in (v.0, v.1, v.2)
+check_files rows f = let v = all_reads check_rules (rule check_rules 3) rows refl f.fits (f.whole.1.1.1.0 (inl refl)) in (v.0, v.1, v.2)
 
 -- ---- blocks
 
@@ -108,11 +132,12 @@ pub fmt_width : (rows : List Row) → FillsRules fmt_rules rows
     → (v : Text) × (one_of (codes "width") rows ≡ Some v) × IsUnsignedIn 0 1000000 v
 fmt_width rows f = one_reads fmt_rules (rule fmt_rules 0) rows refl f.fits (f.whole.0 (inr (omega arith)))
 
-pub fmt_file : (rows : List Row) → FillsRules fmt_rules rows → (vs : List Text) × (all_of (codes "file") rows ≡ Some vs) × (length vs ≡ 1)
-fmt_file rows f =
-    let v = all_reads fmt_rules (rule fmt_rules 1) rows refl f.fits (f.whole.1.0 (inl refl)) in
-    let most : length v.0 ≤ 1 = v.3 refl in
-    (v.0, v.1, omega arith)
+pub fmt_unformatted : (rows : List Row) → FillsRules fmt_rules rows
+    → (one_of (codes "check") rows ≡ Some (codes "true")) ⊎ (one_of (codes "check") rows ≡ Some (codes "false"))
+fmt_unformatted rows f = let v = one_reads fmt_rules (rule fmt_rules 1) rows refl f.fits (f.whole.1.0 (inr (omega arith))) in bool_word _ v.0 v.1 v.2
+
+pub fmt_files : (rows : List Row) → FillsRules fmt_rules rows → (vs : List Text) × (all_of (codes "file") rows ≡ Some vs) × (0 < length vs)
+fmt_files rows f = let v = all_reads fmt_rules (rule fmt_rules 2) rows refl f.fits (f.whole.1.1.0 (inl refl)) in (v.0, v.1, v.2)
 
 -- ---- numbers
 

@@ -13,8 +13,8 @@ use Rattle.islec.specs.declared.status.Status.{Status}
 use Rattle.islec.specs.declared.status.Status.TheVariants.{TextsRefused}
 use Rattle.islec.specs.Statuses.{IsEnd}
 use Rattle.islec.specs.Running.{AnswersIn, TellsWorld, CutsIn, StopsIn, IsTableOf, in_entries}
-use Rattle.islec.specs.Serving.{AnswersAll, AnswersFirst, AnswersCut}
-use Rattle.islec.specs.Worlds.{world_fault_line}
+use Rattle.islec.specs.Serving.{AnswersAndTells, AnswersOrTellsCut, AnswersUntilMemory}
+use Rattle.islec.specs.Reasons.{TellsFault}
 use Rattle.islec.specs.Writing.{AppendsBeginning}
 
 module _ (program : Program) (world file : SourceFile) (manner : Manner) (same : file ≡ world) (fault : WorldFault) (refuses : RefusesWorld program file.text fault) (input left old new : Option (List ℕ)) where
@@ -26,18 +26,25 @@ module _ (program : Program) (world file : SourceFile) (manner : Manner) (same :
   never_answers refused want (Err f) status other = tt
   never_answers refused want (Ok s) status other = λ e. absurd (other (sym e ∙ status))
 
-  pub tells : (r : Result Status ServeFault) → OnOk r (Appends old new (world_fault_line program file fault)) → IfOk r (λ s. s ≡ TextsRefused → TellsWorld program world old new)
+  -- what is told of the file is told of the world
+  told_in : (line : List ℕ) → TellsFault manner.explain program file fault line → TellsFault manner.explain program world fault line
+  told_in line told = subst (λ (f : SourceFile). TellsFault manner.explain program f fault line) same told
+
+  pub tells : (r : Result Status ServeFault) → OnOk r ((line : List ℕ) × TellsFault manner.explain program file fault line × Appends old new line)
+      → IfOk r (λ s. s ≡ TextsRefused → TellsWorld manner.explain program world old new)
   tells (Err f) wrote = tt
-  tells (Ok s) wrote = λ _. record { fault = fault; refused = refused_in; written = subst (λ f. Appends old new (world_fault_line program f fault)) same wrote }
+  tells (Ok s) (line, told, wrote) = λ _. record { fault = fault; refused = refused_in; line = line; told = told_in line told; written = wrote }
 
   pub ends : (r : Result Status ServeFault) → IfOk r (λ s. s ≡ TextsRefused) → IfOk r IsEnd
   ends (Err f) status = tt
   ends (Ok s) status = subst IsEnd (sym status) tt
 
-  pub cuts : (r : Result Status ServeFault) → IfErr r (λ f. f ≢ Memory → AppendsBeginning old new (world_fault_line program file fault))
+  pub cuts : (r : Result Status ServeFault)
+      → IfErr r (λ f. f ≢ Memory → (line : List ℕ) × TellsFault manner.explain program file fault line × AppendsBeginning old new line)
       → IfErr r (λ f. f ≢ Memory → CutsIn program world manner input old new)
   cuts (Ok s) wrote = tt
-  cuts (Err f) wrote = λ e. inr (record { fault = fault; refused = refused_in; written = subst (λ f. AppendsBeginning old new (world_fault_line program f fault)) same (wrote e) })
+  cuts (Err f) wrote = λ e. let (line, told, some) = wrote e in
+      inr (record { fault = fault; refused = refused_in; line = line; told = told_in line told; written = some })
 
   pub stops : (r : Result Status ServeFault) → left ≡ input → IfErr r (λ f. f ≡ Memory → Keeps old new) → IfErr r (λ f. f ≡ Memory → StopsIn program world manner input left old new)
   stops (Ok s) still kept = tt
@@ -45,17 +52,17 @@ module _ (program : Program) (world file : SourceFile) (manner : Manner) (same :
 
 module _ (program : Program) (world : SourceFile) (manner : Manner) (entries after : List EntryTree) (spells : IsTableOf program world entries) (input left old new : Option (List ℕ)) where
   pub answers_in_world : (refused : Bool) (want : Status) (r : Result Status ServeFault)
-      → IfOk r (λ s. s ≡ want → AnswersAll (in_entries program entries manner) entries input refused old new after)
+      → IfOk r (λ s. s ≡ want → AnswersAndTells (in_entries program entries manner) entries input refused old new after)
       → IfOk r (λ s. s ≡ want → AnswersIn program world manner input refused old new)
   answers_in_world refused want (Err f) told = tt
   answers_in_world refused want (Ok s) told = λ e. (entries, after, spells, told e)
 
-  pub cuts_in_world : (r : Result Status ServeFault) → IfErr r (λ f. f ≢ Memory → AnswersCut (in_entries program entries manner) entries input old new after)
+  pub cuts_in_world : (r : Result Status ServeFault) → IfErr r (λ f. f ≢ Memory → AnswersOrTellsCut (in_entries program entries manner) entries input old new after)
       → IfErr r (λ f. f ≢ Memory → CutsIn program world manner input old new)
   cuts_in_world (Ok s) told = tt
   cuts_in_world (Err f) told = λ e. inl (entries, after, spells, told e)
 
-  pub stops_in_world : (r : Result Status ServeFault) → IfErr r (λ f. f ≡ Memory → AnswersFirst (in_entries program entries manner) f entries input left old new after)
+  pub stops_in_world : (r : Result Status ServeFault) → IfErr r (λ f. f ≡ Memory → AnswersUntilMemory (in_entries program entries manner) entries input left old new after)
       → IfErr r (λ f. f ≡ Memory → StopsIn program world manner input left old new)
   stops_in_world (Ok s) told = tt
-  stops_in_world (Err f) told = λ e. inr (entries, after, spells, subst (λ fault. AnswersFirst (in_entries program entries manner) fault entries input left old new after) e (told e))
+  stops_in_world (Err f) told = λ e. inr (entries, after, spells, told e)

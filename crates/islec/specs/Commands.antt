@@ -30,9 +30,29 @@ plain = record (new_rule (codes "plain")) { long = Some (codes "plain"); action 
 abbrev pub steps : Rule
 steps = record (new_rule (codes "steps")) { long = Some (codes "steps"); action = Some SetTrue }
 
+-- `--trace`
+abbrev pub trace : Rule
+trace = record (new_rule (codes "trace")) { long = Some (codes "trace"); action = Some SetTrue }
+
+-- `--coverage`
+abbrev pub coverage : Rule
+coverage = record (new_rule (codes "coverage")) { long = Some (codes "coverage"); action = Some SetTrue }
+
+-- `--unanswered`
+abbrev pub unanswered : Rule
+unanswered = record (new_rule (codes "unanswered")) { long = Some (codes "unanswered"); action = Some SetTrue }
+
+-- `--explain`
+abbrev pub explain : Rule
+explain = record (new_rule (codes "explain")) { long = Some (codes "explain"); action = Some SetTrue }
+
 -- `--terms`
 abbrev pub terms : Rule
 terms = record (new_rule (codes "terms")) { long = Some (codes "terms"); action = Some SetTrue }
+
+-- `--warn`
+abbrev pub warn : Rule
+warn = record (new_rule (codes "warn")) { long = Some (codes "warn"); action = Some SetTrue }
 
 -- `--term NAME`, any number of times
 abbrev pub term : Rule
@@ -60,34 +80,38 @@ rule_files = record (new_rule (codes "file")) {
   required = true;
 }
 
--- one file
-abbrev pub one_file : Rule
-one_file = record (new_rule (codes "file")) { value_names = 1; required = true }
+-- `--check`
+abbrev pub unformatted : Rule
+unformatted = record (new_rule (codes "check")) { long = Some (codes "check"); action = Some SetTrue }
 
--- `run`, with a world, a depth, `--plain`, `--steps` and files
+-- `run`, with a world, a depth, `--plain`, `--steps`, `--trace`, `--coverage`, `--unanswered`, `--explain` and files
 abbrev pub run : App
-run = with_rule (with_rule (with_rule (with_rule (with_rule (new_app (codes "run")) world) depth) plain) steps)
-    rule_files
+run = with_rule (with_rule (with_rule (with_rule (with_rule (with_rule (with_rule (with_rule (with_rule (new_app (codes "run")) world) depth) plain)
+    steps) trace) coverage) unanswered) explain) rule_files
 
--- `check`, with `--terms` and files
+-- `check`, with `--terms`, `--warn`, `--explain` and files
 abbrev pub check : App
-check = with_rule (with_rule (new_app (codes "check")) terms) rule_files
+check = with_rule (with_rule (with_rule (with_rule (new_app (codes "check")) terms) warn) explain) rule_files
 
 -- `blocks`, with names of terms, `--dot` and files
 abbrev pub blocks : App
 blocks = with_rule (with_rule (with_rule (new_app (codes "blocks")) term) dot) rule_files
 
--- `fmt`, with a width and a file
+-- `fmt`, with a width, `--check` and files
 abbrev pub fmt : App
-fmt = with_rule (with_rule (new_app (codes "fmt")) width) one_file
+fmt = with_rule (with_rule (with_rule (new_app (codes "fmt")) width) unformatted) rule_files
 
 -- a command that does nothing without a subcommand
 abbrev pub with_required : App → App
 with_required a = record a { top = record a.top { subcommand_required = true } }
 
--- the command `islec`, which is one of `run`, `check`, `blocks` and `fmt`
+-- a command that has a version
+abbrev pub with_version : App → App
+with_version a = record a { top = record a.top { has_version = true } }
+
+-- the command `islec`, which has a version, and is one of `run`, `check`, `blocks` and `fmt`
 abbrev pub islec : App
-islec = with_subcommand (with_subcommand (with_subcommand (with_subcommand (with_required (new_app (codes "islec")))
+islec = with_subcommand (with_subcommand (with_subcommand (with_subcommand (with_required (with_version (new_app (codes "islec"))))
     run.top) check.top) blocks.top) fmt.top
 
 -- the arguments of `run` as they are read, with `--help`

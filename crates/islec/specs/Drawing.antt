@@ -72,4 +72,4 @@ TellsTreesOf program files names dot text = DrawsTrees program files names dot t
 -- a beginning of such a text is written, or one of the report of faults
 abbrev pub CutsTrees : List SourceFile → List (List ℕ) → (dot : Bool) → (old new : Option (List ℕ)) → Type 0
 CutsTrees files names dot old new = ((program : Program) × IsProgramOf files program
-    × ((text : List ℕ) × TellsTreesOf program files names dot text × AppendsBeginning old new text)) ⊎ CutsFaults files old new
+    × ((text : List ℕ) × TellsTreesOf program files names dot text × AppendsBeginning old new text)) ⊎ CutsFaults false files old new

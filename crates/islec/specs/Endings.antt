@@ -4,14 +4,16 @@ use Rattle.std.specs.Global.{Global}
 use Rattle.std.specs.List.{Contains}
 use Rattle.std.specs.Option.{option_map}
 use Rattle.clap.specs.Words.{IsAmong, Text, fault_of, kind_of}
-use Rattle.isle_syntax.specs.Positions.Files.{SourceFile}
+use Rattle.isle_syntax.specs.Positions.Files.{SourceFile, source_file}
 use Rattle.isle_run.specs.Compiled.{AreAccepted}
 use Rattle.islec.specs.declared.answer.Manner.{Manner}
 use Rattle.islec.specs.Beginnings.{TellsUnbegun}
 use Rattle.islec.specs.Causes.{cause_text}
 use Rattle.islec.specs.Commands.{islec}
 use Rattle.islec.specs.Drawing.{WritesTrees, WritesUnknown, CutsTrees}
-use Rattle.islec.specs.Formatting.{WritesPrints, WritesFault, CutsPrints}
+use Rattle.islec.specs.Formatting.{WritesPrints, RefusesPrints, CutsPrints}
+use Rattle.islec.specs.Inputs.{ReadsFiles}
+use Rattle.islec.specs.Jobs.{reads_input}
 use Rattle.islec.specs.Lines.{ReadsLine, names_of}
 use Rattle.islec.specs.Running.{WritesFaults, WritesAccepted, WritesAnswers, WritesRefusal, CutsCheck, CutsRun, RunsOut}
 use Rattle.islec.specs.Statuses.{code_of}
@@ -24,50 +26,51 @@ use Rattle.islec.specs.declared.program.Begun.{Begun}
 use Rattle.islec.specs.declared.program.Unbegun.{Unbegun}
 use Rattle.islec.specs.declared.program.Unbegun.TheVariants as unbegun
 use Rattle.islec.specs.declared.status.Status.{Status}
+use Rattle.islec.specs.declared.terms.Telling.{Telling}
 use Rattle.islec.specs.declared.status.Status.TheVariants.{AllWell, TextsRefused, Usage, SomeRefused, InputOutput, OutOfMemory}
 
 -- what is written of files that are run, by the status
 abbrev pub EndsRun : (manner : Manner) → List SourceFile → (world : SourceFile) → (input left old new : Option (List ℕ)) → Status → Type 0
 EndsRun manner files world input left old new AllWell = AreAccepted files × WritesAnswers files world manner input false old new
-EndsRun manner files world input left old new TextsRefused = WritesRefusal files world old new
+EndsRun manner files world input left old new TextsRefused = WritesRefusal files world manner old new
 EndsRun manner files world input left old new Usage = ⊥
 EndsRun manner files world input left old new SomeRefused = AreAccepted files × WritesAnswers files world manner input true old new
 EndsRun manner files world input left old new InputOutput = CutsRun files world manner input old new
 EndsRun manner files world input left old new OutOfMemory = RunsOut files world manner input left old new
 
 -- what is written of files that are checked
-abbrev pub EndsCheck : (terms : Bool) → List SourceFile → (old new : Option (List ℕ)) → Status → Type 0
-EndsCheck terms files old new AllWell = WritesAccepted files terms old new
-EndsCheck terms files old new TextsRefused = WritesFaults files old new
-EndsCheck terms files old new Usage = ⊥
-EndsCheck terms files old new SomeRefused = ⊥
-EndsCheck terms files old new InputOutput = CutsCheck files terms old new
-EndsCheck terms files old new OutOfMemory = AppendsBeginning old new (codes "out of memory\n")
+abbrev pub EndsCheck : Telling → List SourceFile → (old new : Option (List ℕ)) → Status → Type 0
+EndsCheck telling files old new AllWell = WritesAccepted files telling old new
+EndsCheck telling files old new TextsRefused = WritesFaults telling.explain files old new
+EndsCheck telling files old new Usage = ⊥
+EndsCheck telling files old new SomeRefused = ⊥
+EndsCheck telling files old new InputOutput = CutsCheck files telling old new
+EndsCheck telling files old new OutOfMemory = AppendsBeginning old new (codes "out of memory\n")
 
 -- what is written of files whose trees are printed, of the terms of these names or of all, as one graph where that is asked for
 abbrev pub EndsBlocks : List (List ℕ) → (dot : Bool) → List SourceFile → (old new : Option (List ℕ)) → Status → Type 0
 EndsBlocks names dot files old new AllWell = WritesTrees files names dot old new
-EndsBlocks names dot files old new TextsRefused = WritesFaults files old new
+EndsBlocks names dot files old new TextsRefused = WritesFaults false files old new
 EndsBlocks names dot files old new Usage = WritesUnknown files names old new
 EndsBlocks names dot files old new SomeRefused = ⊥
 EndsBlocks names dot files old new InputOutput = CutsTrees files names dot old new
 EndsBlocks names dot files old new OutOfMemory = AppendsBeginning old new (codes "out of memory\n")
 
--- what is written of files that are printed
-abbrev pub EndsFmt : (width : ℕ) → List SourceFile → (old new : Option (List ℕ)) → Status → Type 0
-EndsFmt width files old new AllWell = WritesPrints width files old new
-EndsFmt width files old new TextsRefused = WritesFault files old new
-EndsFmt width files old new Usage = ⊥
-EndsFmt width files old new SomeRefused = ⊥
-EndsFmt width files old new InputOutput = CutsPrints width files old new
-EndsFmt width files old new OutOfMemory = AppendsBeginning old new (codes "out of memory\n")
+-- what is written of files that are printed, or of which the unformatted are asked for
+abbrev pub EndsFmt : (unformatted : Bool) → (width : ℕ) → List SourceFile → (old new : Option (List ℕ)) → Status → Type 0
+EndsFmt unformatted width files old new AllWell = WritesPrints unformatted width files old new
+EndsFmt unformatted width files old new TextsRefused = RefusesPrints unformatted width files old new
+EndsFmt unformatted width files old new Usage = ⊥
+EndsFmt unformatted width files old new SomeRefused = ⊥
+EndsFmt unformatted width files old new InputOutput = CutsPrints unformatted width files old new
+EndsFmt unformatted width files old new OutOfMemory = AppendsBeginning old new (codes "out of memory\n")
 
--- what is written of a job on files, in the world of a file, by the status with which it ends
+-- what is written of a job on files, in the world of a file, by the status with which it ends; only a run reads the input
 abbrev pub EndsJob : Job → List SourceFile → (world : SourceFile) → (input left old new : Option (List ℕ)) → Status → Type 0
 EndsJob (Run manner) files world input left old new status = EndsRun manner files world input left old new status
-EndsJob (Check terms) files world input left old new status = EndsCheck terms files old new status
-EndsJob (Blocks terms dot) files world input left old new status = EndsBlocks (names_of terms) dot files old new status
-EndsJob (Fmt width) files world input left old new status = EndsFmt width files old new status
+EndsJob (Check telling) files world input left old new status = EndsCheck telling files old new status × (left ≡ input)
+EndsJob (Blocks terms dot) files world input left old new status = EndsBlocks (names_of terms) dot files old new status × (left ≡ input)
+EndsJob (Fmt width unformatted) files world input left old new status = EndsFmt unformatted width files old new status × (left ≡ input)
 
 -- the file has the name that a line gives its world; where it gives none it is empty and named `world`
 abbrev pub IsWorld : Option (String Global) → SourceFile → Type 0
@@ -87,19 +90,22 @@ HoldsBack words (unbegun.CannotRead name words_of_cause) = (line : Line) × Read
     × ((cause : Cause) × (string_bytes words_of_cause ≡ cause_text cause))
 HoldsBack words unbegun.Memory = ⊤
 
--- how a command of these words ends, and what it writes: what the job of their line does on files of the names that they have, in order; or
--- what is told of why it may not begin
+-- how a command of these words ends, and what it writes: what the job of their line does on files of the names that they have, in order, of
+-- which those that are standard input are read from it; or what is told of why it may not begin
 pub data EndsCommand (words : List Text) (input left old new : Option (List ℕ)) (code : ℕ) : Type 0 where
   done : (line : Line) → ReadsLine words line → (files : List SourceFile) → map (λ file. file.name) files ≡ names_of line.files
-      → (world : SourceFile) → IsWorld line.world world → (status : Status) → code ≡ code_of status
-      → EndsJob line.job files world input left old new status → EndsCommand words input left old new code
+      → (world : SourceFile) → IsWorld line.world world → (middle : Option (List ℕ)) → ReadsFiles (reads_input line.job) files input middle
+      → (status : Status) → code ≡ code_of status → EndsJob line.job files world middle left old new status
+      → EndsCommand words input left old new code
   told : (why : Unbegun) → HoldsBack words why → (status : Status) → code ≡ code_of status → TellsUnbegun why status old new
       → EndsCommand words input left old new code
 
--- a command begins as its words say: with their job, and with a text under each name that they have, in order
-pub record Begins (words : List Text) (begun : Begun) : Type 0 where
+-- a command begins as its words say: with their job, and with a text under each name that they have, in order, for which it has read what is
+-- no longer left of the input
+pub record Begins (words : List Text) (input left : Option (List ℕ)) (begun : Begun) : Type 0 where
   pub line : Line
   pub reads : ReadsLine words line
   pub job : begun.job ≡ line.job
   pub texts : map (λ text. text.0) begun.texts.items ≡ line.files.items
   pub world : option_map (λ text. text.0) begun.world ≡ line.world
+  pub inputs : ReadsFiles (reads_input line.job) (map source_file begun.texts.items) input left

@@ -1,11 +1,18 @@
--- How many files a command takes.
-use Rattle.std.specs.Prelude.{◌≡◌, ◌<◌, ℕ}
+-- How many files a command takes, and whether one may be standard input.
+use Rattle.std.specs.Prelude.{◌<◌, ℕ, Bool, true, false}
 use Rattle.islec.specs.declared.line.Job.{Job}
 use Rattle.islec.specs.declared.line.Job.TheVariants.{Run, Check, Blocks, Fmt}
 
--- a run, a check and the printing of trees take one or more, formatting one
+-- each takes one or more
 abbrev pub HasFiles : Job → ℕ → Type 0
 HasFiles (Run manner) files = 0 < files
-HasFiles (Check terms) files = 0 < files
+HasFiles (Check telling) files = 0 < files
 HasFiles (Blocks terms dot) files = 0 < files
-HasFiles (Fmt width) files = files ≡ 1
+HasFiles (Fmt width unformatted) files = 0 < files
+
+-- whether a file named `-` is standard input: not of a run, where that has the queries
+abbrev pub reads_input : Job → Bool
+reads_input (Run manner) = false
+reads_input (Check telling) = true
+reads_input (Blocks terms dot) = true
+reads_input (Fmt width unformatted) = true

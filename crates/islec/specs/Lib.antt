@@ -1,4 +1,4 @@
--- How many files a command takes.
+-- How many files a command takes, and whether one may be standard input.
 pub mod Jobs
 -- How a command ends.
 pub mod Statuses
@@ -8,6 +8,8 @@ pub mod Formatting
 pub mod Running
 -- A writer that held `old` holds these bytes and a beginning of the text behind them
 pub mod Writing
+-- What is told below what is refused or spent, where reasons are asked for.
+pub mod Reasons
 -- What a line of input is answered.
 pub mod Replies
 -- What is written for an input, line by line.
@@ -26,6 +28,8 @@ pub mod Commands
 pub mod Rows
 -- What the words of a command line say.
 pub mod Lines
+-- Which files are standard input, and what is read of it.
+pub mod Inputs
 -- Why a file can't be read, in words.
 pub mod Causes
 -- Why a command was not begun, and what is told of it.

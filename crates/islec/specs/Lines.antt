@@ -32,11 +32,16 @@ each_of id rows = unwrap_or (all_of id rows) []
 abbrev pub SaysJob : Text → List Row → Job → Type 0
 SaysJob name rows (Run manner) =
     (name ≡ codes "run") × (number_of (codes "depth") rows ≡ Some manner.depth) × (flag_of (codes "plain") rows ≡ manner.plain)
-    × (flag_of (codes "steps") rows ≡ manner.steps)
-SaysJob name rows (Check terms) = (name ≡ codes "check") × (flag_of (codes "terms") rows ≡ terms)
+    × (flag_of (codes "steps") rows ≡ manner.steps) × (flag_of (codes "trace") rows ≡ manner.trace)
+    × (flag_of (codes "coverage") rows ≡ manner.coverage) × (flag_of (codes "unanswered") rows ≡ manner.unanswered)
+    × (flag_of (codes "explain") rows ≡ manner.explain)
+SaysJob name rows (Check telling) =
+    (name ≡ codes "check") × (flag_of (codes "terms") rows ≡ telling.terms) × (flag_of (codes "warn") rows ≡ telling.warn)
+    × (flag_of (codes "explain") rows ≡ telling.explain)
 SaysJob name rows (Blocks terms dot) =
     (name ≡ codes "blocks") × (each_of (codes "term") rows ≡ names_of terms) × (flag_of (codes "dot") rows ≡ dot)
-SaysJob name rows (Fmt width) = (name ≡ codes "fmt") × (number_of (codes "width") rows ≡ Some width)
+SaysJob name rows (Fmt width unformatted) =
+    (name ≡ codes "fmt") × (number_of (codes "width") rows ≡ Some width) × (flag_of (codes "check") rows ≡ unformatted)
 
 -- the name of a world's file, which only `run` takes
 abbrev pub world_of : Job → List Row → Option Text

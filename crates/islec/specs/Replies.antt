@@ -1,7 +1,9 @@
 -- What a line of input is answered.
 use Rattle.isle_meaning.specs.Values.{Values}
-use Rattle.std.specs.Prelude.{◌≡◌, ◌++◌, ℕ, Bool, true, false, List, [], Option, Some, None, codes, decimal, string_bytes, IsUtf8, ◌⊎◌}
+use Rattle.std.specs.Prelude.{◌≡◌, ◌++◌, ◌-◌, min, ℕ, Bool, true, false, List, [], Option, Some, None, if◌then◌else◌, codes, decimal, string_bytes, IsUtf8, ◌⊎◌}
 use Rattle.std.specs.List.{flat_map, AllZip}
+use Rattle.isle_syntax.specs.declared.lexer.Pos.{Pos}
+use Rattle.isle_syntax.specs.Positions.Files.{SourceFile}
 use Rattle.isle_types.specs.declared.ids.TermId.{TermId}
 use Rattle.isle_meaning.specs.GroundValues.{values_of}
 use Rattle.isle_meaning.specs.Worlds.{Answers, Event}
@@ -10,12 +12,14 @@ use Rattle.isle_run.specs.declared.calls.answer.Answer.{Answer}
 use Rattle.isle_run.specs.declared.calls.answer.Answer.TheVariants.{Value, None as NoAnswer, Stuck, Spent, IllTyped}
 use Rattle.isle_run.specs.declared.calls.answer.Called.{Called}
 use Rattle.isle_run.specs.declared.calls.answer.Effect.{Effect}
+use Rattle.isle_run.specs.declared.calls.choices.Choice.{Choice}
 use Rattle.isle_run.specs.declared.program.Program.{Program}
 use Rattle.isle_run.specs.declared.query.QueryFault.{QueryFault}
 use Rattle.isle_run.specs.declared.query.QueryFault.TheVariants.{Q1, Q2, Q3, Q4, Memory}
 use Rattle.isle_run.specs.Meanings.{checked}
 use Rattle.isle_run.specs.PlainCalls.{TellsPlainly, BeginsPlainly}
 use Rattle.isle_run.specs.TreeCalls.{TellsByTree, BeginsByTree}
+use Rattle.isle_run.specs.TreeTexts.Names.{indent, pos_text}
 use Rattle.isle_run.specs.Programs.{term_name}
 use Rattle.isle_run.specs.Queries.{RefusesText, IsCallIn}
 use Rattle.isle_run.specs.Calls.Answers.{answers_in, name_of_term, IsEventOf, LeadsThrough}
@@ -23,19 +27,44 @@ use Rattle.isle_run.specs.Values.TextTokens.{AreTokensOf}
 use Rattle.isle_run.specs.Values.Text.{value_text, fields_text}
 use Rattle.islec.specs.declared.answer.Manner.{Manner}
 use Rattle.islec.specs.declared.answer.Reply.{Reply}
+use Rattle.islec.specs.Reasons.{IsReason, depth_line}
 
 -- the line that tells for which of the four causes a query is refused
 abbrev pub refused_line : ℕ → List ℕ
 refused_line cause = codes "refused " ++ (decimal cause ++ codes "\n")
 
--- the reply is that line alone
-pub record Refuses (cause : ℕ) (reply : Reply) : Type 0 where
-  pub lines : string_bytes reply.lines ≡ refused_line cause
+-- the lines are that one, and its reason below it
+abbrev pub TellsRefused : (asked : Bool) → (cause : ℕ) → (lines : List ℕ) → Type 0
+TellsRefused asked cause lines = (told : List ℕ) × IsReason asked told × (lines ≡ refused_line cause ++ told)
+
+-- the reply is these lines
+pub record Refuses (asked : Bool) (cause : ℕ) (reply : Reply) : Type 0 where
+  pub lines : TellsRefused asked cause (string_bytes reply.lines)
   pub refused : reply.refused ≡ true
 
 -- a call, as `(TERM ARG ..)`
 abbrev pub call_text : List ℕ → List ValueTree → List ℕ
 call_text name args = codes "(" ++ (name ++ (fields_text (value_list args) ++ codes ")"))
+
+-- ---- rules that are chosen for calls
+
+-- how many levels the line of a call is indented below which so many calls may be open: one for each call around it, but no more than 40
+abbrev pub level_of : (depth below : ℕ) → ℕ
+level_of depth below = min (depth - 1 - below) 40
+
+-- where a rule stands, or `no rule`
+abbrev pub chosen_text : List SourceFile → Option Pos → List ℕ
+chosen_text files (Some pos) = pos_text files pos
+chosen_text files None = codes "no rule"
+
+-- the line of a choice, `. (TERM ARG ..) -> FILE:LINE:COLUMN`, two spaces deeper for each call around it
+abbrev pub choice_line : Program → List SourceFile → (depth : ℕ) → Choice → List ℕ
+choice_line program files depth choice = indent (level_of depth choice.depth) ++ (codes ". " ++ (call_text (term_name program choice.term) choice.args.items
+    ++ (codes " -> " ++ (chosen_text files choice.rule ++ codes "\n"))))
+
+-- the lines of choices, or nothing where no trace is asked for
+abbrev pub trace_lines : Program → List SourceFile → Manner → List Choice → List ℕ
+trace_lines program files manner choices = if manner.trace then flat_map (choice_line program files manner.depth) choices else []
 
 -- a value, or `none`
 abbrev pub given_text : Option ValueTree → List ℕ
@@ -113,13 +142,21 @@ abbrev pub BeginsCall : {V : Type 0} → Setting V → V → TermId → ValueTre
 BeginsCall setting before term args after = (made : List Event) × Leads setting before made after
     × BeginsBy setting.manner.plain setting.program setting.answers setting.manner.depth term.0 (values_of (checked setting.program).values args) made
 
--- the lines of a call's effects in order and that of its answer, with that of its steps where it is asked for, and whether the answer counts as
+-- the lines of some choices, where a trace is asked for: in some files, whose places they tell
+abbrev pub AreTraced : {V : Type 0} → Setting V → List ℕ → Type 0
+AreTraced setting told = (files : List SourceFile) × (choices : List Choice) × (told ≡ trace_lines setting.program files setting.manner choices)
+
+-- the lines of a call's effects in order and that of its answer, behind those of the rules that were chosen where a trace is asked for, and with
+-- that of its depth where it is spent and reasons are asked for, and that of its steps where it is asked for; and whether the answer counts as
 -- refused
 pub record AnswersCall {V : Type 0} (setting : Setting V) (before : V) (term : TermId) (args : ValueTrees) (lines : List ℕ) (refused : Bool) (after : V) : Type 0 where
   pub effects : List Effect
   pub called : Called
   pub outcome : IsOutcome setting before term args effects called after
-  pub written : lines ≡ flat_map effect_line effects ++ (answer_line setting.program called.answer ++ steps_line setting.manner.steps called.steps)
+  pub told : List ℕ
+  pub traced : AreTraced setting told
+  pub written : lines ≡ told ++ (flat_map effect_line effects ++ (answer_line setting.program called.answer
+      ++ (depth_line setting.manner called.answer ++ steps_line setting.manner.steps called.steps)))
   pub counted : refused ≡ counts_as_refused called.answer
 
 -- the number of a cause for which a query is refused
@@ -134,10 +171,10 @@ cause_number (Memory e) = None
 -- refused, a text without tokens is passed over, and of the others a query is refused for its first cause or else answered; only an answered one
 -- changes the world, by its effects
 pub data IsReply {V : Type 0} (setting : Setting V) (before : V) (line lines : List ℕ) (refused : Bool) (after : V) : Type 0 where
-  no_text : ¬ IsUtf8 line → lines ≡ refused_line 4 → refused ≡ true → after ≡ before → IsReply setting before line lines refused after
+  no_text : ¬ IsUtf8 line → TellsRefused setting.manner.explain 4 lines → refused ≡ true → after ≡ before → IsReply setting before line lines refused after
   blank : IsUtf8 line → AreTokensOf line [] → lines ≡ [] → refused ≡ false → after ≡ before → IsReply setting before line lines refused after
   no_call : IsUtf8 line → ¬ AreTokensOf line [] → (fault : QueryFault) (cause : ℕ) → RefusesText setting.program line fault → cause_number fault ≡ Some cause
-      → lines ≡ refused_line cause → refused ≡ true → after ≡ before → IsReply setting before line lines refused after
+      → TellsRefused setting.manner.explain cause lines → refused ≡ true → after ≡ before → IsReply setting before line lines refused after
   call : IsUtf8 line → (term : TermId) (args : ValueTrees) → IsCallIn setting.program line term args → AnswersCall setting before term args lines refused after
       → IsReply setting before line lines refused after
 

@@ -2,7 +2,8 @@
 use Rattle.std.specs.Prelude.{◌≡◌, ◌<◌, ◌==◌, ◌||◌, ◌++◌, ◌⊎◌, ℕ, Bool, true, false, List, [], ◌∷◌, Option, Some, None, IfSome, if◌then◌else◌, codes, length}
 use Rattle.std.specs.Io.BufRead.{take_through, drop_through}
 use Rattle.std.specs.Io.{StopsAt}
-use Rattle.std.specs.Io.KnownBytes.{Appends, Consumes}
+use Rattle.std.specs.Io.KnownBytes.{Appends, Consumes, Keeps}
+use Rattle.islec.specs.declared.answer.Manner.{Manner}
 use Rattle.islec.specs.declared.serve.Served.{Served}
 use Rattle.islec.specs.declared.serve.Served.TheVariants.{AllWell, SomeRefused}
 use Rattle.islec.specs.declared.serve.ServeFault.{ServeFault}
@@ -86,6 +87,30 @@ abbrev pub AnswersCut : {V : Type 0} → Setting V → V → (input old new : Op
 AnswersCut {V} setting before input old new after = (lines : List (List ℕ)) × (refused : Bool) × (out : List ℕ) × (reached : V)
     × AreFirstLinesOf input lines × AreReplies setting before lines out refused reached × AppendsBeginning old new out
     × ((line : List ℕ) × LosesReply setting reached line after)
+
+-- what is told behind all replies: nothing where neither rules that no call chose nor unanswered calls are asked for
+abbrev pub IsSummary : Manner → List ℕ → Type 0
+IsSummary manner lines = (manner.coverage || manner.unanswered) ≡ false → lines ≡ []
+
+-- replies to each line of an input are written, and behind them what is told behind all
+abbrev pub AnswersAndTells : {V : Type 0} → Setting V → V → (input : Option (List ℕ)) → Bool → (old new : Option (List ℕ)) → V → Type 0
+AnswersAndTells setting before input refused old new after = (middle : Option (List ℕ)) × (lines : List ℕ)
+    × AnswersAll setting before input refused old middle after × IsSummary setting.manner lines × Appends middle new lines
+
+-- replies to each line of an input are written, and behind them a beginning of what is told behind all
+abbrev pub AnswersAndCuts : {V : Type 0} → Setting V → V → (input : Option (List ℕ)) → (old new : Option (List ℕ)) → V → Type 0
+AnswersAndCuts setting before input old new after = (refused : Bool) × (middle : Option (List ℕ)) × (lines : List ℕ)
+    × AnswersAll setting before input refused old middle after × IsSummary setting.manner lines × AppendsBeginning middle new lines
+
+-- a beginning of the replies is written, or all of them and a beginning of what is told behind them
+abbrev pub AnswersOrTellsCut : {V : Type 0} → Setting V → V → (input old new : Option (List ℕ)) → V → Type 0
+AnswersOrTellsCut setting before input old new after = AnswersCut setting before input old new after ⊎ AnswersAndCuts setting before input old new after
+
+-- where memory runs out, replies to first lines are written, or all of them
+abbrev pub AnswersUntilMemory : {V : Type 0} → Setting V → V → (input left old new : Option (List ℕ)) → V → Type 0
+AnswersUntilMemory setting before input left old new after =
+    AnswersFirst setting Memory before input left old new after
+    ⊎ ((refused : Bool) × (middle : Option (List ℕ)) × AnswersAll setting before input refused old middle after × Keeps middle new)
 
 -- whether some line counted as refused
 abbrev pub some_refused : Served → Bool

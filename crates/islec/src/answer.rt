@@ -1,5 +1,6 @@
 //! The lines that answer a query.
-ghost use Rattle.std.specs.Prelude.{◌≡◌, ◌++◌, List, IfOk, OnOk, OnErr, IsUtf8, string_bytes};
+ghost use Rattle.std.specs.Prelude.{◌≡◌, ◌++◌, ℕ, Bool, List, Some, IfOk, OnOk, OnErr, IsUtf8, string_bytes};
+ghost use Rattle.std.specs.List.{flat_map};
 ghost use Rattle.isle_meaning.specs.GroundValues.{values_of};
 ghost use Rattle.isle_meaning.specs.ValueTypes.{AreOfTypes};
 ghost use Rattle.isle_meaning.specs.Worlds.{Event};
@@ -10,9 +11,14 @@ ghost use Rattle.isle_run.specs.Meanings.{checked};
 ghost use Rattle.isle_run.specs.Programs.{types_of, terms_of, types_taken, value_facts};
 ghost use Rattle.isle_run.specs.TreeCalls.{IsCompiled};
 ghost use Rattle.isle_run.specs.Values.Text.{value_text};
-ghost use Rattle.islec.specs.Replies.{BeginsBy, TellsBy, steps_line, setting_in, Refuses, IsReply, AnswersCall, BeginsCall, LosesReply, effect_line, answer_line, answer_text, call_text, given_text, counts_as_refused};
+ghost use Rattle.islec.specs.Reasons.{IsReason, depth_line};
+ghost use Rattle.islec.specs.Replies.{BeginsBy, TellsBy, steps_line, setting_in, Refuses, IsReply, AnswersCall, BeginsCall, LosesReply, effect_line, answer_line, answer_text, call_text, given_text, cause_number, counts_as_refused};
 
-use isle_run::{Answer, Called, Effect, Program, QueryFault, TermId, Value, World, is_blank};
+use crate::explain::{no_text_line, query_line};
+use crate::watch::{Watch, trace_text};
+use isle_run::{
+    Answer, Called, Choice, Effect, Program, QueryFault, TermId, Value, World, is_blank,
+};
 use std::alloc::{AllocError, Global};
 
 /// How queries are answered.
@@ -24,6 +30,14 @@ pub struct Manner {
     pub plain: bool,
     /// Whether each answer is followed by a line that tells how many steps its call took.
     pub steps: bool,
+    /// Whether before each answer a line tells which rule was chosen for its call, and one for each call below it.
+    pub trace: bool,
+    /// Whether behind all answers the rules are told that no call chose.
+    pub coverage: bool,
+    /// Whether behind all answers the calls are told for which the world has no entry of their own.
+    pub unanswered: bool,
+    /// Whether below what is refused or spent a line tells why.
+    pub explain: bool,
 }
 
 /// What a line of input is answered.
@@ -41,10 +55,11 @@ pub fn reply_to<V: World>(
     program: &Program,
     world: &mut V,
     manner: Manner,
+    watch: &mut Watch<'_>,
     line: &[u8],
 ) -> Result<Reply, AllocError>
     requires { IsCompiled program.now }
-    ensures not_text { ¬ (IsUtf8 line.now) → IfOk result (Refuses 4) }
+    ensures not_text { ¬ (IsUtf8 line.now) → IfOk result (Refuses manner.explain 4) }
     ensures reply { IfOk result (λ reply. IsReply (setting_in V.step program.now (V.constructs world.old) (V.extracts world.old) manner)
         world.old line.now (string_bytes reply.lines) reply.refused world.new) }
     ensures lost { OnErr result (LosesReply (setting_in V.step program.now (V.constructs world.old) (V.extracts world.old) manner)
@@ -52,7 +67,7 @@ pub fn reply_to<V: World>(
     ensures same { (V.constructs world.new ≡ V.constructs world.old) × (V.extracts world.new ≡ V.extracts world.old) }
 {
     let Ok(text) = str::from_utf8(line) else {
-        return refused(alloc, 4);
+        return refused(alloc, 4, no_text_line(alloc, manner.explain)?.as_str());
     };
     if is_blank(alloc, text)? {
         return Ok(Reply {
@@ -61,20 +76,47 @@ pub fn reply_to<V: World>(
         });
     }
     match program.query(alloc, text) {
-        Ok((term, args)) => reply_to_call(alloc, program, world, manner, term, args),
-        Err(QueryFault::Q1) => refused(alloc, 1),
-        Err(QueryFault::Q2) => refused(alloc, 2),
-        Err(QueryFault::Q3) => refused(alloc, 3),
-        Err(QueryFault::Q4) => refused(alloc, 4),
-        Err(QueryFault::Memory(error)) => Err(error),
+        Ok((term, args)) => reply_to_call(alloc, program, world, manner, watch, term, args),
+        Err(fault) => refuse_query(alloc, program, manner.explain, text, &fault),
     }
 }
 
-fn refused(alloc: Global, cause: u8) -> Result<Reply, AllocError>
-    ensures { IfOk result (Refuses cause) }
+/// Refuses a text for a fault, with its reason where reasons are asked for.
+fn refuse_query(
+    alloc: Global,
+    program: &Program,
+    explain: bool,
+    text: &str,
+    fault: &QueryFault,
+) -> Result<Reply, AllocError>
+    ensures { IfOk result (λ reply. (cause : ℕ) × (cause_number fault.now ≡ Some cause) × Refuses explain cause reply) }
+{
+    let Some(cause) = cause_of(fault) else {
+        return Err(AllocError);
+    };
+    let reason = query_line(alloc, program, explain, text)?;
+    refused(alloc, cause, reason.as_str())
+}
+
+/// The number of a cause; none where memory ran out.
+fn cause_of(fault: &QueryFault) -> Option<u8>
+    ensures { result ≡ cause_number fault.now }
+{
+    match fault {
+        QueryFault::Q1 => Some(1),
+        QueryFault::Q2 => Some(2),
+        QueryFault::Q3 => Some(3),
+        QueryFault::Q4 => Some(4),
+        QueryFault::Memory(_) => None,
+    }
+}
+
+/// Refuses for a cause, and tells a reason below that.
+fn refused(alloc: Global, cause: u8, reason: &str) -> Result<Reply, AllocError>
+    ensures { (asked : Bool) → IsReason asked reason.now → IfOk result (Refuses asked cause) }
 {
     Ok(Reply {
-        lines: format!(in alloc; "refused {cause}\n")?,
+        lines: format!(in alloc; "refused {cause}\n{reason}")?,
         refused: true,
     })
 }
@@ -84,6 +126,7 @@ fn reply_to_call<V: World>(
     program: &Program,
     world: &mut V,
     manner: Manner,
+    watch: &mut Watch<'_>,
     term: TermId,
     args: Vec<Value>,
 ) -> Result<Reply, AllocError>
@@ -98,17 +141,103 @@ fn reply_to_call<V: World>(
     ensures same { (V.constructs world.new ≡ V.constructs world.old) × (V.extracts world.new ≡ V.extracts world.old) }
 {
     let mut effects = Vec::new(alloc);
-    let called = call_by(alloc, program, world, manner, term, args, &mut effects)?;
-    let mut lines = String::new(alloc);
-    for effect in &effects {
-        push_effect(alloc, &mut lines, effect)?;
-    }
-    push_answer(alloc, &mut lines, program, &called.answer)?;
-    push_steps(alloc, &mut lines, manner.steps, called.steps)?;
+    let told = answer_by(alloc, program, world, manner, term, args, &mut effects)?;
+    let choices = told.1.as_slice();
+    watch.keep(manner, choices)?;
+    let mut lines = trace_text(alloc, program, watch.files, manner, choices)?;
+    push_reply(
+        alloc,
+        &mut lines,
+        program,
+        manner,
+        effects.as_slice(),
+        &told.0,
+    )?;
     Ok(Reply {
         lines,
-        refused: is_refused(&called.answer),
+        refused: is_refused(&told.0.answer),
     })
+}
+
+/// Writes the lines of effects and of the answer behind them, and those of its depth and its steps where they are asked for.
+fn push_reply(
+    alloc: Global,
+    lines: &mut String,
+    program: &Program,
+    manner: Manner,
+    effects: &[Effect],
+    called: &Called,
+) -> Result<(), AllocError>
+    ensures { OnOk result (string_bytes lines.new ≡ string_bytes lines.old ++ (flat_map effect_line effects.now
+        ++ (answer_line program.now called.now.answer ++ (depth_line manner called.now.answer ++ steps_line manner.steps called.now.steps)))) }
+{
+    for effect in effects {
+        push_effect(alloc, lines, effect)?;
+    }
+    push_answer(alloc, lines, program, &called.answer)?;
+    push_depth(alloc, lines, manner, &called.answer)?;
+    push_steps(alloc, lines, manner.steps, called.steps)?;
+    Ok(())
+}
+
+/// Answers a call by the road that is asked for, with the rules that are chosen where these are asked for.
+fn answer_by<V: World>(
+    alloc: Global,
+    program: &Program,
+    world: &mut V,
+    manner: Manner,
+    term: TermId,
+    args: Vec<Value>,
+    effects: &mut Vec<Effect>,
+) -> Result<(Called, Vec<Choice>), AllocError>
+    requires compiled { IsCompiled program.now }
+    requires callable { IsRunnable (types_of program.now) (terms_of program.now) term.0 }
+    requires typed { AreOfTypes (checked program.now).values (value_list args.items) ((checked program.now).terms.inputs term.0) }
+    ensures ran { IfOk result (λ told. (made : List Event)
+        × HasMade V.step program.now world.old effects.old.items world.new effects.new.items made
+        × TellsBy manner.plain program.now (answers_in program.now (V.constructs world.old) (V.extracts world.old)) manner.depth term.0
+        (values_of (checked program.now).values (value_list args.items)) told.0 made) }
+    ensures lost { OnErr result ((made : List Event)
+        × HasMade V.step program.now world.old effects.old.items world.new effects.new.items made
+        × BeginsBy manner.plain program.now (answers_in program.now (V.constructs world.old) (V.extracts world.old)) manner.depth term.0
+        (values_of (checked program.now).values (value_list args.items)) made) }
+    ensures same { (V.constructs world.new ≡ V.constructs world.old) × (V.extracts world.new ≡ V.extracts world.old) }
+{
+    if manner.trace || manner.coverage {
+        return trace_by(alloc, program, world, manner, term, args, effects);
+    }
+    let called = call_by(alloc, program, world, manner, term, args, effects)?;
+    Ok((called, Vec::new(alloc)))
+}
+
+/// Answers a call by the road that is asked for, with the rules that are chosen.
+fn trace_by<V: World>(
+    alloc: Global,
+    program: &Program,
+    world: &mut V,
+    manner: Manner,
+    term: TermId,
+    args: Vec<Value>,
+    effects: &mut Vec<Effect>,
+) -> Result<(Called, Vec<Choice>), AllocError>
+    requires compiled { IsCompiled program.now }
+    requires callable { IsRunnable (types_of program.now) (terms_of program.now) term.0 }
+    requires typed { AreOfTypes (checked program.now).values (value_list args.items) ((checked program.now).terms.inputs term.0) }
+    ensures ran { IfOk result (λ told. (made : List Event)
+        × HasMade V.step program.now world.old effects.old.items world.new effects.new.items made
+        × TellsBy manner.plain program.now (answers_in program.now (V.constructs world.old) (V.extracts world.old)) manner.depth term.0
+        (values_of (checked program.now).values (value_list args.items)) told.0 made) }
+    ensures lost { OnErr result ((made : List Event)
+        × HasMade V.step program.now world.old effects.old.items world.new effects.new.items made
+        × BeginsBy manner.plain program.now (answers_in program.now (V.constructs world.old) (V.extracts world.old)) manner.depth term.0
+        (values_of (checked program.now).values (value_list args.items)) made) }
+    ensures same { (V.constructs world.new ≡ V.constructs world.old) × (V.extracts world.new ≡ V.extracts world.old) }
+{
+    if manner.plain {
+        program.trace_plain(alloc, term, args, manner.depth, world, effects)
+    } else {
+        program.trace(alloc, term, args, manner.depth, world, effects)
+    }
 }
 
 /// Answers a call by the road that is asked for.
@@ -185,6 +314,31 @@ fn push_answer(
     lines.push_str("\n")
 }
 
+/// Writes the line that tells the depth behind others, where the answer is spent and reasons are asked for.
+fn push_depth(
+    alloc: Global,
+    lines: &mut String,
+    manner: Manner,
+    answer: &Answer,
+) -> Result<(), AllocError>
+    ensures { OnOk result (string_bytes lines.new ≡ string_bytes lines.old ++ depth_line manner answer.now) }
+{
+    match answer {
+        Answer::Spent if manner.explain => {
+            let depth = manner.depth;
+            let line = format!(in alloc;
+                "  --depth is {depth}: so many calls may be open at once\n"
+            )?;
+            lines.push_str(line.as_str())
+        }
+        Answer::Value(_)
+        | Answer::None
+        | Answer::Stuck(_, _)
+        | Answer::Spent
+        | Answer::IllTyped(_, _) => Ok(()),
+    }
+}
+
 /// Writes the line `# steps N` behind others where it is asked for.
 fn push_steps(alloc: Global, lines: &mut String, asked: bool, steps: u128) -> Result<(), AllocError>
     ensures { OnOk result (string_bytes lines.new ≡ string_bytes lines.old ++ steps_line asked steps) }
@@ -221,7 +375,7 @@ fn push_answer_text(
 }
 
 /// Writes a call, as `(TERM ARG ..)`, behind a text.
-fn push_call(
+pub(crate) fn push_call(
     alloc: Global,
     lines: &mut String,
     name: &str,
@@ -239,7 +393,7 @@ fn push_call(
 }
 
 /// Writes a value behind a text.
-fn push_value(alloc: Global, lines: &mut String, value: &Value) -> Result<(), AllocError>
+pub(crate) fn push_value(alloc: Global, lines: &mut String, value: &Value) -> Result<(), AllocError>
     ensures { OnOk result (string_bytes lines.new ≡ string_bytes lines.old ++ value_text value.now) }
 {
     lines.push_str(value.print(alloc)?.as_str())

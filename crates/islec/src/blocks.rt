@@ -1,5 +1,5 @@
 //! The trees of a program's rules.
-ghost use Rattle.std.specs.Prelude.{◌≡◌, ◌≢◌, ◌⊎◌, ℕ, List, IfOk, IfErr, map, string_bytes};
+ghost use Rattle.std.specs.Prelude.{◌≡◌, ◌≢◌, ◌⊎◌, ℕ, List, false, IfOk, IfErr, map, string_bytes};
 ghost use Rattle.std.specs.Io.KnownBytes.{Appends, Keeps};
 ghost use Rattle.isle_syntax.specs.Positions.Files.{source_file};
 ghost use Rattle.isle_run.specs.Compiled.{IsProgramOf};
@@ -29,7 +29,7 @@ pub fn blocks<W: Write>(
         (map source_file texts.items) (map string_bytes names.now) dot (W.contents writer.old) (W.contents writer.new)) }
     ensures unknown { IfOk result (λ status. status ≡ Status.Usage → WritesUnknown
         (map source_file texts.items) (map string_bytes names.now) (W.contents writer.old) (W.contents writer.new)) }
-    ensures refused { IfOk result (λ status. status ≡ Status.TextsRefused → WritesFaults
+    ensures refused { IfOk result (λ status. status ≡ Status.TextsRefused → WritesFaults false
         (map source_file texts.items) (W.contents writer.old) (W.contents writer.new)) }
     ensures other { IfOk result (λ status. (status ≡ Status.AllWell) ⊎ ((status ≡ Status.Usage) ⊎ (status ≡ Status.TextsRefused))) }
     ensures cut { IfErr result (λ fault. fault ≢ ServeFault.Memory → CutsTrees
@@ -41,7 +41,7 @@ pub fn blocks<W: Write>(
     let files = Rc::new(alloc, Files::from_names_and_contents(alloc, texts)?)?;
     match compile(alloc, files.clone()?) {
         Ok(program) => draw(alloc, names, dot, &files, &program, writer),
-        Err(Refused::Faults(errors)) => refuse(alloc, &errors, writer),
+        Err(Refused::Faults(errors)) => refuse(alloc, false, &errors, writer),
         Err(Refused::Memory) => Err(ServeFault::Memory),
     }
 }

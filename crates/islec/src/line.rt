@@ -1,16 +1,19 @@
 //! The words of a command line.
 ghost use Rattle.std.specs.Prelude.{◌≡◌, ◌<◌, IfErr, IfOk, codes, map, vec_len, alloc_error};
-ghost use Rattle.clap.specs.Words.{found_of, rows_of};
+ghost use Rattle.clap.specs.Words.{found_of, new_app, rows_of};
 ghost use Rattle.islec.specs.declared.line.LineFault.TheVariants.{Memory};
 ghost use Rattle.islec.specs.Faults.{BecomesFault};
-ghost use Rattle.islec.specs.Jobs.{HasFiles};
+ghost use Rattle.islec.specs.Jobs.{HasFiles, reads_input};
 ghost use Rattle.islec.specs.Commands.{IsArgument, IsCommand, blocks, blocks_rules, check, check_rules, fmt};
 ghost use Rattle.islec.specs.Commands.{depth as the_depth, plain as the_plain, rule_files as the_files, steps as the_steps};
+ghost use Rattle.islec.specs.Commands.{coverage as the_coverage, explain as the_explain, trace as the_trace, unanswered as the_unanswered};
+ghost use Rattle.islec.specs.Commands.{terms as the_terms, warn as the_warn, world as the_world};
 ghost use Rattle.islec.specs.Commands.{fmt_rules, islec, run, run_rules};
 ghost use Rattle.islec.specs.Lines.{ReadsLine, RefusesLine, SaysLine, names_of};
 ghost use Rattle.islec.specs.Rows.{FillsRules};
 
 use crate::answer::Manner;
+use crate::terms::Telling;
 use clap::builder::ValueParser;
 use clap::error::ErrorKind;
 use clap::{Arg, ArgAction, ArgMatches, Command, Error};
@@ -32,19 +35,31 @@ pub struct Line {
 pub enum Job {
     /// Answers queries, so.
     Run(Manner),
-    /// Tells whether the files are accepted, and with `terms` which terms can be run.
-    Check { terms: bool },
+    /// Tells whether the files are accepted, and of accepted ones so much more.
+    Check(Telling),
     /// Prints the trees of the rules of the terms of these names; of all terms with rules where there is none. With `dot` they are one
     /// graph.
     Blocks { terms: Vec<String>, dot: bool },
-    /// Prints the one file laid out at a width, from 0 to 1,000,000.
-    Fmt { width: u32 },
+    /// Prints the files laid out at a width, from 0 to 1,000,000; or with `unformatted` tells the names of those that aren't so.
+    Fmt { width: u32, unformatted: bool },
+}
+
+impl Job {
+    /// Whether a file named `-` is standard input: not where that has the queries.
+    pub fn reads_input(&self) -> bool
+        ensures { result ≡ reads_input self.now }
+    {
+        match self {
+            Job::Run(_) => false,
+            Job::Check(_) | Job::Blocks { .. } | Job::Fmt { .. } => true,
+        }
+    }
 }
 
 /// Why words gave no command.
 #[derive(Drop)]
 pub enum LineFault {
-    /// The words are no command, or ask for help.
+    /// The words are no command, or ask for help or the version.
     Usage(Error),
     Memory(AllocError),
 }
@@ -96,6 +111,7 @@ fn command<'a>(alloc: Global) -> Result<Command<'a>, AllocError>
     ensures { IfOk result (IsCommand islec) }
 {
     Command::new(alloc, "islec")
+        .version("0.137.1")
         .about("Compiles files of ISLE rules and answers queries by them")
         .subcommand_required(true)
         .subcommand(run_command(alloc)?)?
@@ -104,20 +120,42 @@ fn command<'a>(alloc: Global) -> Result<Command<'a>, AllocError>
         .subcommand(fmt_command(alloc)?)
 }
 
+/// A command that takes no arguments yet.
+fn started<'a>(alloc: Global, name: &'a str, about: &'a str) -> Command<'a>
+    ensures { IsCommand (new_app name.now) result }
+{
+    Command::new(alloc, name).about(about)
+}
+
 fn run_command<'a>(alloc: Global) -> Result<Command<'a>, AllocError>
     ensures { IfOk result (IsCommand run) }
 {
-    let world = Arg::new(alloc, "world")
+    started(
+        alloc,
+        "run",
+        "Answers queries from standard input, one a line",
+    )
+    .arg(world(alloc))?
+    .arg(depth(alloc))?
+    .arg(plain(alloc))?
+    .arg(steps(alloc))?
+    .arg(trace(alloc))?
+    .arg(coverage(alloc))?
+    .arg(unanswered(alloc))?
+    .arg(explain(
+        alloc,
+        "Tell below what is refused, and below what is spent, why",
+    ))?
+    .arg(rule_files(alloc, "The rule files, compiled together in this order"))
+}
+
+fn world<'a>(alloc: Global) -> Arg<'a>
+    ensures { IsArgument the_world result }
+{
+    Arg::new(alloc, "world")
         .long("world")
         .value_name("FILE")
-        .help("The file that tells what external terms answer");
-    Command::new(alloc, "run")
-        .about("Answers queries from standard input, one a line")
-        .arg(world)?
-        .arg(depth(alloc))?
-        .arg(plain(alloc))?
-        .arg(steps(alloc))?
-        .arg(rule_files(alloc))
+        .help("The file that tells what external terms answer")
 }
 
 fn depth<'a>(alloc: Global) -> Arg<'a>
@@ -149,17 +187,75 @@ fn steps<'a>(alloc: Global) -> Arg<'a>
         .action(ArgAction::SetTrue)
 }
 
+fn trace<'a>(alloc: Global) -> Arg<'a>
+    ensures { IsArgument the_trace result }
+{
+    Arg::new(alloc, "trace")
+        .long("trace")
+        .help("Tell before each answer which rules were chosen")
+        .action(ArgAction::SetTrue)
+}
+
+fn coverage<'a>(alloc: Global) -> Arg<'a>
+    ensures { IsArgument the_coverage result }
+{
+    Arg::new(alloc, "coverage")
+        .long("coverage")
+        .help("Tell at the end which rules no call chose")
+        .action(ArgAction::SetTrue)
+}
+
+fn unanswered<'a>(alloc: Global) -> Arg<'a>
+    ensures { IsArgument the_unanswered result }
+{
+    Arg::new(alloc, "unanswered")
+        .long("unanswered")
+        .help("Tell at the end for which calls the world has no entry of their own")
+        .action(ArgAction::SetTrue)
+}
+
+fn explain<'a>(alloc: Global, help: &'a str) -> Arg<'a>
+    ensures { IsArgument the_explain result }
+{
+    Arg::new(alloc, "explain")
+        .long("explain")
+        .help(help)
+        .action(ArgAction::SetTrue)
+}
+
 fn check_command<'a>(alloc: Global) -> Result<Command<'a>, AllocError>
     ensures { IfOk result (IsCommand check) }
 {
-    let terms = Arg::new(alloc, "terms")
-        .long("terms")
-        .help("Tell of each term with rules whether it can be run, and its most steps")
-        .action(ArgAction::SetTrue);
     Command::new(alloc, "check")
         .about("Tells whether the files are accepted, or what is wrong with them")
-        .arg(terms)?
-        .arg(rule_files(alloc))
+        .arg(terms(alloc))?
+        .arg(warn(alloc))?
+        .arg(explain(
+            alloc,
+            "Tell with --terms below each term that can't be run why",
+        ))?
+        .arg(rule_files(
+            alloc,
+            "The rule files, compiled together in this order; - is standard input",
+        ))
+}
+
+fn terms<'a>(alloc: Global) -> Arg<'a>
+    ensures { IsArgument the_terms result }
+{
+    Arg::new(alloc, "terms")
+        .long("terms")
+        .help("Tell of each term with rules whether it can be run, and its most steps")
+        .action(ArgAction::SetTrue)
+}
+
+fn warn<'a>(alloc: Global) -> Arg<'a>
+    ensures { IsArgument the_warn result }
+{
+    Arg::new(alloc, "warn")
+        .long("warn")
+        .help("Tell what is likely to be a slip, as a variable that isn't used")
+        .action(ArgAction::SetTrue)
 }
 
 fn blocks_command<'a>(alloc: Global) -> Result<Command<'a>, AllocError>
@@ -178,15 +274,18 @@ fn blocks_command<'a>(alloc: Global) -> Result<Command<'a>, AllocError>
         .about("Prints the trees of tests that the rules become")
         .arg(term)?
         .arg(dot)?
-        .arg(rule_files(alloc))
+        .arg(rule_files(
+            alloc,
+            "The rule files, compiled together in this order; - is standard input",
+        ))
 }
 
-fn rule_files<'a>(alloc: Global) -> Arg<'a>
+fn rule_files<'a>(alloc: Global, help: &'a str) -> Arg<'a>
     ensures { IsArgument the_files result }
 {
     Arg::new(alloc, "file")
         .value_name("FILE")
-        .help("The rule files, compiled together in this order")
+        .help(help)
         .action(ArgAction::Append)
         .num_args(1..)
         .required(true)
@@ -201,14 +300,20 @@ fn fmt_command<'a>(alloc: Global) -> Result<Command<'a>, AllocError>
         .help("How many characters a list on one line may have, at most 1000000")
         .value_parser(ValueParser::Unsigned(0, 1_000_000))
         .default_value("80");
-    let file = Arg::new(alloc, "file")
-        .value_name("FILE")
-        .help("The file to print")
-        .required(true);
+    let unformatted = Arg::new(alloc, "check")
+        .long("check")
+        .help(
+            "Print only the names of the files that aren't formatted, with status 1 if there are any",
+        )
+        .action(ArgAction::SetTrue);
     Command::new(alloc, "fmt")
-        .about("Prints a file formatted")
+        .about("Prints files formatted; keeps neither comments nor the radix of numbers")
         .arg(width)?
-        .arg(file)
+        .arg(unformatted)?
+        .arg(rule_files(
+            alloc,
+            "The files, printed in this order; - is standard input",
+        ))
 }
 
 fn run_line(alloc: Global, matches: &ArgMatches<'_>) -> Result<Line, AllocError>
@@ -222,6 +327,10 @@ fn run_line(alloc: Global, matches: &ArgMatches<'_>) -> Result<Line, AllocError>
     let files = copies(alloc, matches.get_strs("file").unwrap_or(&[]))?;
     let plain = matches.get_flag("plain");
     let steps = matches.get_flag("steps");
+    let trace = matches.get_flag("trace");
+    let coverage = matches.get_flag("coverage");
+    let unanswered = matches.get_flag("unanswered");
+    let explain = matches.get_flag("explain");
     let world = match matches.get_str("world") {
         Some(name) => Some(String::from_str(alloc, name)?),
         None => None,
@@ -231,6 +340,10 @@ fn run_line(alloc: Global, matches: &ArgMatches<'_>) -> Result<Line, AllocError>
             depth,
             plain,
             steps,
+            trace,
+            coverage,
+            unanswered,
+            explain,
         }),
         files,
         world,
@@ -244,8 +357,14 @@ fn check_line(alloc: Global, matches: &ArgMatches<'_>) -> Result<Line, AllocErro
 {
     let files = copies(alloc, matches.get_strs("file").unwrap_or(&[]))?;
     let terms = matches.get_flag("terms");
+    let warn = matches.get_flag("warn");
+    let explain = matches.get_flag("explain");
     Ok(Line {
-        job: Job::Check { terms },
+        job: Job::Check(Telling {
+            terms,
+            warn,
+            explain,
+        }),
         files,
         world: None,
     })
@@ -275,8 +394,9 @@ fn fmt_line(alloc: Global, matches: &ArgMatches<'_>) -> Result<Line, AllocError>
         unreachable!()
     };
     let files = copies(alloc, matches.get_strs("file").unwrap_or(&[]))?;
+    let unformatted = matches.get_flag("check");
     Ok(Line {
-        job: Job::Fmt { width },
+        job: Job::Fmt { width, unformatted },
         files,
         world: None,
     })

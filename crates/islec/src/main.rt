@@ -4,13 +4,17 @@
 pub mod answer;
 pub mod blocks;
 pub mod cause;
-pub mod format;
+pub mod explain;
+mod format;
 pub mod line;
 pub mod perform;
 pub mod program;
 pub mod serve;
 pub mod status;
 pub mod terms;
+pub mod warn;
+pub mod watch;
+pub mod watched;
 pub mod world;
 
 use std::process::ExitCode;

@@ -1,5 +1,5 @@
 //! A whole command on texts.
-ghost use Rattle.std.specs.Prelude.{◌≡◌, ◌≢◌, ◌⊎◌, ℕ, List, true, false, map, IfOk, IfErr, OnOk};
+ghost use Rattle.std.specs.Prelude.{◌≡◌, ◌≢◌, ◌⊎◌, ℕ, List, true, false, map, IfOk, IfErr, OnOk, string_bytes};
 ghost use Rattle.std.specs.Io.KnownBytes.{Appends, Keeps};
 ghost use Rattle.isle_syntax.specs.Errors.{report_text};
 ghost use Rattle.isle_syntax.specs.Positions.Files.{source_file};
@@ -7,22 +7,26 @@ ghost use Rattle.isle_run.specs.Compiled.{AreAccepted};
 ghost use Rattle.isle_run.specs.TreeCalls.{IsCompiled};
 ghost use Rattle.islec.specs.Endings.{EndsJob};
 ghost use Rattle.islec.specs.Replies.{setting_in};
-ghost use Rattle.islec.specs.Running.{WritesFaults, WritesAccepted, WritesAnswers, WritesRefusal, CutsCheck, CutsRun, AnswersSome, AnswersIn, TellsWorld, CutsIn, StopsIn};
-ghost use Rattle.islec.specs.Worlds.{world_file, world_fault_line};
-ghost use Rattle.islec.specs.Terms.{TellsProgram};
-ghost use Rattle.islec.specs.Serving.{AnswersAll, AnswersFirst, AnswersCut};
+ghost use Rattle.islec.specs.Running.{TellsChecked, WritesFaults, WritesAccepted, WritesAnswers, WritesRefusal, CutsCheck, CutsRun, AnswersSome, AnswersIn, TellsWorld, CutsIn, StopsIn, in_entries};
+ghost use Rattle.islec.specs.Reasons.{ReportsFaults, TellsFault};
+ghost use Rattle.islec.specs.Worlds.{world_file};
+ghost use Rattle.islec.specs.Serving.{AnswersAll, AnswersFirst, AnswersCut, AnswersAndTells, AnswersOrTellsCut, AnswersUntilMemory, IsSummary};
 ghost use Rattle.islec.specs.Writing.{AppendsBeginning};
 ghost use Rattle.islec.specs.Statuses.{code_of, IsEnd, EndsAs};
 ghost use Rattle.islec.specs.declared.status.Status.{Status};
 
 use crate::answer::Manner;
 use crate::blocks::blocks;
+use crate::explain::faults_text;
 use crate::format::format;
 use crate::line::Job;
 use crate::serve::{ServeFault, Served, serve, write_text};
 use crate::status::{Status, out_of_memory};
-use crate::terms::program_text;
-use crate::world::fault_line;
+use crate::terms::{Telling, program_text};
+use crate::warn::warnings_text;
+use crate::watch::Watch;
+use crate::watched::WatchedTable;
+use crate::world::fault_text;
 use isle_run::{Program, Refused, TableWorld, World, WorldFault, compile};
 use isle_syntax::error::Errors;
 use isle_syntax::files::Files;
@@ -49,16 +53,16 @@ pub fn perform<R: BufRead, W: Write>(
             let done = run(alloc, manner, texts, world, reader, writer);
             conclude(done, writer)
         }
-        Job::Check { terms } => {
-            let done = check(alloc, terms, texts, writer);
+        Job::Check(telling) => {
+            let done = check(alloc, telling, texts, writer);
             conclude(done, writer)
         }
         Job::Blocks { terms, dot } => {
             let done = blocks(alloc, terms.as_slice(), dot, texts, writer);
             conclude(done, writer)
         }
-        Job::Fmt { width } => {
-            let done = format(alloc, width, texts, writer);
+        Job::Fmt { width, unformatted } => {
+            let done = format(alloc, width, unformatted, texts, writer);
             conclude(done, writer)
         }
     };
@@ -95,7 +99,7 @@ fn run<R: BufRead, W: Write>(
         → WritesAnswers (map source_file texts.items) (world_file world) manner (R.remaining reader.old) true
         (W.contents writer.old) (W.contents writer.new)) }
     ensures refused { IfOk result (λ status. status ≡ Status.TextsRefused → WritesRefusal
-        (map source_file texts.items) (world_file world) (W.contents writer.old) (W.contents writer.new)) }
+        (map source_file texts.items) (world_file world) manner (W.contents writer.old) (W.contents writer.new)) }
     ensures other { IfOk result IsEnd }
     ensures cut { IfErr result (λ fault. fault ≢ ServeFault.Memory
         → CutsRun (map source_file texts.items) (world_file world) manner (R.remaining reader.old)
@@ -105,9 +109,9 @@ fn run<R: BufRead, W: Write>(
         (W.contents writer.old) (W.contents writer.new)) }
 {
     let files = Rc::new(alloc, Files::from_names_and_contents(alloc, texts)?)?;
-    match compile(alloc, files) {
-        Ok(program) => run_program(alloc, &program, world, manner, reader, writer),
-        Err(Refused::Faults(errors)) => refuse(alloc, &errors, writer),
+    match compile(alloc, files.clone()?) {
+        Ok(program) => run_program(alloc, &program, &files, world, manner, reader, writer),
+        Err(Refused::Faults(errors)) => refuse(alloc, manner.explain, &errors, writer),
         Err(Refused::Memory) => Err(ServeFault::Memory),
     }
 }
@@ -129,6 +133,7 @@ fn world_parts(
 fn run_program<R: BufRead, W: Write>(
     alloc: Global,
     program: &Program,
+    files: &Files,
     world: Option<(String, String)>,
     manner: Manner,
     reader: &mut R,
@@ -139,7 +144,7 @@ fn run_program<R: BufRead, W: Write>(
         (world_file world) manner (R.remaining reader.old) false (W.contents writer.old) (W.contents writer.new)) }
     ensures some_refused { IfOk result (λ status. status ≡ Status.SomeRefused → AnswersIn program.now
         (world_file world) manner (R.remaining reader.old) true (W.contents writer.old) (W.contents writer.new)) }
-    ensures refused { IfOk result (λ status. status ≡ Status.TextsRefused → TellsWorld
+    ensures refused { IfOk result (λ status. status ≡ Status.TextsRefused → TellsWorld manner.explain
         program.now (world_file world) (W.contents writer.old) (W.contents writer.new)) }
     ensures other { IfOk result IsEnd }
     ensures cut { IfErr result (λ fault. fault ≢ ServeFault.Memory → CutsIn program.now
@@ -149,10 +154,110 @@ fn run_program<R: BufRead, W: Write>(
 {
     let (name, text) = world_parts(alloc, world)?;
     match TableWorld::read(alloc, text.as_str(), program) {
-        Ok(mut table) => answer(alloc, program, &mut table, manner, reader, writer),
+        Ok(table) => {
+            let mut world = WatchedTable::new(alloc, table, manner.unanswered);
+            answer_all(alloc, program, files, &mut world, manner, reader, writer)
+        }
         Err(WorldFault::Memory(_)) => Err(ServeFault::Memory),
-        Err(fault) => refuse_world(alloc, program, name.as_str(), text.as_str(), &fault, writer),
+        Err(fault) => refuse_world(
+            alloc,
+            program,
+            manner.explain,
+            name.as_str(),
+            text.as_str(),
+            &fault,
+            writer,
+        ),
     }
+}
+
+/// Answers the queries of an input by a program in the world of a table, and tells behind them what of rules and calls is asked for.
+fn answer_all<R: BufRead, W: Write>(
+    alloc: Global,
+    program: &Program,
+    files: &Files,
+    world: &mut WatchedTable,
+    manner: Manner,
+    reader: &mut R,
+    writer: &mut W,
+) -> Result<Status, ServeFault>
+    requires { IsCompiled program.now }
+    ensures all_well { IfOk result (λ status. status ≡ Status.AllWell → AnswersAndTells
+        (in_entries program.now world.old manner) world.old (R.remaining reader.old) false
+        (W.contents writer.old) (W.contents writer.new) world.new) }
+    ensures some_refused { IfOk result (λ status. status ≡ Status.SomeRefused → AnswersAndTells
+        (in_entries program.now world.old manner) world.old (R.remaining reader.old) true
+        (W.contents writer.old) (W.contents writer.new) world.new) }
+    ensures other { IfOk result (λ status. (status ≡ Status.AllWell) ⊎ (status ≡ Status.SomeRefused)) }
+    ensures cut { IfErr result (λ fault. fault ≢ ServeFault.Memory → AnswersOrTellsCut
+        (in_entries program.now world.old manner) world.old (R.remaining reader.old)
+        (W.contents writer.old) (W.contents writer.new) world.new) }
+    ensures memory { IfErr result (λ fault. fault ≡ ServeFault.Memory → AnswersUntilMemory
+        (in_entries program.now world.old manner) world.old (R.remaining reader.old) (R.remaining reader.new)
+        (W.contents writer.old) (W.contents writer.new) world.new) }
+{
+    let mut watch = Watch::new(alloc, files);
+    match answer(alloc, program, world, manner, &mut watch, reader, writer) {
+        Ok(status) => tell_summary(alloc, program, manner, &watch, world, status, writer),
+        Err(fault) => Err(fault),
+    }
+}
+
+/// Writes what is told behind all answers, which gave this status.
+fn tell_summary<W: Write>(
+    alloc: Global,
+    program: &Program,
+    manner: Manner,
+    watch: &Watch<'_>,
+    world: &WatchedTable,
+    status: Status,
+    writer: &mut W,
+) -> Result<Status, ServeFault>
+    ensures status { IfOk result (λ given. given ≡ status) }
+    ensures written { OnOk result ((lines : List ℕ) × IsSummary manner lines × Appends (W.contents writer.old) (W.contents writer.new) lines) }
+    ensures cut { IfErr result (λ fault. fault ≢ ServeFault.Memory → (lines : List ℕ)
+        × IsSummary manner lines × AppendsBeginning (W.contents writer.old) (W.contents writer.new) lines) }
+    ensures memory { IfErr result (λ fault. fault ≡ ServeFault.Memory → Keeps
+        (W.contents writer.old) (W.contents writer.new)) }
+    ensures fault { IfErr result (λ fault. fault ≢ ServeFault.Read) }
+{
+    let text = summary(alloc, program, manner, watch, world)?;
+    write_text(writer, text.as_str())?;
+    Ok(status)
+}
+
+/// What is told behind all answers.
+fn summary(
+    alloc: Global,
+    program: &Program,
+    manner: Manner,
+    watch: &Watch<'_>,
+    world: &WatchedTable,
+) -> Result<String, AllocError>
+    ensures { IfOk result (λ text. IsSummary manner (string_bytes text)) }
+{
+    if manner.coverage || manner.unanswered {
+        return summary_lines(alloc, program, manner, watch, world);
+    }
+    Ok(String::new(alloc))
+}
+
+/// The lines of rules that were not chosen, where these are asked for, and of calls without an entry, where these are.
+fn summary_lines(
+    alloc: Global,
+    program: &Program,
+    manner: Manner,
+    watch: &Watch<'_>,
+    world: &WatchedTable,
+) -> Result<String, AllocError> {
+    let mut text = String::new(alloc);
+    if manner.coverage {
+        text.push_str(watch.unchosen(alloc, program)?.as_str())?;
+    }
+    if manner.unanswered {
+        text.push_str(world.unanswered(alloc)?.as_str())?;
+    }
+    Ok(text)
 }
 
 /// Answers the queries of an input by a program.
@@ -161,6 +266,7 @@ fn answer<V: World, R: BufRead, W: Write>(
     program: &Program,
     world: &mut V,
     manner: Manner,
+    watch: &mut Watch<'_>,
     reader: &mut R,
     writer: &mut W,
 ) -> Result<Status, ServeFault>
@@ -179,78 +285,81 @@ fn answer<V: World, R: BufRead, W: Write>(
         (setting_in V.step program.now (V.constructs world.old) (V.extracts world.old) manner) fault
         world.old (R.remaining reader.old) (R.remaining reader.new) (W.contents writer.old) (W.contents writer.new) world.new) }
 {
-    match serve(alloc, program, world, manner, reader, writer) {
+    match serve(alloc, program, world, manner, watch, reader, writer) {
         Ok(Served::AllWell) => Ok(Status::AllWell),
         Ok(Served::SomeRefused) => Ok(Status::SomeRefused),
         Err(fault) => Err(fault),
     }
 }
 
-/// Writes the line that tells why a world is refused.
+/// Writes what tells why a world is refused.
 fn refuse_world<W: Write>(
     alloc: Global,
     program: &Program,
+    explain: bool,
     name: &str,
     text: &str,
     fault: &WorldFault,
     writer: &mut W,
 ) -> Result<Status, ServeFault>
     ensures status { IfOk result (λ status. status ≡ Status.TextsRefused) }
-    ensures written { OnOk result (Appends (W.contents writer.old) (W.contents writer.new)
-        (world_fault_line program.now (record { name = name.now; text = text.now }) fault.now)) }
-    ensures cut { IfErr result (λ why. why ≢ ServeFault.Memory → AppendsBeginning
-        (W.contents writer.old) (W.contents writer.new)
-        (world_fault_line program.now (record { name = name.now; text = text.now }) fault.now)) }
+    ensures written { OnOk result ((line : List ℕ) × TellsFault explain program.now (record { name = name.now; text = text.now }) fault.now line
+        × Appends (W.contents writer.old) (W.contents writer.new) line) }
+    ensures cut { IfErr result (λ why. why ≢ ServeFault.Memory → (line : List ℕ)
+        × TellsFault explain program.now (record { name = name.now; text = text.now }) fault.now line
+        × AppendsBeginning (W.contents writer.old) (W.contents writer.new) line) }
     ensures memory { IfErr result (λ why. why ≡ ServeFault.Memory → Keeps
         (W.contents writer.old) (W.contents writer.new)) }
     ensures fault { IfErr result (λ why. why ≢ ServeFault.Read) }
 {
-    let line = fault_line(alloc, program, name, text, fault)?;
+    let line = fault_text(alloc, program, explain, name, text, fault)?;
     write_text(writer, line.as_str())?;
     Ok(Status::TextsRefused)
 }
 
-/// Writes what is printed of faults, for which texts are refused.
+/// Writes what is printed of faults, for which texts are refused, with their reasons where these are asked for.
 pub(crate) fn refuse<W: Write>(
     alloc: Global,
+    explain: bool,
     errors: &Errors,
     writer: &mut W,
 ) -> Result<Status, ServeFault>
     ensures status { IfOk result (λ status. status ≡ Status.TextsRefused) }
-    ensures written { OnOk result
-        (Appends (W.contents writer.old) (W.contents writer.new) (report_text errors.now)) }
-    ensures cut { IfErr result (λ fault. fault ≢ ServeFault.Memory → AppendsBeginning
-        (W.contents writer.old) (W.contents writer.new) (report_text errors.now)) }
+    ensures written { OnOk result ((text : List ℕ) × ReportsFaults explain errors.now text
+        × Appends (W.contents writer.old) (W.contents writer.new) text) }
+    ensures cut { IfErr result (λ fault. fault ≢ ServeFault.Memory → (text : List ℕ)
+        × ReportsFaults explain errors.now text × AppendsBeginning (W.contents writer.old) (W.contents writer.new) text) }
     ensures memory { IfErr result (λ fault. fault ≡ ServeFault.Memory → Keeps
         (W.contents writer.old) (W.contents writer.new)) }
     ensures fault { IfErr result (λ fault. fault ≢ ServeFault.Read) }
 {
-    write_faults(alloc, errors, writer)?;
+    let text = faults_text(alloc, explain, errors)?;
+    write_text(writer, text.as_str())?;
     Ok(Status::TextsRefused)
 }
 
 /// Writes what is told of the texts' program, or what is printed of their faults.
 fn check<W: Write>(
     alloc: Global,
-    terms: bool,
+    telling: Telling,
     texts: Vec<(String, String)>,
     writer: &mut W,
 ) -> Result<Status, ServeFault>
     ensures accepted { IfOk result (λ status. status ≡ Status.AllWell → WritesAccepted
-        (map source_file texts.items) terms (W.contents writer.old) (W.contents writer.new)) }
-    ensures refused { IfOk result (λ status. status ≡ Status.TextsRefused → WritesFaults
+        (map source_file texts.items) telling (W.contents writer.old) (W.contents writer.new)) }
+    ensures refused { IfOk result (λ status. status ≡ Status.TextsRefused → WritesFaults telling.explain
         (map source_file texts.items) (W.contents writer.old) (W.contents writer.new)) }
     ensures other { IfOk result (λ status. (status ≡ Status.AllWell) ⊎ (status ≡ Status.TextsRefused)) }
     ensures cut { IfErr result (λ fault. fault ≢ ServeFault.Memory → CutsCheck
-        (map source_file texts.items) terms (W.contents writer.old) (W.contents writer.new)) }
+        (map source_file texts.items) telling (W.contents writer.old) (W.contents writer.new)) }
     ensures memory { IfErr result (λ fault. fault ≡ ServeFault.Memory → Keeps
         (W.contents writer.old) (W.contents writer.new)) }
     ensures fault { IfErr result (λ fault. fault ≢ ServeFault.Read) }
 {
     let files = Rc::new(alloc, Files::from_names_and_contents(alloc, texts)?)?;
-    match compile(alloc, files) {
-        Ok(program) => tell(alloc, terms, &program, writer),
-        Err(Refused::Faults(errors)) => refuse(alloc, &errors, writer),
+    match compile(alloc, files.clone()?) {
+        Ok(program) => tell(alloc, telling, &program, &files, writer),
+        Err(Refused::Faults(errors)) => refuse(alloc, telling.explain, &errors, writer),
         Err(Refused::Memory) => Err(ServeFault::Memory),
     }
 }
@@ -258,22 +367,41 @@ fn check<W: Write>(
 /// Writes what is told of an accepted program.
 fn tell<W: Write>(
     alloc: Global,
-    terms: bool,
+    telling: Telling,
     program: &Program,
+    files: &Files,
     writer: &mut W,
 ) -> Result<Status, ServeFault>
     ensures status { IfOk result (λ status. status ≡ Status.AllWell) }
-    ensures written { OnOk result ((text : List ℕ) × TellsProgram program.now terms text
+    ensures written { OnOk result ((text : List ℕ) × TellsChecked program.now telling text
         × Appends (W.contents writer.old) (W.contents writer.new) text) }
     ensures cut { IfErr result (λ fault. fault ≢ ServeFault.Memory → (text : List ℕ)
-        × TellsProgram program.now terms text × AppendsBeginning (W.contents writer.old) (W.contents writer.new) text) }
+        × TellsChecked program.now telling text × AppendsBeginning (W.contents writer.old) (W.contents writer.new) text) }
     ensures memory { IfErr result (λ fault. fault ≡ ServeFault.Memory → Keeps
         (W.contents writer.old) (W.contents writer.new)) }
     ensures fault { IfErr result (λ fault. fault ≢ ServeFault.Read) }
 {
-    let text = program_text(alloc, program, terms)?;
+    let text = checked_text(alloc, telling, program, files)?;
     write_text(writer, text.as_str())?;
     Ok(Status::AllWell)
+}
+
+/// What is told of an accepted program, and behind it the warnings where they are asked for.
+fn checked_text(
+    alloc: Global,
+    telling: Telling,
+    program: &Program,
+    files: &Files,
+) -> Result<String, AllocError>
+    ensures { IfOk result (λ text. TellsChecked program.now telling (string_bytes text)) }
+{
+    let mut text = program_text(alloc, program, telling)?;
+    if !telling.warn {
+        return Ok(text);
+    }
+    let warnings = warnings_text(alloc, program, files)?;
+    text.push_str(warnings.as_str())?;
+    Ok(text)
 }
 
 /// Writes what is printed of faults.

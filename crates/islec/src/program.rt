@@ -1,8 +1,10 @@
 //! The program: words, files, and the command on them.
-ghost use Rattle.std.specs.Prelude.{◌≡◌, ◌⊎◌, IfOk, IfErr, OnOk, OnErr, map, option_map, string_bytes};
+ghost use Rattle.std.specs.Prelude.{◌≡◌, ◌⊎◌, true, IfOk, IfErr, OnOk, OnErr, map, option_map, string_bytes};
 ghost use Rattle.std.specs.Io.KnownBytes.{Appends};
 ghost use Rattle.islec.specs.Beginnings.{BecomesUnbegun, TellsUnbegun, IsNoText, IsUnread, IsUnreadFile, IsUnreadFor, IsUnreadWorld, line_of_two, unread_lines};
 ghost use Rattle.islec.specs.Endings.{Begins, EndsCommand, HoldsBack};
+ghost use Rattle.isle_syntax.specs.Positions.Files.{source_file};
+ghost use Rattle.islec.specs.Inputs.{ReadsFile, ReadsFiles, ReadsText, is_input as the_input};
 ghost use Rattle.islec.specs.Statuses.{code_of};
 ghost use Rattle.islec.specs.Writing.{AppendsBeginning};
 ghost use Rattle.islec.specs.declared.status.Status.{Status};
@@ -22,7 +24,7 @@ use std::{env, fs, io};
 /// Why the command was not begun.
 #[derive(Drop)]
 enum Unbegun {
-    /// The words are no command, or ask for help.
+    /// The words are no command, or ask for help or the version.
     Usage(clap::Error),
     /// A word isn't UTF-8.
     NotText,
@@ -82,8 +84,8 @@ pub fn run<R: Env + Files + Input + Print + AllocGlobal>(rt: &R) -> u8
     }
 }
 
-/// Reads the files that words name, all before anything is compiled, does the job that they say, and gives the exit status; or tells
-/// why it can't begin.
+/// Reads the files that words name, all before anything is compiled, does the job that they say, and gives the exit status; or tells why it can't
+/// begin. A file named `-` is the input, where that has no queries.
 pub fn command<R: Files + AllocGlobal, I: BufRead, W: Write>(
     rt: &R,
     words: &[String],
@@ -93,19 +95,23 @@ pub fn command<R: Files + AllocGlobal, I: BufRead, W: Write>(
     ensures ends { EndsCommand (map string_bytes words.now) (I.remaining input.old) (I.remaining input.new)
         (W.contents output.old) (W.contents output.new) result }
 {
-    match begin(rt, words) {
+    match begin(rt, words, input) {
         Ok(Begun { job, texts, world }) => perform(rt.alloc(), job, texts, world, input, output),
         Err(unbegun) => tell(unbegun, output).code(),
     }
 }
 
 // Reads the files that words name.
-fn begin<R: Files + AllocGlobal>(rt: &R, words: &[String]) -> Result<Begun, Unbegun>
-    ensures begun { IfOk result (Begins (map string_bytes words.now)) }
+fn begin<R: Files + AllocGlobal, I: BufRead>(
+    rt: &R,
+    words: &[String],
+    input: &mut I,
+) -> Result<Begun, Unbegun>
+    ensures begun { IfOk result (Begins (map string_bytes words.now) (I.remaining input.old) (I.remaining input.new)) }
     ensures refused { IfErr result (HoldsBack (map string_bytes words.now)) }
 {
     let Line { job, files, world } = line_of(rt.alloc(), words)?;
-    let texts = read_texts(rt, files)?;
+    let texts = read_texts(rt, files, job.reads_input(), input)?;
     let world = read_world(rt, world)?;
     Ok(Begun { job, texts, world })
 }
@@ -121,19 +127,66 @@ fn read_words<R: Env + AllocGlobal>(rt: &R) -> Result<Vec<String>, Unbegun>
     }
 }
 
-// The files of these names, in order.
-fn read_texts<R: Files + AllocGlobal>(
+// The files of these names, in order, of which those named `-` may be standard input.
+fn read_texts<R: Files + AllocGlobal, I: BufRead>(
     rt: &R,
     names: Vec<String>,
+    reads_input: bool,
+    input: &mut I,
 ) -> Result<Vec<(String, String)>, Unbegun>
     ensures named { IfOk result (λ texts. map (λ text. text.0) texts.items ≡ names.items) }
+    ensures inputs { IfOk result (λ texts. ReadsFiles reads_input (map source_file texts.items)
+        (I.remaining input.old) (I.remaining input.new)) }
     ensures refused { IfErr result (IsUnread names.items) }
 {
     let mut texts = Vec::new(rt.alloc());
     for name in names {
-        texts.push(read_text(rt, name)?)?;
+        texts.push(read_file(rt, name, reads_input, input)?)?;
     }
     Ok(texts)
+}
+
+// The name and the contents of a file, which may be standard input.
+fn read_file<R: Files + AllocGlobal, I: BufRead>(
+    rt: &R,
+    name: String,
+    reads_input: bool,
+    input: &mut I,
+) -> Result<(String, String), Unbegun>
+    ensures named { IfOk result (λ text. text.0 ≡ name) }
+    ensures inputs { IfOk result (λ text. ReadsFile reads_input (source_file text) (I.remaining input.old) (I.remaining input.new)) }
+    ensures refused { IfErr result (IsUnreadFile name) }
+{
+    if is_input(reads_input, name.as_str()) {
+        read_input(rt.alloc(), name, input)
+    } else {
+        read_text(rt, name)
+    }
+}
+
+// Whether a file of this name is standard input.
+fn is_input(reads_input: bool, name: &str) -> bool
+    ensures { result ≡ the_input reads_input name.now }
+{
+    reads_input && name == "-"
+}
+
+// The name and all that is left of standard input.
+fn read_input<I: BufRead>(
+    alloc: Global,
+    name: String,
+    input: &mut I,
+) -> Result<(String, String), Unbegun>
+    ensures named { IfOk result (λ text. text.0 ≡ name) }
+    ensures inputs { IfOk result (λ text. ReadsText true (string_bytes text.1) (I.remaining input.old) (I.remaining input.new)) }
+    ensures refused { IfErr result (IsUnreadFile name) }
+{
+    let mut bytes = Vec::new(alloc);
+    match input.read_to_end(&mut bytes) {
+        Ok(_) => text_of(alloc, name, bytes),
+        Err(error) if error.kind() == ErrorKind::OutOfMemory => Err(Unbegun::Memory),
+        Err(error) => Err(unread(alloc, name, Cause::Fails(error.kind()))),
+    }
 }
 
 // The world's file, where one is named.

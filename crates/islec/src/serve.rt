@@ -9,6 +9,7 @@ ghost use Rattle.islec.specs.Writing.{AppendsBeginning, ContinuesBy};
 ghost use Rattle.islec.specs.declared.serve.ServeFault.TheVariants.{Memory};
 
 use crate::answer::{Manner, reply_to};
+use crate::watch::Watch;
 use isle_run::{Program, World};
 use std::alloc::{AllocError, AllocFailed, Global};
 use std::io::{BufRead, ErrorKind, Write};
@@ -64,12 +65,13 @@ const FULL: usize = 8192;
 /// lines of a query are written whole or, where memory runs out within it, not at all. They are written before the reader is waited for. Before a
 /// fault of reading or of memory is reported, the lines of all earlier queries are written: after a failed read of
 /// all lines that had ended. Each query is answered in the world that the one before leaves. The program is a
-/// compiled one (its condition).
+/// compiled one (its condition). `watch` keeps which rules are chosen, where that is asked for.
 pub fn serve<V: World, R: BufRead, W: Write>(
     alloc: Global,
     program: &Program,
     world: &mut V,
     manner: Manner,
+    watch: &mut Watch<'_>,
     reader: &mut R,
     writer: &mut W,
 ) -> Result<Served, ServeFault>
@@ -91,6 +93,7 @@ pub fn serve<V: World, R: BufRead, W: Write>(
         program,
         world,
         manner,
+        watch,
         reader,
         &mut unwritten,
         writer,
@@ -119,6 +122,7 @@ fn serve_lines<V: World, B: BufRead, W: Write>(
     program: &Program,
     world: &mut V,
     manner: Manner,
+    watch: &mut Watch<'_>,
     input: &mut B,
     unwritten: &mut String,
     writer: &mut W,
@@ -144,7 +148,8 @@ fn serve_lines<V: World, B: BufRead, W: Write>(
         let Some(lines) = await_lines(ready, input, unwritten, writer)? else {
             return Ok(served);
         };
-        let Some(refused) = answer_next(alloc, program, world, manner, input, unwritten)? else {
+        let Some(refused) = answer_next(alloc, program, world, manner, watch, input, unwritten)?
+        else {
             return Ok(served);
         };
         ready = lines.saturating_sub(1);
@@ -200,6 +205,7 @@ fn answer_next<V: World, B: BufRead>(
     program: &Program,
     world: &mut V,
     manner: Manner,
+    watch: &mut Watch<'_>,
     input: &mut B,
     unwritten: &mut String,
 ) -> Result<Option<bool>, ServeFault>
@@ -222,7 +228,7 @@ fn answer_next<V: World, B: BufRead>(
         return Ok(None);
     };
     let bare = without_newline(line.as_slice());
-    let reply = reply_to(alloc, program, world, manner, bare)?;
+    let reply = reply_to(alloc, program, world, manner, watch, bare)?;
     unwritten.push_str(reply.lines.as_str())?;
     Ok(Some(reply.refused))
 }

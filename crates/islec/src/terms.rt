@@ -2,8 +2,20 @@
 ghost use Rattle.std.specs.Prelude.{IfOk, string_bytes};
 ghost use Rattle.islec.specs.Terms.{TellsRuns, IsTermLine, AreTermLines, TellsProgram, NotesTypes};
 
+use crate::explain;
 use isle_run::{Program, TermId};
 use std::alloc::{AllocError, Global};
+
+/// What a check tells of accepted files, beside that they are.
+#[derive(Clone, Copy)]
+pub struct Telling {
+    /// Of each term with rules whether it can be run, and its most steps.
+    pub terms: bool,
+    /// What is likely to be a slip.
+    pub warn: bool,
+    /// Below a term that can't be run, why.
+    pub explain: bool,
+}
 
 /// Whether a term can be run, in words.
 fn runs_word(program: &Program, term: TermId) -> &str
@@ -16,23 +28,37 @@ fn runs_word(program: &Program, term: TermId) -> &str
     }
 }
 
-/// The line of a term: its name, whether it can be run, and how many steps its rules take at most.
-fn term_line(alloc: Global, program: &Program, term: TermId) -> Result<String, AllocError>
-    ensures { IfOk result (λ line. IsTermLine program.now term (string_bytes line)) }
+/// The line of a term: its name, whether it can be run, and how many steps its rules take at most; below it why it can't be run, where
+/// reasons are asked for.
+fn term_line(
+    alloc: Global,
+    program: &Program,
+    explain: bool,
+    term: TermId,
+) -> Result<String, AllocError>
+    ensures { IfOk result (λ line. IsTermLine explain program.now term (string_bytes line)) }
 {
     let name = program.name(term);
     let runs = runs_word(program, term);
     let steps = program.steps_at_most(term);
-    format!(in alloc; "{name}{runs}{steps}\n")
+    let mut line = format!(in alloc; "{name}{runs}{steps}\n")?;
+    let reason = explain::term_line(alloc, program, explain, term)?;
+    line.push_str(reason.as_str())?;
+    Ok(line)
 }
 
 /// The lines of these terms.
-fn term_lines(alloc: Global, program: &Program, terms: &[TermId]) -> Result<String, AllocError>
-    ensures { IfOk result (λ lines. AreTermLines program.now terms.now (string_bytes lines)) }
+fn term_lines(
+    alloc: Global,
+    program: &Program,
+    explain: bool,
+    terms: &[TermId],
+) -> Result<String, AllocError>
+    ensures { IfOk result (λ lines. AreTermLines explain program.now terms.now (string_bytes lines)) }
 {
     let mut lines = String::new(alloc);
     for term in terms {
-        let line = term_line(alloc, program, *term)?;
+        let line = term_line(alloc, program, explain, *term)?;
         lines.push_str(line.as_str())?;
     }
     Ok(lines)
@@ -50,13 +76,17 @@ fn types_note(program: &Program) -> &str
 }
 
 /// What a check writes of an accepted program, with its terms where they are asked for.
-pub fn program_text(alloc: Global, program: &Program, terms: bool) -> Result<String, AllocError>
-    ensures { IfOk result (λ text. TellsProgram program.now terms (string_bytes text)) }
+pub fn program_text(
+    alloc: Global,
+    program: &Program,
+    telling: Telling,
+) -> Result<String, AllocError>
+    ensures { IfOk result (λ text. TellsProgram program.now telling (string_bytes text)) }
 {
     let mut text = String::from_str(alloc, "accepted\n")?;
     text.push_str(types_note(program))?;
-    if terms {
-        let lines = term_lines(alloc, program, program.terms_with_rules())?;
+    if telling.terms {
+        let lines = term_lines(alloc, program, telling.explain, program.terms_with_rules())?;
         text.push_str(lines.as_str())?;
     }
     Ok(text)

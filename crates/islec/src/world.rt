@@ -1,8 +1,10 @@
 //! What is printed of a world that is refused.
 ghost use Rattle.std.specs.Prelude.{◌≡◌, ◌+◌, ◌-◌, ◌∷◌, IfOk, slice_index, string_bytes};
 ghost use Rattle.isle_syntax.specs.Positions.Lines.{starts_up_to};
+ghost use Rattle.islec.specs.Reasons.{TellsFault};
 ghost use Rattle.islec.specs.Worlds.{placed_line, world_fault_line};
 
+use crate::explain::world_line;
 use isle_run::{Program, WorldFault};
 use isle_syntax::files::LineMap;
 use std::alloc::{AllocError, Global};
@@ -50,8 +52,24 @@ fn placed_fault(
     Ok(told)
 }
 
+/// What tells why the world of a name and a text is refused, with its reason below it where reasons are asked for.
+pub fn fault_text(
+    alloc: Global,
+    program: &Program,
+    explain: bool,
+    name: &str,
+    text: &str,
+    fault: &WorldFault,
+) -> Result<String, AllocError>
+    ensures { IfOk result (λ lines. TellsFault explain program.now (record { name = name.now; text = text.now }) fault.now (string_bytes lines)) }
+{
+    let mut lines = fault_line(alloc, program, name, text, fault)?;
+    lines.push_str(world_line(alloc, program, explain, text, fault)?.as_str())?;
+    Ok(lines)
+}
+
 /// The line that tells why the world of a name and a text is refused; nothing where memory ran out.
-pub fn fault_line(
+fn fault_line(
     alloc: Global,
     program: &Program,
     name: &str,

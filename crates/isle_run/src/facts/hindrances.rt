@@ -14,7 +14,7 @@ use isle_terms::{Expr, IfLet, Pattern, Rule, Term, TermEnv, TermKind};
 use isle_types::{TermId, Type, TypeEnv, TypeId, VarId};
 
 /// Whether a rule takes values apart by a multi term, or names a constant of an enum or struct.
-pub(super) fn hinders(tyenv: &TypeEnv, termenv: &TermEnv, rule: &Rule) -> bool
+pub(crate) fn hinders(tyenv: &TypeEnv, termenv: &TermEnv, rule: &Rule) -> bool
     ensures { result ≡ is_hindering_rule tyenv.now termenv.now rule.now }
 {
     patterns_hinder(tyenv, termenv, rule.args.as_slice())
@@ -49,7 +49,7 @@ fn is_data(tyenv: &TypeEnv, ty: TypeId) -> bool
 }
 
 /// Whether the term of an id gives any number of answers.
-fn is_multi(termenv: &TermEnv, term: TermId) -> bool
+pub(crate) fn is_multi(termenv: &TermEnv, term: TermId) -> bool
     ensures { result ≡ is_multi_in termenv.now term.0 }
 {
     match termenv.get_term(term) {
@@ -59,7 +59,7 @@ fn is_multi(termenv: &TermEnv, term: TermId) -> bool
 }
 
 /// Whether a term gives any number of answers.
-pub(super) fn gives_many(term: &Term) -> bool
+pub(crate) fn gives_many(term: &Term) -> bool
     ensures { result ≡ is_multi_kind term.now.kind }
 {
     match &term.kind {

@@ -12,7 +12,7 @@ use isle_types::{TermId, TypeId, VarId};
 use std::alloc::AllocError;
 
 /// Adds the terms that a rule makes values by.
-pub(super) fn push_made(rule: &Rule, made: &mut Vec<usize>) -> Result<(), AllocError>
+pub(crate) fn push_made(rule: &Rule, made: &mut Vec<usize>) -> Result<(), AllocError>
     ensures { OnOk result ((names : List (List ℕ)) → made.new.items ≡ made.old.items ++ terms_made_by names rule.now) }
 {
     push_of_iflets(rule.iflets.as_slice(), made)?;

@@ -50,7 +50,7 @@ fn mark_listed(
 }
 
 /// Marks the numbers of a list, and lists those that weren't marked.
-fn mark_each(
+pub(crate) fn mark_each(
     numbers: &[usize],
     marks: &mut Vec<bool>,
     left: &mut Vec<usize>,

@@ -8,6 +8,7 @@ ghost use Rattle.isle_run.specs.Warnings.{NameAt, WarningAt};
 use crate::program::Program;
 use crate::warnings::Warning;
 use crate::warnings::binders::{PatternName, lets_of_rule, names_of_rule};
+use crate::warnings::conditions::warn_of_conditions;
 use crate::warnings::messages::{is_silent, unused, warn_of_bare};
 use crate::warnings::uses::Uses;
 use isle_syntax::Text;
@@ -67,7 +68,9 @@ fn warn_of_rule(
     warn_of_data(alloc, program, names.as_slice(), &mut used, found)?;
     warn_of_names(alloc, names.as_slice(), &used, found)?;
     let lets = lets_of_rule(alloc, rule)?;
-    warn_of_lets(alloc, lets.as_slice(), &uses, found)
+    warn_of_lets(alloc, lets.as_slice(), &uses, found)?;
+    let typed = typed.iflets.as_slice();
+    warn_of_conditions(alloc, program, rule.iflets.as_slice(), typed, found)
 }
 
 /// Adds the warnings of names that are a variant's or a struct's. They count as used, and so does a name that stands twice.

@@ -70,7 +70,10 @@ fn next_token(lexer: &mut Lexer<'_>) -> Result<Option<(Pos, Token)>, WorldFault>
 }
 
 /// The tokens of a text, and the offset of each.
-fn placed_tokens(alloc: Global, text: &str) -> Result<(Vec<Token>, Vec<usize>), WorldFault>
+pub(crate) fn placed_tokens(
+    alloc: Global,
+    text: &str,
+) -> Result<(Vec<Token>, Vec<usize>), WorldFault>
     ensures placed { IfOk result (λ p. ArePlaced text.now p.0.items p.1.items) }
     ensures fault { IfErr result (λ fault. (program : KnownProgram) → RefusesWorld program text.now fault) }
 {
@@ -112,7 +115,7 @@ fn add_entry(
 }
 
 /// The world of entries that tokens spell.
-fn read_entries(
+pub(crate) fn read_entries(
     alloc: Global,
     program: &Program,
     tokens: &[Token],
@@ -132,7 +135,7 @@ fn read_entries(
 }
 
 /// Whether a term must always be answered on a side, and has no `else` there.
-fn lacks_else_on(
+pub(crate) fn lacks_else_on(
     alloc: Global,
     program: &Program,
     world: &TableWorld,

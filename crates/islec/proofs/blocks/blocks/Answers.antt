@@ -1,4 +1,4 @@
-use Rattle.std.proofs.Common.{◌≡◌, List, map, arith, subst}
+use Rattle.std.proofs.Common.{◌≡◌, false, List, map, arith, subst}
 use Rattle.std.specs.Prelude.{string_bytes}
 use Rattle.isle_syntax.specs.Positions.Files.{SourceFile, source_file}
 use Rattle.isle_run.specs.Compiled.{AreAccepted, IsProgramOf}
@@ -13,7 +13,7 @@ returns-in-Err-Faults-clause-refused g c =
     let told = c.in-Err-Faults.ensures in
     faults_by c.in_ok-clone.field-0.value (map source_file c.args.texts.items) c.in-Err-Faults.field-0 c.in-Err-Faults.errors
     (g.W.Write.contents c.args.writer.now) (g.W.Write.contents c.refuse.new.writer) c.in-Err-Faults.field-0-is same
-    told.refused told.faults told.of_files c.refuse.result c.refuse.ensures.written
+    told.refused told.faults told.of_files false c.refuse.result c.refuse.ensures.written
 
 pub returns-in-Err-Faults-clause-cut : goal.returns-in-Err-Faults-clause-cut
 returns-in-Err-Faults-clause-cut g c =

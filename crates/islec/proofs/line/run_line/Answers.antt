@@ -2,7 +2,7 @@ use Rattle.std.proofs.Common.{ap, sym, refl, ◌∙◌, Some, codes, option_map,
 use Rattle.std.specs.Str.Parse.{ExplainsUnsignedError, HasUnsignedDigitsIfOk, ParsesUnsigned}
 use Rattle.clap.specs.Words.{found_of, rows_of}
 use Rattle.clap.proofs.WalkLemmas.{first_value-rows, one_text-rows}
-use Rattle.islec.proofs.ValueLemmas.{depth_is, files_read, flag_reads, has_depth, run_files, run_plain, run_steps}
+use Rattle.islec.proofs.ValueLemmas.{depth_is, files_read, flag_reads, has_depth, run_coverage, run_explain, run_files, run_plain, run_steps, run_trace, run_unanswered}
 use Rattle.islec.proofs.line.run_line.Goals.{in-Some-get_str+in_ok-from_str-in-Some-get_str, in-None}
 use Rattle.islec.proofs.line.run_line.Goals as goal
 
@@ -33,6 +33,10 @@ returns-clause-says c =
     c.get_strs.ensures c.unwrap_or.ensures c.in_ok-files.ensures in
     let plain = one_text-rows found (codes "plain") in
     let steps = one_text-rows found (codes "steps") in
+    let trace = one_text-rows found (codes "trace") in
+    let coverage = one_text-rows found (codes "coverage") in
+    let unanswered = one_text-rows found (codes "unanswered") in
+    let explain = one_text-rows found (codes "explain") in
     record {
       job = (
         refl,
@@ -41,6 +45,14 @@ returns-clause-says c =
             (λ e. c.get_flag-plain.ensures.other (plain ∙ e)),
         flag_reads _ c.get_flag-steps.result (run_steps (rows_of found) c.requires) (λ e. c.get_flag-steps.ensures.value (steps ∙ e))
             (λ e. c.get_flag-steps.ensures.other (steps ∙ e)),
+        flag_reads _ c.get_flag-trace.result (run_trace (rows_of found) c.requires) (λ e. c.get_flag-trace.ensures.value (trace ∙ e))
+            (λ e. c.get_flag-trace.ensures.other (trace ∙ e)),
+        flag_reads _ c.get_flag-coverage.result (run_coverage (rows_of found) c.requires) (λ e. c.get_flag-coverage.ensures.value (coverage ∙ e))
+            (λ e. c.get_flag-coverage.ensures.other (coverage ∙ e)),
+        flag_reads _ c.get_flag-unanswered.result (run_unanswered (rows_of found) c.requires)
+            (λ e. c.get_flag-unanswered.ensures.value (unanswered ∙ e)) (λ e. c.get_flag-unanswered.ensures.other (unanswered ∙ e)),
+        flag_reads _ c.get_flag-explain.result (run_explain (rows_of found) c.requires) (λ e. c.get_flag-explain.ensures.value (explain ∙ e))
+            (λ e. c.get_flag-explain.ensures.other (explain ∙ e)),
       );
       files = read.0;
       world = elim c.match-get_str.branch [

@@ -1,4 +1,4 @@
-use Rattle.std.proofs.Common.{ℕ, List, String, ap, map, sym, subst}
+use Rattle.std.proofs.Common.{ℕ, List, String, ap, map, refl, sym, subst}
 use Rattle.std.specs.Global.{Global}
 use Rattle.std.specs.Prelude.{string_bytes}
 use Rattle.isle_syntax.specs.Positions.Files.{source_file}
@@ -33,25 +33,31 @@ returns g c =
               let new = g.W.Write.contents w.conclude-status-in-Check.new.writer in
               let did = w.check-done.ensures in
               rw (w.status-is, w.writer-is, w.reader-is)
-              (subst (λ (j : Job). EndsJob j files world input input old new w.conclude-status-in-Check.result) (sym w.in-Check.is)
-              (check_ends w.in-Check.terms files old (g.W.Write.contents w.check-done.new.writer) w.check-done.result w.conclude-status-in-Check.result new
-              w.conclude-status-in-Check.ensures did.accepted did.refused did.other did.cut did.memory))
+              (subst (λ (j : Job). EndsJob j files world input input old new w.conclude-status-in-Check.result) (sym w.in-Check.is) (
+                check_ends w.in-Check.telling files old (g.W.Write.contents w.check-done.new.writer) w.check-done.result w.conclude-status-in-Check.result new
+                    w.conclude-status-in-Check.ensures did.accepted did.refused did.other did.cut did.memory,
+                refl,
+              ))
           | in-Blocks w ↦
               let new = g.W.Write.contents w.conclude-status-in-Blocks.new.writer in
               let did = w.blocks-done.ensures in
               rw (w.status-is, w.writer-is, w.reader-is)
-              (subst (λ (j : Job). EndsJob j files world input input old new w.conclude-status-in-Blocks.result) (sym w.in-Blocks.is)
-              (subst (λ (names : List (List ℕ)). EndsBlocks names w.in-Blocks.dot files old new w.conclude-status-in-Blocks.result)
-              (ap (λ (l : List (String Global)). map string_bytes l) w.as_slice.ensures.value)
-              (blocks_ends (map string_bytes w.as_slice.result.now) w.in-Blocks.dot files old (g.W.Write.contents w.blocks-done.new.writer) w.blocks-done.result
-              w.conclude-status-in-Blocks.result new w.conclude-status-in-Blocks.ensures did.drawn did.unknown did.refused did.other did.cut did.memory)))
+              (subst (λ (j : Job). EndsJob j files world input input old new w.conclude-status-in-Blocks.result) (sym w.in-Blocks.is) (
+                subst (λ (names : List (List ℕ)). EndsBlocks names w.in-Blocks.dot files old new w.conclude-status-in-Blocks.result)
+                    (ap (λ (l : List (String Global)). map string_bytes l) w.as_slice.ensures.value)
+                    (blocks_ends (map string_bytes w.as_slice.result.now) w.in-Blocks.dot files old (g.W.Write.contents w.blocks-done.new.writer) w.blocks-done.result
+                    w.conclude-status-in-Blocks.result new w.conclude-status-in-Blocks.ensures did.drawn did.unknown did.refused did.other did.cut did.memory),
+                refl,
+              ))
           | in-Fmt w ↦
               let new = g.W.Write.contents w.conclude-status-in-Fmt.new.writer in
               let did = w.format-done.ensures in
               rw (w.status-is, w.writer-is, w.reader-is)
-              (subst (λ (j : Job). EndsJob j files world input input old new w.conclude-status-in-Fmt.result) (sym w.in-Fmt.is)
-              (fmt_ends w.in-Fmt.width files old (g.W.Write.contents w.format-done.new.writer) w.format-done.result w.conclude-status-in-Fmt.result new
-              w.conclude-status-in-Fmt.ensures did.printed did.refused did.other did.cut did.memory))
+              (subst (λ (j : Job). EndsJob j files world input input old new w.conclude-status-in-Fmt.result) (sym w.in-Fmt.is) (
+                fmt_ends w.in-Fmt.unformatted w.in-Fmt.width files old (g.W.Write.contents w.format-done.new.writer) w.format-done.result
+                    w.conclude-status-in-Fmt.result new w.conclude-status-in-Fmt.ensures did.printed did.refused did.other did.cut did.memory,
+                refl,
+              ))
         ],
       );
     }

@@ -42,8 +42,8 @@ returns-in-Ok-clause-all_well g c =
           (subst (λ (t : List ℕ). SpellsWorld c.args.program.now t entries) c.as_str.ensures.value spelt),
       has,
     ) in
-    answers_in_world c.args.program.now (world_file c.args.world) c.args.manner c.in-Ok.table c.answer.new.world spells (g.R.Read.remaining c.args.reader.now) (g.R.Read.remaining c.answer.new.reader)
-    (g.W.Write.contents c.args.writer.now) (g.W.Write.contents c.answer.new.writer) false AllWell c.answer.result c.answer.ensures.all_well
+    answers_in_world c.args.program.now (world_file c.args.world) c.args.manner c.in-Ok.table c.answer_all.new.world spells (g.R.Read.remaining c.args.reader.now) (g.R.Read.remaining c.answer_all.new.reader)
+    (g.W.Write.contents c.args.writer.now) (g.W.Write.contents c.answer_all.new.writer) false AllWell c.answer_all.result (rw c.new-world.ensures at c.answer_all.ensures.all_well)
 
 pub returns-in-Ok-clause-some_refused : goal.returns-in-Ok-clause-some_refused
 returns-in-Ok-clause-some_refused g c =
@@ -54,8 +54,8 @@ returns-in-Ok-clause-some_refused g c =
           (subst (λ (t : List ℕ). SpellsWorld c.args.program.now t entries) c.as_str.ensures.value spelt),
       has,
     ) in
-    answers_in_world c.args.program.now (world_file c.args.world) c.args.manner c.in-Ok.table c.answer.new.world spells (g.R.Read.remaining c.args.reader.now) (g.R.Read.remaining c.answer.new.reader)
-    (g.W.Write.contents c.args.writer.now) (g.W.Write.contents c.answer.new.writer) true SomeRefused c.answer.result c.answer.ensures.some_refused
+    answers_in_world c.args.program.now (world_file c.args.world) c.args.manner c.in-Ok.table c.answer_all.new.world spells (g.R.Read.remaining c.args.reader.now) (g.R.Read.remaining c.answer_all.new.reader)
+    (g.W.Write.contents c.args.writer.now) (g.W.Write.contents c.answer_all.new.writer) true SomeRefused c.answer_all.result (rw c.new-world.ensures at c.answer_all.ensures.some_refused)
 
 pub returns-in-Ok-clause-cut : goal.returns-in-Ok-clause-cut
 returns-in-Ok-clause-cut g c =
@@ -66,8 +66,8 @@ returns-in-Ok-clause-cut g c =
           (subst (λ (t : List ℕ). SpellsWorld c.args.program.now t entries) c.as_str.ensures.value spelt),
       has,
     ) in
-    cuts_in_world c.args.program.now (world_file c.args.world) c.args.manner c.in-Ok.table c.answer.new.world spells (g.R.Read.remaining c.args.reader.now) (g.R.Read.remaining c.answer.new.reader)
-    (g.W.Write.contents c.args.writer.now) (g.W.Write.contents c.answer.new.writer) c.answer.result c.answer.ensures.cut
+    cuts_in_world c.args.program.now (world_file c.args.world) c.args.manner c.in-Ok.table c.answer_all.new.world spells (g.R.Read.remaining c.args.reader.now) (g.R.Read.remaining c.answer_all.new.reader)
+    (g.W.Write.contents c.args.writer.now) (g.W.Write.contents c.answer_all.new.writer) c.answer_all.result (rw c.new-world.ensures at c.answer_all.ensures.cut)
 
 pub returns-in-Ok-clause-memory : goal.returns-in-Ok-clause-memory
 returns-in-Ok-clause-memory g c =
@@ -78,5 +78,5 @@ returns-in-Ok-clause-memory g c =
           (subst (λ (t : List ℕ). SpellsWorld c.args.program.now t entries) c.as_str.ensures.value spelt),
       has,
     ) in
-    stops_in_world c.args.program.now (world_file c.args.world) c.args.manner c.in-Ok.table c.answer.new.world spells (g.R.Read.remaining c.args.reader.now) (g.R.Read.remaining c.answer.new.reader)
-    (g.W.Write.contents c.args.writer.now) (g.W.Write.contents c.answer.new.writer) c.answer.result c.answer.ensures.memory
+    stops_in_world c.args.program.now (world_file c.args.world) c.args.manner c.in-Ok.table c.answer_all.new.world spells (g.R.Read.remaining c.args.reader.now) (g.R.Read.remaining c.answer_all.new.reader)
+    (g.W.Write.contents c.args.writer.now) (g.W.Write.contents c.answer_all.new.writer) c.answer_all.result (rw c.new-world.ensures at c.answer_all.ensures.memory)

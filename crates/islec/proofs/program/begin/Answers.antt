@@ -1,3 +1,4 @@
+use Rattle.std.proofs.Common.{refl}
 use Rattle.std.proofs.lemmas.Result.{err_from_is_err_and}
 use Rattle.islec.proofs.EndingLemmas.{files_hold_back, world_holds_back}
 use Rattle.islec.proofs.program.begin.Goals as goal
@@ -11,3 +12,13 @@ pub returns-in_err-world-clause-refused : goal.returns-in_err-world-clause-refus
 returns-in_err-world-clause-refused g c =
     let e = err_from_is_err_and c.from_residual-in_err-world.result c.from_residual-in_err-world.ensures.1 in
     rw (e.1, e.2) (world_holds_back _ c.in_ok-job.field-0 c.in_err-world.field-0.0 c.in_ok-job.ensures.reads c.in_err-world.ensures.refused)
+
+pub returns-clause-begun : goal.returns-clause-begun
+returns-clause-begun g c = record {
+  line = c.in_ok-job.field-0;
+  reads = c.in_ok-job.ensures.reads;
+  job = refl;
+  texts = c.in_ok-texts.ensures.named;
+  world = c.in_ok-world.ensures.named;
+  inputs = rw c.reads_input.ensures at c.in_ok-texts.ensures.inputs;
+}

@@ -5,4 +5,4 @@ use Rattle.islec.proofs.terms.term_lines.Given as goal
 
 -- the lines of the terms so far
 abbrev pub invariant-loop-term : goal.invariant-loop-term
-invariant-loop-term l = AreTermLines l.program (take l.term-index l.terms) (string_bytes l.lines)
+invariant-loop-term l = AreTermLines l.explain l.program (take l.term-index l.terms) (string_bytes l.lines)
