@@ -68,3 +68,5 @@ pub mod RootedRules
 pub mod RefusedChecks
 -- What a refusal lists means that there is no environment.
 pub mod TypingRefused
+-- Errors that are told once.
+pub mod ToldErrors

@@ -32,3 +32,5 @@ pub mod MadeTerms
 pub mod Environments
 -- The symbols at which a table finds the numbers of terms.
 pub mod TermSymbols
+-- Of errors that tell the same the first.
+pub mod Repeats

@@ -22,6 +22,7 @@ mod naming;
 mod needs;
 mod parts;
 mod recursion;
+mod repeats;
 mod report;
 mod rule_names;
 mod rules;

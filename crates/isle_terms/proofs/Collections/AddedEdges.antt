@@ -19,13 +19,13 @@ among_push (first ∷ others) last x (suc place, is) =
     elim (among_push others last x (place, is)) [ inl below ↦ inl (suc below.0, below.1) | inr here ↦ inr here ]
 
 -- an item of a list is one of a longer list
-among_before : {X : Type 0} (xs : List X) (last x : X) → IsAmong xs x → IsAmong (xs ++ last ∷ []) x
+pub among_before : {X : Type 0} (xs : List X) (last x : X) → IsAmong xs x → IsAmong (xs ++ last ∷ []) x
 among_before [] last x among = absurd (cc among.1)
 among_before (first ∷ others) last x (zero, is) = (zero, is)
 among_before (first ∷ others) last x (suc place, is) = let below = among_before others last x (place, is) in (suc below.0, below.1)
 
 -- and so is the last one
-among_last : {X : Type 0} (xs : List X) (last : X) → IsAmong (xs ++ last ∷ []) last
+pub among_last : {X : Type 0} (xs : List X) (last : X) → IsAmong (xs ++ last ∷ []) last
 among_last [] last = (zero, refl)
 among_last (first ∷ others) last = let below = among_last others last in (suc below.0, below.1)
 

@@ -4,7 +4,8 @@ use Rattle.isle_syntax.specs.declared.ast.Rule.{Rule as RuleTree}
 use Rattle.isle_syntax.specs.declared.lexer.Pos.{Pos}
 use Rattle.isle_syntax.specs.declared.error.Error.{Error}
 use Rattle.isle_syntax.specs.declared.refusal.Refusal.{Refusal}
-use Rattle.isle_syntax.specs.Errors.{type_error, size_error, spans_of, IfFault}
+use Rattle.isle_syntax.specs.declared.refusal.Refusal.TheVariants.{Fault, Memory}
+use Rattle.isle_syntax.specs.Errors.{type_error, size_error, error_kind, spans_of, IfFault, IsFaultAnd}
 use Rattle.isle_types.specs.TypeFaults.{StartsWhere, IsTypeOrSize}
 use Rattle.isle_types.specs.TypeTables.{TypeTables}
 use Rattle.isle_types.proofs.Reading.{fault_weaker}
@@ -72,3 +73,12 @@ rule_refused tyenv env declared max levels tree e shows root fails =
     refused_so max tree.pos (λ typed s. ElaboratesRule declared levels max tree typed) (IsIllRule declared levels tree)
     (IsLargeRule declared levels max tree) (read_whole (known_of tyenv env) max levels tree) e
     (told_by_tables tyenv env declared max levels tree shows root) fails
+
+-- a rule's fault that is told in other words is of its kind, where it stood
+pub rule_met : (Ill Large : Pos → Type 0) (refusal answer : Refusal Error)
+    → IfFault answer (λ told. IsFaultAnd refusal (λ error. (error_kind told ≡ error_kind error) × (spans_of told ≡ spans_of error)))
+    → IfFault refusal (IsTypeOrSize Ill Large) → IfFault answer (IsTypeOrSize Ill Large)
+rule_met Ill Large refusal (Memory e) met fault = tt
+rule_met Ill Large (Memory e) (Fault told) met fault = absurd met
+rule_met Ill Large (Fault error) (Fault told) met fault =
+    subst (λ kind. StartsWhere Ill Large kind (spans_of told)) (sym met.0) (subst (StartsWhere Ill Large (error_kind error)) (sym met.1) fault)

@@ -17,6 +17,7 @@ ghost use Rattle.isle_terms.specs.Collecting.Environments.{ShowsDeclaredOf, Show
 use crate::env::TermEnv;
 use crate::env::names::name_parts;
 use crate::env::parts::{Parts, parts_of};
+use crate::env::repeats::told_once;
 use crate::env::rule_names::{NamedRules, check_rule_names, name_rules, names_of_rules};
 use crate::env::rules::collect_rules;
 use crate::env::stages::{check_terms, make_terms, refuse};
@@ -104,7 +105,7 @@ impl TermEnv {
         };
         match refuse(errors) {
             Ok(()) => {}
-            Err(refusal) => return Err(refusal),
+            Err(refusal) => return Err(told_once(self.alloc, refusal)),
         }
         match name_rules(self.alloc, tyenv, rule_names, typed) {
             Ok(named) => Ok(named),

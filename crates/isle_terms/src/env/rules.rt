@@ -230,7 +230,10 @@ pub fn typed_rule(
         rule: tree.pos,
         root: &tree.pattern,
     };
-    let read = read_rule(&context, levels, tree)?;
+    let read = match read_rule(&context, levels, tree) {
+        Ok(read) => read,
+        Err(refusal) => return Err(messages::met(&context, tree, refusal)),
+    };
     Ok(make_rule(alloc, &mut *tyenv, id, tree, read)?)
 }
 

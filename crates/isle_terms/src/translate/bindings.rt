@@ -4,6 +4,8 @@ ghost use Rattle.isle_terms.specs.Elaboration.{State, start, counted, bound, vis
 ghost use Rattle.isle_terms.specs.Readings.Scopes.{bound_of, visible_at, variable_shown};
 
 use isle_syntax::Text;
+use isle_syntax::ast::Ident;
+use isle_syntax::lexer::Pos;
 use isle_types::{TypeId, VarId};
 use std::alloc::{AllocError, Global};
 use std::collections::HashMap;
@@ -105,6 +107,8 @@ impl Scope {
 pub struct RuleVariable {
     pub name: Text,
     pub ty: TypeId,
+    /// Where it is bound.
+    pub pos: Pos,
 }
 
 /// The variables of a rule so far, the names that can be used, and how many nodes there are. Contracts see it as a state.
@@ -164,15 +168,21 @@ impl Bindings {
     }
 
     /// A new variable of a name, which can be used from now on.
-    pub fn bind(&mut self, name: &Text, ty: TypeId) -> Result<VarId, AllocError>
+    pub fn bind(&mut self, name: &Ident, ty: TypeId) -> Result<VarId, AllocError>
         ensures var { IfOk result (λ var. var.0 ≡ length self.old.variables) }
-        ensures ok { OnOk result (self.new ≡ bound self.old name.now ty.0) }
+        ensures ok { OnOk result (self.new ≡ bound self.old name.now.0 ty.0) }
     {
         let var = VarId(self.vars.len());
-        self.scope.enter(name, BoundName { var, ty })?;
-        let name = Text::from_str(self.alloc, name.as_str())?;
-        self.vars.push(RuleVariable { name, ty })?;
+        let pos = name.1;
+        self.scope.enter(&name.0, BoundName { var, ty })?;
+        let name = Text::from_str(self.alloc, name.0.as_str())?;
+        self.vars.push(RuleVariable { name, ty, pos })?;
         Ok(var)
+    }
+
+    /// Where a variable is bound.
+    pub fn place(&self, var: VarId) -> Option<Pos> {
+        Some(self.vars.get(var.index())?.pos)
     }
 
     /// Takes so many of the innermost names away; their variables stay.

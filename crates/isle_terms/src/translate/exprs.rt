@@ -472,6 +472,6 @@ fn translate_def(
         return Err(context.tyenv.unknown_type(&def.ty));
     };
     let value = translate_expr(context, levels, caller, &def.val, Some(ty), bindings)?;
-    let var = bindings.bind(&def.var.0, ty)?;
+    let var = bindings.bind(&def.var, ty)?;
     Ok((var, ty, Boxed::new(context.alloc, value)?))
 }

@@ -1,7 +1,9 @@
 //! What the type errors of rules say: names, types and counts.
-ghost use Rattle.isle_syntax.specs.Errors.{type_error, IfFault};
+ghost use Rattle.std.specs.Prelude.{◌≡◌};
+ghost use Rattle.isle_syntax.specs.Errors.{type_error, IfFault, IsFaultAnd, error_kind, spans_of};
 ghost use Rattle.isle_terms.specs.Readings.Failures.{IsErrorAt};
 
+mod places;
 mod texts;
 
 use super::Context;
@@ -9,10 +11,11 @@ use super::names::{NumberedTerm, Role};
 use crate::terms::{Term, TermFlags};
 use crate::translate::bindings::BoundName;
 use isle_syntax::Refusal;
-use isle_syntax::ast::{Expr, Ident, Pattern};
+use isle_syntax::ast::{Expr, Ident, Pattern, Rule};
 use isle_syntax::error::Error;
 use isle_syntax::lexer::Pos;
 use isle_types::{TypeEnv, TypeId};
+use places::is_outside;
 use texts::Integer;
 
 /// Nothing tells the type of an integer.
@@ -120,11 +123,16 @@ pub fn ill_name(
     TypeEnv::type_error_saying(pos, texts::ill_name(context, name, bound, ty))
 }
 
-/// A name before `@` is bound already.
-pub fn bound_already(context: &Context<'_>, pos: Pos, name: &Ident) -> Refusal<Error>
+/// A name before `@` is bound already, and there first.
+pub fn bound_already(
+    context: &Context<'_>,
+    pos: Pos,
+    name: &Ident,
+    first: Option<Pos>,
+) -> Refusal<Error>
     ensures { IfFault result (IsErrorAt type_error pos) }
 {
-    TypeEnv::type_error_saying(pos, texts::bound_already(context, name))
+    TypeEnv::type_error_saying(pos, texts::bound_already(context, pos, name, first))
 }
 
 /// An expression has another type than is expected, and no converter fits.
@@ -172,4 +180,24 @@ pub fn ill_root(context: &Context<'_>, pos: Pos, root: &Pattern) -> Refusal<Erro
     ensures { IfFault result (IsErrorAt type_error pos) }
 {
     TypeEnv::type_error_saying(pos, texts::ill_root(context, root))
+}
+
+/// The type error of a rule. Where it stands outside the rule, as in the body of an extractor, a second line names the rule.
+pub fn met(context: &Context<'_>, tree: &Rule, refusal: Refusal<Error>) -> Refusal<Error>
+    ensures { IfFault result (λ told. IsFaultAnd refusal
+        (λ error. (error_kind told ≡ error_kind error) × (spans_of told ≡ spans_of error))) }
+{
+    match refusal {
+        Refusal::Fault(Error::TypeError { msg, span }) => {
+            if !is_outside(tree, span.from) {
+                return Refusal::Fault(Error::TypeError { msg, span });
+            }
+            match texts::met(context, msg) {
+                Ok(msg) => Refusal::Fault(Error::TypeError { msg, span }),
+                Err(e) => Refusal::Memory(e),
+            }
+        }
+        Refusal::Fault(error) => Refusal::Fault(error),
+        Refusal::Memory(e) => Refusal::Memory(e),
+    }
 }

@@ -93,7 +93,7 @@ fn read_name(
     match bindings.lookup(&name.0) {
         None => {
             let wildcard = Boxed::new(context.alloc, Pattern::Wildcard(ty))?;
-            let var = bindings.bind(&name.0, ty)?;
+            let var = bindings.bind(name, ty)?;
             Ok(Pattern::BindPattern(ty, var, wildcard))
         }
         Some(bound) => {
@@ -126,10 +126,13 @@ fn bind_below(
     match bindings.lookup(&name.0) {
         None => {
             let below = Boxed::new(context.alloc, below)?;
-            let var = bindings.bind(&name.0, ty)?;
+            let var = bindings.bind(name, ty)?;
             Ok(Pattern::BindPattern(ty, var, below))
         }
-        Some(_) => Err(messages::bound_already(context, pos, name)),
+        Some(bound) => {
+            let first = bindings.place(bound.var);
+            Err(messages::bound_already(context, pos, name, first))
+        }
     }
 }
 

@@ -5,7 +5,9 @@ use crate::terms::{Term, TermFlags, TermKind};
 use crate::translate::Context;
 use crate::translate::bindings::BoundName;
 use crate::translate::names::{NumberedTerm, Role};
+use isle_syntax::Text;
 use isle_syntax::ast::{Expr, Ident, Pattern};
+use isle_syntax::lexer::Pos;
 use isle_types::{BuiltinType, Type, TypeEnv, TypeId};
 use std::alloc::{AllocError, Global};
 
@@ -262,13 +264,28 @@ pub fn ill_name(
     mistyped(context, name.0.as_str(), bound.ty, Some(ty))
 }
 
-/// `x is bound already`, or how a variant is written.
-pub fn bound_already(context: &Context<'_>, name: &Ident) -> Result<String, AllocError> {
+/// ` at LINE:COLUMN` of where a name is bound first, with its file where that is another one than the message's.
+fn first_place(context: &Context<'_>, pos: Pos, first: Option<Pos>) -> Result<String, AllocError> {
+    match first {
+        Some(first) if first.file == pos.file => context.tyenv.at_line(first),
+        Some(first) => context.tyenv.at_place(first),
+        None => Ok(String::new(context.alloc)),
+    }
+}
+
+/// `x is bound already at LINE:COLUMN`, or how a variant is written.
+pub fn bound_already(
+    context: &Context<'_>,
+    pos: Pos,
+    name: &Ident,
+    first: Option<Pos>,
+) -> Result<String, AllocError> {
     if let Some(written) = written_so(context, name)? {
         return Ok(written);
     }
     let name = name.0.as_str();
-    format!(in context.alloc; "{name} is bound already")
+    let place = first_place(context, pos, first)?;
+    format!(in context.alloc; "{name} is bound already{place}")
 }
 
 /// The line on a converter of two types that there is and that doesn't fit; nothing where there is none.
@@ -361,4 +378,17 @@ pub fn ill_root(context: &Context<'_>, root: &Pattern) -> Result<String, AllocEr
         Pattern::Term { sym, .. } => undeclared(context, sym),
         _ => String::from_str(context.alloc, "the root of a rule is a term"),
     }
+}
+
+/// A message, and below it `met in a rule of f at FILE:LINE:COLUMN`.
+pub fn met(context: &Context<'_>, msg: Text) -> Result<Text, AllocError> {
+    let place = context.tyenv.at_place(context.rule)?;
+    let mut text = msg.into_string();
+    text.push_str("\n  met in a rule")?;
+    if let Pattern::Term { sym, .. } = context.root {
+        text.push_str(" of ")?;
+        text.push_str(sym.0.as_str())?;
+    }
+    text.push_str(place.as_str())?;
+    Ok(Text::new(text))
 }

@@ -12,8 +12,9 @@ use Rattle.isle_terms.specs.Collecting.RuleNames.{with_names, AreNamedRules}
 use Rattle.isle_terms.specs.declared.env.from_ast.TheConstants.{MAX_LEVELS, MAX_NODES}
 use Rattle.isle_terms.proofs.Collections.Answered.{fault_then}
 use Rattle.isle_terms.proofs.Collections.CheckedTyping.{checks_wider}
-use Rattle.isle_terms.proofs.Collections.DeclaredFaults.{broken_is_listed, kept_by_none, from_none}
+use Rattle.isle_terms.proofs.Collections.DeclaredFaults.{kept_by_none, from_none}
 use Rattle.isle_terms.proofs.Collections.RulesTyped.{declared_of, rules_complete, as_many_names, ill_rules_break, large_rules_listed}
+use Rattle.isle_terms.proofs.Collections.ToldErrors.{told_is_listed}
 use Rattle.isle_terms.proofs.env.TermEnv.typed_rules.Goals as goal
 
 pub returns-in-Err-clause-faults : goal.returns-in-Err-clause-faults
@@ -32,8 +33,8 @@ returns-in-Err-refuse-clause-faults c = λ types defs are whole.
     let started = from_none c.new-errors.result.items c.new-errors.ensures.items checks in
     let broken = checks_wider (λ at ill. ill_rules_break c.args.tyenv.now c.args.self.now types MAX_LEVELS defs whole at
     (subst (λ all. IsIllAmong (declared_of whole) MAX_LEVELS all at) trees ill)) (λ kept. kept) started in
-    fault_then c.in-Err-refuse.refusal (λ all same. broken_is_listed types c.args.self.now.expands MAX_LEVELS MAX_NODES defs
-    c.collect_rules-all.new.errors.items all.items broken same.0 same.1) c.in-Err-refuse.ensures.err
+    told_is_listed types c.args.self.now.expands MAX_LEVELS MAX_NODES defs c.collect_rules-all.new.errors.items c.in-Err-refuse.refusal
+    c.told_once.result broken c.in-Err-refuse.ensures.err c.told_once.ensures
 
 pub returns-in-Ok-name_rules-clause-made : goal.returns-in-Ok-name_rules-clause-made
 returns-in-Ok-name_rules-clause-made c = λ types defs are whole names.
