@@ -26,29 +26,15 @@ struct Faulty {
     sets: Vec<(TermId, RuleSet)>,
 }
 
-/// For each fault of a report why it is one, in words: of a text that begins with a byte order mark this, of a rule that never matches the tests that can't both pass, of rules that
+/// For each fault of a report why it is one, in words: of a rule that never matches the tests that can't both pass, of rules that
 /// overlap or are shadowed a query that two of them match. Nothing where the fault is of another kind, or that can't be told.
 pub fn fault_reasons(alloc: Global, errors: &Errors) -> Result<Vec<Option<String>>, AllocError> {
     let faulty = faulty_of(alloc, errors)?;
     let mut reasons = Vec::new(alloc);
     for error in errors.errors() {
-        reasons.push(match error {
-            Error::ParseError { span, .. } => mark_reason(alloc, errors.files(), span.from)?,
-            _ => fault_reason(alloc, &faulty, error)?,
-        })?;
+        reasons.push(fault_reason(alloc, &faulty, error)?)?;
     }
     Ok(reasons)
-}
-
-/// That the file of a fault at its beginning begins with a byte order mark, if it does.
-fn mark_reason(alloc: Global, files: &Files, pos: Pos) -> Result<Option<String>, AllocError> {
-    match files.file_text(pos.file) {
-        Some(text) if pos.offset == 0 && text.starts_with('\u{feff}') => Ok(Some(String::from_str(
-            alloc,
-            "the file begins with a byte order mark",
-        )?)),
-        _ => Ok(None),
-    }
 }
 
 /// The definitions of a report's files, if their faults are of rules.

@@ -26,12 +26,18 @@ fn found(alloc: Global, wanted: &str, token: &Token) -> Result<String, AllocErro
         Token::LParen => format!(in alloc; "expected {wanted}, found '('"),
         Token::RParen => format!(in alloc; "expected {wanted}, found ')'"),
         Token::At => format!(in alloc; "expected {wanted}, found '@'"),
-        Token::Symbol(text) => {
-            let text = text.as_str();
-            format!(in alloc; "expected {wanted}, found '{text}'")
-        }
+        Token::Symbol(text) => found_symbol(alloc, wanted, text.as_str()),
         Token::Int(number) => format!(in alloc; "expected {wanted}, found '{number}'"),
         Token::Big(number) => format!(in alloc; "expected {wanted}, found '{number}'"),
+    }
+}
+
+/// The same of a symbol. A byte order mark, which isn't seen, is named.
+fn found_symbol(alloc: Global, wanted: &str, text: &str) -> Result<String, AllocError> {
+    if text.starts_with('\u{feff}') {
+        format!(in alloc; "expected {wanted}, found a byte order mark")
+    } else {
+        format!(in alloc; "expected {wanted}, found '{text}'")
     }
 }
 
