@@ -2,6 +2,7 @@
 
 PREFIX ?= $(HOME)/.local
 PROGRAM = crates/islec/out/islec
+CALLS = crates/isle_refusals/out/isle_refusals
 VECTORS = tests/vectors/first.json tests/vectors/mixed.json tests/vectors/equal.json
 
 .PHONY: run build test commands refusals fuzz edits install replay bench
@@ -39,6 +40,7 @@ commands:
 # Each request for memory is refused in turn.
 refusals:
 	python3 tools/refusals.py $(PROGRAM)
+	python3 tools/refusals.py $(CALLS) tests/refusals/calls.json
 
 # 20,000 texts that are made of those of tests and examples by changes at random; not of the gate.
 fuzz:

@@ -136,7 +136,7 @@ def keys(number, mixed):
 
 
 def timed(words, path):
-    """Seconds, the most memory in MB, and what was printed, of a program that reads a file as its standard input."""
+    """Seconds, the most memory in MB, what was printed, and processor seconds, of a program that reads a file as its standard input."""
     with tempfile.TemporaryFile() as output:
         start = time.monotonic()
         child = os.fork()
@@ -148,7 +148,7 @@ def timed(words, path):
         seconds = time.monotonic() - start
         output.seek(0)
         printed = output.read().decode()
-    return seconds, usage.ru_maxrss / 1024, printed if status == 0 else "failed"
+    return seconds, usage.ru_maxrss / 1024, printed if status == 0 else "failed", usage.ru_utime + usage.ru_stime
 
 
 def measure(title, words, text, check):
@@ -159,7 +159,7 @@ def measure(title, words, text, check):
         named = [file.name] if words[0] == ISLEC else []
         source = os.devnull if "run" in words else file.name
         runs = [timed([*words, *named], source) for _ in range(3)]
-    seconds, memory, printed = min(runs)
+    seconds, memory, printed, _ = min(runs)
     if not check(printed):
         sys.exit(f"{title}: {printed[:80]}")
     print(f"{title}: {len(text) / 1e6 / seconds:.1f} MB a second, {seconds:.3f} s, {memory:.0f} MB of memory")
@@ -182,7 +182,7 @@ def best_run(title, program, world, queries, check, options=()):
             with open(path, "w") as file:
                 file.write(text)
         runs = [timed([ISLEC, "run", *options, "--world", paths[1], paths[0]], paths[2]) for _ in range(3)]
-    seconds, memory, printed = min(runs)
+    seconds, memory, printed, _ = min(runs)
     if not check(printed):
         sys.exit(f"{title}: {printed[:80]}")
     return seconds, memory
@@ -224,6 +224,47 @@ def measure_calls(title, program, world, queries, check):
         print(f"{title} {road}: {seconds:.3f} s, {memory:.0f} MB of memory")
 
 
+def middle(words, text, check):
+    """The processor seconds of the middle one of nine runs on a text, and the most memory in bytes."""
+    with tempfile.NamedTemporaryFile("w", suffix=".isle") as file:
+        file.write(text)
+        file.flush()
+        runs = [timed([*words, *([file.name] if words[0] == ISLEC else [])], file.name) for _ in range(9)]
+    if not all(check(printed) for _, _, printed, _ in runs):
+        sys.exit(f"{words}: {runs[0][2][:80]}")
+    return sorted(processor for *_, processor in runs)[4], max(memory for _, memory, *_ in runs) * 2**20
+
+
+def multiples(bench):
+    """Prints what checks and trees of generated backends take as multiples of the time to read their texts, and the most that they may take."""
+    print("| Rules | Check, as a multiple of reading | At most | Trees, as a part of check | At most | Bytes of memory for each of the text | At most |")
+    print("|---|---|---|---|---|---|---|")
+    for number, most in ((500, 3), (1_000, 3), (2_000, 3), (4_000, 3), (8_000, 3.5)):
+        text = backend(number)
+        reading, _ = middle([bench], text, lambda it: it.strip().isdigit())
+        check, _ = middle([bench, "sets"], text, lambda it: it == f"{number // 20}\n")
+        trees, _ = middle([bench, "trees"], text, lambda it: it == f"{number // 20}\n")
+        _, memory = middle([ISLEC, "check"], text, lambda it: it == "accepted\n")
+        part = max(trees - check, 0) / check
+        print(f"| {number:,} | {check / reading:.1f} | {most} | {part:.2f} | 0.5 | {memory / len(text):.0f} | 100 |")
+
+
+def worlds_of_rules(bench):
+    """Prints at which part of the speed of rules worlds are read."""
+    text, _ = rules(4_000_000)
+    seconds, _ = middle([bench], text, lambda it: it.strip().isdigit())
+    world = mixed_world(100_000)
+    taken = sorted(best_run("worlds", HOST, world, "", lambda it: it == "")[0] for _ in range(3))[1]
+    print(f"a world of 100,000 entries is read at {len(world) / taken / (len(text) / seconds):.2f} of the speed of rules (at least 0.5)")
+
+
+def mixed_world(number):
+    """So many entries, in mixed order."""
+    entries = [f"(constructor m ({i}) {i})\n" for i in range(number)]
+    random.Random(1).shuffle(entries)
+    return "".join(entries)
+
+
 def measure_trees(title, bench, text, sets):
     """Prints what rule sets of a text take, and what they take with their trees."""
     measure(f"check {title}", [bench, "sets"], text, lambda it: it == f"{sets}\n")
@@ -262,6 +303,7 @@ def main():
                         ("60 equal arguments of 990 fields", equal_arguments(60, 990)), ("65,000 variables", lets(65_000))):
         measure(f"check a rule of {title}", [islec, "check"], text, lambda it: it == "accepted\n")
     all_trees(bench)
+    multiples(bench)
     for number in (16_384, 65_536):
         for order in ("descending", "mixed"):
             text = keys(number, order == "mixed")
@@ -277,9 +319,8 @@ def main():
     measure_calls("answer 10,000 queries by 2,000 rules", typed_rules(2_000), instructions(2_000), queries,
                   lambda it: it.count("\n") == 50_000 and it.count("! (emit_imm ") == 10_000)
     for number in (50_000, 100_000, 200_000):
-        entries = [f"(constructor m ({i}) {i})\n" for i in range(number)]
-        random.Random(1).shuffle(entries)
-        measure_run(f"read a world of {number:,} entries", HOST, "".join(entries), "", lambda it: it == "")
+        measure_run(f"read a world of {number:,} entries", HOST, mixed_world(number), "", lambda it: it == "")
+    worlds_of_rules(bench)
     text, _ = rules(4_000_000)
     for width in (20, 80):
         measure(f"format 4 MB at {width}", [islec, "fmt", "--width", str(width)], text, lambda it: it.startswith("(rule"))

@@ -1,13 +1,14 @@
 #!/usr/bin/env python3
-"""Runs commands of `islec` with each of their requests for memory refused in turn.
+"""Runs commands of `islec`, or calls of the library, with each of their requests for memory refused in turn.
 
     refusals.py PROGRAM [FILE.json]
 
 The cases of FILE, by default those of tests/refusals/cases.json, are commands as tests/commands/README.md describes
-them, where `stdout` may be a list of replies. tests/refusals/refuse.c is compiled by `cc` and loaded into the program
-by LD_PRELOAD. A case is first run with ample memory, and must be as it says. Then its N-th request is refused, and then
-all from the N-th on, for N from 1 upwards until a run ends with none refused; past REQUESTS in steps of STEP. Each run
-must end as with ample memory, byte for byte, or want memory: `out of memory` with status 5, behind some whole replies.
+them, where `stdout` may be a list of replies, and `wants` lists what else is written where memory is wanted, each text in
+some run. tests/refusals/refuse.c is compiled by `cc` and loaded into the program by LD_PRELOAD. A case is first run with
+ample memory, and must be as it says. Then its N-th request is refused, and then all from the N-th on, for N from 1 upwards
+until a run ends with none refused; past REQUESTS in steps of STEP. Each run must end as with ample memory, byte for byte,
+or want memory with status 5: `out of memory` behind some whole replies, or what the case lists.
 Prints each run that ends otherwise, with REFUSALS_SHOWN=1 also each case with its requests, and last how many runs there
 were. Exits with 1 where one ended otherwise.
 """
@@ -79,10 +80,15 @@ def numbers():
 
 
 def wants_of(case):
-    """What may be written where memory is wanted: `out of memory` behind the first replies, however many."""
+    """What may be written where memory is wanted: `out of memory` behind the first replies, however many, or what the case lists."""
     stdout = case.get("stdout", "")
     replies = stdout if isinstance(stdout, list) else []
-    return {bytes_of("".join(replies[:count])) + WANT for count in range(len(replies) + 1)}
+    return {bytes_of("".join(replies[:count])) + WANT for count in range(len(replies) + 1)} | listed_of(case)
+
+
+def listed_of(case):
+    """What a case lists that is written where memory is wanted."""
+    return {bytes_of(text) for text in case.get("wants", [])}
 
 
 def ample_faults(case, ample):
@@ -127,7 +133,7 @@ def faults(pool, program, refuse, case):
         found = ample_faults(case, ample)
         if found:
             return found, 1, 0
-        wants = wants_of(case)
+        wants, missing = wants_of(case), listed_of(case)
         count = 1
         for onwards in (False, True):
             wanted = 0
@@ -136,11 +142,13 @@ def faults(pool, program, refuse, case):
                 count += 1
                 is_want = refused > 0 and status == OUT_OF_MEMORY and output in wants and not errors
                 wanted += is_want
+                missing.discard(output)
                 if not is_want and run[:3] != ample[:3]:
                     which = f"all from request {at} on" if onwards else f"request {at}"
                     found.append(f"{which}: status {status}, wrote {output!r}, to standard error {errors!r}")
             if wanted == 0:
                 found.append("no run wanted memory")
+        found += [f"no run wrote {text!r}" for text in sorted(missing)]
     return found, count, ample[3]
 
 

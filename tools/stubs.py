@@ -137,16 +137,25 @@ def copy_kept(crate, folder):
     os.makedirs(f"{folder}/out/kept", exist_ok=True)
 
 
+def is_of(path, f, where):
+    """Whether a folder of proofs is that of a function. Of a trait's method it is named after the type and the trait."""
+    if path[-1] != f.name:
+        return False
+    if not f.block:
+        return path[:-1] == [*f.module]
+    owner = bodies.named(f.block.ty)[0]
+    return path[:-2] == [*where.get(owner, f.module)] and path[-2].startswith(owner)
+
+
 def stub(crate, source, folder, kept=()):
     """Takes from the functions of a copied crate, but those that are kept, their code, and gives them a hole for a proof."""
-    names = {f.name for f in kept}
+    where = {name: found[0][0] for name, found in source.declared.items()}
     has_cycle = any(f.in_cycle for f in kept)
     for at, _, files in os.walk(f"{folder}/proofs"):
-        own = os.path.basename(at)
+        path = os.path.relpath(at, f"{folder}/proofs").split("/")
         for name in files:
-            if name in ANSWERS and own not in names and not (has_cycle and own.startswith("+")):
+            if name in ANSWERS and not any(is_of(path, f, where) for f in kept) and not (has_cycle and path[-1].startswith("+")):
                 os.remove(f"{at}/{name}")
-    where = {name: found[0][0] for name, found in source.declared.items()}
     lost = [f for f in source.functions if f not in kept]
     for file in source.data:
         text, _ = changed(source, file, [it for f in lost if f.file == file for it in without_code(source, f)])

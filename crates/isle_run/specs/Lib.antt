@@ -1,5 +1,7 @@
 -- Which files are compiled, and which faults the others have.
 pub mod Compiled
+-- Tables that show what files define.
+pub mod ShownFiles
 -- What tables of types and terms say, before a program is made of them.
 pub mod Tables
 -- What typing gives of tables.

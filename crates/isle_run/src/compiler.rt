@@ -7,9 +7,11 @@ ghost use Rattle.isle_syntax.specs.Trees.MacroArgs.{HasNoMacroArgs};
 ghost use Rattle.isle_syntax.specs.Grammar.Texts.{Spells, IsFaultIn};
 ghost use Rattle.isle_syntax.specs.declared.error.Error.{Error};
 ghost use Rattle.isle_types.specs.declared.ids.TermId.{TermId as TermNumber};
+ghost use Rattle.isle_terms.specs.TypedTrees.{TypedRuleAt};
 ghost use Rattle.isle_blocks.specs.RuleSets.{RulesOverSites};
 ghost use Rattle.isle_blocks.specs.Trees.Promises.{IsCheckedSet};
 ghost use Rattle.isle_run.specs.Trees.{AreSetTrees};
+ghost use Rattle.isle_run.specs.ShownFiles.{ShowFiles};
 ghost use Rattle.isle_run.specs.Compiled.{AreSpelt, AreAccepted, IsProgramOf, IsFirstFault, AreFaults, IfFaults};
 
 use crate::program::Program;
@@ -52,6 +54,35 @@ pub fn compile(alloc: Global, files: Rc<Files>) -> Result<Program, Refused>
     }
 }
 
+/// What the definitions of files make.
+#[derive(Drop)]
+pub(crate) struct Definitions {
+    pub(crate) types: TypeEnv,
+    pub(crate) terms: TermEnv,
+}
+
+/// What the definitions of files make, which messages of faults name.
+pub(crate) fn definitions_of(
+    alloc: Global,
+    files: &Files,
+    named: Rc<Files>,
+) -> Result<Definitions, Refusal<Vec<Error>>>
+    ensures shown { IfOk result (λ made. ShowFiles files.now made.types made.terms) }
+    ensures placed { IfOk result (λ made. All (TypedRuleAt (IsPrintablePos files.now)) made.terms.rules) }
+    ensures faults { IfErr result (λ r. IfFault r (λ errors. AreFaults files.now errors.items)) }
+    ensures printable { IfErr result (RefusalsAt (IsPrintablePos files.now)) }
+{
+    let parsed = parse_files(alloc, files)?;
+    let defs = parsed.as_slice();
+    let mut tyenv = TypeEnv::from_files(alloc, named, defs)?;
+    let termenv = TermEnv::from_ast(alloc, &mut tyenv, defs, true)?;
+    let _names = tyenv.syms();
+    Ok(Definitions {
+        types: tyenv,
+        terms: termenv,
+    })
+}
+
 /// The program of files, which messages of faults name.
 fn compile_files(
     alloc: Global,
@@ -63,14 +94,10 @@ fn compile_files(
     ensures faults { IfErr result (λ r. IfFault r (λ errors. AreFaults files.now errors.items)) }
     ensures printable { IfErr result (RefusalsAt (IsPrintablePos files.now)) }
 {
-    let parsed = parse_files(alloc, files)?;
-    let defs = parsed.as_slice();
-    let mut tyenv = TypeEnv::from_files(alloc, named, defs)?;
-    let termenv = TermEnv::from_ast(alloc, &mut tyenv, defs, true)?;
-    let _names = tyenv.syms();
-    let rule_sets = check(alloc, &termenv)?;
+    let Definitions { types, terms } = definitions_of(alloc, files, named)?;
+    let rule_sets = check(alloc, &terms)?;
     let trees = trees_of_sets(alloc, rule_sets.as_slice())?;
-    Ok(Program::new(alloc, tyenv, termenv, rule_sets, trees)?)
+    Ok(Program::new(alloc, types, terms, rule_sets, trees)?)
 }
 
 /// The trees of rule sets.

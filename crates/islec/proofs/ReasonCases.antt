@@ -1,11 +1,14 @@
 -- Worked cases: what is told of faults with their reasons and without, and of a depth that is used up.
-use Rattle.std.proofs.Common.{arith, ◌≡◌, ◌∙◌, ◌++◌, ◌∷◌, [], ℕ, List, true, false, inr, refl, ap, subst, append-nil, codes}
+use Rattle.std.proofs.Common.{arith, ◌≡◌, ◌∙◌, ◌++◌, ◌∷◌, [], ℕ, List, true, false, inl, inr, refl, ap, subst, append-nil, codes}
 use Rattle.std.proofs.lemmas.Fmt.{decimal_digit}
 use Rattle.isle_syntax.specs.Errors.{Report, error_text, report_text}
 use Rattle.isle_syntax.specs.Positions.Files.{SourceFile}
 use Rattle.isle_syntax.specs.declared.error.Error.{Error}
 use Rattle.isle_run.specs.declared.calls.answer.Answer.TheVariants.{None as NoAnswer, Spent}
-use Rattle.islec.specs.Reasons.{IsReason, ReportsFaults, ExplainEach, no_faults, more_faults, depth_line}
+use Rattle.isle_run.specs.declared.program.Program.{Program}
+use Rattle.isle_run.specs.declared.worlds.reading.WorldFault.{WorldFault}
+use Rattle.islec.specs.Reasons.{IsReason, ReportsFaults, ExplainEach, no_faults, more_faults, TellsFault, depth_line}
+use Rattle.islec.specs.Worlds.{world_fault_line}
 use Rattle.islec.specs.declared.answer.Manner.{Manner}
 
 -- without reasons the report, and nothing else
@@ -24,6 +27,17 @@ may_have_words : (files : List SourceFile) (fault : Error)
     → ReportsFaults true (record { errors = fault ∷ []; files = files }) (error_text files fault ++ codes "  no\n")
 may_have_words files fault = subst (ExplainEach files (fault ∷ [])) (append-nil (error_text files fault ++ codes "  no\n"))
     (more_faults (record { told = codes "  no\n"; reason = inr (refl, (codes "no", refl)); is = refl }) no_faults)
+
+-- of a refused world its line alone where reasons aren't asked for, and words below it only behind two spaces
+world_has_no_reason : (program : Program) (file : SourceFile) (fault : WorldFault) (line : List ℕ) → TellsFault false program file fault line
+    → line ≡ world_fault_line program file fault
+world_has_no_reason program file fault line (told, inl none, is) =
+    is ∙ ap (λ (rest : List ℕ). world_fault_line program file fault ++ rest) none ∙ append-nil (world_fault_line program file fault)
+world_has_no_reason program file fault line (told, inr (asked, words), is) = absurd cc
+
+world_has_words : (program : Program) (file : SourceFile) (fault : WorldFault)
+    → TellsFault true program file fault (world_fault_line program file fault ++ codes "  no\n")
+world_has_words program file fault = (codes "  no\n", inr (refl, (codes "no", refl)), refl)
 
 -- a manner with the depth 3 in which reasons are asked for, and one in which they aren't
 abbrev asked : Manner

@@ -11,7 +11,6 @@ use Rattle.isle_syntax.specs.Positions.Files.{SourceFile}
 use Rattle.isle_syntax.specs.Positions.Printable.{IsPrintablePos}
 use Rattle.std.proofs.lemmas.List.Elements.{All-weaker}
 use Rattle.isle_types.specs.declared.ids.TermId.{TermId}
-use Rattle.isle_types.specs.Names.{AreDistinct}
 use Rattle.isle_types.specs.Environment.{Environment, Makes, AreWithinSizes, HaveEnvironment}
 use Rattle.isle_types.specs.TypeTables.{TypeTables}
 use Rattle.isle_types.specs.TypeFaults.{AreFaultsOf}
@@ -20,7 +19,6 @@ use Rattle.isle_terms.specs.Definitions.{MakesTerms}
 use Rattle.isle_terms.specs.TypedTrees.{TypedRuleAt}
 use Rattle.isle_terms.specs.TypingFaults.{AreTypingFaults}
 use Rattle.isle_terms.specs.Shown.TermTables.{TermTables}
-use Rattle.isle_terms.specs.Collecting.Environments.{ShowsTerms}
 use Rattle.isle_blocks.specs.DefinedSets.{AreDefined, facts_by, rules_by, AreSetsOf, IsTermSet}
 use Rattle.isle_blocks.specs.RuleSets.{RulesOverSites}
 use Rattle.isle_blocks.specs.RuleFaults.{AreFaultless, AreRuleErrors}
@@ -29,6 +27,7 @@ use Rattle.isle_blocks.specs.Trees.Shown.{BlockShown}
 use Rattle.isle_run.specs.declared.program.Program.{Program}
 use Rattle.isle_run.specs.Programs.{types_of, terms_of, rule_sets_of, set_trees_of}
 use Rattle.isle_run.specs.Trees.{AreSetTrees}
+use Rattle.isle_run.specs.ShownFiles.{ShowFiles}
 use Rattle.isle_run.specs.Compiled.{AreSpelt, AreTyped, AreTypedFiles, AreAccepted, IsProgramOf, IsFirstFault, AreFaults, of_a_text, of_types}
 use Rattle.isle_run.specs.Compiled.{of_terms, of_rules, max_levels, max_nodes}
 use Rattle.isle_blocks.proofs.FewArguments.{few_arguments}
@@ -56,17 +55,6 @@ pub term_faults : (files : List SourceFile) (defs : List Def) (types : Environme
 term_faults files defs types (Memory e) spelt made within faults none = tt
 term_faults files defs types (Fault errors) spelt made within faults none =
     of_terms defs types spelt made within faults none
-
--- tables that show what the definitions of files make
-pub record ShowFiles (files : List SourceFile) (tyenv : TypeTables) (env : TermTables) : Type 0 where
-  pub defs : List Def
-  pub types : Environment
-  pub spelt : AreSpelt 0 files defs
-  pub made : Makes defs types
-  pub within : AreWithinSizes defs
-  pub once : AreDistinct tyenv.names
-  pub terms : ShowsTerms tyenv env types max_levels max_nodes defs
-  pub expands : env.expands ≡ true
 
 module _ (files : List SourceFile) (tyenv : TypeTables) (env : TermTables) (shown : ShowFiles files tyenv env) where
   -- the files are typed

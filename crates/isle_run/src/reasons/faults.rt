@@ -5,7 +5,7 @@ mod examples;
 mod samples;
 mod sites;
 
-use crate::compiler::parse_files;
+use crate::compiler::{Definitions, definitions_of};
 use crate::reasons::faults::conflicts::conflict_reason;
 use crate::reasons::faults::examples::example;
 use isle_blocks::{Rule, RuleSet, TermSets, build, demands_of};
@@ -64,11 +64,7 @@ fn read_again(
     files: &Files,
     named: Rc<Files>,
 ) -> Result<Faulty, Refusal<Vec<Error>>> {
-    let parsed = parse_files(alloc, files)?;
-    let defs = parsed.as_slice();
-    let mut types = TypeEnv::from_files(alloc, named, defs)?;
-    let terms = TermEnv::from_ast(alloc, &mut types, defs, true)?;
-    let _names = types.syms();
+    let Definitions { types, terms } = definitions_of(alloc, files, named)?;
     let TermSets {
         sets,
         unreachable: _unreachable,

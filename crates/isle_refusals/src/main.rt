@@ -1,0 +1,122 @@
+//! Calls of the library, for `make refusals`, which refuses each request for memory in turn: what each call came to, and how what it
+//! worked on stands behind it. The words are a call's name and of how many things it is; without words each call is made.
+#![tactic(auto)]
+
+mod calls;
+mod containers;
+mod copies;
+mod environments;
+mod texts;
+mod tried;
+
+use std::alloc::{AllocError, Global};
+use std::env::{self, Env};
+use std::io::{self, Write};
+use std::process::ExitCode;
+use tried::Tried;
+
+/// Each call, and of how many things it is.
+const CALLS: &str = "set 9
+map 9
+sorted 4
+merge 4
+remove 2
+intern 4
+report 4
+terms 0
+lexer 2
+template 0
+fill 0
+tree 0
+environment 0
+value 0
+read 0
+call-plain 0
+call 0";
+
+/// What a call of a name came to; none where it is no call's name.
+fn outcome(alloc: Global, name: &str, size: u64) -> Result<Option<Tried>, AllocError> {
+    match name {
+        "set" => Ok(Some(containers::insert_in_set(alloc, size)?)),
+        "map" => Ok(Some(containers::insert_in_map(alloc, size)?)),
+        "sorted" => Ok(Some(containers::insert_in_sorted(alloc, size)?)),
+        "merge" => Ok(Some(containers::merge(alloc, size)?)),
+        "remove" => Ok(Some(containers::remove(alloc, size)?)),
+        "intern" => Ok(Some(environments::intern(alloc, size)?)),
+        "report" => Ok(Some(environments::report(alloc, size)?)),
+        "terms" => Ok(Some(environments::read_terms(alloc)?)),
+        "lexer" => Ok(Some(texts::next(alloc, size)?)),
+        _ => outcome_of_trees(alloc, name),
+    }
+}
+
+/// The same of the calls that work on trees and values.
+fn outcome_of_trees(alloc: Global, name: &str) -> Result<Option<Tried>, AllocError> {
+    match name {
+        "template" => Ok(Some(texts::make_template(alloc)?)),
+        "fill" => Ok(Some(texts::fill(alloc)?)),
+        "tree" => Ok(Some(copies::of_rule(alloc)?)),
+        "environment" => Ok(Some(copies::of_environment(alloc)?)),
+        "value" => Ok(Some(copies::of_value(alloc)?)),
+        "read" => Ok(Some(calls::read(alloc)?)),
+        "call-plain" => Ok(Some(calls::call(alloc, true)?)),
+        "call" => Ok(Some(calls::call(alloc, false)?)),
+        _ => Ok(None),
+    }
+}
+
+/// Writes what a call came to. Whether it was answered.
+fn tell<W: Write>(alloc: Global, words: &str, output: &mut W) -> io::Result<bool> {
+    let Some((name, size)) = words.split_once(' ') else {
+        return Ok(false);
+    };
+    let Some(tried) = outcome(alloc, name, size.parse().unwrap_or(0))? else {
+        return Ok(false);
+    };
+    let line = tried.line(alloc, words)?;
+    writeln!(output, "{line}")?;
+    Ok(tried.is_answered)
+}
+
+/// Writes what each call came to. Whether all were answered.
+fn tell_all<W: Write>(alloc: Global, output: &mut W) -> io::Result<bool> {
+    let mut is_answered = true;
+    for words in CALLS.lines() {
+        is_answered &= tell(alloc, words, output)?;
+    }
+    Ok(is_answered)
+}
+
+/// The words behind the program's name, with spaces between.
+fn words<R: Env + AllocGlobal>(rt: &R) -> io::Result<String> {
+    let mut text = String::new(rt.alloc());
+    for word in env::args(rt)?.skip(1) {
+        if !text.is_empty() {
+            text.push(' ')?;
+        }
+        text.push_str(word.as_str())?;
+    }
+    Ok(text)
+}
+
+/// Writes what the call of the words came to, or what each came to. Whether it was answered.
+fn run<R: Print + Env + AllocGlobal>(rt: &R) -> io::Result<bool> {
+    let words = words(rt)?;
+    let mut output = io::writer(rt);
+    if words.is_empty() {
+        tell_all(rt.alloc(), &mut output)
+    } else {
+        tell(rt.alloc(), words.as_str(), &mut output)
+    }
+}
+
+fn main(rt: HostRuntime) -> ExitCode {
+    match run(&rt) {
+        Ok(true) => ExitCode::SUCCESS,
+        Ok(false) => ExitCode::from(5),
+        Err(_) => {
+            let _ = io::writer(&rt).write_all(b"out of memory\n");
+            ExitCode::from(5)
+        }
+    }
+}
