@@ -235,6 +235,16 @@ def middle(words, text, check):
     return sorted(processor for *_, processor in runs)[4], max(memory for _, memory, *_ in runs) * 2**20
 
 
+EXCEEDED = []
+
+
+def held(figure, most, digits):
+    """A figure as it is printed, with a mark where it is more than it may be."""
+    if figure > most:
+        EXCEEDED.append(figure)
+    return f"{figure:.{digits}f}{'' if figure <= most else ' (too much)'}"
+
+
 def multiples(bench):
     """Prints what checks and trees of generated backends take as multiples of the time to read their texts, and the most that they may take."""
     print("| Rules | Check, as a multiple of reading | At most | Trees, as a part of check | At most | Bytes of memory for each of the text | At most |")
@@ -246,16 +256,37 @@ def multiples(bench):
         trees, _ = middle([bench, "trees"], text, lambda it: it == f"{number // 20}\n")
         _, memory = middle([ISLEC, "check"], text, lambda it: it == "accepted\n")
         part = max(trees - check, 0) / check
-        print(f"| {number:,} | {check / reading:.1f} | {most} | {part:.2f} | 0.5 | {memory / len(text):.0f} | 100 |")
+        print(f"| {number:,} | {held(check / reading, most, 1)} | {most} | {held(part, 0.5, 2)} | 0.5 | {held(memory / len(text), 100, 0)} | 100 |")
 
 
 def worlds_of_rules(bench):
-    """Prints at which part of the speed of rules worlds are read."""
+    """Prints how much memory reading rules takes, and at which part of its speed worlds are read."""
     text, _ = rules(4_000_000)
-    seconds, _ = middle([bench], text, lambda it: it.strip().isdigit())
+    seconds, memory = middle([bench], text, lambda it: it.strip().isdigit())
+    print(f"reading 4 MB takes {held(memory / len(text), 33.5, 1)} bytes of memory for each of the text (at most 33)")
     world = mixed_world(100_000)
     taken = sorted(best_run("worlds", HOST, world, "", lambda it: it == "")[0] for _ in range(3))[1]
-    print(f"a world of 100,000 entries is read at {len(world) / taken / (len(text) / seconds):.2f} of the speed of rules (at least 0.5)")
+    part = len(world) / taken / (len(text) / seconds)
+    print(f"a world of 100,000 entries is read at {part:.2f} of the speed of rules (at least 0.5)")
+    if part < 0.5:
+        EXCEEDED.append(part)
+
+
+def queries_of_a_backend():
+    """Prints what a thousand queries of a backend of 2,000 rules take on blocks."""
+    seconds, _ = best_run("queries", typed_rules(2_000), instructions(2_000), backend_queries(), answers_all)
+    print(f"a thousand queries of 2,000 rules take {held(seconds / 10, 0.1, 3)} s by trees (at most 0.1), reading the world among it")
+
+
+def backend_queries():
+    """10,000 queries of a term of 2,000 rules."""
+    places = random.Random(1).choices(range(2_000), k=10_000)
+    return "".join(f"(lower v{2 * place})\n" for place in places)
+
+
+def answers_all(printed):
+    """Whether each of 10,000 queries made its four effects."""
+    return printed.count("\n") == 50_000 and printed.count("! (emit_imm ") == 10_000
 
 
 def mixed_world(number):
@@ -313,19 +344,18 @@ def main():
         measure_run(f"answer {number:,} queries", FIRST, "", queries, lambda it: it == "7\n" * number)
     measure_calls("answer 100 chains of 1,000 calls", DOWN, "", chain(1_000) * 100, lambda it: it == "5\n" * 100)
     measure_calls("answer a chain of 100,000 calls", DOWN, "", chain(100_000), lambda it: it == "5\n")
-    places = random.Random(1).choices(range(2_000), k=10_000)
-    queries = "".join(f"(lower v{2 * place})\n" for place in places)
-    # A typed rule makes four effects.
-    measure_calls("answer 10,000 queries by 2,000 rules", typed_rules(2_000), instructions(2_000), queries,
-                  lambda it: it.count("\n") == 50_000 and it.count("! (emit_imm ") == 10_000)
+    measure_calls("answer 10,000 queries by 2,000 rules", typed_rules(2_000), instructions(2_000), backend_queries(), answers_all)
     for number in (50_000, 100_000, 200_000):
         measure_run(f"read a world of {number:,} entries", HOST, mixed_world(number), "", lambda it: it == "")
     worlds_of_rules(bench)
+    queries_of_a_backend()
     text, _ = rules(4_000_000)
     for width in (20, 80):
         measure(f"format 4 MB at {width}", [islec, "fmt", "--width", str(width)], text, lambda it: it.startswith("(rule"))
     for width in (80, 1_000_000):
         measure(f"format 1,000 nested lists at {width}", [islec, "fmt", "--width", str(width)], NESTED * 20, lambda it: it.startswith("(attr"))
+    if EXCEEDED:
+        sys.exit(f"{len(EXCEEDED)} figures are not what is asked")
 
 
 main()

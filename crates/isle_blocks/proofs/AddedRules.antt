@@ -18,16 +18,16 @@ use Rattle.isle_blocks.specs.declared.binding.Binding.TheVariants.{MakeSome}
 use Rattle.isle_blocks.specs.declared.constraint.Constraint.{Constraint}
 use Rattle.isle_blocks.specs.Rows.{IsInjective, row_of, rows_of, constraints_of, pairs_of}
 use Rattle.isle_blocks.specs.Tables.{IsInterned, IsFull}
-use Rattle.isle_blocks.specs.ClosureFields.{IsTable}
+use Rattle.isle_blocks.specs.Tables.{IsTable}
 use Rattle.isle_blocks.specs.Closure.{Stands}
 use Rattle.isle_blocks.specs.AddedRules.{IsOwnOf, IsAdded, IsMultiCall, needs_in_order, HasRoomAlone, HasNoRoomAlone, HasNoRoomBeside}
-use Rattle.isle_blocks.specs.Placing.{HasNoRoomFor}
+use Rattle.isle_blocks.specs.Inside.Placing.{HasNoRoomFor}
 use Rattle.isle_blocks.specs.declared.rule.Rule.{Rule}
-use Rattle.isle_blocks.specs.Assembly.{IsAssembled}
+use Rattle.isle_blocks.specs.Inside.Assembly.{IsAssembled}
 use Rattle.isle_blocks.specs.ClosedRules.{AreNumbersOf}
-use Rattle.isle_blocks.specs.Building.Gathering.{Gathered}
+use Rattle.isle_blocks.specs.Inside.Building.Gathering.{Gathered}
 use Rattle.isle_blocks.specs.Building.Standing.{IsPut, Adds, begin, next, StandEach}
-use Rattle.isle_blocks.specs.Building.Built.{IsBuiltOf}
+use Rattle.isle_blocks.specs.Inside.Building.Built.{IsBuiltOf}
 use Rattle.isle_blocks.proofs.Building.Tables.{at_within, stands_before, stands_once, site_once, parts_before}
 use Rattle.isle_blocks.proofs.Building.Entries.{Grown, at_grown, put_grown, put_there, entry_at, absent_of, put_of, recorded_grown}
 use Rattle.isle_blocks.proofs.Building.Rules.{built_before}

@@ -24,13 +24,13 @@ use Rattle.isle_blocks.specs.declared.rule.Rule.{Rule}
 use Rattle.isle_blocks.specs.Rows.{IsInjective, row_of, rows_of, numbers_of, test_of, constraints_of, pairs_of}
 use Rattle.isle_blocks.specs.Rules.{site_cmp}
 use Rattle.isle_blocks.specs.ClosedRules.{same_site, AreDerived, AreLeftEqual, AreNumbersOf}
-use Rattle.isle_blocks.specs.NormalRules.{AreTestsOf, AreEqualitiesOf, MustBeEqual, IsUntested}
-use Rattle.isle_blocks.specs.MovedSites.{new_number, place_in}
-use Rattle.isle_blocks.specs.ClosureFields.{IsTable}
-use Rattle.isle_blocks.specs.ClosureStates.{demanded_in}
+use Rattle.isle_blocks.specs.Inside.NormalRules.{AreTestsOf, AreEqualitiesOf, MustBeEqual, IsUntested}
+use Rattle.isle_blocks.specs.Inside.MovedSites.{new_number, place_in}
+use Rattle.isle_blocks.specs.Tables.{IsTable}
+use Rattle.isle_blocks.specs.Inside.ClosureStates.{demanded_in}
 use Rattle.isle_blocks.specs.Closure.{Stands}
-use Rattle.isle_blocks.specs.Placing.{IsExplained, IsPlacedRule}
-use Rattle.isle_blocks.specs.Assembly.{IsAssembledRule, multi_call}
+use Rattle.isle_blocks.specs.Inside.Placing.{IsExplained, IsPlacedRule}
+use Rattle.isle_blocks.specs.Inside.Assembly.{IsAssembledRule, multi_call}
 use Rattle.isle_blocks.specs.Building.Standing.{StandEach, Adds, GoesOn, IsFieldRow, NumbersBehind}
 use Rattle.isle_blocks.specs.FieldOrder.{AreInOrder}
 use Rattle.isle_blocks.proofs.Closure.FieldOrder.{rows_in_order}

@@ -9,6 +9,8 @@ pub mod Count
 pub mod Demands
 -- What the loop over the pending pairs keeps.
 pub mod Progress
+-- Classes where nothing is to be made equal.
+pub mod Alone
 -- Lists of pairs under a push and a pop, and own tests.
 pub mod Pairs
 -- Like fields under a test.

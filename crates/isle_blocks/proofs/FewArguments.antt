@@ -25,7 +25,7 @@ use Rattle.isle_terms.specs.Definitions.{declarations, IsTypeNumber, IsDeclarati
 use Rattle.isle_terms.specs.Definitions.{TermEnvironment}
 use Rattle.isle_terms.specs.Shown.TermTables.{TermTables}
 use Rattle.isle_terms.specs.Shown.ShownTerms.{term_shown}
-use Rattle.isle_terms.specs.Collecting.Environments.{ShowsTerms}
+use Rattle.isle_terms.specs.TermEnvs.{ShowsTerms}
 use Rattle.isle_terms.proofs.Collections.TypeTerms.{zipped_length}
 use Rattle.isle_blocks.specs.Building.Naming.{HaveFewArguments}
 

@@ -3,8 +3,8 @@ use Rattle.std.proofs.Common.{◌≡◌, inl, inr, ℕ, zero, suc, Bool, true, f
 use Rattle.std.proofs.Common.{refl, sym, ap, subst, ◌∙◌}
 use Rattle.isle_terms.specs.TypedRules.{TypedPattern, typed_bind, typed_var, typed_bool, typed_int, typed_prim, typed_term, typed_wildcard}
 use Rattle.isle_terms.specs.TypedRules.{typed_and, TypedPatterns, no_typed, more_typed, TypedExpr, built_var, built_bool, built_int}
-use Rattle.isle_terms.specs.TypedRules.{built_prim, built_term, built_let, TypedExprs, no_built, more_built, TypedBindings, no_bindings}
-use Rattle.isle_terms.specs.TypedRules.{more_bindings, built_at, Variable, TypedIfLet, TypedRule}
+use Rattle.isle_terms.specs.TypedRules.{built_prim, built_term, built_let, TypedExprs, no_built, more_built, TypedBindings, no_typed_bindings}
+use Rattle.isle_terms.specs.TypedRules.{more_typed_bindings, built_at, Variable, TypedIfLet, TypedRule}
 use Rattle.isle_terms.specs.Signatures.{Flags, TermForm, variant_form, struct_form, declared_form, Signature, Declared}
 use Rattle.isle_terms.specs.Elaboration.{on_lhs}
 use Rattle.isle_terms.specs.SoundRules.WellTyped.{IsTypedExpr, AreTypedExprs, AreTypedBindings, AreTypedIfLets, CallsTerm, IsTypedRule}
@@ -213,8 +213,8 @@ module _ (declared : Declared) (variables : List Variable) where
 
     lets_known : (bs : TypedBindings) (caller : Flags) → AreTypedBindings declared variables caller bs → (vars : ℕ → Word)
         → ((j : ℕ) → KnownWord K (vars j)) → (steps : List Step) → (j : ℕ) → KnownWord K ((flat_lets facts vars steps bs).0 j)
-    lets_known no_bindings caller typed vars each steps = each
-    lets_known (more_bindings k ty e bs) caller (var, value, typed) vars each steps =
+    lets_known no_typed_bindings caller typed vars each steps = each
+    lets_known (more_typed_bindings k ty e bs) caller (var, value, typed) vars each steps =
         lets_known bs caller typed (set vars k (flat facts vars steps e).0)
         (set_word_known K vars k (flat facts vars steps e).0 each (flat_known e caller ty value vars each steps)) (flat facts vars steps e).1
 
@@ -273,8 +273,8 @@ module _ (declared : Declared) (variables : List Variable) where
 
     lets_visited : (bs : TypedBindings) (caller : Flags) → AreTypedBindings declared variables caller bs → (vars : ℕ → Site) → VarsKnown K vars
         → (log : Log) → AllKnown K log.needed → VarsKnown K (visit_lets facts vars log bs).0 × AllKnown K (visit_lets facts vars log bs).1.needed
-    lets_visited no_bindings caller typed vars each log before = (each, before)
-    lets_visited (more_bindings k ty e bs) caller (var, value, typed) vars each log before =
+    lets_visited no_typed_bindings caller typed vars each log before = (each, before)
+    lets_visited (more_typed_bindings k ty e bs) caller (var, value, typed) vars each log before =
         let first = visit_known e caller ty value vars each log before in
         lets_visited bs caller typed (set vars k (visit facts vars log e).0) (set_known K vars k (visit facts vars log e).0 each first.0)
         (visit facts vars log e).1 first.1

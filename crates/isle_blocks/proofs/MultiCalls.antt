@@ -12,7 +12,7 @@ use Rattle.isle_meaning.specs.Numbered.{Row, At, iterator_row}
 use Rattle.isle_blocks.specs.declared.ids.BindingId.{BindingId}
 use Rattle.isle_blocks.specs.declared.binding.Binding.{Binding}
 use Rattle.isle_blocks.specs.declared.binding.Binding.TheVariants as sites
-use Rattle.isle_blocks.specs.Assembly.{multi_call}
+use Rattle.isle_blocks.specs.Inside.Assembly.{multi_call}
 use Rattle.isle_blocks.proofs.Counting.{Once, once_both, once_right, place_of}
 
 only_first : {X : Type 0} (x y : X) → Contains (x ∷ []) y → x ≡ y

@@ -12,8 +12,8 @@ use Rattle.isle_types.specs.Names.{AreDistinct}
 use Rattle.isle_blocks.specs.declared.ids.BindingId.{BindingId}
 use Rattle.isle_blocks.specs.declared.constraint.Constraint.{Constraint}
 use Rattle.isle_blocks.specs.Rules.{site_cmp}
-use Rattle.isle_blocks.specs.ClosureStates.{HasOwn}
-use Rattle.isle_blocks.specs.NormalRules.{AreTestsOf}
+use Rattle.isle_blocks.specs.Inside.ClosureStates.{HasOwn}
+use Rattle.isle_blocks.specs.Inside.NormalRules.{AreTestsOf}
 use Rattle.isle_blocks.proofs.Closure.Pairs.{own_in, pair_path}
 
 -- the first, or one of the others

@@ -5,8 +5,8 @@ use Rattle.isle_meaning.specs.Sites.{Site, bool_site, int_site, prim_site, argum
 use Rattle.isle_meaning.specs.Sites.{make_variant, match_variant, make_struct, extract_struct, make_some, match_some, match_tuple}
 use Rattle.isle_meaning.specs.Numbered.{Row}
 use Rattle.isle_blocks.specs.Building.Standing.{Adds, begin, next, IsEntryOf}
-use Rattle.isle_blocks.specs.MovedSites.{Moves, none_moved, next_moved, moved_row, place_in}
-use Rattle.isle_blocks.specs.RowTables.{IsEntered}
+use Rattle.isle_blocks.specs.Inside.MovedSites.{Moves, none_moved, next_moved, moved_row, place_in}
+use Rattle.isle_blocks.specs.Inside.RowTables.{IsEntered}
 use Rattle.isle_blocks.proofs.Rows.MovedTables.{Kept, AreEarlier, at_moved, all_moved, moves_keep}
 
 no_last : {X : Type 0} (xs : List X) (x : X) → xs ++ x ∷ [] ≡ [] → ⊥

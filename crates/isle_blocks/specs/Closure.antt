@@ -12,9 +12,9 @@ use Rattle.isle_blocks.specs.declared.constraint.Constraint.{Constraint}
 use Rattle.isle_blocks.specs.declared.ids.BindingId.{BindingId}
 use Rattle.isle_blocks.specs.declared.close.Closed.{Closed}
 use Rattle.isle_blocks.specs.Rows.{IsInjective, rows_of, test_of, pairs_of}
-use Rattle.isle_blocks.specs.ClosureFields.{IsTable}
-use Rattle.isle_blocks.specs.ClosureStates.{HasOwn, AreClasses, demanded_in}
-use Rattle.isle_blocks.specs.NormalRules.{HaveClassTests}
+use Rattle.isle_blocks.specs.Tables.{IsTable}
+use Rattle.isle_blocks.specs.Inside.ClosureStates.{HasOwn, AreClasses, demanded_in}
+use Rattle.isle_blocks.specs.Inside.NormalRules.{HaveClassTests}
 
 -- the site has a number
 abbrev pub Stands : List Row → Site → Type 0

@@ -11,7 +11,7 @@ use Rattle.isle_terms.specs.declared.rules.Rule as source
 use Rattle.isle_terms.specs.TypedRules.{TypedRule}
 use Rattle.isle_terms.specs.Definitions.{declared_by}
 use Rattle.isle_terms.specs.Shown.TermTables.{TermTables}
-use Rattle.isle_terms.specs.Collecting.Environments.{ShowsTerms}
+use Rattle.isle_terms.specs.TermEnvs.{ShowsTerms}
 use Rattle.isle_meaning.specs.Facts.{TermFacts, facts_of}
 use Rattle.isle_meaning.specs.Sites.{Site}
 use Rattle.isle_meaning.specs.Demands.{impure_of}
@@ -22,12 +22,12 @@ use Rattle.isle_meaning.specs.Numbered.{Row, At}
 use Rattle.isle_blocks.specs.declared.binding.Binding.{Binding}
 use Rattle.isle_blocks.specs.declared.rule.Rule.{Rule}
 use Rattle.isle_blocks.specs.AddedRules.{IsMultiCall, needs_in_order}
-use Rattle.isle_blocks.specs.Assembly.{IsToldOf}
+use Rattle.isle_blocks.specs.RuleSets.{IsToldOf}
 use Rattle.isle_blocks.specs.Building.Naming.{name_by, HaveFewArguments}
 use Rattle.isle_blocks.specs.Building.Standing.{StandEach, NumbersBehind}
 use Rattle.isle_blocks.specs.Closure.{Stands}
 use Rattle.isle_blocks.specs.ClosedRules.{IsClosedRule, AreNumbersOf}
-use Rattle.isle_blocks.specs.ClosureFields.{IsTable}
+use Rattle.isle_blocks.specs.Tables.{IsTable}
 use Rattle.isle_blocks.specs.Rows.{rows_of}
 use Rattle.isle_blocks.specs.RuleFaults.{MayMatchAt, SitesStand, own_result}
 use Rattle.isle_blocks.specs.RuleSets.{RulesOverSites}

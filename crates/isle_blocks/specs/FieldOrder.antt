@@ -1,7 +1,7 @@
 -- In which order the fields that a rule's demands open are numbered.
 use Rattle.std.specs.Prelude.{◌≡◌, ◌<◌, ◌≤◌, ◌⊎◌, ℕ, List, Option, Some, length, slice_get}
 use Rattle.isle_blocks.specs.declared.binding.Binding.{Binding}
-use Rattle.isle_blocks.specs.ClosureFields.{field_binding}
+use Rattle.isle_blocks.specs.Inside.ClosureFields.{field_binding}
 
 -- a field before another: of a lesser site, or of the same site, with a lesser index
 abbrev pub ComesBefore : ℕ → ℕ → ℕ → ℕ → Type 0

@@ -14,8 +14,6 @@ pub mod EqualSites
 pub mod Rules
 -- Faults between the rules of a term.
 pub mod FaultsBetween
--- The tests of one site in rules, in order.
-pub mod FaultKeys
 -- What is reported of rules that overlap or shadow others.
 pub mod Reports
 -- Sites and tests as those of the rules' meaning.
@@ -24,28 +22,14 @@ pub mod Rows
 pub mod Tables
 -- What a rule's visit gathers.
 pub mod Building
--- Tables of entries.
-pub mod RowTables
--- A rule's own sites moved into its rule set's table.
-pub mod MovedSites
--- Fields that tests open.
-pub mod ClosureFields
 -- The rules of a rule set as what follows from their demands.
 pub mod ClosedRules
--- Classes of sites while demands are closed.
-pub mod ClosureStates
 -- In which order opened fields are numbered.
 pub mod FieldOrder
 -- What the closure of a rule's demands is.
 pub mod Closure
 -- The sites that a rule holds equal, set by set.
 pub mod ListedSets
--- A rule's demands in the table of its rule set.
-pub mod Placing
--- A rule of a rule set, made of what a visit leaves.
-pub mod Assembly
--- The tests and the equal sites of a closed rule.
-pub mod NormalRules
 -- Rule sets as contracts see them.
 pub mod RuleSets
 -- A rule of definitions in its term's rule set.
@@ -58,11 +42,9 @@ pub mod RuleFaults
 pub mod DefinedSets
 -- What holds of each rule set that `check` gives.
 pub mod SetLaws
--- How the rules of terms are gathered into their rule sets.
-pub mod GatheredSets
--- How the faults between rules of all terms are listed.
-pub mod RivalLists
 -- What the closure of demands means.
 pub mod ClosureLaws
 -- Trees of tests.
 pub mod Trees
+-- What no public contract cites.
+pub mod Inside

@@ -1,10 +1,12 @@
 -- Tables of sites, in which each stands once.
-use Rattle.std.specs.Prelude.{◌≡◌, ◌≤◌, ◌⊎◌, ℕ, List, [], ◌∷◌, ◌++◌, Option, Some, MatchOption, length, slice_get}
+use Rattle.std.specs.Prelude.{◌≡◌, ◌≤◌, ◌⊎◌, ℕ, List, [], ◌∷◌, ◌++◌, Option, Some, MatchOption, length, slice_get, ◌<◌, Contains}
 use Rattle.std.specs.BTreeMap.{is_at}
 use Rattle.std.specs.Map.{lookup}
 use Rattle.std.specs.declared.cmp.Ordering.{Ordering}
 use Rattle.isle_blocks.specs.declared.ids.BindingId.{BindingId}
 use Rattle.isle_blocks.specs.declared.binding.Binding.{Binding}
+use Rattle.isle_types.specs.Names.{AreDistinct}
+use Rattle.isle_blocks.specs.Bindings.{sources_of}
 
 -- the site stands nowhere
 abbrev pub IsAbsent : {X : Type 0} → List X → X → Type 0
@@ -33,3 +35,8 @@ pub record AreNumbered (cmp : Binding → Binding → Ordering) (sites : List Bi
   pub bound : length sites ≤ 65536
   pub found : (site : Binding) (id : BindingId) → number_at cmp numbers site ≡ Some id → slice_get sites id.0 ≡ Some site
   pub numbered : (k : ℕ) (site : Binding) → slice_get sites k ≡ Some site → number_at cmp numbers site ≡ Some (record { 0 = k })
+
+-- Each site stands once, behind its parts.
+pub record IsTable (table : List Binding) : Type 0 where
+  pub earlier : (k : ℕ) (site : Binding) (part : BindingId) → slice_get table k ≡ Some site → Contains (sources_of site) part → part.0 < k
+  pub once : AreDistinct table

@@ -5,26 +5,12 @@ pub mod Compare
 pub mod View
 -- Blocks as their nodes show them.
 pub mod Nodes
--- Where the pieces of a block end.
-pub mod Ends
 -- Blocks as contracts see them.
 pub mod Shown
--- Blocks as values that a proof tells apart.
-pub mod ShownCode
 -- Places in a block, and what is read there.
 pub mod Places
 -- Steps and arms of blocks.
 pub mod Views
--- What is marked from step to step, as tests pass.
-pub mod Marking
--- What the builder of trees knows, seen as the scopes and tests of the theory.
-pub mod Builder
--- Lists that are kept in rows.
-pub mod Tables
--- How the best test is found.
-pub mod Best
--- What is still to be laid out of a tree, and what laying out one node does to it.
-pub mod Work
 -- The trees of a table's sites, and what they hold.
 pub mod SiteTrees
 -- What a site is, where its parts hold these.

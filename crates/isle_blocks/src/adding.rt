@@ -1,8 +1,8 @@
 //! Rules of definitions, added to a rule set's table.
 ghost use Rattle.std.specs.Prelude.{◌≡◌, ◌≤◌, IfOk, IfErr, IfSome, length};
 ghost use Rattle.isle_blocks.specs.AddedRules.{IsDefinedRule, IsOwnRule, AddsRule, LacksRoomAlone, LacksRoomFor};
-ghost use Rattle.isle_blocks.specs.Assembly.{IsToldOf};
-ghost use Rattle.isle_blocks.specs.ClosureFields.{IsTable};
+ghost use Rattle.isle_blocks.specs.RuleSets.{IsToldOf};
+ghost use Rattle.isle_blocks.specs.Tables.{IsTable};
 
 use crate::assembly::{add_rule, result_of};
 use crate::builder::{BuiltRule, build_rule};

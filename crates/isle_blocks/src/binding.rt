@@ -1,3 +1,4 @@
+//! Sites, which are values that rules test or make: their kinds, parts, terms and hashes.
 ghost use Rattle.std.specs.Prelude.{◌≡◌};
 ghost use Rattle.isle_blocks.specs.Bindings.{sources_of, MakesKnownVariant, term_of};
 

@@ -3,8 +3,8 @@ ghost use Rattle.std.specs.Prelude.{◌≡◌, ◌≤◌, ◌<◌, [], IfOk, IfE
 ghost use Rattle.isle_terms.specs.declared.visit.fault.VisitFault.TheVariants.{Size, Memory};
 ghost use Rattle.isle_terms.specs.Visits.Runs.{silent, listed, in_turn};
 ghost use Rattle.isle_terms.specs.Visits.VisitorCalls.{extract_outputs};
-ghost use Rattle.isle_blocks.specs.Building.Steps.{values_of, each_some};
-ghost use Rattle.isle_blocks.specs.Building.Building.{BuildsRule};
+ghost use Rattle.isle_blocks.specs.Inside.Building.Steps.{values_of, each_some};
+ghost use Rattle.isle_blocks.specs.Inside.Building.Building.{BuildsRule};
 ghost use Rattle.isle_blocks.specs.Building.Naming.{BuiltAsDefined, UsesWhatIsDefined, HasTooManySites};
 
 mod contents;
@@ -34,7 +34,7 @@ pub(crate) struct RuleSetBuilder {
 }
 
 impl Model for RuleSetBuilder {
-    ghost use Rattle.isle_blocks.specs.Building.Gathering.{Gathered};
+    ghost use Rattle.isle_blocks.specs.Inside.Building.Gathering.{Gathered};
 
     ghost Value = { Gathered };
 
@@ -50,7 +50,7 @@ enum Parts {
 }
 
 impl Parts {
-    ghost use Rattle.isle_blocks.specs.Building.Parts.{part_site};
+    ghost use Rattle.isle_blocks.specs.Inside.Building.Parts.{part_site};
 
     /// The site of a part of a value.
     fn site(self, source: BindingId, field: TupleIndex) -> Binding
@@ -100,10 +100,10 @@ fn some_of_each(
 }
 
 impl RuleSetBuilder {
-    ghost use Rattle.isle_blocks.specs.Building.Gathering.{nothing_gathered, interns, interns_each, demands, sites_from};
-    ghost use Rattle.isle_blocks.specs.Building.Gathering.{extracted, outputs, constructed, numbers, keeps};
-    ghost use Rattle.isle_blocks.specs.Building.Steps.{makes, takes};
-    ghost use Rattle.isle_blocks.specs.Building.Parts.{part_site};
+    ghost use Rattle.isle_blocks.specs.Inside.Building.Gathering.{nothing_gathered, interns, interns_each, demands, sites_from};
+    ghost use Rattle.isle_blocks.specs.Inside.Building.Gathering.{extracted, outputs, constructed, numbers, keeps};
+    ghost use Rattle.isle_blocks.specs.Inside.Building.Steps.{makes, takes};
+    ghost use Rattle.isle_blocks.specs.Inside.Building.Parts.{part_site};
 
     /// Nothing is gathered yet.
     fn new(alloc: Global) -> Self
@@ -284,7 +284,7 @@ impl RuleSetBuilder {
 }
 
 impl PatternVisitor for RuleSetBuilder {
-    ghost use Rattle.isle_blocks.specs.Building.Steps.{pattern_adds};
+    ghost use Rattle.isle_blocks.specs.Inside.Building.Steps.{pattern_adds};
 
     type PatternId = BindingId;
 
@@ -377,7 +377,7 @@ impl PatternVisitor for RuleSetBuilder {
 
 impl ExprVisitor for RuleSetBuilder {
     ghost use Rattle.isle_terms.specs.Visits.VisitorCalls.{create_variant, create_struct, construct};
-    ghost use Rattle.isle_blocks.specs.Building.Steps.{expr_adds};
+    ghost use Rattle.isle_blocks.specs.Inside.Building.Steps.{expr_adds};
 
     type ExprId = BindingId;
 
@@ -448,7 +448,7 @@ impl RuleVisitor for RuleSetBuilder {
     ghost use Rattle.isle_terms.specs.Visits.Events.{visits};
     ghost use Rattle.isle_terms.specs.Visits.VisitScopes.{scope_of, scope_left};
     ghost use Rattle.isle_terms.specs.Visits.InternedTrees.{pattern_of};
-    ghost use Rattle.isle_blocks.specs.Building.Steps.{pattern_adds, expr_adds, rule_adds};
+    ghost use Rattle.isle_blocks.specs.Inside.Building.Steps.{pattern_adds, expr_adds, rule_adds};
 
     type PatternVisitor = RuleSetBuilder;
 

@@ -3,7 +3,8 @@ ghost use Rattle.std.specs.Prelude.{◌≡◌, ◌++◌, IfOk, IfErr, OnOk, map}
 ghost use Rattle.isle_syntax.specs.Errors.{IfFault};
 ghost use Rattle.isle_blocks.specs.DefinedSets.{AreDefined, facts_by, rules_by, AreSetsOf};
 ghost use Rattle.isle_blocks.specs.FaultsBetween.{ListsPairs};
-ghost use Rattle.isle_blocks.specs.RivalLists.{AddsPairs, ListsFaults, is_multi_in, number_at, numbered, place_of};
+ghost use Rattle.isle_blocks.specs.Inside.RivalLists.{AddsPairs, ListsFaults, number_at, numbered, place_of};
+ghost use Rattle.isle_terms.specs.Shown.TermTables.{is_multi_in};
 ghost use Rattle.isle_blocks.specs.RuleFaults.{AreFaultless, AreRuleErrors, TellRivals};
 ghost use Rattle.isle_blocks.specs.declared.faults.Fault.TheVariants.{Overlap, Shadow};
 

@@ -1,8 +1,8 @@
 //! The closure of a rule's demands.
 ghost use Rattle.std.specs.Prelude.{◌≡◌, ◌<◌, ◌≤◌, ℕ, List, Option, true, false, IfOk, IfErr, IfSome, IfNone, None, length, slice_index, slice_index_or, vec_len};
 ghost use Rattle.isle_meaning.specs.Faults.{IsUnreachable};
-ghost use Rattle.isle_blocks.specs.ClosureFields.{IsTable};
-ghost use Rattle.isle_blocks.specs.ClosureStates.{IsReady, ArePairsBelow, ForDemands, AreClosedClasses, IsReduced, IsState, IsFinished, RunsOut};
+ghost use Rattle.isle_blocks.specs.Tables.{IsTable};
+ghost use Rattle.isle_blocks.specs.Inside.ClosureStates.{IsReady, ArePairsBelow, ForDemands, AreClosedClasses, IsReduced, IsState, IsFinished, RunsOut};
 ghost use Rattle.isle_blocks.specs.Closure.{ForRecorded, ClosesTo, LacksRoom};
 ghost use Rattle.isle_blocks.specs.FieldOrder.{AreFieldsInOrder};
 
@@ -15,7 +15,7 @@ mod lists;
 use crate::constraint::Constraint;
 use crate::ids::BindingId;
 use crate::sites::{SiteFault, Sites};
-use classes::{gather, number_pairs, unify};
+use classes::{alone, gather, number_pairs, unify};
 use complete::complete;
 use depth::is_finite;
 use std::alloc::{AllocError, Global};
@@ -48,6 +48,11 @@ fn closed_classes(
     ensures classes { IfOk result (λ r. IfSome r (λ class. AreClosedClasses sites.now equals.now own.now class.items)) }
     ensures unreachable { IfOk result (λ r. IfNone r (ForDemands sites.now equals.now own.now (λ name D. IsUnreachable D))) }
 {
+    if equals.is_empty() {
+        // each site is alone, and stands behind what it is a field of
+        let single = alone(alloc, sites.len())?;
+        return Ok(Some(single));
+    }
     let Some(class) = unify(alloc, sites, own, equals)? else {
         return Ok(None);
     };
@@ -89,7 +94,7 @@ fn spread(
     ensures { IfOk result (λ each. (vec_len each ≡ length class.now)
         × ((a : ℕ) → a < length class.now → slice_index_or each.items a None ≡ slice_index_or own.now (slice_index class.now a) None)) }
 {
-    let mut each = Vec::new(alloc);
+    let mut each = Vec::with_capacity(alloc, class.len())?;
     for root in class {
         each.push(own[*root])?;
     }

@@ -1,3 +1,4 @@
+//! Tests of a site's value: their kinds, the sites that passing one makes, and whether one can pass at a site.
 ghost use Rattle.std.specs.Prelude.{◌≡◌, IfOk};
 ghost use Rattle.isle_blocks.specs.Constraints.{bindings_made, fields_below, variant_field, struct_field, is_compatible};
 

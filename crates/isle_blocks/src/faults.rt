@@ -1,6 +1,7 @@
+//! Faults between the rules of a term: the pairs that overlap, and those in which one rule shadows the other.
 ghost use Rattle.std.specs.Prelude.{◌≡◌, ◌≤◌, ◌<◌, ◌+◌, ◌↔◌, ℕ, All, IsTrue, IfOk, OnOk, Some, length, slice_get};
 ghost use Rattle.isle_blocks.specs.FaultsBetween.{FaultAt, ListsPairs, OverlapAt, ShadowAt};
-ghost use Rattle.isle_blocks.specs.FaultKeys.{AddsFault, AreKeys, FindsFaults, IsEarlier, Key, MayMeet, test_at};
+ghost use Rattle.isle_blocks.specs.Inside.FaultKeys.{AddsFault, AreKeys, FindsFaults, IsEarlier, Key, MayMeet, test_at};
 
 use crate::constraint::Constraint;
 use crate::ids::BindingId;

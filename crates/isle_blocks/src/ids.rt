@@ -1,3 +1,4 @@
+//! Ids in rule sets: the places of fields, and the numbers of sites.
 ghost use Rattle.std.specs.Prelude.{◌≡◌};
 
 use std::num::TryFromIntError;

@@ -1,5 +1,6 @@
+//! Sites that are put into another table, and their tests and pairs by the numbers that they get there.
 ghost use Rattle.std.specs.Prelude.{◌≡◌, map, IfOk, IfErr};
-ghost use Rattle.isle_blocks.specs.MovedSites.{new_number, renumbered, MovesSites, EndsFull, moved_test, moved_pair};
+ghost use Rattle.isle_blocks.specs.Inside.MovedSites.{new_number, renumbered, MovesSites, EndsFull, moved_test, moved_pair};
 
 use crate::binding::Binding;
 use crate::constraint::Constraint;

@@ -6,8 +6,8 @@ ghost use Rattle.isle_types.specs.JoinedSets.{AreDisjoint};
 ghost use Rattle.isle_types.specs.Names.{AreDistinct};
 ghost use Rattle.isle_blocks.specs.ClosedRules.{same_site};
 ghost use Rattle.isle_blocks.specs.Rules.{site_cmp};
-ghost use Rattle.isle_blocks.specs.NormalRules.{AreTestsOf, AreEqualitiesOf};
-ghost use Rattle.isle_blocks.specs.Placing.{AreSettled};
+ghost use Rattle.isle_blocks.specs.Inside.NormalRules.{AreTestsOf, AreEqualitiesOf};
+ghost use Rattle.isle_blocks.specs.Inside.Placing.{AreSettled};
 
 use crate::constraint::Constraint;
 use crate::ids::BindingId;

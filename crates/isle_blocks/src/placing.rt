@@ -2,11 +2,11 @@
 ghost use Rattle.std.specs.Prelude.{◌≡◌, IfOk, IfErr, IfSome, OnOk, take, ◌≤◌, ◌<◌, length};
 ghost use Rattle.isle_meaning.specs.Demands.{Among};
 ghost use Rattle.isle_meaning.specs.Faults.{IsUnreachable};
-ghost use Rattle.isle_blocks.specs.ClosureFields.{IsTable};
+ghost use Rattle.isle_blocks.specs.Tables.{IsTable};
 ghost use Rattle.isle_blocks.specs.Rows.{rows_of};
 ghost use Rattle.isle_blocks.specs.Closure.{HasAllFields};
-ghost use Rattle.isle_blocks.specs.ClosureStates.{IsReady};
-ghost use Rattle.isle_blocks.specs.Placing.{ForDemandsOf, IsPlaced, IsPutFirst, GrowsFor, HasNoRoomFor, AreSettled};
+ghost use Rattle.isle_blocks.specs.Inside.ClosureStates.{IsReady};
+ghost use Rattle.isle_blocks.specs.Inside.Placing.{ForDemandsOf, IsPlaced, IsPutFirst, GrowsFor, HasNoRoomFor, AreSettled};
 
 use crate::binding::Binding;
 use crate::close::{Closed, close};

@@ -1,3 +1,4 @@
+//! Errors of rules that overlap or shadow others, each for the pairs of rules that one rule heads.
 ghost use Rattle.std.specs.Prelude.{◌≡◌, ◌≢◌, ◌<◌, ◌+◌, ◌↔◌, ◌∷◌, [], ℕ, IfOk, IsTrue, OnOk, count_by, is_some, length, not, map, slice_index, IsPermutation, IsSorted};
 ghost use Rattle.std.specs.List.Sorted.{IsSortedByKey, IsStableByKey};
 ghost use Rattle.isle_syntax.specs.Errors.{span_at};

@@ -1,3 +1,4 @@
+//! A rule of a rule set by what it demands of sites, and whether it overlaps or shadows another.
 ghost use Rattle.std.specs.Prelude.{◌≡◌, ◌+◌, ◌↔◌, IfOk, IsTrue, MatchOption, length};
 ghost use Rattle.std.specs.BTreeMap.{is_at};
 ghost use Rattle.std.specs.Map.{lookup};

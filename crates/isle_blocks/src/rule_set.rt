@@ -2,8 +2,8 @@
 ghost use Rattle.std.specs.Prelude.{◌≡◌, ◌≤◌, [], IfOk, IfErr, length};
 ghost use Rattle.isle_types.specs.Names.{AreDistinct};
 ghost use Rattle.isle_blocks.specs.AddedRules.{IsDefinedRule, LacksRoomFor};
-ghost use Rattle.isle_blocks.specs.ClosureFields.{IsTable};
-ghost use Rattle.isle_blocks.specs.GatheredSets.{AddsToSet};
+ghost use Rattle.isle_blocks.specs.Tables.{IsTable};
+ghost use Rattle.isle_blocks.specs.Inside.GatheredSets.{AddsToSet};
 ghost use Rattle.isle_blocks.specs.Tables.{IsFound};
 ghost use Rattle.isle_blocks.specs.RuleSets.{no_rules};
 

@@ -4,14 +4,14 @@ ghost use Rattle.isle_types.specs.declared.ids.Sym.{Sym};
 ghost use Rattle.isle_trees.specs.Builds.{Builds};
 ghost use Rattle.isle_trees.specs.Scopes.{nothing_known};
 ghost use Rattle.isle_trees.specs.Search.{below};
-ghost use Rattle.isle_blocks.specs.Trees.Builder.{IsSerializable, rules_in};
+ghost use Rattle.isle_blocks.specs.Inside.Trees.Builder.{IsSerializable, rules_in};
 ghost use Rattle.isle_blocks.specs.Trees.Nodes.{first_steps, read};
 ghost use Rattle.isle_blocks.specs.Trees.Promises.{BindsWhatIsAsked, ChoosesAsRules, HasArmsInOrder, IsBuilt, IsCheckedSet, IsShort, ReturnsItsRules};
 ghost use Rattle.isle_blocks.specs.Trees.RuleBags.{MakesItsBag};
 ghost use Rattle.isle_blocks.specs.Trees.ReadPromises.{BindsFieldsByTests, BindsItsFields, ReadsWhatIsBound};
 ghost use Rattle.isle_blocks.specs.Trees.RightPromises.{AnswersAsRules};
 ghost use Rattle.isle_blocks.specs.Trees.TypedCalls.{CallsTakeTheirTypes};
-ghost use Rattle.isle_blocks.specs.Trees.Work.{AreOfRules};
+ghost use Rattle.isle_blocks.specs.Inside.Trees.Work.{AreOfRules};
 
 mod binding;
 mod block;

@@ -5,10 +5,10 @@ ghost use Rattle.std.specs.Global.{Global};
 ghost use Rattle.isle_syntax.specs.Errors.{IfFault};
 ghost use Rattle.isle_terms.specs.TypedRules.{TypedRule};
 ghost use Rattle.isle_meaning.specs.Facts.{TermFacts};
-ghost use Rattle.isle_blocks.specs.Building.Contents.{Marked};
-ghost use Rattle.isle_blocks.specs.ClosureFields.{IsTable};
+ghost use Rattle.isle_blocks.specs.Inside.Building.Contents.{Marked};
+ghost use Rattle.isle_blocks.specs.Tables.{IsTable};
 ghost use Rattle.isle_blocks.specs.DefinedSets.{AreDefined, facts_by, rules_by, ListsNumbers, AreSetsOf};
-ghost use Rattle.isle_blocks.specs.GatheredSets.{AreSetsBelow, AreRulesUpTo, GathersRules, IsOfTerm, MarksThose, AreLost, IsLostBelow};
+ghost use Rattle.isle_blocks.specs.Inside.GatheredSets.{AreSetsBelow, AreRulesUpTo, GathersRules, IsOfTerm, MarksThose, AreLost, IsLostBelow};
 ghost use Rattle.isle_blocks.specs.RuleFaults.{AreWithinSize, IsUnreachableAt, IsOneSizeFault, TellUnreachable, size_error_at, unreachable_error};
 ghost use Rattle.isle_blocks.specs.RuleSets.{no_rules};
 

@@ -2,15 +2,15 @@
 use Rattle.std.specs.Prelude.{◌+◌, ◌/◌, ◌%◌, ◌==◌, ℕ, pos, List, Option, Some, None, if◌then◌else◌, nat_lt, nat_le, codes, bytes_eq}
 use Rattle.std.specs.Bool.{then_some}
 use Rattle.std.specs.Option.{option_map}
-use Rattle.isle_terms.specs.Values.{ValueTree, bool_value, int_value, big_value, const_value, opaque_value, data_value}
+use Rattle.isle_terms.specs.Values.{ValueTree, bool_tree, int_tree, big_tree, const_tree, opaque_tree, data_tree}
 
 -- a number as a value
 abbrev pub byte_value : ℕ → ValueTree
-byte_value n = int_value (pos n)
+byte_value n = int_tree (pos n)
 
 -- the number that a value is, where it is one from 0 to 255
 abbrev pub byte_in : ValueTree → Option ℕ
-byte_in (int_value (pos n)) = then_some (nat_le n 255) n
+byte_in (int_tree (pos n)) = then_some (nat_le n 255) n
 byte_in _ = None
 
 -- What a constructor of a name gives of two numbers: `checked_add` their sum, where that is at most 255; `less_than` the first one, where it is

@@ -2,18 +2,18 @@
 use Rattle.std.specs.Prelude.{◌≡◌, ◌+◌, ◌-◌, ◌^◌, ◌&&◌, ℕ, Bool, List, Option, Some, None, if◌then◌else◌, nat_lt, codes, bytes_eq}
 use Rattle.std.specs.Bool.{then_some}
 use Rattle.std.specs.Option.{option_map}
-use Rattle.isle_terms.specs.Values.{ValueTree, ValueTrees, opaque_value, no_values, more_values}
+use Rattle.isle_terms.specs.Values.{ValueTree, ValueTrees, opaque_tree, no_trees, more_trees}
 use Rattle.isle_example.specs.declared.host.Registers.{Registers}
 use Rattle.isle_example.specs.Bytes.{byte_in, byte_value, combined_values, taken_apart}
 
 -- what a constructor is answered that makes no effect: what it gives of two values; none of fewer or more
 abbrev pub constructed : List ℕ → ValueTrees → Option ValueTree
-constructed term (more_values v (more_values w no_values)) = combined_values term (byte_in v) (byte_in w)
+constructed term (more_trees v (more_trees w no_trees)) = combined_values term (byte_in v) (byte_in w)
 constructed term _ = None
 
 -- what an extractor gives of a value, where it is a number from 0 to 255
 abbrev pub parts_of : List ℕ → Option ℕ → Option ValueTrees
-parts_of term (Some n) = option_map (λ part. more_values (byte_value part) no_values) (taken_apart term n)
+parts_of term (Some n) = option_map (λ part. more_trees (byte_value part) no_trees) (taken_apart term n)
 parts_of term None = None
 
 -- what an extractor is answered
@@ -26,7 +26,7 @@ emits registers term = bytes_eq term (codes "emit") && nat_lt registers.next (2 
 
 -- what a constructor is answered that makes an effect: the register of the next number, or none
 abbrev pub emitted : Registers → List ℕ → Option ValueTree
-emitted registers term = then_some (emits registers term) (opaque_value registers.next)
+emitted registers term = then_some (emits registers term) (opaque_tree registers.next)
 
 -- the registers behind it: the number is used up where the register is given out
 abbrev pub counted : Registers → List ℕ → Registers

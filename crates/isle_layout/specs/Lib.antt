@@ -2,12 +2,8 @@
 pub mod SExprTree
 -- An S-expression as a tree: its children are trees already.
 pub mod SExprShape
--- An S-expression as a value that a proof tells apart.
-pub mod SExprCode
 -- Children are lower than their S-expression.
 pub mod SExprDecreases
--- What a chain of bindings `x @ y @ ..` binds, and the text before it.
-pub mod SExprInnermost
 -- The S-expressions of patterns, expressions and kept items.
 pub mod Spellings
 -- The S-expressions of definitions.
@@ -20,11 +16,9 @@ pub mod Prints
 pub mod Nesting
 -- Which definitions can be printed and read back.
 pub mod Writable
--- Tokens as they stand in texts.
-pub mod TextTokens
--- Which tokens an S-expression's text has.
-pub mod SExprTokens
 -- Which definitions a text reads back as.
 pub mod ReadsBack
 -- What it is to format a text.
 pub mod Formats
+-- What no public contract cites.
+pub mod Inside

@@ -5,7 +5,7 @@ ghost use Rattle.std.specs.Fmt.{char_count};
 ghost use Rattle.std.specs.Slice.Iter.{iter_rest};
 ghost use Rattle.isle_layout.specs.SExprShape.{sexpr_of, sexprs_of};
 ghost use Rattle.isle_layout.specs.SExprTree.{sexpr_list};
-ghost use Rattle.isle_layout.specs.SExprInnermost.{innermost, names_text};
+ghost use Rattle.isle_layout.specs.Inside.SExprInnermost.{innermost, names_text};
 ghost use Rattle.isle_layout.specs.Layout.{one_line, one_line_length, stays_on_one_line, layout, layouts, broken, line, fits_of, fits_of_all, within};
 ghost use Rattle.isle_layout.specs.DefSpellings.{OnFault, def_has_macro_arg};
 ghost use Rattle.isle_layout.specs.Prints.{print_of};

@@ -1,3 +1,4 @@
+//! S-expressions, as which trees are printed: atoms, bindings and lists.
 ghost use Rattle.std.specs.Prelude.{◌≡◌, IfOk};
 ghost use Rattle.isle_layout.specs.SExprShape.{sexpr_of, sexprs_of};
 
@@ -40,7 +41,7 @@ impl Drop for BoxedSExpr {
 
 impl Model for BoxedSExpr {
     ghost use Rattle.isle_layout.specs.SExprTree.{SExprTree, sexpr_height};
-    ghost use Rattle.isle_layout.specs.SExprCode.{sexpr_tree_code};
+    ghost use Rattle.isle_layout.specs.Inside.SExprCode.{sexpr_tree_code};
 
     ghost Value = { SExprTree };
 
@@ -85,7 +86,7 @@ pub struct SExprs {
 
 impl Model for SExprs {
     ghost use Rattle.isle_layout.specs.SExprTree.{SExprTrees, sexpr_heights};
-    ghost use Rattle.isle_layout.specs.SExprCode.{sexpr_trees_code};
+    ghost use Rattle.isle_layout.specs.Inside.SExprCode.{sexpr_trees_code};
 
     ghost Value = { SExprTrees };
 

@@ -1,3 +1,4 @@
+//! S-expressions made of trees, unless a numbered argument of a template stands in them.
 ghost use Rattle.std.specs.Prelude.{◌≡◌, Bool, Some, codes, true, false, IfOk, IfErr};
 ghost use Rattle.isle_layout.specs.SExprTree.{SExprTree};
 ghost use Rattle.isle_layout.specs.SExprShape.{sexpr_of};

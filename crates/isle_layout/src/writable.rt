@@ -1,3 +1,4 @@
+//! Writable definitions: those whose names, numbers, parts and nesting let them be printed and read back.
 ghost use Rattle.std.specs.Prelude.{◌≡◌, ◌||◌, not};
 ghost use Rattle.std.specs.List.{list_all};
 ghost use Rattle.isle_syntax.specs.Trees.PatternShape.{pattern_of, patterns_of};

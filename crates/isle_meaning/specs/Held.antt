@@ -52,17 +52,17 @@ constructed false fails = fails
 constructed true (gives v) = gives (held_some (held_value v))
 constructed false (gives v) = gives (held_value v)
 
-abbrev pub several : Got (List Values) → Got Held
-several g = ask (λ l. gives (held_answers l)) g
+abbrev pub several_of : Got (List Values) → Got Held
+several_of g = ask (λ l. gives (held_answers l)) g
 
 -- what an extractor's call holds
 abbrev pub extract_held : TermFacts → Completion → ℕ → Value → Got Held
-extract_held facts c t v = if facts.multi t then several (c.extracts t v) else extracted (facts.infallible t) (c.extract t v)
+extract_held facts c t v = if facts.multi t then several_of (c.extracts t v) else extracted (facts.infallible t) (c.extract t v)
 
 -- what a constructor's call holds
 abbrev pub construct_held : TermFacts → Completion → List (Option Value) → ℕ → ℕ → Values → Got Held
 construct_held facts c done t i vs =
-    if facts.multi t then several (c.constructs t vs) else constructed (facts.partial t) (answer_of c done t i vs)
+    if facts.multi t then several_of (c.constructs t vs) else constructed (facts.partial t) (answer_of c done t i vs)
 
 abbrev pub field_if : Bool → Values → ℕ → Got Held
 field_if false vs i = fails

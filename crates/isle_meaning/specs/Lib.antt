@@ -32,8 +32,6 @@ pub mod Sorts
 pub mod Scopes
 -- Rules typed by what is said of their terms.
 pub mod Typing
--- The types of a rule's variables.
-pub mod Variables
 -- Rules as elaboration makes them, whatever terms they ask.
 pub mod Elaborated
 -- Sites as numbers of a table.
@@ -66,9 +64,9 @@ pub mod PlainBeginnings
 pub mod Machine
 -- Which terms with rules a call comes to.
 pub mod Reaching
--- Written-out expressions that are typed.
-pub mod TypedWords
 -- What is said of sites: their parts, kinds and calls, and what they hold.
 pub mod AboutSites
 -- The laws that join them.
 pub mod Laws
+-- What no public contract cites.
+pub mod Inside

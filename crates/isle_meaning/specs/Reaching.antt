@@ -1,7 +1,7 @@
 -- Which terms with rules a call of a term comes to.
 use Rattle.std.specs.Prelude.{◌≡◌, ◌⊎◌, ℕ, true, List, [], ◌∷◌}
 use Rattle.isle_terms.specs.TypedRules.{TypedExpr, built_var, built_bool, built_int, built_prim, built_term, built_let, TypedExprs}
-use Rattle.isle_terms.specs.TypedRules.{no_built, more_built, TypedBindings, no_bindings, more_bindings, TypedIfLet, TypedRule}
+use Rattle.isle_terms.specs.TypedRules.{no_built, more_built, TypedBindings, no_typed_bindings, more_typed_bindings, TypedIfLet, TypedRule}
 use Rattle.isle_meaning.specs.Facts.{TermFacts, declared_shape}
 use Rattle.isle_meaning.specs.Worlds.{CheckedProgram}
 use Rattle.isle_meaning.specs.Calls.{IsRuleAt}
@@ -22,8 +22,8 @@ abbrev mutual
   IsCalledInOne facts (more_built e es) u = IsCalledIn facts e u ⊎ IsCalledInOne facts es u
 
   pub IsCalledInBindings : TermFacts → TypedBindings → ℕ → Type 0
-  IsCalledInBindings facts no_bindings u = ⊥
-  IsCalledInBindings facts (more_bindings k ty e bs) u = IsCalledIn facts e u ⊎ IsCalledInBindings facts bs u
+  IsCalledInBindings facts no_typed_bindings u = ⊥
+  IsCalledInBindings facts (more_typed_bindings k ty e bs) u = IsCalledIn facts e u ⊎ IsCalledInBindings facts bs u
 
 -- so does the expression of an if-let
 abbrev pub IsCalledInIfLets : TermFacts → List TypedIfLet → ℕ → Type 0

@@ -3,8 +3,8 @@ use Rattle.std.specs.Prelude.{◌≡◌, ◌⊎◌, ℕ, suc, false, List, [], �
 use Rattle.isle_meaning.specs.Values.{Values}
 use Rattle.isle_terms.specs.TypedRules.{TypedPattern, typed_bind, typed_var, typed_bool, typed_int, typed_prim, typed_term, typed_wildcard}
 use Rattle.isle_terms.specs.TypedRules.{typed_and, TypedPatterns, no_typed, more_typed, TypedExpr, built_var, built_bool, built_int}
-use Rattle.isle_terms.specs.TypedRules.{built_prim, built_term, built_let, TypedExprs, no_built, more_built, TypedBindings, no_bindings}
-use Rattle.isle_terms.specs.TypedRules.{more_bindings, TypedIfLet, TypedRule}
+use Rattle.isle_terms.specs.TypedRules.{built_prim, built_term, built_let, TypedExprs, no_built, more_built, TypedBindings, no_typed_bindings}
+use Rattle.isle_terms.specs.TypedRules.{more_typed_bindings, TypedIfLet, TypedRule}
 use Rattle.isle_meaning.specs.Facts.{TermShape, variant_shape, struct_shape, declared_shape, TermFacts, patterns}
 use Rattle.isle_meaning.specs.Words.{Word, var_word, bool_word, int_word, prim_word, variant_word, struct_word, call_word, Words}
 use Rattle.isle_meaning.specs.Words.{no_words, more_words}
@@ -77,8 +77,8 @@ IsSingle facts declared_shape t = facts.multi t ≡ false
 
 -- the variables inside a `let`
 abbrev pub let_scope : TypedBindings → (ℕ → Type 0) → ℕ → Type 0
-let_scope no_bindings S = S
-let_scope (more_bindings k ty e bs) S = let_scope bs (λ j. (j ≡ k) ⊎ S j)
+let_scope no_typed_bindings S = S
+let_scope (more_typed_bindings k ty e bs) S = let_scope bs (λ j. (j ≡ k) ⊎ S j)
 
 -- an expression reads only these variables and those that a `let` around them binds, and calls no `multi` term
 abbrev mutual
@@ -95,8 +95,8 @@ abbrev mutual
   ReadExprs facts (more_built e es) S = ReadsExpr facts e S × ReadExprs facts es S
 
   pub ReadsLets : TermFacts → TypedBindings → (ℕ → Type 0) → Type 0
-  ReadsLets facts no_bindings S = Unit {0}
-  ReadsLets facts (more_bindings k ty e bs) S = ReadsExpr facts e S × ReadsLets facts bs (λ j. (j ≡ k) ⊎ S j)
+  ReadsLets facts no_typed_bindings S = Unit {0}
+  ReadsLets facts (more_typed_bindings k ty e bs) S = ReadsExpr facts e S × ReadsLets facts bs (λ j. (j ≡ k) ⊎ S j)
 
 abbrev pub IfLetsAreWellScoped : TermFacts → List TypedIfLet → (ℕ → Type 0) → Type 0
 IfLetsAreWellScoped facts [] S = Unit {0}

@@ -1,7 +1,7 @@
 -- What typing gives of a checked program's rules, for the terms that are run.
 use Rattle.std.specs.Prelude.{◌≡◌, ◌⊎◌, ℕ, true, List, [], ◌∷◌, Some, slice_get}
 use Rattle.isle_terms.specs.TypedRules.{TypedExpr, built_var, built_bool, built_int, built_prim, built_term, built_let, TypedExprs}
-use Rattle.isle_terms.specs.TypedRules.{no_built, more_built, TypedBindings, no_bindings, more_bindings, TypedIfLet, TypedRule}
+use Rattle.isle_terms.specs.TypedRules.{no_built, more_built, TypedBindings, no_typed_bindings, more_typed_bindings, TypedIfLet, TypedRule}
 use Rattle.isle_meaning.specs.Facts.{TermShape, variant_shape, struct_shape}
 use Rattle.isle_meaning.specs.Values.{bool_value, int_value, constant_value}
 use Rattle.isle_meaning.specs.GroundValues.{IsValueOf}
@@ -25,8 +25,8 @@ abbrev mutual
   AreSoundExprs p R (more_built e es) = IsSoundExpr p R e × AreSoundExprs p R es
 
   pub AreSoundBindings : CheckedProgram → (ℕ → Type 0) → TypedBindings → Type 0
-  AreSoundBindings p R no_bindings = Unit {0}
-  AreSoundBindings p R (more_bindings k ty e bs) = IsSoundExpr p R e × AreSoundBindings p R bs
+  AreSoundBindings p R no_typed_bindings = Unit {0}
+  AreSoundBindings p R (more_typed_bindings k ty e bs) = IsSoundExpr p R e × AreSoundBindings p R bs
 
 -- so are those of if-lets
 abbrev pub AreSoundIfLets : CheckedProgram → (ℕ → Type 0) → List TypedIfLet → Type 0

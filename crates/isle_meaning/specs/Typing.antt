@@ -2,8 +2,8 @@
 use Rattle.std.specs.Prelude.{◌≡◌, ℕ, List, [], ◌∷◌}
 use Rattle.isle_terms.specs.TypedRules.{TypedPattern, typed_bind, typed_var, typed_bool, typed_int, typed_prim, typed_term, typed_wildcard}
 use Rattle.isle_terms.specs.TypedRules.{typed_and, TypedPatterns, no_typed, more_typed, TypedExpr, built_var, built_bool, built_int}
-use Rattle.isle_terms.specs.TypedRules.{built_prim, built_term, built_let, TypedExprs, no_built, more_built, TypedBindings, no_bindings}
-use Rattle.isle_terms.specs.TypedRules.{more_bindings, TypedIfLet, TypedRule}
+use Rattle.isle_terms.specs.TypedRules.{built_prim, built_term, built_let, TypedExprs, no_built, more_built, TypedBindings, no_typed_bindings}
+use Rattle.isle_terms.specs.TypedRules.{more_typed_bindings, TypedIfLet, TypedRule}
 use Rattle.isle_meaning.specs.Facts.{TermShape, variant_shape, struct_shape, declared_shape, TermFacts}
 
 -- the types of a term's parts
@@ -52,8 +52,8 @@ abbrev mutual
   ExprsTyped facts G (more_built e es) (u ∷ us) = ExprTyped facts G e u × ExprsTyped facts G es us
 
   pub BindingsTyped : TermFacts → (ℕ → ℕ) → TypedBindings → Type 0
-  BindingsTyped facts G no_bindings = Unit {0}
-  BindingsTyped facts G (more_bindings k ty e bs) = (G k ≡ ty) × ExprTyped facts G e ty × BindingsTyped facts G bs
+  BindingsTyped facts G no_typed_bindings = Unit {0}
+  BindingsTyped facts G (more_typed_bindings k ty e bs) = (G k ≡ ty) × ExprTyped facts G e ty × BindingsTyped facts G bs
 
 abbrev pub IfLetsTyped : TermFacts → (ℕ → ℕ) → List TypedIfLet → Type 0
 IfLetsTyped facts G [] = Unit {0}

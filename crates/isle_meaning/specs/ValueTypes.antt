@@ -5,7 +5,7 @@ use Rattle.isle_types.specs.declared.types.IntType.{IntType}
 use Rattle.isle_types.specs.declared.types.IntType.TheVariants.{U128}
 use Rattle.isle_types.specs.IntTypes.{HasNumber}
 use Rattle.isle_meaning.specs.Facts.{TermShape}
-use Rattle.isle_terms.specs.Values.{ValueTree, ValueTrees, bool_value, int_value, big_value, const_value, opaque_value, data_value, no_values, more_values}
+use Rattle.isle_terms.specs.Values.{ValueTree, ValueTrees, bool_tree, int_tree, big_tree, const_tree, opaque_tree, data_tree, no_trees, more_trees}
 
 -- what kind of values a type has
 pub data TypeKind : Type 0 where
@@ -46,15 +46,15 @@ HasConstants no_kind = ⊥
 -- A value is of a type.
 abbrev mutual
   pub IsOfType : ValueFacts → ValueTree → ℕ → Type 0
-  IsOfType facts (bool_value b) ty = facts.kind ty ≡ truth_kind
-  IsOfType facts (int_value n) ty = IsIntOf n (facts.kind ty)
-  IsOfType facts (big_value n) ty = IsBigOf n (facts.kind ty)
-  IsOfType facts (const_value name) ty = (facts.constant name ≡ Some ty) × HasConstants (facts.kind ty)
-  IsOfType facts (opaque_value n) ty = (facts.kind ty ≡ primitive_kind) × (n < 2 ^ 64)
-  IsOfType facts (data_value name fields) ty = (types : List ℕ) × (facts.data_named name ≡ Some (ty, types)) × AreOfTypes facts fields types
+  IsOfType facts (bool_tree b) ty = facts.kind ty ≡ truth_kind
+  IsOfType facts (int_tree n) ty = IsIntOf n (facts.kind ty)
+  IsOfType facts (big_tree n) ty = IsBigOf n (facts.kind ty)
+  IsOfType facts (const_tree name) ty = (facts.constant name ≡ Some ty) × HasConstants (facts.kind ty)
+  IsOfType facts (opaque_tree n) ty = (facts.kind ty ≡ primitive_kind) × (n < 2 ^ 64)
+  IsOfType facts (data_tree name fields) ty = (types : List ℕ) × (facts.data_named name ≡ Some (ty, types)) × AreOfTypes facts fields types
 
   pub AreOfTypes : ValueFacts → ValueTrees → List ℕ → Type 0
-  AreOfTypes facts no_values [] = Unit {0}
-  AreOfTypes facts no_values (ty ∷ types) = ⊥
-  AreOfTypes facts (more_values v vs) [] = ⊥
-  AreOfTypes facts (more_values v vs) (ty ∷ types) = IsOfType facts v ty × AreOfTypes facts vs types
+  AreOfTypes facts no_trees [] = Unit {0}
+  AreOfTypes facts no_trees (ty ∷ types) = ⊥
+  AreOfTypes facts (more_trees v vs) [] = ⊥
+  AreOfTypes facts (more_trees v vs) (ty ∷ types) = IsOfType facts v ty × AreOfTypes facts vs types

@@ -11,7 +11,7 @@ use Rattle.isle_types.specs.TypeFaults.{AreFaultsOf}
 use Rattle.isle_terms.specs.Definitions.{HaveTerms, TermEnvironment, MakesTerms, declared_by}
 use Rattle.isle_terms.specs.TypedRules.{TypedRule}
 use Rattle.isle_terms.specs.TypingFaults.{AreTypingFaults}
-use Rattle.isle_terms.specs.Collecting.Environments.{ShowsTerms}
+use Rattle.isle_terms.specs.TermEnvs.{ShowsTerms}
 use Rattle.isle_meaning.specs.Facts.{TermFacts, facts_of}
 use Rattle.isle_blocks.specs.Building.Naming.{HaveFewArguments}
 use Rattle.isle_blocks.specs.DefinedSets.{AreSetsOf}

@@ -12,7 +12,8 @@ use Rattle.isle_blocks.specs.RuleSets.{RulesOverSites}
 use Rattle.isle_blocks.specs.Trees.Shown.{BlockShown}
 use Rattle.isle_run.specs.declared.program.Program.{Program}
 use Rattle.isle_run.specs.Facts.Reach.{is_root}
-use Rattle.isle_run.specs.Tables.{term_called, value_facts_by}
+use Rattle.isle_run.specs.Tables.{term_called, value_facts_by, IsDataNamed}
+
 pub use Rattle.isle_run.specs.Tables.{kind_of_type, data_made, number_of, types_of_term, data_of_term, shape_made, shape_of_term}
 
 -- its types and names
@@ -63,3 +64,7 @@ value_facts program = value_facts_by (types_of program) (terms_of program)
 -- the types of a term's arguments; none where there is no such term
 abbrev pub types_taken : Program → TermId → List ℕ
 types_taken program term = map number_of (types_of_arguments (slice_get program.termenv.terms term.0))
+
+-- data is named by its type
+abbrev pub HasNamedData : Program → Type 0
+HasNamedData program = IsDataNamed (types_of program) (terms_of program)

@@ -1,5 +1,5 @@
 -- What tables of types and terms say of values, rules and names, before a program is made of them.
-use Rattle.std.specs.Prelude.{unwrap_or, ℕ, List, [], map, Option, Some, None, slice_get}
+use Rattle.std.specs.Prelude.{unwrap_or, ℕ, List, [], map, Option, Some, None, slice_get, ◌≡◌}
 use Rattle.std.specs.Option.{option_map, option_and_then}
 use Rattle.isle_types.specs.declared.ids.TermId.{TermId}
 use Rattle.isle_types.specs.declared.ids.TypeId.{TypeId}
@@ -22,7 +22,11 @@ use Rattle.isle_meaning.specs.ValueTypes.{TypeKind, truth_kind, integer_kind, pr
 use Rattle.isle_meaning.specs.Worlds.{CheckedProgram}
 use Rattle.isle_run.specs.Laws.Terms.{term_facts}
 use Rattle.isle_run.specs.Facts.Reach.{is_root}
-use Rattle.isle_run.specs.Stores.Values.{variant_at}
+use Rattle.isle_types.specs.declared.ids.VariantId.{VariantId}
+
+-- the variant of a number
+abbrev pub variant_at : ℕ → VariantId
+variant_at number = record { 0 = number }
 
 -- what kind of values a type has
 abbrev pub kind_of_type : Option KnownType → TypeKind
@@ -104,3 +108,10 @@ variant_name env ty k = fullname_of env (variant_of env (type_at ty) (variant_at
 -- the name of a type; empty where there is none
 abbrev pub struct_name : TypeTables → ℕ → List ℕ
 struct_name env ty = unwrap_or (option_and_then (type_name env) (slice_get env.types ty)) []
+
+-- data is named by its type
+pub record IsDataNamed (tyenv : TypeTables) (env : TermTables) : Type 0 where
+  pub variants : (name : List ℕ) (k ty : ℕ) (types : List ℕ) → (value_facts_by tyenv env).shape_named name ≡ Some (variant_shape k)
+      → (value_facts_by tyenv env).data_named name ≡ Some (ty, types) → variant_name tyenv ty k ≡ name
+  pub structs : (name : List ℕ) (ty : ℕ) (types : List ℕ) → (value_facts_by tyenv env).shape_named name ≡ Some struct_shape
+      → (value_facts_by tyenv env).data_named name ≡ Some (ty, types) → struct_name tyenv ty ≡ name

@@ -3,18 +3,23 @@ use Rattle.std.specs.Prelude.{◌≡◌, ◌≤◌, ℕ, true, List, []}
 use Rattle.isle_syntax.specs.Positions.Files.{SourceFile}
 use Rattle.isle_meaning.specs.Machine.Asking.{IsAskedByMachine}
 use Rattle.isle_meaning.specs.Machine.Beginnings.{MachineBegins}
-use Rattle.isle_meaning.specs.Machine.Runs.{MachineRun}
+use Rattle.isle_meaning.specs.Machine.Runs.{MachineRun, TermTree}
 use Rattle.isle_meaning.specs.Outcomes.{Outcome, IsMeant}
 use Rattle.isle_meaning.specs.Values.{Value, Values}
 use Rattle.isle_meaning.specs.Worlds.{Answers, Event}
 use Rattle.isle_run.specs.declared.calls.answer.Called.{Called}
 use Rattle.isle_run.specs.declared.program.Program.{Program}
-use Rattle.isle_run.specs.Blocks.Frames.{term_trees}
 use Rattle.isle_run.specs.Calls.Answers.{TellsOutcome}
 use Rattle.isle_run.specs.Compiled.{IsProgramOf}
 use Rattle.isle_run.specs.Facts.Steps.{steps_in}
 use Rattle.isle_run.specs.Meanings.{checked}
-use Rattle.isle_run.specs.Programs.{rule_sets_of}
+use Rattle.isle_run.specs.Programs.{rule_sets_of, types_of, set_trees_of}
+use Rattle.isle_blocks.specs.declared.constraint.Constraint.{Constraint}
+use Rattle.isle_run.specs.Trees.{term_trees_by}
+
+-- the trees of a program's terms
+abbrev pub term_trees : Program → ℕ → TermTree Constraint
+term_trees program = term_trees_by (types_of program) (rule_sets_of program) (set_trees_of program)
 
 -- a program is that of some files
 pub record IsCompiled (program : Program) : Type 0 where

@@ -9,8 +9,6 @@ pub mod Rules
 pub mod Steps
 -- Whole rule sets with their trees.
 pub mod Sets
--- What is still to be printed of a tree.
-pub mod Parts
 -- Texts as labels of a graph.
 pub mod DotLabels
 -- The types of sites that tests of variants and structs tell.
@@ -21,7 +19,5 @@ pub mod DotFields
 pub mod DotSites
 -- Nodes and edges of a tree.
 pub mod DotSteps
--- What is still to be drawn of a tree.
-pub mod DotParts
 -- Whole graphs.
 pub mod DotSets

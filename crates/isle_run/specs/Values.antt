@@ -1,15 +1,11 @@
 -- Values laid out node by node.
 pub mod Nodes
--- Values of a type, node by node.
-pub mod TypedNodes
 -- A value as something that a proof tells apart.
 pub mod Code
 -- The tokens that spell values.
 pub mod Tokens
 -- Values as they are read at a type.
 pub mod Settled
--- Values that are settled node by node.
-pub mod SettledNodes
 -- In which order the text of a value is checked.
 pub mod Faults
 -- The values that a program can hold.
@@ -18,7 +14,5 @@ pub mod Held
 pub mod Text
 -- The tokens of a text of its own.
 pub mod TextTokens
--- A value that is read token by token.
-pub mod Reading
 -- Lists of tokens whose parentheses match.
 pub mod Lists

@@ -8,5 +8,3 @@ pub mod Externals
 pub mod Tables
 -- The texts of table worlds, and what is wrong with others.
 pub mod Texts
--- The steps in which a table world's text is read.
-pub mod Reading

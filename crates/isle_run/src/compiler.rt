@@ -1,3 +1,4 @@
+//! The compiler: from the texts of files to a program, or to the faults of the first layer that has any.
 ghost use Rattle.std.specs.Prelude.{◌≡◌, ◌<◌, ◌++◌, [], ◌∷◌, List, All, IfOk, IfErr, IfSome, OnOk, length, slice_get};
 ghost use Rattle.isle_syntax.specs.Positions.Files.{SourceFile};
 ghost use Rattle.isle_syntax.specs.Positions.Printable.{IsPrintablePos};
@@ -11,7 +12,7 @@ ghost use Rattle.isle_terms.specs.TypedTrees.{TypedRuleAt};
 ghost use Rattle.isle_blocks.specs.RuleSets.{RulesOverSites};
 ghost use Rattle.isle_blocks.specs.Trees.Promises.{IsCheckedSet};
 ghost use Rattle.isle_run.specs.Trees.{AreSetTrees};
-ghost use Rattle.isle_run.specs.ShownFiles.{ShowFiles};
+ghost use Rattle.isle_run.specs.Inside.ShownFiles.{ShowFiles};
 ghost use Rattle.isle_run.specs.Compiled.{AreSpelt, AreAccepted, IsProgramOf, IsFirstFault, AreFaults, IfFaults};
 
 use crate::program::Program;

@@ -2,7 +2,7 @@
 ghost use Rattle.std.specs.Prelude.{◌≡◌, ◌<◌, All, IfOk, length, map};
 ghost use Rattle.isle_types.specs.declared.ids.TermId.{TermId as TermNumber};
 ghost use Rattle.isle_blocks.specs.RuleSets.{RulesOverSites};
-ghost use Rattle.isle_blocks.specs.Building.Contents.{Marked};
+ghost use Rattle.isle_blocks.specs.Inside.Building.Contents.{Marked};
 ghost use Rattle.isle_blocks.specs.DefinedSets.{ListsNumbers};
 ghost use Rattle.isle_run.specs.Facts.Asked.{term_number, AreRoots, AreNumbersOf};
 

@@ -1,9 +1,10 @@
+//! A compiled program: its types, terms, rules, rule sets and trees, and what it tells of its terms.
 ghost use Rattle.std.specs.Prelude.{◌≡◌, ◌<◌, [], ℕ, All, IfOk, OnOk, Some, length, slice_get};
 ghost use Rattle.isle_types.specs.TypeTables.{TypeTables};
 ghost use Rattle.isle_terms.specs.declared.rules.Rule.{Rule as KnownRule};
-ghost use Rattle.isle_run.specs.Plain.LaidOut.Rules.{AreListedInOrder, AreRulesLaidOut, AreByPriority, ListsRule};
+ghost use Rattle.isle_run.specs.Inside.Plain.LaidOut.Rules.{AreListedInOrder, AreRulesLaidOut, AreByPriority, ListsRule};
 ghost use Rattle.isle_run.specs.Facts.Asked.{AreNumbersOf};
-ghost use Rattle.isle_run.specs.SoundTables.{AreSound};
+ghost use Rattle.isle_run.specs.Inside.SoundTables.{AreSound};
 ghost use Rattle.isle_types.specs.declared.ids.TermId.{TermId as TermNumber};
 ghost use Rattle.isle_blocks.specs.RuleSets.{RulesOverSites};
 
@@ -48,7 +49,7 @@ impl Program {
     ghost use Rattle.isle_run.specs.Trees.{set_and_tree};
     ghost use Rattle.std.specs.Option.{option_map};
     ghost use Rattle.isle_meaning.specs.PlainRuns.{AreTriedInOrder};
-    ghost use Rattle.isle_run.specs.Plain.Laid.{IsLaidRule};
+    ghost use Rattle.isle_run.specs.Inside.Plain.Laid.{IsLaidRule};
     ghost use Rattle.isle_meaning.specs.Facts.{never_fails};
     ghost use Rattle.isle_terms.specs.Shown.ShownTerms.{form_shown};
 

@@ -1,3 +1,4 @@
+//! Queries: the call of a term that a text spells, its arguments read at their types, or why the text is no call.
 ghost use Rattle.std.specs.Prelude.{◌≡◌, ◌↔◌, ◌<◌, ℕ, List, [], IfOk, IfErr, IfSome, IfNone, IsTrue, map};
 ghost use Rattle.isle_terms.specs.Values.{ValueTrees, value_list};
 ghost use Rattle.isle_meaning.specs.ValueTypes.{AreOfTypes};
@@ -174,7 +175,7 @@ pub(crate) fn settle_values(
     if values.len() != types.len() {
         return Ok(None);
     }
-    let mut settled = Vec::new(alloc);
+    let mut settled = Vec::with_capacity(alloc, types.len())?;
     for value in values {
         let Some(value) = value.settle(alloc, program, types[settled.len()])? else {
             return Ok(None);

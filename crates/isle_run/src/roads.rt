@@ -5,10 +5,10 @@ ghost use Rattle.isle_meaning.specs.Values.{Value, Values};
 ghost use Rattle.isle_meaning.specs.Worlds.{Event};
 ghost use Rattle.isle_run.specs.declared.calls.store.Stored.{Stored};
 ghost use Rattle.isle_run.specs.declared.program.Program.{Program as CompiledProgram};
-ghost use Rattle.isle_run.specs.Calls.Open.{CallOf};
-ghost use Rattle.isle_run.specs.Calls.States.{host, state, Makes, IsOpenIn, HasGoneOn};
-ghost use Rattle.isle_run.specs.Calls.Ways.{Way, Below, HasBegun, IsReady, IsWay, TurnsTo};
-ghost use Rattle.isle_run.specs.Stores.Values.{Stands, StandEach};
+ghost use Rattle.isle_run.specs.Inside.Calls.Open.{CallOf};
+ghost use Rattle.isle_run.specs.Inside.Calls.States.{host, state, Makes, IsOpenIn, HasGoneOn};
+ghost use Rattle.isle_run.specs.Inside.Calls.Ways.{Way, Below, HasBegun, IsReady, IsWay, TurnsTo};
+ghost use Rattle.isle_run.specs.Inside.Stores.Values.{Stands, StandEach};
 
 pub mod blocks;
 pub mod plain;

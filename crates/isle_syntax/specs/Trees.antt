@@ -13,10 +13,6 @@ pub mod ExprShape
 pub mod ItemShape
 -- What is read off names and patterns.
 pub mod TreeCalls
--- The chain of names that a pattern is bound to.
-pub mod Chain
--- What a chain of bindings `x @ y @ ..` binds, and the names that it binds to it.
-pub mod Innermost
 -- Templates of patterns, and what a template stands for at given patterns.
 pub mod Templates
 -- Patterns put in for names, all at once, and what a template then is.

@@ -1,3 +1,4 @@
+//! Trees of definitions, and of the types, patterns, expressions and kept items in them.
 ghost use Rattle.std.specs.Prelude.{◌≡◌, IfOk};
 ghost use Rattle.std.specs.Option.{option_copied};
 ghost use Rattle.isle_syntax.specs.Trees.PatternTree.{pattern_pos};

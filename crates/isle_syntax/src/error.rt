@@ -1,3 +1,4 @@
+//! Errors, the spans where their faults lie, and reports of errors with their source files.
 ghost use Rattle.std.specs.Prelude.{◌≡◌, ◌<◌, ◌+◌};
 
 mod builder;

@@ -1,6 +1,7 @@
+//! Gaps between tokens, which are white space and comments, and what a text begins with.
 ghost use Rattle.std.specs.Prelude.{◌≡◌, ◌≤◌, ◌-◌, ◌<◌, ◌==◌, [], ◌∷◌, length, drop, slice_index, not, MatchOption, option_map};
 ghost use Rattle.std.specs.Str.{IsUtf8};
-ghost use Rattle.isle_syntax.specs.Tokens.Ends.{IsEnd};
+ghost use Rattle.isle_syntax.specs.Inside.Tokens.Ends.{IsEnd};
 ghost use Rattle.isle_syntax.specs.Tokens.Names.{is_space, is_digit};
 ghost use Rattle.isle_syntax.specs.Tokens.Gaps.{begins_semicolon, lead_of_parenthesis, lead_of_token, lead_of, after_first, after_run, in_line};
 ghost use Rattle.isle_syntax.specs.Tokens.Gaps.{mark_of};

@@ -1,9 +1,10 @@
+//! Kinds of tokens, words of the language and integer literals, by which the parser decides.
 ghost use Rattle.std.specs.Prelude.{◌≡◌, ◌∷◌, [], codes, cond};
 ghost use Rattle.isle_syntax.specs.declared.kind.Keyword.TheVariants as keyword;
 ghost use Rattle.isle_syntax.specs.Tokens.Names.{is_const, is_word};
 ghost use Rattle.isle_syntax.specs.Tokens.PlacedTokens.{placed};
 ghost use Rattle.isle_syntax.specs.Grammar.TreeGrammar.{bits_of, is_large};
-ghost use Rattle.isle_syntax.specs.Reading.KindOf.{symbol_kind, kind_of, keyword_of, keyword_in, literal_of};
+ghost use Rattle.isle_syntax.specs.Inside.Reading.KindOf.{symbol_kind, kind_of, keyword_of, keyword_in, literal_of};
 ghost use Rattle.isle_syntax.specs.Grammar.DefGrammar.{is_kept_word};
 
 use crate::gap::after_char;
@@ -89,7 +90,7 @@ pub fn is_const(text: &str) -> bool
 }
 
 /// The first kind that a symbol is of.
-#[tactic(auto, unfolding(crate::specs::Reading::KindOf::symbol_kind))]
+#[tactic(auto, unfolding(crate::specs::Inside::Reading::KindOf::symbol_kind))]
 pub fn symbol_kind(text: &str) -> Kind
     ensures { result ≡ symbol_kind text.now }
 {
@@ -136,7 +137,7 @@ pub fn is_kept_word(text: &str) -> bool
 }
 
 /// The word of the language that a symbol is.
-#[tactic(auto, unfolding(crate::specs::Reading::KindOf::keyword_of))]
+#[tactic(auto, unfolding(crate::specs::Inside::Reading::KindOf::keyword_of))]
 pub fn keyword_of(text: &str) -> Keyword
     ensures { result ≡ keyword_of text.now }
 {

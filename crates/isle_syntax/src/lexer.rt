@@ -1,3 +1,4 @@
+//! The lexer, which gives the tokens of a text one after another with their positions.
 ghost use Rattle.std.specs.Prelude.{◌≡◌, ◌≤◌, ◌↔◌, ◌∷◌, IsTrue, IsSome, IfSome, IfOk, IfErr, MatchOption, option_map, drop, length, List, ℕ, Bool};
 ghost use Rattle.isle_syntax.specs.Tokens.PlacedTokens.{Placed, placed, IsInt, IsSymbol};
 ghost use Rattle.isle_syntax.specs.Tokens.RemainingTokens.{failed, starved, remaining_pos};

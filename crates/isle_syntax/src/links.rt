@@ -1,3 +1,4 @@
+//! Links of trees to the values below them: boxes with memory of their own, and values that several owners share.
 ghost use Rattle.std.specs.Prelude.{◌≡◌, IfOk};
 
 use std::alloc::{AllocError, Global};

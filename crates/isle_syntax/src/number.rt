@@ -1,3 +1,4 @@
+//! Integers at the front of a text: sign, radix and digits, and the token that they make.
 ghost use Rattle.std.specs.Prelude.{◌≡◌, ◌≤◌, ◌<◌, ◌^◌, ◌++◌, length, cond, ◌==◌, ◌+◌, ◌*◌, SomeIff, MatchOption, None, Some};
 ghost use Rattle.std.specs.Char.{digit_value};
 ghost use Rattle.isle_syntax.specs.Tokens.Gaps.{after_run, run_of};

@@ -1,3 +1,4 @@
+//! The parser, which gives the definitions that a text spells, with or without their positions.
 ghost use Rattle.std.specs.Prelude.{◌≡◌, All, IfOk, IfErr};
 ghost use Rattle.isle_syntax.specs.Positions.Printable.{IsIn};
 ghost use Rattle.isle_syntax.specs.Tokens.LexerCalls.{IsRemaining};

@@ -1,3 +1,4 @@
+//! Refusals of calls that take memory: a fault of what they are given, or memory that ran out.
 use std::alloc::{AllocError, AllocFailed};
 
 /// Why a call that takes memory refused: a fault of its input, or running out of memory.

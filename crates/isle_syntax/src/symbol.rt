@@ -1,3 +1,4 @@
+//! Symbols at the front of a text, and which texts are symbols, identifiers, or names of variables and constants.
 ghost use Rattle.std.specs.Prelude.{◌≡◌, ◌==◌, not};
 ghost use Rattle.std.specs.List.{list_all};
 ghost use Rattle.std.specs.Str.{chars};

@@ -1,3 +1,4 @@
+//! Texts and lists inside trees and diagnostics, seen as their bytes and items.
 ghost use Rattle.std.specs.Prelude.{◌≡◌, [], IfOk, string_bytes};
 
 use std::alloc::{AllocError, Global};

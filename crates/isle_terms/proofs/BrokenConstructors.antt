@@ -17,7 +17,7 @@ use Rattle.isle_types.specs.Environment.{Environment, NamedType, NamedVariant, T
 use Rattle.isle_types.proofs.NamePlaces.{place_found}
 use Rattle.isle_types.proofs.Zipped.{zipped_at, all_at, no_duplicate, mapped_at}
 use Rattle.isle_terms.specs.TypedRules.{TypedRule}
-use Rattle.isle_terms.specs.Signatures.{Flags, Constructor, Extractor, variant_form, struct_form, declared_form, TermForm, Signature}
+use Rattle.isle_terms.specs.Signatures.{Flags, Constructor, ExtractorForm, variant_form, struct_form, declared_form, TermForm, Signature}
 use Rattle.isle_terms.specs.Elaboration.{ElaboratesRule}
 use Rattle.isle_terms.specs.Definitions.{IsAmong, declarations, rules_in, external_constructors, external_constructor_names, root_name}
 use Rattle.isle_terms.specs.Definitions.{IsDeclaration}
@@ -71,7 +71,7 @@ unzipped_at R (x ∷ xs) (z ∷ ys) each zero y is = (x, refl, subst (R x) (same
 unzipped_at R (x ∷ xs) (z ∷ ys) each (suc place) y is = unzipped_at R xs ys each.1 place y is
 
 -- a term with flags is a declaration's
-form_is_declared : (form : TermForm) (flags : Flags) (constructor : Option Constructor) (extractor : Option Extractor)
+form_is_declared : (form : TermForm) (flags : Flags) (constructor : Option Constructor) (extractor : Option ExtractorForm)
     → form ≡ declared_form flags constructor extractor
     → IsNotDeclared form → ⊥
 form_is_declared form flags constructor extractor is none = subst IsNotDeclared is none

@@ -7,7 +7,7 @@ use Rattle.isle_syntax.specs.declared.ast.Def.{Def}
 use Rattle.isle_syntax.specs.declared.ast.Def.TheVariants.{Extractor}
 use Rattle.isle_syntax.specs.Trees.MacroArgs.{HasNoMacroArg, HasNoMacroArgs}
 use Rattle.isle_terms.specs.Definitions.{extractors_in}
-use Rattle.isle_terms.specs.Collecting.DeclaredTerms.{HasPlainTemplates}
+use Rattle.isle_terms.specs.Definitions.{HasPlainTemplates}
 
 -- definitions without numbered arguments of templates have plain templates
 pub plain_templates : (defs : List Def) → All HasNoMacroArgs defs → HasPlainTemplates (extractors_in defs)

@@ -8,7 +8,7 @@ use Rattle.isle_syntax.specs.Trees.PatternTree.{PatternTree, PatternTrees, patte
 use Rattle.isle_syntax.specs.Trees.PatternShape.{pattern_of}
 use Rattle.isle_syntax.specs.Trees.ExprShape.{expr_of}
 use Rattle.isle_terms.specs.TypedRules.{TypedPatterns, TypedExpr, TypedIfLet, TypedRule, Variable}
-use Rattle.isle_terms.specs.Signatures.{Flags, Constructor, Extractor, declared_form, TermForm, Signature, Declared, term_named}
+use Rattle.isle_terms.specs.Signatures.{Flags, Constructor, ExtractorForm, declared_form, TermForm, Signature, Declared, term_named}
 use Rattle.isle_terms.specs.Elaboration.{State, start, EachPattern, Elaborates, on_lhs, Builds, Conditions, ElaboratesRule}
 use Rattle.isle_terms.proofs.Determined.{each_same, patterns_agree}
 use Rattle.isle_terms.proofs.DeterminedExprs.{exprs_agree, conditions_same}
@@ -18,7 +18,7 @@ pub same_parts : (t : PatternTree) (first second : Ident) (args others : Pattern
     → t ≡ pattern_term first args at → t ≡ pattern_term second others here → (first ≡ second) × (args ≡ others)
 same_parts t first second args others at here e f = (cc (e, f), cc (e, f))
 
-pub same_flags : (form : TermForm) (first second : Flags) (one other : Option Constructor) (a b : Option Extractor)
+pub same_flags : (form : TermForm) (first second : Flags) (one other : Option Constructor) (a b : Option ExtractorForm)
     → form ≡ declared_form first one a → form ≡ declared_form second other b → first ≡ second
 same_flags form first second one other a b e f = cc (e, f)
 

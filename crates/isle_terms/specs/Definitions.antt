@@ -24,9 +24,10 @@ use Rattle.isle_types.specs.IntTypes.{builtin_names}
 use Rattle.isle_types.specs.Names.{AreDistinct}
 use Rattle.isle_types.specs.Environment.{Environment, NamedType, NamedVariant, TypeShape, primitive, enum, struct, numbers_in}
 use Rattle.isle_terms.specs.TypedRules.{TypedRule}
-use Rattle.isle_terms.specs.Signatures.{Flags, Constructor, by_rules, external_constructor, Extractor as ExtractorForm, by_template}
+use Rattle.isle_terms.specs.Signatures.{Flags, Constructor, by_rules, external_constructor, ExtractorForm, by_template}
 use Rattle.isle_terms.specs.Signatures.{external_extractor, variant_form, struct_form, declared_form, Signature, Conversion, Declared}
 use Rattle.isle_terms.specs.Elaboration.{type_named, ElaboratesRule}
+use Rattle.isle_syntax.specs.Trees.TreeCalls.{has_macro_arg}
 
 -- an item occurs in a list
 abbrev pub IsAmong : {X : Type 0} → List X → X → Type 0
@@ -354,3 +355,7 @@ pub record MakesTerms (types : Environment) (expands : Bool) (levels max : ℕ) 
 -- definitions make an environment of terms within so many levels and nodes for each rule
 abbrev pub HaveTerms : Environment → Bool → (levels max : ℕ) → List Def → Type 0
 HaveTerms types expands levels max defs = (environment : TermEnvironment) × MakesTerms types expands levels max defs environment
+
+-- no body of an extractor has an argument of a template in it
+abbrev pub HasPlainTemplates : List ExtractorTree → Type 0
+HasPlainTemplates extractors = All (λ (extractor : ExtractorTree). has_macro_arg (pattern_of extractor.template) ≡ false) extractors

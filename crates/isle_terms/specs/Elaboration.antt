@@ -22,7 +22,7 @@ use Rattle.isle_types.specs.Names.{position_of}
 use Rattle.isle_types.specs.Environment.{Environment, NamedType, primitive, constant_in, names_in}
 use Rattle.isle_terms.specs.TypedRules.{TypedPattern, TypedPatterns, typed_bind, typed_var, typed_bool, typed_int, typed_prim, typed_term}
 use Rattle.isle_terms.specs.TypedRules.{typed_wildcard, typed_and, no_typed, more_typed, TypedExpr, TypedExprs, TypedBindings, built_term}
-use Rattle.isle_terms.specs.TypedRules.{built_var, built_bool, built_int, built_prim, built_let, no_built, more_built, no_bindings, more_bindings}
+use Rattle.isle_terms.specs.TypedRules.{built_var, built_bool, built_int, built_prim, built_let, no_built, more_built, no_typed_bindings, more_typed_bindings}
 use Rattle.isle_terms.specs.TypedRules.{built_at, Variable, TypedIfLet, TypedRule}
 use Rattle.isle_terms.specs.Signatures.{Flags, by_rules, declared_form, Signature, Declared, term_named, has_constructor_form, has_extractor_form}
 use Rattle.isle_terms.specs.Signatures.{flags_of, put_in_for, Converts}
@@ -191,10 +191,10 @@ EachExpr R (more_exprs t ts) (ty ∷ tys) s us s' =
 
 -- each variable of a `let` after its value, seen by what follows it
 abbrev pub Binds : Environment → ExprJudgement → LetTrees → State → TypedBindings → State → Type 0
-Binds types R no_lets s bs s' = (bs ≡ no_bindings) × (s' ≡ s)
+Binds types R no_lets s bs s' = (bs ≡ no_typed_bindings) × (s' ≡ s)
 Binds types R (more_lets var of_type val _ others) s bs s' =
     (ty : ℕ) × (v : TypedExpr) × (m : State) × (rest : TypedBindings) × (type_named types of_type.0 ≡ Some ty)
-    × R val (Some ty) s v m × Binds types R others (bound m var.0 ty) rest s' × (bs ≡ more_bindings (length m.variables) ty v rest)
+    × R val (Some ty) s v m × Binds types R others (bound m var.0 ty) rest s' × (bs ≡ more_typed_bindings (length m.variables) ty v rest)
 
 -- a call of a term whose type is expected
 pub record Calls (caller : Flags) (R : ExprJudgement) (term : Signature) (number : ℕ) (args : ExprTrees) (want : Option ℕ) (s : State)

@@ -5,9 +5,5 @@ pub mod ShownTerms
 pub mod ShownRules
 -- What typed rules show.
 pub mod RulesShown
--- The roots of rules, and what is read of rules.
-pub mod RootsShown
--- Below what the symbols of terms are.
-pub mod TermLimits
 -- What a rule is called.
 pub mod RuleIdentifiers

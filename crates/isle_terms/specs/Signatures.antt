@@ -19,15 +19,15 @@ pub data Constructor : Type 0 where
   external_constructor : (function : List ℕ) → Constructor
 
 -- how a declared term takes a value apart: by a template, or by the host's function of a name
-pub data Extractor : Type 0 where
-  by_template : PatternTree → Extractor
-  external_extractor : (function : List ℕ) → (infallible : Bool) → Pos → Extractor
+pub data ExtractorForm : Type 0 where
+  by_template : PatternTree → ExtractorForm
+  external_extractor : (function : List ℕ) → (infallible : Bool) → Pos → ExtractorForm
 
 -- what a term is: a variant of its type, its type's struct, or declared
 pub data TermForm : Type 0 where
   variant_form : (variant : ℕ) → TermForm
   struct_form : TermForm
-  declared_form : Flags → Option Constructor → Option Extractor → TermForm
+  declared_form : Flags → Option Constructor → Option ExtractorForm → TermForm
 
 -- a term, with the numbers of its types
 pub record Signature : Type 0 where

@@ -13,7 +13,7 @@ use Rattle.isle_terms.specs.declared.rules.IfLet.{IfLet}
 use Rattle.isle_terms.specs.declared.rules.Rule.{Rule}
 use Rattle.isle_terms.specs.TypedRules.{TypedPattern, TypedPatterns, typed_bind, typed_var, typed_bool, typed_int, typed_prim, typed_term}
 use Rattle.isle_terms.specs.TypedRules.{typed_wildcard, typed_and, no_typed, more_typed, TypedExpr, TypedExprs, TypedBindings, built_term}
-use Rattle.isle_terms.specs.TypedRules.{built_var, built_bool, built_int, built_prim, built_let, no_built, more_built, no_bindings, more_bindings}
+use Rattle.isle_terms.specs.TypedRules.{built_var, built_bool, built_int, built_prim, built_let, no_built, more_built, no_typed_bindings, more_typed_bindings}
 use Rattle.isle_terms.specs.TypedRules.{TypedIfLet, TypedRule}
 use Rattle.isle_terms.specs.Terms.{has_rules_kind}
 use Rattle.isle_terms.specs.Shown.ShownRules.{greatest, greatest_of_values}
@@ -70,8 +70,8 @@ abbrev mutual
 
   -- how deep the deepest value of a `let` is
   pub deepest_value : TypedBindings → ℕ
-  deepest_value no_bindings = 0
-  deepest_value (more_bindings _ _ val others) = max (built_depth val) (deepest_value others)
+  deepest_value no_typed_bindings = 0
+  deepest_value (more_typed_bindings _ _ val others) = max (built_depth val) (deepest_value others)
 
 abbrev mutual
   -- how many nodes a typed expression has
@@ -90,8 +90,8 @@ abbrev mutual
 
   -- how many nodes the values of a `let` have
   pub nodes_of_values : TypedBindings → ℕ
-  nodes_of_values no_bindings = 0
-  nodes_of_values (more_bindings _ _ val others) = built_nodes val + nodes_of_values others
+  nodes_of_values no_typed_bindings = 0
+  nodes_of_values (more_typed_bindings _ _ val others) = built_nodes val + nodes_of_values others
 
 -- how deep the deepest pattern or value of typed conditions is
 abbrev pub deepest_condition : List TypedIfLet → ℕ

@@ -34,8 +34,8 @@ mutual
 
   -- the variables of a `let`, each with its type and value
   pub data TypedBindings : Type 0 where
-    no_bindings : TypedBindings
-    more_bindings : (var ty : ℕ) → TypedExpr → TypedBindings → TypedBindings
+    no_typed_bindings : TypedBindings
+    more_typed_bindings : (var ty : ℕ) → TypedExpr → TypedBindings → TypedBindings
 
 -- the type of a pattern
 abbrev pub typed_at : TypedPattern → ℕ

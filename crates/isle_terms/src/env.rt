@@ -1,3 +1,4 @@
+//! The environment of terms and rules, and what is looked up in it by name or by id.
 ghost use Rattle.std.specs.Prelude.{◌≡◌, ◌≤◌, [], slice_get, All, IfOk, Some, IsSome};
 ghost use Rattle.isle_terms.specs.declared.terms.Term.{Term as TermRecord};
 ghost use Rattle.std.specs.Option.{option_copied, option_and_then, option_map};

@@ -15,7 +15,7 @@ ghost use Rattle.isle_terms.specs.TypingFaults.{BreaksTyping, ExceedsTyping};
 ghost use Rattle.isle_terms.specs.Shown.TermTables.{TermTables};
 ghost use Rattle.isle_terms.specs.Shown.ShownTerms.{ShowsDeclared};
 ghost use Rattle.isle_terms.specs.Shown.RulesShown.{IsShownRule};
-ghost use Rattle.isle_terms.specs.Collecting.Environments.{ShowsTerms};
+ghost use Rattle.isle_terms.specs.TermEnvs.{ShowsTerms};
 ghost use Rattle.isle_terms.specs.SoundRules.WellTyped.{IsTypedRule};
 ghost use Rattle.isle_terms.specs.SoundRules.KeptScopes.{KeepsScopes};
 ghost use Rattle.isle_terms.specs.Sizes.{IsWithinSizes, HasSizes, HasFittingRules};

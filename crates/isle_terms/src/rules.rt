@@ -1,3 +1,4 @@
+//! Typed rules, with their variables, conditions, patterns and expressions.
 ghost use Rattle.std.specs.Prelude.{◌≡◌, ◌<◌, None, Some, IfOk, length, string_bytes};
 ghost use Rattle.isle_terms.specs.TypedTrees.{type_of_pattern, type_of_expr};
 ghost use Rattle.isle_terms.specs.Shown.RuleIdentifiers.{identifier_of};

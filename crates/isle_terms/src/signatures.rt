@@ -1,3 +1,4 @@
+//! Functions that stand for the constructors and extractors of terms: names, types, and how many answers they give.
 ghost use Rattle.std.specs.Prelude.{◌≡◌, ◌++◌, ◌∷◌, [], IfOk, not};
 ghost use Rattle.isle_terms.specs.ExternalSigs.{text_of, own_names, host_names, extractor_names, constructor_names};
 ghost use Rattle.isle_terms.specs.ExternalSigs.{is_infallible, returns, extractor_sig_of, constructor_sig_of};

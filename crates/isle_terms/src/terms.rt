@@ -1,3 +1,4 @@
+//! Terms and what they are: variants, structs, and declared terms with flags, a constructor and an extractor.
 ghost use Rattle.std.specs.Prelude.{◌≡◌};
 ghost use Rattle.isle_terms.specs.Elaboration.{on_lhs};
 ghost use Rattle.isle_terms.specs.Shown.ShownTerms.{flags_shown};

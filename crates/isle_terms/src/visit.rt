@@ -1,4 +1,4 @@
-// Visits of typed patterns, expressions and rules.
+//! Visits of typed patterns, expressions and rules: visitors, what they are told, and why a visit ends early.
 
 mod exprs;
 mod fault;

@@ -1,3 +1,4 @@
+//! Tests of `isle_syntax`: errors, tokens, orders and equality, what texts are read as, and trees.
 mod errors;
 pub mod lexer;
 pub mod orders;

@@ -1,3 +1,4 @@
+//! Tests of `isle_types`: ids, integer types, the containers, and environments of types.
 mod disjoint_sets;
 pub mod environments;
 mod numbers;

@@ -208,9 +208,9 @@ pub is_want_full : {C V : Type 0} (R : Rules C V) (w : Want C) (o : Option (Want
 is_want_full R w o k e = is_want_same R.tests w o k.exact.same_self e
 
 -- a field is made by its test
-pub made_by : {C V : Type 0} (R : Rules C V) (s : ℕ) (w : Want C) (o : Option (Source C)) → IsWellMade R → is_source R.tests s w o ≡ true
+pub source_made : {C V : Type 0} (R : Rules C V) (s : ℕ) (w : Want C) (o : Option (Source C)) → IsWellMade R → is_source R.tests s w o ≡ true
     → o ≡ Some (record { site = s; want = w })
-made_by R s w o k e = source_is R.tests s w o k.exact.same e
+source_made R s w o k e = source_is R.tests s w o k.exact.same e
 
 pub by_made : {C V : Type 0} (R : Rules C V) (s : ℕ) (w : Want C) (o : Option (Source C)) → IsWellMade R → o ≡ Some (record { site = s; want = w })
     → is_source R.tests s w o ≡ true

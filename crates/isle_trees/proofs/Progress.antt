@@ -1,7 +1,7 @@
 -- Where no test is left, the first rule is known.
 use Rattle.std.proofs.Common.{◌≡◌, ◌≢◌, ◌⊎◌, inl, inr, ℕ, zero, suc, ◌<◌, ◌≤◌, ◌≤ℤ◌, nat_le, List, true, Some, None, length, refl, sym, ◌∙◌, arith, leb-true, leb-false}
 use Rattle.isle_trees.specs.Builds.{HasNoTest}
-use Rattle.isle_trees.specs.Premises.{IsWellMade, IsTested}
+use Rattle.isle_trees.specs.Premises.{IsWellMade, TestsItsFields}
 use Rattle.isle_trees.specs.Rules.{Want, has, one_value, Source, Rules, Elem, Asked}
 use Rattle.isle_trees.specs.Scopes.{Scope, IsAvailable, Test, on_match, on_equal, on_loop, has_test, counted, IsReady}
 use Rattle.isle_trees.proofs.Basics.{true_or, none_or, eq_or, has_length, source_part, top_counts}
@@ -53,7 +53,7 @@ all_available R left sc i P down tested w l (suc n) s lt a =
     λ p m. let b : p < s = w.lower s p m in all_available R left sc i P down tested w l n p (omega arith) (down s p a m) in
     IsAvailable.from_parts s parts (λ m e. met R left sc i m.site m.want l (tested s m a e) (parts m.site (source_part R s m w e)))
 
-asked_available : {C V : Type 0} (R : Rules C V) (left : List ℕ) (sc : Scope C) (i s : ℕ) → IsWellMade R → IsTested R → IsLast R left sc i → Asked R i s
+asked_available : {C V : Type 0} (R : Rules C V) (left : List ℕ) (sc : Scope C) (i s : ℕ) → IsWellMade R → TestsItsFields R → IsLast R left sc i → Asked R i s
     → IsAvailable R sc s
 asked_available R left sc i s w its l a =
     all_available R left sc i (Asked R i) (λ s p a m. Asked.by_part s p a m) (λ s m a e. its i s m a e) w l (suc s) s (omega arith) a
@@ -64,7 +64,7 @@ order a b n = elim (true_or (nat_le b a)) [
   | inr e ↦ inl (leb-false b a e)
 ]
 
-pub first_known : {C V : Type 0} (R : Rules C V) (left : List ℕ) (sc : Scope C) (i : ℕ) → IsWellMade R → IsTested R → IsLast R left sc i → IsKnown R sc i
+pub first_known : {C V : Type 0} (R : Rules C V) (left : List ℕ) (sc : Scope C) (i : ℕ) → IsWellMade R → TestsItsFields R → IsLast R left sc i → IsKnown R sc i
 first_known {C} R left sc i w its l =
     let there : (s : ℕ) → Asked R i s → IsAvailable R sc s = λ s a. asked_available R left sc i s w its l a in
     let fresh : (a b : ℕ) → R.joins i a b ≡ true → sc.passed a ≡ None = λ a b j. elim (none_or (sc.passed a)) [

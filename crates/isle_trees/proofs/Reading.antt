@@ -7,7 +7,7 @@ use Rattle.isle_trees.specs.Reads.{IsMulti, IsListed, more, know, know_fields, I
 use Rattle.isle_trees.specs.Rules.{Want, has, one_value, Rules, rights, Elem, IsPartOf}
 use Rattle.isle_trees.specs.Scopes.{Scope, join, emit, emit_all, release, is_source, inside, on_match, on_equal, on_loop, counted, others}
 use Rattle.isle_trees.specs.Tree.{Steps, done, «match», equal, loop, give, Arms, no_arm, arm}
-use Rattle.isle_trees.proofs.Basics.{true_or, or_holds, or_left, or_right, clash, made_by, by_made}
+use Rattle.isle_trees.proofs.Basics.{true_or, or_holds, or_left, or_right, clash, source_made, by_made}
 use Rattle.isle_trees.proofs.Path.{emitted_or, still_emitted}
 
 -- what is bound is at hand, and what is at hand is bound, or a multi call
@@ -182,7 +182,7 @@ covers_made : {C V : Type 0} (R : Rules C V) (sc : Scope C) (env to : ℕ → Bo
     → ((y : ℕ) → R.made y ≡ Some (record { site = s; want = w }) → to y ≡ true) → IsCovered R (inside R sc s w) to
 covers_made R sc env to s w k c old or new = record {
   read = λ y e. elim (or_holds (is_source R.tests s w (R.made y)) (sc.emitted y) e) [
-    | inl f ↦ is_bound y (new y (made_by R s w _ k f))
+    | inl f ↦ is_bound y (new y (source_made R s w _ k f))
     | inr f ↦ read_more R env to y old (c.read y f)
   ];
   kept = λ y e. elim (or y e) [

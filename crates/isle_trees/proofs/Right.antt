@@ -12,7 +12,7 @@ use Rattle.isle_trees.specs.Rules.{has, Rules, rights, Elem, Asked, passes_got, 
 use Rattle.isle_trees.specs.Scopes.{Scope, join, emit, emit_all, is_want, is_source, inside, Test, on_match, on_equal, on_loop, sites_of, counted, others}
 use Rattle.isle_trees.specs.Tree.{Steps, done, «match», equal, loop, give, Arms, no_arm, arm}
 use Rattle.isle_trees.specs.Walk.{Bound, goes, opens, breaks, Outcome, chooses, ends, waits, stops, bind, events, and_then, after_bound, walk, walk_arms}
-use Rattle.isle_trees.proofs.Basics.{true_or, or_holds, or_right, clash, from_filter, to_filter, given_known, met_value, same_test, alike_sound, alike_full, is_want_sound, is_want_full, made_by, test_of, one_of, counted_has, counted_left, others_left, counted_or, counted_above}
+use Rattle.isle_trees.proofs.Basics.{true_or, or_holds, or_right, clash, from_filter, to_filter, given_known, met_value, same_test, alike_sound, alike_full, is_want_sound, is_want_full, source_made, test_of, one_of, counted_has, counted_left, others_left, counted_or, counted_above}
 use Rattle.isle_trees.proofs.Leaf.{bind_kept, AllValued, step_ends, Ends, OnlySeen, leaf}
 use Rattle.isle_trees.proofs.Path.{Holds, holds_bound, carries_bound, fewer_carry, holds_inside, carries_inside, wanting_has, holds_join, some_counted, step_there, emitted_or, still_emitted}
 use Rattle.isle_trees.proofs.Progress.{Carries, IsKnown, IsLast, first_known}
@@ -75,15 +75,15 @@ on_inside R r v left sc s c u there p o = record {
   carries = carries_inside R left _ sc s (has c) o.carries (wanting_has R left s c u.made);
   holds = holds_inside R r sc s (has c) o.holds p;
   valued = λ x e. elim (or_holds (is_source R.tests s (has c) (R.made x)) (sc.emitted x) e) [
-    | inl f ↦ u.respects.field x _ (made_by R s (has c) _ u.made f) p
+    | inl f ↦ u.respects.field x _ (source_made R s (has c) _ u.made f) p
     | inr f ↦ o.valued x f
   ];
   calm = λ x g e. elim (or_holds (is_source R.tests s (has c) (R.made x)) (sc.emitted x) e) [
-    | inl f ↦ absurd (clash (R.effect x) g (u.made.field_pure x _ (made_by R s (has c) _ u.made f)))
+    | inl f ↦ absurd (clash (R.effect x) g (u.made.field_pure x _ (source_made R s (has c) _ u.made f)))
     | inr f ↦ o.calm x g f
   ];
   closed = λ x q e m. or_right (is_source R.tests s (has c) (R.made q)) (sc.emitted q) (elim (or_holds (is_source R.tests s (has c) (R.made x)) (sc.emitted x) e) [
-    | inl f ↦ let n : Elem q (s ∷ []) = subst (λ (l : List ℕ). Elem q l) (u.made.source x _ (made_by R s (has c) _ u.made f)) m in elim n [ inl k ↦ ap sc.emitted k ∙ there | inr b ↦ absurd b ]
+    | inl f ↦ let n : Elem q (s ∷ []) = subst (λ (l : List ℕ). Elem q l) (u.made.source x _ (source_made R s (has c) _ u.made f)) m in elim n [ inl k ↦ ap sc.emitted k ∙ there | inr b ↦ absurd b ]
     | inr f ↦ o.closed x q f m
   ]);
   no_multi = λ i t m. o.no_multi i t ((from_filter _ left i m).0);

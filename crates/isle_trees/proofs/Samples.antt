@@ -5,7 +5,7 @@ use Rattle.isle_trees.specs.Answers.{HasValue, Agree}
 use Rattle.isle_trees.specs.Builds.{key, IsAtMost, IsBest, HasNoTest, Binds, Builds, IsTreeOf}
 use Rattle.isle_trees.specs.Choice.{IsOpen}
 use Rattle.isle_trees.specs.Depths.{Completion, CallsOpen, IsProgram}
-use Rattle.isle_trees.specs.Premises.{AreExact, IsWellMade, IsTested, IsSingle, UsesNoMulti, Respects, IsStrict, HasItsTests}
+use Rattle.isle_trees.specs.Premises.{AreExact, IsWellMade, TestsItsFields, IsSingle, UsesNoMulti, Respects, IsStrict, HasItsTests}
 use Rattle.isle_trees.specs.Reads.{IsListed}
 use Rattle.isle_trees.specs.Rules.{Want, has, one_value, Source, Elem, Asked, Used, itself, of_part, passes_got, Meets}
 use Rattle.isle_trees.specs.Sample.{truth_tests, sample_at, sample_parts, sample_made, sample_stands, sample_fields, sample, sample_tree, field_of, with_call, is_there, sample_program}
@@ -77,7 +77,7 @@ used_low i _ (Used.by_right s (inl e)) = omega arith
 used_low i _ (Used.by_right s (inr b)) = absurd b
 used_low i _ (Used.by_part_of s p u m) = let k : s < 1 = used_low i s u in let l : p < s = lower s p m in omega arith
 
-tested : IsTested sample
+tested : TestsItsFields sample
 tested = λ i s m a e. let k : s < 2 = asked_low i s a in let h : s ≡ 2 = (made_at s m e).0 in absurd (omega arith)
 
 single : IsSingle sample

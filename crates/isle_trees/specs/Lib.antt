@@ -17,5 +17,6 @@ pub mod Depths
 pub mod Sample
 pub mod Ranking
 pub mod Search
-pub mod Gathering
 pub mod Values
+-- What no public contract cites.
+pub mod Inside

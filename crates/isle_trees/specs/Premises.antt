@@ -33,8 +33,8 @@ pub record IsWellMade {C V : Type 0} (R : Rules C V) : Type 0 where
   pub call_stands : (s : ℕ) → R.effect s ≡ true → R.stands s ≡ true
 
 -- a field that a rule's tests ask has its own test among them
-abbrev pub IsTested : {C V : Type 0} → Rules C V → Type 0
-IsTested {C} {V} R = (i s : ℕ) (m : Source C) → Asked R i s → R.made s ≡ Some m → R.at i m.site ≡ Some m.want
+abbrev pub TestsItsFields : {C V : Type 0} → Rules C V → Type 0
+TestsItsFields {C} {V} R = (i s : ℕ) (m : Source C) → Asked R i s → R.made s ≡ Some m → R.at i m.site ≡ Some m.want
 
 -- impure calls that a site is made of stand before it, and each stands once
 abbrev pub EffectsFirst : {C V : Type 0} → Rules C V → ℕ → List ℕ → List ℕ → Type 0
@@ -45,7 +45,7 @@ EffectsFirst R r seen (u ∷ us) =
 
 -- the rules of a term without multi calls: tests ask no impure call, and a right side's impure calls are all listed
 pub record IsSingle {C V : Type 0} (R : Rules C V) : Type 0 where
-  pub tested : IsTested R
+  pub tested : TestsItsFields R
   pub pure : (i s : ℕ) → Asked R i s → R.effect s ≡ false
   pub first : (i : ℕ) → EffectsFirst R (R.result i) [] (R.calls i)
 
@@ -71,6 +71,6 @@ IsStrict R v = (s : ℕ) → HasValue (v s) → (p : ℕ) → Elem p (R.parts s)
 -- What a test makes and a rule has, has its test among what the rule wants, or is the content of an option that a call gives. No test
 -- makes a multi call.
 pub record HasItsTests {C V : Type 0} (R : Rules C V) : Type 0 where
-  pub tested : IsTested R
+  pub tested : TestsItsFields R
   pub contents : (i s : ℕ) (m : Source C) → Used R i s → R.made s ≡ Some m → (R.at i m.site ≡ Some m.want) ⊎ (R.content s ≡ true)
   pub call_whole : (s x : ℕ) → R.value s ≡ Some x → R.made s ≡ None

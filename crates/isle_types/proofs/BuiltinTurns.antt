@@ -9,7 +9,7 @@ use Rattle.isle_types.specs.IntTypes.{builtin_name, builtin_types}
 use Rattle.isle_types.specs.Types.{id_of}
 use Rattle.isle_types.specs.Environment.{builtin_environment}
 use Rattle.isle_types.specs.TypeEnvs.{type_of_constant, CountUp, Shows}
-use Rattle.isle_types.specs.Readings.{HasTypeNames}
+use Rattle.isle_types.specs.Inside.Readings.{HasTypeNames}
 use Rattle.isle_types.proofs.DefinitionTurns.{take_here}
 
 -- what stands after the first builtin types

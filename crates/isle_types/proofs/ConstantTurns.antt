@@ -15,7 +15,7 @@ use Rattle.isle_types.specs.Names.{position_of, KeepsNames}
 use Rattle.isle_types.specs.Environment.{IsConstant, as_constant, constant_definitions, constant_in, type_names}
 use Rattle.isle_types.specs.TypeFaults.{unknown_constant_type}
 use Rattle.isle_types.specs.TypeEnvs.{type_of_name, type_of_constant, type_at}
-use Rattle.isle_types.specs.Readings.{HasTypeNames, ReadsConstants, AreTypeFaults}
+use Rattle.isle_types.specs.Inside.Readings.{HasTypeNames, ReadsConstants, AreTypeFaults}
 use Rattle.isle_types.proofs.NamePlaces.{place_found}
 use Rattle.isle_types.proofs.DefinitionTurns.{passed_over, taken_up, taken_place}
 use Rattle.isle_types.proofs.FaultLists.{faults_more, faults_same, some_error}

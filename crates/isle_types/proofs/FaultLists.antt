@@ -4,7 +4,7 @@ use Rattle.std.proofs.lemmas.List.Elements.{All-same, All-nil, All-push}
 use Rattle.isle_syntax.specs.declared.ast.Def.{Def}
 use Rattle.isle_syntax.specs.declared.error.Error.{Error}
 use Rattle.isle_types.specs.TypeFaults.{Breaks, IsTypeFault}
-use Rattle.isle_types.specs.Readings.{AreTypeFaults}
+use Rattle.isle_types.specs.Inside.Readings.{AreTypeFaults}
 
 -- one more fault
 pub faults_more : (defs : List Def) (old new : List Error) (error : Error) → new ≡ old ++ error ∷ [] → AreTypeFaults defs old

@@ -15,7 +15,7 @@ use Rattle.isle_types.specs.IntTypes.{builtin_names}
 use Rattle.isle_types.specs.Names.{position_of, AreDistinct}
 use Rattle.isle_types.specs.Environment.{as_type, type_names}
 use Rattle.isle_types.specs.TypeEnvs.{type_of_name}
-use Rattle.isle_types.specs.Readings.{HasTypeNames, AreTypeFaults}
+use Rattle.isle_types.specs.Inside.Readings.{HasTypeNames, AreTypeFaults}
 use Rattle.isle_types.proofs.NamePlaces.{once_pushed}
 use Rattle.isle_types.proofs.DefinitionTurns.{names_more, passed_over, taken_breaks}
 use Rattle.isle_types.proofs.FaultLists.{faults_more, faults_same, faults_none, some_error}

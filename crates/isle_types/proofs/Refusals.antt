@@ -21,7 +21,7 @@ use Rattle.isle_types.specs.Environment.{HasAllowedSize, AreWithinSizes, type_de
 use Rattle.isle_types.specs.TypeFaults.{FieldsBreak, field_twice, unknown_field_type, VariantsBreak, variant_twice, variant_fields_break}
 use Rattle.isle_types.specs.TypeFaults.{TypeBreaks, marks_not_allowed, variants_break, fields_break, Breaks, name_taken, type_breaks}
 use Rattle.isle_types.specs.TypeFaults.{unknown_constant_type, Exceeds, IsTypeFault, IsSizeFault, type_idents}
-use Rattle.isle_types.specs.Readings.{AreTypeFaults, IsLoneSizeFault}
+use Rattle.isle_types.specs.Inside.Readings.{AreTypeFaults, IsLoneSizeFault}
 use Rattle.isle_types.proofs.NamePlaces.{place_missing}
 use Rattle.isle_types.proofs.Zipped.{zipped_at, zipped_same, mapped_at, each_at, no_duplicate}
 

@@ -6,8 +6,8 @@ use Rattle.std.proofs.lemmas.List.Elements.{All-head, All-tail, All-nil, All-con
 use Rattle.isle_syntax.specs.Positions.Files.{SourceFile}
 use Rattle.isle_syntax.specs.Positions.Printable.{IsPrintablePos}
 use Rattle.isle_syntax.specs.Errors.{ErrorAt}
-use Rattle.isle_syntax.specs.Positions.DefPositions.{StructFieldAt, TupleFieldAt, FieldsAt, VariantAt as VariantTreeAt, TypeValueAt}
-use Rattle.isle_syntax.specs.Positions.DefPositions.{TypeAt as TypeTreeAt, DefAt, IdentAt}
+use Rattle.isle_syntax.specs.Positions.DefPositions.{StructFieldAt, TupleFieldAt, FieldsAt, VariantTreeAt, TypeValueAt}
+use Rattle.isle_syntax.specs.Positions.DefPositions.{TypeTreeAt, DefAt, IdentAt}
 use Rattle.isle_syntax.specs.declared.lexer.Pos.{Pos}
 use Rattle.isle_syntax.specs.declared.ast.Ident.{Ident}
 use Rattle.isle_syntax.specs.declared.ast.StructField.{StructField}
@@ -37,7 +37,7 @@ use Rattle.isle_types.specs.TypeFaults.{FieldsBreak, field_twice, unknown_field_
 use Rattle.isle_types.specs.TypeFaults.{TypeBreaks, marks_not_allowed, variants_break, fields_break, Breaks, name_taken, type_breaks}
 use Rattle.isle_types.specs.TypeFaults.{unknown_constant_type, Exceeds, IsTypeFault, IsSizeFault, type_idents}
 use Rattle.isle_types.specs.TypeEnvs.{HasPrintablePositions, Shows, IsShown, IsShownVariant, IsShownShape}
-use Rattle.isle_types.specs.Readings.{AreTypeFaults, IsLoneSizeFault}
+use Rattle.isle_types.specs.Inside.Readings.{AreTypeFaults, IsLoneSizeFault}
 use Rattle.isle_types.proofs.Zipped.{mapped_at, all_at}
 
 module _ (At : Pos → Type 0) where

@@ -26,5 +26,5 @@ pub mod TypeEnvs
 pub mod TypePositions
 -- A list of names and the table from a name to its place.
 pub mod Interned
--- What stands in an environment while definitions are read into it.
-pub mod Readings
+-- What no public contract cites.
+pub mod Inside

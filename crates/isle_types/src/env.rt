@@ -1,3 +1,4 @@
+//! The environment of types: the types and constants of definitions, and the names interned for them.
 mod errors;
 mod fields;
 mod lookup;

@@ -1,3 +1,4 @@
+//! Ids of names, types, variants, fields, terms, rules and variables, and those of the builtin types.
 ghost use Rattle.std.specs.Prelude.{◌≡◌};
 
 /// An interned name. Ids count from 0.

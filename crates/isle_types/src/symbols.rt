@@ -1,3 +1,4 @@
+//! Interned names, each once, at the place of its symbol.
 ghost use Rattle.std.specs.Prelude.{◌≡◌, ℕ, List, [], IfOk, OnOk, OnErr, Some, map, string_bytes, slice_get};
 ghost use Rattle.std.specs.Option.{option_map};
 ghost use Rattle.isle_types.specs.Names.{position_of, with_name, AreDistinct};

@@ -1,3 +1,4 @@
+//! Builtin and defined types, the numbers that integer types have, and variants and fields.
 ghost use Rattle.std.specs.Prelude.{◌≡◌, ◌↔◌, ◌-◌, ◌^◌, ◌≤ℤ◌, ℤ, pos, IsTrue, IfOk, map};
 ghost use Rattle.isle_types.specs.declared.types.StructField.{StructField};
 ghost use Rattle.isle_types.specs.declared.types.TupleField.{TupleField};

@@ -26,7 +26,7 @@ use Rattle.islec.specs.declared.line.Line.{Line}
 use Rattle.islec.specs.declared.line.LineFault.{LineFault}
 use Rattle.islec.specs.declared.line.LineFault.TheVariants.{Usage, Memory}
 use Rattle.islec.specs.Commands.{IsArgument, IsCommand, blocks_rules, check_rules, fmt_rules, islec, run_rules}
-use Rattle.islec.specs.Rows.{FillsRules}
+use Rattle.islec.specs.Inside.Rows.{FillsRules}
 use Rattle.islec.proofs.WalkRows.{OwnRules}
 use Rattle.islec.proofs.WalkStops.{start_elsewhere, walk_elsewhere}
 use Rattle.islec.proofs.FilledRows.{level_asks, level_fills}

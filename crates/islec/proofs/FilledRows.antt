@@ -16,7 +16,7 @@ use Rattle.clap.specs.Faults.{defaults_fault, level_fault, settle_fault, walk_fa
 use Rattle.clap.specs.declared.parser.matches.ValueSource.{ValueSource}
 use Rattle.clap.specs.declared.parser.matches.ValueSource.TheVariants.{DefaultValue}
 use Rattle.islec.proofs.WalkRows.{OwnRules, both_none, level_fits, some_kind}
-use Rattle.islec.specs.Rows.{Each, FillsRules, FitsRow, FitsRule, HasItsRow}
+use Rattle.islec.specs.Inside.Rows.{Each, FillsRules, FitsRow, FitsRule, HasItsRow}
 
 -- ---- defaults
 

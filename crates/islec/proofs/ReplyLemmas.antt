@@ -1,7 +1,7 @@
 -- What is written of a call's parts, and what a refused or an answered query is written.
 use Rattle.isle_meaning.proofs.Calls.Beginnings.{plain_begins}
 use Rattle.isle_meaning.proofs.Machine.Beginnings.{machine_begins}
-use Rattle.isle_run.specs.Blocks.Frames.{term_trees}
+use Rattle.isle_run.specs.TreeCalls.{term_trees}
 use Rattle.isle_run.specs.Meanings.{checked}
 use Rattle.isle_run.specs.declared.program.Program.{Program}
 use Rattle.isle_run.specs.declared.calls.answer.Called.{Called}

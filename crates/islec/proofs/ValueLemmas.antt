@@ -24,7 +24,7 @@ use Rattle.clap.proofs.ValueTestLemmas.{accepts-Accepts}
 use Rattle.clap.proofs.WalkLemmas.{both, one_text-rows, raw_values-rows}
 use Rattle.islec.specs.Lines.{each_of, names_of, number_of}
 use Rattle.islec.specs.Commands.{blocks_rules, check_rules, fmt_rules, run_rules}
-use Rattle.islec.specs.Rows.{Each, FillsRules, FitsRow, FitsRule}
+use Rattle.islec.specs.Inside.Rows.{Each, FillsRules, FitsRow, FitsRule}
 use Rattle.islec.proofs.FilledRows.{row_of_rule}
 
 first_of_row : (a : Rule) (r : Row) → FitsRule a r

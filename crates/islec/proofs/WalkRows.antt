@@ -33,7 +33,7 @@ use Rattle.clap.specs.declared.error.kind.ErrorKind.{ErrorKind}
 use Rattle.clap.specs.declared.error.kind.ErrorKind.TheVariants as kind
 use Rattle.clap.specs.declared.parser.matches.ValueSource.{ValueSource}
 use Rattle.clap.specs.declared.parser.matches.ValueSource.TheVariants.{CommandLine, DefaultValue}
-use Rattle.islec.specs.Rows.{Each, FitsRow, FitsRule}
+use Rattle.islec.specs.Inside.Rows.{Each, FitsRow, FitsRule}
 
 -- an action that keeps at least `n` values, which are some, or that asks for help
 abbrev pub KeepsSome : ArgAction → ℕ → Type 0

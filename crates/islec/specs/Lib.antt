@@ -24,8 +24,6 @@ pub mod Terms
 pub mod Drawing
 -- The command `islec` and its arguments, as `clap` reads them.
 pub mod Commands
--- What holds of the values that a simple command finds in words that it takes.
-pub mod Rows
 -- What the words of a command line say.
 pub mod Lines
 -- Which files are standard input, and what is read of it.
@@ -36,3 +34,5 @@ pub mod Causes
 pub mod Beginnings
 -- How a whole command ends, by its words.
 pub mod Endings
+-- What no public contract cites.
+pub mod Inside

@@ -10,7 +10,7 @@ ghost use Rattle.islec.specs.Commands.{coverage as the_coverage, explain as the_
 ghost use Rattle.islec.specs.Commands.{terms as the_terms, warn as the_warn, world as the_world};
 ghost use Rattle.islec.specs.Commands.{fmt_rules, islec, run, run_rules};
 ghost use Rattle.islec.specs.Lines.{ReadsLine, RefusesLine, SaysLine, names_of};
-ghost use Rattle.islec.specs.Rows.{FillsRules};
+ghost use Rattle.islec.specs.Inside.Rows.{FillsRules};
 
 use crate::answer::Manner;
 use crate::terms::Telling;

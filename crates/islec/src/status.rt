@@ -1,3 +1,4 @@
+//! The exit statuses of the program, and how it tells that memory ran out.
 ghost use Rattle.std.specs.Prelude.{◌≡◌, codes};
 ghost use Rattle.islec.specs.Statuses.{code_of};
 ghost use Rattle.islec.specs.Writing.{AppendsBeginning};

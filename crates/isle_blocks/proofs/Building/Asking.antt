@@ -17,7 +17,7 @@ use Rattle.isle_blocks.specs.declared.binding.Binding.{Binding}
 use Rattle.isle_blocks.specs.declared.binding.Binding.TheVariants as sites
 use Rattle.isle_blocks.specs.Bindings.{sources_of}
 use Rattle.isle_blocks.specs.Rows.{numbers_of, row_of, rows_of}
-use Rattle.isle_blocks.specs.Building.Contents.{Reached, here, through, IsAsked}
+use Rattle.isle_blocks.specs.Inside.Building.Contents.{Reached, here, through, IsAsked}
 use Rattle.isle_blocks.proofs.Building.Walking.{cons_cases, cons_here, cons_there, none_there}
 use Rattle.isle_blocks.proofs.Building.Entries.{among_left, among_right, among_cases}
 

@@ -10,9 +10,9 @@ use Rattle.isle_meaning.specs.Demands.{Demand, constrained, equal, some_constrai
 use Rattle.isle_meaning.specs.Numbered.{At, AreRecorded}
 use Rattle.isle_blocks.specs.declared.ids.BindingId.{BindingId}
 use Rattle.isle_blocks.specs.Rows.{IsInjective, rows_of, constraints_of}
-use Rattle.isle_blocks.specs.Building.Gathering.{Gathered}
-use Rattle.isle_blocks.specs.Building.Steps.{content_adds, each_some}
-use Rattle.isle_blocks.specs.Building.Contents.{AreAsked}
+use Rattle.isle_blocks.specs.Inside.Building.Gathering.{Gathered}
+use Rattle.isle_blocks.specs.Inside.Building.Steps.{content_adds, each_some}
+use Rattle.isle_blocks.specs.Inside.Building.Contents.{AreAsked}
 use Rattle.isle_blocks.specs.Building.Standing.{Adds, begin}
 use Rattle.isle_blocks.proofs.Building.Walking.{cons_cases, cons_here, cons_there, none_there}
 use Rattle.isle_blocks.proofs.Building.Entries.{among_cases}

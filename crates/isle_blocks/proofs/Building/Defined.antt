@@ -18,7 +18,7 @@ use Rattle.isle_terms.specs.TypedRules.{TypedRule}
 use Rattle.isle_terms.specs.Signatures.{Declared}
 use Rattle.isle_terms.specs.Definitions.{declared_by}
 use Rattle.isle_meaning.specs.Facts.{facts_of}
-use Rattle.isle_terms.specs.Collecting.Environments.{ShowsTerms}
+use Rattle.isle_terms.specs.TermEnvs.{ShowsTerms}
 use Rattle.isle_terms.specs.Shown.RulesShown.{IsShownRule}
 use Rattle.isle_terms.specs.Shown.TermTables.{TermTables}
 use Rattle.isle_terms.specs.SoundRules.WellTyped.{IsTypedRule}
@@ -38,11 +38,11 @@ use Rattle.isle_blocks.specs.declared.constraint.Constraint.{Constraint}
 use Rattle.isle_blocks.specs.declared.constraint.Constraint.TheVariants as tests
 use Rattle.isle_blocks.specs.declared.builder.BuiltRule.{BuiltRule}
 use Rattle.isle_blocks.specs.Constraints.{variant_field, struct_field}
-use Rattle.isle_blocks.specs.Building.Gathering.{Gathered, nothing_gathered, interns, interns_each, demands, equates, fitting, sites_from}
-use Rattle.isle_blocks.specs.Building.Gathering.{tuple_output, extracted, outputs, constructed, numbers, keeps}
-use Rattle.isle_blocks.specs.Building.Steps.{values_of, arg_adds, takes, makes, pattern_adds, expr_adds, rule_adds}
-use Rattle.isle_blocks.specs.Building.Building.{gathers, gathered_in, BuildsRule}
-use Rattle.isle_blocks.specs.Building.Built.{IsBuiltOf}
+use Rattle.isle_blocks.specs.Inside.Building.Gathering.{Gathered, nothing_gathered, interns, interns_each, demands, equates, fitting, sites_from}
+use Rattle.isle_blocks.specs.Inside.Building.Gathering.{tuple_output, extracted, outputs, constructed, numbers, keeps}
+use Rattle.isle_blocks.specs.Inside.Building.Steps.{values_of, arg_adds, takes, makes, pattern_adds, expr_adds, rule_adds}
+use Rattle.isle_blocks.specs.Inside.Building.Building.{gathers, gathered_in, BuildsRule}
+use Rattle.isle_blocks.specs.Inside.Building.Built.{IsBuiltOf}
 use Rattle.isle_blocks.specs.Building.Naming.{name_by, BuiltAsDefined, UsesWhatIsDefined}
 use Rattle.isle_blocks.proofs.Building.WellTyped.{shown_known}
 use Rattle.isle_blocks.proofs.Building.Rules.{follow_typed}

@@ -16,7 +16,7 @@ use Rattle.isle_terms.specs.Shown.ShownTerms.{form_shown}
 use Rattle.isle_terms.specs.SoundRules.KeptScopes.{Scope, IsUsable, ExprUses, ExprsUse, BindingsAdd, with_next, counting}
 use Rattle.isle_terms.specs.Visits.Runs.{done, asks, in_turn, on_some, stuck}
 use Rattle.isle_terms.specs.Visits.VisitScopes.{bound as bound_by}
-use Rattle.isle_terms.specs.Visits.VisitScopes.{Scope as Numbers}
+use Rattle.isle_terms.specs.Visits.VisitScopes.{VisitScope}
 use Rattle.isle_terms.specs.Visits.VisitorCalls.{ExprCall, making_of}
 use Rattle.isle_terms.specs.Visits.InternedTrees.{InternedExpr, InternedExprs, InternedBindings, term_expr, var_expr, bool_expr, int_expr}
 use Rattle.isle_terms.specs.Visits.InternedTrees.{prim_expr, let_expr, no_exprs, more_exprs, no_bindings, more_bindings}
@@ -29,16 +29,16 @@ use Rattle.isle_meaning.specs.Numbered.{Row, At, AtAll}
 use Rattle.isle_blocks.specs.declared.ids.BindingId.{BindingId}
 use Rattle.isle_blocks.specs.declared.binding.Binding.TheVariants as sites
 use Rattle.isle_blocks.specs.Rows.{IsInjective, numbers_of, rows_of}
-use Rattle.isle_blocks.specs.Building.Gathering.{Gathered}
+use Rattle.isle_blocks.specs.Inside.Building.Gathering.{Gathered}
 use Rattle.isle_blocks.specs.Building.Standing.{StandEach}
-use Rattle.isle_blocks.specs.Building.Steps.{expr_adds, makes, values_of}
-use Rattle.isle_blocks.specs.Building.Named.{named_expr, named_exprs, named_bindings, IsKnownTerm, AreKnownTerms}
+use Rattle.isle_blocks.specs.Inside.Building.Steps.{expr_adds, makes, values_of}
+use Rattle.isle_blocks.specs.Inside.Building.Named.{named_expr, named_exprs, named_bindings, IsKnownTerm, AreKnownTerms}
 use Rattle.isle_blocks.proofs.Building.Entries.{at_grown}
 use Rattle.isle_blocks.proofs.Building.Patterns.{Stand, stand_later}
 use Rattle.isle_blocks.proofs.Building.Exprs.{Visited, visited_rows, visited_none, visited_then, visited_intern, visited_call}
 
 -- a variable more stands for its site
-stand_let : (rows : List Row) (usable : List ℕ) (numbers : Numbers BindingId) (vars : ℕ → Site) (own : VarId) (id : BindingId) (t : Site)
+stand_let : (rows : List Row) (usable : List ℕ) (numbers : VisitScope BindingId) (vars : ℕ → Site) (own : VarId) (id : BindingId) (t : Site)
     → Stand rows usable numbers vars → At rows t id.0 → Stand rows (own.0 ∷ usable) (bound_by numbers own id) (set vars own.0 t)
 stand_let rows usable numbers vars own id t h is var other u e = go (own.0 == var.0) refl u
   where
@@ -96,14 +96,14 @@ module _ (name : Sym → List ℕ) (injective : IsInjective name) (names : List 
         × ((more : List (BindingId × TypeId)) × (inputs ≡ before ++ more) × AtAll (rows_of name s'.sites) r.0 (numbers_of (values_of more)))
 
     abbrev EvaluatesAll : InternedExprs → Type 0
-    EvaluatesAll es = (tys : List TypeId) (before inputs : List (BindingId × TypeId)) (scope : Scope) (count : ℕ) (numbers : Numbers BindingId)
+    EvaluatesAll es = (tys : List TypeId) (before inputs : List (BindingId × TypeId)) (scope : Scope) (count : ℕ) (numbers : VisitScope BindingId)
         (vars : ℕ → Site) (log : Log) (s s' : Gathered) → Stand (rows_of name s.sites) scope.usable numbers vars
         → StandEach (rows_of name s.sites) s.impure log.impure → ExprsUse (named_exprs name es) scope count
         → visits_exprs expr_adds terms es tys before numbers s (Ok inputs) s'
         → AllEvaluate s log (visit_all facts vars log (named_exprs name es)) before inputs s'
 
     follow_term : (o : Option Term) (ty : TypeId) (t : TermId) (es : InternedExprs) → EvaluatesAll es → (scope : Scope) (count : ℕ)
-        (numbers : Numbers BindingId) (vars : ℕ → Site) (log : Log) (s s' : Gathered) (id : BindingId) → slice_get terms t.0 ≡ o
+        (numbers : VisitScope BindingId) (vars : ℕ → Site) (log : Log) (s s' : Gathered) (id : BindingId) → slice_get terms t.0 ≡ o
         → Stand (rows_of name s.sites) scope.usable numbers vars → StandEach (rows_of name s.sites) s.impure log.impure
         → ExprsUse (named_exprs name es) scope count
         → on_some o (λ term. in_turn (visits_exprs expr_adds terms es term.arg_tys [] numbers)
@@ -118,7 +118,7 @@ module _ (name : Sym → List ℕ) (injective : IsInjective name) (names : List 
         let last = made (making_of term.kind ty t run.0) term ty t r.0 run.0 r.1 run.1 s' id (known t.0 term o) all args.0.impure refl run.3 in
         (visited_then name injective s run.1 s' log r.1 (applied facts (facts.shape t.0) ty.0 t.0 r).1 args.0 last.0, last.1)
 
-    follow_var : (o : Option BindingId) (var : VarId) (scope : Scope) (numbers : Numbers BindingId) (vars : ℕ → Site) (log : Log) (s s' : Gathered)
+    follow_var : (o : Option BindingId) (var : VarId) (scope : Scope) (numbers : VisitScope BindingId) (vars : ℕ → Site) (log : Log) (s s' : Gathered)
         (id : BindingId) → numbers var ≡ o → Stand (rows_of name s.sites) scope.usable numbers vars
         → StandEach (rows_of name s.sites) s.impure log.impure → IsUsable scope.usable var.0
         → on_some o (λ value. done {S = Gathered} {A = BindingId} value) stuck s (Ok id) s' → Evaluates s log (vars var.0, log) id s'
@@ -129,7 +129,7 @@ module _ (name : Sym → List ℕ) (injective : IsInjective name) (names : List 
 
     mutual
       -- an expression, under variables that stand for sites
-      pub follow_expr : (e : InternedExpr) (scope : Scope) (count : ℕ) (numbers : Numbers BindingId) (vars : ℕ → Site) (log : Log) (s s' : Gathered)
+      pub follow_expr : (e : InternedExpr) (scope : Scope) (count : ℕ) (numbers : VisitScope BindingId) (vars : ℕ → Site) (log : Log) (s s' : Gathered)
           (id : BindingId) → Stand (rows_of name s.sites) scope.usable numbers vars → StandEach (rows_of name s.sites) s.impure log.impure
           → ExprUses (named_expr name e) scope count → visits_expr expr_adds terms e numbers s (Ok id) s'
           → Evaluates s log (visit facts vars log (named_expr name e)) id s'
@@ -152,7 +152,7 @@ module _ (name : Sym → List ℕ) (injective : IsInjective name) (names : List 
           (visited_then name injective s run.1 s' log r.1 (visit facts r.0 r.1 (named_expr name body)).1 first.0 last.0, last.1)
 
       pub follow_exprs : (es : InternedExprs) (tys : List TypeId) (before inputs : List (BindingId × TypeId)) (scope : Scope) (count : ℕ)
-          (numbers : Numbers BindingId) (vars : ℕ → Site) (log : Log) (s s' : Gathered) → Stand (rows_of name s.sites) scope.usable numbers vars
+          (numbers : VisitScope BindingId) (vars : ℕ → Site) (log : Log) (s s' : Gathered) → Stand (rows_of name s.sites) scope.usable numbers vars
           → StandEach (rows_of name s.sites) s.impure log.impure → ExprsUse (named_exprs name es) scope count
           → visits_exprs expr_adds terms es tys before numbers s (Ok inputs) s'
           → AllEvaluate s log (visit_all facts vars log (named_exprs name es)) before inputs s'
@@ -178,7 +178,7 @@ module _ (name : Sym → List ℕ) (injective : IsInjective name) (names : List 
             ),
           )
 
-      pub follow_lets : (bs : InternedBindings) (scope inside : Scope) (numbers out : Numbers BindingId) (vars : ℕ → Site) (log : Log) (s s' : Gathered)
+      pub follow_lets : (bs : InternedBindings) (scope inside : Scope) (numbers out : VisitScope BindingId) (vars : ℕ → Site) (log : Log) (s s' : Gathered)
           → Stand (rows_of name s.sites) scope.usable numbers vars → StandEach (rows_of name s.sites) s.impure log.impure
           → BindingsAdd (named_bindings name bs) scope inside → visits_bindings expr_adds terms bs numbers s (Ok out) s'
           → Visited name injective s log (visit_lets facts vars log (named_bindings name bs)).1 s'

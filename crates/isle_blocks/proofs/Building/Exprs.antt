@@ -13,9 +13,9 @@ use Rattle.isle_blocks.specs.declared.ids.BindingId.{BindingId}
 use Rattle.isle_blocks.specs.declared.binding.Binding.{Binding}
 use Rattle.isle_blocks.specs.declared.binding.Binding.TheVariants as sites
 use Rattle.isle_blocks.specs.Rows.{IsInjective, numbers_of, row_of, rows_of}
-use Rattle.isle_blocks.specs.Building.Gathering.{Gathered, interns, constructed}
+use Rattle.isle_blocks.specs.Inside.Building.Gathering.{Gathered, interns, constructed}
 use Rattle.isle_blocks.specs.Building.Standing.{IsEntryOf, Adds, begin, next, StandEach}
-use Rattle.isle_blocks.specs.Building.Steps.{makes}
+use Rattle.isle_blocks.specs.Inside.Building.Steps.{makes}
 use Rattle.isle_blocks.proofs.Building.Entries.{Grown, at_grown, entry_at, put_grown, put_there, put_of, adds_grown, adds_then}
 
 pub each_grown : (rows new : List Row) → Grown rows new → (ids : List BindingId) (ts : List Site) → StandEach rows ids ts → StandEach new ids ts

@@ -18,7 +18,7 @@ use Rattle.isle_terms.specs.declared.terms.TermKind.TheVariants.{EnumVariant, St
 use Rattle.isle_terms.specs.declared.visit.fault.VisitFault.TheVariants.{Size, Undefined}
 use Rattle.isle_terms.specs.TypedTrees.{type_of_expr}
 use Rattle.isle_terms.specs.Visits.Runs.{Run, done, asks, in_turn, on_some, stuck}
-use Rattle.isle_terms.specs.Visits.VisitScopes.{Scope, no_values, bound}
+use Rattle.isle_terms.specs.Visits.VisitScopes.{VisitScope, no_values, bound}
 use Rattle.isle_terms.specs.Visits.InternedTrees.{InternedPattern, InternedPatterns, bind_pattern, var_pattern, bool_pattern, int_pattern}
 use Rattle.isle_terms.specs.Visits.InternedTrees.{prim_pattern, term_pattern, wildcard_pattern, and_pattern, no_patterns, more_patterns}
 use Rattle.isle_terms.specs.Visits.InternedTrees.{InternedExpr, InternedExprs, InternedBindings, term_expr, var_expr, bool_expr, int_expr}
@@ -40,12 +40,12 @@ use Rattle.isle_blocks.specs.Bindings.{sources_of}
 use Rattle.isle_blocks.specs.contracts.binding.BindingPartialEq.TheImpl as binding_of
 use Rattle.isle_blocks.specs.Constraints.{variant_field, struct_field}
 use Rattle.isle_blocks.specs.Tables.{IsAbsent}
-use Rattle.isle_blocks.specs.Building.Building.{gathers}
-use Rattle.isle_blocks.specs.Building.Contents.{PartsAreBefore, Reached, here, through, IsAsked, AreAsked}
-use Rattle.isle_blocks.specs.Building.Gathering.{Gathered, with_sites, with_tests, with_pair, with_effect, interns, interns_each, demands}
-use Rattle.isle_blocks.specs.Building.Gathering.{equates, fitting, sites_from, tuple_output, extracted, outputs, constructed, counts, numbers, keeps}
+use Rattle.isle_blocks.specs.Inside.Building.Building.{gathers}
+use Rattle.isle_blocks.specs.Inside.Building.Contents.{PartsAreBefore, Reached, here, through, IsAsked, AreAsked}
+use Rattle.isle_blocks.specs.Inside.Building.Gathering.{Gathered, with_sites, with_tests, with_pair, with_effect, interns, interns_each, demands}
+use Rattle.isle_blocks.specs.Inside.Building.Gathering.{equates, fitting, sites_from, tuple_output, extracted, outputs, constructed, counts, numbers, keeps}
 use Rattle.isle_blocks.specs.Building.Naming.{HaveFewArguments}
-use Rattle.isle_blocks.specs.Building.Steps.{values_of, each_some, arg_adds, content_adds, takes, makes, pattern_adds, expr_adds, rule_adds}
+use Rattle.isle_blocks.specs.Inside.Building.Steps.{values_of, each_some, arg_adds, content_adds, takes, makes, pattern_adds, expr_adds, rule_adds}
 use Rattle.isle_blocks.proofs.EqualSites.{binding-decides}
 use Rattle.isle_blocks.proofs.Building.Walking.{cons_cases, cons_here, cons_there, none_there}
 
@@ -460,13 +460,13 @@ module _ (terms : List Term) (few : HaveFewArguments terms) where
       by_term (Some term) at e = opening_asks term.kind term ty id input call e (few id.0 term at)
 
   -- a call that names nothing
-  goes_told : (call : PatternCall BindingId) (scope : Scope BindingId) → asked_of call ≤ 255
+  goes_told : (call : PatternCall BindingId) (scope : VisitScope BindingId) → asked_of call ≤ 255
       → Goes (in_turn (asks pattern_adds call) (λ _. done scope))
   goes_told call scope low =
       goes_turn (asks pattern_adds call) (λ _. done scope) (goes_asks pattern_adds call (goes_pattern call low)) (λ _. goes_done scope)
 
   mutual
-    goes_visits : (p : InternedPattern) (input : BindingId) (scope : Scope BindingId) → Goes (visits pattern_adds terms p input scope)
+    goes_visits : (p : InternedPattern) (input : BindingId) (scope : VisitScope BindingId) → Goes (visits pattern_adds terms p input scope)
     goes_visits (bind_pattern ty var p) input scope = goes_visits p input (bound scope var input)
     goes_visits (var_pattern ty var) input scope =
         goes_some (scope var) (λ other. in_turn (asks pattern_adds (match_equal input other ty)) (λ _. done scope)) stuck
@@ -482,14 +482,14 @@ module _ (terms : List Term) (few : HaveFewArguments terms) where
     goes_visits (wildcard_pattern ty) input scope = goes_done scope
     goes_visits (and_pattern ty ps) input scope = goes_both ps input scope
 
-    goes_all : (ps : InternedPatterns) (ids : List BindingId) (scope : Scope BindingId) → Goes (visits_all pattern_adds terms ps ids scope)
+    goes_all : (ps : InternedPatterns) (ids : List BindingId) (scope : VisitScope BindingId) → Goes (visits_all pattern_adds terms ps ids scope)
     goes_all no_patterns ids scope = goes_done scope
     goes_all (more_patterns p ps) [] scope = goes_stuck
     goes_all (more_patterns p ps) (id ∷ ids) scope =
         goes_turn (visits pattern_adds terms p id scope) (λ after. visits_all pattern_adds terms ps ids after) (goes_visits p id scope)
         (λ after. goes_all ps ids after)
 
-    goes_both : (ps : InternedPatterns) (input : BindingId) (scope : Scope BindingId) → Goes (visits_each pattern_adds terms ps input scope)
+    goes_both : (ps : InternedPatterns) (input : BindingId) (scope : VisitScope BindingId) → Goes (visits_each pattern_adds terms ps input scope)
     goes_both no_patterns input scope = goes_done scope
     goes_both (more_patterns p ps) input scope =
         goes_turn (visits pattern_adds terms p input scope) (λ after. visits_each pattern_adds terms ps input after) (goes_visits p input scope)
@@ -499,7 +499,7 @@ module _ (terms : List Term) (few : HaveFewArguments terms) where
   goes_value call = goes_asks expr_adds call (goes_expr_call call)
 
   mutual
-    goes_expr : (e : InternedExpr) (scope : Scope BindingId) → Goes (visits_expr expr_adds terms e scope)
+    goes_expr : (e : InternedExpr) (scope : VisitScope BindingId) → Goes (visits_expr expr_adds terms e scope)
     goes_expr (term_expr ty id es) scope =
         let make = λ (known : Term) (inputs : List (BindingId × TypeId)).
         on_some (making_of known.kind ty id inputs) (λ call. asks expr_adds call) stuck in
@@ -515,7 +515,7 @@ module _ (terms : List Term) (few : HaveFewArguments terms) where
         goes_turn (visits_bindings expr_adds terms bs scope) (λ inner. visits_expr expr_adds terms body inner) (goes_bindings bs scope)
         (λ inner. goes_expr body inner)
 
-    goes_exprs : (es : InternedExprs) (tys : List TypeId) (before : List (BindingId × TypeId)) (scope : Scope BindingId)
+    goes_exprs : (es : InternedExprs) (tys : List TypeId) (before : List (BindingId × TypeId)) (scope : VisitScope BindingId)
         → Goes (visits_exprs expr_adds terms es tys before scope)
     goes_exprs no_exprs tys before scope = goes_done before
     goes_exprs (more_exprs e es) [] before scope = goes_stuck
@@ -523,13 +523,13 @@ module _ (terms : List Term) (few : HaveFewArguments terms) where
         goes_turn (visits_expr expr_adds terms e scope) (λ value. visits_exprs expr_adds terms es tys (before ++ (value, ty) ∷ []) scope)
         (goes_expr e scope) (λ value. goes_exprs es tys (before ++ (value, ty) ∷ []) scope)
 
-    goes_bindings : (bs : InternedBindings) (scope : Scope BindingId) → Goes (visits_bindings expr_adds terms bs scope)
+    goes_bindings : (bs : InternedBindings) (scope : VisitScope BindingId) → Goes (visits_bindings expr_adds terms bs scope)
     goes_bindings no_bindings scope = goes_done scope
     goes_bindings (more_bindings var ty e bs) scope =
         goes_turn (visits_expr expr_adds terms e scope) (λ value. visits_bindings expr_adds terms bs (bound scope var value))
         (goes_expr e scope) (λ value. goes_bindings bs (bound scope var value))
 
-  goes_typed : (expr : Expr) (scope : Scope BindingId) → Goes (visits_typed expr_adds terms expr scope)
+  goes_typed : (expr : Expr) (scope : VisitScope BindingId) → Goes (visits_typed expr_adds terms expr scope)
   goes_typed expr scope =
       let inside = goes_expr (expr_of expr) scope in record {
         total = λ s. elim (inside.total s) [ inl (v, s', h) ↦ inl ((type_of_expr expr, v), s', (refl, h)) | inr (s', h) ↦ inr (s', h) ];
@@ -540,42 +540,42 @@ module _ (terms : List Term) (few : HaveFewArguments terms) where
         ];
       }
 
-  goes_var : (scope : Scope BindingId) (var : VarId) (values : Scope BindingId) → Goes (visits_var rule_adds scope var values)
+  goes_var : (scope : VisitScope BindingId) (var : VarId) (values : VisitScope BindingId) → Goes (visits_var rule_adds scope var values)
   goes_var scope var values =
       goes_some (scope var) (λ value. in_turn (asks rule_adds.pattern_as_expr value) (λ made. done (bound values var made))) (done values)
       (λ value at. goes_turn (asks rule_adds.pattern_as_expr value) (λ made. done (bound values var made))
       (goes_asks rule_adds.pattern_as_expr value (goes_done value)) (λ made. goes_done (bound values var made))) (goes_done values)
 
-  goes_vars : (scope : Scope BindingId) (var more : ℕ) (values : Scope BindingId) → Goes (visits_vars rule_adds scope var more values)
+  goes_vars : (scope : VisitScope BindingId) (var more : ℕ) (values : VisitScope BindingId) → Goes (visits_vars rule_adds scope var more values)
   goes_vars scope var zero values = goes_done values
   goes_vars scope var (suc more) values =
       goes_turn (visits_var rule_adds scope (record { 0 = var }) values) (λ after. visits_vars rule_adds scope (var + 1) more after)
       (goes_var scope (record { 0 = var }) values) (λ after. goes_vars scope (var + 1) more after)
 
-  goes_right : (count : ℕ) (expr : Expr) (scope : Scope BindingId) → Goes (visits_value rule_adds expr_adds terms count expr scope)
+  goes_right : (count : ℕ) (expr : Expr) (scope : VisitScope BindingId) → Goes (visits_value rule_adds expr_adds terms count expr scope)
   goes_right count expr scope =
       goes_turn (visits_vars rule_adds scope 0 count no_values) (λ values. in_expr rule_adds (visits_typed expr_adds terms expr values))
       (goes_vars scope 0 count no_values) (λ values. goes_in_expr (visits_typed expr_adds terms expr values) (goes_typed expr values))
 
-  goes_part : (p : Pattern) (input : BindingId) (scope : Scope BindingId) → Goes (visits_part rule_adds pattern_adds terms p input scope)
+  goes_part : (p : Pattern) (input : BindingId) (scope : VisitScope BindingId) → Goes (visits_part rule_adds pattern_adds terms p input scope)
   goes_part p input scope = goes_in_pattern (visits pattern_adds terms (pattern_of p) input scope) (goes_visits (pattern_of p) input scope)
 
-  goes_args : (ps : List Pattern) (tys : List TypeId) (index : ℕ) (scope : Scope BindingId) → index + length tys ≤ 255
+  goes_args : (ps : List Pattern) (tys : List TypeId) (index : ℕ) (scope : VisitScope BindingId) → index + length tys ≤ 255
       → Goes (visits_args rule_adds pattern_adds terms ps tys index scope)
   goes_args [] tys index scope low = goes_done scope
   goes_args (p ∷ ps) [] index scope low = goes_stuck
   goes_args (p ∷ ps) (ty ∷ tys) index scope low =
-      let rest = λ (after : Scope BindingId). visits_args rule_adds pattern_adds terms ps tys (index + 1) after in
+      let rest = λ (after : VisitScope BindingId). visits_args rule_adds pattern_adds terms ps tys (index + 1) after in
       goes_turn (asks rule_adds.arg (index, ty)) (λ id. in_turn (visits_part rule_adds pattern_adds terms p id scope) rest)
       (goes_asks rule_adds.arg (index, ty) (goes_arg (index, ty) (omega arith)))
       (λ id. goes_turn (visits_part rule_adds pattern_adds terms p id scope) rest (goes_part p id scope)
       (λ after. goes_args ps tys (index + 1) after (omega arith)))
 
-  goes_iflets : (count : ℕ) (is : List IfLet) (scope : Scope BindingId)
+  goes_iflets : (count : ℕ) (is : List IfLet) (scope : VisitScope BindingId)
       → Goes (visits_iflets rule_adds pattern_adds expr_adds terms count is scope)
   goes_iflets count [] scope = goes_done scope
   goes_iflets count (i ∷ is) scope =
-      let rest = λ (after : Scope BindingId). visits_iflets rule_adds pattern_adds expr_adds terms count is after in
+      let rest = λ (after : VisitScope BindingId). visits_iflets rule_adds pattern_adds expr_adds terms count is after in
       let part = λ (id : BindingId). visits_part rule_adds pattern_adds terms i.lhs id scope in
       goes_turn (visits_value rule_adds expr_adds terms count i.rhs scope)
       (λ x. in_turn (asks rule_adds.expr_as_pattern x) (λ id. in_turn (part id) rest)) (goes_right count i.rhs scope)
@@ -583,7 +583,7 @@ module _ (terms : List Term) (few : HaveFewArguments terms) where
       (goes_asks rule_adds.expr_as_pattern x (goes_content x))
       (λ id. goes_turn (part id) rest (goes_part i.lhs id scope) (λ after. goes_iflets count is after)))
 
-  goes_rest : (rule : Rule) (scope : Scope BindingId) → Goes (visits_rest rule_adds pattern_adds expr_adds terms rule scope)
+  goes_rest : (rule : Rule) (scope : VisitScope BindingId) → Goes (visits_rest rule_adds pattern_adds expr_adds terms rule scope)
   goes_rest rule scope =
       goes_turn (visits_iflets rule_adds pattern_adds expr_adds terms (length rule.vars) rule.iflets scope)
       (λ after. visits_value rule_adds expr_adds terms (length rule.vars) rule.rhs after) (goes_iflets (length rule.vars) rule.iflets scope)

@@ -7,10 +7,10 @@ use Rattle.isle_terms.specs.declared.rules.Expr.{Expr}
 use Rattle.isle_terms.specs.declared.rules.IfLet.{IfLet}
 use Rattle.isle_terms.specs.declared.terms.Term.{Term}
 use Rattle.isle_terms.specs.TypedRules.{TypedExpr, TypedExprs, TypedBindings, built_term, built_var, built_bool, built_int, built_prim, built_let}
-use Rattle.isle_terms.specs.TypedRules.{no_built, more_built, no_bindings, more_bindings, TypedIfLet, TypedRule}
+use Rattle.isle_terms.specs.TypedRules.{no_built, more_built, no_typed_bindings, more_typed_bindings, TypedIfLet, TypedRule}
 use Rattle.isle_terms.specs.SoundRules.KeptScopes.{Scope, counting, with_next, ExprUses, ExprsUse, BindingsAdd, IfLetsBind}
 use Rattle.isle_terms.specs.Visits.VisitScopes.{no_values}
-use Rattle.isle_terms.specs.Visits.VisitScopes.{Scope as Numbers}
+use Rattle.isle_terms.specs.Visits.VisitScopes.{VisitScope}
 use Rattle.isle_terms.specs.Visits.InternedTrees.{pattern_of, expr_of}
 use Rattle.isle_terms.specs.Visits.Events.{visits}
 use Rattle.isle_terms.specs.Visits.RuleEvents.{visits_value, visits_iflets}
@@ -23,10 +23,10 @@ use Rattle.isle_meaning.specs.Numbered.{Row, At}
 use Rattle.isle_meaning.proofs.Matching.Visited.{visit_is_written}
 use Rattle.isle_blocks.specs.declared.ids.BindingId.{BindingId}
 use Rattle.isle_blocks.specs.Rows.{IsInjective, rows_of}
-use Rattle.isle_blocks.specs.Building.Gathering.{Gathered}
+use Rattle.isle_blocks.specs.Inside.Building.Gathering.{Gathered}
 use Rattle.isle_blocks.specs.Building.Standing.{Adds, StandEach}
-use Rattle.isle_blocks.specs.Building.Steps.{pattern_adds, expr_adds, rule_adds}
-use Rattle.isle_blocks.specs.Building.Named.{named_expr, named_iflet, AreKnownTerms, IfLetsAreFilled, CallNothingImpure}
+use Rattle.isle_blocks.specs.Inside.Building.Steps.{pattern_adds, expr_adds, rule_adds}
+use Rattle.isle_blocks.specs.Inside.Building.Named.{named_expr, named_iflet, AreKnownTerms, IfLetsAreFilled, CallNothingImpure}
 use Rattle.isle_blocks.proofs.Building.Entries.{adds_then}
 use Rattle.isle_blocks.proofs.Building.Told.{Told, nothing_recorded, told_grown, told_none}
 use Rattle.isle_blocks.proofs.Building.Patterns.{Stand, AreBelow, stand_later, Followed, followed_told, followed_then, follow}
@@ -52,14 +52,14 @@ mutual
       let first = uses_more e scope h.0 h.1 in let last = use_more es (counting scope h.0) count h.2 in omega arith
 
   adds_more : (bs : TypedBindings) (before after : Scope) → BindingsAdd bs before after → before.count ≤ after.count
-  adds_more no_bindings before after h = let e = ap (λ (z : Scope). z.count) h in omega arith
-  adds_more (more_bindings var ty e bs) before after h =
+  adds_more no_typed_bindings before after h = let e = ap (λ (z : Scope). z.count) h in omega arith
+  adds_more (more_typed_bindings var ty e bs) before after h =
       let first = uses_more e before var h.0 in let last = adds_more bs (with_next (counting before var)) after h.1 in omega arith
 
 below_counting : (scope : Scope) (count : ℕ) → scope.count ≤ count → AreBelow scope → AreBelow (counting scope count)
 below_counting scope count m low var u = let below = low var u in omega arith
 
-none_carried : (numbers : Numbers BindingId) → Carries numbers no_values
+none_carried : (numbers : VisitScope BindingId) → Carries numbers no_values
 none_carried numbers var id e = absurd (none-some id e)
 
 -- nothing stands for nothing
@@ -76,7 +76,7 @@ visited_adds name injective s s' after v = subst (λ z. Adds (rows_of name s.sit
 module _ (name : Sym → List ℕ) (injective : IsInjective name) (names : List (List ℕ)) (facts : TermFacts) (terms : List Term)
     (known : AreKnownTerms names facts terms) where
   -- an expression, under the variables that patterns bound
-  pub follow_value : (count : ℕ) (e : Expr) (before : Scope) (next : ℕ) (numbers : Numbers BindingId) (vars : ℕ → Site) (log : Log) (s s' : Gathered)
+  pub follow_value : (count : ℕ) (e : Expr) (before : Scope) (next : ℕ) (numbers : VisitScope BindingId) (vars : ℕ → Site) (log : Log) (s s' : Gathered)
       (x : BindingId) → Stand (rows_of name s.sites) before.usable numbers vars → StandEach (rows_of name s.sites) s.impure log.impure
       → ExprUses (named_expr name (expr_of e)) before next → visits_value rule_adds expr_adds terms count e numbers s (Ok x) s'
       → Evaluates name injective names facts s log (visit facts vars log (named_expr name (expr_of e))) x s'
@@ -144,7 +144,7 @@ module _ (name : Sym → List ℕ) (injective : IsInjective name) (names : List 
         )
 
     -- conditions, each under what those before bound
-    pub follow_iflets : (is : List IfLet) (count : ℕ) (met : List TypedIfLet) (before after : Scope) (numbers out : Numbers BindingId)
+    pub follow_iflets : (is : List IfLet) (count : ℕ) (met : List TypedIfLet) (before after : Scope) (numbers out : VisitScope BindingId)
         (vars : ℕ → Site) (needed : List Site) (s s' : Gathered) → vars ≡ iflets_bound facts met (args_bound facts rule)
         → Adds [] needed (rows_of name s.sites) → s.impure ≡ [] → Stand (rows_of name s.sites) before.usable numbers vars → AreBelow before
         → IfLetsBind (map (named_iflet name) is) before after → IfLetsAreFilled facts (map (named_iflet name) is)

@@ -24,7 +24,7 @@ use Rattle.isle_terms.specs.Shown.RulesShown.{iflet_limit, IsShownRule}
 use Rattle.isle_terms.specs.Visits.InternedTrees.{InternedPattern, InternedExpr, listed_patterns, pattern_node, pattern_of, listed_exprs}
 use Rattle.isle_terms.specs.Visits.InternedTrees.{listed_bindings, expr_node, expr_of}
 use Rattle.isle_blocks.specs.Rows.{IsInjective}
-use Rattle.isle_blocks.specs.Building.Named.{named_pattern, named_patterns, named_expr, named_exprs, named_bindings, named_iflet, IsNamedRule}
+use Rattle.isle_blocks.specs.Inside.Building.Named.{named_pattern, named_patterns, named_expr, named_exprs, named_bindings, named_iflet, IsNamedRule}
 use Rattle.isle_blocks.specs.Building.Naming.{longest_of, text_beyond, name_by}
 
 -- no name is longer than the longest

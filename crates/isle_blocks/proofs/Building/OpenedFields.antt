@@ -14,9 +14,9 @@ use Rattle.isle_meaning.specs.Numbered.{Row, At, AtAll}
 use Rattle.isle_meaning.proofs.Matching.Numbering.{one_site}
 use Rattle.isle_blocks.specs.declared.binding.Binding.{Binding}
 use Rattle.isle_blocks.specs.Rows.{IsInjective, rows_of}
-use Rattle.isle_blocks.specs.ClosureFields.{IsTable}
+use Rattle.isle_blocks.specs.Tables.{IsTable}
 use Rattle.isle_blocks.specs.Closure.{Stands}
-use Rattle.isle_blocks.specs.Placing.{IsExplained}
+use Rattle.isle_blocks.specs.Inside.Placing.{IsExplained}
 use Rattle.isle_blocks.specs.Building.Standing.{Adds, begin, next, IsEntryOf, IsPut, GoesOn}
 use Rattle.isle_blocks.proofs.Building.Tables.{at_within}
 use Rattle.isle_blocks.proofs.Closure.Longer.{at_longer}

@@ -24,9 +24,9 @@ use Rattle.isle_blocks.specs.declared.binding.Binding.TheVariants as sites
 use Rattle.isle_blocks.specs.declared.constraint.Constraint.TheVariants as tests
 use Rattle.isle_blocks.specs.Constraints.{variant_field, struct_field}
 use Rattle.isle_blocks.specs.Rows.{IsInjective, rows_of}
-use Rattle.isle_blocks.specs.Building.Gathering.{Gathered}
-use Rattle.isle_blocks.specs.Building.Steps.{pattern_adds, takes}
-use Rattle.isle_blocks.specs.Building.Named.{IsKnownTerm}
+use Rattle.isle_blocks.specs.Inside.Building.Gathering.{Gathered}
+use Rattle.isle_blocks.specs.Inside.Building.Steps.{pattern_adds, takes}
+use Rattle.isle_blocks.specs.Inside.Building.Named.{IsKnownTerm}
 use Rattle.isle_blocks.proofs.Building.Entries.{at_grown}
 use Rattle.isle_blocks.proofs.Building.Told.{Told, StandFrom, told_intern, told_demand, told_then, told_each, told_extracted, told_outputs}
 

@@ -16,15 +16,15 @@ use Rattle.isle_meaning.specs.Facts.{facts_of}
 use Rattle.isle_meaning.specs.Needs.{needs_of, IsNeeded}
 use Rattle.isle_meaning.specs.Numbered.{Row, At}
 use Rattle.isle_meaning.specs.Sites.{Site}
-use Rattle.isle_terms.specs.Collecting.Environments.{ShowsTerms}
+use Rattle.isle_terms.specs.TermEnvs.{ShowsTerms}
 use Rattle.isle_terms.specs.Shown.TermTables.{TermTables}
 use Rattle.isle_meaning.proofs.Matching.Numbering.{one_site}
 use Rattle.isle_blocks.specs.declared.builder.BuiltRule.{BuiltRule}
 use Rattle.isle_blocks.specs.declared.binding.Binding.{Binding}
 use Rattle.isle_blocks.specs.Closure.{Stands}
 use Rattle.isle_blocks.specs.Rows.{row_of, rows_of}
-use Rattle.isle_blocks.specs.Building.Building.{gathers, BuildsRule}
-use Rattle.isle_blocks.specs.Building.Gathering.{Gathered, nothing_gathered}
+use Rattle.isle_blocks.specs.Inside.Building.Building.{gathers, BuildsRule}
+use Rattle.isle_blocks.specs.Inside.Building.Gathering.{Gathered, nothing_gathered}
 use Rattle.isle_blocks.specs.Building.Naming.{name_by, HaveFewArguments, NeedsTooMany, HasTooManySites}
 use Rattle.isle_blocks.specs.Building.Standing.{Adds}
 use Rattle.isle_blocks.proofs.AddedRules.{stands_for}

@@ -14,7 +14,7 @@ use Rattle.isle_terms.specs.TypedRules.{typed_and, TypedPatterns, no_typed, more
 use Rattle.isle_terms.specs.SoundRules.KeptScopes.{Scope, with_next, IsUsable, PatternBinds, PatternsBind}
 use Rattle.isle_terms.specs.Visits.Runs.{done, asks, in_turn, on_some, stuck}
 use Rattle.isle_terms.specs.Visits.VisitScopes.{bound as bound_by}
-use Rattle.isle_terms.specs.Visits.VisitScopes.{Scope as Numbers}
+use Rattle.isle_terms.specs.Visits.VisitScopes.{VisitScope}
 use Rattle.isle_terms.specs.Visits.VisitorCalls.{PatternCall, match_equal, opening_of, opening}
 use Rattle.isle_terms.specs.Visits.InternedTrees.{InternedPattern, InternedPatterns, bind_pattern, var_pattern, bool_pattern, int_pattern}
 use Rattle.isle_terms.specs.Visits.InternedTrees.{prim_pattern, term_pattern, wildcard_pattern, and_pattern, no_patterns, more_patterns}
@@ -29,27 +29,27 @@ use Rattle.isle_blocks.specs.declared.ids.BindingId.{BindingId}
 use Rattle.isle_blocks.specs.declared.constraint.Constraint.{Constraint}
 use Rattle.isle_blocks.specs.declared.constraint.Constraint.TheVariants as tests
 use Rattle.isle_blocks.specs.Rows.{IsInjective, rows_of, test_of}
-use Rattle.isle_blocks.specs.Building.Gathering.{Gathered}
-use Rattle.isle_blocks.specs.Building.Gathering.{demands as takes_demand}
-use Rattle.isle_blocks.specs.Building.Steps.{pattern_adds}
-use Rattle.isle_blocks.specs.Building.Named.{named_pattern, named_patterns, AreKnownTerms, IsFilled, AreFilled}
+use Rattle.isle_blocks.specs.Inside.Building.Gathering.{Gathered}
+use Rattle.isle_blocks.specs.Inside.Building.Gathering.{demands as takes_demand}
+use Rattle.isle_blocks.specs.Inside.Building.Steps.{pattern_adds}
+use Rattle.isle_blocks.specs.Inside.Building.Named.{named_pattern, named_patterns, AreKnownTerms, IsFilled, AreFilled}
 use Rattle.isle_blocks.proofs.Building.Entries.{Grown, at_grown}
 use Rattle.isle_blocks.proofs.Building.Told.{Told, StandFrom, stand_grown, stand_shift, told_grown, told_none, told_then, told_demand, told_equates}
 use Rattle.isle_blocks.proofs.Building.Openings.{told_opening}
 
 -- the numbers of the variables that can be used stand for their sites
-abbrev pub Stand : List Row → List ℕ → Numbers BindingId → (ℕ → Site) → Type 0
+abbrev pub Stand : List Row → List ℕ → VisitScope BindingId → (ℕ → Site) → Type 0
 Stand rows usable numbers vars = (var : VarId) (id : BindingId) → IsUsable usable var.0 → numbers var ≡ Some id → At rows (vars var.0) id.0
 
 abbrev pub AreBelow : Scope → Type 0
 AreBelow scope = (var : ℕ) → IsUsable scope.usable var → var < scope.count
 
-pub stand_later : (rows new : List Row) → Grown rows new → (usable : List ℕ) (numbers : Numbers BindingId) (vars : ℕ → Site)
+pub stand_later : (rows new : List Row) → Grown rows new → (usable : List ℕ) (numbers : VisitScope BindingId) (vars : ℕ → Site)
     → Stand rows usable numbers vars → Stand new usable numbers vars
 stand_later rows new g usable numbers vars h var id u e = at_grown rows new g (vars var.0) id.0 (h var id u e)
 
 -- another variable, bound where none can use it yet
-stand_under : (rows : List Row) (scope : Scope) (numbers : Numbers BindingId) (vars : ℕ → Site) (own : VarId) (input : BindingId)
+stand_under : (rows : List Row) (scope : Scope) (numbers : VisitScope BindingId) (vars : ℕ → Site) (own : VarId) (input : BindingId)
     → AreBelow scope → scope.count ≤ own.0 → Stand rows scope.usable numbers vars → Stand rows scope.usable (bound_by numbers own input) vars
 stand_under rows scope numbers vars own input low fits h var id u e = go (own.0 == var.0) refl
   where
@@ -58,7 +58,7 @@ stand_under rows scope numbers vars own input low fits h var id u e = go (own.0 
     go false t = h var id u (rw t at e)
 
 -- the next variable can be used
-stand_next : (rows : List Row) (inside : Scope) (numbers : Numbers BindingId) (vars : ℕ → Site) (own : VarId) (input : BindingId) (t : Site)
+stand_next : (rows : List Row) (inside : Scope) (numbers : VisitScope BindingId) (vars : ℕ → Site) (own : VarId) (input : BindingId) (t : Site)
     → own.0 ≡ inside.count → AreBelow inside → numbers own ≡ Some input → At rows t input.0 → Stand rows inside.usable numbers vars
     → Stand rows (with_next inside).usable numbers (set vars own.0 t)
 stand_next rows inside numbers vars own input t is low has there h var id (inl e) f =
@@ -78,7 +78,7 @@ below_next inside low var (inl e) = omega arith
 below_next inside low var (inr u) = let below = low var u in omega arith
 
 -- another variable keeps what it had
-apart : (scope : Numbers BindingId) (own : VarId) (input : BindingId) (var : VarId) → own.0 < var.0 → bound_by scope own input var ≡ scope var
+apart : (scope : VisitScope BindingId) (own : VarId) (input : BindingId) (var : VarId) → own.0 < var.0 → bound_by scope own input var ≡ scope var
 apart scope own input var m = go (own.0 == var.0) refl
   where
     go : (b : Bool) → (own.0 == var.0) ≡ b → bound_by scope own input var ≡ scope var
@@ -105,8 +105,8 @@ mutual
 
 module _ (name : Sym → List ℕ) (injective : IsInjective name) where
   -- what a visit under some variables leaves
-  pub record Followed (s : Gathered) (before : Scope) (scope : Numbers BindingId) (needed : List Site) (ds : List Demand) (vars : ℕ → Site)
-      (after : Scope) (out : Numbers BindingId) (s' : Gathered) : Type 0 where
+  pub record Followed (s : Gathered) (before : Scope) (scope : VisitScope BindingId) (needed : List Site) (ds : List Demand) (vars : ℕ → Site)
+      (after : Scope) (out : VisitScope BindingId) (s' : Gathered) : Type 0 where
     pub told : Told name injective s needed ds s'
     pub stand : Stand (rows_of name s'.sites) after.usable out vars
     pub low : AreBelow after
@@ -114,7 +114,7 @@ module _ (name : Sym → List ℕ) (injective : IsInjective name) where
     pub kept : (var : VarId) → after.count ≤ var.0 → out var ≡ scope var
 
   -- a step that binds nothing
-  pub followed_told : (s mid s' : Gathered) (before after : Scope) (scope out : Numbers BindingId) (vars : ℕ → Site) (needed : List Site) (ds : List Demand)
+  pub followed_told : (s mid s' : Gathered) (before after : Scope) (scope out : VisitScope BindingId) (vars : ℕ → Site) (needed : List Site) (ds : List Demand)
       → Told name injective s needed ds mid → Stand (rows_of name s.sites) before.usable scope vars → AreBelow before → after ≡ before
       → done {S = Gathered} scope mid (Ok out) s' → Followed s before scope needed ds vars after out s'
   followed_told s mid s' before after scope out vars needed ds told h low e end =
@@ -129,7 +129,7 @@ module _ (name : Sym → List ℕ) (injective : IsInjective name) where
         kept = λ var m. refl;
       })))
 
-  pub followed_then : (s mid s' : Gathered) (before between after : Scope) (scope numbers out : Numbers BindingId) (xs ys : List Site) (ds es : List Demand)
+  pub followed_then : (s mid s' : Gathered) (before between after : Scope) (scope numbers out : VisitScope BindingId) (xs ys : List Site) (ds es : List Demand)
       (inner vars : ℕ → Site) → Followed s before scope xs ds inner between numbers mid → Followed mid between numbers ys es vars after out s'
       → Followed s before scope (xs ++ ys) (ds ++ es) vars after out s'
   followed_then s mid s' before between after scope numbers out xs ys ds es inner vars h k = record {
@@ -142,7 +142,7 @@ module _ (name : Sym → List ℕ) (injective : IsInjective name) where
 
   module _ (names : List (List ℕ)) (facts : TermFacts) (terms : List Term) (known : AreKnownTerms names facts terms) where
     -- a test
-    tested : (test : Constraint) (input : BindingId) (t : Site) (before after : Scope) (scope out : Numbers BindingId) (vars : ℕ → Site)
+    tested : (test : Constraint) (input : BindingId) (t : Site) (before after : Scope) (scope out : VisitScope BindingId) (vars : ℕ → Site)
         (s s' mid : Gathered) (ids : List BindingId)
         → At (rows_of name s.sites) t input.0 → Stand (rows_of name s.sites) before.usable scope vars → AreBelow before → after ≡ before
         → takes_demand input test s (Ok ids) mid → done {S = Gathered} scope mid (Ok out) s'
@@ -153,7 +153,7 @@ module _ (name : Sym → List ℕ) (injective : IsInjective name) where
 
     -- an equality
     followed_var : (o : Option BindingId) (ty : TypeId) (var : VarId) (input : BindingId) (t : Site) (before after : Scope)
-        (scope out : Numbers BindingId) (vars : ℕ → Site)
+        (scope out : VisitScope BindingId) (vars : ℕ → Site)
         (s s' : Gathered) → scope var ≡ o → IsUsable before.usable var.0
         → At (rows_of name s.sites) t input.0 → Stand (rows_of name s.sites) before.usable scope vars → AreBelow before → after ≡ before
         → on_some o (λ other. in_turn (asks pattern_adds (match_equal input other ty)) (λ _. done scope)) stuck s (Ok out) s'
@@ -165,7 +165,7 @@ module _ (name : Sym → List ℕ) (injective : IsInjective name) where
 
     -- patterns, each at its number
     abbrev FollowsAll : InternedPatterns → Type 0
-    FollowsAll ps = (ids : List BindingId) (at : ℕ → Site) (before after : Scope) (scope out : Numbers BindingId) (vars : ℕ → Site) (s s' : Gathered)
+    FollowsAll ps = (ids : List BindingId) (at : ℕ → Site) (before after : Scope) (scope out : VisitScope BindingId) (vars : ℕ → Site) (s s' : Gathered)
         → StandFrom (rows_of name s.sites) ids at 0 → Stand (rows_of name s.sites) before.usable scope vars → AreBelow before
         → PatternsBind (named_patterns name ps) before after → AreFilled facts (named_patterns name ps)
         → visits_all pattern_adds terms ps ids scope s (Ok out) s'
@@ -173,7 +173,7 @@ module _ (name : Sym → List ℕ) (injective : IsInjective name) where
         (bound_all facts (named_patterns name ps) at vars) after out s'
 
     followed_opened : (term : Option Term) (o : Option (PatternCall BindingId)) (ty : TypeId) (id : TermId) (ps : InternedPatterns) → FollowsAll ps
-        → (input : BindingId) (t : Site) (before after : Scope) (scope out : Numbers BindingId) (vars : ℕ → Site) (s s' : Gathered)
+        → (input : BindingId) (t : Site) (before after : Scope) (scope out : VisitScope BindingId) (vars : ℕ → Site) (s s' : Gathered)
         → slice_get terms id.0 ≡ term → option_and_then (λ (z : Term). opening_of z.kind z ty id input) term ≡ o
         → At (rows_of name s.sites) t input.0 → Stand (rows_of name s.sites) before.usable scope vars → AreBelow before
         → PatternsBind (named_patterns name ps) before after → IsFilled facts (typed_term ty.0 id.0 (named_patterns name ps))
@@ -202,7 +202,7 @@ module _ (name : Sym → List ℕ) (injective : IsInjective name) where
         (stand_later (rows_of name s.sites) (rows_of name mid.sites) g before.usable scope vars h) low binds filled.1 run.3)
 
     -- what binds a pattern's value: the variable is the next one, after those of the pattern
-    follow_bound : (p : InternedPattern) (input : BindingId) (t : Site) (before inside after : Scope) (scope out : Numbers BindingId) (vars : ℕ → Site)
+    follow_bound : (p : InternedPattern) (input : BindingId) (t : Site) (before inside after : Scope) (scope out : VisitScope BindingId) (vars : ℕ → Site)
         (own : VarId) (s s' : Gathered) → At (rows_of name s.sites) t input.0 → own.0 ≡ inside.count → after ≡ with_next inside
         → Followed s before (bound_by scope own input) (needs facts (named_pattern name p) t) (demands facts (named_pattern name p) t vars)
         (bound facts (named_pattern name p) t vars) inside out s'
@@ -225,7 +225,7 @@ module _ (name : Sym → List ℕ) (injective : IsInjective name) where
 
     mutual
       -- a pattern at a site
-      pub follow : (p : InternedPattern) (input : BindingId) (t : Site) (before after : Scope) (scope out : Numbers BindingId) (vars : ℕ → Site)
+      pub follow : (p : InternedPattern) (input : BindingId) (t : Site) (before after : Scope) (scope out : VisitScope BindingId) (vars : ℕ → Site)
           (s s' : Gathered) → At (rows_of name s.sites) t input.0 → Stand (rows_of name s.sites) before.usable scope vars → AreBelow before
           → PatternBinds (named_pattern name p) before after → IsFilled facts (named_pattern name p)
           → visits pattern_adds terms p input scope s (Ok out) s'
@@ -254,7 +254,7 @@ module _ (name : Sym → List ℕ) (injective : IsInjective name) where
       follow (and_pattern ty ps) input t before after scope out vars s s' is h low binds filled run =
           follow_each ps input t before after scope out vars s s' is h low binds filled run
 
-      pub follow_all : (ps : InternedPatterns) (ids : List BindingId) (at : ℕ → Site) (before after : Scope) (scope out : Numbers BindingId)
+      pub follow_all : (ps : InternedPatterns) (ids : List BindingId) (at : ℕ → Site) (before after : Scope) (scope out : VisitScope BindingId)
           (vars : ℕ → Site) (s s' : Gathered)
           → StandFrom (rows_of name s.sites) ids at 0 → Stand (rows_of name s.sites) before.usable scope vars → AreBelow before
           → PatternsBind (named_patterns name ps) before after → AreFilled facts (named_patterns name ps)
@@ -278,7 +278,7 @@ module _ (name : Sym → List ℕ) (injective : IsInjective name) where
           (demands facts typed (at 0) vars) (demands_all facts others (λ i. at (suc i)) inner) inner (bound_all facts others (λ i. at (suc i)) inner)
           one rest
 
-      pub follow_each : (ps : InternedPatterns) (input : BindingId) (t : Site) (before after : Scope) (scope out : Numbers BindingId)
+      pub follow_each : (ps : InternedPatterns) (input : BindingId) (t : Site) (before after : Scope) (scope out : VisitScope BindingId)
           (vars : ℕ → Site) (s s' : Gathered)
           → At (rows_of name s.sites) t input.0 → Stand (rows_of name s.sites) before.usable scope vars → AreBelow before
           → PatternsBind (named_patterns name ps) before after → AreFilled facts (named_patterns name ps)

@@ -11,7 +11,7 @@ use Rattle.isle_terms.specs.declared.terms.Term.{Term}
 use Rattle.isle_terms.specs.SoundRules.KeptScopes.{Scope, PatternsBind}
 use Rattle.isle_terms.specs.Visits.Runs.{Run, done, asks, in_turn, on_some}
 use Rattle.isle_terms.specs.Visits.VisitScopes.{bound as bound_by}
-use Rattle.isle_terms.specs.Visits.VisitScopes.{Scope as Numbers}
+use Rattle.isle_terms.specs.Visits.VisitScopes.{VisitScope}
 use Rattle.isle_terms.specs.Visits.InternedTrees.{listed_patterns, pattern_of}
 use Rattle.isle_terms.specs.Visits.Events.{visits}
 use Rattle.isle_terms.specs.Visits.RuleSteps.{in_pattern}
@@ -24,9 +24,9 @@ use Rattle.isle_meaning.specs.Numbered.{Row}
 use Rattle.isle_blocks.specs.declared.ids.BindingId.{BindingId}
 use Rattle.isle_blocks.specs.declared.binding.Binding.TheVariants as sites
 use Rattle.isle_blocks.specs.Rows.{IsInjective, rows_of}
-use Rattle.isle_blocks.specs.Building.Gathering.{Gathered}
-use Rattle.isle_blocks.specs.Building.Steps.{pattern_adds, rule_adds}
-use Rattle.isle_blocks.specs.Building.Named.{named_pattern, named_patterns, AreKnownTerms, AreFilled}
+use Rattle.isle_blocks.specs.Inside.Building.Gathering.{Gathered}
+use Rattle.isle_blocks.specs.Inside.Building.Steps.{pattern_adds, rule_adds}
+use Rattle.isle_blocks.specs.Inside.Building.Named.{named_pattern, named_patterns, AreKnownTerms, AreFilled}
 use Rattle.isle_blocks.proofs.Building.Told.{told_grown, told_none, told_intern}
 use Rattle.isle_blocks.proofs.Building.Patterns.{Stand, AreBelow, Followed, followed_told, followed_then, follow}
 
@@ -35,10 +35,10 @@ pub by_itself : {A : Type 0} (run : Run Gathered A) (s s' : Gathered) (a : A) �
 by_itself run s s' a h = subst (λ x. run x (Ok a) s') (sym h.2) (subst (λ y. run h.0 (Ok a) y) h.4 h.3)
 
 -- a variable that expressions are given has the number that it has in patterns
-abbrev pub Carries : Numbers BindingId → Numbers BindingId → Type 0
+abbrev pub Carries : VisitScope BindingId → VisitScope BindingId → Type 0
 Carries numbers values = (var : VarId) (id : BindingId) → values var ≡ Some id → numbers var ≡ Some id
 
-carries_bound : (numbers values : Numbers BindingId) (own : VarId) (id : BindingId) → numbers own ≡ Some id → Carries numbers values
+carries_bound : (numbers values : VisitScope BindingId) (own : VarId) (id : BindingId) → numbers own ≡ Some id → Carries numbers values
     → Carries numbers (bound_by values own id)
 carries_bound numbers values own id is h var other e = go (own.0 == var.0) refl
   where
@@ -50,7 +50,7 @@ carries_bound numbers values own id is h var other e = go (own.0 == var.0) refl
         ap numbers (sym one) ∙ is ∙ ap (λ z. Some z) given
     go false q = h var other (rw q at e)
 
-carries_var : (o : Option BindingId) (numbers values after : Numbers BindingId) (own : VarId) (s s' : Gathered) → numbers own ≡ o
+carries_var : (o : Option BindingId) (numbers values after : VisitScope BindingId) (own : VarId) (s s' : Gathered) → numbers own ≡ o
     → Carries numbers values
     → on_some o (λ value. in_turn (asks (λ (id : BindingId). done {S = Gathered} id) value) (λ made. done (bound_by values own made))) (done values) s
     (Ok after) s'
@@ -63,7 +63,7 @@ carries_var (Some value) numbers values after own s s' o h run = (
 )
 
 -- nothing is gathered by giving variables to expressions
-pub follow_vars : (n var : ℕ) (numbers values out : Numbers BindingId) (s s' : Gathered) → Carries numbers values
+pub follow_vars : (n var : ℕ) (numbers values out : VisitScope BindingId) (s s' : Gathered) → Carries numbers values
     → visits_vars rule_adds numbers var n values s (Ok out) s' → (s ≡ s') × Carries numbers out
 follow_vars zero var numbers values out s s' h run = (run.1, subst (λ z. Carries numbers z) run.0 h)
 follow_vars (suc n) var numbers values out s s' h run =
@@ -72,14 +72,14 @@ follow_vars (suc n) var numbers values out s s' h run =
     (one.0 ∙ rest.0, rest.1)
 
 -- what stands for patterns stands for expressions
-pub stand_carried : (rows : List Row) (usable : List ℕ) (numbers values : Numbers BindingId) (vars : ℕ → Site) → Carries numbers values
+pub stand_carried : (rows : List Row) (usable : List ℕ) (numbers values : VisitScope BindingId) (vars : ℕ → Site) → Carries numbers values
     → Stand rows usable numbers vars → Stand rows usable values vars
 stand_carried rows usable numbers values vars c h var id u e = h var id u (c var id e)
 
 module _ (name : Sym → List ℕ) (injective : IsInjective name) (names : List (List ℕ)) (facts : TermFacts) (terms : List Term)
     (known : AreKnownTerms names facts terms) where
   -- a rule's arguments, each with its pattern
-  pub follow_args : (ps : List Pattern) (tys : List TypeId) (index : ℕ) (at : ℕ → Site) (before after : Scope) (scope out : Numbers BindingId)
+  pub follow_args : (ps : List Pattern) (tys : List TypeId) (index : ℕ) (at : ℕ → Site) (before after : Scope) (scope out : VisitScope BindingId)
       (vars : ℕ → Site) (s s' : Gathered) → ((i : ℕ) → at i ≡ argument (index + i)) → Stand (rows_of name s.sites) before.usable scope vars
       → AreBelow before → PatternsBind (named_patterns name (listed_patterns (map pattern_of ps))) before after
       → AreFilled facts (named_patterns name (listed_patterns (map pattern_of ps)))

@@ -20,14 +20,14 @@ use Rattle.isle_meaning.proofs.Matching.Visited.{visit_is_written}
 use Rattle.isle_blocks.specs.declared.ids.BindingId.{BindingId}
 use Rattle.isle_blocks.specs.declared.constraint.Constraint.{Constraint}
 use Rattle.isle_blocks.specs.Rows.{IsInjective, rows_of, constraints_of, pairs_of}
-use Rattle.isle_blocks.specs.Building.Gathering.{Gathered, nothing_gathered}
+use Rattle.isle_blocks.specs.Inside.Building.Gathering.{Gathered, nothing_gathered}
 use Rattle.isle_blocks.specs.Building.Standing.{Adds, StandEach}
-use Rattle.isle_blocks.specs.Building.Steps.{pattern_adds, expr_adds, rule_adds}
-use Rattle.isle_blocks.specs.Building.Named.{named_patterns, named_expr, named_iflet, AreKnownTerms, AreFilled, IfLetsAreFilled, CallNothingImpure}
-use Rattle.isle_blocks.specs.Building.Named.{IsNamedRule}
-use Rattle.isle_blocks.specs.Building.Building.{gathers}
-use Rattle.isle_blocks.specs.Building.Built.{IsBuiltOf}
-use Rattle.isle_blocks.specs.Building.Contents.{PartsAreBefore}
+use Rattle.isle_blocks.specs.Inside.Building.Steps.{pattern_adds, expr_adds, rule_adds}
+use Rattle.isle_blocks.specs.Inside.Building.Named.{named_patterns, named_expr, named_iflet, AreKnownTerms, AreFilled, IfLetsAreFilled, CallNothingImpure}
+use Rattle.isle_blocks.specs.Inside.Building.Named.{IsNamedRule}
+use Rattle.isle_blocks.specs.Inside.Building.Building.{gathers}
+use Rattle.isle_blocks.specs.Inside.Building.Built.{IsBuiltOf}
+use Rattle.isle_blocks.specs.Inside.Building.Contents.{PartsAreBefore}
 use Rattle.isle_blocks.proofs.Building.Entries.{adds_then, recorded_grown}
 use Rattle.isle_blocks.proofs.Building.Told.{told_then}
 use Rattle.isle_blocks.proofs.Building.Exprs.{visited_rows}

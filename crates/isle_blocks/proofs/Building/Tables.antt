@@ -16,7 +16,7 @@ use Rattle.isle_blocks.specs.declared.binding.Binding.{Binding}
 use Rattle.isle_blocks.specs.Bindings.{sources_of}
 use Rattle.isle_blocks.specs.Rows.{row_of, rows_of}
 use Rattle.isle_blocks.specs.Tables.{IsAbsent}
-use Rattle.isle_blocks.specs.Building.Contents.{PartsAreBefore}
+use Rattle.isle_blocks.specs.Inside.Building.Contents.{PartsAreBefore}
 use Rattle.isle_blocks.specs.Building.Standing.{IsEntryOf, IsPut, Adds, begin, next}
 use Rattle.isle_blocks.proofs.Building.Walking.{cons_cases, none_there}
 use Rattle.isle_blocks.proofs.Building.Asking.{row_parts, parts_named}

@@ -14,7 +14,7 @@ use Rattle.isle_blocks.specs.declared.binding.Binding.TheVariants as sites
 use Rattle.isle_blocks.specs.declared.constraint.Constraint.{Constraint}
 use Rattle.isle_blocks.specs.declared.constraint.Constraint.TheVariants as tests
 use Rattle.isle_blocks.specs.Rows.{IsInjective, row_of, rows_of, test_of, constraints_of, pairs_of}
-use Rattle.isle_blocks.specs.Building.Gathering.{Gathered, interns, interns_each, demands, equates, sites_from, tuple_output, extracted, outputs}
+use Rattle.isle_blocks.specs.Inside.Building.Gathering.{Gathered, interns, interns_each, demands, equates, sites_from, tuple_output, extracted, outputs}
 use Rattle.isle_blocks.specs.Building.Standing.{IsEntryOf, Adds, begin, next}
 use Rattle.isle_blocks.proofs.Building.Walking.{cons_cases, cons_here, none_there}
 use Rattle.isle_blocks.proofs.Building.Entries.{Grown, at_grown, entry_at, put_grown, put_there, put_of, adds_grown, adds_then, recorded_grown}

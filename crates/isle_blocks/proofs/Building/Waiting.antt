@@ -5,8 +5,8 @@ use Rattle.isle_terms.specs.declared.visit.fault.VisitFault.{VisitFault}
 use Rattle.isle_terms.specs.declared.visit.fault.VisitFault.TheVariants.{Memory}
 use Rattle.isle_blocks.specs.declared.ids.BindingId.{BindingId}
 use Rattle.isle_blocks.specs.declared.binding.Binding.{Binding}
-use Rattle.isle_blocks.specs.Building.Gathering.{Gathered, interns, interns_each}
-use Rattle.isle_blocks.specs.Building.Steps.{makes}
+use Rattle.isle_blocks.specs.Inside.Building.Gathering.{Gathered, interns, interns_each}
+use Rattle.isle_blocks.specs.Inside.Building.Steps.{makes}
 
 pub none_left : (count index : ℕ) → count ≤ index → count - index ≡ 0
 none_left count index h = omega arith

@@ -4,7 +4,7 @@ use Rattle.std.proofs.Common.{subst, inl, inr, arith, drop, drop-cons, get_or, a
 use Rattle.isle_blocks.specs.declared.ids.BindingId.{BindingId}
 use Rattle.isle_blocks.specs.declared.binding.Binding.{Binding}
 use Rattle.isle_blocks.specs.declared.binding.Binding.TheVariants.{MatchSome}
-use Rattle.isle_blocks.specs.Building.Contents.{PartsAreBefore, Reached, here, through, AreAsked, Marked, HasPart, MarksMore, Walked, IsWalk, IsStart}
+use Rattle.isle_blocks.specs.Inside.Building.Contents.{PartsAreBefore, Reached, here, through, AreAsked, Marked, HasPart, MarksMore, Walked, IsWalk, IsStart}
 
 pub cons_cases : {A : Type 0} (x : A) (xs : List A) (y : A) → Contains (x ∷ xs) y → (x ≡ y) ⊎ Contains xs y
 cons_cases x xs y (zero, within, e) = inl e

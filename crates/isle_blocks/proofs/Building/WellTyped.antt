@@ -8,8 +8,8 @@ use Rattle.isle_terms.specs.declared.terms.Term.{Term}
 use Rattle.isle_terms.specs.Shown.ShownTerms.{term_shown}
 use Rattle.isle_terms.specs.TypedRules.{TypedPattern, typed_bind, typed_var, typed_bool, typed_int, typed_prim, typed_term, typed_wildcard}
 use Rattle.isle_terms.specs.TypedRules.{typed_and, TypedPatterns, no_typed, more_typed, TypedExpr, built_var, built_bool, built_int}
-use Rattle.isle_terms.specs.TypedRules.{built_prim, built_term, built_let, TypedExprs, no_built, more_built, TypedBindings, no_bindings}
-use Rattle.isle_terms.specs.TypedRules.{more_bindings, built_at, Variable, TypedIfLet}
+use Rattle.isle_terms.specs.TypedRules.{built_prim, built_term, built_let, TypedExprs, no_built, more_built, TypedBindings, no_typed_bindings}
+use Rattle.isle_terms.specs.TypedRules.{more_typed_bindings, built_at, Variable, TypedIfLet}
 use Rattle.isle_terms.specs.Signatures.{Flags, Signature, Declared, flags_of}
 use Rattle.isle_terms.specs.Elaboration.{on_lhs}
 use Rattle.isle_terms.specs.SoundRules.WellTyped.{same_for_each, IsTypedPattern, AreTypedPatterns, IsTypedExpr, AreTypedExprs, AreTypedBindings}
@@ -17,7 +17,7 @@ use Rattle.isle_terms.specs.SoundRules.WellTyped.{AreTypedIfLets}
 use Rattle.isle_meaning.specs.Facts.{TermShape, variant_shape, struct_shape, declared_shape, patterns, no_term, term_at, facts_of}
 use Rattle.isle_meaning.specs.Facts.{shape_of_form, never_fails}
 use Rattle.isle_meaning.specs.Words.{Word, var_word, Words, Step, set, flat, flat_all, flat_lets, apply}
-use Rattle.isle_blocks.specs.Building.Named.{AreKnownTerms, IsFilled, AreFilled, IfLetsAreFilled, CallNothingImpure}
+use Rattle.isle_blocks.specs.Inside.Building.Named.{AreKnownTerms, IsFilled, AreFilled, IfLetsAreFilled, CallNothingImpure}
 
 first_true : (a b : Bool) → (a && b) ≡ true → a ≡ true
 first_true true b e = refl
@@ -88,8 +88,8 @@ module _ (declared : Declared) (variables : List Variable) where
 
       lets_pure : (bs : TypedBindings) (vars : ℕ → Word) (steps : List Step) → AreTypedBindings declared variables (on_lhs flags) bs
           → (flat_lets (facts_of declared) vars steps bs).1 ≡ steps
-      lets_pure no_bindings vars steps h = refl
-      lets_pure (more_bindings k ty e bs) vars steps h =
+      lets_pure no_typed_bindings vars steps h = refl
+      lets_pure (more_typed_bindings k ty e bs) vars steps h =
           let r = flat (facts_of declared) vars steps e in lets_pure bs (set vars k r.0) r.1 h.2 ∙ calls_pure ty e vars steps h.1
 
     pub typed_calls : (is : List TypedIfLet) → AreTypedIfLets declared variables (on_lhs flags) is → CallNothingImpure (facts_of declared) is

@@ -14,7 +14,7 @@ use Rattle.isle_blocks.specs.declared.constraint.Constraint.{Constraint}
 use Rattle.isle_blocks.specs.declared.ids.BindingId.{BindingId}
 use Rattle.isle_blocks.specs.Bindings.{sources_of}
 use Rattle.isle_blocks.specs.Rows.{test_of, rows_of}
-use Rattle.isle_blocks.specs.ClosureStates.{HasOwn}
+use Rattle.isle_blocks.specs.Inside.ClosureStates.{HasOwn}
 use Rattle.isle_blocks.specs.Closure.{HasAllFields, IsClosure}
 use Rattle.isle_blocks.proofs.Building.Tables.{at_within}
 use Rattle.isle_blocks.proofs.Cases.MissingFields.{v_field, old, table, test, classes, placed}

@@ -15,8 +15,8 @@ use Rattle.isle_blocks.specs.declared.binding.Binding.TheVariants as sites
 use Rattle.isle_blocks.specs.declared.constraint.Constraint.{Constraint}
 use Rattle.isle_blocks.specs.declared.constraint.Constraint.TheVariants as tests
 use Rattle.isle_blocks.specs.declared.ids.BindingId.{BindingId}
-use Rattle.isle_blocks.specs.ClosureFields.{field_binding}
-use Rattle.isle_blocks.specs.ClosureStates.{IsChildAt, Once, Further, HasLoop, IsRanked}
+use Rattle.isle_blocks.specs.Inside.ClosureFields.{field_binding}
+use Rattle.isle_blocks.specs.Inside.ClosureStates.{IsChildAt, Once, Further, HasLoop, IsRanked}
 use Rattle.isle_blocks.specs.Closure.{ClosesTo}
 use Rattle.isle_blocks.specs.RuleFaults.{NeverMatches, MayMatch}
 

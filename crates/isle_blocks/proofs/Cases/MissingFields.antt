@@ -16,8 +16,8 @@ use Rattle.isle_blocks.specs.declared.binding.Binding.TheVariants as sites
 use Rattle.isle_blocks.specs.declared.constraint.Constraint.{Constraint}
 use Rattle.isle_blocks.specs.declared.constraint.Constraint.TheVariants as tests
 use Rattle.isle_blocks.specs.Tables.{IsAbsent}
-use Rattle.isle_blocks.specs.ClosureFields.{field_binding, Opens}
-use Rattle.isle_blocks.specs.ClosureStates.{HasOwn, IsMissingField, Grows, Still, Added}
+use Rattle.isle_blocks.specs.Inside.ClosureFields.{field_binding, Opens}
+use Rattle.isle_blocks.specs.Inside.ClosureStates.{HasOwn, IsMissingField, Grows, Still, Added}
 
 abbrev here : Pos
 here = record { file = 0; offset = 0 }

@@ -5,10 +5,10 @@ use Rattle.isle_types.proofs.Lists.{slice_get-kept}
 use Rattle.isle_blocks.specs.declared.binding.Binding.{Binding}
 use Rattle.isle_blocks.specs.declared.binding.Binding.TheVariants as sites
 use Rattle.isle_blocks.specs.declared.ids.BindingId.{BindingId}
-use Rattle.isle_blocks.specs.ClosureFields.{field_binding}
+use Rattle.isle_blocks.specs.Inside.ClosureFields.{field_binding}
 use Rattle.isle_blocks.specs.FieldOrder.{ComesBefore, IsFieldAt, AreFieldsInOrder}
-use Rattle.isle_blocks.specs.MovedSites.{MovesSites, no_sites_moved, next_site_moved}
-use Rattle.isle_blocks.specs.Placing.{IsPutFirst}
+use Rattle.isle_blocks.specs.Inside.MovedSites.{MovesSites, no_sites_moved, next_site_moved}
+use Rattle.isle_blocks.specs.Inside.Placing.{IsPutFirst}
 use Rattle.isle_blocks.specs.Tables.{IsAbsent, IsInterned}
 
 abbrev id : ℕ → BindingId

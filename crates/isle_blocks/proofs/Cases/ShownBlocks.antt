@@ -8,7 +8,8 @@ use Rattle.isle_blocks.specs.declared.constraint.Constraint.TheVariants as tests
 use Rattle.isle_blocks.specs.declared.serializer.node.Node.{Node}
 use Rattle.isle_blocks.specs.declared.serializer.node.Node.TheVariants as nodes
 use Rattle.isle_blocks.specs.Trees.Nodes.{steps_piece, arms_piece}
-use Rattle.isle_blocks.specs.Trees.Ends.{here, end_in, node_end, AreEnds}
+use Rattle.isle_blocks.specs.Inside.Trees.Ends.{end_in, node_end, AreEnds}
+use Rattle.isle_blocks.specs.Trees.Places.{here}
 use Rattle.isle_blocks.specs.Trees.Shown.{Returned, block_of}
 
 abbrev site : ℕ → BindingId

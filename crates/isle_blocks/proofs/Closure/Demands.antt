@@ -11,7 +11,7 @@ use Rattle.isle_blocks.specs.declared.ids.BindingId.{BindingId}
 use Rattle.isle_blocks.specs.declared.binding.Binding.{Binding}
 use Rattle.isle_blocks.specs.declared.constraint.Constraint.{Constraint}
 use Rattle.isle_blocks.specs.Rows.{rows_of, test_of}
-use Rattle.isle_blocks.specs.ClosureStates.{HasOwn, AreOwn, demanded_in}
+use Rattle.isle_blocks.specs.Inside.ClosureStates.{HasOwn, AreOwn, demanded_in}
 
 -- what is in the list of images is the image of something there
 pub of_image : {X Y : Type 0} (f : X → Y) (xs : List X) (y : Y) → Contains (map f xs) y → (x : X) × Contains xs x × (f x ≡ y)

@@ -10,7 +10,7 @@ use Rattle.isle_blocks.specs.declared.ids.BindingId.{BindingId}
 use Rattle.isle_blocks.specs.declared.binding.Binding.{Binding}
 use Rattle.isle_blocks.specs.Tables.{IsInterned}
 use Rattle.isle_blocks.specs.Rows.{row_of, rows_of}
-use Rattle.isle_blocks.specs.ClosureFields.{field_binding}
+use Rattle.isle_blocks.specs.Inside.ClosureFields.{field_binding}
 use Rattle.isle_blocks.specs.FieldOrder.{ComesBefore, AreInOrder, IsFieldAt, AreFieldsInOrder, AreFieldsBefore}
 use Rattle.isle_blocks.specs.Building.Standing.{IsFieldRow}
 use Rattle.isle_blocks.proofs.Closure.Trees.{field_parts, row_get}

@@ -7,8 +7,8 @@ use Rattle.isle_blocks.specs.declared.ids.BindingId.{BindingId}
 use Rattle.isle_blocks.specs.declared.binding.Binding.{Binding}
 use Rattle.isle_blocks.specs.declared.constraint.Constraint.{Constraint}
 use Rattle.isle_blocks.specs.declared.close.fields.Opening.{Opening}
-use Rattle.isle_blocks.specs.ClosureFields.{Opens, AreFields, kind_of, field_binding}
-use Rattle.isle_blocks.specs.ClosureStates.{AreClasses, HasOwn, HasField, HasFields, IsOpened, IsState, IsMissingField, Grows, Still, Added, RunsOut}
+use Rattle.isle_blocks.specs.Inside.ClosureFields.{Opens, AreFields, kind_of, field_binding}
+use Rattle.isle_blocks.specs.Inside.ClosureStates.{AreClasses, HasOwn, HasField, HasFields, IsOpened, IsState, IsMissingField, Grows, Still, Added, RunsOut}
 use Rattle.isle_blocks.specs.Tables.{IsAbsent, IsInterned, IsFull}
 use Rattle.isle_blocks.proofs.Closure.Growth.{grown_state, grown_class, grown_join}
 

@@ -10,8 +10,9 @@ use Rattle.isle_blocks.specs.declared.ids.BindingId.{BindingId}
 use Rattle.isle_blocks.specs.declared.binding.Binding.{Binding}
 use Rattle.isle_blocks.specs.declared.constraint.Constraint.{Constraint}
 use Rattle.isle_blocks.specs.Bindings.{sources_of}
-use Rattle.isle_blocks.specs.ClosureFields.{IsTable, Opens, field_binding}
-use Rattle.isle_blocks.specs.ClosureStates.{HasOwn, IsState, IsMissingField, Grows, Still, Added, HasFields}
+use Rattle.isle_blocks.specs.Inside.ClosureFields.{Opens, field_binding}
+use Rattle.isle_blocks.specs.Tables.{IsTable}
+use Rattle.isle_blocks.specs.Inside.ClosureStates.{HasOwn, IsState, IsMissingField, Grows, Still, Added, HasFields}
 use Rattle.isle_blocks.proofs.Closure.Pairs.{own_in}
 use Rattle.isle_blocks.proofs.Closure.Trees.{field_parts, field_source}
 

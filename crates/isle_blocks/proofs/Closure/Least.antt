@@ -10,8 +10,9 @@ use Rattle.isle_meaning.specs.Numbered.{At}
 use Rattle.isle_blocks.specs.declared.binding.Binding.{Binding}
 use Rattle.isle_blocks.specs.declared.constraint.Constraint.{Constraint}
 use Rattle.isle_blocks.specs.Rows.{IsInjective, rows_of, test_of}
-use Rattle.isle_blocks.specs.ClosureFields.{IsTable, Opens, field_binding, field_site}
-use Rattle.isle_blocks.specs.ClosureStates.{HasField, HasFields, HasOwn, IsOpened, IsClosed}
+use Rattle.isle_blocks.specs.Inside.ClosureFields.{Opens, field_binding, field_site}
+use Rattle.isle_blocks.specs.Tables.{IsTable}
+use Rattle.isle_blocks.specs.Inside.ClosureStates.{HasField, HasFields, HasOwn, IsOpened, IsClosed}
 use Rattle.isle_blocks.specs.Closure.{Stands, HasAllFields}
 use Rattle.isle_blocks.proofs.Closure.Trees.{one_number, at_below, field_at}
 use Rattle.isle_blocks.proofs.Closure.Quotient.{of_variant_test, of_struct_test}

@@ -3,9 +3,10 @@ use Rattle.std.proofs.Common.{◌≡◌, ◌<◌, ℕ, List, length, get_or, ari
 use Rattle.isle_blocks.specs.declared.binding.Binding.{Binding}
 use Rattle.isle_blocks.specs.declared.constraint.Constraint.{Constraint}
 use Rattle.isle_blocks.specs.declared.close.fields.Opening.{Opening}
-use Rattle.isle_blocks.specs.ClosureFields.{IsTable, AreFields, field_binding, kind_of}
+use Rattle.isle_blocks.specs.Inside.ClosureFields.{AreFields, field_binding, kind_of}
+use Rattle.isle_blocks.specs.Tables.{IsTable}
 use Rattle.isle_types.specs.Names.{AreDistinct}
-use Rattle.isle_blocks.specs.ClosureStates.{AreLikeFields, HaveLikeFields, IsRootOf}
+use Rattle.isle_blocks.specs.Inside.ClosureStates.{AreLikeFields, HaveLikeFields, IsRootOf}
 use Rattle.std.proofs.lemmas.Option.{slice_get_within}
 use Rattle.isle_blocks.proofs.Closure.Pairs.{pair_path}
 use Rattle.isle_blocks.proofs.Closure.Trees.{field_source}

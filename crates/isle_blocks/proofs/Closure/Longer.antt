@@ -8,7 +8,7 @@ use Rattle.isle_meaning.specs.Numbered.{Row, At, AtAll}
 use Rattle.isle_meaning.proofs.Matching.Numbering.{one_site}
 use Rattle.isle_blocks.specs.declared.binding.Binding.{Binding}
 use Rattle.isle_blocks.specs.Rows.{rows_of}
-use Rattle.isle_blocks.specs.ClosureFields.{IsTable}
+use Rattle.isle_blocks.specs.Tables.{IsTable}
 use Rattle.isle_blocks.proofs.Closure.Trees.{row_get, get_row, stands}
 
 module _ (short long : List Row) (longer : (k : ℕ) (row : Row) → slice_get short k ≡ Some row → slice_get long k ≡ Some row) where

@@ -15,9 +15,10 @@ use Rattle.isle_meaning.specs.Numbered.{At}
 use Rattle.isle_blocks.specs.declared.binding.Binding.{Binding}
 use Rattle.isle_blocks.specs.declared.constraint.Constraint.{Constraint}
 use Rattle.isle_blocks.specs.Rows.{rows_of, test_of}
-use Rattle.isle_blocks.specs.ClosureFields.{IsTable, field_binding, field_site}
-use Rattle.isle_blocks.specs.ClosureStates.{HasOwn, AreClasses, IsSound, IsChildAt, Reaches, Once, Further, HasLoop, IsUnmarkedChild}
-use Rattle.isle_blocks.specs.ClosureStates.{ChildrenAreMarked, is_marked}
+use Rattle.isle_blocks.specs.Inside.ClosureFields.{field_binding, field_site}
+use Rattle.isle_blocks.specs.Tables.{IsTable}
+use Rattle.isle_blocks.specs.Inside.ClosureStates.{HasOwn, AreClasses, IsSound, IsChildAt, Reaches, Once, Further, HasLoop, IsUnmarkedChild}
+use Rattle.isle_blocks.specs.Inside.ClosureStates.{ChildrenAreMarked, is_marked}
 use Rattle.isle_blocks.proofs.Closure.Trees.{stands, field_at}
 use Rattle.isle_blocks.proofs.Closure.Merge.{equal_back, equal_chain, equal_has, equal_parts, field_of}
 use Rattle.isle_blocks.proofs.Closure.Count.{count_to, count_falls}

@@ -9,8 +9,8 @@ use Rattle.std.proofs.lemmas.Bool.{cases_eq, false≢true}
 use Rattle.isle_blocks.specs.declared.binding.Binding.{Binding}
 use Rattle.isle_blocks.specs.declared.constraint.Constraint.{Constraint}
 use Rattle.std.proofs.lemmas.Option.{slice_get_within}
-use Rattle.isle_blocks.specs.ClosureFields.{field_binding}
-use Rattle.isle_blocks.specs.ClosureStates.{AreClasses, IsChildAt, IsUnmarkedChild, ChildrenAreMarked, is_marked}
+use Rattle.isle_blocks.specs.Inside.ClosureFields.{field_binding}
+use Rattle.isle_blocks.specs.Inside.ClosureStates.{AreClasses, IsChildAt, IsUnmarkedChild, ChildrenAreMarked, is_marked}
 use Rattle.isle_blocks.proofs.Closure.Pairs.{last_of, front_of, split_of}
 use Rattle.isle_blocks.proofs.Closure.Loops.{Peeled, peeled_more, peeled_none, either, mark_same, mark_keeps, mark_before}
 

@@ -6,8 +6,8 @@ use Rattle.std.proofs.lemmas.List.Elements.{Contains-get_or, Contains-append_lef
 use Rattle.std.proofs.lemmas.Bool.{cases_eq, cases_lt}
 use Rattle.isle_blocks.specs.declared.binding.Binding.{Binding}
 use Rattle.isle_blocks.specs.declared.constraint.Constraint.{Constraint}
-use Rattle.isle_blocks.specs.ClosureFields.{IsTable}
-use Rattle.isle_blocks.specs.ClosureStates.{AreMembers, ListMembers, IsJoined, IsLike, IsLikeAmong}
+use Rattle.isle_blocks.specs.Tables.{IsTable}
+use Rattle.isle_blocks.specs.Inside.ClosureStates.{AreMembers, ListMembers, IsJoined, IsLike, IsLikeAmong}
 use Rattle.isle_blocks.proofs.Closure.Likes.{member_in}
 
 -- the first of the members have a new representative, and nothing else has changed

@@ -12,8 +12,9 @@ use Rattle.isle_blocks.specs.declared.binding.Binding.{Binding}
 use Rattle.isle_blocks.specs.declared.constraint.Constraint.{Constraint}
 use Rattle.isle_blocks.specs.declared.constraint.Constraint.TheVariants as tests
 use Rattle.isle_blocks.specs.Rows.{rows_of, test_of}
-use Rattle.isle_blocks.specs.ClosureFields.{IsTable, Opens, field_binding, field_site}
-use Rattle.isle_blocks.specs.ClosureStates.{HasOwn, AreClasses, IsJoined, AreLikeFields, IsLike, IsSound, IsCovered, Linked, LikesAreIn}
+use Rattle.isle_blocks.specs.Inside.ClosureFields.{Opens, field_binding, field_site}
+use Rattle.isle_blocks.specs.Tables.{IsTable}
+use Rattle.isle_blocks.specs.Inside.ClosureStates.{HasOwn, AreClasses, IsJoined, AreLikeFields, IsLike, IsSound, IsCovered, Linked, LikesAreIn}
 use Rattle.isle_blocks.proofs.Closure.Trees.{stands, field_at, field_source}
 
 module _ (D : Demand → Type 0) where

@@ -7,7 +7,7 @@ use Rattle.std.proofs.lemmas.Bool.{cases_lt, cases_eq}
 use Rattle.std.proofs.lemmas.List.Elements.{Contains-push, Contains-append_left, Contains-push_cases, Contains-get_or}
 use Rattle.isle_blocks.specs.declared.ids.BindingId.{BindingId}
 use Rattle.isle_blocks.specs.declared.constraint.Constraint.{Constraint}
-use Rattle.isle_blocks.specs.ClosureStates.{HasOwn}
+use Rattle.isle_blocks.specs.Inside.ClosureStates.{HasOwn}
 
 pub last_of : {X : Type 0} (xs ys : List X) (x : X) → xs ≡ ys ++ x ∷ [] → Contains xs x
 last_of {X = X} xs ys x e = subst (λ (l : List X). Contains l x) (sym e) (Contains-push ys x)

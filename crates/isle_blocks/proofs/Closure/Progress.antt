@@ -11,9 +11,10 @@ use Rattle.isle_meaning.proofs.Matching.Numbering.{one_site}
 use Rattle.isle_blocks.specs.declared.binding.Binding.{Binding}
 use Rattle.isle_blocks.specs.declared.constraint.Constraint.{Constraint}
 use Rattle.isle_blocks.specs.Rows.{rows_of, test_of}
-use Rattle.isle_blocks.specs.ClosureFields.{IsTable, field_binding}
-use Rattle.isle_blocks.specs.ClosureStates.{HasOwn, AreClasses, ArePairsBelow, ForDemands, IsJoined, IsSound, AreImplied, IsCovered}
-use Rattle.isle_blocks.specs.ClosureStates.{IsClosed, IsChoice, IsClash, WasPushed, LikesAreIn, demanded_in}
+use Rattle.isle_blocks.specs.Inside.ClosureFields.{field_binding}
+use Rattle.isle_blocks.specs.Tables.{IsTable}
+use Rattle.isle_blocks.specs.Inside.ClosureStates.{HasOwn, AreClasses, ArePairsBelow, ForDemands, IsJoined, IsSound, AreImplied, IsCovered}
+use Rattle.isle_blocks.specs.Inside.ClosureStates.{IsClosed, IsChoice, IsClash, WasPushed, LikesAreIn, demanded_in}
 use Rattle.isle_blocks.proofs.Rows.RowsInjective.{test-injective}
 use Rattle.isle_blocks.proofs.Closure.Trees.{stands}
 use Rattle.isle_blocks.proofs.Closure.Demands.{owned}

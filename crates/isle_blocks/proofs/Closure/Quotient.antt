@@ -15,8 +15,9 @@ use Rattle.isle_blocks.specs.declared.binding.Binding.{Binding}
 use Rattle.isle_blocks.specs.declared.constraint.Constraint.{Constraint}
 use Rattle.isle_blocks.specs.declared.constraint.Constraint.TheVariants as tests
 use Rattle.isle_blocks.specs.Rows.{IsInjective, rows_of, test_of}
-use Rattle.isle_blocks.specs.ClosureFields.{IsTable, Opens, field_binding, field_site}
-use Rattle.isle_blocks.specs.ClosureStates.{HasField, HasOwn, IsOpened, IsClosed, IsChildAt, IsRanked}
+use Rattle.isle_blocks.specs.Inside.ClosureFields.{Opens, field_binding, field_site}
+use Rattle.isle_blocks.specs.Tables.{IsTable}
+use Rattle.isle_blocks.specs.Inside.ClosureStates.{HasField, HasOwn, IsOpened, IsClosed, IsChildAt, IsRanked}
 use Rattle.isle_blocks.proofs.Closure.Trees.{one_number, at_below, at_field}
 
 -- a constraint with a field is a test that opens it

@@ -17,8 +17,9 @@ use Rattle.isle_blocks.specs.declared.constraint.Constraint.{Constraint}
 use Rattle.isle_blocks.specs.declared.constraint.Constraint.TheVariants as tests
 use Rattle.isle_blocks.specs.Rows.{IsInjective, rows_of, test_of, constraints_of, pairs_of}
 use Rattle.isle_blocks.specs.Closure.{Stands}
-use Rattle.isle_blocks.specs.ClosureFields.{IsTable, Opens, field_binding, field_site}
-use Rattle.isle_blocks.specs.ClosureStates.{IsReady, HasField}
+use Rattle.isle_blocks.specs.Inside.ClosureFields.{Opens, field_binding, field_site}
+use Rattle.isle_blocks.specs.Tables.{IsTable}
+use Rattle.isle_blocks.specs.Inside.ClosureStates.{IsReady, HasField}
 use Rattle.isle_blocks.specs.Building.Standing.{Adds, begin, next}
 use Rattle.isle_blocks.proofs.Closure.Trees.{at_below, at_field, one_number}
 use Rattle.isle_blocks.proofs.Building.Entries.{at_grown, put_grown, put_there, entry_at}

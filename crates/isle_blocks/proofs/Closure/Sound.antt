@@ -10,8 +10,8 @@ use Rattle.isle_meaning.proofs.Matching.Numbering.{one_site}
 use Rattle.isle_blocks.specs.declared.binding.Binding.{Binding}
 use Rattle.isle_blocks.specs.declared.constraint.Constraint.{Constraint}
 use Rattle.isle_blocks.specs.Rows.{rows_of, test_of}
-use Rattle.isle_blocks.specs.ClosureFields.{field_binding, field_site}
-use Rattle.isle_blocks.specs.ClosureStates.{HasOwn, IsState, IsMissingField, Grows, Still, Added, IsSound}
+use Rattle.isle_blocks.specs.Inside.ClosureFields.{field_binding, field_site}
+use Rattle.isle_blocks.specs.Inside.ClosureStates.{HasOwn, IsState, IsMissingField, Grows, Still, Added, IsSound}
 use Rattle.isle_blocks.proofs.Closure.Pairs.{own_in}
 use Rattle.isle_blocks.proofs.Closure.Trees.{stands, field_at}
 use Rattle.isle_blocks.proofs.Closure.Merge.{equal_back, equal_chain, equal_parts}

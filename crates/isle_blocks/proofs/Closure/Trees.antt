@@ -17,7 +17,8 @@ use Rattle.isle_blocks.specs.declared.binding.Binding.{Binding}
 use Rattle.isle_blocks.specs.declared.binding.Binding.TheVariants as sites
 use Rattle.isle_blocks.specs.Bindings.{sources_of}
 use Rattle.isle_blocks.specs.Rows.{IsInjective, numbers_of, row_of, rows_of}
-use Rattle.isle_blocks.specs.ClosureFields.{IsTable, field_binding, field_site}
+use Rattle.isle_blocks.specs.Inside.ClosureFields.{field_binding, field_site}
+use Rattle.isle_blocks.specs.Tables.{IsTable}
 use Rattle.isle_blocks.proofs.Rows.RowsInjective.{row-injective}
 
 pub field_parts : (kind : Option ℕ) (s i : ℕ) (other : Option ℕ) (t j : ℕ) → field_binding kind s i ≡ field_binding other t j → (s ≡ t) × (kind ≡ other) × (i ≡ j)

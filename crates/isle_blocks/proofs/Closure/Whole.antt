@@ -16,8 +16,8 @@ use Rattle.isle_blocks.specs.declared.ids.BindingId.{BindingId}
 use Rattle.isle_blocks.specs.declared.binding.Binding.{Binding}
 use Rattle.isle_blocks.specs.declared.constraint.Constraint.{Constraint}
 use Rattle.isle_blocks.specs.Rows.{IsInjective, rows_of, test_of, pairs_of}
-use Rattle.isle_blocks.specs.ClosureFields.{field_binding, field_site}
-use Rattle.isle_blocks.specs.ClosureStates.{IsReady, HasOwn, AreOwn, HasTwo, AreClasses, IsClosed, IsState, IsRanked, IsSound, Grows, Still, Added, HasFields, HasNeed, IsMissingField, demanded_in}
+use Rattle.isle_blocks.specs.Inside.ClosureFields.{field_binding, field_site}
+use Rattle.isle_blocks.specs.Inside.ClosureStates.{IsReady, HasOwn, AreOwn, HasTwo, AreClasses, IsClosed, IsState, IsRanked, IsSound, Grows, Still, Added, HasFields, HasNeed, IsMissingField, demanded_in}
 use Rattle.isle_blocks.specs.Closure.{Stands, HasAllFields, HasNoRoom, IsClosure}
 use Rattle.isle_blocks.proofs.Rows.RowsInjective.{test-injective}
 use Rattle.isle_blocks.proofs.Closure.Trees.{stands, at_below, at_field, field_at, one_number}

@@ -7,7 +7,7 @@ use Rattle.isle_meaning.specs.Numbered.{Row, At}
 use Rattle.isle_meaning.proofs.Matching.Numbering.{one_site}
 use Rattle.isle_blocks.specs.declared.binding.Binding.{Binding}
 use Rattle.isle_blocks.specs.Rows.{IsInjective, rows_of}
-use Rattle.isle_blocks.specs.ClosureFields.{IsTable}
+use Rattle.isle_blocks.specs.Tables.{IsTable}
 use Rattle.isle_blocks.specs.Closure.{Stands}
 use Rattle.isle_blocks.proofs.Closure.Trees.{stands, one_number}
 use Rattle.isle_blocks.proofs.Building.Tables.{at_within}

@@ -10,9 +10,9 @@ use Rattle.isle_blocks.specs.declared.binding.Binding.{Binding}
 use Rattle.isle_blocks.specs.declared.binding.Binding.TheVariants as sites
 use Rattle.isle_blocks.specs.Rows.{IsInjective, numbers_of, row_of, rows_of}
 use Rattle.isle_blocks.specs.Tables.{IsInterned}
-use Rattle.isle_blocks.specs.RowTables.{IsEntered}
-use Rattle.isle_blocks.specs.MovedSites.{new_number, renumbered, moved_row, place_in, MovesSites, no_sites_moved, next_site_moved, Moves}
-use Rattle.isle_blocks.specs.MovedSites.{none_moved, next_moved}
+use Rattle.isle_blocks.specs.Inside.RowTables.{IsEntered}
+use Rattle.isle_blocks.specs.Inside.MovedSites.{new_number, renumbered, moved_row, place_in, MovesSites, no_sites_moved, next_site_moved, Moves}
+use Rattle.isle_blocks.specs.Inside.MovedSites.{none_moved, next_moved}
 use Rattle.isle_blocks.proofs.Rows.RowsInjective.{row-injective}
 
 -- a site's new number, as a number

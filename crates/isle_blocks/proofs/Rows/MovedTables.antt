@@ -13,8 +13,8 @@ use Rattle.isle_meaning.specs.Numbered.{make_variant_row, match_variant_row, mak
 use Rattle.isle_meaning.specs.Numbered.{match_some_row, match_tuple_row, At, AtAll, AreRecorded}
 use Rattle.isle_meaning.specs.Demands.{Constraint, Demand, constrained, Among}
 use Rattle.isle_types.proofs.RootedTables.{Contains-map}
-use Rattle.isle_blocks.specs.RowTables.{sources, IsTable, IsEntered}
-use Rattle.isle_blocks.specs.MovedSites.{moved_row, place_in, Moves, none_moved, next_moved}
+use Rattle.isle_blocks.specs.Inside.RowTables.{sources, IsTable, IsEntered}
+use Rattle.isle_blocks.specs.Inside.MovedSites.{moved_row, place_in, Moves, none_moved, next_moved}
 
 -- each entry stands at its new number
 abbrev pub Kept : List Row → (ℕ → ℕ) → List Row → Type 0

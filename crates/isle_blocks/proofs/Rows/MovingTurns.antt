@@ -5,7 +5,7 @@ use Rattle.isle_types.proofs.DefinitionTurns.{take_here}
 use Rattle.isle_blocks.specs.declared.ids.BindingId.{BindingId}
 use Rattle.isle_blocks.specs.declared.binding.Binding.{Binding}
 use Rattle.isle_blocks.specs.Tables.{IsInterned, IsFull}
-use Rattle.isle_blocks.specs.MovedSites.{new_number, renumbered, MovesSites, next_site_moved, EndsFull}
+use Rattle.isle_blocks.specs.Inside.MovedSites.{new_number, renumbered, MovesSites, next_site_moved, EndsFull}
 
 pub moved_more : (base own : List Binding) (i : ℕ) (site moved : Binding) (numbers more : List BindingId) (id : BindingId) (table after : List Binding)
     → i < length own → site ≡ get_or own i site → MovesSites base (take i own) numbers table → moved ≡ renumbered (new_number numbers) site

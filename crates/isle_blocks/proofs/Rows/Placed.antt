@@ -18,12 +18,13 @@ use Rattle.isle_blocks.specs.declared.binding.Binding.TheVariants as sites
 use Rattle.isle_blocks.specs.declared.constraint.Constraint.{Constraint}
 use Rattle.isle_blocks.specs.Bindings.{sources_of}
 use Rattle.isle_blocks.specs.Rows.{IsInjective, row_of, rows_of, numbers_of, test_of, constraints_of, pairs_of}
-use Rattle.isle_blocks.specs.RowTables as entries
-use Rattle.isle_blocks.specs.RowTables.{sources}
-use Rattle.isle_blocks.specs.MovedSites.{new_number, place_in, MovesSites, moved_test, moved_pair, Moves, none_moved, next_moved}
-use Rattle.isle_blocks.specs.ClosureFields.{IsTable, Opens, field_binding, field_site}
-use Rattle.isle_blocks.specs.ClosureStates.{IsReady, HasField, AreClasses, demanded_in}
-use Rattle.isle_blocks.specs.Placing.{AreSettled}
+use Rattle.isle_blocks.specs.Inside.RowTables as entries
+use Rattle.isle_blocks.specs.Inside.RowTables.{sources}
+use Rattle.isle_blocks.specs.Inside.MovedSites.{new_number, place_in, MovesSites, moved_test, moved_pair, Moves, none_moved, next_moved}
+use Rattle.isle_blocks.specs.Inside.ClosureFields.{Opens, field_binding, field_site}
+use Rattle.isle_blocks.specs.Tables.{IsTable}
+use Rattle.isle_blocks.specs.Inside.ClosureStates.{IsReady, HasField, AreClasses, demanded_in}
+use Rattle.isle_blocks.specs.Inside.Placing.{AreSettled}
 use Rattle.isle_blocks.specs.Closure.{Stands, IsClosure}
 use Rattle.isle_blocks.proofs.Closure.Trees.{row_get, get_row, stands, at_below, at_field, field_at, one_number}
 use Rattle.isle_blocks.proofs.Closure.Demands.{of_image}

@@ -17,11 +17,11 @@ use Rattle.isle_blocks.specs.declared.binding.Binding.{Binding}
 use Rattle.isle_blocks.specs.declared.constraint.Constraint.{Constraint}
 use Rattle.isle_blocks.specs.Rows.{IsInjective, row_of, rows_of, numbers_of, constraints_of, pairs_of}
 use Rattle.isle_blocks.specs.Tables.{IsInterned}
-use Rattle.isle_blocks.specs.MovedSites.{new_number, renumbered, place_in, MovesSites, no_sites_moved, next_site_moved, EndsFull}
-use Rattle.isle_blocks.specs.ClosureFields.{IsTable}
-use Rattle.isle_blocks.specs.ClosureStates.{demanded_in}
+use Rattle.isle_blocks.specs.Inside.MovedSites.{new_number, renumbered, place_in, MovesSites, no_sites_moved, next_site_moved, EndsFull}
+use Rattle.isle_blocks.specs.Tables.{IsTable}
+use Rattle.isle_blocks.specs.Inside.ClosureStates.{demanded_in}
 use Rattle.isle_blocks.specs.Closure.{Stands, HasNoRoom, IsClosure}
-use Rattle.isle_blocks.specs.Placing.{HasNoRoomFor, GrowsFor}
+use Rattle.isle_blocks.specs.Inside.Placing.{HasNoRoomFor, GrowsFor}
 use Rattle.isle_blocks.proofs.Closure.Trees.{stands, at_below, one_number}
 use Rattle.isle_blocks.proofs.Closure.Longer.{stays, stood}
 use Rattle.isle_blocks.proofs.Rows.MovedTables.{as_many}

@@ -24,7 +24,7 @@ use Rattle.isle_blocks.specs.declared.faults.Fault.{Fault}
 use Rattle.isle_blocks.specs.declared.faults.Fault.TheVariants.{Overlap, Shadow}
 use Rattle.isle_blocks.specs.Rules.{Tests, Differ, site_cmp}
 use Rattle.isle_blocks.specs.FaultsBetween.{FaultAt, ListsPairs}
-use Rattle.isle_blocks.specs.FaultKeys.{Key, test_at, AreKeys, MayMeet, IsEarlier, IsListed, FindsFaults, AddsFault}
+use Rattle.isle_blocks.specs.Inside.FaultKeys.{Key, test_at, AreKeys, MayMeet, IsEarlier, IsListed, FindsFaults, AddsFault}
 use Rattle.isle_blocks.proofs.Counting.{stands_at}
 use Rattle.isle_blocks.proofs.RuleFaults.FaultKeys.Order.{none_meets}
 use Rattle.isle_blocks.proofs.RuleFaults.FaultKeys.Pairs.{pair_order, pairs_eq, listed_once}

@@ -23,7 +23,8 @@ use Rattle.isle_blocks.specs.Reports.{ArePairs}
 use Rattle.isle_blocks.specs.RuleFaults.{MayMatchAt, ListsEach, places_from}
 use Rattle.isle_blocks.specs.RuleSets.{RulesOverSites}
 use Rattle.isle_blocks.specs.DefinedSets.{AreDefined, name_of, facts_by, rules_by, IsTermSet, IsSetOf, AreSetsOf}
-use Rattle.isle_blocks.specs.RivalLists.{ListsFaults, no_set_listed, passed_over, one_set_listed, is_multi_in, numbered, place_of}
+use Rattle.isle_blocks.specs.Inside.RivalLists.{ListsFaults, no_set_listed, passed_over, one_set_listed, numbered, place_of}
+use Rattle.isle_terms.specs.Shown.TermTables.{is_multi_in}
 use Rattle.isle_blocks.proofs.Counting.{Once, stands_at, once_both}
 use Rattle.isle_blocks.proofs.Counting as counting
 use Rattle.isle_blocks.proofs.RuleFaults.RivalRules.{FaultOf, rivals_of, multi_shown, one_place, fault_here, fault_there}

@@ -30,7 +30,8 @@ use Rattle.isle_blocks.specs.FaultsBetween.{FaultAt}
 use Rattle.isle_blocks.specs.RuleFaults.{MayMatchAt, AreRivals, AreOverlapping, IsShadowing}
 use Rattle.isle_blocks.specs.RuleSets.{RulesOverSites}
 use Rattle.isle_blocks.specs.DefinedSets.{AreDefined, name_of, facts_by, rules_by, ListsNumbers, IsMadeAt, IsSetOf}
-use Rattle.isle_blocks.specs.RivalLists.{number_at, is_multi_in, is_multi_kind}
+use Rattle.isle_blocks.specs.Inside.RivalLists.{number_at}
+use Rattle.isle_terms.specs.Shown.TermTables.{is_multi_in, is_multi_kind}
 use Rattle.isle_blocks.proofs.Rows.RowsInjective.{row-injective}
 use Rattle.isle_blocks.proofs.Building.Naming.{name_by_injective}
 use Rattle.isle_blocks.proofs.Building.Tables.{site_once}

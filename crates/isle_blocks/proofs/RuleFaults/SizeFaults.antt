@@ -17,7 +17,7 @@ use Rattle.isle_blocks.specs.Closure.{Stands}
 use Rattle.isle_blocks.specs.Rows.{row_of, rows_of}
 use Rattle.isle_blocks.specs.AddedRules.{LacksRoomFor}
 use Rattle.isle_blocks.specs.DefinedSets.{AreDefined, name_of, facts_by, rules_by, HasRules, ListsNumbers}
-use Rattle.isle_blocks.specs.GatheredSets.{GathersRules, none_gathered, one_added, one_dropped, IsOfTerm, AreRulesUpTo}
+use Rattle.isle_blocks.specs.Inside.GatheredSets.{GathersRules, none_gathered, one_added, one_dropped, IsOfTerm, AreRulesUpTo}
 use Rattle.isle_blocks.specs.RuleFaults.{MayMatch, NeverMatches, SitesStand, FitsAlone, FitTogether, AreWithinSize, IsTooLargeAt, IsOneSizeFault}
 use Rattle.isle_blocks.specs.RuleFaults.{size_error_at}
 use Rattle.isle_blocks.specs.RuleSets.{RulesOverSites}

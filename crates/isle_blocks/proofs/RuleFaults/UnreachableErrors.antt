@@ -7,7 +7,7 @@ use Rattle.isle_types.proofs.Lists.{taken_more}
 use Rattle.isle_terms.specs.declared.rules.Rule.{Rule}
 use Rattle.isle_terms.specs.TypedRules.{TypedRule}
 use Rattle.isle_meaning.specs.Facts.{TermFacts}
-use Rattle.isle_blocks.specs.Building.Contents.{Marked}
+use Rattle.isle_blocks.specs.Inside.Building.Contents.{Marked}
 use Rattle.isle_blocks.specs.RuleFaults.{NeverMatches, IsUnreachableAt, TellUnreachable, one_may_match, one_never_matches, unreachable_error}
 use Rattle.isle_blocks.proofs.Sets.GatheredRules.{zipped_back}
 

@@ -21,12 +21,12 @@ use Rattle.std.proofs.lemmas.List.Elements.{Contains-append_left, Contains-push,
 use Rattle.isle_blocks.specs.Closure.{Stands}
 use Rattle.isle_blocks.specs.RuleFaults.{SitesStand, MayMatchAt, NeverMatches}
 use Rattle.isle_blocks.specs.RuleSets.{RulesOverSites}
-use Rattle.isle_blocks.specs.GatheredSets.{GathersRules, none_gathered, one_added, one_dropped, IsOfTerm}
+use Rattle.isle_blocks.specs.Inside.GatheredSets.{GathersRules, none_gathered, one_added, one_dropped, IsOfTerm}
 use Rattle.isle_blocks.specs.DefinedSets.{AreDefined, name_of, facts_by, rules_by, ListsNumbers, IsMadeAt, IsSiteOf, IsSetOf}
 use Rattle.isle_blocks.specs.DefinedSets.{AreNumberedInOrder, none_numbered, rule_numbered}
 use Rattle.isle_types.proofs.Zipped.{zipped_at}
 use Rattle.isle_terms.specs.Shown.RulesShown.{IsShownRule}
-use Rattle.isle_blocks.specs.ClosureFields.{IsTable}
+use Rattle.isle_blocks.specs.Tables.{IsTable}
 use Rattle.isle_blocks.proofs.Sets.GatheredRules.{typed_at}
 use Rattle.isle_blocks.proofs.Building.Tables.{at_within}
 use Rattle.isle_blocks.proofs.Sets.ListedNumbers.{Ascends, ascends_before, below_last, numbers_put, numbers_same}

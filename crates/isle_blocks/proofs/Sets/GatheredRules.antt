@@ -20,10 +20,10 @@ use Rattle.isle_meaning.specs.Demands.{result_of}
 use Rattle.isle_blocks.specs.declared.binding.Binding.{Binding}
 use Rattle.isle_blocks.specs.AddedRules.{IsDefinedRule, IsAddedRule, HasRoomAlone, HasNoRoomAlone, HasNoRoomBeside, LacksRoomFor}
 use Rattle.isle_blocks.specs.DefinedSets.{AreDefined, rules_by, facts_by, name_of}
-use Rattle.isle_blocks.specs.GatheredSets.{AddsToSet, GathersRules, one_added, one_dropped, AreLost, MarksThose}
-use Rattle.isle_blocks.specs.Building.Contents.{Marked}
+use Rattle.isle_blocks.specs.Inside.GatheredSets.{AddsToSet, GathersRules, one_added, one_dropped, AreLost, MarksThose}
+use Rattle.isle_blocks.specs.Inside.Building.Contents.{Marked}
 use Rattle.isle_blocks.specs.Closure.{Stands}
-use Rattle.isle_blocks.specs.ClosureFields.{IsTable}
+use Rattle.isle_blocks.specs.Tables.{IsTable}
 use Rattle.isle_blocks.specs.RuleFaults.{NeverMatches, MayMatch, FitsAlone}
 use Rattle.isle_blocks.specs.RuleSets.{RulesOverSites}
 

@@ -13,8 +13,8 @@ use Rattle.isle_types.specs.Names.{AreDistinct}
 use Rattle.isle_types.specs.JoinedSets.{are_joined, comes_together, members}
 use Rattle.isle_blocks.specs.declared.ids.BindingId.{BindingId}
 use Rattle.isle_blocks.specs.declared.constraint.Constraint.{Constraint}
-use Rattle.isle_blocks.specs.ClosureStates.{AreClasses}
-use Rattle.isle_blocks.specs.NormalRules.{site_eq, HaveClassTests, IsUntested, HasAnother, MustBeEqual, AreEqualitiesOf}
+use Rattle.isle_blocks.specs.Inside.ClosureStates.{AreClasses}
+use Rattle.isle_blocks.specs.Inside.NormalRules.{site_eq, HaveClassTests, IsUntested, HasAnother, MustBeEqual, AreEqualitiesOf}
 
 site_decides : (a b : BindingId) → Decides (site_eq a b) (a ≡ b)
 site_decides a b = let d = Decides-eqb a.0 b.0 in (λ e i. record { 0 = d.0 e i }, λ e. d.1 (ap (λ (v : BindingId). v.0) e))

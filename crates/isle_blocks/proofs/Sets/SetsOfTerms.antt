@@ -8,9 +8,9 @@ use Rattle.std.proofs.lemmas.List.Elements.{Contains-append_left, Contains-get_o
 use Rattle.isle_types.proofs.Lists.{slice_get-pushed}
 use Rattle.isle_types.specs.declared.ids.TermId.{TermId}
 use Rattle.isle_terms.specs.Shown.TermTables.{TermTables}
-use Rattle.isle_blocks.specs.Building.Contents.{Marked}
+use Rattle.isle_blocks.specs.Inside.Building.Contents.{Marked}
 use Rattle.isle_blocks.specs.DefinedSets.{AreDefined, facts_by, rules_by, HasRules, IsTermSet, ListsNumbers, AreSetsOf}
-use Rattle.isle_blocks.specs.GatheredSets.{AreSetsBelow, MarksThose, AreLost, IsLostBelow, IsOfTerm}
+use Rattle.isle_blocks.specs.Inside.GatheredSets.{AreSetsBelow, MarksThose, AreLost, IsLostBelow, IsOfTerm}
 use Rattle.isle_blocks.specs.RuleSets.{RulesOverSites}
 use Rattle.isle_blocks.specs.RuleFaults.{IsUnreachableAt}
 use Rattle.isle_blocks.proofs.Sets.DefinedSets.{of_term_at, at_term}

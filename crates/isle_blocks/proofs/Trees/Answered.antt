@@ -17,7 +17,7 @@ use Rattle.isle_meaning.proofs.Sites.Made.{held_made}
 use Rattle.isle_blocks.specs.declared.binding.Binding.{Binding}
 use Rattle.isle_blocks.specs.declared.binding.Binding.TheVariants as sites
 use Rattle.isle_blocks.specs.Bindings.{sources_of}
-use Rattle.isle_blocks.specs.ClosureFields.{IsTable}
+use Rattle.isle_blocks.specs.Tables.{IsTable}
 use Rattle.isle_blocks.specs.Rows.{rows_of, numbers_of}
 use Rattle.isle_blocks.specs.Trees.View.{read_or, is_bound}
 use Rattle.isle_blocks.specs.Trees.SiteTrees.{tree_from, tree_to, tree_of, held_by}

@@ -26,7 +26,7 @@ use Rattle.isle_blocks.specs.DefinedSets.{IsMadeAt}
 use Rattle.isle_blocks.specs.RuleSets.{RulesOverSites}
 use Rattle.isle_blocks.proofs.Closure.Trees.{row_get, one_number}
 use Rattle.isle_trees.specs.Rules.{has, one_value, Source, Rules, Asked}
-use Rattle.isle_trees.specs.Premises.{IsTested as AreTests}
+use Rattle.isle_trees.specs.Premises.{TestsItsFields}
 use Rattle.isle_trees.proofs.Basics.{true_or}
 use Rattle.isle_blocks.specs.Trees.View.{id_of, test_at, has_loop, want_at, made_by, rule_joins, is_impure, rules_of}
 use Rattle.isle_meaning.specs.AboutSites.Parts.{parts_of, IsOneOf}
@@ -164,7 +164,7 @@ module _ (name : Sym → List ℕ) (facts : TermFacts) (sources : List source.Ru
         (demands_are_pure facts m.reached.rule (run.pure p m.reached.rule m.reached.at m.reached.of_term)).0 d e
 
   -- Each field that tests ask has its test.
-  pub tests_are_there : AreTests R
+  pub tests_are_there : TestsItsFields R
   tests_are_there i s k a e =
       let (r, at) = asked_rule i s a in let (p, m) = made_rule name facts sources rules term set h i r at in asked_tested i r at p m s k a e
 

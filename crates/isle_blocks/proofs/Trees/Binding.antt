@@ -20,9 +20,9 @@ use Rattle.isle_blocks.specs.declared.ids.BindingId.{BindingId}
 use Rattle.isle_blocks.specs.declared.rule.Rule.{Rule}
 use Rattle.isle_blocks.specs.RuleSets.{RulesOverSites}
 use Rattle.isle_blocks.specs.Rows.{numbers_of}
-use Rattle.isle_blocks.specs.Trees.Builder.{rules_in}
+use Rattle.isle_blocks.specs.Inside.Trees.Builder.{rules_in}
 use Rattle.isle_blocks.specs.Trees.View.{id_of, call_at, calls_at}
-use Rattle.isle_blocks.specs.Trees.Work.{rights_in}
+use Rattle.isle_blocks.specs.Inside.Trees.Work.{rights_in}
 
 pub numbers_push : (new old : List BindingId) (x : BindingId) → new ≡ old ++ x ∷ [] → numbers_of new ≡ numbers_of old ++ x.0 ∷ []
 numbers_push new old x e = ap numbers_of e ∙ map-append (λ (id : BindingId). id.0) old (x ∷ [])

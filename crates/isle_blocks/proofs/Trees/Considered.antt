@@ -15,10 +15,10 @@ use Rattle.isle_trees.proofs.Building.Search.{precedes_most}
 use Rattle.isle_blocks.specs.declared.ids.BindingId.{BindingId}
 use Rattle.isle_blocks.specs.declared.constraint.Constraint.{Constraint}
 use Rattle.isle_blocks.specs.RuleSets.{RulesOverSites}
-use Rattle.isle_blocks.specs.Trees.Best.{AreClassesPassed, AreEqualitiesPassed, AreSitesPassed, IsRowPassed, IsRulePassed, IsStillRanked}
+use Rattle.isle_blocks.specs.Inside.Trees.Best.{AreClassesPassed, AreEqualitiesPassed, AreSitesPassed, IsRowPassed, IsRulePassed, IsStillRanked}
 use Rattle.isle_blocks.specs.Rows.{numbers_of}
-use Rattle.isle_blocks.specs.Trees.Builder.{AreClasses, rules_in}
-use Rattle.isle_blocks.specs.Trees.Marking.{AreReady}
+use Rattle.isle_blocks.specs.Inside.Trees.Builder.{AreClasses, rules_in}
+use Rattle.isle_blocks.specs.Inside.Trees.Marking.{AreReady}
 use Rattle.isle_blocks.specs.Trees.View.{id_of}
 use Rattle.isle_blocks.proofs.ClosedEqualities.{in_one}
 use Rattle.isle_blocks.proofs.Trees.Binding.{number_of}

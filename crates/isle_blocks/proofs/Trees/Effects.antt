@@ -36,7 +36,7 @@ use Rattle.isle_meaning.specs.AboutSites.ImpureCalls.{IsImpureCall, ImpureCallsA
 use Rattle.isle_blocks.specs.Trees.Premises.{IsRunnableSet}
 use Rattle.isle_blocks.proofs.Trees.Standing.{pass_on, parts_stand, in_all}
 use Rattle.isle_meaning.proofs.Sites.Pure.{demands_are_pure}
-use Rattle.isle_meaning.proofs.Sites.Parts.{of_part as part_of, of_whole, of_one}
+use Rattle.isle_meaning.proofs.Sites.Parts.{part_of, of_whole, of_one}
 use Rattle.isle_meaning.proofs.Chains.Subtrees.{whole}
 use Rattle.isle_meaning.proofs.Sites.Steps.{Placed, placed_append, placed_at, steps_placed, call_of, IsCallOf, word_steps, words_steps}
 use Rattle.isle_blocks.proofs.Trees.WellMade.{made_rule}

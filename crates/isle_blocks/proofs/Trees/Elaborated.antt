@@ -47,7 +47,7 @@ use Rattle.isle_trees.specs.Premises.{IsWellMade}
 use Rattle.isle_trees.specs.Reads.{IsListed}
 use Rattle.isle_trees.specs.Rules.{has, one_value, Source, Rules, Elem}
 use Rattle.isle_trees.specs.Scopes.{is_source}
-use Rattle.isle_trees.proofs.Basics.{true_or, none_or, by_made, made_by as source_made}
+use Rattle.isle_trees.proofs.Basics.{true_or, none_or, by_made, source_made}
 
 -- What a test suits is no list.
 pub no_list : (facts : TermFacts) (tys : List ℕ) (t : Site) (c : meaning.Constraint) (k : Sort) → Suits facts tys (constrained t c)

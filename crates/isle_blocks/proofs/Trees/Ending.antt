@@ -7,7 +7,8 @@ use Rattle.isle_trees.proofs.Basics.{eq_or}
 use Rattle.isle_blocks.specs.declared.serializer.node.Node.{Node}
 use Rattle.isle_blocks.specs.declared.serializer.node.Node.TheVariants as nodes
 use Rattle.isle_blocks.specs.Trees.Nodes.{later, read, put}
-use Rattle.isle_blocks.specs.Trees.Ends.{here, end_in, node_end, AreEnds}
+use Rattle.isle_blocks.specs.Inside.Trees.Ends.{end_in, node_end, AreEnds}
+use Rattle.isle_blocks.specs.Trees.Places.{here}
 
 -- past the last node there is no piece
 pub here_past : (nodes : List Node) (at : ℕ) → length nodes ≤ at → here nodes at ≡ []

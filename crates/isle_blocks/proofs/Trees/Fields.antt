@@ -16,9 +16,9 @@ use Rattle.isle_blocks.specs.declared.ids.BindingId.{BindingId}
 use Rattle.isle_blocks.specs.declared.rule.Rule.{Rule}
 use Rattle.isle_blocks.specs.RuleSets.{RulesOverSites}
 use Rattle.isle_blocks.specs.Tables.{IsAbsent, IsFound}
-use Rattle.isle_blocks.specs.Trees.Builder.{AreOpeners, rules_in, source_in}
+use Rattle.isle_blocks.specs.Inside.Trees.Builder.{AreOpeners, rules_in, source_in}
 use Rattle.isle_blocks.specs.Trees.View.{field_of, keep, made_by, place_of, read_or, same_binding}
-use Rattle.isle_blocks.specs.Trees.Work.{options_shown}
+use Rattle.isle_blocks.specs.Inside.Trees.Work.{options_shown}
 use Rattle.isle_blocks.proofs.EqualSites.{binding-decides}
 use Rattle.isle_blocks.proofs.EqualTests.{constraint-decides}
 

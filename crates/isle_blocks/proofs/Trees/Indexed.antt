@@ -29,9 +29,9 @@ use Rattle.isle_blocks.specs.ListedSets.{ListsEqualSites}
 use Rattle.isle_blocks.specs.RuleSets.{RulesOverSites}
 use Rattle.isle_blocks.specs.Rows.{numbers_of}
 use Rattle.isle_blocks.specs.Rules.{site_cmp}
-use Rattle.isle_blocks.specs.Trees.Builder.{AreClasses, AreMembers, IsRising, items_at, items_in, rules_in, tested_in}
+use Rattle.isle_blocks.specs.Inside.Trees.Builder.{AreClasses, AreMembers, IsRising, items_at, items_in, rules_in, tested_in}
 use Rattle.isle_blocks.specs.Trees.View.{has_loop, id_of, read_or, rule_joins, test_at, want_at, want_or}
-use Rattle.isle_blocks.specs.Trees.Work.{AddsOnly}
+use Rattle.isle_blocks.specs.Inside.Trees.Work.{AddsOnly}
 
 -- sites by their numbers
 same_number : (m n : ℕ) → is_eq (nat_cmp m n) ≡ true → m ≡ n

@@ -10,8 +10,8 @@ use Rattle.isle_trees.proofs.Building.Scopes.{scope_same, relabelled, joined_bel
 use Rattle.isle_blocks.specs.RuleSets.{RulesOverSites}
 use Rattle.isle_blocks.specs.declared.constraint.Constraint.{Constraint}
 use Rattle.isle_blocks.specs.declared.serializer.known.Known.{Known}
-use Rattle.isle_blocks.specs.Trees.Builder.{IsFit, rules_in, want_by, scope_of}
-use Rattle.isle_blocks.specs.Trees.Work.{IsCopy, IsSameKnown, relabel}
+use Rattle.isle_blocks.specs.Inside.Trees.Builder.{IsFit, rules_in, want_by, scope_of}
+use Rattle.isle_blocks.specs.Inside.Trees.Work.{IsCopy, IsSameKnown, relabel}
 
 -- sites that are joined have one label
 pub joined_labels : (old new : Known) (a b x y : ℕ) (from made : List ℕ) → x ≡ get_or old.labels a a → y ≡ get_or old.labels b b

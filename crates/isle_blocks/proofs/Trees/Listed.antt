@@ -33,8 +33,8 @@ use Rattle.isle_trees.specs.Rules.{has, one_value, Source, Rules, Elem}
 use Rattle.isle_trees.specs.Premises.{UsesNoMulti}
 use Rattle.isle_trees.specs.Reads.{IsListed}
 use Rattle.isle_trees.specs.Scopes.{is_source}
-use Rattle.isle_trees.proofs.Basics.{none_or, and_both, both_and, eq_or, by_made, made_by as source_made}
-use Rattle.isle_blocks.specs.ClosureFields.{field_binding}
+use Rattle.isle_trees.proofs.Basics.{none_or, and_both, both_and, eq_or, by_made, source_made}
+use Rattle.isle_blocks.specs.Inside.ClosureFields.{field_binding}
 use Rattle.isle_blocks.specs.Trees.View.{id_of, test_at, has_loop, want_at, made_by, opening, any_opening, first_opening, opens_field}
 use Rattle.isle_blocks.specs.Trees.View.{place_of, tests_by, made_at, field_of, rules_of}
 use Rattle.isle_blocks.specs.Trees.SiteTrees.{tree_of}

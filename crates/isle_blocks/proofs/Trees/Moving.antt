@@ -23,8 +23,8 @@ use Rattle.isle_blocks.specs.declared.serializer.work.Task.TheVariants as tasks
 use Rattle.isle_blocks.specs.RuleSets.{RulesOverSites}
 use Rattle.isle_blocks.specs.Rows.{numbers_of}
 use Rattle.isle_blocks.specs.Trees.Nodes.{fields_of, first_arms, first_steps, later, Piece, put, read}
-use Rattle.isle_blocks.specs.Trees.Builder.{IsSerializable, rules_in, scope_of}
-use Rattle.isle_blocks.specs.Trees.Work.{AreArms, AreReturns, IsDue, IsFan, IsOfRule, IsOpen, IsSplit, Moves, task_size, WantsArms, WantsBlock}
+use Rattle.isle_blocks.specs.Inside.Trees.Builder.{IsSerializable, rules_in, scope_of}
+use Rattle.isle_blocks.specs.Inside.Trees.Work.{AreArms, AreReturns, IsDue, IsFan, IsOfRule, IsOpen, IsSplit, Moves, task_size, WantsArms, WantsBlock}
 use Rattle.isle_blocks.proofs.Trees.Working.{sizes_two, told_one}
 
 -- a step that matches a site

@@ -11,7 +11,7 @@ use Rattle.isle_blocks.specs.declared.rule.Rule.{Rule}
 use Rattle.isle_blocks.specs.declared.serializer.known.Known.{Known}
 use Rattle.isle_blocks.specs.RuleSets.{RulesOverSites}
 use Rattle.isle_blocks.specs.Trees.View.{made_by, read_or}
-use Rattle.isle_blocks.specs.Trees.Builder.{AreOpeners, rules_in, scope_of, source_in, want_by}
+use Rattle.isle_blocks.specs.Inside.Trees.Builder.{AreOpeners, rules_in, scope_of, source_in, want_by}
 use Rattle.isle_blocks.proofs.Trees.Order.{same_is}
 
 -- What is made by a test has the test's site as its source.

@@ -16,10 +16,10 @@ use Rattle.isle_blocks.specs.declared.rule.Rule.{Rule}
 use Rattle.isle_blocks.specs.Bindings.{sources_of}
 use Rattle.isle_blocks.specs.RuleSets.{RulesOverSites}
 use Rattle.isle_blocks.specs.Rows.{numbers_of}
-use Rattle.isle_blocks.specs.Trees.Builder.{AreOpeners, IsRising, is_some_test, loops_at, opens_at, opens_by, opens_site, rules_in, source_in}
+use Rattle.isle_blocks.specs.Inside.Trees.Builder.{AreOpeners, IsRising, is_some_test, loops_at, opens_at, opens_by, opens_site, rules_in, source_in}
 use Rattle.isle_blocks.specs.Trees.View.{any_opening, first_opening, has_loop, keep, made_by, opening, opens_field, or_else, read_or}
 use Rattle.isle_blocks.specs.Trees.View.{test_at, want_at, want_or}
-use Rattle.isle_blocks.specs.Trees.Work.{opener_among}
+use Rattle.isle_blocks.specs.Inside.Trees.Work.{opener_among}
 use Rattle.isle_blocks.proofs.Trees.Indexed.{made_below}
 
 -- the first test that opens a field

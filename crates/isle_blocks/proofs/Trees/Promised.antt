@@ -13,12 +13,12 @@ use Rattle.isle_blocks.specs.declared.serializer.node.Node.{Node}
 use Rattle.isle_blocks.specs.declared.serializer.node.Node.TheVariants as nodes
 use Rattle.isle_blocks.specs.DefinedSets.{facts_by, name_of, rules_by}
 use Rattle.isle_blocks.specs.RuleSets.{RulesOverSites}
-use Rattle.isle_blocks.specs.Trees.Builder.{IsSerializable, rules_in}
+use Rattle.isle_blocks.specs.Inside.Trees.Builder.{IsSerializable, rules_in}
 use Rattle.isle_blocks.specs.Trees.Nodes.{first_steps, read}
 use Rattle.isle_blocks.specs.Trees.View.{rules_of}
 use Rattle.isle_blocks.specs.Trees.Promises.{all_rules, BindsWhatIsAsked, ChoosesAsRules, HasArmsInOrder, IsBuilt, IsCheckedSet, IsReturnOf, IsShort, ReturnsItsRules}
 use Rattle.isle_blocks.specs.Trees.Shown.{block_of, BlockShown, Returned, return_of, returns_of}
-use Rattle.isle_blocks.specs.Trees.Work.{AreOfRules, IsOfRule}
+use Rattle.isle_blocks.specs.Inside.Trees.Work.{AreOfRules, IsOfRule}
 use Rattle.isle_blocks.proofs.Building.Naming.{name_by_injective}
 use Rattle.isle_blocks.proofs.Trees.Buildable.{is_buildable}
 use Rattle.isle_blocks.proofs.Trees.Chosen.{walks_choose}

@@ -12,9 +12,9 @@ use Rattle.isle_trees.proofs.Building.Sorting.{best_within}
 use Rattle.isle_blocks.specs.declared.constraint.Constraint.{Constraint}
 use Rattle.isle_blocks.specs.declared.serializer.work.Open.{Open}
 use Rattle.isle_blocks.specs.RuleSets.{RulesOverSites}
-use Rattle.isle_blocks.specs.Trees.Builder.{IsSerializable, rules_in, scope_of}
+use Rattle.isle_blocks.specs.Inside.Trees.Builder.{IsSerializable, rules_in, scope_of}
 use Rattle.isle_blocks.specs.Trees.View.{has_loop, read_or, test_at, want_at}
-use Rattle.isle_blocks.specs.Trees.Work.{AreRules, IsSplit}
+use Rattle.isle_blocks.specs.Inside.Trees.Work.{AreRules, IsSplit}
 use Rattle.isle_blocks.proofs.Trees.Reading.{read_some, test_want, want_test}
 
 module _ (set : RulesOverSites) (o : Open) (t : Test) (chosen rest : List ℕ) (split : IsSplit set o t chosen rest) where

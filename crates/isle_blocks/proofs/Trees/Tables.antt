@@ -6,7 +6,7 @@ use Rattle.std.specs.Option.{option_map}
 use Rattle.std.specs.List.{AllZip}
 use Rattle.std.proofs.Math.Seq.{take-add}
 use Rattle.std.proofs.lemmas.List.{append-nil, append_assoc, length-append, length-map, map-append, length-take, length-drop, set-append_left, set-append_right}
-use Rattle.isle_blocks.specs.Trees.Tables.{AreRows, AreFull, IsCut, joined}
+use Rattle.isle_blocks.specs.Inside.Trees.Tables.{AreRows, AreFull, IsCut, joined}
 
 -- the item of a row, where there is a row
 abbrev pub item_of : {A : Type 0} → Option (List A) → ℕ → Option A

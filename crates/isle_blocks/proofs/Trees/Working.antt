@@ -21,10 +21,10 @@ use Rattle.isle_blocks.specs.declared.serializer.work.Task.TheVariants as tasks
 use Rattle.isle_blocks.specs.RuleSets.{RulesOverSites}
 use Rattle.isle_blocks.specs.Trees.Nodes.{Piece, first_arms, first_steps, given, later, put, read}
 use Rattle.isle_blocks.specs.Rows.{numbers_of}
-use Rattle.isle_blocks.specs.Trees.Marking.{AreReady}
-use Rattle.isle_blocks.specs.Trees.Builder.{IsFit, rules_in, scope_of}
-use Rattle.isle_blocks.specs.Trees.Work.{all_taken, AreArms, AreDue, AreGiven, AreOfRules, AreReturns, AreRules, AreTasks, IsCopy, IsDue, IsOfRule, Moves}
-use Rattle.isle_blocks.specs.Trees.Work.{sizes, task_size, WantsArms, WantsBlock}
+use Rattle.isle_blocks.specs.Inside.Trees.Marking.{AreReady}
+use Rattle.isle_blocks.specs.Inside.Trees.Builder.{IsFit, rules_in, scope_of}
+use Rattle.isle_blocks.specs.Inside.Trees.Work.{all_taken, AreArms, AreDue, AreGiven, AreOfRules, AreReturns, AreRules, AreTasks, IsCopy, IsDue, IsOfRule, Moves}
+use Rattle.isle_blocks.specs.Inside.Trees.Work.{sizes, task_size, WantsArms, WantsBlock}
 use Rattle.isle_blocks.proofs.Trees.Laying.{read-append}
 
 -- ---- tasks as a list

@@ -17,11 +17,11 @@ use Rattle.isle_meaning.specs.Numbered.{Row}
 use Rattle.isle_meaning.specs.Sites.{Site}
 use Rattle.isle_terms.specs.Shown.ShownRules.{greatest}
 use Rattle.isle_terms.specs.Shown.TermTables.{TermTables}
-use Rattle.isle_terms.specs.Collecting.Environments.{ShowsTerms}
+use Rattle.isle_terms.specs.TermEnvs.{ShowsTerms}
 use Rattle.isle_blocks.specs.declared.builder.BuiltRule.{BuiltRule}
 use Rattle.isle_blocks.specs.Closure.{Stands}
-use Rattle.isle_blocks.specs.Building.Building.{gathered_in}
-use Rattle.isle_blocks.specs.Building.Built.{IsBuiltOf}
+use Rattle.isle_blocks.specs.Inside.Building.Building.{gathered_in}
+use Rattle.isle_blocks.specs.Inside.Building.Built.{IsBuiltOf}
 
 -- the length of the longest name
 abbrev pub longest_of : List (List ℕ) → ℕ

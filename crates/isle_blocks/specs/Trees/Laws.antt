@@ -15,7 +15,7 @@ use Rattle.isle_meaning.specs.Laws.Matching.{Settles}
 use Rattle.isle_blocks.specs.declared.ids.BindingId.{BindingId}
 use Rattle.isle_blocks.specs.declared.binding.Binding.{Binding}
 use Rattle.isle_blocks.specs.declared.constraint.Constraint.{Constraint}
-use Rattle.isle_blocks.specs.ClosureFields.{IsTable}
+use Rattle.isle_blocks.specs.Tables.{IsTable}
 use Rattle.isle_blocks.specs.Constraints.{bindings_made}
 use Rattle.isle_blocks.specs.DefinedSets.{AreDefined, IsSetOf, name_of, facts_by, rules_by}
 use Rattle.isle_blocks.specs.RuleSets.{RulesOverSites}

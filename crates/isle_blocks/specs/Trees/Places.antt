@@ -1,9 +1,13 @@
 -- Places in a block, and what is read there.
-use Rattle.std.specs.Prelude.{List}
+use Rattle.std.specs.Prelude.{List, ℕ, [], drop}
 use Rattle.isle_blocks.specs.declared.serializer.block.Place.{Place}
-use Rattle.isle_blocks.specs.Trees.Nodes.{Piece, first_steps, first_arms}
-use Rattle.isle_blocks.specs.Trees.Ends.{here}
+use Rattle.isle_blocks.specs.Trees.Nodes.{Piece, first_steps, first_arms, read}
 use Rattle.isle_blocks.specs.Trees.Shown.{Returned, BlockShown, ArmsShown, returns_of}
+use Rattle.isle_blocks.specs.declared.serializer.node.Node.{Node}
+
+-- the pieces from a place on
+abbrev pub here : List Node → ℕ → List Piece
+here nodes at = read (drop at nodes) []
 
 -- the pieces from a place on
 abbrev pub pieces_at : Place → List Piece

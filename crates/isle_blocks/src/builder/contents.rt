@@ -2,7 +2,7 @@
 ghost use Rattle.std.specs.Prelude.{◌≡◌, ◌<◌, ◌+◌, ◌^◌, ◌∷◌, [], false, slice_index_or, length, IfOk, OnOk, MatchOption};
 ghost use Rattle.isle_blocks.specs.declared.ids.BindingId.{BindingId};
 ghost use Rattle.isle_blocks.specs.Bindings.{sources_of};
-ghost use Rattle.isle_blocks.specs.Building.Contents.{PartsAreBefore, AreAsked, MarksMore, Walked, IsStart};
+ghost use Rattle.isle_blocks.specs.Inside.Building.Contents.{PartsAreBefore, AreAsked, MarksMore, Walked, IsStart};
 
 use crate::binding::Binding;
 use crate::ids::BindingId;

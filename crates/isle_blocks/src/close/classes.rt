@@ -2,9 +2,10 @@
 ghost use Rattle.std.specs.Prelude.{◌≡◌, ◌≢◌, ◌<◌, ◌≤◌, ◌⊎◌, ℕ, List, [], IfOk, IfSome, IfNone, MatchOption, Contains, length, slice_get, slice_index, slice_index_or, vec_len, Option};
 ghost use Rattle.isle_meaning.specs.Faults.{Conflict};
 ghost use Rattle.isle_blocks.specs.Rows.{pairs_of};
-ghost use Rattle.isle_blocks.specs.ClosureFields.{IsTable, AreFields, kind_of};
-ghost use Rattle.isle_blocks.specs.ClosureStates.{HasOwn, AreOwn, HasTwo, IsJoined, LackLikeFields, HaveLikeFields, AreLikeFields, IsChoice, IsClash, AllPairs, WasPushed};
-ghost use Rattle.isle_blocks.specs.ClosureStates.{LikesAreIn, ArePairsBelow, AreClasses, AreMembers, IsLikeAmong, IsSound, IsClosed, ForDemands, ListMembers};
+ghost use Rattle.isle_blocks.specs.Inside.ClosureFields.{AreFields, kind_of};
+ghost use Rattle.isle_blocks.specs.Tables.{IsTable};
+ghost use Rattle.isle_blocks.specs.Inside.ClosureStates.{HasOwn, AreOwn, HasTwo, IsJoined, LackLikeFields, HaveLikeFields, AreLikeFields, IsChoice, IsClash, AllPairs, WasPushed};
+ghost use Rattle.isle_blocks.specs.Inside.ClosureStates.{LikesAreIn, ArePairsBelow, AreClasses, AreMembers, IsLikeAmong, IsSound, IsClosed, ForDemands, ListMembers};
 ghost use Rattle.isle_blocks.specs.declared.ids.BindingId.{BindingId as Number};
 ghost use Rattle.isle_blocks.specs.declared.constraint.Constraint.{Constraint as Test};
 
@@ -43,7 +44,7 @@ pub(super) fn gather(
 pub(super) fn alone(alloc: Global, count: usize) -> Result<Vec<usize>, AllocError>
     ensures { IfOk result (λ class. (vec_len class ≡ count) × ((a : ℕ) → a < count → slice_index class.items a ≡ a)) }
 {
-    let mut class = Vec::new(alloc);
+    let mut class = Vec::with_capacity(alloc, count)?;
     for a in 0..count {
         class.push(a)?;
     }
@@ -57,7 +58,7 @@ pub(super) fn number_pairs(
 ) -> Result<Vec<(usize, usize)>, AllocError>
     ensures { IfOk result (λ pairs. pairs.items ≡ pairs_of same.now) }
 {
-    let mut pairs = Vec::new(alloc);
+    let mut pairs = Vec::with_capacity(alloc, same.len())?;
     for (a, b) in same {
         pairs.push((a.index(), b.index()))?;
     }

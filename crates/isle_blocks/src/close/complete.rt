@@ -1,7 +1,7 @@
 //! The fields that sites lack under the tests of their classes.
 ghost use Rattle.std.specs.Prelude.{◌≡◌, ◌<◌, ◌≤◌, ◌+◌, ℕ, List, Option, IfOk, IfErr, length, slice_index};
-ghost use Rattle.isle_blocks.specs.ClosureFields.{kind_of};
-ghost use Rattle.isle_blocks.specs.ClosureStates.{AreClasses, HasField, HasFields, IsOpened, IsState, Grows, RunsOut};
+ghost use Rattle.isle_blocks.specs.Inside.ClosureFields.{kind_of};
+ghost use Rattle.isle_blocks.specs.Inside.ClosureStates.{AreClasses, HasField, HasFields, IsOpened, IsState, Grows, RunsOut};
 ghost use Rattle.isle_blocks.specs.FieldOrder.{AreFieldsBefore, AreFieldsInOrder};
 ghost use Rattle.isle_blocks.specs.declared.constraint.Constraint.{Constraint as Test};
 

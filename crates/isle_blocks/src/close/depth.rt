@@ -2,9 +2,9 @@
 ghost use Rattle.std.specs.Prelude.{◌≡◌, ◌<◌, ◌≤◌, ℕ, Bool, true, false, IfOk, IfSome, IfNone, MatchOption, length, slice_get, slice_index, Some};
 ghost use Rattle.isle_types.specs.Names.{AreDistinct};
 ghost use Rattle.isle_blocks.specs.Tables.{IsAbsent};
-ghost use Rattle.isle_blocks.specs.ClosureFields.{field_binding, kind_of};
-ghost use Rattle.isle_blocks.specs.ClosureStates.{AreClasses, IsRootOf, IsUnmarkedField, FieldsAreMarked, IsUnmarkedChild, ChildrenAreMarked};
-ghost use Rattle.isle_blocks.specs.ClosureStates.{is_marked, IsRanked, HasLoop};
+ghost use Rattle.isle_blocks.specs.Inside.ClosureFields.{field_binding, kind_of};
+ghost use Rattle.isle_blocks.specs.Inside.ClosureStates.{AreClasses, IsRootOf, IsUnmarkedField, FieldsAreMarked, IsUnmarkedChild, ChildrenAreMarked};
+ghost use Rattle.isle_blocks.specs.Inside.ClosureStates.{is_marked, IsRanked, HasLoop};
 
 use super::classes::{alone, own_test};
 use super::fields::{Opening, find_field, opens};

@@ -2,7 +2,7 @@
 ghost use Rattle.std.specs.Prelude.{◌≡◌, ◌<◌, ◌↔◌, ℕ, Option, IsTrue, MatchOption, slice_get, Some};
 ghost use Rattle.std.specs.Option.{option_map};
 ghost use Rattle.isle_blocks.specs.Tables.{IsAbsent};
-ghost use Rattle.isle_blocks.specs.ClosureFields.{Opens, field_binding, kind_of, AreFields};
+ghost use Rattle.isle_blocks.specs.Inside.ClosureFields.{Opens, field_binding, kind_of, AreFields};
 
 use crate::binding::Binding;
 use crate::constraint::Constraint;

@@ -4,15 +4,15 @@ ghost use Rattle.std.specs.List.{filter};
 ghost use Rattle.std.specs.Option.{option_map};
 ghost use Rattle.isle_trees.specs.Bag.{IsAscending};
 ghost use Rattle.isle_trees.specs.Builds.{BindsEach};
-ghost use Rattle.isle_trees.specs.Gathering.{IsClosure, Gathers};
+ghost use Rattle.isle_trees.specs.Inside.Gathering.{IsClosure, Gathers};
 ghost use Rattle.isle_trees.specs.Ranking.{PartsAreLower, AllBelow, Emits, EmitsOne, EmitsEach};
 ghost use Rattle.isle_trees.specs.Rules.{Want, has};
 ghost use Rattle.isle_trees.specs.Scopes.{inside, is_source};
 ghost use Rattle.isle_trees.specs.Search.{AreDistinct, with_made};
 ghost use Rattle.isle_blocks.specs.Rows.{numbers_of};
-ghost use Rattle.isle_blocks.specs.Trees.Builder.{IsFit, IsIndexOf, rules_in, scope_of};
+ghost use Rattle.isle_blocks.specs.Inside.Trees.Builder.{IsFit, IsIndexOf, rules_in, scope_of};
 ghost use Rattle.isle_blocks.specs.Trees.View.{call_at, keep};
-ghost use Rattle.isle_blocks.specs.Trees.Work.{IsSameKnown, options_shown, rights_in};
+ghost use Rattle.isle_blocks.specs.Inside.Trees.Work.{IsSameKnown, options_shown, rights_in};
 
 use crate::binding::Binding;
 use crate::constraint::Constraint;

@@ -1,7 +1,7 @@
 //! Blocks laid out node by node.
 
 ghost use Rattle.std.specs.Prelude.{◌≡◌, ◌<◌, length, IfOk};
-ghost use Rattle.isle_blocks.specs.Trees.Ends.{AreEnds, end_in, node_end};
+ghost use Rattle.isle_blocks.specs.Inside.Trees.Ends.{AreEnds, end_in, node_end};
 
 use crate::serializer::node::Node;
 use crate::serializer::views::Steps;
@@ -21,13 +21,13 @@ pub struct Block {
 
 impl Model for Block {
     ghost use Rattle.isle_blocks.specs.Trees.Shown.{BlockShown};
-    ghost use Rattle.isle_blocks.specs.Trees.ShownCode.{block_code};
+    ghost use Rattle.isle_blocks.specs.Inside.Trees.ShownCode.{block_code};
 
     ghost Value = { BlockShown };
 
     ghost coded = { block_code };
 
-    ghost use Rattle.isle_blocks.specs.Trees.Ends.{AreEnds};
+    ghost use Rattle.isle_blocks.specs.Inside.Trees.Ends.{AreEnds};
     ghost use Rattle.isle_blocks.specs.Trees.Shown.{block_of};
 
     ghost view = { λ b. block_of b.nodes.items };

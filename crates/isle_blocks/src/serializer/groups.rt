@@ -3,7 +3,7 @@ ghost use Rattle.std.specs.Prelude.{◌≡◌, ◌<◌, ℕ, Some, length, slice
 ghost use Rattle.isle_trees.specs.Rules.{has};
 ghost use Rattle.isle_trees.specs.Scopes.{is_want};
 ghost use Rattle.isle_trees.specs.Search.{AllWant, AreDistinct, AreGrouped, IsInOrder, IsRun, below, front};
-ghost use Rattle.isle_blocks.specs.Trees.Builder.{IsSerializable, rules_in};
+ghost use Rattle.isle_blocks.specs.Inside.Trees.Builder.{IsSerializable, rules_in};
 
 use crate::constraint::Constraint;
 use crate::ids::BindingId;

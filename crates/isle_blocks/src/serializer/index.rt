@@ -1,14 +1,14 @@
 //! What the builder of trees looks up by rule and by site.
-ghost use Rattle.isle_blocks.specs.Trees.Work.{AddsOnly, opener_among};
+ghost use Rattle.isle_blocks.specs.Inside.Trees.Work.{AddsOnly, opener_among};
 ghost use Rattle.std.specs.Prelude.{◌≡◌, ◌≤◌, ◌<◌, ◌++◌, ℕ, length, map, IfOk, true, None, [], ◌∷◌, slice_get, slice_index_or};
 ghost use Rattle.std.specs.List.{flat_map};
 ghost use Rattle.isle_trees.specs.Ranking.{PartsAreLower, AllBelow};
 ghost use Rattle.isle_trees.specs.Rules.{Elem};
 ghost use Rattle.isle_trees.specs.Search.{ArePartsFirst, AreMadeBelow, HasUsers, IsAskedBy, IsClean, added_at, is_marked, made_more};
 ghost use Rattle.isle_blocks.specs.Rows.{numbers_of};
-ghost use Rattle.isle_blocks.specs.Trees.Builder.{AreClasses, AreMembers, AreOpeners, IsIndexOf, IsRising, IsSerializable, asked_at, classes_at, dependents_at};
-ghost use Rattle.isle_blocks.specs.Trees.Builder.{items_at, made_at, opener_at, opens_at, rules_in, source_in, tested_in, users_at};
-ghost use Rattle.isle_blocks.specs.Trees.Marking.{AreDependents, ListsAt};
+ghost use Rattle.isle_blocks.specs.Inside.Trees.Builder.{AreClasses, AreMembers, AreOpeners, IsIndexOf, IsRising, IsSerializable, asked_at, classes_at, dependents_at};
+ghost use Rattle.isle_blocks.specs.Inside.Trees.Builder.{items_at, made_at, opener_at, opens_at, rules_in, source_in, tested_in, users_at};
+ghost use Rattle.isle_blocks.specs.Inside.Trees.Marking.{AreDependents, ListsAt};
 ghost use Rattle.isle_blocks.specs.Trees.View.{read_or};
 
 use crate::ids::BindingId;

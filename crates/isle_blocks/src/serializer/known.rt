@@ -6,8 +6,8 @@ ghost use Rattle.isle_trees.specs.Ranking.{above, better, key_with, may_win};
 ghost use Rattle.isle_trees.specs.Search.{IsClean, first_of, is_marked, all_marked};
 ghost use Rattle.isle_blocks.specs.Rows.{numbers_of};
 ghost use Rattle.isle_blocks.specs.RuleSets.{RulesOverSites};
-ghost use Rattle.isle_blocks.specs.Trees.Builder.{IsFit, scope_of, test_shown, key_shown, ranked_shown, best_shown};
-ghost use Rattle.isle_blocks.specs.Trees.Work.{IsCopy};
+ghost use Rattle.isle_blocks.specs.Inside.Trees.Builder.{IsFit, scope_of, test_shown, key_shown, ranked_shown, best_shown};
+ghost use Rattle.isle_blocks.specs.Inside.Trees.Work.{IsCopy};
 
 use crate::ids::BindingId;
 use crate::serializer::table::Table;

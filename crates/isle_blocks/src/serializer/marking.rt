@@ -3,8 +3,8 @@ ghost use Rattle.std.specs.Prelude.{◌≡◌, ◌<◌, ◌∷◌, [], length, I
 ghost use Rattle.isle_trees.specs.Ranking.{AllBelow};
 ghost use Rattle.isle_trees.specs.Search.{AreSound};
 ghost use Rattle.isle_blocks.specs.Rows.{numbers_of};
-ghost use Rattle.isle_blocks.specs.Trees.Builder.{IsFit, IsIndexOf, rules_in, scope_of};
-ghost use Rattle.isle_blocks.specs.Trees.Marking.{IsSpread, Spreads};
+ghost use Rattle.isle_blocks.specs.Inside.Trees.Builder.{IsFit, IsIndexOf, rules_in, scope_of};
+ghost use Rattle.isle_blocks.specs.Inside.Trees.Marking.{IsSpread, Spreads};
 
 use crate::ids::BindingId;
 use crate::rule_set::RuleSet;

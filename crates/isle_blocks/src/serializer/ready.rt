@@ -3,8 +3,8 @@ ghost use Rattle.std.specs.Prelude.{◌≡◌, ◌≤◌, ◌++◌, ◌∷◌, [
 ghost use Rattle.std.specs.List.{filter};
 ghost use Rattle.isle_trees.specs.Search.{below};
 ghost use Rattle.isle_blocks.specs.Rows.{numbers_of};
-ghost use Rattle.isle_blocks.specs.Trees.Builder.{IsFit, scope_of, users_at};
-ghost use Rattle.isle_blocks.specs.Trees.Marking.{is_testable};
+ghost use Rattle.isle_blocks.specs.Inside.Trees.Builder.{IsFit, scope_of, users_at};
+ghost use Rattle.isle_blocks.specs.Inside.Trees.Marking.{is_testable};
 
 use crate::ids::BindingId;
 use crate::rule_set::RuleSet;

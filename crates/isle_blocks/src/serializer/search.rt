@@ -1,5 +1,5 @@
 //! The best test of the rules left.
-ghost use Rattle.isle_blocks.specs.Trees.Best.{AreClassesPassed, AreEqualitiesPassed, AreSitesPassed, IsClassPassed, IsPassed, IsRowPassed, IsSitePassed, IsStillRanked};
+ghost use Rattle.isle_blocks.specs.Inside.Trees.Best.{AreClassesPassed, AreEqualitiesPassed, AreSitesPassed, IsClassPassed, IsPassed, IsRowPassed, IsSitePassed, IsStillRanked};
 ghost use Rattle.std.specs.Prelude.{◌≡◌, ◌≤◌, ◌<◌, ◌&&◌, not, length, IfOk, MatchOption, ℕ, true};
 ghost use Rattle.isle_trees.specs.Builds.{IsBest, HasNoTest, key};
 ghost use Rattle.isle_trees.specs.Ranking.{IsNoBetter, IsRanked, AllBelow, may_win};
@@ -7,9 +7,9 @@ ghost use Rattle.isle_trees.specs.Rules.{Elem};
 ghost use Rattle.isle_trees.specs.Scopes.{IsReady, Test as AnyTest, counted, others, on_match, on_loop, on_equal, IsAvailable};
 ghost use Rattle.isle_trees.specs.Search.{AreMarked, AreSound, ArePartsFirst, IsInOrder, can_bind, is_made, is_open, is_ready, is_marked, first_of};
 ghost use Rattle.isle_blocks.specs.Rows.{numbers_of};
-ghost use Rattle.isle_blocks.specs.Trees.Builder.{IsFit, IsIndexOf, IsSerializable, best_shown, key_shown};
-ghost use Rattle.isle_blocks.specs.Trees.Marking.{AreReady};
-ghost use Rattle.isle_blocks.specs.Trees.Builder.{rules_in, scope_of, test_shown};
+ghost use Rattle.isle_blocks.specs.Inside.Trees.Builder.{IsFit, IsIndexOf, IsSerializable, best_shown, key_shown};
+ghost use Rattle.isle_blocks.specs.Inside.Trees.Marking.{AreReady};
+ghost use Rattle.isle_blocks.specs.Inside.Trees.Builder.{rules_in, scope_of, test_shown};
 
 use crate::ids::BindingId;
 use crate::rule_set::RuleSet;

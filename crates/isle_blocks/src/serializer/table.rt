@@ -1,6 +1,6 @@
 //! Lists of which a copy shares the rows in which it differs in nothing.
 ghost use Rattle.std.specs.Prelude.{◌≡◌, ◌<◌, length, map, slice_get, slice_index_or, slice_set, IfOk, option_copied};
-ghost use Rattle.isle_blocks.specs.Trees.Work.{relabel};
+ghost use Rattle.isle_blocks.specs.Inside.Trees.Work.{relabel};
 
 use std::alloc::{AllocError, Global};
 use std::marker::Model;
@@ -17,7 +17,7 @@ pub(crate) struct Table<T> {
 
 impl<T> Model for Table<T> {
     ghost use Rattle.std.specs.Prelude.{List, map};
-    ghost use Rattle.isle_blocks.specs.Trees.Tables.{AreRows, joined};
+    ghost use Rattle.isle_blocks.specs.Inside.Trees.Tables.{AreRows, joined};
 
     ghost Value = { List T };
 

@@ -8,7 +8,7 @@ ghost use Rattle.isle_trees.specs.Builds.{own};
 ghost use Rattle.isle_trees.specs.Scopes.{has_test, counted};
 ghost use Rattle.isle_trees.specs.Search.{floor, reaches, picks, top, precedes, same_wants, lesser_want, comes_first, IsInOrder};
 ghost use Rattle.isle_blocks.specs.Rows.{numbers_of};
-ghost use Rattle.isle_blocks.specs.Trees.Builder.{rules_in, test_shown, source_in, loops_at, opens_at, opens_site};
+ghost use Rattle.isle_blocks.specs.Inside.Trees.Builder.{rules_in, test_shown, source_in, loops_at, opens_at, opens_site};
 ghost use Rattle.isle_blocks.specs.Trees.View.{test_at, is_bound, option_site, is_constructor, read_or};
 
 use crate::binding::Binding;

@@ -9,10 +9,10 @@ ghost use Rattle.isle_blocks.specs.declared.serializer.node.Node.TheVariants as 
 ghost use Rattle.isle_blocks.specs.declared.serializer.work.Task.TheVariants as tasks;
 ghost use Rattle.isle_blocks.specs.declared.serializer.known.Test.TheVariants as kinds;
 ghost use Rattle.isle_blocks.specs.Trees.Nodes.{Piece, first_steps, given, put, read};
-ghost use Rattle.isle_blocks.specs.Trees.Builder.{IsFit, IsIndexOf, IsSerializable, rules_in, scope_of, test_shown};
-ghost use Rattle.isle_blocks.specs.Trees.Marking.{AreReady};
-ghost use Rattle.isle_blocks.specs.Trees.Work.{AreArms, AreOfRules, AreReturns, AreRules, IsFan, IsOpen, IsSplit, IsTask, Moves};
-ghost use Rattle.isle_blocks.specs.Trees.Work.{WantsArms, WantsBlock};
+ghost use Rattle.isle_blocks.specs.Inside.Trees.Builder.{IsFit, IsIndexOf, IsSerializable, rules_in, scope_of, test_shown};
+ghost use Rattle.isle_blocks.specs.Inside.Trees.Marking.{AreReady};
+ghost use Rattle.isle_blocks.specs.Inside.Trees.Work.{AreArms, AreOfRules, AreReturns, AreRules, IsFan, IsOpen, IsSplit, IsTask, Moves};
+ghost use Rattle.isle_blocks.specs.Inside.Trees.Work.{WantsArms, WantsBlock};
 
 use crate::constraint::Constraint;
 use crate::ids::BindingId;

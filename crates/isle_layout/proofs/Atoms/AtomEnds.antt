@@ -11,7 +11,7 @@ use Rattle.isle_syntax.specs.Tokens.Names.{is_space}
 use Rattle.isle_syntax.specs.Tokens.Integers.{unsigned_of, radix_named, radix_of, behind_prefix, continues_digits, digits_of, after_integer}
 use Rattle.isle_syntax.specs.Tokens.Integers.{digits_token, integer_of}
 use Rattle.isle_syntax.specs.Tokens.TokensOf.{continues_symbol, IsToken, opening, closing, at_sign, integer, word}
-use Rattle.isle_layout.specs.SExprTokens.{ends_atom}
+use Rattle.isle_layout.specs.Inside.SExprTokens.{ends_atom}
 
 -- ---- the bytes that end an atom
 

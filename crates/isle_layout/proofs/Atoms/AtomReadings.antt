@@ -10,7 +10,7 @@ use Rattle.isle_syntax.specs.Tokens.PlacedTokens.{Literal, small, large, Placed,
 use Rattle.isle_syntax.specs.Tokens.TokensOf.{IsToken}
 use Rattle.isle_syntax.specs.Grammar.TreeGrammar.{SpellsInteger}
 use Rattle.isle_syntax.proofs.Reading.SymbolKinds.{pname_is_name}
-use Rattle.isle_layout.specs.SExprTokens.{SpellsAtom}
+use Rattle.isle_layout.specs.Inside.SExprTokens.{SpellsAtom}
 use Rattle.isle_layout.specs.Spellings.{integer_text}
 use Rattle.isle_layout.proofs.Atoms.AtomTexts.{one_token, symbol_token, whole_symbol, at_sign_token}
 use Rattle.isle_layout.proofs.Atoms.IdentifierTexts.{ident_begins, no_ident, name_is_ident, const_is_ident}

@@ -8,7 +8,7 @@ use Rattle.isle_syntax.specs.Tokens.Gaps.{lead_of, begins_semicolon, BeginsNoGap
 use Rattle.isle_syntax.specs.Tokens.TokensOf.{IsToken, opening, closing, at_sign, integer, word, pos_of_rest, TokensOf, ended, stopped, token}
 use Rattle.isle_syntax.specs.Tokens.RemainingTokens.{Source}
 use Rattle.isle_layout.specs.Layout.{line}
-use Rattle.isle_layout.specs.SExprTokens.{ends_atom}
+use Rattle.isle_layout.specs.Inside.SExprTokens.{ends_atom}
 
 -- ---- white space
 

@@ -4,7 +4,7 @@ use Rattle.std.specs.List.{list_all}
 use Rattle.std.specs.Str.{IsUtf8}
 use Rattle.isle_syntax.proofs.Reading.SymbolKinds.{and_first, and_second}
 use Rattle.isle_layout.specs.SExprTree.{SExprTree, SExprTrees, sexpr_atom, sexpr_binding, sexpr_list, no_sexprs, more_sexprs, sexpr_trees_of}
-use Rattle.isle_layout.specs.SExprTokens.{IsAtom, HasAtoms, HaveAtoms}
+use Rattle.isle_layout.specs.Inside.SExprTokens.{IsAtom, HasAtoms, HaveAtoms}
 
 -- P holds of each atom's text and of each name that is bound
 abbrev mutual

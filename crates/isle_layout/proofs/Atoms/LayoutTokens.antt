@@ -8,7 +8,7 @@ use Rattle.isle_syntax.specs.Grammar.Phrases.{◌⊙◌, Each}
 use Rattle.isle_syntax.specs.Tokens.TokensOf.{opening as is_opening, closing as is_closing, at_sign as is_at_sign, pos_of_rest, TokensOf, ended}
 use Rattle.isle_syntax.specs.Tokens.RemainingTokens.{Source}
 use Rattle.isle_layout.specs.SExprTree.{SExprTree, SExprTrees, sexpr_atom, sexpr_binding, sexpr_list, no_sexprs, more_sexprs, sexpr_trees_of}
-use Rattle.isle_layout.specs.SExprTokens.{IsAtom, SpellsAtom, SpellsSExpr, SpellsSExprs, HasAtoms, HaveAtoms, ends_atom}
+use Rattle.isle_layout.specs.Inside.SExprTokens.{IsAtom, SpellsAtom, SpellsSExpr, SpellsSExprs, HasAtoms, HaveAtoms, ends_atom}
 use Rattle.isle_layout.specs.Layout.{joined, line, one_line, one_lines, stays_on_one_line, broken, layout, layouts}
 use Rattle.isle_layout.proofs.Atoms.AtomEnds.{no_comment, opens, atom_followed}
 use Rattle.isle_layout.proofs.Atoms.Blanks.{behind_space, behind_newline, IsBlank, Separates, nothing_blank, space_separates, line_separates}

@@ -9,7 +9,7 @@ use Rattle.std.proofs.lemmas.Str.{IsUtf8-take, IsCharBoundary-before_ascii}
 use Rattle.isle_syntax.specs.declared.ast.Def.{Def}
 use Rattle.isle_syntax.proofs.Tokens.Cuts.{utf8_behind_ascii}
 use Rattle.isle_layout.specs.SExprTree.{SExprTree, SExprTrees, sexpr_atom, sexpr_binding, sexpr_list, no_sexprs, more_sexprs}
-use Rattle.isle_layout.specs.SExprTokens.{HasAtoms}
+use Rattle.isle_layout.specs.Inside.SExprTokens.{HasAtoms}
 use Rattle.isle_layout.specs.Layout.{joined, line, one_line, one_lines, stays_on_one_line, broken, layout, layouts}
 use Rattle.isle_layout.specs.DefSpellings.{def_sexpr}
 use Rattle.isle_layout.specs.Writable.{writable_def}

@@ -15,7 +15,7 @@ use Rattle.isle_syntax.specs.Tokens.RemainingTokens.{Source}
 use Rattle.isle_syntax.specs.Tokens.Gaps.{lead_of, run_of}
 use Rattle.isle_syntax.specs.Tokens.Integers.{is_negative, unsigned_of, radix_of, digits_of, has_digit, spelt, integer_token}
 use Rattle.isle_syntax.specs.Tokens.TokensOf.{continues_symbol, IsToken, opening, closing, at_sign, integer, word, TokensOf, ended, stopped, token}
-use Rattle.isle_layout.specs.TextTokens.{IsTextToken, AreTextTokens}
+use Rattle.isle_layout.specs.Inside.TextTokens.{IsTextToken, AreTextTokens}
 use Rattle.isle_layout.specs.Writable.{fits_i128}
 
 -- ---- symbols

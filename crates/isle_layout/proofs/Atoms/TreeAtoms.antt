@@ -14,7 +14,7 @@ use Rattle.isle_syntax.specs.Trees.ItemTree.{ItemTree, ItemTrees, item_int, item
 use Rattle.isle_syntax.specs.Tokens.Names.{is_symbol, is_ident, is_const_name}
 use Rattle.isle_syntax.specs.Grammar.TreeGrammar.{is_pattern_term, is_expr_term}
 use Rattle.isle_syntax.proofs.Reading.SymbolKinds.{and_first, and_second}
-use Rattle.isle_layout.specs.SExprTokens.{IsAtom}
+use Rattle.isle_layout.specs.Inside.SExprTokens.{IsAtom}
 use Rattle.isle_layout.specs.Spellings.{constant_sexpr, pattern_sexpr, pattern_sexprs, expr_sexpr, expr_sexprs, let_sexprs, item_sexpr, item_sexprs}
 use Rattle.isle_layout.specs.Writable.{fits_i128, writable_ident, writable_pattern, writable_patterns, writable_expr, writable_exprs, writable_lets}
 use Rattle.isle_layout.specs.Writable.{writable_item, writable_items}

@@ -6,7 +6,7 @@ use Rattle.isle_layout.specs.declared.sexpr.SExpr.{SExpr}
 use Rattle.isle_layout.specs.declared.sexpr.SExpr.TheVariants as sexpr
 use Rattle.isle_layout.specs.SExprTree.{SExprTrees, sexpr_list}
 use Rattle.isle_layout.specs.SExprShape.{sexpr_of, sexprs_of}
-use Rattle.isle_layout.specs.SExprInnermost.{innermost}
+use Rattle.isle_layout.specs.Inside.SExprInnermost.{innermost}
 use Rattle.isle_layout.specs.Layout.{stays_on_one_line, one_line, line, joined, layout, layouts, broken, fits_of, fits_of_all}
 use Rattle.isle_layout.proofs.Layouts.Joined.{rest_joined, joined_more, all_joined}
 use Rattle.isle_layout.proofs.Layouts.Fits.{listed, first_fit}

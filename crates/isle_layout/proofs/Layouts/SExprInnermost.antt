@@ -7,7 +7,7 @@ use Rattle.isle_layout.specs.declared.sexpr.SExpr.TheVariants as sexpr
 use Rattle.isle_layout.specs.declared.sexpr.BoxedSExpr.TheDeep.{size-SExpr}
 use Rattle.isle_layout.specs.SExprTree.{SExprTree, SExprTrees, sexpr_atom, sexpr_binding, sexpr_list, sexpr_height, sexpr_heights}
 use Rattle.isle_layout.specs.SExprShape.{sexpr_of, sexprs_of}
-use Rattle.isle_layout.specs.SExprInnermost.{innermost, names_text}
+use Rattle.isle_layout.specs.Inside.SExprInnermost.{innermost, names_text}
 use Rattle.isle_layout.specs.Layout.{one_line, one_line_length, layout, fits_of}
 use Rattle.isle_layout.proofs.Layouts.Lengths.{char_count-append, count_none, count_at}
 use Rattle.isle_layout.proofs.Layouts.SExprSizes.{most_sexpr_size}

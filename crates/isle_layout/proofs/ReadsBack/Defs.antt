@@ -15,7 +15,7 @@ use Rattle.isle_syntax.specs.Trees.WithoutPos.{def_without_pos}
 use Rattle.isle_syntax.specs.Grammar.Verdict.{max_nesting}
 use Rattle.isle_syntax.proofs.Reading.SymbolKinds.{and_first}
 use Rattle.isle_layout.specs.SExprTree.{SExprTree, sexpr_atom}
-use Rattle.isle_layout.specs.SExprTokens.{SpellsSExpr}
+use Rattle.isle_layout.specs.Inside.SExprTokens.{SpellsSExpr}
 use Rattle.isle_layout.specs.Spellings.{listed, name_sexpr, pattern_sexpr, item_sexprs}
 use Rattle.isle_layout.specs.DefSpellings.{flag, type_value_sexpr, decl_flags, extern_sexpr, rule_name, rule_priority, def_sexpr}
 use Rattle.isle_layout.specs.Nesting.{nesting}

@@ -11,7 +11,7 @@ use Rattle.isle_syntax.specs.Grammar.Verdict.{NestsWithin}
 use Rattle.isle_syntax.specs.Trees.WithoutPos.{def_without_pos}
 use Rattle.isle_syntax.proofs.Tokens.Cuts.{utf8_behind_ascii}
 use Rattle.isle_layout.specs.SExprTree.{sexpr_trees_of}
-use Rattle.isle_layout.specs.SExprTokens.{HaveAtoms}
+use Rattle.isle_layout.specs.Inside.SExprTokens.{HaveAtoms}
 use Rattle.isle_layout.specs.DefSpellings.{def_sexpr}
 use Rattle.isle_layout.specs.Layout.{layout}
 use Rattle.isle_layout.specs.Prints.{def_print, print_of}

@@ -7,7 +7,7 @@ use Rattle.isle_syntax.specs.Grammar.Phrases.{◌⊙◌, Closes, Opening, AtSign
 use Rattle.isle_syntax.proofs.Reading.Basics.{group_right, group_left}
 use Rattle.isle_syntax.proofs.Reading.SymbolKinds.{and_first, and_second}
 use Rattle.isle_layout.specs.SExprTree.{SExprTree, SExprTrees, sexpr_atom, sexpr_binding, sexpr_list, no_sexprs, more_sexprs, sexpr_trees_of}
-use Rattle.isle_layout.specs.SExprTokens.{SpellsAtom, SpellsSExpr, SpellsSExprs}
+use Rattle.isle_layout.specs.Inside.SExprTokens.{SpellsAtom, SpellsSExpr, SpellsSExprs}
 use Rattle.isle_layout.specs.Spellings.{listed}
 use Rattle.isle_layout.proofs.Atoms.EachAtom.{EachAtom, EachAtoms}
 

@@ -14,7 +14,7 @@ use Rattle.isle_syntax.specs.Trees.PatternTree.{pattern_wildcard, pattern_and, p
 use Rattle.isle_syntax.specs.Trees.PatternShape.{pattern_of}
 use Rattle.isle_syntax.specs.Trees.ExprTree.{ExprTree, expr_term, expr_var, expr_bool, expr_int, expr_prim, expr_let}
 use Rattle.isle_syntax.specs.Trees.ExprShape.{expr_of}
-use Rattle.isle_syntax.specs.Reading.DefReading.{expr_from}
+use Rattle.isle_syntax.specs.Inside.Reading.DefReading.{expr_from}
 use Rattle.isle_syntax.specs.Tokens.PlacedTokens.{Placed}
 use Rattle.isle_syntax.specs.Grammar.Phrases.{◌⊙◌, Closes, Each, first_pos}
 use Rattle.isle_syntax.specs.Grammar.TreeGrammar.{IsList, SpellsExpr}

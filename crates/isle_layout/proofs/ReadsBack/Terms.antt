@@ -14,7 +14,7 @@ use Rattle.isle_syntax.specs.declared.ast.Pattern.TheVariants as pattern
 use Rattle.isle_syntax.specs.Trees.PatternTree.{PatternTree, pattern_var, pattern_bind, pattern_bool, pattern_int, pattern_prim, pattern_term}
 use Rattle.isle_syntax.specs.Trees.PatternTree.{pattern_wildcard, pattern_and, pattern_macro_arg}
 use Rattle.isle_syntax.specs.Trees.PatternShape.{pattern_of}
-use Rattle.isle_syntax.specs.Reading.DefReading.{pattern_from}
+use Rattle.isle_syntax.specs.Inside.Reading.DefReading.{pattern_from}
 use Rattle.isle_syntax.specs.Tokens.PlacedTokens.{Placed}
 use Rattle.isle_syntax.specs.Tokens.Names.{is_symbol, is_const_name, is_word}
 use Rattle.isle_syntax.specs.Grammar.Phrases.{◌⊙◌, Opens, Closes, Opening, Says, Flag, Each, Closed, next_symbol_is, first_pos}

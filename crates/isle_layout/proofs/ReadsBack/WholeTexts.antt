@@ -12,7 +12,7 @@ use Rattle.isle_syntax.specs.Trees.WithoutPos.{def_without_pos}
 use Rattle.isle_syntax.specs.Grammar.Verdict.{max_nesting, NestsWithin}
 use Rattle.isle_syntax.proofs.Reading.SymbolKinds.{and_first, and_second}
 use Rattle.isle_layout.specs.SExprTree.{sexpr_trees_of}
-use Rattle.isle_layout.specs.SExprTokens.{SpellsSExpr}
+use Rattle.isle_layout.specs.Inside.SExprTokens.{SpellsSExpr}
 use Rattle.isle_layout.specs.DefSpellings.{def_sexpr}
 use Rattle.isle_layout.specs.Nesting.{nesting}
 use Rattle.isle_layout.specs.Writable.{has_writable_words, writable_def}

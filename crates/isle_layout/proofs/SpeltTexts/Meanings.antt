@@ -6,7 +6,7 @@ use Rattle.std.proofs.lemmas.Bool.{and_from}
 use Rattle.isle_syntax.specs.declared.ast.Ident.{Ident}
 use Rattle.isle_syntax.specs.Tokens.PlacedTokens.{Placed}
 use Rattle.isle_syntax.specs.Grammar.Phrases.{◌⊙◌, SymbolOf, Flag, Each}
-use Rattle.isle_layout.specs.TextTokens.{AreTextTokens}
+use Rattle.isle_layout.specs.Inside.TextTokens.{AreTextTokens}
 
 -- the test holds where such tokens stand
 pub record Means (b : Bool) (L : List Placed → Type 0) : Type 0 where

@@ -39,7 +39,7 @@ use Rattle.isle_syntax.specs.Grammar.DefGrammar.{SpellsRightSide, SpellsRule, is
 use Rattle.isle_syntax.specs.Grammar.Verdict.{max_nesting, NestsWithin, IsSpelt}
 use Rattle.isle_syntax.specs.Tokens.RemainingTokens.{RemainingTokens}
 use Rattle.isle_syntax.specs.Grammar.Texts.{IsWhole}
-use Rattle.isle_layout.specs.TextTokens.{AreTextTokens}
+use Rattle.isle_layout.specs.Inside.TextTokens.{AreTextTokens}
 use Rattle.isle_layout.specs.Nesting.{nesting}
 use Rattle.isle_layout.specs.Writable.{writable_ident, writable_pattern, writable_expr, writable_struct_field, writable_tuple_fields, is_filled}
 use Rattle.isle_layout.specs.Writable.{writable_fields, writable_variant, writable_type_value, writable_type, is_free_of_flags, writable_decl}

@@ -15,7 +15,7 @@ use Rattle.isle_syntax.specs.Trees.PatternTree.{pattern_term, pattern_wildcard, 
 use Rattle.isle_syntax.specs.Trees.ExprTree.{ExprTree, ExprTrees, LetTrees, expr_term, expr_var, expr_bool, expr_int, expr_prim, expr_let, no_exprs}
 use Rattle.isle_syntax.specs.Trees.ExprTree.{more_exprs, no_lets, more_lets}
 use Rattle.isle_syntax.specs.Trees.ItemTree.{ItemTree, ItemTrees, item_int, item_big, item_symbol, item_at, item_list, no_items, more_items}
-use Rattle.isle_layout.specs.TextTokens.{IsTextLiteral, AreTextTokens}
+use Rattle.isle_layout.specs.Inside.TextTokens.{IsTextLiteral, AreTextTokens}
 use Rattle.isle_layout.specs.Writable.{writable_ident, fits_i128, writable_int, writable_pattern, writable_patterns, writable_expr, writable_exprs}
 use Rattle.isle_layout.specs.Writable.{writable_lets, writable_item, writable_items}
 use Rattle.isle_layout.proofs.SpeltTexts.Meanings.{Means, means_first, means_second, means_both, means_three, means_with, means_always, means_symbol}

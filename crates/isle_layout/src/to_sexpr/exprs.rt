@@ -1,3 +1,4 @@
+//! S-expressions of expressions, and of the variables of a `let`.
 ghost use Rattle.std.specs.Prelude.{◌≡◌, [], ◌∷◌, ◌++◌, IfOk};
 ghost use Rattle.isle_syntax.specs.Trees.ExprShape.{expr_of, exprs_of, lets_of};
 ghost use Rattle.isle_layout.specs.SExprShape.{sexpr_of};

@@ -1,3 +1,4 @@
+//! S-expressions of kept definitions and of their items.
 ghost use Rattle.std.specs.Prelude.{◌≡◌, ◌++◌, false, IfOk};
 ghost use Rattle.isle_syntax.specs.Trees.ItemShape.{item_of, items_of};
 ghost use Rattle.isle_layout.specs.SExprShape.{sexpr_of};

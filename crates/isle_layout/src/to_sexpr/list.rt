@@ -1,3 +1,4 @@
+//! A builder of lists of S-expressions, and the atoms of words, names and constants.
 ghost use Rattle.std.specs.Prelude.{◌≡◌, ◌++◌, ◌∷◌, [], map, IfOk};
 ghost use Rattle.isle_layout.specs.SExprTree.{sexpr_atom};
 ghost use Rattle.isle_layout.specs.SExprShape.{sexpr_of};
@@ -44,7 +45,7 @@ impl Model for ListBuilder {
     ghost use Rattle.isle_layout.specs.SExprTree.{SExprTree};
     ghost use Rattle.isle_layout.specs.SExprShape.{sexpr_of};
     ghost use Rattle.std.specs.Coded.{coded_list};
-    ghost use Rattle.isle_layout.specs.SExprCode.{sexpr_tree_code};
+    ghost use Rattle.isle_layout.specs.Inside.SExprCode.{sexpr_tree_code};
 
     ghost Value = { List SExprTree };
 

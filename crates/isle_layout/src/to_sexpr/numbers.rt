@@ -1,3 +1,4 @@
+//! Atoms of truth values and of integers.
 ghost use Rattle.std.specs.Prelude.{◌≡◌, IfOk};
 ghost use Rattle.std.specs.Fmt.{decimal, signed_decimal};
 ghost use Rattle.isle_syntax.specs.Grammar.TreeGrammar.{truth_word};

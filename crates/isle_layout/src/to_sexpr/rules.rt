@@ -1,3 +1,4 @@
+//! S-expressions of rules, with their names, priorities and conditions.
 ghost use Rattle.std.specs.Prelude.{◌≡◌, ◌++◌, map, IfOk};
 ghost use Rattle.std.specs.List.{list_any};
 ghost use Rattle.isle_layout.specs.SExprShape.{sexpr_of};

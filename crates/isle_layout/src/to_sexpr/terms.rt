@@ -1,3 +1,4 @@
+//! S-expressions of declarations, of internal extractors, of what the host provides, and of converters.
 ghost use Rattle.std.specs.Prelude.{◌≡◌, ◌++◌, ◌∷◌, [], false, codes, map, IfOk};
 ghost use Rattle.isle_layout.specs.SExprTree.{sexpr_atom};
 ghost use Rattle.isle_layout.specs.SExprShape.{sexpr_of};

@@ -1,3 +1,4 @@
+//! S-expressions of the definitions of types, and of variants and fields.
 ghost use Rattle.std.specs.Prelude.{◌≡◌, ◌++◌, false, map, IfOk};
 ghost use Rattle.isle_layout.specs.SExprShape.{sexpr_of};
 ghost use Rattle.isle_layout.specs.DefSpellings.{struct_field_sexpr, tuple_field_sexpr, fields_sexprs, fields_sexpr, struct_fields_sexpr};

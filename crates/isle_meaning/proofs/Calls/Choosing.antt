@@ -20,7 +20,7 @@ use Rattle.isle_meaning.specs.Calls.{Agrees, Makes, IsRuleAt, Told, CoversAll}
 use Rattle.isle_meaning.specs.Outcomes.{Outcome, given, missing, ended, unmatched}
 use Rattle.isle_meaning.specs.PlainRuns.{Tried, RuleRuns, RightRuns, RulesRun, IsTriedBefore, AreTriedInOrder}
 use Rattle.isle_meaning.specs.SoundPrograms.{IsSoundRule, IsSound}
-use Rattle.isle_meaning.specs.TypedWords.{GivesTyped}
+use Rattle.isle_meaning.specs.Inside.TypedWords.{GivesTyped}
 use Rattle.isle_meaning.proofs.Calls.WordTyping.{calls_types, expr_typed}
 use Rattle.isle_meaning.proofs.Calls.RuleGiving.{none_answered, rule_gives_typed, right_gives_typed}
 use Rattle.isle_meaning.proofs.Calls.Saying.{GivesMeant}

@@ -18,7 +18,7 @@ use Rattle.isle_meaning.proofs.Matching.Basics.{set_at}
 use Rattle.isle_meaning.specs.Outcomes.{Outcome, given, missing, After, Judged, WorldExtracts, ConstructsIf}
 use Rattle.isle_meaning.specs.PlainRuns.{WordRuns, WordsRun, Tests, OpenRuns, PatternRuns, PatternsRun, EachRuns}
 use Rattle.isle_meaning.specs.SoundPrograms.{HasSoundData}
-use Rattle.isle_meaning.specs.TypedWords.{IsTypedWord, AreTypedWords, AreTypedVariables, AreTypedAnswers, GivesTyped}
+use Rattle.isle_meaning.specs.Inside.TypedWords.{IsTypedWord, AreTypedWords, AreTypedVariables, AreTypedAnswers, GivesTyped}
 use Rattle.isle_meaning.proofs.Calls.Outcomes.{after_given}
 use Rattle.isle_meaning.proofs.Calls.TypedValues.{none_typed, more_values_typed, values_parted, variant_made, struct_made, variant_opened}
 use Rattle.isle_meaning.proofs.Calls.TypedValues.{struct_opened}

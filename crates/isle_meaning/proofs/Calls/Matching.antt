@@ -24,7 +24,7 @@ use Rattle.isle_meaning.proofs.Matching.Forward.{forward, forward_all}
 use Rattle.isle_meaning.specs.Outcomes.{Outcome, given, missing, ended, After}
 use Rattle.isle_meaning.specs.PlainRuns.{WordRuns, PatternRuns, PatternsRun, IfLetsRun, RuleRuns, no_variables}
 use Rattle.isle_meaning.specs.SoundPrograms.{HasSoundData, AreSoundIfLets, IsSoundRule}
-use Rattle.isle_meaning.specs.TypedWords.{AreTypedVariables, GivesTyped}
+use Rattle.isle_meaning.specs.Inside.TypedWords.{AreTypedVariables, GivesTyped}
 use Rattle.isle_meaning.proofs.Calls.Outcomes.{after_given}
 use Rattle.isle_meaning.proofs.Calls.Giving.{words_give_typed, patterns_give_typed, patterns_give_typed_all}
 use Rattle.isle_meaning.proofs.Calls.WordTyping.{calls_types, expr_typed}

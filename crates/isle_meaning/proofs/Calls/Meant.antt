@@ -8,7 +8,7 @@ use Rattle.isle_meaning.specs.Calls.{Agrees, CoversAll, Told, Means}
 use Rattle.isle_meaning.specs.Outcomes.{Outcome, given, missing, ended, IsMeant}
 use Rattle.isle_meaning.specs.PlainRuns.{RulesRun, PlainRun}
 use Rattle.isle_meaning.specs.SoundPrograms.{IsSound}
-use Rattle.isle_meaning.specs.TypedWords.{GivesTyped}
+use Rattle.isle_meaning.specs.Inside.TypedWords.{GivesTyped}
 use Rattle.isle_meaning.specs.Laws.Plain.{PlainRunsAreMeant}
 use Rattle.isle_meaning.proofs.Calls.Saying.{OutcomeMeans, GivesMeant}
 use Rattle.isle_meaning.proofs.Calls.Rights.{IsAnswer}

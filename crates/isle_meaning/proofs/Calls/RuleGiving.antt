@@ -10,7 +10,7 @@ use Rattle.isle_meaning.specs.Worlds.{CheckedProgram, Answers, Event}
 use Rattle.isle_meaning.specs.Outcomes.{Outcome, given, After, Then, EffectsIf, ImpureRuns}
 use Rattle.isle_meaning.specs.PlainRuns.{WordRuns, WordsRun, PatternRuns, PatternsRun, IfLetsRun, RuleRuns, RightRuns, no_variables}
 use Rattle.isle_meaning.specs.SoundPrograms.{HasSoundData, AreSoundIfLets, IsSoundRule}
-use Rattle.isle_meaning.specs.TypedWords.{IsTypedWord, AreTypedVariables, AreTypedAnswers, IsTypedStep, AreTypedSteps, GivesTyped}
+use Rattle.isle_meaning.specs.Inside.TypedWords.{IsTypedWord, AreTypedVariables, AreTypedAnswers, IsTypedStep, AreTypedSteps, GivesTyped}
 use Rattle.isle_meaning.proofs.Calls.Outcomes.{after_given, then_given, at_end, one_longer}
 use Rattle.isle_meaning.proofs.Calls.Giving.{judged_given, allowed_typed, words_give_typed, words_give_typed_all, patterns_give_typed}
 use Rattle.isle_meaning.proofs.Calls.Giving.{patterns_give_typed_all}

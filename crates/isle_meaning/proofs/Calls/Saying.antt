@@ -13,7 +13,7 @@ use Rattle.isle_meaning.specs.Asking.{Asked}
 use Rattle.isle_meaning.specs.Outcomes.{Outcome, given, missing, ended, After, outcome_of, Judged, WorldExtracts, ConstructsIf}
 use Rattle.isle_meaning.specs.PlainRuns.{WordRuns, WordsRun}
 use Rattle.isle_meaning.specs.SoundPrograms.{HasSoundData}
-use Rattle.isle_meaning.specs.TypedWords.{IsTypedWord, AreTypedWords, AreTypedVariables, AreTypedAnswers, GivesTyped}
+use Rattle.isle_meaning.specs.Inside.TypedWords.{IsTypedWord, AreTypedWords, AreTypedVariables, AreTypedAnswers, GivesTyped}
 use Rattle.isle_meaning.proofs.Calls.Giving.{words_give_typed_all}
 
 -- what is known is what an outcome says: its value, or a failure

@@ -3,8 +3,8 @@ use Rattle.std.proofs.Common.{◌≡◌, ◌⊎◌, inl, inr, ◌≤◌, ℕ, ze
 use Rattle.std.proofs.Common.{Contains, refl, sym, ◌∙◌, ap, subst, arith}
 use Rattle.isle_terms.specs.TypedRules.{TypedPattern, typed_bind, typed_var, typed_bool, typed_int, typed_prim, typed_term, typed_wildcard}
 use Rattle.isle_terms.specs.TypedRules.{typed_and, TypedPatterns, no_typed, more_typed, TypedExpr, built_var, built_bool, built_int}
-use Rattle.isle_terms.specs.TypedRules.{built_prim, built_term, built_let, TypedExprs, no_built, more_built, TypedBindings, no_bindings}
-use Rattle.isle_terms.specs.TypedRules.{more_bindings, TypedIfLet, TypedRule}
+use Rattle.isle_terms.specs.TypedRules.{built_prim, built_term, built_let, TypedExprs, no_built, more_built, TypedBindings, no_typed_bindings}
+use Rattle.isle_terms.specs.TypedRules.{more_typed_bindings, TypedIfLet, TypedRule}
 use Rattle.isle_meaning.specs.Facts.{TermShape, variant_shape, struct_shape, declared_shape, TermFacts}
 use Rattle.isle_meaning.specs.Values.{Value, Values, no_values, more_values}
 use Rattle.isle_meaning.specs.Words.{Word, var_word, bool_word, int_word, prim_word, variant_word, struct_word, call_word, Words}
@@ -68,8 +68,8 @@ module _ (facts : TermFacts) where
     exprs_called Q (more_built e es) f = (expr_called Q e (λ u h. f u (inl h)), exprs_called Q es (λ u h. f u (inr h)))
 
     bindings_called : (Q : ℕ → Type 0) (bs : TypedBindings) → ((u : ℕ) → IsCalledInBindings facts bs u → Q u) → BindingsCall facts Q bs
-    bindings_called Q no_bindings f = tt
-    bindings_called Q (more_bindings k ty e bs) f = (expr_called Q e (λ u h. f u (inl h)), bindings_called Q bs (λ u h. f u (inr h)))
+    bindings_called Q no_typed_bindings f = tt
+    bindings_called Q (more_typed_bindings k ty e bs) f = (expr_called Q e (λ u h. f u (inl h)), bindings_called Q bs (λ u h. f u (inr h)))
 
 -- no patterns are spent
 module _ (p : CheckedProgram) (w : Answers) where

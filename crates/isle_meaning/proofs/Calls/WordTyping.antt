@@ -3,7 +3,7 @@ use Rattle.std.proofs.Common.{◌≡◌, ◌⊎◌, inl, inr, ℕ, zero, suc, Li
 use Rattle.std.proofs.Common.{◌+◌, slice_get, refl, sym, ◌∙◌, ap, subst, arith}
 use Rattle.std.proofs.lemmas.Bool.{eqb-true}
 use Rattle.isle_terms.specs.TypedRules.{TypedExpr, built_var, built_bool, built_int, built_prim, built_term, built_let, TypedExprs}
-use Rattle.isle_terms.specs.TypedRules.{no_built, more_built, TypedBindings, no_bindings, more_bindings}
+use Rattle.isle_terms.specs.TypedRules.{no_built, more_built, TypedBindings, no_typed_bindings, more_typed_bindings}
 use Rattle.isle_meaning.specs.Facts.{TermShape, variant_shape, struct_shape, declared_shape}
 use Rattle.isle_meaning.specs.GroundValues.{IsValueOf}
 use Rattle.isle_meaning.specs.Words.{Word, var_word, Words, Step, set, flat, flat_all, flat_lets, call, apply, word_of, steps_of}
@@ -12,7 +12,7 @@ use Rattle.isle_meaning.specs.Scopes.{IsSingle, let_scope, ReadsExpr, ReadExprs,
 use Rattle.isle_meaning.specs.Worlds.{CheckedProgram}
 use Rattle.isle_meaning.proofs.Matching.Basics.{set_at}
 use Rattle.isle_meaning.specs.SoundPrograms.{IsSoundExpr, AreSoundExprs, AreSoundBindings}
-use Rattle.isle_meaning.specs.TypedWords.{IsTypedWord, AreTypedWords, IsTypedStep, AreTypedSteps}
+use Rattle.isle_meaning.specs.Inside.TypedWords.{IsTypedWord, AreTypedWords, IsTypedStep, AreTypedSteps}
 
 -- what stands last
 at_last : {A : Type 0} (xs : List A) (x : A) → slice_get (xs ++ x ∷ []) (length xs) ≡ Some x
@@ -71,8 +71,8 @@ module _ (p : CheckedProgram) (D : ℕ → ℕ) where
 
     flat_lets_told : (bs : TypedBindings) (vars : ℕ → Word) (steps : List Step)
         → Told p.terms.type_of D ((flat_lets p.terms vars steps bs).1) → Told p.terms.type_of D steps
-    flat_lets_told no_bindings vars steps h = h
-    flat_lets_told (more_bindings k ty e bs) vars steps h =
+    flat_lets_told no_typed_bindings vars steps h = h
+    flat_lets_told (more_typed_bindings k ty e bs) vars steps h =
         flat_told e vars steps (flat_lets_told bs (set vars k ((flat p.terms vars steps e).0)) ((flat p.terms vars steps e).1) h)
 
   module _ (R S : ℕ → Type 0) (G : ℕ → ℕ) where
@@ -153,8 +153,8 @@ module _ (p : CheckedProgram) (D : ℕ → ℕ) where
           → BindingsTyped p.terms G bs → AreSoundBindings p R bs → Told p.terms.type_of D ((flat_lets p.terms vars steps bs).1)
           → ((j : ℕ) → let_scope bs S' j → IsTypedWord p R S G D ((flat_lets p.terms vars steps bs).0 j) (G j))
           × AreTypedSteps p R S G D 0 ((flat_lets p.terms vars steps bs).1)
-      flat_lets_typed no_bindings S' vars steps v h r t s told = (v, h)
-      flat_lets_typed (more_bindings k ty e bs) S' vars steps v h r t s told =
+      flat_lets_typed no_typed_bindings S' vars steps v h r t s told = (v, h)
+      flat_lets_typed (more_typed_bindings k ty e bs) S' vars steps v h r t s told =
           let between = flat_lets_told bs (set vars k ((flat p.terms vars steps e).0)) ((flat p.terms vars steps e).1) told in
           let first = flat_typed e S' vars steps ty v h (r.0) (t.1) (s.0) between in
           flat_lets_typed bs (λ j. (j ≡ k) ⊎ S' j) (set vars k ((flat p.terms vars steps e).0)) ((flat p.terms vars steps e).1)

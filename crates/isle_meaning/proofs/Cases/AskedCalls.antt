@@ -5,9 +5,9 @@ use Rattle.std.specs.Prelude.{if◌then◌else◌, ◌==◌, not, ◌≤ℤ◌}
 use Rattle.std.specs.Int.{w128}
 use Rattle.std.proofs.lemmas.Int.{fits_signed_from_abs}
 use Rattle.std.proofs.lemmas.Option.{none-some, same_Some}
-use Rattle.isle_terms.specs.Values.{ValueTree, ValueTrees, bool_value as bool_tree, int_value as int_tree, no_values as no_trees}
-use Rattle.isle_terms.specs.Values.{more_values as more_trees, big_value as big_tree, const_value as const_tree, opaque_value as opaque_tree}
-use Rattle.isle_terms.specs.Values.{data_value as data_tree}
+use Rattle.isle_terms.specs.Values.{ValueTree, ValueTrees, bool_tree, int_tree, no_trees}
+use Rattle.isle_terms.specs.Values.{more_trees, big_tree, const_tree, opaque_tree}
+use Rattle.isle_terms.specs.Values.{data_tree}
 use Rattle.isle_terms.specs.TypedRules.{typed_bind, typed_term, typed_wildcard, no_typed, more_typed, built_var, built_term, no_built}
 use Rattle.isle_terms.specs.TypedRules.{more_built, TypedExpr, TypedRule}
 use Rattle.isle_meaning.specs.Facts.{declared_shape}

@@ -5,9 +5,9 @@ use Rattle.std.specs.Prelude.{if◌then◌else◌, ◌==◌, ◌≤ℤ◌, FitsS
 use Rattle.std.specs.Int.{w128}
 use Rattle.std.proofs.lemmas.Int.{fits_signed_from_abs}
 use Rattle.std.proofs.lemmas.Option.{none-some, same_Some}
-use Rattle.isle_terms.specs.Values.{int_value as int_tree, no_values as no_trees, more_values as more_trees}
+use Rattle.isle_terms.specs.Values.{int_tree, no_trees, more_trees}
 use Rattle.isle_terms.specs.TypedRules.{TypedPattern, typed_bind, typed_int, typed_wildcard, no_typed, more_typed, TypedExpr}
-use Rattle.isle_terms.specs.TypedRules.{built_int, built_var, built_term, built_let, no_built, more_built, no_bindings, more_bindings, TypedIfLet, TypedRule}
+use Rattle.isle_terms.specs.TypedRules.{built_int, built_var, built_term, built_let, no_built, more_built, no_typed_bindings, more_typed_bindings, TypedIfLet, TypedRule}
 use Rattle.isle_meaning.specs.Facts.{TermFacts, variant_shape, declared_shape}
 use Rattle.isle_meaning.specs.Got.{Got, unknown, fails, gives}
 use Rattle.isle_meaning.specs.Values.{Value, Values, int_value, no_values, more_values, more, made}
@@ -283,7 +283,7 @@ is_spent = record { last = 0; args = on 1; chain = to_choose refl (asks_g 0 1) n
 -- effects, f is 1 and h is 2
 
 abbrev twice : TypedRule
-twice = rule_of 2 (pos 0) x [] (built_let 1 (more_bindings 1 1 (called 0 its_value) (more_bindings 2 1 (called 0 its_value) no_bindings)) its_value)
+twice = rule_of 2 (pos 0) x [] (built_let 1 (more_typed_bindings 1 1 (called 0 its_value) (more_typed_bindings 2 1 (called 0 its_value) no_typed_bindings)) its_value)
 
 abbrev pub nested : TypedRule
 nested = rule_of 1 (pos 1) (typed_int 1 (pos 0)) [] (called 0 (called 0 (built_int 1 (pos 1))))

@@ -4,7 +4,7 @@ use Rattle.std.specs.Prelude.{FitsSigned, if◌then◌else◌, ◌==◌}
 use Rattle.std.specs.Int.{w128}
 use Rattle.std.proofs.lemmas.Int.{fits_signed_from_abs}
 use Rattle.isle_trees.specs.Tree.{done, «match», equal, give, no_arm, arm}
-use Rattle.isle_terms.specs.Values.{ValueTree, ValueTrees, int_value as int_tree, no_values as no_trees, more_values as more_trees}
+use Rattle.isle_terms.specs.Values.{ValueTree, ValueTrees, int_tree, no_trees, more_trees}
 use Rattle.isle_meaning.specs.Values.{Value, Values, bool_value, made_variant, no_values, more_values}
 use Rattle.isle_meaning.specs.GroundValues.{values_of}
 use Rattle.isle_meaning.specs.Demands.{Constraint, variant_constraint, int_constraint, bool_constraint}

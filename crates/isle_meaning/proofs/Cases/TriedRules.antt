@@ -5,7 +5,7 @@ use Rattle.std.specs.Int.{w128}
 use Rattle.std.proofs.lemmas.Int.{fits_signed_from_abs}
 use Rattle.std.proofs.lemmas.Option.{none-some, same_Some}
 use Rattle.isle_terms.specs.TypedRules.{TypedRule}
-use Rattle.isle_terms.specs.Values.{ValueTree, ValueTrees, int_value as int_tree, no_values as no_trees, more_values as more_trees}
+use Rattle.isle_terms.specs.Values.{ValueTree, ValueTrees, int_tree, no_trees, more_trees}
 use Rattle.isle_meaning.specs.Words.{set, int_word, no_words, more_words, steps_of}
 use Rattle.isle_meaning.specs.Worlds.{CheckedProgram, Event}
 use Rattle.isle_meaning.specs.Calls.{IsRuleAt}

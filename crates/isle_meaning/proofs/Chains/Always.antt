@@ -2,8 +2,8 @@
 use Rattle.std.proofs.Common.{◌≡◌, ◌⊎◌, inl, inr, ℕ, zero, suc, List, [], ◌∷◌, true, false, Option, refl, sym, ◌∙◌, ap, subst}
 use Rattle.isle_terms.specs.TypedRules.{TypedPattern, typed_bind, typed_var, typed_bool, typed_int, typed_prim, typed_term, typed_wildcard}
 use Rattle.isle_terms.specs.TypedRules.{typed_and, TypedPatterns, no_typed, more_typed, TypedExpr, built_var, built_bool, built_int}
-use Rattle.isle_terms.specs.TypedRules.{built_prim, built_term, built_let, TypedExprs, no_built, more_built, TypedBindings, no_bindings}
-use Rattle.isle_terms.specs.TypedRules.{more_bindings, TypedIfLet, TypedRule}
+use Rattle.isle_terms.specs.TypedRules.{built_prim, built_term, built_let, TypedExprs, no_built, more_built, TypedBindings, no_typed_bindings}
+use Rattle.isle_terms.specs.TypedRules.{more_typed_bindings, TypedIfLet, TypedRule}
 use Rattle.isle_meaning.specs.Facts.{TermShape, variant_shape, struct_shape, declared_shape}
 use Rattle.isle_meaning.specs.Values.{Value, Values}
 use Rattle.isle_meaning.specs.GroundValues.{AreValuesOf}
@@ -76,8 +76,8 @@ module _ (p : CheckedProgram) (R Q : ℕ → Type 0) where
     -- so is what sound bindings call
     bindings_make : (bs : TypedBindings) (S : ℕ → Type 0) → BindingsCall p.terms Q bs → AreSoundBindings p R bs → ReadsLets p.terms bs S
         → BindingsCall p.terms MayMake bs
-    bindings_make no_bindings S q s r = tt
-    bindings_make (more_bindings k ty e bs) S q s r =
+    bindings_make no_typed_bindings S q s r = tt
+    bindings_make (more_typed_bindings k ty e bs) S q s r =
         (expr_makes e S (q.0) (s.0) (r.0), bindings_make bs (λ j. (j ≡ k) ⊎ S j) (q.1) (s.1) (r.1))
 
   mutual

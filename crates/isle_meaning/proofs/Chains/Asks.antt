@@ -2,8 +2,8 @@
 use Rattle.std.proofs.Common.{◌≡◌, ℕ, zero, suc, List, [], ◌∷◌, ◌++◌, Bool, true, false, ◌==◌, refl, subst}
 use Rattle.isle_terms.specs.TypedRules.{TypedPattern, typed_bind, typed_var, typed_bool, typed_int, typed_prim, typed_term, typed_wildcard}
 use Rattle.isle_terms.specs.TypedRules.{typed_and, TypedPatterns, no_typed, more_typed, TypedExpr, built_var, built_bool, built_int}
-use Rattle.isle_terms.specs.TypedRules.{built_prim, built_term, built_let, TypedExprs, no_built, more_built, TypedBindings, no_bindings}
-use Rattle.isle_terms.specs.TypedRules.{more_bindings, TypedIfLet, TypedRule}
+use Rattle.isle_terms.specs.TypedRules.{built_prim, built_term, built_let, TypedExprs, no_built, more_built, TypedBindings, no_typed_bindings}
+use Rattle.isle_terms.specs.TypedRules.{more_typed_bindings, TypedIfLet, TypedRule}
 use Rattle.isle_meaning.specs.Facts.{TermShape, variant_shape, struct_shape, declared_shape, TermFacts, patterns}
 use Rattle.isle_meaning.specs.Words.{Word, var_word, bool_word, int_word, prim_word, variant_word, struct_word, call_word, Words}
 use Rattle.isle_meaning.specs.Words.{no_words, more_words, Step, set, flat, flat_all, flat_lets, call, apply, word_of, steps_of}
@@ -161,8 +161,8 @@ module _ (facts : TermFacts) where
       flat_lets_calls : (bs : TypedBindings) (vars : ℕ → Word) (steps : List Step) → ((k : ℕ) → WordCalls Q (vars k))
           → EachStep (StepCalls Q) steps → BindingsCall facts Q bs
           → ((k : ℕ) → WordCalls Q ((flat_lets facts vars steps bs).0 k)) × EachStep (StepCalls Q) ((flat_lets facts vars steps bs).1)
-      flat_lets_calls no_bindings vars steps v s h = (v, s)
-      flat_lets_calls (more_bindings k ty e bs) vars steps v s h =
+      flat_lets_calls no_typed_bindings vars steps v s h = (v, s)
+      flat_lets_calls (more_typed_bindings k ty e bs) vars steps v s h =
           let r = flat_calls e vars steps v s (h.0) in
           flat_lets_calls bs (set vars k ((flat facts vars steps e).0)) ((flat facts vars steps e).1)
           (set_all (WordCalls Q) vars k _ v (r.0)) (r.1) (h.1)

@@ -2,7 +2,7 @@
 use Rattle.std.proofs.Common.{◌≡◌, ℕ, zero, suc, List, [], ◌∷◌, ◌++◌, length, Bool, true, false, ◌==◌, Some, slice_get, refl, sym, ◌∙◌, ap, subst}
 use Rattle.std.proofs.Common.{append_assoc, append-nil}
 use Rattle.isle_terms.specs.TypedRules.{TypedExpr, built_var, built_bool, built_int, built_prim, built_term, built_let, TypedExprs}
-use Rattle.isle_terms.specs.TypedRules.{no_built, more_built, TypedBindings, no_bindings, more_bindings}
+use Rattle.isle_terms.specs.TypedRules.{no_built, more_built, TypedBindings, no_typed_bindings, more_typed_bindings}
 use Rattle.isle_meaning.specs.Facts.{TermShape, variant_shape, struct_shape, declared_shape, TermFacts}
 use Rattle.isle_meaning.specs.Words.{Word, var_word, bool_word, int_word, prim_word, variant_word, struct_word, call_word, Words}
 use Rattle.isle_meaning.specs.Words.{no_words, more_words, Step, set, flat, flat_all, flat_lets, call, apply, word_of, steps_of}
@@ -160,8 +160,8 @@ module _ (facts : TermFacts) where
     flat_lets_causal : (bs : TypedBindings) (vars : ℕ → Word) (steps : List Step) → ((k : ℕ) → Cites steps (vars k)) → Causal [] steps
         → Grown steps ((flat_lets facts vars steps bs).1)
         × ((k : ℕ) → Cites ((flat_lets facts vars steps bs).1) ((flat_lets facts vars steps bs).0 k))
-    flat_lets_causal no_bindings vars steps v h = (unmoved steps h, v)
-    flat_lets_causal (more_bindings k ty e bs) vars steps v h =
+    flat_lets_causal no_typed_bindings vars steps v h = (unmoved steps h, v)
+    flat_lets_causal (more_typed_bindings k ty e bs) vars steps v h =
         let r = flat_causal e vars steps v h in
         let q = flat_lets_causal bs (set vars k ((flat facts vars steps e).0)) ((flat facts vars steps e).1)
         (set_cites vars k _ _ (still vars steps _ v (r.0)) (r.1)) (r.0.causal) in

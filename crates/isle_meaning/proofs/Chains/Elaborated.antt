@@ -3,7 +3,7 @@ use Rattle.std.proofs.Common.{◌≡◌, ◌&&◌, ℕ, List, [], ◌∷◌, Boo
 use Rattle.std.proofs.Math.Decide.{ℕ_discrete}
 use Rattle.std.specs.Prelude.{if◌then◌else◌, unwrap_or}
 use Rattle.isle_terms.specs.TypedRules.{TypedExpr, TypedExprs, TypedBindings, built_term, built_var, built_bool, built_int, built_prim}
-use Rattle.isle_terms.specs.TypedRules.{built_let, no_built, more_built, no_bindings, more_bindings, Variable, TypedRule}
+use Rattle.isle_terms.specs.TypedRules.{built_let, no_built, more_built, no_typed_bindings, more_typed_bindings, Variable, TypedRule}
 use Rattle.isle_terms.specs.Signatures.{Flags, TermForm, Signature, Declared, flags_of}
 use Rattle.isle_terms.specs.Elaboration.{may_call}
 use Rattle.isle_terms.specs.SoundRules.WellTyped.{IsTypedExpr, AreTypedExprs, AreTypedBindings, IsTypedRule}
@@ -42,8 +42,8 @@ module _ (declared : Declared) (variables : List Variable) (caller : Flags) (Q :
 
     -- So do typed bindings.
     bindings_call : (bs : TypedBindings) → AreTypedBindings declared variables caller bs → BindingsCall (facts_of declared) Q bs
-    bindings_call no_bindings h = tt
-    bindings_call (more_bindings k ty e bs) h = (expr_calls e ty (h.1), bindings_call bs (h.2))
+    bindings_call no_typed_bindings h = tt
+    bindings_call (more_typed_bindings k ty e bs) h = (expr_calls e ty (h.1), bindings_call bs (h.2))
 
 -- what may be called where nothing may fail may not fail
 sure_call : (pure multi partial may : Bool) → (pure && (multi && (if partial then may else true))) ≡ true → may ≡ false → partial ≡ false

@@ -18,7 +18,7 @@ use Rattle.isle_meaning.specs.Outcomes.{Outcome, given, missing, ended, unmatche
 use Rattle.isle_meaning.specs.PlainRuns.{Tried, RuleRuns, RightRuns, RulesRun, IsTriedBefore, AreTriedInOrder, PlainRun}
 use Rattle.isle_meaning.specs.Laws.Plain.{EndsAreAsked}
 use Rattle.isle_meaning.specs.SoundPrograms.{IsSoundRule, IsSound}
-use Rattle.isle_meaning.specs.TypedWords.{GivesTyped}
+use Rattle.isle_meaning.specs.Inside.TypedWords.{GivesTyped}
 use Rattle.isle_meaning.proofs.Calls.WordTyping.{calls_types, expr_typed}
 use Rattle.isle_meaning.proofs.Calls.RuleGiving.{none_answered, rule_gives_typed}
 use Rattle.isle_meaning.proofs.Calls.Saying.{OutcomeMeans, GivesMeant}

@@ -19,7 +19,7 @@ use Rattle.isle_meaning.specs.RightSides.{IsFailure, IsValue, on_got, on_answer}
 use Rattle.isle_meaning.specs.Calls.{Agrees, MakesIf, Makes}
 use Rattle.isle_meaning.proofs.Matching.Basics.{ask_gives, more_gives}
 use Rattle.isle_meaning.specs.SoundPrograms.{HasSoundData, AreSoundIfLets, IsSoundRule}
-use Rattle.isle_meaning.specs.TypedWords.{IsTypedWord, AreTypedWords, AreTypedVariables, AreTypedAnswers, IsTypedStep, AreTypedSteps}
+use Rattle.isle_meaning.specs.Inside.TypedWords.{IsTypedWord, AreTypedWords, AreTypedVariables, AreTypedAnswers, IsTypedStep, AreTypedSteps}
 use Rattle.isle_meaning.specs.Laws.Calls.{Surely, IsGoodAnswer}
 use Rattle.isle_meaning.proofs.Calls.Outcomes.{one_longer, at_end}
 use Rattle.isle_meaning.proofs.Calls.RuleGiving.{none_answered, answers_append}

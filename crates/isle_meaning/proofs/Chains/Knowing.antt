@@ -12,7 +12,7 @@ use Rattle.isle_meaning.specs.Matching.{word_value, word_values}
 use Rattle.isle_meaning.specs.Sites.{Site, bool_site, int_site, prim_site, argument, extractor_call, constructor_call, iterator}
 use Rattle.isle_meaning.specs.Sites.{make_variant, match_variant, make_struct, extract_struct, make_some, match_some, match_tuple}
 use Rattle.isle_meaning.specs.Sites.{Sites, no_sites, more_sites}
-use Rattle.isle_meaning.specs.Held.{Held, held_value, held_outputs, held_none, held_some, held_answers, plain_of, plain, several}
+use Rattle.isle_meaning.specs.Held.{Held, held_value, held_outputs, held_none, held_some, held_answers, plain_of, plain, several_of}
 use Rattle.isle_meaning.specs.Held.{extracted, constructed, extract_held, construct_held, variant_field, struct_field, content_of}
 use Rattle.isle_meaning.specs.Held.{output_of, item_of, value, values, IsAnswered, AreAnswered}
 use Rattle.isle_meaning.specs.Worlds.{CheckedProgram, Answers, Event}
@@ -131,17 +131,17 @@ module _ (c d : Completion) (h : Extends c d) where
     -- what an extractor's call holds stays
     extract_more : (t : ℕ) (v : Value) → extract_held facts c t v ≢ unknown → extract_held facts d t v ≡ extract_held facts c t v
     extract_more t v n =
-        one_same (facts.multi t) (several (c.extracts t v)) (several (d.extracts t v)) (extracted (facts.infallible t) (c.extract t v))
-        (extracted (facts.infallible t) (d.extract t v)) (ap several (h.extracts t v))
+        one_same (facts.multi t) (several_of (c.extracts t v)) (several_of (d.extracts t v)) (extracted (facts.infallible t) (c.extract t v))
+        (extracted (facts.infallible t) (d.extract t v)) (ap several_of (h.extracts t v))
         (λ k. ap (extracted (facts.infallible t)) (h.extract t v (λ e. k (ap (extracted (facts.infallible t)) e)))) n
 
     -- what a constructor's call holds stays
     construct_more : (t i : ℕ) (vs : Values) → construct_held facts c [] t i vs ≢ unknown
         → construct_held facts d [] t i vs ≡ construct_held facts c [] t i vs
     construct_more t i vs n =
-        one_same (facts.multi t) (several (c.constructs t vs)) (several (d.constructs t vs))
+        one_same (facts.multi t) (several_of (c.constructs t vs)) (several_of (d.constructs t vs))
         (constructed (facts.partial t) (answer_of c [] t i vs)) (constructed (facts.partial t) (answer_of d [] t i vs))
-        (ap several (h.constructs t vs))
+        (ap several_of (h.constructs t vs))
         (λ k. ap (constructed (facts.partial t)) (answer_more [] t i vs (λ e. k (ap (constructed (facts.partial t)) e)))) n
 
     mutual

@@ -16,7 +16,7 @@ use Rattle.isle_meaning.specs.RightSides.{RightOf}
 use Rattle.isle_meaning.specs.Calls.{Makes, IsRuleAt, Told, CoversAll, Means}
 use Rattle.isle_meaning.proofs.Matching.Whole.{both_forward}
 use Rattle.isle_meaning.specs.SoundPrograms.{AskNothingImpure, IsSound, IsSoundRule}
-use Rattle.isle_meaning.specs.TypedWords.{IsTypedWord, AreTypedWords, AreTypedSteps}
+use Rattle.isle_meaning.specs.Inside.TypedWords.{IsTypedWord, AreTypedWords, AreTypedSteps}
 use Rattle.isle_meaning.specs.Laws.Calls.{AreOne, HasNoTies, IsTotal, HasCompletions, OneMeaning}
 use Rattle.isle_meaning.proofs.Calls.WordTyping.{calls_types, expr_typed}
 use Rattle.isle_meaning.proofs.Chains.Asks.{HaveNoSteps}

@@ -15,7 +15,7 @@ use Rattle.isle_meaning.specs.Asking.{Asked, asks_value, asks_outputs, IsCallOfW
 use Rattle.isle_meaning.specs.Outcomes.{Outcome, given, missing, ended, Then, EffectsIf, ImpureRuns}
 use Rattle.isle_meaning.specs.PlainRuns.{WordsRun, RightRuns}
 use Rattle.isle_meaning.specs.SoundPrograms.{HasSoundData}
-use Rattle.isle_meaning.specs.TypedWords.{IsTypedWord, AreTypedVariables, AreTypedAnswers, AreTypedSteps, GivesTyped}
+use Rattle.isle_meaning.specs.Inside.TypedWords.{IsTypedWord, AreTypedVariables, AreTypedAnswers, AreTypedSteps, GivesTyped}
 use Rattle.isle_meaning.proofs.Calls.Outcomes.{one_longer}
 use Rattle.isle_meaning.proofs.Calls.Giving.{judged_given, words_give_typed_all}
 use Rattle.isle_meaning.proofs.Calls.RuleGiving.{answers_append, step_gives_typed}

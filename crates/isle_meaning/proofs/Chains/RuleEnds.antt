@@ -23,7 +23,7 @@ use Rattle.isle_meaning.proofs.Matching.Written.{word_site}
 use Rattle.isle_meaning.specs.Outcomes.{Outcome, given, ended, After}
 use Rattle.isle_meaning.specs.PlainRuns.{WordRuns, PatternRuns, PatternsRun, IfLetsRun, RuleRuns, no_variables}
 use Rattle.isle_meaning.specs.SoundPrograms.{HasSoundData, AreSoundIfLets, IsSoundRule}
-use Rattle.isle_meaning.specs.TypedWords.{IsTypedWord, AreTypedVariables, GivesTyped}
+use Rattle.isle_meaning.specs.Inside.TypedWords.{IsTypedWord, AreTypedVariables, GivesTyped}
 use Rattle.isle_meaning.proofs.Calls.Giving.{words_give_typed, patterns_give_typed, patterns_give_typed_all}
 use Rattle.isle_meaning.proofs.Calls.RuleGiving.{none_answered}
 use Rattle.isle_meaning.proofs.Calls.Saying.{GivesMeant, word_says}

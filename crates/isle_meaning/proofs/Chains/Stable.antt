@@ -4,8 +4,8 @@ use Rattle.std.proofs.Math.Decide.{ℕ_discrete}
 use Rattle.std.proofs.lemmas.Bool.Decides.{Decides-int_eq}
 use Rattle.std.specs.Ordering.{int_eq}
 use Rattle.std.specs.Bool.{Decides}
-use Rattle.isle_terms.specs.Values.{ValueTree, ValueTrees, bool_value, int_value, big_value, const_value, opaque_value, data_value, no_values}
-use Rattle.isle_terms.specs.Values.{more_values}
+use Rattle.isle_terms.specs.Values.{ValueTree, ValueTrees, bool_tree, int_tree, big_tree, const_tree, opaque_tree, data_tree, no_trees}
+use Rattle.isle_terms.specs.Values.{more_trees}
 use Rattle.isle_meaning.specs.Values.{Value}
 use Rattle.isle_meaning.specs.Worlds.{Event}
 use Rattle.isle_meaning.proofs.Matching.Deciding.{Decided, decide}
@@ -45,18 +45,18 @@ text xs ys = inr (λ e. cc)
 mutual
   -- trees are equal or not
   pub tree : (x y : ValueTree) → Decided x y
-  tree (bool_value a) (bool_value b) = both a b _ (truth a b) (λ e. inl cc) (λ e. cc)
-  tree (int_value a) (int_value b) = both a b _ (integer a b) (λ e. inl cc) (λ e. cc)
-  tree (big_value a) (big_value b) = both a b _ (number a b) (λ e. inl cc) (λ e. cc)
-  tree (const_value a) (const_value b) = both a b _ (text a b) (λ e. inl cc) (λ e. cc)
-  tree (opaque_value a) (opaque_value b) = both a b _ (number a b) (λ e. inl cc) (λ e. cc)
-  tree (data_value t xs) (data_value u ys) = both t u _ (text t u) (λ e. both xs ys _ (trees xs ys) (λ g. inl cc) (λ p. cc)) (λ p. cc)
+  tree (bool_tree a) (bool_tree b) = both a b _ (truth a b) (λ e. inl cc) (λ e. cc)
+  tree (int_tree a) (int_tree b) = both a b _ (integer a b) (λ e. inl cc) (λ e. cc)
+  tree (big_tree a) (big_tree b) = both a b _ (number a b) (λ e. inl cc) (λ e. cc)
+  tree (const_tree a) (const_tree b) = both a b _ (text a b) (λ e. inl cc) (λ e. cc)
+  tree (opaque_tree a) (opaque_tree b) = both a b _ (number a b) (λ e. inl cc) (λ e. cc)
+  tree (data_tree t xs) (data_tree u ys) = both t u _ (text t u) (λ e. both xs ys _ (trees xs ys) (λ g. inl cc) (λ p. cc)) (λ p. cc)
   tree x y = inr (λ e. cc)
 
   -- so are lists of trees
   pub trees : (xs ys : ValueTrees) → Decided xs ys
-  trees no_values no_values = inl refl
-  trees (more_values x xs) (more_values y ys) = both x y _ (tree x y) (λ e. both xs ys _ (trees xs ys) (λ g. inl cc) (λ p. cc)) (λ p. cc)
+  trees no_trees no_trees = inl refl
+  trees (more_trees x xs) (more_trees y ys) = both x y _ (tree x y) (λ e. both xs ys _ (trees xs ys) (λ g. inl cc) (λ p. cc)) (λ p. cc)
   trees xs ys = inr (λ e. cc)
 
 -- so are answers

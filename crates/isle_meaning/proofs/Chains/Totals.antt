@@ -2,8 +2,8 @@
 use Rattle.std.proofs.Common.{◌≡◌, ◌≢◌, ℕ, zero, suc, List, [], ◌∷◌, Bool, true, false, refl}
 use Rattle.isle_terms.specs.TypedRules.{TypedPattern, typed_bind, typed_var, typed_bool, typed_int, typed_prim, typed_term, typed_wildcard}
 use Rattle.isle_terms.specs.TypedRules.{typed_and, TypedPatterns, no_typed, more_typed, TypedExpr, built_var, built_bool, built_int}
-use Rattle.isle_terms.specs.TypedRules.{built_prim, built_term, built_let, TypedExprs, no_built, more_built, TypedBindings, no_bindings}
-use Rattle.isle_terms.specs.TypedRules.{more_bindings, TypedIfLet, TypedRule}
+use Rattle.isle_terms.specs.TypedRules.{built_prim, built_term, built_let, TypedExprs, no_built, more_built, TypedBindings, no_typed_bindings}
+use Rattle.isle_terms.specs.TypedRules.{more_typed_bindings, TypedIfLet, TypedRule}
 use Rattle.isle_meaning.specs.Facts.{TermShape, variant_shape, struct_shape, declared_shape, TermFacts}
 use Rattle.isle_meaning.specs.Got.{Got, unknown, fails, gives}
 use Rattle.isle_meaning.specs.Values.{Value, Values}
@@ -11,7 +11,7 @@ use Rattle.isle_meaning.specs.Answers.{Completion}
 use Rattle.isle_meaning.specs.Sites.{Site, bool_site, int_site, prim_site, argument, extractor_call, constructor_call, iterator}
 use Rattle.isle_meaning.specs.Sites.{make_variant, match_variant, make_struct, extract_struct, make_some, match_some, match_tuple}
 use Rattle.isle_meaning.specs.Sites.{Sites, no_sites, more_sites}
-use Rattle.isle_meaning.specs.Held.{several, extract_held, construct_held, IsAnswered, AreAnswered}
+use Rattle.isle_meaning.specs.Held.{several_of, extract_held, construct_held, IsAnswered, AreAnswered}
 use Rattle.isle_meaning.specs.Demands.{args_bound}
 use Rattle.isle_meaning.specs.Scopes.{Covers}
 use Rattle.isle_meaning.specs.Laws.Calls.{CallOf, ExprCalls, ExprsCall, BindingsCall, PatternCalls, PatternsCall, IfLetsCall, IsTotal}
@@ -46,8 +46,8 @@ module _ (facts : TermFacts) where
 
     -- of bindings
     any_bindings : (bs : TypedBindings) → BindingsCall facts any_term bs
-    any_bindings no_bindings = tt
-    any_bindings (more_bindings k ty e bs) = (any_expr e, any_bindings bs)
+    any_bindings no_typed_bindings = tt
+    any_bindings (more_typed_bindings k ty e bs) = (any_expr e, any_bindings bs)
 
   mutual
     -- a pattern takes values apart by any term
@@ -73,7 +73,7 @@ module _ (facts : TermFacts) where
 
   module _ (c : Completion) (total : IsTotal c) (args : Values) where
     -- known answers of a multi call are held
-    several_known : (g : Got (List Values)) → g ≢ unknown → several g ≢ unknown
+    several_known : (g : Got (List Values)) → g ≢ unknown → several_of g ≢ unknown
     several_known unknown h = λ e. h refl
     several_known fails h = λ e. cc
     several_known (gives l) h = λ e. cc

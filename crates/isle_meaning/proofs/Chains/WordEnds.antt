@@ -21,7 +21,7 @@ use Rattle.isle_meaning.proofs.Matching.Written.{words_sites}
 use Rattle.isle_meaning.specs.Outcomes.{Outcome, given, missing, ended, After, Judged, ConstructsIf}
 use Rattle.isle_meaning.specs.PlainRuns.{WordRuns, WordsRun}
 use Rattle.isle_meaning.specs.SoundPrograms.{HasSoundData}
-use Rattle.isle_meaning.specs.TypedWords.{IsTypedWord, AreTypedWords, AreTypedVariables, AreTypedAnswers, GivesTyped}
+use Rattle.isle_meaning.specs.Inside.TypedWords.{IsTypedWord, AreTypedWords, AreTypedVariables, AreTypedAnswers, GivesTyped}
 use Rattle.isle_meaning.proofs.Calls.Giving.{words_give_typed_all}
 use Rattle.isle_meaning.proofs.Calls.Saying.{GivesMeant, words_say}
 use Rattle.isle_meaning.proofs.Chains.One.{typed_read_all}

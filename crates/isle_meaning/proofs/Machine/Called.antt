@@ -22,7 +22,7 @@ use Rattle.isle_meaning.proofs.Calls.Spending.{expr_called}
 use Rattle.isle_meaning.proofs.Chains.Asks.{WordCalls, WordsCall, StepCalls, word_calls}
 use Rattle.isle_meaning.proofs.Chains.Subtrees.{whole, deeper}
 use Rattle.isle_meaning.proofs.Chains.Unique.{EachStep}
-use Rattle.isle_meaning.proofs.Sites.Parts.{OfSubtrees, of_whole, of_one, EachSite, each_append}
+use Rattle.isle_meaning.proofs.Sites.Parts.{OfSubtrees, of_whole, of_one, EachSite, sites_append}
 use Rattle.isle_meaning.proofs.Sites.Carried.{IsCarried, subtrees_carry, variables_carry, rule_carries, args_carried, PassOn, lets_carried}
 use Rattle.isle_meaning.proofs.Machine.RowSites.{Stands, part_site, part_stands}
 use Rattle.isle_meaning.proofs.Machine.Demanded.{asked_site}
@@ -83,7 +83,7 @@ module _ (facts : TermFacts) (Q : ℕ → Type 0) where
         let ss : Sites = sites_of facts vars s.args in
         let call : Site = constructor_call s.term ss (suc s.place) in
         let here : OfSubtrees (IsOfThese Q) call = of_whole (IsOfThese Q) call (h.0.0) (words_these s.args (h.0.1)) in
-        each_append (OfSubtrees (IsOfThese Q)) (with_content (facts.partial s.term) call) (calls_of facts vars steps)
+        sites_append (OfSubtrees (IsOfThese Q)) (with_content (facts.partial s.term) call) (calls_of facts vars steps)
         (content_these (facts.partial s.term) call here) (steps_these steps (h.1))
       where
         content_these : (partial : Bool) (s : Site) → OfSubtrees (IsOfThese Q) s → EachSite (OfSubtrees (IsOfThese Q)) (with_content partial s)

@@ -16,7 +16,7 @@ use Rattle.isle_meaning.specs.Calls.{Says, Agrees, Makes}
 use Rattle.isle_meaning.specs.Demands.{some_of}
 use Rattle.isle_meaning.specs.Facts.{TermFacts}
 use Rattle.isle_meaning.specs.GroundValues.{AreValuesOf}
-use Rattle.isle_meaning.specs.Held.{Held, held_value, held_none, held_some, content_of, constructed, construct_held, several, value, values}
+use Rattle.isle_meaning.specs.Held.{Held, held_value, held_none, held_some, content_of, constructed, construct_held, several_of, value, values}
 use Rattle.isle_meaning.specs.Machine.Runs.{TermTree, Env, Runs, Going, known, values_at, read, holding, option_if, RowRuns, Goes, BindsRun}
 use Rattle.isle_meaning.specs.Machine.Runs.{Returns}
 use Rattle.isle_meaning.specs.Machine.Trees.{sites_at, site_of_row, is_effect, IsTermTree, with_content, calls_of}
@@ -27,7 +27,7 @@ use Rattle.isle_meaning.specs.Outcomes.{Outcome, given, missing, ended, ImpureRu
 use Rattle.isle_meaning.specs.Sites.{Site, constructor_call, make_some, match_some, site_of, sites_of}
 use Rattle.isle_meaning.specs.SoundPrograms.{IsSound}
 use Rattle.isle_meaning.specs.Subtrees.{IsSubtree, IsSubtreeOfOne}
-use Rattle.isle_meaning.specs.TypedWords.{AreTypedSteps, GivesTyped}
+use Rattle.isle_meaning.specs.Inside.TypedWords.{AreTypedSteps, GivesTyped}
 use Rattle.isle_meaning.specs.Values.{Value, Values, ask}
 use Rattle.isle_meaning.specs.Words.{Word, Words, Step, set}
 use Rattle.isle_meaning.specs.Worlds.{CheckedProgram, Answers, Event, got}
@@ -276,7 +276,7 @@ module _ {C : Type 0} (p : CheckedProgram) (w : Answers) (R : ℕ → Type 0) (s
         held_there : (partial : Bool) → p.terms.partial s.term ≡ partial → (x : Option Value) (c : Completion) (more : List (Option Value)) (us : Values)
             → construct_held p.terms c ((before ++ x ∷ []) ++ more) s.term (suc s.place) us ≡ constructed partial (got x)
         held_there partial e x c more us =
-            ap (λ (m : Bool). if m then several (c.constructs s.term us) else constructed (p.terms.partial s.term) (answered (slice_get ((before ++ x ∷ []) ++ more) s.place))) single
+            ap (λ (m : Bool). if m then several_of (c.constructs s.term us) else constructed (p.terms.partial s.term) (answered (slice_get ((before ++ x ∷ []) ++ more) s.place))) single
             ∙ ap (λ (q : Bool). constructed q (answered (slice_get ((before ++ x ∷ []) ++ more) s.place))) e
             ∙ ap (λ (j : ℕ). constructed partial (answered (slice_get ((before ++ x ∷ []) ++ more) j))) place
             ∙ ap (λ (g : Option (Option Value)). constructed partial (answered g)) (answer_at before more x)

@@ -24,7 +24,7 @@ use Rattle.isle_meaning.specs.Outcomes.{given, missing, ended, WorldExtracts, Co
 use Rattle.isle_meaning.specs.Scopes.{scope_of}
 use Rattle.isle_meaning.specs.Sites.{Site}
 use Rattle.isle_meaning.specs.SoundPrograms.{IsSound}
-use Rattle.isle_meaning.specs.TypedWords.{GivesTyped}
+use Rattle.isle_meaning.specs.Inside.TypedWords.{GivesTyped}
 use Rattle.isle_meaning.specs.Values.{Value, Values}
 use Rattle.isle_meaning.specs.Words.{word_of, steps_of}
 use Rattle.isle_meaning.specs.Worlds.{CheckedProgram, Answers, Event}

@@ -29,7 +29,7 @@ use Rattle.isle_meaning.specs.Scopes.{scope_of}
 use Rattle.isle_meaning.specs.Sites.{Site}
 use Rattle.isle_meaning.specs.Sorts.{Sort, plain_sort}
 use Rattle.isle_meaning.specs.SoundPrograms.{IsSoundRule, IsSound}
-use Rattle.isle_meaning.specs.TypedWords.{GivesTyped}
+use Rattle.isle_meaning.specs.Inside.TypedWords.{GivesTyped}
 use Rattle.isle_meaning.specs.Typing.{AllTyped}
 use Rattle.isle_meaning.specs.Values.{Value, Values}
 use Rattle.isle_meaning.specs.Words.{word_of, steps_of, set}

@@ -8,7 +8,7 @@ use Rattle.isle_meaning.specs.Answers.{Completion}
 use Rattle.isle_meaning.specs.Calls.{Agrees}
 use Rattle.isle_meaning.specs.GroundValues.{IsValueOf, AreValuesOf}
 use Rattle.isle_meaning.specs.Held.{Held, held_value, held_none, held_some, plain, outputs_of, extracted, constructed, value, values}
-use Rattle.isle_meaning.specs.Held.{several}
+use Rattle.isle_meaning.specs.Held.{several_of}
 use Rattle.isle_meaning.specs.Machine.Runs.{TermTree, Env, Runs, known, values_at, made_of, is_computed, read_row, read, Comes, holding}
 use Rattle.isle_meaning.specs.Machine.Runs.{option_if, RowRuns}
 use Rattle.isle_meaning.specs.Machine.Trees.{sites_at, is_effect, is_call, IsHeldOf, IsTermTree}
@@ -18,7 +18,7 @@ use Rattle.isle_meaning.specs.Numbered.{match_some_row, match_tuple_row}
 use Rattle.isle_meaning.specs.Outcomes.{Outcome, given, missing, ended, WorldExtracts, ConstructsIf, EffectsIf}
 use Rattle.isle_meaning.specs.Sorts.{Sort, plain_sort, option_sort, sort, of_outputs, extract_sort, construct_sort}
 use Rattle.isle_meaning.specs.SoundPrograms.{IsSound}
-use Rattle.isle_meaning.specs.TypedWords.{GivesTyped}
+use Rattle.isle_meaning.specs.Inside.TypedWords.{GivesTyped}
 use Rattle.isle_meaning.specs.Values.{Value, Values, no_values, more_values, more, ask}
 use Rattle.isle_meaning.specs.Words.{set}
 use Rattle.isle_meaning.specs.Worlds.{CheckedProgram, Answers, Event}
@@ -233,7 +233,7 @@ module _ {C : Type 0} (p : CheckedProgram) (w : Answers) (R : ℕ → Type 0) (s
         let f : Value → Got Held = λ x. extracted (p.terms.infallible u) (c.extract u x) in
         let there : value p.terms c args before (B.site k) ≡ ask f (plain (value p.terms c args before (B.site j))) =
         ap (value p.terms c args before) (B.sited k (extractor_row u j) at)
-        ∙ ap (λ (z : Bool). ask (λ x. if z then several (c.extracts u x) else extracted (p.terms.infallible u) (c.extract u x)) (plain (value p.terms c args before (B.site j))))
+        ∙ ap (λ (z : Bool). ask (λ x. if z then several_of (c.extracts u x) else extracted (p.terms.infallible u) (c.extract u x)) (plain (value p.terms c args before (B.site j))))
         (B.single k (extractor_row u j) at) in
         let says = extracted_says (p.terms.infallible u) (c.extract u v) g (extract_says p w means c agrees u v g run) in
         subst (λ (z : Got Held). SaysOutcome z r) (sym there)
@@ -243,7 +243,7 @@ module _ {C : Type 0} (p : CheckedProgram) (w : Answers) (R : ℕ → Type 0) (s
         let f : Values → Got Held = λ xs. constructed (p.terms.partial u) (c.construct u xs) in
         let there : value p.terms c args before (B.site k) ≡ ask f (values p.terms c args before (sites_at B.site js)) =
         ap (value p.terms c args before) (B.sited k (constructor_row u js zero) at)
-        ∙ ap (λ (z : Bool). ask (λ xs. if z then several (c.constructs u xs) else constructed (p.terms.partial u) (c.construct u xs)) (values p.terms c args before (sites_at B.site js)))
+        ∙ ap (λ (z : Bool). ask (λ xs. if z then several_of (c.constructs u xs) else constructed (p.terms.partial u) (c.construct u xs)) (values p.terms c args before (sites_at B.site js)))
         (B.single k (constructor_row u js zero) at) in
         let says = constructed_says (p.terms.partial u) (c.construct u vs) g
         (construct_says p w means c agrees R (sound.data_sound) below gives_typed meant (p.has_rules u) u vs g refl (B.called k u zero js at)

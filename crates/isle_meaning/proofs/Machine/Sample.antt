@@ -11,7 +11,7 @@ use Rattle.isle_trees.specs.Premises.{AreExact, IsWellMade}
 use Rattle.isle_trees.specs.Rules.{Tests, Rules, Want, has, one_value, Elem, itself}
 use Rattle.isle_trees.specs.Scopes.{Scope, nothing_known, IsAvailable, IsReady, Test, on_match, on_equal, on_loop}
 use Rattle.isle_terms.specs.TypedRules.{TypedRule}
-use Rattle.isle_terms.specs.Values.{bool_value as bool_tree}
+use Rattle.isle_terms.specs.Values.{bool_tree}
 use Rattle.isle_meaning.specs.Answers.{Completion}
 use Rattle.isle_meaning.specs.Demands.{bool_constraint, Demand, constrained, equal}
 use Rattle.isle_meaning.specs.Derived.{Derived, demanded, flipped, chained, shared, like_variant, like_struct}

@@ -2,7 +2,7 @@
 use Rattle.std.proofs.Common.{◌≡◌, ◌≢◌, ◌⊎◌, inl, inr, ℕ, Bool, true, false, List, [], ◌∷◌, Option, Some, None, slice_get, refl, sym, ◌∙◌, ap, subst}
 use Rattle.std.proofs.Math.Decide.{ℕ_discrete}
 use Rattle.std.specs.Prelude.{if◌then◌else◌}
-use Rattle.isle_trees.proofs.Basics.{true_or, or_holds, or_right, from_filter, counted_left, others_left, made_by}
+use Rattle.isle_trees.proofs.Basics.{true_or, or_holds, or_right, from_filter, counted_left, others_left, source_made}
 use Rattle.isle_trees.proofs.Leaf.{in_all}
 use Rattle.isle_trees.proofs.Path.{step_there, some_counted, asks, emitted_or, still_emitted}
 use Rattle.isle_trees.specs.Builds.{IsBest, Binds, BindsEach, wanting, not_wanting, Builds, BuildsArms}
@@ -25,7 +25,7 @@ use Rattle.isle_meaning.specs.Machine.Trees.{is_effect, is_call, IsTermTree, hel
 use Rattle.isle_meaning.specs.Numbered.{Row}
 use Rattle.isle_meaning.specs.Outcomes.{Outcome, given, missing, ended}
 use Rattle.isle_meaning.specs.SoundPrograms.{IsSound}
-use Rattle.isle_meaning.specs.TypedWords.{GivesTyped}
+use Rattle.isle_meaning.specs.Inside.TypedWords.{GivesTyped}
 use Rattle.isle_meaning.specs.Values.{Value, Values}
 use Rattle.isle_meaning.specs.Words.{set}
 use Rattle.isle_meaning.specs.Worlds.{CheckedProgram, Answers, Event}
@@ -314,12 +314,12 @@ module _ {C : Type 0} (p : CheckedProgram) (w : Answers) (R : ℕ → Type 0) (s
     typed = typed;
     kept = kept;
     calm = λ x e. elim (or_holds (is_source B.set.tests s (has d) (B.set.made x)) (sc.emitted x) e) [
-      | inl m ↦ B.tree.made.field_pure x _ (made_by B.set s (has d) _ B.tree.made m)
+      | inl m ↦ B.tree.made.field_pure x _ (source_made B.set s (has d) _ B.tree.made m)
       | inr m ↦ o.calm x m
     ];
     closed = λ x q e m. or_right (is_source B.set.tests s (has d) (B.set.made q)) (sc.emitted q)
         (elim (or_holds (is_source B.set.tests s (has d) (B.set.made x)) (sc.emitted x) e) [
-          | inl g ↦ (let n : Elem q (s ∷ []) = subst (λ (l : List ℕ). Elem q l) (B.tree.made.source x _ (made_by B.set s (has d) _ B.tree.made g)) m in
+          | inl g ↦ (let n : Elem q (s ∷ []) = subst (λ (l : List ℕ). Elem q l) (B.tree.made.source x _ (source_made B.set s (has d) _ B.tree.made g)) m in
               elim n [ inl k ↦ ap sc.emitted k ∙ there | inr z ↦ absurd z ])
           | inr g ↦ o.closed x q g m
         ]);

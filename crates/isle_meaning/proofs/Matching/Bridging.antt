@@ -4,7 +4,7 @@ use Rattle.std.proofs.Common.{refl, sym, ◌∙◌, ap, subst, arith}
 use Rattle.std.specs.Prelude.{if◌then◌else◌, unwrap_or}
 use Rattle.isle_terms.specs.TypedRules.{TypedPattern, TypedPatterns, typed_bind, typed_var, typed_bool, typed_int, typed_prim, typed_term}
 use Rattle.isle_terms.specs.TypedRules.{typed_wildcard, typed_and, no_typed, more_typed, TypedExpr, TypedExprs, TypedBindings, built_term}
-use Rattle.isle_terms.specs.TypedRules.{built_var, built_bool, built_int, built_prim, built_let, no_built, more_built, no_bindings, more_bindings}
+use Rattle.isle_terms.specs.TypedRules.{built_var, built_bool, built_int, built_prim, built_let, no_built, more_built, no_typed_bindings, more_typed_bindings}
 use Rattle.isle_terms.specs.TypedRules.{built_at, Variable, TypedIfLet, TypedRule}
 use Rattle.isle_terms.specs.Signatures.{Flags, TermForm, variant_form, struct_form, declared_form, Signature, Declared, flags_of}
 use Rattle.isle_terms.specs.Elaboration.{may_call, on_lhs}
@@ -18,7 +18,7 @@ use Rattle.isle_meaning.specs.Scopes.{scope, scope_all, iflets_scope, let_scope,
 use Rattle.isle_meaning.specs.Scopes.{ReadsExpr, ReadExprs, ReadsLets, IfLetsAreWellScoped, none, scope_of, TakesOne, TakeOneEach, IfLetsTakeOne}
 use Rattle.isle_meaning.specs.Scopes.{RuleTakesOne, IsWellScopedRule}
 use Rattle.isle_meaning.specs.Typing.{part_types, IsTyped, AllTyped, EachTyped, ExprTyped, ExprsTyped, BindingsTyped, IfLetsTyped, RuleIsTyped}
-use Rattle.isle_meaning.specs.Variables.{type_in, var_type}
+use Rattle.isle_meaning.specs.Inside.Variables.{type_in, var_type}
 use Rattle.isle_meaning.specs.Elaborated.{without_multi}
 use Rattle.isle_meaning.specs.Laws.Elaborated.{TypedRulesAreElaborated}
 use Rattle.isle_meaning.specs.Laws.Matching.{ElaboratedRulesFit}
@@ -169,8 +169,8 @@ module _ (declared : Declared) (variables : List Variable) (fields : TakesFields
 
       bindings_typed : (bs : TypedBindings) → AreTypedBindings declared variables caller bs
           → BindingsTyped (facts_of declared) (var_type variables) bs
-      bindings_typed no_bindings h = tt
-      bindings_typed (more_bindings var ty val others) h = (has_type var ty (h.0), expr_typed ty val (h.1), bindings_typed others (h.2))
+      bindings_typed no_typed_bindings h = tt
+      bindings_typed (more_typed_bindings var ty val others) h = (has_type var ty (h.0), expr_typed ty val (h.1), bindings_typed others (h.2))
 
     iflets_typed : (xs : List TypedIfLet) → AreTypedIfLets declared variables caller xs
         → IfLetsTyped (facts_of declared) (var_type variables) xs
@@ -217,10 +217,10 @@ module _ (declared : Declared) (variables : List Variable) (fields : TakesFields
           bindings_read : (bs : TypedBindings) (before after : Scope) (S : ℕ → Type 0) → AreTypedBindings declared variables caller bs
               → BindingsAdd bs before after → ((k : ℕ) → IsUsable before.usable k → S k)
               → ReadsLets (flagged flags) bs S × ((k : ℕ) → IsUsable after.usable k → let_scope bs S k) × (before.count ≤ after.count)
-          bindings_read no_bindings before after S t b h =
+          bindings_read no_typed_bindings before after S t b h =
               let e : after.count ≡ before.count = ap (λ (x : Scope). x.count) b in
               (tt, subst (λ (x : Scope). (k : ℕ) → IsUsable x.usable k → S k) (sym b) h, omega arith)
-          bindings_read (more_bindings var ty val others) before after S t b h =
+          bindings_read (more_typed_bindings var ty val others) before after S t b h =
               let r = expr_reads ty val before var S (t.1) (b.0) h in
               let q = bindings_read others (with_next (counting before var)) after (λ j. (j ≡ var) ⊎ S j) (t.2) (b.1)
               (λ k u. elim u [ inl e ↦ inl (sym e) | inr v ↦ inr (h k v) ]) in

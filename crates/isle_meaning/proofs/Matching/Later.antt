@@ -7,7 +7,7 @@ use Rattle.isle_meaning.specs.Facts.{TermFacts}
 use Rattle.isle_meaning.specs.Sites.{Site, bool_site, int_site, prim_site, argument, extractor_call, constructor_call, iterator}
 use Rattle.isle_meaning.specs.Sites.{make_variant, match_variant, make_struct, extract_struct, make_some, match_some, match_tuple, Sites, no_sites, more_sites}
 use Rattle.isle_meaning.specs.Answers.{Completion, answer_of, answered}
-use Rattle.isle_meaning.specs.Held.{Held, held_some, held, plain, extract_held, construct_held, constructed, several, item_of, variant_field, struct_field, content_of, output_of, value, values}
+use Rattle.isle_meaning.specs.Held.{Held, held_some, held, plain, extract_held, construct_held, constructed, several_of, item_of, variant_field, struct_field, content_of, output_of, value, values}
 
 -- values are known where the first and the others are
 more_parts : (g : Got Value) (gs : Got Values) → more g gs ≢ unknown → (g ≢ unknown) × (gs ≢ unknown)
@@ -27,9 +27,9 @@ answer_later (x ∷ before) more zero k = refl
 answer_later (x ∷ before) more (suc i) k = answer_later before more i k
 
 module _ (facts : TermFacts) (c : Completion) (args : Values) (before further : List (Option Value)) where
-  call_later : (m : Bool) (t i : ℕ) (vs : Values) → (if m then several (c.constructs t vs) else constructed (facts.partial t) (answer_of c before t i vs)) ≢ unknown
-      → (if m then several (c.constructs t vs) else constructed (facts.partial t) (answer_of c (before ++ further) t i vs))
-      ≡ (if m then several (c.constructs t vs) else constructed (facts.partial t) (answer_of c before t i vs))
+  call_later : (m : Bool) (t i : ℕ) (vs : Values) → (if m then several_of (c.constructs t vs) else constructed (facts.partial t) (answer_of c before t i vs)) ≢ unknown
+      → (if m then several_of (c.constructs t vs) else constructed (facts.partial t) (answer_of c (before ++ further) t i vs))
+      ≡ (if m then several_of (c.constructs t vs) else constructed (facts.partial t) (answer_of c before t i vs))
   call_later true t i vs k = refl
   call_later false t zero vs k = refl
   call_later false t (suc i) vs k = ap (constructed (facts.partial t)) (answer_later before further i (λ e. k (ap (constructed (facts.partial t)) e)))

@@ -1,7 +1,7 @@
 -- What is written out reads only what is bound.
 use Rattle.std.proofs.Common.{◌≡◌, ◌⊎◌, inl, inr, ℕ, List, [], Bool, true, false, ◌==◌, refl, sym, ◌∙◌, ap, subst}
 use Rattle.isle_terms.specs.TypedRules.{TypedExpr, built_var, built_bool, built_int, built_prim, built_term, built_let, TypedExprs}
-use Rattle.isle_terms.specs.TypedRules.{no_built, more_built, TypedBindings, no_bindings, more_bindings}
+use Rattle.isle_terms.specs.TypedRules.{no_built, more_built, TypedBindings, no_typed_bindings, more_typed_bindings}
 use Rattle.isle_meaning.specs.Facts.{TermShape, variant_shape, struct_shape, declared_shape, TermFacts}
 use Rattle.isle_meaning.specs.Words.{Word, var_word, Words, Step, set, flat, flat_all, flat_lets, call, apply, word_of}
 use Rattle.isle_meaning.specs.Scopes.{Reads, ReadAll, IsSingle, let_scope, ReadsExpr, ReadExprs, ReadsLets}
@@ -54,8 +54,8 @@ module _ (facts : TermFacts) (S : ℕ → Type 0) where
     flat_lets_read : (bs : TypedBindings) (S' : ℕ → Type 0) (vars : ℕ → Word) (steps : List Step)
         → ((j : ℕ) → S' j → Reads facts (vars j) S) → ReadsLets facts bs S' → (j : ℕ) → let_scope bs S' j
         → Reads facts ((flat_lets facts vars steps bs).0 j) S
-    flat_lets_read no_bindings S' vars steps h r = h
-    flat_lets_read (more_bindings k ty e bs) S' vars steps h r =
+    flat_lets_read no_typed_bindings S' vars steps h r = h
+    flat_lets_read (more_typed_bindings k ty e bs) S' vars steps h r =
         flat_lets_read bs (λ j. (j ≡ k)
         ⊎ S' j) (set vars k ((flat facts vars steps e).0)) ((flat facts vars steps e).1)
         (set_reads S' vars k _ h (flat_reads e S' vars steps h (r.0))) (r.1)

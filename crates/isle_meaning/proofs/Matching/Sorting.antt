@@ -4,7 +4,7 @@ use Rattle.std.proofs.Common.{subst, arith}
 use Rattle.std.proofs.lemmas.Bool.{eqb-true}
 use Rattle.isle_terms.specs.TypedRules.{TypedPattern, typed_bind, typed_var, typed_bool, typed_int, typed_prim, typed_term, typed_wildcard}
 use Rattle.isle_terms.specs.TypedRules.{typed_and, TypedPatterns, no_typed, more_typed, TypedExpr, built_var, built_bool, built_int}
-use Rattle.isle_terms.specs.TypedRules.{built_prim, built_term, built_let, TypedBindings, no_bindings, more_bindings, TypedIfLet}
+use Rattle.isle_terms.specs.TypedRules.{built_prim, built_term, built_let, TypedBindings, no_typed_bindings, more_typed_bindings, TypedIfLet}
 use Rattle.isle_meaning.specs.Facts.{TermShape, variant_shape, struct_shape, declared_shape, TermFacts, patterns, nth_type}
 use Rattle.isle_meaning.specs.Words.{Word, var_word, bool_word, int_word, prim_word, variant_word, struct_word, call_word, Words}
 use Rattle.isle_meaning.specs.Words.{no_words, more_words, Step, set, call, apply, flat, flat_all, flat_lets, word_of}
@@ -74,8 +74,8 @@ module _ (facts : TermFacts) (tys : List ℕ) (G : ℕ → ℕ) where
 
     flat_lets_give : (bs : TypedBindings) (vars : ℕ → Word) (steps : List Step) → ((j : ℕ) → WordGives (vars j) (G j))
         → BindingsTyped facts G bs → (j : ℕ) → WordGives ((flat_lets facts vars steps bs).0 j) (G j)
-    flat_lets_give no_bindings vars steps h t = h
-    flat_lets_give (more_bindings k ty e bs) vars steps h t =
+    flat_lets_give no_typed_bindings vars steps h t = h
+    flat_lets_give (more_typed_bindings k ty e bs) vars steps h t =
         flat_lets_give bs (set vars k ((flat facts vars steps e).0)) ((flat facts vars steps e).1)
         (set_gives vars k _ h (subst (WordGives ((flat facts vars steps e).0)) (sym (t.0)) (flat_gives e ty vars steps h (t.1)))) (t.2)
 

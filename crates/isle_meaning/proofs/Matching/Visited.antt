@@ -2,7 +2,7 @@
 use Rattle.std.proofs.Common.{◌≡◌, ℕ, zero, suc, List, [], ◌∷◌, ◌++◌, map, length, Bool, true, false, ◌==◌, refl, sym, ◌∙◌, ap}
 use Rattle.std.proofs.lemmas.List.{map-append, length-map}
 use Rattle.isle_terms.specs.TypedRules.{TypedExpr, built_var, built_bool, built_int, built_prim, built_term, built_let, TypedExprs}
-use Rattle.isle_terms.specs.TypedRules.{no_built, more_built, TypedBindings, no_bindings, more_bindings}
+use Rattle.isle_terms.specs.TypedRules.{no_built, more_built, TypedBindings, no_typed_bindings, more_typed_bindings}
 use Rattle.isle_meaning.specs.Facts.{TermShape, variant_shape, struct_shape, declared_shape, TermFacts}
 use Rattle.isle_meaning.specs.Words.{Word, var_word, Words, Step, set, flat, flat_all, flat_lets, call, apply}
 use Rattle.isle_meaning.specs.Sites.{Site, constructor_call, make_variant, make_struct, Sites, more_sites, answer_site, site_of}
@@ -80,8 +80,8 @@ module _ (facts : TermFacts) (vars : ℕ → Site) where
         → (steps : List Step) (log : Log) → log.impure ≡ map (step_site facts vars) steps
         → ((j : ℕ) → (visit_lets facts sites log bs).0 j ≡ site_of facts vars ((flat_lets facts iflets steps bs).0 j))
         × ((visit_lets facts sites log bs).1.impure ≡ map (step_site facts vars) ((flat_lets facts iflets steps bs).1))
-    visited_lets no_bindings iflets sites h steps log f = (h, f)
-    visited_lets (more_bindings k ty e bs) iflets sites h steps log f =
+    visited_lets no_typed_bindings iflets sites h steps log f = (h, f)
+    visited_lets (more_typed_bindings k ty e bs) iflets sites h steps log f =
         let r = visited e iflets sites h steps log f in
         visited_lets bs (set iflets k ((flat facts iflets steps e).0)) (set sites k ((visit facts sites log e).0))
         (set_site iflets sites k _ _ h (r.0)) ((flat facts iflets steps e).1) ((visit facts sites log e).1) (r.1)

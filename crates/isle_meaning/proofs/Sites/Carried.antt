@@ -16,7 +16,7 @@ use Rattle.isle_meaning.specs.Scopes.{OfCall, OfCalls, OfAllCalls, OfIfLets}
 use Rattle.isle_meaning.specs.Laws.Matching.{DemandOf}
 use Rattle.isle_meaning.proofs.Matching.Basics.{each_append}
 use Rattle.isle_meaning.proofs.Matching.Sorting.{among}
-use Rattle.isle_meaning.proofs.Sites.Parts.{OfSubtrees, of_part, of_whole, of_one}
+use Rattle.isle_meaning.proofs.Sites.Parts.{OfSubtrees, part_of, of_whole, of_one}
 
 -- it passes down to parts, and up to fields, outputs, contents and values of multi calls
 pub record IsCarried (A : Site → Type 0) : Type 0 where
@@ -42,7 +42,7 @@ pub record IsOfOthers (P : Site → Type 0) : Type 0 where
 -- What holds of others, and is asked of each subtree, passes on.
 pub subtrees_carry : (P : Site → Type 0) → IsOfOthers P → IsCarried (OfSubtrees P)
 subtrees_carry P o = record {
-  down = of_part P;
+  down = part_of P;
   argument = λ i. of_whole P (argument i) (o.argument i) (λ u m. absurd m);
   nothing = λ k. of_whole P (nothing k) (o.nothing k) (λ u m. absurd m);
   variant = λ s k i h. of_whole P (match_variant s k i) (o.variant s k i) (λ u m. of_one P s u h m);

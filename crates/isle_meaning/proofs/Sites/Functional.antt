@@ -5,7 +5,7 @@ use Rattle.isle_meaning.specs.Values.{Value, Values, ask}
 use Rattle.isle_meaning.specs.Facts.{TermFacts}
 use Rattle.isle_meaning.specs.Answers.{Completion, answered}
 use Rattle.isle_meaning.specs.AboutSites.Functions.{AreFiniteFunctions, as_pure, AreAsFunctions}
-use Rattle.isle_meaning.specs.Held.{Held, several, constructed, extract_held, construct_held, value, values, IsAnswered, AreAnswered}
+use Rattle.isle_meaning.specs.Held.{Held, several_of, constructed, extract_held, construct_held, value, values, IsAnswered, AreAnswered}
 use Rattle.isle_meaning.specs.AboutSites.Kinds.{HasItsKind}
 use Rattle.isle_meaning.specs.AboutSites.Making.{made_of_parts}
 use Rattle.isle_meaning.specs.AboutSites.Parts.{parts_of}
@@ -69,8 +69,8 @@ made_purely facts c args done more (match_some s) hs = refl
 made_purely facts c args done more (match_tuple s i) hs = refl
 
 -- a list that is given is held
-several_given : (g : Got (List Values)) (l : List Values) → g ≡ gives l → several g ≢ unknown
-several_given g l e q = let r : several (gives l) ≡ unknown = subst (λ (x : Got (List Values)). several x ≡ unknown) e q in cc
+several_given : (g : Got (List Values)) (l : List Values) → g ≡ gives l → several_of g ≢ unknown
+several_given g l e q = let r : several_of (gives l) ≡ unknown = subst (λ (x : Got (List Values)). several_of x ≡ unknown) e q in cc
 
 module _ (facts : TermFacts) (c : Completion) (functions : AreFiniteFunctions facts c) (args : Values) (done : List (Option Value)) where
   -- what a site holds

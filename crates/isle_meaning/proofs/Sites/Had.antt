@@ -10,7 +10,7 @@ use Rattle.isle_meaning.specs.Scopes.{OfCall, OfCalls, OfAllCalls, OfIfLets}
 use Rattle.isle_meaning.specs.Asking.{IsOpenedAt, IsSiteOfPattern, IsSiteOfPatterns, IsSiteOfIfLets, IsSiteOfRule}
 use Rattle.isle_meaning.specs.AboutSites.RuleCalls.{IsCall, IsWithinRule, ItsCallsAreHad}
 use Rattle.isle_meaning.specs.Laws.Sites.{DemandedCallsAreHad}
-use Rattle.isle_meaning.proofs.Sites.Parts.{of_part}
+use Rattle.isle_meaning.proofs.Sites.Parts.{part_of}
 use Rattle.isle_meaning.proofs.Sites.Carried.{IsCarried, subtrees_carry, rule_carries, variables_carry}
 
 module _ (facts : TermFacts) (rule : TypedRule) where
@@ -84,7 +84,7 @@ module _ (facts : TermFacts) (rule : TypedRule) where
 
   -- What has only such calls has parts that do.
   pub had_part : (s u : Site) → ItsCallsAreHad facts rule s → IsOneOf (parts_of s) u → ItsCallsAreHad facts rule u
-  had_part s u h m = of_part IsHad s u h m
+  had_part s u h m = part_of IsHad s u h m
 
   -- What a rule's variables stand for has only such calls.
   pub variables_had : (k : ℕ) → ItsCallsAreHad facts rule (vars_of facts rule k)

@@ -15,7 +15,7 @@ use Rattle.isle_meaning.specs.Sites.{Sites, no_sites, more_sites}
 use Rattle.isle_meaning.specs.AboutSites.Functions.{GivesLists}
 use Rattle.isle_meaning.specs.Held.{item_of}
 use Rattle.isle_meaning.specs.Held.{Held, held_value, held_outputs, held_some, held, plain, outputs_of, extracted, constructed}
-use Rattle.isle_meaning.specs.Held.{held_answers, extract_held, construct_held, several as several_of, variant_field, field_if, struct_field, output_of, value, values}
+use Rattle.isle_meaning.specs.Held.{held_answers, extract_held, construct_held, several_of, variant_field, field_if, struct_field, output_of, value, values}
 use Rattle.isle_meaning.specs.Sorts.{Sort, plain_sort, option_sort, list_sort, sort, of_outputs, extract_sort, construct_sort, inner_sort}
 use Rattle.isle_meaning.specs.Sorts.{output_sort, field_sort}
 use Rattle.isle_meaning.proofs.Matching.Basics.{ask_gives, content_gives}

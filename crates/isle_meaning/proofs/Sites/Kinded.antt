@@ -3,8 +3,8 @@ use Rattle.std.proofs.Common.{◌≡◌, ◌⊎◌, inl, inr, ℕ, zero, suc, �
 use Rattle.std.proofs.Common.{sym, ap, subst, ◌∙◌, arith, eqb-true, eq-eqb}
 use Rattle.isle_terms.specs.TypedRules.{TypedPattern, typed_bind, typed_var, typed_bool, typed_int, typed_prim, typed_term, typed_wildcard}
 use Rattle.isle_terms.specs.TypedRules.{typed_and, TypedPatterns, no_typed, more_typed, TypedExpr, built_var, built_bool, built_int}
-use Rattle.isle_terms.specs.TypedRules.{built_prim, built_term, built_let, TypedExprs, no_built, more_built, TypedBindings, no_bindings}
-use Rattle.isle_terms.specs.TypedRules.{more_bindings, TypedIfLet, TypedRule}
+use Rattle.isle_terms.specs.TypedRules.{built_prim, built_term, built_let, TypedExprs, no_built, more_built, TypedBindings, no_typed_bindings}
+use Rattle.isle_terms.specs.TypedRules.{more_typed_bindings, TypedIfLet, TypedRule}
 use Rattle.isle_meaning.specs.Facts.{TermShape, variant_shape, struct_shape, declared_shape, TermFacts, patterns, nth_type}
 use Rattle.isle_meaning.specs.Words.{set, word_of}
 use Rattle.isle_meaning.specs.Sites.{Site, bool_site, int_site, prim_site, argument, extractor_call, constructor_call, iterator}
@@ -29,7 +29,7 @@ use Rattle.isle_meaning.proofs.Matching.Basics.{each_append}
 use Rattle.isle_meaning.proofs.Matching.Sorting.{among}
 use Rattle.isle_meaning.specs.AboutSites.Kinds.{MayBeCalled, OfSeveral, HasItsKind, HaveTheirKinds, IsOfItsKind}
 use Rattle.isle_meaning.proofs.Matching.Visited.{visit_is_written}
-use Rattle.isle_meaning.proofs.Sites.Parts.{EachSite, each_append as sites_append, each_needed}
+use Rattle.isle_meaning.proofs.Sites.Parts.{EachSite, sites_append, each_needed}
 
 -- the terms that are taken to be `multi` where variables and calls are looked at: none, where several answers are asked
 abbrev pub flags_for : (several : Bool) → TermFacts → ℕ → Bool
@@ -341,8 +341,8 @@ module _ (several : Bool) (facts : TermFacts) (tys : List ℕ) where
       visit_lets_seen : (bs : TypedBindings) (S : ℕ → Type 0) (vars : ℕ → Site) (log : Log) → ReadsLets seen_facts bs S → BindingsTyped facts G bs
           → AreGood S vars → EachSite W log.needed
           → AreGood (let_scope bs S) ((visit_lets facts vars log bs).0) × EachSite W ((visit_lets facts vars log bs).1.needed)
-      visit_lets_seen no_bindings S vars log r t g h = (g, h)
-      visit_lets_seen (more_bindings k ty e bs) S vars log r t g h =
+      visit_lets_seen no_typed_bindings S vars log r t g h = (g, h)
+      visit_lets_seen (more_typed_bindings k ty e bs) S vars log r t g h =
           let p = visit_seen e ty S vars log (r.0) (t.1) g h in
           visit_lets_seen bs (λ j. (j ≡ k) ⊎ S j) (set vars k ((visit facts vars log e).0)) ((visit facts vars log e).1) (r.1) (t.2)
           (set_good S vars k _ ty g (p.0) (t.0)) (p.1)

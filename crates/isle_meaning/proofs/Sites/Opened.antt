@@ -11,7 +11,7 @@ use Rattle.isle_meaning.specs.Elaborated.{IfLetsNeed, HasNoLet, HaveNoLet, IfLet
 use Rattle.isle_meaning.specs.Laws.Elaborated.{RulesWithoutLetsOpen}
 use Rattle.isle_meaning.specs.Needs.{Log, no_log, answer_needs, called, applied, visit, visit_all}
 use Rattle.isle_meaning.proofs.Matching.Visited.{visited}
-use Rattle.isle_meaning.proofs.Sites.Parts.{EachSite, each_append, each_needed}
+use Rattle.isle_meaning.proofs.Sites.Parts.{EachSite, sites_append, each_needed}
 
 module _ (facts : TermFacts) (D : Demand → Type 0) where
   -- each of these demands is one of all
@@ -51,9 +51,9 @@ module _ (facts : TermFacts) (D : Demand → Type 0) where
 
   called_open : (b : Bool) (t : ℕ) (r : Sites × Log) → IsOpen ((called facts b t r).0) → EachSite IsOpen (r.1.needed)
       → EachSite IsOpen ((called facts b t r).1.needed)
-  called_open true t r w h = each_append IsOpen (r.1.needed) _ h (answer_open (facts.multi t) (facts.partial t) t (r.0) zero w)
+  called_open true t r w h = sites_append IsOpen (r.1.needed) _ h (answer_open (facts.multi t) (facts.partial t) t (r.0) zero w)
   called_open false t r w h =
-      each_append IsOpen (r.1.needed) _ h (answer_open (facts.multi t) (facts.partial t) t (r.0) (suc (length (r.1.impure))) w)
+      sites_append IsOpen (r.1.needed) _ h (answer_open (facts.multi t) (facts.partial t) t (r.0) (suc (length (r.1.impure))) w)
 
   -- and with a term
   applied_args : (shape : TermShape) (ty t : ℕ) (r : Sites × Log) → IsOpen ((applied facts shape ty t r).0) → Within (contents_all (r.0))
@@ -63,8 +63,8 @@ module _ (facts : TermFacts) (D : Demand → Type 0) where
 
   applied_open : (shape : TermShape) (ty t : ℕ) (r : Sites × Log) → IsOpen ((applied facts shape ty t r).0) → EachSite IsOpen (r.1.needed)
       → EachSite IsOpen ((applied facts shape ty t r).1.needed)
-  applied_open (variant_shape k) ty t r w h = each_append IsOpen (r.1.needed) _ h (w, tt)
-  applied_open struct_shape ty t r w h = each_append IsOpen (r.1.needed) _ h (w, tt)
+  applied_open (variant_shape k) ty t r w h = sites_append IsOpen (r.1.needed) _ h (w, tt)
+  applied_open struct_shape ty t r w h = sites_append IsOpen (r.1.needed) _ h (w, tt)
   applied_open declared_shape ty t r w h = called_open (facts.pure t) t r w h
 
   mutual
@@ -72,9 +72,9 @@ module _ (facts : TermFacts) (D : Demand → Type 0) where
     visit_open : (e : TypedExpr) (vars : ℕ → Site) (log : Log) → HasNoLet e → IsOpen ((visit facts vars log e).0) → EachSite IsOpen log.needed
         → EachSite IsOpen ((visit facts vars log e).1.needed)
     visit_open (built_var ty k) vars log n w h = h
-    visit_open (built_bool ty b) vars log n w h = each_append IsOpen log.needed _ h ((λ d i. absurd i), tt)
-    visit_open (built_int ty m) vars log n w h = each_append IsOpen log.needed _ h ((λ d i. absurd i), tt)
-    visit_open (built_prim ty m) vars log n w h = each_append IsOpen log.needed _ h ((λ d i. absurd i), tt)
+    visit_open (built_bool ty b) vars log n w h = sites_append IsOpen log.needed _ h ((λ d i. absurd i), tt)
+    visit_open (built_int ty m) vars log n w h = sites_append IsOpen log.needed _ h ((λ d i. absurd i), tt)
+    visit_open (built_prim ty m) vars log n w h = sites_append IsOpen log.needed _ h ((λ d i. absurd i), tt)
     visit_open (built_term ty t es) vars log n w h =
         let r = visit_all facts vars log es in
         applied_open (facts.shape t) ty t r w (all_open es vars log n (applied_args (facts.shape t) ty t r w) h)

@@ -18,7 +18,7 @@ use Rattle.isle_meaning.proofs.Chains.Subtrees.{whole}
 use Rattle.isle_meaning.proofs.Chains.Unique.{EachStep}
 use Rattle.isle_meaning.proofs.Matching.Scoping.{word_reads}
 use Rattle.isle_meaning.proofs.Matching.Testing.{demands_are_tested}
-use Rattle.isle_meaning.proofs.Sites.Parts.{OfSubtrees, of_only, of_part, of_whole, of_one, EachSite}
+use Rattle.isle_meaning.proofs.Sites.Parts.{OfSubtrees, of_only, part_of, of_whole, of_one, EachSite}
 use Rattle.isle_meaning.proofs.Sites.Steps.{steps_read}
 
 -- the site is a call of a constructor
@@ -52,7 +52,7 @@ own_test D s h = h s (whole s)
 
 -- A part has its own.
 pub part_tests : (D : Demand → Type 0) (s u : Site) → HasTests D s → IsOneOf (parts_of s) u → HasTests D u
-part_tests D s u h m = of_part (HasTest D) s u h m
+part_tests D s u h m = part_of (HasTest D) s u h m
 
 module _ (D E : Demand → Type 0) (f : (d : Demand) → D d → E d) where
   -- of one part that has them

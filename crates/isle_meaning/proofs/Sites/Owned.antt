@@ -3,8 +3,8 @@ use Rattle.std.proofs.Common.{◌≡◌, ◌⊎◌, inl, inr, ℕ, zero, suc, �
 use Rattle.std.proofs.Common.{◌∙◌, subst, arith}
 use Rattle.isle_terms.specs.TypedRules.{TypedPattern, typed_bind, typed_var, typed_bool, typed_int, typed_prim, typed_term, typed_wildcard}
 use Rattle.isle_terms.specs.TypedRules.{typed_and, TypedPatterns, no_typed, more_typed, TypedExpr, built_var, built_bool, built_int}
-use Rattle.isle_terms.specs.TypedRules.{built_prim, built_term, built_let, TypedExprs, no_built, more_built, TypedBindings, no_bindings}
-use Rattle.isle_terms.specs.TypedRules.{more_bindings, TypedIfLet, TypedRule}
+use Rattle.isle_terms.specs.TypedRules.{built_prim, built_term, built_let, TypedExprs, no_built, more_built, TypedBindings, no_typed_bindings}
+use Rattle.isle_terms.specs.TypedRules.{more_typed_bindings, TypedIfLet, TypedRule}
 use Rattle.isle_meaning.specs.Facts.{TermShape, variant_shape, struct_shape, declared_shape, TermFacts, patterns}
 use Rattle.isle_meaning.specs.Words.{var_word, set, word_of}
 use Rattle.isle_meaning.specs.Sites.{Site, bool_site, int_site, prim_site, argument, extractor_call, constructor_call, iterator}
@@ -25,7 +25,7 @@ use Rattle.isle_meaning.proofs.Matching.Basics.{each_append}
 use Rattle.isle_meaning.proofs.Matching.Sorting.{among}
 use Rattle.isle_meaning.proofs.Matching.Visited.{visited, visit_is_written}
 use Rattle.isle_meaning.proofs.Chains.Subtrees.{whole}
-use Rattle.isle_meaning.proofs.Sites.Parts.{OfSubtrees, of_only, of_part, of_whole, of_one, EachSite, each_append as sites_append, each_needed}
+use Rattle.isle_meaning.proofs.Sites.Parts.{OfSubtrees, of_only, part_of, of_whole, of_one, EachSite, sites_append, each_needed}
 
 -- a field or content has its test among these demands, and a value of a multi call is one of these sites
 abbrev pub IsOwn : (Demand → Type 0) → (Site → Type 0) → Site → Type 0
@@ -54,7 +54,7 @@ own_itself D N s h = h s (whole s)
 
 -- So is a part.
 pub own_part : (D : Demand → Type 0) (N : Site → Type 0) (s u : Site) → AreOwn D N s → IsOneOf (parts_of s) u → AreOwn D N u
-own_part D N s u h m = of_part (IsOwn D N) s u h m
+own_part D N s u h m = part_of (IsOwn D N) s u h m
 
 -- each of these demands is one of all
 abbrev Within : List Demand → (Demand → Type 0) → Type 0
@@ -114,8 +114,8 @@ mutual
   any_calls_all facts (more_built e es) = (any_calls facts e, any_calls_all facts es)
 
   any_calls_lets : (facts : TermFacts) (bs : TypedBindings) → BindingsCall facts (λ t. Unit {0}) bs
-  any_calls_lets facts no_bindings = tt
-  any_calls_lets facts (more_bindings k ty e bs) = (any_calls facts e, any_calls_lets facts bs)
+  any_calls_lets facts no_typed_bindings = tt
+  any_calls_lets facts (more_typed_bindings k ty e bs) = (any_calls facts e, any_calls_lets facts bs)
 
 module _ (facts : TermFacts) (D : Demand → Type 0) (N : Site → Type 0) where
   -- the site's fields, contents and values are its own
@@ -315,8 +315,8 @@ module _ (facts : TermFacts) (D : Demand → Type 0) (N : Site → Type 0) where
 
     -- and of bindings
     lets_keep : (bs : TypedBindings) (vars : ℕ → Site) (log : Log) → AreIn ((visit_lets facts vars log bs).1.needed) N → AreIn log.needed N
-    lets_keep no_bindings vars log n = n
-    lets_keep (more_bindings k ty e bs) vars log n =
+    lets_keep no_typed_bindings vars log n = n
+    lets_keep (more_typed_bindings k ty e bs) vars log n =
         visit_keeps e vars log (lets_keep bs (set vars k ((visit facts vars log e).0)) ((visit facts vars log e).1) n)
 
   -- calls of terms with Q, and sites with G whose parts have it, where contents of such calls are demanded
@@ -428,8 +428,8 @@ module _ (facts : TermFacts) (D : Demand → Type 0) (N : Site → Type 0) where
       lets_give : (bs : TypedBindings) (vars : ℕ → Site) (log : Log) → BindingsCall facts Q bs → AllGive vars → Logged log
           → AreIn ((visit_lets facts vars log bs).1.needed) N
           → AllGive ((visit_lets facts vars log bs).0) × Logged ((visit_lets facts vars log bs).1)
-      lets_give no_bindings vars log c v h n = (v, h)
-      lets_give (more_bindings k ty e bs) vars log c v h n =
+      lets_give no_typed_bindings vars log c v h n = (v, h)
+      lets_give (more_typed_bindings k ty e bs) vars log c v h n =
           let mid = (visit facts vars log e).1 in
           let next = set vars k ((visit facts vars log e).0) in
           let p = visit_gives e vars log (c.0) v h (lets_keep bs next mid n) in

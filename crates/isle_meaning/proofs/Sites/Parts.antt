@@ -41,8 +41,8 @@ abbrev pub OfSubtrees : (Site → Type 0) → Site → Type 0
 OfSubtrees P s = (u : Site) → IsSubtree u s → P u
 
 -- What holds of a site's subtrees holds of a part's.
-pub of_part : (P : Site → Type 0) (s u : Site) → OfSubtrees P s → IsOneOf (parts_of s) u → OfSubtrees P u
-of_part P s u h m x k = h x (deeper x u s k (part_within s u m))
+pub part_of : (P : Site → Type 0) (s u : Site) → OfSubtrees P s → IsOneOf (parts_of s) u → OfSubtrees P u
+part_of P s u h m x k = h x (deeper x u s k (part_within s u m))
 
 module _ (P : Site → Type 0) where
   -- what holds of each one's subtrees
@@ -88,9 +88,9 @@ EachSite P [] = Unit {0}
 EachSite P (s ∷ ss) = P s × EachSite P ss
 
 -- Of those of two lists.
-pub each_append : (P : Site → Type 0) (ss us : List Site) → EachSite P ss → EachSite P us → EachSite P (ss ++ us)
-each_append P [] us h g = g
-each_append P (s ∷ ss) us h g = (h.0, each_append P ss us (h.1) g)
+pub sites_append : (P : Site → Type 0) (ss us : List Site) → EachSite P ss → EachSite P us → EachSite P (ss ++ us)
+sites_append P [] us h g = g
+sites_append P (s ∷ ss) us h g = (h.0, sites_append P ss us (h.1) g)
 
 -- Of one that is needed.
 pub each_needed : (P : Site → Type 0) (ss : List Site) (s : Site) → EachSite P ss → IsNeeded ss s → P s

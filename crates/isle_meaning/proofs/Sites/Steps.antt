@@ -3,7 +3,7 @@ use Rattle.std.proofs.Common.{◌≡◌, ◌⊎◌, inl, inr, ℕ, zero, suc, �
 use Rattle.std.proofs.Common.{refl, sym, ap, subst, ◌∙◌, arith, ◌==◌, eq-eqb}
 use Rattle.std.proofs.lemmas.Option.{same_Some, none-some}
 use Rattle.isle_terms.specs.TypedRules.{TypedExpr, built_var, built_bool, built_int, built_prim, built_term, built_let, TypedExprs}
-use Rattle.isle_terms.specs.TypedRules.{no_built, more_built, TypedBindings, no_bindings, more_bindings}
+use Rattle.isle_terms.specs.TypedRules.{no_built, more_built, TypedBindings, no_typed_bindings, more_typed_bindings}
 use Rattle.isle_meaning.specs.Facts.{TermShape, variant_shape, struct_shape, declared_shape, TermFacts}
 use Rattle.isle_meaning.specs.Words.{Word, var_word, bool_word, int_word, prim_word, variant_word, struct_word, call_word, Words}
 use Rattle.isle_meaning.specs.Words.{no_words, more_words, Step, set, flat, flat_all, flat_lets, call, apply, steps_of}
@@ -68,8 +68,8 @@ module _ (facts : TermFacts) where
 
     -- and of bindings
     lets_placed : (bs : TypedBindings) (vars : ℕ → Word) (steps : List Step) → Placed 0 steps → Placed 0 ((flat_lets facts vars steps bs).1)
-    lets_placed no_bindings vars steps h = h
-    lets_placed (more_bindings k ty e bs) vars steps h =
+    lets_placed no_typed_bindings vars steps h = h
+    lets_placed (more_typed_bindings k ty e bs) vars steps h =
         lets_placed bs (set vars k ((flat facts vars steps e).0)) ((flat facts vars steps e).1) (flat_placed e vars steps h)
 
   -- The steps of an expression are placed from the first on.
@@ -182,8 +182,8 @@ module _ (facts : TermFacts) (Z : ℕ → Type 0) where
     -- so do bindings
     lets_read : (bs : TypedBindings) (S : ℕ → Type 0) (vars : ℕ → Word) (steps : List Step) → ReadsLets facts bs S → Vars S vars → EachReads steps
         → Vars (let_scope bs S) ((flat_lets facts vars steps bs).0) × EachReads ((flat_lets facts vars steps bs).1)
-    lets_read no_bindings S vars steps r v h = (v, h)
-    lets_read (more_bindings k ty e bs) S vars steps r v h =
+    lets_read no_typed_bindings S vars steps r v h = (v, h)
+    lets_read (more_typed_bindings k ty e bs) S vars steps r v h =
         let p = flat_reads e S vars steps (r.0) v h in
         lets_read bs (λ j. (j ≡ k) ⊎ S j) (set vars k ((flat facts vars steps e).0)) ((flat facts vars steps e).1) (r.1)
         (set_reads S vars k ((flat facts vars steps e).0) v (p.0)) (p.1)

@@ -2,7 +2,7 @@
 use Rattle.std.proofs.Common.{ℕ, List, [], ◌∷◌}
 use Rattle.std.specs.Prelude.{◌↔◌}
 use Rattle.isle_terms.specs.TypedRules.{TypedExpr, built_var, built_bool, built_int, built_prim, built_term, built_let, TypedExprs}
-use Rattle.isle_terms.specs.TypedRules.{no_built, more_built, TypedBindings, no_bindings, more_bindings, TypedIfLet, TypedRule}
+use Rattle.isle_terms.specs.TypedRules.{no_built, more_built, TypedBindings, no_typed_bindings, more_typed_bindings, TypedIfLet, TypedRule}
 use Rattle.isle_meaning.specs.Worlds.{CheckedProgram}
 use Rattle.isle_meaning.specs.SoundPrograms.{IsSoundExpr, AreSoundExprs, AreSoundBindings, AreSoundIfLets, IsSoundRule, IsSound}
 
@@ -21,8 +21,8 @@ module _ (p : CheckedProgram) (R S : ℕ → Type 0) (wider : (t : ℕ) → R t 
     exprs_moved (more_built e es) h = (expr_moved e h.0, exprs_moved es h.1)
 
     bindings_moved : (bs : TypedBindings) → AreSoundBindings p R bs → AreSoundBindings p S bs
-    bindings_moved no_bindings h = tt
-    bindings_moved (more_bindings k ty e bs) h = (expr_moved e h.0, bindings_moved bs h.1)
+    bindings_moved no_typed_bindings h = tt
+    bindings_moved (more_typed_bindings k ty e bs) h = (expr_moved e h.0, bindings_moved bs h.1)
 
   iflets_moved : (xs : List TypedIfLet) → AreSoundIfLets p R xs → AreSoundIfLets p S xs
   iflets_moved [] h = tt

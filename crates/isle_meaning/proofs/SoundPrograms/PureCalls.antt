@@ -2,7 +2,7 @@
 use Rattle.std.proofs.Common.{◌≡◌, ◌&&◌, ℕ, Bool, true, false, List, [], ◌∷◌, Option, unwrap_or, refl, sym, ap, ◌∙◌}
 use Rattle.std.specs.Prelude.{if◌then◌else◌}
 use Rattle.isle_terms.specs.TypedRules.{TypedExpr, built_var, built_bool, built_int, built_prim, built_term, built_let, TypedExprs, no_built}
-use Rattle.isle_terms.specs.TypedRules.{more_built, TypedBindings, no_bindings, more_bindings, Variable}
+use Rattle.isle_terms.specs.TypedRules.{more_built, TypedBindings, no_typed_bindings, more_typed_bindings, Variable}
 use Rattle.isle_terms.specs.Signatures.{Flags, Signature, Declared, flags_of}
 use Rattle.isle_terms.specs.Elaboration.{may_call}
 use Rattle.isle_terms.specs.SoundRules.WellTyped.{IsTypedExpr, AreTypedExprs, AreTypedBindings}
@@ -54,8 +54,8 @@ module _ (declared : Declared) (variables : List Variable) (caller : Flags) (pur
 
     lets_pure : (bs : TypedBindings) (vars : ℕ → Word) (steps : List Step) → AreTypedBindings declared variables caller bs
         → (flat_lets (facts_of declared) vars steps bs).1 ≡ steps
-    lets_pure no_bindings vars steps h = refl
-    lets_pure (more_bindings k ty e bs) vars steps h =
+    lets_pure no_typed_bindings vars steps h = refl
+    lets_pure (more_typed_bindings k ty e bs) vars steps h =
         let r = flat (facts_of declared) vars steps e in lets_pure bs (set vars k r.0) r.1 h.2 ∙ calls_pure ty e vars steps h.1
 
   -- an expression makes none

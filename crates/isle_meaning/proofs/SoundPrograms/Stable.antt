@@ -16,12 +16,12 @@ use Rattle.std.proofs.lemmas.Slice.Eq.{bytes_eq-Decides}
 use Rattle.isle_types.specs.declared.types.IntType.{IntType}
 use Rattle.isle_types.specs.declared.types.IntType.TheVariants.{U8, U16, U32, U64, U128, USize, I8, I16, I32, I64, I128, ISize}
 use Rattle.isle_types.specs.IntTypes.{HasNumber, least_of, greatest_of}
-use Rattle.isle_terms.specs.Values.{ValueTree, bool_value as bool_tree, int_value as int_tree, big_value as big_tree}
-use Rattle.isle_terms.specs.Values.{const_value as const_tree, opaque_value as opaque_tree, data_value as data_tree}
+use Rattle.isle_terms.specs.Values.{ValueTree, bool_tree, int_tree, big_tree}
+use Rattle.isle_terms.specs.Values.{const_tree, opaque_tree, data_tree}
 use Rattle.isle_terms.specs.TypedRules.{TypedPattern, typed_bind, typed_var, typed_bool, typed_int, typed_prim, typed_term, typed_wildcard}
 use Rattle.isle_terms.specs.TypedRules.{typed_and, TypedPatterns, no_typed, more_typed, TypedExpr, built_var, built_bool, built_int}
-use Rattle.isle_terms.specs.TypedRules.{built_prim, built_term, built_let, TypedExprs, no_built, more_built, TypedBindings, no_bindings}
-use Rattle.isle_terms.specs.TypedRules.{more_bindings, TypedIfLet, TypedRule, typed_at}
+use Rattle.isle_terms.specs.TypedRules.{built_prim, built_term, built_let, TypedExprs, no_built, more_built, TypedBindings, no_typed_bindings}
+use Rattle.isle_terms.specs.TypedRules.{more_typed_bindings, TypedIfLet, TypedRule, typed_at}
 use Rattle.isle_meaning.specs.Facts.{TermShape, variant_shape, struct_shape, declared_shape, TermFacts, patterns}
 use Rattle.isle_meaning.specs.Values.{Value, Values, bool_value, int_value, constant_value, opaque_value, made_variant, made_struct}
 use Rattle.isle_meaning.specs.ValueTypes.{ValueFacts, TypeKind, truth_kind, integer_kind, primitive_kind, data_kind, no_kind, IsIntOf}
@@ -30,7 +30,7 @@ use Rattle.isle_meaning.specs.GroundValues.{IsValueOf, data_of_shape, value_of}
 use Rattle.isle_meaning.specs.Scopes.{scope, scope_all, iflets_scope, let_scope, none, scope_of, IsWellOpened, IsWellScoped, AreWellScoped}
 use Rattle.isle_meaning.specs.Scopes.{IsSingle, ReadsExpr, ReadExprs, ReadsLets, IfLetsAreWellScoped, IsWellScopedRule}
 use Rattle.isle_meaning.specs.Typing.{part_types, IsTyped, AllTyped, EachTyped, ExprTyped, ExprsTyped, BindingsTyped, IfLetsTyped, RuleIsTyped}
-use Rattle.isle_meaning.specs.Variables.{var_type}
+use Rattle.isle_meaning.specs.Inside.Variables.{var_type}
 use Rattle.isle_meaning.specs.Words.{Step, steps_of}
 use Rattle.isle_meaning.specs.Worlds.{CheckedProgram}
 use Rattle.isle_meaning.specs.SoundPrograms.{IsSoundExpr, AreSoundExprs, AreSoundBindings, AreSoundIfLets, AskNothingImpure, IsSoundRule}
@@ -75,8 +75,8 @@ iflets_decided [] S D = D
 iflets_decided (x ∷ xs) S D = iflets_decided xs (scope x.pattern S) (scope_decided x.pattern S D)
 
 lets_decided : (bs : TypedBindings) (S : ℕ → Type 0) → IsDecided S → IsDecided (let_scope bs S)
-lets_decided no_bindings S D = D
-lets_decided (more_bindings k ty e bs) S D = lets_decided bs (λ j. (j ≡ k) ⊎ S j) (added k S D)
+lets_decided no_typed_bindings S D = D
+lets_decided (more_typed_bindings k ty e bs) S D = lets_decided bs (λ j. (j ≡ k) ⊎ S j) (added k S D)
 
 -- ---- which trees stand for a value
 
@@ -286,8 +286,8 @@ module _ (K : Type 0) (known : ∥ K ∥₁) where
       all_read_told (more_built e es) S D f = (reads_told e S D (λ k. (f k).0), all_read_told es S D (λ k. (f k).1))
 
       lets_read_told : (bs : TypedBindings) (S : ℕ → Type 0) → IsDecided S → (K → ReadsLets facts bs S) → ReadsLets facts bs S
-      lets_read_told no_bindings S D f = tt
-      lets_read_told (more_bindings j ty e bs) S D f =
+      lets_read_told no_typed_bindings S D f = tt
+      lets_read_told (more_typed_bindings j ty e bs) S D f =
           (reads_told e S D (λ k. (f k).0), lets_read_told bs (λ i. (i ≡ j) ⊎ S i) (added j S D) (λ k. (f k).1))
 
     iflets_scoped_told : (xs : List TypedIfLet) (S : ℕ → Type 0) → IsDecided S → (K → IfLetsAreWellScoped facts xs S)
@@ -360,8 +360,8 @@ module _ (K : Type 0) (known : ∥ K ∥₁) where
         exprs_typed_told (more_built e es) (u ∷ us) f = (expr_typed_told e u (λ k. (f k).0), exprs_typed_told es us (λ k. (f k).1))
 
         bindings_typed_told : (bs : TypedBindings) → (K → BindingsTyped facts G bs) → BindingsTyped facts G bs
-        bindings_typed_told no_bindings f = tt
-        bindings_typed_told (more_bindings j ty e bs) f =
+        bindings_typed_told no_typed_bindings f = tt
+        bindings_typed_told (more_typed_bindings j ty e bs) f =
             (same_number (G j) ty (λ k. (f k).0), expr_typed_told e ty (λ k. (f k).1), bindings_typed_told bs (λ k. (f k).2))
 
       -- a condition's type is its pattern's
@@ -495,8 +495,8 @@ module _ (K : Type 0) (known : ∥ K ∥₁) where
       exprs_told (more_built e es) f = (expr_told e (λ k. (f k).0), exprs_told es (λ k. (f k).1))
 
       bindings_told : (bs : TypedBindings) → (K → AreSoundBindings p R bs) → AreSoundBindings p R bs
-      bindings_told no_bindings f = tt
-      bindings_told (more_bindings j ty e bs) f = (expr_told e (λ k. (f k).0), bindings_told bs (λ k. (f k).1))
+      bindings_told no_typed_bindings f = tt
+      bindings_told (more_typed_bindings j ty e bs) f = (expr_told e (λ k. (f k).0), bindings_told bs (λ k. (f k).1))
 
     iflets_told : (xs : List TypedIfLet) → (K → AreSoundIfLets p R xs) → AreSoundIfLets p R xs
     iflets_told [] f = tt

@@ -13,7 +13,7 @@ use Rattle.isle_syntax.specs.Trees.WithoutPos.{no_pos, pattern_tree_without_pos,
 use Rattle.isle_types.specs.IntTypes.{builtin_names}
 use Rattle.isle_types.specs.Names.{position_of}
 use Rattle.isle_types.specs.Environment.{Environment, NamedType, NamedVariant, TypeShape, primitive, enum, struct}
-use Rattle.isle_terms.specs.Signatures.{Extractor, by_template, external_extractor, TermForm, variant_form, struct_form, declared_form}
+use Rattle.isle_terms.specs.Signatures.{ExtractorForm, by_template, external_extractor, TermForm, variant_form, struct_form, declared_form}
 use Rattle.isle_terms.specs.Signatures.{Signature, Declared, term_named, signature_of, template_of, put_in_for, has_constructor_form}
 use Rattle.isle_terms.specs.Signatures.{has_extractor_form, flags_of}
 use Rattle.isle_terms.specs.Elaboration.{type_named}
@@ -40,7 +40,7 @@ bare_type type = record {
 abbrev pub bare_types : Environment → Environment
 bare_types types = record { types = map bare_type types.types; constants = types.constants }
 
-abbrev pub bare_extractor : Extractor → Extractor
+abbrev pub bare_extractor : ExtractorForm → ExtractorForm
 bare_extractor (by_template template) = by_template (pattern_tree_without_pos template)
 bare_extractor (external_extractor function infallible pos) = external_extractor function infallible no_pos
 

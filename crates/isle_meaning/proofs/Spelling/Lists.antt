@@ -21,7 +21,7 @@ use Rattle.isle_syntax.specs.Trees.WithoutPos.{no_pos, ident_without_pos, patter
 use Rattle.isle_syntax.specs.Trees.WithoutPos.{decl_without_pos, rule_without_pos, extractor_without_pos, extern_without_pos, converter_without_pos}
 use Rattle.isle_syntax.specs.Trees.WithoutPos.{def_without_pos}
 use Rattle.isle_types.specs.Environment.{NamedType, NamedVariant, TypeShape, primitive, enum, struct, numbers_in}
-use Rattle.isle_terms.specs.Signatures.{by_rules, external_constructor, Extractor as ExtractorForm, by_template, external_extractor, variant_form}
+use Rattle.isle_terms.specs.Signatures.{by_rules, external_constructor, ExtractorForm, by_template, external_extractor, variant_form}
 use Rattle.isle_terms.specs.Definitions.{ExternalExtractor, as_declaration, as_rule, as_extractor, as_external, as_converter}
 use Rattle.isle_terms.specs.Definitions.{as_external_constructor, as_external_extractor, declarations, rules_in, extractors_in, converters_in}
 use Rattle.isle_terms.specs.Definitions.{external_constructors, external_extractors, root_name, roots_of, is_among, function_for, constructor_for}

@@ -17,7 +17,7 @@ use Rattle.isle_types.specs.Names.{AreDistinct}
 use Rattle.isle_types.specs.Environment.{Environment}
 use Rattle.isle_types.proofs.Zipped.{mapped_at}
 use Rattle.isle_terms.specs.TypedRules.{TypedRule}
-use Rattle.isle_terms.specs.Signatures.{Flags, Extractor as ExtractorForm, declared_form, Signature, Conversion, Declared}
+use Rattle.isle_terms.specs.Signatures.{Flags, ExtractorForm, declared_form, Signature, Conversion, Declared}
 use Rattle.isle_terms.specs.Definitions.{IsAmong, ExternalExtractor, declarations, rules_in, extractors_in, converters_in, external_constructors}
 use Rattle.isle_terms.specs.Definitions.{external_extractors, constructor_for, extractor_for, flags_in, IsTypeNumber, IsDeclaration, terms_of_types}
 use Rattle.isle_terms.specs.Definitions.{names_of_terms, AreTerms, IsDeclared, IsTerm, term_names, ComesTo, at_once, further, KeepExtractorRules}

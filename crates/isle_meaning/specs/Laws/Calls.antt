@@ -2,7 +2,7 @@
 use Rattle.std.specs.Prelude.{◌≡◌, ◌≢◌, ◌⊎◌, ℕ, suc, Bool, true, false, List, [], ◌∷◌, ◌++◌, Option, Some, None, slice_get}
 use Rattle.isle_terms.specs.Values.{ValueTree}
 use Rattle.isle_terms.specs.TypedRules.{TypedExpr, built_var, built_bool, built_int, built_prim, built_term, built_let, TypedExprs}
-use Rattle.isle_terms.specs.TypedRules.{no_built, more_built, TypedBindings, no_bindings, more_bindings, TypedIfLet, TypedRule}
+use Rattle.isle_terms.specs.TypedRules.{no_built, more_built, TypedBindings, no_typed_bindings, more_typed_bindings, TypedIfLet, TypedRule}
 use Rattle.isle_terms.specs.TypedRules.{TypedPattern, typed_bind, typed_var, typed_bool, typed_int, typed_prim, typed_term, typed_wildcard}
 use Rattle.isle_terms.specs.TypedRules.{typed_and, TypedPatterns, no_typed, more_typed}
 use Rattle.isle_meaning.specs.Facts.{TermShape, variant_shape, struct_shape, declared_shape, TermFacts, facts_of}
@@ -97,8 +97,8 @@ abbrev mutual
   ExprsCall facts Q (more_built e es) = ExprCalls facts Q e × ExprsCall facts Q es
 
   pub BindingsCall : TermFacts → (ℕ → Type 0) → TypedBindings → Type 0
-  BindingsCall facts Q no_bindings = Unit {0}
-  BindingsCall facts Q (more_bindings k ty e bs) = ExprCalls facts Q e × BindingsCall facts Q bs
+  BindingsCall facts Q no_typed_bindings = Unit {0}
+  BindingsCall facts Q (more_typed_bindings k ty e bs) = ExprCalls facts Q e × BindingsCall facts Q bs
 
 -- so are the declared terms by which a pattern takes values apart
 abbrev mutual

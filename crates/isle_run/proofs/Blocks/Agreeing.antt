@@ -10,7 +10,7 @@ use Rattle.isle_meaning.proofs.Calls.Meant.{plain_run_meant}
 use Rattle.isle_meaning.proofs.Machine.Agreeing.{answer_meant, meant_deeper}
 use Rattle.isle_meaning.proofs.Machine.Meant.{machine_run_meant}
 use Rattle.isle_meaning.proofs.Machine.Spending.{never_spent}
-use Rattle.isle_run.specs.Blocks.Frames.{term_trees}
+use Rattle.isle_run.specs.TreeCalls.{term_trees}
 use Rattle.isle_run.specs.Facts.Asked.{term_number}
 use Rattle.isle_run.specs.Laws.TreeCalls.{AcyclicCallsAreNotSpent, CallsAgree}
 use Rattle.isle_run.specs.Meanings.{checked, may_run}

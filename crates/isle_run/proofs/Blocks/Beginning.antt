@@ -19,14 +19,14 @@ use Rattle.isle_run.specs.declared.roads.blocks.frame.Frame.{Frame}
 use Rattle.isle_run.specs.declared.roads.blocks.frame.Later.{Later}
 use Rattle.isle_run.specs.declared.roads.blocks.frame.Reply.TheVariants.{Awaited}
 use Rattle.isle_run.specs.declared.roads.blocks.holding.Holding.{Holding}
-use Rattle.isle_run.specs.Blocks.Frames.{BeginsAt, IsGrown, AreLater, CanGoOn, IsFrameOf, CallComes, CallBegins}
-use Rattle.isle_run.specs.Blocks.Frames.{found_in, later_begin, later_go, place_goes, place_begins, returns_in, sites_of_call, steps_begin, steps_go, tree_of_call}
-use Rattle.isle_run.specs.Blocks.Holdings.{StandFor}
-use Rattle.isle_run.specs.Calls.Open.{CallOf}
-use Rattle.isle_run.specs.Calls.Ways.{IsReady}
+use Rattle.isle_run.specs.Inside.Blocks.Frames.{BeginsAt, IsGrown, AreLater, CanGoOn, IsFrameOf, CallComes, CallBegins}
+use Rattle.isle_run.specs.Inside.Blocks.Frames.{found_in, later_begin, later_go, place_goes, place_begins, returns_in, sites_of_call, steps_begin, steps_go, tree_of_call}
+use Rattle.isle_run.specs.Inside.Blocks.Holdings.{StandFor}
+use Rattle.isle_run.specs.Inside.Calls.Open.{CallOf}
+use Rattle.isle_run.specs.Inside.Calls.Ways.{IsReady}
 use Rattle.isle_run.specs.Meanings.{checked, may_run}
 use Rattle.isle_run.specs.Programs.{types_of}
-use Rattle.isle_run.specs.Stores.Values.{StandEach}
+use Rattle.isle_run.specs.Inside.Stores.Values.{StandEach}
 use Rattle.isle_run.specs.Trees.{tree_or_none}
 use Rattle.isle_run.proofs.Blocks.Going.{going_frame}
 

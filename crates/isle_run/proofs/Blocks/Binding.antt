@@ -18,11 +18,11 @@ use Rattle.isle_run.specs.declared.roads.blocks.frame.At.{At}
 use Rattle.isle_run.specs.declared.roads.blocks.frame.At.TheVariants.{Steps as AtSteps, Binds, Opens, Past}
 use Rattle.isle_run.specs.declared.roads.blocks.frame.Later.{Later}
 use Rattle.isle_run.specs.declared.roads.blocks.holding.Holding.{Holding}
-use Rattle.isle_run.specs.Blocks.Frames.{LaterSteps, steps_go, later_go, check_goes, sites_go, place_goes, steps_begin, later_begin, check_begins, sites_begin}
-use Rattle.isle_run.specs.Blocks.Frames.{place_begins, CanGoOn, CanWalk, CanCheck, AreLater, IsNext, next_sites, bindings_then}
-use Rattle.isle_run.specs.Blocks.Frames.{tree_of_call, sites_of_call}
-use Rattle.isle_run.specs.Blocks.Holdings.{StandFor}
-use Rattle.isle_run.specs.Calls.Open.{CallOf}
+use Rattle.isle_run.specs.Inside.Blocks.Frames.{LaterSteps, steps_go, later_go, check_goes, sites_go, place_goes, steps_begin, later_begin, check_begins, sites_begin}
+use Rattle.isle_run.specs.Inside.Blocks.Frames.{place_begins, CanGoOn, CanWalk, CanCheck, AreLater, IsNext, next_sites, bindings_then}
+use Rattle.isle_run.specs.Inside.Blocks.Frames.{tree_of_call, sites_of_call}
+use Rattle.isle_run.specs.Inside.Blocks.Holdings.{StandFor}
+use Rattle.isle_run.specs.Inside.Calls.Open.{CallOf}
 use Rattle.isle_run.specs.Meanings.{checked, may_run}
 
 -- what comes once the next sites are bound

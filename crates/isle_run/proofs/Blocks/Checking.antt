@@ -29,11 +29,11 @@ use Rattle.isle_run.specs.declared.program.Program.{Program}
 use Rattle.isle_run.specs.declared.roads.blocks.frame.At.TheVariants.{Steps as AtSteps}
 use Rattle.isle_run.specs.declared.roads.blocks.frame.Frame.{Frame}
 use Rattle.isle_run.specs.declared.roads.blocks.holding.Holding.{Holding}
-use Rattle.isle_run.specs.Blocks.Frames.{CanWalk, IsChecking, IsFrameOf, IsGoing, IsPassing, LaterSteps}
-use Rattle.isle_run.specs.Blocks.Frames.{begins_below, found_in, later_begin, later_go, may_fail, rows_in, runs_below, sites_of_call, steps_begin, steps_go, tree_of_call}
-use Rattle.isle_run.specs.Blocks.Holdings.{Holds, TellsHeld}
-use Rattle.isle_run.specs.Blocks.Reading.{IsAround}
-use Rattle.isle_run.specs.Calls.Open.{CallOf}
+use Rattle.isle_run.specs.Inside.Blocks.Frames.{CanWalk, IsChecking, IsFrameOf, IsGoing, IsPassing, LaterSteps}
+use Rattle.isle_run.specs.Inside.Blocks.Frames.{begins_below, found_in, later_begin, later_go, may_fail, rows_in, runs_below, sites_of_call, steps_begin, steps_go, tree_of_call}
+use Rattle.isle_run.specs.Inside.Blocks.Holdings.{Holds, TellsHeld}
+use Rattle.isle_run.specs.Inside.Blocks.Reading.{IsAround}
+use Rattle.isle_run.specs.Inside.Calls.Open.{CallOf}
 use Rattle.isle_run.specs.Meanings.{checked}
 use Rattle.isle_run.specs.Programs.{types_of}
 use Rattle.isle_run.specs.Trees.{tree_or_none}

@@ -26,12 +26,12 @@ use Rattle.isle_run.specs.declared.calls.store.Stored.{Stored}
 use Rattle.isle_run.specs.declared.roads.blocks.frame.At.TheVariants.{Past}
 use Rattle.isle_run.specs.declared.roads.blocks.frame.Frame.{Frame}
 use Rattle.isle_run.specs.declared.roads.blocks.holding.Holding.{Holding}
-use Rattle.isle_run.specs.Blocks.Frames.{CallComes, IsChecking, IsFrameOf, may_fail, sites_of_call, tree_of_call, tree_way}
-use Rattle.isle_run.specs.Blocks.Holdings.{Holds, TellsHeld}
-use Rattle.isle_run.specs.Calls.Open.{CallOf}
-use Rattle.isle_run.specs.Calls.Ways.{TurnsTo, UnmatchedIs}
+use Rattle.isle_run.specs.Inside.Blocks.Frames.{CallComes, IsChecking, IsFrameOf, may_fail, sites_of_call, tree_of_call, tree_way}
+use Rattle.isle_run.specs.Inside.Blocks.Holdings.{Holds, TellsHeld}
+use Rattle.isle_run.specs.Inside.Calls.Open.{CallOf}
+use Rattle.isle_run.specs.Inside.Calls.Ways.{TurnsTo, UnmatchedIs}
 use Rattle.isle_run.specs.Meanings.{checked}
-use Rattle.isle_run.specs.Stores.Values.{Stands}
+use Rattle.isle_run.specs.Inside.Stores.Values.{Stands}
 use Rattle.isle_run.proofs.Blocks.Going.{IsGoingAt, frame_unreplied}
 use Rattle.isle_run.proofs.Blocks.Known.{plain_holds, read_of_sort}
 

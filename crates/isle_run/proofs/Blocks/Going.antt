@@ -17,12 +17,12 @@ use Rattle.isle_run.specs.declared.roads.blocks.frame.Later.{Later}
 use Rattle.isle_run.specs.declared.roads.blocks.frame.Reply.{Reply}
 use Rattle.isle_run.specs.declared.roads.blocks.frame.Reply.TheVariants.{Awaited, Given, Missing}
 use Rattle.isle_run.specs.declared.roads.blocks.holding.Holding.{Holding}
-use Rattle.isle_run.specs.Blocks.Frames.{LaterSteps, place_goes}
-use Rattle.isle_run.specs.Blocks.Frames.{place_begins, CanGoOn, AreLater, HasReply, next_sites, IsFrameFor, IsGoing}
-use Rattle.isle_run.specs.Blocks.Frames.{IsFrameOf, bindings_then, tree_of_call, IsAtEnd}
-use Rattle.isle_run.specs.Calls.Open.{CallOf}
+use Rattle.isle_run.specs.Inside.Blocks.Frames.{LaterSteps, place_goes}
+use Rattle.isle_run.specs.Inside.Blocks.Frames.{place_begins, CanGoOn, AreLater, HasReply, next_sites, IsFrameFor, IsGoing}
+use Rattle.isle_run.specs.Inside.Blocks.Frames.{IsFrameOf, bindings_then, tree_of_call, IsAtEnd}
+use Rattle.isle_run.specs.Inside.Calls.Open.{CallOf}
 use Rattle.isle_run.specs.Meanings.{checked, may_run}
-use Rattle.isle_run.specs.Stores.Values.{Extends}
+use Rattle.isle_run.specs.Inside.Stores.Values.{Extends}
 use Rattle.isle_run.proofs.Blocks.Held.{stand_for_longer}
 use Rattle.isle_run.proofs.Stores.Values.{stand_longer}
 

@@ -20,7 +20,7 @@ use Rattle.isle_blocks.specs.Trees.Shown.{BlockShown}
 use Rattle.isle_blocks.specs.Trees.TermTrees.{HaveEachRule, IsTreeOfSet, set_steps}
 use Rattle.isle_blocks.proofs.Trees.TermTrees.Whole.{tree_is_of_term}
 use Rattle.isle_run.specs.declared.program.Program.{Program}
-use Rattle.isle_run.specs.Blocks.Frames.{IsGrown}
+use Rattle.isle_run.specs.Inside.Blocks.Frames.{IsGrown}
 use Rattle.isle_run.specs.Compiled.{IsProgramOf, max_levels, max_nodes}
 use Rattle.isle_run.specs.Facts.Reach.{is_root}
 use Rattle.isle_run.specs.Facts.Steps.{set_of, steps_in, steps_of}

@@ -12,9 +12,9 @@ use Rattle.isle_run.specs.declared.calls.store.Stored.{Stored}
 use Rattle.isle_run.specs.declared.roads.blocks.holding.Content.{Content}
 use Rattle.isle_run.specs.declared.roads.blocks.holding.Content.TheVariants.{Value as ValueContent, Outputs, Nothing}
 use Rattle.isle_run.specs.declared.roads.blocks.holding.Holding.{Holding}
-use Rattle.isle_run.specs.Blocks.Bounds.{held_at}
-use Rattle.isle_run.specs.Blocks.Holdings.{HoldsContent, HoldsIn, Holds, IsHeldBy, StandFor}
-use Rattle.isle_run.specs.Stores.Values.{Stands, StandEach, Extends}
+use Rattle.isle_run.specs.Inside.Blocks.Bounds.{held_at}
+use Rattle.isle_run.specs.Inside.Blocks.Holdings.{HoldsContent, HoldsIn, Holds, IsHeldBy, StandFor}
+use Rattle.isle_run.specs.Inside.Stores.Values.{Stands, StandEach, Extends}
 use Rattle.isle_run.proofs.Stores.Values.{stands_longer, stand_longer, stands_one, stand_one, stands_once, stand_once}
 
 module _ {old new : List Stored} (extends : Extends old new) where

@@ -2,7 +2,7 @@
 use Rattle.std.proofs.Common.{◌≡◌, ℕ, ◌<◌, ◌≤◌, List, [], ◌∷◌, length, Option, Some, None, Result, Ok, Err, OnOk, OnErr, cond, eqb, ◌++◌, reverse, sym, subst, arith, nat_cmp}
 use Rattle.std.specs.BTreeMap.{BTreeMap, Updates, is_at, get}
 use Rattle.std.proofs.lemmas.List.{length-reverse, reverse-append}
-use Rattle.isle_run.specs.Blocks.Bounds.{few, undone, Indexes, at_number, AreIndexed}
+use Rattle.isle_run.specs.Inside.Blocks.Bounds.{few, undone, Indexes, at_number, AreIndexed}
 use Rattle.isle_run.specs.declared.roads.blocks.bound.BoundSite.{BoundSite}
 
 -- a number compares equal to itself, and to no other

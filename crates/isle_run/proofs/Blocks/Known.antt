@@ -18,16 +18,17 @@ use Rattle.isle_meaning.specs.Numbered.{match_some_row, match_tuple_row}
 use Rattle.isle_meaning.specs.Outcomes.{given}
 use Rattle.isle_meaning.specs.Sites.{Site}
 use Rattle.isle_meaning.specs.Sorts.{Sort, plain_sort, tuple_sort, output_sort, sort}
-use Rattle.isle_meaning.specs.TypedWords.{GivesTyped}
+use Rattle.isle_meaning.specs.Inside.TypedWords.{GivesTyped}
 use Rattle.isle_meaning.specs.Values.{Value, Values, int_value, constant_value, made_variant, made_struct, no_values, count, ask}
 use Rattle.isle_meaning.specs.Worlds.{CheckedProgram}
 use Rattle.isle_meaning.proofs.Chains.Growing.{typed_count}
 use Rattle.isle_meaning.proofs.Machine.Meant.{machine_run_meant}
 use Rattle.isle_meaning.proofs.Machine.Rows.{read_typed}
 use Rattle.isle_meaning.proofs.Sites.HeldKinds.{nth_there}
-use Rattle.isle_run.specs.Blocks.Frames.{IsGrown, AreBound, IsGoodEnv, term_trees, sites_of_call, tree_of_call, runs_below}
-use Rattle.isle_run.specs.Calls.Open.{CallOf}
-use Rattle.isle_run.specs.Calls.Ways.{IsReady}
+use Rattle.isle_run.specs.Inside.Blocks.Frames.{IsGrown, AreBound, IsGoodEnv, sites_of_call, tree_of_call, runs_below}
+use Rattle.isle_run.specs.TreeCalls.{term_trees}
+use Rattle.isle_run.specs.Inside.Calls.Open.{CallOf}
+use Rattle.isle_run.specs.Inside.Calls.Ways.{IsReady}
 use Rattle.isle_run.specs.Meanings.{checked, may_run}
 use Rattle.isle_run.proofs.SoundPrograms.Known.{sound_of}
 

@@ -43,14 +43,14 @@ use Rattle.isle_run.specs.declared.roads.blocks.frame.Frame.{Frame}
 use Rattle.isle_run.specs.declared.roads.blocks.frame.Reply.{Reply}
 use Rattle.isle_run.specs.declared.roads.blocks.frame.Reply.TheVariants.{Awaited, Given, Missing}
 use Rattle.isle_run.specs.declared.roads.blocks.holding.Holding.{Holding}
-use Rattle.isle_run.specs.Blocks.Frames.{IsReplied, HasReply}
-use Rattle.isle_run.specs.Blocks.Frames.{rows_in, sites_of_call, tree_of_call, runs_below, begins_below}
-use Rattle.isle_run.specs.Blocks.Holdings.{Holds, TellsHeld, TellsNumber, TellsNumbers}
-use Rattle.isle_run.specs.Blocks.Reading.{IsAround, IsBinding, SiteComes, TellsAnswer, TellsOutcomeOf, CallHolds, IsMadeOf, AsksNothing, BeginsSite, BeginsMade, TellsMade, held_or_missing}
-use Rattle.isle_run.specs.Calls.Host.{TellsValue, TellsOutputs}
-use Rattle.isle_run.specs.Calls.Open.{CallOf}
+use Rattle.isle_run.specs.Inside.Blocks.Frames.{IsReplied, HasReply}
+use Rattle.isle_run.specs.Inside.Blocks.Frames.{rows_in, sites_of_call, tree_of_call, runs_below, begins_below}
+use Rattle.isle_run.specs.Inside.Blocks.Holdings.{Holds, TellsHeld, TellsNumber, TellsNumbers}
+use Rattle.isle_run.specs.Inside.Blocks.Reading.{IsAround, IsBinding, SiteComes, TellsAnswer, TellsOutcomeOf, CallHolds, IsMadeOf, AsksNothing, BeginsSite, BeginsMade, TellsMade, held_or_missing}
+use Rattle.isle_run.specs.Inside.Calls.Host.{TellsValue, TellsOutputs}
+use Rattle.isle_run.specs.Inside.Calls.Open.{CallOf}
 use Rattle.isle_run.specs.Meanings.{checked, may_run}
-use Rattle.isle_run.specs.Stores.Values.{Stands, StandEach}
+use Rattle.isle_run.specs.Inside.Stores.Values.{Stands, StandEach}
 use Rattle.isle_run.specs.Programs.{types_of}
 use Rattle.isle_run.proofs.Blocks.Going.{awaited_none}
 use Rattle.isle_run.proofs.Blocks.Known.{plain_holds, outputs_bound, below_typed, read_holds, read_of_sort}

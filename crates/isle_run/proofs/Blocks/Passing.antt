@@ -9,7 +9,8 @@ use Rattle.isle_meaning.specs.Holds.{Meets}
 use Rattle.isle_meaning.specs.Values.{Value, Values, no_values, more_values, made_variant, made_struct, count}
 use Rattle.isle_run.specs.declared.calls.store.Stored.{Stored}
 use Rattle.isle_run.specs.declared.calls.store.Stored.TheVariants.{Variant, Struct}
-use Rattle.isle_run.specs.Stores.Values.{variant_at, Stands, StandEach}
+use Rattle.isle_run.specs.Inside.Stores.Values.{Stands, StandEach}
+use Rattle.isle_run.specs.Tables.{variant_at}
 use Rattle.isle_run.proofs.Stores.Values.{stands_one, variant_stands, struct_stands}
 
 -- there are as many numbers as values

@@ -4,7 +4,7 @@ use Rattle.std.proofs.lemmas.Bool.{cases_lt, cases_eq}
 use Rattle.std.proofs.lemmas.List.{length-reverse, reverse-append, take-append-drop, get_or_append_left, get_or_at, take_all, length-take}
 use Rattle.std.proofs.lemmas.Grind.{reverse_onto}
 use Rattle.std.specs.BTreeMap.{BTreeMap, get}
-use Rattle.isle_run.specs.Blocks.Bounds.{few, undone, Indexes, place_in, held_at, shown_site, at_number, AreIndexed}
+use Rattle.isle_run.specs.Inside.Blocks.Bounds.{few, undone, Indexes, place_in, held_at, shown_site, at_number, AreIndexed}
 use Rattle.isle_run.specs.declared.roads.blocks.bound.BoundSite.{BoundSite}
 
 -- of one binding and those before it

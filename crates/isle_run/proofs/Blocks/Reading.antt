@@ -16,9 +16,9 @@ use Rattle.isle_run.specs.declared.calls.store.Stored.{Stored}
 use Rattle.isle_run.specs.declared.calls.store.Stored.TheVariants.{Variant, Struct}
 use Rattle.isle_run.specs.declared.roads.blocks.frame.Frame.{Frame}
 use Rattle.isle_run.specs.declared.roads.blocks.holding.Holding.{Holding}
-use Rattle.isle_run.specs.Blocks.Holdings.{Holds, TellsHeld, TellsNumber, TellsNumbers}
-use Rattle.isle_run.specs.Blocks.Reading.{IsAround, IsNodeOf}
-use Rattle.isle_run.specs.Stores.Values.{Stands, StandEach, Extends}
+use Rattle.isle_run.specs.Inside.Blocks.Holdings.{Holds, TellsHeld, TellsNumber, TellsNumbers}
+use Rattle.isle_run.specs.Inside.Blocks.Reading.{IsAround, IsNodeOf}
+use Rattle.isle_run.specs.Inside.Stores.Values.{Stands, StandEach, Extends}
 use Rattle.isle_run.proofs.Blocks.Held.{stand_for_longer}
 use Rattle.isle_run.proofs.Stores.Values.{stand_longer}
 

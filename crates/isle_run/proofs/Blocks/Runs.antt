@@ -17,7 +17,7 @@ use Rattle.isle_meaning.proofs.Machine.Meant.{machine_run_meant}
 use Rattle.isle_meaning.proofs.Machine.One.{machine_runs_are_one}
 use Rattle.isle_meaning.proofs.Machine.Short.{machine_run_short}
 use Rattle.isle_meaning.proofs.Machine.Staying.{machine_runs_stay}
-use Rattle.isle_run.specs.Blocks.Frames.{term_trees}
+use Rattle.isle_run.specs.TreeCalls.{term_trees}
 use Rattle.isle_run.specs.Laws.Runs.{RunsByTreesSaySo, RunsByRulesSaySo, RunsByTreesAreOne, DeeperRunsByTreesAreOne, RunsByRulesAreOne}
 use Rattle.isle_run.specs.Laws.Runs.{DeeperRunsByRulesAreOne}
 use Rattle.isle_run.specs.Meanings.{checked, may_run}

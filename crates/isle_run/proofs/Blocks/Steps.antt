@@ -30,13 +30,13 @@ use Rattle.isle_run.specs.declared.roads.blocks.frame.At.TheVariants.{Steps as A
 use Rattle.isle_run.specs.declared.roads.blocks.frame.Frame.{Frame}
 use Rattle.isle_run.specs.declared.roads.blocks.frame.Later.{Later}
 use Rattle.isle_run.specs.declared.roads.blocks.holding.Holding.{Holding}
-use Rattle.isle_run.specs.Blocks.Frames.{IsGrown, LaterSteps, steps_go, later_go, check_goes, sites_go, steps_begin, later_begin, check_begins, sites_begin}
-use Rattle.isle_run.specs.Blocks.Frames.{CanCheck, IsReturnIn, IsFrameFor, IsFrameOf, CallComes, IsPassing, sites_of_call, tree_of_call, returns_of_call}
-use Rattle.isle_run.specs.Blocks.Frames.{AreLater, bindings_then, found_in, returns_in, rows_in}
-use Rattle.isle_run.specs.Blocks.Holdings.{StandFor}
-use Rattle.isle_run.specs.Stores.Values.{StandEach}
-use Rattle.isle_run.specs.Calls.Open.{CallOf}
-use Rattle.isle_run.specs.Calls.Ways.{IsReady}
+use Rattle.isle_run.specs.Inside.Blocks.Frames.{IsGrown, LaterSteps, steps_go, later_go, check_goes, sites_go, steps_begin, later_begin, check_begins, sites_begin}
+use Rattle.isle_run.specs.Inside.Blocks.Frames.{CanCheck, IsReturnIn, IsFrameFor, IsFrameOf, CallComes, IsPassing, sites_of_call, tree_of_call, returns_of_call}
+use Rattle.isle_run.specs.Inside.Blocks.Frames.{AreLater, bindings_then, found_in, returns_in, rows_in}
+use Rattle.isle_run.specs.Inside.Blocks.Holdings.{StandFor}
+use Rattle.isle_run.specs.Inside.Stores.Values.{StandEach}
+use Rattle.isle_run.specs.Inside.Calls.Open.{CallOf}
+use Rattle.isle_run.specs.Inside.Calls.Ways.{IsReady}
 use Rattle.isle_run.specs.Programs.{types_of}
 use Rattle.isle_run.specs.Trees.{tree_or_none}
 use Rattle.isle_run.proofs.Blocks.Going.{IsGoingAt, going_frame}

@@ -12,9 +12,10 @@ use Rattle.isle_meaning.proofs.Machine.Meant.{machine_run_meant}
 use Rattle.isle_meaning.proofs.Machine.Short.{machine_run_short}
 use Rattle.isle_run.specs.declared.calls.answer.Called.{Called}
 use Rattle.isle_run.specs.declared.program.Program.{Program}
-use Rattle.isle_run.specs.Blocks.Frames.{IsGrown, term_trees}
+use Rattle.isle_run.specs.Inside.Blocks.Frames.{IsGrown}
+use Rattle.isle_run.specs.TreeCalls.{term_trees}
 use Rattle.isle_run.specs.Calls.Answers.{TellsOutcome}
-use Rattle.isle_run.specs.Calls.Ways.{IsReady}
+use Rattle.isle_run.specs.Inside.Calls.Ways.{IsReady}
 use Rattle.isle_run.specs.Meanings.{checked, may_run}
 use Rattle.isle_run.specs.TreeCalls.{TellsByTree, BeginsByTree}
 use Rattle.isle_run.proofs.SoundPrograms.Known.{sound_of}

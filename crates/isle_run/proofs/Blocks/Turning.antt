@@ -41,16 +41,16 @@ use Rattle.isle_run.specs.declared.roads.blocks.frame.Frame.{Frame}
 use Rattle.isle_run.specs.declared.roads.blocks.frame.Reply.{Reply}
 use Rattle.isle_run.specs.declared.roads.blocks.frame.Reply.TheVariants.{Awaited, Given, Missing}
 use Rattle.isle_run.specs.declared.roads.blocks.holding.Holding.{Holding}
-use Rattle.isle_run.specs.Blocks.Frames.{LaterSteps, AreLater, AreBound, IsGoodEnv, IsInOption, TellsReply, IsReplied, HasReply, IsNext, next_sites}
-use Rattle.isle_run.specs.Blocks.Frames.{sites_go, sites_begin, GoesBegin, steps_begin, later_begin, check_begins, CallComes, CallBegins}
-use Rattle.isle_run.specs.Blocks.Frames.{IsFrameOf, IsWaitingFor, runs_below, begins_below, sites_of_call, tree_of_call, tree_way}
-use Rattle.isle_run.specs.Blocks.Holdings.{Holds, StandFor}
-use Rattle.isle_run.specs.Blocks.Reading.{IsBinding, SiteComes, SiteWaits, TellsMade, BeginsMade}
+use Rattle.isle_run.specs.Inside.Blocks.Frames.{LaterSteps, AreLater, AreBound, IsGoodEnv, IsInOption, TellsReply, IsReplied, HasReply, IsNext, next_sites}
+use Rattle.isle_run.specs.Inside.Blocks.Frames.{sites_go, sites_begin, GoesBegin, steps_begin, later_begin, check_begins, CallComes, CallBegins}
+use Rattle.isle_run.specs.Inside.Blocks.Frames.{IsFrameOf, IsWaitingFor, runs_below, begins_below, sites_of_call, tree_of_call, tree_way}
+use Rattle.isle_run.specs.Inside.Blocks.Holdings.{Holds, StandFor}
+use Rattle.isle_run.specs.Inside.Blocks.Reading.{IsBinding, SiteComes, SiteWaits, TellsMade, BeginsMade}
 use Rattle.isle_run.specs.Calls.Answers.{IsCalledOn}
-use Rattle.isle_run.specs.Calls.Open.{CallOf}
-use Rattle.isle_run.specs.Calls.Ways.{TurnsTo}
+use Rattle.isle_run.specs.Inside.Calls.Open.{CallOf}
+use Rattle.isle_run.specs.Inside.Calls.Ways.{TurnsTo}
 use Rattle.isle_run.specs.Meanings.{checked, may_run}
-use Rattle.isle_run.specs.Stores.Values.{Extends}
+use Rattle.isle_run.specs.Inside.Stores.Values.{Extends}
 use Rattle.isle_run.proofs.Blocks.Binding.{behind_sites, behind_sites_begin, sites_there, goes_there, begins_there, next_goes, next_begins, can_bind_next, later_more}
 use Rattle.isle_run.proofs.Blocks.Going.{call_longer, later_longer}
 use Rattle.isle_run.proofs.Blocks.Held.{stand_for_longer, stand_for_set}

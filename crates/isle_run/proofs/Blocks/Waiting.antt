@@ -21,18 +21,19 @@ use Rattle.isle_run.specs.declared.roads.blocks.frame.At.TheVariants.{Steps as A
 use Rattle.isle_run.specs.declared.roads.blocks.frame.Frame.{Frame}
 use Rattle.isle_run.specs.declared.roads.blocks.frame.Reply.{Reply}
 use Rattle.isle_run.specs.declared.roads.blocks.frame.Reply.TheVariants.{Awaited, Given, Missing}
-use Rattle.isle_run.specs.Blocks.Frames.{CallBegins, CallComes, GoesBegin, HasReply, IsFrameOf, IsReplied, IsWaitingFor, LaterSteps, TellsReply}
-use Rattle.isle_run.specs.Blocks.Frames.{begins_below, later_begin, next_sites, place_begins, place_goes, runs_below, sites_begin, sites_go, sites_of_call}
-use Rattle.isle_run.specs.Blocks.Frames.{term_trees, tree_way}
+use Rattle.isle_run.specs.Inside.Blocks.Frames.{CallBegins, CallComes, GoesBegin, HasReply, IsFrameOf, IsReplied, IsWaitingFor, LaterSteps, TellsReply}
+use Rattle.isle_run.specs.Inside.Blocks.Frames.{begins_below, later_begin, next_sites, place_begins, place_goes, runs_below, sites_begin, sites_go, sites_of_call}
+use Rattle.isle_run.specs.Inside.Blocks.Frames.{tree_way}
+use Rattle.isle_run.specs.TreeCalls.{term_trees}
 use Rattle.isle_blocks.specs.Rows.{numbers_of}
 use Rattle.isle_blocks.specs.Trees.Nodes.{fields_of}
 use Rattle.isle_blocks.specs.Trees.Views.{shown_steps}
 use Rattle.isle_meaning.specs.Machine.Runs.{opened}
-use Rattle.isle_run.specs.Blocks.Reading.{BeginsSite, SiteComes}
-use Rattle.isle_run.specs.Calls.Open.{CallOf}
-use Rattle.isle_run.specs.Calls.Ways.{IsWay}
+use Rattle.isle_run.specs.Inside.Blocks.Reading.{BeginsSite, SiteComes}
+use Rattle.isle_run.specs.Inside.Calls.Open.{CallOf}
+use Rattle.isle_run.specs.Inside.Calls.Ways.{IsWay}
 use Rattle.isle_run.specs.Meanings.{checked, may_run}
-use Rattle.isle_run.specs.Stores.Values.{Extends, Stands}
+use Rattle.isle_run.specs.Inside.Stores.Values.{Extends, Stands}
 use Rattle.isle_run.proofs.Blocks.Binding.{behind_sites, behind_sites_begin}
 use Rattle.isle_run.proofs.Blocks.Giving.{at_once}
 use Rattle.isle_run.proofs.Blocks.Known.{below_typed}

@@ -14,9 +14,9 @@ use Rattle.isle_run.specs.declared.calls.store.Stored.{Stored}
 use Rattle.isle_run.specs.declared.roads.blocks.frame.At.{At}
 use Rattle.isle_run.specs.declared.roads.blocks.frame.At.TheVariants.{Steps as AtSteps, Binds, Opens}
 use Rattle.isle_run.specs.declared.roads.blocks.frame.Frame.{Frame}
-use Rattle.isle_run.specs.Blocks.Frames.{CanCheck, CanGoOn, CanWalk, HasReply, IsChecking, IsFrameOf, check_begins, check_goes, later_begin, later_go}
-use Rattle.isle_run.specs.Blocks.Frames.{next_sites, place_begins, place_goes, sites_begin, sites_go, sites_of_call, steps_begin, steps_go}
-use Rattle.isle_run.specs.Calls.Open.{CallOf}
+use Rattle.isle_run.specs.Inside.Blocks.Frames.{CanCheck, CanGoOn, CanWalk, HasReply, IsChecking, IsFrameOf, check_begins, check_goes, later_begin, later_go}
+use Rattle.isle_run.specs.Inside.Blocks.Frames.{next_sites, place_begins, place_goes, sites_begin, sites_go, sites_of_call, steps_begin, steps_go}
+use Rattle.isle_run.specs.Inside.Calls.Open.{CallOf}
 use Rattle.isle_run.proofs.Blocks.Going.{frame_unreplied, going_frame}
 use Rattle.isle_run.proofs.Blocks.Steps.{same_call}
 

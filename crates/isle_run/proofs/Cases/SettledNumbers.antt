@@ -5,7 +5,7 @@ use Rattle.std.specs.Int.{w128}
 use Rattle.std.proofs.lemmas.Int.{fits_signed_from_abs}
 use Rattle.isle_syntax.specs.declared.lexer.Token.TheVariants.{Big as BigToken}
 use Rattle.isle_types.specs.declared.types.IntType.TheVariants.{U128}
-use Rattle.isle_terms.specs.Values.{ValueTree, int_value, big_value, data_value, no_values, more_values}
+use Rattle.isle_terms.specs.Values.{ValueTree, int_tree, big_tree, data_tree, no_trees, more_trees}
 use Rattle.isle_meaning.specs.Facts.{struct_shape}
 use Rattle.isle_meaning.specs.ValueTypes.{ValueFacts, IsOfType, integer_kind, primitive_kind, data_kind}
 use Rattle.isle_run.specs.Values.Settled.{settled, SpellTyped}
@@ -23,27 +23,27 @@ abbrev greatest : ℕ
 greatest = 340282366920938463463374607431768211455
 
 abbrev pair : ValueTree → ValueTree
-pair first = data_value (codes "Pair") (more_values first (more_values (big_value greatest) no_values))
+pair first = data_tree (codes "Pair") (more_trees first (more_trees (big_tree greatest) no_trees))
 
-at_primitive : settled facts (big_value greatest) 0 ≡ int_value (negsuc 0)
+at_primitive : settled facts (big_tree greatest) 0 ≡ int_tree (negsuc 0)
 at_primitive = refl
 
-at_unsigned : settled facts (big_value greatest) 1 ≡ big_value greatest
+at_unsigned : settled facts (big_tree greatest) 1 ≡ big_tree greatest
 at_unsigned = refl
 
 -- as a number from 2^127 on it isn't of a primitive type
-never_big : IsOfType facts (big_value greatest) 0 → ⊥
+never_big : IsOfType facts (big_tree greatest) 0 → ⊥
 never_big h = let e = h.0 in cc
 
-fields : settled facts (pair (big_value greatest)) 2 ≡ pair (int_value (negsuc 0))
+fields : settled facts (pair (big_tree greatest)) 2 ≡ pair (int_tree (negsuc 0))
 fields = refl
 
 -- -1 has 128 bits
 one_fits : FitsSigned w128 (negsuc 0)
 one_fits = fits_signed_from_abs w128 (negsuc 0) (omega arith)
 
-typed : IsOfType facts (pair (int_value (negsuc 0))) 2
+typed : IsOfType facts (pair (int_tree (negsuc 0))) 2
 typed = (0 ∷ 1 ∷ [], refl, (one_fits, ((refl, omega arith, omega arith), tt)))
 
-read : SpellTyped facts (BigToken greatest ∷ []) (int_value (negsuc 0)) 0
-read = (big_value greatest, (tt, refl), refl, one_fits)
+read : SpellTyped facts (BigToken greatest ∷ []) (int_tree (negsuc 0)) 0
+read = (big_tree greatest, (tt, refl), refl, one_fits)

@@ -2,7 +2,7 @@
 use Rattle.std.proofs.Common.{◌≡◌, [], ◌∷◌, pos, true, refl}
 use Rattle.std.specs.Prelude.{codes}
 use Rattle.isle_syntax.specs.declared.lexer.Token.TheVariants.{LParen, RParen, At, Symbol, Int}
-use Rattle.isle_terms.specs.Values.{ValueTree, bool_value, int_value, const_value, data_value, no_values, more_values}
+use Rattle.isle_terms.specs.Values.{ValueTree, bool_tree, int_tree, const_tree, data_tree, no_trees, more_trees}
 use Rattle.isle_run.specs.declared.values.Node.TheVariants.{Int as IntNode, Data}
 use Rattle.isle_run.specs.Values.Nodes.{nodes_of, value_in}
 use Rattle.isle_run.specs.Values.Text.{value_text}
@@ -10,21 +10,21 @@ use Rattle.isle_run.specs.Values.Tokens.{tokens_of}
 use Rattle.isle_run.specs.Values.Lists.{no_items, a_word, a_list, Closes}
 
 abbrev nop : ValueTree
-nop = data_value (codes "Op.Nop") no_values
+nop = data_tree (codes "Op.Nop") no_trees
 
 abbrev sum : ValueTree
-sum = data_value (codes "Op.Add") (more_values (int_value (pos 1)) (more_values nop no_values))
+sum = data_tree (codes "Op.Add") (more_trees (int_tree (pos 1)) (more_trees nop no_trees))
 
 abbrev named : ValueTree
-named = data_value (codes "Op.Add") (more_values (const_value (codes "A")) (more_values nop no_values))
+named = data_tree (codes "Op.Add") (more_trees (const_tree (codes "A")) (more_trees nop no_trees))
 
 text : value_text named ≡ codes "(Op.Add $A (Op.Nop))"
 text = refl
 
-truth : value_text (bool_value true) ≡ codes "true"
+truth : value_text (bool_tree true) ≡ codes "true"
 truth = refl
 
-constant : value_text (const_value (codes "NAME")) ≡ codes "$NAME"
+constant : value_text (const_tree (codes "NAME")) ≡ codes "$NAME"
 constant = refl
 
 tokens : tokens_of sum ≡ LParen ∷ Symbol (codes "Op.Add") ∷ Int (pos 1) ∷ LParen ∷ Symbol (codes "Op.Nop") ∷ RParen ∷ RParen ∷ []

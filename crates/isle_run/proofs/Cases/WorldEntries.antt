@@ -2,7 +2,7 @@
 use Rattle.std.proofs.Common.{◌≡◌, [], ◌∷◌, pos, Some, None, refl}
 use Rattle.std.specs.Prelude.{codes}
 use Rattle.isle_syntax.specs.declared.lexer.Token.TheVariants.{LParen, RParen, Symbol, Int}
-use Rattle.isle_terms.specs.Values.{int_value, no_values, more_values}
+use Rattle.isle_terms.specs.Values.{int_tree, no_trees, more_trees}
 use Rattle.isle_run.specs.declared.worlds.entry.Side.TheVariants.{Constructor, Extractor}
 use Rattle.isle_run.specs.Worlds.Entries.{EntryTree, entry_tokens}
 
@@ -10,19 +10,19 @@ abbrev of_one : EntryTree
 of_one = record {
   side = Constructor;
   term = codes "emit";
-  call = Some (more_values (int_value (pos 1)) no_values);
-  answer = Some (more_values (int_value (pos 2)) no_values);
+  call = Some (more_trees (int_tree (pos 1)) no_trees);
+  answer = Some (more_trees (int_tree (pos 2)) no_trees);
 }
 
 abbrev of_others : EntryTree
-of_others = record { side = Constructor; term = codes "emit"; call = None; answer = Some (more_values (int_value (pos 0)) no_values) }
+of_others = record { side = Constructor; term = codes "emit"; call = None; answer = Some (more_trees (int_tree (pos 0)) no_trees) }
 
 abbrev taken_apart : EntryTree
 taken_apart = record {
   side = Extractor;
   term = codes "add";
-  call = Some (more_values (int_value (pos 1)) no_values);
-  answer = Some (more_values (int_value (pos 2)) (more_values (int_value (pos 3)) no_values));
+  call = Some (more_trees (int_tree (pos 1)) no_trees);
+  answer = Some (more_trees (int_tree (pos 2)) (more_trees (int_tree (pos 3)) no_trees));
 }
 
 of_a_call : entry_tokens of_one

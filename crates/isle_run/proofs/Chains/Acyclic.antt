@@ -9,7 +9,7 @@ use Rattle.std.proofs.lemmas.Map.Views.{Contains-from_any}
 use Rattle.std.proofs.lemmas.Option.{none-some, same_Some, slice_get_within, get_or_from_slice_get}
 use Rattle.isle_types.specs.TypeTables.{TypeTables}
 use Rattle.isle_terms.specs.TypedRules.{TypedExpr, built_var, built_bool, built_int, built_prim, built_term, built_let, TypedExprs}
-use Rattle.isle_terms.specs.TypedRules.{no_built, more_built, TypedBindings, no_bindings, more_bindings, TypedRule}
+use Rattle.isle_terms.specs.TypedRules.{no_built, more_built, TypedBindings, no_typed_bindings, more_typed_bindings, TypedRule}
 use Rattle.isle_terms.specs.declared.rules.IfLet.{IfLet}
 use Rattle.isle_terms.specs.declared.rules.Rule.{Rule}
 use Rattle.isle_terms.specs.Shown.ShownRules.{built_shown, iflet_shown}
@@ -57,10 +57,10 @@ mutual
   called_made_all facts (more_built e es) u (inr h) = Contains-append_right (terms_in e) (terms_in_all es) u (called_made_all facts es u h)
 
   called_made_bound : (facts : TermFacts) (bs : TypedBindings) (u : ℕ) → IsCalledInBindings facts bs u → Contains (terms_in_bound bs) u
-  called_made_bound facts no_bindings u h = absurd h
-  called_made_bound facts (more_bindings k ty e bs) u (inl h) =
+  called_made_bound facts no_typed_bindings u h = absurd h
+  called_made_bound facts (more_typed_bindings k ty e bs) u (inl h) =
       Contains-append_left (terms_in e) (terms_in_bound bs) u (called_made facts e u h)
-  called_made_bound facts (more_bindings k ty e bs) u (inr h) =
+  called_made_bound facts (more_typed_bindings k ty e bs) u (inr h) =
       Contains-append_right (terms_in e) (terms_in_bound bs) u (called_made_bound facts bs u h)
 
 -- so are those of if-lets
@@ -75,7 +75,7 @@ called_made_iflets facts names (x ∷ xs) u (inr h) =
 
 module _ (tyenv : TypeTables) (env : TermTables) where
   -- what a rule calls, its term makes values by
-  calls_make : (from to : ℕ) → Calls (checked_by tyenv env) from to → tables.Makes tyenv env from to
+  calls_make : (from to : ℕ) → Calls (checked_by tyenv env) from to → tables.MakesValues tyenv env from to
   calls_make from to h =
       let (rule, there, shown) = mapped (rule_shown tyenv.names) env.rules (h.place) (h.rule) (h.at.listed) in
       record {

@@ -24,7 +24,7 @@ use Rattle.isle_meaning.specs.Worlds.{CheckedProgram, Answers}
 use Rattle.isle_meaning.specs.Calls.{Agrees, CoversAll, Means}
 use Rattle.isle_meaning.specs.SoundPrograms.{IsSound}
 use Rattle.isle_terms.proofs.Sound.RuleTypes.{rules_typed}
-use Rattle.isle_blocks.specs.RivalLists.{is_multi_kind, is_multi_in}
+use Rattle.isle_terms.specs.Shown.TermTables.{is_multi_kind, is_multi_in}
 use Rattle.isle_blocks.specs.RuleFaults.{AreFaultless, MayMatch}
 use Rattle.isle_run.specs.declared.program.Program.{Program}
 use Rattle.isle_meaning.specs.Laws.Calls.{HasNoOverlaps, HasNoTies, CallsOnly, FailsWherePartial, ExprCalls, Surely}

@@ -27,8 +27,8 @@ use Rattle.isle_terms.specs.Definitions.{declared_by, IsDeclaration, IsTypeNumbe
 use Rattle.isle_terms.specs.Elaboration.{type_named}
 use Rattle.isle_terms.specs.Signatures.{Signature, Declared, variant_form, struct_form}
 use Rattle.isle_terms.specs.Shown.ShownTerms.{numbers_of}
-use Rattle.isle_terms.specs.Values.{ValueTree, ValueTrees, bool_value as bool_tree, int_value as int_tree, opaque_value as opaque_tree}
-use Rattle.isle_terms.specs.Values.{data_value as data_tree, no_values as no_trees, more_values as more_trees}
+use Rattle.isle_terms.specs.Values.{ValueTree, ValueTrees, bool_tree, int_tree, opaque_tree}
+use Rattle.isle_terms.specs.Values.{data_tree, no_trees, more_trees}
 use Rattle.isle_meaning.specs.Facts.{TermFacts, TermShape, variant_shape, struct_shape, no_term, shape_of_form, never_fails}
 use Rattle.isle_meaning.specs.GroundValues.{value_of, values_of}
 use Rattle.isle_meaning.specs.ValueTypes.{IsIntOf, IsOfType, AreOfTypes}

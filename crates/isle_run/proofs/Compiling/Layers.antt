@@ -27,7 +27,7 @@ use Rattle.isle_blocks.specs.Trees.Shown.{BlockShown}
 use Rattle.isle_run.specs.declared.program.Program.{Program}
 use Rattle.isle_run.specs.Programs.{types_of, terms_of, rule_sets_of, set_trees_of}
 use Rattle.isle_run.specs.Trees.{AreSetTrees}
-use Rattle.isle_run.specs.ShownFiles.{ShowFiles}
+use Rattle.isle_run.specs.Inside.ShownFiles.{ShowFiles}
 use Rattle.isle_run.specs.Compiled.{AreSpelt, AreTyped, AreTypedFiles, AreAccepted, IsProgramOf, IsFirstFault, AreFaults, of_a_text, of_types}
 use Rattle.isle_run.specs.Compiled.{of_terms, of_rules, max_levels, max_nodes}
 use Rattle.isle_blocks.proofs.FewArguments.{few_arguments}

@@ -1,7 +1,7 @@
 -- Values of which each node can be held can be held.
 use Rattle.std.proofs.Common.{◌≡◌, ◌≤◌, ◌<◌, ◌+◌, ◌++◌, ℕ, List, [], ◌∷◌, length, take, get_or, sym, ◌∙◌, ap, subst, append_assoc}
 use Rattle.std.proofs.lemmas.List.{append-nil, take_more, take_all}
-use Rattle.isle_terms.specs.Values.{ValueTree, ValueTrees, bool_value, int_value, big_value, const_value, opaque_value, data_value, no_values, more_values}
+use Rattle.isle_terms.specs.Values.{ValueTree, ValueTrees, bool_tree, int_tree, big_tree, const_tree, opaque_tree, data_tree, no_trees, more_trees}
 use Rattle.isle_run.specs.declared.values.Node.{Node}
 use Rattle.isle_run.specs.Values.Held.{IsHeld, AreHeld, IsHeldNode}
 use Rattle.isle_run.specs.Values.Nodes.{nodes_of, nodes_all}
@@ -22,16 +22,16 @@ held_next nodes at node within is each held =
 
 mutual
   held_first : (v : ValueTree) (rest : List Node) → EachHeld (nodes_of v ++ rest) → IsHeld v × EachHeld rest
-  held_first (bool_value b) rest each = each
-  held_first (int_value n) rest each = each
-  held_first (big_value n) rest each = each
-  held_first (const_value name) rest each = each
-  held_first (opaque_value n) rest each = each
-  held_first (data_value name vs) rest each = let (fields, more) = all_first vs rest each.1 in ((each.0, fields), more)
+  held_first (bool_tree b) rest each = each
+  held_first (int_tree n) rest each = each
+  held_first (big_tree n) rest each = each
+  held_first (const_tree name) rest each = each
+  held_first (opaque_tree n) rest each = each
+  held_first (data_tree name vs) rest each = let (fields, more) = all_first vs rest each.1 in ((each.0, fields), more)
 
   all_first : (vs : ValueTrees) (rest : List Node) → EachHeld (nodes_all vs ++ rest) → AreHeld vs × EachHeld rest
-  all_first no_values rest each = (tt, each)
-  all_first (more_values v vs) rest each =
+  all_first no_trees rest each = (tt, each)
+  all_first (more_trees v vs) rest each =
       let (first, others) = held_first v (nodes_all vs ++ rest) (subst EachHeld (append_assoc (nodes_of v) (nodes_all vs) rest) each) in
       let (later, more) = all_first vs rest others in ((first, later), more)
 

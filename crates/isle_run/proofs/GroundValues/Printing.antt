@@ -2,7 +2,7 @@
 use Rattle.std.proofs.Common.{◌≡◌, ◌<◌, ◌≤◌, ◌+◌, ◌++◌, ◌⊎◌, inl, inr, ℕ, zero, suc, List, [], ◌∷◌, length, drop, refl, sym, ◌∙◌, ap, subst, arith, append_assoc}
 use Rattle.std.specs.Prelude.{codes}
 use Rattle.std.proofs.lemmas.List.{append-nil, length-append, length-drop}
-use Rattle.isle_terms.specs.Values.{ValueTree, ValueTrees, bool_value, int_value, big_value, const_value, opaque_value, data_value, no_values, more_values}
+use Rattle.isle_terms.specs.Values.{ValueTree, ValueTrees, bool_tree, int_tree, big_tree, const_tree, opaque_tree, data_tree, no_trees, more_trees}
 use Rattle.isle_run.specs.declared.values.Node.{Node}
 use Rattle.isle_run.specs.declared.values.Node.TheVariants.{Bool, Int, Big, Const, Opaque, Data}
 use Rattle.isle_run.specs.Values.Nodes.{size_of, sizes_of, count_of, nodes_of, nodes_all, nodes_below}
@@ -31,16 +31,16 @@ pub record IsWriting (nodes : List Node) (whole : List ℕ) (at : ℕ) (levels :
 
 -- the innermost level has a value left
 abbrev pub HasNext : List ValueTrees → Type 0
-HasNext levels = (levels ≡ []) ⊎ ((v : ValueTree) × (vs : ValueTrees) × (outer : List ValueTrees) × (levels ≡ more_values v vs ∷ outer))
+HasNext levels = (levels ≡ []) ⊎ ((v : ValueTree) × (vs : ValueTrees) × (outer : List ValueTrees) × (levels ≡ more_trees v vs ∷ outer))
 
 -- each value has a node
 pub some_size : (v : ValueTree) → 0 < size_of v
-some_size (bool_value b) = omega arith
-some_size (int_value n) = omega arith
-some_size (big_value n) = omega arith
-some_size (const_value name) = omega arith
-some_size (opaque_value n) = omega arith
-some_size (data_value name vs) = omega arith
+some_size (bool_tree b) = omega arith
+some_size (int_tree n) = omega arith
+some_size (big_tree n) = omega arith
+some_size (const_tree name) = omega arith
+some_size (opaque_tree n) = omega arith
+some_size (data_tree name vs) = omega arith
 
 pub no_last : {X : Type 0} (xs : List X) (x : X) → xs ++ x ∷ [] ≡ [] → ⊥
 no_last [] x e = absurd cc
@@ -77,22 +77,22 @@ open_none (level_open vs below) e = absurd cc
 pub closed : (nodes : List Node) (whole : List ℕ) (at : ℕ) {ends rest text_closed : List ℕ} → Closes at ends rest text_closed → (levels : List ValueTrees) (text : List ℕ)
     → IsWriting nodes whole at levels ends text → (left : List ValueTrees) × IsWriting nodes whole at left rest (text ++ text_closed) × HasNext left
 closed nodes whole at (none_ends {ends = ends} never) [] text w = ([], subst (λ t. IsWriting nodes whole at [] ends t) (sym (append-nil text)) w, inl refl)
-closed nodes whole at (none_ends {ends = ends} never) (no_values ∷ outer) text w =
-    let inner = innermost no_values outer w.ends_at in
+closed nodes whole at (none_ends {ends = ends} never) (no_trees ∷ outer) text w =
+    let inner = innermost no_trees outer w.ends_at in
     absurd (never inner.others (inner.ends_are ∙ ap (λ n. inner.others ++ n ∷ []) (let e : at + 0 ≡ at = omega arith in e)))
-closed nodes whole at (none_ends {ends = ends} never) (more_values v vs ∷ outer) text w =
-    (more_values v vs ∷ outer, subst (λ t. IsWriting nodes whole at (more_values v vs ∷ outer) ends t) (sym (append-nil text)) w, inr (v, vs, outer, refl))
+closed nodes whole at (none_ends {ends = ends} never) (more_trees v vs ∷ outer) text w =
+    (more_trees v vs ∷ outer, subst (λ t. IsWriting nodes whole at (more_trees v vs ∷ outer) ends t) (sym (append-nil text)) w, inr (v, vs, outer, refl))
 closed nodes whole at (one_ends {ends = ends} {closed = more} closes) [] text w = absurd (no_last ends at (open_none w.ends_at refl))
-closed nodes whole at (one_ends {ends = ends} {rest = rest} {closed = more} closes) (no_values ∷ outer) text w =
-    let inner = innermost no_values outer w.ends_at in
+closed nodes whole at (one_ends {ends = ends} {rest = rest} {closed = more} closes) (no_trees ∷ outer) text w =
+    let inner = innermost no_trees outer w.ends_at in
     let (same, last) = same_last ends inner.others at (at + 0) inner.ends_are in
     let here : AreOpen at outer ends =
     subst (λ n. AreOpen n outer ends) (let e : at + 0 ≡ at = omega arith in e) (subst (λ l. AreOpen (at + 0) outer l) (sym same) inner.before) in
     let (left, writing, next) = closed nodes whole at closes outer (text ++ codes ")")
     (record { rest = w.rest; ends_at = here; spelt = append_assoc text (codes ")") (rest_text outer) ∙ w.spelt }) in
     (left, subst (λ t. IsWriting nodes whole at left rest t) (append_assoc text (codes ")") more) writing, next)
-closed nodes whole at (one_ends {ends = ends} closes) (more_values v vs ∷ outer) text w =
-    let inner = innermost (more_values v vs) outer w.ends_at in
+closed nodes whole at (one_ends {ends = ends} closes) (more_trees v vs ∷ outer) text w =
+    let inner = innermost (more_trees v vs) outer w.ends_at in
     let (same, last) = same_last ends inner.others at (at + (size_of v + sizes_of vs)) inner.ends_are in
     absurd (let some = some_size v in omega (arith, last, some))
 
@@ -112,10 +112,10 @@ data_behind a s o n f p v r = simp append_assoc refl
 module _ (nodes : List Node) (whole : List ℕ) (at : ℕ) (vs : ValueTrees) (outer : List ValueTrees) (ends text : List ℕ) where
   -- a leaf is written behind a space
   leaf : (v : ValueTree) (node : Node) → nodes_of v ≡ node ∷ [] → value_text v ≡ node_text node → end_of (suc at) node ≡ [] → size_of v ≡ 1
-      → IsWriting nodes whole at (more_values v vs ∷ outer) ends text
+      → IsWriting nodes whole at (more_trees v vs ∷ outer) ends text
       → IsWriting nodes whole (suc at) (vs ∷ outer) (ends ++ end_of (suc at) node) ((text ++ codes " ") ++ node_text node)
   leaf v node is text_is ends_not one w =
-      let inner = innermost (more_values v vs) outer w.ends_at in
+      let inner = innermost (more_trees v vs) outer w.ends_at in
       let next : at + (size_of v + sizes_of vs) ≡ suc at + sizes_of vs = omega (arith, one) in
       let ends_are : ends ++ end_of (suc at) node ≡ inner.others ++ (suc at + sizes_of vs) ∷ [] =
       ap (λ l. ends ++ l) ends_not ∙ append-nil ends ∙ inner.ends_are ∙ ap (λ n. inner.others ++ n ∷ []) next in
@@ -127,10 +127,10 @@ module _ (nodes : List Node) (whole : List ℕ) (at : ℕ) (vs : ValueTrees) (ou
       }
 
   -- the name of data is written behind a space, and its fields are still to be written
-  begun : (name : List ℕ) (fs : ValueTrees) → IsWriting nodes whole at (more_values (data_value name fs) vs ∷ outer) ends text
+  begun : (name : List ℕ) (fs : ValueTrees) → IsWriting nodes whole at (more_trees (data_tree name fs) vs ∷ outer) ends text
       → IsWriting nodes whole (suc at) (fs ∷ vs ∷ outer) (ends ++ (suc at + sizes_of fs) ∷ []) ((text ++ codes " ") ++ (codes "(" ++ name))
   begun name fs w =
-      let inner = innermost (more_values (data_value name fs) vs) outer w.ends_at in
+      let inner = innermost (more_trees (data_tree name fs) vs) outer w.ends_at in
       let next : at + (suc (sizes_of fs) + sizes_of vs) ≡ (suc at + sizes_of fs) + sizes_of vs = omega arith in
       let below : AreOpen (suc at + sizes_of fs) (vs ∷ outer) ends =
       subst (λ l. AreOpen (suc at + sizes_of fs) (vs ∷ outer) l) (sym (inner.ends_are ∙ ap (λ n. inner.others ++ n ∷ []) next))
@@ -146,51 +146,51 @@ module _ (nodes : List Node) (whole : List ℕ) (at : ℕ) (vs : ValueTrees) (ou
   head_is v node other rest more e f = let both : other ∷ more ≡ node ∷ rest = sym f ∙ e in let same : other ≡ node = cc in same
 
   -- the next value begins
-  pub written : (v : ValueTree) (node : Node) (rest : List Node) → drop at nodes ≡ node ∷ rest → IsWriting nodes whole at (more_values v vs ∷ outer) ends text
+  pub written : (v : ValueTree) (node : Node) (rest : List Node) → drop at nodes ≡ node ∷ rest → IsWriting nodes whole at (more_trees v vs ∷ outer) ends text
       → (levels : List ValueTrees) × IsWriting nodes whole (suc at) levels (ends ++ end_of (suc at) node) ((text ++ codes " ") ++ node_text node)
-  written (bool_value b) node rest e w =
+  written (bool_tree b) node rest e w =
       subst (λ n. (levels : List ValueTrees) × IsWriting nodes whole (suc at) levels (ends ++ end_of (suc at) n) ((text ++ codes " ") ++ node_text n))
-      (head_is (bool_value b) node (Bool b) rest (nodes_all vs ++ rest_nodes outer) e w.rest) (vs ∷ outer, leaf (bool_value b) (Bool b) refl refl refl refl w)
-  written (int_value n) node rest e w =
+      (head_is (bool_tree b) node (Bool b) rest (nodes_all vs ++ rest_nodes outer) e w.rest) (vs ∷ outer, leaf (bool_tree b) (Bool b) refl refl refl refl w)
+  written (int_tree n) node rest e w =
       subst (λ n. (levels : List ValueTrees) × IsWriting nodes whole (suc at) levels (ends ++ end_of (suc at) n) ((text ++ codes " ") ++ node_text n))
-      (head_is (int_value n) node (Int n) rest (nodes_all vs ++ rest_nodes outer) e w.rest) (vs ∷ outer, leaf (int_value n) (Int n) refl refl refl refl w)
-  written (big_value n) node rest e w =
+      (head_is (int_tree n) node (Int n) rest (nodes_all vs ++ rest_nodes outer) e w.rest) (vs ∷ outer, leaf (int_tree n) (Int n) refl refl refl refl w)
+  written (big_tree n) node rest e w =
       subst (λ n. (levels : List ValueTrees) × IsWriting nodes whole (suc at) levels (ends ++ end_of (suc at) n) ((text ++ codes " ") ++ node_text n))
-      (head_is (big_value n) node (Big n) rest (nodes_all vs ++ rest_nodes outer) e w.rest) (vs ∷ outer, leaf (big_value n) (Big n) refl refl refl refl w)
-  written (const_value name) node rest e w =
+      (head_is (big_tree n) node (Big n) rest (nodes_all vs ++ rest_nodes outer) e w.rest) (vs ∷ outer, leaf (big_tree n) (Big n) refl refl refl refl w)
+  written (const_tree name) node rest e w =
       subst (λ n. (levels : List ValueTrees) × IsWriting nodes whole (suc at) levels (ends ++ end_of (suc at) n) ((text ++ codes " ") ++ node_text n))
-      (head_is (const_value name) node (Const name) rest (nodes_all vs ++ rest_nodes outer) e w.rest)
-      (vs ∷ outer, leaf (const_value name) (Const name) refl refl refl refl w)
-  written (opaque_value n) node rest e w =
+      (head_is (const_tree name) node (Const name) rest (nodes_all vs ++ rest_nodes outer) e w.rest)
+      (vs ∷ outer, leaf (const_tree name) (Const name) refl refl refl refl w)
+  written (opaque_tree n) node rest e w =
       subst (λ n. (levels : List ValueTrees) × IsWriting nodes whole (suc at) levels (ends ++ end_of (suc at) n) ((text ++ codes " ") ++ node_text n))
-      (head_is (opaque_value n) node (Opaque n) rest (nodes_all vs ++ rest_nodes outer) e w.rest)
-      (vs ∷ outer, leaf (opaque_value n) (Opaque n) refl refl refl refl w)
-  written (data_value name fs) node rest e w =
+      (head_is (opaque_tree n) node (Opaque n) rest (nodes_all vs ++ rest_nodes outer) e w.rest)
+      (vs ∷ outer, leaf (opaque_tree n) (Opaque n) refl refl refl refl w)
+  written (data_tree name fs) node rest e w =
       subst (λ n. (levels : List ValueTrees) × IsWriting nodes whole (suc at) levels (ends ++ end_of (suc at) n) ((text ++ codes " ") ++ node_text n))
-      (head_is (data_value name fs) node (Data name (count_of fs) (sizes_of fs)) rest ((nodes_all fs ++ nodes_all vs) ++ rest_nodes outer) e w.rest)
+      (head_is (data_tree name fs) node (Data name (count_of fs) (sizes_of fs)) rest ((nodes_all fs ++ nodes_all vs) ++ rest_nodes outer) e w.rest)
       (fs ∷ vs ∷ outer, begun name fs w)
 
 -- how many nodes there are
 mutual
   pub sized : (v : ValueTree) → length (nodes_of v) ≡ size_of v
-  sized (bool_value b) = refl
-  sized (int_value n) = refl
-  sized (big_value n) = refl
-  sized (const_value name) = refl
-  sized (opaque_value n) = refl
-  sized (data_value name vs) = ap suc (sized_all vs)
+  sized (bool_tree b) = refl
+  sized (int_tree n) = refl
+  sized (big_tree n) = refl
+  sized (const_tree name) = refl
+  sized (opaque_tree n) = refl
+  sized (data_tree name vs) = ap suc (sized_all vs)
 
   pub sized_all : (vs : ValueTrees) → length (nodes_all vs) ≡ sizes_of vs
-  sized_all no_values = refl
-  sized_all (more_values v vs) = let p = sized v in let q = sized_all vs in let l = length-append (nodes_of v) (nodes_all vs) in omega (arith, p, q, l)
+  sized_all no_trees = refl
+  sized_all (more_trees v vs) = let p = sized v in let q = sized_all vs in let l = length-append (nodes_of v) (nodes_all vs) in omega (arith, p, q, l)
 
 below_of : (v : ValueTree) (node : Node) (rest more : List Node) → nodes_of v ++ more ≡ node ∷ rest → suc (nodes_below node) ≡ size_of v
-below_of (bool_value b) node rest more e = let same : Bool b ≡ node = cc in ap (λ n. suc (nodes_below n)) (sym same)
-below_of (int_value i) node rest more e = let same : Int i ≡ node = cc in ap (λ n. suc (nodes_below n)) (sym same)
-below_of (big_value i) node rest more e = let same : Big i ≡ node = cc in ap (λ n. suc (nodes_below n)) (sym same)
-below_of (const_value name) node rest more e = let same : Const name ≡ node = cc in ap (λ n. suc (nodes_below n)) (sym same)
-below_of (opaque_value i) node rest more e = let same : Opaque i ≡ node = cc in ap (λ n. suc (nodes_below n)) (sym same)
-below_of (data_value name vs) node rest more e =
+below_of (bool_tree b) node rest more e = let same : Bool b ≡ node = cc in ap (λ n. suc (nodes_below n)) (sym same)
+below_of (int_tree i) node rest more e = let same : Int i ≡ node = cc in ap (λ n. suc (nodes_below n)) (sym same)
+below_of (big_tree i) node rest more e = let same : Big i ≡ node = cc in ap (λ n. suc (nodes_below n)) (sym same)
+below_of (const_tree name) node rest more e = let same : Const name ≡ node = cc in ap (λ n. suc (nodes_below n)) (sym same)
+below_of (opaque_tree i) node rest more e = let same : Opaque i ≡ node = cc in ap (λ n. suc (nodes_below n)) (sym same)
+below_of (data_tree name vs) node rest more e =
     let same : Data name (count_of vs) (sizes_of vs) ≡ node = cc in ap (λ n. suc (nodes_below n)) (sym same)
 
 -- what is written of a value: nothing yet, or up to a node
@@ -230,23 +230,23 @@ below_within v nodes {at = at} so_far node rest within e =
 -- the first node
 rooted : (v : ValueTree) (node : Node) (rest : List Node) → nodes_of v ≡ node ∷ rest
     → (levels : List ValueTrees) × IsWriting (nodes_of v) (value_text v) 1 levels ([] ++ end_of 1 node) ([] ++ node_text node)
-rooted (bool_value b) node rest e =
-    subst (λ n. (levels : List ValueTrees) × IsWriting (Bool b ∷ []) (value_text (bool_value b)) 1 levels ([] ++ end_of 1 n) ([] ++ node_text n))
+rooted (bool_tree b) node rest e =
+    subst (λ n. (levels : List ValueTrees) × IsWriting (Bool b ∷ []) (value_text (bool_tree b)) 1 levels ([] ++ end_of 1 n) ([] ++ node_text n))
     (let same : Bool b ≡ node = cc in same) ([], record { rest = refl; ends_at = nothing_open; spelt = append-nil (node_text (Bool b)) })
-rooted (int_value i) node rest e =
-    subst (λ n. (levels : List ValueTrees) × IsWriting (Int i ∷ []) (value_text (int_value i)) 1 levels ([] ++ end_of 1 n) ([] ++ node_text n))
+rooted (int_tree i) node rest e =
+    subst (λ n. (levels : List ValueTrees) × IsWriting (Int i ∷ []) (value_text (int_tree i)) 1 levels ([] ++ end_of 1 n) ([] ++ node_text n))
     (let same : Int i ≡ node = cc in same) ([], record { rest = refl; ends_at = nothing_open; spelt = append-nil (node_text (Int i)) })
-rooted (big_value i) node rest e =
-    subst (λ n. (levels : List ValueTrees) × IsWriting (Big i ∷ []) (value_text (big_value i)) 1 levels ([] ++ end_of 1 n) ([] ++ node_text n))
+rooted (big_tree i) node rest e =
+    subst (λ n. (levels : List ValueTrees) × IsWriting (Big i ∷ []) (value_text (big_tree i)) 1 levels ([] ++ end_of 1 n) ([] ++ node_text n))
     (let same : Big i ≡ node = cc in same) ([], record { rest = refl; ends_at = nothing_open; spelt = append-nil (node_text (Big i)) })
-rooted (const_value name) node rest e =
-    subst (λ n. (levels : List ValueTrees) × IsWriting (Const name ∷ []) (value_text (const_value name)) 1 levels ([] ++ end_of 1 n) ([] ++ node_text n))
+rooted (const_tree name) node rest e =
+    subst (λ n. (levels : List ValueTrees) × IsWriting (Const name ∷ []) (value_text (const_tree name)) 1 levels ([] ++ end_of 1 n) ([] ++ node_text n))
     (let same : Const name ≡ node = cc in same) ([], record { rest = refl; ends_at = nothing_open; spelt = append-nil (node_text (Const name)) })
-rooted (opaque_value i) node rest e =
-    subst (λ n. (levels : List ValueTrees) × IsWriting (Opaque i ∷ []) (value_text (opaque_value i)) 1 levels ([] ++ end_of 1 n) ([] ++ node_text n))
+rooted (opaque_tree i) node rest e =
+    subst (λ n. (levels : List ValueTrees) × IsWriting (Opaque i ∷ []) (value_text (opaque_tree i)) 1 levels ([] ++ end_of 1 n) ([] ++ node_text n))
     (let same : Opaque i ≡ node = cc in same) ([], record { rest = refl; ends_at = nothing_open; spelt = append-nil (node_text (Opaque i)) })
-rooted (data_value name vs) node rest e =
-    subst (λ n. (levels : List ValueTrees) × IsWriting (nodes_of (data_value name vs)) (value_text (data_value name vs)) 1 levels ([] ++ end_of 1 n) ([] ++ node_text n))
+rooted (data_tree name vs) node rest e =
+    subst (λ n. (levels : List ValueTrees) × IsWriting (nodes_of (data_tree name vs)) (value_text (data_tree name vs)) 1 levels ([] ++ end_of 1 n) ([] ++ node_text n))
     (let same : Data name (count_of vs) (sizes_of vs) ≡ node = cc in same) (
       vs ∷ [],
       record {

@@ -4,7 +4,7 @@ use Rattle.isle_syntax.specs.declared.lexer.Token.{Token}
 use Rattle.isle_syntax.specs.declared.lexer.Token.TheVariants.{LParen, RParen, Symbol}
 use Rattle.isle_syntax.proofs.Tokens.Findings.{tokens_same}
 use Rattle.isle_types.specs.declared.ids.TermId.{TermId}
-use Rattle.isle_terms.specs.Values.{ValueTree, ValueTrees, bool_value, int_value, big_value, const_value, opaque_value, data_value, no_values, more_values}
+use Rattle.isle_terms.specs.Values.{ValueTree, ValueTrees, bool_tree, int_tree, big_tree, const_tree, opaque_tree, data_tree, no_trees, more_trees}
 use Rattle.isle_meaning.specs.ValueTypes.{AreOfTypes}
 use Rattle.isle_run.specs.declared.program.Program.{Program}
 use Rattle.isle_run.specs.declared.query.QueryFault.{QueryFault}
@@ -58,16 +58,16 @@ joined first second (a_list {inner} {items} within rest) more =
 -- the tokens of values are items
 mutual
   value_items : (v : ValueTree) → AreItems (tokens_of v)
-  value_items (bool_value b) = a_word _ tt no_items
-  value_items (int_value n) = a_word _ tt no_items
-  value_items (big_value n) = a_word _ tt no_items
-  value_items (const_value name) = a_word _ tt no_items
-  value_items (opaque_value n) = a_word _ tt no_items
-  value_items (data_value name fields) = a_list (a_word (Symbol name) tt (all_items fields)) no_items
+  value_items (bool_tree b) = a_word _ tt no_items
+  value_items (int_tree n) = a_word _ tt no_items
+  value_items (big_tree n) = a_word _ tt no_items
+  value_items (const_tree name) = a_word _ tt no_items
+  value_items (opaque_tree n) = a_word _ tt no_items
+  value_items (data_tree name fields) = a_list (a_word (Symbol name) tt (all_items fields)) no_items
 
   all_items : (vs : ValueTrees) → AreItems (tokens_all vs)
-  all_items no_values = no_items
-  all_items (more_values v vs) = joined (tokens_of v) (tokens_all vs) (value_items v) (all_items vs)
+  all_items no_trees = no_items
+  all_items (more_trees v vs) = joined (tokens_of v) (tokens_all vs) (value_items v) (all_items vs)
 
 -- the tokens of a call are a list
 call_list : (name : List ℕ) (args : ValueTrees) → IsListOf (LParen ∷ Symbol name ∷ (tokens_all args ++ RParen ∷ [])) name (tokens_all args ++ RParen ∷ [])

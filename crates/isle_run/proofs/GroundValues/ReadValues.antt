@@ -4,7 +4,7 @@ use Rattle.std.proofs.Math.Seq.{take-add}
 use Rattle.std.proofs.lemmas.List.{length-drop, append-nil, take-append-drop}
 use Rattle.isle_syntax.specs.declared.lexer.Token.{Token}
 use Rattle.isle_syntax.specs.declared.lexer.Token.TheVariants.{RParen}
-use Rattle.isle_terms.specs.Values.{ValueTree, ValueTrees, no_values, more_values, value_list}
+use Rattle.isle_terms.specs.Values.{ValueTree, ValueTrees, no_trees, more_trees, value_list}
 use Rattle.isle_run.specs.Values.Tokens.{tokens_of, tokens_all, IsSpellable, AreSpellable, HaveNoValue}
 use Rattle.isle_run.proofs.GroundValues.Reading.{no_end}
 use Rattle.isle_run.proofs.GroundValues.OneSpelling.{one_spelling}
@@ -23,8 +23,8 @@ Left tokens = (others : ValueTrees) × AreSpellable others × (tokens ≡ tokens
 
 -- where more than the parenthesis is left, a value is
 pub none_read : (tokens : List Token) → 1 < length tokens → HaveNoValue tokens → Left tokens → ⊥
-none_read tokens more never (no_values, spellable, is) = let one = ap length is in omega (arith, one, more)
-none_read tokens more never (more_values g gs, spellable, is) =
+none_read tokens more never (no_trees, spellable, is) = let one = ap length is in omega (arith, one, more)
+none_read tokens more never (more_trees g gs, spellable, is) =
     never g (tokens_all gs ++ RParen ∷ []) spellable.0 (is ∙ append_assoc (tokens_of g) (tokens_all gs) (RParen ∷ []))
 
 -- a value that is read has a token
@@ -41,9 +41,9 @@ drop_more (suc n) m (x ∷ xs) = ap (λ k. drop k (x ∷ xs)) (let e : suc n + m
 -- what is left behind the value that is read is left of the whole
 pub left_behind : (tokens : List Token) (at count : ℕ) (v : ValueTree) → at + 1 < length tokens → IsSpellable v → take count (drop at tokens) ≡ tokens_of v
     → Left (drop at tokens) → Left (drop (at + count) tokens)
-left_behind tokens at count v more spellable is (no_values, others, left) =
+left_behind tokens at count v more spellable is (no_trees, others, left) =
     absurd (let one = ap length left in let len = length-drop at tokens in omega (arith, one, len, more))
-left_behind tokens at count v more spellable is (more_values g gs, others, left) =
+left_behind tokens at count v more spellable is (more_trees g gs, others, left) =
     let split : tokens_of v ++ drop count (drop at tokens) ≡ tokens_of g ++ (tokens_all gs ++ RParen ∷ []) =
     ap (λ l. l ++ drop count (drop at tokens)) (sym is) ∙ take-append-drop count (drop at tokens) ∙ left
     ∙ append_assoc (tokens_of g) (tokens_all gs) (RParen ∷ []) in

@@ -8,75 +8,75 @@ use Rattle.std.proofs.lemmas.List.Elements.{All-nil, All-append}
 use Rattle.isle_syntax.specs.Tokens.Names.{is_ident, is_const_name}
 use Rattle.isle_syntax.specs.declared.lexer.Token.{Token}
 use Rattle.isle_syntax.specs.declared.lexer.Token.TheVariants.{LParen, RParen, At, Symbol, Int, Big}
-use Rattle.isle_terms.specs.Values.{ValueTree, ValueTrees, bool_value, int_value, big_value, const_value, opaque_value, data_value, no_values, more_values}
+use Rattle.isle_terms.specs.Values.{ValueTree, ValueTrees, bool_tree, int_tree, big_tree, const_tree, opaque_tree, data_tree, no_trees, more_trees}
 use Rattle.isle_run.specs.declared.values.Node.{Node}
 use Rattle.isle_run.specs.declared.values.Node.TheVariants.{Data}
 use Rattle.isle_run.specs.declared.values.reading.Open.{Open}
 use Rattle.isle_run.specs.Values.Nodes.{count_of, joined, nodes_of, nodes_all}
 use Rattle.isle_run.specs.Values.Tokens.{tokens_of, tokens_all, IsSpellable, AreSpellable, HaveNoValue}
-use Rattle.isle_run.specs.Values.Reading.{counted, IsWithin, Level, tokens_read, nodes_read, places_of, LevelsSpellable, Ends, Completes, IsReading, IsRead, GoesOn}
+use Rattle.isle_run.specs.Inside.Values.Reading.{counted, IsWithin, Level, tokens_read, nodes_read, places_of, LevelsSpellable, Ends, Completes, IsReading, IsRead, GoesOn}
 use Rattle.isle_run.proofs.GroundValues.Printing.{no_last, some_size, sized, sized_all}
 
 abbrev alone : ValueTree → ValueTrees
-alone v = more_values v no_values
+alone v = more_trees v no_trees
 
 -- what is joined
 pub joined_tokens : (vs ws : ValueTrees) → tokens_all (joined vs ws) ≡ tokens_all vs ++ tokens_all ws
-joined_tokens no_values ws = refl
-joined_tokens (more_values v vs) ws = ap (λ l. tokens_of v ++ l) (joined_tokens vs ws) ∙ sym (append_assoc (tokens_of v) (tokens_all vs) (tokens_all ws))
+joined_tokens no_trees ws = refl
+joined_tokens (more_trees v vs) ws = ap (λ l. tokens_of v ++ l) (joined_tokens vs ws) ∙ sym (append_assoc (tokens_of v) (tokens_all vs) (tokens_all ws))
 
 joined_nodes : (vs ws : ValueTrees) → nodes_all (joined vs ws) ≡ nodes_all vs ++ nodes_all ws
-joined_nodes no_values ws = refl
-joined_nodes (more_values v vs) ws = ap (λ l. nodes_of v ++ l) (joined_nodes vs ws) ∙ sym (append_assoc (nodes_of v) (nodes_all vs) (nodes_all ws))
+joined_nodes no_trees ws = refl
+joined_nodes (more_trees v vs) ws = ap (λ l. nodes_of v ++ l) (joined_nodes vs ws) ∙ sym (append_assoc (nodes_of v) (nodes_all vs) (nodes_all ws))
 
 pub joined_spellable : (vs ws : ValueTrees) → AreSpellable vs → AreSpellable ws → AreSpellable (joined vs ws)
-joined_spellable no_values ws a b = b
-joined_spellable (more_values v vs) ws a b = (a.0, joined_spellable vs ws a.1 b)
+joined_spellable no_trees ws a b = b
+joined_spellable (more_trees v vs) ws a b = (a.0, joined_spellable vs ws a.1 b)
 
 joined_count : (vs : ValueTrees) (v : ValueTree) → count_of (joined vs (alone v)) ≡ suc (count_of vs)
-joined_count no_values v = refl
-joined_count (more_values w vs) v = ap suc (joined_count vs v)
+joined_count no_trees v = refl
+joined_count (more_trees w vs) v = ap suc (joined_count vs v)
 
 pub joined_assoc : (us vs ws : ValueTrees) → joined (joined us vs) ws ≡ joined us (joined vs ws)
-joined_assoc no_values vs ws = refl
-joined_assoc (more_values u us) vs ws = ap (more_values u) (joined_assoc us vs ws)
+joined_assoc no_trees vs ws = refl
+joined_assoc (more_trees u us) vs ws = ap (more_trees u) (joined_assoc us vs ws)
 
-joined_none : (vs : ValueTrees) → joined vs no_values ≡ vs
-joined_none no_values = refl
-joined_none (more_values v vs) = ap (more_values v) (joined_none vs)
+joined_none : (vs : ValueTrees) → joined vs no_trees ≡ vs
+joined_none no_trees = refl
+joined_none (more_trees v vs) = ap (more_trees v) (joined_none vs)
 
 -- a value's first token is no closing parenthesis
 pub no_close : (v : ValueTree) (rest more : List Token) → tokens_of v ++ rest ≡ RParen ∷ more → ⊥
-no_close (bool_value b) rest more e = absurd cc
-no_close (int_value n) rest more e = absurd cc
-no_close (big_value n) rest more e = absurd cc
-no_close (const_value name) rest more e = absurd cc
-no_close (opaque_value n) rest more e = absurd cc
-no_close (data_value name fs) rest more e = absurd cc
+no_close (bool_tree b) rest more e = absurd cc
+no_close (int_tree n) rest more e = absurd cc
+no_close (big_tree n) rest more e = absurd cc
+no_close (const_tree name) rest more e = absurd cc
+no_close (opaque_tree n) rest more e = absurd cc
+no_close (data_tree name fs) rest more e = absurd cc
 
 -- it has a token
 pub no_end : (v : ValueTree) (rest : List Token) → tokens_of v ++ rest ≡ [] → ⊥
-no_end (bool_value b) rest e = absurd cc
-no_end (int_value n) rest e = absurd cc
-no_end (big_value n) rest e = absurd cc
-no_end (const_value name) rest e = absurd cc
-no_end (opaque_value n) rest e = absurd cc
-no_end (data_value name fs) rest e = absurd cc
+no_end (bool_tree b) rest e = absurd cc
+no_end (int_tree n) rest e = absurd cc
+no_end (big_tree n) rest e = absurd cc
+no_end (const_tree name) rest e = absurd cc
+no_end (opaque_tree n) rest e = absurd cc
+no_end (data_tree name fs) rest e = absurd cc
 
 -- data behind an opening parenthesis
 pub record IsDataOf (v : ValueTree) (rest more : List Token) : Type 0 where
   pub name : List ℕ
   pub fields : ValueTrees
-  pub is : v ≡ data_value name fields
+  pub is : v ≡ data_tree name fields
   pub left : more ≡ Symbol name ∷ (tokens_all fields ++ (RParen ∷ rest))
 
 pub opened : (v : ValueTree) (rest more : List Token) → tokens_of v ++ rest ≡ LParen ∷ more → IsDataOf v rest more
-opened (bool_value b) rest more e = absurd cc
-opened (int_value n) rest more e = absurd cc
-opened (big_value n) rest more e = absurd cc
-opened (const_value name) rest more e = absurd cc
-opened (opaque_value n) rest more e = absurd cc
-opened (data_value name fs) rest more e = record {
+opened (bool_tree b) rest more e = absurd cc
+opened (int_tree n) rest more e = absurd cc
+opened (big_tree n) rest more e = absurd cc
+opened (const_tree name) rest more e = absurd cc
+opened (opaque_tree n) rest more e = absurd cc
+opened (data_tree name fs) rest more e = record {
   name = name;
   fields = fs;
   is = refl;
@@ -108,65 +108,65 @@ abbrev first_byte : List Token → ℕ
 first_byte tokens = front_of (symbol_in tokens)
 
 same_leaf : (v w : ValueTree) (token : Token) → IsSpellable v → IsSpellable w → tokens_of v ≡ token ∷ [] → tokens_of w ≡ token ∷ [] → v ≡ w
-same_leaf (bool_value b) (bool_value b') token p q d e = ap bool_value (bool_symbol b b' (let both : tokens_of (bool_value b) ≡ tokens_of (bool_value b') = d ∙ sym e in let same : (if b then codes "true" else codes "false") ≡ (if b' then codes "true" else codes "false") = cc in same))
-same_leaf (bool_value b) (int_value j) token p q d e = absurd cc
-same_leaf (bool_value b) (big_value j) token p q d e = absurd cc
-same_leaf (bool_value true) (const_value name') token p q d e = let same : 116 ≡ 36 = ap first_byte (d ∙ sym e) in absurd (omega (arith, same))
-same_leaf (bool_value false) (const_value name') token p q d e = let same : 102 ≡ 36 = ap first_byte (d ∙ sym e) in absurd (omega (arith, same))
-same_leaf (bool_value true) (opaque_value m) token p q d e = let same : 116 ≡ 118 = ap first_byte (d ∙ sym e) in absurd (omega (arith, same))
-same_leaf (bool_value false) (opaque_value m) token p q d e = let same : 102 ≡ 118 = ap first_byte (d ∙ sym e) in absurd (omega (arith, same))
-same_leaf (bool_value b) (data_value name' gs) token p q d e = absurd cc
-same_leaf (int_value i) (bool_value b') token p q d e = absurd cc
-same_leaf (int_value i) (int_value j) token p q d e = ap int_value (let same : i ≡ j = cc in same)
-same_leaf (int_value i) (big_value j) token p q d e = absurd cc
-same_leaf (int_value i) (const_value name') token p q d e = absurd cc
-same_leaf (int_value i) (opaque_value m) token p q d e = absurd cc
-same_leaf (int_value i) (data_value name' gs) token p q d e = absurd cc
-same_leaf (big_value i) (bool_value b') token p q d e = absurd cc
-same_leaf (big_value i) (int_value j) token p q d e = absurd cc
-same_leaf (big_value i) (big_value j) token p q d e = ap big_value (let same : i ≡ j = cc in same)
-same_leaf (big_value i) (const_value name') token p q d e = absurd cc
-same_leaf (big_value i) (opaque_value m) token p q d e = absurd cc
-same_leaf (big_value i) (data_value name' gs) token p q d e = absurd cc
-same_leaf (const_value name) (bool_value true) token p q d e = let same : 36 ≡ 116 = ap first_byte (d ∙ sym e) in absurd (omega (arith, same))
-same_leaf (const_value name) (bool_value false) token p q d e = let same : 36 ≡ 102 = ap first_byte (d ∙ sym e) in absurd (omega (arith, same))
-same_leaf (const_value name) (int_value j) token p q d e = absurd cc
-same_leaf (const_value name) (big_value j) token p q d e = absurd cc
-same_leaf (const_value name) (const_value name') token p q d e = ap const_value (let same : name ≡ name' = cc in same)
-same_leaf (const_value name) (opaque_value m) token p q d e = let same : 36 ≡ 118 = ap first_byte (d ∙ sym e) in absurd (omega (arith, same))
-same_leaf (const_value name) (data_value name' gs) token p q d e = absurd cc
-same_leaf (opaque_value n) (bool_value true) token p q d e = let same : 118 ≡ 116 = ap first_byte (d ∙ sym e) in absurd (omega (arith, same))
-same_leaf (opaque_value n) (bool_value false) token p q d e = let same : 118 ≡ 102 = ap first_byte (d ∙ sym e) in absurd (omega (arith, same))
-same_leaf (opaque_value n) (int_value j) token p q d e = absurd cc
-same_leaf (opaque_value n) (big_value j) token p q d e = absurd cc
-same_leaf (opaque_value n) (const_value name') token p q d e = let same : 118 ≡ 36 = ap first_byte (d ∙ sym e) in absurd (omega (arith, same))
-same_leaf (opaque_value n) (opaque_value m) token p q d e = ap opaque_value (decimal_injective n m p q (let same : decimal n ≡ decimal m = cc in same))
-same_leaf (opaque_value n) (data_value name' gs) token p q d e = absurd cc
-same_leaf (data_value name fs) w token p q d e = absurd cc
+same_leaf (bool_tree b) (bool_tree b') token p q d e = ap bool_tree (bool_symbol b b' (let both : tokens_of (bool_tree b) ≡ tokens_of (bool_tree b') = d ∙ sym e in let same : (if b then codes "true" else codes "false") ≡ (if b' then codes "true" else codes "false") = cc in same))
+same_leaf (bool_tree b) (int_tree j) token p q d e = absurd cc
+same_leaf (bool_tree b) (big_tree j) token p q d e = absurd cc
+same_leaf (bool_tree true) (const_tree name') token p q d e = let same : 116 ≡ 36 = ap first_byte (d ∙ sym e) in absurd (omega (arith, same))
+same_leaf (bool_tree false) (const_tree name') token p q d e = let same : 102 ≡ 36 = ap first_byte (d ∙ sym e) in absurd (omega (arith, same))
+same_leaf (bool_tree true) (opaque_tree m) token p q d e = let same : 116 ≡ 118 = ap first_byte (d ∙ sym e) in absurd (omega (arith, same))
+same_leaf (bool_tree false) (opaque_tree m) token p q d e = let same : 102 ≡ 118 = ap first_byte (d ∙ sym e) in absurd (omega (arith, same))
+same_leaf (bool_tree b) (data_tree name' gs) token p q d e = absurd cc
+same_leaf (int_tree i) (bool_tree b') token p q d e = absurd cc
+same_leaf (int_tree i) (int_tree j) token p q d e = ap int_tree (let same : i ≡ j = cc in same)
+same_leaf (int_tree i) (big_tree j) token p q d e = absurd cc
+same_leaf (int_tree i) (const_tree name') token p q d e = absurd cc
+same_leaf (int_tree i) (opaque_tree m) token p q d e = absurd cc
+same_leaf (int_tree i) (data_tree name' gs) token p q d e = absurd cc
+same_leaf (big_tree i) (bool_tree b') token p q d e = absurd cc
+same_leaf (big_tree i) (int_tree j) token p q d e = absurd cc
+same_leaf (big_tree i) (big_tree j) token p q d e = ap big_tree (let same : i ≡ j = cc in same)
+same_leaf (big_tree i) (const_tree name') token p q d e = absurd cc
+same_leaf (big_tree i) (opaque_tree m) token p q d e = absurd cc
+same_leaf (big_tree i) (data_tree name' gs) token p q d e = absurd cc
+same_leaf (const_tree name) (bool_tree true) token p q d e = let same : 36 ≡ 116 = ap first_byte (d ∙ sym e) in absurd (omega (arith, same))
+same_leaf (const_tree name) (bool_tree false) token p q d e = let same : 36 ≡ 102 = ap first_byte (d ∙ sym e) in absurd (omega (arith, same))
+same_leaf (const_tree name) (int_tree j) token p q d e = absurd cc
+same_leaf (const_tree name) (big_tree j) token p q d e = absurd cc
+same_leaf (const_tree name) (const_tree name') token p q d e = ap const_tree (let same : name ≡ name' = cc in same)
+same_leaf (const_tree name) (opaque_tree m) token p q d e = let same : 36 ≡ 118 = ap first_byte (d ∙ sym e) in absurd (omega (arith, same))
+same_leaf (const_tree name) (data_tree name' gs) token p q d e = absurd cc
+same_leaf (opaque_tree n) (bool_tree true) token p q d e = let same : 118 ≡ 116 = ap first_byte (d ∙ sym e) in absurd (omega (arith, same))
+same_leaf (opaque_tree n) (bool_tree false) token p q d e = let same : 118 ≡ 102 = ap first_byte (d ∙ sym e) in absurd (omega (arith, same))
+same_leaf (opaque_tree n) (int_tree j) token p q d e = absurd cc
+same_leaf (opaque_tree n) (big_tree j) token p q d e = absurd cc
+same_leaf (opaque_tree n) (const_tree name') token p q d e = let same : 118 ≡ 36 = ap first_byte (d ∙ sym e) in absurd (omega (arith, same))
+same_leaf (opaque_tree n) (opaque_tree m) token p q d e = ap opaque_tree (decimal_injective n m p q (let same : decimal n ≡ decimal m = cc in same))
+same_leaf (opaque_tree n) (data_tree name' gs) token p q d e = absurd cc
+same_leaf (data_tree name fs) w token p q d e = absurd cc
 
 -- what is no symbol and no number spells no value alone
 pub parens_alone : (v : ValueTree) → (tokens_of v ≡ LParen ∷ [] → ⊥) × (tokens_of v ≡ RParen ∷ [] → ⊥) × (tokens_of v ≡ At ∷ [] → ⊥)
-parens_alone (bool_value b) = (λ e. absurd cc, λ e. absurd cc, λ e. absurd cc)
-parens_alone (int_value i) = (λ e. absurd cc, λ e. absurd cc, λ e. absurd cc)
-parens_alone (big_value i) = (λ e. absurd cc, λ e. absurd cc, λ e. absurd cc)
-parens_alone (const_value name) = (λ e. absurd cc, λ e. absurd cc, λ e. absurd cc)
-parens_alone (opaque_value n) = (λ e. absurd cc, λ e. absurd cc, λ e. absurd cc)
-parens_alone (data_value name gs) = (λ e. absurd cc, λ e. absurd cc, λ e. absurd cc)
+parens_alone (bool_tree b) = (λ e. absurd cc, λ e. absurd cc, λ e. absurd cc)
+parens_alone (int_tree i) = (λ e. absurd cc, λ e. absurd cc, λ e. absurd cc)
+parens_alone (big_tree i) = (λ e. absurd cc, λ e. absurd cc, λ e. absurd cc)
+parens_alone (const_tree name) = (λ e. absurd cc, λ e. absurd cc, λ e. absurd cc)
+parens_alone (opaque_tree n) = (λ e. absurd cc, λ e. absurd cc, λ e. absurd cc)
+parens_alone (data_tree name gs) = (λ e. absurd cc, λ e. absurd cc, λ e. absurd cc)
 
 -- what begins with a token that spells a value alone is that value
 pub leaf_first : (v g : ValueTree) (token : Token) (rest more : List Token) → IsSpellable v → IsSpellable g → tokens_of v ≡ token ∷ [] → tokens_of g ++ rest ≡ token ∷ more
     → (g ≡ v) × (rest ≡ more)
-leaf_first v (bool_value b) token rest more p q d e =
-    (same_leaf (bool_value b) v token q p (let same : Symbol (if b then codes "true" else codes "false") ≡ token = cc in ap (λ t. t ∷ []) same) d, let same : rest ≡ more = cc in same)
-leaf_first v (int_value i) token rest more p q d e =
-    (same_leaf (int_value i) v token q p (let same : Int i ≡ token = cc in ap (λ t. t ∷ []) same) d, let same : rest ≡ more = cc in same)
-leaf_first v (big_value i) token rest more p q d e =
-    (same_leaf (big_value i) v token q p (let same : Big i ≡ token = cc in ap (λ t. t ∷ []) same) d, let same : rest ≡ more = cc in same)
-leaf_first v (const_value name) token rest more p q d e =
-    (same_leaf (const_value name) v token q p (let same : Symbol (codes "$" ++ name) ≡ token = cc in ap (λ t. t ∷ []) same) d, let same : rest ≡ more = cc in same)
-leaf_first v (opaque_value n) token rest more p q d e =
-    (same_leaf (opaque_value n) v token q p (let same : Symbol (codes "v" ++ decimal n) ≡ token = cc in ap (λ t. t ∷ []) same) d, let same : rest ≡ more = cc in same)
-leaf_first v (data_value name gs) token rest more p q d e =
+leaf_first v (bool_tree b) token rest more p q d e =
+    (same_leaf (bool_tree b) v token q p (let same : Symbol (if b then codes "true" else codes "false") ≡ token = cc in ap (λ t. t ∷ []) same) d, let same : rest ≡ more = cc in same)
+leaf_first v (int_tree i) token rest more p q d e =
+    (same_leaf (int_tree i) v token q p (let same : Int i ≡ token = cc in ap (λ t. t ∷ []) same) d, let same : rest ≡ more = cc in same)
+leaf_first v (big_tree i) token rest more p q d e =
+    (same_leaf (big_tree i) v token q p (let same : Big i ≡ token = cc in ap (λ t. t ∷ []) same) d, let same : rest ≡ more = cc in same)
+leaf_first v (const_tree name) token rest more p q d e =
+    (same_leaf (const_tree name) v token q p (let same : Symbol (codes "$" ++ name) ≡ token = cc in ap (λ t. t ∷ []) same) d, let same : rest ≡ more = cc in same)
+leaf_first v (opaque_tree n) token rest more p q d e =
+    (same_leaf (opaque_tree n) v token q p (let same : Symbol (codes "v" ++ decimal n) ≡ token = cc in ap (λ t. t ∷ []) same) d, let same : rest ≡ more = cc in same)
+leaf_first v (data_tree name gs) token rest more p q d e =
     let same : LParen ≡ token = cc in absurd ((parens_alone v).0 (d ∙ ap (λ t. t ∷ []) (sym same)))
 
 -- a symbol that is none of those that spell a value
@@ -174,13 +174,13 @@ pub unknown_symbol : (symbol : List ℕ) → (symbol ≡ codes "true" → ⊥) �
     → ((name : List ℕ) → IsTrue (is_const_name name) → symbol ≡ 36 ∷ name → ⊥)
     → ((n : ℕ) → n < 18446744073709551616 → symbol ≡ 118 ∷ decimal n → ⊥)
     → (v : ValueTree) → IsSpellable v → tokens_of v ≡ Symbol symbol ∷ [] → ⊥
-unknown_symbol symbol no_true no_false no_const no_opaque (bool_value true) p e = no_true (let same : symbol ≡ codes "true" = cc in same)
-unknown_symbol symbol no_true no_false no_const no_opaque (bool_value false) p e = no_false (let same : symbol ≡ codes "false" = cc in same)
-unknown_symbol symbol no_true no_false no_const no_opaque (int_value i) p e = absurd cc
-unknown_symbol symbol no_true no_false no_const no_opaque (big_value i) p e = absurd cc
-unknown_symbol symbol no_true no_false no_const no_opaque (const_value name) p e = no_const name p (let same : symbol ≡ 36 ∷ name = cc in same)
-unknown_symbol symbol no_true no_false no_const no_opaque (opaque_value n) p e = no_opaque n p (let same : symbol ≡ 118 ∷ decimal n = cc in same)
-unknown_symbol symbol no_true no_false no_const no_opaque (data_value name gs) p e = absurd cc
+unknown_symbol symbol no_true no_false no_const no_opaque (bool_tree true) p e = no_true (let same : symbol ≡ codes "true" = cc in same)
+unknown_symbol symbol no_true no_false no_const no_opaque (bool_tree false) p e = no_false (let same : symbol ≡ codes "false" = cc in same)
+unknown_symbol symbol no_true no_false no_const no_opaque (int_tree i) p e = absurd cc
+unknown_symbol symbol no_true no_false no_const no_opaque (big_tree i) p e = absurd cc
+unknown_symbol symbol no_true no_false no_const no_opaque (const_tree name) p e = no_const name p (let same : symbol ≡ 36 ∷ name = cc in same)
+unknown_symbol symbol no_true no_false no_const no_opaque (opaque_tree n) p e = no_opaque n p (let same : symbol ≡ 118 ∷ decimal n = cc in same)
+unknown_symbol symbol no_true no_false no_const no_opaque (data_tree name gs) p e = absurd cc
 
 -- the next element of a list
 pub take_next : {X : Type 0} (xs : List X) (n : ℕ) (x : X) (rest : List X) → drop n xs ≡ x ∷ rest → (take (suc n) xs ≡ take n xs ++ x ∷ []) × (drop (suc n) xs ≡ rest)
@@ -213,8 +213,8 @@ Closes left = (more : List Token) × (left ≡ RParen ∷ more)
 next_is : (levels : List Level) (whole : ValueTree) (rest left : List Token) → IsSpellable whole → Completes levels whole rest left
     → Begins left ⊎ ((levels ≡ [] → ⊥) × Closes left)
 next_is [] whole rest left p e = inl (whole, rest, p, e)
-next_is (level ∷ outer) whole rest left p (no_values, more, q, e, ends) = inr (λ z. absurd cc, (more, e))
-next_is (level ∷ outer) whole rest left p (more_values g gs, more, q, e, ends) =
+next_is (level ∷ outer) whole rest left p (no_trees, more, q, e, ends) = inr (λ z. absurd cc, (more, e))
+next_is (level ∷ outer) whole rest left p (more_trees g gs, more, q, e, ends) =
     inl (g, tokens_all gs ++ (RParen ∷ more), q.0, e ∙ append_assoc (tokens_of g) (tokens_all gs) (RParen ∷ more))
 
 -- no value stands at the front of the tokens, where none goes on with what is read
@@ -250,12 +250,12 @@ refused_close tokens at nodes places r left is = refused tokens at [] nodes plac
 
 -- a value that begins with a token that is no parenthesis has no other
 one_token : (g : ValueTree) (more left : List Token) (token : Token) → tokens_of g ++ more ≡ token ∷ left → (token ≡ LParen → ⊥) → tokens_of g ≡ token ∷ []
-one_token (bool_value b) more left token e other = let same : Symbol (if b then codes "true" else codes "false") ≡ token = cc in ap (λ t. t ∷ []) same
-one_token (int_value i) more left token e other = let same : Int i ≡ token = cc in ap (λ t. t ∷ []) same
-one_token (big_value i) more left token e other = let same : Big i ≡ token = cc in ap (λ t. t ∷ []) same
-one_token (const_value name) more left token e other = let same : Symbol (codes "$" ++ name) ≡ token = cc in ap (λ t. t ∷ []) same
-one_token (opaque_value n) more left token e other = let same : Symbol (codes "v" ++ decimal n) ≡ token = cc in ap (λ t. t ∷ []) same
-one_token (data_value name gs) more left token e other = absurd (other (sym (let same : LParen ≡ token = cc in same)))
+one_token (bool_tree b) more left token e other = let same : Symbol (if b then codes "true" else codes "false") ≡ token = cc in ap (λ t. t ∷ []) same
+one_token (int_tree i) more left token e other = let same : Int i ≡ token = cc in ap (λ t. t ∷ []) same
+one_token (big_tree i) more left token e other = let same : Big i ≡ token = cc in ap (λ t. t ∷ []) same
+one_token (const_tree name) more left token e other = let same : Symbol (codes "$" ++ name) ≡ token = cc in ap (λ t. t ∷ []) same
+one_token (opaque_tree n) more left token e other = let same : Symbol (codes "v" ++ decimal n) ≡ token = cc in ap (λ t. t ∷ []) same
+one_token (data_tree name gs) more left token e other = absurd (other (sym (let same : LParen ≡ token = cc in same)))
 
 -- another token that spells no value alone
 pub refused_leaf : (tokens : List Token) (at : ℕ) (levels : List Level) (nodes : List Node) (places : List Open) → IsReading tokens at levels nodes places
@@ -267,8 +267,8 @@ refused_leaf tokens at levels nodes places r token left is no_open no_closing no
 
 -- each place is within the nodes
 count_small : (vs : ValueTrees) → count_of vs ≤ length (nodes_all vs)
-count_small no_values = omega arith
-count_small (more_values v vs) =
+count_small no_trees = omega arith
+count_small (more_trees v vs) =
     let some = some_size v in let size = sized v in let others = count_small vs in let len = length-append (nodes_of v) (nodes_all vs) in
     omega (arith, some, size, others, len)
 
@@ -313,18 +313,18 @@ value_read tokens at (level ∷ outer) nodes places v spelt laid placed spells p
 )
 
 -- a value before other fields
-joined_next : (vs gs : ValueTrees) (g v : ValueTree) → g ≡ v → joined vs (more_values g gs) ≡ joined (joined vs (alone v)) gs
-joined_next vs gs g v same = ap (λ x. joined vs (more_values x gs)) same ∙ sym (joined_assoc vs (alone v) gs)
+joined_next : (vs gs : ValueTrees) (g v : ValueTree) → g ≡ v → joined vs (more_trees g gs) ≡ joined (joined vs (alone v)) gs
+joined_next vs gs g v same = ap (λ x. joined vs (more_trees x gs)) same ∙ sym (joined_assoc vs (alone v) gs)
 
 -- what goes on with a token that spells a value alone goes on behind that value
 leaf_ends : (levels : List Level) (v : ValueTree) (token : Token) (whole : ValueTree) (rest left : List Token) → IsSpellable v → tokens_of v ≡ token ∷ [] → IsSpellable whole
     → Completes levels whole rest (token ∷ left) → Ends levels v whole rest left
 leaf_ends [] v token whole rest left p d q e = let (same, others) = leaf_first v whole token rest left p q d (sym e) in (sym same, sym others)
-leaf_ends (level ∷ outer) v token whole rest left p d q (no_values, more, s, e, ends) =
+leaf_ends (level ∷ outer) v token whole rest left p d q (no_trees, more, s, e, ends) =
     absurd ((parens_alone v).1 (d ∙ ap (λ t. t ∷ []) (let same : token ≡ RParen = cc in same)))
-leaf_ends (level ∷ outer) v token whole rest left p d q (more_values g gs, more, s, e, ends) =
+leaf_ends (level ∷ outer) v token whole rest left p d q (more_trees g gs, more, s, e, ends) =
     let (same, others) = leaf_first v g token (tokens_all gs ++ (RParen ∷ more)) left p s.0 d (sym (append_assoc (tokens_of g) (tokens_all gs) (RParen ∷ more)) ∙ sym e) in
-    (gs, more, s.1, sym others, subst (λ vs. Ends outer (data_value level.0 vs) whole rest more) (joined_next level.1 gs g v same) ends)
+    (gs, more, s.1, sym others, subst (λ vs. Ends outer (data_tree level.0 vs) whole rest more) (joined_next level.1 gs g v same) ends)
 
 -- a value of one token is read
 pub leaf_read : (tokens : List Token) (at : ℕ) (levels : List Level) (nodes : List Node) (places : List Open) → IsReading tokens at levels nodes places
@@ -338,13 +338,13 @@ leaf_read tokens at levels nodes places r token left e v p d =
 
 -- what goes on with data that opens completes its fields
 opens : (levels : List Level) (name : List ℕ) (whole : ValueTree) (rest left : List Token) → IsSpellable whole → Completes levels whole rest (LParen ∷ Symbol name ∷ left)
-    → Completes ((name, no_values) ∷ levels) whole rest left
+    → Completes ((name, no_trees) ∷ levels) whole rest left
 opens [] name whole rest left q e =
     let d = opened whole rest (Symbol name ∷ left) (sym e) in let both = d.left in
     let same : name ≡ d.name = cc in let fields : left ≡ tokens_all d.fields ++ (RParen ∷ rest) = cc in
-    (d.fields, rest, (subst IsSpellable d.is q).1, fields, (ap (λ n. data_value n d.fields) same ∙ sym d.is, refl))
-opens (level ∷ outer) name whole rest left q (no_values, more, s, e, ends) = absurd cc
-opens (level ∷ outer) name whole rest left q (more_values g gs, more, s, e, ends) =
+    (d.fields, rest, (subst IsSpellable d.is q).1, fields, (ap (λ n. data_tree n d.fields) same ∙ sym d.is, refl))
+opens (level ∷ outer) name whole rest left q (no_trees, more, s, e, ends) = absurd cc
+opens (level ∷ outer) name whole rest left q (more_trees g gs, more, s, e, ends) =
     let d = opened g (tokens_all gs ++ (RParen ∷ more)) (Symbol name ∷ left) (sym (append_assoc (tokens_of g) (tokens_all gs) (RParen ∷ more)) ∙ sym e) in let both = d.left in
     let same : name ≡ d.name = cc in let fields : left ≡ tokens_all d.fields ++ (RParen ∷ (tokens_all gs ++ (RParen ∷ more))) = cc in (
       d.fields,
@@ -356,15 +356,15 @@ opens (level ∷ outer) name whole rest left q (more_values g gs, more, s, e, en
         more,
         s.1,
         refl,
-        subst (λ vs. Ends outer (data_value level.0 vs) whole rest more)
-            (joined_next level.1 gs g (data_value name d.fields) (d.is ∙ ap (λ n. data_value n d.fields) (sym same))) ends,
+        subst (λ vs. Ends outer (data_tree level.0 vs) whole rest more)
+            (joined_next level.1 gs g (data_tree name d.fields) (d.is ∙ ap (λ n. data_tree n d.fields) (sym same))) ends,
       ),
     )
 
 -- data is opened
 pub data_opened : (tokens : List Token) (at : ℕ) (levels : List Level) (nodes : List Node) (places : List Open) → IsReading tokens at levels nodes places
     → (name : List ℕ) (left : List Token) → IsTrue (is_ident name) → drop at tokens ≡ LParen ∷ Symbol name ∷ left
-    → IsReading tokens (suc (suc at)) ((name, no_values) ∷ levels) (nodes ++ Data name 0 0 ∷ []) (places ++ record { node = length nodes; fields = 0 } ∷ [])
+    → IsReading tokens (suc (suc at)) ((name, no_trees) ∷ levels) (nodes ++ Data name 0 0 ∷ []) (places ++ record { node = length nodes; fields = 0 } ∷ [])
 data_opened tokens at levels nodes places r name left ident e =
     let (taken, dropped) = take_next tokens at LParen (Symbol name ∷ left) e in
     let (taken', dropped') = take_next tokens (suc at) (Symbol name) left dropped in
@@ -374,18 +374,18 @@ data_opened tokens at levels nodes places r name left ident e =
       places = ap (λ l. l ++ record { node = length nodes; fields = 0 } ∷ []) r.places
           ∙ ap (λ l. places_of levels ++ record { node = length l; fields = 0 } ∷ []) r.laid;
       spellable = ((ident, tt), r.spellable);
-      completes = λ whole rest q s. subst (λ l. Completes ((name, no_values) ∷ levels) whole rest l) (sym dropped')
+      completes = λ whole rest q s. subst (λ l. Completes ((name, no_trees) ∷ levels) whole rest l) (sym dropped')
           (opens levels name whole rest left q (subst (λ l. Completes levels whole rest l) e (r.completes whole rest q s)));
     }
 
 -- what goes on with a closing parenthesis ends the innermost data
 closing : (level : Level) (outer : List Level) (whole : ValueTree) (rest left : List Token) → Completes (level ∷ outer) whole rest (RParen ∷ left)
-    → Ends outer (data_value level.0 level.1) whole rest left
-closing level outer whole rest left (no_values, more, s, e, ends) =
+    → Ends outer (data_tree level.0 level.1) whole rest left
+closing level outer whole rest left (no_trees, more, s, e, ends) =
     let same : more ≡ left = cc in
-    subst (λ l. Ends outer (data_value level.0 level.1) whole rest l) same
-    (subst (λ vs. Ends outer (data_value level.0 vs) whole rest more) (joined_none level.1) ends)
-closing level outer whole rest left (more_values g gs, more, s, e, ends) =
+    subst (λ l. Ends outer (data_tree level.0 level.1) whole rest l) same
+    (subst (λ vs. Ends outer (data_tree level.0 vs) whole rest more) (joined_none level.1) ends)
+closing level outer whole rest left (more_trees g gs, more, s, e, ends) =
     absurd (no_close g (tokens_all gs ++ (RParen ∷ more)) left (sym (append_assoc (tokens_of g) (tokens_all gs) (RParen ∷ more)) ∙ sym e))
 
 -- the innermost data is closed
@@ -395,10 +395,10 @@ pub data_closed : (tokens : List Token) (at : ℕ) (level : Level) (outer : List
 data_closed tokens at level outer nodes places r left e =
     let (taken, dropped) = take_next tokens at RParen left e in
     value_read tokens (suc at) outer (nodes_read outer ++ (Data level.0 (count_of level.1) (length (nodes_all level.1)) ∷ nodes_all level.1)) (places_of outer)
-    (data_value level.0 level.1)
+    (data_tree level.0 level.1)
     (taken ∙ ap (λ l. l ++ RParen ∷ []) r.spelt ∙ append_assoc (tokens_read outer) (LParen ∷ Symbol level.0 ∷ tokens_all level.1) (RParen ∷ []))
     (ap (λ n. nodes_read outer ++ (Data level.0 (count_of level.1) n ∷ nodes_all level.1)) (sized_all level.1)) refl r.spellable.1 r.spellable.0
-    (λ whole rest q s. subst (λ l. Ends outer (data_value level.0 level.1) whole rest l) (sym dropped)
+    (λ whole rest q s. subst (λ l. Ends outer (data_tree level.0 level.1) whole rest l) (sym dropped)
     (closing level outer whole rest left (subst (λ l. Completes (level ∷ outer) whole rest l) e (r.completes whole rest q s))))
 
 -- no data is open: the value is read

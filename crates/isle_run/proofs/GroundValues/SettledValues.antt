@@ -2,7 +2,7 @@
 use Rattle.std.proofs.Common.{◌≡◌, ◌<◌, ◌+◌, ◌++◌, ◌↔◌, ℕ, zero, suc, List, [], ◌∷◌, length, map, drop, get_or, refl, sym, ◌∙◌, ap, subst, arith}
 use Rattle.std.proofs.lemmas.List.{length-append}
 use Rattle.isle_types.specs.declared.ids.TypeId.{TypeId}
-use Rattle.isle_terms.specs.Values.{ValueTree, ValueTrees, no_values, more_values, value_list}
+use Rattle.isle_terms.specs.Values.{ValueTree, ValueTrees, no_trees, more_trees, value_list}
 use Rattle.isle_meaning.specs.ValueTypes.{ValueFacts, IsOfType, AreOfTypes}
 use Rattle.isle_run.specs.Values.Nodes.{joined}
 use Rattle.isle_run.specs.Programs.{number_of}
@@ -31,13 +31,13 @@ module _ (facts : ValueFacts) where
   pub all_begun : (values : List ValueTree) (types : List TypeId) → IsSettlingAll values types values []
   all_begun values types = record { completes = refl; typed = (λ h. h, λ h. h); count = (let e : 0 + length values ≡ length values = omega arith in e) }
 
-  joined_last : (vs : List ValueTree) (v : ValueTree) (ws : ValueTrees) → joined (value_list (vs ++ v ∷ [])) ws ≡ joined (value_list vs) (more_values v ws)
+  joined_last : (vs : List ValueTree) (v : ValueTree) (ws : ValueTrees) → joined (value_list (vs ++ v ∷ [])) ws ≡ joined (value_list vs) (more_trees v ws)
   joined_last [] v ws = refl
-  joined_last (w ∷ vs) v ws = ap (more_values w) (joined_last vs v ws)
+  joined_last (w ∷ vs) v ws = ap (more_trees w) (joined_last vs v ws)
 
-  joined_none : (vs : List ValueTree) → joined (value_list vs) no_values ≡ value_list vs
+  joined_none : (vs : List ValueTree) → joined (value_list vs) no_trees ≡ value_list vs
   joined_none [] = refl
-  joined_none (v ∷ vs) = ap (more_values v) (joined_none vs)
+  joined_none (v ∷ vs) = ap (more_trees v) (joined_none vs)
 
   module _ (values : List ValueTree) (types : List TypeId) (v : ValueTree) (left done : List ValueTree) (d : TypeId) where
     abbrev Ty : ℕ
@@ -61,7 +61,7 @@ module _ (facts : ValueFacts) where
         let further : length done + 1 ≡ length (done ++ w ∷ []) = sym (length-append done (w ∷ [])) in
         let later : Later ≡ drop (length (done ++ w ∷ [])) (map number_of types) = ap (λ n. drop n (map number_of types)) further in
         record {
-          completes = s.completes ∙ ap (λ l. joined (value_list done) (At (v ∷ left) l)) split ∙ ap (λ x. joined (value_list done) (more_values x (At left Later))) (sym is)
+          completes = s.completes ∙ ap (λ l. joined (value_list done) (At (v ∷ left) l)) split ∙ ap (λ x. joined (value_list done) (more_trees x (At left Later))) (sym is)
               ∙ sym (joined_last done w (At left Later)) ∙ ap (λ l. joined (value_list (done ++ w ∷ [])) (At left l)) later;
           typed = (
             λ all. subst (λ l. AreOfTypes facts (At left l) l) later (subst (λ l. AreOfTypes facts (At (v ∷ left) l) l) split (s.typed.0 all)).1,
@@ -89,5 +89,5 @@ module _ (facts : ValueFacts) where
         is,
         subst (λ vs. AreOfTypes facts vs (map number_of types)) is
             (s.typed.1 (subst (λ l. AreOfTypes facts (At l (drop (length done) (map number_of types))) (drop (length done) (map number_of types))) (sym none)
-            (subst (λ l. AreOfTypes facts no_values l) (sym no_types) tt))),
+            (subst (λ l. AreOfTypes facts no_trees l) (sym no_types) tt))),
       )

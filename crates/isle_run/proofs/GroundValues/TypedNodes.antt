@@ -3,71 +3,71 @@ use Rattle.std.proofs.Common.{◌≡◌, ◌<◌, ◌≤◌, ◌+◌, ◌++◌, 
 use Rattle.std.proofs.lemmas.Bool.{cases_lt}
 use Rattle.std.proofs.lemmas.List.{append-nil}
 use Rattle.std.proofs.lemmas.Option.{same_Some, slice_get_within}
-use Rattle.isle_terms.specs.Values.{ValueTree, ValueTrees, bool_value, int_value, big_value, const_value, opaque_value, data_value, no_values, more_values}
+use Rattle.isle_terms.specs.Values.{ValueTree, ValueTrees, bool_tree, int_tree, big_tree, const_tree, opaque_tree, data_tree, no_trees, more_trees}
 use Rattle.isle_meaning.specs.ValueTypes.{ValueFacts, IsOfType, AreOfTypes}
 use Rattle.isle_run.specs.declared.values.Node.{Node}
 use Rattle.isle_run.specs.declared.values.Node.TheVariants.{Bool, Int, Big, Const, Opaque, Data}
 use Rattle.isle_run.specs.Values.Nodes.{count_of, size_of, sizes_of, nodes_of, nodes_all, nodes_below}
-use Rattle.isle_run.specs.Values.TypedNodes.{NodeFits, NodesFit, FieldsFit, AllFieldsFit}
+use Rattle.isle_run.specs.Inside.Values.TypedNodes.{NodeFits, NodesFit, FieldsFit, AllFieldsFit}
 use Rattle.isle_types.specs.declared.ids.TypeId.{TypeId}
 use Rattle.isle_run.specs.Programs.{number_of}
 use Rattle.isle_run.proofs.GroundValues.Printing.{sized}
 
 -- the first node of a value
 abbrev pub root_of : ValueTree → Node
-root_of (bool_value b) = Bool b
-root_of (int_value n) = Int n
-root_of (big_value n) = Big n
-root_of (const_value name) = Const name
-root_of (opaque_value n) = Opaque n
-root_of (data_value name fs) = Data name (count_of fs) (sizes_of fs)
+root_of (bool_tree b) = Bool b
+root_of (int_tree n) = Int n
+root_of (big_tree n) = Big n
+root_of (const_tree name) = Const name
+root_of (opaque_tree n) = Opaque n
+root_of (data_tree name fs) = Data name (count_of fs) (sizes_of fs)
 
 -- the nodes behind it
 abbrev pub behind : ValueTree → List Node
-behind (bool_value b) = []
-behind (int_value n) = []
-behind (big_value n) = []
-behind (const_value name) = []
-behind (opaque_value n) = []
-behind (data_value name fs) = nodes_all fs
+behind (bool_tree b) = []
+behind (int_tree n) = []
+behind (big_tree n) = []
+behind (const_tree name) = []
+behind (opaque_tree n) = []
+behind (data_tree name fs) = nodes_all fs
 
 pub rooted : (v : ValueTree) → nodes_of v ≡ root_of v ∷ behind v
-rooted (bool_value b) = refl
-rooted (int_value n) = refl
-rooted (big_value n) = refl
-rooted (const_value name) = refl
-rooted (opaque_value n) = refl
-rooted (data_value name fs) = refl
+rooted (bool_tree b) = refl
+rooted (int_tree n) = refl
+rooted (big_tree n) = refl
+rooted (const_tree name) = refl
+rooted (opaque_tree n) = refl
+rooted (data_tree name fs) = refl
 
 below_root : (v : ValueTree) → suc (nodes_below (root_of v)) ≡ size_of v
-below_root (bool_value b) = refl
-below_root (int_value n) = refl
-below_root (big_value n) = refl
-below_root (const_value name) = refl
-below_root (opaque_value n) = refl
-below_root (data_value name fs) = refl
+below_root (bool_tree b) = refl
+below_root (int_tree n) = refl
+below_root (big_tree n) = refl
+below_root (const_tree name) = refl
+below_root (opaque_tree n) = refl
+below_root (data_tree name fs) = refl
 
 module _ (facts : ValueFacts) where
   -- the first nodes of values fit these types, one each
   abbrev RootsFit : ValueTrees → List ℕ → Type 0
-  RootsFit no_values [] = Unit {0}
-  RootsFit no_values (ty ∷ types) = ⊥
-  RootsFit (more_values v vs) [] = ⊥
-  RootsFit (more_values v vs) (ty ∷ types) = NodeFits facts (root_of v) ty × RootsFit vs types
+  RootsFit no_trees [] = Unit {0}
+  RootsFit no_trees (ty ∷ types) = ⊥
+  RootsFit (more_trees v vs) [] = ⊥
+  RootsFit (more_trees v vs) (ty ∷ types) = NodeFits facts (root_of v) ty × RootsFit vs types
 
   -- the fields of all data in a value fit
   abbrev mutual
     IsSound : ValueTree → Type 0
-    IsSound (bool_value b) = Unit {0}
-    IsSound (int_value n) = Unit {0}
-    IsSound (big_value n) = Unit {0}
-    IsSound (const_value name) = Unit {0}
-    IsSound (opaque_value n) = Unit {0}
-    IsSound (data_value name fs) = ((ty : ℕ) × (types : List ℕ) × (facts.data_named name ≡ Some (ty, types)) × RootsFit fs types) × AreSound fs
+    IsSound (bool_tree b) = Unit {0}
+    IsSound (int_tree n) = Unit {0}
+    IsSound (big_tree n) = Unit {0}
+    IsSound (const_tree name) = Unit {0}
+    IsSound (opaque_tree n) = Unit {0}
+    IsSound (data_tree name fs) = ((ty : ℕ) × (types : List ℕ) × (facts.data_named name ≡ Some (ty, types)) × RootsFit fs types) × AreSound fs
 
     AreSound : ValueTrees → Type 0
-    AreSound no_values = Unit {0}
-    AreSound (more_values v vs) = IsSound v × AreSound vs
+    AreSound no_trees = Unit {0}
+    AreSound (more_trees v vs) = IsSound v × AreSound vs
 
   one_type : {name : List ℕ} {a b : ℕ} {these those : List ℕ} → facts.data_named name ≡ Some (a, these)
       → facts.data_named name ≡ Some (b, those) → (a ≡ b) × (these ≡ those)
@@ -76,34 +76,34 @@ module _ (facts : ValueFacts) where
 
   mutual
     of_type : (v : ValueTree) (ty : ℕ) → NodeFits facts (root_of v) ty → IsSound v → IsOfType facts v ty
-    of_type (bool_value b) ty fits sound = fits
-    of_type (int_value n) ty fits sound = fits
-    of_type (big_value n) ty fits sound = fits
-    of_type (const_value name) ty fits sound = fits
-    of_type (opaque_value n) ty fits sound = fits
-    of_type (data_value name fs) ty (types, is) ((other, others, also, roots), sound) =
+    of_type (bool_tree b) ty fits sound = fits
+    of_type (int_tree n) ty fits sound = fits
+    of_type (big_tree n) ty fits sound = fits
+    of_type (const_tree name) ty fits sound = fits
+    of_type (opaque_tree n) ty fits sound = fits
+    of_type (data_tree name fs) ty (types, is) ((other, others, also, roots), sound) =
         (types, is, of_types fs types (subst (RootsFit fs) (one_type also is).1 roots) sound)
 
     of_types : (vs : ValueTrees) (types : List ℕ) → RootsFit vs types → AreSound vs → AreOfTypes facts vs types
-    of_types no_values [] roots sound = tt
-    of_types no_values (ty ∷ types) roots sound = roots
-    of_types (more_values v vs) [] roots sound = roots
-    of_types (more_values v vs) (ty ∷ types) roots sound = (of_type v ty roots.0 sound.0, of_types vs types roots.1 sound.1)
+    of_types no_trees [] roots sound = tt
+    of_types no_trees (ty ∷ types) roots sound = roots
+    of_types (more_trees v vs) [] roots sound = roots
+    of_types (more_trees v vs) (ty ∷ types) roots sound = (of_type v ty roots.0 sound.0, of_types vs types roots.1 sound.1)
 
   mutual
     fitting : (v : ValueTree) (ty : ℕ) → IsOfType facts v ty → NodeFits facts (root_of v) ty × IsSound v
-    fitting (bool_value b) ty is = (is, tt)
-    fitting (int_value n) ty is = (is, tt)
-    fitting (big_value n) ty is = (is, tt)
-    fitting (const_value name) ty is = (is, tt)
-    fitting (opaque_value n) ty is = (is, tt)
-    fitting (data_value name fs) ty (types, is, of) = let (roots, sound) = all_fitting fs types of in ((types, is), ((ty, types, is, roots), sound))
+    fitting (bool_tree b) ty is = (is, tt)
+    fitting (int_tree n) ty is = (is, tt)
+    fitting (big_tree n) ty is = (is, tt)
+    fitting (const_tree name) ty is = (is, tt)
+    fitting (opaque_tree n) ty is = (is, tt)
+    fitting (data_tree name fs) ty (types, is, of) = let (roots, sound) = all_fitting fs types of in ((types, is), ((ty, types, is, roots), sound))
 
     all_fitting : (vs : ValueTrees) (types : List ℕ) → AreOfTypes facts vs types → RootsFit vs types × AreSound vs
-    all_fitting no_values [] of = (tt, tt)
-    all_fitting no_values (ty ∷ types) of = absurd of
-    all_fitting (more_values v vs) [] of = absurd of
-    all_fitting (more_values v vs) (ty ∷ types) of =
+    all_fitting no_trees [] of = (tt, tt)
+    all_fitting no_trees (ty ∷ types) of = absurd of
+    all_fitting (more_trees v vs) [] of = absurd of
+    all_fitting (more_trees v vs) (ty ∷ types) of =
         let (fits, sound) = fitting v ty of.0 in let (roots, others) = all_fitting vs types of.1 in ((fits, roots), (sound, others))
 
   -- behind the end no node fits, wherever that is
@@ -149,10 +149,10 @@ module _ (facts : ValueFacts) where
     -- the nodes of the fields fit exactly where the fields' first nodes do
     roots_fit : (vs : ValueTrees) (at : ℕ) (rest : List Node) (types : List ℕ) → drop at nodes ≡ nodes_all vs ++ rest → length types ≡ count_of vs
         → NodesFit facts nodes at types → RootsFit vs types
-    roots_fit no_values at rest [] e same fit = tt
-    roots_fit no_values at rest (ty ∷ types) e same fit = absurd (omega (arith, same))
-    roots_fit (more_values v vs) at rest [] e same fit = absurd (omega (arith, same))
-    roots_fit (more_values v vs) at rest (ty ∷ types) e same (node, is, fits, others) =
+    roots_fit no_trees at rest [] e same fit = tt
+    roots_fit no_trees at rest (ty ∷ types) e same fit = absurd (omega (arith, same))
+    roots_fit (more_trees v vs) at rest [] e same fit = absurd (omega (arith, same))
+    roots_fit (more_trees v vs) at rest (ty ∷ types) e same (node, is, fits, others) =
         let here : drop at nodes ≡ root_of v ∷ (behind v ++ (nodes_all vs ++ rest)) =
         e ∙ append_assoc (nodes_of v) (nodes_all vs) rest ∙ ap (λ l. l ++ (nodes_all vs ++ rest)) (rooted v) in
         let one : node ≡ root_of v = same_Some node (root_of v) (sym is ∙ at_place nodes at (root_of v) (behind v ++ (nodes_all vs ++ rest)) here) in
@@ -163,10 +163,10 @@ module _ (facts : ValueFacts) where
 
     fit_roots : (vs : ValueTrees) (at : ℕ) (rest : List Node) (types : List ℕ) → drop at nodes ≡ nodes_all vs ++ rest
         → RootsFit vs types → (length types ≡ count_of vs) × NodesFit facts nodes at types
-    fit_roots no_values at rest [] e roots = (refl, tt)
-    fit_roots no_values at rest (ty ∷ types) e roots = absurd roots
-    fit_roots (more_values v vs) at rest [] e roots = absurd roots
-    fit_roots (more_values v vs) at rest (ty ∷ types) e roots =
+    fit_roots no_trees at rest [] e roots = (refl, tt)
+    fit_roots no_trees at rest (ty ∷ types) e roots = absurd roots
+    fit_roots (more_trees v vs) at rest [] e roots = absurd roots
+    fit_roots (more_trees v vs) at rest (ty ∷ types) e roots =
         let here : drop at nodes ≡ root_of v ∷ (behind v ++ (nodes_all vs ++ rest)) =
         e ∙ append_assoc (nodes_of v) (nodes_all vs) rest ∙ ap (λ l. l ++ (nodes_all vs ++ rest)) (rooted v) in
         let past : at + 1 + nodes_below (root_of v) ≡ at + length (nodes_of v) =
@@ -184,22 +184,22 @@ module _ (facts : ValueFacts) where
 
     mutual
       sound_of : (v : ValueTree) (at : ℕ) (rest : List Node) → drop at nodes ≡ nodes_of v ++ rest → AllFit at (at + size_of v) → IsSound v
-      sound_of (bool_value b) at rest e fit = tt
-      sound_of (int_value n) at rest e fit = tt
-      sound_of (big_value n) at rest e fit = tt
-      sound_of (const_value name) at rest e fit = tt
-      sound_of (opaque_value n) at rest e fit = tt
-      sound_of (data_value name fs) at rest e fit =
+      sound_of (bool_tree b) at rest e fit = tt
+      sound_of (int_tree n) at rest e fit = tt
+      sound_of (big_tree n) at rest e fit = tt
+      sound_of (const_tree name) at rest e fit = tt
+      sound_of (opaque_tree n) at rest e fit = tt
+      sound_of (data_tree name fs) at rest e fit =
           let node : Node = Data name (count_of fs) (sizes_of fs) in
           let (ty, types, is, count, fits) = fit at node (omega arith) (omega arith) (at_place nodes at node (nodes_all fs ++ rest) e) in
           let next : drop (at + 1) nodes ≡ nodes_all fs ++ rest = further nodes (node ∷ []) at (nodes_all fs ++ rest) e in (
             (ty, types, is, roots_fit fs (at + 1) rest types next count fits),
-            sounds_of fs (at + 1) rest next (all_part at (at + size_of (data_value name fs)) (at + 1) (at + 1 + sizes_of fs) (omega arith) (omega arith) fit),
+            sounds_of fs (at + 1) rest next (all_part at (at + size_of (data_tree name fs)) (at + 1) (at + 1 + sizes_of fs) (omega arith) (omega arith) fit),
           )
 
       sounds_of : (vs : ValueTrees) (at : ℕ) (rest : List Node) → drop at nodes ≡ nodes_all vs ++ rest → AllFit at (at + sizes_of vs) → AreSound vs
-      sounds_of no_values at rest e fit = tt
-      sounds_of (more_values v vs) at rest e fit =
+      sounds_of no_trees at rest e fit = tt
+      sounds_of (more_trees v vs) at rest e fit =
           let whole = at + (size_of v + sizes_of vs) in
           let s = sized v in
           let here = e ∙ append_assoc (nodes_of v) (nodes_all vs) rest in
@@ -217,7 +217,7 @@ module _ (facts : ValueFacts) where
 
     mutual
       fit_of : (v : ValueTree) (at : ℕ) (rest : List Node) → drop at nodes ≡ nodes_of v ++ rest → IsSound v → AllFit at (at + size_of v)
-      fit_of (data_value name fs) at rest e ((ty, types, is, roots), sound) =
+      fit_of (data_tree name fs) at rest e ((ty, types, is, roots), sound) =
           let node : Node = Data name (count_of fs) (sizes_of fs) in
           let next : drop (at + 1) nodes ≡ nodes_all fs ++ rest = further nodes (node ∷ []) at (nodes_all fs ++ rest) e in
           λ k other le lt is_k. elim (cases_lt at k) [
@@ -228,15 +228,15 @@ module _ (facts : ValueFacts) where
                 let (count, fits) = fit_roots fs (at + 1) rest types next roots in
                 subst (λ j. FieldsFit facts nodes (j + 1) other) same (subst (FieldsFit facts nodes (at + 1)) one (ty, types, is, count, fits))
           ]
-      fit_of (bool_value b) at rest e sound = leaf_fit at (Bool b) rest e tt
-      fit_of (int_value n) at rest e sound = leaf_fit at (Int n) rest e tt
-      fit_of (big_value n) at rest e sound = leaf_fit at (Big n) rest e tt
-      fit_of (const_value name) at rest e sound = leaf_fit at (Const name) rest e tt
-      fit_of (opaque_value n) at rest e sound = leaf_fit at (Opaque n) rest e tt
+      fit_of (bool_tree b) at rest e sound = leaf_fit at (Bool b) rest e tt
+      fit_of (int_tree n) at rest e sound = leaf_fit at (Int n) rest e tt
+      fit_of (big_tree n) at rest e sound = leaf_fit at (Big n) rest e tt
+      fit_of (const_tree name) at rest e sound = leaf_fit at (Const name) rest e tt
+      fit_of (opaque_tree n) at rest e sound = leaf_fit at (Opaque n) rest e tt
 
       fits_of : (vs : ValueTrees) (at : ℕ) (rest : List Node) → drop at nodes ≡ nodes_all vs ++ rest → AreSound vs → AllFit at (at + sizes_of vs)
-      fits_of no_values at rest e sound k other le lt is = absurd (omega (arith, le, lt))
-      fits_of (more_values v vs) at rest e sound k other le lt is =
+      fits_of no_trees at rest e sound k other le lt is = absurd (omega (arith, le, lt))
+      fits_of (more_trees v vs) at rest e sound k other le lt is =
           let s = sized v in
           let here = e ∙ append_assoc (nodes_of v) (nodes_all vs) rest in
           let next : drop (at + size_of v) nodes ≡ nodes_all vs ++ rest =

@@ -7,8 +7,8 @@ use Rattle.isle_meaning.specs.Worlds.{Event}
 use Rattle.isle_run.specs.declared.calls.answer.Effect.{Effect}
 use Rattle.isle_run.specs.declared.program.Program.{Program}
 use Rattle.isle_run.specs.Calls.Answers.{IsEventOf, LeadsThrough, HasMade, name_of_term, answers_in}
-use Rattle.isle_run.specs.Calls.Open.{CallOf}
-use Rattle.isle_run.specs.Calls.States.{Host, State, Makes, IsOpenIn, HasGoneOn}
+use Rattle.isle_run.specs.Inside.Calls.Open.{CallOf}
+use Rattle.isle_run.specs.Inside.Calls.States.{Host, State, Makes, IsOpenIn, HasGoneOn}
 use Rattle.isle_run.proofs.Stores.Values.{extends_same, extends_again}
 
 -- items of two lists, place by place, and others behind them

@@ -6,10 +6,10 @@ use Rattle.isle_meaning.specs.Worlds.{Event}
 use Rattle.isle_run.specs.declared.calls.frames.Advanced.{Advanced}
 use Rattle.isle_run.specs.declared.calls.frames.Next.{Next}
 use Rattle.isle_run.specs.declared.calls.frames.Next.TheVariants.{Runs}
-use Rattle.isle_run.specs.Calls.Open.{CallOf}
-use Rattle.isle_run.specs.Calls.Stacks.{AreStacked, GoesOn}
-use Rattle.isle_run.specs.Calls.States.{Host, State, Makes, IsOpenIn, HasGoneOn}
-use Rattle.isle_run.specs.Calls.Ways.{Way, IsWay, AdvancesTo, Begins, HasBegun}
+use Rattle.isle_run.specs.Inside.Calls.Open.{CallOf}
+use Rattle.isle_run.specs.Inside.Calls.Stacks.{AreStacked, GoesOn}
+use Rattle.isle_run.specs.Inside.Calls.States.{Host, State, Makes, IsOpenIn, HasGoneOn}
+use Rattle.isle_run.specs.Inside.Calls.Ways.{Way, IsWay, AdvancesBy, Begins, HasBegun}
 use Rattle.isle_run.proofs.OpenCalls.Made.{makes_none, makes_again, gone_none, gone_again, open_later}
 use Rattle.isle_run.proofs.OpenCalls.Stacked.{stacked_longer, stacked_open, stacked_begins}
 
@@ -64,10 +64,10 @@ module _ {W F : Type 0} (host : Host W) (way : Way F) (s : State W) where
       (far : IsRunning host way s goal ready t waiting top) (in_first : (vs : Values) → IsOpenIn host (goal vs) s) (u : State W) (next_top : F)
       (advanced : Advanced) (gone : HasGoneOn host t u)
       (turn : (k : CallOf) (since : List Event) → IsOpenIn host k t → way.is_frame k t.stored top since
-      → (made : List Event) × Makes host t u made × AdvancesTo way k u.stored next_top (since ++ made) advanced) (waiting_next : List F) (next : Next F)
+      → (made : List Event) × Makes host t u made × AdvancesBy way k u.stored next_top (since ++ made) advanced) (waiting_next : List F) (next : Next F)
       (is_way : IsWay way)
       (goes : (vs : Values) (k : CallOf) (start since : List Event) → ready vs → AreStacked way (goal vs) u.stored (reverse waiting) k start
-      → AdvancesTo way k u.stored next_top since advanced → GoesOn way (goal vs) u.stored (reverse waiting_next) (start ++ since) next) where
+      → AdvancesBy way k u.stored next_top since advanced → GoesOn way (goal vs) u.stored (reverse waiting_next) (start ++ since) next) where
     -- what follows from one turn
     pub running_turn : (vs : Values) → ready vs → (made : List Event) × Makes host s u made × GoesOn way (goal vs) u.stored (reverse waiting_next) made next
     running_turn vs may =

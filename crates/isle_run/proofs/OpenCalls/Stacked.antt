@@ -12,11 +12,11 @@ use Rattle.isle_run.specs.declared.calls.answer.Answer.TheVariants.{Value as Val
 use Rattle.isle_run.specs.declared.calls.store.Stored.{Stored}
 use Rattle.isle_run.specs.declared.program.Program.{Program}
 use Rattle.isle_run.specs.Calls.Answers.{IsEnd, TellsOutcome}
-use Rattle.isle_run.specs.Calls.Open.{CallOf, call_below}
-use Rattle.isle_run.specs.Calls.Stacks.{AreStacked, first_steps}
-use Rattle.isle_run.specs.Calls.States.{Host, State, IsOpenIn}
-use Rattle.isle_run.specs.Calls.Ways.{Way, Comes, Below, IsWay, Begins, BeginsBelow, AdvancesTo}
-use Rattle.isle_run.specs.Stores.Values.{Extends}
+use Rattle.isle_run.specs.Inside.Calls.Open.{CallOf, call_below}
+use Rattle.isle_run.specs.Inside.Calls.Stacks.{AreStacked, first_steps}
+use Rattle.isle_run.specs.Inside.Calls.States.{Host, State, IsOpenIn}
+use Rattle.isle_run.specs.Inside.Calls.Ways.{Way, Comes, Below, IsWay, Begins, BeginsBelow, AdvancesBy}
+use Rattle.isle_run.specs.Inside.Stores.Values.{Extends}
 
 -- what ends a call its answer tells
 pub ends_told : (program : Program) (t : ℕ) (answer : Answer) (e : Ended) → IsEnd program answer e → TellsOutcome program t answer (ended e)
@@ -129,7 +129,7 @@ module _ {F : Type 0} (way : Way F) where
 
     -- a frame that has come to something has begun with its effects
     pub advances_begun : (k : CallOf) (stored : List Stored) (frame : F) (since : List Event) (advanced : Advanced)
-        → AdvancesTo way k stored frame since advanced → Begins way k since
+        → AdvancesBy way k stored frame since advanced → Begins way k since
     advances_begun k stored frame since (Is n) (v, stands, comes) = comes_begun k (way.steps_of frame) since (given v) comes
     advances_begun k stored frame since Missing comes = comes_begun k (way.steps_of frame) since missing comes
     advances_begun k stored frame since (Ends answer) (e, end, comes) = comes_begun k (way.steps_of frame) since (ended e) comes

@@ -10,7 +10,7 @@ use Rattle.isle_types.specs.declared.ids.TermId.{TermId}
 use Rattle.isle_types.specs.declared.ids.TypeId.{TypeId}
 use Rattle.isle_terms.specs.declared.terms.Term.{Term}
 use Rattle.isle_terms.specs.Signatures.{Signature}
-use Rattle.isle_terms.specs.Values.{ValueTree, ValueTrees, value_list, bool_value as bool_tree, no_values as no_trees, more_values as more_trees}
+use Rattle.isle_terms.specs.Values.{ValueTree, ValueTrees, value_list, bool_tree, no_trees, more_trees}
 use Rattle.isle_meaning.specs.Facts.{no_term, shape_of_form, declared_shape}
 use Rattle.isle_meaning.specs.Values.{Value, Values, no_values, more_values}
 use Rattle.isle_meaning.specs.ValueTypes.{ValueFacts, IsOfType, AreOfTypes}
@@ -29,7 +29,7 @@ use Rattle.isle_run.specs.Meanings.{checked, signature_at}
 use Rattle.isle_meaning.specs.Outcomes.{Outcome, given, missing, ended, Judged, WorldConstructs, WorldExtracts, WorldEffects}
 use Rattle.isle_run.specs.Programs.{types_of, terms_of, types_taken, number_of}
 use Rattle.isle_run.specs.Calls.Answers.{name_of_term, answers_in, IsCalledOn, IsEventOf, HasMade}
-use Rattle.isle_run.specs.Calls.Host.{TellsValue, TellsOutputs}
+use Rattle.isle_run.specs.Inside.Calls.Host.{TellsValue, TellsOutputs}
 
 -- what is told of one outcome is told of another that it leads to
 pub value_leads : (p : CheckedProgram) (stored : List Stored) (q : Asked) (P Q : Outcome Value → Type 0) (told : Told ℕ)

@@ -17,9 +17,9 @@ use Rattle.isle_run.specs.declared.calls.store.Stored.{Stored}
 use Rattle.isle_run.specs.Meanings.{checked}
 use Rattle.isle_meaning.specs.Outcomes.{ended, unmatched}
 use Rattle.isle_run.specs.Programs.{number_of, types_taken, value_facts}
-use Rattle.isle_run.specs.Stores.Values.{StandEach}
-use Rattle.isle_run.specs.Calls.Open.{CallOf}
-use Rattle.isle_run.specs.Calls.Ways.{UnmatchedIs}
+use Rattle.isle_run.specs.Inside.Stores.Values.{StandEach}
+use Rattle.isle_run.specs.Inside.Calls.Open.{CallOf}
+use Rattle.isle_run.specs.Inside.Calls.Ways.{UnmatchedIs}
 use Rattle.isle_run.proofs.OpenCalls.Telling.{inputs_taken}
 
 -- a call of a term that may not fail of which no rule is left is stuck

@@ -9,9 +9,9 @@ use Rattle.isle_types.proofs.Zipped.{all_at}
 use Rattle.isle_terms.specs.declared.rules.Rule.{Rule}
 use Rattle.isle_terms.proofs.Collections.Cycles.{set_here, set_cases, set_keeps}
 use Rattle.isle_blocks.proofs.Building.Walking.{cons_cases, cons_here, cons_there, none_there}
-use Rattle.isle_run.specs.Facts.Spreading.{IsListedAt}
+use Rattle.isle_run.specs.Inside.Facts.Spreading.{IsListedAt}
 use Rattle.isle_run.specs.Facts.Reach.{terms_made_by}
-use Rattle.isle_run.specs.Facts.Callers.{ListsMore, AreCallers}
+use Rattle.isle_run.specs.Inside.Facts.Callers.{ListsMore, AreCallers}
 
 -- a number is listed at one place
 pub lists_one : (place number : ℕ) (old : List (Vec ℕ Global)) (own new : Vec ℕ Global) → slice_get old place ≡ Some own

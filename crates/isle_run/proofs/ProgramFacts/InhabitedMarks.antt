@@ -9,9 +9,9 @@ use Rattle.std.proofs.lemmas.List.Folds.{list_any_at}
 use Rattle.std.proofs.lemmas.Option.{slice_get_within}
 use Rattle.isle_types.specs.declared.ids.TypeId.{TypeId}
 use Rattle.isle_types.specs.declared.types.«Type».{«Type» as KnownType}
-use Rattle.isle_blocks.specs.Building.Contents.{Marked}
+use Rattle.isle_blocks.specs.Inside.Building.Contents.{Marked}
 use Rattle.isle_blocks.proofs.Building.Walking.{cons_here, cons_there}
-use Rattle.isle_run.specs.Facts.Spreading.{unmarked}
+use Rattle.isle_run.specs.Inside.Facts.Spreading.{unmarked}
 use Rattle.isle_run.specs.Facts.Inhabited.{fields_for, IsInhabited, AreInhabited, has_value, no_values, more_values, AreAllInhabited, mark_of, can_be_made}
 use Rattle.isle_run.specs.Facts.Inhabited.{AreClosedBelow, AreSound, MarksBelow, MarksOne}
 use Rattle.isle_run.proofs.ProgramFacts.Spreading.{set_cases, set_fewer}

@@ -7,8 +7,8 @@ use Rattle.std.proofs.lemmas.List.{length-set, length-replicate}
 use Rattle.std.proofs.lemmas.List.Sums.{count_by-le-length}
 use Rattle.std.proofs.lemmas.Option.{same_Some, slice_get_cases, slice_get_within}
 use Rattle.isle_types.specs.declared.types.«Type».{«Type» as KnownType}
-use Rattle.isle_blocks.specs.Building.Contents.{Marked}
-use Rattle.isle_run.specs.Facts.Spreading.{unmarked}
+use Rattle.isle_blocks.specs.Inside.Building.Contents.{Marked}
+use Rattle.isle_run.specs.Inside.Facts.Spreading.{unmarked}
 use Rattle.isle_run.specs.Facts.Inhabited.{AreAllInhabited, AreSound, AreClosedBelow, can_be_made}
 use Rattle.isle_run.proofs.ProgramFacts.Spreading.{set_cases, set_fewer}
 use Rattle.isle_run.proofs.ProgramFacts.InhabitedMarks.{made_has_value, all_inhabited}

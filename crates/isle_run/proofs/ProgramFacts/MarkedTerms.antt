@@ -12,7 +12,7 @@ use Rattle.std.specs.Option.{option_map_or}
 use Rattle.isle_terms.specs.declared.rules.Rule.{Rule}
 use Rattle.isle_terms.specs.declared.terms.Term.{Term}
 use Rattle.isle_terms.specs.Shown.TermTables.{TermTables}
-use Rattle.isle_blocks.specs.RivalLists.{is_multi_kind, is_multi_in}
+use Rattle.isle_terms.specs.Shown.TermTables.{is_multi_kind, is_multi_in}
 
 -- a mark is set or was
 set_or : (marks : List Bool) (n k : ℕ) → n < length marks → get_or (set marks n true) k false ≡ (get_or marks k false || (n == k))

@@ -6,17 +6,17 @@ use Rattle.std.proofs.lemmas.List.Elements.{All-contains}
 use Rattle.isle_types.specs.TypeTables.{TypeTables}
 use Rattle.isle_terms.specs.declared.rules.Rule.{Rule}
 use Rattle.isle_terms.specs.Shown.TermTables.{TermTables}
-use Rattle.isle_blocks.specs.Building.Contents.{Marked}
-use Rattle.isle_run.specs.Facts.Spreading.{SpreadsTo, is_marked, is_listed, IsSpread}
-use Rattle.isle_run.specs.Facts.Reach.{is_hindered, Makes, Reaches, at_once, onwards, IsBarred}
-use Rattle.isle_run.specs.Facts.Callers.{AreCallers}
+use Rattle.isle_blocks.specs.Inside.Building.Contents.{Marked}
+use Rattle.isle_run.specs.Inside.Facts.Spreading.{SpreadsTo, is_marked, is_listed, IsSpread}
+use Rattle.isle_run.specs.Facts.Reach.{is_hindered, MakesValues, Reaches, at_once, onwards, IsBarred}
+use Rattle.isle_run.specs.Inside.Facts.Callers.{AreCallers}
 use Rattle.isle_run.proofs.ProgramFacts.Spreading.{marked_within}
 
 module _ (tyenv : TypeTables) (env : TermTables) (rooted : All (λ (rule : Rule). rule.root_term.0 < length env.terms) env.rules) (first : List Bool)
     (fits : length first ≡ length env.terms) (hindered : (n : ℕ) → get_or first n false ≡ is_hindered tyenv env n)
     (lists : List (Vec ℕ Global)) (callers : AreCallers tyenv.names (length env.terms) env.rules lists) where
   -- a term that makes values has rules
-  makes_within : (from to : ℕ) → Makes tyenv env from to → from < length env.terms
+  makes_within : (from to : ℕ) → MakesValues tyenv env from to → from < length env.terms
   makes_within from to makes = subst (λ (n : ℕ). n < length env.terms) makes.root
       (All-contains (λ (rule : Rule). rule.root_term.0 < length env.terms) env.rules makes.rule rooted makes.among)
 

@@ -8,9 +8,9 @@ use Rattle.std.proofs.lemmas.List.{length-set, length_push, get_or_past, get_or-
 use Rattle.std.proofs.lemmas.List.Sums.{sum_by-set}
 use Rattle.std.proofs.lemmas.List.Elements.{Contains-append_left, Contains-push, Contains-push_cases}
 use Rattle.std.proofs.lemmas.Option.{same_Some, slice_get_within}
-use Rattle.isle_blocks.specs.Building.Contents.{Marked}
+use Rattle.isle_blocks.specs.Inside.Building.Contents.{Marked}
 use Rattle.isle_blocks.proofs.Building.Walking.{cons_cases, cons_here, cons_there, none_there}
-use Rattle.isle_run.specs.Facts.Spreading.{IsListedAt, SpreadsTo, is_marked, is_listed, IsSpread, MarksAndLists, unmarked}
+use Rattle.isle_run.specs.Inside.Facts.Spreading.{IsListedAt, SpreadsTo, is_marked, is_listed, IsSpread, MarksAndLists, unmarked}
 
 -- a mark that is set
 pub set_marked : (marks : List Bool) (n : ℕ) → n < length marks → Marked (set marks n true) n

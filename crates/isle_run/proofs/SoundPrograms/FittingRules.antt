@@ -11,7 +11,7 @@ use Rattle.isle_syntax.specs.Trees.ExprTree.{ExprTree, ExprTrees, LetTrees, expr
 use Rattle.isle_syntax.specs.Trees.ExprTree.{no_exprs, more_exprs, no_lets, more_lets}
 use Rattle.isle_syntax.specs.Trees.ExprShape.{expr_of}
 use Rattle.isle_terms.specs.TypedRules.{TypedExpr, TypedExprs, TypedBindings, built_var, built_bool, built_int, built_prim, built_term, built_let}
-use Rattle.isle_terms.specs.TypedRules.{no_built, more_built, no_bindings, more_bindings, TypedIfLet, TypedRule}
+use Rattle.isle_terms.specs.TypedRules.{no_built, more_built, no_typed_bindings, more_typed_bindings, TypedIfLet, TypedRule}
 use Rattle.isle_terms.specs.Signatures.{Flags, Declared}
 use Rattle.isle_terms.specs.Elaboration.{State, counted, bound, on_lhs, ExprJudgement, EachExpr, Binds, ExprNode, Builds, Conditions}
 use Rattle.isle_terms.specs.Elaboration.{ElaboratesRule}
@@ -33,8 +33,8 @@ abbrev mutual
   AllBuiltFit (more_built e es) = BuiltFits e × AllBuiltFit es
 
   pub BindingsFit : TypedBindings → Type 0
-  BindingsFit no_bindings = Unit {0}
-  BindingsFit (more_bindings k ty e bs) = BuiltFits e × BindingsFit bs
+  BindingsFit no_typed_bindings = Unit {0}
+  BindingsFit (more_typed_bindings k ty e bs) = BuiltFits e × BindingsFit bs
 
 -- so of conditions and of a rule
 abbrev pub ConditionsFit : List TypedIfLet → Type 0

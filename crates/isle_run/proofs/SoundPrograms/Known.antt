@@ -2,15 +2,16 @@
 use Rattle.std.proofs.Common.{ℕ, true, false}
 use Rattle.isle_types.specs.TypeTables.{TypeTables}
 use Rattle.isle_terms.specs.Shown.TermTables.{TermTables}
-use Rattle.isle_meaning.specs.Variables.{var_type}
+use Rattle.isle_meaning.specs.Inside.Variables.{var_type}
 use Rattle.isle_meaning.proofs.SoundPrograms.Stable.{same_truth, same_text, rule_typed_told, sound_rule_told, sound_data_told}
 use Rattle.isle_run.specs.declared.program.Program.{Program}
 use Rattle.isle_run.specs.Programs.{types_of, terms_of}
 use Rattle.isle_run.specs.Facts.Reach.{IsRunnable, is_root, is_hindered}
 use Rattle.isle_run.specs.Laws.Terms.{term_facts}
 use Rattle.isle_run.specs.Tables.{checked_by, variant_name, struct_name}
-use Rattle.isle_run.specs.SoundTables.{IsDataNamed, AreSound}
-use Rattle.isle_run.specs.Sound.{IsSoundProgram}
+use Rattle.isle_run.specs.Inside.SoundTables.{AreSound}
+use Rattle.isle_run.specs.Tables.{IsDataNamed}
+use Rattle.isle_run.specs.Inside.Sound.{IsSoundProgram}
 
 module _ (tyenv : TypeTables) (env : TermTables) (known : ∥ AreSound tyenv env ∥₁) where
   -- a term that can be run can

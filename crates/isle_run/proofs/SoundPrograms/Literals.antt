@@ -26,7 +26,7 @@ use Rattle.isle_types.specs.TypeEnvs.{Shows, IsShownShape}
 use Rattle.isle_types.proofs.Lists.{slice_get-kept}
 use Rattle.isle_terms.specs.Elaboration.{bool_number, of_integer, of_primitive}
 use Rattle.isle_terms.specs.SoundRules.WellTyped.{IsTypedLiteral}
-use Rattle.isle_terms.specs.Values.{bool_value as bool_tree, int_value as int_tree, big_value as big_tree, const_value as const_tree}
+use Rattle.isle_terms.specs.Values.{bool_tree, int_tree, big_tree, const_tree}
 use Rattle.isle_meaning.specs.Values.{bool_value, int_value, constant_value}
 use Rattle.isle_meaning.specs.ValueTypes.{TypeKind, integer_kind, primitive_kind, IsIntOf, HasConstants}
 use Rattle.isle_meaning.specs.GroundValues.{IsValueOf}

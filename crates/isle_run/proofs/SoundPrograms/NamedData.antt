@@ -23,7 +23,7 @@ use Rattle.isle_run.specs.Laws.Terms.{term_facts}
 use Rattle.isle_run.specs.Tables.{value_facts_by, checked_by, data_made, shape_made, data_of_term, shape_of_term}
 use Rattle.isle_run.specs.Tables.{term_called as id_named, variant_name, struct_name}
 use Rattle.isle_meaning.specs.SoundPrograms.{HasSoundData}
-use Rattle.isle_run.specs.SoundTables.{IsDataNamed}
+use Rattle.isle_run.specs.Tables.{IsDataNamed}
 use Rattle.isle_run.proofs.SoundPrograms.TypeTables.{variant_named, struct_named}
 use Rattle.isle_run.proofs.SoundPrograms.Agreeing.{terms_agree}
 use Rattle.isle_meaning.proofs.SoundPrograms.MadeData.{IsMadeOf, variant_made, struct_made, made_at}

@@ -19,7 +19,7 @@ use Rattle.isle_terms.specs.declared.terms.TermKind.TheVariants.{EnumVariant, St
 use Rattle.isle_terms.specs.Signatures.{Flags, Signature, Declared, TermForm, by_rules, declared_form, flags_of}
 use Rattle.isle_terms.specs.TypedRules.{TypedPattern, TypedPatterns, typed_bind, typed_var, typed_bool, typed_int, typed_prim, typed_term}
 use Rattle.isle_terms.specs.TypedRules.{typed_wildcard, typed_and, no_typed, more_typed, TypedExpr, TypedExprs, TypedBindings, built_term}
-use Rattle.isle_terms.specs.TypedRules.{built_var, built_bool, built_int, built_prim, built_let, no_built, more_built, no_bindings, more_bindings}
+use Rattle.isle_terms.specs.TypedRules.{built_var, built_bool, built_int, built_prim, built_let, no_built, more_built, no_typed_bindings, more_typed_bindings}
 use Rattle.isle_terms.specs.TypedRules.{built_at, Variable, TypedIfLet, TypedRule}
 use Rattle.isle_terms.specs.Elaboration.{IsLiteralOf, on_lhs}
 use Rattle.isle_terms.specs.Definitions.{declared_by}
@@ -27,21 +27,21 @@ use Rattle.isle_terms.specs.SoundRules.WellTyped.{IsTypedExpr, AreTypedExprs, Ar
 use Rattle.isle_terms.specs.Shown.TermTables.{TermTables}
 use Rattle.isle_terms.specs.Shown.ShownTerms.{term_shown, form_shown, ShowsDeclared}
 use Rattle.isle_terms.specs.Shown.ShownRules.{typed_list, typed_shown, built_shown, iflet_shown}
-use Rattle.isle_terms.specs.Collecting.Environments.{ShowsTerms}
+use Rattle.isle_terms.specs.TermEnvs.{ShowsTerms}
 use Rattle.isle_meaning.specs.Facts.{TermFacts, facts_of, term_at, no_term}
 use Rattle.isle_meaning.specs.Scopes.{IsWellScopedRule, TakesOne, TakeOneEach, IfLetsTakeOne}
 use Rattle.isle_meaning.specs.Typing.{ExprTyped, RuleIsTyped}
 use Rattle.isle_meaning.specs.Laws.Matching.{IsRuleOfTypes}
-use Rattle.isle_meaning.specs.Variables.{var_type}
+use Rattle.isle_meaning.specs.Inside.Variables.{var_type}
 use Rattle.isle_meaning.specs.Words.{steps_of}
 use Rattle.isle_terms.proofs.Sound.RuleTypes.{rules_typed}
 use Rattle.isle_meaning.proofs.Matching.MadeFields.{rules_of_definitions_fit, made_terms_take_their_fields}
 use Rattle.isle_meaning.proofs.Matching.Bridging.{typed_by_variables}
-use Rattle.isle_blocks.specs.RivalLists.{is_multi_kind, is_multi_in}
+use Rattle.isle_terms.specs.Shown.TermTables.{is_multi_kind, is_multi_in}
 use Rattle.isle_run.specs.Facts.Reach.{is_hindering_pattern, are_hindering_patterns, is_hindering_expr, are_hindering_exprs}
 use Rattle.isle_run.specs.Facts.Reach.{are_hindering_bindings}
 use Rattle.isle_run.specs.Facts.Reach.{is_hindering_iflet, is_hindering_rule, is_hindered, terms_in, terms_in_all, terms_in_bound, terms_in_iflets}
-use Rattle.isle_run.specs.Facts.Reach.{terms_made_by, Makes as MakesValues, at_once, onwards, IsRunnable}
+use Rattle.isle_run.specs.Facts.Reach.{terms_made_by, MakesValues, at_once, onwards, IsRunnable}
 use Rattle.isle_run.specs.Laws.Terms.{term_facts}
 use Rattle.isle_run.specs.Tables.{rule_shown, checked_by}
 use Rattle.isle_meaning.specs.SoundPrograms.{IsSoundExpr, AreSoundExprs, AreSoundBindings, AreSoundIfLets, IsSoundRule, AskNothingImpure}
@@ -205,8 +205,8 @@ module _ (tyenv : TypeTables) (env : TermTables) (defs : List Def) (types : Envi
       bindings_sound : (bs : TypedBindings) → AreTypedBindings declared variables caller bs → BindingsFit bs
           → are_hindering_bindings tyenv bs ≡ false → RunEach (terms_in_bound bs)
           → AreSoundBindings (checked_by tyenv env) (IsRunnable tyenv env) bs
-      bindings_sound no_bindings h fits free run = tt
-      bindings_sound (more_bindings k ty e bs) h fits free run =
+      bindings_sound no_typed_bindings h fits free run = tt
+      bindings_sound (more_typed_bindings k ty e bs) h fits free run =
           let parts = or_parts (is_hindering_expr tyenv e) (are_hindering_bindings tyenv bs) free in (
             expr_sound ty e h.1 fits.0 parts.0 (front (terms_in e) (terms_in_bound bs) run),
             bindings_sound bs h.2 fits.1 parts.1 (back (terms_in e) (terms_in_bound bs) run),

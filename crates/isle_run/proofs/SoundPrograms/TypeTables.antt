@@ -20,7 +20,7 @@ use Rattle.isle_meaning.specs.Facts as facts
 use Rattle.isle_terms.proofs.Collections.TypeTerms.{fields_numbers, zipped_length}
 use Rattle.isle_run.specs.Meanings.{fields_of_variant, variant_types, struct_types}
 use Rattle.isle_run.specs.Programs.{number_of}
-use Rattle.isle_run.specs.Stores.Printing.{fullname_of, variant_name, struct_name}
+use Rattle.isle_run.specs.Inside.Stores.Printing.{fullname_of, variant_name, struct_name}
 
 -- the fields of the variant at a place
 variant_fields_agree : (names : List (List ℕ)) (type : List ℕ) (variants : List NamedVariant) (made : List Variant)

@@ -8,9 +8,9 @@ use Rattle.isle_meaning.proofs.Matching.MadeFields.{made_terms_take_their_fields
 use Rattle.isle_run.specs.declared.program.Program.{Program}
 use Rattle.isle_run.specs.Programs.{types_of, terms_of}
 use Rattle.isle_run.specs.Compiled.{IsProgramOf, max_levels, max_nodes}
-use Rattle.isle_run.specs.SoundTables.{AreSound}
+use Rattle.isle_run.specs.Inside.SoundTables.{AreSound}
 use Rattle.isle_run.specs.Laws.Sound.{CompiledProgramsAreSound}
-use Rattle.isle_run.specs.ShownFiles.{ShowFiles}
+use Rattle.isle_run.specs.Inside.ShownFiles.{ShowFiles}
 use Rattle.isle_run.proofs.SoundPrograms.Defined.{program_agrees}
 use Rattle.isle_run.proofs.SoundPrograms.NamedData.{named_data, sound_data}
 use Rattle.isle_run.proofs.SoundPrograms.FittingTexts.{spelt_rules_fit}

@@ -4,68 +4,68 @@ use Rattle.std.proofs.Common.{get_or, refl, sym, ◌∙◌, ap, subst, arith, ap
 use Rattle.std.proofs.lemmas.List.{append-nil, reverse-append, length-reverse, length-drop, take-append-drop, drop_at, drop_all}
 use Rattle.std.proofs.lemmas.List.{take_all, get_or-reverse, get_or_past}
 use Rattle.std.proofs.lemmas.Bool.{cases_lt}
-use Rattle.isle_terms.specs.Values.{ValueTree, ValueTrees, bool_value, int_value, big_value, const_value, opaque_value, data_value}
-use Rattle.isle_terms.specs.Values.{no_values, more_values}
+use Rattle.isle_terms.specs.Values.{ValueTree, ValueTrees, bool_tree, int_tree, big_tree, const_tree, opaque_tree, data_tree}
+use Rattle.isle_terms.specs.Values.{no_trees, more_trees}
 use Rattle.isle_run.specs.declared.values.Node.{Node}
 use Rattle.isle_run.specs.declared.values.Node.TheVariants.{Bool, Int, Big, Const, Opaque, Data}
 use Rattle.isle_run.specs.Values.Nodes.{count_of, sizes_of, nodes_of, nodes_all, first_values, later_values, put, values_in}
-use Rattle.isle_run.specs.Stores.Laying.{sizes_behind, AreLaid, IsLeaf}
+use Rattle.isle_run.specs.Inside.Stores.Laying.{sizes_behind, AreLaid, IsLeaf}
 use Rattle.isle_run.proofs.GroundValues.Printing.{sized_all}
 use Rattle.isle_run.proofs.Stores.Sharing.{reverse_pushed}
 
 -- as many counts as values
 many_behind : (vs : ValueTrees) → length (sizes_behind vs) ≡ count_of vs
-many_behind no_values = refl
-many_behind (more_values v vs) = ap suc (many_behind vs)
+many_behind no_trees = refl
+many_behind (more_trees v vs) = ap suc (many_behind vs)
 
 -- the counts of the later values
 later_behind : (k : ℕ) (vs : ValueTrees) → drop k (sizes_behind vs) ≡ sizes_behind (later_values k vs)
 later_behind zero vs = refl
-later_behind (suc k) no_values = refl
-later_behind (suc k) (more_values v vs) = later_behind k vs
+later_behind (suc k) no_trees = refl
+later_behind (suc k) (more_trees v vs) = later_behind k vs
 
 -- the count at a place is that of the nodes of the values behind it
 behind_at : (k : ℕ) (vs : ValueTrees) (d : ℕ) → k < count_of vs → get_or (sizes_behind vs) k d ≡ sizes_of (later_values (suc k) vs)
-behind_at k no_values d low = absurd (omega arith)
-behind_at zero (more_values v vs) d low = refl
-behind_at (suc k) (more_values v vs) d low = behind_at k vs d (omega arith)
+behind_at k no_trees d low = absurd (omega arith)
+behind_at zero (more_trees v vs) d low = refl
+behind_at (suc k) (more_trees v vs) d low = behind_at k vs d (omega arith)
 
 -- the first values and the later ones have all nodes
 split_nodes : (k : ℕ) (vs : ValueTrees) → nodes_all (first_values k vs) ++ nodes_all (later_values k vs) ≡ nodes_all vs
 split_nodes zero vs = refl
-split_nodes (suc k) no_values = refl
-split_nodes (suc k) (more_values v vs) =
+split_nodes (suc k) no_trees = refl
+split_nodes (suc k) (more_trees v vs) =
     append_assoc (nodes_of v) (nodes_all (first_values k vs)) (nodes_all (later_values k vs)) ∙ ap (λ l. nodes_of v ++ l) (split_nodes k vs)
 
 split_sizes : (k : ℕ) (vs : ValueTrees) → sizes_of (first_values k vs) + sizes_of (later_values k vs) ≡ sizes_of vs
 split_sizes zero vs = omega arith
-split_sizes (suc k) no_values = refl
-split_sizes (suc k) (more_values v vs) = omega (arith, split_sizes k vs)
+split_sizes (suc k) no_trees = refl
+split_sizes (suc k) (more_trees v vs) = omega (arith, split_sizes k vs)
 
 -- so many of the values, where there are
 first_many : (k : ℕ) (vs : ValueTrees) → k ≤ count_of vs → count_of (first_values k vs) ≡ k
 first_many zero vs low = refl
-first_many (suc k) no_values low = absurd (omega arith)
-first_many (suc k) (more_values v vs) low = ap suc (first_many k vs (omega arith))
+first_many (suc k) no_trees low = absurd (omega arith)
+first_many (suc k) (more_trees v vs) low = ap suc (first_many k vs (omega arith))
 
 -- where there are fewer, all of them
 first_few : (n k : ℕ) (vs : ValueTrees) → count_of vs ≤ n → count_of vs ≤ k → first_values n vs ≡ first_values k vs
 first_few zero zero vs low less = refl
-first_few zero (suc k) no_values low less = refl
-first_few zero (suc k) (more_values v vs) low less = absurd (omega arith)
-first_few (suc n) zero no_values low less = refl
-first_few (suc n) zero (more_values v vs) low less = absurd (omega arith)
-first_few (suc n) (suc k) no_values low less = refl
-first_few (suc n) (suc k) (more_values v vs) low less = ap (more_values v) (first_few n k vs (omega arith) (omega arith))
+first_few zero (suc k) no_trees low less = refl
+first_few zero (suc k) (more_trees v vs) low less = absurd (omega arith)
+first_few (suc n) zero no_trees low less = refl
+first_few (suc n) zero (more_trees v vs) low less = absurd (omega arith)
+first_few (suc n) (suc k) no_trees low less = refl
+first_few (suc n) (suc k) (more_trees v vs) low less = ap (more_trees v) (first_few n k vs (omega arith) (omega arith))
 
 later_few : (n k : ℕ) (vs : ValueTrees) → count_of vs ≤ n → count_of vs ≤ k → later_values n vs ≡ later_values k vs
 later_few zero zero vs low less = refl
-later_few zero (suc k) no_values low less = refl
-later_few zero (suc k) (more_values v vs) low less = absurd (omega arith)
-later_few (suc n) zero no_values low less = refl
-later_few (suc n) zero (more_values v vs) low less = absurd (omega arith)
-later_few (suc n) (suc k) no_values low less = refl
-later_few (suc n) (suc k) (more_values v vs) low less = later_few n k vs (omega arith) (omega arith)
+later_few zero (suc k) no_trees low less = refl
+later_few zero (suc k) (more_trees v vs) low less = absurd (omega arith)
+later_few (suc n) zero no_trees low less = refl
+later_few (suc n) zero (more_trees v vs) low less = absurd (omega arith)
+later_few (suc n) (suc k) no_trees low less = refl
+later_few (suc n) (suc k) (more_trees v vs) low less = later_few n k vs (omega arith) (omega arith)
 
 -- so many of them, or all
 pub first_min : (k n : ℕ) (vs : ValueTrees) → n ≡ count_of vs → first_values (min k n) vs ≡ first_values k vs
@@ -89,10 +89,10 @@ reverse_take xs k low =
 
 -- the nodes of one value
 only_one : (nodes : List Node) (vs : ValueTrees) → count_of vs ≡ 1 → nodes ≡ nodes_all vs
-    → (v : ValueTree) × (vs ≡ more_values v no_values) × (nodes ≡ nodes_of v)
-only_one nodes no_values e laid = absurd (omega (arith, e))
-only_one nodes (more_values v no_values) e laid = (v, refl, laid ∙ append-nil (nodes_of v))
-only_one nodes (more_values v (more_values w vs)) e laid = absurd (omega (arith, e))
+    → (v : ValueTree) × (vs ≡ more_trees v no_trees) × (nodes ≡ nodes_of v)
+only_one nodes no_trees e laid = absurd (omega (arith, e))
+only_one nodes (more_trees v no_trees) e laid = (v, refl, laid ∙ append-nil (nodes_of v))
+only_one nodes (more_trees v (more_trees w vs)) e laid = absurd (omega (arith, e))
 
 module _ (nodes : List Node) (behind : List ℕ) (are : AreLaid nodes behind) where
   -- the values that are laid out
@@ -107,10 +107,10 @@ module _ (nodes : List Node) (behind : List ℕ) (are : AreLaid nodes behind) wh
   all_counts = sym (length-reverse behind) ∙ ap length are.counted ∙ many_behind laid_values
 
   -- a value of one node before them
-  node_laid : (node : Node) (v : ValueTree) → nodes_of v ≡ node ∷ [] → put node laid_values ≡ more_values v laid_values
+  node_laid : (node : Node) (v : ValueTree) → nodes_of v ≡ node ∷ [] → put node laid_values ≡ more_trees v laid_values
       → AreLaid (nodes ++ node ∷ []) (behind ++ length nodes ∷ [])
   node_laid node v one is =
-      let values : values_in (reverse (nodes ++ node ∷ [])) ≡ more_values v laid_values = ap values_in (reverse_pushed nodes node) ∙ is in
+      let values : values_in (reverse (nodes ++ node ∷ [])) ≡ more_trees v laid_values = ap values_in (reverse_pushed nodes node) ∙ is in
       record {
         laid = reverse_pushed nodes node ∙ ap (λ l. node ∷ l) are.laid ∙ ap (λ l. l ++ nodes_all laid_values) (sym one)
             ∙ ap nodes_all (sym values);
@@ -119,11 +119,11 @@ module _ (nodes : List Node) (behind : List ℕ) (are : AreLaid nodes behind) wh
 
   -- so is a leaf
   pub leaf_laid : (node : Node) → IsLeaf node → AreLaid (nodes ++ node ∷ []) (behind ++ length nodes ∷ [])
-  leaf_laid (Bool b) leaf = node_laid (Bool b) (bool_value b) refl refl
-  leaf_laid (Int n) leaf = node_laid (Int n) (int_value n) refl refl
-  leaf_laid (Big n) leaf = node_laid (Big n) (big_value n) refl refl
-  leaf_laid (Const name) leaf = node_laid (Const name) (const_value name) refl refl
-  leaf_laid (Opaque n) leaf = node_laid (Opaque n) (opaque_value n) refl refl
+  leaf_laid (Bool b) leaf = node_laid (Bool b) (bool_tree b) refl refl
+  leaf_laid (Int n) leaf = node_laid (Int n) (int_tree n) refl refl
+  leaf_laid (Big n) leaf = node_laid (Big n) (big_tree n) refl refl
+  leaf_laid (Const name) leaf = node_laid (Const name) (const_tree name) refl refl
+  leaf_laid (Opaque n) leaf = node_laid (Opaque n) (opaque_tree n) refl refl
   leaf_laid (Data name fields below) leaf = absurd leaf
 
   -- how many nodes stand behind the first values, so many
@@ -181,17 +181,17 @@ module _ (nodes : List Node) (behind : List ℕ) (are : AreLaid nodes behind) wh
         (subst (AreLaid (nodes ++ Data name few (length nodes - after) ∷ [])) (sym also') (data_laid name few after few_within after_is))
 
     pub put_values : (name : List ℕ) (new : List Node) → new ≡ nodes ++ Data name few (all - after) ∷ []
-        → values_in (reverse new) ≡ more_values (data_value name (first_values fields laid_values)) (later_values fields laid_values)
+        → values_in (reverse new) ≡ more_trees (data_tree name (first_values fields laid_values)) (later_values fields laid_values)
     put_values name new is =
         let first : first_values few laid_values ≡ first_values fields laid_values =
         ap (λ k. first_values k laid_values) less ∙ first_min fields (length behind) laid_values all_counts in
         let later : later_values few laid_values ≡ later_values fields laid_values =
         ap (λ k. later_values k laid_values) less ∙ later_min fields (length behind) laid_values all_counts in
         ap (λ l. values_in (reverse l)) is ∙ ap values_in (reverse_pushed nodes (Data name few (all - after)))
-        ∙ (λ i. more_values (data_value name (first i)) (later i))
+        ∙ (λ i. more_trees (data_tree name (first i)) (later i))
 
   -- exactly one
-  pub one_laid : length behind ≡ 1 → (v : ValueTree) × (laid_values ≡ more_values v no_values) × (reverse nodes ≡ nodes_of v)
+  pub one_laid : length behind ≡ 1 → (v : ValueTree) × (laid_values ≡ more_trees v no_trees) × (reverse nodes ≡ nodes_of v)
   one_laid one = only_one (reverse nodes) laid_values (sym all_counts ∙ one) are.laid
 
 -- items that are turned round in place

@@ -14,9 +14,9 @@ use Rattle.isle_types.specs.IntTypes.{HasNumber}
 use Rattle.isle_terms.specs.declared.terms.Term.{Term}
 use Rattle.isle_terms.specs.declared.terms.TermKind.{TermKind}
 use Rattle.isle_terms.specs.declared.terms.TermKind.TheVariants.{EnumVariant, Struct as StructTerm, Decl}
-use Rattle.isle_terms.specs.Values.{ValueTree, ValueTrees, bool_value as bool_tree, int_value as int_tree, big_value as big_tree}
-use Rattle.isle_terms.specs.Values.{const_value as const_tree, opaque_value as opaque_tree, data_value as data_tree, no_values as no_trees}
-use Rattle.isle_terms.specs.Values.{more_values as more_trees}
+use Rattle.isle_terms.specs.Values.{ValueTree, ValueTrees, bool_tree, int_tree, big_tree}
+use Rattle.isle_terms.specs.Values.{const_tree, opaque_tree, data_tree, no_trees}
+use Rattle.isle_terms.specs.Values.{more_trees}
 use Rattle.isle_meaning.specs.Facts.{variant_shape, struct_shape}
 use Rattle.isle_meaning.specs.Values.{Value, Values}
 use Rattle.isle_meaning.specs.ValueTypes.{ValueFacts, TypeKind, truth_kind, integer_kind, primitive_kind, data_kind, no_kind, IsIntOf, IsBigOf}
@@ -25,8 +25,8 @@ use Rattle.isle_meaning.specs.GroundValues.{value_of, values_of, data_of_shape, 
 use Rattle.isle_run.specs.declared.program.Program.{Program}
 use Rattle.isle_run.specs.Programs.{types_of, value_facts, shape_made, shape_of_term, data_made, data_of_term, types_of_term, term_named}
 use Rattle.isle_run.specs.Values.Settled.{field_types}
-use Rattle.isle_run.specs.Sound.{HasNamedData}
-use Rattle.isle_run.specs.Stores.Printing.{printed_unsigned, printed_sized, printed_int, printed, printed_all, variant_name, struct_name}
+use Rattle.isle_run.specs.Programs.{HasNamedData}
+use Rattle.isle_run.specs.Inside.Stores.Printing.{printed_unsigned, printed_sized, printed_int, printed, printed_all, variant_name, struct_name}
 
 -- an unsigned integer below 2^127 is printed as itself
 unsigned_printed : (n : ℤ) → HasNumber U128 n → printed_unsigned n ≡ int_tree n

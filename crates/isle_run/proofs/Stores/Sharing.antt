@@ -2,7 +2,7 @@
 use Rattle.std.proofs.Common.{◌≡◌, ◌+◌, ◌-◌, ◌<◌, ◌≤◌, ◌++◌, ℕ, zero, suc, List, [], ◌∷◌, Option, Some, None, slice_get, length, take}
 use Rattle.std.proofs.Common.{drop, reverse, get_or, sym, ◌∙◌, ap, subst, arith}
 use Rattle.std.proofs.lemmas.List.{append-nil, reverse-append, length-drop, drop_more, take_more, take_all, drop_all}
-use Rattle.isle_terms.specs.Values.{ValueTree, ValueTrees, no_values as no_trees, more_values as more_trees, value_list}
+use Rattle.isle_terms.specs.Values.{ValueTree, ValueTrees, no_trees, more_trees, value_list}
 use Rattle.isle_meaning.specs.Facts.{TermShape, variant_shape, struct_shape, declared_shape}
 use Rattle.isle_meaning.specs.Values.{Values, no_values, more_values}
 use Rattle.isle_meaning.specs.ValueTypes.{ValueFacts}
@@ -11,8 +11,8 @@ use Rattle.isle_run.specs.declared.values.Node.{Node}
 use Rattle.isle_run.specs.declared.values.Node.TheVariants.{Bool, Int, Big, Const, Opaque, Data}
 use Rattle.isle_run.specs.declared.calls.store.Stored.{Stored}
 use Rattle.isle_run.specs.Values.Nodes.{first_values, later_values, put, nodes_of, values_in}
-use Rattle.isle_run.specs.Stores.Values.{Stands, StandEach, Extends}
-use Rattle.isle_run.specs.Stores.Sharing.{stored_data, stored_node, numbers_left}
+use Rattle.isle_run.specs.Inside.Stores.Values.{Stands, StandEach, Extends}
+use Rattle.isle_run.specs.Inside.Stores.Sharing.{stored_data, stored_node, numbers_left}
 use Rattle.isle_run.proofs.GroundValues.Laying.{values_before}
 use Rattle.isle_run.proofs.Stores.Values.{stand_longer}
 

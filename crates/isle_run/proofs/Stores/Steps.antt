@@ -6,7 +6,7 @@ use Rattle.std.proofs.lemmas.Option.{none-some}
 use Rattle.isle_types.specs.declared.ids.TypeId.{TypeId}
 use Rattle.isle_types.specs.TypeTables.{TypeTables}
 use Rattle.isle_types.specs.TypeEnvs.{type_at}
-use Rattle.isle_terms.specs.Values.{ValueTree, ValueTrees, data_value as data_tree, no_values as no_trees, more_values as more_trees, value_list}
+use Rattle.isle_terms.specs.Values.{ValueTree, ValueTrees, data_tree, no_trees, more_trees, value_list}
 use Rattle.isle_meaning.specs.Values.{Value, Values, no_values, more_values}
 use Rattle.isle_meaning.specs.ValueTypes.{ValueFacts, IsOfType, AreOfTypes}
 use Rattle.isle_meaning.specs.GroundValues.{value_of, values_of}
@@ -18,9 +18,9 @@ use Rattle.isle_run.specs.declared.values.Node.{Node}
 use Rattle.isle_run.specs.declared.values.Node.TheVariants.{Bool as BoolNode, Int as IntNode, Big as BigNode, Const as ConstNode}
 use Rattle.isle_run.specs.declared.values.Node.TheVariants.{Opaque as OpaqueNode, Data as DataNode}
 use Rattle.isle_run.specs.Programs.{number_of}
-use Rattle.isle_run.specs.Stores.Values.{Stands, StandEach}
-use Rattle.isle_run.specs.Stores.Laying.{IsLeaf}
-use Rattle.isle_run.specs.Stores.Printing.{printed, printed_all, Leads, field_steps}
+use Rattle.isle_run.specs.Inside.Stores.Values.{Stands, StandEach}
+use Rattle.isle_run.specs.Inside.Stores.Laying.{IsLeaf}
+use Rattle.isle_run.specs.Inside.Stores.Printing.{printed, printed_all, Leads, field_steps}
 use Rattle.isle_run.proofs.GroundValues.Laying.{first_joined, later_joined, value_laid}
 use Rattle.isle_run.proofs.Stores.Values.{stands_one}
 

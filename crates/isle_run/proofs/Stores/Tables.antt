@@ -21,7 +21,7 @@ use Rattle.isle_run.specs.contracts.calls.store.StoredPartialEq.TheImpl as store
 use Rattle.isle_run.specs.contracts.calls.store.StoredOrd.TheImpl as order
 use Rattle.isle_run.specs.contracts.calls.store.StoredOrd.TheImpl.Laws as order_laws
 use Rattle.isle_run.specs.contracts.calls.store.StoredClone.TheImpl.{by_variants}
-use Rattle.isle_run.specs.Stores.Tables.{AreNumbered, IsFound}
+use Rattle.isle_run.specs.Inside.Stores.Tables.{AreNumbered, IsFound}
 use Rattle.isle_run.proofs.GroundValues.EqualNodes.{both, through}
 
 -- `==` of nodes holds exactly where the two are the same

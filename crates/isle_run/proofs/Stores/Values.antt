@@ -12,7 +12,8 @@ use Rattle.isle_meaning.specs.Values.{Value, Values, bool_value, int_value, cons
 use Rattle.isle_meaning.specs.Values.{no_values, more_values}
 use Rattle.isle_run.specs.declared.calls.store.Stored.{Stored}
 use Rattle.isle_run.specs.declared.calls.store.Stored.TheVariants.{Bool, Int, Const, Opaque, Variant, Struct}
-use Rattle.isle_run.specs.Stores.Values.{variant_at, Stands, StandEach, Extends}
+use Rattle.isle_run.specs.Inside.Stores.Values.{Stands, StandEach, Extends}
+use Rattle.isle_run.specs.Tables.{variant_at}
 
 -- a store extends itself
 pub extends_same : (stored : List Stored) → Extends stored stored

@@ -5,7 +5,7 @@ use Rattle.std.proofs.Math.Seq.{take-add}
 use Rattle.std.proofs.lemmas.List.{length-drop, append-nil, take-append-drop}
 use Rattle.isle_syntax.specs.declared.lexer.Token.{Token}
 use Rattle.isle_syntax.specs.declared.lexer.Token.TheVariants.{LParen, RParen, Symbol, At, Int, Big}
-use Rattle.isle_terms.specs.Values.{ValueTree, ValueTrees, bool_value, int_value, big_value, const_value, opaque_value, data_value, no_values, more_values}
+use Rattle.isle_terms.specs.Values.{ValueTree, ValueTrees, bool_tree, int_tree, big_tree, const_tree, opaque_tree, data_tree, no_trees, more_trees}
 use Rattle.isle_run.specs.Values.Tokens.{tokens_of, tokens_all, IsSpellable, AreSpellable, HaveNoValue}
 use Rattle.isle_run.specs.Worlds.Entries.{values_tokens, AreSpeltAs, part_tokens, IsSpeltPart}
 use Rattle.isle_run.proofs.GroundValues.Reading.{no_close, front_of}
@@ -29,13 +29,13 @@ first_byte (Symbol symbol ∷ tokens) = front_of symbol
 -- a word that begins with another byte than values do
 pub no_value : (word : List ℕ) → (front_of word ≡ 116 → ⊥) → (front_of word ≡ 102 → ⊥) → (front_of word ≡ 36 → ⊥) → (front_of word ≡ 118 → ⊥) → (front_of word ≡ 0 → ⊥)
     → NoValue word
-no_value word t f c o z (bool_value true) r s e = t (sym (ap first_byte e))
-no_value word t f c o z (bool_value false) r s e = f (sym (ap first_byte e))
-no_value word t f c o z (int_value i) r s e = z (sym (ap first_byte e))
-no_value word t f c o z (big_value i) r s e = z (sym (ap first_byte e))
-no_value word t f c o z (const_value name) r s e = c (sym (ap first_byte e))
-no_value word t f c o z (opaque_value n) r s e = o (sym (ap first_byte e))
-no_value word t f c o z (data_value name fs) r s e = z (sym (ap first_byte e))
+no_value word t f c o z (bool_tree true) r s e = t (sym (ap first_byte e))
+no_value word t f c o z (bool_tree false) r s e = f (sym (ap first_byte e))
+no_value word t f c o z (int_tree i) r s e = z (sym (ap first_byte e))
+no_value word t f c o z (big_tree i) r s e = z (sym (ap first_byte e))
+no_value word t f c o z (const_tree name) r s e = c (sym (ap first_byte e))
+no_value word t f c o z (opaque_tree n) r s e = o (sym (ap first_byte e))
+no_value word t f c o z (data_tree name fs) r s e = z (sym (ap first_byte e))
 
 pub no_else : NoValue (codes "else")
 no_else = no_value (codes "else") (λ e. omega (arith, e)) (λ e. omega (arith, e)) (λ e. omega (arith, e)) (λ e. omega (arith, e)) (λ e. omega (arith, e))
@@ -49,20 +49,20 @@ pub one_values : (listed : Bool) (vs ws : ValueTrees) (r s : List Token) → Are
 one_values true vs ws r s p q e =
     let inner : (tokens_all vs ++ RParen ∷ []) ++ r ≡ (tokens_all ws ++ RParen ∷ []) ++ s = cc in
     all_spelling vs ws r s p q (sym (append_assoc (tokens_all vs) (RParen ∷ []) r) ∙ inner ∙ append_assoc (tokens_all ws) (RParen ∷ []) s)
-one_values false no_values ws r s p q e = absurd (let n = p.1 in omega (arith, n))
-one_values false (more_values v vs) no_values r s p q e = absurd (let n = q.1 in omega (arith, n))
-one_values false (more_values v (more_values w vs)) ws r s p q e = absurd (let n = p.1 in omega (arith, n))
-one_values false (more_values v no_values) (more_values w (more_values x ws)) r s p q e = absurd (let n = q.1 in omega (arith, n))
-one_values false (more_values v no_values) (more_values w no_values) r s p q e =
+one_values false no_trees ws r s p q e = absurd (let n = p.1 in omega (arith, n))
+one_values false (more_trees v vs) no_trees r s p q e = absurd (let n = q.1 in omega (arith, n))
+one_values false (more_trees v (more_trees w vs)) ws r s p q e = absurd (let n = p.1 in omega (arith, n))
+one_values false (more_trees v no_trees) (more_trees w (more_trees x ws)) r s p q e = absurd (let n = q.1 in omega (arith, n))
+one_values false (more_trees v no_trees) (more_trees w no_trees) r s p q e =
     let (same, rest) = one_spelling v w r s p.0.0 q.0.0 (ap (λ l. l ++ r) (sym (append-nil (tokens_of v))) ∙ e ∙ ap (λ l. l ++ s) (append-nil (tokens_of w))) in
-    ((λ i. more_values (same i) no_values), rest)
+    ((λ i. more_trees (same i) no_trees), rest)
 
 -- values aren't a word
 pub no_word : (listed : Bool) (word : List ℕ) → NoValue word → (vs : ValueTrees) (r s : List Token) → AreSpeltAs listed vs
     → values_tokens listed vs ++ r ≡ Symbol word ∷ s → ⊥
 no_word true word never vs r s p e = cc
-no_word false word never no_values r s p e = let n = p.1 in omega (arith, n)
-no_word false word never (more_values v vs) r s p e = never v (tokens_all vs ++ r) s (sym (append_assoc (tokens_of v) (tokens_all vs) r) ∙ e)
+no_word false word never no_trees r s p e = let n = p.1 in omega (arith, n)
+no_word false word never (more_trees v vs) r s p e = never v (tokens_all vs ++ r) s (sym (append_assoc (tokens_of v) (tokens_all vs) r) ∙ e)
 
 pub one_part : (listed : Bool) (word : List ℕ) → NoValue word → (p q : Option ValueTrees) (r s : List Token) → IsSpeltPart listed p → IsSpeltPart listed q
     → part_tokens listed word p ++ r ≡ part_tokens listed word q ++ s → (p ≡ q) × (r ≡ s)
@@ -78,9 +78,9 @@ LeftTo rest tokens = (others : ValueTrees) × AreSpellable others × (tokens ≡
 -- what is left behind a value that is read
 pub left_past : (tokens : List Token) (at count : ℕ) (v : ValueTree) (rest : List Token) → IsSpellable v → take count (drop at tokens) ≡ tokens_of v
     → LeftTo rest (drop at tokens) → LeftTo rest (drop (at + count) tokens)
-left_past tokens at count v rest spellable is (no_values, others, left) =
+left_past tokens at count v rest spellable is (no_trees, others, left) =
     absurd (no_close v (drop count (drop at tokens)) rest (ap (λ l. l ++ drop count (drop at tokens)) (sym is) ∙ take-append-drop count (drop at tokens) ∙ left))
-left_past tokens at count v rest spellable is (more_values g gs, others, left) =
+left_past tokens at count v rest spellable is (more_trees g gs, others, left) =
     let split : tokens_of v ++ drop count (drop at tokens) ≡ tokens_of g ++ (tokens_all gs ++ (RParen ∷ rest)) =
     ap (λ l. l ++ drop count (drop at tokens)) (sym is) ∙ take-append-drop count (drop at tokens) ∙ left
     ∙ append_assoc (tokens_of g) (tokens_all gs) (RParen ∷ rest) in
@@ -89,8 +89,8 @@ left_past tokens at count v rest spellable is (more_values g gs, others, left) =
 
 -- none are left where neither a value nor a closing parenthesis stands
 pub none_left : (tokens rest : List Token) → ((more : List Token) → tokens ≡ RParen ∷ more → ⊥) → HaveNoValue tokens → LeftTo rest tokens → ⊥
-none_left tokens rest no_closing never (no_values, others, left) = no_closing rest left
-none_left tokens rest no_closing never (more_values g gs, others, left) =
+none_left tokens rest no_closing never (no_trees, others, left) = no_closing rest left
+none_left tokens rest no_closing never (more_trees g gs, others, left) =
     never g (tokens_all gs ++ (RParen ∷ rest)) others.0 (left ∙ append_assoc (tokens_of g) (tokens_all gs) (RParen ∷ rest))
 
 -- nothing is left at the end

@@ -16,7 +16,7 @@ use Rattle.std.proofs.lemmas.List.Elements.{All-cons}
 use Rattle.std.proofs.lemmas.Option.{same_Some}
 use Rattle.std.proofs.lemmas.Slice.Eq.{bytes_eq-Decides}
 use Rattle.isle_syntax.specs.Trees.Equality.{same_coded-decides}
-use Rattle.isle_terms.specs.Values.{ValueTree, ValueTrees, no_values, more_values}
+use Rattle.isle_terms.specs.Values.{ValueTree, ValueTrees, no_trees, more_trees}
 use Rattle.isle_blocks.proofs.Numbering.{lookup-inserted, lookup-kept}
 use Rattle.isle_run.specs.declared.values.Node.{Node}
 use Rattle.isle_run.specs.declared.worlds.entry.Side.{Side}
@@ -35,9 +35,9 @@ use Rattle.isle_run.specs.Worlds.Tables.{is_call, entry_at, entry_of, key_of, ro
 use Rattle.isle_run.proofs.GroundValues.EqualNodes.{both, through, one_answer, nodes-decide}
 use Rattle.isle_run.proofs.GroundValues.Laying.{all_before}
 
-joined_none : (vs : ValueTrees) → joined vs no_values ≡ vs
-joined_none no_values = refl
-joined_none (more_values v vs) = ap (more_values v) (joined_none vs)
+joined_none : (vs : ValueTrees) → joined vs no_trees ≡ vs
+joined_none no_trees = refl
+joined_none (more_trees v vs) = ap (more_trees v) (joined_none vs)
 
 -- nodes of values stand for them
 pub values_laid : (vs : ValueTrees) → values_in (nodes_all vs) ≡ vs

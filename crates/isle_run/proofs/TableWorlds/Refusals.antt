@@ -21,7 +21,7 @@ use Rattle.isle_run.specs.Worlds.Entries.{EntryTree, IsSameCall, IsSpellableEntr
 use Rattle.isle_run.specs.Worlds.Externals.{ExternalTypes, asked_by, asked_of}
 use Rattle.isle_run.specs.Worlds.Tables.{HasEntries, entry_at, entry_of}
 use Rattle.isle_run.specs.Worlds.Texts.{SpellEntries, ReachesEntry, ReachesSpelt, RefusesWorld, ArePlaced, offset_of, LacksElse}
-use Rattle.isle_run.specs.Worlds.Reading.{IsTokenFault, BeginsWithEntry, AddsEntry, RefusedBehind, LacksElseOn, MissesElse}
+use Rattle.isle_run.specs.Inside.Worlds.Reading.{IsTokenFault, BeginsWithEntry, AddsEntry, RefusedBehind, LacksElseOn, MissesElse}
 use Rattle.isle_run.proofs.TableWorlds.Tables.{has_more, spell_more}
 
 -- where no token begins, a text is no world

@@ -18,9 +18,9 @@ use Rattle.isle_run.specs.declared.trees.graph.Branch.{Branch}
 use Rattle.isle_run.specs.declared.trees.graph.Branch.TheVariants as branches
 use Rattle.isle_run.specs.declared.trees.graph.By.TheVariants as ways
 use Rattle.isle_run.specs.declared.trees.graph.Way.{Way}
-use Rattle.isle_run.specs.TreeTexts.DotParts.{DrawsPiece, behind_graph, branch_graph, branch_nodes, branch_pieces, check_node, left_graph, left_nodes, left_pieces, nodes_behind}
+use Rattle.isle_run.specs.Inside.TreeTexts.DotParts.{DrawsPiece, behind_graph, branch_graph, branch_nodes, branch_pieces, check_node, left_graph, left_nodes, left_pieces, nodes_behind}
 use Rattle.isle_run.specs.TreeTexts.DotSteps.{Drawn, arm_nodes, arms_graph, step_nodes, steps_graph, way, way_line}
-use Rattle.isle_run.specs.TreeTexts.Parts.{arm_pieces, pieces_behind, step_pieces}
+use Rattle.isle_run.specs.Inside.TreeTexts.Parts.{arm_pieces, pieces_behind, step_pieces}
 use Rattle.isle_run.proofs.TreeTexts.Left.{line_first, step_has}
 
 -- one more branch

@@ -12,7 +12,7 @@ use Rattle.isle_blocks.specs.Rows.{numbers_of}
 use Rattle.isle_blocks.specs.Trees.Nodes.{fields_of}
 use Rattle.isle_run.specs.declared.program.Program.{Program}
 use Rattle.isle_run.specs.TreeTexts.Names.{AreTexts, field_text, fields_text, indent, more_texts, no_texts, numbers_text}
-use Rattle.isle_run.specs.TreeTexts.Parts.{behind_space, field_behind_space, field_shown}
+use Rattle.isle_run.specs.Inside.TreeTexts.Parts.{behind_space, field_behind_space, field_shown}
 use Rattle.isle_run.specs.TreeTexts.Sites.{site_line, sites_text}
 
 -- the text of one more item

@@ -20,7 +20,7 @@ use Rattle.isle_blocks.specs.Trees.Views.{arm_before, check_before, shown_arms, 
 use Rattle.isle_run.specs.declared.program.Program.{Program}
 use Rattle.isle_run.specs.declared.trees.steps.Part.{Part}
 use Rattle.isle_run.specs.declared.trees.steps.Part.TheVariants as parts
-use Rattle.isle_run.specs.TreeTexts.Parts.{PrintsPiece, arm_pieces, behind_text, check_line, left_text, part_pieces, part_text, pieces_behind, pieces_left, step_pieces}
+use Rattle.isle_run.specs.Inside.TreeTexts.Parts.{PrintsPiece, arm_pieces, behind_text, check_line, left_text, part_pieces, part_text, pieces_behind, pieces_left, step_pieces}
 use Rattle.isle_run.specs.TreeTexts.Steps.{arm_line, arms_text, bind_line, steps_text}
 
 module _ (program : Program) (files : List SourceFile) (rules : List Rule) where

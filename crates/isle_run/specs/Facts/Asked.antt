@@ -4,7 +4,7 @@ use Rattle.std.specs.List.{list_any}
 use Rattle.isle_types.specs.declared.ids.TermId.{TermId}
 use Rattle.isle_types.specs.TypeTables.{TypeTables}
 use Rattle.isle_terms.specs.Shown.TermTables.{TermTables}
-use Rattle.isle_blocks.specs.Building.Contents.{Marked}
+use Rattle.isle_blocks.specs.Inside.Building.Contents.{Marked}
 use Rattle.isle_blocks.specs.RuleSets.{RulesOverSites}
 use Rattle.isle_run.specs.declared.facts.Numbers.{Numbers}
 use Rattle.isle_run.specs.Facts.Inhabited.{AreAllInhabited}

@@ -6,8 +6,8 @@ use Rattle.isle_types.specs.declared.types.Variant.{Variant}
 use Rattle.isle_types.specs.declared.types.«Type».{«Type» as KnownType}
 use Rattle.isle_types.specs.declared.types.«Type».TheVariants.{Builtin, Primitive, Enum as EnumType, Struct as StructType}
 use Rattle.isle_types.specs.Types.{field_types}
-use Rattle.isle_blocks.specs.Building.Contents.{Marked}
-use Rattle.isle_run.specs.Facts.Spreading.{unmarked}
+use Rattle.isle_blocks.specs.Inside.Building.Contents.{Marked}
+use Rattle.isle_run.specs.Inside.Facts.Spreading.{unmarked}
 
 -- the lists of fields of which a value of a type can be made, by the fields' types: a builtin value and one of the host of no fields,
 -- a struct of its own, and an enum of those of any of its variants

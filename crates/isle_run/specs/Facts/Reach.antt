@@ -8,10 +8,10 @@ use Rattle.isle_terms.specs.declared.rules.IfLet.{IfLet}
 use Rattle.isle_terms.specs.declared.rules.Rule.{Rule}
 use Rattle.isle_terms.specs.TypedRules.{TypedPattern, TypedPatterns, typed_bind, typed_var, typed_bool, typed_int, typed_prim, typed_term}
 use Rattle.isle_terms.specs.TypedRules.{typed_wildcard, typed_and, no_typed, more_typed, TypedExpr, TypedExprs, TypedBindings, built_term, built_var}
-use Rattle.isle_terms.specs.TypedRules.{built_bool, built_int, built_prim, built_let, no_built, more_built, no_bindings, more_bindings}
+use Rattle.isle_terms.specs.TypedRules.{built_bool, built_int, built_prim, built_let, no_built, more_built, no_typed_bindings, more_typed_bindings}
 use Rattle.isle_terms.specs.Shown.TermTables.{TermTables}
 use Rattle.isle_terms.specs.Shown.ShownRules.{typed_list, typed_shown, built_shown}
-use Rattle.isle_blocks.specs.RivalLists.{is_multi_in}
+use Rattle.isle_terms.specs.Shown.TermTables.{is_multi_in}
 
 -- a type of data: an enum or a struct
 abbrev pub is_data_type : Option KnownType → Bool
@@ -55,8 +55,8 @@ abbrev mutual
 
   -- some of these values
   pub are_hindering_bindings : TypeTables → TypedBindings → Bool
-  are_hindering_bindings tyenv no_bindings = false
-  are_hindering_bindings tyenv (more_bindings _ _ value others) = is_hindering_expr tyenv value || are_hindering_bindings tyenv others
+  are_hindering_bindings tyenv no_typed_bindings = false
+  are_hindering_bindings tyenv (more_typed_bindings _ _ value others) = is_hindering_expr tyenv value || are_hindering_bindings tyenv others
 
 -- a condition with such a pattern or such an expression
 abbrev pub is_hindering_iflet : TypeTables → TermTables → IfLet → Bool
@@ -90,8 +90,8 @@ abbrev mutual
 
   -- those of the values of a `let`
   pub terms_in_bound : TypedBindings → List ℕ
-  terms_in_bound no_bindings = []
-  terms_in_bound (more_bindings _ _ value others) = terms_in value ++ terms_in_bound others
+  terms_in_bound no_typed_bindings = []
+  terms_in_bound (more_typed_bindings _ _ value others) = terms_in value ++ terms_in_bound others
 
 -- those of the values of conditions
 abbrev pub terms_in_iflets : List (List ℕ) → List IfLet → List ℕ
@@ -110,13 +110,13 @@ pub record IsMadeBy (names : List (List ℕ)) (rules : List Rule) (from to : ℕ
   pub made : Contains (terms_made_by names rule) to
 
 -- a term makes values by a term
-abbrev pub Makes : TypeTables → TermTables → ℕ → ℕ → Type 0
-Makes tyenv env = IsMadeBy tyenv.names env.rules
+abbrev pub MakesValues : TypeTables → TermTables → ℕ → ℕ → Type 0
+MakesValues tyenv env = IsMadeBy tyenv.names env.rules
 
 -- a term reaches those that its rules make values by, and those that these reach
 pub data Reaches (tyenv : TypeTables) (env : TermTables) : ℕ → ℕ → Type 0 where
-  at_once : {from to : ℕ} → Makes tyenv env from to → Reaches tyenv env from to
-  onwards : {from middle to : ℕ} → Makes tyenv env from middle → Reaches tyenv env middle to → Reaches tyenv env from to
+  at_once : {from to : ℕ} → MakesValues tyenv env from to → Reaches tyenv env from to
+  onwards : {from middle to : ℕ} → MakesValues tyenv env from middle → Reaches tyenv env middle to → Reaches tyenv env from to
 
 -- a term is hindered, or reaches one that is
 abbrev pub IsBarred : TypeTables → TermTables → ℕ → Type 0

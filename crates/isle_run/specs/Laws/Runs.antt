@@ -10,7 +10,7 @@ use Rattle.isle_meaning.specs.PlainRuns.{PlainRun}
 use Rattle.isle_meaning.specs.Values.{Value, Values}
 use Rattle.isle_meaning.specs.Worlds.{Answers, Event}
 use Rattle.isle_run.specs.declared.program.Program.{Program}
-use Rattle.isle_run.specs.Blocks.Frames.{term_trees}
+use Rattle.isle_run.specs.TreeCalls.{term_trees}
 use Rattle.isle_run.specs.Facts.Steps.{steps_in}
 use Rattle.isle_run.specs.Laws.Sound.{RunsIn}
 use Rattle.isle_run.specs.Meanings.{checked}

@@ -8,7 +8,7 @@ use Rattle.isle_run.specs.Meanings.{checked}
 use Rattle.isle_run.specs.Compiled.{IsProgramOf}
 use Rattle.isle_meaning.specs.DefinedPrograms.{defined_program}
 use Rattle.isle_meaning.specs.SoundPrograms.{IsSound}
-use Rattle.isle_run.specs.Sound.{HasNamedData}
+use Rattle.isle_run.specs.Programs.{HasNamedData}
 
 -- a term of a program can be run
 abbrev pub RunsIn : Program → ℕ → Type 0

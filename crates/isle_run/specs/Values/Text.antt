@@ -1,25 +1,25 @@
 -- What is printed of a value.
 use Rattle.std.specs.Prelude.{◌≡◌, ◌+◌, ℕ, List, [], ◌∷◌, ◌++◌, if◌then◌else◌, codes}
 use Rattle.std.specs.Fmt.{decimal, signed_decimal}
-use Rattle.isle_terms.specs.Values.{ValueTree, ValueTrees, bool_value, int_value, big_value, const_value, opaque_value, data_value, no_values}
-use Rattle.isle_terms.specs.Values.{more_values}
+use Rattle.isle_terms.specs.Values.{ValueTree, ValueTrees, bool_tree, int_tree, big_tree, const_tree, opaque_tree, data_tree, no_trees}
+use Rattle.isle_terms.specs.Values.{more_trees}
 use Rattle.isle_run.specs.declared.values.Node.{Node}
 use Rattle.isle_run.specs.declared.values.Node.TheVariants.{Bool, Int, Big, Const, Opaque, Data}
 
 -- numbers in decimal, a constant behind `$`, an opaque value behind `v`, data in parentheses with their fields
 abbrev mutual
   pub value_text : ValueTree → List ℕ
-  value_text (bool_value b) = if b then codes "true" else codes "false"
-  value_text (int_value n) = signed_decimal n
-  value_text (big_value n) = decimal n
-  value_text (const_value name) = codes "$" ++ name
-  value_text (opaque_value n) = codes "v" ++ decimal n
-  value_text (data_value name fields) = codes "(" ++ (name ++ (fields_text fields ++ codes ")"))
+  value_text (bool_tree b) = if b then codes "true" else codes "false"
+  value_text (int_tree n) = signed_decimal n
+  value_text (big_tree n) = decimal n
+  value_text (const_tree name) = codes "$" ++ name
+  value_text (opaque_tree n) = codes "v" ++ decimal n
+  value_text (data_tree name fields) = codes "(" ++ (name ++ (fields_text fields ++ codes ")"))
 
   -- a space before each field
   pub fields_text : ValueTrees → List ℕ
-  fields_text no_values = []
-  fields_text (more_values v vs) = codes " " ++ (value_text v ++ fields_text vs)
+  fields_text no_trees = []
+  fields_text (more_trees v vs) = codes " " ++ (value_text v ++ fields_text vs)
 
 -- what is written of a node: data is left open
 abbrev pub node_text : Node → List ℕ

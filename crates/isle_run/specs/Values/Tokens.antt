@@ -4,35 +4,35 @@ use Rattle.std.specs.Fmt.{decimal}
 use Rattle.isle_syntax.specs.Tokens.Names.{is_ident, is_const_name}
 use Rattle.isle_syntax.specs.declared.lexer.Token.{Token}
 use Rattle.isle_syntax.specs.declared.lexer.Token.TheVariants.{LParen, RParen, Symbol, Int, Big}
-use Rattle.isle_terms.specs.Values.{ValueTree, ValueTrees, bool_value, int_value, big_value, const_value, opaque_value, data_value, no_values, more_values}
+use Rattle.isle_terms.specs.Values.{ValueTree, ValueTrees, bool_tree, int_tree, big_tree, const_tree, opaque_tree, data_tree, no_trees, more_trees}
 
 -- `true` and `false`, an integer, `$NAME`, `v7`, `( IDENT value* )`
 abbrev mutual
   pub tokens_of : ValueTree → List Token
-  tokens_of (bool_value b) = Symbol (if b then codes "true" else codes "false") ∷ []
-  tokens_of (int_value n) = Int n ∷ []
-  tokens_of (big_value n) = Big n ∷ []
-  tokens_of (const_value name) = Symbol (codes "$" ++ name) ∷ []
-  tokens_of (opaque_value n) = Symbol (codes "v" ++ decimal n) ∷ []
-  tokens_of (data_value name fields) = LParen ∷ Symbol name ∷ (tokens_all fields ++ RParen ∷ [])
+  tokens_of (bool_tree b) = Symbol (if b then codes "true" else codes "false") ∷ []
+  tokens_of (int_tree n) = Int n ∷ []
+  tokens_of (big_tree n) = Big n ∷ []
+  tokens_of (const_tree name) = Symbol (codes "$" ++ name) ∷ []
+  tokens_of (opaque_tree n) = Symbol (codes "v" ++ decimal n) ∷ []
+  tokens_of (data_tree name fields) = LParen ∷ Symbol name ∷ (tokens_all fields ++ RParen ∷ [])
 
   pub tokens_all : ValueTrees → List Token
-  tokens_all no_values = []
-  tokens_all (more_values v vs) = tokens_of v ++ tokens_all vs
+  tokens_all no_trees = []
+  tokens_all (more_trees v vs) = tokens_of v ++ tokens_all vs
 
 -- names are spelt as such, and an opaque value has 64 bits
 abbrev mutual
   pub IsSpellable : ValueTree → Type 0
-  IsSpellable (bool_value b) = Unit {0}
-  IsSpellable (int_value n) = Unit {0}
-  IsSpellable (big_value n) = Unit {0}
-  IsSpellable (const_value name) = IsTrue (is_const_name name)
-  IsSpellable (opaque_value n) = n < 18446744073709551616
-  IsSpellable (data_value name fields) = IsTrue (is_ident name) × AreSpellable fields
+  IsSpellable (bool_tree b) = Unit {0}
+  IsSpellable (int_tree n) = Unit {0}
+  IsSpellable (big_tree n) = Unit {0}
+  IsSpellable (const_tree name) = IsTrue (is_const_name name)
+  IsSpellable (opaque_tree n) = n < 18446744073709551616
+  IsSpellable (data_tree name fields) = IsTrue (is_ident name) × AreSpellable fields
 
   pub AreSpellable : ValueTrees → Type 0
-  AreSpellable no_values = Unit {0}
-  AreSpellable (more_values v vs) = IsSpellable v × AreSpellable vs
+  AreSpellable no_trees = Unit {0}
+  AreSpellable (more_trees v vs) = IsSpellable v × AreSpellable vs
 
 -- these tokens spell the value
 abbrev pub SpellValue : List Token → ValueTree → Type 0

@@ -78,4 +78,4 @@ pub record IsTypedEntry (facts : ValueFacts) (types : ExternalTypes) (e : EntryT
 
 -- types, as the code has them
 abbrev pub types_shown : External → ExternalTypes
-types_shown external = record { takes = map number_of external.takes.items; gives = map number_of external.gives.items; may_fail = external.may_fail }
+types_shown external = record { takes = map number_of external.takes.now; gives = map number_of external.gives.now; may_fail = external.may_fail }

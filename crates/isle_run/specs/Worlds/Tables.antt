@@ -5,7 +5,7 @@ use Rattle.std.specs.Str.{bytes_eq}
 use Rattle.std.specs.Global.{Vec}
 use Rattle.std.specs.Coded.{coded_option}
 use Rattle.isle_syntax.specs.Trees.Equality.{same_coded}
-use Rattle.isle_terms.specs.Values.{ValueTree, ValueTrees, no_values, more_values}
+use Rattle.isle_terms.specs.Values.{ValueTree, ValueTrees, no_trees, more_trees}
 use Rattle.isle_run.specs.declared.worlds.entry.Side.{Side}
 use Rattle.isle_run.specs.declared.worlds.entry.Side.TheVariants.{Constructor, Extractor}
 use Rattle.isle_run.specs.declared.worlds.table.Key.{Key}
@@ -34,14 +34,14 @@ answered entries side term vs = or_else (entry_at entries side term (Some vs)) (
 
 -- the value of a constructor's answer
 abbrev pub first_of : ValueTrees → Option ValueTree
-first_of no_values = None
-first_of (more_values v vs) = Some v
+first_of no_trees = None
+first_of (more_trees v vs) = Some v
 
 abbrev pub constructed : List EntryTree → List ℕ → ValueTrees → Option ValueTree
 constructed entries term vs = option_and_then first_of (answered entries Constructor term vs)
 
 abbrev pub extracted : List EntryTree → List ℕ → ValueTree → Option ValueTrees
-extracted entries term v = answered entries Extractor term (more_values v no_values)
+extracted entries term v = answered entries Extractor term (more_trees v no_trees)
 
 -- the key of a call
 abbrev pub key_of : Side → List ℕ → Option ValueTrees → Key

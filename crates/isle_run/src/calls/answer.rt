@@ -1,3 +1,4 @@
+//! Answers of calls with the steps that these took, and effects: impure calls of external constructors.
 use crate::values::Value;
 use isle_types::TermId;
 

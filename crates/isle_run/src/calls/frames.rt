@@ -8,12 +8,12 @@ ghost use Rattle.isle_meaning.specs.Worlds.{Event};
 ghost use Rattle.isle_run.specs.declared.calls.frames.Advanced.TheVariants.{Is};
 ghost use Rattle.isle_run.specs.declared.calls.store.Stored.{Stored};
 ghost use Rattle.isle_run.specs.Calls.Answers.{TellsOutcome};
-ghost use Rattle.isle_run.specs.Calls.Open.{CallOf};
-ghost use Rattle.isle_run.specs.Calls.Stacks.{AreStacked, GoesOn, first_steps};
-ghost use Rattle.isle_run.specs.Calls.States.{host, state, answers_of, Makes, IsOpenIn, HasGoneOn};
-ghost use Rattle.isle_run.specs.Calls.Ways.{Below, Comes, HasBegun, IsReady, AdvancesTo, UnmatchedIs};
+ghost use Rattle.isle_run.specs.Inside.Calls.Open.{CallOf};
+ghost use Rattle.isle_run.specs.Inside.Calls.Stacks.{AreStacked, GoesOn, first_steps};
+ghost use Rattle.isle_run.specs.Inside.Calls.States.{host, state, answers_of, Makes, IsOpenIn, HasGoneOn};
+ghost use Rattle.isle_run.specs.Inside.Calls.Ways.{Below, Comes, HasBegun, IsReady, AdvancesBy, UnmatchedIs};
 ghost use Rattle.isle_run.specs.Meanings.{checked};
-ghost use Rattle.isle_run.specs.Stores.Values.{Stands, StandEach};
+ghost use Rattle.isle_run.specs.Inside.Stores.Values.{Stands, StandEach};
 
 use crate::calls::answer::{Answer, Called, Effect};
 use crate::calls::store::Store;
@@ -112,7 +112,7 @@ fn advance<R: Road, W: World>(
         → R.way.is_frame k (R.stored road.old) frame.old since → (made : List Event)
         × Makes (host W.step W.constructs W.extracts) (state (R.compiled road.old) world.old effects.old.items (R.stored road.old))
         (state (R.compiled road.new) world.new effects.new.items (R.stored road.new)) made
-        × AdvancesTo R.way k (R.stored road.new) frame.new (since ++ made) advanced) }
+        × AdvancesBy R.way k (R.stored road.new) frame.new (since ++ made) advanced) }
     ensures lost { OnErr result ((k : CallOf) (since : List Event)
         → IsOpenIn (host W.step W.constructs W.extracts) k (state (R.compiled road.old) world.old effects.old.items (R.stored road.old))
         → R.way.is_frame k (R.stored road.old) frame.old since → HasBegun (host W.step W.constructs W.extracts) R.way
@@ -143,7 +143,7 @@ fn next_frame<R: Road>(
 ) -> Result<Next<R::Frame>, AllocError>
     ensures { IfOk result (λ next. (goal k : CallOf) (start since : List Event) → goal.program ≡ R.compiled road.now → goal.term ≡ term.0
         → IsReady R.way.holds goal.program goal.term goal.args → AreStacked R.way goal (R.stored road.now) (reverse waiting.old.items) k start
-        → AdvancesTo R.way k (R.stored road.now) top since advanced
+        → AdvancesBy R.way k (R.stored road.now) top since advanced
         → GoesOn R.way goal (R.stored road.now) (reverse waiting.new.items) (start ++ since) next) }
 {
     road.laws();
@@ -202,7 +202,7 @@ fn value_answer<R: Road>(
     top: &R::Frame,
 ) -> Result<Called, AllocError>
     ensures { IfOk result (λ called. (goal : CallOf) (since : List Event) → goal.program ≡ R.compiled road.now → goal.term ≡ term.0
-        → IsReady R.way.holds goal.program goal.term goal.args → AdvancesTo R.way goal (R.stored road.now) top.now since (Is number)
+        → IsReady R.way.holds goal.program goal.term goal.args → AdvancesBy R.way goal (R.stored road.now) top.now since (Is number)
         → (r : Outcome MeantValue) × TellsOutcome goal.program goal.term called.answer r × Comes R.way goal called.steps since r) }
 {
     road.laws();

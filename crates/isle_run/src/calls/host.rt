@@ -1,6 +1,6 @@
 //! Calls that a world answers.
 ghost use Rattle.std.specs.Prelude.{◌≡◌, ◌↔◌, ◌⊎◌, List, [], ◌∷◌, Option, IfOk, OnErr, IsTrue, map, option_copied};
-ghost use Rattle.isle_terms.specs.Values.{ValueTree, value_list, more_values, no_values};
+ghost use Rattle.isle_terms.specs.Values.{ValueTree, value_list, more_trees, no_trees};
 ghost use Rattle.isle_meaning.specs.Values.{Value as MeantValue, Values};
 ghost use Rattle.isle_meaning.specs.ValueTypes.{AreOfTypes};
 ghost use Rattle.isle_meaning.specs.GroundValues.{IsValueOf, AreValuesOf};
@@ -11,9 +11,9 @@ ghost use Rattle.isle_run.specs.Meanings.{checked};
 ghost use Rattle.isle_meaning.specs.Outcomes.{Judged, WorldConstructs, WorldExtracts, WorldEffects};
 ghost use Rattle.isle_meaning.specs.PlainBeginnings.{IsEffectOn};
 ghost use Rattle.isle_run.specs.Programs.{value_facts, number_of};
-ghost use Rattle.isle_run.specs.Stores.Values.{Stands, StandEach, Extends};
+ghost use Rattle.isle_run.specs.Inside.Stores.Values.{Stands, StandEach, Extends};
 ghost use Rattle.isle_run.specs.Calls.Answers.{answers_in, IsCalledOn, HasMade};
-ghost use Rattle.isle_run.specs.Calls.Host.{TellsValue, TellsOutputs, HasLast};
+ghost use Rattle.isle_run.specs.Inside.Calls.Host.{TellsValue, TellsOutputs, HasLast};
 
 use crate::calls::answer::Effect;
 use crate::calls::store::Store;
@@ -169,7 +169,7 @@ impl Program {
         arg: Value,
         answer: Option<Vec<Value>>,
     ) -> Result<Told<Vec<usize>>, AllocError>
-        ensures judged { IfOk result (λ told. (q : Asked) → IsCalledOn (checked self.now) q term (more_values arg no_values)
+        ensures judged { IfOk result (λ told. (q : Asked) → IsCalledOn (checked self.now) q term (more_trees arg no_trees)
             → TellsOutputs (checked self.now) store.new
             (Judged (AllowsOutputs (checked self.now) term.0 (part_shown answer)) (answer_values (checked self.now) (part_shown answer))
             q) told) }

@@ -2,8 +2,8 @@
 ghost use Rattle.std.specs.Prelude.{◌≡◌, ◌↔◌, [], IfOk, IsTrue, OnErr, Some, length, option_copied, slice_get};
 ghost use Rattle.isle_types.specs.Names.{AreDistinct};
 ghost use Rattle.isle_meaning.specs.Values.{Value as ShownValue};
-ghost use Rattle.isle_run.specs.Stores.Values.{Stands, Extends};
-ghost use Rattle.isle_run.specs.Stores.Tables.{IsFound};
+ghost use Rattle.isle_run.specs.Inside.Stores.Values.{Stands, Extends};
+ghost use Rattle.isle_run.specs.Inside.Stores.Tables.{IsFound};
 
 mod printing;
 mod sharing;
@@ -38,7 +38,7 @@ pub struct Store {
 impl Model for Store {
     ghost use Rattle.std.specs.Prelude.{List};
     ghost use Rattle.isle_run.specs.declared.calls.store.Stored.{Stored};
-    ghost use Rattle.isle_run.specs.Stores.Tables.{AreNumbered};
+    ghost use Rattle.isle_run.specs.Inside.Stores.Tables.{AreNumbered};
 
     ghost Value = { List Stored };
 

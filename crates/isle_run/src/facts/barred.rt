@@ -1,8 +1,8 @@
 //! Which terms can't be run, for what their rules do or those of terms that they reach.
 ghost use Rattle.std.specs.Prelude.{◌≡◌, ◌<◌, ◌↔◌, ℕ, true, false, IfOk, All, length, map, slice_get, slice_set, slice_index_or};
 ghost use Rattle.isle_terms.specs.declared.terms.Term.{Term as TermRecord};
-ghost use Rattle.isle_blocks.specs.Building.Contents.{Marked};
-ghost use Rattle.isle_blocks.specs.RivalLists.{is_multi_kind};
+ghost use Rattle.isle_blocks.specs.Inside.Building.Contents.{Marked};
+ghost use Rattle.isle_terms.specs.Shown.TermTables.{is_multi_kind};
 ghost use Rattle.isle_run.specs.Facts.Reach.{is_hindered, is_root, IsBarred};
 
 use crate::facts::callers::callers;

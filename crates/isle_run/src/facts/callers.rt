@@ -2,7 +2,7 @@
 ghost use Rattle.std.specs.Prelude.{◌≡◌, ◌∷◌, [], ℕ, List, IfOk, OnOk, All, length};
 ghost use Rattle.isle_types.specs.TypeTables.{TypeTables};
 ghost use Rattle.isle_run.specs.Facts.Reach.{terms_made_by};
-ghost use Rattle.isle_run.specs.Facts.Callers.{AreCallers, ListsMore};
+ghost use Rattle.isle_run.specs.Inside.Facts.Callers.{AreCallers, ListsMore};
 
 use crate::facts::made::push_made;
 use isle_terms::{Rule, TermEnv};

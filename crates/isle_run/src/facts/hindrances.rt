@@ -5,7 +5,7 @@ ghost use Rattle.isle_types.specs.declared.ids.VarId.{VarId as VarNumber};
 ghost use Rattle.isle_types.specs.declared.ids.TypeId.{TypeId as TypeNumber};
 ghost use Rattle.isle_terms.specs.declared.rules.Expr.{Expr as SourceExpr};
 ghost use Rattle.isle_terms.specs.Shown.ShownRules.{typed_list, typed_shown, built_list, built_shown, binding_list};
-ghost use Rattle.isle_blocks.specs.RivalLists.{is_multi_in, is_multi_kind};
+ghost use Rattle.isle_terms.specs.Shown.TermTables.{is_multi_in, is_multi_kind};
 ghost use Rattle.isle_run.specs.Facts.Reach.{is_data_type, is_hindering_pattern, are_hindering_patterns, is_hindering_expr, are_hindering_exprs};
 ghost use Rattle.isle_run.specs.Facts.Reach.{are_hindering_bindings, is_hindering_iflet, is_hindering_rule};
 

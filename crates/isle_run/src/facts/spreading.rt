@@ -1,8 +1,8 @@
 //! Marks that spread over lists of numbers.
 ghost use Rattle.std.specs.Prelude.{◌≡◌, ◌<◌, ◌↔◌, ◌∷◌, [], ℕ, Vec, Some, length, slice_get, Contains, IfOk, OnOk};
 ghost use Rattle.std.specs.Global.{Global};
-ghost use Rattle.isle_blocks.specs.Building.Contents.{Marked};
-ghost use Rattle.isle_run.specs.Facts.Spreading.{IsSpread, MarksAndLists};
+ghost use Rattle.isle_blocks.specs.Inside.Building.Contents.{Marked};
+ghost use Rattle.isle_run.specs.Inside.Facts.Spreading.{IsSpread, MarksAndLists};
 
 use std::alloc::{AllocError, Global};
 

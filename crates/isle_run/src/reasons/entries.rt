@@ -127,7 +127,7 @@ fn ill_typed(
     entry: &Entry,
 ) -> Result<Option<String>, AllocError> {
     let name = entry.term.as_str();
-    let Some(external) = external_named(alloc, program, entry.side, name)? else {
+    let Some(external) = external_named(program, entry.side, name) else {
         return Ok(None);
     };
     if entry.answer.is_none() && !external.may_fail {
@@ -148,16 +148,16 @@ fn parts_reason(
     alloc: Global,
     program: &Program,
     entry: &Entry,
-    external: &External,
+    external: &External<'_>,
 ) -> Result<Option<String>, AllocError> {
     let name = entry.term.as_str();
     let call = Part::called(entry.side);
-    let types = external.takes.as_slice();
+    let types = external.takes;
     match part_reason(alloc, program, name, call, &entry.call, types)? {
         Some(reason) => Ok(Some(reason)),
         None => {
             let answer = Part::answered(entry.side);
-            let types = external.gives.as_slice();
+            let types = external.gives;
             part_reason(alloc, program, name, answer, &entry.answer, types)
         }
     }

@@ -1,13 +1,8 @@
 //! The road over trees: a call walks the tree of its term.
 ghost use Rattle.std.specs.Prelude.{◌≡◌, List, IfOk, OnErr};
-ghost use Rattle.isle_terms.specs.Values.{value_list};
-ghost use Rattle.isle_meaning.specs.GroundValues.{values_of};
-ghost use Rattle.isle_meaning.specs.ValueTypes.{AreOfTypes};
 ghost use Rattle.isle_meaning.specs.Worlds.{Event};
 ghost use Rattle.isle_run.specs.Calls.Answers.{answers_in, HasMade};
-ghost use Rattle.isle_run.specs.Facts.Reach.{IsRunnable};
-ghost use Rattle.isle_run.specs.Meanings.{checked};
-ghost use Rattle.isle_run.specs.Programs.{types_of, terms_of};
+ghost use Rattle.isle_run.specs.Meanings.{may_run, AreArguments, arguments_of};
 ghost use Rattle.isle_run.specs.TreeCalls.{IsCompiled, TellsByTree, BeginsByTree};
 
 mod binding;
@@ -45,16 +40,14 @@ impl Program {
         world: &mut W,
         effects: &mut Vec<Effect>,
     ) -> Result<Called, AllocError>
-        ensures ran { IfOk result (λ called. IsCompiled self.now → IsRunnable (types_of self.now) (terms_of self.now) term.0
-            → AreOfTypes (checked self.now).values (value_list args.items) ((checked self.now).terms.inputs term.0) → (made : List Event)
-            × HasMade W.step self.now world.old effects.old.items world.new effects.new.items made
+        ensures ran { IfOk result (λ called. IsCompiled self.now → may_run self.now term.0 → AreArguments self.now term.0 args.items
+            → (made : List Event) × HasMade W.step self.now world.old effects.old.items world.new effects.new.items made
             × TellsByTree self.now (answers_in self.now (W.constructs world.old) (W.extracts world.old)) depth term.0
-            (values_of (checked self.now).values (value_list args.items)) called made) }
-        ensures lost { OnErr result (IsCompiled self.now → IsRunnable (types_of self.now) (terms_of self.now) term.0
-            → AreOfTypes (checked self.now).values (value_list args.items) ((checked self.now).terms.inputs term.0) → (made : List Event)
-            × HasMade W.step self.now world.old effects.old.items world.new effects.new.items made
+            (arguments_of self.now args.items) called made) }
+        ensures lost { OnErr result (IsCompiled self.now → may_run self.now term.0 → AreArguments self.now term.0 args.items
+            → (made : List Event) × HasMade W.step self.now world.old effects.old.items world.new effects.new.items made
             × BeginsByTree self.now (answers_in self.now (W.constructs world.old) (W.extracts world.old)) depth term.0
-            (values_of (checked self.now).values (value_list args.items)) made) }
+            (arguments_of self.now args.items) made) }
         ensures made { (made : List Event) × HasMade W.step self.now world.old effects.old.items world.new effects.new.items made }
         ensures same { (W.constructs world.new ≡ W.constructs world.old) × (W.extracts world.new ≡ W.extracts world.old) }
     {
@@ -70,7 +63,7 @@ impl Program {
 }
 
 impl<'a> Road for Machine<'a> {
-    ghost use Rattle.isle_run.specs.Blocks.Frames.{tree_way};
+    ghost use Rattle.isle_run.specs.Inside.Blocks.Frames.{tree_way};
 
     type Frame = Frame<'a>;
 

@@ -1,14 +1,9 @@
 //! The plain road: a term's rules are tried one by one.
 ghost use Rattle.std.specs.Prelude.{◌≡◌, List, IfOk, OnErr};
-ghost use Rattle.isle_terms.specs.Values.{value_list};
-ghost use Rattle.isle_meaning.specs.GroundValues.{values_of};
-ghost use Rattle.isle_meaning.specs.ValueTypes.{AreOfTypes};
 ghost use Rattle.isle_meaning.specs.Worlds.{Event};
 ghost use Rattle.isle_run.specs.Calls.Answers.{answers_in, HasMade};
-ghost use Rattle.isle_run.specs.Facts.Reach.{IsRunnable};
-ghost use Rattle.isle_run.specs.Meanings.{checked};
+ghost use Rattle.isle_run.specs.Meanings.{may_run, AreArguments, arguments_of};
 ghost use Rattle.isle_run.specs.PlainCalls.{TellsPlainly, BeginsPlainly};
-ghost use Rattle.isle_run.specs.Programs.{types_of, terms_of};
 
 mod evaluation;
 mod fitting;
@@ -42,16 +37,14 @@ impl Program {
         world: &mut W,
         effects: &mut Vec<Effect>,
     ) -> Result<Called, AllocError>
-        ensures ran { IfOk result (λ called. IsRunnable (types_of self.now) (terms_of self.now) term.0
-            → AreOfTypes (checked self.now).values (value_list args.items) ((checked self.now).terms.inputs term.0) → (made : List Event)
-            × HasMade W.step self.now world.old effects.old.items world.new effects.new.items made
+        ensures ran { IfOk result (λ called. may_run self.now term.0 → AreArguments self.now term.0 args.items
+            → (made : List Event) × HasMade W.step self.now world.old effects.old.items world.new effects.new.items made
             × TellsPlainly self.now (answers_in self.now (W.constructs world.old) (W.extracts world.old)) depth term.0
-            (values_of (checked self.now).values (value_list args.items)) called made) }
-        ensures lost { OnErr result (IsRunnable (types_of self.now) (terms_of self.now) term.0
-            → AreOfTypes (checked self.now).values (value_list args.items) ((checked self.now).terms.inputs term.0) → (made : List Event)
-            × HasMade W.step self.now world.old effects.old.items world.new effects.new.items made
+            (arguments_of self.now args.items) called made) }
+        ensures lost { OnErr result (may_run self.now term.0 → AreArguments self.now term.0 args.items
+            → (made : List Event) × HasMade W.step self.now world.old effects.old.items world.new effects.new.items made
             × BeginsPlainly self.now (answers_in self.now (W.constructs world.old) (W.extracts world.old)) depth term.0
-            (values_of (checked self.now).values (value_list args.items)) made) }
+            (arguments_of self.now args.items) made) }
         ensures made { (made : List Event) × HasMade W.step self.now world.old effects.old.items world.new effects.new.items made }
         ensures same { (W.constructs world.new ≡ W.constructs world.old) × (W.extracts world.new ≡ W.extracts world.old) }
     {
@@ -67,7 +60,7 @@ impl Program {
 }
 
 impl<'a> Road for Driver<'a> {
-    ghost use Rattle.isle_run.specs.Plain.Frames.{plain_way};
+    ghost use Rattle.isle_run.specs.Inside.Plain.Frames.{plain_way};
 
     type Frame = Frame<'a>;
 

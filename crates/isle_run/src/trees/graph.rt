@@ -5,10 +5,10 @@ ghost use Rattle.std.specs.Global.{Global};
 ghost use Rattle.std.specs.Option.{option_copied, option_map_or};
 ghost use Rattle.isle_blocks.specs.Trees.Views.{shown_steps};
 ghost use Rattle.isle_run.specs.declared.trees.graph.Branch.TheVariants.{Arms as arms_branch, Steps as steps_branch};
-ghost use Rattle.isle_run.specs.TreeTexts.DotParts.{DrawsPiece, behind_graph, branch_graph, branch_nodes, branch_pieces, check_label, check_node, drawn};
-ghost use Rattle.isle_run.specs.TreeTexts.DotParts.{nodes_behind, shape_words};
+ghost use Rattle.isle_run.specs.Inside.TreeTexts.DotParts.{DrawsPiece, behind_graph, branch_graph, branch_nodes, branch_pieces, check_label, check_node, drawn};
+ghost use Rattle.isle_run.specs.Inside.TreeTexts.DotParts.{nodes_behind, shape_words};
 ghost use Rattle.isle_run.specs.TreeTexts.DotSteps.{Drawn, by_words, edge_line, equal_label, rule_label, start, steps_graph, test_words, way_line};
-ghost use Rattle.isle_run.specs.TreeTexts.Parts.{pieces_behind};
+ghost use Rattle.isle_run.specs.Inside.TreeTexts.Parts.{pieces_behind};
 
 use crate::program::Program;
 use crate::trees::names::{place_text, symbol_name, type_name, variant_name};

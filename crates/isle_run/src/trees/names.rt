@@ -5,7 +5,7 @@ ghost use Rattle.std.specs.List.{flat_map};
 ghost use Rattle.isle_syntax.specs.Positions.Lines.{starts_up_to};
 ghost use Rattle.isle_blocks.specs.Rows.{numbers_of};
 ghost use Rattle.isle_blocks.specs.Trees.Nodes.{fields_of};
-ghost use Rattle.isle_run.specs.TreeTexts.Parts.{behind_space, field_behind_space, field_shown};
+ghost use Rattle.isle_run.specs.Inside.TreeTexts.Parts.{behind_space, field_behind_space, field_shown};
 ghost use Rattle.isle_run.specs.TreeTexts.Names.{fields_text, indent, numbers_text, pos_text, symbol_name, type_name_of, type_text, variant_name};
 
 use crate::program::Program;

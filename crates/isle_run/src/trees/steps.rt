@@ -9,7 +9,7 @@ ghost use Rattle.isle_syntax.specs.Positions.Files.{SourceFile};
 ghost use Rattle.isle_blocks.specs.declared.rule.Rule.{Rule as RuleShown};
 ghost use Rattle.isle_run.specs.declared.program.Program.{Program as ProgramShown};
 ghost use Rattle.isle_run.specs.declared.trees.steps.Part.TheVariants.{Arms as parts_of_arms, Steps as parts_of_steps};
-ghost use Rattle.isle_run.specs.TreeTexts.Parts.{PrintsPiece, behind_text, check_line, part_pieces, part_text, pieces_behind};
+ghost use Rattle.isle_run.specs.Inside.TreeTexts.Parts.{PrintsPiece, behind_text, check_line, part_pieces, part_text, pieces_behind};
 
 use crate::program::Program;
 use crate::trees::names::{place_text, spaced, spaced_fields, spaces};

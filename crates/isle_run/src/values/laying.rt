@@ -1,8 +1,8 @@
 //! Values that are laid out from the last to the first.
 ghost use Rattle.std.specs.Prelude.{◌≡◌, IfOk, IfSome, IfNone};
-ghost use Rattle.isle_terms.specs.Values.{ValueTree, data_value, no_values, more_values};
+ghost use Rattle.isle_terms.specs.Values.{ValueTree, data_tree, no_trees, more_trees};
 ghost use Rattle.isle_run.specs.Values.Nodes.{put, first_values, later_values};
-ghost use Rattle.isle_run.specs.Stores.Laying.{IsLeaf};
+ghost use Rattle.isle_run.specs.Inside.Stores.Laying.{IsLeaf};
 
 use super::{Node, Value};
 use isle_syntax::Text;
@@ -23,7 +23,7 @@ impl Model for LaidValues {
     ghost use Rattle.isle_terms.specs.Values.{ValueTrees};
     ghost use Rattle.isle_run.specs.Values.Code.{value_trees_code};
     ghost use Rattle.isle_run.specs.Values.Nodes.{values_in};
-    ghost use Rattle.isle_run.specs.Stores.Laying.{AreLaid};
+    ghost use Rattle.isle_run.specs.Inside.Stores.Laying.{AreLaid};
 
     ghost Value = { ValueTrees };
 
@@ -37,7 +37,7 @@ impl Model for LaidValues {
 impl LaidValues {
     /// No values.
     pub(crate) fn new(alloc: Global) -> LaidValues
-        ensures { result ≡ no_values }
+        ensures { result ≡ no_trees }
     {
         LaidValues {
             nodes: Vec::new(alloc),
@@ -60,7 +60,7 @@ impl LaidValues {
     /// Makes data of the first values, so many of them.
     pub(crate) fn put_data(&mut self, name: Text, fields: usize) -> Result<(), AllocError>
         ensures { IfOk result
-            (λ _. self.new ≡ more_values (data_value name (first_values fields self.old)) (later_values fields self.old)) }
+            (λ _. self.new ≡ more_trees (data_tree name (first_values fields self.old)) (later_values fields self.old)) }
     {
         let fields = fields.min(self.behind.len());
         let kept = self.behind.len() - fields;
@@ -76,8 +76,8 @@ impl LaidValues {
 
     /// The value, if there is exactly one.
     pub(crate) fn into_value(self) -> Option<Value>
-        ensures some { IfSome result (λ v. self ≡ more_values v no_values) }
-        ensures none { IfNone result ((v : ValueTree) → self ≡ more_values v no_values → ⊥) }
+        ensures some { IfSome result (λ v. self ≡ more_trees v no_trees) }
+        ensures none { IfNone result ((v : ValueTree) → self ≡ more_trees v no_trees → ⊥) }
     {
         if self.behind.len() != 1 {
             return None;

@@ -1,6 +1,6 @@
 //! Values that are made in code.
 ghost use Rattle.std.specs.Prelude.{◌≡◌, IfOk};
-ghost use Rattle.isle_terms.specs.Values.{bool_value, int_value, big_value, const_value, opaque_value, data_value, value_list};
+ghost use Rattle.isle_terms.specs.Values.{bool_tree, int_tree, big_tree, const_tree, opaque_tree, data_tree, value_list};
 ghost use Rattle.isle_run.specs.Values.Nodes.{nodes_all};
 
 use super::{Node, Value};
@@ -10,7 +10,7 @@ use std::alloc::{AllocError, Global};
 impl Value {
     /// `true` or `false`.
     pub fn bool(alloc: Global, b: bool) -> Result<Value, AllocError>
-        ensures { IfOk result (λ v. v ≡ bool_value b) }
+        ensures { IfOk result (λ v. v ≡ bool_tree b) }
     {
         Ok(Value {
             nodes: vec![in alloc; Node::Bool(b)]?,
@@ -19,7 +19,7 @@ impl Value {
 
     /// An integer from -2^127 to 2^127 - 1.
     pub fn int(alloc: Global, n: i128) -> Result<Value, AllocError>
-        ensures { IfOk result (λ v. v ≡ int_value n) }
+        ensures { IfOk result (λ v. v ≡ int_tree n) }
     {
         Ok(Value {
             nodes: vec![in alloc; Node::Int(n)]?,
@@ -28,7 +28,7 @@ impl Value {
 
     /// A number that is written as one from 2^127 on.
     pub fn big(alloc: Global, n: u128) -> Result<Value, AllocError>
-        ensures { IfOk result (λ v. v ≡ big_value n) }
+        ensures { IfOk result (λ v. v ≡ big_tree n) }
     {
         Ok(Value {
             nodes: vec![in alloc; Node::Big(n)]?,
@@ -37,7 +37,7 @@ impl Value {
 
     /// The constant of a name, which is given without `$`.
     pub fn constant(alloc: Global, name: &str) -> Result<Value, AllocError>
-        ensures { IfOk result (λ v. v ≡ const_value name.now) }
+        ensures { IfOk result (λ v. v ≡ const_tree name.now) }
     {
         Ok(Value {
             nodes: vec![in alloc; Node::Const(Text::from_str(alloc, name)?)]?,
@@ -46,7 +46,7 @@ impl Value {
 
     /// The opaque value of a number.
     pub fn opaque(alloc: Global, number: u64) -> Result<Value, AllocError>
-        ensures { IfOk result (λ v. v ≡ opaque_value number) }
+        ensures { IfOk result (λ v. v ≡ opaque_tree number) }
     {
         Ok(Value {
             nodes: vec![in alloc; Node::Opaque(number)]?,
@@ -55,7 +55,7 @@ impl Value {
 
     /// Data of a variant, by its full name, or of a struct.
     pub fn data(alloc: Global, name: &str, fields: Vec<Value>) -> Result<Value, AllocError>
-        ensures { IfOk result (λ v. v ≡ data_value name.now (value_list fields.items)) }
+        ensures { IfOk result (λ v. v ≡ data_tree name.now (value_list fields.items)) }
     {
         let count = fields.len();
         let mut below = nodes_of_all(alloc, fields)?;
@@ -74,7 +74,11 @@ pub(crate) fn nodes_of_all(alloc: Global, values: Vec<Value>) -> Result<Vec<Node
     let mut nodes = Vec::new(alloc);
     for value in values {
         let Value { nodes: mut more } = value;
-        nodes.append(&mut more)?;
+        if nodes.is_empty() {
+            nodes = more;
+        } else {
+            nodes.append(&mut more)?;
+        }
     }
     Ok(nodes)
 }

@@ -9,7 +9,7 @@ ghost use Rattle.isle_run.specs.declared.values.Node.{Node};
 ghost use Rattle.isle_run.specs.declared.values.Node.TheVariants.{Data};
 ghost use Rattle.isle_run.specs.declared.values.reading.Open.{Open};
 ghost use Rattle.isle_run.specs.Values.Tokens.{tokens_of, IsSpellable, SpellValue, HaveNoValue};
-ghost use Rattle.isle_run.specs.Values.Reading.{counted, IsWithin, Level, IsReading, GoesOn};
+ghost use Rattle.isle_run.specs.Inside.Values.Reading.{counted, IsWithin, Level, IsReading, GoesOn};
 
 use super::{Node, Value};
 use isle_syntax::lexer::Token;
@@ -201,7 +201,8 @@ pub(crate) fn read_front(
     ensures some { IfOk result (λ r. IfSome r (λ p. (p.1 ≤ length tokens.now) × SpellValue (take p.1 tokens.now) p.0)) }
     ensures none { IfOk result (λ r. IfNone r (HaveNoValue tokens.now)) }
 {
-    let mut nodes = Vec::new(alloc);
+    // most values are one node
+    let mut nodes = Vec::with_capacity(alloc, 1)?;
     let mut opened = Vec::new(alloc);
     let mut at = 0;
     while at < tokens.len() {

@@ -3,7 +3,7 @@ ghost use Rattle.std.specs.Prelude.{◌≡◌, ◌++◌, ◌↔◌, IfOk, IfSome
 ghost use Rattle.isle_meaning.specs.ValueTypes.{IsOfType};
 ghost use Rattle.isle_run.specs.Programs.{value_facts, number_of};
 ghost use Rattle.isle_run.specs.Values.Settled.{settled};
-ghost use Rattle.isle_run.specs.Values.SettledNodes.{settled_node, types_below, FitsWithFields};
+ghost use Rattle.isle_run.specs.Inside.Values.SettledNodes.{settled_node, types_below, FitsWithFields};
 
 use super::{Node, Value};
 use crate::program::Program;

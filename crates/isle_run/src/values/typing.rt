@@ -2,7 +2,7 @@
 ghost use Rattle.std.specs.Prelude.{◌≡◌, ◌+◌, ◌↔◌, ◌<◌, ◌^◌, ℕ, List, IsTrue, map, None, Some, MatchOption, length, slice_get};
 ghost use Rattle.isle_meaning.specs.ValueTypes.{IsOfType, IsIntOf, HasConstants, primitive_kind};
 ghost use Rattle.isle_run.specs.Programs.{value_facts, number_of, types_of_term};
-ghost use Rattle.isle_run.specs.Values.TypedNodes.{NodeFits, NodesFit, FieldsFit, AllFieldsFit, shown_kind};
+ghost use Rattle.isle_run.specs.Inside.Values.TypedNodes.{NodeFits, NodesFit, FieldsFit, AllFieldsFit, shown_kind};
 ghost use Rattle.isle_run.specs.declared.values.Node.{Node as DeclaredNode};
 
 use crate::program::Program;

@@ -3,7 +3,7 @@ ghost use Rattle.std.specs.Prelude.{List, All, IfOk, OnOk};
 ghost use Rattle.isle_syntax.specs.Positions.Files.{SourceFile};
 ghost use Rattle.isle_syntax.specs.Positions.Printable.{IsPrintablePos};
 ghost use Rattle.isle_syntax.specs.Positions.DefPositions.{IdentAt, PatternAt, ExprAt, LetDefAt, IfLetAt, RuleAt};
-ghost use Rattle.isle_run.specs.Warnings.{NameAt};
+ghost use Rattle.isle_run.specs.Inside.Warnings.{NameAt};
 
 use isle_syntax::ast::{Expr, Ident, IfLet, LetDef, Pattern, Rule};
 use std::alloc::{AllocError, Global};

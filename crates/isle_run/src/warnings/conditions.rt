@@ -3,7 +3,7 @@ ghost use Rattle.std.specs.Prelude.{◌≡◌, List, All, IfOk, OnOk};
 ghost use Rattle.isle_syntax.specs.Positions.Files.{SourceFile};
 ghost use Rattle.isle_syntax.specs.Positions.Printable.{IsPrintablePos};
 ghost use Rattle.isle_syntax.specs.Positions.DefPositions.{IfLetAt};
-ghost use Rattle.isle_run.specs.Warnings.{WarningAt};
+ghost use Rattle.isle_run.specs.Inside.Warnings.{WarningAt};
 
 use crate::facts::hindrances::gives_many;
 use crate::program::Program;

@@ -3,7 +3,7 @@ ghost use Rattle.std.specs.Prelude.{List, All, OnOk};
 ghost use Rattle.isle_syntax.specs.Positions.Files.{SourceFile};
 ghost use Rattle.isle_syntax.specs.Positions.Printable.{IsPrintablePos};
 ghost use Rattle.isle_syntax.specs.Positions.DefPositions.{IdentAt, ExtractorAt, DefAt};
-ghost use Rattle.isle_run.specs.Warnings.{NameAt, WarningAt};
+ghost use Rattle.isle_run.specs.Inside.Warnings.{NameAt, WarningAt};
 
 use crate::program::Program;
 use crate::warnings::Warning;

@@ -3,7 +3,7 @@ ghost use Rattle.std.specs.Prelude.{List, All, OnOk};
 ghost use Rattle.isle_syntax.specs.Positions.Files.{SourceFile};
 ghost use Rattle.isle_syntax.specs.Positions.Printable.{IsPrintablePos};
 ghost use Rattle.isle_syntax.specs.Positions.DefPositions.{DefAt};
-ghost use Rattle.isle_run.specs.Warnings.{WarningAt};
+ghost use Rattle.isle_run.specs.Inside.Warnings.{WarningAt};
 
 use crate::program::Program;
 use crate::warnings::Warning;

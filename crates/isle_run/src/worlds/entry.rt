@@ -113,7 +113,7 @@ fn read_single(alloc: Global, tokens: &[Token]) -> Result<Option<(Vec<Value>, us
 {
     match read_front(alloc, tokens)? {
         Some((value, count)) => {
-            let mut values = Vec::new(alloc);
+            let mut values = Vec::with_capacity(alloc, 1)?;
             values.push(value)?;
             Ok(Some((values, count)))
         }

@@ -1,5 +1,5 @@
 //! The external terms that a world answers.
-ghost use Rattle.std.specs.Prelude.{◌≡◌, ◌∷◌, [], map, IfOk, IfSome, IfNone, Some, None};
+ghost use Rattle.std.specs.Prelude.{◌≡◌, map, IfOk, IfSome, IfNone, Some, None};
 ghost use Rattle.std.specs.Option.{option_map};
 ghost use Rattle.isle_terms.specs.Values.{value_list};
 ghost use Rattle.isle_terms.specs.Terms.{is_host_constructor};
@@ -17,81 +17,55 @@ use crate::values::Value;
 use isle_terms::{ConstructorKind, ExtractorKind, Term, TermKind};
 use isle_types::{TermId, TypeId};
 use std::alloc::{AllocError, Global};
+use std::slice;
 
 /// The types of the values that a call hands over and that its answer has, and whether it may answer none.
-#[derive(Drop)]
-pub(crate) struct External {
-    pub takes: Vec<TypeId>,
-    pub gives: Vec<TypeId>,
+#[derive(Clone, Copy)]
+pub(crate) struct External<'a> {
+    pub takes: &'a [TypeId],
+    pub gives: &'a [TypeId],
     pub may_fail: bool,
-}
-
-/// A list of one type.
-fn one_type(alloc: Global, ty: TypeId) -> Result<Vec<TypeId>, AllocError>
-    ensures { IfOk result (λ types. types.items ≡ ty ∷ []) }
-{
-    let mut types = Vec::new(alloc);
-    types.push(ty)?;
-    Ok(types)
-}
-
-/// A copy of types.
-fn copied(alloc: Global, types: &[TypeId]) -> Result<Vec<TypeId>, AllocError>
-    ensures { IfOk result (λ copy. copy.items ≡ types.now) }
-{
-    let mut copy = Vec::new(alloc);
-    copy.extend_from_slice(types)?;
-    Ok(copy)
 }
 
 /// What a world may be asked of the constructor of a term.
 fn constructor_of(
-    alloc: Global,
     term: &Term,
     kind: Option<ConstructorKind>,
     partial: bool,
-) -> Result<Option<External>, AllocError>
-    ensures { IfOk result (λ r. option_map types_shown r
-        ≡ constructor_types (is_host_constructor kind) partial term.now.ret_ty.0 (map number_of term.now.arg_tys)) }
+) -> Option<External<'_>>
+    ensures { option_map types_shown result
+        ≡ constructor_types (is_host_constructor kind) partial term.now.ret_ty.0 (map number_of term.now.arg_tys) }
 {
     match kind {
-        Some(ConstructorKind::ExternalConstructor { .. }) => Ok(Some(External {
-            takes: copied(alloc, term.arg_tys.as_slice())?,
-            gives: one_type(alloc, term.ret_ty)?,
+        Some(ConstructorKind::ExternalConstructor { .. }) => Some(External {
+            takes: term.arg_tys.as_slice(),
+            gives: slice::from_ref(&term.ret_ty),
             may_fail: partial,
-        })),
-        Some(ConstructorKind::InternalConstructor) => Ok(None),
-        None => Ok(None),
+        }),
+        Some(ConstructorKind::InternalConstructor) => None,
+        None => None,
     }
 }
 
 /// What a world may be asked of the extractor of a term.
-fn extractor_of(
-    alloc: Global,
-    term: &Term,
-    kind: &Option<ExtractorKind>,
-) -> Result<Option<External>, AllocError>
-    ensures { IfOk result (λ r. option_map types_shown r
-        ≡ extractor_types kind.now term.now.ret_ty.0 (map number_of term.now.arg_tys)) }
+fn extractor_of<'a>(term: &'a Term, kind: &Option<ExtractorKind>) -> Option<External<'a>>
+    ensures { option_map types_shown result
+        ≡ extractor_types kind.now term.now.ret_ty.0 (map number_of term.now.arg_tys) }
 {
     match kind {
-        Some(ExtractorKind::ExternalExtractor { infallible, .. }) => Ok(Some(External {
-            takes: one_type(alloc, term.ret_ty)?,
-            gives: copied(alloc, term.arg_tys.as_slice())?,
+        Some(ExtractorKind::ExternalExtractor { infallible, .. }) => Some(External {
+            takes: slice::from_ref(&term.ret_ty),
+            gives: term.arg_tys.as_slice(),
             may_fail: !*infallible,
-        })),
-        Some(ExtractorKind::InternalExtractor { .. }) => Ok(None),
-        None => Ok(None),
+        }),
+        Some(ExtractorKind::InternalExtractor { .. }) => None,
+        None => None,
     }
 }
 
 /// What a world may be asked of a side of a term; nothing of one that isn't external there, or that is `multi`.
-pub(crate) fn external_of(
-    alloc: Global,
-    term: &Term,
-    side: Side,
-) -> Result<Option<External>, AllocError>
-    ensures { IfOk result (λ r. option_map types_shown r ≡ asked_of side term.now) }
+pub(crate) fn external_of(term: &Term, side: Side) -> Option<External<'_>>
+    ensures { option_map types_shown result ≡ asked_of side term.now }
 {
     let TermKind::Decl {
         flags,
@@ -99,32 +73,29 @@ pub(crate) fn external_of(
         extractor_kind,
     } = &term.kind
     else {
-        return Ok(None);
+        return None;
     };
     if flags.multi {
-        return Ok(None);
+        return None;
     }
     match side {
-        Side::Constructor => constructor_of(alloc, term, *constructor_kind, flags.partial),
-        Side::Extractor => extractor_of(alloc, term, extractor_kind),
+        Side::Constructor => constructor_of(term, *constructor_kind, flags.partial),
+        Side::Extractor => extractor_of(term, extractor_kind),
     }
 }
 
 /// What a world may be asked of a side of the term of a name.
-pub(crate) fn external_named(
-    alloc: Global,
-    program: &Program,
+pub(crate) fn external_named<'a>(
+    program: &'a Program,
     side: Side,
     name: &str,
-) -> Result<Option<External>, AllocError>
-    ensures { IfOk result (λ r. option_map types_shown r ≡ asked_named program.now side name.now) }
+) -> Option<External<'a>>
+    ensures { option_map types_shown result ≡ asked_named program.now side name.now }
 {
-    let Some(id) = program.term(name) else {
-        return Ok(None);
-    };
+    let id = program.term(name)?;
     match program.terms().get_term(id) {
-        Some(term) => external_of(alloc, term, side),
-        None => Ok(None),
+        Some(term) => external_of(term, side),
+        None => None,
     }
 }
 
@@ -155,7 +126,7 @@ pub(crate) fn settle_entry(
     alloc: Global,
     program: &Program,
     entry: Entry,
-    external: &External,
+    external: &External<'_>,
 ) -> Result<Option<Entry>, AllocError>
     ensures some { IfOk result (λ r. IfSome r (λ read.
         (entry_shown read ≡ settled_entry (value_facts program.now) (types_shown external.now) (entry_shown entry))
@@ -172,10 +143,10 @@ pub(crate) fn settle_entry(
     if answer.is_none() && !external.may_fail {
         return Ok(None);
     }
-    let Some(call) = settle_part(alloc, program, call, external.takes.as_slice())? else {
+    let Some(call) = settle_part(alloc, program, call, external.takes)? else {
         return Ok(None);
     };
-    let Some(answer) = settle_part(alloc, program, answer, external.gives.as_slice())? else {
+    let Some(answer) = settle_part(alloc, program, answer, external.gives)? else {
         return Ok(None);
     };
     Ok(Some(Entry {

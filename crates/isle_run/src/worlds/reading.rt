@@ -4,7 +4,7 @@ ghost use Rattle.isle_syntax.specs.Tokens.LexerCalls.{GivesToken, AnswersEnd};
 ghost use Rattle.isle_run.specs.Worlds.Entries.{EntryTree};
 ghost use Rattle.isle_run.specs.Worlds.Tables.{HasEntries};
 ghost use Rattle.isle_run.specs.Worlds.Texts.{ArePlaced, SpellsWorld, RefusesWorld, SpellEntries};
-ghost use Rattle.isle_run.specs.Worlds.Reading.{IsTokenFault, RefusedBehind, AddsEntry, RefusesEntry, LacksElseOn, MissesElse};
+ghost use Rattle.isle_run.specs.Inside.Worlds.Reading.{IsTokenFault, RefusedBehind, AddsEntry, RefusesEntry, LacksElseOn, MissesElse};
 ghost use Rattle.isle_types.specs.declared.ids.TermId.{TermId as KnownTerm};
 ghost use Rattle.isle_run.specs.declared.program.Program.{Program as KnownProgram};
 
@@ -101,7 +101,7 @@ fn add_entry(
     let Some((entry, count)) = read_entry(alloc, tokens)? else {
         return Err(WorldFault::X2(offset));
     };
-    let Some(external) = external_named(alloc, program, entry.side, entry.term.as_str())? else {
+    let Some(external) = external_named(program, entry.side, entry.term.as_str()) else {
         return Err(WorldFault::X3(offset));
     };
     let Some(entry) = settle_entry(alloc, program, entry, &external)? else {
@@ -147,7 +147,7 @@ pub(crate) fn lacks_else_on(
     let Some(known) = program.terms().get_term(term) else {
         return Ok(false);
     };
-    let Some(external) = external_of(alloc, known, side)? else {
+    let Some(external) = external_of(known, side) else {
         return Ok(false);
     };
     if external.may_fail {

@@ -77,21 +77,20 @@ fn else_key(alloc: Global, side: Side, term: &str) -> Result<Key, AllocError>
     })
 }
 
-/// The key of an entry.
-fn entry_key(alloc: Global, entry: &Entry) -> Result<Key, AllocError>
-    ensures { IfOk result (λ key. key ≡ key_of entry.now.side entry.now.term (part_shown entry.now.call)) }
+/// The key of an entry, of what the entry has.
+fn entry_key(
+    alloc: Global,
+    side: Side,
+    term: Text,
+    call: Option<Vec<Value>>,
+) -> Result<Key, AllocError>
+    ensures { IfOk result (λ key. key ≡ key_of side term (part_shown call)) }
 {
-    let term = entry.term.as_str();
-    match &entry.call {
-        Some(call) => {
-            let key = call_key(alloc, entry.side, term, call.clone()?)?;
-            Ok(key)
-        }
-        None => {
-            let key = else_key(alloc, entry.side, term)?;
-            Ok(key)
-        }
-    }
+    let call = match call {
+        Some(values) => Some(Seq::new(nodes_of_all(alloc, values)?)),
+        None => None,
+    };
+    Ok(Key { side, term, call })
 }
 
 /// A copy of an answer.
@@ -123,11 +122,15 @@ impl TableWorld {
         ensures added { IfOk result (λ added. added ≡ true → IsAdded self.old (entry_shown entry) self.new) }
         ensures twice { IfOk result (λ added. added ≡ false → IsSome (entry_of self.old (entry_shown entry))) }
     {
-        let key = entry_key(alloc, &entry)?;
-        match self.answers.insert(key, entry.answer)? {
-            Some(_) => Ok(false),
-            None => Ok(true),
-        }
+        let Entry {
+            side,
+            term,
+            call,
+            answer,
+        } = entry;
+        let key = entry_key(alloc, side, term, call)?;
+        let replaced = self.answers.insert(key, answer)?;
+        Ok(replaced.is_none())
     }
 
     /// Whether an entry stands for all calls of a side of a term that have none of their own.

@@ -36,7 +36,7 @@ use Rattle.isle_syntax.specs.Grammar.TreeGrammar.{SpellsItems}
 use Rattle.isle_syntax.specs.Grammar.DefGrammar.{SpellsIdent, SpellsField, numbered, SpellsFields, SpellsVariant, bare, in_list, SpellsTypeValue}
 use Rattle.isle_syntax.specs.Grammar.DefGrammar.{SpellsType, SpellsSignature, SpellsDecl, SpellsExtractor, SpellsExtern, SpellsConverter, SpellsName}
 use Rattle.isle_syntax.specs.Grammar.DefGrammar.{SpellsIfLet, if_let, if_holds, SpellsRule, SpellsKept, SpellsDef, SpellsText}
-use Rattle.isle_syntax.specs.Positions.DefPositions.{IdentAt, StructFieldAt, TupleFieldAt, FieldsAt, VariantAt, TypeValueAt, TypeAt, DeclAt}
+use Rattle.isle_syntax.specs.Positions.DefPositions.{IdentAt, StructFieldAt, TupleFieldAt, FieldsAt, VariantTreeAt, TypeValueAt, TypeTreeAt, DeclAt}
 use Rattle.isle_syntax.specs.Positions.DefPositions.{PatternTreeAt, PatternTreesAt, ExprTreeAt, ExprTreesAt, LetTreesAt, IfLetAt, RuleAt, ExtractorAt}
 use Rattle.isle_syntax.specs.Positions.DefPositions.{ExternAt, ConverterAt, ItemTreeAt, ItemTreesAt, KeptAt, DefAt}
 use Rattle.isle_syntax.proofs.Productions.Bodies.{nothing_after}
@@ -196,7 +196,7 @@ module _ (At : Pos → Type 0) where
   fields_at (tuple_fields fs) ts l s =
       subst (All (TupleFieldAt At)) (sym l.2) (numbered_at 0 l.0 (closed_at SpellsIdent (IdentAt At) ident_at l.0 ts l.1 s))
 
-  variant_at : (b : Variant) (ts : List Placed) → SpellsVariant b ts → Stand ts → VariantAt At b
+  variant_at : (b : Variant) (ts : List Placed) → SpellsVariant b ts → Stand ts → VariantTreeAt At b
   variant_at b ts (bare l p f) s = let a = ident_at b.name ts l s in
       record { name = a; fields = subst (FieldsAt At) (sym f) tt; pos = subst At (sym p) a }
   variant_at b ts (in_list l) s =
@@ -215,13 +215,13 @@ module _ (At : Pos → Type 0) where
   type_value_at (Enum vs p) ts l s =
       let h = parts ts l.0 l.1 l.2 s in
       let k = l.4 in
-      (closed_at SpellsVariant (VariantAt At) variant_at vs k.1 k.4 (parts l.1 k.0 k.1 k.2 h.1).1, one l.0 _ l.3 h.0)
+      (closed_at SpellsVariant (VariantTreeAt At) variant_at vs k.1 k.4 (parts l.1 k.0 k.1 k.2 h.1).1, one l.0 _ l.3 h.0)
   type_value_at (Struct fs p) ts l s =
       let h = parts ts l.0 l.1 l.2 s in
       let k = l.4 in
       (fields_at fs k.1 k.4 (parts l.1 k.0 k.1 k.2 h.1).1, one l.0 _ l.3 h.0)
 
-  type_at : (b : TypeTree) (ts : List Placed) → SpellsType b ts → Stand ts → TypeAt At b
+  type_at : (b : TypeTree) (ts : List Placed) → SpellsType b ts → Stand ts → TypeTreeAt At b
   type_at b ts l s =
       let h = parts ts l.0.0 l.0.1 l.0.2 s in
       let k = l.0.4 in

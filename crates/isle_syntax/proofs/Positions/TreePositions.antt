@@ -41,7 +41,7 @@ use Rattle.isle_syntax.specs.Trees.ExprTree.{more_exprs, no_lets, more_lets}
 use Rattle.isle_syntax.specs.Trees.ExprShape.{expr_of, exprs_of, lets_of}
 use Rattle.isle_syntax.specs.Trees.ItemTree.{ItemTree, ItemTrees, item_int, item_big, item_symbol, item_at, item_list, no_items, more_items}
 use Rattle.isle_syntax.specs.Trees.ItemShape.{items_of}
-use Rattle.isle_syntax.specs.Positions.DefPositions.{IdentAt, StructFieldAt, TupleFieldAt, FieldsAt, VariantAt, TypeValueAt, TypeAt, DeclAt}
+use Rattle.isle_syntax.specs.Positions.DefPositions.{IdentAt, StructFieldAt, TupleFieldAt, FieldsAt, VariantTreeAt, TypeValueAt, TypeTreeAt, DeclAt}
 use Rattle.isle_syntax.specs.Positions.DefPositions.{PatternTreeAt, PatternTreesAt, PatternAt, ExprTreeAt, ExprTreesAt, LetTreesAt, LetDefAt, ExprAt}
 use Rattle.isle_syntax.specs.Positions.DefPositions.{IfLetAt, RuleAt, ExtractorAt, ExternAt, ConverterAt, ItemTreeAt, ItemTreesAt, ItemAt, KeptAt}
 use Rattle.isle_syntax.specs.Positions.DefPositions.{DefAt}
@@ -101,7 +101,7 @@ module _ (P Q : Pos → Type 0) (weaker : (p : Pos) → P p → Q p) where
   fields_at_weaker (tuple_fields fields) h =
       All-weaker (TupleFieldAt P) (TupleFieldAt Q) tuple_field_at_weaker fields.fields h
 
-  variant_at_weaker : (variant : Variant) → VariantAt P variant → VariantAt Q variant
+  variant_at_weaker : (variant : Variant) → VariantTreeAt P variant → VariantTreeAt Q variant
   variant_at_weaker variant h = record {
     name = weaker _ h.name;
     fields = fields_at_weaker variant.fields h.fields;
@@ -112,9 +112,9 @@ module _ (P Q : Pos → Type 0) (weaker : (p : Pos) → P p → Q p) where
   type_value_at_weaker (Primitive name pos) h = (weaker _ h.0, weaker _ h.1)
   type_value_at_weaker (Struct fields pos) h = (fields_at_weaker fields h.0, weaker _ h.1)
   type_value_at_weaker (Enum variants pos) h =
-      (All-weaker (VariantAt P) (VariantAt Q) variant_at_weaker variants h.0, weaker _ h.1)
+      (All-weaker (VariantTreeAt P) (VariantTreeAt Q) variant_at_weaker variants h.0, weaker _ h.1)
 
-  type_at_weaker : (type : TypeTree) → TypeAt P type → TypeAt Q type
+  type_at_weaker : (type : TypeTree) → TypeTreeAt P type → TypeTreeAt Q type
   type_at_weaker type h = record {
     name = weaker _ h.name;
     ty = type_value_at_weaker type.ty h.ty;

@@ -12,11 +12,11 @@ use Rattle.isle_syntax.specs.Tokens.PlacedTokens.{Placed, opening, closing, at_s
 use Rattle.isle_syntax.specs.Tokens.Names.{is_word}
 use Rattle.isle_syntax.specs.Grammar.Phrases.{◌⊙◌, Both, Opens, Closes, Word, Says, next_symbol_is, Each}
 use Rattle.isle_syntax.specs.Grammar.TreeGrammar.{is_expr_term, SpellsPattern, SpellsExpr}
-use Rattle.isle_syntax.specs.Reading.Readers.{Reader, seq, parens, closed, word, says}
-use Rattle.isle_syntax.specs.Reading.TreeReading.{ident, pattern, expr, expr_inner, Inner, call, bound_in, inner_expr}
+use Rattle.isle_syntax.specs.Inside.Reading.Readers.{Reader, seq, parens, closed, word, says}
+use Rattle.isle_syntax.specs.Inside.Reading.TreeReading.{ident, pattern, expr, expr_inner, Inner, call, bound_in, inner_expr}
 use Rattle.isle_syntax.specs.Grammar.DefGrammar.{SpellsIfLet, if_let, if_holds, is_clause_word, IsRightSide, SpellsRightSide}
-use Rattle.isle_syntax.specs.Reading.DefReading.{pattern_from, expr_from, is_open_next, Body, Step, if_let_step, if_step, last_step, clause}
-use Rattle.isle_syntax.specs.Reading.DefReading.{step_body, step_on, step, body_on, body, rule_body}
+use Rattle.isle_syntax.specs.Inside.Reading.DefReading.{pattern_from, expr_from, is_open_next, Body, Step, if_let_step, if_step, last_step, clause}
+use Rattle.isle_syntax.specs.Inside.Reading.DefReading.{step_body, step_on, step, body_on, body, rule_body}
 use Rattle.isle_syntax.proofs.Reading.Follows.{start, Begins, FollowsAt, Follows, Any, follows_seq, follows_seq_at}
 use Rattle.isle_syntax.proofs.Reading.Cases.{Looks, follows_case}
 use Rattle.isle_syntax.proofs.Reading.Flags.{names_looks}

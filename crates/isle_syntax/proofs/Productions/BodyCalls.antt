@@ -11,10 +11,10 @@ use Rattle.isle_syntax.specs.Tokens.PlacedTokens.{Placed}
 use Rattle.isle_syntax.specs.Tokens.Names.{is_word}
 use Rattle.isle_syntax.specs.Grammar.Phrases.{next_symbol_is}
 use Rattle.isle_syntax.specs.Tokens.RemainingTokens.{RemainingTokens}
-use Rattle.isle_syntax.specs.Reading.Parsing.{bounds, stop_of, at_fault, RefusesAt, NoToken, IsKnown}
-use Rattle.isle_syntax.specs.Reading.Readers.{Read, done, read_map, seq, opened_within, closed}
-use Rattle.isle_syntax.specs.Reading.TreeReading.{expr, expr_inner, inner_expr}
-use Rattle.isle_syntax.specs.Reading.DefReading.{is_open_next, Body, clause, if_let_read, if_read}
+use Rattle.isle_syntax.specs.Inside.Reading.Parsing.{bounds, stop_of, at_fault, RefusesAt, NoToken, IsKnown}
+use Rattle.isle_syntax.specs.Inside.Reading.Readers.{Read, done, read_map, seq, opened_within, closed}
+use Rattle.isle_syntax.specs.Inside.Reading.TreeReading.{expr, expr_inner, inner_expr}
+use Rattle.isle_syntax.specs.Inside.Reading.DefReading.{is_open_next, Body, clause, if_let_read, if_read}
 use Rattle.isle_syntax.proofs.Reading.ReadSteps.{fuse}
 use Rattle.isle_syntax.proofs.Reading.Beginnings.{mapped_from}
 use Rattle.isle_syntax.proofs.Reading.Loops.{stop_map, refuses_later, refuses_no_token, known_refuses}

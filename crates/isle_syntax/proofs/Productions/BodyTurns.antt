@@ -9,11 +9,11 @@ use Rattle.isle_syntax.specs.Trees.ExprTree.{ExprTree}
 use Rattle.isle_syntax.specs.Tokens.PlacedTokens.{Placed, opening, closing, at_sign, symbol, int}
 use Rattle.isle_syntax.specs.Tokens.Names.{is_word}
 use Rattle.isle_syntax.specs.Grammar.Phrases.{next_symbol_is}
-use Rattle.isle_syntax.specs.Reading.Parsing.{Stop, nowhere, stop_of}
-use Rattle.isle_syntax.specs.Reading.Readers.{Read, done, fault, deep, Reader, read_map, seq, opened, shut, opened_within, closed}
-use Rattle.isle_syntax.specs.Reading.TreeReading.{expr, expr_inner, inner_expr}
-use Rattle.isle_syntax.specs.Reading.DefReading.{is_open_next, Body, if_let_step, if_step, last_step, clause, step_body, step_on, step, body_on, body}
-use Rattle.isle_syntax.specs.Reading.DefReading.{rule_body, if_let_read, if_read}
+use Rattle.isle_syntax.specs.Inside.Reading.Parsing.{Stop, nowhere, stop_of}
+use Rattle.isle_syntax.specs.Inside.Reading.Readers.{Read, done, fault, deep, Reader, read_map, seq, opened, shut, opened_within, closed}
+use Rattle.isle_syntax.specs.Inside.Reading.TreeReading.{expr, expr_inner, inner_expr}
+use Rattle.isle_syntax.specs.Inside.Reading.DefReading.{is_open_next, Body, if_let_step, if_step, last_step, clause, step_body, step_on, step, body_on, body}
+use Rattle.isle_syntax.specs.Inside.Reading.DefReading.{rule_body, if_let_read, if_read}
 use Rattle.isle_syntax.proofs.Reading.Follows.{FollowsAt, Any}
 use Rattle.isle_syntax.proofs.Reading.ReadSteps.{fuse, map_seq_done}
 use Rattle.isle_syntax.proofs.Reading.Loops.{stop_map, stop_after}

@@ -15,11 +15,11 @@ use Rattle.isle_syntax.specs.declared.ast.Def.{Def}
 use Rattle.isle_syntax.specs.declared.ast.Def.TheVariants as defs
 use Rattle.isle_syntax.specs.Tokens.PlacedTokens.{Placed, opening, closing}
 use Rattle.isle_syntax.specs.Grammar.Phrases.{◌⊙◌, Both, Opens, Says}
-use Rattle.isle_syntax.specs.Reading.KindOf.{keyword_at}
-use Rattle.isle_syntax.specs.Reading.Readers.{done, Reader, read_map, seq, says}
+use Rattle.isle_syntax.specs.Inside.Reading.KindOf.{keyword_at}
+use Rattle.isle_syntax.specs.Inside.Reading.Readers.{done, Reader, read_map, seq, says}
 use Rattle.isle_syntax.specs.Grammar.DefGrammar.{SpellsType, SpellsDecl, SpellsRule, SpellsExtractor, SpellsExtern, SpellsConverter, SpellsKept}
 use Rattle.isle_syntax.specs.Grammar.DefGrammar.{SpellsDef}
-use Rattle.isle_syntax.specs.Reading.DefReading.{type_def, decl, rule, extractor, extern_def, converter, kept, def_on, def_inner, def}
+use Rattle.isle_syntax.specs.Inside.Reading.DefReading.{type_def, decl, rule, extractor, extern_def, converter, kept, def_on, def_inner, def}
 use Rattle.isle_syntax.proofs.Reading.Follows.{Begins, FollowsAt, Follows, Any, Starts, follows_seq, shorter_after}
 use Rattle.isle_syntax.proofs.Reading.Cases.{follows_case, follows_no_case}
 use Rattle.isle_syntax.proofs.Reading.Basics.{follows_parens, follows_says, follows_map, both_filled, says_filled}

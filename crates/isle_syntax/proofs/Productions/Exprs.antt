@@ -9,13 +9,13 @@ use Rattle.isle_syntax.specs.declared.ast.Ident.{Ident}
 use Rattle.isle_syntax.specs.Tokens.PlacedTokens.{Placed, opening, closing, at_sign, symbol, int}
 use Rattle.isle_syntax.specs.Tokens.Names.{is_ident, is_word, is_name}
 use Rattle.isle_syntax.specs.Grammar.Phrases.{◌⊙◌, Both, Opens, Closes, Opening, Says, SymbolOf, next_symbol_is, Each, Closed}
-use Rattle.isle_syntax.specs.Reading.KindOf.{symbol_kind}
-use Rattle.isle_syntax.specs.Reading.Readers.{done, fault, seq, rest_of, opened, closed, symbol_of, says}
+use Rattle.isle_syntax.specs.Inside.Reading.KindOf.{symbol_kind}
+use Rattle.isle_syntax.specs.Inside.Reading.Readers.{done, fault, seq, rest_of, opened, closed, symbol_of, says}
 use Rattle.isle_syntax.specs.Trees.ExprTree.{ExprTree, ExprTrees, LetTrees, expr_term, expr_var, expr_bool, expr_int, expr_prim, expr_let, no_exprs}
 use Rattle.isle_syntax.specs.Trees.ExprTree.{more_exprs, no_lets, more_lets}
 use Rattle.isle_syntax.specs.Grammar.TreeGrammar.{bits_of, is_large, is_expr_term, SpellsExpr, SpellsExprs, SpellsLets}
-use Rattle.isle_syntax.specs.Reading.TreeReading.{ident, after_dollar, expr_trees, symbol_expr, LetBinding, let_trees, Inner, call, bound_in}
-use Rattle.isle_syntax.specs.Reading.TreeReading.{inner_expr, inner_on, expr_list, let_list, let_binding, expr, expr_inner}
+use Rattle.isle_syntax.specs.Inside.Reading.TreeReading.{ident, after_dollar, expr_trees, symbol_expr, LetBinding, let_trees, Inner, call, bound_in}
+use Rattle.isle_syntax.specs.Inside.Reading.TreeReading.{inner_expr, inner_on, expr_list, let_list, let_binding, expr, expr_inner}
 use Rattle.isle_syntax.proofs.Reading.Follows.{start, SameNext, Begins, FollowsAt, Follows, Any, Starts, follows_refusal, follows_token}
 use Rattle.isle_syntax.proofs.Reading.Follows.{follows_image, follows_seq, follows_rest_of, shorter_after}
 use Rattle.isle_syntax.proofs.Reading.Cases.{follows_case}

@@ -6,13 +6,13 @@ use Rattle.isle_syntax.specs.declared.kind.Keyword.{Keyword}
 use Rattle.isle_syntax.specs.declared.kind.Keyword.TheVariants.{Extern, NoDebug, «Type», Decl, Rule, Extractor, Convert, Kept, Primitive, Enum}
 use Rattle.isle_syntax.specs.declared.kind.Keyword.TheVariants.{Struct, Constructor, Const, NoKeyword}
 use Rattle.isle_syntax.specs.Tokens.PlacedTokens.{Placed}
-use Rattle.isle_syntax.specs.Reading.KindOf.{keyword_at}
+use Rattle.isle_syntax.specs.Inside.Reading.KindOf.{keyword_at}
 use Rattle.isle_syntax.specs.Grammar.DefGrammar.{Mark, extern_mark, nodebug_mark, is_extern_mark, is_nodebug_mark}
-use Rattle.isle_syntax.specs.Reading.Parsing.{stop_of, at_fault}
-use Rattle.isle_syntax.specs.Reading.DefReading.{mark, mark_on, marks, marked_of, type_value, no_mark, no_mark_on, is_mark_word}
+use Rattle.isle_syntax.specs.Inside.Reading.Parsing.{stop_of, at_fault}
+use Rattle.isle_syntax.specs.Inside.Reading.DefReading.{mark, mark_on, marks, marked_of, type_value, no_mark, no_mark_on, is_mark_word}
 use Rattle.isle_syntax.proofs.Reading.Loops.{Turns, turns_end}
 use Rattle.isle_syntax.proofs.Reading.ReadSteps.{map_seq_done}
-use Rattle.isle_syntax.specs.Reading.Readers.{done, fault, read_map, seq, says, symbol_of}
+use Rattle.isle_syntax.specs.Inside.Reading.Readers.{done, fault, read_map, seq, says, symbol_of}
 use Rattle.isle_syntax.proofs.Reading.Shorter.{Shortens, map_shortens, symbol_shortens}
 
 pub any_append : {A : Type 0} (p : A → Bool) (xs : List A) (x : A) → list_any p (xs ++ x ∷ []) ≡ (list_any p xs || p x)

@@ -10,11 +10,11 @@ use Rattle.isle_syntax.specs.Errors.{parse_error, size_error, IfFault, IfKind, I
 use Rattle.isle_syntax.specs.Tokens.PlacedTokens.{Placed, opening}
 use Rattle.isle_syntax.specs.Tokens.RemainingTokens.{RemainingTokens, Source, ready, next_pos}
 use Rattle.isle_syntax.specs.Grammar.Phrases.{depth_left}
-use Rattle.isle_syntax.specs.Reading.Readers.{Read, done, fault, deep, all_of}
+use Rattle.isle_syntax.specs.Inside.Reading.Readers.{Read, done, fault, deep, all_of}
 use Rattle.isle_syntax.specs.Tokens.Finding.{reading}
 use Rattle.isle_syntax.specs.Tokens.TokensOf.{TokensOf}
 use Rattle.isle_syntax.specs.Grammar.DefGrammar.{SpellsText}
-use Rattle.isle_syntax.specs.Reading.DefReading.{def}
+use Rattle.isle_syntax.specs.Inside.Reading.DefReading.{def}
 use Rattle.isle_syntax.specs.Grammar.Verdict.{max_nesting, NestsWithin, IsDead, FaultAt, DeepAt, IsSpelt, IsFaultOf}
 use Rattle.isle_syntax.specs.Grammar.Texts.{IsWhole, Spells, IsFaultIn}
 use Rattle.isle_syntax.proofs.ErrorKinds.{parse_or_size, from_kinds}

@@ -9,13 +9,13 @@ use Rattle.isle_syntax.specs.declared.ast.Ident.{Ident}
 use Rattle.isle_syntax.specs.Tokens.PlacedTokens.{Placed, opening, closing, at_sign, symbol, int}
 use Rattle.isle_syntax.specs.Tokens.Names.{is_ident, is_word, is_pname}
 use Rattle.isle_syntax.specs.Grammar.Phrases.{◌⊙◌, Both, Opens, AtSign, SymbolOf, Each, Closed}
-use Rattle.isle_syntax.specs.Reading.KindOf.{symbol_kind}
-use Rattle.isle_syntax.specs.Reading.Readers.{Read, done, fault, Reader, read_map, seq, rest_of, opened, symbol_of}
+use Rattle.isle_syntax.specs.Inside.Reading.KindOf.{symbol_kind}
+use Rattle.isle_syntax.specs.Inside.Reading.Readers.{Read, done, fault, Reader, read_map, seq, rest_of, opened, symbol_of}
 use Rattle.isle_syntax.specs.Trees.PatternTree.{PatternTree, PatternTrees, pattern_var, pattern_bind, pattern_bool, pattern_int, pattern_prim}
 use Rattle.isle_syntax.specs.Trees.PatternTree.{pattern_term, pattern_wildcard, pattern_and, pattern_macro_arg, no_patterns, more_patterns}
 use Rattle.isle_syntax.specs.Grammar.TreeGrammar.{bits_of, is_large, is_pattern_term, SpellsPattern, SpellsPatterns, IsList, ListPattern}
-use Rattle.isle_syntax.specs.Reading.TreeReading.{ident, after_dollar, pattern_trees, is_head, listed, named, symbol_pattern, pattern_with, bound}
-use Rattle.isle_syntax.specs.Reading.TreeReading.{pattern_list, pattern}
+use Rattle.isle_syntax.specs.Inside.Reading.TreeReading.{ident, after_dollar, pattern_trees, is_head, listed, named, symbol_pattern, pattern_with, bound}
+use Rattle.isle_syntax.specs.Inside.Reading.TreeReading.{pattern_list, pattern}
 use Rattle.isle_syntax.proofs.Reading.Follows.{start, SameNext, Begins, FollowsAt, Follows, Any, Starts, follows_refusal, follows_token}
 use Rattle.isle_syntax.proofs.Reading.Follows.{follows_image, follows_seq, follows_seq_at, follows_rest_of, shorter_after}
 use Rattle.isle_syntax.proofs.Reading.Basics.{first_is, follows_opened, follows_shut, follows_symbol_of, symbol_here, some_both, some_closed}

@@ -13,12 +13,12 @@ use Rattle.isle_syntax.specs.Tokens.PlacedTokens.{Placed, opening, closing, at_s
 use Rattle.isle_syntax.specs.Tokens.RemainingTokens.{RemainingTokens, remaining_pos}
 use Rattle.isle_syntax.specs.Grammar.TreeGrammar.{bits_of}
 use Rattle.isle_syntax.specs.Grammar.Phrases.{first_pos}
-use Rattle.isle_syntax.specs.Reading.KindOf.{literal_of}
-use Rattle.isle_syntax.specs.Reading.TreeReading.{pattern_list}
-use Rattle.isle_syntax.specs.Reading.DefReading.{identifier, is_priority, is_priority_next, name_on, with_name, priority_on, with_priority, Body}
-use Rattle.isle_syntax.specs.Reading.DefReading.{rule_of, rule_body, rule}
-use Rattle.isle_syntax.specs.Reading.Parsing.{bounds, stop_of, at_fault, IsKnown, TakesName, TakesPriority}
-use Rattle.isle_syntax.specs.Reading.Readers.{done, fault, Reader, read_map, seq, integer}
+use Rattle.isle_syntax.specs.Inside.Reading.KindOf.{literal_of}
+use Rattle.isle_syntax.specs.Inside.Reading.TreeReading.{pattern_list}
+use Rattle.isle_syntax.specs.Inside.Reading.DefReading.{identifier, is_priority, is_priority_next, name_on, with_name, priority_on, with_priority, Body}
+use Rattle.isle_syntax.specs.Inside.Reading.DefReading.{rule_of, rule_body, rule}
+use Rattle.isle_syntax.specs.Inside.Reading.Parsing.{bounds, stop_of, at_fault, IsKnown, TakesName, TakesPriority}
+use Rattle.isle_syntax.specs.Inside.Reading.Readers.{done, fault, Reader, read_map, seq, integer}
 use Rattle.isle_syntax.proofs.Reading.ReadSteps.{fuse, seq_fault, map_seq_done}
 use Rattle.isle_syntax.proofs.Trees.TreeForms.{pattern_from_of, expr_from_of}
 use Rattle.isle_syntax.proofs.Reading.Beginnings.{stands_at}

@@ -13,11 +13,11 @@ use Rattle.isle_syntax.specs.Tokens.PlacedTokens.{Placed, opening, closing, at_s
 use Rattle.isle_syntax.specs.Tokens.Names.{is_ident}
 use Rattle.isle_syntax.specs.Grammar.Phrases.{◌⊙◌, Both, Closes, next_symbol_is, Each, From, first_pos}
 use Rattle.isle_syntax.specs.Grammar.TreeGrammar.{bits_of, SpellsPattern, IsList, ListPattern}
-use Rattle.isle_syntax.specs.Reading.Readers.{seq, integer}
-use Rattle.isle_syntax.specs.Reading.TreeReading.{pattern_list}
+use Rattle.isle_syntax.specs.Inside.Reading.Readers.{seq, integer}
+use Rattle.isle_syntax.specs.Inside.Reading.TreeReading.{pattern_list}
 use Rattle.isle_syntax.specs.Grammar.DefGrammar.{SpellsIdent, SpellsName, SpellsPriority, SpellsIfLet, SpellsRightSide, SpellsRule}
-use Rattle.isle_syntax.specs.Reading.DefReading.{identifier, name_on, with_name, is_priority, is_priority_next, priority_on, with_priority, Body}
-use Rattle.isle_syntax.specs.Reading.DefReading.{rule_body, rule_of, rule}
+use Rattle.isle_syntax.specs.Inside.Reading.DefReading.{identifier, name_on, with_name, is_priority, is_priority_next, priority_on, with_priority, Body}
+use Rattle.isle_syntax.specs.Inside.Reading.DefReading.{rule_body, rule_of, rule}
 use Rattle.isle_syntax.proofs.Reading.Follows.{start, SameNext, Begins, FollowsAt, Follows, Any, follows_refusal, follows_token, follows_seq}
 use Rattle.isle_syntax.proofs.Reading.Cases.{Looks, follows_from}
 use Rattle.isle_syntax.proofs.Reading.Flags.{names_looks}

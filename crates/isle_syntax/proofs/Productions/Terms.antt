@@ -17,13 +17,13 @@ use Rattle.isle_syntax.specs.Tokens.PlacedTokens.{Placed, symbol}
 use Rattle.isle_syntax.specs.Tokens.Names.{is_const}
 use Rattle.isle_syntax.specs.Grammar.Phrases.{◌⊙◌, Both, Opens, Closes, Opening, Word, SymbolOf, Flag, Closed, From}
 use Rattle.isle_syntax.specs.Grammar.TreeGrammar.{Constant, SpellsPattern, SpellsItem}
-use Rattle.isle_syntax.specs.Reading.KindOf.{keyword_at}
-use Rattle.isle_syntax.specs.Reading.Readers.{seq, rest_of, closed, word, optional}
-use Rattle.isle_syntax.specs.Reading.TreeReading.{ident, after_dollar}
+use Rattle.isle_syntax.specs.Inside.Reading.KindOf.{keyword_at}
+use Rattle.isle_syntax.specs.Inside.Reading.Readers.{seq, rest_of, closed, word, optional}
+use Rattle.isle_syntax.specs.Inside.Reading.TreeReading.{ident, after_dollar}
 use Rattle.isle_syntax.specs.Grammar.DefGrammar.{SpellsIdent, SpellsSignature, SpellsDecl, SpellsExtractor, SpellsExtern, SpellsConverter}
 use Rattle.isle_syntax.specs.Grammar.DefGrammar.{is_kept_word, SpellsKept}
-use Rattle.isle_syntax.specs.Reading.DefReading.{identifier, Signature, signature, decl_of, decl, extractor_of, extractor, constant, two_names}
-use Rattle.isle_syntax.specs.Reading.DefReading.{extern_on, extern_def, converter_of, converter, kept_of, kept}
+use Rattle.isle_syntax.specs.Inside.Reading.DefReading.{identifier, Signature, signature, decl_of, decl, extractor_of, extractor, constant, two_names}
+use Rattle.isle_syntax.specs.Inside.Reading.DefReading.{extern_on, extern_def, converter_of, converter, kept_of, kept}
 use Rattle.isle_syntax.proofs.Reading.Follows.{start, Begins, FollowsAt, Follows, Any, follows_seq}
 use Rattle.isle_syntax.proofs.Reading.Cases.{follows_case, follows_no_case, follows_from}
 use Rattle.isle_syntax.proofs.Reading.Flags.{Flagged, flag_filled, follows_flag}

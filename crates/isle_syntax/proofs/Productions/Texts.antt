@@ -6,9 +6,9 @@ use Rattle.isle_syntax.specs.Errors.{span_at}
 use Rattle.isle_syntax.specs.Tokens.PlacedTokens.{Placed}
 use Rattle.isle_syntax.specs.Tokens.RemainingTokens.{RemainingTokens, next_pos}
 use Rattle.isle_syntax.specs.Grammar.Phrases.{depth_left}
-use Rattle.isle_syntax.specs.Reading.Readers.{Read, done, fault, deep, all_of}
+use Rattle.isle_syntax.specs.Inside.Reading.Readers.{Read, done, fault, deep, all_of}
 use Rattle.isle_syntax.specs.Grammar.DefGrammar.{SpellsDef, SpellsText}
-use Rattle.isle_syntax.specs.Reading.DefReading.{def}
+use Rattle.isle_syntax.specs.Inside.Reading.DefReading.{def}
 use Rattle.isle_syntax.specs.Grammar.Verdict.{max_nesting, IsDead, FaultAt, DeepAt, IsSpelt}
 use Rattle.isle_syntax.proofs.Reading.Follows.{SameNext, Impossible, FollowsAt, Any, AtEnd, follows_all_of}
 use Rattle.isle_syntax.proofs.Productions.Defs.{follows_def, def_starts}

@@ -17,14 +17,14 @@ use Rattle.isle_syntax.specs.declared.ast.«Type».{«Type» as TypeTree}
 use Rattle.isle_syntax.specs.Tokens.PlacedTokens.{Placed, opening, closing, symbol}
 use Rattle.isle_syntax.specs.Tokens.Names.{is_ident}
 use Rattle.isle_syntax.specs.Grammar.Phrases.{◌⊙◌, Both, Opens, Closes, Says, Each, Closed}
-use Rattle.isle_syntax.specs.Reading.KindOf.{keyword_at}
-use Rattle.isle_syntax.specs.Reading.Readers.{done, seq, many, many_turn, rest_of, parens, closed, says}
+use Rattle.isle_syntax.specs.Inside.Reading.KindOf.{keyword_at}
+use Rattle.isle_syntax.specs.Inside.Reading.Readers.{done, seq, many, many_turn, rest_of, parens, closed, says}
 use Rattle.isle_syntax.specs.Grammar.DefGrammar.{SpellsIdent, SpellsField, SpellsFields, SpellsVariant, bare, in_list, SpellsTypeValue, Mark}
 use Rattle.isle_syntax.specs.Grammar.DefGrammar.{extern_mark, nodebug_mark, SpellsMark, SpellsType, numbered, IsFilled}
-use Rattle.isle_syntax.specs.Reading.DefReading.{identifier, field_of, field, fields_named, fields_numbered, is_symbol_next, fields_on, fields}
-use Rattle.isle_syntax.specs.Reading.DefReading.{bare_variant, variant_of, variant_on, variant, Value, primitive, variants, struct_fields, value_at}
-use Rattle.isle_syntax.specs.Reading.DefReading.{value_on, value, type_value, mark_on, mark, is_mark_word, is_mark_next, no_mark_on, no_mark, marks}
-use Rattle.isle_syntax.specs.Reading.DefReading.{type_of, type_def}
+use Rattle.isle_syntax.specs.Inside.Reading.DefReading.{identifier, field_of, field, fields_named, fields_numbered, is_symbol_next, fields_on, fields}
+use Rattle.isle_syntax.specs.Inside.Reading.DefReading.{bare_variant, variant_of, variant_on, variant, Value, primitive, variants, struct_fields, value_at}
+use Rattle.isle_syntax.specs.Inside.Reading.DefReading.{value_on, value, type_value, mark_on, mark, is_mark_word, is_mark_next, no_mark_on, no_mark, marks}
+use Rattle.isle_syntax.specs.Inside.Reading.DefReading.{type_of, type_def}
 use Rattle.isle_syntax.proofs.Reading.Follows.{start, SameNext, Begins, FollowsAt, Follows, Any, Starts, follows_seq, follows_seq_at, follows_image}
 use Rattle.isle_syntax.proofs.Reading.Follows.{follows_rest_of, shorter_after}
 use Rattle.isle_syntax.proofs.Reading.Cases.{looks_same_next, follows_case, follows_no_case}

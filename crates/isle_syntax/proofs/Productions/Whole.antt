@@ -10,9 +10,9 @@ use Rattle.isle_syntax.specs.Errors.{IfFault, span_at}
 use Rattle.isle_syntax.specs.Tokens.PlacedTokens.{Placed}
 use Rattle.isle_syntax.specs.Tokens.RemainingTokens.{RemainingTokens, next_pos, remaining_pos}
 use Rattle.isle_syntax.specs.Tokens.LexerCalls.{HasEnded}
-use Rattle.isle_syntax.specs.Reading.Readers.{Read, done, fault, deep, at_end, all_of}
-use Rattle.isle_syntax.specs.Reading.DefReading.{def}
-use Rattle.isle_syntax.specs.Reading.Parsing.{at_fault, at_deep, stop_of, bounds, TellsStop, RefusesAt}
+use Rattle.isle_syntax.specs.Inside.Reading.Readers.{Read, done, fault, deep, at_end, all_of}
+use Rattle.isle_syntax.specs.Inside.Reading.DefReading.{def}
+use Rattle.isle_syntax.specs.Inside.Reading.Parsing.{at_fault, at_deep, stop_of, bounds, TellsStop, RefusesAt}
 use Rattle.isle_syntax.specs.Grammar.Verdict.{max_nesting, IsFaultOf, IsSpelt}
 use Rattle.isle_syntax.proofs.Reading.Loops.{Turns, turn_refuses, turns_end}
 use Rattle.isle_syntax.proofs.Productions.Texts.{spelt_from_reading, fault_from_reading, fault_at_end, deep_from_reading}

@@ -9,7 +9,7 @@ use Rattle.isle_syntax.specs.Grammar.Phrases.{◌⊙◌, Both, Opens, Closes, Cl
 use Rattle.isle_syntax.specs.Tokens.Names.{is_word}
 use Rattle.std.specs.Cmp.Lexicographic.{same_text}
 use Rattle.std.proofs.lemmas.Cmp.{nat_list_eq_equiv}
-use Rattle.isle_syntax.specs.Reading.Readers.{done, fault, Reader, read_map, seq, opened, shut, parens, closed, symbol_of, word, says}
+use Rattle.isle_syntax.specs.Inside.Reading.Readers.{done, fault, Reader, read_map, seq, opened, shut, parens, closed, symbol_of, word, says}
 use Rattle.isle_syntax.proofs.Reading.Follows.{start, SameNext, Begins, FollowsAt, Follows, Any, Starts, follows_refusal, follows_token}
 use Rattle.isle_syntax.proofs.Reading.Follows.{follows_seq_at, follows_image}
 

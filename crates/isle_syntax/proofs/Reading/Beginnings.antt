@@ -5,12 +5,12 @@ use Rattle.isle_syntax.specs.declared.ast.Ident.{Ident}
 use Rattle.isle_syntax.specs.Tokens.PlacedTokens.{Placed}
 use Rattle.isle_syntax.specs.Grammar.Phrases.{first_pos}
 use Rattle.isle_syntax.specs.Tokens.RemainingTokens.{RemainingTokens, remaining_pos, next_pos as pos_of_first}
-use Rattle.isle_syntax.specs.Reading.Parsing.{bounds, stop_of, TakesWord}
-use Rattle.isle_syntax.specs.Reading.Readers.{Read, done, fault, deep, Reader, read_map, rest_of, says, optional, optional_on}
+use Rattle.isle_syntax.specs.Inside.Reading.Parsing.{bounds, stop_of, TakesWord}
+use Rattle.isle_syntax.specs.Inside.Reading.Readers.{Read, done, fault, deep, Reader, read_map, rest_of, says, optional, optional_on}
 use Rattle.isle_syntax.specs.Trees.ItemTree.{ItemTree}
-use Rattle.isle_syntax.specs.Reading.TreeReading.{item}
+use Rattle.isle_syntax.specs.Inside.Reading.TreeReading.{item}
 use Rattle.isle_syntax.proofs.Reading.Shorter.{many_at_end}
-use Rattle.isle_syntax.specs.Reading.DefReading.{decl, decl_of, Signature, signature, signature_parts}
+use Rattle.isle_syntax.specs.Inside.Reading.DefReading.{decl, decl_of, Signature, signature, signature_parts}
 use Rattle.isle_syntax.proofs.Reading.ReadSteps.{fuse, map_seq_done}
 use Rattle.isle_syntax.proofs.Reading.Loops.{stop_map}
 

@@ -3,7 +3,7 @@ use Rattle.std.proofs.Common.{◌≡◌, ℕ, List, [], ◌∷◌, ◌++◌, ref
 use Rattle.isle_syntax.specs.declared.lexer.Pos.{Pos}
 use Rattle.isle_syntax.specs.Tokens.PlacedTokens.{Placed, opening}
 use Rattle.isle_syntax.specs.Grammar.Phrases.{From, first_pos}
-use Rattle.isle_syntax.specs.Reading.Readers.{Read, done, fault, deep, Reader, read_map, from}
+use Rattle.isle_syntax.specs.Inside.Reading.Readers.{Read, done, fault, deep, Reader, read_map, from}
 use Rattle.isle_syntax.proofs.Reading.Follows.{SameNext, same_next_append, Begins, FollowsAt, Follows, follows_refusal}
 
 -- a test of the next token alone

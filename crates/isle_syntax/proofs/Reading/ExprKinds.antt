@@ -7,13 +7,13 @@ use Rattle.isle_syntax.specs.declared.lexer.Pos.{Pos}
 use Rattle.isle_syntax.specs.declared.ast.Ident.{Ident}
 use Rattle.isle_syntax.specs.Tokens.PlacedTokens.{Placed, opening, closing, at_sign, symbol, int}
 use Rattle.isle_syntax.specs.Tokens.Names.{is_ident, is_word}
-use Rattle.isle_syntax.specs.Reading.KindOf.{kind_at, symbol_kind}
+use Rattle.isle_syntax.specs.Inside.Reading.KindOf.{kind_at, symbol_kind}
 use Rattle.isle_syntax.specs.Grammar.Phrases.{next_symbol_is}
-use Rattle.isle_syntax.specs.Reading.Readers.{done, Reader, read_map, seq, rest_of, opened, shut, closed, symbol_of, says}
+use Rattle.isle_syntax.specs.Inside.Reading.Readers.{done, Reader, read_map, seq, rest_of, opened, shut, closed, symbol_of, says}
 use Rattle.isle_syntax.specs.Trees.ExprTree.{ExprTree}
-use Rattle.isle_syntax.specs.Reading.TreeReading.{symbol_expr, LetBinding, call, bound_in, inner_expr, inner_on, expr_list, let_list, let_binding}
-use Rattle.isle_syntax.specs.Reading.TreeReading.{expr, expr_inner}
-use Rattle.isle_syntax.specs.Reading.KindReading.{expr_on}
+use Rattle.isle_syntax.specs.Inside.Reading.TreeReading.{symbol_expr, LetBinding, call, bound_in, inner_expr, inner_on, expr_list, let_list, let_binding}
+use Rattle.isle_syntax.specs.Inside.Reading.TreeReading.{expr, expr_inner}
+use Rattle.isle_syntax.specs.Inside.Reading.KindReading.{expr_on}
 use Rattle.isle_syntax.proofs.Reading.SymbolKinds.{Known, symbol_known}
 use Rattle.isle_syntax.proofs.Reading.ReadSteps.{seq_done, map_seq_done}
 

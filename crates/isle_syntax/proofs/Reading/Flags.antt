@@ -4,7 +4,7 @@ use Rattle.std.proofs.lemmas.Bool.{false≢true}
 use Rattle.isle_syntax.specs.Tokens.Names.{is_word}
 use Rattle.isle_syntax.specs.Tokens.PlacedTokens.{Placed, opening, closing, at_sign, symbol, int}
 use Rattle.isle_syntax.specs.Grammar.Phrases.{Both, Says, next_symbol_is, Flag}
-use Rattle.isle_syntax.specs.Reading.Readers.{Reader, seq, says, optional, optional_on}
+use Rattle.isle_syntax.specs.Inside.Reading.Readers.{Reader, seq, says, optional, optional_on}
 use Rattle.isle_syntax.proofs.Reading.Follows.{Begins, FollowsAt, Follows, follows_seq}
 use Rattle.isle_syntax.proofs.Reading.Cases.{Looks, follows_case}
 use Rattle.isle_syntax.proofs.Reading.Basics.{word_is, follows_says, says_names}

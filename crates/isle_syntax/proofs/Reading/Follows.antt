@@ -4,8 +4,8 @@ use Rattle.std.proofs.Common.{◌≡◌, ℕ, zero, suc, ◌<◌, List, [], ◌�
 use Rattle.std.proofs.Common.{length-append, arith}
 use Rattle.std.specs.Prelude.{option_and_then}
 use Rattle.isle_syntax.specs.Tokens.PlacedTokens.{Placed, opening, closing, at_sign, symbol, int}
-use Rattle.isle_syntax.specs.Reading.Readers.{Read, done, fault, deep, Reader, after, read_map, seq, after_close, many, many_turn, at_end, rest_of}
-use Rattle.isle_syntax.specs.Reading.Readers.{all_of}
+use Rattle.isle_syntax.specs.Inside.Reading.Readers.{Read, done, fault, deep, Reader, after, read_map, seq, after_close, many, many_turn, at_end, rest_of}
+use Rattle.isle_syntax.specs.Inside.Reading.Readers.{all_of}
 use Rattle.isle_syntax.specs.declared.lexer.Pos.{Pos}
 use Rattle.isle_syntax.specs.Grammar.Phrases.{Both, Each, Closed, depth_left_after, depth_left}
 

@@ -6,7 +6,7 @@ use Rattle.isle_syntax.specs.declared.lexer.Pos.{Pos}
 use Rattle.isle_syntax.specs.Tokens.PlacedTokens.{Placed}
 use Rattle.isle_syntax.specs.Grammar.Phrases.{◌⊙◌, Word, Says}
 use Rattle.isle_syntax.specs.Grammar.DefGrammar.{is_kept_word}
-use Rattle.isle_syntax.specs.Reading.KindOf.{keyword_of, keyword_at}
+use Rattle.isle_syntax.specs.Inside.Reading.KindOf.{keyword_of, keyword_at}
 use Rattle.isle_syntax.proofs.Reading.Cases.{Looks}
 
 pub keyword_looks : Looks keyword_at

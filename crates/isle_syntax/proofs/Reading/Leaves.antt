@@ -5,17 +5,17 @@ use Rattle.isle_syntax.specs.declared.lexer.Pos.{Pos}
 use Rattle.isle_syntax.specs.declared.ast.Ident.{Ident}
 use Rattle.isle_syntax.specs.Tokens.PlacedTokens.{Placed, opening, closing, at_sign, symbol, int}
 use Rattle.isle_syntax.specs.Tokens.Names.{is_const}
-use Rattle.isle_syntax.specs.Reading.KindOf.{kind_at}
+use Rattle.isle_syntax.specs.Inside.Reading.KindOf.{kind_at}
 use Rattle.isle_syntax.specs.Grammar.Phrases.{next_symbol_is}
-use Rattle.isle_syntax.specs.Reading.Readers.{Reader, done, fault, read_map, seq, opened, opened_within, after_at, any_symbol, symbol_of}
+use Rattle.isle_syntax.specs.Inside.Reading.Readers.{Reader, done, fault, read_map, seq, opened, opened_within, after_at, any_symbol, symbol_of}
 use Rattle.isle_syntax.specs.declared.error.Error.{Error}
 use Rattle.isle_syntax.specs.declared.refusal.Refusal.{Refusal}
 use Rattle.isle_syntax.specs.Tokens.RemainingTokens.{RemainingTokens}
-use Rattle.isle_syntax.specs.Reading.Parsing.{bounds, RefusesAt, at_fault, stop_of}
-use Rattle.isle_syntax.specs.Reading.DefReading.{constant}
+use Rattle.isle_syntax.specs.Inside.Reading.Parsing.{bounds, RefusesAt, at_fault, stop_of}
+use Rattle.isle_syntax.specs.Inside.Reading.DefReading.{constant}
 use Rattle.isle_syntax.specs.Trees.PatternTree.{pattern_prim}
 use Rattle.isle_syntax.specs.Trees.ExprTree.{expr_prim}
-use Rattle.isle_syntax.specs.Reading.TreeReading.{ident, after_dollar, pattern_with, pattern, expr}
+use Rattle.isle_syntax.specs.Inside.Reading.TreeReading.{ident, after_dollar, pattern_with, pattern, expr}
 use Rattle.isle_syntax.proofs.Reading.PatternKinds.{pattern_at_kind}
 use Rattle.isle_syntax.proofs.Reading.ExprKinds.{expr_at_kind}
 use Rattle.isle_syntax.proofs.Reading.ReadSteps.{fuse}

@@ -8,8 +8,8 @@ use Rattle.isle_syntax.specs.declared.refusal.Refusal.TheVariants.{Fault, Memory
 use Rattle.std.specs.Prelude.{Result}
 use Rattle.isle_syntax.specs.Tokens.PlacedTokens.{Placed}
 use Rattle.isle_syntax.specs.Tokens.RemainingTokens.{RemainingTokens}
-use Rattle.isle_syntax.specs.Reading.Parsing.{Stop, nowhere, at_fault, stop_of, bounds, TellsStop, RefusesAt, NoToken, Gives, IsKnown, TakesOr}
-use Rattle.isle_syntax.specs.Reading.Readers.{Read, done, fault, deep, Reader, after, read_map, seq, many}
+use Rattle.isle_syntax.specs.Inside.Reading.Parsing.{Stop, nowhere, at_fault, stop_of, bounds, TellsStop, RefusesAt, NoToken, Gives, IsKnown, TakesOr}
+use Rattle.isle_syntax.specs.Inside.Reading.Readers.{Read, done, fault, deep, Reader, after, read_map, seq, many}
 
 -- ---- refusals
 

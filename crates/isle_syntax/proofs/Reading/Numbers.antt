@@ -4,7 +4,7 @@ use Rattle.isle_syntax.specs.declared.ast.Ident.{Ident}
 use Rattle.isle_syntax.specs.declared.ast.TupleField.{TupleField}
 use Rattle.isle_syntax.specs.declared.ast.Fields.TheVariants.{Unit as no_fields, Tuple as tuple_fields}
 use Rattle.isle_syntax.specs.Grammar.DefGrammar.{numbered}
-use Rattle.isle_syntax.specs.Reading.DefReading.{fields_numbered}
+use Rattle.isle_syntax.specs.Inside.Reading.DefReading.{fields_numbered}
 
 abbrev pub numbered_field : ℕ → Ident → TupleField
 numbered_field n x = record { index = n; ty = x; pos = x.1 }

@@ -3,7 +3,7 @@ use Rattle.std.proofs.Common.{◌≡◌, ℕ, List, [], ◌++◌, Bool, true, fa
 use Rattle.std.proofs.lemmas.Bool.{false≢true}
 use Rattle.isle_syntax.specs.Tokens.PlacedTokens.{Placed}
 use Rattle.isle_syntax.specs.Grammar.Phrases.{Both}
-use Rattle.isle_syntax.specs.Reading.Readers.{Reader, read_map, seq}
+use Rattle.isle_syntax.specs.Inside.Reading.Readers.{Reader, read_map, seq}
 use Rattle.isle_syntax.proofs.Reading.Follows.{Begins, FollowsAt, Follows, Any, follows_seq}
 use Rattle.isle_syntax.proofs.Reading.Cases.{Looks, follows_case}
 use Rattle.isle_syntax.proofs.Reading.Basics.{both_filled}

@@ -2,7 +2,7 @@
 use Rattle.std.proofs.Common.{ℕ, List, [], ◌∷◌, ◌++◌, sym, ap, subst, ◌∙◌, append_assoc}
 use Rattle.isle_syntax.specs.Tokens.PlacedTokens.{Placed, opening, closing, at_sign, symbol, int}
 use Rattle.isle_syntax.specs.Grammar.Phrases.{Both, Closes}
-use Rattle.isle_syntax.specs.Reading.Readers.{Reader, seq}
+use Rattle.isle_syntax.specs.Inside.Reading.Readers.{Reader, seq}
 use Rattle.isle_syntax.proofs.Reading.Follows.{SameNext, Begins, Follows, follows_seq_at}
 
 -- the next token is no `@`

@@ -1,7 +1,7 @@
 -- Reading step by step.
 use Rattle.std.proofs.Common.{◌≡◌, List, refl, ap, ◌∙◌}
 use Rattle.isle_syntax.specs.Tokens.PlacedTokens.{Placed}
-use Rattle.isle_syntax.specs.Reading.Readers.{Read, done, fault, deep, Reader, after, read_map, seq}
+use Rattle.isle_syntax.specs.Inside.Reading.Readers.{Read, done, fault, deep, Reader, after, read_map, seq}
 
 pub fuse : {A B C : Type 0} (f : B → C) (g : A → B) (x : Read A) → read_map f (read_map g x) ≡ read_map (λ a. f (g a)) x
 fuse f g (done a r) = refl

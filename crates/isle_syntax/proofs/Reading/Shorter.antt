@@ -3,9 +3,9 @@ use Rattle.std.proofs.Common.{◌≡◌, ℕ, zero, suc, ◌-◌, ◌<◌, ◌�
 use Rattle.isle_syntax.specs.declared.lexer.Pos.{Pos}
 use Rattle.isle_syntax.specs.declared.ast.Ident.{Ident}
 use Rattle.isle_syntax.specs.Tokens.PlacedTokens.{Placed, opening, closing, at_sign, symbol, int}
-use Rattle.isle_syntax.specs.Reading.Readers.{Read, done, fault, deep, Reader, after, read_map, seq, after_close, many, many_turn, rest_of, opened}
-use Rattle.isle_syntax.specs.Reading.Readers.{shut, opened_within, closed, symbol_of}
-use Rattle.isle_syntax.specs.Reading.DefReading.{identifier, field, fields, fields_on, variant, variant_on, is_symbol_next}
+use Rattle.isle_syntax.specs.Inside.Reading.Readers.{Read, done, fault, deep, Reader, after, read_map, seq, after_close, many, many_turn, rest_of, opened}
+use Rattle.isle_syntax.specs.Inside.Reading.Readers.{shut, opened_within, closed, symbol_of}
+use Rattle.isle_syntax.specs.Inside.Reading.DefReading.{identifier, field, fields, fields_on, variant, variant_on, is_symbol_next}
 
 -- what is left of a value that was read
 pub record Shortens {A : Type 0} (p : Reader A) : Type 0 where

@@ -6,8 +6,8 @@ use Rattle.std.proofs.lemmas.Bool.{false≢true}
 use Rattle.isle_syntax.specs.declared.kind.Kind.{Kind}
 use Rattle.isle_syntax.specs.declared.kind.Kind.TheVariants.{True, False, Const, Wildcard, Name, Other}
 use Rattle.isle_syntax.specs.Tokens.Names.{is_ident, begins_dollar, is_word, is_name, is_pname, is_const, is_const_name}
-use Rattle.isle_syntax.specs.Reading.KindOf.{symbol_kind}
-use Rattle.isle_syntax.specs.Reading.TreeReading.{after_dollar}
+use Rattle.isle_syntax.specs.Inside.Reading.KindOf.{symbol_kind}
+use Rattle.isle_syntax.specs.Inside.Reading.TreeReading.{after_dollar}
 use Rattle.isle_syntax.proofs.Reading.Basics.{word_same}
 
 pub and_first : (a b : Bool) → (a && b) ≡ true → a ≡ true

@@ -12,9 +12,9 @@ use Rattle.isle_syntax.specs.declared.refusal.Refusal.{Refusal}
 use Rattle.isle_syntax.specs.Tokens.PlacedTokens.{placed, placed_at}
 use Rattle.isle_syntax.specs.Tokens.RemainingTokens.{RemainingTokens}
 use Rattle.isle_syntax.specs.Tokens.LexerCalls.{GivesToken}
-use Rattle.isle_syntax.specs.Reading.Parsing.{bounds, Gives, RefusesAt, TakesOr, IsKnown, at_deep, stop_of}
-use Rattle.isle_syntax.specs.Reading.KindOf.{symbol_kind, kind_at}
-use Rattle.isle_syntax.specs.Reading.Readers.{done, deep, opened, opened_within, closed, after_close, after_at, at_pos, any_symbol}
+use Rattle.isle_syntax.specs.Inside.Reading.Parsing.{bounds, Gives, RefusesAt, TakesOr, IsKnown, at_deep, stop_of}
+use Rattle.isle_syntax.specs.Inside.Reading.KindOf.{symbol_kind, kind_at}
+use Rattle.isle_syntax.specs.Inside.Reading.Readers.{done, deep, opened, opened_within, closed, after_close, after_at, at_pos, any_symbol}
 use Rattle.isle_syntax.proofs.Reading.SymbolKinds.{const_text}
 use Rattle.isle_syntax.specs.Tokens.Names.{is_const}
 use Rattle.isle_syntax.specs.Grammar.Phrases.{next_symbol_is}

@@ -3,7 +3,7 @@ use Rattle.std.proofs.Common.{◌≡◌, List, [], ◌∷◌, ◌++◌, refl, ap
 use Rattle.isle_syntax.specs.declared.lexer.Pos.{Pos}
 use Rattle.isle_syntax.specs.declared.ast.Ident.{Ident}
 use Rattle.isle_syntax.specs.Trees.PatternTree.{PatternTree, pattern_bind}
-use Rattle.isle_syntax.specs.Trees.Chain.{bound}
+use Rattle.isle_syntax.specs.Inside.Trees.Chain.{bound}
 
 pub bound-append : (xs ys : List (Ident × Pos)) (t : PatternTree) → bound (xs ++ ys) t ≡ bound xs (bound ys t)
 bound-append [] ys t = refl

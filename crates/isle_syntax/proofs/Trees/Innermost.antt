@@ -11,8 +11,8 @@ use Rattle.isle_syntax.specs.Trees.PatternTree.{pattern_term, pattern_wildcard, 
 use Rattle.isle_syntax.specs.Trees.PatternShape.{pattern_of, patterns_of}
 use Rattle.isle_syntax.specs.Trees.TreeCalls.{has_macro_arg}
 use Rattle.isle_syntax.specs.Trees.Terms.{pattern_terms}
-use Rattle.isle_syntax.specs.Trees.Chain.{bound}
-use Rattle.isle_syntax.specs.Trees.Innermost.{innermost, names_bound}
+use Rattle.isle_syntax.specs.Inside.Trees.Chain.{bound}
+use Rattle.isle_syntax.specs.Inside.Trees.Innermost.{innermost, names_bound}
 use Rattle.isle_syntax.proofs.Trees.Chains.{bound-append}
 use Rattle.isle_syntax.proofs.Trees.PatternSizes.{most_pattern_size}
 use Rattle.isle_syntax.proofs.Trees.TreeShapes.{pattern_of-injective}

@@ -5,8 +5,8 @@ use Rattle.isle_syntax.specs.declared.lexer.Pos.{Pos}
 use Rattle.isle_syntax.specs.declared.ast.Ident.{Ident}
 use Rattle.isle_syntax.specs.Trees.PatternTree.{PatternTree, pattern_var, pattern_bind, pattern_bool, pattern_int, pattern_prim, pattern_term}
 use Rattle.isle_syntax.specs.Trees.PatternTree.{pattern_wildcard, pattern_and, pattern_macro_arg}
-use Rattle.isle_syntax.specs.Trees.Chain.{bound}
-use Rattle.isle_syntax.specs.Trees.Innermost.{innermost, names_bound}
+use Rattle.isle_syntax.specs.Inside.Trees.Chain.{bound}
+use Rattle.isle_syntax.specs.Inside.Trees.Innermost.{innermost, names_bound}
 use Rattle.isle_syntax.specs.Trees.Templates.{is_wildcard, template_tree, filled}
 
 unbound : (o : Option PatternTree) → o ≡ option_map (bound []) o

@@ -9,7 +9,7 @@ use Rattle.isle_syntax.specs.Trees.PatternTree.{pattern_wildcard, pattern_and, p
 use Rattle.isle_syntax.specs.Trees.PatternShape.{pattern_of}
 use Rattle.isle_syntax.specs.Trees.ExprTree.{ExprTree, expr_term, expr_var, expr_bool, expr_int, expr_prim, expr_let}
 use Rattle.isle_syntax.specs.Trees.ExprShape.{expr_of}
-use Rattle.isle_syntax.specs.Reading.DefReading.{pattern_from, expr_from}
+use Rattle.isle_syntax.specs.Inside.Reading.DefReading.{pattern_from, expr_from}
 
 pub pattern_of_from : (t : PatternTree) → pattern_of (pattern_from t) ≡ t
 pattern_of_from (pattern_var x p) = refl

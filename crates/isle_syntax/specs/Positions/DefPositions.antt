@@ -55,7 +55,7 @@ FieldsAt At (named_fields fields) = All (StructFieldAt At) fields.fields
 FieldsAt At (tuple_fields fields) = All (TupleFieldAt At) fields.fields
 
 -- those in a variant
-pub record VariantAt (At : Pos → Type 0) (variant : Variant) : Type 0 where
+pub record VariantTreeAt (At : Pos → Type 0) (variant : Variant) : Type 0 where
   pub name : IdentAt At variant.name
   pub fields : FieldsAt At variant.fields
   pub pos : At variant.pos
@@ -63,11 +63,11 @@ pub record VariantAt (At : Pos → Type 0) (variant : Variant) : Type 0 where
 -- those in what a type is made of
 abbrev pub TypeValueAt : (Pos → Type 0) → TypeValue → Type 0
 TypeValueAt At (Primitive name pos) = IdentAt At name × At pos
-TypeValueAt At (Enum variants pos) = All (VariantAt At) variants × At pos
+TypeValueAt At (Enum variants pos) = All (VariantTreeAt At) variants × At pos
 TypeValueAt At (Struct fields pos) = FieldsAt At fields × At pos
 
 -- those in the definition of a type
-pub record TypeAt (At : Pos → Type 0) (type : TypeTree) : Type 0 where
+pub record TypeTreeAt (At : Pos → Type 0) (type : TypeTree) : Type 0 where
   pub name : IdentAt At type.name
   pub ty : TypeValueAt At type.ty
   pub pos : At type.pos
@@ -189,7 +189,7 @@ pub record KeptAt (At : Pos → Type 0) (kept : KeptTree) : Type 0 where
 
 -- those in a definition
 abbrev pub DefAt : (Pos → Type 0) → Def → Type 0
-DefAt At (TypeDef type) = TypeAt At type
+DefAt At (TypeDef type) = TypeTreeAt At type
 DefAt At (Decl decl) = DeclAt At decl
 DefAt At (Rule rule) = RuleAt At rule
 DefAt At (Extractor extractor) = ExtractorAt At extractor

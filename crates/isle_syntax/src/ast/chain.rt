@@ -1,6 +1,7 @@
+//! Chains of bindings: the names that one binds, and the pattern inside it.
 ghost use Rattle.std.specs.Prelude.{◌≡◌, IfOk};
 ghost use Rattle.isle_syntax.specs.Trees.PatternShape.{pattern_of};
-ghost use Rattle.isle_syntax.specs.Trees.Innermost.{innermost, names_bound};
+ghost use Rattle.isle_syntax.specs.Inside.Trees.Innermost.{innermost, names_bound};
 
 use crate::ast::{Ident, Pattern};
 use crate::lexer::Pos;

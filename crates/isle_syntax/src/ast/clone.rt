@@ -1,8 +1,9 @@
+//! Copies of definitions, and of the types, patterns, expressions and kept items in them.
 ghost use Rattle.std.specs.Prelude.{◌≡◌, [], IfOk};
 ghost use Rattle.isle_syntax.specs.Trees.PatternShape.{pattern_of, patterns_of};
 ghost use Rattle.isle_syntax.specs.Trees.ExprShape.{expr_of, exprs_of, lets_of};
 ghost use Rattle.isle_syntax.specs.Trees.ItemShape.{item_of, items_of};
-ghost use Rattle.isle_syntax.specs.Trees.Innermost.{names_bound};
+ghost use Rattle.isle_syntax.specs.Inside.Trees.Innermost.{names_bound};
 
 use crate::ast::wrap::wrap;
 use crate::ast::{

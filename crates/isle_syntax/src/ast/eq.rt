@@ -1,9 +1,10 @@
+//! Equality of definitions, patterns, expressions, kept items and lists, positions included.
 ghost use Rattle.std.specs.Prelude.{◌≡◌, ◌↔◌, IsTrue, true, []};
 ghost use Rattle.isle_syntax.specs.Trees.PatternShape.{pattern_of, patterns_of};
 ghost use Rattle.isle_syntax.specs.Trees.ExprTree.{expr_height};
 ghost use Rattle.isle_syntax.specs.Trees.ExprShape.{expr_of, exprs_of, lets_of};
 ghost use Rattle.isle_syntax.specs.Trees.TreeCalls.{is_leaf};
-ghost use Rattle.isle_syntax.specs.Trees.Innermost.{names_bound};
+ghost use Rattle.isle_syntax.specs.Inside.Trees.Innermost.{names_bound};
 ghost use Rattle.isle_syntax.specs.Trees.Equality.{let_of};
 ghost use Rattle.isle_syntax.specs.Trees.ItemShape.{item_of, items_of};
 

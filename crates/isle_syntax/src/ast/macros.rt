@@ -1,7 +1,8 @@
+//! Templates of extractors: made of patterns, and filled with patterns for their arguments.
 ghost use Rattle.std.specs.Prelude.{◌≡◌, false, [], map, slice_get, IfOk};
 ghost use Rattle.std.specs.Option.{option_map};
 ghost use Rattle.isle_syntax.specs.Trees.PatternShape.{pattern_of, patterns_of};
-ghost use Rattle.isle_syntax.specs.Trees.Innermost.{names_bound};
+ghost use Rattle.isle_syntax.specs.Inside.Trees.Innermost.{names_bound};
 ghost use Rattle.isle_syntax.specs.Trees.TreeCalls.{has_macro_arg, has_macro_args};
 ghost use Rattle.isle_syntax.specs.Trees.Templates.{position_of_name, is_wildcard, argument_for, template_tree, template_trees, filled, all_filled};
 

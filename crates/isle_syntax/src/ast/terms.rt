@@ -1,3 +1,4 @@
+//! The terms that occur in patterns and expressions, handed to a function one by one, or counted.
 ghost use Rattle.std.specs.Prelude.{◌≡◌, length, min};
 ghost use Rattle.std.specs.List.{FoldsTo};
 ghost use Rattle.isle_syntax.specs.Trees.PatternShape.{pattern_of, patterns_of};

@@ -1,6 +1,7 @@
+//! A pattern with a chain of bindings put around it.
 ghost use Rattle.std.specs.Prelude.{◌≡◌, IfOk};
 ghost use Rattle.isle_syntax.specs.Trees.PatternShape.{pattern_of};
-ghost use Rattle.isle_syntax.specs.Trees.Chain.{bound};
+ghost use Rattle.isle_syntax.specs.Inside.Trees.Chain.{bound};
 
 use crate::ast::{BoxedPattern, Ident, Pattern};
 use crate::lexer::Pos;

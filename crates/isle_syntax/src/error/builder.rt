@@ -1,3 +1,4 @@
+//! A builder of a report, which gathers faults and the source files that they lie in.
 ghost use Rattle.std.specs.Prelude.{◌≡◌, ◌∷◌, ◌++◌, [], IfOk};
 
 use crate::error::{Error, Errors};

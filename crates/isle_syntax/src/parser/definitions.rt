@@ -1,7 +1,8 @@
+//! Definitions read from tokens, each by the word behind its opening parenthesis.
 ghost use Rattle.std.specs.Prelude.{◌≡◌, IfOk, IfErr};
 ghost use Rattle.isle_syntax.specs.declared.kind.Keyword.TheVariants as keyword;
-ghost use Rattle.isle_syntax.specs.Reading.Parsing.{Gives};
-ghost use Rattle.isle_syntax.specs.Reading.DefReading.{def, def_inner, def_on};
+ghost use Rattle.isle_syntax.specs.Inside.Reading.Parsing.{Gives};
+ghost use Rattle.isle_syntax.specs.Inside.Reading.DefReading.{def, def_inner, def_on};
 ghost use Rattle.isle_syntax.specs.Tokens.LexerCalls.{IsRemaining};
 ghost use Rattle.isle_syntax.specs.Errors.{IfFault};
 ghost use Rattle.isle_syntax.specs.Grammar.Verdict.{IsSpelt, IsFaultOf};

@@ -1,8 +1,9 @@
+//! Items of kept definitions, read from tokens.
 ghost use Rattle.std.specs.Prelude.{◌≡◌, map};
 ghost use Rattle.isle_syntax.specs.Trees.ItemShape.{item_of};
-ghost use Rattle.isle_syntax.specs.Reading.Parsing.{Gives};
-ghost use Rattle.isle_syntax.specs.Reading.Readers.{rest_of};
-ghost use Rattle.isle_syntax.specs.Reading.TreeReading.{item, item_list_reader};
+ghost use Rattle.isle_syntax.specs.Inside.Reading.Parsing.{Gives};
+ghost use Rattle.isle_syntax.specs.Inside.Reading.Readers.{rest_of};
+ghost use Rattle.isle_syntax.specs.Inside.Reading.TreeReading.{item, item_list_reader};
 
 use crate::Refusal;
 use crate::ast::{KeptItem, KeptItems};

@@ -1,5 +1,5 @@
 //! What parse errors say: what was expected, and what stands there.
-ghost use Rattle.isle_syntax.specs.Told.{TellsSame};
+ghost use Rattle.isle_syntax.specs.Inside.Told.{TellsSame};
 
 use crate::Refusal;
 use crate::ast::Ident;

@@ -1,13 +1,14 @@
+//! Patterns read from tokens, with the names that they are bound to.
 ghost use Rattle.std.specs.Prelude.{◌≡◌, map, IfOk, IfErr};
 ghost use Rattle.isle_syntax.specs.Grammar.Phrases.{next_symbol_is};
 ghost use Rattle.isle_syntax.specs.Grammar.TreeGrammar.{bits_of, is_large};
 ghost use Rattle.isle_syntax.specs.Trees.PatternTree.{pattern_var, pattern_bool, pattern_int, pattern_prim, pattern_wildcard};
-ghost use Rattle.isle_syntax.specs.Reading.KindReading.{unbound};
+ghost use Rattle.isle_syntax.specs.Inside.Reading.KindReading.{unbound};
 ghost use Rattle.isle_syntax.specs.Trees.PatternShape.{pattern_of};
-ghost use Rattle.isle_syntax.specs.Reading.Parsing.{Gives, NoToken, IsKnown};
-ghost use Rattle.isle_syntax.specs.Reading.Readers.{read_map, any_symbol, integer, symbol_of, rest_of};
-ghost use Rattle.isle_syntax.specs.Reading.TreeReading.{is_head, pattern, pattern_list};
-ghost use Rattle.isle_syntax.specs.Reading.DefReading.{constant};
+ghost use Rattle.isle_syntax.specs.Inside.Reading.Parsing.{Gives, NoToken, IsKnown};
+ghost use Rattle.isle_syntax.specs.Inside.Reading.Readers.{read_map, any_symbol, integer, symbol_of, rest_of};
+ghost use Rattle.isle_syntax.specs.Inside.Reading.TreeReading.{is_head, pattern, pattern_list};
+ghost use Rattle.isle_syntax.specs.Inside.Reading.DefReading.{constant};
 
 use crate::Refusal;
 use crate::ast::wrap::wrap;

@@ -1,12 +1,13 @@
+//! Rules read from tokens: their names, priorities, patterns, clauses and right sides.
 ghost use Rattle.std.specs.Prelude.{◌≡◌, IfOk, IfErr, Some, None, cond};
 ghost use Rattle.isle_syntax.specs.Trees.ExprShape.{expr_of};
 ghost use Rattle.isle_syntax.specs.Grammar.TreeGrammar.{bits_of};
-ghost use Rattle.isle_syntax.specs.Reading.KindOf.{literal_of};
-ghost use Rattle.isle_syntax.specs.Reading.Parsing.{Gives, NoToken, IsKnown, TakesName, TakesPriority};
-ghost use Rattle.isle_syntax.specs.Reading.Readers.{read_map, seq, closed};
-ghost use Rattle.isle_syntax.specs.Reading.TreeReading.{expr, expr_inner, inner_expr};
+ghost use Rattle.isle_syntax.specs.Inside.Reading.KindOf.{literal_of};
+ghost use Rattle.isle_syntax.specs.Inside.Reading.Parsing.{Gives, NoToken, IsKnown, TakesName, TakesPriority};
+ghost use Rattle.isle_syntax.specs.Inside.Reading.Readers.{read_map, seq, closed};
+ghost use Rattle.isle_syntax.specs.Inside.Reading.TreeReading.{expr, expr_inner, inner_expr};
 ghost use Rattle.isle_syntax.specs.Trees.PatternTree.{pattern_wildcard};
-ghost use Rattle.isle_syntax.specs.Reading.DefReading.{clause, if_let_read, if_read, is_open_next, is_priority, is_priority_next, rule, rule_body};
+ghost use Rattle.isle_syntax.specs.Inside.Reading.DefReading.{clause, if_let_read, if_read, is_open_next, is_priority, is_priority_next, rule, rule_body};
 
 use crate::Refusal;
 use crate::ast::{Expr, Ident, IfLet, Pattern, Rule};
@@ -151,7 +152,9 @@ impl<'src> Parser<'src> {
         let name = self.take_name()?;
         let prio = self.take_priority()?;
         let pattern = self.parse_pattern_list(depth_left)?;
-        let (iflets, expr) = self.parse_body(depth_left)?;
+        let (mut iflets, expr) = self.parse_body(depth_left)?;
+        // a list has room for several clauses, and most rules have one or none
+        iflets.shrink_to_fit();
         Ok(Rule {
             pattern,
             iflets: Seq::new(iflets),

@@ -1,10 +1,11 @@
+//! Declarations, extractors, external definitions, converters and kept definitions, read from tokens.
 ghost use Rattle.std.specs.Prelude.{◌≡◌, IfOk, IfErr};
 ghost use Rattle.isle_syntax.specs.declared.kind.Keyword.TheVariants as keyword;
 ghost use Rattle.isle_syntax.specs.Grammar.Phrases.{next_symbol_is};
-ghost use Rattle.isle_syntax.specs.Reading.Parsing.{Gives, NoToken, IsKnown};
-ghost use Rattle.isle_syntax.specs.Reading.Readers.{read_map, symbol_of};
+ghost use Rattle.isle_syntax.specs.Inside.Reading.Parsing.{Gives, NoToken, IsKnown};
+ghost use Rattle.isle_syntax.specs.Inside.Reading.Readers.{read_map, symbol_of};
 ghost use Rattle.isle_syntax.specs.Grammar.DefGrammar.{is_kept_word};
-ghost use Rattle.isle_syntax.specs.Reading.DefReading.{signature, signature_parts, decl, extractor, extern_def, extern_on, converter, kept};
+ghost use Rattle.isle_syntax.specs.Inside.Reading.DefReading.{signature, signature_parts, decl, extractor, extern_def, extern_on, converter, kept};
 
 use crate::Refusal;
 use crate::ast::{Converter, Decl, Extern, Extractor, Ident, Kept, KeptItems};

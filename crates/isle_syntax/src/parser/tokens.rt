@@ -1,14 +1,15 @@
+//! Tokens that the parser looks at and takes one by one, and the fault where another one is wanted.
 ghost use Rattle.std.specs.Prelude.{◌≡◌, ◌<◌, [], true, IfOk, IfErr, length};
 ghost use Rattle.isle_syntax.specs.Tokens.Names.{is_word, is_ident, is_const};
 ghost use Rattle.isle_syntax.specs.Tokens.LexerCalls.{GivesToken, IsRemaining};
 ghost use Rattle.isle_syntax.specs.Grammar.Phrases.{next_symbol_is};
 ghost use Rattle.isle_syntax.specs.Tokens.RemainingTokens.{remaining_pos};
-ghost use Rattle.isle_syntax.specs.Reading.KindOf.{kind_at, keyword_at, literal_of};
-ghost use Rattle.isle_syntax.specs.Reading.Parsing.{Gives, RefusesAt, NoToken, ForMemory, IsKnown, TakesOr, TakesWord, at_fault, at_deep};
-ghost use Rattle.isle_syntax.specs.Reading.Readers.{opened_within, closed, seq, any_symbol, word, says, after_close, after_at, at_pos, integer};
-ghost use Rattle.isle_syntax.specs.Reading.Readers.{is_int_next};
-ghost use Rattle.isle_syntax.specs.Reading.TreeReading.{after_dollar};
-ghost use Rattle.isle_syntax.specs.Reading.DefReading.{identifier, constant, is_symbol_next};
+ghost use Rattle.isle_syntax.specs.Inside.Reading.KindOf.{kind_at, keyword_at, literal_of};
+ghost use Rattle.isle_syntax.specs.Inside.Reading.Parsing.{Gives, RefusesAt, NoToken, ForMemory, IsKnown, TakesOr, TakesWord, at_fault, at_deep};
+ghost use Rattle.isle_syntax.specs.Inside.Reading.Readers.{opened_within, closed, seq, any_symbol, word, says, after_close, after_at, at_pos, integer};
+ghost use Rattle.isle_syntax.specs.Inside.Reading.Readers.{is_int_next};
+ghost use Rattle.isle_syntax.specs.Inside.Reading.TreeReading.{after_dollar};
+ghost use Rattle.isle_syntax.specs.Inside.Reading.DefReading.{identifier, constant, is_symbol_next};
 
 use crate::Refusal;
 use crate::ast::Ident;
@@ -114,7 +115,7 @@ impl<'src> Parser<'src> {
         }
     }
 
-    /// Takes an opening parenthesis, where `room` more may nest, and answers where it stands.
+    /// Takes an opening parenthesis, where `depth_left` more may nest, and answers where it stands.
     pub(crate) fn open(&mut self, depth_left: usize) -> Result<Pos, Refusal<Error>>
         ensures opened { Gives (λ p. p) self.old self.new result (opened_within depth_left self.old.left) }
         ensures some_depth_left { IfOk result (λ p. 0 < depth_left) }

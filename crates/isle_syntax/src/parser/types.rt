@@ -1,8 +1,9 @@
+//! Types read from tokens: their marks, variants and fields.
 ghost use Rattle.std.specs.Prelude.{◌≡◌};
-ghost use Rattle.isle_syntax.specs.Reading.Parsing.{Gives};
-ghost use Rattle.isle_syntax.specs.Reading.Readers.{read_map, seq, rest_of};
-ghost use Rattle.isle_syntax.specs.Reading.DefReading.{identifier, field, fields, fields_named, fields_numbered, variant, value, value_at};
-ghost use Rattle.isle_syntax.specs.Reading.DefReading.{type_value, marks, marked_of, type_def};
+ghost use Rattle.isle_syntax.specs.Inside.Reading.Parsing.{Gives};
+ghost use Rattle.isle_syntax.specs.Inside.Reading.Readers.{read_map, seq, rest_of};
+ghost use Rattle.isle_syntax.specs.Inside.Reading.DefReading.{identifier, field, fields, fields_named, fields_numbered, variant, value, value_at};
+ghost use Rattle.isle_syntax.specs.Inside.Reading.DefReading.{type_value, marks, marked_of, type_def};
 
 use crate::Refusal;
 use crate::ast::{

@@ -1,5 +1,5 @@
 //! The definition that a parse error leaves open.
-ghost use Rattle.isle_syntax.specs.Told.{TellsSame};
+ghost use Rattle.isle_syntax.specs.Inside.Told.{TellsSame};
 
 use crate::Refusal;
 use crate::error::Error;

@@ -10,7 +10,7 @@ use Rattle.isle_syntax.specs.Positions.Files.{SourceFile}
 use Rattle.isle_types.specs.TypeTables.{TypeTables}
 use Rattle.isle_terms.specs.TypedRules.{TypedRule, no_typed, built_var}
 use Rattle.isle_terms.specs.Definitions.{root_name, times, is_among, name_of_rule, rule_named, rule_names}
-use Rattle.isle_terms.specs.Collecting.RuleNames.{lone_mark, with_names}
+use Rattle.isle_terms.specs.Inside.Collecting.RuleNames.{lone_mark, with_names}
 use Rattle.isle_terms.specs.Shown.RuleIdentifiers.{name_or_line}
 
 abbrev at : ℕ → Pos

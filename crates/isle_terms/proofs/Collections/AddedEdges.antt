@@ -6,8 +6,8 @@ use Rattle.std.specs.Prelude.{slice_get}
 use Rattle.std.proofs.lemmas.List.{length-set, take_more}
 use Rattle.std.proofs.lemmas.Option.{same_Some, slice_get-get_or}
 use Rattle.isle_terms.specs.Definitions.{IsAmong}
-use Rattle.isle_terms.specs.Collecting.Graphs.{HasEdge}
-use Rattle.isle_terms.specs.Collecting.ExtractorGraphs.{AddsEdges}
+use Rattle.isle_terms.specs.Inside.Collecting.Graphs.{HasEdge}
+use Rattle.isle_terms.specs.Inside.Collecting.ExtractorGraphs.{AddsEdges}
 use Rattle.isle_terms.proofs.Collections.Cycles.{set_cases, set_keeps, set_here, replicated}
 
 -- an item of a longer list

@@ -8,8 +8,8 @@ use Rattle.isle_syntax.specs.declared.error.Error.{Error}
 use Rattle.isle_types.specs.TypeFaults.{IsTypeFault}
 use Rattle.isle_types.proofs.TypeReadings.{reading_then}
 use Rattle.isle_terms.specs.Definitions.{IsAmong}
-use Rattle.isle_terms.specs.Collecting.Checks.{Checks}
-use Rattle.isle_terms.specs.Collecting.ExtractorChecks.{Adds}
+use Rattle.isle_terms.specs.Inside.Collecting.Checks.{Checks}
+use Rattle.isle_terms.specs.Inside.Collecting.ExtractorChecks.{Adds}
 
 -- a fault by one rule is one by a wider rule
 fault_by : (Narrow Wide : Pos → Type 0) → ((at : Pos) → Narrow at → Wide at) → (error : Error) → IsTypeFault Narrow error → IsTypeFault Wide error

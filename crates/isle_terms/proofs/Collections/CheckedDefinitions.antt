@@ -26,13 +26,13 @@ use Rattle.isle_terms.specs.TermFaults.{names_of, IsTaken, DeclarationBreaks, mu
 use Rattle.isle_terms.specs.TermFaults.{internal_of_no_declared_term, external_of_no_declared_term, second_extractor, internal_of_multi}
 use Rattle.isle_terms.specs.TermFaults.{body_of_unknown_term, recursive, ConstructorBreaks, root_is_no_term, root_is_not_declared}
 use Rattle.isle_terms.specs.TermFaults.{external_is_not_declared, external_has_rules, second_external, IsUndefined}
-use Rattle.isle_terms.specs.Collecting.Checks.{IsIllAt}
-use Rattle.isle_terms.specs.Collecting.Parts.{HasRootAmong}
-use Rattle.isle_terms.specs.Collecting.DefinitionChecks.{is_named, is_unknown_root, is_ill_root, is_ill_host, is_multi_at, is_ill_extractor}
-use Rattle.isle_terms.specs.Collecting.DefinitionChecks.{is_ill_name}
-use Rattle.isle_terms.specs.Collecting.DefinitionChecks.{is_unused, is_ill_marked}
-use Rattle.isle_terms.specs.Collecting.ExtractorChecks.{NamesUnknown, NamesKnown}
-use Rattle.isle_terms.specs.Collecting.ExtractorGraphs.{IsRecursiveAt, IsNotRecursive}
+use Rattle.isle_terms.specs.Inside.Collecting.Checks.{IsIllAt}
+use Rattle.isle_terms.specs.Inside.Collecting.Parts.{HasRootAmong}
+use Rattle.isle_terms.specs.Inside.Collecting.DefinitionChecks.{is_named, is_unknown_root, is_ill_root, is_ill_host, is_multi_at, is_ill_extractor}
+use Rattle.isle_terms.specs.Inside.Collecting.DefinitionChecks.{is_ill_name}
+use Rattle.isle_terms.specs.Inside.Collecting.DefinitionChecks.{is_unused, is_ill_marked}
+use Rattle.isle_terms.specs.Inside.Collecting.ExtractorChecks.{NamesUnknown, NamesKnown}
+use Rattle.isle_terms.specs.Inside.Collecting.ExtractorGraphs.{IsRecursiveAt, IsNotRecursive}
 use Rattle.isle_terms.proofs.Collections.ExtractorBodies.{among_of_map}
 use Rattle.isle_terms.proofs.Collections.NamedPlaces.{found_among, member_is_among, among_is_member, template_form, external_form}
 

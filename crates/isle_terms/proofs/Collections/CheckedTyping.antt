@@ -22,14 +22,14 @@ use Rattle.isle_terms.specs.Definitions.{KeepExtractorRules, KeepConstructorRule
 use Rattle.isle_terms.specs.TermFaults.{names_of, IsTaken, named_terms, named_extractors, ConverterBreaks, term_twice}
 use Rattle.isle_terms.specs.TypingFaults.{BreaksTyping, of_declarations, of_constructors, of_extractors, of_converters, of_no_use}
 use Rattle.isle_terms.specs.TypingFaults.{of_rule_names, named_rules}
-use Rattle.isle_terms.specs.Collecting.Checks.{Checks, IsIllAt}
-use Rattle.isle_terms.specs.Collecting.DefinitionChecks.{is_ill_root, is_ill_host, is_ill_extractor, is_ill_name, is_unused, is_ill_marked}
-use Rattle.isle_terms.specs.Collecting.ExtractorChecks.{Adds, NamesUnknown, NamesKnown}
-use Rattle.isle_terms.specs.Collecting.ExtractorGraphs.{IsRecursiveAt, IsNotRecursive}
+use Rattle.isle_terms.specs.Inside.Collecting.Checks.{Checks, IsIllAt}
+use Rattle.isle_terms.specs.Inside.Collecting.DefinitionChecks.{is_ill_root, is_ill_host, is_ill_extractor, is_ill_name, is_unused, is_ill_marked}
+use Rattle.isle_terms.specs.Inside.Collecting.ExtractorChecks.{Adds, NamesUnknown, NamesKnown}
+use Rattle.isle_terms.specs.Inside.Collecting.ExtractorGraphs.{IsRecursiveAt, IsNotRecursive}
 use Rattle.isle_terms.proofs.Collections.AddedErrors.{adds_one, adds_by, adds_both, adds_checks, checks_adds}
 use Rattle.isle_terms.proofs.Collections.CheckedDefinitions.{extractors_named, hosts_named, constructors_kept, extractors_kept}
 use Rattle.isle_terms.specs.Definitions.{declared_names}
-use Rattle.isle_terms.specs.Collecting.Parts.{HasRootAmong}
+use Rattle.isle_terms.specs.Inside.Collecting.Parts.{HasRootAmong}
 use Rattle.isle_terms.proofs.Collections.CheckedDefinitions.{ill_root_breaks}
 use Rattle.isle_terms.proofs.Collections.CheckedDefinitions.{roots_kept, ill_host_breaks, second_host_breaks}
 use Rattle.isle_terms.proofs.Collections.CheckedDefinitions.{ill_extractor_breaks, ill_name_breaks, second_extractor_breaks, unknown_name_breaks}

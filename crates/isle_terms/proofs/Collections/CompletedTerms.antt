@@ -16,8 +16,8 @@ use Rattle.isle_terms.specs.Signatures.{Signature, TermForm, variant_form, struc
 use Rattle.isle_terms.specs.Definitions.{declarations, IsDeclaration, terms_of_types, terms_of_shape, variant_terms, names_of_terms, AreTerms}
 use Rattle.isle_terms.specs.Readings.Needs.{needed_by, needed_of}
 use Rattle.isle_terms.specs.TermFaults.{names_of, named_terms}
-use Rattle.isle_terms.specs.Collecting.DeclaredTerms.{IsShownForm, IsShownTerm, AreDeclaredTerms, AddsTerms}
-use Rattle.isle_terms.specs.Collecting.NamedItems.{named_term}
+use Rattle.isle_terms.specs.Inside.Collecting.DeclaredTerms.{IsShownForm, IsShownTerm, AreDeclaredTerms, AddsTerms}
+use Rattle.isle_terms.specs.Inside.Collecting.NamedItems.{named_term}
 use Rattle.isle_terms.proofs.Collections.TypeTerms.{zipped_append, count_append}
 use Rattle.isle_terms.proofs.Collections.TermNames.{terms_are_named, names_of_named}
 

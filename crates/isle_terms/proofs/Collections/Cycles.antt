@@ -8,29 +8,29 @@ use Rattle.std.proofs.lemmas.List.{length-set, length-replicate}
 use Rattle.isle_terms.specs.declared.env.cycles.Mark.{Mark}
 use Rattle.isle_terms.specs.declared.env.cycles.Mark.TheVariants.{Unseen, Open, Finished}
 use Rattle.isle_terms.specs.declared.env.cycles.Step.{Step}
-use Rattle.isle_terms.specs.Collecting.Graphs.{HasEdge, Leads, at_once, further, AreWithin, IsAcyclic}
-use Rattle.isle_terms.specs.Collecting.Graphs.{IsFinished, IsOpen, IsReached, AreSettled, IsPassed, IsPath}
-use Rattle.isle_terms.specs.Collecting.Graphs.{IsOnPath, IsSearching, Goes, mark_work, marks_work, search_work}
+use Rattle.isle_terms.specs.Inside.Collecting.Graphs.{HasEdge, Leads, edge_at_once, path_further, AreWithin, IsAcyclic}
+use Rattle.isle_terms.specs.Inside.Collecting.Graphs.{IsFinished, IsOpen, IsReached, AreSettled, IsPassed, IsPath}
+use Rattle.isle_terms.specs.Inside.Collecting.Graphs.{IsOnPath, IsSearching, Goes, mark_work, marks_work, search_work}
 
 -- a path begins with an edge
 pub first_edge : (edges : List (List ℕ)) (from to : ℕ) → Leads edges from to
     → (next : ℕ) × HasEdge edges from next × ((next ≡ to) ⊎ Leads edges next to)
-first_edge edges from to (at_once _ _ edge) = (to, edge, inl refl)
-first_edge edges from to (further _ middle _ front back) =
+first_edge edges from to (edge_at_once _ _ edge) = (to, edge, inl refl)
+first_edge edges from to (path_further _ middle _ front back) =
     let first = first_edge edges from middle front in (
       first.0,
       first.1,
       elim first.2 [
         | inl is ↦ inr (subst (λ (n : ℕ). Leads edges n to) (sym is) back)
-        | inr rest ↦ inr (further first.0 middle to rest back)
+        | inr rest ↦ inr (path_further first.0 middle to rest back)
       ],
     )
 
 -- a path from a node that has a fact leads to one that has it, where edges do
 pub closed_along : (edges : List (List ℕ)) (P : ℕ → Type 0) → ((from to : ℕ) → P from → HasEdge edges from to → P to) → (from to : ℕ)
     → Leads edges from to → P from → P to
-closed_along edges P closed from to (at_once _ _ edge) holds = closed from to holds edge
-closed_along edges P closed from to (further _ middle _ front back) holds =
+closed_along edges P closed from to (edge_at_once _ _ edge) holds = closed from to holds edge
+closed_along edges P closed from to (path_further _ middle _ front back) holds =
     closed_along edges P closed middle to back (closed_along edges P closed from middle front holds)
 
 -- what stands at a place after a write
@@ -198,17 +198,17 @@ on_path_leads edges marks node last [] led (inr on) = absurd on
 on_path_leads edges marks node last (before ∷ others) led (inr on) =
     elim (on_path_leads edges marks node before others led.2 on) [
       | inl is ↦ inr (subst (λ (n : ℕ). Leads edges n last.node) is led.1)
-      | inr front ↦ inr (further node before.node last.node front led.1)
+      | inr front ↦ inr (path_further node before.node last.node front led.1)
     ]
 
 -- an open target of a path's last node is led to by itself
 pub cycle_found : (edges : List (List ℕ)) (marks : List Mark) (last : Step) (others : List Step) (to : ℕ) → IsSearching edges marks (last ∷ others)
     → HasEdge edges last.node to → IsOpen marks to → Leads edges to to
 cycle_found edges marks last others to searching edge open_now =
-    let back = at_once last.node to edge in
+    let back = edge_at_once last.node to edge in
     elim (on_path_leads edges marks to last others searching.led (searching.on_path to open_now)) [
       | inl is ↦ subst (λ (n : ℕ). Leads edges n to) is back
-      | inr front ↦ further to last.node to front back
+      | inr front ↦ path_further to last.node to front back
     ]
 
 -- a place where nothing is lies past the end
@@ -304,7 +304,7 @@ search_open edges marks last next others within searching edge unseen first =
       settled = settled_open edges marks next.node unseen searching.settled;
       led = (
         first_passed edges (set marks next.node Open) next (within last.node next.node edge) first,
-        at_once last.node next.node edge,
+        edge_at_once last.node next.node edge,
         path_on edges marks (set marks next.node Open) (last ∷ others) goes searching.led,
       );
       on_path = open_on marks (last ∷ others) next searching.on_path;

@@ -11,8 +11,8 @@ use Rattle.isle_types.proofs.TypeReadings.{reading_then}
 use Rattle.isle_terms.specs.Definitions.{declarations}
 use Rattle.isle_terms.specs.TermFaults.{DeclarationBreaks, unknown_type}
 use Rattle.isle_terms.specs.TypingFaults.{BreaksTyping, of_declarations, ExceedsTyping, by_arguments, AreTypingFaults}
-use Rattle.isle_terms.specs.Collecting.Checks.{Checks}
-use Rattle.isle_terms.specs.Collecting.DeclaredTerms.{of_argument, of_result, OneNamesUnknownType, IsOneLargeAt, IsAlone}
+use Rattle.isle_terms.specs.Inside.Collecting.Checks.{Checks}
+use Rattle.isle_terms.specs.Inside.Collecting.DeclaredTerms.{of_argument, of_result, OneNamesUnknownType, IsOneLargeAt, IsAlone}
 
 -- a declaration that names an unknown type breaks a rule of declarations
 unknown_breaks : (types : Environment) (defs : List Def) (at : Pos) → OneNamesUnknownType types (declarations defs) at → DeclarationBreaks types defs at

@@ -28,14 +28,14 @@ use Rattle.isle_terms.specs.declared.terms.ExtractorKind.{ExtractorKind}
 use Rattle.isle_terms.specs.declared.terms.ExtractorKind.TheVariants.{InternalExtractor, ExternalExtractor}
 use Rattle.isle_terms.specs.declared.terms.TermKind.{TermKind}
 use Rattle.isle_terms.specs.declared.terms.TermKind.TheVariants.{EnumVariant, Struct, Decl}
-use Rattle.isle_terms.specs.Signatures.{Constructor, by_rules, external_constructor, Extractor, by_template, external_extractor, TermForm}
+use Rattle.isle_terms.specs.Signatures.{Constructor, by_rules, external_constructor, ExtractorForm, by_template, external_extractor, TermForm}
 use Rattle.isle_terms.specs.Signatures.{variant_form, struct_form, declared_form, Signature}
 use Rattle.isle_terms.specs.Definitions.{IsAmong, IsDeclaration}
-use Rattle.isle_terms.specs.Collecting.Checks.{Checks}
-use Rattle.isle_terms.specs.Collecting.ExtractorChecks.{Adds}
-use Rattle.isle_terms.specs.Collecting.DeclaredTerms.{AreShownAs, IsShownConstructor, IsShownExtractor, IsShownForm, IsShownTerm, IsDeclarationFault}
-use Rattle.isle_terms.specs.Collecting.DeclaredTerms.{NamesUnknownType, OneNamesUnknownType, IsLargeAt, IsOneLargeAt, IsAlone}
-use Rattle.isle_terms.specs.Collecting.DeclaredTerms.{AddsDeclaredTerm, AreDeclaredTerms}
+use Rattle.isle_terms.specs.Inside.Collecting.Checks.{Checks}
+use Rattle.isle_terms.specs.Inside.Collecting.ExtractorChecks.{Adds}
+use Rattle.isle_terms.specs.Inside.Collecting.DeclaredTerms.{AreShownAs, IsShownConstructor, IsShownExtractor, IsShownForm, IsShownTerm, IsDeclarationFault}
+use Rattle.isle_terms.specs.Inside.Collecting.DeclaredTerms.{NamesUnknownType, OneNamesUnknownType, IsLargeAt, IsOneLargeAt, IsAlone}
+use Rattle.isle_terms.specs.Inside.Collecting.DeclaredTerms.{AddsDeclaredTerm, AreDeclaredTerms}
 use Rattle.isle_terms.proofs.Collections.AddedErrors.{adds_one, adds_by, adds_both, adds_checks}
 
 -- how a declared term makes its value is still shown where names have come
@@ -50,7 +50,7 @@ constructor_kept old new keeps (Some (external_constructor function)) (Some Inte
 constructor_kept old new keeps (Some (external_constructor function)) (Some (ExternalConstructor name)) shown = keeps name.0 function shown
 
 -- so is how it takes one apart
-pub extractor_kept : (old new : List (List ℕ)) → KeepsNames old new → (made : Option Extractor) (kind : Option ExtractorKind)
+pub extractor_kept : (old new : List (List ℕ)) → KeepsNames old new → (made : Option ExtractorForm) (kind : Option ExtractorKind)
     → AreShownAs (IsShownExtractor old) made kind → AreShownAs (IsShownExtractor new) made kind
 extractor_kept old new keeps None None shown = tt
 extractor_kept old new keeps None (Some kind) shown = absurd shown

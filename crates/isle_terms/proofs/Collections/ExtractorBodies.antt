@@ -15,9 +15,9 @@ use Rattle.isle_syntax.specs.Trees.PatternShape.{pattern_of}
 use Rattle.isle_syntax.specs.Trees.Terms.{pattern_terms, patterns_terms}
 use Rattle.isle_terms.specs.Definitions.{IsAmong, is_among, term_names, all_term_names}
 use Rattle.isle_terms.specs.TermFaults.{NamesTerm, SomeNamesTerm}
-use Rattle.isle_terms.specs.Collecting.Checks.{Checks}
-use Rattle.isle_terms.specs.Collecting.ExtractorChecks.{name_at, named_in, Adds, IsUnknownAt, BodyNamesUnknown, BodyNamesKnown, NamesUnknown}
-use Rattle.isle_terms.specs.Collecting.ExtractorChecks.{NamesKnown}
+use Rattle.isle_terms.specs.Inside.Collecting.Checks.{Checks}
+use Rattle.isle_terms.specs.Inside.Collecting.ExtractorChecks.{name_at, named_in, Adds, IsUnknownAt, BodyNamesUnknown, BodyNamesKnown, NamesUnknown}
+use Rattle.isle_terms.specs.Inside.Collecting.ExtractorChecks.{NamesKnown}
 use Rattle.isle_terms.proofs.Collections.AddedErrors.{SomeBreaks, adds_by, adds_checks}
 
 mutual

@@ -16,10 +16,10 @@ use Rattle.isle_syntax.specs.Trees.PatternTree.{PatternTree}
 use Rattle.isle_syntax.specs.Trees.PatternShape.{pattern_of}
 use Rattle.isle_types.specs.StableMaps.{value_at}
 use Rattle.isle_terms.specs.Definitions.{IsAmong, ComesTo, at_once, further}
-use Rattle.isle_terms.specs.Collecting.Graphs.{Leads, at_once as edge_at_once, further as path_further, AreWithin, IsAcyclic}
-use Rattle.isle_terms.specs.Collecting.ExtractorGraphs.{extracted, ArePlaces, AddsEdges, NamesPlace, JoinsTerm, JoinsNode, JoinsPlaces}
-use Rattle.isle_terms.specs.Collecting.ExtractorGraphs.{IsGraphOf, IsRecursiveAt, IsNotRecursive}
-use Rattle.isle_terms.specs.Collecting.ExtractorChecks.{named_in}
+use Rattle.isle_terms.specs.Inside.Collecting.Graphs.{Leads, edge_at_once, path_further, AreWithin, IsAcyclic}
+use Rattle.isle_terms.specs.Inside.Collecting.ExtractorGraphs.{extracted, ArePlaces, AddsEdges, NamesPlace, JoinsTerm, JoinsNode, JoinsPlaces}
+use Rattle.isle_terms.specs.Inside.Collecting.ExtractorGraphs.{IsGraphOf, IsRecursiveAt, IsNotRecursive}
+use Rattle.isle_terms.specs.Inside.Collecting.ExtractorChecks.{named_in}
 use Rattle.isle_terms.proofs.Collections.ExtractorBodies.{among_map, among_of_map, term_names_named}
 use Rattle.isle_terms.proofs.Collections.AddedEdges.{SomeJoins, edges_none, edges_one, edges_by, none_joined}
 

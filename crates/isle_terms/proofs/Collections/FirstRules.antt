@@ -8,9 +8,9 @@ use Rattle.isle_syntax.specs.declared.error.Error.{Error}
 use Rattle.isle_types.specs.Environment.{Environment}
 use Rattle.isle_terms.specs.Definitions.{declarations, rules_in, external_constructors, declared_names, roots_of}
 use Rattle.isle_terms.specs.TypingFaults.{BreaksTyping, of_declarations, of_constructors}
-use Rattle.isle_terms.specs.Collecting.Checks.{Checks, ChecksEach}
-use Rattle.isle_terms.specs.Collecting.DefinitionChecks.{is_ill_root, is_ill_host, is_ill_marked}
-use Rattle.isle_terms.specs.Collecting.Parts.{AreNamedOnce, KeepFirstRules}
+use Rattle.isle_terms.specs.Inside.Collecting.Checks.{Checks, ChecksEach}
+use Rattle.isle_terms.specs.Inside.Collecting.DefinitionChecks.{is_ill_root, is_ill_host, is_ill_marked}
+use Rattle.isle_terms.specs.Inside.Collecting.Parts.{AreNamedOnce, KeepFirstRules}
 use Rattle.isle_terms.proofs.Collections.Checking.{check_both}
 use Rattle.isle_terms.proofs.Collections.CheckedTyping.{checks_wider}
 use Rattle.isle_terms.proofs.Collections.CheckedDefinitions.{ill_root_breaks, roots_kept, ill_host_breaks, constructors_kept}

@@ -13,12 +13,12 @@ use Rattle.isle_terms.specs.Definitions.{ExternalExtractor, declarations, rules_
 use Rattle.isle_terms.specs.Definitions.{extractor_names, external_constructor_names, names_of_terms, AreTerms, KeepExtractorRules}
 use Rattle.isle_terms.specs.TermFaults.{IsTaken, named_extractors, ConverterBreaks}
 use Rattle.isle_terms.specs.TypingFaults.{BreaksTyping, of_extractors, of_converters, of_no_use}
-use Rattle.isle_terms.specs.Collecting.Checks.{Checks, ChecksEach}
-use Rattle.isle_terms.specs.Collecting.DefinitionChecks.{is_ill_extractor, is_ill_name, is_unused}
-use Rattle.isle_terms.specs.Collecting.ExtractorChecks.{NamesUnknown, NamesKnown}
-use Rattle.isle_terms.specs.Collecting.ExtractorGraphs.{IsRecursiveAt, IsNotRecursive}
-use Rattle.isle_terms.specs.Collecting.MadeTerms.{KeepLaterRules}
-use Rattle.isle_terms.specs.Collecting.ReadConverters.{AreReadConverters}
+use Rattle.isle_terms.specs.Inside.Collecting.Checks.{Checks, ChecksEach}
+use Rattle.isle_terms.specs.Inside.Collecting.DefinitionChecks.{is_ill_extractor, is_ill_name, is_unused}
+use Rattle.isle_terms.specs.Inside.Collecting.ExtractorChecks.{NamesUnknown, NamesKnown}
+use Rattle.isle_terms.specs.Inside.Collecting.ExtractorGraphs.{IsRecursiveAt, IsNotRecursive}
+use Rattle.isle_terms.specs.Inside.Collecting.MadeTerms.{KeepLaterRules}
+use Rattle.isle_terms.specs.Inside.Collecting.ReadConverters.{AreReadConverters}
 use Rattle.isle_terms.proofs.Collections.Checking.{check_both}
 use Rattle.isle_terms.proofs.Collections.CheckedTyping.{checks_wider}
 use Rattle.isle_terms.proofs.Collections.CheckedDefinitions.{ill_extractor_breaks, ill_name_breaks, second_extractor_breaks, unknown_name_breaks}

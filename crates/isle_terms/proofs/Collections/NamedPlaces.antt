@@ -12,7 +12,7 @@ use Rattle.isle_syntax.specs.Trees.PatternShape.{pattern_of}
 use Rattle.isle_syntax.specs.Trees.Templates.{template_tree}
 use Rattle.isle_types.specs.Names.{position_of, AreDistinct}
 use Rattle.isle_types.proofs.NamePlaces.{differ_back, place_found, place_some, place_known}
-use Rattle.isle_terms.specs.Signatures.{by_rules, external_constructor, Extractor as ExtractorForm, by_template, external_extractor}
+use Rattle.isle_terms.specs.Signatures.{by_rules, external_constructor, ExtractorForm, by_template, external_extractor}
 use Rattle.isle_terms.specs.Definitions.{IsAmong, ExternalExtractor, is_among, function_for, template_for, external_extractor_for, first_of}
 use Rattle.isle_terms.specs.Definitions.{constructor_for, extractor_for, extractors_in, external_extractors, external_constructors}
 use Rattle.isle_terms.specs.Definitions.{rules_in, roots_of, external_constructor_names, extractor_names}

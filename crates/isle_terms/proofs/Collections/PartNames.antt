@@ -15,8 +15,8 @@ use Rattle.isle_terms.specs.declared.env.definitions.HostExtractor.{HostExtracto
 use Rattle.isle_terms.specs.Signatures.{Signature}
 use Rattle.isle_terms.specs.Definitions.{ExternalExtractor, declarations, extractors_in, external_constructors, external_extractors, terms_of_types}
 use Rattle.isle_terms.specs.TermFaults.{names_of, IsTaken, named_terms, named_extractors}
-use Rattle.isle_terms.specs.Collecting.DefinitionLists.{host_constructor_shown, host_extractor_shown}
-use Rattle.isle_terms.specs.Collecting.NamedItems.{named_declaration, named_extractor, named_host_constructor, named_host_extractor}
+use Rattle.isle_terms.specs.Inside.Collecting.DefinitionLists.{host_constructor_shown, host_extractor_shown}
+use Rattle.isle_terms.specs.Inside.Collecting.NamedItems.{named_declaration, named_extractor, named_host_constructor, named_host_extractor}
 
 -- the names of declarations with their positions
 abbrev pub declaration_pairs : List Def → List (List ℕ × Pos)

@@ -28,9 +28,9 @@ use Rattle.isle_terms.specs.Definitions.{IsTypeNumber, IsConversion, pair_of, fi
 use Rattle.isle_terms.specs.Shown.TermTables.{same_types}
 use Rattle.isle_terms.specs.Shown.ShownTerms.{term_at}
 use Rattle.isle_terms.specs.TermFaults.{ConverterBreaks, unknown_inner_type, unknown_outer_type, unknown_converter, second_converter}
-use Rattle.isle_terms.specs.Collecting.Checks.{Checks}
-use Rattle.isle_terms.specs.Collecting.ReadConverters.{IsReadAs, IsIllConverter, unknown_inner, unknown_outer, unknown_term, second_of_types}
-use Rattle.isle_terms.specs.Collecting.ReadConverters.{IsTableOfConversions, AreReadConverters}
+use Rattle.isle_terms.specs.Inside.Collecting.Checks.{Checks}
+use Rattle.isle_terms.specs.Inside.Collecting.ReadConverters.{IsReadAs, IsIllConverter, unknown_inner, unknown_outer, unknown_term, second_of_types}
+use Rattle.isle_terms.specs.Inside.Collecting.ReadConverters.{IsTableOfConversions, AreReadConverters}
 use Rattle.isle_terms.proofs.Collections.Checking.{check_none, check_same, check_fault}
 
 -- a pair of types is that of a converter before a place

@@ -16,8 +16,8 @@ use Rattle.isle_types.proofs.Reading.{fault_weaker}
 use Rattle.isle_terms.specs.Signatures.{Signature}
 use Rattle.isle_terms.specs.TermFaults.{IsTaken, names_of}
 use Rattle.isle_terms.specs.TypingFaults.{BreaksTyping, of_rule_names, named_rules, AreTypingFaults}
-use Rattle.isle_terms.specs.Collecting.Checks.{Checks}
-use Rattle.isle_terms.specs.Collecting.MadeTerms.{KeepLaterRules}
+use Rattle.isle_terms.specs.Inside.Collecting.Checks.{Checks}
+use Rattle.isle_terms.specs.Inside.Collecting.MadeTerms.{KeepLaterRules}
 use Rattle.isle_terms.proofs.Collections.Checking.{check_both}
 use Rattle.isle_terms.proofs.Collections.CheckedTyping.{checks_wider}
 

@@ -21,8 +21,8 @@ use Rattle.isle_types.proofs.Zipped.{mapped_at, zipped_at}
 use Rattle.isle_terms.specs.Signatures.{by_rules, declared_form, Signature, Conversion, Declared}
 use Rattle.isle_terms.specs.Definitions.{IsAmong, IsDeclaration, AreTerms, declarations, declared_names, rules_in, root_name, roots_of}
 use Rattle.isle_terms.specs.Definitions.{flags_in, constructor_for, extractor_for, terms_of_types, names_of_terms}
-use Rattle.isle_terms.specs.Collecting.Parts.{HasRootAmong}
-use Rattle.isle_terms.specs.Collecting.RuleChecks.{HasSomeRoot}
+use Rattle.isle_terms.specs.Inside.Collecting.Parts.{HasRootAmong}
+use Rattle.isle_terms.specs.Inside.Collecting.RuleChecks.{HasSomeRoot}
 use Rattle.isle_terms.proofs.Collections.NamedPlaces.{place_of_member}
 use Rattle.isle_terms.proofs.Collections.DeclaredForms.{by_rules_form}
 

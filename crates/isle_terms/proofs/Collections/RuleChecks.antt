@@ -13,13 +13,13 @@ use Rattle.isle_terms.specs.TypedRules.{TypedRule}
 use Rattle.isle_terms.specs.Signatures.{Declared}
 use Rattle.isle_terms.specs.Elaboration.{State, ElaboratesRule}
 use Rattle.isle_terms.specs.RuleReaching.{IsIllRule, IsLargeRule}
-use Rattle.isle_terms.specs.Readings.Outcomes.{Outcome, stands_for, ill_at, exceeds}
-use Rattle.isle_terms.specs.Readings.Telling.{Tells}
+use Rattle.isle_terms.specs.Inside.Readings.Outcomes.{Outcome, stands_for, ill_at, exceeds}
+use Rattle.isle_terms.specs.Inside.Readings.Telling.{Tells}
 use Rattle.isle_terms.specs.Shown.TermTables.{TermTables}
 use Rattle.isle_terms.specs.Shown.ShownTerms.{known_of, ShowsDeclared}
-use Rattle.isle_terms.specs.Collecting.RuleRoots.{read_whole}
-use Rattle.isle_terms.specs.Collecting.RuleChecks.{HasSomeRoot, IsLargeAt}
-use Rattle.isle_terms.specs.Readings.Failures.{IsErrorAt, Fails}
+use Rattle.isle_terms.specs.Inside.Collecting.RuleRoots.{read_whole}
+use Rattle.isle_terms.specs.Inside.Collecting.RuleChecks.{HasSomeRoot, IsLargeAt}
+use Rattle.isle_terms.specs.Inside.Readings.Failures.{IsErrorAt, Fails}
 use Rattle.isle_terms.proofs.Exact.KnownSame.{known_same}
 use Rattle.isle_terms.proofs.Collections.RuleRoots.{whole_tells}
 

@@ -37,8 +37,9 @@ use Rattle.isle_terms.specs.TermFaults.{names_of}
 use Rattle.isle_terms.specs.TypingFaults.{named_rules}
 use Rattle.isle_terms.specs.Shown.TermTables.{same_sym}
 use Rattle.isle_terms.specs.Shown.RulesShown.{IsShownName, IsShownRule}
-use Rattle.isle_terms.specs.Collecting.NamedItems.{name_shown, named_shown}
-use Rattle.isle_terms.specs.Collecting.RuleNames.{lone_mark, MarksLone, with_names, rule_at, IsTableOfRules, IsNumbering, AreNamedRules}
+use Rattle.isle_terms.specs.Inside.Collecting.NamedItems.{name_shown, named_shown}
+use Rattle.isle_terms.specs.Inside.Collecting.RuleNames.{lone_mark, MarksLone, with_names, IsTableOfRules, IsNumbering, AreNamedRules}
+use Rattle.isle_terms.specs.Shown.TermTables.{rule_at}
 use Rattle.isle_terms.proofs.Collections.Listing.{kind_more, kind_same}
 use Rattle.isle_terms.proofs.Collections.TypeTerms.{zipped_length, count_at}
 use Rattle.isle_terms.proofs.Showing.ShownMore.{names_within, place_new, place_more}

@@ -15,16 +15,16 @@ use Rattle.isle_syntax.specs.Trees.PatternShape.{pattern_of, patterns_of}
 use Rattle.isle_terms.specs.Signatures.{Flags, Signature, Declared}
 use Rattle.isle_terms.specs.Elaboration.{State, pattern_count, ElaboratesRule}
 use Rattle.isle_terms.specs.RuleReaching.{HasRoot, IsIllRule, other_number_of_arguments, priority_of_multi, IsLargeRule}
-use Rattle.isle_terms.specs.Readings.Outcomes.{Outcome, stands_for, ill_at, exceeds, Known, and_then, only_if}
-use Rattle.isle_terms.specs.Readings.RuleOutcomes.{RuleParts, read_rule}
-use Rattle.isle_terms.specs.Readings.KnownBy.{known_by}
-use Rattle.isle_terms.specs.Readings.Telling.{Tells, rule_of_parts}
+use Rattle.isle_terms.specs.Inside.Readings.Outcomes.{Outcome, stands_for, ill_at, exceeds, Known, and_then, only_if}
+use Rattle.isle_terms.specs.Inside.Readings.RuleOutcomes.{RuleParts, read_rule}
+use Rattle.isle_terms.specs.Inside.Readings.KnownBy.{known_by}
+use Rattle.isle_terms.specs.Inside.Readings.Telling.{Tells, rule_of_parts}
 use Rattle.isle_types.specs.declared.ids.TypeId.{TypeId}
 use Rattle.isle_terms.specs.Shown.ShownTerms.{numbers_of}
-use Rattle.isle_terms.specs.Collecting.RuleRoots.{RootParts, declared_flags, root_with, root_of_term, root_of_number, root_in, may_have_priority}
-use Rattle.isle_terms.specs.Collecting.RuleRoots.{read_rooted}
-use Rattle.isle_terms.specs.Collecting.RuleRoots.{read_with, read_whole}
-use Rattle.isle_terms.specs.Readings.Failures.{IsErrorAt, Fails}
+use Rattle.isle_terms.specs.Inside.Collecting.RuleRoots.{RootParts, declared_flags, root_with, root_of_term, root_of_number, root_in, may_have_priority}
+use Rattle.isle_terms.specs.Inside.Collecting.RuleRoots.{read_rooted}
+use Rattle.isle_terms.specs.Inside.Collecting.RuleRoots.{read_with, read_whole}
+use Rattle.isle_terms.specs.Inside.Readings.Failures.{IsErrorAt, Fails}
 use Rattle.isle_terms.proofs.Exact.Parts.{Told, and_then_told, only_if_told}
 use Rattle.isle_terms.proofs.Exact.Rules.{rule_tells}
 

@@ -25,10 +25,10 @@ use Rattle.isle_terms.specs.Elaboration.{ElaboratesRule}
 use Rattle.isle_terms.specs.RuleReaching.{IsIllRule}
 use Rattle.isle_terms.proofs.Collections.AddedErrors.{adds_one, adds_checks}
 use Rattle.isle_terms.proofs.Collections.Checking.{check_both}
-use Rattle.isle_terms.specs.Collecting.Checks.{Checks}
+use Rattle.isle_terms.specs.Inside.Collecting.Checks.{Checks}
 use Rattle.isle_terms.specs.Shown.RulesShown.{IsShownRule}
 use Rattle.isle_terms.specs.TypingFaults.{IsLoneSize}
-use Rattle.isle_terms.specs.Collecting.RuleChecks.{IsLargeAt, IsIllAmong, IsLargeAmong, AreTyped}
+use Rattle.isle_terms.specs.Inside.Collecting.RuleChecks.{IsLargeAt, IsIllAmong, IsLargeAmong, AreTyped}
 use Rattle.isle_terms.proofs.Collections.Checking.{check_same}
 use Rattle.isle_terms.proofs.Showing.RulesShown.{rule_kept}
 

@@ -18,9 +18,10 @@ use Rattle.isle_terms.specs.Elaboration.{ElaboratesRule}
 use Rattle.isle_terms.specs.Definitions.{rules_in, name_of}
 use Rattle.isle_terms.specs.TypingFaults.{BreaksTyping, of_a_rule, ExceedsTyping, by_a_rule, IsLoneSize, AreTypingFaults}
 use Rattle.isle_terms.specs.Shown.TermTables.{TermTables}
-use Rattle.isle_terms.specs.Collecting.Environments.{ShowsDeclaredOf, ShowsTerms}
-use Rattle.isle_terms.specs.Collecting.RuleChecks.{IsIllAmong, IsLargeAmong}
-use Rattle.isle_terms.specs.Collecting.RuleNames.{with_names, AreNamedRules}
+use Rattle.isle_terms.specs.Inside.Collecting.Environments.{ShowsDeclaredOf}
+use Rattle.isle_terms.specs.TermEnvs.{ShowsTerms}
+use Rattle.isle_terms.specs.Inside.Collecting.RuleChecks.{IsIllAmong, IsLargeAmong}
+use Rattle.isle_terms.specs.Inside.Collecting.RuleNames.{with_names, AreNamedRules}
 use Rattle.isle_terms.proofs.Collections.RuleNames.{named_rules_names, rules_named}
 use Rattle.isle_terms.proofs.Collections.TypeTerms.{zipped_length}
 use Rattle.isle_terms.proofs.Showing.MoreNames.{shows_still}

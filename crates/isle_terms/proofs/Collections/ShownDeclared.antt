@@ -21,15 +21,15 @@ use Rattle.isle_terms.specs.declared.terms.ExtractorKind.{ExtractorKind}
 use Rattle.isle_terms.specs.declared.terms.ExtractorKind.TheVariants.{InternalExtractor, ExternalExtractor}
 use Rattle.isle_terms.specs.declared.terms.TermKind.{TermKind}
 use Rattle.isle_terms.specs.declared.terms.TermKind.TheVariants.{EnumVariant, Struct, Decl}
-use Rattle.isle_terms.specs.Signatures.{Constructor, by_rules, external_constructor, Extractor, by_template, external_extractor, TermForm}
+use Rattle.isle_terms.specs.Signatures.{Constructor, by_rules, external_constructor, ExtractorForm, by_template, external_extractor, TermForm}
 use Rattle.isle_terms.specs.Signatures.{variant_form, struct_form, declared_form, Signature, Conversion}
 use Rattle.isle_terms.specs.Definitions.{names_of_terms}
 use Rattle.isle_terms.specs.Shown.ShownTerms.{constructor_shown, extractor_shown, form_shown, term_shown, term_at, ShowsDeclared}
 use Rattle.isle_terms.specs.Shown.TermTables.{TermTables, same_sym}
-use Rattle.isle_terms.specs.Shown.TermLimits.{constructor_limit, extractor_limit, kind_limit, terms_limit, HasKnownSymbols}
-use Rattle.isle_terms.specs.Collecting.DeclaredTerms.{AreShownAs, IsShownConstructor, IsShownExtractor, IsShownForm, IsShownTerm, number_named}
-use Rattle.isle_terms.specs.Collecting.ReadConverters.{IsTableOfConversions}
-use Rattle.isle_terms.specs.Collecting.TermSymbols.{HasSymbolsOf}
+use Rattle.isle_terms.specs.Inside.Shown.TermLimits.{constructor_limit, extractor_limit, kind_limit, terms_limit, HasKnownSymbols}
+use Rattle.isle_terms.specs.Inside.Collecting.DeclaredTerms.{AreShownAs, IsShownConstructor, IsShownExtractor, IsShownForm, IsShownTerm, number_named}
+use Rattle.isle_terms.specs.Inside.Collecting.ReadConverters.{IsTableOfConversions}
+use Rattle.isle_terms.specs.Inside.Collecting.TermSymbols.{HasSymbolsOf}
 use Rattle.isle_terms.proofs.Collections.TypeTerms.{zipped_back}
 
 -- how a declared term makes its value is that which it shows
@@ -45,7 +45,7 @@ constructor_is names (Some (external_constructor function)) (Some (ExternalConst
     ap (λ o. Some (external_constructor (unwrap_or o []))) shown
 
 -- so is how it takes one apart
-extractor_is : (names : List (List ℕ)) (made : Option Extractor) (kind : Option ExtractorKind) → AreShownAs (IsShownExtractor names) made kind
+extractor_is : (names : List (List ℕ)) (made : Option ExtractorForm) (kind : Option ExtractorKind) → AreShownAs (IsShownExtractor names) made kind
     → option_map (extractor_shown names) kind ≡ made
 extractor_is names None None shown = refl
 extractor_is names None (Some kind) shown = absurd shown
@@ -113,7 +113,7 @@ constructor_known names (Some (external_constructor function)) (Some (ExternalCo
     let within : name.0 < length names = slice_get_within names name.0 function shown in omega arith
 
 -- so is that of a host's extractor
-extractor_known : (names : List (List ℕ)) (made : Option Extractor) (kind : Option ExtractorKind) → AreShownAs (IsShownExtractor names) made kind
+extractor_known : (names : List (List ℕ)) (made : Option ExtractorForm) (kind : Option ExtractorKind) → AreShownAs (IsShownExtractor names) made kind
     → extractor_limit kind ≤ length names
 extractor_known names None None shown = omega arith
 extractor_known names None (Some kind) shown = absurd shown

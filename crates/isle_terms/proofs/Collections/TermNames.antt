@@ -14,8 +14,8 @@ use Rattle.isle_terms.specs.declared.env.naming.Named.{Named}
 use Rattle.isle_terms.specs.Signatures.{Signature}
 use Rattle.isle_terms.specs.Definitions.{declarations, IsDeclaration, terms_of_types, names_of_terms}
 use Rattle.isle_terms.specs.TermFaults.{named_terms, names_of}
-use Rattle.isle_terms.specs.Collecting.DeclaredTerms.{IsShownTerm}
-use Rattle.isle_terms.specs.Collecting.NamedItems.{named_shown, named_term}
+use Rattle.isle_terms.specs.Inside.Collecting.DeclaredTerms.{IsShownTerm}
+use Rattle.isle_terms.specs.Inside.Collecting.NamedItems.{named_shown, named_term}
 use Rattle.isle_terms.proofs.Collections.TypeTerms.{zipped_back, zipped_length}
 
 -- a name and a position make a pair

@@ -22,8 +22,8 @@ use Rattle.isle_terms.specs.Signatures.{Signature}
 use Rattle.isle_terms.specs.Definitions.{IsAmong, names_of_terms}
 use Rattle.isle_terms.specs.Shown.ShownTerms.{term_at}
 use Rattle.isle_terms.specs.Shown.TermTables.{same_sym}
-use Rattle.isle_terms.specs.Collecting.DeclaredTerms.{IsShownTerm, number_named}
-use Rattle.isle_terms.specs.Collecting.TermSymbols.{HasSymbolsOf}
+use Rattle.isle_terms.specs.Inside.Collecting.DeclaredTerms.{IsShownTerm, number_named}
+use Rattle.isle_terms.specs.Inside.Collecting.TermSymbols.{HasSymbolsOf}
 use Rattle.isle_terms.proofs.Collections.TypeTerms.{zipped_back, zipped_length, count_at}
 
 -- no name has a number yet

@@ -21,8 +21,8 @@ use Rattle.isle_types.specs.TypeFaults.{IsTypeFault}
 use Rattle.isle_types.proofs.Zipped.{all_at}
 use Rattle.isle_terms.specs.Definitions.{IsAmong}
 use Rattle.isle_terms.specs.TypingFaults.{BreaksTyping, AreTypingFaults}
-use Rattle.isle_terms.specs.Collecting.Checks.{Checks}
-use Rattle.isle_terms.specs.Collecting.Repeats.{fault_key, same_key, MeetsKey, TellAlike, Tell, AreToldOf}
+use Rattle.isle_terms.specs.Inside.Collecting.Checks.{Checks}
+use Rattle.isle_terms.specs.Inside.Collecting.Repeats.{fault_key, same_key, MeetsKey, TellAlike, Tell, AreToldOf}
 use Rattle.isle_terms.proofs.EqualTrees.{both, through}
 use Rattle.isle_terms.proofs.Collections.AddedEdges.{among_before, among_last}
 

@@ -24,7 +24,7 @@ use Rattle.isle_terms.specs.declared.terms.Term.{Term}
 use Rattle.isle_terms.specs.Signatures.{Signature}
 use Rattle.isle_terms.specs.Definitions.{terms_of_types, terms_of_shape, variant_terms}
 use Rattle.isle_terms.specs.Shown.ShownTerms.{numbers_of}
-use Rattle.isle_terms.specs.Collecting.DeclaredTerms.{IsShownTerm, AddsTerms, variant_signature}
+use Rattle.isle_terms.specs.Inside.Collecting.DeclaredTerms.{IsShownTerm, AddsTerms, variant_signature}
 
 -- what an item at a place of the second list is related to
 pub zipped_back : {A B : Type 0} (R : A → B → Type 0) (xs : List A) (ys : List B) → AllZip R xs ys → (i : ℕ) (y : B) → slice_get ys i ≡ Some y

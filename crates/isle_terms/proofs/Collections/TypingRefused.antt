@@ -17,7 +17,7 @@ use Rattle.isle_terms.specs.TypedRules.{TypedRule}
 use Rattle.isle_terms.specs.TypedTrees.{TypedRuleAt}
 use Rattle.isle_terms.specs.Shown.TermTables.{TermTables}
 use Rattle.isle_terms.specs.Shown.RulesShown.{IsShownRule}
-use Rattle.isle_terms.specs.Collecting.Environments.{ShowsTerms}
+use Rattle.isle_terms.specs.TermEnvs.{ShowsTerms}
 use Rattle.isle_terms.specs.Definitions.{HaveTerms, rules_in, IsRuleOf, declared_by}
 use Rattle.isle_terms.specs.TypingFaults.{BreaksTyping, ExceedsTyping, AreTypingFaults}
 use Rattle.isle_terms.proofs.BrokenTyping.{broken_typing_makes_none, exceeding_typing_makes_none}

@@ -15,12 +15,12 @@ use Rattle.isle_terms.specs.Reaching.{ExprFact, SomeExpr, SomeValue, CalledPart,
 use Rattle.isle_terms.specs.IllTyped.{HasNoExprConverter, IsBeyondRepair, IsIllCall, no_constructor, not_allowed, other_number, other_result}
 use Rattle.isle_terms.specs.IllTyped.{HasUnknownType, IsIllExpr}
 use Rattle.isle_terms.specs.RuleReaching.{IllExprAt}
-use Rattle.isle_terms.specs.Readings.Outcomes.{Outcome, ExprRun, ExprUse, is_expected, each_expr, call, fitting, fitting_wanted, repair_expr}
-use Rattle.isle_terms.specs.Readings.Outcomes.{call_term}
-use Rattle.isle_terms.specs.Readings.Outcomes.{call_number, read_variable, read_integer, read_constant, bind_value, bind_values, expr_node, read_expr}
-use Rattle.isle_terms.specs.Readings.Outcomes.{read_expr_use}
-use Rattle.isle_terms.specs.Readings.KnownBy.{known_by, type_has_number}
-use Rattle.isle_terms.specs.Readings.Telling.{Tells}
+use Rattle.isle_terms.specs.Inside.Readings.Outcomes.{Outcome, ExprRun, ExprUse, is_expected, each_expr, call, fitting, fitting_wanted, repair_expr}
+use Rattle.isle_terms.specs.Inside.Readings.Outcomes.{call_term}
+use Rattle.isle_terms.specs.Inside.Readings.Outcomes.{call_number, read_variable, read_integer, read_constant, bind_value, bind_values, expr_node, read_expr}
+use Rattle.isle_terms.specs.Inside.Readings.Outcomes.{read_expr_use}
+use Rattle.isle_terms.specs.Inside.Readings.KnownBy.{known_by, type_has_number}
+use Rattle.isle_terms.specs.Inside.Readings.Telling.{Tells}
 use Rattle.isle_terms.proofs.Exact.Parts.{Told, in_words, and_then_told, only_if_told, either_told, within_told}
 use Rattle.isle_terms.proofs.Exact.Numbers.{number_there, number_found}
 use Rattle.isle_terms.proofs.Exact.Fitting.{term_there, IsFit, fitting_fits}

@@ -7,8 +7,8 @@ use Rattle.isle_types.proofs.NamePlaces.{place_found}
 use Rattle.isle_terms.specs.Signatures.{TermForm, Signature, Declared, term_named, signature_of, converter_in, Converts, has_extractor_form}
 use Rattle.isle_terms.specs.Signatures.{has_constructor_form}
 use Rattle.isle_terms.specs.IllTyped.{HasNoPatternConverter, HasNoExprConverter}
-use Rattle.isle_terms.specs.Readings.Outcomes.{takes_just, fitting_term, fitting_number, fitting}
-use Rattle.isle_terms.specs.Readings.KnownBy.{known_by}
+use Rattle.isle_terms.specs.Inside.Readings.Outcomes.{takes_just, fitting_term, fitting_number, fitting}
+use Rattle.isle_terms.specs.Inside.Readings.KnownBy.{known_by}
 
 -- a term that is found by its name is there
 pub term_there : (declared : Declared) (name : List ℕ) (number : ℕ) → term_named declared name ≡ Some number

@@ -10,10 +10,10 @@ use Rattle.isle_terms.specs.TypedRules.{TypedPattern, TypedExpr, TypedRule}
 use Rattle.isle_terms.specs.Signatures.{Flags, Signature, Declared}
 use Rattle.isle_terms.specs.Elaboration.{State, pattern_count, Elaborates, Builds, ElaboratesRule}
 use Rattle.isle_terms.specs.RuleReaching.{HasRoot, IsIllRule, IsLargeRule, other_number_of_arguments, priority_of_multi}
-use Rattle.isle_terms.specs.Readings.Outcomes.{Outcome, stands_for, ill_at, exceeds, read_pattern, read_expr}
-use Rattle.isle_terms.specs.Readings.RuleOutcomes.{RuleParts, read_rule}
-use Rattle.isle_terms.specs.Readings.KnownBy.{known_by}
-use Rattle.isle_terms.specs.Readings.Telling.{Tells, rule_of_parts}
+use Rattle.isle_terms.specs.Inside.Readings.Outcomes.{Outcome, stands_for, ill_at, exceeds, read_pattern, read_expr}
+use Rattle.isle_terms.specs.Inside.Readings.RuleOutcomes.{RuleParts, read_rule}
+use Rattle.isle_terms.specs.Inside.Readings.KnownBy.{known_by}
+use Rattle.isle_terms.specs.Inside.Readings.Telling.{Tells, rule_of_parts}
 use Rattle.isle_terms.proofs.Determined.{patterns_agree}
 use Rattle.isle_terms.proofs.DeterminedExprs.{exprs_agree}
 use Rattle.isle_terms.proofs.Growing.{patterns_grow, exprs_grow}

@@ -14,7 +14,7 @@ use Rattle.isle_types.specs.Environment.{Environment, NamedType, TypeShape, prim
 use Rattle.isle_types.specs.TypeTables.{TypeTables}
 use Rattle.isle_types.specs.TypeEnvs.{IsShownShape, IsShown, Shows, type_at}
 use Rattle.isle_terms.specs.Signatures.{Declared}
-use Rattle.isle_terms.specs.Readings.KnownBy.{is_primitive_shape, defined_has_number, builtin_has_number, type_has_number, known_by}
+use Rattle.isle_terms.specs.Inside.Readings.KnownBy.{is_primitive_shape, defined_has_number, builtin_has_number, type_has_number, known_by}
 use Rattle.isle_terms.specs.Shown.TermTables.{TermTables}
 use Rattle.isle_terms.specs.Shown.ShownTerms.{term_shown, term_at, known_has_number, known_of, ShowsDeclared}
 

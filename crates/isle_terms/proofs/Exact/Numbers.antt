@@ -9,7 +9,7 @@ use Rattle.isle_types.specs.declared.types.BuiltinType.TheVariants.{Bool as Bool
 use Rattle.isle_types.specs.IntTypes.{builtin_types, builtin_names, HasNumber, spelt_number}
 use Rattle.isle_types.specs.Environment.{Environment, NamedType, TypeShape, primitive, enum, struct}
 use Rattle.isle_terms.specs.Elaboration.{IsLiteralOf, of_integer, of_primitive}
-use Rattle.isle_terms.specs.Readings.KnownBy.{is_at_most, int_has_number, is_primitive_shape, defined_has_number, builtin_has_number, type_has_number}
+use Rattle.isle_terms.specs.Inside.Readings.KnownBy.{is_at_most, int_has_number, is_primitive_shape, defined_has_number, builtin_has_number, type_has_number}
 
 -- a test that is passed, as a type
 passed : (b : Bool) → b ≡ true → T b

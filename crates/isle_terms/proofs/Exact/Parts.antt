@@ -3,8 +3,8 @@ use Rattle.std.proofs.Common.{◌≡◌, ℕ, ◌+◌, ◌≤◌, Bool, true, fa
 use Rattle.std.proofs.lemmas.Bool.{leb-true, leb-false}
 use Rattle.isle_syntax.specs.declared.lexer.Pos.{Pos}
 use Rattle.isle_terms.specs.Elaboration.{State}
-use Rattle.isle_terms.specs.Readings.Outcomes.{Outcome, stands_for, ill_at, exceeds, and_then, only_if}
-use Rattle.isle_terms.specs.Readings.Telling.{Tells}
+use Rattle.isle_terms.specs.Inside.Readings.Outcomes.{Outcome, stands_for, ill_at, exceeds, and_then, only_if}
+use Rattle.isle_terms.specs.Inside.Readings.Telling.{Tells}
 
 -- an outcome tells the truth, as a record: its words can be inferred
 pub record Told {A : Type 0} (max : ℕ) (Stands : A → State → Type 0) (Ill : Pos → Type 0) (Large : Type 0) (outcome : Outcome A) : Type 0 where

@@ -19,10 +19,10 @@ use Rattle.isle_terms.specs.Reaching.{PatternFact, SomePattern, TakenApart, Extr
 use Rattle.isle_terms.specs.IllTyped.{HasNoPatternConverter, IsIllUse, no_extractor, other_count, argument_lacking, other_type}
 use Rattle.isle_terms.specs.IllTyped.{IsIllPattern}
 use Rattle.isle_terms.specs.RuleReaching.{IllPatternAt}
-use Rattle.isle_terms.specs.Readings.Outcomes.{Outcome, PatternRun, PatternUse, each_pattern, use_name, bind_name, use_constant, put_in, taken_apart}
-use Rattle.isle_terms.specs.Readings.Outcomes.{extract, repair_pattern, use_term, use_number, pattern_node, read_pattern, read_pattern_use, fitting}
-use Rattle.isle_terms.specs.Readings.KnownBy.{known_by, type_has_number}
-use Rattle.isle_terms.specs.Readings.Telling.{Tells}
+use Rattle.isle_terms.specs.Inside.Readings.Outcomes.{Outcome, PatternRun, PatternUse, each_pattern, use_name, bind_name, use_constant, put_in, taken_apart}
+use Rattle.isle_terms.specs.Inside.Readings.Outcomes.{extract, repair_pattern, use_term, use_number, pattern_node, read_pattern, read_pattern_use, fitting}
+use Rattle.isle_terms.specs.Inside.Readings.KnownBy.{known_by, type_has_number}
+use Rattle.isle_terms.specs.Inside.Readings.Telling.{Tells}
 use Rattle.isle_terms.proofs.Exact.Parts.{Told, in_words, and_then_told, only_if_told, either_told, within_told}
 use Rattle.isle_terms.proofs.Exact.Numbers.{number_there, number_found}
 use Rattle.isle_terms.proofs.Exact.Fitting.{term_there, IsFit, fitting_fits}

@@ -12,9 +12,9 @@ use Rattle.isle_terms.specs.Elaboration.{State, start, pattern_count, on_lhs, Co
 use Rattle.isle_terms.specs.Reaching.{IsTooLarge}
 use Rattle.isle_terms.specs.RuleReaching.{HasRoot, SomeCondition, in_argument, in_condition, in_right, IllPatternAt, IllExprAt, IsIllRule, ill_node}
 use Rattle.isle_terms.specs.RuleReaching.{IsLargeRule}
-use Rattle.isle_terms.specs.Readings.RuleOutcomes.{read_conditions, read_rule}
-use Rattle.isle_terms.specs.Readings.KnownBy.{known_by}
-use Rattle.isle_terms.specs.Readings.Telling.{Tells, rule_of_parts}
+use Rattle.isle_terms.specs.Inside.Readings.RuleOutcomes.{read_conditions, read_rule}
+use Rattle.isle_terms.specs.Inside.Readings.KnownBy.{known_by}
+use Rattle.isle_terms.specs.Inside.Readings.Telling.{Tells, rule_of_parts}
 use Rattle.isle_terms.proofs.Exact.Parts.{Told, and_then_told}
 use Rattle.isle_terms.proofs.Exact.Patterns.{patterns_told, each_pattern_told}
 use Rattle.isle_terms.proofs.Exact.Exprs.{exprs_told}

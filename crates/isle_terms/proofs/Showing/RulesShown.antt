@@ -17,8 +17,8 @@ use Rattle.isle_terms.specs.declared.translate.bindings.RuleVariable.{RuleVariab
 use Rattle.isle_terms.specs.declared.translate.rules.Parts.{Parts}
 use Rattle.isle_terms.specs.TypedRules.{Variable, TypedRule}
 use Rattle.isle_terms.specs.Elaboration.{State}
-use Rattle.isle_terms.specs.Readings.Telling.{rule_of_parts}
-use Rattle.isle_terms.specs.Readings.Scopes.{variable_shown}
+use Rattle.isle_terms.specs.Inside.Readings.Telling.{rule_of_parts}
+use Rattle.isle_terms.specs.Inside.Readings.Scopes.{variable_shown}
 use Rattle.isle_terms.specs.Shown.ShownRules.{typed_list, typed_shown, built_shown, iflet_shown, greatest, pattern_limit, expr_limit}
 use Rattle.isle_terms.specs.Shown.RulesShown.{IsShownVariable, IsShownName, IsShownRule, iflet_limit, parts_limit, parts_shown}
 use Rattle.isle_terms.proofs.Showing.ShownMore.{names_within, patterns_more, built_more, iflets_more}

@@ -33,7 +33,7 @@ use Rattle.isle_terms.specs.Shown.ShownRules.{built_shown}
 use Rattle.isle_terms.specs.Shown.ShownRules.{built_list, binding_list, expr_limit_step, expr_limit, greatest_of_values, iflet_shown}
 use Rattle.isle_terms.specs.Signatures.{external_constructor, external_extractor, Declared}
 use Rattle.isle_terms.specs.Shown.TermTables.{TermTables, term_with}
-use Rattle.isle_terms.specs.Shown.TermLimits.{constructor_limit, extractor_limit, kind_limit, term_limit, terms_limit, HasKnownSymbols}
+use Rattle.isle_terms.specs.Inside.Shown.TermLimits.{constructor_limit, extractor_limit, kind_limit, term_limit, terms_limit, HasKnownSymbols}
 use Rattle.isle_terms.specs.Shown.ShownTerms.{constructor_shown, extractor_shown, form_shown, term_shown, ShowsDeclared}
 
 -- names that are kept are as many at least

@@ -4,7 +4,7 @@ use Rattle.std.proofs.Common.{refl, sym, subst, slice_get, bytes_eq}
 use Rattle.std.specs.Option.{option_map}
 use Rattle.std.specs.List.{All, AllZip, filter_map, cons_option}
 use Rattle.std.proofs.lemmas.Option.{none-some, same_Some}
-use Rattle.isle_syntax.specs.Positions.DefPositions.{TypeAt, VariantAt, TypeValueAt, DeclAt, RuleAt, ExtractorAt, ConverterAt, DefAt, IdentAt}
+use Rattle.isle_syntax.specs.Positions.DefPositions.{TypeTreeAt, VariantTreeAt, TypeValueAt, DeclAt, RuleAt, ExtractorAt, ConverterAt, DefAt, IdentAt}
 use Rattle.isle_syntax.specs.Positions.DefPositions.{PatternTreeAt, PatternTreesAt}
 use Rattle.isle_syntax.specs.declared.lexer.Pos.{Pos}
 use Rattle.isle_syntax.specs.declared.ast.Ident.{Ident}
@@ -27,7 +27,7 @@ use Rattle.isle_types.specs.IntTypes.{builtin_names}
 use Rattle.isle_types.specs.Environment.{Environment, NamedVariant, TypeShape, primitive, enum, struct, NamedType, IsVariant, IsShape, IsType, Makes}
 use Rattle.isle_types.specs.Environment.{as_type, type_definitions, type_names}
 use Rattle.isle_types.proofs.Zipped.{mapped_at, all_at}
-use Rattle.isle_terms.specs.Signatures.{Extractor as ExtractorForm, by_template, external_extractor, TermForm}
+use Rattle.isle_terms.specs.Signatures.{ExtractorForm, by_template, external_extractor, TermForm}
 use Rattle.isle_terms.specs.Signatures.{declared_form, Signature, Declared, template_of}
 use Rattle.isle_terms.specs.Definitions.{ExternalExtractor, as_declaration, as_rule, as_extractor, as_external, as_converter}
 use Rattle.isle_terms.specs.Definitions.{as_external_constructor, as_external_extractor, declarations, rules_in, extractors_in, converters_in}
@@ -102,28 +102,28 @@ module _ (At : Pos → Type 0) where
   shape_made_at known tree (primitive _) is stands = tt
   shape_made_at known tree (struct _) is stands = tt
   shape_made_at known (enum_tree trees _) (enum variants) is stands =
-      each_related (IsVariant known) (VariantAt At) (λ (variant : NamedVariant). At variant.pos)
-      (λ tree variant made here. subst At (sym made.pos) here.pos) trees variants is.0 (all_at (VariantAt At) trees stands.0)
+      each_related (IsVariant known) (VariantTreeAt At) (λ (variant : NamedVariant). At variant.pos)
+      (λ tree variant made here. subst At (sym made.pos) here.pos) trees variants is.0 (all_at (VariantTreeAt At) trees stands.0)
   shape_made_at known (primitive_tree _ _) (enum variants) is stands = absurd is
   shape_made_at known (struct_tree _ _) (enum variants) is stands = absurd is
 
   -- the type of a definition stands where it does
-  type_made_at : (known : List (List ℕ)) (tree : TypeTree) (type : NamedType) → IsType known tree type → TypeAt At tree → NamedTypeAt type
+  type_made_at : (known : List (List ℕ)) (tree : TypeTree) (type : NamedType) → IsType known tree type → TypeTreeAt At tree → NamedTypeAt type
   type_made_at known tree type is stands = record {
     shape = shape_made_at known tree.ty type.shape is.shape stands.ty;
     pos = subst At (sym is.pos) stands.pos;
   }
 
   -- what a definition of a type has
-  type_here : (def : Def) (tree : TypeTree) → as_type def ≡ Some tree → DefAt At def → TypeAt At tree
-  type_here (TypeDef type) tree is stands = subst (TypeAt At) (same_Some type tree is) stands
+  type_here : (def : Def) (tree : TypeTree) → as_type def ≡ Some tree → DefAt At def → TypeTreeAt At tree
+  type_here (TypeDef type) tree is stands = subst (TypeTreeAt At) (same_Some type tree is) stands
   type_here _ tree is stands = absurd (none-some tree is)
 
   -- the types that definitions make stand where the definitions do
   pub made_types_at : (defs : List Def) (types : Environment) → All (DefAt At) defs → Makes defs types → TypesAt types
   made_types_at defs types all makes =
-      each_related (IsType (type_names defs)) (TypeAt At) NamedTypeAt (type_made_at (type_names defs)) (type_definitions defs) types.types makes.types
-      (each_made as_type (DefAt At) (TypeAt At) type_here defs (all_at (DefAt At) defs all))
+      each_related (IsType (type_names defs)) (TypeTreeAt At) NamedTypeAt (type_made_at (type_names defs)) (type_definitions defs) types.types makes.types
+      (each_made as_type (DefAt At) (TypeTreeAt At) type_here defs (all_at (DefAt At) defs all))
 
   -- what a declaration has
   decl_here : (def : Def) (tree : DeclTree) → as_declaration def ≡ Some tree → DefAt At def → DeclAt At tree

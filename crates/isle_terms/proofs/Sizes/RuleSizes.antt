@@ -19,7 +19,7 @@ use Rattle.isle_terms.specs.Signatures.{Constructor, by_rules, external_construc
 use Rattle.isle_terms.specs.Signatures.{declared_form, Signature, Declared}
 use Rattle.isle_terms.specs.Elaboration.{start, Elaborates, ElaboratesRule}
 use Rattle.isle_terms.specs.Definitions.{rules_in, name_of, IsRuleOf, TermEnvironment, declared_by, MakesTerms}
-use Rattle.isle_terms.specs.Collecting.Environments.{ShowsTerms}
+use Rattle.isle_terms.specs.TermEnvs.{ShowsTerms}
 use Rattle.isle_terms.specs.Shown.ShownRules.{typed_list, typed_shown}
 use Rattle.isle_terms.specs.Shown.ShownTerms.{form_shown, term_shown, ShowsDeclared}
 use Rattle.isle_terms.specs.Shown.TermTables.{TermTables}

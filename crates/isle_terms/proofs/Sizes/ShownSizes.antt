@@ -16,7 +16,7 @@ use Rattle.isle_terms.specs.declared.rules.Expr.TheOpen.{Term, Var, ConstBool, C
 use Rattle.isle_terms.specs.declared.rules.IfLet.{IfLet}
 use Rattle.isle_terms.specs.declared.rules.Rule.{Rule}
 use Rattle.isle_terms.specs.TypedRules.{TypedPattern, TypedExpr, TypedRule}
-use Rattle.isle_terms.specs.Collecting.Environments.{ShowsTerms}
+use Rattle.isle_terms.specs.TermEnvs.{ShowsTerms}
 use Rattle.isle_terms.specs.Shown.ShownRules.{typed_list, typed_step, typed_shown, built_list, binding_list, built_step, built_shown, iflet_shown}
 use Rattle.isle_terms.specs.Shown.ShownRules.{greatest, greatest_of_values}
 use Rattle.isle_terms.specs.Shown.RulesShown.{IsShownRule}

@@ -3,7 +3,7 @@ use Rattle.std.proofs.Common.{ℕ, pos, true, false, List, [], ◌∷◌, None, 
 use Rattle.isle_syntax.specs.declared.lexer.Pos.{Pos}
 use Rattle.isle_types.specs.declared.types.IntType.TheVariants.{U8}
 use Rattle.isle_terms.specs.TypedRules.{typed_bind, typed_var, typed_int, typed_term, typed_wildcard, no_typed, more_typed, built_var, built_int}
-use Rattle.isle_terms.specs.TypedRules.{built_term, no_built, more_built, built_let, no_bindings, more_bindings, TypedRule, Variable}
+use Rattle.isle_terms.specs.TypedRules.{built_term, no_built, more_built, built_let, no_typed_bindings, more_typed_bindings, TypedRule, Variable}
 use Rattle.isle_terms.specs.Signatures.{Flags, by_rules, variant_form, declared_form, Signature, Declared}
 use Rattle.isle_terms.specs.Elaboration.{of_integer}
 use Rattle.isle_terms.specs.SoundRules.WellTyped.{IsTypedPattern, IsTypedRule}
@@ -92,7 +92,7 @@ with_let = record {
   root = 0;
   args = more_typed (typed_term 13 2 (more_typed (typed_bind 1 0 (typed_wildcard 1)) no_typed)) no_typed;
   iflets = record { pattern = typed_int 1 (pos 2); value = built_var 1 0 } ∷ [];
-  right = built_let 1 (more_bindings 1 1 (built_int 1 (pos 2)) no_bindings) (built_var 1 1);
+  right = built_let 1 (more_typed_bindings 1 1 (built_int 1 (pos 2)) no_typed_bindings) (built_var 1 1);
   variables = x ∷ y ∷ [];
   priority = pos 0;
   pos = here;
@@ -143,7 +143,7 @@ unbound : (count : ℕ) → ExprUses (built_var 1 0) nothing_bound count → ⊥
 unbound count h = h.0
 
 -- nor outside the `let` that binds it
-outside : (count : ℕ) → ExprUses (built_term 13 1 (more_built (built_let 1 (more_bindings 0 1 (built_int 1 (pos 2)) no_bindings) (built_var 1 0))
+outside : (count : ℕ) → ExprUses (built_term 13 1 (more_built (built_let 1 (more_typed_bindings 0 1 (built_int 1 (pos 2)) no_typed_bindings) (built_var 1 0))
     (more_built (built_var 1 0) no_built))) nothing_bound count → ⊥
 outside count h = h.2.1.0
 

@@ -7,9 +7,9 @@ use Rattle.isle_syntax.specs.Trees.ExprShape.{expr_of}
 use Rattle.isle_terms.specs.TypedRules.{TypedPattern, TypedExpr, TypedIfLet, built_at}
 use Rattle.isle_terms.specs.Signatures.{Flags}
 use Rattle.isle_terms.specs.Elaboration.{State}
-use Rattle.isle_terms.specs.Readings.Outcomes.{Outcome, stands_for, ill_at, exceeds, Known, and_then, read_pattern, read_expr}
-use Rattle.isle_terms.specs.Readings.RuleOutcomes.{read_conditions}
-use Rattle.isle_terms.specs.Readings.ConditionReading.{read_condition}
+use Rattle.isle_terms.specs.Inside.Readings.Outcomes.{Outcome, stands_for, ill_at, exceeds, Known, and_then, read_pattern, read_expr}
+use Rattle.isle_terms.specs.Inside.Readings.RuleOutcomes.{read_conditions}
+use Rattle.isle_terms.specs.Inside.Readings.ConditionReading.{read_condition}
 
 -- what follows a pattern follows the condition
 pattern_then : (value : TypedExpr) (o : Outcome TypedPattern) (next : TypedIfLet → State → Outcome (List TypedIfLet))

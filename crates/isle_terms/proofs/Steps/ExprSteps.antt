@@ -12,15 +12,15 @@ use Rattle.isle_syntax.specs.Trees.ExprShape.{expr_of, exprs_of, lets_of}
 use Rattle.isle_types.specs.declared.ids.TypeId.{TypeId}
 use Rattle.isle_types.specs.declared.ids.VarId.{VarId}
 use Rattle.isle_terms.specs.declared.rules.Expr.{Expr}
-use Rattle.isle_terms.specs.TypedRules.{TypedExpr, TypedExprs, TypedBindings, no_built, more_built, no_bindings, more_bindings, built_term}
+use Rattle.isle_terms.specs.TypedRules.{TypedExpr, TypedExprs, TypedBindings, no_built, more_built, no_typed_bindings, more_typed_bindings, built_term}
 use Rattle.isle_terms.specs.Signatures.{Flags, Signature, has_constructor_form, flags_of}
 use Rattle.isle_terms.specs.Elaboration.{State, counted, expr_count, may_call}
-use Rattle.isle_terms.specs.Readings.Outcomes.{Outcome, stands_for, ill_at, exceeds, Known, and_then, only_if, ExprRun, each_expr, call}
-use Rattle.isle_terms.specs.Readings.Outcomes.{bind_value, bind_values, expr_node, read_expr, read_expr_use}
+use Rattle.isle_terms.specs.Inside.Readings.Outcomes.{Outcome, stands_for, ill_at, exceeds, Known, and_then, only_if, ExprRun, each_expr, call}
+use Rattle.isle_terms.specs.Inside.Readings.Outcomes.{bind_value, bind_values, expr_node, read_expr, read_expr_use}
 use Rattle.isle_terms.specs.Shown.ShownTerms.{numbers_of}
 use Rattle.isle_terms.specs.Shown.ShownRules.{built_shown, built_list, binding_list, greatest, greatest_of_values}
-use Rattle.isle_terms.specs.Readings.Failures.{Fails}
-use Rattle.isle_terms.specs.Readings.ExprReadings.{is_call}
+use Rattle.isle_terms.specs.Inside.Readings.Failures.{Fails}
+use Rattle.isle_terms.specs.Inside.Readings.ExprReadings.{is_call}
 
 module _ (known : Known) (caller : Flags) (max : ℕ) where
   -- a node that is counted
@@ -103,22 +103,22 @@ module _ (r : ExprRun) (at : Pos) where
 -- the variables of a `let` that were read, before others
 abbrev pub before_bindings : List (VarId × TypeId × TypedExpr) → TypedBindings → TypedBindings
 before_bindings [] others = others
-before_bindings (first ∷ done) others = more_bindings first.0.0 first.1.0 first.2 (before_bindings done others)
+before_bindings (first ∷ done) others = more_typed_bindings first.0.0 first.1.0 first.2 (before_bindings done others)
 
 abbrev pub after_bindings : List (VarId × TypeId × TypedExpr) → Outcome TypedBindings → Outcome TypedBindings
 after_bindings done o = and_then o (λ others s. stands_for (before_bindings done others) s)
 
 bindings_pushed : (done : List (VarId × TypeId × TypedExpr)) (last : VarId × TypeId × TypedExpr) (others : TypedBindings)
-    → before_bindings (done ++ last ∷ []) others ≡ before_bindings done (more_bindings last.0.0 last.1.0 last.2 others)
+    → before_bindings (done ++ last ∷ []) others ≡ before_bindings done (more_typed_bindings last.0.0 last.1.0 last.2 others)
 bindings_pushed [] last others = refl
-bindings_pushed (first ∷ done) last others = ap (more_bindings first.0.0 first.1.0 first.2) (bindings_pushed done last others)
+bindings_pushed (first ∷ done) last others = ap (more_typed_bindings first.0.0 first.1.0 first.2) (bindings_pushed done last others)
 
-bindings_none : (done : List (VarId × TypeId × TypedExpr)) → before_bindings done no_bindings ≡ binding_list done
+bindings_none : (done : List (VarId × TypeId × TypedExpr)) → before_bindings done no_typed_bindings ≡ binding_list done
 bindings_none [] = refl
-bindings_none (first ∷ done) = ap (more_bindings first.0.0 first.1.0 first.2) (bindings_none done)
+bindings_none (first ∷ done) = ap (more_typed_bindings first.0.0 first.1.0 first.2) (bindings_none done)
 
 pushed_bindings : (done : List (VarId × TypeId × TypedExpr)) (last : VarId × TypeId × TypedExpr) (o : Outcome TypedBindings)
-    → after_bindings done (and_then o (λ others s. stands_for (more_bindings last.0.0 last.1.0 last.2 others) s))
+    → after_bindings done (and_then o (λ others s. stands_for (more_typed_bindings last.0.0 last.1.0 last.2 others) s))
     ≡ after_bindings (done ++ last ∷ []) o
 pushed_bindings done last (stands_for others s) = ap (λ v. stands_for v s) (sym (bindings_pushed done last others))
 pushed_bindings done last (ill_at at) = refl
@@ -136,7 +136,7 @@ module _ (known : Known) (r : ExprRun) where
   pub next_bound : (whole : Outcome TypedBindings) (done : List (VarId × TypeId × TypedExpr)) (last : VarId × TypeId × TypedExpr)
       (defs : List LetDef) (i : ℕ) (def : LetDef) (s m : State) → i < length defs → def ≡ get_or defs i def
       → ((next : State → Outcome TypedBindings) → bind_value r def.ty.1 (known.type_named def.ty.0) def.var.0 (expr_of def.val) next s
-      ≡ and_then (next m) (λ others e. stands_for (more_bindings last.0.0 last.1.0 last.2 others) e))
+      ≡ and_then (next m) (λ others e. stands_for (more_typed_bindings last.0.0 last.1.0 last.2 others) e))
       → whole ≡ after_bindings done (bind_values known r (lets_of (drop i defs)) s)
       → whole ≡ after_bindings (done ++ last ∷ []) (bind_values known r (lets_of (drop (i + 1) defs)) m)
   next_bound whole done last defs i def s m within is read so_far =

@@ -17,7 +17,7 @@ use Rattle.isle_syntax.specs.Trees.PatternTree.{pattern_list}
 use Rattle.isle_terms.specs.declared.translate.frames.Given.{Given, out-Given, roll-Given, fold_out-Given, fold-roll-Given}
 use Rattle.isle_syntax.specs.declared.ast.Pattern.{Pattern}
 use Rattle.isle_syntax.specs.Trees.PatternShape.{pattern_of, patterns_of}
-use Rattle.isle_syntax.specs.Trees.Innermost.{innermost}
+use Rattle.isle_syntax.specs.Inside.Trees.Innermost.{innermost}
 use Rattle.isle_syntax.specs.declared.ast.Ident.{Ident}
 use Rattle.isle_syntax.specs.Trees.TreeCalls.{has_macro_arg, has_macro_args}
 use Rattle.isle_syntax.specs.Trees.Templates.{position_of_name, argument_for, is_wildcard, template_tree, template_trees, filled, all_filled}
@@ -25,7 +25,7 @@ use Rattle.isle_syntax.specs.Trees.Templates.{more_given}
 use Rattle.isle_syntax.proofs.Trees.Templates.{before, neither}
 use Rattle.isle_terms.specs.Shown.ShownRules.{greatest}
 use Rattle.isle_terms.specs.Readings.Needs.{needed, all_needed}
-use Rattle.isle_terms.specs.Readings.Frames.{put, put_all, given_step, tree_given, frames_of, template_at}
+use Rattle.isle_terms.specs.Inside.Readings.Frames.{put, put_all, given_step, tree_given, frames_of, template_at}
 
 -- a part stands for its template with what its own parts stand for
 pub tree_out : (part : Given) → tree_given part ≡ put (map tree_given (out-Given part).given.now) (template_at part)

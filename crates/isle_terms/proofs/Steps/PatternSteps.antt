@@ -20,15 +20,15 @@ use Rattle.isle_terms.specs.declared.rules.Pattern.{Pattern}
 use Rattle.isle_terms.specs.TypedRules.{TypedPattern, TypedPatterns, no_typed, more_typed, typed_int, typed_term}
 use Rattle.isle_terms.specs.Signatures.{Signature, has_extractor_form, template_of}
 use Rattle.isle_terms.specs.Elaboration.{State, counted, visible_in, pattern_count, listed, each_at}
-use Rattle.isle_terms.specs.Readings.Outcomes.{Outcome, stands_for, ill_at, exceeds, and_then, only_if, Known, PatternRun, PatternUse, each_pattern}
-use Rattle.isle_terms.specs.Readings.Outcomes.{bind_name}
-use Rattle.isle_terms.specs.Readings.Outcomes.{template_in, extract, fitting, repair_pattern, pattern_node, read_pattern, read_pattern_use}
+use Rattle.isle_terms.specs.Inside.Readings.Outcomes.{Outcome, stands_for, ill_at, exceeds, and_then, only_if, Known, PatternRun, PatternUse, each_pattern}
+use Rattle.isle_terms.specs.Inside.Readings.Outcomes.{bind_name}
+use Rattle.isle_terms.specs.Inside.Readings.Outcomes.{template_in, extract, fitting, repair_pattern, pattern_node, read_pattern, read_pattern_use}
 use Rattle.isle_terms.specs.Shown.ShownTerms.{numbers_of}
 use Rattle.isle_terms.specs.Shown.ShownRules.{typed_list, greatest}
-use Rattle.isle_terms.specs.Readings.Failures.{Fails}
+use Rattle.isle_terms.specs.Inside.Readings.Failures.{Fails}
 use Rattle.isle_terms.specs.Readings.Needs.{needed}
-use Rattle.isle_terms.specs.Readings.Frames.{put, put_all, tree_given, trees_given, template_at}
-use Rattle.isle_terms.specs.Readings.PatternReading.{IsRead, AreRead, all_of_type, needed_in}
+use Rattle.isle_terms.specs.Inside.Readings.Frames.{put, put_all, tree_given, trees_given, template_at}
+use Rattle.isle_terms.specs.Inside.Readings.PatternReading.{IsRead, AreRead, all_of_type, needed_in}
 use Rattle.isle_syntax.specs.declared.ast.Pattern.{Pattern as SyntaxPattern}
 use Rattle.isle_syntax.specs.Trees.PatternShape.{patterns_of}
 use Rattle.isle_terms.proofs.Steps.Frames.{tree_out, filled_put, filled_nothing}

@@ -2,7 +2,7 @@
 use Rattle.std.proofs.Common.{subst, ◌≡◌, ◌⊎◌, ℕ, ◌+◌, ◌<◌, ◌≤◌, inl, inr, Bool, true, List, [], ◌∷◌, length, Some, slice_get}
 use Rattle.isle_terms.specs.TypedRules.{TypedPattern, TypedPatterns, typed_bind, typed_var, typed_bool, typed_int, typed_prim, typed_term}
 use Rattle.isle_terms.specs.TypedRules.{typed_wildcard, typed_and, no_typed, more_typed, TypedExpr, TypedExprs, TypedBindings, built_term}
-use Rattle.isle_terms.specs.TypedRules.{built_var, built_bool, built_int, built_prim, built_let, no_built, more_built, no_bindings, more_bindings}
+use Rattle.isle_terms.specs.TypedRules.{built_var, built_bool, built_int, built_prim, built_let, no_built, more_built, no_typed_bindings, more_typed_bindings}
 use Rattle.isle_terms.specs.TypedRules.{TypedIfLet, TypedRule}
 use Rattle.isle_terms.specs.Signatures.{TermForm, Signature, has_extractor_form, has_constructor_form}
 
@@ -29,8 +29,8 @@ abbrev mutual
 
 -- the variables that are bound after those of a `let`
 abbrev pub after_bindings : TypedBindings → List ℕ → List ℕ
-after_bindings no_bindings vars = vars
-after_bindings (more_bindings var ty val others) vars = after_bindings others (var ∷ vars)
+after_bindings no_typed_bindings vars = vars
+after_bindings (more_typed_bindings var ty val others) vars = after_bindings others (var ∷ vars)
 
 -- how many patterns there are
 abbrev pub typed_count : TypedPatterns → ℕ
@@ -82,8 +82,8 @@ abbrev mutual
   ClosedExprs terms (more_built first others) vars = ClosedExpr terms first vars × ClosedExprs terms others vars
 
   pub ClosedBindings : List Signature → TypedBindings → List ℕ → Type 0
-  ClosedBindings terms no_bindings vars = Unit {0}
-  ClosedBindings terms (more_bindings var ty val others) vars = ClosedExpr terms val vars × ClosedBindings terms others (var ∷ vars)
+  ClosedBindings terms no_typed_bindings vars = Unit {0}
+  ClosedBindings terms (more_typed_bindings var ty val others) vars = ClosedExpr terms val vars × ClosedBindings terms others (var ∷ vars)
 
 -- the variables that are bound after conditions
 abbrev pub after_iflets : List TypedIfLet → List ℕ → List ℕ

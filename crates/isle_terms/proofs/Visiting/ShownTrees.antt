@@ -11,7 +11,7 @@ use Rattle.isle_terms.specs.declared.rules.Expr.TheOpen.{Term, Var, ConstBool, C
 use Rattle.isle_terms.specs.TypedRules.{TypedPattern, TypedPatterns, typed_bind, typed_var, typed_bool, typed_int, typed_prim, typed_term}
 use Rattle.isle_terms.specs.TypedRules.{typed_wildcard, typed_and, no_typed, more_typed, TypedExpr, TypedExprs, TypedBindings, built_term}
 use Rattle.isle_terms.specs.TypedRules.{built_var, built_bool, built_int, built_prim, built_let, no_built, more_built}
-use Rattle.isle_terms.specs.TypedRules.{no_bindings as no_typed_bindings, more_bindings as more_typed_bindings}
+use Rattle.isle_terms.specs.TypedRules.{no_typed_bindings, more_typed_bindings}
 use Rattle.isle_terms.specs.Shown.ShownRules.{typed_step, typed_shown, typed_list, built_step, built_shown, built_list, binding_list}
 use Rattle.isle_terms.specs.Visits.InternedTrees.{InternedPattern, InternedPatterns, bind_pattern, var_pattern, bool_pattern, int_pattern}
 use Rattle.isle_terms.specs.Visits.InternedTrees.{prim_pattern, term_pattern, wildcard_pattern, and_pattern, no_patterns, more_patterns}

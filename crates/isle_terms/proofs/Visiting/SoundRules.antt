@@ -22,13 +22,13 @@ use Rattle.isle_terms.specs.TypedRules.{TypedRule}
 use Rattle.isle_terms.specs.Signatures.{Signature, Declared}
 use Rattle.isle_terms.specs.Elaboration.{ElaboratesRule}
 use Rattle.isle_terms.specs.Definitions.{rules_in, name_of, IsRuleOf, declared_by}
-use Rattle.isle_terms.specs.Collecting.Environments.{ShowsTerms}
+use Rattle.isle_terms.specs.TermEnvs.{ShowsTerms}
 use Rattle.isle_terms.specs.Shown.ShownRules.{typed_shown, typed_list, built_shown, iflet_shown}
 use Rattle.isle_terms.specs.Shown.RulesShown.{IsShownVariable, IsShownRule}
 use Rattle.isle_terms.specs.Shown.ShownTerms.{term_shown, ShowsDeclared}
 use Rattle.isle_terms.specs.Shown.TermTables.{TermTables}
 use Rattle.isle_terms.specs.Visits.Runs.{Run, done, asks, in_turn, on_some, stuck}
-use Rattle.isle_terms.specs.Visits.VisitScopes.{Scope, no_values, bound}
+use Rattle.isle_terms.specs.Visits.VisitScopes.{VisitScope, no_values, bound}
 use Rattle.isle_terms.specs.Visits.InternedTrees.{pattern_of, expr_of}
 use Rattle.isle_terms.specs.Visits.VisitorCalls.{PatternCall, ExprCall}
 use Rattle.isle_terms.specs.Visits.Events.{visits}
@@ -44,13 +44,13 @@ use Rattle.isle_terms.proofs.Visiting.SoundRuns.{Sound, sound_done, sound_asks, 
 use Rattle.isle_terms.proofs.Visiting.SoundVisits.{Covers, term_shows, arguments_shown, sound_visits, sound_expr}
 
 -- variables below a number that have a value have one for expressions too
-abbrev Carries : {I J : Type 0} → Scope I → ℕ → Scope J → Type 0
+abbrev Carries : {I J : Type 0} → VisitScope I → ℕ → VisitScope J → Type 0
 Carries {I} {J} scope n values = (var : VarId) (input : I) → var.0 < n → scope var ≡ Some input → (value : J) × (values var ≡ Some value)
 
 module _ {S P E X I J : Type 0} (steps : RuleSteps S P E X I J) (pattern_step : PatternCall I → Run P (List I)) (expr_step : ExprCall J → Run E J)
     (finds : FindsAllDefined steps pattern_step expr_step) (names : List (List ℕ)) (terms : List Term) (count : ℕ) where
   -- one more variable that has a value, with its value for expressions
-  carries_bound : (scope : Scope I) (values : Scope J) (n : ℕ) (made : J) → Carries scope n values
+  carries_bound : (scope : VisitScope I) (values : VisitScope J) (n : ℕ) (made : J) → Carries scope n values
       → Carries scope (n + 1) (bound values (record { 0 = n }) made)
   carries_bound scope values n made k var input low is = by_test (n == var.0) refl
     where
@@ -60,7 +60,7 @@ module _ {S P E X I J : Type 0} (steps : RuleSteps S P E X I J) (pattern_step : 
           let other = eqb-false n var.0 t in let known = k var input (omega (arith, other)) is in (known.0, rw t known.1)
 
   -- one more variable that has none
-  carries_none : (scope : Scope I) (values : Scope J) (n : ℕ) → scope (record { 0 = n }) ≡ None → Carries scope n values
+  carries_none : (scope : VisitScope I) (values : VisitScope J) (n : ℕ) → scope (record { 0 = n }) ≡ None → Carries scope n values
       → Carries scope (n + 1) values
   carries_none scope values n none k var input low is = by_test (n == var.0) refl
     where
@@ -68,7 +68,7 @@ module _ {S P E X I J : Type 0} (steps : RuleSteps S P E X I J) (pattern_step : 
       by_test true t = absurd (none-some input (sym none ∙ ap (λ (z : ℕ). scope (record { 0 = z })) (eqb-true n var.0 t) ∙ is))
       by_test false t = let other = eqb-false n var.0 t in k var input (omega (arith, other)) is
 
-  sound_var : (scope : Scope I) (values : Scope J) (n : ℕ) → Carries scope n values
+  sound_var : (scope : VisitScope I) (values : VisitScope J) (n : ℕ) → Carries scope n values
       → Sound (visits_var steps scope (record { 0 = n }) values) (λ left. Carries scope (n + 1) left)
   sound_var scope values n k = by_value (scope (record { 0 = n })) refl
     where
@@ -83,7 +83,7 @@ module _ {S P E X I J : Type 0} (steps : RuleSteps S P E X I J) (pattern_step : 
           (λ made p. sound_done (bound values (record { 0 = n }) made) (λ left. Carries scope (n + 1) left)
           (carries_bound scope values n made k))
 
-  sound_vars : (scope : Scope I) (n more : ℕ) (values : Scope J) → n + more ≡ count → Carries scope n values
+  sound_vars : (scope : VisitScope I) (n more : ℕ) (values : VisitScope J) → n + more ≡ count → Carries scope n values
       → Sound (visits_vars steps scope n more values) (λ left. Carries scope count left)
   sound_vars scope n zero values e k =
       let all : n ≡ count = omega arith in
@@ -93,7 +93,7 @@ module _ {S P E X I J : Type 0} (steps : RuleSteps S P E X I J) (pattern_step : 
       (λ left. Carries scope (n + 1) left) (λ left. Carries scope count left) (sound_var scope values n k)
       (λ left kept. sound_vars scope (n + 1) more left (omega arith) kept)
 
-  sound_value : (expr : Expr) (scope : Scope I) (vars : List ℕ) → ClosedExpr (map (term_shown names) terms) (built_shown names expr) vars
+  sound_value : (expr : Expr) (scope : VisitScope I) (vars : List ℕ) → ClosedExpr (map (term_shown names) terms) (built_shown names expr) vars
       → Covers scope vars → AreBelow count vars → Sound (visits_value steps expr_step terms count expr scope) (λ _. Unit {0})
   sound_value expr scope vars c k low =
       let closed : ClosedExpr (map (term_shown names) terms) (shown_expr names (expr_of expr)) vars =
@@ -105,7 +105,7 @@ module _ {S P E X I J : Type 0} (steps : RuleSteps S P E X I J) (pattern_step : 
       (sound_expr expr_step names terms finds.expr (expr_of expr) values vars closed
       (λ var one. let known = k var one in carried var known.0 (low var.0 one) known.1)).never)
 
-  sound_part : (p : Pattern) (input : I) (scope : Scope I) (vars : List ℕ)
+  sound_part : (p : Pattern) (input : I) (scope : VisitScope I) (vars : List ℕ)
       → Closed (map (term_shown names) terms) count (typed_shown names p) vars → Covers scope vars
       → Sound (visits_part steps pattern_step terms p input scope) (λ left. Covers left (after (typed_shown names p) vars))
   sound_part p input scope vars c k =
@@ -115,7 +115,7 @@ module _ {S P E X I J : Type 0} (steps : RuleSteps S P E X I J) (pattern_step : 
       → Sound (visits pattern_step terms (pattern_of p) input scope) (λ left. Covers left (after u vars))) (pattern_shown names p)
       (λ closed. sound_visits pattern_step names terms count finds.pattern finds.named (pattern_of p) input scope vars closed k) c)
 
-  sound_args : (ps : List Pattern) (tys : List TypeId) (index : ℕ) (scope : Scope I) (vars : List ℕ)
+  sound_args : (ps : List Pattern) (tys : List TypeId) (index : ℕ) (scope : VisitScope I) (vars : List ℕ)
       → typed_count (typed_list (map (typed_shown names) ps)) ≤ length tys
       → AllClosed (map (term_shown names) terms) count (typed_list (map (typed_shown names) ps)) vars → Covers scope vars
       → Sound (visits_args steps pattern_step terms ps tys index scope)
@@ -124,23 +124,23 @@ module _ {S P E X I J : Type 0} (steps : RuleSteps S P E X I J) (pattern_step : 
   sound_args (p ∷ ps) [] index scope vars n c k = absurd (omega arith)
   sound_args (p ∷ ps) (ty ∷ tys) index scope vars n c k =
       let inside = after (typed_shown names p) vars in
-      let Q = λ (left : Scope I). Covers left (after_all (typed_list (map (typed_shown names) ps)) inside) in
-      let rest = λ (left : Scope I). visits_args steps pattern_step terms ps tys (index + 1) left in
+      let Q = λ (left : VisitScope I). Covers left (after_all (typed_list (map (typed_shown names) ps)) inside) in
+      let rest = λ (left : VisitScope I). visits_args steps pattern_step terms ps tys (index + 1) left in
       sound_turn (asks steps.arg (index, ty)) (λ id. in_turn (visits_part steps pattern_step terms p id scope) rest) (λ _. Unit {0}) Q
       (sound_asks steps.arg (index, ty) (λ _. Unit {0}) (finds.arg (index, ty)) (λ s s' a h. tt))
       (λ id any. sound_turn (visits_part steps pattern_step terms p id scope) rest (λ left. Covers left inside) Q
       (sound_part p id scope vars c.0 k)
       (λ left more. sound_args ps tys (index + 1) left inside (omega arith) c.1 more))
 
-  sound_iflets : (is : List IfLet) (scope : Scope I) (vars : List ℕ)
+  sound_iflets : (is : List IfLet) (scope : VisitScope I) (vars : List ℕ)
       → ClosedIfLets (map (term_shown names) terms) count (map (iflet_shown names) is) vars → Covers scope vars → AreBelow count vars
       → Sound (visits_iflets steps pattern_step expr_step terms count is scope)
       (λ left. Covers left (after_iflets (map (iflet_shown names) is) vars))
   sound_iflets [] scope vars c k low = sound_done scope (λ left. Covers left vars) k
   sound_iflets (i ∷ is) scope vars c k low =
       let inside = after (typed_shown names i.lhs) vars in
-      let Q = λ (left : Scope I). Covers left (after_iflets (map (iflet_shown names) is) inside) in
-      let rest = λ (left : Scope I). visits_iflets steps pattern_step expr_step terms count is left in
+      let Q = λ (left : VisitScope I). Covers left (after_iflets (map (iflet_shown names) is) inside) in
+      let rest = λ (left : VisitScope I). visits_iflets steps pattern_step expr_step terms count is left in
       let part = λ (id : I). visits_part steps pattern_step terms i.lhs id scope in
       sound_turn (visits_value steps expr_step terms count i.rhs scope)
       (λ x. in_turn (asks steps.expr_as_pattern x) (λ id. in_turn (part id) rest)) (λ _. Unit {0}) Q

@@ -14,7 +14,7 @@ use Rattle.isle_terms.specs.declared.terms.TermKind.TheVariants.{EnumVariant, St
 use Rattle.isle_terms.specs.Signatures.{Signature, has_extractor_form, has_constructor_form}
 use Rattle.isle_terms.specs.Shown.ShownTerms.{form_shown, term_shown}
 use Rattle.isle_terms.specs.Visits.Runs.{Run, done, asks, in_turn, on_some, stuck}
-use Rattle.isle_terms.specs.Visits.VisitScopes.{Scope, bound}
+use Rattle.isle_terms.specs.Visits.VisitScopes.{VisitScope, bound}
 use Rattle.isle_terms.specs.Visits.InternedTrees.{InternedPattern, InternedPatterns, bind_pattern, var_pattern, bool_pattern, int_pattern}
 use Rattle.isle_terms.specs.Visits.InternedTrees.{prim_pattern, term_pattern, wildcard_pattern, and_pattern, no_patterns, more_patterns}
 use Rattle.isle_terms.specs.Visits.InternedTrees.{InternedExpr, InternedExprs, InternedBindings, term_expr, var_expr, bool_expr, int_expr}
@@ -30,11 +30,11 @@ use Rattle.isle_terms.proofs.Visiting.ShownTrees.{shown_pattern, shown_patterns,
 use Rattle.isle_terms.proofs.Visiting.SoundRuns.{Sound, sound_done, sound_asks, sound_turn, sound_some}
 
 -- every one of these variables has a value
-abbrev pub Covers : {T : Type 0} → Scope T → List ℕ → Type 0
+abbrev pub Covers : {T : Type 0} → VisitScope T → List ℕ → Type 0
 Covers {T} scope vars = (var : VarId) → IsOneOf vars var.0 → (value : T) × (scope var ≡ Some value)
 
 -- with a value for one more, every one of these and that one
-pub covers_more : {T : Type 0} (scope : Scope T) (vars : List ℕ) (var : VarId) (value : T) → Covers scope vars
+pub covers_more : {T : Type 0} (scope : VisitScope T) (vars : List ℕ) (var : VarId) (value : T) → Covers scope vars
     → Covers (bound scope var value) (var.0 ∷ vars)
 covers_more {T} scope vars var value covers other h = by_test (var.0 == other.0) refl h
   where
@@ -82,14 +82,14 @@ module _ {S Id : Type 0} (step : PatternCall Id → Run S (List Id)) (names : Li
     (never : (call : PatternCall Id) → NeverUndefined (step call))
     (named : (call : PatternCall Id) (s s' : S) (ids : List Id) → step call s (Ok ids) s' → asked_of call ≤ length ids) where
   -- a call that names nothing, after which the variables are as they were
-  told_only : (call : PatternCall Id) (scope : Scope Id) (vars : List ℕ) → Covers scope vars
+  told_only : (call : PatternCall Id) (scope : VisitScope Id) (vars : List ℕ) → Covers scope vars
       → Sound (in_turn (asks step call) (λ _. done scope)) (λ left. Covers left vars)
   told_only call scope vars k =
       sound_turn (asks step call) (λ _. done scope) (λ _. Unit {0}) (λ left. Covers left vars)
       (sound_asks step call (λ _. Unit {0}) (never call) (λ s s' a h. tt)) (λ a p. sound_done scope (λ left. Covers left vars) k)
 
   mutual
-    pub sound_visits : (p : InternedPattern) (input : Id) (scope : Scope Id) (vars : List ℕ)
+    pub sound_visits : (p : InternedPattern) (input : Id) (scope : VisitScope Id) (vars : List ℕ)
         → Closed (map (term_shown names) terms) count (shown_pattern names p) vars → Covers scope vars
         → Sound (visits step terms p input scope) (λ left. Covers left (after (shown_pattern names p) vars))
     sound_visits (bind_pattern ty var p) input scope vars c k =
@@ -107,7 +107,7 @@ module _ {S Id : Type 0} (step : PatternCall Id → Run S (List Id)) (names : Li
         let call = opening_known names term.0.kind term.0 ty id input (ap (λ (z : Signature). has_extractor_form z.form) term.2 ∙ c.0.form) in
         let opens : opening terms ty id input ≡ Some call.0 = rw term.1 call.1 in
         let enough = c.0.enough in
-        let Q = λ (left : Scope Id). Covers left (after_all (shown_patterns names ps) vars) in
+        let Q = λ (left : VisitScope Id). Covers left (after_all (shown_patterns names ps) vars) in
         let told = λ (other : PatternCall Id). in_turn (asks step other) (λ ids. visits_all step terms ps ids scope) in
         sound_some (opening terms ty id input) call.0 told stuck Q opens
         (sound_turn (asks step call.0) (λ ids. visits_all step terms ps ids scope) (λ ids. typed_count (shown_patterns names ps) ≤ length ids) Q
@@ -117,7 +117,7 @@ module _ {S Id : Type 0} (step : PatternCall Id → Run S (List Id)) (names : Li
     sound_visits (wildcard_pattern ty) input scope vars c k = sound_done scope (λ left. Covers left vars) k
     sound_visits (and_pattern ty ps) input scope vars c k = sound_each ps input scope vars c k
 
-    sound_all : (ps : InternedPatterns) (ids : List Id) (scope : Scope Id) (vars : List ℕ)
+    sound_all : (ps : InternedPatterns) (ids : List Id) (scope : VisitScope Id) (vars : List ℕ)
         → typed_count (shown_patterns names ps) ≤ length ids
         → AllClosed (map (term_shown names) terms) count (shown_patterns names ps) vars → Covers scope vars
         → Sound (visits_all step terms ps ids scope) (λ left. Covers left (after_all (shown_patterns names ps) vars))
@@ -130,7 +130,7 @@ module _ {S Id : Type 0} (step : PatternCall Id → Run S (List Id)) (names : Li
         (sound_visits p id scope vars c.0 k)
         (λ left more. sound_all ps ids left (after (shown_pattern names p) vars) (omega arith) c.1 more)
 
-    sound_each : (ps : InternedPatterns) (input : Id) (scope : Scope Id) (vars : List ℕ)
+    sound_each : (ps : InternedPatterns) (input : Id) (scope : VisitScope Id) (vars : List ℕ)
         → AllClosed (map (term_shown names) terms) count (shown_patterns names ps) vars → Covers scope vars
         → Sound (visits_each step terms ps input scope) (λ left. Covers left (after_all (shown_patterns names ps) vars))
     sound_each no_patterns input scope vars c k = sound_done scope (λ left. Covers left vars) k
@@ -148,7 +148,7 @@ module _ {S Id : Type 0} (step : ExprCall Id → Run S Id) (names : List (List �
   told_value call = sound_asks step call (λ _. Unit {0}) (never call) (λ s s' a h. tt)
 
   mutual
-    pub sound_expr : (e : InternedExpr) (scope : Scope Id) (vars : List ℕ) → ClosedExpr (map (term_shown names) terms) (shown_expr names e) vars
+    pub sound_expr : (e : InternedExpr) (scope : VisitScope Id) (vars : List ℕ) → ClosedExpr (map (term_shown names) terms) (shown_expr names e) vars
         → Covers scope vars → Sound (visits_expr step terms e scope) (λ _. Unit {0})
     sound_expr (term_expr ty id es) scope vars c k =
         let term = term_shows names terms id.0 c.0.term c.0.known in
@@ -174,7 +174,7 @@ module _ {S Id : Type 0} (step : ExprCall Id → Run S Id) (names : List (List �
         (sound_bindings bs scope vars c.0 k)
         (λ inner more. sound_expr body inner (after_bindings (shown_bindings names bs) vars) c.1 more)
 
-    sound_exprs : (es : InternedExprs) (tys : List TypeId) (before : List (Id × TypeId)) (scope : Scope Id) (vars : List ℕ)
+    sound_exprs : (es : InternedExprs) (tys : List TypeId) (before : List (Id × TypeId)) (scope : VisitScope Id) (vars : List ℕ)
         → built_count (shown_exprs names es) ≤ length tys → ClosedExprs (map (term_shown names) terms) (shown_exprs names es) vars
         → Covers scope vars → Sound (visits_exprs step terms es tys before scope) (λ _. Unit {0})
     sound_exprs no_exprs tys before scope vars n c k = sound_done before (λ _. Unit {0}) tt
@@ -184,7 +184,7 @@ module _ {S Id : Type 0} (step : ExprCall Id → Run S Id) (names : List (List �
         (λ _. Unit {0}) (sound_expr e scope vars c.0 k)
         (λ value p. sound_exprs es tys (before ++ (value, ty) ∷ []) scope vars (omega arith) c.1 k)
 
-    sound_bindings : (bs : InternedBindings) (scope : Scope Id) (vars : List ℕ)
+    sound_bindings : (bs : InternedBindings) (scope : VisitScope Id) (vars : List ℕ)
         → ClosedBindings (map (term_shown names) terms) (shown_bindings names bs) vars → Covers scope vars
         → Sound (visits_bindings step terms bs scope) (λ inner. Covers inner (after_bindings (shown_bindings names bs) vars))
     sound_bindings no_bindings scope vars c k = sound_done scope (λ inner. Covers inner vars) k

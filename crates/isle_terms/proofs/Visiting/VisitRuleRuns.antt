@@ -7,7 +7,7 @@ use Rattle.isle_terms.specs.declared.terms.Term.{Term}
 use Rattle.isle_terms.specs.declared.visit.fault.VisitFault.{VisitFault}
 use Rattle.isle_terms.specs.declared.visit.fault.VisitFault.TheVariants.{Undefined}
 use Rattle.isle_terms.specs.Visits.Runs.{Run, asks, in_turn}
-use Rattle.isle_terms.specs.Visits.VisitScopes.{Scope}
+use Rattle.isle_terms.specs.Visits.VisitScopes.{VisitScope}
 use Rattle.isle_terms.specs.Visits.VisitorCalls.{PatternCall, ExprCall}
 use Rattle.isle_terms.specs.Visits.RuleSteps.{RuleSteps}
 use Rattle.isle_terms.specs.Visits.RuleEvents.{visits_part, visits_args, visits_value, visits_iflets}
@@ -17,17 +17,17 @@ pub left : (count index : ℕ) → index < count → count - index ≡ suc (coun
 left count index h = omega arith
 
 module _ {S P E X I J : Type 0} (steps : RuleSteps S P E X I J) (step : PatternCall I → Run P (List I)) (terms : List Term)
-    (ps : List Pattern) (tys : List TypeId) (i : ℕ) (p : Pattern) (scope : Scope I) (s : S) (m : i < length ps) (is : p ≡ get_or ps i p) where
+    (ps : List Pattern) (tys : List TypeId) (i : ℕ) (p : Pattern) (scope : VisitScope I) (s : S) (m : i < length ps) (is : p ≡ get_or ps i p) where
   pub args_short : drop i tys ≡ [] → visits_args steps step terms (drop i ps) (drop i tys) i scope s (Err Undefined) s
   args_short past = rw (cut ps i p m is, past) (inl refl, refl)
 
   module _ (n : i < length tys) where
-    pub args_more : (id : I) (after : Scope I) (mid last : S) (o : Result (Scope I) VisitFault) (s' : S)
+    pub args_more : (id : I) (after : VisitScope I) (mid last : S) (o : Result (VisitScope I) VisitFault) (s' : S)
         → steps.arg (i, get_or tys i no_type) s (Ok id) mid → visits_part steps step terms p id scope mid (Ok after) last
         → visits_args steps step terms (drop (i + 1) ps) (drop (i + 1) tys) (i + 1) after last o s'
         → visits_args steps step terms (drop i ps) (drop i tys) i scope s o s'
     args_more id after mid last o s' told run rest =
-        let others = λ (y : Scope I). visits_args steps step terms (drop (i + 1) ps) (drop (i + 1) tys) (i + 1) y in
+        let others = λ (y : VisitScope I). visits_args steps step terms (drop (i + 1) ps) (drop (i + 1) tys) (i + 1) y in
         rw (cut ps i p m is, cut_type tys i n)
         (went (asks steps.arg (i, get_or tys i no_type)) (λ x. in_turn (visits_part steps step terms p x scope) others) id s mid o s' told
         (went (visits_part steps step terms p id scope) others after mid last o s' run rest))
@@ -42,14 +42,14 @@ module _ {S P E X I J : Type 0} (steps : RuleSteps S P E X I J) (step : PatternC
     args_stop id mid f s' told run = rw (cut ps i p m is, cut_type tys i n) (inr (id, mid, told, inl run))
 
 module _ {S P E X I J : Type 0} (steps : RuleSteps S P E X I J) (pattern_step : PatternCall I → Run P (List I)) (expr_step : ExprCall J → Run E J)
-    (terms : List Term) (count : ℕ) (ls : List IfLet) (i : ℕ) (l : IfLet) (scope : Scope I) (s : S) (m : i < length ls) (at : l ≡ get_or ls i l) where
-  pub iflets_more : (x : X) (id : I) (after : Scope I) (valued sited last : S) (o : Result (Scope I) VisitFault) (s' : S)
+    (terms : List Term) (count : ℕ) (ls : List IfLet) (i : ℕ) (l : IfLet) (scope : VisitScope I) (s : S) (m : i < length ls) (at : l ≡ get_or ls i l) where
+  pub iflets_more : (x : X) (id : I) (after : VisitScope I) (valued sited last : S) (o : Result (VisitScope I) VisitFault) (s' : S)
       → visits_value steps expr_step terms count l.rhs scope s (Ok x) valued → steps.expr_as_pattern x valued (Ok id) sited
       → visits_part steps pattern_step terms l.lhs id scope sited (Ok after) last
       → visits_iflets steps pattern_step expr_step terms count (drop (i + 1) ls) after last o s'
       → visits_iflets steps pattern_step expr_step terms count (drop i ls) scope s o s'
   iflets_more x id after valued sited last o s' v t r rest =
-      let others = λ (w : Scope I). visits_iflets steps pattern_step expr_step terms count (drop (i + 1) ls) w in
+      let others = λ (w : VisitScope I). visits_iflets steps pattern_step expr_step terms count (drop (i + 1) ls) w in
       let part = λ (z : I). visits_part steps pattern_step terms l.lhs z scope in
       rw (cut ls i l m at)
       (went (visits_value steps expr_step terms count l.rhs scope) (λ y. in_turn (asks steps.expr_as_pattern y) (λ z. in_turn

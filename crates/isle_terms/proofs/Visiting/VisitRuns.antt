@@ -7,7 +7,7 @@ use Rattle.isle_terms.specs.declared.terms.Term.{Term}
 use Rattle.isle_terms.specs.declared.visit.fault.VisitFault.{VisitFault}
 use Rattle.isle_terms.specs.declared.visit.fault.VisitFault.TheVariants.{Memory}
 use Rattle.isle_terms.specs.Visits.Runs.{Run, done, asks, in_turn, on_some, stuck}
-use Rattle.isle_terms.specs.Visits.VisitScopes.{Scope, bound}
+use Rattle.isle_terms.specs.Visits.VisitScopes.{VisitScope, bound}
 use Rattle.isle_terms.specs.Visits.InternedTrees.{InternedPattern, bind_pattern, var_pattern, bool_pattern, int_pattern, prim_pattern}
 use Rattle.isle_terms.specs.Visits.InternedTrees.{term_pattern, wildcard_pattern, and_pattern, no_patterns, more_patterns}
 use Rattle.isle_terms.specs.Visits.InternedTrees.{InternedExpr, InternedExprs, InternedBindings, term_expr, var_expr, bool_expr, int_expr}
@@ -35,7 +35,7 @@ cut_type xs i n = rw add-one (drop-cons xs i no_type n)
 
 module _ {S Id : Type 0} (step : PatternCall Id → Run S (List Id)) (terms : List Term) where
   -- a visit may lack memory before it tells anything
-  pub waits : (p : InternedPattern) (input : Id) (scope : Scope Id) (s : S) (f : VisitFault) → f ≡ Memory
+  pub waits : (p : InternedPattern) (input : Id) (scope : VisitScope Id) (s : S) (f : VisitFault) → f ≡ Memory
       → visits step terms p input scope s (Err f) s
   waits (bind_pattern ty var p) input scope s f m = waits p input (bound scope var input) s f m
   waits (var_pattern ty var) input scope s f m =
@@ -57,7 +57,7 @@ module _ {S Id : Type 0} (step : PatternCall Id → Run S (List Id)) (terms : Li
   waits (and_pattern ty (more_patterns p ps)) input scope s f m = inl (waits p input scope s f m)
 
 module _ {S Id : Type 0} (step : ExprCall Id → Run S Id) (terms : List Term) where
-  term_waits : (o : Option Term) (ty : TypeId) (id : TermId) (es : InternedExprs) (scope : Scope Id) (s : S) (f : VisitFault) → f ≡ Memory
+  term_waits : (o : Option Term) (ty : TypeId) (id : TermId) (es : InternedExprs) (scope : VisitScope Id) (s : S) (f : VisitFault) → f ≡ Memory
       → ((tys : List TypeId) → visits_exprs step terms es tys [] scope s (Err f) s)
       → on_some o (λ term. in_turn (visits_exprs step terms es term.arg_tys [] scope)
       (λ inputs. on_some (making_of term.kind ty id inputs) (λ call. asks step call) stuck)) stuck s (Err f) s
@@ -66,7 +66,7 @@ module _ {S Id : Type 0} (step : ExprCall Id → Run S Id) (terms : List Term) w
 
   mutual
     -- a visit may lack memory before it tells anything
-    pub expr_waits : (e : InternedExpr) (scope : Scope Id) (s : S) (f : VisitFault) → f ≡ Memory → visits_expr step terms e scope s (Err f) s
+    pub expr_waits : (e : InternedExpr) (scope : VisitScope Id) (s : S) (f : VisitFault) → f ≡ Memory → visits_expr step terms e scope s (Err f) s
     expr_waits (term_expr ty id es) scope s f m = term_waits (slice_get terms id.0) ty id es scope s f m (λ tys. exprs_wait es tys [] scope s f m)
     expr_waits (var_expr ty var) scope s f m =
         elim (scope var) as (λ o. on_some o (λ value. done {A = Id} value) stuck s (Err f) s) [ Some value ↦ (m, refl) | None ↦ (inr m, refl) ]
@@ -75,13 +75,13 @@ module _ {S Id : Type 0} (step : ExprCall Id → Run S Id) (terms : List Term) w
     expr_waits (prim_expr ty val) scope s f m = inr (m, refl)
     expr_waits (let_expr ty bs body) scope s f m = inl (bindings_wait bs scope s f m)
 
-    pub exprs_wait : (es : InternedExprs) (tys : List TypeId) (before : List (Id × TypeId)) (scope : Scope Id) (s : S) (f : VisitFault)
+    pub exprs_wait : (es : InternedExprs) (tys : List TypeId) (before : List (Id × TypeId)) (scope : VisitScope Id) (s : S) (f : VisitFault)
         → f ≡ Memory → visits_exprs step terms es tys before scope s (Err f) s
     exprs_wait no_exprs tys before scope s f m = (m, refl)
     exprs_wait (more_exprs e es) [] before scope s f m = (inr m, refl)
     exprs_wait (more_exprs e es) (ty ∷ tys) before scope s f m = inl (expr_waits e scope s f m)
 
-    pub bindings_wait : (bs : InternedBindings) (scope : Scope Id) (s : S) (f : VisitFault) → f ≡ Memory
+    pub bindings_wait : (bs : InternedBindings) (scope : VisitScope Id) (s : S) (f : VisitFault) → f ≡ Memory
         → visits_bindings step terms bs scope s (Err f) s
     bindings_wait no_bindings scope s f m = (m, refl)
     bindings_wait (more_bindings var ty e bs) scope s f m = inl (expr_waits e scope s f m)

@@ -8,7 +8,7 @@ use Rattle.isle_terms.specs.declared.rules.IfLet.{IfLet}
 use Rattle.isle_terms.specs.declared.rules.Rule.{Rule}
 use Rattle.isle_terms.specs.declared.translate.rules.Parts.{Parts}
 use Rattle.isle_terms.specs.TypedRules.{Variable, TypedRule}
-use Rattle.isle_terms.specs.Readings.RuleOutcomes.{RuleParts}
+use Rattle.isle_terms.specs.Inside.Readings.RuleOutcomes.{RuleParts}
 use Rattle.isle_terms.specs.Shown.ShownRules.{typed_list, typed_shown, built_shown, iflet_shown, greatest, pattern_limit, expr_limit}
 
 -- the typed parts of a rule

@@ -11,7 +11,7 @@ use Rattle.isle_terms.specs.declared.rules.Expr.TheOpen.{Term, Var, ConstBool, C
 use Rattle.isle_terms.specs.declared.rules.IfLet.{IfLet}
 use Rattle.isle_terms.specs.TypedRules.{TypedPattern, TypedPatterns, typed_bind, typed_var, typed_bool, typed_int, typed_prim, typed_term}
 use Rattle.isle_terms.specs.TypedRules.{typed_wildcard, typed_and, no_typed, more_typed, TypedExpr, TypedExprs, TypedBindings, built_term}
-use Rattle.isle_terms.specs.TypedRules.{built_var, built_bool, built_int, built_prim, built_let, no_built, more_built, no_bindings, more_bindings}
+use Rattle.isle_terms.specs.TypedRules.{built_var, built_bool, built_int, built_prim, built_let, no_built, more_built, no_typed_bindings, more_typed_bindings}
 use Rattle.isle_terms.specs.TypedRules.{TypedIfLet}
 
 -- the patterns of a list
@@ -41,8 +41,8 @@ built_list (first ∷ others) = more_built first (built_list others)
 
 -- the bindings of a list
 abbrev pub binding_list : List (VarId × TypeId × TypedExpr) → TypedBindings
-binding_list [] = no_bindings
-binding_list (first ∷ others) = more_bindings first.0.0 first.1.0 first.2 (binding_list others)
+binding_list [] = no_typed_bindings
+binding_list (first ∷ others) = more_typed_bindings first.0.0 first.1.0 first.2 (binding_list others)
 
 -- one node of an expression
 abbrev pub built_step : List (List ℕ) → Expr-F TypedExpr → TypedExpr

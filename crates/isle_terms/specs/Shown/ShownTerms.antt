@@ -17,10 +17,10 @@ use Rattle.isle_terms.specs.declared.terms.ExtractorKind.{ExtractorKind}
 use Rattle.isle_terms.specs.declared.terms.ExtractorKind.TheVariants.{InternalExtractor, ExternalExtractor}
 use Rattle.isle_terms.specs.declared.terms.TermKind.{TermKind}
 use Rattle.isle_terms.specs.declared.terms.TermKind.TheVariants.{EnumVariant, Struct, Decl}
-use Rattle.isle_terms.specs.Signatures.{Flags, Constructor, by_rules, external_constructor, Extractor, by_template, external_extractor, TermForm}
+use Rattle.isle_terms.specs.Signatures.{Flags, Constructor, by_rules, external_constructor, ExtractorForm, by_template, external_extractor, TermForm}
 use Rattle.isle_terms.specs.Signatures.{variant_form, struct_form, declared_form, Signature, Declared, term_named, converter_in}
-use Rattle.isle_terms.specs.Readings.Outcomes.{Known}
-use Rattle.isle_terms.specs.Readings.KnownBy.{int_has_number}
+use Rattle.isle_terms.specs.Inside.Readings.Outcomes.{Known}
+use Rattle.isle_terms.specs.Inside.Readings.KnownBy.{int_has_number}
 use Rattle.isle_terms.specs.Shown.TermTables.{TermTables, term_with, converter_with}
 
 -- the flags of a term's declaration
@@ -33,7 +33,7 @@ constructor_shown names InternalConstructor = by_rules
 constructor_shown names (ExternalConstructor name) = external_constructor (name_at names name)
 
 -- how a declared term takes a value apart
-abbrev pub extractor_shown : List (List ℕ) → ExtractorKind → Extractor
+abbrev pub extractor_shown : List (List ℕ) → ExtractorKind → ExtractorForm
 extractor_shown names (InternalExtractor template) = by_template (pattern_of template)
 extractor_shown names (ExternalExtractor name infallible pos) = external_extractor (name_at names name) infallible pos
 

@@ -1,5 +1,5 @@
 -- The value of an environment of terms: its tables.
-use Rattle.std.specs.Prelude.{Bool, List, Option, ◌==◌, ◌&&◌}
+use Rattle.std.specs.Prelude.{Bool, List, Option, ◌==◌, ◌&&◌, ℕ, false, slice_get}
 use Rattle.isle_types.specs.declared.ids.Sym.{Sym}
 use Rattle.isle_types.specs.declared.ids.TypeId.{TypeId}
 use Rattle.isle_types.specs.declared.ids.TermId.{TermId}
@@ -7,6 +7,9 @@ use Rattle.isle_types.specs.declared.ids.RuleId.{RuleId}
 use Rattle.isle_types.specs.StableMaps.{value_at}
 use Rattle.isle_terms.specs.declared.terms.Term.{Term}
 use Rattle.isle_terms.specs.declared.rules.Rule.{Rule}
+use Rattle.std.specs.Option.{option_map_or}
+use Rattle.isle_terms.specs.declared.terms.TermKind.{TermKind}
+use Rattle.isle_terms.specs.declared.terms.TermKind.TheVariants.{EnumVariant, Struct, Decl}
 
 -- what an environment of terms holds
 pub record TermTables : Type 0 where
@@ -42,3 +45,17 @@ rule_with env sym = value_at same_sym env.rule_numbers sym
 -- the converter's term of a pair of types
 abbrev pub converter_with : TermTables → TypeId → TypeId → Option TermId
 converter_with env inner outer = value_at same_types env.converters (inner, outer)
+
+-- the rule of a number
+abbrev pub rule_at : ℕ → RuleId
+rule_at number = record { 0 = number }
+
+-- whether a term of a kind gives any number of answers
+abbrev pub is_multi_kind : TermKind → Bool
+is_multi_kind (EnumVariant _) = false
+is_multi_kind Struct = false
+is_multi_kind (Decl flags _ _) = flags.multi
+
+-- whether the term of a number does
+abbrev pub is_multi_in : TermTables → ℕ → Bool
+is_multi_in env number = option_map_or (λ (term : Term). is_multi_kind term.kind) (slice_get env.terms number) false

@@ -2,7 +2,7 @@
 use Rattle.std.specs.Prelude.{◌≡◌, ◌⊎◌, ℕ, ◌+◌, List, [], ◌∷◌, length}
 use Rattle.isle_terms.specs.TypedRules.{TypedPattern, TypedPatterns, typed_bind, typed_var, typed_bool, typed_int, typed_prim, typed_term}
 use Rattle.isle_terms.specs.TypedRules.{typed_wildcard, typed_and, no_typed, more_typed, TypedExpr, TypedExprs, TypedBindings, built_term}
-use Rattle.isle_terms.specs.TypedRules.{built_var, built_bool, built_int, built_prim, built_let, no_built, more_built, no_bindings, more_bindings}
+use Rattle.isle_terms.specs.TypedRules.{built_var, built_bool, built_int, built_prim, built_let, no_built, more_built, no_typed_bindings, more_typed_bindings}
 use Rattle.isle_terms.specs.TypedRules.{TypedIfLet, TypedRule}
 
 -- the variables that can be used, the innermost first, and how many are bound so far
@@ -62,8 +62,8 @@ abbrev mutual
 
   -- each variable of a `let` is bound after its value, for what follows
   pub BindingsAdd : TypedBindings → (before after : Scope) → Type 0
-  BindingsAdd no_bindings before after = after ≡ before
-  BindingsAdd (more_bindings var ty val others) before after =
+  BindingsAdd no_typed_bindings before after = after ≡ before
+  BindingsAdd (more_typed_bindings var ty val others) before after =
       ExprUses val before var × BindingsAdd others (with_next (counting before var)) after
 
 -- each condition's expression, and then its pattern

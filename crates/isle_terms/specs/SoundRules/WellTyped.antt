@@ -3,9 +3,9 @@ use Rattle.std.specs.Prelude.{◌≡◌, ℕ, ℤ, pos, Bool, true, List, [], �
 use Rattle.isle_types.specs.Environment.{Environment, constant_in}
 use Rattle.isle_terms.specs.TypedRules.{TypedPattern, TypedPatterns, typed_bind, typed_var, typed_bool, typed_int, typed_prim, typed_term}
 use Rattle.isle_terms.specs.TypedRules.{typed_wildcard, typed_and, no_typed, more_typed, TypedExpr, TypedExprs, TypedBindings, built_term}
-use Rattle.isle_terms.specs.TypedRules.{built_var, built_bool, built_int, built_prim, built_let, no_built, more_built, no_bindings, more_bindings}
+use Rattle.isle_terms.specs.TypedRules.{built_var, built_bool, built_int, built_prim, built_let, no_built, more_built, no_typed_bindings, more_typed_bindings}
 use Rattle.isle_terms.specs.TypedRules.{built_at, Variable, TypedIfLet, TypedRule}
-use Rattle.isle_terms.specs.Signatures.{Flags, Extractor, by_rules, declared_form, Signature, Declared, has_constructor_form, has_extractor_form}
+use Rattle.isle_terms.specs.Signatures.{Flags, ExtractorForm, by_rules, declared_form, Signature, Declared, has_constructor_form, has_extractor_form}
 use Rattle.isle_terms.specs.Signatures.{flags_of, put_in_for}
 use Rattle.isle_terms.specs.Elaboration.{bool_number, IsLiteralOf, may_call, on_lhs}
 
@@ -84,8 +84,8 @@ abbrev mutual
 
   -- each variable of a `let` has a type, and its value is well typed at it
   pub AreTypedBindings : Declared → List Variable → (caller : Flags) → TypedBindings → Type 0
-  AreTypedBindings declared variables caller no_bindings = Unit {0}
-  AreTypedBindings declared variables caller (more_bindings var ty val others) =
+  AreTypedBindings declared variables caller no_typed_bindings = Unit {0}
+  AreTypedBindings declared variables caller (more_typed_bindings var ty val others) =
       HasType variables var ty × IsTypedExpr declared variables caller ty val × AreTypedBindings declared variables caller others
 
 -- each condition's expression is well typed, and its pattern is at that expression's type
@@ -101,7 +101,7 @@ pub record IsTypedRule (declared : Declared) (rule : TypedRule) : Type 0 where
   pub root : Signature
   pub flags : Flags
   pub known : slice_get declared.terms rule.root ≡ Some root
-  pub ruled : (extractor : Option Extractor) × (root.form ≡ declared_form flags (Some by_rules) extractor)
+  pub ruled : (extractor : Option ExtractorForm) × (root.form ≡ declared_form flags (Some by_rules) extractor)
   pub args : AreTypedPatterns declared rule.variables root.args rule.args
   pub iflets : AreTypedIfLets declared rule.variables (on_lhs flags) rule.iflets
   pub right : IsTypedExpr declared rule.variables flags root.ret rule.right

@@ -3,7 +3,7 @@ use Rattle.std.specs.Prelude.{List, [], ◌∷◌, ◌++◌, slice_get}
 use Rattle.isle_types.specs.declared.ids.TypeId.{TypeId}
 use Rattle.isle_terms.specs.declared.terms.Term.{Term}
 use Rattle.isle_terms.specs.Visits.Runs.{Run, done, asks, in_turn, on_some, stuck}
-use Rattle.isle_terms.specs.Visits.VisitScopes.{Scope, bound}
+use Rattle.isle_terms.specs.Visits.VisitScopes.{VisitScope, bound}
 use Rattle.isle_terms.specs.Visits.InternedTrees.{InternedPattern, InternedPatterns, bind_pattern, var_pattern, bool_pattern, int_pattern}
 use Rattle.isle_terms.specs.Visits.InternedTrees.{prim_pattern, term_pattern, wildcard_pattern, and_pattern, no_patterns, more_patterns}
 use Rattle.isle_terms.specs.Visits.InternedTrees.{InternedExpr, InternedExprs, InternedBindings, term_expr, var_expr, bool_expr, int_expr}
@@ -13,7 +13,7 @@ use Rattle.isle_terms.specs.Visits.VisitorCalls.{ExprCall, const_bool, const_int
 
 abbrev mutual
   -- what a visitor whose step is `step` is told of a pattern, at the value `input`; the scope that is left is answered
-  pub visits : {S Id : Type 0} → (PatternCall Id → Run S (List Id)) → List Term → InternedPattern → Id → Scope Id → Run S (Scope Id)
+  pub visits : {S Id : Type 0} → (PatternCall Id → Run S (List Id)) → List Term → InternedPattern → Id → VisitScope Id → Run S (VisitScope Id)
   visits step terms (bind_pattern ty var p) input scope = visits step terms p input (bound scope var input)
   visits step terms (var_pattern ty var) input scope =
       on_some (scope var) (λ other. in_turn (asks step (match_equal input other ty)) (λ _. done scope)) stuck
@@ -26,21 +26,21 @@ abbrev mutual
   visits step terms (and_pattern ty ps) input scope = visits_each step terms ps input scope
 
   -- patterns, each at its value; values past the patterns are left
-  pub visits_all : {S Id : Type 0} → (PatternCall Id → Run S (List Id)) → List Term → InternedPatterns → List Id → Scope Id → Run S (Scope Id)
+  pub visits_all : {S Id : Type 0} → (PatternCall Id → Run S (List Id)) → List Term → InternedPatterns → List Id → VisitScope Id → Run S (VisitScope Id)
   visits_all step terms no_patterns ids scope = done scope
   visits_all step terms (more_patterns p ps) [] scope = stuck
   visits_all step terms (more_patterns p ps) (id ∷ ids) scope =
       in_turn (visits step terms p id scope) (λ after. visits_all step terms ps ids after)
 
   -- patterns, all at one value
-  pub visits_each : {S Id : Type 0} → (PatternCall Id → Run S (List Id)) → List Term → InternedPatterns → Id → Scope Id → Run S (Scope Id)
+  pub visits_each : {S Id : Type 0} → (PatternCall Id → Run S (List Id)) → List Term → InternedPatterns → Id → VisitScope Id → Run S (VisitScope Id)
   visits_each step terms no_patterns input scope = done scope
   visits_each step terms (more_patterns p ps) input scope =
       in_turn (visits step terms p input scope) (λ after. visits_each step terms ps input after)
 
 abbrev mutual
   -- what a visitor whose step is `step` is told of an expression; its value is answered
-  pub visits_expr : {S Id : Type 0} → (ExprCall Id → Run S Id) → List Term → InternedExpr → Scope Id → Run S Id
+  pub visits_expr : {S Id : Type 0} → (ExprCall Id → Run S Id) → List Term → InternedExpr → VisitScope Id → Run S Id
   visits_expr step terms (term_expr ty id es) scope = on_some (slice_get terms id.0) (λ term.
       in_turn (visits_exprs step terms es term.arg_tys [] scope)
       (λ inputs. on_some (making_of term.kind ty id inputs) (λ call. asks step call) stuck)) stuck
@@ -52,7 +52,7 @@ abbrev mutual
       in_turn (visits_bindings step terms bs scope) (λ inner. visits_expr step terms body inner)
 
   -- arguments in order, each with its type, after those that were told before
-  pub visits_exprs : {S Id : Type 0} → (ExprCall Id → Run S Id) → List Term → InternedExprs → List TypeId → List (Id × TypeId) → Scope Id
+  pub visits_exprs : {S Id : Type 0} → (ExprCall Id → Run S Id) → List Term → InternedExprs → List TypeId → List (Id × TypeId) → VisitScope Id
       → Run S (List (Id × TypeId))
   visits_exprs step terms no_exprs tys before scope = done before
   visits_exprs step terms (more_exprs e es) [] before scope = stuck
@@ -60,7 +60,7 @@ abbrev mutual
       in_turn (visits_expr step terms e scope) (λ value. visits_exprs step terms es tys (before ++ (value, ty) ∷ []) scope)
 
   -- the values of a `let` in order, each bound to its variable
-  pub visits_bindings : {S Id : Type 0} → (ExprCall Id → Run S Id) → List Term → InternedBindings → Scope Id → Run S (Scope Id)
+  pub visits_bindings : {S Id : Type 0} → (ExprCall Id → Run S Id) → List Term → InternedBindings → VisitScope Id → Run S (VisitScope Id)
   visits_bindings step terms no_bindings scope = done scope
   visits_bindings step terms (more_bindings var ty e bs) scope =
       in_turn (visits_expr step terms e scope) (λ value. visits_bindings step terms bs (bound scope var value))

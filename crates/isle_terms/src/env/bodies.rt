@@ -1,10 +1,11 @@
+//! Terms that the bodies of internal extractors name, of which each unknown one is reported.
 ghost use Rattle.std.specs.Prelude.{◌≡◌, ℕ, List, Bool, true, false, map, OnOk};
 ghost use Rattle.isle_syntax.specs.declared.lexer.Pos.{Pos};
 ghost use Rattle.isle_syntax.specs.Trees.PatternShape.{pattern_of};
-ghost use Rattle.isle_terms.specs.Collecting.NameTables.{IsTableOf};
-ghost use Rattle.isle_terms.specs.Collecting.Checks.{Checks};
+ghost use Rattle.isle_terms.specs.Inside.Collecting.NameTables.{IsTableOf};
+ghost use Rattle.isle_terms.specs.Inside.Collecting.Checks.{Checks};
 ghost use Rattle.isle_terms.specs.Definitions.{is_among};
-ghost use Rattle.isle_terms.specs.Collecting.ExtractorChecks.{Adds, BodyNamesUnknown, BodyNamesKnown, IsUnknownAt, NamesUnknown, NamesKnown};
+ghost use Rattle.isle_terms.specs.Inside.Collecting.ExtractorChecks.{Adds, BodyNamesUnknown, BodyNamesKnown, IsUnknownAt, NamesUnknown, NamesKnown};
 
 use crate::env::messages;
 use crate::env::name_table::NameTable;

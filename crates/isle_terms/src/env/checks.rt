@@ -1,13 +1,14 @@
+//! Checks of declarations, roots of rules, constructors and extractors one by one, which report each fault.
 ghost use Rattle.std.specs.Prelude.{◌≡◌, ℕ, List, map, length, MatchOption, Some, None, OnOk, IfOk};
 ghost use Rattle.isle_syntax.specs.declared.ast.Rule.{Rule as RuleTree};
 ghost use Rattle.isle_syntax.specs.declared.ast.Decl.{Decl as DeclTree};
 ghost use Rattle.isle_syntax.specs.declared.ast.Extractor.{Extractor as ExtractorTree};
 ghost use Rattle.isle_syntax.specs.Trees.PatternShape.{pattern_of};
 ghost use Rattle.isle_terms.specs.Definitions.{root_name, roots_of, ExternalExtractor};
-ghost use Rattle.isle_terms.specs.Collecting.Checks.{ChecksEach};
-ghost use Rattle.isle_terms.specs.Collecting.NameTables.{IsTableOf};
-ghost use Rattle.isle_terms.specs.Collecting.DefinitionLists.{host_constructor_shown, host_extractor_shown};
-ghost use Rattle.isle_terms.specs.Collecting.DefinitionChecks.{is_ill_root, is_ill_host, is_ill_extractor, is_ill_name, is_unused, is_ill_marked};
+ghost use Rattle.isle_terms.specs.Inside.Collecting.Checks.{ChecksEach};
+ghost use Rattle.isle_terms.specs.Inside.Collecting.NameTables.{IsTableOf};
+ghost use Rattle.isle_terms.specs.Inside.Collecting.DefinitionLists.{host_constructor_shown, host_extractor_shown};
+ghost use Rattle.isle_terms.specs.Inside.Collecting.DefinitionChecks.{is_ill_root, is_ill_host, is_ill_extractor, is_ill_name, is_unused, is_ill_marked};
 
 use crate::env::definitions::{HostConstructor, HostExtractor};
 use crate::env::messages;

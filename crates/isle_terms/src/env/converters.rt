@@ -1,3 +1,4 @@
+//! The table of converters by their types, with a report of each that is ill.
 ghost use Rattle.std.specs.Prelude.{◌≡◌, ℕ, None, List, map, IfOk, IfErr};
 ghost use Rattle.isle_syntax.specs.declared.ast.Def.{Def};
 ghost use Rattle.isle_types.specs.StableMaps.{value_at};
@@ -7,9 +8,9 @@ ghost use Rattle.isle_terms.specs.Signatures.{Signature};
 ghost use Rattle.isle_terms.specs.Definitions.{converters_in, names_of_terms};
 ghost use Rattle.isle_terms.specs.Shown.TermTables.{same_types};
 ghost use Rattle.isle_terms.specs.TermFaults.{ConverterBreaks};
-ghost use Rattle.isle_terms.specs.Collecting.Checks.{Checks};
-ghost use Rattle.isle_terms.specs.Collecting.NameTables.{IsTableOf};
-ghost use Rattle.isle_terms.specs.Collecting.ReadConverters.{IsReadAs, IsIllConverter, AreReadConverters};
+ghost use Rattle.isle_terms.specs.Inside.Collecting.Checks.{Checks};
+ghost use Rattle.isle_terms.specs.Inside.Collecting.NameTables.{IsTableOf};
+ghost use Rattle.isle_terms.specs.Inside.Collecting.ReadConverters.{IsReadAs, IsIllConverter, AreReadConverters};
 
 use crate::env::messages::{self, IllPart};
 use crate::env::name_table::NameTable;

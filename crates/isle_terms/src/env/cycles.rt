@@ -1,6 +1,6 @@
 //! A search for a cycle of a graph.
 ghost use Rattle.std.specs.Prelude.{◌≡◌, ◌<◌, ℕ, [], ◌∷◌, ◌++◌, length, slice_get, Some, IfOk, OnOk, IfNone, MatchOption};
-ghost use Rattle.isle_terms.specs.Collecting.Graphs.{AreWithin, IsAcyclic, Leads, IsFinished, IsOpen, AreSettled, IsSearching, Goes, search_work};
+ghost use Rattle.isle_terms.specs.Inside.Collecting.Graphs.{AreWithin, IsAcyclic, Leads, IsFinished, IsOpen, AreSettled, IsSearching, Goes, search_work};
 
 use crate::env::graph::Graph;
 use std::alloc::{AllocError, Global};

@@ -1,3 +1,4 @@
+//! The environment of terms and rules that definitions make, stage by stage, or their faults.
 ghost use Rattle.std.specs.Prelude.{◌≡◌, ◌<◌, ◌≤◌, ℕ, Bool, List, [], map, length, All, IfOk, IfErr, OnOk};
 ghost use Rattle.isle_syntax.specs.declared.ast.Def.{Def};
 ghost use Rattle.isle_syntax.specs.Errors.{IfFault, RefusalsAt};
@@ -7,12 +8,13 @@ ghost use Rattle.isle_syntax.specs.Positions.DefPositions.{DefAt};
 ghost use Rattle.isle_types.specs.Environment.{Environment};
 ghost use Rattle.isle_types.specs.TypeEnvs.{Shows, HasMoreNames, IsEnvironmentOf};
 ghost use Rattle.isle_terms.specs.Definitions.{extractors_in, rules_in, name_of, HaveTerms};
-ghost use Rattle.isle_terms.specs.Collecting.NamedItems.{name_shown};
+ghost use Rattle.isle_terms.specs.Inside.Collecting.NamedItems.{name_shown};
 ghost use Rattle.isle_terms.specs.TypedTrees.{TypedRuleAt};
 ghost use Rattle.isle_terms.specs.TypingFaults.{AreTypingFaults};
-ghost use Rattle.isle_terms.specs.Collecting.Parts.{ArePartsOf};
-ghost use Rattle.isle_terms.specs.Collecting.DeclaredTerms.{HasPlainTemplates};
-ghost use Rattle.isle_terms.specs.Collecting.Environments.{ShowsDeclaredOf, ShowsTerms};
+ghost use Rattle.isle_terms.specs.Inside.Collecting.Parts.{ArePartsOf};
+ghost use Rattle.isle_terms.specs.Definitions.{HasPlainTemplates};
+ghost use Rattle.isle_terms.specs.Inside.Collecting.Environments.{ShowsDeclaredOf};
+ghost use Rattle.isle_terms.specs.TermEnvs.{ShowsTerms};
 
 use crate::env::TermEnv;
 use crate::env::names::name_parts;

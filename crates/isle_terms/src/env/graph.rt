@@ -1,3 +1,4 @@
+//! A graph, as the list of each node's targets.
 ghost use Rattle.std.specs.Prelude.{◌≡◌, ◌+◌, ◌^◌, ◌<◌, [], ◌∷◌, ◌++◌, length, slice_get, slice_set, slice_index_or, replicate, IfOk, OnOk, OnSome};
 
 use std::alloc::{AllocError, Global};

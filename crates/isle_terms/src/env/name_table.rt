@@ -1,6 +1,7 @@
+//! A table of names, which tells the first place of each in a list.
 ghost use Rattle.std.specs.Prelude.{◌≡◌, ℕ, List, [], ◌∷◌, ◌++◌, length, is_some, is_none, IfOk, OnOk};
 ghost use Rattle.isle_types.specs.Names.{position_of};
-ghost use Rattle.isle_terms.specs.Collecting.NameTables.{IsTableOf};
+ghost use Rattle.isle_terms.specs.Inside.Collecting.NameTables.{IsTableOf};
 
 use isle_types::StableMap;
 use std::alloc::{AllocError, Global};

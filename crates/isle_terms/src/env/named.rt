@@ -1,6 +1,7 @@
+//! The names of a pattern's terms, each at the position of its term.
 ghost use Rattle.std.specs.Prelude.{◌≡◌, [], ◌∷◌, ◌++◌, map, false, IfOk};
 ghost use Rattle.isle_syntax.specs.Trees.PatternShape.{pattern_of};
-ghost use Rattle.isle_terms.specs.Collecting.ExtractorChecks.{named_in};
+ghost use Rattle.isle_terms.specs.Inside.Collecting.ExtractorChecks.{named_in};
 
 use isle_syntax::Text;
 use isle_syntax::ast::{Ident, Pattern};

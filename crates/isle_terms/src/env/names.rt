@@ -1,3 +1,4 @@
+//! Tables of the names that definitions give: of declared terms, roots of rules, constructors and extractors.
 ghost use Rattle.std.specs.Prelude.{◌≡◌, ℕ, Bool, List, [], ◌++◌, map, IfOk, OnOk};
 ghost use Rattle.isle_syntax.specs.declared.ast.Def.{Def};
 ghost use Rattle.isle_types.specs.Names.{AreDistinct};
@@ -5,9 +6,9 @@ ghost use Rattle.isle_types.specs.Environment.{Environment};
 ghost use Rattle.isle_terms.specs.Definitions.{declared_names, external_constructor_names, extractor_names};
 ghost use Rattle.isle_terms.specs.TermFaults.{IsTaken, named_extractors};
 ghost use Rattle.isle_terms.specs.TypingFaults.{BreaksTyping};
-ghost use Rattle.isle_terms.specs.Collecting.Checks.{Checks};
-ghost use Rattle.isle_terms.specs.Collecting.NameTables.{IsTableOf};
-ghost use Rattle.isle_terms.specs.Collecting.Parts.{ArePartsOf, AreNamesOf, AreNamedOnce};
+ghost use Rattle.isle_terms.specs.Inside.Collecting.Checks.{Checks};
+ghost use Rattle.isle_terms.specs.Inside.Collecting.NameTables.{IsTableOf};
+ghost use Rattle.isle_terms.specs.Inside.Collecting.Parts.{ArePartsOf, AreNamesOf, AreNamedOnce};
 
 use crate::env::checks::name_roots;
 use crate::env::name_table::NameTable;

@@ -1,14 +1,15 @@
+//! Names with the positions where they are given, and tables of names, with a report of each that is taken.
 ghost use Rattle.std.specs.Prelude.{◌≡◌, ◌++◌, List, map, IfOk, OnOk};
 ghost use Rattle.std.specs.List.{AllZip};
 ghost use Rattle.isle_syntax.specs.declared.ast.Decl.{Decl as DeclTree};
 ghost use Rattle.isle_syntax.specs.declared.ast.Extractor.{Extractor as ExtractorTree};
 ghost use Rattle.isle_types.specs.Names.{AreDistinct};
 ghost use Rattle.isle_terms.specs.TermFaults.{names_of, IsTaken};
-ghost use Rattle.isle_terms.specs.Collecting.Checks.{Checks};
-ghost use Rattle.isle_terms.specs.Collecting.NameTables.{IsTableOf};
-ghost use Rattle.isle_terms.specs.Collecting.NamedItems.{named_shown, named_declaration, named_extractor, named_host_constructor};
-ghost use Rattle.isle_terms.specs.Collecting.NamedItems.{named_host_extractor, named_term};
-ghost use Rattle.isle_terms.specs.Collecting.DeclaredTerms.{IsShownTerm};
+ghost use Rattle.isle_terms.specs.Inside.Collecting.Checks.{Checks};
+ghost use Rattle.isle_terms.specs.Inside.Collecting.NameTables.{IsTableOf};
+ghost use Rattle.isle_terms.specs.Inside.Collecting.NamedItems.{named_shown, named_declaration, named_extractor, named_host_constructor};
+ghost use Rattle.isle_terms.specs.Inside.Collecting.NamedItems.{named_host_extractor, named_term};
+ghost use Rattle.isle_terms.specs.Inside.Collecting.DeclaredTerms.{IsShownTerm};
 ghost use Rattle.isle_terms.specs.Signatures.{Signature};
 
 use crate::env::definitions::{HostConstructor, HostExtractor};

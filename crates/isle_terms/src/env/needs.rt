@@ -1,3 +1,4 @@
+//! How many arguments uses of terms must give so that templates can be put in.
 ghost use Rattle.std.specs.Prelude.{◌≡◌, ◌≤◌, map, IfOk, All};
 ghost use Rattle.isle_terms.specs.declared.terms.Term.{Term as TermRecord};
 ghost use Rattle.isle_terms.specs.Readings.Needs.{needed_of};

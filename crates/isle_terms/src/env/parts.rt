@@ -1,5 +1,6 @@
+//! The definitions of terms and rules, with a list for each kind.
 ghost use Rattle.std.specs.Prelude.{IfOk};
-ghost use Rattle.isle_terms.specs.Collecting.Parts.{ArePartsOf};
+ghost use Rattle.isle_terms.specs.Inside.Collecting.Parts.{ArePartsOf};
 
 use crate::env::definitions::{
     HostConstructor, HostExtractor, converters, declarations, extractors, host_constructors,

@@ -1,11 +1,12 @@
+//! Recursion of internal extractors: one that comes to its own term through bodies is reported.
 ghost use Rattle.std.specs.Prelude.{◌≡◌, ◌<◌, ℕ, Some, map, length, slice_get, IfOk, OnOk, MatchOption};
 ghost use Rattle.std.specs.Str.{bytes_eq};
 ghost use Rattle.isle_syntax.specs.declared.ast.Extractor.{Extractor as ExtractorTree};
 ghost use Rattle.isle_syntax.specs.Trees.PatternShape.{pattern_of};
 ghost use Rattle.isle_types.specs.StableMaps.{value_at};
-ghost use Rattle.isle_terms.specs.Collecting.Checks.{Checks};
-ghost use Rattle.isle_terms.specs.Collecting.ExtractorGraphs.{extracted, ArePlaces, AddsEdges, JoinsTerm, JoinsNode, JoinsPlaces};
-ghost use Rattle.isle_terms.specs.Collecting.ExtractorGraphs.{IsGraphOf, IsRecursiveAt, IsNotRecursive};
+ghost use Rattle.isle_terms.specs.Inside.Collecting.Checks.{Checks};
+ghost use Rattle.isle_terms.specs.Inside.Collecting.ExtractorGraphs.{extracted, ArePlaces, AddsEdges, JoinsTerm, JoinsNode, JoinsPlaces};
+ghost use Rattle.isle_terms.specs.Inside.Collecting.ExtractorGraphs.{IsGraphOf, IsRecursiveAt, IsNotRecursive};
 
 use crate::env::cycles::find_cycle;
 use crate::env::graph::Graph;

@@ -1,7 +1,8 @@
+//! Type errors at one place that begin with the same line, of which the first alone is told.
 ghost use Rattle.std.specs.Prelude.{◌≡◌, ◌++◌, ◌∷◌, [], eqb, IfOk, OnOk, MatchBool};
 ghost use Rattle.std.specs.List.{before_first};
 ghost use Rattle.isle_syntax.specs.Errors.{IfFault, IsFaultAnd};
-ghost use Rattle.isle_terms.specs.Collecting.Repeats.{fault_key, MeetsKey, AreToldOf};
+ghost use Rattle.isle_terms.specs.Inside.Collecting.Repeats.{fault_key, MeetsKey, AreToldOf};
 
 use isle_syntax::error::Error;
 use isle_syntax::lexer::Pos;

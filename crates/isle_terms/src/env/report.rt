@@ -1,3 +1,4 @@
+//! A type error with its position and message, added to a list of errors.
 ghost use Rattle.std.specs.Prelude.{◌≡◌, ℕ, List, [], ◌∷◌, ◌++◌, OnOk};
 ghost use Rattle.isle_syntax.specs.declared.error.Error.TheVariants.{TypeError};
 ghost use Rattle.isle_syntax.specs.Errors.{span_at};

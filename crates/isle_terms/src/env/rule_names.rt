@@ -1,3 +1,4 @@
+//! Names of rules, written or taken from a term with one rule alone, and the check that each is given once.
 ghost use Rattle.std.specs.Prelude.{◌≡◌, ◌++◌, List, [], ◌∷◌, map, length, IfOk, OnOk};
 ghost use Rattle.std.specs.List.{AllZip};
 ghost use Rattle.isle_syntax.specs.declared.ast.Def.{Def};
@@ -8,9 +9,9 @@ ghost use Rattle.isle_terms.specs.TypedRules.{TypedRule};
 ghost use Rattle.isle_terms.specs.Definitions.{rules_in, roots_of, name_of};
 ghost use Rattle.isle_terms.specs.TermFaults.{IsTaken, names_of};
 ghost use Rattle.isle_terms.specs.TypingFaults.{named_rules};
-ghost use Rattle.isle_terms.specs.Collecting.Checks.{Checks};
-ghost use Rattle.isle_terms.specs.Collecting.NamedItems.{name_shown, named_shown};
-ghost use Rattle.isle_terms.specs.Collecting.RuleNames.{with_names, AreNamedRules, MarksLone, IsNumbering};
+ghost use Rattle.isle_terms.specs.Inside.Collecting.Checks.{Checks};
+ghost use Rattle.isle_terms.specs.Inside.Collecting.NamedItems.{name_shown, named_shown};
+ghost use Rattle.isle_terms.specs.Inside.Collecting.RuleNames.{with_names, AreNamedRules, MarksLone, IsNumbering};
 ghost use Rattle.isle_terms.specs.Shown.RulesShown.{IsShownRule};
 
 use crate::env::checks::root_name;

@@ -1,3 +1,4 @@
+//! Rules typed one by one: their roots, parts, variables and names, with an error for each that can't be typed.
 ghost use Rattle.std.specs.Prelude.{◌≡◌, ◌≤◌, ◌==◌, ℕ, List, [], ◌∷◌, ◌++◌, true, length, map, All, IfOk, IfErr, OnOk};
 ghost use Rattle.std.specs.Option.{option_map};
 ghost use Rattle.std.specs.List.{AllZip};
@@ -11,20 +12,20 @@ ghost use Rattle.isle_terms.specs.TypedRules.{TypedRule};
 ghost use Rattle.isle_terms.specs.Signatures.{Declared};
 ghost use Rattle.isle_terms.specs.Elaboration.{ElaboratesRule};
 ghost use Rattle.isle_terms.specs.RuleReaching.{IsIllRule};
-ghost use Rattle.isle_terms.specs.Readings.Outcomes.{Outcome, stands_for, only_if};
-ghost use Rattle.isle_terms.specs.Readings.RuleOutcomes.{RuleParts};
-ghost use Rattle.isle_terms.specs.Readings.Telling.{rule_of_parts};
+ghost use Rattle.isle_terms.specs.Inside.Readings.Outcomes.{Outcome, stands_for, only_if};
+ghost use Rattle.isle_terms.specs.Inside.Readings.RuleOutcomes.{RuleParts};
+ghost use Rattle.isle_terms.specs.Inside.Readings.Telling.{rule_of_parts};
 ghost use Rattle.isle_terms.specs.Shown.ShownTerms.{flags_shown, form_shown, ShowsDeclared};
-ghost use Rattle.isle_terms.specs.Readings.Scopes.{variable_shown};
-ghost use Rattle.isle_terms.specs.Collecting.RuleRoots.{declared_flags, root_in, may_have_priority, read_rooted, read_whole};
+ghost use Rattle.isle_terms.specs.Inside.Readings.Scopes.{variable_shown};
+ghost use Rattle.isle_terms.specs.Inside.Collecting.RuleRoots.{declared_flags, root_in, may_have_priority, read_rooted, read_whole};
 ghost use Rattle.isle_terms.specs.Shown.RulesShown.{parts_limit, IsShownVariable, IsShownName, IsShownRule};
-ghost use Rattle.isle_terms.specs.Shown.RootsShown.{root_shown, rule_read};
-ghost use Rattle.isle_terms.specs.Collecting.RuleChecks.{HasSomeRoot, IsLargeAt, IsIllAmong, IsLargeAmong, AreTyped};
+ghost use Rattle.isle_terms.specs.Inside.Shown.RootsShown.{root_shown, rule_read};
+ghost use Rattle.isle_terms.specs.Inside.Collecting.RuleChecks.{HasSomeRoot, IsLargeAt, IsIllAmong, IsLargeAmong, AreTyped};
 ghost use Rattle.isle_terms.specs.TypingFaults.{IsLoneSize};
-ghost use Rattle.isle_terms.specs.Shown.TermLimits.{HasKnownSymbols};
-ghost use Rattle.isle_terms.specs.Collecting.Checks.{Checks};
-ghost use Rattle.isle_terms.specs.Readings.Failures.{Fails};
-ghost use Rattle.isle_terms.specs.Readings.Contexts.{known_in};
+ghost use Rattle.isle_terms.specs.Inside.Shown.TermLimits.{HasKnownSymbols};
+ghost use Rattle.isle_terms.specs.Inside.Collecting.Checks.{Checks};
+ghost use Rattle.isle_terms.specs.Inside.Readings.Failures.{Fails};
+ghost use Rattle.isle_terms.specs.Inside.Readings.Contexts.{known_in};
 
 use crate::env::TermEnv;
 use crate::rules::{BoundVar, Rule};

@@ -1,3 +1,4 @@
+//! The stages that make the terms of definitions, and check their extractors, converters and uses.
 ghost use Rattle.std.specs.Prelude.{◌≡◌, ◌<◌, ◌≤◌, ℕ, Bool, true, false, List, [], ◌∷◌, ◌++◌, map, length, All, IfOk, IfErr, OnOk};
 ghost use Rattle.std.specs.List.{AllZip};
 ghost use Rattle.isle_syntax.specs.declared.ast.Decl.{Decl as DeclTree};
@@ -13,11 +14,12 @@ ghost use Rattle.isle_terms.specs.Definitions.{declarations, declared_names, ext
 ghost use Rattle.isle_terms.specs.Definitions.{IsDefined};
 ghost use Rattle.isle_terms.specs.TermFaults.{IsTaken, named_extractors};
 ghost use Rattle.isle_terms.specs.TypingFaults.{BreaksTyping, AreTypingFaults};
-ghost use Rattle.isle_terms.specs.Collecting.Checks.{Checks};
-ghost use Rattle.isle_terms.specs.Collecting.NameTables.{IsTableOf};
-ghost use Rattle.isle_terms.specs.Collecting.Parts.{ArePartsOf, AreNamesOf, KeepFirstRules, AreNamedOnce};
-ghost use Rattle.isle_terms.specs.Collecting.DeclaredTerms.{HasPlainTemplates, AreDeclaredTerms, IsShownTerm};
-ghost use Rattle.isle_terms.specs.Collecting.MadeTerms.{AreMadeTerms, KeepLaterRules};
+ghost use Rattle.isle_terms.specs.Inside.Collecting.Checks.{Checks};
+ghost use Rattle.isle_terms.specs.Inside.Collecting.NameTables.{IsTableOf};
+ghost use Rattle.isle_terms.specs.Inside.Collecting.Parts.{ArePartsOf, AreNamesOf, KeepFirstRules, AreNamedOnce};
+ghost use Rattle.isle_terms.specs.Inside.Collecting.DeclaredTerms.{AreDeclaredTerms, IsShownTerm};
+ghost use Rattle.isle_terms.specs.Definitions.{HasPlainTemplates};
+ghost use Rattle.isle_terms.specs.Inside.Collecting.MadeTerms.{AreMadeTerms, KeepLaterRules};
 ghost use Rattle.isle_terms.specs.Readings.Needs.{needed_of};
 ghost use Rattle.isle_terms.specs.declared.terms.Term.{Term as TermRecord};
 

@@ -1,3 +1,4 @@
+//! The table from the symbols of terms' names to the ids of the terms.
 ghost use Rattle.std.specs.Prelude.{◌≡◌, ℕ, List, IfOk};
 ghost use Rattle.std.specs.List.{AllZip};
 ghost use Rattle.std.specs.Option.{option_map};
@@ -7,8 +8,8 @@ ghost use Rattle.isle_terms.specs.declared.terms.Term.{Term as TermValue};
 ghost use Rattle.isle_terms.specs.Signatures.{Signature};
 ghost use Rattle.isle_terms.specs.Definitions.{names_of_terms};
 ghost use Rattle.isle_terms.specs.Shown.ShownTerms.{term_at};
-ghost use Rattle.isle_terms.specs.Collecting.DeclaredTerms.{IsShownTerm, number_named};
-ghost use Rattle.isle_terms.specs.Collecting.TermSymbols.{HasSymbolsOf};
+ghost use Rattle.isle_terms.specs.Inside.Collecting.DeclaredTerms.{IsShownTerm, number_named};
+ghost use Rattle.isle_terms.specs.Inside.Collecting.TermSymbols.{HasSymbolsOf};
 
 use crate::terms::Term;
 use isle_types::{StableMap, Sym, TermId};

@@ -1,3 +1,4 @@
+//! The terms of declarations: their types, flags, constructors and extractors.
 ghost use Rattle.std.specs.Prelude.{◌≡◌, ◌≤◌, ◌<◌, ◌++◌, ◌∷◌, [], ℕ, List, Some, false, map, length, All, IfOk, IfErr, OnOk};
 ghost use Rattle.std.specs.List.{AllZip};
 ghost use Rattle.isle_syntax.specs.declared.ast.Def.{Def};
@@ -6,12 +7,13 @@ ghost use Rattle.isle_types.specs.Environment.{Environment};
 ghost use Rattle.isle_types.specs.TypeEnvs.{Shows, HasMoreNames};
 ghost use Rattle.isle_terms.specs.Definitions.{IsTypeNumber, constructor_for, extractor_for};
 ghost use Rattle.isle_terms.specs.Shown.ShownTerms.{numbers_of};
-ghost use Rattle.isle_terms.specs.Collecting.DeclaredTerms.{AreFormsOf, AreShownAs, IsShownConstructor, IsShownExtractor, IsDeclaredTerm};
-ghost use Rattle.isle_terms.specs.Collecting.DeclaredTerms.{IsDeclarationFault, IsUnknownTypeAt, IsOneUnknownAt, HasPlainTemplates};
-ghost use Rattle.isle_terms.specs.Collecting.DeclaredTerms.{IsShownForm, NamesUnknownType, OneNamesUnknownType, IsLargeAt, IsOneLargeAt, IsAlone};
-ghost use Rattle.isle_terms.specs.Collecting.DeclaredTerms.{AddsDeclaredTerm, AreDeclaredTerms};
-ghost use Rattle.isle_terms.specs.Collecting.Checks.{Checks};
-ghost use Rattle.isle_terms.specs.Collecting.ExtractorChecks.{Adds};
+ghost use Rattle.isle_terms.specs.Inside.Collecting.DeclaredTerms.{AreFormsOf, AreShownAs, IsShownConstructor, IsShownExtractor, IsDeclaredTerm};
+ghost use Rattle.isle_terms.specs.Inside.Collecting.DeclaredTerms.{IsDeclarationFault, IsUnknownTypeAt, IsOneUnknownAt};
+ghost use Rattle.isle_terms.specs.Definitions.{HasPlainTemplates};
+ghost use Rattle.isle_terms.specs.Inside.Collecting.DeclaredTerms.{IsShownForm, NamesUnknownType, OneNamesUnknownType, IsLargeAt, IsOneLargeAt, IsAlone};
+ghost use Rattle.isle_terms.specs.Inside.Collecting.DeclaredTerms.{AddsDeclaredTerm, AreDeclaredTerms};
+ghost use Rattle.isle_terms.specs.Inside.Collecting.Checks.{Checks};
+ghost use Rattle.isle_terms.specs.Inside.Collecting.ExtractorChecks.{Adds};
 ghost use Rattle.isle_types.specs.TypeFaults.{IsTypeFault, IsSizeFault};
 ghost use Rattle.isle_syntax.specs.Trees.PatternShape.{pattern_of};
 ghost use Rattle.isle_syntax.specs.Trees.TreeCalls.{has_macro_arg};

@@ -1,3 +1,4 @@
+//! The terms of types: one for each variant of an enum, and one for each struct.
 ghost use Rattle.std.specs.Prelude.{◌≡◌, ℕ, List, length, IfOk, OnOk};
 ghost use Rattle.isle_types.specs.declared.types.BuiltinType.{BuiltinType};
 ghost use Rattle.isle_types.specs.declared.types.«Type».TheVariants.{Builtin};
@@ -7,7 +8,7 @@ ghost use Rattle.isle_types.specs.Environment.{Environment, NamedType, NamedVari
 ghost use Rattle.isle_types.specs.TypeEnvs.{Shows, IsShown, IsShownVariant, AreShownVariants, AreShownFields};
 ghost use Rattle.isle_terms.specs.Definitions.{terms_of_types, terms_of_shape, variant_terms};
 ghost use Rattle.isle_terms.specs.Shown.ShownTerms.{numbers_of};
-ghost use Rattle.isle_terms.specs.Collecting.DeclaredTerms.{IsShownTerm, AddsTerms, variant_signature};
+ghost use Rattle.isle_terms.specs.Inside.Collecting.DeclaredTerms.{IsShownTerm, AddsTerms, variant_signature};
 
 use crate::terms::{Term, TermKind};
 use isle_syntax::Seq;

@@ -1,7 +1,8 @@
+//! The variables of a rule so far, and the names that can be used.
 ghost use Rattle.std.specs.Prelude.{◌≡◌, [], ◌∷◌, true, false, length, map, drop, leb, IfOk, OnOk};
 ghost use Rattle.std.specs.Option.{option_map};
 ghost use Rattle.isle_terms.specs.Elaboration.{State, start, counted, bound, visible_in};
-ghost use Rattle.isle_terms.specs.Readings.Scopes.{bound_of, visible_at, variable_shown};
+ghost use Rattle.isle_terms.specs.Inside.Readings.Scopes.{bound_of, visible_at, variable_shown};
 
 use isle_syntax::Text;
 use isle_syntax::ast::Ident;
@@ -40,7 +41,7 @@ impl Model for Scope {
 
     ghost Value = { List Visible };
 
-    ghost use Rattle.isle_terms.specs.Readings.Scopes.{visible_shown, IsScope};
+    ghost use Rattle.isle_terms.specs.Inside.Readings.Scopes.{visible_shown, IsScope};
 
     ghost view = { λ scope. map visible_shown (reverse scope.names.items) };
 
@@ -126,7 +127,7 @@ impl Model for Bindings {
 
     ghost Value = { State };
 
-    ghost use Rattle.isle_terms.specs.Readings.Scopes.{variable_shown};
+    ghost use Rattle.isle_terms.specs.Inside.Readings.Scopes.{variable_shown};
 
     ghost view = { λ b. record {
       scope = b.scope;

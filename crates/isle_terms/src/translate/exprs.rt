@@ -1,19 +1,20 @@
+//! What expressions stand for: typed expressions, with converters put in where another type is expected.
 ghost use Rattle.std.specs.Prelude.{◌≡◌, ◌≤◌, true, false, length, map, drop, IfOk, IfErr, OnOk, OnErr};
 ghost use Rattle.std.specs.Option.{option_map};
 ghost use Rattle.isle_syntax.specs.Errors.{type_error, IfFault};
 ghost use Rattle.isle_syntax.specs.Trees.ExprShape.{expr_of, exprs_of, lets_of};
-ghost use Rattle.isle_terms.specs.TypedRules.{TypedBindings, built_bool, more_bindings};
+ghost use Rattle.isle_terms.specs.TypedRules.{TypedBindings, built_bool, more_typed_bindings};
 ghost use Rattle.isle_terms.specs.Elaboration.{State, visible_in, bool_number};
-ghost use Rattle.isle_terms.specs.Readings.Outcomes.{Outcome, stands_for, and_then, only_if, is_expected, each_expr, call, repair_expr};
-ghost use Rattle.isle_terms.specs.Readings.Outcomes.{read_expr_use};
-ghost use Rattle.isle_terms.specs.Readings.Outcomes.{call_number, read_variable, read_integer, read_constant, bind_value, bind_values, expr_node};
-ghost use Rattle.isle_terms.specs.Readings.Outcomes.{read_expr};
-ghost use Rattle.isle_terms.specs.Readings.Outcomes.{fitting_wanted};
+ghost use Rattle.isle_terms.specs.Inside.Readings.Outcomes.{Outcome, stands_for, and_then, only_if, is_expected, each_expr, call, repair_expr};
+ghost use Rattle.isle_terms.specs.Inside.Readings.Outcomes.{read_expr_use};
+ghost use Rattle.isle_terms.specs.Inside.Readings.Outcomes.{call_number, read_variable, read_integer, read_constant, bind_value, bind_values, expr_node};
+ghost use Rattle.isle_terms.specs.Inside.Readings.Outcomes.{read_expr};
+ghost use Rattle.isle_terms.specs.Inside.Readings.Outcomes.{fitting_wanted};
 ghost use Rattle.isle_terms.specs.Shown.ShownTerms.{flags_shown, term_shown, numbers_of};
 ghost use Rattle.isle_terms.specs.Shown.ShownRules.{built_shown, built_list, binding_list, expr_limit, greatest, greatest_of_values};
-ghost use Rattle.isle_terms.specs.Readings.Failures.{Fails, IsErrorAt};
-ghost use Rattle.isle_terms.specs.Readings.Contexts.{known_in, numbered_shown, expected};
-ghost use Rattle.isle_terms.specs.Readings.ExprReadings.{is_call, read_let, binding_shown, binding_limit};
+ghost use Rattle.isle_terms.specs.Inside.Readings.Failures.{Fails, IsErrorAt};
+ghost use Rattle.isle_terms.specs.Inside.Readings.Contexts.{known_in, numbered_shown, expected};
+ghost use Rattle.isle_terms.specs.Inside.Readings.ExprReadings.{is_call, read_let, binding_shown, binding_limit};
 
 use super::Context;
 use super::bindings::Bindings;
@@ -461,7 +462,7 @@ fn translate_def(
         (read_expr (known_in context.now) (flags_shown caller) context.now.max_nodes levels)
         def.now.ty.1 ((known_in context.now).type_named def.now.ty.0) def.now.var.0 (expr_of def.now.val) next bindings.old
         ≡ and_then (next bindings.new)
-        (λ others s. stands_for (more_bindings made.0.0 made.1.0 (built_shown context.now.tyenv.now.names made.2) others) s)) }
+        (λ others s. stands_for (more_typed_bindings made.0.0 made.1.0 (built_shown context.now.tyenv.now.names made.2) others) s)) }
     ensures err { IfErr result (λ e. (next : State → Outcome TypedBindings) → Fails context.now.rule (bind_value
         (read_expr (known_in context.now) (flags_shown caller) context.now.max_nodes levels)
         def.now.ty.1 ((known_in context.now).type_named def.now.ty.0) def.now.var.0 (expr_of def.now.val) next bindings.old) e) }

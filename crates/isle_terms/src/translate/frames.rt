@@ -1,9 +1,10 @@
+//! Parts of templates with what is given for the arguments, and how many arguments a template needs.
 ghost use Rattle.std.specs.Prelude.{◌≡◌, ◌≤◌, true, [], map, IfOk};
 ghost use Rattle.isle_syntax.specs.Trees.PatternShape.{pattern_of, patterns_of};
 ghost use Rattle.isle_syntax.specs.Trees.PatternTree.{pattern_list};
-ghost use Rattle.isle_syntax.specs.Trees.Innermost.{innermost};
+ghost use Rattle.isle_syntax.specs.Inside.Trees.Innermost.{innermost};
 ghost use Rattle.isle_terms.specs.Readings.Needs.{needed, all_needed};
-ghost use Rattle.isle_terms.specs.Readings.Frames.{put, put_all, tree_given, is_argument, template_at};
+ghost use Rattle.isle_terms.specs.Inside.Readings.Frames.{put, put_all, tree_given, is_argument, template_at};
 
 use isle_syntax::ast::Pattern;
 use std::alloc::{AllocError, Global};

@@ -1,7 +1,7 @@
 //! What the type errors of rules say: names, types and counts.
 ghost use Rattle.std.specs.Prelude.{◌≡◌};
 ghost use Rattle.isle_syntax.specs.Errors.{type_error, IfFault, IsFaultAnd, error_kind, spans_of};
-ghost use Rattle.isle_terms.specs.Readings.Failures.{IsErrorAt};
+ghost use Rattle.isle_terms.specs.Inside.Readings.Failures.{IsErrorAt};
 
 mod places;
 mod texts;

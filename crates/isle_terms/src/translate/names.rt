@@ -1,13 +1,14 @@
+//! Terms, constants and converters by their names, ids and types, and how a term may be used in a rule.
 ghost use Rattle.std.specs.Prelude.{◌≡◌, ℕ, ◌<◌, List, Some, None, length, slice_get, IfSome, if◌then◌else◌};
 ghost use Rattle.std.specs.Option.{option_map};
 ghost use Rattle.isle_syntax.specs.Errors.{type_error, size_error, IfFault};
 ghost use Rattle.isle_types.specs.TypeTables.{name_at};
 ghost use Rattle.isle_terms.specs.Signatures.{flags_of};
 ghost use Rattle.isle_terms.specs.Elaboration.{may_call};
-ghost use Rattle.isle_terms.specs.Readings.Outcomes.{takes_just, fitting, fitting_term};
+ghost use Rattle.isle_terms.specs.Inside.Readings.Outcomes.{takes_just, fitting, fitting_term};
 ghost use Rattle.isle_terms.specs.Shown.ShownTerms.{flags_shown, form_shown, term_shown, numbers_of, known_has_number};
-ghost use Rattle.isle_terms.specs.Readings.Failures.{IsErrorAt};
-ghost use Rattle.isle_terms.specs.Readings.Contexts.{known_in, usable_in, numbered_shown};
+ghost use Rattle.isle_terms.specs.Inside.Readings.Failures.{IsErrorAt};
+ghost use Rattle.isle_terms.specs.Inside.Readings.Contexts.{known_in, usable_in, numbered_shown};
 
 use super::Context;
 use crate::terms::{Term, TermFlags, TermKind};

@@ -1,3 +1,4 @@
+//! What patterns stand for: typed patterns, with templates and converters put in.
 ghost use Rattle.std.specs.Prelude.{◌≡◌, ◌≤◌, ◌==◌, true, false, Some, None, length, map, ltb, IfOk, IfErr};
 ghost use Rattle.std.specs.Option.{option_map};
 ghost use Rattle.isle_syntax.specs.Trees.PatternShape.{pattern_of, patterns_of};
@@ -5,16 +6,16 @@ ghost use Rattle.isle_syntax.specs.Trees.PatternTree.{pattern_term, pattern_list
 ghost use Rattle.isle_terms.specs.TypedRules.{typed_bool, typed_int};
 ghost use Rattle.isle_terms.specs.Signatures.{Signature, template_of, has_extractor_form};
 ghost use Rattle.isle_terms.specs.Elaboration.{State, bool_number, visible_in, each_at};
-ghost use Rattle.isle_terms.specs.Readings.Outcomes.{stands_for, only_if, use_name, bind_name, use_constant, template_in, extract, fitting};
-ghost use Rattle.isle_terms.specs.Readings.Outcomes.{repair_pattern, use_number, each_pattern, read_pattern};
+ghost use Rattle.isle_terms.specs.Inside.Readings.Outcomes.{stands_for, only_if, use_name, bind_name, use_constant, template_in, extract, fitting};
+ghost use Rattle.isle_terms.specs.Inside.Readings.Outcomes.{repair_pattern, use_number, each_pattern, read_pattern};
 ghost use Rattle.isle_terms.specs.Shown.ShownTerms.{numbers_of, term_shown};
 ghost use Rattle.isle_terms.specs.Shown.ShownRules.{typed_list, typed_shown, pattern_limit, greatest};
-ghost use Rattle.isle_terms.specs.Readings.Failures.{Fails};
-ghost use Rattle.isle_terms.specs.Readings.Contexts.{known_in, numbered_shown};
-ghost use Rattle.isle_terms.specs.Readings.Frames.{put_all, tree_given, trees_given, is_argument, template_at};
-ghost use Rattle.isle_terms.specs.Readings.PatternReading.{reads_in, uses_in, node_in, all_of_type, IsRead, AreRead, HasKnownSymbols};
-ghost use Rattle.isle_terms.specs.Readings.PatternReading.{HaveKnownSymbols};
-ghost use Rattle.isle_terms.specs.Readings.PatternReading.{needed_in};
+ghost use Rattle.isle_terms.specs.Inside.Readings.Failures.{Fails};
+ghost use Rattle.isle_terms.specs.Inside.Readings.Contexts.{known_in, numbered_shown};
+ghost use Rattle.isle_terms.specs.Inside.Readings.Frames.{put_all, tree_given, trees_given, is_argument, template_at};
+ghost use Rattle.isle_terms.specs.Inside.Readings.PatternReading.{reads_in, uses_in, node_in, all_of_type, IsRead, AreRead, HasKnownSymbols};
+ghost use Rattle.isle_terms.specs.Inside.Readings.PatternReading.{HaveKnownSymbols};
+ghost use Rattle.isle_terms.specs.Inside.Readings.PatternReading.{needed_in};
 
 use super::Context;
 use super::bindings::Bindings;

@@ -1,13 +1,14 @@
+//! What a rule stands for: the typed patterns of its arguments, its conditions and its right side.
 ghost use Rattle.std.specs.Prelude.{◌≡◌, ◌≤◌, length, map, IfOk, IfErr};
 ghost use Rattle.isle_syntax.specs.Trees.PatternShape.{patterns_of};
-ghost use Rattle.isle_terms.specs.Readings.Outcomes.{stands_for};
-ghost use Rattle.isle_terms.specs.Readings.RuleOutcomes.{read_conditions, read_rule};
+ghost use Rattle.isle_terms.specs.Inside.Readings.Outcomes.{stands_for};
+ghost use Rattle.isle_terms.specs.Inside.Readings.RuleOutcomes.{read_conditions, read_rule};
 ghost use Rattle.isle_terms.specs.Shown.ShownTerms.{flags_shown, term_shown};
 ghost use Rattle.isle_terms.specs.Shown.ShownRules.{iflet_shown, greatest};
-ghost use Rattle.isle_terms.specs.Readings.Failures.{Fails};
-ghost use Rattle.isle_terms.specs.Readings.Contexts.{known_in};
+ghost use Rattle.isle_terms.specs.Inside.Readings.Failures.{Fails};
+ghost use Rattle.isle_terms.specs.Inside.Readings.Contexts.{known_in};
 ghost use Rattle.isle_terms.specs.Shown.RulesShown.{parts_shown, parts_limit, iflet_limit};
-ghost use Rattle.isle_terms.specs.Readings.ConditionReading.{read_condition};
+ghost use Rattle.isle_terms.specs.Inside.Readings.ConditionReading.{read_condition};
 
 use super::Context;
 use super::bindings::Bindings;

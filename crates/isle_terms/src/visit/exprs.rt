@@ -1,3 +1,4 @@
+//! Visits of typed expressions, which tell a visitor how values are made.
 ghost use Rattle.std.specs.Prelude.{◌≡◌, []};
 ghost use Rattle.isle_terms.specs.Visits.Runs.{asks, on_some, stuck, listed};
 ghost use Rattle.isle_terms.specs.Visits.VisitScopes.{scope_of, scope_left};

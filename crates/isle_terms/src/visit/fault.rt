@@ -1,3 +1,4 @@
+//! Faults that end a visit early: no room, something that isn't defined, or no memory.
 ghost use Rattle.std.specs.Prelude.{◌≡◌};
 ghost use Rattle.isle_terms.specs.declared.visit.fault.VisitFault.TheVariants.{Memory};
 

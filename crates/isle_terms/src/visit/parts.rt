@@ -1,3 +1,4 @@
+//! Patterns and expressions of a rule that a visitor is still to visit, with the variables that they can use.
 ghost use Rattle.isle_terms.specs.Visits.Runs.{answered};
 ghost use Rattle.isle_terms.specs.Visits.VisitScopes.{scope_of, scope_left};
 ghost use Rattle.isle_terms.specs.Visits.InternedTrees.{pattern_of};

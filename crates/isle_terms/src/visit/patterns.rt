@@ -1,3 +1,4 @@
+//! Visits of typed patterns, which tell a visitor what values are to fit, and bind variables.
 ghost use Rattle.std.specs.Prelude.{◌≡◌, IfOk, IfErr};
 ghost use Rattle.isle_terms.specs.declared.visit.fault.VisitFault.TheVariants.{Memory};
 ghost use Rattle.isle_terms.specs.Visits.Runs.{asks, on_some, stuck, listed};

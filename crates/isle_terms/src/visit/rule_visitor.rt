@@ -1,3 +1,4 @@
+//! The trait of visitors of rules: what one is told of arguments, patterns and expressions.
 ghost use Rattle.isle_terms.specs.Visits.VisitScopes.{scope_of, scope_left};
 ghost use Rattle.isle_terms.specs.Visits.InternedTrees.{pattern_of};
 ghost use Rattle.isle_terms.specs.Visits.Events.{visits};

@@ -1,3 +1,4 @@
+//! Visits of typed rules: of their arguments, then of their conditions, then of their right sides.
 ghost use Rattle.std.specs.Prelude.{length};
 ghost use Rattle.isle_terms.specs.Visits.VisitScopes.{scope_of, scope_left, with_scope, no_values};
 ghost use Rattle.isle_terms.specs.Visits.RuleEvents.{visits_var, visits_vars, visits_part, visits_args, visits_value, visits_iflets};

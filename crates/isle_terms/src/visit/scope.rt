@@ -1,3 +1,4 @@
+//! Variables that are bound while a visit goes on, with their values.
 ghost use Rattle.std.specs.Prelude.{◌≡◌, IfOk, OnOk, IfErr};
 ghost use Rattle.isle_terms.specs.declared.visit.fault.VisitFault.TheVariants.{Memory};
 ghost use Rattle.isle_terms.specs.Visits.VisitScopes.{scope_of, bound};

@@ -1,3 +1,4 @@
+//! The traits of visitors of patterns and of expressions, with a call for each thing that one is told.
 ghost use Rattle.std.specs.Prelude.{List};
 ghost use Rattle.isle_terms.specs.Visits.Runs.{Run, silent, listed};
 ghost use Rattle.isle_terms.specs.Visits.VisitorCalls.{PatternCall, match_equal, match_bool, match_int, match_prim};

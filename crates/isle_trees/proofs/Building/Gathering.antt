@@ -4,7 +4,7 @@ use Rattle.std.proofs.lemmas.List.{append-nil, take_more, take_all, get_or-set_s
 use Rattle.std.specs.List.{filter}
 use Rattle.isle_trees.specs.Bag.{IsAscending, IsSameBag}
 use Rattle.isle_trees.specs.Builds.{IsOrder}
-use Rattle.isle_trees.specs.Gathering.{IsGathering, Gathers, IsClosure}
+use Rattle.isle_trees.specs.Inside.Gathering.{IsGathering, Gathers, IsClosure}
 use Rattle.isle_trees.specs.Ranking.{PartsAreLower, Emits}
 use Rattle.isle_trees.specs.Rules.{Want, Rules, Elem, IsPartOf, Asked}
 use Rattle.isle_trees.specs.Scopes.{Scope, emit, emit_all}

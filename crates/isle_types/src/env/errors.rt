@@ -1,3 +1,4 @@
+//! Type errors and size errors at positions, and those that an environment of types keeps.
 ghost use Rattle.std.specs.Prelude.{◌≡◌, [], ◌∷◌, ◌++◌, IfErr, OnOk, OnErr};
 ghost use Rattle.isle_syntax.specs.declared.error.Error.TheVariants.{TypeError, SizeError};
 ghost use Rattle.isle_syntax.specs.Errors.{size_error, error_kind, IfFault, IsFaultAnd, span_at};

@@ -1,3 +1,4 @@
+//! The type that a definition makes, with its variants and fields, or the first fault of the definition.
 ghost use Rattle.std.specs.Prelude.{◌≡◌, ◌<◌, ◌≤◌, ℕ, List, Some, None, map, slice_get, IfOk, IfErr, OnOk, MatchOption};
 ghost use Rattle.std.specs.List.{AllZip};
 ghost use Rattle.isle_syntax.specs.declared.ast.StructField.{StructField as StructFieldTree};
@@ -9,9 +10,9 @@ ghost use Rattle.isle_types.specs.Types.{id_of};
 ghost use Rattle.isle_types.specs.Names.{AreDistinct, IsDuplicate};
 ghost use Rattle.isle_types.specs.Environment.{MayBeMarked, HasAllowedSize, HaveAllowedSizes, field_count};
 ghost use Rattle.isle_types.specs.TypeEnvs.{type_of_name, HasMoreNames};
-ghost use Rattle.isle_types.specs.Readings.{HasTypeNames, ReadsType, ReadsFields, ReadsTupleFields, ReadsFieldList, ReadsVariant, ReadsVariants};
-ghost use Rattle.isle_types.specs.Readings.{IsDefinitionFault, IsVariantsFault, IsFieldsFault, IsStructFieldsFault, IsTupleFieldsFault};
-ghost use Rattle.isle_types.specs.Readings.{IsTypeErrorAt, IsSizeErrorAt};
+ghost use Rattle.isle_types.specs.Inside.Readings.{HasTypeNames, ReadsType, ReadsFields, ReadsTupleFields, ReadsFieldList, ReadsVariant, ReadsVariants};
+ghost use Rattle.isle_types.specs.Inside.Readings.{IsDefinitionFault, IsVariantsFault, IsFieldsFault, IsStructFieldsFault, IsTupleFieldsFault};
+ghost use Rattle.isle_types.specs.Inside.Readings.{IsTypeErrorAt, IsSizeErrorAt};
 
 use super::TypeEnv;
 use crate::ids::{FieldId, Sym, TypeId, VariantId};

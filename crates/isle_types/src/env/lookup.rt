@@ -1,3 +1,4 @@
+//! What is looked up in an environment of types by name or by id, and names that are interned there.
 ghost use Rattle.std.specs.Option.{option_copied, option_and_then};
 ghost use Rattle.std.specs.Prelude.{◌≡◌, ℕ, [], List, Some, IsSome, unwrap_or, IfOk, OnOk, OnErr, slice_get, map, string_bytes};
 ghost use Rattle.isle_types.specs.Names.{with_name, AreDistinct};

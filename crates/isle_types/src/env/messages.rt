@@ -3,7 +3,7 @@ ghost use Rattle.std.specs.Prelude.{◌≡◌, ◌⊎◌, ℕ, [], ◌∷◌, �
 ghost use Rattle.isle_syntax.specs.declared.error.Error.TheVariants.{TypeError};
 ghost use Rattle.isle_syntax.specs.Errors.{type_error, error_kind, spans_of, IfFault, span_at};
 ghost use Rattle.isle_types.specs.TypeEnvs.{type_of_name};
-ghost use Rattle.isle_types.specs.Readings.{IsTypeErrorAt};
+ghost use Rattle.isle_types.specs.Inside.Readings.{IsTypeErrorAt};
 
 use super::TypeEnv;
 use crate::ids::TypeId;

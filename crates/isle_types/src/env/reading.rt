@@ -1,3 +1,4 @@
+//! Environments of types read from definitions: names first, then types, then constants.
 ghost use Rattle.std.specs.Prelude.{◌≡◌, ◌⊎◌, ◌<◌, ℕ, [], ◌∷◌, ◌++◌, List, All, Some, None, length, map, IfOk, IfErr, OnOk, MatchOption, is_none};
 ghost use Rattle.std.specs.Prelude.{if◌then◌else◌, bytes_eq};
 ghost use Rattle.isle_syntax.specs.Positions.Files.{SourceFile};
@@ -12,7 +13,7 @@ ghost use Rattle.isle_types.specs.Environment.{constant_definitions};
 ghost use Rattle.isle_types.specs.TypeFaults.{AreFaultsOf};
 ghost use Rattle.isle_types.specs.TypeTables.{no_tables};
 ghost use Rattle.isle_types.specs.TypeEnvs.{type_of_constant, HasPrintablePositions, Shows, IsEnvironmentOf};
-ghost use Rattle.isle_types.specs.Readings.{HasTypeNames, HasReadTypes, ReadsConstants, AreTypeFaults, IsLoneSizeFault};
+ghost use Rattle.isle_types.specs.Inside.Readings.{HasTypeNames, HasReadTypes, ReadsConstants, AreTypeFaults, IsLoneSizeFault};
 
 use super::TypeEnv;
 use crate::ids::TypeId;

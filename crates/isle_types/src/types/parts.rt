@@ -1,3 +1,4 @@
+//! Copies of types, and of their variants and fields.
 use crate::types::{Fields, StructFields, TupleFields, Type, Variant};
 use std::alloc::AllocError;
 

@@ -16,7 +16,7 @@ use Rattle.isle_blocks.specs.declared.constraint.Constraint.{Constraint}
 use Rattle.isle_blocks.specs.declared.constraint.Constraint.TheVariants as tests
 use Rattle.isle_blocks.specs.declared.rule.Rule.{Rule}
 use Rattle.isle_blocks.specs.Orders.{constraint_order}
-use Rattle.isle_blocks.specs.FaultKeys.{Key, key_order, test_at, AreKeys, MayMeet}
+use Rattle.isle_blocks.specs.Inside.FaultKeys.{Key, key_order, test_at, AreKeys, MayMeet}
 use Rattle.isle_blocks.proofs.Counting.{place_of, stands_at}
 use Rattle.isle_blocks.proofs.EqualTests.{constraint-decides}
 

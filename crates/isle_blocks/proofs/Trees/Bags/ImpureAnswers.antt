@@ -22,7 +22,7 @@ use Rattle.isle_meaning.specs.Words.{Step, word_of, steps_of}
 use Rattle.isle_meaning.proofs.Chains.Causing.{Causal, steps_are_causal, get_append, get_last, length_more}
 use Rattle.isle_meaning.proofs.Matching.Later.{all_later}
 use Rattle.isle_meaning.proofs.Sites.Functional.{site_known}
-use Rattle.isle_meaning.proofs.Sites.Parts.{of_part, of_whole, of_one}
+use Rattle.isle_meaning.proofs.Sites.Parts.{part_of, of_whole, of_one}
 use Rattle.isle_meaning.proofs.Sites.Pure.{demands_are_pure}
 use Rattle.isle_meaning.proofs.Sites.Steps.{Placed, placed_append, placed_at, steps_placed, IsCallOf, word_steps, words_steps}
 use Rattle.isle_meaning.proofs.SoundPrograms.PureCalls.{steps_pure}
@@ -237,10 +237,10 @@ module _ (facts : TermFacts) (rule : TypedRule) (pure : IfLetsArePure facts rule
   asked_own : (s : Site) → IsAskedSite facts rule s ⊎ (s ≡ own_result facts rule) → OwnCalls s
   asked_own s (inl (inl (d, e, spoken))) = spoken_own d s ((demands_are_pure facts rule pure).0 d e) spoken
   asked_own s (inl (inr (inl n))) =
-      of_part (λ (u : Site). IsImpureCall u → IsCallOf facts its_vars its_steps u) (iterator s) s
+      part_of (λ (u : Site). IsImpureCall u → IsCallOf facts its_vars its_steps u) (iterator s) s
       (logged_own (iterator s) (needed_logged facts rule pure vars_pure (iterator s) n)) (inl refl)
   asked_own s (inl (inr (inr e))) =
-      of_part (λ (u : Site). IsImpureCall u → IsCallOf facts its_vars its_steps u) (iterator s) s (subst OwnCalls (sym e) result_own) (inl refl)
+      part_of (λ (u : Site). IsImpureCall u → IsCallOf facts its_vars its_steps u) (iterator s) s (subst OwnCalls (sym e) result_own) (inl refl)
   asked_own s (inr e) = subst OwnCalls (sym e) result_own
 
   -- In all that the rule asks, and in its result, impure calls are answered as functions answer them.

@@ -4,8 +4,8 @@ use Rattle.std.proofs.Common.{subst, ◌∙◌}
 use Rattle.std.proofs.lemmas.Option.{none-some}
 use Rattle.isle_terms.specs.TypedRules.{TypedPattern, typed_bind, typed_var, typed_bool, typed_int, typed_prim, typed_term, typed_wildcard}
 use Rattle.isle_terms.specs.TypedRules.{typed_and, TypedPatterns, no_typed, more_typed, TypedExpr, built_var, built_bool, built_int}
-use Rattle.isle_terms.specs.TypedRules.{built_prim, built_term, built_let, TypedExprs, no_built, more_built, TypedBindings, no_bindings}
-use Rattle.isle_terms.specs.TypedRules.{more_bindings, TypedIfLet, TypedRule}
+use Rattle.isle_terms.specs.TypedRules.{built_prim, built_term, built_let, TypedExprs, no_built, more_built, TypedBindings, no_typed_bindings}
+use Rattle.isle_terms.specs.TypedRules.{more_typed_bindings, TypedIfLet, TypedRule}
 use Rattle.isle_meaning.specs.AboutSites.ImpureCalls.{IsImpureCall, IsPure, IfLetsArePure}
 use Rattle.isle_meaning.specs.AboutSites.Parts.{IsOneOf}
 use Rattle.isle_meaning.specs.Demands.{parts, bound, iflet_site, args_bound, vars_of, impure_of, nothing}
@@ -20,7 +20,7 @@ use Rattle.isle_meaning.specs.Words.{var_word, set}
 use Rattle.isle_meaning.proofs.Chains.Causing.{get_append, get_last}
 use Rattle.isle_meaning.proofs.Matching.Visited.{visited}
 use Rattle.isle_meaning.proofs.Sites.Carried.{parts_carried, pattern_carries, patterns_carry}
-use Rattle.isle_meaning.proofs.Sites.Parts.{OfSubtrees, of_whole, of_one, EachSite, each_append, each_needed}
+use Rattle.isle_meaning.proofs.Sites.Parts.{OfSubtrees, of_whole, of_one, EachSite, sites_append, each_needed}
 use Rattle.isle_meaning.proofs.Sites.Pure.{pure_carried}
 
 -- one of two lists' sites
@@ -97,7 +97,7 @@ module _ (facts : TermFacts) where
   -- a constant, or made data
   one_left : (old : Log) (log : Log) (s : Site) → Extends old.impure log.impure → IsLogged log.impure s → EachSite (IsLogged log.impure) log.needed
       → Left old s (need (s ∷ []) log)
-  one_left old log s f h g = (f, h, each_append (IsLogged log.impure) log.needed (s ∷ []) g (h, tt))
+  one_left old log s f h g = (f, h, sites_append (IsLogged log.impure) log.needed (s ∷ []) g (h, tt))
 
   -- a call
   called_left : (b : Bool) (t : ℕ) (old : Log) (r : Sites × Log) → LeftAll old (r.0) (r.1) → Left old ((called facts b t r).0) ((called facts b t r).1)
@@ -106,7 +106,7 @@ module _ (facts : TermFacts) where
       let call : IsLogged calls (constructor_call t (r.0) zero) =
       of_whole (HasNumber calls) (constructor_call t (r.0) zero) (λ u us i e. absurd cc) h in
       let (a, n) = answer_logged (facts.multi t) (facts.partial t) calls (constructor_call t (r.0) zero) call in
-      (f, a, each_append (IsLogged calls) (r.1.needed) _ g n)
+      (f, a, sites_append (IsLogged calls) (r.1.needed) _ g n)
   called_left false t old r (f, h, g) =
       let calls = r.1.impure in let last = answer t (r.0) (suc (length calls)) in
       let new = calls ++ last ∷ [] in
@@ -115,7 +115,7 @@ module _ (facts : TermFacts) where
       of_whole (HasNumber new) (constructor_call t (r.0) (suc (length calls))) (last_logged calls t (r.0))
       (λ u m. logged_more calls new u more (h u m)) in
       let (a, n) = answer_logged (facts.multi t) (facts.partial t) new (constructor_call t (r.0) (suc (length calls))) call in
-      (λ i s e. more i s (f i s e), a, each_append (IsLogged new) (r.1.needed) _ (each_more calls new (r.1.needed) more g) n)
+      (λ i s e. more i s (f i s e), a, sites_append (IsLogged new) (r.1.needed) _ (each_more calls new (r.1.needed) more g) n)
 
   -- a term
   applied_left : (shape : TermShape) (ty t : ℕ) (old : Log) (r : Sites × Log) → LeftAll old (r.0) (r.1)
@@ -182,8 +182,8 @@ module _ (facts : TermFacts) where
         → Extends log.impure ((visit_lets facts vars log bs).1.impure)
         × AllLogged ((visit_lets facts vars log bs).1.impure) ((visit_lets facts vars log bs).0)
         × EachSite (IsLogged ((visit_lets facts vars log bs).1.impure)) ((visit_lets facts vars log bs).1.needed)
-    lets_left no_bindings vars log v h = (λ i s e. e, v, h)
-    lets_left (more_bindings k ty e bs) vars log v h =
+    lets_left no_typed_bindings vars log v h = (λ i s e. e, v, h)
+    lets_left (more_typed_bindings k ty e bs) vars log v h =
         let mid = (visit facts vars log e).1 in
         let (f, s, g) = visit_left e vars log v h in
         let (l, w, n) = lets_left bs (set vars k ((visit facts vars log e).0)) mid
@@ -231,7 +231,7 @@ module _ (facts : TermFacts) where
   open_pure declared_shape t n s h =
       let c = call_pure t s h in
       let (a, b) = extract_pure (facts.multi t) (facts.infallible t) (extractor_call t s) c in
-      (c, each_append IsPure (extract_needs (facts.multi t) (facts.infallible t) (extractor_call t s)) _ a (outputs_pure n _ b))
+      (c, sites_append IsPure (extract_needs (facts.multi t) (facts.infallible t) (extractor_call t s)) _ a (outputs_pure n _ b))
 
   mutual
     -- what a pattern needs, and its calls
@@ -243,7 +243,7 @@ module _ (facts : TermFacts) where
     pattern_pure (typed_prim ty n) s h = (tt, tt)
     pattern_pure (typed_term ty t ps) s h =
         let (a, b) = patterns_pure ps (parts facts (facts.shape t) t (patterns ps) s) (parts_pure (facts.shape t) t (patterns ps) s h) in (
-          each_append IsPure (open_needs facts (facts.shape t) t (patterns ps) s) _ (open_pure (facts.shape t) t (patterns ps) s h) a,
+          sites_append IsPure (open_needs facts (facts.shape t) t (patterns ps) s) _ (open_pure (facts.shape t) t (patterns ps) s h) a,
           (term_pure (facts.shape t) t s h, b),
         )
     pattern_pure (typed_wildcard ty) s h = (tt, tt)
@@ -254,13 +254,13 @@ module _ (facts : TermFacts) where
     patterns_pure no_typed at h = (tt, tt)
     patterns_pure (more_typed p ps) at h =
         let (a, b) = pattern_pure p (at 0) (h 0) in
-        let (c, d) = patterns_pure ps (λ i. at (suc i)) (λ i. h (suc i)) in (each_append IsPure (needs facts p (at 0)) _ a c, (b, d))
+        let (c, d) = patterns_pure ps (λ i. at (suc i)) (λ i. h (suc i)) in (sites_append IsPure (needs facts p (at 0)) _ a c, (b, d))
 
   -- the arguments and their patterns
   args_pure : (ps : TypedPatterns) (i : ℕ) → EachSite IsPure (args_needs facts ps i)
   args_pure no_typed i = tt
   args_pure (more_typed p ps) i =
-      (pure_carried.argument i, each_append IsPure (needs facts p (argument i)) _ ((pattern_pure p (argument i) (pure_carried.argument i)).0) (args_pure ps (suc i)))
+      (pure_carried.argument i, sites_append IsPure (needs facts p (argument i)) _ ((pattern_pure p (argument i) (pure_carried.argument i)).0) (args_pure ps (suc i)))
 
   -- each without impure calls
   each_pure : (ss : List Site) → EachSite (IsLogged []) ss → EachSite IsPure ss
@@ -280,8 +280,8 @@ module _ (facts : TermFacts) where
       (subst (λ (calls : List Site). EachSite (IsLogged calls) ((visit facts vars no_log x.value).1.needed)) none g) in
       let (a, b) = pattern_pure x.pattern site pure in
       let next = (pattern_carries facts IsPure pure_carried x.pattern site vars b v pure).1 in
-      each_append IsPure ((visit facts vars no_log x.value).1.needed) _ all
-      (each_append IsPure (needs facts x.pattern site) _ a (iflets_pure xs (bound facts x.pattern site vars) next (h.1)))
+      sites_append IsPure ((visit facts vars no_log x.value).1.needed) _ all
+      (sites_append IsPure (needs facts x.pattern site) _ a (iflets_pure xs (bound facts x.pattern site vars) next (h.1)))
 
   module _ (rule : TypedRule) (pure : IfLetsArePure facts rule.iflets) where
     -- the variables after the arguments

@@ -13,7 +13,7 @@ use Rattle.isle_meaning.specs.Held.{held_value}
 use Rattle.isle_meaning.specs.Numbered.{At}
 use Rattle.isle_meaning.specs.Values.{bool_value, constant_value}
 use Rattle.isle_blocks.specs.declared.binding.Binding.{Binding}
-use Rattle.isle_blocks.specs.ClosureFields.{IsTable}
+use Rattle.isle_blocks.specs.Tables.{IsTable}
 use Rattle.isle_blocks.specs.Rows.{IsInjective, rows_of}
 use Rattle.isle_blocks.specs.Trees.Compare.{same_name, same_bool}
 use Rattle.isle_blocks.specs.Trees.SiteTrees.{tree_of}

@@ -5,7 +5,7 @@ use Rattle.std.proofs.Common.{subst, arith}
 use Rattle.std.proofs.lemmas.Option.{same_Some, none-some}
 use Rattle.isle_types.specs.declared.ids.Sym.{Sym}
 use Rattle.isle_terms.specs.TypedRules.{TypedRule, typed_bind, typed_wildcard, no_typed, more_typed, built_int, built_term, built_let, no_built}
-use Rattle.isle_terms.specs.TypedRules.{more_built, no_bindings, more_bindings}
+use Rattle.isle_terms.specs.TypedRules.{more_built, no_typed_bindings, more_typed_bindings}
 use Rattle.isle_meaning.specs.Got.{fails, gives}
 use Rattle.isle_meaning.specs.Values.{Value, Values, int_value, no_values, more_values}
 use Rattle.isle_meaning.specs.Facts.{TermFacts, declared_shape}
@@ -65,7 +65,7 @@ rule base = record base {
   args = more_typed (typed_bind 1 0 (typed_wildcard 1)) no_typed;
   iflets = record {
     pattern = typed_wildcard 1;
-    value = built_let 1 (more_bindings 1 1 (built_term 1 1 (more_built (built_term 1 2 no_built) no_built)) no_bindings) (built_int 1 (pos 5));
+    value = built_let 1 (more_typed_bindings 1 1 (built_term 1 1 (more_built (built_term 1 2 no_built) no_built)) no_typed_bindings) (built_int 1 (pos 5));
   } ∷ [];
   right = built_int 1 (pos 7);
 }

@@ -1,14 +1,14 @@
 -- Which sites are made of a site.
 use Rattle.std.proofs.Common.{◌≡◌, ◌⊎◌, inl, inr, ℕ, ◌+◌, ◌<◌, ◌≤◌, List, [], ◌∷◌, Bool, true, false, length, refl, sym, subst, arith, get_or, take, eq-eqb}
 use Rattle.std.proofs.lemmas.List.{take_all}
-use Rattle.isle_trees.specs.Gathering.{IsGathering, Gathers}
+use Rattle.isle_trees.specs.Inside.Gathering.{IsGathering, Gathers}
 use Rattle.isle_trees.specs.Rules.{Rules, Elem}
 use Rattle.isle_trees.specs.Search.{IsAskedBy, added_at, is_marked}
 use Rattle.isle_trees.proofs.Asking.{elem_append}
 use Rattle.isle_trees.proofs.Basics.{clash, eq_or}
 use Rattle.isle_trees.proofs.Building.Gathering.{gathering_none}
 use Rattle.isle_trees.proofs.Building.Lists.{elem_left, elem_right, last_or, less_or, not_same}
-use Rattle.isle_blocks.specs.Trees.Marking.{AreDependents, ListsAt}
+use Rattle.isle_blocks.specs.Inside.Trees.Marking.{AreDependents, ListsAt}
 
 -- a site was added to the list at one place
 added_kept : (old new : List ℕ) (at s p x : ℕ) → new ≡ added_at old at s p → Elem x old → Elem x new

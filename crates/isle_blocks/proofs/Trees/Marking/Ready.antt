@@ -10,7 +10,7 @@ use Rattle.isle_trees.proofs.Building.Lists.{elem_below, elem_left, elem_right, 
 use Rattle.isle_trees.proofs.Building.Scopes.{get_past}
 use Rattle.isle_blocks.specs.declared.ids.BindingId.{BindingId}
 use Rattle.isle_blocks.specs.Rows.{numbers_of}
-use Rattle.isle_blocks.specs.Trees.Marking.{AreReady, IsPast, IsSpread, is_testable}
+use Rattle.isle_blocks.specs.Inside.Trees.Marking.{AreReady, IsPast, IsSpread, is_testable}
 use Rattle.isle_blocks.proofs.Trees.Marking.Spreading.{past_inside}
 
 -- a site that a rule tests has users

@@ -1,7 +1,7 @@
 -- A list of sites is gone over, which grows by what is made of them and can be bound.
 use Rattle.std.proofs.Common.{◌≡◌, ◌≢◌, ◌⊎◌, inl, inr, ℕ, zero, suc, ◌+◌, ◌<◌, ◌≤◌, ◌&&◌, not, ◌++◌, List, [], ◌∷◌, Bool, true, false, Option, Some, None, length, refl, sym, ◌∙◌, ap, subst, arith, get_or, set, drop, append_assoc, add-one}
 use Rattle.std.proofs.lemmas.List.{append-nil}
-use Rattle.isle_trees.specs.Gathering.{IsGathering}
+use Rattle.isle_trees.specs.Inside.Gathering.{IsGathering}
 use Rattle.isle_trees.specs.Rules.{Want, Source, Rules, Elem, Asked}
 use Rattle.isle_trees.specs.Scopes.{Scope, join, inside, IsAvailable}
 use Rattle.isle_trees.specs.Search.{AreMarked, AreSound, IsSamePath, all_marked, can_bind, is_made, is_marked}
@@ -11,7 +11,7 @@ use Rattle.isle_trees.proofs.Building.Enter.{available_still, marked_path, same_
 use Rattle.isle_trees.proofs.Building.Gathering.{gathering_none, gathers_new}
 use Rattle.isle_trees.proofs.Building.Lists.{elem_left, elem_right, not_same}
 use Rattle.isle_trees.proofs.Building.Marks.{bind_sound, made_full, made_sound, marked_old}
-use Rattle.isle_blocks.specs.Trees.Marking.{IsPast, IsSpread, Spreads}
+use Rattle.isle_blocks.specs.Inside.Trees.Marking.{IsPast, IsSpread, Spreads}
 
 not_false : (b : Bool) → not b ≡ false → b ≡ true
 not_false true e = refl

@@ -13,7 +13,7 @@ use Rattle.isle_meaning.specs.Sites.{Site, answer_site, constructor_call, iterat
 use Rattle.isle_meaning.specs.Values.{Value}
 use Rattle.isle_meaning.specs.Words.{Step, steps_of, word_of}
 use Rattle.isle_meaning.proofs.Chains.Causing.{Causal, get_append, steps_are_causal}
-use Rattle.isle_meaning.proofs.Sites.Parts.{EachSite, of_one, of_part, of_whole}
+use Rattle.isle_meaning.proofs.Sites.Parts.{EachSite, of_one, part_of, of_whole}
 use Rattle.isle_meaning.proofs.Sites.Pure.{demands_are_pure}
 use Rattle.isle_meaning.proofs.Sites.Steps.{IsCallOf, call_of, placed_at, steps_placed, word_steps, words_steps}
 use Rattle.isle_trees.specs.Rules.{Elem, IsPartOf, Rules, rights}
@@ -111,7 +111,7 @@ module _ (name : Sym → List ℕ) (facts : TermFacts) (sources : List source.Ru
       subst (λ (o : Option Rule). Elem u (read_or [] (λ (k : Rule). calls_at set.sites k.impure) o
       ++ read_or (length set.sites) (λ (k : Rule). k.result.0) o ∷ [])) at n in
       elim (elem_append u (calls_at set.sites r.impure) (r.result.0 ∷ []) n') [
-        | inl k ↦ calls_have name facts sources rules term set h Has (of_part (λ (z : Site). IsImpureCall z → IsCallOf facts vars steps z)) r.impure
+        | inl k ↦ calls_have name facts sources rules term set h Has (part_of (λ (z : Site). IsImpureCall z → IsCallOf facts vars steps z)) r.impure
             (impure_of facts rule) m.effects calls_have_own u k
         | inr k ↦ elim k [
           | inl q ↦ (_, subst (λ (z : ℕ). At rows (result_of facts (facts.partial rule.root) rule) z) (sym q) m.value, result_has)

@@ -13,7 +13,7 @@ use Rattle.isle_meaning.specs.Answers.{Completion, IsAllowed, answered}
 use Rattle.isle_meaning.specs.Demands.{some_of}
 use Rattle.isle_meaning.specs.Facts.{TermFacts}
 use Rattle.isle_meaning.specs.Held.{Held, construct_held, constructed, content_of, held_none, held_some, held_value, plain}
-use Rattle.isle_meaning.specs.Held.{several, value, values}
+use Rattle.isle_meaning.specs.Held.{several_of, value, values}
 use Rattle.isle_meaning.specs.Numbered.{Row, At, constructor_row}
 use Rattle.isle_meaning.specs.Numbered.{match_some_row}
 use Rattle.isle_meaning.specs.RightSides.{IsFailure, IsValue, on_answer, on_got}
@@ -215,7 +215,7 @@ module _ (name : Sym → List ℕ) (facts : TermFacts) (sources : List source.Ru
     call_given vs e =
         call_held
         ∙ ap (ask (construct_held facts c answers s.term (suc s.place))) (same_values (given_known (values facts c args before ss) (vs, e)) ∙ e)
-        ∙ chosen_false (facts.multi s.term) (several (c.constructs s.term vs))
+        ∙ chosen_false (facts.multi s.term) (several_of (c.constructs s.term vs))
         (constructed (facts.partial s.term) (answered (slice_get answers s.place))) single
         ∙ ap (λ (o : Option (Option Value)). constructed (facts.partial s.term) (answered o)) answer_is
 

@@ -2,7 +2,7 @@
 use Rattle.std.proofs.Common.{◌≡◌, ◌⊎◌, inl, inr, ℕ, zero, suc, ◌==◌, List, [], ◌∷◌, length, Bool, true, false, Option, Some, None, slice_get}
 use Rattle.std.proofs.Common.{refl, sym, ap, subst, ◌∙◌, arith, eqb-true}
 use Rattle.std.specs.Prelude.{if◌then◌else◌}
-use Rattle.isle_terms.specs.Values.{ValueTrees, no_values as no_trees, more_values as more_trees}
+use Rattle.isle_terms.specs.Values.{ValueTrees, no_trees, more_trees}
 use Rattle.isle_meaning.specs.Got.{Got, unknown, fails, gives}
 use Rattle.isle_meaning.specs.Values.{Value, bool_value, int_value, constant_value, made_variant, made_struct, Values, no_values}
 use Rattle.isle_meaning.specs.Values.{more_values, count, nth, more, made, built}
@@ -18,7 +18,7 @@ use Rattle.isle_meaning.specs.Sites.{Site, bool_site, int_site, prim_site, argum
 use Rattle.isle_meaning.specs.Sites.{make_variant, match_variant, make_struct, extract_struct, make_some, match_some, match_tuple}
 use Rattle.isle_meaning.specs.Sites.{Sites, no_sites, more_sites}
 use Rattle.isle_meaning.specs.Held.{Held, held_value, held_outputs, held_none, held_some, held, plain, outputs_of, extracted, constructed}
-use Rattle.isle_meaning.specs.Held.{extract_held, construct_held, several, variant_field, field_if, struct_field, output_of, value, values}
+use Rattle.isle_meaning.specs.Held.{extract_held, construct_held, several_of, variant_field, field_if, struct_field, output_of, value, values}
 use Rattle.isle_meaning.specs.Sorts.{Sort, plain_sort, tuple_sort, option_sort, list_sort, sort, of_outputs, extract_sort, construct_sort}
 use Rattle.isle_meaning.specs.Sorts.{inner_sort, output_sort, field_sort}
 use Rattle.isle_meaning.proofs.Calls.TypedValues.{none_typed, more_values_typed, values_parted}
@@ -183,7 +183,7 @@ module _ (p : CheckedProgram) (sound_data : HasSoundData p) (tys : List ℕ) (c 
   extract_typed true t v h single m e = absurd (let z : true ≡ false = sym m ∙ single in cc)
   extract_typed false t v h single m e =
       extracted_typed (facts.infallible t) t v (c.extract t v) h refl
-      (subst (λ (b : Bool). (if b then several (c.extracts t v) else extracted (facts.infallible t) (c.extract t v)) ≡ gives h) m e)
+      (subst (λ (b : Bool). (if b then several_of (c.extracts t v) else extracted (facts.infallible t) (c.extract t v)) ≡ gives h) m e)
 
   -- and a constructor's
   construct_typed : (b : Bool) (t i : ℕ) (ss : Sites) (vs : Values) (h : Held) → facts.multi t ≡ false → facts.multi t ≡ b
@@ -192,7 +192,7 @@ module _ (p : CheckedProgram) (sound_data : HasSoundData p) (tys : List ℕ) (c 
   construct_typed true t i ss vs h single m calls e = absurd (let z : true ≡ false = sym m ∙ single in cc)
   construct_typed false t i ss vs h single m calls e =
       constructed_typed (facts.partial t) (facts.type_of t) (answer_of c done t i vs) h (λ v q. answer_typed t i ss vs v calls q)
-      (subst (λ (b : Bool). (if b then several (c.constructs t vs) else constructed (facts.partial t) (answer_of c done t i vs)) ≡ gives h) m e)
+      (subst (λ (b : Bool). (if b then several_of (c.constructs t vs) else constructed (facts.partial t) (answer_of c done t i vs)) ≡ gives h) m e)
 
   -- the impure calls of some sites were answered of their types
   abbrev pub HaveTypedCalls : Sites → Type 0

@@ -3,8 +3,8 @@ use Rattle.std.proofs.Common.{◌≡◌, ◌⊎◌, inl, inr, ℕ, zero, suc, �
 use Rattle.std.proofs.Common.{sym, ap, subst, ◌∙◌, arith, eqb-true, eq-eqb}
 use Rattle.isle_terms.specs.TypedRules.{TypedPattern, typed_bind, typed_var, typed_bool, typed_int, typed_prim, typed_term, typed_wildcard}
 use Rattle.isle_terms.specs.TypedRules.{typed_and, TypedPatterns, no_typed, more_typed, TypedExpr, built_var, built_bool, built_int}
-use Rattle.isle_terms.specs.TypedRules.{built_prim, built_term, built_let, TypedExprs, no_built, more_built, TypedBindings, no_bindings}
-use Rattle.isle_terms.specs.TypedRules.{more_bindings, TypedIfLet, TypedRule}
+use Rattle.isle_terms.specs.TypedRules.{built_prim, built_term, built_let, TypedExprs, no_built, more_built, TypedBindings, no_typed_bindings}
+use Rattle.isle_terms.specs.TypedRules.{more_typed_bindings, TypedIfLet, TypedRule}
 use Rattle.isle_meaning.specs.Values.{bool_value, int_value, constant_value}
 use Rattle.isle_meaning.specs.GroundValues.{IsValueOf}
 use Rattle.isle_meaning.specs.Worlds.{CheckedProgram}
@@ -35,7 +35,7 @@ use Rattle.isle_meaning.proofs.Matching.Basics.{each_append}
 use Rattle.isle_meaning.proofs.Matching.Sorting.{among}
 use Rattle.isle_meaning.proofs.Matching.Visited.{visit_is_written}
 use Rattle.isle_meaning.proofs.Sites.Kinded.{typed_count}
-use Rattle.isle_meaning.proofs.Sites.Parts.{EachSite, each_append as sites_append, each_needed}
+use Rattle.isle_meaning.proofs.Sites.Parts.{EachSite, sites_append, each_needed}
 
 module _ (p : CheckedProgram) (tys : List ℕ) where
   -- what is said of its terms
@@ -338,8 +338,8 @@ module _ (p : CheckedProgram) (tys : List ℕ) where
         visit_lets_seen : (bs : TypedBindings) (S : ℕ → Type 0) (vars : ℕ → Site) (log : Log) → AreSoundBindings p R bs → ReadsLets facts bs S
             → BindingsTyped facts G bs → AreGood S vars → EachSite IsTypedSite log.needed
             → AreGood (let_scope bs S) ((visit_lets facts vars log bs).0) × EachSite IsTypedSite ((visit_lets facts vars log bs).1.needed)
-        visit_lets_seen no_bindings S vars log o r t g h = (g, h)
-        visit_lets_seen (more_bindings k ty e bs) S vars log o r t g h =
+        visit_lets_seen no_typed_bindings S vars log o r t g h = (g, h)
+        visit_lets_seen (more_typed_bindings k ty e bs) S vars log o r t g h =
             let a = visit_seen e ty S vars log (o.0) (r.0) (t.1) g h in
             visit_lets_seen bs (λ j. (j ≡ k) ⊎ S j) (set vars k ((visit facts vars log e).0)) ((visit facts vars log e).1) (o.1) (r.1) (t.2)
             (set_good S vars k _ ty g (a.0) (t.0)) (a.1)

@@ -2,8 +2,8 @@
 use Rattle.std.proofs.Common.{◌≡◌, ℕ, zero, suc, ◌==◌, List, [], ◌∷◌, length, Bool, true, false, refl, subst}
 use Rattle.isle_terms.specs.TypedRules.{TypedPattern, typed_bind, typed_var, typed_bool, typed_int, typed_prim, typed_term, typed_wildcard}
 use Rattle.isle_terms.specs.TypedRules.{typed_and, TypedPatterns, no_typed, more_typed, TypedExpr, built_var, built_bool, built_int}
-use Rattle.isle_terms.specs.TypedRules.{built_prim, built_term, built_let, TypedExprs, no_built, more_built, TypedBindings, no_bindings}
-use Rattle.isle_terms.specs.TypedRules.{more_bindings, TypedIfLet, TypedRule}
+use Rattle.isle_terms.specs.TypedRules.{built_prim, built_term, built_let, TypedExprs, no_built, more_built, TypedBindings, no_typed_bindings}
+use Rattle.isle_terms.specs.TypedRules.{more_typed_bindings, TypedIfLet, TypedRule}
 use Rattle.isle_meaning.specs.Demands.{parts, bound, bound_all, iflet_site, iflets_bound, args_bound, vars_of, nothing, some_of, result_of}
 use Rattle.isle_meaning.specs.Facts.{TermShape, variant_shape, struct_shape, declared_shape, TermFacts, patterns}
 use Rattle.isle_meaning.specs.Needs.{from_on, extract_needs, output_needs, open_needs, needs, needs_all, args_needs, Log, no_log}
@@ -15,7 +15,7 @@ use Rattle.isle_meaning.specs.SoundPrograms.{IsSoundExpr, AreSoundExprs, AreSoun
 use Rattle.isle_meaning.specs.Words.{set, var_word, word_of}
 use Rattle.isle_meaning.specs.Worlds.{CheckedProgram}
 use Rattle.isle_meaning.proofs.Matching.Visited.{visited}
-use Rattle.isle_meaning.proofs.Sites.Parts.{EachSite, each_append, each_needed}
+use Rattle.isle_meaning.proofs.Sites.Parts.{EachSite, sites_append, each_needed}
 
 module _ (p : CheckedProgram) (R : ℕ → Type 0) where
   -- what is said of its terms
@@ -88,7 +88,7 @@ module _ (p : CheckedProgram) (R : ℕ → Type 0) where
   open_may struct_shape t n s = many_may (extract_struct s) (λ i. tt) 0 n
   open_may declared_shape t n s = (
     tt,
-    each_append CallsAsItMay (extract_needs (facts.multi t) (facts.infallible t) (extractor_call t s)) _
+    sites_append CallsAsItMay (extract_needs (facts.multi t) (facts.infallible t) (extractor_call t s)) _
         (extract_needs_may (facts.multi t) (facts.infallible t) (extractor_call t s))
         (output_needs_may n (extract_site (facts.multi t) (facts.infallible t) (extractor_call t s))),
   )
@@ -102,7 +102,7 @@ module _ (p : CheckedProgram) (R : ℕ → Type 0) where
     needs_may (typed_int ty n) s = tt
     needs_may (typed_prim ty n) s = tt
     needs_may (typed_term ty t ps) s =
-        each_append CallsAsItMay (open_needs facts (facts.shape t) t (patterns ps) s) _ (open_may (facts.shape t) t (patterns ps) s)
+        sites_append CallsAsItMay (open_needs facts (facts.shape t) t (patterns ps) s) _ (open_may (facts.shape t) t (patterns ps) s)
         (all_needs_may ps (parts facts (facts.shape t) t (patterns ps) s))
     needs_may (typed_wildcard ty) s = tt
     needs_may (typed_and ty ps) s = all_needs_may ps (λ i. s)
@@ -111,13 +111,13 @@ module _ (p : CheckedProgram) (R : ℕ → Type 0) where
     all_needs_may : (ps : TypedPatterns) (at : ℕ → Site) → EachSite CallsAsItMay (needs_all facts ps at)
     all_needs_may no_typed at = tt
     all_needs_may (more_typed q ps) at =
-        each_append CallsAsItMay (needs facts q (at 0)) _ (needs_may q (at 0)) (all_needs_may ps (λ i. at (suc i)))
+        sites_append CallsAsItMay (needs facts q (at 0)) _ (needs_may q (at 0)) (all_needs_may ps (λ i. at (suc i)))
 
   -- and what the arguments need
   args_may : (ps : TypedPatterns) (i : ℕ) → EachSite CallsAsItMay (args_needs facts ps i)
   args_may no_typed i = tt
   args_may (more_typed q ps) i =
-      (tt, each_append CallsAsItMay (needs facts q (argument i)) _ (needs_may q (argument i)) (args_may ps (suc i)))
+      (tt, sites_append CallsAsItMay (needs facts q (argument i)) _ (needs_may q (argument i)) (args_may ps (suc i)))
 
   -- each variable's site does
   abbrev AllMay : (ℕ → Site) → Type 0
@@ -168,16 +168,16 @@ module _ (p : CheckedProgram) (R : ℕ → Type 0) where
       → Visited ((called facts b t r).0) ((called facts b t r).1.needed)
   called_may true t r e runs h =
       let a = answer_may (facts.multi t) (facts.partial t) t zero (r.0) (runs, e) in
-      (a.0, each_append CallsAsItMay (r.1.needed) _ h (a.1))
+      (a.0, sites_append CallsAsItMay (r.1.needed) _ h (a.1))
   called_may false t r e runs h =
       let a = answer_may (facts.multi t) (facts.partial t) t (suc (length (r.1.impure))) (r.0) (runs, e) in
-      (a.0, each_append CallsAsItMay (r.1.needed) _ h (a.1))
+      (a.0, sites_append CallsAsItMay (r.1.needed) _ h (a.1))
 
   -- what a term makes of its arguments does
   applied_may : (shape : TermShape) (ty t : ℕ) (r : Sites × Log) → (p.has_rules t ≡ true → R t) → EachSite CallsAsItMay (r.1.needed)
       → Visited ((applied facts shape ty t r).0) ((applied facts shape ty t r).1.needed)
-  applied_may (variant_shape k) ty t r runs h = (tt, each_append CallsAsItMay (r.1.needed) _ h (tt, tt))
-  applied_may struct_shape ty t r runs h = (tt, each_append CallsAsItMay (r.1.needed) _ h (tt, tt))
+  applied_may (variant_shape k) ty t r runs h = (tt, sites_append CallsAsItMay (r.1.needed) _ h (tt, tt))
+  applied_may struct_shape ty t r runs h = (tt, sites_append CallsAsItMay (r.1.needed) _ h (tt, tt))
   applied_may declared_shape ty t r runs h = called_may (facts.pure t) t r refl runs h
 
   mutual
@@ -185,9 +185,9 @@ module _ (p : CheckedProgram) (R : ℕ → Type 0) where
     visit_may : (e : TypedExpr) (vars : ℕ → Site) (log : Log) → IsSoundExpr p R e → AllMay vars → EachSite CallsAsItMay log.needed
         → Visited ((visit facts vars log e).0) ((visit facts vars log e).1.needed)
     visit_may (built_var ty k) vars log o g h = (g k, h)
-    visit_may (built_bool ty b) vars log o g h = (tt, each_append CallsAsItMay log.needed _ h (tt, tt))
-    visit_may (built_int ty n) vars log o g h = (tt, each_append CallsAsItMay log.needed _ h (tt, tt))
-    visit_may (built_prim ty n) vars log o g h = (tt, each_append CallsAsItMay log.needed _ h (tt, tt))
+    visit_may (built_bool ty b) vars log o g h = (tt, sites_append CallsAsItMay log.needed _ h (tt, tt))
+    visit_may (built_int ty n) vars log o g h = (tt, sites_append CallsAsItMay log.needed _ h (tt, tt))
+    visit_may (built_prim ty n) vars log o g h = (tt, sites_append CallsAsItMay log.needed _ h (tt, tt))
     visit_may (built_term ty t es) vars log o g h =
         applied_may (facts.shape t) ty t (visit_all facts vars log es) (o.0) (visit_all_may es vars log (o.1) g h)
     visit_may (built_let ty bs body) vars log o g h =
@@ -204,8 +204,8 @@ module _ (p : CheckedProgram) (R : ℕ → Type 0) where
     -- and what visits of bindings bind and need
     visit_lets_may : (bs : TypedBindings) (vars : ℕ → Site) (log : Log) → AreSoundBindings p R bs → AllMay vars
         → EachSite CallsAsItMay log.needed → AllMay ((visit_lets facts vars log bs).0) × EachSite CallsAsItMay ((visit_lets facts vars log bs).1.needed)
-    visit_lets_may no_bindings vars log o g h = (g, h)
-    visit_lets_may (more_bindings k ty e bs) vars log o g h =
+    visit_lets_may no_typed_bindings vars log o g h = (g, h)
+    visit_lets_may (more_typed_bindings k ty e bs) vars log o g h =
         let a = visit_may e vars log (o.0) g h in
         visit_lets_may bs (set vars k ((visit facts vars log e).0)) ((visit facts vars log e).1) (o.1) (set_may vars k _ g (a.0)) (a.1)
 
@@ -224,8 +224,8 @@ module _ (p : CheckedProgram) (R : ℕ → Type 0) where
       let s : CallsAsItMay (iflet_site facts vars x) = subst CallsAsItMay (written vars x.value) (v.0) in
       let q = bound_may x.pattern (iflet_site facts vars x) vars g s in
       let rest = iflets_may xs (bound facts x.pattern (iflet_site facts vars x) vars) (o.1) q in (
-        each_append CallsAsItMay ((visit facts vars no_log x.value).1.needed) _ (v.1)
-            (each_append CallsAsItMay (needs facts x.pattern (iflet_site facts vars x)) _ (needs_may x.pattern (iflet_site facts vars x)) (rest.0)),
+        sites_append CallsAsItMay ((visit facts vars no_log x.value).1.needed) _ (v.1)
+            (sites_append CallsAsItMay (needs facts x.pattern (iflet_site facts vars x)) _ (needs_may x.pattern (iflet_site facts vars x)) (rest.0)),
         rest.1,
       )
 
@@ -242,7 +242,7 @@ module _ (p : CheckedProgram) (R : ℕ → Type 0) where
       let lets = iflets_may rule.iflets (args_bound facts rule) sound.iflets args in
       let v = visit_may rule.right (vars_of facts rule) no_log sound.right (lets.1) tt in (
         λ s n. each_needed CallsAsItMay (needs_of facts rule) s
-            (each_append CallsAsItMay (args_needs facts rule.args 0) _ (args_may rule.args 0)
-            (each_append CallsAsItMay (iflets_needs facts rule.iflets (args_bound facts rule)) _ (lets.0) (v.1))) n,
+            (sites_append CallsAsItMay (args_needs facts rule.args 0) _ (args_may rule.args 0)
+            (sites_append CallsAsItMay (iflets_needs facts rule.iflets (args_bound facts rule)) _ (lets.0) (v.1))) n,
         λ b. some_may b _ (subst CallsAsItMay (written (vars_of facts rule) rule.right) (v.0)),
       )

@@ -16,7 +16,7 @@ use Rattle.isle_blocks.specs.declared.constraint.Constraint.{Constraint}
 use Rattle.isle_blocks.specs.declared.ids.BindingId.{BindingId}
 use Rattle.isle_blocks.specs.declared.rule.Rule.{Rule}
 use Rattle.isle_blocks.specs.Bindings.{sources_of}
-use Rattle.isle_blocks.specs.ClosureFields.{IsTable}
+use Rattle.isle_blocks.specs.Tables.{IsTable}
 use Rattle.isle_blocks.specs.Rows.{IsInjective, numbers_of, row_of, rows_of}
 use Rattle.isle_blocks.specs.Trees.SiteTrees.{trees_of, tree_from, tree_of}
 use Rattle.isle_blocks.specs.Trees.View.{read_or, is_impure, is_bound, made_by}

@@ -4,7 +4,7 @@ use Rattle.isle_blocks.specs.declared.ids.BindingId.{BindingId}
 use Rattle.isle_blocks.specs.declared.binding.Binding.{Binding}
 use Rattle.isle_blocks.specs.declared.sites.SiteFault.TheVariants.{Size}
 use Rattle.isle_blocks.specs.AddedRules.{IsOwnOf, HasNoRoomAlone, LacksRoomAlone, name_in, facts_in}
-use Rattle.isle_blocks.specs.Building.Building.{gathered_in}
+use Rattle.isle_blocks.specs.Inside.Building.Building.{gathered_in}
 use Rattle.isle_blocks.proofs.Building.Naming.{name_by_injective}
 use Rattle.isle_blocks.proofs.AddedRules.{own_total, own_partial, alone_partial}
 use Rattle.isle_blocks.proofs.adding.own_rule.Goals as goal

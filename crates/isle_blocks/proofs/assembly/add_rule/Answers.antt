@@ -5,7 +5,7 @@ use Rattle.isle_meaning.specs.Faults.{IsUnreachable}
 use Rattle.isle_blocks.specs.declared.ids.BindingId.{BindingId}
 use Rattle.isle_blocks.specs.declared.constraint.Constraint.{Constraint}
 use Rattle.isle_blocks.specs.declared.placing.PlacedRule.{PlacedRule}
-use Rattle.isle_blocks.specs.Placing.{ForDemandsOf, IsPlaced, HasNoRoomFor}
+use Rattle.isle_blocks.specs.Inside.Placing.{ForDemandsOf, IsPlaced, HasNoRoomFor}
 use Rattle.isle_blocks.proofs.Assembled.{assembled}
 use Rattle.isle_blocks.proofs.assembly.add_rule.Goals as goal
 

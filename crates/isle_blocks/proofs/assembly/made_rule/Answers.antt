@@ -3,9 +3,9 @@ use Rattle.std.specs.List.{filter_map}
 use Rattle.isle_blocks.specs.declared.ids.BindingId.{BindingId}
 use Rattle.isle_blocks.specs.declared.binding.Binding.{Binding}
 use Rattle.isle_blocks.specs.declared.constraint.Constraint.{Constraint}
-use Rattle.isle_blocks.specs.MovedSites.{new_number}
-use Rattle.isle_blocks.specs.NormalRules.{AreTestsOf}
-use Rattle.isle_blocks.specs.Assembly.{multi_call}
+use Rattle.isle_blocks.specs.Inside.MovedSites.{new_number}
+use Rattle.isle_blocks.specs.Inside.NormalRules.{AreTestsOf}
+use Rattle.isle_blocks.specs.Inside.Assembly.{multi_call}
 use Rattle.isle_blocks.proofs.assembly.made_rule.Goals as goal
 
 pub returns-clause-tests : goal.returns-clause-tests

@@ -2,7 +2,8 @@ use Rattle.std.proofs.Common.{◌≡◌, ◌++◌, ◌∷◌, [], ℕ, List, ◌
 use Rattle.std.proofs.Math.Seq.{take-suc}
 use Rattle.isle_types.specs.declared.ids.TermId.{TermId}
 use Rattle.isle_blocks.specs.declared.faults.Fault.TheVariants.{Overlap, Shadow}
-use Rattle.isle_blocks.specs.RivalLists.{AddsPairs, ListsFaults, no_set_listed, passed_over, one_set_listed, is_multi_in}
+use Rattle.isle_blocks.specs.Inside.RivalLists.{AddsPairs, ListsFaults, no_set_listed, passed_over, one_set_listed}
+use Rattle.isle_terms.specs.Shown.TermTables.{is_multi_in}
 use Rattle.isle_blocks.specs.RuleSets.{RulesOverSites}
 use Rattle.isle_blocks.proofs.checking.faults_in.Goals as goal
 use Rattle.isle_blocks.proofs.checking.faults_in.Goals.{then-not-is_multi+in_ok-push_faults, else-not-is_multi}

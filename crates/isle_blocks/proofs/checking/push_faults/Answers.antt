@@ -1,6 +1,6 @@
 use Rattle.std.proofs.Common.{◌++◌, List, ℕ, Result, Ok, Err, map, ap, ◌∙◌}
 use Rattle.std.specs.Result.{OnOk}
-use Rattle.isle_blocks.specs.RivalLists.{numbered}
+use Rattle.isle_blocks.specs.Inside.RivalLists.{numbered}
 use Rattle.isle_blocks.proofs.checking.push_faults.Goals as goal
 
 on_ok : {T E P Q : Type 0} (r : Result T E) → (P → Q) → OnOk r P → OnOk r Q

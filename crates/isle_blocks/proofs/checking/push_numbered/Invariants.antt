@@ -1,5 +1,5 @@
 use Rattle.std.proofs.Common.{◌≡◌, ◌++◌, take, map}
-use Rattle.isle_blocks.specs.RivalLists.{numbered}
+use Rattle.isle_blocks.specs.Inside.RivalLists.{numbered}
 use Rattle.isle_blocks.proofs.checking.push_numbered.Given as goal
 
 abbrev pub invariant-loop-pair : goal.invariant-loop-pair

@@ -4,7 +4,7 @@ use Rattle.isle_blocks.specs.declared.faults.Fault.TheVariants.{Overlap, Shadow}
 use Rattle.isle_blocks.specs.declared.report.RulePlace.{RulePlace}
 use Rattle.isle_blocks.specs.DefinedSets.{rules_by}
 use Rattle.isle_blocks.specs.Reports.{ArePairs, IsReport}
-use Rattle.isle_blocks.specs.RivalLists.{place_of}
+use Rattle.isle_blocks.specs.Inside.RivalLists.{place_of}
 use Rattle.isle_blocks.specs.RuleFaults.{places_from}
 use Rattle.isle_blocks.proofs.RuleFaults.RivalLists.{places_are, faults_listed, faults_are_pairs}
 use Rattle.isle_blocks.proofs.checking.rival_errors.Goals as goal

@@ -1,5 +1,5 @@
 use Rattle.std.proofs.Common.{◌≡◌, take, map}
-use Rattle.isle_blocks.specs.RivalLists.{place_of}
+use Rattle.isle_blocks.specs.Inside.RivalLists.{place_of}
 use Rattle.isle_blocks.proofs.checking.rule_places.Given as goal
 
 abbrev pub invariant-loop-rule : goal.invariant-loop-rule

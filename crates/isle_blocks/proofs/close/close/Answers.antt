@@ -3,7 +3,7 @@ use Rattle.std.specs.Prelude.{IfSome}
 use Rattle.std.proofs.lemmas.Result.{err_from_is_err_and}
 use Rattle.isle_blocks.specs.declared.close.Reduced.{Reduced}
 use Rattle.isle_blocks.specs.Rows.{pairs_of}
-use Rattle.isle_blocks.specs.ClosureStates.{IsReduced}
+use Rattle.isle_blocks.specs.Inside.ClosureStates.{IsReduced}
 use Rattle.isle_blocks.proofs.Closure.Whole.{state_of, is_reachable, no_room, whole}
 use Rattle.isle_blocks.proofs.Closure.FieldOrder.{none_added}
 use Rattle.isle_blocks.proofs.close.close.Goals as goal

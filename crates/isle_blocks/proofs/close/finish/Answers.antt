@@ -1,6 +1,6 @@
 use Rattle.std.proofs.Common.{◌<◌, ℕ, List, length, Option, get_or, sym, subst, arith}
 use Rattle.isle_blocks.specs.declared.constraint.Constraint.{Constraint}
-use Rattle.isle_blocks.specs.ClosureStates.{Grows}
+use Rattle.isle_blocks.specs.Inside.ClosureStates.{Grows}
 use Rattle.isle_blocks.proofs.Closure.Growth.{grown_state}
 use Rattle.isle_blocks.proofs.close.finish.Goals as goal
 

@@ -2,7 +2,7 @@ use Rattle.std.proofs.Common.{ℕ, List, length, Option, inl, sym, subst, ◌∙
 use Rattle.std.specs.Prelude.{Contains, IfNone, MatchOption}
 use Rattle.isle_meaning.specs.Faults.{IsUnreachable}
 use Rattle.isle_blocks.specs.declared.constraint.Constraint.{Constraint}
-use Rattle.isle_blocks.specs.ClosureStates.{HasTwo, AreOwn, ForDemands, demanded_in}
+use Rattle.isle_blocks.specs.Inside.ClosureStates.{HasTwo, AreOwn, ForDemands, demanded_in}
 use Rattle.isle_blocks.proofs.Closure.Whole.{two_clash, pairs_below}
 use Rattle.isle_blocks.proofs.close.reduce.Goals as goal
 

@@ -1,5 +1,5 @@
 use Rattle.std.proofs.Common.{List, sym, subst}
-use Rattle.isle_blocks.specs.FaultKeys.{AreKeys, Key}
+use Rattle.isle_blocks.specs.Inside.FaultKeys.{AreKeys, Key}
 use Rattle.isle_blocks.proofs.faults.faults_between.Goals as goal
 
 pub returns-clause-overlaps : goal.returns-clause-overlaps

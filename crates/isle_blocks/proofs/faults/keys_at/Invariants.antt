@@ -1,6 +1,6 @@
 use Rattle.std.proofs.Common.{◌≡◌, ◌<◌, ℕ, length, slice_get, Some}
 use Rattle.isle_blocks.specs.declared.rule.Rule.{Rule}
-use Rattle.isle_blocks.specs.FaultKeys.{test_at}
+use Rattle.isle_blocks.specs.Inside.FaultKeys.{test_at}
 use Rattle.isle_blocks.proofs.faults.keys_at.Given as goal
 
 abbrev pub invariant-loop-place : goal.invariant-loop-place

@@ -1,6 +1,6 @@
 use Rattle.std.proofs.Common.{◌≡◌, ℕ, length, subst, arith}
 use Rattle.std.proofs.lemmas.List.Filters.{dedup_is}
-use Rattle.isle_blocks.specs.FaultKeys.{FindsFaults, IsEarlier}
+use Rattle.isle_blocks.specs.Inside.FaultKeys.{FindsFaults, IsEarlier}
 use Rattle.isle_blocks.proofs.RuleFaults.FaultKeys.{all_found}
 use Rattle.isle_blocks.proofs.RuleFaults.FaultKeys.Pairs.{pairs_eq}
 use Rattle.isle_blocks.proofs.faults.pairs_with.Goals as goal

@@ -1,5 +1,5 @@
 use Rattle.isle_blocks.specs.declared.ids.BindingId.{BindingId}
-use Rattle.isle_blocks.specs.FaultKeys.{AreKeys, FindsFaults, IsEarlier}
+use Rattle.isle_blocks.specs.Inside.FaultKeys.{AreKeys, FindsFaults, IsEarlier}
 use Rattle.isle_blocks.proofs.faults.pairs_with.Given as goal
 
 abbrev pub invariant-loop-first : goal.invariant-loop-first

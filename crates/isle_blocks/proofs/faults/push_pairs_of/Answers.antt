@@ -1,6 +1,6 @@
 use Rattle.std.proofs.Common.{◌≡◌, ◌<◌, ℕ, None, length, get_or, subst, arith}
 use Rattle.std.proofs.lemmas.Option.{slice_get-get_or}
-use Rattle.isle_blocks.specs.FaultKeys.{FindsFaults}
+use Rattle.isle_blocks.specs.Inside.FaultKeys.{FindsFaults}
 use Rattle.isle_blocks.proofs.RuleFaults.FaultKeys.{IsCompared, compared_none, compared_more, compared_all}
 use Rattle.isle_blocks.proofs.faults.push_pairs_of.Goals as goal
 

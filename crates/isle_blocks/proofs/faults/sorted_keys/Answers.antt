@@ -3,7 +3,7 @@ use Rattle.std.specs.Prelude.{IsSorted}
 use Rattle.std.specs.Option.{option_cmp}
 use Rattle.std.specs.Ordering.{nat_cmp, ordering_then}
 use Rattle.isle_blocks.specs.declared.constraint.Constraint.{Constraint}
-use Rattle.isle_blocks.specs.FaultKeys.{Key}
+use Rattle.isle_blocks.specs.Inside.FaultKeys.{Key}
 use Rattle.isle_blocks.proofs.RuleFaults.FaultKeys.Order.{keys_sorted, one_order}
 use Rattle.isle_blocks.proofs.faults.sorted_keys.Goals as goal
 

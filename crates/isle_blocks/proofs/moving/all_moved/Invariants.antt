@@ -1,5 +1,5 @@
 use Rattle.std.proofs.Common.{◌≡◌, map, take}
-use Rattle.isle_blocks.specs.MovedSites.{new_number}
+use Rattle.isle_blocks.specs.Inside.MovedSites.{new_number}
 use Rattle.isle_blocks.proofs.moving.all_moved.Given as goal
 
 -- the numbers of the first sites

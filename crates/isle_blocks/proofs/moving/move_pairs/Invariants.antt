@@ -1,5 +1,5 @@
 use Rattle.std.proofs.Common.{◌≡◌, map, take}
-use Rattle.isle_blocks.specs.MovedSites.{new_number, moved_pair}
+use Rattle.isle_blocks.specs.Inside.MovedSites.{new_number, moved_pair}
 use Rattle.isle_blocks.proofs.moving.move_pairs.Given as goal
 
 -- the first pairs

@@ -1,5 +1,5 @@
 use Rattle.std.proofs.Common.{sym, ap, subst, take, ◌∙◌}
-use Rattle.isle_blocks.specs.MovedSites.{new_number, renumbered, MovesSites, no_sites_moved}
+use Rattle.isle_blocks.specs.Inside.MovedSites.{new_number, renumbered, MovesSites, no_sites_moved}
 use Rattle.isle_blocks.proofs.Rows.MovingTurns.{moved_more, ends_full}
 use Rattle.isle_blocks.proofs.moving.move_sites.Goals as goal
 

@@ -1,5 +1,5 @@
 use Rattle.std.proofs.Common.{take}
-use Rattle.isle_blocks.specs.MovedSites.{MovesSites}
+use Rattle.isle_blocks.specs.Inside.MovedSites.{MovesSites}
 use Rattle.isle_blocks.proofs.moving.move_sites.Given as goal
 
 -- the first sites are moved

@@ -3,10 +3,10 @@ use Rattle.std.specs.Option.{is_some}
 use Rattle.std.proofs.lemmas.Bool.{false≢true, eqb-true}
 use Rattle.std.proofs.lemmas.Option.{slice_get-get_or}
 use Rattle.isle_blocks.specs.declared.ids.BindingId.{BindingId}
-use Rattle.isle_blocks.specs.ClosureStates.{AreClasses}
+use Rattle.isle_blocks.specs.Inside.ClosureStates.{AreClasses}
 use Rattle.isle_blocks.proofs.Sets.NormalSets.{AreSetsBelow, sets_all, sets_skip, sets_more}
 use Rattle.isle_blocks.specs.declared.constraint.Constraint.{Constraint}
-use Rattle.isle_blocks.specs.Placing.{AreSettled}
+use Rattle.isle_blocks.specs.Inside.Placing.{AreSettled}
 use Rattle.isle_blocks.proofs.normal.equalities_of.Goals as goal
 use Rattle.isle_blocks.proofs.normal.equalities_of.Goals.{then-is_none+then-root-k+in_ok-merge, else-is_none, else-is_none-via-then-is_none+else-root-k, else-is_none-via-else-is_none}
 

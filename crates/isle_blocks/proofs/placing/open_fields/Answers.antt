@@ -8,13 +8,13 @@ use Rattle.isle_blocks.specs.declared.binding.Binding.{Binding}
 use Rattle.isle_blocks.specs.declared.constraint.Constraint.{Constraint}
 use Rattle.isle_blocks.specs.declared.close.Closed.{Closed}
 use Rattle.isle_blocks.specs.Rows.{IsInjective, rows_of, constraints_of, pairs_of}
-use Rattle.isle_blocks.specs.ClosureFields.{IsTable}
-use Rattle.isle_blocks.specs.ClosureStates.{IsReady}
+use Rattle.isle_blocks.specs.Tables.{IsTable}
+use Rattle.isle_blocks.specs.Inside.ClosureStates.{IsReady}
 use Rattle.isle_meaning.specs.Faults.{IsUnreachable}
 use Rattle.isle_blocks.specs.Closure.{ClosesTo, HasAllFields}
 use Rattle.isle_blocks.specs.FieldOrder.{AreFieldsInOrder}
-use Rattle.isle_blocks.specs.Placing.{GrowsFor, IsPutFirst}
-use Rattle.isle_blocks.specs.MovedSites.{new_number, moved_test, moved_pair, MovesSites}
+use Rattle.isle_blocks.specs.Inside.Placing.{GrowsFor, IsPutFirst}
+use Rattle.isle_blocks.specs.Inside.MovedSites.{new_number, moved_test, moved_pair, MovesSites}
 use Rattle.isle_blocks.proofs.Rows.Placed.{by_number, by_number_injective, after_ok, still_ready, still_recorded}
 use Rattle.isle_blocks.proofs.Rows.PlacedRoom.{dead_recorded, recorded_field, closing_lacks_room, moving_lacks_room, closed_grows, moved_grows}
 use Rattle.isle_blocks.proofs.placing.open_fields.Goals as goal

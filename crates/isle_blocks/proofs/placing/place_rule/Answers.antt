@@ -12,11 +12,11 @@ use Rattle.isle_meaning.specs.Faults.{IsUnreachable}
 use Rattle.isle_meaning.specs.Numbered.{At, AreRecorded}
 use Rattle.isle_blocks.specs.Rows.{IsInjective, rows_of, constraints_of, pairs_of}
 use Rattle.isle_blocks.specs.Closure.{ClosesTo, Stands, HasAllFields, IsClosure}
-use Rattle.isle_blocks.specs.ClosureStates.{IsReady, demanded_in}
-use Rattle.isle_blocks.specs.Placing.{ForDemandsOf, GrowsFor, IsPutFirst, HasNoRoomFor}
-use Rattle.isle_blocks.specs.MovedSites.{MovesSites, EndsFull}
+use Rattle.isle_blocks.specs.Inside.ClosureStates.{IsReady, demanded_in}
+use Rattle.isle_blocks.specs.Inside.Placing.{ForDemandsOf, GrowsFor, IsPutFirst, HasNoRoomFor}
+use Rattle.isle_blocks.specs.Inside.MovedSites.{MovesSites, EndsFull}
 use Rattle.std.proofs.lemmas.Bool.{cases_lt}
-use Rattle.isle_blocks.specs.ClosureFields.{IsTable}
+use Rattle.isle_blocks.specs.Tables.{IsTable}
 use Rattle.isle_blocks.proofs.Rows.Placed.{by_number, by_number_injective, after_ok, to_at, settled}
 use Rattle.isle_blocks.proofs.Closure.Longer.{stays}
 use Rattle.isle_blocks.proofs.Closure.FieldOrder.{none_added}

@@ -7,7 +7,7 @@ use Rattle.isle_trees.proofs.Building.Lists.{ascending_distinct, below_ascends, 
 use Rattle.isle_trees.proofs.Building.Reorder.{same_builds, same_elem}
 use Rattle.isle_blocks.specs.declared.constraint.Constraint.{Constraint}
 use Rattle.isle_blocks.specs.Rows.{numbers_of}
-use Rattle.isle_blocks.specs.Trees.Builder.{IsFit, rules_in, scope_of, users_at}
+use Rattle.isle_blocks.specs.Inside.Trees.Builder.{IsFit, rules_in, scope_of, users_at}
 use Rattle.isle_blocks.specs.Trees.Nodes.{first_steps, read}
 use Rattle.isle_blocks.proofs.Trees.Marking.Ready.{ready_all}
 use Rattle.isle_blocks.proofs.serializer.nodes_of.Goals as goal

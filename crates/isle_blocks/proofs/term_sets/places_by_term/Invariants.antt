@@ -1,7 +1,7 @@
 use Rattle.std.proofs.Common.{◌≡◌, ℕ, Some, Vec, length, slice_get}
 use Rattle.std.specs.Global.{Global}
 use Rattle.isle_blocks.specs.DefinedSets.{ListsNumbers}
-use Rattle.isle_blocks.specs.GatheredSets.{IsOfTerm}
+use Rattle.isle_blocks.specs.Inside.GatheredSets.{IsOfTerm}
 use Rattle.isle_blocks.proofs.Sets.ListedNumbers.{Below}
 use Rattle.isle_blocks.proofs.term_sets.places_by_term.Given as goal
 

@@ -5,8 +5,8 @@ use Rattle.std.proofs.lemmas.List.Elements.{Contains-get_or}
 use Rattle.std.proofs.Math.Seq.{take-suc}
 use Rattle.isle_types.proofs.Reading.{fault_weaker}
 use Rattle.isle_blocks.specs.RuleSets.{RulesOverSites}
-use Rattle.isle_blocks.specs.ClosureFields.{IsTable}
-use Rattle.isle_blocks.specs.GatheredSets.{GathersRules, none_gathered, MarksThose, AreLost, IsOfTerm}
+use Rattle.isle_blocks.specs.Tables.{IsTable}
+use Rattle.isle_blocks.specs.Inside.GatheredSets.{GathersRules, none_gathered, MarksThose, AreLost, IsOfTerm}
 use Rattle.isle_blocks.proofs.Sets.GatheredRules.{no_lost, lost_more, empty_table}
 use Rattle.isle_blocks.proofs.Sets.ListedNumbers.{listed_before}
 use Rattle.isle_blocks.proofs.term_sets.rule_set_of.Goals as goal

@@ -1,7 +1,7 @@
 use Rattle.std.proofs.Common.{◌≡◌, ◌≤◌, length, take}
-use Rattle.isle_blocks.specs.ClosureFields.{IsTable}
+use Rattle.isle_blocks.specs.Tables.{IsTable}
 use Rattle.isle_blocks.specs.DefinedSets.{AreDefined}
-use Rattle.isle_blocks.specs.GatheredSets.{GathersRules, MarksThose, AreLost}
+use Rattle.isle_blocks.specs.Inside.GatheredSets.{GathersRules, MarksThose, AreLost}
 use Rattle.isle_blocks.proofs.term_sets.rule_set_of.Given as goal
 
 abbrev pub invariant-loop-place : goal.invariant-loop-place

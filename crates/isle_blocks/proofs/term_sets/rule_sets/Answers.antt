@@ -8,7 +8,7 @@ use Rattle.isle_types.specs.declared.ids.TermId.{TermId}
 use Rattle.isle_terms.specs.declared.rules.Rule.{Rule}
 use Rattle.isle_blocks.specs.RuleSets.{RulesOverSites}
 use Rattle.isle_blocks.specs.DefinedSets.{ListsNumbers, facts_by, rules_by}
-use Rattle.isle_blocks.specs.GatheredSets.{AreSetsBelow, MarksThose, IsLostBelow, IsOfTerm}
+use Rattle.isle_blocks.specs.Inside.GatheredSets.{AreSetsBelow, MarksThose, IsLostBelow, IsOfTerm}
 use Rattle.isle_blocks.proofs.Sets.DefinedSets.{set_is}
 use Rattle.isle_blocks.proofs.Sets.SetsOfTerms.{all_listed, has_rules, has_no_rules, sets_none, sets_skip, sets_push, lost_none, lost_skip, lost_next_term}
 use Rattle.isle_blocks.proofs.RuleFaults.SizeFaults.{none_within, within_next, all_within}

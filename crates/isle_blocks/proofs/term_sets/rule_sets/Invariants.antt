@@ -1,6 +1,6 @@
 use Rattle.std.proofs.Common.{◌≡◌, ◌<◌, ℕ, length}
 use Rattle.isle_blocks.specs.DefinedSets.{AreDefined, facts_by, rules_by}
-use Rattle.isle_blocks.specs.GatheredSets.{AreSetsBelow, MarksThose, IsLostBelow}
+use Rattle.isle_blocks.specs.Inside.GatheredSets.{AreSetsBelow, MarksThose, IsLostBelow}
 use Rattle.isle_blocks.specs.RuleFaults.{AreWithinSize}
 use Rattle.isle_blocks.proofs.term_sets.rule_sets.Given as goal
 

@@ -3,7 +3,7 @@ use Rattle.std.proofs.lemmas.List.{append-nil}
 use Rattle.std.specs.Fmt.{char_count}
 use Rattle.isle_layout.specs.SExprTree.{sexpr_list}
 use Rattle.isle_layout.specs.SExprShape.{sexpr_of, sexprs_of}
-use Rattle.isle_layout.specs.SExprInnermost.{innermost}
+use Rattle.isle_layout.specs.Inside.SExprInnermost.{innermost}
 use Rattle.isle_layout.specs.Layout.{one_line_length, stays_on_one_line, fits_of, fits_of_all, within}
 use Rattle.isle_layout.proofs.Layouts.Lengths.{list_length}
 use Rattle.isle_layout.proofs.Layouts.Fits.{length_more, all_counted, fits_more, all_marked, truncated}

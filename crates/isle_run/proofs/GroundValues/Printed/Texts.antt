@@ -12,7 +12,7 @@ use Rattle.isle_syntax.specs.Tokens.PlacedTokens.{Placed, placed_at}
 use Rattle.isle_syntax.specs.Tokens.Gaps.{lead_of, begins_semicolon, BeginsNoGap, IsGap, none, space}
 use Rattle.isle_syntax.specs.Tokens.TokensOf.{IsToken, opening, closing, at_sign, integer, word, pos_of_rest, TokensOf, ended, stopped, token}
 use Rattle.isle_syntax.specs.Tokens.RemainingTokens.{Source}
-use Rattle.isle_terms.specs.Values.{ValueTree, ValueTrees, bool_value, int_value, big_value, const_value, opaque_value, data_value, no_values, more_values}
+use Rattle.isle_terms.specs.Values.{ValueTree, ValueTrees, bool_tree, int_tree, big_tree, const_tree, opaque_tree, data_tree, no_trees, more_trees}
 use Rattle.isle_run.specs.Values.TextTokens.{bare, alone, AreTokensOf}
 use Rattle.isle_run.specs.Values.Text.{value_text, fields_text}
 use Rattle.isle_run.specs.Values.Tokens.{tokens_of, tokens_all}
@@ -65,16 +65,16 @@ IsAtom text t = (rest : List ℕ) → Ends rest → IsToken (text ++ rest) t res
 -- each part of a value is one token
 abbrev mutual
   pub HasAtoms : ValueTree → Type 0
-  HasAtoms (bool_value b) = Unit {0}
-  HasAtoms (int_value n) = IsAtom (signed_decimal n) (Int n)
-  HasAtoms (big_value n) = IsAtom (decimal n) (Big n)
-  HasAtoms (const_value name) = IsAtom (36 ∷ name) (Symbol (36 ∷ name))
-  HasAtoms (opaque_value n) = IsAtom (118 ∷ decimal n) (Symbol (118 ∷ decimal n))
-  HasAtoms (data_value name fields) = IsAtom name (Symbol name) × HaveAtoms fields
+  HasAtoms (bool_tree b) = Unit {0}
+  HasAtoms (int_tree n) = IsAtom (signed_decimal n) (Int n)
+  HasAtoms (big_tree n) = IsAtom (decimal n) (Big n)
+  HasAtoms (const_tree name) = IsAtom (36 ∷ name) (Symbol (36 ∷ name))
+  HasAtoms (opaque_tree n) = IsAtom (118 ∷ decimal n) (Symbol (118 ∷ decimal n))
+  HasAtoms (data_tree name fields) = IsAtom name (Symbol name) × HaveAtoms fields
 
   pub HaveAtoms : ValueTrees → Type 0
-  HaveAtoms no_values = Unit {0}
-  HaveAtoms (more_values v vs) = HasAtoms v × HaveAtoms vs
+  HaveAtoms no_trees = Unit {0}
+  HaveAtoms (more_trees v vs) = HasAtoms v × HaveAtoms vs
 
 bare_placed : (p : Pos) (t : Token) → bare (placed_at p t) ≡ t
 bare_placed p LParen = refl
@@ -104,13 +104,13 @@ module _ (source : Source) where
       laid = token_first (atom rest ends) tokens;
     }
 
-  truth_atom : (b : Bool) → IsAtom (value_text (bool_value b)) (Symbol (value_text (bool_value b)))
+  truth_atom : (b : Bool) → IsAtom (value_text (bool_tree b)) (Symbol (value_text (bool_tree b)))
   truth_atom true rest ends = symbol_before (codes "true") rest refl ends
   truth_atom false rest ends = symbol_before (codes "false") rest refl ends
 
   fields_end : (vs : ValueTrees) (rest : List ℕ) → Ends rest → Ends (fields_text vs ++ rest)
-  fields_end no_values rest ends = ends
-  fields_end (more_values v vs) rest ends = inl refl
+  fields_end no_trees rest ends = ends
+  fields_end (more_trees v vs) rest ends = inl refl
 
   data_text : (name fields rest : List ℕ) → 40 ∷ (name ++ (fields ++ (41 ∷ rest))) ≡ (codes "(" ++ (name ++ (fields ++ codes ")"))) ++ rest
   data_text name fields rest =
@@ -119,7 +119,7 @@ module _ (source : Source) where
   -- the parentheses, the name and the fields of data
   data_first : (name rest : List ℕ) (vs : ValueTrees) (left : List Placed) (end : ℕ) (clean : Bool) → IsAtom name (Symbol name) → TokensOf source rest left end clean
       → ((inner : List Placed) → TokensOf source (41 ∷ rest) inner end clean → HasTokens (tokens_all vs) (fields_text vs ++ (41 ∷ rest)) inner end clean)
-      → HasTokens (tokens_of (data_value name vs)) (value_text (data_value name vs) ++ rest) left end clean
+      → HasTokens (tokens_of (data_tree name vs)) (value_text (data_tree name vs) ++ rest) left end clean
   data_first name rest vs left end clean atom tokens fields =
       let shut = placed_at (pos_of_rest source (41 ∷ rest)) RParen in
       let inner = fields (shut ∷ left) (token_first (closing {text = 41 ∷ rest} refl) tokens) in
@@ -139,18 +139,18 @@ module _ (source : Source) where
     -- a value's text has its tokens before those of what ends it
     value_first : (v : ValueTree) (rest : List ℕ) (left : List Placed) (end : ℕ) (clean : Bool) → HasAtoms v → Ends rest → TokensOf source rest left end clean
         → HasTokens (tokens_of v) (value_text v ++ rest) left end clean
-    value_first (bool_value b) rest left end clean atoms ends tokens = atom_first (value_text (bool_value b)) (Symbol (value_text (bool_value b))) (truth_atom b) ends tokens
-    value_first (int_value n) rest left end clean atoms ends tokens = atom_first (signed_decimal n) (Int n) atoms ends tokens
-    value_first (big_value n) rest left end clean atoms ends tokens = atom_first (decimal n) (Big n) atoms ends tokens
-    value_first (const_value name) rest left end clean atoms ends tokens = atom_first (36 ∷ name) (Symbol (36 ∷ name)) atoms ends tokens
-    value_first (opaque_value n) rest left end clean atoms ends tokens = atom_first (118 ∷ decimal n) (Symbol (118 ∷ decimal n)) atoms ends tokens
-    value_first (data_value name vs) rest left end clean (atom, atoms) ends tokens =
+    value_first (bool_tree b) rest left end clean atoms ends tokens = atom_first (value_text (bool_tree b)) (Symbol (value_text (bool_tree b))) (truth_atom b) ends tokens
+    value_first (int_tree n) rest left end clean atoms ends tokens = atom_first (signed_decimal n) (Int n) atoms ends tokens
+    value_first (big_tree n) rest left end clean atoms ends tokens = atom_first (decimal n) (Big n) atoms ends tokens
+    value_first (const_tree name) rest left end clean atoms ends tokens = atom_first (36 ∷ name) (Symbol (36 ∷ name)) atoms ends tokens
+    value_first (opaque_tree n) rest left end clean atoms ends tokens = atom_first (118 ∷ decimal n) (Symbol (118 ∷ decimal n)) atoms ends tokens
+    value_first (data_tree name vs) rest left end clean (atom, atoms) ends tokens =
         data_first name rest vs left end clean atom tokens (λ inner shut. fields_first vs (41 ∷ rest) inner end clean atoms (inr refl) shut)
 
     fields_first : (vs : ValueTrees) (rest : List ℕ) (left : List Placed) (end : ℕ) (clean : Bool) → HaveAtoms vs → Ends rest → TokensOf source rest left end clean
         → HasTokens (tokens_all vs) (fields_text vs ++ rest) left end clean
-    fields_first no_values rest left end clean atoms ends tokens = record { placed = []; are = refl; laid = tokens }
-    fields_first (more_values v vs) rest left end clean (first, others) ends tokens =
+    fields_first no_trees rest left end clean atoms ends tokens = record { placed = []; are = refl; laid = tokens }
+    fields_first (more_trees v vs) rest left end clean (first, others) ends tokens =
         let behind = fields_first vs rest left end clean others ends tokens in
         let front = value_first v (fields_text vs ++ rest) (behind.placed ++ left) end clean first (fields_end vs rest ends) behind.laid in
         with_text (ap (λ l. 32 ∷ l) (sym (append_assoc (value_text v) (fields_text vs) rest))) (record {

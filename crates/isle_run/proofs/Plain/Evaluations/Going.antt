@@ -15,12 +15,12 @@ use Rattle.isle_run.specs.declared.calls.store.Stored.{Stored}
 use Rattle.isle_run.specs.declared.roads.plain.laid.Part.{Part}
 use Rattle.isle_run.specs.Meanings.{checked}
 use Rattle.isle_run.specs.Programs.{types_of}
-use Rattle.isle_run.specs.Plain.LaidOut.Words.{IsLaid}
+use Rattle.isle_run.specs.Inside.Plain.LaidOut.Words.{IsLaid}
 use Rattle.isle_meaning.specs.Outcomes.{Outcome, given, missing, ended, After, ConstructsIf}
 use Rattle.isle_meaning.specs.PlainRuns.{WordRuns, WordsRun}
-use Rattle.isle_run.specs.Stores.Values.{Stands, Extends}
-use Rattle.isle_run.specs.Plain.Underway.{Surroundings, Stops, runs_below, ComesTo, IsPart, IsRight}
-use Rattle.isle_run.specs.Plain.Underway.{LeadsToWhole, IsUnderway, IsCallOn, WaitsFor, IsAnswered, IsTop}
+use Rattle.isle_run.specs.Inside.Stores.Values.{Stands, Extends}
+use Rattle.isle_run.specs.Inside.Plain.Underway.{Surroundings, Stops, runs_below, ComesTo, IsPart, IsRight}
+use Rattle.isle_run.specs.Inside.Plain.Underway.{LeadsToWhole, IsUnderway, IsCallOn, WaitsFor, IsAnswered, IsTop}
 use Rattle.isle_run.proofs.Stores.Values.{stand_longer}
 use Rattle.isle_run.proofs.Plain.Evaluations.Turns.{known_same, answered_underway, known_now}
 

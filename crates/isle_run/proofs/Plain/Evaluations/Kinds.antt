@@ -26,14 +26,15 @@ use Rattle.isle_run.specs.declared.roads.plain.variables.Variables.{Variables}
 use Rattle.isle_run.specs.Meanings.{checked, may_run}
 use Rattle.isle_run.specs.Programs.{types_of}
 use Rattle.isle_meaning.specs.Outcomes.{Outcome, given, missing, ended, ConstructsIf, WorldConstructs}
-use Rattle.isle_meaning.specs.TypedWords.{AreTypedWords, GivesTyped}
-use Rattle.isle_run.specs.Plain.LaidOut.Words.{AreLaid}
-use Rattle.isle_run.specs.Stores.Values.{variant_at, Stands, StandEach, Extends}
+use Rattle.isle_meaning.specs.Inside.TypedWords.{AreTypedWords, GivesTyped}
+use Rattle.isle_run.specs.Inside.Plain.LaidOut.Words.{AreLaid}
+use Rattle.isle_run.specs.Inside.Stores.Values.{Stands, StandEach, Extends}
+use Rattle.isle_run.specs.Tables.{variant_at}
 use Rattle.isle_run.specs.Calls.Answers.{IsCalledOn}
-use Rattle.isle_run.specs.Plain.Fitting.{HoldVariables, number_of_variable}
-use Rattle.isle_run.specs.Calls.Host.{TellsValue}
-use Rattle.isle_run.specs.Plain.Underway.{Surroundings, runs_below, ComesTo, AllComeTo, HasTypedValue, IsPart, IsTypedAround, HasValueAt}
-use Rattle.isle_run.specs.Plain.Underway.{AreAround, AreKnown, IsCallOn, IsCallAt, Comes}
+use Rattle.isle_run.specs.Inside.Plain.Fitting.{HoldVariables, number_of_variable}
+use Rattle.isle_run.specs.Inside.Calls.Host.{TellsValue}
+use Rattle.isle_run.specs.Inside.Plain.Underway.{Surroundings, runs_below, ComesTo, AllComeTo, HasTypedValue, IsPart, IsTypedAround, HasValueAt}
+use Rattle.isle_run.specs.Inside.Plain.Underway.{AreAround, AreKnown, IsCallOn, IsCallAt, Comes}
 use Rattle.isle_run.proofs.SoundPrograms.Known.{sound_of}
 use Rattle.isle_run.proofs.Stores.Values.{stand_longer, stand_one}
 use Rattle.isle_meaning.proofs.Calls.Giving.{words_give_typed_all}

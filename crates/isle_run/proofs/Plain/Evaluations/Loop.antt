@@ -16,13 +16,13 @@ use Rattle.isle_run.specs.declared.program.Program.{Program}
 use Rattle.isle_run.specs.declared.calls.store.Stored.{Stored}
 use Rattle.isle_run.specs.declared.roads.plain.variables.Variables.{Variables}
 use Rattle.isle_run.specs.Programs.{types_of}
-use Rattle.isle_run.specs.Plain.LaidOut.Words.{made_of}
+use Rattle.isle_run.specs.Inside.Plain.LaidOut.Words.{made_of}
 use Rattle.isle_meaning.specs.Outcomes.{missing}
-use Rattle.isle_run.specs.Stores.Values.{Extends}
-use Rattle.isle_run.specs.Plain.Fitting.{HoldVariables, number_of_variable}
-use Rattle.isle_run.specs.Plain.Underway.{Surroundings, known_at, HasValueAt, LeadsToWhole, IsUnderway, WaitsFor, Tells, AreAround}
-use Rattle.isle_run.specs.Plain.Underway.{IsKnown, first_unknown, IsAnswered, IsTop, Remains, IsLater, IsSettled, IsCallAt, Comes}
-use Rattle.isle_run.specs.Plain.Underway.{IsLastStep, IsStepOf, StepTells, HasMoved, GoesOn, AreAllKnown}
+use Rattle.isle_run.specs.Inside.Stores.Values.{Extends}
+use Rattle.isle_run.specs.Inside.Plain.Fitting.{HoldVariables, number_of_variable}
+use Rattle.isle_run.specs.Inside.Plain.Underway.{Surroundings, known_at, HasValueAt, LeadsToWhole, IsUnderway, WaitsFor, Tells, AreAround}
+use Rattle.isle_run.specs.Inside.Plain.Underway.{IsKnown, first_unknown, IsAnswered, IsTop, Remains, IsLater, IsSettled, IsCallAt, Comes}
+use Rattle.isle_run.specs.Inside.Plain.Underway.{IsLastStep, IsStepOf, StepTells, HasMoved, GoesOn, AreAllKnown}
 use Rattle.isle_run.proofs.Stores.Values.{stands_longer, extends_same, extends_again}
 use Rattle.isle_run.proofs.Plain.Evaluations.Parts.{underway_longer, open_leads}
 use Rattle.isle_run.proofs.Plain.Evaluations.Turns.{settled_underway, asked_underway, answered_underway, settled_later, later_again}

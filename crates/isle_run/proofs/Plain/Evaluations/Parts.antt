@@ -11,11 +11,11 @@ use Rattle.isle_run.specs.declared.calls.store.Stored.{Stored}
 use Rattle.isle_run.specs.Meanings.{checked, may_run}
 use Rattle.isle_run.specs.Programs.{types_of}
 use Rattle.isle_meaning.specs.Outcomes.{Outcome, given, missing, ended, After}
-use Rattle.isle_meaning.specs.TypedWords.{AreTypedWords}
-use Rattle.isle_run.specs.Plain.LaidOut.Words.{AreLaid, made_of}
-use Rattle.isle_run.specs.Stores.Values.{StandEach, Extends}
-use Rattle.isle_run.specs.Plain.Underway.{Surroundings, Stops, ComesTo, AllComeTo, HasTypedValue, IsPart, known_at, HasValueAt, IsRight}
-use Rattle.isle_run.specs.Plain.Underway.{LeadsToWhole, IsUnderway, if_unknown, first_unknown, number_before, known_numbers, AreKnown}
+use Rattle.isle_meaning.specs.Inside.TypedWords.{AreTypedWords}
+use Rattle.isle_run.specs.Inside.Plain.LaidOut.Words.{AreLaid, made_of}
+use Rattle.isle_run.specs.Inside.Stores.Values.{StandEach, Extends}
+use Rattle.isle_run.specs.Inside.Plain.Underway.{Surroundings, Stops, ComesTo, AllComeTo, HasTypedValue, IsPart, known_at, HasValueAt, IsRight}
+use Rattle.isle_run.specs.Inside.Plain.Underway.{LeadsToWhole, IsUnderway, if_unknown, first_unknown, number_before, known_numbers, AreKnown}
 use Rattle.isle_run.proofs.Stores.Values.{stands_longer}
 
 -- an outcome without a value, of several words

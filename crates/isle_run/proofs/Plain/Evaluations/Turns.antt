@@ -11,8 +11,8 @@ use Rattle.isle_types.proofs.Lists.{slice_get-last}
 use Rattle.isle_meaning.specs.Words.{Word}
 use Rattle.isle_run.specs.declared.roads.plain.evaluation.Evaluation.{Evaluation}
 use Rattle.isle_run.specs.declared.calls.store.Stored.{Stored}
-use Rattle.isle_run.specs.Plain.Underway.{Surroundings, known_at, HasValueAt, LeadsToWhole, IsUnderway, IsKnown, IsAnswered, IsTop, top_of}
-use Rattle.isle_run.specs.Plain.Underway.{Remains, IsUnder, IsLater, IsSettled, one_unknown, unknown_parts, number_or_none, work_left, HasMoved}
+use Rattle.isle_run.specs.Inside.Plain.Underway.{Surroundings, known_at, HasValueAt, LeadsToWhole, IsUnderway, IsKnown, IsAnswered, IsTop, top_of}
+use Rattle.isle_run.specs.Inside.Plain.Underway.{Remains, IsUnder, IsLater, IsSettled, one_unknown, unknown_parts, number_or_none, work_left, HasMoved}
 use Rattle.isle_meaning.proofs.Calls.Outcomes.{one_longer}
 
 -- the last item of a list with one at the end

@@ -8,7 +8,7 @@ use Rattle.isle_run.specs.declared.roads.plain.evaluation.Step.{Step}
 use Rattle.isle_run.specs.declared.roads.plain.evaluation.Step.TheVariants.{Is}
 use Rattle.isle_run.specs.declared.calls.store.Stored.{Stored}
 use Rattle.isle_run.specs.declared.roads.plain.evaluation.Evaluation.{Evaluation}
-use Rattle.isle_run.specs.Plain.Underway.{known_at, IsKnown, if_unknown, first_unknown, number_before, known_numbers}
+use Rattle.isle_run.specs.Inside.Plain.Underway.{known_at, IsKnown, if_unknown, first_unknown, number_before, known_numbers}
 
 -- what isn't none is something
 pub some_there : (o : Option ℕ) → is_some o ≡ true → (n : ℕ) × (o ≡ Some n)

@@ -22,19 +22,19 @@ use Rattle.isle_run.specs.declared.roads.plain.laid.Part.TheVariants.{Impure}
 use Rattle.isle_types.specs.declared.ids.TermId.{TermId}
 use Rattle.isle_run.specs.declared.program.Program.{Program}
 use Rattle.isle_run.specs.declared.calls.store.Stored.{Stored}
-use Rattle.isle_run.specs.Plain.LaidOut.Words.{IsLaidOut}
+use Rattle.isle_run.specs.Inside.Plain.LaidOut.Words.{IsLaidOut}
 use Rattle.isle_run.specs.Meanings.{checked, may_run}
 use Rattle.isle_meaning.specs.Outcomes.{given}
 use Rattle.isle_run.specs.Programs.{types_of, terms_of}
 use Rattle.isle_meaning.specs.SoundPrograms.{AreSoundIfLets, AskNothingImpure, IsSoundExpr}
-use Rattle.isle_run.specs.Plain.Fitting.{HoldVariables}
-use Rattle.isle_meaning.specs.TypedWords.{GivesTyped}
-use Rattle.isle_run.specs.Plain.Underway.{Surroundings, HasTypedValue, IsPart, LeadsToWhole, IsUnderway, known_at}
-use Rattle.isle_run.specs.Plain.Asked.{IsAskedFor}
-use Rattle.isle_run.specs.Calls.Open.{CallOf}
-use Rattle.isle_run.specs.Plain.Frames.{below_call, RuleTried, rule_of, RuleComes, ConditionsCome, ConditionsLead, right_steps, right_word}
-use Rattle.isle_run.specs.Plain.Frames.{IsTried, Progress, around, scope_before, HasTypedBefore, IsAtIfLet, IsAtRight, root_at}
-use Rattle.isle_run.specs.Plain.Frames.{laid_at, root_there, IsBegun}
+use Rattle.isle_run.specs.Inside.Plain.Fitting.{HoldVariables}
+use Rattle.isle_meaning.specs.Inside.TypedWords.{GivesTyped}
+use Rattle.isle_run.specs.Inside.Plain.Underway.{Surroundings, HasTypedValue, IsPart, LeadsToWhole, IsUnderway, known_at}
+use Rattle.isle_run.specs.Inside.Plain.Asked.{IsAskedFor}
+use Rattle.isle_run.specs.Inside.Calls.Open.{CallOf}
+use Rattle.isle_run.specs.Inside.Plain.Frames.{below_call, RuleTried, rule_of, RuleComes, ConditionsCome, ConditionsLead, right_steps, right_word}
+use Rattle.isle_run.specs.Inside.Plain.Frames.{IsTried, Progress, around, scope_before, HasTypedBefore, IsAtIfLet, IsAtRight, root_at}
+use Rattle.isle_run.specs.Inside.Plain.Frames.{laid_at, root_there, IsBegun}
 use Rattle.isle_meaning.proofs.Calls.Meant.{plain_run_meant}
 use Rattle.isle_meaning.proofs.Calls.RuleGiving.{none_answered, rule_gives_typed}
 use Rattle.isle_meaning.proofs.Calls.WordTyping.{calls_types, expr_typed}

@@ -12,18 +12,18 @@ use Rattle.isle_meaning.specs.Words.{Word, call_word, Words, Step}
 use Rattle.isle_meaning.specs.Worlds.{CheckedProgram, Event}
 use Rattle.isle_run.specs.declared.roads.plain.evaluation.Evaluation.{Evaluation}
 use Rattle.isle_run.specs.declared.calls.store.Stored.{Stored}
-use Rattle.isle_run.specs.Plain.LaidOut.Words.{IsLaid}
+use Rattle.isle_run.specs.Inside.Plain.LaidOut.Words.{IsLaid}
 use Rattle.isle_run.specs.Meanings.{checked, may_run}
 use Rattle.isle_meaning.specs.Outcomes.{Outcome, given, missing, ended, Then, EffectsIf}
 use Rattle.isle_run.specs.Programs.{types_of}
-use Rattle.isle_run.specs.Stores.Values.{Stands}
-use Rattle.isle_meaning.specs.TypedWords.{IsTypedWord, IsTypedStep}
-use Rattle.isle_run.specs.Plain.Underway.{Surroundings, Stops, HasTypedValue, IsPart, ComesTo, AllComeTo, IsKnown, IsAnswered}
-use Rattle.isle_run.specs.Plain.Underway.{known_at, runs_below, WaitsFor}
-use Rattle.isle_run.specs.Plain.Asked.{IsAskedFor}
-use Rattle.isle_run.specs.Plain.Frames.{CallComes, below_call, ImpureComes, RuleTried, right_steps, right_word, StepsCome, RightComes, AwaitedBegins, RuleBegins, StepsBegin, begins_below}
-use Rattle.isle_run.specs.Plain.Frames.{IsTried, Progress, later, around_condition, condition_word, IsAtIfLet, RightSoFar, around_right}
-use Rattle.isle_run.specs.Plain.Frames.{IsAtRight, root_at, Awaited, AwaitedRuns, AwaitedComes, WaitsAtIfLet, WaitsAtRight}
+use Rattle.isle_run.specs.Inside.Stores.Values.{Stands}
+use Rattle.isle_meaning.specs.Inside.TypedWords.{IsTypedWord, IsTypedStep}
+use Rattle.isle_run.specs.Inside.Plain.Underway.{Surroundings, Stops, HasTypedValue, IsPart, ComesTo, AllComeTo, IsKnown, IsAnswered}
+use Rattle.isle_run.specs.Inside.Plain.Underway.{known_at, runs_below, WaitsFor}
+use Rattle.isle_run.specs.Inside.Plain.Asked.{IsAskedFor}
+use Rattle.isle_run.specs.Inside.Plain.Frames.{CallComes, below_call, ImpureComes, RuleTried, right_steps, right_word, StepsCome, RightComes, AwaitedBegins, RuleBegins, StepsBegin, begins_below}
+use Rattle.isle_run.specs.Inside.Plain.Frames.{IsTried, Progress, later, around_condition, condition_word, IsAtIfLet, RightSoFar, around_right}
+use Rattle.isle_run.specs.Inside.Plain.Frames.{IsAtRight, root_at, Awaited, AwaitedRuns, AwaitedComes, WaitsAtIfLet, WaitsAtRight}
 use Rattle.isle_run.proofs.Stores.Values.{extends_same}
 use Rattle.isle_meaning.proofs.Calls.Outcomes.{one_longer}
 use Rattle.isle_meaning.proofs.Calls.RuleGiving.{answers_append, step_gives_typed}

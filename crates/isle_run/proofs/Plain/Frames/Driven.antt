@@ -3,8 +3,8 @@ use Rattle.std.proofs.Common.{◌≡◌, List, [], refl}
 use Rattle.isle_run.specs.declared.calls.answer.Effect.{Effect}
 use Rattle.isle_run.specs.declared.calls.store.Stored.{Stored}
 use Rattle.isle_run.specs.declared.program.Program.{Program}
-use Rattle.isle_run.specs.Calls.States.{Host, State, state, HasGoneOn}
-use Rattle.isle_run.specs.Stores.Values.{Extends}
+use Rattle.isle_run.specs.Inside.Calls.States.{Host, State, state, HasGoneOn}
+use Rattle.isle_run.specs.Inside.Stores.Values.{Extends}
 use Rattle.isle_run.proofs.OpenCalls.Made.{made_none}
 use Rattle.isle_run.proofs.Stores.Values.{extends_again}
 

@@ -17,13 +17,13 @@ use Rattle.isle_run.specs.declared.calls.host.Told.TheVariants.{Gives, Missing a
 use Rattle.isle_run.specs.declared.calls.store.Stored.{Stored}
 use Rattle.isle_run.specs.Meanings.{checked}
 use Rattle.isle_meaning.specs.Outcomes.{Outcome, given, missing, ended, EffectsIf, WorldEffects}
-use Rattle.isle_run.specs.Stores.Values.{Stands, Extends}
-use Rattle.isle_run.specs.Calls.Host.{TellsValue}
-use Rattle.isle_run.specs.Plain.Underway.{Stops, IsAnswered}
-use Rattle.isle_run.specs.Calls.Open.{CallOf}
-use Rattle.isle_run.specs.Plain.Frames.{CallComes, below_call, ImpureComes, RuleTried, Progress, later, IsAt, IsAtRight, IsTryingRule}
-use Rattle.isle_run.specs.Plain.Frames.{Awaited, AwaitedRuns, AwaitedComes, WaitsAt, IsRuleHeldUp, rule_tried, progress, at_missing}
-use Rattle.isle_run.specs.Plain.Frames.{RuleEnds, IsEndingOf, IsFrameFor, FrameEnds}
+use Rattle.isle_run.specs.Inside.Stores.Values.{Stands, Extends}
+use Rattle.isle_run.specs.Inside.Calls.Host.{TellsValue}
+use Rattle.isle_run.specs.Inside.Plain.Underway.{Stops, IsAnswered}
+use Rattle.isle_run.specs.Inside.Calls.Open.{CallOf}
+use Rattle.isle_run.specs.Inside.Plain.Frames.{CallComes, below_call, ImpureComes, RuleTried, Progress, later, IsAt, IsAtRight, IsTryingRule}
+use Rattle.isle_run.specs.Inside.Plain.Frames.{Awaited, AwaitedRuns, AwaitedComes, WaitsAt, IsRuleHeldUp, rule_tried, progress, at_missing}
+use Rattle.isle_run.specs.Inside.Plain.Frames.{RuleEnds, IsEndingOf, IsFrameFor, FrameEnds}
 use Rattle.isle_run.proofs.Stores.Values.{stand_longer}
 use Rattle.isle_run.proofs.Plain.Evaluations.Going.{waits_longer}
 use Rattle.isle_run.proofs.Plain.Evaluations.Parts.{underway_longer}

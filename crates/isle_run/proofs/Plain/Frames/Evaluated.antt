@@ -18,14 +18,14 @@ use Rattle.isle_run.specs.declared.calls.store.Stored.{Stored}
 use Rattle.isle_run.specs.Meanings.{checked, may_run}
 use Rattle.isle_meaning.specs.Outcomes.{Outcome, missing, ended}
 use Rattle.isle_run.specs.Programs.{types_of}
-use Rattle.isle_run.specs.Stores.Values.{Extends}
-use Rattle.isle_run.specs.Plain.Fitting.{HoldVariables}
-use Rattle.isle_meaning.specs.TypedWords.{IsTypedWord}
-use Rattle.isle_run.specs.Plain.Underway.{Surroundings, Stops, HasTypedValue, IsPart, ComesTo, IsUnderway, IsKnown, IsLater, Tells, AreAround}
-use Rattle.isle_run.specs.Plain.Asked.{IsAskedFor}
-use Rattle.isle_run.specs.Plain.Frames.{CallComes, CallEnds, RulesLead, RuleTried, RuleComes, right_steps, right_word, RightComes, IsTried}
-use Rattle.isle_run.specs.Plain.Frames.{Progress, later, ConditionAt, around_condition, condition_word, IsAtIfLet, word_needed, root_at}
-use Rattle.isle_run.specs.Plain.Frames.{RightSoFar, around_right, IsAtRight, IsTryingRule, awaited, IsRuleHeldUp, laid_at, IsOnWay}
+use Rattle.isle_run.specs.Inside.Stores.Values.{Extends}
+use Rattle.isle_run.specs.Inside.Plain.Fitting.{HoldVariables}
+use Rattle.isle_meaning.specs.Inside.TypedWords.{IsTypedWord}
+use Rattle.isle_run.specs.Inside.Plain.Underway.{Surroundings, Stops, HasTypedValue, IsPart, ComesTo, IsUnderway, IsKnown, IsLater, Tells, AreAround}
+use Rattle.isle_run.specs.Inside.Plain.Asked.{IsAskedFor}
+use Rattle.isle_run.specs.Inside.Plain.Frames.{CallComes, CallEnds, RulesLead, RuleTried, RuleComes, right_steps, right_word, RightComes, IsTried}
+use Rattle.isle_run.specs.Inside.Plain.Frames.{Progress, later, ConditionAt, around_condition, condition_word, IsAtIfLet, word_needed, root_at}
+use Rattle.isle_run.specs.Inside.Plain.Frames.{RightSoFar, around_right, IsAtRight, IsTryingRule, awaited, IsRuleHeldUp, laid_at, IsOnWay}
 use Rattle.isle_meaning.proofs.Calls.RuleGiving.{none_answered}
 use Rattle.isle_run.proofs.Plain.Patterns.Numbers.{hold_longer}
 use Rattle.isle_run.proofs.Plain.Frames.Rules.{rule_left, rule_ended, right_comes}

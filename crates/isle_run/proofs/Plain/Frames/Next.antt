@@ -20,15 +20,15 @@ use Rattle.isle_meaning.specs.Outcomes.{Outcome, given, missing, ended, unmatche
 use Rattle.isle_meaning.specs.PlainRuns.{PatternRuns, PatternsRun, no_variables, AreTriedInOrder}
 use Rattle.isle_meaning.specs.Calls.{IsRuleAt}
 use Rattle.isle_run.specs.declared.program.Program.{Program}
-use Rattle.isle_run.specs.Stores.Values.{Stands}
-use Rattle.isle_run.specs.Plain.Fitting.{HoldVariables}
-use Rattle.isle_run.specs.Plain.Underway.{HasTypedValue, ComesTo, IsUnderway, IsKnown, known_at}
-use Rattle.isle_run.specs.Plain.Asked.{IsAskedFor}
-use Rattle.isle_run.specs.Calls.Open.{CallOf}
-use Rattle.isle_run.specs.Plain.Frames.{CallComes, below_call, RulesLead, RuleTried, rule_of, ConditionsCome, ConditionsLead, right_steps}
-use Rattle.isle_run.specs.Plain.Frames.{right_word, RightComes, IsTried, Progress, later, scope_before, HasTypedBefore, ConditionAt}
-use Rattle.isle_run.specs.Plain.Frames.{around_condition, condition_word, IsAtIfLet, word_needed, around_right, IsAtRight, IsAt}
-use Rattle.isle_run.specs.Plain.Frames.{root_at, word_at, laid_at, root_there, IsBegun, IsBegunAt}
+use Rattle.isle_run.specs.Inside.Stores.Values.{Stands}
+use Rattle.isle_run.specs.Inside.Plain.Fitting.{HoldVariables}
+use Rattle.isle_run.specs.Inside.Plain.Underway.{HasTypedValue, ComesTo, IsUnderway, IsKnown, known_at}
+use Rattle.isle_run.specs.Inside.Plain.Asked.{IsAskedFor}
+use Rattle.isle_run.specs.Inside.Calls.Open.{CallOf}
+use Rattle.isle_run.specs.Inside.Plain.Frames.{CallComes, below_call, RulesLead, RuleTried, rule_of, ConditionsCome, ConditionsLead, right_steps}
+use Rattle.isle_run.specs.Inside.Plain.Frames.{right_word, RightComes, IsTried, Progress, later, scope_before, HasTypedBefore, ConditionAt}
+use Rattle.isle_run.specs.Inside.Plain.Frames.{around_condition, condition_word, IsAtIfLet, word_needed, around_right, IsAtRight, IsAt}
+use Rattle.isle_run.specs.Inside.Plain.Frames.{root_at, word_at, laid_at, root_there, IsBegun, IsBegunAt}
 use Rattle.isle_meaning.proofs.Calls.RuleGiving.{none_answered}
 use Rattle.isle_meaning.proofs.Calls.Giving.{words_give_typed, patterns_give_typed, patterns_give_typed_all}
 use Rattle.isle_meaning.proofs.Calls.Outcomes.{after_given}

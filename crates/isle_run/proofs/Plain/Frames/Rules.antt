@@ -4,7 +4,7 @@ use Rattle.isle_meaning.specs.Values.{Value}
 use Rattle.isle_meaning.specs.Worlds.{Event}
 use Rattle.isle_meaning.specs.Asking.{Ended}
 use Rattle.isle_meaning.specs.Outcomes.{Outcome, given, missing, ended}
-use Rattle.isle_run.specs.Plain.Frames.{CallComes, RulesLead, RuleTried, RuleComes, RightComes, IsTried}
+use Rattle.isle_run.specs.Inside.Plain.Frames.{CallComes, RulesLead, RuleTried, RuleComes, RightComes, IsTried}
 
 module _ {t : RuleTried} (is : IsTried t) where
   -- a rule that is left leaves the others

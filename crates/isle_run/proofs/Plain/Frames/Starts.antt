@@ -13,11 +13,11 @@ use Rattle.isle_run.specs.declared.roads.plain.frame.Frame.{Frame}
 use Rattle.isle_run.specs.declared.roads.plain.frame.current.At.{At}
 use Rattle.isle_run.specs.declared.roads.plain.frame.current.At.TheVariants.{IfLet, Right, Left, Missed}
 use Rattle.isle_run.specs.declared.roads.plain.frame.current.Current.{Current}
-use Rattle.isle_run.specs.Calls.Open.{CallOf}
+use Rattle.isle_run.specs.Inside.Calls.Open.{CallOf}
 use Rattle.isle_run.specs.Meanings.{checked, may_run}
-use Rattle.isle_run.specs.Plain.Underway.{Surroundings, WaitsFor}
-use Rattle.isle_run.specs.Plain.Frames.{CallBegins, begins_below, RuleTried, IsTried, Progress, RightSoFar, IsTryingRule, IsAt}
-use Rattle.isle_run.specs.Plain.Frames.{Goes, IsFrameOf, Awaited, AwaitedBegins, WaitsAt, IsRuleHeldUp, IsWaitingFor}
+use Rattle.isle_run.specs.Inside.Plain.Underway.{Surroundings, WaitsFor}
+use Rattle.isle_run.specs.Inside.Plain.Frames.{CallBegins, begins_below, RuleTried, IsTried, Progress, RightSoFar, IsTryingRule, IsAt}
+use Rattle.isle_run.specs.Inside.Plain.Frames.{Goes, IsFrameOf, Awaited, AwaitedBegins, WaitsAt, IsRuleHeldUp, IsWaitingFor}
 use Rattle.isle_run.proofs.Plain.Frames.Calls.{pure_call, condition_pure, right_begins_here}
 use Rattle.isle_run.proofs.SoundPrograms.Known.{sound_of}
 

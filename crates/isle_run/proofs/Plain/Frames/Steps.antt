@@ -6,12 +6,12 @@ use Rattle.isle_meaning.specs.Values.{Value, Values}
 use Rattle.isle_meaning.specs.Words.{Word, call_word, Step}
 use Rattle.isle_meaning.specs.Worlds.{CheckedProgram, Answers, Event}
 use Rattle.isle_run.specs.declared.roads.plain.laid.Part.{Part}
-use Rattle.isle_run.specs.Plain.LaidOut.Words.{IsLaid, IsLaidStep}
+use Rattle.isle_run.specs.Inside.Plain.LaidOut.Words.{IsLaid, IsLaidStep}
 use Rattle.isle_meaning.specs.Outcomes.{Outcome, given, missing, ended, After, Then}
 use Rattle.isle_meaning.specs.PlainRuns.{WordRuns, RightRuns}
-use Rattle.isle_meaning.specs.TypedWords.{IsTypedWord, IsTypedStep, AreTypedSteps}
-use Rattle.isle_run.specs.Plain.Underway.{Stops}
-use Rattle.isle_run.specs.Plain.Frames.{word_at}
+use Rattle.isle_meaning.specs.Inside.TypedWords.{IsTypedWord, IsTypedStep, AreTypedSteps}
+use Rattle.isle_run.specs.Inside.Plain.Underway.{Stops}
+use Rattle.isle_run.specs.Inside.Plain.Frames.{word_at}
 
 -- an impure call that wasn't answered comes to no value
 call_stops : (done : List (Option Value)) (i : ℕ) (g : Outcome Values) (r : Outcome Value)

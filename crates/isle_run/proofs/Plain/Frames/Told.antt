@@ -29,15 +29,15 @@ use Rattle.isle_run.specs.Meanings.{checked, may_run}
 use Rattle.isle_meaning.specs.Outcomes.{given, ended, WorldEffects}
 use Rattle.isle_meaning.specs.PlainRuns.{PatternRuns, no_variables}
 use Rattle.isle_run.specs.Programs.{types_of}
-use Rattle.isle_run.specs.Stores.Values.{Stands, StandEach, Extends}
-use Rattle.isle_run.specs.Plain.Fitting.{TellsFit, number_of_variable, shown_in, all_shown_in, FitTold, FitAllTold}
-use Rattle.isle_run.specs.Calls.Host.{TellsValue}
-use Rattle.isle_run.specs.Calls.Open.{CallOf}
-use Rattle.isle_run.specs.Calls.States.{Host, State, IsOpenIn, answers_of}
-use Rattle.isle_run.specs.Plain.Underway.{known_at, ComesTo, IsLater}
-use Rattle.isle_run.specs.Plain.Laid.{IsLaidRule}
-use Rattle.isle_run.specs.Plain.Frames.{CallComes, CallEnds, HasTypedArgs, RulesLead, RuleTried, rule_of, IsTried, Progress, later, IsAtIfLet, IsAt}
-use Rattle.isle_run.specs.Plain.Frames.{IsTryingRule, rule_tried, progress, IsTrying, around_condition, condition_word, laid_at, IsBegunAt, IsOnWay}
+use Rattle.isle_run.specs.Inside.Stores.Values.{Stands, StandEach, Extends}
+use Rattle.isle_run.specs.Inside.Plain.Fitting.{TellsFit, number_of_variable, shown_in, all_shown_in, FitTold, FitAllTold}
+use Rattle.isle_run.specs.Inside.Calls.Host.{TellsValue}
+use Rattle.isle_run.specs.Inside.Calls.Open.{CallOf}
+use Rattle.isle_run.specs.Inside.Calls.States.{Host, State, IsOpenIn, answers_of}
+use Rattle.isle_run.specs.Inside.Plain.Underway.{known_at, ComesTo, IsLater}
+use Rattle.isle_run.specs.Inside.Plain.Laid.{IsLaidRule}
+use Rattle.isle_run.specs.Inside.Plain.Frames.{CallComes, CallEnds, HasTypedArgs, RulesLead, RuleTried, rule_of, IsTried, Progress, later, IsAtIfLet, IsAt}
+use Rattle.isle_run.specs.Inside.Plain.Frames.{IsTryingRule, rule_tried, progress, IsTrying, around_condition, condition_word, laid_at, IsBegunAt, IsOnWay}
 use Rattle.isle_run.proofs.SoundPrograms.Known.{sound_of}
 use Rattle.isle_run.proofs.Plain.Frames.Evaluated.{EvaluationTold, RuleEvaluated, rule_evaluated}
 use Rattle.isle_run.proofs.Plain.Frames.Steps.{index_there}

@@ -23,14 +23,14 @@ use Rattle.isle_run.specs.declared.roads.plain.laid.Laid.{Laid}
 use Rattle.isle_run.specs.declared.roads.plain.laid.LaidRule.{LaidRule}
 use Rattle.isle_run.specs.declared.program.Program.{Program}
 use Rattle.isle_run.specs.declared.calls.store.Stored.{Stored}
-use Rattle.isle_run.specs.Plain.LaidOut.Words.{IsLaidOut, StandBehind}
-use Rattle.isle_run.specs.Stores.Values.{Stands, StandEach, Extends}
-use Rattle.isle_run.specs.Plain.Laid.{IsLaidRule, AllStandBehind}
-use Rattle.isle_run.specs.Calls.Open.{CallOf}
-use Rattle.isle_run.specs.Calls.States.{Host, State, IsOpenIn, answers_of}
-use Rattle.isle_run.specs.Plain.Fitting.{number_of_variable, all_shown_in, FitAllTold}
-use Rattle.isle_run.specs.Plain.Frames.{CallComes, RulesLead, RuleTried, IsTryingRule, IsTrying, Goes, IsFrameFor, IsFrameOf, AdvancesTo}
-use Rattle.isle_run.specs.Calls.Ways.{UnmatchedIs}
+use Rattle.isle_run.specs.Inside.Plain.LaidOut.Words.{IsLaidOut, StandBehind}
+use Rattle.isle_run.specs.Inside.Stores.Values.{Stands, StandEach, Extends}
+use Rattle.isle_run.specs.Inside.Plain.Laid.{IsLaidRule, AllStandBehind}
+use Rattle.isle_run.specs.Inside.Calls.Open.{CallOf}
+use Rattle.isle_run.specs.Inside.Calls.States.{Host, State, IsOpenIn, answers_of}
+use Rattle.isle_run.specs.Inside.Plain.Fitting.{number_of_variable, all_shown_in, FitAllTold}
+use Rattle.isle_run.specs.Inside.Plain.Frames.{CallComes, RulesLead, RuleTried, IsTryingRule, IsTrying, Goes, IsFrameFor, IsFrameOf, AdvancesTo}
+use Rattle.isle_run.specs.Inside.Calls.Ways.{UnmatchedIs}
 use Rattle.isle_run.proofs.Stores.Values.{stand_longer, extends_again}
 use Rattle.isle_run.proofs.Plain.Frames.Next.{none_leads}
 use Rattle.isle_run.proofs.Plain.Frames.Told.{of_open, PatternsEnd, patterns_come}

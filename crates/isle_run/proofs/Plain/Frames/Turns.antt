@@ -12,14 +12,14 @@ use Rattle.isle_run.specs.declared.roads.plain.frame.Ending.{Ending}
 use Rattle.isle_run.specs.declared.roads.plain.laid.Laid.{Laid}
 use Rattle.isle_run.specs.declared.roads.plain.laid.LaidRule.{LaidRule}
 use Rattle.isle_run.specs.declared.calls.store.Stored.{Stored}
-use Rattle.isle_run.specs.Plain.LaidOut.Words.{StandBehind}
+use Rattle.isle_run.specs.Inside.Plain.LaidOut.Words.{StandBehind}
 use Rattle.isle_meaning.specs.Outcomes.{given}
-use Rattle.isle_run.specs.Stores.Values.{Stands}
-use Rattle.isle_run.specs.Plain.Underway.{known_at}
-use Rattle.isle_run.specs.Plain.Laid.{AllStandBehind}
-use Rattle.isle_run.specs.Calls.Open.{CallOf}
-use Rattle.isle_run.specs.Plain.Frames.{CallComes, RulesLead, RuleTried, Progress, later, IsTryingRule, rule_tried, RuleEnds, laid_at, root_at}
-use Rattle.isle_run.specs.Plain.Frames.{ending_missing}
+use Rattle.isle_run.specs.Inside.Stores.Values.{Stands}
+use Rattle.isle_run.specs.Inside.Plain.Underway.{known_at}
+use Rattle.isle_run.specs.Inside.Plain.Laid.{AllStandBehind}
+use Rattle.isle_run.specs.Inside.Calls.Open.{CallOf}
+use Rattle.isle_run.specs.Inside.Plain.Frames.{CallComes, RulesLead, RuleTried, Progress, later, IsTryingRule, rule_tried, RuleEnds, laid_at, root_at}
+use Rattle.isle_run.specs.Inside.Plain.Frames.{ending_missing}
 use Rattle.isle_run.proofs.Plain.Frames.Rules.{rule_left}
 use Rattle.isle_run.proofs.Plain.Frames.Evaluated.{MissesAt}
 use Rattle.isle_run.proofs.Plain.Frames.Next.{right_result, right_next}

@@ -10,11 +10,11 @@ use Rattle.isle_run.specs.declared.roads.plain.frame.current.Current.{Current}
 use Rattle.isle_run.specs.declared.calls.store.Stored.{Stored}
 use Rattle.isle_run.specs.Meanings.{checked}
 use Rattle.isle_meaning.specs.Outcomes.{Outcome, given, missing, ended, EffectsIf}
-use Rattle.isle_run.specs.Stores.Values.{Stands, Extends}
-use Rattle.isle_run.specs.Plain.Underway.{IsAnswered}
-use Rattle.isle_run.specs.Calls.Open.{CallOf}
-use Rattle.isle_run.specs.Plain.Frames.{CallComes, below_call, ImpureComes, IsTryingRule, rule_tried, progress, awaited, IsHeldUp}
-use Rattle.isle_run.specs.Plain.Frames.{IsWaitingFor, at_missing}
+use Rattle.isle_run.specs.Inside.Stores.Values.{Stands, Extends}
+use Rattle.isle_run.specs.Inside.Plain.Underway.{IsAnswered}
+use Rattle.isle_run.specs.Inside.Calls.Open.{CallOf}
+use Rattle.isle_run.specs.Inside.Plain.Frames.{CallComes, below_call, ImpureComes, IsTryingRule, rule_tried, progress, awaited, IsHeldUp}
+use Rattle.isle_run.specs.Inside.Plain.Frames.{IsWaitingFor, at_missing}
 use Rattle.isle_run.proofs.Plain.Frames.Ends.{held_longer, held_answered, held_unanswered, held_ended, frame_longer}
 
 module _ (k : CallOf) (stored : List Stored) (frame : Frame) (since : List Event) (term : TermId) (args : Values)

@@ -8,10 +8,10 @@ use Rattle.isle_meaning.specs.Worlds.{Answers, Event}
 use Rattle.isle_run.specs.declared.calls.answer.Called.{Called}
 use Rattle.isle_run.specs.declared.program.Program.{Program}
 use Rattle.isle_run.specs.Calls.Answers.{TellsOutcome}
-use Rattle.isle_run.specs.Calls.Ways.{IsWay, IsReady}
-use Rattle.isle_run.specs.Plain.Frames.{AnyProgram}
+use Rattle.isle_run.specs.Inside.Calls.Ways.{IsWay, IsReady}
+use Rattle.isle_run.specs.Inside.Plain.Frames.{AnyProgram}
 use Rattle.isle_run.specs.Meanings.{checked, may_run}
-use Rattle.isle_run.specs.Plain.Frames.{plain_way}
+use Rattle.isle_run.specs.Inside.Plain.Frames.{plain_way}
 use Rattle.isle_run.specs.PlainCalls.{TellsPlainly, BeginsPlainly}
 use Rattle.isle_meaning.proofs.Calls.Effectless.{pure_makes_nothing}
 use Rattle.isle_meaning.proofs.Calls.Beginnings.{plain_stops, plain_begins, pure_begins_empty}

@@ -3,7 +3,7 @@ use Rattle.std.proofs.Common.{ℕ, zero, suc, List, [], ◌∷◌}
 use Rattle.isle_meaning.specs.Words.{Word, var_word, bool_word, int_word, prim_word, variant_word, struct_word, call_word, Words}
 use Rattle.isle_meaning.specs.Words.{no_words, more_words, Step}
 use Rattle.isle_meaning.specs.Worlds.{CheckedProgram}
-use Rattle.isle_meaning.specs.TypedWords.{IsTypedWord, AreTypedWords, AreTypedSteps}
+use Rattle.isle_meaning.specs.Inside.TypedWords.{IsTypedWord, AreTypedWords, AreTypedSteps}
 
 module _ (p : CheckedProgram) (R S T : ℕ → Type 0) (G D : ℕ → ℕ) (wider : (k : ℕ) → S k → T k) where
   mutual

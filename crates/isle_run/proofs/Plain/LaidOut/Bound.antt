@@ -3,7 +3,7 @@ use Rattle.std.proofs.Common.{◌≡◌, ℕ, List, [], ◌∷◌, ◌++◌, Opt
 use Rattle.std.proofs.lemmas.Bool.{eqb-true}
 use Rattle.isle_types.specs.declared.ids.VarId.{VarId}
 use Rattle.isle_meaning.specs.Words.{set}
-use Rattle.isle_run.specs.Plain.LaidOut.Expressions.{undone}
+use Rattle.isle_run.specs.Inside.Plain.LaidOut.Expressions.{undone}
 
 -- where two functions agree, they agree with one value put in
 pub set_same : {A : Type 0} (f g : ℕ → A) (v : ℕ) (x : A) (k : ℕ) → f k ≡ g k → set f v x k ≡ set g v x k

@@ -5,8 +5,8 @@ use Rattle.std.proofs.lemmas.Option.{slice_get_within}
 use Rattle.isle_types.specs.declared.ids.TermId.{TermId}
 use Rattle.isle_types.proofs.Lists.{slice_get-pushed, slice_get-last, slice_get-kept}
 use Rattle.isle_meaning.specs.Words.{Step}
-use Rattle.isle_run.specs.Plain.LaidOut.Words.{IsLaidStep}
-use Rattle.isle_run.specs.Plain.LaidOut.Expressions.{StandOnce, Ascend}
+use Rattle.isle_run.specs.Inside.Plain.LaidOut.Words.{IsLaidStep}
+use Rattle.isle_run.specs.Inside.Plain.LaidOut.Expressions.{StandOnce, Ascend}
 use Rattle.isle_run.specs.declared.roads.plain.laid.Part.{Part}
 use Rattle.isle_run.specs.declared.roads.plain.laid.Part.TheVariants.{Impure}
 

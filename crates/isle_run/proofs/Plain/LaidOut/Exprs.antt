@@ -17,9 +17,9 @@ use Rattle.isle_meaning.specs.Words.{Word, var_word, bool_word, int_word, prim_w
 use Rattle.isle_terms.specs.Shown.TermTables.{TermTables}
 use Rattle.isle_terms.specs.Shown.ShownRules.{built_shown, built_list, binding_list}
 use Rattle.isle_run.specs.Laws.Terms.{term_facts}
-use Rattle.isle_run.specs.Plain.LaidOut.Words.{IsLaid, StandBehind, IsLaidStep, IsLaidOut}
-use Rattle.isle_run.specs.Plain.LaidOut.Expressions.{stands_for, StandForTheSame, Binds, Restores, IsBound, Keeps, IsPut, IsLayout, Lays, LaysAll, LaysLet}
-use Rattle.isle_run.specs.Plain.LaidOut.Expressions.{StandOnce, Ascend, LaysExpr, LaysExprs, binding_shown, LaysBindings, LaysTerm}
+use Rattle.isle_run.specs.Inside.Plain.LaidOut.Words.{IsLaid, StandBehind, IsLaidStep, IsLaidOut}
+use Rattle.isle_run.specs.Inside.Plain.LaidOut.Expressions.{stands_for, StandForTheSame, Binds, Restores, IsBound, Keeps, IsPut, IsLayout, Lays, LaysAll, LaysLet}
+use Rattle.isle_run.specs.Inside.Plain.LaidOut.Expressions.{StandOnce, Ascend, LaysExpr, LaysExprs, binding_shown, LaysBindings, LaysTerm}
 use Rattle.isle_run.specs.declared.roads.plain.laid.Laid.{Laid}
 use Rattle.isle_run.specs.declared.roads.plain.laid.Layout.{Layout}
 use Rattle.isle_run.specs.declared.roads.plain.laid.Part.{Part}

@@ -6,8 +6,8 @@ use Rattle.std.proofs.lemmas.List.Elements.{All-cons, All-nil}
 use Rattle.isle_types.proofs.Lists.{slice_get-pushed, slice_get-kept}
 use Rattle.isle_meaning.specs.Words.{Word, var_word, bool_word, int_word, prim_word, variant_word, struct_word, call_word, Words}
 use Rattle.isle_meaning.specs.Words.{no_words, more_words, Step}
-use Rattle.isle_run.specs.Plain.LaidOut.Words.{IsLaid, AreLaid, made_of, StandBehind, IsLaidStep}
-use Rattle.isle_run.specs.Plain.LaidOut.Expressions.{IsBound, Keeps}
+use Rattle.isle_run.specs.Inside.Plain.LaidOut.Words.{IsLaid, AreLaid, made_of, StandBehind, IsLaidStep}
+use Rattle.isle_run.specs.Inside.Plain.LaidOut.Expressions.{IsBound, Keeps}
 use Rattle.isle_run.specs.declared.roads.plain.laid.Part.{Part}
 
 -- a word stays laid at its part

@@ -10,7 +10,7 @@ use Rattle.std.proofs.lemmas.Map.Views.{list_any-from_Contains}
 use Rattle.std.proofs.lemmas.Option.{slice_get_cases}
 use Rattle.isle_types.proofs.Zipped.{all_at}
 use Rattle.isle_terms.specs.declared.rules.Rule.{Rule}
-use Rattle.isle_run.specs.Plain.LaidOut.Rules.{is_of_term, TriedBefore, AreByPriority, AreTried}
+use Rattle.isle_run.specs.Inside.Plain.LaidOut.Rules.{is_of_term, TriedBefore, AreByPriority, AreTried}
 
 -- what a filter keeps of a number
 any_filtered : (p : ℕ → Bool) (i : ℕ) (xs : List ℕ) → list_any (λ x. i == x) (filter p xs) ≡ (p i && list_any (λ x. i == x) xs)

@@ -18,7 +18,7 @@ use Rattle.std.proofs.lemmas.Map.Made.{AllPairs-from_IsDistinct, IsDistinct-from
 use Rattle.std.proofs.lemmas.Option.{same_Some, slice_get_within, slice_get-get_or, get_or_from_slice_get}
 use Rattle.isle_types.proofs.RootedTables.{Contains-map}
 use Rattle.isle_terms.specs.declared.rules.Rule.{Rule}
-use Rattle.isle_run.specs.Plain.LaidOut.Rules.{priority_of, TriedBefore, AreByPriority}
+use Rattle.isle_run.specs.Inside.Plain.LaidOut.Rules.{priority_of, TriedBefore, AreByPriority}
 
 -- a rule's priority, the greatest first, with the rule's place
 abbrev pub Key : Type 0

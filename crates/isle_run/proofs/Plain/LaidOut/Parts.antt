@@ -5,8 +5,8 @@ use Rattle.std.proofs.lemmas.Slice.Zip.{all_zipped_more, AllZip-long}
 use Rattle.isle_types.specs.declared.ids.TermId.{TermId}
 use Rattle.isle_types.proofs.Lists.{slice_get-last}
 use Rattle.isle_meaning.specs.Words.{Word, call_word, Step}
-use Rattle.isle_run.specs.Plain.LaidOut.Words.{IsLaid, AreLaid, made_of, StandBehind, IsLaidStep}
-use Rattle.isle_run.specs.Plain.LaidOut.Expressions.{stands_for, IsBound, Keeps, StandOnce, Ascend, IsPut, IsLayout, Lays, LaysCall}
+use Rattle.isle_run.specs.Inside.Plain.LaidOut.Words.{IsLaid, AreLaid, made_of, StandBehind, IsLaidStep}
+use Rattle.isle_run.specs.Inside.Plain.LaidOut.Expressions.{stands_for, IsBound, Keeps, StandOnce, Ascend, IsPut, IsLayout, Lays, LaysCall}
 use Rattle.isle_run.specs.declared.roads.plain.laid.Layout.{Layout}
 use Rattle.isle_run.specs.declared.roads.plain.laid.Part.{Part}
 use Rattle.isle_run.specs.declared.roads.plain.laid.Part.TheVariants.{Call, Impure}

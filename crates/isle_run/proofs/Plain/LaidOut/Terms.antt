@@ -18,7 +18,7 @@ use Rattle.isle_meaning.specs.Words.{Word, variant_word, struct_word, Words, Ste
 use Rattle.isle_terms.specs.Shown.TermTables.{TermTables}
 use Rattle.isle_terms.specs.Shown.ShownTerms.{term_shown, form_shown}
 use Rattle.isle_run.specs.Laws.Terms.{signature_at, term_facts}
-use Rattle.isle_run.specs.Plain.LaidOut.Expressions.{IsPut, Lays, LaysTerm, LaysCall}
+use Rattle.isle_run.specs.Inside.Plain.LaidOut.Expressions.{IsPut, Lays, LaysTerm, LaysCall}
 use Rattle.isle_run.specs.declared.roads.plain.laid.Layout.{Layout}
 use Rattle.isle_run.specs.declared.roads.plain.laid.Part.TheVariants.{Variant, Struct}
 use Rattle.isle_run.proofs.Plain.LaidOut.Kept.{are_laid_kept, are_laid_inside}

@@ -24,9 +24,9 @@ use Rattle.isle_meaning.specs.Words.{no_words, more_words, Step, word_of, steps_
 use Rattle.isle_terms.specs.Shown.TermTables.{TermTables}
 use Rattle.isle_terms.specs.Shown.ShownRules.{built_shown}
 use Rattle.isle_run.specs.Laws.Terms.{term_facts}
-use Rattle.isle_run.specs.Plain.LaidOut.Words.{IsLaid, AreLaid, made_of, IsLaidStep, IsLaidOut}
-use Rattle.isle_run.specs.Plain.LaidOut.Rules.{IsConditionLaidOut, IsRuleLaidOut, AreRulesLaidOut}
-use Rattle.isle_run.specs.Plain.LaidOut.Rules.{is_of_term, listed_at, tried_order, AreListedInOrder}
+use Rattle.isle_run.specs.Inside.Plain.LaidOut.Words.{IsLaid, AreLaid, made_of, IsLaidStep, IsLaidOut}
+use Rattle.isle_run.specs.Inside.Plain.LaidOut.Rules.{IsConditionLaidOut, IsRuleLaidOut, AreRulesLaidOut}
+use Rattle.isle_run.specs.Inside.Plain.LaidOut.Rules.{is_of_term, listed_at, tried_order, AreListedInOrder}
 use Rattle.isle_run.specs.declared.roads.plain.laid.Laid.{Laid}
 use Rattle.isle_run.specs.declared.roads.plain.laid.LaidRule.{LaidRule}
 use Rattle.isle_run.specs.declared.roads.plain.laid.Part.{Part}

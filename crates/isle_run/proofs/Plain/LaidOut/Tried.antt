@@ -13,8 +13,8 @@ use Rattle.isle_terms.specs.TypedRules.{TypedRule}
 use Rattle.isle_meaning.specs.Calls.{IsRuleAt}
 use Rattle.isle_run.specs.declared.roads.plain.laid.LaidRule.{LaidRule}
 use Rattle.isle_run.specs.declared.program.Program.{Program}
-use Rattle.isle_run.specs.Plain.Laid.{IsLaidRule}
-use Rattle.isle_run.specs.Plain.LaidOut.Rules.{IsRuleLaidOut, priority_of, TriedBefore, is_of_term, AreTried}
+use Rattle.isle_run.specs.Inside.Plain.Laid.{IsLaidRule}
+use Rattle.isle_run.specs.Inside.Plain.LaidOut.Rules.{IsRuleLaidOut, priority_of, TriedBefore, is_of_term, AreTried}
 use Rattle.isle_run.specs.Meanings.{checked, rule_shown}
 use Rattle.isle_meaning.specs.PlainRuns.{IsTriedBefore, AreTriedInOrder}
 use Rattle.isle_run.specs.Programs.{types_of, terms_of}

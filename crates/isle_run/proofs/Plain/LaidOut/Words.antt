@@ -11,8 +11,8 @@ use Rattle.isle_terms.specs.TypedRules.{TypedExpr, built_var, built_bool, built_
 use Rattle.isle_meaning.specs.Facts.{TermFacts}
 use Rattle.isle_meaning.specs.Words.{Word, Words, no_words, more_words, Step, set, flat, flat_all, flat_lets}
 use Rattle.isle_terms.specs.Shown.ShownRules.{built_step, built_shown, built_list, binding_list}
-use Rattle.isle_run.specs.Plain.LaidOut.Expressions.{binding_shown}
-use Rattle.isle_run.specs.Plain.LaidOut.Words.{IsLaid, AreLaid}
+use Rattle.isle_run.specs.Inside.Plain.LaidOut.Expressions.{binding_shown}
+use Rattle.isle_run.specs.Inside.Plain.LaidOut.Words.{IsLaid, AreLaid}
 use Rattle.isle_run.specs.declared.roads.plain.laid.Part.{Part}
 
 -- the bindings that a fold shows

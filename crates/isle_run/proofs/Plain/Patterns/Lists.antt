@@ -14,10 +14,10 @@ use Rattle.isle_run.specs.declared.roads.plain.fitting.Fitted.TheVariants.{Fits,
 use Rattle.isle_run.specs.declared.program.Program.{Program}
 use Rattle.isle_run.specs.declared.calls.store.Stored.{Stored}
 use Rattle.isle_run.specs.declared.roads.plain.variables.Variables.{Variables}
-use Rattle.isle_run.specs.Plain.Fitting.{AllReads, EachReads, TellsFit, shown_in, all_shown_in, FitTold}
+use Rattle.isle_run.specs.Inside.Plain.Fitting.{AllReads, EachReads, TellsFit, shown_in, all_shown_in, FitTold}
 use Rattle.isle_run.specs.Meanings.{checked}
 use Rattle.isle_meaning.specs.Outcomes.{Outcome, missing}
-use Rattle.isle_run.specs.Stores.Values.{Extends}
+use Rattle.isle_run.specs.Inside.Stores.Values.{Extends}
 use Rattle.isle_run.proofs.Plain.Patterns.Numbers.{AllGo, EachGo, all_go, each_go, all_missing, all_more, all_done, each_done}
 
 module _ (program : Program) (w : Answers) (types : ℕ → ℕ) (P : Outcome (ℕ → Value) → Type 0) (patterns : List Pattern) where

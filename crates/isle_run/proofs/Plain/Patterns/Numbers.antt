@@ -21,12 +21,13 @@ use Rattle.isle_run.specs.declared.calls.host.Told.{Told}
 use Rattle.isle_run.specs.declared.calls.store.Stored.{Stored}
 use Rattle.isle_run.specs.declared.calls.store.Stored.TheVariants.{Variant, Struct}
 use Rattle.isle_run.specs.declared.roads.plain.variables.Variables.{Variables}
-use Rattle.isle_run.specs.Plain.Fitting.{OpensBy, AreFieldsOf, TellsFields, AllReads, EachReads, number_of_variable, HoldVariables, TellsFit}
+use Rattle.isle_run.specs.Inside.Plain.Fitting.{OpensBy, AreFieldsOf, TellsFields, AllReads, EachReads, number_of_variable, HoldVariables, TellsFit}
 use Rattle.isle_meaning.specs.Outcomes.{Outcome, given, missing, ended, After}
 use Rattle.isle_meaning.specs.PlainRuns.{Tests, OpenRuns, PatternRuns, PatternsRun, EachRuns}
 use Rattle.isle_meaning.specs.SoundPrograms.{HasSoundData}
-use Rattle.isle_run.specs.Stores.Values.{variant_at, Stands, StandEach, Extends}
-use Rattle.isle_run.specs.Calls.Host.{TellsOutputs}
+use Rattle.isle_run.specs.Inside.Stores.Values.{Stands, StandEach, Extends}
+use Rattle.isle_run.specs.Tables.{variant_at}
+use Rattle.isle_run.specs.Inside.Calls.Host.{TellsOutputs}
 use Rattle.isle_meaning.proofs.Calls.Giving.{extract_gives_typed}
 use Rattle.isle_meaning.proofs.Calls.TypedValues.{values_parted, variant_opened, struct_opened}
 use Rattle.isle_run.proofs.Stores.Values.{stands_one, stands_longer, stand_longer}

@@ -17,8 +17,8 @@ use Rattle.isle_run.specs.declared.roads.plain.variables.Variables.{Variables}
 use Rattle.isle_run.specs.Meanings.{checked}
 use Rattle.isle_meaning.specs.Outcomes.{given}
 use Rattle.isle_meaning.specs.PlainRuns.{PatternRuns, PatternsRun}
-use Rattle.isle_run.specs.Stores.Values.{Stands, Extends}
-use Rattle.isle_run.specs.Plain.Fitting.{number_of_variable, FitTold, FitAllTold, FitEachTold, OpensInto}
+use Rattle.isle_run.specs.Inside.Stores.Values.{Stands, Extends}
+use Rattle.isle_run.specs.Inside.Plain.Fitting.{number_of_variable, FitTold, FitAllTold, FitEachTold, OpensInto}
 use Rattle.isle_run.proofs.SoundPrograms.Known.{sound_of}
 use Rattle.isle_run.proofs.Plain.Patterns.Numbers.{hold_longer, fit_leads, test_told, node_decides, opens_run, opens_typed, bind_told, bind_left}
 use Rattle.isle_run.proofs.Stores.Values.{stands_longer}

@@ -1,5 +1,5 @@
 use Rattle.std.proofs.Common.{map}
-use Rattle.isle_blocks.specs.Building.Contents.{Marked}
+use Rattle.isle_blocks.specs.Inside.Building.Contents.{Marked}
 use Rattle.isle_blocks.specs.DefinedSets.{ListsNumbers}
 use Rattle.isle_blocks.proofs.Sets.ListedNumbers.{Below}
 use Rattle.isle_run.specs.Facts.Asked.{term_number}

@@ -2,7 +2,7 @@ use Rattle.std.proofs.Common.{◌≡◌, Vec, ℕ, List, Bool, true, false, map,
 use Rattle.std.specs.Global.{Global}
 use Rattle.std.proofs.lemmas.Result.{IfOk-weaker}
 use Rattle.isle_types.specs.declared.ids.TermId.{TermId}
-use Rattle.isle_blocks.specs.Building.Contents.{Marked}
+use Rattle.isle_blocks.specs.Inside.Building.Contents.{Marked}
 use Rattle.isle_blocks.specs.DefinedSets.{ListsNumbers}
 use Rattle.isle_blocks.proofs.Sets.ListedNumbers.{numbers_same}
 use Rattle.isle_run.specs.Facts.Asked.{term_number, AreRoots}

@@ -1,6 +1,6 @@
 use Rattle.std.proofs.Common.{◌≡◌, ℕ, List, map, subst, sym, ap, ◌∙◌, arith}
 use Rattle.std.proofs.lemmas.List.{take_all}
-use Rattle.isle_run.specs.Plain.LaidOut.Rules.{AreByPriority}
+use Rattle.isle_run.specs.Inside.Plain.LaidOut.Rules.{AreByPriority}
 use Rattle.isle_run.proofs.Plain.LaidOut.Order.{Key, keys_by_priority}
 use Rattle.isle_run.proofs.program.by_priority.Goals as goal
 

@@ -3,7 +3,7 @@ use Rattle.std.specs.List.{AllZip}
 use Rattle.std.proofs.lemmas.Slice.Zip.{all_zipped_more}
 use Rattle.isle_types.proofs.DefinitionTurns.{take_here}
 use Rattle.isle_terms.specs.declared.rules.Rule.{Rule}
-use Rattle.isle_run.specs.Plain.LaidOut.Rules.{IsRuleLaidOut}
+use Rattle.isle_run.specs.Inside.Plain.LaidOut.Rules.{IsRuleLaidOut}
 use Rattle.isle_run.specs.declared.roads.plain.laid.LaidRule.{LaidRule}
 use Rattle.isle_run.proofs.program.lay_rules.Goals as goal
 

@@ -1,7 +1,7 @@
 use Rattle.std.proofs.Common.{take}
 use Rattle.std.specs.List.{AllZip}
 use Rattle.isle_types.specs.TypeTables.{TypeTables}
-use Rattle.isle_run.specs.Plain.LaidOut.Rules.{IsRuleLaidOut}
+use Rattle.isle_run.specs.Inside.Plain.LaidOut.Rules.{IsRuleLaidOut}
 use Rattle.isle_run.proofs.program.lay_rules.Given as goal
 
 abbrev pub invariant-loop-rule : goal.invariant-loop-rule

@@ -4,7 +4,7 @@ use Rattle.std.proofs.lemmas.Bool.{cases_lt}
 use Rattle.std.proofs.lemmas.List.{take_all}
 use Rattle.std.proofs.lemmas.Option.{slice_get_past}
 use Rattle.isle_terms.specs.declared.rules.Rule.{Rule}
-use Rattle.isle_run.specs.Plain.LaidOut.Rules.{is_of_term, AreByPriority, AreTried, listed_in}
+use Rattle.isle_run.specs.Inside.Plain.LaidOut.Rules.{is_of_term, AreByPriority, AreTried, listed_in}
 use Rattle.isle_run.proofs.Plain.LaidOut.Lists.{tried_of_term, tried_beyond}
 use Rattle.isle_run.proofs.program.rules_by_term.Goals as goal
 

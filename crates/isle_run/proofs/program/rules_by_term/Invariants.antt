@@ -1,6 +1,6 @@
 use Rattle.std.proofs.Common.{◌≡◌, ◌<◌, ℕ, length, take, slice_get}
 use Rattle.std.specs.List.{filter}
-use Rattle.isle_run.specs.Plain.LaidOut.Rules.{is_of_term, listed_at}
+use Rattle.isle_run.specs.Inside.Plain.LaidOut.Rules.{is_of_term, listed_at}
 use Rattle.isle_run.proofs.program.rules_by_term.Given as goal
 
 abbrev pub invariant-loop-place : goal.invariant-loop-place

@@ -1,7 +1,7 @@
 use Rattle.std.proofs.lemmas.List.Elements.{All-same, All-nil}
 use Rattle.std.proofs.lemmas.List.Sorted.{All-permutation}
 use Rattle.isle_syntax.specs.Positions.Printable.{IsPrintablePos}
-use Rattle.isle_run.specs.Warnings.{WarningAt}
+use Rattle.isle_run.specs.Inside.Warnings.{WarningAt}
 use Rattle.isle_run.proofs.warnings.warnings.Goals as goal
 
 pub returns-clause-placed : goal.returns-clause-placed

@@ -1,6 +1,6 @@
 //! Values of numbers.
 ghost use Rattle.std.specs.Prelude.{◌≡◌, ◌++◌, ◌∷◌, [], ℕ, List, IfOk, Some, reverse, map, length, slice_get, unwrap_or};
-ghost use Rattle.isle_terms.specs.Values.{ValueTree, ValueTrees, more_values, no_values, value_list};
+ghost use Rattle.isle_terms.specs.Values.{ValueTree, ValueTrees, more_trees, no_trees, value_list};
 ghost use Rattle.isle_meaning.specs.GroundValues.{value_of, values_of, IsValueOf, AreValuesOf};
 ghost use Rattle.isle_meaning.specs.Values.{Value as ShownValue, Values as ShownValues};
 ghost use Rattle.isle_meaning.specs.ValueTypes.{IsOfType, AreOfTypes};
@@ -10,9 +10,9 @@ ghost use Rattle.isle_run.specs.declared.calls.store.printing.Step.TheVariants.{
 ghost use Rattle.isle_run.specs.Values.Nodes.{nodes_of};
 ghost use Rattle.isle_run.specs.Programs.{value_facts, types_of, number_of};
 ghost use Rattle.isle_run.specs.Values.Settled.{field_types};
-ghost use Rattle.isle_run.specs.Stores.Values.{Stands, StandEach};
-ghost use Rattle.isle_run.specs.Stores.Laying.{IsLeaf};
-ghost use Rattle.isle_run.specs.Stores.Printing.{Leads, field_steps, printed, printed_int, variant_name, struct_name};
+ghost use Rattle.isle_run.specs.Inside.Stores.Values.{Stands, StandEach};
+ghost use Rattle.isle_run.specs.Inside.Stores.Laying.{IsLeaf};
+ghost use Rattle.isle_run.specs.Inside.Stores.Printing.{Leads, field_steps, printed, printed_int, variant_name, struct_name};
 
 use super::{Store, Stored};
 use crate::program::Program;
@@ -110,7 +110,7 @@ fn lay_out(
         (λ _. (in_store : List DeclaredStored) (v : ShownValue) (n : ℕ) (made : ValueTrees) → slice_get in_store n ≡ Some stored.now
         → Stands in_store v n
         → Leads (value_facts program.now) (types_of program.now) in_store (reverse left.old.items)
-        (more_values (printed (value_facts program.now) (types_of program.now) v ty.0) laid.old) made
+        (more_trees (printed (value_facts program.now) (types_of program.now) v ty.0) laid.old) made
         → Leads (value_facts program.now) (types_of program.now) in_store (reverse left.new.items) laid.new made) }
 {
     match stored {
@@ -216,7 +216,7 @@ fn struct_name(program: &Program, ty: TypeId) -> &str
 
 /// The only value that is laid out; `false` where there are others.
 fn only_value(alloc: Global, laid: LaidValues) -> Result<Value, AllocError>
-    ensures { IfOk result (λ value. (v : ValueTree) → laid ≡ more_values v no_values → value ≡ v) }
+    ensures { IfOk result (λ value. (v : ValueTree) → laid ≡ more_trees v no_trees → value ≡ v) }
 {
     match laid.into_value() {
         Some(value) => Ok(value),

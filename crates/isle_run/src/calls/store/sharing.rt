@@ -4,8 +4,8 @@ ghost use Rattle.isle_terms.specs.Values.{ValueTrees, value_list};
 ghost use Rattle.isle_meaning.specs.GroundValues.{value_of, values_of, type_of_data};
 ghost use Rattle.isle_run.specs.Values.Nodes.{put};
 ghost use Rattle.isle_run.specs.Programs.{value_facts};
-ghost use Rattle.isle_run.specs.Stores.Values.{Stands, StandEach, Extends};
-ghost use Rattle.isle_run.specs.Stores.Sharing.{stored_data, stored_node, numbers_left};
+ghost use Rattle.isle_run.specs.Inside.Stores.Values.{Stands, StandEach, Extends};
+ghost use Rattle.isle_run.specs.Inside.Stores.Sharing.{stored_data, stored_node, numbers_left};
 
 use super::{Store, Stored};
 use crate::program::Program;

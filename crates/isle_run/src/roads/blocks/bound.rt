@@ -2,7 +2,7 @@
 
 ghost use Rattle.std.specs.Prelude.{◌≡◌, ◌≤◌, ◌+◌, ◌-◌, ℕ, List, [], OnOk, OnErr, length, option_copied, reverse};
 ghost use Rattle.std.specs.Vec.{vec_len, vec_capacity};
-ghost use Rattle.isle_run.specs.Blocks.Bounds.{held_at, place_in, AreIndexed};
+ghost use Rattle.isle_run.specs.Inside.Blocks.Bounds.{held_at, place_in, AreIndexed};
 
 use std::alloc::{AllocError, Global};
 use std::collections::BTreeMap;
@@ -31,7 +31,7 @@ pub struct Bound<T> {
 
 impl<T> Model for Bound<T> {
     ghost use Rattle.std.specs.Prelude.{ℕ, List};
-    ghost use Rattle.isle_run.specs.Blocks.Bounds.{AreIndexed, shown};
+    ghost use Rattle.isle_run.specs.Inside.Blocks.Bounds.{AreIndexed, shown};
 
     ghost Value = { List (ℕ × T) };
 

@@ -3,10 +3,10 @@ ghost use Rattle.std.specs.Prelude.{◌≡◌, List, [], None, IfOk};
 ghost use Rattle.isle_meaning.specs.Worlds.{Event};
 ghost use Rattle.isle_run.specs.declared.calls.store.Stored.{Stored};
 ghost use Rattle.isle_run.specs.declared.roads.blocks.frame.At.TheVariants.{Steps as AtSteps};
-ghost use Rattle.isle_run.specs.Blocks.Frames.{BeginsAt, IsAtEnd, IsFrameOf, IsGrown, IsPassing, found_in};
-ghost use Rattle.isle_run.specs.Calls.Open.{CallOf};
-ghost use Rattle.isle_run.specs.Calls.Ways.{IsReady};
-ghost use Rattle.isle_run.specs.Stores.Values.{StandEach};
+ghost use Rattle.isle_run.specs.Inside.Blocks.Frames.{BeginsAt, IsAtEnd, IsFrameOf, IsGrown, IsPassing, found_in};
+ghost use Rattle.isle_run.specs.Inside.Calls.Open.{CallOf};
+ghost use Rattle.isle_run.specs.Inside.Calls.Ways.{IsReady};
+ghost use Rattle.isle_run.specs.Inside.Stores.Values.{StandEach};
 
 use super::bound::{Bound, make_room};
 use super::holding::Holding;

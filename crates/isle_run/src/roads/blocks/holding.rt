@@ -25,8 +25,8 @@ impl Holding {
     ghost use Rattle.isle_meaning.specs.Held.{Held, held_value, held_none, held_some, plain_of, outputs_of, content_of};
     ghost use Rattle.isle_meaning.specs.Values.{Value as MeantValue, Values};
     ghost use Rattle.isle_run.specs.declared.calls.store.Stored.{Stored};
-    ghost use Rattle.isle_run.specs.Stores.Values.{Stands, StandEach};
-    ghost use Rattle.isle_run.specs.Blocks.Holdings.{Holds, TellsHeld, TellsNumber};
+    ghost use Rattle.isle_run.specs.Inside.Stores.Values.{Stands, StandEach};
+    ghost use Rattle.isle_run.specs.Inside.Blocks.Holdings.{Holds, TellsHeld, TellsNumber};
 
     /// The value of a number.
     pub fn value(number: usize) -> Holding

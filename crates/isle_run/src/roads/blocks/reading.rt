@@ -8,11 +8,11 @@ ghost use Rattle.isle_meaning.specs.Values.{Value as MeantValue, Values, ask, nt
 ghost use Rattle.isle_blocks.specs.Building.Naming.{name_by};
 ghost use Rattle.isle_blocks.specs.Rows.{row_of, numbers_of};
 ghost use Rattle.isle_run.specs.declared.calls.store.Stored.{Stored as StoredValue};
-ghost use Rattle.isle_run.specs.Blocks.Frames.{rows_in};
-ghost use Rattle.isle_run.specs.Blocks.Holdings.{Holds, StandFor, TellsHeld, TellsNumber, TellsNumbers};
-ghost use Rattle.isle_run.specs.Blocks.Reading.{IsAround, IsNodeOf};
+ghost use Rattle.isle_run.specs.Inside.Blocks.Frames.{rows_in};
+ghost use Rattle.isle_run.specs.Inside.Blocks.Holdings.{Holds, StandFor, TellsHeld, TellsNumber, TellsNumbers};
+ghost use Rattle.isle_run.specs.Inside.Blocks.Reading.{IsAround, IsNodeOf};
 ghost use Rattle.isle_run.specs.Programs.{types_of};
-ghost use Rattle.isle_run.specs.Stores.Values.{Extends, Stands, StandEach};
+ghost use Rattle.isle_run.specs.Inside.Stores.Values.{Extends, Stands, StandEach};
 
 use super::frame::Frame;
 use super::holding::{Content, Holding};

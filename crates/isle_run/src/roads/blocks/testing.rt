@@ -12,12 +12,12 @@ ghost use Rattle.isle_syntax.specs.declared.lexer.Pos.{Pos as Place};
 ghost use Rattle.isle_blocks.specs.declared.serializer.views.Steps.{Steps as Walk};
 ghost use Rattle.isle_run.specs.declared.roads.blocks.frame.At.TheVariants.{Past as PastAll};
 ghost use Rattle.isle_run.specs.declared.calls.store.Stored.{Stored as StoredValue};
-ghost use Rattle.isle_run.specs.Blocks.Frames.{IsChecking, IsFrameOf, tree_way};
-ghost use Rattle.isle_run.specs.Blocks.Holdings.{Holds};
-ghost use Rattle.isle_run.specs.Calls.Open.{CallOf};
-ghost use Rattle.isle_run.specs.Calls.Ways.{TurnsTo};
+ghost use Rattle.isle_run.specs.Inside.Blocks.Frames.{IsChecking, IsFrameOf, tree_way};
+ghost use Rattle.isle_run.specs.Inside.Blocks.Holdings.{Holds};
+ghost use Rattle.isle_run.specs.Inside.Calls.Open.{CallOf};
+ghost use Rattle.isle_run.specs.Inside.Calls.Ways.{TurnsTo};
 ghost use Rattle.isle_run.specs.Programs.{types_of};
-ghost use Rattle.isle_run.specs.Stores.Values.{Extends, Stands};
+ghost use Rattle.isle_run.specs.Inside.Stores.Values.{Extends, Stands};
 
 use super::frame::{At, Frame};
 use super::holding::Holding;

@@ -1,16 +1,16 @@
 //! The parts of an expression, evaluated one by one as they are needed.
 ghost use Rattle.std.specs.Prelude.{◌≡◌, ◌++◌, ◌∷◌, [], ℕ, List, None, Some, false, true, IfOk, OnOk, length, slice_get};
 ghost use Rattle.isle_meaning.specs.Words.{Word};
-ghost use Rattle.isle_run.specs.Plain.LaidOut.Words.{made_of, StandBehind};
-ghost use Rattle.isle_run.specs.Stores.Values.{Extends};
+ghost use Rattle.isle_run.specs.Inside.Plain.LaidOut.Words.{made_of, StandBehind};
+ghost use Rattle.isle_run.specs.Inside.Stores.Values.{Extends};
 ghost use Rattle.isle_run.specs.Calls.Answers.{answers_in};
-ghost use Rattle.isle_run.specs.Plain.Fitting.{HoldVariables};
+ghost use Rattle.isle_run.specs.Inside.Plain.Fitting.{HoldVariables};
 ghost use Rattle.isle_run.specs.declared.roads.plain.laid.Part.TheVariants.{Call};
 ghost use Rattle.isle_run.specs.declared.roads.plain.evaluation.Step.TheVariants.{Is};
-ghost use Rattle.isle_run.specs.Plain.Underway.{Surroundings, IsUnderway, Tells, known_at, first_unknown};
-ghost use Rattle.isle_run.specs.Plain.Underway.{known_numbers, IsAnswered, IsSettled, IsTop, top_of, AreAround, AreKnown, Comes};
-ghost use Rattle.isle_run.specs.Plain.Underway.{IsLastStep, IsStepOf};
-ghost use Rattle.isle_run.specs.Plain.Underway.{StepTells, GoesOn, TurnTells, IsLater, MissesAtOnce, AreAllKnown};
+ghost use Rattle.isle_run.specs.Inside.Plain.Underway.{Surroundings, IsUnderway, Tells, known_at, first_unknown};
+ghost use Rattle.isle_run.specs.Inside.Plain.Underway.{known_numbers, IsAnswered, IsSettled, IsTop, top_of, AreAround, AreKnown, Comes};
+ghost use Rattle.isle_run.specs.Inside.Plain.Underway.{IsLastStep, IsStepOf};
+ghost use Rattle.isle_run.specs.Inside.Plain.Underway.{StepTells, GoesOn, TurnTells, IsLater, MissesAtOnce, AreAllKnown};
 
 use crate::calls::host::Told;
 use crate::calls::store::{Store, Stored};

@@ -4,11 +4,11 @@ ghost use Rattle.isle_types.specs.TypeTables.{name_at};
 ghost use Rattle.isle_terms.specs.TypedRules.{typed_bind, typed_term};
 ghost use Rattle.isle_run.specs.declared.roads.plain.fitting.Fitted.TheVariants.{Fits, Leaves};
 ghost use Rattle.isle_run.specs.declared.calls.store.Stored.TheVariants.{Bool, Int, Const, Variant, Struct};
-ghost use Rattle.isle_run.specs.Plain.Fitting.{AreFieldsOf, TellsFields};
+ghost use Rattle.isle_run.specs.Inside.Plain.Fitting.{AreFieldsOf, TellsFields};
 ghost use Rattle.isle_run.specs.Programs.{types_of};
-ghost use Rattle.isle_run.specs.Stores.Values.{Extends};
+ghost use Rattle.isle_run.specs.Inside.Stores.Values.{Extends};
 ghost use Rattle.isle_run.specs.Calls.Answers.{answers_in};
-ghost use Rattle.isle_run.specs.Plain.Fitting.{shown_in, all_shown_in, FitTold, FitAllTold, FitEachTold, OpensInto};
+ghost use Rattle.isle_run.specs.Inside.Plain.Fitting.{shown_in, all_shown_in, FitTold, FitAllTold, FitEachTold, OpensInto};
 
 use crate::calls::host::Told;
 use crate::calls::store::{Store, Stored};

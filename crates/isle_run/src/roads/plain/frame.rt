@@ -9,16 +9,16 @@ ghost use Rattle.isle_run.specs.declared.calls.frames.Advanced.TheVariants.{Miss
 ghost use Rattle.isle_run.specs.declared.roads.plain.frame.current.At.TheVariants.{IfLet, Right};
 ghost use Rattle.isle_run.specs.declared.roads.plain.frame.Ending.TheVariants.{On, Leaves, Comes};
 ghost use Rattle.isle_run.specs.declared.calls.store.Stored.{Stored as StoredValue};
-ghost use Rattle.isle_run.specs.Calls.Open.{CallOf};
-ghost use Rattle.isle_run.specs.Plain.Frames.{IsFrameOf, IsWaitingFor, below_call, plain_way};
-ghost use Rattle.isle_run.specs.Calls.Ways.{HasBegun};
-ghost use Rattle.isle_run.specs.Calls.States.{host, IsOpenIn, HasGoneOn, Makes};
-ghost use Rattle.isle_run.specs.Plain.Frames.{driven, IsTrying, awaited, IsHeldUp, FrameEnds, RuleEnds, laid_at, root_there, root_at, at_missing};
-ghost use Rattle.isle_run.specs.Plain.Frames.{IsFrameFor, IsOnWay, IsFirstAt, IsBegun, IsBegunAt, ending_missing, IsEndingOf};
-ghost use Rattle.isle_run.specs.Plain.Laid.{AllStandBehind};
+ghost use Rattle.isle_run.specs.Inside.Calls.Open.{CallOf};
+ghost use Rattle.isle_run.specs.Inside.Plain.Frames.{IsFrameOf, IsWaitingFor, below_call, plain_way};
+ghost use Rattle.isle_run.specs.Inside.Calls.Ways.{HasBegun};
+ghost use Rattle.isle_run.specs.Inside.Calls.States.{host, IsOpenIn, HasGoneOn, Makes};
+ghost use Rattle.isle_run.specs.Inside.Plain.Frames.{driven, IsTrying, awaited, IsHeldUp, FrameEnds, RuleEnds, laid_at, root_there, root_at, at_missing};
+ghost use Rattle.isle_run.specs.Inside.Plain.Frames.{IsFrameFor, IsOnWay, IsFirstAt, IsBegun, IsBegunAt, ending_missing, IsEndingOf};
+ghost use Rattle.isle_run.specs.Inside.Plain.Laid.{AllStandBehind};
 ghost use Rattle.isle_run.specs.Meanings.{checked};
 ghost use Rattle.isle_meaning.specs.Outcomes.{given, missing};
-ghost use Rattle.isle_run.specs.Stores.Values.{Stands, StandEach, Extends};
+ghost use Rattle.isle_run.specs.Inside.Stores.Values.{Stands, StandEach, Extends};
 ghost use Rattle.isle_run.specs.Meanings.{may_run};
 
 mod current;

@@ -2,10 +2,10 @@
 ghost use Rattle.std.specs.Prelude.{◌≡◌, ◌<◌, length, IfOk};
 ghost use Rattle.std.specs.List.{AllZip};
 ghost use Rattle.isle_types.specs.TypeTables.{TypeTables};
-ghost use Rattle.isle_run.specs.Plain.LaidOut.Words.{made_of, IsLaidOut};
-ghost use Rattle.isle_run.specs.Plain.LaidOut.Expressions.{stands_for, StandForTheSame, Binds, Restores, IsPut, LaysExpr, LaysExprs, LaysBindings, LaysTerm};
-ghost use Rattle.isle_run.specs.Plain.LaidOut.Expressions.{LaysCall};
-ghost use Rattle.isle_run.specs.Plain.LaidOut.Rules.{IsConditionLaidOut, IsRuleLaidOut};
+ghost use Rattle.isle_run.specs.Inside.Plain.LaidOut.Words.{made_of, IsLaidOut};
+ghost use Rattle.isle_run.specs.Inside.Plain.LaidOut.Expressions.{stands_for, StandForTheSame, Binds, Restores, IsPut, LaysExpr, LaysExprs, LaysBindings, LaysTerm};
+ghost use Rattle.isle_run.specs.Inside.Plain.LaidOut.Expressions.{LaysCall};
+ghost use Rattle.isle_run.specs.Inside.Plain.LaidOut.Rules.{IsConditionLaidOut, IsRuleLaidOut};
 
 use isle_syntax::{Boxed, Seq};
 use isle_terms::{Expr, IfLet, Rule, TermEnv, TermKind};

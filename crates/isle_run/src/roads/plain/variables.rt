@@ -1,5 +1,6 @@
+//! The values of a rule's variables, by their numbers in a store.
 ghost use Rattle.std.specs.Prelude.{◌≡◌, ◌==◌, ℕ, OnOk, if◌then◌else◌};
-ghost use Rattle.isle_run.specs.Plain.Fitting.{number_of_variable};
+ghost use Rattle.isle_run.specs.Inside.Plain.Fitting.{number_of_variable};
 
 use isle_types::VarId;
 use std::alloc::{AllocError, Global};

@@ -1,7 +1,7 @@
 use Rattle.std.proofs.Common.{◌∷◌, [], map, Some, None, ap, ◌∙◌, arith}
 use Rattle.std.proofs.lemmas.List.{map-append}
 use Rattle.isle_syntax.specs.Trees.PatternShape.{pattern_of}
-use Rattle.isle_syntax.specs.Trees.Chain.{bound}
+use Rattle.isle_syntax.specs.Inside.Trees.Chain.{bound}
 use Rattle.isle_syntax.proofs.Trees.Templates.{filled_start, filled_more, filled_stops, filled_done}
 use Rattle.isle_syntax.proofs.Trees.TemplateChains.{chain_filled}
 use Rattle.isle_syntax.proofs.ast.+substitution.Goals as goal

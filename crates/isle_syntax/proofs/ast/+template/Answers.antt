@@ -2,7 +2,7 @@ use Rattle.std.proofs.Common.{◌≡◌, ◌∷◌, [], false, map, ap, sym, ◌
 use Rattle.std.proofs.lemmas.List.{map-append}
 use Rattle.isle_syntax.specs.Trees.PatternTree.{pattern_bind}
 use Rattle.isle_syntax.specs.Trees.PatternShape.{pattern_of}
-use Rattle.isle_syntax.specs.Trees.Chain.{bound}
+use Rattle.isle_syntax.specs.Inside.Trees.Chain.{bound}
 use Rattle.isle_syntax.specs.Trees.TreeCalls.{has_macro_arg}
 use Rattle.isle_syntax.specs.Trees.Templates.{is_wildcard, template_tree}
 use Rattle.isle_syntax.proofs.Trees.Templates.{macro_free_rest, templates_more, templates_done}

@@ -3,7 +3,7 @@ use Rattle.isle_terms.specs.Visits.Runs.{in_turn}
 use Rattle.isle_terms.proofs.Visiting.VisitRuns.{went}
 use Rattle.isle_blocks.specs.declared.ids.BindingId.{BindingId}
 use Rattle.isle_blocks.specs.declared.binding.Binding.TheVariants.{Constructor}
-use Rattle.isle_blocks.specs.Building.Gathering.{interns, constructed, numbers, keeps}
+use Rattle.isle_blocks.specs.Inside.Building.Gathering.{interns, constructed, numbers, keeps}
 use Rattle.isle_blocks.proofs.builder.RuleSetBuilder.construct.Goals as goal
 
 pub returns : goal.returns

@@ -2,8 +2,8 @@ use Rattle.std.proofs.Common.{◌+◌, ◌-◌, ◌∷◌, [], ◌++◌, Ok, Err
 use Rattle.std.proofs.lemmas.Result.{err_from_is_err_and}
 use Rattle.isle_terms.proofs.Visiting.VisitRuns.{went}
 use Rattle.isle_terms.proofs.Visiting.VisitRuleRuns.{left}
-use Rattle.isle_blocks.specs.Building.Gathering.{interns, interns_each, sites_from}
-use Rattle.isle_blocks.specs.Building.Parts.{part_site}
+use Rattle.isle_blocks.specs.Inside.Building.Gathering.{interns, interns_each, sites_from}
+use Rattle.isle_blocks.specs.Inside.Building.Parts.{part_site}
 use Rattle.isle_blocks.proofs.Building.Waiting.{none_left, each_waits}
 use Rattle.isle_blocks.proofs.builder.RuleSetBuilder.intern_parts.Goals as goal
 

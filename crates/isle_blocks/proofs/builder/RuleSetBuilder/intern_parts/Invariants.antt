@@ -1,8 +1,8 @@
 use Rattle.std.proofs.Common.{Result, List, [], ◌-◌}
 use Rattle.isle_terms.specs.declared.visit.fault.VisitFault.{VisitFault}
 use Rattle.isle_blocks.specs.declared.ids.BindingId.{BindingId}
-use Rattle.isle_blocks.specs.Building.Gathering.{Gathered, interns_each, sites_from}
-use Rattle.isle_blocks.specs.Building.Parts.{part_site}
+use Rattle.isle_blocks.specs.Inside.Building.Gathering.{Gathered, interns_each, sites_from}
+use Rattle.isle_blocks.specs.Inside.Building.Parts.{part_site}
 use Rattle.isle_blocks.proofs.builder.RuleSetBuilder.intern_parts.Given as goal
 
 abbrev pub invariant-loop-field : goal.invariant-loop-field

@@ -1,5 +1,5 @@
 use Rattle.std.proofs.lemmas.Result.{err_from_is_err_and}
-use Rattle.isle_blocks.specs.Building.Steps.{values_of}
+use Rattle.isle_blocks.specs.Inside.Building.Steps.{values_of}
 use Rattle.isle_blocks.proofs.Building.Waiting.{makes_waits}
 use Rattle.isle_blocks.proofs.builder.RuleSetBuilderExprVisitor.add_construct.Goals as goal
 

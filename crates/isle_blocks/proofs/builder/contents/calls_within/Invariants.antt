@@ -1,5 +1,5 @@
 use Rattle.std.proofs.Common.{◌+◌, ◌-◌}
-use Rattle.isle_blocks.specs.Building.Contents.{IsWalk}
+use Rattle.isle_blocks.specs.Inside.Building.Contents.{IsWalk}
 use Rattle.isle_blocks.proofs.builder.contents.calls_within.Given as goal
 
 abbrev pub invariant-loop-n : goal.invariant-loop-n

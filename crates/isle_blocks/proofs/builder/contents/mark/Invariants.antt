@@ -1,5 +1,5 @@
 use Rattle.std.proofs.Common.{List, Bool, drop}
-use Rattle.isle_blocks.specs.Building.Contents.{MarksMore}
+use Rattle.isle_blocks.specs.Inside.Building.Contents.{MarksMore}
 use Rattle.isle_blocks.proofs.builder.contents.mark.Given as goal
 
 abbrev pub invariant-loop-i : goal.invariant-loop-i

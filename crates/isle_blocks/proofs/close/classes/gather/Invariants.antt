@@ -1,6 +1,6 @@
 use Rattle.std.proofs.Common.{◌≡◌, ◌<◌, ℕ, vec_len, get_or}
 use Rattle.std.specs.Prelude.{Contains}
-use Rattle.isle_blocks.specs.ClosureStates.{HasOwn}
+use Rattle.isle_blocks.specs.Inside.ClosureStates.{HasOwn}
 use Rattle.isle_blocks.specs.declared.ids.BindingId.{BindingId}
 use Rattle.isle_blocks.specs.declared.constraint.Constraint.{Constraint}
 use Rattle.isle_blocks.proofs.close.classes.gather.Given as goal

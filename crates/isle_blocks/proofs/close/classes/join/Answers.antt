@@ -1,7 +1,7 @@
 use Rattle.std.proofs.Common.{◌≡◌, ◌<◌, inl, inr, ℕ, ap, sym, ◌∙◌, List, Vec, Global, length, get_or, [], subst, arith}
 use Rattle.std.specs.Prelude.{Contains}
 use Rattle.std.proofs.lemmas.Option.{same_Some}
-use Rattle.isle_blocks.specs.ClosureStates.{AreMembers, ListMembers, IsLike}
+use Rattle.isle_blocks.specs.Inside.ClosureStates.{AreMembers, ListMembers, IsLike}
 use Rattle.isle_blocks.specs.declared.constraint.Constraint.{Constraint}
 use Rattle.isle_blocks.proofs.Closure.Members.{members_joined, like_member, member_like}
 use Rattle.isle_blocks.proofs.close.classes.join.Goals as goal

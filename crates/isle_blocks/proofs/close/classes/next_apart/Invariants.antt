@@ -1,6 +1,6 @@
 use Rattle.std.proofs.Common.{◌≡◌, ◌⊎◌, vec_len, get_or}
 use Rattle.std.specs.Prelude.{Contains}
-use Rattle.isle_blocks.specs.ClosureStates.{AllPairs}
+use Rattle.isle_blocks.specs.Inside.ClosureStates.{AllPairs}
 use Rattle.isle_blocks.proofs.close.classes.next_apart.Given as goal
 
 abbrev pub invariant-loop-a : goal.invariant-loop-a

@@ -1,8 +1,8 @@
 use Rattle.std.proofs.Common.{◌≡◌, inl, inr, ℕ, List, [], ◌∷◌, ◌++◌, Vec, Global, ap, refl, sym, ◌∙◌, subst, arith}
 use Rattle.std.specs.Prelude.{Contains}
 use Rattle.std.proofs.lemmas.Bool.{cases_lt}
-use Rattle.isle_blocks.specs.ClosureFields.{kind_of}
-use Rattle.isle_blocks.specs.ClosureStates.{AreLikeFields, HaveLikeFields}
+use Rattle.isle_blocks.specs.Inside.ClosureFields.{kind_of}
+use Rattle.isle_blocks.specs.Inside.ClosureStates.{AreLikeFields, HaveLikeFields}
 use Rattle.isle_blocks.proofs.Closure.Pairs.{last_of, front_of, split_of}
 use Rattle.isle_blocks.proofs.Closure.Likes.{like_at, one_pair}
 use Rattle.isle_blocks.proofs.close.classes.push_fields.Goals as goal

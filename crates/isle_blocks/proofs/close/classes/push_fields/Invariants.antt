@@ -1,6 +1,6 @@
 use Rattle.std.proofs.Common.{◌<◌, ◌⊎◌, ℕ}
 use Rattle.std.specs.Prelude.{Contains}
-use Rattle.isle_blocks.specs.ClosureStates.{AllPairs, AreLikeFields}
+use Rattle.isle_blocks.specs.Inside.ClosureStates.{AllPairs, AreLikeFields}
 use Rattle.isle_blocks.proofs.close.classes.push_fields.Given as goal
 
 -- the like fields below the index are listed

@@ -2,7 +2,7 @@ use Rattle.std.proofs.Common.{◌≡◌, inl, inr, ℕ, get_or, sym, ◌∙◌, 
 use Rattle.std.proofs.lemmas.List.{get_or_default}
 use Rattle.std.proofs.lemmas.List.Elements.{Contains-get_or}
 use Rattle.std.proofs.lemmas.Bool.{cases_lt}
-use Rattle.isle_blocks.specs.ClosureStates.{AreLikeFields}
+use Rattle.isle_blocks.specs.Inside.ClosureStates.{AreLikeFields}
 use Rattle.isle_blocks.proofs.close.classes.push_like.Goals as goal
 
 pub push_fields-requires-clause-member_in : goal.push_fields-requires-clause-member_in

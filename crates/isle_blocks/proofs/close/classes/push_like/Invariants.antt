@@ -1,6 +1,6 @@
 use Rattle.std.proofs.Common.{◌<◌, ◌⊎◌, ℕ, get_or}
 use Rattle.std.specs.Prelude.{Contains}
-use Rattle.isle_blocks.specs.ClosureStates.{AllPairs, AreLikeFields, IsLikeAmong}
+use Rattle.isle_blocks.specs.Inside.ClosureStates.{AllPairs, AreLikeFields, IsLikeAmong}
 use Rattle.isle_blocks.proofs.close.classes.push_like.Given as goal
 
 -- the like fields of the members so far are listed

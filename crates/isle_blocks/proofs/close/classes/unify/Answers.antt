@@ -1,7 +1,7 @@
 use Rattle.std.proofs.Common.{◌≡◌, ◌≢◌, ◌<◌, inl, inr, ℕ, ap, sym, ◌∙◌, get_or, length, List, subst, arith}
 use Rattle.std.specs.Prelude.{Contains}
 use Rattle.std.proofs.lemmas.List.{with_items_is}
-use Rattle.isle_blocks.specs.ClosureStates.{IsClash, ListMembers}
+use Rattle.isle_blocks.specs.Inside.ClosureStates.{IsClash, ListMembers}
 use Rattle.isle_blocks.proofs.Closure.Members.{members_first}
 use Rattle.isle_blocks.proofs.Closure.Progress.{Progress, progress_first, progress_clash, progress_done, root_read, turn}
 use Rattle.std.specs.Vec.{with_items}

@@ -1,5 +1,5 @@
 use Rattle.std.proofs.Common.{length}
-use Rattle.isle_blocks.specs.ClosureStates.{ListMembers}
+use Rattle.isle_blocks.specs.Inside.ClosureStates.{ListMembers}
 use Rattle.isle_blocks.proofs.Closure.Count.{class_count}
 use Rattle.isle_blocks.proofs.Closure.Progress.{Progress}
 use Rattle.isle_blocks.proofs.close.classes.unify.Given as goal

@@ -1,8 +1,8 @@
 use Rattle.std.proofs.Common.{arith}
 use Rattle.std.proofs.lemmas.Option.{slice_get_within}
 use Rattle.std.proofs.lemmas.Result.{err_from_is_err_and}
-use Rattle.isle_blocks.specs.ClosureFields.{kind_of}
-use Rattle.isle_blocks.specs.ClosureStates.{Still}
+use Rattle.isle_blocks.specs.Inside.ClosureFields.{kind_of}
+use Rattle.isle_blocks.specs.Inside.ClosureStates.{Still}
 use Rattle.isle_blocks.proofs.Closure.Full.{no_room, now_there, grows_one}
 use Rattle.isle_blocks.proofs.Closure.FieldOrder.{to_next, interned}
 use Rattle.isle_blocks.proofs.close.complete.add_field.Goals as goal

@@ -1,8 +1,8 @@
 use Rattle.std.proofs.Common.{◌≡◌, ℕ, arith, sym, subst, inl, inr}
 use Rattle.std.proofs.lemmas.Bool.{cases_lt}
 use Rattle.std.proofs.lemmas.Result.{err_from_is_err_and}
-use Rattle.isle_blocks.specs.ClosureFields.{kind_of}
-use Rattle.isle_blocks.specs.ClosureStates.{HasField, Still}
+use Rattle.isle_blocks.specs.Inside.ClosureFields.{kind_of}
+use Rattle.isle_blocks.specs.Inside.ClosureStates.{HasField, Still}
 use Rattle.isle_blocks.proofs.Closure.Growth.{grown_state, grown_sites, grown_join, grown_longer}
 use Rattle.isle_blocks.proofs.Closure.Full.{runs_out, opened_still, like_there, has_all}
 use Rattle.isle_blocks.proofs.Closure.FieldOrder.{to_site}

@@ -1,7 +1,7 @@
 use Rattle.std.proofs.Common.{◌≡◌, ℕ, length, arith, sym, subst, inl, inr}
 use Rattle.std.proofs.lemmas.Bool.{cases_lt}
 use Rattle.std.proofs.lemmas.Result.{err_from_is_err_and}
-use Rattle.isle_blocks.specs.ClosureStates.{HasFields, Still}
+use Rattle.isle_blocks.specs.Inside.ClosureStates.{HasFields, Still}
 use Rattle.isle_blocks.proofs.Closure.Growth.{grown_state, grown_sites, grown_join, grown_fields}
 use Rattle.isle_blocks.proofs.Closure.Full.{runs_out}
 use Rattle.isle_blocks.proofs.Closure.FieldOrder.{none_before}

@@ -1,5 +1,5 @@
 use Rattle.std.proofs.Common.{◌≡◌, ◌<◌, ℕ, true}
-use Rattle.isle_blocks.specs.ClosureStates.{is_marked}
+use Rattle.isle_blocks.specs.Inside.ClosureStates.{is_marked}
 use Rattle.isle_blocks.proofs.close.depth.are_marked.Given as goal
 
 abbrev pub invariant-loop-mark : goal.invariant-loop-mark

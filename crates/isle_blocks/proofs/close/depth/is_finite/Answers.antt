@@ -1,6 +1,6 @@
 use Rattle.std.proofs.Common.{◌≡◌, ◌<◌, [], ℕ, ap, sym, ◌∙◌, subst, true, false, Bool, List, length, set, arith}
 use Rattle.std.proofs.lemmas.List.{length-replicate}
-use Rattle.isle_blocks.specs.ClosureStates.{IsChildAt, IsUnmarkedChild, ChildrenAreMarked, is_marked}
+use Rattle.isle_blocks.specs.Inside.ClosureStates.{IsChildAt, IsUnmarkedChild, ChildrenAreMarked, is_marked}
 use Rattle.isle_blocks.proofs.Closure.Pairs.{own_in}
 use Rattle.isle_blocks.proofs.Closure.Loops.{has_loop, get_or-replicate}
 use Rattle.isle_blocks.proofs.Closure.Marking.{Marking, marking_first, marking_last, next_in, wait_more, mark_more, wait_less, mark_less, list_of, no_lists, child_within, work_left}

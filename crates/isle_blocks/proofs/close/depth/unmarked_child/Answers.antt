@@ -2,7 +2,7 @@ use Rattle.std.proofs.Common.{◌≡◌, ℕ, Option, Some, None, refl, sym, ◌
 use Rattle.std.specs.Prelude.{IfSome, IfNone}
 use Rattle.std.proofs.lemmas.Option.{same_Some}
 use Rattle.isle_blocks.specs.declared.constraint.Constraint.{Constraint}
-use Rattle.isle_blocks.specs.ClosureFields.{Opens, field_binding}
+use Rattle.isle_blocks.specs.Inside.ClosureFields.{Opens, field_binding}
 use Rattle.isle_blocks.proofs.close.depth.unmarked_child.Goals as goal
 
 when_none : (o : Option ℕ) (P Q : Type 0) → (P → Q) → IfNone o P → IfNone o Q

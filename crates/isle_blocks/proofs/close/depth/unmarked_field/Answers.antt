@@ -1,8 +1,8 @@
 use Rattle.std.proofs.Common.{◌≡◌, ◌<◌, inl, inr, ℕ, length, ap, sym, ◌∙◌, subst, arith}
 use Rattle.std.proofs.lemmas.Bool.{cases_lt}
 use Rattle.std.proofs.lemmas.Option.{slice_get_within}
-use Rattle.isle_blocks.specs.ClosureFields.{field_binding, kind_of}
-use Rattle.isle_blocks.specs.ClosureStates.{is_marked, IsRootOf}
+use Rattle.isle_blocks.specs.Inside.ClosureFields.{field_binding, kind_of}
+use Rattle.isle_blocks.specs.Inside.ClosureStates.{is_marked, IsRootOf}
 use Rattle.isle_blocks.proofs.Closure.Likes.{one_root}
 use Rattle.isle_blocks.proofs.close.depth.unmarked_field.Goals as goal
 use Rattle.isle_blocks.proofs.close.depth.unmarked_field.Goals.{in-Some+else-not-marks-k, in_default}

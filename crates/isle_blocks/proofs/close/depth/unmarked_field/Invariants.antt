@@ -1,5 +1,5 @@
-use Rattle.isle_blocks.specs.ClosureFields.{kind_of}
-use Rattle.isle_blocks.specs.ClosureStates.{FieldsAreMarked}
+use Rattle.isle_blocks.specs.Inside.ClosureFields.{kind_of}
+use Rattle.isle_blocks.specs.Inside.ClosureStates.{FieldsAreMarked}
 use Rattle.isle_blocks.proofs.close.depth.unmarked_field.Given as goal
 
 abbrev pub invariant-loop-index : goal.invariant-loop-index

@@ -3,7 +3,7 @@ use Rattle.std.specs.Prelude.{IfSome}
 use Rattle.std.proofs.lemmas.Result.{err_from_is_err_and}
 use Rattle.isle_blocks.specs.declared.rule.Rule.{Rule}
 use Rattle.isle_blocks.specs.RuleSets.{RulesOverSites}
-use Rattle.isle_blocks.specs.Assembly.{IsToldOf}
+use Rattle.isle_blocks.specs.RuleSets.{IsToldOf}
 use Rattle.isle_blocks.specs.AddedRules.{IsAdded, IsAddedRule, LacksRoomFor, name_in, facts_in}
 use Rattle.isle_blocks.proofs.rule_set.RuleSet.add.Goals as goal
 

@@ -2,8 +2,8 @@ use Rattle.std.proofs.Common.{refl, ℕ, List, ap, sym, ◌∙◌, ◌<◌, arit
 use Rattle.isle_trees.specs.Rules.{Elem}
 use Rattle.isle_trees.specs.Search.{added_at}
 use Rattle.isle_blocks.specs.Rows.{numbers_of}
-use Rattle.isle_blocks.specs.Trees.Builder.{items_at}
-use Rattle.isle_blocks.specs.Trees.Marking.{ListsAt}
+use Rattle.isle_blocks.specs.Inside.Trees.Builder.{items_at}
+use Rattle.isle_blocks.specs.Inside.Trees.Marking.{ListsAt}
 use Rattle.isle_blocks.specs.Trees.View.{id_of}
 use Rattle.isle_blocks.proofs.Trees.Binding.{number_elem, number_get, numbers_length}
 use Rattle.isle_blocks.proofs.Trees.Marking.Dependents.{lists_all, lists_more, lists_none}

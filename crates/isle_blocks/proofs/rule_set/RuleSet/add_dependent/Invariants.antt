@@ -1,7 +1,7 @@
 use Rattle.std.proofs.Common.{◌≡◌, length, take}
 use Rattle.isle_blocks.specs.Rows.{numbers_of}
-use Rattle.isle_blocks.specs.Trees.Builder.{items_at}
-use Rattle.isle_blocks.specs.Trees.Marking.{ListsAt}
+use Rattle.isle_blocks.specs.Inside.Trees.Builder.{items_at}
+use Rattle.isle_blocks.specs.Inside.Trees.Marking.{ListsAt}
 use Rattle.isle_blocks.proofs.rule_set.RuleSet.add_dependent.Given as goal
 
 abbrev pub invariant-loop-part : goal.invariant-loop-part

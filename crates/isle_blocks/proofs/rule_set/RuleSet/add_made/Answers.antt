@@ -1,5 +1,5 @@
 use Rattle.std.proofs.Common.{arith, sym, ◌<◌, Some, ◌≡◌, slice_get}
-use Rattle.isle_blocks.specs.Trees.Builder.{source_in}
+use Rattle.isle_blocks.specs.Inside.Trees.Builder.{source_in}
 use Rattle.isle_blocks.proofs.Trees.Openers.{source_part}
 use Rattle.isle_blocks.proofs.rule_set.RuleSet.add_made.Goals as goal
 

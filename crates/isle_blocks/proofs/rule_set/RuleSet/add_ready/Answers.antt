@@ -1,7 +1,7 @@
 use Rattle.std.proofs.Common.{take}
 use Rattle.isle_blocks.specs.Rows.{numbers_of}
-use Rattle.isle_blocks.specs.Trees.Builder.{scope_of, users_at}
-use Rattle.isle_blocks.specs.Trees.Marking.{is_testable}
+use Rattle.isle_blocks.specs.Inside.Trees.Builder.{scope_of, users_at}
+use Rattle.isle_blocks.specs.Inside.Trees.Marking.{is_testable}
 use Rattle.isle_blocks.specs.Trees.View.{id_of}
 use Rattle.isle_blocks.proofs.Trees.Binding.{numbers_more}
 use Rattle.isle_blocks.proofs.Trees.Marking.Ready.{kept_more}

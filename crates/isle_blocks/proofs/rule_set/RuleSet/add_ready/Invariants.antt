@@ -1,8 +1,8 @@
 use Rattle.std.proofs.Common.{◌≡◌, ◌++◌, take}
 use Rattle.std.specs.List.{filter}
 use Rattle.isle_blocks.specs.Rows.{numbers_of}
-use Rattle.isle_blocks.specs.Trees.Builder.{scope_of, users_at}
-use Rattle.isle_blocks.specs.Trees.Marking.{is_testable}
+use Rattle.isle_blocks.specs.Inside.Trees.Builder.{scope_of, users_at}
+use Rattle.isle_blocks.specs.Inside.Trees.Marking.{is_testable}
 use Rattle.isle_blocks.proofs.rule_set.RuleSet.add_ready.Given as goal
 
 abbrev pub invariant-loop-site : goal.invariant-loop-site

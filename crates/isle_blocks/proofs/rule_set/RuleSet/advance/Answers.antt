@@ -2,7 +2,7 @@ use Rattle.std.proofs.Common.{subst, sym, refl}
 use Rattle.isle_blocks.specs.declared.serializer.node.Node.TheVariants as nodes
 use Rattle.isle_blocks.specs.declared.serializer.work.Task.{Task}
 use Rattle.isle_blocks.specs.declared.serializer.work.Task.TheVariants as tasks
-use Rattle.isle_blocks.specs.Trees.Work.{Moves}
+use Rattle.isle_blocks.specs.Inside.Trees.Work.{Moves}
 use Rattle.isle_blocks.proofs.Trees.Moving.{moved_one}
 use Rattle.isle_blocks.proofs.rule_set.RuleSet.advance.Goals as goal
 

@@ -7,9 +7,9 @@ use Rattle.isle_trees.proofs.Building.Enter.{same_path_self, sound_inside}
 use Rattle.isle_trees.proofs.Building.Lists.{elem_at, get_any}
 use Rattle.isle_blocks.specs.declared.constraint.Constraint.{Constraint}
 use Rattle.isle_blocks.specs.Rows.{numbers_of}
-use Rattle.isle_blocks.specs.Trees.Builder.{rules_in, scope_of, users_at}
+use Rattle.isle_blocks.specs.Inside.Trees.Builder.{rules_in, scope_of, users_at}
 use Rattle.isle_blocks.proofs.Trees.Marking.Spreading.{marked_inside}
-use Rattle.isle_blocks.specs.Trees.Marking.{is_testable}
+use Rattle.isle_blocks.specs.Inside.Trees.Marking.{is_testable}
 use Rattle.isle_blocks.proofs.Trees.Marking.Ready.{ready_inside, testable_from}
 use Rattle.isle_blocks.proofs.Trees.Moving.{moved_arm}
 use Rattle.isle_blocks.proofs.Trees.Stepping.{run_left, run_rules, test_wanted, wanted_test}

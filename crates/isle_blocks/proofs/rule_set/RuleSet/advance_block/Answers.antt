@@ -2,7 +2,7 @@ use Rattle.std.proofs.Common.{List, ℕ, Option, MatchOption, ap, subst, ◌∙�
 use Rattle.isle_trees.specs.Builds.{HasNoTest, IsBest}
 use Rattle.isle_trees.specs.Scopes.{counted, others}
 use Rattle.isle_blocks.specs.declared.serializer.known.Test.{Test as CodeTest}
-use Rattle.isle_blocks.specs.Trees.Builder.{rules_in, scope_of, test_shown}
+use Rattle.isle_blocks.specs.Inside.Trees.Builder.{rules_in, scope_of, test_shown}
 use Rattle.isle_blocks.proofs.Trees.Moving.{moved_returns}
 use Rattle.isle_blocks.proofs.rule_set.RuleSet.advance_block.Goals as goal
 

@@ -2,7 +2,7 @@ use Rattle.std.proofs.Common.{arith, ℕ, List, length, subst, ap, sym, ◌∙�
 use Rattle.isle_trees.specs.Rules.{Elem}
 use Rattle.isle_trees.proofs.Building.Gathering.{closure_first, closure_full}
 use Rattle.isle_blocks.specs.Rows.{numbers_of}
-use Rattle.isle_blocks.specs.Trees.Builder.{rules_in}
+use Rattle.isle_blocks.specs.Inside.Trees.Builder.{rules_in}
 use Rattle.isle_blocks.proofs.rule_set.RuleSet.asked_by.Goals as goal
 
 pub closure-requires-clause-below : goal.closure-requires-clause-below

@@ -4,7 +4,7 @@ use Rattle.isle_trees.specs.Search.{IsAskedBy}
 use Rattle.isle_trees.proofs.Building.Asked.{asked_listed, nothing_asked}
 use Rattle.isle_blocks.specs.declared.ids.BindingId.{BindingId}
 use Rattle.isle_blocks.specs.Rows.{numbers_of}
-use Rattle.isle_blocks.specs.Trees.Builder.{AreClasses, AreMembers, rules_in}
+use Rattle.isle_blocks.specs.Inside.Trees.Builder.{AreClasses, AreMembers, rules_in}
 use Rattle.isle_blocks.proofs.Trees.Indexed.{rule_there, tested_few, tested_listed, never_tested, list_more, list_all}
 use Rattle.isle_blocks.proofs.rule_set.RuleSet.asked_lists.Goals as goal
 

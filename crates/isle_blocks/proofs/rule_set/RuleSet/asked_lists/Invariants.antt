@@ -1,7 +1,7 @@
 use Rattle.std.proofs.Common.{◌≡◌, ◌<◌, ℕ, length}
 use Rattle.isle_trees.specs.Search.{IsAskedBy, IsClean}
 use Rattle.isle_blocks.specs.Rows.{numbers_of}
-use Rattle.isle_blocks.specs.Trees.Builder.{items_at, rules_in}
+use Rattle.isle_blocks.specs.Inside.Trees.Builder.{items_at, rules_in}
 use Rattle.isle_blocks.proofs.rule_set.RuleSet.asked_lists.Given as goal
 
 abbrev pub invariant-loop-rule : goal.invariant-loop-rule

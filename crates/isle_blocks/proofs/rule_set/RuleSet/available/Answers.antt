@@ -3,7 +3,7 @@ use Rattle.isle_trees.specs.Rules.{Elem, Asked}
 use Rattle.isle_trees.specs.Search.{ArePartsFirst}
 use Rattle.isle_trees.proofs.Building.Marks.{group_more}
 use Rattle.isle_blocks.specs.Rows.{numbers_of}
-use Rattle.isle_blocks.specs.Trees.Builder.{rules_in, scope_of}
+use Rattle.isle_blocks.specs.Inside.Trees.Builder.{rules_in, scope_of}
 use Rattle.isle_blocks.proofs.rule_set.RuleSet.available.Goals as goal
 
 pub mark-requires-clause-below : goal.mark-requires-clause-below

@@ -1,6 +1,6 @@
 use Rattle.std.proofs.Common.{take, length}
 use Rattle.isle_trees.proofs.Building.Marks.{Group}
-use Rattle.isle_blocks.specs.Trees.Builder.{rules_in, scope_of}
+use Rattle.isle_blocks.specs.Inside.Trees.Builder.{rules_in, scope_of}
 use Rattle.isle_blocks.proofs.rule_set.RuleSet.available.Given as goal
 
 abbrev pub invariant-loop-rule : goal.invariant-loop-rule

@@ -2,7 +2,7 @@ use Rattle.std.proofs.Common.{Option, subst}
 use Rattle.isle_trees.specs.Ranking.{IsRanked}
 use Rattle.isle_trees.proofs.Building.Offers.{IsSearched, nothing_best, something_best}
 use Rattle.isle_blocks.specs.declared.serializer.known.Ranked.{Ranked as CodeRanked}
-use Rattle.isle_blocks.specs.Trees.Builder.{best_shown, ranked_shown, rules_in, scope_of}
+use Rattle.isle_blocks.specs.Inside.Trees.Builder.{best_shown, ranked_shown, rules_in, scope_of}
 use Rattle.isle_blocks.proofs.Trees.Considered.{searched_all}
 use Rattle.isle_blocks.proofs.rule_set.RuleSet.best.Goals as goal
 

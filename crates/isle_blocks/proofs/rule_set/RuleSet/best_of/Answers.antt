@@ -2,8 +2,8 @@ use Rattle.std.proofs.Common.{Option}
 use Rattle.isle_trees.specs.Ranking.{Ranked}
 use Rattle.isle_trees.specs.Scopes.{on_loop, on_match}
 use Rattle.isle_blocks.specs.declared.ids.BindingId.{BindingId}
-use Rattle.isle_blocks.specs.Trees.Best.{IsSitePassed}
-use Rattle.isle_blocks.specs.Trees.Builder.{best_shown, rules_in, scope_of}
+use Rattle.isle_blocks.specs.Inside.Trees.Best.{IsSitePassed}
+use Rattle.isle_blocks.specs.Inside.Trees.Builder.{best_shown, rules_in, scope_of}
 use Rattle.isle_blocks.proofs.Trees.Considered.{passed_more}
 use Rattle.isle_blocks.proofs.rule_set.RuleSet.best_of.Goals as goal
 

@@ -2,8 +2,8 @@ use Rattle.std.proofs.Common.{take}
 use Rattle.isle_trees.specs.Ranking.{IsRanked}
 use Rattle.isle_trees.specs.Rules.{Elem}
 use Rattle.isle_blocks.specs.declared.ids.BindingId.{BindingId}
-use Rattle.isle_blocks.specs.Trees.Best.{IsSitePassed}
-use Rattle.isle_blocks.specs.Trees.Builder.{best_shown, rules_in, scope_of}
+use Rattle.isle_blocks.specs.Inside.Trees.Best.{IsSitePassed}
+use Rattle.isle_blocks.specs.Inside.Trees.Builder.{best_shown, rules_in, scope_of}
 use Rattle.isle_blocks.proofs.rule_set.RuleSet.best_of.Given as goal
 
 abbrev pub invariant-loop-site : goal.invariant-loop-site

@@ -1,5 +1,5 @@
 use Rattle.std.proofs.Common.{sym, ◌∙◌}
-use Rattle.isle_blocks.specs.Trees.Builder.{rules_in, scope_of}
+use Rattle.isle_blocks.specs.Inside.Trees.Builder.{rules_in, scope_of}
 use Rattle.isle_blocks.proofs.Trees.Fields.{bound_made}
 use Rattle.isle_blocks.proofs.rule_set.RuleSet.bind_made.Goals as goal
 

@@ -3,7 +3,7 @@ use Rattle.std.proofs.lemmas.Fn.{always_returns_same}
 use Rattle.std.proofs.lemmas.List.Sorted.{sum_by-IsPermutation}
 use Rattle.isle_trees.specs.Search.{below, comes_first}
 use Rattle.isle_trees.proofs.Building.Runs.{first_orders, ordered_grouped, ordered_tests}
-use Rattle.isle_blocks.specs.Trees.Builder.{rules_in}
+use Rattle.isle_blocks.specs.Inside.Trees.Builder.{rules_in}
 use Rattle.isle_blocks.proofs.rule_set.RuleSet.by_test.Goals as goal
 
 pub returns-clause-same : goal.returns-clause-same

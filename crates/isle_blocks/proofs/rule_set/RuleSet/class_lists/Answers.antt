@@ -1,6 +1,6 @@
 use Rattle.std.proofs.Common.{◌≡◌, ◌≤◌, ◌+◌, ℕ, Some, length, slice_get, ap, ◌∙◌, arith}
 use Rattle.std.proofs.lemmas.List.{length_push}
-use Rattle.isle_blocks.specs.Trees.Builder.{AreClasses, AreMembers}
+use Rattle.isle_blocks.specs.Inside.Trees.Builder.{AreClasses, AreMembers}
 use Rattle.isle_blocks.proofs.Trees.Indexed.{rule_there, classes_are, members_are, list_more, list_all, no_classes}
 use Rattle.isle_blocks.proofs.rule_set.RuleSet.class_lists.Goals as goal
 

@@ -1,5 +1,5 @@
 use Rattle.std.proofs.Common.{◌≡◌, ◌<◌, ℕ, length}
-use Rattle.isle_blocks.specs.Trees.Builder.{AreClasses, AreMembers, items_at}
+use Rattle.isle_blocks.specs.Inside.Trees.Builder.{AreClasses, AreMembers, items_at}
 use Rattle.isle_blocks.proofs.rule_set.RuleSet.class_lists.Given as goal
 
 abbrev pub invariant-loop-rule : goal.invariant-loop-rule

@@ -5,7 +5,7 @@ use Rattle.isle_trees.proofs.Building.Gathering.{closing_start, closing_more, cl
 use Rattle.isle_trees.proofs.Building.Lists.{elem_at, get_any}
 use Rattle.isle_blocks.specs.declared.ids.BindingId.{BindingId}
 use Rattle.isle_blocks.specs.Rows.{numbers_of}
-use Rattle.isle_blocks.specs.Trees.Builder.{rules_in}
+use Rattle.isle_blocks.specs.Inside.Trees.Builder.{rules_in}
 use Rattle.isle_blocks.specs.Trees.View.{id_of}
 use Rattle.isle_blocks.proofs.Trees.Binding.{number_get, numbers_length}
 use Rattle.isle_blocks.proofs.rule_set.RuleSet.closure.Goals as goal

@@ -1,7 +1,7 @@
 use Rattle.std.proofs.Common.{sym, ◌∙◌}
 use Rattle.isle_trees.proofs.Building.Best.{better_old, better_new}
 use Rattle.isle_trees.proofs.Building.Bound.{passed_over}
-use Rattle.isle_blocks.specs.Trees.Builder.{best_shown, rules_in, scope_of, test_shown, key_shown}
+use Rattle.isle_blocks.specs.Inside.Trees.Builder.{best_shown, rules_in, scope_of, test_shown, key_shown}
 use Rattle.isle_blocks.proofs.rule_set.RuleSet.consider.Goals as goal
 
 pub returns-clause-old : goal.returns-clause-old

@@ -2,8 +2,8 @@ use Rattle.std.proofs.Common.{take}
 use Rattle.isle_trees.specs.Rules.{Elem}
 use Rattle.isle_trees.specs.Scopes.{on_equal}
 use Rattle.isle_blocks.specs.declared.ids.BindingId.{BindingId}
-use Rattle.isle_blocks.specs.Trees.Best.{IsPassed, IsStillRanked}
-use Rattle.isle_blocks.specs.Trees.Builder.{best_shown, rules_in, scope_of}
+use Rattle.isle_blocks.specs.Inside.Trees.Best.{IsPassed, IsStillRanked}
+use Rattle.isle_blocks.specs.Inside.Trees.Builder.{best_shown, rules_in, scope_of}
 use Rattle.isle_blocks.proofs.rule_set.RuleSet.consider_each.Given as goal
 
 abbrev pub invariant-loop-b : goal.invariant-loop-b

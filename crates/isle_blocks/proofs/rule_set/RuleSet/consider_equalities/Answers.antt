@@ -4,8 +4,8 @@ use Rattle.isle_trees.specs.Ranking.{Ranked}
 use Rattle.isle_trees.specs.Scopes.{on_equal}
 use Rattle.isle_trees.specs.Search.{top}
 use Rattle.isle_blocks.specs.declared.ids.BindingId.{BindingId}
-use Rattle.isle_blocks.specs.Trees.Best.{IsRulePassed}
-use Rattle.isle_blocks.specs.Trees.Builder.{AreClasses, best_shown, rules_in, scope_of}
+use Rattle.isle_blocks.specs.Inside.Trees.Best.{IsRulePassed}
+use Rattle.isle_blocks.specs.Inside.Trees.Builder.{AreClasses, best_shown, rules_in, scope_of}
 use Rattle.isle_blocks.proofs.Trees.Considered.{passed_more, rule_passed, still_ranked, top_front}
 use Rattle.isle_blocks.proofs.rule_set.RuleSet.consider_equalities.Goals as goal
 

@@ -1,7 +1,7 @@
 use Rattle.std.proofs.Common.{ℕ, take}
 use Rattle.isle_trees.specs.Rules.{Elem}
-use Rattle.isle_blocks.specs.Trees.Best.{IsRulePassed, IsStillRanked}
-use Rattle.isle_blocks.specs.Trees.Builder.{best_shown, rules_in, scope_of}
+use Rattle.isle_blocks.specs.Inside.Trees.Best.{IsRulePassed, IsStillRanked}
+use Rattle.isle_blocks.specs.Inside.Trees.Builder.{best_shown, rules_in, scope_of}
 use Rattle.isle_blocks.proofs.rule_set.RuleSet.consider_equalities.Given as goal
 
 abbrev pub invariant-loop-rule : goal.invariant-loop-rule

@@ -1,6 +1,6 @@
 use Rattle.std.proofs.Common.{refl, sym, ◌∙◌}
 use Rattle.isle_trees.specs.Scopes.{on_equal}
-use Rattle.isle_blocks.specs.Trees.Builder.{best_shown, rules_in, scope_of}
+use Rattle.isle_blocks.specs.Inside.Trees.Builder.{best_shown, rules_in, scope_of}
 use Rattle.isle_blocks.proofs.Trees.Considered.{row_passed}
 use Rattle.isle_blocks.proofs.rule_set.RuleSet.consider_row.Goals as goal
 

@@ -1,5 +1,5 @@
 use Rattle.isle_trees.specs.Scopes.{on_match}
-use Rattle.isle_blocks.specs.Trees.Builder.{best_shown, rules_in, scope_of}
+use Rattle.isle_blocks.specs.Inside.Trees.Builder.{best_shown, rules_in, scope_of}
 use Rattle.isle_blocks.proofs.Trees.Considered.{still_ranked}
 use Rattle.isle_blocks.proofs.rule_set.RuleSet.consider_site.Goals as goal
 

@@ -1,7 +1,7 @@
 use Rattle.std.proofs.Common.{arith, sym, ◌∙◌}
 use Rattle.isle_trees.specs.Search.{picks}
 use Rattle.isle_trees.proofs.Building.Search.{count_stopped, count_ended, picked_few}
-use Rattle.isle_blocks.specs.Trees.Builder.{rules_in, test_shown}
+use Rattle.isle_blocks.specs.Inside.Trees.Builder.{rules_in, test_shown}
 use Rattle.isle_blocks.proofs.rule_set.RuleSet.count.Goals as goal
 
 pub returns-then-not-reaches : goal.returns-then-not-reaches

@@ -3,8 +3,8 @@ use Rattle.isle_trees.specs.Ranking.{AllBelow}
 use Rattle.isle_trees.specs.Rules.{Elem}
 use Rattle.isle_blocks.specs.declared.ids.BindingId.{BindingId}
 use Rattle.isle_blocks.specs.Rows.{numbers_of}
-use Rattle.isle_blocks.specs.Trees.Builder.{items_at, rules_in}
-use Rattle.isle_blocks.specs.Trees.Marking.{ListsAt}
+use Rattle.isle_blocks.specs.Inside.Trees.Builder.{items_at, rules_in}
+use Rattle.isle_blocks.specs.Inside.Trees.Marking.{ListsAt}
 use Rattle.isle_blocks.specs.Trees.View.{id_of}
 use Rattle.isle_blocks.proofs.Trees.Binding.{number_elem, number_get, numbers_length}
 use Rattle.isle_blocks.proofs.Trees.Marking.Dependents.{listing_all, listing_more, listing_none}

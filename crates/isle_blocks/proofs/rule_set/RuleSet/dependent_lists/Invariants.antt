@@ -1,6 +1,6 @@
 use Rattle.std.proofs.Common.{◌≡◌, length, take}
 use Rattle.isle_blocks.specs.Rows.{numbers_of}
-use Rattle.isle_blocks.specs.Trees.Builder.{items_at, rules_in}
+use Rattle.isle_blocks.specs.Inside.Trees.Builder.{items_at, rules_in}
 use Rattle.isle_blocks.proofs.Trees.Marking.Dependents.{IsListing}
 use Rattle.isle_blocks.proofs.rule_set.RuleSet.dependent_lists.Given as goal
 

@@ -4,7 +4,7 @@ use Rattle.isle_trees.proofs.Building.Gathering.{emits_closure}
 use Rattle.isle_blocks.specs.declared.ids.BindingId.{BindingId}
 use Rattle.isle_blocks.specs.declared.serializer.known.Known.{Known}
 use Rattle.isle_blocks.specs.Rows.{numbers_of}
-use Rattle.isle_blocks.specs.Trees.Builder.{rules_in, scope_of}
+use Rattle.isle_blocks.specs.Inside.Trees.Builder.{rules_in, scope_of}
 use Rattle.isle_blocks.proofs.rule_set.RuleSet.emit_each.Goals as goal
 
 pub returns-clause-emits : goal.returns-clause-emits

@@ -1,7 +1,7 @@
 use Rattle.std.proofs.Common.{take, refl, ◌∙◌}
 use Rattle.isle_trees.proofs.Building.Emission.{emits_each_more, emits_each_none}
 use Rattle.isle_blocks.specs.Rows.{numbers_of}
-use Rattle.isle_blocks.specs.Trees.Builder.{rules_in, scope_of}
+use Rattle.isle_blocks.specs.Inside.Trees.Builder.{rules_in, scope_of}
 use Rattle.isle_blocks.specs.Trees.View.{id_of}
 use Rattle.isle_blocks.proofs.Trees.Binding.{number_elem, numbers_more}
 use Rattle.isle_blocks.proofs.Trees.Known.{same_known_trans}

@@ -1,8 +1,8 @@
 use Rattle.std.proofs.Common.{take}
 use Rattle.isle_trees.specs.Ranking.{EmitsEach}
 use Rattle.isle_blocks.specs.Rows.{numbers_of}
-use Rattle.isle_blocks.specs.Trees.Builder.{rules_in, scope_of}
-use Rattle.isle_blocks.specs.Trees.Work.{IsSameKnown}
+use Rattle.isle_blocks.specs.Inside.Trees.Builder.{rules_in, scope_of}
+use Rattle.isle_blocks.specs.Inside.Trees.Work.{IsSameKnown}
 use Rattle.isle_blocks.proofs.rule_set.RuleSet.emit_rights.Given as goal
 
 abbrev pub invariant-loop-site : goal.invariant-loop-site

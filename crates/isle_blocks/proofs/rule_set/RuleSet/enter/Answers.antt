@@ -3,7 +3,7 @@ use Rattle.std.proofs.lemmas.List.{take_all}
 use Rattle.isle_trees.specs.Rules.{Elem}
 use Rattle.isle_trees.proofs.Building.Enter.{Entering, entering_none, entering_more, entered}
 use Rattle.isle_blocks.specs.Rows.{numbers_of}
-use Rattle.isle_blocks.specs.Trees.Builder.{rules_in, scope_of}
+use Rattle.isle_blocks.specs.Inside.Trees.Builder.{rules_in, scope_of}
 use Rattle.isle_blocks.specs.Trees.View.{id_of}
 use Rattle.isle_blocks.proofs.Trees.Binding.{number_elem, number_get, numbers_length}
 use Rattle.isle_blocks.proofs.Trees.Fields.{tests_apart, bound_at}

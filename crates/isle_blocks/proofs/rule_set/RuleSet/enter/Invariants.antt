@@ -3,8 +3,8 @@ use Rattle.isle_trees.specs.Rules.{Want}
 use Rattle.isle_trees.proofs.Building.Enter.{Entering}
 use Rattle.isle_blocks.specs.declared.constraint.Constraint.{Constraint}
 use Rattle.isle_blocks.specs.Rows.{numbers_of}
-use Rattle.isle_blocks.specs.Trees.Builder.{rules_in, scope_of}
-use Rattle.isle_blocks.specs.Trees.Work.{IsSameKnown}
+use Rattle.isle_blocks.specs.Inside.Trees.Builder.{rules_in, scope_of}
+use Rattle.isle_blocks.specs.Inside.Trees.Work.{IsSameKnown}
 use Rattle.isle_blocks.proofs.rule_set.RuleSet.enter.Given as goal
 
 abbrev pub invariant-loop-made : goal.invariant-loop-made

@@ -1,5 +1,5 @@
 use Rattle.std.proofs.Common.{◌≡◌, drop}
-use Rattle.isle_blocks.specs.Trees.Work.{opener_among}
+use Rattle.isle_blocks.specs.Inside.Trees.Work.{opener_among}
 use Rattle.isle_blocks.proofs.rule_set.RuleSet.first_opener.Given as goal
 
 abbrev pub invariant-loop-rule : goal.invariant-loop-rule

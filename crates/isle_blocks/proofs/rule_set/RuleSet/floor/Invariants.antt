@@ -1,6 +1,6 @@
 use Rattle.std.proofs.Common.{◌≡◌, drop}
 use Rattle.isle_trees.specs.Search.{floor}
-use Rattle.isle_blocks.specs.Trees.Builder.{rules_in, test_shown}
+use Rattle.isle_blocks.specs.Inside.Trees.Builder.{rules_in, test_shown}
 use Rattle.isle_blocks.proofs.rule_set.RuleSet.floor.Given as goal
 
 abbrev pub invariant-loop-rule : goal.invariant-loop-rule

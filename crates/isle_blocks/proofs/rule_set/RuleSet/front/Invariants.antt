@@ -1,6 +1,6 @@
 use Rattle.std.proofs.Common.{◌≡◌, ◌++◌, drop}
 use Rattle.isle_trees.specs.Search.{front}
-use Rattle.isle_blocks.specs.Trees.Builder.{rules_in}
+use Rattle.isle_blocks.specs.Inside.Trees.Builder.{rules_in}
 use Rattle.isle_blocks.proofs.rule_set.RuleSet.front.Given as goal
 
 abbrev pub invariant-loop-rule : goal.invariant-loop-rule

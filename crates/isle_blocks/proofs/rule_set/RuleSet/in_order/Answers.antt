@@ -3,7 +3,7 @@ use Rattle.std.proofs.lemmas.Fn.{always_returns_same}
 use Rattle.std.proofs.lemmas.List.Sorted.{sum_by-IsPermutation}
 use Rattle.isle_trees.specs.Search.{precedes}
 use Rattle.isle_trees.proofs.Building.Ordered.{precedes_orders, sorted_in_order}
-use Rattle.isle_blocks.specs.Trees.Builder.{rules_in}
+use Rattle.isle_blocks.specs.Inside.Trees.Builder.{rules_in}
 use Rattle.isle_blocks.proofs.rule_set.RuleSet.in_order.Goals as goal
 
 pub returns-clause-same : goal.returns-clause-same

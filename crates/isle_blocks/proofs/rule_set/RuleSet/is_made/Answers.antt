@@ -1,7 +1,7 @@
 use Rattle.std.proofs.Common.{sym, ◌∙◌, ap, length}
 use Rattle.std.specs.Option.{option_map}
 use Rattle.isle_blocks.specs.declared.ids.BindingId.{BindingId}
-use Rattle.isle_blocks.specs.Trees.Builder.{opener_at}
+use Rattle.isle_blocks.specs.Inside.Trees.Builder.{opener_at}
 use Rattle.isle_blocks.proofs.Trees.Opened.{made_opened, made_unopened}
 use Rattle.isle_blocks.proofs.rule_set.RuleSet.is_made.Goals as goal
 

@@ -1,7 +1,7 @@
 use Rattle.std.proofs.Common.{ap, ◌∙◌, ℕ}
 use Rattle.isle_trees.specs.Ranking.{key_with}
 use Rattle.isle_trees.proofs.Building.Bound.{key_is}
-use Rattle.isle_blocks.specs.Trees.Builder.{rules_in, scope_of, test_shown}
+use Rattle.isle_blocks.specs.Inside.Trees.Builder.{rules_in, scope_of, test_shown}
 use Rattle.isle_blocks.proofs.rule_set.RuleSet.key.Goals as goal
 
 pub returns : goal.returns

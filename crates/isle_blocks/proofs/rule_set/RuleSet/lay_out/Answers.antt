@@ -3,8 +3,8 @@ use Rattle.isle_trees.specs.Builds.{Builds}
 use Rattle.isle_blocks.specs.declared.serializer.node.Node.{Node}
 use Rattle.isle_blocks.specs.declared.serializer.work.Task.{Task}
 use Rattle.isle_blocks.specs.Trees.Nodes.{first_steps, read}
-use Rattle.isle_blocks.specs.Trees.Builder.{rules_in, scope_of}
-use Rattle.isle_blocks.specs.Trees.Work.{AreDue, AreTasks, sizes}
+use Rattle.isle_blocks.specs.Inside.Trees.Builder.{rules_in, scope_of}
+use Rattle.isle_blocks.specs.Inside.Trees.Work.{AreDue, AreTasks, sizes}
 use Rattle.isle_blocks.proofs.Trees.Working.{begun, begun_valid, tasks_right, turned, turned_smaller, turned_told, turned_valid}
 use Rattle.isle_blocks.proofs.rule_set.RuleSet.lay_out.Goals as goal
 

@@ -1,8 +1,8 @@
 use Rattle.std.proofs.Common.{List}
 use Rattle.isle_trees.specs.Builds.{Builds}
 use Rattle.isle_blocks.specs.Trees.Nodes.{Piece, first_steps, read}
-use Rattle.isle_blocks.specs.Trees.Builder.{rules_in, scope_of}
-use Rattle.isle_blocks.specs.Trees.Work.{AreDue, AreOfRules, AreTasks, sizes}
+use Rattle.isle_blocks.specs.Inside.Trees.Builder.{rules_in, scope_of}
+use Rattle.isle_blocks.specs.Inside.Trees.Work.{AreDue, AreOfRules, AreTasks, sizes}
 use Rattle.isle_blocks.proofs.rule_set.RuleSet.lay_out.Given as goal
 
 abbrev pub invariant-work : goal.invariant-work

@@ -2,7 +2,7 @@ use Rattle.std.proofs.Common.{arith, ◌∙◌, ◌≡◌, ℕ, length, subst, s
 use Rattle.isle_trees.specs.Search.{AreMadeBelow}
 use Rattle.isle_trees.proofs.Building.Asked.{made_step}
 use Rattle.isle_blocks.specs.Rows.{numbers_of}
-use Rattle.isle_blocks.specs.Trees.Builder.{items_at, rules_in, source_in}
+use Rattle.isle_blocks.specs.Inside.Trees.Builder.{items_at, rules_in, source_in}
 use Rattle.isle_blocks.proofs.Trees.Openers.{made_source}
 use Rattle.isle_blocks.proofs.rule_set.RuleSet.made_lists.Goals as goal
 

@@ -1,7 +1,7 @@
 use Rattle.std.proofs.Common.{Bool, ◌∙◌, ap, length, sym}
 use Rattle.std.specs.Prelude.{◌&&◌}
 use Rattle.isle_trees.specs.Search.{same_wants}
-use Rattle.isle_blocks.specs.Trees.Builder.{opener_at, rules_in}
+use Rattle.isle_blocks.specs.Inside.Trees.Builder.{opener_at, rules_in}
 use Rattle.isle_blocks.proofs.Trees.Fields.{made_unopened, made_opened}
 use Rattle.isle_blocks.proofs.rule_set.RuleSet.makes.Goals as goal
 

@@ -6,7 +6,7 @@ use Rattle.isle_trees.proofs.Building.Marks.{Marking, marking_set}
 use Rattle.isle_trees.proofs.Building.Scopes.{get_map, map_length}
 use Rattle.isle_blocks.specs.declared.ids.BindingId.{BindingId}
 use Rattle.isle_blocks.specs.Rows.{numbers_of}
-use Rattle.isle_blocks.specs.Trees.Builder.{rules_in, scope_of}
+use Rattle.isle_blocks.specs.Inside.Trees.Builder.{rules_in, scope_of}
 use Rattle.isle_blocks.specs.Trees.View.{id_of}
 use Rattle.isle_blocks.proofs.Trees.Binding.{number_elem}
 use Rattle.isle_blocks.proofs.Trees.Marked.{marking_passed}

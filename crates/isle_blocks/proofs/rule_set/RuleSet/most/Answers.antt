@@ -3,7 +3,7 @@ use Rattle.isle_trees.specs.Rules.{Elem}
 use Rattle.isle_trees.specs.Scopes.{counted, counts}
 use Rattle.isle_trees.proofs.Building.Bound.{counted_short}
 use Rattle.isle_trees.proofs.Building.Lists.{filter_small}
-use Rattle.isle_blocks.specs.Trees.Builder.{rules_in, users_at}
+use Rattle.isle_blocks.specs.Inside.Trees.Builder.{rules_in, users_at}
 use Rattle.isle_blocks.proofs.rule_set.RuleSet.most.Goals as goal
 
 pub returns : goal.returns

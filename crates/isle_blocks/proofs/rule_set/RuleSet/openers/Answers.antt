@@ -1,9 +1,9 @@
 use Rattle.std.proofs.Common.{arith, ◌≡◌, ◌++◌, ◌∷◌, ◌+◌, ℕ, inl, inr, [], None, Option, List, length, get_or, slice_get, ap, ◌∙◌, subst}
 use Rattle.std.proofs.lemmas.List.{length_push, get_or_append_left, get_or_at}
 use Rattle.isle_trees.proofs.Building.Lists.{less_or}
-use Rattle.isle_blocks.specs.Trees.Builder.{items_at, source_in}
+use Rattle.isle_blocks.specs.Inside.Trees.Builder.{items_at, source_in}
 use Rattle.isle_blocks.specs.Trees.View.{read_or}
-use Rattle.isle_blocks.specs.Trees.Work.{opener_among}
+use Rattle.isle_blocks.specs.Inside.Trees.Work.{opener_among}
 use Rattle.isle_blocks.proofs.Trees.Openers.{openers_are}
 use Rattle.isle_blocks.proofs.rule_set.RuleSet.openers.Goals as goal
 

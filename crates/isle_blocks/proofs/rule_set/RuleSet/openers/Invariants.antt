@@ -1,7 +1,7 @@
 use Rattle.std.proofs.Common.{◌≡◌, ◌<◌, ℕ, length, [], None, get_or, slice_get}
-use Rattle.isle_blocks.specs.Trees.Builder.{items_at, source_in}
+use Rattle.isle_blocks.specs.Inside.Trees.Builder.{items_at, source_in}
 use Rattle.isle_blocks.specs.Trees.View.{read_or}
-use Rattle.isle_blocks.specs.Trees.Work.{opener_among}
+use Rattle.isle_blocks.specs.Inside.Trees.Work.{opener_among}
 use Rattle.isle_blocks.proofs.rule_set.RuleSet.openers.Given as goal
 
 abbrev pub invariant-loop-site : goal.invariant-loop-site

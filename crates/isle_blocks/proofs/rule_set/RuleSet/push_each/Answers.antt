@@ -1,6 +1,6 @@
 use Rattle.std.proofs.Common.{take}
 use Rattle.isle_blocks.specs.Rows.{numbers_of}
-use Rattle.isle_blocks.specs.Trees.Builder.{rules_in}
+use Rattle.isle_blocks.specs.Inside.Trees.Builder.{rules_in}
 use Rattle.isle_blocks.specs.Trees.View.{id_of}
 use Rattle.isle_blocks.proofs.Trees.Binding.{numbers_more, written_more}
 use Rattle.isle_blocks.proofs.rule_set.RuleSet.push_each.Goals as goal

@@ -2,8 +2,8 @@ use Rattle.std.proofs.Common.{◌++◌, List, ℕ, ap, sym, ◌∙◌}
 use Rattle.std.specs.List.{filter}
 use Rattle.isle_trees.proofs.Building.Lists.{filter_append}
 use Rattle.isle_blocks.specs.Rows.{numbers_of}
-use Rattle.isle_blocks.specs.Trees.Builder.{scope_of, users_at}
-use Rattle.isle_blocks.specs.Trees.Marking.{is_testable}
+use Rattle.isle_blocks.specs.Inside.Trees.Builder.{scope_of, users_at}
+use Rattle.isle_blocks.specs.Inside.Trees.Marking.{is_testable}
 use Rattle.isle_blocks.proofs.rule_set.RuleSet.ready_past.Goals as goal
 
 pub returns : goal.returns

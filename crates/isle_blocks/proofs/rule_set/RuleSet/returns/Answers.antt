@@ -7,8 +7,8 @@ use Rattle.isle_blocks.specs.declared.rule.Rule.{Rule}
 use Rattle.isle_blocks.specs.declared.serializer.node.Node.{Node}
 use Rattle.isle_blocks.specs.Rows.{numbers_of}
 use Rattle.isle_blocks.specs.Trees.Nodes.{given, put}
-use Rattle.isle_blocks.specs.Trees.Builder.{rules_in, scope_of}
-use Rattle.isle_blocks.specs.Trees.Work.{IsOfRule}
+use Rattle.isle_blocks.specs.Inside.Trees.Builder.{rules_in, scope_of}
+use Rattle.isle_blocks.specs.Inside.Trees.Work.{IsOfRule}
 use Rattle.isle_blocks.proofs.Trees.Binding.{rights_are}
 use Rattle.isle_blocks.proofs.Trees.Working.{given_all, given_more}
 use Rattle.isle_blocks.proofs.rule_set.RuleSet.returns.Goals as goal

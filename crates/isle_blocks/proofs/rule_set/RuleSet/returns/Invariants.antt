@@ -1,6 +1,6 @@
 use Rattle.std.proofs.Common.{◌≡◌, drop, length}
-use Rattle.isle_blocks.specs.Trees.Builder.{scope_of}
-use Rattle.isle_blocks.specs.Trees.Work.{AreGiven}
+use Rattle.isle_blocks.specs.Inside.Trees.Builder.{scope_of}
+use Rattle.isle_blocks.specs.Inside.Trees.Work.{AreGiven}
 use Rattle.isle_blocks.proofs.rule_set.RuleSet.returns.Given as goal
 
 abbrev pub invariant-loop-number : goal.invariant-loop-number

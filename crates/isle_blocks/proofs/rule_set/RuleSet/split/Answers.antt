@@ -3,7 +3,7 @@ use Rattle.std.specs.List.{filter}
 use Rattle.std.proofs.lemmas.List.{take_all}
 use Rattle.isle_trees.specs.Search.{picks}
 use Rattle.isle_trees.proofs.Building.Search.{counted_with, others_with}
-use Rattle.isle_blocks.specs.Trees.Builder.{rules_in, test_shown}
+use Rattle.isle_blocks.specs.Inside.Trees.Builder.{rules_in, test_shown}
 use Rattle.isle_blocks.proofs.rule_set.RuleSet.split.Goals as goal
 
 pub returns-clause-counted : goal.returns-clause-counted

@@ -1,7 +1,7 @@
 use Rattle.std.proofs.Common.{◌≡◌, take, not}
 use Rattle.std.specs.List.{filter}
 use Rattle.isle_trees.specs.Search.{picks}
-use Rattle.isle_blocks.specs.Trees.Builder.{rules_in, test_shown}
+use Rattle.isle_blocks.specs.Inside.Trees.Builder.{rules_in, test_shown}
 use Rattle.isle_blocks.proofs.rule_set.RuleSet.split.Given as goal
 
 abbrev pub invariant-loop-rule : goal.invariant-loop-rule

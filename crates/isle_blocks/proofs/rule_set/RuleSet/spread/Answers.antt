@@ -5,7 +5,7 @@ use Rattle.isle_trees.proofs.Building.Gathering.{gathering_short}
 use Rattle.isle_trees.proofs.Building.Lists.{get_any}
 use Rattle.isle_blocks.specs.declared.ids.BindingId.{BindingId}
 use Rattle.isle_blocks.specs.Rows.{numbers_of}
-use Rattle.isle_blocks.specs.Trees.Builder.{dependents_at, rules_in, scope_of}
+use Rattle.isle_blocks.specs.Inside.Trees.Builder.{dependents_at, rules_in, scope_of}
 use Rattle.isle_blocks.specs.Trees.View.{id_of}
 use Rattle.isle_blocks.proofs.Trees.Binding.{number_get, numbers_length}
 use Rattle.isle_blocks.proofs.Trees.Marking.Spreading.{spread, spreading_next, spreading_start}

@@ -1,6 +1,6 @@
 use Rattle.std.proofs.Common.{length, ◌-◌, ◌≤◌}
 use Rattle.isle_blocks.specs.Rows.{numbers_of}
-use Rattle.isle_blocks.specs.Trees.Builder.{rules_in, scope_of}
+use Rattle.isle_blocks.specs.Inside.Trees.Builder.{rules_in, scope_of}
 use Rattle.isle_blocks.proofs.Trees.Marking.Spreading.{IsSpreading}
 use Rattle.isle_blocks.proofs.rule_set.RuleSet.spread.Given as goal
 

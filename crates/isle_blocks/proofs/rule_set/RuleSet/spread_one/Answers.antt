@@ -1,6 +1,6 @@
 use Rattle.std.proofs.Common.{◌<◌, length, sym, ◌∙◌, arith}
 use Rattle.isle_blocks.specs.Rows.{numbers_of}
-use Rattle.isle_blocks.specs.Trees.Builder.{rules_in, scope_of}
+use Rattle.isle_blocks.specs.Inside.Trees.Builder.{rules_in, scope_of}
 use Rattle.isle_blocks.proofs.Trees.Binding.{numbers_push}
 use Rattle.isle_blocks.proofs.Trees.Marking.Spreading.{spreads_new, spreads_over}
 use Rattle.isle_blocks.proofs.Trees.Order.{same_is}

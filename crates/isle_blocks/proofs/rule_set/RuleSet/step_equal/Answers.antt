@@ -2,7 +2,7 @@ use Rattle.std.proofs.Common.{◌≡◌, ap, length, arith, inl, inr}
 use Rattle.isle_trees.specs.Scopes.{on_equal}
 use Rattle.isle_trees.specs.Search.{IsSamePath}
 use Rattle.isle_blocks.specs.Rows.{numbers_of}
-use Rattle.isle_blocks.specs.Trees.Builder.{rules_in, scope_of}
+use Rattle.isle_blocks.specs.Inside.Trees.Builder.{rules_in, scope_of}
 use Rattle.isle_trees.proofs.Building.Enter.{path_bound}
 use Rattle.isle_trees.proofs.Building.Sorting.{rest_marked}
 use Rattle.isle_blocks.proofs.Trees.Marking.Spreading.{marked_joined}

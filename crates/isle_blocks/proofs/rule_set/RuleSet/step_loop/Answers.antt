@@ -4,14 +4,14 @@ use Rattle.isle_trees.specs.Scopes.{Scope, on_loop}
 use Rattle.isle_trees.specs.Search.{AreSound, IsSamePath}
 use Rattle.isle_blocks.specs.declared.constraint.Constraint.{Constraint}
 use Rattle.isle_blocks.specs.Rows.{numbers_of}
-use Rattle.isle_blocks.specs.Trees.Builder.{rules_in, scope_of, users_at}
+use Rattle.isle_blocks.specs.Inside.Trees.Builder.{rules_in, scope_of, users_at}
 use Rattle.isle_trees.proofs.Building.Enter.{path_freed, path_released, sound_inside, sound_path}
 use Rattle.isle_trees.proofs.Building.Lists.{get_any}
 use Rattle.isle_trees.proofs.Building.Sorting.{loop_untested, loop_value, rest_marked}
 use Rattle.isle_trees.specs.Search.{below}
 use Rattle.isle_blocks.proofs.Trees.Known.{copy_scope}
 use Rattle.isle_blocks.proofs.Trees.Marking.Spreading.{marked_inside}
-use Rattle.isle_blocks.specs.Trees.Marking.{is_testable}
+use Rattle.isle_blocks.specs.Inside.Trees.Marking.{is_testable}
 use Rattle.isle_blocks.proofs.Trees.Marking.Ready.{ready_inside, ready_path, testable_from}
 use Rattle.isle_blocks.proofs.Trees.Moving.{moved_loop}
 use Rattle.isle_blocks.proofs.Trees.Stepping.{chosen_left, chosen_ordered, chosen_rules, first_chosen, loop_wants, released_copy, rest_left, rest_ordered, rest_rules, test_within}

@@ -9,7 +9,7 @@ use Rattle.isle_trees.proofs.Building.Sorting.{chosen_want, rest_marked, still_u
 use Rattle.isle_blocks.specs.declared.serializer.work.Open.{Open}
 use Rattle.isle_blocks.specs.declared.serializer.work.Task.{Task}
 use Rattle.isle_blocks.specs.Rows.{numbers_of}
-use Rattle.isle_blocks.specs.Trees.Builder.{rules_in, scope_of}
+use Rattle.isle_blocks.specs.Inside.Trees.Builder.{rules_in, scope_of}
 use Rattle.isle_blocks.proofs.Trees.Known.{fit_same}
 use Rattle.isle_blocks.proofs.Trees.Marking.Ready.{ready_path}
 use Rattle.isle_blocks.proofs.Trees.Moving.{moved_match}

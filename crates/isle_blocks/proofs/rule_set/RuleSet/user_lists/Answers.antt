@@ -5,8 +5,8 @@ use Rattle.isle_trees.proofs.Building.Asked.{has_tested}
 use Rattle.isle_trees.proofs.Building.Bound.{users_all, users_step}
 use Rattle.isle_blocks.specs.declared.ids.BindingId.{BindingId}
 use Rattle.isle_blocks.specs.Rows.{numbers_of}
-use Rattle.isle_blocks.specs.Trees.Builder.{AreClasses, AreMembers, items_at, rules_in}
-use Rattle.isle_blocks.specs.Trees.Work.{AddsOnly}
+use Rattle.isle_blocks.specs.Inside.Trees.Builder.{AreClasses, AreMembers, items_at, rules_in}
+use Rattle.isle_blocks.specs.Inside.Trees.Work.{AddsOnly}
 use Rattle.isle_blocks.proofs.Trees.Indexed.{rule_there, tested_few, tested_listed, never_has, kept_still, low_still, rising_still}
 use Rattle.isle_blocks.proofs.rule_set.RuleSet.user_lists.Goals as goal
 

@@ -2,7 +2,7 @@ use Rattle.std.proofs.Common.{◌≡◌, ◌<◌, ℕ, length, true}
 use Rattle.isle_trees.specs.Rules.{Elem}
 use Rattle.isle_trees.specs.Scopes.{Test, has_test}
 use Rattle.isle_trees.specs.Search.{first_of}
-use Rattle.isle_blocks.specs.Trees.Builder.{IsRising, items_at, rules_in}
+use Rattle.isle_blocks.specs.Inside.Trees.Builder.{IsRising, items_at, rules_in}
 use Rattle.isle_blocks.proofs.rule_set.RuleSet.user_lists.Given as goal
 
 abbrev pub invariant-loop-rule : goal.invariant-loop-rule

@@ -1,5 +1,5 @@
 use Rattle.std.proofs.Common.{take}
-use Rattle.isle_trees.specs.Gathering.{Gathers}
+use Rattle.isle_trees.specs.Inside.Gathering.{Gathers}
 use Rattle.isle_blocks.specs.Rows.{numbers_of}
 use Rattle.isle_blocks.proofs.serializer.binding.gather.Given as goal
 

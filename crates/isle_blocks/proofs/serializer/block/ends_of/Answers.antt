@@ -1,6 +1,6 @@
 use Rattle.std.proofs.Common.{rules, arith, sym, ◌∙◌, ◌≡◌, ◌<◌, ◌≤◌, ◌+◌, ◌-◌, length, subst, List, ℕ, set, ap, slice_get, Some, refl}
 use Rattle.std.proofs.lemmas.Option.{slice_get_read}
-use Rattle.isle_blocks.specs.Trees.Ends.{node_end}
+use Rattle.isle_blocks.specs.Inside.Trees.Ends.{node_end}
 use Rattle.isle_blocks.proofs.Trees.Ending.{AreEndsFrom, ends_none, ends_more, ends_all}
 use Rattle.isle_blocks.proofs.serializer.block.ends_of.Goals as goal
 

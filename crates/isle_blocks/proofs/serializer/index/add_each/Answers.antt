@@ -3,7 +3,7 @@ use Rattle.std.proofs.Math.ListN.{length-map}
 use Rattle.isle_trees.specs.Search.{added_at}
 use Rattle.isle_trees.proofs.Building.Bound.{users_more}
 use Rattle.isle_blocks.specs.Rows.{numbers_of}
-use Rattle.isle_blocks.specs.Trees.Builder.{items_at}
+use Rattle.isle_blocks.specs.Inside.Trees.Builder.{items_at}
 use Rattle.isle_blocks.proofs.Trees.Indexed.{adds_once, number_at, number_low}
 use Rattle.isle_blocks.proofs.serializer.index.add_each.Goals as goal
 

@@ -1,8 +1,8 @@
 use Rattle.std.proofs.Common.{◌≡◌, ℕ, length, take}
 use Rattle.isle_trees.specs.Rules.{Elem}
 use Rattle.isle_blocks.specs.Rows.{numbers_of}
-use Rattle.isle_blocks.specs.Trees.Builder.{items_at}
-use Rattle.isle_blocks.specs.Trees.Work.{AddsOnly}
+use Rattle.isle_blocks.specs.Inside.Trees.Builder.{items_at}
+use Rattle.isle_blocks.specs.Inside.Trees.Work.{AddsOnly}
 use Rattle.isle_blocks.proofs.serializer.index.add_each.Given as goal
 
 abbrev pub invariant-loop-site : goal.invariant-loop-site

@@ -1,7 +1,7 @@
 use Rattle.std.proofs.Common.{◌≡◌, ◌++◌, ◌∷◌, [], ℕ, sym, ◌∙◌, ap, subst, set}
 use Rattle.isle_trees.specs.Search.{added_at}
 use Rattle.isle_blocks.specs.Rows.{numbers_of}
-use Rattle.isle_blocks.specs.Trees.Builder.{items_at}
+use Rattle.isle_blocks.specs.Inside.Trees.Builder.{items_at}
 use Rattle.isle_blocks.proofs.Trees.Indexed.{number_added, items_read}
 use Rattle.isle_blocks.proofs.serializer.index.add_site.Goals as goal
 

@@ -2,7 +2,7 @@ use Rattle.std.proofs.Common.{◌≡◌, ◌≤◌, ℕ, List, ap, refl, ◌∙�
 use Rattle.std.proofs.lemmas.Option.{slice_get_past}
 use Rattle.isle_trees.specs.Rules.{Elem}
 use Rattle.isle_blocks.specs.Rows.{numbers_of}
-use Rattle.isle_blocks.specs.Trees.Builder.{items_at, items_in}
+use Rattle.isle_blocks.specs.Inside.Trees.Builder.{items_at, items_in}
 use Rattle.isle_blocks.proofs.Trees.Indexed.{items_read}
 use Rattle.isle_blocks.proofs.Trees.Marking.Dependents.{gathered_full, gathered_more, gathered_none}
 use Rattle.isle_blocks.proofs.serializer.index.all_of.Goals as goal

@@ -1,5 +1,5 @@
 use Rattle.isle_blocks.specs.Rows.{numbers_of}
-use Rattle.isle_blocks.specs.Trees.Builder.{items_at}
+use Rattle.isle_blocks.specs.Inside.Trees.Builder.{items_at}
 use Rattle.isle_blocks.proofs.Trees.Marking.Dependents.{AreGathered}
 use Rattle.isle_blocks.proofs.serializer.index.all_of.Given as goal
 

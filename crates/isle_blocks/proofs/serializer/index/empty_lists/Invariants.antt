@@ -1,5 +1,5 @@
 use Rattle.std.proofs.Common.{◌≡◌, ◌≤◌, ◌-◌, ℕ, length, []}
-use Rattle.isle_blocks.specs.Trees.Builder.{items_at}
+use Rattle.isle_blocks.specs.Inside.Trees.Builder.{items_at}
 use Rattle.isle_blocks.proofs.serializer.index.empty_lists.Given as goal
 
 abbrev pub invariant-lists : goal.invariant-lists

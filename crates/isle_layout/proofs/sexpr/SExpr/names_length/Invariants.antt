@@ -1,7 +1,7 @@
 use Rattle.std.proofs.Common.{◌≡◌, ℕ, ◌+◌}
 use Rattle.std.specs.Fmt.{char_count}
 use Rattle.isle_layout.specs.SExprShape.{sexpr_of}
-use Rattle.isle_layout.specs.SExprInnermost.{names_text}
+use Rattle.isle_layout.specs.Inside.SExprInnermost.{names_text}
 use Rattle.isle_layout.specs.Layout.{within}
 use Rattle.isle_layout.proofs.sexpr.SExpr.names_length.Given as goal
 

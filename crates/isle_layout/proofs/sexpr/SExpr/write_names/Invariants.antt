@@ -1,6 +1,6 @@
 use Rattle.std.proofs.Common.{◌≡◌, ◌++◌, string_bytes}
 use Rattle.isle_layout.specs.SExprShape.{sexpr_of}
-use Rattle.isle_layout.specs.SExprInnermost.{names_text}
+use Rattle.isle_layout.specs.Inside.SExprInnermost.{names_text}
 use Rattle.isle_layout.proofs.sexpr.SExpr.write_names.Given as goal
 
 abbrev pub invariant-loop-at : goal.invariant-loop-at

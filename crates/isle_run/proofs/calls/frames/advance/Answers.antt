@@ -1,6 +1,6 @@
 use Rattle.std.proofs.Common.{◌++◌, subst}
-use Rattle.isle_run.specs.Calls.States.{host, state}
-use Rattle.isle_run.specs.Calls.Ways.{AdvancesTo, TurnsTo, Begins}
+use Rattle.isle_run.specs.Inside.Calls.States.{host, state}
+use Rattle.isle_run.specs.Inside.Calls.Ways.{AdvancesBy, TurnsTo, Begins}
 use Rattle.isle_run.proofs.OpenCalls.Made.{gone_again, on_err}
 use Rattle.isle_run.proofs.OpenCalls.Running.{going_first, going_turn}
 use Rattle.isle_run.proofs.calls.frames.advance.Goals as goal
@@ -22,7 +22,7 @@ returns-in-Comes-clause-advanced g c =
     going_turn (host g.W.World.step g.W.World.constructs g.W.World.extracts) way
     (state (g.R.Road.compiled c.args.road.now) c.args.world.now c.args.effects.now.items (g.R.Road.stored c.args.road.now)) c.args.frame.now
     (state (g.R.Road.compiled c.loop.road) c.loop.world c.loop.effects.items (g.R.Road.stored c.loop.road)) c.loop.frame c.loop.invariant u
-    (λ k since. AdvancesTo way k u.stored c.go.new.frame since c.in-Comes.advanced)
+    (λ k since. AdvancesBy way k u.stored c.go.new.frame since c.in-Comes.advanced)
     (λ k since open_in is. let (made, has, turns) = c.in_ok-go.ensures.turned k since open_in is in
     (made, has, subst (TurnsTo way k u.stored c.go.new.frame (since ++ made)) c.in-Comes.is turns))
 

@@ -1,5 +1,5 @@
 -- The frame has gone on so far.
-use Rattle.isle_run.specs.Calls.States.{host, state}
+use Rattle.isle_run.specs.Inside.Calls.States.{host, state}
 use Rattle.isle_run.proofs.OpenCalls.Running.{IsGoing}
 use Rattle.isle_run.proofs.calls.frames.advance.Given as goal
 

@@ -4,11 +4,11 @@ use Rattle.std.proofs.Common.{◌≡◌, ◌++◌, ◌-◌, ℕ, suc, [], refl, 
 use Rattle.isle_meaning.specs.Asking.{spent}
 use Rattle.isle_meaning.specs.Outcomes.{ended}
 use Rattle.isle_meaning.specs.Values.{Values}
-use Rattle.isle_run.specs.Calls.Open.{CallOf}
-use Rattle.isle_run.specs.Calls.Stacks.{AreStacked, GoesOn}
-use Rattle.isle_run.specs.Calls.States.{host, state, answers_of}
-use Rattle.isle_run.specs.Calls.Ways.{IsReady, Begins}
-use Rattle.isle_run.specs.Stores.Values.{StandEach}
+use Rattle.isle_run.specs.Inside.Calls.Open.{CallOf}
+use Rattle.isle_run.specs.Inside.Calls.Stacks.{AreStacked, GoesOn}
+use Rattle.isle_run.specs.Inside.Calls.States.{host, state, answers_of}
+use Rattle.isle_run.specs.Inside.Calls.Ways.{IsReady, Begins}
+use Rattle.isle_run.specs.Inside.Stores.Values.{StandEach}
 use Rattle.isle_run.proofs.OpenCalls.Made.{makes_none, gone_none, gone_again, on_err}
 use Rattle.isle_run.proofs.OpenCalls.Running.{running_turn, running_next, running_begun}
 use Rattle.isle_run.proofs.calls.frames.answer_call.Goals as goal

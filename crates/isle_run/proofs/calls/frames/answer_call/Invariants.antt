@@ -1,8 +1,8 @@
 -- The call has run so far.
 use Rattle.std.proofs.Common.{◌-◌}
-use Rattle.isle_run.specs.Calls.States.{host, state, answers_of}
-use Rattle.isle_run.specs.Calls.Ways.{IsReady}
-use Rattle.isle_run.specs.Stores.Values.{StandEach}
+use Rattle.isle_run.specs.Inside.Calls.States.{host, state, answers_of}
+use Rattle.isle_run.specs.Inside.Calls.Ways.{IsReady}
+use Rattle.isle_run.specs.Inside.Stores.Values.{StandEach}
 use Rattle.isle_run.proofs.OpenCalls.Running.{IsRunning}
 use Rattle.isle_run.proofs.calls.frames.answer_call.Given as goal
 

@@ -3,9 +3,9 @@ use Rattle.std.proofs.lemmas.List.{append-nil}
 use Rattle.isle_meaning.specs.Asking.{spent}
 use Rattle.isle_meaning.specs.Outcomes.{ended}
 use Rattle.isle_meaning.specs.Worlds.{Event}
-use Rattle.isle_run.specs.Calls.Open.{CallOf, call_below}
-use Rattle.isle_run.specs.Calls.Stacks.{AreStacked, first_steps}
-use Rattle.isle_run.specs.Calls.Ways.{Comes, Below}
+use Rattle.isle_run.specs.Inside.Calls.Open.{CallOf, call_below}
+use Rattle.isle_run.specs.Inside.Calls.Stacks.{AreStacked, first_steps}
+use Rattle.isle_run.specs.Inside.Calls.Ways.{Comes, Below}
 use Rattle.isle_run.proofs.OpenCalls.Stacked.{stacked_program, stacked_ends, last_first}
 use Rattle.isle_run.proofs.calls.frames.enter.Goals as goal
 

@@ -3,8 +3,8 @@ use Rattle.isle_meaning.specs.Outcomes.{given, missing, ended}
 use Rattle.isle_meaning.specs.Worlds.{Event}
 use Rattle.isle_run.specs.declared.program.Program.{Program}
 use Rattle.isle_run.specs.Calls.Answers.{IsEnd}
-use Rattle.isle_run.specs.Calls.Stacks.{AreStacked, first_steps}
-use Rattle.isle_run.specs.Calls.Ways.{Comes, AdvancesTo}
+use Rattle.isle_run.specs.Inside.Calls.Stacks.{AreStacked, first_steps}
+use Rattle.isle_run.specs.Inside.Calls.Ways.{Comes, AdvancesBy}
 use Rattle.isle_run.proofs.OpenCalls.Stacked.{stacked_program, stacked_ends, last_first, comes_below, ends_told}
 use Rattle.isle_run.proofs.calls.frames.next_frame.Goals as goal
 
@@ -13,7 +13,7 @@ returns-in-Ends g c = λ goal k start since of named ready stacked comes.
     let way = g.R.Road.way in
     let stored = g.R.Road.stored c.args.road.now in
     let frames = reverse c.args.waiting.now.items in
-    let (e, told, ends) = subst (AdvancesTo way k stored c.args.top since) c.in-Ends.is comes in
+    let (e, told, ends) = subst (AdvancesBy way k stored c.args.top since) c.in-Ends.is comes in
     let all = stacked_ends way c.laws.ensures goal stored frames k start stacked (way.steps_of c.args.top) since e ends in
     let steps : c.first_steps.result ≡ first_steps way frames (way.steps_of c.args.top) =
     c.first_steps.ensures ∙ ap (λ l. first_steps way (reverse l) (way.steps_of c.args.top)) c.as_slice.ensures.value in (
@@ -27,7 +27,7 @@ pub returns-in-Some : goal.returns-in-Some
 returns-in-Some g c = λ goal k start since of named ready stacked comes.
     let way = g.R.Road.way in
     let stored = g.R.Road.stored c.args.road.now in
-    let (v, stands, is) = subst (AdvancesTo way k stored c.args.top since) c.in-Is.is comes in
+    let (v, stands, is) = subst (AdvancesBy way k stored c.args.top since) c.in-Is.is comes in
     let shown = last_first c.pop.new.self.items c.args.waiting.now.items c.in-Some.frame c.in-Some.ensures.items in
     let popped = subst (λ l. AreStacked way goal stored l k start) shown stacked in
     let (j, before, others, term, deeper, same, waits, joined, rest) = popped in
@@ -44,7 +44,7 @@ pub returns-in-Some-pop : goal.returns-in-Some-pop
 returns-in-Some-pop g c = λ goal k start since of named ready stacked comes.
     let way = g.R.Road.way in
     let stored = g.R.Road.stored c.args.road.now in
-    let is = subst (AdvancesTo way k stored c.args.top since) c.in-Missing.is comes in
+    let is = subst (AdvancesBy way k stored c.args.top since) c.in-Missing.is comes in
     let shown = last_first c.pop-in-Missing.new.self.items c.args.waiting.now.items c.in-Some-pop.frame c.in-Some-pop.ensures.items in
     let popped = subst (λ l. AreStacked way goal stored l k start) shown stacked in
     let (j, before, others, term, deeper, same, waits, joined, rest) = popped in

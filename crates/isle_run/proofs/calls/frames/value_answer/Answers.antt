@@ -3,9 +3,9 @@ use Rattle.isle_meaning.specs.GroundValues.{value_of, IsValueOf}
 use Rattle.isle_meaning.specs.Outcomes.{given}
 use Rattle.isle_meaning.specs.ValueTypes.{IsOfType}
 use Rattle.isle_run.specs.declared.program.Program.{Program}
-use Rattle.isle_run.specs.Calls.Ways.{Comes}
+use Rattle.isle_run.specs.Inside.Calls.Ways.{Comes}
 use Rattle.isle_run.specs.Meanings.{checked}
-use Rattle.isle_run.specs.Stores.Values.{Stands}
+use Rattle.isle_run.specs.Inside.Stores.Values.{Stands}
 use Rattle.isle_run.proofs.calls.frames.value_answer.Goals as goal
 
 pub returns : goal.returns

@@ -1,6 +1,6 @@
 use Rattle.std.proofs.Common.{List, [], length, Vec, ℕ, sym, ap, ◌∙◌, subst}
 use Rattle.std.specs.Global.{Global}
-use Rattle.isle_run.specs.Facts.Spreading.{IsSpread}
+use Rattle.isle_run.specs.Inside.Facts.Spreading.{IsSpread}
 use Rattle.isle_run.proofs.ProgramFacts.Reaching.{spread_marks}
 use Rattle.isle_run.proofs.facts.barred.barred_terms.Goals as goal
 

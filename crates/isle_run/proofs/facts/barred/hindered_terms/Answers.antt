@@ -5,7 +5,7 @@ use Rattle.std.proofs.Math.Bool.{and-true, and-false}
 use Rattle.std.proofs.lemmas.List.{length-map}
 use Rattle.isle_terms.specs.declared.rules.Rule.{Rule}
 use Rattle.isle_terms.specs.declared.terms.Term.{Term}
-use Rattle.isle_blocks.specs.RivalLists.{is_multi_kind, is_multi_in}
+use Rattle.isle_terms.specs.Shown.TermTables.{is_multi_kind, is_multi_in}
 use Rattle.isle_run.specs.Facts.Reach.{is_hindering_rule}
 use Rattle.isle_run.proofs.ProgramFacts.MarkedTerms.{AreMarkedBefore, marked_first, marked_set, marked_same, marked_last, rule_at, multi_marks}
 use Rattle.isle_run.proofs.facts.barred.hindered_terms.Goals as goal

@@ -1,7 +1,7 @@
 use Rattle.std.proofs.Common.{◌≡◌, ◌+◌, ◌++◌, ◌∷◌, [], ℕ, List, length, take, sym, ap, ◌∙◌, subst, add-one, arith}
 use Rattle.std.proofs.Math.Seq.{take-suc, take-length}
 use Rattle.isle_terms.specs.declared.rules.Rule.{Rule}
-use Rattle.isle_run.specs.Facts.Callers.{AreCallers}
+use Rattle.isle_run.specs.Inside.Facts.Callers.{AreCallers}
 use Rattle.isle_run.proofs.ProgramFacts.Callers.{callers_none, callers_next}
 use Rattle.isle_run.proofs.facts.callers.callers.Goals as goal
 

@@ -1,5 +1,5 @@
 use Rattle.std.proofs.Common.{List, ℕ, length, take}
-use Rattle.isle_run.specs.Facts.Callers.{AreCallers}
+use Rattle.isle_run.specs.Inside.Facts.Callers.{AreCallers}
 use Rattle.isle_run.proofs.facts.callers.callers.Given as goal
 
 abbrev pub invariant-loop-rule : goal.invariant-loop-rule

@@ -1,6 +1,6 @@
 use Rattle.std.proofs.Common.{List, Vec, ℕ, drop}
 use Rattle.std.specs.Global.{Global}
-use Rattle.isle_run.specs.Facts.Callers.{ListsMore}
+use Rattle.isle_run.specs.Inside.Facts.Callers.{ListsMore}
 use Rattle.isle_run.proofs.facts.callers.list_at_each.Given as goal
 
 abbrev pub invariant-loop-i : goal.invariant-loop-i

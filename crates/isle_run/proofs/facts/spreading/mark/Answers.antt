@@ -1,6 +1,6 @@
 use Rattle.std.proofs.Common.{◌∷◌, [], List, ℕ, set, true, false, ◌<◌, length, sym, subst, ◌∙◌, arith}
 use Rattle.std.proofs.lemmas.List.{get_or_default}
-use Rattle.isle_run.specs.Facts.Spreading.{MarksAndLists}
+use Rattle.isle_run.specs.Inside.Facts.Spreading.{MarksAndLists}
 use Rattle.isle_run.proofs.ProgramFacts.Spreading.{marks_one}
 use Rattle.isle_run.proofs.facts.spreading.mark.Goals as goal
 

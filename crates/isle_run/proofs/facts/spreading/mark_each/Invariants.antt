@@ -1,5 +1,5 @@
 use Rattle.std.proofs.Common.{List, Bool, ℕ, drop}
-use Rattle.isle_run.specs.Facts.Spreading.{MarksAndLists}
+use Rattle.isle_run.specs.Inside.Facts.Spreading.{MarksAndLists}
 use Rattle.isle_run.proofs.facts.spreading.mark_each.Given as goal
 
 -- what the numbers that are left mark makes the marks of all

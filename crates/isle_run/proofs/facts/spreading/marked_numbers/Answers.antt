@@ -1,5 +1,5 @@
 use Rattle.std.proofs.Common.{ℕ, List, subst, sym, arith, ◌+◌}
-use Rattle.isle_blocks.specs.Building.Contents.{Marked}
+use Rattle.isle_blocks.specs.Inside.Building.Contents.{Marked}
 use Rattle.isle_blocks.specs.DefinedSets.{ListsNumbers}
 use Rattle.isle_blocks.proofs.Sets.ListedNumbers.{Below, numbers_none, numbers_push, numbers_skip, numbers_all}
 use Rattle.isle_run.proofs.ProgramFacts.Spreading.{marked_within}

@@ -1,4 +1,4 @@
-use Rattle.isle_blocks.specs.Building.Contents.{Marked}
+use Rattle.isle_blocks.specs.Inside.Building.Contents.{Marked}
 use Rattle.isle_blocks.specs.DefinedSets.{ListsNumbers}
 use Rattle.isle_blocks.proofs.Sets.ListedNumbers.{Below}
 use Rattle.isle_run.proofs.facts.spreading.marked_numbers.Given as goal

@@ -3,7 +3,7 @@ use Rattle.std.specs.Prelude.{Contains, ◌↔◌}
 use Rattle.std.proofs.lemmas.List.{length_push}
 use Rattle.std.proofs.lemmas.List.Elements.{Contains-push}
 use Rattle.std.proofs.lemmas.Option.{slice_get_cases}
-use Rattle.isle_blocks.specs.Building.Contents.{Marked}
+use Rattle.isle_blocks.specs.Inside.Building.Contents.{Marked}
 use Rattle.isle_run.proofs.ProgramFacts.Spreading.{IsSpreading, spreading_first, spreading_next, spreading_last, marked_within, no_items}
 use Rattle.isle_run.proofs.facts.spreading.spread.Goals as goal
 

@@ -1,5 +1,5 @@
 use Rattle.std.proofs.Common.{◌+◌, length}
-use Rattle.isle_run.specs.Facts.Spreading.{unmarked}
+use Rattle.isle_run.specs.Inside.Facts.Spreading.{unmarked}
 use Rattle.isle_run.proofs.ProgramFacts.Spreading.{IsSpreading}
 use Rattle.isle_run.proofs.facts.spreading.spread.Given as goal
 

@@ -3,7 +3,7 @@ use Rattle.std.proofs.lemmas.Bool.{cases_lt}
 use Rattle.std.proofs.lemmas.Option.{slice_get_within, slice_get-get_or}
 use Rattle.isle_run.specs.declared.values.Node.TheVariants.{Opaque}
 use Rattle.isle_run.specs.Programs.{value_facts}
-use Rattle.isle_run.specs.Values.TypedNodes.{FieldsFit}
+use Rattle.isle_run.specs.Inside.Values.TypedNodes.{FieldsFit}
 use Rattle.isle_run.proofs.program.Program.all_fields_fit.Goals as goal
 
 pub returns-then-not-fields_fit : goal.returns-then-not-fields_fit

@@ -1,7 +1,7 @@
 use Rattle.std.proofs.Common.{◌≡◌, ◌<◌, ◌+◌, ℕ, Some, slice_get}
 use Rattle.isle_run.specs.declared.values.Node.{Node}
 use Rattle.isle_run.specs.Programs.{value_facts}
-use Rattle.isle_run.specs.Values.TypedNodes.{FieldsFit}
+use Rattle.isle_run.specs.Inside.Values.TypedNodes.{FieldsFit}
 use Rattle.isle_run.proofs.program.Program.all_fields_fit.Given as goal
 
 -- the fields of the nodes before this one fit

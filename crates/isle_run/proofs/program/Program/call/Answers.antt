@@ -4,11 +4,12 @@ use Rattle.std.proofs.Common.{List, refl, subst, []}
 use Rattle.std.proofs.lemmas.Result.{IfOk-weaker, on_err_weaker}
 use Rattle.isle_terms.specs.Values.{ValueTree, value_list}
 use Rattle.isle_meaning.specs.GroundValues.{values_of}
-use Rattle.isle_run.specs.Blocks.Frames.{IsGrown, term_trees}
+use Rattle.isle_run.specs.Inside.Blocks.Frames.{IsGrown}
+use Rattle.isle_run.specs.TreeCalls.{term_trees}
 use Rattle.isle_run.specs.Calls.Answers.{answers_in}
-use Rattle.isle_run.specs.Calls.Ways.{IsReady}
+use Rattle.isle_run.specs.Inside.Calls.Ways.{IsReady}
 use Rattle.isle_run.specs.Meanings.{checked}
-use Rattle.isle_run.specs.Stores.Values.{StandEach}
+use Rattle.isle_run.specs.Inside.Stores.Values.{StandEach}
 use Rattle.isle_run.proofs.Blocks.Grown.{compiled_grown}
 use Rattle.isle_run.proofs.Blocks.Telling.{tree_tells, tree_stops}
 use Rattle.isle_run.proofs.program.Program.call.Goals as goal

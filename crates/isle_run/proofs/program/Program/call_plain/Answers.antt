@@ -5,10 +5,10 @@ use Rattle.std.proofs.lemmas.Result.{IfOk-weaker, on_err_weaker}
 use Rattle.isle_terms.specs.Values.{ValueTree, value_list}
 use Rattle.isle_meaning.specs.GroundValues.{values_of}
 use Rattle.isle_run.specs.Calls.Answers.{answers_in}
-use Rattle.isle_run.specs.Calls.Ways.{IsReady}
+use Rattle.isle_run.specs.Inside.Calls.Ways.{IsReady}
 use Rattle.isle_run.specs.Meanings.{checked}
-use Rattle.isle_run.specs.Stores.Values.{StandEach}
-use Rattle.isle_run.specs.Plain.Frames.{AnyProgram}
+use Rattle.isle_run.specs.Inside.Stores.Values.{StandEach}
+use Rattle.isle_run.specs.Inside.Plain.Frames.{AnyProgram}
 use Rattle.isle_run.proofs.Plain.Frames.Ways.{run_tells, run_begins}
 use Rattle.isle_run.proofs.program.Program.call_plain.Goals as goal
 

@@ -3,7 +3,7 @@ use Rattle.std.proofs.lemmas.List.{length-map}
 use Rattle.std.proofs.lemmas.Option.{same_Some, slice_get-get_or}
 use Rattle.isle_run.specs.declared.values.Node.TheVariants.{Data}
 use Rattle.isle_run.specs.Programs.{value_facts, number_of, types_of_term}
-use Rattle.isle_run.specs.Values.TypedNodes.{FieldsFit, NodesFit}
+use Rattle.isle_run.specs.Inside.Values.TypedNodes.{FieldsFit, NodesFit}
 use Rattle.isle_run.proofs.GroundValues.TypedNodes.{fields_by, fields_of_none}
 use Rattle.isle_run.proofs.program.Program.fields_fit.Goals as goal
 

@@ -1,6 +1,6 @@
 use Rattle.std.proofs.Common.{◌≡◌, ◌∷◌, length, get_or, sym, ◌∙◌, ap, subst, arith}
 use Rattle.isle_run.specs.Programs.{value_facts}
-use Rattle.isle_run.specs.Values.TypedNodes.{NodeFits}
+use Rattle.isle_run.specs.Inside.Values.TypedNodes.{NodeFits}
 use Rattle.isle_run.proofs.GroundValues.TypedNodes.{typed_nodes, root_of, behind, rooted}
 use Rattle.isle_run.proofs.program.Program.has_type.Goals as goal
 

@@ -2,7 +2,7 @@ use Rattle.std.proofs.Common.{◌≡◌, List, length, Some, slice_get, refl, sy
 use Rattle.std.proofs.lemmas.Option.{slice_get_read}
 use Rattle.std.proofs.lemmas.Slice.Zip.{AllZip-long}
 use Rattle.isle_terms.specs.declared.rules.Rule.{Rule}
-use Rattle.isle_run.specs.Plain.LaidOut.Rules.{IsRuleLaidOut, AreRulesLaidOut}
+use Rattle.isle_run.specs.Inside.Plain.LaidOut.Rules.{IsRuleLaidOut, AreRulesLaidOut}
 use Rattle.isle_run.specs.declared.roads.plain.laid.LaidRule.{LaidRule}
 use Rattle.isle_run.proofs.Plain.LaidOut.Told.{all_laid_told, zip_at}
 use Rattle.isle_run.proofs.Plain.LaidOut.Tried.{laid_rule_at}

@@ -8,7 +8,7 @@ use Rattle.isle_run.specs.declared.calls.answer.Effect.{Effect}
 use Rattle.isle_run.specs.Meanings.{checked}
 use Rattle.isle_run.specs.Programs.{number_of}
 use Rattle.isle_run.specs.Calls.Answers.{IsCalledOn, HasMade}
-use Rattle.isle_run.specs.Calls.Host.{HasLast}
+use Rattle.isle_run.specs.Inside.Calls.Host.{HasLast}
 use Rattle.isle_run.proofs.OpenCalls.Telling.{effect_told, inputs_taken}
 use Rattle.isle_run.proofs.program.Program.make_effect.Goals as goal
 

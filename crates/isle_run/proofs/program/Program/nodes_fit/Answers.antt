@@ -4,7 +4,7 @@ use Rattle.std.proofs.lemmas.Option.{same_Some, slice_get_within, slice_get-get_
 use Rattle.isle_types.specs.declared.ids.TypeId.{TypeId}
 use Rattle.isle_run.specs.Values.Nodes.{nodes_below}
 use Rattle.isle_run.specs.Programs.{value_facts, number_of}
-use Rattle.isle_run.specs.Values.TypedNodes.{NodesFit, NodeFits}
+use Rattle.isle_run.specs.Inside.Values.TypedNodes.{NodesFit, NodeFits}
 use Rattle.isle_run.proofs.GroundValues.TypedNodes.{next_type, same_fit}
 use Rattle.isle_run.proofs.program.Program.nodes_fit.Goals as goal
 

@@ -1,6 +1,6 @@
 use Rattle.std.proofs.Common.{◌↔◌, map, drop}
 use Rattle.isle_run.specs.Programs.{value_facts, number_of}
-use Rattle.isle_run.specs.Values.TypedNodes.{NodesFit}
+use Rattle.isle_run.specs.Inside.Values.TypedNodes.{NodesFit}
 use Rattle.isle_run.proofs.program.Program.nodes_fit.Given as goal
 
 -- all fit exactly where those fit that are left

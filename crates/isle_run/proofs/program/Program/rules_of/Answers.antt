@@ -1,7 +1,7 @@
 use Rattle.std.proofs.Common.{◌≡◌, ℕ, Vec, List, length, Some, None, slice_get, refl, sym, ap, ◌∙◌, subst}
 use Rattle.std.specs.Global.{Global}
 use Rattle.std.proofs.lemmas.Option.{slice_get_read, slice_get_past}
-use Rattle.isle_run.specs.Plain.LaidOut.Rules.{listed_in, listed_at}
+use Rattle.isle_run.specs.Inside.Plain.LaidOut.Rules.{listed_in, listed_at}
 use Rattle.isle_run.specs.Meanings.{checked}
 use Rattle.isle_meaning.specs.PlainRuns.{AreTriedInOrder}
 use Rattle.isle_run.proofs.Plain.LaidOut.Told.{order_told}

@@ -1,6 +1,6 @@
 use Rattle.std.proofs.Common.{subst, sym}
 use Rattle.isle_run.specs.declared.trees.graph.Branch.{Branch}
-use Rattle.isle_run.specs.TreeTexts.DotParts.{DrawsPiece, drawn}
+use Rattle.isle_run.specs.Inside.TreeTexts.DotParts.{DrawsPiece, drawn}
 use Rattle.isle_run.proofs.trees.graph.advance.Goals as goal
 
 pub returns-in_ok-advance_arms-in-Arms : goal.returns-in_ok-advance_arms-in-Arms

@@ -1,5 +1,5 @@
 use Rattle.std.proofs.Common.{◌≡◌, ◌+◌, arith}
-use Rattle.isle_run.specs.TreeTexts.DotParts.{drawn}
+use Rattle.isle_run.specs.Inside.TreeTexts.DotParts.{drawn}
 use Rattle.isle_run.proofs.TreeTexts.DotLeft.{last_drawn, step_drawn}
 use Rattle.isle_run.proofs.trees.graph.advance_steps.Goals as goal
 

@@ -1,6 +1,6 @@
 use Rattle.std.proofs.Common.{◌≡◌, ◌++◌, ◌∷◌, [], rules}
 use Rattle.isle_blocks.specs.Trees.Views.{shown_steps}
-use Rattle.isle_run.specs.TreeTexts.DotParts.{drawn}
+use Rattle.isle_run.specs.Inside.TreeTexts.DotParts.{drawn}
 use Rattle.isle_run.specs.TreeTexts.DotSteps.{start, steps_graph}
 use Rattle.isle_run.proofs.TreeTexts.DotLeft.{turned, turned_fewer}
 use Rattle.isle_run.proofs.trees.graph.steps_graph.Goals as goal

@@ -1,7 +1,7 @@
 use Rattle.std.proofs.Common.{◌≡◌, ◌++◌}
 use Rattle.std.specs.Prelude.{string_bytes}
 use Rattle.isle_blocks.specs.Trees.Views.{shown_steps}
-use Rattle.isle_run.specs.TreeTexts.DotParts.{drawn, left_graph, left_pieces}
+use Rattle.isle_run.specs.Inside.TreeTexts.DotParts.{drawn, left_graph, left_pieces}
 use Rattle.isle_run.specs.TreeTexts.DotSteps.{start, steps_graph}
 use Rattle.isle_run.proofs.trees.graph.steps_graph.Given as goal
 

@@ -1,7 +1,7 @@
 use Rattle.std.proofs.Common.{◌≡◌, ◌++◌, take}
 use Rattle.std.specs.List.{flat_map}
 use Rattle.std.specs.Prelude.{string_bytes}
-use Rattle.isle_run.specs.TreeTexts.Parts.{field_behind_space, field_shown}
+use Rattle.isle_run.specs.Inside.TreeTexts.Parts.{field_behind_space, field_shown}
 use Rattle.isle_run.proofs.trees.names.joined_fields.Given as goal
 
 abbrev pub invariant-loop-field : goal.invariant-loop-field

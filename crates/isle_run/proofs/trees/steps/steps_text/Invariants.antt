@@ -1,7 +1,7 @@
 use Rattle.std.proofs.Common.{◌≡◌, ◌++◌}
 use Rattle.std.specs.Prelude.{string_bytes}
 use Rattle.isle_blocks.specs.Trees.Views.{shown_steps}
-use Rattle.isle_run.specs.TreeTexts.Parts.{left_text, pieces_left}
+use Rattle.isle_run.specs.Inside.TreeTexts.Parts.{left_text, pieces_left}
 use Rattle.isle_run.specs.TreeTexts.Steps.{steps_text}
 use Rattle.isle_run.proofs.trees.steps.steps_text.Given as goal
 

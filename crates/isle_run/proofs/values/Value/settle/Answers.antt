@@ -8,7 +8,7 @@ use Rattle.isle_run.specs.declared.values.Node.{Node}
 use Rattle.isle_run.specs.Values.Nodes.{nodes_of, value_in}
 use Rattle.isle_run.specs.Programs.{value_facts, number_of}
 use Rattle.isle_run.specs.Values.Settled.{settled}
-use Rattle.isle_run.specs.Values.SettledNodes.{settled_node, types_below, FitsWithFields}
+use Rattle.isle_run.specs.Inside.Values.SettledNodes.{settled_node, types_below, FitsWithFields}
 use Rattle.isle_run.proofs.GroundValues.Laying.{laid_out, value_laid}
 use Rattle.isle_run.proofs.GroundValues.Settling.{IsSettling, begun, ended, unexpected, refused, stepped}
 use Rattle.isle_run.proofs.values.Value.settle.Goals as goal

@@ -1,5 +1,6 @@
 use Rattle.std.proofs.Common.{◌≡◌, ◌++◌, List, [], ◌∷◌, sym, ◌∙◌, ap, append_assoc}
 use Rattle.std.proofs.lemmas.List.{append-nil, map-id}
+use Rattle.isle_types.proofs.Reading.{no_items}
 use Rattle.isle_terms.specs.Values.{ValueTree, value_list}
 use Rattle.isle_run.specs.Values.Nodes.{nodes_of, nodes_all}
 use Rattle.std.proofs.lemmas.Iterator.Adapters.{YieldsList-from_vec}
@@ -16,6 +17,12 @@ loop-value-preserved c =
     let vs = c.loop-value.yielded in
     c.in_ok-append.ensures.items ∙ ap (λ l. l ++ c.value.inside.nodes.items) c.loop-value.invariant
     ∙ ap (λ l. nodes_all (value_list vs) ++ l) (c.value.invariant ∙ ap nodes_of c.value.view_is) ∙ sym (pushed_nodes vs c.in-Some.value)
+
+pub loop-value-preserved-then-is_empty : goal.loop-value-preserved-then-is_empty
+loop-value-preserved-then-is_empty c =
+    let vs = c.loop-value.yielded in
+    c.value.invariant ∙ ap nodes_of c.value.view_is ∙ ap (λ l. l ++ nodes_of c.in-Some.value)
+    (sym (no_items c.loop-value.nodes c.is_empty.result c.is_empty.ensures c.if-is_empty.true) ∙ c.loop-value.invariant) ∙ sym (pushed_nodes vs c.in-Some.value)
 
 pub returns : goal.returns
 returns c =

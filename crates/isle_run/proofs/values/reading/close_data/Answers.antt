@@ -2,7 +2,7 @@ use Rattle.std.proofs.Common.{◌≡◌, ◌-◌, ◌++◌, ◌∷◌, length, s
 use Rattle.std.proofs.Math.Seq.{get_or-append_seam, set-append_seam}
 use Rattle.std.proofs.lemmas.List.{length-append}
 use Rattle.isle_run.specs.declared.values.Node.TheVariants.{Data}
-use Rattle.isle_run.specs.Values.Reading.{counted}
+use Rattle.isle_run.specs.Inside.Values.Reading.{counted}
 use Rattle.isle_run.proofs.GroundValues.Printing.{same_last}
 use Rattle.isle_run.proofs.values.reading.close_data.Goals as goal
 

@@ -1,17 +1,17 @@
 use Rattle.std.proofs.Common.{inl, inr, [], ◌∷◌, sym, refl, ◌∙◌, ap, rules}
 use Rattle.std.specs.Int.{w128}
 use Rattle.std.proofs.lemmas.Int.{to_z-of_z}
-use Rattle.isle_terms.specs.Values.{int_value, big_value}
+use Rattle.isle_terms.specs.Values.{int_tree, big_tree}
 use Rattle.isle_run.specs.declared.values.Node.TheVariants.{Int}
 use Rattle.isle_run.proofs.GroundValues.Reading.{parens_alone}
 use Rattle.isle_run.proofs.values.reading.leaf_node.Goals as goal
 
 pub returns-in-Int-clause-some : goal.returns-in-Int-clause-some
 returns-in-Int-clause-some c =
-    (int_value c.in-Int.n, tt, ap (λ t. t ∷ []) (sym c.in-Int.is), ap (λ z. Int z ∷ []) (sym (to_z-of_z w128 c.in-Int.n (search rules))))
+    (int_tree c.in-Int.n, tt, ap (λ t. t ∷ []) (sym c.in-Int.is), ap (λ z. Int z ∷ []) (sym (to_z-of_z w128 c.in-Int.n (search rules))))
 
 pub returns-in-Big-clause-some : goal.returns-in-Big-clause-some
-returns-in-Big-clause-some c = (big_value c.in-Big.n, tt, ap (λ t. t ∷ []) (sym c.in-Big.is), refl)
+returns-in-Big-clause-some c = (big_tree c.in-Big.n, tt, ap (λ t. t ∷ []) (sym c.in-Big.is), refl)
 
 pub returns-in-LParen-clause-none : goal.returns-in-LParen-clause-none
 returns-in-LParen-clause-none c = λ v p e. elim c.in-LParen.is [

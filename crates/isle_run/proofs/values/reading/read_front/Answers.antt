@@ -3,7 +3,7 @@ use Rattle.std.proofs.lemmas.List.{drop_all}
 use Rattle.std.proofs.lemmas.Bool.Decides.{Decides-eqb}
 use Rattle.isle_run.specs.Values.Nodes.{value_in}
 use Rattle.isle_run.specs.Values.Tokens.{tokens_of, IsSpellable}
-use Rattle.isle_run.specs.Values.Reading.{GoesOn}
+use Rattle.isle_run.specs.Inside.Values.Reading.{GoesOn}
 use Rattle.isle_run.proofs.GroundValues.Laying.{laid_out, value_laid}
 use Rattle.isle_run.proofs.GroundValues.Reading.{read_whole, refused_end}
 use Rattle.isle_run.proofs.values.reading.read_front.Goals as goal

@@ -1,5 +1,5 @@
 use Rattle.std.proofs.Common.{◌-◌, List, length}
-use Rattle.isle_run.specs.Values.Reading.{Level, IsReading}
+use Rattle.isle_run.specs.Inside.Values.Reading.{Level, IsReading}
 use Rattle.isle_run.proofs.values.reading.read_front.Given as goal
 
 -- a value is read up to this place

@@ -3,13 +3,13 @@ use Rattle.std.proofs.Math.Seq.{drop-cons}
 use Rattle.std.proofs.lemmas.List.{drop_all}
 use Rattle.isle_syntax.specs.declared.lexer.Token.{Token}
 use Rattle.isle_syntax.specs.declared.lexer.Token.TheVariants.{LParen, RParen, Symbol}
-use Rattle.isle_terms.specs.Values.{no_values}
+use Rattle.isle_terms.specs.Values.{no_trees}
 use Rattle.isle_run.specs.Values.Nodes.{count_of, nodes_of, nodes_all}
 use Rattle.isle_run.specs.Values.Tokens.{HaveNoValue}
 use Rattle.isle_run.specs.declared.values.Node.{Node}
 use Rattle.isle_run.specs.declared.values.Node.TheVariants.{Data}
 use Rattle.isle_run.specs.declared.values.reading.Open.{Open}
-use Rattle.isle_run.specs.Values.Reading.{counted, IsWithin, Level, nodes_read, places_of, IsReading, GoesOn}
+use Rattle.isle_run.specs.Inside.Values.Reading.{counted, IsWithin, Level, nodes_read, places_of, IsReading, GoesOn}
 use Rattle.isle_run.proofs.GroundValues.Reading.{all_within, refused_open, refused_close, refused_leaf, leaf_read, data_opened, data_closed}
 use Rattle.isle_run.proofs.values.reading.read_step.Goals as goal
 
@@ -78,7 +78,7 @@ returns-then-named-clause-some c =
     ∙ ap (λ l. LParen ∷ l) second in
     let reading = data_opened tokens at levels nodes places r name (drop (suc (suc at)) tokens) ident e in
     let goes_on : GoesOn tokens (suc (suc at)) (nodes ++ Data name 0 0 ∷ []) (places ++ record { node = length nodes; fields = 0 } ∷ []) =
-    inl ((name, no_values), levels, reading) in (
+    inl ((name, no_trees), levels, reading) in (
       omega arith,
       omega (arith, within),
       subst (λ n. GoesOn tokens n c.open_data.new.nodes.items c.open_data.new.opened.items) (let two : suc (suc at) ≡ at + 2 = omega arith in two)

@@ -7,7 +7,7 @@ use Rattle.std.proofs.lemmas.Bool.Decides.{not_from_Decides}
 use Rattle.std.proofs.lemmas.Str.Pattern.{strip_prefix_char}
 use Rattle.isle_syntax.specs.Tokens.Names.{is_const_name}
 use Rattle.isle_syntax.specs.declared.lexer.Token.TheVariants.{Symbol}
-use Rattle.isle_terms.specs.Values.{bool_value, const_value, opaque_value}
+use Rattle.isle_terms.specs.Values.{bool_tree, const_tree, opaque_tree}
 use Rattle.isle_run.specs.declared.values.Node.TheVariants.{Const}
 use Rattle.isle_run.proofs.GroundValues.Reading.{unknown_symbol, front_of}
 use Rattle.isle_run.proofs.values.reading.symbol_node.Goals as goal
@@ -15,12 +15,12 @@ use Rattle.isle_run.proofs.values.reading.symbol_node.Goals as goal
 pub returns-then-eq-clause-some : goal.returns-then-eq-clause-some
 returns-then-eq-clause-some c =
     let same = (bytes_eq-Decides c.args.symbol.now (codes "true")).0 (sym c.if-eq.ensures) in
-    (bool_value true, tt, ap (λ s. Symbol s ∷ []) (sym same), refl)
+    (bool_tree true, tt, ap (λ s. Symbol s ∷ []) (sym same), refl)
 
 pub returns-then-eq-2-clause-some : goal.returns-then-eq-2-clause-some
 returns-then-eq-2-clause-some c =
     let same = (bytes_eq-Decides c.args.symbol.now (codes "false")).0 (sym c.if-eq-2.ensures) in
-    (bool_value false, tt, ap (λ s. Symbol s ∷ []) (sym same), refl)
+    (bool_tree false, tt, ap (λ s. Symbol s ∷ []) (sym same), refl)
 
 -- another symbol than a word
 other : (symbol word : List ℕ) → bytes_eq symbol word ≡ false → symbol ≡ word → ⊥
@@ -30,7 +30,7 @@ pub returns-in_ok-from_str-clause-some : goal.returns-in_ok-from_str-clause-some
 returns-in_ok-from_str-clause-some c =
     let found = subst (λ r. MatchOption r ((rest : List ℕ) → c.args.symbol.now ≡ 36 ∷ rest → ⊥) (λ x. c.args.symbol.now ≡ 36 ∷ x.now)) c.in-Some.is
     (strip_prefix_char 36 c.args.symbol.now c.strip_prefix.result c.strip_prefix.ensures.cases (omega arith)) in
-    (const_value c.in-Some.name.now, sym c.if-is_const_name.ensures, ap (λ s. Symbol s ∷ []) (sym found), ap (λ s. Const s ∷ []) (sym c.in_ok-from_str.ensures))
+    (const_tree c.in-Some.name.now, sym c.if-is_const_name.ensures, ap (λ s. Symbol s ∷ []) (sym found), ap (λ s. Const s ∷ []) (sym c.in_ok-from_str.ensures))
 
 pub returns-else-is_const_name-clause-none : goal.returns-else-is_const_name-clause-none
 returns-else-is_const_name-clause-none c =
@@ -48,7 +48,7 @@ returns-in-Some-2-clause-some c =
     let found = subst (λ r. MatchOption r ((rest : List ℕ) → c.args.symbol.now ≡ 118 ∷ rest → ⊥) (λ x. c.args.symbol.now ≡ 118 ∷ x.now)) c.in-Some-strip_prefix.is
     (strip_prefix_char 118 c.args.symbol.now c.strip_prefix-2.result c.strip_prefix-2.ensures.cases (omega arith)) in
     let digits = subst (λ r. IfSome r (λ n. decimal n ≡ c.in-Some-strip_prefix.digits.now)) c.in-Some-2.is c.in_ok-number.ensures.some in
-    (opaque_value c.in-Some-2.number, search rules, ap (λ s. Symbol (118 ∷ s) ∷ []) digits ∙ ap (λ s. Symbol s ∷ []) (sym found), refl)
+    (opaque_tree c.in-Some-2.number, search rules, ap (λ s. Symbol (118 ∷ s) ∷ []) digits ∙ ap (λ s. Symbol s ∷ []) (sym found), refl)
 
 pub returns-in-None-clause-none : goal.returns-in-None-clause-none
 returns-in-None-clause-none c =

@@ -7,7 +7,7 @@ use Rattle.isle_run.specs.declared.values.Node.{Node}
 use Rattle.isle_run.specs.declared.values.Node.TheVariants.{Data}
 use Rattle.isle_run.specs.Programs.{value_facts, number_of}
 use Rattle.isle_run.specs.Values.Settled.{field_types}
-use Rattle.isle_run.specs.Values.SettledNodes.{FitsWithFields}
+use Rattle.isle_run.specs.Inside.Values.SettledNodes.{FitsWithFields}
 use Rattle.isle_run.proofs.values.settling.expect_fields.Goals as goal
 
 -- data of a term that makes the type, with as many fields as that takes

@@ -5,7 +5,7 @@ use Rattle.isle_syntax.specs.Positions.Printable.{IsPrintablePos}
 use Rattle.isle_syntax.specs.Positions.DefPositions.{PatternAt}
 use Rattle.isle_syntax.specs.Trees.PatternTree.{pattern_height}
 use Rattle.isle_syntax.specs.Trees.PatternShape.{pattern_of}
-use Rattle.isle_run.specs.Warnings.{NameAt}
+use Rattle.isle_run.specs.Inside.Warnings.{NameAt}
 use Rattle.isle_run.proofs.warnings.binders.+push_names.Given as goal
 
 abbrev pub invariant-push_names-loop-at : goal.invariant-push_names-loop-at

@@ -3,7 +3,7 @@ use Rattle.std.specs.List.{All}
 use Rattle.isle_syntax.specs.Positions.Files.{SourceFile}
 use Rattle.isle_syntax.specs.Positions.Printable.{IsPrintablePos}
 use Rattle.isle_syntax.specs.Positions.DefPositions.{IfLetAt}
-use Rattle.isle_run.specs.Warnings.{NameAt}
+use Rattle.isle_run.specs.Inside.Warnings.{NameAt}
 use Rattle.isle_run.proofs.warnings.binders.push_of_iflets.Given as goal
 
 abbrev pub invariant-loop-iflet : goal.invariant-loop-iflet

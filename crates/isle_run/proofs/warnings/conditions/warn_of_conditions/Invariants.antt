@@ -3,7 +3,7 @@ use Rattle.std.specs.List.{All}
 use Rattle.isle_syntax.specs.Positions.Files.{SourceFile}
 use Rattle.isle_syntax.specs.Positions.Printable.{IsPrintablePos}
 use Rattle.isle_syntax.specs.Positions.DefPositions.{IfLetAt}
-use Rattle.isle_run.specs.Warnings.{WarningAt}
+use Rattle.isle_run.specs.Inside.Warnings.{WarningAt}
 use Rattle.isle_run.proofs.warnings.conditions.warn_of_conditions.Given as goal
 
 abbrev pub invariant-loop-i : goal.invariant-loop-i

@@ -3,7 +3,7 @@ use Rattle.std.specs.List.{All}
 use Rattle.isle_syntax.specs.Positions.Files.{SourceFile}
 use Rattle.isle_syntax.specs.Positions.Printable.{IsPrintablePos}
 use Rattle.isle_syntax.specs.Positions.DefPositions.{DefAt}
-use Rattle.isle_run.specs.Warnings.{WarningAt}
+use Rattle.isle_run.specs.Inside.Warnings.{WarningAt}
 use Rattle.isle_run.proofs.warnings.converters.warn_of_converters.Given as goal
 
 abbrev pub invariant-loop-def : goal.invariant-loop-def

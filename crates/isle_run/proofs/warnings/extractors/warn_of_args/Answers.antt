@@ -2,7 +2,7 @@ use Rattle.std.proofs.Common.{◌∙◌, ap, sym, subst}
 use Rattle.std.proofs.lemmas.List.Elements.{All-same}
 use Rattle.isle_syntax.specs.Positions.Printable.{IsPrintablePos}
 use Rattle.isle_syntax.specs.Positions.DefPositions.{IdentAt}
-use Rattle.isle_run.specs.Warnings.{WarningAt}
+use Rattle.isle_run.specs.Inside.Warnings.{WarningAt}
 use Rattle.isle_run.proofs.WarningPlaces.{item_at, pushed_at}
 use Rattle.isle_run.proofs.warnings.extractors.warn_of_args.Goals as goal
 use Rattle.isle_run.proofs.warnings.extractors.warn_of_args.Goals.{then-not-is_silent+then-not-contains+in_ok-unused+in_ok-push, else-not-is_silent}

@@ -1,7 +1,7 @@
 use Rattle.std.proofs.Common.{ap}
 use Rattle.std.proofs.lemmas.List.Elements.{All-same}
 use Rattle.isle_syntax.specs.Positions.Printable.{IsPrintablePos}
-use Rattle.isle_run.specs.Warnings.{NameAt, WarningAt}
+use Rattle.isle_run.specs.Inside.Warnings.{NameAt, WarningAt}
 use Rattle.isle_run.proofs.WarningPlaces.{item_at}
 use Rattle.isle_run.proofs.warnings.extractors.warn_of_captures.Goals as goal
 use Rattle.isle_run.proofs.warnings.extractors.warn_of_captures.Goals.{then-branch+in_ok-warn_of_bare, else-branch}

@@ -2,7 +2,7 @@ use Rattle.std.proofs.Common.{ap, subst}
 use Rattle.std.proofs.lemmas.List.Elements.{All-same}
 use Rattle.isle_syntax.specs.Positions.Printable.{IsPrintablePos}
 use Rattle.isle_syntax.specs.Positions.DefPositions.{DefAt}
-use Rattle.isle_run.specs.Warnings.{WarningAt}
+use Rattle.isle_run.specs.Inside.Warnings.{WarningAt}
 use Rattle.isle_run.proofs.WarningPlaces.{item_at}
 use Rattle.isle_run.proofs.warnings.extractors.warn_of_extractors.Goals as goal
 use Rattle.isle_run.proofs.warnings.extractors.warn_of_extractors.Goals.{in-Extractor+in_ok-warn_of_extractor, in_default}

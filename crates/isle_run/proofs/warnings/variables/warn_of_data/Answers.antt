@@ -1,7 +1,7 @@
 use Rattle.std.proofs.Common.{◌∙◌, ap}
 use Rattle.std.proofs.lemmas.List.Elements.{All-same}
 use Rattle.isle_syntax.specs.Positions.Printable.{IsPrintablePos}
-use Rattle.isle_run.specs.Warnings.{NameAt, WarningAt}
+use Rattle.isle_run.specs.Inside.Warnings.{NameAt, WarningAt}
 use Rattle.isle_run.proofs.WarningPlaces.{item_at}
 use Rattle.isle_run.proofs.warnings.variables.warn_of_data.Goals as goal
 use Rattle.isle_run.proofs.warnings.variables.warn_of_data.Goals.{then-not-is_new+in_ok-clone-2+in_ok-insert, then-not-is_new-via-then-not-is_new}

@@ -2,7 +2,7 @@ use Rattle.std.proofs.Common.{List}
 use Rattle.std.specs.List.{All}
 use Rattle.isle_syntax.specs.Positions.Files.{SourceFile}
 use Rattle.isle_syntax.specs.Positions.Printable.{IsPrintablePos}
-use Rattle.isle_run.specs.Warnings.{NameAt, WarningAt}
+use Rattle.isle_run.specs.Inside.Warnings.{NameAt, WarningAt}
 use Rattle.isle_run.proofs.warnings.variables.warn_of_data.Given as goal
 
 abbrev pub invariant-loop-name : goal.invariant-loop-name

@@ -2,7 +2,7 @@ use Rattle.std.proofs.lemmas.List.Elements.{All-same}
 use Rattle.std.proofs.lemmas.Result.{on_ok_weaker}
 use Rattle.isle_syntax.specs.Positions.Printable.{IsPrintablePos}
 use Rattle.isle_syntax.specs.Positions.DefPositions.{IdentAt, IfLetAt}
-use Rattle.isle_run.specs.Warnings.{NameAt}
+use Rattle.isle_run.specs.Inside.Warnings.{NameAt}
 use Rattle.isle_run.proofs.warnings.variables.warn_of_rule.Goals as goal
 
 pub returns : goal.returns

@@ -2,7 +2,7 @@ use Rattle.std.proofs.Common.{◌<◌, length, ap, arith}
 use Rattle.std.proofs.lemmas.List.Elements.{All-same}
 use Rattle.isle_syntax.specs.Positions.Printable.{IsPrintablePos}
 use Rattle.isle_syntax.specs.Positions.DefPositions.{RuleAt}
-use Rattle.isle_run.specs.Warnings.{WarningAt}
+use Rattle.isle_run.specs.Inside.Warnings.{WarningAt}
 use Rattle.isle_run.proofs.WarningPlaces.{item_at}
 use Rattle.isle_run.proofs.warnings.variables.warn_of_rules.Goals as goal
 use Rattle.isle_run.proofs.warnings.variables.warn_of_rules.Goals.{in-Some+in_ok-warn_of_rule, in_default}

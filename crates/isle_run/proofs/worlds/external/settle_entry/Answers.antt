@@ -20,14 +20,10 @@ nothing_read (Some vs) b f is none = absurd (let never : None ≡ Some (f (value
 pub returns-clause-some : goal.returns-clause-some
 returns-clause-some c =
     let facts = value_facts c.args.program.now in
-    let call = subst (λ (ts : List TypeId). (part_shown c.in-Some.call ≡ settled_part facts (part_shown c.args.entry.call) (map number_of ts)) × IfOfTypes facts (part_shown c.in-Some.call) (map number_of ts))
-    c.as_slice.ensures.value
-    (subst (λ o. IfSome o (λ (read : Part). (part_shown read ≡ settled_part facts (part_shown c.args.entry.call) (map number_of c.as_slice.result.now))
-    × IfOfTypes facts (part_shown read) (map number_of c.as_slice.result.now))) c.in-Some.is c.in_ok-call.ensures.some) in
-    let answer = subst (λ (ts : List TypeId). (part_shown c.in-Some-2.answer ≡ settled_part facts (part_shown c.args.entry.answer) (map number_of ts)) × IfOfTypes facts (part_shown c.in-Some-2.answer) (map number_of ts))
-    c.as_slice-2.ensures.value
-    (subst (λ o. IfSome o (λ (read : Part). (part_shown read ≡ settled_part facts (part_shown c.args.entry.answer) (map number_of c.as_slice-2.result.now))
-    × IfOfTypes facts (part_shown read) (map number_of c.as_slice-2.result.now))) c.in-Some-2.is c.in_ok-answer.ensures.some) in (
+    let call = subst (λ o. IfSome o (λ (read : Part). (part_shown read ≡ settled_part facts (part_shown c.args.entry.call) (map number_of c.args.external.now.takes.now))
+    × IfOfTypes facts (part_shown read) (map number_of c.args.external.now.takes.now))) c.in-Some.is c.in_ok-call.ensures.some in
+    let answer = subst (λ o. IfSome o (λ (read : Part). (part_shown read ≡ settled_part facts (part_shown c.args.entry.answer) (map number_of c.args.external.now.gives.now))
+    × IfOfTypes facts (part_shown read) (map number_of c.args.external.now.gives.now))) c.in-Some-2.is c.in_ok-answer.ensures.some in (
       λ i. record { side = c.args.entry.side; term = c.args.entry.term; call = call.0 i; answer = answer.0 i },
       record {
         call = call.1;
@@ -45,7 +41,5 @@ returns-clause-some c =
 
 pub returns-in_default-2-clause-none : goal.returns-in_default-2-clause-none
 returns-in_default-2-clause-none c = λ typed.
-    subst (λ (ts : List TypeId). IfOfTypes (value_facts c.args.program.now) (settled_part (value_facts c.args.program.now) (part_shown c.args.entry.answer) (map number_of ts)) (map number_of ts) → ⊥)
-    c.as_slice-2.ensures.value
-    (subst (λ (o : Option Part). IfNone o (IfOfTypes (value_facts c.args.program.now) (settled_part (value_facts c.args.program.now) (part_shown c.args.entry.answer) (map number_of c.as_slice-2.result.now)) (map number_of c.as_slice-2.result.now) → ⊥))
-    c.in_default-2.is c.in_ok-answer.ensures.none) typed.answer
+    subst (λ (o : Option Part). IfNone o (IfOfTypes (value_facts c.args.program.now) (settled_part (value_facts c.args.program.now) (part_shown c.args.entry.answer) (map number_of c.args.external.now.gives.now)) (map number_of c.args.external.now.gives.now) → ⊥))
+    c.in_default-2.is c.in_ok-answer.ensures.none typed.answer

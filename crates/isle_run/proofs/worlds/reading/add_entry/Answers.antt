@@ -13,31 +13,31 @@ use Rattle.isle_run.proofs.worlds.reading.add_entry.Goals as goal
 abbrev IsFront : List Token → Entry × ℕ → Type 0
 IsFront tokens p = (p.1 ≤ length tokens) × IsSpellableEntry (entry_shown p.0) × (take p.1 tokens ≡ entry_tokens (entry_shown p.0))
 
-pub returns-in_default-2-clause-refused : goal.returns-in_default-2-clause-refused
-returns-in_default-2-clause-refused c =
+pub returns-in_default-external_named-clause-refused : goal.returns-in_default-external_named-clause-refused
+returns-in_default-external_named-clause-refused c =
     let front = subst (λ o. IfSome o (IsFront c.args.tokens.now)) c.in-Some.is c.in_ok-entry.ensures.some in
     let e = entry_shown c.in-Some.entry in
     let asked : asked_named c.args.program.now e.side e.term ≡ None =
-    ap (asked_named c.args.program.now e.side) (sym c.as_str.ensures) ∙ sym c.in_ok-external.ensures ∙ ap (option_map types_shown) c.in_default-2.is in
+    ap (asked_named c.args.program.now e.side) (sym c.as_str.ensures) ∙ sym c.external_named.ensures ∙ ap (option_map types_shown) c.in_default-external_named.is in
     (refl, (e, begins_entry c.args.tokens.now c.in-Some.count e front.1 front.2, asked))
 
-pub returns-in_default-3-clause-refused : goal.returns-in_default-3-clause-refused
-returns-in_default-3-clause-refused c =
+pub returns-in_default-2-clause-refused : goal.returns-in_default-2-clause-refused
+returns-in_default-2-clause-refused c =
     let front = subst (λ o. IfSome o (IsFront c.args.tokens.now)) c.in-Some.is c.in_ok-entry.ensures.some in
-    let e = entry_shown c.in-Some.entry in let types = types_shown c.in-Some-2.external in
+    let e = entry_shown c.in-Some.entry in let types = types_shown c.in-Some-external_named.external in
     let asked : asked_named c.args.program.now e.side e.term ≡ Some types =
-    ap (asked_named c.args.program.now e.side) (sym c.as_str.ensures) ∙ sym c.in_ok-external.ensures ∙ ap (option_map types_shown) c.in-Some-2.is in
-    let untyped = subst (λ (o : Option Entry). IfNone o (IsTypedEntry (value_facts c.args.program.now) types (settled_entry (value_facts c.args.program.now) types e) → ⊥)) c.in_default-3.is
+    ap (asked_named c.args.program.now e.side) (sym c.as_str.ensures) ∙ sym c.external_named.ensures ∙ ap (option_map types_shown) c.in-Some-external_named.is in
+    let untyped = subst (λ (o : Option Entry). IfNone o (IsTypedEntry (value_facts c.args.program.now) types (settled_entry (value_facts c.args.program.now) types e) → ⊥)) c.in_default-2.is
     c.in_ok-entry-2.ensures.none in
     (refl, (e, types, begins_entry c.args.tokens.now c.in-Some.count e front.1 front.2, asked, untyped))
 
-pub returns-clause-refused : goal.returns-clause-refused
-returns-clause-refused c =
+pub returns-else-branch-clause-refused : goal.returns-else-branch-clause-refused
+returns-else-branch-clause-refused c =
     let front = subst (λ o. IfSome o (IsFront c.args.tokens.now)) c.in-Some.is c.in_ok-entry.ensures.some in
-    let e = entry_shown c.in-Some.entry in let types = types_shown c.in-Some-2.external in let read = entry_shown c.in-Some-3.entry in
+    let e = entry_shown c.in-Some.entry in let types = types_shown c.in-Some-external_named.external in let read = entry_shown c.in-Some-2.entry in
     let asked : asked_named c.args.program.now e.side e.term ≡ Some types =
-    ap (asked_named c.args.program.now e.side) (sym c.as_str.ensures) ∙ sym c.in_ok-external.ensures ∙ ap (option_map types_shown) c.in-Some-2.is in
+    ap (asked_named c.args.program.now e.side) (sym c.as_str.ensures) ∙ sym c.external_named.ensures ∙ ap (option_map types_shown) c.in-Some-external_named.is in
     let typed = subst (λ o. IfSome o (λ (r : Entry). (entry_shown r ≡ settled_entry (value_facts c.args.program.now) types e) × IsTypedEntry (value_facts c.args.program.now) types (entry_shown r)))
-    c.in-Some-3.is c.in_ok-entry-2.ensures.some in
+    c.in-Some-2.is c.in_ok-entry-2.ensures.some in
     let is_read : IsRead c.args.program.now e read = record { types = types; asked = asked; settled = typed.0; typed = typed.1 } in
     (refl, (e, read, begins_entry c.args.tokens.now c.in-Some.count e front.1 front.2, is_read, c.in_ok-add.ensures.twice c.if-branch.false))

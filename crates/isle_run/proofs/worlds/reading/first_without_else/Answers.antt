@@ -1,6 +1,6 @@
 use Rattle.std.proofs.Common.{◌≡◌, inl, inr, length, true, false, sym, ◌∙◌, ap, subst, arith}
 use Rattle.isle_terms.specs.Shown.TermTables.{TermTables}
-use Rattle.isle_run.specs.Worlds.Reading.{MissesElse}
+use Rattle.isle_run.specs.Inside.Worlds.Reading.{MissesElse}
 use Rattle.isle_run.proofs.TableWorlds.Refusals.{beyond, below_or_not}
 use Rattle.isle_run.proofs.worlds.reading.first_without_else.Goals as goal
 

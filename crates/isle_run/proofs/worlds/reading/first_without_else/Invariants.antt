@@ -1,6 +1,6 @@
 use Rattle.std.proofs.Common.{◌<◌}
 use Rattle.isle_types.specs.declared.ids.TermId.{TermId}
-use Rattle.isle_run.specs.Worlds.Reading.{MissesElse}
+use Rattle.isle_run.specs.Inside.Worlds.Reading.{MissesElse}
 use Rattle.isle_run.proofs.worlds.reading.first_without_else.Given as goal
 
 -- no term so far misses one

@@ -10,9 +10,9 @@ use Rattle.isle_run.proofs.worlds.reading.lacks_else_on.Goals as goal
 pub returns : goal.returns
 returns c =
     let program = c.args.program.now in let side = c.args.side in let term = c.args.term in
-    let asked : asked_by program side term ≡ Some (types_shown c.in-Some-2.external) =
+    let asked : asked_by program side term ≡ Some (types_shown c.in-Some-external_of.external) =
     ap (option_and_then (asked_of side)) (sym (c.in-Some.ensures ∙ ap (λ (env : TermTables). slice_get env.terms term.0) c.terms.ensures))
-    ∙ sym c.in_ok-external.ensures ∙ ap (option_map types_shown) c.in-Some-2.is in
-    misses_iff program c.args.world.now term side (types_shown c.in-Some-2.external) c.in_ok-found.found asked c.if-external.false
+    ∙ sym c.external_of.ensures ∙ ap (option_map types_shown) c.in-Some-external_of.is in
+    misses_iff program c.args.world.now term side (types_shown c.in-Some-external_of.external) c.in_ok-found.found asked c.if-external.false
     (subst (λ name. (IsTrue c.in_ok-found.found → IsSome (entry_at c.args.world.now side name None)) × (IsSome (entry_at c.args.world.now side name None) → IsTrue c.in_ok-found.found))
     c.name.ensures c.in_ok-found.ensures)

@@ -3,7 +3,7 @@ use Rattle.std.proofs.lemmas.List.{take_rest}
 use Rattle.std.proofs.lemmas.Result.{err_from_is_err_and}
 use Rattle.isle_run.specs.Worlds.Tables.{HasEntries}
 use Rattle.isle_run.specs.Worlds.Texts.{SpellEntries}
-use Rattle.isle_run.specs.Worlds.Reading.{AddsEntry, RefusesEntry, RefusedBehind}
+use Rattle.isle_run.specs.Inside.Worlds.Reading.{AddsEntry, RefusesEntry, RefusedBehind}
 use Rattle.isle_run.proofs.TableWorlds.Refusals.{spell_none, has_none, some_tokens, reads_more, there_at, take_whole}
 use Rattle.isle_run.proofs.worlds.reading.read_entries.Goals as goal
 

@@ -1,5 +1,5 @@
 //! A rule of a call, as far as it has come.
-ghost use Rattle.isle_run.specs.Plain.Laid.{AllStandBehind};
+ghost use Rattle.isle_run.specs.Inside.Plain.Laid.{AllStandBehind};
 
 use crate::roads::plain::evaluation::Evaluation;
 use crate::roads::plain::laid::LaidRule;

@@ -1,7 +1,7 @@
 use Rattle.std.proofs.Common.{◌≡◌, ◌++◌, ap, sym, ◌∙◌, rules}
 use Rattle.isle_syntax.specs.Trees.PatternShape.{pattern_of}
 use Rattle.isle_syntax.specs.Trees.PatternTree.{pattern_bind}
-use Rattle.isle_syntax.specs.Trees.Innermost.{names_bound}
+use Rattle.isle_syntax.specs.Inside.Trees.Innermost.{names_bound}
 use Rattle.isle_syntax.proofs.Trees.Innermost.{names_pushed}
 use Rattle.isle_syntax.proofs.ast.Pattern.names_bound.Goals as goal
 

@@ -1,6 +1,6 @@
 use Rattle.std.proofs.Common.{◌≡◌, ◌++◌}
 use Rattle.isle_syntax.specs.Trees.PatternShape.{pattern_of}
-use Rattle.isle_syntax.specs.Trees.Innermost.{names_bound}
+use Rattle.isle_syntax.specs.Inside.Trees.Innermost.{names_bound}
 use Rattle.isle_syntax.proofs.ast.Pattern.names_bound.Given as goal
 
 abbrev pub invariant-loop-at : goal.invariant-loop-at

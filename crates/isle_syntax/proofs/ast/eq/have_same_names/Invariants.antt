@@ -1,6 +1,6 @@
 use Rattle.std.proofs.Common.{◌≡◌, ◌↔◌}
 use Rattle.isle_syntax.specs.Trees.PatternShape.{pattern_of}
-use Rattle.isle_syntax.specs.Trees.Innermost.{names_bound}
+use Rattle.isle_syntax.specs.Inside.Trees.Innermost.{names_bound}
 use Rattle.isle_syntax.proofs.ast.eq.have_same_names.Given as goal
 
 abbrev pub invariant-loop-s : goal.invariant-loop-s

@@ -1,7 +1,7 @@
 use Rattle.std.proofs.Common.{◌≡◌, ◌∙◌, ap, arith, rules}
 use Rattle.isle_syntax.specs.Trees.PatternShape.{pattern_of}
 use Rattle.isle_syntax.specs.Trees.PatternTree.{pattern_bind}
-use Rattle.isle_syntax.specs.Trees.Chain.{bound}
+use Rattle.isle_syntax.specs.Inside.Trees.Chain.{bound}
 use Rattle.isle_syntax.specs.Trees.WithoutPos.{pattern_tree_without_pos, ident_without_pos, no_pos}
 use Rattle.isle_syntax.proofs.Trees.Innermost.{bound_size, bound_pushed, binds_nothing}
 use Rattle.isle_syntax.proofs.ast.positions.+pattern_positions.Goals as goal

@@ -1,7 +1,7 @@
 use Rattle.std.proofs.Common.{◌≡◌, ◌+◌, ◌*◌, ◌≤◌, map}
 use Rattle.isle_syntax.specs.declared.ast.BoxedPattern.TheDeep.{size-Pattern}
 use Rattle.isle_syntax.specs.Trees.PatternShape.{pattern_of}
-use Rattle.isle_syntax.specs.Trees.Chain.{bound}
+use Rattle.isle_syntax.specs.Inside.Trees.Chain.{bound}
 use Rattle.isle_syntax.specs.Trees.WithoutPos.{pattern_tree_without_pos}
 use Rattle.isle_syntax.proofs.ast.positions.+pattern_positions.Given as goal
 

@@ -1,7 +1,7 @@
 use Rattle.std.proofs.Common.{[], ◌∷◌, sym, ap, ◌∙◌}
 use Rattle.isle_syntax.specs.Trees.PatternShape.{pattern_of}
 use Rattle.isle_syntax.specs.Trees.PatternTree.{pattern_bind}
-use Rattle.isle_syntax.specs.Trees.Chain.{bound}
+use Rattle.isle_syntax.specs.Inside.Trees.Chain.{bound}
 use Rattle.isle_syntax.proofs.Trees.Chains.{bound-append}
 use Rattle.isle_syntax.proofs.ast.wrap.wrap.Goals as goal
 

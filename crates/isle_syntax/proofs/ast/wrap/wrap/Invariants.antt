@@ -1,6 +1,6 @@
 use Rattle.std.proofs.Common.{◌≡◌, length}
 use Rattle.isle_syntax.specs.Trees.PatternShape.{pattern_of}
-use Rattle.isle_syntax.specs.Trees.Chain.{bound}
+use Rattle.isle_syntax.specs.Inside.Trees.Chain.{bound}
 use Rattle.isle_syntax.proofs.ast.wrap.wrap.Given as goal
 
 abbrev pub invariant-names : goal.invariant-names

@@ -1,9 +1,9 @@
 use Rattle.std.proofs.Common.{◌≡◌, map, ◌+◌, ◌*◌, length}
-use Rattle.isle_syntax.specs.Reading.Bindings.{binding_of}
+use Rattle.isle_syntax.specs.Inside.Reading.Bindings.{binding_of}
 use Rattle.isle_syntax.specs.Trees.ExprShape.{expr_of}
-use Rattle.isle_syntax.specs.Reading.Parsing.{bounds}
-use Rattle.isle_syntax.specs.Reading.Readers.{after_close, rest_of}
-use Rattle.isle_syntax.specs.Reading.TreeReading.{expr, let_binding}
+use Rattle.isle_syntax.specs.Inside.Reading.Parsing.{bounds}
+use Rattle.isle_syntax.specs.Inside.Reading.Readers.{after_close, rest_of}
+use Rattle.isle_syntax.specs.Inside.Reading.TreeReading.{expr, let_binding}
 use Rattle.isle_syntax.proofs.Reading.Loops.{Turns}
 use Rattle.isle_syntax.proofs.parser.Parser.+expr.Given as goal
 

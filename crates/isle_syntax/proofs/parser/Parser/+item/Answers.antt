@@ -4,9 +4,9 @@ use Rattle.std.proofs.lemmas.Result.{err_from_is_err_and}
 use Rattle.isle_syntax.specs.declared.kind.Kind.TheVariants.{Open, At, Int, Close, End}
 use Rattle.isle_syntax.specs.Trees.ItemShape.{item_of}
 use Rattle.isle_syntax.specs.Trees.ItemTree.{item_list, item_at, item_list_of}
-use Rattle.isle_syntax.specs.Reading.Parsing.{bounds}
-use Rattle.isle_syntax.specs.Reading.Readers.{after_close, at_pos, integer, opened_within, read_map, done, rest_of}
-use Rattle.isle_syntax.specs.Reading.TreeReading.{item, item_list_reader, literal_item}
+use Rattle.isle_syntax.specs.Inside.Reading.Parsing.{bounds}
+use Rattle.isle_syntax.specs.Inside.Reading.Readers.{after_close, at_pos, integer, opened_within, read_map, done, rest_of}
+use Rattle.isle_syntax.specs.Inside.Reading.TreeReading.{item, item_list_reader, literal_item}
 use Rattle.isle_syntax.proofs.Productions.Items.{item_at_kind, item_shorter}
 use Rattle.isle_syntax.proofs.Reading.Opening.{item_list_opens, item_list_stops, refuses_with}
 use Rattle.isle_syntax.proofs.Reading.Loops.{turn_refuses, turn_adds, turn_no_token, turns_end, takes_none, takes_some, refuses_map, known_refuses}

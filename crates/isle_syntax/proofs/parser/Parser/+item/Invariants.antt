@@ -1,8 +1,8 @@
 use Rattle.std.proofs.Common.{◌≡◌, map, ◌+◌, ◌*◌, length}
 use Rattle.isle_syntax.specs.Trees.ItemShape.{item_of}
-use Rattle.isle_syntax.specs.Reading.Parsing.{bounds}
-use Rattle.isle_syntax.specs.Reading.Readers.{after_close, rest_of}
-use Rattle.isle_syntax.specs.Reading.TreeReading.{item}
+use Rattle.isle_syntax.specs.Inside.Reading.Parsing.{bounds}
+use Rattle.isle_syntax.specs.Inside.Reading.Readers.{after_close, rest_of}
+use Rattle.isle_syntax.specs.Inside.Reading.TreeReading.{item}
 use Rattle.isle_syntax.proofs.Reading.Loops.{Turns}
 use Rattle.isle_syntax.proofs.parser.Parser.+item.Given as goal
 

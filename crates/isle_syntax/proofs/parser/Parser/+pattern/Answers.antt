@@ -5,14 +5,14 @@ use Rattle.std.proofs.lemmas.Result.{err_from_is_err_and}
 use Rattle.isle_syntax.specs.declared.kind.Kind.TheVariants.{End, Open, Close, At, Int, True, False, Const, Wildcard, Other}
 use Rattle.isle_syntax.specs.Tokens.Names.{is_word}
 use Rattle.isle_syntax.specs.Tokens.RemainingTokens.{RemainingTokens}
-use Rattle.isle_syntax.specs.Trees.Chain.{bound}
+use Rattle.isle_syntax.specs.Inside.Trees.Chain.{bound}
 use Rattle.isle_syntax.specs.Trees.PatternShape.{pattern_of}
 use Rattle.isle_syntax.specs.Trees.PatternTree.{pattern_and, pattern_term, pattern_prim}
-use Rattle.isle_syntax.specs.Reading.KindReading.{pattern_on}
-use Rattle.isle_syntax.specs.Reading.Parsing.{bounds}
-use Rattle.isle_syntax.specs.Reading.Readers.{after_close, opened_within, read_map, done, symbol_of, rest_of}
-use Rattle.isle_syntax.specs.Reading.TreeReading.{is_head, listed, pattern, pattern_list}
-use Rattle.isle_syntax.specs.Reading.DefReading.{constant}
+use Rattle.isle_syntax.specs.Inside.Reading.KindReading.{pattern_on}
+use Rattle.isle_syntax.specs.Inside.Reading.Parsing.{bounds}
+use Rattle.isle_syntax.specs.Inside.Reading.Readers.{after_close, opened_within, read_map, done, symbol_of, rest_of}
+use Rattle.isle_syntax.specs.Inside.Reading.TreeReading.{is_head, listed, pattern, pattern_list}
+use Rattle.isle_syntax.specs.Inside.Reading.DefReading.{constant}
 use Rattle.isle_syntax.proofs.Reading.PatternKinds.{pattern_list_opens, pattern_list_reads, listed_as}
 use Rattle.isle_syntax.proofs.Reading.Unbound.{unbound_nothing, unbound_at_kind, unbound_else, unbound_alone, unbound_named, unbound_shorter}
 use Rattle.isle_syntax.proofs.Productions.Patterns.{pattern_shorter}

@@ -1,5 +1,5 @@
 use Rattle.std.proofs.Common.{sym, ap, ◌∙◌, arith}
-use Rattle.isle_syntax.specs.Reading.Readers.{done}
+use Rattle.isle_syntax.specs.Inside.Reading.Readers.{done}
 use Rattle.isle_syntax.proofs.Reading.Taking.{open_gives, deep_refuses, placed_place}
 use Rattle.isle_syntax.proofs.parser.Parser.open.Goals as goal
 

@@ -3,8 +3,8 @@ use Rattle.std.specs.Prelude.{codes}
 use Rattle.std.proofs.lemmas.Result.{err_from_is_err_and}
 use Rattle.isle_syntax.specs.Tokens.Names.{is_word}
 use Rattle.isle_syntax.specs.Grammar.Phrases.{next_symbol_is}
-use Rattle.isle_syntax.specs.Reading.Parsing.{bounds}
-use Rattle.isle_syntax.specs.Reading.DefReading.{rule_body}
+use Rattle.isle_syntax.specs.Inside.Reading.Parsing.{bounds}
+use Rattle.isle_syntax.specs.Inside.Reading.DefReading.{rule_body}
 use Rattle.isle_syntax.proofs.Productions.BodyCalls.{turn_no_token, plain_refuses, plain_reads, opening_refuses, goes_in, looked, inside_no_token}
 use Rattle.isle_syntax.proofs.Productions.BodyCalls.{if_let_refuses, if_refuses, last_refuses, last_reads, if_let_adds, if_adds, if_let_shorter}
 use Rattle.isle_syntax.proofs.Productions.BodyCalls.{if_shorter}

@@ -1,6 +1,6 @@
 use Rattle.std.proofs.Common.{◌≡◌, length}
-use Rattle.isle_syntax.specs.Reading.Parsing.{bounds}
-use Rattle.isle_syntax.specs.Reading.DefReading.{rule_body}
+use Rattle.isle_syntax.specs.Inside.Reading.Parsing.{bounds}
+use Rattle.isle_syntax.specs.Inside.Reading.DefReading.{rule_body}
 use Rattle.isle_syntax.proofs.Productions.BodyTurns.{BodyTurns}
 use Rattle.isle_syntax.proofs.parser.Parser.parse_body.Given as goal
 

@@ -1,7 +1,7 @@
 use Rattle.std.proofs.Common.{sym, subst, ◌∙◌}
 use Rattle.std.proofs.lemmas.Result.{err_from_is_err_and}
-use Rattle.isle_syntax.specs.Reading.Parsing.{RefusesAt}
-use Rattle.isle_syntax.specs.Reading.Readers.{done}
+use Rattle.isle_syntax.specs.Inside.Reading.Parsing.{RefusesAt}
+use Rattle.isle_syntax.specs.Inside.Reading.Readers.{done}
 use Rattle.isle_syntax.proofs.Reading.Loops.{refuses_later}
 use Rattle.isle_syntax.proofs.Reading.Beginnings.{decl_stop, decl_bounds, decl_reads}
 use Rattle.isle_syntax.proofs.parser.Parser.parse_decl.Goals as goal

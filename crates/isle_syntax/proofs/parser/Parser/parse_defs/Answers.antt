@@ -2,8 +2,8 @@ use Rattle.std.proofs.Common.{refl, sym, subst, ◌∙◌}
 use Rattle.std.proofs.lemmas.Bool.{false≢true}
 use Rattle.std.proofs.lemmas.Result.{err_from_is_err_and}
 use Rattle.isle_syntax.specs.Tokens.LexerCalls.{HasEnded}
-use Rattle.isle_syntax.specs.Reading.Readers.{at_end}
-use Rattle.isle_syntax.specs.Reading.DefReading.{def}
+use Rattle.isle_syntax.specs.Inside.Reading.Readers.{at_end}
+use Rattle.isle_syntax.specs.Inside.Reading.DefReading.{def}
 use Rattle.isle_syntax.specs.Grammar.Verdict.{max_nesting}
 use Rattle.isle_syntax.proofs.Productions.Defs.{def_shorter}
 use Rattle.isle_syntax.proofs.Reading.Loops.{turn_adds}

@@ -1,7 +1,7 @@
 use Rattle.std.proofs.Common.{◌≡◌, length}
-use Rattle.isle_syntax.specs.Reading.Parsing.{bounds}
-use Rattle.isle_syntax.specs.Reading.Readers.{at_end, all_of}
-use Rattle.isle_syntax.specs.Reading.DefReading.{def}
+use Rattle.isle_syntax.specs.Inside.Reading.Parsing.{bounds}
+use Rattle.isle_syntax.specs.Inside.Reading.Readers.{at_end, all_of}
+use Rattle.isle_syntax.specs.Inside.Reading.DefReading.{def}
 use Rattle.isle_syntax.specs.Grammar.Verdict.{max_nesting}
 use Rattle.isle_syntax.proofs.Reading.Loops.{Turns}
 use Rattle.isle_syntax.proofs.parser.Parser.parse_defs.Given as goal

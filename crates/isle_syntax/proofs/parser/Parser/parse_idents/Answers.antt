@@ -1,8 +1,8 @@
 use Rattle.std.proofs.Common.{refl, ap, ◌∙◌}
 use Rattle.std.proofs.lemmas.Result.{err_from_is_err_and}
-use Rattle.isle_syntax.specs.Reading.Parsing.{bounds}
-use Rattle.isle_syntax.specs.Reading.Readers.{after_close}
-use Rattle.isle_syntax.specs.Reading.DefReading.{identifier}
+use Rattle.isle_syntax.specs.Inside.Reading.Parsing.{bounds}
+use Rattle.isle_syntax.specs.Inside.Reading.Readers.{after_close}
+use Rattle.isle_syntax.specs.Inside.Reading.DefReading.{identifier}
 use Rattle.isle_syntax.proofs.Reading.Loops.{turn_refuses, turn_adds, turn_no_token, turns_end, takes_none, takes_some}
 use Rattle.isle_syntax.proofs.Reading.Shorter.{identifier_shortens}
 use Rattle.isle_syntax.proofs.parser.Parser.parse_idents.Goals as goal

@@ -1,9 +1,9 @@
 use Rattle.std.proofs.Common.{sym, ap, ◌∙◌}
 use Rattle.isle_syntax.specs.Grammar.DefGrammar.{is_kept_word}
-use Rattle.isle_syntax.specs.Reading.DefReading.{kept_of}
+use Rattle.isle_syntax.specs.Inside.Reading.DefReading.{kept_of}
 use Rattle.isle_syntax.specs.Grammar.Phrases.{first_pos}
-use Rattle.isle_syntax.specs.Reading.Readers.{done, read_map, from, rest_of, symbol_of}
-use Rattle.isle_syntax.specs.Reading.TreeReading.{item}
+use Rattle.isle_syntax.specs.Inside.Reading.Readers.{done, read_map, from, rest_of, symbol_of}
+use Rattle.isle_syntax.specs.Inside.Reading.TreeReading.{item}
 use Rattle.isle_syntax.proofs.Reading.Beginnings.{stands_at, items_filled}
 use Rattle.isle_syntax.proofs.Reading.ReadSteps.{map_seq_done, fuse}
 use Rattle.isle_syntax.proofs.parser.Parser.parse_kept.Goals as goal

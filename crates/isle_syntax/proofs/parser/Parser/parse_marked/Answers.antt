@@ -2,11 +2,11 @@ use Rattle.std.proofs.Common.{[], ◌∷◌, ◌++◌, refl, sym, ap, subst, ◌
 use Rattle.std.specs.Prelude.{codes}
 use Rattle.std.proofs.lemmas.Result.{err_from_is_err_and}
 use Rattle.isle_syntax.specs.declared.kind.Keyword.TheVariants.{Extern, NoDebug}
-use Rattle.isle_syntax.specs.Reading.KindOf.{keyword_at}
+use Rattle.isle_syntax.specs.Inside.Reading.KindOf.{keyword_at}
 use Rattle.isle_syntax.specs.Grammar.DefGrammar.{extern_mark, nodebug_mark}
-use Rattle.isle_syntax.specs.Reading.DefReading.{no_mark, mark, marks, marked_of, type_value}
-use Rattle.isle_syntax.specs.Reading.Parsing.{bounds, stop_of, RefusesAt}
-use Rattle.isle_syntax.specs.Reading.Readers.{read_map, done, says, seq}
+use Rattle.isle_syntax.specs.Inside.Reading.DefReading.{no_mark, mark, marks, marked_of, type_value}
+use Rattle.isle_syntax.specs.Inside.Reading.Parsing.{bounds, stop_of, RefusesAt}
+use Rattle.isle_syntax.specs.Inside.Reading.Readers.{read_map, done, says, seq}
 use Rattle.isle_syntax.proofs.Reading.Loops.{turn_refuses, turn_adds, refuses_map, refuses_no_token, known_refuses}
 use Rattle.isle_syntax.proofs.Productions.Marks.{goes_on, ends, reads_mark, extern_more, extern_same, nodebug_more, nodebug_same, says_less}
 use Rattle.isle_syntax.proofs.Productions.Marks.{marked_at_end, marks_end}

@@ -1,8 +1,8 @@
 use Rattle.std.proofs.Common.{◌≡◌, List, length}
 use Rattle.std.specs.List.{list_any}
-use Rattle.isle_syntax.specs.Reading.Parsing.{bounds}
+use Rattle.isle_syntax.specs.Inside.Reading.Parsing.{bounds}
 use Rattle.isle_syntax.specs.Grammar.DefGrammar.{Mark, is_extern_mark, is_nodebug_mark}
-use Rattle.isle_syntax.specs.Reading.DefReading.{no_mark, mark, marks}
+use Rattle.isle_syntax.specs.Inside.Reading.DefReading.{no_mark, mark, marks}
 use Rattle.isle_syntax.proofs.Reading.Loops.{Turns}
 use Rattle.isle_syntax.proofs.parser.Parser.parse_marked.Given as goal
 

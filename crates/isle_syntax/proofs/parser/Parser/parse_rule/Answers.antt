@@ -1,8 +1,8 @@
 use Rattle.std.proofs.Common.{refl, sym, ap, ◌∙◌}
 use Rattle.std.proofs.lemmas.Result.{err_from_is_err_and}
-use Rattle.isle_syntax.specs.Reading.Parsing.{stop_of}
-use Rattle.isle_syntax.specs.Reading.Readers.{done}
-use Rattle.isle_syntax.specs.Reading.DefReading.{rule}
+use Rattle.isle_syntax.specs.Inside.Reading.Parsing.{stop_of}
+use Rattle.isle_syntax.specs.Inside.Reading.Readers.{done}
+use Rattle.isle_syntax.specs.Inside.Reading.DefReading.{rule}
 use Rattle.isle_syntax.proofs.Reading.Loops.{refuses_no_token}
 use Rattle.isle_syntax.proofs.Productions.RuleSteps.{named_bounds, rule_at_end, named_at_end, ranked_within, rule_reads}
 use Rattle.isle_syntax.proofs.parser.Parser.parse_rule.Goals as goal
@@ -37,7 +37,7 @@ returns c =
           c.parse_pattern_list.new.self.left reads.0 c.in_ok-iflets.iflets.items c.in_ok-iflets.expr c.parse_body.new.self.left ends.0
           ∙ (λ i. done (record {
             pattern = c.in_ok-pattern.pattern;
-            iflets = sym c.new.ensures i;
+            iflets = (sym c.shrink_to_fit.ensures.items ∙ sym c.new.ensures) i;
             expr = c.in_ok-iflets.expr;
             pos = sym c.pos-pos.ensures i;
             prio = prio;

@@ -1,9 +1,9 @@
 use Rattle.isle_syntax.specs.declared.ast.Fields.TheVariants.{Tuple as tuple_fields}
 use Rattle.std.proofs.Common.{rules, [], ◌∷◌, ◌++◌, refl, sym, ap, ◌∙◌}
 use Rattle.std.proofs.lemmas.Result.{err_from_is_err_and}
-use Rattle.isle_syntax.specs.Reading.Parsing.{bounds}
-use Rattle.isle_syntax.specs.Reading.Readers.{after_close, read_map, done, rest_of}
-use Rattle.isle_syntax.specs.Reading.DefReading.{identifier, fields_numbered}
+use Rattle.isle_syntax.specs.Inside.Reading.Parsing.{bounds}
+use Rattle.isle_syntax.specs.Inside.Reading.Readers.{after_close, read_map, done, rest_of}
+use Rattle.isle_syntax.specs.Inside.Reading.DefReading.{identifier, fields_numbered}
 use Rattle.isle_syntax.proofs.Reading.Loops.{turn_refuses, turn_adds, turn_no_token, turns_end, takes_none, takes_some, refuses_map}
 use Rattle.isle_syntax.proofs.Reading.Shorter.{identifier_shortens}
 use Rattle.isle_syntax.proofs.Reading.Numbers.{numbered_push, numbered_none, numbered_some, nothing_in}

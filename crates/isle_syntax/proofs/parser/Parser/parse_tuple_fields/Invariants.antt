@@ -1,9 +1,9 @@
 use Rattle.std.proofs.Common.{◌≡◌, List, length}
 use Rattle.isle_syntax.specs.declared.ast.Ident.{Ident}
-use Rattle.isle_syntax.specs.Reading.Parsing.{bounds}
-use Rattle.isle_syntax.specs.Reading.Readers.{after_close, rest_of}
+use Rattle.isle_syntax.specs.Inside.Reading.Parsing.{bounds}
+use Rattle.isle_syntax.specs.Inside.Reading.Readers.{after_close, rest_of}
 use Rattle.isle_syntax.specs.Grammar.DefGrammar.{numbered}
-use Rattle.isle_syntax.specs.Reading.DefReading.{identifier}
+use Rattle.isle_syntax.specs.Inside.Reading.DefReading.{identifier}
 use Rattle.isle_syntax.proofs.Reading.Loops.{Turns}
 use Rattle.isle_syntax.proofs.parser.Parser.parse_tuple_fields.Given as goal
 

@@ -1,7 +1,7 @@
 use Rattle.std.proofs.Common.{refl, sym, ap, ◌∙◌}
 use Rattle.std.proofs.lemmas.Result.{err_from_is_err_and}
-use Rattle.isle_syntax.specs.Reading.Parsing.{stop_of}
-use Rattle.isle_syntax.specs.Reading.DefReading.{fields}
+use Rattle.isle_syntax.specs.Inside.Reading.Parsing.{stop_of}
+use Rattle.isle_syntax.specs.Inside.Reading.DefReading.{fields}
 use Rattle.isle_syntax.proofs.Reading.Loops.{refuses_no_token}
 use Rattle.isle_syntax.proofs.Reading.Shorter.{fields_at_end}
 use Rattle.isle_syntax.proofs.parser.Parser.parse_type_fields.Goals as goal

@@ -1,5 +1,5 @@
 use Rattle.std.proofs.Common.{sym, ap, ◌∙◌}
-use Rattle.isle_syntax.specs.Reading.KindOf.{kind_at}
+use Rattle.isle_syntax.specs.Inside.Reading.KindOf.{kind_at}
 use Rattle.isle_syntax.specs.Tokens.PlacedTokens.{placed}
 use Rattle.isle_syntax.proofs.Reading.Taking.{at_then, given_bounds}
 use Rattle.isle_syntax.proofs.parser.Parser.take_at.Goals as goal

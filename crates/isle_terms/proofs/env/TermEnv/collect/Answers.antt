@@ -3,7 +3,7 @@ use Rattle.isle_syntax.specs.declared.ast.Rule.{Rule as RuleTree}
 use Rattle.isle_syntax.specs.Errors.{IfFault}
 use Rattle.isle_terms.specs.declared.env.from_ast.TheConstants.{MAX_LEVELS, MAX_NODES}
 use Rattle.isle_terms.specs.TypingFaults.{AreTypingFaults}
-use Rattle.isle_terms.specs.Collecting.NamedItems.{name_shown}
+use Rattle.isle_terms.specs.Inside.Collecting.NamedItems.{name_shown}
 use Rattle.isle_types.specs.TypeEnvs.{HasMoreNames}
 use Rattle.isle_types.specs.TypeTables.{TypeTables}
 use Rattle.isle_terms.proofs.env.TermEnv.collect.Goals as goal

@@ -6,10 +6,10 @@ use Rattle.isle_terms.specs.declared.terms.Term.{Term}
 use Rattle.isle_terms.specs.Definitions.{extractor_names}
 use Rattle.isle_terms.specs.TermFaults.{IsTaken, named_extractors}
 use Rattle.isle_terms.specs.TypingFaults.{BreaksTyping}
-use Rattle.isle_terms.specs.Collecting.Checks.{Checks}
-use Rattle.isle_terms.specs.Collecting.Parts.{AreNamedOnce}
-use Rattle.isle_terms.specs.Collecting.DeclaredTerms.{IsShownTerm}
-use Rattle.isle_terms.specs.Collecting.TermSymbols.{HasSymbolsOf}
+use Rattle.isle_terms.specs.Inside.Collecting.Checks.{Checks}
+use Rattle.isle_terms.specs.Inside.Collecting.Parts.{AreNamedOnce}
+use Rattle.isle_terms.specs.Inside.Collecting.DeclaredTerms.{IsShownTerm}
+use Rattle.isle_terms.specs.Inside.Collecting.TermSymbols.{HasSymbolsOf}
 use Rattle.isle_terms.proofs.Collections.ShownDeclared.{declared_shown, known_symbols}
 use Rattle.isle_terms.proofs.Collections.RootedRules.{all_rooted}
 use Rattle.isle_terms.proofs.Collections.RefusedChecks.{kept_without_errors, refused_faults, later_checked}

@@ -6,9 +6,9 @@ use Rattle.isle_types.proofs.Tables.{more_then}
 use Rattle.isle_terms.specs.Elaboration.{ElaboratesRule}
 use Rattle.isle_terms.specs.TypingFaults.{IsLoneSize}
 use Rattle.isle_terms.specs.Shown.RulesShown.{IsShownRule}
-use Rattle.isle_terms.specs.Collecting.NamedItems.{name_shown}
-use Rattle.isle_terms.specs.Collecting.RuleChecks.{HasSomeRoot, IsIllAmong, IsLargeAmong}
-use Rattle.isle_terms.specs.Collecting.RuleNames.{with_names, AreNamedRules}
+use Rattle.isle_terms.specs.Inside.Collecting.NamedItems.{name_shown}
+use Rattle.isle_terms.specs.Inside.Collecting.RuleChecks.{HasSomeRoot, IsIllAmong, IsLargeAmong}
+use Rattle.isle_terms.specs.Inside.Collecting.RuleNames.{with_names, AreNamedRules}
 use Rattle.isle_terms.specs.declared.env.from_ast.TheConstants.{MAX_LEVELS, MAX_NODES}
 use Rattle.isle_terms.proofs.Collections.Answered.{fault_then}
 use Rattle.isle_terms.proofs.Collections.CheckedTyping.{checks_wider}

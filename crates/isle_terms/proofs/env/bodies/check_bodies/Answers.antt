@@ -3,7 +3,7 @@ use Rattle.std.specs.Prelude.{All}
 use Rattle.std.proofs.lemmas.List.{take_all}
 use Rattle.std.proofs.lemmas.List.Elements.{All-nil}
 use Rattle.isle_syntax.specs.declared.ast.Extractor.{Extractor as ExtractorTree}
-use Rattle.isle_terms.specs.Collecting.ExtractorChecks.{Adds}
+use Rattle.isle_terms.specs.Inside.Collecting.ExtractorChecks.{Adds}
 use Rattle.isle_terms.proofs.Collections.AddedErrors.{SomeBreaks, adds_none, adds_more}
 use Rattle.isle_terms.proofs.Collections.ExtractorBodies.{BreaksIn, KeepsIn, bodies_checked}
 use Rattle.isle_terms.proofs.env.bodies.check_bodies.Goals as goal

@@ -1,7 +1,7 @@
 use Rattle.std.proofs.Common.{ℕ, List, take}
 use Rattle.std.specs.Prelude.{All}
-use Rattle.isle_terms.specs.Collecting.NameTables.{IsTableOf}
-use Rattle.isle_terms.specs.Collecting.ExtractorChecks.{Adds}
+use Rattle.isle_terms.specs.Inside.Collecting.NameTables.{IsTableOf}
+use Rattle.isle_terms.specs.Inside.Collecting.ExtractorChecks.{Adds}
 use Rattle.isle_terms.proofs.Collections.AddedErrors.{SomeBreaks}
 use Rattle.isle_terms.proofs.Collections.ExtractorBodies.{BreaksIn, KeepsIn}
 use Rattle.isle_terms.proofs.env.bodies.check_bodies.Given as goal

@@ -5,7 +5,7 @@ use Rattle.std.proofs.lemmas.List.Elements.{All-nil}
 use Rattle.isle_syntax.specs.declared.ast.Ident.{Ident}
 use Rattle.isle_syntax.specs.Trees.PatternShape.{pattern_of}
 use Rattle.isle_terms.specs.Definitions.{is_among}
-use Rattle.isle_terms.specs.Collecting.ExtractorChecks.{Adds, IsUnknownAt}
+use Rattle.isle_terms.specs.Inside.Collecting.ExtractorChecks.{Adds, IsUnknownAt}
 use Rattle.isle_terms.proofs.Collections.AddedErrors.{SomeBreaks, adds_none, adds_more}
 use Rattle.isle_terms.proofs.Collections.ExtractorBodies.{body_checked}
 use Rattle.isle_terms.proofs.env.bodies.check_body.Goals as goal

@@ -3,7 +3,7 @@ use Rattle.isle_syntax.specs.declared.error.Error.TheVariants.{TypeError}
 use Rattle.isle_syntax.specs.Errors.{span_at}
 use Rattle.isle_types.specs.Names.{position_of}
 use Rattle.isle_terms.specs.Definitions.{is_among}
-use Rattle.isle_terms.specs.Collecting.ExtractorChecks.{IsUnknownAt}
+use Rattle.isle_terms.specs.Inside.Collecting.ExtractorChecks.{IsUnknownAt}
 use Rattle.isle_terms.proofs.Collections.AddedErrors.{adds_none, adds_one}
 use Rattle.isle_terms.proofs.Collections.NamedPlaces.{found_among}
 use Rattle.isle_terms.proofs.env.bodies.check_term.Goals as goal

@@ -1,6 +1,6 @@
 use Rattle.std.proofs.Common.{map, sym, ap, ◌∙◌, refl}
 use Rattle.isle_syntax.specs.declared.ast.Decl.{Decl as DeclTree}
-use Rattle.isle_terms.specs.Collecting.DefinitionChecks.{is_unused}
+use Rattle.isle_terms.specs.Inside.Collecting.DefinitionChecks.{is_unused}
 use Rattle.isle_terms.proofs.Collections.Checking.{item_at, each_ill, each_well, each_done, past_mapped}
 use Rattle.isle_terms.proofs.env.checks.check_defined.Goals as goal
 use Rattle.isle_terms.proofs.env.checks.check_defined.Goals.{then-is_unused+in_ok-report, else-is_unused}

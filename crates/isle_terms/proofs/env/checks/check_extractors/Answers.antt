@@ -1,6 +1,6 @@
 use Rattle.std.proofs.Common.{map, sym, ap, ◌∙◌, refl}
 use Rattle.isle_syntax.specs.declared.ast.Extractor.{Extractor as ExtractorTree}
-use Rattle.isle_terms.specs.Collecting.DefinitionChecks.{is_ill_extractor}
+use Rattle.isle_terms.specs.Inside.Collecting.DefinitionChecks.{is_ill_extractor}
 use Rattle.isle_terms.proofs.Collections.Checking.{item_at, each_ill, each_well, each_done, past_mapped}
 use Rattle.isle_terms.proofs.env.checks.check_extractors.Goals as goal
 use Rattle.isle_terms.proofs.env.checks.check_extractors.Goals.{then-is_ill_extractor+in_ok-report, else-is_ill_extractor}

@@ -1,6 +1,6 @@
 use Rattle.std.proofs.Common.{map, sym, ap, ◌∙◌, refl}
-use Rattle.isle_terms.specs.Collecting.DefinitionLists.{host_constructor_shown}
-use Rattle.isle_terms.specs.Collecting.DefinitionChecks.{is_ill_host}
+use Rattle.isle_terms.specs.Inside.Collecting.DefinitionLists.{host_constructor_shown}
+use Rattle.isle_terms.specs.Inside.Collecting.DefinitionChecks.{is_ill_host}
 use Rattle.isle_terms.proofs.Collections.Checking.{item_at, each_ill, each_well, each_done, past_mapped}
 use Rattle.isle_terms.proofs.env.checks.check_host_constructors.Goals as goal
 use Rattle.isle_terms.proofs.env.checks.check_host_constructors.Goals.{then-is_ill_host+in_ok-report, else-is_ill_host}

@@ -1,7 +1,7 @@
 use Rattle.std.proofs.Common.{map, sym, ap, ◌∙◌, refl}
 use Rattle.isle_terms.specs.Definitions.{ExternalExtractor}
-use Rattle.isle_terms.specs.Collecting.DefinitionLists.{host_extractor_shown}
-use Rattle.isle_terms.specs.Collecting.DefinitionChecks.{is_ill_name}
+use Rattle.isle_terms.specs.Inside.Collecting.DefinitionLists.{host_extractor_shown}
+use Rattle.isle_terms.specs.Inside.Collecting.DefinitionChecks.{is_ill_name}
 use Rattle.isle_terms.proofs.Collections.Checking.{item_at, each_ill, each_well, each_done, past_mapped}
 use Rattle.isle_terms.proofs.env.checks.check_host_extractors.Goals as goal
 use Rattle.isle_terms.proofs.env.checks.check_host_extractors.Goals.{then-is_ill_name+in_ok-report, else-is_ill_name}

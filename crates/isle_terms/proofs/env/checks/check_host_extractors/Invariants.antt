@@ -1,10 +1,10 @@
 use Rattle.std.proofs.Common.{◌≡◌, ℕ, List, map, take, false}
 use Rattle.std.specs.List.{All}
 use Rattle.isle_terms.specs.Definitions.{ExternalExtractor}
-use Rattle.isle_terms.specs.Collecting.DefinitionLists.{host_extractor_shown}
-use Rattle.isle_terms.specs.Collecting.Checks.{Checks, IsIllAt}
-use Rattle.isle_terms.specs.Collecting.NameTables.{IsTableOf}
-use Rattle.isle_terms.specs.Collecting.DefinitionChecks.{is_ill_name}
+use Rattle.isle_terms.specs.Inside.Collecting.DefinitionLists.{host_extractor_shown}
+use Rattle.isle_terms.specs.Inside.Collecting.Checks.{Checks, IsIllAt}
+use Rattle.isle_terms.specs.Inside.Collecting.NameTables.{IsTableOf}
+use Rattle.isle_terms.specs.Inside.Collecting.DefinitionChecks.{is_ill_name}
 use Rattle.isle_terms.proofs.env.checks.check_host_extractors.Given as goal
 
 abbrev pub invariant-loop-host : goal.invariant-loop-host

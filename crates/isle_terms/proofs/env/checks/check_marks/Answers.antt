@@ -1,6 +1,6 @@
 use Rattle.std.proofs.Common.{map, sym, ap, ◌∙◌, refl}
 use Rattle.isle_syntax.specs.declared.ast.Decl.{Decl as DeclTree}
-use Rattle.isle_terms.specs.Collecting.DefinitionChecks.{is_ill_marked}
+use Rattle.isle_terms.specs.Inside.Collecting.DefinitionChecks.{is_ill_marked}
 use Rattle.isle_terms.proofs.Collections.Checking.{item_at, each_ill, each_well, each_done, past_mapped}
 use Rattle.isle_terms.proofs.env.checks.check_marks.Goals as goal
 use Rattle.isle_terms.proofs.env.checks.check_marks.Goals.{then-is_ill_marked+in_ok-report, else-is_ill_marked}

@@ -1,8 +1,8 @@
 use Rattle.std.proofs.Common.{◌≡◌, map, take, false}
 use Rattle.std.specs.List.{All}
 use Rattle.isle_syntax.specs.declared.ast.Decl.{Decl as DeclTree}
-use Rattle.isle_terms.specs.Collecting.Checks.{Checks, IsIllAt}
-use Rattle.isle_terms.specs.Collecting.DefinitionChecks.{is_ill_marked}
+use Rattle.isle_terms.specs.Inside.Collecting.Checks.{Checks, IsIllAt}
+use Rattle.isle_terms.specs.Inside.Collecting.DefinitionChecks.{is_ill_marked}
 use Rattle.isle_terms.proofs.env.checks.check_marks.Given as goal
 
 abbrev pub invariant-loop-decl : goal.invariant-loop-decl

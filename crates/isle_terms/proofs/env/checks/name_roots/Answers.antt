@@ -4,7 +4,7 @@ use Rattle.isle_syntax.specs.declared.ast.Rule.{Rule as RuleTree}
 use Rattle.isle_syntax.specs.Trees.PatternShape.{pattern_of}
 use Rattle.isle_types.proofs.ConstantTurns.{where_none}
 use Rattle.isle_terms.specs.Definitions.{roots_of, root_name}
-use Rattle.isle_terms.specs.Collecting.NameTables.{IsTableOf}
+use Rattle.isle_terms.specs.Inside.Collecting.NameTables.{IsTableOf}
 use Rattle.isle_terms.proofs.Collections.Checking.{item_at}
 use Rattle.isle_terms.proofs.Collections.Listing.{kind_more, kind_same}
 use Rattle.isle_terms.proofs.env.checks.name_roots.Goals as goal

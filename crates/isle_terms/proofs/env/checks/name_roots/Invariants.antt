@@ -1,6 +1,6 @@
 use Rattle.std.proofs.Common.{◌≡◌, ◌≤◌, map, take, length}
 use Rattle.isle_terms.specs.Definitions.{roots_of}
-use Rattle.isle_terms.specs.Collecting.NameTables.{IsTableOf}
+use Rattle.isle_terms.specs.Inside.Collecting.NameTables.{IsTableOf}
 use Rattle.isle_terms.proofs.env.checks.name_roots.Given as goal
 
 abbrev pub invariant-loop-rule : goal.invariant-loop-rule

@@ -4,7 +4,7 @@ use Rattle.isle_types.specs.Environment.{Environment}
 use Rattle.isle_types.specs.TypeEnvs.{Shows}
 use Rattle.isle_terms.specs.Signatures.{Signature}
 use Rattle.isle_terms.specs.Definitions.{converters_in, names_of_terms}
-use Rattle.isle_terms.specs.Collecting.NameTables.{IsTableOf}
+use Rattle.isle_terms.specs.Inside.Collecting.NameTables.{IsTableOf}
 use Rattle.isle_terms.proofs.Collections.ReadConverters.{ReadUpTo}
 use Rattle.isle_terms.proofs.env.converters.collect_converters.Given as goal
 

@@ -1,6 +1,6 @@
 use Rattle.std.proofs.Common.{ap, sym, ◌∙◌}
 use Rattle.isle_types.specs.Names.{position_of}
-use Rattle.isle_terms.specs.Collecting.ReadConverters.{unknown_inner, unknown_outer, unknown_term, second_of_types}
+use Rattle.isle_terms.specs.Inside.Collecting.ReadConverters.{unknown_inner, unknown_outer, unknown_term, second_of_types}
 use Rattle.isle_terms.proofs.Collections.ReadConverters.{unknown_type, known_type}
 use Rattle.isle_terms.proofs.env.converters.read_converter.Goals as goal
 

@@ -1,7 +1,7 @@
 use Rattle.std.proofs.Common.{◌+◌, ◌<◌, List, [], ◌∷◌, get_or, set, refl, sym, ◌∙◌, ap, subst, arith}
 use Rattle.isle_terms.specs.declared.env.cycles.Mark.TheVariants.{Unseen, Open, Finished}
 use Rattle.isle_terms.specs.declared.env.cycles.Step.{Step}
-use Rattle.isle_terms.specs.Collecting.Graphs.{IsSearching, search_work}
+use Rattle.isle_terms.specs.Inside.Collecting.Graphs.{IsSearching, search_work}
 use Rattle.isle_terms.proofs.Collections.Cycles.{last_targets, last_within, edge_read, mark_within, mark_read, cycle_found, search_pass}
 use Rattle.isle_terms.proofs.Collections.Cycles.{search_finish}
 use Rattle.isle_terms.proofs.Collections.Cycles.{search_open, goes_finish, goes_open, less_finish, less_pass, less_open}

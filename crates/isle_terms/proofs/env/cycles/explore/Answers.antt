@@ -1,7 +1,7 @@
 use Rattle.std.proofs.Common.{◌∷◌, inl, set, sym, ◌∙◌, ap, subst, refl, List}
 use Rattle.isle_terms.specs.declared.env.cycles.Mark.TheVariants.{Unseen, Open}
 use Rattle.isle_terms.specs.declared.env.cycles.Step.{Step}
-use Rattle.isle_terms.specs.Collecting.Graphs.{IsSearching}
+use Rattle.isle_terms.specs.Inside.Collecting.Graphs.{IsSearching}
 use Rattle.isle_terms.proofs.Collections.Cycles.{search_begin, goes_open, set_here}
 use Rattle.isle_terms.proofs.env.cycles.explore.Goals as goal
 

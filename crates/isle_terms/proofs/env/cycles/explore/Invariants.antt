@@ -1,4 +1,4 @@
-use Rattle.isle_terms.specs.Collecting.Graphs.{IsReached, IsSearching, Goes, search_work}
+use Rattle.isle_terms.specs.Inside.Collecting.Graphs.{IsReached, IsSearching, Goes, search_work}
 use Rattle.isle_terms.proofs.env.cycles.explore.Given as goal
 
 abbrev pub invariant-loop-last : goal.invariant-loop-last

@@ -1,5 +1,5 @@
 use Rattle.std.proofs.Common.{ℕ, ◌<◌, []}
-use Rattle.isle_terms.specs.Collecting.Graphs.{IsFinished, IsSearching}
+use Rattle.isle_terms.specs.Inside.Collecting.Graphs.{IsFinished, IsSearching}
 use Rattle.isle_terms.proofs.env.cycles.find_cycle.Given as goal
 
 abbrev pub invariant-loop-root : goal.invariant-loop-root

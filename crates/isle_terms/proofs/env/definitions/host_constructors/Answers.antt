@@ -1,5 +1,5 @@
 use Rattle.std.proofs.Common.{sym, ap, ◌∙◌}
-use Rattle.isle_terms.specs.Collecting.DefinitionLists.{constructor_in, host_constructor_shown}
+use Rattle.isle_terms.specs.Inside.Collecting.DefinitionLists.{constructor_in, host_constructor_shown}
 use Rattle.std.specs.List.{filter_map}
 use Rattle.std.proofs.lemmas.List.{take_all}
 use Rattle.isle_terms.specs.Definitions.{as_external, as_external_constructor}

@@ -1,6 +1,6 @@
 use Rattle.std.proofs.Common.{◌≡◌, map, take}
 use Rattle.std.specs.List.{filter_map}
-use Rattle.isle_terms.specs.Collecting.DefinitionLists.{constructor_in, host_constructor_shown}
+use Rattle.isle_terms.specs.Inside.Collecting.DefinitionLists.{constructor_in, host_constructor_shown}
 use Rattle.isle_terms.proofs.env.definitions.host_constructors.Given as goal
 
 abbrev pub invariant-loop-def : goal.invariant-loop-def

@@ -1,6 +1,6 @@
 use Rattle.std.proofs.Common.{rules, sym, arith}
 use Rattle.isle_terms.specs.contracts.env.named.fn.named_terms.terms as closure
-use Rattle.isle_terms.specs.Collecting.ExtractorChecks.{name_at}
+use Rattle.isle_terms.specs.Inside.Collecting.ExtractorChecks.{name_at}
 use Rattle.isle_terms.proofs.Collections.GatheredTerms.{gathered}
 use Rattle.isle_terms.proofs.env.named.named_terms.Goals as goal
 

@@ -7,9 +7,9 @@ use Rattle.isle_types.specs.Names.{AreDistinct}
 use Rattle.isle_terms.specs.Definitions.{declarations}
 use Rattle.isle_terms.specs.TermFaults.{names_of, IsTaken, term_twice}
 use Rattle.isle_terms.specs.TypingFaults.{of_declarations}
-use Rattle.isle_terms.specs.Collecting.Checks.{Checks}
-use Rattle.isle_terms.specs.Collecting.NameTables.{IsTableOf}
-use Rattle.isle_terms.specs.Collecting.NamedItems.{named_shown, named_declaration}
+use Rattle.isle_terms.specs.Inside.Collecting.Checks.{Checks}
+use Rattle.isle_terms.specs.Inside.Collecting.NameTables.{IsTableOf}
+use Rattle.isle_terms.specs.Inside.Collecting.NamedItems.{named_shown, named_declaration}
 use Rattle.isle_terms.proofs.Collections.Answered.{ok_then}
 use Rattle.isle_terms.proofs.Collections.CheckedDefinitions.{declarations_named}
 use Rattle.isle_terms.proofs.Collections.CheckedTyping.{checks_wider}

@@ -5,10 +5,10 @@ use Rattle.isle_syntax.specs.declared.ast.Def.{Def}
 use Rattle.isle_syntax.specs.declared.lexer.Pos.{Pos}
 use Rattle.isle_types.specs.Names.{AreDistinct}
 use Rattle.isle_terms.specs.TermFaults.{names_of, IsTaken, named_extractors}
-use Rattle.isle_terms.specs.Collecting.Checks.{Checks}
-use Rattle.isle_terms.specs.Collecting.NameTables.{IsTableOf}
-use Rattle.isle_terms.specs.Collecting.NamedItems.{named_shown, named_extractor, named_host_extractor}
-use Rattle.isle_terms.specs.Collecting.Parts.{ArePartsOf}
+use Rattle.isle_terms.specs.Inside.Collecting.Checks.{Checks}
+use Rattle.isle_terms.specs.Inside.Collecting.NameTables.{IsTableOf}
+use Rattle.isle_terms.specs.Inside.Collecting.NamedItems.{named_shown, named_extractor, named_host_extractor}
+use Rattle.isle_terms.specs.Inside.Collecting.Parts.{ArePartsOf}
 use Rattle.isle_terms.proofs.Collections.Answered.{ok_then}
 use Rattle.isle_terms.proofs.Collections.CheckedDefinitions.{extractors_named}
 use Rattle.isle_terms.proofs.Collections.CheckedTyping.{checks_wider}

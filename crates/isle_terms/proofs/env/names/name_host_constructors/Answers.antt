@@ -6,10 +6,10 @@ use Rattle.isle_types.specs.Names.{AreDistinct}
 use Rattle.isle_terms.specs.Definitions.{external_constructors}
 use Rattle.isle_terms.specs.TermFaults.{names_of, IsTaken}
 use Rattle.isle_terms.specs.TypingFaults.{of_constructors}
-use Rattle.isle_terms.specs.Collecting.Checks.{Checks}
-use Rattle.isle_terms.specs.Collecting.DefinitionLists.{host_constructor_shown}
-use Rattle.isle_terms.specs.Collecting.NameTables.{IsTableOf}
-use Rattle.isle_terms.specs.Collecting.NamedItems.{named_shown, named_host_constructor}
+use Rattle.isle_terms.specs.Inside.Collecting.Checks.{Checks}
+use Rattle.isle_terms.specs.Inside.Collecting.DefinitionLists.{host_constructor_shown}
+use Rattle.isle_terms.specs.Inside.Collecting.NameTables.{IsTableOf}
+use Rattle.isle_terms.specs.Inside.Collecting.NamedItems.{named_shown, named_host_constructor}
 use Rattle.isle_terms.proofs.Collections.Answered.{ok_then}
 use Rattle.isle_terms.proofs.Collections.CheckedDefinitions.{hosts_named, second_host_breaks}
 use Rattle.isle_terms.proofs.Collections.CheckedTyping.{checks_wider}

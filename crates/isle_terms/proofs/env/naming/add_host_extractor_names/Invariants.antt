@@ -1,5 +1,5 @@
 use Rattle.std.proofs.Common.{◌≡◌, ◌++◌, map, take}
-use Rattle.isle_terms.specs.Collecting.NamedItems.{named_shown, named_host_extractor}
+use Rattle.isle_terms.specs.Inside.Collecting.NamedItems.{named_shown, named_host_extractor}
 use Rattle.isle_terms.proofs.env.naming.add_host_extractor_names.Given as goal
 
 abbrev pub invariant-loop-host : goal.invariant-loop-host

@@ -1,5 +1,5 @@
 use Rattle.std.proofs.Common.{ap}
-use Rattle.isle_terms.specs.Collecting.NamedItems.{named_shown, named_host_constructor}
+use Rattle.isle_terms.specs.Inside.Collecting.NamedItems.{named_shown, named_host_constructor}
 use Rattle.isle_terms.proofs.Collections.Listing.{mapped_more}
 use Rattle.isle_terms.proofs.env.naming.host_constructor_names.Goals as goal
 

@@ -1,5 +1,5 @@
 use Rattle.std.proofs.Common.{◌≡◌, map, take}
-use Rattle.isle_terms.specs.Collecting.NamedItems.{named_shown, named_host_constructor}
+use Rattle.isle_terms.specs.Inside.Collecting.NamedItems.{named_shown, named_host_constructor}
 use Rattle.isle_terms.proofs.env.naming.host_constructor_names.Given as goal
 
 abbrev pub invariant-loop-host : goal.invariant-loop-host

@@ -2,8 +2,8 @@ use Rattle.std.proofs.Common.{map, take, refl, sym, subst, ap, ◌∙◌, ◌<�
 use Rattle.std.proofs.lemmas.Option.{slice_get-get_or}
 use Rattle.std.proofs.lemmas.List.{length-map}
 use Rattle.isle_terms.specs.TermFaults.{names_of}
-use Rattle.isle_terms.specs.Collecting.NameTables.{IsTableOf}
-use Rattle.isle_terms.specs.Collecting.NamedItems.{named_shown}
+use Rattle.isle_terms.specs.Inside.Collecting.NameTables.{IsTableOf}
+use Rattle.isle_terms.specs.Inside.Collecting.NamedItems.{named_shown}
 use Rattle.isle_terms.proofs.Collections.Checking.{check_same, check_fault}
 use Rattle.isle_terms.proofs.Collections.Naming.{names_more, found_is_taken, new_is_distinct, pair_at, count_so_far}
 use Rattle.isle_terms.proofs.env.naming.name_all.Goals as goal

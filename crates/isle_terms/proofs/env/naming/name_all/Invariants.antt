@@ -1,9 +1,9 @@
 use Rattle.std.proofs.Common.{map, take}
 use Rattle.isle_types.specs.Names.{AreDistinct}
 use Rattle.isle_terms.specs.TermFaults.{names_of, IsTaken}
-use Rattle.isle_terms.specs.Collecting.Checks.{Checks}
-use Rattle.isle_terms.specs.Collecting.NameTables.{IsTableOf}
-use Rattle.isle_terms.specs.Collecting.NamedItems.{named_shown}
+use Rattle.isle_terms.specs.Inside.Collecting.Checks.{Checks}
+use Rattle.isle_terms.specs.Inside.Collecting.NameTables.{IsTableOf}
+use Rattle.isle_terms.specs.Inside.Collecting.NamedItems.{named_shown}
 use Rattle.isle_terms.proofs.env.naming.name_all.Given as goal
 
 abbrev pub invariant-loop-i : goal.invariant-loop-i

@@ -1,7 +1,7 @@
 use Rattle.std.proofs.Common.{◌≡◌, take}
 use Rattle.isle_syntax.specs.Trees.PatternShape.{pattern_of}
-use Rattle.isle_terms.specs.Collecting.ExtractorChecks.{named_in}
-use Rattle.isle_terms.specs.Collecting.ExtractorGraphs.{AddsEdges, JoinsTerm}
+use Rattle.isle_terms.specs.Inside.Collecting.ExtractorChecks.{named_in}
+use Rattle.isle_terms.specs.Inside.Collecting.ExtractorGraphs.{AddsEdges, JoinsTerm}
 use Rattle.isle_terms.proofs.Collections.AddedEdges.{SomeJoins}
 use Rattle.isle_terms.proofs.env.recursion.add_targets.Given as goal
 

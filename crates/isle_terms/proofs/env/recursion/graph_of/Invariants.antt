@@ -1,5 +1,5 @@
 use Rattle.std.proofs.Common.{[], length, take, replicate}
-use Rattle.isle_terms.specs.Collecting.ExtractorGraphs.{AddsEdges}
+use Rattle.isle_terms.specs.Inside.Collecting.ExtractorGraphs.{AddsEdges}
 use Rattle.isle_terms.proofs.Collections.AddedEdges.{SomeJoins}
 use Rattle.isle_terms.proofs.Collections.ExtractorGraphs.{JoinsLent}
 use Rattle.isle_terms.proofs.env.recursion.graph_of.Given as goal

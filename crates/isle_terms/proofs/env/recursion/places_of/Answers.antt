@@ -1,5 +1,5 @@
 use Rattle.std.proofs.Common.{map, ◌∙◌, arith}
-use Rattle.isle_terms.specs.Collecting.ExtractorGraphs.{extracted}
+use Rattle.isle_terms.specs.Inside.Collecting.ExtractorGraphs.{extracted}
 use Rattle.isle_terms.proofs.Collections.ExtractorGraphs.{lent, empty_gives, name_at_place, places_more, names_more, places_made}
 use Rattle.isle_terms.proofs.env.recursion.places_of.Goals as goal
 

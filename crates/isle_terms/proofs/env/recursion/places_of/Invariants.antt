@@ -3,7 +3,7 @@ use Rattle.std.specs.Prelude.{slice_get}
 use Rattle.std.specs.Str.{bytes_eq}
 use Rattle.isle_syntax.specs.declared.ast.Extractor.{Extractor as ExtractorTree}
 use Rattle.isle_types.specs.StableMaps.{value_at}
-use Rattle.isle_terms.specs.Collecting.ExtractorGraphs.{extracted}
+use Rattle.isle_terms.specs.Inside.Collecting.ExtractorGraphs.{extracted}
 use Rattle.isle_terms.proofs.env.recursion.places_of.Given as goal
 
 abbrev pub invariant-loop-place : goal.invariant-loop-place

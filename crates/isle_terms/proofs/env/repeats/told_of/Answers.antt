@@ -2,7 +2,7 @@ use Rattle.std.proofs.Common.{◌≡◌, refl, sym, subst, ◌∙◌}
 use Rattle.std.proofs.lemmas.List.{map-id}
 use Rattle.std.proofs.lemmas.Iterator.Adapters.{YieldsList-from_vec}
 use Rattle.std.proofs.lemmas.Iterator.Consumers.{YieldsList-end}
-use Rattle.isle_terms.specs.Collecting.Repeats.{AreToldOf}
+use Rattle.isle_terms.specs.Inside.Collecting.Repeats.{AreToldOf}
 use Rattle.isle_terms.proofs.Collections.ToldErrors.{none_told, next_told}
 use Rattle.isle_terms.proofs.env.repeats.told_of.Goals as goal
 

@@ -1,8 +1,8 @@
 use Rattle.std.proofs.Common.{map, subst}
 use Rattle.isle_types.specs.Names.{AreDistinct}
 use Rattle.isle_terms.specs.TermFaults.{IsTaken, names_of}
-use Rattle.isle_terms.specs.Collecting.Checks.{Checks}
-use Rattle.isle_terms.specs.Collecting.NamedItems.{named_shown}
+use Rattle.isle_terms.specs.Inside.Collecting.Checks.{Checks}
+use Rattle.isle_terms.specs.Inside.Collecting.NamedItems.{named_shown}
 use Rattle.isle_terms.proofs.env.rule_names.check_rule_names.Goals as goal
 
 pub returns : goal.returns

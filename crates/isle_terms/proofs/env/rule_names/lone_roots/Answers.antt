@@ -3,7 +3,7 @@ use Rattle.isle_syntax.specs.declared.ast.Rule.{Rule as RuleTree}
 use Rattle.isle_syntax.specs.Trees.PatternShape.{pattern_of}
 use Rattle.isle_types.proofs.ConstantTurns.{where_none}
 use Rattle.isle_terms.specs.Definitions.{roots_of, root_name}
-use Rattle.isle_terms.specs.Collecting.RuleNames.{MarksLone}
+use Rattle.isle_terms.specs.Inside.Collecting.RuleNames.{MarksLone}
 use Rattle.isle_terms.proofs.Collections.Checking.{item_at}
 use Rattle.isle_terms.proofs.Collections.Listing.{kind_more, kind_same}
 use Rattle.isle_terms.proofs.Collections.RuleNames.{marks_more, copied_some}

@@ -3,7 +3,7 @@ use Rattle.std.proofs.lemmas.List.{length-append, length-map, map-id}
 use Rattle.std.proofs.lemmas.Iterator.Adapters.{YieldsList-from_vec}
 use Rattle.std.proofs.lemmas.Iterator.Consumers.{YieldsList-end}
 use Rattle.isle_types.proofs.Tables.{more_then}
-use Rattle.isle_terms.specs.Collecting.NamedItems.{name_shown}
+use Rattle.isle_terms.specs.Inside.Collecting.NamedItems.{name_shown}
 use Rattle.isle_terms.proofs.Collections.Checking.{item_at}
 use Rattle.isle_terms.proofs.Collections.RuleNames.{none_numbered, one_numbered, all_numbered}
 use Rattle.isle_terms.proofs.env.rule_names.name_rules.Goals as goal

@@ -1,6 +1,6 @@
 use Rattle.std.proofs.Common.{subst, ◌≡◌, Some, slice_get}
 use Rattle.isle_terms.specs.Definitions.{roots_of, rules_in}
-use Rattle.isle_terms.specs.Collecting.RuleNames.{MarksLone}
+use Rattle.isle_terms.specs.Inside.Collecting.RuleNames.{MarksLone}
 use Rattle.isle_terms.proofs.Collections.Checking.{item_at}
 use Rattle.isle_terms.proofs.Collections.RuleNames.{names_more}
 use Rattle.isle_terms.proofs.env.rule_names.names_of_rules.Goals as goal

@@ -1,7 +1,7 @@
 use Rattle.std.proofs.Common.{◌≡◌, Some, length, ap, subst, slice_get, arith, ◌∙◌, refl}
 use Rattle.std.proofs.lemmas.Option.{slice_get_read}
 use Rattle.isle_terms.specs.Definitions.{rules_in}
-use Rattle.isle_terms.specs.Collecting.NamedItems.{name_shown}
+use Rattle.isle_terms.specs.Inside.Collecting.NamedItems.{name_shown}
 use Rattle.isle_terms.proofs.Collections.Checking.{item_at}
 use Rattle.isle_terms.proofs.Collections.RuleNames.{name_there, no_name, same_count, placed_more, placed_same}
 use Rattle.isle_terms.proofs.env.rule_names.placed_names.Goals as goal

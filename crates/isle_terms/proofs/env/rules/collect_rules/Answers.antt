@@ -3,8 +3,8 @@ use Rattle.std.proofs.lemmas.Result.{err_from_is_err_and}
 use Rattle.isle_types.specs.declared.ids.RuleId.{RuleId}
 use Rattle.isle_types.proofs.Zipped.{all_at}
 use Rattle.isle_types.proofs.Tables.{more_then}
-use Rattle.isle_terms.specs.Collecting.Checks.{Checks}
-use Rattle.isle_terms.specs.Collecting.RuleChecks.{HasSomeRoot, IsIllAmong, AreTyped}
+use Rattle.isle_terms.specs.Inside.Collecting.Checks.{Checks}
+use Rattle.isle_terms.specs.Inside.Collecting.RuleChecks.{HasSomeRoot, IsIllAmong, AreTyped}
 use Rattle.isle_terms.proofs.Collections.Checking.{item_at, past_mapped}
 use Rattle.isle_terms.proofs.Showing.MoreNames.{shows_still}
 use Rattle.isle_terms.proofs.Collections.RulesCollected.{rule_reported, rule_alone, rule_added, rules_done}

@@ -3,9 +3,9 @@ use Rattle.std.specs.List.{All}
 use Rattle.isle_types.specs.TypeEnvs.{HasMoreNames}
 use Rattle.isle_terms.specs.Signatures.{Declared}
 use Rattle.isle_terms.specs.Shown.ShownTerms.{ShowsDeclared}
-use Rattle.isle_terms.specs.Shown.TermLimits.{HasKnownSymbols}
-use Rattle.isle_terms.specs.Collecting.Checks.{Checks}
-use Rattle.isle_terms.specs.Collecting.RuleChecks.{HasSomeRoot, IsIllAmong, AreTyped}
+use Rattle.isle_terms.specs.Inside.Shown.TermLimits.{HasKnownSymbols}
+use Rattle.isle_terms.specs.Inside.Collecting.Checks.{Checks}
+use Rattle.isle_terms.specs.Inside.Collecting.RuleChecks.{HasSomeRoot, IsIllAmong, AreTyped}
 use Rattle.isle_terms.proofs.env.rules.collect_rules.Given as goal
 
 abbrev pub invariant-loop-rule : goal.invariant-loop-rule

@@ -1,6 +1,6 @@
 use Rattle.isle_terms.specs.RuleReaching.{IsIllRule}
-use Rattle.isle_terms.specs.Collecting.RuleChecks.{IsLargeAt}
-use Rattle.isle_terms.specs.Shown.RootsShown.{rule_read}
+use Rattle.isle_terms.specs.Inside.Collecting.RuleChecks.{IsLargeAt}
+use Rattle.isle_terms.specs.Inside.Shown.RootsShown.{rule_read}
 use Rattle.isle_terms.proofs.Collections.RuleChecks.{rule_stands, rule_refused, rule_met}
 use Rattle.isle_terms.proofs.env.rules.typed_rule.Goals as goal
 

@@ -2,11 +2,11 @@ use Rattle.std.proofs.Common.{◌∙◌, ap, subst, map, Bor}
 use Rattle.isle_syntax.specs.declared.ast.Decl.{Decl as DeclTree}
 use Rattle.isle_syntax.specs.declared.ast.Extractor.{Extractor as ExtractorTree}
 use Rattle.isle_terms.specs.Definitions.{ExternalExtractor, declared_names, extractors_in, names_of_terms}
-use Rattle.isle_terms.specs.Collecting.Checks.{Checks, ChecksEach}
-use Rattle.isle_terms.specs.Collecting.DefinitionChecks.{is_ill_extractor, is_ill_name}
-use Rattle.isle_terms.specs.Collecting.DefinitionLists.{host_extractor_shown}
-use Rattle.isle_terms.specs.Collecting.ExtractorChecks.{NamesUnknown, NamesKnown}
-use Rattle.isle_terms.specs.Collecting.ExtractorGraphs.{IsRecursiveAt, IsNotRecursive}
+use Rattle.isle_terms.specs.Inside.Collecting.Checks.{Checks, ChecksEach}
+use Rattle.isle_terms.specs.Inside.Collecting.DefinitionChecks.{is_ill_extractor, is_ill_name}
+use Rattle.isle_terms.specs.Inside.Collecting.DefinitionLists.{host_extractor_shown}
+use Rattle.isle_terms.specs.Inside.Collecting.ExtractorChecks.{NamesUnknown, NamesKnown}
+use Rattle.isle_terms.specs.Inside.Collecting.ExtractorGraphs.{IsRecursiveAt, IsNotRecursive}
 use Rattle.isle_terms.proofs.Collections.Answered.{ok_then}
 use Rattle.isle_terms.proofs.Collections.LaterRules.{extractor_rules_checked}
 use Rattle.isle_terms.proofs.env.stages.check_extractor_rules.Goals as goal

@@ -3,9 +3,9 @@ use Rattle.isle_syntax.specs.declared.ast.Ident.{Ident}
 use Rattle.isle_syntax.specs.declared.ast.Decl.{Decl as DeclTree}
 use Rattle.isle_syntax.specs.declared.ast.Rule.{Rule as RuleTree}
 use Rattle.isle_terms.specs.Definitions.{declared_names, roots_of, rules_in}
-use Rattle.isle_terms.specs.Collecting.Checks.{ChecksEach}
-use Rattle.isle_terms.specs.Collecting.DefinitionChecks.{is_ill_root, is_ill_host, is_ill_marked}
-use Rattle.isle_terms.specs.Collecting.DefinitionLists.{host_constructor_shown}
+use Rattle.isle_terms.specs.Inside.Collecting.Checks.{ChecksEach}
+use Rattle.isle_terms.specs.Inside.Collecting.DefinitionChecks.{is_ill_root, is_ill_host, is_ill_marked}
+use Rattle.isle_terms.specs.Inside.Collecting.DefinitionLists.{host_constructor_shown}
 use Rattle.isle_terms.proofs.Collections.Answered.{ok_then}
 use Rattle.isle_terms.proofs.Collections.FirstRules.{first_rules_checked}
 use Rattle.isle_terms.proofs.env.stages.check_first_rules.Goals as goal

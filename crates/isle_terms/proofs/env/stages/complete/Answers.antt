@@ -3,10 +3,10 @@ use Rattle.std.specs.List.{AllZip}
 use Rattle.isle_types.specs.Names.{AreDistinct}
 use Rattle.isle_terms.specs.TermFaults.{names_of, IsTaken, named_terms, term_twice}
 use Rattle.isle_terms.specs.TypingFaults.{of_declarations}
-use Rattle.isle_terms.specs.Collecting.Checks.{Checks}
-use Rattle.isle_terms.specs.Collecting.NameTables.{IsTableOf}
-use Rattle.isle_terms.specs.Collecting.DeclaredTerms.{IsShownTerm}
-use Rattle.isle_terms.specs.Collecting.NamedItems.{named_shown}
+use Rattle.isle_terms.specs.Inside.Collecting.Checks.{Checks}
+use Rattle.isle_terms.specs.Inside.Collecting.NameTables.{IsTableOf}
+use Rattle.isle_terms.specs.Inside.Collecting.DeclaredTerms.{IsShownTerm}
+use Rattle.isle_terms.specs.Inside.Collecting.NamedItems.{named_shown}
 use Rattle.isle_terms.proofs.Collections.Answered.{fault_then}
 use Rattle.isle_terms.proofs.Collections.CheckedTyping.{checks_wider}
 use Rattle.isle_terms.proofs.Collections.CompletedTerms.{completed, terms_made, completed_names, needs_kept}

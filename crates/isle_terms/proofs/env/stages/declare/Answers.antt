@@ -2,9 +2,9 @@ use Rattle.std.proofs.Common.{◌∙◌, ap, subst, map, Bor}
 use Rattle.isle_syntax.specs.declared.ast.Decl.{Decl as DeclTree}
 use Rattle.isle_syntax.specs.declared.ast.Extractor.{Extractor as ExtractorTree}
 use Rattle.isle_types.specs.TypeFaults.{IsSizeFault}
-use Rattle.isle_terms.specs.Collecting.Checks.{Checks}
-use Rattle.isle_terms.specs.Collecting.DefinitionLists.{host_constructor_shown, host_extractor_shown}
-use Rattle.isle_terms.specs.Collecting.DeclaredTerms.{OneNamesUnknownType, AreDeclaredTerms, IsAlone, IsOneLargeAt}
+use Rattle.isle_terms.specs.Inside.Collecting.Checks.{Checks}
+use Rattle.isle_terms.specs.Inside.Collecting.DefinitionLists.{host_constructor_shown, host_extractor_shown}
+use Rattle.isle_terms.specs.Inside.Collecting.DeclaredTerms.{OneNamesUnknownType, AreDeclaredTerms, IsAlone, IsOneLargeAt}
 use Rattle.isle_terms.proofs.Collections.Answered.{value_then, error_then, fault_then}
 use Rattle.isle_terms.proofs.Collections.CheckedTyping.{checks_wider}
 use Rattle.isle_terms.proofs.Collections.DeclaredFaults.{unknown_types_break, large_is_listed}

@@ -4,9 +4,9 @@ use Rattle.isle_types.specs.Environment.{Environment}
 use Rattle.isle_types.specs.TypeEnvs.{Shows}
 use Rattle.isle_terms.specs.Definitions.{declarations}
 use Rattle.isle_terms.specs.TypingFaults.{BreaksTyping}
-use Rattle.isle_terms.specs.Collecting.Checks.{Checks}
-use Rattle.isle_terms.specs.Collecting.DeclaredTerms.{AreDeclaredTerms}
-use Rattle.isle_terms.specs.Collecting.Parts.{ArePartsOf, AreNamesOf, AreNamedOnce, KeepFirstRules}
+use Rattle.isle_terms.specs.Inside.Collecting.Checks.{Checks}
+use Rattle.isle_terms.specs.Inside.Collecting.DeclaredTerms.{AreDeclaredTerms}
+use Rattle.isle_terms.specs.Inside.Collecting.Parts.{ArePartsOf, AreNamesOf, AreNamedOnce, KeepFirstRules}
 use Rattle.isle_terms.proofs.Collections.Answered.{ok_always, fault_then}
 use Rattle.isle_terms.proofs.Collections.Checking.{check_both}
 use Rattle.isle_terms.proofs.Collections.DeclaredFaults.{broken_is_listed, kept_by_none}

@@ -7,8 +7,8 @@ use Rattle.isle_terms.specs.declared.terms.Term.{Term}
 use Rattle.isle_terms.specs.Signatures.{Signature}
 use Rattle.isle_terms.specs.Definitions.{names_of_terms}
 use Rattle.isle_terms.specs.Shown.ShownTerms.{term_at}
-use Rattle.isle_terms.specs.Collecting.DeclaredTerms.{IsShownTerm, number_named}
-use Rattle.isle_terms.specs.Collecting.TermSymbols.{HasSymbolsOf}
+use Rattle.isle_terms.specs.Inside.Collecting.DeclaredTerms.{IsShownTerm, number_named}
+use Rattle.isle_terms.specs.Inside.Collecting.TermSymbols.{HasSymbolsOf}
 use Rattle.isle_terms.proofs.env.term_numbers.numbers.Given as goal
 
 abbrev pub invariant-loop-term : goal.invariant-loop-term

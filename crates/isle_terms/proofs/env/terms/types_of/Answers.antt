@@ -1,7 +1,7 @@
 use Rattle.std.proofs.Common.{subst}
 use Rattle.isle_syntax.specs.Errors.{IfFault}
 use Rattle.isle_types.specs.TypeFaults.{IsTypeFault}
-use Rattle.isle_terms.specs.Collecting.DeclaredTerms.{IsOneUnknownAt, IsUnknownTypeAt, NamesUnknownType, of_argument, of_result, IsLargeAt}
+use Rattle.isle_terms.specs.Inside.Collecting.DeclaredTerms.{IsOneUnknownAt, IsUnknownTypeAt, NamesUnknownType, of_argument, of_result, IsLargeAt}
 use Rattle.isle_terms.proofs.Collections.WiderFaults.{refusal_wider}
 use Rattle.isle_terms.proofs.env.terms.types_of.Goals as goal
 

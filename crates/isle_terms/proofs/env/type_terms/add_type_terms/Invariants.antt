@@ -3,7 +3,7 @@ use Rattle.isle_types.specs.IntTypes.{builtin_names}
 use Rattle.isle_types.specs.Environment.{Environment}
 use Rattle.isle_types.specs.TypeEnvs.{Shows}
 use Rattle.isle_terms.specs.Definitions.{terms_of_types}
-use Rattle.isle_terms.specs.Collecting.DeclaredTerms.{AddsTerms}
+use Rattle.isle_terms.specs.Inside.Collecting.DeclaredTerms.{AddsTerms}
 use Rattle.isle_terms.proofs.env.type_terms.add_type_terms.Given as goal
 
 abbrev pub invariant-loop-ty : goal.invariant-loop-ty

@@ -2,7 +2,7 @@ use Rattle.std.proofs.Common.{ℕ, List, take}
 use Rattle.isle_types.specs.Environment.{NamedVariant}
 use Rattle.isle_types.specs.TypeEnvs.{AreShownVariants}
 use Rattle.isle_terms.specs.Definitions.{variant_terms}
-use Rattle.isle_terms.specs.Collecting.DeclaredTerms.{AddsTerms}
+use Rattle.isle_terms.specs.Inside.Collecting.DeclaredTerms.{AddsTerms}
 use Rattle.isle_terms.proofs.env.type_terms.add_variant_terms.Given as goal
 
 abbrev pub invariant-loop-variant : goal.invariant-loop-variant

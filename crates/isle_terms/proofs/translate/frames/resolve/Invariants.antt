@@ -1,6 +1,6 @@
 use Rattle.std.proofs.Common.{◌≡◌, map}
 use Rattle.isle_syntax.specs.Trees.PatternShape.{pattern_of}
-use Rattle.isle_terms.specs.Readings.Frames.{put, tree_given, frames_of}
+use Rattle.isle_terms.specs.Inside.Readings.Frames.{put, tree_given, frames_of}
 use Rattle.isle_terms.proofs.translate.frames.resolve.Given as goal
 
 abbrev pub invariant-loop-at : goal.invariant-loop-at

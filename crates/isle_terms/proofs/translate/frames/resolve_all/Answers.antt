@@ -1,6 +1,6 @@
 use Rattle.std.proofs.Common.{◌∷◌, [], map, ap, ◌∙◌, arith}
 use Rattle.std.proofs.lemmas.List.{map-append}
-use Rattle.isle_terms.specs.Readings.Frames.{tree_given}
+use Rattle.isle_terms.specs.Inside.Readings.Frames.{tree_given}
 use Rattle.isle_terms.proofs.Steps.Frames.{put_more, put_done}
 use Rattle.isle_terms.proofs.translate.frames.resolve_all.Goals as goal
 

@@ -1,9 +1,9 @@
 use Rattle.std.proofs.Common.{◌≡◌, ◌+◌, ◌*◌, map, drop}
-use Rattle.isle_terms.specs.Readings.Outcomes.{each_pattern}
+use Rattle.isle_terms.specs.Inside.Readings.Outcomes.{each_pattern}
 use Rattle.isle_terms.specs.Shown.ShownTerms.{numbers_of}
 use Rattle.isle_terms.specs.Shown.ShownRules.{typed_shown}
-use Rattle.isle_terms.specs.Readings.Frames.{trees_given}
-use Rattle.isle_terms.specs.Readings.PatternReading.{reads_in, HaveKnownSymbols}
+use Rattle.isle_terms.specs.Inside.Readings.Frames.{trees_given}
+use Rattle.isle_terms.specs.Inside.Readings.PatternReading.{reads_in, HaveKnownSymbols}
 use Rattle.isle_terms.proofs.Steps.PatternSteps.{after}
 use Rattle.isle_terms.proofs.translate.patterns.+pattern.Given as goal
 

@@ -1,9 +1,9 @@
 use Rattle.std.proofs.Common.{◌≡◌, sym, ap, ◌∙◌}
 use Rattle.isle_syntax.specs.Trees.PatternShape.{patterns_of}
-use Rattle.isle_terms.specs.Readings.Outcomes.{each_pattern}
+use Rattle.isle_terms.specs.Inside.Readings.Outcomes.{each_pattern}
 use Rattle.isle_terms.specs.Shown.ShownTerms.{numbers_of}
-use Rattle.isle_terms.specs.Readings.Frames.{trees_given}
-use Rattle.isle_terms.specs.Readings.PatternReading.{reads_in}
+use Rattle.isle_terms.specs.Inside.Readings.Frames.{trees_given}
+use Rattle.isle_terms.specs.Inside.Readings.PatternReading.{reads_in}
 use Rattle.isle_terms.proofs.Steps.Frames.{put_nothing_in}
 use Rattle.isle_terms.proofs.Steps.PatternSteps.{each_ok_along, err_along, parts_counted}
 use Rattle.isle_terms.proofs.translate.patterns.translate_args.Goals as goal

@@ -1,9 +1,9 @@
 use Rattle.std.proofs.Common.{◌∷◌, [], map, length, ap, ◌∙◌}
 use Rattle.std.proofs.lemmas.List.{map-append}
-use Rattle.isle_terms.specs.Readings.RuleOutcomes.{read_conditions}
+use Rattle.isle_terms.specs.Inside.Readings.RuleOutcomes.{read_conditions}
 use Rattle.isle_terms.specs.Shown.ShownTerms.{flags_shown}
 use Rattle.isle_terms.specs.Shown.ShownRules.{iflet_shown}
-use Rattle.isle_terms.specs.Readings.Contexts.{known_in}
+use Rattle.isle_terms.specs.Inside.Readings.Contexts.{known_in}
 use Rattle.isle_terms.specs.Shown.RulesShown.{iflet_limit}
 use Rattle.isle_terms.proofs.Steps.ExprSteps.{greatest_pushed}
 use Rattle.isle_terms.proofs.Steps.ConditionSteps.{next_met}

@@ -1,8 +1,8 @@
 use Rattle.std.proofs.Common.{◌≡◌, ◌≤◌, map, drop, length}
-use Rattle.isle_terms.specs.Readings.RuleOutcomes.{read_conditions}
+use Rattle.isle_terms.specs.Inside.Readings.RuleOutcomes.{read_conditions}
 use Rattle.isle_terms.specs.Shown.ShownTerms.{flags_shown}
 use Rattle.isle_terms.specs.Shown.ShownRules.{iflet_shown, greatest}
-use Rattle.isle_terms.specs.Readings.Contexts.{known_in}
+use Rattle.isle_terms.specs.Inside.Readings.Contexts.{known_in}
 use Rattle.isle_terms.specs.Shown.RulesShown.{iflet_limit}
 use Rattle.isle_terms.proofs.Steps.ConditionSteps.{after_conditions}
 use Rattle.isle_terms.proofs.translate.rules.translate_conditions.Given as goal

@@ -3,7 +3,7 @@ use Rattle.std.proofs.lemmas.List.{take_all}
 use Rattle.isle_syntax.specs.declared.ast.Def.{Def}
 use Rattle.isle_types.specs.TypeTables.{TypeTables}
 use Rattle.isle_types.specs.Names.{position_of, AreDistinct}
-use Rattle.isle_types.specs.Readings.{HasTypeNames}
+use Rattle.isle_types.specs.Inside.Readings.{HasTypeNames}
 use Rattle.isle_types.proofs.DefinitionTurns.{no_type}
 use Rattle.isle_types.specs.Environment.{as_type, type_names}
 use Rattle.isle_types.proofs.NamingTurns.{NamedSoFar, named_at_start, named_passing, named_newly, named_again}

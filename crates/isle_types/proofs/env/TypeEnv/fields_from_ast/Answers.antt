@@ -3,7 +3,7 @@ use Rattle.isle_syntax.specs.declared.ast.StructField.{StructField as StructFiel
 use Rattle.isle_types.specs.Names.{AreDistinct}
 use Rattle.isle_syntax.specs.Errors.{IfFault}
 use Rattle.std.proofs.lemmas.Result.{err_from_is_err_and}
-use Rattle.isle_types.specs.Readings.{ReadsFields, ReadsTupleFields, IsStructFieldsFault, IsTupleFieldsFault}
+use Rattle.isle_types.specs.Inside.Readings.{ReadsFields, ReadsTupleFields, IsStructFieldsFault, IsTupleFieldsFault}
 use Rattle.isle_types.proofs.ReportedFaults.{reported_then}
 use Rattle.isle_types.proofs.TypeReadings.{struct_list, tuple_list, type_fault_reads}
 use Rattle.isle_types.proofs.env.TypeEnv.fields_from_ast.Goals as goal

@@ -3,7 +3,7 @@ use Rattle.std.specs.Option.{option_map}
 use Rattle.isle_types.specs.Names.{position_of}
 use Rattle.isle_types.specs.TypeTables.{TypeTables}
 use Rattle.isle_types.specs.TypeEnvs.{type_at, type_of_name}
-use Rattle.isle_types.specs.Readings.{HasTypeNames}
+use Rattle.isle_types.specs.Inside.Readings.{HasTypeNames}
 use Rattle.isle_types.proofs.Tables.{either_way, symbol_here}
 use Rattle.isle_types.proofs.FieldReadings.{named_kept}
 use Rattle.isle_types.proofs.Naming.{entry_of_name, named_given, interned_after, known_from_entry, places_taken, names_given}

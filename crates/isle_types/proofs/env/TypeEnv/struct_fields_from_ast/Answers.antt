@@ -7,7 +7,7 @@ use Rattle.std.proofs.lemmas.List.{take_all}
 use Rattle.isle_syntax.specs.declared.ast.StructField.{StructField as StructFieldTree}
 use Rattle.isle_types.specs.declared.types.StructField.{StructField}
 use Rattle.isle_types.specs.TypeFaults.{FieldsBreak, field_twice, unknown_field_type}
-use Rattle.isle_types.specs.Readings.{ReadsFields}
+use Rattle.isle_types.specs.Inside.Readings.{ReadsFields}
 use Rattle.isle_types.proofs.ReportedFaults.{reported_then}
 use Rattle.isle_types.proofs.Tables.{more_then}
 use Rattle.isle_types.proofs.NamedItems.{named_more}

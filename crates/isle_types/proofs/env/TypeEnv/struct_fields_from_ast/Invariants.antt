@@ -3,7 +3,7 @@ use Rattle.std.specs.List.{AllZip}
 use Rattle.isle_syntax.specs.declared.ast.StructField.{StructField as StructFieldTree}
 use Rattle.isle_types.specs.declared.types.StructField.{StructField}
 use Rattle.isle_types.specs.TypeEnvs.{HasMoreNames}
-use Rattle.isle_types.specs.Readings.{HasTypeNames, ReadsFields}
+use Rattle.isle_types.specs.Inside.Readings.{HasTypeNames, ReadsFields}
 use Rattle.isle_types.proofs.env.TypeEnv.struct_fields_from_ast.Given as goal
 
 abbrev pub invariant-loop-field : goal.invariant-loop-field

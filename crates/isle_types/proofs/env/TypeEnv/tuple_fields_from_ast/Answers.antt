@@ -5,7 +5,7 @@ use Rattle.std.proofs.lemmas.List.{take_all}
 use Rattle.std.specs.Option.{option_map}
 use Rattle.isle_syntax.specs.declared.ast.TupleField.{TupleField as TupleFieldTree}
 use Rattle.isle_types.specs.TypeFaults.{FieldsBreak, unknown_field_type}
-use Rattle.isle_types.specs.Readings.{ReadsTupleFields}
+use Rattle.isle_types.specs.Inside.Readings.{ReadsTupleFields}
 use Rattle.isle_types.proofs.ReportedFaults.{reported_then}
 use Rattle.isle_types.proofs.FieldReadings.{tuple_field_more, known_place, unknown_place, fault_at}
 use Rattle.isle_types.proofs.env.TypeEnv.tuple_fields_from_ast.Goals as goal

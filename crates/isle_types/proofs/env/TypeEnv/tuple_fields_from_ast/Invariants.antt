@@ -1,5 +1,5 @@
 use Rattle.std.proofs.Common.{ℕ, List, take}
-use Rattle.isle_types.specs.Readings.{HasTypeNames, ReadsTupleFields}
+use Rattle.isle_types.specs.Inside.Readings.{HasTypeNames, ReadsTupleFields}
 use Rattle.isle_types.proofs.env.TypeEnv.tuple_fields_from_ast.Given as goal
 
 abbrev pub invariant-loop-field : goal.invariant-loop-field

@@ -4,7 +4,7 @@ use Rattle.isle_syntax.specs.declared.ast.Variant.{Variant as VariantTree}
 use Rattle.isle_types.specs.declared.types.Variant.{Variant}
 use Rattle.isle_types.specs.Environment.{HaveAllowedSizes}
 use Rattle.isle_types.specs.TypeEnvs.{HasMoreNames}
-use Rattle.isle_types.specs.Readings.{HasTypeNames, ReadsVariants}
+use Rattle.isle_types.specs.Inside.Readings.{HasTypeNames, ReadsVariants}
 use Rattle.isle_types.proofs.env.TypeEnv.variants_from_ast.Given as goal
 
 abbrev pub invariant-loop-variant : goal.invariant-loop-variant

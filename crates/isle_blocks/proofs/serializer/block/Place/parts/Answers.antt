@@ -1,7 +1,7 @@
 use Rattle.std.proofs.Common.{◌≡◌, ◌+◌, Some, slice_get, ap, ◌∙◌, arith}
 use Rattle.std.proofs.lemmas.Grind.{common_steps}
 use Rattle.std.proofs.lemmas.Option.{gets}
-use Rattle.isle_blocks.specs.Trees.Ends.{here}
+use Rattle.isle_blocks.specs.Trees.Places.{here}
 use Rattle.isle_blocks.proofs.Trees.Ending.{here_end}
 use Rattle.isle_blocks.proofs.Trees.Returns.{returned_by}
 use Rattle.isle_blocks.proofs.serializer.block.Place.parts.Goals as goal

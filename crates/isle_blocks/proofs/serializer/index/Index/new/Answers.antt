@@ -4,7 +4,7 @@ use Rattle.isle_trees.specs.Search.{IsAskedBy}
 use Rattle.isle_blocks.specs.declared.ids.BindingId.{BindingId}
 use Rattle.isle_trees.proofs.Building.Asked.{index_of}
 use Rattle.isle_blocks.specs.Rows.{numbers_of}
-use Rattle.isle_blocks.specs.Trees.Builder.{items_at, rules_in}
+use Rattle.isle_blocks.specs.Inside.Trees.Builder.{items_at, rules_in}
 use Rattle.isle_blocks.proofs.Trees.Indexed.{made_below}
 use Rattle.isle_blocks.proofs.serializer.index.Index.new.Goals as goal
 

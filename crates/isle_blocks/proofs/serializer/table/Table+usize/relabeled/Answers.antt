@@ -1,6 +1,6 @@
 use Rattle.std.proofs.Common.{arith, ap, ◌∙◌, map, length, ◌≡◌, ℕ, take}
 use Rattle.std.proofs.Math.Seq.{take-length}
-use Rattle.isle_blocks.specs.Trees.Work.{relabel}
+use Rattle.isle_blocks.specs.Inside.Trees.Work.{relabel}
 use Rattle.isle_blocks.proofs.Trees.Tables.{all_mapped}
 use Rattle.isle_blocks.proofs.serializer.table.Table+usize.relabeled.Goals as goal
 

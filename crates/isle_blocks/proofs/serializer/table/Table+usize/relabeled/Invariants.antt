@@ -1,5 +1,5 @@
 use Rattle.std.proofs.Common.{◌≡◌, map, take}
-use Rattle.isle_blocks.specs.Trees.Work.{relabel}
+use Rattle.isle_blocks.specs.Inside.Trees.Work.{relabel}
 use Rattle.isle_blocks.proofs.serializer.table.Table+usize.relabeled.Given as goal
 
 abbrev pub invariant-loop-row : goal.invariant-loop-row

@@ -1,5 +1,5 @@
 use Rattle.std.proofs.Common.{sym, ap, subst, ◌∙◌, ◌≡◌}
-use Rattle.isle_blocks.specs.Trees.Tables.{AreRows, joined}
+use Rattle.isle_blocks.specs.Inside.Trees.Tables.{AreRows, joined}
 use Rattle.isle_blocks.proofs.Trees.Tables.{copies_same}
 use Rattle.isle_blocks.proofs.serializer.table.Table.copy.Goals as goal
 

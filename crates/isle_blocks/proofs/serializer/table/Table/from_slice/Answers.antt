@@ -1,5 +1,5 @@
 use Rattle.std.proofs.Common.{arith, sym, ap, subst, ◌∙◌, ◌∷◌, [], map, ◌-◌, ◌+◌, ◌≡◌, take, drop}
-use Rattle.isle_blocks.specs.Trees.Tables.{IsCut}
+use Rattle.isle_blocks.specs.Inside.Trees.Tables.{IsCut}
 use Rattle.isle_blocks.proofs.Trees.Tables.{cut_more}
 use Rattle.std.proofs.lemmas.List.{map-append}
 use Rattle.isle_blocks.proofs.serializer.table.Table.from_slice.Goals as goal

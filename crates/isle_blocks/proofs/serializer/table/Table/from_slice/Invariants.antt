@@ -1,5 +1,5 @@
 use Rattle.std.proofs.Common.{length, ◌-◌, map}
-use Rattle.isle_blocks.specs.Trees.Tables.{IsCut}
+use Rattle.isle_blocks.specs.Inside.Trees.Tables.{IsCut}
 use Rattle.isle_blocks.proofs.serializer.table.Table.from_slice.Given as goal
 
 abbrev pub invariant-rows : goal.invariant-rows

@@ -1,5 +1,5 @@
 use Rattle.std.proofs.Common.{subst, ◌∙◌}
-use Rattle.isle_run.specs.Stores.Tables.{IsFound}
+use Rattle.isle_run.specs.Inside.Stores.Tables.{IsFound}
 use Rattle.isle_run.proofs.Stores.Tables.{found_of}
 use Rattle.isle_run.proofs.calls.store.Store.find.Goals as goal
 

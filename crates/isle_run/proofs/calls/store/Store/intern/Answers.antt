@@ -1,7 +1,7 @@
 use Rattle.std.proofs.Common.{◌≡◌, ◌++◌, ◌∷◌, [], ℕ, Some, length, slice_get, sym, subst, ap, ◌∙◌}
 use Rattle.isle_types.proofs.Lists.{slice_get-last}
 use Rattle.isle_run.specs.contracts.calls.store.StoredOrd.TheImpl as order
-use Rattle.isle_run.specs.Stores.Tables.{AreNumbered}
+use Rattle.isle_run.specs.Inside.Stores.Tables.{AreNumbered}
 use Rattle.isle_run.proofs.Stores.Tables.{numbered_more, clone-same}
 use Rattle.isle_run.proofs.calls.store.Store.intern.Goals as goal
 

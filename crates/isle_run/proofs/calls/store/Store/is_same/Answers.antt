@@ -2,7 +2,7 @@ use Rattle.std.proofs.Common.{sym, subst}
 use Rattle.std.proofs.lemmas.Bool.Decides.{Decides-eqb}
 use Rattle.isle_types.specs.Names.{AreDistinct}
 use Rattle.isle_meaning.specs.Values.{Value}
-use Rattle.isle_run.specs.Stores.Values.{Stands}
+use Rattle.isle_run.specs.Inside.Stores.Values.{Stands}
 use Rattle.isle_run.proofs.GroundValues.EqualNodes.{through}
 use Rattle.isle_run.proofs.Stores.Tables.{numbered_once}
 use Rattle.isle_run.proofs.Stores.Values.{stands_one, stands_once}

@@ -7,8 +7,8 @@ use Rattle.isle_terms.specs.Values.{value_list}
 use Rattle.isle_meaning.specs.ValueTypes.{IsOfType, AreOfTypes}
 use Rattle.isle_meaning.specs.GroundValues.{value_of, values_of}
 use Rattle.isle_run.specs.Programs.{value_facts, types_of, number_of}
-use Rattle.isle_run.specs.Stores.Values.{StandEach}
-use Rattle.isle_run.specs.Stores.Printing.{printed}
+use Rattle.isle_run.specs.Inside.Stores.Values.{StandEach}
+use Rattle.isle_run.specs.Inside.Stores.Printing.{printed}
 use Rattle.isle_run.proofs.SoundPrograms.Known.{sound_of}
 use Rattle.isle_run.proofs.Stores.Steps.{next_typed, as_many, trees_listed}
 use Rattle.isle_run.proofs.Stores.Printing.{tree_printed}

@@ -3,7 +3,7 @@ use Rattle.isle_terms.specs.Values.{ValueTree, value_list}
 use Rattle.isle_meaning.specs.ValueTypes.{AreOfTypes}
 use Rattle.isle_meaning.specs.GroundValues.{values_of}
 use Rattle.isle_run.specs.Programs.{value_facts, number_of}
-use Rattle.isle_run.specs.Stores.Values.{StandEach}
+use Rattle.isle_run.specs.Inside.Stores.Values.{StandEach}
 use Rattle.isle_run.proofs.calls.store.Store.print_all.Given as goal
 
 -- the values so far are the first of those of the types that the numbers stand for

@@ -7,7 +7,7 @@ use Rattle.isle_run.specs.declared.calls.store.Stored.{Stored}
 use Rattle.isle_run.specs.declared.values.Node.{Node}
 use Rattle.isle_run.specs.Values.Nodes.{nodes_of, values_in}
 use Rattle.isle_run.specs.Programs.{value_facts}
-use Rattle.isle_run.specs.Stores.Values.{StandEach}
+use Rattle.isle_run.specs.Inside.Stores.Values.{StandEach}
 use Rattle.isle_run.proofs.Stores.Values.{extends_again}
 use Rattle.isle_run.proofs.Stores.Sharing.{reverse_pushed, next_from_end, last_stands}
 use Rattle.isle_run.proofs.calls.store.Store.share.Goals as goal

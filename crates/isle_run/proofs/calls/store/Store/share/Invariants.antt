@@ -2,7 +2,7 @@ use Rattle.std.proofs.Common.{◌-◌, length, drop, reverse}
 use Rattle.isle_meaning.specs.GroundValues.{values_of}
 use Rattle.isle_run.specs.Values.Nodes.{values_in}
 use Rattle.isle_run.specs.Programs.{value_facts}
-use Rattle.isle_run.specs.Stores.Values.{StandEach, Extends}
+use Rattle.isle_run.specs.Inside.Stores.Values.{StandEach, Extends}
 use Rattle.isle_run.proofs.calls.store.Store.share.Given as goal
 
 -- the numbers from the last on stand for the values of the last nodes

@@ -3,7 +3,7 @@ use Rattle.std.proofs.lemmas.List.{take_more}
 use Rattle.isle_terms.specs.Values.{value_list}
 use Rattle.isle_meaning.specs.GroundValues.{values_of}
 use Rattle.isle_run.specs.Programs.{value_facts}
-use Rattle.isle_run.specs.Stores.Values.{StandEach}
+use Rattle.isle_run.specs.Inside.Stores.Values.{StandEach}
 use Rattle.isle_run.proofs.Stores.Values.{extends_again, stand_longer}
 use Rattle.isle_run.proofs.Stores.Sharing.{more_stand}
 use Rattle.isle_run.proofs.calls.store.Store.share_all.Goals as goal

@@ -2,7 +2,7 @@ use Rattle.std.proofs.Common.{take}
 use Rattle.isle_terms.specs.Values.{value_list}
 use Rattle.isle_meaning.specs.GroundValues.{values_of}
 use Rattle.isle_run.specs.Programs.{value_facts}
-use Rattle.isle_run.specs.Stores.Values.{StandEach, Extends}
+use Rattle.isle_run.specs.Inside.Stores.Values.{StandEach, Extends}
 use Rattle.isle_run.proofs.calls.store.Store.share_all.Given as goal
 
 -- the numbers stand for the values so far

@@ -1,6 +1,6 @@
 use Rattle.std.proofs.Common.{◌∷◌, reverse, option_copied, sym, ap, subst, ◌∙◌}
 use Rattle.isle_run.specs.Programs.{value_facts, types_of}
-use Rattle.isle_run.specs.Stores.Printing.{Leads}
+use Rattle.isle_run.specs.Inside.Stores.Printing.{Leads}
 use Rattle.isle_run.proofs.Stores.Values.{stands_there}
 use Rattle.isle_run.proofs.calls.store.Store.take_step.Goals as goal
 

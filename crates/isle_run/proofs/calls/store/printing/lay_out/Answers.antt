@@ -3,13 +3,13 @@ use Rattle.std.specs.Prelude.{FitsSigned}
 use Rattle.std.specs.Int.{w128}
 use Rattle.std.proofs.lemmas.Int.{to_z-of_z}
 use Rattle.std.proofs.lemmas.Result.{IfOk-weaker}
-use Rattle.isle_terms.specs.Values.{const_value, data_value, more_values}
+use Rattle.isle_terms.specs.Values.{const_tree, data_tree, more_trees}
 use Rattle.isle_meaning.specs.Values.{bool_value, int_value, constant_value, opaque_value}
 use Rattle.isle_run.specs.Values.Nodes.{nodes_of}
 use Rattle.isle_run.specs.Programs.{value_facts, types_of}
 use Rattle.isle_run.specs.Values.Settled.{field_types}
-use Rattle.isle_run.specs.Stores.Values.{StandEach}
-use Rattle.isle_run.specs.Stores.Printing.{printed, printed_int, printed_all, Leads}
+use Rattle.isle_run.specs.Inside.Stores.Values.{StandEach}
+use Rattle.isle_run.specs.Inside.Stores.Printing.{printed, printed_int, printed_all, Leads}
 use Rattle.isle_run.proofs.Stores.Steps.{leaf_put, leaf_leads, data_leads}
 use Rattle.isle_run.proofs.Stores.Values.{variant_stands, struct_stands}
 use Rattle.isle_run.proofs.calls.store.printing.lay_out.Goals as goal
@@ -40,7 +40,7 @@ returns-in_ok-clone-in-Const c =
     IfOk-weaker c.put_leaf-in-Const.result _ _ (λ x laid store v n made at is leads.
     leaf_leads (value_facts c.args.program.now) (types_of c.args.program.now) store v (constant_value c.in-Const.name) n c.args.ty.0
     (reverse c.args.left.now.items) c.args.laid.now c.put_leaf-in-Const.new.self made is (at ∙ ap Some c.in-Const.is)
-    (laid ∙ ap (λ name. more_values (const_value name) c.args.laid.now) same) leads) c.put_leaf-in-Const.ensures
+    (laid ∙ ap (λ name. more_trees (const_tree name) c.args.laid.now) same) leads) c.put_leaf-in-Const.ensures
 
 pub returns-in-Opaque : goal.returns-in-Opaque
 returns-in-Opaque c =
@@ -59,11 +59,11 @@ returns-in-Variant c =
     let (vs, each, same) =
     variant_stands store v n c.in-Variant.of c.in-Variant.variant c.in-Variant.fields (at ∙ ap Some c.in-Variant.is) is in
     let tree = ap (λ w. printed facts env w c.args.ty.0) same
-    ∙ ap (λ name. data_value name (printed_all facts env vs (field_types (facts.data_named name)))) (sym c.variant_name.ensures) in
+    ∙ ap (λ name. data_tree name (printed_all facts env vs (field_types (facts.data_named name)))) (sym c.variant_name.ensures) in
     data_leads facts env store vs fields
     (field_types (facts.data_named name)) name c.args.left.now.items c.put_off.new.left.items c.args.laid.now made
     (subst (StandEach store vs) (sym c.as_slice.ensures) each) steps
-    (subst (λ t. Leads facts env store (reverse c.args.left.now.items) (more_values t c.args.laid.now) made) tree leads)) c.put_off.ensures
+    (subst (λ t. Leads facts env store (reverse c.args.left.now.items) (more_trees t c.args.laid.now) made) tree leads)) c.put_off.ensures
 
 pub returns-in-Struct : goal.returns-in-Struct
 returns-in-Struct c =
@@ -74,8 +74,8 @@ returns-in-Struct c =
     IfOk-weaker c.put_off-in-Struct.result _ _ (λ x steps store v n made at is leads.
     let (vs, each, same) = struct_stands store v n c.in-Struct.of c.in-Struct.fields (at ∙ ap Some c.in-Struct.is) is in
     let tree = ap (λ w. printed facts env w c.args.ty.0) same
-    ∙ ap (λ name. data_value name (printed_all facts env vs (field_types (facts.data_named name)))) (sym c.struct_name.ensures) in
+    ∙ ap (λ name. data_tree name (printed_all facts env vs (field_types (facts.data_named name)))) (sym c.struct_name.ensures) in
     data_leads facts env store vs fields (field_types (facts.data_named name)) name c.args.left.now.items c.put_off-in-Struct.new.left.items
     c.args.laid.now made (subst (StandEach store vs) (sym c.as_slice-in-Struct.ensures) each) steps
-    (subst (λ t. Leads facts env store (reverse c.args.left.now.items) (more_values t c.args.laid.now) made) tree leads))
+    (subst (λ t. Leads facts env store (reverse c.args.left.now.items) (more_trees t c.args.laid.now) made) tree leads))
     c.put_off-in-Struct.ensures

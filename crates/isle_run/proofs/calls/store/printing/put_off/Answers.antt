@@ -5,7 +5,7 @@ use Rattle.isle_types.proofs.Lists.{taken_more}
 use Rattle.isle_types.specs.TypeEnvs.{type_at}
 use Rattle.isle_run.specs.declared.calls.store.printing.Step.TheVariants.{Number, Data}
 use Rattle.isle_run.specs.Programs.{number_of}
-use Rattle.isle_run.specs.Stores.Printing.{field_steps}
+use Rattle.isle_run.specs.Inside.Stores.Printing.{field_steps}
 use Rattle.isle_run.proofs.Stores.Steps.{step_at, many_steps}
 use Rattle.isle_run.proofs.calls.store.printing.put_off.Goals as goal
 

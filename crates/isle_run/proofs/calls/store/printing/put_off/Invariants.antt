@@ -1,6 +1,6 @@
 use Rattle.std.proofs.Common.{◌≡◌, ◌++◌, take, map}
 use Rattle.isle_run.specs.Programs.{number_of}
-use Rattle.isle_run.specs.Stores.Printing.{field_steps}
+use Rattle.isle_run.specs.Inside.Stores.Printing.{field_steps}
 use Rattle.isle_run.proofs.calls.store.printing.put_off.Given as goal
 
 -- the steps of so many fields

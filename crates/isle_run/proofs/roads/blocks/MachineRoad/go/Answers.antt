@@ -2,8 +2,8 @@ use Rattle.std.proofs.Common.{◌≡◌, ◌∷◌, [], List, None, refl, sym, s
 use Rattle.std.proofs.lemmas.List.{append-nil}
 use Rattle.std.proofs.lemmas.Result.{IfOk-weaker}
 use Rattle.isle_meaning.specs.Worlds.{Event}
-use Rattle.isle_run.specs.Blocks.Frames.{CallBegins, IsFrameOf, tree_way}
-use Rattle.isle_run.specs.Calls.Ways.{TurnsTo}
+use Rattle.isle_run.specs.Inside.Blocks.Frames.{CallBegins, IsFrameOf, tree_way}
+use Rattle.isle_run.specs.Inside.Calls.Ways.{TurnsTo}
 use Rattle.isle_run.proofs.Blocks.Going.{no_items}
 use Rattle.isle_run.proofs.Blocks.Waiting.{frame_has_begun}
 use Rattle.isle_run.proofs.Blocks.Walking.{frame_checks, frame_opened, frame_skips}

@@ -1,6 +1,6 @@
 -- The bindings from the place on are of other sites, so those before it tell.
 use Rattle.std.proofs.Common.{◌≡◌, ◌≤◌, length, reverse, take}
-use Rattle.isle_run.specs.Blocks.Bounds.{place_in}
+use Rattle.isle_run.specs.Inside.Blocks.Bounds.{place_in}
 use Rattle.isle_run.proofs.roads.blocks.bound.place_among.Given as goal
 
 abbrev pub invariant-loop-place : goal.invariant-loop-place

@@ -3,7 +3,7 @@ use Rattle.std.specs.Option.{option_map}
 use Rattle.isle_blocks.specs.RuleSets.{RulesOverSites}
 use Rattle.isle_blocks.specs.Trees.Shown.{BlockShown}
 use Rattle.isle_run.specs.declared.roads.blocks.frame.At.TheVariants.{Steps as AtSteps}
-use Rattle.isle_run.specs.Blocks.Frames.{BeginsAt, found_in}
+use Rattle.isle_run.specs.Inside.Blocks.Frames.{BeginsAt, found_in}
 use Rattle.isle_run.proofs.roads.blocks.frame.start.Goals as goal
 
 pub returns-in-Some : goal.returns-in-Some

@@ -1,5 +1,5 @@
 use Rattle.std.proofs.Common.{◌++◌, subst}
-use Rattle.isle_run.specs.Plain.Frames.{FrameEnds}
+use Rattle.isle_run.specs.Inside.Plain.Frames.{FrameEnds}
 use Rattle.isle_run.proofs.roads.plain.DriverRoad.go.Goals as goal
 
 pub returns-in-On-clause-turned : goal.returns-in-On-clause-turned

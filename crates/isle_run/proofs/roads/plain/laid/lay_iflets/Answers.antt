@@ -4,7 +4,7 @@ use Rattle.std.proofs.lemmas.List.{take_all}
 use Rattle.std.proofs.lemmas.Slice.Zip.{all_zipped_more}
 use Rattle.isle_types.proofs.DefinitionTurns.{take_here}
 use Rattle.isle_terms.specs.declared.rules.IfLet.{IfLet as Condition}
-use Rattle.isle_run.specs.Plain.LaidOut.Words.{IsLaidOut}
+use Rattle.isle_run.specs.Inside.Plain.LaidOut.Words.{IsLaidOut}
 use Rattle.isle_run.specs.declared.roads.plain.laid.Laid.{Laid as LaidExpr}
 use Rattle.isle_run.proofs.roads.plain.laid.lay_iflets.Goals as goal
 

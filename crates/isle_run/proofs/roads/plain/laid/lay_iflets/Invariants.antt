@@ -2,7 +2,7 @@ use Rattle.std.proofs.Common.{take}
 use Rattle.std.specs.List.{AllZip}
 use Rattle.isle_types.specs.TypeTables.{TypeTables}
 use Rattle.isle_terms.specs.declared.rules.IfLet.{IfLet as Condition}
-use Rattle.isle_run.specs.Plain.LaidOut.Words.{IsLaidOut}
+use Rattle.isle_run.specs.Inside.Plain.LaidOut.Words.{IsLaidOut}
 use Rattle.isle_run.specs.declared.roads.plain.laid.Laid.{Laid as LaidExpr}
 use Rattle.isle_run.proofs.roads.plain.laid.lay_iflets.Given as goal
 

@@ -1,5 +1,5 @@
 use Rattle.std.proofs.Common.{reverse, sym, ap, ◌∙◌}
-use Rattle.isle_terms.specs.Values.{more_values, no_values}
+use Rattle.isle_terms.specs.Values.{more_trees, no_trees}
 use Rattle.isle_run.specs.Values.Nodes.{values_in, head_value}
 use Rattle.isle_run.proofs.GroundValues.Laying.{laid_out}
 use Rattle.isle_run.proofs.Stores.Laying.{one_laid, turned}
@@ -23,4 +23,4 @@ returns-clause-some c =
     (sym c.self.inside.behind.ok.0 ∙ sym c.len.ensures ∙ c.if-len-ne1.false) in
     let round = turned nodes c.reverse.new.self c.self.inside.nodes.len
     (c.reverse.ensures.after ∙ ap reverse c.as_mut_slice.ensures.value) c.self.inside.nodes.ok.0 in
-    sym c.self.view_is ∙ values ∙ ap (λ w. more_values w no_values) (sym (ap (λ l. head_value (values_in l)) round ∙ ap head_value values))
+    sym c.self.view_is ∙ values ∙ ap (λ w. more_trees w no_trees) (sym (ap (λ l. head_value (values_in l)) round ∙ ap head_value values))

@@ -1,5 +1,5 @@
 use Rattle.std.proofs.Common.{◌-◌, ◌++◌, ◌∷◌, [], min, take, get_or, unwrap_or, ap, ◌∙◌, arith}
-use Rattle.isle_terms.specs.Values.{ValueTrees, data_value, more_values}
+use Rattle.isle_terms.specs.Values.{ValueTrees, data_tree, more_trees}
 use Rattle.isle_run.specs.declared.values.Node.TheVariants.{Data}
 use Rattle.isle_run.specs.Values.Nodes.{first_values, later_values}
 use Rattle.isle_run.proofs.Stores.Laying.{after_within, put_laid, put_values}
@@ -45,5 +45,5 @@ returns c =
     c.args.name c.push-2.new.self.items
     (c.in_ok-push-2.ensures.items
     ∙ ap (λ l. l ++ Data c.args.name c.min-fields.result (c.len-all.result - c.unwrap_or-behind.result) ∷ []) c.reserve.ensures.items)
-    ∙ ap (λ (vs : ValueTrees). more_values (data_value c.args.name (first_values c.args.fields vs)) (later_values c.args.fields vs))
+    ∙ ap (λ (vs : ValueTrees). more_trees (data_tree c.args.name (first_values c.args.fields vs)) (later_values c.args.fields vs))
     c.self.view_is

@@ -1,5 +1,5 @@
 use Rattle.std.proofs.Common.{◌++◌, ◌∷◌, [], sym, ap, subst, ◌∙◌}
-use Rattle.isle_run.specs.Stores.Laying.{AreLaid}
+use Rattle.isle_run.specs.Inside.Stores.Laying.{AreLaid}
 use Rattle.isle_run.proofs.Stores.Laying.{leaf_laid}
 use Rattle.isle_run.proofs.values.laying.LaidValues.put_leaf.Goals as goal
 

@@ -3,7 +3,7 @@ use Rattle.std.specs.Prelude.{MatchOption}
 use Rattle.std.proofs.lemmas.Result.{err_from_is_err_and}
 use Rattle.isle_types.specs.declared.ids.TermId.{TermId}
 use Rattle.isle_run.specs.Worlds.Texts.{SpellEntries, SpellsWorld}
-use Rattle.isle_run.specs.Worlds.Reading.{RefusedBehind, MissesElse}
+use Rattle.isle_run.specs.Inside.Worlds.Reading.{RefusedBehind, MissesElse}
 use Rattle.isle_run.proofs.TableWorlds.Refusals.{behind_refused, lacking, missing, tokens_placed}
 use Rattle.isle_run.proofs.worlds.table.TableWorld.read.Goals as goal
 

@@ -6,8 +6,8 @@ use Rattle.isle_types.specs.Environment.{Environment}
 use Rattle.isle_types.specs.TypeEnvs.{Shows, HasMoreNames}
 use Rattle.isle_terms.specs.declared.terms.Term.{Term}
 use Rattle.isle_terms.specs.Readings.Needs.{needed_of}
-use Rattle.isle_terms.specs.Collecting.ExtractorChecks.{Adds}
-use Rattle.isle_terms.specs.Collecting.DeclaredTerms.{AreFormsOf, OneNamesUnknownType, AreDeclaredTerms}
+use Rattle.isle_terms.specs.Inside.Collecting.ExtractorChecks.{Adds}
+use Rattle.isle_terms.specs.Inside.Collecting.DeclaredTerms.{AreFormsOf, OneNamesUnknownType, AreDeclaredTerms}
 use Rattle.isle_terms.proofs.env.terms.Forms.declared_terms.Given as goal
 
 abbrev pub invariant-loop-decl : goal.invariant-loop-decl

@@ -1,6 +1,6 @@
 use Rattle.std.proofs.Common.{sym, subst, refl, ◌∙◌, ◌-◌, length, get_or, Some, None}
 use Rattle.isle_terms.specs.declared.terms.ExtractorKind.TheVariants.{ExternalExtractor}
-use Rattle.isle_terms.specs.Collecting.DeclaredTerms.{AreShownAs, IsShownExtractor}
+use Rattle.isle_terms.specs.Inside.Collecting.DeclaredTerms.{AreShownAs, IsShownExtractor}
 use Rattle.isle_terms.proofs.Collections.NamedPlaces.{no_extractor_place}
 use Rattle.isle_terms.proofs.Collections.DeclaredForms.{plain_here, internal_here, external_here, nothing_here}
 use Rattle.isle_terms.proofs.env.terms.Forms.extractor_kind.Goals as goal

@@ -1,5 +1,5 @@
 use Rattle.std.proofs.Common.{◌≡◌, drop, map}
-use Rattle.isle_terms.specs.Readings.Scopes.{variable_shown}
+use Rattle.isle_terms.specs.Inside.Readings.Scopes.{variable_shown}
 use Rattle.isle_terms.proofs.translate.bindings.Bindings.leave.Given as goal
 
 abbrev pub invariant-loop : goal.invariant-loop

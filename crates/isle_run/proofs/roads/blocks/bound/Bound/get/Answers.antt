@@ -2,7 +2,7 @@
 use Rattle.std.proofs.Common.{◌≡◌, Some, reverse, arith}
 use Rattle.std.proofs.lemmas.Grind.{common_steps}
 use Rattle.std.proofs.lemmas.List.{reverse-reverse}
-use Rattle.isle_run.specs.Blocks.Bounds.{place_in}
+use Rattle.isle_run.specs.Inside.Blocks.Bounds.{place_in}
 use Rattle.isle_run.proofs.Blocks.Placing.{place_in-within, held_at-none, held_at-some}
 use Rattle.isle_run.proofs.roads.blocks.bound.Bound.get.Goals as goal
 

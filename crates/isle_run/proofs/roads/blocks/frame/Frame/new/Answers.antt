@@ -1,5 +1,5 @@
 use Rattle.std.proofs.Common.{sym, refl, subst}
-use Rattle.isle_run.specs.Blocks.Frames.{BeginsAt, found_in}
+use Rattle.isle_run.specs.Inside.Blocks.Frames.{BeginsAt, found_in}
 use Rattle.isle_run.proofs.Blocks.Beginning.{frame_begun}
 use Rattle.isle_run.proofs.roads.blocks.frame.Frame.new.Goals as goal
 

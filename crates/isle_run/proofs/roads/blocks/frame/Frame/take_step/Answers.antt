@@ -1,5 +1,5 @@
 use Rattle.std.proofs.Common.{refl, sym, subst}
-use Rattle.isle_run.specs.Blocks.Frames.{IsAtEnd}
+use Rattle.isle_run.specs.Inside.Blocks.Frames.{IsAtEnd}
 use Rattle.isle_run.specs.declared.roads.blocks.frame.At.TheVariants.{Steps as AtSteps}
 use Rattle.isle_run.proofs.Blocks.Going.{frame_unreplied}
 use Rattle.isle_run.proofs.Blocks.Steps.{step_taken}

@@ -1,6 +1,6 @@
 use Rattle.std.proofs.Common.{◌∷◌, ℕ, refl, ◌∙◌, ap, subst}
 use Rattle.isle_run.specs.declared.roads.blocks.binding.Made.{Made}
-use Rattle.isle_run.specs.Blocks.Reading.{TellsMade}
+use Rattle.isle_run.specs.Inside.Blocks.Reading.{TellsMade}
 use Rattle.isle_run.proofs.Blocks.Turning.{binding_of, missing_turns, ill_typed_turns, waits_turns, bound_turns, bound_begins, lost_begins}
 use Rattle.isle_run.proofs.OpenCalls.Made.{on_err}
 use Rattle.isle_run.proofs.roads.blocks.reading.Machine.bind.Goals as goal

@@ -1,7 +1,7 @@
 use Rattle.std.proofs.Common.{subst}
 use Rattle.std.proofs.lemmas.Result.{IfOk-weaker}
 use Rattle.isle_blocks.specs.declared.serializer.views.ControlFlow.{ControlFlow}
-use Rattle.isle_run.specs.Blocks.Frames.{IsChecking}
+use Rattle.isle_run.specs.Inside.Blocks.Frames.{IsChecking}
 use Rattle.isle_run.proofs.roads.blocks.reading.Machine.check.Goals as goal
 
 pub returns-in-Return-clause-turned : goal.returns-in-Return-clause-turned

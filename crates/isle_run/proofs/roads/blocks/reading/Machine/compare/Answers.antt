@@ -3,8 +3,8 @@ use Rattle.isle_meaning.specs.Got.{gives}
 use Rattle.isle_meaning.specs.Machine.Runs.{read}
 use Rattle.isle_run.specs.declared.roads.blocks.frame.Frame.{Frame}
 use Rattle.isle_run.specs.declared.roads.blocks.holding.Holding.{Holding}
-use Rattle.isle_run.specs.Blocks.Frames.{IsFrameOf, sites_of_call}
-use Rattle.isle_run.specs.Blocks.Holdings.{TellsHeld}
+use Rattle.isle_run.specs.Inside.Blocks.Frames.{IsFrameOf, sites_of_call}
+use Rattle.isle_run.specs.Inside.Blocks.Holdings.{TellsHeld}
 use Rattle.isle_run.proofs.Blocks.Checking.{equal_failed, equal_passed, reads_something, reads_there}
 use Rattle.isle_run.proofs.Blocks.Going.{going_longer}
 use Rattle.isle_run.proofs.Blocks.Held.{holds_longer}

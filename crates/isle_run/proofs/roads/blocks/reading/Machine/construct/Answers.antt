@@ -7,12 +7,12 @@ use Rattle.isle_meaning.specs.Numbered.{constructor_row}
 use Rattle.isle_meaning.specs.Worlds.{Event}
 use Rattle.isle_run.specs.declared.program.Program.{Program}
 use Rattle.isle_run.specs.declared.calls.store.Stored.{Stored}
-use Rattle.isle_run.specs.Blocks.Frames.{machined}
-use Rattle.isle_run.specs.Blocks.Holdings.{TellsNumbers}
-use Rattle.isle_run.specs.Blocks.Reading.{IsBinding, TellsAnswer, IsMadeOf}
+use Rattle.isle_run.specs.Inside.Blocks.Frames.{machined}
+use Rattle.isle_run.specs.Inside.Blocks.Holdings.{TellsNumbers}
+use Rattle.isle_run.specs.Inside.Blocks.Reading.{IsBinding, TellsAnswer, IsMadeOf}
 use Rattle.isle_run.specs.Calls.Answers.{answers_in, HasMade}
-use Rattle.isle_run.specs.Calls.Open.{CallOf}
-use Rattle.isle_run.specs.Calls.States.{host, IsOpenIn}
+use Rattle.isle_run.specs.Inside.Calls.Open.{CallOf}
+use Rattle.isle_run.specs.Inside.Calls.States.{host, IsOpenIn}
 use Rattle.isle_run.specs.Meanings.{checked}
 use Rattle.isle_run.proofs.Blocks.Making.{held_there, if_ok, later_instance, numbers_there, numbers_never, waits_told, pure_told, effect_told}
 use Rattle.isle_run.proofs.Blocks.Making.{effect_made_begins, effect_lost, PureTold, EffectTold, EffectLost}

@@ -1,7 +1,7 @@
 use Rattle.std.proofs.Common.{◌≡◌, Option, Some, ℕ, true, false, sym, ◌∙◌, ap, subst}
 use Rattle.isle_meaning.specs.Held.{plain}
 use Rattle.isle_run.specs.declared.program.Program.{Program}
-use Rattle.isle_run.specs.Blocks.Holdings.{TellsNumber}
+use Rattle.isle_run.specs.Inside.Blocks.Holdings.{TellsNumber}
 use Rattle.isle_run.specs.Calls.Answers.{answers_in}
 use Rattle.isle_run.specs.Meanings.{checked}
 use Rattle.isle_run.proofs.Blocks.Making.{held_there, ExtractTold, number_there, number_never, extract_told, outputs_always, outputs_maybe}

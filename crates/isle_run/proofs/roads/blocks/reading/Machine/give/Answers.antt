@@ -3,8 +3,8 @@ use Rattle.isle_meaning.specs.Machine.Runs.{read}
 use Rattle.isle_meaning.specs.Machine.Walkable.{CanRead}
 use Rattle.isle_run.specs.declared.program.Program.{Program}
 use Rattle.isle_run.specs.declared.roads.blocks.holding.Holding.{Holding}
-use Rattle.isle_run.specs.Blocks.Frames.{may_fail, sites_of_call}
-use Rattle.isle_run.specs.Blocks.Holdings.{TellsHeld}
+use Rattle.isle_run.specs.Inside.Blocks.Frames.{may_fail, sites_of_call}
+use Rattle.isle_run.specs.Inside.Blocks.Holdings.{TellsHeld}
 use Rattle.isle_run.specs.Meanings.{checked}
 use Rattle.isle_run.proofs.Blocks.Checking.{reads_something, reads_there}
 use Rattle.isle_run.proofs.Blocks.Giving.{given_always, given_turns}

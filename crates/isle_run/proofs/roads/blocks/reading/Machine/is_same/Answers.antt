@@ -1,6 +1,6 @@
 use Rattle.std.proofs.Common.{sym, subst}
 use Rattle.isle_run.specs.declared.roads.blocks.holding.Holding.{Holding}
-use Rattle.isle_run.specs.Blocks.Holdings.{Holds}
+use Rattle.isle_run.specs.Inside.Blocks.Holdings.{Holds}
 use Rattle.isle_run.proofs.Blocks.Held.{holds_one, holds_once}
 use Rattle.isle_run.proofs.roads.blocks.reading.Machine.is_same.Goals as goal
 

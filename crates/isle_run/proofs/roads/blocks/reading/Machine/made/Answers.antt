@@ -7,8 +7,8 @@ use Rattle.isle_meaning.specs.Machine.Runs.{values_at, read, made_of}
 use Rattle.isle_blocks.specs.declared.binding.Binding.{Binding}
 use Rattle.isle_blocks.specs.Rows.{row_of, numbers_of}
 use Rattle.isle_run.specs.declared.roads.blocks.holding.Holding.{Holding}
-use Rattle.isle_run.specs.Blocks.Frames.{rows_in}
-use Rattle.isle_run.specs.Blocks.Holdings.{TellsHeld}
+use Rattle.isle_run.specs.Inside.Blocks.Frames.{rows_in}
+use Rattle.isle_run.specs.Inside.Blocks.Holdings.{TellsHeld}
 use Rattle.isle_run.proofs.Blocks.Reading.{of_held_told, of_held_none, numbers_known, numbers_unknown, variant_told, struct_told, variant_none, struct_none}
 use Rattle.isle_run.proofs.roads.blocks.reading.Machine.made.Goals as goal
 

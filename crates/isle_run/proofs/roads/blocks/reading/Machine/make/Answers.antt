@@ -3,11 +3,11 @@ use Rattle.isle_blocks.specs.Building.Naming.{name_by}
 use Rattle.isle_blocks.specs.Rows.{row_of}
 use Rattle.isle_meaning.specs.Machine.Runs.{Env}
 use Rattle.isle_meaning.specs.Worlds.{Event}
-use Rattle.isle_run.specs.Blocks.Frames.{machined}
-use Rattle.isle_run.specs.Blocks.Reading.{IsBinding, BeginsMade, TellsMade}
+use Rattle.isle_run.specs.Inside.Blocks.Frames.{machined}
+use Rattle.isle_run.specs.Inside.Blocks.Reading.{IsBinding, BeginsMade, TellsMade}
 use Rattle.isle_run.specs.Calls.Answers.{HasMade}
-use Rattle.isle_run.specs.Calls.Open.{CallOf}
-use Rattle.isle_run.specs.Calls.States.{host, IsOpenIn}
+use Rattle.isle_run.specs.Inside.Calls.Open.{CallOf}
+use Rattle.isle_run.specs.Inside.Calls.States.{host, IsOpenIn}
 use Rattle.isle_run.specs.Programs.{types_of}
 use Rattle.std.proofs.lemmas.Option.{slice_get_past}
 use Rattle.isle_run.proofs.Blocks.Making.{if_ok, if_err, row_at, row_never}

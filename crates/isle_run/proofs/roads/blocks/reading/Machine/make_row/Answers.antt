@@ -8,14 +8,14 @@ use Rattle.isle_meaning.specs.Values.{Value}
 use Rattle.isle_meaning.specs.Worlds.{Event}
 use Rattle.isle_run.specs.declared.program.Program.{Program}
 use Rattle.isle_run.specs.declared.calls.store.Stored.{Stored}
-use Rattle.isle_run.specs.Blocks.Frames.{machined}
-use Rattle.isle_run.specs.Blocks.Reading.{IsBinding, BeginsSite, BeginsMade, TellsAnswer, TellsMade, CallHolds, AsksNothing}
+use Rattle.isle_run.specs.Inside.Blocks.Frames.{machined}
+use Rattle.isle_run.specs.Inside.Blocks.Reading.{IsBinding, BeginsSite, BeginsMade, TellsAnswer, TellsMade, CallHolds, AsksNothing}
 use Rattle.isle_run.specs.Calls.Answers.{HasMade}
-use Rattle.isle_run.specs.Calls.Open.{CallOf}
-use Rattle.isle_run.specs.Calls.States.{host, IsOpenIn}
+use Rattle.isle_run.specs.Inside.Calls.Open.{CallOf}
+use Rattle.isle_run.specs.Inside.Calls.States.{host, IsOpenIn}
 use Rattle.isle_run.specs.Meanings.{checked}
 use Rattle.isle_run.specs.Programs.{types_of}
-use Rattle.isle_run.specs.Stores.Values.{Stands}
+use Rattle.isle_run.specs.Inside.Stores.Values.{Stands}
 use Rattle.isle_run.proofs.OpenCalls.Made.{made_none, on_err}
 use Rattle.isle_run.proofs.Blocks.Making.{if_ok, if_err, asks_nothing, extractor_unreplied, asks_unreplied, awaited_unreplied, unreplied_made}
 use Rattle.isle_run.proofs.Blocks.Making.{unreplied_begins, begins_nothing, given_made, missing_made}

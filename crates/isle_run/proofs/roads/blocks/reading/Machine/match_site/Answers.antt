@@ -5,8 +5,8 @@ use Rattle.isle_blocks.specs.Building.Naming.{name_by}
 use Rattle.isle_blocks.specs.Rows.{test_of}
 use Rattle.isle_run.specs.declared.program.Program.{Program}
 use Rattle.isle_run.specs.declared.roads.blocks.holding.Holding.{Holding}
-use Rattle.isle_run.specs.Blocks.Frames.{sites_of_call}
-use Rattle.isle_run.specs.Blocks.Holdings.{TellsHeld}
+use Rattle.isle_run.specs.Inside.Blocks.Frames.{sites_of_call}
+use Rattle.isle_run.specs.Inside.Blocks.Holdings.{TellsHeld}
 use Rattle.isle_run.specs.Programs.{types_of}
 use Rattle.isle_run.proofs.Blocks.Checking.{arm_left, arm_passed, no_arm_left, reads_something, reads_there}
 use Rattle.isle_run.proofs.Blocks.Going.{going_longer}

@@ -2,8 +2,8 @@ use Rattle.std.proofs.Common.{◌≡◌, List}
 use Rattle.isle_meaning.specs.Worlds.{Event}
 use Rattle.isle_blocks.specs.declared.serializer.views.ControlFlow.TheVariants as flows
 use Rattle.isle_blocks.specs.Trees.Views.{arm_count, shown_arms}
-use Rattle.isle_run.specs.Blocks.Frames.{IsChecking}
-use Rattle.isle_run.specs.Calls.Open.{CallOf}
+use Rattle.isle_run.specs.Inside.Blocks.Frames.{IsChecking}
+use Rattle.isle_run.specs.Inside.Calls.Open.{CallOf}
 use Rattle.isle_run.proofs.Blocks.Checking.{IsMatching}
 use Rattle.isle_run.proofs.roads.blocks.reading.Machine.match_site.Given as goal
 

@@ -2,8 +2,8 @@
 use Rattle.std.proofs.Common.{Option, subst}
 use Rattle.isle_meaning.specs.Machine.Runs.{read}
 use Rattle.isle_run.specs.declared.roads.blocks.holding.Holding.{Holding}
-use Rattle.isle_run.specs.Blocks.Frames.{rows_in}
-use Rattle.isle_run.specs.Blocks.Holdings.{TellsHeld}
+use Rattle.isle_run.specs.Inside.Blocks.Frames.{rows_in}
+use Rattle.isle_run.specs.Inside.Blocks.Holdings.{TellsHeld}
 use Rattle.isle_run.proofs.Blocks.Reading.{plain_told, plain_none}
 use Rattle.isle_run.proofs.roads.blocks.reading.Machine.number.Goals as goal
 

@@ -5,8 +5,8 @@ use Rattle.isle_meaning.specs.Machine.Runs.{values_at, read}
 use Rattle.isle_blocks.specs.declared.ids.BindingId.{BindingId}
 use Rattle.isle_blocks.specs.Rows.{numbers_of}
 use Rattle.isle_run.specs.declared.program.Program.{Program}
-use Rattle.isle_run.specs.Blocks.Frames.{rows_in}
-use Rattle.isle_run.specs.Blocks.Holdings.{TellsNumber}
+use Rattle.isle_run.specs.Inside.Blocks.Frames.{rows_in}
+use Rattle.isle_run.specs.Inside.Blocks.Holdings.{TellsNumber}
 use Rattle.isle_run.proofs.Blocks.Reading.{AreNumbersOf, around_longer, site_told, site_none}
 use Rattle.isle_run.proofs.Stores.Values.{extends_again}
 use Rattle.isle_run.proofs.roads.blocks.reading.Machine.numbers.Goals as goal

@@ -3,9 +3,9 @@ use Rattle.std.proofs.Common.{◌≡◌, take}
 use Rattle.isle_meaning.specs.Machine.Runs.{Env, values_at, read}
 use Rattle.isle_meaning.specs.Values.{Values}
 use Rattle.isle_blocks.specs.Rows.{numbers_of}
-use Rattle.isle_run.specs.Blocks.Frames.{rows_in}
-use Rattle.isle_run.specs.Blocks.Reading.{IsAround}
-use Rattle.isle_run.specs.Stores.Values.{Extends}
+use Rattle.isle_run.specs.Inside.Blocks.Frames.{rows_in}
+use Rattle.isle_run.specs.Inside.Blocks.Reading.{IsAround}
+use Rattle.isle_run.specs.Inside.Stores.Values.{Extends}
 use Rattle.isle_run.proofs.Blocks.Reading.{AreNumbersOf}
 use Rattle.isle_run.proofs.roads.blocks.reading.Machine.numbers.Given as goal
 

@@ -1,5 +1,5 @@
 use Rattle.std.proofs.Common.{ℕ, List, sym, subst}
-use Rattle.isle_run.specs.Stores.Values.{StandEach}
+use Rattle.isle_run.specs.Inside.Stores.Values.{StandEach}
 use Rattle.isle_run.proofs.Blocks.Giving.{past_turns}
 use Rattle.isle_run.proofs.roads.blocks.reading.Machine.past.Goals as goal
 

@@ -3,7 +3,7 @@ use Rattle.isle_blocks.specs.Building.Naming.{name_by}
 use Rattle.isle_blocks.specs.Rows.{row_of}
 use Rattle.isle_meaning.specs.Machine.Runs.{is_computed}
 use Rattle.isle_run.specs.declared.roads.blocks.binding.Made.{Made}
-use Rattle.isle_run.specs.Blocks.Reading.{TellsAnswer}
+use Rattle.isle_run.specs.Inside.Blocks.Reading.{TellsAnswer}
 use Rattle.isle_run.specs.Programs.{types_of}
 use Rattle.isle_run.proofs.Blocks.Making.{computed_there, made_there, put_told}
 use Rattle.isle_run.proofs.roads.blocks.reading.Machine.put.Goals as goal

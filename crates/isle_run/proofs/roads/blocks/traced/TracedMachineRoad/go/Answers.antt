@@ -1,6 +1,6 @@
 use Rattle.std.proofs.Common.{[], sym, subst}
 use Rattle.std.proofs.lemmas.List.{append-nil}
-use Rattle.isle_run.specs.Blocks.Frames.{CallBegins}
+use Rattle.isle_run.specs.Inside.Blocks.Frames.{CallBegins}
 use Rattle.isle_run.proofs.Blocks.Waiting.{frame_has_begun}
 use Rattle.isle_run.proofs.OpenCalls.Made.{made_none, on_err}
 use Rattle.isle_run.proofs.roads.blocks.traced.TracedMachineRoad.go.Goals as goal

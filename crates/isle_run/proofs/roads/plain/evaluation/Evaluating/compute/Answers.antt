@@ -5,8 +5,8 @@ use Rattle.std.proofs.lemmas.Int.{to_z-of_z}
 use Rattle.std.proofs.lemmas.Result.{IfOk-weaker}
 use Rattle.isle_types.specs.TypeTables.{name_at}
 use Rattle.isle_run.specs.Programs.{types_of}
-use Rattle.isle_run.specs.Plain.LaidOut.Words.{made_of}
-use Rattle.isle_run.specs.Plain.Underway.{HasValueAt, AreKnown}
+use Rattle.isle_run.specs.Inside.Plain.LaidOut.Words.{made_of}
+use Rattle.isle_run.specs.Inside.Plain.Underway.{HasValueAt, AreKnown}
 use Rattle.isle_run.specs.declared.calls.store.Stored.TheVariants.{Bool, Int, Const, Variant, Struct}
 use Rattle.isle_run.proofs.Plain.Evaluations.Kinds.{var_comes, bool_comes, int_comes, const_comes, variant_comes, struct_comes, impure_reached}
 use Rattle.isle_run.proofs.Plain.Evaluations.Walk.{put_told}

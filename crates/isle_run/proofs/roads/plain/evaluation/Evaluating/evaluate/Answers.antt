@@ -1,6 +1,6 @@
 use Rattle.std.proofs.Common.{sym, ◌∙◌, subst}
 use Rattle.isle_run.specs.Calls.Answers.{answers_in}
-use Rattle.isle_run.specs.Plain.Underway.{GoesOn, TurnTells, HasMoved}
+use Rattle.isle_run.specs.Inside.Plain.Underway.{GoesOn, TurnTells, HasMoved}
 use Rattle.isle_run.proofs.Stores.Values.{extends_again}
 use Rattle.isle_run.proofs.Plain.Evaluations.Turns.{top_parted, no_top, later_again, later_same}
 use Rattle.isle_run.proofs.Plain.Evaluations.Loop.{still_first, still_next, still_tells, ends_known, ends_same, all_known}

@@ -1,5 +1,5 @@
 use Rattle.isle_run.specs.Calls.Answers.{answers_in}
-use Rattle.isle_run.specs.Plain.Underway.{work_left}
+use Rattle.isle_run.specs.Inside.Plain.Underway.{work_left}
 use Rattle.isle_run.proofs.Plain.Evaluations.Loop.{IsStillUnderway}
 use Rattle.isle_run.proofs.roads.plain.evaluation.Evaluating.evaluate.Given as goal
 

@@ -1,6 +1,6 @@
 use Rattle.std.proofs.Common.{◌≡◌, Some, None, length, slice_get, refl, sym, ◌∙◌, ap, subst, arith}
-use Rattle.isle_run.specs.Plain.LaidOut.Words.{made_of}
-use Rattle.isle_run.specs.Plain.Underway.{first_unknown, known_numbers, AreKnown, AreAround}
+use Rattle.isle_run.specs.Inside.Plain.LaidOut.Words.{made_of}
+use Rattle.isle_run.specs.Inside.Plain.Underway.{first_unknown, known_numbers, AreKnown, AreAround}
 use Rattle.isle_run.proofs.Plain.Evaluations.Parts.{first_unknown_at, are_known}
 use Rattle.isle_run.proofs.Plain.Evaluations.Walk.{item_there, both_told}
 use Rattle.isle_run.proofs.Plain.Evaluations.Loop.{top_is_part, step_after, step_comes, last_step}

@@ -1,5 +1,5 @@
 use Rattle.std.proofs.Common.{◌<◌, length, sym, subst}
-use Rattle.isle_run.specs.Plain.Underway.{IsStepOf, StepTells}
+use Rattle.isle_run.specs.Inside.Plain.Underway.{IsStepOf, StepTells}
 use Rattle.isle_run.proofs.Plain.Evaluations.Turns.{answered_moves, asked_moves}
 use Rattle.isle_run.proofs.Plain.Evaluations.Loop.{turn_is, turn_after, turn_waits}
 use Rattle.isle_run.proofs.roads.plain.evaluation.Evaluating.turn.Goals as goal

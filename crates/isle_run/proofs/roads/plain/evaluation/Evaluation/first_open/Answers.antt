@@ -1,5 +1,5 @@
 use Rattle.std.proofs.Common.{◌≡◌, drop, None, get_or, sym, ◌∙◌}
-use Rattle.isle_run.specs.Plain.Underway.{known_at, first_unknown}
+use Rattle.isle_run.specs.Inside.Plain.Underway.{known_at, first_unknown}
 use Rattle.isle_run.proofs.Plain.Evaluations.Walk.{some_there, none_there, open_here, open_behind, none_open}
 use Rattle.isle_run.proofs.roads.plain.evaluation.Evaluation.first_open.Goals as goal
 

@@ -1,5 +1,5 @@
 use Rattle.std.proofs.Common.{◌≡◌, drop}
-use Rattle.isle_run.specs.Plain.Underway.{first_unknown}
+use Rattle.isle_run.specs.Inside.Plain.Underway.{first_unknown}
 use Rattle.isle_run.proofs.roads.plain.evaluation.Evaluation.first_open.Given as goal
 
 -- what is found among the parts is found among those that weren't looked at

@@ -1,7 +1,7 @@
 use Rattle.std.proofs.Common.{◌≡◌, ◌++◌, ◌∷◌, [], Some, None, refl, sym, ◌∙◌, subst, arith}
 use Rattle.std.specs.Prelude.{option_to_list}
 use Rattle.isle_run.specs.declared.roads.plain.evaluation.Evaluation.{Evaluation}
-use Rattle.isle_run.specs.Plain.Underway.{known_at, top_of}
+use Rattle.isle_run.specs.Inside.Plain.Underway.{known_at, top_of}
 use Rattle.isle_run.proofs.Plain.Evaluations.Turns.{popped_first, popped_next, popped_settled, open_at, none_on_top, top_there}
 use Rattle.isle_run.proofs.Plain.Evaluations.Turns.{taken_is, taken_fewer}
 use Rattle.isle_run.proofs.Plain.Evaluations.Walk.{some_there, none_there}

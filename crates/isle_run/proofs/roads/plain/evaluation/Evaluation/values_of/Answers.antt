@@ -1,5 +1,5 @@
 use Rattle.std.proofs.Common.{◌≡◌, ◌++◌, ◌+◌, ℕ, List, drop, sym, ◌∙◌, ap, subst}
-use Rattle.isle_run.specs.Plain.Underway.{known_numbers}
+use Rattle.isle_run.specs.Inside.Plain.Underway.{known_numbers}
 use Rattle.isle_run.proofs.Plain.Evaluations.Walk.{number_here, number_behind, no_number}
 use Rattle.isle_run.proofs.roads.plain.evaluation.Evaluation.values_of.Goals as goal
 use Rattle.isle_run.proofs.roads.plain.evaluation.Evaluation.values_of.Goals.{in-Some+in_ok-push, in_default}

@@ -1,5 +1,5 @@
 use Rattle.std.proofs.Common.{◌≡◌, ◌++◌, drop}
-use Rattle.isle_run.specs.Plain.Underway.{known_numbers}
+use Rattle.isle_run.specs.Inside.Plain.Underway.{known_numbers}
 use Rattle.isle_run.proofs.roads.plain.evaluation.Evaluation.values_of.Given as goal
 
 -- the numbers so far, and those of the parts that weren't looked at, are all

@@ -17,9 +17,9 @@ use Rattle.isle_run.specs.declared.calls.store.Stored.TheVariants.{Bool, Int, Co
 use Rattle.isle_run.specs.Meanings.{checked}
 use Rattle.isle_meaning.specs.PlainRuns.{PatternsRun, EachRuns}
 use Rattle.isle_run.specs.Programs.{types_of}
-use Rattle.isle_run.specs.Stores.Values.{Stands}
+use Rattle.isle_run.specs.Inside.Stores.Values.{Stands}
 use Rattle.isle_run.specs.Calls.Answers.{answers_in}
-use Rattle.isle_run.specs.Plain.Fitting.{TellsFit, all_shown_in, FitTold, FitAllTold, OpensInto}
+use Rattle.isle_run.specs.Inside.Plain.Fitting.{TellsFit, all_shown_in, FitTold, FitAllTold, OpensInto}
 use Rattle.isle_run.proofs.Plain.Patterns.Forms.{shown_bind, shown_var, shown_bool, shown_int, shown_prim, shown_wildcard}
 use Rattle.isle_run.proofs.Plain.Patterns.Reads.{reads_wildcard, reads_var, reads_bool, reads_int, reads_prim}
 use Rattle.isle_run.proofs.Plain.Patterns.Reads.{reads_bound, reads_unbound, reads_and, reads_opened}

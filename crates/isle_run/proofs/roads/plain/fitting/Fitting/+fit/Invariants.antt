@@ -4,9 +4,9 @@ use Rattle.isle_meaning.specs.GroundValues.{IsValueOf, AreValuesOf}
 use Rattle.isle_meaning.specs.Typing.{AllTyped, EachTyped}
 use Rattle.isle_run.specs.Meanings.{checked}
 use Rattle.isle_meaning.specs.PlainRuns.{PatternsRun, EachRuns}
-use Rattle.isle_run.specs.Stores.Values.{Stands, StandEach, Extends}
+use Rattle.isle_run.specs.Inside.Stores.Values.{Stands, StandEach, Extends}
 use Rattle.isle_run.specs.Calls.Answers.{answers_in}
-use Rattle.isle_run.specs.Plain.Fitting.{HoldVariables, all_shown_in}
+use Rattle.isle_run.specs.Inside.Plain.Fitting.{HoldVariables, all_shown_in}
 use Rattle.isle_run.proofs.Plain.Patterns.Lists.{AllFrom, EachFrom}
 use Rattle.isle_run.proofs.roads.plain.fitting.Fitting.+fit.Given as goal
 

@@ -6,11 +6,11 @@ use Rattle.isle_terms.specs.Shown.ShownTerms.{form_shown}
 use Rattle.isle_terms.specs.Shown.TermTables.{TermTables}
 use Rattle.isle_run.specs.declared.calls.store.Stored.{Stored}
 use Rattle.isle_run.specs.declared.calls.store.Stored.TheVariants.{Variant, Struct}
-use Rattle.isle_run.specs.Plain.Fitting.{OpensBy, AreFieldsOf}
+use Rattle.isle_run.specs.Inside.Plain.Fitting.{OpensBy, AreFieldsOf}
 use Rattle.isle_run.specs.Meanings.{checked}
 use Rattle.isle_run.specs.Programs.{types_of, terms_of}
 use Rattle.isle_run.specs.Calls.Answers.{answers_in}
-use Rattle.isle_run.specs.Calls.Host.{TellsOutputs}
+use Rattle.isle_run.specs.Inside.Calls.Host.{TellsOutputs}
 use Rattle.isle_run.proofs.Plain.Patterns.Numbers.{variant_told, struct_told}
 use Rattle.isle_run.proofs.OpenCalls.Telling.{shape_found, shape_missing}
 use Rattle.isle_run.proofs.roads.plain.fitting.Fitting.opened.Goals as goal

@@ -6,8 +6,8 @@ use Rattle.isle_run.specs.declared.calls.frames.Advanced.TheVariants.{Ends}
 use Rattle.isle_run.specs.declared.roads.plain.frame.Ending.TheVariants.{Comes}
 use Rattle.isle_run.specs.declared.roads.plain.laid.Part.{Part}
 use Rattle.isle_run.specs.declared.roads.plain.laid.Laid.{Laid}
-use Rattle.isle_run.specs.Plain.LaidOut.Words.{StandBehind}
-use Rattle.isle_run.specs.Plain.Frames.{RuleEnds}
+use Rattle.isle_run.specs.Inside.Plain.LaidOut.Words.{StandBehind}
+use Rattle.isle_run.specs.Inside.Plain.Frames.{RuleEnds}
 use Rattle.isle_run.proofs.OpenCalls.Made.{made_none, on_err}
 use Rattle.isle_run.proofs.Plain.Frames.Driven.{gone_stored, gone_after}
 use Rattle.isle_run.proofs.Plain.Frames.Told.{evaluated_in}

@@ -3,8 +3,8 @@ use Rattle.std.specs.Prelude.{unwrap_or}
 use Rattle.isle_terms.specs.declared.rules.IfLet.{IfLet as Condition}
 use Rattle.isle_run.specs.declared.roads.plain.evaluation.Evaluation.{Evaluation}
 use Rattle.isle_run.specs.declared.roads.plain.laid.Laid.{Laid}
-use Rattle.isle_run.specs.Plain.Frames.{IsFirstAt, RuleEnds}
-use Rattle.isle_run.specs.Plain.Underway.{known_at}
+use Rattle.isle_run.specs.Inside.Plain.Frames.{IsFirstAt, RuleEnds}
+use Rattle.isle_run.specs.Inside.Plain.Underway.{known_at}
 use Rattle.isle_run.proofs.Plain.Evaluations.Walk.{item_there}
 use Rattle.isle_run.proofs.Plain.Frames.Told.{condition_read}
 use Rattle.isle_run.proofs.roads.plain.frame.Driver.fit_condition.Goals as goal

@@ -2,9 +2,9 @@ use Rattle.std.proofs.Common.{◌≡◌, ◌+◌, ◌<◌, ◌^◌, ◌∷◌, [
 use Rattle.isle_meaning.specs.Worlds.{Event}
 use Rattle.isle_run.specs.declared.roads.plain.frame.current.Current.{Current}
 use Rattle.isle_run.specs.declared.program.Program.{Program}
-use Rattle.isle_run.specs.Plain.Frames.{CallComes, RulesLead, Goes, FrameEnds, AdvancesTo}
+use Rattle.isle_run.specs.Inside.Plain.Frames.{CallComes, RulesLead, Goes, FrameEnds, AdvancesTo}
 use Rattle.isle_run.specs.Meanings.{checked}
-use Rattle.isle_run.specs.Stores.Values.{StandEach}
+use Rattle.isle_run.specs.Inside.Stores.Values.{StandEach}
 use Rattle.isle_meaning.specs.Outcomes.{ended}
 use Rattle.isle_run.proofs.Plain.Frames.Ends.{with_rule}
 use Rattle.isle_run.proofs.Plain.Frames.Tried.{laid_behind, patterns_read, unmatched_advances, began}

@@ -1,7 +1,7 @@
 use Rattle.std.proofs.Common.{◌≡◌, ◌⊎◌, inl, inr, ℕ, [], subst, sym}
 use Rattle.isle_run.specs.declared.roads.plain.frame.current.At.{At}
 use Rattle.isle_run.specs.declared.roads.plain.frame.current.At.TheVariants.{IfLet, Right}
-use Rattle.isle_run.specs.Plain.Frames.{IsOnWay}
+use Rattle.isle_run.specs.Inside.Plain.Frames.{IsOnWay}
 use Rattle.std.proofs.lemmas.Result.{on_err_weaker}
 use Rattle.isle_run.specs.declared.calls.frames.Advanced.TheVariants.{Missing}
 use Rattle.isle_run.specs.declared.roads.plain.frame.Ending.TheVariants.{Leaves, Comes}

@@ -4,7 +4,7 @@ use Rattle.std.proofs.lemmas.List.{append-nil}
 use Rattle.std.proofs.lemmas.Result.{IfOk-weaker, on_err_weaker}
 use Rattle.isle_meaning.specs.Worlds.{Event}
 use Rattle.isle_run.specs.declared.roads.plain.frame.current.Current.{Current}
-use Rattle.isle_run.specs.Plain.Frames.{Goes, IsTrying, FrameEnds}
+use Rattle.isle_run.specs.Inside.Plain.Frames.{Goes, IsTrying, FrameEnds}
 use Rattle.isle_run.proofs.Plain.Frames.Driven.{gone_stored}
 use Rattle.isle_run.proofs.Plain.Frames.Ends.{frame_ends}
 use Rattle.isle_run.proofs.OpenCalls.Made.{made_none, on_err}

@@ -1,7 +1,7 @@
 use Rattle.std.proofs.Common.{List, subst}
 use Rattle.std.specs.List.{AllZip}
 use Rattle.isle_terms.specs.declared.rules.IfLet.{IfLet}
-use Rattle.isle_run.specs.Plain.LaidOut.Rules.{IsConditionLaidOut}
+use Rattle.isle_run.specs.Inside.Plain.LaidOut.Rules.{IsConditionLaidOut}
 use Rattle.isle_run.proofs.roads.plain.laid.LaidRule.new.Goals as goal
 
 pub returns : goal.returns

@@ -7,7 +7,7 @@ use Rattle.isle_types.proofs.DefinitionTurns.{take_here}
 use Rattle.isle_types.specs.declared.ids.TypeId.{TypeId}
 use Rattle.isle_types.specs.declared.ids.VarId.{VarId}
 use Rattle.isle_terms.specs.declared.rules.Expr.{Expr}
-use Rattle.isle_run.specs.Plain.LaidOut.Expressions.{stands_for, StandForTheSame, IsPut, LaysExpr, LaysExprs, LaysBindings, LaysTerm}
+use Rattle.isle_run.specs.Inside.Plain.LaidOut.Expressions.{stands_for, StandForTheSame, IsPut, LaysExpr, LaysExprs, LaysBindings, LaysTerm}
 use Rattle.isle_run.specs.declared.roads.plain.laid.Part.TheVariants.{Int}
 use Rattle.isle_run.proofs.Plain.LaidOut.Bound.{set_same, restores_turn}
 use Rattle.isle_run.proofs.Plain.LaidOut.Exprs.{lays_var, lays_bool, lays_int, lays_prim}

@@ -1,5 +1,5 @@
 use Rattle.std.proofs.Common.{take}
-use Rattle.isle_run.specs.Plain.LaidOut.Expressions.{StandForTheSame, Restores, LaysExprs, LaysBindings}
+use Rattle.isle_run.specs.Inside.Plain.LaidOut.Expressions.{StandForTheSame, Restores, LaysExprs, LaysBindings}
 use Rattle.isle_run.proofs.roads.plain.laid.Layout.+lay.Given as goal
 
 abbrev pub invariant-enter-loop-binding : goal.invariant-enter-loop-binding

@@ -1,6 +1,6 @@
 use Rattle.std.proofs.Common.{◌≡◌, Bool, length, subst, sym, refl, arith}
 use Rattle.std.proofs.lemmas.Result.{IfOk-weaker}
-use Rattle.isle_run.specs.Plain.LaidOut.Expressions.{LaysCall}
+use Rattle.isle_run.specs.Inside.Plain.LaidOut.Expressions.{LaysCall}
 use Rattle.isle_run.specs.declared.roads.plain.laid.Layout.{Layout}
 use Rattle.isle_run.proofs.Plain.LaidOut.Parts.{lays_pure, lays_impure}
 use Rattle.isle_run.proofs.roads.plain.laid.Layout.call.Goals as goal

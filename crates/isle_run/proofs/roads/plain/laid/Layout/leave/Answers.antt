@@ -1,5 +1,5 @@
 use Rattle.std.proofs.Common.{◌∙◌}
-use Rattle.isle_run.specs.Plain.LaidOut.Expressions.{stands_for}
+use Rattle.isle_run.specs.Inside.Plain.LaidOut.Expressions.{stands_for}
 use Rattle.isle_run.proofs.Plain.LaidOut.Bound.{undone_turn}
 use Rattle.isle_run.proofs.roads.plain.laid.Layout.leave.Goals as goal
 

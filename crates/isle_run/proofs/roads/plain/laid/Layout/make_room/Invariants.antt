@@ -1,5 +1,5 @@
 use Rattle.std.proofs.Common.{◌≡◌, ◌+◌, ◌-◌, ℕ, length}
-use Rattle.isle_run.specs.Plain.LaidOut.Expressions.{stands_for}
+use Rattle.isle_run.specs.Inside.Plain.LaidOut.Expressions.{stands_for}
 use Rattle.isle_run.proofs.roads.plain.laid.Layout.make_room.Given as goal
 
 abbrev pub invariant-loop-self : goal.invariant-loop-self

@@ -1,5 +1,5 @@
 use Rattle.std.proofs.Common.{◌≡◌, ℕ, ◌+◌, ◌-◌, length}
-use Rattle.isle_run.specs.Plain.Fitting.{number_of_variable}
+use Rattle.isle_run.specs.Inside.Plain.Fitting.{number_of_variable}
 use Rattle.isle_run.proofs.roads.plain.variables.Variables.set.Given as goal
 
 abbrev pub invariant-loop-self : goal.invariant-loop-self

@@ -1,0 +1,8 @@
+-- An S-expression as a value that a proof tells apart.
+pub mod SExprCode
+-- What a chain of bindings `x @ y @ ..` binds, and the text before it.
+pub mod SExprInnermost
+-- Tokens as they stand in texts.
+pub mod TextTokens
+-- Which tokens an S-expression's text has.
+pub mod SExprTokens

@@ -1,0 +1,2 @@
+-- The steps in which a table world's text is read.
+pub mod Reading

@@ -1,0 +1,8 @@
+-- trees of definitions, patterns, expressions and kept items, and what is computed of them
+pub mod Trees
+-- which tokens a text has, and what a lexer answers
+pub mod Tokens
+-- reading tokens from left to right, as the private calls of the parser do
+pub mod Reading
+-- refusals that say more than others
+pub mod Told

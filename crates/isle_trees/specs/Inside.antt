@@ -1,0 +1,2 @@
+-- Sites with what they are made of, gathered by marks.
+pub mod Gathering

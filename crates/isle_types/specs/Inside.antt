@@ -1,0 +1,2 @@
+-- What stands in an environment while definitions are read into it.
+pub mod Readings

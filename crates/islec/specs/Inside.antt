@@ -1,0 +1,2 @@
+-- What holds of the values that a simple command finds in words that it takes.
+pub mod Rows
