@@ -13,7 +13,6 @@ use Rattle.isle_blocks.specs.Trees.Shown.{BlockShown}
 use Rattle.isle_run.specs.declared.program.Program.{Program}
 use Rattle.isle_run.specs.Facts.Reach.{is_root}
 use Rattle.isle_run.specs.Tables.{term_called, value_facts_by, IsDataNamed}
-
 pub use Rattle.isle_run.specs.Tables.{kind_of_type, data_made, number_of, types_of_term, data_of_term, shape_made, shape_of_term}
 
 -- its types and names

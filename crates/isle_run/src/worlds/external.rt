@@ -28,11 +28,7 @@ pub(crate) struct External<'a> {
 }
 
 /// What a world may be asked of the constructor of a term.
-fn constructor_of(
-    term: &Term,
-    kind: Option<ConstructorKind>,
-    partial: bool,
-) -> Option<External<'_>>
+fn constructor_of(term: &Term, kind: Option<ConstructorKind>, partial: bool) -> Option<External<'_>>
     ensures { option_map types_shown result
         ≡ constructor_types (is_host_constructor kind) partial term.now.ret_ty.0 (map number_of term.now.arg_tys) }
 {
