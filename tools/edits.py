@@ -15,7 +15,8 @@ contracts of what it calls, and so it fails over these as it does over the libra
 
 tests/edits/tried.txt has for each edit a sum of all that its refusal hangs on (`sums_of` says what), the program logic that 'rt version' names
 among it. The kit's own name is left out: machines have kits of one logic under several names, and what a body breaks is false under each. Where
-that sum is still the edit's, it was refused already, and is tried only with --all. A check goes on from what the last 'rt check' of the crate
+that sum is still the edit's, it was refused already, and is tried only with --all. A third word, `moved`, says that it was refused before definitions
+got other places or names, and not yet since: the gate lets it pass, and the next call without --known tries it. A check goes on from what the last 'rt check' of the crate
 kept, where there is such work.
 """
 import concurrent.futures
@@ -356,7 +357,12 @@ def tried_in_rooms(crate, below, edits, rooms, over_stubs):
 
 def known():
     """Returns the sums that are written down."""
-    return dict(it.split() for it in open(TRIED, encoding="utf-8")) if os.path.isfile(TRIED) else {}
+    return dict(it.split()[:2] for it in open(TRIED, encoding="utf-8")) if os.path.isfile(TRIED) else {}
+
+
+def moved():
+    """Returns the edits that were refused before definitions moved, and are still to be tried where these stand now: a third word says so."""
+    return {it.split()[0] for it in open(TRIED, encoding="utf-8") if it.split()[2:]} if os.path.isfile(TRIED) else set()
 
 
 def write_down(crate, sums):
@@ -364,7 +370,7 @@ def write_down(crate, sums):
     with open(TRIED, "a+", encoding="utf-8") as file:
         fcntl.flock(file, fcntl.LOCK_EX)
         file.seek(0)
-        rows = dict(it.split() for it in file)
+        rows = dict(it.rstrip("\n").split(" ", 1) for it in file)
         rows = {name: it for name, it in rows.items() if not name.startswith(f"{crate}/")} | sums
         file.truncate(0)
         file.write("".join(f"{name} {it}\n" for name, it in sorted(rows.items())))
@@ -379,9 +385,11 @@ def main(words):
     failed = []
     for crate in names:
         sums, refused = sums_of(crate, below), known()
-        left = [it for it in sums if refused.get(it) != sums[it] or "--all" in words]
+        before = moved().intersection(sums)
+        left = [it for it in sums if refused.get(it) != sums[it] or "--all" in words or it in before and "--known" not in words]
         if not left:
-            print(f"{crate}: its {len(sums)} edits were all refused on just this text")
+            told = f", {len(before)} of them before definitions moved: make edits CRATES={crate} tries these" if before else ""
+            print(f"{crate}: its {len(sums)} edits were all refused on just this text{told}")
         elif "--known" in words:
             print(f"{crate}: {len(left)} of its {len(sums)} edits are still to be tried, as {left[0]}: rt check in its folder,")
             print(f"  make edits CRATES={crate}, and commit {TRIED}")
