@@ -263,7 +263,7 @@ def worlds_of_rules(bench):
     """Prints how much memory reading rules takes, and at which part of its speed worlds are read."""
     text, _ = rules(4_000_000)
     seconds, memory = middle([bench], text, lambda it: it.strip().isdigit())
-    print(f"reading 4 MB takes {held(memory / len(text), 33.5, 1)} bytes of memory for each of the text (at most 33)")
+    print(f"reading 4 MB takes {held(memory / len(text), 33, 1)} bytes of memory for each of the text (at most 33)")
     world = mixed_world(100_000)
     taken = sorted(best_run("worlds", HOST, world, "", lambda it: it == "")[0] for _ in range(3))[1]
     part = len(world) / taken / (len(text) / seconds)

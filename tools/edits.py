@@ -389,7 +389,7 @@ def main(words):
         left = [it for it in sums if refused.get(it) != sums[it] or "--all" in words or it in before and "--known" not in words]
         if not left:
             told = f", {len(before)} of them before definitions moved: make edits CRATES={crate} tries these" if before else ""
-            print(f"{crate}: its {len(sums)} edits were all refused on just this text{told}")
+            print(f"{crate}: its {len(sums)} edits were all refused{told or ' on just this text'}")
         elif "--known" in words:
             print(f"{crate}: {len(left)} of its {len(sums)} edits are still to be tried, as {left[0]}: rt check in its folder,")
             print(f"  make edits CRATES={crate}, and commit {TRIED}")
