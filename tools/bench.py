@@ -4,11 +4,13 @@ sorted map: MB a second, or seconds, and the most memory it took.
     bench.py ISLE_BENCH ISLEC
 """
 
+import atexit
 import os
 import random
+import shutil
+import subprocess
 import sys
 import tempfile
-import time
 
 RULE = """(rule number_{i} {i} (lower_{i} (Op.Add x (Op.Neg y @ (Op.Imm 0x{i:x})) _))
   (if-let (two z) (small x $LIMIT)) ; a comment
@@ -58,6 +60,7 @@ TERMS = """(type Value (primitive Value)) (type Reg (primitive Reg))
 OPCODES = 200
 
 ISLEC = os.path.abspath(sys.argv[2])
+USAGE = []
 
 
 def typed_rules(number, terms=("lower",), outer=OPCODES):
@@ -135,20 +138,23 @@ def keys(number, mixed):
     return "".join(f"{key}\n" for key in ordered)
 
 
+def usage():
+    """The program that runs another and tells what it took, compiled once."""
+    if not USAGE:
+        folder = tempfile.mkdtemp()
+        atexit.register(shutil.rmtree, folder)
+        USAGE.append(os.path.join(folder, "usage"))
+        subprocess.run(["cc", "-O1", "-o", USAGE[0], os.path.join(os.path.dirname(os.path.abspath(__file__)), "usage.c")], check=True)
+    return USAGE[0]
+
+
 def timed(words, path):
     """Seconds, the most memory in MB, what was printed, and processor seconds, of a program that reads a file as its standard input."""
-    with tempfile.TemporaryFile() as output:
-        start = time.monotonic()
-        child = os.fork()
-        if child == 0:
-            os.dup2(os.open(path, os.O_RDONLY), 0)
-            os.dup2(output.fileno(), 1)
-            os.execv(words[0], words)
-        _, status, usage = os.wait4(child, 0)
-        seconds = time.monotonic() - start
-        output.seek(0)
-        printed = output.read().decode()
-    return seconds, usage.ru_maxrss / 1024, printed if status == 0 else "failed", usage.ru_utime + usage.ru_stime
+    with open(path, "rb") as source, tempfile.TemporaryFile() as told:
+        ran = subprocess.run([usage(), str(told.fileno()), *words], stdin=source, stdout=subprocess.PIPE, pass_fds=[told.fileno()], check=False)
+        told.seek(0)
+        seconds, processor, memory = told.read().split()
+    return float(seconds), int(memory) / 1024, ran.stdout.decode() if ran.returncode == 0 else "failed", float(processor)
 
 
 def measure(title, words, text, check):
