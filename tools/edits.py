@@ -15,12 +15,12 @@ contracts of what it calls, and so it fails over these as it does over the libra
 
 tests/edits/tried.txt has for each edit a sum of all that its refusal hangs on (`sums_of` says what), the program logic that 'rt version' names
 among it. The kit's own name is left out: machines have kits of one logic under several names, and what a body breaks is false under each. Where
-that sum is still the edit's, it was refused already, and is tried only with --all. A third word, `moved`, says that it was refused before definitions
-got other places or names, and not yet since: the gate lets it pass, and the next call without --known tries it. A check goes on from what the last 'rt check' of the crate
-kept, where there is such work.
+that sum is still the edit's, it was refused already, and is tried only with --all. A check goes on from what the last 'rt check' of the crate kept,
+where there is such work.
 """
 import concurrent.futures
 import fcntl
+import functools
 import hashlib
 import os
 import re
@@ -28,6 +28,8 @@ import shutil
 import subprocess
 import sys
 import tempfile
+
+import inside
 
 TRIED = "tests/edits/tried.txt"
 PARTS = ("src", "specs", "proofs")
@@ -125,96 +127,148 @@ def end_of_head(rows, at, margin):
     return at
 
 
-def cited(text):
-    """Returns the files of definitions of this repository that a text names."""
-    found = set()
-    for crate, path in re.findall(r"Rattle\.(\w+)\.specs\.([\w.]+)", text.decode()):
-        parts = path.rstrip(".").split(".")
-        names = [f"crates/{crate}/specs/{'/'.join(parts[:end])}.antt" for end in range(len(parts), 0, -1)]
-        found.update([it for it in names if os.path.isfile(it)][:1])
-    return found
+# Of a method that a trait has.
+TRAIT = "trait"
+SOURCES = {}
+# A field, in a row that doesn't begin with `pub`.
+FIELD = re.compile(r"\s+\w+: \S.*,$")
+BLOCK = re.compile(r"(?:pub(?:\(\w+\))? )?(struct|enum|trait) (\w+)|(impl)\b(?:<.*?>)? (?:(\w+).* for )?(\w+)")
+
+
+def is_hidden(block, row):
+    """Whether a row of a type or of what is implemented for it is seen in the type's own module alone: a private field, or how a model reads fields."""
+    return bool(block[0] == "struct" and FIELD.match(row) or block[3] == "Model" and not re.match(r"\s+ghost Value", row))
 
 
 def pieces(crate, of_others):
-    """Returns the heads of a crate's functions with their contracts, the definitions of its types and traits, and what is implemented for them:
-    lists by name. Of another crate only functions that can be called and fields that can be read count."""
+    """Returns the heads of a crate's functions with their contracts, each with the type of which it is a method, or `TRAIT`, or nothing; and the rows of
+    the definitions of its types and traits and of what is implemented for them, each with the file where alone it is seen, if there is one: lists by
+    name, each with the file where it stands. Of another crate only functions that can be called count, and rows that are seen."""
     functions, types = {}, {}
     for path in files_below(f"crates/{crate}/src"):
-        rows, at, of = [it for it in text_of(path).decode().split("\n") if not re.match(r"\s*//", it)], 0, None
+        rows, at, block = [it for it in text_of(path).decode().split("\n") if not re.match(r"\s*//", it)], 0, None
         while at < len(rows):
             row, first = rows[at], at
             function = re.match(r"(\s*)(?:pub(?:\(\w+\))? )?(?:const )?fn (\w+)", row)
-            begun = re.match(r"(?:pub(?:\(\w+\))? )?(?:struct|enum|trait|impl.* for) (\w+)|impl", row)
-            of = begun[1] if begun else None if row == "}" else of
+            begun = BLOCK.match(row)
+            block = begun.groups() if begun else None if row == "}" else block
             if function:
                 at = end_of_head(rows, at, function[1])
                 head = [re.sub(r"^(\s*)pub(\(\w+\))? ", r"\1", row), *rows[first + 1 : at + 1]]
-                if not of_others or re.match(r"\s*pub (const )?fn ", row) or rows[at].endswith(";"):
-                    functions.setdefault(function[2], []).append("\n".join(head))
+                owner = function[1] and block and (block[4] or TRAIT)
+                if not of_others or re.match(r"\s*pub (const )?fn ", row) or rows[at].endswith(";") or block and block[3]:
+                    functions.setdefault(function[2], []).append((owner, path, "\n".join(head)))
                 at = at if rows[at].endswith((";", "{}")) else rows.index(function[1] + "}", at)
-            elif of and not (of_others and re.match(r"\s+\w+: \S.*,$", row)):
-                types.setdefault(of, []).append(re.sub(r"^(\s*)pub(\(\w+\))? ", r"\1", row))
+            elif block and (block[0] or block[3]) and not (of_others and is_hidden(block, row)):
+                only = path if is_hidden(block, row) else None
+                types.setdefault(block[1] or block[4], []).append((only, path, re.sub(r"^(\s*)pub(\(\w+\))? ", r"\1", row)))
             at += 1
     return functions, types
+
+
+def reached(file, text, whole, owners, functions, types):
+    """Returns the heads of the functions that a part of a file's text may call, and the rows of the types that it may meet, each with its file. A
+    function is one of the file, or one that it brings or names by its module; a method is one of a type that the part names, or that such a head or
+    row names, since no value of another type can be at hand, or of a trait."""
+    called = set(re.findall(r"\b(\w+)(?:::<[^>]*>)?\(", whole))
+    is_brought = lambda name: f"::{name}" in whole or re.search(rf"\buse [^;]*\b{name}\b", text)
+    is_seen = lambda only: not only or file == only or file.startswith(only[: -len(".rt")] + "/")
+    words, before = {*re.findall(r"\b[A-Z]\w*", whole), *owners}, None
+    while words != before:
+        before, found = words, set()
+        for name in called:
+            for owner, path, head in functions.get(name, []):
+                if owner in words or owner == TRAIT or not owner and (path == file or is_brought(name)):
+                    found.add((head, path))
+        found |= {(row, path) for word in words for only, path, row in types.get(word, []) if is_seen(only)}
+        words = words.union(*(re.findall(r"\b[A-Z]\w*", it) for it, _ in found))
+    return sorted(found)
 
 
 def lemmas(crate, text):
     """Returns the files of lemmas of this crate that a text names."""
     found = set()
-    for path in re.findall(rf"Rattle\.{crate}\.proofs\.([\w.]+)", text.decode()):
+    for path in re.findall(rf"Rattle\.{crate}\.proofs\.([\w.]+)", text):
         parts = path.rstrip(".").split(".")
         names = [f"crates/{crate}/proofs/{'/'.join(parts[:end])}.antt" for end in range(len(parts), 0, -1)]
         found.update([it for it in names if os.path.isfile(it)][:1])
     return found
 
 
+def owner_of(rows, at):
+    """Returns the head of the block around a method, as `BLOCK` parts it; nothing of a function that is none."""
+    return next((BLOCK.match(rows[i]) for i in range(at, -1, -1) if BLOCK.match(rows[i])), None) if re.match(r"\s", rows[at]) else None
+
+
+def source(path):
+    """Returns a file's text without comments."""
+    if path not in SOURCES:
+        SOURCES[path] = re.sub(r"--[^\n]*|(?m:^\s*//.*\n)", "", text_of(path).decode())
+    return SOURCES[path]
+
+
+def named(text, path):
+    """Returns the definitions that a text in a file names, of those that the file brings."""
+    tokens = {it for token in re.findall(r"[^\s(){}\[\],;]+", text) for it in (token, token.split(".")[0])}
+    found = set()
+    for crate, module, names in inside.IMPORT.findall(source(path)):
+        for name in names.split(","):
+            name, _, alias = name.strip().partition(" as ")
+            word, key = alias.strip() or name, (crate, module, name)
+            if word in tokens or "◌" in word and any(it in text for it in word.split("◌") if it):
+                found.add(key if key in definitions().texts else definitions().owners.get(key))
+    return found - {None}
+
+
+@functools.cache
+def definitions():
+    return inside.Definitions()
+
+
 def own_texts(edit, functions, types):
-    """Returns the texts of an edit and of its functions, with what they name of functions and types, and their proofs."""
-    texts = {f"tests/edits/{edit.crate}/{edit.name}": text_of(f"tests/edits/{edit.crate}/{edit.name}")}
-    for file in {file for file, _, _ in edit.pairs}:
-        rows = text_of(f"crates/{edit.crate}/{file}").decode().split("\n")
-        parts = [rows[first - 1 : last] for its, first, last in edit.lines if its == file] or [rows]
+    """Returns the texts on which the refusal of an edit hangs, and the definitions that they name."""
+    texts, found = [text_of(f"tests/edits/{edit.crate}/{edit.name}").decode()], set()
+    for file in sorted({file for file, _, _ in edit.pairs}):
+        path = f"crates/{edit.crate}/{file}"
+        rows = text_of(path).decode().split("\n")
+        spans = [it[1:] for it in edit.lines if it[0] == file]
+        parts = [rows[first - 1 : last] for first, last in spans] or [rows]
         whole = "\n".join(it for part in parts for it in part if not re.match(r"\s*//", it))
-        called = sorted(set(re.findall(r"\b(\w+)(?:::<[^>]*>)?\(", whole + str(edit.pairs))))
-        named = sorted(set(re.findall(r"\b[A-Z]\w*", whole + str(edit.pairs))))
-        imports = "\n".join(it for it in rows if "ghost use " in it)
-        heads = [it for name in called for it in functions.get(name, [])] + [it for name in named for it in types.get(name, [])]
-        texts[file] = "\n".join([whole, imports, *heads]).encode()
-    for path in files_below(f"crates/{edit.crate}/proofs"):
-        if os.path.basename(os.path.dirname(path)) in edit.names():
-            texts[path] = text_of(path)
-    return texts
-
-
-def closure(crate, texts):
-    """Adds the definitions, and the crate's own lemmas, that texts stand on."""
-    left = [it for text in [*texts.values()] for it in cited(text) | lemmas(crate, text)]
-    while left:
-        path = left.pop()
-        if path not in texts:
-            texts[path] = text_of(path)
-            left += cited(texts[path]) | lemmas(crate, texts[path])
-    return texts
+        owners = [begun[5] for first, _ in spans for begun in [owner_of(rows, first - 1)] if begun]
+        texts.append(whole)
+        found |= named(whole, path)
+        for text, its in reached(path, source(path), whole + str(edit.pairs), owners, functions, types):
+            texts.append(text)
+            found |= named(text, its)
+    left = {path for path in files_below(f"crates/{edit.crate}/proofs") if os.path.basename(os.path.dirname(path)) in edit.names()}
+    seen = set()
+    while left - seen:
+        path = min(left - seen)
+        seen.add(path)
+        left |= lemmas(edit.crate, source(path))
+        found |= named(source(path), path)
+    # where words are brought from says nothing: their definitions are among the texts
+    texts += [re.sub(r"(?m)^(pub )?use .*\n", "", source(path)) for path in sorted(seen)]
+    return texts, definitions().closure(found)
 
 
 def sums_of(crate, below):
     """Returns for each edit of a crate a sum of all that its refusal hangs on. A body is refused for a goal that its contract and those of the
-    functions which it calls make false, whatever their bodies and proofs are: so there count its function with its proof, the heads of all
-    functions of the names that it calls, in this crate and those below, the types that it names, and the definitions and own lemmas that these stand on."""
+    functions which it calls make false, whatever their bodies and proofs are: so there count its function with its proof, the heads of the functions that
+    it may call, in this crate and those below, the types that it may meet, as far as they are seen there, and the definitions, wherever they stand, and
+    own lemmas that these stand on."""
     functions, types = {}, {}
     for name in [*below[crate], crate]:
         for all_of, own in zip((functions, types), pieces(name, name != crate)):
             for word, heads in own.items():
                 all_of.setdefault(word, []).extend(heads)
-    judged = f"{logic()} {TRIAL}".encode()
+    judged = f"{logic()} {TRIAL}"
     sums = {}
     for path in files_below(f"tests/edits/{crate}"):
         edit = Edit(crate, path)
-        made = hashlib.sha256(judged)
-        texts = closure(crate, own_texts(edit, functions, types))
-        for name in sorted(texts):
-            made.update(name.encode() + b"\n" + texts[name])
-        sums[f"{crate}/{edit.name}"] = made.hexdigest()[:32]
+        texts, found = own_texts(edit, functions, types)
+        texts += sorted(f"{key[2]}\n{definitions().texts[key]}" for key in found)
+        sums[f"{crate}/{edit.name}"] = hashlib.sha256("\n\n".join([judged, *texts]).encode()).hexdigest()[:32]
     return sums
 
 
@@ -360,11 +414,6 @@ def known():
     return dict(it.split()[:2] for it in open(TRIED, encoding="utf-8")) if os.path.isfile(TRIED) else {}
 
 
-def moved():
-    """Returns the edits that were refused before definitions moved, and are still to be tried where these stand now: a third word says so."""
-    return {it.split()[0] for it in open(TRIED, encoding="utf-8") if it.split()[2:]} if os.path.isfile(TRIED) else set()
-
-
 def write_down(crate, sums):
     """Writes down of which texts a crate's edits were refused. Other crates may be tried at the same time."""
     with open(TRIED, "a+", encoding="utf-8") as file:
@@ -385,11 +434,9 @@ def main(words):
     failed = []
     for crate in names:
         sums, refused = sums_of(crate, below), known()
-        before = moved().intersection(sums)
-        left = [it for it in sums if refused.get(it) != sums[it] or "--all" in words or it in before and "--known" not in words]
+        left = [it for it in sums if refused.get(it) != sums[it] or "--all" in words]
         if not left:
-            told = f", {len(before)} of them before definitions moved: make edits CRATES={crate} tries these" if before else ""
-            print(f"{crate}: its {len(sums)} edits were all refused{told or ' on just this text'}")
+            print(f"{crate}: its {len(sums)} edits were all refused on just this text")
         elif "--known" in words:
             print(f"{crate}: {len(left)} of its {len(sums)} edits are still to be tried, as {left[0]}: rt check in its folder,")
             print(f"  make edits CRATES={crate}, and commit {TRIED}")

@@ -39,3 +39,5 @@ pub mod GoingOn
 pub mod Overfull
 -- What stands behind a rule's own sites are fields that its demands open.
 pub mod OpenedFields
+-- A visit of a rule may lack memory before anything is told.
+pub mod Refused

@@ -10,7 +10,6 @@ pub mod RuleFaults
 mod Cases
 -- A table of sites and the sorted table of their numbers.
 pub mod Numbering
-pub mod Copies
 -- What a rule's visit gathers.
 pub mod Building
 -- Tables of sites, and what is moved between them.

@@ -1,8 +1,5 @@
 -- Tables of sites, in which each stands once.
-use Rattle.std.specs.Prelude.{◌≡◌, ◌≤◌, ◌⊎◌, ℕ, List, [], ◌∷◌, ◌++◌, Option, Some, MatchOption, length, slice_get, ◌<◌, Contains}
-use Rattle.std.specs.BTreeMap.{is_at}
-use Rattle.std.specs.Map.{lookup}
-use Rattle.std.specs.declared.cmp.Ordering.{Ordering}
+use Rattle.std.specs.Prelude.{◌≡◌, ◌⊎◌, ℕ, List, [], ◌∷◌, ◌++◌, Option, Some, MatchOption, length, slice_get, ◌<◌, Contains}
 use Rattle.isle_blocks.specs.declared.ids.BindingId.{BindingId}
 use Rattle.isle_blocks.specs.declared.binding.Binding.{Binding}
 use Rattle.isle_types.specs.Names.{AreDistinct}
@@ -25,16 +22,6 @@ IsInterned sites site id new =
 -- no number is left for a site that isn't there
 abbrev pub IsFull : List Binding → Binding → Type 0
 IsFull sites site = IsAbsent sites site × (length sites ≡ 65536)
-
--- what a sorted table has at a site
-abbrev pub number_at : (Binding → Binding → Ordering) → List (Binding × BindingId) → Binding → Option BindingId
-number_at cmp numbers site = lookup (is_at (cmp site)) numbers
-
--- a sorted table has exactly the sites, each with its place
-pub record AreNumbered (cmp : Binding → Binding → Ordering) (sites : List Binding) (numbers : List (Binding × BindingId)) : Type 0 where
-  pub bound : length sites ≤ 65536
-  pub found : (site : Binding) (id : BindingId) → number_at cmp numbers site ≡ Some id → slice_get sites id.0 ≡ Some site
-  pub numbered : (k : ℕ) (site : Binding) → slice_get sites k ≡ Some site → number_at cmp numbers site ≡ Some (record { 0 = k })
 
 -- Each site stands once, behind its parts.
 pub record IsTable (table : List Binding) : Type 0 where

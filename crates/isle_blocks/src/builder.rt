@@ -105,17 +105,20 @@ impl RuleSetBuilder {
     ghost use Rattle.isle_blocks.specs.Inside.Building.Steps.{makes, takes};
     ghost use Rattle.isle_blocks.specs.Inside.Building.Parts.{part_site};
 
-    /// Nothing is gathered yet.
-    fn new(alloc: Global) -> Self
-        ensures { result ≡ nothing_gathered }
+    /// Nothing is gathered yet. There is room for what most rules have: a list that grows past a kilobyte has the C library
+    /// join all that was freed.
+    fn new(alloc: Global) -> Result<Self, AllocError>
+        ensures { IfOk result (λ made. made ≡ nothing_gathered) }
     {
-        RuleSetBuilder {
+        let sites = Sites::with_capacity(alloc, 20)?;
+        let has = Vec::with_capacity(alloc, 16)?;
+        Ok(RuleSetBuilder {
             alloc,
-            sites: Sites::new(alloc),
-            has: Vec::new(alloc),
+            sites,
+            has,
             same: Vec::new(alloc),
             impure: Vec::new(alloc),
-        }
+        })
     }
 
     /// The number of a site, which is there now.
@@ -512,7 +515,7 @@ pub(crate) fn build_rule(
     ensures defined { IfErr result (λ fault. UsesWhatIsDefined termenv.now rule.now fault) }
     ensures full { IfErr result (λ fault. fault ≡ VisitFault.Size → HasTooManySites termenv.now rule.now) }
 {
-    let mut builder = RuleSetBuilder::new(alloc);
+    let mut builder = RuleSetBuilder::new(alloc)?;
     let result = rule.visit(alloc, &mut builder, termenv)?;
     let RuleSetBuilder {
         alloc: _alloc,

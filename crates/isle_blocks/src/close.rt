@@ -84,16 +84,34 @@ fn reduce(
     }
 }
 
+/// Whether each of so many sites is alone, and there are no others.
+fn are_alone(count: usize, class: &[usize]) -> bool
+    ensures { result ≡ true → (length class.now ≡ count) × ((a : ℕ) → a < count → slice_index class.now a ≡ a) }
+{
+    if class.len() != count {
+        return false;
+    }
+    for a in 0..count {
+        if class[a] != a {
+            return false;
+        }
+    }
+    true
+}
+
 /// The test of each site: that of its representative.
 fn spread(
     alloc: Global,
-    own: &[Option<Constraint>],
+    own: Vec<Option<Constraint>>,
     class: &[usize],
 ) -> Result<Vec<Option<Constraint>>, AllocError>
-    requires { (a : ℕ) → a < length class.now → slice_index class.now a < length own.now }
+    requires { (a : ℕ) → a < length class.now → slice_index class.now a < length own.items }
     ensures { IfOk result (λ each. (vec_len each ≡ length class.now)
-        × ((a : ℕ) → a < length class.now → slice_index_or each.items a None ≡ slice_index_or own.now (slice_index class.now a) None)) }
+        × ((a : ℕ) → a < length class.now → slice_index_or each.items a None ≡ slice_index_or own.items (slice_index class.now a) None)) }
 {
+    if are_alone(own.len(), class) {
+        return Ok(own);
+    }
     let mut each = Vec::with_capacity(alloc, class.len())?;
     for root in class {
         each.push(own[*root])?;
@@ -111,7 +129,7 @@ fn finish(alloc: Global, sites: &mut Sites, reduced: Reduced) -> Result<Closed, 
 {
     let Reduced { own, mut class } = reduced;
     complete(sites, &own, &mut class)?;
-    let each = spread(alloc, &own, &class)?;
+    let each = spread(alloc, own, &class)?;
     Ok(Closed { each, class })
 }
 

@@ -25,7 +25,8 @@ pub(crate) fn tests_of(
     ensures tests { IfOk result (λ tests. AreTestsOf numbers.now each.now tests) }
     ensures ascending { IfOk result (λ tests. IsStrictlySortedBy site_cmp (keys_of tests)) }
 {
-    let mut tests = SortedMap::new(alloc);
+    let count = each.iter().filter(|test| test.is_some()).count();
+    let mut tests = SortedMap::with_capacity(alloc, count)?;
     for k in 0..each.len() {
         if let Some(test) = each[k] {
             tests.insert(numbers[k], test)?;

@@ -5,28 +5,25 @@ ghost use Rattle.isle_blocks.specs.Tables.{IsFound, IsInterned, IsFull};
 
 use crate::binding::Binding;
 use crate::ids::BindingId;
-use isle_types::SortedMap;
+use isle_types::SortedSet;
 use std::alloc::{AllocError, AllocFailed, Global};
 use std::marker::Model;
 
 /// The sites of a rule or of a rule set: each once; a site's number is its place.
 #[derive(Debug, Drop)]
 pub(crate) struct Sites {
-    bindings: Vec<Binding>,
-    numbers: SortedMap<Binding, BindingId>,
+    bindings: SortedSet<Binding>,
 }
 
 impl Model for Sites {
-    ghost use Rattle.std.specs.Prelude.{List};
+    ghost use Rattle.std.specs.Prelude.{List, ◌≤◌, length};
     ghost use Rattle.isle_blocks.specs.declared.binding.Binding.{Binding};
 
     ghost Value = { List Binding };
 
-    ghost use Rattle.isle_blocks.specs.Tables.{AreNumbered};
+    ghost view = { λ sites. sites.bindings };
 
-    ghost view = { λ sites. sites.bindings.items };
-
-    ghost invariant = { λ sites. AreNumbered ⟦<Binding as Ord>⟧.cmp sites.bindings.items sites.numbers };
+    ghost invariant = { λ sites. length sites.bindings ≤ 65536 };
 }
 
 /// Why a site gets no number.
@@ -65,9 +62,16 @@ impl Sites {
         ensures { result ≡ [] }
     {
         Sites {
-            bindings: Vec::new(alloc),
-            numbers: SortedMap::new(alloc),
+            bindings: SortedSet::new(alloc),
         }
+    }
+
+    /// No sites, and room for so many.
+    pub(crate) fn with_capacity(alloc: Global, count: usize) -> Result<Self, AllocError>
+        ensures { IfOk result (λ made. made ≡ []) }
+    {
+        let bindings = SortedSet::with_capacity(alloc, count)?;
+        Ok(Sites { bindings })
     }
 
     /// The number of sites, which is at most 65,536.
@@ -90,11 +94,7 @@ impl Sites {
     pub(crate) fn into_bindings(self) -> Vec<Binding>
         ensures { result.items ≡ self }
     {
-        let Sites {
-            bindings,
-            numbers: _numbers,
-        } = self;
-        bindings
+        self.bindings.into_vec()
     }
 
     /// The site with a number.
@@ -108,7 +108,10 @@ impl Sites {
     pub(crate) fn find(&self, binding: &Binding) -> Option<BindingId>
         ensures { IsFound self.now binding.now result }
     {
-        self.numbers.get(binding).copied()
+        match self.bindings.find(binding) {
+            Some(number) => Some(BindingId(number as u16)),
+            None => None,
+        }
     }
 
     /// The number of a site, which is there now.
@@ -117,16 +120,10 @@ impl Sites {
         ensures err { OnErr result (self.new ≡ self.old) }
         ensures full { IfErr result (λ fault. fault ≡ SiteFault.Size → IsFull self.old binding) }
     {
-        if let Some(id) = self.find(&binding) {
-            return Ok(id);
+        if self.bindings.len() > u16::MAX as usize {
+            return self.find(&binding).ok_or(SiteFault::Size);
         }
-        let Ok(id) = BindingId::try_from(self.bindings.len()) else {
-            return Err(SiteFault::Size);
-        };
-        self.bindings.reserve(1)?;
-        let key = binding.clone()?;
-        self.numbers.insert(key, id)?;
-        self.bindings.push(binding)?;
-        Ok(id)
+        let number = self.bindings.insert(binding)?;
+        Ok(BindingId(number as u16))
     }
 }

@@ -1,6 +1,6 @@
 //! Calls of the containers.
 use crate::tried::{Tried, push_number};
-use isle_types::{DisjointSets, SortedMap, StableMap, StableSet};
+use isle_types::{DisjointSets, SortedMap, SortedSet, StableMap, StableSet};
 use std::alloc::{AllocError, Global};
 
 /// A set of so many numbers takes in the next one.
@@ -53,6 +53,23 @@ pub fn insert_in_sorted(alloc: Global, size: u64) -> Result<Tried, AllocError> {
         if let Some((key, _value)) = map.entry(place) {
             push_number(alloc, &mut state, *key)?;
         }
+    }
+    Ok(Tried {
+        is_answered: inserted.is_ok(),
+        state,
+    })
+}
+
+/// A sorted set of the numbers from 1 takes in 0, which gets the last number.
+pub fn insert_in_numbered(alloc: Global, size: u64) -> Result<Tried, AllocError> {
+    let mut set: SortedSet<u64> = SortedSet::new(alloc);
+    for number in 0..size {
+        set.insert(number.saturating_add(1))?;
+    }
+    let inserted = set.insert(0);
+    let mut state = format!(in alloc; "{} of", set.len())?;
+    for member in set.as_slice() {
+        push_number(alloc, &mut state, *member)?;
     }
     Ok(Tried {
         is_answered: inserted.is_ok(),

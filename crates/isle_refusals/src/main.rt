@@ -19,6 +19,7 @@ use tried::Tried;
 const CALLS: &str = "set 9
 map 9
 sorted 4
+numbered 4
 merge 4
 remove 2
 intern 4
@@ -40,6 +41,7 @@ fn outcome(alloc: Global, name: &str, size: u64) -> Result<Option<Tried>, AllocE
         "set" => Ok(Some(containers::insert_in_set(alloc, size)?)),
         "map" => Ok(Some(containers::insert_in_map(alloc, size)?)),
         "sorted" => Ok(Some(containers::insert_in_sorted(alloc, size)?)),
+        "numbered" => Ok(Some(containers::insert_in_numbered(alloc, size)?)),
         "merge" => Ok(Some(containers::merge(alloc, size)?)),
         "remove" => Ok(Some(containers::remove(alloc, size)?)),
         "intern" => Ok(Some(environments::intern(alloc, size)?)),

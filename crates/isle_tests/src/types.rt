@@ -3,4 +3,5 @@ mod disjoint_sets;
 pub mod environments;
 mod numbers;
 mod sorted_maps;
+mod sorted_sets;
 mod stable_maps;

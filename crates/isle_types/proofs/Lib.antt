@@ -22,6 +22,12 @@ pub mod BinaryDigits
 pub mod Searches
 -- The entries at places in range: how many, and which stands where.
 pub mod SortedPlaces
+-- The members of a set by their order: what a search found, and one more member.
+pub mod OrderedMembers
+-- The numbers of members in an order that is level exactly at the same.
+pub mod LevelMembers
+-- Entries of a map in an order that is level exactly at the same.
+pub mod LevelEntries
 -- What a search found, and what an edit at its place does to the entries in order.
 pub mod SortedEdits
 -- Pairs put into a map in turn, as look-ups from the last one back.

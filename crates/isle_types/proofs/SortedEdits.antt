@@ -1,40 +1,31 @@
 -- What a search found, and what an edit at its place does to the entries in order.
-use Rattle.std.proofs.Common.{◌≡◌, ◌≢◌, ℕ, zero, suc, ◌+◌, ◌-◌, ◌<◌, ◌≤◌, Bool, false, true, List, [], ◌∷◌, ◌++◌, length, get_or, set, map, take}
-use Rattle.std.proofs.Common.{drop, None, Some, Result, Ok, Err, refl, sym, ap, subst, ◌∙◌, inl, inr, arith}
+use Rattle.std.proofs.Common.{◌≡◌, ◌≢◌, ℕ, zero, suc, ◌+◌, ◌-◌, ◌<◌, ◌≤◌, Bool, false, true, List, [], ◌∷◌, ◌++◌, length, get_or, set}
+use Rattle.std.proofs.Common.{None, Some, Result, Ok, Err, refl, sym, ap, subst, ◌∙◌, inl, inr, arith}
 use Rattle.std.specs.declared.cmp.Ordering.{Ordering}
 use Rattle.std.specs.declared.cmp.Ordering.TheVariants.{Less, Equal, Greater}
 use Rattle.std.specs.Result.{result_ok}
 use Rattle.std.specs.Ordering.{is_eq, ordering_reverse}
 use Rattle.std.specs.Cmp.{IsTotalOrder}
 use Rattle.std.specs.BTreeMap.{insert_entry, is_at}
-use Rattle.std.specs.List.{All, AllWithin, HoldsAt, insert, position, position_or_len}
+use Rattle.std.specs.List.{AllWithin, HoldsAt, insert, position, position_or_len}
 use Rattle.std.specs.List.Sorted.{IsStrictlySortedBy}
 use Rattle.std.specs.Map.{keys_of, lookup}
 use Rattle.std.proofs.lemmas.Bool.{cases_lt, cases_eq, cases_order, lt-ltb, le-ltb}
 use Rattle.std.proofs.lemmas.Cmp.{alike_right, tied_itself}
-use Rattle.std.proofs.lemmas.List.{same_lists, get_or_read, length-set, map-set, map-append, set-get_or, take-map, drop-map, get_or-map}
-use Rattle.std.proofs.lemmas.List.{get_or-set_same, get_or-set_other, get_or_append_left, get_or_push, length_push}
+use Rattle.std.proofs.lemmas.List.{same_lists, get_or_read, length-set, map-set, set-get_or, get_or-map}
+use Rattle.std.proofs.lemmas.List.{get_or-set_same, get_or-set_other, length_push}
 use Rattle.std.proofs.lemmas.List.Edits.{length-insert, get_or-insert_below, get_or-insert_at, get_or-insert_above}
-use Rattle.std.proofs.lemmas.List.Elements.{All-head, All-tail, All-cons, All-append, All-take, All-drop}
 use Rattle.std.proofs.lemmas.List.Recursion.{found_at, found_nowhere}
 use Rattle.std.proofs.lemmas.List.Sums.{position_or_len_is}
 use Rattle.std.proofs.lemmas.Map.Keys.{Less-from_sorted, sorted_from_all_adjacent}
 use Rattle.isle_types.specs.SortedMaps.{IsSearchResult, IsSortedIndex, entries_at}
-use Rattle.isle_types.proofs.SortedPlaces.{AreWithin, entries_at-map, length-entries_at, length-keys_at, get_or-entries_at, get_or-keys_at}
+use Rattle.isle_types.proofs.SortedPlaces.{AreWithin, length-entries_at, length-keys_at, get_or-entries_at, get_or-keys_at}
+use Rattle.isle_types.proofs.SortedPlaces.{within-added, entries_at-added, map-insert}
 
-map-insert : {A B : Type 0} (f : A → B) (xs : List A) (i : ℕ) (x : A) → map f (insert xs i x) ≡ insert (map f xs) i (f x)
-map-insert f xs i x = rw (map-append, take-map, drop-map)
-
--- two functions that agree below n, on numbers below n
-map-agree : {X : Type 0} (f h : ℕ → X) (n : ℕ) (ks : List ℕ) → All (λ k. k < n) ks → ((k : ℕ) → k < n → f k ≡ h k) → map f ks ≡ map h ks
-map-agree f h n [] below agree = refl
-map-agree f h n (k ∷ ks) below agree = rw (agree k (All-head (λ j. j < n) k ks below))
-    (ap (λ l. h k ∷ l) (map-agree f h n ks (All-tail (λ j. j < n) k ks below) agree))
-
-position_from_len : {X : Type 0} (p : X → Bool) (xs : List X) (i : ℕ) → i < length xs → position_or_len p xs ≡ i → position p xs ≡ Some i
+pub position_from_len : {X : Type 0} (p : X → Bool) (xs : List X) (i : ℕ) → i < length xs → position_or_len p xs ≡ i → position p xs ≡ Some i
 position_from_len p xs i lt is = rw (is, lt-ltb i (length xs) lt)
 
-position_none : {X : Type 0} (p : X → Bool) (xs : List X) → position_or_len p xs ≡ length xs → position p xs ≡ None
+pub position_none : {X : Type 0} (p : X → Bool) (xs : List X) → position_or_len p xs ≡ length xs → position p xs ≡ None
 position_none p xs is = rw (is, le-ltb (length xs) (length xs) (omega arith))
 
 -- a list with no entry for a default finds nothing anyway
@@ -260,39 +251,17 @@ module _ {K V : Type 0} {cmp : K → K → Ordering} (total : IsTotalOrder cmp) 
 
   -- a new entry goes between those below and those above
   module _ {gap : ℕ} (absent : IsSearchResult cmp key (keys_of (entries_at entries places)) (Err gap)) (value : V) where
-    added_within : AreWithin (entries ++ (key, value) ∷ []) (insert places gap (length entries))
-    added_within =
-        let InRange : ℕ → Type 0 = λ place. place < length (entries ++ (key, value) ∷ []) in
-        let old : All InRange places = λ i d lt. omega (arith, length_push entries (key, value), index.in_range i d lt) in
-        let new : InRange (length entries) = omega (arith, length_push entries (key, value)) in
-        All-append InRange (take gap places) (length entries ∷ drop gap places) (All-take InRange gap places old)
-        (All-cons InRange (length entries) (drop gap places) new (All-drop InRange gap places old))
-
-    -- an entry that was there is read as before
-    same_reads : map (λ place. get_or (entries ++ (key, value) ∷ []) place (key, value)) places ≡ entries_at entries places
-    same_reads =
-        map-agree (λ place. get_or (entries ++ (key, value) ∷ []) place (key, value)) (λ place. get_or entries place (key, value))
-        (length entries) places index.in_range (λ place lt. get_or_append_left entries ((key, value) ∷ []) (key, value) place lt)
-        ∙ sym (entries_at-map entries places (key, value) index.in_range)
-
-    added_view_insert : entries_at (entries ++ (key, value) ∷ []) (insert places gap (length entries)) ≡ insert (entries_at entries places) gap
-        (key, value)
-    added_view_insert =
-        entries_at-map _ (insert places gap (length entries)) (key, value) added_within
-        ∙ map-insert (λ place. get_or (entries ++ (key, value) ∷ []) place (key, value)) places gap (length entries)
-        ∙ ap (λ l. insert l gap (get_or (entries ++ (key, value) ∷ []) (length entries) (key, value))) same_reads
-        ∙ ap (insert (entries_at entries places) gap) (get_or_push entries (key, value) (key, value) (length entries) refl)
-
     pub added_view : entries_at (entries ++ (key, value) ∷ []) (insert places gap (length entries)) ≡ insert_entry cmp
         (entries_at entries places) key value
-    added_view = added_view_insert ∙ insert_entry-gap cmp key value (entries_at entries places) gap
+    added_view = entries_at-added entries places gap (key, value) index.in_range ∙ insert_entry-gap cmp key value (entries_at entries places) gap
         (rw length_view (gap_in_range absent)) absent.place.0 absent.place.1
 
     pub added_index : IsSortedIndex cmp (entries ++ (key, value) ∷ []) (insert places gap (length entries))
     added_index = record {
-      in_range = added_within;
+      in_range = within-added entries places gap (key, value) index.in_range;
       as_many = omega (arith, length-insert places gap (length entries) (gap_in_range absent), index.as_many, length_push entries (key, value));
       ascending =
-          subst (IsStrictlySortedBy cmp) (sym (ap keys_of added_view_insert ∙ map-insert (λ e. e.0) (entries_at entries places) gap (key, value)))
+          subst (IsStrictlySortedBy cmp)
+          (sym (ap keys_of (entries_at-added entries places gap (key, value) index.in_range) ∙ map-insert (λ e. e.0) (entries_at entries places) gap (key, value)))
           (sorted-insert total key (keys_of (entries_at entries places)) gap index.ascending absent.in_range absent.place.0 absent.place.1);
     }

@@ -6,6 +6,7 @@ mod env;
 mod ids;
 mod laws;
 mod sorted_map;
+mod sorted_set;
 mod stablemapset;
 mod symbols;
 mod types;
@@ -20,6 +21,7 @@ pub use laws::{
     variant_ids_are_numbers,
 };
 pub use sorted_map::SortedMap;
+pub use sorted_set::SortedSet;
 pub use stablemapset::{StableMap, StableSet};
 pub use types::{
     BuiltinType, Fields, IntType, StructField, StructFields, TupleField, TupleFields, Type, Variant,

@@ -43,6 +43,18 @@ impl<K: Ord, V> SortedMap<K, V> {
         }
     }
 
+    /// An empty map that has room for so many entries.
+    pub fn with_capacity(alloc: Global, count: usize) -> Result<Self, AllocError>
+    where
+        K: Drop,
+        V: Drop,
+        ensures { IfOk result (λ made. made ≡ []) }
+    {
+        let entries = Vec::with_capacity(alloc, count)?;
+        let places = Vec::with_capacity(alloc, count)?;
+        Ok(SortedMap { entries, places })
+    }
+
     /// The number of entries.
     pub fn len(&self) -> usize
         ensures count { result ≡ length self.now }

@@ -9,12 +9,12 @@ mod printing;
 mod sharing;
 
 use isle_syntax::{Seq, Text};
-use isle_types::{SortedMap, TypeId, VariantId};
+use isle_types::{SortedSet, TypeId, VariantId};
 use std::alloc::{AllocError, Global};
 use std::marker::Model;
 
 /// A value in a store: a leaf, or data with the numbers of its fields.
-#[derive(Clone, PartialEq, Eq, PartialOrd, Ord, Drop)]
+#[derive(PartialEq, Eq, PartialOrd, Ord, Drop)]
 pub enum Stored {
     Bool(bool),
     /// The 128 bits of an integer: a number from 2^127 on is the negative one of its bits.
@@ -31,20 +31,16 @@ pub enum Stored {
 #[derive(Drop)]
 pub struct Store {
     alloc: Global,
-    values: Vec<Stored>,
-    numbers: SortedMap<Stored, usize>,
+    values: SortedSet<Stored>,
 }
 
 impl Model for Store {
     ghost use Rattle.std.specs.Prelude.{List};
     ghost use Rattle.isle_run.specs.declared.calls.store.Stored.{Stored};
-    ghost use Rattle.isle_run.specs.Inside.Stores.Tables.{AreNumbered};
 
     ghost Value = { List Stored };
 
-    ghost view = { λ store. store.values.items };
-
-    ghost invariant = { λ store. AreNumbered ⟦<Stored as Ord>⟧.cmp store.values.items store.numbers };
+    ghost view = { λ store. store.values };
 }
 
 impl Store {
@@ -54,8 +50,7 @@ impl Store {
     {
         Store {
             alloc,
-            values: Vec::new(alloc),
-            numbers: SortedMap::new(alloc),
+            values: SortedSet::new(alloc),
         }
     }
 
@@ -78,7 +73,7 @@ impl Store {
     pub fn is_same(&self, number: usize, other: usize) -> bool
         ensures { (v w : ShownValue) → Stands self.now v number → Stands self.now w other → IsTrue result ↔ (v ≡ w) }
     {
-        let _ = &self.values;
+        let _count = self.values.len();
         number == other
     }
 
@@ -86,7 +81,7 @@ impl Store {
     pub fn find(&self, stored: &Stored) -> Option<usize>
         ensures { IsFound self.now stored.now result }
     {
-        self.numbers.get(stored).copied()
+        self.values.find(stored)
     }
 
     /// The number of a value.
@@ -95,14 +90,6 @@ impl Store {
         ensures kept { Extends self.old self.new }
         ensures refused { OnErr result (self.new ≡ self.old) }
     {
-        if let Some(number) = self.find(&stored) {
-            return Ok(number);
-        }
-        let number = self.values.len();
-        self.values.reserve(1)?;
-        let key = stored.clone()?;
-        self.numbers.insert(key, number)?;
-        self.values.push(stored)?;
-        Ok(number)
+        self.values.insert(stored)
     }
 }

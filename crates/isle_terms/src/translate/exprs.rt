@@ -344,7 +344,7 @@ fn translate_each(
     ensures symbols { IfOk result (λ made. greatest (map expr_limit made.items) ≤ length context.now.tyenv.now.names) }
     ensures scope { OnOk result (bindings.new.scope ≡ bindings.old.scope) }
 {
-    let mut all = Vec::new(context.alloc);
+    let mut all = Vec::with_capacity(context.alloc, exprs.len())?;
     for i in 0..exprs.len() {
         let made = translate_expr(context, levels, caller, &exprs[i], Some(tys[i]), bindings)?;
         all.push(made)?;

@@ -478,7 +478,7 @@ fn read_each(
         (each_pattern (reads_in context.now levels) pos (trees_given parts.now) (numbers_of tys.now) bindings.old)) }
     ensures symbols { IfOk result (λ made. HaveKnownSymbols context.now made.items) }
 {
-    let mut all = Vec::new(context.alloc);
+    let mut all = Vec::with_capacity(context.alloc, parts.len())?;
     for i in 0..parts.len() {
         all.push(read_part(context, levels, &parts[i], tys[i], bindings)?)?;
     }

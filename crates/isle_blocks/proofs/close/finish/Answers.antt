@@ -11,7 +11,6 @@ spread-requires c = λ a h.
     let table = c.complete.new.sites in let class = c.complete.new.class.items in
     let grows = subst (λ (l : List (Option Constraint)). Grows l old first table class) c.deref.ensures.value c.in_ok-complete.ensures.grows in
     let after = grown_state own equals old table first class grows state in
-    let here : a < length class = subst (λ (l : List ℕ). a < length l) c.deref-3.ensures.value h in
+    let here : a < length class = subst (λ (l : List ℕ). a < length l) c.deref-2.ensures.value h in
     let root : get_or class a 0 < length own = after.roots a (let e = after.classes.fits in omega arith) in
-    subst (λ (l : List (Option Constraint)). get_or c.deref-3.result.now a 0 < length l) (sym c.deref-2.ensures.value)
-    (subst (λ (l : List ℕ). get_or l a 0 < length own) (sym c.deref-3.ensures.value) root)
+    subst (λ (l : List ℕ). get_or l a 0 < length own) (sym c.deref-2.ensures.value) root

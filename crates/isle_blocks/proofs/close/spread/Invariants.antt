@@ -5,5 +5,5 @@ use Rattle.isle_blocks.proofs.close.spread.Given as goal
 abbrev pub invariant-loop-root : goal.invariant-loop-root
 invariant-loop-root l = record {
   fits : vec_len l.each ≡ l.root-index;
-  same : (a : ℕ) → a < l.root-index → get_or l.each.items a None ≡ get_or l.own (get_or l.class a 0) None;
+  same : (a : ℕ) → a < l.root-index → get_or l.each.items a None ≡ get_or l.own.items (get_or l.class a 0) None;
 }

@@ -43,13 +43,13 @@ read_and-returns-clause-ok t c =
 
 pub read_each-loop-i-init : goal.read_each-loop-i-init
 read_each-loop-i-init t c = record {
-  read = rw c.new-all.ensures.items (after_none _);
-  symbols = rw c.new-all.ensures.items (omega arith);
+  read = rw c.in_ok-all.ensures.items (after_none _);
+  symbols = rw c.in_ok-all.ensures.items (omega arith);
 }
 
 pub read_each-returns-in_err-read_part-clause-err : goal.read_each-returns-in_err-read_part-clause-err
 read_each-returns-in_err-read_part-clause-err t c =
-    let p = err_from_is_err_and c.from_residual.result c.from_residual.ensures.1 in
+    let p = err_from_is_err_and c.from_residual-in_err-read_part.result c.from_residual-in_err-read_part.ensures.1 in
     let within : c.loop-i.i < length c.args.tys.now = omega arith in
     rw (p.1, p.2) (each_fails _ _ c.args.parts.now c.args.tys.now c.loop-i.i _ _ _ _ c.index-parts-i.result _ _ c.loop-i-test.true within
     c.index-parts-i.is c.in_err-read_part.ensures.err c.loop-i.invariant.read)

@@ -1,9 +1,10 @@
-use Rattle.std.proofs.Common.{subst, ◌∙◌}
+use Rattle.std.proofs.Common.{subst}
+use Rattle.isle_types.proofs.LevelMembers.{found_is}
 use Rattle.isle_run.specs.Inside.Stores.Tables.{IsFound}
-use Rattle.isle_run.proofs.Stores.Tables.{found_of}
+use Rattle.isle_run.proofs.Stores.Tables.{stored-level}
 use Rattle.isle_run.proofs.calls.store.Store.find.Goals as goal
 
 pub returns : goal.returns
 returns c =
-    subst (λ nodes. IsFound nodes c.args.stored.now c.copied.result) c.self.view_is
-    (found_of _ _ _ c.self.invariant c.args.stored.now c.copied.result (c.copied.ensures ∙ c.get.ensures))
+    subst (λ nodes. IsFound nodes c.args.stored.now c.find.result) c.self.view_is
+    (found_is stored-level c.self.inside.values c.args.stored.now c.find.result c.find.ensures)
