@@ -76,3 +76,5 @@ pub mod OneEnvironment
 pub mod Refusals
 -- Worked cases: which environment definitions make, or that they make none.
 pub mod EnvironmentCases
+-- Worked cases: the numbers of a set's members, and their order.
+pub mod SetCases
