@@ -5,6 +5,7 @@ sorted map: MB a second, or seconds, and the most memory it took.
 """
 
 import atexit
+import contextlib
 import os
 import random
 import shutil
@@ -182,11 +183,7 @@ HOST = "(decl pure partial m (u64) u64) (extern constructor m m)\n"
 
 def best_run(title, program, world, queries, check, options=()):
     """The seconds and the memory of the best of three runs on a program, a world and queries."""
-    with tempfile.TemporaryDirectory() as folder:
-        paths = [os.path.join(folder, name) for name in ("a.isle", "world", "queries")]
-        for path, text in zip(paths, (program, world, queries)):
-            with open(path, "w") as file:
-                file.write(text)
+    with files_of(program, world, queries) as paths:
         runs = [timed([ISLEC, "run", *options, "--world", paths[1], paths[0]], paths[2]) for _ in range(3)]
     seconds, memory, printed, _ = min(runs)
     if not check(printed):
@@ -230,15 +227,39 @@ def measure_calls(title, program, world, queries, check):
         print(f"{title} {road}: {seconds:.3f} s, {memory:.0f} MB of memory")
 
 
-def middle(words, text, check):
-    """The processor seconds of the middle one of nine runs on a text, and the most memory in bytes."""
-    with tempfile.NamedTemporaryFile("w", suffix=".isle") as file:
-        file.write(text)
-        file.flush()
-        runs = [timed([*words, *([file.name] if words[0] == ISLEC else [])], file.name) for _ in range(9)]
-    if not all(check(printed) for _, _, printed, _ in runs):
-        sys.exit(f"{words}: {runs[0][2][:80]}")
-    return sorted(processor for *_, processor in runs)[4], max(memory for _, memory, *_ in runs) * 2**20
+def in_rounds(jobs):
+    """What some jobs take in nine rounds, in each of which all run once, one after the other: a row of processor seconds for each round, and the
+    most memory of each job in bytes. What else the machine does so falls on all jobs alike. A job is words, the standard input's file, and a check."""
+    rounds, most = [], [0] * len(jobs)
+    for _ in range(9):
+        rounds.append([])
+        for at, (words, path, check) in enumerate(jobs):
+            _, memory, printed, processor = timed(words, path)
+            if not check(printed):
+                sys.exit(f"{words}: {printed[:80]}")
+            rounds[-1].append(processor)
+            most[at] = max(most[at], memory * 2**20)
+    return rounds, most
+
+
+def middle(figures):
+    ordered = sorted(figures)
+    return ordered[len(ordered) // 2]
+
+
+@contextlib.contextmanager
+def files_of(*texts):
+    """A file for each text, for a while."""
+    with tempfile.TemporaryDirectory() as folder:
+        paths = [os.path.join(folder, f"{at}.isle") for at in range(len(texts))]
+        for path, text in zip(paths, texts):
+            with open(path, "w") as file:
+                file.write(text)
+        yield paths
+
+
+def is_number(printed):
+    return printed.strip().isdigit()
 
 
 EXCEEDED = []
@@ -256,23 +277,22 @@ def multiples(bench):
     print("| Rules | Check, as a multiple of reading | At most | Trees, as a part of check | At most | Bytes of memory for each of the text | At most |")
     print("|---|---|---|---|---|---|---|")
     for number, most in ((500, 3), (1_000, 3), (2_000, 3), (4_000, 3), (8_000, 3.5)):
-        text = backend(number)
-        reading, _ = middle([bench], text, lambda it: it.strip().isdigit())
-        check, _ = middle([bench, "sets"], text, lambda it: it == f"{number // 20}\n")
-        trees, _ = middle([bench, "trees"], text, lambda it: it == f"{number // 20}\n")
-        _, memory = middle([ISLEC, "check"], text, lambda it: it == "accepted\n")
-        part = max(trees - check, 0) / check
-        print(f"| {number:,} | {held(check / reading, most, 1)} | {most} | {held(part, 0.5, 2)} | 0.5 | {held(memory / len(text), 100, 0)} | 100 |")
+        text, has_sets = backend(number), lambda it: it == f"{number // 20}\n"
+        with files_of(text) as [path]:
+            accepted = ([ISLEC, "check", path], path, lambda it: it == "accepted\n")
+            rounds, memory = in_rounds([([bench], path, is_number), ([bench, "sets"], path, has_sets), ([bench, "trees"], path, has_sets), accepted])
+        multiple = middle(check / reading for reading, check, *_ in rounds)
+        part = max(middle((trees - check) / check for _, check, trees, _ in rounds), 0)
+        print(f"| {number:,} | {held(multiple, most, 1)} | {most} | {held(part, 0.5, 2)} | 0.5 | {held(memory[3] / len(text), 100, 0)} | 100 |")
 
 
 def worlds_of_rules(bench):
     """Prints how much memory reading rules takes, and at which part of its speed worlds are read."""
-    text, _ = rules(4_000_000)
-    seconds, memory = middle([bench], text, lambda it: it.strip().isdigit())
-    print(f"reading 4 MB takes {held(memory / len(text), 33, 1)} bytes of memory for each of the text (at most 33)")
-    world = mixed_world(100_000)
-    taken = sorted(best_run("worlds", HOST, world, "", lambda it: it == "")[0] for _ in range(3))[1]
-    part = len(world) / taken / (len(text) / seconds)
+    text, world = rules(4_000_000)[0], mixed_world(100_000)
+    with files_of(text, HOST, world) as [path, host, entries]:
+        rounds, memory = in_rounds([([bench], path, is_number), ([ISLEC, "run", "--world", entries, host], os.devnull, lambda it: it == "")])
+    print(f"reading 4 MB takes {held(memory[0] / len(text), 33, 1)} bytes of memory for each of the text (at most 33)")
+    part = middle(len(world) / taken / (len(text) / reading) for reading, taken in rounds)
     print(f"a world of 100,000 entries is read at {part:.2f} of the speed of rules (at least 0.5)")
     if part < 0.5:
         EXCEEDED.append(part)
@@ -364,4 +384,5 @@ def main():
         sys.exit(f"{len(EXCEEDED)} figures are not what is asked")
 
 
-main()
+if __name__ == "__main__":
+    main()
