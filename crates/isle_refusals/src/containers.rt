@@ -3,12 +3,18 @@ use crate::tried::{Tried, push_number};
 use isle_types::{DisjointSets, SortedMap, SortedSet, StableMap, StableSet};
 use std::alloc::{AllocError, Global};
 
-/// A set of so many numbers takes in the next one.
-pub fn insert_in_set(alloc: Global, size: u64) -> Result<Tried, AllocError> {
-    let mut set: StableSet<u64> = StableSet::new(alloc);
+/// A set of so many numbers.
+fn set_of(alloc: Global, size: u64) -> Result<StableSet<u64>, AllocError> {
+    let mut set = StableSet::new(alloc);
     for number in 0..size {
         set.insert(number)?;
     }
+    Ok(set)
+}
+
+/// A set of so many numbers takes in the next one.
+pub fn insert_in_set(alloc: Global, size: u64) -> Result<Tried, AllocError> {
+    let mut set = set_of(alloc, size)?;
     let inserted = set.insert(size);
     let mut state = format!(in alloc; "{} of", set.len())?;
     for number in 0..=size {
@@ -22,12 +28,18 @@ pub fn insert_in_set(alloc: Global, size: u64) -> Result<Tried, AllocError> {
     })
 }
 
-/// A map of so many numbers takes in the next one.
-pub fn insert_in_map(alloc: Global, size: u64) -> Result<Tried, AllocError> {
-    let mut map: StableMap<u64, u64> = StableMap::new(alloc);
+/// A map of so many numbers, each with itself.
+fn map_of(alloc: Global, size: u64) -> Result<StableMap<u64, u64>, AllocError> {
+    let mut map = StableMap::new(alloc);
     for number in 0..size {
         map.insert(number, number)?;
     }
+    Ok(map)
+}
+
+/// A map of so many numbers takes in the next one.
+pub fn insert_in_map(alloc: Global, size: u64) -> Result<Tried, AllocError> {
+    let mut map = map_of(alloc, size)?;
     let inserted = map.insert(size, size);
     let mut state = format!(in alloc; "{} of", map.len())?;
     for number in 0..=size {
@@ -41,12 +53,18 @@ pub fn insert_in_map(alloc: Global, size: u64) -> Result<Tried, AllocError> {
     })
 }
 
-/// A sorted map of the numbers from 1 takes in 0, before all others.
-pub fn insert_in_sorted(alloc: Global, size: u64) -> Result<Tried, AllocError> {
-    let mut map: SortedMap<u64, u64> = SortedMap::new(alloc);
+/// A sorted map of so many numbers from 1, each with the one before it.
+fn sorted_map_of(alloc: Global, size: u64) -> Result<SortedMap<u64, u64>, AllocError> {
+    let mut map = SortedMap::new(alloc);
     for number in 0..size {
         map.insert(number.saturating_add(1), number)?;
     }
+    Ok(map)
+}
+
+/// A sorted map of the numbers from 1 takes in 0, before all others.
+pub fn insert_in_sorted(alloc: Global, size: u64) -> Result<Tried, AllocError> {
+    let mut map = sorted_map_of(alloc, size)?;
     let inserted = map.insert(0, size);
     let mut state = format!(in alloc; "{} of", map.len())?;
     for place in 0..map.len() {
@@ -60,12 +78,18 @@ pub fn insert_in_sorted(alloc: Global, size: u64) -> Result<Tried, AllocError> {
     })
 }
 
-/// A sorted set of the numbers from 1 takes in 0, which gets the last number.
-pub fn insert_in_numbered(alloc: Global, size: u64) -> Result<Tried, AllocError> {
-    let mut set: SortedSet<u64> = SortedSet::new(alloc);
+/// A sorted set of so many numbers from 1.
+fn sorted_set_of(alloc: Global, size: u64) -> Result<SortedSet<u64>, AllocError> {
+    let mut set = SortedSet::new(alloc);
     for number in 0..size {
         set.insert(number.saturating_add(1))?;
     }
+    Ok(set)
+}
+
+/// A sorted set of the numbers from 1 takes in 0, which gets the last number.
+pub fn insert_in_numbered(alloc: Global, size: u64) -> Result<Tried, AllocError> {
+    let mut set = sorted_set_of(alloc, size)?;
     let inserted = set.insert(0);
     let mut state = format!(in alloc; "{} of", set.len())?;
     for member in set.as_slice() {

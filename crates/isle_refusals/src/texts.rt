@@ -16,12 +16,18 @@ fn word(lexer: &mut Lexer<'_>) -> &'static str {
     }
 }
 
-/// The tokens of a text of so many symbols, until one is refused or the text ends, and what is answered twice behind that.
-pub fn next(alloc: Global, size: u64) -> Result<Tried, AllocError> {
+/// A text of so many symbols.
+fn symbols(alloc: Global, size: u64) -> Result<String, AllocError> {
     let mut text = String::new(alloc);
     for _ in 0..size {
         text.push_str("symbol ")?;
     }
+    Ok(text)
+}
+
+/// The tokens of a text of so many symbols, until one is refused or the text ends, and what is answered twice behind that.
+pub fn next(alloc: Global, size: u64) -> Result<Tried, AllocError> {
+    let text = symbols(alloc, size)?;
     let mut lexer = Lexer::new(alloc, 0, text.as_str());
     let mut last = word(&mut lexer);
     for _ in 0..size {

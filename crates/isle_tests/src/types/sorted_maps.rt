@@ -57,20 +57,24 @@ impl<'a> Ord for Counted<'a> {
     }
 }
 
+// A map with these keys, which count their comparisons.
+fn counted_map<'a>(
+    alloc: Global,
+    keys: &[u32],
+    calls: &'a Cell<u32>,
+) -> Result<SortedMap<Counted<'a>, ()>, Fail> {
+    let mut map = SortedMap::new(alloc);
+    for &number in keys {
+        map.insert(Counted { number, calls }, ())?;
+    }
+    Ok(map)
+}
+
 // The most comparisons that it takes to look for one of 0, 1, .., 9 among the keys, or `None`
 // where `find` tells of another number than the keys counted.
 fn most_comparisons(alloc: Global, keys: &[u32]) -> Result<Option<u32>, Fail> {
     let calls = Cell::new(0);
-    let mut map = SortedMap::new(alloc);
-    for &number in keys {
-        map.insert(
-            Counted {
-                number,
-                calls: &calls,
-            },
-            (),
-        )?;
-    }
+    let map = counted_map(alloc, keys, &calls)?;
     let mut most = 0;
     for number in 0..10 {
         calls.set(0);
