@@ -74,7 +74,5 @@ pub mod Reading
 pub mod OneEnvironment
 -- Definitions that are refused make no environment.
 pub mod Refusals
--- Worked cases: which environment definitions make, or that they make none.
-pub mod EnvironmentCases
--- Worked cases: the numbers of a set's members, and their order.
-pub mod SetCases
+-- Worked cases.
+pub mod Cases
