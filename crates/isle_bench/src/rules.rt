@@ -5,7 +5,7 @@ ghost use Rattle.isle_blocks.specs.DefinedSets.{AreDefined};
 use isle_blocks::{Block, check, serialize};
 use isle_syntax::lexer::Lexer;
 use isle_syntax::parser::parse;
-use isle_terms::TermEnv;
+use isle_terms::{FromAst, TermEnv};
 use isle_types::TypeEnv;
 use std::alloc::{AllocError, Global};
 

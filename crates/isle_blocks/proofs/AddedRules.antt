@@ -4,7 +4,7 @@ use Rattle.std.proofs.lemmas.Bool.{cases_lt}
 use Rattle.std.proofs.lemmas.List.{length-map}
 use Rattle.isle_types.specs.Names.{AreDistinct}
 use Rattle.isle_types.specs.declared.ids.Sym.{Sym}
-use Rattle.isle_terms.specs.TypedRules.{TypedRule}
+use Rattle.isle_rules.specs.TypedRules.{TypedRule}
 use Rattle.isle_meaning.specs.Facts.{TermFacts}
 use Rattle.isle_meaning.specs.Sites.{Site, iterator, make_some, site_of}
 use Rattle.isle_meaning.specs.Words.{word_of}
@@ -58,7 +58,8 @@ stands_for needed rows (next {needed = sites} {old = old} new site row j before 
     (s, more_needed sites s site n, subst (λ (l : List Row). At l s k) (sym e) p)
 stands_for needed rows (next {needed = sites} {old = old} new site row j before is (inr (absent, last, e))) k h =
     let put : IsPut old row j rows = inr (absent, last, e) in
-    let len : length rows ≡ suc (length old) = ap length e ∙ (let l : length (old ++ row ∷ []) ≡ suc (length old) = simp length-append (omega arith) in l) in
+    let len : length rows ≡ suc (length old) = ap length e ∙ (let l : length (old ++ row ∷ []) ≡ suc (length old) =
+    simp length-append (omega arith) in l) in
     elim (cases_lt k (length old)) [
       | inl less ↦
           let (s, n, p) = stands_for sites old before k less in
@@ -71,7 +72,8 @@ stands_for needed rows (next {needed = sites} {old = old} new site row j before 
           )
     ]
 
-each_grown : (name : Sym → List ℕ) (rows new : List Row) → Grown rows new → (ids : List BindingId) (ss : List Site) → StandEach rows ids ss → StandEach new ids ss
+each_grown : (name : Sym → List ℕ) (rows new : List Row) → Grown rows new → (ids : List BindingId) (ss : List Site)
+    → StandEach rows ids ss → StandEach new ids ss
 each_grown name rows new g [] [] h = tt
 each_grown name rows new g [] (s ∷ ss) h = absurd h
 each_grown name rows new g (id ∷ ids) [] h = absurd h
@@ -113,7 +115,10 @@ module _ (name : Sym → List ℕ) (injective : IsInjective name) (facts : TermF
       (value.0, put_there rows (row_of name (MakeSome value)) id.0 longer placed, at_grown rows longer grown site value.0 built.result) in
       let more : Adds [] (needs_of facts typed ++ make_some site ∷ []) longer =
       next longer (make_some site) (row_of name (MakeSome value)) id.0 built.sites (value.0, refl, built.result) placed in
-      let ok : IsTable new = record { earlier = parts_before name new (stands_before (needs_of facts typed ++ make_some site ∷ []) longer more); once = new_once } in
+      let ok : IsTable new = record {
+        earlier = parts_before name new (stands_before (needs_of facts typed ++ make_some site ∷ []) longer more);
+        once = new_once;
+      } in
       let recorded = recorded_grown rows longer (constraints_of name left.has) (pairs_of left.same) (demands_of facts typed) grown built.demands in
       let needed : (s : Site) → IsNeeded (needs_of facts typed) s → Stands longer s =
       λ s n. let (k, p) = all_needed s n in (k, at_grown rows longer grown s k p) in
@@ -123,7 +128,8 @@ module _ (name : Sym → List ℕ) (injective : IsInjective name) (facts : TermF
         needed = needed;
         only = λ s (k, p).
             let (t, n, q) = stands_for (needs_of facts typed ++ make_some site ∷ []) longer more k (at_within longer s k p) in
-            needed_or_last (needs_of facts typed) s (make_some site) (subst (λ (z : Site). IsNeeded (needs_of facts typed ++ make_some site ∷ []) z) (one_site longer t s k q p) n);
+            needed_or_last (needs_of facts typed) s (make_some site)
+            (subst (λ (z : Site). IsNeeded (needs_of facts typed ++ make_some site ∷ []) z) (one_site longer t s k q p) n);
         value = result;
         effects = each_grown name rows longer grown left.impure (impure_of facts typed) built.impure;
         order = more;

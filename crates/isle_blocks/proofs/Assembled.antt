@@ -32,7 +32,7 @@ use Rattle.isle_blocks.specs.Closure.{Stands}
 use Rattle.isle_blocks.specs.Inside.Placing.{IsExplained, IsPlacedRule}
 use Rattle.isle_blocks.specs.Inside.Assembly.{IsAssembledRule, multi_call}
 use Rattle.isle_blocks.specs.Building.Standing.{StandEach, Adds, GoesOn, IsFieldRow, NumbersBehind}
-use Rattle.isle_blocks.specs.FieldOrder.{AreInOrder}
+use Rattle.isle_blocks.specs.Closure.{AreInOrder}
 use Rattle.isle_blocks.proofs.Closure.FieldOrder.{rows_in_order}
 use Rattle.isle_blocks.proofs.Building.OpenedFields.{opened}
 use Rattle.isle_blocks.proofs.Closure.Pairs.{own_in}
@@ -78,7 +78,11 @@ module _ (name : Sym → List ℕ) (injective : IsInjective name) (ds : List Dem
   moved_to = numbered_at p.between grown table numbers p.moved p.opened.sites p.closure.sites name injective
 
   moved_stands : (s : Site) → Stands (rows_of name grown) s → Stands (rows_of name table) s
-  moved_stands s (k, q) = (place_in (numbers_of numbers) k, to_at p.between grown table numbers p.moved p.opened.sites p.closure.sites name injective s k q)
+  moved_stands s (k, q) = (
+    place_in (numbers_of numbers) k,
+    to_at p.between grown table numbers p.moved p.opened.sites
+        p.closure.sites name injective s k q,
+  )
 
   tests_derived : (tests : List (BindingId × Constraint)) → AreTestsOf numbers each tests → AreDerived name (rows_of name table) (Among ds) tests
   tests_derived tests are = record {
@@ -95,8 +99,10 @@ module _ (name : Sym → List ℕ) (injective : IsInjective name) (ds : List Dem
   }
 
   -- a site without a test has no derived constraint
-  no_constraint : (a : ℕ) (s : Site) → At (rows_of name grown) s a → get_or each a None ≡ None → (c : meaning.Constraint) → Derived D (constrained s c) → ⊥
-  no_constraint a s q none c d = let (test, has, e) = (p.closure.tested a s c q).1 d in absurd (let x : ◌≡◌ {A = Option Constraint} None (Some test) = sym none ∙ has in cc)
+  no_constraint : (a : ℕ) (s : Site) → At (rows_of name grown) s a → get_or each a None ≡ None → (c : meaning.Constraint)
+      → Derived D (constrained s c) → ⊥
+  no_constraint a s q none c d = let (test, has, e) = (p.closure.tested a s c q).1 d in
+      absurd (let x : ◌≡◌ {A = Option Constraint} None (Some test) = sym none ∙ has in cc)
 
   untested : (a : ℕ) (s : Site) → At (rows_of name grown) s a → ((c : meaning.Constraint) → Derived D (constrained s c) → ⊥) → IsUntested each class a
   untested a s q none = record {
@@ -211,7 +217,8 @@ module _ (name : Sym → List ℕ) (injective : IsInjective name) (ds : List Dem
       let (site, at, is) = get_row name grown j (iterator_row x) row in
       let same : site ≡ Iterator source = row-injective name injective site (Iterator source) is in (
         new_number numbers source,
-        picked (multi_call (new_number numbers)) grown (Iterator source) (new_number numbers source) (stands_at grown j (Iterator source) (at ∙ ap Some same)) refl,
+        picked (multi_call (new_number numbers)) grown (Iterator source) (new_number numbers source)
+            (stands_at grown j (Iterator source) (at ∙ ap Some same)) refl,
         moved_grown s source inner,
       )
 
@@ -227,7 +234,8 @@ module _ (name : Sym → List ℕ) (injective : IsInjective name) (ds : List Dem
         (picked_once (multi_call (new_number numbers)) grown (λ i j site e f. p.closure.sites.once site i j e f) call_once));
   }
 
-  goes_on : (mid : List Binding) → ((k : ℕ) (b : Binding) → slice_get mid k ≡ Some b → slice_get table k ≡ Some b) → GoesOn (rows_of name mid) (rows_of name table)
+  goes_on : (mid : List Binding) → ((k : ℕ) (b : Binding) → slice_get mid k ≡ Some b → slice_get table k ≡ Some b)
+      → GoesOn (rows_of name mid) (rows_of name table)
   goes_on mid keeps k row e = let (b, at, is) = get_row name mid k row e in row_get name table k b (keeps k b at) ∙ ap Some is
 
   ordered : (needed : List Site) → Adds [] needed (rows_of name own) → NumbersBehind (rows_of name base) needed (Among ds) (rows_of name table)
@@ -243,7 +251,8 @@ module _ (name : Sym → List ℕ) (injective : IsInjective name) (ds : List Dem
         opened = λ k high low. opened name injective ds base own table table_ok explained needed adds (rows_of name first.mid) added goes k high
             (subst (λ (n : ℕ). k < n) (length-map table (row_of name)) low);
         all = λ s u f. moved_stands u (p.closure.fields s u (recorded_field name own p.has p.same ds p.recorded s u f));
-        fields = subst (λ (n : ℕ). AreInOrder (IsFieldRow (rows_of name table)) n (length (rows_of name table))) (sym (length-map first.mid (row_of name)))
+        fields = subst (λ (n : ℕ). AreInOrder (IsFieldRow (rows_of name table)) n (length (rows_of name table)))
+            (sym (length-map first.mid (row_of name)))
             (rows_in_order name table (length first.mid) first.fields);
       }
 
@@ -254,7 +263,13 @@ module _ (name : Sym → List ℕ) (injective : IsInjective name) (ds : List Dem
       → IsAssembledRule name ds base own impure result table made
   assembled impure result made tests ascending equalities disjoint moved sorted effects value = record {
     reachable = p.reachable;
-    closed = record { tests = tests_derived made.constraints tests; ascending = ascending; equalities = equal_left made.equals equalities; disjoint = disjoint };
+    closed = record {
+      tests = tests_derived made.constraints tests;
+      ascending = ascending;
+      equalities =
+          equal_left made.equals equalities;
+      disjoint = disjoint;
+    };
     calls = calls_are made.iterators moved sorted;
     kept = λ s k q. still_stands p.between grown table numbers p.moved p.opened.sites p.closure.sites name injective s k
         (stays name base p.between p.opened.kept s k q);

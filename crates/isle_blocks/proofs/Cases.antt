@@ -33,3 +33,11 @@ pub mod RuleErrors
 pub mod ShadowedRules
 -- What the nodes of a block show, and where their pieces end.
 pub mod ShownBlocks
+-- Two rules over a multi call of two values.
+pub mod TwoValues
+-- One rule over a multi call of three items.
+pub mod ThreeItems
+-- Three rules without multi calls.
+pub mod ThreeRules
+-- A rule over a multi call that nothing opens.
+pub mod UnopenedLoops

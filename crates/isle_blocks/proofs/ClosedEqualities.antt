@@ -134,7 +134,8 @@ module _ (rows : List Row) (once : StandOnce rows) where
     left_site : (x : BindingId) → Contains (members equals) x → (s : Site) × At rows s x.0 × (u : Site) × Closed D (equal s u)
     left_site x h =
         let (set, stands, within) = set_of_member equals x h in
-        let (y, apart, beside) = other_item set x (set_long equals set disjoint stands) (set_once equals set (members_once equals disjoint) stands) within in
+        let (y, apart, beside) = other_item set x (set_long equals set disjoint stands)
+        (set_once equals set (members_once equals disjoint) stands) within in
         let (s, u, at, there, closed) = left.left x y apart (joined_at equals x y set stands within beside) in
         (s, at, u, closed)
 

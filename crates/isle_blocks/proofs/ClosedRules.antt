@@ -65,9 +65,14 @@ module _ (name : Sym → List ℕ) (injective : IsInjective name) (rows : List R
       subst (λ (t : Constraint). Contains second (k, t)) alike (subst (λ (id : BindingId). Contains second (id, other)) same also)
 
 pub numbers_say_differ : NumbersSayDiffer
-numbers_say_differ name injective rows once ds es first second left right =
-    (differ_from_apart name injective rows once (Among ds) (Among es) first second left right, apart_from_differ name injective rows once (Among ds) (Among es) first second left right)
+numbers_say_differ name injective rows once ds es first second left right = (
+  differ_from_apart name injective rows once (Among ds) (Among es) first second left right,
+  apart_from_differ name injective rows once (Among ds) (Among es) first second left right,
+)
 
 pub numbers_say_within : NumbersSayWithin
-numbers_say_within name injective rows once ds es first second left right =
-    (meaning_within name injective rows once (Among ds) (Among es) first second left right, numbers_within name injective rows once (Among ds) (Among es) first second left right)
+numbers_say_within name injective rows once ds es first second left right = (
+  meaning_within name injective rows once (Among ds) (Among es) first second left right,
+  numbers_within name injective rows once
+      (Among ds) (Among es) first second left right,
+)

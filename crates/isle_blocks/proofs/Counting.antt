@@ -56,7 +56,8 @@ pairs_once xs apart i j x e f = elim (cases_lt i j) [
   | inl lt ↦ absurd (apart i j x lt (slice_get_within xs j x f) (get_or_from_slice_get xs i x x e ∙ sym (get_or_from_slice_get xs j x x f)))
   | inr ge ↦ elim (cases_eq i j) [
     | inl same ↦ same
-    | inr other ↦ absurd (apart j i x (omega arith) (slice_get_within xs i x e) (get_or_from_slice_get xs j x x f ∙ sym (get_or_from_slice_get xs i x x e)))
+    | inr other ↦ absurd (apart j i x (omega arith) (slice_get_within xs i x e)
+        (get_or_from_slice_get xs j x x f ∙ sym (get_or_from_slice_get xs i x x e)))
   ]
 ]
 

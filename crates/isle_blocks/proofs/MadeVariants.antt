@@ -1,13 +1,13 @@
 -- A variant that a rule makes is that of a term that the rule calls.
 use Rattle.std.proofs.Common.{◌≡◌, inl, inr, ℕ, zero, suc, Bool, true, false, List, [], ◌∷◌, ◌++◌, ◌==◌, Option, Some, slice_get, unwrap_or}
 use Rattle.std.proofs.Common.{refl, sym, ap, subst, ◌∙◌}
-use Rattle.isle_terms.specs.TypedRules.{TypedPattern, typed_bind, typed_var, typed_bool, typed_int, typed_prim, typed_term, typed_wildcard}
-use Rattle.isle_terms.specs.TypedRules.{typed_and, TypedPatterns, no_typed, more_typed, TypedExpr, built_var, built_bool, built_int}
-use Rattle.isle_terms.specs.TypedRules.{built_prim, built_term, built_let, TypedExprs, no_built, more_built, TypedBindings, no_typed_bindings}
-use Rattle.isle_terms.specs.TypedRules.{more_typed_bindings, built_at, Variable, TypedIfLet, TypedRule}
-use Rattle.isle_terms.specs.Signatures.{Flags, TermForm, variant_form, struct_form, declared_form, Signature, Declared}
-use Rattle.isle_terms.specs.Elaboration.{on_lhs}
-use Rattle.isle_terms.specs.SoundRules.WellTyped.{IsTypedExpr, AreTypedExprs, AreTypedBindings, AreTypedIfLets, CallsTerm, IsTypedRule}
+use Rattle.isle_rules.specs.TypedRules.{TypedPattern, typed_bind, typed_var, typed_bool, typed_int, typed_prim, typed_term, typed_wildcard}
+use Rattle.isle_rules.specs.TypedRules.{typed_and, TypedPatterns, no_typed, more_typed, TypedExpr, built_var, built_bool, built_int}
+use Rattle.isle_rules.specs.TypedRules.{built_prim, built_term, built_let, TypedExprs, no_built, more_built, TypedBindings, no_typed_bindings}
+use Rattle.isle_rules.specs.TypedRules.{more_typed_bindings, built_at, Variable, TypedIfLet, TypedRule}
+use Rattle.isle_rules.specs.Signatures.{Flags, TermForm, variant_form, struct_form, declared_form, Signature, Declared}
+use Rattle.isle_rules.specs.Elaboration.{on_lhs}
+use Rattle.isle_rules.specs.SoundRules.WellTyped.{IsTypedExpr, AreTypedExprs, AreTypedBindings, AreTypedIfLets, CallsTerm, IsTypedRule}
 use Rattle.isle_meaning.specs.Facts.{TermShape, variant_shape, struct_shape, declared_shape, TermFacts, facts_of, patterns, shape_of_form, no_term}
 use Rattle.isle_meaning.specs.Words.{Word, var_word, bool_word, int_word, prim_word, variant_word, struct_word, call_word, Words, Step, set}
 use Rattle.isle_meaning.specs.Words.{apply, flat, flat_all, flat_lets, word_of}
@@ -128,7 +128,8 @@ module _ (K : ℕ → ℕ → Type 0) where
   parts_known facts (variant_shape k) t n s j = tt
   parts_known facts struct_shape t n s j = tt
   parts_known facts declared_shape t n s j =
-      output_known n (extract_site (facts.multi t) (facts.infallible t) (extractor_call t s)) j (extract_known (facts.multi t) (facts.infallible t) t s)
+      output_known n (extract_site (facts.multi t) (facts.infallible t) (extractor_call t s)) j
+      (extract_known (facts.multi t) (facts.infallible t) t s)
 
   mutual
     pattern_known : (facts : TermFacts) (p : TypedPattern) (s : Site) → AllKnown (needs facts p s)
@@ -209,7 +210,8 @@ module _ (declared : Declared) (variables : List Variable) where
     flat_known (built_term own t es) caller ty (same, calls) vars each steps =
         apply_known (facts.shape t) (facts.pure t) own t (flat_all facts vars steps es) (called_variant caller own ty t _ same calls)
     flat_known (built_let own bs body) caller ty (same, bindings, typed) vars each steps =
-        flat_known body caller ty typed (flat_lets facts vars steps bs).0 (lets_known bs caller bindings vars each steps) (flat_lets facts vars steps bs).1
+        flat_known body caller ty typed (flat_lets facts vars steps bs).0 (lets_known bs caller bindings vars each steps)
+        (flat_lets facts vars steps bs).1
 
     lets_known : (bs : TypedBindings) (caller : Flags) → AreTypedBindings declared variables caller bs → (vars : ℕ → Word)
         → ((j : ℕ) → KnownWord K (vars j)) → (steps : List Step) → (j : ℕ) → KnownWord K ((flat_lets facts vars steps bs).0 j)
@@ -287,8 +289,10 @@ module _ (declared : Declared) (variables : List Variable) where
       let here = expr_known x.value caller (built_at x.value) value vars each in
       let more = bound_known K facts x.pattern site vars here each in
       let rest = iflets_known xs caller typed (bound facts x.pattern site vars) more in (
-        both_known K (visit facts vars no_log x.value).1.needed _ (visit_known x.value caller (built_at x.value) value vars each no_log (none_known K)).1
-            (both_known K (needs facts x.pattern site) (iflets_needs facts xs (bound facts x.pattern site vars)) (pattern_known K facts x.pattern site) rest.0),
+        both_known K (visit facts vars no_log x.value).1.needed _
+            (visit_known x.value caller (built_at x.value) value vars each no_log (none_known K)).1
+            (both_known K (needs facts x.pattern site) (iflets_needs facts xs (bound facts x.pattern site vars))
+            (pattern_known K facts x.pattern site) rest.0),
         rest.1,
       )
 
@@ -298,14 +302,17 @@ made_known K false s h = h
 
 -- each site that a well-typed rule needs, and that of its result, makes no variant but that of a term
 pub rule_known : (declared : Declared) (rule : TypedRule) → IsTypedRule declared rule → (partial : Bool)
-    → AllKnown (IsVariantTerm declared) (needs_of (facts_of declared) rule) × Known (IsVariantTerm declared) (result_of (facts_of declared) partial rule)
+    → AllKnown (IsVariantTerm declared) (needs_of (facts_of declared) rule) × Known (IsVariantTerm declared)
+    (result_of (facts_of declared) partial rule)
 rule_known declared rule typed partial =
     let facts = facts_of declared in let K = IsVariantTerm declared in
     let args = all_bound_known K facts rule.args argument nothing (λ j. tt) (λ j. tt) in
     let iflets = iflets_known declared rule.variables rule.iflets (on_lhs typed.flags) typed.iflets (args_bound facts rule) args in
-    let right = visit_known declared rule.variables rule.right typed.flags typed.root.ret typed.right (vars_of facts rule) iflets.1 no_log (none_known K) in (
+    let right = visit_known declared rule.variables rule.right typed.flags typed.root.ret typed.right (vars_of facts rule) iflets.1 no_log
+    (none_known K) in (
       both_known K (args_needs facts rule.args 0) _ (args_known K facts rule.args 0)
-          (both_known K (iflets_needs facts rule.iflets (args_bound facts rule)) (visit facts (vars_of facts rule) no_log rule.right).1.needed iflets.0 right.1),
+          (both_known K (iflets_needs facts rule.iflets (args_bound facts rule)) (visit facts (vars_of facts rule) no_log rule.right).1.needed
+          iflets.0 right.1),
       made_known K partial (site_of facts (vars_of facts rule) (word_of facts rule.right))
           (expr_known declared rule.variables rule.right typed.flags typed.root.ret typed.right (vars_of facts rule) iflets.1),
     )

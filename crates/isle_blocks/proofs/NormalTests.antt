@@ -84,7 +84,8 @@ module _ (key : BindingId) (value : Constraint) where
 
 -- the tests of the sites below a place
 pub record AreTestsBelow (numbers : List BindingId) (each : List (Option Constraint)) (n : ℕ) (tests : List (BindingId × Constraint)) : Type 0 where
-  pub own : (id : BindingId) (test : Constraint) → Contains tests (id, test) → (k : ℕ) × (k < n) × (slice_get numbers k ≡ Some id) × HasOwn each k test
+  pub own : (id : BindingId) (test : Constraint) → Contains tests (id, test) → (k : ℕ) × (k < n) × (slice_get numbers k ≡ Some id)
+      × HasOwn each k test
   pub all : (k : ℕ) (id : BindingId) (test : Constraint) → k < n → slice_get numbers k ≡ Some id → HasOwn each k test → Contains tests (id, test)
 
 pub tests_all : (numbers : List BindingId) (each : List (Option Constraint)) (tests : List (BindingId × Constraint))
@@ -110,7 +111,8 @@ module _ (numbers : List BindingId) (each : List (Option Constraint)) (n : ℕ) 
   }
 
   -- its test is put in
-  module _ (once : AreDistinct numbers) (new : List (BindingId × Constraint)) (id : BindingId) (test : Constraint) (at : slice_get numbers n ≡ Some id)
+  module _ (once : AreDistinct numbers) (new : List (BindingId × Constraint)) (id : BindingId) (test : Constraint)
+      (at : slice_get numbers n ≡ Some id)
       (has : HasOwn each n test) (is : new ≡ insert_entry site_cmp tests id test) where
     fresh : (e : BindingId × Constraint) → Contains tests e → id ≡ e.0 → ⊥
     fresh e h same =
@@ -118,7 +120,8 @@ module _ (numbers : List BindingId) (each : List (Option Constraint)) (n : ℕ) 
         let one : k ≡ n = once id k n (there ∙ ap Some (sym same)) at in omega (arith, below, one)
 
     put : (d : BindingId × Constraint) → Contains new d ↔ (Contains tests d ⊎ (◌≡◌ {A = BindingId × Constraint} (id, test) d))
-    put d = subst (λ (l : List (BindingId × Constraint)). Contains l d ↔ (Contains tests d ⊎ (◌≡◌ {A = BindingId × Constraint} (id, test) d))) (sym is)
+    put d = subst (λ (l : List (BindingId × Constraint)). Contains l d ↔ (Contains tests d ⊎ (◌≡◌ {A = BindingId × Constraint} (id, test) d)))
+        (sym is)
         (inserted_fresh id test tests fresh d)
 
     last_own : (other : BindingId) (c : Constraint) → ◌≡◌ {A = BindingId × Constraint} (id, test) (other, c)

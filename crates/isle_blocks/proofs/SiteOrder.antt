@@ -50,7 +50,8 @@ last_moved {base = base} old row (next_moved {own = own} {numbers = numbers} {ta
     }
 
 -- an entry of a site, moved with its parts, is one
-entry_moved : (own table : List Row) (to : ℕ → ℕ) → Kept own to table → (s : Site) (row : Row) → IsEntryOf own s row → IsEntryOf table s (moved_row to row)
+entry_moved : (own table : List Row) (to : ℕ → ℕ) → Kept own to table → (s : Site) (row : Row) → IsEntryOf own s row
+    → IsEntryOf table s (moved_row to row)
 entry_moved own table to kept (bool_site b ty) row e = ap (moved_row to) e
 entry_moved own table to kept (int_site n ty) row e = ap (moved_row to) e
 entry_moved own table to kept (prim_site n) row e = ap (moved_row to) e
@@ -73,13 +74,15 @@ before_early rows row early k s r at among = early k s r (slice_get-kept rows (r
 pub moved_adds : {base own after : List Row} {numbers : List ℕ} (needed : List Site) → Adds [] needed own → AreEarlier own
     → Moves base own numbers after → Adds base needed after
 moved_adds {base = base} needed begin early moves = subst (λ (l : List Row). Adds base [] l) (sym (nothing_moved moves refl)) begin
-moved_adds {base = base} {own = own} {after = after} {numbers = numbers} needed (next {needed = before} {old = old} new site row k adds entry (inl (there, same))) early moves =
+moved_adds {base = base} {own = own} {after = after} {numbers = numbers} needed
+    (next {needed = before} {old = old} new site row k adds entry (inl (there, same))) early moves =
     let here = subst (λ (l : List Row). Moves base l numbers after) same moves in
     let old_early = subst AreEarlier same early in
     let kept = moves_keep old_early here in
     next after site (moved_row (place_in numbers) row) (place_in numbers k) (moved_adds before adds old_early here)
     (entry_moved old after (place_in numbers) kept site row entry) (inl (kept k row there, refl))
-moved_adds {base = base} {own = own} {after = after} {numbers = numbers} needed (next {needed = before} {old = old} new site row k adds entry (inr (absent, last, more))) early moves =
+moved_adds {base = base} {own = own} {after = after} {numbers = numbers} needed
+    (next {needed = before} {old = old} new site row k adds entry (inr (absent, last, more))) early moves =
     let m = last_moved old row moves more in
     let old_early = before_early old row (subst AreEarlier more early) in
     let kept = moves_keep old_early m.moves in

@@ -15,10 +15,10 @@ use Rattle.isle_types.specs.Environment.{NamedType, NamedVariant, TypeShape, pri
 use Rattle.isle_types.specs.TypeEnvs.{IsShown, IsShownShape, IsShownVariant, sym_named, symbol_at, variants_of}
 use Rattle.isle_types.proofs.NamePlaces.{place_known, place_some}
 use Rattle.isle_types.proofs.Zipped.{zipped_at}
-use Rattle.isle_terms.specs.Signatures.{Signature, Declared, variant_form, term_named}
-use Rattle.isle_terms.specs.Definitions.{declared_by}
-use Rattle.isle_terms.specs.Shown.TermTables.{TermTables, term_with}
-use Rattle.isle_terms.specs.Shown.ShownTerms.{term_at}
+use Rattle.isle_rules.specs.Signatures.{Signature, Declared, variant_form, term_named}
+use Rattle.isle_rules.specs.Definitions.{declared_by}
+use Rattle.isle_rules.specs.Shown.TermTables.{TermTables, term_with}
+use Rattle.isle_rules.specs.Shown.ShownTerms.{term_at}
 use Rattle.isle_meaning.proofs.SoundPrograms.MadeData.{variant_made, struct_made, made_at}
 use Rattle.isle_blocks.specs.Bindings.{variant_term_of}
 use Rattle.isle_blocks.specs.DefinedSets.{AreDefined}
@@ -35,7 +35,8 @@ after_first (x ∷ xs) ys j = ap (slice_get (x ∷ (xs ++ ys))) (more (length (x
     more n e = omega arith
 
 -- the variant of a shown enum
-shown_variant : (names : List (List ℕ)) (type : NamedType) (shape : TypeShape) (variants : List NamedVariant) (made : KnownType) → shape ≡ enum variants
+shown_variant : (names : List (List ℕ)) (type : NamedType) (shape : TypeShape) (variants : List NamedVariant) (made : KnownType)
+    → shape ≡ enum variants
     → IsShownShape names type shape made → (k : ℕ) (variant : NamedVariant) → slice_get variants k ≡ Some variant
     → (shown : Variant) × (slice_get (variants_of made) k ≡ Some shown) × IsShownVariant names type.name variant shown
 shown_variant names type (primitive host) variants made is shown k variant at = absurd cc
@@ -45,7 +46,8 @@ shown_variant names type (enum own) variants (Primitive id name pos) is shown k 
 shown_variant names type (enum own) variants (StructType name id is_extern is_nodebug fields pos) is shown k variant at = absurd shown
 shown_variant names type (enum own) variants (EnumType name id is_extern is_nodebug made pos) is shown k variant at =
     let same : own ≡ variants = cc in
-    zipped_at (IsShownVariant names type.name) own made shown.1.0 k variant (subst (λ (l : List NamedVariant). slice_get l k ≡ Some variant) (sym same) at)
+    zipped_at (IsShownVariant names type.name) own made shown.1.0 k variant
+    (subst (λ (l : List NamedVariant). slice_get l k ≡ Some variant) (sym same) at)
 
 -- a name of a term leads to some term
 some_place : (names : List (List ℕ)) (name : List ℕ) (i : ℕ) → slice_get names i ≡ Some name → IsSome (option_map term_at (position_of names name))
@@ -73,7 +75,8 @@ module _ (env : TermTables) (d : AreDefined env) where
       let interned : sym_named tables full ≡ Some found.fullname =
       ap (option_map symbol_at) (place_known tables.names full found.fullname.0 d.once is_variant.fullname) in
       let named : slice_get (map (λ (t : Signature). t.name) declared.terms) number ≡ Some full =
-      slice_get-map (λ (t : Signature). t.name) declared.terms number ∙ ap (option_map (λ (t : Signature). t.name)) known ∙ ap (λ (n : List ℕ). Some n) name in
+      slice_get-map (λ (t : Signature). t.name) declared.terms number ∙ ap (option_map (λ (t : Signature). t.name)) known ∙ ap
+      (λ (n : List ℕ). Some n) name in
       let some : IsSome (option_map term_at (term_named declared full)) = some_place _ full number named in
       let leads : IsSome (option_and_then (term_with env) (sym_named tables full)) =
       subst (λ (o : Option TermId). IsSome o) (sym (d.shows.declared.named full)) some in

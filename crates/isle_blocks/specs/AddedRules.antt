@@ -1,21 +1,21 @@
 -- A rule of definitions, added to the rule set of its term.
 use Rattle.std.specs.Prelude.{◌≡◌, ◌≤◌, ◌⊎◌, ◌++◌, ◌∷◌, [], ℕ, Bool, true, false, List, Option, Some, None, length, slice_get}
-use Rattle.isle_syntax.specs.declared.ast.Def.{Def}
+use Rattle.isle_ast.specs.declared.ast.Def.{Def}
 use Rattle.isle_types.specs.declared.ids.Sym.{Sym}
 use Rattle.isle_types.specs.Names.{AreDistinct}
 use Rattle.isle_types.specs.TypeTables.{TypeTables}
 use Rattle.isle_types.specs.Environment.{Environment}
-use Rattle.isle_terms.specs.declared.rules.Rule as source
-use Rattle.isle_terms.specs.TypedRules.{TypedRule}
-use Rattle.isle_terms.specs.Definitions.{declared_by}
-use Rattle.isle_terms.specs.Shown.TermTables.{TermTables}
-use Rattle.isle_terms.specs.TermEnvs.{ShowsTerms}
+use Rattle.isle_rules.specs.declared.rules.Rule as source
+use Rattle.isle_rules.specs.TypedRules.{TypedRule}
+use Rattle.isle_rules.specs.Definitions.{declared_by}
+use Rattle.isle_rules.specs.Shown.TermTables.{TermTables}
+use Rattle.isle_rules.specs.Shown.RulesShown.{ShowsTerms}
 use Rattle.isle_meaning.specs.Facts.{TermFacts, facts_of}
 use Rattle.isle_meaning.specs.Sites.{Site, iterator}
 use Rattle.isle_meaning.specs.Demands.{demands_of, result_of, impure_of}
 use Rattle.isle_meaning.specs.Derived.{FieldOf}
 use Rattle.isle_meaning.specs.Faults.{IsUnreachable}
-use Rattle.isle_meaning.specs.Laws.Matching.{DemandOf}
+use Rattle.isle_meaning.specs.Demands.{DemandOf}
 use Rattle.isle_meaning.specs.Needs.{needs_of, IsNeeded}
 use Rattle.isle_meaning.specs.Numbered.{Row, At, AreRecorded}
 use Rattle.isle_blocks.specs.declared.binding.Binding.{Binding}
@@ -70,7 +70,8 @@ pub record IsOwnOf (name : Sym → List ℕ) (facts : TermFacts) (partial : Bool
 -- a site of the table was there, is needed by the rule, is its result, or is a field that its demands open
 abbrev pub IsOfRule : (Sym → List ℕ) → TermFacts → Bool → TypedRule → List Binding → Site → Type 0
 IsOfRule name facts partial typed base s =
-    Stands (rows_of name base) s ⊎ IsNeeded (needs_of facts typed) s ⊎ (s ≡ result_of facts partial typed) ⊎ ((t : Site) × FieldOf (DemandOf facts typed) t s)
+    Stands (rows_of name base) s ⊎ IsNeeded (needs_of facts typed) s ⊎ (s ≡ result_of facts partial typed) ⊎
+    ((t : Site) × FieldOf (DemandOf facts typed) t s)
 
 -- a multi call of a rule: the rule needs one value of it, or its result is one
 abbrev pub IsMultiCall : TermFacts → Bool → TypedRule → Site → Type 0

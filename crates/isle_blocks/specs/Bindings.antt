@@ -1,5 +1,5 @@
 -- What a site is made of, and which term it calls.
-use Rattle.std.specs.Prelude.{List, [], ◌∷◌, Option, Some, None, IsSome}
+use Rattle.std.specs.Prelude.{Option, Some, None, IsSome}
 use Rattle.std.specs.Option.{option_and_then}
 use Rattle.isle_types.specs.declared.ids.TermId.{TermId}
 use Rattle.isle_types.specs.declared.ids.TypeId.{TypeId}
@@ -7,29 +7,11 @@ use Rattle.isle_types.specs.declared.ids.VariantId.{VariantId}
 use Rattle.isle_types.specs.declared.types.Variant.{Variant}
 use Rattle.isle_types.specs.TypeEnvs.{variant_of}
 use Rattle.isle_types.specs.TypeTables.{TypeTables}
-use Rattle.isle_terms.specs.Shown.TermTables.{TermTables, term_with}
+use Rattle.isle_rules.specs.Shown.TermTables.{TermTables, term_with}
 use Rattle.isle_blocks.specs.declared.binding.Binding.{Binding}
 use Rattle.isle_blocks.specs.declared.binding.Binding.TheVariants.{ConstBool, ConstInt, ConstPrim, Argument, Extractor, Constructor, Iterator}
 use Rattle.isle_blocks.specs.declared.binding.Binding.TheVariants.{MakeVariant, MatchVariant, MakeStruct, ExtractStruct, MakeSome, MatchSome}
 use Rattle.isle_blocks.specs.declared.binding.Binding.TheVariants.{MatchTuple}
-use Rattle.isle_blocks.specs.declared.ids.BindingId.{BindingId}
-
--- the parts of a site, in order
-abbrev pub sources_of : Binding → List BindingId
-sources_of (ConstBool val ty) = []
-sources_of (ConstInt val ty) = []
-sources_of (ConstPrim val) = []
-sources_of (Argument index) = []
-sources_of (Extractor term parameter) = parameter ∷ []
-sources_of (Constructor term parameters instance) = parameters
-sources_of (Iterator source) = source ∷ []
-sources_of (MakeVariant ty variant fields) = fields
-sources_of (MatchVariant source variant field) = source ∷ []
-sources_of (MakeStruct ty fields) = fields
-sources_of (ExtractStruct source field) = source ∷ []
-sources_of (MakeSome inner) = inner ∷ []
-sources_of (MatchSome source) = source ∷ []
-sources_of (MatchTuple source field) = source ∷ []
 
 -- the term of a variant of a type
 abbrev pub variant_term_of : TypeTables → TermTables → TypeId → VariantId → Option TermId

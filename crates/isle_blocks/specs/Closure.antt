@@ -1,5 +1,5 @@
 -- What the closure of a rule's demands is.
-use Rattle.std.specs.Prelude.{◌≡◌, ◌<◌, ◌≤◌, ◌↔◌, ℕ, List, Option, Some, None, length, slice_get, slice_index}
+use Rattle.std.specs.Prelude.{◌≡◌, ◌<◌, ◌≤◌, ◌↔◌, ℕ, List, Option, Some, None, length, slice_get, slice_index, ◌⊎◌}
 use Rattle.isle_types.specs.declared.ids.Sym.{Sym}
 use Rattle.isle_meaning.specs.Sites.{Site}
 use Rattle.isle_meaning.specs.Demands as meaning
@@ -16,6 +16,15 @@ use Rattle.isle_blocks.specs.Tables.{IsTable}
 use Rattle.isle_blocks.specs.Inside.ClosureStates.{HasOwn, AreClasses, demanded_in}
 use Rattle.isle_blocks.specs.Inside.NormalRules.{HaveClassTests}
 
+-- a field before another: of a lesser site, or of the same site, with a lesser index
+abbrev pub ComesBefore : ℕ → ℕ → ℕ → ℕ → Type 0
+ComesBefore site index other next = (site < other) ⊎ ((site ≡ other) × (index < next))
+
+-- The numbers from the first to the end stand for fields: those of the least site first, and those of one site in order.
+pub record AreInOrder (IsField : ℕ → ℕ → ℕ → Type 0) (first end : ℕ) : Type 0 where
+  pub fields : (k : ℕ) → first ≤ k → k < end → (site : ℕ) × (index : ℕ) × IsField k site index
+  pub order : (k l site index other next : ℕ) → first ≤ k → k < l → IsField k site index → IsField l other next → ComesBefore site index other next
+
 -- the site has a number
 abbrev pub Stands : List Row → Site → Type 0
 Stands table s = (k : ℕ) × At table s k
@@ -29,7 +38,8 @@ abbrev pub HasNoRoom : (Demand → Type 0) → List Row → Type 0
 HasNoRoom D old = (table : List Row) → length table ≤ 65536 → ((s : Site) → Stands old s → Stands table s) → HasAllFields D table → ⊥
 
 -- The closed table, with each site's test and each site's representative.
-pub record IsClosure (name : Sym → List ℕ) (D : Demand → Type 0) (old table : List Binding) (each : List (Option Constraint)) (class : List ℕ) : Type 0 where
+pub record IsClosure (name : Sym → List ℕ) (D : Demand → Type 0) (old table : List Binding) (each : List (Option Constraint))
+    (class : List ℕ) : Type 0 where
   pub reachable : IsUnreachable D → ⊥
   pub sites : IsTable table
   pub kept : (k : ℕ) (site : Binding) → slice_get old k ≡ Some site → slice_get table k ≡ Some site
@@ -40,12 +50,14 @@ pub record IsClosure (name : Sym → List ℕ) (D : Demand → Type 0) (old tabl
   pub class_tests : HaveClassTests each class
   pub tested : (a : ℕ) (s : Site) (d : meaning.Constraint) → At (rows_of name table) s a
       → ((c : Constraint) × HasOwn each a c × (test_of name c ≡ d)) ↔ Derived D (constrained s d)
-  pub same : (a b : ℕ) (s u : Site) → At (rows_of name table) s a → At (rows_of name table) u b → (slice_index class a ≡ slice_index class b) ↔ AreEqual D s u
+  pub same : (a b : ℕ) (s u : Site) → At (rows_of name table) s a → At (rows_of name table) u b
+      → (slice_index class a ≡ slice_index class b) ↔ AreEqual D s u
   pub all_tested : (s : Site) (d : meaning.Constraint) → Derived D (constrained s d) → Stands (rows_of name table) s
   pub all_same : (s u : Site) → Derived D (equal s u) → Stands (rows_of name table) s × Stands (rows_of name table) u
 
 -- what holds of what is recorded of the table's sites, by whatever names
-abbrev pub ForRecorded : List Binding → List (BindingId × Constraint) → List (BindingId × BindingId) → ((Sym → List ℕ) → (Demand → Type 0) → Type 0) → Type 0
+abbrev pub ForRecorded : List Binding → List (BindingId × Constraint) → List (BindingId × BindingId)
+    → ((Sym → List ℕ) → (Demand → Type 0) → Type 0) → Type 0
 ForRecorded table has same P = (name : Sym → List ℕ) → IsInjective name → P name (demanded_in name table has (pairs_of same))
 
 -- The demands come to nothing, as no values meet them, and the table stays; or to their closure.

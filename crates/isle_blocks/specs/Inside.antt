@@ -22,3 +22,5 @@ pub mod ClosureFields
 pub mod Assembly
 -- How the faults between rules of all terms are listed.
 pub mod RivalLists
+-- In which order opened fields are numbered.
+pub mod FieldOrder

@@ -24,8 +24,6 @@ pub mod Tables
 pub mod Building
 -- The rules of a rule set as what follows from their demands.
 pub mod ClosedRules
--- In which order opened fields are numbered.
-pub mod FieldOrder
 -- What the closure of a rule's demands is.
 pub mod Closure
 -- The sites that a rule holds equal, set by set.

@@ -1,8 +1,8 @@
 -- What a rule demands by itself.
 use Rattle.isle_meaning.specs.Demands.{demands_of}
 use Rattle.isle_meaning.specs.Numbered.{AreRecorded}
-use Rattle.isle_terms.specs.Shown.TermTables.{TermTables}
-use Rattle.isle_terms.specs.declared.rules.Rule as source
+use Rattle.isle_rules.specs.Shown.TermTables.{TermTables}
+use Rattle.isle_rules.specs.declared.rules.Rule as source
 use Rattle.isle_blocks.specs.declared.demands.Demands.{Demands}
 use Rattle.isle_blocks.specs.AddedRules.{IsDefinedRule, facts_in, name_in}
 use Rattle.isle_blocks.specs.Rows.{rows_of, constraints_of, pairs_of}

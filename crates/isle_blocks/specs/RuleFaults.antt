@@ -1,16 +1,16 @@
 -- Faults of the rules that definitions make: rules that never match, rules that overlap or are shadowed, and too many sites.
 use Rattle.std.specs.Prelude.{◌≡◌, ◌<◌, ◌≤◌, ◌↔◌, ℕ, suc, false, List, [], ◌∷◌, ◌++◌, length, take, Contains, Some, slice_get, codes}
-use Rattle.isle_syntax.specs.Errors.{span_at}
-use Rattle.isle_syntax.specs.declared.lexer.Pos.{Pos}
-use Rattle.isle_syntax.specs.declared.error.Error.{Error}
-use Rattle.isle_syntax.specs.declared.error.Error.TheVariants.{SizeError, UnreachableError}
+use Rattle.isle_ast.specs.Errors.{span_at}
+use Rattle.isle_ast.specs.declared.pos.Pos.{Pos}
+use Rattle.isle_ast.specs.declared.error.Error.{Error}
+use Rattle.isle_ast.specs.declared.error.Error.TheVariants.{SizeError, UnreachableError}
 use Rattle.isle_types.specs.Names.{AreDistinct}
-use Rattle.isle_terms.specs.TypedRules.{TypedRule}
+use Rattle.isle_rules.specs.TypedRules.{TypedRule}
 use Rattle.isle_meaning.specs.Facts.{TermFacts}
 use Rattle.isle_meaning.specs.Sites.{Site}
 use Rattle.isle_meaning.specs.Demands.{result_of}
 use Rattle.isle_meaning.specs.Faults.{IsUnreachable, Overlaps, Shadows}
-use Rattle.isle_meaning.specs.Laws.Matching.{DemandOf}
+use Rattle.isle_meaning.specs.Demands.{DemandOf}
 use Rattle.isle_meaning.specs.Needs.{needs_of, IsNeeded}
 use Rattle.isle_meaning.specs.Numbered.{Row}
 use Rattle.isle_blocks.specs.declared.report.RulePlace.{RulePlace}

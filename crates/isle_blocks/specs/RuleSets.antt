@@ -2,7 +2,7 @@
 use Rattle.std.specs.Prelude.{List, [], ◌≡◌}
 use Rattle.isle_blocks.specs.declared.binding.Binding.{Binding}
 use Rattle.isle_blocks.specs.declared.rule.Rule.{Rule}
-use Rattle.isle_terms.specs.declared.rules.Rule as source
+use Rattle.isle_rules.specs.declared.rules.Rule as source
 
 -- the rules of a term, and the sites that they speak of, each at its number
 pub record RulesOverSites : Type 0 where

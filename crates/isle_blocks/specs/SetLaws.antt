@@ -1,7 +1,7 @@
 -- What holds of each rule set that `check` gives.
 use Rattle.std.specs.Prelude.{◌<◌, ℕ, All, List, length}
 use Rattle.isle_types.specs.declared.ids.TermId.{TermId}
-use Rattle.isle_terms.specs.Shown.TermTables.{TermTables}
+use Rattle.isle_rules.specs.Shown.TermTables.{TermTables}
 use Rattle.isle_meaning.specs.Sites.{Site}
 use Rattle.isle_meaning.specs.Numbered.{At}
 use Rattle.isle_blocks.specs.Bindings.{MakesKnownVariant}
@@ -12,7 +12,8 @@ use Rattle.isle_blocks.specs.Rows.{rows_of}
 
 -- what holds of each rule set of definitions
 abbrev pub OfEachSet : ((env : TermTables) → AreDefined env → RulesOverSites → Type 0) → Type 0
-OfEachSet P = (env : TermTables) (d : AreDefined env) (sets : List (TermId × RulesOverSites)) → AreSetsOf env d sets → All (λ pair. P env d pair.1) sets
+OfEachSet P = (env : TermTables) (d : AreDefined env) (sets : List (TermId × RulesOverSites)) → AreSetsOf env d sets
+    → All (λ pair. P env d pair.1) sets
 
 -- each number of its table stands for a site
 abbrev pub EachNumberStands : (env : TermTables) → AreDefined env → RulesOverSites → Type 0

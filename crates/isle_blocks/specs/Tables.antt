@@ -3,7 +3,24 @@ use Rattle.std.specs.Prelude.{◌≡◌, ◌⊎◌, ℕ, List, [], ◌∷◌, �
 use Rattle.isle_blocks.specs.declared.ids.BindingId.{BindingId}
 use Rattle.isle_blocks.specs.declared.binding.Binding.{Binding}
 use Rattle.isle_types.specs.Names.{AreDistinct}
-use Rattle.isle_blocks.specs.Bindings.{sources_of}
+use Rattle.isle_blocks.specs.declared.binding.Binding.TheVariants.{ConstBool, ConstInt, ConstPrim, Argument, Extractor, Constructor, Iterator, MakeVariant, MatchVariant, MakeStruct, ExtractStruct, MakeSome, MatchSome, MatchTuple}
+
+-- the parts of a site, in order
+abbrev pub sources_of : Binding → List BindingId
+sources_of (ConstBool val ty) = []
+sources_of (ConstInt val ty) = []
+sources_of (ConstPrim val) = []
+sources_of (Argument index) = []
+sources_of (Extractor term parameter) = parameter ∷ []
+sources_of (Constructor term parameters instance) = parameters
+sources_of (Iterator source) = source ∷ []
+sources_of (MakeVariant ty variant fields) = fields
+sources_of (MatchVariant source variant field) = source ∷ []
+sources_of (MakeStruct ty fields) = fields
+sources_of (ExtractStruct source field) = source ∷ []
+sources_of (MakeSome inner) = inner ∷ []
+sources_of (MatchSome source) = source ∷ []
+sources_of (MatchTuple source field) = source ∷ []
 
 -- the site stands nowhere
 abbrev pub IsAbsent : {X : Type 0} → List X → X → Type 0

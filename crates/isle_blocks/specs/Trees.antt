@@ -41,5 +41,7 @@ pub mod Ties
 pub mod TypedCalls
 -- What the tree of a rule set promises of right sides.
 pub mod RightPromises
+-- What each tree does that a rule set builds.
+pub mod BuiltTrees
 -- Rule sets and their blocks as the machine has them.
 pub mod TermTrees

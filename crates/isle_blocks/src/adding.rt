@@ -8,14 +8,14 @@ use crate::assembly::{add_rule, result_of};
 use crate::builder::{BuiltRule, build_rule};
 use crate::rule::Rule;
 use crate::sites::{SiteFault, Sites};
-use isle_terms::{TermEnv, VisitFault};
+use isle_rules::{TermEnv, VisitFault};
 use std::alloc::Global;
 
 /// The own sites of a rule that definitions make, with that of its result.
 pub(crate) fn own_rule(
     alloc: Global,
     termenv: &TermEnv,
-    source: &isle_terms::Rule,
+    source: &isle_rules::Rule,
     partial: bool,
 ) -> Result<BuiltRule, SiteFault>
     ensures own { IfOk result (λ built. IsOwnRule termenv.now source.now partial built) }
@@ -37,7 +37,7 @@ pub(crate) fn own_rule(
 pub(crate) fn add_defined(
     alloc: Global,
     termenv: &TermEnv,
-    source: &isle_terms::Rule,
+    source: &isle_rules::Rule,
     partial: bool,
     table: &mut Sites,
 ) -> Result<Option<Rule>, SiteFault>

@@ -26,7 +26,7 @@ use crate::normal::{equalities_of, tests_of};
 use crate::placing::{PlacedRule, place_rule};
 use crate::rule::Rule;
 use crate::sites::{SiteFault, Sites};
-use isle_syntax::Seq;
+use isle_ast::Seq;
 use std::alloc::{AllocError, Global};
 
 /// The call of which a site is one value, by the number that it has got.
@@ -86,7 +86,7 @@ pub(crate) fn result_of(
 /// A rule in its rule set, of what a visit left and where that was put.
 fn made_rule(
     alloc: Global,
-    source: &isle_terms::Rule,
+    source: &isle_rules::Rule,
     built: &BuiltRule,
     placed: &PlacedRule,
 ) -> Result<Rule, AllocError>
@@ -94,9 +94,11 @@ fn made_rule(
     ensures told { IfOk result (λ made. IsToldOf source.now made) }
     ensures tests { IfOk result (λ made. AreTestsOf placed.now.numbers.items placed.now.closed.each.items made.constraints) }
     ensures ascending { IfOk result (λ made. IsStrictlySortedBy site_cmp (keys_of made.constraints)) }
-    ensures equalities { IfOk result (λ made. AreEqualitiesOf placed.now.numbers.items placed.now.closed.each.items placed.now.closed.class.items made.equals) }
+    ensures equalities { IfOk result (λ made. AreEqualitiesOf placed.now.numbers.items placed.now.closed.each.items
+        placed.now.closed.class.items made.equals) }
     ensures disjoint { IfOk result (λ made. AreDisjoint same_site made.equals) }
-    ensures iterators { IfOk result (λ made. IsPermutation (filter_map (multi_call (new_number placed.now.numbers.items)) built.now.sites) made.iterators) }
+    ensures iterators { IfOk result (λ made. IsPermutation (filter_map (multi_call (new_number placed.now.numbers.items)) built.now.sites)
+        made.iterators) }
     ensures sorted { IfOk result (λ made. IsSorted site_cmp made.iterators) }
     ensures impure { IfOk result (λ made. made.impure ≡ map (new_number placed.now.numbers.items) built.now.impure.items) }
     ensures site { IfOk result (λ made. made.result ≡ new_number placed.now.numbers.items built.now.result) }
@@ -123,7 +125,7 @@ fn made_rule(
 /// Puts a rule into its rule set's table; nothing, and no site added, where no values meet its demands.
 pub(crate) fn add_rule(
     alloc: Global,
-    source: &isle_terms::Rule,
+    source: &isle_rules::Rule,
     built: &mut BuiltRule,
     table: &mut Sites,
 ) -> Result<Option<Rule>, SiteFault>

@@ -1,10 +1,11 @@
 //! Sites, which are values that rules test or make: their kinds, parts, terms and hashes.
 ghost use Rattle.std.specs.Prelude.{◌≡◌};
-ghost use Rattle.isle_blocks.specs.Bindings.{sources_of, MakesKnownVariant, term_of};
+ghost use Rattle.isle_blocks.specs.Bindings.{MakesKnownVariant, term_of};
+ghost use Rattle.isle_blocks.specs.Tables.{sources_of};
 
 use crate::ids::{BindingId, TupleIndex};
-use isle_syntax::Seq;
-use isle_terms::TermEnv;
+use isle_ast::Seq;
+use isle_rules::TermEnv;
 use isle_types::{Sym, TermId, TypeEnv, TypeId, VariantId};
 use std::hash::{Hash, Hasher};
 use std::slice;

@@ -1,8 +1,8 @@
 //! A builder of a rule's own sites and tests from what it is told of the rule.
 ghost use Rattle.std.specs.Prelude.{◌≡◌, ◌≤◌, ◌<◌, [], IfOk, IfErr};
-ghost use Rattle.isle_terms.specs.declared.visit.fault.VisitFault.TheVariants.{Size, Memory};
-ghost use Rattle.isle_terms.specs.Visits.Runs.{silent, listed, in_turn};
-ghost use Rattle.isle_terms.specs.Visits.VisitorCalls.{extract_outputs};
+ghost use Rattle.isle_rules.specs.declared.visit.fault.VisitFault.TheVariants.{Size, Memory};
+ghost use Rattle.isle_rules.specs.Visits.Runs.{silent, listed, in_turn};
+ghost use Rattle.isle_rules.specs.Visits.VisitorCalls.{extract_outputs};
 ghost use Rattle.isle_blocks.specs.Inside.Building.Steps.{values_of, each_some};
 ghost use Rattle.isle_blocks.specs.Inside.Building.Building.{BuildsRule};
 ghost use Rattle.isle_blocks.specs.Building.Naming.{BuiltAsDefined, UsesWhatIsDefined, HasTooManySites};
@@ -14,8 +14,8 @@ use crate::builder::contents::calls_within;
 use crate::constraint::Constraint;
 use crate::ids::{BindingId, TupleIndex};
 use crate::sites::{SiteFault, Sites};
-use isle_syntax::Seq;
-use isle_terms::{
+use isle_ast::Seq;
+use isle_rules::{
     ExprPart, ExprVisitor, PatternPart, PatternVisitor, Rule, RuleVisitor, TermEnv, VisitFault,
 };
 use isle_types::{Sym, TermId, TypeId, VarId, VariantId};
@@ -100,7 +100,7 @@ fn some_of_each(
 }
 
 impl RuleSetBuilder {
-    ghost use Rattle.isle_blocks.specs.Inside.Building.Gathering.{nothing_gathered, interns, interns_each, demands, sites_from};
+    ghost use Rattle.isle_blocks.specs.Inside.Building.Gathering.{nothing_gathered, interns, interns_each, takes_demand, sites_from};
     ghost use Rattle.isle_blocks.specs.Inside.Building.Gathering.{extracted, outputs, constructed, numbers, keeps};
     ghost use Rattle.isle_blocks.specs.Inside.Building.Steps.{makes, takes};
     ghost use Rattle.isle_blocks.specs.Inside.Building.Parts.{part_site};
@@ -134,7 +134,7 @@ impl RuleSetBuilder {
 
     /// A test of a site.
     fn demand(&mut self, site: BindingId, test: Constraint) -> Result<(), VisitFault>
-        ensures { demands site test self.old (silent result) self.new }
+        ensures { takes_demand site test self.old (silent result) self.new }
     {
         self.has.push((site, test))?;
         Ok(())
@@ -165,7 +165,8 @@ impl RuleSetBuilder {
         parts: Parts,
         count: TupleIndex,
     ) -> Result<Vec<BindingId>, VisitFault>
-        ensures { in_turn (demands source test) (λ _. interns_each (sites_from (part_site parts source) 0 count.0) []) self.old (listed result) self.new }
+        ensures { in_turn (takes_demand source test) (λ _. interns_each (sites_from (part_site parts source) 0 count.0) []) self.old
+            (listed result) self.new }
     {
         self.demand(source, test)?;
         self.intern_parts(parts, source, count)
@@ -379,7 +380,7 @@ impl PatternVisitor for RuleSetBuilder {
 }
 
 impl ExprVisitor for RuleSetBuilder {
-    ghost use Rattle.isle_terms.specs.Visits.VisitorCalls.{create_variant, create_struct, construct};
+    ghost use Rattle.isle_rules.specs.Visits.VisitorCalls.{create_variant, create_struct, construct};
     ghost use Rattle.isle_blocks.specs.Inside.Building.Steps.{expr_adds};
 
     type ExprId = BindingId;
@@ -446,11 +447,11 @@ impl ExprVisitor for RuleSetBuilder {
 }
 
 impl RuleVisitor for RuleSetBuilder {
-    ghost use Rattle.isle_terms.specs.Visits.RuleSteps.{in_pattern, in_expr};
-    ghost use Rattle.isle_terms.specs.Visits.RuleEvents.{visits_typed};
-    ghost use Rattle.isle_terms.specs.Visits.Events.{visits};
-    ghost use Rattle.isle_terms.specs.Visits.VisitScopes.{scope_of, scope_left};
-    ghost use Rattle.isle_terms.specs.Visits.InternedTrees.{pattern_of};
+    ghost use Rattle.isle_rules.specs.Visits.RuleSteps.{in_pattern, in_expr};
+    ghost use Rattle.isle_rules.specs.Visits.RuleEvents.{visits_typed};
+    ghost use Rattle.isle_rules.specs.Visits.Events.{visits};
+    ghost use Rattle.isle_rules.specs.Visits.VisitScopes.{scope_of, scope_left};
+    ghost use Rattle.isle_rules.specs.Visits.InternedTrees.{pattern_of};
     ghost use Rattle.isle_blocks.specs.Inside.Building.Steps.{pattern_adds, expr_adds, rule_adds};
 
     type PatternVisitor = RuleSetBuilder;
@@ -470,13 +471,15 @@ impl RuleVisitor for RuleSetBuilder {
         &mut self,
         part: PatternPart<'_, RuleSetBuilder>,
     ) -> Result<HashMap<VarId, BindingId>, VisitFault>
-        ensures { in_pattern rule_adds (visits pattern_adds part.entry.termenv.now.terms (pattern_of part.entry.pattern.now) part.entry.input (scope_of part.entry.vars)) self.old (scope_left result) self.new }
+        ensures { in_pattern rule_adds (visits pattern_adds part.entry.termenv.now.terms (pattern_of part.entry.pattern.now) part.entry.input
+            (scope_of part.entry.vars)) self.old (scope_left result) self.new }
     {
         part.visit(self)
     }
 
     fn add_expr(&mut self, part: ExprPart<'_, RuleSetBuilder>) -> Result<BindingId, VisitFault>
-        ensures { in_expr rule_adds (visits_typed expr_adds part.entry.termenv.now.terms part.entry.expr.now (scope_of part.entry.vars)) self.old result self.new }
+        ensures { in_expr rule_adds (visits_typed expr_adds part.entry.termenv.now.terms part.entry.expr.now (scope_of part.entry.vars))
+            self.old result self.new }
     {
         let visited = part.visit(self)?;
         Ok(visited.value)

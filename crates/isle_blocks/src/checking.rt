@@ -1,10 +1,10 @@
 //! What is wrong with rules: those that can't match, those that overlap, and those that others shadow.
 ghost use Rattle.std.specs.Prelude.{◌≡◌, ◌++◌, IfOk, IfErr, OnOk, map};
-ghost use Rattle.isle_syntax.specs.Errors.{IfFault};
+ghost use Rattle.isle_ast.specs.Errors.{IfFault};
 ghost use Rattle.isle_blocks.specs.DefinedSets.{AreDefined, facts_by, rules_by, AreSetsOf};
 ghost use Rattle.isle_blocks.specs.FaultsBetween.{ListsPairs};
 ghost use Rattle.isle_blocks.specs.Inside.RivalLists.{AddsPairs, ListsFaults, number_at, numbered, place_of};
-ghost use Rattle.isle_terms.specs.Shown.TermTables.{is_multi_in};
+ghost use Rattle.isle_rules.specs.Shown.TermTables.{is_multi_in};
 ghost use Rattle.isle_blocks.specs.RuleFaults.{AreFaultless, AreRuleErrors, TellRivals};
 ghost use Rattle.isle_blocks.specs.declared.faults.Fault.TheVariants.{Overlap, Shadow};
 
@@ -13,9 +13,9 @@ use crate::report::{RulePlace, report_faults};
 use crate::rule::Rule;
 use crate::rule_set::RuleSet;
 use crate::term_sets::{TermSets, build};
-use isle_syntax::Refusal;
-use isle_syntax::error::Error;
-use isle_terms::{TermEnv, TermKind};
+use isle_ast::Refusal;
+use isle_ast::error::Error;
+use isle_rules::{TermEnv, TermKind};
 use isle_types::TermId;
 use std::alloc::{AllocError, Global};
 
@@ -73,7 +73,7 @@ fn rival_errors(
 }
 
 /// How faults name the rules.
-fn rule_places(alloc: Global, rules: &[isle_terms::Rule]) -> Result<Vec<RulePlace>, AllocError>
+fn rule_places(alloc: Global, rules: &[isle_rules::Rule]) -> Result<Vec<RulePlace>, AllocError>
     ensures { IfOk result (λ places. places.items ≡ map place_of rules.now) }
 {
     let mut places = Vec::new(alloc);

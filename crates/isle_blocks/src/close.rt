@@ -4,7 +4,7 @@ ghost use Rattle.isle_meaning.specs.Faults.{IsUnreachable};
 ghost use Rattle.isle_blocks.specs.Tables.{IsTable};
 ghost use Rattle.isle_blocks.specs.Inside.ClosureStates.{IsReady, ArePairsBelow, ForDemands, AreClosedClasses, IsReduced, IsState, IsFinished, RunsOut};
 ghost use Rattle.isle_blocks.specs.Closure.{ForRecorded, ClosesTo, LacksRoom};
-ghost use Rattle.isle_blocks.specs.FieldOrder.{AreFieldsInOrder};
+ghost use Rattle.isle_blocks.specs.Inside.FieldOrder.{AreFieldsInOrder};
 
 mod classes;
 mod complete;
@@ -122,7 +122,8 @@ fn spread(
 /// Adds the fields that sites lack, and gives each site its test.
 fn finish(alloc: Global, sites: &mut Sites, reduced: Reduced) -> Result<Closed, SiteFault>
     requires { (equals : List (ℕ × ℕ)) × IsState reduced.own.items equals sites.old reduced.class.items }
-    ensures finished { IfOk result (λ closed. IsFinished reduced.own.items sites.old reduced.class.items sites.new closed.each.items closed.class.items) }
+    ensures finished { IfOk result (λ closed. IsFinished reduced.own.items sites.old reduced.class.items sites.new
+        closed.each.items closed.class.items) }
     ensures ordered { IfOk result (λ _. AreFieldsInOrder (length sites.old) sites.new) }
     ensures full { IfErr result (λ fault. fault ≡ SiteFault.Size
         → (class : List ℕ) × RunsOut reduced.own.items sites.old reduced.class.items sites.new class) }

@@ -4,7 +4,7 @@ ghost use Rattle.isle_blocks.specs.Constraints.{bindings_made, fields_below, var
 
 use crate::binding::Binding;
 use crate::ids::{BindingId, TupleIndex};
-use isle_syntax::Seq;
+use isle_ast::Seq;
 use isle_types::{Sym, TypeId, VariantId};
 use std::alloc::{AllocError, Global};
 

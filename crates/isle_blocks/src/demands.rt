@@ -9,7 +9,7 @@ use crate::builder::BuiltRule;
 use crate::constraint::Constraint;
 use crate::ids::BindingId;
 use crate::sites::SiteFault;
-use isle_terms::TermEnv;
+use isle_rules::TermEnv;
 use std::alloc::{AllocError, Global};
 
 /// The sites of a rule by itself, and what it demands of them, in the order of its text. Of a rule that can't match too.
@@ -27,7 +27,7 @@ pub struct Demands {
 pub fn demands_of(
     alloc: Global,
     termenv: &TermEnv,
-    rule: &isle_terms::Rule,
+    rule: &isle_rules::Rule,
 ) -> Result<Option<Demands>, AllocError>
     ensures demands { IfOk result (λ made. IfSome made (HasDemands termenv.now rule.now)) }
     ensures too_many { IfOk result (λ made. IfNone made (LacksRoomAlone termenv.now rule.now false)) }

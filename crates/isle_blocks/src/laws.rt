@@ -28,6 +28,12 @@ ghost use Rattle.isle_blocks.specs.Trees.Laws.{MachinesWalk, WalksChooseAsTyped,
 ghost use Rattle.isle_blocks.specs.Trees.Bags.{ElaboratedAreWellMade, ElaboratedAreListed, MultiSetsAreMany, FunctionsAreFunctions};
 ghost use Rattle.isle_blocks.specs.Trees.Bags.{RulesMatchByNumbers, WalksMakeBags, SitesHoldTheirValues, RulesMatchAtPlaces};
 ghost use Rattle.isle_blocks.specs.Trees.Ties.{EqualPrioritiesNeverBothMatch};
+ghost use Rattle.isle_blocks.specs.Trees.BuiltTrees.{OfEachBuilt};
+ghost use Rattle.isle_blocks.specs.Trees.Promises.{ChoosesAsRules, BindsWhatIsAsked, HasArmsInOrder, IsShort};
+ghost use Rattle.isle_blocks.specs.Trees.ReadPromises.{ReadsWhatIsBound, BindsItsFields, BindsFieldsByTests};
+ghost use Rattle.isle_blocks.specs.Trees.RightPromises.{AnswersAsRules};
+ghost use Rattle.isle_blocks.specs.Trees.RuleBags.{MakesItsBag};
+ghost use Rattle.isle_blocks.specs.Trees.TypedCalls.{CallsTakeTheirTypes};
 ghost use Rattle.isle_blocks.specs.Trees.TermTrees.{TreesAreOfTerms};
 ghost use Rattle.isle_blocks.specs.Trees.Bags.{MatchingIsDecided, MatchingRulesAreListed, WaysTakeItems, BuiltSetsAreElaborated, BuiltMultiTerms};
 ghost use Rattle.isle_blocks.specs.Hashes.{binding_hash, constraint_hash};
@@ -307,4 +313,20 @@ pub fn equal_priorities_never_both_match()
 /// The tree that is built of a term's rule set is what the machine of a sound program runs for the term: it is that of the term's rules.
 pub fn trees_are_of_terms()
     ensures { TreesAreOfTerms }
+{}
+
+/// Each tree that a checked rule set builds does all that `serialize` promises of its tree: its walks choose as the rules do, answer what right
+/// sides do, and of a `multi` term its bag; it binds what the rules ask, each site behind its parts, and calls on values of their types; its arms
+/// are in order, and its walks short.
+pub fn built_trees_keep_promises()
+    ensures chooses { OfEachBuilt ChoosesAsRules }
+    ensures answers { OfEachBuilt AnswersAsRules }
+    ensures bag { OfEachBuilt MakesItsBag }
+    ensures asks { OfEachBuilt BindsWhatIsAsked }
+    ensures reads { OfEachBuilt ReadsWhatIsBound }
+    ensures fields { OfEachBuilt BindsItsFields }
+    ensures by_tests { OfEachBuilt BindsFieldsByTests }
+    ensures typed { OfEachBuilt CallsTakeTheirTypes }
+    ensures ascends { OfEachBuilt HasArmsInOrder }
+    ensures few { OfEachBuilt IsShort }
 {}

@@ -6,7 +6,7 @@ use crate::binding::Binding;
 use crate::constraint::Constraint;
 use crate::ids::BindingId;
 use crate::sites::{SiteFault, Sites};
-use isle_syntax::Seq;
+use isle_ast::Seq;
 use std::alloc::{AllocError, Global};
 
 /// The number that a site has got; its own where it has got none.

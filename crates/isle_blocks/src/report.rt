@@ -1,14 +1,14 @@
 //! Errors of rules that overlap or shadow others, each for the pairs of rules that one rule heads.
 ghost use Rattle.std.specs.Prelude.{◌≡◌, ◌≢◌, ◌<◌, ◌+◌, ◌↔◌, ◌∷◌, [], ℕ, IfOk, IsTrue, OnOk, count_by, is_some, length, not, map, slice_index, IsPermutation, IsSorted};
 ghost use Rattle.std.specs.List.Sorted.{IsSortedByKey, IsStableByKey};
-ghost use Rattle.isle_syntax.specs.Errors.{span_at};
+ghost use Rattle.isle_ast.specs.Errors.{span_at};
 ghost use Rattle.isle_blocks.specs.Reports.{AddsGroups, ArePairs, IsBelow, IsGreatest, IsGroup, IsReport, error_of, overlap_message, partner, partner_count};
 ghost use Rattle.isle_blocks.specs.Reports.{pairs_without, partners, pos_order, positions};
 
 use crate::faults::Fault;
-use isle_syntax::error::{Error, Span};
-use isle_syntax::lexer::Pos;
-use isle_syntax::{Seq, Text};
+use isle_ast::error::{Error, Span};
+use isle_ast::pos::Pos;
+use isle_ast::{Seq, Text};
 use isle_types::RuleId;
 use std::alloc::{AllocError, Global};
 

@@ -10,8 +10,8 @@ ghost use Rattle.isle_blocks.specs.Rules.{AreApart, HaveInCommon, OverlapIs, Ove
 
 use crate::constraint::Constraint;
 use crate::ids::BindingId;
-use isle_syntax::Seq;
-use isle_syntax::lexer::Pos;
+use isle_ast::Seq;
+use isle_ast::pos::Pos;
 use isle_types::{DisjointSets, RuleId, SortedMap, Sym, sets_are_disjoint};
 use std::alloc::{AllocError, Global};
 use std::cmp::Ordering;

@@ -12,7 +12,7 @@ use crate::binding::Binding;
 use crate::ids::BindingId;
 use crate::rule::Rule;
 use crate::sites::{SiteFault, Sites};
-use isle_terms::TermEnv;
+use isle_rules::TermEnv;
 use std::alloc::Global;
 use std::marker::Model;
 
@@ -47,7 +47,7 @@ impl RuleSet {
         &mut self,
         alloc: Global,
         termenv: &TermEnv,
-        source: &isle_terms::Rule,
+        source: &isle_rules::Rule,
         partial: bool,
     ) -> Result<bool, SiteFault>
         requires defined { IsDefinedRule termenv.now source.now }

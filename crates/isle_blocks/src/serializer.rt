@@ -3,7 +3,7 @@ ghost use Rattle.std.specs.Prelude.{◌≡◌, ℕ, List, IfOk, length, []};
 ghost use Rattle.isle_types.specs.declared.ids.Sym.{Sym};
 ghost use Rattle.isle_trees.specs.Builds.{Builds};
 ghost use Rattle.isle_trees.specs.Scopes.{nothing_known};
-ghost use Rattle.isle_trees.specs.Search.{below};
+ghost use Rattle.isle_trees.specs.Rules.{below};
 ghost use Rattle.isle_blocks.specs.Inside.Trees.Builder.{IsSerializable, rules_in};
 ghost use Rattle.isle_blocks.specs.Trees.Nodes.{first_steps, read};
 ghost use Rattle.isle_blocks.specs.Trees.Promises.{BindsWhatIsAsked, ChoosesAsRules, HasArmsInOrder, IsBuilt, IsCheckedSet, IsShort, ReturnsItsRules};

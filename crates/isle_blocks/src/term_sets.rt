@@ -2,8 +2,8 @@
 ghost use Rattle.std.specs.Prelude.{◌≡◌, ◌≤◌, ◌<◌, ◌↔◌, ◌++◌, [], ◌∷◌, ℕ, List, All, Vec, IfOk, IfErr, Some, true, length, slice_get, slice_set};
 ghost use Rattle.std.specs.List.{AllZip};
 ghost use Rattle.std.specs.Global.{Global};
-ghost use Rattle.isle_syntax.specs.Errors.{IfFault};
-ghost use Rattle.isle_terms.specs.TypedRules.{TypedRule};
+ghost use Rattle.isle_ast.specs.Errors.{IfFault};
+ghost use Rattle.isle_rules.specs.TypedRules.{TypedRule};
 ghost use Rattle.isle_meaning.specs.Facts.{TermFacts};
 ghost use Rattle.isle_blocks.specs.Inside.Building.Contents.{Marked};
 ghost use Rattle.isle_blocks.specs.Tables.{IsTable};
@@ -14,10 +14,10 @@ ghost use Rattle.isle_blocks.specs.RuleSets.{no_rules};
 
 use crate::rule_set::RuleSet;
 use crate::sites::SiteFault;
-use isle_syntax::error::{Error, Span};
-use isle_syntax::lexer::Pos;
-use isle_syntax::{Refusal, Text};
-use isle_terms::{Rule, TermEnv};
+use isle_ast::error::{Error, Span};
+use isle_ast::pos::Pos;
+use isle_ast::{Refusal, Text};
+use isle_rules::{Rule, TermEnv};
 use isle_types::TermId;
 use std::alloc::{AllocError, Global};
 

@@ -5,8 +5,8 @@ use Rattle.std.proofs.lemmas.Fmt.{parse-decimal}
 use Rattle.std.specs.Bool.{then_some}
 use Rattle.std.specs.Str.Parse.{ParsesUnsigned}
 use Rattle.std.specs.declared.num.ParseIntError.{ParseIntError}
-use Rattle.isle_terms.specs.Values.{ValueTree, bool_tree, int_tree, big_tree, const_tree, opaque_tree, data_tree}
-use Rattle.isle_run.specs.Values.Text.{value_text}
+use Rattle.isle_rules.specs.Values.{ValueTree, bool_tree, int_tree, big_tree, const_tree, opaque_tree, data_tree}
+use Rattle.isle_values.specs.Values.Text.{value_text}
 use Rattle.isle_example.specs.Bytes.{byte_in, byte_value}
 
 -- a number above 255 is none

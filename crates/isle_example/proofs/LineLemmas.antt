@@ -3,8 +3,8 @@ use Rattle.std.proofs.Common.{◌≡◌, ◌<◌, ◌+◌, ◌++◌, ℕ, zero, 
 use Rattle.std.proofs.Common.{append_assoc, append-nil, add-one, arith}
 use Rattle.std.specs.Prelude.{codes}
 use Rattle.std.specs.declared.alloc.AllocError.{AllocError}
-use Rattle.isle_terms.specs.Values.{ValueTree, value_list}
-use Rattle.isle_run.specs.Values.Text.{value_text, fields_text}
+use Rattle.isle_rules.specs.Values.{ValueTree, value_list}
+use Rattle.isle_values.specs.Values.Text.{value_text, fields_text}
 use Rattle.isle_example.specs.Lines.{call_text}
 
 -- one argument more

@@ -2,7 +2,7 @@
 use Rattle.std.specs.Prelude.{◌+◌, ◌/◌, ◌%◌, ◌==◌, ℕ, pos, List, Option, Some, None, if◌then◌else◌, nat_lt, nat_le, codes, bytes_eq}
 use Rattle.std.specs.Bool.{then_some}
 use Rattle.std.specs.Option.{option_map}
-use Rattle.isle_terms.specs.Values.{ValueTree, bool_tree, int_tree, big_tree, const_tree, opaque_tree, data_tree}
+use Rattle.isle_rules.specs.Values.{ValueTree, bool_tree, int_tree, big_tree, const_tree, opaque_tree, data_tree}
 
 -- a number as a value
 abbrev pub byte_value : ℕ → ValueTree

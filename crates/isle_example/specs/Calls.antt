@@ -4,18 +4,18 @@ use Rattle.std.specs.List.{AllZip}
 use Rattle.isle_types.specs.declared.ids.TermId.{TermId}
 use Rattle.isle_meaning.specs.GroundValues.{values_of}
 use Rattle.isle_meaning.specs.Worlds.{Event}
-use Rattle.isle_terms.specs.Values.{ValueTree, ValueTrees}
+use Rattle.isle_rules.specs.Values.{ValueTree, ValueTrees}
 use Rattle.isle_example.specs.declared.query.Reply.{Reply}
 use Rattle.isle_example.specs.declared.query.Reply.TheVariants.{Refused, Answered}
-use Rattle.isle_run.specs.declared.calls.answer.Answer.{Answer}
-use Rattle.isle_run.specs.declared.calls.answer.Effect.{Effect}
-use Rattle.isle_run.specs.declared.program.Program.{Program}
-use Rattle.isle_run.specs.declared.query.QueryFault.{QueryFault}
-use Rattle.isle_run.specs.declared.query.QueryFault.TheVariants.{Q1, Q2, Q3, Q4, Memory}
-use Rattle.isle_run.specs.Calls.Answers.{answers_in, name_of_term, IsEventOf, LeadsThrough}
-use Rattle.isle_run.specs.Meanings.{checked}
-use Rattle.isle_run.specs.TreeCalls.{TellsByTree, BeginsByTree}
-use Rattle.isle_run.specs.Queries.{IsCallIn, RefusesText}
+use Rattle.isle_calls.specs.declared.answer.Answer.{Answer}
+use Rattle.isle_calls.specs.declared.answer.Effect.{Effect}
+use Rattle.isle_program.specs.declared.program.Program.{Program}
+use Rattle.isle_values.specs.declared.queries.QueryFault.{QueryFault}
+use Rattle.isle_values.specs.declared.queries.QueryFault.TheVariants.{Q1, Q2, Q3, Q4, Memory}
+use Rattle.isle_calls.specs.Calls.Answers.{answers_in, name_of_term, IsEventOf, LeadsThrough}
+use Rattle.isle_program.specs.Meanings.{checked}
+use Rattle.isle_machine.specs.TreeCalls.{TellsByTree, BeginsByTree}
+use Rattle.isle_values.specs.Queries.{IsCallIn, RefusesText}
 
 -- what a host answers a constructor and an extractor that make no effects
 abbrev pub Constructs : Type 0

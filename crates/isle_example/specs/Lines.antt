@@ -1,17 +1,17 @@
 -- The lines that tell what a query is answered.
 use Rattle.std.specs.Prelude.{◌≡◌, ◌++◌, ℕ, List, Option, Some, None, codes, decimal, string_bytes, flat_map}
-use Rattle.isle_terms.specs.Values.{ValueTree, value_list}
+use Rattle.isle_rules.specs.Values.{ValueTree, value_list}
 use Rattle.isle_example.specs.declared.host.Registers.{Registers}
 use Rattle.isle_example.specs.declared.query.Reply.{Reply}
 use Rattle.isle_example.specs.declared.query.Reply.TheVariants.{Refused, Answered}
 use Rattle.isle_example.specs.Calls.{Hosted, IsAnswered, hosted}
 use Rattle.isle_example.specs.Registers.{constructed, extracted, Emits}
-use Rattle.isle_run.specs.declared.calls.answer.Answer.{Answer}
-use Rattle.isle_run.specs.declared.calls.answer.Answer.TheVariants.{Value, None as NoAnswer, Stuck, Spent, IllTyped}
-use Rattle.isle_run.specs.declared.calls.answer.Effect.{Effect}
-use Rattle.isle_run.specs.declared.program.Program.{Program}
-use Rattle.isle_run.specs.Programs.{term_name}
-use Rattle.isle_run.specs.Values.Text.{value_text, fields_text}
+use Rattle.isle_calls.specs.declared.answer.Answer.{Answer}
+use Rattle.isle_calls.specs.declared.answer.Answer.TheVariants.{Value, None as NoAnswer, Stuck, Spent, IllTyped}
+use Rattle.isle_calls.specs.declared.answer.Effect.{Effect}
+use Rattle.isle_program.specs.declared.program.Program.{Program}
+use Rattle.isle_program.specs.Programs.{term_name}
+use Rattle.isle_values.specs.Values.Text.{value_text, fields_text}
 
 -- a call, as `(TERM ARG ..)`
 abbrev pub call_text : List ℕ → List ValueTree → List ℕ

@@ -2,7 +2,7 @@
 use Rattle.std.specs.Prelude.{◌≡◌, ◌+◌, ◌-◌, ◌^◌, ◌&&◌, ℕ, Bool, List, Option, Some, None, if◌then◌else◌, nat_lt, codes, bytes_eq}
 use Rattle.std.specs.Bool.{then_some}
 use Rattle.std.specs.Option.{option_map}
-use Rattle.isle_terms.specs.Values.{ValueTree, ValueTrees, opaque_tree, no_trees, more_trees}
+use Rattle.isle_rules.specs.Values.{ValueTree, ValueTrees, opaque_tree, no_trees, more_trees}
 use Rattle.isle_example.specs.declared.host.Registers.{Registers}
 use Rattle.isle_example.specs.Bytes.{byte_in, byte_value, combined_values, taken_apart}
 

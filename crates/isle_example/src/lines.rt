@@ -1,6 +1,6 @@
 //! The lines that tell what a query is answered.
 ghost use Rattle.std.specs.Prelude.{◌≡◌, ◌++◌, IfOk, OnOk, codes, flat_map, string_bytes};
-ghost use Rattle.isle_run.specs.Values.Text.{value_text};
+ghost use Rattle.isle_values.specs.Values.Text.{value_text};
 ghost use Rattle.isle_example.specs.Lines.{answer_text, call_text, effect_line, given_text, reply_text};
 
 use crate::query::Reply;

@@ -3,7 +3,7 @@
 #![tactic(auto)]
 
 ghost use Rattle.std.specs.Prelude.{IfOk, string_bytes};
-ghost use Rattle.isle_run.specs.TreeCalls.{IsCompiled};
+ghost use Rattle.isle_machine.specs.TreeCalls.{IsCompiled};
 ghost use Rattle.isle_example.specs.Lines.{TellsReply};
 
 mod bytes;
@@ -12,8 +12,8 @@ mod lines;
 mod query;
 
 use host::Registers;
+use isle_ast::files::Files;
 use isle_run::{Program, Refused, compile};
-use isle_syntax::files::Files;
 use lines::lines_of;
 use query::reply_to;
 use std::alloc::{AllocError, Global};

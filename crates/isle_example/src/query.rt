@@ -1,13 +1,13 @@
 //! What a query is answered.
 ghost use Rattle.std.specs.Prelude.{◌≡◌, IfOk, OnErr};
 ghost use Rattle.isle_meaning.specs.ValueTypes.{AreOfTypes};
-ghost use Rattle.isle_terms.specs.Values.{value_list};
-ghost use Rattle.isle_run.specs.Facts.Reach.{IsRunnable};
-ghost use Rattle.isle_run.specs.Programs.{types_of, terms_of, types_taken, value_facts};
-ghost use Rattle.isle_run.specs.TreeCalls.{IsCompiled};
+ghost use Rattle.isle_rules.specs.Values.{value_list};
+ghost use Rattle.isle_program.specs.Facts.Reach.{IsRunnable};
+ghost use Rattle.isle_program.specs.Programs.{types_of, terms_of, types_taken, value_facts};
+ghost use Rattle.isle_machine.specs.TreeCalls.{IsCompiled};
 ghost use Rattle.isle_example.specs.Calls.{IsAnswerOf, IsAnswered, IsBegun, IsLost, hosted};
 
-use isle_run::{Answer, Effect, Program, QueryFault, TermId, Value, World};
+use isle_run::{Answer, Effect, Program, QueryFault, TermId, Value, World, call};
 use std::alloc::{AllocError, Global};
 
 // How many calls of terms with rules may be open at once.
@@ -34,7 +34,7 @@ pub fn reply_to<W: World>(
     ensures lost { OnErr result (IsLost program.now (hosted W.constructs W.extracts W.step world.old world.new) query.now) }
     ensures same { (W.constructs world.new ≡ W.constructs world.old) × (W.extracts world.new ≡ W.extracts world.old) }
 {
-    match program.query(alloc, query) {
+    match isle_run::query(alloc, program, query) {
         Ok((term, args)) => {
             let (effects, answer) = answer_to(alloc, program, world, term, args)?;
             Ok(Reply::Answered(effects, answer))
@@ -64,6 +64,6 @@ fn answer_to<W: World>(
     ensures same { (W.constructs world.new ≡ W.constructs world.old) × (W.extracts world.new ≡ W.extracts world.old) }
 {
     let mut effects = Vec::new(alloc);
-    let called = program.call(alloc, term, args, DEPTH, world, &mut effects)?;
+    let called = call(alloc, program, term, args, DEPTH, world, &mut effects)?;
     Ok((effects, called.answer))
 }

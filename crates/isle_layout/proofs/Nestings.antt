@@ -2,7 +2,8 @@
 use Rattle.std.proofs.Common.{◌≡◌, ◌↔◌, ◌+◌, ◌<◌, ◌≤◌, ℕ, suc, List, ◌∷◌, max, Bool, true, false, ◌&&◌, length, get_or, drop, drop-cons, add-one, sym, ap, ◌∙◌, arith}
 
 -- what is asked of the trees from one place on is asked of the first of them and of the others
-split : {X : Type 0} (one : X → ℕ) (several : List X → ℕ) (xs : List X) (i : ℕ) (x : X) → ((y : X) (ys : List X) → several (y ∷ ys) ≡ max (one y) (several ys))
+split : {X : Type 0} (one : X → ℕ) (several : List X → ℕ) (xs : List X) (i : ℕ) (x : X)
+    → ((y : X) (ys : List X) → several (y ∷ ys) ≡ max (one y) (several ys))
     → i < length xs → x ≡ get_or xs i x → several (drop i xs) ≡ max (one x) (several (drop (i + 1) xs))
 split one several xs i x splits low is =
     ap several (rw add-one (drop-cons xs i x low ∙ ap (λ y. y ∷ drop (suc i) xs) (sym is))) ∙ splits x (drop (i + 1) xs)

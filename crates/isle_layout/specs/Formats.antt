@@ -1,8 +1,8 @@
 -- What it is to format a text.
 use Rattle.std.specs.Prelude.{◌≡◌, ℕ, List}
-use Rattle.isle_syntax.specs.declared.ast.Def.{Def}
-use Rattle.isle_syntax.specs.declared.error.Error.{Error}
-use Rattle.isle_syntax.specs.Grammar.Texts.{Spells, IsFaultIn}
+use Rattle.isle_ast.specs.declared.ast.Def.{Def}
+use Rattle.isle_ast.specs.declared.error.Error.{Error}
+use Rattle.isle_syntax.specs.Grammar.Verdict.{Spells, IsFaultIn}
 use Rattle.isle_layout.specs.Prints.{print_of}
 
 -- a text, as the file of this number, spells definitions, which print at this width as `out`

@@ -1,7 +1,7 @@
 -- How definitions are printed.
 use Rattle.std.specs.Prelude.{ℕ, List, ◌++◌, codes}
 use Rattle.std.specs.List.{flat_map}
-use Rattle.isle_syntax.specs.declared.ast.Def.{Def}
+use Rattle.isle_ast.specs.declared.ast.Def.{Def}
 use Rattle.isle_layout.specs.Layout.{layout}
 use Rattle.isle_layout.specs.DefSpellings.{def_sexpr}
 

@@ -1,8 +1,8 @@
 //! Texts laid out anew.
 ghost use Rattle.std.specs.Prelude.{IfErr, IfOk, length, string_bytes};
-ghost use Rattle.isle_syntax.specs.Errors.{IfFault, RefusalAt};
-ghost use Rattle.isle_syntax.specs.Positions.Printable.{IsIn};
-ghost use Rattle.isle_syntax.specs.Grammar.Texts.{IsFaultIn};
+ghost use Rattle.isle_ast.specs.Errors.{IfFault, RefusalAt};
+ghost use Rattle.isle_syntax.specs.Tokens.RemainingTokens.{IsIn};
+ghost use Rattle.isle_syntax.specs.Grammar.Verdict.{IsFaultIn};
 ghost use Rattle.isle_layout.specs.Formats.{Formats, IsSettled, IsFaultless};
 
 use crate::printer::print;

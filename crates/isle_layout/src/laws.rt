@@ -1,9 +1,9 @@
 //! Laws of what is printed and formatted, each as a function whose contract states it.
 ghost use Rattle.std.specs.Prelude.{◌≡◌, All, ℕ, List, map, true};
 ghost use Rattle.std.specs.Str.{IsUtf8};
-ghost use Rattle.isle_syntax.specs.declared.ast.Def.{Def};
-ghost use Rattle.isle_syntax.specs.Grammar.Texts.{Spells};
-ghost use Rattle.isle_syntax.specs.Trees.WithoutPos.{def_without_pos};
+ghost use Rattle.isle_ast.specs.declared.ast.Def.{Def};
+ghost use Rattle.isle_syntax.specs.Grammar.Verdict.{Spells};
+ghost use Rattle.isle_ast.specs.Trees.WithoutPos.{def_without_pos};
 ghost use Rattle.isle_layout.specs.Writable.{writable_def};
 ghost use Rattle.isle_layout.specs.Formats.{Formats, IsSettled, IsFaultless};
 

@@ -1,8 +1,8 @@
 //! Whether what is printed of a definition opens no more parentheses at once than may be.
 ghost use Rattle.std.specs.Prelude.{◌↔◌, ◌≤◌, IsTrue};
-ghost use Rattle.isle_syntax.specs.Trees.PatternShape.{pattern_of, patterns_of};
-ghost use Rattle.isle_syntax.specs.Trees.ExprShape.{expr_of, exprs_of, lets_of};
-ghost use Rattle.isle_syntax.specs.Trees.ItemShape.{item_of, items_of};
+ghost use Rattle.isle_ast.specs.Trees.PatternShape.{pattern_of, patterns_of};
+ghost use Rattle.isle_ast.specs.Trees.ExprShape.{expr_of, exprs_of, lets_of};
+ghost use Rattle.isle_ast.specs.Trees.ItemShape.{item_of, items_of};
 ghost use Rattle.isle_layout.specs.Nesting.{pattern_nesting, pattern_nestings, expr_nesting, expr_nestings, let_nestings, item_nesting};
 ghost use Rattle.isle_layout.specs.Nesting.{item_nestings, iflet_nestings, rule_nesting, nesting};
 
@@ -11,7 +11,7 @@ use isle_syntax::ast::{Def, Expr, IfLet, KeptItem, LetDef, Pattern, Rule};
 /// Whether no more parentheses are open at once in a pattern. A chain `x @ y @ ..` is walked by a loop, since it nests
 /// without parentheses.
 #[cycle(pattern_fits)]
-#[tactic(auto, using(isle_syntax::proofs::Trees::PatternSizes::most_pattern_size))]
+#[tactic(auto, using(isle_ast::proofs::Trees::PatternSizes::most_pattern_size))]
 fn pattern_fits(pattern: &Pattern, depth_left: usize) -> bool
     ensures { IsTrue result ↔ pattern_nesting (pattern_of pattern.now) ≤ depth_left }
 {
@@ -48,7 +48,7 @@ fn patterns_fit(patterns: &[Pattern], depth_left: usize) -> bool
 }
 
 #[cycle(expr_fits)]
-#[tactic(auto, using(isle_syntax::proofs::Trees::ExprSizes::most_expr_size, isle_syntax::proofs::Trees::ExprSizes::most_let_size))]
+#[tactic(auto, using(isle_ast::proofs::Trees::ExprSizes::most_expr_size, isle_ast::proofs::Trees::ExprSizes::most_let_size))]
 fn expr_fits(expr: &Expr, depth_left: usize) -> bool
     ensures { IsTrue result ↔ expr_nesting (expr_of expr.now) ≤ depth_left }
 {
@@ -91,7 +91,7 @@ fn lets_fit(defs: &[LetDef], depth_left: usize) -> bool
 }
 
 #[cycle(item_fits)]
-#[tactic(auto, using(isle_syntax::proofs::Trees::ItemSizes::most_item_size))]
+#[tactic(auto, using(isle_ast::proofs::Trees::ItemSizes::most_item_size))]
 fn item_fits(item: &KeptItem, depth_left: usize) -> bool
     ensures { IsTrue result ↔ item_nesting (item_of item.now) ≤ depth_left }
 {

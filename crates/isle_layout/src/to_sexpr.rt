@@ -206,7 +206,7 @@ impl ToSExpr for Pragma {
 }
 
 impl ToSExpr for KeptItem {
-    ghost use Rattle.isle_syntax.specs.Trees.ItemShape.{item_of};
+    ghost use Rattle.isle_ast.specs.Trees.ItemShape.{item_of};
     ghost use Rattle.isle_layout.specs.Spellings.{item_sexpr};
 
     ghost sexpr = { λ item. item_sexpr (item_of item) };
@@ -219,8 +219,8 @@ impl ToSExpr for KeptItem {
 }
 
 impl ToSExpr for Pattern {
-    ghost use Rattle.isle_syntax.specs.Trees.PatternShape.{pattern_of};
-    ghost use Rattle.isle_syntax.specs.Trees.TreeCalls.{has_macro_arg};
+    ghost use Rattle.isle_ast.specs.Trees.PatternShape.{pattern_of};
+    ghost use Rattle.isle_ast.specs.Trees.TreeCalls.{has_macro_arg};
     ghost use Rattle.isle_layout.specs.Spellings.{pattern_sexpr};
 
     ghost sexpr = { λ pattern. pattern_sexpr (pattern_of pattern) };
@@ -236,7 +236,7 @@ impl ToSExpr for Pattern {
 }
 
 impl ToSExpr for Expr {
-    ghost use Rattle.isle_syntax.specs.Trees.ExprShape.{expr_of};
+    ghost use Rattle.isle_ast.specs.Trees.ExprShape.{expr_of};
     ghost use Rattle.isle_layout.specs.Spellings.{expr_sexpr};
 
     ghost sexpr = { λ expr. expr_sexpr (expr_of expr) };

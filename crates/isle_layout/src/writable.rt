@@ -1,9 +1,9 @@
 //! Writable definitions: those whose names, numbers, parts and nesting let them be printed and read back.
 ghost use Rattle.std.specs.Prelude.{◌≡◌, ◌||◌, not};
 ghost use Rattle.std.specs.List.{list_all};
-ghost use Rattle.isle_syntax.specs.Trees.PatternShape.{pattern_of, patterns_of};
-ghost use Rattle.isle_syntax.specs.Trees.ExprShape.{expr_of, exprs_of, lets_of};
-ghost use Rattle.isle_syntax.specs.Trees.ItemShape.{item_of, items_of};
+ghost use Rattle.isle_ast.specs.Trees.PatternShape.{pattern_of, patterns_of};
+ghost use Rattle.isle_ast.specs.Trees.ExprShape.{expr_of, exprs_of, lets_of};
+ghost use Rattle.isle_ast.specs.Trees.ItemShape.{item_of, items_of};
 ghost use Rattle.isle_syntax.specs.Tokens.Names.{is_word};
 ghost use Rattle.isle_syntax.specs.Grammar.TreeGrammar.{is_pattern_term, is_expr_term};
 ghost use Rattle.isle_layout.specs.Writable.{writable_ident, writable_int, writable_pattern, writable_patterns, writable_expr, writable_exprs};
@@ -81,7 +81,7 @@ fn is_expr_term(text: &str) -> bool
 
 /// A chain `x @ y @ ..` is walked by a loop, since it nests without parentheses.
 #[cycle(writable_pattern)]
-#[tactic(auto, using(isle_syntax::proofs::Trees::PatternSizes::most_pattern_size))]
+#[tactic(auto, using(isle_ast::proofs::Trees::PatternSizes::most_pattern_size))]
 fn writable_pattern(pattern: &Pattern) -> bool
     ensures { result ≡ writable_pattern (pattern_of pattern.now) }
 {
@@ -120,7 +120,7 @@ fn writable_patterns(patterns: &[Pattern]) -> bool
 }
 
 #[cycle(writable_expr)]
-#[tactic(auto, using(isle_syntax::proofs::Trees::ExprSizes::most_expr_size, isle_syntax::proofs::Trees::ExprSizes::most_let_size))]
+#[tactic(auto, using(isle_ast::proofs::Trees::ExprSizes::most_expr_size, isle_ast::proofs::Trees::ExprSizes::most_let_size))]
 fn writable_expr(expr: &Expr) -> bool
     ensures { result ≡ writable_expr (expr_of expr.now) }
 {
@@ -161,7 +161,7 @@ fn writable_lets(defs: &[LetDef]) -> bool
 }
 
 #[cycle(writable_item)]
-#[tactic(auto, using(isle_syntax::proofs::Trees::ItemSizes::most_item_size))]
+#[tactic(auto, using(isle_ast::proofs::Trees::ItemSizes::most_item_size))]
 fn writable_item(item: &KeptItem) -> bool
     ensures { result ≡ writable_item (item_of item.now) }
 {

@@ -3,7 +3,5 @@
 pub mod MadeData
 -- Conditions, and right sides of pure terms, make no impure calls.
 pub mod PureCalls
--- Soundness for the same terms said otherwise.
-pub mod Moved
 -- Soundness is known by a fact of which only that it holds is known.
 pub mod Stable

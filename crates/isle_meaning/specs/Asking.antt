@@ -1,8 +1,8 @@
 -- Which call asks which, one depth lower, and where a chain of asking ends.
 use Rattle.std.specs.Prelude.{◌≡◌, ◌⊎◌, ◌≤ℤ◌, ℕ, zero, suc, true, false, List, [], ◌∷◌, ◌++◌, Option, Some}
-use Rattle.isle_terms.specs.Values.{ValueTree, ValueTrees}
-use Rattle.isle_terms.specs.TypedRules.{TypedPattern, typed_bind, typed_var, typed_bool, typed_int, typed_prim, typed_term, typed_wildcard}
-use Rattle.isle_terms.specs.TypedRules.{typed_and, TypedPatterns, no_typed, more_typed, TypedIfLet, TypedRule}
+use Rattle.isle_rules.specs.Values.{ValueTree, ValueTrees}
+use Rattle.isle_rules.specs.TypedRules.{TypedPattern, typed_bind, typed_var, typed_bool, typed_int, typed_prim, typed_term, typed_wildcard}
+use Rattle.isle_rules.specs.TypedRules.{typed_and, TypedPatterns, no_typed, more_typed, TypedIfLet, TypedRule}
 use Rattle.isle_meaning.specs.Got.{gives}
 use Rattle.isle_meaning.specs.Values.{Value, Values}
 use Rattle.isle_meaning.specs.ValueTypes.{IsOfType, AreOfTypes}
@@ -164,7 +164,8 @@ pub data Chain (p : CheckedProgram) (links : Links) : ℕ → Asked → List Eve
       → links.finishes n t args before r → Chain p links n r trace m q → Chain p links (suc n) (asks_value t args) (before ++ trace) m q
 
 -- the chain ends at a term that may not fail of which no rule matches, with depth left
-pub record EndsStuck (p : CheckedProgram) (w : Answers) (links : Links) (n : ℕ) (from : Asked) (trace : List Event) (t : ℕ) (args : Values) : Type 0 where
+pub record EndsStuck (p : CheckedProgram) (w : Answers) (links : Links) (n : ℕ) (from : Asked) (trace : List Event)
+    (t : ℕ) (args : Values) : Type 0 where
   pub left : ℕ
   pub chain : Chain p links n from trace (suc left) (asks_value t args)
   pub has_rules : p.has_rules t ≡ true
@@ -180,7 +181,8 @@ pub record EndsSpent (p : CheckedProgram) (w : Answers) (links : Links) (n : ℕ
   pub has_rules : p.has_rules last ≡ true
 
 -- the chain ends at a pure constructor without rules whose answer isn't allowed
-pub record EndsAtConstructor (p : CheckedProgram) (w : Answers) (links : Links) (n : ℕ) (from : Asked) (trace : List Event) (t : ℕ) (args : Values) : Type 0 where
+pub record EndsAtConstructor (p : CheckedProgram) (w : Answers) (links : Links) (n : ℕ) (from : Asked) (trace : List Event)
+    (t : ℕ) (args : Values) : Type 0 where
   pub left : ℕ
   pub chain : Chain p links n from trace left (asks_value t args)
   pub outside : p.has_rules t ≡ false
@@ -191,7 +193,8 @@ pub record EndsAtConstructor (p : CheckedProgram) (w : Answers) (links : Links) 
   pub wrong : AllowsValue p t (w.construct t trees) → ⊥
 
 -- the chain ends at an extractor whose answer isn't allowed
-pub record EndsAtExtractor (p : CheckedProgram) (w : Answers) (links : Links) (n : ℕ) (from : Asked) (trace : List Event) (t : ℕ) (v : Value) : Type 0 where
+pub record EndsAtExtractor (p : CheckedProgram) (w : Answers) (links : Links) (n : ℕ) (from : Asked) (trace : List Event)
+    (t : ℕ) (v : Value) : Type 0 where
   pub left : ℕ
   pub chain : Chain p links n from trace left (asks_outputs t v)
   pub tree : ValueTree
@@ -200,7 +203,8 @@ pub record EndsAtExtractor (p : CheckedProgram) (w : Answers) (links : Links) (n
   pub wrong : AllowsOutputs p t (w.extract t tree) → ⊥
 
 -- the chain ends at an effect whose answer isn't allowed, and that is the last one
-pub record EndsAtEffect (p : CheckedProgram) (w : Answers) (links : Links) (n : ℕ) (from : Asked) (trace : List Event) (t : ℕ) (args : Values) : Type 0 where
+pub record EndsAtEffect (p : CheckedProgram) (w : Answers) (links : Links) (n : ℕ) (from : Asked) (trace : List Event)
+    (t : ℕ) (args : Values) : Type 0 where
   pub left : ℕ
   pub before : List Event
   pub chain : Chain p links n from before left (asks_value t args)

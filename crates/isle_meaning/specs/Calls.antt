@@ -1,7 +1,7 @@
 -- The meaning of a call at a depth.
 use Rattle.std.specs.Prelude.{◌≡◌, ◌≢◌, ◌⊎◌, ◌≤ℤ◌, ℕ, zero, suc, Bool, true, false, List, [], ◌∷◌, Option, Some, slice_get}
-use Rattle.isle_terms.specs.Values.{ValueTree, ValueTrees}
-use Rattle.isle_terms.specs.TypedRules.{TypedRule}
+use Rattle.isle_rules.specs.Values.{ValueTree, ValueTrees}
+use Rattle.isle_rules.specs.TypedRules.{TypedRule}
 use Rattle.isle_meaning.specs.Got.{Got, unknown, gives}
 use Rattle.isle_meaning.specs.Values.{Value, Values}
 use Rattle.isle_meaning.specs.ValueTypes.{IsOfType, AreOfTypes}

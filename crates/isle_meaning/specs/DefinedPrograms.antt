@@ -7,9 +7,9 @@ use Rattle.isle_types.specs.declared.types.BuiltinType.TheVariants.{Bool as Bool
 use Rattle.isle_types.specs.IntTypes.{builtin_types}
 use Rattle.isle_types.specs.Names.{position_of}
 use Rattle.isle_types.specs.Environment.{Environment, NamedType, TypeShape, primitive, enum, struct, constant_in}
-use Rattle.isle_terms.specs.Signatures.{TermForm, variant_form, struct_form, declared_form, Signature}
-use Rattle.isle_terms.specs.TypedRules.{TypedRule}
-use Rattle.isle_terms.specs.Definitions.{TermEnvironment, declared_by, names_of_terms}
+use Rattle.isle_rules.specs.Signatures.{TermForm, variant_form, struct_form, declared_form, Signature}
+use Rattle.isle_rules.specs.TypedRules.{TypedRule}
+use Rattle.isle_rules.specs.Definitions.{TermEnvironment, declared_by, names_of_terms}
 use Rattle.isle_meaning.specs.Facts.{TermShape, variant_shape, struct_shape, facts_of}
 use Rattle.isle_meaning.specs.ValueTypes.{TypeKind, truth_kind, integer_kind, primitive_kind, data_kind, no_kind, ValueFacts}
 use Rattle.isle_meaning.specs.Worlds.{CheckedProgram}

@@ -1,7 +1,7 @@
 -- What a rule demands of sites.
 use Rattle.std.specs.Prelude.{◌≡◌, ◌⊎◌, ℕ, suc, ℤ, Bool, true, false, List, [], ◌∷◌, ◌++◌, map}
-use Rattle.isle_terms.specs.TypedRules.{TypedPattern, typed_bind, typed_var, typed_bool, typed_int, typed_prim, typed_term, typed_wildcard}
-use Rattle.isle_terms.specs.TypedRules.{typed_and, TypedPatterns, no_typed, more_typed, TypedIfLet, TypedRule}
+use Rattle.isle_rules.specs.TypedRules.{TypedPattern, typed_bind, typed_var, typed_bool, typed_int, typed_prim, typed_term, typed_wildcard}
+use Rattle.isle_rules.specs.TypedRules.{typed_and, TypedPatterns, no_typed, more_typed, TypedIfLet, TypedRule}
 use Rattle.isle_meaning.specs.Facts.{TermShape, variant_shape, struct_shape, declared_shape, TermFacts, patterns}
 use Rattle.isle_meaning.specs.Words.{set, word_of, steps_of}
 use Rattle.isle_meaning.specs.Sites.{Site, bool_site, int_site, prim_site, argument, extractor_call, constructor_call, iterator}
@@ -141,3 +141,7 @@ result_of facts partial rule = some_of partial (site_of facts (vars_of facts rul
 abbrev pub Among : List Demand → Demand → Type 0
 Among [] d = ⊥
 Among (e ∷ ds) d = (d ≡ e) ⊎ Among ds d
+
+-- what a rule demands
+abbrev pub DemandOf : TermFacts → TypedRule → Demand → Type 0
+DemandOf facts rule = Among (demands_of facts rule)

@@ -1,7 +1,7 @@
 -- Typed rules as elaboration makes them, whatever terms they ask.
 use Rattle.std.specs.Prelude.{◌⊎◌, ℕ, List, [], ◌∷◌, false}
-use Rattle.isle_terms.specs.TypedRules.{TypedExpr, built_var, built_bool, built_int, built_prim, built_term, built_let, TypedExprs, no_built}
-use Rattle.isle_terms.specs.TypedRules.{more_built, TypedIfLet, TypedRule}
+use Rattle.isle_rules.specs.TypedRules.{TypedExpr, built_var, built_bool, built_int, built_prim, built_term, built_let, TypedExprs, no_built}
+use Rattle.isle_rules.specs.TypedRules.{more_built, TypedIfLet, TypedRule}
 use Rattle.isle_meaning.specs.Facts.{TermFacts}
 use Rattle.isle_meaning.specs.Demands.{Demand, Among, contents, bound, iflet_site, args_bound, demands_of}
 use Rattle.isle_meaning.specs.Needs.{visit, no_log, IsNeeded}
@@ -30,7 +30,8 @@ IfLetsNeed facts (x ∷ xs) vars s =
 -- of an expression's value have: only a call in a `let` that is not used may have others.)
 abbrev pub OpensItsMultiCalls : TermFacts → TypedRule → Type 0
 OpensItsMultiCalls facts rule =
-    (s : Site) → IfLetsNeed facts rule.iflets (args_bound facts rule) (iterator s) → (d : Demand) → Among (contents s) d → Among (demands_of facts rule) d
+    (s : Site) → IfLetsNeed facts rule.iflets (args_bound facts rule) (iterator s) → (d : Demand) → Among (contents s) d
+    → Among (demands_of facts rule) d
 
 -- an expression without `let`
 abbrev mutual

@@ -2,9 +2,9 @@
 use Rattle.std.specs.Prelude.{◌≡◌, ℕ, zero, suc, Bool, true, false, List, [], ◌∷◌, ◌++◌, map, Option, None, Some, slice_get, unwrap_or}
 use Rattle.isle_types.specs.IntTypes.{builtin_names}
 use Rattle.isle_types.specs.Environment.{Environment, NamedType, NamedVariant, TypeShape, primitive, enum, struct, constant_in, numbers_in}
-use Rattle.isle_terms.specs.TypedRules.{TypedPatterns, no_typed, more_typed}
-use Rattle.isle_terms.specs.Signatures.{external_extractor, by_template, TermForm, variant_form, struct_form, declared_form}
-use Rattle.isle_terms.specs.Signatures.{Signature, Declared, flags_of}
+use Rattle.isle_rules.specs.TypedRules.{TypedPatterns, no_typed, more_typed}
+use Rattle.isle_rules.specs.Signatures.{external_extractor, by_template, TermForm, variant_form, struct_form, declared_form}
+use Rattle.isle_rules.specs.Signatures.{Signature, Declared, flags_of}
 
 -- what a term is: a variant of its type, its type's struct, or declared
 pub data TermShape : Type 0 where
@@ -69,8 +69,8 @@ no_term = record {
 }
 
 -- the term of a number
-abbrev pub term_at : Declared → ℕ → Signature
-term_at declared number = unwrap_or (slice_get declared.terms number) no_term
+abbrev pub signature_numbered : Declared → ℕ → Signature
+signature_numbered declared number = unwrap_or (slice_get declared.terms number) no_term
 
 -- what the type of a number is: the builtin ones come first
 abbrev pub type_shape : Environment → ℕ → TypeShape
@@ -97,13 +97,13 @@ struct_types (struct fields) = numbers_in fields
 -- what the declarations that rules are read under say
 abbrev pub facts_of : Declared → TermFacts
 facts_of declared = record {
-  shape = λ t. shape_of_form (term_at declared t).form;
-  pure = λ t. (flags_of (term_at declared t).form).pure;
-  partial = λ t. (flags_of (term_at declared t).form).partial;
-  multi = λ t. (flags_of (term_at declared t).form).multi;
-  infallible = λ t. never_fails (term_at declared t).form;
-  inputs = λ t. (term_at declared t).args;
-  type_of = λ t. (term_at declared t).ret;
+  shape = λ t. shape_of_form (signature_numbered declared t).form;
+  pure = λ t. (flags_of (signature_numbered declared t).form).pure;
+  partial = λ t. (flags_of (signature_numbered declared t).form).partial;
+  multi = λ t. (flags_of (signature_numbered declared t).form).multi;
+  infallible = λ t. never_fails (signature_numbered declared t).form;
+  inputs = λ t. (signature_numbered declared t).args;
+  type_of = λ t. (signature_numbered declared t).ret;
   variant_fields = λ ty place. variant_types (type_shape declared.types ty) place;
   struct_fields = λ ty. struct_types (type_shape declared.types ty);
   constant_type = λ name. unwrap_or (constant_in declared.types.constants name) 0;

@@ -2,9 +2,9 @@
 -- 2^127 on, which is of `u128` alone, is the one of its 128 bits.
 use Rattle.std.specs.Prelude.{◌≡◌, ℕ, List, Option, Some, None}
 use Rattle.std.specs.Int.{w128, cast_signed}
-use Rattle.isle_terms.specs.Values.{ValueTree, ValueTrees, bool_tree, int_tree, big_tree}
-use Rattle.isle_terms.specs.Values.{const_tree, opaque_tree, data_tree, no_trees}
-use Rattle.isle_terms.specs.Values.{more_trees}
+use Rattle.isle_rules.specs.Values.{ValueTree, ValueTrees, bool_tree, int_tree, big_tree}
+use Rattle.isle_rules.specs.Values.{const_tree, opaque_tree, data_tree, no_trees}
+use Rattle.isle_rules.specs.Values.{more_trees}
 use Rattle.isle_meaning.specs.Facts.{TermShape, variant_shape, struct_shape, declared_shape}
 use Rattle.isle_meaning.specs.Values.{Value, Values, bool_value, int_value, constant_value, opaque_value, made_variant, made_struct}
 use Rattle.isle_meaning.specs.Values.{no_values, more_values}

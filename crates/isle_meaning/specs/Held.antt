@@ -1,6 +1,6 @@
 -- What a site holds.
 use Rattle.std.specs.Prelude.{◌≡◌, ◌≢◌, ℕ, Bool, true, false, List, Option, ◌==◌, if◌then◌else◌}
-use Rattle.isle_meaning.specs.Values.{Value, bool_value, int_value, constant_value, opaque_value, made_variant, made_struct, Values}
+use Rattle.isle_meaning.specs.Values.{Value, bool_value, int_value, constant_value, opaque_value, made_variant, made_struct, Values, count}
 use Rattle.isle_meaning.specs.Got.{Got, unknown, fails, gives}
 use Rattle.isle_meaning.specs.Values.{no_values, more_values, nth, nth_of, more, made, built, ask}
 use Rattle.isle_meaning.specs.Facts.{TermFacts}
@@ -8,6 +8,7 @@ use Rattle.isle_meaning.specs.Sites.{Site, bool_site, int_site, prim_site, argum
 use Rattle.isle_meaning.specs.Sites.{make_variant, match_variant, make_struct, extract_struct, make_some, match_some, match_tuple}
 use Rattle.isle_meaning.specs.Sites.{Sites, no_sites, more_sites}
 use Rattle.isle_meaning.specs.Answers.{Completion, answer_of}
+use Rattle.isle_meaning.specs.Demands.{Constraint, variant_constraint, struct_constraint, bool_constraint, int_constraint, prim_constraint, some_constraint}
 
 -- a value, the outputs of an extractor that hasn't one, an option, or what a multi call gives
 pub data Held : Type 0 where
@@ -154,3 +155,11 @@ abbrev mutual
   pub AreAnswered : TermFacts → Completion → Values → List (Option Value) → Sites → Type 0
   AreAnswered facts c args done no_sites = Unit {0}
   AreAnswered facts c args done (more_sites s ss) = IsAnswered facts c args done s × AreAnswered facts c args done ss
+
+abbrev pub Meets : Constraint → Held → Type 0
+Meets (variant_constraint ty k n) h = (vs : Values) × (h ≡ held_value (made_variant ty k vs)) × (count vs ≡ n)
+Meets (struct_constraint ty n) h = (vs : Values) × (h ≡ held_value (made_struct ty vs)) × (count vs ≡ n)
+Meets (bool_constraint b ty) h = h ≡ held_value (bool_value b)
+Meets (int_constraint n ty) h = h ≡ held_value (int_value n)
+Meets (prim_constraint n) h = h ≡ held_value (constant_value n)
+Meets some_constraint h = (x : Held) × (h ≡ held_some x)

@@ -1,19 +1,10 @@
 -- When a demand holds of what sites hold.
 use Rattle.std.specs.Prelude.{◌≡◌, ◌≢◌, ◌↔◌, ℕ, List, [], ◌∷◌}
 use Rattle.isle_meaning.specs.Got.{Got, gives}
-use Rattle.isle_meaning.specs.Values.{bool_value, int_value, constant_value, made_variant, made_struct, Value, Values, count, nth}
+use Rattle.isle_meaning.specs.Values.{made_variant, made_struct, Value, Values, nth}
 use Rattle.isle_meaning.specs.Sites.{Site, match_variant, extract_struct}
-use Rattle.isle_meaning.specs.Held.{Held, held_value, held_some}
-use Rattle.isle_meaning.specs.Demands.{Constraint, variant_constraint, struct_constraint, bool_constraint, int_constraint}
-use Rattle.isle_meaning.specs.Demands.{prim_constraint, some_constraint, Demand, constrained, equal}
-
-abbrev pub Meets : Constraint → Held → Type 0
-Meets (variant_constraint ty k n) h = (vs : Values) × (h ≡ held_value (made_variant ty k vs)) × (count vs ≡ n)
-Meets (struct_constraint ty n) h = (vs : Values) × (h ≡ held_value (made_struct ty vs)) × (count vs ≡ n)
-Meets (bool_constraint b ty) h = h ≡ held_value (bool_value b)
-Meets (int_constraint n ty) h = h ≡ held_value (int_value n)
-Meets (prim_constraint n) h = h ≡ held_value (constant_value n)
-Meets some_constraint h = (x : Held) × (h ≡ held_some x)
+use Rattle.isle_meaning.specs.Held.{Held, held_value, Meets}
+use Rattle.isle_meaning.specs.Demands.{Demand, constrained, equal}
 
 abbrev pub Holds : (Site → Got Held) → Demand → Type 0
 Holds val (constrained s c) = (h : Held) × (val s ≡ gives h) × Meets c h

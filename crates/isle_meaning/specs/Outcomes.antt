@@ -1,6 +1,6 @@
 -- What calls come to: a value, nothing, or an end; what the world's answers come to; and what an outcome says of what a call means.
 use Rattle.std.specs.Prelude.{◌≡◌, ◌⊎◌, ℕ, Bool, true, false, List, [], ◌∷◌, Option, Some, None}
-use Rattle.isle_terms.specs.Values.{ValueTree, ValueTrees}
+use Rattle.isle_rules.specs.Values.{ValueTree, ValueTrees}
 use Rattle.isle_meaning.specs.Values.{Value, Values}
 use Rattle.isle_meaning.specs.ValueTypes.{IsOfType, AreOfTypes}
 use Rattle.isle_meaning.specs.GroundValues.{value_of, values_of, IsValueOf}

@@ -1,7 +1,7 @@
 -- Plain runs that have begun: with which effects one may stop, before it has come to anything.
 use Rattle.std.specs.Prelude.{◌≡◌, ◌⊎◌, ℕ, zero, suc, Bool, true, false, List, [], ◌∷◌, ◌++◌, Option, Some, slice_get}
-use Rattle.isle_terms.specs.Values.{ValueTree, ValueTrees}
-use Rattle.isle_terms.specs.TypedRules.{TypedRule}
+use Rattle.isle_rules.specs.Values.{ValueTree, ValueTrees}
+use Rattle.isle_rules.specs.TypedRules.{TypedRule}
 use Rattle.isle_meaning.specs.Values.{Value, Values}
 use Rattle.isle_meaning.specs.ValueTypes.{AreOfTypes}
 use Rattle.isle_meaning.specs.GroundValues.{values_of}

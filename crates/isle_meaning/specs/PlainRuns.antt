@@ -1,7 +1,7 @@
 -- The plain run of a call: its term's rules are tried one by one, by descending priority, then in the order of the texts.
 use Rattle.std.specs.Prelude.{◌≡◌, ◌≢◌, ◌⊎◌, ◌<◌, ◌<ℤ◌, ◌↔◌, ℕ, zero, suc, false, List, [], ◌∷◌, ◌++◌, Option, Some, slice_get, Contains}
-use Rattle.isle_terms.specs.TypedRules.{TypedPattern, typed_bind, typed_var, typed_bool, typed_int, typed_prim, typed_term, typed_wildcard}
-use Rattle.isle_terms.specs.TypedRules.{typed_and, TypedPatterns, no_typed, more_typed, TypedIfLet, TypedRule}
+use Rattle.isle_rules.specs.TypedRules.{TypedPattern, typed_bind, typed_var, typed_bool, typed_int, typed_prim, typed_term, typed_wildcard}
+use Rattle.isle_rules.specs.TypedRules.{typed_and, TypedPatterns, no_typed, more_typed, TypedIfLet, TypedRule}
 use Rattle.isle_meaning.specs.Values.{Value, Values, bool_value, int_value, constant_value, made_variant, made_struct, no_values, more_values}
 use Rattle.isle_meaning.specs.Facts.{TermShape, variant_shape, struct_shape, declared_shape}
 use Rattle.isle_meaning.specs.Words.{Word, var_word, bool_word, int_word, prim_word, variant_word, struct_word, call_word, Words}
@@ -14,7 +14,8 @@ use Rattle.isle_meaning.specs.Asking.{spent}
 -- An expression is read from left to right, arguments first, its `let`s written out; each call is made where it is met, and the first
 -- that comes to no value ends it. The variables have these values, and the impure calls so far these answers.
 abbrev mutual
-  pub WordRuns : CheckedProgram → Answers → (ℕ → Values → List Event → Outcome Value → Type 0) → (ℕ → Value) → List (Option Value) → Word → Outcome Value → Type 0
+  pub WordRuns : CheckedProgram → Answers → (ℕ → Values → List Event → Outcome Value → Type 0) → (ℕ → Value)
+      → List (Option Value) → Word → Outcome Value → Type 0
   WordRuns p w below a done (var_word k) r = r ≡ given (a k)
   WordRuns p w below a done (bool_word ty b) r = r ≡ given (bool_value b)
   WordRuns p w below a done (int_word ty n) r = r ≡ given (int_value n)
@@ -28,7 +29,8 @@ abbrev mutual
   WordRuns p w below a done (call_word t ws (suc i)) r =
       (g : Outcome Values) × WordsRun p w below a done ws g × After g (λ vs r. (v : Value) × (slice_get done i ≡ Some (Some v)) × (r ≡ given v)) r
 
-  pub WordsRun : CheckedProgram → Answers → (ℕ → Values → List Event → Outcome Value → Type 0) → (ℕ → Value) → List (Option Value) → Words → Outcome Values → Type 0
+  pub WordsRun : CheckedProgram → Answers → (ℕ → Values → List Event → Outcome Value → Type 0) → (ℕ → Value)
+      → List (Option Value) → Words → Outcome Values → Type 0
   WordsRun p w below a done no_words r = r ≡ given no_values
   WordsRun p w below a done (more_words x xs) r =
       (g : Outcome Value) × WordRuns p w below a done x g × After g (λ v r. (h : Outcome Values) × WordsRun p w below a done xs h
@@ -74,7 +76,8 @@ abbrev mutual
       (s : Outcome (ℕ → Value)) × PatternRuns p w a q v s × After s (λ b r. EachRuns p w b qs v r) r
 
 -- each if-let in turn: its expression, then its pattern on that value
-abbrev pub IfLetsRun : CheckedProgram → Answers → (ℕ → Values → List Event → Outcome Value → Type 0) → (ℕ → Value) → List TypedIfLet → Outcome (ℕ → Value) → Type 0
+abbrev pub IfLetsRun : CheckedProgram → Answers → (ℕ → Values → List Event → Outcome Value → Type 0) → (ℕ → Value)
+    → List TypedIfLet → Outcome (ℕ → Value) → Type 0
 IfLetsRun p w below a [] r = r ≡ given a
 IfLetsRun p w below a (x ∷ xs) r =
     (g : Outcome Value) × WordRuns p w below a [] (word_of p.terms x.value) g
@@ -85,12 +88,14 @@ abbrev pub no_variables : ℕ → Value
 no_variables k = bool_value false
 
 -- a rule is tried: its patterns, then its if-lets
-abbrev pub RuleRuns : CheckedProgram → Answers → (ℕ → Values → List Event → Outcome Value → Type 0) → Values → TypedRule → Outcome (ℕ → Value) → Type 0
+abbrev pub RuleRuns : CheckedProgram → Answers → (ℕ → Values → List Event → Outcome Value → Type 0) → Values
+    → TypedRule → Outcome (ℕ → Value) → Type 0
 RuleRuns p w below args rule r =
     (s : Outcome (ℕ → Value)) × PatternsRun p w no_variables rule.args args s × After s (λ a r. IfLetsRun p w below a rule.iflets r) r
 
 -- a right side: its impure calls in order, each after the pure calls that its arguments need, then its result
-abbrev pub RightRuns : CheckedProgram → Answers → (ℕ → Values → List Event → Outcome Value → Type 0) → (ℕ → Value) → List (Option Value) → List Step → Word
+abbrev pub RightRuns : CheckedProgram → Answers → (ℕ → Values → List Event → Outcome Value → Type 0) → (ℕ → Value)
+    → List (Option Value) → List Step → Word
     → List Event → Outcome Value → Type 0
 RightRuns p w below a done [] result trace r = (trace ≡ []) × WordRuns p w below a done result r
 RightRuns p w below a done (s ∷ steps) result trace r =
@@ -106,7 +111,8 @@ Tried missing right others steps trace r = (more : ℕ) × (steps ≡ suc more) 
 Tried (ended e) right others steps trace r = (steps ≡ 1) × (trace ≡ []) × (r ≡ ended e)
 
 -- rules, by their places in the texts, in turn
-abbrev pub RulesRun : CheckedProgram → Answers → (ℕ → Values → List Event → Outcome Value → Type 0) → ℕ → Values → List ℕ → ℕ → List Event → Outcome Value → Type 0
+abbrev pub RulesRun : CheckedProgram → Answers → (ℕ → Values → List Event → Outcome Value → Type 0) → ℕ → Values
+    → List ℕ → ℕ → List Event → Outcome Value → Type 0
 RulesRun p w below t args [] steps trace r = (steps ≡ 0) × (trace ≡ []) × (r ≡ unmatched (p.terms.partial t) t args)
 RulesRun p w below t args (i ∷ is) steps trace r =
     (rule : TypedRule) × (slice_get p.rules i ≡ Some rule) × (s : Outcome (ℕ → Value)) × RuleRuns p w below args rule s

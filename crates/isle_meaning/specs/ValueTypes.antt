@@ -5,7 +5,7 @@ use Rattle.isle_types.specs.declared.types.IntType.{IntType}
 use Rattle.isle_types.specs.declared.types.IntType.TheVariants.{U128}
 use Rattle.isle_types.specs.IntTypes.{HasNumber}
 use Rattle.isle_meaning.specs.Facts.{TermShape}
-use Rattle.isle_terms.specs.Values.{ValueTree, ValueTrees, bool_tree, int_tree, big_tree, const_tree, opaque_tree, data_tree, no_trees, more_trees}
+use Rattle.isle_rules.specs.Values.{ValueTree, ValueTrees, bool_tree, int_tree, big_tree, const_tree, opaque_tree, data_tree, no_trees, more_trees}
 
 -- what kind of values a type has
 pub data TypeKind : Type 0 where

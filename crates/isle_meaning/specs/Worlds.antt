@@ -1,8 +1,8 @@
 -- Checked programs, what a world answers, and which answers the declarations allow.
 use Rattle.std.specs.Prelude.{◌≡◌, ℕ, Bool, true, false, List, Option, Some, None}
 use Rattle.std.specs.Option.{option_map}
-use Rattle.isle_terms.specs.Values.{ValueTree, ValueTrees}
-use Rattle.isle_terms.specs.TypedRules.{TypedRule}
+use Rattle.isle_rules.specs.Values.{ValueTree, ValueTrees}
+use Rattle.isle_rules.specs.TypedRules.{TypedRule}
 use Rattle.isle_meaning.specs.Facts.{TermFacts}
 use Rattle.isle_meaning.specs.Got.{Got, fails, gives}
 use Rattle.isle_meaning.specs.Values.{Value, Values}

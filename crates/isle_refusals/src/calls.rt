@@ -1,6 +1,6 @@
 //! Calls of a program, and a host that counts its effects.
 use crate::tried::{Tried, compared};
-use isle_run::{Answer, Effect, Node, Program, Value, World, compile};
+use isle_run::{Answer, Effect, Node, Program, Value, World, call_plain, compile, query};
 use isle_syntax::files::Files;
 use std::alloc::{AllocError, Global};
 use std::rc::Rc;
@@ -113,13 +113,13 @@ fn told_effects(alloc: Global, effects: &[Effect], host: &Counting) -> Result<St
 /// Calls `(f 0)` by the rules or by the trees.
 pub fn call(alloc: Global, is_plain: bool) -> Result<Tried, AllocError> {
     let program = compiled(alloc)?;
-    let (term, args) = program.query(alloc, "(f 0)").map_err(|_| AllocError)?;
+    let (term, args) = query(alloc, &program, "(f 0)").map_err(|_| AllocError)?;
     let mut host = Counting { count: 0 };
     let mut effects = Vec::new(alloc);
     let called = if is_plain {
-        program.call_plain(alloc, term, args, 1, &mut host, &mut effects)
+        call_plain(alloc, &program, term, args, 1, &mut host, &mut effects)
     } else {
-        program.call(alloc, term, args, 1, &mut host, &mut effects)
+        isle_run::call(alloc, &program, term, args, 1, &mut host, &mut effects)
     };
     let told = told_effects(alloc, effects.as_slice(), &host)?;
     let is_answered = matches!(&called, Ok(it) if matches!(it.answer, Answer::Value(_)));

@@ -2,9 +2,9 @@
 use crate::calls::{compiled, value_of};
 use crate::environments::{parsed, terms};
 use crate::tried::{Tried, compared};
+use isle_rules::TermEnv;
 use isle_run::Value;
 use isle_syntax::ast::{Def, Rule};
-use isle_terms::TermEnv;
 use std::alloc::{AllocError, Global};
 
 /// Copies a rule.

@@ -5,7 +5,7 @@ use isle_syntax::ast::{Def, Ident};
 use isle_syntax::error::Error;
 use isle_syntax::lexer::{Lexer, Pos};
 use isle_syntax::parser::parse;
-use isle_terms::TermEnv;
+use isle_terms::{FromAst, TermEnv};
 use isle_types::TypeEnv;
 use std::alloc::{AllocError, Global};
 

@@ -5,3 +5,5 @@ pub mod Compiled
 pub mod Inhabiting
 -- Programs whose terms don't reach themselves.
 pub mod Acyclic
+-- Compiled programs are sound.
+pub mod Sound

@@ -2,8 +2,6 @@
 pub mod Compiled
 -- What a compiled program's tables say, and that its rules are sound.
 pub mod Sound
--- What tables say of terms.
-pub mod Terms
 -- The order of rules.
 pub mod Order
 -- How definitions are spelt.

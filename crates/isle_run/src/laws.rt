@@ -13,13 +13,13 @@ ghost use Rattle.isle_meaning.specs.Laws.Spelling.{AlikeProgramsMeanTheSame};
 ghost use Rattle.isle_run.specs.Laws.Spelling.{AlikeTextsAreAcceptedAlike, AlikeTextsMakeAlikePrograms};
 ghost use Rattle.std.specs.Prelude.{◌≡◌, ℕ, List};
 ghost use Rattle.isle_syntax.specs.declared.lexer.Token.{Token};
-ghost use Rattle.isle_terms.specs.Values.{ValueTree};
+ghost use Rattle.isle_rules.specs.Values.{ValueTree};
 ghost use Rattle.isle_meaning.specs.ValueTypes.{ValueFacts, IsOfType};
-ghost use Rattle.isle_run.specs.Values.Held.{IsHeld};
-ghost use Rattle.isle_run.specs.Values.Settled.{settled, SpellTyped};
-ghost use Rattle.isle_run.specs.Values.TextTokens.{AreTokensOf};
-ghost use Rattle.isle_run.specs.Values.Text.{value_text};
-ghost use Rattle.isle_run.specs.Values.Tokens.{IsSpellable};
+ghost use Rattle.isle_values.specs.Values.Held.{IsHeld};
+ghost use Rattle.isle_values.specs.Values.Settled.{settled, SpellTyped};
+ghost use Rattle.isle_values.specs.Values.TextTokens.{AreTokensOf};
+ghost use Rattle.isle_values.specs.Values.Text.{value_text};
+ghost use Rattle.isle_values.specs.Values.Tokens.{IsSpellable};
 
 pub use isle_meaning::laws::{
     chain_stays, chains_join, completions_extend, end_stays, ends_are_asked,

@@ -1,25 +1,15 @@
-//! Compiles rule files and answers calls of their terms.
+//! Compiles rule files and answers calls of their terms: all calls of the crates below it, and the laws over them.
 #![tactic(auto)]
 
-mod calls;
-mod compiler;
-mod facts;
 pub mod laws;
-mod program;
-mod query;
-pub mod reasons;
-mod roads;
-mod trees;
-mod values;
-pub mod warnings;
-mod worlds;
 
-pub use calls::answer::{Answer, Called, Effect};
-pub use calls::choices::Choice;
-pub use compiler::{Refused, compile};
-pub use isle_types::{TermId, TypeId};
-pub use program::Program;
-pub use query::{QueryFault, is_blank};
-pub use trees::names::{place_text, spaces};
-pub use values::{Node, Value, ValueFault};
-pub use worlds::{Side, TableWorld, World, WorldFault};
+pub use isle_calls::{Answer, Called, Choice, Effect};
+pub use isle_machine::{call, trace};
+pub use isle_plain::{call_plain, trace_plain};
+pub use isle_program::{Program, Refused, TermId, TypeId, compile};
+pub use isle_reasons as reasons;
+pub use isle_tell::{place_text, spaces, trees_graph, trees_text, warnings};
+pub use isle_values::{
+    Node, QueryFault, Side, TableWorld, Value, ValueFault, World, WorldFault, has_type, is_blank,
+    query,
+};

@@ -4,8 +4,8 @@ pub mod reasons;
 pub mod values;
 pub mod worlds;
 
-use isle_run::{Answer, Program, World, compile};
-use isle_syntax::files::Files;
+use isle_ast::files::Files;
+use isle_run::{Answer, Program, World, call, call_plain, compile};
 use std::alloc::{AllocError, Global};
 use std::rc::Rc;
 use std::test::Fail;
@@ -104,14 +104,14 @@ pub fn called<W: World>(
         Some((query, _end)) => query,
         None => text,
     };
-    let Ok((term, args)) = program.query(alloc, query) else {
+    let Ok((term, args)) = isle_run::query(alloc, program, query) else {
         return String::from_str(alloc, "refused");
     };
     let mut effects = Vec::new(alloc);
     let called = if by_tree.is_some() {
-        program.call(alloc, term, args, depth, world, &mut effects)?
+        call(alloc, program, term, args, depth, world, &mut effects)?
     } else {
-        program.call_plain(alloc, term, args, depth, world, &mut effects)?
+        call_plain(alloc, program, term, args, depth, world, &mut effects)?
     };
     let answer = answer_text(alloc, &called.answer)?;
     format!(in alloc; "{} {} {answer}", called.steps, effects.len())

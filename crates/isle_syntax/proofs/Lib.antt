@@ -1,6 +1,6 @@
 -- parse errors and size errors, and what is known of their spans
 pub mod ErrorKinds
--- lemmas on trees
+-- lemmas on trees that are spelt
 pub mod Trees
 -- lemmas on texts and their tokens
 pub mod Tokens
@@ -8,5 +8,5 @@ pub mod Tokens
 pub mod Reading
 -- reading follows the grammar, production by production, up to a whole text
 pub mod Productions
--- lemmas on positions, orders, lines and what is printed of them
+-- lemmas on the positions of what is spelt, and on what is printed of them
 pub mod Positions

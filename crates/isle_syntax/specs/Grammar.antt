@@ -7,5 +7,3 @@ pub mod TreeGrammar
 pub mod DefGrammar
 -- What a parser of a whole text promises, in the grammar's words.
 pub mod Verdict
--- What a whole text spells, and which fault it has.
-pub mod Texts

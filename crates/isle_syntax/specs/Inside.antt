@@ -1,5 +1,3 @@
--- trees of definitions, patterns, expressions and kept items, and what is computed of them
-pub mod Trees
 -- which tokens a text has, and what a lexer answers
 pub mod Tokens
 -- reading tokens from left to right, as the private calls of the parser do

@@ -1,76 +1,15 @@
-//! Errors, the spans where their faults lie, and reports of errors with their source files.
-ghost use Rattle.std.specs.Prelude.{◌≡◌, ◌<◌, ◌+◌};
+//! Reports of errors with their source files. The errors and the spans where they lie are passed on.
+ghost use Rattle.std.specs.Prelude.{◌≡◌};
 
 mod builder;
 mod print;
 
 pub use crate::error::builder::ErrorsBuilder;
-use crate::files::Files;
-use crate::lexer::Pos;
-use crate::text::{Seq, Text};
+pub use isle_ast::error::{Error, Span};
+use isle_ast::files::Files;
 use std::fmt;
 use std::marker::Model;
-use std::ops::Range;
 use std::rc::Rc;
-
-/// A stretch of a source file, from its first byte to the byte after its last.
-#[derive(Debug, Clone, Drop)]
-pub struct Span {
-    pub from: Pos,
-    pub to: Pos,
-}
-
-impl Span {
-    ghost use Rattle.isle_syntax.specs.Errors.{span_at};
-
-    /// The span of the byte at a position; at the greatest offset it holds no byte.
-    pub fn at(pos: Pos) -> Span
-        ensures { result ≡ span_at pos }
-    {
-        Span {
-            from: pos,
-            to: Pos::new(pos.file, pos.offset.saturating_add(1)),
-        }
-    }
-
-    /// The stretch of one byte.
-    pub fn new_single(pos: Pos) -> Span
-        requires { pos.offset < usize.MAX }
-        ensures { result
-            ≡ record { from = pos; to = record { file = pos.file; offset = pos.offset + 1 } } }
-    {
-        Span {
-            from: pos,
-            to: Pos::new(pos.file, pos.offset + 1),
-        }
-    }
-}
-
-/// The two offsets of a stretch.
-impl From<&Span> for Range<usize> {
-    ghost from_gives = { λ s r. r ≡ record { start = s.now.from.offset; end = s.now.to.offset } };
-
-    fn from(span: &Span) -> Range<usize> {
-        span.from.offset..span.to.offset
-    }
-}
-
-/// A fault of a list of source texts.
-#[derive(Debug, Drop)]
-pub enum Error {
-    /// A text isn't spelt by the grammar.
-    ParseError { msg: Text, span: Span },
-    /// A rule of the typing is broken.
-    TypeError { msg: Text, span: Span },
-    /// A rule can never match.
-    UnreachableError { msg: Text, span: Span },
-    /// Rules of one priority may both match: the heading one first, then its partners.
-    OverlapError { msg: Text, rules: Seq<Span> },
-    /// Rules that another one masks.
-    ShadowedError { shadowed: Seq<Span>, mask: Span },
-    /// A bound on sizes is passed.
-    SizeError { msg: Text, span: Span },
-}
 
 /// Faults with the source files that they lie in, which it prints.
 #[derive(Debug, Drop)]
@@ -81,7 +20,8 @@ pub struct Errors {
 
 impl Model for Errors {
     ghost use Rattle.std.specs.Prelude.{All};
-    ghost use Rattle.isle_syntax.specs.Errors.{Report, IsPrintable};
+    ghost use Rattle.isle_syntax.specs.Errors.{Report};
+    ghost use Rattle.isle_ast.specs.Errors.{IsPrintable};
 
     ghost Value = { Report };
 
@@ -92,7 +32,7 @@ impl Model for Errors {
 
 impl Errors {
     ghost use Rattle.std.specs.Prelude.{All};
-    ghost use Rattle.isle_syntax.specs.Errors.{IsPrintable};
+    ghost use Rattle.isle_ast.specs.Errors.{IsPrintable};
 
     /// Faults of files, which takes no memory.
     pub fn new(errors: Vec<Error>, files: Rc<Files>) -> Errors

@@ -8,8 +8,9 @@ ghost use Rattle.isle_syntax.specs.Inside.Reading.KindOf.{symbol_kind, kind_of, 
 ghost use Rattle.isle_syntax.specs.Grammar.DefGrammar.{is_kept_word};
 
 use crate::gap::after_char;
-use crate::lexer::{Pos, Token};
+use crate::lexer::Token;
 use crate::symbol::{begins_dollar, is_const_name, is_name};
+use isle_ast::pos::Pos;
 
 /// What kind of token stands next. A symbol's kind is the first of these that it is.
 #[derive(Debug, Clone, Copy, PartialEq, Eq)]

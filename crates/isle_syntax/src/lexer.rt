@@ -1,65 +1,25 @@
 //! The lexer, which gives the tokens of a text one after another with their positions.
 ghost use Rattle.std.specs.Prelude.{◌≡◌, ◌≤◌, ◌↔◌, ◌∷◌, IsTrue, IsSome, IfSome, IfOk, IfErr, MatchOption, option_map, drop, length, List, ℕ, Bool};
 ghost use Rattle.isle_syntax.specs.Tokens.PlacedTokens.{Placed, placed, IsInt, IsSymbol};
-ghost use Rattle.isle_syntax.specs.Tokens.RemainingTokens.{failed, starved, remaining_pos};
-ghost use Rattle.isle_syntax.specs.Positions.Printable.{IsIn};
-ghost use Rattle.isle_syntax.specs.Errors.{RefusalAt, IfFault};
+ghost use Rattle.isle_syntax.specs.Tokens.RemainingTokens.{failed, starved, remaining_pos, IsIn};
+ghost use Rattle.isle_ast.specs.Errors.{RefusalAt, IfFault};
 ghost use Rattle.isle_syntax.specs.Tokens.LexerCalls.{IsRemaining, GivesToken, AnswersEnd, ReportsFault, FailsForMemory, IfMemory, HasEnded, ahead};
 ghost use Rattle.isle_syntax.specs.Tokens.TokensOf.{TokensOf};
 ghost use Rattle.isle_syntax.specs.Tokens.Gaps.{lead_of};
 ghost use Rattle.isle_syntax.specs.Tokens.Finding.{reading, next_of, nothing, fault, found};
 ghost use Rattle.isle_syntax.specs.Tokens.Lookahead.{reading_of, state_of, IsAhead};
 
-use crate::Refusal;
-use crate::error::{Error, Span};
-use crate::files::Files;
 use crate::gap::{Lead, after_char, after_gap, lead_of};
 use crate::number::number;
 use crate::parser::unclosed::Source;
 use crate::symbol::symbol;
 pub use crate::symbol::{is_const_name, is_ident, is_name, is_pname, is_symbol};
-use crate::text::Text;
+use isle_ast::error::{Error, Span};
+pub use isle_ast::pos::Pos;
+use isle_ast::{Refusal, Text};
 use std::alloc::{AllocError, Global};
 use std::marker::Model;
 use std::mem;
-
-/// A place in a source file: the number of the file, and the byte offset in its text, from 0.
-#[derive(Debug, Clone, Copy, PartialEq, Eq, PartialOrd, Ord, Hash, Default)]
-pub struct Pos {
-    pub file: usize,
-    pub offset: usize,
-}
-
-impl Pos {
-    ghost use Rattle.std.specs.Prelude.{◌<◌, IfOk, IfSome, length, slice_get, string_bytes};
-    ghost use Rattle.isle_syntax.specs.Positions.Files.{named_line};
-
-    /// A place.
-    pub fn new(file: usize, offset: usize) -> Pos
-        ensures { result ≡ record { file = file; offset = offset } }
-    {
-        Pos { file, offset }
-    }
-
-    /// Whether this is the default position, the first byte of file 0.
-    pub fn is_unknown(&self) -> bool
-        ensures { IsTrue result ↔ (self.now ≡ record { file = 0; offset = 0 }) }
-    {
-        self.file == 0 && self.offset == 0
-    }
-
-    /// The text `NAME line N` of the file's name and the line, from 1.
-    pub fn pretty_print_line(&self, alloc: Global, files: &Files) -> Result<String, AllocError>
-        requires { self.now.file < length files.now }
-        ensures { IfSome (slice_get files.now self.now.file)
-            (λ f. IfOk result (λ s. string_bytes s ≡ named_line f self.now.offset)) }
-    {
-        let file = files.file(self.file).unwrap();
-        let name = file.name();
-        let line = file.line(self.offset);
-        format!(in alloc; "{name} line {line}")
-    }
-}
 
 /// A token of the language.
 #[derive(Debug, Clone, PartialEq, Eq, Drop)]

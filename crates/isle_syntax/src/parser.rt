@@ -1,10 +1,10 @@
 //! The parser, which gives the definitions that a text spells, with or without their positions.
 ghost use Rattle.std.specs.Prelude.{◌≡◌, All, IfOk, IfErr};
-ghost use Rattle.isle_syntax.specs.Positions.Printable.{IsIn};
+ghost use Rattle.isle_syntax.specs.Tokens.RemainingTokens.{IsIn};
 ghost use Rattle.isle_syntax.specs.Tokens.LexerCalls.{IsRemaining};
-ghost use Rattle.isle_syntax.specs.Errors.{IfFault, IfKind, IsOfKinds, RefusalAt, parse_error, size_error};
-ghost use Rattle.isle_syntax.specs.Positions.DefPositions.{DefAt};
-ghost use Rattle.isle_syntax.specs.Trees.MacroArgs.{HasNoMacroArgs};
+ghost use Rattle.isle_ast.specs.Errors.{IfFault, IfKind, IsOfKinds, RefusalAt, parse_error, size_error};
+ghost use Rattle.isle_ast.specs.Positions.DefPositions.{DefAt};
+ghost use Rattle.isle_ast.specs.Trees.MacroArgs.{HasNoMacroArgs};
 ghost use Rattle.isle_syntax.specs.Positions.RuleOrder.{RulesAscend};
 ghost use Rattle.isle_syntax.specs.Grammar.Verdict.{IsSpelt, IsSpeltWithoutPos, IsFaultOf, FaultAt, DeepAt};
 
@@ -19,11 +19,11 @@ mod tokens;
 mod types;
 pub(crate) mod unclosed;
 
-use crate::Refusal;
-use crate::ast::Def;
-use crate::error::Error;
 pub use crate::kind::is_kept_word;
 use crate::lexer::Lexer;
+use isle_ast::Refusal;
+use isle_ast::ast::Def;
+use isle_ast::error::Error;
 use std::marker::Model;
 
 /// How many parentheses may be open at once.

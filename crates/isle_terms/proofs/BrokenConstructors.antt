@@ -5,25 +5,25 @@ use Rattle.std.proofs.Common.{length, slice_get}
 use Rattle.std.specs.List.{AllZip, filter_map, cons_option}
 use Rattle.std.specs.Option.{option_map}
 use Rattle.std.proofs.lemmas.Option.{none-some, same_Some}
-use Rattle.isle_syntax.specs.declared.ast.Ident.{Ident}
-use Rattle.isle_syntax.specs.declared.ast.Decl.{Decl as DeclTree}
-use Rattle.isle_syntax.specs.declared.ast.Rule.{Rule as RuleTree}
-use Rattle.isle_syntax.specs.declared.ast.Def.{Def}
-use Rattle.isle_syntax.specs.declared.lexer.Pos.{Pos}
-use Rattle.isle_syntax.specs.Trees.PatternShape.{pattern_of}
+use Rattle.isle_ast.specs.declared.ast.Ident.{Ident}
+use Rattle.isle_ast.specs.declared.ast.Decl.{Decl as DeclTree}
+use Rattle.isle_ast.specs.declared.ast.Rule.{Rule as RuleTree}
+use Rattle.isle_ast.specs.declared.ast.Def.{Def}
+use Rattle.isle_ast.specs.declared.pos.Pos.{Pos}
+use Rattle.isle_ast.specs.Trees.PatternShape.{pattern_of}
 use Rattle.isle_types.specs.IntTypes.{builtin_names}
 use Rattle.isle_types.specs.Names.{IsDuplicate}
 use Rattle.isle_types.specs.Environment.{Environment, NamedType, NamedVariant, TypeShape, primitive, enum, struct}
 use Rattle.isle_types.proofs.NamePlaces.{place_found}
 use Rattle.isle_types.proofs.Zipped.{zipped_at, all_at, no_duplicate, mapped_at}
-use Rattle.isle_terms.specs.TypedRules.{TypedRule}
-use Rattle.isle_terms.specs.Signatures.{Flags, Constructor, ExtractorForm, variant_form, struct_form, declared_form, TermForm, Signature}
-use Rattle.isle_terms.specs.Elaboration.{ElaboratesRule}
-use Rattle.isle_terms.specs.Definitions.{IsAmong, declarations, rules_in, external_constructors, external_constructor_names, root_name}
-use Rattle.isle_terms.specs.Definitions.{IsDeclaration}
-use Rattle.isle_terms.specs.Definitions.{variant_terms, terms_of_shape, terms_of_types, AreTerms, names_of_terms, IsDeclared}
-use Rattle.isle_terms.specs.Definitions.{IsRuleOf}
-use Rattle.isle_terms.specs.Definitions.{TermEnvironment, declared_by, MakesTerms}
+use Rattle.isle_rules.specs.TypedRules.{TypedRule}
+use Rattle.isle_rules.specs.Signatures.{Flags, Constructor, ExtractorForm, variant_form, struct_form, declared_form, TermForm, Signature}
+use Rattle.isle_rules.specs.Elaboration.{ElaboratesRule}
+use Rattle.isle_rules.specs.Definitions.{IsAmong, declarations, rules_in, external_constructors, external_constructor_names, root_name}
+use Rattle.isle_rules.specs.Definitions.{IsDeclaration}
+use Rattle.isle_rules.specs.Definitions.{variant_terms, terms_of_shape, terms_of_types, AreTerms, names_of_terms, IsDeclared}
+use Rattle.isle_rules.specs.Definitions.{IsRuleOf}
+use Rattle.isle_rules.specs.Definitions.{TermEnvironment, declared_by, MakesTerms}
 use Rattle.isle_terms.specs.TermFaults.{names_of, ConstructorBreaks, root_is_no_term, root_is_not_declared}
 use Rattle.isle_terms.specs.TermFaults.{root_is_external}
 use Rattle.isle_terms.specs.TermFaults.{external_is_not_declared, external_has_rules, second_external}

@@ -5,23 +5,23 @@ use Rattle.std.specs.Prelude.{All, is_some}
 use Rattle.std.specs.List.{AllZip}
 use Rattle.std.proofs.lemmas.Bool.{false≢true}
 use Rattle.std.proofs.lemmas.Option.{none-some, same_Some}
-use Rattle.isle_syntax.specs.declared.ast.Ident.{Ident}
-use Rattle.isle_syntax.specs.declared.ast.Decl.{Decl as DeclTree}
-use Rattle.isle_syntax.specs.declared.ast.Extractor.{Extractor as ExtractorTree}
-use Rattle.isle_syntax.specs.declared.ast.Def.{Def}
-use Rattle.isle_syntax.specs.declared.lexer.Pos.{Pos}
-use Rattle.isle_syntax.specs.Trees.PatternTree.{PatternTree, PatternTrees, pattern_var, pattern_bind, pattern_bool, pattern_int, pattern_prim}
-use Rattle.isle_syntax.specs.Trees.PatternTree.{pattern_term, pattern_wildcard, pattern_and, pattern_macro_arg, no_patterns, more_patterns}
-use Rattle.isle_syntax.specs.Trees.PatternShape.{pattern_of}
+use Rattle.isle_ast.specs.declared.ast.Ident.{Ident}
+use Rattle.isle_ast.specs.declared.ast.Decl.{Decl as DeclTree}
+use Rattle.isle_ast.specs.declared.ast.Extractor.{Extractor as ExtractorTree}
+use Rattle.isle_ast.specs.declared.ast.Def.{Def}
+use Rattle.isle_ast.specs.declared.pos.Pos.{Pos}
+use Rattle.isle_ast.specs.Trees.PatternTree.{PatternTree, PatternTrees, pattern_var, pattern_bind, pattern_bool, pattern_int, pattern_prim}
+use Rattle.isle_ast.specs.Trees.PatternTree.{pattern_term, pattern_wildcard, pattern_and, pattern_macro_arg, no_patterns, more_patterns}
+use Rattle.isle_ast.specs.Trees.PatternShape.{pattern_of}
 use Rattle.isle_types.specs.IntTypes.{builtin_names}
 use Rattle.isle_types.specs.Names.{IsDuplicate}
 use Rattle.isle_types.specs.Environment.{Environment}
 use Rattle.isle_types.proofs.Zipped.{zipped_at, all_at, no_duplicate}
-use Rattle.isle_terms.specs.Signatures.{Signature, Conversion}
-use Rattle.isle_terms.specs.Elaboration.{type_named}
-use Rattle.isle_terms.specs.Definitions.{IsAmong, ExternalExtractor, declarations, extractors_in, converters_in, external_extractors}
-use Rattle.isle_terms.specs.Definitions.{IsTypeNumber, IsDeclaration, AreTerms, names_of_terms, terms_of_types, IsTerm, term_names}
-use Rattle.isle_terms.specs.Definitions.{all_term_names, KeepExtractorRules, IsConversion, pair_of, AreConversions, IsDefined, IsDeclared}
+use Rattle.isle_rules.specs.Signatures.{Signature, Conversion}
+use Rattle.isle_rules.specs.Elaboration.{type_named}
+use Rattle.isle_rules.specs.Definitions.{IsAmong, ExternalExtractor, declarations, extractors_in, converters_in, external_extractors}
+use Rattle.isle_rules.specs.Definitions.{IsTypeNumber, IsDeclaration, AreTerms, names_of_terms, terms_of_types, IsTerm, term_names}
+use Rattle.isle_rules.specs.Definitions.{all_term_names, KeepExtractorRules, IsConversion, pair_of, AreConversions, IsDefined, IsDeclared}
 use Rattle.isle_terms.specs.TermFaults.{named_terms, names_of, DeclarationBreaks, term_twice, multi_and_partial, unknown_type, NamesTerm}
 use Rattle.isle_terms.specs.TermFaults.{SomeNamesTerm, ExtractorBreaks, internal_of_no_declared_term, external_of_no_declared_term}
 use Rattle.isle_terms.specs.TermFaults.{second_extractor, internal_of_multi, body_of_unknown_term, recursive, ConverterBreaks, unknown_inner_type}

@@ -2,26 +2,26 @@
 use Rattle.std.proofs.Common.{◌≡◌, ℕ, ◌≤◌, Bool, List, [], ◌∷◌, Option, None, Some, refl, ap, sym, subst, ◌∙◌, arith, length}
 use Rattle.std.specs.List.{AllZip, filter_map, cons_option}
 use Rattle.std.specs.Option.{option_map}
-use Rattle.isle_syntax.specs.declared.ast.Decl.{Decl as DeclTree}
-use Rattle.isle_syntax.specs.declared.ast.Rule.{Rule as RuleTree}
-use Rattle.isle_syntax.specs.declared.ast.Def.{Def}
-use Rattle.isle_syntax.specs.declared.lexer.Pos.{Pos}
-use Rattle.isle_syntax.specs.Trees.PatternShape.{pattern_of}
+use Rattle.isle_ast.specs.declared.ast.Decl.{Decl as DeclTree}
+use Rattle.isle_ast.specs.declared.ast.Rule.{Rule as RuleTree}
+use Rattle.isle_ast.specs.declared.ast.Def.{Def}
+use Rattle.isle_ast.specs.declared.pos.Pos.{Pos}
+use Rattle.isle_ast.specs.Trees.PatternShape.{pattern_of}
 use Rattle.isle_types.specs.Names.{IsDuplicate}
 use Rattle.isle_types.specs.Environment.{Environment}
 use Rattle.isle_types.proofs.Zipped.{all_at, no_duplicate}
-use Rattle.isle_terms.specs.TypedRules.{TypedRule}
-use Rattle.isle_terms.specs.Signatures.{Signature, Conversion, Declared}
-use Rattle.isle_terms.specs.Definitions.{declarations, rules_in, converters_in, root_name, name_of_rule, AreTerms, IsConversion}
-use Rattle.isle_terms.specs.Definitions.{AreConversions, KeepExtractorRules, IsRuleOf}
-use Rattle.isle_terms.specs.Definitions.{TermEnvironment, declared_by, rule_names, MakesTerms}
+use Rattle.isle_rules.specs.TypedRules.{TypedRule}
+use Rattle.isle_rules.specs.Signatures.{Signature, Conversion, Declared}
+use Rattle.isle_rules.specs.Definitions.{declarations, rules_in, converters_in, root_name, name_of_rule, AreTerms, IsConversion}
+use Rattle.isle_rules.specs.Definitions.{AreConversions, KeepExtractorRules, IsRuleOf}
+use Rattle.isle_rules.specs.Definitions.{TermEnvironment, declared_by, rule_names, MakesTerms}
 use Rattle.isle_terms.specs.RuleReaching.{IsIllRule, IsLargeRule}
 use Rattle.isle_terms.specs.TermFaults.{names_of}
 use Rattle.isle_terms.specs.TypingFaults.{BreaksTyping, of_declarations, of_constructors, of_extractors, of_converters, of_no_use}
 use Rattle.isle_terms.specs.TypingFaults.{of_a_rule}
 use Rattle.isle_terms.specs.TypingFaults.{of_rule_names, ExceedsTyping, by_arguments, by_a_rule}
 use Rattle.isle_terms.proofs.RuleFaults.{ill_rule, large_rule}
-use Rattle.isle_terms.proofs.OneTermEnvironment.{zipped_one, one_list_of_terms, one_conversion}
+use Rattle.isle_rules.proofs.OneTermEnvironment.{zipped_one, one_list_of_terms, one_conversion}
 use Rattle.isle_terms.proofs.BrokenTerms.{declarations_keep, extractors_keep, converters_keep, defined_keep}
 use Rattle.isle_terms.proofs.BrokenConstructors.{rule_at, constructors_keep}
 

@@ -7,28 +7,28 @@ use Rattle.std.specs.Bool.{Decides}
 use Rattle.std.specs.Cmp.{booleans_Decides}
 use Rattle.std.specs.Cmp.Lexicographic.{pointwise, pointwise_decides}
 use Rattle.std.proofs.lemmas.Bool.Decides.{Decides-eqb}
-use Rattle.isle_syntax.proofs.Trees.DefEquality.{pos-decides}
-use Rattle.isle_syntax.proofs.Trees.Equality.{same_pattern-decides}
+use Rattle.isle_ast.proofs.Trees.DefEquality.{pos-decides}
+use Rattle.isle_ast.proofs.Trees.Equality.{same_pattern-decides}
 use Rattle.isle_types.specs.declared.ids.TypeId.{TypeId}
 use Rattle.isle_types.specs.declared.ids.VariantId.{VariantId}
 use Rattle.isle_types.specs.contracts.ids.TypeIdPartialEq.TheImpl as type_of
 use Rattle.isle_types.specs.contracts.ids.VariantIdPartialEq.TheImpl as variant_of
-use Rattle.isle_terms.specs.declared.terms.Term.{Term}
-use Rattle.isle_terms.specs.declared.terms.TermFlags.{TermFlags}
-use Rattle.isle_terms.specs.declared.terms.TermKind.{TermKind}
-use Rattle.isle_terms.specs.declared.terms.TermKind.TheVariants.{EnumVariant, Struct, Decl}
-use Rattle.isle_terms.specs.declared.terms.ConstructorKind.{ConstructorKind}
-use Rattle.isle_terms.specs.declared.terms.ConstructorKind.TheVariants.{InternalConstructor, ExternalConstructor}
-use Rattle.isle_terms.specs.declared.terms.ExtractorKind.{ExtractorKind}
-use Rattle.isle_terms.specs.declared.terms.ExtractorKind.TheVariants.{InternalExtractor, ExternalExtractor}
-use Rattle.isle_terms.specs.declared.signatures.ReturnKind.{ReturnKind}
-use Rattle.isle_terms.specs.declared.signatures.ReturnKind.TheVariants.{Plain, Option as optional, Iterator}
-use Rattle.isle_terms.specs.contracts.signatures.ReturnKindPartialEq.TheImpl as return_of
-use Rattle.isle_terms.specs.contracts.terms.TermPartialEq.TheImpl as term_of
-use Rattle.isle_terms.specs.contracts.terms.TermFlagsPartialEq.TheImpl as flags_of
-use Rattle.isle_terms.specs.contracts.terms.TermKindPartialEq.TheImpl as kind_of
-use Rattle.isle_terms.specs.contracts.terms.ConstructorKindPartialEq.TheImpl as constructor_of
-use Rattle.isle_terms.specs.contracts.terms.ExtractorKindPartialEq.TheImpl as extractor_of
+use Rattle.isle_rules.specs.declared.terms.Term.{Term}
+use Rattle.isle_rules.specs.declared.terms.TermFlags.{TermFlags}
+use Rattle.isle_rules.specs.declared.terms.TermKind.{TermKind}
+use Rattle.isle_rules.specs.declared.terms.TermKind.TheVariants.{EnumVariant, Struct, Decl}
+use Rattle.isle_rules.specs.declared.terms.ConstructorKind.{ConstructorKind}
+use Rattle.isle_rules.specs.declared.terms.ConstructorKind.TheVariants.{InternalConstructor, ExternalConstructor}
+use Rattle.isle_rules.specs.declared.terms.ExtractorKind.{ExtractorKind}
+use Rattle.isle_rules.specs.declared.terms.ExtractorKind.TheVariants.{InternalExtractor, ExternalExtractor}
+use Rattle.isle_rules.specs.declared.signatures.ReturnKind.{ReturnKind}
+use Rattle.isle_rules.specs.declared.signatures.ReturnKind.TheVariants.{Plain, Option as optional, Iterator}
+use Rattle.isle_rules.specs.contracts.signatures.ReturnKindPartialEq.TheImpl as return_of
+use Rattle.isle_rules.specs.contracts.terms.TermPartialEq.TheImpl as term_of
+use Rattle.isle_rules.specs.contracts.terms.TermFlagsPartialEq.TheImpl as flags_of
+use Rattle.isle_rules.specs.contracts.terms.TermKindPartialEq.TheImpl as kind_of
+use Rattle.isle_rules.specs.contracts.terms.ConstructorKindPartialEq.TheImpl as constructor_of
+use Rattle.isle_rules.specs.contracts.terms.ExtractorKindPartialEq.TheImpl as extractor_of
 use Rattle.isle_terms.proofs.EqualTrees.{both, through, sym-decides, term_id-decides, type_id-decides}
 
 variant-decides : (a b : VariantId) → Decides ((variant_of.ghosts).eq a b) (a ≡ b)

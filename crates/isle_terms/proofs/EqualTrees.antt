@@ -14,17 +14,17 @@ use Rattle.isle_types.specs.contracts.ids.SymPartialEq.TheImpl as sym_of
 use Rattle.isle_types.specs.contracts.ids.TermIdPartialEq.TheImpl as term_of
 use Rattle.isle_types.specs.contracts.ids.TypeIdPartialEq.TheImpl as type_of
 use Rattle.isle_types.specs.contracts.ids.VarIdPartialEq.TheImpl as var_of
-use Rattle.isle_terms.specs.declared.rules.Pattern.{Pattern, Pattern-F, out-Pattern, roll-Pattern, out-roll-Pattern, roll-out-Pattern, map-Pattern, ind-Pattern}
-use Rattle.isle_terms.specs.declared.rules.Pattern.TheOpen.{BindPattern, Var as PatternVar, ConstBool as PatternBool, ConstInt as PatternInt}
-use Rattle.isle_terms.specs.declared.rules.Pattern.TheOpen.{ConstPrim as PatternPrim, Term as PatternTerm, Wildcard, And}
-use Rattle.isle_terms.specs.declared.rules.Expr.{Expr, Expr-F, out-Expr, roll-Expr, out-roll-Expr, roll-out-Expr, map-Expr, ind-Expr}
-use Rattle.isle_terms.specs.declared.rules.Expr.TheOpen.{Term, Var, ConstBool, ConstInt, ConstPrim, Let}
-use Rattle.isle_terms.specs.declared.rules.BoundVar.{BoundVar}
-use Rattle.isle_terms.specs.contracts.rules.BoundVarPartialEq.TheImpl as bound_of
-use Rattle.isle_terms.specs.contracts.rules.PatternPartialEq.TheImpl as pattern_of
-use Rattle.isle_terms.specs.contracts.rules.PatternPartialEq.TheImpl.Laws as pattern_laws
-use Rattle.isle_terms.specs.contracts.rules.ExprPartialEq.TheImpl as expr_of
-use Rattle.isle_terms.specs.contracts.rules.ExprPartialEq.TheImpl.Laws as expr_laws
+use Rattle.isle_rules.specs.declared.rules.Pattern.{Pattern, Pattern-F, out-Pattern, roll-Pattern, out-roll-Pattern, roll-out-Pattern, map-Pattern, ind-Pattern}
+use Rattle.isle_rules.specs.declared.rules.Pattern.TheOpen.{BindPattern, Var as PatternVar, ConstBool as PatternBool, ConstInt as PatternInt}
+use Rattle.isle_rules.specs.declared.rules.Pattern.TheOpen.{ConstPrim as PatternPrim, Term as PatternTerm, Wildcard, And}
+use Rattle.isle_rules.specs.declared.rules.Expr.{Expr, Expr-F, out-Expr, roll-Expr, out-roll-Expr, roll-out-Expr, map-Expr, ind-Expr}
+use Rattle.isle_rules.specs.declared.rules.Expr.TheOpen.{Term, Var, ConstBool, ConstInt, ConstPrim, Let}
+use Rattle.isle_rules.specs.declared.rules.BoundVar.{BoundVar}
+use Rattle.isle_rules.specs.contracts.rules.BoundVarPartialEq.TheImpl as bound_of
+use Rattle.isle_rules.specs.contracts.rules.PatternPartialEq.TheImpl as pattern_of
+use Rattle.isle_rules.specs.contracts.rules.PatternPartialEq.TheImpl.Laws as pattern_laws
+use Rattle.isle_rules.specs.contracts.rules.ExprPartialEq.TheImpl as expr_of
+use Rattle.isle_rules.specs.contracts.rules.ExprPartialEq.TheImpl.Laws as expr_laws
 
 -- two answers that decide two facts decide both
 pub both : {P Q : Type 0} (s t : Bool) → Decides s P → Decides t Q → Decides (s && t) (P × Q)

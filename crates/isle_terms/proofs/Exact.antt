@@ -14,5 +14,3 @@ pub mod Rules
 pub mod KnownSame
 -- Where what is ill typed stands.
 pub mod Positions
--- What stands for something is read as that.
-pub mod Found

@@ -1,15 +1,15 @@
 -- Reading a pattern or an expression only adds nodes.
 use Rattle.std.proofs.Common.{◌≡◌, ℕ, zero, suc, ◌≤◌, inl, inr, List, [], ◌∷◌, Option, None, Some, ap, arith}
-use Rattle.isle_syntax.specs.declared.ast.IfLet.{IfLet}
-use Rattle.isle_syntax.specs.Trees.PatternTree.{PatternTree, PatternTrees, pattern_var, pattern_bind, pattern_bool, pattern_int, pattern_prim}
-use Rattle.isle_syntax.specs.Trees.PatternTree.{pattern_term, pattern_wildcard, pattern_and, pattern_macro_arg, no_patterns, more_patterns}
-use Rattle.isle_syntax.specs.Trees.ExprTree.{ExprTree, ExprTrees, LetTrees, expr_term, expr_var, expr_bool, expr_int, expr_prim, expr_let}
-use Rattle.isle_syntax.specs.Trees.ExprTree.{no_exprs, more_exprs, no_lets, more_lets}
+use Rattle.isle_ast.specs.declared.ast.IfLet.{IfLet}
+use Rattle.isle_ast.specs.Trees.PatternTree.{PatternTree, PatternTrees, pattern_var, pattern_bind, pattern_bool, pattern_int, pattern_prim}
+use Rattle.isle_ast.specs.Trees.PatternTree.{pattern_term, pattern_wildcard, pattern_and, pattern_macro_arg, no_patterns, more_patterns}
+use Rattle.isle_ast.specs.Trees.ExprTree.{ExprTree, ExprTrees, LetTrees, expr_term, expr_var, expr_bool, expr_int, expr_prim, expr_let}
+use Rattle.isle_ast.specs.Trees.ExprTree.{no_exprs, more_exprs, no_lets, more_lets}
 use Rattle.isle_types.specs.Environment.{Environment}
-use Rattle.isle_terms.specs.TypedRules.{TypedPattern, TypedPatterns, TypedExpr, TypedExprs, TypedBindings, TypedIfLet}
-use Rattle.isle_terms.specs.Signatures.{Flags, Signature, Declared, put_in_for}
-use Rattle.isle_terms.specs.Elaboration.{State, counted, each_at, PatternJudgement, EachPattern, TakesApart, PatternNode, Elaborates}
-use Rattle.isle_terms.specs.Elaboration.{ExprJudgement, EachExpr, Binds, ExprNode, Builds, Conditions}
+use Rattle.isle_rules.specs.TypedRules.{TypedPattern, TypedPatterns, TypedExpr, TypedExprs, TypedBindings, TypedIfLet}
+use Rattle.isle_rules.specs.Signatures.{Flags, Signature, Declared, put_in_for}
+use Rattle.isle_rules.specs.Elaboration.{State, counted, each_at, PatternJudgement, EachPattern, TakesApart, PatternNode, Elaborates}
+use Rattle.isle_rules.specs.Elaboration.{ExprJudgement, EachExpr, Binds, ExprNode, Builds, Conditions}
 
 -- there are as many nodes as there were, where a state is the same
 same_nodes : (s t : State) → s ≡ t → t.nodes ≤ s.nodes

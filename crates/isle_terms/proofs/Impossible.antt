@@ -4,23 +4,23 @@ use Rattle.std.proofs.Common.{slice_get}
 use Rattle.std.specs.Prelude.{IsSome}
 use Rattle.std.proofs.lemmas.Bool.{false≢true}
 use Rattle.std.proofs.lemmas.Option.{none-some, same_Some}
-use Rattle.isle_syntax.specs.declared.lexer.Pos.{Pos}
-use Rattle.isle_syntax.specs.Trees.PatternTree.{PatternTree, PatternTrees, pattern_var, pattern_bind, pattern_bool, pattern_int, pattern_prim}
-use Rattle.isle_syntax.specs.Trees.PatternTree.{pattern_term, pattern_wildcard, pattern_and, pattern_macro_arg, no_patterns, more_patterns}
-use Rattle.isle_syntax.specs.Trees.ExprTree.{ExprTree, ExprTrees, LetTrees, expr_term, expr_var, expr_bool, expr_int, expr_prim, expr_let}
-use Rattle.isle_syntax.specs.Trees.ExprTree.{no_exprs, more_exprs, no_lets, more_lets}
+use Rattle.isle_ast.specs.declared.pos.Pos.{Pos}
+use Rattle.isle_ast.specs.Trees.PatternTree.{PatternTree, PatternTrees, pattern_var, pattern_bind, pattern_bool, pattern_int, pattern_prim}
+use Rattle.isle_ast.specs.Trees.PatternTree.{pattern_term, pattern_wildcard, pattern_and, pattern_macro_arg, no_patterns, more_patterns}
+use Rattle.isle_ast.specs.Trees.ExprTree.{ExprTree, ExprTrees, LetTrees, expr_term, expr_var, expr_bool, expr_int, expr_prim, expr_let}
+use Rattle.isle_ast.specs.Trees.ExprTree.{no_exprs, more_exprs, no_lets, more_lets}
 use Rattle.isle_types.specs.Environment.{Environment}
-use Rattle.isle_terms.specs.TypedRules.{TypedPattern, TypedPatterns, TypedExpr, TypedExprs, TypedBindings, built_var}
-use Rattle.isle_terms.specs.Signatures.{Flags, Signature, Declared, put_in_for, Converts}
-use Rattle.isle_terms.specs.Elaboration.{State, counted, bound, Visible, visible_in, pattern_count, expr_count, PatternJudgement, EachPattern}
-use Rattle.isle_terms.specs.Elaboration.{TakesApart, Extracts, ConvertsPattern, PatternNode, Elaborates, IsExpected, IsLiteralOf, ExprJudgement}
-use Rattle.isle_terms.specs.Elaboration.{EachExpr, Binds, Calls, ConvertsExpr, ExprNode, Builds}
+use Rattle.isle_rules.specs.TypedRules.{TypedPattern, TypedPatterns, TypedExpr, TypedExprs, TypedBindings, built_var}
+use Rattle.isle_rules.specs.Signatures.{Flags, Signature, Declared, put_in_for, Converts}
+use Rattle.isle_rules.specs.Elaboration.{State, counted, bound, Visible, visible_in, pattern_count, expr_count, PatternJudgement, EachPattern}
+use Rattle.isle_rules.specs.Elaboration.{TakesApart, Extracts, ConvertsPattern, PatternNode, Elaborates, IsExpected, IsLiteralOf, ExprJudgement}
+use Rattle.isle_rules.specs.Elaboration.{EachExpr, Binds, Calls, ConvertsExpr, ExprNode, Builds}
 use Rattle.isle_terms.specs.Reaching.{ReachesPattern, ReachesExpr, IsTooLarge}
 use Rattle.isle_terms.specs.IllTyped.{IsIllUse, no_extractor, other_count, argument_lacking, other_type, IsIllPattern, IsBeyondRepair, IsIllCall}
 use Rattle.isle_terms.specs.IllTyped.{no_constructor, not_allowed, other_number, other_result, HasUnknownType, IsIllExpr}
 use Rattle.isle_terms.specs.RuleReaching.{IllPatternAt, IllExprAt}
-use Rattle.isle_terms.proofs.Determined.{Agree, patterns_agree}
-use Rattle.isle_terms.proofs.DeterminedExprs.{AgreeExprs, exprs_agree}
+use Rattle.isle_rules.proofs.Determined.{Agree, patterns_agree}
+use Rattle.isle_rules.proofs.DeterminedExprs.{AgreeExprs, exprs_agree}
 use Rattle.isle_terms.proofs.Growing.{patterns_grow, exprs_grow, node_grows, expr_node_grows}
 use Rattle.isle_terms.proofs.Refuting.{IsBound, Refutes, below_refuted, RefutesExprs, below_expr_refuted}
 

@@ -1,23 +1,15 @@
 -- Worked cases: what patterns and expressions stand for, and where they are ill typed or too large.
 mod TypingCases
--- A pattern stands for one thing at most, whatever the levels.
-pub mod Determined
--- So does an expression, and a list of conditions.
-pub mod DeterminedExprs
 -- Reading a pattern or an expression only adds nodes.
 pub mod Growing
 -- Where reading comes to a node at which it can't go on, the whole stands for nothing.
 pub mod Refuting
 -- What is ill typed at some position stands for nothing; what is too large stands for nothing within the sizes.
 pub mod Impossible
--- A rule stands for one typed rule at most.
-pub mod RuleLaws
 -- An ill-typed rule stands for nothing; a rule that is too large stands for nothing within the sizes.
 pub mod RuleFaults
 -- Reading comes to exactly what the judgement and the faults say.
 pub mod Exact
--- Definitions make one environment of terms at most.
-pub mod OneTermEnvironment
 -- Definitions that break a rule of terms, extractors, constructors or converters make no environment.
 pub mod BrokenTerms
 -- Definitions that break a rule of roots or external constructors make no environment.
@@ -26,8 +18,6 @@ pub mod BrokenConstructors
 pub mod BrokenTyping
 -- What is collected and checked of definitions.
 pub mod Collections
--- Visits of typed rules.
-pub mod Visiting
 -- The reading of patterns and expressions, step by step.
 pub mod Steps
 -- What is shown stays shown, and where faults stand.

@@ -2,12 +2,12 @@
 use Rattle.std.proofs.Common.{List, [], ◌∷◌}
 use Rattle.std.specs.List.{All}
 use Rattle.std.proofs.lemmas.List.Elements.{All-nil, All-cons, All-head, All-tail}
-use Rattle.isle_syntax.specs.declared.ast.Extractor.{Extractor as ExtractorTree}
-use Rattle.isle_syntax.specs.declared.ast.Def.{Def}
-use Rattle.isle_syntax.specs.declared.ast.Def.TheVariants.{Extractor}
-use Rattle.isle_syntax.specs.Trees.MacroArgs.{HasNoMacroArg, HasNoMacroArgs}
-use Rattle.isle_terms.specs.Definitions.{extractors_in}
-use Rattle.isle_terms.specs.Definitions.{HasPlainTemplates}
+use Rattle.isle_ast.specs.declared.ast.Extractor.{Extractor as ExtractorTree}
+use Rattle.isle_ast.specs.declared.ast.Def.{Def}
+use Rattle.isle_ast.specs.declared.ast.Def.TheVariants.{Extractor}
+use Rattle.isle_ast.specs.Trees.MacroArgs.{HasNoMacroArg, HasNoMacroArgs}
+use Rattle.isle_rules.specs.Definitions.{extractors_in}
+use Rattle.isle_rules.specs.Definitions.{HasPlainTemplates}
 
 -- definitions without numbered arguments of templates have plain templates
 pub plain_templates : (defs : List Def) → All HasNoMacroArgs defs → HasPlainTemplates (extractors_in defs)

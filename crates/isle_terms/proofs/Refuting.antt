@@ -1,18 +1,18 @@
 -- Where reading comes to a node at which it can't go on, the whole stands for nothing.
 use Rattle.std.proofs.Common.{◌≡◌, ℕ, ◌≤◌, inl, inr, List, [], ◌∷◌, Option, None, Some, sym, ap, subst, ◌∙◌, arith, slice_get}
 use Rattle.std.proofs.lemmas.Option.{same_Some}
-use Rattle.isle_syntax.specs.Trees.PatternTree.{PatternTree, PatternTrees, pattern_var, pattern_bind, pattern_bool, pattern_int, pattern_prim}
-use Rattle.isle_syntax.specs.Trees.PatternTree.{pattern_term, pattern_wildcard, pattern_and, pattern_macro_arg, no_patterns, more_patterns}
-use Rattle.isle_syntax.specs.Trees.ExprTree.{ExprTree, ExprTrees, LetTrees, expr_term, expr_var, expr_bool, expr_int, expr_prim, expr_let}
-use Rattle.isle_syntax.specs.Trees.ExprTree.{no_exprs, more_exprs, no_lets, more_lets, expr_pos}
+use Rattle.isle_ast.specs.Trees.PatternTree.{PatternTree, PatternTrees, pattern_var, pattern_bind, pattern_bool, pattern_int, pattern_prim}
+use Rattle.isle_ast.specs.Trees.PatternTree.{pattern_term, pattern_wildcard, pattern_and, pattern_macro_arg, no_patterns, more_patterns}
+use Rattle.isle_ast.specs.Trees.ExprTree.{ExprTree, ExprTrees, LetTrees, expr_term, expr_var, expr_bool, expr_int, expr_prim, expr_let}
+use Rattle.isle_ast.specs.Trees.ExprTree.{no_exprs, more_exprs, no_lets, more_lets, expr_pos}
 use Rattle.isle_types.specs.Environment.{Environment}
-use Rattle.isle_terms.specs.TypedRules.{TypedPattern, TypedPatterns, TypedExpr, TypedExprs, TypedBindings}
-use Rattle.isle_terms.specs.Signatures.{Flags, Signature, Declared, put_in_for, Converts}
-use Rattle.isle_terms.specs.Elaboration.{State, bound, Visible, each_at, PatternJudgement, EachPattern, TakesApart, PatternNode, ExprJudgement}
-use Rattle.isle_terms.specs.Elaboration.{EachExpr, Binds, ConvertsExpr, ExprNode}
+use Rattle.isle_rules.specs.TypedRules.{TypedPattern, TypedPatterns, TypedExpr, TypedExprs, TypedBindings}
+use Rattle.isle_rules.specs.Signatures.{Flags, Signature, Declared, put_in_for, Converts}
+use Rattle.isle_rules.specs.Elaboration.{State, bound, Visible, each_at, PatternJudgement, EachPattern, TakesApart, PatternNode, ExprJudgement}
+use Rattle.isle_rules.specs.Elaboration.{EachExpr, Binds, ConvertsExpr, ExprNode}
 use Rattle.isle_terms.specs.Reaching.{PatternFact, ExprFact, SomePattern, TakenApart, BelowPattern, SomeExpr, SomeValue, RepairedExpr, BelowExpr}
-use Rattle.isle_terms.proofs.Determined.{Agree, converter_same}
-use Rattle.isle_terms.proofs.DeterminedExprs.{AgreeExprs, expected_same, binds_same}
+use Rattle.isle_rules.proofs.Determined.{Agree, converter_same}
+use Rattle.isle_rules.proofs.DeterminedExprs.{AgreeExprs, expected_same, binds_same}
 use Rattle.isle_terms.proofs.Growing.{Grows, each_grows, ExprsGrow, each_expr_grows, binds_grow}
 
 -- what holds of a number of nodes holds of fewer

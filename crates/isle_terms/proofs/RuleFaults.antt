@@ -1,25 +1,25 @@
 -- An ill-typed rule stands for nothing; a rule that is too large stands for nothing within the sizes.
 use Rattle.std.proofs.Common.{◌≡◌, ℕ, ◌≤◌, inl, inr, List, [], ◌∷◌, None, Some, sym, ap, subst, ◌∙◌, arith, length, slice_get}
 use Rattle.std.proofs.lemmas.Option.{same_Some}
-use Rattle.isle_syntax.specs.declared.lexer.Pos.{Pos}
-use Rattle.isle_syntax.specs.declared.ast.Ident.{Ident}
-use Rattle.isle_syntax.specs.declared.ast.IfLet.{IfLet}
-use Rattle.isle_syntax.specs.declared.ast.Rule.{Rule}
-use Rattle.isle_syntax.specs.Trees.PatternTree.{PatternTrees}
-use Rattle.isle_syntax.specs.Trees.PatternShape.{pattern_of}
-use Rattle.isle_syntax.specs.Trees.ExprShape.{expr_of}
-use Rattle.isle_terms.specs.TypedRules.{TypedIfLet, TypedRule, built_at}
-use Rattle.isle_terms.specs.Signatures.{Flags, Signature, Declared, term_named}
-use Rattle.isle_terms.specs.Elaboration.{State, start, pattern_count, EachPattern, Elaborates, on_lhs, Builds, Conditions, ElaboratesRule}
+use Rattle.isle_ast.specs.declared.pos.Pos.{Pos}
+use Rattle.isle_ast.specs.declared.ast.Ident.{Ident}
+use Rattle.isle_ast.specs.declared.ast.IfLet.{IfLet}
+use Rattle.isle_ast.specs.declared.ast.Rule.{Rule}
+use Rattle.isle_ast.specs.Trees.PatternTree.{PatternTrees}
+use Rattle.isle_ast.specs.Trees.PatternShape.{pattern_of}
+use Rattle.isle_ast.specs.Trees.ExprShape.{expr_of}
+use Rattle.isle_rules.specs.TypedRules.{TypedIfLet, TypedRule, built_at}
+use Rattle.isle_rules.specs.Signatures.{Flags, Signature, Declared, term_named}
+use Rattle.isle_rules.specs.Elaboration.{State, start, pattern_count, EachPattern, Elaborates, on_lhs, Builds, Conditions, ElaboratesRule}
 use Rattle.isle_terms.specs.Reaching.{PatternKind, ExprKind, SomePattern, ReachesPattern, ReachesExpr, IsTooLarge}
 use Rattle.isle_terms.specs.RuleReaching.{HasRoot, SomeCondition, ReachesInRule, in_argument, in_condition, in_right, IllPatternAt, IllExprAt}
 use Rattle.isle_terms.specs.RuleReaching.{IsIllRule, other_number_of_arguments, priority_of_multi, ill_node, IsLargeRule}
-use Rattle.isle_terms.proofs.Determined.{each_same, patterns_agree}
-use Rattle.isle_terms.proofs.DeterminedExprs.{exprs_agree, conditions_same}
+use Rattle.isle_rules.proofs.Determined.{each_same, patterns_agree}
+use Rattle.isle_rules.proofs.DeterminedExprs.{exprs_agree, conditions_same}
 use Rattle.isle_terms.proofs.Growing.{patterns_grow, exprs_grow, conditions_grow}
 use Rattle.isle_terms.proofs.Refuting.{IsBound, Refutes, some_refuted, RefutesExprs}
 use Rattle.isle_terms.proofs.Impossible.{each_count, always, ill_patterns, ill_exprs, up_to, large_patterns, large_exprs}
-use Rattle.isle_terms.proofs.RuleLaws.{same_parts, same_flags}
+use Rattle.isle_rules.proofs.RuleLaws.{same_parts, same_flags}
 
 -- a rule has one root
 root_is_one : (declared : Declared) (m max : ℕ) (tree : Rule) (typed : TypedRule) (term : Signature) (flags : Flags) (args : PatternTrees)

@@ -10,7 +10,5 @@ pub mod ExprSteps
 pub mod BuiltShown
 -- The steps of reading a pattern.
 pub mod PatternSteps
--- What typed patterns show, form by form.
-pub mod PatternForms
 -- The steps of reading conditions.
 pub mod ConditionSteps

@@ -1,16 +1,16 @@
 -- Worked cases: what patterns and expressions stand for, and where they are ill typed or too large.
 use Rattle.std.proofs.Common.{◌≡◌, ℕ, pos, true, false, List, [], ◌∷◌, None, Some, refl, codes, inl, inr, arith}
-use Rattle.isle_syntax.specs.declared.lexer.Pos.{Pos}
-use Rattle.isle_syntax.specs.declared.ast.Ident.{Ident}
-use Rattle.isle_syntax.specs.Trees.PatternTree.{PatternTree, pattern_var, pattern_int, pattern_term, pattern_macro_arg, pattern_list, no_patterns}
+use Rattle.isle_ast.specs.declared.pos.Pos.{Pos}
+use Rattle.isle_ast.specs.declared.ast.Ident.{Ident}
+use Rattle.isle_ast.specs.Trees.PatternTree.{PatternTree, pattern_var, pattern_int, pattern_term, pattern_macro_arg, pattern_list, no_patterns}
 use Rattle.isle_types.specs.declared.types.IntType.TheVariants.{U8}
 use Rattle.isle_types.specs.Environment.{NamedType, named_fields, enum}
-use Rattle.isle_terms.specs.TypedRules.{typed_bind, typed_var, typed_int, typed_term, typed_wildcard, no_typed, more_typed}
-use Rattle.isle_terms.specs.Signatures.{Flags, by_rules, by_template, variant_form, declared_form, Signature, Declared}
+use Rattle.isle_rules.specs.TypedRules.{typed_bind, typed_var, typed_int, typed_term, typed_wildcard, no_typed, more_typed}
+use Rattle.isle_rules.specs.Signatures.{Flags, by_rules, by_template, variant_form, declared_form, Signature, Declared}
 use Rattle.isle_terms.specs.Reaching.{ReachesPattern, IsTooLarge}
 use Rattle.isle_terms.specs.IllTyped.{LacksArgument}
 use Rattle.isle_terms.specs.RuleReaching.{IllPatternAt}
-use Rattle.isle_terms.specs.Elaboration.{State, start, of_integer, Elaborates, may_call, on_lhs}
+use Rattle.isle_rules.specs.Elaboration.{State, start, of_integer, Elaborates, may_call, on_lhs}
 
 abbrev here : Pos
 here = record { file = 0; offset = 0 }

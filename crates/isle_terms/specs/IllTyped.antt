@@ -1,17 +1,17 @@
 -- Which nodes of a rule break a rule of typing, and where.
 use Rattle.std.specs.Prelude.{◌≡◌, ◌≢◌, ◌⊎◌, ℕ, true, false, List, length, Option, None, Some, IsSome, slice_get}
-use Rattle.isle_syntax.specs.declared.lexer.Pos.{Pos}
-use Rattle.isle_syntax.specs.Trees.PatternTree.{PatternTree, PatternTrees, pattern_var, pattern_bind, pattern_bool, pattern_int, pattern_prim}
-use Rattle.isle_syntax.specs.Trees.PatternTree.{pattern_term, pattern_wildcard, pattern_and, pattern_macro_arg}
-use Rattle.isle_syntax.specs.Trees.ExprTree.{ExprTree, ExprTrees, LetTrees, expr_term, expr_var, expr_bool, expr_int, expr_prim, expr_let}
-use Rattle.isle_syntax.specs.Trees.ExprTree.{no_lets, more_lets}
-use Rattle.isle_syntax.specs.Trees.Templates.{filled}
+use Rattle.isle_ast.specs.declared.pos.Pos.{Pos}
+use Rattle.isle_ast.specs.Trees.PatternTree.{PatternTree, PatternTrees, pattern_var, pattern_bind, pattern_bool, pattern_int, pattern_prim}
+use Rattle.isle_ast.specs.Trees.PatternTree.{pattern_term, pattern_wildcard, pattern_and, pattern_macro_arg}
+use Rattle.isle_ast.specs.Trees.ExprTree.{ExprTree, ExprTrees, LetTrees, expr_term, expr_var, expr_bool, expr_int, expr_prim, expr_let}
+use Rattle.isle_ast.specs.Trees.ExprTree.{no_lets, more_lets}
+use Rattle.isle_ast.specs.Trees.Templates.{filled}
 use Rattle.isle_types.specs.Environment.{Environment, constant_in}
-use Rattle.isle_terms.specs.TypedRules.{TypedPattern, TypedExpr}
-use Rattle.isle_terms.specs.Signatures.{Flags, Signature, Declared, term_named, has_constructor_form, has_extractor_form, flags_of, put_in_for}
-use Rattle.isle_terms.specs.Signatures.{Converts}
-use Rattle.isle_terms.specs.Elaboration.{type_named, IsLiteralOf, Visible, State, bound, visible_in, pattern_count, expr_count, listed}
-use Rattle.isle_terms.specs.Elaboration.{PatternJudgement, IsExpected, may_call, ExprJudgement, bool_number}
+use Rattle.isle_rules.specs.TypedRules.{TypedPattern, TypedExpr}
+use Rattle.isle_rules.specs.Signatures.{Flags, Signature, Declared, term_named, has_constructor_form, has_extractor_form, flags_of, put_in_for}
+use Rattle.isle_rules.specs.Signatures.{Converts}
+use Rattle.isle_rules.specs.Elaboration.{type_named, IsLiteralOf, Visible, State, bound, visible_in, pattern_count, expr_count, listed}
+use Rattle.isle_rules.specs.Elaboration.{PatternJudgement, IsExpected, may_call, ExprJudgement, bool_number}
 
 -- no converter that can be used in a pattern fits a pair of types
 abbrev pub HasNoPatternConverter : Declared → (inner outer : ℕ) → Type 0

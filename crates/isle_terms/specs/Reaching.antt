@@ -1,17 +1,17 @@
 -- Where reading a rule from left to right comes to a node of some kind, all before it being well typed.
 use Rattle.std.specs.Prelude.{◌≡◌, ◌≢◌, ◌⊎◌, ◌≤◌, ℕ, zero, suc, true, List, [], ◌∷◌, length, Option, None, Some, slice_get}
-use Rattle.isle_syntax.specs.Trees.PatternTree.{PatternTree, PatternTrees, pattern_var, pattern_bind, pattern_bool, pattern_int, pattern_prim}
-use Rattle.isle_syntax.specs.Trees.PatternTree.{pattern_term, pattern_wildcard, pattern_and, pattern_macro_arg, no_patterns, more_patterns}
-use Rattle.isle_syntax.specs.Trees.PatternTree.{pattern_pos}
-use Rattle.isle_syntax.specs.Trees.ExprTree.{ExprTree, ExprTrees, LetTrees, expr_term, expr_var, expr_bool, expr_int, expr_prim, expr_let}
-use Rattle.isle_syntax.specs.Trees.ExprTree.{no_exprs, more_exprs, no_lets, more_lets, expr_pos}
-use Rattle.isle_syntax.specs.Trees.Templates.{filled}
+use Rattle.isle_ast.specs.Trees.PatternTree.{PatternTree, PatternTrees, pattern_var, pattern_bind, pattern_bool, pattern_int, pattern_prim}
+use Rattle.isle_ast.specs.Trees.PatternTree.{pattern_term, pattern_wildcard, pattern_and, pattern_macro_arg, no_patterns, more_patterns}
+use Rattle.isle_ast.specs.Trees.PatternTree.{pattern_pos}
+use Rattle.isle_ast.specs.Trees.ExprTree.{ExprTree, ExprTrees, LetTrees, expr_term, expr_var, expr_bool, expr_int, expr_prim, expr_let}
+use Rattle.isle_ast.specs.Trees.ExprTree.{no_exprs, more_exprs, no_lets, more_lets, expr_pos}
+use Rattle.isle_ast.specs.Trees.Templates.{filled}
 use Rattle.isle_types.specs.Environment.{Environment}
-use Rattle.isle_terms.specs.TypedRules.{TypedPattern, TypedExpr, TypedBindings}
-use Rattle.isle_terms.specs.Signatures.{Flags, Signature, Declared, term_named, has_constructor_form, has_extractor_form, flags_of, put_in_for}
-use Rattle.isle_terms.specs.Signatures.{Converts}
-use Rattle.isle_terms.specs.Elaboration.{type_named, Visible, State, counted, bound, visible_in, pattern_count, expr_count, listed, each_at}
-use Rattle.isle_terms.specs.Elaboration.{PatternJudgement, Elaborates, IsExpected, may_call, ExprJudgement, Binds, Builds}
+use Rattle.isle_rules.specs.TypedRules.{TypedPattern, TypedExpr, TypedBindings}
+use Rattle.isle_rules.specs.Signatures.{Flags, Signature, Declared, term_named, has_constructor_form, has_extractor_form, flags_of, put_in_for}
+use Rattle.isle_rules.specs.Signatures.{Converts}
+use Rattle.isle_rules.specs.Elaboration.{type_named, Visible, State, counted, bound, visible_in, pattern_count, expr_count, listed, each_at}
+use Rattle.isle_rules.specs.Elaboration.{PatternJudgement, Elaborates, IsExpected, may_call, ExprJudgement, Binds, Builds}
 
 -- a fact of a pattern at a type, after a state
 abbrev pub PatternFact : Type 1

@@ -1,15 +1,15 @@
 -- Where reading a whole rule comes to a node of some kind; ill-typed and too large rules.
 use Rattle.std.specs.Prelude.{◌≡◌, ◌≢◌, ◌⊎◌, ℕ, zero, suc, true, List, [], ◌∷◌, length, None, Some, slice_get}
-use Rattle.isle_syntax.specs.declared.ast.Ident.{Ident}
-use Rattle.isle_syntax.specs.declared.ast.IfLet.{IfLet}
-use Rattle.isle_syntax.specs.declared.ast.Rule.{Rule}
-use Rattle.isle_syntax.specs.declared.lexer.Pos.{Pos}
-use Rattle.isle_syntax.specs.Trees.PatternTree.{PatternTrees, pattern_term, pattern_pos}
-use Rattle.isle_syntax.specs.Trees.PatternShape.{pattern_of}
-use Rattle.isle_syntax.specs.Trees.ExprShape.{expr_of}
-use Rattle.isle_terms.specs.TypedRules.{TypedPattern, TypedPatterns, TypedExpr, TypedIfLet, built_at}
-use Rattle.isle_terms.specs.Signatures.{Flags, by_rules, declared_form, Signature, Declared, term_named}
-use Rattle.isle_terms.specs.Elaboration.{State, start, counted, pattern_count, EachPattern, Elaborates, on_lhs, Builds, Conditions}
+use Rattle.isle_ast.specs.declared.ast.Ident.{Ident}
+use Rattle.isle_ast.specs.declared.ast.IfLet.{IfLet}
+use Rattle.isle_ast.specs.declared.ast.Rule.{Rule}
+use Rattle.isle_ast.specs.declared.pos.Pos.{Pos}
+use Rattle.isle_ast.specs.Trees.PatternTree.{PatternTrees, pattern_term, pattern_pos}
+use Rattle.isle_ast.specs.Trees.PatternShape.{pattern_of}
+use Rattle.isle_ast.specs.Trees.ExprShape.{expr_of}
+use Rattle.isle_rules.specs.TypedRules.{TypedPattern, TypedPatterns, TypedExpr, TypedIfLet, built_at}
+use Rattle.isle_rules.specs.Signatures.{Flags, by_rules, declared_form, Signature, Declared, term_named}
+use Rattle.isle_rules.specs.Elaboration.{State, start, counted, pattern_count, EachPattern, Elaborates, on_lhs, Builds, Conditions}
 use Rattle.isle_terms.specs.Reaching.{PatternKind, ExprKind, SomePattern, ReachesPattern, ReachesExpr, IsTooLarge}
 use Rattle.isle_terms.specs.IllTyped.{IsIllPattern, IsIllExpr}
 

@@ -1,23 +1,23 @@
 -- Where definitions break a rule of terms, extractors, constructors, converters or rules.
 use Rattle.std.specs.Prelude.{◌≡◌, ◌⊎◌, ◌<◌, ℕ, true, List, [], ◌∷◌, ◌++◌, map, length, None, Some, slice_get}
-use Rattle.isle_syntax.specs.declared.ast.Ident.{Ident}
-use Rattle.isle_syntax.specs.declared.ast.Decl.{Decl as DeclTree}
-use Rattle.isle_syntax.specs.declared.ast.Rule.{Rule as RuleTree}
-use Rattle.isle_syntax.specs.declared.ast.Extractor.{Extractor as ExtractorTree}
-use Rattle.isle_syntax.specs.declared.ast.Converter.{Converter as ConverterTree}
-use Rattle.isle_syntax.specs.declared.ast.Def.{Def}
-use Rattle.isle_syntax.specs.declared.lexer.Pos.{Pos}
-use Rattle.isle_syntax.specs.Trees.PatternTree.{PatternTree, PatternTrees, pattern_var, pattern_bind, pattern_bool, pattern_int, pattern_prim}
-use Rattle.isle_syntax.specs.Trees.PatternTree.{pattern_term, pattern_wildcard, pattern_and, pattern_macro_arg, no_patterns, more_patterns}
-use Rattle.isle_syntax.specs.Trees.PatternShape.{pattern_of}
+use Rattle.isle_ast.specs.declared.ast.Ident.{Ident}
+use Rattle.isle_ast.specs.declared.ast.Decl.{Decl as DeclTree}
+use Rattle.isle_ast.specs.declared.ast.Rule.{Rule as RuleTree}
+use Rattle.isle_ast.specs.declared.ast.Extractor.{Extractor as ExtractorTree}
+use Rattle.isle_ast.specs.declared.ast.Converter.{Converter as ConverterTree}
+use Rattle.isle_ast.specs.declared.ast.Def.{Def}
+use Rattle.isle_ast.specs.declared.pos.Pos.{Pos}
+use Rattle.isle_ast.specs.Trees.PatternTree.{PatternTree, PatternTrees, pattern_var, pattern_bind, pattern_bool, pattern_int, pattern_prim}
+use Rattle.isle_ast.specs.Trees.PatternTree.{pattern_term, pattern_wildcard, pattern_and, pattern_macro_arg, no_patterns, more_patterns}
+use Rattle.isle_ast.specs.Trees.PatternShape.{pattern_of}
 use Rattle.isle_types.specs.IntTypes.{builtin_names}
 use Rattle.isle_types.specs.Names.{IsDuplicate}
 use Rattle.isle_types.specs.Environment.{Environment}
-use Rattle.isle_terms.specs.Signatures.{Signature}
-use Rattle.isle_terms.specs.Elaboration.{type_named}
-use Rattle.isle_terms.specs.Definitions.{IsAmong, ExternalExtractor, declarations, rules_in, extractors_in, converters_in, external_constructors}
-use Rattle.isle_terms.specs.Definitions.{external_extractors, root_name, roots_of, constructor_for, extractor_for, terms_of_types, IsTerm}
-use Rattle.isle_terms.specs.Definitions.{ComesTo, external_constructor_names}
+use Rattle.isle_rules.specs.Signatures.{Signature}
+use Rattle.isle_rules.specs.Elaboration.{type_named}
+use Rattle.isle_rules.specs.Definitions.{IsAmong, ExternalExtractor, declarations, rules_in, extractors_in, converters_in, external_constructors}
+use Rattle.isle_rules.specs.Definitions.{external_extractors, root_name, roots_of, constructor_for, extractor_for, terms_of_types, IsTerm}
+use Rattle.isle_rules.specs.Definitions.{ComesTo, external_constructor_names}
 
 -- the names of all terms, each with the position of what makes it
 abbrev pub named_terms : Environment → List Def → List (List ℕ × Pos)

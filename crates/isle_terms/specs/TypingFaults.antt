@@ -2,14 +2,14 @@
 use Rattle.std.specs.Prelude.{◌⊎◌, ◌<◌, ℕ, List, [], ◌∷◌, Bool, length, All}
 use Rattle.std.specs.List.{filter_map}
 use Rattle.std.specs.Option.{option_map}
-use Rattle.isle_syntax.specs.declared.ast.Rule.{Rule as RuleTree}
-use Rattle.isle_syntax.specs.declared.ast.Def.{Def}
-use Rattle.isle_syntax.specs.declared.lexer.Pos.{Pos}
-use Rattle.isle_syntax.specs.declared.error.Error.{Error}
+use Rattle.isle_ast.specs.declared.ast.Rule.{Rule as RuleTree}
+use Rattle.isle_ast.specs.declared.ast.Def.{Def}
+use Rattle.isle_ast.specs.declared.pos.Pos.{Pos}
+use Rattle.isle_ast.specs.declared.error.Error.{Error}
 use Rattle.isle_types.specs.Environment.{Environment}
 use Rattle.isle_types.specs.TypeFaults.{IsTypeFault, IsSizeFault}
-use Rattle.isle_terms.specs.Signatures.{Signature, Conversion}
-use Rattle.isle_terms.specs.Definitions.{IsAmong, rules_in, name_of, AreTerms, AreConversions}
+use Rattle.isle_rules.specs.Signatures.{Signature, Conversion}
+use Rattle.isle_rules.specs.Definitions.{IsAmong, rules_in, name_of, AreTerms, AreConversions}
 use Rattle.isle_terms.specs.RuleReaching.{IsIllRule, IsLargeRule}
 use Rattle.isle_terms.specs.TermFaults.{IsTaken, DeclarationBreaks, IsLargeDeclaration, ExtractorBreaks, ConstructorBreaks, ConverterBreaks}
 use Rattle.isle_terms.specs.TermFaults.{IsUndefined}

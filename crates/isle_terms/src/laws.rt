@@ -1,31 +1,31 @@
 //! What holds of the definitions of typing: public functions with nothing to do, whose contracts are the laws.
 ghost use Rattle.std.specs.Prelude.{◌≡◌, ℕ, ◌+◌, ◌*◌, Bool, List, All};
-ghost use Rattle.isle_syntax.specs.declared.ast.Def.{Def};
-ghost use Rattle.isle_syntax.specs.declared.ast.Rule.{Rule};
-ghost use Rattle.isle_syntax.specs.declared.lexer.Pos.{Pos};
-ghost use Rattle.isle_syntax.specs.Trees.Comparisons.{DecidesSame};
+ghost use Rattle.isle_ast.specs.declared.ast.Def.{Def};
+ghost use Rattle.isle_ast.specs.declared.ast.Rule.{Rule};
+ghost use Rattle.isle_ast.specs.declared.pos.Pos.{Pos};
+ghost use Rattle.isle_ast.specs.Trees.Comparisons.{DecidesSame};
 ghost use Rattle.isle_types.specs.Environment.{Environment};
 ghost use Rattle.isle_types.specs.TypeTables.{TypeTables};
-ghost use Rattle.isle_terms.specs.declared.rules.Rule.{Rule as MadeRule};
-ghost use Rattle.isle_terms.specs.TypedRules.{TypedRule};
-ghost use Rattle.isle_terms.specs.Signatures.{Declared};
-ghost use Rattle.isle_terms.specs.Elaboration.{ElaboratesRule};
-ghost use Rattle.isle_terms.specs.Definitions.{TermEnvironment, declared_by, MakesTerms};
+ghost use Rattle.isle_rules.specs.declared.rules.Rule.{Rule as MadeRule};
+ghost use Rattle.isle_rules.specs.TypedRules.{TypedRule};
+ghost use Rattle.isle_rules.specs.Signatures.{Declared};
+ghost use Rattle.isle_rules.specs.Elaboration.{ElaboratesRule};
+ghost use Rattle.isle_rules.specs.Definitions.{TermEnvironment, declared_by, MakesTerms};
 ghost use Rattle.isle_terms.specs.TypingFaults.{BreaksTyping, ExceedsTyping};
-ghost use Rattle.isle_terms.specs.Shown.TermTables.{TermTables};
-ghost use Rattle.isle_terms.specs.Shown.ShownTerms.{ShowsDeclared};
-ghost use Rattle.isle_terms.specs.Shown.RulesShown.{IsShownRule};
-ghost use Rattle.isle_terms.specs.TermEnvs.{ShowsTerms};
-ghost use Rattle.isle_terms.specs.SoundRules.WellTyped.{IsTypedRule};
-ghost use Rattle.isle_terms.specs.SoundRules.KeptScopes.{KeepsScopes};
+ghost use Rattle.isle_rules.specs.Shown.TermTables.{TermTables};
+ghost use Rattle.isle_rules.specs.Shown.ShownTerms.{ShowsDeclared};
+ghost use Rattle.isle_rules.specs.Shown.RulesShown.{IsShownRule};
+ghost use Rattle.isle_rules.specs.Shown.RulesShown.{ShowsTerms};
+ghost use Rattle.isle_rules.specs.SoundRules.WellTyped.{IsTypedRule};
+ghost use Rattle.isle_rules.specs.SoundRules.KeptScopes.{KeepsScopes};
 ghost use Rattle.isle_terms.specs.Sizes.{IsWithinSizes, HasSizes, HasFittingRules};
-ghost use Rattle.isle_terms.specs.Visits.OwnFaults.{NeverUndefined, FindsAllDefined};
-ghost use Rattle.isle_terms.specs.Visits.RuleEvents.{visits_rule};
+ghost use Rattle.isle_rules.specs.Visits.OwnFaults.{NeverUndefined, FindsAllDefined};
+ghost use Rattle.isle_rules.specs.Visits.RuleEvents.{visits_rule};
 
-use crate::rules::{BoundVar, Expr, Pattern};
-use crate::signatures::ReturnKind;
-use crate::terms::{ConstructorKind, ExtractorKind, Term, TermFlags, TermKind};
-use crate::visit::{ExprVisitor, PatternVisitor, RuleVisitor};
+use isle_rules::{
+    BoundVar, ConstructorKind, Expr, ExprVisitor, ExtractorKind, Pattern, PatternVisitor,
+    ReturnKind, RuleVisitor, Term, TermFlags, TermKind,
+};
 
 /// Typed patterns and expressions are equal exactly where they are the same.
 pub fn equal_typed_trees_are_the_same()

@@ -7,9 +7,9 @@ pub mod names;
 pub mod patterns;
 pub mod rules;
 
-use crate::env::TermEnv;
-use isle_syntax::ast::Pattern;
-use isle_syntax::lexer::Pos;
+use isle_ast::ast::Pattern;
+use isle_ast::pos::Pos;
+use isle_rules::TermEnv;
 use isle_types::TypeEnv;
 use std::alloc::Global;
 

@@ -1,7 +1,7 @@
 -- What a recorder of calls promises: nothing of a call, and that it hands out itself.
 use Rattle.std.specs.Prelude.{◌≡◌, ⊤, ℕ}
-use Rattle.isle_terms.specs.Visits.Runs.{Run}
-use Rattle.isle_terms.specs.Visits.RuleSteps.{RuleSteps}
+use Rattle.isle_rules.specs.Visits.Runs.{Run}
+use Rattle.isle_rules.specs.Visits.RuleSteps.{RuleSteps}
 
 -- any answer to a call
 abbrev pub any_answer : {S C A : Type 0} → C → Run S A

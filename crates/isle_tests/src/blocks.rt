@@ -227,7 +227,8 @@ fn tests_make_sites(rt: HostRuntime) -> Result<(), Fail> {
     for (test, wanted) in [
         (
             variant(13, 4),
-            "[MatchVariant { source: BindingId(7), variant: VariantId(4), field: TupleIndex(0) }, MatchVariant { source: BindingId(7), variant: VariantId(4), field: TupleIndex(1) }]",
+            "[MatchVariant { source: BindingId(7), variant: VariantId(4), field: TupleIndex(0) }, \
+             MatchVariant { source: BindingId(7), variant: VariantId(4), field: TupleIndex(1) }]",
         ),
         (
             Constraint::Struct { ty: A, fields },

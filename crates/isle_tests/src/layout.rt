@@ -1,3 +1,3 @@
-//! Tests of `isle_layout`: spellings of trees, and which definitions can be printed and read back.
+//! Tests of `isle_layout`: what is printed of trees, and which definitions can be printed and read back.
 pub mod spellings;
-pub mod writable;
+mod writable;

@@ -4,7 +4,7 @@ mod recorder;
 mod signatures;
 pub mod visits;
 
-use isle_terms::TermEnv;
+use isle_rules::TermEnv;
 use isle_types::TypeEnv;
 use std::alloc::{AllocError, Global};
 use std::test::Fail;

@@ -1,6 +1,6 @@
 //! Tests of `isle_types`: ids, integer types, the containers, and environments of types.
 mod disjoint_sets;
-pub mod environments;
+mod environments;
 mod numbers;
 mod sorted_maps;
 mod sorted_sets;

@@ -8,7 +8,8 @@ use Rattle.isle_trees.specs.Tree.{Steps, done, «match», equal, loop, give, Arm
 use Rattle.isle_trees.proofs.Basics.{SameSelf, not_true, clash, from_filter, is_want_same}
 
 all_later : {C V : Type 0} (arms : Arms C) (R : Rules C V) (left : List ℕ) (sc : Scope C) (s : ℕ) (c : C)
-    → ((i : ℕ) (d : C) → Elem i left → R.at i s ≡ Some (has d) → (R.tests.at_most c d ≡ true) × (c ≢ d)) → BuildsArms R left sc s arms → AllLater R c arms
+    → ((i : ℕ) (d : C) → Elem i left → R.at i s ≡ Some (has d) → (R.tests.at_most c d ≡ true) × (c ≢ d)) → BuildsArms R left sc s arms
+    → AllLater R c arms
 all_later no_arm R left sc s c h b = tt
 all_later (arm d bindings body later) R left sc s c h b =
     let one = h (b.0.0.0) d (b.0.0.1) (b.0.0.2) in
@@ -29,10 +30,14 @@ mutual
       (arms_ascend arms R (counted R (on_match s) left) after s w inner, ascending next R (others R (on_match s) left) after w rest)
   ascending (equal binds a b body next) R left sc w (best, (after, bs, inner, rest)) =
       (ascending body R (counted R (on_equal a b) left) (join after a b) w inner, ascending next R (others R (on_equal a b) left) after w rest)
-  ascending (loop binds x body next) R left sc w (s, made, best, (after, bs, inner, rest)) =
-      (ascending body R (counted R (on_loop s) left) (inside R after s one_value) w inner, ascending next R (others R (on_loop s) left) (release after s) w rest)
+  ascending (loop binds x body next) R left sc w (s, made, best, (after, bs, inner, rest)) = (
+    ascending body R (counted R (on_loop s) left) (inside R after s one_value) w inner,
+    ascending next R
+        (others R (on_loop s) left) (release after s) w rest,
+  )
 
-  pub arms_ascend : {C V : Type 0} (arms : Arms C) (R : Rules C V) (left : List ℕ) (sc : Scope C) (s : ℕ) → SameSelf R.tests → BuildsArms R left sc s arms → ArmsAscend R arms
+  pub arms_ascend : {C V : Type 0} (arms : Arms C) (R : Rules C V) (left : List ℕ) (sc : Scope C) (s : ℕ)
+      → SameSelf R.tests → BuildsArms R left sc s arms → ArmsAscend R arms
   arms_ascend no_arm R left sc s w b = tt
   arms_ascend (arm c bindings body later) R left sc s w b = (
     all_later later R (not_wanting R s c left) sc s c (λ i d m e.

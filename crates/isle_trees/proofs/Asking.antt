@@ -9,16 +9,22 @@ use Rattle.isle_trees.proofs.Basics.{JoinsBothWays, true_or, from_filter, some_e
 use Rattle.isle_trees.proofs.Leaf.{parts_up, part_more, in_all}
 use Rattle.isle_trees.proofs.Path.{asks}
 
-part_asked : {C V : Type 0} (R : Rules C V) (i : ℕ) (sites : List ℕ) (x : ℕ) → ((s : ℕ) → Elem s sites → Asked R i s) → IsPartOf R sites x → Asked R i x
+part_asked : {C V : Type 0} (R : Rules C V) (i : ℕ) (sites : List ℕ) (x : ℕ) → ((s : ℕ) → Elem s sites → Asked R i s)
+    → IsPartOf R sites x → Asked R i x
 part_asked R i sites _ f (IsPartOf.itself s m) = f s m
 part_asked R i sites _ f (IsPartOf.of_part s p h m) = Asked.by_part s p (part_asked R i sites s f h) m
 
-step_asks : {C V : Type 0} (R : Rules C V) (all left : List ℕ) (sc from after : Scope C) (t : Test) (binds : List ℕ) → JoinsBothWays R → ((i : ℕ) → Elem i left → Elem i all)
+step_asks : {C V : Type 0} (R : Rules C V) (all left : List ℕ) (sc from after : Scope C) (t : Test) (binds : List ℕ)
+    → JoinsBothWays R → ((i : ℕ) → Elem i left → Elem i all)
     → IsBest R left sc t → Binds R from (sites_of t) binds after → AllAsked R all binds
 step_asks R all left sc from after t binds w f best b x m =
     let one = some_elem (counted R t left) best.useful in
-    let its = counted_has R t left (one.0) (one.1) in
-    (one.0, f (one.0) (its.0), part_asked R (one.0) (sites_of t) x (asks R (one.0) t w (its.1)) (b.only x (in_all R from after (sites_of t) binds b x m)))
+    let its = counted_has R t left (one.0) (one.1) in (
+      one.0,
+      f (one.0) (its.0),
+      part_asked R (one.0) (sites_of t) x (asks R (one.0) t w (its.1))
+          (b.only x (in_all R from after (sites_of t) binds b x m)),
+    )
 
 pub used_part : {C V : Type 0} (R : Rules C V) (i x : ℕ) → IsPartOf R (rights R i) x → Used R i x
 used_part R i _ (IsPartOf.itself x m) = Used.by_right x m
@@ -36,12 +42,14 @@ own_is R u x m = elim (true_or (R.stands u)) [
 ]
 
 -- what binding sites one after another binds is a part of one of them
-pub each_part : {C V : Type 0} (us : List ℕ) (R : Rules C V) (sc : Scope C) (binds : List ℕ) (after : Scope C) → BindsEach R sc us binds after → (x : ℕ) → Elem x binds → IsPartOf R us x
+pub each_part : {C V : Type 0} (us : List ℕ) (R : Rules C V) (sc : Scope C) (binds : List ℕ) (after : Scope C)
+    → BindsEach R sc us binds after → (x : ℕ) → Elem x binds → IsPartOf R us x
 each_part [] R sc binds after (e, same) x m = absurd (subst (λ (l : List ℕ). Elem x l) e m)
 each_part (u ∷ us) R sc binds after (inl (e, b)) x m = part_more R us (u ∷ us) x (λ s n. inr n) (each_part us R sc binds after b x m)
 each_part (u ∷ us) R sc binds after (inr (e, (front, rest, mid, bs, b, written))) x m =
     elim (elem_append x front (own R u ++ rest) (subst (λ (l : List ℕ). Elem x l) written m)) [
-      | inl n ↦ part_more R (u ∷ []) (u ∷ us) x (λ s q. elim q [ inl y ↦ inl y | inr y ↦ absurd y ]) (parts_up R u x (bs.only x (in_all R sc mid (R.parts u) front bs x n)))
+      | inl n ↦ part_more R (u ∷ []) (u ∷ us) x (λ s q. elim q [ inl y ↦ inl y | inr y ↦ absurd y ])
+          (parts_up R u x (bs.only x (in_all R sc mid (R.parts u) front bs x n)))
       | inr n ↦ elim (elem_append x (own R u) rest n) [
         | inl q ↦ IsPartOf.itself x (inl (own_is R u x q))
         | inr q ↦ part_more R us (u ∷ us) x (λ s y. inr y) (each_part us R (emit mid u) rest after b x q)
@@ -57,7 +65,8 @@ returns_ask (give binds i next) R all left sc (first, (after, each, rest)) =
     ((λ x m. used_part R i x (each_part (rights R i) R sc binds after each x m)), returns_ask next R all (without i left) after rest)
 
 mutual
-  pub asked : {C V : Type 0} (T : Steps C) (R : Rules C V) (all left : List ℕ) (sc : Scope C) → JoinsBothWays R → ((i : ℕ) → Elem i left → Elem i all) → Builds R left sc T → AsksOnly R all T
+  pub asked : {C V : Type 0} (T : Steps C) (R : Rules C V) (all left : List ℕ) (sc : Scope C) → JoinsBothWays R
+      → ((i : ℕ) → Elem i left → Elem i all) → Builds R left sc T → AsksOnly R all T
   asked done R all left sc w f b = tt
   asked (give binds i next) R all left sc w f b = returns_ask (give binds i next) R all left sc (b.1)
   asked («match» binds s arms next) R all left sc w f (best, (after, bs, inner, rest)) = (
@@ -82,7 +91,8 @@ mutual
     ),
   )
 
-  pub asked_arms : {C V : Type 0} (arms : Arms C) (R : Rules C V) (all left : List ℕ) (sc : Scope C) (s : ℕ) → JoinsBothWays R → ((i : ℕ) → Elem i left → Elem i all) → BuildsArms R left sc s arms
+  pub asked_arms : {C V : Type 0} (arms : Arms C) (R : Rules C V) (all left : List ℕ) (sc : Scope C) (s : ℕ)
+      → JoinsBothWays R → ((i : ℕ) → Elem i left → Elem i all) → BuildsArms R left sc s arms
       → ArmsAskOnly R all arms
   asked_arms no_arm R all left sc s w f b = tt
   asked_arms (arm c bindings body more) R all left sc s w f b = (

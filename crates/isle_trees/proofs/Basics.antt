@@ -194,13 +194,6 @@ source_same T s w o k e = rw e (both_and (s == s) _ (eq-eqb s s refl) (want_same
 abbrev pub JoinsBothWays : {C V : Type 0} → Rules C V → Type 0
 JoinsBothWays R = (i a b : ℕ) → R.joins i a b ≡ true → R.joins i b a ≡ true
 
--- the same of a rule set
-pub want_sound : {C V : Type 0} (R : Rules C V) (w u : Want C) → IsWellMade R → same_want R.tests w u ≡ true → u ≡ w
-want_sound R w u k e = want_is R.tests w u k.exact.same e
-
-pub want_self : {C V : Type 0} (R : Rules C V) (w : Want C) → IsWellMade R → same_want R.tests w w ≡ true
-want_self R w k = want_same R.tests w k.exact.same_self
-
 pub is_want_sound : {C V : Type 0} (R : Rules C V) (w : Want C) (o : Option (Want C)) → IsWellMade R → is_want R.tests w o ≡ true → o ≡ Some w
 is_want_sound R w o k e = is_want_is R.tests w o k.exact.same e
 
@@ -230,7 +223,8 @@ one_of (Some (has c)) e = cc
 one_of (Some one_value) e = refl
 
 -- rules that a test counts
-pub counted_has : {C V : Type 0} (R : Rules C V) (t : Test) (left : List ℕ) (i : ℕ) → Elem i (counted R t left) → Elem i left × (has_test R i t ≡ true)
+pub counted_has : {C V : Type 0} (R : Rules C V) (t : Test) (left : List ℕ) (i : ℕ) → Elem i (counted R t left)
+    → Elem i left × (has_test R i t ≡ true)
 counted_has R t left i m =
     let f = from_filter (counts R t left) left i m in
     (f.0, (and_both (has_test R i t) _ (f.1)).0)
@@ -241,7 +235,8 @@ counted_left R t left i m = (counted_has R t left i m).0
 pub others_left : {C V : Type 0} (R : Rules C V) (t : Test) (left : List ℕ) (i : ℕ) → Elem i (others R t left) → Elem i left
 others_left R t left i m = (from_filter (λ j. not (counts R t left j)) left i m).0
 
-pub counted_or : {C V : Type 0} (R : Rules C V) (t : Test) (left : List ℕ) (i : ℕ) → Elem i left → Elem i (counted R t left) ⊎ Elem i (others R t left)
+pub counted_or : {C V : Type 0} (R : Rules C V) (t : Test) (left : List ℕ) (i : ℕ) → Elem i left
+    → Elem i (counted R t left) ⊎ Elem i (others R t left)
 counted_or R t left i m = elim (true_or (counts R t left i)) [
   | inl e ↦ inl (to_filter (counts R t left) left i m e)
   | inr e ↦ inr (to_filter (λ j. not (counts R t left j)) left i m (ap not e))

@@ -33,9 +33,5 @@ pub mod Sorting
 pub mod Weights
 -- What rules' tests ask, and what tests make.
 pub mod Asked
--- The first place that passes.
-pub mod Listed
--- What a binary search finds.
-pub mod Lookup
 -- Rules over other values.
 pub mod OtherValues

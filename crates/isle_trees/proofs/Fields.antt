@@ -31,7 +31,8 @@ filled_inside R sc s w k f x m e p = elim (true_or (m.site == s)) [
   | inl y ↦
       let q : Some w ≡ Some m.want = rw y at p in
       let v : m.want ≡ w = cc in
-      or_left (is_source R.tests s w (R.made x)) (sc.emitted x) (by_made R s w _ k (e ∙ ap Some (λ i. record { site = eqb-true m.site s y i; want = v i })))
+      or_left (is_source R.tests s w (R.made x)) (sc.emitted x)
+      (by_made R s w _ k (e ∙ ap Some (λ i. record { site = eqb-true m.site s y i; want = v i })))
   | inr n ↦ let q : sc.passed m.site ≡ Some m.want = rw n at p in or_right (is_source R.tests s w (R.made x)) (sc.emitted x) (f x m e q)
 ]
 
@@ -50,7 +51,8 @@ step_whole R left sc from after t binds w f best bs x m =
 was_new : {C : Type 0} (sc : Scope C) (xs : List ℕ) (x : ℕ) → (emit_all sc xs).emitted x ≡ false → sc.emitted x ≡ false
 was_new sc xs x e = elim (true_or (sc.emitted x)) [ inl y ↦ let f : (emit_all sc xs).emitted x ≡ true = still_emitted sc xs x y in cc | inr n ↦ n ]
 
-each_new : {C V : Type 0} (us : List ℕ) (R : Rules C V) (sc : Scope C) (binds : List ℕ) (after : Scope C) → BindsEach R sc us binds after → (x : ℕ) → Elem x binds → sc.emitted x ≡ false
+each_new : {C V : Type 0} (us : List ℕ) (R : Rules C V) (sc : Scope C) (binds : List ℕ) (after : Scope C)
+    → BindsEach R sc us binds after → (x : ℕ) → Elem x binds → sc.emitted x ≡ false
 each_new [] R sc binds after (e, same) x m = absurd (subst (λ (l : List ℕ). Elem x l) e m)
 each_new (u ∷ us) R sc binds after (inl (e, b)) x m = each_new us R sc binds after b x m
 each_new {C = C} (u ∷ us) R sc binds after (inr (e, (front, rest, mid, bs, b, written))) x m =
@@ -64,7 +66,8 @@ each_new {C = C} (u ∷ us) R sc binds after (inr (e, (front, rest, mid, bs, b, 
       ]
     ]
 
-return_whole : {C V : Type 0} (R : Rules C V) (left : List ℕ) (sc after : Scope C) (i : ℕ) (binds : List ℕ) → IsWellMade R → HasItsTests R → Carries R left sc → IsFilled R sc
+return_whole : {C V : Type 0} (R : Rules C V) (left : List ℕ) (sc after : Scope C) (i : ℕ) (binds : List ℕ)
+    → IsWellMade R → HasItsTests R → Carries R left sc → IsFilled R sc
     → HasNoTest R left sc → IsFirst R left i → BindsEach R sc (rights R i) binds after → AreWholeOrContent R binds
 return_whole R left sc after i binds w its c f none first each x m =
     let k = first_known R left sc i w its.tested (first_last R left sc i c none first) in
@@ -77,7 +80,8 @@ return_whole R left sc after i binds w its c f none first each x m =
     ]
 
 mutual
-  pub no_field : {C V : Type 0} (T : Steps C) (R : Rules C V) (left : List ℕ) (sc : Scope C) → IsWellMade R → HasItsTests R → Carries R left sc → IsFilled R sc → Builds R left sc T → BindsNoField R T
+  pub no_field : {C V : Type 0} (T : Steps C) (R : Rules C V) (left : List ℕ) (sc : Scope C) → IsWellMade R
+      → HasItsTests R → Carries R left sc → IsFilled R sc → Builds R left sc T → BindsNoField R T
   no_field done R left sc w its c f b = tt
   no_field (give binds i next) R left sc w its c f b = return_whole R left sc (b.1.1.0) i binds w its c f (b.0) (b.1.0) (b.1.1.1)
   no_field («match» binds s arms next) R left sc w its c f (best, (after, bs, inner, rest)) =
@@ -85,7 +89,8 @@ mutual
       let f2 : IsFilled R after = subst (IsFilled R) (sym bs.ending) (filled_bound R sc bs.all f) in (
         step_whole R left sc sc after (on_match s) binds w f best bs,
         (
-          no_field_arms arms R (counted R (on_match s) left) after s w its (fewer_carry R left _ after (counted_left R (on_match s) left) c2) f2 inner,
+          no_field_arms arms R (counted R (on_match s) left) after s w its
+              (fewer_carry R left _ after (counted_left R (on_match s) left) c2) f2 inner,
           no_field next R (others R (on_match s) left) after w its (fewer_carry R left _ after (others_left R (on_match s) left) c2) f2 rest,
         ),
       )
@@ -94,7 +99,8 @@ mutual
       let f2 : IsFilled R after = subst (IsFilled R) (sym bs.ending) (filled_bound R sc bs.all f) in (
         step_whole R left sc sc after (on_equal a b) binds w f best bs,
         (
-          no_field body R (counted R (on_equal a b) left) (join after a b) w its (fewer_carry R left _ after (counted_left R (on_equal a b) left) c2) f2 inner,
+          no_field body R (counted R (on_equal a b) left) (join after a b) w its
+              (fewer_carry R left _ after (counted_left R (on_equal a b) left) c2) f2 inner,
           no_field next R (others R (on_equal a b) left) after w its (fewer_carry R left _ after (others_left R (on_equal a b) left) c2) f2 rest,
         ),
       )
@@ -106,16 +112,20 @@ mutual
         step_whole R left sc (release sc s) after (on_loop s) binds w f1 best bs,
         (
           no_field body R (counted R (on_loop s) left) (inside R after s one_value) w its
-              (carries_inside R left (counted R (on_loop s) left) after s one_value c2 (λ i m. let h = counted_has R (on_loop s) left i m in (h.0, one_of _ (h.1))))
+              (carries_inside R left (counted R (on_loop s) left) after s one_value c2
+              (λ i m. let h = counted_has R (on_loop s) left i m in (h.0, one_of _ (h.1))))
               (filled_inside R after s one_value w f2) inner,
-          no_field next R (others R (on_loop s) left) (release after s) w its (fewer_carry R left _ after (others_left R (on_loop s) left) c2) (filled_release R after s none f2) rest,
+          no_field next R (others R (on_loop s) left) (release after s) w its (fewer_carry R left _ after (others_left R (on_loop s) left) c2)
+              (filled_release R after s none f2) rest,
         ),
       )
 
-  pub no_field_arms : {C V : Type 0} (arms : Arms C) (R : Rules C V) (left : List ℕ) (sc : Scope C) (s : ℕ) → IsWellMade R → HasItsTests R → Carries R left sc → IsFilled R sc
+  pub no_field_arms : {C V : Type 0} (arms : Arms C) (R : Rules C V) (left : List ℕ) (sc : Scope C) (s : ℕ)
+      → IsWellMade R → HasItsTests R → Carries R left sc → IsFilled R sc
       → BuildsArms R left sc s arms → ArmsBindNoField R arms
   no_field_arms no_arm R left sc s w its c f b = tt
   no_field_arms (arm d bindings body later) R left sc s w its c f b = (
-    no_field body R (wanting R s d left) (inside R sc s (has d)) w its (carries_inside R left _ sc s (has d) c (wanting_has R left s d w)) (filled_inside R sc s (has d) w f) (b.2),
+    no_field body R (wanting R s d left) (inside R sc s (has d)) w its (carries_inside R left _ sc s (has d) c (wanting_has R left s d w))
+        (filled_inside R sc s (has d) w f) (b.2),
     no_field_arms later R (not_wanting R s d left) sc s w its (fewer_carry R left _ sc (λ i m. (from_filter _ left i m).0) c) f (b.3),
   )

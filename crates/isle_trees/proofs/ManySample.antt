@@ -84,7 +84,8 @@ many_best = record {
     | on_match s ↦ λ r. inl (let z = many_idle (on_match s) (0 ∷ []) (λ i. no_match i s) in omega arith)
     | on_equal a b ↦ λ r. inl (let z = many_idle (on_equal a b) (0 ∷ []) (λ i. refl) in omega arith)
     | on_loop s ↦ λ r. elim (true_or (s == 1)) [
-      | inl y ↦ let e : s ≡ 1 = eqb-true s 1 y in subst (λ (x : ℕ). IsAtMost (key many_sample (0 ∷ []) nothing_known (on_loop x)) (key many_sample (0 ∷ []) nothing_known (on_loop 1))) (sym e)
+      | inl y ↦ let e : s ≡ 1 = eqb-true s 1 y in subst (λ (x : ℕ). IsAtMost (key many_sample (0 ∷ []) nothing_known (on_loop x))
+          (key many_sample (0 ∷ []) nothing_known (on_loop 1))) (sym e)
           (inr (refl, inr (refl, inr (refl, inr (refl, omega arith)))))
       | inr n ↦ inl (let z = many_idle (on_loop s) (0 ∷ []) (λ i. other_loop i s n) in omega arith)
     ]
@@ -103,7 +104,11 @@ many_binds : Binds many_sample (release nothing_known 1) (1 ∷ []) (1 ∷ []) (
 many_binds = record {
   all = 0 ∷ 1 ∷ [];
   order = (refl, (λ p m. absurd m), (refl, (λ p m. elim m [ inl e ↦ rw e refl | inr b ↦ absurd b ]), tt));
-  only = λ x m. elim m [ inl e ↦ rw e (of_part 1 0 (itself 1 (inl refl)) (inl refl)) | inr n ↦ elim n [ inl e ↦ rw e (itself 1 (inl refl)) | inr b ↦ absurd b ] ];
+  only = λ x m. elim m [
+    | inl e ↦ rw e (of_part 1 0 (itself 1 (inl refl)) (inl refl))
+    | inr n ↦
+        elim n [ inl e ↦ rw e (itself 1 (inl refl)) | inr b ↦ absurd b ]
+  ];
   ending = refl;
   bound = λ x m. elim m [ inl e ↦ rw e refl | inr b ↦ absurd b ];
   written = refl;

@@ -27,7 +27,8 @@ none_known false k = absurd (k refl)
 
 -- what a sure outcome that answers tells
 told : {C V : Type 0} (P : Program C V) (r : Answers V) (c : Completion V) (t : ℕ) (args : List V) (o : Outcome) → Agree r (P.value t args c)
-    → IsSure (P.rules t) (P.value t args c) (P.left t) o → answer_of (P.rules t) r (P.partial t) o ≢ unknown → Told P c t args (answer_of (P.rules t) r (P.partial t) o)
+    → IsSure (P.rules t) (P.value t args c) (P.left t) o → answer_of (P.rules t) r (P.partial t) o ≢ unknown
+    → Told P c t args (answer_of (P.rules t) r (P.partial t) o)
 told P r c t args (chooses i goes e) ag (m, w, top, end) k =
     let v = P.value t args c in
     inl (
@@ -38,7 +39,12 @@ told P r c t args (chooses i goes e) ag (m, w, top, end) k =
           rw (h.0) (sym (ag ((P.rules t).result i) k (last_goes v ((P.rules t).calls i) ((P.rules t).result i) (h.0)))),
     )
 told P r c t args (chooses i (opens s) e) ag h k = absurd (k refl)
-told P r c t args (chooses i breaks e) ag (m, w, top, end) k = inl (i, (m, w, top), λ met. let h = end met in rw (h.0, none_known (P.partial t) k) refl)
+told P r c t args (chooses i breaks e) ag (m, w, top, end) k = inl (
+  i,
+  (m, w, top),
+  λ met. let h = end met in
+      rw (h.0, none_known (P.partial t) k) refl,
+)
 told P r c t args ends ag h k = let p = none_known (P.partial t) k in inr (h, p, rw p refl)
 told P r c t args (waits s) ag h k = absurd (k refl)
 told P r c t args stops ag h k = absurd h
@@ -48,7 +54,8 @@ none_partial : {V : Type 0} (b : Bool) → none_if {V = V} b ≡ fails → b ≡
 none_partial true e = refl
 none_partial false e = cc
 
-answer_allowed : {C V : Type 0} (R : Rules C V) (r : Answers V) (left : List ℕ) (b : Bool) (o : Outcome) → LeavesOff R r left o → answer_of R r b o ≡ fails → b ≡ true
+answer_allowed : {C V : Type 0} (R : Rules C V) (r : Answers V) (left : List ℕ) (b : Bool) (o : Outcome) → LeavesOff R r left o
+    → answer_of R r b o ≡ fails → b ≡ true
 answer_allowed R r left b (chooses i goes e) (m, w, g) f = absurd (given_holds _ g f)
 answer_allowed R r left b (chooses i (opens s) e) h f = cc
 answer_allowed R r left b (chooses i breaks e) h f = none_partial b f
@@ -75,7 +82,8 @@ run_sure n P t args c is ih f covers =
           (is.respects t args (run_to P n) (allowed n P is)) ag covers (is.strict t args c),
     )
 
-pub answered_means : {C V : Type 0} (n : ℕ) (P : Program C V) (t : ℕ) (args : List V) → IsProgram P → run_to P n t args ≢ unknown → Means P n t args (run_to P n t args)
+pub answered_means : {C V : Type 0} (n : ℕ) (P : Program C V) (t : ℕ) (args : List V) → IsProgram P → run_to P n t args ≢ unknown
+    → Means P n t args (run_to P n t args)
 answered_means zero P t args is k = absurd (k refl)
 answered_means (suc n) P t args is k = λ c al f covers.
     let both = run_sure n P t args c is (λ u xs a. answered_means n P u xs is a) f covers in
@@ -94,8 +102,10 @@ opens_part R r (u ∷ us) s e (inl p) = part_more R (u ∷ []) (u ∷ us) s (λ 
 opens_part R r (u ∷ us) s e (inr p) = part_more R us (u ∷ us) s (λ x m. inr m) (opens_part R r us s _ (p.1.1))
 
 -- A walk that doesn't answer is stuck, or opens at a site that is called, under all answers of which its outcome is sure.
-where_open : {C V : Type 0} (R : Rules C V) (r : Answers V) (left : List ℕ) (b : Bool) (o : Outcome) → LeavesOff R r left o → answer_of R r b o ≡ unknown
-    → ((s : ℕ) × IsOpen R r s × ((v : Answers V) → IsSure R v left o → IsCalled R v left s)) ⊎ ((b ≡ false) × ((v : Answers V) → IsSure R v left o → IsStuck R v left))
+where_open : {C V : Type 0} (R : Rules C V) (r : Answers V) (left : List ℕ) (b : Bool) (o : Outcome) → LeavesOff R r left o
+    → answer_of R r b o ≡ unknown
+    → ((s : ℕ) × IsOpen R r s × ((v : Answers V) → IsSure R v left o → IsCalled R v left s)) ⊎
+    ((b ≡ false) × ((v : Answers V) → IsSure R v left o → IsStuck R v left))
 where_open R r left b (chooses i goes e) (m, w, g) k = absurd (given_known _ g k)
 where_open R r left b (chooses i (opens s) e) (m, w, (op, o)) k = inl (s, op, λ v h. inr (i, (h.0, h.1, h.2), opens_part R r (rights R i) s e o))
 where_open R r left true (chooses i breaks e) h k = cc
@@ -112,7 +122,8 @@ open_chain {V = V} (suc n) P t args is k =
     let R = P.rules t in
     let o = walk R r (P.tree t) in
     let off = whole_off R (P.left t) (P.tree t) r (is.trees t) (is.respects t args (run_to P n) (allowed n P is)) (is.strict t args (run_to P n)) in
-    let sure = λ (c : Completion V) (f : Follows (Means P n) c) (covers : Covers P c t args). run_sure n P t args c is (λ u xs a. answered_means n P u xs is a) f covers in
+    let sure = λ (c : Completion V) (f : Follows (Means P n) c) (covers : Covers P c t args). run_sure n P t args c is
+    (λ u xs a. answered_means n P u xs is a) f covers in
     elim (where_open R r (P.left t) (P.partial t) o off k) [
       | inr h ↦ Chain.stuck n t args (h.0) (λ c al f covers. h.1 (P.value t args c) ((sure c f covers).1))
       | inl h ↦
@@ -120,6 +131,10 @@ open_chain {V = V} (suc n) P t args is k =
           Chain.link n t args q.called q.values (record {
             site = h.0;
             calls = q.calls;
-            fixed = λ c al f covers. (h.2 (P.value t args c) ((sure c f covers).1), may_be r (P.value t args c) (R.parts (h.0)) q.values ((sure c f covers).0) q.parts);
+            fixed = λ c al f covers. (
+              h.2 (P.value t args c) ((sure c f covers).1),
+              may_be r (P.value t args c)
+                  (R.parts (h.0)) q.values ((sure c f covers).0) q.parts,
+            );
           }) (open_chain n P q.called q.values is q.unanswered)
     ]

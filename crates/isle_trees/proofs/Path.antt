@@ -25,16 +25,19 @@ pub carries_bound : {C V : Type 0} (R : Rules C V) (left : List ℕ) (sc : Scope
 carries_bound R left sc [] c = c
 carries_bound R left sc (x ∷ xs) c = carries_bound R left (emit sc x) xs c
 
-pub fewer_carry : {C V : Type 0} (R : Rules C V) (left less : List ℕ) (sc : Scope C) → ((i : ℕ) → Elem i less → Elem i left) → Carries R left sc → Carries R less sc
+pub fewer_carry : {C V : Type 0} (R : Rules C V) (left less : List ℕ) (sc : Scope C) → ((i : ℕ) → Elem i less → Elem i left)
+    → Carries R left sc → Carries R less sc
 fewer_carry R left less sc f c = λ i s w m e. c i s w (f i m) e
 
-passed_inside : {C : Type 0} (x s : ℕ) (w u : Want C) (o : Option (Want C)) → (if x == s then Some w else o) ≡ Some u → ((x ≡ s) × (w ≡ u)) ⊎ (o ≡ Some u)
+passed_inside : {C : Type 0} (x s : ℕ) (w u : Want C) (o : Option (Want C)) → (if x == s then Some w else o) ≡ Some u
+    → ((x ≡ s) × (w ≡ u)) ⊎ (o ≡ Some u)
 passed_inside x s w u o e = elim (true_or (x == s)) [
   | inl y ↦ let f : Some w ≡ Some u = rw y at e in inl (eqb-true x s y, cc)
   | inr n ↦ let f : o ≡ Some u = rw n at e in inr f
 ]
 
-pub holds_inside : {C V : Type 0} (R : Rules C V) (v : Answers V) (sc : Scope C) (s : ℕ) (w : Want C) → Holds R v sc → Meets R w (v s) → Holds R v (inside R sc s w)
+pub holds_inside : {C V : Type 0} (R : Rules C V) (v : Answers V) (sc : Scope C) (s : ℕ) (w : Want C) → Holds R v sc
+    → Meets R w (v s) → Holds R v (inside R sc s w)
 holds_inside {C} R v sc s w h p = record {
   wants = λ x u e. elim (passed_inside x s w u (sc.passed x) e) [
     | inl f ↦ subst (λ (y : Want C). Meets R y (v x)) (f.1) (subst (λ (y : ℕ). Meets R w (v y)) (sym (f.0)) p)
@@ -53,10 +56,12 @@ carries_inside R left less sc s w c f = λ i x u m e.
       | inr g ↦ c i x u (both.0) g
     ]
 
-pub wanting_is : {C V : Type 0} (R : Rules C V) (left : List ℕ) (s : ℕ) (c : C) → SameIs R.tests → (i : ℕ) → Elem i (wanting R s c left) → Elem i left × (R.at i s ≡ Some (has c))
+pub wanting_is : {C V : Type 0} (R : Rules C V) (left : List ℕ) (s : ℕ) (c : C) → SameIs R.tests → (i : ℕ)
+    → Elem i (wanting R s c left) → Elem i left × (R.at i s ≡ Some (has c))
 wanting_is R left s c k i m = let f = from_filter _ left i m in (f.0, is_want_is R.tests (has c) _ k (f.1))
 
-pub wanting_has : {C V : Type 0} (R : Rules C V) (left : List ℕ) (s : ℕ) (c : C) → IsWellMade R → (i : ℕ) → Elem i (wanting R s c left) → Elem i left × (R.at i s ≡ Some (has c))
+pub wanting_has : {C V : Type 0} (R : Rules C V) (left : List ℕ) (s : ℕ) (c : C) → IsWellMade R → (i : ℕ)
+    → Elem i (wanting R s c left) → Elem i left × (R.at i s ≡ Some (has c))
 wanting_has R left s c w = wanting_is R left s c w.exact.same
 
 -- after a join, a site is labelled as before, or stood with the one and now with the other
@@ -89,7 +94,8 @@ there_join R v sc a b h e given x y l n = elim (label_cases (sc.label x) (sc.lab
   ]
 ]
 
-pub holds_join : {C V : Type 0} (R : Rules C V) (v : Answers V) (sc : Scope C) (a b : ℕ) → Holds R v sc → v a ≡ v b → HasValue (v a) → Holds R v (join sc a b)
+pub holds_join : {C V : Type 0} (R : Rules C V) (v : Answers V) (sc : Scope C) (a b : ℕ) → Holds R v sc → v a ≡ v b
+    → HasValue (v a) → Holds R v (join sc a b)
 holds_join R v sc a b h e given = record { wants = h.wants; same = same_join R v sc a b h e; there = there_join R v sc a b h e given }
 
 -- what an available site is made of is available, and its test passed
@@ -98,7 +104,8 @@ pub available_parts : {C V : Type 0} (R : Rules C V) (sc : Scope C) (s : ℕ) �
 available_parts R sc _ (IsAvailable.from_parts s parts tested) = (parts, tested)
 
 -- a part of an available site is available, and of an asked one asked
-part_there : {C V : Type 0} (R : Rules C V) (sc : Scope C) (i : ℕ) (sites : List ℕ) (x : ℕ) → ((s : ℕ) → Elem s sites → IsAvailable R sc s × Asked R i s)
+part_there : {C V : Type 0} (R : Rules C V) (sc : Scope C) (i : ℕ) (sites : List ℕ) (x : ℕ)
+    → ((s : ℕ) → Elem s sites → IsAvailable R sc s × Asked R i s)
     → IsPartOf R sites x → IsAvailable R sc x × Asked R i x
 part_there R sc i sites _ f (IsPartOf.itself s m) = f s m
 part_there R sc i sites _ f (IsPartOf.of_part s p h m) =
@@ -125,18 +132,21 @@ available_sites R sc (on_equal a b) r x (inl e) = subst (IsAvailable R sc) (sym 
 available_sites R sc (on_equal a b) r x (inr (inl e)) = subst (IsAvailable R sc) (sym e) (r.2)
 available_sites R sc (on_equal a b) r x (inr (inr m)) = absurd m
 
-pub some_counted : {C V : Type 0} (R : Rules C V) (left : List ℕ) (sc : Scope C) (t : Test) → IsBest R left sc t → (i : ℕ) × Elem i left × (has_test R i t ≡ true)
+pub some_counted : {C V : Type 0} (R : Rules C V) (left : List ℕ) (sc : Scope C) (t : Test) → IsBest R left sc t
+    → (i : ℕ) × Elem i left × (has_test R i t ≡ true)
 some_counted R left sc t best =
     let one = some_elem (counted R t left) best.useful in
     let its = counted_has R t left (one.0) (one.1) in
     (one.0, its.0, its.1)
 
 -- what comes before a step's test is available, and a rule left asks it
-pub step_there : {C V : Type 0} (R : Rules C V) (left : List ℕ) (sc from after : Scope C) (t : Test) (binds : List ℕ) → JoinsBothWays R → IsBest R left sc t
+pub step_there : {C V : Type 0} (R : Rules C V) (left : List ℕ) (sc from after : Scope C) (t : Test) (binds : List ℕ)
+    → JoinsBothWays R → IsBest R left sc t
     → (bs : Binds R from (sites_of t) binds after) → (x : ℕ) → Elem x bs.all → IsAvailable R sc x × ((i : ℕ) × Elem i left × Asked R i x)
 step_there R left sc from after t binds w best bs x m =
     let its = some_counted R left sc t best in
-    let both = part_there R sc (its.0) (sites_of t) x (λ s n. (available_sites R sc t best.ready s n, asks R (its.0) t w (its.2) s n)) (bs.only x m) in
+    let both = part_there R sc (its.0) (sites_of t) x (λ s n. (available_sites R sc t best.ready s n, asks R (its.0) t w (its.2) s n))
+    (bs.only x m) in
     (both.0, (its.0, its.1, both.1))
 
 -- what binding leaves bound

@@ -23,20 +23,23 @@ pub record IsLast {C V : Type 0} (R : Rules C V) (left : List ℕ) (sc : Scope C
   pub top : (j : ℕ) → Elem j left → R.prio j ≤ℤ R.prio i
 
 -- it has no ready test
-no_ready : {C V : Type 0} (R : Rules C V) (left : List ℕ) (sc : Scope C) (i : ℕ) (t : Test) → IsLast R left sc i → has_test R i t ≡ true → IsReady R sc t → ⊥
+no_ready : {C V : Type 0} (R : Rules C V) (left : List ℕ) (sc : Scope C) (i : ℕ) (t : Test) → IsLast R left sc i
+    → has_test R i t ≡ true → IsReady R sc t → ⊥
 no_ready R left sc i t l h r =
     let m : 0 < length (counted R t left) = has_length _ i (top_counts R t left i l.there h l.top) in
     let z : length (counted R t left) ≡ 0 = l.none t r in
     omega arith
 
 -- nor wants it something of an available site that isn't tested
-no_untested : {C V : Type 0} (R : Rules C V) (left : List ℕ) (sc : Scope C) (i s : ℕ) (w : Want C) → IsLast R left sc i → R.at i s ≡ Some w → IsAvailable R sc s
+no_untested : {C V : Type 0} (R : Rules C V) (left : List ℕ) (sc : Scope C) (i s : ℕ) (w : Want C) → IsLast R left sc i
+    → R.at i s ≡ Some w → IsAvailable R sc s
     → sc.passed s ≡ None → ⊥
 no_untested R left sc i s (has c) l e a p = no_ready R left sc i (on_match s) l (rw e refl) (a, p)
 no_untested R left sc i s one_value l e a p = no_ready R left sc i (on_loop s) l (rw e refl) (a, p)
 
 -- what it wants of an available site was met
-met : {C V : Type 0} (R : Rules C V) (left : List ℕ) (sc : Scope C) (i s : ℕ) (w : Want C) → IsLast R left sc i → R.at i s ≡ Some w → IsAvailable R sc s
+met : {C V : Type 0} (R : Rules C V) (left : List ℕ) (sc : Scope C) (i s : ℕ) (w : Want C) → IsLast R left sc i
+    → R.at i s ≡ Some w → IsAvailable R sc s
     → sc.passed s ≡ Some w
 met R left sc i s w l e a = elim (none_or (sc.passed s)) [
   | inl n ↦ absurd (no_untested R left sc i s w l e a n)
@@ -44,7 +47,8 @@ met R left sc i s w l e a = elim (none_or (sc.passed s)) [
 ]
 
 -- sites of which each field has its test among what it wants are available, from the least on
-pub all_available : {C V : Type 0} (R : Rules C V) (left : List ℕ) (sc : Scope C) (i : ℕ) (P : ℕ → Type 0) → ((s p : ℕ) → P s → Elem p (R.parts s) → P p)
+pub all_available : {C V : Type 0} (R : Rules C V) (left : List ℕ) (sc : Scope C) (i : ℕ) (P : ℕ → Type 0)
+    → ((s p : ℕ) → P s → Elem p (R.parts s) → P p)
     → ((s : ℕ) (m : Source C) → P s → R.made s ≡ Some m → R.at i m.site ≡ Some m.want) → IsWellMade R → IsLast R left sc i
     → (n s : ℕ) → s < n → P s → IsAvailable R sc s
 all_available R left sc i P down tested w l zero s lt a = absurd (omega arith)
@@ -53,7 +57,8 @@ all_available R left sc i P down tested w l (suc n) s lt a =
     λ p m. let b : p < s = w.lower s p m in all_available R left sc i P down tested w l n p (omega arith) (down s p a m) in
     IsAvailable.from_parts s parts (λ m e. met R left sc i m.site m.want l (tested s m a e) (parts m.site (source_part R s m w e)))
 
-asked_available : {C V : Type 0} (R : Rules C V) (left : List ℕ) (sc : Scope C) (i s : ℕ) → IsWellMade R → TestsItsFields R → IsLast R left sc i → Asked R i s
+asked_available : {C V : Type 0} (R : Rules C V) (left : List ℕ) (sc : Scope C) (i s : ℕ) → IsWellMade R → TestsItsFields R
+    → IsLast R left sc i → Asked R i s
     → IsAvailable R sc s
 asked_available R left sc i s w its l a =
     all_available R left sc i (Asked R i) (λ s p a m. Asked.by_part s p a m) (λ s m a e. its i s m a e) w l (suc s) s (omega arith) a
@@ -64,7 +69,8 @@ order a b n = elim (true_or (nat_le b a)) [
   | inr e ↦ inl (leb-false b a e)
 ]
 
-pub first_known : {C V : Type 0} (R : Rules C V) (left : List ℕ) (sc : Scope C) (i : ℕ) → IsWellMade R → TestsItsFields R → IsLast R left sc i → IsKnown R sc i
+pub first_known : {C V : Type 0} (R : Rules C V) (left : List ℕ) (sc : Scope C) (i : ℕ) → IsWellMade R → TestsItsFields R
+    → IsLast R left sc i → IsKnown R sc i
 first_known {C} R left sc i w its l =
     let there : (s : ℕ) → Asked R i s → IsAvailable R sc s = λ s a. asked_available R left sc i s w its l a in
     let fresh : (a b : ℕ) → R.joins i a b ≡ true → sc.passed a ≡ None = λ a b j. elim (none_or (sc.passed a)) [

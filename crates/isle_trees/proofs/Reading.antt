@@ -15,12 +15,10 @@ pub record IsCovered {C V : Type 0} (R : Rules C V) (sc : Scope C) (env : ℕ �
   pub read : (x : ℕ) → sc.emitted x ≡ true → IsReadable R env x
   pub kept : (x : ℕ) → env x ≡ true → (sc.emitted x ≡ true) ⊎ IsMulti R x
 
-read_more : {C V : Type 0} (R : Rules C V) (env to : ℕ → Bool) (x : ℕ) → ((y : ℕ) → env y ≡ true → to y ≡ true) → IsReadable R env x → IsReadable R to x
+read_more : {C V : Type 0} (R : Rules C V) (env to : ℕ → Bool) (x : ℕ) → ((y : ℕ) → env y ≡ true → to y ≡ true)
+    → IsReadable R env x → IsReadable R to x
 read_more R env to _ f (IsReadable.is_bound x e) = is_bound x (f x e)
 read_more R env to _ f (IsReadable.computed x n parts) = computed x n (λ p m. read_more R env to p f (parts p m))
-
-more_self : (env : ℕ → Bool) (x : ℕ) → more env x x ≡ true
-more_self env x = rw (eq-eqb x x refl) refl
 
 more_old : (env : ℕ → Bool) (x y : ℕ) → env y ≡ true → more env x y ≡ true
 more_old env x y e = or_right (y == x) (env y) e
@@ -28,25 +26,18 @@ more_old env x y e = or_right (y == x) (env y) e
 more_or : (env : ℕ → Bool) (x y : ℕ) → more env x y ≡ true → (y ≡ x) ⊎ (env y ≡ true)
 more_or env x y e = elim (or_holds (y == x) (env y) e) [ inl f ↦ inl (eqb-true y x f) | inr f ↦ inr f ]
 
-pub know_old : (env : ℕ → Bool) (xs : List ℕ) (y : ℕ) → env y ≡ true → know env xs y ≡ true
-know_old env [] y e = e
-know_old env (x ∷ xs) y e = know_old (more env x) xs y (more_old env x y e)
-
-know_in : (env : ℕ → Bool) (xs : List ℕ) (y : ℕ) → Elem y xs → know env xs y ≡ true
-know_in env [] y m = absurd m
-know_in env (x ∷ xs) y (inl e) = know_old (more env x) xs y (rw (eq-eqb y x e) refl)
-know_in env (x ∷ xs) y (inr m) = know_in (more env x) xs y m
-
 know_append : (env : ℕ → Bool) (xs ys : List ℕ) → know env (xs ++ ys) ≡ know (know env xs) ys
 know_append env [] ys = refl
 know_append env (x ∷ xs) ys = know_append (more env x) xs ys
 
-order_append : {C V : Type 0} (R : Rules C V) (env : ℕ → Bool) (xs ys : List ℕ) → IsInOrder R env xs → IsInOrder R (know env xs) ys → IsInOrder R env (xs ++ ys)
+order_append : {C V : Type 0} (R : Rules C V) (env : ℕ → Bool) (xs ys : List ℕ) → IsInOrder R env xs → IsInOrder R (know env xs) ys
+    → IsInOrder R env (xs ++ ys)
 order_append R env [] ys a b = b
 order_append R env (x ∷ xs) ys a b = (a.0, a.1, order_append R (more env x) xs ys (a.2) b)
 
 -- one site
-new_or : {C V : Type 0} (R : Rules C V) (sc : Scope C) (env : ℕ → Bool) (x : ℕ) → IsCovered R sc env → sc.emitted x ≡ false → (env x ≡ false) ⊎ IsMulti R x
+new_or : {C V : Type 0} (R : Rules C V) (sc : Scope C) (env : ℕ → Bool) (x : ℕ) → IsCovered R sc env → sc.emitted x ≡ false
+    → (env x ≡ false) ⊎ IsMulti R x
 new_or R sc env x c e = elim (true_or (env x)) [
   | inr n ↦ inl n
   | inl y ↦ elim (c.kept x y) [ inl f ↦ clash _ f e | inr m ↦ inr m ]
@@ -64,7 +55,8 @@ covers_bound R sc env x c = record {
   ];
 }
 
-covers_computed : {C V : Type 0} (R : Rules C V) (sc : Scope C) (env : ℕ → Bool) (x : ℕ) → R.stands x ≡ false → ((p : ℕ) → Elem p (R.parts x) → sc.emitted p ≡ true) → IsCovered R sc env → IsCovered R (emit sc x) env
+covers_computed : {C V : Type 0} (R : Rules C V) (sc : Scope C) (env : ℕ → Bool) (x : ℕ) → R.stands x ≡ false
+    → ((p : ℕ) → Elem p (R.parts x) → sc.emitted p ≡ true) → IsCovered R sc env → IsCovered R (emit sc x) env
 covers_computed R sc env x n parts c = record {
   read = λ y e. elim (or_holds (y == x) (sc.emitted y) e) [
     | inl f ↦ let P : ℕ → Type 0 = λ z. IsReadable R env z in subst P (sym (eqb-true y x f)) (computed x n (λ p m. c.read p (parts p m)))
@@ -83,7 +75,8 @@ order_closed (x ∷ xs) R sc env c o = elim (true_or (R.stands x)) [
   | inr n ↦ let ih = order_closed xs R (emit sc x) env (covers_computed R sc env x n (o.1) c) (o.2) in rw n ih
 ]
 
-binds_closed : {C V : Type 0} (R : Rules C V) (sc after : Scope C) (env : ℕ → Bool) (sites binds : List ℕ) → IsCovered R sc env → Binds R sc sites binds after
+binds_closed : {C V : Type 0} (R : Rules C V) (sc after : Scope C) (env : ℕ → Bool) (sites binds : List ℕ)
+    → IsCovered R sc env → Binds R sc sites binds after
     → IsInOrder R env binds × IsCovered R after (know env binds)
 binds_closed {C = C} R sc after env sites binds c bs =
     let one = order_closed bs.all R sc env c bs.order in
@@ -92,7 +85,8 @@ binds_closed {C = C} R sc after env sites binds c bs =
     let S : List ℕ → Type 0 = λ l. IsCovered R (emit_all sc bs.all) (know env l) in
     (subst P (sym bs.written) (one.0), subst Q (sym bs.ending) (subst S (sym bs.written) (one.1)))
 
-own_closed : {C V : Type 0} (R : Rules C V) (sc : Scope C) (env : ℕ → Bool) (u : ℕ) → IsCovered R sc env → ((env u ≡ false) ⊎ IsMulti R u) → ((p : ℕ) → Elem p (R.parts u) → sc.emitted p ≡ true)
+own_closed : {C V : Type 0} (R : Rules C V) (sc : Scope C) (env : ℕ → Bool) (u : ℕ) → IsCovered R sc env → ((env u ≡ false) ⊎ IsMulti R u)
+    → ((p : ℕ) → Elem p (R.parts u) → sc.emitted p ≡ true)
     → IsInOrder R env (own R u) × IsCovered R (emit sc u) (know env (own R u))
 own_closed R sc env u c new parts = elim (true_or (R.stands u)) [
   | inl y ↦ rw y ((new, (λ p m. c.read p (parts p m)), tt), covers_bound R sc env u c)
@@ -103,7 +97,8 @@ part_below : {C V : Type 0} (R : Rules C V) (xs : List ℕ) (n x : ℕ) → IsWe
 part_below R xs n _ w b (IsPartOf.itself s m) = b s m
 part_below R xs n _ w b (IsPartOf.of_part s p h m) = let one : s < n = part_below R xs n s w b h in let two : p < s = w.lower s p m in omega arith
 
-not_own : {C V : Type 0} (R : Rules C V) (sc mid : Scope C) (u : ℕ) (front : List ℕ) → IsWellMade R → Binds R sc (R.parts u) front mid → sc.emitted u ≡ false → mid.emitted u ≡ true → ⊥
+not_own : {C V : Type 0} (R : Rules C V) (sc mid : Scope C) (u : ℕ) (front : List ℕ) → IsWellMade R → Binds R sc (R.parts u) front mid
+    → sc.emitted u ≡ false → mid.emitted u ≡ true → ⊥
 not_own {C = C} R sc mid u front w bs e f =
     let P : Scope C → Type 0 = λ s. s.emitted u ≡ true in
     elim (emitted_or sc bs.all u (subst P bs.ending f)) [
@@ -111,7 +106,8 @@ not_own {C = C} R sc mid u front w bs e f =
       | inr g ↦ absurd (clash _ g e)
     ]
 
-each_closed : {C V : Type 0} (us : List ℕ) (R : Rules C V) (sc : Scope C) (env : ℕ → Bool) (binds : List ℕ) (after : Scope C) → IsWellMade R → IsCovered R sc env → BindsEach R sc us binds after
+each_closed : {C V : Type 0} (us : List ℕ) (R : Rules C V) (sc : Scope C) (env : ℕ → Bool) (binds : List ℕ) (after : Scope C)
+    → IsWellMade R → IsCovered R sc env → BindsEach R sc us binds after
     → IsInOrder R env binds × IsCovered R after (know env binds)
 each_closed {C = C} [] R sc env binds after w c (none, same) =
     let P : List ℕ → Type 0 = λ l. IsInOrder R env l × IsCovered R after (know env l) in
@@ -198,14 +194,16 @@ covers_arm R sc env s c w li co =
     (λ y e. elim (fields_or env (R.fields s c) y e) [ inl m ↦ inl (li.fields_made s y c m) | inr f ↦ inr f ])
     (λ y m. fields_in env (R.fields s c) y (li.fields_listed y s c m))
 
-covers_loop : {C V : Type 0} (R : Rules C V) (sc : Scope C) (env : ℕ → Bool) (s x : ℕ) → IsWellMade R → IsListed R → R.value s ≡ Some x → IsCovered R sc env
+covers_loop : {C V : Type 0} (R : Rules C V) (sc : Scope C) (env : ℕ → Bool) (s x : ℕ) → IsWellMade R → IsListed R
+    → R.value s ≡ Some x → IsCovered R sc env
     → IsCovered R (inside R sc s one_value) (more env x)
 covers_loop R sc env s x w li v co =
     covers_made R sc env (more env x) s one_value w co (more_old env x)
     (λ y e. elim (more_or env x y e) [ inl f ↦ inl (ap R.made f ∙ w.value_made s x v) | inr f ↦ inr f ])
     (λ y m. let h : Some y ≡ Some x = sym (li.value_listed y s m) ∙ v in let same : y ≡ x = cc in or_left (y == x) (env y) (eq-eqb y x same))
 
-covers_release : {C V : Type 0} (R : Rules C V) (sc : Scope C) (env : ℕ → Bool) (s : ℕ) → IsMulti R s → IsCovered R sc env → IsCovered R (release sc s) env
+covers_release : {C V : Type 0} (R : Rules C V) (sc : Scope C) (env : ℕ → Bool) (s : ℕ) → IsMulti R s → IsCovered R sc env
+    → IsCovered R (release sc s) env
 covers_release R sc env s mu c = record {
   read = λ y e. elim (true_or (y == s)) [
     | inl f ↦ let g : false ≡ true = rw f at e in cc
@@ -220,18 +218,25 @@ covers_release R sc env s mu c = record {
 covers_join : {C V : Type 0} (R : Rules C V) (sc : Scope C) (env : ℕ → Bool) (a b : ℕ) → IsCovered R sc env → IsCovered R (join sc a b) env
 covers_join R sc env a b c = record { read = c.read; kept = c.kept }
 
-returns_closed : {C V : Type 0} (T : Steps C) (R : Rules C V) (left : List ℕ) (sc : Scope C) (env : ℕ → Bool) → IsWellMade R → IsCovered R sc env → Returns R left sc T → IsClosed R env T
+returns_closed : {C V : Type 0} (T : Steps C) (R : Rules C V) (left : List ℕ) (sc : Scope C) (env : ℕ → Bool)
+    → IsWellMade R → IsCovered R sc env → Returns R left sc T → IsClosed R env T
 returns_closed done R left sc env w c b = tt
 returns_closed («match» binds s arms next) R left sc env w c b = absurd b
 returns_closed (equal binds x y body next) R left sc env w c b = absurd b
 returns_closed (loop binds x body next) R left sc env w c b = absurd b
 returns_closed (give binds i next) R left sc env w c (first, (after, each, rest)) =
     let one = each_closed (rights R i) R sc env binds after w c each in
-    let all = each_bound (rights R i) R sc binds after each in
-    (one.0, ((one.1).read (R.result i) (all.1 (R.result i) (elem_end (R.calls i) (R.result i))), returns_closed next R (without i left) after (know env binds) w (one.1) rest))
+    let all = each_bound (rights R i) R sc binds after each in (
+      one.0,
+      (
+        (one.1).read (R.result i) (all.1 (R.result i) (elem_end (R.calls i) (R.result i))),
+        returns_closed next R (without i left) after (know env binds) w (one.1) rest,
+      ),
+    )
 
 mutual
-  pub closed : {C V : Type 0} (T : Steps C) (R : Rules C V) (left : List ℕ) (sc : Scope C) (env : ℕ → Bool) → IsWellMade R → IsListed R → IsCovered R sc env → Builds R left sc T → IsClosed R env T
+  pub closed : {C V : Type 0} (T : Steps C) (R : Rules C V) (left : List ℕ) (sc : Scope C) (env : ℕ → Bool)
+      → IsWellMade R → IsListed R → IsCovered R sc env → Builds R left sc T → IsClosed R env T
   closed done R left sc env w li c b = tt
   closed (give binds i next) R left sc env w li c b = returns_closed (give binds i next) R left sc env w c (b.1)
   closed («match» binds s arms next) R left sc env w li c (best, (after, bs, inner, rest)) =
@@ -253,7 +258,8 @@ mutual
           (
             (one.1).read y (bs.bound y (inr (inl refl))),
             (
-              closed body R (counted R (on_equal x y) left) (join after x y) (know env binds) w li (covers_join R after (know env binds) x y (one.1)) inner,
+              closed body R (counted R (on_equal x y) left) (join after x y) (know env binds) w li
+                  (covers_join R after (know env binds) x y (one.1)) inner,
               closed next R (others R (on_equal x y) left) after (know env binds) w li (one.1) rest,
             ),
           ),
@@ -267,13 +273,16 @@ mutual
         (
           (s, value, here),
           (
-            closed body R (counted R (on_loop s) left) (inside R after s one_value) (more (know env binds) x) w li (covers_loop R after (know env binds) s x w li value (one.1)) inner,
-            closed next R (others R (on_loop s) left) (release after s) (know env binds) w li (covers_release R after (know env binds) s mu (one.1)) rest,
+            closed body R (counted R (on_loop s) left) (inside R after s one_value) (more (know env binds) x) w li
+                (covers_loop R after (know env binds) s x w li value (one.1)) inner,
+            closed next R (others R (on_loop s) left) (release after s) (know env binds) w li
+                (covers_release R after (know env binds) s mu (one.1)) rest,
           ),
         ),
       )
 
-  pub closed_arms : {C V : Type 0} (arms : Arms C) (R : Rules C V) (left : List ℕ) (sc : Scope C) (s : ℕ) (env : ℕ → Bool) → IsWellMade R → IsListed R → IsCovered R sc env
+  pub closed_arms : {C V : Type 0} (arms : Arms C) (R : Rules C V) (left : List ℕ) (sc : Scope C) (s : ℕ) (env : ℕ → Bool)
+      → IsWellMade R → IsListed R → IsCovered R sc env
       → BuildsArms R left sc s arms → AreClosed R env s arms
   closed_arms no_arm R left sc s env w li co b = tt
   closed_arms (arm c bindings body later) R left sc s env w li co b = (

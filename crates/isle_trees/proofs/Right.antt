@@ -36,12 +36,14 @@ pub record IsOn {C V : Type 0} (R : Rules C V) (r : Answers V) (left : List ℕ)
   pub no_multi : UsesNoMulti R left
 
 -- what an order binds has its parts bound
-order_parts : {C V : Type 0} (R : Rules C V) (sc : Scope C) (xs : List ℕ) (x p : ℕ) → IsOrder R sc xs → Elem x xs → Elem p (R.parts x) → (emit_all sc xs).emitted p ≡ true
+order_parts : {C V : Type 0} (R : Rules C V) (sc : Scope C) (xs : List ℕ) (x p : ℕ) → IsOrder R sc xs → Elem x xs
+    → Elem p (R.parts x) → (emit_all sc xs).emitted p ≡ true
 order_parts R sc [] x p o m n = absurd m
 order_parts R sc (y ∷ ys) x p o (inl e) n = still_emitted sc (y ∷ ys) p (o.1 p (subst (λ (z : ℕ). Elem p (R.parts z)) e n))
 order_parts R sc (y ∷ ys) x p o (inr m) n = order_parts R (emit sc y) ys x p (o.2) m n
 
-on_fewer : {C V : Type 0} (R : Rules C V) (r : Answers V) (left less : List ℕ) (sc : Scope C) → ((i : ℕ) → Elem i less → Elem i left) → IsOn R r left sc → IsOn R r less sc
+on_fewer : {C V : Type 0} (R : Rules C V) (r : Answers V) (left less : List ℕ) (sc : Scope C) → ((i : ℕ) → Elem i less → Elem i left)
+    → IsOn R r left sc → IsOn R r less sc
 on_fewer R r left less sc f o = record {
   carries = fewer_carry R left less sc f o.carries;
   holds = o.holds;
@@ -51,7 +53,8 @@ on_fewer R r left less sc f o = record {
   no_multi = λ i s m. o.no_multi i s (f i m);
 }
 
-on_bound : {C V : Type 0} (R : Rules C V) (r v : Answers V) (left : List ℕ) (sc after : Scope C) (t : Test) (binds : List ℕ) → IsRun R r v → IsOn R r left sc
+on_bound : {C V : Type 0} (R : Rules C V) (r v : Answers V) (left : List ℕ) (sc after : Scope C) (t : Test) (binds : List ℕ)
+    → IsRun R r v → IsOn R r left sc
     → IsBest R left sc t → Binds R sc (sites_of t) binds after → AllValued r after → IsOn R r left after
 on_bound {C} R r v left sc after t binds u o best bs valued = record {
   carries = subst (λ (c : Scope C). Carries R left c) (sym bs.ending) (carries_bound R left sc bs.all o.carries);
@@ -69,7 +72,8 @@ on_bound {C} R r v left sc after t binds u o best bs valued = record {
   no_multi = o.no_multi;
 }
 
-on_inside : {C V : Type 0} (R : Rules C V) (r v : Answers V) (left : List ℕ) (sc : Scope C) (s : ℕ) (c : C) → IsRun R r v → sc.emitted s ≡ true → passes_got R c (r s) ≡ true → IsOn R r left sc
+on_inside : {C V : Type 0} (R : Rules C V) (r v : Answers V) (left : List ℕ) (sc : Scope C) (s : ℕ) (c : C)
+    → IsRun R r v → sc.emitted s ≡ true → passes_got R c (r s) ≡ true → IsOn R r left sc
     → IsOn R r (wanting R s c left) (inside R sc s (has c))
 on_inside R r v left sc s c u there p o = record {
   carries = carries_inside R left _ sc s (has c) o.carries (wanting_has R left s c u.made);
@@ -82,15 +86,26 @@ on_inside R r v left sc s c u there p o = record {
     | inl f ↦ absurd (clash (R.effect x) g (u.made.field_pure x _ (source_made R s (has c) _ u.made f)))
     | inr f ↦ o.calm x g f
   ];
-  closed = λ x q e m. or_right (is_source R.tests s (has c) (R.made q)) (sc.emitted q) (elim (or_holds (is_source R.tests s (has c) (R.made x)) (sc.emitted x) e) [
-    | inl f ↦ let n : Elem q (s ∷ []) = subst (λ (l : List ℕ). Elem q l) (u.made.source x _ (source_made R s (has c) _ u.made f)) m in elim n [ inl k ↦ ap sc.emitted k ∙ there | inr b ↦ absurd b ]
-    | inr f ↦ o.closed x q f m
-  ]);
+  closed = λ x q e m. or_right (is_source R.tests s (has c) (R.made q)) (sc.emitted q)
+      (elim (or_holds (is_source R.tests s (has c) (R.made x)) (sc.emitted x) e) [
+        | inl f ↦ let n : Elem q (s ∷ []) = subst (λ (l : List ℕ). Elem q l) (u.made.source x _ (source_made R s (has c) _ u.made f)) m in
+            elim n [ inl k ↦ ap sc.emitted k ∙ there | inr b ↦ absurd b ]
+        | inr f ↦ o.closed x q f m
+      ]);
   no_multi = λ i t m. o.no_multi i t ((from_filter _ left i m).0);
 }
 
-on_join : {C V : Type 0} (R : Rules C V) (r : Answers V) (left : List ℕ) (sc : Scope C) (a b : ℕ) → r a ≡ r b → HasValue (r a) → IsOn R r left sc → IsOn R r left (join sc a b)
-on_join R r left sc a b e g o = record { carries = o.carries; holds = holds_join R r sc a b o.holds e g; valued = o.valued; calm = o.calm; closed = o.closed; no_multi = o.no_multi }
+on_join : {C V : Type 0} (R : Rules C V) (r : Answers V) (left : List ℕ) (sc : Scope C) (a b : ℕ) → r a ≡ r b
+    → HasValue (r a) → IsOn R r left sc → IsOn R r left (join sc a b)
+on_join R r left sc a b e g o = record {
+  carries = o.carries;
+  holds = holds_join R r sc a b o.holds e g;
+  valued =
+      o.valued;
+  calm = o.calm;
+  closed = o.closed;
+  no_multi = o.no_multi;
+}
 
 -- what an outcome under what a run knows says
 abbrev pub Finds : {C V : Type 0} → Rules C V → (r v : Answers V) → List ℕ → Outcome → Type 0
@@ -104,7 +119,8 @@ abbrev pub Says : {C V : Type 0} → Rules C V → (r v : Answers V) → List �
 Says R r v left o p m n = Finds R r v left o × Stays r v o p m n
 
 -- where it leaves off, more rules may be left
-more_off : {C V : Type 0} (R : Rules C V) (r : Answers V) (less left : List ℕ) (o : Outcome) → ((i : ℕ) → Elem i less → Elem i left) → LeavesOff R r less o → LeavesOff R r left o
+more_off : {C V : Type 0} (R : Rules C V) (r : Answers V) (less left : List ℕ) (o : Outcome) → ((i : ℕ) → Elem i less → Elem i left)
+    → LeavesOff R r less o → LeavesOff R r left o
 more_off R r less left (chooses i b e) f (m, w, h) = (f i m, w, h)
 more_off R r less left ends f h = h
 more_off R r less left (waits s) f ((i, m, a), h) = ((i, f i m, a), h)
@@ -123,7 +139,8 @@ more_says : {C V : Type 0} (R : Rules C V) (r v : Answers V) (less left : List �
 more_says R r v less left o p m n f g ((h, b, k), x) = ((more_off R r less left o f h, b, more_sure R v less left o f g k), x)
 
 -- two parts of the rules, the first above the second
-both_find : {C V : Type 0} (R : Rules C V) (r v : Answers V) (t : Test) (left : List ℕ) (o q : Outcome) → Finds R r v (counted R t left) o → Finds R r v (others R t left) q
+both_find : {C V : Type 0} (R : Rules C V) (r v : Answers V) (t : Test) (left : List ℕ) (o q : Outcome) → Finds R r v (counted R t left) o
+    → Finds R r v (others R t left) q
     → Finds R r v left (and_then o q)
 both_find R r v t left (chooses i b e) q (op, in_order, (h, w, top, end)) x = (
   more_off R r (counted R t left) left (chooses i b e) (counted_left R t left) op,
@@ -133,7 +150,12 @@ both_find R r v t left (chooses i b e) q (op, in_order, (h, w, top, end)) x = (
 both_find R r v t left ends q (op, b, h) (off, in_order, x) = (more_off R r (others R t left) left q (others_left R t left) off, in_order, later q x)
   where
     later : (q : Outcome) → IsSure R v (others R t left) q → IsSure R v left q
-    later (chooses i b e) (d, w, top, end) = (others_left R t left i d, w, (λ j a wj. elim (counted_or R t left j a) [ inl y ↦ absurd (h j y wj) | inr y ↦ top j y wj ]), end)
+    later (chooses i b e) (d, w, top, end) = (
+      others_left R t left i d,
+      w,
+      (λ j a wj. elim (counted_or R t left j a) [ inl y ↦ absurd (h j y wj) | inr y ↦ top j y wj ]),
+      end,
+    )
     later ends g = λ j a wj. elim (counted_or R t left j a) [ inl y ↦ h j y wj | inr y ↦ g j y wj ]
     later (waits d) g = g
     later stops g = g
@@ -148,17 +170,21 @@ more_steps v stops k m n h = ap (λ (y : ℕ). k + y) h
 
 both_stay : {V : Type 0} (r v : Answers V) (o p q s : Outcome) (k l m n : ℕ) → Stays r v o p k l → Stays r v q s m n
     → Stays r v (and_then o q) (and_then p s) (k + after o m) (l + after p n)
-both_stay r v (chooses i b e) p q s k l m n f g = λ ext. let ((c, more, is, same), steps) = f ext in ((c, more, ap (λ (y : Outcome). and_then y s) is, same), rw (is, steps) refl)
+both_stay r v (chooses i b e) p q s k l m n f g = λ ext. let ((c, more, is, same), steps) = f ext in
+    ((c, more, ap (λ (y : Outcome). and_then y s) is, same), rw (is, steps) refl)
 both_stay r v ends p q s k l m n f g = λ ext. let (is, steps) = f ext in rw (is, steps) (let (x, y) = g ext in (x, more_steps v q k m n y))
-both_stay r v (waits d) p q s k l m n f g = λ ext. let (is, steps) = f ext in ((λ u. ap (λ (y : Outcome). and_then y s) (is u)), λ u. rw (is u, steps u) refl)
+both_stay r v (waits d) p q s k l m n f g = λ ext. let (is, steps) = f ext in
+    ((λ u. ap (λ (y : Outcome). and_then y s) (is u)), λ u. rw (is u, steps u) refl)
 both_stay r v stops p q s k l m n f g = λ ext. let (is, steps) = f ext in (ap (λ (y : Outcome). and_then y s) is, rw (is, steps) refl)
 
-both_say : {C V : Type 0} (R : Rules C V) (r v : Answers V) (t : Test) (left : List ℕ) (o p q s : Outcome) (k l m n : ℕ) → Says R r v (counted R t left) o p k l
+both_say : {C V : Type 0} (R : Rules C V) (r v : Answers V) (t : Test) (left : List ℕ) (o p q s : Outcome) (k l m n : ℕ)
+    → Says R r v (counted R t left) o p k l
     → Says R r v (others R t left) q s m n → Says R r v left (and_then o q) (and_then p s) (k + after o m) (l + after p n)
 both_say R r v t left o p q s k l m n (f, g) (x, y) = (both_find R r v t left o q f x, both_stay r v o p q s k l m n g y)
 
 -- where the test of an equality fails, no rule that has it matches
-pub unequal : {C V : Type 0} (R : Rules C V) (v : Answers V) (a b i : ℕ) → IsWellMade R → a < b → R.joins i a b ≡ true → alike_got R (v a) (v b) ≡ false → Matches R v i → ⊥
+pub unequal : {C V : Type 0} (R : Rules C V) (v : Answers V) (a b i : ℕ) → IsWellMade R → a < b → R.joins i a b ≡ true
+    → alike_got R (v a) (v b) ≡ false → Matches R v i → ⊥
 unequal R v a b i w l j e m =
     let eq = m.equals a b j (λ p. omega arith) in
     clash (alike_got R (v a) (v b)) (alike_full R (v a) (v b) w (eq.0) (eq.1)) e
@@ -167,7 +193,8 @@ at_most : (m n : ℤ) (i j : ℕ) → (m <ℤ n) ⊎ ((m ≡ n) × (i ≤ j)) �
 at_most m n i j (inl l) = omega (arith, ints)
 at_most m n i j (inr p) = let e : m ≡ n = p.0 in omega (arith, ints)
 
-pub first_last : {C V : Type 0} (R : Rules C V) (left : List ℕ) (sc : Scope C) (i : ℕ) → Carries R left sc → HasNoTest R left sc → IsFirst R left i → IsLast R left sc i
+pub first_last : {C V : Type 0} (R : Rules C V) (left : List ℕ) (sc : Scope C) (i : ℕ) → Carries R left sc
+    → HasNoTest R left sc → IsFirst R left i → IsLast R left sc i
 first_last R left sc i c none f = record { carries = c; none = none; there = f.0; top = λ j m. at_most _ _ _ _ (f.1 j m) }
 
 -- what a rule's tests ask and a run knows is so under the other answers
@@ -191,20 +218,23 @@ matches_more R r v i u m = record {
 }
 
 -- how the first return ends
-end_finds : {C V : Type 0} (R : Rules C V) (r v : Answers V) (i : ℕ) (b : Bound) (e : List ℕ) → Ends R r v (R.calls i) (R.result i) b e → LeavesOffIn R r i b e × IsEnd R v i b e
+end_finds : {C V : Type 0} (R : Rules C V) (r v : Answers V) (i : ℕ) (b : Bound) (e : List ℕ) → Ends R r v (R.calls i) (R.result i) b e
+    → LeavesOffIn R r i b e × IsEnd R v i b e
 end_finds R r v i (opens s) e h = (h, tt)
 end_finds R r v i goes e h = h
 end_finds R r v i breaks e h = h
 
 -- the first return
-first_says : {C V : Type 0} (R : Rules C V) (r v : Answers V) (left : List ℕ) (sc after : Scope C) (i : ℕ) (binds : List ℕ) → IsRun R r v → IsOn R r left sc
+first_says : {C V : Type 0} (R : Rules C V) (r v : Answers V) (left : List ℕ) (sc after : Scope C) (i : ℕ) (binds : List ℕ)
+    → IsRun R r v → IsOn R r left sc
     → HasNoTest R left sc → IsFirst R left i → BindsEach R sc (rights R i) binds after
     → Says R r v left (chooses i (bind r binds) (events R r binds)) (chooses i (bind v binds) (events R v binds)) 1 1
 first_says R r v left sc after i binds u o none f b =
     let last = first_last R left sc i o.carries none f in
     let w = known_matches R r sc i o.holds (first_known R left sc i u.made u.single.tested last) in
     let end = end_finds R r v i (bind r binds) (events R r binds)
-    (leaf (R.calls i) R r v (R.result i) sc [] binds after u.made u.respects u.agree u.strict o.valued o.calm (λ x m. absurd m) (u.single.first i) b) in (
+    (leaf (R.calls i) R r v (R.result i) sc [] binds after u.made u.respects u.agree u.strict o.valued o.calm
+    (λ x m. absurd m) (u.single.first i) b) in (
       (
         (f.0, w, end.0),
         record {
@@ -231,7 +261,8 @@ pub match_wants : {C V : Type 0} (R : Rules C V) (left : List ℕ) (s : ℕ) →
 match_wants R left s i m = test_of _ ((counted_has R (on_match s) left i m).1)
 
 -- a rule that wants another test doesn't match, nor one that wants this one where it fails
-pub wants_this : {C V : Type 0} (R : Rules C V) (v : Answers V) (left : List ℕ) (s : ℕ) (c : C) → IsWellMade R → AllWant R left s → ((i : ℕ) × Elem i left × (R.at i s ≡ Some (has c)))
+pub wants_this : {C V : Type 0} (R : Rules C V) (v : Answers V) (left : List ℕ) (s : ℕ) (c : C) → IsWellMade R
+    → AllWant R left s → ((i : ℕ) × Elem i left × (R.at i s ≡ Some (has c)))
     → passes_got R c (v s) ≡ true → (j : ℕ) → Elem j left → Matches R v j → Elem j (wanting R s c left)
 wants_this {C} R v left s c w want (i, mi, at_i) p j m k =
     let d = want j m in
@@ -249,14 +280,17 @@ no_loop : {C V : Type 0} (R : Rules C V) (r : Answers V) (left : List ℕ) (sc :
 no_loop R r left sc s o best = let one = some_counted R left sc (on_loop s) best in o.no_multi (one.0) s (one.1) (one_of _ (one.2))
 
 -- a step that opens
-step_opens : {C V : Type 0} (R : Rules C V) (r v : Answers V) (left binds : List ℕ) (s : ℕ) → bind r binds ≡ opens s → IsAskedBy R left s → IsOpen R r s
-    → (o p : Outcome) (m n : ℕ) → Says R r v left (after_bound (bind r binds) o) (after_bound (bind v binds) p) (1 + if_bound (bind r binds) m) (1 + if_bound (bind v binds) n)
+step_opens : {C V : Type 0} (R : Rules C V) (r v : Answers V) (left binds : List ℕ) (s : ℕ) → bind r binds ≡ opens s
+    → IsAskedBy R left s → IsOpen R r s
+    → (o p : Outcome) (m n : ℕ) → Says R r v left (after_bound (bind r binds) o) (after_bound (bind v binds) p)
+    (1 + if_bound (bind r binds) m) (1 + if_bound (bind v binds) n)
 step_opens R r v left binds s e a op o p m n =
     let same : Extends r v → v s ≡ unknown → bind v binds ≡ opens s = λ ext k. ((bind_kept binds R r v ext).2 (rw e k)).0 ∙ e in
     rw e (((a, op), tt, tt), λ ext. ((λ k. rw (same ext k) refl), λ k. rw (same ext k) refl))
 
 -- and one that goes on
-step_goes : {C V : Type 0} (R : Rules C V) (r v : Answers V) (left binds : List ℕ) → bind r binds ≡ goes → (o p : Outcome) (m n : ℕ) → Says R r v left o p m n
+step_goes : {C V : Type 0} (R : Rules C V) (r v : Answers V) (left binds : List ℕ) → bind r binds ≡ goes → (o p : Outcome) (m n : ℕ)
+    → Says R r v left o p m n
     → Says R r v left (after_bound (bind r binds) o) (after_bound (bind v binds) p) (1 + if_bound (bind r binds) m) (1 + if_bound (bind v binds) n)
 step_goes R r v left binds e o p m n (h, k) = (
   rw e h,
@@ -266,7 +300,8 @@ step_goes R r v left binds e o p m n (h, k) = (
 )
 
 mutual
-  pub says : {C V : Type 0} (t : Steps C) (R : Rules C V) (r v : Answers V) (left : List ℕ) (sc : Scope C) → IsRun R r v → IsOn R r left sc → Builds R left sc t
+  pub says : {C V : Type 0} (t : Steps C) (R : Rules C V) (r v : Answers V) (left : List ℕ) (sc : Scope C)
+      → IsRun R r v → IsOn R r left sc → Builds R left sc t
       → Says R r v left (walk R r t) (walk R v t) (reached R r t) (reached R v t)
   says done R r v left sc u o b = ((tt, tt, (λ j m _. rw b at m)), λ ext. (refl, refl))
   says (give binds i next) R r v left sc u o b = first_says R r v left sc (b.1.1.0) i binds u o (b.0) (b.1.0) (b.1.1.1)
@@ -289,13 +324,16 @@ mutual
             let its = some_counted R left sc (on_equal a b) best in
             let ga : HasValue (r a) = g.1 a (bs.bound a (inl refl)) in
             let ea : v a ≡ r a = asked_value R r v (its.0) a u (Asked.by_class a b (its.2)) ga in
-            let eb : v b ≡ r b = asked_value R r v (its.0) b u (Asked.by_class b a (u.made.both (its.0) a b (its.2))) (g.1 b (bs.bound b (inr (inl refl)))) in
-            let one : Says R r v (counted R (on_equal a b) left) (if alike_got R (r a) (r b) then walk R r body else ends) (if alike_got R (v a) (v b) then walk R v body else ends)
+            let eb : v b ≡ r b = asked_value R r v (its.0) b u (Asked.by_class b a (u.made.both (its.0) a b (its.2)))
+            (g.1 b (bs.bound b (inr (inl refl)))) in
+            let one : Says R r v (counted R (on_equal a b) left) (if alike_got R (r a) (r b) then walk R r body else ends)
+            (if alike_got R (v a) (v b) then walk R v body else ends)
             (if alike_got R (r a) (r b) then reached R r body else 0) (if alike_got R (v a) (v b) then reached R v body else 0) =
             elim (true_or (alike_got R (r a) (r b))) [
               | inl y ↦ rw (ea, eb, y) (
                   says body R r v (counted R (on_equal a b) left) (join after a b) u
-                  (on_join R r (counted R (on_equal a b) left) after a b (alike_sound R (r a) (r b) u.made y) ga (on_fewer R r left _ after (counted_left R (on_equal a b) left) on)) inner)
+                  (on_join R r (counted R (on_equal a b) left) after a b (alike_sound R (r a) (r b) u.made y) ga
+                  (on_fewer R r left _ after (counted_left R (on_equal a b) left) on)) inner)
               | inr n ↦ rw (ea, eb, n) (
                 (tt, tt, (λ j m mj. unequal R v a b j u.made (best.ready.0) ((counted_has R (on_equal a b) left j m).1) (rw (ea, eb) n) mj)),
                 λ ext. (refl, refl),
@@ -305,16 +343,20 @@ mutual
             (says next R r v (others R (on_equal a b) left) after u (on_fewer R r left _ after (others_left R (on_equal a b) left) on) rest))
       ]
 
-  pub arms_say : {C V : Type 0} (arms : Arms C) (R : Rules C V) (r v : Answers V) (left : List ℕ) (sc : Scope C) (s : ℕ) → IsRun R r v → IsOn R r left sc → sc.emitted s ≡ true
-      → AllWant R left s → BuildsArms R left sc s arms → Says R r v left (walk_arms R r s arms) (walk_arms R v s arms) (reached_arms R r s arms) (reached_arms R v s arms)
+  pub arms_say : {C V : Type 0} (arms : Arms C) (R : Rules C V) (r v : Answers V) (left : List ℕ) (sc : Scope C) (s : ℕ)
+      → IsRun R r v → IsOn R r left sc → sc.emitted s ≡ true
+      → AllWant R left s → BuildsArms R left sc s arms → Says R r v left (walk_arms R r s arms) (walk_arms R v s arms)
+      (reached_arms R r s arms) (reached_arms R v s arms)
   arms_say no_arm R r v left sc s u o there want b = ((tt, tt, (λ j m _. rw b at m)), λ ext. (refl, refl))
   arms_say (arm c bindings body more) R r v left sc s u o there want b =
       let e : v s ≡ r s = asked_value R r v (b.0.0.0) s u (Asked.by_demand s (has c) (b.0.0.2)) (o.valued s there) in
       elim (true_or (passes_got R c (r s))) [
-        | inl y ↦ rw (e, y) (more_says R r v (wanting R s c left) left (walk R r body) (walk R v body) (reached R r body) (reached R v body) (λ i m. (from_filter _ left i m).0)
+        | inl y ↦ rw (e, y) (more_says R r v (wanting R s c left) left (walk R r body) (walk R v body) (reached R r body)
+            (reached R v body) (λ i m. (from_filter _ left i m).0)
             (wants_this R v left s c u.made want (b.0.0) (rw e y))
             (says body R r v (wanting R s c left) (inside R sc s (has c)) u (on_inside R r v left sc s c u there y o) (b.2)))
-        | inr n ↦ rw (e, n) (more_says R r v (not_wanting R s c left) left (walk_arms R r s more) (walk_arms R v s more) (reached_arms R r s more) (reached_arms R v s more)
+        | inr n ↦ rw (e, n) (more_says R r v (not_wanting R s c left) left (walk_arms R r s more) (walk_arms R v s more)
+            (reached_arms R r s more) (reached_arms R v s more)
             (λ i m. (from_filter _ left i m).0)
             (wants_other R v left s c u.made (rw e n))
             (arms_say more R r v (not_wanting R s c left) sc s u (on_fewer R r left _ sc (λ i m. (from_filter _ left i m).0) o) there

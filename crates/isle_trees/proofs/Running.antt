@@ -22,7 +22,8 @@ pub record IsServed {C V : Type 0} (R : Rules C V) (makes : Makes V) (v : Answer
   pub respects : Respects R v
   pub by : IsMadeBy R makes v
 
-gathered : {V : Type 0} (v : Answers V) (f : ℕ → Got V) (ps : List ℕ) → ((p : ℕ) → Elem p ps → (y : V) × (v p ≡ gives y) × (f p ≡ gives y)) → (xs : List V) × (gather f ps ≡ Some xs) × AreValues v ps xs
+gathered : {V : Type 0} (v : Answers V) (f : ℕ → Got V) (ps : List ℕ) → ((p : ℕ) → Elem p ps → (y : V) × (v p ≡ gives y) × (f p ≡ gives y))
+    → (xs : List V) × (gather f ps ≡ Some xs) × AreValues v ps xs
 gathered v f [] h = ([], refl, tt)
 gathered v f (p ∷ ps) h =
     let one = h p (inl refl) in
@@ -30,7 +31,8 @@ gathered v f (p ∷ ps) h =
     (one.0 ∷ rest.0, rw (one.2, rest.1) refl, (one.1, rest.2))
 
 -- a read gives the value
-pub reads : {C V : Type 0} (R : Rules C V) (makes : Makes V) (v : Answers V) (dom : ℕ → Bool) (env : Env V) → IsWellMade R → IsServed R makes v → IsFilledBy v dom env
+pub reads : {C V : Type 0} (R : Rules C V) (makes : Makes V) (v : Answers V) (dom : ℕ → Bool) (env : Env V)
+    → IsWellMade R → IsServed R makes v → IsFilledBy v dom env
     → (n s : ℕ) → s < n → IsReadable R dom s → (y : V) × (v s ≡ gives y) × (read R makes env n s ≡ gives y)
 reads R makes v dom env w mb fi zero s l a = absurd (omega arith)
 reads R makes v dom env w mb fi (suc n) _ l (IsReadable.is_bound s e) =
@@ -45,17 +47,20 @@ reads {V = V} R makes v dom env w mb fi (suc n) _ l (IsReadable.computed s ns pa
       | inl none ↦ (has.0, has.1, rw (none, ns, g.1) (sym (mb.by.of_parts s (g.0) (g.2)) ∙ has.1))
     ]
 
-read_value : {C V : Type 0} (R : Rules C V) (makes : Makes V) (v : Answers V) (dom : ℕ → Bool) (env : Env V) (s : ℕ) → IsWellMade R → IsServed R makes v → IsFilledBy v dom env → IsReadable R dom s → value_in R makes env s ≡ v s
+read_value : {C V : Type 0} (R : Rules C V) (makes : Makes V) (v : Answers V) (dom : ℕ → Bool) (env : Env V) (s : ℕ)
+    → IsWellMade R → IsServed R makes v → IsFilledBy v dom env → IsReadable R dom s → value_in R makes env s ≡ v s
 read_value R makes v dom env s w mb fi a = let r = reads R makes v dom env w mb fi (suc s) s (omega arith) a in r.2 ∙ sym (r.1)
 
 -- a site whose parts are at hand is what it is
-made_value : {C V : Type 0} (R : Rules C V) (makes : Makes V) (v : Answers V) (dom : ℕ → Bool) (env : Env V) (x : ℕ) → IsWellMade R → IsServed R makes v → IsFilledBy v dom env
+made_value : {C V : Type 0} (R : Rules C V) (makes : Makes V) (v : Answers V) (dom : ℕ → Bool) (env : Env V) (x : ℕ)
+    → IsWellMade R → IsServed R makes v → IsFilledBy v dom env
     → ((p : ℕ) → Elem p (R.parts x) → IsReadable R dom p) → made_in R makes env x ≡ v x
 made_value R makes v dom env x w mb fi parts =
     let g = gathered v (value_in R makes env) (R.parts x) (λ p m. reads R makes v dom env w mb fi (suc p) p (omega arith) (parts p m)) in
     rw (g.1) (sym (mb.by.of_parts x (g.0) (g.2)))
 
-put_more : {V : Type 0} (v : Answers V) (dom : ℕ → Bool) (env : Env V) (x : ℕ) (y : V) → v x ≡ gives y → IsFilledBy v dom env → IsFilledBy v (more dom x) (put env x (gives y))
+put_more : {V : Type 0} (v : Answers V) (dom : ℕ → Bool) (env : Env V) (x : ℕ) (y : V) → v x ≡ gives y → IsFilledBy v dom env
+    → IsFilledBy v (more dom x) (put env x (gives y))
 put_more v dom env x y e fi = record {
   there = λ z f. elim (true_or (z == x)) [
     | inl q ↦ (y, rw q refl)
@@ -73,7 +78,8 @@ Runs R makes v dom env binds =
     (bound_by R makes env binds ≡ bind v binds) × (events_by R makes env binds ≡ events R v binds)
     × (bind v binds ≡ goes → IsFilledBy v (know dom binds) (env_after R makes env binds))
 
-binds_run : {C V : Type 0} (binds : List ℕ) (R : Rules C V) (makes : Makes V) (v : Answers V) (dom : ℕ → Bool) (env : Env V) → IsWellMade R → IsServed R makes v → IsFilledBy v dom env → IsInOrder R dom binds
+binds_run : {C V : Type 0} (binds : List ℕ) (R : Rules C V) (makes : Makes V) (v : Answers V) (dom : ℕ → Bool) (env : Env V)
+    → IsWellMade R → IsServed R makes v → IsFilledBy v dom env → IsInOrder R dom binds
     → Runs R makes v dom env binds
 binds_run [] R makes v dom env w mb fi o = (refl, refl, λ e. fi)
 binds_run (x ∷ xs) R makes v dom env w mb fi o =
@@ -89,8 +95,10 @@ binds_run (x ∷ xs) R makes v dom env w mb fi o =
     ]
 
 -- the fields of an arm
-fields_run : {C V : Type 0} (bs : List (Option ℕ)) (R : Rules C V) (makes : Makes V) (v : Answers V) (dom : ℕ → Bool) (env : Env V) → IsWellMade R → IsServed R makes v → IsFilledBy v dom env
-    → ((x : ℕ) → Elem (Some x) bs → HasValue (v x) × ((to : ℕ → Bool) → ((y : ℕ) → dom y ≡ true → to y ≡ true) → (p : ℕ) → Elem p (R.parts x) → IsReadable R to p))
+fields_run : {C V : Type 0} (bs : List (Option ℕ)) (R : Rules C V) (makes : Makes V) (v : Answers V) (dom : ℕ → Bool) (env : Env V)
+    → IsWellMade R → IsServed R makes v → IsFilledBy v dom env
+    → ((x : ℕ) → Elem (Some x) bs → HasValue (v x) × ((to : ℕ → Bool) → ((y : ℕ) → dom y ≡ true → to y ≡ true)
+    → (p : ℕ) → Elem p (R.parts x) → IsReadable R to p))
     → IsFilledBy v (know_fields dom bs) (env_fields R makes env bs)
 fields_run [] R makes v dom env w mb fi h = fi
 fields_run (None ∷ bs) R makes v dom env w mb fi h = fields_run bs R makes v dom env w mb fi (λ x m. h x (inr m))
@@ -109,16 +117,19 @@ step_same b breaks x y e f = rw e refl
 two_same : (a b c d : Outcome) → a ≡ c → b ≡ d → and_then a b ≡ and_then c d
 two_same a b c d e f = ap (λ (x : Outcome). and_then x b) e ∙ ap (λ (x : Outcome). and_then c x) f
 
-read_later : {C V : Type 0} (R : Rules C V) (dom to : ℕ → Bool) (s : ℕ) → ((y : ℕ) → dom y ≡ true → to y ≡ true) → IsReadable R dom s → IsReadable R to s
+read_later : {C V : Type 0} (R : Rules C V) (dom to : ℕ → Bool) (s : ℕ) → ((y : ℕ) → dom y ≡ true → to y ≡ true)
+    → IsReadable R dom s → IsReadable R to s
 read_later R dom to _ f (IsReadable.is_bound s e) = is_bound s (f s e)
 read_later R dom to _ f (IsReadable.computed s n parts) = computed s n (λ p m. read_later R dom to p f (parts p m))
 
-only_part : {C V : Type 0} (R : Rules C V) (dom to : ℕ → Bool) (s q : ℕ) → ((y : ℕ) → dom y ≡ true → to y ≡ true) → IsReadable R dom s → Elem q (s ∷ []) → IsReadable R to q
+only_part : {C V : Type 0} (R : Rules C V) (dom to : ℕ → Bool) (s q : ℕ) → ((y : ℕ) → dom y ≡ true → to y ≡ true)
+    → IsReadable R dom s → Elem q (s ∷ []) → IsReadable R to q
 only_part R dom to s q f a (inl e) = subst (IsReadable R to) (sym e) (read_later R dom to s f a)
 only_part R dom to s q f a (inr m) = absurd m
 
 mutual
-  pub runs : {C V : Type 0} (T : Steps C) (R : Rules C V) (makes : Makes V) (v : Answers V) (dom : ℕ → Bool) (env : Env V) → IsWellMade R → IsServed R makes v → IsFilledBy v dom env → IsClosed R dom T
+  pub runs : {C V : Type 0} (T : Steps C) (R : Rules C V) (makes : Makes V) (v : Answers V) (dom : ℕ → Bool) (env : Env V)
+      → IsWellMade R → IsServed R makes v → IsFilledBy v dom env → IsClosed R dom T
       → run R makes T env ≡ walk R v T
   runs done R makes v dom env w mb fi c = refl
   runs (loop binds x body next) R makes v dom env w mb fi c = refl
@@ -136,12 +147,14 @@ mutual
       let p = read_value R makes v (know dom binds) (env_after R makes env binds) x w mb (b.2 e) first in
       let q = read_value R makes v (know dom binds) (env_after R makes env binds) y w mb (b.2 e) second in
       let ih = runs body R makes v (know dom binds) (env_after R makes env binds) w mb (b.2 e) inner in
-      two_same _ _ _ _ (ap (λ (g : Got V). if alike_got R g (value_in R makes (env_after R makes env binds) y) then run R makes body (env_after R makes env binds) else ends) p
+      two_same _ _ _ _ (ap (λ (g : Got V). if alike_got R g (value_in R makes (env_after R makes env binds) y) then run R makes body
+      (env_after R makes env binds) else ends) p
       ∙ ap (λ (g : Got V). if alike_got R (v x) g then run R makes body (env_after R makes env binds) else ends) q
       ∙ ap (λ (o : Outcome). if alike_got R (v x) (v y) then o else ends) ih)
       (runs next R makes v (know dom binds) (env_after R makes env binds) w mb (b.2 e) rest))
 
-  pub runs_arms : {C V : Type 0} (arms : Arms C) (R : Rules C V) (makes : Makes V) (v : Answers V) (dom : ℕ → Bool) (env : Env V) (s : ℕ) → IsWellMade R → IsServed R makes v → IsFilledBy v dom env → IsReadable R dom s
+  pub runs_arms : {C V : Type 0} (arms : Arms C) (R : Rules C V) (makes : Makes V) (v : Answers V) (dom : ℕ → Bool) (env : Env V) (s : ℕ)
+      → IsWellMade R → IsServed R makes v → IsFilledBy v dom env → IsReadable R dom s
       → AreClosed R dom s arms → run_arms R makes s arms env ≡ walk_arms R v s arms
   runs_arms no_arm R makes v dom env s w mb fi here c = refl
   runs_arms (arm c bindings body later) R makes v dom env s w mb fi here (from, (inner, rest)) =

@@ -116,7 +116,8 @@ best = record {
   useful = omega arith;
   greatest = elim [
     | on_match s ↦ λ r. elim (true_or (s == 1)) [
-      | inl y ↦ let e : s ≡ 1 = eqb-true s 1 y in subst (λ (x : ℕ). IsAtMost (key sample (0 ∷ 1 ∷ []) nothing_known (on_match x)) (key sample (0 ∷ 1 ∷ []) nothing_known (on_match 1))) (sym e)
+      | inl y ↦ let e : s ≡ 1 = eqb-true s 1 y in subst (λ (x : ℕ). IsAtMost (key sample (0 ∷ 1 ∷ []) nothing_known (on_match x))
+          (key sample (0 ∷ 1 ∷ []) nothing_known (on_match 1))) (sym e)
           (inr (refl, inr (refl, inr (refl, inr (refl, omega arith)))))
       | inr n ↦ inl (let z = idle (on_match s) (0 ∷ 1 ∷ []) (λ i. elsewhere i s n) in omega arith)
     ]
@@ -141,7 +142,11 @@ binds_call : Binds sample nothing_known (1 ∷ []) (1 ∷ []) (emit_all nothing_
 binds_call = record {
   all = 0 ∷ 1 ∷ [];
   order = (refl, (λ p m. absurd m), (refl, (λ p m. elim m [ inl e ↦ rw e refl | inr b ↦ absurd b ]), tt));
-  only = λ x m. elim m [ inl e ↦ rw e (of_part 1 0 (itself 1 (inl refl)) (inl refl)) | inr n ↦ elim n [ inl e ↦ rw e (itself 1 (inl refl)) | inr b ↦ absurd b ] ];
+  only = λ x m. elim m [
+    | inl e ↦ rw e (of_part 1 0 (itself 1 (inl refl)) (inl refl))
+    | inr n ↦
+        elim n [ inl e ↦ rw e (itself 1 (inl refl)) | inr b ↦ absurd b ]
+  ];
   ending = refl;
   bound = λ x m. elim m [ inl e ↦ rw e refl | inr b ↦ absurd b ];
   written = refl;
@@ -281,7 +286,8 @@ field_known fails h e = cc
 field_known (gives true) h e = cc
 field_known (gives false) h e = cc
 
-open_call : (t : ℕ) (args : List Bool) (c : Completion Bool) (s : ℕ) → IsOpen sample (with_call (is_there (c t (true ∷ [])))) s → CallsOpen sample_program c t args s
+open_call : (t : ℕ) (args : List Bool) (c : Completion Bool) (s : ℕ) → IsOpen sample (with_call (is_there (c t (true ∷ [])))) s
+    → CallsOpen sample_program c t args s
 open_call t args c zero op = let f : gives true ≡ unknown = op.1 in cc
 open_call t args c (suc zero) op = record { called = t; values = true ∷ []; calls = refl; parts = (refl, tt); unanswered = there_open _ (op.1) }
 open_call t args c (suc (suc zero)) op = absurd (field_known (is_there (c t (true ∷ []))) (op.0 1 (inl refl)) (op.1))
@@ -292,6 +298,7 @@ sample_is_program = record {
   trees = λ t. sample_built;
   respects = λ t args c al. (sample_answers (is_there (c t (true ∷ []))) (there_holds _)).0;
   strict = λ t args c. strict (is_there (c t (true ∷ [])));
-  agree = λ t args c d ag. agree (is_there (c t (true ∷ []))) (is_there (d t (true ∷ []))) (there_agree (c t (true ∷ [])) (d t (true ∷ [])) (ag t (true ∷ [])));
+  agree = λ t args c d ag. agree (is_there (c t (true ∷ []))) (is_there (d t (true ∷ [])))
+      (there_agree (c t (true ∷ [])) (d t (true ∷ [])) (ag t (true ∷ [])));
   calls = open_call;
 }

@@ -11,7 +11,8 @@ use Rattle.isle_trees.proofs.Basics.{true_or, from_filter}
 
 pub sum_same : {A : Type 0} (f g : A → ℕ) (xs : List A) → ((x : A) → Elem x xs → f x ≡ g x) → sum_by f xs ≡ sum_by g xs
 sum_same f g [] h = refl
-sum_same f g (x ∷ xs) h = let p = h x (inl refl) in let q = sum_same f g xs (λ y m. h y (inr m)) in omega (arith, sum_by-cons f x xs, sum_by-cons g x xs)
+sum_same f g (x ∷ xs) h = let p = h x (inl refl) in let q = sum_same f g xs (λ y m. h y (inr m)) in
+    omega (arith, sum_by-cons f x xs, sum_by-cons g x xs)
 
 pub sum_zero : {A : Type 0} (f : A → ℕ) (xs : List A) → ((x : A) → Elem x xs → f x ≡ 0) → sum_by f xs ≡ 0
 sum_zero f [] h = refl
@@ -48,8 +49,10 @@ sum_filter f p (x ∷ xs) =
     let q = sum_filter f p xs in
     let c = sum_by-cons (λ x. if p x then f x else 0) x xs in
     elim (true_or (p x)) [
-      | inl e ↦ ap (sum_by f) (filter_true p x xs e) ∙ sum_by-cons f x (filter p xs) ∙ ap (λ (n : ℕ). f x + n) q ∙ ap (λ (n : ℕ). n + sum_by (λ x. if p x then f x else 0) xs) (sym (if_true (p x) (f x) e)) ∙ sym c
-      | inr e ↦ ap (sum_by f) (filter_false p x xs e) ∙ q ∙ sym (c ∙ ap (λ (n : ℕ). n + sum_by (λ x. if p x then f x else 0) xs) (if_false (p x) (f x) e) ∙ add_none _)
+      | inl e ↦ ap (sum_by f) (filter_true p x xs e) ∙ sum_by-cons f x (filter p xs) ∙ ap (λ (n : ℕ). f x + n) q ∙ ap
+          (λ (n : ℕ). n + sum_by (λ x. if p x then f x else 0) xs) (sym (if_true (p x) (f x) e)) ∙ sym c
+      | inr e ↦ ap (sum_by f) (filter_false p x xs e) ∙ q ∙ sym
+          (c ∙ ap (λ (n : ℕ). n + sum_by (λ x. if p x then f x else 0) xs) (if_false (p x) (f x) e) ∙ add_none _)
     ]
 
 sum_plus : {A : Type 0} (f g : A → ℕ) (xs : List A) → sum_by (λ x. f x + g x) xs ≡ sum_by f xs + sum_by g xs
@@ -88,7 +91,8 @@ pub filter_none : (p : ℕ → Bool) (xs : List ℕ) → ((x : ℕ) → Elem x x
 filter_none p [] h = refl
 filter_none p (x ∷ xs) h = rw (h x (inl refl)) (filter_none p xs (λ y m. h y (inr m)))
 
-pub filter_twice : (p q r : ℕ → Bool) (xs : List ℕ) → ((x : ℕ) → Elem x xs → r x ≡ (if q x then p x else false)) → filter p (filter q xs) ≡ filter r xs
+pub filter_twice : (p q r : ℕ → Bool) (xs : List ℕ) → ((x : ℕ) → Elem x xs → r x ≡ (if q x then p x else false))
+    → filter p (filter q xs) ≡ filter r xs
 filter_twice p q r [] h = refl
 filter_twice p q r (x ∷ xs) h =
     let rest = filter_twice p q r xs (λ y m. h y (inr m)) in
@@ -109,7 +113,8 @@ ascending_filter p (x ∷ xs) a = elim (true_or (p x)) [
 
 -- a member that stands once
 pub without_all : (i : ℕ) (xs : List ℕ) → ((y : ℕ) → Elem y xs → i < y) → without i xs ≡ xs
-without_all i xs h = filter_all (λ j. not (j == i)) xs (λ x m. let l = h x m in elim (true_or (x == i)) [ inl e ↦ let p : x ≡ i = eqb-true x i e in absurd (omega arith) | inr e ↦ ap not e ])
+without_all i xs h = filter_all (λ j. not (j == i)) xs (λ x m. let l = h x m in
+    elim (true_or (x == i)) [ inl e ↦ let p : x ≡ i = eqb-true x i e in absurd (omega arith) | inr e ↦ ap not e ])
 
 pub sum_without : (f : ℕ → ℕ) (i : ℕ) (xs : List ℕ) → IsAscending xs → Elem i xs → sum_by f xs ≡ f i + sum_by f (without i xs)
 sum_without f i [] a m = absurd m

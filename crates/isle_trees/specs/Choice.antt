@@ -98,15 +98,15 @@ IsSure R v left (waits s) = Unit {0}
 IsSure R v left stops = ⊥
 
 -- more answers don't change how binding ends: it isn't open, or what opened it isn't answered by them
-abbrev pub IsSettled : {V : Type 0} → Answers V → Bound → Type 0
-IsSettled v goes = Unit {0}
-IsSettled v (opens s) = v s ≡ unknown
-IsSettled v breaks = Unit {0}
+abbrev pub IsOpenFor : {V : Type 0} → Answers V → Bound → Type 0
+IsOpenFor v goes = Unit {0}
+IsOpenFor v (opens s) = v s ≡ unknown
+IsOpenFor v breaks = Unit {0}
 
 -- The outcome under answers that know more: the same rule, the same end but where it was open and no longer is, and at least its calls.
 abbrev pub IsKept : {V : Type 0} → Answers V → Outcome → Outcome → Type 0
 IsKept v (chooses i b e) o =
-    (c : Bound) × (more : List ℕ) × (o ≡ chooses i c (e ++ more)) × (IsSettled v b → (c ≡ b) × (more ≡ []))
+    (c : Bound) × (more : List ℕ) × (o ≡ chooses i c (e ++ more)) × (IsOpenFor v b → (c ≡ b) × (more ≡ []))
 IsKept v ends o = o ≡ ends
 IsKept v (waits s) o = v s ≡ unknown → o ≡ waits s
 IsKept v stops o = o ≡ stops

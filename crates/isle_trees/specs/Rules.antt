@@ -1,7 +1,12 @@
 -- Rule sets as functions of rule and site, and when a rule matches.
-use Rattle.std.specs.Prelude.{◌≡◌, ◌≢◌, ℕ, ℤ, List, [], ◌∷◌, ◌++◌, Bool, true, false, Option, Some, ◌⊎◌}
+use Rattle.std.specs.Prelude.{◌≡◌, ◌≢◌, ℕ, ℤ, List, [], ◌∷◌, ◌++◌, Bool, true, false, Option, Some, ◌⊎◌, zero, suc}
 use Rattle.isle_trees.specs.Got.{Got, unknown, fails, gives}
 use Rattle.isle_trees.specs.Answers.{Answers, HasValue}
+
+-- the numbers below one
+abbrev pub below : ℕ → List ℕ
+below zero = []
+below (suc n) = below n ++ n ∷ []
 
 -- tests of a site, in their order, and what a site holds
 pub record Tests (C V : Type 0) : Type 0 where

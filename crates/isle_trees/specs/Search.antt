@@ -1,9 +1,9 @@
 -- How the best test is found: rules in order, the tests that the top rules offer, and what is marked as available.
-use Rattle.std.specs.Prelude.{◌≡◌, ◌⊎◌, ℕ, zero, suc, ℤ, pos, ◌<◌, ◌≤◌, ◌<ℤ◌, ◌≤ℤ◌, ◌==◌, ◌&&◌, ◌||◌, ◌++◌, not, nat_lt, int_le, int_lt, Bool, true, false}
+use Rattle.std.specs.Prelude.{◌≡◌, ◌⊎◌, ℕ, ℤ, pos, ◌<◌, ◌≤◌, ◌<ℤ◌, ◌≤ℤ◌, ◌==◌, ◌&&◌, ◌||◌, ◌++◌, not, nat_lt, int_le, int_lt, Bool, true, false}
 use Rattle.std.specs.Prelude.{List, [], ◌∷◌, Option, Some, None, is_some, if◌then◌else◌, length, take, drop, slice_index_or}
 use Rattle.std.specs.List.{list_all}
 use Rattle.std.specs.Ordering.{int_eq}
-use Rattle.isle_trees.specs.Rules.{Tests, Want, has, one_value, Source, Rules, rights, Elem, Asked}
+use Rattle.isle_trees.specs.Rules.{Tests, Want, has, one_value, Source, Rules, rights, Elem, Asked, below}
 use Rattle.isle_trees.specs.Scopes.{Scope, emit, is_want, is_source, IsAvailable, Test, on_match, on_equal, on_loop, has_test}
 use Rattle.isle_trees.specs.Builds.{IsLeast, wanting, not_wanting}
 use Rattle.isle_trees.specs.Bag.{IsAscending}
@@ -13,11 +13,6 @@ use Rattle.isle_trees.specs.Ranking.{AllBelow, AreAllWithin}
 abbrev pub AreDistinct : List ℕ → Type 0
 AreDistinct [] = Unit {0}
 AreDistinct (x ∷ xs) = (Elem x xs → ⊥) × AreDistinct xs
-
--- the numbers below one
-abbrev pub below : ℕ → List ℕ
-below zero = []
-below (suc n) = below n ++ n ∷ []
 
 -- What the tree of rules is built from, whatever terms they call: parts stand before what is made of them, a field's source is a part
 -- of it, wants and classes are listed, all lies below a number of sites, and each multi call that is used has a site of its value.

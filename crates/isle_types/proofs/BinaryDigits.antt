@@ -19,13 +19,6 @@ binary_digits-least n k below = length-digits_of-le 2 k n (omega arith) below
 pub binary_digits-halved : (n : ℕ) → 0 < n → binary_digits n ≡ binary_digits (n / 2) + 1
 binary_digits-halved n positive = length-digits_of_step 2 n (omega arith) positive
 
--- a number that is not 0 is at least the power of two that its first digit stands for
-pub pow-le-from_binary_digits : (n : ℕ) → 0 < n → 2 ^ (binary_digits n - 1) ≤ n
-pow-le-from_binary_digits n positive = elim (cases_lt n (2 ^ (binary_digits n - 1))) [
-  | inl below ↦ absurd (omega (arith, binary_digits-least n (binary_digits n - 1) below, binary_digits-halved n positive))
-  | inr at_least ↦ at_least
-]
-
 -- a number that isn't greater has no more digits
 pub binary_digits-mono : (m n : ℕ) → m ≤ n → binary_digits m ≤ binary_digits n
 binary_digits-mono m n le = binary_digits-least m (binary_digits n) (omega (arith, lt-pow-binary_digits n))

@@ -4,11 +4,11 @@ use Rattle.std.proofs.Common.{None, MatchOption, is_some, refl, ap, sym, subst, 
 use Rattle.std.specs.Option.{option_map}
 use Rattle.std.proofs.lemmas.Option.{none-some, same_Some}
 use Rattle.std.proofs.lemmas.Slice.Zip.{all_zipped_more}
-use Rattle.isle_syntax.specs.declared.ast.Ident.{Ident}
-use Rattle.isle_syntax.specs.declared.ast.Def.{Def}
-use Rattle.isle_syntax.specs.declared.error.Error.{Error}
-use Rattle.isle_syntax.specs.declared.error.Error.TheVariants.{TypeError}
-use Rattle.isle_syntax.specs.Errors.{span_at}
+use Rattle.isle_ast.specs.declared.ast.Ident.{Ident}
+use Rattle.isle_ast.specs.declared.ast.Def.{Def}
+use Rattle.isle_ast.specs.declared.error.Error.{Error}
+use Rattle.isle_ast.specs.declared.error.Error.TheVariants.{TypeError}
+use Rattle.isle_ast.specs.Errors.{span_at}
 use Rattle.isle_types.specs.declared.ids.TypeId.{TypeId}
 use Rattle.isle_types.specs.TypeTables.{TypeTables}
 use Rattle.isle_types.specs.Names.{position_of, KeepsNames}
@@ -44,15 +44,6 @@ constant_pushed (first ∷ constants) last name =
         (cond (bytes_eq name first.0) (Some first.1) None) ≡ cond b (Some last.1) (constant_in (first ∷ constants) name)
     through true = refl
     through false = refl
-
-kept_at_start : (defs : List Def) (env : TypeTables) → ((name : List ℕ) → type_of_constant env name ≡ None) → AreTypeFaults defs env.errors
-    → KeptSoFar defs 0 env env
-kept_at_start defs env none faults = record {
-  read = λ clean. (clean, record { constants = []; meant = tt; shown = none });
-  faults = faults;
-  kept = λ place name is. is;
-  same = refl;
-}
 
 -- another definition
 pub kept_passing : (defs : List Def) (i : ℕ) (def : Def) (start env : TypeTables) → i < length defs → def ≡ get_or defs i def

@@ -1,8 +1,8 @@
 -- Lists of errors that stand where rules are broken.
 use Rattle.std.proofs.Common.{◌≡◌, List, [], ◌∷◌, ◌++◌, sym, ◌∙◌}
 use Rattle.std.proofs.lemmas.List.Elements.{All-same, All-nil, All-push}
-use Rattle.isle_syntax.specs.declared.ast.Def.{Def}
-use Rattle.isle_syntax.specs.declared.error.Error.{Error}
+use Rattle.isle_ast.specs.declared.ast.Def.{Def}
+use Rattle.isle_ast.specs.declared.error.Error.{Error}
 use Rattle.isle_types.specs.TypeFaults.{Breaks, IsTypeFault}
 use Rattle.isle_types.specs.Inside.Readings.{AreTypeFaults}
 

@@ -20,16 +20,19 @@ module _ {K V : Type 0} (cmp : K → K → Ordering) (level : (a b : K) → (cmp
   pub lookup-inserted : (es : List (K × V)) → lookup (is_at (cmp key)) (insert_entry cmp es key value) ≡ Some value
   lookup-inserted [] = ap (λ b. cond b (Some value) None) (at_itself key)
   lookup-inserted (e ∷ es) = elim (cmp key e.0) as
-      (λ o. cmp key e.0 ≡ o → lookup (is_at (cmp key)) (match_ordering o ((key, value) ∷ e ∷ es) ((e.0, value) ∷ es) (e ∷ insert_entry cmp es key value)) ≡ Some value) [
+      (λ o. cmp key e.0 ≡ o → lookup (is_at (cmp key)) (match_ordering o ((key, value) ∷ e ∷ es) ((e.0, value) ∷ es)
+      (e ∷ insert_entry cmp es key value)) ≡ Some value) [
         | Less ↦ λ o. ap (λ b. cond b (Some value) (cond (is_eq (cmp key e.0)) (Some e.1) (lookup (is_at (cmp key)) es))) (at_itself key)
         | Equal ↦ λ o. ap (λ r. cond (is_eq r) (Some value) (lookup (is_at (cmp key)) es)) o
         | Greater ↦ λ o. ap (λ r. cond (is_eq r) (Some e.1) (lookup (is_at (cmp key)) (insert_entry cmp es key value))) o ∙ lookup-inserted es
       ] refl
 
-  pub lookup-kept : (other : K) → (other ≡ key → ⊥) → (es : List (K × V)) → lookup (is_at (cmp other)) (insert_entry cmp es key value) ≡ lookup (is_at (cmp other)) es
+  pub lookup-kept : (other : K) → (other ≡ key → ⊥) → (es : List (K × V)) → lookup (is_at (cmp other)) (insert_entry cmp es key value) ≡ lookup
+      (is_at (cmp other)) es
   lookup-kept other differ [] = ap (λ b. cond b (Some value) None) (apart other key differ)
   lookup-kept other differ (e ∷ es) = elim (cmp key e.0) as
-      (λ o. cmp key e.0 ≡ o → lookup (is_at (cmp other)) (match_ordering o ((key, value) ∷ e ∷ es) ((e.0, value) ∷ es) (e ∷ insert_entry cmp es key value))
+      (λ o. cmp key e.0 ≡ o → lookup (is_at (cmp other)) (match_ordering o ((key, value) ∷ e ∷ es) ((e.0, value) ∷ es)
+      (e ∷ insert_entry cmp es key value))
       ≡ lookup (is_at (cmp other)) (e ∷ es)) [
         | Less ↦ λ o. ap (λ b. cond b (Some value) (lookup (is_at (cmp other)) (e ∷ es))) (apart other key differ)
         | Equal ↦ λ o.

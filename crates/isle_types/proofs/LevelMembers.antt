@@ -51,10 +51,11 @@ module _ {K : Type 0} {cmp : K → K → Ordering} (level : (a b : K) → (cmp a
               let more : new ≡ members ++ key ∷ [] = rw e at is in
               inr (
                 stands_nowhere e,
-                elim (slice_get-pushed members key number key (number_is (members ++ key ∷ []) key number (ap (λ all. number_in cmp all key) (sym more) ∙ at))) [
-                  | inl before ↦ absurd (stands_nowhere e number before)
-                  | inr last ↦ last.0
-                ],
+                elim (slice_get-pushed members key number key
+                    (number_is (members ++ key ∷ []) key number (ap (λ all. number_in cmp all key) (sym more) ∙ at))) [
+                      | inl before ↦ absurd (stands_nowhere e number before)
+                      | inr last ↦ last.0
+                    ],
                 more,
               )
         ] refl

@@ -48,8 +48,6 @@ pub mod RemovedTables
 pub mod TypePositions
 -- What an environment shows stays so when names are interned.
 pub mod ShownTypes
--- What can be printed of an environment still can after a change.
-pub mod EnvironmentPlaces
 -- Fields as they are read one after another.
 pub mod FieldReadings
 -- Fields, variants and types as they are read of their trees.

@@ -5,13 +5,13 @@ use Rattle.std.specs.Global.{Global}
 use Rattle.std.specs.List.{AllByRecursion}
 use Rattle.std.proofs.lemmas.List.{append_assoc}
 use Rattle.std.proofs.lemmas.Slice.Zip.{all_zipped_more}
-use Rattle.isle_syntax.specs.declared.ast.Def.{Def}
-use Rattle.isle_syntax.specs.declared.ast.«Type».{«Type» as TypeTree}
-use Rattle.isle_syntax.specs.declared.error.Error.{Error}
-use Rattle.isle_syntax.specs.declared.error.Error.TheVariants.{ParseError, TypeError, UnreachableError, OverlapError, ShadowedError, SizeError}
-use Rattle.isle_syntax.specs.declared.refusal.Refusal.{Refusal}
-use Rattle.isle_syntax.specs.declared.refusal.Refusal.TheVariants.{Fault, Memory}
-use Rattle.isle_syntax.specs.Errors.{size_error, error_kind, IfFault, IsFaultAnd}
+use Rattle.isle_ast.specs.declared.ast.Def.{Def}
+use Rattle.isle_ast.specs.declared.ast.«Type».{«Type» as TypeTree}
+use Rattle.isle_ast.specs.declared.error.Error.{Error}
+use Rattle.isle_ast.specs.declared.error.Error.TheVariants.{ParseError, TypeError, UnreachableError, OverlapError, ShadowedError, SizeError}
+use Rattle.isle_ast.specs.declared.refusal.Refusal.{Refusal}
+use Rattle.isle_ast.specs.declared.refusal.Refusal.TheVariants.{Fault, Memory}
+use Rattle.isle_ast.specs.Errors.{size_error, error_kind, IfFault, IsFaultAnd}
 use Rattle.isle_types.specs.declared.ids.TypeId.{TypeId}
 use Rattle.isle_types.specs.declared.types.«Type».{«Type» as KnownType}
 use Rattle.isle_types.specs.declared.types.«Type».TheVariants.{Builtin}
@@ -52,24 +52,6 @@ count_pushed number n [] x counted is = (is ∙ plus_none n, tt)
     plus_none n = omega arith
 count_pushed number n (y ∷ xs) x counted is =
     (counted.0, count_pushed number (suc n) xs x counted.1 (next_counted n (length xs) (number x) is))
-
-pub made_at_start : (defs : List Def) (env : TypeTables) → HasTypeNames env (type_names defs) → env.types ≡ map Builtin builtin_types
-    → AreTypeFaults defs env.errors → MadeSoFar defs 0 env env
-made_at_start defs env named types faults = record {
-  named = named;
-  sizes = λ _. tt;
-  read = λ clean. (
-    clean,
-    record {
-      made = [];
-      all = types;
-      read = record { types = []; meant = tt; shown = tt };
-      counted = subst (CountUp (λ (type : KnownType). (id_of type).0) 0) (sym types) builtins_count;
-    },
-  );
-  faults = faults;
-  same = refl;
-}
 
 -- another definition
 pub made_passing : (defs : List Def) (i : ℕ) (def : Def) (start env : TypeTables) → i < length defs → def ≡ get_or defs i def

@@ -4,11 +4,11 @@ use Rattle.std.proofs.Common.{is_none, refl, ap, sym, subst, ◌∙◌, arith}
 use Rattle.std.proofs.lemmas.Option.{none-some}
 use Rattle.std.proofs.lemmas.Bool.{and_parts, false≢true, true≢false}
 use Rattle.std.proofs.lemmas.List.{append-nil, append_assoc, length-append}
-use Rattle.isle_syntax.specs.declared.ast.Def.{Def}
-use Rattle.isle_syntax.specs.declared.ast.«Type».{«Type» as TypeTree}
-use Rattle.isle_syntax.specs.declared.error.Error.{Error}
-use Rattle.isle_syntax.specs.declared.error.Error.TheVariants.{TypeError}
-use Rattle.isle_syntax.specs.Errors.{span_at}
+use Rattle.isle_ast.specs.declared.ast.Def.{Def}
+use Rattle.isle_ast.specs.declared.ast.«Type».{«Type» as TypeTree}
+use Rattle.isle_ast.specs.declared.error.Error.{Error}
+use Rattle.isle_ast.specs.declared.error.Error.TheVariants.{TypeError}
+use Rattle.isle_ast.specs.Errors.{span_at}
 use Rattle.isle_types.specs.declared.ids.TypeId.{TypeId}
 use Rattle.isle_types.specs.TypeTables.{TypeTables}
 use Rattle.isle_types.specs.IntTypes.{builtin_names}

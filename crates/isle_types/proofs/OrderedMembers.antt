@@ -34,7 +34,8 @@ pub record IsBetween {K : Type 0} (cmp : K → K → Ordering) (key : K) (keys :
   pub before : AllWithin (λ k. cmp key k ≡ Greater) keys 0 low
   pub after : AllWithin (λ k. cmp key k ≡ Less) keys high (length keys)
 
-module _ {K : Type 0} {cmp : K → K → Ordering} (total : IsTotalOrder cmp) {members : List K} {order : List ℕ} (index : IsOrderOf cmp members order) where
+module _ {K : Type 0} {cmp : K → K → Ordering} (total : IsTotalOrder cmp) {members : List K} {order : List ℕ}
+    (index : IsOrderOf cmp members order) where
   length_keys : length (entries_at members order) ≡ length order
   length_keys = length-entries_at members order index.in_range
 
@@ -50,8 +51,10 @@ module _ {K : Type 0} {cmp : K → K → Ordering} (total : IsTotalOrder cmp) {m
   are_unequal i j x y p q equal =
       let (a, a_in, at_a) = place_of i (slice_get_within members i x p) in
       let (b, b_in, at_b) = place_of j (slice_get_within members j y q) in
-      let first : get_or (entries_at members order) a x ≡ x = read a x a_in ∙ ap (λ n. get_or members n x) at_a ∙ get_or_from_slice_get members i x x p in
-      let second : get_or (entries_at members order) b x ≡ y = read b x b_in ∙ ap (λ n. get_or members n x) at_b ∙ get_or_from_slice_get members j y x q in
+      let first : get_or (entries_at members order) a x ≡ x = read a x a_in ∙ ap (λ n. get_or members n x) at_a
+      ∙ get_or_from_slice_get members i x x p in
+      let second : get_or (entries_at members order) b x ≡ y = read b x b_in ∙ ap (λ n. get_or members n x) at_b
+      ∙ get_or_from_slice_get members j y x q in
       elim (cases_order a b) [
         | inl same ↦ sym at_a ∙ ap (λ n. get_or order n 0) same ∙ at_b
         | inr (inl less) ↦
@@ -117,7 +120,8 @@ module _ {K : Type 0} {cmp : K → K → Ordering} (total : IsTotalOrder cmp) {m
         | inr (inl less) ↦
             let below = Less-from_sorted cmp (entries_at members order) b at d index.ascending less found.in_range in
             ap is_eq (total.antisymm key (get_or (entries_at members order) b d)
-            ∙ ap ordering_reverse (alike_right total key (get_or (entries_at members order) at d) (get_or (entries_at members order) b d) (found.place d) ∙ below))
+            ∙ ap ordering_reverse (alike_right total key (get_or (entries_at members order) at d) (get_or (entries_at members order) b d)
+            (found.place d) ∙ below))
         | inr (inr more) ↦
             let below = Less-from_sorted cmp (entries_at members order) at b d index.ascending more (omega (arith, length_keys)) in
             ap is_eq (total.congr key (get_or (entries_at members order) at d) (get_or (entries_at members order) b d) (found.place d) ∙ below)

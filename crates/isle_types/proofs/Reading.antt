@@ -6,11 +6,11 @@ use Rattle.std.proofs.lemmas.Bool.{eqb-true, eqb-false}
 use Rattle.std.proofs.lemmas.List.{nil_from_length}
 use Rattle.std.specs.Option.{option_map}
 use Rattle.std.specs.List.{AllZip}
-use Rattle.isle_syntax.specs.declared.ast.Def.{Def}
-use Rattle.isle_syntax.specs.declared.ast.«Type».{«Type» as TypeTree}
-use Rattle.isle_syntax.specs.declared.refusal.Refusal.{Refusal}
-use Rattle.isle_syntax.specs.declared.refusal.Refusal.TheVariants.{Fault, Memory}
-use Rattle.isle_syntax.specs.Errors.{IfFault}
+use Rattle.isle_ast.specs.declared.ast.Def.{Def}
+use Rattle.isle_ast.specs.declared.ast.«Type».{«Type» as TypeTree}
+use Rattle.isle_ast.specs.declared.refusal.Refusal.{Refusal}
+use Rattle.isle_ast.specs.declared.refusal.Refusal.TheVariants.{Fault, Memory}
+use Rattle.isle_ast.specs.Errors.{IfFault}
 use Rattle.isle_types.specs.declared.types.«Type».{«Type» as KnownType}
 use Rattle.isle_types.specs.TypeTables.{TypeTables}
 use Rattle.isle_types.specs.IntTypes.{builtin_names}

@@ -262,6 +262,7 @@ module _ {K V : Type 0} {cmp : K → K → Ordering} (total : IsTotalOrder cmp) 
       as_many = omega (arith, length-insert places gap (length entries) (gap_in_range absent), index.as_many, length_push entries (key, value));
       ascending =
           subst (IsStrictlySortedBy cmp)
-          (sym (ap keys_of (entries_at-added entries places gap (key, value) index.in_range) ∙ map-insert (λ e. e.0) (entries_at entries places) gap (key, value)))
+          (sym (ap keys_of (entries_at-added entries places gap (key, value) index.in_range) ∙ map-insert
+          (λ e. e.0) (entries_at entries places) gap (key, value)))
           (sorted-insert total key (keys_of (entries_at entries places)) gap index.ascending absent.in_range absent.place.0 absent.place.1);
     }

@@ -3,7 +3,7 @@ use Rattle.std.proofs.Common.{◌≡◌, ℕ, ◌⊎◌, inl, inr, List, Result,
 use Rattle.isle_types.specs.declared.ids.Sym.{Sym}
 use Rattle.isle_types.specs.declared.ids.TypeId.{TypeId}
 use Rattle.isle_types.specs.declared.types.«Type».{«Type» as KnownType}
-use Rattle.isle_syntax.specs.declared.error.Error.{Error}
+use Rattle.isle_ast.specs.declared.error.Error.{Error}
 use Rattle.isle_types.specs.Names.{with_name, AreDistinct, KeepsNames}
 use Rattle.isle_types.specs.TypeTables.{TypeTables, by_name, AreTablesOf}
 use Rattle.isle_types.specs.TypeEnvs.{HasMoreNames}

@@ -4,15 +4,15 @@ use Rattle.std.proofs.Common.{slice_get, codes, zero-add}
 use Rattle.std.specs.List.{AllZip}
 use Rattle.std.proofs.lemmas.Option.{same_Some, none-some}
 use Rattle.std.proofs.lemmas.Slice.Zip.{all_zipped_more}
-use Rattle.isle_syntax.specs.declared.lexer.Pos.{Pos}
-use Rattle.isle_syntax.specs.declared.ast.StructField.{StructField as StructFieldTree}
-use Rattle.isle_syntax.specs.declared.ast.StructFields.{StructFields as StructFieldTrees}
-use Rattle.isle_syntax.specs.declared.ast.TupleFields.{TupleFields as TupleFieldTrees}
-use Rattle.isle_syntax.specs.declared.ast.Fields.TheVariants.{Struct as struct_field_trees, Tuple as tuple_field_trees}
-use Rattle.isle_syntax.specs.declared.ast.Variant.{Variant as VariantTree}
-use Rattle.isle_syntax.specs.declared.ast.«Type».{«Type» as TypeTree}
-use Rattle.isle_syntax.specs.declared.error.Error.{Error}
-use Rattle.isle_syntax.specs.declared.error.Error.TheVariants.{ParseError, TypeError, UnreachableError, OverlapError, ShadowedError, SizeError}
+use Rattle.isle_ast.specs.declared.pos.Pos.{Pos}
+use Rattle.isle_ast.specs.declared.ast.StructField.{StructField as StructFieldTree}
+use Rattle.isle_ast.specs.declared.ast.StructFields.{StructFields as StructFieldTrees}
+use Rattle.isle_ast.specs.declared.ast.TupleFields.{TupleFields as TupleFieldTrees}
+use Rattle.isle_ast.specs.declared.ast.Fields.TheVariants.{Struct as struct_field_trees, Tuple as tuple_field_trees}
+use Rattle.isle_ast.specs.declared.ast.Variant.{Variant as VariantTree}
+use Rattle.isle_ast.specs.declared.ast.«Type».{«Type» as TypeTree}
+use Rattle.isle_ast.specs.declared.error.Error.{Error}
+use Rattle.isle_ast.specs.declared.error.Error.TheVariants.{ParseError, TypeError, UnreachableError, OverlapError, ShadowedError, SizeError}
 use Rattle.isle_types.specs.declared.types.StructField.{StructField}
 use Rattle.isle_types.specs.declared.types.TupleField.{TupleField}
 use Rattle.isle_types.specs.declared.types.Fields.TheVariants.{Struct as NamedFields, Tuple as UnnamedFields}

@@ -3,21 +3,21 @@ use Rattle.std.specs.Prelude.{◌≡◌, ℕ, ◌+◌, ◌<◌, ◌≤◌, Bool,
 use Rattle.std.specs.Prelude.{None, Contains, if◌then◌else◌, is_some}
 use Rattle.std.specs.List.{AllZip, AllByRecursion}
 use Rattle.std.specs.Str.{bytes_eq}
-use Rattle.isle_syntax.specs.declared.lexer.Pos.{Pos}
-use Rattle.isle_syntax.specs.declared.ast.Ident.{Ident}
-use Rattle.isle_syntax.specs.declared.ast.StructField.{StructField}
-use Rattle.isle_syntax.specs.declared.ast.TupleField.{TupleField}
-use Rattle.isle_syntax.specs.declared.ast.Fields.{Fields}
-use Rattle.isle_syntax.specs.declared.ast.Fields.TheVariants.{Unit as no_field_trees, Struct as struct_field_trees, Tuple as tuple_field_trees}
-use Rattle.isle_syntax.specs.declared.ast.Variant.{Variant}
-use Rattle.isle_syntax.specs.declared.ast.TypeValue.{TypeValue}
-use Rattle.isle_syntax.specs.declared.ast.TypeValue.TheVariants.{Primitive, Enum, Struct}
-use Rattle.isle_syntax.specs.declared.ast.«Type».{«Type» as TypeTree}
-use Rattle.isle_syntax.specs.declared.ast.Extern.{Extern as ExternTree}
-use Rattle.isle_syntax.specs.declared.ast.Extern.TheVariants.{Constructor as extern_constructor, Extractor as extern_extractor}
-use Rattle.isle_syntax.specs.declared.ast.Extern.TheVariants.{Const as extern_const}
-use Rattle.isle_syntax.specs.declared.ast.Def.{Def}
-use Rattle.isle_syntax.specs.declared.ast.Def.TheVariants.{TypeDef, Decl, Rule, Extractor, Extern, Converter, Pragma, Kept}
+use Rattle.isle_ast.specs.declared.pos.Pos.{Pos}
+use Rattle.isle_ast.specs.declared.ast.Ident.{Ident}
+use Rattle.isle_ast.specs.declared.ast.StructField.{StructField}
+use Rattle.isle_ast.specs.declared.ast.TupleField.{TupleField}
+use Rattle.isle_ast.specs.declared.ast.Fields.{Fields}
+use Rattle.isle_ast.specs.declared.ast.Fields.TheVariants.{Unit as no_field_trees, Struct as struct_field_trees, Tuple as tuple_field_trees}
+use Rattle.isle_ast.specs.declared.ast.Variant.{Variant}
+use Rattle.isle_ast.specs.declared.ast.TypeValue.{TypeValue}
+use Rattle.isle_ast.specs.declared.ast.TypeValue.TheVariants.{Primitive, Enum, Struct}
+use Rattle.isle_ast.specs.declared.ast.«Type».{«Type» as TypeTree}
+use Rattle.isle_ast.specs.declared.ast.Extern.{Extern as ExternTree}
+use Rattle.isle_ast.specs.declared.ast.Extern.TheVariants.{Constructor as extern_constructor, Extractor as extern_extractor}
+use Rattle.isle_ast.specs.declared.ast.Extern.TheVariants.{Const as extern_const}
+use Rattle.isle_ast.specs.declared.ast.Def.{Def}
+use Rattle.isle_ast.specs.declared.ast.Def.TheVariants.{TypeDef, Decl, Rule, Extractor, Extern, Converter, Pragma, Kept}
 use Rattle.isle_types.specs.IntTypes.{builtin_names}
 use Rattle.isle_types.specs.Names.{AreDistinct}
 

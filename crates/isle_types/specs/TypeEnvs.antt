@@ -6,9 +6,9 @@ use Rattle.std.specs.Str.{bytes_eq}
 use Rattle.isle_types.specs.declared.ids.Sym.{Sym}
 use Rattle.isle_types.specs.declared.ids.TypeId.{TypeId}
 use Rattle.isle_types.specs.declared.ids.VariantId.{VariantId}
-use Rattle.isle_syntax.specs.Positions.Files.{SourceFile}
-use Rattle.isle_syntax.specs.Positions.Printable.{IsPrintablePos}
-use Rattle.isle_syntax.specs.Errors.{IsPrintable}
+use Rattle.isle_ast.specs.Positions.Files.{SourceFile}
+use Rattle.isle_ast.specs.Positions.Printable.{IsPrintablePos}
+use Rattle.isle_ast.specs.Errors.{IsPrintable}
 use Rattle.isle_types.specs.declared.types.StructField.{StructField}
 use Rattle.isle_types.specs.declared.types.TupleField.{TupleField}
 use Rattle.isle_types.specs.declared.types.Fields.{Fields}
@@ -21,7 +21,7 @@ use Rattle.isle_types.specs.Types.{id_of}
 use Rattle.isle_types.specs.Names.{position_of, KeepsNames, AreDistinct}
 use Rattle.isle_types.specs.StableMaps.{value_at}
 use Rattle.isle_types.specs.TypeTables.{TypeTables}
-use Rattle.isle_syntax.specs.declared.ast.Def.{Def}
+use Rattle.isle_ast.specs.declared.ast.Def.{Def}
 use Rattle.isle_types.specs.Environment.{Environment, Makes, NamedType, NamedVariant, FieldList, no_fields, named_fields, tuple_fields, TypeShape}
 use Rattle.isle_types.specs.Environment.{primitive, enum, struct, names_in, constant_in}
 use Rattle.isle_types.specs.TypePositions.{TypeAt}

@@ -1,6 +1,6 @@
 -- The value of an environment of types: its tables, by name.
 use Rattle.std.specs.Prelude.{ℕ, List, [], map, slice_get, unwrap_or}
-use Rattle.isle_syntax.specs.declared.error.Error.{Error}
+use Rattle.isle_ast.specs.declared.error.Error.{Error}
 use Rattle.isle_types.specs.declared.ids.Sym.{Sym}
 use Rattle.isle_types.specs.declared.ids.TypeId.{TypeId}
 use Rattle.isle_types.specs.declared.types.«Type».{«Type» as KnownType}

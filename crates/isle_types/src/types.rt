@@ -7,8 +7,8 @@ ghost use Rattle.isle_types.specs.IntTypes.{int_name, has_sign, HasNumber, least
 mod parts;
 
 use crate::ids::{FieldId, Sym, TypeId, VariantId};
-use isle_syntax::Seq;
-use isle_syntax::lexer::Pos;
+use isle_ast::Seq;
+use isle_ast::pos::Pos;
 use std::alloc::{AllocError, Global};
 use std::fmt;
 

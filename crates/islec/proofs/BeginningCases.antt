@@ -131,7 +131,8 @@ another_name_is_not_told name words is cause (same, (count, told)) =
     let wrong : true ≡ false = ap (λ (text : List ℕ). bytes_eq text (codes "cannot read b.isle\n  not found\n")) both in
     absurd (true≢false wrong)
 
-unread_file_only_fails : (name words : String Global) (ended : Status) (old new : Option (List ℕ)) → TellsUnbegun (CannotRead name words) ended old new
+unread_file_only_fails : (name words : String Global) (ended : Status) (old new : Option (List ℕ))
+    → TellsUnbegun (CannotRead name words) ended old new
     → ended ≡ status.InputOutput
 unread_file_only_fails name words ended old new is = is.0
 

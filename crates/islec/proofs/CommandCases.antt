@@ -54,7 +54,8 @@ fmt_flag = refl
 
 -- trees of two terms, and of all
 blocks_terms : option_map (λ p. each_of (codes "term") p.1)
-    (subcommand_of islec (codes "islec" ∷ codes "blocks" ∷ codes "--term" ∷ codes "f" ∷ codes "--term=g" ∷ codes "a.isle" ∷ [])) ≡ Some (codes "f" ∷ codes "g" ∷ [])
+    (subcommand_of islec (codes "islec" ∷ codes "blocks" ∷ codes "--term" ∷ codes "f" ∷ codes "--term=g" ∷ codes "a.isle" ∷ [])) ≡ Some
+    (codes "f" ∷ codes "g" ∷ [])
 unfolding clap_on_literals
 blocks_terms = refl
 

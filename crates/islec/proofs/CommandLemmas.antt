@@ -31,10 +31,6 @@ use Rattle.islec.proofs.WalkRows.{OwnRules}
 use Rattle.islec.proofs.WalkStops.{start_elsewhere, walk_elsewhere}
 use Rattle.islec.proofs.FilledRows.{level_asks, level_fills}
 
--- the command is simple, and no argument has a rule on another
-pub islec_is_simple : is_simple_and_free islec ≡ true
-islec_is_simple = refl
-
 abbrev is_set : ArgAction → Bool
 is_set action.Set = true
 is_set _ = false
@@ -135,7 +131,8 @@ first_of_five f a b c d k x e = go (f a) (f b) (f c) (f d) (f k) refl refl refl 
     go false true r s t fa fb fc fd fk e = let same = ap (λ o. unwrap_or o a) e in (ap f (sym same) ∙ fb, inr (inl (sym same)))
     go false false true s t fa fb fc fd fk e = let same = ap (λ o. unwrap_or o a) e in (ap f (sym same) ∙ fc, inr (inr (inl (sym same))))
     go false false false true t fa fb fc fd fk e = let same = ap (λ o. unwrap_or o a) e in (ap f (sym same) ∙ fd, inr (inr (inr (inl (sym same)))))
-    go false false false false true fa fb fc fd fk e = let same = ap (λ o. unwrap_or o a) e in (ap f (sym same) ∙ fk, inr (inr (inr (inr (sym same)))))
+    go false false false false true fa fb fc fd fk e = let same = ap (λ o. unwrap_or o a) e in
+        (ap f (sym same) ∙ fk, inr (inr (inr (inr (sym same)))))
     go false false false false false fa fb fc fd fk e = absurd (true≢false (sym (ap is_some e)))
 
 -- one of the commands was entered, and its rows are what it asks

@@ -3,16 +3,16 @@ use Rattle.std.proofs.Common.{◌≡◌, ◌++◌, ◌∷◌, ◌∙◌, inl, in
 use Rattle.std.specs.List.{zip}
 use Rattle.std.specs.Option.{option_map_or}
 use Rattle.std.proofs.lemmas.Option.{same_Some}
-use Rattle.isle_syntax.specs.Positions.Files.{SourceFile}
+use Rattle.isle_ast.specs.Positions.Files.{SourceFile}
 use Rattle.isle_types.specs.declared.ids.TermId.{TermId}
 use Rattle.isle_types.specs.TypeTables.{TypeTables, no_tables}
-use Rattle.isle_terms.specs.Shown.TermTables.{TermTables}
-use Rattle.isle_run.specs.declared.program.Program.{Program}
-use Rattle.isle_run.specs.Compiled.{AreAccepted, IsProgramOf}
-use Rattle.isle_run.specs.Programs.{rule_sets_of, set_trees_of, term_named, terms_of, types_of}
-use Rattle.isle_run.specs.Tables.{term_called}
-use Rattle.isle_run.specs.TreeTexts.Names.{AreTexts, no_texts, more_texts}
-use Rattle.isle_run.specs.TreeTexts.Sets.{IsEntryText, IsSetText, TellsTrees, sets_and_trees}
+use Rattle.isle_rules.specs.Shown.TermTables.{TermTables}
+use Rattle.isle_program.specs.declared.program.Program.{Program}
+use Rattle.isle_program.specs.Compiled.{AreAccepted, IsProgramOf}
+use Rattle.isle_program.specs.Programs.{rule_sets_of, set_trees_of, program_term, terms_of, types_of}
+use Rattle.isle_program.specs.Tables.{term_called}
+use Rattle.isle_tell.specs.TreeTexts.Names.{AreTexts, no_texts, more_texts}
+use Rattle.isle_tell.specs.TreeTexts.Sets.{IsEntryText, IsSetText, TellsTrees, sets_and_trees}
 use Rattle.islec.specs.Drawing.{AreNamed, DrawsTrees, IsUnknown}
 use Rattle.islec.specs.Endings.{EndsBlocks}
 use Rattle.islec.specs.declared.status.Status.TheVariants as status
@@ -69,17 +69,18 @@ record HasBoth (program : Program) : Type 0 where
 
 module _ (program : Program) (has : HasBoth program) where
   -- a name's term is read in the tables
-  found : (name : List ℕ) (o : Option TermId) → term_called tables terms name ≡ o → term_named program name ≡ o
+  found : (name : List ℕ) (o : Option TermId) → term_called tables terms name ≡ o → program_term program name ≡ o
   found name o e =
-      ap (λ (t : TypeTables). term_called t (terms_of program) name) has.by_name ∙ ap (λ (t : TermTables). term_called tables t name) has.by_number ∙ e
+      ap (λ (t : TypeTables). term_called t (terms_of program) name) has.by_name ∙ ap (λ (t : TermTables). term_called tables t name)
+      has.by_number ∙ e
 
-  f_found : term_named program (codes "f") ≡ Some f
+  f_found : program_term program (codes "f") ≡ Some f
   f_found = found (codes "f") (Some f) refl
 
-  g_found : term_named program (codes "g") ≡ Some g
+  g_found : program_term program (codes "g") ≡ Some g
   g_found = found (codes "g") (Some g) refl
 
-  h_missing : term_named program (codes "h") ≡ None
+  h_missing : program_term program (codes "h") ≡ None
   h_missing = found (codes "h") None refl
 
   -- names and their terms stand in one order
@@ -87,14 +88,14 @@ module _ (program : Program) (has : HasBoth program) where
   both_named = rw (f_found, g_found)
 
   other_order : AreNamed program (codes "g" ∷ codes "f" ∷ []) (f ∷ g ∷ []) → ⊥
-  other_order named = g_is_not_f (sym g_found ∙ first_of (term_named program) (codes "g") (codes "f" ∷ []) f (g ∷ []) named)
+  other_order named = g_is_not_f (sym g_found ∙ first_of (program_term program) (codes "g") (codes "f" ∷ []) f (g ∷ []) named)
 
   none_left_out : AreNamed program (codes "g" ∷ codes "f" ∷ []) (g ∷ []) → ⊥
   none_left_out named = cc
 
   h_not_named : (asked : List TermId) → AreNamed program (codes "h" ∷ []) asked → ⊥
   h_not_named [] named = cc
-  h_not_named (term ∷ others) named = none_is_no_term term (sym h_missing ∙ first_of (term_named program) (codes "h") [] term others named)
+  h_not_named (term ∷ others) named = none_is_no_term term (sym h_missing ∙ first_of (program_term program) (codes "h") [] term others named)
 
   -- the first name of no term is unknown, and no other
   h_is_unknown : IsUnknown program (codes "f" ∷ codes "h" ∷ codes "k" ∷ []) (codes "h")
@@ -119,7 +120,7 @@ module _ (program : Program) (has : HasBoth program) where
       second_is_none (name ∷ before) after [] among known = cc
       second_is_none (name ∷ before) after (term ∷ others) among known =
           let is_h : codes "h" ≡ name = ap (λ (names : List (List ℕ)). get_or names 0 []) among in
-          none_is_no_term term (sym h_missing ∙ ap (term_named program) is_h ∙ first_of (term_named program) name before term others known)
+          none_is_no_term term (sym h_missing ∙ ap (program_term program) is_h ∙ first_of (program_term program) name before term others known)
 
   -- where f alone has a rule set and a tree, and both are this text
   module _ (files : List SourceFile) (set tree : _) (has_set : rule_sets_of program ≡ (f, set) ∷ [])
@@ -148,7 +149,7 @@ module _ (program : Program) (has : HasBoth program) where
         no_text_for_g [] named shown = cc
         no_text_for_g (term ∷ another ∷ others) named shown = cc
         no_text_for_g (term ∷ []) named shown =
-            let is_g = same_Some g term (sym g_found ∙ first_of (term_named program) (codes "g") [] term [] named) in
+            let is_g = same_Some g term (sym g_found ∙ first_of (program_term program) (codes "g") [] term [] named) in
             let of_f = text_of_one (IsEntryText program files (term ∷ [])) ((f, set), tree) (codes "term 0 f\n")
             (subst (λ (all : _). AreTexts (IsEntryText program files (term ∷ [])) all (codes "term 0 f\n")) has_both shown) in
             let none : codes "term 0 f\n" ≡ [] =
@@ -190,7 +191,8 @@ module _ (program : Program) (has : HasBoth program) where
       drawn = record {
         terms = [];
         named = refl;
-        told = subst (λ (all : _). AreTexts (IsEntryText program files []) all []) (sym (ap (λ (sets : _). zip sets (set_trees_of program)) none)) no_texts;
+        told = subst (λ (all : _). AreTexts (IsEntryText program files []) all [])
+            (sym (ap (λ (sets : _). zip sets (set_trees_of program)) none)) no_texts;
       };
       written = refl;
     }
@@ -207,18 +209,22 @@ module _ (files : List SourceFile) (each : (program : Program) → IsProgramOf f
   f_is_used_well ends =
       let wrong = ends.unknown in
       let is_f = only_one (codes "f") ends.name wrong.before wrong.after wrong.among in
-      none_is_no_term f (sym wrong.unknown ∙ ap (term_named ends.program) (sym is_f) ∙ f_found ends.program (each ends.program ends.is))
+      none_is_no_term f (sym wrong.unknown ∙ ap (program_term ends.program) (sym is_f) ∙ f_found ends.program (each ends.program ends.is))
 
 -- what is told where memory runs out, or its beginning
-out_of_memory : (names : List (List ℕ)) (files : List SourceFile) → EndsBlocks names false files (Some []) (Some (codes "out of memory\n")) status.OutOfMemory
+out_of_memory : (names : List (List ℕ)) (files : List SourceFile) → EndsBlocks names false files (Some [])
+    (Some (codes "out of memory\n")) status.OutOfMemory
 out_of_memory names files = (14, refl)
 
-begins_out_of_memory : (names : List (List ℕ)) (files : List SourceFile) → EndsBlocks names false files (Some []) (Some (codes "out")) status.OutOfMemory
+begins_out_of_memory : (names : List (List ℕ)) (files : List SourceFile) → EndsBlocks names false files (Some [])
+    (Some (codes "out")) status.OutOfMemory
 begins_out_of_memory names files = (3, refl)
 
-nothing_else : (names : List (List ℕ)) (files : List SourceFile) → EndsBlocks names false files (Some []) (Some (codes "error")) status.OutOfMemory → ⊥
+nothing_else : (names : List (List ℕ)) (files : List SourceFile) → EndsBlocks names false files (Some [])
+    (Some (codes "error")) status.OutOfMemory → ⊥
 nothing_else names files (zero, written) = cc
 nothing_else names files (suc count, written) = let first = ap (λ (text : List ℕ). get_or text 0 0) written in omega (arith, first)
 
-no_query_is_refused : (names : List (List ℕ)) (files : List SourceFile) (old new : Option (List ℕ)) → EndsBlocks names false files old new status.SomeRefused → ⊥
+no_query_is_refused : (names : List (List ℕ)) (files : List SourceFile) (old new : Option (List ℕ))
+    → EndsBlocks names false files old new status.SomeRefused → ⊥
 no_query_is_refused names files old new ends = ends

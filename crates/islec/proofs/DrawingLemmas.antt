@@ -6,14 +6,14 @@ use Rattle.std.proofs.Math.Seq.{drop-cons}
 use Rattle.std.proofs.lemmas.List.{map-append, take-append-drop}
 use Rattle.std.specs.Io.KnownBytes.{Appends}
 use Rattle.isle_syntax.specs.Errors.{Report}
-use Rattle.isle_syntax.specs.Positions.Files.{SourceFile}
+use Rattle.isle_ast.specs.Positions.Files.{SourceFile}
 use Rattle.isle_types.specs.declared.ids.TermId.{TermId}
 use Rattle.isle_types.proofs.DefinitionTurns.{take_here}
-use Rattle.isle_run.specs.declared.compiler.Refused.{Refused}
-use Rattle.isle_run.specs.declared.compiler.Refused.TheVariants.{Faults}
-use Rattle.isle_run.specs.declared.program.Program.{Program}
-use Rattle.isle_run.specs.Compiled.{AreAccepted, AreFaults, IsProgramOf, IfFaults}
-use Rattle.isle_run.specs.Programs.{term_named}
+use Rattle.isle_program.specs.declared.compiler.Refused.{Refused}
+use Rattle.isle_program.specs.declared.compiler.Refused.TheVariants.{Faults}
+use Rattle.isle_program.specs.declared.program.Program.{Program}
+use Rattle.isle_program.specs.Compiled.{AreAccepted, AreFaults, IsProgramOf, IfFaults}
+use Rattle.isle_program.specs.Programs.{program_term}
 use Rattle.islec.specs.Reasons.{ReportsFaults}
 use Rattle.islec.specs.declared.serve.ServeFault.{ServeFault}
 use Rattle.islec.specs.declared.serve.ServeFault.TheVariants.{Memory}
@@ -25,7 +25,8 @@ use Rattle.islec.proofs.RefusedFiles.{cuts_faults}
 
 module _ (files all : List SourceFile) (same : files ≡ all) (program : Program) (is : IsProgramOf files program) (accepted : AreAccepted files)
     (names : List (List ℕ)) (dot : Bool) (old new : Option (List ℕ)) where
-  pub draws_by : (r : Result Status ServeFault) → IfOk r (λ s. s ≡ AllWell → (text : List ℕ) × DrawsTrees program files names dot text × Appends old new text)
+  pub draws_by : (r : Result Status ServeFault) → IfOk r (λ s. s ≡ AllWell → (text : List ℕ) × DrawsTrees program files names dot text
+      × Appends old new text)
       → IfOk r (λ s. s ≡ AllWell → WritesTrees all names dot old new)
   draws_by (Err f) told = tt
   draws_by (Ok s) told = λ e.
@@ -39,7 +40,8 @@ module _ (files all : List SourceFile) (same : files ≡ all) (program : Program
         written = written;
       }
 
-  pub unknown_by : (r : Result Status ServeFault) → IfOk r (λ s. s ≡ Usage → (name : List ℕ) × IsUnknown program names name × Appends old new (unknown_line name))
+  pub unknown_by : (r : Result Status ServeFault) → IfOk r (λ s. s ≡ Usage → (name : List ℕ) × IsUnknown program names name
+      × Appends old new (unknown_line name))
       → IfOk r (λ s. s ≡ Usage → WritesUnknown all names old new)
   unknown_by (Err f) told = tt
   unknown_by (Ok s) told = λ e.
@@ -61,7 +63,8 @@ module _ (files all : List SourceFile) (same : files ≡ all) (program : Program
       let (text, tells, begun) = told e in
       inl (program, subst (λ l. IsProgramOf l program) same is, (text, subst (λ l. TellsTreesOf program l names dot text) same tells, begun))
 
-module _ (files all : List SourceFile) (refused : Refused) (report : Report) (old new : Option (List ℕ)) (is : refused ≡ Faults report) (same : files ≡ all)
+module _ (files all : List SourceFile) (refused : Refused) (report : Report) (old new : Option (List ℕ)) (is : refused ≡ Faults report)
+    (same : files ≡ all)
     (not_accepted : IfFaults refused (λ r. ¬ AreAccepted files)) (faults : IfFaults refused (λ r. AreFaults files r.errors))
     (of_files : IfFaults refused (λ r. r.files ≡ files)) where
   pub refusal_undrawn : (names : List (List ℕ)) (dot : Bool) (r : Result Status ServeFault)
@@ -82,17 +85,18 @@ parted names i name low is =
 module _ (program : Program) (names : List (String Global)) (terms : List TermId) (i : ℕ) (name : String Global) (low : i < length names)
     (is : name ≡ get_or names i name) (before : AreNamed program (map string_bytes (take i names)) terms) where
   -- one more name, that of a term
-  pub one_more : (term : TermId) → term_named program (string_bytes name) ≡ Some term → AreNamed program (map string_bytes (take (i + 1) names)) (terms ++ term ∷ [])
+  pub one_more : (term : TermId) → program_term program (string_bytes name) ≡ Some term
+      → AreNamed program (map string_bytes (take (i + 1) names)) (terms ++ term ∷ [])
   one_more term named =
       let all : take (i + 1) names ≡ take i names ++ name ∷ [] = take_here names i name low is in
-      ap (λ (l : List (String Global)). map (term_named program) (map string_bytes l)) all
-      ∙ ap (map (term_named program)) (map-append string_bytes (take i names) (name ∷ []))
-      ∙ map-append (term_named program) (map string_bytes (take i names)) (string_bytes name ∷ [])
+      ap (λ (l : List (String Global)). map (program_term program) (map string_bytes l)) all
+      ∙ ap (map (program_term program)) (map-append string_bytes (take i names) (name ∷ []))
+      ∙ map-append (program_term program) (map string_bytes (take i names)) (string_bytes name ∷ [])
       ∙ ap₂ (λ (l m : List (Option TermId)). l ++ m) before (ap (λ (t : Option TermId). t ∷ []) named)
       ∙ sym (map-append Some terms (term ∷ []))
 
   -- a name that is that of no term
-  pub first_unknown : term_named program (string_bytes name) ≡ None → IsUnknown program (map string_bytes names) (string_bytes name)
+  pub first_unknown : program_term program (string_bytes name) ≡ None → IsUnknown program (map string_bytes names) (string_bytes name)
   first_unknown none = record {
     before = map string_bytes (take i names);
     after = map string_bytes (drop (i + 1) names);

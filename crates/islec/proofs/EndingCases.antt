@@ -7,7 +7,7 @@ use Rattle.clap.specs.Words.{IsAmong, Row, Text, all_of, fault_of, first_of, kin
 use Rattle.clap.specs.declared.error.kind.ErrorKind.{ErrorKind}
 use Rattle.clap.specs.declared.error.kind.ErrorKind.TheVariants as kind
 use Rattle.clap.proofs.OnLiterals.{clap_on_literals}
-use Rattle.isle_syntax.specs.Positions.Files.{SourceFile}
+use Rattle.isle_ast.specs.Positions.Files.{SourceFile}
 use Rattle.islec.specs.declared.answer.Manner.{Manner}
 use Rattle.islec.specs.Commands.{islec}
 use Rattle.islec.specs.Endings.{EndsJob, EndsCommand, IsWorld, done, told}
@@ -31,7 +31,8 @@ no_print_is_refused_a_query : (width : ℕ) (unformatted : Bool) (files : List S
     → EndsJob (Fmt width unformatted) files world input left old new status.SomeRefused → ⊥
 no_print_is_refused_a_query width unformatted files world input left old new ends = ends.0
 
-no_tree_is_refused_a_query : (terms : Vec (String Global) Global) (dot : Bool) (files : List SourceFile) (world : SourceFile) (input left old new : Option (List ℕ))
+no_tree_is_refused_a_query : (terms : Vec (String Global) Global) (dot : Bool) (files : List SourceFile) (world : SourceFile)
+    (input left old new : Option (List ℕ))
     → EndsJob (Blocks terms dot) files world input left old new status.SomeRefused → ⊥
 no_tree_is_refused_a_query terms dot files world input left old new ends = ends.0
 

@@ -4,7 +4,7 @@ use Rattle.std.specs.Global.{Global}
 use Rattle.std.specs.List.{Contains}
 use Rattle.std.specs.Option.{option_map}
 use Rattle.clap.specs.Words.{Text}
-use Rattle.isle_syntax.specs.Positions.Files.{source_file}
+use Rattle.isle_ast.specs.Positions.Files.{source_file}
 use Rattle.islec.specs.Beginnings.{IsUnread, IsUnreadFile, IsUnreadWorld}
 use Rattle.islec.specs.Endings.{EndsJob, EndsCommand, Begins, HoldsBack, IsWorld, done, told}
 use Rattle.islec.specs.Lines.{ReadsLine}
@@ -17,7 +17,8 @@ use Rattle.islec.specs.declared.program.Unbegun.{Unbegun}
 use Rattle.islec.specs.declared.status.Status.{Status}
 
 -- files have the names of their texts
-pub source_names : (texts : List (String Global × String Global)) → map (λ file. file.name) (map source_file texts) ≡ map string_bytes (map (λ text. text.0) texts)
+pub source_names : (texts : List (String Global × String Global)) → map (λ file. file.name) (map source_file texts) ≡ map string_bytes
+    (map (λ text. text.0) texts)
 source_names [] = refl
 source_names (text ∷ others) = ap (λ (names : List Text). string_bytes text.0 ∷ names) (source_names others)
 
@@ -27,8 +28,10 @@ world_named None = refl
 world_named (Some pair) = refl
 
 -- a command that begins as its words say ends as its job does
-pub ends_done : (words : List Text) (begun : Begun) (input left old new : Option (List ℕ)) (code : ℕ) (middle : Option (List ℕ)) → Begins words input middle begun
-    → (status : Status) × (code ≡ code_of status) × EndsJob begun.job (map source_file begun.texts.items) (world_file begun.world) middle left old new status
+pub ends_done : (words : List Text) (begun : Begun) (input left old new : Option (List ℕ)) (code : ℕ) (middle : Option (List ℕ))
+    → Begins words input middle begun
+    → (status : Status) × (code ≡ code_of status) × EndsJob begun.job (map source_file begun.texts.items)
+    (world_file begun.world) middle left old new status
     → EndsCommand words input left old new code
 ends_done words begun input left old new code middle begins (status, is, ends) =
     done begins.line begins.reads (map source_file begun.texts.items)
@@ -44,11 +47,13 @@ status_of words input left old new code (done line reads files named world of mi
 status_of words input left old new code (told why holds status is tells) = (status, is)
 
 -- a file that isn't read is one of the names
-pub unread_among : (names : List (String Global)) (name : String Global) (why : Unbegun) → Contains names name → IsUnreadFile name why → IsUnread names why
+pub unread_among : (names : List (String Global)) (name : String Global) (why : Unbegun) → Contains names name
+    → IsUnreadFile name why → IsUnread names why
 unread_among names name why has unread = inr (name, has, unread)
 
 -- or it is the world's
-pub unread_world : (world : Option (String Global)) (name : String Global) (why : Unbegun) → world ≡ Some name → IsUnreadFile name why → IsUnreadWorld world why
+pub unread_world : (world : Option (String Global)) (name : String Global) (why : Unbegun) → world ≡ Some name
+    → IsUnreadFile name why → IsUnreadWorld world why
 unread_world world name why is unread = inr (name, is, unread)
 
 -- words whose files aren't read may not begin

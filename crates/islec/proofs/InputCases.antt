@@ -1,7 +1,7 @@
 -- Worked cases: which files are standard input, what they take of it, and what is told of files that are formatted or not.
 use Rattle.std.proofs.Common.{◌≡◌, ◌∙◌, ◌∷◌, ◌++◌, ℕ, List, [], Option, Some, None, refl, sym, ap, true, false, true≢false, codes, bytes_eq}
 use Rattle.std.proofs.lemmas.Option.{same_Some}
-use Rattle.isle_syntax.specs.Positions.Files.{SourceFile}
+use Rattle.isle_ast.specs.Positions.Files.{SourceFile}
 use Rattle.islec.specs.Formatting.{status_behind, told_of}
 use Rattle.islec.specs.Inputs.{ReadsFiles, is_input}
 use Rattle.islec.specs.declared.status.Status.TheVariants.{AllWell, TextsRefused}
@@ -19,7 +19,8 @@ abbrev file : List ℕ → List ℕ → SourceFile
 file name text = record { name = name; text = text }
 
 -- the first takes all, and the second nothing
-input_is_read_once : ReadsFiles true (file (codes "-") (codes "ab") ∷ file (codes "a") (codes "c") ∷ file (codes "-") [] ∷ []) (Some (codes "ab")) (Some [])
+input_is_read_once : ReadsFiles true (file (codes "-") (codes "ab") ∷ file (codes "a") (codes "c") ∷ file (codes "-") [] ∷ [])
+    (Some (codes "ab")) (Some [])
 input_is_read_once = (Some [], (refl, refl), (Some [], refl, (Some [], (refl, refl), refl)))
 
 part_is_not_read : (left : Option (List ℕ)) → ReadsFiles true (file (codes "-") (codes "a") ∷ []) (Some (codes "ab")) left → ⊥

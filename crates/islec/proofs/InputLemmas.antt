@@ -2,7 +2,7 @@
 use Rattle.std.proofs.Common.{◌≡◌, ℕ, Bool, List, [], ◌∷◌, ◌++◌, Option, String, refl, subst, map}
 use Rattle.std.proofs.lemmas.List.{map_push}
 use Rattle.std.specs.Global.{Global}
-use Rattle.isle_syntax.specs.Positions.Files.{SourceFile, source_file}
+use Rattle.isle_ast.specs.Positions.Files.{SourceFile, source_file}
 use Rattle.islec.specs.Inputs.{ReadsFile, ReadsFiles}
 
 -- one file more at the end is read of what the others left

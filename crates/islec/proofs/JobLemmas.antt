@@ -2,8 +2,8 @@
 use Rattle.std.proofs.Common.{◌≡◌, ◌≢◌, ◌⊎◌, ◌∙◌, ℕ, Bool, true, false, List, Option, Result, Ok, Err, IfOk, IfErr, inl, inr, refl, sym, subst}
 use Rattle.std.specs.Prelude.{codes}
 use Rattle.std.specs.Io.KnownBytes.{Keeps}
-use Rattle.isle_syntax.specs.Positions.Files.{SourceFile}
-use Rattle.isle_run.specs.Compiled.{AreAccepted}
+use Rattle.isle_ast.specs.Positions.Files.{SourceFile}
+use Rattle.isle_program.specs.Compiled.{AreAccepted}
 use Rattle.islec.specs.declared.answer.Manner.{Manner}
 use Rattle.islec.specs.Drawing.{WritesTrees, WritesUnknown, CutsTrees}
 use Rattle.islec.specs.Endings.{EndsRun, EndsCheck, EndsBlocks, EndsFmt}
@@ -18,7 +18,8 @@ use Rattle.islec.specs.declared.status.Status.TheVariants.{AllWell, TextsRefused
 use Rattle.islec.proofs.WritingLemmas.{line_behind}
 
 -- what is said of a status and of what is written is said of the same
-moved : (P : Option (List ℕ) → Status → Type 0) (own status : Status) (mid new : Option (List ℕ)) → status ≡ own → new ≡ mid → P mid own → P new status
+moved : (P : Option (List ℕ) → Status → Type 0) (own status : Status) (mid new : Option (List ℕ)) → status ≡ own
+    → new ≡ mid → P mid own → P new status
 moved P own status mid new is same p = subst (P new) (sym is) (subst (λ n. P n own) (sym same) p)
 
 module _ (manner : Manner) (files : List SourceFile) (world : SourceFile) (input left old mid : Option (List ℕ)) where

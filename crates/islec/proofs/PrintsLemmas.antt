@@ -2,7 +2,7 @@
 use Rattle.std.proofs.Common.{◌≡◌, ◌≢◌, ℕ, zero, suc, Bool, true, false, List, [], ◌∷◌, ◌++◌, ◌+◌, ◌<◌, ◌≤◌, length, take, take_all, add-one, ap, sym, ◌∙◌, refl}
 use Rattle.std.proofs.Common.{append_assoc, append-nil, subst, arith, IfSome, slice_get, Option, Some, None, inr}
 use Rattle.std.specs.Io.KnownBytes.{Appends, Keeps}
-use Rattle.isle_syntax.specs.Positions.Files.{SourceFile}
+use Rattle.isle_ast.specs.Positions.Files.{SourceFile}
 use Rattle.isle_layout.specs.Formats.{Formats}
 use Rattle.islec.specs.Formatting.{Prints, WritesPrints, WritesNames, RefusesPrints, status_behind, told_of}
 use Rattle.islec.specs.declared.status.Status.TheVariants.{AllWell, TextsRefused}
@@ -46,9 +46,11 @@ Prints-pushed unformatted width i files out print grown within printed next is =
         → IfSome o (λ file. grown ≡ out ++ told_of unformatted file print) → Prints unformatted width 0 (take (i + 1) files) grown
     go None none formats told = absurd (there files i within none)
     go (Some file) found formats told =
-        let both = subst (λ (o : Option SourceFile). IfSome o (λ own. Formats i width own.text print × (told_of unformatted file print ≡ told_of unformatted own print)))
+        let both = subst (λ (o : Option SourceFile). IfSome o (λ own. Formats i width own.text print
+        × (told_of unformatted file print ≡ told_of unformatted own print)))
         (sym found) (formats, refl) in
-        rw told (rw (add-one i) (Prints-more unformatted width 0 i i files out print (told_of unformatted file print) within (omega arith) printed both))
+        rw told (rw (add-one i) (Prints-more unformatted width 0 i i files out print (told_of unformatted file print) within
+        (omega arith) printed both))
 
 -- all of them
 pub Prints-all : (unformatted : Bool) (width i : ℕ) (files others : List SourceFile) (out : List ℕ) → length files ≤ i → files ≡ others
@@ -64,7 +66,8 @@ appends_nothing (Some x) (Some y) wrote = wrote ∙ append-nil x
 
 -- what is written where all is well
 pub prints_well : (unformatted : Bool) (width : ℕ) (files : List SourceFile) (out : List ℕ) (old new : Option (List ℕ))
-    → Prints unformatted width 0 files out → Appends old new out → status_behind unformatted out ≡ AllWell → WritesPrints unformatted width files old new
+    → Prints unformatted width 0 files out → Appends old new out → status_behind unformatted out ≡ AllWell
+    → WritesPrints unformatted width files old new
 prints_well false width files out old new printed wrote well = (out, printed, wrote)
 prints_well true width files [] old new printed wrote well = (printed, appends_nothing old new wrote)
 prints_well true width files (x ∷ out) old new printed wrote well = absurd cc

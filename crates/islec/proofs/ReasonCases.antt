@@ -2,11 +2,11 @@
 use Rattle.std.proofs.Common.{arith, ◌≡◌, ◌∙◌, ◌++◌, ◌∷◌, [], ℕ, List, true, false, inl, inr, refl, ap, subst, append-nil, codes}
 use Rattle.std.proofs.lemmas.Fmt.{decimal_digit}
 use Rattle.isle_syntax.specs.Errors.{Report, error_text, report_text}
-use Rattle.isle_syntax.specs.Positions.Files.{SourceFile}
-use Rattle.isle_syntax.specs.declared.error.Error.{Error}
-use Rattle.isle_run.specs.declared.calls.answer.Answer.TheVariants.{None as NoAnswer, Spent}
-use Rattle.isle_run.specs.declared.program.Program.{Program}
-use Rattle.isle_run.specs.declared.worlds.reading.WorldFault.{WorldFault}
+use Rattle.isle_ast.specs.Positions.Files.{SourceFile}
+use Rattle.isle_ast.specs.declared.error.Error.{Error}
+use Rattle.isle_calls.specs.declared.answer.Answer.TheVariants.{None as NoAnswer, Spent}
+use Rattle.isle_program.specs.declared.program.Program.{Program}
+use Rattle.isle_values.specs.declared.worlds.reading.WorldFault.{WorldFault}
 use Rattle.islec.specs.Reasons.{IsReason, ReportsFaults, ExplainEach, no_faults, more_faults, TellsFault, depth_line}
 use Rattle.islec.specs.Worlds.{world_fault_line}
 use Rattle.islec.specs.declared.answer.Manner.{Manner}
@@ -47,7 +47,8 @@ abbrev unasked : Manner
 unasked = record { depth = 3; plain = false; steps = false; trace = false; coverage = false; unanswered = false; explain = false }
 
 depth_is_told : depth_line asked Spent ≡ codes "  --depth is 3: so many calls may be open at once\n"
-depth_is_told = ap (λ (digits : List ℕ). codes "  --depth is " ++ (digits ++ codes ": so many calls may be open at once\n")) (decimal_digit 3 (omega arith))
+depth_is_told = ap (λ (digits : List ℕ). codes "  --depth is " ++ (digits ++ codes ": so many calls may be open at once\n"))
+    (decimal_digit 3 (omega arith))
 
 depth_is_not_told : depth_line unasked Spent ≡ []
 depth_is_not_told = refl

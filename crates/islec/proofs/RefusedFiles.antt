@@ -2,16 +2,17 @@
 use Rattle.std.proofs.Common.{◌≡◌, ℕ, Bool, List, Option, subst}
 use Rattle.std.specs.Io.KnownBytes.{Appends}
 use Rattle.isle_syntax.specs.Errors.{Report}
-use Rattle.isle_syntax.specs.Positions.Files.{SourceFile}
-use Rattle.isle_run.specs.declared.compiler.Refused.{Refused}
-use Rattle.isle_run.specs.declared.compiler.Refused.TheVariants.{Faults}
-use Rattle.isle_run.specs.Compiled.{AreAccepted, AreFaults, IfFaults}
+use Rattle.isle_ast.specs.Positions.Files.{SourceFile}
+use Rattle.isle_program.specs.declared.compiler.Refused.{Refused}
+use Rattle.isle_program.specs.declared.compiler.Refused.TheVariants.{Faults}
+use Rattle.isle_program.specs.Compiled.{AreAccepted, AreFaults, IfFaults}
 use Rattle.islec.specs.Reasons.{ReportsFaults}
 use Rattle.islec.specs.Running.{WritesFaults, CutsFaults}
 use Rattle.islec.specs.Writing.{AppendsBeginning}
 
 -- what is printed of the faults of these files
-pub writes_faults : (asked : Bool) (text : List ℕ) (files all : List SourceFile) (refused : Refused) (report : Report) (old new : Option (List ℕ)) → refused ≡ Faults report
+pub writes_faults : (asked : Bool) (text : List ℕ) (files all : List SourceFile) (refused : Refused) (report : Report) (old new : Option (List ℕ))
+    → refused ≡ Faults report
     → files ≡ all → IfFaults refused (λ r. ¬ AreAccepted files) → IfFaults refused (λ r. AreFaults files r.errors)
     → IfFaults refused (λ r. r.files ≡ files) → ReportsFaults asked report text
     → Appends old new text → WritesFaults asked all old new
@@ -28,7 +29,8 @@ writes_faults asked text files all refused report old new is same not_accepted f
     })
 
 -- a beginning of it
-pub cuts_faults : (asked : Bool) (text : List ℕ) (files all : List SourceFile) (refused : Refused) (report : Report) (old new : Option (List ℕ)) → refused ≡ Faults report
+pub cuts_faults : (asked : Bool) (text : List ℕ) (files all : List SourceFile) (refused : Refused) (report : Report) (old new : Option (List ℕ))
+    → refused ≡ Faults report
     → files ≡ all → IfFaults refused (λ r. ¬ AreAccepted files) → IfFaults refused (λ r. AreFaults files r.errors)
     → IfFaults refused (λ r. r.files ≡ files) → ReportsFaults asked report text
     → AppendsBeginning old new text → CutsFaults asked all old new

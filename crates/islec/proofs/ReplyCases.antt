@@ -14,13 +14,13 @@ use Rattle.isle_syntax.specs.Tokens.Finding.{Reading}
 use Rattle.isle_syntax.specs.Tokens.PlacedTokens.{Placed, placed_at}
 use Rattle.isle_syntax.specs.Tokens.TokensOf.{TokensOf, ended, token, word, pos_of_rest}
 use Rattle.isle_syntax.proofs.Tokens.Findings.{tokens_same}
-use Rattle.isle_terms.specs.Values.{ValueTree, ValueTrees}
+use Rattle.isle_rules.specs.Values.{ValueTree, ValueTrees}
 use Rattle.isle_meaning.specs.Worlds.{Answers, Event}
-use Rattle.isle_run.specs.declared.program.Program.{Program}
-use Rattle.isle_run.specs.declared.query.QueryFault.TheVariants.{Q1, Q2, Q3, Q4, Memory}
-use Rattle.isle_run.specs.Calls.Answers.{name_of_term}
-use Rattle.isle_run.specs.Values.Lists.{IsListOf}
-use Rattle.isle_run.specs.Values.TextTokens.{AreTokensOf, alone, bare}
+use Rattle.isle_program.specs.declared.program.Program.{Program}
+use Rattle.isle_values.specs.declared.queries.QueryFault.TheVariants.{Q1, Q2, Q3, Q4, Memory}
+use Rattle.isle_calls.specs.Calls.Answers.{name_of_term}
+use Rattle.isle_values.specs.Values.Lists.{IsListOf}
+use Rattle.isle_values.specs.Values.TextTokens.{AreTokensOf, alone, bare}
 use Rattle.islec.specs.declared.answer.Manner.{Manner}
 use Rattle.islec.specs.Reasons.{IsReason}
 use Rattle.islec.specs.Replies.{Setting, Leads, IsReply, TellsRefused, no_text, blank, no_call, call, refused_line}
@@ -83,17 +83,29 @@ no_line_leaves_all p a out refused after replies = replies
 -- a line whose reply is always this, and makes one effect
 record Counts (p : Program) (a : Answers) (line reply : List ℕ) : Type 0 where
   given : (n : ℕ) → IsReply (counting p a) n line reply false (n + 1)
-  only : (n after : ℕ) (out : List ℕ) (refused : Bool) → IsReply (counting p a) n line out refused after → (out ≡ reply) × (refused ≡ false) × (after ≡ n + 1)
+  only : (n after : ℕ) (out : List ℕ) (refused : Bool) → IsReply (counting p a) n line out refused after → (out ≡ reply)
+      × (refused ≡ false) × (after ≡ n + 1)
 
 -- replied to twice it makes two effects, in the worlds that they leave
-twice_is_two : (p : Program) (a : Answers) (line reply : List ℕ) → Counts p a line reply → AreReplies (counting p a) 0 (line ∷ line ∷ []) (reply ++ reply) false 2
+twice_is_two : (p : Program) (a : Answers) (line reply : List ℕ) → Counts p a line reply
+    → AreReplies (counting p a) 0 (line ∷ line ∷ []) (reply ++ reply) false 2
 twice_is_two p a line reply c =
     (reply, reply, false, false, 1, c.given 0, (reply, [], false, false, 2, c.given 1, (refl, refl, refl), sym (append-nil reply), refl), refl, refl)
 
 -- and no more, and no less
 twice_is_no_other : (p : Program) (a : Answers) (line reply out : List ℕ) (refused : Bool) (after : ℕ) → Counts p a line reply
     → AreReplies (counting p a) 0 (line ∷ line ∷ []) out refused after → (out ≡ reply ++ reply) × (refused ≡ false) × (after ≡ 2)
-twice_is_no_other p a line reply out refused after c (one, rest, first, others, middle, is, (last, none, second, no_other, left, also, (no_out, well, stays), rests, counted), joined, told) =
+twice_is_no_other p a line reply out refused after c (
+  one,
+  rest,
+  first,
+  others,
+  middle,
+  is,
+  (last, none, second, no_other, left, also, (no_out, well, stays), rests, counted),
+  joined,
+  told,
+) =
     let this = c.only 0 middle one first is in
     let that = c.only middle left last second also in
     (cc (append-nil last), told ∙ ap₂ (λ x y. x || y) this.1 (counted ∙ ap₂ (λ x y. x || y) that.1 well), omega (arith, stays, this.2, that.2))
@@ -177,7 +189,8 @@ x_only : (p : Program) (a : Answers) (n after : ℕ) (out : List ℕ) (refused :
     → (out ≡ codes "refused 4\n") × (refused ≡ true) × (after ≡ n)
 x_only p a n after out refused (no_text text o r s) = absurd (text x_is_text)
 x_only p a n after out refused (blank text none o r s) = let wrong = only_x [] none in absurd cc
-x_only p a n after out refused (no_call text some Q1 cause (name, rest, (tokens, are, list), why) number o r s) = absurd (x_is_no_list tokens name rest are list)
+x_only p a n after out refused (no_call text some Q1 cause (name, rest, (tokens, are, list), why) number o r s) =
+    absurd (x_is_no_list tokens name rest are list)
 x_only p a n after out refused (no_call text some Q2 cause (name, rest, term, (tokens, are, list), named, why) number o r s) =
     absurd (x_is_no_list tokens name rest are list)
 x_only p a n after out refused (no_call text some Q3 cause (name, rest, term, (tokens, are, list), named, runs, why) number o r s) =
@@ -220,9 +233,31 @@ literal_lines p a = (
 
 literal_lines_only : (p : Program) (a : Answers) (out : List ℕ) (refused : Bool) (after : ℕ)
     → AreReplies (counting p a) 7 ([] ∷ x ∷ byte ∷ []) out refused after → (out ≡ codes "refused 4\nrefused 4\n") × (refused ≡ true) × (after ≡ 7)
-literal_lines_only p a out refused after
-    (one, rest, first, others, middle, is, (two, behind, second, more, left, also, (three, none, third, no_other, end, last, (no_out, well, stays), outs, tells), joined, told), all, counted) =
+literal_lines_only p a out refused after (
+  one,
+  rest,
+  first,
+  others,
+  middle,
+  is,
+  (
+    two,
+    behind,
+    second,
+    more,
+    left,
+    also,
+    (three, none, third, no_other, end, last, (no_out, well, stays), outs, tells),
+    joined,
+    told,
+  ),
+  all,
+  counted,
+) =
     let this = empty_only p a 7 middle one first is in
     let that = x_only p a middle left two second also in
-    let those = byte_only p a left end three third last in
-    (cc (append-nil three), counted ∙ ap₂ (λ x y. x || y) this.1 (told ∙ ap₂ (λ x y. x || y) that.1 (tells ∙ ap₂ (λ x y. x || y) those.1 well)), omega (arith, stays, this.2, that.2, those.2))
+    let those = byte_only p a left end three third last in (
+      cc (append-nil three),
+      counted ∙ ap₂ (λ x y. x || y) this.1 (told ∙ ap₂ (λ x y. x || y) that.1 (tells ∙ ap₂ (λ x y. x || y) those.1 well)),
+      omega (arith, stays, this.2, that.2, those.2),
+    )

@@ -1,21 +1,21 @@
 -- What is written of a call's parts, and what a refused or an answered query is written.
 use Rattle.isle_meaning.proofs.Calls.Beginnings.{plain_begins}
 use Rattle.isle_meaning.proofs.Machine.Beginnings.{machine_begins}
-use Rattle.isle_run.specs.TreeCalls.{term_trees}
-use Rattle.isle_run.specs.Meanings.{checked}
-use Rattle.isle_run.specs.declared.program.Program.{Program}
-use Rattle.isle_run.specs.declared.calls.answer.Called.{Called}
+use Rattle.isle_machine.specs.TreeCalls.{term_trees}
+use Rattle.isle_program.specs.Meanings.{checked}
+use Rattle.isle_program.specs.declared.program.Program.{Program}
+use Rattle.isle_calls.specs.declared.answer.Called.{Called}
 use Rattle.isle_meaning.specs.Worlds.{Answers, Event}
 use Rattle.isle_meaning.specs.Values.{Values}
 use Rattle.std.proofs.Common.{◌≡◌, ◌<◌, ◌+◌, ◌++◌, ℕ, zero, suc, List, [], ◌∷◌, Some, Result, Ok, Err, IfOk, OnOk, length, take, get_or, refl, sym, subst, ap, ◌∙◌, append_assoc, append-nil, add-one, arith, string_bytes, Bool, true, false, inl, inr, OnErr}
 use Rattle.std.specs.Prelude.{codes, IsUtf8}
 use Rattle.std.specs.declared.alloc.AllocError.{AllocError}
 use Rattle.isle_types.specs.declared.ids.TermId.{TermId}
-use Rattle.isle_terms.specs.Values.{ValueTree, ValueTrees, value_list}
-use Rattle.isle_run.specs.declared.query.QueryFault.{QueryFault}
-use Rattle.isle_run.specs.Queries.{RefusesText, IsCallIn}
-use Rattle.isle_run.specs.Values.TextTokens.{AreTokensOf}
-use Rattle.isle_run.specs.Values.Text.{value_text, fields_text}
+use Rattle.isle_rules.specs.Values.{ValueTree, ValueTrees, value_list}
+use Rattle.isle_values.specs.declared.queries.QueryFault.{QueryFault}
+use Rattle.isle_values.specs.Queries.{RefusesText, IsCallIn}
+use Rattle.isle_values.specs.Values.TextTokens.{AreTokensOf}
+use Rattle.isle_values.specs.Values.Text.{value_text, fields_text}
 use Rattle.islec.specs.declared.answer.Reply.{Reply}
 use Rattle.islec.specs.Replies.{Setting, Refuses, IsReply, AnswersCall, call_text, cause_number, no_call, call, TellsBy, BeginsBy, BeginsCall, LosesReply, no_text, blank}
 
@@ -38,7 +38,8 @@ next_argument old name args i v was spaced grown within is written space text =
     rw (add-one i, fields_more args i v within is, text, space, written) (simp append_assoc)
 
 -- a query that is refused
-pub refused_query : {V : Type 0} (setting : Setting V) (world : V) (line text : List ℕ) (fault : QueryFault) (r : Result Reply AllocError) → text ≡ line → IsUtf8 line
+pub refused_query : {V : Type 0} (setting : Setting V) (world : V) (line text : List ℕ) (fault : QueryFault) (r : Result Reply AllocError)
+    → text ≡ line → IsUtf8 line
     → ¬ AreTokensOf text [] → RefusesText setting.program text fault
     → IfOk r (λ reply. (cause : ℕ) × (cause_number fault ≡ Some cause) × Refuses setting.manner.explain cause reply)
     → IfOk r (λ reply. IsReply setting world line (string_bytes reply.lines) reply.refused world)
@@ -54,7 +55,8 @@ refused_bytes setting world line (Err e) none told = tt
 refused_bytes setting world line (Ok reply) none told = no_text none told.lines told.refused refl
 
 -- a query that is answered
-pub answered_query : {V : Type 0} (setting : Setting V) (before after : V) (line text : List ℕ) (term : TermId) (args : ValueTrees) (r : Result Reply AllocError) → text ≡ line → IsUtf8 line
+pub answered_query : {V : Type 0} (setting : Setting V) (before after : V) (line text : List ℕ) (term : TermId)
+    (args : ValueTrees) (r : Result Reply AllocError) → text ≡ line → IsUtf8 line
     → IsCallIn setting.program text term args → IfOk r (λ reply. AnswersCall setting before term args (string_bytes reply.lines) reply.refused after)
     → IfOk r (λ reply. IsReply setting before line (string_bytes reply.lines) reply.refused after)
 answered_query setting before after line text term args (Err e) same utf8 spelt told = tt
@@ -62,7 +64,8 @@ answered_query setting before after line text term args (Ok reply) same utf8 spe
     call utf8 term args (subst (λ l. IsCallIn setting.program l term args) same spelt) told
 
 -- a call behind a word
-pub labelled : (r : Result (Unit {0}) AllocError) (old put new label name own : List ℕ) (args items : List ValueTree) → put ≡ old ++ label → name ≡ own
+pub labelled : (r : Result (Unit {0}) AllocError) (old put new label name own : List ℕ) (args items : List ValueTree)
+    → put ≡ old ++ label → name ≡ own
     → args ≡ items → OnOk r (new ≡ put ++ call_text name args) → OnOk r (new ≡ old ++ (label ++ call_text own items))
 labelled (Err e) old put new label name own args items is named same wrote = tt
 labelled (Ok u) old put new label name own args items is named same wrote =

@@ -2,11 +2,11 @@
 use Rattle.std.proofs.Common.{◌≡◌, ◌≢◌, inl, inr, ℕ, Bool, List, Option, Result, Ok, Err, IfOk, IfErr, OnOk, subst}
 use Rattle.std.specs.Io.KnownBytes.{Appends, Keeps}
 use Rattle.isle_syntax.specs.Errors.{Report}
-use Rattle.isle_syntax.specs.Positions.Files.{SourceFile}
-use Rattle.isle_run.specs.declared.compiler.Refused.{Refused}
-use Rattle.isle_run.specs.declared.compiler.Refused.TheVariants.{Faults}
-use Rattle.isle_run.specs.declared.program.Program.{Program}
-use Rattle.isle_run.specs.Compiled.{AreAccepted, AreFaults, IsProgramOf, IfFaults}
+use Rattle.isle_ast.specs.Positions.Files.{SourceFile}
+use Rattle.isle_program.specs.declared.compiler.Refused.{Refused}
+use Rattle.isle_program.specs.declared.compiler.Refused.TheVariants.{Faults}
+use Rattle.isle_program.specs.declared.program.Program.{Program}
+use Rattle.isle_program.specs.Compiled.{AreAccepted, AreFaults, IsProgramOf, IfFaults}
 use Rattle.islec.specs.declared.answer.Manner.{Manner}
 use Rattle.islec.specs.declared.serve.ServeFault.{ServeFault}
 use Rattle.islec.specs.declared.serve.ServeFault.TheVariants.{Memory}
@@ -18,8 +18,10 @@ use Rattle.islec.specs.Writing.{AppendsBeginning}
 use Rattle.islec.specs.declared.terms.Telling.{Telling}
 use Rattle.islec.proofs.RefusedFiles.{writes_faults, cuts_faults}
 
-module _ (files all : List SourceFile) (same : files ≡ all) (program : Program) (is : IsProgramOf files program) (world : SourceFile) (manner : Manner) (input left old new : Option (List ℕ)) where
-  pub answers_by : (refused : Bool) (status : Status) (r : Result Status ServeFault) → IfOk r (λ s. s ≡ status → AnswersIn program world manner input refused old new)
+module _ (files all : List SourceFile) (same : files ≡ all) (program : Program) (is : IsProgramOf files program)
+    (world : SourceFile) (manner : Manner) (input left old new : Option (List ℕ)) where
+  pub answers_by : (refused : Bool) (status : Status) (r : Result Status ServeFault)
+      → IfOk r (λ s. s ≡ status → AnswersIn program world manner input refused old new)
       → IfOk r (λ s. s ≡ status → WritesAnswers all world manner input refused old new)
   answers_by refused status (Err f) told = tt
   answers_by refused status (Ok s) told = λ e. (program, subst (λ l. IsProgramOf l program) same is, told e)
@@ -39,13 +41,15 @@ module _ (files all : List SourceFile) (same : files ≡ all) (program : Program
   stops_by (Ok s) told = tt
   stops_by (Err f) told = λ e. inr (program, subst (λ l. IsProgramOf l program) same is, told e)
 
-module _ (files all : List SourceFile) (refused : Refused) (report : Report) (old new : Option (List ℕ)) (is : refused ≡ Faults report) (same : files ≡ all)
+module _ (files all : List SourceFile) (refused : Refused) (report : Report) (old new : Option (List ℕ)) (is : refused ≡ Faults report)
+    (same : files ≡ all)
     (not_accepted : IfFaults refused (λ r. ¬ AreAccepted files)) (faults : IfFaults refused (λ r. AreFaults files r.errors))
     (of_files : IfFaults refused (λ r. r.files ≡ files)) where
   pub faults_by : (asked : Bool) (r : Result Status ServeFault) → OnOk r ((text : List ℕ) × ReportsFaults asked report text × Appends old new text)
       → IfOk r (λ s. s ≡ TextsRefused → WritesFaults asked all old new)
   faults_by asked (Err f) wrote = tt
-  faults_by asked (Ok s) (text, told, wrote) = λ _. writes_faults asked text files all refused report old new is same not_accepted faults of_files told wrote
+  faults_by asked (Ok s) (text, told, wrote) = λ _. writes_faults asked text files all refused report old
+      new is same not_accepted faults of_files told wrote
 
   pub refuses_by : (world : SourceFile) (manner : Manner) (r : Result Status ServeFault)
       → OnOk r ((text : List ℕ) × ReportsFaults manner.explain report text × Appends old new text)
@@ -68,7 +72,8 @@ module _ (files all : List SourceFile) (refused : Refused) (report : Report) (ol
   refusal_uncheckable telling (Err f) wrote = λ e. let (text, told, cut) = wrote e in
       inr (cuts_faults telling.explain text files all refused report old new is same not_accepted faults of_files told cut)
 
-module _ (files all : List SourceFile) (same : files ≡ all) (program : Program) (is : IsProgramOf files program) (accepted : AreAccepted files) (telling : Telling)
+module _ (files all : List SourceFile) (same : files ≡ all) (program : Program) (is : IsProgramOf files program)
+    (accepted : AreAccepted files) (telling : Telling)
     (old new : Option (List ℕ)) where
   pub accepts_by : (r : Result Status ServeFault) → OnOk r ((text : List ℕ) × TellsChecked program telling text × Appends old new text)
       → IfOk r (λ s. s ≡ AllWell → WritesAccepted all telling old new)
@@ -82,13 +87,15 @@ module _ (files all : List SourceFile) (same : files ≡ all) (program : Program
     written = told.2;
   }
 
-  pub tells_cut : (r : Result Status ServeFault) → IfErr r (λ f. f ≢ Memory → (text : List ℕ) × TellsChecked program telling text × AppendsBeginning old new text)
+  pub tells_cut : (r : Result Status ServeFault) → IfErr r (λ f. f ≢ Memory → (text : List ℕ) × TellsChecked program telling text
+      × AppendsBeginning old new text)
       → IfErr r (λ f. f ≢ Memory → CutsCheck all telling old new)
   tells_cut (Ok s) told = tt
   tells_cut (Err f) told = λ e. inl (program, subst (λ l. IsProgramOf l program) same is, told e)
 
 -- nothing is written
-pub nothing_by : (files : List SourceFile) (world : SourceFile) (manner : Manner) (input left old new : Option (List ℕ)) (r : Result Status ServeFault) → left ≡ input
+pub nothing_by : (files : List SourceFile) (world : SourceFile) (manner : Manner) (input left old new : Option (List ℕ))
+    (r : Result Status ServeFault) → left ≡ input
     → IfErr r (λ f. f ≡ Memory → Keeps old new) → IfErr r (λ f. f ≡ Memory → AnswersSome files world manner input left old new)
 nothing_by files world manner input left old new (Ok s) same kept = tt
 nothing_by files world manner input left old new (Err f) same kept = λ e. inl (same, kept e)

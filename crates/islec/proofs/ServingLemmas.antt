@@ -11,8 +11,8 @@ use Rattle.islec.specs.declared.answer.Manner.{Manner}
 use Rattle.islec.specs.declared.serve.ServeFault.{ServeFault}
 use Rattle.islec.specs.declared.serve.Served.{Served}
 use Rattle.islec.specs.declared.serve.ServeFault.TheVariants.{Read, Write, Memory}
-use Rattle.isle_terms.specs.Values.{ValueTree, ValueTrees}
-use Rattle.isle_run.specs.declared.program.Program.{Program}
+use Rattle.isle_rules.specs.Values.{ValueTree, ValueTrees}
+use Rattle.isle_program.specs.declared.program.Program.{Program}
 use Rattle.islec.specs.Replies.{Setting, setting_in, IsReply, LosesReply}
 use Rattle.islec.specs.Serving.{AreReplies, AreLinesOf, AreFirstLinesOf, WritesReplies, AnswersAll, AnswersFirst, AnswersCut, KeepsBack, KeepsFirst, GivesLines, some_refused, BreaksOff, IsCutShort, LosesNewline, WritesFirst}
 use Rattle.islec.specs.Writing.{AppendsBeginning, ContinuesBy}
@@ -62,7 +62,8 @@ cut_behind a b c out kept count wrote more =
     (length out + count, subst (Appends a c) (sym (take-append-add out kept count)) (Appends-trans a b c out (take count kept) wrote more))
 
 -- replies to lines that a reader gave, of which an end is kept back
-pub record IsServing {V : Type 0} (setting : Setting V) (before : V) (input left old new : Option (List ℕ)) (kept : List ℕ) (refused : Bool) (after : V) : Type 0 where
+pub record IsServing {V : Type 0} (setting : Setting V) (before : V) (input left old new : Option (List ℕ))
+    (kept : List ℕ) (refused : Bool) (after : V) : Type 0 where
   pub lines : List (List ℕ)
   pub whole : List ℕ
   pub read : Consumes input left whole
@@ -99,7 +100,8 @@ answers_more setting before middle after input a b old new kept line one grown r
 }
 
 -- some of what was kept back is written
-pub writes_some : {V : Type 0} (setting : Setting V) (before after : V) (lines : List (List ℕ)) (old mid new : Option (List ℕ)) (kept some rest : List ℕ)
+pub writes_some : {V : Type 0} (setting : Setting V) (before after : V) (lines : List (List ℕ)) (old mid new : Option (List ℕ))
+    (kept some rest : List ℕ)
     (refused : Bool) → KeepsBack setting before lines refused old mid kept after → Appends mid new some → kept ≡ some ++ rest
     → KeepsBack setting before lines refused old new rest after
 writes_some setting before after lines old mid new kept some rest refused keeps wrote is = record {
@@ -110,7 +112,8 @@ writes_some setting before after lines old mid new kept some rest refused keeps 
 }
 
 -- all of it
-pub writes_all : {V : Type 0} (setting : Setting V) (before after : V) (lines : List (List ℕ)) (old mid new : Option (List ℕ)) (kept : List ℕ) (refused : Bool)
+pub writes_all : {V : Type 0} (setting : Setting V) (before after : V) (lines : List (List ℕ)) (old mid new : Option (List ℕ))
+    (kept : List ℕ) (refused : Bool)
     → KeepsBack setting before lines refused old mid kept after → Appends mid new kept → WritesReplies setting before lines refused old new after
 writes_all setting before after lines old mid new kept refused keeps wrote =
     (keeps.out ++ kept, keeps.replies, Appends-trans old mid new keeps.out kept keeps.written wrote)
@@ -121,7 +124,8 @@ at_fault (Ok x) Q P p = tt
 at_fault (Err e) Q P p = λ _. p
 
 -- some of what is kept back is written
-pub writes_more : {V : Type 0} (setting : Setting V) (before after : V) (input left old mid new : Option (List ℕ)) (kept some rest : List ℕ) (refused : Bool)
+pub writes_more : {V : Type 0} (setting : Setting V) (before after : V) (input left old mid new : Option (List ℕ))
+    (kept some rest : List ℕ) (refused : Bool)
     → IsServing setting before input left old mid kept refused after → Appends mid new some → kept ≡ some ++ rest
     → IsServing setting before input left old new rest refused after
 writes_more setting before after input left old mid new kept some rest refused serving wrote is = record {
@@ -140,7 +144,8 @@ keeps_gives (Some x) (Some y) None lines gives keeps = absurd keeps
 keeps_gives (Some x) (Some y) (Some z) lines gives keeps = gives ∙ ap (λ l. lines ++ lines_of l) (sym keeps)
 
 -- before a reader is waited for, what is kept back is written
-pub awaits : {V : Type 0} (setting : Setting V) (before after : V) (input left next old mid new : Option (List ℕ)) (kept rest : List ℕ) (refused : Bool)
+pub awaits : {V : Type 0} (setting : Setting V) (before after : V) (input left next old mid new : Option (List ℕ))
+    (kept rest : List ℕ) (refused : Bool)
     → IsServing setting before input left old mid kept refused after → Keeps left next → WritesFirst kept rest mid new
     → IsServing setting before input next old new rest refused after
 awaits setting before after input left next old mid new kept rest refused serving keeps (some, wrote, is) = record {
@@ -152,7 +157,8 @@ awaits setting before after input left next old mid new kept rest refused servin
 }
 
 -- where a reader has come to its end, all its lines are answered
-pub ends_there : {V : Type 0} (setting : Setting V) (before after : V) (input left next old mid new : Option (List ℕ)) (kept rest : List ℕ) (refused : Bool)
+pub ends_there : {V : Type 0} (setting : Setting V) (before after : V) (input left next old mid new : Option (List ℕ))
+    (kept rest : List ℕ) (refused : Bool)
     → IsServing setting before input left old mid kept refused after → IsAtEnd left → WritesFirst kept rest mid new
     → (lines : List (List ℕ)) × AreLinesOf input lines × KeepsBack setting before lines refused old new rest after
 ends_there setting before after input left next old mid new kept rest refused serving end (some, wrote, is) = (
@@ -207,22 +213,17 @@ keeps_some : {V : Type 0} (setting : Setting V) (fault : ServeFault) (before aft
 keeps_some setting fault before after input left old new kept (lines, part, refused, reached, reads, keeps, breaks) =
     (lines, refused, reached, gives_first input reads.behind lines reads.gives, keeps, break_loses setting fault part reached after breaks)
 
--- a reader that has buffered nothing yet has what the one behind it has
-pub unbuffered : {T A : Type 0} (remaining : T → Option (List ℕ)) (reader : BufReader T A) (inner : T) → reader_inner reader ≡ inner → reader_buffer reader ≡ []
-    → reader_capacity reader ≡ 8192 → reader_remaining remaining reader ≡ remaining inner
-unbuffered remaining reader inner of none room =
-    ap (λ n. cond (eqb n 0) None (prepend_known (reader_buffer reader) (remaining reader.inner))) room
-    ∙ ap (λ l. prepend_known l (remaining reader.inner)) none ∙ prepend_known-nil (remaining reader.inner) ∙ ap remaining of
-
 all_first : (input : Option (List ℕ)) (lines : List (List ℕ)) → AreLinesOf input lines → AreFirstLinesOf input lines
 all_first None lines all = tt
 all_first (Some bytes) lines all = ([], all ∙ sym (append-nil lines))
 
 -- what serving lines says where no write failed
-pub holds : {V : Type 0} (setting : Setting V) (before after : V) (input left old new : Option (List ℕ)) (kept : List ℕ) (r : Result Served ServeFault)
+pub holds : {V : Type 0} (setting : Setting V) (before after : V) (input left old new : Option (List ℕ)) (kept : List ℕ)
+    (r : Result Served ServeFault)
     → (r ≡ Err Write → ⊥)
     → IfOk r (λ served. (lines : List (List ℕ)) × AreLinesOf input lines × KeepsBack setting before lines (some_refused served) old new kept after)
-    → IfErr r (λ fault. fault ≢ Write → KeepsFirst setting fault before input left old new kept after) → KeepsSome setting before input old new kept after
+    → IfErr r (λ fault. fault ≢ Write → KeepsFirst setting fault before input left old new kept after)
+    → KeepsSome setting before input old new kept after
 holds setting before after input left old new kept (Ok served) never (lines, all, keeps) stopped =
     (lines, some_refused served, after, all_first input lines all, keeps, ([], inl refl))
 holds setting before after input left old new kept (Err e) never answered stopped =
@@ -253,7 +254,8 @@ cuts_first setting before after input old mid new kept (lines, refused, reached,
 )
 
 -- what is kept back at the end of an input is written
-pub writes_last : {V : Type 0} (setting : Setting V) (before after : V) (input old mid new : Option (List ℕ)) (kept : List ℕ) (r : Result Served ServeFault)
+pub writes_last : {V : Type 0} (setting : Setting V) (before after : V) (input old mid new : Option (List ℕ))
+    (kept : List ℕ) (r : Result Served ServeFault)
     → Appends mid new kept
     → IfOk r (λ served. (lines : List (List ℕ)) × AreLinesOf input lines × KeepsBack setting before lines (some_refused served) old mid kept after)
     → IfOk r (λ served. AnswersAll setting before input (some_refused served) old new after)
@@ -261,7 +263,8 @@ writes_last setting before after input old mid new kept (Err e) wrote answered =
 writes_last setting before after input old mid new kept (Ok served) wrote (lines, all, keeps) =
     (lines, all, writes_all setting before after lines old mid new kept (some_refused served) keeps wrote)
 
-pub cut_continues : {V : Type 0} (setting : Setting V) (before after : V) (input old new : Option (List ℕ)) → AnswersCut setting before input old new after
+pub cut_continues : {V : Type 0} (setting : Setting V) (before after : V) (input old new : Option (List ℕ))
+    → AnswersCut setting before input old new after
     → ContinuesBy old new
 cut_continues setting before after input old new (lines, refused, out, reached, first, replies, (count, wrote), more) = (take count out, wrote)
 

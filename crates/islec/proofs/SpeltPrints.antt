@@ -1,11 +1,12 @@
 -- Files that are printed are spelt.
 use Rattle.std.proofs.Common.{ℕ, suc, Bool, List, [], ◌∷◌, ◌++◌, refl}
-use Rattle.isle_syntax.specs.declared.ast.Def.{Def}
-use Rattle.isle_syntax.specs.Positions.Files.{SourceFile}
-use Rattle.isle_run.specs.Compiled.{AreSpelt}
+use Rattle.isle_ast.specs.declared.ast.Def.{Def}
+use Rattle.isle_ast.specs.Positions.Files.{SourceFile}
+use Rattle.isle_program.specs.Compiled.{AreSpelt}
 use Rattle.islec.specs.Formatting.{Prints}
 
-pub Prints-spelt : (unformatted : Bool) (width first : ℕ) (files : List SourceFile) (out : List ℕ) → Prints unformatted width first files out → (defs : List Def)
+pub Prints-spelt : (unformatted : Bool) (width first : ℕ) (files : List SourceFile) (out : List ℕ) → Prints unformatted width first files out
+    → (defs : List Def)
     × AreSpelt first files defs
 Prints-spelt unformatted width first [] out printed = ([], refl)
 Prints-spelt unformatted width first (file ∷ others) out printed =

@@ -87,15 +87,18 @@ run_trace rows f = let v = one_reads run_rules (rule run_rules 4) rows refl f.fi
 
 pub run_coverage : (rows : List Row) → FillsRules run_rules rows
     → (one_of (codes "coverage") rows ≡ Some (codes "true")) ⊎ (one_of (codes "coverage") rows ≡ Some (codes "false"))
-run_coverage rows f = let v = one_reads run_rules (rule run_rules 5) rows refl f.fits (f.whole.1.1.1.1.1.0 (inr (omega arith))) in bool_word _ v.0 v.1 v.2
+run_coverage rows f = let v = one_reads run_rules (rule run_rules 5) rows refl f.fits (f.whole.1.1.1.1.1.0 (inr (omega arith))) in
+    bool_word _ v.0 v.1 v.2
 
 pub run_unanswered : (rows : List Row) → FillsRules run_rules rows
     → (one_of (codes "unanswered") rows ≡ Some (codes "true")) ⊎ (one_of (codes "unanswered") rows ≡ Some (codes "false"))
-run_unanswered rows f = let v = one_reads run_rules (rule run_rules 6) rows refl f.fits (f.whole.1.1.1.1.1.1.0 (inr (omega arith))) in bool_word _ v.0 v.1 v.2
+run_unanswered rows f = let v = one_reads run_rules (rule run_rules 6) rows refl f.fits (f.whole.1.1.1.1.1.1.0 (inr (omega arith))) in
+    bool_word _ v.0 v.1 v.2
 
 pub run_explain : (rows : List Row) → FillsRules run_rules rows
     → (one_of (codes "explain") rows ≡ Some (codes "true")) ⊎ (one_of (codes "explain") rows ≡ Some (codes "false"))
-run_explain rows f = let v = one_reads run_rules (rule run_rules 7) rows refl f.fits (f.whole.1.1.1.1.1.1.1.0 (inr (omega arith))) in bool_word _ v.0 v.1 v.2
+run_explain rows f = let v = one_reads run_rules (rule run_rules 7) rows refl f.fits (f.whole.1.1.1.1.1.1.1.0 (inr (omega arith))) in
+    bool_word _ v.0 v.1 v.2
 
 pub run_files : (rows : List Row) → FillsRules run_rules rows → (vs : List Text) × (all_of (codes "file") rows ≡ Some vs) × (0 < length vs)
 run_files rows f = let v = all_reads run_rules (rule run_rules 8) rows refl f.fits (f.whole.1.1.1.1.1.1.1.1.0 (inl refl)) in (v.0, v.1, v.2)
@@ -112,7 +115,8 @@ check_warn rows f = let v = one_reads check_rules (rule check_rules 1) rows refl
 
 pub check_explain : (rows : List Row) → FillsRules check_rules rows
     → (one_of (codes "explain") rows ≡ Some (codes "true")) ⊎ (one_of (codes "explain") rows ≡ Some (codes "false"))
-check_explain rows f = let v = one_reads check_rules (rule check_rules 2) rows refl f.fits (f.whole.1.1.0 (inr (omega arith))) in bool_word _ v.0 v.1 v.2
+check_explain rows f = let v = one_reads check_rules (rule check_rules 2) rows refl f.fits (f.whole.1.1.0 (inr (omega arith))) in
+    bool_word _ v.0 v.1 v.2
 
 pub check_files : (rows : List Row) → FillsRules check_rules rows → (vs : List Text) × (all_of (codes "file") rows ≡ Some vs) × (0 < length vs)
 check_files rows f = let v = all_reads check_rules (rule check_rules 3) rows refl f.fits (f.whole.1.1.1.0 (inl refl)) in (v.0, v.1, v.2)
@@ -209,7 +213,8 @@ files_read f vs o d got v values found is copied =
 -- the texts behind a slice, none where none was found
 any_texts : (o : Option (Bor (List (Bor Text)))) (d got : Bor (List (Bor Text))) → d.now ≡ [] → got ≡ unwrap_or o d
     → map (λ v. v.now) got.now ≡ unwrap_or (option_map (λ s. map (λ v. v.now) s.now) o) []
-any_texts None d got none e = ap (λ (b : Bor (List (Bor Text))). map (λ (v : Bor Text). v.now) b.now) e ∙ ap (λ (l : List (Bor Text)). map (λ (v : Bor Text). v.now) l) none
+any_texts None d got none e = ap (λ (b : Bor (List (Bor Text))). map (λ (v : Bor Text). v.now) b.now) e ∙ ap
+    (λ (l : List (Bor Text)). map (λ (v : Bor Text). v.now) l) none
 any_texts (Some s) d got none e = ap (λ (b : Bor (List (Bor Text))). map (λ (v : Bor Text). v.now) b.now) e
 
 -- the copies of the texts of an option that may be given any number of times

@@ -48,7 +48,8 @@ begins_longer a b text more (count, wrote) =
     (min count (length text), subst (Appends a b) same wrote)
 
 -- a text, and then a beginning of what is behind it
-pub begins_behind : (a b c : Option (List ℕ)) (text more : List ℕ) → Appends a b text → AppendsBeginning b c more → AppendsBeginning a c (text ++ more)
+pub begins_behind : (a b c : Option (List ℕ)) (text more : List ℕ) → Appends a b text → AppendsBeginning b c more
+    → AppendsBeginning a c (text ++ more)
 begins_behind a b c text more wrote (count, next) =
     (length text + count, subst (Appends a c) (sym (take-append-add text more count)) (Appends-trans a b c _ _ wrote next))
 

@@ -1,13 +1,13 @@
 -- What is written of the trees of a program's rules.
 use Rattle.std.specs.Prelude.{◌≡◌, ◌⊎◌, ◌++◌, ◌∷◌, ℕ, Bool, true, false, List, Option, None, Some, codes, map}
 use Rattle.std.specs.Io.KnownBytes.{Appends}
-use Rattle.isle_syntax.specs.Positions.Files.{SourceFile}
+use Rattle.isle_ast.specs.Positions.Files.{SourceFile}
 use Rattle.isle_types.specs.declared.ids.TermId.{TermId}
-use Rattle.isle_run.specs.Compiled.{AreAccepted, IsProgramOf}
-use Rattle.isle_run.specs.Programs.{term_named}
-use Rattle.isle_run.specs.TreeTexts.DotSets.{TellsGraph}
-use Rattle.isle_run.specs.TreeTexts.Sets.{TellsTrees}
-use Rattle.isle_run.specs.declared.program.Program.{Program}
+use Rattle.isle_program.specs.Compiled.{AreAccepted, IsProgramOf}
+use Rattle.isle_program.specs.Programs.{program_term}
+use Rattle.isle_tell.specs.TreeTexts.DotSets.{TellsGraph}
+use Rattle.isle_tell.specs.TreeTexts.Sets.{TellsTrees}
+use Rattle.isle_program.specs.declared.program.Program.{Program}
 use Rattle.islec.specs.declared.blocks.Asked.{Asked}
 use Rattle.islec.specs.declared.blocks.Asked.TheVariants.{Terms, Unknown}
 use Rattle.islec.specs.Running.{CutsFaults}
@@ -15,7 +15,7 @@ use Rattle.islec.specs.Writing.{AppendsBeginning}
 
 -- the terms of these names, in their order
 abbrev pub AreNamed : Program → List (List ℕ) → List TermId → Type 0
-AreNamed program names terms = map (term_named program) names ≡ map Some terms
+AreNamed program names terms = map (program_term program) names ≡ map Some terms
 
 -- the first of these names that is that of no term
 pub record IsUnknown (program : Program) (names : List (List ℕ)) (name : List ℕ) : Type 0 where
@@ -24,7 +24,7 @@ pub record IsUnknown (program : Program) (names : List (List ℕ)) (name : List 
   pub terms : List TermId
   pub among : names ≡ before ++ name ∷ after
   pub known : AreNamed program before terms
-  pub unknown : term_named program name ≡ None
+  pub unknown : program_term program name ≡ None
 
 -- the terms of all the names, or the first name that is that of none
 abbrev pub AreAsked : Program → List (List ℕ) → Asked → Type 0

@@ -4,8 +4,8 @@ use Rattle.std.specs.Global.{Global}
 use Rattle.std.specs.List.{Contains}
 use Rattle.std.specs.Option.{option_map}
 use Rattle.clap.specs.Words.{IsAmong, Text, fault_of, kind_of}
-use Rattle.isle_syntax.specs.Positions.Files.{SourceFile, source_file}
-use Rattle.isle_run.specs.Compiled.{AreAccepted}
+use Rattle.isle_ast.specs.Positions.Files.{SourceFile, source_file}
+use Rattle.isle_program.specs.Compiled.{AreAccepted}
 use Rattle.islec.specs.declared.answer.Manner.{Manner}
 use Rattle.islec.specs.Beginnings.{TellsUnbegun}
 use Rattle.islec.specs.Causes.{cause_text}

@@ -1,12 +1,12 @@
 -- What is told below what is refused or spent, where reasons are asked for.
 use Rattle.std.specs.Prelude.{◌≡◌, ◌++◌, ◌⊎◌, ℕ, Bool, true, false, List, [], ◌∷◌, if◌then◌else◌, codes, decimal}
 use Rattle.isle_syntax.specs.Errors.{Report, error_text, report_text}
-use Rattle.isle_syntax.specs.Positions.Files.{SourceFile}
-use Rattle.isle_syntax.specs.declared.error.Error.{Error}
-use Rattle.isle_run.specs.declared.calls.answer.Answer.{Answer}
-use Rattle.isle_run.specs.declared.calls.answer.Answer.TheVariants.{Value, None as NoAnswer, Stuck, Spent, IllTyped}
-use Rattle.isle_run.specs.declared.program.Program.{Program}
-use Rattle.isle_run.specs.declared.worlds.reading.WorldFault.{WorldFault}
+use Rattle.isle_ast.specs.Positions.Files.{SourceFile}
+use Rattle.isle_ast.specs.declared.error.Error.{Error}
+use Rattle.isle_calls.specs.declared.answer.Answer.{Answer}
+use Rattle.isle_calls.specs.declared.answer.Answer.TheVariants.{Value, None as NoAnswer, Stuck, Spent, IllTyped}
+use Rattle.isle_program.specs.declared.program.Program.{Program}
+use Rattle.isle_values.specs.declared.worlds.reading.WorldFault.{WorldFault}
 use Rattle.islec.specs.Worlds.{world_fault_line}
 use Rattle.islec.specs.declared.answer.Manner.{Manner}
 

@@ -2,29 +2,29 @@
 use Rattle.isle_meaning.specs.Values.{Values}
 use Rattle.std.specs.Prelude.{◌≡◌, ◌++◌, ◌-◌, min, ℕ, Bool, true, false, List, [], Option, Some, None, if◌then◌else◌, codes, decimal, string_bytes, IsUtf8, ◌⊎◌}
 use Rattle.std.specs.List.{flat_map, AllZip}
-use Rattle.isle_syntax.specs.declared.lexer.Pos.{Pos}
-use Rattle.isle_syntax.specs.Positions.Files.{SourceFile}
+use Rattle.isle_ast.specs.declared.pos.Pos.{Pos}
+use Rattle.isle_ast.specs.Positions.Files.{SourceFile}
 use Rattle.isle_types.specs.declared.ids.TermId.{TermId}
 use Rattle.isle_meaning.specs.GroundValues.{values_of}
 use Rattle.isle_meaning.specs.Worlds.{Answers, Event}
-use Rattle.isle_terms.specs.Values.{ValueTree, ValueTrees, value_list}
-use Rattle.isle_run.specs.declared.calls.answer.Answer.{Answer}
-use Rattle.isle_run.specs.declared.calls.answer.Answer.TheVariants.{Value, None as NoAnswer, Stuck, Spent, IllTyped}
-use Rattle.isle_run.specs.declared.calls.answer.Called.{Called}
-use Rattle.isle_run.specs.declared.calls.answer.Effect.{Effect}
-use Rattle.isle_run.specs.declared.calls.choices.Choice.{Choice}
-use Rattle.isle_run.specs.declared.program.Program.{Program}
-use Rattle.isle_run.specs.declared.query.QueryFault.{QueryFault}
-use Rattle.isle_run.specs.declared.query.QueryFault.TheVariants.{Q1, Q2, Q3, Q4, Memory}
-use Rattle.isle_run.specs.Meanings.{checked}
-use Rattle.isle_run.specs.PlainCalls.{TellsPlainly, BeginsPlainly}
-use Rattle.isle_run.specs.TreeCalls.{TellsByTree, BeginsByTree}
-use Rattle.isle_run.specs.TreeTexts.Names.{indent, pos_text}
-use Rattle.isle_run.specs.Programs.{term_name}
-use Rattle.isle_run.specs.Queries.{RefusesText, IsCallIn}
-use Rattle.isle_run.specs.Calls.Answers.{answers_in, name_of_term, IsEventOf, LeadsThrough}
-use Rattle.isle_run.specs.Values.TextTokens.{AreTokensOf}
-use Rattle.isle_run.specs.Values.Text.{value_text, fields_text}
+use Rattle.isle_rules.specs.Values.{ValueTree, ValueTrees, value_list}
+use Rattle.isle_calls.specs.declared.answer.Answer.{Answer}
+use Rattle.isle_calls.specs.declared.answer.Answer.TheVariants.{Value, None as NoAnswer, Stuck, Spent, IllTyped}
+use Rattle.isle_calls.specs.declared.answer.Called.{Called}
+use Rattle.isle_calls.specs.declared.answer.Effect.{Effect}
+use Rattle.isle_calls.specs.declared.choices.Choice.{Choice}
+use Rattle.isle_program.specs.declared.program.Program.{Program}
+use Rattle.isle_values.specs.declared.queries.QueryFault.{QueryFault}
+use Rattle.isle_values.specs.declared.queries.QueryFault.TheVariants.{Q1, Q2, Q3, Q4, Memory}
+use Rattle.isle_program.specs.Meanings.{checked}
+use Rattle.isle_plain.specs.PlainCalls.{TellsPlainly, BeginsPlainly}
+use Rattle.isle_machine.specs.TreeCalls.{TellsByTree, BeginsByTree}
+use Rattle.isle_tell.specs.TreeTexts.Names.{indent, pos_text}
+use Rattle.isle_program.specs.Programs.{term_name}
+use Rattle.isle_values.specs.Queries.{RefusesText, IsCallIn}
+use Rattle.isle_calls.specs.Calls.Answers.{answers_in, name_of_term, IsEventOf, LeadsThrough}
+use Rattle.isle_values.specs.Values.TextTokens.{AreTokensOf}
+use Rattle.isle_values.specs.Values.Text.{value_text, fields_text}
 use Rattle.islec.specs.declared.answer.Manner.{Manner}
 use Rattle.islec.specs.declared.answer.Reply.{Reply}
 use Rattle.islec.specs.Reasons.{IsReason, depth_line}
@@ -59,7 +59,8 @@ chosen_text files None = codes "no rule"
 
 -- the line of a choice, `. (TERM ARG ..) -> FILE:LINE:COLUMN`, two spaces deeper for each call around it
 abbrev pub choice_line : Program → List SourceFile → (depth : ℕ) → Choice → List ℕ
-choice_line program files depth choice = indent (level_of depth choice.depth) ++ (codes ". " ++ (call_text (term_name program choice.term) choice.args.items
+choice_line program files depth choice = indent (level_of depth choice.depth) ++
+    (codes ". " ++ (call_text (term_name program choice.term) choice.args.items
     ++ (codes " -> " ++ (chosen_text files choice.rule ++ codes "\n"))))
 
 -- the lines of choices, or nothing where no trace is asked for
@@ -135,7 +136,8 @@ BeginsBy false program w depth term args made = BeginsByTree program w depth ter
 abbrev pub IsOutcome : {V : Type 0} → Setting V → V → TermId → ValueTrees → List Effect → Called → V → Type 0
 IsOutcome setting before term args effects called after =
     (made : List Event) × AllZip (IsEventOf setting.program) effects made × Leads setting before made after
-    × TellsBy setting.manner.plain setting.program setting.answers setting.manner.depth term.0 (values_of (checked setting.program).values args) called made
+    × TellsBy setting.manner.plain setting.program setting.answers setting.manner.depth term.0
+    (values_of (checked setting.program).values args) called made
 
 -- a call that is begun and not answered: its effects so far lead in steps from the world before to the one after
 abbrev pub BeginsCall : {V : Type 0} → Setting V → V → TermId → ValueTrees → V → Type 0
@@ -149,7 +151,8 @@ AreTraced setting told = (files : List SourceFile) × (choices : List Choice) ×
 -- the lines of a call's effects in order and that of its answer, behind those of the rules that were chosen where a trace is asked for, and with
 -- that of its depth where it is spent and reasons are asked for, and that of its steps where it is asked for; and whether the answer counts as
 -- refused
-pub record AnswersCall {V : Type 0} (setting : Setting V) (before : V) (term : TermId) (args : ValueTrees) (lines : List ℕ) (refused : Bool) (after : V) : Type 0 where
+pub record AnswersCall {V : Type 0} (setting : Setting V) (before : V) (term : TermId) (args : ValueTrees)
+    (lines : List ℕ) (refused : Bool) (after : V) : Type 0 where
   pub effects : List Effect
   pub called : Called
   pub outcome : IsOutcome setting before term args effects called after
@@ -171,11 +174,14 @@ cause_number (Memory e) = None
 -- refused, a text without tokens is passed over, and of the others a query is refused for its first cause or else answered; only an answered one
 -- changes the world, by its effects
 pub data IsReply {V : Type 0} (setting : Setting V) (before : V) (line lines : List ℕ) (refused : Bool) (after : V) : Type 0 where
-  no_text : ¬ IsUtf8 line → TellsRefused setting.manner.explain 4 lines → refused ≡ true → after ≡ before → IsReply setting before line lines refused after
+  no_text : ¬ IsUtf8 line → TellsRefused setting.manner.explain 4 lines → refused ≡ true → after ≡ before
+      → IsReply setting before line lines refused after
   blank : IsUtf8 line → AreTokensOf line [] → lines ≡ [] → refused ≡ false → after ≡ before → IsReply setting before line lines refused after
-  no_call : IsUtf8 line → ¬ AreTokensOf line [] → (fault : QueryFault) (cause : ℕ) → RefusesText setting.program line fault → cause_number fault ≡ Some cause
+  no_call : IsUtf8 line → ¬ AreTokensOf line [] → (fault : QueryFault) (cause : ℕ) → RefusesText setting.program line fault
+      → cause_number fault ≡ Some cause
       → TellsRefused setting.manner.explain cause lines → refused ≡ true → after ≡ before → IsReply setting before line lines refused after
-  call : IsUtf8 line → (term : TermId) (args : ValueTrees) → IsCallIn setting.program line term args → AnswersCall setting before term args lines refused after
+  call : IsUtf8 line → (term : TermId) (args : ValueTrees) → IsCallIn setting.program line term args
+      → AnswersCall setting before term args lines refused after
       → IsReply setting before line lines refused after
 
 -- what a line whose reply is lost has done, where memory ran out: nothing, or its call is begun

@@ -1,15 +1,15 @@
 -- What a run or a check writes of files that are accepted or refused.
 use Rattle.std.specs.Prelude.{◌≡◌, ◌⊎◌, ◌++◌, ℕ, Bool, false, List, [], Option, codes}
 use Rattle.std.specs.Io.KnownBytes.{Appends, Keeps}
-use Rattle.isle_syntax.specs.Positions.Files.{SourceFile}
-use Rattle.isle_syntax.specs.declared.error.Error.{Error}
-use Rattle.isle_terms.specs.Values.{ValueTree, ValueTrees}
-use Rattle.isle_run.specs.Compiled.{AreAccepted, AreFaults, IsProgramOf}
-use Rattle.isle_run.specs.declared.program.Program.{Program}
-use Rattle.isle_run.specs.declared.worlds.reading.WorldFault.{WorldFault}
-use Rattle.isle_run.specs.Worlds.Entries.{EntryTree}
-use Rattle.isle_run.specs.Worlds.Tables.{HasEntries, constructed, extracted}
-use Rattle.isle_run.specs.Worlds.Texts.{SpellsWorld, RefusesWorld}
+use Rattle.isle_ast.specs.Positions.Files.{SourceFile}
+use Rattle.isle_ast.specs.declared.error.Error.{Error}
+use Rattle.isle_rules.specs.Values.{ValueTree, ValueTrees}
+use Rattle.isle_program.specs.Compiled.{AreAccepted, AreFaults, IsProgramOf}
+use Rattle.isle_program.specs.declared.program.Program.{Program}
+use Rattle.isle_values.specs.declared.worlds.reading.WorldFault.{WorldFault}
+use Rattle.isle_values.specs.Worlds.Entries.{EntryTree}
+use Rattle.isle_values.specs.Worlds.Tables.{HasEntries, constructed, extracted}
+use Rattle.isle_values.specs.Worlds.Texts.{SpellsWorld, RefusesWorld}
 use Rattle.islec.specs.declared.answer.Manner.{Manner}
 use Rattle.islec.specs.Replies.{Setting, setting_in}
 use Rattle.islec.specs.Reasons.{ReportsFaults, TellsFault}
@@ -105,7 +105,8 @@ StopsIn program world manner input left old new = IsUntouched input left old new
     × AnswersUntilMemory (in_entries program table manner) table input left old new after)
 
 -- the replies of the files' program to each line of an input are written, in the world of a file
-abbrev pub WritesAnswers : List SourceFile → (world : SourceFile) → (manner : Manner) → (input : Option (List ℕ)) → Bool → (old new : Option (List ℕ)) → Type 0
+abbrev pub WritesAnswers : List SourceFile → (world : SourceFile) → (manner : Manner) → (input : Option (List ℕ))
+    → Bool → (old new : Option (List ℕ)) → Type 0
 WritesAnswers files world manner input refused old new =
     (program : Program) × IsProgramOf files program × AnswersIn program world manner input refused old new
 

@@ -44,7 +44,8 @@ LosesNewline line bare = (line ≡ bare ++ codes "\n") ⊎ ((line ≡ bare) × (
 abbrev pub AreReplies : {V : Type 0} → Setting V → V → List (List ℕ) → List ℕ → Bool → V → Type 0
 AreReplies setting before [] out refused after = (out ≡ []) × (refused ≡ false) × (after ≡ before)
 AreReplies {V} setting before (line ∷ lines) out refused after = (one rest : List ℕ) × (first others : Bool) × (middle : V)
-    × IsReply setting before line one first middle × AreReplies setting middle lines rest others after × (out ≡ one ++ rest) × (refused ≡ (first || others))
+    × IsReply setting before line one first middle × AreReplies setting middle lines rest others after × (out ≡ one ++ rest)
+    × (refused ≡ (first || others))
 
 -- replies to lines: a writer that held `old` holds these bytes and the replies behind them
 abbrev pub WritesReplies : {V : Type 0} → Setting V → V → List (List ℕ) → Bool → (old new : Option (List ℕ)) → V → Type 0
@@ -104,7 +105,8 @@ AnswersAndCuts setting before input old new after = (refused : Bool) × (middle 
 
 -- a beginning of the replies is written, or all of them and a beginning of what is told behind them
 abbrev pub AnswersOrTellsCut : {V : Type 0} → Setting V → V → (input old new : Option (List ℕ)) → V → Type 0
-AnswersOrTellsCut setting before input old new after = AnswersCut setting before input old new after ⊎ AnswersAndCuts setting before input old new after
+AnswersOrTellsCut setting before input old new after = AnswersCut setting before input old new after
+    ⊎ AnswersAndCuts setting before input old new after
 
 -- where memory runs out, replies to first lines are written, or all of them
 abbrev pub AnswersUntilMemory : {V : Type 0} → Setting V → V → (input left old new : Option (List ℕ)) → V → Type 0
@@ -118,7 +120,8 @@ some_refused AllWell = false
 some_refused SomeRefused = true
 
 -- replies to lines, of which an end is kept back and the others are written
-pub record KeepsBack {V : Type 0} (setting : Setting V) (before : V) (lines : List (List ℕ)) (refused : Bool) (old new : Option (List ℕ)) (kept : List ℕ) (after : V) : Type 0 where
+pub record KeepsBack {V : Type 0} (setting : Setting V) (before : V) (lines : List (List ℕ)) (refused : Bool)
+    (old new : Option (List ℕ)) (kept : List ℕ) (after : V) : Type 0 where
   pub out : List ℕ
   pub replies : AreReplies setting before lines (out ++ kept) refused after
   pub written : Appends old new out

@@ -1,12 +1,12 @@
 -- What a check writes of a program.
 use Rattle.std.specs.Prelude.{◌≡◌, ◌++◌, ℕ, Bool, true, false, List, [], ◌∷◌, codes, decimal}
 use Rattle.isle_types.specs.declared.ids.TermId.{TermId}
-use Rattle.isle_run.specs.declared.program.Program.{Program}
-use Rattle.isle_run.specs.Programs.{term_name, types_of, terms_of, rule_sets_of}
-use Rattle.isle_run.specs.Facts.Asked.{AreRoots}
-use Rattle.isle_run.specs.Facts.Inhabited.{AreAllInhabited}
-use Rattle.isle_run.specs.Facts.Reach.{IsRunnable}
-use Rattle.isle_run.specs.Facts.Steps.{steps_in}
+use Rattle.isle_program.specs.declared.program.Program.{Program}
+use Rattle.isle_program.specs.Programs.{term_name, types_of, terms_of, rule_sets_of}
+use Rattle.isle_program.specs.Facts.Asked.{AreRoots}
+use Rattle.isle_program.specs.Facts.Inhabited.{AreAllInhabited}
+use Rattle.isle_program.specs.Facts.Reach.{IsRunnable}
+use Rattle.isle_program.specs.Facts.Steps.{steps_in}
 use Rattle.islec.specs.Reasons.{IsReason}
 use Rattle.islec.specs.declared.terms.Telling.{Telling}
 
@@ -31,7 +31,8 @@ pub record IsTermLine (asked : Bool) (program : Program) (term : TermId) (line :
 -- the lines of terms, one behind the other
 pub data AreTermLines (asked : Bool) (program : Program) : List TermId → List ℕ → Type 0 where
   no_lines : AreTermLines asked program [] []
-  more_lines : {term : TermId} {terms : List TermId} {line lines : List ℕ} → IsTermLine asked program term line → AreTermLines asked program terms lines
+  more_lines : {term : TermId} {terms : List TermId} {line lines : List ℕ} → IsTermLine asked program term line
+      → AreTermLines asked program terms lines
       → AreTermLines asked program (term ∷ terms) (line ++ lines)
 
 -- the note on types without values: nothing where each type has one

@@ -1,11 +1,11 @@
 -- What is printed of a world that is refused.
 use Rattle.std.specs.Prelude.{ℕ, List, [], ◌++◌, Option, Some, None, String, codes}
 use Rattle.std.specs.Global.{Global}
-use Rattle.isle_syntax.specs.Positions.Files.{SourceFile, source_file, named_place}
-use Rattle.isle_run.specs.declared.program.Program.{Program}
-use Rattle.isle_run.specs.declared.worlds.reading.WorldFault.{WorldFault}
-use Rattle.isle_run.specs.declared.worlds.reading.WorldFault.TheVariants.{X1, X2, X3, X4, X5, X6, Memory}
-use Rattle.isle_run.specs.Programs.{term_name}
+use Rattle.isle_ast.specs.Positions.Files.{SourceFile, source_file, named_place}
+use Rattle.isle_program.specs.declared.program.Program.{Program}
+use Rattle.isle_values.specs.declared.worlds.reading.WorldFault.{WorldFault}
+use Rattle.isle_values.specs.declared.worlds.reading.WorldFault.TheVariants.{X1, X2, X3, X4, X5, X6, Memory}
+use Rattle.isle_program.specs.Programs.{term_name}
 
 -- the name and the text of a world's file; where none is given an empty text named `world`
 abbrev pub world_file : Option (String Global × String Global) → SourceFile

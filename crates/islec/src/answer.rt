@@ -4,20 +4,21 @@ ghost use Rattle.std.specs.List.{flat_map};
 ghost use Rattle.isle_meaning.specs.GroundValues.{values_of};
 ghost use Rattle.isle_meaning.specs.ValueTypes.{AreOfTypes};
 ghost use Rattle.isle_meaning.specs.Worlds.{Event};
-ghost use Rattle.isle_terms.specs.Values.{value_list};
-ghost use Rattle.isle_run.specs.Calls.Answers.{answers_in, HasMade};
-ghost use Rattle.isle_run.specs.Facts.Reach.{IsRunnable};
-ghost use Rattle.isle_run.specs.Meanings.{checked};
-ghost use Rattle.isle_run.specs.Programs.{types_of, terms_of, types_taken, value_facts};
-ghost use Rattle.isle_run.specs.TreeCalls.{IsCompiled};
-ghost use Rattle.isle_run.specs.Values.Text.{value_text};
+ghost use Rattle.isle_rules.specs.Values.{value_list};
+ghost use Rattle.isle_calls.specs.Calls.Answers.{answers_in, HasMade};
+ghost use Rattle.isle_program.specs.Facts.Reach.{IsRunnable};
+ghost use Rattle.isle_program.specs.Meanings.{checked};
+ghost use Rattle.isle_program.specs.Programs.{types_of, terms_of, types_taken, value_facts};
+ghost use Rattle.isle_machine.specs.TreeCalls.{IsCompiled};
+ghost use Rattle.isle_values.specs.Values.Text.{value_text};
 ghost use Rattle.islec.specs.Reasons.{IsReason, depth_line};
 ghost use Rattle.islec.specs.Replies.{BeginsBy, TellsBy, steps_line, setting_in, Refuses, IsReply, AnswersCall, BeginsCall, LosesReply, effect_line, answer_line, answer_text, call_text, given_text, cause_number, counts_as_refused};
 
 use crate::explain::{no_text_line, query_line};
 use crate::watch::{Watch, trace_text};
 use isle_run::{
-    Answer, Called, Choice, Effect, Program, QueryFault, TermId, Value, World, is_blank,
+    Answer, Called, Choice, Effect, Program, QueryFault, TermId, Value, World, call, call_plain,
+    is_blank, query, trace, trace_plain,
 };
 use std::alloc::{AllocError, Global};
 
@@ -75,7 +76,7 @@ pub fn reply_to<V: World>(
             refused: false,
         });
     }
-    match program.query(alloc, text) {
+    match query(alloc, program, text) {
         Ok((term, args)) => reply_to_call(alloc, program, world, manner, watch, term, args),
         Err(fault) => refuse_query(alloc, program, manner.explain, text, &fault),
     }
@@ -234,9 +235,9 @@ fn trace_by<V: World>(
     ensures same { (V.constructs world.new ≡ V.constructs world.old) × (V.extracts world.new ≡ V.extracts world.old) }
 {
     if manner.plain {
-        program.trace_plain(alloc, term, args, manner.depth, world, effects)
+        trace_plain(alloc, program, term, args, manner.depth, world, effects)
     } else {
-        program.trace(alloc, term, args, manner.depth, world, effects)
+        trace(alloc, program, term, args, manner.depth, world, effects)
     }
 }
 
@@ -264,9 +265,9 @@ fn call_by<V: World>(
     ensures same { (V.constructs world.new ≡ V.constructs world.old) × (V.extracts world.new ≡ V.extracts world.old) }
 {
     if manner.plain {
-        program.call_plain(alloc, term, args, manner.depth, world, effects)
+        call_plain(alloc, program, term, args, manner.depth, world, effects)
     } else {
-        program.call(alloc, term, args, manner.depth, world, effects)
+        call(alloc, program, term, args, manner.depth, world, effects)
     }
 }
 

@@ -1,8 +1,8 @@
 //! The trees of a program's rules.
 ghost use Rattle.std.specs.Prelude.{◌≡◌, ◌≢◌, ◌⊎◌, ℕ, List, false, IfOk, IfErr, map, string_bytes};
 ghost use Rattle.std.specs.Io.KnownBytes.{Appends, Keeps};
-ghost use Rattle.isle_syntax.specs.Positions.Files.{source_file};
-ghost use Rattle.isle_run.specs.Compiled.{IsProgramOf};
+ghost use Rattle.isle_ast.specs.Positions.Files.{source_file};
+ghost use Rattle.isle_program.specs.Compiled.{IsProgramOf};
 ghost use Rattle.islec.specs.Drawing.{AreAsked, CutsTrees, DrawsTrees, IsUnknown, TellsAs, TellsTreesOf, WritesTrees, WritesUnknown, unknown_line};
 ghost use Rattle.islec.specs.Running.{WritesFaults};
 ghost use Rattle.islec.specs.Writing.{AppendsBeginning};
@@ -11,7 +11,7 @@ ghost use Rattle.islec.specs.declared.status.Status.{Status};
 use crate::perform::refuse;
 use crate::serve::{ServeFault, write_text};
 use crate::status::Status;
-use isle_run::{Program, Refused, TermId, compile};
+use isle_run::{Program, Refused, TermId, compile, trees_graph, trees_text};
 use isle_syntax::files::Files;
 use std::alloc::{AllocError, Global};
 use std::io::Write;
@@ -68,7 +68,8 @@ fn draw<W: Write>(
         × IsUnknown program.now (map string_bytes names.now) name × Appends (W.contents writer.old) (W.contents writer.new) (unknown_line name)) }
     ensures other { IfOk result (λ status. (status ≡ Status.AllWell) ⊎ (status ≡ Status.Usage)) }
     ensures cut { IfErr result (λ fault. fault ≢ ServeFault.Memory → (text : List ℕ)
-        × TellsTreesOf program.now files.now (map string_bytes names.now) dot text × AppendsBeginning (W.contents writer.old) (W.contents writer.new) text) }
+        × TellsTreesOf program.now files.now (map string_bytes names.now) dot text
+        × AppendsBeginning (W.contents writer.old) (W.contents writer.new) text) }
     ensures memory { IfErr result (λ fault. fault ≡ ServeFault.Memory → Keeps
         (W.contents writer.old) (W.contents writer.new)) }
     ensures fault { IfErr result (λ fault. fault ≢ ServeFault.Read) }
@@ -99,9 +100,9 @@ fn trees(
     ensures { IfOk result (λ text. TellsAs dot program.now files.now terms.now (string_bytes text)) }
 {
     if dot {
-        program.trees_graph(alloc, files, terms)
+        trees_graph(alloc, program, files, terms)
     } else {
-        program.trees_text(alloc, files, terms)
+        trees_text(alloc, program, files, terms)
     }
 }
 

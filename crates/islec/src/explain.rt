@@ -1,8 +1,9 @@
 //! Why something is refused, on a line below it.
 ghost use Rattle.std.specs.Prelude.{◌≡◌, [], true, All, IfOk, string_bytes};
-ghost use Rattle.isle_syntax.specs.Errors.{IsPrintable, error_text};
-ghost use Rattle.isle_run.specs.Facts.Reach.{IsRunnable};
-ghost use Rattle.isle_run.specs.Programs.{types_of, terms_of};
+ghost use Rattle.isle_ast.specs.Errors.{IsPrintable};
+ghost use Rattle.isle_syntax.specs.Errors.{error_text};
+ghost use Rattle.isle_program.specs.Facts.Reach.{IsRunnable};
+ghost use Rattle.isle_program.specs.Programs.{types_of, terms_of};
 ghost use Rattle.islec.specs.Reasons.{ExplainEach, ExplainsFault, IsReason, ReportsFaults};
 ghost use Rattle.islec.specs.Terms.{TellsReason};
 

@@ -1,10 +1,10 @@
 //! Printing texts by the layout.
 ghost use Rattle.std.specs.Prelude.{◌≡◌, ◌<◌, ◌≢◌, ◌⊎◌, ◌++◌, true, length, map, slice_get, string_bytes, IfErr, IfOk, IfSome, OnOk};
 ghost use Rattle.isle_layout.specs.Formats.{Formats};
-ghost use Rattle.isle_syntax.specs.Errors.{IfFault, RefusalAt};
-ghost use Rattle.isle_syntax.specs.Positions.Files.{source_file};
-ghost use Rattle.isle_syntax.specs.Positions.Printable.{IsPrintablePos};
-ghost use Rattle.isle_syntax.specs.Grammar.Texts.{IsFaultIn};
+ghost use Rattle.isle_ast.specs.Errors.{IfFault, RefusalAt};
+ghost use Rattle.isle_ast.specs.Positions.Files.{source_file};
+ghost use Rattle.isle_ast.specs.Positions.Printable.{IsPrintablePos};
+ghost use Rattle.isle_syntax.specs.Grammar.Verdict.{IsFaultIn};
 ghost use Rattle.islec.specs.Formatting.{WritesPrints, RefusesPrints, CutsPrints, status_behind as the_status_behind, told_of};
 ghost use Rattle.std.specs.Io.KnownBytes.{Keeps};
 ghost use Rattle.islec.specs.declared.status.Status.{Status};

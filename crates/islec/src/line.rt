@@ -111,7 +111,7 @@ fn command<'a>(alloc: Global) -> Result<Command<'a>, AllocError>
     ensures { IfOk result (IsCommand islec) }
 {
     Command::new(alloc, "islec")
-        .version("0.137.1")
+        .version("0.137.1 (Jiggermarsh 1.0.0)")
         .about("Compiles files of ISLE rules and answers queries by them")
         .subcommand_required(true)
         .subcommand(run_command(alloc)?)?

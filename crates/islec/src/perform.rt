@@ -2,9 +2,9 @@
 ghost use Rattle.std.specs.Prelude.{◌≡◌, ◌≢◌, ◌⊎◌, ℕ, List, true, false, map, IfOk, IfErr, OnOk, string_bytes};
 ghost use Rattle.std.specs.Io.KnownBytes.{Appends, Keeps};
 ghost use Rattle.isle_syntax.specs.Errors.{report_text};
-ghost use Rattle.isle_syntax.specs.Positions.Files.{source_file};
-ghost use Rattle.isle_run.specs.Compiled.{AreAccepted};
-ghost use Rattle.isle_run.specs.TreeCalls.{IsCompiled};
+ghost use Rattle.isle_ast.specs.Positions.Files.{source_file};
+ghost use Rattle.isle_program.specs.Compiled.{AreAccepted};
+ghost use Rattle.isle_machine.specs.TreeCalls.{IsCompiled};
 ghost use Rattle.islec.specs.Endings.{EndsJob};
 ghost use Rattle.islec.specs.Replies.{setting_in};
 ghost use Rattle.islec.specs.Running.{TellsChecked, WritesFaults, WritesAccepted, WritesAnswers, WritesRefusal, CutsCheck, CutsRun, AnswersSome, AnswersIn, TellsWorld, CutsIn, StopsIn, in_entries};

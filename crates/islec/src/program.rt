@@ -3,7 +3,7 @@ ghost use Rattle.std.specs.Prelude.{◌≡◌, ◌⊎◌, true, IfOk, IfErr, OnO
 ghost use Rattle.std.specs.Io.KnownBytes.{Appends};
 ghost use Rattle.islec.specs.Beginnings.{BecomesUnbegun, TellsUnbegun, IsNoText, IsUnread, IsUnreadFile, IsUnreadFor, IsUnreadWorld, line_of_two, unread_lines};
 ghost use Rattle.islec.specs.Endings.{Begins, EndsCommand, HoldsBack};
-ghost use Rattle.isle_syntax.specs.Positions.Files.{source_file};
+ghost use Rattle.isle_ast.specs.Positions.Files.{source_file};
 ghost use Rattle.islec.specs.Inputs.{ReadsFile, ReadsFiles, ReadsText, is_input as the_input};
 ghost use Rattle.islec.specs.Statuses.{code_of};
 ghost use Rattle.islec.specs.Writing.{AppendsBeginning};

@@ -2,7 +2,7 @@
 ghost use Rattle.std.specs.Prelude.{◌≡◌, ◌≢◌, ◌↔◌, ◌++◌, ◌||◌, ℕ, Bool, List, [], ◌∷◌, OnOk, OnErr, IfOk, IfErr, IfSome, IfNone, IsTrue, codes, string_bytes};
 ghost use Rattle.std.specs.Io.KnownBytes.{Appends, Consumes, Keeps, IsAtEnd};
 ghost use Rattle.std.specs.Io.{StopsAt};
-ghost use Rattle.isle_run.specs.TreeCalls.{IsCompiled};
+ghost use Rattle.isle_machine.specs.TreeCalls.{IsCompiled};
 ghost use Rattle.islec.specs.Replies.{IsReply, setting_in};
 ghost use Rattle.islec.specs.Serving.{AreLinesOf, AnswersAll, AnswersFirst, AnswersCut, KeepsBack, KeepsFirst, WritesFirst, GivesLines, TakesLine, LosesNewline, IsCutShort, BreaksOff, some_refused};
 ghost use Rattle.islec.specs.Writing.{AppendsBeginning, ContinuesBy};

@@ -1,7 +1,7 @@
 //! The world of a file, and the calls for which it has no entry of their own.
 ghost use Rattle.std.specs.Prelude.{◌≡◌};
-ghost use Rattle.isle_terms.specs.Values.{value_list};
-ghost use Rattle.isle_run.specs.Worlds.Entries.{part_shown};
+ghost use Rattle.isle_rules.specs.Values.{value_list};
+ghost use Rattle.isle_values.specs.Worlds.Entries.{part_shown};
 
 use crate::answer::{push_call, push_value};
 use isle_run::{Side, TableWorld, Value, World};
@@ -21,8 +21,8 @@ pub struct WatchedTable {
 impl Model for WatchedTable {
     ghost use Rattle.std.specs.Prelude.{List};
     ghost use Rattle.std.specs.Coded.{coded_list};
-    ghost use Rattle.isle_run.specs.Worlds.EntryCode.{entry_tree_code};
-    ghost use Rattle.isle_run.specs.Worlds.Entries.{EntryTree};
+    ghost use Rattle.isle_values.specs.Worlds.EntryCode.{entry_tree_code};
+    ghost use Rattle.isle_values.specs.Worlds.Entries.{EntryTree};
 
     ghost Value = { List EntryTree };
 
@@ -118,7 +118,7 @@ impl WatchedTable {
 
 impl World for WatchedTable {
     ghost use Rattle.std.proofs.Common.{ap};
-    ghost use Rattle.isle_run.specs.Worlds.Tables.{constructed, extracted};
+    ghost use Rattle.isle_values.specs.Worlds.Tables.{constructed, extracted};
 
     ghost constructs = { constructed };
 

@@ -1,6 +1,6 @@
 //! What is printed of a world that is refused.
 ghost use Rattle.std.specs.Prelude.{◌≡◌, ◌+◌, ◌-◌, ◌∷◌, IfOk, slice_index, string_bytes};
-ghost use Rattle.isle_syntax.specs.Positions.Lines.{starts_up_to};
+ghost use Rattle.isle_ast.specs.Positions.Lines.{starts_up_to};
 ghost use Rattle.islec.specs.Reasons.{TellsFault};
 ghost use Rattle.islec.specs.Worlds.{placed_line, world_fault_line};
 

@@ -15,7 +15,7 @@ use Rattle.isle_meaning.specs.Numbered.{match_some_row, match_tuple_row, At, AtA
 use Rattle.isle_blocks.specs.declared.ids.BindingId.{BindingId}
 use Rattle.isle_blocks.specs.declared.binding.Binding.{Binding}
 use Rattle.isle_blocks.specs.declared.binding.Binding.TheVariants as sites
-use Rattle.isle_blocks.specs.Bindings.{sources_of}
+use Rattle.isle_blocks.specs.Tables.{sources_of}
 use Rattle.isle_blocks.specs.Rows.{numbers_of, row_of, rows_of}
 use Rattle.isle_blocks.specs.Inside.Building.Contents.{Reached, here, through, IsAsked}
 use Rattle.isle_blocks.proofs.Building.Walking.{cons_cases, cons_here, cons_there, none_there}

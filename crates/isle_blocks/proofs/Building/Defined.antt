@@ -4,33 +4,33 @@ use Rattle.std.proofs.Common.{List, [], ◌∷◌, ◌++◌, length, Some, Ok, E
 use Rattle.std.proofs.Common.{slice_get, length-append, arith, ap, subst}
 use Rattle.std.specs.Prelude.{Result, IfErr}
 use Rattle.std.specs.List.{AllZip}
-use Rattle.isle_syntax.specs.declared.ast.Def.{Def}
+use Rattle.isle_ast.specs.declared.ast.Def.{Def}
 use Rattle.isle_types.specs.declared.ids.TermId.{TermId}
 use Rattle.isle_types.specs.declared.ids.TypeId.{TypeId}
 use Rattle.isle_types.specs.Names.{AreDistinct}
 use Rattle.isle_types.specs.Environment.{Environment}
 use Rattle.isle_types.specs.TypeTables.{TypeTables}
 use Rattle.isle_types.proofs.Zipped.{all_at}
-use Rattle.isle_terms.specs.declared.rules.Rule.{Rule}
-use Rattle.isle_terms.specs.declared.visit.fault.VisitFault.{VisitFault}
-use Rattle.isle_terms.specs.declared.visit.fault.VisitFault.TheVariants.{Size, Undefined, Memory}
-use Rattle.isle_terms.specs.TypedRules.{TypedRule}
-use Rattle.isle_terms.specs.Signatures.{Declared}
-use Rattle.isle_terms.specs.Definitions.{declared_by}
+use Rattle.isle_rules.specs.declared.rules.Rule.{Rule}
+use Rattle.isle_rules.specs.declared.visit.fault.VisitFault.{VisitFault}
+use Rattle.isle_rules.specs.declared.visit.fault.VisitFault.TheVariants.{Size, Undefined, Memory}
+use Rattle.isle_rules.specs.TypedRules.{TypedRule}
+use Rattle.isle_rules.specs.Signatures.{Declared}
+use Rattle.isle_rules.specs.Definitions.{declared_by}
 use Rattle.isle_meaning.specs.Facts.{facts_of}
-use Rattle.isle_terms.specs.TermEnvs.{ShowsTerms}
-use Rattle.isle_terms.specs.Shown.RulesShown.{IsShownRule}
-use Rattle.isle_terms.specs.Shown.TermTables.{TermTables}
-use Rattle.isle_terms.specs.SoundRules.WellTyped.{IsTypedRule}
-use Rattle.isle_terms.specs.SoundRules.KeptScopes.{KeepsScopes}
-use Rattle.isle_terms.specs.Visits.Runs.{Run, done, in_turn}
-use Rattle.isle_terms.specs.Visits.VisitorCalls.{PatternCall, match_equal, match_bool, match_int, match_prim, match_variant, extract_struct}
-use Rattle.isle_terms.specs.Visits.VisitorCalls.{extract_outputs, ExprCall, const_bool, const_int, const_prim, create_variant, create_struct}
-use Rattle.isle_terms.specs.Visits.VisitorCalls.{construct}
-use Rattle.isle_terms.specs.Visits.OwnFaults.{asked_of, NeverUndefined, FindsAllDefined}
-use Rattle.isle_terms.proofs.Visiting.SoundRules.{rules_sound}
-use Rattle.isle_terms.proofs.Sound.RuleTypes.{rules_typed}
-use Rattle.isle_terms.proofs.Sound.RuleScopes.{rules_keep_scopes}
+use Rattle.isle_rules.specs.Shown.RulesShown.{ShowsTerms}
+use Rattle.isle_rules.specs.Shown.RulesShown.{IsShownRule}
+use Rattle.isle_rules.specs.Shown.TermTables.{TermTables}
+use Rattle.isle_rules.specs.SoundRules.WellTyped.{IsTypedRule}
+use Rattle.isle_rules.specs.SoundRules.KeptScopes.{KeepsScopes}
+use Rattle.isle_rules.specs.Visits.Runs.{Run, done, in_turn}
+use Rattle.isle_rules.specs.Visits.VisitorCalls.{PatternCall, match_equal, match_bool, match_int, match_prim, match_variant, extract_struct}
+use Rattle.isle_rules.specs.Visits.VisitorCalls.{extract_outputs, ExprCall, const_bool, const_int, const_prim, create_variant, create_struct}
+use Rattle.isle_rules.specs.Visits.VisitorCalls.{construct}
+use Rattle.isle_rules.specs.Visits.OwnFaults.{asked_of, NeverUndefined, FindsAllDefined}
+use Rattle.isle_rules.proofs.Visiting.SoundRules.{rules_sound}
+use Rattle.isle_rules.proofs.Sound.RuleTypes.{rules_typed}
+use Rattle.isle_rules.proofs.Sound.RuleScopes.{rules_keep_scopes}
 use Rattle.isle_blocks.specs.declared.ids.BindingId.{BindingId}
 use Rattle.isle_blocks.specs.declared.binding.Binding.{Binding}
 use Rattle.isle_blocks.specs.declared.binding.Binding.TheVariants as sites
@@ -38,7 +38,7 @@ use Rattle.isle_blocks.specs.declared.constraint.Constraint.{Constraint}
 use Rattle.isle_blocks.specs.declared.constraint.Constraint.TheVariants as tests
 use Rattle.isle_blocks.specs.declared.builder.BuiltRule.{BuiltRule}
 use Rattle.isle_blocks.specs.Constraints.{variant_field, struct_field}
-use Rattle.isle_blocks.specs.Inside.Building.Gathering.{Gathered, nothing_gathered, interns, interns_each, demands, equates, fitting, sites_from}
+use Rattle.isle_blocks.specs.Inside.Building.Gathering.{Gathered, nothing_gathered, interns, interns_each, takes_demand, equates, fitting, sites_from}
 use Rattle.isle_blocks.specs.Inside.Building.Gathering.{tuple_output, extracted, outputs, constructed, numbers, keeps}
 use Rattle.isle_blocks.specs.Inside.Building.Steps.{values_of, arg_adds, takes, makes, pattern_adds, expr_adds, rule_adds}
 use Rattle.isle_blocks.specs.Inside.Building.Building.{gathers, gathered_in, BuildsRule}
@@ -69,7 +69,7 @@ each_interned [] before = nothing_done before
 each_interned (site ∷ others) before =
     turns (interns site) (λ id. interns_each others (before ++ id ∷ [])) (interned site) (λ id. each_interned others (before ++ id ∷ []))
 
-demanded : (id : BindingId) (test : Constraint) → NeverUndefined (demands id test)
+demanded : (id : BindingId) (test : Constraint) → NeverUndefined (takes_demand id test)
 demanded id test s s' h = let e = h.0 in absurd cc
 
 equated : (a b : BindingId) → NeverUndefined (equates a b)
@@ -79,7 +79,7 @@ given : (multi infallible : Bool) (call : BindingId) → NeverUndefined (extract
 given true infallible call = interned (sites.Iterator call)
 given false true call = nothing_done call
 given false false call =
-    turns (demands call tests.Some) (λ _. interns (sites.MatchSome call)) (demanded call tests.Some) (λ _. interned (sites.MatchSome call))
+    turns (takes_demand call tests.Some) (λ _. interns (sites.MatchSome call)) (demanded call tests.Some) (λ _. interned (sites.MatchSome call))
 
 put_out : (n : ℕ) (value : BindingId) → NeverUndefined (outputs n value)
 put_out zero value = nothing_done {A = List BindingId} []
@@ -100,8 +100,8 @@ kept true value = nothing_done value
 kept false value = λ s s' h. let e = h.0 in absurd cc
 
 opened : (input : BindingId) (test : Constraint) (sites : List Binding)
-    → NeverUndefined (in_turn (demands input test) (λ _. interns_each sites []))
-opened input test sites = turns (demands input test) (λ _. interns_each sites []) (demanded input test) (λ _. each_interned sites [])
+    → NeverUndefined (in_turn (takes_demand input test) (λ _. interns_each sites []))
+opened input test sites = turns (takes_demand input test) (λ _. interns_each sites []) (demanded input test) (λ _. each_interned sites [])
 
 taken : (input : BindingId) (term : TermId) (infallible multi : Bool) (n : ℕ) → NeverUndefined (takes input term infallible multi n)
 taken input term infallible multi n =
@@ -117,11 +117,11 @@ pattern_defined (match_prim input ty val) = demanded input (tests.ConstPrim val)
 pattern_defined (match_variant input ty tys variant) =
     let test : Constraint = tests.Variant ty variant (record { 0 = length tys }) in
     let fields = sites_from (variant_field input variant) 0 (length tys) in
-    fits (length tys) (in_turn (demands input test) (λ _. interns_each fields [])) (opened input test fields)
+    fits (length tys) (in_turn (takes_demand input test) (λ _. interns_each fields [])) (opened input test fields)
 pattern_defined (extract_struct input ty tys) =
     let test : Constraint = tests.Struct ty (record { 0 = length tys }) in
     let fields = sites_from (struct_field input) 0 (length tys) in
-    fits (length tys) (in_turn (demands input test) (λ _. interns_each fields [])) (opened input test fields)
+    fits (length tys) (in_turn (takes_demand input test) (λ _. interns_each fields [])) (opened input test fields)
 pattern_defined (extract_outputs input ty tys term infallible multi) =
     fits (length tys) (takes input term infallible multi (length tys)) (taken input term infallible multi (length tys))
 

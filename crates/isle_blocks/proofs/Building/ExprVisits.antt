@@ -8,19 +8,19 @@ use Rattle.isle_types.specs.declared.ids.Sym.{Sym}
 use Rattle.isle_types.specs.declared.ids.TermId.{TermId}
 use Rattle.isle_types.specs.declared.ids.TypeId.{TypeId}
 use Rattle.isle_types.specs.declared.ids.VarId.{VarId}
-use Rattle.isle_terms.specs.declared.terms.Term.{Term}
-use Rattle.isle_terms.specs.declared.terms.TermKind.{TermKind}
-use Rattle.isle_terms.specs.declared.terms.TermKind.TheVariants.{EnumVariant, Struct, Decl}
-use Rattle.isle_terms.specs.Signatures.{flags_of}
-use Rattle.isle_terms.specs.Shown.ShownTerms.{form_shown}
-use Rattle.isle_terms.specs.SoundRules.KeptScopes.{Scope, IsUsable, ExprUses, ExprsUse, BindingsAdd, with_next, counting}
-use Rattle.isle_terms.specs.Visits.Runs.{done, asks, in_turn, on_some, stuck}
-use Rattle.isle_terms.specs.Visits.VisitScopes.{bound as bound_by}
-use Rattle.isle_terms.specs.Visits.VisitScopes.{VisitScope}
-use Rattle.isle_terms.specs.Visits.VisitorCalls.{ExprCall, making_of}
-use Rattle.isle_terms.specs.Visits.InternedTrees.{InternedExpr, InternedExprs, InternedBindings, term_expr, var_expr, bool_expr, int_expr}
-use Rattle.isle_terms.specs.Visits.InternedTrees.{prim_expr, let_expr, no_exprs, more_exprs, no_bindings, more_bindings}
-use Rattle.isle_terms.specs.Visits.Events.{visits_expr, visits_exprs, visits_bindings}
+use Rattle.isle_rules.specs.declared.terms.Term.{Term}
+use Rattle.isle_rules.specs.declared.terms.TermKind.{TermKind}
+use Rattle.isle_rules.specs.declared.terms.TermKind.TheVariants.{EnumVariant, Struct, Decl}
+use Rattle.isle_rules.specs.Signatures.{flags_of}
+use Rattle.isle_rules.specs.Shown.ShownTerms.{form_shown}
+use Rattle.isle_rules.specs.SoundRules.KeptScopes.{Scope, IsUsable, ExprUses, ExprsUse, BindingsAdd, with_next, counting}
+use Rattle.isle_rules.specs.Visits.Runs.{done, asks, in_turn, on_some, stuck}
+use Rattle.isle_rules.specs.Visits.VisitScopes.{bound_by}
+use Rattle.isle_rules.specs.Visits.VisitScopes.{VisitScope}
+use Rattle.isle_rules.specs.Visits.VisitorCalls.{ExprCall, making_of}
+use Rattle.isle_rules.specs.Visits.InternedTrees.{InternedExpr, InternedExprs, InternedBindings, term_expr, var_expr, bool_expr, int_expr}
+use Rattle.isle_rules.specs.Visits.InternedTrees.{prim_expr, let_expr, no_exprs, more_exprs, no_bindings, more_bindings}
+use Rattle.isle_rules.specs.Visits.Events.{visits_expr, visits_exprs, visits_bindings}
 use Rattle.isle_meaning.specs.Facts.{TermFacts, shape_of_form}
 use Rattle.isle_meaning.specs.Words.{set}
 use Rattle.isle_meaning.specs.Sites.{Site, bool_site, int_site, prim_site, make_variant, make_struct, Sites}
@@ -129,7 +129,8 @@ module _ (name : Sym → List ℕ) (injective : IsInjective name) (names : List 
 
     mutual
       -- an expression, under variables that stand for sites
-      pub follow_expr : (e : InternedExpr) (scope : Scope) (count : ℕ) (numbers : VisitScope BindingId) (vars : ℕ → Site) (log : Log) (s s' : Gathered)
+      pub follow_expr : (e : InternedExpr) (scope : Scope) (count : ℕ) (numbers : VisitScope BindingId) (vars : ℕ → Site)
+          (log : Log) (s s' : Gathered)
           (id : BindingId) → Stand (rows_of name s.sites) scope.usable numbers vars → StandEach (rows_of name s.sites) s.impure log.impure
           → ExprUses (named_expr name e) scope count → visits_expr expr_adds terms e numbers s (Ok id) s'
           → Evaluates s log (visit facts vars log (named_expr name e)) id s'
@@ -158,7 +159,8 @@ module _ (name : Sym → List ℕ) (injective : IsInjective name) (names : List 
           → AllEvaluate s log (visit_all facts vars log (named_exprs name es)) before inputs s'
       follow_exprs no_exprs tys before inputs scope count numbers vars log s s' h each uses run =
           subst (λ (z : Gathered). Visited name injective s log log z
-          × ((more : List (BindingId × TypeId)) × (inputs ≡ before ++ more) × AtAll (rows_of name z.sites) (visit_all facts vars log (named_exprs name no_exprs)).0 (numbers_of (values_of more)))) run.1
+          × ((more : List (BindingId × TypeId)) × (inputs ≡ before ++ more) × AtAll (rows_of name z.sites)
+          (visit_all facts vars log (named_exprs name no_exprs)).0 (numbers_of (values_of more)))) run.1
           (visited_none name injective s log each, ([], sym run.0 ∙ sym (append-nil before), tt))
       follow_exprs (more_exprs e es) [] before inputs scope count numbers vars log s s' h each uses run = absurd run
       follow_exprs (more_exprs e es) (ty ∷ tys) before inputs scope count numbers vars log s s' h each uses run =
@@ -178,7 +180,8 @@ module _ (name : Sym → List ℕ) (injective : IsInjective name) (names : List 
             ),
           )
 
-      pub follow_lets : (bs : InternedBindings) (scope inside : Scope) (numbers out : VisitScope BindingId) (vars : ℕ → Site) (log : Log) (s s' : Gathered)
+      pub follow_lets : (bs : InternedBindings) (scope inside : Scope) (numbers out : VisitScope BindingId)
+          (vars : ℕ → Site) (log : Log) (s s' : Gathered)
           → Stand (rows_of name s.sites) scope.usable numbers vars → StandEach (rows_of name s.sites) s.impure log.impure
           → BindingsAdd (named_bindings name bs) scope inside → visits_bindings expr_adds terms bs numbers s (Ok out) s'
           → Visited name injective s log (visit_lets facts vars log (named_bindings name bs)).1 s'

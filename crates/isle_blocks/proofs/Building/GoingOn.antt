@@ -8,41 +8,41 @@ use Rattle.std.proofs.lemmas.Option.{none-some, same_Some}
 use Rattle.isle_types.specs.declared.ids.TermId.{TermId}
 use Rattle.isle_types.specs.declared.ids.TypeId.{TypeId}
 use Rattle.isle_types.specs.declared.ids.VarId.{VarId}
-use Rattle.isle_terms.specs.declared.rules.Expr.{Expr}
-use Rattle.isle_terms.specs.declared.rules.IfLet.{IfLet}
-use Rattle.isle_terms.specs.declared.rules.Pattern.{Pattern}
-use Rattle.isle_terms.specs.declared.rules.Rule.{Rule}
-use Rattle.isle_terms.specs.declared.terms.Term.{Term}
-use Rattle.isle_terms.specs.declared.terms.TermKind.{TermKind}
-use Rattle.isle_terms.specs.declared.terms.TermKind.TheVariants.{EnumVariant, Struct, Decl}
-use Rattle.isle_terms.specs.declared.visit.fault.VisitFault.TheVariants.{Size, Undefined}
-use Rattle.isle_terms.specs.TypedTrees.{type_of_expr}
-use Rattle.isle_terms.specs.Visits.Runs.{Run, done, asks, in_turn, on_some, stuck}
-use Rattle.isle_terms.specs.Visits.VisitScopes.{VisitScope, no_values, bound}
-use Rattle.isle_terms.specs.Visits.InternedTrees.{InternedPattern, InternedPatterns, bind_pattern, var_pattern, bool_pattern, int_pattern}
-use Rattle.isle_terms.specs.Visits.InternedTrees.{prim_pattern, term_pattern, wildcard_pattern, and_pattern, no_patterns, more_patterns}
-use Rattle.isle_terms.specs.Visits.InternedTrees.{InternedExpr, InternedExprs, InternedBindings, term_expr, var_expr, bool_expr, int_expr}
-use Rattle.isle_terms.specs.Visits.InternedTrees.{prim_expr, let_expr, no_exprs, more_exprs, no_bindings, more_bindings, pattern_of, expr_of}
-use Rattle.isle_terms.specs.Visits.VisitorCalls.{PatternCall, match_equal, match_bool, match_int, match_prim, match_variant, extract_struct}
-use Rattle.isle_terms.specs.Visits.VisitorCalls.{extract_outputs, opening_of, opening, ExprCall, const_bool, const_int, const_prim}
-use Rattle.isle_terms.specs.Visits.VisitorCalls.{create_variant, create_struct, construct, making_of}
-use Rattle.isle_terms.specs.Visits.Events.{visits, visits_all, visits_each, visits_expr, visits_exprs, visits_bindings}
-use Rattle.isle_terms.specs.Visits.OwnFaults.{asked_of}
-use Rattle.isle_terms.specs.Visits.RuleSteps.{in_pattern, in_expr}
-use Rattle.isle_terms.specs.Visits.RuleEvents.{visits_typed, visits_var, visits_vars, visits_part, visits_args, visits_value, visits_iflets}
-use Rattle.isle_terms.specs.Visits.RuleEvents.{visits_rest}
+use Rattle.isle_rules.specs.declared.rules.Expr.{Expr}
+use Rattle.isle_rules.specs.declared.rules.IfLet.{IfLet}
+use Rattle.isle_rules.specs.declared.rules.Pattern.{Pattern}
+use Rattle.isle_rules.specs.declared.rules.Rule.{Rule}
+use Rattle.isle_rules.specs.declared.terms.Term.{Term}
+use Rattle.isle_rules.specs.declared.terms.TermKind.{TermKind}
+use Rattle.isle_rules.specs.declared.terms.TermKind.TheVariants.{EnumVariant, Struct, Decl}
+use Rattle.isle_rules.specs.declared.visit.fault.VisitFault.TheVariants.{Size, Undefined}
+use Rattle.isle_rules.specs.TypedTrees.{type_of_expr}
+use Rattle.isle_rules.specs.Visits.Runs.{Run, done, asks, in_turn, on_some, stuck}
+use Rattle.isle_rules.specs.Visits.VisitScopes.{VisitScope, no_values, bound_by}
+use Rattle.isle_rules.specs.Visits.InternedTrees.{InternedPattern, InternedPatterns, bind_pattern, var_pattern, bool_pattern, int_pattern}
+use Rattle.isle_rules.specs.Visits.InternedTrees.{prim_pattern, term_pattern, wildcard_pattern, and_pattern, no_patterns, more_patterns}
+use Rattle.isle_rules.specs.Visits.InternedTrees.{InternedExpr, InternedExprs, InternedBindings, term_expr, var_expr, bool_expr, int_expr}
+use Rattle.isle_rules.specs.Visits.InternedTrees.{prim_expr, let_expr, no_exprs, more_exprs, no_bindings, more_bindings, pattern_of, expr_of}
+use Rattle.isle_rules.specs.Visits.VisitorCalls.{PatternCall, match_equal, match_bool, match_int, match_prim, match_variant, extract_struct}
+use Rattle.isle_rules.specs.Visits.VisitorCalls.{extract_outputs, opening_of, opening, ExprCall, const_bool, const_int, const_prim}
+use Rattle.isle_rules.specs.Visits.VisitorCalls.{create_variant, create_struct, construct, making_of}
+use Rattle.isle_rules.specs.Visits.Events.{visits, visits_all, visits_each, visits_expr, visits_exprs, visits_bindings}
+use Rattle.isle_rules.specs.Visits.OwnFaults.{asked_of}
+use Rattle.isle_rules.specs.Visits.RuleSteps.{in_pattern, in_expr}
+use Rattle.isle_rules.specs.Visits.RuleEvents.{visits_typed, visits_var, visits_vars, visits_part, visits_args, visits_value, visits_iflets}
+use Rattle.isle_rules.specs.Visits.RuleEvents.{visits_rest}
 use Rattle.isle_blocks.specs.declared.ids.BindingId.{BindingId}
 use Rattle.isle_blocks.specs.declared.binding.Binding.{Binding}
 use Rattle.isle_blocks.specs.declared.binding.Binding.TheVariants as sites
 use Rattle.isle_blocks.specs.declared.constraint.Constraint.{Constraint}
 use Rattle.isle_blocks.specs.declared.constraint.Constraint.TheVariants as tests
-use Rattle.isle_blocks.specs.Bindings.{sources_of}
+use Rattle.isle_blocks.specs.Tables.{sources_of}
 use Rattle.isle_blocks.specs.contracts.binding.BindingPartialEq.TheImpl as binding_of
 use Rattle.isle_blocks.specs.Constraints.{variant_field, struct_field}
 use Rattle.isle_blocks.specs.Tables.{IsAbsent}
 use Rattle.isle_blocks.specs.Inside.Building.Building.{gathers}
 use Rattle.isle_blocks.specs.Inside.Building.Contents.{PartsAreBefore, Reached, here, through, IsAsked, AreAsked}
-use Rattle.isle_blocks.specs.Inside.Building.Gathering.{Gathered, with_sites, with_tests, with_pair, with_effect, interns, interns_each, demands}
+use Rattle.isle_blocks.specs.Inside.Building.Gathering.{Gathered, with_sites, with_tests, with_pair, with_effect, interns, interns_each, takes_demand}
 use Rattle.isle_blocks.specs.Inside.Building.Gathering.{equates, fitting, sites_from, tuple_output, extracted, outputs, constructed, counts, numbers, keeps}
 use Rattle.isle_blocks.specs.Building.Naming.{HaveFewArguments}
 use Rattle.isle_blocks.specs.Inside.Building.Steps.{values_of, each_some, arg_adds, content_adds, takes, makes, pattern_adds, expr_adds, rule_adds}
@@ -226,7 +226,7 @@ goes_each [] before = goes_done before
 goes_each (site ∷ others) before =
     goes_turn (interns site) (λ id. interns_each others (before ++ id ∷ [])) (goes_interns site) (λ id. goes_each others (before ++ id ∷ []))
 
-goes_demands : (id : BindingId) (test : Constraint) → Goes (demands id test)
+goes_demands : (id : BindingId) (test : Constraint) → Goes (takes_demand id test)
 goes_demands id test = record {
   total = λ s. inl ([], with_tests ((id, test) ∷ []) s, (refl, refl));
   grows = λ s s' a h. rw h.1 (omega arith);
@@ -264,7 +264,7 @@ goes_extracted : (multi infallible : Bool) (call : BindingId) → Goes (extracte
 goes_extracted true infallible call = goes_interns (sites.Iterator call)
 goes_extracted false true call = goes_done call
 goes_extracted false false call =
-    goes_turn (demands call tests.Some) (λ _. interns (sites.MatchSome call)) (goes_demands call tests.Some)
+    goes_turn (takes_demand call tests.Some) (λ _. interns (sites.MatchSome call)) (goes_demands call tests.Some)
     (λ _. goes_interns (sites.MatchSome call))
 
 goes_outputs : (n : ℕ) (value : BindingId) → Goes (outputs n value)
@@ -296,8 +296,8 @@ goes_keeps false value = record {
   past = λ s s' h. let e = h.0 in absurd cc;
 }
 
-goes_opens : (input : BindingId) (test : Constraint) (sites : List Binding) → Goes (in_turn (demands input test) (λ _. interns_each sites []))
-goes_opens input test sites = goes_turn (demands input test) (λ _. interns_each sites []) (goes_demands input test) (λ _. goes_each sites [])
+goes_opens : (input : BindingId) (test : Constraint) (sites : List Binding) → Goes (in_turn (takes_demand input test) (λ _. interns_each sites []))
+goes_opens input test sites = goes_turn (takes_demand input test) (λ _. interns_each sites []) (goes_demands input test) (λ _. goes_each sites [])
 
 goes_takes : (input : BindingId) (term : TermId) (infallible multi : Bool) (n : ℕ) → Goes (takes input term infallible multi n)
 goes_takes input term infallible multi n =
@@ -315,11 +315,11 @@ goes_pattern (match_prim input ty val) few = goes_demands input (tests.ConstPrim
 goes_pattern (match_variant input ty tys variant) few =
     let test : Constraint = tests.Variant ty variant (record { 0 = length tys }) in
     let fields = sites_from (variant_field input variant) 0 (length tys) in
-    goes_fitting (length tys) (in_turn (demands input test) (λ _. interns_each fields [])) few (goes_opens input test fields)
+    goes_fitting (length tys) (in_turn (takes_demand input test) (λ _. interns_each fields [])) few (goes_opens input test fields)
 goes_pattern (extract_struct input ty tys) few =
     let test : Constraint = tests.Struct ty (record { 0 = length tys }) in
     let fields = sites_from (struct_field input) 0 (length tys) in
-    goes_fitting (length tys) (in_turn (demands input test) (λ _. interns_each fields [])) few (goes_opens input test fields)
+    goes_fitting (length tys) (in_turn (takes_demand input test) (λ _. interns_each fields [])) few (goes_opens input test fields)
 goes_pattern (extract_outputs input ty tys term infallible multi) few =
     goes_fitting (length tys) (takes input term infallible multi (length tys)) few (goes_takes input term infallible multi (length tys))
 
@@ -467,7 +467,7 @@ module _ (terms : List Term) (few : HaveFewArguments terms) where
 
   mutual
     goes_visits : (p : InternedPattern) (input : BindingId) (scope : VisitScope BindingId) → Goes (visits pattern_adds terms p input scope)
-    goes_visits (bind_pattern ty var p) input scope = goes_visits p input (bound scope var input)
+    goes_visits (bind_pattern ty var p) input scope = goes_visits p input (bound_by scope var input)
     goes_visits (var_pattern ty var) input scope =
         goes_some (scope var) (λ other. in_turn (asks pattern_adds (match_equal input other ty)) (λ _. done scope)) stuck
         (λ other at. goes_told (match_equal input other ty) scope (omega arith)) goes_stuck
@@ -526,8 +526,8 @@ module _ (terms : List Term) (few : HaveFewArguments terms) where
     goes_bindings : (bs : InternedBindings) (scope : VisitScope BindingId) → Goes (visits_bindings expr_adds terms bs scope)
     goes_bindings no_bindings scope = goes_done scope
     goes_bindings (more_bindings var ty e bs) scope =
-        goes_turn (visits_expr expr_adds terms e scope) (λ value. visits_bindings expr_adds terms bs (bound scope var value))
-        (goes_expr e scope) (λ value. goes_bindings bs (bound scope var value))
+        goes_turn (visits_expr expr_adds terms e scope) (λ value. visits_bindings expr_adds terms bs (bound_by scope var value))
+        (goes_expr e scope) (λ value. goes_bindings bs (bound_by scope var value))
 
   goes_typed : (expr : Expr) (scope : VisitScope BindingId) → Goes (visits_typed expr_adds terms expr scope)
   goes_typed expr scope =
@@ -542,9 +542,9 @@ module _ (terms : List Term) (few : HaveFewArguments terms) where
 
   goes_var : (scope : VisitScope BindingId) (var : VarId) (values : VisitScope BindingId) → Goes (visits_var rule_adds scope var values)
   goes_var scope var values =
-      goes_some (scope var) (λ value. in_turn (asks rule_adds.pattern_as_expr value) (λ made. done (bound values var made))) (done values)
-      (λ value at. goes_turn (asks rule_adds.pattern_as_expr value) (λ made. done (bound values var made))
-      (goes_asks rule_adds.pattern_as_expr value (goes_done value)) (λ made. goes_done (bound values var made))) (goes_done values)
+      goes_some (scope var) (λ value. in_turn (asks rule_adds.pattern_as_expr value) (λ made. done (bound_by values var made))) (done values)
+      (λ value at. goes_turn (asks rule_adds.pattern_as_expr value) (λ made. done (bound_by values var made))
+      (goes_asks rule_adds.pattern_as_expr value (goes_done value)) (λ made. goes_done (bound_by values var made))) (goes_done values)
 
   goes_vars : (scope : VisitScope BindingId) (var more : ℕ) (values : VisitScope BindingId) → Goes (visits_vars rule_adds scope var more values)
   goes_vars scope var zero values = goes_done values

@@ -3,17 +3,17 @@ use Rattle.std.proofs.Common.{◌≡◌, ◌≤◌, ℕ, List, [], ◌∷◌, �
 use Rattle.std.proofs.lemmas.List.{append-nil}
 use Rattle.std.proofs.lemmas.Option.{none-some}
 use Rattle.isle_types.specs.declared.ids.Sym.{Sym}
-use Rattle.isle_terms.specs.declared.rules.Expr.{Expr}
-use Rattle.isle_terms.specs.declared.rules.IfLet.{IfLet}
-use Rattle.isle_terms.specs.declared.terms.Term.{Term}
-use Rattle.isle_terms.specs.TypedRules.{TypedExpr, TypedExprs, TypedBindings, built_term, built_var, built_bool, built_int, built_prim, built_let}
-use Rattle.isle_terms.specs.TypedRules.{no_built, more_built, no_typed_bindings, more_typed_bindings, TypedIfLet, TypedRule}
-use Rattle.isle_terms.specs.SoundRules.KeptScopes.{Scope, counting, with_next, ExprUses, ExprsUse, BindingsAdd, IfLetsBind}
-use Rattle.isle_terms.specs.Visits.VisitScopes.{no_values}
-use Rattle.isle_terms.specs.Visits.VisitScopes.{VisitScope}
-use Rattle.isle_terms.specs.Visits.InternedTrees.{pattern_of, expr_of}
-use Rattle.isle_terms.specs.Visits.Events.{visits}
-use Rattle.isle_terms.specs.Visits.RuleEvents.{visits_value, visits_iflets}
+use Rattle.isle_rules.specs.declared.rules.Expr.{Expr}
+use Rattle.isle_rules.specs.declared.rules.IfLet.{IfLet}
+use Rattle.isle_rules.specs.declared.terms.Term.{Term}
+use Rattle.isle_rules.specs.TypedRules.{TypedExpr, TypedExprs, TypedBindings, built_term, built_var, built_bool, built_int, built_prim, built_let}
+use Rattle.isle_rules.specs.TypedRules.{no_built, more_built, no_typed_bindings, more_typed_bindings, TypedIfLet, TypedRule}
+use Rattle.isle_rules.specs.SoundRules.KeptScopes.{Scope, counting, with_next, ExprUses, ExprsUse, BindingsAdd, IfLetsBind}
+use Rattle.isle_rules.specs.Visits.VisitScopes.{no_values}
+use Rattle.isle_rules.specs.Visits.VisitScopes.{VisitScope}
+use Rattle.isle_rules.specs.Visits.InternedTrees.{pattern_of, expr_of}
+use Rattle.isle_rules.specs.Visits.Events.{visits}
+use Rattle.isle_rules.specs.Visits.RuleEvents.{visits_value, visits_iflets}
 use Rattle.isle_meaning.specs.Facts.{TermFacts}
 use Rattle.isle_meaning.specs.Words.{word_of, steps_of}
 use Rattle.isle_meaning.specs.Sites.{Site, site_of, step_site}
@@ -76,7 +76,8 @@ visited_adds name injective s s' after v = subst (λ z. Adds (rows_of name s.sit
 module _ (name : Sym → List ℕ) (injective : IsInjective name) (names : List (List ℕ)) (facts : TermFacts) (terms : List Term)
     (known : AreKnownTerms names facts terms) where
   -- an expression, under the variables that patterns bound
-  pub follow_value : (count : ℕ) (e : Expr) (before : Scope) (next : ℕ) (numbers : VisitScope BindingId) (vars : ℕ → Site) (log : Log) (s s' : Gathered)
+  pub follow_value : (count : ℕ) (e : Expr) (before : Scope) (next : ℕ) (numbers : VisitScope BindingId) (vars : ℕ → Site)
+      (log : Log) (s s' : Gathered)
       (x : BindingId) → Stand (rows_of name s.sites) before.usable numbers vars → StandEach (rows_of name s.sites) s.impure log.impure
       → ExprUses (named_expr name (expr_of e)) before next → visits_value rule_adds expr_adds terms count e numbers s (Ok x) s'
       → Evaluates name injective names facts s log (visit facts vars log (named_expr name (expr_of e))) x s'
@@ -172,7 +173,8 @@ module _ (name : Sym → List ℕ) (injective : IsInjective name) (names : List 
         (follow_value count i.rhs before next numbers vars no_log s a run.0 h each binds.2 run.2) in
         let added_a = adds_then [] (rows_of name s.sites) (rows_of name a.sites) needed r.1.needed added value.0.adds in
         let asked = told_contents name injective t a b run.0 id (needed ++ r.1.needed) added_a value.1 run.3.2 in
-        let stand_a = stand_later (rows_of name s.sites) (rows_of name a.sites) (told_grown name injective s a r.1.needed [] value.0) before.usable numbers vars h in
+        let stand_a = stand_later (rows_of name s.sites) (rows_of name a.sites) (told_grown name injective s a r.1.needed [] value.0)
+        before.usable numbers vars h in
         let low_a = below_counting before next m low in
         let first : Followed name injective s before numbers r.1.needed [] vars inside numbers a = record {
           told = value.0;
@@ -190,10 +192,12 @@ module _ (name : Sym → List ℕ) (injective : IsInjective name) (names : List 
         third.told.adds in
         let now : inner ≡ iflets_bound facts (met ++ x ∷ []) (args_bound facts rule) =
         ap (λ (z : ℕ → Site). bound facts x.pattern (iflet_site facts z x) z) are ∙ sym (met_then met x (args_bound facts rule)) in
-        let last = follow_iflets is count (met ++ x ∷ []) between after run.3.3.0 out inner (((needed ++ r.1.needed) ++ []) ++ needs facts x.pattern t)
+        let last = follow_iflets is count (met ++ x ∷ []) between after run.3.3.0 out inner
+        (((needed ++ r.1.needed) ++ []) ++ needs facts x.pattern t)
         c s' now added_c (third.told.impure ∙ asked.0.impure ∙ value.0.impure ∙ none) third.stand third.low binds.4 filled.1 pure.1 run.3.3.3 in
         let end = iflets_bound facts others inner in
-        followed_then name injective s a s' before inside after numbers numbers out r.1.needed (needs facts x.pattern t ++ iflets_needs facts others inner) []
+        followed_then name injective s a s' before inside after numbers numbers out r.1.needed
+        (needs facts x.pattern t ++ iflets_needs facts others inner) []
         (contents t ++ (demands facts x.pattern t vars ++ iflets_demands facts others inner)) vars end first
         (followed_then name injective a b s' inside inside after numbers numbers out [] (needs facts x.pattern t ++ iflets_needs facts others inner)
         (contents t) (demands facts x.pattern t vars ++ iflets_demands facts others inner) vars end second

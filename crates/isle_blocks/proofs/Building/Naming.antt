@@ -9,20 +9,20 @@ use Rattle.isle_types.specs.declared.ids.TypeId.{TypeId}
 use Rattle.isle_types.specs.declared.ids.VarId.{VarId}
 use Rattle.isle_types.specs.Names.{AreDistinct}
 use Rattle.isle_types.specs.TypeTables.{name_at}
-use Rattle.isle_terms.specs.declared.rules.Pattern.{Pattern, Pattern-F, map-Pattern, fold-roll-Pattern, ind-Pattern}
-use Rattle.isle_terms.specs.declared.rules.Pattern.TheOpen.{BindPattern, Var as PatternVar, ConstBool as PatternBool, ConstInt as PatternInt}
-use Rattle.isle_terms.specs.declared.rules.Pattern.TheOpen.{ConstPrim as PatternPrim, Term as PatternTerm, Wildcard, And}
-use Rattle.isle_terms.specs.declared.rules.Expr.{Expr, Expr-F, map-Expr, fold-roll-Expr, ind-Expr}
-use Rattle.isle_terms.specs.declared.rules.Expr.TheOpen.{Term, Var, ConstBool, ConstInt, ConstPrim, Let}
-use Rattle.isle_terms.specs.declared.rules.IfLet.{IfLet}
-use Rattle.isle_terms.specs.declared.rules.Rule.{Rule}
-use Rattle.isle_terms.specs.TypedRules.{TypedPattern, TypedExpr, TypedRule, typed_bind, typed_prim, typed_term, typed_and}
-use Rattle.isle_terms.specs.TypedRules.{built_term, built_prim}
-use Rattle.isle_terms.specs.Shown.ShownRules.{typed_step, typed_shown, typed_list, pattern_limit_step, pattern_limit, greatest, built_step}
-use Rattle.isle_terms.specs.Shown.ShownRules.{built_shown, built_list, binding_list, expr_limit_step, expr_limit, greatest_of_values, iflet_shown}
-use Rattle.isle_terms.specs.Shown.RulesShown.{iflet_limit, IsShownRule}
-use Rattle.isle_terms.specs.Visits.InternedTrees.{InternedPattern, InternedExpr, listed_patterns, pattern_node, pattern_of, listed_exprs}
-use Rattle.isle_terms.specs.Visits.InternedTrees.{listed_bindings, expr_node, expr_of}
+use Rattle.isle_rules.specs.declared.rules.Pattern.{Pattern, Pattern-F, map-Pattern, fold-roll-Pattern, ind-Pattern}
+use Rattle.isle_rules.specs.declared.rules.Pattern.TheOpen.{BindPattern, Var as PatternVar, ConstBool as PatternBool, ConstInt as PatternInt}
+use Rattle.isle_rules.specs.declared.rules.Pattern.TheOpen.{ConstPrim as PatternPrim, Term as PatternTerm, Wildcard, And}
+use Rattle.isle_rules.specs.declared.rules.Expr.{Expr, Expr-F, map-Expr, fold-roll-Expr, ind-Expr}
+use Rattle.isle_rules.specs.declared.rules.Expr.TheOpen.{Term, Var, ConstBool, ConstInt, ConstPrim, Let}
+use Rattle.isle_rules.specs.declared.rules.IfLet.{IfLet}
+use Rattle.isle_rules.specs.declared.rules.Rule.{Rule}
+use Rattle.isle_rules.specs.TypedRules.{TypedPattern, TypedExpr, TypedRule, typed_bind, typed_prim, typed_term, typed_and}
+use Rattle.isle_rules.specs.TypedRules.{built_term, built_prim}
+use Rattle.isle_rules.specs.Shown.ShownRules.{typed_step, typed_shown, typed_list, pattern_limit_step, pattern_limit, greatest, built_step}
+use Rattle.isle_rules.specs.Shown.ShownRules.{built_shown, built_list, binding_list, expr_limit_step, expr_limit, greatest_of_values, iflet_shown}
+use Rattle.isle_rules.specs.Shown.RulesShown.{iflet_limit, IsShownRule}
+use Rattle.isle_rules.specs.Visits.InternedTrees.{InternedPattern, InternedExpr, listed_patterns, pattern_node, pattern_of, listed_exprs}
+use Rattle.isle_rules.specs.Visits.InternedTrees.{listed_bindings, expr_node, expr_of}
 use Rattle.isle_blocks.specs.Rows.{IsInjective}
 use Rattle.isle_blocks.specs.Inside.Building.Named.{named_pattern, named_patterns, named_expr, named_exprs, named_bindings, named_iflet, IsNamedRule}
 use Rattle.isle_blocks.specs.Building.Naming.{longest_of, text_beyond, name_by}

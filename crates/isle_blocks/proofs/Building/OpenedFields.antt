@@ -53,7 +53,8 @@ put_on old row k new (inr (absent, last, same)) i found at =
 put_at : (old : List Row) (row : Row) (k : ℕ) (new : List Row) → IsPut old row k new → slice_get new k ≡ Some row
 put_at old row k new (inl (there, same)) = subst (λ (l : List Row). slice_get l k ≡ Some row) (sym same) there
 put_at old row k new (inr (absent, last, same)) =
-    subst (λ (l : List Row). slice_get l k ≡ Some row) (sym same) (subst (λ (i : ℕ). slice_get (old ++ row ∷ []) i ≡ Some row) (sym last) (slice_get-last old row))
+    subst (λ (l : List Row). slice_get l k ≡ Some row) (sym same)
+    (subst (λ (i : ℕ). slice_get (old ++ row ∷ []) i ≡ Some row) (sym last) (slice_get-last old row))
 
 -- the table goes on from the one before
 adds_on : {base : List Row} {needed : List Site} {mid : List Row} → Adds base needed mid → GoesOn base mid
@@ -114,7 +115,8 @@ adds_only (next {needed = before} {old = old} new site row i early entry put) e 
         ]
 
 module _ (name : Sym → List ℕ) (injective : IsInjective name) (ds : List Demand) (base own table : List Binding) (ok : IsTable table)
-    (explained : (s : Site) → Stands (rows_of name table) s → IsExplained name ds base own s) (needed : List Site) (adds : Adds [] needed (rows_of name own))
+    (explained : (s : Site) → Stands (rows_of name table) s → IsExplained name ds base own s) (needed : List Site)
+    (adds : Adds [] needed (rows_of name own))
     (mid : List Row) (added : Adds (rows_of name base) needed mid) (goes_on : GoesOn mid (rows_of name table)) where
   apart : (s : Site) (j k : ℕ) → length mid ≤ k → At (rows_of name table) s k → At mid s j → ⊥
   apart s j k high at there =

@@ -5,14 +5,14 @@ use Rattle.std.proofs.lemmas.Option.{none-some, same_Some}
 use Rattle.isle_types.specs.declared.ids.Sym.{Sym}
 use Rattle.isle_types.specs.declared.ids.TermId.{TermId}
 use Rattle.isle_types.specs.declared.ids.TypeId.{TypeId}
-use Rattle.isle_terms.specs.declared.terms.ExtractorKind.{ExtractorKind}
-use Rattle.isle_terms.specs.declared.terms.ExtractorKind.TheVariants.{InternalExtractor, ExternalExtractor}
-use Rattle.isle_terms.specs.declared.terms.Term.{Term}
-use Rattle.isle_terms.specs.declared.terms.TermKind.{TermKind}
-use Rattle.isle_terms.specs.declared.terms.TermKind.TheVariants.{EnumVariant, Struct, Decl}
-use Rattle.isle_terms.specs.Signatures.{flags_of}
-use Rattle.isle_terms.specs.Shown.ShownTerms.{form_shown}
-use Rattle.isle_terms.specs.Visits.VisitorCalls.{PatternCall, opening_of, always_extracts}
+use Rattle.isle_rules.specs.declared.terms.ExtractorKind.{ExtractorKind}
+use Rattle.isle_rules.specs.declared.terms.ExtractorKind.TheVariants.{InternalExtractor, ExternalExtractor}
+use Rattle.isle_rules.specs.declared.terms.Term.{Term}
+use Rattle.isle_rules.specs.declared.terms.TermKind.{TermKind}
+use Rattle.isle_rules.specs.declared.terms.TermKind.TheVariants.{EnumVariant, Struct, Decl}
+use Rattle.isle_rules.specs.Signatures.{flags_of}
+use Rattle.isle_rules.specs.Shown.ShownTerms.{form_shown}
+use Rattle.isle_rules.specs.Visits.VisitorCalls.{PatternCall, opening_of, always_extracts}
 use Rattle.isle_meaning.specs.Facts.{TermShape, TermFacts, shape_of_form, never_fails}
 use Rattle.isle_meaning.specs.Sites.{Site, extractor_call, match_variant, extract_struct, extract_site, output}
 use Rattle.isle_meaning.specs.Demands.{Demand, constrained, opens, parts, extractor_demands}

@@ -8,17 +8,17 @@ use Rattle.isle_types.specs.declared.ids.Sym.{Sym}
 use Rattle.isle_types.specs.declared.ids.TermId.{TermId}
 use Rattle.isle_types.specs.declared.ids.TypeId.{TypeId}
 use Rattle.isle_types.specs.declared.ids.VarId.{VarId}
-use Rattle.isle_terms.specs.declared.terms.Term.{Term}
-use Rattle.isle_terms.specs.TypedRules.{TypedPattern, typed_bind, typed_var, typed_bool, typed_int, typed_prim, typed_term, typed_wildcard}
-use Rattle.isle_terms.specs.TypedRules.{typed_and, TypedPatterns, no_typed, more_typed}
-use Rattle.isle_terms.specs.SoundRules.KeptScopes.{Scope, with_next, IsUsable, PatternBinds, PatternsBind}
-use Rattle.isle_terms.specs.Visits.Runs.{done, asks, in_turn, on_some, stuck}
-use Rattle.isle_terms.specs.Visits.VisitScopes.{bound as bound_by}
-use Rattle.isle_terms.specs.Visits.VisitScopes.{VisitScope}
-use Rattle.isle_terms.specs.Visits.VisitorCalls.{PatternCall, match_equal, opening_of, opening}
-use Rattle.isle_terms.specs.Visits.InternedTrees.{InternedPattern, InternedPatterns, bind_pattern, var_pattern, bool_pattern, int_pattern}
-use Rattle.isle_terms.specs.Visits.InternedTrees.{prim_pattern, term_pattern, wildcard_pattern, and_pattern, no_patterns, more_patterns}
-use Rattle.isle_terms.specs.Visits.Events.{visits, visits_all, visits_each}
+use Rattle.isle_rules.specs.declared.terms.Term.{Term}
+use Rattle.isle_rules.specs.TypedRules.{TypedPattern, typed_bind, typed_var, typed_bool, typed_int, typed_prim, typed_term, typed_wildcard}
+use Rattle.isle_rules.specs.TypedRules.{typed_and, TypedPatterns, no_typed, more_typed}
+use Rattle.isle_rules.specs.SoundRules.KeptScopes.{Scope, with_next, IsUsable, PatternBinds, PatternsBind}
+use Rattle.isle_rules.specs.Visits.Runs.{done, asks, in_turn, on_some, stuck}
+use Rattle.isle_rules.specs.Visits.VisitScopes.{bound_by}
+use Rattle.isle_rules.specs.Visits.VisitScopes.{VisitScope}
+use Rattle.isle_rules.specs.Visits.VisitorCalls.{PatternCall, match_equal, opening_of, opening}
+use Rattle.isle_rules.specs.Visits.InternedTrees.{InternedPattern, InternedPatterns, bind_pattern, var_pattern, bool_pattern, int_pattern}
+use Rattle.isle_rules.specs.Visits.InternedTrees.{prim_pattern, term_pattern, wildcard_pattern, and_pattern, no_patterns, more_patterns}
+use Rattle.isle_rules.specs.Visits.Events.{visits, visits_all, visits_each}
 use Rattle.isle_meaning.specs.Facts.{TermFacts, patterns}
 use Rattle.isle_meaning.specs.Words.{set}
 use Rattle.isle_meaning.specs.Sites.{Site}
@@ -30,7 +30,7 @@ use Rattle.isle_blocks.specs.declared.constraint.Constraint.{Constraint}
 use Rattle.isle_blocks.specs.declared.constraint.Constraint.TheVariants as tests
 use Rattle.isle_blocks.specs.Rows.{IsInjective, rows_of, test_of}
 use Rattle.isle_blocks.specs.Inside.Building.Gathering.{Gathered}
-use Rattle.isle_blocks.specs.Inside.Building.Gathering.{demands as takes_demand}
+use Rattle.isle_blocks.specs.Inside.Building.Gathering.{takes_demand}
 use Rattle.isle_blocks.specs.Inside.Building.Steps.{pattern_adds}
 use Rattle.isle_blocks.specs.Inside.Building.Named.{named_pattern, named_patterns, AreKnownTerms, IsFilled, AreFilled}
 use Rattle.isle_blocks.proofs.Building.Entries.{Grown, at_grown}
@@ -114,7 +114,8 @@ module _ (name : Sym → List ℕ) (injective : IsInjective name) where
     pub kept : (var : VarId) → after.count ≤ var.0 → out var ≡ scope var
 
   -- a step that binds nothing
-  pub followed_told : (s mid s' : Gathered) (before after : Scope) (scope out : VisitScope BindingId) (vars : ℕ → Site) (needed : List Site) (ds : List Demand)
+  pub followed_told : (s mid s' : Gathered) (before after : Scope) (scope out : VisitScope BindingId) (vars : ℕ → Site)
+      (needed : List Site) (ds : List Demand)
       → Told name injective s needed ds mid → Stand (rows_of name s.sites) before.usable scope vars → AreBelow before → after ≡ before
       → done {S = Gathered} scope mid (Ok out) s' → Followed s before scope needed ds vars after out s'
   followed_told s mid s' before after scope out vars needed ds told h low e end =
@@ -123,13 +124,15 @@ module _ (name : Sym → List ℕ) (injective : IsInjective name) where
       (subst (λ (z : Gathered). Followed s before scope needed ds vars before scope z) end.1
       (record {
         told = told;
-        stand = stand_later (rows_of name s.sites) (rows_of name mid.sites) (told_grown name injective s mid needed ds told) before.usable scope vars h;
+        stand = stand_later (rows_of name s.sites) (rows_of name mid.sites) (told_grown name injective s mid needed ds told)
+            before.usable scope vars h;
         low = low;
         more = omega arith;
         kept = λ var m. refl;
       })))
 
-  pub followed_then : (s mid s' : Gathered) (before between after : Scope) (scope numbers out : VisitScope BindingId) (xs ys : List Site) (ds es : List Demand)
+  pub followed_then : (s mid s' : Gathered) (before between after : Scope) (scope numbers out : VisitScope BindingId)
+      (xs ys : List Site) (ds es : List Demand)
       (inner vars : ℕ → Site) → Followed s before scope xs ds inner between numbers mid → Followed mid between numbers ys es vars after out s'
       → Followed s before scope (xs ++ ys) (ds ++ es) vars after out s'
   followed_then s mid s' before between after scope numbers out xs ys ds es inner vars h k = record {
@@ -165,7 +168,8 @@ module _ (name : Sym → List ℕ) (injective : IsInjective name) where
 
     -- patterns, each at its number
     abbrev FollowsAll : InternedPatterns → Type 0
-    FollowsAll ps = (ids : List BindingId) (at : ℕ → Site) (before after : Scope) (scope out : VisitScope BindingId) (vars : ℕ → Site) (s s' : Gathered)
+    FollowsAll ps = (ids : List BindingId) (at : ℕ → Site) (before after : Scope) (scope out : VisitScope BindingId)
+        (vars : ℕ → Site) (s s' : Gathered)
         → StandFrom (rows_of name s.sites) ids at 0 → Stand (rows_of name s.sites) before.usable scope vars → AreBelow before
         → PatternsBind (named_patterns name ps) before after → AreFilled facts (named_patterns name ps)
         → visits_all pattern_adds terms ps ids scope s (Ok out) s'
@@ -187,7 +191,8 @@ module _ (name : Sym → List ℕ) (injective : IsInjective name) where
         let k = known id.0 term f in
         let n : length term.arg_tys ≡ patterns (named_patterns name ps) = sym k.takes ∙ sym filled.0 in
         let mid = run.1 in
-        let opened = subst (λ z. Told name injective s (open_needs facts (facts.shape id.0) id.0 z t) (opens facts (facts.shape id.0) ty.0 id.0 z t) mid
+        let opened = subst (λ z. Told name injective s (open_needs facts (facts.shape id.0) id.0 z t)
+        (opens facts (facts.shape id.0) ty.0 id.0 z t) mid
         × StandFrom (rows_of name mid.sites) run.0 (parts facts (facts.shape id.0) id.0 z t) 0) n
         (told_opening name injective names facts term ty id t input s mid call run.0 k is o run.2) in
         let count = patterns (named_patterns name ps) in
@@ -202,7 +207,8 @@ module _ (name : Sym → List ℕ) (injective : IsInjective name) where
         (stand_later (rows_of name s.sites) (rows_of name mid.sites) g before.usable scope vars h) low binds filled.1 run.3)
 
     -- what binds a pattern's value: the variable is the next one, after those of the pattern
-    follow_bound : (p : InternedPattern) (input : BindingId) (t : Site) (before inside after : Scope) (scope out : VisitScope BindingId) (vars : ℕ → Site)
+    follow_bound : (p : InternedPattern) (input : BindingId) (t : Site) (before inside after : Scope) (scope out : VisitScope BindingId)
+        (vars : ℕ → Site)
         (own : VarId) (s s' : Gathered) → At (rows_of name s.sites) t input.0 → own.0 ≡ inside.count → after ≡ with_next inside
         → Followed s before (bound_by scope own input) (needs facts (named_pattern name p) t) (demands facts (named_pattern name p) t vars)
         (bound facts (named_pattern name p) t vars) inside out s'
@@ -214,7 +220,8 @@ module _ (name : Sym → List ℕ) (injective : IsInjective name) where
         let there = at_grown (rows_of name s.sites) (rows_of name s'.sites) g t input.0 is in
         let itself : (own.0 == own.0) ≡ true = eq-eqb own.0 own.0 refl in
         let has : out own ≡ Some input = h.kept own (omega arith) ∙ rw itself refl in
-        subst (λ z. Followed s before scope (needs facts typed t) (demands facts typed t vars) (set (bound facts typed t vars) own.0 t) z out s') (sym f)
+        subst (λ z. Followed s before scope (needs facts typed t) (demands facts typed t vars) (set (bound facts typed t vars) own.0 t) z out s')
+        (sym f)
         (record {
           told = h.told;
           stand = stand_next (rows_of name s'.sites) inside out (bound facts typed t vars) own input t e h.low has there h.stand;
@@ -247,7 +254,8 @@ module _ (name : Sym → List ℕ) (injective : IsInjective name) where
           tested (tests.ConstPrim val) input t before after scope out vars s s' run.1 run.0 is h low binds run.2 run.3
       follow (term_pattern ty id ps) input t before after scope out vars s s' is h low binds filled run =
           followed_opened (slice_get terms id.0) (opening terms ty id input) ty id ps
-          (λ ids at b a sc ot vs x y st hs lw bs fl r. follow_all ps ids at b a sc ot vs x y st hs lw bs fl r) input t before after scope out vars s s'
+          (λ ids at b a sc ot vs x y st hs lw bs fl r. follow_all ps ids at b a sc ot vs x y st hs lw bs fl r) input
+          t before after scope out vars s s'
           refl refl is h low binds filled run
       follow (wildcard_pattern ty) input t before after scope out vars s s' is h low binds filled run =
           followed_told s s s' before after scope out vars [] [] (told_none name injective s) h low binds run
@@ -295,7 +303,8 @@ module _ (name : Sym → List ℕ) (injective : IsInjective name) where
           let one = follow p input t before between scope run.0 vars s mid is h low binds.1 filled.0 run.2 in
           let g = told_grown name injective s mid (needs facts typed t) (demands facts typed t vars) one.told in
           let inner = bound facts typed t vars in
-          let rest = follow_each ps input t between after run.0 out inner mid s' (at_grown (rows_of name s.sites) (rows_of name mid.sites) g t input.0 is)
+          let rest = follow_each ps input t between after run.0 out inner mid s'
+          (at_grown (rows_of name s.sites) (rows_of name mid.sites) g t input.0 is)
           one.stand one.low binds.2 filled.1 run.3 in
           followed_then s mid s' before between after scope run.0 out (needs facts typed t) (needs_all facts others (λ i. t))
           (demands facts typed t vars) (demands_all facts others (λ i. t) inner) inner (bound_all facts others (λ i. t) inner) one rest

@@ -1,13 +1,13 @@
 -- A visit of a rule may lack memory before anything is told.
 use Rattle.std.proofs.Common.{List, [], ◌∷◌, ℕ, Some, None, Err, refl, inl, inr, slice_get}
 use Rattle.isle_types.specs.declared.ids.TypeId.{TypeId}
-use Rattle.isle_terms.specs.declared.rules.Pattern.{Pattern}
-use Rattle.isle_terms.specs.declared.rules.Rule.{Rule}
-use Rattle.isle_terms.specs.declared.terms.Term.{Term}
-use Rattle.isle_terms.specs.declared.visit.fault.VisitFault.TheVariants.{Memory}
-use Rattle.isle_terms.specs.Visits.Runs.{on_some, in_turn, stuck}
-use Rattle.isle_terms.specs.Visits.RuleEvents.{visits_args, visits_rest}
-use Rattle.isle_terms.specs.Visits.VisitScopes.{VisitScope, no_values}
+use Rattle.isle_rules.specs.declared.rules.Pattern.{Pattern}
+use Rattle.isle_rules.specs.declared.rules.Rule.{Rule}
+use Rattle.isle_rules.specs.declared.terms.Term.{Term}
+use Rattle.isle_rules.specs.declared.visit.fault.VisitFault.TheVariants.{Memory}
+use Rattle.isle_rules.specs.Visits.Runs.{on_some, in_turn, stuck}
+use Rattle.isle_rules.specs.Visits.RuleEvents.{visits_args, visits_rest}
+use Rattle.isle_rules.specs.Visits.VisitScopes.{VisitScope, no_values}
 use Rattle.isle_blocks.specs.declared.ids.BindingId.{BindingId}
 use Rattle.isle_blocks.specs.Inside.Building.Building.{gathers}
 use Rattle.isle_blocks.specs.Inside.Building.Gathering.{Gathered}

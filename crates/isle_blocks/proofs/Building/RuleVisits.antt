@@ -6,16 +6,16 @@ use Rattle.std.proofs.lemmas.Option.{same_Some}
 use Rattle.isle_types.specs.declared.ids.Sym.{Sym}
 use Rattle.isle_types.specs.declared.ids.TypeId.{TypeId}
 use Rattle.isle_types.specs.declared.ids.VarId.{VarId}
-use Rattle.isle_terms.specs.declared.rules.Pattern.{Pattern}
-use Rattle.isle_terms.specs.declared.terms.Term.{Term}
-use Rattle.isle_terms.specs.SoundRules.KeptScopes.{Scope, PatternsBind}
-use Rattle.isle_terms.specs.Visits.Runs.{Run, done, asks, in_turn, on_some}
-use Rattle.isle_terms.specs.Visits.VisitScopes.{bound as bound_by}
-use Rattle.isle_terms.specs.Visits.VisitScopes.{VisitScope}
-use Rattle.isle_terms.specs.Visits.InternedTrees.{listed_patterns, pattern_of}
-use Rattle.isle_terms.specs.Visits.Events.{visits}
-use Rattle.isle_terms.specs.Visits.RuleSteps.{in_pattern}
-use Rattle.isle_terms.specs.Visits.RuleEvents.{visits_vars, visits_args}
+use Rattle.isle_rules.specs.declared.rules.Pattern.{Pattern}
+use Rattle.isle_rules.specs.declared.terms.Term.{Term}
+use Rattle.isle_rules.specs.SoundRules.KeptScopes.{Scope, PatternsBind}
+use Rattle.isle_rules.specs.Visits.Runs.{Run, done, asks, in_turn, on_some}
+use Rattle.isle_rules.specs.Visits.VisitScopes.{bound_by}
+use Rattle.isle_rules.specs.Visits.VisitScopes.{VisitScope}
+use Rattle.isle_rules.specs.Visits.InternedTrees.{listed_patterns, pattern_of}
+use Rattle.isle_rules.specs.Visits.Events.{visits}
+use Rattle.isle_rules.specs.Visits.RuleSteps.{in_pattern}
+use Rattle.isle_rules.specs.Visits.RuleEvents.{visits_vars, visits_args}
 use Rattle.isle_meaning.specs.Facts.{TermFacts}
 use Rattle.isle_meaning.specs.Sites.{Site, argument}
 use Rattle.isle_meaning.specs.Demands.{bound, bound_all, demands, demands_all}

@@ -1,16 +1,16 @@
 -- What the visit of a rule gathers is what the rule needs and demands.
 use Rattle.std.proofs.Common.{◌≡◌, ℕ, List, [], ◌++◌, map, length, Option, Some, None, Ok, slice_get, refl, sym, ap, ◌∙◌, subst, append_assoc, arith}
 use Rattle.isle_types.specs.declared.ids.Sym.{Sym}
-use Rattle.isle_terms.specs.declared.rules.Rule.{Rule}
-use Rattle.isle_terms.specs.declared.terms.Term.{Term}
-use Rattle.isle_terms.specs.TypedRules.{TypedRule}
-use Rattle.isle_terms.specs.Signatures.{Declared}
-use Rattle.isle_terms.specs.SoundRules.WellTyped.{IsTypedRule}
-use Rattle.isle_terms.specs.SoundRules.KeptScopes.{nothing_bound, KeepsScopes}
-use Rattle.isle_terms.specs.Visits.Runs.{in_turn, on_some, stuck}
-use Rattle.isle_terms.specs.Visits.VisitScopes.{no_values}
-use Rattle.isle_terms.specs.Visits.InternedTrees.{listed_patterns, pattern_of, expr_of}
-use Rattle.isle_terms.specs.Visits.RuleEvents.{visits_args, visits_rest}
+use Rattle.isle_rules.specs.declared.rules.Rule.{Rule}
+use Rattle.isle_rules.specs.declared.terms.Term.{Term}
+use Rattle.isle_rules.specs.TypedRules.{TypedRule}
+use Rattle.isle_rules.specs.Signatures.{Declared}
+use Rattle.isle_rules.specs.SoundRules.WellTyped.{IsTypedRule}
+use Rattle.isle_rules.specs.SoundRules.KeptScopes.{nothing_bound, KeepsScopes}
+use Rattle.isle_rules.specs.Visits.Runs.{in_turn, on_some, stuck}
+use Rattle.isle_rules.specs.Visits.VisitScopes.{no_values}
+use Rattle.isle_rules.specs.Visits.InternedTrees.{listed_patterns, pattern_of, expr_of}
+use Rattle.isle_rules.specs.Visits.RuleEvents.{visits_args, visits_rest}
 use Rattle.isle_meaning.specs.Facts.{TermFacts, facts_of}
 use Rattle.isle_meaning.specs.Sites.{Site, argument}
 use Rattle.isle_meaning.specs.Demands.{Demand, nothing, demands_all, iflets_demands, args_bound, vars_of}
@@ -95,7 +95,8 @@ module _ (name : Sym → List ℕ) (injective : IsInjective name) (names : List 
       (visited_rows name injective b s' no_log r.1 last.0) both.recorded in
       record {
         sites = subst (λ z. Adds [] z new) (append_assoc xs ys r.1.needed) added;
-        demands = recorded_as name new s'.has both.has_more s'.same both.same_more (ds ++ es) (last.0.grew.has ∙ both.has) (last.0.grew.same ∙ both.same)
+        demands = recorded_as name new s'.has both.has_more s'.same both.same_more (ds ++ es) (last.0.grew.has ∙ both.has)
+            (last.0.grew.same ∙ both.same)
             recorded;
         result = subst (λ (z : Site). At new z value.0) is.0 last.1;
         impure = subst (λ z. StandEach new s'.impure z) is.1 last.0.impure;

@@ -13,7 +13,7 @@ use Rattle.isle_meaning.specs.Numbered.{make_variant_row, match_variant_row, mak
 use Rattle.isle_meaning.specs.Numbered.{match_some_row, match_tuple_row, At, AtAll}
 use Rattle.isle_blocks.specs.declared.ids.BindingId.{BindingId}
 use Rattle.isle_blocks.specs.declared.binding.Binding.{Binding}
-use Rattle.isle_blocks.specs.Bindings.{sources_of}
+use Rattle.isle_blocks.specs.Tables.{sources_of}
 use Rattle.isle_blocks.specs.Rows.{row_of, rows_of}
 use Rattle.isle_blocks.specs.Tables.{IsAbsent}
 use Rattle.isle_blocks.specs.Inside.Building.Contents.{PartsAreBefore}

@@ -14,7 +14,7 @@ use Rattle.isle_blocks.specs.declared.binding.Binding.TheVariants as sites
 use Rattle.isle_blocks.specs.declared.constraint.Constraint.{Constraint}
 use Rattle.isle_blocks.specs.declared.constraint.Constraint.TheVariants as tests
 use Rattle.isle_blocks.specs.Rows.{IsInjective, row_of, rows_of, test_of, constraints_of, pairs_of}
-use Rattle.isle_blocks.specs.Inside.Building.Gathering.{Gathered, interns, interns_each, demands, equates, sites_from, tuple_output, extracted, outputs}
+use Rattle.isle_blocks.specs.Inside.Building.Gathering.{Gathered, interns, interns_each, takes_demand, equates, sites_from, tuple_output, extracted, outputs}
 use Rattle.isle_blocks.specs.Building.Standing.{IsEntryOf, Adds, begin, next}
 use Rattle.isle_blocks.proofs.Building.Walking.{cons_cases, cons_here, none_there}
 use Rattle.isle_blocks.proofs.Building.Entries.{Grown, at_grown, entry_at, put_grown, put_there, put_of, adds_grown, adds_then, recorded_grown}
@@ -34,12 +34,6 @@ pub stand_shift : (rows : List Row) (ids : List BindingId) (at : ℕ → Site) (
     → StandFrom rows ids (λ j. at (suc j)) i
 stand_shift rows [] at i h = h
 stand_shift rows (id ∷ ids) at i h = (h.0, stand_shift rows ids at (suc i) h.1)
-
-pub stand_more : (rows : List Row) (ids : List BindingId) (at : ℕ → Site) (i : ℕ) (others : List BindingId)
-    → StandFrom rows ids at i → StandFrom rows others at (length ids + i) → StandFrom rows (ids ++ others) at i
-stand_more rows [] at i others h k = subst (λ z. StandFrom rows others at z) (omega arith) k
-stand_more rows (id ∷ ids) at i others h k =
-    (h.0, stand_more rows ids at (suc i) others h.1 (subst (λ z. StandFrom rows others at z) (omega arith) k))
 
 pub nothing_recorded : (rows : List Row) → AreRecorded rows [] [] []
 nothing_recorded rows = record {
@@ -117,7 +111,7 @@ module _ (name : Sym → List ℕ) (injective : IsInjective name) where
 
   -- a test of a site
   pub told_demand : (test : Constraint) (t : Site) (s s' : Gathered) (id : BindingId) (ids : List BindingId) → At (rows_of name s.sites) t id.0
-      → demands id test s (Ok ids) s' → Told s [] (constrained t (test_of name test) ∷ []) s' × (s'.sites ≡ s.sites)
+      → takes_demand id test s (Ok ids) s' → Told s [] (constrained t (test_of name test) ∷ []) s' × (s'.sites ≡ s.sites)
   told_demand test t s s' id ids is h =
       subst (λ (z : Gathered). Told s [] (constrained t (test_of name test) ∷ []) z × (z.sites ≡ s.sites)) (sym h.1) (
         record {
@@ -140,7 +134,8 @@ module _ (name : Sym → List ℕ) (injective : IsInjective name) where
               | inl e ↦ let p : u ≡ t = cc in let q : c ≡ test_of name test = cc in (
                 id.0,
                 subst (λ z. At (rows_of name s.sites) z id.0) (sym p) is,
-                subst (λ z. Contains {X = ℕ × meaning.Constraint} ((id.0, test_of name test) ∷ []) (id.0, z)) (sym q) (cons_here (id.0, test_of name test) []),
+                subst (λ z. Contains {X = ℕ × meaning.Constraint} ((id.0, test_of name test) ∷ []) (id.0, z))
+                    (sym q) (cons_here (id.0, test_of name test) []),
               )
               | inr x ↦ absurd x
             ];

@@ -1,8 +1,8 @@
 -- Runs that lack memory at once.
 use Rattle.std.proofs.Common.{◌≡◌, ◌≤◌, ◌-◌, ℕ, Bool, true, false, List, [], ◌∷◌, Err, inl, refl, arith}
 use Rattle.isle_types.specs.declared.ids.TermId.{TermId}
-use Rattle.isle_terms.specs.declared.visit.fault.VisitFault.{VisitFault}
-use Rattle.isle_terms.specs.declared.visit.fault.VisitFault.TheVariants.{Memory}
+use Rattle.isle_rules.specs.declared.visit.fault.VisitFault.{VisitFault}
+use Rattle.isle_rules.specs.declared.visit.fault.VisitFault.TheVariants.{Memory}
 use Rattle.isle_blocks.specs.declared.ids.BindingId.{BindingId}
 use Rattle.isle_blocks.specs.declared.binding.Binding.{Binding}
 use Rattle.isle_blocks.specs.Inside.Building.Gathering.{Gathered, interns, interns_each}

@@ -37,7 +37,8 @@ marks_cons x xs a b c h k = record {
     | inr z ↦ inr (z.0, cons_there x xs z.0 z.1, z.2)
   ];
   all = λ part z m. elim (cons_cases x xs part z) [
-    | inl e ↦ k.kept part.0 (subst (λ (w : BindingId). Marked b w.0) e (h.all x (cons_here x []) (subst (λ (w : BindingId). w.0 < length a) (sym e) m)))
+    | inl e ↦ k.kept part.0 (subst (λ (w : BindingId). Marked b w.0) e
+        (h.all x (cons_here x []) (subst (λ (w : BindingId). w.0 < length a) (sym e) m)))
     | inr w ↦ k.all part w (let f = h.fits in omega arith)
   ];
 }

@@ -4,17 +4,17 @@ use Rattle.std.proofs.lemmas.List.{length-map}
 use Rattle.std.proofs.lemmas.Option.{slice_get-map}
 use Rattle.std.specs.Option.{option_map}
 use Rattle.isle_types.specs.declared.ids.TypeId.{TypeId}
-use Rattle.isle_terms.specs.declared.terms.Term.{Term}
-use Rattle.isle_terms.specs.Shown.ShownTerms.{term_shown}
-use Rattle.isle_terms.specs.TypedRules.{TypedPattern, typed_bind, typed_var, typed_bool, typed_int, typed_prim, typed_term, typed_wildcard}
-use Rattle.isle_terms.specs.TypedRules.{typed_and, TypedPatterns, no_typed, more_typed, TypedExpr, built_var, built_bool, built_int}
-use Rattle.isle_terms.specs.TypedRules.{built_prim, built_term, built_let, TypedExprs, no_built, more_built, TypedBindings, no_typed_bindings}
-use Rattle.isle_terms.specs.TypedRules.{more_typed_bindings, built_at, Variable, TypedIfLet}
-use Rattle.isle_terms.specs.Signatures.{Flags, Signature, Declared, flags_of}
-use Rattle.isle_terms.specs.Elaboration.{on_lhs}
-use Rattle.isle_terms.specs.SoundRules.WellTyped.{same_for_each, IsTypedPattern, AreTypedPatterns, IsTypedExpr, AreTypedExprs, AreTypedBindings}
-use Rattle.isle_terms.specs.SoundRules.WellTyped.{AreTypedIfLets}
-use Rattle.isle_meaning.specs.Facts.{TermShape, variant_shape, struct_shape, declared_shape, patterns, no_term, term_at, facts_of}
+use Rattle.isle_rules.specs.declared.terms.Term.{Term}
+use Rattle.isle_rules.specs.Shown.ShownTerms.{term_shown}
+use Rattle.isle_rules.specs.TypedRules.{TypedPattern, typed_bind, typed_var, typed_bool, typed_int, typed_prim, typed_term, typed_wildcard}
+use Rattle.isle_rules.specs.TypedRules.{typed_and, TypedPatterns, no_typed, more_typed, TypedExpr, built_var, built_bool, built_int}
+use Rattle.isle_rules.specs.TypedRules.{built_prim, built_term, built_let, TypedExprs, no_built, more_built, TypedBindings, no_typed_bindings}
+use Rattle.isle_rules.specs.TypedRules.{more_typed_bindings, built_at, Variable, TypedIfLet}
+use Rattle.isle_rules.specs.Signatures.{Flags, Signature, Declared, flags_of}
+use Rattle.isle_rules.specs.Elaboration.{on_lhs}
+use Rattle.isle_rules.specs.SoundRules.WellTyped.{same_for_each, IsTypedPattern, AreTypedPatterns, IsTypedExpr, AreTypedExprs, AreTypedBindings}
+use Rattle.isle_rules.specs.SoundRules.WellTyped.{AreTypedIfLets}
+use Rattle.isle_meaning.specs.Facts.{TermShape, variant_shape, struct_shape, declared_shape, patterns, no_term, signature_numbered, facts_of}
 use Rattle.isle_meaning.specs.Facts.{shape_of_form, never_fails}
 use Rattle.isle_meaning.specs.Words.{Word, var_word, Words, Step, set, flat, flat_all, flat_lets, apply}
 use Rattle.isle_blocks.specs.Inside.Building.Named.{AreKnownTerms, IsFilled, AreFilled, IfLetsAreFilled, CallNothingImpure}
@@ -31,7 +31,7 @@ applied_pure struct_shape pure ty t r steps p e = e
 applied_pure declared_shape true ty t r steps p e = e
 applied_pure declared_shape false ty t r steps p e = absurd cc
 
-at_number : (declared : Declared) (t : ℕ) (term : Signature) → slice_get declared.terms t ≡ Some term → term_at declared t ≡ term
+at_number : (declared : Declared) (t : ℕ) (term : Signature) → slice_get declared.terms t ≡ Some term → signature_numbered declared t ≡ term
 at_number declared t term known = ap (λ (x : Option Signature). unwrap_or x no_term) known
 
 module _ (declared : Declared) (variables : List Variable) where
@@ -69,8 +69,10 @@ module _ (declared : Declared) (variables : List Variable) where
       calls_pure ty (built_term own number below) vars steps h =
           let m = h.1 in
           let pure : (flags_of m.term.form).pure ≡ true = first_true (flags_of m.term.form).pure _ m.allowed in
-          applied_pure ((facts_of declared).shape number) ((facts_of declared).pure number) own number (flat_all (facts_of declared) vars steps below) steps
-          (ap (λ (z : Signature). (flags_of z.form).pure) (at_number declared number m.term m.known) ∙ pure) (all_pure m.term.args below vars steps m.args)
+          applied_pure ((facts_of declared).shape number) ((facts_of declared).pure number) own number
+          (flat_all (facts_of declared) vars steps below) steps
+          (ap (λ (z : Signature). (flags_of z.form).pure) (at_number declared number m.term m.known) ∙ pure)
+          (all_pure m.term.args below vars steps m.args)
       calls_pure ty (built_var own var) vars steps h = refl
       calls_pure ty (built_bool own val) vars steps h = refl
       calls_pure ty (built_int own val) vars steps h = refl
@@ -105,7 +107,8 @@ pub shown_known : (names : List (List ℕ)) (declared : Declared) (terms : List 
     → AreKnownTerms names (facts_of declared) terms
 shown_known names declared terms shown number term get =
     let there : slice_get declared.terms number ≡ Some (term_shown names term) =
-    ap (λ (z : List Signature). slice_get z number) (sym shown) ∙ slice_get-map (term_shown names) terms number ∙ ap (option_map (term_shown names)) get in
+    ap (λ (z : List Signature). slice_get z number) (sym shown) ∙ slice_get-map (term_shown names) terms number ∙ ap
+    (option_map (term_shown names)) get in
     let is = at_number declared number (term_shown names term) there in
     record {
       shape = ap (λ (z : Signature). shape_of_form z.form) is;

@@ -12,7 +12,7 @@ use Rattle.isle_meaning.proofs.Matching.Numbering.{one_site}
 use Rattle.isle_blocks.specs.declared.binding.Binding.{Binding}
 use Rattle.isle_blocks.specs.declared.constraint.Constraint.{Constraint}
 use Rattle.isle_blocks.specs.declared.ids.BindingId.{BindingId}
-use Rattle.isle_blocks.specs.Bindings.{sources_of}
+use Rattle.isle_blocks.specs.Tables.{sources_of}
 use Rattle.isle_blocks.specs.Rows.{test_of, rows_of}
 use Rattle.isle_blocks.specs.Inside.ClosureStates.{HasOwn}
 use Rattle.isle_blocks.specs.Closure.{HasAllFields, IsClosure}

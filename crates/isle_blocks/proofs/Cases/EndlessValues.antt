@@ -1,10 +1,10 @@
 -- The rule (f (and x (L.Box (L.Box x)))): its argument would be a field of a field of itself, so it never matches.
 use Rattle.std.proofs.Common.{◌≡◌, ◌<◌, inl, inr, ℕ, pos, true, false, List, [], ◌∷◌, Option, None, Some, codes, refl, sym, subst, ◌∙◌, arith}
-use Rattle.isle_syntax.specs.declared.lexer.Pos.{Pos}
+use Rattle.isle_ast.specs.declared.pos.Pos.{Pos}
 use Rattle.isle_types.specs.Environment.{NamedType, no_fields, named_fields, enum}
-use Rattle.isle_terms.specs.TypedRules.{TypedPattern, typed_bind, typed_var, typed_term, typed_wildcard, typed_and, no_typed, more_typed, built_int}
-use Rattle.isle_terms.specs.TypedRules.{TypedRule}
-use Rattle.isle_terms.specs.Signatures.{by_rules, variant_form, declared_form, Declared}
+use Rattle.isle_rules.specs.TypedRules.{TypedPattern, typed_bind, typed_var, typed_term, typed_wildcard, typed_and, no_typed, more_typed, built_int}
+use Rattle.isle_rules.specs.TypedRules.{TypedRule}
+use Rattle.isle_rules.specs.Signatures.{by_rules, variant_form, declared_form, Declared}
 use Rattle.isle_meaning.specs.Facts.{TermFacts, facts_of}
 use Rattle.isle_meaning.specs.Sites.{Site, argument, match_variant}
 use Rattle.isle_meaning.specs.Demands.{Demand, constrained, equal, variant_constraint, demands_of, Among}

@@ -2,10 +2,10 @@
 use Rattle.std.proofs.Common.{◌≡◌, ◌<◌, ◌+◌, ◌*◌, ℕ, zero, suc, pos, true, false, List, [], ◌∷◌, Option, None, Some, slice_get}
 use Rattle.std.proofs.Common.{codes, refl, sym, ap, subst, arith}
 use Rattle.std.proofs.lemmas.Option.{slice_get_within}
-use Rattle.isle_syntax.specs.declared.lexer.Pos.{Pos}
+use Rattle.isle_ast.specs.declared.pos.Pos.{Pos}
 use Rattle.isle_types.specs.Environment.{NamedType, no_fields, named_fields, enum}
-use Rattle.isle_terms.specs.TypedRules.{typed_bind, typed_var, typed_term, typed_wildcard, no_typed, more_typed, built_int, TypedRule}
-use Rattle.isle_terms.specs.Signatures.{by_rules, variant_form, declared_form, Declared}
+use Rattle.isle_rules.specs.TypedRules.{typed_bind, typed_var, typed_term, typed_wildcard, no_typed, more_typed, built_int, TypedRule}
+use Rattle.isle_rules.specs.Signatures.{by_rules, variant_form, declared_form, Declared}
 use Rattle.isle_meaning.specs.Facts.{TermFacts, facts_of}
 use Rattle.isle_meaning.specs.Sites.{argument, match_variant}
 use Rattle.isle_meaning.specs.Needs.{args_needs}

@@ -5,13 +5,13 @@ use Rattle.isle_types.proofs.Lists.{slice_get-kept}
 use Rattle.isle_meaning.specs.Sites.{Site, argument, int_site, match_variant}
 use Rattle.isle_meaning.specs.Numbered.{Row, argument_row, int_row, match_variant_row, At}
 use Rattle.isle_meaning.specs.Derived.{FieldOf, of_variant}
-use Rattle.isle_meaning.specs.Laws.Matching.{DemandOf}
+use Rattle.isle_meaning.specs.Demands.{DemandOf}
 use Rattle.isle_blocks.specs.Closure.{Stands}
 use Rattle.isle_blocks.proofs.Cases.EqualFields.{IsOf, tested, fielded}
 use Rattle.isle_blocks.specs.AddedRules.{needs_in_order}
 use Rattle.isle_blocks.specs.Building.Standing.{Adds, begin, next, IsPut, IsFieldRow, NumbersBehind}
 use Rattle.isle_blocks.specs.DefinedSets.{AreNumberedInOrder, none_numbered, rule_numbered}
-use Rattle.isle_blocks.specs.FieldOrder.{ComesBefore, AreInOrder}
+use Rattle.isle_blocks.specs.Closure.{ComesBefore, AreInOrder}
 use Rattle.isle_blocks.specs.Tables.{IsAbsent}
 use Rattle.isle_blocks.proofs.Cases.MissingFields.{facts, rule}
 

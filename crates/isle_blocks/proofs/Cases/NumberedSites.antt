@@ -2,16 +2,16 @@
 use Rattle.std.proofs.Common.{subst, sym, ◌≡◌, ◌≢◌, ◌<◌, ◌≤◌, inl, inr, ℕ, zero, suc, pos, true, false, List, [], ◌∷◌, length, None, Some}
 use Rattle.std.proofs.Common.{codes, refl, arith}
 use Rattle.std.proofs.lemmas.Option.{slice_get_within}
-use Rattle.isle_syntax.specs.declared.lexer.Pos.{Pos}
-use Rattle.isle_terms.specs.TypedRules.{typed_bind, typed_var, typed_int, typed_wildcard, no_typed, more_typed, built_int, TypedRule}
-use Rattle.isle_terms.specs.Signatures.{by_rules, declared_form, Declared}
+use Rattle.isle_ast.specs.declared.pos.Pos.{Pos}
+use Rattle.isle_rules.specs.TypedRules.{typed_bind, typed_var, typed_int, typed_wildcard, no_typed, more_typed, built_int, TypedRule}
+use Rattle.isle_rules.specs.Signatures.{by_rules, declared_form, Declared}
 use Rattle.isle_meaning.specs.Facts.{TermFacts, facts_of}
 use Rattle.isle_meaning.specs.Sites.{Site, argument, int_site, make_some}
 use Rattle.isle_meaning.specs.Numbered.{Row, argument_row, int_row, make_some_row}
 use Rattle.isle_meaning.specs.Demands.{Demand, constrained, equal, variant_constraint, struct_constraint}
 use Rattle.isle_meaning.specs.Demands as meaning
 use Rattle.isle_meaning.specs.Derived.{Derived, demanded, flipped, chained, shared, like_variant, like_struct, FieldOf, of_variant, of_struct}
-use Rattle.isle_meaning.specs.Laws.Matching.{DemandOf}
+use Rattle.isle_meaning.specs.Demands.{DemandOf}
 use Rattle.isle_blocks.specs.AddedRules.{needs_in_order}
 use Rattle.isle_blocks.specs.Building.Standing.{Adds, begin, next, IsFieldRow, NumbersBehind}
 use Rattle.isle_blocks.specs.DefinedSets.{AreNumberedInOrder, none_numbered, rule_numbered}

@@ -6,7 +6,8 @@ use Rattle.isle_blocks.specs.declared.binding.Binding.{Binding}
 use Rattle.isle_blocks.specs.declared.binding.Binding.TheVariants as sites
 use Rattle.isle_blocks.specs.declared.ids.BindingId.{BindingId}
 use Rattle.isle_blocks.specs.Inside.ClosureFields.{field_binding}
-use Rattle.isle_blocks.specs.FieldOrder.{ComesBefore, IsFieldAt, AreFieldsInOrder}
+use Rattle.isle_blocks.specs.Inside.FieldOrder.{IsFieldAt, AreFieldsInOrder}
+use Rattle.isle_blocks.specs.Closure.{ComesBefore}
 use Rattle.isle_blocks.specs.Inside.MovedSites.{MovesSites, no_sites_moved, next_site_moved}
 use Rattle.isle_blocks.specs.Inside.Placing.{IsPutFirst}
 use Rattle.isle_blocks.specs.Tables.{IsAbsent, IsInterned}

@@ -5,15 +5,15 @@ use Rattle.std.specs.Prelude.{Contains}
 use Rattle.std.specs.Ordering.{is_gt}
 use Rattle.std.proofs.lemmas.List.Sorted.{IsPermutation-refl}
 use lib.Signed.{<ℤ_irrefl}
-use Rattle.isle_syntax.specs.declared.lexer.Pos.{Pos}
-use Rattle.isle_syntax.specs.declared.error.Error.{Error}
-use Rattle.isle_syntax.specs.declared.error.Error.TheVariants.{OverlapError}
-use Rattle.isle_terms.specs.TypedRules.{TypedPattern, TypedRule, typed_int, typed_wildcard, typed_and, no_typed, more_typed}
+use Rattle.isle_ast.specs.declared.pos.Pos.{Pos}
+use Rattle.isle_ast.specs.declared.error.Error.{Error}
+use Rattle.isle_ast.specs.declared.error.Error.TheVariants.{OverlapError}
+use Rattle.isle_rules.specs.TypedRules.{TypedPattern, TypedRule, typed_int, typed_wildcard, typed_and, no_typed, more_typed}
 use Rattle.isle_meaning.specs.Facts.{TermFacts}
 use Rattle.isle_meaning.specs.Sites.{Site, argument, int_site}
 use Rattle.isle_meaning.specs.Demands.{Demand, Among, some_of}
 use Rattle.isle_meaning.specs.Derived.{Derived, demanded, flipped, chained, shared, like_variant, like_struct, FieldOf, of_variant, of_struct}
-use Rattle.isle_meaning.specs.Laws.Matching.{DemandOf}
+use Rattle.isle_meaning.specs.Demands.{DemandOf}
 use Rattle.isle_meaning.specs.Needs.{needs, IsNeeded}
 use Rattle.isle_meaning.specs.Numbered.{Row, argument_row, int_row, make_some_row}
 use Rattle.isle_blocks.specs.declared.faults.Fault.TheVariants.{Overlap}

@@ -4,7 +4,7 @@ use Rattle.std.specs.List.Sorted.{IsSorted, IsSortedByKey}
 use Rattle.std.specs.Ordering.{is_gt}
 use Rattle.std.proofs.lemmas.List.Elements.{filter-append}
 use Rattle.std.proofs.lemmas.List.Sorted.{IsPermutation-refl}
-use Rattle.isle_syntax.specs.declared.error.Error.TheVariants.{OverlapError, ShadowedError}
+use Rattle.isle_ast.specs.declared.error.Error.TheVariants.{OverlapError, ShadowedError}
 use Rattle.isle_blocks.specs.declared.faults.Fault.TheVariants.{Overlap, Shadow}
 use Rattle.isle_blocks.specs.declared.report.RulePlace.{RulePlace}
 use Rattle.isle_blocks.specs.declared.report.Group.{Group}
@@ -76,7 +76,8 @@ report = record {
       (record { fault_is = refl; head_is = refl; moved = IsPermutation-refl (byte 32 ∷ byte 47 ∷ []); ascending = third_before_fourth }) no_pairs;
   moved = record { moves = (0, 1) ∷ []; below = (omega arith, omega arith, tt); is = refl };
   ascending = ascends;
-  in_turn = λ pos. apart_in_turn of_fourth of_second (λ same. omega (arith, same)) pos ∙ filter-append (is_headed_at pos) (of_fourth ∷ []) (of_second ∷ []);
+  in_turn = λ pos. apart_in_turn of_fourth of_second (λ same. omega (arith, same)) pos ∙ filter-append (is_headed_at pos)
+      (of_fourth ∷ []) (of_second ∷ []);
   errors_are = refl;
 }
   where

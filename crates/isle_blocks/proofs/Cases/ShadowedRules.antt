@@ -1,13 +1,13 @@
 -- The rule (f _) of priority 1 leaves (f 5) of priority 0 nothing to match; the other way round it doesn't.
 use Rattle.std.proofs.Common.{◌≡◌, ◌<◌, inl, inr, ℕ, zero, suc, ℤ, pos, false, List, [], ◌∷◌, None, Some, slice_get, length, refl, sym, ◌∙◌, subst, arith}
 use Rattle.std.specs.Prelude.{Contains}
-use Rattle.isle_terms.specs.TypedRules.{TypedPattern, typed_int, typed_wildcard, no_typed, more_typed, built_int, TypedRule}
+use Rattle.isle_rules.specs.TypedRules.{TypedPattern, typed_int, typed_wildcard, no_typed, more_typed, built_int, TypedRule}
 use Rattle.isle_meaning.specs.Facts.{TermFacts}
 use Rattle.isle_meaning.specs.Sites.{Site, argument}
 use Rattle.isle_meaning.specs.Demands.{equal, constrained, int_constraint, Among}
 use Rattle.isle_meaning.specs.Derived.{demanded}
 use Rattle.isle_meaning.specs.Faults.{IsConstrained, IsFree, HasConstraints}
-use Rattle.isle_meaning.specs.Laws.Matching.{DemandOf}
+use Rattle.isle_meaning.specs.Demands.{DemandOf}
 use Rattle.isle_blocks.specs.RuleFaults.{MayMatch, IsShadowing}
 use Rattle.isle_blocks.proofs.Cases.SizesAndErrors.{here, is_five, alone}
 use Rattle.isle_blocks.proofs.Cases.RuleErrors.{nothing}

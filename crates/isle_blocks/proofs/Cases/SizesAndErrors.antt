@@ -4,11 +4,11 @@ use Rattle.std.proofs.Common.{refl, sym, ap, subst, arith}
 use Rattle.std.specs.Prelude.{Contains}
 use Rattle.std.proofs.lemmas.Bool.{cases_eq}
 use Rattle.std.proofs.lemmas.List.{length_push}
-use Rattle.isle_syntax.specs.declared.lexer.Pos.{Pos}
-use Rattle.isle_syntax.specs.declared.error.Error.{Error}
-use Rattle.isle_syntax.specs.declared.error.Error.TheVariants.{SizeError, UnreachableError}
+use Rattle.isle_ast.specs.declared.pos.Pos.{Pos}
+use Rattle.isle_ast.specs.declared.error.Error.{Error}
+use Rattle.isle_ast.specs.declared.error.Error.TheVariants.{SizeError, UnreachableError}
 use Rattle.isle_types.specs.TypeFaults.{IsSizeFault}
-use Rattle.isle_terms.specs.TypedRules.{TypedPattern, typed_int, typed_and, no_typed, more_typed, built_int, TypedRule}
+use Rattle.isle_rules.specs.TypedRules.{TypedPattern, typed_int, typed_and, no_typed, more_typed, built_int, TypedRule}
 use Rattle.isle_meaning.specs.Facts.{TermFacts}
 use Rattle.isle_meaning.specs.Sites.{argument}
 use Rattle.isle_meaning.specs.Demands.{Demand, constrained, int_constraint, Among}

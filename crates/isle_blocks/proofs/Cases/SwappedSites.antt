@@ -1,10 +1,10 @@
 -- Of the rule (rule (term x @ 2 x) 7) the arguments the other way round: not in order.
 use Rattle.std.proofs.Common.{◌≡◌, ◌++◌, inl, inr, ℕ, List, [], ◌∷◌, Some, slice_get, pos, refl, sym, ap, subst}
 use Rattle.isle_types.proofs.Lists.{slice_get-kept}
-use Rattle.isle_terms.specs.TypedRules.{TypedRule}
+use Rattle.isle_rules.specs.TypedRules.{TypedRule}
 use Rattle.isle_meaning.specs.Sites.{Site, argument}
 use Rattle.isle_meaning.specs.Numbered.{Row, argument_row, int_row, make_some_row}
-use Rattle.isle_meaning.specs.Laws.Matching.{DemandOf}
+use Rattle.isle_meaning.specs.Demands.{DemandOf}
 use Rattle.isle_blocks.specs.AddedRules.{needs_in_order}
 use Rattle.isle_blocks.specs.Building.Standing.{Adds, begin, next, IsEntryOf, IsPut, NumbersBehind}
 use Rattle.isle_blocks.specs.DefinedSets.{AreNumberedInOrder, none_numbered, rule_numbered}
@@ -57,7 +57,8 @@ lone (rule_numbered {places = []} {old = old} i rule new early at behind) e =
     let there : slice_get (with_x ∷ []) 0 ≡ Some rule = subst (λ (j : ℕ). slice_get (with_x ∷ []) j ≡ Some rule) first at in
     let same : rule ≡ with_x = cc in
     subst (λ (r : TypedRule). NumbersBehind [] (needs_in_order facts (facts.partial r.root) r) (DemandOf facts r) new) same
-    (subst (λ (l : List Row). NumbersBehind l (needs_in_order facts (facts.partial rule.root) rule) (DemandOf facts rule) new) (none_before early refl) behind)
+    (subst (λ (l : List Row). NumbersBehind l (needs_in_order facts (facts.partial rule.root) rule) (DemandOf facts rule) new)
+    (none_before early refl) behind)
 lone (rule_numbered {places = x ∷ xs} i rule new early at behind) e =
     let rest : xs ++ i ∷ [] ≡ [] = cc in absurd (no_last xs i rest)
 

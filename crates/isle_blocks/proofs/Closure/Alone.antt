@@ -30,6 +30,7 @@ alone_closed table ok own own_fits equals within none class fits alone =
     let first : Progress table own equals class equals = progress_first table ok own own_fits equals class fits alone within in record {
       classes = first.classes;
       sound = first.sound;
-      closed = progress_done table ok own own_fits equals class equals first (λ a b h. let (j, l, q) = subst (λ (p : List (ℕ × ℕ)). Contains p (a, b)) none h in absurd (omega arith));
+      closed = progress_done table ok own own_fits equals class equals first
+          (λ a b h. let (j, l, q) = subst (λ (p : List (ℕ × ℕ)). Contains p (a, b)) none h in absurd (omega arith));
       ranked = alone_ranked table ok own class alone;
     }

@@ -20,7 +20,8 @@ of_image f (x ∷ xs) y (zero, l, e) = (x, (0, omega arith, refl), e)
 of_image f (x ∷ xs) y (suc k, l, e) = let (z, h, p) = of_image f xs y (k, omega arith, e) in (z, (suc h.0, omega (arith, h.1), h.2), p)
 
 -- own tests are demanded
-pub owned : (name : Sym → List ℕ) (table : List Binding) (equals : List (ℕ × ℕ)) (own : List (Option Constraint)) (has : List (BindingId × Constraint))
+pub owned : (name : Sym → List ℕ) (table : List Binding) (equals : List (ℕ × ℕ)) (own : List (Option Constraint))
+    (has : List (BindingId × Constraint))
     → AreOwn (length table) has own → (a : ℕ) (c : Constraint) (t : Site) → HasOwn own a c → At (rows_of name table) t a
     → demanded_in name table has equals (constrained t (test_of name c))
 owned name table equals own has are a c t h p =
@@ -29,7 +30,8 @@ owned name table equals own has are a c t h p =
     (id.0, Contains-map f has (id, c) inside, subst (At (rows_of name table) t) (sym same) p)
 
 -- and what is demanded is an own test
-pub own_of : (name : Sym → List ℕ) (table : List Binding) (equals : List (ℕ × ℕ)) (own : List (Option Constraint)) (has : List (BindingId × Constraint))
+pub own_of : (name : Sym → List ℕ) (table : List Binding) (equals : List (ℕ × ℕ)) (own : List (Option Constraint))
+    (has : List (BindingId × Constraint))
     → AreOwn (length table) has own → (t : Site) (d : meaning.Constraint) → demanded_in name table has equals (constrained t d)
     → (a : ℕ) × (c : Constraint) × At (rows_of name table) t a × HasOwn own a c × (test_of name c ≡ d)
 own_of name table equals own has are t d (k, h, p) =

@@ -11,7 +11,8 @@ use Rattle.isle_blocks.specs.declared.binding.Binding.{Binding}
 use Rattle.isle_blocks.specs.Tables.{IsInterned}
 use Rattle.isle_blocks.specs.Rows.{row_of, rows_of}
 use Rattle.isle_blocks.specs.Inside.ClosureFields.{field_binding}
-use Rattle.isle_blocks.specs.FieldOrder.{ComesBefore, AreInOrder, IsFieldAt, AreFieldsInOrder, AreFieldsBefore}
+use Rattle.isle_blocks.specs.Inside.FieldOrder.{IsFieldAt, AreFieldsInOrder, AreFieldsBefore}
+use Rattle.isle_blocks.specs.Closure.{ComesBefore, AreInOrder}
 use Rattle.isle_blocks.specs.Building.Standing.{IsFieldRow}
 use Rattle.isle_blocks.proofs.Closure.Trees.{field_parts, row_get}
 
@@ -19,7 +20,8 @@ use Rattle.isle_blocks.proofs.Closure.Trees.{field_parts, row_get}
 pub none_added : (table : List Binding) → AreFieldsInOrder (length table) table
 none_added table = record {
   fields = λ k le lt. absurd (omega (arith, le, lt));
-  order = λ k l s i t j le lt at (kind, e). absurd (let within = slice_get_within table l (field_binding kind t j) e in omega (arith, le, lt, within));
+  order = λ k l s i t j le lt at (kind, e). absurd (let within = slice_get_within table l (field_binding kind t j) e in
+      omega (arith, le, lt, within));
 }
 
 pub none_before : (table : List Binding) (s i : ℕ) → AreFieldsBefore (length table) table s i
@@ -109,9 +111,11 @@ one_field rows k s i t j (inl (v, e)) (inl (w, f)) =
     let same : match_variant_row s v i ≡ match_variant_row t w j = same_Some (match_variant_row s v i) (match_variant_row t w j) (sym e ∙ f) in
     let p : s ≡ t = cc in let q : i ≡ j = cc in (p, q)
 one_field rows k s i t j (inl (v, e)) (inr f) =
-    let same : match_variant_row s v i ≡ extract_struct_row t j = same_Some (match_variant_row s v i) (extract_struct_row t j) (sym e ∙ f) in absurd cc
+    let same : match_variant_row s v i ≡ extract_struct_row t j = same_Some (match_variant_row s v i) (extract_struct_row t j)
+    (sym e ∙ f) in absurd cc
 one_field rows k s i t j (inr e) (inl (w, f)) =
-    let same : extract_struct_row s i ≡ match_variant_row t w j = same_Some (extract_struct_row s i) (match_variant_row t w j) (sym e ∙ f) in absurd cc
+    let same : extract_struct_row s i ≡ match_variant_row t w j = same_Some (extract_struct_row s i) (match_variant_row t w j)
+    (sym e ∙ f) in absurd cc
 one_field rows k s i t j (inr e) (inr f) =
     let same : extract_struct_row s i ≡ extract_struct_row t j = same_Some (extract_struct_row s i) (extract_struct_row t j) (sym e ∙ f) in
     let p : s ≡ t = cc in let q : i ≡ j = cc in (p, q)

@@ -14,13 +14,15 @@ use Rattle.isle_blocks.proofs.Closure.Growth.{grown_state, grown_class, grown_jo
 
 module _ (table : List Binding) (class : List ℕ) (s : ℕ) (kind : Option ℕ) (i : ℕ) (inside : s < length table)
     (missing : IsAbsent table (field_binding kind s i)) where
-  lacks : (own : List (Option Constraint)) (f : ℕ) → IsOpened own (get_or class s 0) kind i → slice_get table f ≡ Some (field_binding kind (get_or class s 0) i)
+  lacks : (own : List (Option Constraint)) (f : ℕ) → IsOpened own (get_or class s 0) kind i
+      → slice_get table f ≡ Some (field_binding kind (get_or class s 0) i)
       → IsMissingField own table class s kind i f
   lacks own f opened like = record { site_in = inside; opened = opened; missing = missing; like = like }
 
   -- where no number is left, the field is a need
   pub no_room : (new : List Binding) → new ≡ table → (site : Binding) → site ≡ field_binding kind s i → IsFull table site
-      → HasField table kind (get_or class s 0) i → (own : List (Option Constraint)) → IsOpened own (get_or class s 0) kind i → RunsOut own table class new class
+      → HasField table kind (get_or class s 0) i → (own : List (Option Constraint)) → IsOpened own (get_or class s 0) kind i
+      → RunsOut own table class new class
   no_room new same site is full (f, like) own opened = subst (λ (t : List Binding). RunsOut own table class t class) (sym same) (record {
     grows = Still;
     full = full.1;
@@ -35,7 +37,8 @@ module _ (table : List Binding) (class : List ℕ) (s : ℕ) (kind : Option ℕ)
     | inr (absent, last, longer) ↦ (last, longer ∙ ap (λ (b : Binding). table ++ b ∷ []) is)
   ]
 
-  pub now_there : (new : List Binding) (id : BindingId) (site : Binding) → site ≡ field_binding kind s i → IsInterned table site id new → HasField new kind s i
+  pub now_there : (new : List Binding) (id : BindingId) (site : Binding) → site ≡ field_binding kind s i → IsInterned table site id new
+      → HasField new kind s i
   now_there new id site is put = (
     length table,
     subst (λ (t : List Binding). slice_get t (length table) ≡ Some (field_binding kind s i)) (sym (interned new id site is put).1)
@@ -43,7 +46,8 @@ module _ (table : List Binding) (class : List ℕ) (s : ℕ) (kind : Option ℕ)
   )
 
   pub grows_one : (classes : AreClasses (length table) class) (new : List Binding) (id : BindingId) (site : Binding) → site ≡ field_binding kind s i
-      → IsInterned table site id new → (base f root : ℕ) (longer : List ℕ) → base ≡ get_or class s base → slice_get table f ≡ Some (field_binding kind base i)
+      → IsInterned table site id new → (base f root : ℕ) (longer : List ℕ) → base ≡ get_or class s base
+      → slice_get table f ≡ Some (field_binding kind base i)
       → root ≡ get_or class f root → longer ≡ class ++ root ∷ [] → (own : List (Option Constraint)) → IsOpened own (get_or class s 0) kind i
       → Grows own table class new longer
   grows_one classes new id site is put base f root longer base_is like root_is pushed own opened =

@@ -9,7 +9,7 @@ use Rattle.isle_types.proofs.Lists.{slice_get-kept, slice_get-pushed}
 use Rattle.isle_blocks.specs.declared.ids.BindingId.{BindingId}
 use Rattle.isle_blocks.specs.declared.binding.Binding.{Binding}
 use Rattle.isle_blocks.specs.declared.constraint.Constraint.{Constraint}
-use Rattle.isle_blocks.specs.Bindings.{sources_of}
+use Rattle.isle_blocks.specs.Tables.{sources_of}
 use Rattle.isle_blocks.specs.Inside.ClosureFields.{Opens, field_binding}
 use Rattle.isle_blocks.specs.Tables.{IsTable}
 use Rattle.isle_blocks.specs.Inside.ClosureStates.{HasOwn, IsState, IsMissingField, Grows, Still, Added, HasFields}
@@ -81,7 +81,8 @@ module _ (own : List (Option Constraint)) (equals : List (ℕ × ℕ)) (table : 
   class_of a h = elim (below_cases a h) [ inl l ↦ (a, l, class_old a l) | inr e ↦ (f, f_in, ap (λ (z : ℕ). get_or class' z 0) e ∙ class_new) ]
 
   like' : (a : ℕ) (c : Constraint) (k : Option ℕ) (j g h : ℕ) → a < length table' → HasOwn own (get_or class' a 0) c → Opens c k j
-      → slice_get table' g ≡ Some (field_binding k a j) → slice_get table' h ≡ Some (field_binding k (get_or class' a 0) j) → get_or class' g 0 ≡ get_or class' h 0
+      → slice_get table' g ≡ Some (field_binding k a j) → slice_get table' h ≡ Some (field_binding k (get_or class' a 0) j)
+      → get_or class' g 0 ≡ get_or class' h 0
   like' a c k j g h l has m p q = elim (slice_get-pushed table new h (field_binding k (get_or class' a 0) j) q) [
     | inr (e, d) ↦
         let (n, there) = state.fields (get_or class' a 0) k j (c, has, m) in
@@ -94,12 +95,14 @@ module _ (own : List (Option Constraint)) (equals : List (ℕ × ℕ)) (table : 
               let a_in : a < g = state.table_ok.earlier g (field_binding k a j) _ old_p (field_source k a j) in
               let a_old : get_or class' a 0 ≡ get_or class a 0 = class_old a (omega arith) in
               class_old g g_in
-              ∙ state.closed.like a c k j g h (omega arith) (subst (λ (z : ℕ). HasOwn own z c) a_old has) m old_p (subst (λ (z : ℕ). slice_get table h ≡ Some (field_binding k z j)) a_old old_q)
+              ∙ state.closed.like a c k j g h (omega arith) (subst (λ (z : ℕ). HasOwn own z c) a_old has) m old_p
+              (subst (λ (z : ℕ). slice_get table h ≡ Some (field_binding k z j)) a_old old_q)
               ∙ sym (class_old h h_in)
           | inr (e, d) ↦
               let (same_s, same_k, same_i) = field_parts kind s i k a j d in
               let s_old : get_or class' a 0 ≡ get_or class s 0 = ap (λ (z : ℕ). get_or class' z 0) (sym same_s) ∙ class_old s needed.site_in in
-              let b : field_binding k (get_or class' a 0) j ≡ field_binding kind (get_or class s 0) i = λ z. field_binding (sym same_k z) (s_old z) (sym same_i z) in
+              let b : field_binding k (get_or class' a 0) j ≡ field_binding kind (get_or class s 0) i =
+              λ z. field_binding (sym same_k z) (s_old z) (sym same_i z) in
               let same : f ≡ h = state.table_ok.once (field_binding kind (get_or class s 0) i) f h needed.like (old_q ∙ ap Some b) in
               ap (λ (z : ℕ). get_or class' z 0) e ∙ class_new ∙ ap (λ (z : ℕ). get_or class z 0) same ∙ sym (class_old h h_in)
         ]
@@ -111,7 +114,8 @@ module _ (own : List (Option Constraint)) (equals : List (ℕ × ℕ)) (table : 
     classes = record {
       fits = let e = state.classes.fits in simp length-append (omega arith);
       below = λ a h. let l = root_below a h in let e = len in omega arith;
-      flat = λ a h. let (b, l, e) = class_of a h in ap (λ (z : ℕ). get_or class' z 0) e ∙ class_old (get_or class b 0) (state.classes.below b l) ∙ state.classes.flat b l ∙ sym e;
+      flat = λ a h. let (b, l, e) = class_of a h in ap (λ (z : ℕ). get_or class' z 0) e ∙ class_old (get_or class b 0)
+          (state.classes.below b l) ∙ state.classes.flat b l ∙ sym e;
     };
     roots = λ a h. let (b, l, e) = class_of a h in subst (λ (z : ℕ). z < length own) (sym e) (state.roots b l);
     own_fits = let e = len in let o = state.own_fits in omega arith;
@@ -124,7 +128,8 @@ module _ (own : List (Option Constraint)) (equals : List (ℕ × ℕ)) (table : 
       ];
       like = like';
     };
-    fields = λ a k j opened. let (g, e) = state.fields a k j opened in (g, slice_get-kept table (field_binding kind s i ∷ []) g (field_binding k a j) e);
+    fields = λ a k j opened. let (g, e) = state.fields a k j opened in
+        (g, slice_get-kept table (field_binding kind s i ∷ []) g (field_binding k a j) e);
   }
 
 -- Growth by any number of fields.
@@ -135,14 +140,17 @@ module _ (own : List (Option Constraint)) (equals : List (ℕ × ℕ)) where
 
   pub grown_longer : (t u : List Binding) (c d : List ℕ) → Grows own t c u d → (k : ℕ) (b : Binding) → slice_get t k ≡ Some b → slice_get u k ≡ Some b
   grown_longer t u c d Still k b h = h
-  grown_longer t u c d (Added {u = w} {d = e} s kind i f g needed) k b h = slice_get-kept w (field_binding kind s i ∷ []) k b (grown_longer t w c e g k b h)
+  grown_longer t u c d (Added {u = w} {d = e} s kind i f g needed) k b h = slice_get-kept w (field_binding kind s i ∷ []) k b
+      (grown_longer t w c e g k b h)
 
   pub grown_sites : (t u : List Binding) (c d : List ℕ) → Grows own t c u d → length t ≤ length u
   grown_sites t u c d Still = omega arith
   grown_sites t u c d (Added {u = w} {d = e} s kind i f g needed) =
-      let a = grown_sites t w c e g in let b : length (w ++ field_binding kind s i ∷ []) ≡ suc (length w) = simp length-append (omega arith) in omega arith
+      let a = grown_sites t w c e g in let b : length (w ++ field_binding kind s i ∷ []) ≡ suc (length w) =
+      simp length-append (omega arith) in omega arith
 
-  pub grown_class : (t u : List Binding) (c d : List ℕ) → Grows own t c u d → IsState own equals t c → (a : ℕ) → a < length t → get_or d a 0 ≡ get_or c a 0
+  pub grown_class : (t u : List Binding) (c d : List ℕ) → Grows own t c u d → IsState own equals t c → (a : ℕ)
+      → a < length t → get_or d a 0 ≡ get_or c a 0
   grown_class t u c d Still state a h = refl
   grown_class t u c d (Added {u = w} {d = e} s kind i f g needed) state a h =
       let l = grown_sites t w c e g in

@@ -9,7 +9,8 @@ use Rattle.isle_meaning.proofs.Matching.Closing.{derived_holds, is_reachable, fr
 use Rattle.isle_meaning.proofs.Matching.Sorting.{among, each_of}
 use Rattle.isle_blocks.specs.ClosureLaws.{ClosureSaysTheSame, UnreachableNeverHolds}
 
-closed_holds : (val : Site → Got Held) → Respects val → (D : Demand → Type 0) → ((d : Demand) → D d → Holds val d) → (d : Demand) → Closed D d → Holds val d
+closed_holds : (val : Site → Got Held) → Respects val → (D : Demand → Type 0) → ((d : Demand) → D d → Holds val d)
+    → (d : Demand) → Closed D d → Holds val d
 closed_holds val respects D holds (constrained s c) h = derived_holds val respects D holds (constrained s c) h
 closed_holds val respects D holds (equal s u) h = derived_holds val respects D holds (equal s u) h.0
 

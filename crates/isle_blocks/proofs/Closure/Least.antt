@@ -40,7 +40,8 @@ module _ (name : Sym → List ℕ) (injective : IsInjective name) (table : List 
 
   -- like fields of sites of one class are in one class
   like_fields : (t u : Site) (a b : ℕ) (c : Constraint) (kind : Option ℕ) (i : ℕ) → At (rows_of name table) t a → At (rows_of name table) u b
-      → get_or class a 0 ≡ get_or class b 0 → HasOwn own (get_or class a 0) c → Opens c kind i → Shows (equal (field_site kind t i) (field_site kind u i))
+      → get_or class a 0 ≡ get_or class b 0 → HasOwn own (get_or class a 0) c → Opens c kind i
+      → Shows (equal (field_site kind t i) (field_site kind u i))
   like_fields t u a b c kind i p q e has opens =
       let (fa, ka, ea, da, sa) = field_in a c kind i (at_below name table t a p) has opens in
       let (fb, kb, eb, db, sb) = field_in b c kind i (at_below name table u b q) (subst (λ (z : ℕ). HasOwn own z c) e has) opens in
@@ -65,7 +66,8 @@ module _ (name : Sym → List ℕ) (injective : IsInjective name) (table : List 
       (b, test, q, subst (λ (z : ℕ). HasOwn own z test) (same_class t x a r p ∙ e) has, g)
   shown d (like_variant {s = t} {u = u} {ty = ty} {k = v} {n = n} {i = i} h k l) =
       let (a, b, p, q, e) = shown (equal t u) h in let (x, test, r, has, g) = shown (constrained t (variant_constraint ty v n)) k in
-      like_fields t u a b test (Some v) i p q e (subst (λ (z : ℕ). HasOwn own z test) (same_class t x a r p) has) (of_variant_test name test ty v n i g l)
+      like_fields t u a b test (Some v) i p q e (subst (λ (z : ℕ). HasOwn own z test) (same_class t x a r p) has)
+      (of_variant_test name test ty v n i g l)
   shown d (like_struct {s = t} {u = u} {ty = ty} {n = n} {i = i} h k l) =
       let (a, b, p, q, e) = shown (equal t u) h in let (x, test, r, has, g) = shown (constrained t (struct_constraint ty n)) k in
       like_fields t u a b test None i p q e (subst (λ (z : ℕ). HasOwn own z test) (same_class t x a r p) has) (of_struct_test name test ty n i g l)
@@ -78,6 +80,7 @@ module _ (name : Sym → List ℕ) (injective : IsInjective name) (table : List 
 
   pub has_all_fields : HasAllFields D (rows_of name table)
   has_all_fields t u (of_variant {ty = ty} {k = v} {n = n} {i = i} d l) =
-      let (a, c, p, has, e) = shown (constrained t (variant_constraint ty v n)) d in has_field t a c (Some v) i p has (of_variant_test name c ty v n i e l)
+      let (a, c, p, has, e) = shown (constrained t (variant_constraint ty v n)) d in
+      has_field t a c (Some v) i p has (of_variant_test name c ty v n i e l)
   has_all_fields t u (of_struct {ty = ty} {n = n} {i = i} d l) =
       let (a, c, p, has, e) = shown (constrained t (struct_constraint ty n)) d in has_field t a c None i p has (of_struct_test name c ty n i e l)

@@ -31,5 +31,6 @@ member_in table ok member keep test f g like =
     let within : f < length table = slice_get_within table f (field_binding like.kind member like.index) like.field in omega arith
 
 -- a site has one class
-pub one_root : (table : List Binding) → AreDistinct table → (class : List ℕ) (site : Binding) (k m : ℕ) → IsRootOf table class site k → IsRootOf table class site m → k ≡ m
+pub one_root : (table : List Binding) → AreDistinct table → (class : List ℕ) (site : Binding) (k m : ℕ) → IsRootOf table class site k
+    → IsRootOf table class site m → k ≡ m
 one_root table once class site k m (g, p, e) (h, q, f) = sym e ∙ ap (λ (z : ℕ). get_or class z 0) (once site g h p q) ∙ f

@@ -35,7 +35,8 @@ list_written rows lists of row more change is inside at changed =
 
 -- a list is moved behind another
 pub list_joined : (rows : List (Vec ℕ Global)) (lists : List (List ℕ)) (from to : ℕ) (taken none old more moved : Vec ℕ Global)
-    → map items_of rows ≡ lists → from < length lists → to < length lists → from ≢ to → taken ≡ get_or rows from taken → moved ≡ taken → none.items ≡ []
+    → map items_of rows ≡ lists → from < length lists → to < length lists → from ≢ to → taken ≡ get_or rows from taken
+    → moved ≡ taken → none.items ≡ []
     → old ≡ get_or (set rows from none) to old → more.items ≡ old.items ++ moved.items
     → map items_of (set (set rows from none) to more) ≡ set (set lists from []) to (get_or lists to [] ++ get_or lists from [])
 list_joined rows lists from to taken none old more moved is from_in to_in apart at moved_is emptied to_at added =

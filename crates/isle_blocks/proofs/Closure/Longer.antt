@@ -35,7 +35,8 @@ module _ (short long : List Row) (longer : (k : ℕ) (row : Row) → slice_get s
     all_longer (more_sites s ss) [] x = absurd x
     all_longer (more_sites s ss) (j ∷ js) x = (at_longer s j x.0, all_longer ss js x.1)
 
-module _ (name : Sym → List ℕ) (table long : List Binding) (longer : (k : ℕ) (b : Binding) → slice_get table k ≡ Some b → slice_get long k ≡ Some b) where
+module _ (name : Sym → List ℕ) (table long : List Binding) (longer : (k : ℕ) (b : Binding) → slice_get table k ≡ Some b
+    → slice_get long k ≡ Some b) where
   rows_longer : (k : ℕ) (row : Row) → slice_get (rows_of name table) k ≡ Some row → slice_get (rows_of name long) k ≡ Some row
   rows_longer k row e =
       let (b, p, q) = get_row name table k row e in

@@ -82,7 +82,8 @@ module _ (table : List Binding) (own : List (Option Constraint)) (class : List �
     | inr n ↦ let a : raised rank top r k ≡ rank k = raised_other rank top r k n in omega arith
   ]
 
-  pub peeled_more : (marks : List Bool) (r : ℕ) → r < length marks → is_marked marks r ≡ false → ChildrenAreMarked table own class marks r → Peeled marks → Peeled (set marks r true)
+  pub peeled_more : (marks : List Bool) (r : ℕ) → r < length marks → is_marked marks r ≡ false → ChildrenAreMarked table own class marks r
+      → Peeled marks → Peeled (set marks r true)
   peeled_more marks r l unmarked children p = record {
     rank = raised (p.rank) (p.top) r;
     top = p.top + 1;
@@ -94,13 +95,16 @@ module _ (table : List Binding) (own : List (Option Constraint)) (class : List �
     falls = λ s g k e c. elim (mark_before marks r s e) [
       | inl q ↦
           let km : is_marked marks k ≡ true = children g k (subst (λ (z : ℕ). IsChildAt table own class z g k) q c) in
-          let a : raised (p.rank) (p.top) r k ≡ p.rank k = raised_other (p.rank) (p.top) r k (λ z. false≢true (sym unmarked ∙ ap (is_marked marks) (sym z) ∙ km)) in
+          let a : raised (p.rank) (p.top) r k ≡ p.rank k = raised_other (p.rank) (p.top) r k
+          (λ z. false≢true (sym unmarked ∙ ap (is_marked marks) (sym z) ∙ km)) in
           let b : raised (p.rank) (p.top) r s ≡ p.top = raised_same (p.rank) (p.top) r s q in
           let low : p.rank k < p.top = p.low k in omega arith
       | inr m ↦
           let km : is_marked marks k ≡ true = p.marked s g k m c in
-          let a : raised (p.rank) (p.top) r k ≡ p.rank k = raised_other (p.rank) (p.top) r k (λ z. false≢true (sym unmarked ∙ ap (is_marked marks) (sym z) ∙ km)) in
-          let b : raised (p.rank) (p.top) r s ≡ p.rank s = raised_other (p.rank) (p.top) r s (λ z. false≢true (sym unmarked ∙ ap (is_marked marks) (sym z) ∙ m)) in
+          let a : raised (p.rank) (p.top) r k ≡ p.rank k = raised_other (p.rank) (p.top) r k
+          (λ z. false≢true (sym unmarked ∙ ap (is_marked marks) (sym z) ∙ km)) in
+          let b : raised (p.rank) (p.top) r s ≡ p.rank s = raised_other (p.rank) (p.top) r s
+          (λ z. false≢true (sym unmarked ∙ ap (is_marked marks) (sym z) ∙ m)) in
           let low : p.rank k < p.rank s = p.falls s g k m c in omega arith
     ];
   }
@@ -111,7 +115,8 @@ module _ (table : List Binding) (own : List (Option Constraint)) (class : List �
     abbrev pub with_one : (ℕ → Bool) → ℕ → ℕ → Bool
     with_one seen r k = cond (eqb k r) true (seen k)
 
-    pub walk : (fuel : ℕ) (seen : ℕ → Bool) (r : ℕ) → count_to (λ k. opposite (seen k)) (length table) < fuel → r < length table → is_marked marks r ≡ false
+    pub walk : (fuel : ℕ) (seen : ℕ → Bool) (r : ℕ) → count_to (λ k. opposite (seen k)) (length table) < fuel
+        → r < length table → is_marked marks r ≡ false
         → ((k : ℕ) → seen k ≡ true → Reaches table own class k r) → HasLoop table own class
     walk zero seen r h l u reach = absurd (omega arith)
     walk (suc fuel) seen r h l u reach = elim (either (seen r)) [
@@ -119,7 +124,8 @@ module _ (table : List Binding) (own : List (Option Constraint)) (class : List �
       | inr f ↦
           let (k, next) = stuck r l u in
           let c = next.is_child in
-          let k_in : k < length table = subst (λ (z : ℕ). z < length table) (c.leads) (below (next.field) (slice_get_within table (next.field) (field_binding c.kind r c.index) c.field)) in
+          let k_in : k < length table = subst (λ (z : ℕ). z < length table) (c.leads)
+          (below (next.field) (slice_get_within table (next.field) (field_binding c.kind r c.index) c.field)) in
           let same : (j : ℕ) → j ≡ r → with_one seen r j ≡ true = λ j e. ap (λ (b : Bool). cond b true (seen j)) (eq-eqb j r e) in
           let fewer : count_to (λ j. opposite (with_one seen r j)) (length table) < count_to (λ j. opposite (seen j)) (length table) =
           count_falls (λ j. opposite (with_one seen r j)) (λ j. opposite (seen j)) (length table) r
@@ -165,7 +171,8 @@ module _ (name : Sym → List ℕ) (table : List Binding) (ok : IsTable table) (
       → AreEqual D (field_site c.kind t c.index) u
   child_equal r g k c t u p q =
       let g_in = slice_get_within table g (field_binding c.kind r c.index) c.field in
-      sound g g_in (field_site c.kind t c.index) u (field_at name table c.kind r c.index g t c.field p) (subst (λ (z : ℕ). At (rows_of name table) u z) (sym c.leads) q)
+      sound g g_in (field_site c.kind t c.index) u (field_at name table c.kind r c.index g t c.field p)
+      (subst (λ (z : ℕ). At (rows_of name table) u z) (sym c.leads) q)
 
   child_in : (r g k : ℕ) → IsChildAt table own class r g k → k < length table
   child_in r g k c = subst (λ (z : ℕ). z < length table) c.leads (classes.below g (slice_get_within table g (field_binding c.kind r c.index) c.field))
@@ -176,8 +183,11 @@ module _ (name : Sym → List ℕ) (table : List Binding) (ok : IsTable table) (
 
   reach_inside : (r k : ℕ) → Reaches table own class r k → (t w : Site) → At (rows_of name table) t r → At (rows_of name table) w k
       → (u : Site) × Inside D t u × AreEqual D u w
-  reach_inside r k (Once g c) t w p q =
-      (field_site c.kind t c.index, directly (field_of D name t c.test c.kind c.index (demanded (owns r c.test t c.has p)) c.opened), child_equal r g k c t w p q)
+  reach_inside r k (Once g c) t w p q = (
+    field_site c.kind t c.index,
+    directly (field_of D name t c.test c.kind c.index (demanded (owns r c.test t c.has p)) c.opened),
+    child_equal r g k c t w p q,
+  )
   reach_inside r k (Further {k = m} g x c) t w p q =
       let (s, sm) = stands name table ok m (reach_in r m x) in
       let (u, i, e) = reach_inside r m x t s p sm in

@@ -54,7 +54,8 @@ mark_less waiting pending rest r l e =
     let q : length (rest ++ list_of waiting r) ≡ length rest + length (list_of waiting r) = length-append rest (list_of waiting r) in
     let s = sum_by-set (λ (list : List ℕ). length list) waiting r [] [] l in
     let one : sites_left (set waiting r []) (rest ++ list_of waiting r) + 1 ≡ sites_left waiting pending = omega arith in
-    square_less (sites_left (set waiting r []) (rest ++ list_of waiting r)) (sites_left waiting pending) (length (rest ++ list_of waiting r)) (length pending)
+    square_less (sites_left (set waiting r []) (rest ++ list_of waiting r)) (sites_left waiting pending) (length (rest ++ list_of waiting r))
+    (length pending)
     one (omega arith)
 
 module _ (table : List Binding) (own : List (Option Constraint)) (class : List ℕ) where
@@ -73,7 +74,8 @@ module _ (table : List Binding) (own : List (Option Constraint)) (class : List �
     pub waiters : (k r : ℕ) → Contains (list_of waiting k) r → r < length table
     pub left : (r : ℕ) → r < length table → is_marked marks r ≡ false → Contains pending r ⊎ Waits marks waiting r
 
-  module _ (marks : List Bool) (waiting : List (List ℕ)) (pending rest : List ℕ) (r : ℕ) (e : pending ≡ rest ++ r ∷ []) (m : Marking marks waiting pending) where
+  module _ (marks : List Bool) (waiting : List (List ℕ)) (pending rest : List ℕ) (r : ℕ) (e : pending ≡ rest ++ r ∷ [])
+      (m : Marking marks waiting pending) where
     pub next_in : r < length table
     next_in = m.within r (last_of pending rest r e)
 
@@ -100,7 +102,8 @@ module _ (table : List Binding) (own : List (Option Constraint)) (class : List �
               | inl old ↦ inl old
               | inr new ↦ inr (record {
                 child = k;
-                listed = subst (λ (z : ℕ). Contains (list_of (waits waiting k r) k) z) new (last_of (list_of (waits waiting k r) k) (list_of waiting k) r same);
+                listed = subst (λ (z : ℕ). Contains (list_of (waits waiting k r) k) z) new
+                    (last_of (list_of (waits waiting k r) k) (list_of waiting k) r same);
                 is_child = subst (λ (z : ℕ). IsUnmarkedChild table own class marks z k) new child;
               })
             ]
@@ -108,7 +111,8 @@ module _ (table : List Binding) (own : List (Option Constraint)) (class : List �
               child = w.child;
               listed = elim (cases_eq w.child k) [
                 | inl q ↦ subst (λ (z : ℕ). Contains (list_of (waits waiting k r) z) s) (sym q)
-                    (front_of (list_of (waits waiting k r) k) (list_of waiting k) r s same (subst (λ (z : ℕ). Contains (list_of waiting z) s) q w.listed))
+                    (front_of (list_of (waits waiting k r) k) (list_of waiting k) r s same
+                    (subst (λ (z : ℕ). Contains (list_of waiting z) s) q w.listed))
                 | inr n ↦ subst (λ (l : List ℕ). Contains l s) (sym (get_or-set_other waiting k w.child (list_of waiting k ++ r ∷ []) [] n)) w.listed
               ];
               is_child = w.is_child;
@@ -180,7 +184,8 @@ module _ (table : List Binding) (own : List (Option Constraint)) (class : List �
           ];
     }
 
-  pub marking_first : (marks : List Bool) (waiting : List (List ℕ)) (pending : List ℕ) → length marks ≡ length table → ((k : ℕ) → is_marked marks k ≡ false)
+  pub marking_first : (marks : List Bool) (waiting : List (List ℕ)) (pending : List ℕ) → length marks ≡ length table
+      → ((k : ℕ) → is_marked marks k ≡ false)
       → length waiting ≡ length table → ((k : ℕ) → list_of waiting k ≡ []) → length pending ≡ length table
       → ((a : ℕ) → a < length table → get_or pending a 0 ≡ a) → Marking marks waiting pending
   marking_first marks waiting pending fits none lists empty as_many alone = record {

@@ -16,7 +16,8 @@ IsRelabeled old class members keep n =
     ((k : ℕ) → k < n → get_or class (get_or members k 0) 0 ≡ keep)
     × ((a : ℕ) → (get_or class a 0 ≡ get_or old a 0) ⊎ (Contains members a × (get_or class a 0 ≡ keep)))
 
-module _ (old class members : List ℕ) (keep i : ℕ) (i_in : i < length members) (l : get_or members i 0 < length class) (before : IsRelabeled old class members keep i) where
+module _ (old class members : List ℕ) (keep i : ℕ) (i_in : i < length members) (l : get_or members i 0 < length class)
+    (before : IsRelabeled old class members keep i) where
   abbrev member : ℕ
   member = get_or members i 0
 
@@ -29,9 +30,13 @@ module _ (old class members : List ℕ) (keep i : ℕ) (i_in : i < length member
     ]
   ]
 
-  pub relabeled_same : (a : ℕ) → (get_or (set class member keep) a 0 ≡ get_or old a 0) ⊎ (Contains members a × (get_or (set class member keep) a 0 ≡ keep))
+  pub relabeled_same : (a : ℕ) → (get_or (set class member keep) a 0 ≡ get_or old a 0) ⊎
+      (Contains members a × (get_or (set class member keep) a 0 ≡ keep))
   relabeled_same a = elim (cases_eq a member) [
-    | inl e ↦ inr (subst (λ z. Contains members z) (sym e) (Contains-get_or members i 0 i_in), ap (λ z. get_or (set class member keep) z 0) e ∙ get_or-set_same class member keep 0 l)
+    | inl e ↦ inr (
+      subst (λ z. Contains members z) (sym e) (Contains-get_or members i 0 i_in),
+      ap (λ z. get_or (set class member keep) z 0) e ∙ get_or-set_same class member keep 0 l,
+    )
     | inr n ↦
         let o = get_or-set_other class member a keep 0 n in
         elim (before.1 a) [ inl e ↦ inl (o ∙ e) | inr (c, e) ↦ inr (c, o ∙ e) ]
@@ -51,7 +56,8 @@ relabeled old class members drop keep are after a a_in = elim (cases_eq (get_or 
 ]
 
 -- when two classes are joined, and their lists
-module _ (class joined : List ℕ) (lists : List (List ℕ)) (drop keep : ℕ) (drop_in : drop < length class) (keep_in : keep < length class) (apart : drop ≢ keep)
+module _ (class joined : List ℕ) (lists : List (List ℕ)) (drop keep : ℕ) (drop_in : drop < length class) (keep_in : keep < length class)
+    (apart : drop ≢ keep)
     (same_length : length joined ≡ length class) (join : IsJoined class joined drop keep) (m : ListMembers class lists) where
   abbrev emptied : List (List ℕ)
   emptied = set lists drop []
@@ -120,10 +126,13 @@ module _ (class joined : List ℕ) (lists : List (List ℕ)) (drop keep : ℕ) (
   members_joined = record {
     fits = let l = length-set emptied keep both in let k = long in let f = m.fits in let s = same_length in omega arith;
     each = λ root root_in. elim (cases_eq root keep) [
-      | inl e ↦ subst (λ z. AreMembers joined z (get_or after z [])) (sym e) (subst (λ l. AreMembers joined keep l) (sym (get_or-set_same emptied keep both [] keep_low)) at_keep)
+      | inl e ↦ subst (λ z. AreMembers joined z (get_or after z [])) (sym e)
+          (subst (λ l. AreMembers joined keep l) (sym (get_or-set_same emptied keep both [] keep_low)) at_keep)
       | inr n ↦ subst (λ l. AreMembers joined root l) (sym (get_or-set_other emptied keep root both [] n)) (elim (cases_eq root drop) [
-        | inl e ↦ subst (λ z. AreMembers joined z (get_or emptied z [])) (sym e) (subst (λ l. AreMembers joined drop l) (sym (get_or-set_same lists drop [] [] drop_low)) at_drop)
-        | inr o ↦ subst (λ l. AreMembers joined root l) (sym (get_or-set_other lists drop root [] [] o)) (at_other root (let f = same_length in omega arith) o n)
+        | inl e ↦ subst (λ z. AreMembers joined z (get_or emptied z [])) (sym e)
+            (subst (λ l. AreMembers joined drop l) (sym (get_or-set_same lists drop [] [] drop_low)) at_drop)
+        | inr o ↦ subst (λ l. AreMembers joined root l) (sym (get_or-set_other lists drop root [] [] o))
+            (at_other root (let f = same_length in omega arith) o n)
       ])
     ];
   }

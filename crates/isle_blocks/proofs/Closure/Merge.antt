@@ -33,7 +33,8 @@ module _ (D : Demand → Type 0) where
   equal_has t u c (inr d) h = shared d h
 
   -- a field under a derived test
-  pub field_of : (name : Sym → List ℕ) (t : Site) (c : Constraint) (kind : Option ℕ) (i : ℕ) → Derived D (constrained t (test_of name c)) → Opens c kind i
+  pub field_of : (name : Sym → List ℕ) (t : Site) (c : Constraint) (kind : Option ℕ) (i : ℕ) → Derived D (constrained t (test_of name c))
+      → Opens c kind i
       → FieldOf D t (field_site kind t i)
   field_of name t (tests.Variant ty v n) kind i d h = subst (λ (k : Option ℕ). FieldOf D t (field_site k t i)) (sym h.0) (of_variant d h.1)
   field_of name t (tests.Struct ty n) kind i d h = subst (λ (k : Option ℕ). FieldOf D t (field_site k t i)) (sym h.0) (of_struct d h.1)
@@ -59,7 +60,8 @@ module _ (D : Demand → Type 0) where
   equal_parts name t u c kind i (inl e) h l = inl (ap (λ (x : Site). field_site kind x i) e)
   equal_parts name t u c kind i (inr d) h l = inr (like_fields name t u c kind i d h l)
 
-module _ (table : List Binding) (ok : IsTable table) (equals : List (ℕ × ℕ)) (own : List (Option Constraint)) (class joined : List ℕ) (classes : AreClasses (length table) class)
+module _ (table : List Binding) (ok : IsTable table) (equals : List (ℕ × ℕ)) (own : List (Option Constraint))
+    (class joined : List ℕ) (classes : AreClasses (length table) class)
     (x y drop keep : ℕ) (x_in : x < length table) (y_in : y < length table) (apart : get_or class x 0 ≢ get_or class y 0)
     (which : ((drop ≡ get_or class x 0) × (keep ≡ get_or class y 0)) ⊎ ((drop ≡ get_or class y 0) × (keep ≡ get_or class x 0)))
     (same_length : length joined ≡ length class) (join : IsJoined class joined drop keep) where
@@ -147,15 +149,18 @@ module _ (table : List Binding) (ok : IsTable table) (equals : List (ℕ × ℕ)
         let with_keep : AreEqual D wm wk = equal_chain D wm wd wk with_drop (merged wd wk rd rk) in
         let has : Derived D (constrained wk (test_of name c)) = demanded (owns keep c wk h rk) in
         let parts = equal_parts D name wk wm c k.kind k.index (equal_back D wm wk with_keep) has k.opened in
-        let same_t : t ≡ field_site k.kind wm k.index = one_site (rows_of name table) t (field_site k.kind wm k.index) a p (field_at name table k.kind m k.index a wm k.field rm) in
-        let same_u : u ≡ field_site k.kind wk k.index = one_site (rows_of name table) u (field_site k.kind wk k.index) b q (field_at name table k.kind keep k.index b wk k.kept rk) in
+        let same_t : t ≡ field_site k.kind wm k.index = one_site (rows_of name table) t (field_site k.kind wm k.index) a p
+        (field_at name table k.kind m k.index a wm k.field rm) in
+        let same_u : u ≡ field_site k.kind wk k.index = one_site (rows_of name table) u (field_site k.kind wk k.index) b q
+        (field_at name table k.kind keep k.index b wk k.kept rk) in
         equal_chain D t (field_site k.kind wm k.index) u (inl same_t)
         (equal_chain D (field_site k.kind wm k.index) (field_site k.kind wk k.index) u
         (equal_back D (field_site k.kind wk k.index) (field_site k.kind wm k.index) parts) (inl (sym same_u)))
 
   -- What is linked stays linked.
   module _ (pending rest final : List (ℕ × ℕ))
-      (taken : (a b : ℕ) → Contains pending (a, b) → Contains rest (a, b) ⊎ (get_or class a 0 ≡ get_or class b 0) ⊎ (◌≡◌ {A = Option (ℕ × ℕ)} (Some (x, y)) (Some (a, b))))
+      (taken : (a b : ℕ) → Contains pending (a, b) → Contains rest (a, b) ⊎ (get_or class a 0 ≡ get_or class b 0) ⊎
+      (◌≡◌ {A = Option (ℕ × ℕ)} (Some (x, y)) (Some (a, b))))
       (pending_in : (a b : ℕ) → Contains pending (a, b) → (a < length table) × (b < length table))
       (kept : (a b : ℕ) → Contains rest (a, b) → Contains final (a, b)) where
     pub still_linked : (f g : ℕ) → Linked class pending f g → Linked joined final f g
@@ -175,7 +180,8 @@ module _ (table : List Binding) (ok : IsTable table) (equals : List (ℕ × ℕ)
           | inl k ↦ by_pair a b (kept a b k)
           | inr s ↦ elim s [
             | inl e ↦ of_class a ((pending_in a b h).0) ∙ ap label e ∙ sym (of_class b ((pending_in a b h).1))
-            | inr e ↦ let both : ◌≡◌ {A = ℕ × ℕ} (x, y) (a, b) = cc in let ea : x ≡ a = ap (λ (p : ℕ × ℕ). p.0) both in let eb : y ≡ b = ap (λ (p : ℕ × ℕ). p.1) both in ap label (sym ea) ∙ of_xy ∙ ap label eb
+            | inr e ↦ let both : ◌≡◌ {A = ℕ × ℕ} (x, y) (a, b) = cc in let ea : x ≡ a = ap (λ (p : ℕ × ℕ). p.0) both in
+                let eb : y ≡ b = ap (λ (p : ℕ × ℕ). p.1) both in ap label (sym ea) ∙ of_xy ∙ ap label eb
           ]
         ])
 
@@ -189,15 +195,24 @@ module _ (table : List Binding) (ok : IsTable table) (equals : List (ℕ × ℕ)
       ];
       like = λ a c kind i f g h k l p q. elim (moved a h) [
         | inl (e, m) ↦
-            let fields : AreLikeFields table a keep c f g = record { kind = kind; index = i; opened = l; field = p; kept = subst (λ (z : ℕ). slice_get table g ≡ Some (field_binding kind z i)) m q } in
+            let fields : AreLikeFields table a keep c f g = record {
+              kind = kind;
+              index = i;
+              opened = l;
+              field =
+                  p;
+              kept = subst (λ (z : ℕ). slice_get table g ≡ Some (field_binding kind z i)) m q;
+            } in
             let in_final = likes c f g (subst (λ (z : ℕ). HasOwn own z c) m k) (a, e, fields) in
             λ label by_class by_pair. by_pair f g in_final
-        | inr (d, e) ↦ still_linked f g (covered.like a c kind i f g h (subst (λ (z : ℕ). HasOwn own z c) e k) l p (subst (λ (z : ℕ). slice_get table g ≡ Some (field_binding kind z i)) e q))
+        | inr (d, e) ↦ still_linked f g (covered.like a c kind i f g h (subst (λ (z : ℕ). HasOwn own z c) e k) l p
+            (subst (λ (z : ℕ). slice_get table g ≡ Some (field_binding kind z i)) e q))
       ];
     }
 
 -- Where each pending pair is in one class, what is linked is.
 pub closed_of : (table : List Binding) (class : List ℕ) (pending : List (ℕ × ℕ)) → AreClasses (length table) class
-    → ((a b : ℕ) → Contains pending (a, b) → get_or class a 0 ≡ get_or class b 0) → (f g : ℕ) → Linked class pending f g → get_or class f 0 ≡ get_or class g 0
+    → ((a b : ℕ) → Contains pending (a, b) → get_or class a 0 ≡ get_or class b 0) → (f g : ℕ) → Linked class pending f g
+    → get_or class f 0 ≡ get_or class g 0
 closed_of table class pending classes done f g linked =
     linked (λ a. get_or class a 0) (λ a h. sym (classes.flat a (let c = classes.fits in omega arith))) done

@@ -28,15 +28,18 @@ own_read own a x h e = get_or_default own a None x h ∙ sym e
 pub own_written : (own : List (Option Constraint)) (a : ℕ) (c : Constraint) → a < length own → HasOwn (set own a (Some c)) a c
 own_written own a c h = get_or-set_same own a (Some c) None h
 
-pub own_kept : (own : List (Option Constraint)) (a b : ℕ) (c d : Constraint) → get_or own a None ≡ None → HasOwn own b d → HasOwn (set own a (Some c)) b d
+pub own_kept : (own : List (Option Constraint)) (a b : ℕ) (c d : Constraint) → get_or own a None ≡ None → HasOwn own b d
+    → HasOwn (set own a (Some c)) b d
 own_kept own a b c d e h = elim (cases_eq b a) [
   | inl s ↦ absurd (let x : get_or own b None ≡ None = ap (λ (j : ℕ). get_or own j None) s ∙ e in cc)
   | inr n ↦ get_or-set_other own a b (Some c) None n ∙ h
 ]
 
-pub own_before : (own : List (Option Constraint)) (a b : ℕ) (c d : Constraint) → a < length own → HasOwn (set own a (Some c)) b d → HasOwn own b d ⊎ ((a ≡ b) × (c ≡ d))
+pub own_before : (own : List (Option Constraint)) (a b : ℕ) (c d : Constraint) → a < length own → HasOwn (set own a (Some c)) b d
+    → HasOwn own b d ⊎ ((a ≡ b) × (c ≡ d))
 own_before own a b c d l h = elim (cases_eq b a) [
-  | inl s ↦ let x : get_or (set own a (Some c)) b None ≡ Some c = ap (λ (j : ℕ). get_or (set own a (Some c)) j None) s ∙ get_or-set_same own a (Some c) None l in
+  | inl s ↦ let x : get_or (set own a (Some c)) b None ≡ Some c = ap (λ (j : ℕ). get_or (set own a (Some c)) j None) s ∙ get_or-set_same own a
+      (Some c) None l in
       inr (sym s, cc)
   | inr n ↦ inl (sym (get_or-set_other own a b (Some c) None n) ∙ h)
 ]
@@ -55,7 +58,8 @@ module _ (has : List (BindingId × Constraint)) (i : ℕ) (d : BindingId × Cons
   here = get_or has i d
 
   read_more : (own : List (Option Constraint)) → ((a : BindingId) (c : Constraint) (k : ℕ) → k < i → get_or has k (a, c) ≡ (a, c) → HasOwn own a.0 c)
-      → HasOwn own (get_or has i d).0.0 (get_or has i d).1 → (a : BindingId) (c : Constraint) (k : ℕ) → k < i + 1 → get_or has k (a, c) ≡ (a, c) → HasOwn own a.0 c
+      → HasOwn own (get_or has i d).0.0 (get_or has i d).1 → (a : BindingId) (c : Constraint) (k : ℕ) → k < i + 1
+      → get_or has k (a, c) ≡ (a, c) → HasOwn own a.0 c
   read_more own below now a c k l e = elim (cases_lt k i) [
     | inl less ↦ below a c k less e
     | inr more ↦

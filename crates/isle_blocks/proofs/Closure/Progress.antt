@@ -22,30 +22,41 @@ use Rattle.isle_blocks.proofs.Closure.Merge.{equal_back, equal_chain, equal_has,
 use Rattle.isle_blocks.proofs.Closure.Merge.{likes_implied, joined_covered, closed_of}
 use Rattle.isle_blocks.proofs.Closure.Count.{class_count, fewer_classes}
 
-pub record Progress (table : List Binding) (own : List (Option Constraint)) (equals : List (ℕ × ℕ)) (class : List ℕ) (pending : List (ℕ × ℕ)) : Type 0 where
+pub record Progress (table : List Binding) (own : List (Option Constraint)) (equals : List (ℕ × ℕ)) (class : List ℕ)
+    (pending : List (ℕ × ℕ)) : Type 0 where
   pub classes : AreClasses (length table) class
   pub within : ArePairsBelow pending (length table)
   pub sound : ForDemands table equals own (λ name D. IsSound name table D class)
   pub implied : ForDemands table equals own (λ name D. AreImplied name table D pending)
   pub covered : IsCovered table equals own class pending
 
-module _ (table : List Binding) (ok : IsTable table) (own : List (Option Constraint)) (own_fits : length own ≡ length table) (equals : List (ℕ × ℕ)) where
-  pub progress_first : (class : List ℕ) → length class ≡ length table → ((a : ℕ) → a < length table → get_or class a 0 ≡ a) → ArePairsBelow equals (length table) → Progress table own equals class equals
+module _ (table : List Binding) (ok : IsTable table) (own : List (Option Constraint)) (own_fits : length own ≡ length table)
+    (equals : List (ℕ × ℕ)) where
+  pub progress_first : (class : List ℕ) → length class ≡ length table → ((a : ℕ) → a < length table → get_or class a 0 ≡ a)
+      → ArePairsBelow equals (length table) → Progress table own equals class equals
   progress_first class fits alone within = record {
-    classes = record { fits = fits; below = λ a h. subst (λ (z : ℕ). z < length table) (sym (alone a h)) h; flat = λ a h. ap (λ (z : ℕ). get_or class z 0) (alone a h) };
+    classes = record {
+      fits = fits;
+      below = λ a h. subst (λ (z : ℕ). z < length table) (sym (alone a h)) h;
+      flat =
+          λ a h. ap (λ (z : ℕ). get_or class z 0) (alone a h);
+    };
     within = within;
-    sound = λ name injective has are a h t u p q. inl (one_site (rows_of name table) t u a p (subst (λ (z : ℕ). At (rows_of name table) u z) (alone a h) q));
+    sound = λ name injective has are a h t u p q. inl (one_site (rows_of name table) t u a p
+        (subst (λ (z : ℕ). At (rows_of name table) u z) (alone a h) q));
     implied = λ name injective has are a b h t u p q. inr (demanded (a, b, h, p, q));
     covered = record {
       given = λ a b h label by_class by_pair. by_pair a b h;
       shared = λ a c h k. subst (λ (z : ℕ). HasOwn own z c) (sym (alone a h)) k;
       like = λ a c kind i f g h k l p q.
-          let s : f ≡ g = ok.once (field_binding kind a i) f g p (subst (λ (z : ℕ). slice_get table g ≡ Some (field_binding kind z i)) (alone a h) q) in
+          let s : f ≡ g = ok.once (field_binding kind a i) f g p
+          (subst (λ (z : ℕ). slice_get table g ≡ Some (field_binding kind z i)) (alone a h) q) in
           λ label by_class by_pair. ap label s;
     };
   }
 
-  module _ (class : List ℕ) (pending rest : List (ℕ × ℕ)) (x y : ℕ) (before : Progress table own equals class pending) (apart : get_or class x 0 ≢ get_or class y 0) (listed : Contains pending (x, y)) where
+  module _ (class : List ℕ) (pending rest : List (ℕ × ℕ)) (x y : ℕ) (before : Progress table own equals class pending)
+      (apart : get_or class x 0 ≢ get_or class y 0) (listed : Contains pending (x, y)) where
     pub x_in : x < length table
     x_in = (before.within x y listed).0
 
@@ -62,7 +73,8 @@ module _ (table : List Binding) (ok : IsTable table) (own : List (Option Constra
         let same : AreEqual D u t =
         equal_chain D u b t (equal_back D b u to_u)
         (equal_chain D b a t (equal_back D a b (before.implied name injective has are x y listed a b ax by)) to_t) in
-        let at_u : Derived D (constrained u (test_of name k.other)) = demanded (owned name table equals own has are (get_or class y 0) k.other u k.has_other uy) in
+        let at_u : Derived D (constrained u (test_of name k.other)) =
+        demanded (owned name table equals own has are (get_or class y 0) k.other u k.has_other uy) in
         record {
           site = t;
           one = test_of name k.one;
@@ -74,7 +86,8 @@ module _ (table : List Binding) (ok : IsTable table) (own : List (Option Constra
 
     module _ (drop keep : ℕ) (choice : IsChoice own (get_or class x 0) (get_or class y 0) drop keep)
         (fewer : (a b : ℕ) → Contains rest (a, b) → Contains pending (a, b))
-        (taken : (a b : ℕ) → Contains pending (a, b) → Contains rest (a, b) ⊎ (get_or class a 0 ≡ get_or class b 0) ⊎ (◌≡◌ {A = Option (ℕ × ℕ)} (Some (x, y)) (Some (a, b))))
+        (taken : (a b : ℕ) → Contains pending (a, b) → Contains rest (a, b) ⊎ (get_or class a 0 ≡ get_or class b 0) ⊎
+        (◌≡◌ {A = Option (ℕ × ℕ)} (Some (x, y)) (Some (a, b))))
         (joined : List ℕ) (final : List (ℕ × ℕ)) (same_length : length joined ≡ length class) (join : IsJoined class joined drop keep)
         (pushed : (a b : ℕ) → Contains final (a, b) → WasPushed table own class drop keep rest a b)
         (kept : (a b : ℕ) → Contains rest (a, b) → Contains final (a, b)) (likes : LikesAreIn table own class drop keep final) where
@@ -83,18 +96,24 @@ module _ (table : List Binding) (ok : IsTable table) (own : List (Option Constra
         classes = joined_classes table ok equals own class joined (before.classes) x y drop keep x_in y_in apart (choice.which) same_length join;
         within = λ a b h. elim (pushed a b h) [
           | inl k ↦ before.within a b (fewer a b k)
-          | inr (c, has, (m, in_class, like)) ↦
-              (slice_get_within table a (field_binding like.kind m like.index) like.field, slice_get_within table b (field_binding like.kind keep like.index) like.kept)
+          | inr (c, has, (m, in_class, like)) ↦ (
+            slice_get_within table a (field_binding like.kind m like.index) like.field,
+            slice_get_within table b
+                (field_binding like.kind keep like.index) like.kept,
+          )
         ];
-        sound = λ name injective has are. joined_sound table ok equals own class joined (before.classes) x y drop keep x_in y_in apart (choice.which) same_length join
+        sound = λ name injective has are. joined_sound table ok equals own class joined (before.classes) x y drop keep x_in y_in apart
+            (choice.which) same_length join
             name (demanded_in name table has equals) (before.sound name injective has are) (before.implied name injective has are x y listed);
         implied = λ name injective has are a b h. elim (pushed a b h) [
           | inl k ↦ before.implied name injective has are a b (fewer a b k)
-          | inr (c, own_has, like) ↦ likes_implied table ok equals own class joined (before.classes) x y drop keep x_in y_in apart (choice.which) same_length join
+          | inr (c, own_has, like) ↦ likes_implied table ok equals own class joined (before.classes) x y drop keep x_in y_in apart
+              (choice.which) same_length join
               name (demanded_in name table has equals) (before.sound name injective has are) (before.implied name injective has are x y listed)
               (owned name table equals own has are) c a b own_has like
         ];
-        covered = joined_covered table ok equals own class joined (before.classes) x y drop keep x_in y_in apart (choice.which) same_length join pending rest final taken (before.within) kept
+        covered = joined_covered table ok equals own class joined (before.classes) x y drop keep x_in y_in apart
+            (choice.which) same_length join pending rest final taken (before.within) kept
             (choice.shared) likes (before.covered);
       }
 
@@ -123,22 +142,29 @@ pub turn : (table : List Binding) (ok : IsTable table) (own : List (Option Const
     → Progress table own equals class pending → seen ≡ class → lent ≡ class
     → ((a b : ℕ) → Contains rest (a, b) → Contains pending (a, b))
     → Contains pending (x, y) → get_or seen x 0 ≢ get_or seen y 0
-    → ((a b : ℕ) → Contains pending (a, b) → Contains rest (a, b) ⊎ (get_or seen a 0 ≡ get_or seen b 0) ⊎ (◌≡◌ {A = Option (ℕ × ℕ)} (Some (x, y)) (Some (a, b))))
+    → ((a b : ℕ) → Contains pending (a, b) → Contains rest (a, b) ⊎ (get_or seen a 0 ≡ get_or seen b 0) ⊎
+    (◌≡◌ {A = Option (ℕ × ℕ)} (Some (x, y)) (Some (a, b))))
     → a ≡ get_or class x a → b ≡ get_or class y b → IsChoice own a b drop keep
     → length joined ≡ length lent → IsJoined lent joined drop keep
     → ((a b : ℕ) → Contains final (a, b) → WasPushed table own lent drop keep rest a b)
     → ((a b : ℕ) → Contains rest (a, b) → Contains final (a, b)) → LikesAreIn table own lent drop keep final → out ≡ joined
     → Progress table own equals out final × (class_count out (length table) < class_count class (length table))
-turn table ok own own_fits equals class seen lent joined out pending rest final x y a b drop keep before seen_is lent_is fewer listed apart taken ea eb choice same_length join pushed kept likes out_is =
+turn table ok own own_fits equals class seen lent joined out pending rest final x y a b drop keep before seen_is
+    lent_is fewer listed apart taken ea eb choice same_length join pushed kept likes out_is =
     let i = before.within x y listed in
     let ra = root_read class (length table) x a (before.classes.fits) (i.0) ea in
     let rb = root_read class (length table) y b (before.classes.fits) (i.1) eb in
     let choice' = subst (λ (z : ℕ). IsChoice own z (get_or class y 0) drop keep) ra (subst (λ (z : ℕ). IsChoice own a z drop keep) rb choice) in
     let apart' = subst (λ (l : List ℕ). get_or l x 0 ≢ get_or l y 0) seen_is apart in
-    let taken' = subst (λ (l : List ℕ). (a b : ℕ) → Contains pending (a, b) → Contains rest (a, b) ⊎ (get_or l a 0 ≡ get_or l b 0) ⊎ (◌≡◌ {A = Option (ℕ × ℕ)} (Some (x, y)) (Some (a, b)))) seen_is taken in
+    let taken' = subst (λ (l : List ℕ). (a b : ℕ) → Contains pending (a, b) → Contains rest (a, b) ⊎ (get_or l a 0 ≡ get_or l b 0) ⊎
+    (◌≡◌ {A = Option (ℕ × ℕ)} (Some (x, y)) (Some (a, b)))) seen_is taken in
     let join' = subst (λ (l : List ℕ). IsJoined l joined drop keep) lent_is join in
     let pushed' = subst (λ (l : List ℕ). (a b : ℕ) → Contains final (a, b) → WasPushed table own l drop keep rest a b) lent_is pushed in
     let likes' = subst (λ (l : List ℕ). LikesAreIn table own l drop keep final) lent_is likes in
-    let more = progress_more table ok own own_fits equals class pending rest x y before apart' listed drop keep choice' fewer taken' joined final (same_length ∙ ap length lent_is) join' pushed' kept likes' in
-    let less = progress_ends table ok own own_fits equals class pending rest x y before apart' listed drop keep choice' fewer taken' joined final (same_length ∙ ap length lent_is) join' pushed' kept likes' in
-    (subst (λ (l : List ℕ). Progress table own equals l final) (sym out_is) more, subst (λ (l : List ℕ). class_count l (length table) < class_count class (length table)) (sym out_is) less)
+    let more = progress_more table ok own own_fits equals class pending rest x y before apart' listed drop keep choice' fewer taken' joined final
+    (same_length ∙ ap length lent_is) join' pushed' kept likes' in
+    let less = progress_ends table ok own own_fits equals class pending rest x y before apart' listed drop keep choice' fewer taken' joined final
+    (same_length ∙ ap length lent_is) join' pushed' kept likes' in (
+      subst (λ (l : List ℕ). Progress table own equals l final) (sym out_is) more,
+      subst (λ (l : List ℕ). class_count l (length table) < class_count class (length table)) (sym out_is) less,
+    )

@@ -50,7 +50,8 @@ module _ (name : Sym → List ℕ) (injective : IsInjective name) (table : List 
 
   -- the class of the like field of a source's class
   abbrev pub FieldClass : (ℕ → Type 0) → Option ℕ → ℕ → ℕ → Type 0
-  FieldClass Source kind i r = (k : ℕ) × (g : ℕ) × Source k × IsOpened own k kind i × (slice_get table g ≡ Some (field_binding kind k i)) × (get_or class g 0 ≡ r)
+  FieldClass Source kind i r = (k : ℕ) × (g : ℕ) × Source k × IsOpened own k kind i × (slice_get table g ≡ Some (field_binding kind k i))
+      × (get_or class g 0 ≡ r)
 
   -- the class of a site: that of its number, or of the like field of its source's class
   abbrev pub ClassOf : Site → ℕ → Type 0
@@ -102,7 +103,8 @@ module _ (name : Sym → List ℕ) (injective : IsInjective name) (table : List 
       → FieldClass (ClassOf t) kind i r → FieldClass (ClassOf t) kind i q → r ≡ q
   both_fields t kind i r q one (k, g, p, opened, e, d) (l, h, p', opened', e', d') =
       let same : k ≡ l = one k l p p' in
-      sym d ∙ ap (λ (z : ℕ). get_or class z 0) (ok.once (field_binding kind l i) g h (subst (λ (z : ℕ). slice_get table g ≡ Some (field_binding kind z i)) same e) e') ∙ d'
+      sym d ∙ ap (λ (z : ℕ). get_or class z 0) (ok.once (field_binding kind l i) g h
+      (subst (λ (z : ℕ). slice_get table g ≡ Some (field_binding kind z i)) same e) e') ∙ d'
 
   pub one_class : (t : Site) (r q : ℕ) → ClassOf t r → ClassOf t q → r ≡ q
   one_class (bool_site b ty) r q x y = own_one (bool_site b ty) r q x y
@@ -135,10 +137,15 @@ module _ (name : Sym → List ℕ) (injective : IsInjective name) (table : List 
   Seen (constrained t d) = (r : ℕ) × (c : Constraint) × ClassOf t r × HasOwn own r c × (test_of name c ≡ d)
 
   -- like fields of sites of one class
-  seen_fields : (t u : Site) (r : ℕ) (kind : Option ℕ) (i : ℕ) → ClassOf t r → ClassOf u r → IsOpened own r kind i → Seen (equal (field_site kind t i) (field_site kind u i))
+  seen_fields : (t u : Site) (r : ℕ) (kind : Option ℕ) (i : ℕ) → ClassOf t r → ClassOf u r → IsOpened own r kind i
+      → Seen (equal (field_site kind t i) (field_site kind u i))
   seen_fields t u r kind i p q opened =
-      let (g, e) = fields r kind i opened in
-      (get_or class g 0, field_class kind t i (get_or class g 0) (r, g, p, opened, e, refl), field_class kind u i (get_or class g 0) (r, g, q, opened, e, refl))
+      let (g, e) = fields r kind i opened in (
+        get_or class g 0,
+        field_class kind t i (get_or class g 0) (r, g, p, opened, e, refl),
+        field_class kind u i
+            (get_or class g 0) (r, g, q, opened, e, refl),
+      )
 
   pub seen : (d : Demand) → Derived D d → Seen d
   seen (constrained t d) (demanded h) =
@@ -169,21 +176,33 @@ module _ (name : Sym → List ℕ) (injective : IsInjective name) (table : List 
       c.differ (sym e ∙ ap (test_of name) (same_Some one other (sym h ∙ k')) ∙ f)
 
   -- a field under a derived test is in the class of a child
-  pub field_seen : (t w : Site) → FieldOf D t w → (r : ℕ) × (g : ℕ) × ClassOf t r × ClassOf w (get_or class g 0) × IsChildAt table own class r g (get_or class g 0)
+  pub field_seen : (t w : Site) → FieldOf D t w → (r : ℕ) × (g : ℕ) × ClassOf t r × ClassOf w (get_or class g 0)
+      × IsChildAt table own class r g (get_or class g 0)
   field_seen t w (of_variant {ty = ty} {k = v} {n = n} {i = i} d l) =
       let (r, test, p, has, e) = seen (constrained t (variant_constraint ty v n)) d in
       let opens : Opens test (Some v) i = of_variant_test name test ty v n i e l in
-      let (g, at) = fields r (Some v) i (test, has, opens) in
-      (r, g, p, inl (r, g, p, (test, has, opens), at, refl), record { test = test; kind = Some v; index = i; has = has; opened = opens; field = at; leads = refl })
+      let (g, at) = fields r (Some v) i (test, has, opens) in (
+        r,
+        g,
+        p,
+        inl (r, g, p, (test, has, opens), at, refl),
+        record { test = test; kind = Some v; index = i; has = has; opened = opens; field = at; leads = refl },
+      )
   field_seen t w (of_struct {ty = ty} {n = n} {i = i} d l) =
       let (r, test, p, has, e) = seen (constrained t (struct_constraint ty n)) d in
       let opens : Opens test None i = of_struct_test name test ty n i e l in
-      let (g, at) = fields r None i (test, has, opens) in
-      (r, g, p, inl (r, g, p, (test, has, opens), at, refl), record { test = test; kind = None; index = i; has = has; opened = opens; field = at; leads = refl })
+      let (g, at) = fields r None i (test, has, opens) in (
+        r,
+        g,
+        p,
+        inl (r, g, p, (test, has, opens), at, refl),
+        record { test = test; kind = None; index = i; has = has; opened = opens; field = at; leads = refl },
+      )
 
   module _ (ranked : IsRanked table own class) where
     lower_class : (t u : Site) → Inside D t u → (r : ℕ) × (q : ℕ) × ClassOf t r × ClassOf u q × (ranked.rank q < ranked.rank r)
-    lower_class t u (directly f) = let (r, g, p, q, child) = field_seen t u f in (r, get_or class g 0, p, q, ranked.falls r g (get_or class g 0) child)
+    lower_class t u (directly f) = let (r, g, p, q, child) = field_seen t u f in
+        (r, get_or class g 0, p, q, ranked.falls r g (get_or class g 0) child)
     lower_class t u (further_in {u = w} j f) =
         let (r, s, p, q, low) = lower_class t w j in
         let (k, g, x, y, child) = field_seen w u f in

@@ -3,11 +3,11 @@ use Rattle.std.proofs.Common.{◌≡◌, ◌++◌, inl, inr, ℕ, List, [], ◌�
 use Rattle.std.specs.Prelude.{Contains}
 use Rattle.isle_types.proofs.RootedTables.{Contains-map}
 use Rattle.isle_types.specs.declared.ids.Sym.{Sym}
-use Rattle.isle_terms.specs.TypedRules.{TypedRule}
+use Rattle.isle_rules.specs.TypedRules.{TypedRule}
 use Rattle.isle_meaning.specs.Facts.{TermFacts}
 use Rattle.isle_meaning.specs.Sites.{Site}
 use Rattle.isle_meaning.specs.Demands.{constrained, demands_of}
-use Rattle.isle_meaning.specs.Laws.Matching.{DemandOf}
+use Rattle.isle_meaning.specs.Demands.{DemandOf}
 use Rattle.isle_meaning.specs.Needs.{needs_of, IsNeeded, FieldsAreNeeded}
 use Rattle.isle_meaning.specs.Numbered.{Row, At, AreRecorded}
 use Rattle.isle_meaning.proofs.Matching.Needing.{needs_have_fields}
@@ -37,7 +37,11 @@ needed_stands base needed rows begin s h = absurd h
 needed_stands base needed rows (next {needed = sites} {old = old} new site row j before is put) s h =
     needed_cases sites s site h ((k : ℕ) × At rows s k)
     (λ k. let (i, p) = needed_stands base sites old before s k in (i, at_grown old rows (put_grown old row j rows put) s i p))
-    (λ e. (j, subst (λ (z : Site). At rows z j) (sym e) (entry_at old rows (put_grown old row j rows put) site row j is (put_there old row j rows put))))
+    (λ e. (
+      j,
+      subst (λ (z : Site). At rows z j) (sym e) (entry_at old rows (put_grown old row j rows put) site row j is
+          (put_there old row j rows put)),
+    ))
 
 -- a field that a test opens is one of the fields that are needed
 opened_needed : (name : Sym → List ℕ) (N : Site → Type 0) (s : Site) (c : Constraint) (kind : Option ℕ) (i : ℕ)
@@ -64,7 +68,8 @@ module _ (name : Sym → List ℕ) (injective : IsInjective name) (facts : TermF
   field_stands : (a : BindingId) (c : Constraint) (kind : Option ℕ) (i : ℕ) → Contains has (a, c) → Opens c kind i → HasField table kind a.0 i
   field_stands a c kind i h opens =
       let (s, p, d) = tested a c h in
-      let need = opened_needed name (IsNeeded (needs_of facts rule)) s c kind i (needs_have_fields facts rule (constrained s (test_of name c)) d) opens in
+      let need = opened_needed name (IsNeeded (needs_of facts rule)) s c kind i
+      (needs_have_fields facts rule (constrained s (test_of name c)) d) opens in
       let (f, q) = stand (field_site kind s i) need in
       let (b, e, r) = at_field name table injective kind s i f q in
       (f, subst (λ (z : ℕ). slice_get table f ≡ Some (field_binding kind z i)) (one_number name table injective table_ok s b a.0 r p) e)

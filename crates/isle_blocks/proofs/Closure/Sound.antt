@@ -52,9 +52,11 @@ module _ (own : List (Option Constraint)) (equals : List (ℕ × ℕ)) (table : 
   pub sound_more : IsSound name (table ++ field_binding kind s i ∷ []) D (class ++ get_or class f 0 ∷ [])
   sound_more a h t u p q =
       let low = root_below own equals table class state s kind i f needed a h in
-      let at_u : At (rows_of name table) u (get_or (class ++ get_or class f 0 ∷ []) a 0) = back u (get_or (class ++ get_or class f 0 ∷ []) a 0) q low in
+      let at_u : At (rows_of name table) u (get_or (class ++ get_or class f 0 ∷ []) a 0) =
+      back u (get_or (class ++ get_or class f 0 ∷ []) a 0) q low in
       elim (below_cases own equals table class state s kind i f needed a h) [
-        | inl l ↦ sound a l t u (back t a p l) (subst (λ (z : ℕ). At (rows_of name table) u z) (class_old own equals table class state s kind i f needed a l) at_u)
+        | inl l ↦ sound a l t u (back t a p l) (subst (λ (z : ℕ). At (rows_of name table) u z)
+            (class_old own equals table class state s kind i f needed a l) at_u)
         | inr e ↦ new_sound t u (subst (λ (z : ℕ). At (rows_of name longer) t z) e p)
             (subst (λ (z : ℕ). At (rows_of name table) u z)
             (ap (λ (z : ℕ). get_or (class ++ get_or class f 0 ∷ []) z 0) e ∙ class_new own equals table class state s kind i f needed) at_u)

@@ -15,21 +15,24 @@ use Rattle.isle_blocks.specs.declared.ids.BindingId.{BindingId}
 use Rattle.isle_blocks.specs.declared.ids.TupleIndex.{TupleIndex}
 use Rattle.isle_blocks.specs.declared.binding.Binding.{Binding}
 use Rattle.isle_blocks.specs.declared.binding.Binding.TheVariants as sites
-use Rattle.isle_blocks.specs.Bindings.{sources_of}
+use Rattle.isle_blocks.specs.Tables.{sources_of}
 use Rattle.isle_blocks.specs.Rows.{IsInjective, numbers_of, row_of, rows_of}
 use Rattle.isle_blocks.specs.Inside.ClosureFields.{field_binding, field_site}
 use Rattle.isle_blocks.specs.Tables.{IsTable}
 use Rattle.isle_blocks.proofs.Rows.RowsInjective.{row-injective}
 
-pub field_parts : (kind : Option ℕ) (s i : ℕ) (other : Option ℕ) (t j : ℕ) → field_binding kind s i ≡ field_binding other t j → (s ≡ t) × (kind ≡ other) × (i ≡ j)
+pub field_parts : (kind : Option ℕ) (s i : ℕ) (other : Option ℕ) (t j : ℕ) → field_binding kind s i ≡ field_binding other t j
+    → (s ≡ t) × (kind ≡ other) × (i ≡ j)
 field_parts (Some v) s i (Some w) t j e =
-    let p : ◌≡◌ {A = BindingId} (record { 0 = s }) (record { 0 = t }) = cc in let q : ◌≡◌ {A = VariantId} (record { 0 = v }) (record { 0 = w }) = cc in
+    let p : ◌≡◌ {A = BindingId} (record { 0 = s }) (record { 0 = t }) = cc in let q : ◌≡◌ {A = VariantId}
+    (record { 0 = v }) (record { 0 = w }) = cc in
     let r : ◌≡◌ {A = TupleIndex} (record { 0 = i }) (record { 0 = j }) = cc in
     (ap (λ (x : BindingId). x.0) p, ap (λ (x : VariantId). Some x.0) q, ap (λ (x : TupleIndex). x.0) r)
 field_parts (Some v) s i None t j e = absurd cc
 field_parts None s i (Some w) t j e = absurd cc
 field_parts None s i None t j e =
-    let p : ◌≡◌ {A = BindingId} (record { 0 = s }) (record { 0 = t }) = cc in let r : ◌≡◌ {A = TupleIndex} (record { 0 = i }) (record { 0 = j }) = cc in
+    let p : ◌≡◌ {A = BindingId} (record { 0 = s }) (record { 0 = t }) = cc in let r : ◌≡◌ {A = TupleIndex}
+    (record { 0 = i }) (record { 0 = j }) = cc in
     (ap (λ (x : BindingId). x.0) p, refl, ap (λ (x : TupleIndex). x.0) r)
 
 pub field_source : (kind : Option ℕ) (s i : ℕ) → Contains (sources_of (field_binding kind s i)) (record { 0 = s })
@@ -70,14 +73,16 @@ module _ (name : Sym → List ℕ) (table : List Binding) where
   pub at_below : (s : Site) (k : ℕ) → At rows s k → k < length table
   at_below s k p = let (row, e) = at_row s k p in let (b, q, r) = get_row k row e in slice_get_within table k b q
 
-  pub field_at : (kind : Option ℕ) (a i f : ℕ) (t : Site) → slice_get table f ≡ Some (field_binding kind a i) → At rows t a → At rows (field_site kind t i) f
+  pub field_at : (kind : Option ℕ) (a i f : ℕ) (t : Site) → slice_get table f ≡ Some (field_binding kind a i)
+      → At rows t a → At rows (field_site kind t i) f
   field_at (Some v) a i f t e p = (a, row_get f _ e, p)
   field_at None a i f t e p = (a, row_get f _ e, p)
 
   module _ (injective : IsInjective name) where
     pub at_field : (kind : Option ℕ) (t : Site) (i f : ℕ) → At rows (field_site kind t i) f
         → (a : ℕ) × (slice_get table f ≡ Some (field_binding kind a i)) × At rows t a
-    at_field (Some v) t i f (a, e, p) = let (b, q, r) = get_row f _ e in (a, q ∙ ap Some (row-injective name injective b (field_binding (Some v) a i) r), p)
+    at_field (Some v) t i f (a, e, p) = let (b, q, r) = get_row f _ e in
+        (a, q ∙ ap Some (row-injective name injective b (field_binding (Some v) a i) r), p)
     at_field None t i f (a, e, p) = let (b, q, r) = get_row f _ e in (a, q ∙ ap Some (row-injective name injective b (field_binding None a i) r), p)
 
     module _ (ok : IsTable table) where
@@ -128,13 +133,15 @@ module _ (name : Sym → List ℕ) (table : List Binding) where
     Standing a = (s : Site) × At rows s a
 
     -- sites for a list of parts
-    all_stand : (parts : List BindingId) → ((part : BindingId) → Contains parts part → Standing part.0) → (ss : Sites) × AtAll rows ss (numbers_of parts)
+    all_stand : (parts : List BindingId) → ((part : BindingId) → Contains parts part → Standing part.0) → (ss : Sites)
+        × AtAll rows ss (numbers_of parts)
     all_stand [] each = (no_sites, tt)
     all_stand (x ∷ xs) each =
         let (s, p) = each x (0, omega arith, refl) in
         let (ss, q) = all_stand xs (λ y h. each y (suc h.0, omega (arith, h.1), h.2)) in (more_sites s ss, (p, q))
 
-    of_binding : (k : ℕ) (b : Binding) → slice_get table k ≡ Some b → ((part : BindingId) → Contains (sources_of b) part → Standing part.0) → Standing k
+    of_binding : (k : ℕ) (b : Binding) → slice_get table k ≡ Some b → ((part : BindingId) → Contains (sources_of b) part → Standing part.0)
+        → Standing k
     of_binding k (sites.ConstBool v t) e each = (bool_site v t.0, row_get k _ e)
     of_binding k (sites.ConstInt v t) e each = (int_site v t.0, row_get k _ e)
     of_binding k (sites.ConstPrim v) e each = (prim_site (name v), row_get k _ e)
@@ -154,7 +161,8 @@ module _ (name : Sym → List ℕ) (table : List Binding) where
     stands_below : (n a : ℕ) → a < n → a < length table → Standing a
     stands_below zero a h l = absurd (omega arith)
     stands_below (suc n) a h l = elim (slice_get_cases table a).1 [
-      | inl (b, q, e, g) ↦ of_binding a b e (λ part inside. let low = ok.earlier a b part e inside in stands_below n part.0 (omega arith) (omega arith))
+      | inl (b, q, e, g) ↦ of_binding a b e (λ part inside. let low = ok.earlier a b part e inside in
+          stands_below n part.0 (omega arith) (omega arith))
       | inr (q, e) ↦ absurd (omega arith)
     ]
 

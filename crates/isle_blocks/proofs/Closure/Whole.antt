@@ -125,7 +125,8 @@ module _ (name : Sym → List ℕ) (injective : IsInjective name) (old : List Bi
   added_fields table class Still k h l = absurd (omega arith)
   added_fields table class (Added {u = w} {d = e} s kind i f g needed) k h l =
       let table' = w ++ field_binding kind s i ∷ [] in
-      let kept : (j : ℕ) (b : Binding) → slice_get w j ≡ Some b → slice_get table' j ≡ Some b = λ j b x. slice_get-kept w (field_binding kind s i ∷ []) j b x in
+      let kept : (j : ℕ) (b : Binding) → slice_get w j ≡ Some b → slice_get table' j ≡ Some b =
+      λ j b x. slice_get-kept w (field_binding kind s i ∷ []) j b x in
       elim (cases_lt k (length w)) [
         | inl less ↦ let (t, u, is, p) = added_fields w e g k h less in (t, u, is, stays name w table' kept u k p)
         | inr more ↦
@@ -199,7 +200,8 @@ module _ (name : Sym → List ℕ) (injective : IsInjective name) (old : List Bi
       each_at a t p = let s = after table class grows in let e = s.classes.fits in let l = at_below name table t a p in spread a (omega arith)
 
       -- sites of one class are equal
-      class_equal : (a b : ℕ) (t u : Site) → At (rows_of name table) t a → At (rows_of name table) u b → get_or class a 0 ≡ get_or class b 0 → AreEqual D t u
+      class_equal : (a b : ℕ) (t u : Site) → At (rows_of name table) t a → At (rows_of name table) u b → get_or class a 0 ≡ get_or class b 0
+          → AreEqual D t u
       class_equal a b t u p q e =
           let s = after table class grows in
           let a_in = at_below name table t a p in let b_in = at_below name table u b q in
@@ -208,7 +210,8 @@ module _ (name : Sym → List ℕ) (injective : IsInjective name) (old : List Bi
           let from_w = sound_after table class grows b b_in u w q (subst (λ (z : ℕ). At (rows_of name table) w z) e r) in
           equal_chain D t w u to_w (equal_back D u w from_w)
 
-      equal_class : (a b : ℕ) (t u : Site) → At (rows_of name table) t a → At (rows_of name table) u b → AreEqual D t u → get_or class a 0 ≡ get_or class b 0
+      equal_class : (a b : ℕ) (t u : Site) → At (rows_of name table) t a → At (rows_of name table) u b → AreEqual D t u
+          → get_or class a 0 ≡ get_or class b 0
       equal_class a b t u p q (inl e) = same_class u a b (subst (λ (z : Site). At (rows_of name table) z a) e p) q
       equal_class a b t u p q (inr d) = let (x, y, r, s, e) = pairs_shown t u d in same_class t a x p r ∙ e ∙ same_class u y b s q
 
@@ -227,7 +230,8 @@ module _ (name : Sym → List ℕ) (injective : IsInjective name) (old : List Bi
             let low = s.classes.below a (omega arith) in let flat = s.classes.flat a (omega arith) in
             spread a h ∙ sym (spread (get_or class a 0) (omega arith) ∙ ap (λ (z : ℕ). get_or own z None) flat);
         tested = λ a t d p. (
-          λ (c, h, e). subst (λ (z : meaning.Constraint). Derived D (constrained t z)) e (class_has table class grows a t c p (sym (each_at a t p) ∙ h)),
+          λ (c, h, e). subst (λ (z : meaning.Constraint). Derived D (constrained t z)) e
+              (class_has table class grows a t c p (sym (each_at a t p) ∙ h)),
           λ h. let (b, c, q, has_c, e) = tests_shown t d h in
               (c, each_at a t p ∙ subst (λ (z : ℕ). HasOwn own z c) (same_class t b a q p) has_c, e),
         );

@@ -7,7 +7,8 @@ use Rattle.isle_blocks.specs.declared.binding.Binding.{Binding}
 use Rattle.isle_blocks.specs.Tables.{IsInterned, IsFull}
 use Rattle.isle_blocks.specs.Inside.MovedSites.{new_number, renumbered, MovesSites, next_site_moved, EndsFull}
 
-pub moved_more : (base own : List Binding) (i : ℕ) (site moved : Binding) (numbers more : List BindingId) (id : BindingId) (table after : List Binding)
+pub moved_more : (base own : List Binding) (i : ℕ) (site moved : Binding) (numbers more : List BindingId)
+    (id : BindingId) (table after : List Binding)
     → i < length own → site ≡ get_or own i site → MovesSites base (take i own) numbers table → moved ≡ renumbered (new_number numbers) site
     → IsInterned table moved id after → more ≡ numbers ++ id ∷ [] → MovesSites base (take (i + 1) own) more after
 moved_more base own i site moved numbers more id table after l e m r interned p =

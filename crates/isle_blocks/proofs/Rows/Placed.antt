@@ -16,7 +16,7 @@ use Rattle.isle_blocks.specs.declared.ids.BindingId.{BindingId}
 use Rattle.isle_blocks.specs.declared.binding.Binding.{Binding}
 use Rattle.isle_blocks.specs.declared.binding.Binding.TheVariants as sites
 use Rattle.isle_blocks.specs.declared.constraint.Constraint.{Constraint}
-use Rattle.isle_blocks.specs.Bindings.{sources_of}
+use Rattle.isle_blocks.specs.Tables.{sources_of}
 use Rattle.isle_blocks.specs.Rows.{IsInjective, row_of, rows_of, numbers_of, test_of, constraints_of, pairs_of}
 use Rattle.isle_blocks.specs.Inside.RowTables as entries
 use Rattle.isle_blocks.specs.Inside.RowTables.{sources}
@@ -103,7 +103,8 @@ longer : (own : List Row) (row : Row) (j : ℕ) → j < length own → j < lengt
 longer own row j h = let l = length_pushed own row in omega arith
 
 place_old : (numbers : List ℕ) (n j : ℕ) → j < length numbers → place_in (numbers ++ n ∷ []) j ≡ place_in numbers j
-place_old numbers n j h = rw (slice_get-kept numbers (n ∷ []) j (get_or numbers j 0) (slice_get-get_or numbers j 0 h)) (rw (slice_get-get_or numbers j 0 h) refl)
+place_old numbers n j h = rw (slice_get-kept numbers (n ∷ []) j (get_or numbers j 0) (slice_get-get_or numbers j 0 h))
+    (rw (slice_get-get_or numbers j 0 h) refl)
 
 pub place_new : (numbers : List ℕ) (n : ℕ) → place_in (numbers ++ n ∷ []) (length numbers) ≡ n
 place_new numbers n = rw (slice_get-last numbers n) refl
@@ -131,7 +132,8 @@ covered {base = base} (next_moved {own = own} {numbers = numbers} {table = table
       )
     ]
 
-module _ (base own after : List Binding) (numbers : List BindingId) (moves : MovesSites base own numbers after) (base_ok : IsTable base) (own_ok : IsTable own)
+module _ (base own after : List Binding) (numbers : List BindingId) (moves : MovesSites base own numbers after)
+    (base_ok : IsTable base) (own_ok : IsTable own)
     (name : Sym → List ℕ) (injective : IsInjective name) where
   to : ℕ → ℕ
   to = place_in (numbers_of numbers)
@@ -140,7 +142,8 @@ module _ (base own after : List Binding) (numbers : List BindingId) (moves : Mov
   kept = moves_keep (early_rows name own own_ok) (moved_rows name injective moves)
 
   pub after_ok : IsTable after
-  after_ok = table_rows name after (moves_table (early_rows name own own_ok) (rows_table name base injective base_ok) (moved_rows name injective moves))
+  after_ok = table_rows name after (moves_table (early_rows name own own_ok) (rows_table name base injective base_ok)
+      (moved_rows name injective moves))
 
   -- a site's new number stands for it
   pub to_at : (s : Site) (k : ℕ) → At (rows_of name own) s k → At (rows_of name after) s (place_in (numbers_of numbers) k)
@@ -149,7 +152,8 @@ module _ (base own after : List Binding) (numbers : List BindingId) (moves : Mov
   -- the site of a number
   pub numbered_at : (s : Site) (k : ℕ) (id : BindingId) → slice_get numbers k ≡ Some id → At (rows_of name own) s k → At (rows_of name after) s id.0
   numbered_at s k id at p =
-      let here : place_in (numbers_of numbers) k ≡ id.0 = sym (new_place numbers (record { 0 = k })) ∙ ap (λ (o : Option BindingId). (unwrap_or o (record { 0 = k })).0) at in
+      let here : place_in (numbers_of numbers) k ≡ id.0 = sym (new_place numbers (record { 0 = k })) ∙ ap
+      (λ (o : Option BindingId). (unwrap_or o (record { 0 = k })).0) at in
       subst (λ (z : ℕ). At (rows_of name after) s z) here (to_at s k p)
 
   pub numbers_fit : length numbers ≡ length own
@@ -169,10 +173,13 @@ module _ (base own after : List Binding) (numbers : List BindingId) (moves : Mov
   -- demands stay recorded
   pub still_recorded : (has : List (BindingId × Constraint)) (same : List (BindingId × BindingId)) (ds : List Demand)
       → AreRecorded (rows_of name own) (constraints_of name has) (pairs_of same) ds
-      → AreRecorded (rows_of name after) (constraints_of name (map (moved_test (new_number numbers)) has)) (pairs_of (map (moved_pair (new_number numbers)) same)) ds
+      → AreRecorded (rows_of name after) (constraints_of name (map (moved_test (new_number numbers)) has))
+      (pairs_of (map (moved_pair (new_number numbers)) same)) ds
   still_recorded has same ds are =
-      let moved = moved_recorded (rows_of name own) (rows_of name after) (place_in (numbers_of numbers)) (constraints_of name has) (pairs_of same) ds kept are in
-      subst (λ z. AreRecorded (rows_of name after) z (pairs_of (map (moved_pair (new_number numbers)) same)) ds) (sym (constraints_moved name numbers has))
+      let moved = moved_recorded (rows_of name own) (rows_of name after) (place_in (numbers_of numbers)) (constraints_of name has)
+      (pairs_of same) ds kept are in
+      subst (λ z. AreRecorded (rows_of name after) z (pairs_of (map (moved_pair (new_number numbers)) same)) ds)
+      (sym (constraints_moved name numbers has))
       (subst (λ z. AreRecorded (rows_of name after) (moved_constraints (place_in (numbers_of numbers)) (constraints_of name has)) z ds)
       (sym (pairs_moved numbers same)) moved)
 
@@ -222,7 +229,8 @@ module _ (base own after : List Binding) (numbers : List BindingId) (moves : Mov
 
   pub grown : (k : ℕ) (b : Binding) → slice_get base k ≡ Some b → slice_get after k ≡ Some b
   grown k b e =
-      let (x, p, same) = get_row name after k (row_of name b) (moves_grow (moved_rows name injective moves) k (row_of name b) (row_get name base k b e)) in
+      let (x, p, same) = get_row name after k (row_of name b)
+      (moves_grow (moved_rows name injective moves) k (row_of name b) (row_get name base k b e)) in
       p ∙ ap Some (row-injective name injective x b same)
 
   -- what stood in the table stands there
@@ -243,7 +251,8 @@ module _ (base own after : List Binding) (numbers : List BindingId) (moves : Mov
   ]
 
 -- each of the rule's sites has a number of its own, a test and a representative
-pub settled : (base own grown table : List Binding) (numbers : List BindingId) (has : List (BindingId × Constraint)) (same : List (BindingId × BindingId))
+pub settled : (base own grown table : List Binding) (numbers : List BindingId) (has : List (BindingId × Constraint))
+    (same : List (BindingId × BindingId))
     (each : List (Option Constraint)) (class : List ℕ) → MovesSites base grown numbers table → IsTable base
     → IsClosure by_number (demanded_in by_number own has (pairs_of same)) own grown each class → AreSettled numbers each class
 settled base own grown table numbers has same each class moved base_ok closure =

@@ -40,15 +40,19 @@ module _ (name : Sym → List ℕ) (table : List Binding) (has : List (BindingId
 
   pub field_recorded : (s u : Site) → FieldOf (demanded_in name table has (pairs_of same)) s u → FieldOf (Among ds) s u
   field_recorded s u (of_variant {ty = ty} {k = k} {n = n} d l) =
-      of_variant (((numbers_say_demands (rows_of name table) (constraints_of name has) (pairs_of same) ds are).0 (constrained s (variant_constraint ty k n))).0 d) l
+      of_variant (((numbers_say_demands (rows_of name table) (constraints_of name has) (pairs_of same) ds are).0
+      (constrained s (variant_constraint ty k n))).0 d) l
   field_recorded s u (of_struct {ty = ty} {n = n} d l) =
-      of_struct (((numbers_say_demands (rows_of name table) (constraints_of name has) (pairs_of same) ds are).0 (constrained s (struct_constraint ty n))).0 d) l
+      of_struct (((numbers_say_demands (rows_of name table) (constraints_of name has) (pairs_of same) ds are).0
+      (constrained s (struct_constraint ty n))).0 d) l
 
   pub recorded_field : (s u : Site) → FieldOf (Among ds) s u → FieldOf (demanded_in name table has (pairs_of same)) s u
   recorded_field s u (of_variant {ty = ty} {k = k} {n = n} d l) =
-      of_variant (((numbers_say_demands (rows_of name table) (constraints_of name has) (pairs_of same) ds are).0 (constrained s (variant_constraint ty k n))).1 d) l
+      of_variant (((numbers_say_demands (rows_of name table) (constraints_of name has) (pairs_of same) ds are).0
+      (constrained s (variant_constraint ty k n))).1 d) l
   recorded_field s u (of_struct {ty = ty} {n = n} d l) =
-      of_struct (((numbers_say_demands (rows_of name table) (constraints_of name has) (pairs_of same) ds are).0 (constrained s (struct_constraint ty n))).1 d) l
+      of_struct (((numbers_say_demands (rows_of name table) (constraints_of name has) (pairs_of same) ds are).0
+      (constrained s (struct_constraint ty n))).1 d) l
 
 -- the beginning of a table is one
 prefix_ok : (own : List Binding) → IsTable own → (n : ℕ) → IsTable (take n own)
@@ -58,8 +62,10 @@ prefix_ok own ok n = record {
 }
 
 -- a site that is put behind a table has no number in it
-placed_last : (base first after : List Binding) (numbers : List BindingId) → MovesSites base first numbers after → (site : Binding) (more : List Binding)
-    (id : BindingId) → MovesSites base (first ++ site ∷ []) (numbers ++ id ∷ []) more → (base_ok : IsTable base) (second_ok : IsTable (first ++ site ∷ []))
+placed_last : (base first after : List Binding) (numbers : List BindingId) → MovesSites base first numbers after
+    → (site : Binding) (more : List Binding)
+    (id : BindingId) → MovesSites base (first ++ site ∷ []) (numbers ++ id ∷ []) more
+    → (base_ok : IsTable base) (second_ok : IsTable (first ++ site ∷ []))
     (name : Sym → List ℕ) → IsInjective name → (t : Site) (k place : ℕ) → length first ≡ place → id.0 ≡ length after
     → At (rows_of name (first ++ site ∷ [])) t place → At (rows_of name more) t k → k < length after → ⊥
 placed_last base first after numbers moves site more id moved base_ok second_ok name injective t k place len last at p low =
@@ -86,7 +92,8 @@ pub stays_put : (name : Sym → List ℕ) (injective : IsInjective name) (base o
     → MovesSites base own numbers after → IsTable base → IsTable own
     → ((s : Site) (k : ℕ) → At (rows_of name own) s k → Stands (rows_of name base) s) → after ≡ base
 stays_put name injective base own after numbers no_sites_moved base_ok own_ok there = refl
-stays_put name injective base own after numbers (next_site_moved {own = first} {numbers = ids} {table = before} site id more moves put) base_ok own_ok there =
+stays_put name injective base own after numbers (next_site_moved {own = first} {numbers = ids} {table = before} site id more moves put)
+    base_ok own_ok there =
     let first_ok = before_ok first site own_ok in
     let same : before ≡ base = stays_put name injective base first before ids moves base_ok first_ok
     (λ s k p. there s k (stays name first (first ++ site ∷ []) (λ i b e. slice_get-kept first (site ∷ []) i b e) s k p)) in
@@ -101,9 +108,11 @@ stays_put name injective base own after numbers (next_site_moved {own = first} {
           (subst (λ (l : List Binding). k < length l) (sym same) (at_below name base t k p)))
     ]
 
-module _ (base own : List Binding) (base_ok : IsTable base) (own_ok : IsTable own) (name : Sym → List ℕ) (injective : IsInjective name) (ds : List Demand) where
+module _ (base own : List Binding) (base_ok : IsTable base) (own_ok : IsTable own) (name : Sym → List ℕ) (injective : IsInjective name)
+    (ds : List Demand) where
   -- what the closed table has no room for
-  pub closing_lacks_room : (after : List Binding) (numbers : List BindingId) → MovesSites base own numbers after → (has : List (BindingId × Constraint))
+  pub closing_lacks_room : (after : List Binding) (numbers : List BindingId) → MovesSites base own numbers after
+      → (has : List (BindingId × Constraint))
       (same : List (BindingId × BindingId)) → AreRecorded (rows_of name after) (constraints_of name has) (pairs_of same) ds
       → HasNoRoom (demanded_in name after has (pairs_of same)) (rows_of name after) → HasNoRoomFor name ds base own
   closing_lacks_room after numbers moves has same are lacks rows fits has_base has_own has_fields =
@@ -128,9 +137,11 @@ module _ (base own : List Binding) (base_ok : IsTable base) (own_ok : IsTable ow
       let put : IsInterned after (renumbered (new_number ends.numbers) ends.site) id more = inr (ends.full.0, refl, refl) in
       let moved : MovesSites base (first ++ ends.site ∷ []) (ends.numbers ++ id ∷ []) more = next_site_moved ends.site id more moves put in
       let second_ok : IsTable (first ++ ends.site ∷ []) = subst IsTable here (prefix_ok own own_ok (ends.place + 1)) in
-      let missing : (k : ℕ) → At (rows_of name after) t k → ⊥ = λ k p. placed_last base first after ends.numbers moves ends.site more id moved base_ok second_ok name injective t k ends.place
+      let missing : (k : ℕ) → At (rows_of name after) t k → ⊥ = λ k p. placed_last base first after ends.numbers
+      moves ends.site more id moved base_ok second_ok name injective t k ends.place
       (length-take-le ends.place own (omega arith)) refl
-      (stood name (first ++ ends.site ∷ []) own (λ i b e. from_take own (ends.place + 1) i b (subst (λ (l : List Binding). slice_get l i ≡ Some b) (sym here) e))
+      (stood name (first ++ ends.site ∷ []) own (λ i b e. from_take own (ends.place + 1) i b
+      (subst (λ (l : List Binding). slice_get l i ≡ Some b) (sym here) e))
       second_ok t ends.place at_t (let l = length-take-le ends.place own (omega arith) in simp length-append (omega arith)))
       (stays name after more (λ i b e. slice_get-kept after (renumbered (new_number ends.numbers) ends.site ∷ []) i b e) t k p)
       (at_below name after t k p) in
@@ -141,7 +152,8 @@ module _ (base own : List Binding) (base_ok : IsTable base) (own_ok : IsTable ow
       ])
       (has_own t (ends.place, at_t))
 
-module _ (base own : List Binding) (base_ok : IsTable base) (own_ok : IsTable own) (name : Sym → List ℕ) (injective : IsInjective name) (ds : List Demand)
+module _ (base own : List Binding) (base_ok : IsTable base) (own_ok : IsTable own) (name : Sym → List ℕ) (injective : IsInjective name)
+    (ds : List Demand)
     (has : List (BindingId × Constraint)) (same : List (BindingId × BindingId))
     (are : AreRecorded (rows_of name own) (constraints_of name has) (pairs_of same) ds) where
   -- what the rule's own fields have no room for
@@ -171,9 +183,11 @@ module _ (base own : List Binding) (base_ok : IsTable base) (own_ok : IsTable ow
       (λ s (k, p). elim (grown_site grown each class closure s k p) [ inl x ↦ has_own s x | inr (t, f) ↦ has_fields t s f ])
 
 -- a table closed over a rule's sites has grown by these and by fields alone
-pub closed_grows : (name : Sym → List ℕ) (injective : IsInjective name) (ds : List Demand) (base own between table : List Binding) (numbers : List BindingId)
+pub closed_grows : (name : Sym → List ℕ) (injective : IsInjective name) (ds : List Demand) (base own between table : List Binding)
+    (numbers : List BindingId)
     (has : List (BindingId × Constraint)) (same : List (BindingId × BindingId)) (each : List (Option Constraint)) (class : List ℕ)
-    → MovesSites base own numbers between → IsTable base → IsTable own → AreRecorded (rows_of name between) (constraints_of name has) (pairs_of same) ds
+    → MovesSites base own numbers between → IsTable base → IsTable own → AreRecorded (rows_of name between)
+    (constraints_of name has) (pairs_of same) ds
     → IsClosure name (demanded_in name between has (pairs_of same)) between table each class → GrowsFor name ds base own table
 closed_grows name injective ds base own between table numbers has same each class moved base_ok own_ok recorded closure = record {
   sites = closure.sites;

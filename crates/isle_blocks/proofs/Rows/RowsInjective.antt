@@ -18,8 +18,10 @@ numbers-injective (x ∷ xs) (y ∷ ys) e =
 
 module _ (name : Sym → List ℕ) (injective : IsInjective name) where
   pub row-injective : (a b : Binding) → row_of name a ≡ row_of name b → a ≡ b
-  row-injective (sites.ConstBool v s) (sites.ConstBool w t) e = let p : v ≡ w = cc in let q : s.0 ≡ t.0 = cc in λ i. sites.ConstBool (p i) (record { 0 = q i })
-  row-injective (sites.ConstInt v s) (sites.ConstInt w t) e = let p : v ≡ w = cc in let q : s.0 ≡ t.0 = cc in λ i. sites.ConstInt (p i) (record { 0 = q i })
+  row-injective (sites.ConstBool v s) (sites.ConstBool w t) e = let p : v ≡ w = cc in let q : s.0 ≡ t.0 = cc in
+      λ i. sites.ConstBool (p i) (record { 0 = q i })
+  row-injective (sites.ConstInt v s) (sites.ConstInt w t) e = let p : v ≡ w = cc in let q : s.0 ≡ t.0 = cc in
+      λ i. sites.ConstInt (p i) (record { 0 = q i })
   row-injective (sites.ConstPrim v) (sites.ConstPrim w) e = let p : name v ≡ name w = cc in ap sites.ConstPrim (injective v w p)
   row-injective (sites.Argument v) (sites.Argument w) e = let p : v.0 ≡ w.0 = cc in λ i. sites.Argument (record { 0 = p i })
   row-injective (sites.Extractor s a) (sites.Extractor t b) e =
@@ -51,8 +53,10 @@ module _ (name : Sym → List ℕ) (injective : IsInjective name) where
       λ i. tests.Variant (record { 0 = p i }) (record { 0 = q i }) (record { 0 = r i })
   test-injective (tests.Struct s f) (tests.Struct t g) e =
       let p : s.0 ≡ t.0 = cc in let r : f.0 ≡ g.0 = cc in λ i. tests.Struct (record { 0 = p i }) (record { 0 = r i })
-  test-injective (tests.ConstBool v s) (tests.ConstBool w t) e = let p : v ≡ w = cc in let q : s.0 ≡ t.0 = cc in λ i. tests.ConstBool (p i) (record { 0 = q i })
-  test-injective (tests.ConstInt v s) (tests.ConstInt w t) e = let p : v ≡ w = cc in let q : s.0 ≡ t.0 = cc in λ i. tests.ConstInt (p i) (record { 0 = q i })
+  test-injective (tests.ConstBool v s) (tests.ConstBool w t) e = let p : v ≡ w = cc in let q : s.0 ≡ t.0 = cc in
+      λ i. tests.ConstBool (p i) (record { 0 = q i })
+  test-injective (tests.ConstInt v s) (tests.ConstInt w t) e = let p : v ≡ w = cc in let q : s.0 ≡ t.0 = cc in
+      λ i. tests.ConstInt (p i) (record { 0 = q i })
   test-injective (tests.ConstPrim v) (tests.ConstPrim w) e = let p : name v ≡ name w = cc in ap tests.ConstPrim (injective v w p)
   test-injective tests.Some tests.Some e = refl
   test-injective a b e = absurd cc

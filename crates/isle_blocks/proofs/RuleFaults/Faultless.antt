@@ -4,12 +4,12 @@ use Rattle.std.proofs.lemmas.Bool.{cases_eq}
 use Rattle.std.proofs.lemmas.Option.{same_Some, none-some}
 use Rattle.std.proofs.lemmas.List.{length-map}
 use Rattle.std.proofs.lemmas.List.Sorted.{length_permutation}
-use Rattle.isle_syntax.specs.declared.error.Error.{Error}
+use Rattle.isle_ast.specs.declared.error.Error.{Error}
 use Rattle.isle_types.specs.declared.ids.TermId.{TermId}
 use Rattle.isle_types.proofs.Zipped.{zipped_at, all_at}
 use Rattle.isle_types.proofs.Lists.{slice_get-pushed}
-use Rattle.isle_terms.specs.TypedRules.{TypedRule}
-use Rattle.isle_terms.specs.Shown.TermTables.{TermTables}
+use Rattle.isle_rules.specs.TypedRules.{TypedRule}
+use Rattle.isle_rules.specs.Shown.TermTables.{TermTables}
 use Rattle.isle_meaning.specs.Facts.{TermFacts}
 use Rattle.isle_blocks.specs.declared.faults.Fault.{Fault}
 use Rattle.isle_blocks.specs.declared.faults.Fault.TheVariants.{Overlap, Shadow}
@@ -66,19 +66,23 @@ module _ (facts : TermFacts) where
       }
 
 -- groups are made of pairs
-no_groups : (fault : Fault) (rules : List RulePlace) (pairs : List (ℕ × ℕ)) (groups : List Group) → AreGroups fault rules pairs groups → groups ≡ [] → pairs ≡ []
+no_groups : (fault : Fault) (rules : List RulePlace) (pairs : List (ℕ × ℕ)) (groups : List Group) → AreGroups fault rules pairs groups
+    → groups ≡ [] → pairs ≡ []
 no_groups fault rules pairs groups no_pairs none = refl
 no_groups fault rules pairs groups (headed some greatest group more) none = absurd cc
 
 -- without an error there are no pairs
-pub no_pairs_left : (rules : List RulePlace) (overlaps shadows : List (ℕ × ℕ)) (errors : List Error) → IsReport rules overlaps shadows errors → errors ≡ []
+pub no_pairs_left : (rules : List RulePlace) (overlaps shadows : List (ℕ × ℕ)) (errors : List Error) → IsReport rules overlaps shadows errors
+    → errors ≡ []
     → (overlaps ≡ []) × (shadows ≡ [])
 no_pairs_left rules overlaps shadows errors report none =
     let empty : length report.sorted ≡ 0 = sym (length-map report.sorted error_of) ∙ ap length (sym report.errors_are ∙ none) in
     let all : length (report.overlapping ++ report.shadowing) ≡ 0 =
     sym (length_permutation (report.overlapping ++ report.shadowing) report.sorted report.moved) ∙ empty in
-    let (first, second) = both_none report.overlapping report.shadowing all in
-    (no_groups Overlap rules overlaps report.overlapping report.overlapping_are first, no_groups Shadow rules shadows report.shadowing report.shadowing_are second)
+    let (first, second) = both_none report.overlapping report.shadowing all in (
+      no_groups Overlap rules overlaps report.overlapping report.overlapping_are first,
+      no_groups Shadow rules shadows report.shadowing report.shadowing_are second,
+    )
 
 none_listed : {P : ℕ → ℕ → Type 0} (pairs : List (ℕ × ℕ)) → ListsEach P pairs → pairs ≡ [] → (i j : ℕ) → P i j → ⊥
 none_listed pairs lists none i j p =
@@ -115,7 +119,8 @@ module _ (env : TermTables) (d : AreDefined env) where
           few = subst (λ (n : ℕ). n ≤ 65536) (sym (length-map set.sites (row_of (name_of env d)))) is.few;
           stand = λ i reached.
               let (l, there) = place_of is.places i ((is.listed.all i).1 reached) in
-              let (made, made_at, m) = zipped_at (IsMadeAt (name_of env d) (facts_by env d) env.rules (rules_by env d) term set.sites) is.places set.rules is.made
+              let (made, made_at, m) = zipped_at (IsMadeAt (name_of env d) (facts_by env d) env.rules (rules_by env d) term set.sites)
+              is.places set.rules is.made
               l i there in
               subst (λ (r : TypedRule). SitesStand (facts_by env d) (rows_of (name_of env d) set.sites) r)
               (same_Some m.reached.rule reached.rule (sym m.reached.at ∙ reached.at)) m.stand;
@@ -129,7 +134,8 @@ module _ (env : TermTables) (d : AreDefined env) where
 
   -- without an error the rules are faultless
   pub faultless : (sets : List (TermId × RulesOverSites)) (unreachable between : List Error) → AreSetsOf env d sets
-      → TellUnreachable (facts_by env d) (rules_by env d) unreachable → TellRivals (facts_by env d) (rules_by env d) between → unreachable ++ between ≡ []
+      → TellUnreachable (facts_by env d) (rules_by env d) unreachable → TellRivals (facts_by env d) (rules_by env d) between
+      → unreachable ++ between ≡ []
       → AreFaultless (facts_by env d) (rules_by env d)
   faultless sets unreachable between are told rivals none =
       let (first, second) = both_none unreachable between (ap length none) in

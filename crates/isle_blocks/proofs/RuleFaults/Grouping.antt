@@ -13,7 +13,7 @@ use Rattle.std.proofs.lemmas.List.Elements.{All-filter, All-head, filter_map-app
 use Rattle.std.proofs.lemmas.List.Filters.{length-filter_both}
 use Rattle.std.proofs.lemmas.List.Sums.{length-filter, sum_by-cons}
 use Rattle.std.proofs.lemmas.Option.{slice_get-get_or, get_or_from_slice_get, slice_get_within}
-use Rattle.isle_syntax.specs.declared.lexer.Pos.{Pos}
+use Rattle.isle_ast.specs.declared.pos.Pos.{Pos}
 use Rattle.isle_blocks.specs.declared.faults.Fault.{Fault}
 use Rattle.isle_blocks.specs.declared.faults.Fault.TheVariants.{Overlap, Shadow}
 use Rattle.isle_blocks.specs.declared.report.RulePlace.{RulePlace}
@@ -137,7 +137,8 @@ greatest_from_best rules counts best b = record {
 }
 
 -- the same by another way to count
-pub greatest_by : (rules : List RulePlace) (f g : ℕ → ℕ) (i : ℕ) → ((j : ℕ) → j < length rules → f j ≡ g j) → IsGreatest rules f i → IsGreatest rules g i
+pub greatest_by : (rules : List RulePlace) (f g : ℕ → ℕ) (i : ℕ) → ((j : ℕ) → j < length rules → f j ≡ g j)
+    → IsGreatest rules f i → IsGreatest rules g i
 greatest_by rules f g i same m =
     let here = same i (slice_get_within rules i m.rule m.at) in
     record {
@@ -164,7 +165,12 @@ pub positions_none : (rules : List RulePlace) (fault : Fault) (i : ℕ) (pairs :
     → k < length pairs → partner fault i (get_or pairs k d) ≡ None
     → positions rules (partners fault i (take (k + 1) pairs)) ≡ positions rules (partners fault i (take k pairs))
 positions_none rules fault i pairs k d lt is =
-    rw (take_more pairs k d lt, filter_map-append (partner fault i) (take k pairs) (get_or pairs k d ∷ []), is, append-nil (partners fault i (take k pairs))) refl
+    rw (
+      take_more pairs k d lt,
+      filter_map-append (partner fault i) (take k pairs) (get_or pairs k d ∷ []),
+      is,
+      append-nil (partners fault i (take k pairs)),
+    ) refl
 
 -- pairs with a rule that heads some are fewer without it
 pub fewer_without : (fault : Fault) (i : ℕ) (pairs : List (ℕ × ℕ)) → 0 < partner_count fault i pairs

@@ -13,10 +13,10 @@ use Rattle.std.proofs.lemmas.Cmp.{nat_cmp_total, on_total, then_total}
 use Rattle.std.proofs.lemmas.List.Elements.{Contains-append_left}
 use Rattle.std.proofs.lemmas.List.Sorted.{ranks_by, sum_by-IsPermutation}
 use Rattle.std.proofs.lemmas.Option.{same_Some, none-some, slice_get_within}
-use Rattle.isle_syntax.specs.declared.error.Error.{Error}
-use Rattle.isle_syntax.specs.declared.lexer.Pos.{Pos}
+use Rattle.isle_ast.specs.declared.error.Error.{Error}
+use Rattle.isle_ast.specs.declared.pos.Pos.{Pos}
 use Rattle.isle_types.proofs.Lists.{from_take, within-take}
-use Rattle.isle_terms.specs.TypedRules.{TypedRule}
+use Rattle.isle_rules.specs.TypedRules.{TypedRule}
 use Rattle.isle_meaning.specs.Facts.{TermFacts}
 use Rattle.isle_blocks.specs.declared.faults.Fault.{Fault}
 use Rattle.isle_blocks.specs.declared.faults.Fault.TheVariants.{Overlap, Shadow}
@@ -79,7 +79,8 @@ positions_one one other up also same =
 
 -- no two places have one number
 abbrev HaveOwnNumbers : List RulePlace → Type 0
-HaveOwnNumbers rules = (i j : ℕ) (one other : RulePlace) → slice_get rules i ≡ Some one → slice_get rules j ≡ Some other → one.id.0 ≡ other.id.0 → i ≡ j
+HaveOwnNumbers rules = (i j : ℕ) (one other : RulePlace) → slice_get rules i ≡ Some one → slice_get rules j ≡ Some other
+    → one.id.0 ≡ other.id.0 → i ≡ j
 
 module _ (fault : Fault) (rules : List RulePlace) (own : HaveOwnNumbers rules) where
   greatest_one : (f g : ℕ → ℕ) → ((j : ℕ) → f j ≡ g j) → (i j : ℕ) → IsGreatest rules f i → IsGreatest rules g j → i ≡ j
@@ -226,7 +227,8 @@ told_one facts rules one no_rules_told others other no_rules_told same = refl
 told_one facts rules one no_rules_told others other (one_may_match {rules = before} rule may told) same = absurd (no_last before rule same)
 told_one facts rules one no_rules_told others other (one_never_matches {rules = before} rule never told) same = absurd (no_last before rule same)
 told_one facts rules one (one_may_match {rules = before} rule may told) others other no_rules_told same = absurd (no_last before rule (sym same))
-told_one facts rules one (one_never_matches {rules = before} rule never told) others other no_rules_told same = absurd (no_last before rule (sym same))
+told_one facts rules one (one_never_matches {rules = before} rule never told) others other no_rules_told same =
+    absurd (no_last before rule (sym same))
 told_one facts rules one (one_may_match {rules = before} {errors = early} rule may told) others other
     (one_may_match {rules = after} {errors = late} last also too) same =
     told_one facts before early told after late too (last_same before after rule last same).0
@@ -300,7 +302,8 @@ rule_errors_are_determined facts rules one other (of_rules unreachable between w
 rule_errors_are_determined facts rules one other (of_rules unreachable between within told rivals joined some)
     (of_rules also too inside tells rival is any) =
     let first : unreachable ≡ also = told_one facts rules unreachable told rules also tells refl in
-    let second : between ≡ too = reports_one (places_from 0 rules) (own_numbers rules) rivals.overlaps rivals.shadows rival.overlaps rival.shadows between too
+    let second : between ≡ too = reports_one (places_from 0 rules) (own_numbers rules) rivals.overlaps rivals.shadows
+    rival.overlaps rival.shadows between too
     (pairs_one rivals.overlaps rival.overlaps rivals.overlaps_are rival.overlaps_are)
     (pairs_one rivals.shadows rival.shadows rivals.shadows_are rival.shadows_are) rivals.report rival.report in
     joined ∙ ap (λ (l : List Error). l ++ between) first ∙ ap (λ (l : List Error). also ++ l) second ∙ sym is

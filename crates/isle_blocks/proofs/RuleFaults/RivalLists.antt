@@ -11,11 +11,11 @@ use Rattle.isle_types.proofs.Zipped.{mapped_at, all_at}
 use Rattle.isle_types.proofs.RootedTables.{Contains-map}
 use Rattle.isle_types.specs.TypeEnvs.{CountUp}
 use Rattle.isle_types.specs.declared.ids.TermId.{TermId}
-use Rattle.isle_terms.specs.declared.rules.Rule as source
-use Rattle.isle_terms.specs.TypedRules.{TypedRule}
-use Rattle.isle_terms.specs.Shown.TermTables.{TermTables}
-use Rattle.isle_terms.specs.Shown.RulesShown.{IsShownRule}
-use Rattle.isle_terms.proofs.Collections.TypeTerms.{zipped_length}
+use Rattle.isle_rules.specs.declared.rules.Rule as source
+use Rattle.isle_rules.specs.TypedRules.{TypedRule}
+use Rattle.isle_rules.specs.Shown.TermTables.{TermTables}
+use Rattle.isle_rules.specs.Shown.RulesShown.{IsShownRule}
+use Rattle.isle_rules.proofs.Zipped.{zipped_length}
 use Rattle.isle_blocks.specs.declared.faults.Fault.{Fault}
 use Rattle.isle_blocks.specs.declared.faults.Fault.TheVariants.{Overlap, Shadow}
 use Rattle.isle_blocks.specs.FaultsBetween.{FaultAt, ListsPairs, IsBefore}
@@ -24,7 +24,7 @@ use Rattle.isle_blocks.specs.RuleFaults.{MayMatchAt, ListsEach, places_from}
 use Rattle.isle_blocks.specs.RuleSets.{RulesOverSites}
 use Rattle.isle_blocks.specs.DefinedSets.{AreDefined, name_of, facts_by, rules_by, IsTermSet, IsSetOf, AreSetsOf}
 use Rattle.isle_blocks.specs.Inside.RivalLists.{ListsFaults, no_set_listed, passed_over, one_set_listed, numbered, place_of}
-use Rattle.isle_terms.specs.Shown.TermTables.{is_multi_in}
+use Rattle.isle_rules.specs.Shown.TermTables.{is_multi_in}
 use Rattle.isle_blocks.proofs.Counting.{Once, stands_at, once_both}
 use Rattle.isle_blocks.proofs.Counting as counting
 use Rattle.isle_blocks.proofs.RuleFaults.RivalRules.{FaultOf, rivals_of, multi_shown, one_place, fault_here, fault_there}
@@ -168,7 +168,8 @@ module _ (env : TermTables) (d : AreDefined env) (fault : Fault) where
     | inr same ↦ inr (subst (λ (p : TermId × RulesOverSites). HasRoot i p.0.0) (sym same) c.root)
   ]
 
-  last_covered : (sets : List (TermId × RulesOverSites)) (pair : TermId × RulesOverSites) (i : ℕ) → HasRoot i pair.0.0 → IsCovered (sets ++ pair ∷ []) i
+  last_covered : (sets : List (TermId × RulesOverSites)) (pair : TermId × RulesOverSites) (i : ℕ) → HasRoot i pair.0.0
+      → IsCovered (sets ++ pair ∷ []) i
   last_covered sets pair i root = record { pair = pair; among = Contains-push sets pair; root = root }
 
   -- a term that gives any number of answers has no faults between its rules
@@ -235,7 +236,13 @@ module _ (env : TermTables) (d : AreDefined env) (fault : Fault) where
           λ among. ((told.all i j).0 among).0,
           λ f.
               let rivals = rivals_of env d fault i j f in
-              let (set, among) = are.all rivals.term (record { place = i; rule = rivals.first.rule; at = rivals.first.at; of_term = rivals.first.of_term }) in
+              let (set, among) = are.all rivals.term (record {
+                place = i;
+                rule = rivals.first.rule;
+                at = rivals.first.at;
+                of_term =
+                    rivals.first.of_term;
+              }) in
               (told.all i j).1 (f, record { pair = (record { 0 = rivals.term }, set); among = among; root = fault_root i j f }),
         );
         once = λ x i j e f. told.once i j x e f;

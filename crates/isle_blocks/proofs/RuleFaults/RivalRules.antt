@@ -7,18 +7,18 @@ use Rattle.std.proofs.lemmas.Option.{same_Some, get_or_from_slice_get, slice_get
 use Rattle.isle_types.proofs.Zipped.{zipped_at, mapped_at}
 use Rattle.isle_types.specs.declared.ids.Sym.{Sym}
 use Rattle.isle_types.specs.Names.{AreDistinct}
-use Rattle.isle_terms.specs.declared.terms.Term.{Term}
-use Rattle.isle_terms.specs.declared.terms.TermKind.{TermKind}
-use Rattle.isle_terms.specs.declared.terms.TermKind.TheVariants.{EnumVariant, Struct, Decl}
-use Rattle.isle_terms.specs.Signatures.{Signature, flags_of}
-use Rattle.isle_terms.specs.TypedRules.{TypedRule}
-use Rattle.isle_terms.specs.Shown.TermTables.{TermTables}
-use Rattle.isle_terms.specs.Shown.ShownTerms.{term_shown, form_shown}
+use Rattle.isle_rules.specs.declared.terms.Term.{Term}
+use Rattle.isle_rules.specs.declared.terms.TermKind.{TermKind}
+use Rattle.isle_rules.specs.declared.terms.TermKind.TheVariants.{EnumVariant, Struct, Decl}
+use Rattle.isle_rules.specs.Signatures.{Signature, flags_of}
+use Rattle.isle_rules.specs.TypedRules.{TypedRule}
+use Rattle.isle_rules.specs.Shown.TermTables.{TermTables}
+use Rattle.isle_rules.specs.Shown.ShownTerms.{term_shown, form_shown}
 use Rattle.isle_meaning.specs.Facts.{no_term}
 use Rattle.isle_meaning.specs.Demands.{Demand}
 use Rattle.isle_meaning.specs.Faults as faults
-use Rattle.isle_meaning.specs.Laws.Matching.{DemandOf}
-use Rattle.isle_terms.proofs.Collections.TypeTerms.{count_at}
+use Rattle.isle_meaning.specs.Demands.{DemandOf}
+use Rattle.isle_rules.proofs.Zipped.{count_at}
 use Rattle.isle_blocks.specs.declared.binding.Binding.{Binding}
 use Rattle.isle_blocks.specs.declared.rule.Rule.{Rule}
 use Rattle.isle_blocks.specs.declared.faults.Fault.{Fault}
@@ -31,7 +31,7 @@ use Rattle.isle_blocks.specs.RuleFaults.{MayMatchAt, AreRivals, AreOverlapping, 
 use Rattle.isle_blocks.specs.RuleSets.{RulesOverSites}
 use Rattle.isle_blocks.specs.DefinedSets.{AreDefined, name_of, facts_by, rules_by, ListsNumbers, IsMadeAt, IsSetOf}
 use Rattle.isle_blocks.specs.Inside.RivalLists.{number_at}
-use Rattle.isle_terms.specs.Shown.TermTables.{is_multi_in, is_multi_kind}
+use Rattle.isle_rules.specs.Shown.TermTables.{is_multi_in, is_multi_kind}
 use Rattle.isle_blocks.proofs.Rows.RowsInjective.{row-injective}
 use Rattle.isle_blocks.proofs.Building.Naming.{name_by_injective}
 use Rattle.isle_blocks.proofs.Building.Tables.{site_once}

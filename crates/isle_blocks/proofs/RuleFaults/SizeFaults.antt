@@ -5,11 +5,11 @@ use Rattle.std.proofs.lemmas.Bool.{cases_eq}
 use Rattle.std.proofs.lemmas.List.{length-map, take_all}
 use Rattle.std.proofs.lemmas.List.Elements.{Contains-push_cases}
 use Rattle.std.proofs.lemmas.Option.{none-some, same_Some}
-use Rattle.isle_syntax.specs.declared.error.Error.{Error}
+use Rattle.isle_ast.specs.declared.error.Error.{Error}
 use Rattle.isle_types.proofs.Lists.{from_take, within-take}
-use Rattle.isle_terms.specs.declared.rules.Rule as source
-use Rattle.isle_terms.specs.TypedRules.{TypedRule}
-use Rattle.isle_terms.specs.Shown.TermTables.{TermTables}
+use Rattle.isle_rules.specs.declared.rules.Rule as source
+use Rattle.isle_rules.specs.TypedRules.{TypedRule}
+use Rattle.isle_rules.specs.Shown.TermTables.{TermTables}
 use Rattle.isle_meaning.specs.Facts.{TermFacts}
 use Rattle.isle_meaning.specs.Sites.{Site}
 use Rattle.isle_meaning.specs.Demands.{result_of}
@@ -69,7 +69,8 @@ module _ (env : TermTables) (d : AreDefined env) where
       → slice_get (rules_by env d) i ≡ Some typed → MayMatch (facts_by env d) typed
       → SitesStand (facts_by env d) (rows_of (name_of env d) set.sites) typed
   gathered_stand places set none_gathered i (k, within, is) typed at may = absurd (omega arith)
-  gathered_stand places set (one_added {places = before} {old = old} place rule other made new gathered rule_at there is told pushed) i among typed at may =
+  gathered_stand places set (one_added {places = before} {old = old} place rule other made new gathered rule_at there is told pushed)
+      i among typed at may =
       elim (Contains-push_cases before place i among) [
         | inl earlier ↦
             sites_kept (facts_by env d) (rows_of (name_of env d) old.sites) (rows_of (name_of env d) set.sites) typed is.kept
@@ -93,7 +94,8 @@ module _ (env : TermTables) (d : AreDefined env) where
   gathered_cases : (places : List ℕ) (set : RulesOverSites) → GathersRules env d places set → (i : ℕ) → Contains places i → (typed : TypedRule)
       → slice_get (rules_by env d) i ≡ Some typed → FitsAlone (facts_by env d) typed ⊎ MayMatch (facts_by env d) typed
   gathered_cases places set none_gathered i (k, within, is) typed at = absurd (omega arith)
-  gathered_cases places set (one_added {places = before} {old = old} place rule other made new gathered rule_at there is told pushed) i among typed at =
+  gathered_cases places set (one_added {places = before} {old = old} place rule other made new gathered rule_at there is told pushed)
+      i among typed at =
       elim (Contains-push_cases before place i among) [
         | inl earlier ↦ gathered_cases before old gathered i earlier typed at
         | inr last ↦
@@ -180,7 +182,8 @@ module _ (env : TermTables) (d : AreDefined env) (term : ℕ) where
       let root : typed.root ≡ term = of_term_at env d term place typed there up.here in
       let own = earlier_rules before place up in
       let below : (i : ℕ) → Contains before i → i < suc place = λ i among. let (less, is) = (up.earlier i).0 among in omega arith in
-      let so_far = gathered_within place before set gathered few (λ i r less is of_term. (up.earlier i).1 (less, at_term env d term i r is of_term)) in
+      let so_far = gathered_within place before set gathered few
+      (λ i r less is of_term. (up.earlier i).1 (less, at_term env d term i r is of_term)) in
       record {
         place = place;
         rule = typed;

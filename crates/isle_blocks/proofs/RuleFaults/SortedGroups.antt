@@ -5,8 +5,8 @@ use Rattle.std.specs.List.Sorted.{IsPermutation, IsSortedByKey, IsStableByKey}
 use Rattle.std.specs.Ordering.{nat_cmp, ordering_then, is_lt}
 use Rattle.std.proofs.lemmas.Bool.Decides.{nat_tests}
 use Rattle.std.proofs.lemmas.List.Elements.{filter-append}
-use Rattle.isle_syntax.specs.declared.lexer.Pos.{Pos}
-use Rattle.isle_syntax.specs.declared.error.Error.{Error}
+use Rattle.isle_ast.specs.declared.pos.Pos.{Pos}
+use Rattle.isle_ast.specs.declared.error.Error.{Error}
 use Rattle.isle_blocks.specs.declared.faults.Fault.TheVariants.{Overlap, Shadow}
 use Rattle.isle_blocks.specs.declared.report.RulePlace.{RulePlace}
 use Rattle.isle_blocks.specs.declared.report.Group.{Group}

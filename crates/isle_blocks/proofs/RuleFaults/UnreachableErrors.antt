@@ -1,11 +1,11 @@
 -- The errors of rules that never match, rule after rule.
 use Rattle.std.proofs.Common.{◌≡◌, ◌<◌, ◌+◌, ◌↔◌, inl, inr, arith, ◌∷◌, [], ◌++◌, ℕ, suc, Bool, List, Some, length, take, slice_get, refl, sym, ◌∙◌, ap, subst}
 use Rattle.std.specs.List.{AllZip}
-use Rattle.isle_syntax.specs.declared.error.Error.{Error}
+use Rattle.isle_ast.specs.declared.error.Error.{Error}
 use Rattle.std.proofs.lemmas.Option.{same_Some, slice_get_cases}
 use Rattle.isle_types.proofs.Lists.{taken_more}
-use Rattle.isle_terms.specs.declared.rules.Rule.{Rule}
-use Rattle.isle_terms.specs.TypedRules.{TypedRule}
+use Rattle.isle_rules.specs.declared.rules.Rule.{Rule}
+use Rattle.isle_rules.specs.TypedRules.{TypedRule}
 use Rattle.isle_meaning.specs.Facts.{TermFacts}
 use Rattle.isle_blocks.specs.Inside.Building.Contents.{Marked}
 use Rattle.isle_blocks.specs.RuleFaults.{NeverMatches, IsUnreachableAt, TellUnreachable, one_may_match, one_never_matches, unreachable_error}

@@ -7,14 +7,14 @@ use Rattle.std.proofs.lemmas.List.Elements.{Contains-append_left, Contains-appen
 use Rattle.std.proofs.lemmas.List.{get_or-set_same, get_or-set_other, length-set}
 use Rattle.std.proofs.lemmas.Option.{slice_get_within, same_Some}
 use Rattle.isle_types.proofs.Zipped.{all_at, mapped_at}
-use Rattle.isle_terms.specs.declared.rules.Rule.{Rule}
-use Rattle.isle_terms.specs.TypedRules.{TypedRule}
-use Rattle.isle_terms.specs.Definitions.{declared_by}
-use Rattle.isle_terms.specs.Shown.TermTables.{TermTables}
-use Rattle.isle_terms.specs.Shown.ShownTerms.{term_shown}
-use Rattle.isle_terms.specs.Shown.RulesShown.{IsShownRule}
-use Rattle.isle_terms.specs.SoundRules.WellTyped.{IsTypedRule}
-use Rattle.isle_terms.proofs.Sound.RuleTypes.{rules_typed}
+use Rattle.isle_rules.specs.declared.rules.Rule.{Rule}
+use Rattle.isle_rules.specs.TypedRules.{TypedRule}
+use Rattle.isle_rules.specs.Definitions.{declared_by}
+use Rattle.isle_rules.specs.Shown.TermTables.{TermTables}
+use Rattle.isle_rules.specs.Shown.ShownTerms.{term_shown}
+use Rattle.isle_rules.specs.Shown.RulesShown.{IsShownRule}
+use Rattle.isle_rules.specs.SoundRules.WellTyped.{IsTypedRule}
+use Rattle.isle_rules.proofs.Sound.RuleTypes.{rules_typed}
 use Rattle.isle_meaning.specs.Facts.{TermFacts}
 use Rattle.isle_meaning.specs.Demands.{result_of}
 use Rattle.isle_blocks.specs.declared.binding.Binding.{Binding}
@@ -103,7 +103,8 @@ has_room_alone facts typed partial same fits = record {
 
 -- the next rule is gathered
 pub gather_next : (env : TermTables) (d : AreDefined env) (before : List ℕ) (place : ℕ) (rule : Rule) (old new : RulesOverSites)
-    (partial added : Bool) → GathersRules env d before old → slice_get env.rules place ≡ Some rule → partial ≡ (facts_by env d).partial rule.root_term.0
+    (partial added : Bool) → GathersRules env d before old → slice_get env.rules place ≡ Some rule
+    → partial ≡ (facts_by env d).partial rule.root_term.0
     → AddsToSet env rule partial old new added → GathersRules env d (before ++ place ∷ []) new
 unfolding typed_at defined_at
 gather_next env d before place rule old new partial true gathered at says adds =

@@ -6,7 +6,7 @@ use Rattle.std.proofs.lemmas.List.{get_or_append_left, get_or_at, get_or_default
 use Rattle.std.proofs.lemmas.List.Elements.{Contains-append_left, Contains-push, Contains-push_cases}
 use Rattle.std.specs.Global.{Global}
 use Rattle.std.proofs.lemmas.Option.{same_Some}
-use Rattle.isle_terms.proofs.Collections.Cycles.{set_here, set_cases}
+use Rattle.isle_rules.proofs.SetLists.{set_here, set_cases}
 use Rattle.isle_blocks.specs.DefinedSets.{ListsNumbers}
 
 -- the numbers with P below a bound
@@ -77,13 +77,16 @@ pub rows_next : (P : ℕ → ℕ → Type 0) (n : ℕ) (rows : List (Vec ℕ Glo
     → AreRowsBelow P (n + 1) (set rows home new)
 rows_next P n rows home old new there pushed here only all place own at = elim (cases_eq place home) [
   | inl same ↦
-      let own_is : new ≡ own = same_Some new own (sym (set_here rows home new old there) ∙ subst (λ (x : ℕ). slice_get (set rows home new) x ≡ Some own) same at) in
+      let own_is : new ≡ own = same_Some new own (sym (set_here rows home new old there) ∙ subst
+      (λ (x : ℕ). slice_get (set rows home new) x ≡ Some own) same at) in
       subst (λ (v : Vec ℕ Global). ListsNumbers (Below (P place) (n + 1)) v.items) own_is
       (subst (λ (l : List ℕ). ListsNumbers (Below (P place) (n + 1)) l) (sym pushed)
-      (numbers_push (P place) n old.items (all place old (subst (λ (x : ℕ). slice_get rows x ≡ Some old) (sym same) there)) (subst (λ (x : ℕ). P x n) (sym same) here)))
+      (numbers_push (P place) n old.items (all place old (subst (λ (x : ℕ). slice_get rows x ≡ Some old) (sym same) there))
+      (subst (λ (x : ℕ). P x n) (sym same) here)))
   | inr other ↦
       numbers_skip (P place) n own.items
-      (all place own (elim (set_cases rows home place new own at) [ inl (e, f) ↦ absurd (other (sym e)) | inr kept ↦ kept ])) (λ h. other (only place h))
+      (all place own (elim (set_cases rows home place new own at) [ inl (e, f) ↦ absurd (other (sym e)) | inr kept ↦ kept ]))
+      (λ h. other (only place h))
 ]
 
 -- a number that is greater than all others
@@ -107,7 +110,8 @@ numbers_put P Q n numbers lists below more here cases =
     }
 
 -- the same numbers by another name
-pub numbers_same : (P Q : ℕ → Type 0) (numbers : List ℕ) → ((i : ℕ) → P i → Q i) → ((i : ℕ) → Q i → P i) → ListsNumbers P numbers → ListsNumbers Q numbers
+pub numbers_same : (P Q : ℕ → Type 0) (numbers : List ℕ) → ((i : ℕ) → P i → Q i) → ((i : ℕ) → Q i → P i) → ListsNumbers P numbers
+    → ListsNumbers Q numbers
 numbers_same P Q numbers f g lists = record {
   all = λ i. (λ h. f i ((lists.all i).0 h), λ h. (lists.all i).1 (g i h));
   ascending = lists.ascending;

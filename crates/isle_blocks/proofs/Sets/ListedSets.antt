@@ -72,7 +72,8 @@ both_apart xs ys once a in_first in_second =
 
 -- the set that has a number, or nothing where none has it
 set_cases : (sets : List (List BindingId)) (x : BindingId)
-    → (Contains sets (set_of same_site sets x) × Contains (set_of same_site sets x) x) ⊎ ((set_of same_site sets x ≡ []) × (Contains (members sets) x → ⊥))
+    → (Contains sets (set_of same_site sets x) × Contains (set_of same_site sets x) x) ⊎
+    ((set_of same_site sets x ≡ []) × (Contains (members sets) x → ⊥))
 set_cases [] x = inr (refl, λ (k, within, is). omega arith)
 set_cases (set ∷ sets) x = elim (cases_Bool (is_member same_site set x)) [
   | inl has ↦ inl (rw has ((0, omega arith, refl), Contains-from_any one_id x set has))
@@ -113,7 +114,11 @@ put_cases : (sets : List (List BindingId)) (set : List BindingId) (a b : Binding
     → InOne sets a b ⊎ (Contains set a × Contains set b)
 put_cases sets set a b one = elim (Contains-push_cases sets set one.set one.stands) [
   | inl earlier ↦ inl (record { set = one.set; stands = earlier; first = one.first; second = one.second })
-  | inr last ↦ inr (subst (λ (l : List BindingId). Contains l a) (sym last) one.first, subst (λ (l : List BindingId). Contains l b) (sym last) one.second)
+  | inr last ↦ inr (
+    subst (λ (l : List BindingId). Contains l a) (sym last) one.first,
+    subst (λ (l : List BindingId). Contains l b)
+        (sym last) one.second,
+  )
 ]
 
 put_one : (sets : List (List BindingId)) (set : List BindingId) (a b : BindingId) → InOne sets a b ⊎ (Contains set a × Contains set b)
@@ -188,7 +193,8 @@ module _ (equals left sets : List (List BindingId)) (n : ℕ) (listed : AreListe
 
     rest_one : (a b : BindingId) → InOne rest a b → InOne left a b
     rest_one a b one =
-        in_one left a b (both_true (are_joined same_site left a b) (not (are_joined same_site left x a)) (sym (takes.joined a b) ∙ joined_of rest a b one)).0
+        in_one left a b (both_true (are_joined same_site left a b) (not (are_joined same_site left x a))
+        (sym (takes.joined a b) ∙ joined_of rest a b one)).0
 
     -- no set has the number
     pub nothing_taken : length set ≡ 0 → AreListedBelow equals rest sets (n + 1)
@@ -273,15 +279,18 @@ module _ (equals left sets : List (List BindingId)) (n : ℕ) (listed : AreListe
               (let two : 2 ≤ length own = set_long left own d stands in
               All-cons (λ (s : List BindingId). 2 ≤ length s) set [] (omega arith) (All-nil (λ (s : List BindingId). 2 ≤ length s)));
           once = subst (λ (l : List BindingId). Once l) (sym (members_put sets set))
-              (once_both (members sets) set listed.once (once_left set (members rest) parts_once) (λ a among mine. listed.apart a among (set_in a mine)));
+              (once_both (members sets) set listed.once (once_left set (members rest) parts_once)
+              (λ a among mine. listed.apart a among (set_in a mine)));
           apart = λ a among other.
               elim (Contains-append_cases (members sets) set a (subst (λ (l : List BindingId). Contains l a) (members_put sets set) among)) [
                 | inl old ↦ listed.apart a old (rest_in a other)
                 | inr mine ↦ both_apart set (members rest) parts_once a mine other
               ];
           ascending = All-append (λ (s : List BindingId). IsStrictlySortedBy site_cmp s) sets (set ∷ []) listed.ascending
-              (All-cons (λ (s : List BindingId). IsStrictlySortedBy site_cmp s) set [] up (All-nil (λ (s : List BindingId). IsStrictlySortedBy site_cmp s)));
-          in_order = subst (λ (l : List BindingId). IsStrictlySortedBy site_cmp l) (sym heads) (sorted_put (firsts sets) x listed.in_order listed.low);
+              (All-cons (λ (s : List BindingId). IsStrictlySortedBy site_cmp s) set [] up
+              (All-nil (λ (s : List BindingId). IsStrictlySortedBy site_cmp s)));
+          in_order = subst (λ (l : List BindingId). IsStrictlySortedBy site_cmp l) (sym heads)
+              (sorted_put (firsts sets) x listed.in_order listed.low);
           low = subst (λ (l : List BindingId). All (λ a. a.0 < n + 1) l) (sym heads)
               (All-append (λ (a : BindingId). a.0 < n + 1) (firsts sets) (x ∷ []) (λ k e within. let less = listed.low k e within in omega arith)
               (All-cons (λ (a : BindingId). a.0 < n + 1) x [] (omega arith) (All-nil (λ (a : BindingId). a.0 < n + 1))));
@@ -300,7 +309,11 @@ all_listed equals left sets n listed done = record {
         ]
       ]);
   only = only;
-  disjoint = record { at_least_two = listed.long; distinct = IsDistinct-from_AllPairs id_tells (members sets) (once_pairs (members sets) listed.once) };
+  disjoint = record {
+    at_least_two = listed.long;
+    distinct = IsDistinct-from_AllPairs id_tells (members sets)
+        (once_pairs (members sets) listed.once);
+  };
   ascending = listed.ascending;
   in_order = listed.in_order;
 }

@@ -57,14 +57,17 @@ AreNumbersTogether numbers each class n a b =
     (k : ℕ) × (l : ℕ) × (slice_get numbers k ≡ Some a) × (slice_get numbers l ≡ Some b) × AreTogether each class n k l
 
 -- the sets once the sites below n are merged
-pub record AreSetsBelow (numbers : List BindingId) (each : List (Option Constraint)) (class : List ℕ) (n : ℕ) (sets : List (List BindingId)) : Type 0 where
+pub record AreSetsBelow (numbers : List BindingId) (each : List (Option Constraint)) (class : List ℕ) (n : ℕ)
+    (sets : List (List BindingId)) : Type 0 where
   pub joined : (a b : BindingId) → (are_joined site_eq sets a b ≡ true) ↔ AreNumbersTogether numbers each class n a b
   pub none : ((a : ℕ) → a < n → IsUntested each class a → get_or class a 0 ≡ a) → sets ≡ []
 
-entered_later : {each : List (Option Constraint)} {class : List ℕ} {n : ℕ} (m : ℕ) {a : ℕ} → n ≤ m → IsEntered each class n a → IsEntered each class m a
+entered_later : {each : List (Option Constraint)} {class : List ℕ} {n : ℕ} (m : ℕ) {a : ℕ} → n ≤ m → IsEntered each class n a
+    → IsEntered each class m a
 entered_later m l e = record { free = e.free; site = e.site; below = (let b = e.below in omega arith); moves = e.moves; same = e.same; how = e.how }
 
-together_later : {each : List (Option Constraint)} {class : List ℕ} {n : ℕ} (m : ℕ) {a b : ℕ} → n ≤ m → AreTogether each class n a b → AreTogether each class m a b
+together_later : {each : List (Option Constraint)} {class : List ℕ} {n : ℕ} (m : ℕ) {a b : ℕ} → n ≤ m → AreTogether each class n a b
+    → AreTogether each class m a b
 together_later m l t = (entered_later m l t.0, entered_later m l t.1, t.2)
 
 module _ (numbers : List BindingId) (once : AreDistinct numbers) (each : List (Option Constraint)) (class : List ℕ)
@@ -227,7 +230,8 @@ module _ (numbers : List BindingId) (once : AreDistinct numbers) (each : List (O
             absurd (other (sym e.same ∙ ap (λ (j : ℕ). get_or class j 0) at))
       ]
 
-      now_joined : (a b : BindingId) → (are_joined site_eq sets a b || (comes_together site_eq sets x y a && comes_together site_eq sets x y b)) ≡ true
+      now_joined : (a b : BindingId) → (are_joined site_eq sets a b ||
+          (comes_together site_eq sets x y a && comes_together site_eq sets x y b)) ≡ true
           → AreNumbersTogether numbers each class (k + 1) a b
       now_joined a b h = elim (or_cases (are_joined site_eq sets a b) (comes_together site_eq sets x y a && comes_together site_eq sets x y b) h) [
         | inl p ↦ let (i, j, at, there, t) = (are.joined a b).0 p in (i, j, at, there, together_later (k + 1) (omega arith) t)

@@ -4,9 +4,9 @@ use Rattle.std.specs.Option.{option_map}
 use Rattle.std.proofs.lemmas.Option.{slice_get-map, slice_get_within}
 use Rattle.isle_types.specs.declared.ids.TermId.{TermId}
 use Rattle.isle_types.proofs.Zipped.{all_at}
-use Rattle.isle_terms.specs.Shown.TermTables.{TermTables}
-use Rattle.isle_terms.specs.SoundRules.WellTyped.{IsTypedRule}
-use Rattle.isle_terms.proofs.Sound.RuleTypes.{rules_typed}
+use Rattle.isle_rules.specs.Shown.TermTables.{TermTables}
+use Rattle.isle_rules.specs.SoundRules.WellTyped.{IsTypedRule}
+use Rattle.isle_rules.proofs.Sound.RuleTypes.{rules_typed}
 use Rattle.isle_meaning.specs.Derived.{FieldOf, of_variant, of_struct}
 use Rattle.isle_meaning.specs.Demands.{Demand}
 use Rattle.isle_meaning.specs.Sites.{Site, bool_site, int_site, prim_site, argument, extractor_call, constructor_call, iterator}
@@ -105,4 +105,5 @@ module _ (env : TermTables) (d : AreDefined env) where
   known_at pair is k (MatchTuple source field) at = tt
 
 pub sites_have_terms : OfEachSet EachVariantKnown
-sites_have_terms = of_each EachVariantKnown (λ env d pair is. all_places (MakesKnownVariant d.tyenv env) pair.1.sites (λ k site at. known_at env d pair is k site at))
+sites_have_terms = of_each EachVariantKnown (λ env d pair is. all_places (MakesKnownVariant d.tyenv env) pair.1.sites
+    (λ k site at. known_at env d pair is k site at))

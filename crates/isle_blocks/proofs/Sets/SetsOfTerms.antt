@@ -7,7 +7,7 @@ use Rattle.std.proofs.lemmas.Option.{slice_get_within, slice_get_cases, get_or_f
 use Rattle.std.proofs.lemmas.List.Elements.{Contains-append_left, Contains-get_or, Contains-push}
 use Rattle.isle_types.proofs.Lists.{slice_get-pushed}
 use Rattle.isle_types.specs.declared.ids.TermId.{TermId}
-use Rattle.isle_terms.specs.Shown.TermTables.{TermTables}
+use Rattle.isle_rules.specs.Shown.TermTables.{TermTables}
 use Rattle.isle_blocks.specs.Inside.Building.Contents.{Marked}
 use Rattle.isle_blocks.specs.DefinedSets.{AreDefined, facts_by, rules_by, HasRules, IsTermSet, ListsNumbers, AreSetsOf}
 use Rattle.isle_blocks.specs.Inside.GatheredSets.{AreSetsBelow, MarksThose, AreLost, IsLostBelow, IsOfTerm}

@@ -16,7 +16,7 @@ use Rattle.isle_meaning.proofs.Sites.Agreeing.{open_call, strict}
 use Rattle.isle_meaning.proofs.Sites.Made.{held_made}
 use Rattle.isle_blocks.specs.declared.binding.Binding.{Binding}
 use Rattle.isle_blocks.specs.declared.binding.Binding.TheVariants as sites
-use Rattle.isle_blocks.specs.Bindings.{sources_of}
+use Rattle.isle_blocks.specs.Tables.{sources_of}
 use Rattle.isle_blocks.specs.Tables.{IsTable}
 use Rattle.isle_blocks.specs.Rows.{rows_of, numbers_of}
 use Rattle.isle_blocks.specs.Trees.View.{read_or, is_bound}

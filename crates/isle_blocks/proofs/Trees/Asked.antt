@@ -3,15 +3,15 @@ use Rattle.std.proofs.Common.{◌≡◌, inl, inr, ℕ, zero, suc, true, false, 
 use Rattle.std.proofs.Common.{◌∙◌, arith, Contains}
 use Rattle.std.proofs.lemmas.Option.{same_Some}
 use Rattle.isle_types.specs.declared.ids.Sym.{Sym}
-use Rattle.isle_terms.specs.declared.rules.Rule as source
-use Rattle.isle_terms.specs.TypedRules.{TypedRule}
+use Rattle.isle_rules.specs.declared.rules.Rule as source
+use Rattle.isle_rules.specs.TypedRules.{TypedRule}
 use Rattle.isle_meaning.specs.Facts.{TermFacts}
 use Rattle.isle_meaning.specs.Held.{Held}
 use Rattle.isle_meaning.specs.Sites.{Site, Sites, constructor_call, match_variant, extract_struct, match_some}
 use Rattle.isle_meaning.specs.Demands.{Demand, constrained, equal, variant_constraint, struct_constraint, some_constraint}
 use Rattle.isle_meaning.specs.Demands as meaning
 use Rattle.isle_meaning.specs.Derived.{Derived}
-use Rattle.isle_meaning.specs.Laws.Matching.{DemandOf}
+use Rattle.isle_meaning.specs.Demands.{DemandOf}
 use Rattle.isle_meaning.specs.Numbered.{Row, At}
 use Rattle.isle_meaning.specs.Tested.{IsTested}
 use Rattle.isle_meaning.proofs.Matching.Numbering.{one_site}
@@ -109,8 +109,11 @@ module _ (name : Sym → List ℕ) (facts : TermFacts) (sources : List source.Ru
         let closed = m.closed in
         let (id, test, inside, at_id, is) = closed.tests.all t c e in
         let table = h.is.table in
-        let same : id.0 ≡ a = one_number name set.sites h.injective table t id.0 a at_id at_a in
-        (test, test_found r a test closed.ascending (subst (λ (x : BindingId). Contains r.constraints (x, test)) (same_id id (id_of a) same) inside), is)
+        let same : id.0 ≡ a = one_number name set.sites h.injective table t id.0 a at_id at_a in (
+          test,
+          test_found r a test closed.ascending (subst (λ (x : BindingId). Contains r.constraints (x, test)) (same_id id (id_of a) same) inside),
+          is,
+        )
 
     -- a number's tree
     abbrev tree : ℕ → Site
@@ -176,8 +179,13 @@ module _ (name : Sym → List ℕ) (facts : TermFacts) (sources : List source.Ru
       let at' : slice_get set.sites s ≡ Some (sites.Constructor f ps (suc n)) = at ∙ ap Some q in
       let table = h.is.table in
       let there = from_at name set.sites (tree_of name set.sites) s (sites.Constructor f ps (suc n)) at'
-      (λ part inside. part_at name set.sites table s (sites.Constructor f ps (suc n)) part at' inside) in
-      (f.0, trees_of (tree_of name set.sites) ps, n, one_site rows t (constructor_call f.0 (trees_of (tree_of name set.sites) ps) (suc n)) s at_t there)
+      (λ part inside. part_at name set.sites table s (sites.Constructor f ps (suc n)) part at' inside) in (
+        f.0,
+        trees_of (tree_of name set.sites) ps,
+        n,
+        one_site rows t (constructor_call f.0 (trees_of (tree_of name set.sites) ps) (suc n))
+            s at_t there,
+      )
 
   -- Tests ask no impure call.
   pub asked_is_pure : (i s : ℕ) → Asked R i s → R.effect s ≡ false

@@ -27,11 +27,3 @@ pub mod AnyPlaces
 pub mod Taken
 -- Walks answer the bags of rules.
 pub mod RuleBags
--- Two rules over a multi call of two values.
-mod TwoValues
--- One rule over a multi call of three items.
-mod ThreeItems
--- Three rules without multi calls.
-mod ThreeRules
--- A rule over a multi call that nothing opens.
-mod UnopenedLoops

@@ -9,8 +9,8 @@ use Rattle.isle_types.specs.JoinedSets.{are_joined, members}
 use Rattle.isle_types.specs.declared.ids.Sym.{Sym}
 use Rattle.isle_types.specs.declared.ids.TermId.{TermId}
 use Rattle.isle_types.proofs.Zipped.{all_at}
-use Rattle.isle_terms.specs.declared.rules.Rule as source
-use Rattle.isle_terms.specs.TypedRules.{TypedRule}
+use Rattle.isle_rules.specs.declared.rules.Rule as source
+use Rattle.isle_rules.specs.TypedRules.{TypedRule}
 use Rattle.isle_meaning.specs.Facts.{TermFacts}
 use Rattle.isle_meaning.specs.Held.{Held}
 use Rattle.isle_meaning.specs.Sites.{Site, iterator}
@@ -20,7 +20,7 @@ use Rattle.isle_blocks.specs.declared.binding.Binding.{Binding}
 use Rattle.isle_blocks.specs.declared.binding.Binding.TheVariants as sites
 use Rattle.isle_blocks.specs.declared.constraint.Constraint.{Constraint}
 use Rattle.isle_blocks.specs.declared.rule.Rule.{Rule}
-use Rattle.isle_blocks.specs.Bindings.{sources_of}
+use Rattle.isle_blocks.specs.Tables.{sources_of}
 use Rattle.isle_blocks.specs.Building.Standing.{StandEach}
 use Rattle.isle_blocks.specs.Closure.{Stands}
 use Rattle.isle_blocks.specs.ClosedRules.{same_site}
@@ -46,7 +46,8 @@ use Rattle.isle_blocks.proofs.Trees.Reading.{elem_left, elem_right}
 use Rattle.isle_trees.specs.Ranking.{AreWithin}
 use Rattle.isle_trees.specs.Rules.{Want, has, one_value, Source, Rules, rights, Elem}
 use Rattle.isle_trees.specs.Scopes.{Test, on_match, on_equal, on_loop, has_test}
-use Rattle.isle_trees.specs.Search.{below, IsBuildable}
+use Rattle.isle_trees.specs.Search.{IsBuildable}
+use Rattle.isle_trees.specs.Rules.{below}
 use Rattle.isle_trees.proofs.Asking.{elem_append}
 use Rattle.isle_trees.proofs.Basics.{none_or, and_both, both_and, or_holds, or_left, or_right, test_of as tested, one_of}
 

@@ -4,8 +4,8 @@ use Rattle.std.specs.Prelude.{ℤ, ◌≤ℤ◌}
 use Rattle.std.specs.List.{AllZip}
 use Rattle.std.proofs.lemmas.Option.{same_Some, none-some, slice_get_within}
 use Rattle.isle_types.specs.declared.ids.Sym.{Sym}
-use Rattle.isle_terms.specs.declared.rules.Rule as source
-use Rattle.isle_terms.specs.TypedRules.{TypedRule}
+use Rattle.isle_rules.specs.declared.rules.Rule as source
+use Rattle.isle_rules.specs.TypedRules.{TypedRule}
 use Rattle.isle_meaning.specs.Values.{Values, count}
 use Rattle.isle_meaning.specs.Facts.{TermFacts}
 use Rattle.isle_meaning.specs.Answers.{Completion, IsAllowed}

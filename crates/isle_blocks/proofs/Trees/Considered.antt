@@ -48,7 +48,8 @@ row_over : {C V : Type 0} (R : Rules C V) (left : List ℕ) (sc : Scope C) (best
     → length (counted R (on_equal a b) left) ≤ n → may_win sc best (on_equal a a) n ≡ false → IsNoBetter R left sc best (on_equal a b)
 row_over R left sc None a b n l m e = cc
 row_over R left sc (Some old) a b n l m e =
-    at_most_trans (key R left sc (on_equal a b)) (key_with sc n (on_equal a a)) old.key (row_bound R left sc a b n l m) (not_above (key_with sc n (on_equal a a)) old.key e)
+    at_most_trans (key R left sc (on_equal a b)) (key_with sc n (on_equal a a)) old.key (row_bound R left sc a b n l m)
+    (not_above (key_with sc n (on_equal a a)) old.key e)
 
 -- where no equality of a site with a later one may win, none is better
 pub row_passed : {C V : Type 0} (R : Rules C V) (left : List ℕ) (sc : Scope C) (marks : List Bool) (class : List BindingId) (best : Option Ranked)
@@ -95,10 +96,12 @@ pub rule_passed : (set : RulesOverSites) (left : List ℕ) (sc : Scope Constrain
     → IsRulePassed (rules_in set) left sc marks best i
 rule_passed set left sc marks best i classes listed h a b j r =
     let one = in_one classes (id_of a) (id_of b) (listed (id_of a) (id_of b) j) in
-    h one.set (contains_elem one.set classes one.stands) (id_of a) (contains_elem (id_of a) one.set one.first) (id_of b) (contains_elem (id_of b) one.set one.second) r
+    h one.set (contains_elem one.set classes one.stands) (id_of a) (contains_elem (id_of a) one.set one.first)
+    (id_of b) (contains_elem (id_of b) one.set one.second) r
 
 -- all tests are searched, where those of the sites that can be tested and the equalities are passed
-pub searched_all : {C V : Type 0} (R : Rules C V) (left : List ℕ) (sc : Scope C) (marks : List Bool) (sites : List BindingId) (old new : Option Ranked)
+pub searched_all : {C V : Type 0} (R : Rules C V) (left : List ℕ) (sc : Scope C) (marks : List Bool) (sites : List BindingId)
+    (old new : Option Ranked)
     → JoinsBothWays R → IsInOrder R left → AreMarked R left sc marks → AreReady R left sc marks (numbers_of sites)
     → AreSitesPassed R left sc marks old sites → IsStillRanked R left sc old new → AreEqualitiesPassed R left sc marks new → IsSearched R left sc new
 searched_all {C} R left sc marks sites old new w o h listed passed still equalities t r = elim (zero_or (length (counted R t left))) [

@@ -1,7 +1,7 @@
 -- The rule sets of definitions.
 use Rattle.std.proofs.Common.{◌≡◌, ap, sym, ◌∙◌}
 use Rattle.std.proofs.lemmas.Option.{same_Some}
-use Rattle.isle_terms.specs.TypedRules.{TypedRule}
+use Rattle.isle_rules.specs.TypedRules.{TypedRule}
 use Rattle.isle_blocks.specs.Trees.Laws.{BuiltSetsAreRunnable, DefinitionsHavePriorities}
 use Rattle.isle_blocks.proofs.Building.Naming.{name_by_injective}
 use Rattle.isle_blocks.proofs.Sets.GatheredRules.{typed_at}

@@ -4,8 +4,8 @@ use Rattle.std.proofs.Common.{Some, None, slice_get, refl, ap, sym, subst}
 use Rattle.std.proofs.Common.{◌∙◌, arith, append_assoc, append-nil}
 use Rattle.std.proofs.lemmas.Option.{same_Some, none-some}
 use Rattle.isle_types.specs.declared.ids.Sym.{Sym}
-use Rattle.isle_terms.specs.declared.rules.Rule as source
-use Rattle.isle_terms.specs.TypedRules.{TypedRule}
+use Rattle.isle_rules.specs.declared.rules.Rule as source
+use Rattle.isle_rules.specs.TypedRules.{TypedRule}
 use Rattle.isle_meaning.specs.Facts.{TermFacts}
 use Rattle.isle_meaning.specs.Held.{Held}
 use Rattle.isle_meaning.specs.Words.{Step, word_of, steps_of}
@@ -26,7 +26,7 @@ use Rattle.isle_blocks.specs.DefinedSets.{IsMadeAt}
 use Rattle.isle_blocks.specs.RuleSets.{RulesOverSites}
 use Rattle.isle_blocks.proofs.Closure.Trees.{get_row, one_number}
 use Rattle.isle_meaning.proofs.Chains.Causing.{CitesAll, Causal, steps_are_causal, get_append, get_last, length_more}
-use Rattle.isle_blocks.specs.Bindings.{sources_of}
+use Rattle.isle_blocks.specs.Tables.{sources_of}
 use Rattle.isle_trees.proofs.Basics.{none_or}
 use Rattle.isle_trees.specs.Rules.{Rules, Elem, IsPartOf, itself, of_part}
 use Rattle.isle_trees.specs.Premises.{IsSingle, EffectsFirst}

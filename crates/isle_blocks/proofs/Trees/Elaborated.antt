@@ -3,8 +3,8 @@ use Rattle.std.proofs.Common.{◌≡◌, inl, inr, ℕ, true, false, List, [], �
 use Rattle.std.proofs.Common.{◌∙◌, arith, Contains}
 use Rattle.std.proofs.lemmas.Option.{same_Some, slice_get_cases}
 use Rattle.isle_types.specs.declared.ids.Sym.{Sym}
-use Rattle.isle_terms.specs.declared.rules.Rule as source
-use Rattle.isle_terms.specs.TypedRules.{TypedRule}
+use Rattle.isle_rules.specs.declared.rules.Rule as source
+use Rattle.isle_rules.specs.TypedRules.{TypedRule}
 use Rattle.isle_meaning.specs.Facts.{TermFacts}
 use Rattle.isle_meaning.specs.Held.{Held}
 use Rattle.isle_meaning.specs.Sites.{Site, iterator}
@@ -13,7 +13,7 @@ use Rattle.isle_meaning.specs.Demands as meaning
 use Rattle.isle_meaning.specs.Derived.{Derived}
 use Rattle.isle_meaning.specs.AboutSites.Kinds.{HasItsKind}
 use Rattle.isle_meaning.specs.Laws.Elaborated.{HasItsKinds}
-use Rattle.isle_meaning.specs.Laws.Matching.{DemandOf}
+use Rattle.isle_meaning.specs.Demands.{DemandOf}
 use Rattle.isle_meaning.specs.Numbered.{Row, At}
 use Rattle.isle_meaning.specs.Sorts.{Sort, plain_sort, list_sort, sort, Suits}
 use Rattle.isle_meaning.proofs.Matching.Numbering.{one_site}
@@ -122,8 +122,11 @@ module _ (name : Sym → List ℕ) (facts : TermFacts) (sources : List source.Ru
   its_test p r m t a c at_a e =
       let closed = m.closed in
       let (id, test, inside, at_id, is) = closed.tests.all t c e in
-      let same : id.0 ≡ a = one_number name set.sites h.injective h.is.table t id.0 a at_id at_a in
-      (test, test_found r a test closed.ascending (subst (λ (x : BindingId). Contains r.constraints (x, test)) (same_id id (id_of a) same) inside), is)
+      let same : id.0 ≡ a = one_number name set.sites h.injective h.is.table t id.0 a at_id at_a in (
+        test,
+        test_found r a test closed.ascending (subst (λ (x : BindingId). Contains r.constraints (x, test)) (same_id id (id_of a) same) inside),
+        is,
+      )
 
   -- A rule's test is wanted.
   pub test_wanted : (i s : ℕ) (r : Rule) (c : Constraint) → slice_get set.rules i ≡ Some r → test_at s r ≡ Some c → R.at i s ≡ Some (has c)

@@ -4,8 +4,7 @@ use Rattle.std.proofs.lemmas.Bool.Decides.{Decides-int_eq}
 use Rattle.isle_types.specs.declared.ids.Sym.{Sym}
 use Rattle.isle_meaning.specs.Values.{Value, bool_value, int_value, constant_value, opaque_value, made_variant, made_struct, Values}
 use Rattle.isle_meaning.specs.Values.{no_values, more_values, count}
-use Rattle.isle_meaning.specs.Held.{Held, held_value, held_outputs, held_none, held_some, held_answers}
-use Rattle.isle_meaning.specs.Holds as holds
+use Rattle.isle_meaning.specs.Held.{Held, held_value, held_outputs, held_none, held_some, held_answers, Meets as MeetsHeld}
 use Rattle.isle_blocks.specs.declared.constraint.Constraint.{Constraint}
 use Rattle.isle_blocks.specs.declared.constraint.Constraint.TheVariants as tests
 use Rattle.isle_blocks.specs.Rows.{test_of}
@@ -70,7 +69,8 @@ mutual
   value_self (constant_value a) = name_self a
   value_self (opaque_value a) = eq-eqb a a refl
   value_self (made_variant ty k xs) =
-      both_and (ty == ty) ((k == k) && same_values xs xs) (eq-eqb ty ty refl) (both_and (k == k) (same_values xs xs) (eq-eqb k k refl) (values_self xs))
+      both_and (ty == ty) ((k == k) && same_values xs xs) (eq-eqb ty ty refl)
+      (both_and (k == k) (same_values xs xs) (eq-eqb k k refl) (values_self xs))
   value_self (made_struct ty xs) = both_and (ty == ty) (same_values xs xs) (eq-eqb ty ty refl) (values_self xs)
 
   -- so is each list
@@ -118,7 +118,7 @@ are_exact name = record {
 }
 
 -- what passes a test meets the constraint that it is
-pub passed_meets : (name : Sym → List ℕ) (c : Constraint) (h : Held) → meets name c h ≡ true → holds.Meets (test_of name c) h
+pub passed_meets : (name : Sym → List ℕ) (c : Constraint) (h : Held) → meets name c h ≡ true → MeetsHeld (test_of name c) h
 passed_meets name (tests.Variant ty variant fields) (held_value (made_variant uy k vs)) e =
     let h = and_both (uy == ty.0) ((k == variant.0) && (count vs == fields.0)) e in
     let g = and_both (k == variant.0) (count vs == fields.0) (h.1) in
@@ -134,7 +134,7 @@ passed_meets name tests.Some (held_some h) e = (h, refl)
 passed_meets name c h e = absurd cc
 
 -- and the other way round
-pub met_passes : (name : Sym → List ℕ) (c : Constraint) (h : Held) → holds.Meets (test_of name c) h → meets name c h ≡ true
+pub met_passes : (name : Sym → List ℕ) (c : Constraint) (h : Held) → MeetsHeld (test_of name c) h → meets name c h ≡ true
 met_passes name (tests.Variant ty variant fields) h (vs, p, q) =
     ap (meets name (tests.Variant ty variant fields)) p
     ∙ both_and (ty.0 == ty.0) ((variant.0 == variant.0) && (count vs == fields.0)) (eq-eqb ty.0 ty.0 refl)

@@ -5,8 +5,8 @@ use Rattle.std.proofs.Common.{◌==◌, eq-eqb}
 use Rattle.std.specs.Prelude.{nat_lt}
 use Rattle.std.proofs.lemmas.Bool.Decides.{nat_tests}
 use Rattle.isle_types.specs.declared.ids.Sym.{Sym}
-use Rattle.isle_terms.specs.declared.rules.Rule as source
-use Rattle.isle_terms.specs.TypedRules.{TypedRule}
+use Rattle.isle_rules.specs.declared.rules.Rule as source
+use Rattle.isle_rules.specs.TypedRules.{TypedRule}
 use Rattle.isle_meaning.specs.Facts.{TermFacts}
 use Rattle.isle_meaning.specs.Held.{Held}
 use Rattle.isle_blocks.specs.declared.ids.BindingId.{BindingId}

@@ -140,7 +140,8 @@ sites_more sites i old now new low before step =
     step ∙ (ap (λ (x : List ℕ). x ++ (get_or sites i some).0 ∷ []) before
     ∙ (append_assoc old (take i (numbers_of sites)) ((get_or sites i some).0 ∷ []) ∙ ap (λ (x : List ℕ). old ++ x) (sym one)))
 
-pub low_more : (sites : List BindingId) (i n : ℕ) → i < length sites → AllBelow (take i (numbers_of sites)) n → (get_or sites i (record { 0 = 0 })).0 < n
+pub low_more : (sites : List BindingId) (i n : ℕ) → i < length sites → AllBelow (take i (numbers_of sites)) n
+    → (get_or sites i (record { 0 = 0 })).0 < n
     → AllBelow (take (i + 1) (numbers_of sites)) n
 low_more sites i n low all here x m =
     let some : BindingId = record { 0 = 0 } in
@@ -156,7 +157,8 @@ members_more classes i class low is =
     let one : take (i + 1) classes ≡ take i classes ++ class ∷ [] =
     take_more classes i class low ∙ ap (λ (c : List BindingId). take i classes ++ c ∷ []) (sym is) in
     ap (flat_map numbers_of) one
-    ∙ (flat_append numbers_of (take i classes) (class ∷ []) ∙ ap (λ (l : List ℕ). flat_map numbers_of (take i classes) ++ l) (append-nil (numbers_of class)))
+    ∙ (flat_append numbers_of (take i classes) (class ∷ []) ∙ ap (λ (l : List ℕ). flat_map numbers_of (take i classes) ++ l)
+    (append-nil (numbers_of class)))
 
 -- one list more, and those past the last
 pub list_more : {A : Type 0} (P : ℕ → List A → Type 0) (lists new : List (Vec A)) (v : Vec A) (n : ℕ) → length lists ≡ n → new ≡ lists ++ v ∷ []
@@ -167,7 +169,8 @@ list_more {A} P lists new v n size e all here i l = elim (less_or i n) [
       subst (P i) (sym (ap items_in f)) (all i k)
   | inr k ↦
       let same : i ≡ length lists = omega arith in
-      let f : slice_get new i ≡ Some v = ap (λ (y : List (Vec A)). slice_get y i) e ∙ (ap (slice_get (lists ++ v ∷ [])) same ∙ slice_get-last lists v) in
+      let f : slice_get new i ≡ Some v = ap (λ (y : List (Vec A)). slice_get y i) e ∙
+      (ap (slice_get (lists ++ v ∷ [])) same ∙ slice_get-last lists v) in
       let at : n ≡ i = omega arith in
       subst (P i) (sym (ap items_in f)) (subst (λ (j : ℕ). P j v.items) at here)
 ]
@@ -346,7 +349,8 @@ module _ (i : ℕ) (old new : List ℕ) (low : (x : ℕ) → Elem x old → x �
   pub rising_still : IsRising old → IsRising new
   rising_still up k l d before within = elim (less_or l (length old)) [
     | inl short ↦
-        let e : get_or new k d ≡ get_or old k d = ap (λ (y : List ℕ). get_or y k d) adds.behind ∙ get_or_append_left old adds.more d k (omega arith) in
+        let e : get_or new k d ≡ get_or old k d = ap (λ (y : List ℕ). get_or y k d) adds.behind ∙ get_or_append_left old adds.more d k
+        (omega arith) in
         let f : get_or new l d ≡ get_or old l d = ap (λ (y : List ℕ). get_or y l d) adds.behind ∙ get_or_append_left old adds.more d l short in
         let g : get_or old k d ≤ get_or old l d = up k l d before short in
         omega arith

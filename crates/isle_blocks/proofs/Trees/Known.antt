@@ -95,23 +95,6 @@ passed_fit rules n old new s rule f l e k m has =
       ];
     }
 
--- it stays fit where sites are joined, and in a copy
-pub fit_joined : (rules : RulesOverSites) (n : ℕ) (old new : Known) → IsFit rules n old → new.passed ≡ old.passed
-    → new.emitted ≡ old.emitted → length new.labels ≡ length old.labels
-    → ((x : ℕ) → x < length new.labels → get_or new.labels x x < length new.labels) → IsFit rules n new
-fit_joined rules n old new f p m size below =
-    let k : length new.labels ≡ n = size ∙ f.labels in
-    record {
-      passed = ap length p ∙ f.passed;
-      labels = k;
-      emitted = ap length m ∙ f.emitted;
-      below = λ x l. let h = below x (omega arith) in omega arith;
-      wanted = λ x i e. f.wanted x i (ap (λ (xs : List (Option ℕ)). get_or xs x None) (sym p) ∙ e);
-    }
-
-pub fit_copy : (rules : RulesOverSites) (n : ℕ) (a b : Known) → IsCopy a b → IsFit rules n b → IsFit rules n a
-fit_copy rules n a b c f = fit_same rules n b a f (record { passed = c.passed; labels = c.labels; emitted = ap length c.emitted })
-
 pub copy_scope : (rules : RulesOverSites) (a b : Known) → IsCopy a b → scope_of rules a ≡ scope_of rules b
 copy_scope rules a b c = scope_same _ _
     (λ x. ap (λ (xs : List (Option ℕ)). want_by rules (get_or xs x None) x) c.passed)

@@ -1,6 +1,6 @@
 -- What appending nodes does to the pieces that they stand for.
 use Rattle.std.proofs.Common.{◌≡◌, ℕ, List, [], ◌∷◌, ◌++◌, refl, ap}
-use Rattle.isle_syntax.specs.declared.lexer.Pos.{Pos}
+use Rattle.isle_ast.specs.declared.pos.Pos.{Pos}
 use Rattle.isle_blocks.specs.declared.ids.BindingId.{BindingId}
 use Rattle.isle_blocks.specs.declared.serializer.node.Node.{Node}
 use Rattle.isle_blocks.specs.declared.serializer.node.Node.TheVariants as nodes
@@ -11,12 +11,3 @@ use Rattle.isle_blocks.specs.Trees.Nodes.{Piece, given, put, read}
 pub read-append : (xs ys : List Node) (pieces : List Piece) → read (xs ++ ys) pieces ≡ read xs (read ys pieces)
 read-append [] ys pieces = refl
 read-append (x ∷ xs) ys pieces = ap (put x) (read-append xs ys pieces)
-
--- one more node
-pub read-push : (xs : List Node) (node : Node) (pieces : List Piece) → read (xs ++ node ∷ []) pieces ≡ read xs (put node pieces)
-read-push xs node pieces = read-append xs (node ∷ []) pieces
-
--- one more return
-pub read-push_return : (xs : List Node) (binds : List BindingId) (rule : ℕ) (pos : Pos) (result : BindingId) (pieces : List Piece)
-    → read (xs ++ nodes.Return binds rule pos result ∷ []) pieces ≡ read xs (given (numbers_of binds) rule pieces)
-read-push_return xs binds rule pos result pieces = read-push xs (nodes.Return binds rule pos result) pieces

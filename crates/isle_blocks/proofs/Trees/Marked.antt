@@ -25,7 +25,8 @@ marking_marked R sc sites start marks i l h e = record {
 }
 
 -- the same, where that site is marked or can't be bound
-pub marking_passed : {C V : Type 0} (R : Rules C V) → SameIs R.tests → SameSelf R.tests → (sc : Scope C) (sites : List ℕ) (start marks : List Bool) (i : ℕ) → i < length sites
+pub marking_passed : {C V : Type 0} (R : Rules C V) → SameIs R.tests → SameSelf R.tests
+    → (sc : Scope C) (sites : List ℕ) (start marks : List Bool) (i : ℕ) → i < length sites
     → ArePartsFirst R sites → Marking R sc (take i sites) start marks
     → (not (is_marked marks (get_or sites i 0)) && can_bind R sc marks (get_or sites i 0)) ≡ false → Marking R sc (take (i + 1) sites) start marks
 marking_passed R same self sc sites start marks i l first h e = elim (and_fails (not (is_marked marks (get_or sites i 0))) _ e) [

@@ -3,12 +3,13 @@ use Rattle.std.proofs.Common.{◌≡◌, ◌≢◌, ◌↔◌, inl, ℕ, true, L
 use Rattle.std.proofs.Common.{◌∙◌}
 use Rattle.std.proofs.lemmas.Option.{same_Some}
 use Rattle.isle_types.specs.declared.ids.Sym.{Sym}
-use Rattle.isle_terms.specs.declared.rules.Rule as source
-use Rattle.isle_terms.specs.TypedRules.{TypedRule}
+use Rattle.isle_rules.specs.declared.rules.Rule as source
+use Rattle.isle_rules.specs.TypedRules.{TypedRule}
 use Rattle.isle_meaning.specs.Values.{Value, Values}
 use Rattle.isle_meaning.specs.Facts.{TermFacts}
 use Rattle.isle_meaning.specs.Answers.{Completion}
 use Rattle.isle_meaning.specs.Held.{Held, value, IsAnswered}
+use Rattle.isle_meaning.specs.Held as holding
 use Rattle.isle_meaning.specs.Holds as holds
 use Rattle.isle_meaning.specs.Matching as matching
 use Rattle.isle_meaning.specs.Scopes.{Covers}
@@ -16,7 +17,8 @@ use Rattle.isle_meaning.specs.Sites.{Site}
 use Rattle.isle_meaning.specs.Demands.{Demand, constrained, equal}
 use Rattle.isle_meaning.specs.Demands as demands
 use Rattle.isle_meaning.specs.Derived.{Closed}
-use Rattle.isle_meaning.specs.Laws.Matching.{DemandOf, Settles}
+use Rattle.isle_meaning.specs.Laws.Matching.{Settles}
+use Rattle.isle_meaning.specs.Demands.{DemandOf}
 use Rattle.isle_meaning.specs.Numbered.{Row}
 use Rattle.isle_meaning.proofs.Matching.Known.{known}
 use Rattle.isle_meaning.proofs.Matching.Whole.{matches_by_closed}
@@ -106,7 +108,7 @@ module _ (name : Sym → List ℕ) (facts : TermFacts) (sources : List source.Ru
         let tree_is = tree_one name set.sites h.is.table t id.0 at_id in (
           x,
           subst (λ (z : Site). val z ≡ gives x) tree_is g,
-          subst (λ (d : demands.Constraint). holds.Meets d x) what (passed_meets name test' x q),
+          subst (λ (d : demands.Constraint). holding.Meets d x) what (passed_meets name test' x q),
         )
     holds_closed w (equal s u) k =
         let closed = m.closed in

@@ -32,7 +32,8 @@ pub moved_match : (set : RulesOverSites) (o arms : Open) (chosen rest : List ℕ
     (binds : List BindingId) (node : Node) (w0 w1 w2 : List Task) (n0 n1 : List Node)
     → IsSplit set o (on_match s.0) chosen rest → Emits (rules_in set) (scope_of set o.known) (s.0 ∷ []) old (numbers_of binds) after → old ≡ []
     → node ≡ nodes.Match binds s → n1 ≡ n0 ++ node ∷ [] → WantsBlock set rest after w0 w1
-    → AreArms set s.0 arms.left.items arms.known arms.marks (numbers_of arms.ready.items) → scope_of set arms.known ≡ after → IsSameBag chosen arms.left.items
+    → AreArms set s.0 arms.left.items arms.known arms.marks (numbers_of arms.ready.items) → scope_of set arms.known ≡ after
+    → IsSameBag chosen arms.left.items
     → w2 ≡ w1 ++ tasks.Arms s 0 arms ∷ [] → Moves set (tasks.Block o) w0 w2 n0 n1
 moved_match set o arms chosen rest s after old binds node w0 w1 w2 n0 n1 split emits none is e want fan at same f =
     let R = rules_in set in
@@ -50,7 +51,17 @@ moved_match set o arms chosen rest s after old binds node w0 w1 w2 n0 n1 split e
       added = node ∷ [];
       work = f ∙ ap (λ (x : List Task). x ++ tasks.Arms s 0 arms ∷ []) want.work ∙ append_assoc w0 (want.task ∷ []) (tasks.Arms s 0 arms ∷ []);
       nodes = e;
-      valid = (want.valid, (record { arms = fan; more = chosen_some R o.left.items chosen arms.left.items sc (on_match s.0) best split.chosen_is same }, tt));
+      valid = (
+        want.valid,
+        (
+          record {
+            arms = fan;
+            more = chosen_some R o.left.items chosen arms.left.items sc
+                (on_match s.0) best split.chosen_is same;
+          },
+          tt,
+        ),
+      );
       told = told_one set node (subst (IsOfRule set) (sym is) tt);
       smaller = omega arith;
       due = λ pieces d.
@@ -95,7 +106,8 @@ moved_equal set o chosen rest a b after inner old binds node w0 w1 w2 n0 n1 good
           let B : List ℕ → Type 0 = λ l. Builds R l after (first_steps (later pieces)) in
           let after_it : Builds R rest after (first_steps (later pieces)) = want.due (later pieces) d.1 in
           subst P (sym is)
-          (equal_builds R o.left.items chosen sc after inner a.0 b.0 old (numbers_of binds) (first_steps pieces) (first_steps (later pieces)) best none emits
+          (equal_builds R o.left.items chosen sc after inner a.0 b.0 old (numbers_of binds) (first_steps pieces)
+          (first_steps (later pieces)) best none emits
           split.chosen_is in_is (body.due pieces d.0.1) (subst B split.rest_is after_it));
       rest = λ pieces. let P : Node → Type 0 = λ x. later (put x pieces) ≡ later (later pieces) in subst P (sym is) refl;
     }
@@ -132,13 +144,15 @@ moved_loop set o chosen rest s x freed after inner last old binds node w0 w1 w2 
           let B : List ℕ → Type 0 = λ l. Builds R l last (first_steps (later pieces)) in
           let after_it : Builds R rest last (first_steps (later pieces)) = want.due (later pieces) d.1 in
           subst P (sym is)
-          (loop_builds R o.left.items chosen sc freed after inner last s.0 x.0 old (numbers_of binds) (first_steps pieces) (first_steps (later pieces)) best
+          (loop_builds R o.left.items chosen sc freed after inner last s.0 x.0 old (numbers_of binds) (first_steps pieces)
+          (first_steps (later pieces)) best
           none free emits split.chosen_is in_is end value (body.due pieces d.0.1) (subst B split.rest_is after_it));
       rest = λ pieces. let P : Node → Type 0 = λ v. later (put v pieces) ≡ later (later pieces) in subst P (sym is) refl;
     }
 
 -- an arm
-pub moved_arm : (set : RulesOverSites) (o : Open) (s : BindingId) (start : ℕ) (test : Constraint) (rules : List ℕ) (end : ℕ) (inner : Scope Constraint)
+pub moved_arm : (set : RulesOverSites) (o : Open) (s : BindingId) (start : ℕ) (test : Constraint) (rules : List ℕ)
+    (end : ℕ) (inner : Scope Constraint)
     (bindings : List (Option BindingId)) (node : Node) (w0 w1 w2 : List Task) (n0 n1 : List Node)
     → IsSerializable set → IsFan set s.0 start o → IsRun (rules_in set) s.0 start o.left.items test rules end
     → fields_of bindings ≡ (rules_in set).fields s.0 test → node ≡ nodes.Arm test bindings → n1 ≡ n0 ++ node ∷ []
@@ -167,7 +181,8 @@ moved_arm set o s start test rules end inner bindings node w0 w1 w2 n0 n1 good f
           let P : Node → Type 0 = λ x. BuildsArms R group sc s.0 (first_arms (put x pieces)) in
           let after_it : BuildsArms R rest sc s.0 (first_arms (later pieces)) = want.due (later pieces) d.1 in
           subst P (sym is)
-          (one_arm R sc inner s.0 test group rules rest (fields_of bindings) (first_steps pieces) (first_arms (later pieces)) is_run.least fields in_is
+          (one_arm R sc inner s.0 test group rules rest (fields_of bindings) (first_steps pieces)
+          (first_arms (later pieces)) is_run.least fields in_is
           is_run.run is_run.rest (body.due pieces d.0.1) after_it);
       rest = λ pieces. let P : Node → Type 0 = λ x. later (put x pieces) ≡ later (later pieces) in subst P (sym is) refl;
     }

@@ -33,24 +33,6 @@ made_from_source rules (Some (sites.MakeSome inner)) s e = cc
 made_from_source rules (Some (sites.MatchSome source)) s e = (_, refl, cc)
 made_from_source rules (Some (sites.MatchTuple source field)) s e = cc
 
--- What has no source is made by no test.
-pub made_from_none : (rules : List Rule) (o : Option Binding) → source_in o ≡ None → read_or None (made_by rules) o ≡ None
-made_from_none rules None e = refl
-made_from_none rules (Some (sites.ConstBool val ty)) e = refl
-made_from_none rules (Some (sites.ConstInt val ty)) e = refl
-made_from_none rules (Some (sites.ConstPrim val)) e = refl
-made_from_none rules (Some (sites.Argument index)) e = refl
-made_from_none rules (Some (sites.Extractor term parameter)) e = refl
-made_from_none rules (Some (sites.Constructor term parameters instance)) e = refl
-made_from_none rules (Some (sites.Iterator source)) e = cc
-made_from_none rules (Some (sites.MakeVariant ty variant fields)) e = refl
-made_from_none rules (Some (sites.MatchVariant source variant field)) e = cc
-made_from_none rules (Some (sites.MakeStruct ty fields)) e = refl
-made_from_none rules (Some (sites.ExtractStruct source field)) e = cc
-made_from_none rules (Some (sites.MakeSome inner)) e = refl
-made_from_none rules (Some (sites.MatchSome source)) e = cc
-made_from_none rules (Some (sites.MatchTuple source field)) e = refl
-
 -- what no rule wants, no rule's want is
 unwanted : (set : RulesOverSites) (o : Option ℕ) (y : ℕ) (w : Want Constraint) → want_by set o y ≡ Some w
     → ((i : ℕ) → (rules_in set).at i y ≢ Some w) → ⊥
@@ -59,22 +41,16 @@ unwanted set (Some j) y w e n = n j e
 
 module _ (set : RulesOverSites) (n : ℕ) (openers : ℕ → Option ℕ) (known : Known) (h : AreOpeners set n openers) (x s : ℕ)
     (from : source_in (slice_get set.sites x) ≡ Some s) where
-  -- where no want of the source was met
-  pub made_untested : slice_index_or known.passed s None ≡ None → is_made (rules_in set).tests (scope_of set known) ((rules_in set).made x) ≡ false
-  made_untested e =
-      let (m, made, at) = made_from_source set.rules (slice_get set.sites x) s from in
-      let none : want_by set (slice_index_or known.passed m.site None) m.site ≡ None =
-      subst (λ (y : ℕ). want_by set (slice_index_or known.passed y None) y ≡ None) (sym at) (ap (λ (o : Option ℕ). want_by set o s) e) in
-      rw made (ap (λ (o : Option (Want Constraint)). is_want (rules_in set).tests m.want o) none)
-
   -- where a rule's want of it was met, and a rule opens the site
   pub made_opened : (i j : ℕ) → openers x ≡ Some i → slice_index_or known.passed s None ≡ Some j
-      → same_wants (rules_in set).tests ((rules_in set).at i s) ((rules_in set).at j s) ≡ is_made (rules_in set).tests (scope_of set known) ((rules_in set).made x)
+      → same_wants (rules_in set).tests ((rules_in set).at i s) ((rules_in set).at j s) ≡ is_made (rules_in set).tests
+      (scope_of set known) ((rules_in set).made x)
   made_opened i j o e =
       let (m, made, at) = made_from_source set.rules (slice_get set.sites x) s from in
       let opens = subst (λ (y : ℕ). (rules_in set).at i y ≡ Some m.want) at (h.first x i m made o) in
       let passed : want_by set (slice_index_or known.passed m.site None) m.site ≡ (rules_in set).at j s =
-      subst (λ (y : ℕ). want_by set (slice_index_or known.passed y None) y ≡ (rules_in set).at j s) (sym at) (ap (λ (o : Option ℕ). want_by set o s) e) in
+      subst (λ (y : ℕ). want_by set (slice_index_or known.passed y None) y ≡ (rules_in set).at j s) (sym at)
+      (ap (λ (o : Option ℕ). want_by set o s) e) in
       rw made (rw opens (sym (ap (λ (o : Option (Want Constraint)). is_want (rules_in set).tests m.want o) passed)))
 
   -- where no rule opens it

@@ -13,7 +13,7 @@ use Rattle.isle_blocks.specs.declared.binding.Binding.TheVariants as sites
 use Rattle.isle_blocks.specs.declared.constraint.Constraint.{Constraint}
 use Rattle.isle_blocks.specs.declared.constraint.Constraint.TheVariants as tests
 use Rattle.isle_blocks.specs.declared.rule.Rule.{Rule}
-use Rattle.isle_blocks.specs.Bindings.{sources_of}
+use Rattle.isle_blocks.specs.Tables.{sources_of}
 use Rattle.isle_blocks.specs.RuleSets.{RulesOverSites}
 use Rattle.isle_blocks.specs.Rows.{numbers_of}
 use Rattle.isle_blocks.specs.Inside.Trees.Builder.{AreOpeners, IsRising, is_some_test, loops_at, opens_at, opens_by, opens_site, rules_in, source_in}
@@ -171,7 +171,8 @@ module _ (set : RulesOverSites) (x : ℕ) (b : Binding) (stands : slice_get set.
   want_in i rule s there = ap (λ (o : Option Rule). read_or None (want_at s) o) there
 
   -- a rule that opens the site is listed at its source
-  opens_used : (users : ℕ → List ℕ) (i s : ℕ) → HasUsers (rules_in set) users → source_in (Some b) ≡ Some s → opens_at set i x ≡ true → Elem i (users s)
+  opens_used : (users : ℕ → List ℕ) (i s : ℕ) → HasUsers (rules_in set) users → source_in (Some b) ≡ Some s
+      → opens_at set i x ≡ true → Elem i (users s)
   opens_used users i s used src e =
       let (rule, there) = opening_rule i e in
       let opens = sym (opens_is i rule there) ∙ e in
@@ -201,7 +202,8 @@ module _ (set : RulesOverSites) (x : ℕ) (b : Binding) (stands : slice_get set.
           | IsMadeBy.by_field kind t f own parts makes shows ↦
               let same = same_Some _ m (sym makes ∙ made) in
               let P : Source Constraint → Type 0 = λ z. want_at z.site rule ≡ Some z.want in
-              let has_it : test_at t rule ≡ Some (opening set.rules kind t f) = has_wanted (has_loop t rule) (test_at t rule) _ (subst P (sym same) wanted) in
+              let has_it : test_at t rule ≡ Some (opening set.rules kind t f) = has_wanted (has_loop t rule)
+              (test_at t rule) _ (subst P (sym same) wanted) in
               shows rule ∙ (ap (λ (o : Option Constraint). opens_by (opens_field kind f) o) has_it ∙ opening_opens set.rules kind t f)
           | IsMadeBy.by_option t own parts makes shows ↦
               let same = same_Some _ m (sym makes ∙ made) in
@@ -291,13 +293,15 @@ source_part set x s e = elim (none_or (slice_get set.sites x)) [
 ]
 
 -- the test that makes a site is one of its source
-pub made_source : (set : RulesOverSites) (x : ℕ) (m : Source Constraint) → (rules_in set).made x ≡ Some m → source_in (slice_get set.sites x) ≡ Some m.site
+pub made_source : (set : RulesOverSites) (x : ℕ) (m : Source Constraint) → (rules_in set).made x ≡ Some m
+    → source_in (slice_get set.sites x) ≡ Some m.site
 made_source set x m e = elim (none_or (slice_get set.sites x)) [
   | inl h ↦ let g : None ≡ Some m = sym (ap (λ (o : Option Binding). read_or None (made_by set.rules) o) h) ∙ e in cc
   | inr (b, h) ↦ ap source_in h ∙ made_site set.rules b m (sym (ap (λ (o : Option Binding). read_or None (made_by set.rules) o) h) ∙ e)
 ]
 
-module _ (set : RulesOverSites) (users : ℕ → List ℕ) (openers : ℕ → Option ℕ) (used : HasUsers (rules_in set) users) (up : (s : ℕ) → IsRising (users s))
+module _ (set : RulesOverSites) (users : ℕ → List ℕ) (openers : ℕ → Option ℕ) (used : HasUsers (rules_in set) users)
+    (up : (s : ℕ) → IsRising (users s))
     (each : (x : ℕ) → x < length set.sites → openers x ≡ opener_among set (read_or [] users (source_in (slice_get set.sites x))) x) where
   among : (x : ℕ) (m : Source Constraint) → (rules_in set).made x ≡ Some m → openers x ≡ opener_among set (users m.site) x
   among x m e =

@@ -72,7 +72,8 @@ built_returns set block ns e told r m =
 pub built_short : (set : RulesOverSites) (block : BlockShown) → IsSerializable set → IsBuilt set block → IsShort set block
 built_short set block good built name held =
     whole_steps (rules_of name set) (all_rules set) block.tree held
-    (weighed_buildable (rules_of name set) (length set.sites) (all_rules set) (named_buildable (λ s. []) name set (length set.sites) (all_rules set) good))
+    (weighed_buildable (rules_of name set) (length set.sites) (all_rules set)
+    (named_buildable (λ s. []) name set (length set.sites) (all_rules set) good))
     (built name)
 
 pub built_asks : (set : RulesOverSites) (block : BlockShown) → IsSerializable set → IsBuilt set block → BindsWhatIsAsked set block

@@ -5,13 +5,13 @@ use Rattle.std.specs.Prelude.{nat_lt}
 use Rattle.std.proofs.lemmas.Bool.Decides.{nat_tests}
 use Rattle.std.proofs.lemmas.Option.{same_Some}
 use Rattle.isle_types.specs.declared.ids.Sym.{Sym}
-use Rattle.isle_terms.specs.declared.rules.Rule as source
-use Rattle.isle_terms.specs.TypedRules.{TypedRule}
+use Rattle.isle_rules.specs.declared.rules.Rule as source
+use Rattle.isle_rules.specs.TypedRules.{TypedRule}
 use Rattle.isle_meaning.specs.Values.{Value, Values, made_variant, made_struct, nth, count, ask}
 use Rattle.isle_meaning.specs.Facts.{TermFacts}
 use Rattle.isle_meaning.specs.Answers.{Completion, IsAllowed}
 use Rattle.isle_meaning.specs.Held.{Held, held_value, held, content_of, value}
-use Rattle.isle_meaning.specs.Holds as holds
+use Rattle.isle_meaning.specs.Held as holding
 use Rattle.isle_meaning.specs.Sites.{Site, Sites, constructor_call, prim_site, match_variant, extract_struct}
 use Rattle.isle_meaning.specs.Numbered.{At}
 use Rattle.isle_meaning.proofs.Matching.Basics.{field_at, struct_at}
@@ -43,7 +43,7 @@ use Rattle.isle_blocks.proofs.Trees.Answered.{parts_valued, held_plain}
 use Rattle.isle_blocks.proofs.Trees.Listed.{site_kinded, no_iterator, opening_opens}
 
 -- What meets a test that opens a field has the field.
-pub variant_there : (name : Sym → List ℕ) (k i : ℕ) (c : Constraint) (x : Held) → opens_field (Some k) i c ≡ true → holds.Meets (test_of name c) x
+pub variant_there : (name : Sym → List ℕ) (k i : ℕ) (c : Constraint) (x : Held) → opens_field (Some k) i c ≡ true → holding.Meets (test_of name c) x
     → (ty : ℕ) × (vs : Values) × (y : Value) × (x ≡ held_value (made_variant ty k vs)) × (nth vs i ≡ gives y)
 variant_there name k i (tests.Variant ty v n) x o (vs, p, q) =
     let b = and_both (v.0 == k) (nat_lt i n.0) o in
@@ -54,7 +54,7 @@ variant_there name k i (tests.Variant ty v n) x o (vs, p, q) =
 variant_there name k i c x o m = absurd cc
 
 -- What meets one of a struct has its field.
-pub struct_there : (name : Sym → List ℕ) (i : ℕ) (c : Constraint) (x : Held) → opens_field None i c ≡ true → holds.Meets (test_of name c) x
+pub struct_there : (name : Sym → List ℕ) (i : ℕ) (c : Constraint) (x : Held) → opens_field None i c ≡ true → holding.Meets (test_of name c) x
     → (ty : ℕ) × (vs : Values) × (y : Value) × (x ≡ held_value (made_struct ty vs)) × (nth vs i ≡ gives y)
 struct_there name i (tests.Struct ty n) x o (vs, p, q) =
     let l : i < n.0 = grind (arith, nat_tests) in

@@ -26,14 +26,3 @@ returned_by [] at node e r f = cc
 returned_by (x ∷ xs) zero node e r f =
     let same : x ≡ node = cc in first_option r (return_of x) (returns_of xs) (ap return_of same ∙ f)
 returned_by (x ∷ xs) (suc at) node e r f = behind_option r (return_of x) (returns_of xs) (returned_by xs at node e r f)
-
--- a return that is laid out behind other nodes comes last
-pub returns_of-push_return : (xs : List Node) (node : Node) (r : Returned) → return_of node ≡ Some r
-    → returns_of (xs ++ node ∷ []) ≡ returns_of xs ++ r ∷ []
-returns_of-push_return xs node r e =
-    filter_map-append return_of xs (node ∷ []) ∙ ap (λ (o : Option Returned). returns_of xs ++ cons_option o []) e
-
--- other nodes return nothing
-pub returns_of-push_other : (xs : List Node) (node : Node) → return_of node ≡ None → returns_of (xs ++ node ∷ []) ≡ returns_of xs
-returns_of-push_other xs node e =
-    filter_map-append return_of xs (node ∷ []) ∙ ap (λ (o : Option Returned). returns_of xs ++ cons_option o []) e ∙ append-nil (returns_of xs)

@@ -24,7 +24,8 @@ get_right {A} (x ∷ xs) ys zero j e = absurd (omega arith)
 get_right {A} (x ∷ xs) ys (suc i) j e = get_right xs ys i j (omega arith)
 
 -- an item is found in its row
-pub get_at : {A : Type 0} (rs : List (List A)) (i q j : ℕ) → AreRows rs → j < 128 → i ≡ 128 * q + j → slice_get (joined rs) i ≡ item_of (slice_get rs q) j
+pub get_at : {A : Type 0} (rs : List (List A)) (i q j : ℕ) → AreRows rs → j < 128 → i ≡ 128 * q + j
+    → slice_get (joined rs) i ≡ item_of (slice_get rs q) j
 get_at [] i q j rows l e = refl
 get_at (r ∷ rs) i zero j (inl full, rows) l e = get_left r (joined rs) i (omega arith) ∙ ap (slice_get r) (omega arith)
 get_at (r ∷ rs) i zero j (inr (few, last), rows) l e =
@@ -69,7 +70,8 @@ set_at (s ∷ rs) i (suc q) j r x (inr (few, last), rows) l e there within =
     absurd (none-some r (subst (λ t. slice_get t q ≡ Some r) last there))
 
 -- a row is put in the place of one as long
-pub rows_set : {A : Type 0} (rs : List (List A)) (q : ℕ) (r s : List A) → AreRows rs → slice_get rs q ≡ Some r → length s ≡ length r → AreRows (slice_set rs q s)
+pub rows_set : {A : Type 0} (rs : List (List A)) (q : ℕ) (r s : List A) → AreRows rs → slice_get rs q ≡ Some r
+    → length s ≡ length r → AreRows (slice_set rs q s)
 rows_set [] q r s rows there same = absurd (none-some r there)
 rows_set (t ∷ rs) zero r s (h, rows) there same = (elim h [ inl full ↦ inl (kept full) | inr h ↦ inr (less h.0, h.1) ], rows)
   where
@@ -112,11 +114,13 @@ place_row {X} {A} f rows i are within = given (row_there (map f rows) i (i / 128
         let same : f r ≡ l = some_same (f r) l (ap (option_map f) (sym some) ∙ sym (slice_get-map f rows (i / 128)) ∙ there) in
         (r, some, subst (λ x. i % 128 < length x) (sym same) less)
 
-    given : ((l : List A) × (slice_get (map f rows) (i / 128) ≡ Some l) × (i % 128 < length l)) → (r : X) × (slice_get rows (i / 128) ≡ Some r) × (i % 128 < length (f r))
+    given : ((l : List A) × (slice_get (map f rows) (i / 128) ≡ Some l) × (i % 128 < length l)) → (r : X)
+        × (slice_get rows (i / 128) ≡ Some r) × (i % 128 < length (f r))
     given (l, there, less) = found (slice_get rows (i / 128)) l refl there less
 
 -- an item is set in the row of its place
-pub set_row : {X A : Type 0} (f : X → List A) (rows : List X) (i : ℕ) (old new : X) (x : A) → AreRows (map f rows) → slice_get rows (i / 128) ≡ Some old
+pub set_row : {X A : Type 0} (f : X → List A) (rows : List X) (i : ℕ) (old new : X) (x : A) → AreRows (map f rows)
+    → slice_get rows (i / 128) ≡ Some old
     → i % 128 < length (f old) → f new ≡ slice_set (f old) (i % 128) x
     → joined (map f (slice_set rows (i / 128) new)) ≡ slice_set (joined (map f rows)) i x
 set_row f rows i old new x are there within is =
@@ -133,15 +137,12 @@ are_set f rows q old new are there same =
     (rows_set (map f rows) q (f old) (f new) are (slice_get-map f rows q ∙ ap (option_map f) there) same)
 
 -- clones of rows have their items
-pub copies_same : {X A : Type 0} (f : X → List A) (P : X → X → Type 0) → ((x y : X) → P x y → f y ≡ f x) → (xs ys : List X) → AllZip P xs ys → map f ys ≡ map f xs
+pub copies_same : {X A : Type 0} (f : X → List A) (P : X → X → Type 0) → ((x y : X) → P x y → f y ≡ f x) → (xs ys : List X)
+    → AllZip P xs ys → map f ys ≡ map f xs
 copies_same f P same [] [] h = refl
 copies_same f P same [] (y ∷ ys) h = absurd h
 copies_same f P same (x ∷ xs) [] h = absurd h
 copies_same f P same (x ∷ xs) (y ∷ ys) h = λ i. same x y h.0 i ∷ copies_same f P same xs ys h.1 i
-
-full_are : {A : Type 0} (rs : List (List A)) → AreFull rs → AreRows rs
-full_are [] h = tt
-full_are (r ∷ rs) (full, h) = (inl full, full_are rs h)
 
 are_more : {A : Type 0} (rs : List (List A)) (r : List A) → AreFull rs → length r ≤ 128 → AreRows (rs ++ r ∷ [])
 are_more [] r h few = (inr (few, refl), tt)
@@ -179,19 +180,6 @@ map_rows g (r ∷ rs) (inl full, h) = (inl (length-map r g ∙ full), map_rows g
 map_rows g (r ∷ rs) (inr (few, last), h) = (inr (subst (λ n. n ≤ 128) (sym (length-map r g)) few, ap (map (map g)) last), map_rows g rs h)
 
 -- each row is the map of an old one
-pub all_mapped : {A B : Type 0} (g : A → B) (rs : List (List A)) (ss : List (List B)) → AreRows rs → ss ≡ map (map g) rs → AreRows ss × (joined ss ≡ map g (joined rs))
+pub all_mapped : {A B : Type 0} (g : A → B) (rs : List (List A)) (ss : List (List B)) → AreRows rs → ss ≡ map (map g) rs
+    → AreRows ss × (joined ss ≡ map g (joined rs))
 all_mapped g rs ss h is = (subst AreRows (sym is) (map_rows g rs h), ap joined is ∙ map_joined g rs)
-
--- worked cases: the items of rows, a short last row, and a short row before another
-rows_joined : joined {A = ℕ} ((7 ∷ 8 ∷ []) ∷ [] ∷ (9 ∷ []) ∷ []) ≡ 7 ∷ 8 ∷ 9 ∷ []
-rows_joined = refl
-
-short_last_row : AreRows {A = ℕ} ((7 ∷ 8 ∷ []) ∷ [])
-short_last_row = (inr (omega arith, refl), tt)
-
-short_first_row : AreRows {A = ℕ} ((7 ∷ []) ∷ (8 ∷ []) ∷ []) → ⊥
-short_first_row (inl full, rows) = absurd (omega arith)
-short_first_row (inr (few, last), rows) = nothing_after [] last
-  where
-    nothing_after : (xs : List (List ℕ)) → (8 ∷ []) ∷ xs ≡ [] → ⊥
-    nothing_after xs e = cc

@@ -4,8 +4,8 @@ use Rattle.std.proofs.Common.{refl, ap, sym, subst, ◌∙◌}
 use Rattle.std.proofs.Common.{arith}
 use Rattle.std.proofs.lemmas.Option.{same_Some, none-some}
 use Rattle.isle_types.specs.declared.ids.Sym.{Sym}
-use Rattle.isle_terms.specs.declared.rules.Rule as source
-use Rattle.isle_terms.specs.TypedRules.{TypedRule}
+use Rattle.isle_rules.specs.declared.rules.Rule as source
+use Rattle.isle_rules.specs.TypedRules.{TypedRule}
 use Rattle.isle_meaning.specs.Facts.{TermFacts}
 use Rattle.isle_meaning.specs.Held.{Held}
 use Rattle.isle_meaning.specs.Sites.{Site}
@@ -16,14 +16,14 @@ use Rattle.isle_meaning.specs.Numbered.{Row, bool_row, int_row, prim_row, argume
 use Rattle.isle_meaning.specs.Numbered.{make_variant_row, match_variant_row, make_struct_row, extract_struct_row, make_some_row}
 use Rattle.isle_meaning.specs.Numbered.{match_some_row, match_tuple_row, At}
 use Rattle.isle_meaning.specs.Tested.{IsTested}
-use Rattle.isle_meaning.specs.Laws.Matching.{DemandOf}
+use Rattle.isle_meaning.specs.Demands.{DemandOf}
 use Rattle.isle_meaning.proofs.Matching.Numbering.{one_site}
 use Rattle.isle_blocks.specs.declared.ids.BindingId.{BindingId}
 use Rattle.isle_blocks.specs.declared.binding.Binding.{Binding}
 use Rattle.isle_blocks.specs.declared.binding.Binding.TheVariants as sites
 use Rattle.isle_blocks.specs.declared.constraint.Constraint.{Constraint}
 use Rattle.isle_blocks.specs.declared.rule.Rule.{Rule}
-use Rattle.isle_blocks.specs.Bindings.{sources_of}
+use Rattle.isle_blocks.specs.Tables.{sources_of}
 use Rattle.isle_blocks.specs.Rows.{numbers_of, row_of, rows_of}
 use Rattle.isle_blocks.specs.Building.Standing.{StandEach}
 use Rattle.isle_blocks.specs.DefinedSets.{IsMadeAt}
@@ -153,7 +153,11 @@ module _ (name : Sym → List ℕ) (facts : TermFacts) (sources : List source.Ru
         elim (elem_append s (calls_at set.sites r.impure) (r.result.0 ∷ []) e') [
           | inl c ↦ calls_have (HasTests (Derived D)) (part_tests (Derived D)) r.impure (impure_of facts m.reached.rule) m.effects (right_has.1) s c
           | inr c ↦ elim c [
-            | inl q ↦ (_, subst (λ (z : ℕ). At rows (result_of facts (facts.partial m.reached.rule.root) m.reached.rule) z) (sym q) m.value, right_has.0)
+            | inl q ↦ (
+              _,
+              subst (λ (z : ℕ). At rows (result_of facts (facts.partial m.reached.rule.root) m.reached.rule) z) (sym q) m.value,
+              right_has.0,
+            )
             | inr z ↦ absurd z
           ]
         ]
@@ -194,7 +198,8 @@ module _ (name : Sym → List ℕ) (facts : TermFacts) (sources : List source.Ru
           | inl d ↦
               let (test, has_it, what) = its_test name facts sources rules term set h i r at p m (tree a.0) a.0 some_constraint below d in
               inl (subst (λ (x : Source Constraint). R.at i x.site ≡ Some x.want) (same_Some _ k is)
-              (test_wanted name facts sources rules term set h i a.0 r test at has_it ∙ ap (λ (c : Constraint). Some (has c)) (some_is name test what)))
+              (test_wanted name facts sources rules term set h i a.0 r test at has_it ∙ ap (λ (c : Constraint). Some (has c))
+              (some_is name test what)))
           | inr c ↦ inr (rw e (constructs (tree a.0) a.0 below c))
         ]
     field_has s (sites.Iterator a) k t e at_t tested is = absurd (no_iterator name facts sources rules term set h s a e)

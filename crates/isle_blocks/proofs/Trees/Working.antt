@@ -143,16 +143,8 @@ copied_fit set n a b c f = record {
 
 -- ---- returns
 
-pub given_none : (set : RulesOverSites) (left : List ℕ) (sc : Scope Constraint) (nodes : List Node) → AreGiven set left left sc sc nodes nodes
-given_none set left sc nodes = record {
-  added = [];
-  nodes = sym (append-nil nodes);
-  told = λ n m. absurd m;
-  returns = λ pieces r. r;
-  rest_is = λ pieces. refl;
-}
-
-pub given_more : (set : RulesOverSites) (left : List ℕ) (i : ℕ) (sc now after : Scope Constraint) (binds : List ℕ) (node : Node) (old mid new : List Node)
+pub given_more : (set : RulesOverSites) (left : List ℕ) (i : ℕ) (sc now after : Scope Constraint) (binds : List ℕ)
+    (node : Node) (old mid new : List Node)
     → IsInOrder (rules_in set) left → i < length left → BindsEach (rules_in set) now (rights (rules_in set) (get_or left i 0)) binds after
     → ((pieces : List Piece) → put node pieces ≡ given binds (get_or left i 0) pieces) → IsOfRule set node → new ≡ mid ++ node ∷ []
     → AreGiven set left (drop i left) sc now old mid → AreGiven set left (drop (i + 1) left) sc after old new
@@ -188,7 +180,8 @@ given_all set left i sc now old mid new l e g =
 -- ---- what is to be laid out, with copies of what is known
 
 pub wants_copied : (set : RulesOverSites) (o : Open) (task : Task) (known : Known) (marks : List Bool) (ready : List BindingId) (w0 w1 : List Task)
-    → task ≡ tasks.Block o → IsCopy o.known known → o.marks ≡ marks → o.ready.items ≡ ready → IsFit set (length set.sites) known → IsInOrder (rules_in set) o.left.items → AreRules set o.left.items
+    → task ≡ tasks.Block o → IsCopy o.known known → o.marks ≡ marks → o.ready.items ≡ ready → IsFit set (length set.sites) known
+    → IsInOrder (rules_in set) o.left.items → AreRules set o.left.items
     → length marks ≡ length set.sites → AreMarked (rules_in set) o.left.items (scope_of set known) marks
     → AreReady (rules_in set) o.left.items (scope_of set known) marks (numbers_of ready) → 0 < length o.left.items
     → w1 ≡ w0 ++ task ∷ [] → WantsBlock set o.left.items (scope_of set known) w0 w1
@@ -221,7 +214,8 @@ wants_copied set o task known marks ready w0 w1 is copy same listed fit order ru
 pub wants_more : (set : RulesOverSites) (s start : ℕ) (at : BindingId) (o : Open) (task : Task) (known : Known) (marks : List Bool)
     (ready : List BindingId) (w0 w1 : List Task)
     → s ≡ at.0 → task ≡ tasks.Arms at start o
-    → IsCopy o.known known → o.marks ≡ marks → o.ready.items ≡ ready → AreArms set s o.left.items known marks (numbers_of ready) → start < length o.left.items → w1 ≡ w0 ++ task ∷ []
+    → IsCopy o.known known → o.marks ≡ marks → o.ready.items ≡ ready → AreArms set s o.left.items known marks (numbers_of ready)
+    → start < length o.left.items → w1 ≡ w0 ++ task ∷ []
     → WantsArms set (drop start o.left.items) (scope_of set known) s w0 w1
 wants_more set s start site o task known marks ready w0 w1 number is copy same listed arms more e =
     let R = rules_in set in

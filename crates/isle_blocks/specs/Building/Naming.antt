@@ -1,23 +1,23 @@
 -- The names of symbols, and what definitions make of a rule that is built.
 use Rattle.std.specs.Prelude.{◌≡◌, ◌≢◌, ◌≤◌, ℕ, ◌+◌, List, map, length, replicate, Some, slice_get, unwrap_or}
-use Rattle.isle_syntax.specs.declared.ast.Def.{Def}
+use Rattle.isle_ast.specs.declared.ast.Def.{Def}
 use Rattle.isle_types.specs.declared.ids.Sym.{Sym}
 use Rattle.isle_types.specs.Environment.{Environment}
 use Rattle.isle_types.specs.Names.{AreDistinct}
 use Rattle.isle_types.specs.TypeTables.{TypeTables}
-use Rattle.isle_terms.specs.declared.rules.Rule.{Rule}
-use Rattle.isle_terms.specs.declared.terms.Term.{Term}
-use Rattle.isle_terms.specs.declared.visit.fault.VisitFault.{VisitFault}
-use Rattle.isle_terms.specs.declared.visit.fault.VisitFault.TheVariants.{Undefined}
-use Rattle.isle_terms.specs.TypedRules.{TypedRule}
-use Rattle.isle_terms.specs.Definitions.{declared_by}
+use Rattle.isle_rules.specs.declared.rules.Rule.{Rule}
+use Rattle.isle_rules.specs.declared.terms.Term.{Term}
+use Rattle.isle_rules.specs.declared.visit.fault.VisitFault.{VisitFault}
+use Rattle.isle_rules.specs.declared.visit.fault.VisitFault.TheVariants.{Undefined}
+use Rattle.isle_rules.specs.TypedRules.{TypedRule}
+use Rattle.isle_rules.specs.Definitions.{declared_by}
 use Rattle.isle_meaning.specs.Facts.{TermFacts, facts_of}
 use Rattle.isle_meaning.specs.Needs.{needs_of, IsNeeded}
 use Rattle.isle_meaning.specs.Numbered.{Row}
 use Rattle.isle_meaning.specs.Sites.{Site}
-use Rattle.isle_terms.specs.Shown.ShownRules.{greatest}
-use Rattle.isle_terms.specs.Shown.TermTables.{TermTables}
-use Rattle.isle_terms.specs.TermEnvs.{ShowsTerms}
+use Rattle.isle_rules.specs.Shown.ShownRules.{greatest}
+use Rattle.isle_rules.specs.Shown.TermTables.{TermTables}
+use Rattle.isle_rules.specs.Shown.RulesShown.{ShowsTerms}
 use Rattle.isle_blocks.specs.declared.builder.BuiltRule.{BuiltRule}
 use Rattle.isle_blocks.specs.Closure.{Stands}
 use Rattle.isle_blocks.specs.Inside.Building.Building.{gathered_in}

@@ -7,7 +7,7 @@ use Rattle.isle_meaning.specs.Numbered.{make_variant_row, match_variant_row, mak
 use Rattle.isle_meaning.specs.Numbered.{match_some_row, match_tuple_row, At, AtAll}
 use Rattle.isle_blocks.specs.declared.ids.BindingId.{BindingId}
 use Rattle.isle_blocks.specs.Tables.{IsAbsent}
-use Rattle.isle_blocks.specs.FieldOrder.{AreInOrder}
+use Rattle.isle_blocks.specs.Closure.{AreInOrder}
 use Rattle.isle_meaning.specs.Demands.{Demand}
 use Rattle.isle_meaning.specs.Derived.{FieldOf}
 use Rattle.isle_blocks.specs.Closure.{HasAllFields}

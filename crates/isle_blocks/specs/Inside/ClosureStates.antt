@@ -71,11 +71,13 @@ ForDemands table equals own P = (name : Sym → List ℕ) → IsInjective name �
     → P name (demanded_in name table has equals)
 
 -- what the demands ask for is done, or will be by what is pending
-pub record IsCovered (table : List Binding) (equals : List (ℕ × ℕ)) (own : List (Option Constraint)) (class : List ℕ) (pending : List (ℕ × ℕ)) : Type 0 where
+pub record IsCovered (table : List Binding) (equals : List (ℕ × ℕ)) (own : List (Option Constraint)) (class : List ℕ)
+    (pending : List (ℕ × ℕ)) : Type 0 where
   pub given : (a b : ℕ) → Contains equals (a, b) → Linked class pending a b
   pub shared : (a : ℕ) (c : Constraint) → a < length table → HasOwn own a c → HasOwn own (slice_index class a) c
   pub like : (a : ℕ) (c : Constraint) (kind : Option ℕ) (i f g : ℕ) → a < length table → HasOwn own (slice_index class a) c → Opens c kind i
-      → slice_get table f ≡ Some (field_binding kind a i) → slice_get table g ≡ Some (field_binding kind (slice_index class a) i) → Linked class pending f g
+      → slice_get table f ≡ Some (field_binding kind a i) → slice_get table g ≡ Some (field_binding kind (slice_index class a) i)
+      → Linked class pending f g
 
 -- the same with nothing pending: like fields are in one class
 pub record IsClosed (table : List Binding) (equals : List (ℕ × ℕ)) (own : List (Option Constraint)) (class : List ℕ) : Type 0 where
@@ -92,7 +94,8 @@ IsJoined class joined drop keep = (a : ℕ) → a < length class → ((slice_ind
 
 -- two numbers are the like fields of two sites
 abbrev pub HaveLikeFields : List Binding → Option ℕ → ℕ → ℕ → ℕ → ℕ → ℕ → Type 0
-HaveLikeFields table kind member keep i f g = (slice_get table f ≡ Some (field_binding kind member i)) × (slice_get table g ≡ Some (field_binding kind keep i))
+HaveLikeFields table kind member keep i f g = (slice_get table f ≡ Some (field_binding kind member i))
+    × (slice_get table g ≡ Some (field_binding kind keep i))
 
 abbrev pub LackLikeFields : List Binding → Option ℕ → ℕ → ℕ → ℕ → Type 0
 LackLikeFields table kind member keep i = (f g : ℕ) → HaveLikeFields table kind member keep i f g → ⊥
@@ -154,7 +157,8 @@ WasPushed table own class drop keep pending a b =
     Contains pending (a, b) ⊎ ((c : Constraint) × HasOwn own keep c × IsLike table class drop keep c a b)
 
 abbrev pub LikesAreIn : List Binding → List (Option Constraint) → List ℕ → ℕ → ℕ → List (ℕ × ℕ) → Type 0
-LikesAreIn table own class drop keep pending = (c : Constraint) (a b : ℕ) → HasOwn own keep c → IsLike table class drop keep c a b → Contains pending (a, b)
+LikesAreIn table own class drop keep pending = (c : Constraint) (a b : ℕ) → HasOwn own keep c → IsLike table class drop keep c a b
+    → Contains pending (a, b)
 
 abbrev pub ArePairsBelow : List (ℕ × ℕ) → ℕ → Type 0
 ArePairsBelow pairs n = (a b : ℕ) → Contains pairs (a, b) → (a < n) × (b < n)
@@ -257,7 +261,8 @@ pub record AreClosedClasses (table : List Binding) (equals : List (ℕ × ℕ)) 
   pub ranked : IsRanked table own class
 
 -- the demands by number: each site's own test, and the classes of sites
-pub record IsReduced (table : List Binding) (has : List (BindingId × Constraint)) (same : List (BindingId × BindingId)) (own : List (Option Constraint))
+pub record IsReduced (table : List Binding) (has : List (BindingId × Constraint)) (same : List (BindingId × BindingId))
+    (own : List (Option Constraint))
     (class : List ℕ) : Type 0 where
   pub tests : AreOwn (length table) has own
   pub classes : AreClosedClasses table (pairs_of same) own class

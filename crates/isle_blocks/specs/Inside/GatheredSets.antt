@@ -1,11 +1,11 @@
 -- How the rules of terms are gathered into their rule sets.
 use Rattle.std.specs.Prelude.{◌≡◌, ◌<◌, ◌⊎◌, ◌↔◌, ℕ, Bool, true, false, List, [], ◌∷◌, ◌++◌, length, Contains, Some, slice_get}
 use Rattle.isle_types.specs.declared.ids.TermId.{TermId}
-use Rattle.isle_terms.specs.declared.rules.Rule as source
-use Rattle.isle_terms.specs.TypedRules.{TypedRule}
-use Rattle.isle_terms.specs.Shown.TermTables.{TermTables}
+use Rattle.isle_rules.specs.declared.rules.Rule as source
+use Rattle.isle_rules.specs.TypedRules.{TypedRule}
+use Rattle.isle_rules.specs.Shown.TermTables.{TermTables}
 use Rattle.isle_meaning.specs.Faults.{IsUnreachable}
-use Rattle.isle_meaning.specs.Laws.Matching.{DemandOf}
+use Rattle.isle_meaning.specs.Demands.{DemandOf}
 use Rattle.isle_blocks.specs.declared.rule.Rule.{Rule}
 use Rattle.isle_blocks.specs.AddedRules.{IsDefinedRule, IsAddedRule, HasRoomAlone, name_in, facts_in}
 use Rattle.isle_blocks.specs.RuleSets.{IsToldOf}

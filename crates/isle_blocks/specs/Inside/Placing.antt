@@ -16,11 +16,12 @@ use Rattle.isle_blocks.specs.Tables.{IsTable}
 use Rattle.isle_blocks.specs.Inside.ClosureStates.{AreClasses, demanded_in}
 use Rattle.isle_blocks.specs.Inside.NormalRules.{HaveClassTests}
 use Rattle.isle_blocks.specs.Closure.{Stands, HasAllFields, IsClosure}
-use Rattle.isle_blocks.specs.FieldOrder.{AreFieldsInOrder}
+use Rattle.isle_blocks.specs.Inside.FieldOrder.{AreFieldsInOrder}
 use Rattle.isle_blocks.specs.Inside.MovedSites.{MovesSites}
 
 -- what holds of the demands that are recorded of a rule's own sites, by whatever names
-abbrev pub ForDemandsOf : List Binding → List (BindingId × Constraint) → List (BindingId × BindingId) → ((Sym → List ℕ) → List Demand → Type 0) → Type 0
+abbrev pub ForDemandsOf : List Binding → List (BindingId × Constraint) → List (BindingId × BindingId)
+    → ((Sym → List ℕ) → List Demand → Type 0) → Type 0
 ForDemandsOf own has same P =
     (name : Sym → List ℕ) → IsInjective name → (ds : List Demand)
     → AreRecorded (rows_of name own) (constraints_of name has) (pairs_of same) ds → P name ds

@@ -1,9 +1,9 @@
 -- What the rule sets of `multi` terms give to the theory of trees: the bag of their rules.
 use Rattle.std.specs.Prelude.{Option, ◌≡◌, ◌⊎◌, ◌↔◌, ℕ, List, length, true, Some, slice_get}
 use Rattle.isle_types.specs.declared.ids.Sym.{Sym}
-use Rattle.isle_terms.specs.declared.rules.Rule as source
-use Rattle.isle_terms.specs.TypedRules.{TypedRule}
-use Rattle.isle_terms.specs.Shown.TermTables.{TermTables}
+use Rattle.isle_rules.specs.declared.rules.Rule as source
+use Rattle.isle_rules.specs.TypedRules.{TypedRule}
+use Rattle.isle_rules.specs.Shown.TermTables.{TermTables}
 use Rattle.isle_meaning.specs.Got.{Got}
 use Rattle.isle_meaning.specs.Values.{Value, Values, count}
 use Rattle.isle_meaning.specs.AboutSites.Functions.{AreFiniteFunctions, AreAsFunctions}
@@ -16,7 +16,7 @@ use Rattle.isle_meaning.specs.Demands.{Demand, constrained, equal}
 use Rattle.isle_meaning.specs.Derived.{Derived}
 use Rattle.isle_meaning.specs.Sites.{Site}
 use Rattle.isle_meaning.specs.Numbered.{At}
-use Rattle.isle_meaning.specs.Laws.Matching.{DemandOf}
+use Rattle.isle_meaning.specs.Demands.{DemandOf}
 use Rattle.isle_blocks.specs.declared.constraint.Constraint.{Constraint}
 use Rattle.isle_blocks.specs.AddedRules.{IsMultiCall}
 use Rattle.isle_blocks.specs.DefinedSets.{AreDefined, IsSetOf, name_of, facts_by, rules_by}
@@ -35,7 +35,7 @@ use Rattle.isle_trees.specs.Premises.{IsWellMade}
 use Rattle.isle_trees.specs.Reads.{IsListed}
 use Rattle.isle_trees.specs.Rules.{Elem, Matches}
 use Rattle.isle_trees.specs.Scopes.{nothing_known}
-use Rattle.isle_trees.specs.Search.{below}
+use Rattle.isle_trees.specs.Rules.{below}
 use Rattle.isle_trees.specs.Tree.{Steps}
 
 -- what holds of each rule set whose rules are as elaboration makes them
@@ -102,7 +102,8 @@ abbrev pub WalksMakeBags : Type 0
 WalksMakeBags = OfElaborated (λ name facts sources rules term set h. IsMultiTerm facts rules term → HavePriorities sources rules
     → (c : Completion) (args : Values) (T : Steps Constraint) → Builds (rules_of name set) (below (length set.rules)) nothing_known T
     → (p : Picks Held)
-    → IsSameBag (walk_all (rules_of name set) (functions_model name set facts c args) T p) (bag_of name set (functions_model name set facts c args) p))
+    → IsSameBag (walk_all (rules_of name set) (functions_model name set facts c args) T p)
+    (bag_of name set (functions_model name set facts c args) p))
 
 -- Where of each multi call that a site is made of the item at its place is taken, and impure calls were answered as functions answer them,
 -- the site is what it holds, and a multi call lists the items that it holds.

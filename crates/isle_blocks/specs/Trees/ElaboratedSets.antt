@@ -1,8 +1,8 @@
 -- The rule sets of terms that may be or ask `multi` terms.
 use Rattle.std.specs.Prelude.{◌≡◌, ℕ, pos, true, false, List, Some, slice_get}
 use Rattle.isle_types.specs.declared.ids.Sym.{Sym}
-use Rattle.isle_terms.specs.declared.rules.Rule as source
-use Rattle.isle_terms.specs.TypedRules.{TypedRule}
+use Rattle.isle_rules.specs.declared.rules.Rule as source
+use Rattle.isle_rules.specs.TypedRules.{TypedRule}
 use Rattle.isle_meaning.specs.Facts.{TermFacts}
 use Rattle.isle_meaning.specs.Elaborated.{IsElaborated, OpensItsMultiCalls}
 use Rattle.isle_meaning.specs.Laws.Calls.{ExprCalls}

@@ -3,9 +3,9 @@ use Rattle.std.specs.Prelude.{◌≡◌, ◌<◌, ◌↔◌, ℕ, List, [], map,
 use Rattle.std.specs.Option.{option_map}
 use Rattle.isle_types.specs.Names.{AreDistinct}
 use Rattle.isle_types.specs.declared.ids.Sym.{Sym}
-use Rattle.isle_terms.specs.declared.rules.Rule as source
-use Rattle.isle_terms.specs.TypedRules.{TypedRule}
-use Rattle.isle_terms.specs.Shown.TermTables.{TermTables}
+use Rattle.isle_rules.specs.declared.rules.Rule as source
+use Rattle.isle_rules.specs.TypedRules.{TypedRule}
+use Rattle.isle_rules.specs.Shown.TermTables.{TermTables}
 use Rattle.isle_meaning.specs.Values.{Value, Values, count}
 use Rattle.isle_meaning.specs.Facts.{TermFacts}
 use Rattle.isle_meaning.specs.Answers.{Completion, IsAllowed}
@@ -34,7 +34,8 @@ use Rattle.isle_trees.specs.Premises.{IsWellMade, IsSingle, UsesNoMulti, HasItsT
 use Rattle.isle_trees.specs.Reads.{IsListed}
 use Rattle.isle_trees.specs.Rules.{has, Elem, Matches}
 use Rattle.isle_trees.specs.Scopes.{nothing_known}
-use Rattle.isle_trees.specs.Search.{below, IsBuildable}
+use Rattle.isle_trees.specs.Search.{IsBuildable}
+use Rattle.isle_trees.specs.Rules.{below}
 use Rattle.isle_trees.specs.Tree.{Steps}
 use Rattle.isle_trees.specs.Walk.{walk}
 
@@ -152,7 +153,8 @@ MachinesWalk = OfEach (λ name facts sources rules term set h. (left : List ℕ)
 
 -- The rule set of definitions for a term that asks no `multi` term is such a set.
 abbrev pub BuiltSetsAreRunnable : Type 0
-BuiltSetsAreRunnable = (env : TermTables) (d : AreDefined env) (term : ℕ) (set : RulesOverSites) → IsRunnableTerm (facts_by env d) (rules_by env d) term
+BuiltSetsAreRunnable = (env : TermTables) (d : AreDefined env) (term : ℕ) (set : RulesOverSites)
+    → IsRunnableTerm (facts_by env d) (rules_by env d) term
     → IsSetOf (name_of env d) (facts_by env d) env.rules (rules_by env d) term set
     → IsRunnableSet (name_of env d) (facts_by env d) env.rules (rules_by env d) term set
 

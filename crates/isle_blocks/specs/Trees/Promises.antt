@@ -2,7 +2,7 @@
 use Rattle.std.specs.Prelude.{◌≡◌, ◌≤◌, ℕ, List, [], Contains, Some, length, slice_get}
 use Rattle.isle_types.specs.declared.ids.Sym.{Sym}
 use Rattle.isle_types.specs.declared.ids.TermId.{TermId}
-use Rattle.isle_terms.specs.Shown.TermTables.{TermTables}
+use Rattle.isle_rules.specs.Shown.TermTables.{TermTables}
 use Rattle.isle_meaning.specs.Answers.{Completion}
 use Rattle.isle_meaning.specs.Held.{Held}
 use Rattle.isle_meaning.specs.Values.{Values, count}
@@ -11,7 +11,7 @@ use Rattle.isle_trees.specs.Asks.{Ascends, AsksOnly}
 use Rattle.isle_trees.specs.Builds.{Builds}
 use Rattle.isle_trees.specs.Counting.{reached, steps_at_most}
 use Rattle.isle_trees.specs.Scopes.{nothing_known}
-use Rattle.isle_trees.specs.Search.{below}
+use Rattle.isle_trees.specs.Rules.{below}
 use Rattle.isle_trees.specs.Walk.{walk}
 use Rattle.isle_blocks.specs.declared.rule.Rule.{Rule}
 use Rattle.isle_blocks.specs.DefinedSets.{AreDefined, IsTermSet, facts_by, name_of, rules_by}

@@ -1,7 +1,7 @@
 -- What the steps of a rule set's tree read, and what its arms bind.
 use Rattle.std.specs.Prelude.{◌≡◌, ℕ, false, List, map}
 use Rattle.isle_types.specs.declared.ids.Sym.{Sym}
-use Rattle.isle_terms.specs.Shown.TermTables.{TermTables}
+use Rattle.isle_rules.specs.Shown.TermTables.{TermTables}
 use Rattle.isle_trees.specs.Asks.{BindsNoField}
 use Rattle.isle_trees.specs.Reads.{IsClosed}
 use Rattle.isle_trees.specs.Tree.{Steps, done, «match», equal, loop, give, Arms, no_arm, arm}

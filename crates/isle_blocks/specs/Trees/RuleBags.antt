@@ -1,8 +1,8 @@
 -- The bag of a `multi` term: its rules that match, once for each way to take one item of each multi call that they have; and its walk.
 use Rattle.std.specs.Prelude.{◌≡◌, ◌++◌, ℕ, true, List, [], ◌∷◌, Option, Contains, None, Some, length, slice_get}
 use Rattle.std.specs.List.{AllPairs, AllZip}
-use Rattle.isle_terms.specs.Shown.TermTables.{TermTables}
-use Rattle.isle_terms.specs.TypedRules.{TypedRule}
+use Rattle.isle_rules.specs.Shown.TermTables.{TermTables}
+use Rattle.isle_rules.specs.TypedRules.{TypedRule}
 use Rattle.isle_meaning.specs.AboutSites.Functions.{AreFiniteFunctions}
 use Rattle.isle_meaning.specs.Answers.{Completion}
 use Rattle.isle_meaning.specs.Demands.{Demand, vars_of}
@@ -11,7 +11,7 @@ use Rattle.isle_meaning.specs.Facts.{TermFacts}
 use Rattle.isle_meaning.specs.Got.{Got, unknown, fails, gives}
 use Rattle.isle_meaning.specs.Held.{Held, value, values}
 use Rattle.isle_meaning.specs.Holds.{Holds, IsProper}
-use Rattle.isle_meaning.specs.Laws.Matching.{DemandOf}
+use Rattle.isle_meaning.specs.Demands.{DemandOf}
 use Rattle.isle_meaning.specs.Sites.{Site, sites_of}
 use Rattle.isle_meaning.specs.Values.{Value, Values, ask, count}
 use Rattle.isle_meaning.specs.Words.{Step, steps_of}

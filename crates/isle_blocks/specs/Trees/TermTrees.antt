@@ -5,7 +5,7 @@ use Rattle.isle_types.specs.JoinedSets.{members}
 use Rattle.isle_trees.specs.Counting.{steps_at_most}
 use Rattle.isle_trees.specs.Rules.{Elem}
 use Rattle.isle_types.specs.declared.ids.Sym.{Sym}
-use Rattle.isle_terms.specs.Shown.TermTables.{TermTables}
+use Rattle.isle_rules.specs.Shown.TermTables.{TermTables}
 use Rattle.isle_meaning.specs.Machine.Runs.{TermTree}
 use Rattle.isle_meaning.specs.Machine.Trees.{IsTermTree}
 use Rattle.isle_meaning.specs.SoundPrograms.{IsSound}

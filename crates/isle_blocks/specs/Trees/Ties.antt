@@ -1,6 +1,6 @@
 -- Rules of equal priority.
 use Rattle.std.specs.Prelude.{◌≡◌, ℕ, false, List}
-use Rattle.isle_terms.specs.TypedRules.{TypedRule}
+use Rattle.isle_rules.specs.TypedRules.{TypedRule}
 use Rattle.isle_meaning.specs.Answers.{Completion}
 use Rattle.isle_meaning.specs.Facts.{TermFacts}
 use Rattle.isle_meaning.specs.Matching.{Matches}

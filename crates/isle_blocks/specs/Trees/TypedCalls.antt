@@ -1,7 +1,7 @@
 -- Calls that take values of their types.
 use Rattle.std.specs.Prelude.{◌≡◌, ℕ, suc, Bool, true, List, Option, Some, slice_get}
 use Rattle.std.specs.List.{AllZip}
-use Rattle.isle_terms.specs.Shown.TermTables.{TermTables}
+use Rattle.isle_rules.specs.Shown.TermTables.{TermTables}
 use Rattle.isle_meaning.specs.Answers.{Completion}
 use Rattle.isle_meaning.specs.Calls.{HasTypedAnswers}
 use Rattle.isle_meaning.specs.Got.{Got, gives}

@@ -17,7 +17,7 @@ use Rattle.isle_blocks.specs.declared.constraint.Constraint.TheVariants as tests
 use Rattle.isle_blocks.specs.declared.rule.Rule.{Rule}
 use Rattle.isle_blocks.specs.contracts.binding.BindingPartialEq.TheImpl as binding_of
 use Rattle.isle_blocks.specs.contracts.constraint.ConstraintPartialEq.TheImpl as constraint_of
-use Rattle.isle_blocks.specs.Bindings.{sources_of}
+use Rattle.isle_blocks.specs.Tables.{sources_of}
 use Rattle.isle_blocks.specs.Rows.{numbers_of}
 use Rattle.isle_blocks.specs.Constraints.{bindings_made}
 use Rattle.isle_blocks.specs.Orders.{constraint_order}

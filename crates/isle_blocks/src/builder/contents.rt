@@ -1,7 +1,7 @@
 //! The options whose contents a site is made of.
 ghost use Rattle.std.specs.Prelude.{◌≡◌, ◌<◌, ◌+◌, ◌^◌, ◌∷◌, [], false, slice_index_or, length, IfOk, OnOk, MatchOption};
 ghost use Rattle.isle_blocks.specs.declared.ids.BindingId.{BindingId};
-ghost use Rattle.isle_blocks.specs.Bindings.{sources_of};
+ghost use Rattle.isle_blocks.specs.Tables.{sources_of};
 ghost use Rattle.isle_blocks.specs.Inside.Building.Contents.{PartsAreBefore, AreAsked, MarksMore, Walked, IsStart};
 
 use crate::binding::Binding;

@@ -74,7 +74,8 @@ pub(super) fn next_apart(
     ensures fewer { AllPairs pending.new.items (λ a b. Contains pending.old.items (a, b)) }
     ensures none { IfNone result (pending.new.items ≡ []) }
     ensures some { IfSome result (λ p. Contains pending.old.items p × (slice_index class.now p.0 ≢ slice_index class.now p.1)) }
-    ensures taken { AllPairs pending.old.items (λ a b. Contains pending.new.items (a, b) ⊎ (slice_index class.now a ≡ slice_index class.now b) ⊎ (result ≡ Some (a, b))) }
+    ensures taken { AllPairs pending.old.items (λ a b. Contains pending.new.items (a, b) ⊎ (slice_index class.now a ≡ slice_index class.now b) ⊎
+        (result ≡ Some (a, b))) }
 {
     while let Some((a, b)) = pending.pop() {
         if class[a] != class[b] {
@@ -104,7 +105,8 @@ pub(super) fn like_fields(
 ) -> Option<(usize, usize)>
     requires member_in { member < 65536 }
     requires keep_in { keep < 65536 }
-    ensures { MatchOption result (LackLikeFields sites.now (kind_of variant) member keep index) (λ p. HaveLikeFields sites.now (kind_of variant) member keep index p.0 p.1) }
+    ensures { MatchOption result (LackLikeFields sites.now (kind_of variant) member keep index)
+        (λ p. HaveLikeFields sites.now (kind_of variant) member keep index p.0 p.1) }
 {
     let f = find_field(sites, variant, member, index)?;
     let g = find_field(sites, variant, keep, index)?;

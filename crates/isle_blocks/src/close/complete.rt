@@ -2,7 +2,7 @@
 ghost use Rattle.std.specs.Prelude.{◌≡◌, ◌<◌, ◌≤◌, ◌+◌, ℕ, List, Option, IfOk, IfErr, length, slice_index};
 ghost use Rattle.isle_blocks.specs.Inside.ClosureFields.{kind_of};
 ghost use Rattle.isle_blocks.specs.Inside.ClosureStates.{AreClasses, HasField, HasFields, IsOpened, IsState, Grows, RunsOut};
-ghost use Rattle.isle_blocks.specs.FieldOrder.{AreFieldsBefore, AreFieldsInOrder};
+ghost use Rattle.isle_blocks.specs.Inside.FieldOrder.{AreFieldsBefore, AreFieldsInOrder};
 ghost use Rattle.isle_blocks.specs.declared.constraint.Constraint.{Constraint as Test};
 
 use super::classes::own_test;
@@ -24,10 +24,12 @@ fn add_field(
     requires site_in { site < length sites.old }
     requires like { HasField sites.old (kind_of variant) (slice_index class.old.items site) index }
     ensures bound { IfOk result (λ _. length sites.new ≤ 65536) }
-    ensures grows { IfOk result (λ _. (own : List (Option Test)) → IsOpened own (slice_index class.old.items site) (kind_of variant) index → Grows own sites.old class.old.items sites.new class.new.items) }
+    ensures grows { IfOk result (λ _. (own : List (Option Test)) → IsOpened own (slice_index class.old.items site) (kind_of variant) index
+        → Grows own sites.old class.old.items sites.new class.new.items) }
     ensures added { IfOk result (λ _. HasField sites.new (kind_of variant) site index) }
     ensures ordered { IfOk result (λ _. (first : ℕ) → AreFieldsBefore first sites.old site index → AreFieldsBefore first sites.new site (index + 1)) }
-    ensures full { IfErr result (λ fault. fault ≡ SiteFault.Size → (own : List (Option Test)) → IsOpened own (slice_index class.old.items site) (kind_of variant) index → RunsOut own sites.old class.old.items sites.new class.new.items) }
+    ensures full { IfErr result (λ fault. fault ≡ SiteFault.Size → (own : List (Option Test))
+        → IsOpened own (slice_index class.old.items site) (kind_of variant) index → RunsOut own sites.old class.old.items sites.new class.new.items) }
 {
     if let Some(_) = find_field(sites, variant, site, index) {
         return Ok(());

@@ -24,7 +24,8 @@ fn field_root(
 ) -> Option<usize>
     requires source_in { source < 65536 }
     requires fits { length class.now ≡ length sites.now }
-    ensures { MatchOption result (IsAbsent sites.now (field_binding (kind_of variant) source index)) (λ k. IsRootOf sites.now class.now (field_binding (kind_of variant) source index) k) }
+    ensures { MatchOption result (IsAbsent sites.now (field_binding (kind_of variant) source index))
+        (λ k. IsRootOf sites.now class.now (field_binding (kind_of variant) source index) k) }
 {
     let field = find_field(sites, variant, source, index)?;
     Some(class[field])

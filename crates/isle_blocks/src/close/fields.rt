@@ -75,7 +75,8 @@ pub(super) fn find_field(
     index: u8,
 ) -> Option<usize>
     requires { source < 65536 }
-    ensures { MatchOption result (IsAbsent sites.now (field_binding (kind_of variant) source index)) (λ f. slice_get sites.now f ≡ Some (field_binding (kind_of variant) source index)) }
+    ensures { MatchOption result (IsAbsent sites.now (field_binding (kind_of variant) source index))
+        (λ f. slice_get sites.now f ≡ Some (field_binding (kind_of variant) source index)) }
 {
     match sites.find(&field(variant, source, index)) {
         Some(id) => Some(id.index()),

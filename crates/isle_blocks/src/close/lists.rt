@@ -75,7 +75,8 @@ impl SiteLists {
         requires from_in { from < length self.old }
         requires to_in { to < length self.old }
         requires apart { from ≢ to }
-        ensures { OnOk result (self.new ≡ slice_set (slice_set self.old from []) to (slice_index_or self.old to [] ++ slice_index_or self.old from [])) }
+        ensures { OnOk result (self.new ≡ slice_set (slice_set self.old from []) to
+            (slice_index_or self.old to [] ++ slice_index_or self.old from [])) }
     {
         let mut moved = mem::try_take(&mut self.lists[from])?;
         self.lists[to].append(&mut moved)?;

@@ -90,7 +90,8 @@ impl RuleSet {
 
     /// Puts sites into an order, where they stand in one.
     fn push_each(&self, sites: &[BindingId], order: &mut Vec<BindingId>) -> Result<(), AllocError>
-        ensures { IfOk result (λ _. numbers_of order.new.items ≡ numbers_of order.old.items ++ filter (rules_in self.now).stands (numbers_of sites.now)) }
+        ensures { IfOk result (λ _. numbers_of order.new.items ≡ numbers_of order.old.items ++ filter (rules_in self.now).stands
+            (numbers_of sites.now)) }
     {
         for site in sites {
             self.push_own(*site, order)?;
@@ -280,7 +281,8 @@ impl RuleSet {
         requires index { IsIndexOf self.now (length self.now.sites) index.now }
         requires found { (x : BindingId) → found ≡ Some x → x.0 < length self.now.sites }
         ensures { (w : Want Constraint) → (rules_in self.now).at rule source.0 ≡ Some w
-            → option_map (λ id. id.0) result ≡ keep (λ x. is_source (rules_in self.now).tests source.0 w ((rules_in self.now).made x)) (option_map (λ id. id.0) found) }
+            → option_map (λ id. id.0) result ≡ keep (λ x. is_source (rules_in self.now).tests source.0 w ((rules_in self.now).made x))
+            (option_map (λ id. id.0) found) }
     {
         match found {
             Some(site) => if self.makes(index, source, rule, site) {

@@ -2,7 +2,8 @@
 ghost use Rattle.std.specs.Prelude.{◌≡◌, ◌<◌, ℕ, Some, length, slice_index, sum_by, IfOk};
 ghost use Rattle.isle_trees.specs.Rules.{has};
 ghost use Rattle.isle_trees.specs.Scopes.{is_want};
-ghost use Rattle.isle_trees.specs.Search.{AllWant, AreDistinct, AreGrouped, IsInOrder, IsRun, below, front};
+ghost use Rattle.isle_trees.specs.Search.{AllWant, AreDistinct, AreGrouped, IsInOrder, IsRun, front};
+ghost use Rattle.isle_trees.specs.Rules.{below};
 ghost use Rattle.isle_blocks.specs.Inside.Trees.Builder.{IsSerializable, rules_in};
 
 use crate::constraint::Constraint;

@@ -17,7 +17,7 @@ use crate::rule_set::RuleSet;
 use crate::serializer::binding::gather;
 use crate::serializer::known::no_marks;
 use crate::serializer::table::Table;
-use isle_syntax::Seq;
+use isle_ast::Seq;
 use std::alloc::{AllocError, Global};
 
 /// What is looked up by rule and by site.

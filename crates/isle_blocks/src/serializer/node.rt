@@ -3,8 +3,8 @@
 
 use crate::constraint::Constraint;
 use crate::ids::BindingId;
-use isle_syntax::Seq;
-use isle_syntax::lexer::Pos;
+use isle_ast::Seq;
+use isle_ast::pos::Pos;
 
 /// A node of a block. `binds` are the sites that a step binds before its check, in order.
 #[derive(Debug, Drop)]

@@ -1,7 +1,7 @@
 //! Which sites can be tested, listed step by step.
 ghost use Rattle.std.specs.Prelude.{◌≡◌, ◌≤◌, ◌++◌, ◌∷◌, [], length, IfOk};
 ghost use Rattle.std.specs.List.{filter};
-ghost use Rattle.isle_trees.specs.Search.{below};
+ghost use Rattle.isle_trees.specs.Rules.{below};
 ghost use Rattle.isle_blocks.specs.Rows.{numbers_of};
 ghost use Rattle.isle_blocks.specs.Inside.Trees.Builder.{IsFit, scope_of, users_at};
 ghost use Rattle.isle_blocks.specs.Inside.Trees.Marking.{is_testable};
@@ -58,7 +58,8 @@ impl RuleSet {
     ) -> Result<(), AllocError>
         requires fit { IsFit self.now (length self.now.sites) known.now }
         ensures { IfOk result (λ _. numbers_of ready.new.items
-            ≡ numbers_of ready.old.items ++ filter (is_testable (users_at index.now) (scope_of self.now known.now) marks.now) (numbers_of sites.now)) }
+            ≡ numbers_of ready.old.items ++ filter (is_testable (users_at index.now) (scope_of self.now known.now) marks.now)
+            (numbers_of sites.now)) }
     {
         for site in sites {
             self.push_ready(index, known, marks, *site, ready)?;

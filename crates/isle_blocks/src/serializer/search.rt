@@ -16,7 +16,7 @@ use crate::rule_set::RuleSet;
 use crate::serializer::index::Index;
 use crate::serializer::known::{Key, Known, Ranked, Test, all_set, better, is_set};
 use crate::serializer::table::Table;
-use isle_syntax::Seq;
+use isle_ast::Seq;
 use std::alloc::{AllocError, Global};
 
 impl RuleSet {
@@ -286,7 +286,8 @@ impl RuleSet {
         best: Option<Ranked>,
     ) -> bool
         requires fit { IsFit self.now (length self.now.sites) known.now }
-        ensures { result ≡ (is_open (scope_of self.now known.now) marks.now a.0 && may_win (scope_of self.now known.now) (best_shown best) (on_equal a.0 a.0) most) }
+        ensures { result ≡ (is_open (scope_of self.now known.now) marks.now a.0 && may_win (scope_of self.now known.now)
+            (best_shown best) (on_equal a.0 a.0) most) }
     {
         self.is_open(known, marks, a) && known.may_win(best, Test::Equal(a, a), most)
     }

@@ -5,8 +5,8 @@ use crate::constraint::Constraint;
 use crate::ids::BindingId;
 use crate::serializer::block::Place;
 use crate::serializer::node::Node;
-use isle_syntax::Seq;
-use isle_syntax::lexer::Pos;
+use isle_ast::Seq;
+use isle_ast::pos::Pos;
 
 /// Steps of a block, one after another: those of the block, or those behind a check.
 #[derive(Clone, Copy)]

@@ -22,7 +22,7 @@ use crate::serializer::index::Index;
 use crate::serializer::known::{Known, Test};
 use crate::serializer::node::Node;
 use crate::serializer::table::Table;
-use isle_syntax::Seq;
+use isle_ast::Seq;
 use std::alloc::{AllocError, Global};
 
 /// Rules that are left, and what is known where they are.

@@ -3,7 +3,7 @@ use Rattle.std.proofs.Common.{◌≡◌, ℕ, ◌^◌, ◌<◌, ◌≤◌, List,
 use Rattle.std.specs.Prelude.{ℤ, pos, ◌||◌, not, int_lt, FitsSigned, codes}
 use Rattle.std.specs.Int.{w128}
 use Rattle.std.specs.Fmt.{decimal, signed_decimal}
-use Rattle.isle_syntax.specs.declared.lexer.Pos.{Pos}
+use Rattle.isle_ast.specs.declared.pos.Pos.{Pos}
 use Rattle.isle_syntax.specs.declared.lexer.Token.{Token}
 use Rattle.isle_syntax.specs.Tokens.Names.{begins_symbol, is_symbol, is_ident, is_name, is_pname, is_const_name}
 use Rattle.isle_syntax.specs.Tokens.PlacedTokens.{Literal, small, large, Placed, placed_at, at_sign, symbol, int}
@@ -24,25 +24,6 @@ atom_reading text t ts i a = (a.0, a.3 ∙ ap (λ u. placed_at a.0 u ∷ []) (on
 -- a symbol
 pub symbol_reading : (s : List ℕ) (ts : List Placed) → is_symbol s ≡ true → SpellsAtom s ts → (p : Pos) × (ts ≡ symbol p s ∷ [])
 symbol_reading s ts e a = atom_reading s _ ts (symbol_token s e) a
-
-begun_reading : (b : ℕ) (bs : List ℕ) (ts : List Placed) → begins_symbol b ≡ true → SpellsAtom (b ∷ bs) ts → (p : Pos) × (ts ≡ symbol p (b ∷ bs) ∷ [])
-begun_reading b bs ts e a = (a.0, a.3 ∙ ap (λ t. placed_at a.0 t ∷ []) (whole_symbol b bs e a.2))
-
--- an identifier
-pub ident_reading : (s : List ℕ) (ts : List Placed) → is_ident s ≡ true → SpellsAtom s ts → (p : Pos) × (ts ≡ symbol p s ∷ [])
-ident_reading [] ts e a = absurd (no_ident e)
-ident_reading (b ∷ bs) ts e a = begun_reading b bs ts (ident_begins b bs e) a
-
--- a name
-pub name_reading : (s : List ℕ) (ts : List Placed) → is_name s ≡ true → SpellsAtom s ts → (p : Pos) × (ts ≡ symbol p s ∷ [])
-name_reading s ts e a = ident_reading s ts (name_is_ident s e) a
-
-pub pname_reading : (s : List ℕ) (ts : List Placed) → is_pname s ≡ true → SpellsAtom s ts → (p : Pos) × (ts ≡ symbol p s ∷ [])
-pname_reading s ts e a = name_reading s ts (pname_is_name s e) a
-
--- a constant, with the `$` before its name
-pub constant_reading : (s : List ℕ) (ts : List Placed) → is_const_name s ≡ true → SpellsAtom (36 ∷ s) ts → (p : Pos) × (ts ≡ symbol p (36 ∷ s) ∷ [])
-constant_reading s ts e a = ident_reading (36 ∷ s) ts (const_is_ident s e) a
 
 -- the sign `@`
 pub at_sign_reading : (ts : List Placed) → SpellsAtom (codes "@") ts → (p : Pos) × (ts ≡ at_sign p ∷ [])

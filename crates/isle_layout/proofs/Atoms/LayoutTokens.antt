@@ -223,12 +223,6 @@ mutual
   layouts_laid width indentation no_sexprs a = tt
   layouts_laid width indentation (more_sexprs first others) a = (layout_laid width indentation first a.0, layouts_laid width indentation others a.1)
 
--- an S-expression on one line has its tokens, and behind them come those of what follows
-pub one_line_tokens : (t : SExprTree) → HasAtoms t → (source : Source) (rest : List ℕ) (left : List Placed) (end : ℕ) (clean : Bool)
-    → ends_atom rest ≡ true → TokensOf source rest left end clean
-    → HasTokens source (SpellsSExpr t) (one_line t ++ rest) left end clean
-one_line_tokens t a = (one_line_laid t a).tokens
-
 -- and so has its layout at each width and indentation
 pub layout_tokens : (width indentation : ℕ) (t : SExprTree) → HasAtoms t
     → (source : Source) (rest : List ℕ) (left : List Placed) (end : ℕ) (clean : Bool) → ends_atom rest ≡ true → TokensOf source rest left end clean

@@ -6,7 +6,7 @@ use Rattle.std.specs.List.{flat_map}
 use Rattle.std.specs.Str.{IsUtf8}
 use Rattle.std.proofs.lemmas.List.{append-nil}
 use Rattle.std.proofs.lemmas.Str.{IsUtf8-take, IsCharBoundary-before_ascii}
-use Rattle.isle_syntax.specs.declared.ast.Def.{Def}
+use Rattle.isle_ast.specs.declared.ast.Def.{Def}
 use Rattle.isle_syntax.proofs.Tokens.Cuts.{utf8_behind_ascii}
 use Rattle.isle_layout.specs.SExprTree.{SExprTree, SExprTrees, sexpr_atom, sexpr_binding, sexpr_list, no_sexprs, more_sexprs}
 use Rattle.isle_layout.specs.Inside.SExprTokens.{HasAtoms}
@@ -120,7 +120,3 @@ mutual
 -- a definition that can be written has tokens as its atoms, where they are text
 pub def_has_atoms : (d : Def) → writable_def d ≡ true → EachAtom IsUtf8 (def_sexpr d) → HasAtoms (def_sexpr d)
 def_has_atoms d e u = atoms_of_text (def_sexpr d) (def_readable d e) u
-
--- which they are where it is printed as text
-pub printed_has_atoms : (width n : ℕ) (d : Def) → writable_def d ≡ true → IsUtf8 (layout width n (def_sexpr d)) → HasAtoms (def_sexpr d)
-printed_has_atoms width n d e u = def_has_atoms d e (layout_texts width n (def_sexpr d) u)

@@ -1,35 +1,35 @@
 -- How a definition is printed doesn't turn on its positions.
 use Rattle.std.proofs.Common.{◌≡◌, ℕ, List, [], ◌∷◌, ◌++◌, map, Option, None, Some, refl, ap, ◌∙◌, sym, codes}
 use Rattle.std.specs.Option.{option_map}
-use Rattle.isle_syntax.specs.declared.ast.Ident.{Ident}
-use Rattle.isle_syntax.specs.declared.ast.Fields.{Fields}
-use Rattle.isle_syntax.specs.declared.ast.Fields.TheVariants.{Unit as no_fields, Struct as named_fields, Tuple as tuple_fields}
-use Rattle.isle_syntax.specs.declared.ast.Variant.{Variant}
-use Rattle.isle_syntax.specs.declared.ast.TypeValue.{TypeValue}
-use Rattle.isle_syntax.specs.declared.ast.TypeValue.TheVariants.{Primitive, Enum, Struct}
-use Rattle.isle_syntax.specs.declared.ast.«Type».{«Type» as TypeTree}
-use Rattle.isle_syntax.specs.declared.ast.Decl.{Decl as DeclTree}
-use Rattle.isle_syntax.specs.declared.ast.Pattern.{Pattern}
-use Rattle.isle_syntax.specs.declared.ast.Expr.{Expr}
-use Rattle.isle_syntax.specs.declared.ast.IfLet.{IfLet}
-use Rattle.isle_syntax.specs.declared.ast.Rule.{Rule as RuleTree}
-use Rattle.isle_syntax.specs.declared.ast.Extractor.{Extractor as ExtractorTree}
-use Rattle.isle_syntax.specs.declared.ast.Extern.{Extern as ExternTree}
-use Rattle.isle_syntax.specs.declared.ast.Extern.TheVariants.{Constructor as extern_constructor, Extractor as extern_extractor, Const as extern_const}
-use Rattle.isle_syntax.specs.declared.ast.Def.{Def}
-use Rattle.isle_syntax.specs.declared.ast.Def.TheVariants.{TypeDef, Decl, Rule, Extractor, Extern, Converter, Pragma, Kept}
-use Rattle.isle_syntax.specs.Trees.PatternTree.{PatternTree, PatternTrees, pattern_var, pattern_bind, pattern_bool, pattern_int, pattern_prim}
-use Rattle.isle_syntax.specs.Trees.PatternTree.{pattern_term, pattern_wildcard, pattern_and, pattern_macro_arg, no_patterns, more_patterns}
-use Rattle.isle_syntax.specs.Trees.PatternShape.{pattern_of}
-use Rattle.isle_syntax.specs.Trees.ExprTree.{ExprTree, ExprTrees, LetTrees, expr_term, expr_var, expr_bool, expr_int, expr_prim, expr_let, no_exprs}
-use Rattle.isle_syntax.specs.Trees.ExprTree.{more_exprs, no_lets, more_lets}
-use Rattle.isle_syntax.specs.Trees.ExprShape.{expr_of}
-use Rattle.isle_syntax.specs.Trees.ItemTree.{ItemTree, ItemTrees, item_int, item_big, item_symbol, item_at, item_list, no_items, more_items}
-use Rattle.isle_syntax.specs.Trees.WithoutPos.{ident_without_pos, pattern_tree_without_pos, pattern_trees_without_pos, pattern_without_pos}
-use Rattle.isle_syntax.specs.Trees.WithoutPos.{expr_tree_without_pos, expr_trees_without_pos, let_trees_without_pos, expr_without_pos}
-use Rattle.isle_syntax.specs.Trees.WithoutPos.{item_tree_without_pos, item_trees_without_pos, struct_field_without_pos, tuple_field_without_pos}
-use Rattle.isle_syntax.specs.Trees.WithoutPos.{fields_without_pos, variant_without_pos, type_value_without_pos, type_without_pos, decl_without_pos}
-use Rattle.isle_syntax.specs.Trees.WithoutPos.{iflet_without_pos, rule_without_pos, extractor_without_pos, extern_without_pos, def_without_pos}
+use Rattle.isle_ast.specs.declared.ast.Ident.{Ident}
+use Rattle.isle_ast.specs.declared.ast.Fields.{Fields}
+use Rattle.isle_ast.specs.declared.ast.Fields.TheVariants.{Unit as no_fields, Struct as named_fields, Tuple as tuple_fields}
+use Rattle.isle_ast.specs.declared.ast.Variant.{Variant}
+use Rattle.isle_ast.specs.declared.ast.TypeValue.{TypeValue}
+use Rattle.isle_ast.specs.declared.ast.TypeValue.TheVariants.{Primitive, Enum, Struct}
+use Rattle.isle_ast.specs.declared.ast.«Type».{«Type» as TypeTree}
+use Rattle.isle_ast.specs.declared.ast.Decl.{Decl as DeclTree}
+use Rattle.isle_ast.specs.declared.ast.Pattern.{Pattern}
+use Rattle.isle_ast.specs.declared.ast.Expr.{Expr}
+use Rattle.isle_ast.specs.declared.ast.IfLet.{IfLet}
+use Rattle.isle_ast.specs.declared.ast.Rule.{Rule as RuleTree}
+use Rattle.isle_ast.specs.declared.ast.Extractor.{Extractor as ExtractorTree}
+use Rattle.isle_ast.specs.declared.ast.Extern.{Extern as ExternTree}
+use Rattle.isle_ast.specs.declared.ast.Extern.TheVariants.{Constructor as extern_constructor, Extractor as extern_extractor, Const as extern_const}
+use Rattle.isle_ast.specs.declared.ast.Def.{Def}
+use Rattle.isle_ast.specs.declared.ast.Def.TheVariants.{TypeDef, Decl, Rule, Extractor, Extern, Converter, Pragma, Kept}
+use Rattle.isle_ast.specs.Trees.PatternTree.{PatternTree, PatternTrees, pattern_var, pattern_bind, pattern_bool, pattern_int, pattern_prim}
+use Rattle.isle_ast.specs.Trees.PatternTree.{pattern_term, pattern_wildcard, pattern_and, pattern_macro_arg, no_patterns, more_patterns}
+use Rattle.isle_ast.specs.Trees.PatternShape.{pattern_of}
+use Rattle.isle_ast.specs.Trees.ExprTree.{ExprTree, ExprTrees, LetTrees, expr_term, expr_var, expr_bool, expr_int, expr_prim, expr_let, no_exprs}
+use Rattle.isle_ast.specs.Trees.ExprTree.{more_exprs, no_lets, more_lets}
+use Rattle.isle_ast.specs.Trees.ExprShape.{expr_of}
+use Rattle.isle_ast.specs.Trees.ItemTree.{ItemTree, ItemTrees, item_int, item_big, item_symbol, item_at, item_list, no_items, more_items}
+use Rattle.isle_ast.specs.Trees.WithoutPos.{ident_without_pos, pattern_tree_without_pos, pattern_trees_without_pos, pattern_without_pos}
+use Rattle.isle_ast.specs.Trees.WithoutPos.{expr_tree_without_pos, expr_trees_without_pos, let_trees_without_pos, expr_without_pos}
+use Rattle.isle_ast.specs.Trees.WithoutPos.{item_tree_without_pos, item_trees_without_pos, struct_field_without_pos, tuple_field_without_pos}
+use Rattle.isle_ast.specs.Trees.WithoutPos.{fields_without_pos, variant_without_pos, type_value_without_pos, type_without_pos, decl_without_pos}
+use Rattle.isle_ast.specs.Trees.WithoutPos.{iflet_without_pos, rule_without_pos, extractor_without_pos, extern_without_pos, def_without_pos}
 use Rattle.isle_layout.specs.SExprTree.{SExprTree, sexpr_atom, sexpr_binding}
 use Rattle.isle_layout.specs.Spellings.{listed, name_sexpr, pattern_sexpr, pattern_sexprs, expr_sexpr, expr_sexprs, let_sexprs, item_sexpr}
 use Rattle.isle_layout.specs.Spellings.{item_sexprs}

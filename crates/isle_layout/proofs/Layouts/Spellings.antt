@@ -2,13 +2,13 @@
 use Rattle.std.proofs.Common.{◌≡◌, ◌+◌, ◌<◌, ◌≤◌, ℕ, zero, suc, List, [], ◌∷◌, ◌++◌, length, map, take, get_or, add-one, append_assoc, refl, sym, ap, ◌∙◌, arith}
 use Rattle.std.proofs.Math.Seq.{take-suc}
 use Rattle.std.proofs.lemmas.List.{map-append}
-use Rattle.isle_syntax.specs.declared.ast.Pattern.{Pattern}
-use Rattle.isle_syntax.specs.declared.ast.Expr.{Expr}
-use Rattle.isle_syntax.specs.declared.ast.LetDef.{LetDef}
-use Rattle.isle_syntax.specs.declared.ast.KeptItem.{KeptItem}
-use Rattle.isle_syntax.specs.Trees.PatternShape.{pattern_of, patterns_of}
-use Rattle.isle_syntax.specs.Trees.ExprShape.{expr_of, exprs_of, lets_of}
-use Rattle.isle_syntax.specs.Trees.ItemShape.{item_of, items_of}
+use Rattle.isle_ast.specs.declared.ast.Pattern.{Pattern}
+use Rattle.isle_ast.specs.declared.ast.Expr.{Expr}
+use Rattle.isle_ast.specs.declared.ast.LetDef.{LetDef}
+use Rattle.isle_ast.specs.declared.ast.KeptItem.{KeptItem}
+use Rattle.isle_ast.specs.Trees.PatternShape.{pattern_of, patterns_of}
+use Rattle.isle_ast.specs.Trees.ExprShape.{expr_of, exprs_of, lets_of}
+use Rattle.isle_ast.specs.Trees.ItemShape.{item_of, items_of}
 use Rattle.isle_layout.specs.SExprTree.{SExprTree, sexpr_binding}
 use Rattle.isle_layout.specs.Spellings.{bound_sexpr, pattern_sexpr, pattern_sexprs, expr_sexpr, expr_sexprs, let_sexprs, let_def_sexpr, item_sexpr}
 use Rattle.isle_layout.specs.Spellings.{item_sexprs}

@@ -4,7 +4,7 @@ use Rattle.std.proofs.Common.{arith}
 use Rattle.std.specs.Prelude.{option_and_then}
 use Rattle.std.specs.List.{list_all}
 use Rattle.std.specs.Str.{IsUtf8}
-use Rattle.isle_syntax.specs.declared.lexer.Pos.{Pos}
+use Rattle.isle_ast.specs.declared.pos.Pos.{Pos}
 use Rattle.isle_syntax.specs.Tokens.PlacedTokens.{Literal, Placed, at_sign, int}
 use Rattle.isle_syntax.specs.Tokens.Names.{is_symbol}
 use Rattle.isle_syntax.specs.Grammar.Phrases.{◌⊙◌, Closes, Opening, Each, depth_left_after, depth_left}

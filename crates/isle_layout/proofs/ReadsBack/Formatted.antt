@@ -3,15 +3,15 @@ use Rattle.std.proofs.Common.{◌≡◌, ℕ, List, map, true, false, refl, sym,
 use Rattle.std.specs.List.{All, list_any}
 use Rattle.std.specs.Str.{IsUtf8}
 use Rattle.std.proofs.lemmas.Bool.{false≢true}
-use Rattle.isle_syntax.specs.declared.refusal.Refusal.{Refusal}
-use Rattle.isle_syntax.specs.declared.refusal.Refusal.TheVariants.{Fault}
-use Rattle.isle_syntax.specs.declared.ast.Def.{Def}
-use Rattle.isle_syntax.specs.Trees.MacroArgs.{HasNoMacroArgs}
-use Rattle.isle_syntax.specs.Trees.WithoutPos.{def_without_pos}
+use Rattle.isle_ast.specs.declared.refusal.Refusal.{Refusal}
+use Rattle.isle_ast.specs.declared.refusal.Refusal.TheVariants.{Fault}
+use Rattle.isle_ast.specs.declared.ast.Def.{Def}
+use Rattle.isle_ast.specs.Trees.MacroArgs.{HasNoMacroArgs}
+use Rattle.isle_ast.specs.Trees.WithoutPos.{def_without_pos}
 use Rattle.isle_layout.specs.declared.to_sexpr.HasMacroArg.{HasMacroArg}
 use Rattle.isle_layout.specs.DefSpellings.{OnFault, def_has_macro_arg}
 use Rattle.isle_layout.specs.Prints.{print_of}
-use Rattle.isle_syntax.specs.Grammar.Texts.{Spells}
+use Rattle.isle_syntax.specs.Grammar.Verdict.{Spells}
 use Rattle.isle_layout.specs.Formats.{Formats, IsSettled, IsFaultless}
 use Rattle.isle_layout.proofs.Layouts.MacroArgs.{defs_have_none}
 use Rattle.isle_layout.proofs.SpeltTexts.SpeltDefs.{parsed_is_writable, parsed_without_pos_is_writable}

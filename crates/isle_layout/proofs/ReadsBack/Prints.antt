@@ -4,11 +4,11 @@ use Rattle.std.specs.Prelude.{◌↔◌, codes}
 use Rattle.std.specs.List.{All}
 use Rattle.std.specs.Str.{IsUtf8}
 use Rattle.std.proofs.lemmas.List.Elements.{All-nil, All-cons, All-head, All-tail}
-use Rattle.isle_syntax.specs.declared.ast.Def.{Def}
+use Rattle.isle_ast.specs.declared.ast.Def.{Def}
 use Rattle.isle_syntax.specs.Tokens.TokensOf.{TokensOf}
 use Rattle.isle_syntax.specs.Grammar.DefGrammar.{SpellsText}
 use Rattle.isle_syntax.specs.Grammar.Verdict.{NestsWithin}
-use Rattle.isle_syntax.specs.Trees.WithoutPos.{def_without_pos}
+use Rattle.isle_ast.specs.Trees.WithoutPos.{def_without_pos}
 use Rattle.isle_syntax.proofs.Tokens.Cuts.{utf8_behind_ascii}
 use Rattle.isle_layout.specs.SExprTree.{sexpr_trees_of}
 use Rattle.isle_layout.specs.Inside.SExprTokens.{HaveAtoms}

@@ -2,22 +2,22 @@
 use Rattle.std.proofs.Common.{◌≡◌, ℕ, suc, List, [], ◌∷◌, ◌++◌, map, Bool, true, false, refl, ap, ◌∙◌, sym, append_assoc, append-nil, eqb-true}
 use Rattle.std.specs.Prelude.{◌&&◌, ◌==◌, codes}
 use Rattle.std.specs.List.{list_all}
-use Rattle.isle_syntax.specs.declared.ast.Ident.{Ident}
-use Rattle.isle_syntax.specs.declared.ast.StructField.{StructField}
-use Rattle.isle_syntax.specs.declared.ast.TupleField.{TupleField}
-use Rattle.isle_syntax.specs.declared.ast.Fields.{Fields}
-use Rattle.isle_syntax.specs.declared.ast.Fields.TheVariants.{Unit as no_fields, Struct as named_fields, Tuple as tuple_fields}
-use Rattle.isle_syntax.specs.declared.ast.Variant.{Variant}
-use Rattle.isle_syntax.specs.declared.ast.TypeValue.{TypeValue}
-use Rattle.isle_syntax.specs.declared.ast.TypeValue.TheVariants.{Primitive, Enum, Struct}
-use Rattle.isle_syntax.specs.declared.ast.«Type».{«Type» as TypeTree}
+use Rattle.isle_ast.specs.declared.ast.Ident.{Ident}
+use Rattle.isle_ast.specs.declared.ast.StructField.{StructField}
+use Rattle.isle_ast.specs.declared.ast.TupleField.{TupleField}
+use Rattle.isle_ast.specs.declared.ast.Fields.{Fields}
+use Rattle.isle_ast.specs.declared.ast.Fields.TheVariants.{Unit as no_fields, Struct as named_fields, Tuple as tuple_fields}
+use Rattle.isle_ast.specs.declared.ast.Variant.{Variant}
+use Rattle.isle_ast.specs.declared.ast.TypeValue.{TypeValue}
+use Rattle.isle_ast.specs.declared.ast.TypeValue.TheVariants.{Primitive, Enum, Struct}
+use Rattle.isle_ast.specs.declared.ast.«Type».{«Type» as TypeTree}
 use Rattle.isle_syntax.specs.Tokens.PlacedTokens.{Placed}
 use Rattle.isle_syntax.specs.Tokens.Names.{is_ident}
 use Rattle.isle_syntax.specs.Grammar.Phrases.{◌⊙◌, Closes, Opening, Each}
 use Rattle.isle_syntax.specs.Grammar.DefGrammar.{SpellsIdent, SpellsField, numbered, IsFilled, SpellsFields, SpellsVariant, bare, in_list}
 use Rattle.isle_syntax.specs.Grammar.DefGrammar.{SpellsTypeValue, extern_mark, nodebug_mark, SpellsMarks, SpellsType}
-use Rattle.isle_syntax.specs.Trees.WithoutPos.{no_pos, ident_without_pos, struct_field_without_pos, tuple_field_without_pos, fields_without_pos}
-use Rattle.isle_syntax.specs.Trees.WithoutPos.{variant_without_pos, type_value_without_pos, type_without_pos}
+use Rattle.isle_ast.specs.Trees.WithoutPos.{no_pos, ident_without_pos, struct_field_without_pos, tuple_field_without_pos, fields_without_pos}
+use Rattle.isle_ast.specs.Trees.WithoutPos.{variant_without_pos, type_value_without_pos, type_without_pos}
 use Rattle.isle_syntax.proofs.Reading.Basics.{group_left}
 use Rattle.isle_syntax.proofs.Reading.SymbolKinds.{and_first, and_second}
 use Rattle.isle_layout.specs.SExprTree.{SExprTree, sexpr_atom}

@@ -4,11 +4,11 @@ use Rattle.std.specs.Prelude.{nat_le}
 use Rattle.std.specs.List.{All}
 use Rattle.std.specs.Str.{IsUtf8}
 use Rattle.std.proofs.lemmas.List.Elements.{All-head, All-tail}
-use Rattle.isle_syntax.specs.declared.ast.Def.{Def}
+use Rattle.isle_ast.specs.declared.ast.Def.{Def}
 use Rattle.isle_syntax.specs.Tokens.PlacedTokens.{Placed}
 use Rattle.isle_syntax.specs.Grammar.Phrases.{Each, depth_left}
 use Rattle.isle_syntax.specs.Grammar.DefGrammar.{SpellsText}
-use Rattle.isle_syntax.specs.Trees.WithoutPos.{def_without_pos}
+use Rattle.isle_ast.specs.Trees.WithoutPos.{def_without_pos}
 use Rattle.isle_syntax.specs.Grammar.Verdict.{max_nesting, NestsWithin}
 use Rattle.isle_syntax.proofs.Reading.SymbolKinds.{and_first, and_second}
 use Rattle.isle_layout.specs.SExprTree.{sexpr_trees_of}

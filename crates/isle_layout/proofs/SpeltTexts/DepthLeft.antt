@@ -1,8 +1,8 @@
 -- How many parentheses may be open where tokens are spelt, and how many are then open at once.
 use Rattle.std.proofs.Common.{◌≡◌, ℕ, zero, suc, ◌+◌, ◌≤◌, max, List, [], ◌∷◌, ◌++◌, Bool, true, false, Option, Some, None, refl, ap, subst, arith}
 use Rattle.std.specs.Prelude.{option_and_then}
-use Rattle.isle_syntax.specs.declared.lexer.Pos.{Pos}
-use Rattle.isle_syntax.specs.declared.ast.Ident.{Ident}
+use Rattle.isle_ast.specs.declared.pos.Pos.{Pos}
+use Rattle.isle_ast.specs.declared.ast.Ident.{Ident}
 use Rattle.isle_syntax.specs.Tokens.PlacedTokens.{Literal, Placed, opening, at_sign, symbol, int}
 use Rattle.isle_syntax.specs.Grammar.Phrases.{◌⊙◌, Opens, Closes, Opening, AtSign, Word, Says, SymbolOf, Flag, Each, depth_left_after, depth_left}
 

@@ -1,17 +1,17 @@
 -- Where a tree is spelt, there was room for the parentheses that are open at once in it.
 use Rattle.std.proofs.Common.{◌≡◌, ◌∷◌, Bool, true, arith}
 use Rattle.std.specs.Prelude.{ℤ, codes}
-use Rattle.isle_syntax.specs.declared.lexer.Pos.{Pos}
-use Rattle.isle_syntax.specs.declared.ast.Ident.{Ident}
+use Rattle.isle_ast.specs.declared.pos.Pos.{Pos}
+use Rattle.isle_ast.specs.declared.ast.Ident.{Ident}
 use Rattle.isle_syntax.specs.Tokens.PlacedTokens.{small, large}
 use Rattle.isle_syntax.specs.Tokens.Names.{is_ident, is_name, is_pname, is_const_name}
 use Rattle.isle_syntax.specs.Grammar.TreeGrammar.{Constant, SpellsInteger, truth_word, is_pattern_term, is_expr_term, SpellsPattern, SpellsPatterns}
 use Rattle.isle_syntax.specs.Grammar.TreeGrammar.{SpellsExpr, SpellsExprs, SpellsLets, SpellsItem, SpellsItems}
-use Rattle.isle_syntax.specs.Trees.PatternTree.{PatternTree, PatternTrees, pattern_var, pattern_bind, pattern_bool, pattern_int, pattern_prim}
-use Rattle.isle_syntax.specs.Trees.PatternTree.{pattern_term, pattern_wildcard, pattern_and, pattern_macro_arg, no_patterns, more_patterns}
-use Rattle.isle_syntax.specs.Trees.ExprTree.{ExprTree, ExprTrees, LetTrees, expr_term, expr_var, expr_bool, expr_int, expr_prim, expr_let, no_exprs}
-use Rattle.isle_syntax.specs.Trees.ExprTree.{more_exprs, no_lets, more_lets}
-use Rattle.isle_syntax.specs.Trees.ItemTree.{ItemTree, ItemTrees, item_int, item_big, item_symbol, item_at, item_list, no_items, more_items}
+use Rattle.isle_ast.specs.Trees.PatternTree.{PatternTree, PatternTrees, pattern_var, pattern_bind, pattern_bool, pattern_int, pattern_prim}
+use Rattle.isle_ast.specs.Trees.PatternTree.{pattern_term, pattern_wildcard, pattern_and, pattern_macro_arg, no_patterns, more_patterns}
+use Rattle.isle_ast.specs.Trees.ExprTree.{ExprTree, ExprTrees, LetTrees, expr_term, expr_var, expr_bool, expr_int, expr_prim, expr_let, no_exprs}
+use Rattle.isle_ast.specs.Trees.ExprTree.{more_exprs, no_lets, more_lets}
+use Rattle.isle_ast.specs.Trees.ItemTree.{ItemTree, ItemTrees, item_int, item_big, item_symbol, item_at, item_list, no_items, more_items}
 use Rattle.isle_layout.specs.Nesting.{pattern_nesting, pattern_nestings, expr_nesting, expr_nestings, let_nestings, item_nesting, item_nestings}
 use Rattle.isle_layout.proofs.SpeltTexts.DepthLeft.{KeepsDepthLeft, keeps_seq, shuts_seq, keeps_fewer, keeps_word, keeps_says, keeps_symbol}
 use Rattle.isle_layout.proofs.SpeltTexts.DepthLeft.{keeps_one_symbol, keeps_one_int, keeps_one_at, keeps_at, keeps_none, shuts_close, keeps_opens}

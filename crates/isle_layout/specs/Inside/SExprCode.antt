@@ -3,7 +3,7 @@ use Rattle.std.specs.Prelude.{◌≡◌, refl}
 use Rattle.std.proofs.Common.{ap}
 use Rattle.std.specs.Coded.{Coded, coded_list, coded_ℕ}
 use base.Stored.{Gv, gnil, gnum, gcons}
-use Rattle.isle_syntax.specs.Trees.Coded.{left, right}
+use Rattle.isle_ast.specs.Trees.Coded.{left, right}
 use Rattle.isle_layout.specs.SExprTree.{SExprTree, SExprTrees, sexpr_atom, sexpr_binding, sexpr_list, no_sexprs, more_sexprs}
 
 abbrev mutual

@@ -1,6 +1,6 @@
 -- Which tokens an S-expression's text has.
 use Rattle.std.specs.Prelude.{◌≡◌, ℕ, List, [], ◌∷◌, Bool, true, ◌==◌, ◌||◌}
-use Rattle.isle_syntax.specs.declared.lexer.Pos.{Pos}
+use Rattle.isle_ast.specs.declared.pos.Pos.{Pos}
 use Rattle.isle_syntax.specs.declared.lexer.Token.{Token}
 use Rattle.isle_syntax.specs.Tokens.PlacedTokens.{Placed, placed_at}
 use Rattle.isle_syntax.specs.Tokens.TokensOf.{IsToken}

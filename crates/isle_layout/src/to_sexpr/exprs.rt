@@ -1,6 +1,6 @@
 //! S-expressions of expressions, and of the variables of a `let`.
 ghost use Rattle.std.specs.Prelude.{◌≡◌, [], ◌∷◌, ◌++◌, IfOk};
-ghost use Rattle.isle_syntax.specs.Trees.ExprShape.{expr_of, exprs_of, lets_of};
+ghost use Rattle.isle_ast.specs.Trees.ExprShape.{expr_of, exprs_of, lets_of};
 ghost use Rattle.isle_layout.specs.SExprShape.{sexpr_of};
 ghost use Rattle.isle_layout.specs.Spellings.{listed, name_sexpr, expr_sexpr, expr_sexprs, let_sexprs, let_def_sexpr};
 
@@ -12,7 +12,7 @@ use std::alloc::{AllocError, Global};
 
 /// An expression.
 #[cycle(spell_expr)]
-#[tactic(auto, using(isle_syntax::proofs::Trees::ExprSizes::most_expr_size, isle_syntax::proofs::Trees::ExprSizes::most_let_size))]
+#[tactic(auto, using(isle_ast::proofs::Trees::ExprSizes::most_expr_size, isle_ast::proofs::Trees::ExprSizes::most_let_size))]
 pub(crate) fn spell_expr(alloc: Global, expr: &Expr) -> Result<SExpr, AllocError>
     ensures { IfOk result (λ sexpr. sexpr_of sexpr ≡ expr_sexpr (expr_of expr.now)) }
 {
@@ -32,7 +32,7 @@ pub(crate) fn spell_expr(alloc: Global, expr: &Expr) -> Result<SExpr, AllocError
 
 /// A term and its arguments.
 #[cycle(spell_expr)]
-#[tactic(auto, using(isle_syntax::proofs::Trees::ExprSizes::most_expr_size, isle_syntax::proofs::Trees::ExprSizes::most_let_size))]
+#[tactic(auto, using(isle_ast::proofs::Trees::ExprSizes::most_expr_size, isle_ast::proofs::Trees::ExprSizes::most_let_size))]
 fn spell_term(alloc: Global, term: &Ident, args: &[Expr]) -> Result<SExpr, AllocError>
     ensures { IfOk result (λ sexpr. sexpr_of sexpr ≡ listed (name_sexpr term.now ∷ expr_sexprs (exprs_of args.now))) }
 {
@@ -45,7 +45,7 @@ fn spell_term(alloc: Global, term: &Ident, args: &[Expr]) -> Result<SExpr, Alloc
 
 /// The variables of a `let`.
 #[cycle(spell_expr)]
-#[tactic(auto, using(isle_syntax::proofs::Trees::ExprSizes::most_expr_size, isle_syntax::proofs::Trees::ExprSizes::most_let_size))]
+#[tactic(auto, using(isle_ast::proofs::Trees::ExprSizes::most_expr_size, isle_ast::proofs::Trees::ExprSizes::most_let_size))]
 fn spell_lets(alloc: Global, defs: &[LetDef]) -> Result<SExpr, AllocError>
     ensures { IfOk result (λ sexpr. sexpr_of sexpr ≡ listed (let_sexprs (lets_of defs.now))) }
 {

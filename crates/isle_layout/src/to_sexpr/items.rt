@@ -1,6 +1,6 @@
 //! S-expressions of kept definitions and of their items.
 ghost use Rattle.std.specs.Prelude.{◌≡◌, ◌++◌, false, IfOk};
-ghost use Rattle.isle_syntax.specs.Trees.ItemShape.{item_of, items_of};
+ghost use Rattle.isle_ast.specs.Trees.ItemShape.{item_of, items_of};
 ghost use Rattle.isle_layout.specs.SExprShape.{sexpr_of};
 ghost use Rattle.isle_layout.specs.Spellings.{item_sexpr, item_sexprs};
 ghost use Rattle.isle_layout.specs.DefSpellings.{kept_sexpr};
@@ -27,7 +27,7 @@ impl ToSExpr for Kept {
 
 /// An item of a kept definition.
 #[cycle(spell_item)]
-#[tactic(auto, using(isle_syntax::proofs::Trees::ItemSizes::most_item_size))]
+#[tactic(auto, using(isle_ast::proofs::Trees::ItemSizes::most_item_size))]
 pub(crate) fn spell_item(alloc: Global, item: &KeptItem) -> Result<SExpr, AllocError>
     ensures { IfOk result (λ sexpr. sexpr_of sexpr ≡ item_sexpr (item_of item.now)) }
 {
@@ -45,7 +45,7 @@ pub(crate) fn spell_item(alloc: Global, item: &KeptItem) -> Result<SExpr, AllocE
 
 /// A list with items more.
 #[cycle(spell_item)]
-#[tactic(auto, using(isle_syntax::proofs::Trees::ItemSizes::most_item_size))]
+#[tactic(auto, using(isle_ast::proofs::Trees::ItemSizes::most_item_size))]
 fn add_items(
     alloc: Global,
     list: ListBuilder,

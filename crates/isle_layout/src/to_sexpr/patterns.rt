@@ -1,7 +1,7 @@
 //! S-expressions of patterns, with the chains of bindings around them.
 ghost use Rattle.std.specs.Prelude.{◌≡◌, [], ◌∷◌, ◌++◌, IfOk};
-ghost use Rattle.isle_syntax.specs.Trees.PatternShape.{pattern_of, patterns_of};
-ghost use Rattle.isle_syntax.specs.Inside.Trees.Innermost.{names_bound};
+ghost use Rattle.isle_ast.specs.Trees.PatternShape.{pattern_of, patterns_of};
+ghost use Rattle.isle_ast.specs.Inside.Trees.Innermost.{names_bound};
 ghost use Rattle.isle_layout.specs.SExprTree.{sexpr_atom};
 ghost use Rattle.isle_layout.specs.SExprShape.{sexpr_of};
 ghost use Rattle.isle_layout.specs.Spellings.{listed, bound_sexpr, pattern_sexpr, pattern_sexprs};
@@ -40,7 +40,7 @@ fn bind(alloc: Global, mut names: Vec<Text>, inner: SExpr) -> Result<SExpr, Allo
 
 /// A pattern that is no binding.
 #[cycle(spell_pattern)]
-#[tactic(auto, using(isle_syntax::proofs::Trees::PatternSizes::most_pattern_size))]
+#[tactic(auto, using(isle_ast::proofs::Trees::PatternSizes::most_pattern_size))]
 fn spell_innermost(alloc: Global, pattern: &Pattern) -> Result<SExpr, AllocError>
     requires { names_bound (pattern_of pattern.now) ≡ [] }
     ensures { IfOk result (λ sexpr. sexpr_of sexpr ≡ pattern_sexpr (pattern_of pattern.now)) }
@@ -60,7 +60,7 @@ fn spell_innermost(alloc: Global, pattern: &Pattern) -> Result<SExpr, AllocError
 
 /// A list of a word and patterns.
 #[cycle(spell_pattern)]
-#[tactic(auto, using(isle_syntax::proofs::Trees::PatternSizes::most_pattern_size))]
+#[tactic(auto, using(isle_ast::proofs::Trees::PatternSizes::most_pattern_size))]
 fn spell_patterns(alloc: Global, word: &str, patterns: &[Pattern]) -> Result<SExpr, AllocError>
     ensures { IfOk result (λ sexpr. sexpr_of sexpr ≡ listed (sexpr_atom word.now ∷ pattern_sexprs (patterns_of patterns.now))) }
 {

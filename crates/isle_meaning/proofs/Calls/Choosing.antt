@@ -7,7 +7,7 @@ use Rattle.std.proofs.lemmas.Int.{by_lt_z}
 use Rattle.std.specs.Cmp.{int_chain}
 use lib.Signed.{<ℤ_irrefl, ≤ℤ_refl}
 use Rattle.std.proofs.lemmas.Option.{slice_get_within, slice_get-get_or, get_or_from_slice_get}
-use Rattle.isle_terms.specs.TypedRules.{TypedRule}
+use Rattle.isle_rules.specs.TypedRules.{TypedRule}
 use Rattle.isle_meaning.specs.Values.{Value, Values}
 use Rattle.isle_meaning.specs.GroundValues.{AreValuesOf, IsValueOf}
 use Rattle.isle_meaning.specs.Words.{word_of, steps_of}

@@ -1,6 +1,6 @@
 -- A rule that is left matches under no completion that agrees; one that is passed matches under each that answers what it asks.
 use Rattle.std.proofs.Common.{◌≡◌, ℕ, List, [], ◌∷◌, Option, refl, sym, ◌∙◌, ap, subst}
-use Rattle.isle_terms.specs.TypedRules.{TypedIfLet, TypedRule}
+use Rattle.isle_rules.specs.TypedRules.{TypedIfLet, TypedRule}
 use Rattle.isle_meaning.specs.Facts.{TermFacts}
 use Rattle.isle_meaning.specs.Got.{Got, fails, gives}
 use Rattle.isle_meaning.specs.Values.{Value, Values, more, made, built, ask}

@@ -3,8 +3,8 @@ use Rattle.std.proofs.Common.{◌≡◌, ◌⊎◌, inl, inr, ◌<◌, ◌<ℤ�
 use Rattle.std.proofs.Common.{arith, slice_get, slice_index_or, Bool, true, false}
 use Rattle.std.specs.Cmp.{int_chain}
 use lib.Signed.{<ℤ_irrefl}
-use Rattle.isle_terms.specs.TypedRules.{TypedPattern, typed_bind, typed_var, typed_bool, typed_int, typed_prim, typed_term, typed_wildcard}
-use Rattle.isle_terms.specs.TypedRules.{typed_and, TypedPatterns, no_typed, more_typed, TypedIfLet, TypedRule}
+use Rattle.isle_rules.specs.TypedRules.{TypedPattern, typed_bind, typed_var, typed_bool, typed_int, typed_prim, typed_term, typed_wildcard}
+use Rattle.isle_rules.specs.TypedRules.{typed_and, TypedPatterns, no_typed, more_typed, TypedIfLet, TypedRule}
 use Rattle.isle_meaning.specs.Calls.{IsRuleAt}
 use Rattle.isle_meaning.specs.Facts.{TermShape, variant_shape, struct_shape, declared_shape}
 use Rattle.isle_meaning.specs.Laws.Calls.{FirstDiffer}
@@ -163,7 +163,8 @@ module _ (p : CheckedProgram) (w : Answers) (data_sound : HasSoundData p) (below
 
   mutual
     -- an expression
-    word_one : (a : ℕ → Value) (done : List (Option Value)) (x : Word) (r s : Outcome Value) → WordRuns p w below a done x r → WordRuns p w below a done x s → r ≡ s
+    word_one : (a : ℕ → Value) (done : List (Option Value)) (x : Word) (r s : Outcome Value) → WordRuns p w below a done x r
+        → WordRuns p w below a done x s → r ≡ s
     word_one a done (var_word k) r s h j = h ∙ sym j
     word_one a done (bool_word ty b) r s h j = h ∙ sym j
     word_one a done (int_word ty n) r s h j = h ∙ sym j
@@ -173,16 +174,19 @@ module _ (p : CheckedProgram) (w : Answers) (data_sound : HasSoundData p) (below
     word_one a done (struct_word ty ws) r s h j =
         chained (WordsRun p w below a done ws) (λ vs r. r ≡ given (made_struct ty vs)) (words_one a done ws) (λ vs r s h k. h ∙ sym k) r s h j
     word_one a done (call_word t ws zero) r s h j =
-        chained (WordsRun p w below a done ws) (PureRuns p w below t) (words_one a done ws) (λ vs r s h k. pure_one (p.has_rules t) t vs r s h k) r s h j
+        chained (WordsRun p w below a done ws) (PureRuns p w below t) (words_one a done ws)
+        (λ vs r s h k. pure_one (p.has_rules t) t vs r s h k) r s h j
     word_one a done (call_word t ws (suc i)) r s h j =
         chained (WordsRun p w below a done ws) (λ vs r. (v : Value) × (slice_get done i ≡ Some (Some v)) × (r ≡ given v)) (words_one a done ws)
         (λ vs r s h k. known_one done i r s h k) r s h j
 
     -- expressions
-    words_one : (a : ℕ → Value) (done : List (Option Value)) (xs : Words) (r s : Outcome Values) → WordsRun p w below a done xs r → WordsRun p w below a done xs s → r ≡ s
+    words_one : (a : ℕ → Value) (done : List (Option Value)) (xs : Words) (r s : Outcome Values) → WordsRun p w below a done xs r
+        → WordsRun p w below a done xs s → r ≡ s
     words_one a done no_words r s h j = h ∙ sym j
     words_one a done (more_words x xs) r s h j =
-        chained (WordRuns p w below a done x) (λ v r. (h : Outcome Values) × WordsRun p w below a done xs h × After h (λ vs r. r ≡ given (more_values v vs)) r)
+        chained (WordRuns p w below a done x) (λ v r. (h : Outcome Values) × WordsRun p w below a done xs h
+        × After h (λ vs r. r ≡ given (more_values v vs)) r)
         (word_one a done x) (λ v r s h k. chained (WordsRun p w below a done xs) (λ vs r. r ≡ given (more_values v vs)) (words_one a done xs)
         (λ vs r s h k. h ∙ sym k) r s h k) r s h j
 
@@ -206,7 +210,8 @@ module _ (p : CheckedProgram) (w : Answers) (data_sound : HasSoundData p) (below
 
   mutual
     -- a pattern
-    pattern_one : (a : ℕ → Value) (q : TypedPattern) (v : Value) (r s : Outcome (ℕ → Value)) → PatternRuns p w a q v r → PatternRuns p w a q v s → r ≡ s
+    pattern_one : (a : ℕ → Value) (q : TypedPattern) (v : Value) (r s : Outcome (ℕ → Value)) → PatternRuns p w a q v r
+        → PatternRuns p w a q v s → r ≡ s
     pattern_one a (typed_bind ty k q) v r s h j =
         chained (PatternRuns p w a q v) (λ b r. r ≡ given (set b k v)) (pattern_one a q v) (λ b r s h k. h ∙ sym k) r s h j
     pattern_one a (typed_var ty k) v r s h j = tests_one (a k ≡ v) a r s h j
@@ -219,7 +224,8 @@ module _ (p : CheckedProgram) (w : Answers) (data_sound : HasSoundData p) (below
     pattern_one a (typed_and ty ps) v r s h j = each_one a ps v r s h j
 
     -- patterns, each on its value
-    patterns_one : (a : ℕ → Value) (ps : TypedPatterns) (vs : Values) (r s : Outcome (ℕ → Value)) → PatternsRun p w a ps vs r → PatternsRun p w a ps vs s → r ≡ s
+    patterns_one : (a : ℕ → Value) (ps : TypedPatterns) (vs : Values) (r s : Outcome (ℕ → Value)) → PatternsRun p w a ps vs r
+        → PatternsRun p w a ps vs s → r ≡ s
     patterns_one a no_typed no_values r s h j = h ∙ sym j
     patterns_one a no_typed (more_values v vs) r s h j = h ∙ sym j
     patterns_one a (more_typed q qs) no_values r s h j = h ∙ sym j
@@ -261,14 +267,16 @@ module _ (p : CheckedProgram) (w : Answers) (data_sound : HasSoundData p) (below
       let later : FirstDiffer rest rest' → ⊥ =
       rest_alike effects' rest rest' (subst (λ (l : List Event). FirstDiffer (l ++ rest) (effects' ++ rest') → ⊥) (both.0) whole) in
       let (rests, outcomes) = then_one b (λ v rest r. RightRuns p w below a (done ++ Some v ∷ []) steps result rest r) again rest rest' r s more
-      (subst (λ (z : Outcome Value). Then z (λ v rest r. RightRuns p w below a (done ++ Some v ∷ []) steps result rest r) rest' s) (sym (both.1)) more') later in
+      (subst (λ (z : Outcome Value). Then z (λ v rest r. RightRuns p w below a (done ++ Some v ∷ []) steps result rest r) rest' s)
+      (sym (both.1)) more') later in
       (split ∙ ap (λ (l : List Event). l ++ rest) (both.0) ∙ ap (λ (l : List Event). effects' ++ l) rests ∙ sym split', outcomes)
 
   -- a right side
   right_one : (a : ℕ → Value) (result : Word) (steps : List Step) (done : List (Option Value)) → One (RightRuns p w below a done steps result)
   right_one a result [] done trace other r s h k alike = (h.0 ∙ sym (k.0), word_one a done result r s (h.1) (k.1))
   right_one a result (x ∷ steps) done trace other r s (g, run, more) (g', run', more') alike =
-      then_one g (Made a result steps x done) (made_one a result steps x done (λ v. right_one a result steps (done ++ Some v ∷ []))) trace other r s more
+      then_one g (Made a result steps x done) (made_one a result steps x done (λ v. right_one a result steps (done ++ Some v ∷ [])))
+      trace other r s more
       (subst (λ (z : Outcome Values). Then z (Made a result steps x done) other s) (words_one a done x.args g' g run' run) more') alike
 
   -- rules in turn

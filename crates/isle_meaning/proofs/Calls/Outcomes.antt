@@ -11,26 +11,12 @@ after_given (given x) next y h = (x, refl, h)
 after_given missing next y h = absurd cc
 after_given (ended e) next y h = absurd cc
 
--- where it is missing, there was none, or what comes after is missing
-pub after_missing : {A B : Type 0} (g : Outcome A) (next : A → Outcome B → Type 0) → After g next missing
-    → (g ≡ missing) ⊎ ((x : A) × (g ≡ given x) × next x missing)
-after_missing (given x) next h = inr (x, refl, h)
-after_missing missing next h = inl refl
-after_missing (ended e) next h = absurd cc
-
 -- the same, where effects are made
 pub then_given : {A : Type 0} (g : Outcome A) (next : A → List Event → Outcome Value → Type 0) (trace : List Event) (y : Value)
     → Then g next trace (given y) → (x : A) × (g ≡ given x) × next x trace (given y)
 then_given (given x) next trace y h = (x, refl, h)
 then_given missing next trace y h = let e = h.1 in absurd cc
 then_given (ended e) next trace y h = let q = h.1 in absurd cc
-
--- where it is missing, there was none, and nothing more was done, or what comes after is missing
-pub then_missing : {A : Type 0} (g : Outcome A) (next : A → List Event → Outcome Value → Type 0) (trace : List Event)
-    → Then g next trace missing → ((g ≡ missing) × (trace ≡ [])) ⊎ ((x : A) × (g ≡ given x) × next x trace missing)
-then_missing (given x) next trace h = inr (x, refl, h)
-then_missing missing next trace h = inl (refl, h.0)
-then_missing (ended e) next trace h = let q = h.1 in absurd cc
 
 -- one more is one longer
 pub one_longer : {A : Type 0} (xs : List A) (y : A) → length (xs ++ y ∷ []) ≡ suc (length xs)

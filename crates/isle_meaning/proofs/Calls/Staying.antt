@@ -1,6 +1,6 @@
 -- A plain run that isn't spent is the run at every greater depth.
 use Rattle.std.proofs.Common.{◌≡◌, ◌≢◌, ℕ, zero, suc, Bool, true, false, List, [], ◌∷◌, ◌++◌, Option, Some, slice_get, ◌∙◌, ap, arith}
-use Rattle.isle_terms.specs.TypedRules.{TypedIfLet}
+use Rattle.isle_rules.specs.TypedRules.{TypedIfLet}
 use Rattle.isle_meaning.specs.Values.{Value, Values}
 use Rattle.isle_meaning.specs.Words.{Word, var_word, bool_word, int_word, prim_word, variant_word, struct_word, call_word, Words}
 use Rattle.isle_meaning.specs.Words.{no_words, more_words, Step, word_of, steps_of}

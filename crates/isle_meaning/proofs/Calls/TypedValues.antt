@@ -1,8 +1,8 @@
 -- Values of types: what they are made of.
 use Rattle.std.proofs.Common.{◌≡◌, inl, inr, ℕ, List, [], ◌∷◌, Option, Some, None, refl, ◌∙◌, ap, subst}
-use Rattle.isle_terms.specs.Values.{ValueTree, ValueTrees, bool_tree, int_tree, big_tree}
-use Rattle.isle_terms.specs.Values.{const_tree, opaque_tree, data_tree, no_trees}
-use Rattle.isle_terms.specs.Values.{more_trees}
+use Rattle.isle_rules.specs.Values.{ValueTree, ValueTrees, bool_tree, int_tree, big_tree}
+use Rattle.isle_rules.specs.Values.{const_tree, opaque_tree, data_tree, no_trees}
+use Rattle.isle_rules.specs.Values.{more_trees}
 use Rattle.isle_meaning.specs.Facts.{TermShape, variant_shape, struct_shape, declared_shape}
 use Rattle.isle_meaning.specs.Values.{Value, Values, made_variant, made_struct, no_values, more_values}
 use Rattle.isle_meaning.specs.ValueTypes.{ValueFacts, IsOfType, AreOfTypes}

@@ -5,11 +5,11 @@ use Rattle.std.specs.Prelude.{if◌then◌else◌, ◌==◌, not, ◌≤ℤ◌}
 use Rattle.std.specs.Int.{w128}
 use Rattle.std.proofs.lemmas.Int.{fits_signed_from_abs}
 use Rattle.std.proofs.lemmas.Option.{none-some, same_Some}
-use Rattle.isle_terms.specs.Values.{ValueTree, ValueTrees, bool_tree, int_tree, no_trees}
-use Rattle.isle_terms.specs.Values.{more_trees, big_tree, const_tree, opaque_tree}
-use Rattle.isle_terms.specs.Values.{data_tree}
-use Rattle.isle_terms.specs.TypedRules.{typed_bind, typed_term, typed_wildcard, no_typed, more_typed, built_var, built_term, no_built}
-use Rattle.isle_terms.specs.TypedRules.{more_built, TypedExpr, TypedRule}
+use Rattle.isle_rules.specs.Values.{ValueTree, ValueTrees, bool_tree, int_tree, no_trees}
+use Rattle.isle_rules.specs.Values.{more_trees, big_tree, const_tree, opaque_tree}
+use Rattle.isle_rules.specs.Values.{data_tree}
+use Rattle.isle_rules.specs.TypedRules.{typed_bind, typed_term, typed_wildcard, no_typed, more_typed, built_var, built_term, no_built}
+use Rattle.isle_rules.specs.TypedRules.{more_built, TypedExpr, TypedRule}
 use Rattle.isle_meaning.specs.Facts.{declared_shape}
 use Rattle.isle_meaning.specs.Got.{Got, unknown, fails, gives}
 use Rattle.isle_meaning.specs.Values.{Value, Values, bool_value, no_values, more_values, count, more, ask}
@@ -68,7 +68,8 @@ record Opened (g : Got Values) : Type 0 where
   other : Value
   both : g ≡ gives (more_values one (more_values other no_values))
 
-opened : (c : Completion) → Agrees with_opener silent (Means with_opener silent 0) c → CoversAll with_opener c 1 (on 4) → Opened (c.extract 0 (number 4))
+opened : (c : Completion) → Agrees with_opener silent (Means with_opener silent 0) c → CoversAll with_opener c 1 (on 4)
+    → Opened (c.extract 0 (number 4))
 opened c agrees covers = by (c.extract 0 (number 4)) refl
   where
     two : (vs : Values) → count vs ≡ 2 → Opened (gives vs)
@@ -267,7 +268,12 @@ where_g_is_agrees b = record {
   inside = λ t vs a has typed means known. absurd means;
   allowed = record { partial = λ t vs e. absurd cc; fallible = λ t v e. absurd cc; outputs = λ t v vs e. absurd cc };
   typed = record {
-    construct = λ t vs v e. record { tree = bool_tree (answers b t vs); typed = refl; stands = (let same : bool_value (answers b t vs) ≡ v = cc in same) };
+    construct = λ t vs v e. record {
+      tree = bool_tree (answers b t vs);
+      typed = refl;
+      stands =
+          (let same : bool_value (answers b t vs) ≡ v = cc in same);
+    };
     extract = λ t v vs e. absurd cc;
   };
 }
@@ -364,7 +370,8 @@ none_is_fixed site call (inl (inl its)) within fixed = its
 none_is_fixed site call (inl (inr its)) within fixed = its
 none_is_fixed site call (inr (inl its)) within fixed = elim (subst (IsSubtree call) its within) [
   | inl e ↦ (let on = (subst (λ (s : Site). IsCallOn wavering.terms (where_g_is false) (truth true) s q) e (fixed false)).1 in cc)
-  | inr (inl (inl e)) ↦ (let on = (subst (λ (s : Site). IsCallOn wavering.terms (where_g_is false) (truth true) s q) e (fixed false)).0 in omega (arith, on))
+  | inr (inl (inl e)) ↦ (let on = (subst (λ (s : Site). IsCallOn wavering.terms (where_g_is false) (truth true) s q) e (fixed false)).0 in
+      omega (arith, on))
   | inr (inl (inr (inl e))) ↦ subst (λ (s : Site). IsCallOn wavering.terms (where_g_is false) (truth true) s q) e (fixed false)
   | inr (inl (inr (inr e))) ↦ e
   | inr (inr e) ↦ e
@@ -372,8 +379,10 @@ none_is_fixed site call (inr (inl its)) within fixed = elim (subst (IsSubtree ca
 none_is_fixed site call (inr (inr (inl its))) within fixed = its
 none_is_fixed site call (inr (inr (inr (inl its)))) within fixed = elim (subst (IsSubtree call) its within) [
   | inl e ↦ (let on = (subst (λ (s : Site). IsCallOn wavering.terms (where_g_is true) (truth true) s q) e (fixed true)).1 in cc)
-  | inr (inl (inl e)) ↦ (let on = (subst (λ (s : Site). IsCallOn wavering.terms (where_g_is false) (truth true) s q) e (fixed false)).0 in omega (arith, on))
-  | inr (inl (inr (inl (inl e)))) ↦ (let on = (subst (λ (s : Site). IsCallOn wavering.terms (where_g_is false) (truth true) s q) e (fixed false)).0 in omega (arith, on))
+  | inr (inl (inl e)) ↦ (let on = (subst (λ (s : Site). IsCallOn wavering.terms (where_g_is false) (truth true) s q) e (fixed false)).0 in
+      omega (arith, on))
+  | inr (inl (inr (inl (inl e)))) ↦ (let on = (subst (λ (s : Site). IsCallOn wavering.terms (where_g_is false) (truth true) s q) e (fixed false)).0 in
+      omega (arith, on))
   | inr (inl (inr (inl (inr (inl e))))) ↦ subst (λ (s : Site). IsCallOn wavering.terms (where_g_is false) (truth true) s q) e (fixed false)
   | inr (inl (inr (inl (inr (inr e))))) ↦ e
   | inr (inl (inr (inr e))) ↦ e

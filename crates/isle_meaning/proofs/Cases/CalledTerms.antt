@@ -5,9 +5,9 @@ use Rattle.std.specs.Prelude.{if◌then◌else◌, ◌==◌, ◌≤ℤ◌, FitsS
 use Rattle.std.specs.Int.{w128}
 use Rattle.std.proofs.lemmas.Int.{fits_signed_from_abs}
 use Rattle.std.proofs.lemmas.Option.{none-some, same_Some}
-use Rattle.isle_terms.specs.Values.{int_tree, no_trees, more_trees}
-use Rattle.isle_terms.specs.TypedRules.{TypedPattern, typed_bind, typed_int, typed_wildcard, no_typed, more_typed, TypedExpr}
-use Rattle.isle_terms.specs.TypedRules.{built_int, built_var, built_term, built_let, no_built, more_built, no_typed_bindings, more_typed_bindings, TypedIfLet, TypedRule}
+use Rattle.isle_rules.specs.Values.{int_tree, no_trees, more_trees}
+use Rattle.isle_rules.specs.TypedRules.{TypedPattern, typed_bind, typed_int, typed_wildcard, no_typed, more_typed, TypedExpr}
+use Rattle.isle_rules.specs.TypedRules.{built_int, built_var, built_term, built_let, no_built, more_built, no_typed_bindings, more_typed_bindings, TypedIfLet, TypedRule}
 use Rattle.isle_meaning.specs.Facts.{TermFacts, variant_shape, declared_shape}
 use Rattle.isle_meaning.specs.Got.{Got, unknown, fails, gives}
 use Rattle.isle_meaning.specs.Values.{Value, Values, int_value, no_values, more_values, more, made}
@@ -164,7 +164,8 @@ too_shallow trace answer h =
     by_rule zero rule at root a m r =
         let same : 0 ≡ 1 = ap (λ (q : TypedRule). q.root) (same_Some _ rule at) ∙ root in absurd (omega (arith, same))
     by_rule (suc zero) rule at root a m r =
-        (subst (λ (q : TypedRule). RightOf chain.terms open_calls (Makes chain (Means chain silent 0)) a q trace answer) (sym (same_Some _ rule at)) r).4
+        (subst (λ (q : TypedRule). RightOf chain.terms open_calls (Makes chain (Means chain silent 0)) a q trace answer)
+        (sym (same_Some _ rule at)) r).4
     by_rule (suc (suc i)) rule at root a m r = absurd (none-some rule at)
 
 -- ---- (decl pure g ..) (rule (g 1) 1) (rule 1 (f x) (if-let 1 (g x)) 5) (rule 0 (f x) x), where f may fail
@@ -283,7 +284,8 @@ is_spent = record { last = 0; args = on 1; chain = to_choose refl (asks_g 0 1) n
 -- effects, f is 1 and h is 2
 
 abbrev twice : TypedRule
-twice = rule_of 2 (pos 0) x [] (built_let 1 (more_typed_bindings 1 1 (called 0 its_value) (more_typed_bindings 2 1 (called 0 its_value) no_typed_bindings)) its_value)
+twice = rule_of 2 (pos 0) x [] (built_let 1 (more_typed_bindings 1 1 (called 0 its_value)
+    (more_typed_bindings 2 1 (called 0 its_value) no_typed_bindings)) its_value)
 
 abbrev pub nested : TypedRule
 nested = rule_of 1 (pos 1) (typed_int 1 (pos 0)) [] (called 0 (called 0 (built_int 1 (pos 1))))
@@ -403,7 +405,12 @@ emitted_two = record { term = 2; args = more_trees (int_tree (pos 2)) no_trees; 
 fails_there : Means failing silent 1 0 (on 2) [] None
 fails_there = (
   refl,
-  λ c agrees covers. inr (record { none = λ i rule at m. no_match c i rule at.listed at.of_term m; partial = refl; failure = record { nothing = refl; none = refl } }),
+  λ c agrees covers. inr (record {
+    none = λ i rule at m. no_match c i rule at.listed at.of_term m;
+    partial =
+        refl;
+    failure = record { nothing = refl; none = refl };
+  }),
 )
   where
     no_match : (c : Completion) (i : ℕ) (rule : TypedRule) → slice_get failing.rules i ≡ Some rule → rule.root ≡ 0
@@ -422,7 +429,8 @@ pairs_alone (suc (suc i)) rule at = absurd (none-some rule at)
 -- what is said of the result, which needs (p 2)
 result_fails : (c : Completion) → Agrees failing silent (Means failing silent 1) c
     → on_got (word_value c (each_is 2) (Some (number 0) ∷ []) (word_of failing.terms pairs.right)) (IsFailure [] None) (λ v. IsValue v [] None)
-result_fails c agrees = by (c.construct 0 (on 2)) (agrees.inside 0 (on 2) None refl (is_value 2 (fits_signed_from_abs w128 (pos 2) (omega arith))) fails_there)
+result_fails c agrees = by (c.construct 0 (on 2)) (agrees.inside 0 (on 2) None refl (is_value 2 (fits_signed_from_abs w128 (pos 2) (omega arith)))
+    fails_there)
   where
     by : (g : Got Value) → (g ≢ unknown → g ≡ fails)
         → on_got (made 1 0 (more g (gives (more_values (number 0) no_values)))) (IsFailure [] None) (λ v. IsValue v [] None)

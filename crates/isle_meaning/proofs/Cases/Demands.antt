@@ -1,8 +1,8 @@
 -- Worked cases: what literal rules demand, what follows, and where they are unreachable.
 use Rattle.std.proofs.Common.{arith, ◌≡◌, ℕ, pos, [], ◌∷◌, inl, inr, true, false, refl, None, codes}
 use Rattle.std.specs.Prelude.{if◌then◌else◌, ◌==◌}
-use Rattle.isle_terms.specs.TypedRules.{TypedPatterns, typed_bind, typed_var, typed_int, typed_term, typed_wildcard, typed_and, no_typed}
-use Rattle.isle_terms.specs.TypedRules.{more_typed, built_int, TypedRule}
+use Rattle.isle_rules.specs.TypedRules.{TypedPatterns, typed_bind, typed_var, typed_int, typed_term, typed_wildcard, typed_and, no_typed}
+use Rattle.isle_rules.specs.TypedRules.{more_typed, built_int, TypedRule}
 use Rattle.isle_meaning.specs.Facts.{variant_shape, declared_shape, TermFacts}
 use Rattle.isle_meaning.specs.Values.{int_value, no_values, more_values}
 use Rattle.isle_meaning.specs.Sites.{argument, match_variant}
@@ -12,8 +12,9 @@ use Rattle.isle_meaning.specs.Derived.{Derived, demanded, flipped, shared, direc
 use Rattle.isle_meaning.specs.Faults.{IsUnreachable, Differ}
 use Rattle.isle_meaning.specs.Answers.{Completion}
 use Rattle.isle_meaning.specs.Matching.{Matches}
-use Rattle.isle_meaning.specs.Holds.{Meets}
-use Rattle.isle_meaning.specs.Laws.Matching.{DemandOf, IsRuleOfTypes}
+use Rattle.isle_meaning.specs.Held.{Meets}
+use Rattle.isle_meaning.specs.Laws.Matching.{IsRuleOfTypes}
+use Rattle.isle_meaning.specs.Demands.{DemandOf}
 
 -- the term 0 is the variant 1 of the type 9, with one field of that type
 abbrev terms : TermFacts

@@ -4,7 +4,7 @@ use Rattle.std.specs.Prelude.{FitsSigned, if◌then◌else◌, ◌==◌}
 use Rattle.std.specs.Int.{w128}
 use Rattle.std.proofs.lemmas.Int.{fits_signed_from_abs}
 use Rattle.isle_trees.specs.Tree.{done, «match», equal, give, no_arm, arm}
-use Rattle.isle_terms.specs.Values.{ValueTree, ValueTrees, int_tree, no_trees, more_trees}
+use Rattle.isle_rules.specs.Values.{ValueTree, ValueTrees, int_tree, no_trees, more_trees}
 use Rattle.isle_meaning.specs.Values.{Value, Values, bool_value, made_variant, no_values, more_values}
 use Rattle.isle_meaning.specs.GroundValues.{values_of}
 use Rattle.isle_meaning.specs.Demands.{Constraint, variant_constraint, int_constraint, bool_constraint}
@@ -55,7 +55,8 @@ not_on_false w steps run =
     let q : missing ≡ given (bool_value true) = is in cc
 
 -- its term is pure, and it makes no effects
-sample_silent : (w : Answers) (n : ℕ) (b : Bool) (made : List Event) → MachineBegins sample_program (λ t. sample_tree) w n 0 (on_truth b) made → made ≡ []
+sample_silent : (w : Answers) (n : ℕ) (b : Bool) (made : List Event) → MachineBegins sample_program (λ t. sample_tree) w n 0
+    (on_truth b) made → made ≡ []
 sample_silent w n b made begun =
     pure_machine_runs_are_silent sample_program w (λ t. t == 0) (λ t. sample_tree) the_sample_is_sound the_sample_meets_the_premises n 0 (on_truth b)
     made refl refl begun
@@ -86,7 +87,8 @@ is_spent : (w : Answers) → MachineRun sample_program (λ t. sample_tree) w 0 0
 is_spent w = (refl, refl, refl)
 
 -- and gives nothing
-isnt_given : (w : Answers) (steps : ℕ) (trace : List Event) (v : Value) → MachineRun sample_program (λ t. sample_tree) w 0 0 (on_truth true) steps trace (given v) → ⊥
+isnt_given : (w : Answers) (steps : ℕ) (trace : List Event) (v : Value) → MachineRun sample_program (λ t. sample_tree) w 0 0
+    (on_truth true) steps trace (given v) → ⊥
 isnt_given w steps trace v run = let q : given v ≡ ended spent = run.2 in cc
 
 -- ---- the rules (g x) and (f x) of CalledTerms, where (f x) is (g x)
@@ -288,7 +290,8 @@ not_two (inr (inr (h, read, inr (left_out, more)))) = left_out (let q : held_val
 not_two (inr (inr (h, read, inl (meets, inl none)))) = absurd cc
 not_two (inr (inr (h, read, inl (meets, inr (row, at, inl begun))))) =
     let same : row ≡ constructor_row 0 (1 ∷ []) 1 = cc in
-    first_begins (subst (λ (x : Row). RowBegins emitting (MachineBegins emitting (λ t. emitting_tree) silent 0) emitting_tree.sites (on 0) nothing_bound x
+    first_begins (subst (λ (x : Row). RowBegins emitting (MachineBegins emitting (λ t. emitting_tree) silent 0) emitting_tree.sites
+    (on 0) nothing_bound x
     (emitted 2 9 ∷ [])) same begun)
 not_two (inr (inr (h, read, inl (meets, inr (row, at, inr (effects, rest, g, split, run, more)))))) =
     let same : row ≡ constructor_row 0 (1 ∷ []) 1 = cc in

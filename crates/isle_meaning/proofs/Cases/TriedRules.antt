@@ -4,8 +4,8 @@ use Rattle.std.specs.Prelude.{Contains, ◌<ℤ◌, FitsSigned}
 use Rattle.std.specs.Int.{w128}
 use Rattle.std.proofs.lemmas.Int.{fits_signed_from_abs}
 use Rattle.std.proofs.lemmas.Option.{none-some, same_Some}
-use Rattle.isle_terms.specs.TypedRules.{TypedRule}
-use Rattle.isle_terms.specs.Values.{ValueTree, ValueTrees, int_tree, no_trees, more_trees}
+use Rattle.isle_rules.specs.TypedRules.{TypedRule}
+use Rattle.isle_rules.specs.Values.{ValueTree, ValueTrees, int_tree, no_trees, more_trees}
 use Rattle.isle_meaning.specs.Words.{set, int_word, no_words, more_words, steps_of}
 use Rattle.isle_meaning.specs.Worlds.{CheckedProgram, Event}
 use Rattle.isle_meaning.specs.Calls.{IsRuleAt}
@@ -266,7 +266,8 @@ one_value vs (given v, is, (ended e, none, all)) = absurd cc
 one_value vs (missing, is, all) = absurd cc
 one_value vs (ended e, is, all) = absurd cc
 
-not_two : RightBegins emitting silent (λ u vs effects q. (tried : ℕ) × PlainRun emitting silent 0 u vs tried effects q) (PlainBegins emitting silent 0)
+not_two : RightBegins emitting silent (λ u vs effects q. (tried : ℕ) × PlainRun emitting silent 0 u vs tried effects q)
+    (PlainBegins emitting silent 0)
     no_variables [] (steps_of emitting.terms nested.right) (emitted 2 9 ∷ []) → ⊥
 not_two (inl none) = absurd cc
 not_two (inr (vs, args, inl effect)) = wrong_effect effect.args effect.answer vs [] (one_value vs args) effect.stand effect.alone

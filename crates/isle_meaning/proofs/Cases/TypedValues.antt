@@ -4,7 +4,7 @@ use Rattle.std.specs.Prelude.{codes, if◌then◌else◌}
 use Rattle.std.specs.Int.{w128}
 use Rattle.std.proofs.lemmas.Int.{fits_signed_from_abs}
 use Rattle.isle_types.specs.declared.types.IntType.TheVariants.{U8, I8, U128}
-use Rattle.isle_terms.specs.Values.{bool_tree, int_tree, big_tree, const_tree, opaque_tree, data_tree, no_trees, more_trees}
+use Rattle.isle_rules.specs.Values.{bool_tree, int_tree, big_tree, const_tree, opaque_tree, data_tree, no_trees, more_trees}
 use Rattle.isle_meaning.specs.Facts.{variant_shape}
 use Rattle.isle_meaning.specs.ValueTypes.{ValueFacts, IsOfType, AreOfTypes, truth_kind, integer_kind, primitive_kind, data_kind}
 

@@ -1,8 +1,8 @@
 -- Worked case: (if-let _ (let ((y ty (each (part)))) 5)), where `each` is `multi` and `part` partial. The rule needs one value of `each`, but
 -- doesn't demand that `part` has one: the value of `y` isn't used.
 use Rattle.std.proofs.Common.{◌==◌, zero, pos, true, false, [], ◌∷◌, inl, inr, refl}
-use Rattle.isle_terms.specs.TypedRules.{typed_wildcard, no_typed, built_int, built_term, built_let, no_built, more_built, no_typed_bindings}
-use Rattle.isle_terms.specs.TypedRules.{more_typed_bindings, TypedRule}
+use Rattle.isle_rules.specs.TypedRules.{typed_wildcard, no_typed, built_int, built_term, built_let, no_built, more_built, no_typed_bindings}
+use Rattle.isle_rules.specs.TypedRules.{more_typed_bindings, TypedRule}
 use Rattle.isle_meaning.specs.Demands.{constrained, some_constraint}
 use Rattle.isle_meaning.specs.Elaborated.{OpensItsMultiCalls}
 use Rattle.isle_meaning.specs.Facts.{TermFacts, declared_shape}
@@ -29,7 +29,8 @@ unused rule = record rule {
   args = no_typed;
   iflets = record {
     pattern = typed_wildcard 3;
-    value = built_let 3 (more_typed_bindings 0 3 (built_term 3 1 (more_built (built_term 3 2 no_built) no_built)) no_typed_bindings) (built_int 3 (pos 5));
+    value = built_let 3 (more_typed_bindings 0 3 (built_term 3 1 (more_built (built_term 3 2 no_built) no_built)) no_typed_bindings)
+        (built_int 3 (pos 5));
   } ∷ [];
 }
 

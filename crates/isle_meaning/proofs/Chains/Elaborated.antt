@@ -2,12 +2,12 @@
 use Rattle.std.proofs.Common.{◌≡◌, ◌&&◌, ℕ, List, [], ◌∷◌, Bool, true, false, Option, Some, slice_get, refl, sym, ◌∙◌, ap, subst}
 use Rattle.std.proofs.Math.Decide.{ℕ_discrete}
 use Rattle.std.specs.Prelude.{if◌then◌else◌, unwrap_or}
-use Rattle.isle_terms.specs.TypedRules.{TypedExpr, TypedExprs, TypedBindings, built_term, built_var, built_bool, built_int, built_prim}
-use Rattle.isle_terms.specs.TypedRules.{built_let, no_built, more_built, no_typed_bindings, more_typed_bindings, Variable, TypedRule}
-use Rattle.isle_terms.specs.Signatures.{Flags, TermForm, Signature, Declared, flags_of}
-use Rattle.isle_terms.specs.Elaboration.{may_call}
-use Rattle.isle_terms.specs.SoundRules.WellTyped.{IsTypedExpr, AreTypedExprs, AreTypedBindings, IsTypedRule}
-use Rattle.isle_meaning.specs.Facts.{TermShape, variant_shape, struct_shape, declared_shape, no_term, term_at, facts_of}
+use Rattle.isle_rules.specs.TypedRules.{TypedExpr, TypedExprs, TypedBindings, built_term, built_var, built_bool, built_int, built_prim}
+use Rattle.isle_rules.specs.TypedRules.{built_let, no_built, more_built, no_typed_bindings, more_typed_bindings, Variable, TypedRule}
+use Rattle.isle_rules.specs.Signatures.{Flags, TermForm, Signature, Declared, flags_of}
+use Rattle.isle_rules.specs.Elaboration.{may_call}
+use Rattle.isle_rules.specs.SoundRules.WellTyped.{IsTypedExpr, AreTypedExprs, AreTypedBindings, IsTypedRule}
+use Rattle.isle_meaning.specs.Facts.{TermShape, variant_shape, struct_shape, declared_shape, no_term, signature_numbered, facts_of}
 use Rattle.isle_meaning.specs.Laws.Matching.{IsRuleOfTypes}
 use Rattle.isle_meaning.specs.Worlds.{CheckedProgram}
 use Rattle.isle_meaning.proofs.Matching.Leaving.{both_match_overlap}
@@ -54,12 +54,12 @@ sure_call true false true may h e = absurd cc
 sure_call false multi true may h e = absurd cc
 
 -- the term of a number
-at_number : (declared : Declared) (t : ℕ) (term : Signature) → slice_get declared.terms t ≡ Some term → term_at declared t ≡ term
+at_number : (declared : Declared) (t : ℕ) (term : Signature) → slice_get declared.terms t ≡ Some term → signature_numbered declared t ≡ term
 at_number declared t term known = ap (λ (x : Option Signature). unwrap_or x no_term) known
 
 -- its flags
 flags_at : (declared : Declared) (t : ℕ) (term : Signature) → slice_get declared.terms t ≡ Some term
-    → flags_of (term_at declared t).form ≡ flags_of term.form
+    → flags_of (signature_numbered declared t).form ≡ flags_of term.form
 flags_at declared t term known = ap (λ (x : Signature). flags_of x.form) (at_number declared t term known)
 
 -- The right side of a typed rule of a term that may not fail calls what may not fail.

@@ -4,7 +4,7 @@ use Rattle.std.proofs.Common.{Contains, slice_get, refl, sym, ◌∙◌, ap, sub
 use Rattle.std.proofs.Math.Decide.{ℕ_discrete}
 use Rattle.std.proofs.lemmas.Int.{ints}
 use Rattle.std.proofs.lemmas.Option.{slice_get_within, slice_get-get_or, get_or_from_slice_get}
-use Rattle.isle_terms.specs.TypedRules.{TypedRule}
+use Rattle.isle_rules.specs.TypedRules.{TypedRule}
 use Rattle.isle_meaning.specs.Values.{Value, Values}
 use Rattle.isle_meaning.specs.GroundValues.{AreValuesOf}
 use Rattle.isle_meaning.specs.Words.{word_of, steps_of}

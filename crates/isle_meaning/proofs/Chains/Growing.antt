@@ -2,7 +2,7 @@
 use Rattle.std.proofs.Common.{◌≡◌, ◌≢◌, ◌⊎◌, inl, inr, ℕ, suc, List, [], ◌∷◌, ◌++◌, Bool, true, false, Option, Some, None, length}
 use Rattle.std.proofs.Common.{refl, sym, ◌∙◌, ap, subst}
 use Rattle.std.proofs.Math.Decide.{ℕ_discrete}
-use Rattle.isle_terms.specs.Values.{ValueTree, ValueTrees, no_trees, more_trees}
+use Rattle.isle_rules.specs.Values.{ValueTree, ValueTrees, no_trees, more_trees}
 use Rattle.isle_meaning.specs.Got.{Got, unknown, fails, gives}
 use Rattle.isle_meaning.specs.Values.{Value, Values, count}
 use Rattle.isle_meaning.specs.ValueTypes.{IsOfType, AreOfTypes}

@@ -1,6 +1,6 @@
 -- Chains of asking, joined and at greater depths.
 use Rattle.std.proofs.Common.{◌≢◌, inl, inr, ℕ, suc, ◌++◌, List, [], ◌∷◌, Option, Some, refl, sym, subst, append_assoc}
-use Rattle.isle_terms.specs.TypedRules.{TypedRule}
+use Rattle.isle_rules.specs.TypedRules.{TypedRule}
 use Rattle.isle_meaning.specs.Facts.{TermFacts}
 use Rattle.isle_meaning.specs.Values.{Value, Values}
 use Rattle.isle_meaning.specs.Words.{Word, Words, Step, word_of, steps_of}

@@ -1,7 +1,7 @@
 -- One call has one meaning, where completions answer every pure call.
 use Rattle.std.proofs.Common.{◌≡◌, inl, inr, ◌≤ℤ◌, ℕ, zero, suc, List, [], ◌∷◌, true, Option, refl, sym, ◌∙◌, subst, arith}
 use Rattle.std.proofs.lemmas.Int.{ints}
-use Rattle.isle_terms.specs.TypedRules.{TypedIfLet, TypedRule}
+use Rattle.isle_rules.specs.TypedRules.{TypedIfLet, TypedRule}
 use Rattle.isle_meaning.specs.Got.{gives}
 use Rattle.isle_meaning.specs.Values.{Value, Values}
 use Rattle.isle_meaning.specs.Words.{Word, var_word, bool_word, int_word, prim_word, variant_word, struct_word, call_word, Words}

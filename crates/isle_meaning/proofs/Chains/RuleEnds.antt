@@ -1,6 +1,6 @@
 -- Where a rule that is tried ends, the end is that of a call that its patterns or if-lets have.
 use Rattle.std.proofs.Common.{◌≡◌, inl, inr, ℕ, List, [], ◌∷◌, refl, ◌∙◌, ap, subst}
-use Rattle.isle_terms.specs.TypedRules.{TypedIfLet, TypedRule}
+use Rattle.isle_rules.specs.TypedRules.{TypedIfLet, TypedRule}
 use Rattle.isle_meaning.specs.Got.{gives}
 use Rattle.isle_meaning.specs.Values.{Value, Values}
 use Rattle.isle_meaning.specs.GroundValues.{AreValuesOf}

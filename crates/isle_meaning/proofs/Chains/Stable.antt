@@ -4,8 +4,8 @@ use Rattle.std.proofs.Math.Decide.{ℕ_discrete}
 use Rattle.std.proofs.lemmas.Bool.Decides.{Decides-int_eq}
 use Rattle.std.specs.Ordering.{int_eq}
 use Rattle.std.specs.Bool.{Decides}
-use Rattle.isle_terms.specs.Values.{ValueTree, ValueTrees, bool_tree, int_tree, big_tree, const_tree, opaque_tree, data_tree, no_trees}
-use Rattle.isle_terms.specs.Values.{more_trees}
+use Rattle.isle_rules.specs.Values.{ValueTree, ValueTrees, bool_tree, int_tree, big_tree, const_tree, opaque_tree, data_tree, no_trees}
+use Rattle.isle_rules.specs.Values.{more_trees}
 use Rattle.isle_meaning.specs.Values.{Value}
 use Rattle.isle_meaning.specs.Worlds.{Event}
 use Rattle.isle_meaning.proofs.Matching.Deciding.{Decided, decide}

@@ -6,9 +6,9 @@ use Rattle.std.specs.Int.{w128, cast_signed, cast_unsigned}
 use Rattle.std.proofs.lemmas.Int.{ints, of_z-to_z, to_z_pos}
 use Rattle.isle_types.specs.IntTypes.{HasNumber}
 use Rattle.isle_types.specs.declared.types.IntType.TheVariants.{U128}
-use Rattle.isle_terms.specs.Values.{ValueTree, ValueTrees, bool_tree, int_tree, big_tree}
-use Rattle.isle_terms.specs.Values.{const_tree, opaque_tree, data_tree, no_trees}
-use Rattle.isle_terms.specs.Values.{more_trees}
+use Rattle.isle_rules.specs.Values.{ValueTree, ValueTrees, bool_tree, int_tree, big_tree}
+use Rattle.isle_rules.specs.Values.{const_tree, opaque_tree, data_tree, no_trees}
+use Rattle.isle_rules.specs.Values.{more_trees}
 use Rattle.isle_meaning.specs.Facts.{TermShape, variant_shape, struct_shape, declared_shape}
 use Rattle.isle_meaning.specs.Values.{Value, Values, bool_value, int_value, constant_value, opaque_value, made_variant, made_struct}
 use Rattle.isle_meaning.specs.ValueTypes.{TypeKind, IsIntOf, IsBigOf, IsOfType, AreOfTypes}

@@ -1,7 +1,7 @@
 -- Two meanings of one call are one, or their effects first differ in the world's answer.
 use Rattle.std.proofs.Common.{◌≡◌, ◌≢◌, ◌⊎◌, inl, inr, ℕ, zero, suc, ◌++◌, List, [], ◌∷◌, length, Bool, true, false, Option, Some, None, slice_get}
 use Rattle.std.proofs.Common.{refl, sym, ◌∙◌, ap, subst, append_assoc, append-nil, arith}
-use Rattle.isle_terms.specs.Values.{ValueTree, ValueTrees}
+use Rattle.isle_rules.specs.Values.{ValueTree, ValueTrees}
 use Rattle.isle_meaning.specs.Got.{Got, unknown, fails, gives}
 use Rattle.isle_meaning.specs.Values.{Value, Values, more, made, built, ask}
 use Rattle.isle_meaning.specs.GroundValues.{value_of}

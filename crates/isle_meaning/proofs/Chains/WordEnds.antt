@@ -147,12 +147,30 @@ module _ (p : CheckedProgram) (w : Answers) (n : ℕ) (R : ℕ → Type 0) (data
       word_ends (variant_word ty k ws) u e t m run = elim (after_ended _ _ e (run.2)) [
         | inr h ↦ absurd (let q = h.2 in cc)
         | inl q ↦ (let r = words_end ws (p.terms.variant_fields ty k) e (t.2) m (subst (WordsRun p w below a done ws) q (run.1)) in
-            record { asked = r.asked; ends_so = r.ends_so; call = r.call; within = λ vars. inr (r.within vars); written = r.written; may = r.may; on = r.on })
+            record {
+              asked = r.asked;
+              ends_so = r.ends_so;
+              call = r.call;
+              within = λ vars. inr (r.within vars);
+              written =
+                  r.written;
+              may = r.may;
+              on = r.on;
+            })
       ]
       word_ends (struct_word ty ws) u e t m run = elim (after_ended _ _ e (run.2)) [
         | inr h ↦ absurd (let q = h.2 in cc)
         | inl q ↦ (let r = words_end ws (p.terms.struct_fields ty) e (t.2) m (subst (WordsRun p w below a done ws) q (run.1)) in
-            record { asked = r.asked; ends_so = r.ends_so; call = r.call; within = λ vars. inr (r.within vars); written = r.written; may = r.may; on = r.on })
+            record {
+              asked = r.asked;
+              ends_so = r.ends_so;
+              call = r.call;
+              within = λ vars. inr (r.within vars);
+              written =
+                  r.written;
+              may = r.may;
+              on = r.on;
+            })
       ]
       word_ends (call_word t ws zero) u e typed m run = elim (after_ended _ _ e (run.2)) [
         | inl q ↦ (let r = words_end ws (p.terms.inputs t) e (typed.3) (m.1) (subst (WordsRun p w below a done ws) q (run.1)) in

@@ -28,7 +28,8 @@ meant_deeper p w (suc k) n t args trace x h =
 -- Where a machine's run and a plain run of one call both answer, they agree.
 pub roads_agree : {C : Type 0} → RoadsAgree C
 roads_agree p w runs called trees whole H n m t args steps tried one other x y may typed machine plain =
-    let here = answer_meant p w n t args one x (machine_runs_are_meant p w runs trees (whole.sound) H n t args steps one (outcome_of x) may typed machine) in
+    let here = answer_meant p w n t args one x (machine_runs_are_meant p w runs trees (whole.sound) H n t args steps one
+    (outcome_of x) may typed machine) in
     let there = answer_meant p w m t args other y (plain_runs_are_meant p w runs (whole.sound) m t args tried other (outcome_of y) may typed plain) in
     let e : m + n ≡ n + m = omega arith in
     one_meaning_always p w runs called whole (n + m) t args one other x y may

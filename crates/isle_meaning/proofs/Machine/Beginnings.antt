@@ -101,7 +101,8 @@ module _ {C : Type 0} (p : CheckedProgram) (w : Answers) (runs : Runs) (below : 
         (λ env. EqualBegins b.sites args env x y (StepsBegin p w runs below b args env body (StepsBegin p w runs below b args env next begun))
         (StepsBegin p w runs below b args env next begun))
         (λ env. equal_begins env x y (StepsRun p w runs b partial args env body (StepsRun p w runs b partial args env next later))
-        (StepsRun p w runs b partial args env next later) (StepsBegin p w runs below b args env body (StepsBegin p w runs below b args env next begun))
+        (StepsRun p w runs b partial args env next later) (StepsBegin p w runs below b args env body
+        (StepsBegin p w runs below b args env next begun))
         (StepsBegin p w runs below b args env next begun)
         (steps_begin body env (StepsRun p w runs b partial args env next later) (StepsBegin p w runs below b args env next begun)
         (steps_begin next env later begun f)) (steps_begin next env later begun f)) k trace r run
@@ -196,7 +197,8 @@ module _ {C : Type 0} (p : CheckedProgram) (w : Answers) (R : ℕ → Type 0) (r
         (λ env. arms_silent arms s (calm.1) env (StepsBegin p w runs below b args env next begun) (steps_silent next (calm.2) env begun f)) made h
     steps_silent (equal binds x y body next) calm env begun f made h =
         binds_silent binds (calm.0) env (λ env. EqualBegins b.sites args env x y
-        (StepsBegin p w runs below b args env body (StepsBegin p w runs below b args env next begun)) (StepsBegin p w runs below b args env next begun))
+        (StepsBegin p w runs below b args env body (StepsBegin p w runs below b args env next begun))
+        (StepsBegin p w runs below b args env next begun))
         (λ env. equal_silent env x y (StepsBegin p w runs below b args env body (StepsBegin p w runs below b args env next begun))
         (StepsBegin p w runs below b args env next begun)
         (steps_silent body (calm.1) env (StepsBegin p w runs below b args env next begun) (steps_silent next (calm.2) env begun f))

@@ -2,7 +2,7 @@
 use Rattle.std.proofs.Common.{◌≡◌, ◌⊎◌, inl, inr, ℕ, suc, Bool, true, false, List, [], ◌∷◌, map, Some, slice_get, sym, ◌∙◌, ap, subst}
 use Rattle.isle_trees.specs.Rules.{Elem, IsPartOf, itself, of_part, Asked, rights}
 use Rattle.isle_trees.proofs.Asking.{elem_append}
-use Rattle.isle_terms.specs.TypedRules.{TypedIfLet, TypedRule}
+use Rattle.isle_rules.specs.TypedRules.{TypedIfLet, TypedRule}
 use Rattle.isle_meaning.specs.Facts.{TermFacts}
 use Rattle.isle_meaning.specs.Words.{Word, var_word, bool_word, int_word, prim_word, variant_word, struct_word, call_word, Words}
 use Rattle.isle_meaning.specs.Words.{no_words, more_words, Step, word_of, steps_of}
@@ -11,7 +11,7 @@ use Rattle.isle_meaning.specs.Sites.{make_struct, make_some, Sites, answer_site,
 use Rattle.isle_meaning.specs.AboutSites.Parts.{IsOneOf, SpeaksOf}
 use Rattle.isle_meaning.specs.Demands.{Demand, constrained, equal, vars_of, result_of}
 use Rattle.isle_meaning.specs.Derived.{Derived}
-use Rattle.isle_meaning.specs.Laws.Matching.{DemandOf}
+use Rattle.isle_meaning.specs.Demands.{DemandOf}
 use Rattle.isle_meaning.specs.Numbered.{Row, constructor_row}
 use Rattle.isle_meaning.specs.Worlds.{CheckedProgram}
 use Rattle.isle_meaning.specs.Reaching.{IsCalledInIfLets, IsCalledInRule, Calls}

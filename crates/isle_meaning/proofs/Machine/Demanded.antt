@@ -1,13 +1,13 @@
 -- A call that a rule's tests ask is a subtree of a site of which the rule demands something.
 use Rattle.std.proofs.Common.{inl, inr, ℕ, refl, subst}
 use Rattle.isle_trees.specs.Rules.{Elem, has, one_value, Asked, by_demand, by_class, by_part}
-use Rattle.isle_terms.specs.TypedRules.{TypedRule}
+use Rattle.isle_rules.specs.TypedRules.{TypedRule}
 use Rattle.isle_meaning.specs.Facts.{TermFacts}
 use Rattle.isle_meaning.specs.Sites.{Site}
 use Rattle.isle_meaning.specs.Subtrees.{IsSubtree}
 use Rattle.isle_meaning.specs.Demands.{Demand, constrained, equal}
 use Rattle.isle_meaning.specs.Derived.{Derived, demanded, flipped, chained, shared, like_variant, like_struct}
-use Rattle.isle_meaning.specs.Laws.Matching.{DemandOf}
+use Rattle.isle_meaning.specs.Demands.{DemandOf}
 use Rattle.isle_meaning.specs.Worlds.{CheckedProgram}
 use Rattle.isle_meaning.specs.AboutSites.RuleCalls.{IsCall}
 use Rattle.isle_meaning.specs.Machine.Runs.{TermTree}

@@ -94,12 +94,14 @@ module _ {C : Type 0} (p : CheckedProgram) (w : Answers) (R : ℕ → Type 0) (s
   KeptAll env before = (c : Completion) → Good c → (more : List (Option Value)) → IsKept p.terms c args (before ++ more) B.site b.sites B.sited env
 
   -- what is bound is what each completion says now
-  pub kept_here : (env : Env) (before : List (Option Value)) → KeptAll env before → (c : Completion) → Good c → IsKept p.terms c args before B.site b.sites B.sited env
+  pub kept_here : (env : Env) (before : List (Option Value)) → KeptAll env before → (c : Completion) → Good c
+      → IsKept p.terms c args before B.site b.sites B.sited env
   kept_here env before k c g = subst (λ (l : List (Option Value)). IsKept p.terms c args l B.site b.sites B.sited env) (append-nil before) (k c g [])
 
   -- so is what is bound further
   kept_set : (env : Env) (k : ℕ) (h : Held) (before : List (Option Value)) → KeptAll env before
-      → ((c : Completion) → Good c → (more : List (Option Value)) → AgreeIfKnown (gives h) (value p.terms c args (before ++ more) (B.site k))) → KeptAll (set env k (Some h)) before
+      → ((c : Completion) → Good c → (more : List (Option Value)) → AgreeIfKnown (gives h) (value p.terms c args (before ++ more) (B.site k)))
+      → KeptAll (set env k (Some h)) before
   kept_set env k h before kept here c g more =
       same_set p w R sound below gives_typed t args args_typed b B means meant c (agrees c g) env k h (before ++ more) (kept c g more) (here c g more)
 
@@ -125,7 +127,8 @@ module _ {C : Type 0} (p : CheckedProgram) (w : Answers) (R : ℕ → Type 0) (s
 
   -- sites without effects, of a run that ends
   pure_ends : (xs : List ℕ) (env : Env) (before : List (Option Value)) (next : Env → Going) (steps : ℕ) (trace : List Event) (e : Ended)
-      → ((x : ℕ) → Elem x xs → B.set.effect x ≡ false) → TypedEnv env → KeptAll env before → BindsRun p w below b.sites args env xs next steps trace (ended e)
+      → ((x : ℕ) → Elem x xs → B.set.effect x ≡ false) → TypedEnv env → KeptAll env before
+      → BindsRun p w below b.sites args env xs next steps trace (ended e)
       → PureEnd xs env before next steps trace e
   pure_ends [] env before next steps trace e pure typed kept run = inl (env, typed, kept, (λ x m. absurd m), (λ x h q. (h, q)), run)
   pure_ends (k ∷ ks) env before next steps trace e pure typed kept (row, effects, rest, o, at, made, split, after) =
@@ -133,11 +136,13 @@ module _ {C : Type 0} (p : CheckedProgram) (w : Answers) (R : ℕ → Type 0) (s
       let none = row_calm p w below b.sites args env row effects o calm made in
       let same = no_effects effects rest trace none split in
       go o made calm none same (λ h ty ke run. pure_ends ks (set env k (Some h)) before next steps rest e (λ x m. pure x (inr m)) ty ke run)
-      (λ h made c g more n m. row_says p w R sound below gives_typed t args args_typed b B means meant c (agrees c g) (before ++ more) env k row effects (given h) typed
+      (λ h made c g more n m. row_says p w R sound below gives_typed t args args_typed b B means meant c (agrees c g)
+      (before ++ more) env k row effects (given h) typed
       (kept c g more) at calm made m) after
     where
       go : (o : Outcome Held) → RowRuns p w below b.sites args env row effects o → is_effect row ≡ false → effects ≡ [] → rest ≡ trace
-          → ((h : Held) → TypedEnv (set env k (Some h)) → KeptAll (set env k (Some h)) before → BindsRun p w below b.sites args (set env k (Some h)) ks next steps rest (ended e)
+          → ((h : Held) → TypedEnv (set env k (Some h)) → KeptAll (set env k (Some h)) before
+          → BindsRun p w below b.sites args (set env k (Some h)) ks next steps rest (ended e)
           → PureEnd ks (set env k (Some h)) before next steps rest e)
           → ((h : Held) → RowRuns p w below b.sites args env row effects (given h) → (c : Completion) → Good c → (more : List (Option Value))
           → AgreeIfKnown (gives h) (value p.terms c args (before ++ more) (B.site k)))
@@ -146,7 +151,8 @@ module _ {C : Type 0} (p : CheckedProgram) (w : Answers) (R : ℕ → Type 0) (s
       go (given h) made calm none same walks says after =
           let here = row_typed p w R sound below gives_typed t args args_typed b B env k row effects h typed at made in
           subst (λ (l : List Event). PureEnd (k ∷ ks) env before next steps l e) same
-          (elim (walks h (set_typed p w R sound below gives_typed t args args_typed b B env k h typed here) (kept_set env k h before kept (says h made)) after) [
+          (elim (walks h (set_typed p w R sound below gives_typed t args args_typed b B env k h typed here)
+          (kept_set env k h before kept (says h made)) after) [
             | inl a ↦ (let (env', ty, ke, bound, stays, run) = a in inl (
               env',
               ty,
@@ -158,7 +164,19 @@ module _ {C : Type 0} (p : CheckedProgram) (w : Answers) (R : ℕ → Type 0) (s
               (λ x g q. let (f, q') = set_stays env k h x g q in stays x f q'),
               run,
             ))
-            | inr a ↦ inr (record { number = a.number; row = a.row; env = a.env; among = inr a.among; there = a.there; calm = a.calm; typed = a.typed; kept = a.kept; run = a.run; nothing = a.nothing })
+            | inr a ↦ inr (record {
+              number = a.number;
+              row = a.row;
+              env = a.env;
+              among = inr a.among;
+              there =
+                  a.there;
+              calm = a.calm;
+              typed = a.typed;
+              kept = a.kept;
+              run = a.run;
+              nothing = a.nothing;
+            })
           ])
       go missing made calm none same walks says (z, nothing, is) = absurd (let q : ended e ≡ missing = is in cc)
       go (ended f) made calm none same walks says (z, nothing, is) =
@@ -173,7 +191,8 @@ module _ {C : Type 0} (p : CheckedProgram) (w : Answers) (R : ℕ → Type 0) (s
             calm = calm;
             typed = typed;
             kept = kept;
-            run = subst (λ (x : Ended). RowRuns p w below b.sites args env row [] (ended x)) r (subst (λ (l : List Event). RowRuns p w below b.sites args env row l (ended f)) none made);
+            run = subst (λ (x : Ended). RowRuns p w below b.sites args env row [] (ended x)) r
+                (subst (λ (l : List Event). RowRuns p w below b.sites args env row l (ended f)) none made);
             nothing = sym same ∙ nothing;
           })
 
@@ -236,11 +255,14 @@ module _ {C : Type 0} (p : CheckedProgram) (w : Answers) (R : ℕ → Type 0) (s
         → TypedEnv env → KeptAll env before → values_at (read b.sites args env) js ≡ gives vs → ImpureRuns p below s.term vs effects g
         → o ≡ option_if (p.terms.partial s.term) (holding held_value g) → trace ≡ effects ++ rest
         → RowRuns p w below b.sites args env (constructor_row s.term js (suc s.place)) effects o
-        → Goes o (λ h. BindsRun p w below b.sites args (set env u (Some h)) binds (λ env. Returns b.sites (p.terms.partial t) args env (b.result i))) steps rest (ended e)
+        → Goes o (λ h. BindsRun p w below b.sites args (set env u (Some h)) binds (λ env. Returns b.sites (p.terms.partial t) args env (b.result i)))
+        steps rest (ended e)
         → Went s u us seen before steps trace e ⊎ CallEnd (s ∷ ss) before trace e
-    call_went s u us seen js mid after binds env before steps trace effects rest e missing vs g ss at place site_u sites_js scope order fresh typed kept read_vs imp out_is split made goes =
+    call_went s u us seen js mid after binds env before steps trace effects rest e missing vs g ss at place
+        site_u sites_js scope order fresh typed kept read_vs imp out_is split made goes =
         absurd (let q : ended e ≡ missing = goes.2 in cc)
-    call_went s u us seen js mid after binds env before steps trace effects rest e (ended f) vs g ss at place site_u sites_js scope order fresh typed kept read_vs imp out_is split made goes =
+    call_went s u us seen js mid after binds env before steps trace effects rest e (ended f) vs g ss at place
+        site_u sites_js scope order fresh typed kept read_vs imp out_is split made goes =
         let q : ended e ≡ ended f = goes.2 in
         let r : f ≡ e = cc in
         inr (record {
@@ -257,7 +279,8 @@ module _ {C : Type 0} (p : CheckedProgram) (w : Answers) (R : ℕ → Type 0) (s
           run = subst (λ (x : Ended). RowRuns p w below b.sites args env (constructor_row s.term js (suc s.place)) effects (ended x)) r made;
           asks = λ c g q maybe. inl (refl, inl site_u, maybe (suc s.place) (subst (IsPlaced (suc s.place)) (sym site_u) (inr refl)));
         })
-    call_went s u us seen js mid after binds env before steps trace effects rest e (given h) vs g ss at place site_u sites_js scope order fresh typed kept read_vs imp out_is split made goes =
+    call_went s u us seen js mid after binds env before steps trace effects rest e (given h) vs g ss at place
+        site_u sites_js scope order fresh typed kept read_vs imp out_is split made goes =
         inl (go (p.terms.partial s.term) refl g imp out_is)
       where
         single : p.terms.multi s.term ≡ false
@@ -273,10 +296,12 @@ module _ {C : Type 0} (p : CheckedProgram) (w : Answers) (R : ℕ → Type 0) (s
         answered_got (Some v) = refl
 
         -- what the call holds once it is answered
-        held_there : (partial : Bool) → p.terms.partial s.term ≡ partial → (x : Option Value) (c : Completion) (more : List (Option Value)) (us : Values)
+        held_there : (partial : Bool) → p.terms.partial s.term ≡ partial → (x : Option Value) (c : Completion)
+            (more : List (Option Value)) (us : Values)
             → construct_held p.terms c ((before ++ x ∷ []) ++ more) s.term (suc s.place) us ≡ constructed partial (got x)
         held_there partial e x c more us =
-            ap (λ (m : Bool). if m then several_of (c.constructs s.term us) else constructed (p.terms.partial s.term) (answered (slice_get ((before ++ x ∷ []) ++ more) s.place))) single
+            ap (λ (m : Bool). if m then several_of (c.constructs s.term us) else constructed (p.terms.partial s.term)
+            (answered (slice_get ((before ++ x ∷ []) ++ more) s.place))) single
             ∙ ap (λ (q : Bool). constructed q (answered (slice_get ((before ++ x ∷ []) ++ more) s.place))) e
             ∙ ap (λ (j : ℕ). constructed partial (answered (slice_get ((before ++ x ∷ []) ++ more) j))) place
             ∙ ap (λ (g : Option (Option Value)). constructed partial (answered g)) (answer_at before more x)
@@ -288,17 +313,20 @@ module _ {C : Type 0} (p : CheckedProgram) (w : Answers) (R : ℕ → Type 0) (s
             ≡ ask (λ us. constructed partial (got x)) (values p.terms c args ((before ++ x ∷ []) ++ more) (sites_at B.site js))
         value_there partial e x c more =
             ap (value p.terms c args ((before ++ x ∷ []) ++ more)) (B.sited u (constructor_row s.term js (suc s.place)) at)
-            ∙ call_there (values p.terms c args ((before ++ x ∷ []) ++ more) (sites_at B.site js)) _ (constructed partial (got x)) (held_there partial e x c more)
+            ∙ call_there (values p.terms c args ((before ++ x ∷ []) ++ more) (sites_at B.site js)) _ (constructed partial (got x))
+            (held_there partial e x c more)
 
         -- its arguments are what each completion says
-        says_at : (c : Completion) (good : Good c) (l : List (Option Value)) → IsKept p.terms c args l B.site b.sites B.sited env → Says (values p.terms c args l (sites_at B.site js)) (gives vs)
+        says_at : (c : Completion) (good : Good c) (l : List (Option Value)) → IsKept p.terms c args l B.site b.sites B.sited env
+            → Says (values p.terms c args l (sites_at B.site js)) (gives vs)
         says_at c good l k n =
             values_kept p w R sound below gives_typed t args args_typed b B means meant c (agrees c good) l env js k
             (λ u. let q : unknown ≡ gives vs = sym u ∙ read_vs in cc) n ∙ read_vs
 
         -- it was answered, and the run goes on
         went : (partial : Bool) → p.terms.partial s.term ≡ partial → (x : Option Value) → constructed partial (got x) ≡ gives h
-            → ((x ≡ None) × (partial ≡ true)) ⊎ ((v : Value) × (x ≡ Some v) × Makes p means s.term vs effects (Some v)) → Went s u us seen before steps trace e
+            → ((x ≡ None) × (partial ≡ true)) ⊎ ((v : Value) × (x ≡ Some v) × Makes p means s.term vs effects (Some v))
+            → Went s u us seen before steps trace e
         went partial pe x holds m = record {
           answer = x;
           vs = vs;
@@ -313,25 +341,30 @@ module _ {C : Type 0} (p : CheckedProgram) (w : Answers) (R : ℕ → Type 0) (s
             scope = scope;
             order = order;
             typed = set_typed p w R sound below gives_typed t args args_typed b B env u h typed
-                (row_typed p w R sound below gives_typed t args args_typed b B env u (constructor_row s.term js (suc s.place)) effects h typed at made);
+                (row_typed p w R sound below gives_typed t args args_typed b B env u (constructor_row s.term js (suc s.place))
+                effects h typed at made);
             kept = λ c good more.
                 let q : before ++ (x ∷ more) ≡ (before ++ x ∷ []) ++ more = sym (append_assoc before (x ∷ []) more) in
                 let old = subst (λ (l : List (Option Value)). IsKept p.terms c args l B.site b.sites B.sited env) q (kept c good (x ∷ more)) in
-                let there = value_there partial pe x c more ∙ ap (λ (k : Got Held). ask (λ us. k) (values p.terms c args ((before ++ x ∷ []) ++ more) (sites_at B.site js))) holds in
+                let there = value_there partial pe x c more ∙ ap
+                (λ (k : Got Held). ask (λ us. k) (values p.terms c args ((before ++ x ∷ []) ++ more) (sites_at B.site js))) holds in
                 same_set p w R sound below gives_typed t args args_typed b B means meant c (agrees c good) env u h ((before ++ x ∷ []) ++ more) old
                 (subst (λ (k : Got Held). AgreeIfKnown (gives h) k) (sym there)
-                (call_same (values p.terms c args ((before ++ x ∷ []) ++ more) (sites_at B.site js)) vs h (says_at c good ((before ++ x ∷ []) ++ more) old)));
+                (call_same (values p.terms c args ((before ++ x ∷ []) ++ more) (sites_at B.site js)) vs h
+                (says_at c good ((before ++ x ∷ []) ++ more) old)));
             run = goes;
           };
           fresh = fresh;
-          says = λ c good. subst (λ (k : Got Values). Says k (gives vs)) (ap (values p.terms c args before) sites_js) (says_at c good before (kept_here env before kept c good));
+          says = λ c good. subst (λ (k : Got Values). Says k (gives vs)) (ap (values p.terms c args before) sites_js)
+              (says_at c good before (kept_here env before kept c good));
           holds = λ c good known.
               let known_js : values p.terms c args before (sites_at B.site js) ≡ gives vs = ap (values p.terms c args before) sites_js ∙ known in
               let later : values p.terms c args (before ++ x ∷ []) (sites_at B.site js) ≡ gives vs =
               all_later p.terms c args before (x ∷ []) (sites_at B.site js) (λ e. let q : unknown ≡ gives vs = sym e ∙ known_js in cc) ∙ known_js in
               ap (λ (l : List (Option Value)). value p.terms c args l (B.site u)) (sym (append-nil (before ++ x ∷ [])))
               ∙ value_there partial pe x c []
-              ∙ ap (ask (λ us. constructed partial (got x))) (ap (λ (l : List (Option Value)). values p.terms c args l (sites_at B.site js)) (append-nil (before ++ x ∷ [])) ∙ later)
+              ∙ ap (ask (λ us. constructed partial (got x)))
+              (ap (λ (l : List (Option Value)). values p.terms c args l (sites_at B.site js)) (append-nil (before ++ x ∷ [])) ∙ later)
               ∙ ap (λ (q : Bool). constructed q (got x)) (sym pe);
           made = elim m [ inl a ↦ inl (a.0, pe ∙ a.1) | inr a ↦ inr a ];
         }
@@ -339,16 +372,27 @@ module _ {C : Type 0} (p : CheckedProgram) (w : Answers) (R : ℕ → Type 0) (s
         go : (partial : Bool) → p.terms.partial s.term ≡ partial → (g : Outcome Value) → ImpureRuns p below s.term vs effects g
             → given h ≡ option_if partial (holding held_value g) → Went s u us seen before steps trace e
         go true pe (given v) imp is = went true pe (Some v) (let q : held_some (held_value v) ≡ h = cc in ap (λ (k : Held). gives k) q)
-            (inr (v, refl, impure_answers p w R sound.data_sound below gives_typed means meant (p.has_rules s.term) s.term vs effects (given v) refl (B.called u s.term (suc s.place) js at) args_are imp))
+            (inr (
+              v,
+              refl,
+              impure_answers p w R sound.data_sound below gives_typed means meant (p.has_rules s.term) s.term vs effects
+                  (given v) refl (B.called u s.term (suc s.place) js at) args_are imp,
+            ))
         go true pe missing imp is = went true pe None (let q : held_none ≡ h = cc in ap (λ (k : Held). gives k) q) (inl (refl, refl))
         go true pe (ended f) imp is = absurd cc
         go false pe (given v) imp is = went false pe (Some v) (let q : held_value v ≡ h = cc in ap (λ (k : Held). gives k) q)
-            (inr (v, refl, impure_answers p w R sound.data_sound below gives_typed means meant (p.has_rules s.term) s.term vs effects (given v) refl (B.called u s.term (suc s.place) js at) args_are imp))
+            (inr (
+              v,
+              refl,
+              impure_answers p w R sound.data_sound below gives_typed means meant (p.has_rules s.term) s.term vs effects
+                  (given v) refl (B.called u s.term (suc s.place) js at) args_are imp,
+            ))
         go false pe missing imp is = absurd cc
         go false pe (ended f) imp is = absurd cc
 
     -- a call, with what it is made of
-    call_end : (s : Step) (u : ℕ) (us seen : List ℕ) (before : List (Option Value)) (steps : ℕ) (trace : List Event) (e : Ended) (ss : List Step) → There u
+    call_end : (s : Step) (u : ℕ) (us seen : List ℕ) (before : List (Option Value)) (steps : ℕ) (trace : List Event)
+        (e : Ended) (ss : List Step) → There u
         → B.site u ≡ constructor_call s.term (sites_of p.terms vars s.args) (suc s.place) → s.place ≡ length before
         → EffectsFirst B.set z seen (u ∷ us) → Onward (u ∷ us) seen before steps trace e
         → Went s u us seen before steps trace e ⊎ CallEnd (s ∷ ss) before trace e
@@ -364,7 +408,8 @@ module _ {C : Type 0} (p : CheckedProgram) (w : Answers) (R : ℕ → Type 0) (s
               let stepped = scope_step p w R sound below gives_typed t args args_typed b B on.sc mid u seen front on.scope bs first in
               let own_u : own B.set u ≡ u ∷ [] = rw stands_u refl in
               let split_u : on.binds ≡ front ++ (u ∷ rest_binds) = split_binds ∙ ap (λ (l : List ℕ). front ++ (l ++ rest_binds)) own_u in
-              let run = subst (λ (l : List ℕ). BindsRun p w below b.sites args on.env l (λ env. Returns b.sites (p.terms.partial t) args env (b.result i)) steps trace (ended e)) split_u on.run in
+              let run = subst (λ (l : List ℕ). BindsRun p w below b.sites args on.env l
+              (λ env. Returns b.sites (p.terms.partial t) args env (b.result i)) steps trace (ended e)) split_u on.run in
               let fresh : (m : ℕ) → Elem u (B.set.parts m) → (m ≡ u → ⊥) → (emit mid u).emitted m ≡ false = λ m inside n.
               elim (true_or ((emit mid u).emitted m)) [
                 | inr f ↦ f
@@ -378,9 +423,11 @@ module _ {C : Type 0} (p : CheckedProgram) (w : Answers) (R : ℕ → Type 0) (s
                   ]
                 ])
               ] in
-              elim (pure_ends front on.env before (λ env. BindsRun p w below b.sites args env (u ∷ rest_binds) (λ env. Returns b.sites (p.terms.partial t) args env (b.result i))) steps trace e
+              elim (pure_ends front on.env before (λ env. BindsRun p w below b.sites args env (u ∷ rest_binds)
+              (λ env. Returns b.sites (p.terms.partial t) args env (b.result i))) steps trace e
               (stepped.1) on.typed on.kept
-              (binds_append p w R sound below gives_typed t args args_typed b B front (u ∷ rest_binds) on.env (λ env. Returns b.sites (p.terms.partial t) args env (b.result i)) steps trace (ended e) run)) [
+              (binds_append p w R sound below gives_typed t args args_typed b B front (u ∷ rest_binds) on.env
+              (λ env. Returns b.sites (p.terms.partial t) args env (b.result i)) steps trace (ended e) run)) [
                 | inr a ↦ inr (record {
                   number = a.number;
                   row = a.row;
@@ -397,21 +444,25 @@ module _ {C : Type 0} (p : CheckedProgram) (w : Answers) (R : ℕ → Type 0) (s
                     refl,
                     subst (IsSubtree (B.site a.number)) site_u ((deep_site p R t b B u a.number (row, at0)
                         (parts_up B.set u a.number (bs.only a.number (in_all B.set on.sc mid (B.set.parts u) front bs a.number a.among)))).1),
-                    maybe (suc s.place) (subst (IsPlaced (suc s.place)) (sym (B.sited a.number a.row a.there)) (calm_placed B.site a.row (suc s.place) a.calm)),
+                    maybe (suc s.place) (subst (IsPlaced (suc s.place)) (sym (B.sited a.number a.row a.there))
+                        (calm_placed B.site a.row (suc s.place) a.calm)),
                   );
                 })
                 | inl early ↦
                     let (env1, typed1, kept1, bound1, stays1, (row1, effects, rest, o, at1, made1, split1, goes1)) = early in
-                    let same_row : row1 ≡ constructor_row s.term js (suc s.place) = (let q : Some row1 ≡ Some (constructor_row s.term js (suc s.place)) = sym at1 ∙ at in cc) in
+                    let same_row : row1 ≡ constructor_row s.term js (suc s.place) =
+                    (let q : Some row1 ≡ Some (constructor_row s.term js (suc s.place)) = sym at1 ∙ at in cc) in
                     let made = subst (λ (x : Row). RowRuns p w below b.sites args env1 x effects o) same_row made1 in
                     let (vs, g, read_vs, imp, out_is) = made in
-                    call_went s u us seen js mid on.after rest_binds env1 before steps trace effects rest e o vs g ss at place site_u sites_js (stepped.0) order fresh typed1 kept1
+                    call_went s u us seen js mid on.after rest_binds env1 before steps trace effects rest e o vs g ss at place site_u sites_js
+                    (stepped.0) order fresh typed1 kept1
                     read_vs imp out_is split1 made goes1
               ]
         ]
 
     -- what is made of what is bound is bound
-    emitted_deep : (sc : Scope C) (seen sites : List ℕ) (k : ℕ) → Scoped sc seen → ((s : ℕ) → Elem s sites → sc.emitted s ≡ true) → IsPartOf B.set sites k
+    emitted_deep : (sc : Scope C) (seen sites : List ℕ) (k : ℕ) → Scoped sc seen → ((s : ℕ) → Elem s sites → sc.emitted s ≡ true)
+        → IsPartOf B.set sites k
         → sc.emitted k ≡ true
     emitted_deep sc seen sites _ o f (itself k m) = f k m
     emitted_deep sc seen sites _ o f (of_part s q h m) = o.closed s q (emitted_deep sc seen sites s o f h) m
@@ -439,18 +490,23 @@ module _ {C : Type 0} (p : CheckedProgram) (w : Answers) (R : ℕ → Type 0) (s
               let own_m : own B.set m ≡ m ∷ [] = rw stands_m refl in
               let split_m : on.binds ≡ (front ++ m ∷ []) ++ rest_binds =
               split_binds ∙ ap (λ (ks : List ℕ). front ++ (ks ++ rest_binds)) own_m ∙ sym (append_assoc front (m ∷ []) rest_binds) in
-              let run = subst (λ (ks : List ℕ). BindsRun p w below b.sites args on.env ks (λ env. Returns b.sites (p.terms.partial t) args env (b.result i)) steps trace (ended e)) split_m on.run in
+              let run = subst (λ (ks : List ℕ). BindsRun p w below b.sites args on.env ks
+              (λ env. Returns b.sites (p.terms.partial t) args env (b.result i)) steps trace (ended e)) split_m on.run in
               let pure : (k : ℕ) → Elem k (front ++ m ∷ []) → B.set.effect k ≡ false = λ k q. elim (elem_append k front (m ∷ []) q) [
                 | inl f ↦ stepped.1 k f
                 | inr f ↦ elim f [ inl o ↦ ap B.set.effect o ∙ effect_m | inr x ↦ absurd x ]
               ] in
-              elim (pure_ends (front ++ m ∷ []) on.env before (λ env. BindsRun p w below b.sites args env rest_binds (λ env. Returns b.sites (p.terms.partial t) args env (b.result i))) steps trace e
+              elim (pure_ends (front ++ m ∷ []) on.env before
+              (λ env. BindsRun p w below b.sites args env rest_binds (λ env. Returns b.sites (p.terms.partial t) args env (b.result i)))
+              steps trace e
               pure on.typed on.kept
-              (binds_append p w R sound below gives_typed t args args_typed b B (front ++ m ∷ []) rest_binds on.env (λ env. Returns b.sites (p.terms.partial t) args env (b.result i)) steps trace (ended e) run)) [
+              (binds_append p w R sound below gives_typed t args args_typed b B (front ++ m ∷ []) rest_binds on.env
+              (λ env. Returns b.sites (p.terms.partial t) args env (b.result i)) steps trace (ended e) run)) [
                 | inr a ↦ absurd (elim (elem_append a.number front (m ∷ []) a.among) [
                   | inl f ↦
                       let part = bs.only a.number (in_all B.set on.sc mid (B.set.parts m) front bs a.number f) in
-                      let there : (s : ℕ) → Elem s (B.set.parts m) → on.sc.emitted s ≡ true = λ s q. elim (subst (λ (ps : List ℕ). Elem s ps) parts_m q) [
+                      let there : (s : ℕ) → Elem s (B.set.parts m) → on.sc.emitted s ≡ true =
+                      λ s q. elim (subst (λ (ps : List ℕ). Elem s ps) parts_m q) [
                         | inl o ↦ ap on.sc.emitted (o ∙ j_is) ∙ on.scope.kept u (inl refl)
                         | inr x ↦ absurd x
                       ] in
@@ -458,8 +514,10 @@ module _ {C : Type 0} (p : CheckedProgram) (w : Answers) (R : ℕ → Type 0) (s
                       (order_new B.set on.sc bs.all a.number bs.order (in_all B.set on.sc mid (B.set.parts m) front bs a.number f))
                   | inr f ↦ elim f [
                     | inl o ↦
-                        let same : a.row ≡ match_some_row j = (let q : Some a.row ≡ Some (match_some_row j) = sym a.there ∙ ap (slice_get b.sites) o ∙ at in cc) in
-                        no_call_no_end p w below b.sites args a.env (match_some_row j) [] e refl (subst (λ (x : Row). RowRuns p w below b.sites args a.env x [] (ended e)) same a.run)
+                        let same : a.row ≡ match_some_row j =
+                        (let q : Some a.row ≡ Some (match_some_row j) = sym a.there ∙ ap (slice_get b.sites) o ∙ at in cc) in
+                        no_call_no_end p w below b.sites args a.env (match_some_row j) [] e refl
+                        (subst (λ (x : Row). RowRuns p w below b.sites args a.env x [] (ended e)) same a.run)
                     | inr x ↦ absurd x
                   ]
                 ])
@@ -479,7 +537,8 @@ module _ {C : Type 0} (p : CheckedProgram) (w : Answers) (R : ℕ → Type 0) (s
                       },
                       λ c good f.
                           let q : known (env3 m) ≡ gives h = ap (λ (o : Option Held). known o) is in
-                          let same = kept_here env3 before kept3 c good m (λ e. let o : unknown ≡ gives h = sym e ∙ q in cc) (λ e. let o : unknown ≡ fails = sym e ∙ f in cc) in
+                          let same = kept_here env3 before kept3 c good m (λ e. let o : unknown ≡ gives h = sym e ∙ q in cc)
+                          (λ e. let o : unknown ≡ fails = sym e ∙ f in cc) in
                           let o : fails ≡ gives h = sym f ∙ same ∙ q in cc,
                     )
               ]
@@ -494,7 +553,8 @@ module _ {C : Type 0} (p : CheckedProgram) (w : Answers) (R : ℕ → Type 0) (s
           | inr q ↦ q
           | inl q ↦ clash (on.sc.emitted k) (on.scope.kept k (first k (part k m) q)) (new_binds on.sc on.binds on.after on.order k m)
         ] in
-        elim (pure_ends on.binds on.env before (λ env. Returns b.sites (p.terms.partial t) args env (b.result i)) steps trace e pure on.typed on.kept on.run) [
+        elim (pure_ends on.binds on.env before (λ env. Returns b.sites (p.terms.partial t) args env (b.result i))
+        steps trace e pure on.typed on.kept on.run) [
           | inl early ↦ (let (env1, typed1, kept1, bound1, stays1, (v, r, z0, nothing, is)) = early in absurd (let q : ended e ≡ given v = is in cc))
           | inr a ↦ record {
             number = a.number;
@@ -538,7 +598,8 @@ module _ {C : Type 0} (p : CheckedProgram) (w : Answers) (R : ℕ → Type 0) (s
     -- after a call that was made
     later_end : (s : Step) (u : ℕ) (us seen : List ℕ) (before : List (Option Value)) (steps : ℕ) (trace : List Event) (e : Ended) (ss : List Step)
         → (went : Went s u us seen before steps trace e)
-        → ((c : Completion) → Good c → went.answer ≡ None → p.terms.partial s.term ≡ true → values p.terms c args before (sites_of p.terms vars s.args) ≡ gives went.vs → ⊥)
+        → ((c : Completion) → Good c → went.answer ≡ None → p.terms.partial s.term ≡ true
+        → values p.terms c args before (sites_of p.terms vars s.args) ≡ gives went.vs → ⊥)
         → CallEnd ss (before ++ went.answer ∷ []) went.rest e → CallEnd (s ∷ ss) before trace e
     later_end s u us seen before steps trace e ss went never a = record {
       number = a.number;
@@ -552,9 +613,11 @@ module _ {C : Type 0} (p : CheckedProgram) (w : Answers) (R : ℕ → Type 0) (s
       typed = a.typed;
       kept = a.kept;
       run = a.run;
-      asks = λ c good q maybe. inr (got_gives (values p.terms c args before (sites_of p.terms vars s.args)) went.vs ⊥ (λ vs. (effects : List Event) × (rest : List Event)
+      asks = λ c good q maybe. inr (got_gives (values p.terms c args before (sites_of p.terms vars s.args)) went.vs ⊥
+          (λ vs. (effects : List Event) × (rest : List Event)
           × (v : Value) × (went.effects ++ a.pre ≡ effects ++ rest) × Makes p means s.term vs effects (Some v)
-          × RightAsks p.terms Needed c (Makes p means) args vars (before ++ Some v ∷ []) ss word rest (B.site a.number) q) (went.says c good) (λ known.
+          × RightAsks p.terms Needed c (Makes p means) args vars (before ++ Some v ∷ []) ss word rest (B.site a.number) q)
+          (went.says c good) (λ known.
           elim went.made [
             | inl none ↦ absurd (never c good (none.0) (none.1) known)
             | inr some ↦
@@ -564,7 +627,8 @@ module _ {C : Type 0} (p : CheckedProgram) (w : Answers) (R : ℕ → Type 0) (s
                   v,
                   refl,
                   made,
-                  subst (λ (x : Option Value). RightAsks p.terms Needed c (Makes p means) args vars (before ++ x ∷ []) ss word a.pre (B.site a.number) q) is (a.asks c good q maybe),
+                  subst (λ (x : Option Value). RightAsks p.terms Needed c (Makes p means) args vars (before ++ x ∷ []) ss word a.pre
+                      (B.site a.number) q) is (a.asks c good q maybe),
                 )
           ]));
     }
@@ -576,19 +640,25 @@ module _ {C : Type 0} (p : CheckedProgram) (w : Answers) (R : ℕ → Type 0) (s
     right_ends [] n [] seen before steps trace e is stand typed place first on = result_end seen before steps trace e first on
     right_ends [] n (u ∷ us) seen before steps trace e is stand typed place first on = absurd (let q : B.site u ∷ map B.site us ≡ [] = is in cc)
     right_ends (s ∷ ss) n us seen before steps trace e is stand typed place first on =
-        go (p.terms.partial s.term) refl us is stand first on (λ us' seen' x rest h st f o. right_ends ss (suc n) us' seen' (before ++ x ∷ []) steps rest e h st (typed.2)
+        go (p.terms.partial s.term) refl us is stand first on
+        (λ us' seen' x rest h st f o. right_ends ss (suc n) us' seen' (before ++ x ∷ []) steps rest e h st (typed.2)
         (ap suc place ∙ sym (one_longer before x)) f o)
       where
         go : (partial : Bool) → p.terms.partial s.term ≡ partial → (us : List ℕ)
-            → map B.site us ≡ with_content (p.terms.partial s.term) (constructor_call s.term (sites_of p.terms vars s.args) (suc s.place)) ++ calls_of p.terms vars ss
+            → map B.site us ≡ with_content (p.terms.partial s.term) (constructor_call s.term (sites_of p.terms vars s.args) (suc s.place))
+            ++ calls_of p.terms vars ss
             → ((k : ℕ) → Elem k us → There k) → EffectsFirst B.set z seen us → Onward us seen before steps trace e
-            → ((us' seen' : List ℕ) (x : Option Value) (rest : List Event) → map B.site us' ≡ calls_of p.terms vars ss → ((k : ℕ) → Elem k us' → There k)
+            → ((us' seen' : List ℕ) (x : Option Value) (rest : List Event) → map B.site us' ≡ calls_of p.terms vars ss
+            → ((k : ℕ) → Elem k us' → There k)
             → EffectsFirst B.set z seen' us' → Onward us' seen' (before ++ x ∷ []) steps rest e → CallEnd ss (before ++ x ∷ []) rest e)
             → CallEnd (s ∷ ss) before trace e
-        go false pe us e0 stand first on rec = plain us (e0 ∙ ap (λ (q : Bool). with_content q (constructor_call s.term (sites_of p.terms vars s.args) (suc s.place)) ++ calls_of p.terms vars ss) pe) stand first on
+        go false pe us e0 stand first on rec = plain us
+            (e0 ∙ ap (λ (q : Bool). with_content q (constructor_call s.term (sites_of p.terms vars s.args) (suc s.place)) ++ calls_of p.terms vars ss)
+            pe) stand first on
           where
             plain : (us : List ℕ) → map B.site us ≡ constructor_call s.term (sites_of p.terms vars s.args) (suc s.place) ∷ calls_of p.terms vars ss
-                → ((k : ℕ) → Elem k us → There k) → EffectsFirst B.set z seen us → Onward us seen before steps trace e → CallEnd (s ∷ ss) before trace e
+                → ((k : ℕ) → Elem k us → There k) → EffectsFirst B.set z seen us → Onward us seen before steps trace e
+                → CallEnd (s ∷ ss) before trace e
             plain [] q stand first on = absurd cc
             plain (u ∷ us) q stand first on =
                 let rest_is : map B.site us ≡ calls_of p.terms vars ss = cc in
@@ -597,25 +667,31 @@ module _ {C : Type 0} (p : CheckedProgram) (w : Answers) (R : ℕ → Type 0) (s
                   | inl went ↦ later_end s u us seen before steps trace e ss went (λ c g n pt known. (let o : false ≡ true = sym pe ∙ pt in cc))
                       (rec us (u ∷ seen) went.answer went.rest rest_is (λ k m. stand k (inr m)) (first.2) went.onward)
                 ]
-        go true pe us e0 stand first on rec = opened us (e0 ∙ ap (λ (q : Bool). with_content q (constructor_call s.term (sites_of p.terms vars s.args) (suc s.place)) ++ calls_of p.terms vars ss) pe) stand first on
+        go true pe us e0 stand first on rec = opened us
+            (e0 ∙ ap (λ (q : Bool). with_content q (constructor_call s.term (sites_of p.terms vars s.args) (suc s.place)) ++ calls_of p.terms vars ss)
+            pe) stand first on
           where
             opened : (us : List ℕ) → map B.site us ≡ constructor_call s.term (sites_of p.terms vars s.args) (suc s.place)
                 ∷ match_some (constructor_call s.term (sites_of p.terms vars s.args) (suc s.place)) ∷ calls_of p.terms vars ss
-                → ((k : ℕ) → Elem k us → There k) → EffectsFirst B.set z seen us → Onward us seen before steps trace e → CallEnd (s ∷ ss) before trace e
+                → ((k : ℕ) → Elem k us → There k) → EffectsFirst B.set z seen us → Onward us seen before steps trace e
+                → CallEnd (s ∷ ss) before trace e
             opened [] q stand first on = absurd cc
             opened (u ∷ []) q stand first on = absurd cc
             opened (u ∷ (m ∷ us)) q stand first on =
                 let site_u : B.site u ≡ constructor_call s.term (sites_of p.terms vars s.args) (suc s.place) = cc in
                 let site_m : B.site m ≡ match_some (B.site u) = cc in
                 let rest_is : map B.site us ≡ calls_of p.terms vars ss = cc in
-                let apart : m ≡ u → ⊥ = λ q. (let o : match_some (B.site u) ≡ constructor_call s.term (sites_of p.terms vars s.args) (suc s.place) = sym site_m ∙ ap B.site q ∙ site_u in cc) in
+                let apart : m ≡ u → ⊥ = λ q. (let o : match_some (B.site u) ≡ constructor_call s.term (sites_of p.terms vars s.args) (suc s.place) =
+                sym site_m ∙ ap B.site q ∙ site_u in cc) in
                 elim (call_end s u (m ∷ us) seen before steps trace e ss (stand u (inl refl)) site_u (typed.1 ∙ place) first on) [
                   | inr a ↦ a
                   | inl went ↦
-                      let content = content_end u m us seen (before ++ went.answer ∷ []) steps went.rest e (stand u (inl refl)) (stand m (inr (inl refl))) site_m (first.2)
+                      let content = content_end u m us seen (before ++ went.answer ∷ []) steps went.rest e
+                      (stand u (inl refl)) (stand m (inr (inl refl))) site_m (first.2)
                       went.onward went.fresh apart in
                       later_end s u (m ∷ us) seen before steps trace e ss went
-                      (λ c g n pt known. content.1 c g (ap (value p.terms c args (before ++ went.answer ∷ [])) site_m ∙ ap (ask content_of) (went.holds c g known)
+                      (λ c g n pt known. content.1 c g (ap (value p.terms c args (before ++ went.answer ∷ [])) site_m ∙ ap
+                      (ask content_of) (went.holds c g known)
                       ∙ none_fails (p.terms.partial s.term) went.answer pt n))
                       (rec us (m ∷ (u ∷ seen)) went.answer went.rest rest_is (λ k n. stand k (inr (inr n))) (first.2.2) (content.0))
                 ]

@@ -56,8 +56,11 @@ to_call_on : (facts : TermFacts) (c : Completion) (args : Values) (place : ℕ) 
 to_call_on facts c args place site (extractor_row t j) (asks_outputs u v) n known (e, h) =
     (e, plain_gives (value facts c args [] (site j)) v (h (plain_known (value facts c args [] (site j)) (known j (inl refl)))))
 to_call_on facts c args place site (extractor_row t j) (asks_value u vs) n known h = absurd h
-to_call_on facts c args place site (constructor_row t js zero) (asks_value u vs) n known (o, e, h) =
-    (e, h (values_known facts c args [] (sites_at site js) (λ s m. let (j, k, q) = in_numbers site js s m in λ o. known j k (ap (value facts c args []) (sym q) ∙ o))))
+to_call_on facts c args place site (constructor_row t js zero) (asks_value u vs) n known (o, e, h) = (
+  e,
+  h (values_known facts c args [] (sites_at site js) (λ s m. let (j, k, q) = in_numbers site js s m in
+      λ o. known j k (ap (value facts c args []) (sym q) ∙ o))),
+)
 to_call_on facts c args place site (constructor_row t js zero) (asks_outputs u v) n known h = absurd h
 to_call_on facts c args place site (constructor_row t js (suc i)) q n known h = absurd (let o : true ≡ false = n in cc)
 to_call_on facts c args place site (bool_row x ty) q n known h = absurd h
@@ -73,10 +76,12 @@ to_call_on facts c args place site (make_some_row j) q n known h = absurd h
 to_call_on facts c args place site (match_some_row j) q n known h = absurd h
 to_call_on facts c args place site (match_tuple_row j i) q n known h = absurd h
 
-module _ {C : Type 0} (p : CheckedProgram) (w : Answers) (R : ℕ → Type 0) (sound : IsSound p R) (n : ℕ) (below : Runs) (gives_typed : GivesTyped p R below)
+module _ {C : Type 0} (p : CheckedProgram) (w : Answers) (R : ℕ → Type 0) (sound : IsSound p R) (n : ℕ) (below : Runs)
+    (gives_typed : GivesTyped p R below)
     (t : ℕ) (runs : R t) (args : Values) (args_typed : AreValuesOf p.values args (p.terms.inputs t)) (b : TermTree C) (B : IsTermTree p R t b)
     (meant : GivesMeant p R below (Means p w n))
-    (ends_below : (u : ℕ) (vs : Values) (effects : List Event) (e : Ended) → R u → AreValuesOf p.values vs (p.terms.inputs u) → below u vs effects (ended e)
+    (ends_below : (u : ℕ) (vs : Values) (effects : List Event) (e : Ended) → R u → AreValuesOf p.values vs (p.terms.inputs u)
+    → below u vs effects (ended e)
     → EndsAt p w (machine_links p w) n (asks_value u vs) effects e) where
   extract_end : (u : ℕ) (v : Value) (e : Ended) → WorldExtracts p w u v (ended e) → EndsAt p w (machine_links p w) n (asks_outputs u v) [] e
   extract_end u v e run =
@@ -94,8 +99,10 @@ module _ {C : Type 0} (p : CheckedProgram) (w : Answers) (R : ℕ → Type 0) (s
       (inl (record { left = n; chain = no_link; outside = is; pure = pure; trees = run.args; typed = run.typed; stand = run.stand; wrong = wrong }))
 
   -- an impure one
-  effect_end : (c : Bool) (u : ℕ) (vs : Values) (effects : List Event) (e : Ended) → p.has_rules u ≡ c → (p.has_rules u ≡ true → R u) → p.terms.pure u ≡ false
-      → AreValuesOf p.values vs (p.terms.inputs u) → EffectsIf p below c u vs effects (ended e) → EndsAt p w (machine_links p w) n (asks_value u vs) effects e
+  effect_end : (c : Bool) (u : ℕ) (vs : Values) (effects : List Event) (e : Ended) → p.has_rules u ≡ c → (p.has_rules u ≡ true → R u)
+      → p.terms.pure u ≡ false
+      → AreValuesOf p.values vs (p.terms.inputs u) → EffectsIf p below c u vs effects (ended e)
+      → EndsAt p w (machine_links p w) n (asks_value u vs) effects e
   effect_end true u vs effects e is ruled impure typed run = ends_below u vs effects e (ruled is) typed run
   effect_end false u vs effects e is ruled impure typed run =
       let (wrong, q) = judged_ended _ _ (asks_value u vs) e run.judged in
@@ -138,11 +145,12 @@ module _ {C : Type 0} (p : CheckedProgram) (w : Answers) (R : ℕ → Type 0) (s
     asked = asks_outputs u v;
     ends = subst (λ (l : List Event). EndsAt p w (machine_links p w) n (asks_outputs u v) l e) (sym nothing)
         (extract_end u v e (subst (WorldExtracts p w u v) (ended_outputs (p.terms.infallible u) g e out) run));
-    call = λ c good place is. subst (λ (s : Site). MayBeCallOn p.terms c args sofar place s (asks_outputs u v)) (sym (B.sited k (extractor_row u j) at)) (
-      refl,
-      λ m. same_plain _ _ (read_same p.terms c args sofar B.site b.sites B.sited env j (kept c good))
-          (λ o. let q : unknown ≡ gives v = sym o ∙ ap plain r in cc) m ∙ ap plain r,
-    );
+    call = λ c good place is. subst (λ (s : Site). MayBeCallOn p.terms c args sofar place s (asks_outputs u v))
+        (sym (B.sited k (extractor_row u j) at)) (
+          refl,
+          λ m. same_plain _ _ (read_same p.terms c args sofar B.site b.sites B.sited env j (kept c good))
+              (λ o. let q : unknown ≡ gives v = sym o ∙ ap plain r in cc) m ∙ ap plain r,
+        );
     is_call = subst IsCall (sym (B.sited k (extractor_row u j) at)) tt;
   }
   ended_call k (constructor_row u js zero) env sofar effects e at typed kept (vs, g, r, run, nothing, out) = record {
@@ -151,32 +159,40 @@ module _ {C : Type 0} (p : CheckedProgram) (w : Answers) (R : ℕ → Type 0) (s
         (construct_end (p.has_rules u) u vs e refl (B.called k u zero js at) (B.pure k u js at)
         (call_typed p w R sound below gives_typed t args args_typed b B env k u zero js vs typed at r)
         (subst (ConstructsIf p w below (p.has_rules u) u vs) (ended_answer (p.terms.partial u) g e out) run));
-    call = λ c good place is. subst (λ (s : Site). MayBeCallOn p.terms c args sofar place s (asks_value u vs)) (sym (B.sited k (constructor_row u js zero) at))
+    call = λ c good place is. subst (λ (s : Site). MayBeCallOn p.terms c args sofar place s (asks_value u vs))
+        (sym (B.sited k (constructor_row u js zero) at))
         (inl refl, refl, args_known c good js env vs kept r);
     is_call = subst IsCall (sym (B.sited k (constructor_row u js zero) at)) tt;
   }
     where
-      args_known : (c : Completion) → GoodHere c → (js : List ℕ) (env : Env) (vs : Values) → ((c : Completion) → GoodHere c → IsKept p.terms c args sofar B.site b.sites B.sited env)
-          → values_at (read b.sites args env) js ≡ gives vs → values p.terms c args sofar (sites_at B.site js) ≢ unknown → values p.terms c args sofar (sites_at B.site js) ≡ gives vs
+      args_known : (c : Completion) → GoodHere c → (js : List ℕ) (env : Env) (vs : Values)
+          → ((c : Completion) → GoodHere c → IsKept p.terms c args sofar B.site b.sites B.sited env)
+          → values_at (read b.sites args env) js ≡ gives vs → values p.terms c args sofar (sites_at B.site js) ≢ unknown
+          → values p.terms c args sofar (sites_at B.site js) ≡ gives vs
       args_known c good js env vs kept r m =
           subst (λ (x : Got Values). AgreeIfKnown (values_at (read b.sites args env) js) x) (sym (values_there p.terms c args sofar B.site js))
-          (values_same (read b.sites args env) (λ j. value p.terms c args sofar (B.site j)) js (λ j. read_same p.terms c args sofar B.site b.sites B.sited env j (kept c good)))
+          (values_same (read b.sites args env) (λ j. value p.terms c args sofar (B.site j)) js
+          (λ j. read_same p.terms c args sofar B.site b.sites B.sited env j (kept c good)))
           (λ o. let q : unknown ≡ gives vs = sym o ∙ r in cc) m ∙ r
   ended_call k (constructor_row u js (suc i)) env sofar effects e at typed kept (vs, g, r, run, out) = record {
     asked = asks_value u vs;
     ends = effect_end (p.has_rules u) u vs effects e refl (B.called k u (suc i) js at) (B.impure k u i js at)
         (call_typed p w R sound below gives_typed t args args_typed b B env k u (suc i) js vs typed at r)
         (subst (EffectsIf p below (p.has_rules u) u vs effects) (ended_answer (p.terms.partial u) g e out) run);
-    call = λ c good place is. subst (λ (s : Site). MayBeCallOn p.terms c args sofar place s (asks_value u vs)) (sym (B.sited k (constructor_row u js (suc i)) at))
+    call = λ c good place is. subst (λ (s : Site). MayBeCallOn p.terms c args sofar place s (asks_value u vs))
+        (sym (B.sited k (constructor_row u js (suc i)) at))
         (subst (IsPlaced place) (B.sited k (constructor_row u js (suc i)) at) is, refl, args_known c good js env vs kept r);
     is_call = subst IsCall (sym (B.sited k (constructor_row u js (suc i)) at)) tt;
   }
     where
-      args_known : (c : Completion) → GoodHere c → (js : List ℕ) (env : Env) (vs : Values) → ((c : Completion) → GoodHere c → IsKept p.terms c args sofar B.site b.sites B.sited env)
-          → values_at (read b.sites args env) js ≡ gives vs → values p.terms c args sofar (sites_at B.site js) ≢ unknown → values p.terms c args sofar (sites_at B.site js) ≡ gives vs
+      args_known : (c : Completion) → GoodHere c → (js : List ℕ) (env : Env) (vs : Values)
+          → ((c : Completion) → GoodHere c → IsKept p.terms c args sofar B.site b.sites B.sited env)
+          → values_at (read b.sites args env) js ≡ gives vs → values p.terms c args sofar (sites_at B.site js) ≢ unknown
+          → values p.terms c args sofar (sites_at B.site js) ≡ gives vs
       args_known c good js env vs kept r m =
           subst (λ (x : Got Values). AgreeIfKnown (values_at (read b.sites args env) js) x) (sym (values_there p.terms c args sofar B.site js))
-          (values_same (read b.sites args env) (λ j. value p.terms c args sofar (B.site j)) js (λ j. read_same p.terms c args sofar B.site b.sites B.sited env j (kept c good)))
+          (values_same (read b.sites args env) (λ j. value p.terms c args sofar (B.site j)) js
+          (λ j. read_same p.terms c args sofar B.site b.sites B.sited env j (kept c good)))
           (λ o. let q : unknown ≡ gives vs = sym o ∙ r in cc) m ∙ r
   ended_call k (bool_row x ty) env sofar effects e at typed kept (m, q) = never_ends k sofar env (bool_row x ty) effects e q
   ended_call k (int_row x ty) env sofar effects e at typed kept (m, q) = never_ends k sofar env (int_row x ty) effects e q
@@ -199,7 +215,8 @@ module _ {C : Type 0} (p : CheckedProgram) (w : Answers) (R : ℕ → Type 0) (s
       let same : a.end ≡ e = (let q : ended e ≡ ended a.end = a.is in cc) in
       let kept : (c : Completion) → GoodHere c → IsKept p.terms c args [] B.site b.sites B.sited a.env =
       λ c good. to_kept p w R sound below gives_typed t args args_typed b B (Means p w n) meant a.env c a.kept good in
-      let call = ended_call a.number a.row a.env [] [] e a.there a.typed kept (subst (λ (x : Ended). RowRuns p w below b.sites args a.env a.row [] (ended x)) same a.run) in
+      let call = ended_call a.number a.row a.env [] [] e a.there a.typed kept
+      (subst (λ (x : Ended). RowRuns p w below b.sites args a.env a.row [] (ended x)) same a.run) in
       let (s, demanded, within) = asked_call p R t b B i a.number m asked call.is_call in
       let calm : is_effect a.row ≡ false = sym (B.effects a.number a.row a.there) ∙ B.tree.single.pure i a.number asked in
       subst (λ (l : List Event). EndsAt p w (machine_links p w) (suc n) (asks_value t args) l e) (sym a.nothing)
@@ -224,7 +241,8 @@ module _ {C : Type 0} (p : CheckedProgram) (w : Answers) (R : ℕ → Type 0) (s
 
   -- after it is chosen
   return_end : (trace : List Event) (e : Ended)
-      → AtReturn p w R sound below gives_typed t args args_typed b B (Means p w n) meant (λ c. walk B.set (VC p w R sound below gives_typed t runs args args_typed b B (Means p w n) meant c) b.tree) trace (ended e)
+      → AtReturn p w R sound below gives_typed t args args_typed b B (Means p w n) meant
+      (λ c. walk B.set (VC p w R sound below gives_typed t runs args args_typed b B (Means p w n) meant c) b.tree) trace (ended e)
       → EndsAt p w (machine_links p w) (suc n) (asks_value t args) trace e
   return_end trace e a =
       let i = a.chosen in
@@ -232,10 +250,13 @@ module _ {C : Type 0} (p : CheckedProgram) (w : Answers) (R : ℕ → Type 0) (s
       let rule = B.rule i in
       let at = B.listed i m in
       let its = rule_sound p w R sound below gives_typed t runs args args_typed b B (Means p w n) meant (B.place i) rule at in
-      let typed = expr_typed p R (scope_of rule) its.var_types rule.right (p.terms.type_of rule.root) (its.well.right) (its.typed.right) (its.right) in
+      let typed = expr_typed p R (scope_of rule) its.var_types rule.right (p.terms.type_of rule.root) (its.well.right)
+      (its.typed.right) (its.right) in
       let z = B.set.result i in
-      let found = right_ends p w R sound below gives_typed t args args_typed b B (Means p w n) meant GoodHere (λ c g. g.agrees) i (scope_of rule) its.var_types
-      (calls_types p rule.right) (vars_of p.terms rule) (word_of p.terms rule.right) z (B.whole i z m (in_end (B.set.calls i) z)) (B.result i m) (steps_of p.terms rule.right) 0 (B.set.calls i) [] [] a.steps trace e
+      let found = right_ends p w R sound below gives_typed t args args_typed b B (Means p w n) meant GoodHere
+      (λ c g. g.agrees) i (scope_of rule) its.var_types
+      (calls_types p rule.right) (vars_of p.terms rule) (word_of p.terms rule.right) z (B.whole i z m (in_end (B.set.calls i) z))
+      (B.result i m) (steps_of p.terms rule.right) 0 (B.set.calls i) [] [] a.steps trace e
       (B.calls i m) (λ k q. B.whole i k m (in_front (B.set.calls i) z k q)) (typed.1) refl (B.tree.single.first i)
       (record {
         sc = a.sc;
@@ -249,7 +270,8 @@ module _ {C : Type 0} (p : CheckedProgram) (w : Answers) (R : ℕ → Type 0) (s
         run = a.run;
       }) in
       let call = ended_call found.number found.row found.env found.sofar found.post e found.there found.typed
-      (λ c good. subst (λ (l : List (Option Value)). IsKept p.terms c args l B.site b.sites B.sited found.env) (append-nil found.sofar) (found.kept c good [])) found.run in
+      (λ c good. subst (λ (l : List (Option Value)). IsKept p.terms c args l B.site b.sites B.sited found.env)
+      (append-nil found.sofar) (found.kept c good [])) found.run in
       subst (λ (l : List Event). EndsAt p w (machine_links p w) (suc n) (asks_value t args) l e) (sym found.split)
       (finish_ends p w (machine_links p w) n t args call.asked found.pre found.post e (sound.ruled t runs) (record {
         place = B.place i;
@@ -280,7 +302,8 @@ module _ {C : Type 0} (p : CheckedProgram) (w : Answers) (R : ℕ → Type 0) (s
       → EndsAt p w (machine_links p w) (suc n) (asks_value t args) trace e
   whole_end trace e (inl (m, (z, nothing, is), no_return)) = go (p.terms.partial t) refl is
     where
-      go : (partial : Bool) → p.terms.partial t ≡ partial → ended e ≡ unmatched partial t args → EndsAt p w (machine_links p w) (suc n) (asks_value t args) trace e
+      go : (partial : Bool) → p.terms.partial t ≡ partial → ended e ≡ unmatched partial t args
+          → EndsAt p w (machine_links p w) (suc n) (asks_value t args) trace e
       go true q is = absurd cc
       go false q is =
           let same : stuck t args ≡ e = cc in
@@ -298,14 +321,17 @@ module _ {C : Type 0} (p : CheckedProgram) (w : Answers) (R : ℕ → Type 0) (s
   whole_end trace e (inr (inr (inl (is, nothing, stops)))) = absurd (let q : ended e ≡ missing = is in cc)
   whole_end trace e (inr (inr (inr a))) = test_end trace e a
 
-module _ {C : Type 0} (p : CheckedProgram) (w : Answers) (R : ℕ → Type 0) (sound : IsSound p R) (trees : ℕ → TermTree C) (H : HasTermTrees p R trees) where
+module _ {C : Type 0} (p : CheckedProgram) (w : Answers) (R : ℕ → Type 0) (sound : IsSound p R) (trees : ℕ → TermTree C)
+    (H : HasTermTrees p R trees) where
   -- Where a run of one of these terms ends, a chain of asking ends so.
   pub machine_run_ends : (n t : ℕ) (args : Values) (steps : ℕ) (trace : List Event) (e : Ended) → R t
-      → AreValuesOf p.values args (p.terms.inputs t) → MachineRun p trees w n t args steps trace (ended e) → EndsAt p w (machine_links p w) n (asks_value t args) trace e
+      → AreValuesOf p.values args (p.terms.inputs t) → MachineRun p trees w n t args steps trace (ended e)
+      → EndsAt p w (machine_links p w) n (asks_value t args) trace e
   machine_run_ends zero t args steps trace e runs typed (z, nothing, is) =
       let same : spent ≡ e = (let q : ended e ≡ ended spent = is in cc) in
       subst (EndsAt p w (machine_links p w) 0 (asks_value t args) trace) same
-      (subst (λ (l : List Event). EndsAt p w (machine_links p w) 0 (asks_value t args) l spent) (sym nothing) (record { last = t; args = args; chain = no_link; has_rules = sound.ruled t runs }))
+      (subst (λ (l : List Event). EndsAt p w (machine_links p w) 0 (asks_value t args) l spent) (sym nothing)
+      (record { last = t; args = args; chain = no_link; has_rules = sound.ruled t runs }))
   machine_run_ends (suc n) t args steps trace e runs typed run =
       let below : Runs = λ u vs effects q. (reached : ℕ) × MachineRun p trees w n u vs reached effects q in
       let meant : GivesMeant p R below (Means p w n) = λ u vs effects q ru args_typed its.

@@ -8,7 +8,7 @@ use Rattle.isle_trees.specs.Premises.{IsStrict}
 use Rattle.isle_trees.specs.Rules.{Elem, Want, has, one_value, passes_got}
 use Rattle.isle_trees.specs.Scopes.{nothing_known}
 use Rattle.isle_trees.specs.Walk.{ends, walk}
-use Rattle.isle_terms.specs.TypedRules.{TypedPatterns, no_typed, more_typed, TypedRule}
+use Rattle.isle_rules.specs.TypedRules.{TypedPatterns, no_typed, more_typed, TypedRule}
 use Rattle.isle_meaning.specs.Answers.{Completion}
 use Rattle.isle_meaning.specs.Calls.{Agrees, Makes, IsRuleAt, Told, CoversAll, Means}
 use Rattle.isle_meaning.specs.Demands.{Constraint, Demand, constrained, equal, vars_of}
@@ -18,7 +18,8 @@ use Rattle.isle_meaning.specs.GroundValues.{IsValueOf, AreValuesOf}
 use Rattle.isle_meaning.specs.Held.{Held, value}
 use Rattle.isle_meaning.specs.Holds.{Holds}
 use Rattle.isle_meaning.specs.Laws.Machine.{MachineRunsAreMeant}
-use Rattle.isle_meaning.specs.Laws.Matching.{DemandOf, IsRuleOfTypes, Settles}
+use Rattle.isle_meaning.specs.Laws.Matching.{IsRuleOfTypes, Settles}
+use Rattle.isle_meaning.specs.Demands.{DemandOf}
 use Rattle.isle_meaning.specs.Machine.Runs.{TermTree, Env, Runs, nothing_bound, known, read, RowRuns, Goes, BindsRun, result_held, Returns}
 use Rattle.isle_meaning.specs.Machine.Runs.{StepsRun, Unmatched, MachineRun}
 use Rattle.isle_meaning.specs.Machine.Trees.{IsHeldOf, IsTermTree, HasTermTrees, option_sort_if}
@@ -110,7 +111,8 @@ module _ {C : Type 0} (p : CheckedProgram) (w : Answers) (R : ℕ → Type 0) (s
   -- a rule of the set matches where the typed rule does
   pub to_matches : (c : Completion) → Good c → (i : ℕ) → Elem i B.left → SetMatches B.set (VC c) i → Matches p.terms c args (B.rule i)
   to_matches c good i m h =
-      (matches_by_closed p.terms (p.terms.inputs (B.rule i).root) c args (B.rule i) (rule_types _ _ (B.listed i m)) (settles c good _ _ (B.listed i m))).1
+      (matches_by_closed p.terms (p.terms.inputs (B.rule i).root) c args (B.rule i) (rule_types _ _ (B.listed i m))
+      (settles c good _ _ (B.listed i m))).1
       (λ d closed. demand d closed)
     where
       passed : (s : ℕ) (k : C) (g : Got Held) → value p.terms c args [] (B.site s) ≡ g → passes_got B.set k g ≡ true
@@ -136,14 +138,16 @@ module _ {C : Type 0} (p : CheckedProgram) (w : Answers) (R : ℕ → Type 0) (s
   -- and the other way
   from_matches : (c : Completion) → Good c → (i : ℕ) → Elem i B.left → Matches p.terms c args (B.rule i) → SetMatches B.set (VC c) i
   from_matches c good i m h =
-      let closed = (matches_by_closed p.terms (p.terms.inputs (B.rule i).root) c args (B.rule i) (rule_types _ _ (B.listed i m)) (settles c good _ _ (B.listed i m))).0 h in
+      let closed = (matches_by_closed p.terms (p.terms.inputs (B.rule i).root) c args (B.rule i) (rule_types _ _ (B.listed i m))
+      (settles c good _ _ (B.listed i m))).0 h in
       record {
         wants = λ s x e. want s x e closed;
         equals = λ x y j n. (let (g, e, f) = closed (equal (B.site x) (B.site y)) (B.joins i x y m j n) in
             ((g, e), (e ∙ sym f)));
       }
     where
-      want : (s : ℕ) (x : Want C) → B.set.at i s ≡ Some x → ((d : Demand) → Closed (DemandOf p.terms (B.rule i)) d → Holds (value p.terms c args []) d)
+      want : (s : ℕ) (x : Want C) → B.set.at i s ≡ Some x → ((d : Demand) → Closed (DemandOf p.terms (B.rule i)) d
+          → Holds (value p.terms c args []) d)
           → IsMet B.set x (VC c s)
       want s (has k) e closed =
           let (g, q, meets) = closed (constrained (B.site s) (b.test k)) (B.wants i s k m e) in
@@ -164,7 +168,8 @@ module _ {C : Type 0} (p : CheckedProgram) (w : Answers) (R : ℕ → Type 0) (s
       (B.asked c args (good.agrees.allowed) (good.agrees.typed) args_typed (good.covers)) (set_strict c)
 
   -- the rule chosen is the greatest of those that match
-  pub chosen_greatest : (c : Completion) → Good c → (i : ℕ) → Elem i B.left → ((j : ℕ) → Elem j B.left → SetMatches B.set (VC c) j → B.set.prio j ≤ℤ B.set.prio i)
+  pub chosen_greatest : (c : Completion) → Good c → (i : ℕ) → Elem i B.left
+      → ((j : ℕ) → Elem j B.left → SetMatches B.set (VC c) j → B.set.prio j ≤ℤ B.set.prio i)
       → (j : ℕ) (other : TypedRule) → IsRuleAt p t j other → Matches p.terms c args other → other.priority ≤ℤ (B.rule i).priority
   chosen_greatest c good i m top j other at h =
       let (k, n, is, chosen) = each_matches c good j other at h in
@@ -186,10 +191,14 @@ module _ {C : Type 0} (p : CheckedProgram) (w : Answers) (R : ℕ → Type 0) (s
       let matches = to_matches c good i m (found.1) in
       let variables = matches.0 in
       let forward = both_forward p.terms c args rule its.well variables (matches.1) in
-      let typed = expr_typed p R (scope_of rule) its.var_types rule.right (p.terms.type_of rule.root) (its.well.right) (its.typed.right) (its.right) in
-      let answer = right_walk p w R sound below gives_typed t args args_typed b B means meant c (good.agrees) i (scope_of rule) its.var_types (calls_types p rule.right)
-      variables (vars_of p.terms rule) (forward.1) (word_of p.terms rule.right) (B.set.result i) (B.returned i m) (B.whole i (B.set.result i) m (in_end (B.set.calls i) (B.set.result i)))
-      (B.result i m) (word_reads p.terms (scope_of rule) rule.right (its.well.right)) (steps_of p.terms rule.right) 0 (B.set.calls i) [] [] a.steps trace r (B.calls i m)
+      let typed = expr_typed p R (scope_of rule) its.var_types rule.right (p.terms.type_of rule.root) (its.well.right)
+      (its.typed.right) (its.right) in
+      let answer = right_walk p w R sound below gives_typed t args args_typed b B means meant c (good.agrees) i
+      (scope_of rule) its.var_types (calls_types p rule.right)
+      variables (vars_of p.terms rule) (forward.1) (word_of p.terms rule.right) (B.set.result i) (B.returned i m)
+      (B.whole i (B.set.result i) m (in_end (B.set.calls i) (B.set.result i)))
+      (B.result i m) (word_reads p.terms (scope_of rule) rule.right (its.well.right)) (steps_of p.terms rule.right) 0
+      (B.set.calls i) [] [] a.steps trace r (B.calls i m)
       (λ k n. B.whole i k m (in_front (B.set.calls i) (B.set.result i) k n)) (typed.1) refl (B.tree.single.first i)
       (record {
         sc = a.sc;
@@ -212,7 +221,8 @@ module _ {C : Type 0} (p : CheckedProgram) (w : Answers) (R : ℕ → Type 0) (s
         right = h;
       })) answer
     where
-      kept_later : (more : List (Option Value)) (k : ℕ) (x : Option Held) → a.env k ≡ x → AgreeIfKnown (known x) (value p.terms c args ([] ++ more) (B.site k))
+      kept_later : (more : List (Option Value)) (k : ℕ) (x : Option Held) → a.env k ≡ x
+          → AgreeIfKnown (known x) (value p.terms c args ([] ++ more) (B.site k))
       kept_later more k None e = λ n q. absurd (n refl)
       kept_later more k (Some h) e = λ n q.
           let is = a.path.kept c good k h e in
@@ -221,22 +231,27 @@ module _ {C : Type 0} (p : CheckedProgram) (w : Answers) (R : ℕ → Type 0) (s
   -- what a return gives is of the term's type
   return_typed : (binds : List ℕ) (env : Env) (i : ℕ) (steps : ℕ) (trace : List Event) (v : Value) → Elem i B.left
       → IsTypedEnv p w R sound below gives_typed t args args_typed b B env
-      → BindsRun p w below b.sites args env binds (λ env. Returns b.sites (p.terms.partial t) args env (b.result i)) steps trace (given v) → IsValueOf p.values v (p.terms.type_of t)
+      → BindsRun p w below b.sites args env binds (λ env. Returns b.sites (p.terms.partial t) args env (b.result i)) steps trace (given v)
+      → IsValueOf p.values v (p.terms.type_of t)
   return_typed [] env i steps trace v m typed (u, e, z, nothing, is) =
       let q : given v ≡ given u = is in
       let same : u ≡ v = cc in
       let s = B.gives_type i m in
-      let read_z : read b.sites args env (B.set.result i) ≡ gives (result_held (p.terms.partial t) u) = ap (read b.sites args env) (sym (B.returned i m)) ∙ e in
-      let here = read_typed p w R sound below gives_typed t args args_typed b B env (B.set.result i) (result_held (p.terms.partial t) u) typed read_z in
+      let read_z : read b.sites args env (B.set.result i) ≡ gives (result_held (p.terms.partial t) u) =
+      ap (read b.sites args env) (sym (B.returned i m)) ∙ e in
+      let here = read_typed p w R sound below gives_typed t args args_typed b B env (B.set.result i)
+      (result_held (p.terms.partial t) u) typed read_z in
       subst (λ (x : Value). IsValueOf p.values x (p.terms.type_of t)) same
       (result_value p (p.terms.partial t) (p.terms.type_of t) u (subst (λ (k : Sort). IsHeldOf p k (result_held (p.terms.partial t) u)) s here))
   return_typed (k ∷ ks) env i steps trace v m typed (row, effects, rest, o, at, made, split, after) =
       go o made after (λ h ty run. return_typed ks (set env k (Some h)) i steps rest v m ty run)
     where
       go : (o : Outcome Held) → RowRuns p w below b.sites args env row effects o
-          → Goes o (λ h. BindsRun p w below b.sites args (set env k (Some h)) ks (λ env. Returns b.sites (p.terms.partial t) args env (b.result i))) steps rest (given v)
+          → Goes o (λ h. BindsRun p w below b.sites args (set env k (Some h)) ks (λ env. Returns b.sites (p.terms.partial t) args env (b.result i)))
+          steps rest (given v)
           → ((h : Held) → IsTypedEnv p w R sound below gives_typed t args args_typed b B (set env k (Some h))
-          → BindsRun p w below b.sites args (set env k (Some h)) ks (λ env. Returns b.sites (p.terms.partial t) args env (b.result i)) steps rest (given v)
+          → BindsRun p w below b.sites args (set env k (Some h)) ks (λ env. Returns b.sites (p.terms.partial t) args env (b.result i))
+          steps rest (given v)
           → IsValueOf p.values v (p.terms.type_of t)) → IsValueOf p.values v (p.terms.type_of t)
       go (given h) made run f = f h (set_typed p w R sound below gives_typed t args args_typed b B env k h typed
           (row_typed p w R sound below gives_typed t args args_typed b B env k row effects h typed at made)) run
@@ -245,13 +260,15 @@ module _ {C : Type 0} (p : CheckedProgram) (w : Answers) (R : ℕ → Type 0) (s
 
   -- the walk of the whole tree
   abbrev pub WholeEnd : List Event → Outcome Value → Type 0
-  WholeEnd trace r = WalkEnd p w R sound below gives_typed t args args_typed b B means meant (λ c. walk B.set (VC c) b.tree) (Unmatched p t args) trace r
+  WholeEnd trace r = WalkEnd p w R sound below gives_typed t args args_typed b B means meant (λ c. walk B.set (VC c) b.tree)
+      (Unmatched p t args) trace r
 
   -- The run of the tree.
   pub whole_walk : (steps : ℕ) (trace : List Event) (r : Outcome Value)
       → StepsRun p w below b (p.terms.partial t) args nothing_bound b.tree (Unmatched p t args) steps trace r → WholeEnd trace r
   whole_walk steps trace r run =
-      steps_walk p w R sound below gives_typed t args args_typed b B means meant b.tree B.left nothing_known nothing_bound (Unmatched p t args) steps trace r
+      steps_walk p w R sound below gives_typed t args args_typed b B means meant b.tree B.left nothing_known nothing_bound
+      (Unmatched p t args) steps trace r
       B.tree.builds (record {
         typed = nothing_typed p w R sound below gives_typed t args args_typed b B;
         kept = λ c g k h e. absurd (let q : None ≡ Some h = e in cc);
@@ -261,17 +278,25 @@ module _ {C : Type 0} (p : CheckedProgram) (w : Answers) (R : ℕ → Type 0) (s
       }) run
 
   -- no rule matches where the walk ends
-  pub ends_told : (c : Completion) → Good c → walk B.set (VC c) b.tree ≡ ends → (j : ℕ) (other : TypedRule) → IsRuleAt p t j other → Matches p.terms c args other → ⊥
+  pub ends_told : (c : Completion) → Good c → walk B.set (VC c) b.tree ≡ ends → (j : ℕ) (other : TypedRule)
+      → IsRuleAt p t j other → Matches p.terms c args other → ⊥
   ends_told c good e j other at h =
       let none = subst (IsRight B.set (VC c) B.left) e (right c good) in
       let (i, m, is, chosen) = each_matches c good j other at h in none i m chosen
 
   -- what it comes to is told
-  whole_told : (c : Completion) → Good c → (trace : List Event) (r : Outcome Value) → WholeEnd trace r → IsAnswer (λ x. Told p means c t args trace x) r
-  whole_told c good trace r (inl (m, (z, nothing, is), e)) = subst (IsAnswer (λ x. Told p means c t args trace x)) (sym is) (go (p.terms.partial t) refl)
+  whole_told : (c : Completion) → Good c → (trace : List Event) (r : Outcome Value) → WholeEnd trace r
+      → IsAnswer (λ x. Told p means c t args trace x) r
+  whole_told c good trace r (inl (m, (z, nothing, is), e)) = subst (IsAnswer (λ x. Told p means c t args trace x))
+      (sym is) (go (p.terms.partial t) refl)
     where
       go : (partial : Bool) → p.terms.partial t ≡ partial → IsAnswer (λ x. Told p means c t args trace x) (unmatched partial t args)
-      go true q = inr (record { none = λ j other at h. ends_told c good (e c good) j other at h; partial = q; failure = record { nothing = nothing; none = refl } })
+      go true q = inr (record {
+        none = λ j other at h. ends_told c good (e c good) j other at h;
+        partial =
+            q;
+        failure = record { nothing = nothing; none = refl };
+      })
       go false q = tt
   whole_told c good trace r (inr (inl a)) = return_told c good (λ c. walk B.set (VC c) b.tree) (λ c. refl) trace r a
   whole_told c good trace r (inr (inr (inl (is, nothing, e)))) =
@@ -305,11 +330,8 @@ meant_outcome p w n t vs effects (given v) h = h.0
 meant_outcome p w n t vs effects missing h = h
 meant_outcome p w n t vs effects (ended e) h = tt
 
-module _ {C : Type 0} (p : CheckedProgram) (w : Answers) (R : ℕ → Type 0) (sound : IsSound p R) (trees : ℕ → TermTree C) (H : HasTermTrees p R trees) where
-  -- runs one depth lower
-  abbrev pub RunsBelow : ℕ → Runs
-  RunsBelow n u vs effects q = (reached : ℕ) × MachineRun p trees w n u vs reached effects q
-
+module _ {C : Type 0} (p : CheckedProgram) (w : Answers) (R : ℕ → Type 0) (sound : IsSound p R) (trees : ℕ → TermTree C)
+    (H : HasTermTrees p R trees) where
   -- a run of one of these terms, on arguments of its types, is meant
   pub machine_run_meant : (n t : ℕ) (args : Values) (steps : ℕ) (trace : List Event) (r : Outcome Value) → R t
       → AreValuesOf p.values args (p.terms.inputs t) → MachineRun p trees w n t args steps trace r → IsMeant p w n t args trace r
@@ -323,7 +345,8 @@ module _ {C : Type 0} (p : CheckedProgram) (w : Answers) (R : ℕ → Type 0) (s
       let whole = whole_walk p w R sound below gives_typed t runs args typed (trees t) (H.of_term t runs) (Means p w n) meant steps trace r run in
       told_is_meant p w n t args trace r (sound.ruled t runs)
       (λ v e. whole_typed p w R sound below gives_typed t runs args typed (trees t) (H.of_term t runs) (Means p w n) meant trace v
-      (subst (λ (q : Outcome Value). WholeEnd p w R sound below gives_typed t runs args typed (trees t) (H.of_term t runs) (Means p w n) meant trace q) e whole))
+      (subst (λ (q : Outcome Value). WholeEnd p w R sound below gives_typed t runs args typed (trees t) (H.of_term t runs)
+      (Means p w n) meant trace q) e whole))
       (λ c agrees covers. whole_told p w R sound below gives_typed t runs args typed (trees t) (H.of_term t runs) (Means p w n) meant c
       (record { agrees = agrees; covers = covers }) trace r whole)
 

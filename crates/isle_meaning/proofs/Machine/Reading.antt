@@ -30,7 +30,8 @@ values_there facts c args before site (j ∷ js) =
     ap (more (plain (value facts c args before (site j)))) (values_there facts c args before site js)
 
 -- a site that calls nothing holds what it is made of
-pub made_there : (facts : TermFacts) (c : Completion) (args : Values) (before : List (Option Value)) (site : ℕ → Site) (row : Row) → is_call row ≡ false
+pub made_there : (facts : TermFacts) (c : Completion) (args : Values) (before : List (Option Value)) (site : ℕ → Site) (row : Row)
+    → is_call row ≡ false
     → value facts c args before (site_of_row site row) ≡ made_of args (λ j. value facts c args before (site j)) row
 made_there facts c args before site (bool_row x ty) n = refl
 made_there facts c args before site (int_row x ty) n = refl
@@ -39,21 +40,25 @@ made_there facts c args before site (argument_row i) n = refl
 made_there facts c args before site (extractor_row t j) n = cc
 made_there facts c args before site (constructor_row t js i) n = cc
 made_there facts c args before site (iterator_row j) n = cc
-made_there facts c args before site (make_variant_row ty k js) n = ap (λ (gs : Got Values). held (made ty k gs)) (values_there facts c args before site js)
+made_there facts c args before site (make_variant_row ty k js) n = ap (λ (gs : Got Values). held (made ty k gs))
+    (values_there facts c args before site js)
 made_there facts c args before site (match_variant_row j k i) n = refl
-made_there facts c args before site (make_struct_row ty js) n = ap (λ (gs : Got Values). held (built ty gs)) (values_there facts c args before site js)
+made_there facts c args before site (make_struct_row ty js) n = ap (λ (gs : Got Values). held (built ty gs))
+    (values_there facts c args before site js)
 made_there facts c args before site (extract_struct_row j i) n = refl
 made_there facts c args before site (make_some_row j) n = refl
 made_there facts c args before site (match_some_row j) n = refl
 made_there facts c args before site (match_tuple_row j i) n = refl
 
 -- Where parts are the same, their values are.
-pub values_same : (at there : ℕ → Got Held) (js : List ℕ) → ((j : ℕ) → AgreeIfKnown (at j) (there j)) → AgreeIfKnown (values_at at js) (values_at there js)
+pub values_same : (at there : ℕ → Got Held) (js : List ℕ) → ((j : ℕ) → AgreeIfKnown (at j) (there j))
+    → AgreeIfKnown (values_at at js) (values_at there js)
 values_same at there [] s = same_self _
 values_same at there (j ∷ js) s = same_more _ _ _ _ (same_plain _ _ (s j)) (values_same at there js s)
 
 -- where parts are the same, what is made of them is
-pub made_same : (args : Values) (at there : ℕ → Got Held) (row : Row) → ((j : ℕ) → AgreeIfKnown (at j) (there j)) → AgreeIfKnown (made_of args at row) (made_of args there row)
+pub made_same : (args : Values) (at there : ℕ → Got Held) (row : Row) → ((j : ℕ) → AgreeIfKnown (at j) (there j))
+    → AgreeIfKnown (made_of args at row) (made_of args there row)
 made_same args at there (bool_row x ty) s = same_self _
 made_same args at there (int_row x ty) s = same_self _
 made_same args at there (prim_row x) s = same_self _
@@ -146,10 +151,12 @@ extracted_says true fails (ended e) s = tt
 extracted_says false fails (given x) s = absurd (let q : fails ≡ gives x = s (λ e. cc) in cc)
 extracted_says false fails missing s = λ n. refl
 extracted_says false fails (ended e) s = tt
-extracted_says true (gives y) (given x) s = let q : gives y ≡ gives x = s (λ e. cc) in let o : y ≡ x = cc in λ n. ap (λ (z : Values). gives (outputs_of z)) o
+extracted_says true (gives y) (given x) s = let q : gives y ≡ gives x = s (λ e. cc) in let o : y ≡ x = cc in
+    λ n. ap (λ (z : Values). gives (outputs_of z)) o
 extracted_says true (gives y) missing s = absurd (let q : gives y ≡ fails = s (λ e. cc) in cc)
 extracted_says true (gives y) (ended e) s = tt
-extracted_says false (gives y) (given x) s = let q : gives y ≡ gives x = s (λ e. cc) in let o : y ≡ x = cc in λ n. ap (λ (z : Values). gives (held_some (outputs_of z))) o
+extracted_says false (gives y) (given x) s = let q : gives y ≡ gives x = s (λ e. cc) in let o : y ≡ x = cc in
+    λ n. ap (λ (z : Values). gives (held_some (outputs_of z))) o
 extracted_says false (gives y) missing s = absurd (let q : gives y ≡ fails = s (λ e. cc) in cc)
 extracted_says false (gives y) (ended e) s = tt
 
@@ -163,15 +170,18 @@ constructed_says true fails (ended e) s = tt
 constructed_says false fails (given x) s = absurd (let q : fails ≡ gives x = s (λ e. cc) in cc)
 constructed_says false fails missing s = λ n. refl
 constructed_says false fails (ended e) s = tt
-constructed_says true (gives y) (given x) s = let q : gives y ≡ gives x = s (λ e. cc) in let o : y ≡ x = cc in λ n. ap (λ (z : Value). gives (held_some (held_value z))) o
+constructed_says true (gives y) (given x) s = let q : gives y ≡ gives x = s (λ e. cc) in let o : y ≡ x = cc in
+    λ n. ap (λ (z : Value). gives (held_some (held_value z))) o
 constructed_says true (gives y) missing s = absurd (let q : gives y ≡ fails = s (λ e. cc) in cc)
 constructed_says true (gives y) (ended e) s = tt
-constructed_says false (gives y) (given x) s = let q : gives y ≡ gives x = s (λ e. cc) in let o : y ≡ x = cc in λ n. ap (λ (z : Value). gives (held_value z)) o
+constructed_says false (gives y) (given x) s = let q : gives y ≡ gives x = s (λ e. cc) in let o : y ≡ x = cc in
+    λ n. ap (λ (z : Value). gives (held_value z)) o
 constructed_says false (gives y) missing s = absurd (let q : gives y ≡ fails = s (λ e. cc) in cc)
 constructed_says false (gives y) (ended e) s = tt
 
 -- what is asked of a value that is read
-pub asked_says : {A : Type 0} (f : A → Got Held) (g h : Got A) (x : A) (r : Outcome Held) → AgreeIfKnown g h → g ≡ gives x → SaysOutcome (f x) r → SaysOutcome (ask f h) r
+pub asked_says : {A : Type 0} (f : A → Got Held) (g h : Got A) (x : A) (r : Outcome Held) → AgreeIfKnown g h
+    → g ≡ gives x → SaysOutcome (f x) r → SaysOutcome (ask f h) r
 asked_says f g unknown x r s e k = unknown_says r
 asked_says f g fails x r s e k = absurd (let q : fails ≡ g = s (λ u. cc) (λ u. cc) in cc)
 asked_says f g (gives y) x r s e k = let q : gives y ≡ g = s (λ u. cc) (λ u. cc) in let o : x ≡ y = cc in subst (λ z. SaysOutcome (f z) r) o k

@@ -100,13 +100,6 @@ answer_ended P r e is = subst (IsAnswer P) (sym is) tt
 answer_missing : (P : Option Value → Type 0) (r : Outcome Value) → r ≡ missing → P None → IsAnswer P r
 answer_missing P r is h = subst (IsAnswer P) (sym is) h
 
--- what a call holds that is answered so
-abbrev pub held_of : Bool → Option Value → Held
-held_of true (Some v) = held_some (held_value v)
-held_of true None = held_none
-held_of false (Some v) = held_value v
-held_of false None = held_none
-
 -- a call's site, where its arguments have values
 pub call_there : (gs : Got Values) (f : Values → Got Held) (g : Got Held) → ((vs : Values) → f vs ≡ g) → ask f gs ≡ ask (λ vs. g) gs
 call_there unknown f g e = refl
@@ -217,7 +210,8 @@ module _ {C : Type 0} (p : CheckedProgram) (w : Answers) (R : ℕ → Type 0) (s
         let (y, e) = (deep_valued sites x f h).1 in
         let q : gives y ≡ fails = sym e ∙ s (λ u. let z : unknown ≡ gives y = sym u ∙ e in cc) in cc
 
-  module _ (means : ℕ → Values → List Event → Option Value → Type 0) (meant : GivesMeant p R below means) (c : Completion) (agrees : Agrees p w means c) where
+  module _ (means : ℕ → Values → List Event → Option Value → Type 0) (meant : GivesMeant p R below means)
+      (c : Completion) (agrees : Agrees p w means c) where
     -- what is bound is what the completion says, whatever later impure calls are answered
     abbrev pub Kept : Env → List (Option Value) → Type 0
     Kept env before = (more : List (Option Value)) → IsKept p.terms c args (before ++ more) B.site b.sites B.sited env
@@ -244,7 +238,8 @@ module _ {C : Type 0} (p : CheckedProgram) (w : Answers) (R : ℕ → Type 0) (s
     PureEnd xs old before next steps trace r =
         ((env : Env) × Typed env × Kept env before × ((x : ℕ) → Elem x xs → (h : Held) × (env x ≡ Some h))
         × ((x : ℕ) (h : Held) → old x ≡ Some h → (g : Held) × (env x ≡ Some g)) × next env steps trace r)
-        ⊎ (((r ≡ missing) × (trace ≡ []) × ((x : ℕ) × Elem x xs × Says (value p.terms c args before (B.site x)) fails)) ⊎ ((e : Ended) × (r ≡ ended e)))
+        ⊎ (((r ≡ missing) × (trace ≡ []) × ((x : ℕ) × Elem x xs × Says (value p.terms c args before (B.site x)) fails)) ⊎
+        ((e : Ended) × (r ≡ ended e)))
 
     -- sites without effects
     pure_walk : (xs : List ℕ) (env : Env) (before : List (Option Value)) (next : Env → Going) (steps : ℕ) (trace : List Event) (r : Outcome Value)
@@ -260,8 +255,10 @@ module _ {C : Type 0} (p : CheckedProgram) (w : Answers) (R : ℕ → Type 0) (s
         go o made says same (λ env' ty ke run. pure_walk ks env' before next steps rest r (λ x m. pure x (inr m)) ty ke run) after
       where
         go : (o : Outcome Held) → RowRuns p w below b.sites args env row effects o
-            → ((l : List (Option Value)) → IsKept p.terms c args l B.site b.sites B.sited env → SaysOutcome (value p.terms c args l (B.site k)) o) → rest ≡ trace
-            → ((env' : Env) → Typed env' → Kept env' before → BindsRun p w below b.sites args env' ks next steps rest r → PureEnd ks env' before next steps rest r)
+            → ((l : List (Option Value)) → IsKept p.terms c args l B.site b.sites B.sited env → SaysOutcome (value p.terms c args l (B.site k)) o)
+            → rest ≡ trace
+            → ((env' : Env) → Typed env' → Kept env' before → BindsRun p w below b.sites args env' ks next steps rest r
+            → PureEnd ks env' before next steps rest r)
             → Goes o (λ h. BindsRun p w below b.sites args (set env k (Some h)) ks next) steps rest r → PureEnd (k ∷ ks) env before next steps trace r
         go (given h) made says same walks after =
             let here = row_typed p w R sound below gives_typed t args args_typed b B env k row effects h typed at made in
@@ -290,7 +287,8 @@ module _ {C : Type 0} (p : CheckedProgram) (w : Answers) (R : ℕ → Type 0) (s
     -- the rule that returns: what its variables stand for, and its result
     module _ (i : ℕ) (S : ℕ → Type 0) (G D : ℕ → ℕ) (a : ℕ → Value) (vars : ℕ → Site)
         (agree : (k : ℕ) → S k → value p.terms c args [] (vars k) ≡ gives (held_value (a k))) (word : Word) (z : ℕ) (returned : b.result i ≡ z)
-        (z_stands : Stands p R t b B z) (z_is : B.site z ≡ some_of (p.terms.partial t) (site_of p.terms vars word)) (reads : Reads p.terms word S) where
+        (z_stands : Stands p R t b B z) (z_is : B.site z ≡ some_of (p.terms.partial t) (site_of p.terms vars word))
+        (reads : Reads p.terms word S) where
       agree_at : (before : List (Option Value)) (k : ℕ) → S k → value p.terms c args before (vars k) ≡ gives (held_value (a k))
       agree_at before k s =
           later p.terms c args [] before (vars k) (λ e. let q : unknown ≡ gives (held_value (a k)) = sym e ∙ agree k s in cc) ∙ agree k s
@@ -335,11 +333,13 @@ module _ {C : Type 0} (p : CheckedProgram) (w : Answers) (R : ℕ → Type 0) (s
           → values p.terms c args before (sites_at B.site js) ≡ gives vs
           → ImpureRuns p below s.term vs effects o → out ≡ option_if partial (holding held_value o) → trace ≡ effects ++ rest
           → RowRuns p w below b.sites args env (constructor_row s.term js (suc s.place)) effects out
-          → Goes out (λ h. BindsRun p w below b.sites args (set env u (Some h)) binds (λ env. Returns b.sites (p.terms.partial t) args env (b.result i))) steps rest r
+          → Goes out (λ h. BindsRun p w below b.sites args (set env u (Some h)) binds
+          (λ env. Returns b.sites (p.terms.partial t) args env (b.result i))) steps rest r
           → ((v : Value) → AfterCall u us seen before partial (Some v) steps rest r → IsAnswer (Q (Some v) rest) r)
           → (partial ≡ true → AfterCall u us seen before true None steps rest r → IsAnswer (IsFailure rest) r)
           → IsAnswer (CallTold s Q trace vs) r
-      call_made s u us seen js sc mid after binds env before steps trace effects rest r o vs out Q partial is_partial at place scope order fresh typed kept
+      call_made s u us seen js sc mid after binds env before steps trace effects rest r o vs out Q partial
+          is_partial at place scope order fresh typed kept
           read_vs known_vs imp out_is split made goes some none =
           go partial is_partial o imp out_is some none
         where
@@ -356,7 +356,8 @@ module _ {C : Type 0} (p : CheckedProgram) (w : Answers) (R : ℕ → Type 0) (s
 
           -- it makes its effects
           makes : (o : Outcome Value) → ImpureRuns p below s.term vs effects o → IsAnswer (Makes p means s.term vs effects) o
-          makes o imp = impure_answers p w R sound.data_sound below gives_typed means meant (p.has_rules s.term) s.term vs effects o refl (B.called u s.term (suc s.place) js at) args_are imp
+          makes o imp = impure_answers p w R sound.data_sound below gives_typed means meant (p.has_rules s.term) s.term vs effects o refl
+              (B.called u s.term (suc s.place) js at) args_are imp
 
           -- what it holds
           out_made : (q : Outcome Held) → out ≡ q → RowRuns p w below b.sites args env (constructor_row s.term js (suc s.place)) effects q
@@ -364,14 +365,18 @@ module _ {C : Type 0} (p : CheckedProgram) (w : Answers) (R : ℕ → Type 0) (s
 
           -- what goes on
           out_goes : (q : Outcome Held) → out ≡ q
-              → Goes q (λ h. BindsRun p w below b.sites args (set env u (Some h)) binds (λ env. Returns b.sites (p.terms.partial t) args env (b.result i))) steps rest r
-          out_goes q e = subst (λ (o : Outcome Held). Goes o (λ h. BindsRun p w below b.sites args (set env u (Some h)) binds (λ env. Returns b.sites (p.terms.partial t) args env (b.result i))) steps rest r) e goes
+              → Goes q (λ h. BindsRun p w below b.sites args (set env u (Some h)) binds
+              (λ env. Returns b.sites (p.terms.partial t) args env (b.result i))) steps rest r
+          out_goes q e = subst (λ (o : Outcome Held). Goes o
+              (λ h. BindsRun p w below b.sites args (set env u (Some h)) binds (λ env. Returns b.sites (p.terms.partial t) args env (b.result i)))
+              steps rest r) e goes
 
           -- the call holds its answer
           held_there : (partial : Bool) → p.terms.partial s.term ≡ partial → (x : Option Value) (more : List (Option Value)) (us : Values)
               → construct_held p.terms c ((before ++ x ∷ []) ++ more) s.term (suc s.place) us ≡ constructed partial (got x)
           held_there partial e x more us =
-              ap (λ (m : Bool). if m then several_of (c.constructs s.term us) else constructed (p.terms.partial s.term) (answered (slice_get ((before ++ x ∷ []) ++ more) s.place))) single
+              ap (λ (m : Bool). if m then several_of (c.constructs s.term us) else constructed (p.terms.partial s.term)
+              (answered (slice_get ((before ++ x ∷ []) ++ more) s.place))) single
               ∙ ap (λ (q : Bool). constructed q (answered (slice_get ((before ++ x ∷ []) ++ more) s.place))) e
               ∙ ap (λ (j : ℕ). constructed partial (answered (slice_get ((before ++ x ∷ []) ++ more) j))) place
               ∙ ap (λ (g : Option (Option Value)). constructed partial (answered g)) (answer_at before more x)
@@ -387,7 +392,8 @@ module _ {C : Type 0} (p : CheckedProgram) (w : Answers) (R : ℕ → Type 0) (s
               ≡ ask (λ us. constructed partial (got x)) (values p.terms c args ((before ++ x ∷ []) ++ more) (sites_at B.site js))
           value_there partial e x more =
               ap (value p.terms c args ((before ++ x ∷ []) ++ more)) site_is
-              ∙ call_there (values p.terms c args ((before ++ x ∷ []) ++ more) (sites_at B.site js)) _ (constructed partial (got x)) (held_there partial e x more)
+              ∙ call_there (values p.terms c args ((before ++ x ∷ []) ++ more) (sites_at B.site js)) _ (constructed partial (got x))
+              (held_there partial e x more)
 
           -- its arguments stay known
           values_later : (further : List (Option Value)) → values p.terms c args (before ++ further) (sites_at B.site js) ≡ gives vs
@@ -397,7 +403,8 @@ module _ {C : Type 0} (p : CheckedProgram) (w : Answers) (R : ℕ → Type 0) (s
           -- it was answered, and the run goes on
           after_call : (partial : Bool) → p.terms.partial s.term ≡ partial → (x : Option Value) (h : Held) → constructed partial (got x) ≡ gives h
               → RowRuns p w below b.sites args env (constructor_row s.term js (suc s.place)) effects (given h)
-              → BindsRun p w below b.sites args (set env u (Some h)) binds (λ env. Returns b.sites (p.terms.partial t) args env (b.result i)) steps rest r
+              → BindsRun p w below b.sites args (set env u (Some h)) binds (λ env. Returns b.sites (p.terms.partial t) args env (b.result i))
+              steps rest r
               → AfterCall u us seen before partial x steps rest r
           after_call partial e x h holds made run = record {
             onward = record {
@@ -408,18 +415,22 @@ module _ {C : Type 0} (p : CheckedProgram) (w : Answers) (R : ℕ → Type 0) (s
               scope = scope;
               order = order;
               typed = set_typed p w R sound below gives_typed t args args_typed b B env u h typed
-                  (row_typed p w R sound below gives_typed t args args_typed b B env u (constructor_row s.term js (suc s.place)) effects h typed at made);
+                  (row_typed p w R sound below gives_typed t args args_typed b B env u (constructor_row s.term js (suc s.place))
+                  effects h typed at made);
               kept = λ more.
                   let q : before ++ (x ∷ more) ≡ (before ++ x ∷ []) ++ more = sym (append_assoc before (x ∷ []) more) in
                   let old = subst (λ (l : List (Option Value)). IsKept p.terms c args l B.site b.sites B.sited env) q (kept (x ∷ more)) in
                   same_set env u h ((before ++ x ∷ []) ++ more) old
-                  (λ n m. value_there partial e x more ∙ ap (ask (λ us. constructed partial (got x))) (ap (λ (l : List (Option Value)). values p.terms c args l (sites_at B.site js)) (sym q) ∙ values_later (x ∷ more)) ∙ holds);
+                  (λ n m. value_there partial e x more ∙ ap (ask (λ us. constructed partial (got x)))
+                  (ap (λ (l : List (Option Value)). values p.terms c args l (sites_at B.site js)) (sym q) ∙ values_later (x ∷ more)) ∙ holds);
               run = run;
             };
             fresh = fresh;
             holds = ap (λ (l : List (Option Value)). value p.terms c args l (B.site u)) (sym (append-nil (before ++ x ∷ [])))
                 ∙ value_there partial e x []
-                ∙ ap (ask (λ us. constructed partial (got x))) (ap (λ (l : List (Option Value)). values p.terms c args l (sites_at B.site js)) (append-nil (before ++ x ∷ [])) ∙ values_later (x ∷ []));
+                ∙ ap (ask (λ us. constructed partial (got x)))
+                (ap (λ (l : List (Option Value)). values p.terms c args l (sites_at B.site js)) (append-nil (before ++ x ∷ []))
+                ∙ values_later (x ∷ []));
           }
 
           go : (partial : Bool) → p.terms.partial s.term ≡ partial → (o : Outcome Value) → ImpureRuns p below s.term vs effects o
@@ -439,7 +450,14 @@ module _ {C : Type 0} (p : CheckedProgram) (w : Answers) (R : ℕ → Type 0) (s
               (some v (after_call false e (Some v) (held_value v) refl (out_made _ is) (out_goes _ is)))
           go false e missing imp is some none =
               let over = out_goes missing is in
-              answer_missing (CallTold s Q trace vs) r (over.2) (effects, rest, None, split, makes missing imp, record { nothing = over.1; none = refl })
+              answer_missing (CallTold s Q trace vs) r (over.2) (
+                effects,
+                rest,
+                None,
+                split,
+                makes missing imp,
+                record { nothing = over.1; none = refl },
+              )
           go false e (ended q) imp is some none = answer_ended (CallTold s Q trace vs) r q ((out_goes (ended q) is).2)
 
       -- the next call: its parts are bound, and it is made
@@ -447,7 +465,8 @@ module _ {C : Type 0} (p : CheckedProgram) (w : Answers) (R : ℕ → Type 0) (s
           (Q : Option Value → List Event → Option Value → Type 0) → Stands p R t b B u
           → B.site u ≡ constructor_call s.term (sites_of p.terms vars s.args) (suc s.place) → ReadAll p.terms s.args S → s.place ≡ length before
           → EffectsFirst B.set z seen (u ∷ us) → Onward (u ∷ us) seen before steps trace r
-          → ((v : Value) (rest : List Event) → AfterCall u us seen before (p.terms.partial s.term) (Some v) steps rest r → IsAnswer (Q (Some v) rest) r)
+          → ((v : Value) (rest : List Event) → AfterCall u us seen before (p.terms.partial s.term) (Some v) steps rest r
+          → IsAnswer (Q (Some v) rest) r)
           → ((rest : List Event) → p.terms.partial s.term ≡ true → AfterCall u us seen before true None steps rest r → IsAnswer (IsFailure rest) r)
           → IsAnswer (λ y. on_got (word_values c a before s.args) (IsFailure trace y) (λ vs. CallTold s Q trace vs y)) r
       call_walk s u us seen before steps trace r Q (row, at0) site_u reads_args place (first, once, more) on some none =
@@ -465,7 +484,8 @@ module _ {C : Type 0} (p : CheckedProgram) (w : Answers) (R : ℕ → Type 0) (s
                 let stepped = scope_step on.sc mid u seen front on.scope bs first in
                 let own_u : own B.set u ≡ u ∷ [] = rw stands_u refl in
                 let split_u : on.binds ≡ front ++ (u ∷ rest_binds) = split_binds ∙ ap (λ (l : List ℕ). front ++ (l ++ rest_binds)) own_u in
-                let run = subst (λ (l : List ℕ). BindsRun p w below b.sites args on.env l (λ env. Returns b.sites (p.terms.partial t) args env (b.result i)) steps trace r) split_u on.run in
+                let run = subst (λ (l : List ℕ). BindsRun p w below b.sites args on.env l
+                (λ env. Returns b.sites (p.terms.partial t) args env (b.result i)) steps trace r) split_u on.run in
                 let fresh : (m : ℕ) → Elem u (B.set.parts m) → (m ≡ u → ⊥) → (emit mid u).emitted m ≡ false = λ m inside n.
                 elim (true_or ((emit mid u).emitted m)) [
                   | inr f ↦ f
@@ -482,7 +502,8 @@ module _ {C : Type 0} (p : CheckedProgram) (w : Answers) (R : ℕ → Type 0) (s
                 elim (pure_walk front on.env before _ steps trace r (stepped.1) on.typed on.kept
                 (binds_append front (u ∷ rest_binds) on.env (λ env. Returns b.sites (p.terms.partial t) args env (b.result i)) steps trace r run)) [
                   | inr late ↦ elim late [
-                    | inr e ↦ answer_ended (λ y. on_got (word_values c a before s.args) (IsFailure trace y) (λ vs. CallTold s Q trace vs y)) r (e.0) (e.1)
+                    | inr e ↦ answer_ended (λ y. on_got (word_values c a before s.args) (IsFailure trace y) (λ vs. CallTold s Q trace vs y))
+                        r (e.0) (e.1)
                     | inl m ↦
                         let (is, nothing, (x, inside, failed)) = m in
                         answer_missing (λ y. on_got (word_values c a before s.args) (IsFailure trace y) (λ vs. CallTold s Q trace vs y)) r is
@@ -494,26 +515,35 @@ module _ {C : Type 0} (p : CheckedProgram) (w : Answers) (R : ℕ → Type 0) (s
                   | inl early ↦
                       let (env1, typed1, kept1, bound1, stays1, run1) = early in
                       let (row1, effects, rest, o, at1, made1, split1, goes1) = run1 in
-                      let same_row : row1 ≡ constructor_row s.term js (suc s.place) = (let q : Some row1 ≡ Some (constructor_row s.term js (suc s.place)) = sym at1 ∙ at in cc) in
+                      let same_row : row1 ≡ constructor_row s.term js (suc s.place) =
+                      (let q : Some row1 ≡ Some (constructor_row s.term js (suc s.place)) = sym at1 ∙ at in cc) in
                       let made = subst (λ (x : Row). RowRuns p w below b.sites args env1 x effects o) same_row made1 in
                       let (vs, g, read_vs, imp, out_is) = made in
                       let says : Says (word_values c a before s.args) (gives vs) = λ n.
-                      sym known_args ∙ values_kept p w R sound below gives_typed t args args_typed b B means meant c agrees before env1 js (kept_now env1 before kept1)
+                      sym known_args ∙ values_kept p w R sound below gives_typed t args args_typed b B means meant c agrees before env1 js
+                      (kept_now env1 before kept1)
                       (λ e. let q : unknown ≡ gives vs = sym e ∙ read_vs in cc) (λ e. n (sym known_args ∙ e)) ∙ read_vs in
                       answer_got (word_values c a before s.args) vs (IsFailure trace) (λ us. CallTold s Q trace us) r says (λ known.
-                      call_made s u us seen js on.sc mid on.after rest_binds env1 before steps trace effects rest r g vs o Q (p.terms.partial s.term) refl at place
+                      call_made s u us seen js on.sc mid on.after rest_binds env1 before steps trace effects rest r g vs o Q
+                      (p.terms.partial s.term) refl at place
                       (stepped.0) order fresh typed1 kept1 read_vs (known_args ∙ known) imp out_is split1 made goes1 (λ v. some v rest) (none rest))
                 ]
           ]
         where
-          parts_there : (u : ℕ) (row : Row) (js : List ℕ) (before : List (Option Value)) (vs : Values) → slice_get b.sites u ≡ Some (constructor_row s.term js (suc s.place))
-              → B.set.parts u ≡ js → values p.terms c args before (sites_at B.site js) ≡ gives vs → (q : ℕ) → Elem q (B.set.parts u) → Valued c before q
+          parts_there : (u : ℕ) (row : Row) (js : List ℕ) (before : List (Option Value)) (vs : Values)
+              → slice_get b.sites u ≡ Some (constructor_row s.term js (suc s.place))
+              → B.set.parts u ≡ js → values p.terms c args before (sites_at B.site js) ≡ gives vs → (q : ℕ)
+              → Elem q (B.set.parts u) → Valued c before q
           parts_there u row js before vs at parts_u e q m =
-              let n : Elem q js = subst (λ (l : List ℕ). Elem q l) parts_u m in
-              (B.stand u q (constructor_row s.term js (suc s.place)) at n, values_have p.terms c args before (sites_at B.site js) (vs, e) (B.site q) (in_sites B.site js q n))
+              let n : Elem q js = subst (λ (l : List ℕ). Elem q l) parts_u m in (
+                B.stand u q (constructor_row s.term js (suc s.place)) at n,
+                values_have p.terms c args before
+                    (sites_at B.site js) (vs, e) (B.site q) (in_sites B.site js q n),
+              )
 
       -- a call's content is bound
-      content_walk : (u m : ℕ) (us seen : List ℕ) (before : List (Option Value)) (x : Option Value) (steps : ℕ) (trace : List Event) (r : Outcome Value)
+      content_walk : (u m : ℕ) (us seen : List ℕ) (before : List (Option Value)) (x : Option Value) (steps : ℕ)
+          (trace : List Event) (r : Outcome Value)
           → Stands p R t b B u → Stands p R t b B m → B.site m ≡ match_some (B.site u) → (m ≡ u → ⊥) → EffectsFirst B.set z (u ∷ seen) (m ∷ us)
           → AfterCall u (m ∷ us) seen before true x steps trace r
           → (Onward us (m ∷ (u ∷ seen)) (before ++ x ∷ []) steps trace r × (value p.terms c args (before ++ x ∷ []) (B.site m) ≡ fails → ⊥))
@@ -538,7 +568,8 @@ module _ {C : Type 0} (p : CheckedProgram) (w : Answers) (R : ℕ → Type 0) (s
                 let own_m : own B.set m ≡ m ∷ [] = rw stands_m refl in
                 let split_m : on.binds ≡ (front ++ m ∷ []) ++ rest_binds =
                 split_binds ∙ ap (λ (ks : List ℕ). front ++ (ks ++ rest_binds)) own_m ∙ sym (append_assoc front (m ∷ []) rest_binds) in
-                let run = subst (λ (ks : List ℕ). BindsRun p w below b.sites args on.env ks (λ env. Returns b.sites (p.terms.partial t) args env (b.result i)) steps trace r) split_m on.run in
+                let run = subst (λ (ks : List ℕ). BindsRun p w below b.sites args on.env ks
+                (λ env. Returns b.sites (p.terms.partial t) args env (b.result i)) steps trace r) split_m on.run in
                 let pure : (k : ℕ) → Elem k (front ++ m ∷ []) → B.set.effect k ≡ false = λ k e. elim (elem_append k front (m ∷ []) e) [
                   | inl f ↦ stepped.1 k f
                   | inr f ↦ elim f [ inl q ↦ ap B.set.effect q ∙ effect_m | inr z ↦ absurd z ]
@@ -548,7 +579,8 @@ module _ {C : Type 0} (p : CheckedProgram) (w : Answers) (R : ℕ → Type 0) (s
                   | inr f ↦ itself k f
                 ] in
                 elim (pure_walk (front ++ m ∷ []) on.env l _ steps trace r pure on.typed on.kept
-                (binds_append (front ++ m ∷ []) rest_binds on.env (λ env. Returns b.sites (p.terms.partial t) args env (b.result i)) steps trace r run)) [
+                (binds_append (front ++ m ∷ []) rest_binds on.env (λ env. Returns b.sites (p.terms.partial t) args env (b.result i))
+                steps trace r run)) [
                   | inr late ↦ elim late [
                     | inr e ↦ inr (inr e)
                     | inl gone ↦
@@ -572,13 +604,15 @@ module _ {C : Type 0} (p : CheckedProgram) (w : Answers) (R : ℕ → Type 0) (s
                         },
                         λ f.
                             let q : known (env3 m) ≡ gives h = ap (λ (o : Option Held). known o) is in
-                            let same = kept_now env3 l kept3 m (λ e. let o : unknown ≡ gives h = sym e ∙ q in cc) (λ e. let o : unknown ≡ fails = sym e ∙ f in cc) in
+                            let same = kept_now env3 l kept3 m (λ e. let o : unknown ≡ gives h = sym e ∙ q in cc)
+                            (λ e. let o : unknown ≡ fails = sym e ∙ f in cc) in
                             let o : fails ≡ gives h = sym f ∙ same ∙ q in cc,
                       )
                 ]
           ]
         where
-          content_there : (m : ℕ) (row : Row) (l : List (Option Value)) → slice_get b.sites m ≡ Some row → HasValue (value p.terms c args l (B.site m))
+          content_there : (m : ℕ) (row : Row) (l : List (Option Value)) → slice_get b.sites m ≡ Some row
+              → HasValue (value p.terms c args l (B.site m))
               → (q : ℕ) → Elem q (m ∷ []) → Valued c l q
           content_there m row l at v q (inl e) = subst (Valued c l) (sym e) ((row, at), v)
           content_there m row l at v q (inr z) = absurd z
@@ -590,7 +624,8 @@ module _ {C : Type 0} (p : CheckedProgram) (w : Answers) (R : ℕ → Type 0) (s
       result_walk seen before steps trace r first on =
           let value_z : value p.terms c args before (B.site z) ≡ result_got (p.terms.partial t) (word_value c a before word) =
           ap (value p.terms c args before) z_is ∙ result_there (p.terms.partial t)
-          ∙ ap (result_of_got (p.terms.partial t)) (word_site p.terms c args before a vars S (agree_at before) word reads) ∙ result_again (p.terms.partial t) (word_value c a before word) in
+          ∙ ap (result_of_got (p.terms.partial t)) (word_site p.terms c args before a vars S (agree_at before) word reads) ∙ result_again
+          (p.terms.partial t) (word_value c a before word) in
           let part : (k : ℕ) → Elem k on.binds → IsPartOf B.set (z ∷ []) k = λ k m. each_part (z ∷ []) B.set on.sc on.binds on.after on.order k m in
           let pure : (k : ℕ) → Elem k on.binds → B.set.effect k ≡ false = λ k m. elim (true_or (B.set.effect k)) [
             | inr e ↦ e
@@ -604,14 +639,16 @@ module _ {C : Type 0} (p : CheckedProgram) (w : Answers) (R : ℕ → Type 0) (s
                 sym value_z ∙ read_same p.terms c args before B.site b.sites B.sited env1 z (kept_now env1 before kept1)
                 (λ u. let q : unknown ≡ gives (result_held (p.terms.partial t) v) = sym u ∙ read_z in cc) (λ u. m (sym value_z ∙ u)) ∙ read_z) in
                 subst (IsAnswer (λ y. on_got (word_value c a before word) (IsFailure trace y) (λ v. IsValue v trace y))) (sym is)
-                (got_gives (word_value c a before word) v (IsFailure trace (Some v)) (λ u. IsValue u trace (Some v)) says (λ q. record { nothing = nothing; same = refl }))
+                (got_gives (word_value c a before word) v (IsFailure trace (Some v)) (λ u. IsValue u trace (Some v)) says
+                (λ q. record { nothing = nothing; same = refl }))
             | inr late ↦ elim late [
               | inr e ↦ answer_ended (λ y. on_got (word_value c a before word) (IsFailure trace y) (λ v. IsValue v trace y)) r (e.0) (e.1)
               | inl gone ↦
                   let (is, nothing, (k, here, failed)) = gone in
                   answer_missing (λ y. on_got (word_value c a before word) (IsFailure trace y) (λ v. IsValue v trace y)) r is
                   (got_fails (word_value c a before word) (IsFailure trace None) (λ v. IsValue v trace None) (λ u q.
-                  part_never_fails c before (z ∷ []) k (result_valued before (let (h, o) = result_given (p.terms.partial t) (word_value c a before word) u q in (h, value_z ∙ o)))
+                  part_never_fails c before (z ∷ []) k
+                  (result_valued before (let (h, o) = result_given (p.terms.partial t) (word_value c a before word) u q in (h, value_z ∙ o)))
                   (part k here) failed) (record { nothing = nothing; none = refl }))
             ]
           ]
@@ -621,7 +658,8 @@ module _ {C : Type 0} (p : CheckedProgram) (w : Answers) (R : ℕ → Type 0) (s
           result_of_got false g = g
 
           -- a result's site
-          result_there : (partial : Bool) → value p.terms c args before (some_of partial (site_of p.terms vars word)) ≡ result_of_got partial (value p.terms c args before (site_of p.terms vars word))
+          result_there : (partial : Bool) → value p.terms c args before (some_of partial (site_of p.terms vars word)) ≡ result_of_got partial
+              (value p.terms c args before (site_of p.terms vars word))
           result_there true = refl
           result_there false = refl
 
@@ -656,30 +694,38 @@ module _ {C : Type 0} (p : CheckedProgram) (w : Answers) (R : ℕ → Type 0) (s
       right_walk [] n [] seen before steps trace r e stand typed place first on = result_walk seen before steps trace r first on
       right_walk [] n (u ∷ us) seen before steps trace r e stand typed place first on = absurd (let q : B.site u ∷ map B.site us ≡ [] = e in cc)
       right_walk (s ∷ ss) n us seen before steps trace r e stand typed place first on =
-          go (p.terms.partial s.term) refl us e stand first on (λ us' seen' x rest h st f o. right_walk ss (suc n) us' seen' (before ++ x ∷ []) steps rest r h st (typed.2)
+          go (p.terms.partial s.term) refl us e stand first on
+          (λ us' seen' x rest h st f o. right_walk ss (suc n) us' seen' (before ++ x ∷ []) steps rest r h st (typed.2)
           (ap suc place ∙ sym (one_longer before x)) f o)
         where
           Q : Option Value → List Event → Option Value → Type 0
           Q x rest y = Right c (Makes p means) a (before ++ x ∷ []) ss word rest y
 
           go : (partial : Bool) → p.terms.partial s.term ≡ partial → (us : List ℕ)
-              → map B.site us ≡ with_content (p.terms.partial s.term) (constructor_call s.term (sites_of p.terms vars s.args) (suc s.place)) ++ calls_of p.terms vars ss
+              → map B.site us ≡ with_content (p.terms.partial s.term) (constructor_call s.term (sites_of p.terms vars s.args) (suc s.place))
+              ++ calls_of p.terms vars ss
               → ((k : ℕ) → Elem k us → Stands p R t b B k) → EffectsFirst B.set z seen us → Onward us seen before steps trace r
-              → ((us' seen' : List ℕ) (x : Option Value) (rest : List Event) → map B.site us' ≡ calls_of p.terms vars ss → ((k : ℕ) → Elem k us' → Stands p R t b B k)
+              → ((us' seen' : List ℕ) (x : Option Value) (rest : List Event) → map B.site us' ≡ calls_of p.terms vars ss
+              → ((k : ℕ) → Elem k us' → Stands p R t b B k)
               → EffectsFirst B.set z seen' us' → Onward us' seen' (before ++ x ∷ []) steps rest r
               → IsAnswer (Right c (Makes p means) a (before ++ x ∷ []) ss word rest) r)
               → IsAnswer (Right c (Makes p means) a before (s ∷ ss) word trace) r
-          go false pe us e0 stand first on rec = plain us (e0 ∙ ap (λ (q : Bool). with_content q (constructor_call s.term (sites_of p.terms vars s.args) (suc s.place)) ++ calls_of p.terms vars ss) pe) stand first on
+          go false pe us e0 stand first on rec = plain us
+              (e0 ∙ ap (λ (q : Bool). with_content q (constructor_call s.term (sites_of p.terms vars s.args) (suc s.place))
+              ++ calls_of p.terms vars ss) pe) stand first on
             where
               plain : (us : List ℕ) → map B.site us ≡ constructor_call s.term (sites_of p.terms vars s.args) (suc s.place) ∷ calls_of p.terms vars ss
                   → ((k : ℕ) → Elem k us → Stands p R t b B k) → EffectsFirst B.set z seen us → Onward us seen before steps trace r
                   → IsAnswer (Right c (Makes p means) a before (s ∷ ss) word trace) r
               plain [] e stand first on = absurd cc
               plain (u ∷ us) e stand first on =
-                  call_walk s u us seen before steps trace r Q (stand u (inl refl)) (cc) (typed_read_all p R S G D s.args _ (typed.0.3)) (typed.1 ∙ place) first on
+                  call_walk s u us seen before steps trace r Q (stand u (inl refl)) (cc) (typed_read_all p R S G D s.args _ (typed.0.3))
+                  (typed.1 ∙ place) first on
                   (λ v rest told. rec us (u ∷ seen) (Some v) rest (cc) (λ k m. stand k (inr m)) (first.2) (told.onward))
                   (λ rest q told. absurd (let o : false ≡ true = sym pe ∙ q in cc))
-          go true pe us e0 stand first on rec = opened us (e0 ∙ ap (λ (q : Bool). with_content q (constructor_call s.term (sites_of p.terms vars s.args) (suc s.place)) ++ calls_of p.terms vars ss) pe) stand first on
+          go true pe us e0 stand first on rec = opened us
+              (e0 ∙ ap (λ (q : Bool). with_content q (constructor_call s.term (sites_of p.terms vars s.args) (suc s.place))
+              ++ calls_of p.terms vars ss) pe) stand first on
             where
               opened : (us : List ℕ) → map B.site us ≡ constructor_call s.term (sites_of p.terms vars s.args) (suc s.place)
                   ∷ match_some (constructor_call s.term (sites_of p.terms vars s.args) (suc s.place)) ∷ calls_of p.terms vars ss
@@ -691,13 +737,16 @@ module _ {C : Type 0} (p : CheckedProgram) (w : Answers) (R : ℕ → Type 0) (s
                   let site_u : B.site u ≡ constructor_call s.term (sites_of p.terms vars s.args) (suc s.place) = cc in
                   let site_m : B.site m ≡ match_some (B.site u) = cc in
                   let rest_is : map B.site us ≡ calls_of p.terms vars ss = cc in
-                  let apart : m ≡ u → ⊥ = λ q. (let o : match_some (B.site u) ≡ constructor_call s.term (sites_of p.terms vars s.args) (suc s.place) = sym site_m ∙ ap B.site q ∙ site_u in cc) in
-                  call_walk s u (m ∷ us) seen before steps trace r Q (stand u (inl refl)) site_u (typed_read_all p R S G D s.args _ (typed.0.3)) (typed.1 ∙ place) first on
+                  let apart : m ≡ u → ⊥ = λ q. (let o : match_some (B.site u) ≡ constructor_call s.term (sites_of p.terms vars s.args) (suc s.place) =
+                  sym site_m ∙ ap B.site q ∙ site_u in cc) in
+                  call_walk s u (m ∷ us) seen before steps trace r Q (stand u (inl refl)) site_u (typed_read_all p R S G D s.args _ (typed.0.3))
+                  (typed.1 ∙ place) first on
                   (λ v rest told.
                   let told' = subst (λ (q : Bool). AfterCall u (m ∷ us) seen before q (Some v) steps rest r) pe told in
                   let content : value p.terms c args (before ++ Some v ∷ []) (B.site m) ≡ gives (held_value v) =
                   ap (value p.terms c args (before ++ Some v ∷ [])) site_m ∙ ap (ask content_of) (told'.holds) in
-                  elim (content_walk u m us seen before (Some v) steps rest r (stand u (inl refl)) (stand m (inr (inl refl))) site_m apart (first.2) told') [
+                  elim (content_walk u m us seen before (Some v) steps rest r (stand u (inl refl)) (stand m (inr (inl refl))) site_m apart
+                  (first.2) told') [
                     | inl o ↦ rec us (m ∷ (u ∷ seen)) (Some v) rest rest_is (λ k n. stand k (inr (inr n))) (first.2.2) (o.0)
                     | inr o ↦ elim o [
                       | inl gone ↦ absurd (gone.2 (held_value v, content))
@@ -707,7 +756,8 @@ module _ {C : Type 0} (p : CheckedProgram) (w : Answers) (R : ℕ → Type 0) (s
                   (λ rest q told.
                   let content : value p.terms c args (before ++ None ∷ []) (B.site m) ≡ fails =
                   ap (value p.terms c args (before ++ None ∷ [])) site_m ∙ ap (ask content_of) (told.holds) in
-                  elim (content_walk u m us seen before None steps rest r (stand u (inl refl)) (stand m (inr (inl refl))) site_m apart (first.2) told) [
+                  elim (content_walk u m us seen before None steps rest r (stand u (inl refl)) (stand m (inr (inl refl))) site_m apart (first.2)
+                  told) [
                     | inl o ↦ absurd (o.1 content)
                     | inr o ↦ elim o [
                       | inl gone ↦ answer_missing (IsFailure rest) r (gone.0) (record { nothing = gone.1; none = refl })

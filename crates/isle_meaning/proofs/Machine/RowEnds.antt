@@ -37,7 +37,8 @@ comes_never_ends fails e q = cc
 comes_never_ends (gives h) e q = cc
 
 -- A site that calls nothing doesn't end one.
-pub no_call_no_end : (p : CheckedProgram) (w : Answers) (below : Runs) (sites : List Row) (args : Values) (env : Env) (row : Row) (effects : List Event) (e : Ended)
+pub no_call_no_end : (p : CheckedProgram) (w : Answers) (below : Runs) (sites : List Row) (args : Values)
+    (env : Env) (row : Row) (effects : List Event) (e : Ended)
     → is_call row ≡ false → RowRuns p w below sites args env row effects (ended e) → ⊥
 no_call_no_end p w below sites args env (constructor_row t js i) effects e n run = absurd (let q : true ≡ false = n in cc)
 no_call_no_end p w below sites args env (extractor_row t j) effects e n run = absurd (let q : true ≡ false = n in cc)
@@ -45,11 +46,19 @@ no_call_no_end p w below sites args env (iterator_row j) effects e n run = absur
 no_call_no_end p w below sites args env (bool_row x ty) effects e n (m, q) = comes_never_ends (made_of args (read sites args env) (bool_row x ty)) e q
 no_call_no_end p w below sites args env (int_row x ty) effects e n (m, q) = comes_never_ends (made_of args (read sites args env) (int_row x ty)) e q
 no_call_no_end p w below sites args env (prim_row x) effects e n (m, q) = comes_never_ends (made_of args (read sites args env) (prim_row x)) e q
-no_call_no_end p w below sites args env (argument_row i) effects e n (m, q) = comes_never_ends (made_of args (read sites args env) (argument_row i)) e q
-no_call_no_end p w below sites args env (make_variant_row ty k js) effects e n (m, q) = comes_never_ends (made_of args (read sites args env) (make_variant_row ty k js)) e q
-no_call_no_end p w below sites args env (match_variant_row j k i) effects e n (m, q) = comes_never_ends (made_of args (read sites args env) (match_variant_row j k i)) e q
-no_call_no_end p w below sites args env (make_struct_row ty js) effects e n (m, q) = comes_never_ends (made_of args (read sites args env) (make_struct_row ty js)) e q
-no_call_no_end p w below sites args env (extract_struct_row j i) effects e n (m, q) = comes_never_ends (made_of args (read sites args env) (extract_struct_row j i)) e q
-no_call_no_end p w below sites args env (make_some_row j) effects e n (m, q) = comes_never_ends (made_of args (read sites args env) (make_some_row j)) e q
-no_call_no_end p w below sites args env (match_some_row j) effects e n (m, q) = comes_never_ends (made_of args (read sites args env) (match_some_row j)) e q
-no_call_no_end p w below sites args env (match_tuple_row j i) effects e n (m, q) = comes_never_ends (made_of args (read sites args env) (match_tuple_row j i)) e q
+no_call_no_end p w below sites args env (argument_row i) effects e n (m, q) = comes_never_ends
+    (made_of args (read sites args env) (argument_row i)) e q
+no_call_no_end p w below sites args env (make_variant_row ty k js) effects e n (m, q) = comes_never_ends
+    (made_of args (read sites args env) (make_variant_row ty k js)) e q
+no_call_no_end p w below sites args env (match_variant_row j k i) effects e n (m, q) = comes_never_ends
+    (made_of args (read sites args env) (match_variant_row j k i)) e q
+no_call_no_end p w below sites args env (make_struct_row ty js) effects e n (m, q) = comes_never_ends
+    (made_of args (read sites args env) (make_struct_row ty js)) e q
+no_call_no_end p w below sites args env (extract_struct_row j i) effects e n (m, q) = comes_never_ends
+    (made_of args (read sites args env) (extract_struct_row j i)) e q
+no_call_no_end p w below sites args env (make_some_row j) effects e n (m, q) = comes_never_ends
+    (made_of args (read sites args env) (make_some_row j)) e q
+no_call_no_end p w below sites args env (match_some_row j) effects e n (m, q) = comes_never_ends
+    (made_of args (read sites args env) (match_some_row j)) e q
+no_call_no_end p w below sites args env (match_tuple_row j i) effects e n (m, q) = comes_never_ends
+    (made_of args (read sites args env) (match_tuple_row j i)) e q

@@ -38,7 +38,8 @@ known_is None x e = cc
 known_is (Some y) x e = cc
 
 -- A site that is no impure call makes no effects.
-pub row_calm : (p : CheckedProgram) (w : Answers) (below : Runs) (sites : List Row) (args : Values) (env : Env) (row : Row) (effects : List Event) (r : Outcome Held) → is_effect row ≡ false
+pub row_calm : (p : CheckedProgram) (w : Answers) (below : Runs) (sites : List Row) (args : Values) (env : Env)
+    (row : Row) (effects : List Event) (r : Outcome Held) → is_effect row ≡ false
     → RowRuns p w below sites args env row effects r → effects ≡ []
 row_calm p w below sites args env (extractor_row u j) effects r n (v, g, e, run, m, q) = m
 row_calm p w below sites args env (constructor_row u js zero) effects r n (vs, g, e, run, m, q) = m
@@ -63,7 +64,8 @@ module _ (p : CheckedProgram) where
   outputs_held [] (more_values x xs) h = absurd (let e = typed_count p (more_values x xs) [] h in omega arith)
   outputs_held (u ∷ []) no_values h = absurd (let e = typed_count p no_values (u ∷ []) h in omega arith)
   outputs_held (u ∷ []) (more_values x no_values) h = (values_parted p.values x no_values u [] h).0
-  outputs_held (u ∷ []) (more_values x (more_values y ys)) h = absurd (let e = typed_count p (more_values x (more_values y ys)) (u ∷ []) h in omega arith)
+  outputs_held (u ∷ []) (more_values x (more_values y ys)) h = absurd (let e = typed_count p (more_values x (more_values y ys)) (u ∷ []) h in
+      omega arith)
   outputs_held (u ∷ (z ∷ us)) no_values h = absurd (let e = typed_count p no_values (u ∷ (z ∷ us)) h in omega arith)
   outputs_held (u ∷ (z ∷ us)) (more_values x no_values) h = absurd (let e = typed_count p (more_values x no_values) (u ∷ (z ∷ us)) h in omega arith)
   outputs_held (u ∷ (z ∷ us)) (more_values x (more_values y ys)) h = h
@@ -124,11 +126,13 @@ module _ {C : Type 0} (p : CheckedProgram) (w : Answers) (R : ℕ → Type 0) (s
   values_typed env (j ∷ js) [] vs typed s e = absurd cc
   values_typed env (j ∷ js) (u ∷ us) vs typed s e =
       let (x, xs, gx, gxs) = more_gives (plain (read b.sites args env j)) (values_at (read b.sites args env) js) vs e in
-      let q : more_values x xs ≡ vs = (let o : gives (more_values x xs) ≡ gives vs = sym (ap (λ (g : Got Value). more g (values_at (read b.sites args env) js)) gx ∙ ap (more (gives x)) gxs) ∙ e in cc) in
+      let q : more_values x xs ≡ vs = (let o : gives (more_values x xs) ≡ gives vs =
+      sym (ap (λ (g : Got Value). more g (values_at (read b.sites args env) js)) gx ∙ ap (more (gives x)) gxs) ∙ e in cc) in
       let here : IsHeldOf p (sort_at j) (held_value x) = read_typed env j (held_value x) typed (plain_gives _ x gx) in
       let su : sort_at j ≡ plain_sort u = cc in
       let first : IsValueOf p.values x u = subst (λ (z : Sort). IsHeldOf p z (held_value x)) su here in
-      subst (λ (z : Values). AreValuesOf p.values z (u ∷ us)) q (more_values_typed p.values x xs u us first (values_typed env js us xs typed (cc) gxs))
+      subst (λ (z : Values). AreValuesOf p.values z (u ∷ us)) q
+      (more_values_typed p.values x xs u us first (values_typed env js us xs typed (cc) gxs))
 
   -- the arguments of a call are of its term's types
   pub call_typed : (env : Env) (k u i : ℕ) (js : List ℕ) (vs : Values) → IsTypedEnv env → slice_get b.sites k ≡ Some (constructor_row u js i)
@@ -222,8 +226,10 @@ module _ {C : Type 0} (p : CheckedProgram) (w : Answers) (R : ℕ → Type 0) (s
     -- Values that are read are what the completion says.
     pub values_kept : (env : Env) (js : List ℕ) → IsKept p.terms c args before B.site b.sites B.sited env
         → AgreeIfKnown (values_at (read b.sites args env) js) (values p.terms c args before (sites_at B.site js))
-    values_kept env js kept = subst (λ (g : Got Values). AgreeIfKnown (values_at (read b.sites args env) js) g) (sym (values_there p.terms c args before B.site js))
-        (values_same (read b.sites args env) (λ j. value p.terms c args before (B.site j)) js (λ j. read_same p.terms c args before B.site b.sites B.sited env j kept))
+    values_kept env js kept = subst (λ (g : Got Values). AgreeIfKnown (values_at (read b.sites args env) js) g)
+        (sym (values_there p.terms c args before B.site js))
+        (values_same (read b.sites args env) (λ j. value p.terms c args before (B.site j)) js
+        (λ j. read_same p.terms c args before B.site b.sites B.sited env j kept))
 
     -- a site that is bound, and is no impure call, holds what the completion says
     pub row_says : (env : Env) (k : ℕ) (row : Row) (effects : List Event) (r : Outcome Held) → IsTypedEnv env
@@ -233,7 +239,8 @@ module _ {C : Type 0} (p : CheckedProgram) (w : Answers) (R : ℕ → Type 0) (s
         let f : Value → Got Held = λ x. extracted (p.terms.infallible u) (c.extract u x) in
         let there : value p.terms c args before (B.site k) ≡ ask f (plain (value p.terms c args before (B.site j))) =
         ap (value p.terms c args before) (B.sited k (extractor_row u j) at)
-        ∙ ap (λ (z : Bool). ask (λ x. if z then several_of (c.extracts u x) else extracted (p.terms.infallible u) (c.extract u x)) (plain (value p.terms c args before (B.site j))))
+        ∙ ap (λ (z : Bool). ask (λ x. if z then several_of (c.extracts u x) else extracted (p.terms.infallible u) (c.extract u x))
+        (plain (value p.terms c args before (B.site j))))
         (B.single k (extractor_row u j) at) in
         let says = extracted_says (p.terms.infallible u) (c.extract u v) g (extract_says p w means c agrees u v g run) in
         subst (λ (z : Got Held). SaysOutcome z r) (sym there)
@@ -243,7 +250,8 @@ module _ {C : Type 0} (p : CheckedProgram) (w : Answers) (R : ℕ → Type 0) (s
         let f : Values → Got Held = λ xs. constructed (p.terms.partial u) (c.construct u xs) in
         let there : value p.terms c args before (B.site k) ≡ ask f (values p.terms c args before (sites_at B.site js)) =
         ap (value p.terms c args before) (B.sited k (constructor_row u js zero) at)
-        ∙ ap (λ (z : Bool). ask (λ xs. if z then several_of (c.constructs u xs) else constructed (p.terms.partial u) (c.construct u xs)) (values p.terms c args before (sites_at B.site js)))
+        ∙ ap (λ (z : Bool). ask (λ xs. if z then several_of (c.constructs u xs) else constructed (p.terms.partial u) (c.construct u xs))
+        (values p.terms c args before (sites_at B.site js)))
         (B.single k (constructor_row u js zero) at) in
         let says = constructed_says (p.terms.partial u) (c.construct u vs) g
         (construct_says p w means c agrees R (sound.data_sound) below gives_typed meant (p.has_rules u) u vs g refl (B.called k u zero js at)

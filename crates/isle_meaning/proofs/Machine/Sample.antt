@@ -10,16 +10,16 @@ use Rattle.isle_meaning.specs.AboutSites.Kinds.{IsKinded}
 use Rattle.isle_trees.specs.Premises.{AreExact, IsWellMade}
 use Rattle.isle_trees.specs.Rules.{Tests, Rules, Want, has, one_value, Elem, itself}
 use Rattle.isle_trees.specs.Scopes.{Scope, nothing_known, IsAvailable, IsReady, Test, on_match, on_equal, on_loop}
-use Rattle.isle_terms.specs.TypedRules.{TypedRule}
-use Rattle.isle_terms.specs.Values.{bool_tree}
+use Rattle.isle_rules.specs.TypedRules.{TypedRule}
+use Rattle.isle_rules.specs.Values.{bool_tree}
 use Rattle.isle_meaning.specs.Answers.{Completion}
 use Rattle.isle_meaning.specs.Demands.{bool_constraint, Demand, constrained, equal}
 use Rattle.isle_meaning.specs.Derived.{Derived, demanded, flipped, chained, shared, like_variant, like_struct}
 use Rattle.isle_meaning.specs.Facts.{variant_shape, struct_shape, declared_shape}
 use Rattle.isle_meaning.specs.GroundValues.{IsValueOf, AreValuesOf}
 use Rattle.isle_meaning.specs.Held.{Held, held_value, held_some, held}
-use Rattle.isle_meaning.specs.Holds.{Meets}
-use Rattle.isle_meaning.specs.Laws.Matching.{DemandOf}
+use Rattle.isle_meaning.specs.Held.{Meets}
+use Rattle.isle_meaning.specs.Demands.{DemandOf}
 use Rattle.isle_meaning.specs.Numbered.{Row, bool_row, argument_row, extractor_row, constructor_row, make_some_row}
 use Rattle.isle_meaning.specs.Outcomes.{given, missing}
 use Rattle.isle_meaning.specs.Sites.{Site, bool_site, argument, make_some}
@@ -318,7 +318,8 @@ unfolding sample_tests
 sample_passes c h = (λ e. left_true (decide_held h (held_value (bool_value c))) e, λ m. true_left (decide_held h (held_value (bool_value c))) m)
 
 -- the argument has a value of its type
-argument_typed : (args : Values) → AreValuesOf sample_values args (0 ∷ []) → (v : Value) × (held (nth args 0) ≡ gives (held_value v)) × IsValueOf sample_values v 0
+argument_typed : (args : Values) → AreValuesOf sample_values args (0 ∷ []) → (v : Value) × (held (nth args 0) ≡ gives (held_value v))
+    × IsValueOf sample_values v 0
 argument_typed no_values typed = absurd (let e = typed_count sample_program no_values (0 ∷ []) typed in omega arith)
 argument_typed (more_values x xs) typed = (x, refl, (values_parted sample_values x xs 0 [] typed).0)
 
@@ -350,7 +351,8 @@ sample_makes args at h typed = three_rows
     content (gives x) e f = let q : held_some x ≡ h = cc in subst (IsHeldOf sample_program (option_sort (plain_sort 0))) q (f x refl)
 
 -- each site has a value
-sample_valued : (c : Completion) (args : Values) → AreValuesOf sample_values args (0 ∷ []) → (s : ℕ) → HasValue (held_at sample_terms sample_site c args [] s)
+sample_valued : (c : Completion) (args : Values) → AreValuesOf sample_values args (0 ∷ []) → (s : ℕ)
+    → HasValue (held_at sample_terms sample_site c args [] s)
 sample_valued c args typed zero = let (v, e, its) = argument_typed args typed in (held_value v, e)
 sample_valued c args typed (suc zero) = (_, refl)
 sample_valued c args typed (suc (suc zero)) = (_, refl)
@@ -508,7 +510,16 @@ the_sample_is_run w = (
           refl,
           (refl, refl),
           refl,
-          (make_some_row 1, [], [], given (held_some (held_value (bool_value true))), refl, (refl, refl), refl, (bool_value true, refl, refl, refl, refl)),
+          (
+            make_some_row 1,
+            [],
+            [],
+            given (held_some (held_value (bool_value true))),
+            refl,
+            (refl, refl),
+            refl,
+            (bool_value true, refl, refl, refl, refl),
+          ),
         ),
       ),
     ),

@@ -85,7 +85,8 @@ module _ {C : Type 0} (p : CheckedProgram) (w : Answers) (R : ℕ → Type 0) (b
           row_never k row env effects (calls k (inl refl)) at (subst (λ (x : Ended). RowRuns p w below b.sites args env row effects (ended x)) s made)
 
   -- sites that are compared
-  equal_never : (env : Env) (x y : ℕ) (same other : Going) → NeverSpent same → NeverSpent other → NeverSpent (EqualRuns b.sites args env x y same other)
+  equal_never : (env : Env) (x y : ℕ) (same other : Going) → NeverSpent same → NeverSpent other
+      → NeverSpent (EqualRuns b.sites args env x y same other)
   equal_never env x y same other f g m trace (h, j, rx, ry, inl (e, run)) = f m trace run
   equal_never env x y same other f g m trace (h, j, rx, ry, inr (e, run)) = g m trace run
 
@@ -116,7 +117,8 @@ module _ {C : Type 0} (p : CheckedProgram) (w : Answers) (R : ℕ → Type 0) (b
     arms_never no_arm s calls env later f m trace run = f m trace run
     arms_never (arm c fields body arms) s calls env later f m trace (h, here, inl (meets, run)) =
         binds_never (opened fields) (calls.0) env (λ env. Run env body later) (λ env. steps_never body (calls.1) env later f) m trace run
-    arms_never (arm c fields body arms) s calls env later f m trace (h, here, inr (left_out, run)) = arms_never arms s (calls.2) env later f m trace run
+    arms_never (arm c fields body arms) s calls env later f m trace (h, here, inr (left_out, run)) =
+        arms_never arms s (calls.2) env later f m trace run
 
   -- Nor is the term's.
   pub tree_never : (m : ℕ) (trace : List Event)

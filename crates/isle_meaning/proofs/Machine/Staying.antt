@@ -26,7 +26,8 @@ Stays g h = (m : ℕ) (trace : List Event) (r : Outcome Value) → r ≢ ended s
 module _ {C : Type 0} (p : CheckedProgram) (w : Answers) (below above : Runs) (b : TermTree C) (partial : Bool) (args : Values)
     (up : (u : ℕ) (vs : Values) (effects : List Event) (q : Outcome Value) → q ≢ ended spent → below u vs effects q → above u vs effects q) where
   -- a pure call
-  pure_stays : (c : Bool) (u : ℕ) (vs : Values) (g : Outcome Value) → g ≢ ended spent → ConstructsIf p w below c u vs g → ConstructsIf p w above c u vs g
+  pure_stays : (c : Bool) (u : ℕ) (vs : Values) (g : Outcome Value) → g ≢ ended spent → ConstructsIf p w below c u vs g
+      → ConstructsIf p w above c u vs g
   pure_stays true u vs g n run = up u vs [] g n run
   pure_stays false u vs g n run = run
 
@@ -78,7 +79,8 @@ module _ {C : Type 0} (p : CheckedProgram) (w : Answers) (below above : Runs) (b
       not_spent (ended z) q e = let s : z ≡ spent = cc in n (q.2 ∙ ap (λ (y : Ended). ended y) s)
 
       go : (o : Outcome Held)
-          → ((h : Held) → BindsRun p w below b.sites args (set env x (Some h)) xs next m rest r → BindsRun p w above b.sites args (set env x (Some h)) xs further m rest r)
+          → ((h : Held) → BindsRun p w below b.sites args (set env x (Some h)) xs next m rest r
+          → BindsRun p w above b.sites args (set env x (Some h)) xs further m rest r)
           → Goes o (λ h. BindsRun p w below b.sites args (set env x (Some h)) xs next) m rest r
           → Goes o (λ h. BindsRun p w above b.sites args (set env x (Some h)) xs further) m rest r
       go (given h) f q = f h q
@@ -97,22 +99,30 @@ module _ {C : Type 0} (p : CheckedProgram) (w : Answers) (below above : Runs) (b
         → Stays (StepsRun p w below b partial args env T later) (StepsRun p w above b partial args env T further)
     steps_stay done env later further f m trace r n run = f m trace r n run
     steps_stay (loop binds x body next) env later further f m trace r n run = run
-    steps_stay (give binds i next) env later further f m trace r n (k, e, run) =
-        (k, e, binds_stay binds env (λ env. Returns b.sites partial args env (b.result i)) (λ env. Returns b.sites partial args env (b.result i)) (λ env m trace r n a. a) k trace r n run)
+    steps_stay (give binds i next) env later further f m trace r n (k, e, run) = (
+      k,
+      e,
+      binds_stay binds env (λ env. Returns b.sites partial args env (b.result i)) (λ env. Returns b.sites partial args env (b.result i))
+          (λ env m trace r n a. a) k trace r n run,
+    )
     steps_stay («match» binds s arms next) env later further f m trace r n (k, e, run) = (
       k,
       e,
-      binds_stay binds env _ _ (λ env. arms_stay arms s env (StepsRun p w below b partial args env next later) (StepsRun p w above b partial args env next further)
+      binds_stay binds env _ _ (λ env. arms_stay arms s env (StepsRun p w below b partial args env next later)
+          (StepsRun p w above b partial args env next further)
           (steps_stay next env later further f)) k trace r n run,
     )
     steps_stay (equal binds x y body next) env later further f m trace r n (k, e, run) = (
       k,
       e,
       binds_stay binds env
-          (λ env. EqualRuns b.sites args env x y (StepsRun p w below b partial args env body (StepsRun p w below b partial args env next later)) (StepsRun p w below b partial args env next later))
-          (λ env. EqualRuns b.sites args env x y (StepsRun p w above b partial args env body (StepsRun p w above b partial args env next further)) (StepsRun p w above b partial args env next further))
+          (λ env. EqualRuns b.sites args env x y (StepsRun p w below b partial args env body (StepsRun p w below b partial args env next later))
+          (StepsRun p w below b partial args env next later))
+          (λ env. EqualRuns b.sites args env x y (StepsRun p w above b partial args env body (StepsRun p w above b partial args env next further))
+          (StepsRun p w above b partial args env next further))
           (λ env. equal_stays env x y _ _ _ _
-          (steps_stay body env (StepsRun p w below b partial args env next later) (StepsRun p w above b partial args env next further) (steps_stay next env later further f))
+          (steps_stay body env (StepsRun p w below b partial args env next later) (StepsRun p w above b partial args env next further)
+          (steps_stay next env later further f))
           (steps_stay next env later further f)) k trace r n run,
     )
 
@@ -125,7 +135,8 @@ module _ {C : Type 0} (p : CheckedProgram) (w : Answers) (below above : Runs) (b
       here,
       inl (
         meets,
-        binds_stay (opened fields) env (λ env. StepsRun p w below b partial args env body later) (λ env. StepsRun p w above b partial args env body further)
+        binds_stay (opened fields) env (λ env. StepsRun p w below b partial args env body later)
+            (λ env. StepsRun p w above b partial args env body further)
             (λ env. steps_stay body env later further f) m trace r n run,
       ),
     )

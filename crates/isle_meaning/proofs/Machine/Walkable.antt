@@ -93,7 +93,8 @@ elem_end [] r = inl refl
 elem_end (x ∷ xs) r = inr (elem_end xs r)
 
 -- what stands in the orders alone is bound
-binds_stand : {C V : Type 0} (R : Rules C V) (sc after : Scope C) (sites binds : List ℕ) → Binds R sc sites binds after → (x : ℕ) → Elem x binds → R.stands x ≡ true
+binds_stand : {C V : Type 0} (R : Rules C V) (sc after : Scope C) (sites binds : List ℕ) → Binds R sc sites binds after
+    → (x : ℕ) → Elem x binds → R.stands x ≡ true
 binds_stand R sc after sites binds bs x m = (from_filter R.stands bs.all x (subst (λ (l : List ℕ). Elem x l) bs.written m)).1
 
 own_stands : {C V : Type 0} (R : Rules C V) (u x : ℕ) → Elem x (own R u) → R.stands x ≡ true
@@ -198,7 +199,8 @@ module _ {C : Type 0} (p : CheckedProgram) (runs : ℕ → Type 0) (t : ℕ) (b 
     parts = λ j m. to_read env j g (B.stand k j row at m) (r j (subst (λ (l : List ℕ). Elem j l) (sym (B.parts k row at)) m));
   }
 
-  to_bind_all : (xs : List ℕ) (env : ℕ → Bool) → IsGood env → ((x : ℕ) → Elem x xs → IsBindable x) → IsInOrder B.set env xs → CanBindAll b.sites env xs
+  to_bind_all : (xs : List ℕ) (env : ℕ → Bool) → IsGood env → ((x : ℕ) → Elem x xs → IsBindable x) → IsInOrder B.set env xs
+      → CanBindAll b.sites env xs
   to_bind_all [] env g f o = tt
   to_bind_all (x ∷ xs) env g f (new, parts, rest) =
       (to_bind env x g ((f x (inl refl)).there) parts, to_bind_all xs (more env x) (good_more env x g (f x (inl refl))) (λ y m. f y (inr m)) rest)
@@ -207,7 +209,8 @@ module _ {C : Type 0} (p : CheckedProgram) (runs : ℕ → Type 0) (t : ℕ) (b 
   made_bindable : (s x : ℕ) (c : C) → B.set.made x ≡ Some (record { site = s; want = has c }) → IsBindable x
   made_bindable s x c e = record { stands = B.tree.made.field_stands x _ e; there = B.opened_there x _ e }
 
-  to_open : (env : ℕ → Bool) (s x : ℕ) (c : C) → CanRead b.sites env s → B.set.made x ≡ Some (record { site = s; want = has c }) → CanBind b.sites env x
+  to_open : (env : ℕ → Bool) (s x : ℕ) (c : C) → CanRead b.sites env s → B.set.made x ≡ Some (record { site = s; want = has c })
+      → CanBind b.sites env x
   to_open env s x c r e =
       let (row, at) = B.opened_there x _ e in
       record {
@@ -239,18 +242,21 @@ module _ {C : Type 0} (p : CheckedProgram) (runs : ℕ → Type 0) (t : ℕ) (b 
     walk_steps : (T : Steps C) (rest : List ℕ) (sc : Scope C) (env : ℕ → Bool) → ((i : ℕ) → Elem i rest → Elem i B.left) → IsGood env
         → Builds B.set rest sc T → IsClosed B.set env T → AsksOnly B.set B.left T → IsWalkable b.sites b.result env T
     walk_steps done rest sc env less g bu cl ask = tt
-    walk_steps («match» binds s arms next) rest sc env less g (best, (after, bs, inner, outer)) (order, (here, (arms_closed, next_closed))) (a, (arms_ask, next_asks)) =
+    walk_steps («match» binds s arms next) rest sc env less g (best, (after, bs, inner, outer)) (order, (here, (arms_closed, next_closed)))
+        (a, (arms_ask, next_asks)) =
         let bindable = step_bindable sc after (s ∷ []) binds bs a in
         let good = good_all binds env g bindable in
         let read = to_read (know env binds) s good (test_in rest sc (on_match s) less best s (inl refl)) here in (
           to_bind_all binds env g bindable order,
           read,
-          walk_arms arms (counted B.set (on_match s) rest) after s (know env binds) (λ i m. less i (counted_left B.set (on_match s) rest i m)) good read
+          walk_arms arms (counted B.set (on_match s) rest) after s (know env binds)
+              (λ i m. less i (counted_left B.set (on_match s) rest i m)) good read
               inner arms_closed arms_ask,
           walk_steps next (others B.set (on_match s) rest) after (know env binds) (λ i m. less i (others_left B.set (on_match s) rest i m)) good
               outer next_closed next_asks,
         )
-    walk_steps (equal binds x y body next) rest sc env less g (best, (after, bs, inner, outer)) (order, (first, (second, (body_closed, next_closed)))) (a, (body_asks, next_asks)) =
+    walk_steps (equal binds x y body next) rest sc env less g (best, (after, bs, inner, outer)) (order, (first, (second, (body_closed, next_closed))))
+        (a, (body_asks, next_asks)) =
         let bindable = step_bindable sc after (x ∷ y ∷ []) binds bs a in
         let good = good_all binds env g bindable in (
           to_bind_all binds env g bindable order,
@@ -276,11 +282,14 @@ module _ {C : Type 0} (p : CheckedProgram) (runs : ℕ → Type 0) (t : ℕ) (b 
         → CanRead b.sites env s → BuildsArms B.set rest sc s arms → AreClosed B.set env s arms → ArmsAskOnly B.set B.left arms
         → AreWalkable b.sites b.result env arms
     walk_arms no_arm rest sc s env less g r bu cl ask = tt
-    walk_arms (arm c fields body later) rest sc s env less g r (least, same, inner, outer) (made, (body_closed, later_closed)) (body_asks, later_ask) =
-        let opens : (x : ℕ) → Elem x (opened fields) → B.set.made x ≡ Some (record { site = s; want = has c }) = λ x m. made x (opened_in fields x m) in
+    walk_arms (arm c fields body later) rest sc s env less g r (least, same, inner, outer) (made, (body_closed, later_closed))
+        (body_asks, later_ask) =
+        let opens : (x : ℕ) → Elem x (opened fields) → B.set.made x ≡ Some (record { site = s; want = has c }) =
+        λ x m. made x (opened_in fields x m) in
         let good = good_all (opened fields) env g (λ x m. made_bindable s x c (opens x m)) in (
           to_open_all (opened fields) env s c r opens,
-          walk_steps body (wanting B.set s c rest) (inside B.set sc s (has c)) (know env (opened fields)) (λ i m. less i ((from_filter _ rest i m).0)) good
+          walk_steps body (wanting B.set s c rest) (inside B.set sc s (has c)) (know env (opened fields))
+              (λ i m. less i ((from_filter _ rest i m).0)) good
               inner (subst (λ (f : ℕ → Bool). IsClosed B.set f body) (fields_known fields env) body_closed) body_asks,
           walk_arms later (not_wanting B.set s c rest) sc s env (λ i m. less i ((from_filter _ rest i m).0)) g r outer later_closed later_ask,
         )

@@ -38,10 +38,6 @@ use Rattle.isle_meaning.proofs.Machine.Walked.{Walk, opened_in, order_parts}
 use Rattle.isle_meaning.proofs.Machine.Rows.{IsTypedEnv, row_typed, set_typed, row_says, row_calm}
 use Rattle.isle_meaning.proofs.Matching.Basics.{set_at, set_other}
 
--- what is said and known is given
-said_given : (g : Got Held) (h : Held) → Says g (gives h) → g ≢ unknown → g ≡ gives h
-said_given g h s k = s k
-
 module _ {C : Type 0} (p : CheckedProgram) (w : Answers) (R : ℕ → Type 0) (sound : IsSound p R) (below : Runs) (gives_typed : GivesTyped p R below)
     (t : ℕ) (args : Values) (args_typed : AreValuesOf p.values args (p.terms.inputs t)) (b : TermTree C) (B : IsTermTree p R t b)
     (means : ℕ → Values → List Event → Option Value → Type 0) (meant : GivesMeant p R below means) where
@@ -115,7 +111,8 @@ module _ {C : Type 0} (p : CheckedProgram) (w : Answers) (R : ℕ → Type 0) (s
       let calm : is_effect row ≡ false = sym (B.effects k row at) ∙ B.tree.single.pure (ask.0) k (ask.2) in
       let none = row_calm p w below b.sites args env row effects o calm made in
       let same = no_effects effects rest trace none split in
-      let says = λ (c : Completion) (g : IsGood c). row_says p w R sound below gives_typed t args args_typed b B means meant c (g.agrees) [] env k row effects o
+      let says = λ (c : Completion) (g : IsGood c). row_says p w R sound below gives_typed t args args_typed b B means meant c
+      (g.agrees) [] env k row effects o
       typed (to_kept env c kept g) at calm made in
       go o made says same none (λ env' ty ke run. binds_walk ks env' next steps rest r (λ x m. asked x (inr m)) ty ke run) after
     where
@@ -161,7 +158,8 @@ module _ {C : Type 0} (p : CheckedProgram) (w : Answers) (R : ℕ → Type 0) (s
 
   -- binding what a passed test opens: all of it, or no completion agrees and covers
   abbrev pub OpensEnd : (Env → Going) → ℕ → List Event → Outcome Value → Type 0
-  OpensEnd next steps trace r = ((env : Env) × Typed env × Keeps env × next env steps trace r) ⊎ ((r ≡ missing) × (trace ≡ []) × ((c : Completion) → IsGood c → ⊥))
+  OpensEnd next steps trace r = ((env : Env) × Typed env × Keeps env × next env steps trace r) ⊎
+      ((r ≡ missing) × (trace ≡ []) × ((c : Completion) → IsGood c → ⊥))
 
   -- what is opened is bound
   opens_walk : (fields : List ℕ) (env : Env) (next : Env → Going) (steps : ℕ) (trace : List Event) (r : Outcome Value)
@@ -174,7 +172,8 @@ module _ {C : Type 0} (p : CheckedProgram) (w : Answers) (R : ℕ → Type 0) (s
       let calm : is_effect row ≡ false = no_call_no_effect row no_call in
       let none = row_calm p w below b.sites args env row effects o calm made in
       let same = no_effects effects rest trace none split in
-      let says = λ (c : Completion) (g : IsGood c). row_says p w R sound below gives_typed t args args_typed b B means meant c (g.agrees) [] env k row effects o
+      let says = λ (c : Completion) (g : IsGood c). row_says p w R sound below gives_typed t args args_typed b B means meant c
+      (g.agrees) [] env k row effects o
       typed (to_kept env c kept g) at calm made in
       go o made says same no_call (one.1) (λ env' ty ke run. opens_walk ks env' next steps rest r (λ x m. field x (inr m)) ty ke run) after
     where
@@ -282,7 +281,8 @@ module _ {C : Type 0} (p : CheckedProgram) (w : Answers) (R : ℕ → Type 0) (s
   read_seen : (env : Env) (k : ℕ) (h : Held) (c : Completion) → Keeps env → IsGood c → IsAskedBy B.set B.left k → read b.sites args env k ≡ gives h
       → V c k ≡ gives h
   read_seen env k h c kept g asked e =
-      (read_same p.terms c args [] B.site b.sites B.sited env k (to_kept env c kept g) (λ u. let q : unknown ≡ gives h = sym u ∙ e in cc) (asked_known c k g asked) ∙ e)
+      (read_same p.terms c args [] B.site b.sites B.sited env k (to_kept env c kept g) (λ u. let q : unknown ≡ gives h = sym u ∙ e in cc)
+      (asked_known c k g asked) ∙ e)
 
   -- after binding
   path_bound : (env env' : Env) (sc after : Scope C) (rest binds : List ℕ) (u : Test) → OnPath env sc rest → IsBest B.set rest sc u
@@ -319,7 +319,8 @@ module _ {C : Type 0} (p : CheckedProgram) (w : Answers) (R : ℕ → Type 0) (s
     ];
     closed = λ x q e m. or_right (is_source B.set.tests s (has d) (B.set.made q)) (sc.emitted q)
         (elim (or_holds (is_source B.set.tests s (has d) (B.set.made x)) (sc.emitted x) e) [
-          | inl g ↦ (let n : Elem q (s ∷ []) = subst (λ (l : List ℕ). Elem q l) (B.tree.made.source x _ (source_made B.set s (has d) _ B.tree.made g)) m in
+          | inl g ↦ (let n : Elem q (s ∷ []) = subst (λ (l : List ℕ). Elem q l)
+              (B.tree.made.source x _ (source_made B.set s (has d) _ B.tree.made g)) m in
               elim n [ inl k ↦ ap sc.emitted k ∙ there | inr z ↦ absurd z ])
           | inr g ↦ o.closed x q g m
         ]);
@@ -336,7 +337,8 @@ module _ {C : Type 0} (p : CheckedProgram) (w : Answers) (R : ℕ → Type 0) (s
       → ((env : Env) → Typed env → Keeps env → next env steps trace r → WalkEnd f later trace r)
       → WalkEnd (λ c. after_bound (bind (V c) binds) (f c)) later trace r
   bound_way binds f later next steps trace r (inl (env, typed, kept, all, run)) k =
-      same_way f (λ c. after_bound (bind (V c) binds) (f c)) later trace r (λ c g. ap (λ (o : Bound). after_bound o (f c)) (all c g)) (k env typed kept run)
+      same_way f (λ c. after_bound (bind (V c) binds) (f c)) later trace r (λ c g. ap (λ (o : Bound). after_bound o (f c)) (all c g))
+      (k env typed kept run)
   bound_way binds f later next steps trace r (inr (inl (is, n, all))) k =
       inr (inr (inl (is, n, λ c g. ap (λ (o : Bound). after_bound o (f c)) (all c g))))
   bound_way binds f later next steps trace r (inr (inr a)) k = inr (inr (inr a))
@@ -412,9 +414,12 @@ module _ {C : Type 0} (p : CheckedProgram) (w : Answers) (R : ℕ → Type 0) (s
         (binds_walk binds env _ m trace r (step_asked rest sc after (on_equal x y) binds o.less best bs) o.typed o.kept run)
         (λ env' typed kept (h, g, read_x, read_y, tested).
         let path = path_bound env env' sc after rest binds (on_equal x y) o best bs typed kept in
-        let sx = λ (c : Completion) (good : IsGood c). read_seen env' x h c kept good (test_asked rest sc (on_equal x y) o.less best x (inl refl)) read_x in
-        let sy = λ (c : Completion) (good : IsGood c). read_seen env' y g c kept good (test_asked rest sc (on_equal x y) o.less best y (inr (inl refl))) read_y in
-        then_way (λ c. if alike_got B.set (V c x) (V c y) then walk B.set (V c) body else ends) (λ c. walk B.set (V c) next) (Steps_run env' next later) later trace r
+        let sx = λ (c : Completion) (good : IsGood c). read_seen env' x h c kept good
+        (test_asked rest sc (on_equal x y) o.less best x (inl refl)) read_x in
+        let sy = λ (c : Completion) (good : IsGood c). read_seen env' y g c kept good
+        (test_asked rest sc (on_equal x y) o.less best y (inr (inl refl))) read_y in
+        then_way (λ c. if alike_got B.set (V c x) (V c y) then walk B.set (V c) body else ends) (λ c. walk B.set (V c) next)
+        (Steps_run env' next later) later trace r
         (equal_walk body env' (Steps_run env' next later) m trace r x y h g
         (λ run'. steps_walk body (counted B.set (on_equal x y) rest) (join after x y) env' (Steps_run env' next later) m trace r inner
         (path_join env' after _ x y (path_fewer env' after rest _ path (counted_left B.set (on_equal x y) rest))) run') sx sy tested)
@@ -429,15 +434,18 @@ module _ {C : Type 0} (p : CheckedProgram) (w : Answers) (R : ℕ → Type 0) (s
     arms_walk no_arm rest sc s env later steps trace r bu o there asked run = inl (steps, run, λ c g. refl)
     arms_walk (arm d fields body arms) rest sc s env later steps trace r bu o there asked (h, here, inl (meets, run)) =
         let sees = λ (c : Completion) (good : IsGood c). read_seen env s h c o.kept good asked here in
-        let passes = λ (c : Completion) (good : IsGood c). (let q : passes_got B.set d (V c s) ≡ true = rw (sees c good) ((B.tests d h).1 meets) in q) in
-        let made = λ (x : ℕ) (m : Elem x (opened fields)). B.fields.fields_made s x d (subst (λ (l : List (Option ℕ)). Elem (Some x) l) (bu.1) (opened_in fields x m)) in
+        let passes = λ (c : Completion) (good : IsGood c). (let q : passes_got B.set d (V c s) ≡ true =
+        rw (sees c good) ((B.tests d h).1 meets) in q) in
+        let made = λ (x : ℕ) (m : Elem x (opened fields)). B.fields.fields_made s x d
+        (subst (λ (l : List (Option ℕ)). Elem (Some x) l) (bu.1) (opened_in fields x m)) in
         same_way (λ c. walk B.set (V c) body) (λ c. walk_arms B.set (V c) s (arm d fields body arms)) later trace r
         (λ c good. if_true (passes_got B.set d (V c s)) _ _ (passes c good))
         (elim (opens_walk (opened fields) env (λ env. Steps_run env body later) steps trace r
         (λ x m. (
           (record { site = s; want = has d }, made x m),
           λ c good.
-              (B.respects c args (good.agrees.allowed) (good.agrees.typed) args_typed).field x (record { site = s; want = has d }) (made x m) (passes c good),
+              (B.respects c args (good.agrees.allowed) (good.agrees.typed) args_typed).field x (record { site = s; want = has d })
+              (made x m) (passes c good),
         ))
         o.typed o.kept run) [
           | inl a ↦ (let (env', typed, kept, go) = a in
@@ -452,4 +460,5 @@ module _ {C : Type 0} (p : CheckedProgram) (w : Answers) (R : ℕ → Type 0) (s
           | inl e ↦ absurd (left_out ((B.tests d h).0 e))
           | inr e ↦ e
         ])))
-        (arms_walk arms (not_wanting B.set s d rest) sc s env later steps trace r (bu.3) (path_fewer env sc rest _ o (λ i m. (from_filter _ rest i m).0)) there asked run)
+        (arms_walk arms (not_wanting B.set s d rest) sc s env later steps trace r (bu.3)
+        (path_fewer env sc rest _ o (λ i m. (from_filter _ rest i m).0)) there asked run)

@@ -2,17 +2,17 @@
 use Rattle.std.proofs.Common.{◌≡◌, ◌⊎◌, ◌≤◌, ◌<◌, ◌+◌, ◌&&◌, inl, inr, ℕ, suc, List, [], ◌∷◌, length, Bool, true, false, Option, Some, slice_get}
 use Rattle.std.proofs.Common.{refl, sym, ◌∙◌, ap, subst, arith}
 use Rattle.std.specs.Prelude.{if◌then◌else◌, unwrap_or}
-use Rattle.isle_terms.specs.TypedRules.{TypedPattern, TypedPatterns, typed_bind, typed_var, typed_bool, typed_int, typed_prim, typed_term}
-use Rattle.isle_terms.specs.TypedRules.{typed_wildcard, typed_and, no_typed, more_typed, TypedExpr, TypedExprs, TypedBindings, built_term}
-use Rattle.isle_terms.specs.TypedRules.{built_var, built_bool, built_int, built_prim, built_let, no_built, more_built, no_typed_bindings, more_typed_bindings}
-use Rattle.isle_terms.specs.TypedRules.{built_at, Variable, TypedIfLet, TypedRule}
-use Rattle.isle_terms.specs.Signatures.{Flags, TermForm, variant_form, struct_form, declared_form, Signature, Declared, flags_of}
-use Rattle.isle_terms.specs.Elaboration.{may_call, on_lhs}
-use Rattle.isle_terms.specs.SoundRules.WellTyped.{HasType, same_for_each, IsTypedPattern, AreTypedPatterns}
-use Rattle.isle_terms.specs.SoundRules.WellTyped.{IsTypedExpr, AreTypedExprs, AreTypedBindings, AreTypedIfLets, IsTypedRule}
-use Rattle.isle_terms.specs.SoundRules.KeptScopes.{Scope, nothing_bound, with_next, counting, IsUsable, PatternBinds, PatternsBind, ExprUses}
-use Rattle.isle_terms.specs.SoundRules.KeptScopes.{ExprsUse, BindingsAdd, IfLetsBind, KeepsScopes}
-use Rattle.isle_meaning.specs.Facts.{TermFacts, TermShape, variant_shape, struct_shape, declared_shape, patterns, shape_of_form, no_term, term_at}
+use Rattle.isle_rules.specs.TypedRules.{TypedPattern, TypedPatterns, typed_bind, typed_var, typed_bool, typed_int, typed_prim, typed_term}
+use Rattle.isle_rules.specs.TypedRules.{typed_wildcard, typed_and, no_typed, more_typed, TypedExpr, TypedExprs, TypedBindings, built_term}
+use Rattle.isle_rules.specs.TypedRules.{built_var, built_bool, built_int, built_prim, built_let, no_built, more_built, no_typed_bindings, more_typed_bindings}
+use Rattle.isle_rules.specs.TypedRules.{built_at, Variable, TypedIfLet, TypedRule}
+use Rattle.isle_rules.specs.Signatures.{Flags, TermForm, variant_form, struct_form, declared_form, Signature, Declared, flags_of}
+use Rattle.isle_rules.specs.Elaboration.{may_call, on_lhs}
+use Rattle.isle_rules.specs.SoundRules.WellTyped.{HasType, same_for_each, IsTypedPattern, AreTypedPatterns}
+use Rattle.isle_rules.specs.SoundRules.WellTyped.{IsTypedExpr, AreTypedExprs, AreTypedBindings, AreTypedIfLets, IsTypedRule}
+use Rattle.isle_rules.specs.SoundRules.KeptScopes.{Scope, nothing_bound, with_next, counting, IsUsable, PatternBinds, PatternsBind, ExprUses}
+use Rattle.isle_rules.specs.SoundRules.KeptScopes.{ExprsUse, BindingsAdd, IfLetsBind, KeepsScopes}
+use Rattle.isle_meaning.specs.Facts.{TermFacts, TermShape, variant_shape, struct_shape, declared_shape, patterns, shape_of_form, no_term, signature_numbered}
 use Rattle.isle_meaning.specs.Facts.{variant_types, struct_types, type_shape, facts_of, TakesFields}
 use Rattle.isle_meaning.specs.Scopes.{scope, scope_all, iflets_scope, let_scope, IsWellOpened, IsWellScoped, AreWellScoped, IsSingle}
 use Rattle.isle_meaning.specs.Scopes.{ReadsExpr, ReadExprs, ReadsLets, IfLetsAreWellScoped, none, scope_of, TakesOne, TakeOneEach, IfLetsTakeOne}
@@ -38,21 +38,22 @@ still : (S : ℕ → Type 0) (before after : Scope) → after ≡ before → IsS
 still S before after e h = subst (IsScope S) (sym e) h
 
 module _ (declared : Declared) (variables : List Variable) (fields : TakesFields declared) where
-  at_number : (t : ℕ) (term : Signature) → slice_get declared.terms t ≡ Some term → term_at declared t ≡ term
+  at_number : (t : ℕ) (term : Signature) → slice_get declared.terms t ≡ Some term → signature_numbered declared t ≡ term
   at_number t term known = ap (λ (x : Option Signature). unwrap_or x no_term) known
 
   -- the types of a term's parts are those of its arguments
   parts_are : (t ty : ℕ) (term : Signature) → slice_get declared.terms t ≡ Some term → term.ret ≡ ty
-      → part_types (facts_of declared) (shape_of_form (term_at declared t).form) ty t ≡ term.args
+      → part_types (facts_of declared) (shape_of_form (signature_numbered declared t).form) ty t ≡ term.args
   parts_are t ty term known type = go (term.form) refl
     where
       shape_is : (form : TermForm) → term.form ≡ form
-          → part_types (facts_of declared) (shape_of_form (term_at declared t).form) ty t ≡ part_types (facts_of declared) (shape_of_form form) ty t
+          → part_types (facts_of declared) (shape_of_form (signature_numbered declared t).form) ty t ≡ part_types
+          (facts_of declared) (shape_of_form form) ty t
       shape_is form e =
-          let p : (term_at declared t).form ≡ form = ap (λ (x : Signature). x.form) (at_number t term known) ∙ e in
+          let p : (signature_numbered declared t).form ≡ form = ap (λ (x : Signature). x.form) (at_number t term known) ∙ e in
           ap (λ (x : TermForm). part_types (facts_of declared) (shape_of_form x) ty t) p
 
-      go : (form : TermForm) → term.form ≡ form → part_types (facts_of declared) (shape_of_form (term_at declared t).form) ty t ≡ term.args
+      go : (form : TermForm) → term.form ≡ form → part_types (facts_of declared) (shape_of_form (signature_numbered declared t).form) ty t ≡ term.args
       go (variant_form k) e =
           shape_is (variant_form k) e ∙ ap (λ (z : ℕ). variant_types (type_shape declared.types z) k) (sym type) ∙ fields.variant t k term known e
       go struct_form e =
@@ -109,7 +110,7 @@ module _ (declared : Declared) (variables : List Variable) (fields : TakesFields
     abbrev flagged : TermFacts
     flagged = record (facts_of declared) { multi = flags }
 
-    opened : (shape : TermShape) (t n : ℕ) → n ≡ length (term_at declared t).args → flags t ≡ false → IsWellOpened flagged shape t n
+    opened : (shape : TermShape) (t n : ℕ) → n ≡ length (signature_numbered declared t).args → flags t ≡ false → IsWellOpened flagged shape t n
     opened (variant_shape k) t n e m = tt
     opened struct_shape t n e m = tt
     opened declared_shape t n e m = (e, m)
@@ -128,9 +129,9 @@ module _ (declared : Declared) (variables : List Variable) (fields : TakesFields
       pattern_scoped ty (typed_prim own name) before after S t o b h = (tt, still S before after b h)
       pattern_scoped ty (typed_term own t below) before after S (e, m) o b h =
           let r = patterns_scoped m.term.args below before after S m.args (o.1) b h in
-          let n : patterns below ≡ length (term_at declared t).args =
+          let n : patterns below ≡ length (signature_numbered declared t).args =
           count_typed m.term.args below m.args ∙ ap (λ (x : Signature). length x.args) (sym (at_number t m.term m.known)) in
-          ((opened (shape_of_form (term_at declared t).form) t (patterns below) n (o.0), r.0), r.1)
+          ((opened (shape_of_form (signature_numbered declared t).form) t (patterns below) n (o.0), r.0), r.1)
       pattern_scoped ty (typed_wildcard own) before after S t o b h = (tt, still S before after b h)
       pattern_scoped ty (typed_and own below) before after S t o b h = patterns_scoped (same_for_each ty below) below before after S (t.1) o b h
 
@@ -193,7 +194,7 @@ module _ (declared : Declared) (variables : List Variable) (fields : TakesFields
               → ExprUses e scope count → ((k : ℕ) → IsUsable scope.usable k → S k) → ReadsExpr (flagged flags) e S × (scope.count ≤ count)
           expr_reads ty (built_term own t below) scope count S (e, m) u h =
               let r = exprs_read m.term.args below scope count S m.args u h in
-              ((is_single (shape_of_form (term_at declared t).form) t (once t m.term m.known m.allowed), r.0), r.1)
+              ((is_single (shape_of_form (signature_numbered declared t).form) t (once t m.term m.known m.allowed), r.0), r.1)
           expr_reads ty (built_var own var) scope count S t u h = let e : count ≡ scope.count = u.1 in (h var (u.0), omega arith)
           expr_reads ty (built_bool own val) scope count S t u h = let e : count ≡ scope.count = u in (tt, omega arith)
           expr_reads ty (built_int own val) scope count S t u h = let e : count ≡ scope.count = u in (tt, omega arith)

@@ -11,7 +11,8 @@ use Rattle.isle_meaning.specs.Demands.{prim_constraint, some_constraint, Demand,
 use Rattle.isle_meaning.specs.Derived.{Derived, demanded, flipped, chained, shared, like_variant, like_struct, Closed, FieldOf}
 use Rattle.isle_meaning.specs.Derived.{of_variant, of_struct, Inside, directly, further_in}
 use Rattle.isle_meaning.specs.Faults.{IsUnreachable, Differ}
-use Rattle.isle_meaning.specs.Holds.{Meets, Holds, IsProper, IsVariantField, IsStructField, Respects}
+use Rattle.isle_meaning.specs.Holds.{Holds, IsProper, IsVariantField, IsStructField, Respects}
+use Rattle.isle_meaning.specs.Held.{Meets}
 use Rattle.isle_meaning.specs.Sorts.{Suits, AllSuit}
 use Rattle.isle_meaning.proofs.Matching.Deciding.{stable}
 

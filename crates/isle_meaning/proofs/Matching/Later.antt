@@ -27,7 +27,8 @@ answer_later (x ∷ before) more zero k = refl
 answer_later (x ∷ before) more (suc i) k = answer_later before more i k
 
 module _ (facts : TermFacts) (c : Completion) (args : Values) (before further : List (Option Value)) where
-  call_later : (m : Bool) (t i : ℕ) (vs : Values) → (if m then several_of (c.constructs t vs) else constructed (facts.partial t) (answer_of c before t i vs)) ≢ unknown
+  call_later : (m : Bool) (t i : ℕ) (vs : Values) → (if m then several_of (c.constructs t vs) else constructed
+      (facts.partial t) (answer_of c before t i vs)) ≢ unknown
       → (if m then several_of (c.constructs t vs) else constructed (facts.partial t) (answer_of c (before ++ further) t i vs))
       ≡ (if m then several_of (c.constructs t vs) else constructed (facts.partial t) (answer_of c before t i vs))
   call_later true t i vs k = refl
@@ -47,21 +48,27 @@ module _ (facts : TermFacts) (c : Completion) (args : Values) (before further : 
     later (int_site n ty) k = refl
     later (prim_site n) k = refl
     later (argument i) k = refl
-    later (extractor_call t s) k = ap (λ (g : Got Held). ask (extract_held facts c t) (plain g)) (later s (λ e. k (ap (λ (g : Got Held). ask (extract_held facts c t) (plain g)) e)))
+    later (extractor_call t s) k = ap (λ (g : Got Held). ask (extract_held facts c t) (plain g))
+        (later s (λ e. k (ap (λ (g : Got Held). ask (extract_held facts c t) (plain g)) e)))
     later (constructor_call t ss i) k =
         ap (ask (construct_held facts c (before ++ further) t i)) (all_later ss (λ e. k (ap (ask (construct_held facts c before t i)) e)))
         ∙ given_later t i (values facts c args before ss) k
     later (iterator s) k = ap (ask (item_of (c.place s))) (later s (λ e. k (ap (ask (item_of (c.place s))) e)))
-    later (make_variant ty v ss) k = ap (λ (gs : Got Values). held (made ty v gs)) (all_later ss (λ e. k (ap (λ (gs : Got Values). held (made ty v gs)) e)))
-    later (match_variant s v i) k = ap (λ (g : Got Held). ask (variant_field v i) (plain g)) (later s (λ e. k (ap (λ (g : Got Held). ask (variant_field v i) (plain g)) e)))
-    later (make_struct ty ss) k = ap (λ (gs : Got Values). held (built ty gs)) (all_later ss (λ e. k (ap (λ (gs : Got Values). held (built ty gs)) e)))
-    later (extract_struct s i) k = ap (λ (g : Got Held). ask (struct_field i) (plain g)) (later s (λ e. k (ap (λ (g : Got Held). ask (struct_field i) (plain g)) e)))
+    later (make_variant ty v ss) k = ap (λ (gs : Got Values). held (made ty v gs))
+        (all_later ss (λ e. k (ap (λ (gs : Got Values). held (made ty v gs)) e)))
+    later (match_variant s v i) k = ap (λ (g : Got Held). ask (variant_field v i) (plain g))
+        (later s (λ e. k (ap (λ (g : Got Held). ask (variant_field v i) (plain g)) e)))
+    later (make_struct ty ss) k = ap (λ (gs : Got Values). held (built ty gs))
+        (all_later ss (λ e. k (ap (λ (gs : Got Values). held (built ty gs)) e)))
+    later (extract_struct s i) k = ap (λ (g : Got Held). ask (struct_field i) (plain g))
+        (later s (λ e. k (ap (λ (g : Got Held). ask (struct_field i) (plain g)) e)))
     later (make_some s) k = ap (ask (λ h. gives (held_some h))) (later s (λ e. k (ap (ask (λ h. gives (held_some h))) e)))
     later (match_some s) k = ap (ask content_of) (later s (λ e. k (ap (ask content_of) e)))
     later (match_tuple s i) k = ap (ask (output_of i)) (later s (λ e. k (ap (ask (output_of i)) e)))
 
     -- so do sites
-    pub all_later : (ss : Sites) → values facts c args before ss ≢ unknown → values facts c args (before ++ further) ss ≡ values facts c args before ss
+    pub all_later : (ss : Sites) → values facts c args before ss ≢ unknown
+        → values facts c args (before ++ further) ss ≡ values facts c args before ss
     all_later no_sites k = refl
     all_later (more_sites s ss) k =
         let both = more_parts (plain (value facts c args before s)) (values facts c args before ss) k in

@@ -7,14 +7,14 @@ use Rattle.std.proofs.lemmas.List.{length-map}
 use Rattle.std.proofs.lemmas.Option.{slice_get-map, same_Some, none-some}
 use Rattle.isle_types.specs.IntTypes.{builtin_names}
 use Rattle.isle_types.specs.Environment.{NamedType, NamedVariant, TypeShape, primitive, enum, struct, numbers_in, Environment}
-use Rattle.isle_syntax.specs.declared.ast.Def.{Def}
-use Rattle.isle_terms.specs.Signatures.{Signature, variant_form, struct_form, declared_form}
-use Rattle.isle_terms.specs.Definitions.{variant_terms, terms_of_shape, terms_of_types, declarations, IsDeclaration, TermEnvironment, declared_by, MakesTerms}
+use Rattle.isle_ast.specs.declared.ast.Def.{Def}
+use Rattle.isle_rules.specs.Signatures.{Signature, variant_form, struct_form, declared_form}
+use Rattle.isle_rules.specs.Definitions.{variant_terms, terms_of_shape, terms_of_types, declarations, IsDeclaration, TermEnvironment, declared_by, MakesTerms}
 use Rattle.isle_meaning.specs.Facts.{type_shape, variant_types, struct_types, fields_of_variant, TakesFields}
 use Rattle.isle_meaning.specs.Laws.Matching.{MadeTermsTakeTheirFields, RulesOfDefinitionsFit}
-use Rattle.isle_terms.specs.SoundRules.KeptScopes.{KeepsScopes}
+use Rattle.isle_rules.specs.SoundRules.KeptScopes.{KeepsScopes}
 use Rattle.isle_types.proofs.Zipped.{all_at}
-use Rattle.isle_terms.proofs.Sound.RuleScopes.{rules_keep_scopes}
+use Rattle.isle_rules.proofs.Sound.RuleScopes.{rules_keep_scopes}
 use Rattle.isle_meaning.specs.Laws.Elaborated.{DefinitionsAreElaborated}
 use Rattle.isle_meaning.proofs.Matching.Bridging.{elaborated_rules_fit, typed_rules_are_elaborated}
 
@@ -51,7 +51,15 @@ of_variant : (ty : ℕ) (type : List ℕ) (number : ℕ) (variants : List NamedV
     → slice_get (variant_terms ty type number variants) i ≡ Some term → OfVariant ty number variants term
 of_variant ty type number [] i term h = absurd cc
 of_variant ty type number (v ∷ vs) zero term h =
-    record { place = 0; variant = v; at = refl; form = ap (λ (t : Signature). t.form) (told h) ∙ ap variant_form (omega arith); args = ap (λ (t : Signature). t.args) (told h); ret = ap (λ (t : Signature). t.ret) (told h) }
+    record {
+      place = 0;
+      variant = v;
+      at = refl;
+      form = ap (λ (t : Signature). t.form) (told h) ∙ ap variant_form (omega arith);
+      args =
+          ap (λ (t : Signature). t.args) (told h);
+      ret = ap (λ (t : Signature). t.ret) (told h);
+    }
   where
     told : {a b : Signature} → Some a ≡ Some b → b ≡ a
     told e = cc
@@ -119,23 +127,27 @@ module _ (types : Environment) (expands : Bool) (levels max : ℕ) (defs : List 
 
   shape_at : (k : ℕ) (type : NamedType) → slice_get types.types k ≡ Some type → type_shape types (builtin + k) ≡ type.shape
   shape_at k type h =
-      let p = ap (λ n. slice_get (map primitive builtin_names ++ map (λ (t : NamedType). t.shape) types.types) (n + k)) (sym (length-map builtin_names primitive)) in
+      let p = ap (λ n. slice_get (map primitive builtin_names ++ map (λ (t : NamedType). t.shape) types.types) (n + k))
+      (sym (length-map builtin_names primitive)) in
       let q = after_first (map primitive builtin_names) (map (λ (t : NamedType). t.shape) types.types) k in
       let r = slice_get-map (λ (t : NamedType). t.shape) types.types k ∙ ap (option_map (λ (t : NamedType). t.shape)) h in
       ap (λ o. unwrap_or o (primitive [])) (p ∙ q ∙ r)
 
-  from_types : (i : ℕ) (term : Signature) → slice_get environment.terms i ≡ Some term → ((c : _) (e : _) (f : _) → term.form ≡ declared_form f c e → ⊥)
+  from_types : (i : ℕ) (term : Signature) → slice_get environment.terms i ≡ Some term
+      → ((c : _) (e : _) (f : _) → term.form ≡ declared_form f c e → ⊥)
       → OfTypes builtin types.types term
   from_types i term h other =
       let are = made.terms in
       elim (either_list are.declared (terms_of_types builtin types.types) i term (subst (λ l. slice_get l i ≡ Some term) are.all h)) [
-        | inl g ↦ let (decl, d) = paired_at (IsDeclaration types defs) (declarations defs) are.declared are.each i term g in absurd (other _ _ _ d.form)
+        | inl g ↦ let (decl, d) = paired_at (IsDeclaration types defs) (declarations defs) are.declared are.each i term g in
+            absurd (other _ _ _ d.form)
         | inr (j, e, g) ↦ of_types builtin types.types j term g
       ]
 
   takes : TakesFields (declared_by types expands environment)
   takes = record {
-    variant = λ i place term h f. let r = from_types i term h (λ c e g p. absurd cc) in variant_of r.place r.type r.at place f r.type.shape refl r.shape;
+    variant = λ i place term h f. let r = from_types i term h (λ c e g p. absurd cc) in
+        variant_of r.place r.type r.at place f r.type.shape refl r.shape;
     struct = λ i term h f. let r = from_types i term h (λ c e g p. absurd cc) in struct_of r.place r.type r.at f r.type.shape refl r.shape;
   }
     where

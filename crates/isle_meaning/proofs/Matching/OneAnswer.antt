@@ -3,13 +3,13 @@ use Rattle.std.proofs.Common.{◌≡◌, inl, inr, ℕ, zero, suc, List, [], ◌
 use Rattle.std.proofs.Common.{◌∙◌, subst, Bool}
 use Rattle.std.specs.List.{AllZip}
 use Rattle.std.proofs.lemmas.Option.{same_Some, none-some}
-use Rattle.isle_syntax.specs.declared.ast.Decl.{Decl as DeclTree}
-use Rattle.isle_syntax.specs.declared.ast.Def.{Def}
+use Rattle.isle_ast.specs.declared.ast.Decl.{Decl as DeclTree}
+use Rattle.isle_ast.specs.declared.ast.Def.{Def}
 use Rattle.isle_types.specs.Environment.{TypeShape, primitive, enum, struct, Environment}
 use Rattle.isle_types.specs.IntTypes.{builtin_names}
 use Rattle.isle_types.proofs.Zipped.{all_at}
-use Rattle.isle_terms.specs.Signatures.{Signature, TermForm, variant_form, struct_form, declared_form, flags_of}
-use Rattle.isle_terms.specs.Definitions.{terms_of_types, declarations, IsDeclaration, flags_in, TermEnvironment, MakesTerms}
+use Rattle.isle_rules.specs.Signatures.{Signature, TermForm, variant_form, struct_form, declared_form, flags_of}
+use Rattle.isle_rules.specs.Definitions.{terms_of_types, declarations, IsDeclaration, flags_in, TermEnvironment, MakesTerms}
 use Rattle.isle_meaning.specs.Facts.{no_term}
 use Rattle.isle_meaning.specs.Laws.Elaborated.{NoneIsMultiAndPartial}
 use Rattle.isle_meaning.proofs.Matching.MadeFields.{either_list, of_types, OfShape, of_enum, of_struct}

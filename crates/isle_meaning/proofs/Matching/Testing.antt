@@ -1,7 +1,7 @@
 -- Each field and each content that a rule's demands, or what is derived from them, speak of is made by a test among them.
 use Rattle.std.proofs.Common.{◌≡◌, ◌⊎◌, inl, inr, ℕ, zero, suc, ◌<◌, List, [], ◌∷◌, ◌++◌, Bool, true, false, refl, sym, ◌∙◌, ap, subst, arith}
-use Rattle.isle_terms.specs.TypedRules.{TypedPattern, typed_bind, typed_var, typed_bool, typed_int, typed_prim, typed_term, typed_wildcard}
-use Rattle.isle_terms.specs.TypedRules.{typed_and, TypedPatterns, no_typed, more_typed, TypedIfLet}
+use Rattle.isle_rules.specs.TypedRules.{TypedPattern, typed_bind, typed_var, typed_bool, typed_int, typed_prim, typed_term, typed_wildcard}
+use Rattle.isle_rules.specs.TypedRules.{typed_and, TypedPatterns, no_typed, more_typed, TypedIfLet}
 use Rattle.isle_meaning.specs.Facts.{TermShape, variant_shape, struct_shape, declared_shape, TermFacts, patterns}
 use Rattle.isle_meaning.specs.Words.{Word, var_word, bool_word, int_word, prim_word, variant_word, struct_word, call_word, Words}
 use Rattle.isle_meaning.specs.Words.{no_words, more_words, set, word_of}
@@ -15,7 +15,8 @@ use Rattle.isle_meaning.specs.Holds.{Each}
 use Rattle.isle_meaning.specs.Derived.{Derived, demanded, flipped, chained, shared, like_variant, like_struct}
 use Rattle.isle_meaning.specs.Tested.{IsTested, AreTested, SpeaksOfTested}
 use Rattle.isle_meaning.specs.Scopes.{scope, scope_all, IsWellScoped, AreWellScoped, Reads, ReadAll, iflets_scope, IfLetsAreWellScoped, none}
-use Rattle.isle_meaning.specs.Laws.Matching.{DemandOf, DemandsAreTested, DerivedIsTested}
+use Rattle.isle_meaning.specs.Laws.Matching.{DemandsAreTested, DerivedIsTested}
+use Rattle.isle_meaning.specs.Demands.{DemandOf}
 use Rattle.isle_meaning.proofs.Matching.Scoping.{word_reads}
 use Rattle.isle_meaning.proofs.Matching.Basics.{set_at, set_other, each_append}
 use Rattle.isle_meaning.proofs.Matching.Sorting.{among}

@@ -1,7 +1,7 @@
 -- The laws.
 use Rattle.std.proofs.Common.{ℕ, List, [], ◌∷◌, ap, refl}
 use Rattle.isle_meaning.specs.Values.{Value, Values}
-use Rattle.isle_terms.specs.TypedRules.{TypedRule}
+use Rattle.isle_rules.specs.TypedRules.{TypedRule}
 use Rattle.isle_meaning.specs.Facts.{TermFacts}
 use Rattle.isle_meaning.specs.Answers.{Completion}
 use Rattle.isle_meaning.specs.Matching.{MatchesWith, Matches}
@@ -11,7 +11,8 @@ use Rattle.isle_meaning.specs.Demands.{Demand, constrained, equal, args_bound, n
 use Rattle.isle_meaning.specs.Derived.{Closed}
 use Rattle.isle_meaning.specs.Holds.{Holds, Each, AllHold, AllHoldProper}
 use Rattle.isle_meaning.specs.Scopes.{none, scope_of, scope_all, IsWellScopedRule}
-use Rattle.isle_meaning.specs.Laws.Matching.{DemandOf, Settles, MatchesByDemands, MatchesByProper, MatchesByClosed, MatchesDerived}
+use Rattle.isle_meaning.specs.Laws.Matching.{Settles, MatchesByDemands, MatchesByProper, MatchesByClosed, MatchesDerived}
+use Rattle.isle_meaning.specs.Demands.{DemandOf}
 use Rattle.isle_meaning.specs.Laws.Matching.{UnreachableIsDead, NeverBoth, WiderMatches}
 use Rattle.isle_meaning.proofs.Matching.Basics.{each_append, each_first, each_rest, value_respects}
 use Rattle.isle_meaning.proofs.Matching.Children.{Agree, lets_kept}

@@ -1,6 +1,6 @@
 -- Completions that cover a rule answer all that its demands ask.
 use Rattle.std.proofs.Common.{ℕ, inl, inr, [], sym, subst}
-use Rattle.isle_terms.specs.TypedRules.{TypedRule}
+use Rattle.isle_rules.specs.TypedRules.{TypedRule}
 use Rattle.isle_meaning.specs.Values.{Values}
 use Rattle.isle_meaning.specs.Facts.{TermFacts}
 use Rattle.isle_meaning.specs.Answers.{Completion}
@@ -55,10 +55,6 @@ module _ (facts : TermFacts) (c : Completion) (args : Values) where
     item = λ s h. h;
     output = λ s i h. h;
   }
-
-  -- What a rule's variables stand for is answered.
-  pub variables_answered : (rule : TypedRule) → Covers facts c args rule → (k : ℕ) → IsAnswered facts c args [] (vars_of facts rule k)
-  variables_answered rule h = variables_carry facts (IsAnswered facts c args []) answered_carried rule (h.0) (h.1)
 
 pub demands_are_answered : DemandsAreAnswered
 demands_are_answered facts c args rule h d e =

@@ -8,7 +8,7 @@ use Rattle.isle_meaning.specs.Derived.{of_struct}
 use Rattle.isle_meaning.specs.Sorts.{AllSuit}
 use Rattle.isle_meaning.proofs.Matching.Closing.{derived_suits}
 use Rattle.isle_meaning.specs.AboutSites.Kinds.{HasItsKind, IsOfItsKind}
-use Rattle.isle_meaning.specs.Laws.Matching.{DemandOf}
+use Rattle.isle_meaning.specs.Demands.{DemandOf}
 use Rattle.isle_meaning.specs.Laws.Sites.{RulesAreKinded}
 use Rattle.isle_meaning.specs.Laws.Elaborated.{ElaboratedAreKinded}
 use Rattle.isle_meaning.proofs.Sites.Kinded.{rule_seen, any_seen}

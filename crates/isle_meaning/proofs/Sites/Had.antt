@@ -1,7 +1,7 @@
 -- The calls in what a rule demands, and in what its variables stand for, are those of its patterns and if-lets.
 use Rattle.std.proofs.Common.{inl, inr, ℕ, suc, List, [], ◌∷◌, refl}
-use Rattle.isle_terms.specs.TypedRules.{TypedPattern, typed_bind, typed_var, typed_bool, typed_int, typed_prim, typed_term, typed_wildcard}
-use Rattle.isle_terms.specs.TypedRules.{typed_and, TypedPatterns, no_typed, more_typed, TypedIfLet, TypedRule}
+use Rattle.isle_rules.specs.TypedRules.{TypedPattern, typed_bind, typed_var, typed_bool, typed_int, typed_prim, typed_term, typed_wildcard}
+use Rattle.isle_rules.specs.TypedRules.{typed_and, TypedPatterns, no_typed, more_typed, TypedIfLet, TypedRule}
 use Rattle.isle_meaning.specs.Facts.{TermShape, variant_shape, struct_shape, declared_shape, TermFacts, patterns}
 use Rattle.isle_meaning.specs.Sites.{Site, argument, extractor_call}
 use Rattle.isle_meaning.specs.AboutSites.Parts.{parts_of, IsOneOf}
@@ -81,14 +81,6 @@ module _ (facts : TermFacts) (rule : TypedRule) where
   -- of its if-lets
   lets_had : OfIfLets facts (ItsCallsAreHad facts rule) rule.iflets (args_bound facts rule)
   lets_had = iflets_had rule.iflets (args_bound facts rule) (λ u h. inr h)
-
-  -- What has only such calls has parts that do.
-  pub had_part : (s u : Site) → ItsCallsAreHad facts rule s → IsOneOf (parts_of s) u → ItsCallsAreHad facts rule u
-  had_part s u h m = part_of IsHad s u h m
-
-  -- What a rule's variables stand for has only such calls.
-  pub variables_had : (k : ℕ) → ItsCallsAreHad facts rule (vars_of facts rule k)
-  variables_had = variables_carry facts (ItsCallsAreHad facts rule) had_carried rule args_had lets_had
 
 pub demanded_calls_are_had : DemandedCallsAreHad
 demanded_calls_are_had facts rule d e =

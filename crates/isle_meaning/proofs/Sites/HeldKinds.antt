@@ -148,7 +148,8 @@ module _ (facts : TermFacts) (tys : List ℕ) (c : Completion) (args : Values) (
     construct_kind true t i vs h m may e =
         let lists = lists_given several t may_give may m in
         let (l, given, all) = lists.constructs t vs in
-        let r = subst (λ (b : Bool). (if b then several_of (c.constructs t vs) else constructed (facts.partial t) (answer_of c done t i vs)) ≡ gives h) m e in
+        let r = subst (λ (b : Bool). (if b then several_of (c.constructs t vs) else constructed (facts.partial t) (answer_of c done t i vs)) ≡ gives
+        h) m e in
         (l, several_held (c.constructs t vs) l h given r, λ n xs there. outputs_kind (facts.type_of t ∷ []) xs (all n xs there))
     construct_kind false t i vs h m may e =
         constructed_kind (facts.partial t) (facts.type_of t) (answer_of c done t i vs) h
@@ -236,7 +237,8 @@ module _ (facts : TermFacts) (tys : List ℕ) (c : Completion) (args : Values) (
 
   module _ (several : Bool) (may_give : MayGiveLists several) where
     -- a plain site with a value holds one
-    plain_there : (s : Site) → HasItsKind several facts tys s → IsPlain (sort facts tys s) → HasValue (val s) → (v : Value) × (val s ≡ gives (held_value v))
+    plain_there : (s : Site) → HasItsKind several facts tys s → IsPlain (sort facts tys s) → HasValue (val s)
+        → (v : Value) × (val s ≡ gives (held_value v))
     plain_there s w p h =
         let (v, e) = plain_held_kind (sort facts tys s) (h.0) p (any_kind several may_give s (h.0) w (h.1)) in (v, h.1 ∙ ap (λ (x : Held). gives x) e)
 

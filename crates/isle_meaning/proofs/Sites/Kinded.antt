@@ -1,10 +1,10 @@
 -- The sites of a rule are of their kinds, and its demands are of their sites' types.
 use Rattle.std.proofs.Common.{◌≡◌, ◌⊎◌, inl, inr, ℕ, zero, suc, ◌<◌, ◌+◌, ◌==◌, List, [], ◌∷◌, ◌++◌, length, Bool, true, false, refl}
 use Rattle.std.proofs.Common.{sym, ap, subst, ◌∙◌, arith, eqb-true, eq-eqb}
-use Rattle.isle_terms.specs.TypedRules.{TypedPattern, typed_bind, typed_var, typed_bool, typed_int, typed_prim, typed_term, typed_wildcard}
-use Rattle.isle_terms.specs.TypedRules.{typed_and, TypedPatterns, no_typed, more_typed, TypedExpr, built_var, built_bool, built_int}
-use Rattle.isle_terms.specs.TypedRules.{built_prim, built_term, built_let, TypedExprs, no_built, more_built, TypedBindings, no_typed_bindings}
-use Rattle.isle_terms.specs.TypedRules.{more_typed_bindings, TypedIfLet, TypedRule}
+use Rattle.isle_rules.specs.TypedRules.{TypedPattern, typed_bind, typed_var, typed_bool, typed_int, typed_prim, typed_term, typed_wildcard}
+use Rattle.isle_rules.specs.TypedRules.{typed_and, TypedPatterns, no_typed, more_typed, TypedExpr, built_var, built_bool, built_int}
+use Rattle.isle_rules.specs.TypedRules.{built_prim, built_term, built_let, TypedExprs, no_built, more_built, TypedBindings, no_typed_bindings}
+use Rattle.isle_rules.specs.TypedRules.{more_typed_bindings, TypedIfLet, TypedRule}
 use Rattle.isle_meaning.specs.Facts.{TermShape, variant_shape, struct_shape, declared_shape, TermFacts, patterns, nth_type}
 use Rattle.isle_meaning.specs.Words.{set, word_of}
 use Rattle.isle_meaning.specs.Sites.{Site, bool_site, int_site, prim_site, argument, extractor_call, constructor_call, iterator}
@@ -23,7 +23,8 @@ use Rattle.isle_meaning.specs.Scopes.{scope, scope_all, iflets_scope, IsWellOpen
 use Rattle.isle_meaning.specs.Scopes.{ReadsExpr}
 use Rattle.isle_meaning.specs.Scopes.{ReadExprs, ReadsLets, IfLetsAreWellScoped, none, scope_of, IsWellScopedRule}
 use Rattle.isle_meaning.specs.Typing.{part_types, IsTyped, AllTyped, EachTyped, ExprTyped, ExprsTyped, BindingsTyped, IfLetsTyped, RuleIsTyped}
-use Rattle.isle_meaning.specs.Laws.Matching.{IsRuleOfTypes, DemandOf}
+use Rattle.isle_meaning.specs.Laws.Matching.{IsRuleOfTypes}
+use Rattle.isle_meaning.specs.Demands.{DemandOf}
 use Rattle.isle_meaning.specs.Elaborated.{IsElaborated}
 use Rattle.isle_meaning.proofs.Matching.Basics.{each_append}
 use Rattle.isle_meaning.proofs.Matching.Sorting.{among}
@@ -406,7 +407,8 @@ module _ (several : Bool) (facts : TermFacts) (tys : List ℕ) where
       let (d, e, f) = iflets_seen G rule rule.iflets [] (λ k. scope_all rule.args none k) well.iflets typed.iflets c in
       let v = visit_seen G rule.right u (scope_of rule) (vars_of facts rule) no_log well.right typed.right f tt in (
         λ s n. each_needed W (needs_of facts rule) s
-            (sites_append W (args_needs facts rule.args 0) _ args (sites_append W (iflets_needs facts rule.iflets (args_bound facts rule)) _ d (v.1))) n,
+            (sites_append W (args_needs facts rule.args 0) _ args (sites_append W (iflets_needs facts rule.iflets (args_bound facts rule)) _ d (v.1)))
+            n,
         λ k. some_kinded k _ u (subst (λ (z : Site). IsGood z u) ((visit_is_written facts rule).0) (v.0)),
         among Fits (demands_of facts rule) (each_append Fits (demands_all facts rule.args argument nothing) _ b e),
       )

@@ -1,7 +1,7 @@
 -- Where if-lets have no `let`, each content that their multi calls are made of has its test.
 use Rattle.std.proofs.Common.{inl, inr, ℕ, zero, suc, List, [], ◌∷◌, ◌++◌, length, Bool, true, false, refl, sym, subst}
-use Rattle.isle_terms.specs.TypedRules.{TypedExpr, built_var, built_bool, built_int, built_prim, built_term, built_let, TypedExprs, no_built}
-use Rattle.isle_terms.specs.TypedRules.{more_built, TypedIfLet}
+use Rattle.isle_rules.specs.TypedRules.{TypedExpr, built_var, built_bool, built_int, built_prim, built_term, built_let, TypedExprs, no_built}
+use Rattle.isle_rules.specs.TypedRules.{more_built, TypedIfLet}
 use Rattle.isle_meaning.specs.Facts.{TermShape, variant_shape, struct_shape, declared_shape, TermFacts}
 use Rattle.isle_meaning.specs.Words.{var_word}
 use Rattle.isle_meaning.specs.Sites.{Site, constructor_call, Sites, answer_site, iterator}

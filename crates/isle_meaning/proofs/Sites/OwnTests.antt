@@ -1,6 +1,6 @@
 -- Fields and contents in a rule's right side have their tests, contents of constructors' calls aside.
 use Rattle.std.proofs.Common.{◌≡◌, ◌⊎◌, ◌<◌, inl, inr, ℕ, List, [], ◌∷◌, map, Bool, true, false, refl, sym, subst}
-use Rattle.isle_terms.specs.TypedRules.{TypedRule}
+use Rattle.isle_rules.specs.TypedRules.{TypedRule}
 use Rattle.isle_meaning.specs.Facts.{TermFacts}
 use Rattle.isle_meaning.specs.Words.{Word, var_word, bool_word, int_word, prim_word, variant_word, struct_word, call_word, Words}
 use Rattle.isle_meaning.specs.Words.{no_words, more_words, Step, word_of, steps_of}
@@ -13,7 +13,7 @@ use Rattle.isle_meaning.specs.Demands.{result_of, some_of}
 use Rattle.isle_meaning.specs.Derived.{Derived, demanded}
 use Rattle.isle_meaning.specs.Scopes.{Reads, ReadAll, IsWellScopedRule, scope_of}
 use Rattle.isle_meaning.specs.Tested.{IsTested, AreTested}
-use Rattle.isle_meaning.specs.Laws.Matching.{DemandOf}
+use Rattle.isle_meaning.specs.Demands.{DemandOf}
 use Rattle.isle_meaning.proofs.Chains.Subtrees.{whole}
 use Rattle.isle_meaning.proofs.Chains.Unique.{EachStep}
 use Rattle.isle_meaning.proofs.Matching.Scoping.{word_reads}

@@ -1,10 +1,10 @@
 -- In what a rule demands and has, each field and content is made by a test, and each value of a multi call is needed.
 use Rattle.std.proofs.Common.{◌≡◌, ◌⊎◌, inl, inr, ℕ, zero, suc, ◌<◌, ◌+◌, ◌==◌, List, [], ◌∷◌, ◌++◌, length, Bool, true, false, refl, sym, ap}
 use Rattle.std.proofs.Common.{◌∙◌, subst, arith}
-use Rattle.isle_terms.specs.TypedRules.{TypedPattern, typed_bind, typed_var, typed_bool, typed_int, typed_prim, typed_term, typed_wildcard}
-use Rattle.isle_terms.specs.TypedRules.{typed_and, TypedPatterns, no_typed, more_typed, TypedExpr, built_var, built_bool, built_int}
-use Rattle.isle_terms.specs.TypedRules.{built_prim, built_term, built_let, TypedExprs, no_built, more_built, TypedBindings, no_typed_bindings}
-use Rattle.isle_terms.specs.TypedRules.{more_typed_bindings, TypedIfLet, TypedRule}
+use Rattle.isle_rules.specs.TypedRules.{TypedPattern, typed_bind, typed_var, typed_bool, typed_int, typed_prim, typed_term, typed_wildcard}
+use Rattle.isle_rules.specs.TypedRules.{typed_and, TypedPatterns, no_typed, more_typed, TypedExpr, built_var, built_bool, built_int}
+use Rattle.isle_rules.specs.TypedRules.{built_prim, built_term, built_let, TypedExprs, no_built, more_built, TypedBindings, no_typed_bindings}
+use Rattle.isle_rules.specs.TypedRules.{more_typed_bindings, TypedIfLet, TypedRule}
 use Rattle.isle_meaning.specs.Facts.{TermShape, variant_shape, struct_shape, declared_shape, TermFacts, patterns}
 use Rattle.isle_meaning.specs.Words.{var_word, set, word_of}
 use Rattle.isle_meaning.specs.Sites.{Site, bool_site, int_site, prim_site, argument, extractor_call, constructor_call, iterator}
@@ -18,7 +18,7 @@ use Rattle.isle_meaning.specs.Derived.{Derived, demanded, flipped, chained, shar
 use Rattle.isle_meaning.specs.Holds.{Each}
 use Rattle.isle_meaning.specs.Elaborated.{IfLetsNeed}
 use Rattle.isle_meaning.specs.Laws.Calls.{CallOf, ExprCalls, ExprsCall, BindingsCall}
-use Rattle.isle_meaning.specs.Laws.Matching.{DemandOf}
+use Rattle.isle_meaning.specs.Demands.{DemandOf}
 use Rattle.isle_meaning.specs.Needs.{from_on, extract_needs, output_needs, open_needs, needs, needs_all, args_needs, Log, no_log, need}
 use Rattle.isle_meaning.specs.Needs.{answer_needs, called, applied, visit, visit_all, visit_lets, iflets_needs, needs_of, IsNeeded}
 use Rattle.isle_meaning.proofs.Matching.Basics.{each_append}
@@ -605,7 +605,8 @@ module _ (facts : TermFacts) (rule : TypedRule) where
   -- What follows from a rule's demands speaks of sites whose fields and contents have their tests, and whose values of multi calls are needed.
   pub derived_own : (d : Demand) → Derived D d → SpeaksOf (AreOwn (Derived D) N) d
   derived_own d e =
-      derived_owned D N (λ f i. speaks_more D (Derived D) N (λ g h. demanded h) f (among (SpeaksOf (AreOwn D N)) (demands_of facts rule) (rule_own.0) f i)) d e
+      derived_owned D N (λ f i. speaks_more D (Derived D) N (λ g h. demanded h) f
+      (among (SpeaksOf (AreOwn D N)) (demands_of facts rule) (rule_own.0) f i)) d e
 
   -- with what follows
   more_own : (s : Site) → AreOwn D N s → AreOwn (Derived D) N s

@@ -1,7 +1,7 @@
 -- What a rule demands, what follows from it, and what its variables stand for has no impure call.
 use Rattle.std.proofs.Common.{◌≡◌, ℕ, List, [], ◌∷◌, subst}
 use Rattle.std.proofs.lemmas.Option.{none-some}
-use Rattle.isle_terms.specs.TypedRules.{TypedIfLet, TypedRule}
+use Rattle.isle_rules.specs.TypedRules.{TypedIfLet, TypedRule}
 use Rattle.isle_meaning.specs.Facts.{TermFacts}
 use Rattle.isle_meaning.specs.Words.{Step, word_of, steps_of}
 use Rattle.isle_meaning.specs.Sites.{Site, argument, extractor_call}

@@ -3,11 +3,11 @@ use Rattle.std.proofs.Common.{◌≡◌, ◌+◌, ◌⊎◌, inl, inr, ℕ, zero
 use Rattle.std.proofs.Common.{refl, sym, ◌∙◌, ap, subst, arith}
 use Rattle.std.specs.List.{AllZip}
 use Rattle.std.proofs.lemmas.Option.{same_Some, none-some}
-use Rattle.isle_syntax.specs.declared.ast.Def.{Def}
+use Rattle.isle_ast.specs.declared.ast.Def.{Def}
 use Rattle.isle_types.specs.IntTypes.{builtin_names}
 use Rattle.isle_types.specs.Environment.{Environment, NamedType, NamedVariant, FieldList, TypeShape, primitive, enum, struct}
-use Rattle.isle_terms.specs.Signatures.{Signature, variant_form, struct_form, declared_form}
-use Rattle.isle_terms.specs.Definitions.{variant_terms, terms_of_shape, terms_of_types, declarations, IsDeclaration, AreTerms}
+use Rattle.isle_rules.specs.Signatures.{Signature, variant_form, struct_form, declared_form}
+use Rattle.isle_rules.specs.Definitions.{variant_terms, terms_of_shape, terms_of_types, declarations, IsDeclaration, AreTerms}
 
 -- where an item of two lists stands
 either_list : {X : Type 0} (xs ys : List X) (i : ℕ) (x : X) → slice_get (xs ++ ys) i ≡ Some x

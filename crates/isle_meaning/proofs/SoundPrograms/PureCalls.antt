@@ -1,12 +1,12 @@
 -- What is typed where only what is pure is called makes no impure calls.
 use Rattle.std.proofs.Common.{◌≡◌, ◌&&◌, ℕ, Bool, true, false, List, [], ◌∷◌, Option, unwrap_or, refl, sym, ap, ◌∙◌}
 use Rattle.std.specs.Prelude.{if◌then◌else◌}
-use Rattle.isle_terms.specs.TypedRules.{TypedExpr, built_var, built_bool, built_int, built_prim, built_term, built_let, TypedExprs, no_built}
-use Rattle.isle_terms.specs.TypedRules.{more_built, TypedBindings, no_typed_bindings, more_typed_bindings, Variable}
-use Rattle.isle_terms.specs.Signatures.{Flags, Signature, Declared, flags_of}
-use Rattle.isle_terms.specs.Elaboration.{may_call}
-use Rattle.isle_terms.specs.SoundRules.WellTyped.{IsTypedExpr, AreTypedExprs, AreTypedBindings}
-use Rattle.isle_meaning.specs.Facts.{TermShape, variant_shape, struct_shape, declared_shape, no_term, term_at, facts_of}
+use Rattle.isle_rules.specs.TypedRules.{TypedExpr, built_var, built_bool, built_int, built_prim, built_term, built_let, TypedExprs, no_built}
+use Rattle.isle_rules.specs.TypedRules.{more_built, TypedBindings, no_typed_bindings, more_typed_bindings, Variable}
+use Rattle.isle_rules.specs.Signatures.{Flags, Signature, Declared, flags_of}
+use Rattle.isle_rules.specs.Elaboration.{may_call}
+use Rattle.isle_rules.specs.SoundRules.WellTyped.{IsTypedExpr, AreTypedExprs, AreTypedBindings}
+use Rattle.isle_meaning.specs.Facts.{TermShape, variant_shape, struct_shape, declared_shape, no_term, signature_numbered, facts_of}
 use Rattle.isle_meaning.specs.Words.{Word, var_word, Words, Step, set, flat, flat_all, flat_lets, apply, steps_of}
 
 -- what a pure caller may call is pure
@@ -33,7 +33,7 @@ module _ (declared : Declared) (variables : List Variable) (caller : Flags) (pur
         → (flat (facts_of declared) vars steps e).1 ≡ steps
     calls_pure ty (built_term own t below) vars steps h =
         let m = h.1 in
-        let is : term_at declared t ≡ m.term = ap (λ (x : Option Signature). unwrap_or x no_term) m.known in
+        let is : signature_numbered declared t ≡ m.term = ap (λ (x : Option Signature). unwrap_or x no_term) m.known in
         applied_pure ((facts_of declared).shape t) ((facts_of declared).pure t) own t (flat_all (facts_of declared) vars steps below) steps
         (ap (λ (z : Signature). (flags_of z.form).pure) is ∙ called_pure caller (flags_of m.term.form) pure m.allowed)
         (all_pure m.term.args below vars steps m.args)

@@ -16,12 +16,12 @@ use Rattle.std.proofs.lemmas.Slice.Eq.{bytes_eq-Decides}
 use Rattle.isle_types.specs.declared.types.IntType.{IntType}
 use Rattle.isle_types.specs.declared.types.IntType.TheVariants.{U8, U16, U32, U64, U128, USize, I8, I16, I32, I64, I128, ISize}
 use Rattle.isle_types.specs.IntTypes.{HasNumber, least_of, greatest_of}
-use Rattle.isle_terms.specs.Values.{ValueTree, bool_tree, int_tree, big_tree}
-use Rattle.isle_terms.specs.Values.{const_tree, opaque_tree, data_tree}
-use Rattle.isle_terms.specs.TypedRules.{TypedPattern, typed_bind, typed_var, typed_bool, typed_int, typed_prim, typed_term, typed_wildcard}
-use Rattle.isle_terms.specs.TypedRules.{typed_and, TypedPatterns, no_typed, more_typed, TypedExpr, built_var, built_bool, built_int}
-use Rattle.isle_terms.specs.TypedRules.{built_prim, built_term, built_let, TypedExprs, no_built, more_built, TypedBindings, no_typed_bindings}
-use Rattle.isle_terms.specs.TypedRules.{more_typed_bindings, TypedIfLet, TypedRule, typed_at}
+use Rattle.isle_rules.specs.Values.{ValueTree, bool_tree, int_tree, big_tree}
+use Rattle.isle_rules.specs.Values.{const_tree, opaque_tree, data_tree}
+use Rattle.isle_rules.specs.TypedRules.{TypedPattern, typed_bind, typed_var, typed_bool, typed_int, typed_prim, typed_term, typed_wildcard}
+use Rattle.isle_rules.specs.TypedRules.{typed_and, TypedPatterns, no_typed, more_typed, TypedExpr, built_var, built_bool, built_int}
+use Rattle.isle_rules.specs.TypedRules.{built_prim, built_term, built_let, TypedExprs, no_built, more_built, TypedBindings, no_typed_bindings}
+use Rattle.isle_rules.specs.TypedRules.{more_typed_bindings, TypedIfLet, TypedRule, typed_at}
 use Rattle.isle_meaning.specs.Facts.{TermShape, variant_shape, struct_shape, declared_shape, TermFacts, patterns}
 use Rattle.isle_meaning.specs.Values.{Value, Values, bool_value, int_value, constant_value, opaque_value, made_variant, made_struct}
 use Rattle.isle_meaning.specs.ValueTypes.{ValueFacts, TypeKind, truth_kind, integer_kind, primitive_kind, data_kind, no_kind, IsIntOf}

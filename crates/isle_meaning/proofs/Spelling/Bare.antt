@@ -3,21 +3,21 @@ use Rattle.std.proofs.Common.{◌≡◌, ℕ, List, [], ◌∷◌, ◌++◌, map
 use Rattle.std.specs.Prelude.{if◌then◌else◌}
 use Rattle.std.specs.Option.{option_map, option_and_then}
 use Rattle.std.proofs.lemmas.Option.{slice_get-map, same_Some, none-some}
-use Rattle.isle_syntax.specs.declared.ast.Pattern.{Pattern}
-use Rattle.isle_syntax.specs.declared.ast.Pattern.TheVariants as pattern
-use Rattle.isle_syntax.specs.declared.ast.Expr.{Expr}
-use Rattle.isle_syntax.specs.declared.ast.Expr.TheVariants as expr
-use Rattle.isle_syntax.specs.Trees.PatternShape.{pattern_of}
-use Rattle.isle_syntax.specs.Trees.ExprShape.{expr_of}
-use Rattle.isle_syntax.specs.Trees.WithoutPos.{no_pos, pattern_tree_without_pos, expr_tree_without_pos, pattern_without_pos, expr_without_pos}
+use Rattle.isle_ast.specs.declared.ast.Pattern.{Pattern}
+use Rattle.isle_ast.specs.declared.ast.Pattern.TheVariants as pattern
+use Rattle.isle_ast.specs.declared.ast.Expr.{Expr}
+use Rattle.isle_ast.specs.declared.ast.Expr.TheVariants as expr
+use Rattle.isle_ast.specs.Trees.PatternShape.{pattern_of}
+use Rattle.isle_ast.specs.Trees.ExprShape.{expr_of}
+use Rattle.isle_ast.specs.Trees.WithoutPos.{no_pos, pattern_tree_without_pos, expr_tree_without_pos, pattern_without_pos, expr_without_pos}
 use Rattle.isle_types.specs.IntTypes.{builtin_names}
 use Rattle.isle_types.specs.Names.{position_of}
 use Rattle.isle_types.specs.Environment.{Environment, NamedType, NamedVariant, TypeShape, primitive, enum, struct}
-use Rattle.isle_terms.specs.Signatures.{ExtractorForm, by_template, external_extractor, TermForm, variant_form, struct_form, declared_form}
-use Rattle.isle_terms.specs.Signatures.{Signature, Declared, term_named, signature_of, template_of, put_in_for, has_constructor_form}
-use Rattle.isle_terms.specs.Signatures.{has_extractor_form, flags_of}
-use Rattle.isle_terms.specs.Elaboration.{type_named}
-use Rattle.isle_terms.specs.Definitions.{TermEnvironment, names_of_terms}
+use Rattle.isle_rules.specs.Signatures.{ExtractorForm, by_template, external_extractor, TermForm, variant_form, struct_form, declared_form}
+use Rattle.isle_rules.specs.Signatures.{Signature, Declared, term_named, signature_of, template_of, put_in_for, has_constructor_form}
+use Rattle.isle_rules.specs.Signatures.{has_extractor_form, flags_of}
+use Rattle.isle_rules.specs.Elaboration.{type_named}
+use Rattle.isle_rules.specs.Definitions.{TermEnvironment, names_of_terms}
 use Rattle.isle_meaning.specs.Laws.Spelling.{typed_rule_without_pos}
 
 abbrev pub bare_variant : NamedVariant → NamedVariant
@@ -88,7 +88,8 @@ expr_bare (expr.ConstPrim name _) = refl
 expr_bare (expr.Let defs below _) = refl
 
 -- names stay
-pub type_names_bare : (types : List NamedType) → map (λ (type : NamedType). type.name) (map bare_type types) ≡ map (λ (type : NamedType). type.name) types
+pub type_names_bare : (types : List NamedType) → map (λ (type : NamedType). type.name) (map bare_type types) ≡ map
+    (λ (type : NamedType). type.name) types
 type_names_bare [] = refl
 type_names_bare (t ∷ types) = ap (λ (l : List (List ℕ)). t.name ∷ l) (type_names_bare types)
 

@@ -1,12 +1,12 @@
 -- Positions decide nothing of what an expression stands for.
 use Rattle.std.proofs.Common.{◌≡◌, ◌⊎◌, inl, inr, ℕ, zero, suc, List, [], ◌∷◌, true, Option, Some, sym, ◌∙◌, ap, subst}
-use Rattle.isle_syntax.specs.Trees.ExprTree.{ExprTree, ExprTrees, LetTrees, expr_term, expr_var, expr_bool, expr_int, expr_prim, expr_let}
-use Rattle.isle_syntax.specs.Trees.ExprTree.{no_exprs, more_exprs, no_lets, more_lets, expr_pos}
-use Rattle.isle_syntax.specs.Trees.WithoutPos.{expr_tree_without_pos, expr_trees_without_pos, let_trees_without_pos}
+use Rattle.isle_ast.specs.Trees.ExprTree.{ExprTree, ExprTrees, LetTrees, expr_term, expr_var, expr_bool, expr_int, expr_prim, expr_let}
+use Rattle.isle_ast.specs.Trees.ExprTree.{no_exprs, more_exprs, no_lets, more_lets, expr_pos}
+use Rattle.isle_ast.specs.Trees.WithoutPos.{expr_tree_without_pos, expr_trees_without_pos, let_trees_without_pos}
 use Rattle.isle_types.proofs.Zipped.{mapped_at}
-use Rattle.isle_terms.specs.TypedRules.{TypedExpr, TypedExprs, TypedBindings}
-use Rattle.isle_terms.specs.Signatures.{Flags, Signature, Declared, has_constructor_form}
-use Rattle.isle_terms.specs.Elaboration.{State, counted, bound, may_call, ExprJudgement, EachExpr, Binds, Calls, ConvertsExpr, ExprNode, Builds}
+use Rattle.isle_rules.specs.TypedRules.{TypedExpr, TypedExprs, TypedBindings}
+use Rattle.isle_rules.specs.Signatures.{Flags, Signature, Declared, has_constructor_form}
+use Rattle.isle_rules.specs.Elaboration.{State, counted, bound, may_call, ExprJudgement, EachExpr, Binds, Calls, ConvertsExpr, ExprNode, Builds}
 use Rattle.isle_meaning.proofs.Spelling.Bare.{bare, bare_types, bare_term, type_named_bare, term_named_bare, there_bare, has_constructor_bare}
 use Rattle.isle_meaning.proofs.Spelling.Bare.{flags_bare}
 use Rattle.isle_meaning.proofs.Spelling.Patterns.{literal_there, literal_back, converts_there, converts_back}

@@ -4,30 +4,30 @@ use Rattle.std.specs.Prelude.{if◌then◌else◌, ◌==◌}
 use Rattle.std.specs.List.{filter_map}
 use Rattle.std.specs.Option.{option_map}
 use Rattle.std.specs.Str.{bytes_eq}
-use Rattle.isle_syntax.specs.declared.ast.Ident.{Ident}
-use Rattle.isle_syntax.specs.declared.ast.Rule.{Rule as RuleTree}
-use Rattle.isle_syntax.specs.declared.ast.Extractor.{Extractor as ExtractorTree}
-use Rattle.isle_syntax.specs.declared.ast.Extern.{Extern as ExternTree}
-use Rattle.isle_syntax.specs.declared.ast.Extern.TheVariants.{Constructor as extern_constructor, Extractor as extern_extractor}
-use Rattle.isle_syntax.specs.declared.ast.Extern.TheVariants.{Const as extern_const}
-use Rattle.isle_syntax.specs.declared.ast.Def.{Def}
-use Rattle.isle_syntax.specs.declared.ast.Def.TheVariants.{TypeDef, Decl, Rule, Extractor, Extern, Converter, Pragma, Kept}
-use Rattle.isle_syntax.specs.declared.lexer.Pos.{Pos}
-use Rattle.isle_syntax.specs.Trees.PatternTree.{PatternTree, PatternTrees, pattern_var, pattern_bind, pattern_bool, pattern_int, pattern_prim}
-use Rattle.isle_syntax.specs.Trees.PatternTree.{pattern_term, pattern_wildcard, pattern_and, pattern_macro_arg, no_patterns, more_patterns}
-use Rattle.isle_syntax.specs.Trees.PatternShape.{pattern_of}
-use Rattle.isle_syntax.specs.Trees.Templates.{position_of_name, is_wildcard, argument_for, template_tree, template_trees}
-use Rattle.isle_syntax.specs.Trees.WithoutPos.{no_pos, ident_without_pos, pattern_tree_without_pos, pattern_trees_without_pos}
-use Rattle.isle_syntax.specs.Trees.WithoutPos.{decl_without_pos, rule_without_pos, extractor_without_pos, extern_without_pos, converter_without_pos}
-use Rattle.isle_syntax.specs.Trees.WithoutPos.{def_without_pos}
+use Rattle.isle_ast.specs.declared.ast.Ident.{Ident}
+use Rattle.isle_ast.specs.declared.ast.Rule.{Rule as RuleTree}
+use Rattle.isle_ast.specs.declared.ast.Extractor.{Extractor as ExtractorTree}
+use Rattle.isle_ast.specs.declared.ast.Extern.{Extern as ExternTree}
+use Rattle.isle_ast.specs.declared.ast.Extern.TheVariants.{Constructor as extern_constructor, Extractor as extern_extractor}
+use Rattle.isle_ast.specs.declared.ast.Extern.TheVariants.{Const as extern_const}
+use Rattle.isle_ast.specs.declared.ast.Def.{Def}
+use Rattle.isle_ast.specs.declared.ast.Def.TheVariants.{TypeDef, Decl, Rule, Extractor, Extern, Converter, Pragma, Kept}
+use Rattle.isle_ast.specs.declared.pos.Pos.{Pos}
+use Rattle.isle_ast.specs.Trees.PatternTree.{PatternTree, PatternTrees, pattern_var, pattern_bind, pattern_bool, pattern_int, pattern_prim}
+use Rattle.isle_ast.specs.Trees.PatternTree.{pattern_term, pattern_wildcard, pattern_and, pattern_macro_arg, no_patterns, more_patterns}
+use Rattle.isle_ast.specs.Trees.PatternShape.{pattern_of}
+use Rattle.isle_ast.specs.Trees.Templates.{position_of_name, is_wildcard, argument_for, template_tree, template_trees}
+use Rattle.isle_ast.specs.Trees.WithoutPos.{no_pos, ident_without_pos, pattern_tree_without_pos, pattern_trees_without_pos}
+use Rattle.isle_ast.specs.Trees.WithoutPos.{decl_without_pos, rule_without_pos, extractor_without_pos, extern_without_pos, converter_without_pos}
+use Rattle.isle_ast.specs.Trees.WithoutPos.{def_without_pos}
 use Rattle.isle_types.specs.Environment.{NamedType, NamedVariant, TypeShape, primitive, enum, struct, numbers_in}
-use Rattle.isle_terms.specs.Signatures.{by_rules, external_constructor, ExtractorForm, by_template, external_extractor, variant_form}
-use Rattle.isle_terms.specs.Definitions.{ExternalExtractor, as_declaration, as_rule, as_extractor, as_external, as_converter}
-use Rattle.isle_terms.specs.Definitions.{as_external_constructor, as_external_extractor, declarations, rules_in, extractors_in, converters_in}
-use Rattle.isle_terms.specs.Definitions.{external_constructors, external_extractors, root_name, roots_of, is_among, function_for, constructor_for}
-use Rattle.isle_terms.specs.Definitions.{template_for, external_extractor_for, first_of, extractor_for, variant_terms, terms_of_shape}
-use Rattle.isle_terms.specs.Definitions.{terms_of_types, term_names, all_term_names, extractor_names, external_constructor_names, times}
-use Rattle.isle_terms.specs.Definitions.{name_of_rule, name_of}
+use Rattle.isle_rules.specs.Signatures.{by_rules, external_constructor, ExtractorForm, by_template, external_extractor, variant_form}
+use Rattle.isle_rules.specs.Definitions.{ExternalExtractor, as_declaration, as_rule, as_extractor, as_external, as_converter}
+use Rattle.isle_rules.specs.Definitions.{as_external_constructor, as_external_extractor, declarations, rules_in, extractors_in, converters_in}
+use Rattle.isle_rules.specs.Definitions.{external_constructors, external_extractors, root_name, roots_of, is_among, function_for, constructor_for}
+use Rattle.isle_rules.specs.Definitions.{template_for, external_extractor_for, first_of, extractor_for, variant_terms, terms_of_shape}
+use Rattle.isle_rules.specs.Definitions.{terms_of_types, term_names, all_term_names, extractor_names, external_constructor_names, times}
+use Rattle.isle_rules.specs.Definitions.{name_of_rule, name_of}
 use Rattle.isle_meaning.proofs.Spelling.Bare.{bare_variant, bare_shape, bare_type, bare_extractor, bare_term, pattern_bare}
 use Rattle.isle_meaning.proofs.Spelling.Types.{bare_pair}
 use Rattle.isle_meaning.proofs.Spelling.Zips.{filter_mapped, filter_same, map_same}
@@ -262,7 +262,14 @@ variant_terms_bare : (ty : ℕ) (type : List ℕ) (number : ℕ) (variants : Lis
     → variant_terms ty type number (map bare_variant variants) ≡ map bare_term (variant_terms ty type number variants)
 variant_terms_bare ty type number [] = refl
 variant_terms_bare ty type number (first ∷ others) =
-    (λ i. bare_term (record { name = type ++ codes "." ++ first.name; args = numbers_in first.fields; ret = ty; form = variant_form number; pos = first.pos })
+    (λ i. bare_term (record {
+      name = type ++ codes "." ++ first.name;
+      args = numbers_in first.fields;
+      ret =
+          ty;
+      form = variant_form number;
+      pos = first.pos;
+    })
     ∷ variant_terms_bare ty type (suc number) others i)
 
 shape_terms_bare : (ty : ℕ) (type : NamedType) (shape : TypeShape)

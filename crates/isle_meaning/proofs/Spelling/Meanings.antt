@@ -1,9 +1,9 @@
 -- Positions of rules decide nothing of what calls mean.
 use Rattle.std.proofs.Common.{◌≡◌, inl, inr, ℕ, zero, suc, List, [], map, Bool, true, false, Option, Some, None, slice_get, sym, ◌∙◌, ap, subst}
 use Rattle.std.specs.Prelude.{◌≤ℤ◌}
-use Rattle.isle_syntax.specs.Trees.WithoutPos.{no_pos}
+use Rattle.isle_ast.specs.Trees.WithoutPos.{no_pos}
 use Rattle.isle_types.proofs.Zipped.{mapped_at}
-use Rattle.isle_terms.specs.TypedRules.{TypedRule}
+use Rattle.isle_rules.specs.TypedRules.{TypedRule}
 use Rattle.isle_meaning.specs.Values.{Value, Values}
 use Rattle.isle_meaning.specs.Words.{word_of, steps_of}
 use Rattle.isle_meaning.specs.Answers.{Completion}

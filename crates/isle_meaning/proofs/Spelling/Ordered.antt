@@ -5,31 +5,31 @@ use Rattle.std.specs.List.{All, AllZip, filter_map, cons_option, list_any}
 use Rattle.std.specs.Option.{option_map}
 use Rattle.std.proofs.lemmas.Bool.{false≢true}
 use Rattle.std.proofs.lemmas.Option.{none-some, same_Some}
-use Rattle.isle_syntax.specs.declared.ast.Ident.{Ident}
-use Rattle.isle_syntax.specs.declared.ast.Decl.{Decl as DeclTree}
-use Rattle.isle_syntax.specs.declared.ast.Rule.{Rule as RuleTree}
-use Rattle.isle_syntax.specs.declared.ast.Converter.{Converter as ConverterTree}
-use Rattle.isle_syntax.specs.declared.ast.Def.{Def}
-use Rattle.isle_syntax.specs.declared.ast.Def.TheVariants.{TypeDef, Decl, Rule, Extractor, Extern, Converter, Pragma, Kept}
-use Rattle.isle_syntax.specs.declared.ast.«Type».{«Type» as TypeTree}
-use Rattle.isle_syntax.specs.Trees.PatternShape.{pattern_of}
+use Rattle.isle_ast.specs.declared.ast.Ident.{Ident}
+use Rattle.isle_ast.specs.declared.ast.Decl.{Decl as DeclTree}
+use Rattle.isle_ast.specs.declared.ast.Rule.{Rule as RuleTree}
+use Rattle.isle_ast.specs.declared.ast.Converter.{Converter as ConverterTree}
+use Rattle.isle_ast.specs.declared.ast.Def.{Def}
+use Rattle.isle_ast.specs.declared.ast.Def.TheVariants.{TypeDef, Decl, Rule, Extractor, Extern, Converter, Pragma, Kept}
+use Rattle.isle_ast.specs.declared.ast.«Type».{«Type» as TypeTree}
+use Rattle.isle_ast.specs.Trees.PatternShape.{pattern_of}
 use Rattle.isle_types.specs.IntTypes.{builtin_names}
 use Rattle.isle_types.specs.Names.{AreDistinct}
 use Rattle.isle_types.specs.Environment.{Environment, Makes, as_type, type_definitions, as_constant, constant_definitions, IsType, IsConstant}
 use Rattle.isle_types.specs.Environment.{type_names}
 use Rattle.isle_types.proofs.Zipped.{zipped_at}
-use Rattle.isle_terms.specs.TypedRules.{TypedRule}
-use Rattle.isle_terms.specs.Signatures.{by_rules, external_constructor, declared_form, Signature, Declared}
-use Rattle.isle_terms.specs.Definitions.{IsAmong, as_declaration, as_extractor, as_external, as_converter, declarations, rules_in}
-use Rattle.isle_terms.specs.Definitions.{converters_in, as_external_constructor, as_external_extractor}
-use Rattle.isle_terms.specs.Definitions.{root_name, roots_of, is_among, function_for, constructor_for, template_for, external_extractor_for, first_of}
-use Rattle.isle_terms.specs.Definitions.{extractor_for, flags_in, IsDeclaration, AreTerms, IsConversion, IsRuleOf, TermEnvironment, declared_by}
-use Rattle.isle_terms.specs.Definitions.{MakesTerms}
-use Rattle.isle_terms.specs.Elaboration.{ElaboratesRule}
-use Rattle.isle_terms.proofs.Collections.NamedPlaces.{member_is_among, among_is_member}
-use Rattle.isle_terms.proofs.Collections.TypeTerms.{zipped_back}
-use Rattle.isle_terms.proofs.OneTermEnvironment.{zipped_one, one_list_of_terms, one_conversion}
-use Rattle.isle_terms.proofs.RuleLaws.{one_rule}
+use Rattle.isle_rules.specs.TypedRules.{TypedRule}
+use Rattle.isle_rules.specs.Signatures.{by_rules, external_constructor, declared_form, Signature, Declared}
+use Rattle.isle_rules.specs.Definitions.{IsAmong, as_declaration, as_extractor, as_external, as_converter, declarations, rules_in}
+use Rattle.isle_rules.specs.Definitions.{converters_in, as_external_constructor, as_external_extractor}
+use Rattle.isle_rules.specs.Definitions.{root_name, roots_of, is_among, function_for, constructor_for, template_for, external_extractor_for, first_of}
+use Rattle.isle_rules.specs.Definitions.{extractor_for, flags_in, IsDeclaration, AreTerms, IsConversion, IsRuleOf, TermEnvironment, declared_by}
+use Rattle.isle_rules.specs.Definitions.{MakesTerms}
+use Rattle.isle_rules.specs.Elaboration.{ElaboratesRule}
+use Rattle.isle_rules.proofs.AmongNames.{member_is_among, among_is_member}
+use Rattle.isle_rules.proofs.Zipped.{zipped_back}
+use Rattle.isle_rules.proofs.OneTermEnvironment.{zipped_one, one_list_of_terms, one_conversion}
+use Rattle.isle_rules.proofs.RuleLaws.{one_rule}
 use Rattle.isle_meaning.specs.Laws.Order.{OrderMeansNothing, others_in, AreReordered}
 use Rattle.isle_meaning.proofs.Spelling.Meanings.{AreLike, nameless, like_means}
 

@@ -3,16 +3,16 @@ use Rattle.std.proofs.Common.{◌≡◌, ◌⊎◌, inl, inr, ℕ, zero, suc, �
 use Rattle.std.specs.Prelude.{ℤ, Bool}
 use Rattle.std.specs.Option.{option_map}
 use Rattle.std.proofs.lemmas.Option.{slice_get-map}
-use Rattle.isle_syntax.specs.Trees.PatternTree.{PatternTree, PatternTrees, pattern_var, pattern_bind, pattern_bool, pattern_int, pattern_prim}
-use Rattle.isle_syntax.specs.Trees.PatternTree.{pattern_term, pattern_wildcard, pattern_and, pattern_macro_arg, no_patterns, more_patterns}
-use Rattle.isle_syntax.specs.Trees.Templates.{filled, all_filled, more_given}
-use Rattle.isle_syntax.specs.Trees.WithoutPos.{no_pos, ident_without_pos, pattern_tree_without_pos, pattern_trees_without_pos}
+use Rattle.isle_ast.specs.Trees.PatternTree.{PatternTree, PatternTrees, pattern_var, pattern_bind, pattern_bool, pattern_int, pattern_prim}
+use Rattle.isle_ast.specs.Trees.PatternTree.{pattern_term, pattern_wildcard, pattern_and, pattern_macro_arg, no_patterns, more_patterns}
+use Rattle.isle_ast.specs.Trees.Templates.{filled, all_filled, more_given}
+use Rattle.isle_ast.specs.Trees.WithoutPos.{no_pos, ident_without_pos, pattern_tree_without_pos, pattern_trees_without_pos}
 use Rattle.isle_types.proofs.Zipped.{mapped_at}
 use Rattle.isle_types.specs.Environment.{Environment, NamedType, TypeShape, primitive, enum, struct}
-use Rattle.isle_terms.specs.TypedRules.{TypedPattern, TypedPatterns}
-use Rattle.isle_terms.specs.Signatures.{Signature, Declared, put_in_for, Converts, has_extractor_form}
-use Rattle.isle_terms.specs.Elaboration.{IsLiteralOf, of_integer, of_primitive, State, counted, pattern_count, listed, each_at, PatternJudgement}
-use Rattle.isle_terms.specs.Elaboration.{EachPattern, TakesApart, Extracts, ConvertsPattern, PatternNode, Elaborates}
+use Rattle.isle_rules.specs.TypedRules.{TypedPattern, TypedPatterns}
+use Rattle.isle_rules.specs.Signatures.{Signature, Declared, put_in_for, Converts, has_extractor_form}
+use Rattle.isle_rules.specs.Elaboration.{IsLiteralOf, of_integer, of_primitive, State, counted, pattern_count, listed, each_at, PatternJudgement}
+use Rattle.isle_rules.specs.Elaboration.{EachPattern, TakesApart, Extracts, ConvertsPattern, PatternNode, Elaborates}
 use Rattle.isle_meaning.proofs.Spelling.Bare.{bare, bare_types, bare_type, bare_shape, bare_term, term_named_bare, there_bare, signature_bare}
 use Rattle.isle_meaning.proofs.Spelling.Bare.{has_extractor_bare, put_in_bare, unmapped}
 

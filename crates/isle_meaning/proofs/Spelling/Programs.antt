@@ -7,9 +7,9 @@ use Rattle.std.proofs.lemmas.Option.{slice_get-map}
 use Rattle.isle_types.specs.IntTypes.{builtin_names, builtin_types}
 use Rattle.isle_types.specs.Names.{position_of}
 use Rattle.isle_types.specs.Environment.{Environment, NamedType, NamedVariant, TypeShape, primitive, enum, struct}
-use Rattle.isle_terms.specs.TypedRules.{TypedRule}
-use Rattle.isle_terms.specs.Signatures.{by_template, external_extractor, TermForm, variant_form, struct_form, declared_form, Signature, flags_of}
-use Rattle.isle_terms.specs.Definitions.{TermEnvironment, declared_by, names_of_terms}
+use Rattle.isle_rules.specs.TypedRules.{TypedRule}
+use Rattle.isle_rules.specs.Signatures.{by_template, external_extractor, TermForm, variant_form, struct_form, declared_form, Signature, flags_of}
+use Rattle.isle_rules.specs.Definitions.{TermEnvironment, declared_by, names_of_terms}
 use Rattle.isle_meaning.specs.Facts.{shape_of_form, never_fails, no_term, type_shape, fields_of_variant, variant_types, struct_types, facts_of}
 use Rattle.isle_meaning.specs.ValueTypes.{TypeKind, no_kind}
 use Rattle.isle_meaning.specs.DefinedPrograms.{builtin_kind, shape_kind, kinds_in, data_of_form, data_of, data_shape, signature_named, values_in}
@@ -33,7 +33,8 @@ never_bare (declared_form flags constructor (Some (by_template template))) = ref
 never_bare (declared_form flags constructor (Some (external_extractor function infallible pos))) = refl
 
 -- the term of a number
-term_bare : (terms : List Signature) (t : ℕ) → unwrap_or (slice_get (map bare_term terms) t) no_term ≡ bare_term (unwrap_or (slice_get terms t) no_term)
+term_bare : (terms : List Signature) (t : ℕ) → unwrap_or (slice_get (map bare_term terms) t) no_term ≡ bare_term
+    (unwrap_or (slice_get terms t) no_term)
 term_bare terms t = ap (λ (o : Option Signature). unwrap_or o no_term) (slice_get-map bare_term terms t) ∙ by (slice_get terms t)
   where
     by : (o : Option Signature) → unwrap_or (option_map bare_term o) no_term ≡ bare_term (unwrap_or o no_term)
@@ -82,9 +83,12 @@ pub facts_bare : (types : Environment) (environment : TermEnvironment)
     → facts_of (declared_by (bare_types types) true (bare_terms environment)) ≡ facts_of (declared_by types true environment)
 facts_bare types environment =
     let at = term_bare environment.terms in
-    let shape : (t : ℕ) → _ ≡ _ = λ t. ap (λ (s : Signature). shape_of_form s.form) (at t) ∙ shape_of_bare (unwrap_or (slice_get environment.terms t) no_term).form in
-    let flags : (t : ℕ) → _ ≡ _ = λ t. ap (λ (s : Signature). flags_of s.form) (at t) ∙ flags_bare (unwrap_or (slice_get environment.terms t) no_term).form in
-    let never : (t : ℕ) → _ ≡ _ = λ t. ap (λ (s : Signature). never_fails s.form) (at t) ∙ never_bare (unwrap_or (slice_get environment.terms t) no_term).form in
+    let shape : (t : ℕ) → _ ≡ _ = λ t. ap (λ (s : Signature). shape_of_form s.form) (at t) ∙ shape_of_bare
+    (unwrap_or (slice_get environment.terms t) no_term).form in
+    let flags : (t : ℕ) → _ ≡ _ = λ t. ap (λ (s : Signature). flags_of s.form) (at t) ∙ flags_bare
+    (unwrap_or (slice_get environment.terms t) no_term).form in
+    let never : (t : ℕ) → _ ≡ _ = λ t. ap (λ (s : Signature). never_fails s.form) (at t) ∙ never_bare
+    (unwrap_or (slice_get environment.terms t) no_term).form in
     (λ i. record {
       shape = λ t. shape t i;
       pure = λ t. (flags t i).pure;
@@ -93,7 +97,8 @@ facts_bare types environment =
       infallible = λ t. never t i;
       inputs = λ t. (at t i).args;
       type_of = λ t. (at t i).ret;
-      variant_fields = λ ty place. (ap (λ (s : TypeShape). variant_types s place) (type_shape_bare types ty) ∙ variants_bare (type_shape types ty) place) i;
+      variant_fields = λ ty place. (ap (λ (s : TypeShape). variant_types s place) (type_shape_bare types ty) ∙ variants_bare
+          (type_shape types ty) place) i;
       struct_fields = λ ty. (ap struct_types (type_shape_bare types ty) ∙ structs_bare (type_shape types ty)) i;
       constant_type = λ name. (facts_of (declared_by types true environment)).constant_type name;
     })
@@ -107,7 +112,8 @@ kind_bare (struct members) = refl
 kinds_bare : (types : Environment) → kinds_in (bare_types types) ≡ kinds_in types
 kinds_bare types =
     ap (λ (l : List TypeKind). map builtin_kind builtin_types ++ l)
-    (map_same bare_type (λ (type : NamedType). shape_kind type.shape) (λ (type : NamedType). shape_kind type.shape) (λ t. kind_bare t.shape) types.types)
+    (map_same bare_type (λ (type : NamedType). shape_kind type.shape) (λ (type : NamedType). shape_kind type.shape)
+    (λ t. kind_bare t.shape) types.types)
 
 -- what is said of data
 named_bare : (terms : List Signature) (name : List ℕ) → signature_named (map bare_term terms) name ≡ option_map bare_term (signature_named terms name)
@@ -143,7 +149,8 @@ shape_named_bare (Some term) = shaped_bare term.form
 values_bare : (types : Environment) (terms : List Signature) → values_in (bare_types types) (map bare_term terms) ≡ values_in types terms
 values_bare types terms =
     let kinds = kinds_bare types in
-    let made : (name : List ℕ) → _ ≡ _ = λ name. ap (option_and_then data_of) (named_bare terms name) ∙ data_named_bare (signature_named terms name) in
+    let made : (name : List ℕ) → _ ≡ _ = λ name. ap (option_and_then data_of) (named_bare terms name) ∙ data_named_bare
+    (signature_named terms name) in
     let shape : (name : List ℕ) → _ ≡ _ = λ name. ap (option_and_then (λ (term : Signature). data_shape term.form)) (named_bare terms name)
     ∙ shape_named_bare (signature_named terms name) in
     (λ i. record {

@@ -1,21 +1,21 @@
 -- Positions decide nothing of what a rule stands for but its own.
 use Rattle.std.proofs.Common.{◌≡◌, ℕ, List, [], ◌∷◌, map, Option, None, Some, refl, sym, ◌∙◌, ap, subst}
 use Rattle.std.specs.Option.{option_map}
-use Rattle.isle_syntax.specs.declared.lexer.Pos.{Pos}
-use Rattle.isle_syntax.specs.declared.ast.Ident.{Ident}
-use Rattle.isle_syntax.specs.declared.ast.IfLet.{IfLet}
-use Rattle.isle_syntax.specs.declared.ast.Rule.{Rule}
-use Rattle.isle_syntax.specs.Trees.PatternTree.{PatternTree, PatternTrees, pattern_var, pattern_bind, pattern_bool, pattern_int, pattern_prim}
-use Rattle.isle_syntax.specs.Trees.PatternTree.{pattern_term, pattern_wildcard, pattern_and, pattern_macro_arg}
-use Rattle.isle_syntax.specs.Trees.PatternShape.{pattern_of}
-use Rattle.isle_syntax.specs.Trees.ExprTree.{ExprTree}
-use Rattle.isle_syntax.specs.Trees.ExprShape.{expr_of}
-use Rattle.isle_syntax.specs.Trees.WithoutPos.{no_pos, ident_without_pos, pattern_tree_without_pos, pattern_trees_without_pos}
-use Rattle.isle_syntax.specs.Trees.WithoutPos.{expr_without_pos, iflet_without_pos, rule_without_pos}
+use Rattle.isle_ast.specs.declared.pos.Pos.{Pos}
+use Rattle.isle_ast.specs.declared.ast.Ident.{Ident}
+use Rattle.isle_ast.specs.declared.ast.IfLet.{IfLet}
+use Rattle.isle_ast.specs.declared.ast.Rule.{Rule}
+use Rattle.isle_ast.specs.Trees.PatternTree.{PatternTree, PatternTrees, pattern_var, pattern_bind, pattern_bool, pattern_int, pattern_prim}
+use Rattle.isle_ast.specs.Trees.PatternTree.{pattern_term, pattern_wildcard, pattern_and, pattern_macro_arg}
+use Rattle.isle_ast.specs.Trees.PatternShape.{pattern_of}
+use Rattle.isle_ast.specs.Trees.ExprTree.{ExprTree}
+use Rattle.isle_ast.specs.Trees.ExprShape.{expr_of}
+use Rattle.isle_ast.specs.Trees.WithoutPos.{no_pos, ident_without_pos, pattern_tree_without_pos, pattern_trees_without_pos}
+use Rattle.isle_ast.specs.Trees.WithoutPos.{expr_without_pos, iflet_without_pos, rule_without_pos}
 use Rattle.isle_types.proofs.Zipped.{mapped_at}
-use Rattle.isle_terms.specs.TypedRules.{TypedIfLet, TypedRule, built_at}
-use Rattle.isle_terms.specs.Signatures.{Flags, Signature, Declared, TermForm, term_named, by_rules, variant_form, struct_form, declared_form}
-use Rattle.isle_terms.specs.Elaboration.{State, start, EachPattern, Elaborates, Builds, Conditions, ElaboratesRule}
+use Rattle.isle_rules.specs.TypedRules.{TypedIfLet, TypedRule, built_at}
+use Rattle.isle_rules.specs.Signatures.{Flags, Signature, Declared, TermForm, term_named, by_rules, variant_form, struct_form, declared_form}
+use Rattle.isle_rules.specs.Elaboration.{State, start, EachPattern, Elaborates, Builds, Conditions, ElaboratesRule}
 use Rattle.isle_meaning.specs.Laws.Spelling.{typed_rule_without_pos}
 use Rattle.isle_meaning.proofs.Spelling.Bare.{bare, bare_term, bare_form, bare_extractor, pattern_bare, expr_bare, term_named_bare, there_bare}
 use Rattle.isle_meaning.proofs.Spelling.Patterns.{pattern_there, pattern_back, all_patterns_there, all_patterns_back}
@@ -148,7 +148,8 @@ rule_back declared levels max tree typed h =
       shape = (shape.at, shape.is);
       root = sym (term_named_bare declared shape.sym.0) ∙ ap (term_named (bare declared)) shape.same_name ∙ h.root;
       known = there;
-      ruled = ruled_back term.form h.flags (subst (λ (t : Signature). (e : _) × (t.form ≡ declared_form h.flags (Some by_rules) e)) (sym same) h.ruled);
+      ruled = ruled_back term.form h.flags (subst (λ (t : Signature). (e : _) × (t.form ≡ declared_form h.flags (Some by_rules) e))
+          (sym same) h.ruled);
       unordered = h.unordered;
       left = all_patterns_back declared levels shape.own term.args _ typed.args h.matched
           (subst (λ (ts : PatternTrees). EachPattern (Elaborates (bare declared) levels) ts term.args start typed.args h.matched)

@@ -3,26 +3,26 @@ use Rattle.std.proofs.Common.{◌≡◌, ◌≤◌, ◌⊎◌, ℕ, List, ◌++�
 use Rattle.std.proofs.Common.{refl, sym, ◌∙◌, ap, subst}
 use Rattle.std.specs.List.{All, AllZip}
 use Rattle.std.specs.Option.{option_map}
-use Rattle.isle_syntax.specs.declared.ast.Ident.{Ident}
-use Rattle.isle_syntax.specs.declared.ast.Decl.{Decl as DeclTree}
-use Rattle.isle_syntax.specs.declared.ast.Rule.{Rule as RuleTree}
-use Rattle.isle_syntax.specs.declared.ast.Extractor.{Extractor as ExtractorTree}
-use Rattle.isle_syntax.specs.declared.ast.Converter.{Converter as ConverterTree}
-use Rattle.isle_syntax.specs.declared.ast.Def.{Def}
-use Rattle.isle_syntax.specs.Trees.PatternShape.{pattern_of}
-use Rattle.isle_syntax.specs.Trees.WithoutPos.{no_pos, ident_without_pos, decl_without_pos, rule_without_pos, extractor_without_pos}
-use Rattle.isle_syntax.specs.Trees.WithoutPos.{converter_without_pos, def_without_pos}
+use Rattle.isle_ast.specs.declared.ast.Ident.{Ident}
+use Rattle.isle_ast.specs.declared.ast.Decl.{Decl as DeclTree}
+use Rattle.isle_ast.specs.declared.ast.Rule.{Rule as RuleTree}
+use Rattle.isle_ast.specs.declared.ast.Extractor.{Extractor as ExtractorTree}
+use Rattle.isle_ast.specs.declared.ast.Converter.{Converter as ConverterTree}
+use Rattle.isle_ast.specs.declared.ast.Def.{Def}
+use Rattle.isle_ast.specs.Trees.PatternShape.{pattern_of}
+use Rattle.isle_ast.specs.Trees.WithoutPos.{no_pos, ident_without_pos, decl_without_pos, rule_without_pos, extractor_without_pos}
+use Rattle.isle_ast.specs.Trees.WithoutPos.{converter_without_pos, def_without_pos}
 use Rattle.isle_types.specs.IntTypes.{builtin_names}
 use Rattle.isle_types.specs.Names.{AreDistinct}
 use Rattle.isle_types.specs.Environment.{Environment}
 use Rattle.isle_types.proofs.Zipped.{mapped_at}
-use Rattle.isle_terms.specs.TypedRules.{TypedRule}
-use Rattle.isle_terms.specs.Signatures.{Flags, ExtractorForm, declared_form, Signature, Conversion, Declared}
-use Rattle.isle_terms.specs.Definitions.{IsAmong, ExternalExtractor, declarations, rules_in, extractors_in, converters_in, external_constructors}
-use Rattle.isle_terms.specs.Definitions.{external_extractors, constructor_for, extractor_for, flags_in, IsTypeNumber, IsDeclaration, terms_of_types}
-use Rattle.isle_terms.specs.Definitions.{names_of_terms, AreTerms, IsDeclared, IsTerm, term_names, ComesTo, at_once, further, KeepExtractorRules}
-use Rattle.isle_terms.specs.Definitions.{KeepConstructorRules, IsConversion, AreConversions, IsDefined, name_of, IsRuleOf}
-use Rattle.isle_terms.specs.Definitions.{TermEnvironment, declared_by, rule_names, MakesTerms}
+use Rattle.isle_rules.specs.TypedRules.{TypedRule}
+use Rattle.isle_rules.specs.Signatures.{Flags, ExtractorForm, declared_form, Signature, Conversion, Declared}
+use Rattle.isle_rules.specs.Definitions.{IsAmong, ExternalExtractor, declarations, rules_in, extractors_in, converters_in, external_constructors}
+use Rattle.isle_rules.specs.Definitions.{external_extractors, constructor_for, extractor_for, flags_in, IsTypeNumber, IsDeclaration, terms_of_types}
+use Rattle.isle_rules.specs.Definitions.{names_of_terms, AreTerms, IsDeclared, IsTerm, term_names, ComesTo, at_once, further, KeepExtractorRules}
+use Rattle.isle_rules.specs.Definitions.{KeepConstructorRules, IsConversion, AreConversions, IsDefined, name_of, IsRuleOf}
+use Rattle.isle_rules.specs.Definitions.{TermEnvironment, declared_by, rule_names, MakesTerms}
 use Rattle.isle_meaning.specs.Laws.Spelling.{typed_rule_without_pos}
 use Rattle.isle_meaning.proofs.Spelling.Bare.{bare, bare_types, bare_form, bare_extractor, bare_term, bare_terms, pattern_bare, term_names_bare}
 use Rattle.isle_meaning.proofs.Spelling.Bare.{type_named_bare, there_bare}
@@ -65,7 +65,8 @@ module _ (defs : List Def) where
   each_declared P step h =
       subst (All P) (sym (declarations_bare defs)) (all_mapped P P decl_without_pos step (declarations defs) h)
 
-  each_declared_back : (P : DeclTree → Type 0) → ((d : DeclTree) → P (decl_without_pos d) → P d) → All P (declarations bared) → All P (declarations defs)
+  each_declared_back : (P : DeclTree → Type 0) → ((d : DeclTree) → P (decl_without_pos d) → P d) → All P (declarations bared)
+      → All P (declarations defs)
   each_declared_back P step h =
       all_unmapped P P decl_without_pos step (declarations defs) (subst (All P) (declarations_bare defs) h)
 
@@ -120,7 +121,8 @@ module _ (defs : List Def) where
     terms_there : (terms : List Signature) → AreTerms types defs terms → AreTerms (bare_types types) bared (map bare_term terms)
     terms_there terms h = record {
       declared = map bare_term h.declared;
-      each = subst (λ (l : List DeclTree). AllZip (IsDeclaration (bare_types types) bared) l (map bare_term h.declared)) (sym (declarations_bare defs))
+      each = subst (λ (l : List DeclTree). AllZip (IsDeclaration (bare_types types) bared) l (map bare_term h.declared))
+          (sym (declarations_bare defs))
           (zip_mapped (IsDeclaration types defs) (IsDeclaration (bare_types types) bared) decl_without_pos bare_term term_there (declarations defs)
           h.declared h.each);
       all =
@@ -135,7 +137,8 @@ module _ (defs : List Def) where
     terms_back terms h =
         let each : AllZip (IsDeclaration (bare_types types) bared) (map decl_without_pos (declarations defs)) h.declared =
         subst (λ (l : List DeclTree). AllZip (IsDeclaration (bare_types types) bared) l h.declared) (declarations_bare defs) h.each in
-        let own = zip_back (IsDeclaration types defs) (IsDeclaration (bare_types types) bared) decl_without_pos bare_term term_back (declarations defs)
+        let own = zip_back (IsDeclaration types defs) (IsDeclaration (bare_types types) bared) decl_without_pos bare_term term_back
+        (declarations defs)
         h.declared each in
         let same : map bare_term (own.0 ++ terms_of_types (length builtin_names) types.types) ≡ terms =
         sym (map_joined bare_term (own.0) (terms_of_types (length builtin_names) types.types))

@@ -14,7 +14,8 @@ pub filter_mapped : {A X Y : Type 0} (e : A → A) (f : A → Option Y) (k : A �
 filter_mapped e f k g same [] = refl
 filter_mapped {A} {X} {Y} e f k g same (a ∷ as') =
     let rest = filter_mapped e f k g same as' in
-    let first : filter_map f (map e (a ∷ as')) ≡ cons_option (option_map g (k a)) (map g (filter_map k as')) = (λ i. cons_option (same a i) (rest i)) in
+    let first : filter_map f (map e (a ∷ as')) ≡ cons_option (option_map g (k a)) (map g (filter_map k as')) =
+    (λ i. cons_option (same a i) (rest i)) in
     first ∙ picked g (k a) (filter_map k as')
 
 pub filter_same : {A Y : Type 0} (e : A → A) (f : A → Option Y) → ((a : A) → f (e a) ≡ f a) → (as' : List A)
@@ -28,12 +29,14 @@ map_same e f g same [] = refl
 map_same e f g same (a ∷ as') = (λ i. same a i ∷ map_same e f g same as' i)
 
 -- all of the items that are mapped
-pub all_mapped : {X Y : Type 0} (P : X → Type 0) (Q : Y → Type 0) (f : X → Y) → ((x : X) → P x → Q (f x)) → (xs : List X) → All P xs → All Q (map f xs)
+pub all_mapped : {X Y : Type 0} (P : X → Type 0) (Q : Y → Type 0) (f : X → Y) → ((x : X) → P x → Q (f x))
+    → (xs : List X) → All P xs → All Q (map f xs)
 all_mapped P Q f step [] each = All-nil Q
 all_mapped P Q f step (x ∷ xs) each =
     All-cons Q (f x) (map f xs) (step x (All-head P x xs each)) (all_mapped P Q f step xs (All-tail P x xs each))
 
-pub all_unmapped : {X Y : Type 0} (P : X → Type 0) (Q : Y → Type 0) (f : X → Y) → ((x : X) → Q (f x) → P x) → (xs : List X) → All Q (map f xs) → All P xs
+pub all_unmapped : {X Y : Type 0} (P : X → Type 0) (Q : Y → Type 0) (f : X → Y) → ((x : X) → Q (f x) → P x)
+    → (xs : List X) → All Q (map f xs) → All P xs
 all_unmapped P Q f step [] each = All-nil P
 all_unmapped P Q f step (x ∷ xs) each =
     All-cons P x xs (step x (All-head Q (f x) (map f xs) each)) (all_unmapped P Q f step xs (All-tail Q (f x) (map f xs) each))

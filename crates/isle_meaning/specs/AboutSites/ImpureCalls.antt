@@ -1,6 +1,6 @@
 -- The impure calls that a site has, and sites and if-lets without any.
 use Rattle.std.specs.Prelude.{◌≡◌, zero, suc, List, [], ◌∷◌}
-use Rattle.isle_terms.specs.TypedRules.{TypedIfLet}
+use Rattle.isle_rules.specs.TypedRules.{TypedIfLet}
 use Rattle.isle_meaning.specs.Facts.{TermFacts}
 use Rattle.isle_meaning.specs.Words.{steps_of}
 use Rattle.isle_meaning.specs.Sites.{Site, bool_site, int_site, prim_site, argument, extractor_call, constructor_call, iterator}

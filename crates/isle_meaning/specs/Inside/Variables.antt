@@ -1,6 +1,6 @@
 -- The types of a rule's variables.
 use Rattle.std.specs.Prelude.{ℕ, List, Option, Some, None, slice_get}
-use Rattle.isle_terms.specs.TypedRules.{Variable}
+use Rattle.isle_rules.specs.TypedRules.{Variable}
 
 -- the type of a variable; 0 where there is none
 abbrev pub type_in : Option Variable → ℕ

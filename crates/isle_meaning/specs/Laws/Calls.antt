@@ -1,10 +1,10 @@
 -- Laws of the meaning of a call at a depth, and of chains of asking.
 use Rattle.std.specs.Prelude.{◌≡◌, ◌≢◌, ◌⊎◌, ℕ, suc, Bool, true, false, List, [], ◌∷◌, ◌++◌, Option, Some, None, slice_get}
-use Rattle.isle_terms.specs.Values.{ValueTree}
-use Rattle.isle_terms.specs.TypedRules.{TypedExpr, built_var, built_bool, built_int, built_prim, built_term, built_let, TypedExprs}
-use Rattle.isle_terms.specs.TypedRules.{no_built, more_built, TypedBindings, no_typed_bindings, more_typed_bindings, TypedIfLet, TypedRule}
-use Rattle.isle_terms.specs.TypedRules.{TypedPattern, typed_bind, typed_var, typed_bool, typed_int, typed_prim, typed_term, typed_wildcard}
-use Rattle.isle_terms.specs.TypedRules.{typed_and, TypedPatterns, no_typed, more_typed}
+use Rattle.isle_rules.specs.Values.{ValueTree}
+use Rattle.isle_rules.specs.TypedRules.{TypedExpr, built_var, built_bool, built_int, built_prim, built_term, built_let, TypedExprs}
+use Rattle.isle_rules.specs.TypedRules.{no_built, more_built, TypedBindings, no_typed_bindings, more_typed_bindings, TypedIfLet, TypedRule}
+use Rattle.isle_rules.specs.TypedRules.{TypedPattern, typed_bind, typed_var, typed_bool, typed_int, typed_prim, typed_term, typed_wildcard}
+use Rattle.isle_rules.specs.TypedRules.{typed_and, TypedPatterns, no_typed, more_typed}
 use Rattle.isle_meaning.specs.Facts.{TermShape, variant_shape, struct_shape, declared_shape, TermFacts, facts_of}
 use Rattle.isle_meaning.specs.Got.{unknown}
 use Rattle.isle_meaning.specs.Values.{Value, Values}
@@ -12,9 +12,9 @@ use Rattle.isle_meaning.specs.ValueTypes.{IsOfType}
 use Rattle.isle_meaning.specs.GroundValues.{value_of, IsValueOf, AreValuesOf}
 use Rattle.isle_meaning.specs.Answers.{Completion}
 use Rattle.isle_meaning.specs.Faults.{Overlaps}
-use Rattle.isle_meaning.specs.Laws.Matching.{DemandOf}
-use Rattle.isle_terms.specs.Signatures.{Declared}
-use Rattle.isle_terms.specs.SoundRules.WellTyped.{IsTypedRule}
+use Rattle.isle_meaning.specs.Demands.{DemandOf}
+use Rattle.isle_rules.specs.Signatures.{Declared}
+use Rattle.isle_rules.specs.SoundRules.WellTyped.{IsTypedRule}
 use Rattle.isle_meaning.specs.Matching.{Matches}
 use Rattle.isle_meaning.specs.Sites.{Site}
 use Rattle.isle_meaning.specs.Worlds.{CheckedProgram, Answers, Event}

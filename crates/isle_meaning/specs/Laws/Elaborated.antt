@@ -1,12 +1,12 @@
 -- What holds of each rule that elaboration makes, whatever terms it asks.
 use Rattle.std.specs.Prelude.{◌≡◌, ℕ, Bool, true, false, List, Some, slice_get}
-use Rattle.isle_syntax.specs.declared.ast.Def.{Def}
+use Rattle.isle_ast.specs.declared.ast.Def.{Def}
 use Rattle.isle_types.specs.Environment.{Environment}
-use Rattle.isle_terms.specs.Definitions.{TermEnvironment, declared_by, MakesTerms}
-use Rattle.isle_terms.specs.Signatures.{Declared}
-use Rattle.isle_terms.specs.SoundRules.KeptScopes.{KeepsScopes}
-use Rattle.isle_terms.specs.SoundRules.WellTyped.{IsTypedRule}
-use Rattle.isle_terms.specs.TypedRules.{TypedRule}
+use Rattle.isle_rules.specs.Definitions.{TermEnvironment, declared_by, MakesTerms}
+use Rattle.isle_rules.specs.Signatures.{Declared}
+use Rattle.isle_rules.specs.SoundRules.KeptScopes.{KeepsScopes}
+use Rattle.isle_rules.specs.SoundRules.WellTyped.{IsTypedRule}
+use Rattle.isle_rules.specs.TypedRules.{TypedRule}
 use Rattle.isle_meaning.specs.Facts.{TermFacts, TakesFields, facts_of}
 use Rattle.isle_meaning.specs.Sites.{Site}
 use Rattle.isle_meaning.specs.Sorts.{AllSuit}
@@ -15,7 +15,7 @@ use Rattle.isle_meaning.specs.Derived.{Derived, FieldOf}
 use Rattle.isle_meaning.specs.Needs.{needs_of, IsNeeded}
 use Rattle.isle_meaning.specs.AboutSites.Kinds.{HasItsKind, IsOfItsKind}
 use Rattle.isle_meaning.specs.Elaborated.{IsElaborated, OpensItsMultiCalls, IfLetsHaveNoLet}
-use Rattle.isle_meaning.specs.Laws.Matching.{DemandOf}
+use Rattle.isle_meaning.specs.Demands.{DemandOf}
 
 -- The sites that a rule needs, its result, and the fields that its demands open are of their kinds, so that one value is taken of multi
 -- calls alone. What follows from its demands is of such sites and of their types, with as many fields as its type.

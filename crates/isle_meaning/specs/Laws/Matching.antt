@@ -1,15 +1,15 @@
 -- What a rule means, and what is derived from its demands.
 use Rattle.std.specs.Prelude.{◌≡◌, ◌<ℤ◌, ◌⊎◌, ◌↔◌, ℕ, ℤ, Bool, false, List, [], Option, Some, slice_get}
-use Rattle.isle_syntax.specs.declared.ast.Def.{Def}
+use Rattle.isle_ast.specs.declared.ast.Def.{Def}
 use Rattle.isle_types.specs.Environment.{Environment}
 use Rattle.isle_meaning.specs.Values.{Value, Values, count}
-use Rattle.isle_terms.specs.TypedRules.{TypedRule}
+use Rattle.isle_rules.specs.TypedRules.{TypedRule}
 use Rattle.isle_meaning.specs.Facts.{TermFacts, patterns, facts_of, TakesFields}
 use Rattle.isle_meaning.specs.Answers.{Completion, IsAllowed}
 use Rattle.isle_meaning.specs.Matching.{Matches}
 use Rattle.isle_meaning.specs.Held.{value}
 use Rattle.isle_meaning.specs.Numbered.{Row, Recorded, AreRecorded}
-use Rattle.isle_meaning.specs.Demands.{Constraint, Demand, Among, demands_of, vars_of, impure_of}
+use Rattle.isle_meaning.specs.Demands.{Constraint, Demand, Among, demands_of, vars_of, impure_of, DemandOf}
 use Rattle.isle_meaning.specs.Holds.{Holds, AllHold, AllHoldProper, IsReflexive, Respects}
 use Rattle.isle_meaning.specs.Derived.{Derived, Closed}
 use Rattle.isle_meaning.specs.Faults.{IsUnreachable, Differ, MayOverlap, IsFree, IsWithin, Shadows}
@@ -19,10 +19,10 @@ use Rattle.isle_meaning.specs.Sites.{site_of}
 use Rattle.isle_meaning.specs.Needs.{visit, no_log, needs_of, IsNeeded, FieldsAreNeeded}
 use Rattle.isle_meaning.specs.Tested.{IsTested, SpeaksOfTested}
 use Rattle.isle_meaning.specs.Scopes.{IsWellScopedRule, RuleTakesOne, Covers, scope_of}
-use Rattle.isle_terms.specs.Signatures.{Declared}
-use Rattle.isle_terms.specs.Definitions.{TermEnvironment, declared_by, MakesTerms}
-use Rattle.isle_terms.specs.SoundRules.WellTyped.{IsTypedRule}
-use Rattle.isle_terms.specs.SoundRules.KeptScopes.{KeepsScopes}
+use Rattle.isle_rules.specs.Signatures.{Declared}
+use Rattle.isle_rules.specs.Definitions.{TermEnvironment, declared_by, MakesTerms}
+use Rattle.isle_rules.specs.SoundRules.WellTyped.{IsTypedRule}
+use Rattle.isle_rules.specs.SoundRules.KeptScopes.{KeepsScopes}
 use Rattle.isle_meaning.specs.Typing.{RuleIsTyped}
 
 -- a rule of a term that takes these types, as elaboration makes it
@@ -31,10 +31,6 @@ pub record IsRuleOfTypes (facts : TermFacts) (tys : List ℕ) (rule : TypedRule)
   pub result_type : ℕ
   pub var_types : ℕ → ℕ
   pub typed : RuleIsTyped facts tys result_type var_types rule
-
--- what a rule demands
-abbrev pub DemandOf : TermFacts → TypedRule → Demand → Type 0
-DemandOf facts rule = Among (demands_of facts rule)
 
 -- these arguments and answers settle whether the rule matches
 pub record Settles (facts : TermFacts) (c : Completion) (args : Values) (rule : TypedRule) : Type 0 where

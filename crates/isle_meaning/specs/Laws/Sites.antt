@@ -1,6 +1,6 @@
 -- What sites are and hold, and what that says of what rules need, demand and do.
 use Rattle.std.specs.Prelude.{◌≡◌, ◌≢◌, ◌↔◌, ℕ, Bool, List, [], Option}
-use Rattle.isle_terms.specs.TypedRules.{TypedRule}
+use Rattle.isle_rules.specs.TypedRules.{TypedRule}
 use Rattle.isle_trees.specs.Answers.{HasValue}
 use Rattle.isle_meaning.specs.Got.{unknown, gives}
 use Rattle.isle_meaning.specs.Values.{Value, Values}
@@ -24,7 +24,8 @@ use Rattle.isle_meaning.specs.AboutSites.RuleCalls.{ItsCallsAreHad}
 use Rattle.isle_meaning.specs.AboutSites.Agreeing.{AgreeIfKnown, AgreeOnCalls, IsOpenCall}
 use Rattle.isle_meaning.specs.AboutSites.Making.{made_of_parts, HoldEach}
 use Rattle.isle_meaning.specs.AboutSites.RightSites.{RightOfSites}
-use Rattle.isle_meaning.specs.Laws.Matching.{IsRuleOfTypes, DemandOf}
+use Rattle.isle_meaning.specs.Laws.Matching.{IsRuleOfTypes}
+use Rattle.isle_meaning.specs.Demands.{DemandOf}
 
 -- ---- what sites hold
 

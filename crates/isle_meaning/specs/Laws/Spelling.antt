@@ -1,8 +1,8 @@
 -- Definitions and programs that differ in positions alone.
 use Rattle.std.specs.Prelude.{◌≡◌, ℕ, List, map, Option}
-use Rattle.isle_syntax.specs.declared.ast.Def.{Def}
-use Rattle.isle_syntax.specs.Trees.WithoutPos.{no_pos, def_without_pos}
-use Rattle.isle_terms.specs.TypedRules.{TypedRule}
+use Rattle.isle_ast.specs.declared.ast.Def.{Def}
+use Rattle.isle_ast.specs.Trees.WithoutPos.{no_pos, def_without_pos}
+use Rattle.isle_rules.specs.TypedRules.{TypedRule}
 use Rattle.isle_meaning.specs.Values.{Value, Values}
 use Rattle.isle_meaning.specs.Worlds.{CheckedProgram, Answers, Event}
 use Rattle.isle_meaning.specs.Calls.{Means}

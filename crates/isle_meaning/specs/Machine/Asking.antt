@@ -1,12 +1,12 @@
 -- Which call a machine's run asks.
 use Rattle.std.specs.Prelude.{◌≡◌, ◌⊎◌, ℕ, List}
-use Rattle.isle_terms.specs.TypedRules.{TypedRule}
+use Rattle.isle_rules.specs.TypedRules.{TypedRule}
 use Rattle.isle_meaning.specs.Answers.{Completion}
 use Rattle.isle_meaning.specs.Asking.{Asked, AsksToFinish, IsCallOn, IsNeededCall, Links, EndsAt, asks_value}
 use Rattle.isle_meaning.specs.Calls.{Agrees, IsRuleAt, CoversAll, Means}
 use Rattle.isle_meaning.specs.Demands.{Demand, constrained, equal}
 use Rattle.isle_meaning.specs.Facts.{TermFacts}
-use Rattle.isle_meaning.specs.Laws.Matching.{DemandOf}
+use Rattle.isle_meaning.specs.Demands.{DemandOf}
 use Rattle.isle_meaning.specs.Outcomes.{Outcome, given, missing, ended}
 use Rattle.isle_meaning.specs.Sites.{Site}
 use Rattle.isle_meaning.specs.Subtrees.{IsSubtree}

@@ -5,7 +5,7 @@ use Rattle.isle_meaning.specs.Got.{gives}
 use Rattle.isle_meaning.specs.Values.{Values}
 use Rattle.isle_meaning.specs.Words.{set}
 use Rattle.isle_meaning.specs.Held.{Held}
-use Rattle.isle_meaning.specs.Holds.{Meets}
+use Rattle.isle_meaning.specs.Held.{Meets}
 use Rattle.isle_meaning.specs.Numbered.{Row, bool_row, int_row, prim_row, argument_row, extractor_row, constructor_row, iterator_row}
 use Rattle.isle_meaning.specs.Numbered.{make_variant_row, match_variant_row, make_struct_row, extract_struct_row, make_some_row, match_some_row}
 use Rattle.isle_meaning.specs.Numbered.{match_tuple_row}

@@ -1,7 +1,7 @@
 -- A program of one term with one rule, (f true) is true, and the term's tree: where its argument is `true` it answers `true`, else nothing.
 use Rattle.std.specs.Prelude.{◌==◌, pos, Bool, true, false, [], ◌∷◌, None}
 use Rattle.isle_trees.specs.Tree.{done, «match», give, no_arm, arm}
-use Rattle.isle_terms.specs.TypedRules.{TypedRule, typed_bool, no_typed, more_typed, built_bool}
+use Rattle.isle_rules.specs.TypedRules.{TypedRule, typed_bool, no_typed, more_typed, built_bool}
 use Rattle.isle_meaning.specs.Demands.{bool_constraint}
 use Rattle.isle_meaning.specs.Facts.{TermFacts, declared_shape}
 use Rattle.isle_meaning.specs.Numbered.{bool_row, argument_row, make_some_row}

@@ -5,7 +5,7 @@ use Rattle.isle_trees.specs.Builds.{IsTreeOf}
 use Rattle.isle_trees.specs.Premises.{Respects, KnowsAsked}
 use Rattle.isle_trees.specs.Reads.{IsListed, IsClosed}
 use Rattle.isle_trees.specs.Rules.{Rules, Source, Want, has, Elem, rights}
-use Rattle.isle_terms.specs.TypedRules.{TypedRule}
+use Rattle.isle_rules.specs.TypedRules.{TypedRule}
 use Rattle.isle_meaning.specs.AboutSites.Kinds.{IsKinded}
 use Rattle.isle_meaning.specs.Answers.{Completion, IsAllowed}
 use Rattle.isle_meaning.specs.Calls.{HasTypedAnswers, IsRuleAt, CoversAll}
@@ -16,8 +16,8 @@ use Rattle.isle_meaning.specs.Faults.{IsUnreachable}
 use Rattle.isle_meaning.specs.Got.{Got, gives}
 use Rattle.isle_meaning.specs.GroundValues.{IsValueOf, AreValuesOf}
 use Rattle.isle_meaning.specs.Held.{Held, held_value, held_outputs, held_none, held_some, value}
-use Rattle.isle_meaning.specs.Holds.{Meets}
-use Rattle.isle_meaning.specs.Laws.Matching.{DemandOf}
+use Rattle.isle_meaning.specs.Held.{Meets}
+use Rattle.isle_meaning.specs.Demands.{DemandOf}
 use Rattle.isle_meaning.specs.Machine.Runs.{TermTree, made_of, is_computed}
 use Rattle.isle_meaning.specs.Numbered.{Row, bool_row, int_row, prim_row, argument_row, extractor_row, constructor_row, iterator_row}
 use Rattle.isle_meaning.specs.Numbered.{make_variant_row, match_variant_row, make_struct_row, extract_struct_row, make_some_row}

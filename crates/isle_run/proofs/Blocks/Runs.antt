@@ -17,22 +17,24 @@ use Rattle.isle_meaning.proofs.Machine.Meant.{machine_run_meant}
 use Rattle.isle_meaning.proofs.Machine.One.{machine_runs_are_one}
 use Rattle.isle_meaning.proofs.Machine.Short.{machine_run_short}
 use Rattle.isle_meaning.proofs.Machine.Staying.{machine_runs_stay}
-use Rattle.isle_run.specs.TreeCalls.{term_trees}
+use Rattle.isle_machine.specs.TreeCalls.{term_trees}
 use Rattle.isle_run.specs.Laws.Runs.{RunsByTreesSaySo, RunsByRulesSaySo, RunsByTreesAreOne, DeeperRunsByTreesAreOne, RunsByRulesAreOne}
 use Rattle.isle_run.specs.Laws.Runs.{DeeperRunsByRulesAreOne}
-use Rattle.isle_run.specs.Meanings.{checked, may_run}
-use Rattle.isle_run.proofs.Blocks.Grown.{compiled_grown}
-use Rattle.isle_run.proofs.SoundPrograms.Known.{sound_of}
+use Rattle.isle_program.specs.Meanings.{checked, may_run}
+use Rattle.isle_machine.proofs.Blocks.Grown.{compiled_grown}
+use Rattle.isle_program.proofs.SoundPrograms.Known.{sound_of}
 
 pub runs_by_trees_say_so : RunsByTreesSaySo
 runs_by_trees_say_so program compiled w n t args steps made r may typed run =
     let grown = compiled_grown program compiled in record {
-      meant = machine_run_meant (checked program) w (may_run program) (sound_of program).sound (term_trees program) grown.trees n t args steps made r may
+      meant = machine_run_meant (checked program) w (may_run program) (sound_of program).sound
+          (term_trees program) grown.trees n t args steps made r may
           typed run;
       asked = asked r run;
       few = subst (λ (m : ℕ). steps ≤ m) (grown.few t may)
           (machine_run_short (checked program) w (may_run program) (term_trees program) grown.trees n t args steps made r may run);
-      pure = λ pure. pure_run_silent (checked program) w (may_run program) (term_trees program) (sound_of program).sound grown.trees n t args made may pure
+      pure = λ pure. pure_run_silent (checked program) w (may_run program) (term_trees program)
+          (sound_of program).sound grown.trees n t args made may pure
           (machine_begins (checked program) w (term_trees program) n t args steps made r run);
     }
   where

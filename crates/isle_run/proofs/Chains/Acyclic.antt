@@ -8,22 +8,22 @@ use Rattle.std.proofs.lemmas.List.Elements.{Contains-append_left, Contains-appen
 use Rattle.std.proofs.lemmas.Map.Views.{Contains-from_any}
 use Rattle.std.proofs.lemmas.Option.{none-some, same_Some, slice_get_within, get_or_from_slice_get}
 use Rattle.isle_types.specs.TypeTables.{TypeTables}
-use Rattle.isle_terms.specs.TypedRules.{TypedExpr, built_var, built_bool, built_int, built_prim, built_term, built_let, TypedExprs}
-use Rattle.isle_terms.specs.TypedRules.{no_built, more_built, TypedBindings, no_typed_bindings, more_typed_bindings, TypedRule}
-use Rattle.isle_terms.specs.declared.rules.IfLet.{IfLet}
-use Rattle.isle_terms.specs.declared.rules.Rule.{Rule}
-use Rattle.isle_terms.specs.Shown.ShownRules.{built_shown, iflet_shown}
-use Rattle.isle_terms.specs.Shown.TermTables.{TermTables}
+use Rattle.isle_rules.specs.TypedRules.{TypedExpr, built_var, built_bool, built_int, built_prim, built_term, built_let, TypedExprs}
+use Rattle.isle_rules.specs.TypedRules.{no_built, more_built, TypedBindings, no_typed_bindings, more_typed_bindings, TypedRule}
+use Rattle.isle_rules.specs.declared.rules.IfLet.{IfLet}
+use Rattle.isle_rules.specs.declared.rules.Rule.{Rule}
+use Rattle.isle_rules.specs.Shown.ShownRules.{built_shown, iflet_shown}
+use Rattle.isle_rules.specs.Shown.TermTables.{TermTables}
 use Rattle.isle_meaning.specs.Facts.{TermFacts}
 use Rattle.isle_meaning.specs.Reaching.{IsCalledIn, IsCalledInOne, IsCalledInBindings, IsCalledInIfLets, Calls, Reaches, at_once, onwards}
 use Rattle.isle_meaning.proofs.Calls.Spending.{no_cycles_none_spent}
-use Rattle.isle_run.specs.Facts.Asked.{term_number}
-use Rattle.isle_run.specs.Facts.Reach as tables
-use Rattle.isle_run.specs.Facts.Reach.{terms_in, terms_in_all, terms_in_bound, terms_in_iflets, terms_made_by}
+use Rattle.isle_program.specs.Facts.Asked.{term_number}
+use Rattle.isle_program.specs.Facts.Reach as tables
+use Rattle.isle_program.specs.Facts.Reach.{terms_in, terms_in_all, terms_in_bound, terms_in_iflets, terms_made_by}
 use Rattle.isle_run.specs.Laws.Compiled.{AcyclicProgramsAreNotSpent}
-use Rattle.isle_run.specs.Meanings.{checked}
-use Rattle.isle_run.specs.Programs.{types_of, terms_of}
-use Rattle.isle_run.specs.Tables.{rule_shown, checked_by}
+use Rattle.isle_program.specs.Meanings.{checked}
+use Rattle.isle_program.specs.Programs.{types_of, terms_of}
+use Rattle.isle_program.specs.Tables.{rule_shown, checked_by}
 
 -- an item of mapped items
 mapped : {X Y : Type 0} (f : X → Y) (xs : List X) (k : ℕ) (y : Y) → slice_get (map f xs) k ≡ Some y

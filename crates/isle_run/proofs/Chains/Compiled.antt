@@ -4,38 +4,38 @@ use Rattle.std.specs.Prelude.{unwrap_or}
 use Rattle.std.specs.Option.{option_map, option_map_or}
 use Rattle.std.proofs.lemmas.Bool.{or_parts}
 use Rattle.std.proofs.lemmas.Option.{slice_get-map}
-use Rattle.isle_syntax.specs.Positions.Files.{SourceFile}
+use Rattle.isle_ast.specs.Positions.Files.{SourceFile}
 use Rattle.isle_types.proofs.Zipped.{all_at}
-use Rattle.isle_terms.specs.declared.terms.Term.{Term}
-use Rattle.isle_terms.specs.declared.terms.TermKind.{TermKind}
-use Rattle.isle_terms.specs.declared.terms.TermKind.TheVariants.{EnumVariant, Struct, Decl}
-use Rattle.isle_terms.specs.Definitions.{declared_by}
-use Rattle.isle_terms.specs.Signatures.{Signature, flags_of}
-use Rattle.isle_terms.specs.Shown.ShownTerms.{term_shown, form_shown}
-use Rattle.isle_terms.specs.SoundRules.WellTyped.{IsTypedRule}
-use Rattle.isle_terms.specs.TypedRules.{TypedRule}
+use Rattle.isle_rules.specs.declared.terms.Term.{Term}
+use Rattle.isle_rules.specs.declared.terms.TermKind.{TermKind}
+use Rattle.isle_rules.specs.declared.terms.TermKind.TheVariants.{EnumVariant, Struct, Decl}
+use Rattle.isle_rules.specs.Definitions.{declared_by}
+use Rattle.isle_rules.specs.Signatures.{Signature, flags_of}
+use Rattle.isle_rules.specs.Shown.ShownTerms.{term_shown, form_shown}
+use Rattle.isle_rules.specs.SoundRules.WellTyped.{IsTypedRule}
+use Rattle.isle_rules.specs.TypedRules.{TypedRule}
 use Rattle.isle_meaning.specs.Demands.{Demand}
 use Rattle.isle_meaning.specs.Facts.{TermFacts, no_term}
 use Rattle.isle_meaning.specs.Faults.{MayOverlap, Overlaps}
-use Rattle.isle_meaning.specs.Laws.Matching.{DemandOf}
+use Rattle.isle_meaning.specs.Demands.{DemandOf}
 use Rattle.isle_meaning.specs.Values.{Values}
 use Rattle.isle_meaning.specs.Answers.{Completion}
 use Rattle.isle_meaning.specs.Worlds.{CheckedProgram, Answers}
 use Rattle.isle_meaning.specs.Calls.{Agrees, CoversAll, Means}
 use Rattle.isle_meaning.specs.SoundPrograms.{IsSound}
-use Rattle.isle_terms.proofs.Sound.RuleTypes.{rules_typed}
-use Rattle.isle_terms.specs.Shown.TermTables.{is_multi_kind, is_multi_in}
+use Rattle.isle_rules.proofs.Sound.RuleTypes.{rules_typed}
+use Rattle.isle_rules.specs.Shown.TermTables.{is_multi_kind, is_multi_in}
 use Rattle.isle_blocks.specs.RuleFaults.{AreFaultless, MayMatch}
-use Rattle.isle_run.specs.declared.program.Program.{Program}
+use Rattle.isle_program.specs.declared.program.Program.{Program}
 use Rattle.isle_meaning.specs.Laws.Calls.{HasNoOverlaps, HasNoTies, CallsOnly, FailsWherePartial, ExprCalls, Surely}
-use Rattle.isle_run.specs.Compiled.{IsProgramOf, max_levels, max_nodes}
+use Rattle.isle_program.specs.Compiled.{IsProgramOf, max_levels, max_nodes}
 use Rattle.isle_run.specs.Laws.Compiled.{every_term, FaultlessRulesHaveNoTies, CompiledMeaningsAreOne, PremisesCanBeMet}
-use Rattle.isle_run.specs.Meanings.{checked}
-use Rattle.isle_run.specs.Programs.{types_of, terms_of}
+use Rattle.isle_program.specs.Meanings.{checked}
+use Rattle.isle_program.specs.Programs.{types_of, terms_of}
 use Rattle.isle_meaning.specs.DefinedPrograms.{defined_program}
 use Rattle.isle_run.specs.Laws.Sound.{RunsIn}
-use Rattle.isle_run.proofs.SoundPrograms.Whole.{compiled_programs_are_sound}
-use Rattle.isle_run.specs.Facts.Inhabited.{AreAllInhabited}
+use Rattle.isle_run.proofs.Chains.Sound.{compiled_programs_are_sound}
+use Rattle.isle_program.specs.Facts.Inhabited.{AreAllInhabited}
 use Rattle.isle_meaning.proofs.Chains.Always.{meanings_are, covering_at}
 use Rattle.isle_meaning.proofs.Chains.Growing.{open_completion, open_agrees, GivesGood}
 use Rattle.isle_meaning.proofs.Chains.Surely.{surely, follows}

@@ -7,8 +7,8 @@ use Rattle.std.specs.List.{AllZip}
 use Rattle.std.proofs.lemmas.Int.{ints, fits_signed_from_abs}
 use Rattle.std.proofs.lemmas.List.{length-append, length-map}
 use Rattle.std.proofs.lemmas.Option.{same_Some, none-some, slice_get_within, slice_get-get_or}
-use Rattle.isle_syntax.specs.Positions.Files.{SourceFile}
-use Rattle.isle_syntax.specs.declared.ast.Ident.{Ident}
+use Rattle.isle_ast.specs.Positions.Files.{SourceFile}
+use Rattle.isle_ast.specs.declared.ast.Ident.{Ident}
 use Rattle.isle_types.specs.declared.ids.TypeId.{TypeId}
 use Rattle.isle_types.specs.declared.types.Variant.{Variant}
 use Rattle.isle_types.specs.declared.types.IntType.{IntType}
@@ -23,25 +23,25 @@ use Rattle.isle_types.specs.TypeEnvs.{Shows, IsShown, IsShownShape, IsShownVaria
 use Rattle.isle_types.specs.Types.{field_types}
 use Rattle.isle_types.proofs.NamePlaces.{place_found}
 use Rattle.isle_types.proofs.Zipped.{mapped_at}
-use Rattle.isle_terms.specs.Definitions.{declared_by, IsDeclaration, IsTypeNumber, declarations, terms_of_types, terms_of_shape, variant_terms}
-use Rattle.isle_terms.specs.Elaboration.{type_named}
-use Rattle.isle_terms.specs.Signatures.{Signature, Declared, variant_form, struct_form}
-use Rattle.isle_terms.specs.Shown.ShownTerms.{numbers_of}
-use Rattle.isle_terms.specs.Values.{ValueTree, ValueTrees, bool_tree, int_tree, opaque_tree}
-use Rattle.isle_terms.specs.Values.{data_tree, no_trees, more_trees}
+use Rattle.isle_rules.specs.Definitions.{declared_by, IsDeclaration, IsTypeNumber, declarations, terms_of_types, terms_of_shape, variant_terms}
+use Rattle.isle_rules.specs.Elaboration.{type_named}
+use Rattle.isle_rules.specs.Signatures.{Signature, Declared, variant_form, struct_form}
+use Rattle.isle_rules.specs.Shown.ShownTerms.{numbers_of}
+use Rattle.isle_rules.specs.Values.{ValueTree, ValueTrees, bool_tree, int_tree, opaque_tree}
+use Rattle.isle_rules.specs.Values.{data_tree, no_trees, more_trees}
 use Rattle.isle_meaning.specs.Facts.{TermFacts, TermShape, variant_shape, struct_shape, no_term, shape_of_form, never_fails}
 use Rattle.isle_meaning.specs.GroundValues.{value_of, values_of}
 use Rattle.isle_meaning.specs.ValueTypes.{IsIntOf, IsOfType, AreOfTypes}
-use Rattle.isle_run.specs.declared.program.Program.{Program}
-use Rattle.isle_run.specs.Facts.Inhabited.{fields_for, IsInhabited, AreInhabited, has_value, no_values, more_values, AreAllInhabited}
+use Rattle.isle_program.specs.declared.program.Program.{Program}
+use Rattle.isle_program.specs.Facts.Inhabited.{fields_for, IsInhabited, AreInhabited, has_value, no_values, more_values, AreAllInhabited}
 use Rattle.isle_meaning.specs.Worlds.{CheckedProgram}
-use Rattle.isle_run.specs.Meanings.{checked, fields_of_variant, variant_types, struct_types}
-use Rattle.isle_run.specs.Programs.{types_of, value_facts, kind_of_type}
+use Rattle.isle_program.specs.Meanings.{checked, fields_of_variant, variant_types, struct_types}
+use Rattle.isle_program.specs.Programs.{types_of, value_facts, kind_of_type}
 use Rattle.isle_meaning.specs.SoundPrograms.{HasSoundData}
-use Rattle.isle_run.proofs.SoundPrograms.TypeTables.{type_known}
-use Rattle.isle_run.proofs.SoundPrograms.Whole.{compiled_programs_are_sound}
+use Rattle.isle_program.proofs.SoundPrograms.TypeTables.{type_known}
+use Rattle.isle_run.proofs.Chains.Sound.{compiled_programs_are_sound}
 use Rattle.isle_meaning.specs.DefinedPrograms.{defined_program}
-use Rattle.isle_run.specs.Compiled.{IsProgramOf}
+use Rattle.isle_program.specs.Compiled.{IsProgramOf}
 use Rattle.isle_run.specs.Laws.Compiled.{every_term, InhabitedProgramsHaveValues}
 use Rattle.isle_meaning.specs.Laws.Calls.{HasValues}
 

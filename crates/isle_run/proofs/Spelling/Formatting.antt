@@ -1,15 +1,15 @@
 -- Formatted texts spell definitions that differ in positions alone.
 use Rattle.std.proofs.Common.{◌≡◌, ℕ, suc, List, [], ◌∷◌, ◌++◌, map, refl, sym, ◌∙◌, ap}
-use Rattle.isle_syntax.specs.declared.ast.Def.{Def}
-use Rattle.isle_syntax.specs.Positions.Files.{SourceFile}
-use Rattle.isle_syntax.specs.Trees.WithoutPos.{def_without_pos}
+use Rattle.isle_ast.specs.declared.ast.Def.{Def}
+use Rattle.isle_ast.specs.Positions.Files.{SourceFile}
+use Rattle.isle_ast.specs.Trees.WithoutPos.{def_without_pos}
 use Rattle.isle_syntax.proofs.Productions.OneReading.{whole_reading, spells_of}
 use Rattle.isle_layout.proofs.ReadsBack.Prints.{print_reads_back}
 use Rattle.isle_layout.proofs.ReadsBack.Formatted.{spelt_is_writable}
-use Rattle.isle_run.specs.Compiled.{AreSpelt}
+use Rattle.isle_program.specs.Compiled.{AreSpelt}
 use Rattle.isle_meaning.specs.Laws.Spelling.{AreAlike}
 use Rattle.isle_run.specs.Laws.Formatting.{AreFormatted, FormattedTextsAreAlike}
-use Rattle.isle_run.proofs.Compiling.OneAcceptance.{spelt_once}
+use Rattle.isle_program.proofs.Compiling.OneAcceptance.{spelt_once}
 use Rattle.isle_meaning.proofs.Spelling.Lists.{map_joined}
 
 -- texts whose numbers count from one on

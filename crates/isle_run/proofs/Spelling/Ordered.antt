@@ -2,16 +2,16 @@
 use Rattle.std.proofs.Common.{◌≡◌, ℕ, map, true, sym, ap, subst}
 use Rattle.std.specs.Prelude.{◌==◌}
 use Rattle.std.specs.List.{list_any}
-use Rattle.isle_syntax.specs.Trees.WithoutPos.{def_without_pos}
+use Rattle.isle_ast.specs.Trees.WithoutPos.{def_without_pos}
 use Rattle.isle_types.specs.Environment.{Environment}
 use Rattle.isle_types.proofs.OneEnvironment.{one_environment}
-use Rattle.isle_terms.specs.TypedRules.{TypedRule}
-use Rattle.isle_terms.specs.Definitions.{MakesTerms}
+use Rattle.isle_rules.specs.TypedRules.{TypedRule}
+use Rattle.isle_rules.specs.Definitions.{MakesTerms}
 use Rattle.isle_meaning.specs.Facts.{facts_of}
 use Rattle.isle_meaning.specs.Calls.{Means}
-use Rattle.isle_run.specs.Compiled.{max_levels, max_nodes}
+use Rattle.isle_program.specs.Compiled.{max_levels, max_nodes}
 use Rattle.isle_meaning.specs.DefinedPrograms.{defined_program, values_in}
-use Rattle.isle_run.specs.Meanings.{checked}
+use Rattle.isle_program.specs.Meanings.{checked}
 use Rattle.isle_run.specs.Laws.Order.{OrderOfTextsMeansNothing}
 use Rattle.isle_meaning.proofs.Spelling.Bare.{bare_types, bare_terms}
 use Rattle.isle_meaning.proofs.Spelling.Meanings.{like_means, alike_means}

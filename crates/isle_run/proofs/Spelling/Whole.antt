@@ -1,23 +1,23 @@
 -- How definitions are spelt means nothing.
 use Rattle.std.proofs.Common.{◌≡◌, List, map, Bool, true, sym, ◌∙◌, ap, subst, subst₂}
-use Rattle.isle_syntax.specs.declared.ast.Def.{Def}
-use Rattle.isle_syntax.specs.Positions.Files.{SourceFile}
-use Rattle.isle_syntax.specs.Trees.WithoutPos.{def_without_pos}
+use Rattle.isle_ast.specs.declared.ast.Def.{Def}
+use Rattle.isle_ast.specs.Positions.Files.{SourceFile}
+use Rattle.isle_ast.specs.Trees.WithoutPos.{def_without_pos}
 use Rattle.isle_types.specs.Environment.{Environment, Makes, AreWithinSizes}
 use Rattle.isle_types.proofs.OneEnvironment.{one_environment}
-use Rattle.isle_terms.specs.Definitions.{TermEnvironment, MakesTerms, declared_by}
+use Rattle.isle_rules.specs.Definitions.{TermEnvironment, MakesTerms, declared_by}
 use Rattle.isle_meaning.specs.Facts.{TermFacts, facts_of}
 use Rattle.isle_meaning.specs.Worlds.{CheckedProgram}
-use Rattle.isle_terms.proofs.OneTermEnvironment.{one_term_environment}
+use Rattle.isle_rules.proofs.OneTermEnvironment.{one_term_environment}
 use Rattle.isle_blocks.specs.RuleFaults.{AreFaultless}
-use Rattle.isle_run.specs.declared.program.Program.{Program}
-use Rattle.isle_run.specs.Compiled.{IsProgramOf, max_levels, max_nodes}
+use Rattle.isle_program.specs.declared.program.Program.{Program}
+use Rattle.isle_program.specs.Compiled.{IsProgramOf, max_levels, max_nodes}
 use Rattle.isle_meaning.specs.DefinedPrograms.{defined_program}
-use Rattle.isle_run.specs.Meanings.{checked}
+use Rattle.isle_program.specs.Meanings.{checked}
 use Rattle.isle_meaning.specs.Laws.Spelling.{AreAlike, AreAlikePrograms, typed_rule_without_pos}
 use Rattle.isle_run.specs.Laws.Spelling.{AlikeTextsAreAcceptedAlike, AlikeTextsMakeAlikePrograms}
-use Rattle.isle_run.proofs.Compiling.OneAcceptance.{files_spelt_once}
-use Rattle.isle_run.proofs.SoundPrograms.Defined.{program_agrees}
+use Rattle.isle_program.proofs.Compiling.OneAcceptance.{files_spelt_once}
+use Rattle.isle_program.proofs.SoundPrograms.Defined.{program_agrees}
 use Rattle.isle_meaning.proofs.Spelling.Bare.{bare_types, bare_terms}
 use Rattle.isle_run.proofs.Spelling.Faults.{faultless_like}
 use Rattle.isle_meaning.proofs.Spelling.Programs.{facts_bare, program_bare, alike_back, alike_chain}

@@ -1,6 +1,6 @@
 -- One call of a compiled program has one meaning.
 use Rattle.std.specs.Prelude.{◌≡◌, ◌≤◌, ℕ, Bool, true, false, List, Option, length}
-use Rattle.isle_syntax.specs.Positions.Files.{SourceFile}
+use Rattle.isle_ast.specs.Positions.Files.{SourceFile}
 use Rattle.isle_meaning.specs.Values.{Value, Values}
 use Rattle.isle_meaning.specs.Worlds.{CheckedProgram, Answers, Event}
 use Rattle.isle_types.specs.declared.ids.TermId.{TermId}
@@ -10,14 +10,14 @@ use Rattle.isle_meaning.specs.Asking.{spent}
 use Rattle.isle_meaning.specs.Outcomes.{ended}
 use Rattle.isle_meaning.specs.PlainRuns.{PlainRun}
 use Rattle.isle_blocks.specs.RuleFaults.{AreFaultless}
-use Rattle.isle_run.specs.declared.program.Program.{Program}
+use Rattle.isle_program.specs.declared.program.Program.{Program}
 use Rattle.isle_meaning.specs.Laws.Calls.{AreOne, HasNoTies, HasValues, Surely}
-use Rattle.isle_run.specs.Compiled.{IsProgramOf}
-use Rattle.isle_run.specs.Facts.Asked.{AreRoots}
-use Rattle.isle_run.specs.Facts.Inhabited.{AreAllInhabited}
-use Rattle.isle_run.specs.Facts.Reach.{Reaches, is_root}
-use Rattle.isle_run.specs.Meanings.{checked}
-use Rattle.isle_run.specs.Programs.{types_of, terms_of}
+use Rattle.isle_program.specs.Compiled.{IsProgramOf}
+use Rattle.isle_program.specs.Facts.Asked.{AreRoots}
+use Rattle.isle_program.specs.Facts.Inhabited.{AreAllInhabited}
+use Rattle.isle_program.specs.Facts.Reach.{Reaches, is_root}
+use Rattle.isle_program.specs.Meanings.{checked}
+use Rattle.isle_program.specs.Programs.{types_of, terms_of}
 use Rattle.isle_run.specs.Laws.Sound.{RunsIn}
 use Rattle.isle_meaning.specs.SoundPrograms.{IsSound}
 

@@ -1,10 +1,10 @@
 -- Formatted files.
 use Rattle.std.specs.Prelude.{ℕ, suc, List, [], ◌∷◌}
 use Rattle.std.specs.Str.{IsUtf8}
-use Rattle.isle_syntax.specs.declared.ast.Def.{Def}
-use Rattle.isle_syntax.specs.Positions.Files.{SourceFile}
+use Rattle.isle_ast.specs.declared.ast.Def.{Def}
+use Rattle.isle_ast.specs.Positions.Files.{SourceFile}
 use Rattle.isle_layout.specs.Formats.{Formats}
-use Rattle.isle_run.specs.Compiled.{AreSpelt}
+use Rattle.isle_program.specs.Compiled.{AreSpelt}
 use Rattle.isle_meaning.specs.Laws.Spelling.{AreAlike}
 
 -- the texts of these files, which are numbered from `first`, formatted at this width, are those of the others

@@ -1,13 +1,13 @@
 -- The order of a program's rules.
 use Rattle.std.specs.Prelude.{ℕ, List, map, Option}
-use Rattle.isle_syntax.specs.Positions.Files.{SourceFile}
-use Rattle.isle_syntax.specs.Trees.WithoutPos.{def_without_pos}
+use Rattle.isle_ast.specs.Positions.Files.{SourceFile}
+use Rattle.isle_ast.specs.Trees.WithoutPos.{def_without_pos}
 use Rattle.isle_meaning.specs.Values.{Value, Values}
 use Rattle.isle_meaning.specs.Worlds.{Answers, Event}
 use Rattle.isle_meaning.specs.Calls.{Means}
-use Rattle.isle_run.specs.declared.program.Program.{Program}
-use Rattle.isle_run.specs.Compiled.{IsProgramOf}
-use Rattle.isle_run.specs.Meanings.{checked}
+use Rattle.isle_program.specs.declared.program.Program.{Program}
+use Rattle.isle_program.specs.Compiled.{IsProgramOf}
+use Rattle.isle_program.specs.Meanings.{checked}
 use Rattle.isle_meaning.specs.Laws.Order.{AreReordered}
 
 -- Of texts whose definitions differ in the order of their rules alone, and in positions, the programs give a call the same meaning.

@@ -1,10 +1,10 @@
 -- What a text is as a query: one call, or one fault.
 use Rattle.std.specs.Prelude.{◌≡◌, ℕ, List}
 use Rattle.isle_types.specs.declared.ids.TermId.{TermId}
-use Rattle.isle_terms.specs.Values.{ValueTrees}
-use Rattle.isle_run.specs.declared.program.Program.{Program}
-use Rattle.isle_run.specs.declared.query.QueryFault.{QueryFault}
-use Rattle.isle_run.specs.Queries.{IsCallIn, IsOfText, RefusesText}
+use Rattle.isle_rules.specs.Values.{ValueTrees}
+use Rattle.isle_program.specs.declared.program.Program.{Program}
+use Rattle.isle_values.specs.declared.queries.QueryFault.{QueryFault}
+use Rattle.isle_values.specs.Queries.{IsCallIn, IsOfText, RefusesText}
 
 -- A text spells one call.
 abbrev pub TextsAreOneCall : Type 0

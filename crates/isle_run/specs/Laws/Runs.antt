@@ -9,17 +9,18 @@ use Rattle.isle_meaning.specs.Outcomes.{Outcome, ended, IsMeant, IsAskedAtEnd}
 use Rattle.isle_meaning.specs.PlainRuns.{PlainRun}
 use Rattle.isle_meaning.specs.Values.{Value, Values}
 use Rattle.isle_meaning.specs.Worlds.{Answers, Event}
-use Rattle.isle_run.specs.declared.program.Program.{Program}
-use Rattle.isle_run.specs.TreeCalls.{term_trees}
-use Rattle.isle_run.specs.Facts.Steps.{steps_in}
+use Rattle.isle_program.specs.declared.program.Program.{Program}
+use Rattle.isle_machine.specs.TreeCalls.{term_trees}
+use Rattle.isle_program.specs.Facts.Steps.{steps_in}
 use Rattle.isle_run.specs.Laws.Sound.{RunsIn}
-use Rattle.isle_run.specs.Meanings.{checked}
-use Rattle.isle_run.specs.Programs.{rule_sets_of}
-use Rattle.isle_run.specs.TreeCalls.{IsCompiled}
+use Rattle.isle_program.specs.Meanings.{checked}
+use Rattle.isle_program.specs.Programs.{rule_sets_of}
+use Rattle.isle_machine.specs.TreeCalls.{IsCompiled}
 
 -- What a run by trees says of its call: an answer is what the call means, any other end is that of a chain of asking; it reaches no more steps
 -- than the term's rules take at most, and makes no effects where the term is pure.
-pub record SaysByTree (program : Program) (w : Answers) (depth term : ℕ) (args : Values) (steps : ℕ) (made : List Event) (r : Outcome Value) : Type 0 where
+pub record SaysByTree (program : Program) (w : Answers) (depth term : ℕ) (args : Values) (steps : ℕ) (made : List Event)
+    (r : Outcome Value) : Type 0 where
   pub meant : IsMeant (checked program) w depth term args made r
   pub asked : IsAskedByMachine (checked program) w depth term args made r
   pub few : steps ≤ steps_in (rule_sets_of program) term

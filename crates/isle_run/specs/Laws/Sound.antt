@@ -1,14 +1,14 @@
 -- What a compiled program's tables say is what its definitions say, and its rules are sound.
 use Rattle.std.specs.Prelude.{◌≡◌, ℕ, List}
-use Rattle.isle_syntax.specs.Positions.Files.{SourceFile}
-use Rattle.isle_run.specs.declared.program.Program.{Program}
-use Rattle.isle_run.specs.Programs.{types_of, terms_of}
-use Rattle.isle_run.specs.Facts.Reach.{IsRunnable}
-use Rattle.isle_run.specs.Meanings.{checked}
-use Rattle.isle_run.specs.Compiled.{IsProgramOf}
+use Rattle.isle_ast.specs.Positions.Files.{SourceFile}
+use Rattle.isle_program.specs.declared.program.Program.{Program}
+use Rattle.isle_program.specs.Programs.{types_of, terms_of}
+use Rattle.isle_program.specs.Facts.Reach.{IsRunnable}
+use Rattle.isle_program.specs.Meanings.{checked}
+use Rattle.isle_program.specs.Compiled.{IsProgramOf}
 use Rattle.isle_meaning.specs.DefinedPrograms.{defined_program}
 use Rattle.isle_meaning.specs.SoundPrograms.{IsSound}
-use Rattle.isle_run.specs.Programs.{HasNamedData}
+use Rattle.isle_program.specs.Programs.{HasNamedData}
 
 -- a term of a program can be run
 abbrev pub RunsIn : Program → ℕ → Type 0

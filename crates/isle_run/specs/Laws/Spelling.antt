@@ -1,10 +1,10 @@
 -- How definitions are spelt and split into files.
 use Rattle.std.specs.Prelude.{List}
-use Rattle.isle_syntax.specs.declared.ast.Def.{Def}
-use Rattle.isle_syntax.specs.Positions.Files.{SourceFile}
-use Rattle.isle_run.specs.declared.program.Program.{Program}
-use Rattle.isle_run.specs.Compiled.{AreSpelt, AreAccepted, IsProgramOf}
-use Rattle.isle_run.specs.Meanings.{checked}
+use Rattle.isle_ast.specs.declared.ast.Def.{Def}
+use Rattle.isle_ast.specs.Positions.Files.{SourceFile}
+use Rattle.isle_program.specs.declared.program.Program.{Program}
+use Rattle.isle_program.specs.Compiled.{AreSpelt, AreAccepted, IsProgramOf}
+use Rattle.isle_program.specs.Meanings.{checked}
 use Rattle.isle_meaning.specs.Laws.Spelling.{AreAlike, AreAlikePrograms}
 
 -- Of texts whose definitions differ in positions alone the ones are accepted where the others are.

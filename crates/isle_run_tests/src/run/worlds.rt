@@ -15,8 +15,8 @@ struct Same {
 impl World for Same {
     ghost use Rattle.std.specs.Prelude.{◌≡◌, ℕ, List, Option};
     ghost use Rattle.std.proofs.Common.{ap};
-    ghost use Rattle.isle_terms.specs.Values.{ValueTree, ValueTrees};
-    ghost use Rattle.isle_run.specs.Worlds.Entries.{part_shown};
+    ghost use Rattle.isle_rules.specs.Values.{ValueTree, ValueTrees};
+    ghost use Rattle.isle_values.specs.Worlds.Entries.{part_shown};
 
     ghost constructs = { λ world term args. world.answer };
 

@@ -2,11 +2,12 @@
 use Rattle.std.proofs.Common.{◌≡◌, ℕ, zero, suc, ◌-◌, ◌<◌, List, [], ◌∷◌, length, get_or, take, drop, ap, sym, subst, codes, arith}
 use Rattle.std.specs.List.{All}
 use Rattle.std.proofs.lemmas.List.{take_all}
-use Rattle.isle_syntax.specs.Positions.Files.{SourceFile}
-use Rattle.isle_syntax.specs.Errors.{IsPrintableSpan, IsPrintable, spans_of, rules_text, error_text}
-use Rattle.isle_syntax.specs.declared.error.Span.{Span}
-use Rattle.isle_syntax.specs.declared.error.Error.{Error}
-use Rattle.isle_syntax.specs.declared.error.Error.TheVariants.{TypeError, OverlapError, ShadowedError}
+use Rattle.isle_ast.specs.Positions.Files.{SourceFile}
+use Rattle.isle_ast.specs.Errors.{IsPrintableSpan, IsPrintable, spans_of}
+use Rattle.isle_syntax.specs.Errors.{rules_text, error_text}
+use Rattle.isle_ast.specs.declared.error.Span.{Span}
+use Rattle.isle_ast.specs.declared.error.Error.{Error}
+use Rattle.isle_ast.specs.declared.error.Error.TheVariants.{TypeError, OverlapError, ShadowedError}
 
 pub overlap_text : (files : List SourceFile) (message : List ℕ) (rules : List Span) (d : Span) → 0 < length rules
     → rules_text files (get_or rules 0 d) (codes "overlapping rules") (take (length rules - 1) (drop 1 rules))
@@ -24,11 +25,3 @@ masked_have_places files error shadowed mask rules placed is same =
 one_place : (files : List SourceFile) (span : Span) → IsPrintableSpan files span → All (IsPrintableSpan files) (span ∷ [])
 one_place files span p zero d h = p
 one_place files span p (suc k) d h = absurd (omega arith)
-
-pub type_error_is_printable : (files : List SourceFile) (message : List ℕ) (span : Span) → IsPrintableSpan files span
-    → IsPrintable files (TypeError message span)
-type_error_is_printable files message span p = record { named = omega arith; placed = one_place files span p }
-
-pub overlap_is_printable : (files : List SourceFile) (message : List ℕ) (rules : List Span) → 0 < length rules → All (IsPrintableSpan files) rules
-    → IsPrintable files (OverlapError message rules)
-overlap_is_printable files message rules named placed = record { named = named; placed = placed }

@@ -5,16 +5,16 @@ use Rattle.std.specs.Global.{Global}
 use Rattle.std.specs.List.{All}
 use Rattle.std.proofs.lemmas.List.Elements.{All-nil, All-cons, All-head, All-tail}
 use Rattle.std.proofs.lemmas.List.Kept.{AllPairs-cons}
-use Rattle.isle_syntax.specs.declared.lexer.Pos.{Pos}
-use Rattle.isle_syntax.specs.declared.error.Error.{Error}
-use Rattle.isle_syntax.specs.declared.refusal.Refusal.{Refusal}
-use Rattle.isle_syntax.specs.declared.ast.Def.{Def}
-use Rattle.isle_syntax.specs.declared.ast.Def.TheVariants.{Rule}
+use Rattle.isle_ast.specs.declared.pos.Pos.{Pos}
+use Rattle.isle_ast.specs.declared.error.Error.{Error}
+use Rattle.isle_ast.specs.declared.refusal.Refusal.{Refusal}
+use Rattle.isle_ast.specs.declared.ast.Def.{Def}
+use Rattle.isle_ast.specs.declared.ast.Def.TheVariants.{Rule}
 use Rattle.isle_syntax.specs.Tokens.PlacedTokens.{Placed, pos_of}
 use Rattle.isle_syntax.specs.Tokens.RemainingTokens.{RemainingTokens}
 use Rattle.isle_syntax.specs.Tokens.LexerCalls.{IsRemaining, TokensAscend}
 use Rattle.isle_syntax.specs.Grammar.DefGrammar.{SpellsText}
-use Rattle.isle_syntax.specs.Positions.DefPositions.{DefAt, RuleAt}
+use Rattle.isle_ast.specs.Positions.DefPositions.{DefAt, RuleAt}
 use Rattle.isle_syntax.specs.Grammar.Verdict.{IsSpelt}
 use Rattle.isle_syntax.specs.Positions.RuleOrder.{rule_places, RulesAscend}
 use Rattle.isle_syntax.proofs.Tokens.TokenOrder.{later_ascend, all_before}

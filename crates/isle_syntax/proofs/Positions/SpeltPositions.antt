@@ -3,32 +3,32 @@ use Rattle.std.proofs.Common.{◌≡◌, ℕ, suc, List, [], ◌∷◌, ◌++◌
 use Rattle.std.specs.Prelude.{codes}
 use Rattle.std.specs.List.{All}
 use Rattle.std.proofs.lemmas.List.Elements.{All-nil, All-cons, All-head, All-tail}
-use Rattle.isle_syntax.specs.declared.lexer.Pos.{Pos}
-use Rattle.isle_syntax.specs.declared.ast.Ident.{Ident}
-use Rattle.isle_syntax.specs.declared.ast.StructField.{StructField}
-use Rattle.isle_syntax.specs.declared.ast.Fields.{Fields}
-use Rattle.isle_syntax.specs.declared.ast.Fields.TheVariants.{Unit as no_fields, Struct as named_fields, Tuple as tuple_fields}
-use Rattle.isle_syntax.specs.declared.ast.Variant.{Variant}
-use Rattle.isle_syntax.specs.declared.ast.TypeValue.{TypeValue}
-use Rattle.isle_syntax.specs.declared.ast.TypeValue.TheVariants.{Primitive, Enum, Struct}
-use Rattle.isle_syntax.specs.declared.ast.«Type».{«Type» as TypeTree}
-use Rattle.isle_syntax.specs.declared.ast.Decl.{Decl as DeclTree}
-use Rattle.isle_syntax.specs.declared.ast.IfLet.{IfLet}
-use Rattle.isle_syntax.specs.declared.ast.Rule.{Rule as RuleTree}
-use Rattle.isle_syntax.specs.declared.ast.Extractor.{Extractor as ExtractorTree}
-use Rattle.isle_syntax.specs.declared.ast.Extern.{Extern as ExternTree}
-use Rattle.isle_syntax.specs.declared.ast.Extern.TheVariants.{Constructor as extern_constructor, Extractor as extern_extractor, Const as extern_const}
-use Rattle.isle_syntax.specs.declared.ast.Converter.{Converter as ConverterTree}
-use Rattle.isle_syntax.specs.declared.ast.Kept.{Kept as KeptTree}
-use Rattle.isle_syntax.specs.declared.ast.Def.{Def}
-use Rattle.isle_syntax.specs.declared.ast.Def.TheVariants.{TypeDef, Decl, Rule, Extractor, Extern, Converter, Pragma, Kept}
-use Rattle.isle_syntax.specs.Trees.PatternTree.{PatternTree, PatternTrees, pattern_var, pattern_bind, pattern_bool, pattern_int, pattern_prim}
-use Rattle.isle_syntax.specs.Trees.PatternTree.{pattern_term, pattern_wildcard, pattern_and, pattern_macro_arg, no_patterns, more_patterns}
-use Rattle.isle_syntax.specs.Trees.PatternShape.{pattern_of}
-use Rattle.isle_syntax.specs.Trees.ExprTree.{ExprTree, ExprTrees, LetTrees, expr_term, expr_var, expr_bool, expr_int, expr_prim, expr_let, no_exprs}
-use Rattle.isle_syntax.specs.Trees.ExprTree.{more_exprs, no_lets, more_lets}
-use Rattle.isle_syntax.specs.Trees.ExprShape.{expr_of}
-use Rattle.isle_syntax.specs.Trees.ItemTree.{ItemTree, ItemTrees, item_int, item_big, item_symbol, item_at, item_list, no_items, more_items}
+use Rattle.isle_ast.specs.declared.pos.Pos.{Pos}
+use Rattle.isle_ast.specs.declared.ast.Ident.{Ident}
+use Rattle.isle_ast.specs.declared.ast.StructField.{StructField}
+use Rattle.isle_ast.specs.declared.ast.Fields.{Fields}
+use Rattle.isle_ast.specs.declared.ast.Fields.TheVariants.{Unit as no_fields, Struct as named_fields, Tuple as tuple_fields}
+use Rattle.isle_ast.specs.declared.ast.Variant.{Variant}
+use Rattle.isle_ast.specs.declared.ast.TypeValue.{TypeValue}
+use Rattle.isle_ast.specs.declared.ast.TypeValue.TheVariants.{Primitive, Enum, Struct}
+use Rattle.isle_ast.specs.declared.ast.«Type».{«Type» as TypeTree}
+use Rattle.isle_ast.specs.declared.ast.Decl.{Decl as DeclTree}
+use Rattle.isle_ast.specs.declared.ast.IfLet.{IfLet}
+use Rattle.isle_ast.specs.declared.ast.Rule.{Rule as RuleTree}
+use Rattle.isle_ast.specs.declared.ast.Extractor.{Extractor as ExtractorTree}
+use Rattle.isle_ast.specs.declared.ast.Extern.{Extern as ExternTree}
+use Rattle.isle_ast.specs.declared.ast.Extern.TheVariants.{Constructor as extern_constructor, Extractor as extern_extractor, Const as extern_const}
+use Rattle.isle_ast.specs.declared.ast.Converter.{Converter as ConverterTree}
+use Rattle.isle_ast.specs.declared.ast.Kept.{Kept as KeptTree}
+use Rattle.isle_ast.specs.declared.ast.Def.{Def}
+use Rattle.isle_ast.specs.declared.ast.Def.TheVariants.{TypeDef, Decl, Rule, Extractor, Extern, Converter, Pragma, Kept}
+use Rattle.isle_ast.specs.Trees.PatternTree.{PatternTree, PatternTrees, pattern_var, pattern_bind, pattern_bool, pattern_int, pattern_prim}
+use Rattle.isle_ast.specs.Trees.PatternTree.{pattern_term, pattern_wildcard, pattern_and, pattern_macro_arg, no_patterns, more_patterns}
+use Rattle.isle_ast.specs.Trees.PatternShape.{pattern_of}
+use Rattle.isle_ast.specs.Trees.ExprTree.{ExprTree, ExprTrees, LetTrees, expr_term, expr_var, expr_bool, expr_int, expr_prim, expr_let, no_exprs}
+use Rattle.isle_ast.specs.Trees.ExprTree.{more_exprs, no_lets, more_lets}
+use Rattle.isle_ast.specs.Trees.ExprShape.{expr_of}
+use Rattle.isle_ast.specs.Trees.ItemTree.{ItemTree, ItemTrees, item_int, item_big, item_symbol, item_at, item_list, no_items, more_items}
 use Rattle.isle_syntax.specs.Tokens.PlacedTokens.{Placed, closing, pos_of}
 use Rattle.isle_syntax.specs.Grammar.Phrases.{◌⊙◌, Closes, Opening, Says, SymbolOf, Flag, Each, Closed, first_pos}
 use Rattle.isle_syntax.specs.Grammar.TreeGrammar.{Constant, SpellsPattern, SpellsPatterns, SpellsExpr, SpellsExprs, SpellsLets, SpellsItem}
@@ -36,9 +36,9 @@ use Rattle.isle_syntax.specs.Grammar.TreeGrammar.{SpellsItems}
 use Rattle.isle_syntax.specs.Grammar.DefGrammar.{SpellsIdent, SpellsField, numbered, SpellsFields, SpellsVariant, bare, in_list, SpellsTypeValue}
 use Rattle.isle_syntax.specs.Grammar.DefGrammar.{SpellsType, SpellsSignature, SpellsDecl, SpellsExtractor, SpellsExtern, SpellsConverter, SpellsName}
 use Rattle.isle_syntax.specs.Grammar.DefGrammar.{SpellsIfLet, if_let, if_holds, SpellsRule, SpellsKept, SpellsDef, SpellsText}
-use Rattle.isle_syntax.specs.Positions.DefPositions.{IdentAt, StructFieldAt, TupleFieldAt, FieldsAt, VariantTreeAt, TypeValueAt, TypeTreeAt, DeclAt}
-use Rattle.isle_syntax.specs.Positions.DefPositions.{PatternTreeAt, PatternTreesAt, ExprTreeAt, ExprTreesAt, LetTreesAt, IfLetAt, RuleAt, ExtractorAt}
-use Rattle.isle_syntax.specs.Positions.DefPositions.{ExternAt, ConverterAt, ItemTreeAt, ItemTreesAt, KeptAt, DefAt}
+use Rattle.isle_ast.specs.Positions.DefPositions.{IdentAt, StructFieldAt, TupleFieldAt, FieldsAt, VariantTreeAt, TypeValueAt, TypeTreeAt, DeclAt}
+use Rattle.isle_ast.specs.Positions.DefPositions.{PatternTreeAt, PatternTreesAt, ExprTreeAt, ExprTreesAt, LetTreesAt, IfLetAt, RuleAt, ExtractorAt}
+use Rattle.isle_ast.specs.Positions.DefPositions.{ExternAt, ConverterAt, ItemTreeAt, ItemTreesAt, KeptAt, DefAt}
 use Rattle.isle_syntax.proofs.Productions.Bodies.{nothing_after}
 use Rattle.isle_syntax.proofs.Productions.Terms.{decl_filled}
 use Rattle.isle_syntax.proofs.Productions.Rules.{rule_filled}

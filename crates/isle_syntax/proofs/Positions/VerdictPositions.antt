@@ -4,20 +4,19 @@ use Rattle.std.specs.Prelude.{Result, Ok, Err, IfOk, IfErr, Vec}
 use Rattle.std.specs.Global.{Global}
 use Rattle.std.specs.List.{All}
 use Rattle.std.proofs.lemmas.List.Elements.{All-head, All-tail}
-use Rattle.isle_syntax.specs.declared.lexer.Pos.{Pos}
-use Rattle.isle_syntax.specs.declared.ast.Def.{Def}
-use Rattle.isle_syntax.specs.declared.error.Span.{Span}
-use Rattle.isle_syntax.specs.declared.error.Error.{Error}
-use Rattle.isle_syntax.specs.declared.error.Error.TheVariants.{ParseError, SizeError}
-use Rattle.isle_syntax.specs.declared.refusal.Refusal.{Refusal}
-use Rattle.isle_syntax.specs.declared.refusal.Refusal.TheVariants.{Fault, Memory}
-use Rattle.isle_syntax.specs.Errors.{ErrorAt, IfFault, RefusalAt}
-use Rattle.isle_syntax.specs.Positions.Printable.{IsIn}
+use Rattle.isle_ast.specs.declared.pos.Pos.{Pos}
+use Rattle.isle_ast.specs.declared.ast.Def.{Def}
+use Rattle.isle_ast.specs.declared.error.Span.{Span}
+use Rattle.isle_ast.specs.declared.error.Error.{Error}
+use Rattle.isle_ast.specs.declared.error.Error.TheVariants.{ParseError, SizeError}
+use Rattle.isle_ast.specs.declared.refusal.Refusal.{Refusal}
+use Rattle.isle_ast.specs.declared.refusal.Refusal.TheVariants.{Fault, Memory}
+use Rattle.isle_ast.specs.Errors.{ErrorAt, IfFault, RefusalAt}
+use Rattle.isle_syntax.specs.Tokens.RemainingTokens.{IsIn, RemainingTokens, next_pos}
 use Rattle.isle_syntax.specs.Tokens.PlacedTokens.{Placed, opening, pos_of}
-use Rattle.isle_syntax.specs.Tokens.RemainingTokens.{RemainingTokens, next_pos}
 use Rattle.isle_syntax.specs.Tokens.LexerCalls.{IsRemaining}
-use Rattle.isle_syntax.specs.Positions.DefPositions.{DefAt}
-use Rattle.isle_syntax.specs.Trees.MacroArgs.{HasNoMacroArgs}
+use Rattle.isle_ast.specs.Positions.DefPositions.{DefAt}
+use Rattle.isle_ast.specs.Trees.MacroArgs.{HasNoMacroArgs}
 use Rattle.isle_syntax.specs.Grammar.Verdict.{IsSpelt, IsFaultOf}
 use Rattle.isle_syntax.proofs.Positions.SpeltPositions.{text_places}
 use Rattle.isle_syntax.proofs.Trees.MacroArgs.{text_no_macro_args}

@@ -2,12 +2,12 @@
 use Rattle.std.proofs.Common.{◌≡◌, ℕ, zero, suc, ◌<◌, List, [], ◌∷◌, ◌++◌, length, Bool, true, false, refl, sym, ap, subst, ◌∙◌, length-append, arith}
 use Rattle.std.specs.Prelude.{◌&&◌, ◌||◌, not, codes}
 use Rattle.std.proofs.lemmas.Bool.{false≢true}
-use Rattle.isle_syntax.specs.declared.lexer.Pos.{Pos}
-use Rattle.isle_syntax.specs.declared.ast.IfLet.{IfLet}
-use Rattle.isle_syntax.specs.Trees.PatternTree.{PatternTree, pattern_wildcard}
-use Rattle.isle_syntax.specs.Trees.PatternShape.{pattern_of}
-use Rattle.isle_syntax.specs.Trees.ExprTree.{ExprTree, expr_term, expr_var, expr_bool, expr_int, expr_prim, expr_let}
-use Rattle.isle_syntax.specs.Trees.ExprShape.{expr_of}
+use Rattle.isle_ast.specs.declared.pos.Pos.{Pos}
+use Rattle.isle_ast.specs.declared.ast.IfLet.{IfLet}
+use Rattle.isle_ast.specs.Trees.PatternTree.{PatternTree, pattern_wildcard}
+use Rattle.isle_ast.specs.Trees.PatternShape.{pattern_of}
+use Rattle.isle_ast.specs.Trees.ExprTree.{ExprTree, expr_term, expr_var, expr_bool, expr_int, expr_prim, expr_let}
+use Rattle.isle_ast.specs.Trees.ExprShape.{expr_of}
 use Rattle.isle_syntax.specs.Tokens.PlacedTokens.{Placed, opening, closing, at_sign, symbol, int}
 use Rattle.isle_syntax.specs.Tokens.Names.{is_word}
 use Rattle.isle_syntax.specs.Grammar.Phrases.{◌⊙◌, Both, Opens, Closes, Word, Says, next_symbol_is, Each}
@@ -61,9 +61,6 @@ same_open (int p n) x y = refl
 
 open_looks : Looks is_open_next
 open_looks = record { same = same_open }
-
-opens_next : (p : Pos) (M : List Placed → Type 0) (v : List Placed) → (Opens p ⊙ M) v → is_open_next v ≡ true
-opens_next p M v l = ap is_open_next (l.2 ∙ ap (λ k. k ++ l.1) l.3)
 
 -- the words of clauses
 abbrev words_at : List Placed → Bool × Bool

@@ -1,12 +1,12 @@
 -- A turn of the loop that reads a rule's clauses, where each call of it may be refused.
 use Rattle.std.proofs.Common.{◌≡◌, ℕ, ◌-◌, ◌<◌, List, [], ◌∷◌, ◌++◌, length, true, false, sym, ap, subst, ◌∙◌, arith}
 use Rattle.std.specs.Prelude.{codes}
-use Rattle.isle_syntax.specs.declared.lexer.Pos.{Pos}
-use Rattle.isle_syntax.specs.declared.error.Error.{Error}
-use Rattle.isle_syntax.specs.declared.refusal.Refusal.{Refusal}
-use Rattle.isle_syntax.specs.declared.ast.IfLet.{IfLet}
-use Rattle.isle_syntax.specs.Trees.PatternTree.{pattern_wildcard}
-use Rattle.isle_syntax.specs.Trees.ExprTree.{ExprTree}
+use Rattle.isle_ast.specs.declared.pos.Pos.{Pos}
+use Rattle.isle_ast.specs.declared.error.Error.{Error}
+use Rattle.isle_ast.specs.declared.refusal.Refusal.{Refusal}
+use Rattle.isle_ast.specs.declared.ast.IfLet.{IfLet}
+use Rattle.isle_ast.specs.Trees.PatternTree.{pattern_wildcard}
+use Rattle.isle_ast.specs.Trees.ExprTree.{ExprTree}
 use Rattle.isle_syntax.specs.Tokens.PlacedTokens.{Placed}
 use Rattle.isle_syntax.specs.Tokens.Names.{is_word}
 use Rattle.isle_syntax.specs.Grammar.Phrases.{next_symbol_is}

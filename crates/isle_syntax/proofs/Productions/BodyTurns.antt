@@ -2,10 +2,10 @@
 use Rattle.std.proofs.Common.{◌≡◌, ℕ, zero, suc, ◌-◌, ◌<◌, ◌≤◌, List, [], ◌∷◌, ◌++◌, length, true, false, refl, sym, ap, ◌∙◌, append_assoc}
 use Rattle.std.proofs.Common.{append-nil, length-append, arith}
 use Rattle.std.specs.Prelude.{codes}
-use Rattle.isle_syntax.specs.declared.lexer.Pos.{Pos}
-use Rattle.isle_syntax.specs.declared.ast.IfLet.{IfLet}
-use Rattle.isle_syntax.specs.Trees.PatternTree.{PatternTree, pattern_wildcard}
-use Rattle.isle_syntax.specs.Trees.ExprTree.{ExprTree}
+use Rattle.isle_ast.specs.declared.pos.Pos.{Pos}
+use Rattle.isle_ast.specs.declared.ast.IfLet.{IfLet}
+use Rattle.isle_ast.specs.Trees.PatternTree.{PatternTree, pattern_wildcard}
+use Rattle.isle_ast.specs.Trees.ExprTree.{ExprTree}
 use Rattle.isle_syntax.specs.Tokens.PlacedTokens.{Placed, opening, closing, at_sign, symbol, int}
 use Rattle.isle_syntax.specs.Tokens.Names.{is_word}
 use Rattle.isle_syntax.specs.Grammar.Phrases.{next_symbol_is}
@@ -147,9 +147,6 @@ pub record BodyTurns (d : ℕ) (all : Read Body) (cs : List IfLet) (left : List 
   pub turns : ℕ
   pub enough : length left < turns
   pub same : all ≡ clauses_before cs (body d turns left)
-
-pub body_turns_begin : (d : ℕ) (ts : List Placed) → BodyTurns d (rule_body d ts) [] ts
-body_turns_begin d ts = record { turns = suc (length ts); enough = omega arith; same = none_before (rule_body d ts) }
 
 module _ (d : ℕ) (all : Read Body) (cs : List IfLet) (left : List Placed) (t : BodyTurns d all cs left) where
   -- a right side that begins with no parenthesis

@@ -4,15 +4,15 @@ use Rattle.std.specs.Prelude.{◌&&◌, not, codes}
 use Rattle.std.proofs.lemmas.Bool.{false≢true}
 use Rattle.isle_syntax.specs.declared.kind.Kind.{Kind}
 use Rattle.isle_syntax.specs.declared.kind.Kind.TheVariants.{True, False, Const, Wildcard, Name, Other}
-use Rattle.isle_syntax.specs.declared.lexer.Pos.{Pos}
-use Rattle.isle_syntax.specs.declared.ast.Ident.{Ident}
+use Rattle.isle_ast.specs.declared.pos.Pos.{Pos}
+use Rattle.isle_ast.specs.declared.ast.Ident.{Ident}
 use Rattle.isle_syntax.specs.Tokens.PlacedTokens.{Placed, opening, closing, at_sign, symbol, int}
 use Rattle.isle_syntax.specs.Tokens.Names.{is_ident, is_word, is_name}
 use Rattle.isle_syntax.specs.Grammar.Phrases.{◌⊙◌, Both, Opens, Closes, Opening, Says, SymbolOf, next_symbol_is, Each, Closed}
 use Rattle.isle_syntax.specs.Inside.Reading.KindOf.{symbol_kind}
 use Rattle.isle_syntax.specs.Inside.Reading.Readers.{done, fault, seq, rest_of, opened, closed, symbol_of, says}
-use Rattle.isle_syntax.specs.Trees.ExprTree.{ExprTree, ExprTrees, LetTrees, expr_term, expr_var, expr_bool, expr_int, expr_prim, expr_let, no_exprs}
-use Rattle.isle_syntax.specs.Trees.ExprTree.{more_exprs, no_lets, more_lets}
+use Rattle.isle_ast.specs.Trees.ExprTree.{ExprTree, ExprTrees, LetTrees, expr_term, expr_var, expr_bool, expr_int, expr_prim, expr_let, no_exprs}
+use Rattle.isle_ast.specs.Trees.ExprTree.{more_exprs, no_lets, more_lets}
 use Rattle.isle_syntax.specs.Grammar.TreeGrammar.{bits_of, is_large, is_expr_term, SpellsExpr, SpellsExprs, SpellsLets}
 use Rattle.isle_syntax.specs.Inside.Reading.TreeReading.{ident, after_dollar, expr_trees, symbol_expr, LetBinding, let_trees, Inner, call, bound_in}
 use Rattle.isle_syntax.specs.Inside.Reading.TreeReading.{inner_expr, inner_on, expr_list, let_list, let_binding, expr, expr_inner}
@@ -223,9 +223,6 @@ binding_starts = record {
   inside = λ b v w y q l e. (let k : opening b.0 ∷ (l.1 ++ w) ≡ closing q ∷ y = ap (λ x. x ++ w) (sym (l.2 ∙ ap (λ x. x ++ l.1) l.3)) ∙ e in cc);
 }
 
-pub let_list_filled : (b : Pos × List LetBinding) (v : List Placed) → SpellsLetList b v → v ≡ [] → ⊥
-let_list_filled = both_filled Opens (Closed SpellsBinding) opens_filled
-
 some_let_list : Begins SpellsLetList []
 some_let_list = some_both some_opens (some_closed SpellsBinding)
 
@@ -435,13 +432,6 @@ follows_let_list d = (follows_three d).lists
 
 pub follows_let_binding : (d : ℕ) → Follows SpellsBinding Any d d (let_binding d)
 follows_let_binding d = (follows_three d).bindings
-
--- expressions and bindings up to the closing parenthesis
-pub follows_exprs : (d : ℕ) → Follows (Closed SpellsExpr) Any d (suc d) (rest_of (expr d))
-follows_exprs d = follows_exprs_of d (follows_expr d)
-
-pub follows_bindings : (d : ℕ) → Follows (Closed SpellsBinding) Any d (suc d) (rest_of (let_binding d))
-follows_bindings d = follows_bindings_of d (follows_let_binding d)
 
 -- what stands in the parentheses of an expression
 pub follows_inner : (d : ℕ) → Follows SpellsInner Any d (suc d) (expr_inner d)

@@ -2,13 +2,13 @@
 use Rattle.std.proofs.Common.{◌≡◌, ℕ, zero, suc, ◌-◌, List, [], ◌∷◌, ◌++◌, length, ◌<◌, refl, sym, ap, subst, ◌∙◌, arith}
 use Rattle.isle_syntax.specs.declared.kind.Kind.{Kind}
 use Rattle.isle_syntax.specs.declared.kind.Kind.TheVariants.{True, False, Const, Wildcard, Name, Other}
-use Rattle.isle_syntax.specs.declared.lexer.Pos.{Pos}
+use Rattle.isle_ast.specs.declared.pos.Pos.{Pos}
 use Rattle.isle_syntax.specs.Tokens.PlacedTokens.{Placed, opening, closing, at_sign, symbol, int, Literal, small, large}
 use Rattle.isle_syntax.specs.Grammar.Phrases.{◌⊙◌, Both, Opens, Closes, Each, Closed}
 use Rattle.isle_syntax.specs.Inside.Reading.KindOf.{kind_at, symbol_kind}
 use Rattle.isle_syntax.specs.Inside.Reading.Readers.{done, read_map, seq, rest_of, opened, shut}
 use Rattle.isle_syntax.specs.Inside.Reading.KindReading.{item_on}
-use Rattle.isle_syntax.specs.Trees.ItemTree.{ItemTree, ItemTrees, item_int, item_big, item_symbol, item_at, item_list, no_items, more_items}
+use Rattle.isle_ast.specs.Trees.ItemTree.{ItemTree, ItemTrees, item_int, item_big, item_symbol, item_at, item_list, no_items, more_items}
 use Rattle.isle_syntax.specs.Grammar.TreeGrammar.{SpellsItem, SpellsItems}
 use Rattle.isle_syntax.specs.Inside.Reading.TreeReading.{ident, item_trees, literal_item, item_list_reader, item}
 use Rattle.isle_syntax.proofs.Reading.Follows.{start, SameNext, Begins, FollowsAt, Follows, Any, Starts, follows_refusal, follows_token}

@@ -1,12 +1,12 @@
 -- Tokens that spell definitions and nest within the bound spell no others, and a text has one reading.
 use Rattle.std.proofs.Common.{◌≡◌, ℕ, List, [], ◌∷◌, ◌++◌, length, append-nil, append_assoc, Bool, true, false, Some, None, refl, sym, ap, subst, ◌∙◌}
-use Rattle.isle_syntax.specs.declared.ast.Def.{Def}
-use Rattle.isle_syntax.specs.declared.error.Span.{Span}
-use Rattle.isle_syntax.specs.declared.error.Error.{Error}
-use Rattle.isle_syntax.specs.declared.error.Error.TheVariants.{ParseError, SizeError}
-use Rattle.isle_syntax.specs.declared.refusal.Refusal.{Refusal}
-use Rattle.isle_syntax.specs.declared.refusal.Refusal.TheVariants.{Fault, Memory}
-use Rattle.isle_syntax.specs.Errors.{parse_error, size_error, IfFault, IfKind, IsOfKinds, span_at}
+use Rattle.isle_ast.specs.declared.ast.Def.{Def}
+use Rattle.isle_ast.specs.declared.error.Span.{Span}
+use Rattle.isle_ast.specs.declared.error.Error.{Error}
+use Rattle.isle_ast.specs.declared.error.Error.TheVariants.{ParseError, SizeError}
+use Rattle.isle_ast.specs.declared.refusal.Refusal.{Refusal}
+use Rattle.isle_ast.specs.declared.refusal.Refusal.TheVariants.{Fault, Memory}
+use Rattle.isle_ast.specs.Errors.{parse_error, size_error, IfFault, IfKind, IsOfKinds, span_at}
 use Rattle.isle_syntax.specs.Tokens.PlacedTokens.{Placed, opening}
 use Rattle.isle_syntax.specs.Tokens.RemainingTokens.{RemainingTokens, Source, ready, next_pos}
 use Rattle.isle_syntax.specs.Grammar.Phrases.{depth_left}
@@ -16,7 +16,7 @@ use Rattle.isle_syntax.specs.Tokens.TokensOf.{TokensOf}
 use Rattle.isle_syntax.specs.Grammar.DefGrammar.{SpellsText}
 use Rattle.isle_syntax.specs.Inside.Reading.DefReading.{def}
 use Rattle.isle_syntax.specs.Grammar.Verdict.{max_nesting, NestsWithin, IsDead, FaultAt, DeepAt, IsSpelt, IsFaultOf}
-use Rattle.isle_syntax.specs.Grammar.Texts.{IsWhole, Spells, IsFaultIn}
+use Rattle.isle_syntax.specs.Grammar.Verdict.{IsWhole, Spells, IsFaultIn}
 use Rattle.isle_syntax.proofs.ErrorKinds.{parse_or_size, from_kinds}
 use Rattle.isle_syntax.proofs.Reading.Follows.{SameNext, FollowsAt, AtEnd, depth_left-append}
 use Rattle.isle_syntax.proofs.Tokens.Findings.{reading_sound, tokens_same}

@@ -4,15 +4,15 @@ use Rattle.std.proofs.Common.{ap, subst, ◌∙◌}
 use Rattle.std.specs.Prelude.{◌&&◌, ◌||◌, not, codes}
 use Rattle.isle_syntax.specs.declared.kind.Kind.{Kind}
 use Rattle.isle_syntax.specs.declared.kind.Kind.TheVariants.{True, False, Const, Wildcard, Name, Other}
-use Rattle.isle_syntax.specs.declared.lexer.Pos.{Pos}
-use Rattle.isle_syntax.specs.declared.ast.Ident.{Ident}
+use Rattle.isle_ast.specs.declared.pos.Pos.{Pos}
+use Rattle.isle_ast.specs.declared.ast.Ident.{Ident}
 use Rattle.isle_syntax.specs.Tokens.PlacedTokens.{Placed, opening, closing, at_sign, symbol, int}
 use Rattle.isle_syntax.specs.Tokens.Names.{is_ident, is_word, is_pname}
 use Rattle.isle_syntax.specs.Grammar.Phrases.{◌⊙◌, Both, Opens, AtSign, SymbolOf, Each, Closed}
 use Rattle.isle_syntax.specs.Inside.Reading.KindOf.{symbol_kind}
 use Rattle.isle_syntax.specs.Inside.Reading.Readers.{Read, done, fault, Reader, read_map, seq, rest_of, opened, symbol_of}
-use Rattle.isle_syntax.specs.Trees.PatternTree.{PatternTree, PatternTrees, pattern_var, pattern_bind, pattern_bool, pattern_int, pattern_prim}
-use Rattle.isle_syntax.specs.Trees.PatternTree.{pattern_term, pattern_wildcard, pattern_and, pattern_macro_arg, no_patterns, more_patterns}
+use Rattle.isle_ast.specs.Trees.PatternTree.{PatternTree, PatternTrees, pattern_var, pattern_bind, pattern_bool, pattern_int, pattern_prim}
+use Rattle.isle_ast.specs.Trees.PatternTree.{pattern_term, pattern_wildcard, pattern_and, pattern_macro_arg, no_patterns, more_patterns}
 use Rattle.isle_syntax.specs.Grammar.TreeGrammar.{bits_of, is_large, is_pattern_term, SpellsPattern, SpellsPatterns, IsList, ListPattern}
 use Rattle.isle_syntax.specs.Inside.Reading.TreeReading.{ident, after_dollar, pattern_trees, is_head, listed, named, symbol_pattern, pattern_with, bound}
 use Rattle.isle_syntax.specs.Inside.Reading.TreeReading.{pattern_list, pattern}
@@ -347,10 +347,6 @@ follows_lists (suc d) p ts = follows_list_here d p ts (record { reads = λ r. (f
 
 pub follows_pattern : (d : ℕ) → Follows SpellsPattern NotAt d d (pattern d)
 follows_pattern d = record { reads = λ r. (follows_both d (pattern_list d) (follows_lists d) r).0 }
-
--- patterns up to the closing parenthesis
-pub follows_patterns : (d : ℕ) → Follows (Closed SpellsPattern) Any d (suc d) (rest_of (pattern d))
-follows_patterns d = follows_patterns_of Any d (follows_pattern d)
 
 pub list_opens : (b : PatternTree) (v : List Placed) → ListPattern b v → (p : Pos) × (u : List Placed) × (v ≡ opening p ∷ u)
 list_opens b v l = let x = listed_back b v l.0 l.1 in (x.0.0, x.2.1, x.2.2 ∙ ap (λ k. k ++ x.2.1) x.2.3)

@@ -1,14 +1,14 @@
 -- A rule's name and priority, and what follows.
 use Rattle.std.proofs.Common.{◌≡◌, ℕ, zero, suc, ℤ, List, [], ◌∷◌, true, cond, Option, Some, None, refl, sym, ap, subst, ◌∙◌}
-use Rattle.isle_syntax.specs.declared.lexer.Pos.{Pos}
-use Rattle.isle_syntax.specs.declared.ast.Ident.{Ident}
-use Rattle.isle_syntax.specs.declared.ast.IfLet.{IfLet}
-use Rattle.isle_syntax.specs.declared.ast.Expr.{Expr}
-use Rattle.isle_syntax.specs.declared.ast.Pattern.{Pattern}
+use Rattle.isle_ast.specs.declared.pos.Pos.{Pos}
+use Rattle.isle_ast.specs.declared.ast.Ident.{Ident}
+use Rattle.isle_ast.specs.declared.ast.IfLet.{IfLet}
+use Rattle.isle_ast.specs.declared.ast.Expr.{Expr}
+use Rattle.isle_ast.specs.declared.ast.Pattern.{Pattern}
 use Rattle.isle_syntax.specs.declared.kind.Literal.{Literal as LiteralValue}
-use Rattle.isle_syntax.specs.Trees.PatternTree.{PatternTree}
-use Rattle.isle_syntax.specs.Trees.PatternShape.{pattern_of}
-use Rattle.isle_syntax.specs.Trees.ExprShape.{expr_of}
+use Rattle.isle_ast.specs.Trees.PatternTree.{PatternTree}
+use Rattle.isle_ast.specs.Trees.PatternShape.{pattern_of}
+use Rattle.isle_ast.specs.Trees.ExprShape.{expr_of}
 use Rattle.isle_syntax.specs.Tokens.PlacedTokens.{Placed, opening, closing, at_sign, symbol, int, Literal}
 use Rattle.isle_syntax.specs.Tokens.RemainingTokens.{RemainingTokens, remaining_pos}
 use Rattle.isle_syntax.specs.Grammar.TreeGrammar.{bits_of}

@@ -1,8 +1,8 @@
 -- Reading a whole text: the promises of the grammar from what reading gives.
 use Rattle.std.proofs.Common.{◌≡◌, ℕ, List, [], ◌∷◌, ◌++◌, Bool, true, false, Some, append_assoc, append-nil, refl, sym, ap, subst, ◌∙◌}
-use Rattle.isle_syntax.specs.declared.error.Span.{Span}
-use Rattle.isle_syntax.specs.declared.ast.Def.{Def}
-use Rattle.isle_syntax.specs.Errors.{span_at}
+use Rattle.isle_ast.specs.declared.error.Span.{Span}
+use Rattle.isle_ast.specs.declared.ast.Def.{Def}
+use Rattle.isle_ast.specs.Errors.{span_at}
 use Rattle.isle_syntax.specs.Tokens.PlacedTokens.{Placed}
 use Rattle.isle_syntax.specs.Tokens.RemainingTokens.{RemainingTokens, next_pos}
 use Rattle.isle_syntax.specs.Grammar.Phrases.{depth_left}

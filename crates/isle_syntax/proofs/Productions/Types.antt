@@ -5,15 +5,15 @@ use Rattle.std.specs.Prelude.{codes}
 use Rattle.std.proofs.lemmas.Bool.{false≢true}
 use Rattle.isle_syntax.specs.declared.kind.Keyword.{Keyword}
 use Rattle.isle_syntax.specs.declared.kind.Keyword.TheVariants as keyword
-use Rattle.isle_syntax.specs.declared.lexer.Pos.{Pos}
-use Rattle.isle_syntax.specs.declared.ast.Ident.{Ident}
-use Rattle.isle_syntax.specs.declared.ast.StructField.{StructField}
-use Rattle.isle_syntax.specs.declared.ast.Fields.{Fields}
-use Rattle.isle_syntax.specs.declared.ast.Fields.TheVariants.{Unit as no_fields, Struct as named_fields, Tuple as tuple_fields}
-use Rattle.isle_syntax.specs.declared.ast.Variant.{Variant}
-use Rattle.isle_syntax.specs.declared.ast.TypeValue.{TypeValue}
-use Rattle.isle_syntax.specs.declared.ast.TypeValue.TheVariants.{Primitive, Enum, Struct}
-use Rattle.isle_syntax.specs.declared.ast.«Type».{«Type» as TypeTree}
+use Rattle.isle_ast.specs.declared.pos.Pos.{Pos}
+use Rattle.isle_ast.specs.declared.ast.Ident.{Ident}
+use Rattle.isle_ast.specs.declared.ast.StructField.{StructField}
+use Rattle.isle_ast.specs.declared.ast.Fields.{Fields}
+use Rattle.isle_ast.specs.declared.ast.Fields.TheVariants.{Unit as no_fields, Struct as named_fields, Tuple as tuple_fields}
+use Rattle.isle_ast.specs.declared.ast.Variant.{Variant}
+use Rattle.isle_ast.specs.declared.ast.TypeValue.{TypeValue}
+use Rattle.isle_ast.specs.declared.ast.TypeValue.TheVariants.{Primitive, Enum, Struct}
+use Rattle.isle_ast.specs.declared.ast.«Type».{«Type» as TypeTree}
 use Rattle.isle_syntax.specs.Tokens.PlacedTokens.{Placed, opening, closing, symbol}
 use Rattle.isle_syntax.specs.Tokens.Names.{is_ident}
 use Rattle.isle_syntax.specs.Grammar.Phrases.{◌⊙◌, Both, Opens, Closes, Says, Each, Closed}
@@ -51,9 +51,6 @@ ident_filled = symbol_filled is_ident
 pub follows_idents : (d : ℕ) → Follows (Closed SpellsIdent) Any d (suc d) (rest_of identifier)
 follows_idents d = follows_rest_of SpellsIdent Any Any d identifier (follows_ident d) (symbol_starts is_ident) (λ b v w l. tt) (λ q w. tt)
 
-pub ident_shorter : (ts r : List Placed) (a : Ident) → identifier ts ≡ done a r → length r < length ts
-ident_shorter ts r a h = shorter_after SpellsIdent Any 0 0 ts (symbol_starts is_ident) (identifier ts) ((follows_ident 0).reads ts) a r h
-
 -- the last of two identifiers, with what closes them
 abbrev pub some_ident_closed : Begins (Both SpellsIdent Closes) []
 some_ident_closed = some_both some_ident some_closes
@@ -61,22 +58,10 @@ some_ident_closed = some_both some_ident some_closes
 pub follows_ident_closed : (d : ℕ) → Follows (Both SpellsIdent Closes) Any d (suc d) (seq identifier closed)
 follows_ident_closed d = follows_seq some_closes (follows_ident d) (follows_close d)
 
--- whether a symbol comes first
-symbol_first : (b : Ident) (M : List Placed → Type 0) (v : List Placed) → (SpellsIdent b ⊙ M) v → is_symbol_next v ≡ true
-symbol_first b M v l = ap is_symbol_next (l.2 ∙ ap (λ k. k ++ l.1) l.3.0)
-
 opens_first : (p : Pos) (M : List Placed → Type 0) (v : List Placed) → (Opens p ⊙ M) v → is_symbol_next v ≡ false
 opens_first p M v l = ap is_symbol_next (l.2 ∙ ap (λ k. k ++ l.1) l.3)
 
-closes_first : (v : List Placed) → Closes tt v → is_symbol_next v ≡ false
-closes_first v c = ap is_symbol_next c.1
-
 -- ---- fields
-
-some_field : Begins SpellsField []
-some_field =
-    let b = some_both some_opens (some_both some_ident some_ident_closed) in
-    (field_of b.0, b.1, b.2)
 
 pub follows_field : (d : ℕ) → Follows SpellsField Any d d (field d)
 follows_field d =
@@ -90,9 +75,6 @@ field_starts = record {
   filled = λ b v l e. both_filled Opens (Both SpellsIdent (Both SpellsIdent Closes)) opens_filled (b.pos, (b.name, (b.ty, tt))) v l e;
   inside = λ b v w y q l e. (let k : opening b.pos ∷ (l.1 ++ w) ≡ closing q ∷ y = ap (λ x. x ++ w) (sym (l.2 ∙ ap (λ x. x ++ l.1) l.3)) ∙ e in cc);
 }
-
-pub field_shorter : (d : ℕ) (ts r : List Placed) (a : StructField) → field d ts ≡ done a r → length r < length ts
-field_shorter d ts r a h = shorter_after SpellsField Any d d ts field_starts (field d ts) ((follows_field d).reads ts) a r h
 
 follows_fields_closed : (d : ℕ) → Follows (Closed SpellsField) Any d (suc d) (rest_of (field d))
 follows_fields_closed d = follows_rest_of SpellsField Any Any d (field d) (follows_field d) field_starts (λ b v w l. tt) (λ q w. tt)
@@ -217,9 +199,6 @@ follows_variant_at d ts false at =
 
 pub follows_variant : (d : ℕ) → Follows SpellsVariant Any d d (variant d)
 follows_variant d = record { reads = λ ts. follows_variant_at d ts (is_symbol_next ts) refl }
-
-pub variant_shorter : (d : ℕ) (ts r : List Placed) (a : Variant) → variant d ts ≡ done a r → length r < length ts
-variant_shorter d ts r a h = shorter_after SpellsVariant Any d d ts variant_starts (variant d ts) ((follows_variant d).reads ts) a r h
 
 follows_variants : (d : ℕ) → Follows (Closed SpellsVariant) Any d (suc d) (rest_of (variant d))
 follows_variants d = follows_rest_of SpellsVariant Any Any d (variant d) (follows_variant d) variant_starts (λ b v w l. tt) (λ q w. tt)
@@ -382,15 +361,6 @@ follows_mark_at d ts _ at = follows_no_case keyword_at keyword_looks SpellsMark 
 pub follows_mark : (d : ℕ) → Follows SpellsMark Any d d mark
 follows_mark d = record { reads = λ ts. follows_mark_at d ts (keyword_at ts) refl }
 
-mark_starts : Starts SpellsMark
-mark_starts = record { filled = mark_filled; inside = within }
-  where
-    within : (b : Mark) (v w y : List Placed) (q : Pos) → SpellsMark b v → v ++ w ≡ closing q ∷ y → ⊥
-    within b v w y q l e = subst OfMark (sym (mark_first b v w l) ∙ ap keyword_at e) (mark_of_word b)
-
-pub mark_shorter : (ts r : List Placed) (a : Mark) → mark ts ≡ done a r → length r < length ts
-mark_shorter ts r a h = shorter_after SpellsMark Any 0 0 ts mark_starts (mark ts) ((follows_mark 0).reads ts) a r h
-
 -- no mark comes next
 abbrev pub NoMark : List Placed → Type 0
 NoMark ts = is_mark_next ts ≡ false
@@ -480,10 +450,6 @@ type_back b v l =
       (λ i. record { name = b.name; is_extern = m.2 i; is_nodebug = m.3 i; ty = b.ty; pos = l.1 i }),
       (l.0.0, l.0.1, l.0.2, l.0.3, (h.0, h.1, h.2, m.1, h.4)),
     )
-
-pub type_filled : (b : TypeTree) (v : List Placed) → SpellsType b v → v ≡ [] → ⊥
-type_filled b v l e = let a = type_back b v l in
-    both_filled SpellsIdent (Both (Each SpellsMark) (Both SpellsTypeValue Closes)) ident_filled a.0 v a.2 e
 
 pub some_type : Begins SpellsType []
 some_type =

@@ -1,12 +1,12 @@
 -- What a loop over all definitions of a text promises.
 use Rattle.std.proofs.Common.{◌≡◌, ◌<◌, List, [], ◌∷◌, length, arith, None, Bool, true, false, refl, sym, ap, ◌∙◌}
-use Rattle.isle_syntax.specs.declared.ast.Def.{Def}
-use Rattle.isle_syntax.specs.declared.error.Span.{Span}
-use Rattle.isle_syntax.specs.declared.error.Error.{Error}
-use Rattle.isle_syntax.specs.declared.error.Error.TheVariants.{ParseError, SizeError}
-use Rattle.isle_syntax.specs.declared.refusal.Refusal.{Refusal}
-use Rattle.isle_syntax.specs.declared.refusal.Refusal.TheVariants.{Fault, Memory}
-use Rattle.isle_syntax.specs.Errors.{IfFault, span_at}
+use Rattle.isle_ast.specs.declared.ast.Def.{Def}
+use Rattle.isle_ast.specs.declared.error.Span.{Span}
+use Rattle.isle_ast.specs.declared.error.Error.{Error}
+use Rattle.isle_ast.specs.declared.error.Error.TheVariants.{ParseError, SizeError}
+use Rattle.isle_ast.specs.declared.refusal.Refusal.{Refusal}
+use Rattle.isle_ast.specs.declared.refusal.Refusal.TheVariants.{Fault, Memory}
+use Rattle.isle_ast.specs.Errors.{IfFault, span_at}
 use Rattle.isle_syntax.specs.Tokens.PlacedTokens.{Placed}
 use Rattle.isle_syntax.specs.Tokens.RemainingTokens.{RemainingTokens, next_pos, remaining_pos}
 use Rattle.isle_syntax.specs.Tokens.LexerCalls.{HasEnded}

@@ -1,13 +1,13 @@
 -- Where a phrase that was read begins, and the words and names before it.
 use Rattle.std.proofs.Common.{◌≡◌, ℕ, List, [], ◌∷◌, Bool, true, false, refl, sym, ap, ◌∙◌}
 use Rattle.std.specs.Prelude.{codes}
-use Rattle.isle_syntax.specs.declared.ast.Ident.{Ident}
+use Rattle.isle_ast.specs.declared.ast.Ident.{Ident}
 use Rattle.isle_syntax.specs.Tokens.PlacedTokens.{Placed}
 use Rattle.isle_syntax.specs.Grammar.Phrases.{first_pos}
 use Rattle.isle_syntax.specs.Tokens.RemainingTokens.{RemainingTokens, remaining_pos, next_pos as pos_of_first}
 use Rattle.isle_syntax.specs.Inside.Reading.Parsing.{bounds, stop_of, TakesWord}
 use Rattle.isle_syntax.specs.Inside.Reading.Readers.{Read, done, fault, deep, Reader, read_map, rest_of, says, optional, optional_on}
-use Rattle.isle_syntax.specs.Trees.ItemTree.{ItemTree}
+use Rattle.isle_ast.specs.Trees.ItemTree.{ItemTree}
 use Rattle.isle_syntax.specs.Inside.Reading.TreeReading.{item}
 use Rattle.isle_syntax.proofs.Reading.Shorter.{many_at_end}
 use Rattle.isle_syntax.specs.Inside.Reading.DefReading.{decl, decl_of, Signature, signature, signature_parts}

@@ -3,14 +3,14 @@ use Rattle.std.proofs.Common.{◌≡◌, ℕ, zero, suc, ◌-◌, ◌<◌, List,
 use Rattle.std.specs.Prelude.{codes}
 use Rattle.isle_syntax.specs.declared.kind.Kind.{Kind}
 use Rattle.isle_syntax.specs.declared.kind.Kind.TheVariants.{True, False, Const, Wildcard, Name, Other}
-use Rattle.isle_syntax.specs.declared.lexer.Pos.{Pos}
-use Rattle.isle_syntax.specs.declared.ast.Ident.{Ident}
+use Rattle.isle_ast.specs.declared.pos.Pos.{Pos}
+use Rattle.isle_ast.specs.declared.ast.Ident.{Ident}
 use Rattle.isle_syntax.specs.Tokens.PlacedTokens.{Placed, opening, closing, at_sign, symbol, int}
 use Rattle.isle_syntax.specs.Tokens.Names.{is_ident, is_word}
 use Rattle.isle_syntax.specs.Inside.Reading.KindOf.{kind_at, symbol_kind}
 use Rattle.isle_syntax.specs.Grammar.Phrases.{next_symbol_is}
 use Rattle.isle_syntax.specs.Inside.Reading.Readers.{done, Reader, read_map, seq, rest_of, opened, shut, closed, symbol_of, says}
-use Rattle.isle_syntax.specs.Trees.ExprTree.{ExprTree}
+use Rattle.isle_ast.specs.Trees.ExprTree.{ExprTree}
 use Rattle.isle_syntax.specs.Inside.Reading.TreeReading.{symbol_expr, LetBinding, call, bound_in, inner_expr, inner_on, expr_list, let_list, let_binding}
 use Rattle.isle_syntax.specs.Inside.Reading.TreeReading.{expr, expr_inner}
 use Rattle.isle_syntax.specs.Inside.Reading.KindReading.{expr_on}
@@ -50,30 +50,6 @@ expr_list_opens zero p ts r h e = absurd (omega arith)
 expr_list_opens (suc d) p ts r h e =
     let same : d ≡ suc d - 1 = omega arith in map_seq_done opened (expr_inner d) ts r (λ x. inner_expr x.0 x.1) p e
     ∙ ap (λ n. read_map (inner_expr p) (expr_inner n r)) same
-
--- where the word isn't `let`
-pub inner_call : (d : ℕ) (x : Ident) (ts r : List Placed) → false ≡ next_symbol_is (is_word (codes "let")) ts → symbol_of is_ident ts ≡ done x r
-    → expr_inner d ts ≡ read_map (call x) (rest_of (expr d) r)
-inner_call d x ts r n e = ap (λ b. inner_on (expr d) (let_list d) b ts) (sym n)
-    ∙ map_seq_done (symbol_of is_ident) (rest_of (expr d)) ts r (λ x. call x.0 x.1) x e
-
--- where it is, what follows it, what follows the bindings, and the closing parenthesis
-pub inner_let : (d : ℕ) (ts r : List Placed) → true ≡ next_symbol_is (is_word (codes "let")) ts → says (codes "let") ts ≡ done tt r
-    → expr_inner d ts ≡ read_map (λ x. bound_in x.0.1 x.1.0) (seq (let_list d) (seq (expr d) closed) r)
-inner_let d ts r n e =
-    ap (λ b. inner_on (expr d) (let_list d) b ts) (sym n)
-    ∙ map_seq_done (says (codes "let")) (seq (let_list d) (seq (expr d) closed)) ts r (λ x. bound_in x.1.0.1 x.1.1.0) tt e
-
-pub inner_let_bound : (d : ℕ) (lets : Pos × List LetBinding) (ts r s : List Placed) → true ≡ next_symbol_is (is_word (codes "let")) ts
-    → says (codes "let") ts ≡ done tt r → let_list d r ≡ done lets s
-    → expr_inner d ts ≡ read_map (λ x. bound_in lets.1 x.0) (seq (expr d) closed s)
-inner_let_bound d lets ts r s n e f = inner_let d ts r n e ∙ map_seq_done (let_list d) (seq (expr d) closed) r s (λ x. bound_in x.0.1 x.1.0) lets f
-
-pub inner_let_closed : (d : ℕ) (lets : Pos × List LetBinding) (body : ExprTree) (ts r s q : List Placed)
-    → true ≡ next_symbol_is (is_word (codes "let")) ts → says (codes "let") ts ≡ done tt r → let_list d r ≡ done lets s → expr d s ≡ done body q
-    → expr_inner d ts ≡ read_map (λ u. bound_in lets.1 body) (closed q)
-inner_let_closed d lets body ts r s q n e f g =
-    inner_let_bound d lets ts r s n e f ∙ map_seq_done (expr d) closed s q (λ x. bound_in lets.1 x.0) body g
 
 -- ---- bindings
 

@@ -6,7 +6,7 @@ use Rattle.std.specs.Prelude.{option_and_then}
 use Rattle.isle_syntax.specs.Tokens.PlacedTokens.{Placed, opening, closing, at_sign, symbol, int}
 use Rattle.isle_syntax.specs.Inside.Reading.Readers.{Read, done, fault, deep, Reader, after, read_map, seq, after_close, many, many_turn, at_end, rest_of}
 use Rattle.isle_syntax.specs.Inside.Reading.Readers.{all_of}
-use Rattle.isle_syntax.specs.declared.lexer.Pos.{Pos}
+use Rattle.isle_ast.specs.declared.pos.Pos.{Pos}
 use Rattle.isle_syntax.specs.Grammar.Phrases.{Both, Each, Closed, depth_left_after, depth_left}
 
 -- a place, where any will do
@@ -83,10 +83,6 @@ depth_left-append d (t ∷ u) v e h = depth_left-append_some (depth_left_after d
 nothing_before : (u v : List Placed) → [] ≡ u ++ v → u ≡ []
 nothing_before [] v e = refl
 nothing_before (t ∷ u) v e = absurd (cc)
-
-filled_end : (u : List Placed) (q : Pos) → u ++ closing q ∷ [] ≡ [] → ⊥
-filled_end [] q e = cc
-filled_end (t ∷ u) q e = cc
 
 -- ---- one and then another
 
@@ -301,9 +297,6 @@ module _ {A : Type 0} (L : A → List Placed → Type 0) (F1 F : List Placed
       let h = c.3 in
       absurd (starts.inside a h.0 (h.1 ++ (c.1 ++ w)) y q h.3 (sym (append_assoc h.0 h.1 (c.1 ++ w)) ∙ ap (λ x. x ++ (c.1 ++ w)) (sym h.2)
       ∙ sym (append_assoc c.0 c.1 w) ∙ ap (λ x. x ++ w) (sym c.2) ∙ e))
-
-  pub closed_filled : (b : List A) (v w : List Placed) → Closed L b v → v ++ w ≡ [] → ⊥
-  closed_filled b v w c e = filled_end c.0 c.4.0 (ap (λ x. c.0 ++ x) (sym c.4.1) ∙ sym c.2 ∙ nothing_before v w (sym e))
 
   closed_turn_follows : (n : ℕ) (ts : List Placed) → length ts < suc n → after_close ts ≡ None
       → ((x : List Placed) (q : Pos) (y : List Placed) → SameNext ts x → x ≡ closing q ∷ y → ⊥)

@@ -1,20 +1,20 @@
 -- Reading a constant where one stands next, where reading stops, and how much shorter one token leaves what is to read.
 use Rattle.std.proofs.Common.{◌≡◌, ℕ, ◌<◌, List, [], ◌∷◌, length, Bool, true, false, cond, Some, refl, sym, ap, subst, ◌∙◌, arith}
 use Rattle.isle_syntax.specs.declared.kind.Kind.TheVariants.{Const}
-use Rattle.isle_syntax.specs.declared.lexer.Pos.{Pos}
-use Rattle.isle_syntax.specs.declared.ast.Ident.{Ident}
+use Rattle.isle_ast.specs.declared.pos.Pos.{Pos}
+use Rattle.isle_ast.specs.declared.ast.Ident.{Ident}
 use Rattle.isle_syntax.specs.Tokens.PlacedTokens.{Placed, opening, closing, at_sign, symbol, int}
 use Rattle.isle_syntax.specs.Tokens.Names.{is_const}
 use Rattle.isle_syntax.specs.Inside.Reading.KindOf.{kind_at}
 use Rattle.isle_syntax.specs.Grammar.Phrases.{next_symbol_is}
 use Rattle.isle_syntax.specs.Inside.Reading.Readers.{Reader, done, fault, read_map, seq, opened, opened_within, after_at, any_symbol, symbol_of}
-use Rattle.isle_syntax.specs.declared.error.Error.{Error}
-use Rattle.isle_syntax.specs.declared.refusal.Refusal.{Refusal}
+use Rattle.isle_ast.specs.declared.error.Error.{Error}
+use Rattle.isle_ast.specs.declared.refusal.Refusal.{Refusal}
 use Rattle.isle_syntax.specs.Tokens.RemainingTokens.{RemainingTokens}
 use Rattle.isle_syntax.specs.Inside.Reading.Parsing.{bounds, RefusesAt, at_fault, stop_of}
 use Rattle.isle_syntax.specs.Inside.Reading.DefReading.{constant}
-use Rattle.isle_syntax.specs.Trees.PatternTree.{pattern_prim}
-use Rattle.isle_syntax.specs.Trees.ExprTree.{expr_prim}
+use Rattle.isle_ast.specs.Trees.PatternTree.{pattern_prim}
+use Rattle.isle_ast.specs.Trees.ExprTree.{expr_prim}
 use Rattle.isle_syntax.specs.Inside.Reading.TreeReading.{ident, after_dollar, pattern_with, pattern, expr}
 use Rattle.isle_syntax.proofs.Reading.PatternKinds.{pattern_at_kind}
 use Rattle.isle_syntax.proofs.Reading.ExprKinds.{expr_at_kind}
@@ -73,13 +73,6 @@ symbol_shorter (closing p ∷ ts) r x e = cc
 symbol_shorter (at_sign p ∷ ts) r x e = cc
 symbol_shorter (symbol p s ∷ ts) r x e = let same : ts ≡ r = cc in omega (arith, ap length same)
 symbol_shorter (int p n ∷ ts) r x e = cc
-
-of_cond : (p : List ℕ → Bool) (ts r : List Placed) (x : Ident) (b : Bool) → cond b (any_symbol ts) (fault ts) ≡ done x r → length r < length ts
-of_cond p ts r x true e = symbol_shorter ts r x e
-of_cond p ts r x false e = cc
-
-pub symbol_of_shorter : (p : List ℕ → Bool) (ts r : List Placed) (x : Ident) → symbol_of p ts ≡ done x r → length r < length ts
-symbol_of_shorter p ts r x e = of_cond p ts r x (next_symbol_is p ts) e
 
 pub at_shorter : (ts r : List Placed) → after_at ts ≡ Some r → length r < length ts
 at_shorter [] r e = cc

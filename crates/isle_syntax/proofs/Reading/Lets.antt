@@ -1,18 +1,18 @@
 -- Reading a `let` and its bindings, part by part.
 use Rattle.std.proofs.Common.{◌≡◌, ℕ, zero, suc, ◌-◌, ◌<◌, List, [], ◌∷◌, map, refl, sym, ap, ◌∙◌}
 use Rattle.std.specs.Prelude.{Result, Ok, Err, codes}
-use Rattle.isle_syntax.specs.declared.error.Error.{Error}
-use Rattle.isle_syntax.specs.declared.refusal.Refusal.{Refusal}
-use Rattle.isle_syntax.specs.declared.lexer.Pos.{Pos}
-use Rattle.isle_syntax.specs.declared.ast.LetDef.{LetDef}
+use Rattle.isle_ast.specs.declared.error.Error.{Error}
+use Rattle.isle_ast.specs.declared.refusal.Refusal.{Refusal}
+use Rattle.isle_ast.specs.declared.pos.Pos.{Pos}
+use Rattle.isle_ast.specs.declared.ast.LetDef.{LetDef}
 use Rattle.isle_syntax.specs.Tokens.PlacedTokens.{Placed}
 use Rattle.isle_syntax.specs.Tokens.RemainingTokens.{RemainingTokens}
 use Rattle.isle_syntax.specs.Tokens.Names.{is_word}
 use Rattle.isle_syntax.specs.Inside.Reading.Parsing.{bounds, Gives}
 use Rattle.isle_syntax.specs.Inside.Reading.Readers.{Read, done, fault, deep, read_map, seq, rest_of, opened, closed, word, symbol_of, says}
 use Rattle.isle_syntax.specs.Inside.Reading.Bindings.{binding_of}
-use Rattle.isle_syntax.specs.Trees.ExprShape.{expr_of, lets_of}
-use Rattle.isle_syntax.specs.Trees.ExprTree.{ExprTree, expr_let, more_lets}
+use Rattle.isle_ast.specs.Trees.ExprShape.{expr_of, lets_of}
+use Rattle.isle_ast.specs.Trees.ExprTree.{ExprTree, expr_let, more_lets}
 use Rattle.isle_syntax.specs.Inside.Reading.TreeReading.{LetBinding, let_trees, expr, let_list, let_binding}
 use Rattle.isle_syntax.proofs.Reading.ReadSteps.{fuse, map_seq_done}
 use Rattle.isle_syntax.proofs.Reading.ExprKinds.{let_list_opens}

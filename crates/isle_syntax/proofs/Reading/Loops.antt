@@ -1,10 +1,10 @@
 -- A loop that reads one after another, a turn at a time.
 use Rattle.std.proofs.Common.{◌≡◌, ℕ, zero, suc, ◌-◌, ◌<◌, List, [], ◌∷◌, ◌++◌, length, Bool, true, false, Option, Some, None, refl, sym, ap, subst}
 use Rattle.std.proofs.Common.{◌∙◌, append_assoc, append-nil, arith}
-use Rattle.isle_syntax.specs.declared.error.Error.{Error}
-use Rattle.isle_syntax.specs.declared.error.Error.TheVariants.{ParseError, SizeError}
-use Rattle.isle_syntax.specs.declared.refusal.Refusal.{Refusal}
-use Rattle.isle_syntax.specs.declared.refusal.Refusal.TheVariants.{Fault, Memory}
+use Rattle.isle_ast.specs.declared.error.Error.{Error}
+use Rattle.isle_ast.specs.declared.error.Error.TheVariants.{ParseError, SizeError}
+use Rattle.isle_ast.specs.declared.refusal.Refusal.{Refusal}
+use Rattle.isle_ast.specs.declared.refusal.Refusal.TheVariants.{Fault, Memory}
 use Rattle.std.specs.Prelude.{Result}
 use Rattle.isle_syntax.specs.Tokens.PlacedTokens.{Placed}
 use Rattle.isle_syntax.specs.Tokens.RemainingTokens.{RemainingTokens}
@@ -155,7 +155,3 @@ module _ {A : Type 0} (stop : List Placed → Option (List Placed)) (p : Reader 
 pub turns_end : {A : Type 0} (stop : List Placed → Option (List Placed)) (p : Reader A) (all : Read (List A)) (xs : List A) (left r : List Placed)
     → Turns stop p all xs left → stop left ≡ Some r → all ≡ done xs r
 turns_end stop p all xs left r t e = t.same ∙ ap (found_before xs) (many_stop stop p t.turns left r t.enough e) ∙ ap (λ l. done l r) (append-nil xs)
-
-pub turns_begin : {A : Type 0} (stop : List Placed → Option (List Placed)) (p : Reader A) (ts : List Placed)
-    → Turns stop p (many stop p (suc (length ts)) ts) [] ts
-turns_begin stop p ts = record { turns = suc (length ts); enough = omega arith; same = none_before (many stop p (suc (length ts)) ts) }

@@ -1,14 +1,14 @@
 -- Reading that begins with a parenthesis, step by step.
 use Rattle.std.proofs.Common.{◌≡◌, ℕ, zero, suc, ◌-◌, ◌<◌, List, [], ◌∷◌, refl, sym, subst, ◌∙◌, arith}
-use Rattle.isle_syntax.specs.declared.lexer.Pos.{Pos}
-use Rattle.isle_syntax.specs.declared.error.Error.{Error}
-use Rattle.isle_syntax.specs.declared.refusal.Refusal.{Refusal}
-use Rattle.isle_syntax.specs.declared.refusal.Refusal.TheVariants.{Fault, Memory}
+use Rattle.isle_ast.specs.declared.pos.Pos.{Pos}
+use Rattle.isle_ast.specs.declared.error.Error.{Error}
+use Rattle.isle_ast.specs.declared.refusal.Refusal.{Refusal}
+use Rattle.isle_ast.specs.declared.refusal.Refusal.TheVariants.{Fault, Memory}
 use Rattle.isle_syntax.specs.Tokens.PlacedTokens.{Placed, opening, closing, at_sign, symbol, int}
 use Rattle.isle_syntax.specs.Tokens.RemainingTokens.{RemainingTokens}
 use Rattle.isle_syntax.specs.Inside.Reading.Parsing.{Stop, nowhere, stop_of, TellsStop, RefusesAt}
 use Rattle.isle_syntax.specs.Inside.Reading.Readers.{Read, done, Reader, read_map, seq, rest_of, opened, shut, opened_within}
-use Rattle.isle_syntax.specs.Trees.ItemTree.{item_list, item_list_of}
+use Rattle.isle_ast.specs.Trees.ItemTree.{item_list, item_list_of}
 use Rattle.isle_syntax.specs.Inside.Reading.TreeReading.{item, item_list_reader, pattern_list, expr_list, let_list, let_binding}
 use Rattle.isle_syntax.proofs.Productions.Items.{item_list_reads}
 use Rattle.isle_syntax.proofs.Reading.Loops.{stop_map, stop_after, tells_some}

@@ -3,14 +3,14 @@ use Rattle.std.proofs.Common.{◌≡◌, ℕ, zero, suc, ◌-◌, ◌<◌, List,
 use Rattle.std.specs.Prelude.{codes}
 use Rattle.isle_syntax.specs.declared.kind.Kind.{Kind}
 use Rattle.isle_syntax.specs.declared.kind.Kind.TheVariants.{True, False, Const, Wildcard, Name, Other}
-use Rattle.isle_syntax.specs.declared.lexer.Pos.{Pos}
-use Rattle.isle_syntax.specs.declared.ast.Ident.{Ident}
+use Rattle.isle_ast.specs.declared.pos.Pos.{Pos}
+use Rattle.isle_ast.specs.declared.ast.Ident.{Ident}
 use Rattle.isle_syntax.specs.Tokens.PlacedTokens.{Placed, opening, closing, at_sign, symbol, int}
 use Rattle.isle_syntax.specs.Tokens.Names.{is_word}
 use Rattle.isle_syntax.specs.Inside.Reading.KindOf.{kind_at, symbol_kind}
 use Rattle.isle_syntax.specs.Inside.Reading.Readers.{Read, done, fault, deep, Reader, after, read_map, seq, rest_of, opened, shut, after_at, any_symbol}
 use Rattle.isle_syntax.specs.Inside.Reading.Readers.{symbol_of}
-use Rattle.isle_syntax.specs.Trees.PatternTree.{PatternTree, pattern_var, pattern_bind, pattern_term, pattern_and}
+use Rattle.isle_ast.specs.Trees.PatternTree.{PatternTree, pattern_var, pattern_bind, pattern_term, pattern_and}
 use Rattle.isle_syntax.specs.Inside.Reading.TreeReading.{ident, pattern_trees, is_head, listed, named, symbol_pattern, pattern_with, bound, pattern_list}
 use Rattle.isle_syntax.specs.Inside.Reading.TreeReading.{pattern}
 use Rattle.isle_syntax.specs.Inside.Reading.KindReading.{bound_by, named_by, pattern_on}

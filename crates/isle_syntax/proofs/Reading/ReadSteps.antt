@@ -15,9 +15,6 @@ module _ {A B : Type 0} (p : Reader A) (q : Reader B) (ts r : List Placed) where
   pub seq_fault : p ts ≡ fault r → seq p q ts ≡ fault r
   seq_fault e = ap (λ k. after k (λ a r. read_map (λ b. (a, b)) (q r))) e
 
-  pub seq_deep : p ts ≡ deep r → seq p q ts ≡ deep r
-  seq_deep e = ap (λ k. after k (λ a r. read_map (λ b. (a, b)) (q r))) e
-
   -- the second of two, and what becomes of both
   pub map_seq_done : {C : Type 0} (f : A × B → C) (a : A) → p ts ≡ done a r → read_map f (seq p q ts) ≡ read_map (λ b. f (a, b)) (q r)
   map_seq_done f a e = ap (read_map f) (seq_done a e) ∙ fuse f (λ b. (a, b)) (q r)

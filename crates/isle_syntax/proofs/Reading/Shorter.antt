@@ -1,7 +1,7 @@
 -- Reading leaves fewer tokens than there were.
 use Rattle.std.proofs.Common.{◌≡◌, ℕ, zero, suc, ◌-◌, ◌<◌, ◌≤◌, List, [], ◌∷◌, length, Bool, true, false, cond, Option, Some, None, refl, ap, arith}
-use Rattle.isle_syntax.specs.declared.lexer.Pos.{Pos}
-use Rattle.isle_syntax.specs.declared.ast.Ident.{Ident}
+use Rattle.isle_ast.specs.declared.pos.Pos.{Pos}
+use Rattle.isle_ast.specs.declared.ast.Ident.{Ident}
 use Rattle.isle_syntax.specs.Tokens.PlacedTokens.{Placed, opening, closing, at_sign, symbol, int}
 use Rattle.isle_syntax.specs.Inside.Reading.Readers.{Read, done, fault, deep, Reader, after, read_map, seq, after_close, many, many_turn, rest_of, opened}
 use Rattle.isle_syntax.specs.Inside.Reading.Readers.{shut, opened_within, closed, symbol_of}
@@ -30,9 +30,6 @@ followed (deep q) f b r e = cc
 
 pub map_shortens : {A B : Type 0} (f : A → B) (p : Reader A) → Shortens p → Shortens (λ ts. read_map f (p ts))
 map_shortens f p s = record { less = λ ts r b e. (let h = mapped f (p ts) b r e in s.less ts r h.0 h.1) }
-
-pub map_keeps : {A B : Type 0} (f : A → B) (p : Reader A) → NeverLengthens p → NeverLengthens (λ ts. read_map f (p ts))
-map_keeps f p s = record { no_more = λ ts r b e. (let h = mapped f (p ts) b r e in s.no_more ts r h.0 h.1) }
 
 pub seq_shortens : {A B : Type 0} (p : Reader A) (q : Reader B) → Shortens p → NeverLengthens q → Shortens (seq p q)
 seq_shortens p q s k = record {

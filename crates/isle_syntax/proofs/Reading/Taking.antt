@@ -1,14 +1,14 @@
 -- Taking a token whose kind is known.
 use Rattle.std.proofs.Common.{◌≡◌, ℕ, zero, suc, ◌<◌, List, [], ◌∷◌, Bool, true, false, cond, Some, refl, sym, ap, subst, ◌∙◌, arith}
-use Rattle.isle_syntax.specs.declared.lexer.Pos.{Pos}
+use Rattle.isle_ast.specs.declared.pos.Pos.{Pos}
 use Rattle.isle_syntax.specs.declared.kind.Kind.{Kind}
 use Rattle.isle_syntax.specs.declared.kind.Kind.TheVariants.{End, Open, Close, At, Int, True, False, Const, Wildcard, Name, Other}
 use Rattle.isle_syntax.specs.Tokens.PlacedTokens.{Placed, opening, closing, at_sign, symbol, int, pos_of}
 use Rattle.isle_syntax.specs.declared.lexer.Token.{Token}
 use Rattle.std.specs.Prelude.{Ok}
 use Rattle.isle_syntax.specs.declared.lexer.Token.TheVariants.{LParen, RParen, Symbol, Int as TokenInt, Big, At as TokenAt}
-use Rattle.isle_syntax.specs.declared.error.Error.{Error}
-use Rattle.isle_syntax.specs.declared.refusal.Refusal.{Refusal}
+use Rattle.isle_ast.specs.declared.error.Error.{Error}
+use Rattle.isle_ast.specs.declared.refusal.Refusal.{Refusal}
 use Rattle.isle_syntax.specs.Tokens.PlacedTokens.{placed, placed_at}
 use Rattle.isle_syntax.specs.Tokens.RemainingTokens.{RemainingTokens}
 use Rattle.isle_syntax.specs.Tokens.LexerCalls.{GivesToken}
@@ -18,7 +18,7 @@ use Rattle.isle_syntax.specs.Inside.Reading.Readers.{done, deep, opened, opened_
 use Rattle.isle_syntax.proofs.Reading.SymbolKinds.{const_text}
 use Rattle.isle_syntax.specs.Tokens.Names.{is_const}
 use Rattle.isle_syntax.specs.Grammar.Phrases.{next_symbol_is}
-use Rattle.isle_syntax.specs.declared.ast.Ident.{Ident}
+use Rattle.isle_ast.specs.declared.ast.Ident.{Ident}
 use Rattle.std.specs.Prelude.{slice_index}
 
 by_cond : (P : Kind → Type 0) (a b : Kind) (t : Bool) → P a → P b → P (cond t a b)
@@ -103,9 +103,6 @@ module _ (old mid new : RemainingTokens) (t : Pos × Token) (known : IsKnown old
 
   pub take_close_gives : Close ≡ kind_at old.left → TakesOr old new (after_close old.left) true
   take_close_gives k = (closes_then old.left new.left (placed t) k known_first, known_bounds)
-
-  pub take_at_gives : At ≡ kind_at old.left → TakesOr old new (after_at old.left) true
-  take_at_gives k = (at_then old.left new.left (placed t) k known_first, known_bounds)
 
   pub open_gives : (d : ℕ) → 0 < d → Open ≡ kind_at old.left → Gives (λ p. p) old new (Ok (pos_of (placed t))) (opened_within d old.left)
   open_gives d some k = (opens_within d old.left new.left (placed t) some k known_first, known_bounds)

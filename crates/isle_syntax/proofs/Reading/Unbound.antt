@@ -4,21 +4,21 @@ use Rattle.std.proofs.Common.{arith}
 use Rattle.std.specs.Prelude.{codes}
 use Rattle.isle_syntax.specs.declared.kind.Kind.{Kind}
 use Rattle.isle_syntax.specs.declared.kind.Kind.TheVariants.{End, Open, Close, At, Int, True, False, Const, Wildcard, Name, Other}
-use Rattle.isle_syntax.specs.declared.lexer.Pos.{Pos}
-use Rattle.isle_syntax.specs.declared.ast.Ident.{Ident}
+use Rattle.isle_ast.specs.declared.pos.Pos.{Pos}
+use Rattle.isle_ast.specs.declared.ast.Ident.{Ident}
 use Rattle.isle_syntax.specs.Tokens.PlacedTokens.{Placed, opening, closing, at_sign, symbol, int}
 use Rattle.isle_syntax.specs.Tokens.Names.{is_word}
 use Rattle.isle_syntax.specs.Inside.Reading.KindOf.{kind_at}
 use Rattle.isle_syntax.specs.Inside.Reading.Readers.{Read, done, fault, deep, read_map, seq, rest_of, opened, shut, after_at, any_symbol, symbol_of}
-use Rattle.isle_syntax.specs.Trees.PatternTree.{PatternTree, pattern_var, pattern_bind, pattern_term, pattern_and}
+use Rattle.isle_ast.specs.Trees.PatternTree.{PatternTree, pattern_var, pattern_bind, pattern_term, pattern_and}
 use Rattle.isle_syntax.specs.Inside.Reading.Parsing.{at_fault, stop_of}
-use Rattle.isle_syntax.specs.Inside.Trees.Chain.{bound}
+use Rattle.isle_ast.specs.Trees.Chain.{bound}
 use Rattle.isle_syntax.specs.Inside.Reading.TreeReading.{is_head, listed, pattern_trees, pattern_list, pattern}
 use Rattle.isle_syntax.specs.Inside.Reading.KindReading.{named_by, pattern_on, unbound_on, unbound}
 use Rattle.isle_syntax.proofs.Reading.ReadSteps.{fuse}
 use Rattle.isle_syntax.proofs.Reading.Leaves.{pattern_none, symbol_shorter}
 use Rattle.isle_syntax.proofs.Reading.PatternKinds.{pattern_at_kind, pattern_named, named_alone, named_bound}
-use Rattle.isle_syntax.proofs.Trees.Chains.{bound-append}
+use Rattle.isle_ast.proofs.Trees.Chains.{bound-append}
 
 pub unbound_at_kind : (d : ℕ) (ts : List Placed) (k : Kind) → k ≡ kind_at ts → unbound d ts ≡ unbound_on d k ts
 unbound_at_kind d ts k e = ap (λ k. unbound_on d k ts) (sym e)

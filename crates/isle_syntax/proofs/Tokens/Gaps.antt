@@ -31,9 +31,6 @@ pub record GapTurns (all left : List ℕ) : Type 0 where
   pub enough : length left < turns
   pub same : all ≡ gap turns left
 
-pub gap_begins : (ts : List ℕ) → GapTurns (gap_of ts) ts
-gap_begins ts = record { turns = suc (length ts); enough = omega arith; same = refl }
-
 gap_step : (n : ℕ) (ts : List ℕ) → 0 < n → gap n ts ≡ gap_turn (gap (n - 1)) (lead_of ts) ts
 unfolding gap
 gap_step zero ts h = absurd (omega arith)

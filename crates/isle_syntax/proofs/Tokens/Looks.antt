@@ -1,7 +1,7 @@
 -- What a lexer finds next, against the tokens of what it reads.
 use Rattle.std.proofs.Common.{◌≡◌, ℕ, ◌-◌, List, [], length, Bool, true, false, sym, ap, subst, ◌∙◌}
 use Rattle.isle_syntax.specs.declared.gap.Lead.{Lead}
-use Rattle.isle_syntax.specs.declared.lexer.Pos.{Pos}
+use Rattle.isle_ast.specs.declared.pos.Pos.{Pos}
 use Rattle.isle_syntax.specs.declared.lexer.Token.{Token}
 use Rattle.isle_syntax.specs.declared.lexer.Token.TheVariants.{Symbol}
 use Rattle.isle_syntax.specs.Tokens.RemainingTokens.{Source, next_pos}

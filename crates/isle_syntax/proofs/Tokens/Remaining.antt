@@ -2,14 +2,13 @@
 use Rattle.std.proofs.Common.{◌≡◌, ℕ, ◌≤◌, List, ◌∷◌, Bool, refl, sym, ap, subst, ◌∙◌, arith}
 use Rattle.std.specs.List.{All}
 use Rattle.std.proofs.lemmas.List.Elements.{All-nil, All-cons}
-use Rattle.isle_syntax.specs.declared.lexer.Pos.{Pos}
+use Rattle.isle_ast.specs.declared.pos.Pos.{Pos}
 use Rattle.isle_syntax.specs.declared.lexer.Token.{Token}
 use Rattle.isle_syntax.specs.declared.lexer.Token.TheVariants.{LParen, RParen, Symbol, Int, Big, At}
 use Rattle.isle_syntax.specs.declared.lexer.Lookahead.{Lookahead}
 use Rattle.isle_syntax.specs.Tokens.PlacedTokens.{Placed, pos_of, placed_at}
 use Rattle.isle_syntax.specs.declared.lexer.Lookahead.TheVariants.{Token as Given, End, Fault, Memory, Failed}
-use Rattle.isle_syntax.specs.Tokens.RemainingTokens.{Source, failed, next_pos}
-use Rattle.isle_syntax.specs.Positions.Printable.{IsIn}
+use Rattle.isle_syntax.specs.Tokens.RemainingTokens.{Source, failed, next_pos, IsIn}
 use Rattle.isle_syntax.specs.Tokens.LexerCalls.{IsRemaining}
 use Rattle.isle_syntax.specs.Tokens.TokensOf.{pos_of_rest, TokensOf, ended, stopped, token}
 use Rattle.isle_syntax.specs.Tokens.Finding.{Reading, reading}

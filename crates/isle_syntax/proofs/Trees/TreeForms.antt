@@ -1,14 +1,14 @@
 -- Patterns and expressions are their trees.
 use Rattle.std.proofs.Common.{◌≡◌, refl}
-use Rattle.isle_syntax.specs.declared.ast.Pattern.{Pattern}
-use Rattle.isle_syntax.specs.declared.ast.Pattern.TheVariants as patterns
-use Rattle.isle_syntax.specs.declared.ast.Expr.{Expr}
-use Rattle.isle_syntax.specs.declared.ast.Expr.TheVariants as exprs
-use Rattle.isle_syntax.specs.Trees.PatternTree.{PatternTree, pattern_var, pattern_bind, pattern_bool, pattern_int, pattern_prim, pattern_term}
-use Rattle.isle_syntax.specs.Trees.PatternTree.{pattern_wildcard, pattern_and, pattern_macro_arg}
-use Rattle.isle_syntax.specs.Trees.PatternShape.{pattern_of}
-use Rattle.isle_syntax.specs.Trees.ExprTree.{ExprTree, expr_term, expr_var, expr_bool, expr_int, expr_prim, expr_let}
-use Rattle.isle_syntax.specs.Trees.ExprShape.{expr_of}
+use Rattle.isle_ast.specs.declared.ast.Pattern.{Pattern}
+use Rattle.isle_ast.specs.declared.ast.Pattern.TheVariants as patterns
+use Rattle.isle_ast.specs.declared.ast.Expr.{Expr}
+use Rattle.isle_ast.specs.declared.ast.Expr.TheVariants as exprs
+use Rattle.isle_ast.specs.Trees.PatternTree.{PatternTree, pattern_var, pattern_bind, pattern_bool, pattern_int, pattern_prim, pattern_term}
+use Rattle.isle_ast.specs.Trees.PatternTree.{pattern_wildcard, pattern_and, pattern_macro_arg}
+use Rattle.isle_ast.specs.Trees.PatternShape.{pattern_of}
+use Rattle.isle_ast.specs.Trees.ExprTree.{ExprTree, expr_term, expr_var, expr_bool, expr_int, expr_prim, expr_let}
+use Rattle.isle_ast.specs.Trees.ExprShape.{expr_of}
 use Rattle.isle_syntax.specs.Inside.Reading.DefReading.{pattern_from, expr_from}
 
 pub pattern_of_from : (t : PatternTree) → pattern_of (pattern_from t) ≡ t

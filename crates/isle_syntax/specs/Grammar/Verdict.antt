@@ -1,15 +1,16 @@
 -- What a parser of a whole text promises, in the grammar's words.
-use Rattle.std.specs.Prelude.{◌≡◌, ℕ, List, [], ◌∷◌, ◌++◌, Bool, true, false, Some, map}
-use Rattle.isle_syntax.specs.declared.lexer.Pos.{Pos}
-use Rattle.isle_syntax.specs.declared.error.Span.{Span}
-use Rattle.isle_syntax.specs.declared.error.Error.{Error}
-use Rattle.isle_syntax.specs.declared.ast.Def.{Def}
-use Rattle.isle_syntax.specs.Errors.{IsParseOrSize, span_at}
+use Rattle.std.specs.Prelude.{◌≡◌, ℕ, List, [], ◌∷◌, ◌++◌, Bool, true, false, Some, map, length}
+use Rattle.isle_ast.specs.declared.pos.Pos.{Pos}
+use Rattle.isle_ast.specs.declared.error.Span.{Span}
+use Rattle.isle_ast.specs.declared.error.Error.{Error}
+use Rattle.isle_ast.specs.declared.ast.Def.{Def}
+use Rattle.isle_ast.specs.Errors.{IsParseOrSize, span_at}
 use Rattle.isle_syntax.specs.Tokens.PlacedTokens.{Placed, opening}
 use Rattle.isle_syntax.specs.Tokens.RemainingTokens.{RemainingTokens, next_pos}
 use Rattle.isle_syntax.specs.Grammar.Phrases.{depth_left}
 use Rattle.isle_syntax.specs.Grammar.DefGrammar.{SpellsText}
-use Rattle.isle_syntax.specs.Trees.WithoutPos.{def_without_pos}
+use Rattle.isle_ast.specs.Trees.WithoutPos.{def_without_pos}
+use Rattle.isle_syntax.specs.Tokens.TokensOf.{TokensOf}
 
 -- how many parentheses may be open at once
 abbrev pub max_nesting : ℕ
@@ -64,3 +65,16 @@ IsSpeltWithoutPos remaining defs = (placed : List Def) × IsSpelt remaining plac
 -- an error is the fault of a text: a parse error where no spelling goes on, or a size error at a parenthesis that is too deep
 abbrev pub IsFaultOf : RemainingTokens → Error → Type 0
 IsFaultOf remaining error = IsParseOrSize (FaultAt remaining) (DeepAt remaining) error
+
+-- a lexer of a text that has given nothing yet: all the text's tokens are still to come
+pub record IsWhole (text : List ℕ) (remaining : RemainingTokens) : Type 0 where
+  pub size : remaining.source.size ≡ length text
+  pub tokens : TokensOf remaining.source text remaining.left remaining.end remaining.clean
+
+-- as the file of this number, a text spells these definitions
+abbrev pub Spells : (file : ℕ) → List ℕ → List Def → Type 0
+Spells file text defs = (remaining : RemainingTokens) → IsWhole text remaining → remaining.source.file ≡ file → IsSpelt remaining defs
+
+-- an error is the fault of a text, as the file of this number
+abbrev pub IsFaultIn : (file : ℕ) → List ℕ → Error → Type 0
+IsFaultIn file text error = (remaining : RemainingTokens) → IsWhole text remaining → remaining.source.file ≡ file → IsFaultOf remaining error

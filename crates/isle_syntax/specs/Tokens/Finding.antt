@@ -2,7 +2,7 @@
 use Rattle.std.specs.Prelude.{ℕ, zero, suc, ◌+◌, ◌-◌, List, [], ◌∷◌, length, Bool, true, false, Option, Some, None}
 use Rattle.isle_syntax.specs.declared.gap.Lead.{Lead}
 use Rattle.isle_syntax.specs.declared.gap.Mark.{Mark}
-use Rattle.isle_syntax.specs.declared.lexer.Pos.{Pos}
+use Rattle.isle_ast.specs.declared.pos.Pos.{Pos}
 use Rattle.isle_syntax.specs.declared.lexer.Token.{Token}
 use Rattle.isle_syntax.specs.declared.lexer.Token.TheVariants.{LParen, RParen, At, Symbol}
 use Rattle.isle_syntax.specs.Tokens.PlacedTokens.{Placed, placed_at}

@@ -1,16 +1,15 @@
 -- What a lexer answers.
 use Rattle.std.specs.Prelude.{◌≡◌, ◌<◌, ◌≤◌, ℕ, List, [], ◌∷◌, true, false, All, AllPairs, Option, None, Some}
-use Rattle.isle_syntax.specs.declared.lexer.Pos.{Pos}
+use Rattle.isle_ast.specs.declared.pos.Pos.{Pos}
 use Rattle.isle_syntax.specs.declared.lexer.Token.{Token}
-use Rattle.isle_syntax.specs.declared.error.Span.{Span}
-use Rattle.isle_syntax.specs.declared.error.Error.{Error}
-use Rattle.isle_syntax.specs.declared.error.Error.TheVariants.{ParseError, TypeError, UnreachableError, OverlapError, ShadowedError, SizeError}
-use Rattle.isle_syntax.specs.declared.refusal.Refusal.{Refusal}
-use Rattle.isle_syntax.specs.declared.refusal.Refusal.TheVariants.{Fault, Memory}
+use Rattle.isle_ast.specs.declared.error.Span.{Span}
+use Rattle.isle_ast.specs.declared.error.Error.{Error}
+use Rattle.isle_ast.specs.declared.error.Error.TheVariants.{ParseError, TypeError, UnreachableError, OverlapError, ShadowedError, SizeError}
+use Rattle.isle_ast.specs.declared.refusal.Refusal.{Refusal}
+use Rattle.isle_ast.specs.declared.refusal.Refusal.TheVariants.{Fault, Memory}
 use Rattle.isle_syntax.specs.Tokens.PlacedTokens.{Placed, symbol, opening, closing, at_sign, int, pos_of, placed}
-use Rattle.isle_syntax.specs.Tokens.RemainingTokens.{LexerState, ready, starved, failed, RemainingTokens, remaining_pos, failed_at}
-use Rattle.isle_syntax.specs.Positions.Printable.{IsIn}
-use Rattle.isle_syntax.specs.Errors.{IsParseOrSize, span_at}
+use Rattle.isle_syntax.specs.Tokens.RemainingTokens.{LexerState, ready, starved, failed, RemainingTokens, remaining_pos, failed_at, IsIn}
+use Rattle.isle_ast.specs.Errors.{IsParseOrSize, span_at}
 
 -- a symbol is the first of these tokens
 abbrev pub BeginsWithSymbol : List Placed → Type 0

@@ -1,6 +1,6 @@
 -- Tokens in their places.
 use Rattle.std.specs.Prelude.{ℕ, ℤ, List}
-use Rattle.isle_syntax.specs.declared.lexer.Pos.{Pos}
+use Rattle.isle_ast.specs.declared.pos.Pos.{Pos}
 use Rattle.isle_syntax.specs.declared.lexer.Token.{Token}
 use Rattle.isle_syntax.specs.declared.lexer.Token.TheVariants.{LParen, RParen, Symbol, Int, Big, At}
 

@@ -1,12 +1,17 @@
 -- What a lexer hasn't given yet.
-use Rattle.std.specs.Prelude.{ℕ, List, [], ◌∷◌, Bool, false}
-use Rattle.isle_syntax.specs.declared.lexer.Pos.{Pos}
+use Rattle.std.specs.Prelude.{◌≡◌, ◌≤◌, ℕ, List, [], ◌∷◌, Bool, false}
+use Rattle.isle_ast.specs.declared.pos.Pos.{Pos}
 use Rattle.isle_syntax.specs.Tokens.PlacedTokens.{Placed, pos_of}
 
 -- a text that is read: the number of its file, and its length in bytes
 pub record Source : Type 0 where
   pub file : ℕ
   pub size : ℕ
+
+-- a position of a text, or its end
+pub record IsIn (source : Source) (pos : Pos) : Type 0 where
+  pub same_file : pos.file ≡ source.file
+  pub within : pos.offset ≤ source.size
 
 -- how a lexer goes on: it reads; there was no memory for its next token, which it will report; it has refused
 pub data LexerState : Type 0 where

@@ -1,7 +1,7 @@
 -- The tokens of a text.
 use Rattle.std.specs.Prelude.{◌≡◌, ◌<◌, ℕ, ◌-◌, List, [], ◌∷◌, length, Bool, true, false, not, Some}
 use Rattle.isle_syntax.specs.declared.gap.Lead.{Lead}
-use Rattle.isle_syntax.specs.declared.lexer.Pos.{Pos}
+use Rattle.isle_ast.specs.declared.pos.Pos.{Pos}
 use Rattle.isle_syntax.specs.declared.lexer.Token.{Token}
 use Rattle.isle_syntax.specs.declared.lexer.Token.TheVariants.{LParen, RParen, At, Symbol}
 use Rattle.isle_syntax.specs.Tokens.Names.{ends_symbol}

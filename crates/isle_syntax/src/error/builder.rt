@@ -1,8 +1,9 @@
 //! A builder of a report, which gathers faults and the source files that they lie in.
 ghost use Rattle.std.specs.Prelude.{◌≡◌, ◌∷◌, ◌++◌, [], IfOk};
 
-use crate::error::{Error, Errors};
-use crate::files::Files;
+use crate::error::Errors;
+use isle_ast::error::Error;
+use isle_ast::files::Files;
 use std::alloc::{AllocError, Global};
 use std::marker::Model;
 use std::rc::Rc;
@@ -24,7 +25,7 @@ impl Model for ErrorsBuilder {
 
 impl ErrorsBuilder {
     ghost use Rattle.std.specs.Prelude.{All};
-    ghost use Rattle.isle_syntax.specs.Errors.{IsPrintable};
+    ghost use Rattle.isle_ast.specs.Errors.{IsPrintable};
 
     /// No faults of no files.
     pub fn new(alloc: Global) -> Result<ErrorsBuilder, AllocError>

@@ -1,11 +1,12 @@
 //! The text of one error.
 ghost use Rattle.std.specs.Prelude.{All};
 ghost use Rattle.std.specs.Fmt.{WritesOnOk};
-ghost use Rattle.isle_syntax.specs.Errors.{IsPrintableSpan, IsPrintable, place_text, heading, fault_text, rules_text, error_text};
+ghost use Rattle.isle_ast.specs.Errors.{IsPrintableSpan, IsPrintable};
+ghost use Rattle.isle_syntax.specs.Errors.{place_text, heading, fault_text, rules_text, error_text};
 
-use crate::error::{Error, Span};
-use crate::files::Files;
-use crate::text::Text;
+use isle_ast::Text;
+use isle_ast::error::{Error, Span};
+use isle_ast::files::Files;
 use std::fmt;
 use std::fmt::Formatter;
 

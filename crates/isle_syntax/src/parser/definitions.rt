@@ -4,14 +4,14 @@ ghost use Rattle.isle_syntax.specs.declared.kind.Keyword.TheVariants as keyword;
 ghost use Rattle.isle_syntax.specs.Inside.Reading.Parsing.{Gives};
 ghost use Rattle.isle_syntax.specs.Inside.Reading.DefReading.{def, def_inner, def_on};
 ghost use Rattle.isle_syntax.specs.Tokens.LexerCalls.{IsRemaining};
-ghost use Rattle.isle_syntax.specs.Errors.{IfFault};
+ghost use Rattle.isle_ast.specs.Errors.{IfFault};
 ghost use Rattle.isle_syntax.specs.Grammar.Verdict.{IsSpelt, IsFaultOf};
 
-use crate::Refusal;
-use crate::ast::Def;
-use crate::error::Error;
 use crate::kind::Keyword;
 use crate::parser::{MAX_NESTING, Parser};
+use isle_ast::Refusal;
+use isle_ast::ast::Def;
+use isle_ast::error::Error;
 
 impl<'src> Parser<'src> {
     /// The definitions up to the end of the text.

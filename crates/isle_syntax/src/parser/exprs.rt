@@ -2,19 +2,19 @@
 ghost use Rattle.std.specs.Prelude.{◌≡◌, map, codes};
 ghost use Rattle.isle_syntax.specs.Grammar.TreeGrammar.{bits_of, is_large};
 ghost use Rattle.isle_syntax.specs.Inside.Reading.Bindings.{binding_of};
-ghost use Rattle.isle_syntax.specs.Trees.ExprShape.{expr_of};
-ghost use Rattle.isle_syntax.specs.Trees.ExprTree.{expr_bool, expr_int, expr_let, expr_prim, expr_term, expr_var};
+ghost use Rattle.isle_ast.specs.Trees.ExprShape.{expr_of};
+ghost use Rattle.isle_ast.specs.Trees.ExprTree.{expr_bool, expr_int, expr_let, expr_prim, expr_term, expr_var};
 ghost use Rattle.isle_syntax.specs.Inside.Reading.Parsing.{Gives};
 ghost use Rattle.isle_syntax.specs.Inside.Reading.Readers.{read_map, any_symbol, closed, integer, rest_of, says, seq};
 ghost use Rattle.isle_syntax.specs.Inside.Reading.TreeReading.{expr, expr_inner, expr_list, expr_trees, inner_expr, let_binding, let_list, let_trees};
 ghost use Rattle.isle_syntax.specs.Inside.Reading.DefReading.{constant, identifier};
 
-use crate::Refusal;
-use crate::ast::{BoxedExpr, Expr, Exprs, LetDef, LetDefs};
-use crate::error::Error;
 use crate::kind::Kind;
-use crate::lexer::Pos;
 use crate::parser::Parser;
+use isle_ast::Refusal;
+use isle_ast::ast::{BoxedExpr, Expr, Exprs, LetDef, LetDefs};
+use isle_ast::error::Error;
+use isle_ast::pos::Pos;
 
 impl<'src> Parser<'src> {
     /// An expression.

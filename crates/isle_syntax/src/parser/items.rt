@@ -1,15 +1,15 @@
 //! Items of kept definitions, read from tokens.
 ghost use Rattle.std.specs.Prelude.{◌≡◌, map};
-ghost use Rattle.isle_syntax.specs.Trees.ItemShape.{item_of};
+ghost use Rattle.isle_ast.specs.Trees.ItemShape.{item_of};
 ghost use Rattle.isle_syntax.specs.Inside.Reading.Parsing.{Gives};
 ghost use Rattle.isle_syntax.specs.Inside.Reading.Readers.{rest_of};
 ghost use Rattle.isle_syntax.specs.Inside.Reading.TreeReading.{item, item_list_reader};
 
-use crate::Refusal;
-use crate::ast::{KeptItem, KeptItems};
-use crate::error::Error;
 use crate::kind::{Kind, Literal};
 use crate::parser::Parser;
+use isle_ast::Refusal;
+use isle_ast::ast::{KeptItem, KeptItems};
+use isle_ast::error::Error;
 
 impl<'src> Parser<'src> {
     /// An item of a kept definition.

@@ -1,11 +1,11 @@
 //! What parse errors say: what was expected, and what stands there.
 ghost use Rattle.isle_syntax.specs.Inside.Told.{TellsSame};
 
-use crate::Refusal;
-use crate::ast::Ident;
-use crate::error::Error;
-use crate::lexer::{Pos, Token};
-use crate::text::Text;
+use crate::lexer::Token;
+use isle_ast::ast::Ident;
+use isle_ast::error::Error;
+use isle_ast::pos::Pos;
+use isle_ast::{Refusal, Text};
 use std::alloc::{AllocError, Global};
 
 /// `expected a type's name, found '('`.

@@ -2,22 +2,22 @@
 ghost use Rattle.std.specs.Prelude.{◌≡◌, map, IfOk, IfErr};
 ghost use Rattle.isle_syntax.specs.Grammar.Phrases.{next_symbol_is};
 ghost use Rattle.isle_syntax.specs.Grammar.TreeGrammar.{bits_of, is_large};
-ghost use Rattle.isle_syntax.specs.Trees.PatternTree.{pattern_var, pattern_bool, pattern_int, pattern_prim, pattern_wildcard};
+ghost use Rattle.isle_ast.specs.Trees.PatternTree.{pattern_var, pattern_bool, pattern_int, pattern_prim, pattern_wildcard};
 ghost use Rattle.isle_syntax.specs.Inside.Reading.KindReading.{unbound};
-ghost use Rattle.isle_syntax.specs.Trees.PatternShape.{pattern_of};
+ghost use Rattle.isle_ast.specs.Trees.PatternShape.{pattern_of};
 ghost use Rattle.isle_syntax.specs.Inside.Reading.Parsing.{Gives, NoToken, IsKnown};
 ghost use Rattle.isle_syntax.specs.Inside.Reading.Readers.{read_map, any_symbol, integer, symbol_of, rest_of};
 ghost use Rattle.isle_syntax.specs.Inside.Reading.TreeReading.{is_head, pattern, pattern_list};
 ghost use Rattle.isle_syntax.specs.Inside.Reading.DefReading.{constant};
 
-use crate::Refusal;
-use crate::ast::wrap::wrap;
-use crate::ast::{Ident, Pattern, Patterns};
-use crate::error::Error;
 use crate::kind::Kind;
 use crate::lexer::Token;
 use crate::parser::Parser;
 use crate::symbol::is_ident;
+use isle_ast::Refusal;
+use isle_ast::ast::wrap::wrap;
+use isle_ast::ast::{Ident, Pattern, Patterns};
+use isle_ast::error::Error;
 
 impl<'src> Parser<'src> {
     /// A pattern, behind the names that it is bound to.

@@ -1,21 +1,21 @@
 //! Rules read from tokens: their names, priorities, patterns, clauses and right sides.
 ghost use Rattle.std.specs.Prelude.{◌≡◌, IfOk, IfErr, Some, None, cond};
-ghost use Rattle.isle_syntax.specs.Trees.ExprShape.{expr_of};
+ghost use Rattle.isle_ast.specs.Trees.ExprShape.{expr_of};
 ghost use Rattle.isle_syntax.specs.Grammar.TreeGrammar.{bits_of};
 ghost use Rattle.isle_syntax.specs.Inside.Reading.KindOf.{literal_of};
 ghost use Rattle.isle_syntax.specs.Inside.Reading.Parsing.{Gives, NoToken, IsKnown, TakesName, TakesPriority};
 ghost use Rattle.isle_syntax.specs.Inside.Reading.Readers.{read_map, seq, closed};
 ghost use Rattle.isle_syntax.specs.Inside.Reading.TreeReading.{expr, expr_inner, inner_expr};
-ghost use Rattle.isle_syntax.specs.Trees.PatternTree.{pattern_wildcard};
+ghost use Rattle.isle_ast.specs.Trees.PatternTree.{pattern_wildcard};
 ghost use Rattle.isle_syntax.specs.Inside.Reading.DefReading.{clause, if_let_read, if_read, is_open_next, is_priority, is_priority_next, rule, rule_body};
 
-use crate::Refusal;
-use crate::ast::{Expr, Ident, IfLet, Pattern, Rule};
-use crate::error::Error;
 use crate::kind::Literal;
-use crate::lexer::{Pos, Token};
+use crate::lexer::Token;
 use crate::parser::Parser;
-use crate::text::Seq;
+use isle_ast::ast::{Expr, Ident, IfLet, Pattern, Rule};
+use isle_ast::error::Error;
+use isle_ast::pos::Pos;
+use isle_ast::{Refusal, Seq};
 
 /// An integer as a priority, where it fits one.
 fn priority(literal: Literal) -> Option<i64>

@@ -7,13 +7,12 @@ ghost use Rattle.isle_syntax.specs.Inside.Reading.Readers.{read_map, symbol_of};
 ghost use Rattle.isle_syntax.specs.Grammar.DefGrammar.{is_kept_word};
 ghost use Rattle.isle_syntax.specs.Inside.Reading.DefReading.{signature, signature_parts, decl, extractor, extern_def, extern_on, converter, kept};
 
-use crate::Refusal;
-use crate::ast::{Converter, Decl, Extern, Extractor, Ident, Kept, KeptItems};
-use crate::error::Error;
 use crate::kind::{Keyword, is_kept_word};
 use crate::lexer::Token;
 use crate::parser::Parser;
-use crate::text::Seq;
+use isle_ast::ast::{Converter, Decl, Extern, Extractor, Ident, Kept, KeptItems};
+use isle_ast::error::Error;
+use isle_ast::{Refusal, Seq};
 
 impl<'src> Parser<'src> {
     /// What follows the word `decl`.

@@ -11,16 +11,16 @@ ghost use Rattle.isle_syntax.specs.Inside.Reading.Readers.{is_int_next};
 ghost use Rattle.isle_syntax.specs.Inside.Reading.TreeReading.{after_dollar};
 ghost use Rattle.isle_syntax.specs.Inside.Reading.DefReading.{identifier, constant, is_symbol_next};
 
-use crate::Refusal;
-use crate::ast::Ident;
-use crate::error::{Error, Span};
 use crate::gap::after_char;
 use crate::kind::{Keyword, Kind, Literal, is_const, keyword_in, kind_of};
-use crate::lexer::{Pos, Token};
+use crate::lexer::Token;
 use crate::parser::Parser;
 use crate::parser::messages::{expected, in_order};
 use crate::symbol::is_ident;
-use crate::text::Text;
+use isle_ast::ast::Ident;
+use isle_ast::error::{Error, Span};
+use isle_ast::pos::Pos;
+use isle_ast::{Refusal, Text};
 use std::alloc::{AllocError, Global};
 
 impl<'src> Parser<'src> {

@@ -5,15 +5,14 @@ ghost use Rattle.isle_syntax.specs.Inside.Reading.Readers.{read_map, seq, rest_o
 ghost use Rattle.isle_syntax.specs.Inside.Reading.DefReading.{identifier, field, fields, fields_named, fields_numbered, variant, value, value_at};
 ghost use Rattle.isle_syntax.specs.Inside.Reading.DefReading.{type_value, marks, marked_of, type_def};
 
-use crate::Refusal;
-use crate::ast::{
+use crate::kind::Keyword;
+use crate::parser::Parser;
+use isle_ast::ast::{
     Fields, Ident, StructField, StructFields, TupleField, TupleFields, Type, TypeValue, Variant,
 };
-use crate::error::Error;
-use crate::kind::Keyword;
-use crate::lexer::Pos;
-use crate::parser::Parser;
-use crate::text::Seq;
+use isle_ast::error::Error;
+use isle_ast::pos::Pos;
+use isle_ast::{Refusal, Seq};
 
 impl<'src> Parser<'src> {
     /// What follows the word `type`.

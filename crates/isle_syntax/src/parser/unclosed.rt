@@ -1,12 +1,13 @@
 //! The definition that a parse error leaves open.
 ghost use Rattle.isle_syntax.specs.Inside.Told.{TellsSame};
 
-use crate::Refusal;
-use crate::error::Error;
-use crate::files::LineMap;
 use crate::kind::{Keyword, keyword_of};
-use crate::lexer::{Lexer, Pos, Token};
+use crate::lexer::{Lexer, Token};
 use crate::parser::messages::{below, unchanged};
+use isle_ast::Refusal;
+use isle_ast::error::Error;
+use isle_ast::files::LineMap;
+use isle_ast::pos::Pos;
 use std::alloc::{AllocError, Global};
 
 /// The text of a file that is parsed.

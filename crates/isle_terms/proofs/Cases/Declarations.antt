@@ -1,15 +1,15 @@
 -- Worked cases: what a declaration and a function of the host make, and where declarations break a rule or exceed a size.
 use Rattle.std.proofs.Common.{◌≡◌, ◌<◌, ℕ, zero, suc, Bool, true, false, List, [], ◌∷◌, length, None, Some, refl, codes, inl}
 use Rattle.std.proofs.Common.{slice_get, slice_index_or, arith}
-use Rattle.isle_syntax.specs.declared.lexer.Pos.{Pos}
-use Rattle.isle_syntax.specs.declared.ast.Ident.{Ident}
-use Rattle.isle_syntax.specs.declared.ast.Decl.{Decl as DeclTree}
-use Rattle.isle_syntax.specs.declared.ast.Extern.TheVariants.{Constructor as extern_constructor}
-use Rattle.isle_syntax.specs.declared.ast.Def.{Def}
-use Rattle.isle_syntax.specs.declared.ast.Def.TheVariants.{Decl, Extern}
+use Rattle.isle_ast.specs.declared.pos.Pos.{Pos}
+use Rattle.isle_ast.specs.declared.ast.Ident.{Ident}
+use Rattle.isle_ast.specs.declared.ast.Decl.{Decl as DeclTree}
+use Rattle.isle_ast.specs.declared.ast.Extern.TheVariants.{Constructor as extern_constructor}
+use Rattle.isle_ast.specs.declared.ast.Def.{Def}
+use Rattle.isle_ast.specs.declared.ast.Def.TheVariants.{Decl, Extern}
 use Rattle.isle_types.specs.Environment.{Environment}
-use Rattle.isle_terms.specs.Signatures.{external_constructor, declared_form, Signature}
-use Rattle.isle_terms.specs.Definitions.{IsDeclaration, AreTerms, IsDefined}
+use Rattle.isle_rules.specs.Signatures.{external_constructor, declared_form, Signature}
+use Rattle.isle_rules.specs.Definitions.{IsDeclaration, AreTerms, IsDefined}
 use Rattle.isle_terms.specs.TermFaults.{DeclarationBreaks, term_twice, multi_and_partial, unknown_type, IsUndefined}
 use Rattle.isle_terms.specs.TypingFaults.{ExceedsTyping, by_arguments}
 

@@ -1,17 +1,17 @@
 -- Worked cases: the functions that stand for terms, their names, types and answers.
 use Rattle.std.proofs.Common.{◌≡◌, Bool, true, false, [], ◌∷◌, Option, None, Some, refl, codes}
-use Rattle.isle_syntax.specs.declared.lexer.Pos.{Pos}
+use Rattle.isle_ast.specs.declared.pos.Pos.{Pos}
 use Rattle.isle_types.specs.TypeTables.{TypeTables}
-use Rattle.isle_terms.specs.declared.signatures.ExternalSig.{ExternalSig}
-use Rattle.isle_terms.specs.declared.signatures.ReturnKind.TheVariants as kinds
-use Rattle.isle_terms.specs.declared.terms.ConstructorKind.{ConstructorKind}
-use Rattle.isle_terms.specs.declared.terms.ConstructorKind.TheVariants.{InternalConstructor, ExternalConstructor}
-use Rattle.isle_terms.specs.declared.terms.ExtractorKind.{ExtractorKind}
-use Rattle.isle_terms.specs.declared.terms.ExtractorKind.TheVariants.{ExternalExtractor}
-use Rattle.isle_terms.specs.declared.terms.TermFlags.{TermFlags}
-use Rattle.isle_terms.specs.declared.terms.Term.{Term}
-use Rattle.isle_terms.specs.declared.terms.TermKind.TheVariants.{Struct, Decl}
-use Rattle.isle_terms.specs.ExternalSigs.{text_of, signature, host_names, extractor_sig_of, constructor_sig_of, returns}
+use Rattle.isle_rules.specs.declared.signatures.ExternalSig.{ExternalSig}
+use Rattle.isle_rules.specs.declared.signatures.ReturnKind.TheVariants as kinds
+use Rattle.isle_rules.specs.declared.terms.ConstructorKind.{ConstructorKind}
+use Rattle.isle_rules.specs.declared.terms.ConstructorKind.TheVariants.{InternalConstructor, ExternalConstructor}
+use Rattle.isle_rules.specs.declared.terms.ExtractorKind.{ExtractorKind}
+use Rattle.isle_rules.specs.declared.terms.ExtractorKind.TheVariants.{ExternalExtractor}
+use Rattle.isle_rules.specs.declared.terms.TermFlags.{TermFlags}
+use Rattle.isle_rules.specs.declared.terms.Term.{Term}
+use Rattle.isle_rules.specs.declared.terms.TermKind.TheVariants.{Struct, Decl}
+use Rattle.isle_rules.specs.ExternalSigs.{text_of, signature, host_names, extractor_sig_of, constructor_sig_of, returns}
 
 abbrev here : Pos
 here = record { file = 0; offset = 0 }

@@ -1,17 +1,17 @@
 -- Worked cases: what rules are called, and how often names are given.
 use Rattle.std.proofs.Common.{◌≡◌, ℕ, pos, true, false, List, [], ◌∷◌, ◌++◌, Option, None, Some, refl, codes}
 use Rattle.std.specs.Fmt.{decimal}
-use Rattle.isle_syntax.specs.declared.lexer.Pos.{Pos}
-use Rattle.isle_syntax.specs.declared.ast.Rule.{Rule as RuleTree}
-use Rattle.isle_syntax.specs.declared.ast.Def.TheVariants.{Rule}
-use Rattle.isle_syntax.specs.Trees.PatternTree.{pattern_term, no_patterns}
-use Rattle.isle_syntax.specs.Trees.PatternShape.{pattern_of}
-use Rattle.isle_syntax.specs.Positions.Files.{SourceFile}
+use Rattle.isle_ast.specs.declared.pos.Pos.{Pos}
+use Rattle.isle_ast.specs.declared.ast.Rule.{Rule as RuleTree}
+use Rattle.isle_ast.specs.declared.ast.Def.TheVariants.{Rule}
+use Rattle.isle_ast.specs.Trees.PatternTree.{pattern_term, no_patterns}
+use Rattle.isle_ast.specs.Trees.PatternShape.{pattern_of}
+use Rattle.isle_ast.specs.Positions.Files.{SourceFile}
 use Rattle.isle_types.specs.TypeTables.{TypeTables}
-use Rattle.isle_terms.specs.TypedRules.{TypedRule, no_typed, built_var}
-use Rattle.isle_terms.specs.Definitions.{root_name, times, is_among, name_of_rule, rule_named, rule_names}
+use Rattle.isle_rules.specs.TypedRules.{TypedRule, no_typed, built_var}
+use Rattle.isle_rules.specs.Definitions.{root_name, times, is_among, name_of_rule, rule_named, rule_names}
 use Rattle.isle_terms.specs.Inside.Collecting.RuleNames.{lone_mark, with_names}
-use Rattle.isle_terms.specs.Shown.RuleIdentifiers.{name_or_line}
+use Rattle.isle_rules.specs.Shown.RuleIdentifiers.{name_or_line}
 
 abbrev at : ℕ → Pos
 at offset = record { file = 0; offset = offset }
@@ -70,7 +70,8 @@ names : rule_names rules ≡ codes "a" ∷ codes "b" ∷ []
 names = refl
 
 -- rules get their names in order
-renamed : with_names (rule_called None ∷ rule_called None ∷ []) (Some (codes "a") ∷ None ∷ []) ≡ rule_called (Some (codes "a")) ∷ rule_called None ∷ []
+renamed : with_names (rule_called None ∷ rule_called None ∷ []) (Some (codes "a") ∷ None ∷ []) ≡ rule_called
+    (Some (codes "a")) ∷ rule_called None ∷ []
 renamed = refl
 
 abbrev types : TypeTables
@@ -82,6 +83,7 @@ files = record { name = codes "a.isle"; text = codes ";\n(rule" } ∷ []
 
 -- a rule is called by its name, or by its file and line
 called : (name_or_line types files (Some (record { 0 = 0 })) (at 3) ≡ Some (codes "first"))
-    × (name_or_line types files None (at 3) ≡ Some (codes "a.isle" ++ (codes " line " ++ decimal 2))) × (name_or_line types files None (at 0) ≡ Some (codes "a.isle" ++ (codes " line " ++ decimal 1)))
+    × (name_or_line types files None (at 3) ≡ Some (codes "a.isle" ++ (codes " line " ++ decimal 2)))
+    × (name_or_line types files None (at 0) ≡ Some (codes "a.isle" ++ (codes " line " ++ decimal 1)))
     × (name_or_line types [] None (at 0) ≡ None)
 called = (refl, refl, refl, refl)

@@ -1,17 +1,17 @@
 -- Worked cases: what is asked of terms, names and converters.
 use Rattle.std.proofs.Common.{◌≡◌, Bool, true, false, [], ◌∷◌, None, Some, refl, codes}
-use Rattle.isle_syntax.specs.declared.lexer.Pos.{Pos}
-use Rattle.isle_syntax.specs.Trees.PatternTree.{PatternTree, pattern_wildcard}
-use Rattle.isle_terms.specs.declared.terms.ConstructorKind.TheVariants.{InternalConstructor, ExternalConstructor}
-use Rattle.isle_terms.specs.declared.terms.ExtractorKind.TheVariants.{ExternalExtractor}
-use Rattle.isle_terms.specs.declared.terms.TermFlags.{TermFlags}
-use Rattle.isle_terms.specs.declared.terms.TermKind.{TermKind}
-use Rattle.isle_terms.specs.declared.terms.TermKind.TheVariants.{EnumVariant, Struct, Decl}
-use Rattle.isle_terms.specs.Terms.{is_variant_kind, is_struct_kind, is_partial_kind, is_recursive_kind, has_rules_kind, makes_kind}
-use Rattle.isle_terms.specs.Terms.{takes_apart_kind, has_host_constructor_kind, has_host_extractor_kind}
-use Rattle.isle_terms.specs.Signatures.{Flags, by_rules, by_template, external_extractor, variant_form, struct_form, declared_form, Signature}
-use Rattle.isle_terms.specs.Signatures.{Declared, term_named, has_constructor_form, has_extractor_form, flags_of, template_of}
-use Rattle.isle_terms.specs.Signatures.{put_in_for, converter_in}
+use Rattle.isle_ast.specs.declared.pos.Pos.{Pos}
+use Rattle.isle_ast.specs.Trees.PatternTree.{PatternTree, pattern_wildcard}
+use Rattle.isle_rules.specs.declared.terms.ConstructorKind.TheVariants.{InternalConstructor, ExternalConstructor}
+use Rattle.isle_rules.specs.declared.terms.ExtractorKind.TheVariants.{ExternalExtractor}
+use Rattle.isle_rules.specs.declared.terms.TermFlags.{TermFlags}
+use Rattle.isle_rules.specs.declared.terms.TermKind.{TermKind}
+use Rattle.isle_rules.specs.declared.terms.TermKind.TheVariants.{EnumVariant, Struct, Decl}
+use Rattle.isle_rules.specs.Terms.{is_variant_kind, is_struct_kind, is_partial_kind, is_recursive_kind, has_rules_kind, makes_kind}
+use Rattle.isle_rules.specs.Terms.{takes_apart_kind, has_host_constructor_kind, has_host_extractor_kind}
+use Rattle.isle_rules.specs.Signatures.{Flags, by_rules, by_template, external_extractor, variant_form, struct_form, declared_form, Signature}
+use Rattle.isle_rules.specs.Signatures.{Declared, term_named, has_constructor_form, has_extractor_form, flags_of, template_of}
+use Rattle.isle_rules.specs.Signatures.{put_in_for, converter_in}
 
 abbrev here : Pos
 here = record { file = 0; offset = 0 }

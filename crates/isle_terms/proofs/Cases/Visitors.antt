@@ -1,23 +1,23 @@
 -- Worked cases: what visitors are told of patterns and expressions, in order.
 use Rattle.std.proofs.Common.{◌≡◌, ℕ, pos, true, false, List, [], ◌∷◌, ◌++◌, length, None, Some, Ok, Err, refl, inl}
-use Rattle.isle_syntax.specs.declared.lexer.Pos.{Pos}
+use Rattle.isle_ast.specs.declared.pos.Pos.{Pos}
 use Rattle.isle_types.specs.declared.ids.TypeId.{TypeId}
 use Rattle.isle_types.specs.declared.ids.TermId.{TermId}
 use Rattle.isle_types.specs.declared.ids.VarId.{VarId}
-use Rattle.isle_terms.specs.declared.visit.fault.VisitFault.TheVariants.{Undefined}
-use Rattle.isle_terms.specs.declared.terms.ConstructorKind.TheVariants.{ExternalConstructor}
-use Rattle.isle_terms.specs.declared.terms.ExtractorKind.TheVariants.{ExternalExtractor}
-use Rattle.isle_terms.specs.declared.terms.Term.{Term}
-use Rattle.isle_terms.specs.declared.terms.TermKind.{TermKind}
-use Rattle.isle_terms.specs.declared.terms.TermKind.TheVariants.{EnumVariant, Decl}
-use Rattle.isle_terms.specs.Visits.Runs.{Run}
-use Rattle.isle_terms.specs.Visits.VisitScopes.{no_values, bound}
-use Rattle.isle_terms.specs.Visits.InternedTrees.{bind_pattern, var_pattern, int_pattern, term_pattern}
-use Rattle.isle_terms.specs.Visits.InternedTrees.{wildcard_pattern, and_pattern, no_patterns, more_patterns, term_expr, var_expr}
-use Rattle.isle_terms.specs.Visits.InternedTrees.{int_expr, let_expr, no_exprs, more_exprs, no_bindings, more_bindings}
-use Rattle.isle_terms.specs.Visits.VisitorCalls.{PatternCall, match_equal, match_bool, match_int, match_prim, match_variant, extract_struct}
-use Rattle.isle_terms.specs.Visits.VisitorCalls.{extract_outputs, ExprCall, const_int, construct, create_variant, opening, making_of}
-use Rattle.isle_terms.specs.Visits.Events.{visits, visits_expr}
+use Rattle.isle_rules.specs.declared.visit.fault.VisitFault.TheVariants.{Undefined}
+use Rattle.isle_rules.specs.declared.terms.ConstructorKind.TheVariants.{ExternalConstructor}
+use Rattle.isle_rules.specs.declared.terms.ExtractorKind.TheVariants.{ExternalExtractor}
+use Rattle.isle_rules.specs.declared.terms.Term.{Term}
+use Rattle.isle_rules.specs.declared.terms.TermKind.{TermKind}
+use Rattle.isle_rules.specs.declared.terms.TermKind.TheVariants.{EnumVariant, Decl}
+use Rattle.isle_rules.specs.Visits.Runs.{Run}
+use Rattle.isle_rules.specs.Visits.VisitScopes.{no_values, bound_by}
+use Rattle.isle_rules.specs.Visits.InternedTrees.{bind_pattern, var_pattern, int_pattern, term_pattern}
+use Rattle.isle_rules.specs.Visits.InternedTrees.{wildcard_pattern, and_pattern, no_patterns, more_patterns, term_expr, var_expr}
+use Rattle.isle_rules.specs.Visits.InternedTrees.{int_expr, let_expr, no_exprs, more_exprs, no_bindings, more_bindings}
+use Rattle.isle_rules.specs.Visits.VisitorCalls.{PatternCall, match_equal, match_bool, match_int, match_prim, match_variant, extract_struct}
+use Rattle.isle_rules.specs.Visits.VisitorCalls.{extract_outputs, ExprCall, const_int, construct, create_variant, opening, making_of}
+use Rattle.isle_rules.specs.Visits.Events.{visits, visits_expr}
 
 abbrev here : Pos
 here = record { file = 0; offset = 0 }
@@ -62,7 +62,7 @@ notes call s (Err f) s' = ⊥
 add_of_five : visits notes terms
     (and_pattern (ty 13) (more_patterns (bind_pattern (ty 13) (var 0) (wildcard_pattern (ty 13))) (more_patterns
     (term_pattern (ty 13) (id 0) (more_patterns (int_pattern (ty 1) (pos 5)) (more_patterns (var_pattern (ty 1) (var 0)) no_patterns))) no_patterns)))
-    0 no_values [] (Ok (bound no_values (var 0) 0))
+    0 no_values [] (Ok (bound_by no_values (var 0) 0))
     (match_variant 0 (ty 13) (ty 1 ∷ ty 1 ∷ []) (record { 0 = 4 }) ∷ match_int 1 (ty 1) (pos 5) ∷ match_equal 2 0 (ty 1) ∷ [])
 add_of_five = (
   _,
@@ -92,7 +92,7 @@ tells call s (Err f) s' = ⊥
 call_under_let : visits_expr tells terms
     (let_expr (ty 2) (more_bindings (var 1) (ty 1) (int_expr (ty 1) (pos 5)) no_bindings)
     (term_expr (ty 2) (id 1) (more_exprs (var_expr (ty 1) (var 0)) (more_exprs (var_expr (ty 1) (var 1)) no_exprs))))
-    (bound no_values (var 0) 9) [] (Ok 1)
+    (bound_by no_values (var 0) 9) [] (Ok 1)
     (const_int (ty 1) (pos 5) ∷ construct ((9, ty 1) ∷ (0, ty 1) ∷ []) (ty 2) (id 1) true false false false ∷ [])
 call_under_let = (
   _,

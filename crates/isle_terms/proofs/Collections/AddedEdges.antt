@@ -5,10 +5,11 @@ use Rattle.std.proofs.Common.{ap, subst}
 use Rattle.std.specs.Prelude.{slice_get}
 use Rattle.std.proofs.lemmas.List.{length-set, take_more}
 use Rattle.std.proofs.lemmas.Option.{same_Some, slice_get-get_or}
-use Rattle.isle_terms.specs.Definitions.{IsAmong}
+use Rattle.isle_rules.specs.Definitions.{IsAmong}
 use Rattle.isle_terms.specs.Inside.Collecting.Graphs.{HasEdge}
 use Rattle.isle_terms.specs.Inside.Collecting.ExtractorGraphs.{AddsEdges}
-use Rattle.isle_terms.proofs.Collections.Cycles.{set_cases, set_keeps, set_here, replicated}
+use Rattle.isle_rules.proofs.SetLists.{set_cases, set_keeps, set_here}
+use Rattle.isle_terms.proofs.Collections.Cycles.{replicated}
 
 -- an item of a longer list
 among_push : {X : Type 0} (xs : List X) (last x : X) → IsAmong (xs ++ last ∷ []) x → IsAmong xs x ⊎ (last ≡ x)

@@ -3,11 +3,11 @@ use Rattle.std.proofs.Common.{◌≡◌, ℕ, ◌+◌, ◌<◌, List, [], ◌∷
 use Rattle.std.specs.Prelude.{All}
 use Rattle.std.proofs.lemmas.List.Elements.{All-nil, All-cons, All-append, All-weaker, All-more}
 use Rattle.std.proofs.lemmas.Option.{slice_get-get_or}
-use Rattle.isle_syntax.specs.declared.lexer.Pos.{Pos}
-use Rattle.isle_syntax.specs.declared.error.Error.{Error}
+use Rattle.isle_ast.specs.declared.pos.Pos.{Pos}
+use Rattle.isle_ast.specs.declared.error.Error.{Error}
 use Rattle.isle_types.specs.TypeFaults.{IsTypeFault}
 use Rattle.isle_types.proofs.TypeReadings.{reading_then}
-use Rattle.isle_terms.specs.Definitions.{IsAmong}
+use Rattle.isle_rules.specs.Definitions.{IsAmong}
 use Rattle.isle_terms.specs.Inside.Collecting.Checks.{Checks}
 use Rattle.isle_terms.specs.Inside.Collecting.ExtractorChecks.{Adds}
 

@@ -1,8 +1,8 @@
 -- Facts of what calls answer, said otherwise.
 use Rattle.std.specs.Prelude.{Result, Ok, Err, OnOk, IfOk, IfErr}
-use Rattle.isle_syntax.specs.declared.refusal.Refusal.{Refusal}
-use Rattle.isle_syntax.specs.declared.refusal.Refusal.TheVariants.{Fault, Memory}
-use Rattle.isle_syntax.specs.Errors.{IfFault}
+use Rattle.isle_ast.specs.declared.refusal.Refusal.{Refusal}
+use Rattle.isle_ast.specs.declared.refusal.Refusal.TheVariants.{Fault, Memory}
+use Rattle.isle_ast.specs.Errors.{IfFault}
 
 -- where there is a value a fact holds, and so what follows from it
 pub ok_then : {T E : Type 0} {P Q : Type 0} (r : Result T E) → (P → Q) → OnOk r P → OnOk r Q

@@ -6,22 +6,22 @@ use Rattle.std.specs.Option.{option_map}
 use Rattle.std.proofs.lemmas.Bool.{false≢true, true≢false, not-true, not-false, and_parts, and_cases, or_cases, or_parts, or_from, or_left, or_right}
 use Rattle.std.proofs.lemmas.List.{map-append}
 use Rattle.std.proofs.lemmas.List.Elements.{All-weaker}
-use Rattle.isle_syntax.specs.declared.ast.Ident.{Ident}
-use Rattle.isle_syntax.specs.declared.ast.Decl.{Decl as DeclTree}
-use Rattle.isle_syntax.specs.declared.ast.Rule.{Rule as RuleTree}
-use Rattle.isle_syntax.specs.declared.ast.Extractor.{Extractor as ExtractorTree}
-use Rattle.isle_syntax.specs.declared.ast.Def.{Def}
-use Rattle.isle_syntax.specs.declared.lexer.Pos.{Pos}
-use Rattle.isle_syntax.specs.Trees.PatternShape.{pattern_of}
+use Rattle.isle_ast.specs.declared.ast.Ident.{Ident}
+use Rattle.isle_ast.specs.declared.ast.Decl.{Decl as DeclTree}
+use Rattle.isle_ast.specs.declared.ast.Rule.{Rule as RuleTree}
+use Rattle.isle_ast.specs.declared.ast.Extractor.{Extractor as ExtractorTree}
+use Rattle.isle_ast.specs.declared.ast.Def.{Def}
+use Rattle.isle_ast.specs.declared.pos.Pos.{Pos}
+use Rattle.isle_ast.specs.Trees.PatternShape.{pattern_of}
 use Rattle.isle_types.specs.Names.{position_of, AreDistinct}
 use Rattle.isle_types.specs.Environment.{Environment}
 use Rattle.isle_types.proofs.Zipped.{mapped_at, all_at}
 use Rattle.isle_types.proofs.NamePlaces.{place_found}
-use Rattle.isle_terms.specs.Signatures.{by_rules, external_constructor, Signature}
-use Rattle.isle_terms.specs.Definitions.{IsAmong, ExternalExtractor, declarations, rules_in, extractors_in, external_constructors}
-use Rattle.isle_terms.specs.Definitions.{declared_names, external_extractors, root_name, roots_of, is_among, function_for, template_for, external_extractor_for}
-use Rattle.isle_terms.specs.Definitions.{first_of, constructor_for, extractor_for, names_of_terms, IsDeclared, IsTerm, term_names}
-use Rattle.isle_terms.specs.Definitions.{extractor_names, external_constructor_names, KeepExtractorRules, KeepConstructorRules, IsDefined}
+use Rattle.isle_rules.specs.Signatures.{by_rules, external_constructor, Signature}
+use Rattle.isle_rules.specs.Definitions.{IsAmong, ExternalExtractor, declarations, rules_in, extractors_in, external_constructors}
+use Rattle.isle_rules.specs.Definitions.{declared_names, external_extractors, root_name, roots_of, is_among, function_for, template_for, external_extractor_for}
+use Rattle.isle_rules.specs.Definitions.{first_of, constructor_for, extractor_for, names_of_terms, IsDeclared, IsTerm, term_names}
+use Rattle.isle_rules.specs.Definitions.{extractor_names, external_constructor_names, KeepExtractorRules, KeepConstructorRules, IsDefined}
 use Rattle.isle_terms.specs.TermFaults.{names_of, IsTaken, DeclarationBreaks, multi_and_partial, IsUndeclared, named_extractors, ExtractorBreaks}
 use Rattle.isle_terms.specs.TermFaults.{internal_of_no_declared_term, external_of_no_declared_term, second_extractor, internal_of_multi}
 use Rattle.isle_terms.specs.TermFaults.{body_of_unknown_term, recursive, ConstructorBreaks, root_is_no_term, root_is_not_declared}
@@ -34,7 +34,8 @@ use Rattle.isle_terms.specs.Inside.Collecting.DefinitionChecks.{is_unused, is_il
 use Rattle.isle_terms.specs.Inside.Collecting.ExtractorChecks.{NamesUnknown, NamesKnown}
 use Rattle.isle_terms.specs.Inside.Collecting.ExtractorGraphs.{IsRecursiveAt, IsNotRecursive}
 use Rattle.isle_terms.proofs.Collections.ExtractorBodies.{among_of_map}
-use Rattle.isle_terms.proofs.Collections.NamedPlaces.{found_among, member_is_among, among_is_member, template_form, external_form}
+use Rattle.isle_rules.proofs.AmongNames.{found_among, member_is_among, among_is_member}
+use Rattle.isle_terms.proofs.Collections.NamedPlaces.{template_form, external_form}
 
 -- a name that is found among names occurs
 occurs : (names : List (List ℕ)) (name : List ℕ) → is_named names name ≡ true → IsAmong names name

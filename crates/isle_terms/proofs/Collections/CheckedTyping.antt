@@ -3,22 +3,22 @@ use Rattle.std.proofs.Common.{◌≡◌, ℕ, ◌+◌, ◌≤◌, Bool, true, fa
 use Rattle.std.specs.Prelude.{All}
 use Rattle.std.proofs.lemmas.List.{take_all}
 use Rattle.std.proofs.lemmas.List.Elements.{All-push}
-use Rattle.isle_syntax.specs.declared.ast.Ident.{Ident}
-use Rattle.isle_syntax.specs.declared.ast.Decl.{Decl as DeclTree}
-use Rattle.isle_syntax.specs.declared.ast.Rule.{Rule as RuleTree}
-use Rattle.isle_syntax.specs.declared.ast.Extractor.{Extractor as ExtractorTree}
-use Rattle.isle_syntax.specs.declared.ast.Def.{Def}
-use Rattle.isle_syntax.specs.declared.lexer.Pos.{Pos}
-use Rattle.isle_syntax.specs.declared.error.Error.{Error}
-use Rattle.isle_syntax.specs.declared.error.Error.TheVariants.{TypeError}
-use Rattle.isle_syntax.specs.Errors.{span_at}
+use Rattle.isle_ast.specs.declared.ast.Ident.{Ident}
+use Rattle.isle_ast.specs.declared.ast.Decl.{Decl as DeclTree}
+use Rattle.isle_ast.specs.declared.ast.Rule.{Rule as RuleTree}
+use Rattle.isle_ast.specs.declared.ast.Extractor.{Extractor as ExtractorTree}
+use Rattle.isle_ast.specs.declared.ast.Def.{Def}
+use Rattle.isle_ast.specs.declared.pos.Pos.{Pos}
+use Rattle.isle_ast.specs.declared.error.Error.{Error}
+use Rattle.isle_ast.specs.declared.error.Error.TheVariants.{TypeError}
+use Rattle.isle_ast.specs.Errors.{span_at}
 use Rattle.isle_types.specs.Names.{AreDistinct}
 use Rattle.isle_types.specs.Environment.{Environment}
 use Rattle.isle_types.proofs.Lists.{taken_more}
-use Rattle.isle_terms.specs.Signatures.{Signature}
-use Rattle.isle_terms.specs.Definitions.{ExternalExtractor, declarations, rules_in, extractors_in, external_constructors, external_extractors}
-use Rattle.isle_terms.specs.Definitions.{roots_of, AreTerms, names_of_terms, IsDefined, extractor_names, external_constructor_names}
-use Rattle.isle_terms.specs.Definitions.{KeepExtractorRules, KeepConstructorRules}
+use Rattle.isle_rules.specs.Signatures.{Signature}
+use Rattle.isle_rules.specs.Definitions.{ExternalExtractor, declarations, rules_in, extractors_in, external_constructors, external_extractors}
+use Rattle.isle_rules.specs.Definitions.{roots_of, AreTerms, names_of_terms, IsDefined, extractor_names, external_constructor_names}
+use Rattle.isle_rules.specs.Definitions.{KeepExtractorRules, KeepConstructorRules}
 use Rattle.isle_terms.specs.TermFaults.{names_of, IsTaken, named_terms, named_extractors, ConverterBreaks, term_twice}
 use Rattle.isle_terms.specs.TypingFaults.{BreaksTyping, of_declarations, of_constructors, of_extractors, of_converters, of_no_use}
 use Rattle.isle_terms.specs.TypingFaults.{of_rule_names, named_rules}
@@ -28,7 +28,7 @@ use Rattle.isle_terms.specs.Inside.Collecting.ExtractorChecks.{Adds, NamesUnknow
 use Rattle.isle_terms.specs.Inside.Collecting.ExtractorGraphs.{IsRecursiveAt, IsNotRecursive}
 use Rattle.isle_terms.proofs.Collections.AddedErrors.{adds_one, adds_by, adds_both, adds_checks, checks_adds}
 use Rattle.isle_terms.proofs.Collections.CheckedDefinitions.{extractors_named, hosts_named, constructors_kept, extractors_kept}
-use Rattle.isle_terms.specs.Definitions.{declared_names}
+use Rattle.isle_rules.specs.Definitions.{declared_names}
 use Rattle.isle_terms.specs.Inside.Collecting.Parts.{HasRootAmong}
 use Rattle.isle_terms.proofs.Collections.CheckedDefinitions.{ill_root_breaks}
 use Rattle.isle_terms.proofs.Collections.CheckedDefinitions.{roots_kept, ill_host_breaks, second_host_breaks}
@@ -46,43 +46,6 @@ pub adds_wider : {Broken Wider : Pos → Type 0} {Kept Then : Type 0} {old new :
     → Adds Broken Kept old new → Adds Wider Then old new
 adds_wider {Broken} {Wider} {Kept} {Then} {old} {new} wider more adds = adds_by Broken Wider Kept Then old new wider more adds
 
--- nothing more is added
-pub adds_same : {Broken : Pos → Type 0} {Kept Also : Type 0} {old mid : List Error} (new : List Error) → new ≡ mid → (Kept → Also)
-    → Adds Broken Kept old mid → Adds Broken Also old new
-adds_same {Broken} {Kept} {Also} {old} {mid} new same more adds =
-    subst (Adds Broken Also old) (sym same) (adds_by Broken Broken Kept Also old mid (λ _ broken. broken) more adds)
-
--- a fault is added where a rule is broken
-pub adds_fault : {Broken : Pos → Type 0} {Kept Also : Type 0} {old mid : List Error} (new : List Error) (message : List ℕ) (at : Pos)
-    → new ≡ mid ++ TypeError message (span_at at) ∷ [] → Broken at → Adds Broken Kept old mid → Adds Broken Also old new
-adds_fault {Broken} {Kept} {Also} {old} {mid} new message at is broken adds =
-    adds_by Broken Broken (Kept × Also) Also old new (λ _ here. here) (λ both. both.1)
-    (adds_both Broken Kept Also old mid new adds (adds_one Broken Also mid new (TypeError message (span_at at)) is broken))
-
--- an ill item adds a fault
-pub adds_ill : {X : Type 0} (xs : List X) (is_ill : X → Bool) (pos_of : X → Pos) (i : ℕ) (x : X) {old mid : List Error} (new : List Error)
-    (message : List ℕ) (at : Pos) → slice_get xs i ≡ Some x → new ≡ mid ++ TypeError message (span_at at) ∷ [] → is_ill x ≡ true → at ≡ pos_of x
-    → Adds (IsIllAt xs is_ill pos_of) (All (λ x. is_ill x ≡ false) (take i xs)) old mid
-    → Adds (IsIllAt xs is_ill pos_of) (All (λ x. is_ill x ≡ false) (take (i + 1) xs)) old new
-adds_ill xs is_ill pos_of i x new message at here is ill placed adds =
-    adds_fault new message at is (x, (i, here), ill, placed) adds
-
--- a well item adds none
-pub adds_well : {X : Type 0} (xs : List X) (is_ill : X → Bool) (pos_of : X → Pos) (i : ℕ) (x : X) {old mid : List Error} (new : List Error)
-    → slice_get xs i ≡ Some x → new ≡ mid → is_ill x ≡ false
-    → Adds (IsIllAt xs is_ill pos_of) (All (λ x. is_ill x ≡ false) (take i xs)) old mid
-    → Adds (IsIllAt xs is_ill pos_of) (All (λ x. is_ill x ≡ false) (take (i + 1) xs)) old new
-adds_well xs is_ill pos_of i x new here same well adds =
-    adds_same new same (λ before. subst (All (λ x. is_ill x ≡ false)) (sym (taken_more xs i x here))
-    (All-push (λ x. is_ill x ≡ false) (take i xs) x before well)) adds
-
--- all items were come to
-pub adds_done : {X : Type 0} (xs : List X) (is_ill : X → Bool) (pos_of : X → Pos) (i : ℕ) {old new : List Error} → length xs ≤ i
-    → Adds (IsIllAt xs is_ill pos_of) (All (λ x. is_ill x ≡ false) (take i xs)) old new
-    → Adds (IsIllAt xs is_ill pos_of) (All (λ x. is_ill x ≡ false) xs) old new
-adds_done xs is_ill pos_of i past adds =
-    adds_same _ refl (λ all. subst (All (λ x. is_ill x ≡ false)) (take_all i xs past) all) adds
-
 -- what each check adds is a fault of typing
 module _ (types : Environment) (expands : Bool) (levels : ℕ) (defs : List Def) where
   -- errors that are added are faults of typing; where none is, the rule is kept
@@ -94,60 +57,6 @@ module _ (types : Environment) (expands : Bool) (levels : ℕ) (defs : List Def)
       → Adds Broken Kept old new → AddsTyping Kept old new
   adds_typing Broken Kept old new wider adds =
       adds_by Broken (BreaksTyping types expands levels defs) Kept Kept old new wider (λ kept. kept) adds
-
-  -- the check of roots
-  pub roots_add : (old new : List Error) → Adds (IsIllAt (rules_in defs) (is_ill_root (declared_names defs)) (λ (rule : RuleTree). rule.pos))
-      (All (λ (rule : RuleTree). is_ill_root (declared_names defs) rule ≡ false) (rules_in defs)) old new
-      → AddsTyping (All (HasRootAmong (declared_names defs)) (rules_in defs)) old new
-  roots_add old new adds = adds_by _ _ _ _ old new (λ at ill. of_constructors at (ill_root_breaks defs at ill)) (roots_kept defs) adds
-
-  -- the check of external constructors
-  pub hosts_add : (old new : List Error) (Kept : Type 0)
-      → Adds (IsIllAt (external_constructors defs) (is_ill_host (declared_names defs) (roots_of (rules_in defs)))
-      (λ (host : Ident × Ident). host.0.1))
-      Kept old new → AddsTyping Kept old new
-  hosts_add old new Kept adds = adds_typing _ Kept old new (λ at ill. of_constructors at (ill_host_breaks defs at ill)) adds
-
-  -- the naming of external constructors
-  pub host_names_add : (old new : List Error) (Kept : Type 0)
-      → Adds (IsTaken (map (λ (external : Ident × Ident). (external.0.0, external.0.1)) (external_constructors defs))) Kept old new
-      → AddsTyping Kept old new
-  host_names_add old new Kept adds = adds_typing _ Kept old new (λ at taken. of_constructors at (second_host_breaks defs at taken)) adds
-
-  -- all that is checked of external constructors, one check after the other
-  pub constructors_add : (e0 e1 e2 : List Error)
-      → Adds (IsTaken (map (λ (external : Ident × Ident). (external.0.0, external.0.1)) (external_constructors defs)))
-      (AreDistinct (names_of (map (λ (external : Ident × Ident). (external.0.0, external.0.1)) (external_constructors defs)))) e0 e1
-      → Adds (IsIllAt (external_constructors defs) (is_ill_host (declared_names defs) (roots_of (rules_in defs)))
-      (λ (host : Ident × Ident). host.0.1))
-      (All (λ (host : Ident × Ident). is_ill_host (declared_names defs) (roots_of (rules_in defs)) host ≡ false) (external_constructors defs)) e1 e2
-      → AddsTyping (KeepConstructorRules defs) e0 e2
-  constructors_add e0 e1 e2 once well =
-      adds_wider (λ _ broken. broken) (λ both. constructors_kept defs both.1 (subst AreDistinct (hosts_named defs) both.0))
-      (adds_both (BreaksTyping types expands levels defs) _ _ e0 e1 e2 (host_names_add e0 e1 _ once) (hosts_add e1 e2 _ well))
-
-  -- the check of declared terms without a use
-  pub uses_add : (old new : List Error)
-      → Adds (IsIllAt (declarations defs) (is_unused (roots_of (rules_in defs)) (external_constructor_names defs) (extractor_names defs))
-      (λ (decl : DeclTree). decl.pos))
-      (All (λ (decl : DeclTree). is_unused (roots_of (rules_in defs)) (external_constructor_names defs) (extractor_names defs) decl ≡ false)
-      (declarations defs)) old new
-      → AddsTyping (All (IsDefined defs) (declarations defs)) old new
-  uses_add old new adds = adds_by _ _ _ _ old new (λ at ill. of_no_use at (unused_breaks defs at ill)) (uses_kept defs) adds
-
-  -- the check of marks
-  pub marks_add : (old new : List Error) → Adds (IsIllAt (declarations defs) is_ill_marked (λ (decl : DeclTree). decl.pos))
-      (All (λ (decl : DeclTree). is_ill_marked decl ≡ false) (declarations defs)) old new
-      → AddsTyping (All (λ (decl : DeclTree). decl.multi ≡ true → decl.partial ≡ false) (declarations defs)) old new
-  marks_add old new adds = adds_by _ _ _ _ old new (λ at ill. of_declarations at (ill_marks_break types defs at ill)) (marks_kept defs) adds
-
-  -- the naming of terms
-  pub term_names_add : (old new : List Error) (Kept : Type 0) → Adds (IsTaken (named_terms types defs)) Kept old new → AddsTyping Kept old new
-  term_names_add old new Kept adds = adds_typing _ Kept old new (λ at taken. of_declarations at (term_twice at taken)) adds
-
-  -- the naming of rules
-  pub rule_names_add : (old new : List Error) (Kept : Type 0) → Adds (IsTaken (named_rules defs)) Kept old new → AddsTyping Kept old new
-  rule_names_add old new Kept adds = adds_typing _ Kept old new of_rule_names adds
 
   -- where the terms are known, also what the checks of extractors and converters add
   module _ (terms : List Signature) (made : AreTerms types defs terms) where

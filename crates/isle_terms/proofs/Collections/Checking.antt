@@ -6,10 +6,10 @@ use Rattle.std.specs.Option.{option_map}
 use Rattle.std.proofs.lemmas.Option.{slice_get_read, none-some}
 use Rattle.std.proofs.lemmas.List.{take_all, length-map}
 use Rattle.std.proofs.lemmas.List.Elements.{All-push}
-use Rattle.isle_syntax.specs.declared.lexer.Pos.{Pos}
-use Rattle.isle_syntax.specs.declared.error.Error.{Error}
-use Rattle.isle_syntax.specs.declared.error.Error.TheVariants.{TypeError}
-use Rattle.isle_syntax.specs.Errors.{span_at}
+use Rattle.isle_ast.specs.declared.pos.Pos.{Pos}
+use Rattle.isle_ast.specs.declared.error.Error.{Error}
+use Rattle.isle_ast.specs.declared.error.Error.TheVariants.{TypeError}
+use Rattle.isle_ast.specs.Errors.{span_at}
 use Rattle.isle_types.proofs.Lists.{taken_more}
 use Rattle.isle_terms.specs.Inside.Collecting.Checks.{Checks, IsIllAt}
 use Rattle.isle_terms.proofs.Collections.AddedErrors.{adds_none, adds_one, adds_by, adds_both, adds_checks, checks_adds}

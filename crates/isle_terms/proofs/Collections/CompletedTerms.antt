@@ -3,22 +3,22 @@ use Rattle.std.proofs.Common.{◌≡◌, ℕ, suc, ◌+◌, ◌≤◌, List, [],
 use Rattle.std.specs.Prelude.{All}
 use Rattle.std.specs.List.{AllZip}
 use Rattle.std.proofs.lemmas.List.Elements.{All-nil, All-cons, All-append}
-use Rattle.isle_syntax.specs.declared.ast.Decl.{Decl as DeclTree}
-use Rattle.isle_syntax.specs.declared.ast.Def.{Def}
+use Rattle.isle_ast.specs.declared.ast.Decl.{Decl as DeclTree}
+use Rattle.isle_ast.specs.declared.ast.Def.{Def}
 use Rattle.isle_types.specs.IntTypes.{builtin_names}
 use Rattle.isle_types.specs.Names.{AreDistinct}
 use Rattle.isle_types.specs.TypeEnvs.{CountUp}
 use Rattle.isle_types.specs.Environment.{Environment, NamedType, NamedVariant, TypeShape, primitive, enum, struct}
-use Rattle.isle_terms.specs.declared.terms.Term.{Term}
-use Rattle.isle_terms.specs.declared.terms.TermKind.{TermKind}
-use Rattle.isle_terms.specs.declared.terms.TermKind.TheVariants.{EnumVariant, Struct, Decl}
-use Rattle.isle_terms.specs.Signatures.{Signature, TermForm, variant_form, struct_form, declared_form}
-use Rattle.isle_terms.specs.Definitions.{declarations, IsDeclaration, terms_of_types, terms_of_shape, variant_terms, names_of_terms, AreTerms}
-use Rattle.isle_terms.specs.Readings.Needs.{needed_by, needed_of}
+use Rattle.isle_rules.specs.declared.terms.Term.{Term}
+use Rattle.isle_rules.specs.declared.terms.TermKind.{TermKind}
+use Rattle.isle_rules.specs.declared.terms.TermKind.TheVariants.{EnumVariant, Struct, Decl}
+use Rattle.isle_rules.specs.Signatures.{Signature, TermForm, variant_form, struct_form, declared_form}
+use Rattle.isle_rules.specs.Definitions.{declarations, IsDeclaration, terms_of_types, terms_of_shape, variant_terms, names_of_terms, AreTerms}
+use Rattle.isle_rules.specs.Readings.Needs.{needed_by, needed_of}
 use Rattle.isle_terms.specs.TermFaults.{names_of, named_terms}
 use Rattle.isle_terms.specs.Inside.Collecting.DeclaredTerms.{IsShownForm, IsShownTerm, AreDeclaredTerms, AddsTerms}
 use Rattle.isle_terms.specs.Inside.Collecting.NamedItems.{named_term}
-use Rattle.isle_terms.proofs.Collections.TypeTerms.{zipped_append, count_append}
+use Rattle.isle_rules.proofs.Zipped.{zipped_append, count_append}
 use Rattle.isle_terms.proofs.Collections.TermNames.{terms_are_named, names_of_named}
 
 -- terms show the signatures of the declarations and of the types

@@ -11,6 +11,7 @@ use Rattle.isle_terms.specs.declared.env.cycles.Step.{Step}
 use Rattle.isle_terms.specs.Inside.Collecting.Graphs.{HasEdge, Leads, edge_at_once, path_further, AreWithin, IsAcyclic}
 use Rattle.isle_terms.specs.Inside.Collecting.Graphs.{IsFinished, IsOpen, IsReached, AreSettled, IsPassed, IsPath}
 use Rattle.isle_terms.specs.Inside.Collecting.Graphs.{IsOnPath, IsSearching, Goes, mark_work, marks_work, search_work}
+use Rattle.isle_rules.proofs.SetLists.{set_cases, set_keeps, set_here}
 
 -- a path begins with an edge
 pub first_edge : (edges : List (List ℕ)) (from to : ℕ) → Leads edges from to
@@ -33,39 +34,9 @@ closed_along edges P closed from to (edge_at_once _ _ edge) holds = closed from 
 closed_along edges P closed from to (path_further _ middle _ front back) holds =
     closed_along edges P closed middle to back (closed_along edges P closed from middle front holds)
 
--- what stands at a place after a write
-pub set_cases : {X : Type 0} (xs : List X) (at place : ℕ) (new x : X) → slice_get (set xs at new) place ≡ Some x
-    → ((at ≡ place) × (new ≡ x)) ⊎ (slice_get xs place ≡ Some x)
-set_cases [] at place new x is = inr is
-set_cases (y ∷ ys) zero zero new x is = inl (refl, same_Some new x is)
-set_cases (y ∷ ys) zero (suc place) new x is = inr is
-set_cases (y ∷ ys) (suc at) zero new x is = inr is
-set_cases (y ∷ ys) (suc at) (suc place) new x is =
-    elim (set_cases ys at place new x is) [ inl here ↦ inl (ap suc here.0, here.1) | inr there ↦ inr there ]
-
--- what stood at a place stands there after a write, or what was written does
-pub set_keeps : {X : Type 0} (xs : List X) (at place : ℕ) (new x : X) → slice_get xs place ≡ Some x
-    → (slice_get (set xs at new) place ≡ Some x) ⊎ ((at ≡ place) × (slice_get (set xs at new) place ≡ Some new))
-set_keeps [] at place new x is = inl is
-set_keeps (y ∷ ys) zero zero new x is = inr (refl, refl)
-set_keeps (y ∷ ys) zero (suc place) new x is = inl is
-set_keeps (y ∷ ys) (suc at) zero new x is = inl is
-set_keeps (y ∷ ys) (suc at) (suc place) new x is =
-    elim (set_keeps ys at place new x is) [ inl same ↦ inl same | inr here ↦ inr (ap suc here.0, here.1) ]
-
--- what was written stands at its place
-pub set_here : {X : Type 0} (xs : List X) (place : ℕ) (new x : X) → slice_get xs place ≡ Some x → slice_get (set xs place new) place ≡ Some new
-set_here [] place new x is = absurd (cc)
-set_here (y ∷ ys) zero new x is = refl
-set_here (y ∷ ys) (suc place) new x is = set_here ys place new x is
-
 -- a finished node isn't unseen
 unseen_finished : (marks : List Mark) (node : ℕ) → slice_get marks node ≡ Some Unseen → IsFinished marks node → ⊥
 unseen_finished marks node unseen finished = cc
-
--- an open node isn't unseen
-unseen_open : (marks : List Mark) (node : ℕ) → slice_get marks node ≡ Some Unseen → IsOpen marks node → ⊥
-unseen_open marks node unseen open_now = cc
 
 -- a finished node isn't open
 open_finished : (marks : List Mark) (node : ℕ) → IsOpen marks node → IsFinished marks node → ⊥
@@ -107,10 +78,6 @@ goes_open marks node unseen =
         | inr finished_then ↦ inr (finished other finished_then)
       ];
     }
-
--- nothing changes
-pub goes_same : (marks : List Mark) → Goes marks marks
-goes_same marks = record { finished = λ node was. was; reached = λ node was. was }
 
 -- one change after another
 pub goes_on : (old middle new : List Mark) → Goes old middle → Goes middle new → Goes old new
@@ -419,47 +386,6 @@ pub replicated : {X : Type 0} (many : ℕ) (x : X) (place : ℕ) (y : X) → sli
 replicated zero x place y is = absurd (cc)
 replicated (suc many) x zero y is = same_Some x y is
 replicated (suc many) x (suc place) y is = replicated many x place y is
-
--- nor are others the same
-unseen_is_not_finished : Unseen ≡ Finished → ⊥
-unseen_is_not_finished is = cc
-
--- nor these
-unseen_is_not_open : Unseen ≡ Open → ⊥
-unseen_is_not_open is = cc
-
--- nothing is known before a search
-pub search_none : (edges : List (List ℕ)) (marks : List Mark) → marks ≡ replicate (length edges) Unseen → IsSearching edges marks []
-search_none edges marks is =
-    let unseen : (node : ℕ) (mark : Mark) → slice_get marks node ≡ Some mark → Unseen ≡ mark = λ node mark at.
-    replicated (length edges) Unseen node mark (subst (λ (ms : List Mark). slice_get ms node ≡ Some mark) is at) in
-    record {
-      settled = record {
-        one_each = ap length is ∙ length-replicate (length edges) Unseen;
-        closed = λ from to finished edge. absurd (unseen_is_not_finished (unseen from Finished finished));
-        acyclic = λ node finished cycle. absurd (unseen_is_not_finished (unseen node Finished finished));
-      };
-      led = tt;
-      on_path = λ node open_now. absurd (unseen_is_not_open (unseen node Open open_now));
-    }
-
--- where no path is being searched, what was reached is finished
-pub reached_finished : (edges : List (List ℕ)) (marks : List Mark) (node : ℕ) → IsSearching edges marks [] → IsReached marks node
-    → IsFinished marks node
-reached_finished edges marks node searching (inl open_now) = absurd (searching.on_path node open_now)
-reached_finished edges marks node searching (inr finished) = finished
-
--- a node that isn't unseen was reached
-seen_reached : (marks : List Mark) (node : ℕ) (mark : Mark) → slice_get marks node ≡ Some mark → (mark ≡ Unseen → ⊥) → IsReached marks node
-seen_reached marks node Unseen is seen = absurd (seen refl)
-seen_reached marks node Open is seen = inl is
-seen_reached marks node Finished is seen = inr is
-
--- the node of a mark that isn't unseen is finished where no path is being searched
-pub seen_finished : (edges : List (List ℕ)) (marks : List Mark) (node : ℕ) (mark : Mark) → IsSearching edges marks [] → node < length marks
-    → mark ≡ get_or marks node mark → (mark ≡ Unseen → ⊥) → IsFinished marks node
-seen_finished edges marks node mark searching inside is seen =
-    reached_finished edges marks node searching (seen_reached marks node mark (mark_read marks node mark mark inside is refl) seen)
 
 -- where all nodes are finished there is no cycle
 pub all_acyclic : (edges : List (List ℕ)) (marks : List Mark) → AreSettled edges marks → ((node : ℕ) → node < length edges → IsFinished marks node)

@@ -1,21 +1,22 @@
 -- The faults of declarations are faults of typing, and what a refusal lists.
 use Rattle.std.proofs.Common.{◌≡◌, ℕ, ◌<◌, Bool, inl, inr, List, [], ◌∷◌, length, sym, subst, ◌∙◌}
 use Rattle.std.specs.Prelude.{All}
-use Rattle.isle_syntax.specs.declared.ast.Def.{Def}
-use Rattle.isle_syntax.specs.declared.error.Error.{Error}
-use Rattle.isle_syntax.specs.declared.lexer.Pos.{Pos}
+use Rattle.isle_ast.specs.declared.ast.Def.{Def}
+use Rattle.isle_ast.specs.declared.error.Error.{Error}
+use Rattle.isle_ast.specs.declared.pos.Pos.{Pos}
 use Rattle.isle_types.specs.Environment.{Environment}
 use Rattle.isle_types.specs.TypeFaults.{IsTypeFault, IsSizeFault}
 use Rattle.isle_types.proofs.Lists.{slice_get-kept, slice_get-last}
 use Rattle.isle_types.proofs.TypeReadings.{reading_then}
-use Rattle.isle_terms.specs.Definitions.{declarations}
+use Rattle.isle_rules.specs.Definitions.{declarations}
 use Rattle.isle_terms.specs.TermFaults.{DeclarationBreaks, unknown_type}
 use Rattle.isle_terms.specs.TypingFaults.{BreaksTyping, of_declarations, ExceedsTyping, by_arguments, AreTypingFaults}
 use Rattle.isle_terms.specs.Inside.Collecting.Checks.{Checks}
 use Rattle.isle_terms.specs.Inside.Collecting.DeclaredTerms.{of_argument, of_result, OneNamesUnknownType, IsOneLargeAt, IsAlone}
 
 -- a declaration that names an unknown type breaks a rule of declarations
-unknown_breaks : (types : Environment) (defs : List Def) (at : Pos) → OneNamesUnknownType types (declarations defs) at → DeclarationBreaks types defs at
+unknown_breaks : (types : Environment) (defs : List Def) (at : Pos) → OneNamesUnknownType types (declarations defs) at
+    → DeclarationBreaks types defs at
 unknown_breaks types defs at (decl, among, of_argument (name, (place, here), unknown)) =
     subst (DeclarationBreaks types defs) (sym unknown.1) (unknown_type decl name among
     (place, slice_get-kept decl.arg_tys (decl.ret_ty ∷ []) place name here) unknown.0)

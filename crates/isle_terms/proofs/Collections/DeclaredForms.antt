@@ -5,19 +5,19 @@ use Rattle.std.proofs.Common.{subst, ◌∙◌, slice_get, get_or}
 use Rattle.std.proofs.lemmas.Option.{slice_get_read, slice_get_past, slice_get-get_or}
 use Rattle.std.proofs.lemmas.List.{length-map}
 use Rattle.std.specs.Option.{option_map, option_and_then}
-use Rattle.isle_syntax.specs.declared.ast.Ident.{Ident}
-use Rattle.isle_syntax.specs.declared.ast.Def.{Def}
-use Rattle.isle_syntax.specs.declared.ast.Extractor.{Extractor as ExtractorTree}
-use Rattle.isle_syntax.specs.Trees.PatternShape.{pattern_of}
-use Rattle.isle_syntax.specs.Trees.TreeCalls.{has_macro_arg}
+use Rattle.isle_ast.specs.declared.ast.Ident.{Ident}
+use Rattle.isle_ast.specs.declared.ast.Def.{Def}
+use Rattle.isle_ast.specs.declared.ast.Extractor.{Extractor as ExtractorTree}
+use Rattle.isle_ast.specs.Trees.PatternShape.{pattern_of}
+use Rattle.isle_ast.specs.Trees.TreeCalls.{has_macro_arg}
 use Rattle.isle_types.specs.Names.{position_of}
 use Rattle.isle_types.proofs.Zipped.{all_at}
 use Rattle.isle_terms.specs.declared.env.definitions.HostExtractor.{HostExtractor}
-use Rattle.isle_terms.specs.Definitions.{HasPlainTemplates}
+use Rattle.isle_rules.specs.Definitions.{HasPlainTemplates}
 use Rattle.isle_terms.specs.declared.env.definitions.HostConstructor.{HostConstructor}
-use Rattle.isle_terms.specs.Signatures.{by_rules, external_constructor}
-use Rattle.isle_terms.specs.Definitions.{rules_in, roots_of, external_constructors, external_constructor_names, constructor_for}
-use Rattle.isle_terms.specs.Definitions.{extractors_in, external_extractors, extractor_names, extractor_for, first_of}
+use Rattle.isle_rules.specs.Signatures.{by_rules, external_constructor}
+use Rattle.isle_rules.specs.Definitions.{rules_in, roots_of, external_constructors, external_constructor_names, constructor_for}
+use Rattle.isle_rules.specs.Definitions.{extractors_in, external_extractors, extractor_names, extractor_for, first_of}
 use Rattle.isle_terms.specs.Inside.Collecting.DefinitionLists.{host_constructor_shown, host_extractor_shown}
 use Rattle.isle_terms.proofs.Collections.NamedPlaces.{constructor_place, extractor_place, internal_at_place, external_at_place}
 use Rattle.isle_terms.proofs.Collections.NamedPlaces.{template_form, external_form, either_at}

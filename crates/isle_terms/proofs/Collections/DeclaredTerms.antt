@@ -5,13 +5,13 @@ use Rattle.std.specs.Global.{Global}
 use Rattle.std.proofs.lemmas.List.{take_all}
 use Rattle.std.proofs.lemmas.List.Elements.{All-nil, All-push}
 use Rattle.std.proofs.lemmas.Slice.Zip.{all_zipped_more}
-use Rattle.isle_syntax.specs.declared.ast.Decl.{Decl as DeclTree}
-use Rattle.isle_syntax.specs.declared.ast.Def.{Def}
-use Rattle.isle_syntax.specs.declared.error.Error.{Error}
-use Rattle.isle_syntax.specs.declared.error.Error.TheVariants.{ParseError, TypeError, SizeError, UnreachableError, OverlapError, ShadowedError}
-use Rattle.isle_syntax.specs.declared.refusal.Refusal.{Refusal}
-use Rattle.isle_syntax.specs.declared.refusal.Refusal.TheVariants.{Fault, Memory}
-use Rattle.isle_syntax.specs.Errors.{type_error, size_error, error_kind, IfFault, IsFaultAnd}
+use Rattle.isle_ast.specs.declared.ast.Decl.{Decl as DeclTree}
+use Rattle.isle_ast.specs.declared.ast.Def.{Def}
+use Rattle.isle_ast.specs.declared.error.Error.{Error}
+use Rattle.isle_ast.specs.declared.error.Error.TheVariants.{ParseError, TypeError, SizeError, UnreachableError, OverlapError, ShadowedError}
+use Rattle.isle_ast.specs.declared.refusal.Refusal.{Refusal}
+use Rattle.isle_ast.specs.declared.refusal.Refusal.TheVariants.{Fault, Memory}
+use Rattle.isle_ast.specs.Errors.{type_error, size_error, error_kind, IfFault, IsFaultAnd}
 use Rattle.isle_types.specs.declared.ids.TermId.{TermId}
 use Rattle.isle_types.specs.Names.{KeepsNames}
 use Rattle.isle_types.specs.Environment.{Environment}
@@ -21,16 +21,16 @@ use Rattle.isle_types.specs.TypeFaults.{IsTypeFault, IsSizeFault}
 use Rattle.isle_types.proofs.Lists.{AllZip-weaker, taken_more}
 use Rattle.isle_types.proofs.FieldReadings.{count_more}
 use Rattle.isle_types.proofs.TypeReadings.{reading_then}
-use Rattle.isle_terms.specs.declared.terms.Term.{Term}
-use Rattle.isle_terms.specs.declared.terms.ConstructorKind.{ConstructorKind}
-use Rattle.isle_terms.specs.declared.terms.ConstructorKind.TheVariants.{InternalConstructor, ExternalConstructor}
-use Rattle.isle_terms.specs.declared.terms.ExtractorKind.{ExtractorKind}
-use Rattle.isle_terms.specs.declared.terms.ExtractorKind.TheVariants.{InternalExtractor, ExternalExtractor}
-use Rattle.isle_terms.specs.declared.terms.TermKind.{TermKind}
-use Rattle.isle_terms.specs.declared.terms.TermKind.TheVariants.{EnumVariant, Struct, Decl}
-use Rattle.isle_terms.specs.Signatures.{Constructor, by_rules, external_constructor, ExtractorForm, by_template, external_extractor, TermForm}
-use Rattle.isle_terms.specs.Signatures.{variant_form, struct_form, declared_form, Signature}
-use Rattle.isle_terms.specs.Definitions.{IsAmong, IsDeclaration}
+use Rattle.isle_rules.specs.declared.terms.Term.{Term}
+use Rattle.isle_rules.specs.declared.terms.ConstructorKind.{ConstructorKind}
+use Rattle.isle_rules.specs.declared.terms.ConstructorKind.TheVariants.{InternalConstructor, ExternalConstructor}
+use Rattle.isle_rules.specs.declared.terms.ExtractorKind.{ExtractorKind}
+use Rattle.isle_rules.specs.declared.terms.ExtractorKind.TheVariants.{InternalExtractor, ExternalExtractor}
+use Rattle.isle_rules.specs.declared.terms.TermKind.{TermKind}
+use Rattle.isle_rules.specs.declared.terms.TermKind.TheVariants.{EnumVariant, Struct, Decl}
+use Rattle.isle_rules.specs.Signatures.{Constructor, by_rules, external_constructor, ExtractorForm, by_template, external_extractor, TermForm}
+use Rattle.isle_rules.specs.Signatures.{variant_form, struct_form, declared_form, Signature}
+use Rattle.isle_rules.specs.Definitions.{IsAmong, IsDeclaration}
 use Rattle.isle_terms.specs.Inside.Collecting.Checks.{Checks}
 use Rattle.isle_terms.specs.Inside.Collecting.ExtractorChecks.{Adds}
 use Rattle.isle_terms.specs.Inside.Collecting.DeclaredTerms.{AreShownAs, IsShownConstructor, IsShownExtractor, IsShownForm, IsShownTerm, IsDeclarationFault}
@@ -102,17 +102,6 @@ declared_more types defs old new decls decl terms more keeps made adds =
           (ap (λ (id : TermId). id.0) adds.meant.numbered ∙ place);
       within = All-push (λ (d : DeclTree). length d.arg_tys ≤ 255) decls decl made.within adds.meant.within;
     })
-
--- no declaration makes no term
-pub declared_none : (types : Environment) (defs : List Def) (names : List (List ℕ)) (terms : List Term) → terms ≡ []
-    → AreDeclaredTerms types defs names [] terms
-declared_none types defs names terms none = subst (AreDeclaredTerms types defs names []) (sym none) (record {
-  signatures = [];
-  meant = tt;
-  shown = tt;
-  counted = tt;
-  within = All-nil (λ (d : DeclTree). length d.arg_tys ≤ 255);
-})
 
 -- one declaration after the others
 pub declared_turn : (types : Environment) (defs : List Def) (old new : List (List ℕ)) (decls : List DeclTree) (place : ℕ) (decl : DeclTree)

@@ -9,13 +9,13 @@ use Rattle.std.specs.Cmp.Lexicographic.{same_text}
 use Rattle.isle_types.proofs.NamePlaces.{same_name}
 use Rattle.isle_terms.proofs.Collections.Cycles.{last_or_before}
 use Rattle.std.proofs.lemmas.Option.{same_Some, slice_get_within, slice_get-get_or, slice_get-map}
-use Rattle.isle_syntax.specs.declared.ast.Ident.{Ident}
-use Rattle.isle_syntax.specs.declared.ast.Extractor.{Extractor as ExtractorTree}
-use Rattle.isle_syntax.specs.declared.lexer.Pos.{Pos}
-use Rattle.isle_syntax.specs.Trees.PatternTree.{PatternTree}
-use Rattle.isle_syntax.specs.Trees.PatternShape.{pattern_of}
+use Rattle.isle_ast.specs.declared.ast.Ident.{Ident}
+use Rattle.isle_ast.specs.declared.ast.Extractor.{Extractor as ExtractorTree}
+use Rattle.isle_ast.specs.declared.pos.Pos.{Pos}
+use Rattle.isle_ast.specs.Trees.PatternTree.{PatternTree}
+use Rattle.isle_ast.specs.Trees.PatternShape.{pattern_of}
 use Rattle.isle_types.specs.StableMaps.{value_at}
-use Rattle.isle_terms.specs.Definitions.{IsAmong, ComesTo, at_once, further}
+use Rattle.isle_rules.specs.Definitions.{IsAmong, ComesTo, at_once, further}
 use Rattle.isle_terms.specs.Inside.Collecting.Graphs.{Leads, edge_at_once, path_further, AreWithin, IsAcyclic}
 use Rattle.isle_terms.specs.Inside.Collecting.ExtractorGraphs.{extracted, ArePlaces, AddsEdges, NamesPlace, JoinsTerm, JoinsNode, JoinsPlaces}
 use Rattle.isle_terms.specs.Inside.Collecting.ExtractorGraphs.{IsGraphOf, IsRecursiveAt, IsNotRecursive}
@@ -143,15 +143,6 @@ pub term_none : (places : List (List ℕ × ℕ)) (node : ℕ) (term : Ident) (g
 term_none places node term graph none =
     edges_none (JoinsTerm places node term) graph (λ from to joins. none_some to (value_at bytes_eq places term.0) none joins.1)
 
--- a term with an extractor
-pub term_added : (places : List (List ℕ × ℕ)) (node : ℕ) (term : Ident) (target : ℕ) (old new : List (List ℕ))
-    → Some target ≡ value_at bytes_eq places term.0 → node < length old → new ≡ set old node (get_or old node [] ++ target ∷ [])
-    → AddsEdges (JoinsTerm places node term) old new
-term_added places node term target old new at within is =
-    edges_by (λ from to. (from ≡ node) × (to ≡ target)) (JoinsTerm places node term) old new
-    (λ from to added. (added.0, sym at ∙ ap Some (sym added.1))) (λ from to joins. (joins.0, same_Some to target (sym joins.1 ∙ sym at)))
-    (edges_one old new node target within is)
-
 -- the terms of a body
 pub targets_added : (places : List (List ℕ × ℕ)) (node : ℕ) (tree : PatternTree) (terms : List Ident) (old new : List (List ℕ))
     → terms ≡ named_in tree → AddsEdges (SomeJoins (JoinsTerm places node) terms) old new → AddsEdges (JoinsNode places node tree) old new
@@ -177,15 +168,6 @@ pub extractor_none : (places : List (List ℕ × ℕ)) (extractor : ExtractorTre
     → None ≡ value_at bytes_eq places extractor.term.0 → AddsEdges (JoinsPlaces places extractor) graph graph
 extractor_none places extractor graph none =
     edges_none (JoinsPlaces places extractor) graph (λ from to joins. none_some from (value_at bytes_eq places extractor.term.0) none joins.0)
-
--- an extractor of the term of a place
-pub extractor_added : (places : List (List ℕ × ℕ)) (extractor : ExtractorTree) (node : ℕ) (old new : List (List ℕ))
-    → Some node ≡ value_at bytes_eq places extractor.term.0 → AddsEdges (JoinsNode places node (pattern_of extractor.template)) old new
-    → AddsEdges (JoinsPlaces places extractor) old new
-extractor_added places extractor node old new at adds =
-    edges_by (JoinsNode places node (pattern_of extractor.template)) (JoinsPlaces places extractor) old new
-    (λ from to joins. (sym at ∙ ap Some (sym joins.0), joins.1))
-    (λ from to joins. (same_Some from node (sym joins.0 ∙ sym at), joins.1)) adds
 
 -- a place of a term with an extractor is a node
 pub place_within : (extractors : List (Bor ExtractorTree)) (places : List (List ℕ × ℕ)) (old new : List (List ℕ)) (Added : ℕ → ℕ → Type 0)

@@ -1,12 +1,12 @@
 -- What is checked of definitions before their terms are made, one check after the other.
 use Rattle.std.proofs.Common.{ℕ, Bool, List}
-use Rattle.isle_syntax.specs.declared.ast.Ident.{Ident}
-use Rattle.isle_syntax.specs.declared.ast.Decl.{Decl as DeclTree}
-use Rattle.isle_syntax.specs.declared.ast.Rule.{Rule as RuleTree}
-use Rattle.isle_syntax.specs.declared.ast.Def.{Def}
-use Rattle.isle_syntax.specs.declared.error.Error.{Error}
+use Rattle.isle_ast.specs.declared.ast.Ident.{Ident}
+use Rattle.isle_ast.specs.declared.ast.Decl.{Decl as DeclTree}
+use Rattle.isle_ast.specs.declared.ast.Rule.{Rule as RuleTree}
+use Rattle.isle_ast.specs.declared.ast.Def.{Def}
+use Rattle.isle_ast.specs.declared.error.Error.{Error}
 use Rattle.isle_types.specs.Environment.{Environment}
-use Rattle.isle_terms.specs.Definitions.{declarations, rules_in, external_constructors, declared_names, roots_of}
+use Rattle.isle_rules.specs.Definitions.{declarations, rules_in, external_constructors, declared_names, roots_of}
 use Rattle.isle_terms.specs.TypingFaults.{BreaksTyping, of_declarations, of_constructors}
 use Rattle.isle_terms.specs.Inside.Collecting.Checks.{Checks, ChecksEach}
 use Rattle.isle_terms.specs.Inside.Collecting.DefinitionChecks.{is_ill_root, is_ill_host, is_ill_marked}

@@ -1,16 +1,16 @@
 -- What is checked of definitions once their terms are made, one check after the other.
 use Rattle.std.proofs.Common.{ℕ, Bool, List, []}
-use Rattle.isle_syntax.specs.declared.ast.Decl.{Decl as DeclTree}
-use Rattle.isle_syntax.specs.declared.ast.Extractor.{Extractor as ExtractorTree}
-use Rattle.isle_syntax.specs.declared.ast.Def.{Def}
-use Rattle.isle_syntax.specs.declared.error.Error.{Error}
+use Rattle.isle_ast.specs.declared.ast.Decl.{Decl as DeclTree}
+use Rattle.isle_ast.specs.declared.ast.Extractor.{Extractor as ExtractorTree}
+use Rattle.isle_ast.specs.declared.ast.Def.{Def}
+use Rattle.isle_ast.specs.declared.error.Error.{Error}
 use Rattle.isle_types.specs.declared.ids.TypeId.{TypeId}
 use Rattle.isle_types.specs.declared.ids.TermId.{TermId}
 use Rattle.isle_types.specs.Environment.{Environment}
 use Rattle.isle_types.specs.Names.{AreDistinct}
-use Rattle.isle_terms.specs.Signatures.{Signature}
-use Rattle.isle_terms.specs.Definitions.{ExternalExtractor, declarations, rules_in, extractors_in, external_extractors, declared_names, roots_of}
-use Rattle.isle_terms.specs.Definitions.{extractor_names, external_constructor_names, names_of_terms, AreTerms, KeepExtractorRules}
+use Rattle.isle_rules.specs.Signatures.{Signature}
+use Rattle.isle_rules.specs.Definitions.{ExternalExtractor, declarations, rules_in, extractors_in, external_extractors, declared_names, roots_of}
+use Rattle.isle_rules.specs.Definitions.{extractor_names, external_constructor_names, names_of_terms, AreTerms, KeepExtractorRules}
 use Rattle.isle_terms.specs.TermFaults.{IsTaken, named_extractors, ConverterBreaks}
 use Rattle.isle_terms.specs.TypingFaults.{BreaksTyping, of_extractors, of_converters, of_no_use}
 use Rattle.isle_terms.specs.Inside.Collecting.Checks.{Checks, ChecksEach}

@@ -6,7 +6,7 @@ use Rattle.std.proofs.lemmas.Bool.{false≢true, true≢false}
 use Rattle.std.proofs.lemmas.List.{take-map, map-append, length-map, length-take-le}
 use Rattle.std.specs.Option.{option_map}
 use Rattle.std.proofs.lemmas.Option.{none-some}
-use Rattle.isle_syntax.specs.declared.lexer.Pos.{Pos}
+use Rattle.isle_ast.specs.declared.pos.Pos.{Pos}
 use Rattle.isle_types.specs.Names.{position_of, AreDistinct}
 use Rattle.isle_types.proofs.Lists.{from_take, within-take, taken_more}
 use Rattle.isle_types.proofs.NamePlaces.{place_found, once_pushed}
@@ -53,10 +53,6 @@ pub new_is_distinct : (pairs : List (List ℕ × Pos)) (i : ℕ) (pair : List �
 new_is_distinct pairs i pair (Some j) at found is once = absurd (false≢true is)
 new_is_distinct pairs i pair None at found is once =
     subst AreDistinct (sym (names_more pairs i pair at)) (once_pushed (names_of (take i pairs)) pair.0 once found)
-
--- nothing stands twice among nothing
-pub none_distinct : {X : Type 0} → AreDistinct {X = X} []
-none_distinct x i j at_i at_j = absurd (none-some x at_i)
 
 -- the pair of an item at a place
 pub pair_at : {X : Type 0} (shown : X → List ℕ × Pos) (xs : List X) (i : ℕ) (x : X) → slice_get xs i ≡ Some x → slice_get (map shown xs) i

@@ -2,18 +2,18 @@
 use Rattle.std.proofs.Common.{◌≡◌, ℕ, List, ◌++◌, map, length, slice_get, ap, sym, ◌∙◌, Bor}
 use Rattle.std.proofs.lemmas.Simd.{map-map}
 use Rattle.std.proofs.lemmas.List.{map-append}
-use Rattle.isle_syntax.specs.declared.ast.Ident.{Ident}
-use Rattle.isle_syntax.specs.declared.ast.Decl.{Decl as DeclTree}
-use Rattle.isle_syntax.specs.declared.ast.Extractor.{Extractor as ExtractorTree}
-use Rattle.isle_syntax.specs.declared.ast.Def.{Def}
-use Rattle.isle_syntax.specs.declared.lexer.Pos.{Pos}
+use Rattle.isle_ast.specs.declared.ast.Ident.{Ident}
+use Rattle.isle_ast.specs.declared.ast.Decl.{Decl as DeclTree}
+use Rattle.isle_ast.specs.declared.ast.Extractor.{Extractor as ExtractorTree}
+use Rattle.isle_ast.specs.declared.ast.Def.{Def}
+use Rattle.isle_ast.specs.declared.pos.Pos.{Pos}
 use Rattle.isle_types.specs.IntTypes.{builtin_names}
 use Rattle.isle_types.specs.Environment.{Environment}
 use Rattle.isle_types.proofs.Lists.{slice_get-kept}
 use Rattle.isle_terms.specs.declared.env.definitions.HostConstructor.{HostConstructor}
 use Rattle.isle_terms.specs.declared.env.definitions.HostExtractor.{HostExtractor}
-use Rattle.isle_terms.specs.Signatures.{Signature}
-use Rattle.isle_terms.specs.Definitions.{ExternalExtractor, declarations, extractors_in, external_constructors, external_extractors, terms_of_types}
+use Rattle.isle_rules.specs.Signatures.{Signature}
+use Rattle.isle_rules.specs.Definitions.{ExternalExtractor, declarations, extractors_in, external_constructors, external_extractors, terms_of_types}
 use Rattle.isle_terms.specs.TermFaults.{names_of, IsTaken, named_terms, named_extractors}
 use Rattle.isle_terms.specs.Inside.Collecting.DefinitionLists.{host_constructor_shown, host_extractor_shown}
 use Rattle.isle_terms.specs.Inside.Collecting.NamedItems.{named_declaration, named_extractor, named_host_constructor, named_host_extractor}

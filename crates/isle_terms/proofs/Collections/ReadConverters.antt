@@ -7,12 +7,12 @@ use Rattle.std.proofs.lemmas.Bool.{false≢true, eqb-true, eq-eqb, and_parts, an
 use Rattle.std.proofs.lemmas.List.{take_all, map-append}
 use Rattle.std.proofs.lemmas.Option.{same_Some, none-some}
 use Rattle.std.proofs.lemmas.Slice.Zip.{all_zipped_more}
-use Rattle.isle_syntax.specs.declared.ast.Converter.{Converter as ConverterTree}
-use Rattle.isle_syntax.specs.declared.ast.Def.{Def}
-use Rattle.isle_syntax.specs.declared.lexer.Pos.{Pos}
-use Rattle.isle_syntax.specs.declared.error.Error.{Error}
-use Rattle.isle_syntax.specs.declared.error.Error.TheVariants.{TypeError}
-use Rattle.isle_syntax.specs.Errors.{span_at}
+use Rattle.isle_ast.specs.declared.ast.Converter.{Converter as ConverterTree}
+use Rattle.isle_ast.specs.declared.ast.Def.{Def}
+use Rattle.isle_ast.specs.declared.pos.Pos.{Pos}
+use Rattle.isle_ast.specs.declared.error.Error.{Error}
+use Rattle.isle_ast.specs.declared.error.Error.TheVariants.{TypeError}
+use Rattle.isle_ast.specs.Errors.{span_at}
 use Rattle.isle_types.specs.declared.ids.TypeId.{TypeId}
 use Rattle.isle_types.specs.declared.ids.TermId.{TermId}
 use Rattle.isle_types.specs.Names.{position_of, AreDistinct}
@@ -22,11 +22,11 @@ use Rattle.isle_types.specs.TypeTables.{TypeTables}
 use Rattle.isle_types.specs.TypeEnvs.{Shows, type_of_name, type_at}
 use Rattle.isle_types.proofs.Lists.{slice_get-pushed, taken_more}
 use Rattle.isle_types.proofs.NamePlaces.{place_some, place_found}
-use Rattle.isle_terms.specs.Signatures.{Signature, Conversion, converter_in}
-use Rattle.isle_terms.specs.Elaboration.{type_named}
-use Rattle.isle_terms.specs.Definitions.{IsTypeNumber, IsConversion, pair_of, first_of, converters_in, names_of_terms}
-use Rattle.isle_terms.specs.Shown.TermTables.{same_types}
-use Rattle.isle_terms.specs.Shown.ShownTerms.{term_at}
+use Rattle.isle_rules.specs.Signatures.{Signature, Conversion, converter_in}
+use Rattle.isle_rules.specs.Elaboration.{type_named}
+use Rattle.isle_rules.specs.Definitions.{IsTypeNumber, IsConversion, pair_of, first_of, converters_in, names_of_terms}
+use Rattle.isle_rules.specs.Shown.TermTables.{same_types}
+use Rattle.isle_rules.specs.Shown.ShownTerms.{term_at}
 use Rattle.isle_terms.specs.TermFaults.{ConverterBreaks, unknown_inner_type, unknown_outer_type, unknown_converter, second_converter}
 use Rattle.isle_terms.specs.Inside.Collecting.Checks.{Checks}
 use Rattle.isle_terms.specs.Inside.Collecting.ReadConverters.{IsReadAs, IsIllConverter, unknown_inner, unknown_outer, unknown_term, second_of_types}

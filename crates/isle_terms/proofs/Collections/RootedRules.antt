@@ -4,26 +4,26 @@ use Rattle.std.proofs.Common.{subst, ◌∙◌, slice_get}
 use Rattle.std.specs.List.{All, cons_option}
 use Rattle.std.specs.Option.{option_map}
 use Rattle.std.proofs.lemmas.Option.{same_Some, none-some, slice_get-get_or, slice_get-map}
-use Rattle.isle_syntax.specs.declared.ast.Ident.{Ident}
-use Rattle.isle_syntax.specs.declared.ast.Decl.{Decl as DeclTree}
-use Rattle.isle_syntax.specs.declared.ast.Rule.{Rule as RuleTree}
-use Rattle.isle_syntax.specs.declared.ast.Def.{Def}
-use Rattle.isle_syntax.specs.declared.lexer.Pos.{Pos}
-use Rattle.isle_syntax.specs.Trees.PatternTree.{PatternTree, PatternTrees, pattern_var, pattern_bind, pattern_bool, pattern_int, pattern_prim}
-use Rattle.isle_syntax.specs.Trees.PatternTree.{pattern_term, pattern_wildcard, pattern_and, pattern_macro_arg}
-use Rattle.isle_syntax.specs.Trees.PatternShape.{pattern_of}
+use Rattle.isle_ast.specs.declared.ast.Ident.{Ident}
+use Rattle.isle_ast.specs.declared.ast.Decl.{Decl as DeclTree}
+use Rattle.isle_ast.specs.declared.ast.Rule.{Rule as RuleTree}
+use Rattle.isle_ast.specs.declared.ast.Def.{Def}
+use Rattle.isle_ast.specs.declared.pos.Pos.{Pos}
+use Rattle.isle_ast.specs.Trees.PatternTree.{PatternTree, PatternTrees, pattern_var, pattern_bind, pattern_bool, pattern_int, pattern_prim}
+use Rattle.isle_ast.specs.Trees.PatternTree.{pattern_term, pattern_wildcard, pattern_and, pattern_macro_arg}
+use Rattle.isle_ast.specs.Trees.PatternShape.{pattern_of}
 use Rattle.isle_types.specs.IntTypes.{builtin_names}
 use Rattle.isle_types.specs.Names.{position_of}
 use Rattle.isle_types.specs.Environment.{Environment}
 use Rattle.isle_types.proofs.Lists.{slice_get-kept}
 use Rattle.isle_types.proofs.NamePlaces.{place_known}
 use Rattle.isle_types.proofs.Zipped.{mapped_at, zipped_at}
-use Rattle.isle_terms.specs.Signatures.{by_rules, declared_form, Signature, Conversion, Declared}
-use Rattle.isle_terms.specs.Definitions.{IsAmong, IsDeclaration, AreTerms, declarations, declared_names, rules_in, root_name, roots_of}
-use Rattle.isle_terms.specs.Definitions.{flags_in, constructor_for, extractor_for, terms_of_types, names_of_terms}
+use Rattle.isle_rules.specs.Signatures.{by_rules, declared_form, Signature, Conversion, Declared}
+use Rattle.isle_rules.specs.Definitions.{IsAmong, IsDeclaration, AreTerms, declarations, declared_names, rules_in, root_name, roots_of}
+use Rattle.isle_rules.specs.Definitions.{flags_in, constructor_for, extractor_for, terms_of_types, names_of_terms}
 use Rattle.isle_terms.specs.Inside.Collecting.Parts.{HasRootAmong}
 use Rattle.isle_terms.specs.Inside.Collecting.RuleChecks.{HasSomeRoot}
-use Rattle.isle_terms.proofs.Collections.NamedPlaces.{place_of_member}
+use Rattle.isle_rules.proofs.AmongNames.{place_of_member}
 use Rattle.isle_terms.proofs.Collections.DeclaredForms.{by_rules_form}
 
 -- what occurs in a list occurs behind what may come first

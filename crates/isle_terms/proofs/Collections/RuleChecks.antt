@@ -1,22 +1,23 @@
 -- Rules are typed one by one under what tables show.
 use Rattle.std.proofs.Common.{◌≡◌, ℕ, refl, sym, subst}
-use Rattle.isle_syntax.specs.declared.ast.Rule.{Rule as RuleTree}
-use Rattle.isle_syntax.specs.declared.lexer.Pos.{Pos}
-use Rattle.isle_syntax.specs.declared.error.Error.{Error}
-use Rattle.isle_syntax.specs.declared.refusal.Refusal.{Refusal}
-use Rattle.isle_syntax.specs.declared.refusal.Refusal.TheVariants.{Fault, Memory}
-use Rattle.isle_syntax.specs.Errors.{type_error, size_error, error_kind, spans_of, IfFault, IsFaultAnd}
+use Rattle.isle_ast.specs.declared.ast.Rule.{Rule as RuleTree}
+use Rattle.isle_ast.specs.declared.pos.Pos.{Pos}
+use Rattle.isle_ast.specs.declared.error.Error.{Error}
+use Rattle.isle_ast.specs.declared.refusal.Refusal.{Refusal}
+use Rattle.isle_ast.specs.declared.refusal.Refusal.TheVariants.{Fault, Memory}
+use Rattle.isle_ast.specs.Errors.{type_error, size_error, error_kind, spans_of, IfFault, IsFaultAnd}
 use Rattle.isle_types.specs.TypeFaults.{StartsWhere, IsTypeOrSize}
 use Rattle.isle_types.specs.TypeTables.{TypeTables}
 use Rattle.isle_types.proofs.Reading.{fault_weaker}
-use Rattle.isle_terms.specs.TypedRules.{TypedRule}
-use Rattle.isle_terms.specs.Signatures.{Declared}
-use Rattle.isle_terms.specs.Elaboration.{State, ElaboratesRule}
+use Rattle.isle_rules.specs.TypedRules.{TypedRule}
+use Rattle.isle_rules.specs.Signatures.{Declared}
+use Rattle.isle_rules.specs.Elaboration.{State, ElaboratesRule}
 use Rattle.isle_terms.specs.RuleReaching.{IsIllRule, IsLargeRule}
 use Rattle.isle_terms.specs.Inside.Readings.Outcomes.{Outcome, stands_for, ill_at, exceeds}
 use Rattle.isle_terms.specs.Inside.Readings.Telling.{Tells}
-use Rattle.isle_terms.specs.Shown.TermTables.{TermTables}
-use Rattle.isle_terms.specs.Shown.ShownTerms.{known_of, ShowsDeclared}
+use Rattle.isle_rules.specs.Shown.TermTables.{TermTables}
+use Rattle.isle_terms.specs.Inside.Shown.KnownNames.{known_of}
+use Rattle.isle_rules.specs.Shown.ShownTerms.{ShowsDeclared}
 use Rattle.isle_terms.specs.Inside.Collecting.RuleRoots.{read_whole}
 use Rattle.isle_terms.specs.Inside.Collecting.RuleChecks.{HasSomeRoot, IsLargeAt}
 use Rattle.isle_terms.specs.Inside.Readings.Failures.{IsErrorAt, Fails}

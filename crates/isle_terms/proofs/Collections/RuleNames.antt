@@ -13,10 +13,10 @@ use Rattle.std.proofs.lemmas.List.Elements.{filter_map-append}
 use Rattle.std.proofs.lemmas.Option.{same_Some, none-some, slice_get_within, slice_get-map}
 use Rattle.std.proofs.lemmas.Slice.Eq.{bytes_eq-Decides}
 use Rattle.std.proofs.lemmas.Slice.Zip.{all_zipped_more}
-use Rattle.isle_syntax.specs.declared.ast.Ident.{Ident}
-use Rattle.isle_syntax.specs.declared.ast.Rule.{Rule as RuleTree}
-use Rattle.isle_syntax.specs.declared.ast.Def.{Def}
-use Rattle.isle_syntax.specs.declared.lexer.Pos.{Pos}
+use Rattle.isle_ast.specs.declared.ast.Ident.{Ident}
+use Rattle.isle_ast.specs.declared.ast.Rule.{Rule as RuleTree}
+use Rattle.isle_ast.specs.declared.ast.Def.{Def}
+use Rattle.isle_ast.specs.declared.pos.Pos.{Pos}
 use Rattle.isle_types.specs.declared.ids.Sym.{Sym}
 use Rattle.isle_types.specs.declared.ids.RuleId.{RuleId}
 use Rattle.isle_types.specs.Names.{position_of, AreDistinct, KeepsNames}
@@ -26,22 +26,22 @@ use Rattle.isle_types.proofs.Interning.{text_eq}
 use Rattle.isle_types.proofs.Lists.{AllZip-weaker, taken_more, slice_get-kept, slice_get-last}
 use Rattle.isle_types.proofs.FieldReadings.{count_more}
 use Rattle.isle_types.proofs.NamePlaces.{same_name, differ, place_found, place_known}
-use Rattle.isle_terms.specs.declared.rules.Rule.{Rule}
+use Rattle.isle_rules.specs.declared.rules.Rule.{Rule}
 use Rattle.isle_terms.specs.declared.env.naming.Named.{Named}
 use Rattle.isle_terms.specs.declared.env.rule_names.NamedRules.{NamedRules}
-use Rattle.isle_terms.specs.TypedRules.{TypedRule}
-use Rattle.isle_terms.specs.Signatures.{Declared}
-use Rattle.isle_terms.specs.Elaboration.{ElaboratesRule}
-use Rattle.isle_terms.specs.Definitions.{rules_in, times, name_of, is_name, rule_named, rule_names, first_of, IsRuleOf}
+use Rattle.isle_rules.specs.TypedRules.{TypedRule}
+use Rattle.isle_rules.specs.Signatures.{Declared}
+use Rattle.isle_rules.specs.Elaboration.{ElaboratesRule}
+use Rattle.isle_rules.specs.Definitions.{rules_in, times, name_of, is_name, rule_named, rule_names, first_of, IsRuleOf}
 use Rattle.isle_terms.specs.TermFaults.{names_of}
 use Rattle.isle_terms.specs.TypingFaults.{named_rules}
-use Rattle.isle_terms.specs.Shown.TermTables.{same_sym}
-use Rattle.isle_terms.specs.Shown.RulesShown.{IsShownName, IsShownRule}
+use Rattle.isle_rules.specs.Shown.TermTables.{same_sym}
+use Rattle.isle_rules.specs.Shown.RulesShown.{IsShownName, IsShownRule}
 use Rattle.isle_terms.specs.Inside.Collecting.NamedItems.{name_shown, named_shown}
 use Rattle.isle_terms.specs.Inside.Collecting.RuleNames.{lone_mark, MarksLone, with_names, IsTableOfRules, IsNumbering, AreNamedRules}
-use Rattle.isle_terms.specs.Shown.TermTables.{rule_at}
+use Rattle.isle_rules.specs.Shown.TermTables.{rule_at}
 use Rattle.isle_terms.proofs.Collections.Listing.{kind_more, kind_same}
-use Rattle.isle_terms.proofs.Collections.TypeTerms.{zipped_length, count_at}
+use Rattle.isle_rules.proofs.Zipped.{zipped_length, count_at}
 use Rattle.isle_terms.proofs.Showing.ShownMore.{names_within, place_new, place_more}
 use Rattle.isle_terms.proofs.Showing.RulesShown.{rule_kept}
 

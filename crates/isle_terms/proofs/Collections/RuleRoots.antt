@@ -4,23 +4,23 @@ use Rattle.std.proofs.Common.{arith, if◌then◌else◌}
 use Rattle.std.proofs.lemmas.List.{length-map}
 use Rattle.std.proofs.lemmas.Bool.{true≢false, false≢true, eqb-true, eqb-false, eq-eqb}
 use Rattle.std.proofs.lemmas.Option.{none-some}
-use Rattle.isle_syntax.specs.declared.ast.Pattern.{Pattern}
-use Rattle.isle_syntax.specs.declared.ast.Rule.{Rule}
-use Rattle.isle_syntax.specs.declared.lexer.Pos.{Pos}
-use Rattle.isle_syntax.specs.declared.error.Error.{Error}
-use Rattle.isle_syntax.specs.declared.refusal.Refusal.{Refusal}
-use Rattle.isle_syntax.specs.Errors.{type_error, IfFault}
-use Rattle.isle_syntax.specs.Trees.PatternTree.{PatternTrees, pattern_pos}
-use Rattle.isle_syntax.specs.Trees.PatternShape.{pattern_of, patterns_of}
-use Rattle.isle_terms.specs.Signatures.{Flags, Signature, Declared}
-use Rattle.isle_terms.specs.Elaboration.{State, pattern_count, ElaboratesRule}
+use Rattle.isle_ast.specs.declared.ast.Pattern.{Pattern}
+use Rattle.isle_ast.specs.declared.ast.Rule.{Rule}
+use Rattle.isle_ast.specs.declared.pos.Pos.{Pos}
+use Rattle.isle_ast.specs.declared.error.Error.{Error}
+use Rattle.isle_ast.specs.declared.refusal.Refusal.{Refusal}
+use Rattle.isle_ast.specs.Errors.{type_error, IfFault}
+use Rattle.isle_ast.specs.Trees.PatternTree.{PatternTrees, pattern_pos}
+use Rattle.isle_ast.specs.Trees.PatternShape.{pattern_of, patterns_of}
+use Rattle.isle_rules.specs.Signatures.{Flags, Signature, Declared}
+use Rattle.isle_rules.specs.Elaboration.{State, pattern_count, ElaboratesRule}
 use Rattle.isle_terms.specs.RuleReaching.{HasRoot, IsIllRule, other_number_of_arguments, priority_of_multi, IsLargeRule}
 use Rattle.isle_terms.specs.Inside.Readings.Outcomes.{Outcome, stands_for, ill_at, exceeds, Known, and_then, only_if}
 use Rattle.isle_terms.specs.Inside.Readings.RuleOutcomes.{RuleParts, read_rule}
 use Rattle.isle_terms.specs.Inside.Readings.KnownBy.{known_by}
 use Rattle.isle_terms.specs.Inside.Readings.Telling.{Tells, rule_of_parts}
 use Rattle.isle_types.specs.declared.ids.TypeId.{TypeId}
-use Rattle.isle_terms.specs.Shown.ShownTerms.{numbers_of}
+use Rattle.isle_rules.specs.Shown.ShownTerms.{numbers_of}
 use Rattle.isle_terms.specs.Inside.Collecting.RuleRoots.{RootParts, declared_flags, root_with, root_of_term, root_of_number, root_in, may_have_priority}
 use Rattle.isle_terms.specs.Inside.Collecting.RuleRoots.{read_rooted}
 use Rattle.isle_terms.specs.Inside.Collecting.RuleRoots.{read_with, read_whole}
@@ -133,12 +133,6 @@ pub root_fails : (rule : Pos) (known : Known) (max levels : ℕ) (tree : Rule) (
 root_fails rule known max levels tree root e found fails =
     subst (λ o. Fails rule (read_with known max levels o tree) e) (sym found)
     (fails_made rule (read_rooted known max levels root tree) (λ parts s. rule_of_parts root.number tree parts s) e fails)
-
--- a rule without a root fails at its position
-pub no_root_fails : (rule : Pos) (known : Known) (max levels : ℕ) (tree : Rule) (e : Refusal Error)
-    → root_in known (pattern_of tree.pattern) ≡ None → IfFault e (IsErrorAt type_error tree.pos) → Fails rule (read_whole known max levels tree) e
-no_root_fails rule known max levels tree e none fails =
-    subst (λ o. Fails rule (read_with known max levels o tree) e) (sym none) fails
 
 -- a pattern for each type is as many patterns as there are numbers of types
 pub same_arity : (args : List Pattern) (tys : List TypeId) → length args ≡ length tys → pattern_count (patterns_of args) ≡ length (numbers_of tys)

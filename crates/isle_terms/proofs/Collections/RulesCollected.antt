@@ -6,27 +6,27 @@ use Rattle.std.specs.Global.{Global}
 use Rattle.std.proofs.Common.{zero-add, ◌∙◌}
 use Rattle.std.proofs.lemmas.List.{take_all}
 use Rattle.std.proofs.lemmas.Slice.Zip.{all_zipped_more}
-use Rattle.isle_syntax.specs.declared.ast.Rule.{Rule as RuleTree}
-use Rattle.isle_syntax.specs.declared.lexer.Pos.{Pos}
-use Rattle.isle_syntax.specs.declared.error.Error.{Error}
-use Rattle.isle_syntax.specs.declared.error.Span.{Span}
-use Rattle.isle_syntax.specs.declared.refusal.Refusal.{Refusal}
-use Rattle.isle_syntax.specs.declared.refusal.Refusal.TheVariants.{Fault, Memory}
-use Rattle.isle_syntax.specs.Errors.{ErrorKind, parse_error, type_error, unreachable_rule, overlapping_rules, shadowing_rule, size_error}
-use Rattle.isle_syntax.specs.Errors.{error_kind, spans_of, IfFault, IsFaultAnd}
+use Rattle.isle_ast.specs.declared.ast.Rule.{Rule as RuleTree}
+use Rattle.isle_ast.specs.declared.pos.Pos.{Pos}
+use Rattle.isle_ast.specs.declared.error.Error.{Error}
+use Rattle.isle_ast.specs.declared.error.Span.{Span}
+use Rattle.isle_ast.specs.declared.refusal.Refusal.{Refusal}
+use Rattle.isle_ast.specs.declared.refusal.Refusal.TheVariants.{Fault, Memory}
+use Rattle.isle_ast.specs.Errors.{ErrorKind, parse_error, type_error, unreachable_rule, overlapping_rules, shadowing_rule, size_error}
+use Rattle.isle_ast.specs.Errors.{error_kind, spans_of, IfFault, IsFaultAnd}
 use Rattle.isle_types.specs.Names.{KeepsNames}
 use Rattle.isle_types.specs.TypeFaults.{StartsWhere, IsTypeOrSize, IsTypeFault, IsSizeFault}
 use Rattle.isle_types.proofs.FieldReadings.{count_more}
 use Rattle.isle_types.proofs.Lists.{AllZip-weaker, taken_more}
-use Rattle.isle_terms.specs.declared.rules.Rule.{Rule}
-use Rattle.isle_terms.specs.TypedRules.{TypedRule}
-use Rattle.isle_terms.specs.Signatures.{Declared}
-use Rattle.isle_terms.specs.Elaboration.{ElaboratesRule}
+use Rattle.isle_rules.specs.declared.rules.Rule.{Rule}
+use Rattle.isle_rules.specs.TypedRules.{TypedRule}
+use Rattle.isle_rules.specs.Signatures.{Declared}
+use Rattle.isle_rules.specs.Elaboration.{ElaboratesRule}
 use Rattle.isle_terms.specs.RuleReaching.{IsIllRule}
 use Rattle.isle_terms.proofs.Collections.AddedErrors.{adds_one, adds_checks}
 use Rattle.isle_terms.proofs.Collections.Checking.{check_both}
 use Rattle.isle_terms.specs.Inside.Collecting.Checks.{Checks}
-use Rattle.isle_terms.specs.Shown.RulesShown.{IsShownRule}
+use Rattle.isle_rules.specs.Shown.RulesShown.{IsShownRule}
 use Rattle.isle_terms.specs.TypingFaults.{IsLoneSize}
 use Rattle.isle_terms.specs.Inside.Collecting.RuleChecks.{IsLargeAt, IsIllAmong, IsLargeAmong, AreTyped}
 use Rattle.isle_terms.proofs.Collections.Checking.{check_same}

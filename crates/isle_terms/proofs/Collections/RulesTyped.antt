@@ -2,28 +2,28 @@
 use Rattle.std.proofs.Common.{◌≡◌, ℕ, inl, List, [], ◌∷◌, map, length, Option, refl, ap, sym, subst, ◌∙◌}
 use Rattle.std.specs.List.{AllZip}
 use Rattle.std.proofs.lemmas.List.{length-map}
-use Rattle.isle_syntax.specs.declared.ast.Rule.{Rule as RuleTree}
-use Rattle.isle_syntax.specs.declared.ast.Def.{Def}
-use Rattle.isle_syntax.specs.declared.error.Error.{Error}
-use Rattle.isle_syntax.specs.declared.lexer.Pos.{Pos}
+use Rattle.isle_ast.specs.declared.ast.Rule.{Rule as RuleTree}
+use Rattle.isle_ast.specs.declared.ast.Def.{Def}
+use Rattle.isle_ast.specs.declared.error.Error.{Error}
+use Rattle.isle_ast.specs.declared.pos.Pos.{Pos}
 use Rattle.isle_types.specs.Environment.{Environment}
 use Rattle.isle_types.specs.Names.{AreDistinct}
 use Rattle.isle_types.specs.TypeTables.{TypeTables}
 use Rattle.isle_types.specs.TypeEnvs.{HasMoreNames}
 use Rattle.isle_types.proofs.TypeReadings.{reading_then}
 use Rattle.isle_terms.specs.declared.env.rule_names.NamedRules.{NamedRules}
-use Rattle.isle_terms.specs.TypedRules.{TypedRule}
-use Rattle.isle_terms.specs.Signatures.{Declared}
-use Rattle.isle_terms.specs.Elaboration.{ElaboratesRule}
-use Rattle.isle_terms.specs.Definitions.{rules_in, name_of}
+use Rattle.isle_rules.specs.TypedRules.{TypedRule}
+use Rattle.isle_rules.specs.Signatures.{Declared}
+use Rattle.isle_rules.specs.Elaboration.{ElaboratesRule}
+use Rattle.isle_rules.specs.Definitions.{rules_in, name_of}
 use Rattle.isle_terms.specs.TypingFaults.{BreaksTyping, of_a_rule, ExceedsTyping, by_a_rule, IsLoneSize, AreTypingFaults}
-use Rattle.isle_terms.specs.Shown.TermTables.{TermTables}
+use Rattle.isle_rules.specs.Shown.TermTables.{TermTables}
 use Rattle.isle_terms.specs.Inside.Collecting.Environments.{ShowsDeclaredOf}
-use Rattle.isle_terms.specs.TermEnvs.{ShowsTerms}
+use Rattle.isle_rules.specs.Shown.RulesShown.{ShowsTerms}
 use Rattle.isle_terms.specs.Inside.Collecting.RuleChecks.{IsIllAmong, IsLargeAmong}
 use Rattle.isle_terms.specs.Inside.Collecting.RuleNames.{with_names, AreNamedRules}
 use Rattle.isle_terms.proofs.Collections.RuleNames.{named_rules_names, rules_named}
-use Rattle.isle_terms.proofs.Collections.TypeTerms.{zipped_length}
+use Rattle.isle_rules.proofs.Zipped.{zipped_length}
 use Rattle.isle_terms.proofs.Showing.MoreNames.{shows_still}
 
 -- what rules are read under, where tables are those of definitions

@@ -5,7 +5,7 @@ use Rattle.std.specs.Prelude.{unwrap_or, IsSome}
 use Rattle.std.specs.List.{AllZip}
 use Rattle.std.specs.Option.{option_map}
 use Rattle.std.proofs.lemmas.Option.{slice_get_within}
-use Rattle.isle_syntax.specs.declared.lexer.Pos.{Pos}
+use Rattle.isle_ast.specs.declared.pos.Pos.{Pos}
 use Rattle.isle_types.specs.declared.ids.Sym.{Sym}
 use Rattle.isle_types.specs.declared.ids.TypeId.{TypeId}
 use Rattle.isle_types.specs.declared.ids.TermId.{TermId}
@@ -14,23 +14,23 @@ use Rattle.isle_types.specs.StableMaps.{value_at}
 use Rattle.isle_types.specs.Environment.{Environment}
 use Rattle.isle_types.specs.TypeTables.{TypeTables}
 use Rattle.isle_types.specs.TypeEnvs.{Shows, CountUp}
-use Rattle.isle_terms.specs.declared.terms.Term.{Term}
-use Rattle.isle_terms.specs.declared.terms.ConstructorKind.{ConstructorKind}
-use Rattle.isle_terms.specs.declared.terms.ConstructorKind.TheVariants.{InternalConstructor, ExternalConstructor}
-use Rattle.isle_terms.specs.declared.terms.ExtractorKind.{ExtractorKind}
-use Rattle.isle_terms.specs.declared.terms.ExtractorKind.TheVariants.{InternalExtractor, ExternalExtractor}
-use Rattle.isle_terms.specs.declared.terms.TermKind.{TermKind}
-use Rattle.isle_terms.specs.declared.terms.TermKind.TheVariants.{EnumVariant, Struct, Decl}
-use Rattle.isle_terms.specs.Signatures.{Constructor, by_rules, external_constructor, ExtractorForm, by_template, external_extractor, TermForm}
-use Rattle.isle_terms.specs.Signatures.{variant_form, struct_form, declared_form, Signature, Conversion}
-use Rattle.isle_terms.specs.Definitions.{names_of_terms}
-use Rattle.isle_terms.specs.Shown.ShownTerms.{constructor_shown, extractor_shown, form_shown, term_shown, term_at, ShowsDeclared}
-use Rattle.isle_terms.specs.Shown.TermTables.{TermTables, same_sym}
+use Rattle.isle_rules.specs.declared.terms.Term.{Term}
+use Rattle.isle_rules.specs.declared.terms.ConstructorKind.{ConstructorKind}
+use Rattle.isle_rules.specs.declared.terms.ConstructorKind.TheVariants.{InternalConstructor, ExternalConstructor}
+use Rattle.isle_rules.specs.declared.terms.ExtractorKind.{ExtractorKind}
+use Rattle.isle_rules.specs.declared.terms.ExtractorKind.TheVariants.{InternalExtractor, ExternalExtractor}
+use Rattle.isle_rules.specs.declared.terms.TermKind.{TermKind}
+use Rattle.isle_rules.specs.declared.terms.TermKind.TheVariants.{EnumVariant, Struct, Decl}
+use Rattle.isle_rules.specs.Signatures.{Constructor, by_rules, external_constructor, ExtractorForm, by_template, external_extractor, TermForm}
+use Rattle.isle_rules.specs.Signatures.{variant_form, struct_form, declared_form, Signature, Conversion}
+use Rattle.isle_rules.specs.Definitions.{names_of_terms}
+use Rattle.isle_rules.specs.Shown.ShownTerms.{constructor_shown, extractor_shown, form_shown, term_shown, term_at, ShowsDeclared}
+use Rattle.isle_rules.specs.Shown.TermTables.{TermTables, same_sym}
 use Rattle.isle_terms.specs.Inside.Shown.TermLimits.{constructor_limit, extractor_limit, kind_limit, terms_limit, HasKnownSymbols}
 use Rattle.isle_terms.specs.Inside.Collecting.DeclaredTerms.{AreShownAs, IsShownConstructor, IsShownExtractor, IsShownForm, IsShownTerm, number_named}
 use Rattle.isle_terms.specs.Inside.Collecting.ReadConverters.{IsTableOfConversions}
 use Rattle.isle_terms.specs.Inside.Collecting.TermSymbols.{HasSymbolsOf}
-use Rattle.isle_terms.proofs.Collections.TypeTerms.{zipped_back}
+use Rattle.isle_rules.proofs.Zipped.{zipped_back}
 
 -- how a declared term makes its value is that which it shows
 constructor_is : (names : List (List ℕ)) (made : Option Constructor) (kind : Option ConstructorKind)

@@ -3,20 +3,20 @@ use Rattle.std.proofs.Common.{◌≡◌, ℕ, ◌+◌, ◌≤◌, List, [], ◌�
 use Rattle.std.specs.Prelude.{unwrap_or}
 use Rattle.std.specs.List.{AllZip}
 use Rattle.std.proofs.lemmas.List.{map-append, take_all}
-use Rattle.isle_syntax.specs.declared.ast.Decl.{Decl as DeclTree}
-use Rattle.isle_syntax.specs.declared.ast.Def.{Def}
-use Rattle.isle_syntax.specs.declared.lexer.Pos.{Pos}
+use Rattle.isle_ast.specs.declared.ast.Decl.{Decl as DeclTree}
+use Rattle.isle_ast.specs.declared.ast.Def.{Def}
+use Rattle.isle_ast.specs.declared.pos.Pos.{Pos}
 use Rattle.isle_types.specs.IntTypes.{builtin_names}
 use Rattle.isle_types.specs.Environment.{Environment}
 use Rattle.isle_types.proofs.Lists.{taken_more}
-use Rattle.isle_terms.specs.declared.terms.Term.{Term}
+use Rattle.isle_rules.specs.declared.terms.Term.{Term}
 use Rattle.isle_terms.specs.declared.env.naming.Named.{Named}
-use Rattle.isle_terms.specs.Signatures.{Signature}
-use Rattle.isle_terms.specs.Definitions.{declarations, IsDeclaration, terms_of_types, names_of_terms}
+use Rattle.isle_rules.specs.Signatures.{Signature}
+use Rattle.isle_rules.specs.Definitions.{declarations, IsDeclaration, terms_of_types, names_of_terms}
 use Rattle.isle_terms.specs.TermFaults.{named_terms, names_of}
 use Rattle.isle_terms.specs.Inside.Collecting.DeclaredTerms.{IsShownTerm}
 use Rattle.isle_terms.specs.Inside.Collecting.NamedItems.{named_shown, named_term}
-use Rattle.isle_terms.proofs.Collections.TypeTerms.{zipped_back, zipped_length}
+use Rattle.isle_rules.proofs.Zipped.{zipped_back, zipped_length}
 
 -- a name and a position make a pair
 pair_is : (a b : List ℕ) (p q : Pos) → a ≡ b → p ≡ q → ◌≡◌ {A = List ℕ × Pos} (a, p) (b, q)

@@ -17,14 +17,14 @@ use Rattle.isle_types.specs.StableMaps.{value_at}
 use Rattle.isle_types.specs.TypeEnvs.{CountUp, symbol_at}
 use Rattle.isle_types.proofs.Lists.{taken_more, within-take, from_take}
 use Rattle.isle_types.proofs.NamePlaces.{place_found, place_known, place_last, place_other}
-use Rattle.isle_terms.specs.declared.terms.Term.{Term}
-use Rattle.isle_terms.specs.Signatures.{Signature}
-use Rattle.isle_terms.specs.Definitions.{IsAmong, names_of_terms}
-use Rattle.isle_terms.specs.Shown.ShownTerms.{term_at}
-use Rattle.isle_terms.specs.Shown.TermTables.{same_sym}
+use Rattle.isle_rules.specs.declared.terms.Term.{Term}
+use Rattle.isle_rules.specs.Signatures.{Signature}
+use Rattle.isle_rules.specs.Definitions.{IsAmong, names_of_terms}
+use Rattle.isle_rules.specs.Shown.ShownTerms.{term_at}
+use Rattle.isle_rules.specs.Shown.TermTables.{same_sym}
 use Rattle.isle_terms.specs.Inside.Collecting.DeclaredTerms.{IsShownTerm, number_named}
 use Rattle.isle_terms.specs.Inside.Collecting.TermSymbols.{HasSymbolsOf}
-use Rattle.isle_terms.proofs.Collections.TypeTerms.{zipped_back, zipped_length, count_at}
+use Rattle.isle_rules.proofs.Zipped.{zipped_back, zipped_length, count_at}
 
 -- no name has a number yet
 pub number_none : (names : List (List ℕ)) (numbers : List (Sym × TermId)) (name : List ℕ) → numbers ≡ [] → number_named names numbers name ≡ None

@@ -8,18 +8,18 @@ use Rattle.std.proofs.lemmas.Bool.{not-true, not-false}
 use Rattle.std.proofs.lemmas.List.Elements.{All-nil, All-cons, All-append, All-weaker}
 use Rattle.std.proofs.lemmas.Option.{same_Some, slice_get_within}
 use Rattle.std.proofs.lemmas.Slice.Eq.{bytes_eq-Decides}
-use Rattle.isle_syntax.specs.declared.lexer.Pos.{Pos}
-use Rattle.isle_syntax.specs.declared.error.Error.{Error}
-use Rattle.isle_syntax.specs.declared.refusal.Refusal.{Refusal}
-use Rattle.isle_syntax.specs.declared.refusal.Refusal.TheVariants.{Fault, Memory}
-use Rattle.isle_syntax.specs.Errors.{IfFault, IsFaultAnd}
-use Rattle.isle_syntax.specs.declared.ast.Def.{Def}
-use Rattle.isle_syntax.proofs.Trees.DefEquality.{pos-decides}
+use Rattle.isle_ast.specs.declared.pos.Pos.{Pos}
+use Rattle.isle_ast.specs.declared.error.Error.{Error}
+use Rattle.isle_ast.specs.declared.refusal.Refusal.{Refusal}
+use Rattle.isle_ast.specs.declared.refusal.Refusal.TheVariants.{Fault, Memory}
+use Rattle.isle_ast.specs.Errors.{IfFault, IsFaultAnd}
+use Rattle.isle_ast.specs.declared.ast.Def.{Def}
+use Rattle.isle_ast.proofs.Trees.DefEquality.{pos-decides}
 use Rattle.isle_types.specs.Environment.{Environment}
 use Rattle.isle_types.specs.StableMaps.{has}
 use Rattle.isle_types.specs.TypeFaults.{IsTypeFault}
 use Rattle.isle_types.proofs.Zipped.{all_at}
-use Rattle.isle_terms.specs.Definitions.{IsAmong}
+use Rattle.isle_rules.specs.Definitions.{IsAmong}
 use Rattle.isle_terms.specs.TypingFaults.{BreaksTyping, AreTypingFaults}
 use Rattle.isle_terms.specs.Inside.Collecting.Checks.{Checks}
 use Rattle.isle_terms.specs.Inside.Collecting.Repeats.{fault_key, same_key, MeetsKey, TellAlike, Tell, AreToldOf}

@@ -1,70 +1,25 @@
 -- The terms of types, one type and one variant after the other.
 use Rattle.std.proofs.Common.{◌≡◌, ℕ, zero, suc, ◌+◌, ◌-◌, ◌<◌, ◌≤◌, ◌⊎◌, inl, inr, List}
-use Rattle.std.proofs.Common.{[], ◌∷◌, ◌++◌, length, map, take, Some, arith, refl, ap, sym, subst, ◌∙◌}
+use Rattle.std.proofs.Common.{[], ◌∷◌, ◌++◌, length, map, take, Some, arith, ap, sym, subst, ◌∙◌}
 use Rattle.std.proofs.Common.{slice_get, add-zero, append-nil, append_assoc, length-append}
-use Rattle.std.specs.List.{AllZip}
 use Rattle.std.proofs.lemmas.List.{take_all, length-take-le}
-use Rattle.std.proofs.lemmas.Option.{none-some, same_Some, slice_get_within}
-use Rattle.isle_types.specs.declared.types.StructField.{StructField}
-use Rattle.isle_types.specs.declared.types.TupleField.{TupleField}
-use Rattle.isle_types.specs.declared.types.Fields.{Fields}
-use Rattle.isle_types.specs.declared.types.Fields.TheVariants.{Unit as NoFields, Struct as NamedFields, Tuple as UnnamedFields}
+use Rattle.std.proofs.lemmas.Option.{slice_get_within}
 use Rattle.isle_types.specs.declared.types.Variant.{Variant}
 use Rattle.isle_types.specs.declared.types.BuiltinType.{BuiltinType}
 use Rattle.isle_types.specs.declared.types.«Type».{«Type» as KnownType}
 use Rattle.isle_types.specs.declared.types.«Type».TheVariants.{Builtin}
 use Rattle.isle_types.specs.IntTypes.{builtin_names, builtin_types}
-use Rattle.isle_types.specs.Types.{id_of, field_types}
-use Rattle.isle_types.specs.Environment.{Environment, NamedType, NamedVariant, FieldList, no_fields, named_fields, tuple_fields, numbers_in}
+use Rattle.isle_types.specs.Types.{id_of}
+use Rattle.isle_types.specs.Environment.{Environment, NamedType, NamedVariant}
 use Rattle.isle_types.specs.TypeTables.{TypeTables}
-use Rattle.isle_types.specs.TypeEnvs.{CountUp, Shows, IsShown, IsShownField, IsShownTupleField, AreShownFields, IsShownVariant, AreShownVariants}
+use Rattle.isle_types.specs.TypeEnvs.{CountUp, Shows, IsShown, IsShownVariant, AreShownVariants}
 use Rattle.isle_types.proofs.Lists.{taken_more}
 use Rattle.isle_types.proofs.Zipped.{mapped_at}
-use Rattle.isle_terms.specs.declared.terms.Term.{Term}
-use Rattle.isle_terms.specs.Signatures.{Signature}
-use Rattle.isle_terms.specs.Definitions.{terms_of_types, terms_of_shape, variant_terms}
-use Rattle.isle_terms.specs.Shown.ShownTerms.{numbers_of}
+use Rattle.isle_rules.specs.declared.terms.Term.{Term}
+use Rattle.isle_rules.specs.Signatures.{Signature}
+use Rattle.isle_rules.specs.Definitions.{terms_of_types, terms_of_shape, variant_terms}
 use Rattle.isle_terms.specs.Inside.Collecting.DeclaredTerms.{IsShownTerm, AddsTerms, variant_signature}
-
--- what an item at a place of the second list is related to
-pub zipped_back : {A B : Type 0} (R : A → B → Type 0) (xs : List A) (ys : List B) → AllZip R xs ys → (i : ℕ) (y : B) → slice_get ys i ≡ Some y
-    → (x : A) × (slice_get xs i ≡ Some x) × R x y
-zipped_back R [] [] each i y is = absurd (none-some y is)
-zipped_back R (x ∷ xs) [] each i y is = absurd each
-zipped_back R [] (first ∷ ys) each i y is = absurd each
-zipped_back R (x ∷ xs) (first ∷ ys) each zero y is = (x, refl, subst (λ z. R x z) (same_Some first y is) each.0)
-zipped_back R (x ∷ xs) (first ∷ ys) each (suc i) y is = zipped_back R xs ys each.1 i y is
-
--- two lists related in pairs are as long
-pub zipped_length : {A B : Type 0} (R : A → B → Type 0) (xs : List A) (ys : List B) → AllZip R xs ys → length xs ≡ length ys
-zipped_length R [] [] each = refl
-zipped_length R (x ∷ xs) [] each = absurd each
-zipped_length R [] (y ∷ ys) each = absurd each
-zipped_length R (x ∷ xs) (y ∷ ys) each = ap suc (zipped_length R xs ys each.1)
-
--- lists related in pairs, and more behind them
-pub zipped_append : {A B : Type 0} (R : A → B → Type 0) (xs : List A) (ys : List B) (more : List A) (others : List B) → AllZip R xs ys
-    → AllZip R more others → AllZip R (xs ++ more) (ys ++ others)
-zipped_append R [] [] more others each then = then
-zipped_append R (x ∷ xs) [] more others each then = absurd each
-zipped_append R [] (y ∷ ys) more others each then = absurd each
-zipped_append R (x ∷ xs) (y ∷ ys) more others each then = (each.0, zipped_append R xs ys more others each.1 then)
-
--- the number of an item that counts up
-pub count_at : {X : Type 0} (number : X → ℕ) (n : ℕ) (xs : List X) → CountUp number n xs → (i : ℕ) (x : X) → slice_get xs i ≡ Some x
-    → number x ≡ n + i
-count_at number n [] counted i x is = absurd (none-some x is)
-count_at number n (first ∷ xs) counted zero x is = ap number (sym (same_Some first x is)) ∙ counted.0 ∙ sym (add-zero n)
-count_at number n (first ∷ xs) counted (suc i) x is =
-    let later : suc n + i ≡ n + suc i = omega arith in count_at number (suc n) xs counted.1 i x is ∙ later
-
--- items that count up, and more behind them
-pub count_append : {X : Type 0} (number : X → ℕ) (n : ℕ) (xs ys : List X) → CountUp number n xs → CountUp number (n + length xs) ys
-    → CountUp number n (xs ++ ys)
-count_append number n [] ys counted then = subst (λ k. CountUp number k ys) (add-zero n) then
-count_append number n (x ∷ xs) ys counted then =
-    let later : n + suc (length xs) ≡ suc n + length xs = omega arith in
-    (counted.0, count_append number (suc n) xs ys counted.1 (subst (λ k. CountUp number k ys) later then))
+use Rattle.isle_rules.proofs.Zipped.{zipped_back, zipped_length, zipped_append, count_at, count_append}
 
 -- nothing is added
 pub adds_nothing : (names : List (List ℕ)) (old new : List Term) → new ≡ old → AddsTerms names [] old new
@@ -95,37 +50,6 @@ adds_then names first second old middle new before after = record {
   counted = count_append (λ (term : Term). term.id.0) (length old) before.added after.added before.counted
       (subst (λ n. CountUp (λ (term : Term). term.id.0) n after.added) (ap length before.all ∙ length-append old before.added) after.counted);
 }
-
--- the numbers of the types of named fields
-named_numbers : (names : List (List ℕ)) (fields : List (List ℕ × ℕ)) (made : List StructField) → AllZip (IsShownField names) fields made
-    → numbers_of (map (λ (field : StructField). field.ty) made) ≡ map (λ (field : List ℕ × ℕ). field.1) fields
-named_numbers names [] [] each = refl
-named_numbers names (x ∷ xs) [] each = absurd each
-named_numbers names [] (y ∷ ys) each = absurd each
-named_numbers names (x ∷ xs) (y ∷ ys) each =
-    ap (λ n. n ∷ numbers_of (map (λ (field : StructField). field.ty) ys)) each.0.type ∙ ap (λ ns. x.1 ∷ ns) (named_numbers names xs ys each.1)
-
--- the numbers of the types of fields without names
-tuple_numbers : (numbers : List ℕ) (made : List TupleField) → AllZip IsShownTupleField numbers made
-    → numbers_of (map (λ (field : TupleField). field.ty) made) ≡ numbers
-tuple_numbers [] [] each = refl
-tuple_numbers (x ∷ xs) [] each = absurd each
-tuple_numbers [] (y ∷ ys) each = absurd each
-tuple_numbers (x ∷ xs) (y ∷ ys) each =
-    ap (λ n. n ∷ numbers_of (map (λ (field : TupleField). field.ty) ys)) each.0 ∙ ap (λ ns. x ∷ ns) (tuple_numbers xs ys each.1)
-
--- the numbers of the types of fields
-pub fields_numbers : (names : List (List ℕ)) (fields : FieldList) (made : Fields) → AreShownFields names fields made
-    → numbers_of (field_types made) ≡ numbers_in fields
-fields_numbers names no_fields NoFields shown = refl
-fields_numbers names no_fields (NamedFields made) shown = absurd shown
-fields_numbers names no_fields (UnnamedFields made) shown = absurd shown
-fields_numbers names (named_fields fields) NoFields shown = absurd shown
-fields_numbers names (named_fields fields) (NamedFields made) shown = named_numbers names fields made.fields shown.0
-fields_numbers names (named_fields fields) (UnnamedFields made) shown = absurd shown
-fields_numbers names (tuple_fields numbers) NoFields shown = absurd shown
-fields_numbers names (tuple_fields numbers) (NamedFields made) shown = absurd shown
-fields_numbers names (tuple_fields numbers) (UnnamedFields made) shown = tuple_numbers numbers made.fields shown.0
 
 -- the terms of variants, and of one more
 variants_more : (ty : ℕ) (type : List ℕ) (number : ℕ) (variants : List NamedVariant) (variant : NamedVariant)

@@ -2,23 +2,23 @@
 use Rattle.std.proofs.Common.{ℕ, zero, suc, Bool, inl, inr, List, [], ◌∷◌, arith, refl, sym, subst, ◌∙◌, ap}
 use Rattle.std.specs.Prelude.{All}
 use Rattle.std.proofs.lemmas.List.Elements.{All-nil, All-cons, All-head, All-weaker}
-use Rattle.isle_syntax.specs.declared.ast.Def.{Def}
-use Rattle.isle_syntax.specs.declared.lexer.Pos.{Pos}
-use Rattle.isle_syntax.specs.declared.error.Span.{Span}
-use Rattle.isle_syntax.specs.declared.error.Error.{Error}
-use Rattle.isle_syntax.specs.declared.error.Error.TheVariants.{TypeError, SizeError, ParseError, UnreachableError, OverlapError, ShadowedError}
-use Rattle.isle_syntax.specs.Errors.{ErrorAt}
-use Rattle.isle_syntax.specs.Positions.DefPositions.{DefAt, RuleAt}
+use Rattle.isle_ast.specs.declared.ast.Def.{Def}
+use Rattle.isle_ast.specs.declared.pos.Pos.{Pos}
+use Rattle.isle_ast.specs.declared.error.Span.{Span}
+use Rattle.isle_ast.specs.declared.error.Error.{Error}
+use Rattle.isle_ast.specs.declared.error.Error.TheVariants.{TypeError, SizeError, ParseError, UnreachableError, OverlapError, ShadowedError}
+use Rattle.isle_ast.specs.Errors.{ErrorAt}
+use Rattle.isle_ast.specs.Positions.DefPositions.{DefAt, RuleAt}
 use Rattle.isle_types.specs.Environment.{Environment, Makes}
 use Rattle.isle_types.specs.TypeFaults.{IsTypeOrSize, IsTypeFault}
 use Rattle.isle_types.proofs.TypeReadings.{reading_then}
 use Rattle.isle_types.specs.TypeTables.{TypeTables}
-use Rattle.isle_terms.specs.TypedRules.{TypedRule}
-use Rattle.isle_terms.specs.TypedTrees.{TypedRuleAt}
-use Rattle.isle_terms.specs.Shown.TermTables.{TermTables}
-use Rattle.isle_terms.specs.Shown.RulesShown.{IsShownRule}
-use Rattle.isle_terms.specs.TermEnvs.{ShowsTerms}
-use Rattle.isle_terms.specs.Definitions.{HaveTerms, rules_in, IsRuleOf, declared_by}
+use Rattle.isle_rules.specs.TypedRules.{TypedRule}
+use Rattle.isle_rules.specs.TypedTrees.{TypedRuleAt}
+use Rattle.isle_rules.specs.Shown.TermTables.{TermTables}
+use Rattle.isle_rules.specs.Shown.RulesShown.{IsShownRule}
+use Rattle.isle_rules.specs.Shown.RulesShown.{ShowsTerms}
+use Rattle.isle_rules.specs.Definitions.{HaveTerms, rules_in, IsRuleOf, declared_by}
 use Rattle.isle_terms.specs.TypingFaults.{BreaksTyping, ExceedsTyping, AreTypingFaults}
 use Rattle.isle_terms.proofs.BrokenTyping.{broken_typing_makes_none, exceeding_typing_makes_none}
 use Rattle.isle_terms.proofs.Showing.TypingPlaces.{breaks_at, exceeds_at, made_types_at, Each, each_related, rules_at}

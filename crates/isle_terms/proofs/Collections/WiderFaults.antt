@@ -1,12 +1,12 @@
 -- Where one rule is broken, one of more rules is.
 use Rattle.std.proofs.Common.{List, [], ◌∷◌}
-use Rattle.isle_syntax.specs.declared.lexer.Pos.{Pos}
-use Rattle.isle_syntax.specs.declared.error.Error.{Error}
-use Rattle.isle_syntax.specs.declared.error.Span.{Span}
-use Rattle.isle_syntax.specs.declared.refusal.Refusal.{Refusal}
-use Rattle.isle_syntax.specs.declared.refusal.Refusal.TheVariants.{Fault, Memory}
-use Rattle.isle_syntax.specs.Errors.{ErrorKind, parse_error, type_error, unreachable_rule, overlapping_rules, shadowing_rule, size_error, error_kind}
-use Rattle.isle_syntax.specs.Errors.{spans_of, IfFault}
+use Rattle.isle_ast.specs.declared.pos.Pos.{Pos}
+use Rattle.isle_ast.specs.declared.error.Error.{Error}
+use Rattle.isle_ast.specs.declared.error.Span.{Span}
+use Rattle.isle_ast.specs.declared.refusal.Refusal.{Refusal}
+use Rattle.isle_ast.specs.declared.refusal.Refusal.TheVariants.{Fault, Memory}
+use Rattle.isle_ast.specs.Errors.{ErrorKind, parse_error, type_error, unreachable_rule, overlapping_rules, shadowing_rule, size_error, error_kind}
+use Rattle.isle_ast.specs.Errors.{spans_of, IfFault}
 use Rattle.isle_types.specs.TypeFaults.{StartsWhere, IsTypeOrSize}
 
 starts_wider : {Broken Wider Passed More : Pos → Type 0} → ((at : Pos) → Broken at → Wider at) → ((at : Pos) → Passed at → More at)

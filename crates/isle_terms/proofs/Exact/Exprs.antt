@@ -2,15 +2,15 @@
 use Rattle.std.proofs.Common.{◌≡◌, ◌≢◌, ◌⊎◌, ℕ, zero, suc, ◌≤◌, inl, inr, true, false, ◌==◌, List, [], ◌∷◌, Option, None, Some, true≢false}
 use Rattle.std.proofs.Common.{refl, sym, subst, ◌∙◌, arith, length, slice_get, ℤ, Bool}
 use Rattle.std.proofs.lemmas.Bool.{false≢true, eqb-true, eqb-false}
-use Rattle.isle_syntax.specs.declared.ast.Ident.{Ident}
-use Rattle.isle_syntax.specs.declared.lexer.Pos.{Pos}
-use Rattle.isle_syntax.specs.Trees.ExprTree.{ExprTree, ExprTrees, LetTrees, expr_term, expr_var, expr_bool, expr_int, expr_prim, expr_let}
-use Rattle.isle_syntax.specs.Trees.ExprTree.{no_exprs, more_exprs, no_lets, more_lets, expr_pos}
+use Rattle.isle_ast.specs.declared.ast.Ident.{Ident}
+use Rattle.isle_ast.specs.declared.pos.Pos.{Pos}
+use Rattle.isle_ast.specs.Trees.ExprTree.{ExprTree, ExprTrees, LetTrees, expr_term, expr_var, expr_bool, expr_int, expr_prim, expr_let}
+use Rattle.isle_ast.specs.Trees.ExprTree.{no_exprs, more_exprs, no_lets, more_lets, expr_pos}
 use Rattle.isle_types.specs.Environment.{constant_in}
-use Rattle.isle_terms.specs.TypedRules.{TypedExpr}
-use Rattle.isle_terms.specs.Signatures.{Flags, Signature, Declared, term_named, has_constructor_form, flags_of}
-use Rattle.isle_terms.specs.Elaboration.{type_named, State, counted, bound, Visible, visible_in, expr_count, may_call, IsExpected, ExprJudgement}
-use Rattle.isle_terms.specs.Elaboration.{EachExpr, Binds, Calls, ConvertsExpr, ExprNode, Builds, bool_number}
+use Rattle.isle_rules.specs.TypedRules.{TypedExpr}
+use Rattle.isle_rules.specs.Signatures.{Flags, Signature, Declared, term_named, has_constructor_form, flags_of}
+use Rattle.isle_rules.specs.Elaboration.{type_named, State, counted, bound, Visible, visible_in, expr_count, may_call, IsExpected, ExprJudgement}
+use Rattle.isle_rules.specs.Elaboration.{EachExpr, Binds, Calls, ConvertsExpr, ExprNode, Builds, bool_number}
 use Rattle.isle_terms.specs.Reaching.{ExprFact, SomeExpr, SomeValue, CalledPart, RepairedExpr, BelowExpr, ReachesExpr, IsTooLarge}
 use Rattle.isle_terms.specs.IllTyped.{HasNoExprConverter, IsBeyondRepair, IsIllCall, no_constructor, not_allowed, other_number, other_result}
 use Rattle.isle_terms.specs.IllTyped.{HasUnknownType, IsIllExpr}
@@ -250,19 +250,3 @@ exprs_told declared caller max (suc levels) =
           (λ room. in_words (use_told declared caller max _ _ _ _ _ below name at number term args (counted s) room named stands) (λ v s' h. h)
           (λ at h. h) (λ h. inr h));
     }
-
--- what reading an expression comes to is so
-pub expr_tells : (declared : Declared) (caller : Flags) (max levels : ℕ) (e : ExprTree) (want : Option ℕ) (s : State) → s.nodes ≤ max
-    → Tells max (Builds declared caller levels e want s) (λ at. ReachesExpr declared caller (IllExprAt declared at caller) levels e want s)
-    (ReachesExpr declared caller (λ left e want s. IsTooLarge max left s) levels e want s) (read_expr (known_by declared) caller max levels e want s)
-expr_tells declared caller max levels e want s fits = let told = (exprs_told declared caller max levels).reads e want s fits in told.tells
-
--- what a call of a converter comes to is so of its tree
-pub expr_use_tells : (declared : Declared) (caller : Flags) (max levels : ℕ) (name : List ℕ) (at : Pos) (number : ℕ) (term : Signature)
-    (args : ExprTrees) (s : State) → s.nodes ≤ max → term_named declared name ≡ Some number → slice_get declared.terms number ≡ Some term
-    → Tells max (Builds declared caller levels (expr_term (name, at) args at) (Some term.ret) s)
-    (λ place. ReachesExpr declared caller (IllExprAt declared place caller) levels (expr_term (name, at) args at) (Some term.ret) s)
-    (ReachesExpr declared caller (λ left e want s. IsTooLarge max left s) levels (expr_term (name, at) args at) (Some term.ret) s)
-    (read_expr_use (known_by declared) caller max levels at number term args s)
-expr_use_tells declared caller max levels name at number term args s fits named stands =
-    let told = (exprs_told declared caller max levels).uses name at number term args s fits named stands in told.tells

@@ -4,8 +4,8 @@ use Rattle.std.proofs.Common.{option_and_then, option_map, map}
 use Rattle.std.proofs.lemmas.Bool.{false≢true, and_parts, and_from, eqb-true, eq-eqb}
 use Rattle.std.proofs.lemmas.Option.{none-some, same_Some, slice_get-map}
 use Rattle.isle_types.proofs.NamePlaces.{place_found}
-use Rattle.isle_terms.specs.Signatures.{TermForm, Signature, Declared, term_named, signature_of, converter_in, Converts, has_extractor_form}
-use Rattle.isle_terms.specs.Signatures.{has_constructor_form}
+use Rattle.isle_rules.specs.Signatures.{TermForm, Signature, Declared, term_named, signature_of, converter_in, Converts, has_extractor_form}
+use Rattle.isle_rules.specs.Signatures.{has_constructor_form}
 use Rattle.isle_terms.specs.IllTyped.{HasNoPatternConverter, HasNoExprConverter}
 use Rattle.isle_terms.specs.Inside.Readings.Outcomes.{takes_just, fitting_term, fitting_number, fitting}
 use Rattle.isle_terms.specs.Inside.Readings.KnownBy.{known_by}
@@ -92,31 +92,3 @@ module _ (declared : Declared) (is_usable : TermForm → Bool) (inner outer : �
   -- the converter that is found fits, and where none is found none does
   pub fitting_fits : IsFit declared is_usable inner outer (fitting (known_by declared) is_usable inner outer)
   fitting_fits = fit_name (converter_in declared.conversions inner outer) refl
-
--- a converter of patterns that is found fits
-pub pattern_converter : (declared : Declared) (inner outer number : ℕ) (term : Signature)
-    → fitting (known_by declared) has_extractor_form inner outer ≡ Some (number, term)
-    → (name : List ℕ) × (term_named declared name ≡ Some number) × (slice_get declared.terms number ≡ Some term)
-    × Converts declared inner outer name term × (has_extractor_form term.form ≡ true)
-pattern_converter declared inner outer number term is =
-    subst (IsFit declared has_extractor_form inner outer) is (fitting_fits declared has_extractor_form inner outer)
-
--- where none is found none fits
-pub no_pattern_converter : (declared : Declared) (inner outer : ℕ) → fitting (known_by declared) has_extractor_form inner outer ≡ None
-    → HasNoPatternConverter declared inner outer
-no_pattern_converter declared inner outer is =
-    subst (IsFit declared has_extractor_form inner outer) is (fitting_fits declared has_extractor_form inner outer)
-
--- a converter of expressions that is found fits
-pub expr_converter : (declared : Declared) (inner outer number : ℕ) (term : Signature)
-    → fitting (known_by declared) has_constructor_form inner outer ≡ Some (number, term)
-    → (name : List ℕ) × (term_named declared name ≡ Some number) × (slice_get declared.terms number ≡ Some term)
-    × Converts declared inner outer name term × (has_constructor_form term.form ≡ true)
-expr_converter declared inner outer number term is =
-    subst (IsFit declared has_constructor_form inner outer) is (fitting_fits declared has_constructor_form inner outer)
-
--- where none is found none fits
-pub no_expr_converter : (declared : Declared) (inner outer : ℕ) → fitting (known_by declared) has_constructor_form inner outer ≡ None
-    → HasNoExprConverter declared inner outer
-no_expr_converter declared inner outer is =
-    subst (IsFit declared has_constructor_form inner outer) is (fitting_fits declared has_constructor_form inner outer)

@@ -13,10 +13,11 @@ use Rattle.isle_types.specs.IntTypes.{builtin_types}
 use Rattle.isle_types.specs.Environment.{Environment, NamedType, TypeShape, primitive, enum, struct}
 use Rattle.isle_types.specs.TypeTables.{TypeTables}
 use Rattle.isle_types.specs.TypeEnvs.{IsShownShape, IsShown, Shows, type_at}
-use Rattle.isle_terms.specs.Signatures.{Declared}
+use Rattle.isle_rules.specs.Signatures.{Declared}
 use Rattle.isle_terms.specs.Inside.Readings.KnownBy.{is_primitive_shape, defined_has_number, builtin_has_number, type_has_number, known_by}
-use Rattle.isle_terms.specs.Shown.TermTables.{TermTables}
-use Rattle.isle_terms.specs.Shown.ShownTerms.{term_shown, term_at, known_has_number, known_of, ShowsDeclared}
+use Rattle.isle_rules.specs.Shown.TermTables.{TermTables}
+use Rattle.isle_rules.specs.Shown.ShownTerms.{term_shown, term_at, ShowsDeclared}
+use Rattle.isle_terms.specs.Inside.Shown.KnownNames.{known_has_number, known_of}
 
 -- the number of a term is that of its id
 term_numbered : (found : Option TermId) (option : Option ℕ) → found ≡ option_map term_at option → option_map (λ (id : TermId). id.0) found ≡ option

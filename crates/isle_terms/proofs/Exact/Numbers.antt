@@ -8,7 +8,7 @@ use Rattle.isle_types.specs.declared.types.BuiltinType.{BuiltinType}
 use Rattle.isle_types.specs.declared.types.BuiltinType.TheVariants.{Bool as BoolType, Int}
 use Rattle.isle_types.specs.IntTypes.{builtin_types, builtin_names, HasNumber, spelt_number}
 use Rattle.isle_types.specs.Environment.{Environment, NamedType, TypeShape, primitive, enum, struct}
-use Rattle.isle_terms.specs.Elaboration.{IsLiteralOf, of_integer, of_primitive}
+use Rattle.isle_rules.specs.Elaboration.{IsLiteralOf, of_integer, of_primitive}
 use Rattle.isle_terms.specs.Inside.Readings.KnownBy.{is_at_most, int_has_number, is_primitive_shape, defined_has_number, builtin_has_number, type_has_number}
 
 -- a test that is passed, as a type
@@ -91,11 +91,3 @@ number_found types ty val big (of_primitive place type host is stands shape) =
 
     place_of : (ty place : ℕ) → ty ≡ length builtin_names + place → ty - length builtin_names ≡ place
     place_of ty place is = omega arith
-
--- the test of an integer type is exact
-pub int_number_tells : (int : IntType) (val : ℤ) (big : Bool) → (int_has_number int val big ≡ true) ↔ HasNumber int (spelt_number val big)
-int_number_tells int val big = (int_number_there int val big, int_number_found int val big)
-
--- the test of a type is exact
-pub number_tells : (types : Environment) (ty : ℕ) (val : ℤ) (big : Bool) → (type_has_number types ty val big ≡ true) ↔ IsLiteralOf types ty val big
-number_tells types ty val big = (number_there types ty val big, number_found types ty val big)

@@ -1,8 +1,8 @@
 -- How what is read in turn tells the truth, part by part.
 use Rattle.std.proofs.Common.{◌≡◌, ℕ, ◌+◌, ◌≤◌, Bool, true, false, cond, leb, refl, arith}
 use Rattle.std.proofs.lemmas.Bool.{leb-true, leb-false}
-use Rattle.isle_syntax.specs.declared.lexer.Pos.{Pos}
-use Rattle.isle_terms.specs.Elaboration.{State}
+use Rattle.isle_ast.specs.declared.pos.Pos.{Pos}
+use Rattle.isle_rules.specs.Elaboration.{State}
 use Rattle.isle_terms.specs.Inside.Readings.Outcomes.{Outcome, stands_for, ill_at, exceeds, and_then, only_if}
 use Rattle.isle_terms.specs.Inside.Readings.Telling.{Tells}
 

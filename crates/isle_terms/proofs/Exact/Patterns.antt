@@ -4,17 +4,17 @@ use Rattle.std.proofs.Common.{refl, sym, ap, subst, ◌∙◌, arith, length, sl
 use Rattle.std.specs.Prelude.{IsSome}
 use Rattle.std.proofs.lemmas.Bool.{false≢true, eqb-true, eqb-false}
 use Rattle.std.proofs.lemmas.Option.{none-some, same_Some}
-use Rattle.isle_syntax.specs.declared.ast.Ident.{Ident}
-use Rattle.isle_syntax.specs.declared.lexer.Pos.{Pos}
-use Rattle.isle_syntax.specs.Trees.PatternTree.{PatternTree, PatternTrees, pattern_var, pattern_bind, pattern_bool, pattern_int, pattern_prim}
-use Rattle.isle_syntax.specs.Trees.PatternTree.{pattern_term, pattern_wildcard, pattern_and, pattern_macro_arg, no_patterns, more_patterns}
-use Rattle.isle_syntax.specs.Trees.PatternTree.{pattern_pos}
-use Rattle.isle_syntax.specs.Trees.Templates.{filled}
+use Rattle.isle_ast.specs.declared.ast.Ident.{Ident}
+use Rattle.isle_ast.specs.declared.pos.Pos.{Pos}
+use Rattle.isle_ast.specs.Trees.PatternTree.{PatternTree, PatternTrees, pattern_var, pattern_bind, pattern_bool, pattern_int, pattern_prim}
+use Rattle.isle_ast.specs.Trees.PatternTree.{pattern_term, pattern_wildcard, pattern_and, pattern_macro_arg, no_patterns, more_patterns}
+use Rattle.isle_ast.specs.Trees.PatternTree.{pattern_pos}
+use Rattle.isle_ast.specs.Trees.Templates.{filled}
 use Rattle.isle_types.specs.Environment.{constant_in}
-use Rattle.isle_terms.specs.TypedRules.{TypedPattern}
-use Rattle.isle_terms.specs.Signatures.{Signature, Declared, term_named, put_in_for, has_extractor_form}
-use Rattle.isle_terms.specs.Elaboration.{State, counted, Visible, visible_in, pattern_count, listed, each_at, PatternJudgement, EachPattern}
-use Rattle.isle_terms.specs.Elaboration.{TakesApart, Extracts, ConvertsPattern, PatternNode, Elaborates, bool_number}
+use Rattle.isle_rules.specs.TypedRules.{TypedPattern}
+use Rattle.isle_rules.specs.Signatures.{Signature, Declared, term_named, put_in_for, has_extractor_form}
+use Rattle.isle_rules.specs.Elaboration.{State, counted, Visible, visible_in, pattern_count, listed, each_at, PatternJudgement, EachPattern}
+use Rattle.isle_rules.specs.Elaboration.{TakesApart, Extracts, ConvertsPattern, PatternNode, Elaborates, bool_number}
 use Rattle.isle_terms.specs.Reaching.{PatternFact, SomePattern, TakenApart, ExtractedPart, RepairedPattern, BelowPattern, ReachesPattern, IsTooLarge}
 use Rattle.isle_terms.specs.IllTyped.{HasNoPatternConverter, IsIllUse, no_extractor, other_count, argument_lacking, other_type}
 use Rattle.isle_terms.specs.IllTyped.{IsIllPattern}
@@ -224,19 +224,3 @@ patterns_told declared max (suc levels) =
           (λ room. in_words (use_told declared max _ _ _ _ _ below name at number term args (counted s) room named stands) (λ v s' h. h) (λ at h. h)
           (λ h. inr h));
     }
-
--- what reading a pattern comes to is so
-pub pattern_tells : (declared : Declared) (max levels : ℕ) (t : PatternTree) (ty : ℕ) (s : State) → s.nodes ≤ max
-    → Tells max (Elaborates declared levels t ty s) (λ at. ReachesPattern declared (IllPatternAt declared at) levels t ty s)
-    (ReachesPattern declared (λ left t ty s. IsTooLarge max left s) levels t ty s) (read_pattern (known_by declared) max levels t ty s)
-pattern_tells declared max levels t ty s fits = let told = (patterns_told declared max levels).reads t ty s fits in told.tells
-
--- what a use of a converter comes to is so of its tree
-pub pattern_use_tells : (declared : Declared) (max levels : ℕ) (name : List ℕ) (at : Pos) (number : ℕ) (term : Signature) (args : PatternTrees)
-    (s : State) → s.nodes ≤ max → term_named declared name ≡ Some number → slice_get declared.terms number ≡ Some term
-    → Tells max (Elaborates declared levels (pattern_term (name, at) args at) term.ret s)
-    (λ place. ReachesPattern declared (IllPatternAt declared place) levels (pattern_term (name, at) args at) term.ret s)
-    (ReachesPattern declared (λ left t ty s. IsTooLarge max left s) levels (pattern_term (name, at) args at) term.ret s)
-    (read_pattern_use (known_by declared) max levels at number term args s)
-pattern_use_tells declared max levels name at number term args s fits named stands =
-    let told = (patterns_told declared max levels).uses name at number term args s fits named stands in told.tells

@@ -4,21 +4,21 @@ use Rattle.std.proofs.Common.{option_map, cond, Bool}
 use Rattle.std.specs.Prelude.{All}
 use Rattle.std.proofs.lemmas.Option.{none-some, same_Some}
 use Rattle.std.proofs.lemmas.List.Elements.{All-head, All-tail}
-use Rattle.isle_syntax.specs.declared.ast.IfLet.{IfLet}
-use Rattle.isle_syntax.specs.declared.ast.Rule.{Rule}
-use Rattle.isle_syntax.specs.declared.lexer.Pos.{Pos}
-use Rattle.isle_syntax.specs.Positions.DefPositions.{PatternTreeAt, PatternTreesAt, ExprTreeAt, ExprTreesAt, LetTreesAt, IfLetAt, RuleAt}
-use Rattle.isle_syntax.specs.Trees.PatternTree.{PatternTree, PatternTrees, pattern_var, pattern_bind, pattern_bool, pattern_int, pattern_prim}
-use Rattle.isle_syntax.specs.Trees.PatternTree.{pattern_term, pattern_wildcard, pattern_and, pattern_macro_arg, no_patterns, more_patterns}
-use Rattle.isle_syntax.specs.Trees.PatternTree.{pattern_pos}
-use Rattle.isle_syntax.specs.Trees.PatternShape.{pattern_of}
-use Rattle.isle_syntax.specs.Trees.ExprTree.{ExprTree, ExprTrees, LetTrees, expr_term, expr_var, expr_bool, expr_int, expr_prim, expr_let}
-use Rattle.isle_syntax.specs.Trees.ExprTree.{no_exprs, more_exprs, no_lets, more_lets, expr_pos}
-use Rattle.isle_syntax.specs.Trees.ExprShape.{expr_of}
-use Rattle.isle_syntax.specs.Trees.Templates.{filled, all_filled, more_given}
+use Rattle.isle_ast.specs.declared.ast.IfLet.{IfLet}
+use Rattle.isle_ast.specs.declared.ast.Rule.{Rule}
+use Rattle.isle_ast.specs.declared.pos.Pos.{Pos}
+use Rattle.isle_ast.specs.Positions.DefPositions.{PatternTreeAt, PatternTreesAt, ExprTreeAt, ExprTreesAt, LetTreesAt, IfLetAt, RuleAt}
+use Rattle.isle_ast.specs.Trees.PatternTree.{PatternTree, PatternTrees, pattern_var, pattern_bind, pattern_bool, pattern_int, pattern_prim}
+use Rattle.isle_ast.specs.Trees.PatternTree.{pattern_term, pattern_wildcard, pattern_and, pattern_macro_arg, no_patterns, more_patterns}
+use Rattle.isle_ast.specs.Trees.PatternTree.{pattern_pos}
+use Rattle.isle_ast.specs.Trees.PatternShape.{pattern_of}
+use Rattle.isle_ast.specs.Trees.ExprTree.{ExprTree, ExprTrees, LetTrees, expr_term, expr_var, expr_bool, expr_int, expr_prim, expr_let}
+use Rattle.isle_ast.specs.Trees.ExprTree.{no_exprs, more_exprs, no_lets, more_lets, expr_pos}
+use Rattle.isle_ast.specs.Trees.ExprShape.{expr_of}
+use Rattle.isle_ast.specs.Trees.Templates.{filled, all_filled, more_given}
 use Rattle.isle_types.specs.Environment.{Environment}
-use Rattle.isle_terms.specs.Signatures.{Flags, Signature, Declared, template_of, put_in_for}
-use Rattle.isle_terms.specs.Elaboration.{State, counted, bound, listed, each_at, PatternJudgement, Elaborates, ExprJudgement, Builds, on_lhs}
+use Rattle.isle_rules.specs.Signatures.{Flags, Signature, Declared, template_of, put_in_for}
+use Rattle.isle_rules.specs.Elaboration.{State, counted, bound, listed, each_at, PatternJudgement, Elaborates, ExprJudgement, Builds, on_lhs}
 use Rattle.isle_terms.specs.Reaching.{PatternFact, ExprFact, SomePattern, TakenApart, BelowPattern, ReachesPattern, SomeExpr, SomeValue, BelowExpr}
 use Rattle.isle_terms.specs.Reaching.{ReachesExpr}
 use Rattle.isle_terms.specs.IllTyped.{IsIllPattern, HasUnknownType, IsIllExpr}
@@ -55,15 +55,6 @@ module _ (At : Pos → Type 0) where
   pattern_pos_at (pattern_wildcard pos) h = h
   pattern_pos_at (pattern_and below pos) h = h.1
   pattern_pos_at (pattern_macro_arg place pos) h = h
-
-  -- where an expression stands
-  pub expr_pos_at : (e : ExprTree) → ExprTreeAt At e → At (expr_pos e)
-  expr_pos_at (expr_term name args pos) h = h.2
-  expr_pos_at (expr_var name pos) h = h.1
-  expr_pos_at (expr_bool val pos) h = h
-  expr_pos_at (expr_int val big pos) h = h
-  expr_pos_at (expr_prim name pos) h = h.1
-  expr_pos_at (expr_let defs body pos) h = h.2
 
   -- those of a list's patterns
   listed_at : (ts : PatternTrees) → PatternTreesAt At ts → (place : ℕ) (t : PatternTree) → slice_get (listed ts) place ≡ Some t → PatternTreeAt At t

@@ -1,14 +1,14 @@
 -- What reading a rule comes to is what the judgement and the faults say.
 use Rattle.std.proofs.Common.{◌≡◌, ℕ, ◌≤◌, inl, inr, List, [], ◌∷◌, None, Some, true, refl, arith, length}
-use Rattle.isle_syntax.specs.declared.ast.IfLet.{IfLet}
-use Rattle.isle_syntax.specs.declared.ast.Rule.{Rule}
-use Rattle.isle_syntax.specs.declared.lexer.Pos.{Pos}
-use Rattle.isle_syntax.specs.Trees.PatternTree.{PatternTrees}
-use Rattle.isle_syntax.specs.Trees.PatternShape.{pattern_of}
-use Rattle.isle_syntax.specs.Trees.ExprShape.{expr_of}
-use Rattle.isle_terms.specs.TypedRules.{built_at}
-use Rattle.isle_terms.specs.Signatures.{Flags, Signature, Declared}
-use Rattle.isle_terms.specs.Elaboration.{State, start, pattern_count, on_lhs, Conditions, ElaboratesRule}
+use Rattle.isle_ast.specs.declared.ast.IfLet.{IfLet}
+use Rattle.isle_ast.specs.declared.ast.Rule.{Rule}
+use Rattle.isle_ast.specs.declared.pos.Pos.{Pos}
+use Rattle.isle_ast.specs.Trees.PatternTree.{PatternTrees}
+use Rattle.isle_ast.specs.Trees.PatternShape.{pattern_of}
+use Rattle.isle_ast.specs.Trees.ExprShape.{expr_of}
+use Rattle.isle_rules.specs.TypedRules.{built_at}
+use Rattle.isle_rules.specs.Signatures.{Flags, Signature, Declared}
+use Rattle.isle_rules.specs.Elaboration.{State, start, pattern_count, on_lhs, Conditions, ElaboratesRule}
 use Rattle.isle_terms.specs.Reaching.{IsTooLarge}
 use Rattle.isle_terms.specs.RuleReaching.{HasRoot, SomeCondition, in_argument, in_condition, in_right, IllPatternAt, IllExprAt, IsIllRule, ill_node}
 use Rattle.isle_terms.specs.RuleReaching.{IsLargeRule}
@@ -79,14 +79,6 @@ module _ (declared : Declared) (max levels : ℕ) where
           fits,
         );
       })))
-
--- what reading conditions comes to is so
-pub conditions_tell : (declared : Declared) (max levels : ℕ) (caller : Flags) (trees : List IfLet) (s : State) → s.nodes ≤ max
-    → Tells max (Conditions declared caller levels trees s)
-    (λ at. SomeCondition declared caller (IllPatternAt declared at) (IllExprAt declared at caller) levels trees s)
-    (SomeCondition declared caller (λ left t ty s. IsTooLarge max left s) (λ left e want s. IsTooLarge max left s) levels trees s)
-    (read_conditions (known_by declared) caller max levels trees s)
-conditions_tell declared max levels caller trees s fits = let told = conditions_told declared max levels caller trees s fits in told.tells
 
 -- what reading a rule comes to is so
 pub rule_tells : (declared : Declared) (max levels : ℕ) (term : Signature) (flags : Flags) (at : Pos) (args : PatternTrees) (tree : Rule)

@@ -10,10 +10,10 @@ use Rattle.isle_types.specs.TypeTables.{TypeTables}
 use Rattle.isle_types.specs.TypeEnvs.{HasMoreNames, sym_named, symbol_at}
 use Rattle.isle_types.proofs.NamePlaces.{place_found, place_some}
 use Rattle.isle_types.proofs.ShownTypes.{shows_with_names}
-use Rattle.isle_terms.specs.Signatures.{Declared}
-use Rattle.isle_terms.specs.Shown.TermTables.{TermTables, term_with}
+use Rattle.isle_rules.specs.Signatures.{Declared}
+use Rattle.isle_rules.specs.Shown.TermTables.{TermTables, term_with}
 use Rattle.isle_terms.specs.Inside.Shown.TermLimits.{HasKnownSymbols}
-use Rattle.isle_terms.specs.Shown.ShownTerms.{ShowsDeclared}
+use Rattle.isle_rules.specs.Shown.ShownTerms.{ShowsDeclared}
 use Rattle.isle_terms.proofs.Showing.ShownMore.{terms_more, place_new}
 
 -- the place that is found among others comes before each later one

@@ -5,22 +5,23 @@ use Rattle.std.specs.Prelude.{unwrap_or}
 use Rattle.std.specs.Option.{option_map}
 use Rattle.std.proofs.lemmas.List.{map-append}
 use Rattle.std.proofs.lemmas.Slice.Zip.{all_zipped_more}
-use Rattle.isle_syntax.specs.declared.ast.Ident.{Ident}
-use Rattle.isle_syntax.specs.declared.ast.Rule.{Rule as RuleTree}
+use Rattle.isle_ast.specs.declared.ast.Ident.{Ident}
+use Rattle.isle_ast.specs.declared.ast.Rule.{Rule as RuleTree}
 use Rattle.isle_types.specs.declared.ids.Sym.{Sym}
 use Rattle.isle_types.specs.Names.{KeepsNames}
 use Rattle.isle_types.specs.TypeEnvs.{CountUp}
 use Rattle.isle_types.proofs.Lists.{AllZip-weaker}
-use Rattle.isle_terms.specs.declared.rules.BoundVar.{BoundVar}
-use Rattle.isle_terms.specs.declared.rules.Rule.{Rule}
+use Rattle.isle_rules.specs.declared.rules.BoundVar.{BoundVar}
+use Rattle.isle_rules.specs.declared.rules.Rule.{Rule}
 use Rattle.isle_terms.specs.declared.translate.bindings.RuleVariable.{RuleVariable}
 use Rattle.isle_terms.specs.declared.translate.rules.Parts.{Parts}
-use Rattle.isle_terms.specs.TypedRules.{Variable, TypedRule}
-use Rattle.isle_terms.specs.Elaboration.{State}
+use Rattle.isle_rules.specs.TypedRules.{Variable, TypedRule}
+use Rattle.isle_rules.specs.Elaboration.{State}
 use Rattle.isle_terms.specs.Inside.Readings.Telling.{rule_of_parts}
 use Rattle.isle_terms.specs.Inside.Readings.Scopes.{variable_shown}
-use Rattle.isle_terms.specs.Shown.ShownRules.{typed_list, typed_shown, built_shown, iflet_shown, greatest, pattern_limit, expr_limit}
-use Rattle.isle_terms.specs.Shown.RulesShown.{IsShownVariable, IsShownName, IsShownRule, iflet_limit, parts_limit, parts_shown}
+use Rattle.isle_rules.specs.Shown.ShownRules.{typed_list, typed_shown, built_shown, iflet_shown, greatest, pattern_limit, expr_limit}
+use Rattle.isle_rules.specs.Shown.RulesShown.{IsShownVariable, IsShownName, IsShownRule, iflet_limit}
+use Rattle.isle_terms.specs.Inside.Shown.PartsShown.{parts_limit, parts_shown}
 use Rattle.isle_terms.proofs.Showing.ShownMore.{names_within, patterns_more, built_more, iflets_more}
 
 -- a variable stays

@@ -13,28 +13,28 @@ use Rattle.isle_types.specs.TypeTables.{TypeTables, name_at}
 use Rattle.isle_types.specs.TypeEnvs.{HasMoreNames, sym_named, symbol_at}
 use Rattle.isle_types.proofs.NamePlaces.{place_found, place_known, place_missing}
 use Rattle.isle_types.proofs.ShownTypes.{shows_with_names}
-use Rattle.isle_terms.specs.declared.rules.Pattern.{Pattern, Pattern-F, map-Pattern, fold-roll-Pattern, ind-Pattern}
-use Rattle.isle_terms.specs.declared.rules.Pattern.TheOpen.{BindPattern, Var as PatternVar, ConstBool as PatternBool, ConstInt as PatternInt}
-use Rattle.isle_terms.specs.declared.rules.Pattern.TheOpen.{ConstPrim as PatternPrim, Term as PatternTerm, Wildcard, And}
-use Rattle.isle_terms.specs.declared.rules.Expr.{Expr, Expr-F, map-Expr, fold-roll-Expr, ind-Expr}
-use Rattle.isle_terms.specs.declared.rules.Expr.TheOpen.{Term, Var, ConstBool, ConstInt, ConstPrim, Let}
-use Rattle.isle_terms.specs.declared.rules.IfLet.{IfLet}
-use Rattle.isle_terms.specs.declared.terms.Term.{Term as KnownTerm}
-use Rattle.isle_terms.specs.declared.terms.ConstructorKind.{ConstructorKind}
-use Rattle.isle_terms.specs.declared.terms.ConstructorKind.TheVariants.{InternalConstructor, ExternalConstructor}
-use Rattle.isle_terms.specs.declared.terms.ExtractorKind.{ExtractorKind}
-use Rattle.isle_terms.specs.declared.terms.ExtractorKind.TheVariants.{InternalExtractor, ExternalExtractor}
-use Rattle.isle_terms.specs.declared.terms.TermKind.{TermKind}
-use Rattle.isle_terms.specs.declared.terms.TermKind.TheVariants.{EnumVariant, Struct, Decl}
-use Rattle.isle_terms.specs.TypedRules.{TypedPattern, TypedExpr, typed_bind, typed_prim, typed_term, typed_and}
-use Rattle.isle_terms.specs.TypedRules.{built_term, built_prim, built_let}
-use Rattle.isle_terms.specs.Shown.ShownRules.{typed_step, typed_shown, typed_list, pattern_limit_step, pattern_limit, greatest, built_step}
-use Rattle.isle_terms.specs.Shown.ShownRules.{built_shown}
-use Rattle.isle_terms.specs.Shown.ShownRules.{built_list, binding_list, expr_limit_step, expr_limit, greatest_of_values, iflet_shown}
-use Rattle.isle_terms.specs.Signatures.{external_constructor, external_extractor, Declared}
-use Rattle.isle_terms.specs.Shown.TermTables.{TermTables, term_with}
+use Rattle.isle_rules.specs.declared.rules.Pattern.{Pattern, Pattern-F, map-Pattern, fold-roll-Pattern, ind-Pattern}
+use Rattle.isle_rules.specs.declared.rules.Pattern.TheOpen.{BindPattern, Var as PatternVar, ConstBool as PatternBool, ConstInt as PatternInt}
+use Rattle.isle_rules.specs.declared.rules.Pattern.TheOpen.{ConstPrim as PatternPrim, Term as PatternTerm, Wildcard, And}
+use Rattle.isle_rules.specs.declared.rules.Expr.{Expr, Expr-F, map-Expr, fold-roll-Expr, ind-Expr}
+use Rattle.isle_rules.specs.declared.rules.Expr.TheOpen.{Term, Var, ConstBool, ConstInt, ConstPrim, Let}
+use Rattle.isle_rules.specs.declared.rules.IfLet.{IfLet}
+use Rattle.isle_rules.specs.declared.terms.Term.{Term as KnownTerm}
+use Rattle.isle_rules.specs.declared.terms.ConstructorKind.{ConstructorKind}
+use Rattle.isle_rules.specs.declared.terms.ConstructorKind.TheVariants.{InternalConstructor, ExternalConstructor}
+use Rattle.isle_rules.specs.declared.terms.ExtractorKind.{ExtractorKind}
+use Rattle.isle_rules.specs.declared.terms.ExtractorKind.TheVariants.{InternalExtractor, ExternalExtractor}
+use Rattle.isle_rules.specs.declared.terms.TermKind.{TermKind}
+use Rattle.isle_rules.specs.declared.terms.TermKind.TheVariants.{EnumVariant, Struct, Decl}
+use Rattle.isle_rules.specs.TypedRules.{TypedPattern, TypedExpr, typed_bind, typed_prim, typed_term, typed_and}
+use Rattle.isle_rules.specs.TypedRules.{built_term, built_prim, built_let}
+use Rattle.isle_rules.specs.Shown.ShownRules.{typed_step, typed_shown, typed_list, pattern_limit_step, pattern_limit, greatest, built_step}
+use Rattle.isle_rules.specs.Shown.ShownRules.{built_shown}
+use Rattle.isle_rules.specs.Shown.ShownRules.{built_list, binding_list, expr_limit_step, expr_limit, greatest_of_values, iflet_shown}
+use Rattle.isle_rules.specs.Signatures.{external_constructor, external_extractor, Declared}
+use Rattle.isle_rules.specs.Shown.TermTables.{TermTables, term_with}
 use Rattle.isle_terms.specs.Inside.Shown.TermLimits.{constructor_limit, extractor_limit, kind_limit, term_limit, terms_limit, HasKnownSymbols}
-use Rattle.isle_terms.specs.Shown.ShownTerms.{constructor_shown, extractor_shown, form_shown, term_shown, ShowsDeclared}
+use Rattle.isle_rules.specs.Shown.ShownTerms.{constructor_shown, extractor_shown, form_shown, term_shown, ShowsDeclared}
 
 -- names that are kept are as many at least
 pub names_within : (old new : List (List ℕ)) → KeepsNames old new → length old ≤ length new
@@ -147,14 +147,6 @@ module _ (old new : List (List ℕ)) (keeps : KeepsNames old new) where
       made (built_level y) (subst (λ n. n ≤ length old) (fold-roll-Expr ℕ expr_limit_step x) within)
       ∙ sym (fold-roll-Expr TypedExpr (built_step old) x))
 
-  -- what a list of expressions shows stays
-  pub exprs_more : (exprs : List Expr) → greatest (map expr_limit exprs) ≤ length old
-      → map (built_shown new) exprs ≡ map (built_shown old) exprs
-  exprs_more [] within = refl
-  exprs_more (expr ∷ others) within =
-      let first = built_more expr (omega arith) in
-      let rest = exprs_more others (omega arith) in cc
-
   -- what a condition shows stays
   pub iflet_more : (iflet : IfLet) → max (pattern_limit iflet.lhs) (expr_limit iflet.rhs) ≤ length old
       → iflet_shown new iflet ≡ iflet_shown old iflet
@@ -233,39 +225,3 @@ module _ (old new : List (List ℕ)) (keeps : KeepsNames old new) where
         terms = let before = known.terms in omega arith;
         numbers = λ symbol there. let before = known.numbers symbol there in omega arith;
       }
-
--- a term is found at a name as before
-pub found_more : (tyenv new : TypeTables) (env : TermTables) → HasMoreNames tyenv new → HasKnownSymbols tyenv.names env → AreDistinct new.names
-    → (name : List ℕ) → option_and_then (term_with env) (sym_named new name) ≡ option_and_then (term_with env) (sym_named tyenv name)
-found_more tyenv new env more known once name = by_place (position_of tyenv.names name) refl
-  where
-    none_new : (place : ℕ) (o : Option TermId) → term_with env (symbol_at place) ≡ o → length tyenv.names ≤ place → o ≡ None
-    none_new place None is past = refl
-    none_new place (Some id) is past = let low = known.numbers (symbol_at place) (ap is_some is) in absurd (omega arith)
-
-    when_new : (o : Option ℕ) → position_of tyenv.names name ≡ None → position_of new.names name ≡ o
-        → option_and_then (term_with env) (option_map symbol_at o) ≡ None
-    when_new None missing is = refl
-    when_new (Some place) missing is =
-        none_new place (term_with env (symbol_at place)) refl (place_new tyenv.names new.names more.kept name place missing is)
-
-    by_place : (o : Option ℕ) → position_of tyenv.names name ≡ o
-        → option_and_then (term_with env) (option_map symbol_at (position_of new.names name))
-        ≡ option_and_then (term_with env) (option_map symbol_at (position_of tyenv.names name))
-    by_place (Some place) is =
-        ap (λ o. option_and_then (term_with env) (option_map symbol_at o))
-        (place_more tyenv.names new.names more.kept once name place is ∙ sym is)
-    by_place None is =
-        when_new (position_of new.names name) is refl ∙ ap (λ o. option_and_then (term_with env) (option_map symbol_at o)) (sym is)
-
--- tables show the same when names are interned
-pub shows_more : (tyenv new : TypeTables) (env : TermTables) (declared : Declared) → ShowsDeclared tyenv env declared → HasMoreNames tyenv new
-    → HasKnownSymbols tyenv.names env → AreDistinct new.names → ShowsDeclared new env declared
-shows_more tyenv new env declared shows more known once = record {
-  types = shows_with_names tyenv new declared.types more shows.types;
-  terms = terms_more tyenv.names new.names more.kept env.terms known.terms ∙ shows.terms;
-  counted = shows.counted;
-  named = λ name. found_more tyenv new env more known once name ∙ shows.named name;
-  converters = shows.converters;
-  expands = shows.expands;
-}

@@ -4,36 +4,36 @@ use Rattle.std.proofs.Common.{refl, sym, subst, slice_get, bytes_eq}
 use Rattle.std.specs.Option.{option_map}
 use Rattle.std.specs.List.{All, AllZip, filter_map, cons_option}
 use Rattle.std.proofs.lemmas.Option.{none-some, same_Some}
-use Rattle.isle_syntax.specs.Positions.DefPositions.{TypeTreeAt, VariantTreeAt, TypeValueAt, DeclAt, RuleAt, ExtractorAt, ConverterAt, DefAt, IdentAt}
-use Rattle.isle_syntax.specs.Positions.DefPositions.{PatternTreeAt, PatternTreesAt}
-use Rattle.isle_syntax.specs.declared.lexer.Pos.{Pos}
-use Rattle.isle_syntax.specs.declared.ast.Ident.{Ident}
-use Rattle.isle_syntax.specs.declared.ast.TypeValue.{TypeValue}
-use Rattle.isle_syntax.specs.declared.ast.TypeValue.TheVariants.{Primitive as primitive_tree, Enum as enum_tree, Struct as struct_tree}
-use Rattle.isle_syntax.specs.declared.ast.«Type».{«Type» as TypeTree}
-use Rattle.isle_syntax.specs.declared.ast.Decl.{Decl as DeclTree}
-use Rattle.isle_syntax.specs.declared.ast.Rule.{Rule as RuleTree}
-use Rattle.isle_syntax.specs.declared.ast.Extractor.{Extractor as ExtractorTree}
-use Rattle.isle_syntax.specs.declared.ast.Converter.{Converter as ConverterTree}
-use Rattle.isle_syntax.specs.declared.ast.Extern.{Extern as ExternTree}
-use Rattle.isle_syntax.specs.declared.ast.Extern.TheVariants.{Constructor as extern_constructor, Extractor as extern_extractor}
-use Rattle.isle_syntax.specs.declared.ast.Def.{Def}
-use Rattle.isle_syntax.specs.declared.ast.Def.TheVariants.{TypeDef, Decl, Rule, Extractor, Extern, Converter}
-use Rattle.isle_syntax.specs.Trees.PatternTree.{PatternTree, PatternTrees, pattern_var, pattern_bind, pattern_bool, pattern_int, pattern_prim}
-use Rattle.isle_syntax.specs.Trees.PatternTree.{pattern_term, pattern_wildcard, pattern_and, pattern_macro_arg, no_patterns, more_patterns}
-use Rattle.isle_syntax.specs.Trees.PatternShape.{pattern_of}
-use Rattle.isle_syntax.specs.Trees.Templates.{position_of_name, argument_for, is_wildcard, template_tree, template_trees}
+use Rattle.isle_ast.specs.Positions.DefPositions.{TypeTreeAt, VariantTreeAt, TypeValueAt, DeclAt, RuleAt, ExtractorAt, ConverterAt, DefAt, IdentAt}
+use Rattle.isle_ast.specs.Positions.DefPositions.{PatternTreeAt, PatternTreesAt}
+use Rattle.isle_ast.specs.declared.pos.Pos.{Pos}
+use Rattle.isle_ast.specs.declared.ast.Ident.{Ident}
+use Rattle.isle_ast.specs.declared.ast.TypeValue.{TypeValue}
+use Rattle.isle_ast.specs.declared.ast.TypeValue.TheVariants.{Primitive as primitive_tree, Enum as enum_tree, Struct as struct_tree}
+use Rattle.isle_ast.specs.declared.ast.«Type».{«Type» as TypeTree}
+use Rattle.isle_ast.specs.declared.ast.Decl.{Decl as DeclTree}
+use Rattle.isle_ast.specs.declared.ast.Rule.{Rule as RuleTree}
+use Rattle.isle_ast.specs.declared.ast.Extractor.{Extractor as ExtractorTree}
+use Rattle.isle_ast.specs.declared.ast.Converter.{Converter as ConverterTree}
+use Rattle.isle_ast.specs.declared.ast.Extern.{Extern as ExternTree}
+use Rattle.isle_ast.specs.declared.ast.Extern.TheVariants.{Constructor as extern_constructor, Extractor as extern_extractor}
+use Rattle.isle_ast.specs.declared.ast.Def.{Def}
+use Rattle.isle_ast.specs.declared.ast.Def.TheVariants.{TypeDef, Decl, Rule, Extractor, Extern, Converter}
+use Rattle.isle_ast.specs.Trees.PatternTree.{PatternTree, PatternTrees, pattern_var, pattern_bind, pattern_bool, pattern_int, pattern_prim}
+use Rattle.isle_ast.specs.Trees.PatternTree.{pattern_term, pattern_wildcard, pattern_and, pattern_macro_arg, no_patterns, more_patterns}
+use Rattle.isle_ast.specs.Trees.PatternShape.{pattern_of}
+use Rattle.isle_ast.specs.Trees.Templates.{position_of_name, argument_for, is_wildcard, template_tree, template_trees}
 use Rattle.isle_types.specs.IntTypes.{builtin_names}
 use Rattle.isle_types.specs.Environment.{Environment, NamedVariant, TypeShape, primitive, enum, struct, NamedType, IsVariant, IsShape, IsType, Makes}
 use Rattle.isle_types.specs.Environment.{as_type, type_definitions, type_names}
 use Rattle.isle_types.proofs.Zipped.{mapped_at, all_at}
-use Rattle.isle_terms.specs.Signatures.{ExtractorForm, by_template, external_extractor, TermForm}
-use Rattle.isle_terms.specs.Signatures.{declared_form, Signature, Declared, template_of}
-use Rattle.isle_terms.specs.Definitions.{ExternalExtractor, as_declaration, as_rule, as_extractor, as_external, as_converter}
-use Rattle.isle_terms.specs.Definitions.{as_external_constructor, as_external_extractor, declarations, rules_in, extractors_in, converters_in}
-use Rattle.isle_terms.specs.Definitions.{external_constructors, external_extractors, root_name, template_for, external_extractor_for, first_of}
-use Rattle.isle_terms.specs.Definitions.{constructor_for, extractor_for, flags_in, IsDeclaration, variant_terms, terms_of_shape, terms_of_types}
-use Rattle.isle_terms.specs.Definitions.{AreTerms, name_of_rule}
+use Rattle.isle_rules.specs.Signatures.{ExtractorForm, by_template, external_extractor, TermForm}
+use Rattle.isle_rules.specs.Signatures.{declared_form, Signature, Declared, template_of}
+use Rattle.isle_rules.specs.Definitions.{ExternalExtractor, as_declaration, as_rule, as_extractor, as_external, as_converter}
+use Rattle.isle_rules.specs.Definitions.{as_external_constructor, as_external_extractor, declarations, rules_in, extractors_in, converters_in}
+use Rattle.isle_rules.specs.Definitions.{external_constructors, external_extractors, root_name, template_for, external_extractor_for, first_of}
+use Rattle.isle_rules.specs.Definitions.{constructor_for, extractor_for, flags_in, IsDeclaration, variant_terms, terms_of_shape, terms_of_types}
+use Rattle.isle_rules.specs.Definitions.{AreTerms, name_of_rule}
 use Rattle.isle_terms.specs.TermFaults.{named_terms, IsTaken, DeclarationBreaks, term_twice, multi_and_partial, unknown_type}
 use Rattle.isle_terms.specs.TermFaults.{named_extractors, NamesTerm, SomeNamesTerm, ExtractorBreaks, internal_of_no_declared_term}
 use Rattle.isle_terms.specs.TermFaults.{external_of_no_declared_term, second_extractor, internal_of_multi, body_of_unknown_term, recursive}
@@ -122,7 +122,8 @@ module _ (At : Pos → Type 0) where
   -- the types that definitions make stand where the definitions do
   pub made_types_at : (defs : List Def) (types : Environment) → All (DefAt At) defs → Makes defs types → TypesAt types
   made_types_at defs types all makes =
-      each_related (IsType (type_names defs)) (TypeTreeAt At) NamedTypeAt (type_made_at (type_names defs)) (type_definitions defs) types.types makes.types
+      each_related (IsType (type_names defs)) (TypeTreeAt At) NamedTypeAt (type_made_at (type_names defs))
+      (type_definitions defs) types.types makes.types
       (each_made as_type (DefAt At) (TypeTreeAt At) type_here defs (all_at (DefAt At) defs all))
 
   -- what a declaration has

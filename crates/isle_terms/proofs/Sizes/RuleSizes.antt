@@ -4,30 +4,30 @@ use Rattle.std.proofs.Common.{◌∙◌, arith}
 use Rattle.std.specs.Prelude.{All}
 use Rattle.std.specs.List.{AllZip}
 use Rattle.std.proofs.lemmas.List.Elements.{All-nil, All-cons}
-use Rattle.isle_syntax.specs.declared.ast.Def.{Def}
-use Rattle.isle_syntax.specs.declared.ast.Rule.{Rule as RuleTree}
+use Rattle.isle_ast.specs.declared.ast.Def.{Def}
+use Rattle.isle_ast.specs.declared.ast.Rule.{Rule as RuleTree}
 use Rattle.isle_types.specs.Environment.{Environment}
 use Rattle.isle_types.specs.TypeTables.{TypeTables}
-use Rattle.isle_terms.specs.declared.rules.Pattern.{Pattern}
-use Rattle.isle_terms.specs.declared.rules.Rule.{Rule}
-use Rattle.isle_terms.specs.declared.terms.ConstructorKind.TheVariants.{InternalConstructor, ExternalConstructor}
-use Rattle.isle_terms.specs.declared.terms.TermKind.{TermKind}
-use Rattle.isle_terms.specs.declared.terms.TermKind.TheVariants.{EnumVariant, Struct, Decl}
-use Rattle.isle_terms.specs.Terms.{has_rules_kind}
-use Rattle.isle_terms.specs.TypedRules.{TypedRule}
-use Rattle.isle_terms.specs.Signatures.{Constructor, by_rules, external_constructor, TermForm, variant_form, struct_form}
-use Rattle.isle_terms.specs.Signatures.{declared_form, Signature, Declared}
-use Rattle.isle_terms.specs.Elaboration.{start, Elaborates, ElaboratesRule}
-use Rattle.isle_terms.specs.Definitions.{rules_in, name_of, IsRuleOf, TermEnvironment, declared_by, MakesTerms}
-use Rattle.isle_terms.specs.TermEnvs.{ShowsTerms}
-use Rattle.isle_terms.specs.Shown.ShownRules.{typed_list, typed_shown}
-use Rattle.isle_terms.specs.Shown.ShownTerms.{form_shown, term_shown, ShowsDeclared}
-use Rattle.isle_terms.specs.Shown.TermTables.{TermTables}
-use Rattle.isle_terms.specs.Shown.RulesShown.{IsShownRule}
+use Rattle.isle_rules.specs.declared.rules.Pattern.{Pattern}
+use Rattle.isle_rules.specs.declared.rules.Rule.{Rule}
+use Rattle.isle_rules.specs.declared.terms.ConstructorKind.TheVariants.{InternalConstructor, ExternalConstructor}
+use Rattle.isle_rules.specs.declared.terms.TermKind.{TermKind}
+use Rattle.isle_rules.specs.declared.terms.TermKind.TheVariants.{EnumVariant, Struct, Decl}
+use Rattle.isle_rules.specs.Terms.{has_rules_kind}
+use Rattle.isle_rules.specs.TypedRules.{TypedRule}
+use Rattle.isle_rules.specs.Signatures.{Constructor, by_rules, external_constructor, TermForm, variant_form, struct_form}
+use Rattle.isle_rules.specs.Signatures.{declared_form, Signature, Declared}
+use Rattle.isle_rules.specs.Elaboration.{start, Elaborates, ElaboratesRule}
+use Rattle.isle_rules.specs.Definitions.{rules_in, name_of, IsRuleOf, TermEnvironment, declared_by, MakesTerms}
+use Rattle.isle_rules.specs.Shown.RulesShown.{ShowsTerms}
+use Rattle.isle_rules.specs.Shown.ShownRules.{typed_list, typed_shown}
+use Rattle.isle_rules.specs.Shown.ShownTerms.{form_shown, term_shown, ShowsDeclared}
+use Rattle.isle_rules.specs.Shown.TermTables.{TermTables}
+use Rattle.isle_rules.specs.Shown.RulesShown.{IsShownRule}
 use Rattle.isle_terms.specs.Sizes.{IsWithinSizes, FitsItsTerm, HasFittingRules}
-use Rattle.isle_terms.proofs.Visiting.ClosedTrees.{typed_count}
-use Rattle.isle_terms.proofs.Visiting.ClosedReadings.{each_count, patterns_close}
-use Rattle.isle_terms.proofs.Visiting.SoundVisits.{term_shows, arguments_shown}
+use Rattle.isle_rules.proofs.Visiting.ClosedTrees.{typed_count}
+use Rattle.isle_rules.proofs.Visiting.ClosedReadings.{each_count, patterns_close}
+use Rattle.isle_rules.proofs.Visiting.SoundVisits.{term_shows, arguments_shown}
 use Rattle.isle_terms.proofs.Sizes.TypedSizes.{rule_small}
 
 -- a typed rule is within sizes whatever its name

@@ -3,24 +3,24 @@ use Rattle.std.proofs.Common.{◌≡◌, ℕ, ◌+◌, ◌*◌, ◌≤◌, max, 
 use Rattle.std.specs.Prelude.{All}
 use Rattle.std.specs.List.{AllZip}
 use Rattle.std.proofs.lemmas.List.Elements.{All-nil, All-cons, All-head, All-tail}
-use Rattle.isle_syntax.specs.declared.ast.Def.{Def}
+use Rattle.isle_ast.specs.declared.ast.Def.{Def}
 use Rattle.isle_types.specs.declared.ids.TypeId.{TypeId}
 use Rattle.isle_types.specs.declared.ids.VarId.{VarId}
 use Rattle.isle_types.specs.Environment.{Environment}
 use Rattle.isle_types.specs.TypeTables.{TypeTables}
-use Rattle.isle_terms.specs.declared.rules.Pattern.{Pattern, Pattern-F, fold-Pattern, map-Pattern, fold-roll-Pattern, ind-Pattern}
-use Rattle.isle_terms.specs.declared.rules.Pattern.TheOpen.{BindPattern, Var as PatternVar, ConstBool as PatternBool, ConstInt as PatternInt}
-use Rattle.isle_terms.specs.declared.rules.Pattern.TheOpen.{ConstPrim as PatternPrim, Term as PatternTerm, Wildcard, And}
-use Rattle.isle_terms.specs.declared.rules.Expr.{Expr, Expr-F, fold-Expr, map-Expr, fold-roll-Expr, ind-Expr}
-use Rattle.isle_terms.specs.declared.rules.Expr.TheOpen.{Term, Var, ConstBool, ConstInt, ConstPrim, Let}
-use Rattle.isle_terms.specs.declared.rules.IfLet.{IfLet}
-use Rattle.isle_terms.specs.declared.rules.Rule.{Rule}
-use Rattle.isle_terms.specs.TypedRules.{TypedPattern, TypedExpr, TypedRule}
-use Rattle.isle_terms.specs.TermEnvs.{ShowsTerms}
-use Rattle.isle_terms.specs.Shown.ShownRules.{typed_list, typed_step, typed_shown, built_list, binding_list, built_step, built_shown, iflet_shown}
-use Rattle.isle_terms.specs.Shown.ShownRules.{greatest, greatest_of_values}
-use Rattle.isle_terms.specs.Shown.RulesShown.{IsShownRule}
-use Rattle.isle_terms.specs.Shown.TermTables.{TermTables}
+use Rattle.isle_rules.specs.declared.rules.Pattern.{Pattern, Pattern-F, fold-Pattern, map-Pattern, fold-roll-Pattern, ind-Pattern}
+use Rattle.isle_rules.specs.declared.rules.Pattern.TheOpen.{BindPattern, Var as PatternVar, ConstBool as PatternBool, ConstInt as PatternInt}
+use Rattle.isle_rules.specs.declared.rules.Pattern.TheOpen.{ConstPrim as PatternPrim, Term as PatternTerm, Wildcard, And}
+use Rattle.isle_rules.specs.declared.rules.Expr.{Expr, Expr-F, fold-Expr, map-Expr, fold-roll-Expr, ind-Expr}
+use Rattle.isle_rules.specs.declared.rules.Expr.TheOpen.{Term, Var, ConstBool, ConstInt, ConstPrim, Let}
+use Rattle.isle_rules.specs.declared.rules.IfLet.{IfLet}
+use Rattle.isle_rules.specs.declared.rules.Rule.{Rule}
+use Rattle.isle_rules.specs.TypedRules.{TypedPattern, TypedExpr, TypedRule}
+use Rattle.isle_rules.specs.Shown.RulesShown.{ShowsTerms}
+use Rattle.isle_rules.specs.Shown.ShownRules.{typed_list, typed_step, typed_shown, built_list, binding_list, built_step, built_shown, iflet_shown}
+use Rattle.isle_rules.specs.Shown.ShownRules.{greatest, greatest_of_values}
+use Rattle.isle_rules.specs.Shown.RulesShown.{IsShownRule}
+use Rattle.isle_rules.specs.Shown.TermTables.{TermTables}
 use Rattle.isle_terms.specs.Sizes.{typed_depth, deepest_typed, typed_nodes, nodes_of_typed, built_depth, deepest_built, deepest_value}
 use Rattle.isle_terms.specs.Sizes.{built_nodes, nodes_of_built, nodes_of_values, deepest_condition, nodes_of_conditions}
 use Rattle.isle_terms.specs.Sizes.{IsWithinSizes, total, total_of_values, pattern_depth_step, pattern_depth, pattern_nodes_step, pattern_nodes}

@@ -1,16 +1,16 @@
 -- What trees stand for is within sizes.
 use Rattle.std.proofs.Common.{◌≡◌, ℕ, zero, suc, ◌+◌, ◌*◌, ◌≤◌, inl, inr, List, [], ◌∷◌, Option, None, Some, ap, arith}
-use Rattle.isle_syntax.specs.declared.ast.IfLet.{IfLet}
-use Rattle.isle_syntax.specs.declared.ast.Rule.{Rule}
-use Rattle.isle_syntax.specs.Trees.PatternTree.{PatternTree, PatternTrees, pattern_var, pattern_bind, pattern_bool, pattern_int, pattern_prim}
-use Rattle.isle_syntax.specs.Trees.PatternTree.{pattern_term, pattern_wildcard, pattern_and, pattern_macro_arg, no_patterns, more_patterns}
-use Rattle.isle_syntax.specs.Trees.ExprTree.{ExprTree, ExprTrees, LetTrees, expr_term, expr_var, expr_bool, expr_int, expr_prim, expr_let}
-use Rattle.isle_syntax.specs.Trees.ExprTree.{no_exprs, more_exprs, no_lets, more_lets}
+use Rattle.isle_ast.specs.declared.ast.IfLet.{IfLet}
+use Rattle.isle_ast.specs.declared.ast.Rule.{Rule}
+use Rattle.isle_ast.specs.Trees.PatternTree.{PatternTree, PatternTrees, pattern_var, pattern_bind, pattern_bool, pattern_int, pattern_prim}
+use Rattle.isle_ast.specs.Trees.PatternTree.{pattern_term, pattern_wildcard, pattern_and, pattern_macro_arg, no_patterns, more_patterns}
+use Rattle.isle_ast.specs.Trees.ExprTree.{ExprTree, ExprTrees, LetTrees, expr_term, expr_var, expr_bool, expr_int, expr_prim, expr_let}
+use Rattle.isle_ast.specs.Trees.ExprTree.{no_exprs, more_exprs, no_lets, more_lets}
 use Rattle.isle_types.specs.Environment.{Environment}
-use Rattle.isle_terms.specs.TypedRules.{TypedPattern, TypedPatterns, TypedExpr, TypedExprs, TypedBindings, TypedIfLet, TypedRule}
-use Rattle.isle_terms.specs.Signatures.{Flags, Signature, Declared, put_in_for}
-use Rattle.isle_terms.specs.Elaboration.{State, counted, start, each_at, PatternJudgement, EachPattern, TakesApart, PatternNode, Elaborates, on_lhs}
-use Rattle.isle_terms.specs.Elaboration.{ExprJudgement, EachExpr, Binds, ExprNode, Builds, Conditions, ElaboratesRule}
+use Rattle.isle_rules.specs.TypedRules.{TypedPattern, TypedPatterns, TypedExpr, TypedExprs, TypedBindings, TypedIfLet, TypedRule}
+use Rattle.isle_rules.specs.Signatures.{Flags, Signature, Declared, put_in_for}
+use Rattle.isle_rules.specs.Elaboration.{State, counted, start, each_at, PatternJudgement, EachPattern, TakesApart, PatternNode, Elaborates, on_lhs}
+use Rattle.isle_rules.specs.Elaboration.{ExprJudgement, EachExpr, Binds, ExprNode, Builds, Conditions, ElaboratesRule}
 use Rattle.isle_terms.specs.Sizes.{typed_depth, deepest_typed, typed_nodes, nodes_of_typed, built_depth, deepest_built, deepest_value}
 use Rattle.isle_terms.specs.Sizes.{built_nodes, nodes_of_built, nodes_of_values, deepest_condition, nodes_of_conditions, IsWithinSizes}
 

@@ -1,13 +1,13 @@
 -- Worked cases: literal rules that are well typed and keep scopes, and some that don't.
 use Rattle.std.proofs.Common.{ℕ, pos, true, false, List, [], ◌∷◌, None, Some, refl, ap, codes, inl, arith}
-use Rattle.isle_syntax.specs.declared.lexer.Pos.{Pos}
+use Rattle.isle_ast.specs.declared.pos.Pos.{Pos}
 use Rattle.isle_types.specs.declared.types.IntType.TheVariants.{U8}
-use Rattle.isle_terms.specs.TypedRules.{typed_bind, typed_var, typed_int, typed_term, typed_wildcard, no_typed, more_typed, built_var, built_int}
-use Rattle.isle_terms.specs.TypedRules.{built_term, no_built, more_built, built_let, no_typed_bindings, more_typed_bindings, TypedRule, Variable}
-use Rattle.isle_terms.specs.Signatures.{Flags, by_rules, variant_form, declared_form, Signature, Declared}
-use Rattle.isle_terms.specs.Elaboration.{of_integer}
-use Rattle.isle_terms.specs.SoundRules.WellTyped.{IsTypedPattern, IsTypedRule}
-use Rattle.isle_terms.specs.SoundRules.KeptScopes.{Scope, PatternBinds, ExprUses, KeepsScopes, nothing_bound}
+use Rattle.isle_rules.specs.TypedRules.{typed_bind, typed_var, typed_int, typed_term, typed_wildcard, no_typed, more_typed, built_var, built_int}
+use Rattle.isle_rules.specs.TypedRules.{built_term, no_built, more_built, built_let, no_typed_bindings, more_typed_bindings, TypedRule, Variable}
+use Rattle.isle_rules.specs.Signatures.{Flags, by_rules, variant_form, declared_form, Signature, Declared}
+use Rattle.isle_rules.specs.Elaboration.{of_integer}
+use Rattle.isle_rules.specs.SoundRules.WellTyped.{IsTypedPattern, IsTypedRule}
+use Rattle.isle_rules.specs.SoundRules.KeptScopes.{Scope, PatternBinds, ExprUses, KeepsScopes, nothing_bound}
 
 abbrev here : Pos
 here = record { file = 0; offset = 0 }
@@ -143,7 +143,8 @@ unbound : (count : ℕ) → ExprUses (built_var 1 0) nothing_bound count → ⊥
 unbound count h = h.0
 
 -- nor outside the `let` that binds it
-outside : (count : ℕ) → ExprUses (built_term 13 1 (more_built (built_let 1 (more_typed_bindings 0 1 (built_int 1 (pos 2)) no_typed_bindings) (built_var 1 0))
+outside : (count : ℕ) → ExprUses (built_term 13 1 (more_built
+    (built_let 1 (more_typed_bindings 0 1 (built_int 1 (pos 2)) no_typed_bindings) (built_var 1 0))
     (more_built (built_var 1 0) no_built))) nothing_bound count → ⊥
 outside count h = h.2.1.0
 

@@ -1,12 +1,12 @@
 -- The steps of reading conditions, as the code takes them.
 use Rattle.std.proofs.Common.{◌≡◌, ℕ, suc, ◌+◌, ◌<◌, List, [], ◌∷◌, ◌++◌, append_assoc, None}
 use Rattle.std.proofs.Common.{length, drop, get_or, refl, sym, ap, ◌∙◌, add-one, drop-cons}
-use Rattle.isle_syntax.specs.declared.ast.IfLet.{IfLet}
-use Rattle.isle_syntax.specs.Trees.PatternShape.{pattern_of}
-use Rattle.isle_syntax.specs.Trees.ExprShape.{expr_of}
-use Rattle.isle_terms.specs.TypedRules.{TypedPattern, TypedExpr, TypedIfLet, built_at}
-use Rattle.isle_terms.specs.Signatures.{Flags}
-use Rattle.isle_terms.specs.Elaboration.{State}
+use Rattle.isle_ast.specs.declared.ast.IfLet.{IfLet}
+use Rattle.isle_ast.specs.Trees.PatternShape.{pattern_of}
+use Rattle.isle_ast.specs.Trees.ExprShape.{expr_of}
+use Rattle.isle_rules.specs.TypedRules.{TypedPattern, TypedExpr, TypedIfLet, built_at}
+use Rattle.isle_rules.specs.Signatures.{Flags}
+use Rattle.isle_rules.specs.Elaboration.{State}
 use Rattle.isle_terms.specs.Inside.Readings.Outcomes.{Outcome, stands_for, ill_at, exceeds, Known, and_then, read_pattern, read_expr}
 use Rattle.isle_terms.specs.Inside.Readings.RuleOutcomes.{read_conditions}
 use Rattle.isle_terms.specs.Inside.Readings.ConditionReading.{read_condition}

@@ -2,23 +2,23 @@
 use Rattle.std.proofs.Common.{◌≡◌, ◌≢◌, ℕ, suc, zero, ◌+◌, ◌-◌, ◌<◌, ◌≤◌, Bool, true, false, leb, List, [], ◌∷◌, ◌++◌, length, drop, get_or}
 use Rattle.std.proofs.Common.{Option, Some, if◌then◌else◌, ◌==◌, ◌&&◌, refl, sym, ap, ◌∙◌, subst, arith, add-one, drop-cons, drop_of_length-le}
 use Rattle.std.specs.Prelude.{Result, IfOk, IfErr}
-use Rattle.isle_syntax.specs.declared.lexer.Pos.{Pos}
-use Rattle.isle_syntax.specs.declared.error.Error.{Error}
-use Rattle.isle_syntax.specs.declared.refusal.Refusal.{Refusal}
-use Rattle.isle_syntax.specs.declared.ast.Expr.{Expr as ExprSource}
-use Rattle.isle_syntax.specs.declared.ast.LetDef.{LetDef}
-use Rattle.isle_syntax.specs.Trees.ExprTree.{ExprTree, ExprTrees, no_exprs}
-use Rattle.isle_syntax.specs.Trees.ExprShape.{expr_of, exprs_of, lets_of}
+use Rattle.isle_ast.specs.declared.pos.Pos.{Pos}
+use Rattle.isle_ast.specs.declared.error.Error.{Error}
+use Rattle.isle_ast.specs.declared.refusal.Refusal.{Refusal}
+use Rattle.isle_ast.specs.declared.ast.Expr.{Expr as ExprSource}
+use Rattle.isle_ast.specs.declared.ast.LetDef.{LetDef}
+use Rattle.isle_ast.specs.Trees.ExprTree.{ExprTree, ExprTrees, no_exprs}
+use Rattle.isle_ast.specs.Trees.ExprShape.{expr_of, exprs_of, lets_of}
 use Rattle.isle_types.specs.declared.ids.TypeId.{TypeId}
 use Rattle.isle_types.specs.declared.ids.VarId.{VarId}
-use Rattle.isle_terms.specs.declared.rules.Expr.{Expr}
-use Rattle.isle_terms.specs.TypedRules.{TypedExpr, TypedExprs, TypedBindings, no_built, more_built, no_typed_bindings, more_typed_bindings, built_term}
-use Rattle.isle_terms.specs.Signatures.{Flags, Signature, has_constructor_form, flags_of}
-use Rattle.isle_terms.specs.Elaboration.{State, counted, expr_count, may_call}
+use Rattle.isle_rules.specs.declared.rules.Expr.{Expr}
+use Rattle.isle_rules.specs.TypedRules.{TypedExpr, TypedExprs, TypedBindings, no_built, more_built, no_typed_bindings, more_typed_bindings, built_term}
+use Rattle.isle_rules.specs.Signatures.{Flags, Signature, has_constructor_form, flags_of}
+use Rattle.isle_rules.specs.Elaboration.{State, counted, expr_count, may_call}
 use Rattle.isle_terms.specs.Inside.Readings.Outcomes.{Outcome, stands_for, ill_at, exceeds, Known, and_then, only_if, ExprRun, each_expr, call}
 use Rattle.isle_terms.specs.Inside.Readings.Outcomes.{bind_value, bind_values, expr_node, read_expr, read_expr_use}
-use Rattle.isle_terms.specs.Shown.ShownTerms.{numbers_of}
-use Rattle.isle_terms.specs.Shown.ShownRules.{built_shown, built_list, binding_list, greatest, greatest_of_values}
+use Rattle.isle_rules.specs.Shown.ShownTerms.{numbers_of}
+use Rattle.isle_rules.specs.Shown.ShownRules.{built_shown, built_list, binding_list, greatest, greatest_of_values}
 use Rattle.isle_terms.specs.Inside.Readings.Failures.{Fails}
 use Rattle.isle_terms.specs.Inside.Readings.ExprReadings.{is_call}
 

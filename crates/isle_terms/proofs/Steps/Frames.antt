@@ -10,21 +10,20 @@ use Rattle.std.specs.Str.{bytes_eq}
 use Rattle.std.proofs.Common.{inl, inr}
 use Rattle.std.specs.Prelude.{unwrap_or}
 use Rattle.std.specs.Option.{option_map}
-use Rattle.isle_syntax.specs.declared.lexer.Pos.{Pos}
-use Rattle.isle_syntax.specs.Trees.PatternTree.{PatternTree, PatternTrees, pattern_var, pattern_bind, pattern_bool, pattern_int, pattern_prim}
-use Rattle.isle_syntax.specs.Trees.PatternTree.{pattern_term, pattern_wildcard, pattern_and, pattern_macro_arg, no_patterns, more_patterns}
-use Rattle.isle_syntax.specs.Trees.PatternTree.{pattern_list}
+use Rattle.isle_ast.specs.declared.pos.Pos.{Pos}
+use Rattle.isle_ast.specs.Trees.PatternTree.{PatternTree, PatternTrees, pattern_var, pattern_bind, pattern_bool, pattern_int, pattern_prim}
+use Rattle.isle_ast.specs.Trees.PatternTree.{pattern_term, pattern_wildcard, pattern_and, pattern_macro_arg, no_patterns, more_patterns}
+use Rattle.isle_ast.specs.Trees.PatternTree.{pattern_list}
 use Rattle.isle_terms.specs.declared.translate.frames.Given.{Given, out-Given, roll-Given, fold_out-Given, fold-roll-Given}
-use Rattle.isle_syntax.specs.declared.ast.Pattern.{Pattern}
-use Rattle.isle_syntax.specs.Trees.PatternShape.{pattern_of, patterns_of}
-use Rattle.isle_syntax.specs.Inside.Trees.Innermost.{innermost}
-use Rattle.isle_syntax.specs.declared.ast.Ident.{Ident}
-use Rattle.isle_syntax.specs.Trees.TreeCalls.{has_macro_arg, has_macro_args}
-use Rattle.isle_syntax.specs.Trees.Templates.{position_of_name, argument_for, is_wildcard, template_tree, template_trees, filled, all_filled}
-use Rattle.isle_syntax.specs.Trees.Templates.{more_given}
-use Rattle.isle_syntax.proofs.Trees.Templates.{before, neither}
-use Rattle.isle_terms.specs.Shown.ShownRules.{greatest}
-use Rattle.isle_terms.specs.Readings.Needs.{needed, all_needed}
+use Rattle.isle_ast.specs.declared.ast.Pattern.{Pattern}
+use Rattle.isle_ast.specs.Trees.PatternShape.{pattern_of, patterns_of}
+use Rattle.isle_ast.specs.declared.ast.Ident.{Ident}
+use Rattle.isle_ast.specs.Trees.TreeCalls.{has_macro_arg, has_macro_args}
+use Rattle.isle_ast.specs.Trees.Templates.{position_of_name, argument_for, is_wildcard, template_tree, template_trees, filled, all_filled}
+use Rattle.isle_ast.specs.Trees.Templates.{more_given}
+use Rattle.isle_ast.proofs.Trees.Templates.{before, neither}
+use Rattle.isle_rules.specs.Shown.ShownRules.{greatest}
+use Rattle.isle_rules.specs.Readings.Needs.{needed, all_needed}
 use Rattle.isle_terms.specs.Inside.Readings.Frames.{put, put_all, given_step, tree_given, frames_of, template_at}
 
 -- a part stands for its template with what its own parts stand for
@@ -75,22 +74,6 @@ missing_argument part k pos is here =
       nothing_mapped [] k is = refl
       nothing_mapped (first ∷ others) zero is = cc
       nothing_mapped (first ∷ others) (suc k) is = nothing_mapped others k is
-
--- a chain of bindings needs what its innermost pattern needs
-pub innermost_needed : (t : PatternTree) → needed t ≡ needed (innermost t)
-innermost_needed (pattern_var _ _) = refl
-innermost_needed (pattern_bind _ below _) = innermost_needed below
-innermost_needed (pattern_bool _ _) = refl
-innermost_needed (pattern_int _ _ _) = refl
-innermost_needed (pattern_prim _ _) = refl
-innermost_needed (pattern_term _ _ _) = refl
-innermost_needed (pattern_wildcard _) = refl
-innermost_needed (pattern_and _ _) = refl
-innermost_needed (pattern_macro_arg _ _) = refl
-
--- a template needs what its innermost one needs
-pub needed_below : (p q : Pattern) → pattern_of q ≡ innermost (pattern_of p) → needed (pattern_of p) ≡ needed (pattern_of q)
-needed_below p q is = innermost_needed (pattern_of p) ∙ ap needed (sym is)
 
 -- those from one place on are a first one and those after it
 listed : (ps : List Pattern) (i : ℕ) (p : Pattern) → i < length ps → p ≡ get_or ps i p → drop i ps ≡ p ∷ drop (i + 1) ps

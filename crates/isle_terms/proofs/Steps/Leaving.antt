@@ -7,7 +7,7 @@ use Rattle.std.proofs.lemmas.Slice.Eq.{bytes_eq-Decides}
 use Rattle.isle_types.specs.StableMaps.{value_at}
 use Rattle.isle_terms.specs.declared.translate.bindings.BoundName.{BoundName}
 use Rattle.isle_terms.specs.declared.translate.bindings.VisibleName.{VisibleName}
-use Rattle.isle_terms.specs.Elaboration.{visible_in}
+use Rattle.isle_rules.specs.Elaboration.{visible_in}
 use Rattle.isle_terms.specs.Inside.Readings.Scopes.{bound_of, visible_shown, innermost_of, IsScope}
 
 -- with the innermost of another text nothing changes

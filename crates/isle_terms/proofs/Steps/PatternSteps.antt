@@ -4,33 +4,33 @@ use Rattle.std.proofs.Common.{refl, sym, ap}
 use Rattle.std.proofs.Common.{◌∙◌, subst, arith, map, max, drop, get_or, add-one, drop-cons, drop_of_length-le, if◌then◌else◌, not, Vec, Global}
 use Rattle.std.specs.Prelude.{Result, IfOk, IfErr, leb, ltb, ◌==◌}
 use Rattle.std.proofs.lemmas.Bool.Decides.{nat_tests}
-use Rattle.isle_syntax.specs.declared.lexer.Pos.{Pos}
-use Rattle.isle_syntax.specs.declared.ast.Ident.{Ident}
-use Rattle.isle_syntax.specs.declared.error.Error.{Error}
-use Rattle.isle_syntax.specs.declared.refusal.Refusal.{Refusal}
-use Rattle.isle_syntax.specs.declared.refusal.Refusal.TheVariants.{Fault, Memory}
-use Rattle.isle_syntax.specs.Errors.{IfFault}
-use Rattle.isle_syntax.specs.Trees.PatternTree.{PatternTree, PatternTrees, pattern_bind, pattern_int, pattern_term, pattern_and, no_patterns}
-use Rattle.isle_syntax.specs.Trees.PatternTree.{more_patterns}
-use Rattle.isle_syntax.specs.Trees.PatternTree.{pattern_pos}
+use Rattle.isle_ast.specs.declared.pos.Pos.{Pos}
+use Rattle.isle_ast.specs.declared.ast.Ident.{Ident}
+use Rattle.isle_ast.specs.declared.error.Error.{Error}
+use Rattle.isle_ast.specs.declared.refusal.Refusal.{Refusal}
+use Rattle.isle_ast.specs.declared.refusal.Refusal.TheVariants.{Fault, Memory}
+use Rattle.isle_ast.specs.Errors.{IfFault}
+use Rattle.isle_ast.specs.Trees.PatternTree.{PatternTree, PatternTrees, pattern_bind, pattern_int, pattern_term, pattern_and, no_patterns}
+use Rattle.isle_ast.specs.Trees.PatternTree.{more_patterns}
+use Rattle.isle_ast.specs.Trees.PatternTree.{pattern_pos}
 use Rattle.isle_types.specs.declared.ids.TypeId.{TypeId}
 use Rattle.isle_terms.specs.declared.translate.Context.{Context}
 use Rattle.isle_terms.specs.declared.translate.frames.Given.{Given, out-Given}
-use Rattle.isle_terms.specs.declared.rules.Pattern.{Pattern}
-use Rattle.isle_terms.specs.TypedRules.{TypedPattern, TypedPatterns, no_typed, more_typed, typed_int, typed_term}
-use Rattle.isle_terms.specs.Signatures.{Signature, has_extractor_form, template_of}
-use Rattle.isle_terms.specs.Elaboration.{State, counted, visible_in, pattern_count, listed, each_at}
+use Rattle.isle_rules.specs.declared.rules.Pattern.{Pattern}
+use Rattle.isle_rules.specs.TypedRules.{TypedPattern, TypedPatterns, no_typed, more_typed, typed_int, typed_term}
+use Rattle.isle_rules.specs.Signatures.{Signature, has_extractor_form, template_of}
+use Rattle.isle_rules.specs.Elaboration.{State, counted, visible_in, pattern_count, listed, each_at}
 use Rattle.isle_terms.specs.Inside.Readings.Outcomes.{Outcome, stands_for, ill_at, exceeds, and_then, only_if, Known, PatternRun, PatternUse, each_pattern}
 use Rattle.isle_terms.specs.Inside.Readings.Outcomes.{bind_name}
 use Rattle.isle_terms.specs.Inside.Readings.Outcomes.{template_in, extract, fitting, repair_pattern, pattern_node, read_pattern, read_pattern_use}
-use Rattle.isle_terms.specs.Shown.ShownTerms.{numbers_of}
-use Rattle.isle_terms.specs.Shown.ShownRules.{typed_list, greatest}
+use Rattle.isle_rules.specs.Shown.ShownTerms.{numbers_of}
+use Rattle.isle_rules.specs.Shown.ShownRules.{typed_list, greatest}
 use Rattle.isle_terms.specs.Inside.Readings.Failures.{Fails}
-use Rattle.isle_terms.specs.Readings.Needs.{needed}
+use Rattle.isle_rules.specs.Readings.Needs.{needed}
 use Rattle.isle_terms.specs.Inside.Readings.Frames.{put, put_all, tree_given, trees_given, template_at}
 use Rattle.isle_terms.specs.Inside.Readings.PatternReading.{IsRead, AreRead, all_of_type, needed_in}
-use Rattle.isle_syntax.specs.declared.ast.Pattern.{Pattern as SyntaxPattern}
-use Rattle.isle_syntax.specs.Trees.PatternShape.{patterns_of}
+use Rattle.isle_ast.specs.declared.ast.Pattern.{Pattern as SyntaxPattern}
+use Rattle.isle_ast.specs.Trees.PatternShape.{patterns_of}
 use Rattle.isle_terms.proofs.Steps.Frames.{tree_out, filled_put, filled_nothing}
 
 -- tests of numbers

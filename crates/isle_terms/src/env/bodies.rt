@@ -1,18 +1,18 @@
 //! Terms that the bodies of internal extractors name, of which each unknown one is reported.
 ghost use Rattle.std.specs.Prelude.{◌≡◌, ℕ, List, Bool, true, false, map, OnOk};
-ghost use Rattle.isle_syntax.specs.declared.lexer.Pos.{Pos};
-ghost use Rattle.isle_syntax.specs.Trees.PatternShape.{pattern_of};
+ghost use Rattle.isle_ast.specs.declared.pos.Pos.{Pos};
+ghost use Rattle.isle_ast.specs.Trees.PatternShape.{pattern_of};
 ghost use Rattle.isle_terms.specs.Inside.Collecting.NameTables.{IsTableOf};
 ghost use Rattle.isle_terms.specs.Inside.Collecting.Checks.{Checks};
-ghost use Rattle.isle_terms.specs.Definitions.{is_among};
+ghost use Rattle.isle_rules.specs.Definitions.{is_among};
 ghost use Rattle.isle_terms.specs.Inside.Collecting.ExtractorChecks.{Adds, BodyNamesUnknown, BodyNamesKnown, IsUnknownAt, NamesUnknown, NamesKnown};
 
 use crate::env::messages;
 use crate::env::name_table::NameTable;
 use crate::env::named::named_terms;
 use crate::env::report::report;
-use isle_syntax::ast::{Extractor, Ident, Pattern};
-use isle_syntax::error::Error;
+use isle_ast::ast::{Extractor, Ident, Pattern};
+use isle_ast::error::Error;
 use isle_types::TypeEnv;
 use std::alloc::{AllocError, Global};
 

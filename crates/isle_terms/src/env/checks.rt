@@ -1,10 +1,10 @@
 //! Checks of declarations, roots of rules, constructors and extractors one by one, which report each fault.
 ghost use Rattle.std.specs.Prelude.{◌≡◌, ℕ, List, map, length, MatchOption, Some, None, OnOk, IfOk};
-ghost use Rattle.isle_syntax.specs.declared.ast.Rule.{Rule as RuleTree};
-ghost use Rattle.isle_syntax.specs.declared.ast.Decl.{Decl as DeclTree};
-ghost use Rattle.isle_syntax.specs.declared.ast.Extractor.{Extractor as ExtractorTree};
-ghost use Rattle.isle_syntax.specs.Trees.PatternShape.{pattern_of};
-ghost use Rattle.isle_terms.specs.Definitions.{root_name, roots_of, ExternalExtractor};
+ghost use Rattle.isle_ast.specs.declared.ast.Rule.{Rule as RuleTree};
+ghost use Rattle.isle_ast.specs.declared.ast.Decl.{Decl as DeclTree};
+ghost use Rattle.isle_ast.specs.declared.ast.Extractor.{Extractor as ExtractorTree};
+ghost use Rattle.isle_ast.specs.Trees.PatternShape.{pattern_of};
+ghost use Rattle.isle_rules.specs.Definitions.{root_name, roots_of, ExternalExtractor};
 ghost use Rattle.isle_terms.specs.Inside.Collecting.Checks.{ChecksEach};
 ghost use Rattle.isle_terms.specs.Inside.Collecting.NameTables.{IsTableOf};
 ghost use Rattle.isle_terms.specs.Inside.Collecting.DefinitionLists.{host_constructor_shown, host_extractor_shown};
@@ -14,8 +14,8 @@ use crate::env::definitions::{HostConstructor, HostExtractor};
 use crate::env::messages;
 use crate::env::name_table::NameTable;
 use crate::env::report::report;
-use isle_syntax::ast::{Decl, Extractor, Ident, Pattern, Rule};
-use isle_syntax::error::Error;
+use isle_ast::ast::{Decl, Extractor, Ident, Pattern, Rule};
+use isle_ast::error::Error;
 use isle_types::TypeEnv;
 use std::alloc::{AllocError, Global};
 

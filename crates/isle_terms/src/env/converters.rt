@@ -1,12 +1,12 @@
 //! The table of converters by their types, with a report of each that is ill.
 ghost use Rattle.std.specs.Prelude.{◌≡◌, ℕ, None, List, map, IfOk, IfErr};
-ghost use Rattle.isle_syntax.specs.declared.ast.Def.{Def};
+ghost use Rattle.isle_ast.specs.declared.ast.Def.{Def};
 ghost use Rattle.isle_types.specs.StableMaps.{value_at};
 ghost use Rattle.isle_types.specs.Environment.{Environment};
 ghost use Rattle.isle_types.specs.TypeEnvs.{Shows};
-ghost use Rattle.isle_terms.specs.Signatures.{Signature};
-ghost use Rattle.isle_terms.specs.Definitions.{converters_in, names_of_terms};
-ghost use Rattle.isle_terms.specs.Shown.TermTables.{same_types};
+ghost use Rattle.isle_rules.specs.Signatures.{Signature};
+ghost use Rattle.isle_rules.specs.Definitions.{converters_in, names_of_terms};
+ghost use Rattle.isle_rules.specs.Shown.TermTables.{same_types};
 ghost use Rattle.isle_terms.specs.TermFaults.{ConverterBreaks};
 ghost use Rattle.isle_terms.specs.Inside.Collecting.Checks.{Checks};
 ghost use Rattle.isle_terms.specs.Inside.Collecting.NameTables.{IsTableOf};
@@ -15,9 +15,9 @@ ghost use Rattle.isle_terms.specs.Inside.Collecting.ReadConverters.{IsReadAs, Is
 use crate::env::messages::{self, IllPart};
 use crate::env::name_table::NameTable;
 use crate::env::report::report;
-use isle_syntax::ast::Converter;
-use isle_syntax::error::Error;
-use isle_syntax::lexer::Pos;
+use isle_ast::ast::Converter;
+use isle_ast::error::Error;
+use isle_ast::pos::Pos;
 use isle_types::{StableMap, TermId, TypeEnv, TypeId};
 use std::alloc::{AllocError, Global};
 

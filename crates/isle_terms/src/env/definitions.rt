@@ -1,12 +1,12 @@
 //! Definitions listed by kind: declarations, rules, extractors, converters, and the host's constructors and extractors.
 ghost use Rattle.std.specs.Prelude.{◌≡◌, IfOk, map};
 ghost use Rattle.std.specs.Option.{option_copied, option_map};
-ghost use Rattle.isle_terms.specs.Definitions.{as_declaration, as_rule, as_extractor, as_converter, declarations, rules_in, extractors_in};
-ghost use Rattle.isle_terms.specs.Definitions.{converters_in, external_constructors, external_extractors};
+ghost use Rattle.isle_rules.specs.Definitions.{as_declaration, as_rule, as_extractor, as_converter, declarations, rules_in, extractors_in};
+ghost use Rattle.isle_rules.specs.Definitions.{converters_in, external_constructors, external_extractors};
 ghost use Rattle.isle_terms.specs.Inside.Collecting.DefinitionLists.{constructor_in, extractor_in, host_constructor_shown, host_extractor_shown};
 
-use isle_syntax::ast::{Converter, Decl, Def, Extern, Extractor, Ident, Rule};
-use isle_syntax::lexer::Pos;
+use isle_ast::ast::{Converter, Decl, Def, Extern, Extractor, Ident, Rule};
+use isle_ast::pos::Pos;
 use std::alloc::{AllocError, Global};
 
 /// The host's function that makes a term's values.

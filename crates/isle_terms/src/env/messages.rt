@@ -2,8 +2,8 @@
 
 use crate::env::name_table::NameTable;
 use crate::env::naming::Named;
-use isle_syntax::ast::{Converter, Decl, Extractor, Ident, Pattern, Rule};
-use isle_syntax::lexer::Pos;
+use isle_ast::ast::{Converter, Decl, Extractor, Ident, Pattern, Rule};
+use isle_ast::pos::Pos;
 use isle_types::TypeEnv;
 use std::alloc::AllocError;
 

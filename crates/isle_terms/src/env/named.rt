@@ -1,11 +1,11 @@
 //! The names of a pattern's terms, each at the position of its term.
 ghost use Rattle.std.specs.Prelude.{◌≡◌, [], ◌∷◌, ◌++◌, map, false, IfOk};
-ghost use Rattle.isle_syntax.specs.Trees.PatternShape.{pattern_of};
+ghost use Rattle.isle_ast.specs.Trees.PatternShape.{pattern_of};
 ghost use Rattle.isle_terms.specs.Inside.Collecting.ExtractorChecks.{named_in};
 
-use isle_syntax::Text;
-use isle_syntax::ast::{Ident, Pattern};
-use isle_syntax::lexer::Pos;
+use isle_ast::Text;
+use isle_ast::ast::{Ident, Pattern};
+use isle_ast::pos::Pos;
 use std::alloc::{AllocError, Global};
 
 /// The terms of a pattern so far, while memory lasts.

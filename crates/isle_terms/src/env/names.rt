@@ -1,9 +1,9 @@
 //! Tables of the names that definitions give: of declared terms, roots of rules, constructors and extractors.
 ghost use Rattle.std.specs.Prelude.{◌≡◌, ℕ, Bool, List, [], ◌++◌, map, IfOk, OnOk};
-ghost use Rattle.isle_syntax.specs.declared.ast.Def.{Def};
+ghost use Rattle.isle_ast.specs.declared.ast.Def.{Def};
 ghost use Rattle.isle_types.specs.Names.{AreDistinct};
 ghost use Rattle.isle_types.specs.Environment.{Environment};
-ghost use Rattle.isle_terms.specs.Definitions.{declared_names, external_constructor_names, extractor_names};
+ghost use Rattle.isle_rules.specs.Definitions.{declared_names, external_constructor_names, extractor_names};
 ghost use Rattle.isle_terms.specs.TermFaults.{IsTaken, named_extractors};
 ghost use Rattle.isle_terms.specs.TypingFaults.{BreaksTyping};
 ghost use Rattle.isle_terms.specs.Inside.Collecting.Checks.{Checks};
@@ -14,7 +14,7 @@ use crate::env::checks::name_roots;
 use crate::env::name_table::NameTable;
 use crate::env::naming::{self, name_all};
 use crate::env::parts::Parts;
-use isle_syntax::error::Error;
+use isle_ast::error::Error;
 use isle_types::TypeEnv;
 use std::alloc::{AllocError, Global};
 

@@ -1,8 +1,8 @@
 //! Names with the positions where they are given, and tables of names, with a report of each that is taken.
 ghost use Rattle.std.specs.Prelude.{◌≡◌, ◌++◌, List, map, IfOk, OnOk};
 ghost use Rattle.std.specs.List.{AllZip};
-ghost use Rattle.isle_syntax.specs.declared.ast.Decl.{Decl as DeclTree};
-ghost use Rattle.isle_syntax.specs.declared.ast.Extractor.{Extractor as ExtractorTree};
+ghost use Rattle.isle_ast.specs.declared.ast.Decl.{Decl as DeclTree};
+ghost use Rattle.isle_ast.specs.declared.ast.Extractor.{Extractor as ExtractorTree};
 ghost use Rattle.isle_types.specs.Names.{AreDistinct};
 ghost use Rattle.isle_terms.specs.TermFaults.{names_of, IsTaken};
 ghost use Rattle.isle_terms.specs.Inside.Collecting.Checks.{Checks};
@@ -10,16 +10,16 @@ ghost use Rattle.isle_terms.specs.Inside.Collecting.NameTables.{IsTableOf};
 ghost use Rattle.isle_terms.specs.Inside.Collecting.NamedItems.{named_shown, named_declaration, named_extractor, named_host_constructor};
 ghost use Rattle.isle_terms.specs.Inside.Collecting.NamedItems.{named_host_extractor, named_term};
 ghost use Rattle.isle_terms.specs.Inside.Collecting.DeclaredTerms.{IsShownTerm};
-ghost use Rattle.isle_terms.specs.Signatures.{Signature};
+ghost use Rattle.isle_rules.specs.Signatures.{Signature};
 
 use crate::env::definitions::{HostConstructor, HostExtractor};
 use crate::env::messages;
 use crate::env::name_table::NameTable;
 use crate::env::report::report;
-use crate::terms::Term;
-use isle_syntax::ast::{Decl, Extractor};
-use isle_syntax::error::Error;
-use isle_syntax::lexer::Pos;
+use isle_ast::ast::{Decl, Extractor};
+use isle_ast::error::Error;
+use isle_ast::pos::Pos;
+use isle_rules::Term;
 use isle_types::TypeEnv;
 use std::alloc::{AllocError, Global};
 

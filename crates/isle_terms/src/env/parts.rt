@@ -6,7 +6,7 @@ use crate::env::definitions::{
     HostConstructor, HostExtractor, converters, declarations, extractors, host_constructors,
     host_extractors, rules,
 };
-use isle_syntax::ast::{Converter, Decl, Def, Extractor, Rule};
+use isle_ast::ast::{Converter, Decl, Def, Extractor, Rule};
 use std::alloc::{AllocError, Global};
 
 /// The definitions of terms and rules by kind, each in order.

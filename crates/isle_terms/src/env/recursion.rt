@@ -1,8 +1,8 @@
 //! Recursion of internal extractors: one that comes to its own term through bodies is reported.
 ghost use Rattle.std.specs.Prelude.{◌≡◌, ◌<◌, ℕ, Some, map, length, slice_get, IfOk, OnOk, MatchOption};
 ghost use Rattle.std.specs.Str.{bytes_eq};
-ghost use Rattle.isle_syntax.specs.declared.ast.Extractor.{Extractor as ExtractorTree};
-ghost use Rattle.isle_syntax.specs.Trees.PatternShape.{pattern_of};
+ghost use Rattle.isle_ast.specs.declared.ast.Extractor.{Extractor as ExtractorTree};
+ghost use Rattle.isle_ast.specs.Trees.PatternShape.{pattern_of};
 ghost use Rattle.isle_types.specs.StableMaps.{value_at};
 ghost use Rattle.isle_terms.specs.Inside.Collecting.Checks.{Checks};
 ghost use Rattle.isle_terms.specs.Inside.Collecting.ExtractorGraphs.{extracted, ArePlaces, AddsEdges, JoinsTerm, JoinsNode, JoinsPlaces};
@@ -13,10 +13,10 @@ use crate::env::graph::Graph;
 use crate::env::messages;
 use crate::env::named::named_terms;
 use crate::env::report::report;
-use isle_syntax::Text;
-use isle_syntax::ast::{Extractor, Ident, Pattern};
-use isle_syntax::error::Error;
-use isle_syntax::lexer::Pos;
+use isle_ast::Text;
+use isle_ast::ast::{Extractor, Ident, Pattern};
+use isle_ast::error::Error;
+use isle_ast::pos::Pos;
 use isle_types::{StableMap, TypeEnv};
 use std::alloc::{AllocError, Global};
 

@@ -1,12 +1,12 @@
 //! Type errors at one place that begin with the same line, of which the first alone is told.
 ghost use Rattle.std.specs.Prelude.{◌≡◌, ◌++◌, ◌∷◌, [], eqb, IfOk, OnOk, MatchBool};
 ghost use Rattle.std.specs.List.{before_first};
-ghost use Rattle.isle_syntax.specs.Errors.{IfFault, IsFaultAnd};
+ghost use Rattle.isle_ast.specs.Errors.{IfFault, IsFaultAnd};
 ghost use Rattle.isle_terms.specs.Inside.Collecting.Repeats.{fault_key, MeetsKey, AreToldOf};
 
-use isle_syntax::error::Error;
-use isle_syntax::lexer::Pos;
-use isle_syntax::{Refusal, Text};
+use isle_ast::error::Error;
+use isle_ast::pos::Pos;
+use isle_ast::{Refusal, Text};
 use isle_types::StableSet;
 use std::alloc::{AllocError, Global};
 

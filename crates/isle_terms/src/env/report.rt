@@ -1,11 +1,11 @@
 //! A type error with its position and message, added to a list of errors.
 ghost use Rattle.std.specs.Prelude.{◌≡◌, ℕ, List, [], ◌∷◌, ◌++◌, OnOk};
-ghost use Rattle.isle_syntax.specs.declared.error.Error.TheVariants.{TypeError};
-ghost use Rattle.isle_syntax.specs.Errors.{span_at};
+ghost use Rattle.isle_ast.specs.declared.error.Error.TheVariants.{TypeError};
+ghost use Rattle.isle_ast.specs.Errors.{span_at};
 
-use isle_syntax::Text;
-use isle_syntax::error::{Error, Span};
-use isle_syntax::lexer::Pos;
+use isle_ast::Text;
+use isle_ast::error::{Error, Span};
+use isle_ast::pos::Pos;
 use std::alloc::AllocError;
 
 /// Adds a type error at a position, with a message that is made.

@@ -1,24 +1,24 @@
 //! Names of rules, written or taken from a term with one rule alone, and the check that each is given once.
 ghost use Rattle.std.specs.Prelude.{◌≡◌, ◌++◌, List, [], ◌∷◌, map, length, IfOk, OnOk};
 ghost use Rattle.std.specs.List.{AllZip};
-ghost use Rattle.isle_syntax.specs.declared.ast.Def.{Def};
+ghost use Rattle.isle_ast.specs.declared.ast.Def.{Def};
 ghost use Rattle.isle_types.specs.Names.{AreDistinct};
 ghost use Rattle.isle_types.specs.TypeEnvs.{HasMoreNames, CountUp};
-ghost use Rattle.isle_terms.specs.declared.rules.Rule.{Rule as RuleRecord};
-ghost use Rattle.isle_terms.specs.TypedRules.{TypedRule};
-ghost use Rattle.isle_terms.specs.Definitions.{rules_in, roots_of, name_of};
+ghost use Rattle.isle_rules.specs.declared.rules.Rule.{Rule as RuleRecord};
+ghost use Rattle.isle_rules.specs.TypedRules.{TypedRule};
+ghost use Rattle.isle_rules.specs.Definitions.{rules_in, roots_of, name_of};
 ghost use Rattle.isle_terms.specs.TermFaults.{IsTaken, names_of};
 ghost use Rattle.isle_terms.specs.TypingFaults.{named_rules};
 ghost use Rattle.isle_terms.specs.Inside.Collecting.Checks.{Checks};
 ghost use Rattle.isle_terms.specs.Inside.Collecting.NamedItems.{name_shown, named_shown};
 ghost use Rattle.isle_terms.specs.Inside.Collecting.RuleNames.{with_names, AreNamedRules, MarksLone, IsNumbering};
-ghost use Rattle.isle_terms.specs.Shown.RulesShown.{IsShownRule};
+ghost use Rattle.isle_rules.specs.Shown.RulesShown.{IsShownRule};
 
 use crate::env::checks::root_name;
 use crate::env::naming::{Named, name_all};
-use crate::rules::Rule;
-use isle_syntax::ast::{self, Ident};
-use isle_syntax::error::Error;
+use isle_ast::ast::{self, Ident};
+use isle_ast::error::Error;
+use isle_rules::Rule;
 use isle_types::{RuleId, StableMap, Sym, TypeEnv};
 use std::alloc::{AllocError, Global};
 

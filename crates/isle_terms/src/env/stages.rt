@@ -1,27 +1,27 @@
 //! The stages that make the terms of definitions, and check their extractors, converters and uses.
 ghost use Rattle.std.specs.Prelude.{◌≡◌, ◌<◌, ◌≤◌, ℕ, Bool, true, false, List, [], ◌∷◌, ◌++◌, map, length, All, IfOk, IfErr, OnOk};
 ghost use Rattle.std.specs.List.{AllZip};
-ghost use Rattle.isle_syntax.specs.declared.ast.Decl.{Decl as DeclTree};
-ghost use Rattle.isle_syntax.specs.declared.ast.Def.{Def};
-ghost use Rattle.isle_syntax.specs.declared.lexer.Pos.{Pos};
-ghost use Rattle.isle_syntax.specs.Errors.{IfFault};
+ghost use Rattle.isle_ast.specs.declared.ast.Decl.{Decl as DeclTree};
+ghost use Rattle.isle_ast.specs.declared.ast.Def.{Def};
+ghost use Rattle.isle_ast.specs.declared.pos.Pos.{Pos};
+ghost use Rattle.isle_ast.specs.Errors.{IfFault};
 ghost use Rattle.isle_types.specs.Environment.{Environment};
 ghost use Rattle.isle_types.specs.Names.{AreDistinct};
 ghost use Rattle.isle_types.specs.TypeEnvs.{Shows, HasMoreNames};
 ghost use Rattle.isle_types.specs.TypeFaults.{IsTypeFault};
-ghost use Rattle.isle_terms.specs.Signatures.{Signature};
-ghost use Rattle.isle_terms.specs.Definitions.{declarations, declared_names, extractor_names, AreTerms, names_of_terms, KeepExtractorRules};
-ghost use Rattle.isle_terms.specs.Definitions.{IsDefined};
+ghost use Rattle.isle_rules.specs.Signatures.{Signature};
+ghost use Rattle.isle_rules.specs.Definitions.{declarations, declared_names, extractor_names, AreTerms, names_of_terms, KeepExtractorRules};
+ghost use Rattle.isle_rules.specs.Definitions.{IsDefined};
 ghost use Rattle.isle_terms.specs.TermFaults.{IsTaken, named_extractors};
 ghost use Rattle.isle_terms.specs.TypingFaults.{BreaksTyping, AreTypingFaults};
 ghost use Rattle.isle_terms.specs.Inside.Collecting.Checks.{Checks};
 ghost use Rattle.isle_terms.specs.Inside.Collecting.NameTables.{IsTableOf};
 ghost use Rattle.isle_terms.specs.Inside.Collecting.Parts.{ArePartsOf, AreNamesOf, KeepFirstRules, AreNamedOnce};
 ghost use Rattle.isle_terms.specs.Inside.Collecting.DeclaredTerms.{AreDeclaredTerms, IsShownTerm};
-ghost use Rattle.isle_terms.specs.Definitions.{HasPlainTemplates};
+ghost use Rattle.isle_rules.specs.Definitions.{HasPlainTemplates};
 ghost use Rattle.isle_terms.specs.Inside.Collecting.MadeTerms.{AreMadeTerms, KeepLaterRules};
-ghost use Rattle.isle_terms.specs.Readings.Needs.{needed_of};
-ghost use Rattle.isle_terms.specs.declared.terms.Term.{Term as TermRecord};
+ghost use Rattle.isle_rules.specs.Readings.Needs.{needed_of};
+ghost use Rattle.isle_rules.specs.declared.terms.Term.{Term as TermRecord};
 
 use crate::env::bodies::check_bodies;
 use crate::env::checks::{
@@ -36,9 +36,9 @@ use crate::env::parts::Parts;
 use crate::env::recursion::check_recursion;
 use crate::env::terms::Forms;
 use crate::env::type_terms::add_type_terms;
-use crate::terms::Term;
-use isle_syntax::Refusal;
-use isle_syntax::error::Error;
+use isle_ast::Refusal;
+use isle_ast::error::Error;
+use isle_rules::Term;
 use isle_types::{StableMap, TermId, TypeEnv, TypeId};
 use std::alloc::{AllocError, Global};
 

@@ -4,14 +4,14 @@ ghost use Rattle.std.specs.List.{AllZip};
 ghost use Rattle.std.specs.Option.{option_map};
 ghost use Rattle.isle_types.specs.Names.{AreDistinct, position_of};
 ghost use Rattle.isle_types.specs.TypeEnvs.{CountUp};
-ghost use Rattle.isle_terms.specs.declared.terms.Term.{Term as TermValue};
-ghost use Rattle.isle_terms.specs.Signatures.{Signature};
-ghost use Rattle.isle_terms.specs.Definitions.{names_of_terms};
-ghost use Rattle.isle_terms.specs.Shown.ShownTerms.{term_at};
+ghost use Rattle.isle_rules.specs.declared.terms.Term.{Term as TermValue};
+ghost use Rattle.isle_rules.specs.Signatures.{Signature};
+ghost use Rattle.isle_rules.specs.Definitions.{names_of_terms};
+ghost use Rattle.isle_rules.specs.Shown.ShownTerms.{term_at};
 ghost use Rattle.isle_terms.specs.Inside.Collecting.DeclaredTerms.{IsShownTerm, number_named};
 ghost use Rattle.isle_terms.specs.Inside.Collecting.TermSymbols.{HasSymbolsOf};
 
-use crate::terms::Term;
+use isle_rules::Term;
 use isle_types::{StableMap, Sym, TermId};
 use std::alloc::{AllocError, Global};
 

@@ -6,12 +6,12 @@ ghost use Rattle.isle_types.specs.IntTypes.{builtin_names};
 ghost use Rattle.isle_types.specs.Types.{id_of};
 ghost use Rattle.isle_types.specs.Environment.{Environment, NamedType, NamedVariant, FieldList, numbers_in};
 ghost use Rattle.isle_types.specs.TypeEnvs.{Shows, IsShown, IsShownVariant, AreShownVariants, AreShownFields};
-ghost use Rattle.isle_terms.specs.Definitions.{terms_of_types, terms_of_shape, variant_terms};
-ghost use Rattle.isle_terms.specs.Shown.ShownTerms.{numbers_of};
+ghost use Rattle.isle_rules.specs.Definitions.{terms_of_types, terms_of_shape, variant_terms};
+ghost use Rattle.isle_rules.specs.Shown.ShownTerms.{numbers_of};
 ghost use Rattle.isle_terms.specs.Inside.Collecting.DeclaredTerms.{IsShownTerm, AddsTerms, variant_signature};
 
-use crate::terms::{Term, TermKind};
-use isle_syntax::Seq;
+use isle_ast::Seq;
+use isle_rules::{Term, TermKind};
 use isle_types::{Fields, TermId, Type, TypeEnv, TypeId, Variant};
 use std::alloc::{AllocError, Global};
 

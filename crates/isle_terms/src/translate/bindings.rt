@@ -1,12 +1,12 @@
 //! The variables of a rule so far, and the names that can be used.
 ghost use Rattle.std.specs.Prelude.{◌≡◌, [], ◌∷◌, true, false, length, map, drop, leb, IfOk, OnOk};
 ghost use Rattle.std.specs.Option.{option_map};
-ghost use Rattle.isle_terms.specs.Elaboration.{State, start, counted, bound, visible_in};
+ghost use Rattle.isle_rules.specs.Elaboration.{State, start, counted, bound, visible_in};
 ghost use Rattle.isle_terms.specs.Inside.Readings.Scopes.{bound_of, visible_at, variable_shown};
 
-use isle_syntax::Text;
-use isle_syntax::ast::Ident;
-use isle_syntax::lexer::Pos;
+use isle_ast::Text;
+use isle_ast::ast::Ident;
+use isle_ast::pos::Pos;
 use isle_types::{TypeId, VarId};
 use std::alloc::{AllocError, Global};
 use std::collections::HashMap;
@@ -37,7 +37,7 @@ struct Scope {
 
 impl Model for Scope {
     ghost use Rattle.std.specs.Prelude.{List, map, reverse};
-    ghost use Rattle.isle_terms.specs.Elaboration.{Visible};
+    ghost use Rattle.isle_rules.specs.Elaboration.{Visible};
 
     ghost Value = { List Visible };
 
@@ -123,7 +123,7 @@ pub struct Bindings {
 
 impl Model for Bindings {
     ghost use Rattle.std.specs.Prelude.{map};
-    ghost use Rattle.isle_terms.specs.Elaboration.{State};
+    ghost use Rattle.isle_rules.specs.Elaboration.{State};
 
     ghost Value = { State };
 

@@ -1,17 +1,17 @@
 //! What expressions stand for: typed expressions, with converters put in where another type is expected.
 ghost use Rattle.std.specs.Prelude.{◌≡◌, ◌≤◌, true, false, length, map, drop, IfOk, IfErr, OnOk, OnErr};
 ghost use Rattle.std.specs.Option.{option_map};
-ghost use Rattle.isle_syntax.specs.Errors.{type_error, IfFault};
-ghost use Rattle.isle_syntax.specs.Trees.ExprShape.{expr_of, exprs_of, lets_of};
-ghost use Rattle.isle_terms.specs.TypedRules.{TypedBindings, built_bool, more_typed_bindings};
-ghost use Rattle.isle_terms.specs.Elaboration.{State, visible_in, bool_number};
+ghost use Rattle.isle_ast.specs.Errors.{type_error, IfFault};
+ghost use Rattle.isle_ast.specs.Trees.ExprShape.{expr_of, exprs_of, lets_of};
+ghost use Rattle.isle_rules.specs.TypedRules.{TypedBindings, built_bool, more_typed_bindings};
+ghost use Rattle.isle_rules.specs.Elaboration.{State, visible_in, bool_number};
 ghost use Rattle.isle_terms.specs.Inside.Readings.Outcomes.{Outcome, stands_for, and_then, only_if, is_expected, each_expr, call, repair_expr};
 ghost use Rattle.isle_terms.specs.Inside.Readings.Outcomes.{read_expr_use};
 ghost use Rattle.isle_terms.specs.Inside.Readings.Outcomes.{call_number, read_variable, read_integer, read_constant, bind_value, bind_values, expr_node};
 ghost use Rattle.isle_terms.specs.Inside.Readings.Outcomes.{read_expr};
 ghost use Rattle.isle_terms.specs.Inside.Readings.Outcomes.{fitting_wanted};
-ghost use Rattle.isle_terms.specs.Shown.ShownTerms.{flags_shown, term_shown, numbers_of};
-ghost use Rattle.isle_terms.specs.Shown.ShownRules.{built_shown, built_list, binding_list, expr_limit, greatest, greatest_of_values};
+ghost use Rattle.isle_rules.specs.Shown.ShownTerms.{flags_shown, term_shown, numbers_of};
+ghost use Rattle.isle_rules.specs.Shown.ShownRules.{built_shown, built_list, binding_list, expr_limit, greatest, greatest_of_values};
 ghost use Rattle.isle_terms.specs.Inside.Readings.Failures.{Fails, IsErrorAt};
 ghost use Rattle.isle_terms.specs.Inside.Readings.Contexts.{known_in, numbered_shown, expected};
 ghost use Rattle.isle_terms.specs.Inside.Readings.ExprReadings.{is_call, read_let, binding_shown, binding_limit};
@@ -22,13 +22,12 @@ use super::names::{
     NumberedTerm, Role, fitting_converter, has_number, is_callable, is_usable, known_constant,
     known_number, known_term, too_large,
 };
-use crate::rules::Expr;
-use crate::terms::TermFlags;
 use crate::translate::messages;
-use isle_syntax::ast::{self, Ident};
-use isle_syntax::error::Error;
-use isle_syntax::lexer::Pos;
-use isle_syntax::{Boxed, Refusal, Seq};
+use isle_ast::ast::{self, Ident};
+use isle_ast::error::Error;
+use isle_ast::pos::Pos;
+use isle_ast::{Boxed, Refusal, Seq};
+use isle_rules::{Expr, TermFlags};
 use isle_types::{TypeId, VarId};
 use std::array;
 

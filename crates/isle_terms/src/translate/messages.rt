@@ -1,6 +1,6 @@
 //! What the type errors of rules say: names, types and counts.
 ghost use Rattle.std.specs.Prelude.{◌≡◌};
-ghost use Rattle.isle_syntax.specs.Errors.{type_error, IfFault, IsFaultAnd, error_kind, spans_of};
+ghost use Rattle.isle_ast.specs.Errors.{type_error, IfFault, IsFaultAnd, error_kind, spans_of};
 ghost use Rattle.isle_terms.specs.Inside.Readings.Failures.{IsErrorAt};
 
 mod places;
@@ -8,12 +8,12 @@ mod texts;
 
 use super::Context;
 use super::names::{NumberedTerm, Role};
-use crate::terms::{Term, TermFlags};
 use crate::translate::bindings::BoundName;
-use isle_syntax::Refusal;
-use isle_syntax::ast::{Expr, Ident, Pattern, Rule};
-use isle_syntax::error::Error;
-use isle_syntax::lexer::Pos;
+use isle_ast::Refusal;
+use isle_ast::ast::{Expr, Ident, Pattern, Rule};
+use isle_ast::error::Error;
+use isle_ast::pos::Pos;
+use isle_rules::{Term, TermFlags};
 use isle_types::{TypeEnv, TypeId};
 use places::is_outside;
 use texts::Integer;

@@ -1,21 +1,22 @@
 //! Terms, constants and converters by their names, ids and types, and how a term may be used in a rule.
 ghost use Rattle.std.specs.Prelude.{◌≡◌, ℕ, ◌<◌, List, Some, None, length, slice_get, IfSome, if◌then◌else◌};
 ghost use Rattle.std.specs.Option.{option_map};
-ghost use Rattle.isle_syntax.specs.Errors.{type_error, size_error, IfFault};
+ghost use Rattle.isle_ast.specs.Errors.{type_error, size_error, IfFault};
 ghost use Rattle.isle_types.specs.TypeTables.{name_at};
-ghost use Rattle.isle_terms.specs.Signatures.{flags_of};
-ghost use Rattle.isle_terms.specs.Elaboration.{may_call};
+ghost use Rattle.isle_rules.specs.Signatures.{flags_of};
+ghost use Rattle.isle_rules.specs.Elaboration.{may_call};
 ghost use Rattle.isle_terms.specs.Inside.Readings.Outcomes.{takes_just, fitting, fitting_term};
-ghost use Rattle.isle_terms.specs.Shown.ShownTerms.{flags_shown, form_shown, term_shown, numbers_of, known_has_number};
+ghost use Rattle.isle_rules.specs.Shown.ShownTerms.{flags_shown, form_shown, term_shown, numbers_of};
+ghost use Rattle.isle_terms.specs.Inside.Shown.KnownNames.{known_has_number};
 ghost use Rattle.isle_terms.specs.Inside.Readings.Failures.{IsErrorAt};
 ghost use Rattle.isle_terms.specs.Inside.Readings.Contexts.{known_in, usable_in, numbered_shown};
 
 use super::Context;
-use crate::terms::{Term, TermFlags, TermKind};
-use isle_syntax::Refusal;
-use isle_syntax::ast::Ident;
-use isle_syntax::error::Error;
-use isle_syntax::lexer::Pos;
+use isle_ast::Refusal;
+use isle_ast::ast::Ident;
+use isle_ast::error::Error;
+use isle_ast::pos::Pos;
+use isle_rules::{Term, TermFlags, TermKind};
 use isle_types::{BuiltinType, Sym, TermId, Type, TypeEnv, TypeId};
 
 /// What a term is used for.

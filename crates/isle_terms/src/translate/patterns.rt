@@ -1,15 +1,15 @@
 //! What patterns stand for: typed patterns, with templates and converters put in.
 ghost use Rattle.std.specs.Prelude.{◌≡◌, ◌≤◌, ◌==◌, true, false, Some, None, length, map, ltb, IfOk, IfErr};
 ghost use Rattle.std.specs.Option.{option_map};
-ghost use Rattle.isle_syntax.specs.Trees.PatternShape.{pattern_of, patterns_of};
-ghost use Rattle.isle_syntax.specs.Trees.PatternTree.{pattern_term, pattern_list, pattern_pos};
-ghost use Rattle.isle_terms.specs.TypedRules.{typed_bool, typed_int};
-ghost use Rattle.isle_terms.specs.Signatures.{Signature, template_of, has_extractor_form};
-ghost use Rattle.isle_terms.specs.Elaboration.{State, bool_number, visible_in, each_at};
+ghost use Rattle.isle_ast.specs.Trees.PatternShape.{pattern_of, patterns_of};
+ghost use Rattle.isle_ast.specs.Trees.PatternTree.{pattern_term, pattern_list, pattern_pos};
+ghost use Rattle.isle_rules.specs.TypedRules.{typed_bool, typed_int};
+ghost use Rattle.isle_rules.specs.Signatures.{Signature, template_of, has_extractor_form};
+ghost use Rattle.isle_rules.specs.Elaboration.{State, bool_number, visible_in, each_at};
 ghost use Rattle.isle_terms.specs.Inside.Readings.Outcomes.{stands_for, only_if, use_name, bind_name, use_constant, template_in, extract, fitting};
 ghost use Rattle.isle_terms.specs.Inside.Readings.Outcomes.{repair_pattern, use_number, each_pattern, read_pattern};
-ghost use Rattle.isle_terms.specs.Shown.ShownTerms.{numbers_of, term_shown};
-ghost use Rattle.isle_terms.specs.Shown.ShownRules.{typed_list, typed_shown, pattern_limit, greatest};
+ghost use Rattle.isle_rules.specs.Shown.ShownTerms.{numbers_of, term_shown};
+ghost use Rattle.isle_rules.specs.Shown.ShownRules.{typed_list, typed_shown, pattern_limit, greatest};
 ghost use Rattle.isle_terms.specs.Inside.Readings.Failures.{Fails};
 ghost use Rattle.isle_terms.specs.Inside.Readings.Contexts.{known_in, numbered_shown};
 ghost use Rattle.isle_terms.specs.Inside.Readings.Frames.{put_all, tree_given, trees_given, is_argument, template_at};
@@ -24,13 +24,12 @@ use super::names::{
     Role, fitting_converter, has_number, ill_typed, is_usable, known_constant, known_number,
     known_term, too_large,
 };
-use crate::rules::Pattern;
-use crate::terms::{ExtractorKind, Term, TermKind};
 use crate::translate::messages;
-use isle_syntax::ast::Ident;
-use isle_syntax::error::Error;
-use isle_syntax::lexer::Pos;
-use isle_syntax::{Boxed, Refusal, Seq, ast};
+use isle_ast::ast::Ident;
+use isle_ast::error::Error;
+use isle_ast::pos::Pos;
+use isle_ast::{Boxed, Refusal, Seq, ast};
+use isle_rules::{ExtractorKind, Pattern, Term, TermKind};
 use isle_types::{TermId, TypeId};
 use std::alloc::{AllocError, Global};
 

@@ -1,24 +1,24 @@
 //! What a rule stands for: the typed patterns of its arguments, its conditions and its right side.
 ghost use Rattle.std.specs.Prelude.{◌≡◌, ◌≤◌, length, map, IfOk, IfErr};
-ghost use Rattle.isle_syntax.specs.Trees.PatternShape.{patterns_of};
+ghost use Rattle.isle_ast.specs.Trees.PatternShape.{patterns_of};
 ghost use Rattle.isle_terms.specs.Inside.Readings.Outcomes.{stands_for};
 ghost use Rattle.isle_terms.specs.Inside.Readings.RuleOutcomes.{read_conditions, read_rule};
-ghost use Rattle.isle_terms.specs.Shown.ShownTerms.{flags_shown, term_shown};
-ghost use Rattle.isle_terms.specs.Shown.ShownRules.{iflet_shown, greatest};
+ghost use Rattle.isle_rules.specs.Shown.ShownTerms.{flags_shown, term_shown};
+ghost use Rattle.isle_rules.specs.Shown.ShownRules.{iflet_shown, greatest};
 ghost use Rattle.isle_terms.specs.Inside.Readings.Failures.{Fails};
 ghost use Rattle.isle_terms.specs.Inside.Readings.Contexts.{known_in};
-ghost use Rattle.isle_terms.specs.Shown.RulesShown.{parts_shown, parts_limit, iflet_limit};
+ghost use Rattle.isle_terms.specs.Inside.Shown.PartsShown.{parts_shown, parts_limit};
+ghost use Rattle.isle_rules.specs.Shown.RulesShown.{iflet_limit};
 ghost use Rattle.isle_terms.specs.Inside.Readings.ConditionReading.{read_condition};
 
 use super::Context;
 use super::bindings::Bindings;
 use super::exprs::translate_expr;
 use super::patterns::{translate_args, translate_pattern};
-use crate::rules::{Expr, IfLet, Pattern};
-use crate::terms::{Term, TermFlags};
-use isle_syntax::error::Error;
-use isle_syntax::lexer::Pos;
-use isle_syntax::{Refusal, ast};
+use isle_ast::error::Error;
+use isle_ast::pos::Pos;
+use isle_ast::{Refusal, ast};
+use isle_rules::{Expr, IfLet, Pattern, Term, TermFlags};
 
 /// The typed parts of a rule.
 #[derive(Drop)]

@@ -5,7 +5,7 @@ ghost use Rattle.isle_blocks.specs.Bindings.{MakesKnownVariant};
 use crate::terms::visits::environments;
 use isle_blocks::laws::sites_have_terms;
 use isle_blocks::{Binding, check};
-use isle_terms::TermEnv;
+use isle_rules::TermEnv;
 use isle_types::TypeEnv;
 use std::alloc::{AllocError, Global};
 use std::test::Fail;
@@ -38,14 +38,15 @@ fn terms_of_sites(alloc: Global, text: &str) -> Result<String, Fail> {
     Ok(out)
 }
 
-/// An argument has no term, a variant that a rule makes its own, and a call the term that is called.
+/// An argument has no term, a variant that a rule makes its own, and a call the term that is called, but no value of a multi call.
 #[test]
 fn sites_of_rules_have_terms(rt: HostRuntime) -> Result<(), Fail> {
     let text = "(type A (enum (V (a u8)))) (decl g (A) A) (extern constructor g g)
-        (decl f (u8) A) (rule (f x) (g (A.V x)))";
+        (decl f (u8) A) (rule (f x) (g (A.V x)))
+        (decl multi m (u8) u8) (extern constructor m m) (decl multi h (u8) u8) (rule (h x) (m x))";
     assert_eq!(rt;
         terms_of_sites(rt.alloc(), text)?.as_str(),
-        "None\nSome(TermId(2))\nSome(TermId(0))\n"
+        "None\nSome(TermId(4))\nSome(TermId(0))\nNone\nSome(TermId(2))\nNone\n"
     );
     Ok(())
 }

@@ -2,7 +2,6 @@
 
 use super::trees::blocks_of;
 use super::{A, U8};
-use crate::tables::written_out;
 use isle_blocks::{Arms, BindingId, Block, Constraint, ControlFlow, EvalStep, Steps, TupleIndex};
 use isle_types::VariantId;
 use std::alloc::{AllocError, Global};
@@ -120,6 +119,54 @@ fn walks_reach_each_test_on_their_way(rt: HostRuntime) -> Result<(), Fail> {
         walked(rt.alloc(), text, Passed::These(&negative))?,
     ];
     assert_eq!(rt; reached, [(3, Some(0)), (3, Some(1)), (1, None)]);
+    Ok(())
+}
+
+/// How many steps a block begins with.
+fn listed(block: &Block) -> usize {
+    let mut listed: usize = 0;
+    for _ in block.steps() {
+        listed = listed.saturating_add(1);
+    }
+    listed
+}
+
+/// A match, and behind it the return of the second rule.
+#[test]
+fn steps_are_listed(rt: HostRuntime) -> Result<(), Fail> {
+    let text = "(decl f (u8) u8) (rule 1 (f 1) 7) (rule (f x) x)";
+    let blocks = blocks_of(rt.alloc(), text)?;
+    let block = blocks.first().ok_or("a block")?;
+    assert_eq!(rt; listed(block), 2);
+    Ok(())
+}
+
+/// A text in which `«3×ab»` stands for `ababab`.
+fn written_out(alloc: Global, text: &str) -> Result<String, Fail> {
+    let mut out = String::new(alloc);
+    for part in text.split('»') {
+        write_part(&mut out, part)?;
+    }
+    Ok(out)
+}
+
+/// Writes what stands before a `»`.
+fn write_part(out: &mut String, part: &str) -> Result<(), Fail> {
+    match part.split_once('«') {
+        Some((before, repeated)) => {
+            out.push_str(before)?;
+            let (times, part) = repeated.split_once('×').ok_or("a number of times")?;
+            Ok(repeat(out, times.parse().ok().ok_or("a number")?, part)?)
+        }
+        None => Ok(out.push_str(part)?),
+    }
+}
+
+/// Adds a part so many times.
+fn repeat(out: &mut String, times: usize, part: &str) -> Result<(), AllocError> {
+    for _ in 0..times {
+        out.push_str(part)?;
+    }
     Ok(())
 }
 

@@ -1,4 +1,4 @@
-//! The spellings of trees, and S-expressions laid out at widths.
+//! What is printed of trees, of a text and of an S-expression.
 use isle_layout::format::format;
 use isle_layout::printer::print_node;
 use isle_layout::sexpr::{BoxedSExpr, SExpr, SExprs};
@@ -9,167 +9,8 @@ use isle_syntax::{Refusal, Text};
 use std::alloc::{AllocError, Global};
 use std::test::Fail;
 
-// Texts behind a width that is large enough, and what they print as: among them each word of a kept definition.
-pub const SPELLINGS: &str = "
-| 99 (attr a) → (attr a)
-| 99 (spec a) → (spec a)
-| 99 (macro a) → (macro a)
-| 99 (model a) → (model a)
-| 99 (state a) → (state a)
-| 99 (form a) → (form a)
-| 99 (instantiate a) → (instantiate a)
-| 1000000 (type Imm (primitive u64))
-(type Pair nodebug extern (struct (a u8) (b u8)))
-(type Op (enum Nop (Add (a u8) (b u8)) (Neg u8) (None)))
-(decl pure multi partial rec small (u64 Pair) u8)
-(extern constructor small to_small)
-(extern extractor infallible small of_small)
-(extern extractor big of_big)
-(extern const $LIMIT u64)
-(extractor (two x) (Op.Add x 0x10))
-(rule named -2 (simp x @ y @ (and _ $LIMIT) true -1_0) (if-let 0 n) (if (m)) (let ((m u8 n) (k u8 m)) (simp m)))
-(rule (f) 0xffff_ffff_ffff_ffff_ffff_ffff_ffff_ffff)
-(convert u8 u64 widen)
-(attr simp (veri @ chain) () -5 170141183460469231731687303715884105728) → (type Imm (primitive u64))
-(type Pair extern nodebug (struct (a u8) (b u8)))
-(type Op (enum Nop (Add (a u8) (b u8)) (Neg u8) None))
-(decl pure multi partial rec small (u64 Pair) u8)
-(extern constructor small to_small)
-(extern extractor infallible small of_small)
-(extern extractor big of_big)
-(extern const $LIMIT u64)
-(extractor (two x) (Op.Add x 16))
-(rule named -2 (simp x @ y @ (and _ $LIMIT) true -10) (if-let 0 n) (if-let _ (m)) (let ((m u8 n) (k u8 m)) (simp m)))
-(rule (f) 340282366920938463463374607431768211455)
-(convert u8 u64 widen)
-(attr simp (veri @ chain) () -5 170141183460469231731687303715884105728)";
-
-// Texts behind a width, and how they are laid out at it.
-pub const LAYOUTS: &str = "
-| 1000000 (rule (simp (Op.Add x 0)) x) → (rule (simp (Op.Add x 0)) x)
-| 28 (rule (simp (Op.Add x 0)) x) → (rule (simp (Op.Add x 0)) x)
-| 27 (rule (simp (Op.Add x 0)) x) → (rule
-    (simp (Op.Add x 0))
-    x
-)
-| 20 (rule (simp (Op.Add x 0)) x) → (rule
-    (simp (Op.Add x 0))
-    x
-)
-| 19 (rule (simp (Op.Add x 0)) x) → (rule
-    (simp (Op.Add x 0))
-    x
-)
-| 18 (rule (simp (Op.Add x 0)) x) → (rule
-    (simp
-        (Op.Add x 0)
-    )
-    x
-)
-| 12 (rule (simp (Op.Add x 0)) x) → (rule
-    (simp
-        (Op.Add x 0)
-    )
-    x
-)
-| 11 (rule (simp (Op.Add x 0)) x) → (rule
-    (simp
-        (Op.Add
-            x
-            0
-        )
-    )
-    x
-)
-| 0 (rule (simp (Op.Add x 0)) x) → (rule
-    (simp
-        (Op.Add
-            x
-            0
-        )
-    )
-    x
-)
-| 16 (decl foo (A) B) → (decl foo (A) B)
-| 5 (decl foo (A) B) → (decl
-    foo
-    (A)
-    B
-)
-| 0 (decl foo (A) B) → (decl
-    foo
-    (A)
-    B
-)
-| 5 (attr ((decl foo (A) B))) → (attr
-    ((decl foo (A) B))
-)
-| 0 (attr ((decl foo (A) B))) → (attr
-    ((decl foo (A) B))
-)
-| 0 (attr foo ()) → (attr
-    foo
-    ()
-)
-| 9 (extractor (e) x @ (and a b)) → (extractor
-    (e)
-    x @ (and a b)
-)
-| 3 (extractor (e) x @ (and a b)) → (extractor
-    (e)
-    x @ (and
-        a
-        b
-    )
-)
-| 3 (extractor (e) yes @ x @ (and a b)) → (extractor
-    (e)
-    yes @ x @ (and
-        a
-        b
-    )
-)
-| 25 (rule (f yes @ x @ (and a b) _) 0) → (rule
-    (f yes @ x @ (and a b) _)
-    0
-)
-| 24 (rule (f yes @ x @ (and a b) _) 0) → (rule
-    (f
-        yes @ x @ (and a b)
-        _
-    )
-    0
-)
-| 8 (rule (f yes @ x @ (and a b) _) 0) → (rule
-    (f
-        yes @ x @ (and
-            a
-            b
-        )
-        _
-    )
-    0
-)
-| 7 (attr (né dé)) → (attr
-    (né dé)
-)
-| 6 (attr (né dé)) → (attr
-    (né
-        dé
-    )
-)";
-
-/// What a text behind a width prints as.
-pub fn laid_out(alloc: Global, row: &str) -> Result<String, Fail> {
-    let (width, text) = row.split_once(' ').ok_or("a width")?;
-    match format(alloc, 0, text, width.parse().ok().ok_or("a number")?) {
-        Ok(printed) => Ok(printed),
-        Err(_refusal) => Err(Fail::from("a spelt text")),
-    }
-}
-
 /// What prints of a tree on one line, or that it is refused.
-pub fn shown<T: ToSExpr>(alloc: Global, tree: &T) -> Result<String, Fail> {
+fn shown<T: ToSExpr>(alloc: Global, tree: &T) -> Result<String, Fail> {
     match print_node(alloc, tree, 1_000_000) {
         Ok(text) => Ok(text),
         Err(Refusal::Fault(fault)) => Ok(fault.to_string(alloc)?),
@@ -205,6 +46,14 @@ fn shown_item(alloc: Global, item: KeptItem) -> Result<String, Fail> {
     shown(alloc, &item)
 }
 
+/// What a text prints as.
+fn formatted(alloc: Global, text: &str) -> Result<String, Fail> {
+    match format(alloc, 0, text, 80) {
+        Ok(printed) => Ok(printed),
+        Err(_refusal) => Err(Fail::from("a spelt text")),
+    }
+}
+
 /// The S-expression `x @ (f)`, printed.
 fn binding(alloc: Global) -> Result<String, AllocError> {
     let list = SExprs::new(vec![in alloc; SExpr::Atom(Text::from_str(alloc, "f")?)]?);
@@ -212,8 +61,9 @@ fn binding(alloc: Global) -> Result<String, AllocError> {
     SExpr::Binding(Text::from_str(alloc, "x")?, below).print(alloc, 0)
 }
 
-/// Parts of definitions, by their names.
+/// A text and parts of definitions, by their names.
 pub const PARTS: &str = "
+| text → (rule (f x) (if-let _ (g x)) -5)
 | binding → x @ (f)
 | name → Op
 | item → @
@@ -224,6 +74,7 @@ pub const PARTS: &str = "
 pub fn part(alloc: Global, name: &str) -> Result<String, Fail> {
     let pos = Pos::default();
     match name {
+        "text" => formatted(alloc, "(rule (f x) (if (g x)) -0x5) ; a comment"),
         "binding" => Ok(binding(alloc)?),
         "name" => shown_name(alloc, "Op"),
         "item" => shown_item(alloc, KeptItem::At { pos }),

@@ -1,11 +1,11 @@
 //! What is printed of errors.
 ghost use Rattle.std.specs.Prelude.{◌≡◌, ◌<◌, All, IfOk, length};
-ghost use Rattle.isle_syntax.specs.Errors.{ErrorAt};
+ghost use Rattle.isle_ast.specs.Errors.{ErrorAt};
 
+use isle_syntax::Text;
 use isle_syntax::error::{Error, Errors, ErrorsBuilder, Span};
 use isle_syntax::files::{Files, LineMap};
 use isle_syntax::lexer::Pos;
-use isle_syntax::{Seq, Text};
 use std::alloc::{AllocError, Global};
 use std::rc::Rc;
 use std::test::Fail;
@@ -35,41 +35,6 @@ fn span(file: usize, offset: usize) -> Span
     Span::new_single(Pos::new(file, offset))
 }
 
-// Overlapping rules.
-fn overlap(alloc: Global) -> Result<Error, AllocError>
-    ensures { IfOk result (ErrorAt (λ pos. (pos.file < 2) × (pos.offset < 1000))) }
-{
-    let mut rules = Vec::new(alloc);
-    rules.push(span(0, 28))?;
-    rules.push(span(0, 13))?;
-    Ok(Error::OverlapError {
-        msg: Text::empty(alloc),
-        rules: Seq::new(rules),
-    })
-}
-
-// A rule that overlaps with no other.
-fn alone(alloc: Global) -> Result<Error, AllocError>
-    ensures { IfOk result (ErrorAt (λ pos. (pos.file < 2) × (pos.offset < 1000))) }
-{
-    let mut rules = Vec::new(alloc);
-    rules.push(span(0, 0))?;
-    Ok(Error::OverlapError {
-        msg: Text::empty(alloc),
-        rules: Seq::new(rules),
-    })
-}
-
-// A rule that masks no other.
-fn shadowing(alloc: Global) -> Error
-    ensures { ErrorAt (λ pos. (pos.file < 2) × (pos.offset < 1000)) result }
-{
-    Error::ShadowedError {
-        shadowed: Seq::new(Vec::new(alloc)),
-        mask: span(0, 0),
-    }
-}
-
 // A type error of the second file.
 fn typing(alloc: Global) -> Result<Error, AllocError>
     ensures { IfOk result (ErrorAt (λ pos. (pos.file < 2) × (pos.offset < 1000))) }
@@ -80,8 +45,8 @@ fn typing(alloc: Global) -> Result<Error, AllocError>
     })
 }
 
-// An error of each kind but for the type error.
-fn one_of_each_kind(alloc: Global) -> Result<Vec<Error>, AllocError>
+// Other errors, each with its message.
+fn others(alloc: Global) -> Result<Vec<Error>, AllocError>
     ensures { IfOk result (λ errors. All (ErrorAt (λ pos. (pos.file < 2) × (pos.offset < 1000))) errors.items) }
 {
     let mut errors = Vec::new(alloc);
@@ -93,9 +58,6 @@ fn one_of_each_kind(alloc: Global) -> Result<Vec<Error>, AllocError>
         msg: Text::from_str(alloc, "u")?,
         span: span(0, 0),
     })?;
-    errors.push(overlap(alloc)?)?;
-    errors.push(alone(alloc)?)?;
-    errors.push(shadowing(alloc))?;
     errors.push(Error::SizeError {
         msg: Text::from_str(alloc, "s")?,
         span: span(0, 0),
@@ -106,7 +68,7 @@ fn one_of_each_kind(alloc: Global) -> Result<Vec<Error>, AllocError>
 /// The text of these errors, the type error first.
 fn report(alloc: Global) -> Result<String, Fail> {
     let builder = ErrorsBuilder::new(alloc)?.error(typing(alloc)?)?;
-    let builder = builder.errors(one_of_each_kind(alloc)?)?;
+    let builder = builder.errors(others(alloc)?)?;
     Ok(builder.files(two_files(alloc)?).build().to_string(alloc)?)
 }
 
@@ -116,10 +78,6 @@ a.isle:1:1: parse error
   p
 a.isle:1:1: unreachable rule
   u
-a.isle:4:7: overlapping rules
-  a.isle:3:7
-a.isle:1:1: overlapping rules
-a.isle:1:1: shadowing rule
 a.isle:1:1: too large
   s
 ";
@@ -140,7 +98,7 @@ fn is_mapped(alloc: Global) -> Result<bool, AllocError> {
 }
 
 #[test]
-fn each_kind_has_its_words(rt: HostRuntime) -> Result<(), Fail> {
+fn errors_are_printed(rt: HostRuntime) -> Result<(), Fail> {
     assert_eq!(rt; report(rt.alloc())?.as_str(), REPORT);
     assert!(rt; is_mapped(rt.alloc())?);
     Ok(())

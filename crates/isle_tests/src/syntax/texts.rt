@@ -1,6 +1,6 @@
 //! The definitions of texts.
 use isle_syntax::Refusal;
-use isle_syntax::ast::{Def, Extractor, Rule};
+use isle_syntax::ast::{Def, Rule};
 use isle_syntax::error::Error;
 use isle_syntax::lexer::Lexer;
 use isle_syntax::parser::{parse, parse_without_pos};
@@ -9,11 +9,6 @@ use std::test::Fail;
 
 /// What reading a text gives.
 pub type Reading = Result<Vec<Def>, Refusal<Error>>;
-
-/// The reading of a text with positions.
-pub fn read(alloc: Global, text: &str) -> Reading {
-    parse(Lexer::new(alloc, 0, text))
-}
 
 /// The reading of a text without positions.
 pub fn read_without_pos(alloc: Global, text: &str) -> Reading {
@@ -30,7 +25,7 @@ pub fn definitions(reading: Reading) -> Result<Vec<Def>, Fail> {
 
 /// The definitions of a text.
 pub fn placed(alloc: Global, text: &str) -> Result<Vec<Def>, Fail> {
-    definitions(read(alloc, text))
+    definitions(parse(Lexer::new(alloc, 0, text)))
 }
 
 /// The rule that definitions begin with.
@@ -38,13 +33,5 @@ pub fn first_rule(defs: &[Def]) -> Result<&Rule, Fail> {
     match defs.first() {
         Some(Def::Rule(rule)) => Ok(rule),
         _ => Err(Fail::from("a rule")),
-    }
-}
-
-/// An internal extractor.
-pub fn extractor(def: Option<&Def>) -> Result<&Extractor, Fail> {
-    match def {
-        Some(Def::Extractor(extractor)) => Ok(extractor),
-        _ => Err(Fail::from("an extractor")),
     }
 }

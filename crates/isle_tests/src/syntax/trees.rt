@@ -1,9 +1,8 @@
 //! Trees of texts, and their calls.
-use crate::layout::spellings::shown;
-use crate::syntax::texts::{definitions, extractor, first_rule, placed, read_without_pos};
+use crate::syntax::texts::{definitions, first_rule, placed, read_without_pos};
 use isle_syntax::Text;
 use isle_syntax::ast::{
-    BoxedPattern, Def, Expr, Extractor, Ident, KeptItem, Pattern, Rule, TypeValue, Variant,
+    BoxedPattern, Def, Expr, Ident, KeptItem, Pattern, Rule, TypeValue, Variant,
 };
 use isle_syntax::lexer::Pos;
 use std::alloc::{AllocError, Global};
@@ -123,12 +122,6 @@ pub fn told(alloc: Global, text: &str) -> Result<String, Fail> {
     Ok(told_of(alloc, defs.first())?)
 }
 
-// Two extractors: the template of the first, of its arguments, and this template filled with what the second calls.
-pub const TEMPLATES: &str = "
-| (extractor (e x) (and x @ _ (g x y) x @ 2)) (extractor (a) (f 1)) → (and 1 (g 1 y) x @ 2)
-| (extractor (e) (g x)) (extractor (a) (f 1)) → (g x)
-| (extractor (e x y) (g y)) (extractor (a) (f 1)) → none";
-
 /// A pattern's template of arguments of these names, filled with patterns. `None` also where the pattern or its template
 /// has numbered arguments that it shouldn't, or the template none that it should.
 fn filled(
@@ -145,35 +138,6 @@ fn filled(
         return Ok(None);
     }
     template.subst_macro_args(alloc, arguments)
-}
-
-/// The template of an extractor, filled with what the template of another one calls.
-fn filled_with(
-    alloc: Global,
-    e: &Extractor,
-    other: &Extractor,
-) -> Result<Option<Pattern>, AllocError> {
-    match &other.template {
-        Pattern::Term { args, .. } => {
-            filled(alloc, e.args.as_slice(), &e.template, args.as_slice())
-        }
-        _ => Ok(None),
-    }
-}
-
-fn shown_or_none(alloc: Global, pattern: Option<Pattern>) -> Result<String, Fail> {
-    match pattern {
-        Some(pattern) => shown(alloc, &pattern),
-        None => Ok(String::from_str(alloc, "none")?),
-    }
-}
-
-/// What the template of a text's first extractor is, filled with what the second one calls.
-pub fn shown_filled(alloc: Global, text: &str) -> Result<String, Fail> {
-    let defs = placed(alloc, text)?;
-    let first = extractor(defs.first())?;
-    let filled = filled_with(alloc, first, extractor(defs.last())?)?;
-    shown_or_none(alloc, filled)
 }
 
 /// A name bound to a pattern.

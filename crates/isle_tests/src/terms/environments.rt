@@ -1,7 +1,7 @@
 //! What environments of terms tell by name, and what their copies do.
 use super::recorder::copied;
+use isle_rules::{Rule, TermEnv};
 use isle_syntax::files::Files;
-use isle_terms::{Rule, TermEnv};
 use isle_types::{TermId, TypeEnv, TypeId};
 use std::alloc::{AllocError, Global};
 

@@ -1,7 +1,7 @@
 //! A visitor that writes down each call, a line each, and answers `Size` at one of them.
 ghost use Rattle.std.specs.Prelude.{◌≡◌, IfOk};
 
-use isle_terms::{
+use isle_rules::{
     ExprPart, ExprVisitor, PatternPart, PatternVisitor, RuleVisitor, VisitFault, VisitedExpr,
 };
 use isle_types::{Sym, TermId, TypeId, VarId, VariantId};
@@ -133,8 +133,8 @@ impl Recorder {
 }
 
 impl PatternVisitor for Recorder {
-    ghost use Rattle.isle_terms.specs.Visits.VisitorCalls.{extract_outputs};
-    ghost use Rattle.isle_terms.specs.Visits.Runs.{listed};
+    ghost use Rattle.isle_rules.specs.Visits.VisitorCalls.{extract_outputs};
+    ghost use Rattle.isle_rules.specs.Visits.Runs.{listed};
     ghost use Rattle.isle_tests.specs.Recorders.{any_answer};
 
     type PatternId = usize;
@@ -208,7 +208,7 @@ impl PatternVisitor for Recorder {
 }
 
 impl ExprVisitor for Recorder {
-    ghost use Rattle.isle_terms.specs.Visits.VisitorCalls.{create_variant, create_struct, construct};
+    ghost use Rattle.isle_rules.specs.Visits.VisitorCalls.{create_variant, create_struct, construct};
     ghost use Rattle.isle_tests.specs.Recorders.{any_answer};
 
     type ExprId = usize;
@@ -274,11 +274,11 @@ impl ExprVisitor for Recorder {
 }
 
 impl RuleVisitor for Recorder {
-    ghost use Rattle.isle_terms.specs.Visits.VisitScopes.{scope_of, scope_left};
-    ghost use Rattle.isle_terms.specs.Visits.InternedTrees.{pattern_of};
-    ghost use Rattle.isle_terms.specs.Visits.Events.{visits};
-    ghost use Rattle.isle_terms.specs.Visits.RuleSteps.{in_pattern, in_expr};
-    ghost use Rattle.isle_terms.specs.Visits.RuleEvents.{visits_typed};
+    ghost use Rattle.isle_rules.specs.Visits.VisitScopes.{scope_of, scope_left};
+    ghost use Rattle.isle_rules.specs.Visits.InternedTrees.{pattern_of};
+    ghost use Rattle.isle_rules.specs.Visits.Events.{visits};
+    ghost use Rattle.isle_rules.specs.Visits.RuleSteps.{in_pattern, in_expr};
+    ghost use Rattle.isle_rules.specs.Visits.RuleEvents.{visits_typed};
     ghost use Rattle.isle_tests.specs.Recorders.{any_answer, itself};
 
     type PatternVisitor = Recorder;

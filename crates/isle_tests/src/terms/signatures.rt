@@ -1,5 +1,5 @@
 //! The functions of the host that stand for terms.
-use isle_terms::{ExternalSig, Term, TermEnv, TermFlags};
+use isle_rules::{ExternalSig, Term, TermEnv, TermFlags};
 use isle_types::{TermId, TypeEnv, TypeId};
 use std::alloc::{AllocError, Global};
 

@@ -5,7 +5,7 @@ ghost use Rattle.isle_blocks.specs.DefinedSets.{AreDefined};
 use super::recorder::{Recorder, value_of_copy};
 use isle_syntax::lexer::Lexer;
 use isle_syntax::parser::parse;
-use isle_terms::{Rule, TermEnv, VisitFault, VisitedExpr};
+use isle_terms::{FromAst, Rule, TermEnv, VisitFault, VisitedExpr};
 use isle_types::{Sym, TypeEnv, TypeId};
 use std::alloc::{AllocError, Global};
 

@@ -8,8 +8,6 @@ use isle_types::{Fields, Type, TypeEnv, TypeId, Variant, VariantId};
 use std::alloc::{AllocError, Global};
 use std::test::Fail;
 
-type Answer = Result<TypeEnv, Refusal<Vec<Error>>>;
-
 /// The definitions of texts with `&` between them, each the text of a file.
 fn definitions(alloc: Global, texts: &str) -> Result<Vec<Def>, Refusal<Error>> {
     let mut all = Vec::new(alloc);
@@ -20,69 +18,12 @@ fn definitions(alloc: Global, texts: &str) -> Result<Vec<Def>, Refusal<Error>> {
     Ok(all)
 }
 
-/// The environment of texts.
-fn environment(alloc: Global, texts: &str) -> Answer {
-    match definitions(alloc, texts) {
-        Ok(defs) => TypeEnv::from_ast(alloc, defs.as_slice()),
-        Err(Refusal::Fault(_fault)) => Err(Refusal::Fault(Vec::new(alloc))),
-        Err(Refusal::Memory(e)) => Err(Refusal::Memory(e)),
-    }
-}
-
-/// `accepted`, or the kind and place of the first fault.
-fn verdict(alloc: Global, answer: &Answer) -> Result<String, AllocError> {
-    match answer {
-        Ok(_) => String::from_str(alloc, "accepted"),
-        Err(Refusal::Fault(errors)) => place(alloc, errors.first()),
-        Err(Refusal::Memory(_)) => Err(AllocError),
-    }
-}
-
-fn place(alloc: Global, error: Option<&Error>) -> Result<String, AllocError> {
-    match error {
-        Some(Error::TypeError { span, .. }) => {
-            format!(in alloc; "type error at {} of {}", span.from.offset, span.from.file)
-        }
-        Some(Error::SizeError { span, .. }) => {
-            format!(in alloc; "too large at {} of {}", span.from.offset, span.from.file)
-        }
-        _ => String::from_str(alloc, "another fault"),
-    }
-}
-
-// Rules that are broken, and then rules that are kept.
-pub const VERDICTS: &str = "
-| (type u8 (primitive u8)) → type error at 6 of 0
-| (type A nodebug (primitive A)) → type error at 6 of 0
-| (type A extern (primitive A)) → type error at 6 of 0
-| (type A extern nodebug (struct)) → type error at 6 of 0
-| (type A nodebug extern (enum B)) → type error at 6 of 0
-| (type A (enum B (B))) → type error at 16 of 0
-| (type A (struct (f u8) (f u8))) → type error at 23 of 0
-| (type A (struct B)) → type error at 16 of 0
-| (type A (enum (B (f C)))) → type error at 20 of 0
-| (extern const $X B) → type error at 17 of 0
-| (type A (struct)) (type A (struct)) → type error at 24 of 0
-| (type A (struct B)) & (type B (struct C)) → type error at 16 of 1
-| (type A (enum (B«256× u8»))) → too large at 6 of 0
-| (type A (enum (B«255× u8»))) → accepted
-|  → accepted
-| (type A (struct B)) (type B (primitive B)) → accepted
-| (extern const $X A) (type A (enum B)) → accepted
-| (type A extern (enum B)) (type B nodebug (struct)) → accepted
-| (type A nodebug (enum B)) (type B extern (struct)) → accepted
-| (decl f (C) C) (rule (f x) x) → accepted
-| (type A (struct B)) & (type B (struct A)) → accepted";
-
-/// The verdict of texts.
-pub fn judged(alloc: Global, texts: &str) -> Result<String, Fail> {
-    let answer = environment(alloc, texts);
-    Ok(verdict(alloc, &answer)?)
-}
-
 /// The environment of texts that keep the rules.
 fn accepted(alloc: Global, texts: &str) -> Result<TypeEnv, Fail> {
-    match environment(alloc, texts) {
+    let Ok(defs) = definitions(alloc, texts) else {
+        return Err(Fail::from("spelt texts"));
+    };
+    match TypeEnv::from_ast(alloc, defs.as_slice()) {
         Ok(env) => Ok(env),
         Err(_refusal) => Err(Fail::from("texts that keep the rules")),
     }

@@ -15,21 +15,6 @@ use Rattle.isle_trees.proofs.Building.Lists.{less_or, elem_left, elem_right, pla
 pub parts_none : {C V : Type 0} (R : Rules C V) → ArePartsFirst R []
 parts_none R j p l m = absurd (omega arith)
 
-pub parts_push : {C V : Type 0} (R : Rules C V) (list : List ℕ) (s : ℕ) → ArePartsFirst R list → ((p : ℕ) → Elem p (R.parts s) → Elem p list)
-    → ArePartsFirst R (list ++ s ∷ [])
-parts_push R list s f h j p l m = elim (less_or j (length list)) [
-  | inl a ↦
-      let e : get_or (list ++ s ∷ []) j 0 ≡ get_or list j 0 = get_or_append_left list (s ∷ []) 0 j a in
-      let P : ℕ → Type 0 = λ x. Elem p (R.parts x) in
-      rw (take-append-le j list (s ∷ []) (omega arith)) (f j p a (subst P e m))
-  | inr a ↦
-      let k : length (list ++ s ∷ []) ≡ length list + 1 = simp length-append in
-      let q : length list ≡ j = omega arith in
-      let e : get_or (list ++ s ∷ []) j 0 ≡ s = get_or_at list s [] 0 j q in
-      let P : ℕ → Type 0 = λ x. Elem p (R.parts x) in
-      rw (take_at list (s ∷ []) j q) (h p (subst P e m))
-]
-
 pub part_listed : {C V : Type 0} (R : Rules C V) (list : List ℕ) (s p : ℕ) → ArePartsFirst R list → Elem s list → Elem p (R.parts s) → Elem p list
 part_listed R list s p f m q =
     let at = place_of s 0 list m in
@@ -57,15 +42,6 @@ pub nothing_asked : {C V : Type 0} (R : Rules C V) (n i : ℕ) (list : List ℕ)
 nothing_asked R n i list e h =
     let P : List ℕ → Type 0 = λ l. IsAskedBy R n i l in
     subst P (sym e) (record { below = λ x m. absurd m; first = parts_none R; full = λ s a. absurd (never_asked R i h s a) })
-
--- one rule more
-pub asked_more : {C V : Type 0} (R : Rules C V) (n i : ℕ) (old new : ℕ → List ℕ) → ((j : ℕ) → j < i → new j ≡ old j) → IsAskedBy R n i (new i)
-    → ((j : ℕ) → j < i → IsAskedBy R n j (old j))
-    → (j : ℕ) → j < i + 1 → IsAskedBy R n j (new j)
-asked_more R n i old new keep h all j m = elim (less_or j i) [
-  | inl k ↦ let P : List ℕ → Type 0 = λ l. IsAskedBy R n j l in subst P (sym (keep j k)) (all j k)
-  | inr k ↦ let q : i ≡ j = omega arith in let P : ℕ → Type 0 = λ x. IsAskedBy R n x (new x) in subst P q h
-]
 
 -- lists of what tests make
 made_here : {C V : Type 0} (R : Rules C V) (x s : ℕ) (list : List ℕ) → AreMadeBelow R x s list → AreMadeBelow R (x + 1) s (list ++ x ∷ [])
@@ -132,15 +108,6 @@ index_of R n asked made users a m u b = record {
   used = u;
 }
 
--- rules that have no test, from a number on, ask nothing
-pub asked_all : {C V : Type 0} (R : Rules C V) (n rules k : ℕ) (asked : ℕ → List ℕ) → ((i s : ℕ) → rules ≤ i → IsTestedSite R i s → ⊥) → rules ≤ k
-    → ((i : ℕ) → rules ≤ i → asked i ≡ [])
-    → ((j : ℕ) → j < k → IsAskedBy R n j (asked j)) → (i : ℕ) → IsAskedBy R n i (asked i)
-asked_all R n rules k asked none l empty h i = elim (less_or i k) [
-  | inl m ↦ h i m
-  | inr m ↦ nothing_asked R n i (asked i) (empty i (omega arith)) (λ s t. none i s (omega arith) t)
-]
-
 -- the sites of a rule's tests
 pub has_tested : {C V : Type 0} (R : Rules C V) (i : ℕ) (t : Test) → has_test R i t ≡ true → IsTestedSite R i (first_of t)
 has_tested R i (on_match s) e = let k = test_of (R.at i s) e in IsTestedSite.wanted s (has (k.0)) (k.1)
@@ -151,7 +118,3 @@ pub tested_below : {C V : Type 0} (R : Rules C V) (n i s : ℕ) → AreAllWithin
 tested_below R n i _ w (IsTestedSite.wanted s (has c) e) = w i (on_match s) (rw e refl)
 tested_below R n i _ w (IsTestedSite.wanted s one_value e) = w i (on_loop s) (rw e refl)
 tested_below R n i _ w (IsTestedSite.joined a b e) = (w i (on_equal a b) e).0
-
--- where each rule is listed at the sites of its tests
-pub users_of : {C V : Type 0} (R : Rules C V) (users : ℕ → List ℕ) → ((i s : ℕ) → IsTestedSite R i s → Elem i (users s)) → HasUsers R users
-users_of R users h i t e = h i (first_of t) (has_tested R i t e)

@@ -45,7 +45,8 @@ is_above_most a b e =
 
 pub at_most_trans : (a b c : Key) → IsAtMost a b → IsAtMost b c → IsAtMost a c
 at_most_trans a b c p q =
-    lex_trans a.count b.count c.count _ _ _ p q (λ p q. lex_trans a.state b.state c.state _ _ _ p q (λ p q. lex_trans a.kind b.kind c.kind _ _ _ p q (λ p q.
+    lex_trans a.count b.count c.count _ _ _ p q (λ p q. lex_trans a.state b.state c.state _ _ _ p q
+    (λ p q. lex_trans a.kind b.kind c.kind _ _ _ p q (λ p q.
     lex_trans c.first b.first a.first _ _ _ q p (λ (x : c.second ≤ b.second) (y : b.second ≤ a.second). omega arith))))
 
 pub at_most_self : (a : Key) → IsAtMost a a
@@ -56,10 +57,6 @@ none_least a b e l = inl (omega arith)
 
 abbrev pub HasCount : Key → Type 0
 HasCount k = 0 < k.count
-
-most_count : (a b : Key) → IsAtMost a b → 0 < a.count → 0 < b.count
-most_count a b (inl l) h = omega arith
-most_count a b (inr l) h = let e : a.count ≡ b.count = l.0 in omega arith
 
 -- what the better one is
 pub better_old : {C V : Type 0} (R : Rules C V) (left : List ℕ) (sc : Scope C) (best : Option Ranked) (new : Ranked) (u : Test)
@@ -84,18 +81,6 @@ better_new R left sc None new k = elim (true_or (nat_lt 0 new.key.count)) [
 better_new R left sc (Some old) new k = elim (true_or (above new.key old.key)) [
   | inl e ↦ rw e (rw (sym k) (at_most_self new.key))
   | inr e ↦ rw e (rw (sym k) (not_above new.key old.key e))
-]
-
-pub better_ranked : {C V : Type 0} (R : Rules C V) (left : List ℕ) (sc : Scope C) (best : Option Ranked) (new : Ranked)
-    → new.key ≡ key R left sc new.test → IsReady R sc new.test
-    → IsRanked R left sc best → IsRanked R left sc (better best new)
-better_ranked R left sc None new k r h = elim (true_or (nat_lt 0 new.key.count)) [
-  | inl e ↦ rw e (r, k, ltb-true _ _ e)
-  | inr e ↦ rw e tt
-]
-better_ranked R left sc (Some old) new k r h = elim (true_or (above new.key old.key)) [
-  | inl e ↦ rw e (r, k, let l : IsAtMost old.key new.key = is_above_most new.key old.key e in most_count _ _ l (h.2))
-  | inr e ↦ rw e h
 ]
 
 pub key_count : {C V : Type 0} (R : Rules C V) (left : List ℕ) (sc : Scope C) (t : Test) → (key R left sc t).count ≡ length (counted R t left)

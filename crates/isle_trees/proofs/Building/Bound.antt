@@ -27,7 +27,8 @@ pub passed_over : {C V : Type 0} (R : Rules C V) (left : List ℕ) (sc : Scope C
 passed_over R left sc None t n l e = cc
 passed_over R left sc (Some old) t n l e =
     let P : Key → Type 0 = λ k. IsAtMost k old.key in
-    subst P (key_is R left sc t) (at_most_trans (key_with sc (length (counted R t left)) t) (key_with sc n t) old.key (fewer_most sc (length (counted R t left)) n t l) (not_above (key_with sc n t) old.key e))
+    subst P (key_is R left sc t) (at_most_trans (key_with sc (length (counted R t left)) t) (key_with sc n t) old.key
+    (fewer_most sc (length (counted R t left)) n t l) (not_above (key_with sc n t) old.key e))
 
 -- different numbers that are all in a list are no more than it has
 drop_one : ℕ → List ℕ → List ℕ
@@ -69,7 +70,8 @@ distinct_short (x ∷ xs) ys d h =
 pub counted_short : {C V : Type 0} (R : Rules C V) (left users : List ℕ) (t : Test) → IsInOrder R left
     → ((i : ℕ) → has_test R i t ≡ true → Elem i users) → length (counted R t left) ≤ length users
 counted_short R left users t o h =
-    distinct_short (counted R t left) users (in_order_distinct R (counted R t left) (filter_in_order R (counts R t left) left o)) (λ i m. h i ((counted_has R t left i m).1))
+    distinct_short (counted R t left) users (in_order_distinct R (counted R t left) (filter_in_order R (counts R t left) left o))
+    (λ i m. h i ((counted_has R t left i m).1))
 
 -- lists of users
 pub added_kept : (old new : List ℕ) (at x s y : ℕ) → new ≡ added_at old at x s → Elem y old → Elem y new
@@ -109,8 +111,3 @@ users_all R n k users none l h i t e = elim (less_or i k) [
   | inl m ↦ h i t m e
   | inr m ↦ absurd (none i t (omega arith) e)
 ]
-
--- a test counts no more rules than are listed at its site
-pub users_count : {C V : Type 0} (R : Rules C V) (left : List ℕ) (users : ℕ → List ℕ) (t : Test) → IsInOrder R left → HasUsers R users
-    → length (counted R t left) ≤ length (users (first_of t))
-users_count R left users t o h = counted_short R left (users (first_of t)) t o (λ i e. h i t e)

@@ -30,47 +30,6 @@ part_below R xs n _ low b (IsPartOf.of_part s p h m) =
 pub own_filter : {C V : Type 0} (R : Rules C V) (s : ℕ) → filter R.stands (s ∷ []) ≡ own R s
 own_filter R s = elim (true_or (R.stands s)) [ inl e ↦ rw e refl | inr e ↦ rw e refl ]
 
-pub emits_none : {C V : Type 0} (R : Rules C V) (sc : Scope C) (old : List ℕ) → Emits R sc [] old old sc
-emits_none R sc old = record {
-  all = [];
-  order = tt;
-  only = λ x m. absurd m;
-  ending = refl;
-  bound = λ x m. absurd m;
-  written = sym (append-nil old);
-}
-
-pub emits_already : {C V : Type 0} (R : Rules C V) (sc : Scope C) (s : ℕ) (old : List ℕ) → sc.emitted s ≡ true → Emits R sc (s ∷ []) old old sc
-emits_already R sc s old e = record {
-  all = [];
-  order = tt;
-  only = λ x m. absurd m;
-  ending = refl;
-  written = sym (append-nil old);
-  bound = λ x m. elim m [ inl p ↦ ap sc.emitted p ∙ e | inr n ↦ absurd n ];
-}
-
-pub emits_more : {C V : Type 0} (R : Rules C V) (sc mid after : Scope C) (xs : List ℕ) (x : ℕ) (a b c : List ℕ) → Emits R sc xs a b mid
-    → Emits R mid (x ∷ []) b c after
-    → Emits R sc (xs ++ x ∷ []) a c after
-emits_more R sc mid after xs x a b c p q =
-    let P : Scope _ → Type 0 = λ s. IsOrder R s (q.all) in
-    record {
-      all = p.all ++ q.all;
-      order = order_append R sc (p.all) (q.all) (p.order) (subst P (p.ending) (q.order));
-      only = λ y m. elim (elem_append y (p.all) (q.all) m) [
-        | inl n ↦ part_more R xs (xs ++ x ∷ []) y (λ s k. elem_left s xs (x ∷ []) k) (p.only y n)
-        | inr n ↦ part_more R (x ∷ []) (xs ++ x ∷ []) y (λ s k. elem_right s xs (x ∷ []) k) (q.only y n)
-      ];
-      ending = q.ending ∙ ap (λ (s : Scope _). emit_all s (q.all)) (p.ending) ∙ sym (emit_append sc (p.all) (q.all));
-      bound = λ y m. elim (elem_append y xs (x ∷ []) m) [
-        | inl n ↦ let Q : Scope _ → Type 0 = λ s. s.emitted y ≡ true in subst Q (sym (q.ending)) (still_emitted mid (q.all) y (p.bound y n))
-        | inr n ↦ q.bound y n
-      ];
-      written = q.written ∙ ap (λ (l : List ℕ). l ++ filter R.stands (q.all)) (p.written) ∙ append_assoc a (filter R.stands (p.all)) (filter R.stands (q.all))
-          ∙ ap (λ (l : List ℕ). a ++ l) (sym (filter_append R.stands (p.all) (q.all)));
-    }
-
 other_or : (s x : ℕ) (b : Bool) → s ≢ x → b ≡ false → ((s == x) || b) ≡ false
 other_or s x b n e = elim (true_or (s == x)) [ inl y ↦ absurd (n (eqb-true s x y)) | inr f ↦ rw (f, e) refl ]
 
@@ -96,7 +55,8 @@ pub emits_one : {C V : Type 0} (R : Rules C V) (sc mid after : Scope C) (s : ℕ
     → Emits R sc parts a b mid → c ≡ b ++ own R s → after ≡ emit mid s → Emits R sc (s ∷ []) a c after
 emits_one R sc mid after s parts a b c low same e p w f =
     let P : Scope _ → Type 0 = λ x. IsOrder R x (s ∷ []) in
-    let below : (x : ℕ) → Elem x (p.all) → x < s = λ x m. part_below R parts s x low (λ y n. let Q : List ℕ → Type 0 = λ l. Elem y l in low s y (subst Q same n)) (p.only x m) in
+    let below : (x : ℕ) → Elem x (p.all) → x < s = λ x m. part_below R parts s x low (λ y n. let Q : List ℕ
+    → Type 0 = λ l. Elem y l in low s y (subst Q same n)) (p.only x m) in
     let fresh : mid.emitted s ≡ false = let Q : Scope _ → Type 0 = λ x. x.emitted s ≡ false in
     subst Q (sym (p.ending)) (not_emitted sc (p.all) s e below) in
     let last : IsOrder R mid (s ∷ []) = (fresh, (λ x m. p.bound x (let Q : List ℕ → Type 0 = λ l. Elem x l in subst Q (sym same) m)), tt) in
@@ -113,17 +73,22 @@ emits_one R sc mid after s parts a b c low same e p w f =
         | inr n ↦ absurd n
       ];
       written = w ∙ ap (λ (l : List ℕ). l ++ own R s) (p.written) ∙ append_assoc a (filter R.stands (p.all)) (own R s)
-          ∙ ap (λ (l : List ℕ). a ++ l) (ap (λ (l : List ℕ). filter R.stands (p.all) ++ l) (sym (own_filter R s)) ∙ sym (filter_append R.stands (p.all) (s ∷ [])));
+          ∙ ap (λ (l : List ℕ). a ++ l) (ap (λ (l : List ℕ). filter R.stands (p.all) ++ l) (sym (own_filter R s)) ∙ sym
+          (filter_append R.stands (p.all) (s ∷ [])));
     }
 
 pub binds_from : {C V : Type 0} (R : Rules C V) (sc after : Scope C) (sites old binds : List ℕ) → old ≡ [] → Emits R sc sites old binds after
     → Binds R sc sites binds after
 binds_from R sc after sites old binds none e =
-    record { all = e.all; order = e.order; only = e.only; ending = e.ending; bound = e.bound; written = e.written ∙ ap (λ (l : List ℕ). l ++ filter R.stands (e.all)) none }
-
--- one site, as a return binds it
-pub one_already : {C V : Type 0} (R : Rules C V) (sc : Scope C) (s : ℕ) (old : List ℕ) → sc.emitted s ≡ true → EmitsOne R sc s old old sc
-one_already R sc s old e = inl (e, refl, refl)
+    record {
+      all = e.all;
+      order = e.order;
+      only = e.only;
+      ending = e.ending;
+      bound = e.bound;
+      written =
+          e.written ∙ ap (λ (l : List ℕ). l ++ filter R.stands (e.all)) none;
+    }
 
 pub one_new : {C V : Type 0} (R : Rules C V) (sc mid after : Scope C) (s : ℕ) (parts a b c : List ℕ) → parts ≡ R.parts s → sc.emitted s ≡ false
     → Emits R sc parts a b mid → c ≡ b ++ own R s → after ≡ emit mid s → EmitsOne R sc s a c after
@@ -149,7 +114,18 @@ each_more [] R sc mid after s binds more (none, same) (inl (e, n, f)) =
 each_more [] R sc mid after s binds more (none, same) (inr (e, front, end, bs, f, w)) =
     let P : Scope _ → Type 0 = λ x. x.emitted s ≡ false in
     let Q : Scope _ → Type 0 = λ x. Binds R x (R.parts s) front end in
-    inr (subst P same e, (front, [], end, subst Q same bs, (refl, f), ap (λ (l : List ℕ). l ++ more) none ∙ w ∙ ap (λ (l : List ℕ). front ++ l) (sym (append-nil (own R s)))))
+    inr (
+      subst P same e,
+      (
+        front,
+        [],
+        end,
+        subst Q same bs,
+        (refl, f),
+        ap (λ (l : List ℕ). l ++ more) none ∙ w ∙ ap
+            (λ (l : List ℕ). front ++ l) (sym (append-nil (own R s))),
+      ),
+    )
 each_more (u ∷ us) R sc mid after s binds more (inl (e, b)) one = inl (e, each_more us R sc mid after s binds more b one)
 each_more (u ∷ us) R sc mid after s binds more (inr (e, (front, rest, m, bs, b, w))) one =
     inr (
@@ -160,7 +136,8 @@ each_more (u ∷ us) R sc mid after s binds more (inr (e, (front, rest, m, bs, b
         m,
         bs,
         each_more us R (emit m u) mid after s rest more b one,
-        ap (λ (l : List ℕ). l ++ more) w ∙ append_assoc front (own R u ++ rest) more ∙ ap (λ (l : List ℕ). front ++ l) (append_assoc (own R u) rest more),
+        ap (λ (l : List ℕ). l ++ more) w ∙ append_assoc front (own R u ++ rest) more ∙ ap (λ (l : List ℕ). front ++ l)
+            (append_assoc (own R u) rest more),
       ),
     )
 

@@ -101,15 +101,6 @@ entered {C} R s w xs old start now k all p q h =
       | inr o ↦ h.kept y (q y ∙ o)
     ]))
 
--- the same by an index
-pub entered_by : {C V : Type 0} (R : Rules C V) (n : ℕ) (asked made users : ℕ → List ℕ) (s : ℕ) (w : Want C) (i : ℕ) (old start now : Scope C)
-    → SameIs R.tests → IsIndex R n asked made users
-    → length (made s) ≤ i → IsSamePath (inside R old s w) start → ((y : ℕ) → start.emitted y ≡ old.emitted y)
-    → Entering R s w (take i (made s)) start now → now ≡ inside R old s w
-entered_by R n asked made users s w i old start now k ix l p q h =
-    let P : List ℕ → Type 0 = λ xs. Entering R s w xs start now in
-    entered R s w (made s) old start now k (λ x m e f. ix.made_from s x m e f) p q (subst P (take_all i (made s) l) h)
-
 -- paths and what is available
 pub path_bound : {C : Type 0} (sc after : Scope C) (xs : List ℕ) → after ≡ emit_all sc xs → IsSamePath sc after
 path_bound sc after xs e =
@@ -140,9 +131,6 @@ marked_path R left rest a b marks p sub h = record {
   sound = sound_path R a b marks p h.sound;
   full = λ i s m q v. h.full i s (sub i m) q (available_still R b a s (λ x k e. sym (p.passed x) ∙ e) v);
 }
-
-pub same_from : {C : Type 0} (a b : Scope C) → a ≡ b → IsSamePath b a
-same_from a b e = record { passed = λ s. ap (λ (x : Scope _). x.passed s) e; label = λ s. ap (λ (x : Scope _). x.label s) e }
 
 pub path_freed : {C : Type 0} (sc freed after : Scope C) (s : ℕ) (xs : List ℕ) → freed ≡ release sc s → after ≡ emit_all freed xs
     → IsSamePath sc after

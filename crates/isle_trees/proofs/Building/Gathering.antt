@@ -8,7 +8,8 @@ use Rattle.isle_trees.specs.Inside.Gathering.{IsGathering, Gathers, IsClosure}
 use Rattle.isle_trees.specs.Ranking.{PartsAreLower, Emits}
 use Rattle.isle_trees.specs.Rules.{Want, Rules, Elem, IsPartOf, Asked}
 use Rattle.isle_trees.specs.Scopes.{Scope, emit, emit_all}
-use Rattle.isle_trees.specs.Search.{is_marked, below, AreDistinct, ArePartsFirst, IsClean, IsSamePath, IsAskedBy}
+use Rattle.isle_trees.specs.Search.{is_marked, AreDistinct, ArePartsFirst, IsClean, IsSamePath, IsAskedBy}
+use Rattle.isle_trees.specs.Rules.{below}
 use Rattle.isle_trees.proofs.Asking.{elem_append}
 use Rattle.isle_trees.proofs.Basics.{true_or, or_right, eq_or, clash}
 use Rattle.isle_trees.proofs.Building.Bound.{distinct_short}
@@ -29,34 +30,13 @@ gathering_none marks = record {
   distinct = tt;
 }
 
-pub gathers_none : (marks : List Bool) (list : List ℕ) → Gathers [] marks marks list list
-gathers_none marks list = record {
-  more = [];
-  list = sym (append-nil list);
-  from = λ x m. absurd m;
-  bound = λ x m. absurd m;
-  kept = λ x e. e;
-  size = refl;
-  gathering = λ start g. g;
-}
-
-pub gathers_already : (s : ℕ) (marks : List Bool) (list : List ℕ) → is_marked marks s ≡ true → Gathers (s ∷ []) marks marks list list
-gathers_already s marks list e = record {
-  more = [];
-  list = sym (append-nil list);
-  from = λ x m. absurd m;
-  bound = λ x m. elim m [ inl p ↦ ap (is_marked marks) p ∙ e | inr n ↦ absurd n ];
-  kept = λ x q. q;
-  size = refl;
-  gathering = λ start g. g;
-}
-
 pub gathers_new : (s : ℕ) (marks new : List Bool) (list more : List ℕ) → s < length marks → is_marked marks s ≡ false → new ≡ set marks s true
     → more ≡ list ++ s ∷ []
     → Gathers (s ∷ []) marks new list more
 gathers_new s marks new list more l e f h =
     let here : is_marked new s ≡ true = ap (λ (m : List Bool). is_marked m s) f ∙ marked_new marks s s l refl in
-    let still : (x : ℕ) → is_marked marks x ≡ true → is_marked new x ≡ true = λ x q. ap (λ (m : List Bool). is_marked m x) f ∙ marked_kept marks s x l q in
+    let still : (x : ℕ) → is_marked marks x ≡ true → is_marked new x ≡ true = λ x q. ap (λ (m : List Bool). is_marked m x) f
+    ∙ marked_kept marks s x l q in
     let size : length new ≡ length marks = ap length f ∙ length-set marks s true in
     record {
       more = s ∷ [];
@@ -79,7 +59,8 @@ gathers_new s marks new list more l e f h =
             size = size ∙ g.size;
             either = λ x q. elim (eq_or x s) [
               | inl p ↦ inr (let Q : ℕ → Type 0 = λ y. Elem y more in subst Q (sym p) s_more)
-              | inr n ↦ elim (g.either x (marked_old marks s x n (ap (λ (m : List Bool). is_marked m x) (sym f) ∙ q))) [ inl o ↦ inl o | inr k ↦ inr (in_more x k) ]
+              | inr n ↦ elim (g.either x (marked_old marks s x n (ap (λ (m : List Bool). is_marked m x) (sym f) ∙ q)))
+                  [ inl o ↦ inl o | inr k ↦ inr (in_more x k) ]
             ];
             kept = λ x q. still x (g.kept x q);
             here = λ x m. elim (cases x m) [ inl k ↦ still x (g.here x k) | inr p ↦ ap (is_marked new) p ∙ here ];
@@ -104,7 +85,8 @@ gathers_more xs x m0 m1 m2 l0 l1 l2 g h = record {
 -- there are no more than sites
 pub gathering_short : (start marks : List Bool) (list : List ℕ) → IsGathering start marks list → length list ≤ length start
 gathering_short start marks list g =
-    let l : length list ≤ length (below (length start)) = distinct_short list (below (length start)) g.distinct (λ x m. elem_below x (length start) (g.below x m)) in
+    let l : length list ≤ length (below (length start)) = distinct_short list (below (length start)) g.distinct
+    (λ x m. elem_below x (length start) (g.below x m)) in
     let e = length_below (length start) in
     omega arith
 
@@ -192,7 +174,11 @@ order_up R (y ∷ ys) sc low up fresh parts = (
         | inr h ↦ elim h [ inl e ↦ absurd (omega arith) | inr k ↦ (let q = up.0 p k in absurd (omega arith)) ]
       ],
   order_up R ys (emit sc y) low up.1
-      (λ x m. let q = up.0 x m in elim (true_or (x == y)) [ inl e ↦ (let f : x ≡ y = eqb-true x y e in absurd (omega arith)) | inr e ↦ rw e (fresh x (inr m)) ])
+      (λ x m. let q = up.0 x m in elim (true_or (x == y)) [
+        | inl e ↦ (let f : x ≡ y = eqb-true x y e in absurd (omega arith))
+        | inr e ↦
+            rw e (fresh x (inr m))
+      ])
       (λ x p m q. elim (parts x p (inr m) q) [
         | inl e ↦ inl (or_right (p == y) (sc.emitted p) e)
         | inr h ↦ elim h [ inl e ↦ inl (rw (eq-eqb p y e) refl) | inr k ↦ inr k ]
@@ -303,13 +289,3 @@ asked_in R n i sites old new list clean c all _ (Asked.by_class a b e) =
     closure_full R n sites old new list clean c a (c.bound a (all a (IsTestedSite.joined a b e)))
 asked_in R n i sites old new list clean c all _ (Asked.by_part s p h m) =
     closure_full R n sites old new list clean c p (c.closed s p (asked_in R n i sites old new list clean c all s h) m)
-
--- what the tests of a rule ask, gathered from their sites
-pub asked_closure : {C V : Type 0} (R : Rules C V) (n i : ℕ) (sites : List ℕ) (old new : List Bool) (list : List ℕ) → PartsAreLower R → IsClean n old
-    → IsClosure R sites old new list
-    → ((s : ℕ) → IsTestedSite R i s → Elem s sites) → IsAskedBy R n i list
-asked_closure R n i sites old new list low clean c all = record {
-  below = λ x m. let l = c.below x m in let e = clean.size in omega arith;
-  first = closure_first R n sites old new list low clean c;
-  full = λ s a. asked_in R n i sites old new list clean c all s a;
-}

@@ -30,16 +30,6 @@ pub others_in_order : {C V : Type 0} (R : Rules C V) (t : Test) (left some : Lis
 others_in_order R t left some e o =
     let P : List ℕ → Type 0 = λ l. IsInOrder R l in subst P (sym e) (filter_in_order R (λ i. not (counts R t left i)) left o)
 
-pub wanting_in_order : {C V : Type 0} (R : Rules C V) (s : ℕ) (c : C) (left some : List ℕ) → some ≡ wanting R s c left → IsInOrder R left
-    → IsInOrder R some
-wanting_in_order R s c left some e o =
-    let P : List ℕ → Type 0 = λ l. IsInOrder R l in subst P (sym e) (filter_in_order R (λ i. is_want R.tests (has c) (R.at i s)) left o)
-
-pub not_wanting_in_order : {C V : Type 0} (R : Rules C V) (s : ℕ) (c : C) (left some : List ℕ) → some ≡ not_wanting R s c left → IsInOrder R left
-    → IsInOrder R some
-not_wanting_in_order R s c left some e o =
-    let P : List ℕ → Type 0 = λ l. IsInOrder R l in subst P (sym e) (filter_in_order R (λ i. not (is_want R.tests (has c) (R.at i s))) left o)
-
 head_first : {C V : Type 0} (R : Rules C V) (x : ℕ) (xs : List ℕ) → IsInOrder R (x ∷ xs) → IsFirst R (x ∷ xs) x
 head_first R x xs o = (
   inl refl,
@@ -77,17 +67,6 @@ returns_more R left i sc after binds T o l b r =
     let P : List ℕ → Type 0 = λ x. Returns R x sc (give binds (get_or left i 0) T) in
     let Q : List ℕ → Type 0 = λ x. IsInOrder R x in
     subst P (sym e) (give_head R (get_or left i 0) (drop (i + 1) left) sc after binds T (subst Q e (drop_in_order R i left o)) b r)
-
--- the returns of the first rules, before those of the others
-pub returns_after : {C V : Type 0} (R : Rules C V) (left : List ℕ) (i : ℕ) (sc now after : Scope C) (binds : List ℕ) (f : Steps C → Steps C)
-    → IsInOrder R left → i < length left
-    → BindsEach R now (rights R (get_or left i 0)) binds after → ((T : Steps C) → Returns R (drop i left) now T → Returns R left sc (f T))
-    → (T : Steps C) → Returns R (drop (i + 1) left) after T → Returns R left sc (f (give binds (get_or left i 0) T))
-returns_after R left i sc now after binds f o l b h T r = h (give binds (get_or left i 0) T) (returns_more R left i now after binds T o l b r)
-
-pub returns_all : {C V : Type 0} (R : Rules C V) (left : List ℕ) (i : ℕ) (sc now : Scope C) (f : Steps C → Steps C) → length left ≤ i
-    → ((T : Steps C) → Returns R (drop i left) now T → Returns R left sc (f T)) → Returns R left sc (f done)
-returns_all R left i sc now f l h = h done (drop_all i left l)
 
 pub in_order_distinct : {C V : Type 0} (R : Rules C V) (xs : List ℕ) → IsInOrder R xs → AreDistinct xs
 in_order_distinct R [] o = tt

@@ -7,7 +7,8 @@ use Rattle.std.specs.List.{filter, flat_map}
 use Rattle.isle_trees.specs.Bag.{IsAscending}
 use Rattle.isle_trees.specs.Builds.{without}
 use Rattle.isle_trees.specs.Rules.{Elem}
-use Rattle.isle_trees.specs.Search.{AreDistinct, below}
+use Rattle.isle_trees.specs.Search.{AreDistinct}
+use Rattle.isle_trees.specs.Rules.{below}
 use Rattle.isle_trees.proofs.Asking.{elem_append}
 use Rattle.isle_trees.proofs.Basics.{true_or, eq_or}
 
@@ -36,11 +37,6 @@ elem_left x (z ∷ xs) ys (inr m) = inr (elem_left x xs ys m)
 pub elem_right : {A : Type 0} (x : A) (xs ys : List A) → Elem x ys → Elem x (xs ++ ys)
 elem_right x [] ys m = m
 elem_right x (z ∷ xs) ys m = inr (elem_right x xs ys m)
-
-pub into_flat : {A B : Type 0} (f : A → List B) (xs : List A) (x : A) (y : B) → Elem x xs → Elem y (f x) → Elem y (flat_map f xs)
-into_flat f [] x y m n = absurd m
-into_flat {A} f (z ∷ zs) x y (inl e) n = let P : A → Type 0 = λ a. Elem y (f a) in elem_left y (f z) (flat_map f zs) (subst P e n)
-into_flat f (z ∷ zs) x y (inr m) n = elem_right y (f z) (flat_map f zs) (into_flat f zs x y m n)
 
 pub flat_append : {A B : Type 0} (f : A → List B) (xs ys : List A) → flat_map f (xs ++ ys) ≡ flat_map f xs ++ flat_map f ys
 flat_append f [] ys = refl
@@ -110,9 +106,6 @@ filter_less p (y ∷ ys) x (inr h) e = elim (true_or (p y)) [
   | inl f ↦ rw f (let q = filter_less p ys x h e in omega arith)
   | inr f ↦ rw f (let q = filter_less p ys x h e in omega arith)
 ]
-
-pub without_less : (i : ℕ) (xs : List ℕ) → Elem i xs → length (without i xs) + 1 ≤ length xs
-without_less i xs m = filter_less (λ j. not (j == i)) xs i m (rw (eq-eqb i i refl) refl)
 
 -- lists that ascend, and lists in which no number stands twice
 pub ascending_distinct : (xs : List ℕ) → IsAscending xs → AreDistinct xs

@@ -33,7 +33,8 @@ pub bind_full : {C V : Type 0} (R : Rules C V) (sc : Scope C) (marks : List Bool
     → IsAvailable R sc s → can_bind R sc marks s ≡ true
 bind_full R sc marks s k h a =
     let both = available_parts R sc s a in
-    both_and (is_made R.tests sc (R.made s)) _ (made_full R.tests sc (R.made s) k (both.1)) (all_from (is_marked marks) (R.parts s) (λ p m. h p m (both.0 p m)))
+    both_and (is_made R.tests sc (R.made s)) _ (made_full R.tests sc (R.made s) k (both.1))
+    (all_from (is_marked marks) (R.parts s) (λ p m. h p m (both.0 p m)))
 
 pub marked_new : (marks : List Bool) (s x : ℕ) → s < length marks → x ≡ s → is_marked (set marks s true) x ≡ true
 marked_new marks s x l e = rw e (get_or-set_same marks s true false l)
@@ -51,10 +52,8 @@ pub record Marking {C V : Type 0} (R : Rules C V) (sc : Scope C) (sites : List �
   pub full : (s : ℕ) → Elem s sites → IsAvailable R sc s → is_marked marks s ≡ true
   pub kept : (s : ℕ) → is_marked start s ≡ true → is_marked marks s ≡ true
 
-pub marking_none : {C V : Type 0} (R : Rules C V) (sc : Scope C) (marks : List Bool) → AreSound R sc marks → Marking R sc [] marks marks
-marking_none R sc marks h = record { size = refl; sound = h; full = λ s m. absurd m; kept = λ s e. e }
-
-module _ {C V : Type 0} (R : Rules C V) (is : SameIs R.tests) (self : SameSelf R.tests) (sc : Scope C) (sites : List ℕ) (start marks : List Bool) (i : ℕ) (l : i < length sites) (first : ArePartsFirst R sites) (h : Marking R sc (take i sites) start marks) where
+module _ {C V : Type 0} (R : Rules C V) (is : SameIs R.tests) (self : SameSelf R.tests) (sc : Scope C) (sites : List ℕ)
+    (start marks : List Bool) (i : ℕ) (l : i < length sites) (first : ArePartsFirst R sites) (h : Marking R sc (take i sites) start marks) where
   parts_marked : (p : ℕ) → Elem p (R.parts (get_or sites i 0)) → IsAvailable R sc p → is_marked marks p ≡ true
   parts_marked p m a = h.full p (first i p l m) a
 
@@ -91,12 +90,6 @@ module _ {C V : Type 0} (R : Rules C V) (is : SameIs R.tests) (self : SameSelf R
 pub record Group {C V : Type 0} (R : Rules C V) (sc : Scope C) (left : List ℕ) (n : ℕ) (marks : List Bool) : Type 0 where
   pub size : length marks ≡ n
   pub marked : AreMarked R left sc marks
-
-pub group_none : {C V : Type 0} (R : Rules C V) (sc : Scope C) (n : ℕ) (above marks : List Bool) → marks ≡ above → length above ≡ n
-    → AreSound R sc above → Group R sc [] n marks
-group_none R sc n above marks e l h =
-    let P : List Bool → Type 0 = λ m. Group R sc [] n m in
-    subst P (sym e) (record { size = l; marked = record { sound = h; full = λ i s m. absurd m } })
 
 pub group_more : {C V : Type 0} (R : Rules C V) (sc : Scope C) (left : List ℕ) (i n : ℕ) (asked : List ℕ) (old new : List Bool) → i < length left
     → Group R sc (take i left) n old

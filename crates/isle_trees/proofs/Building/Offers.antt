@@ -21,85 +21,13 @@ pub record OffersOf {C V : Type 0} (R : Rules C V) (rules : List ℕ) (sc : Scop
   pub ready : (t : Test) → Elem t offers → is_ready sc marks t ≡ true
   pub full : (i : ℕ) (t : Test) → Elem i rules → has_test R i t ≡ true → is_ready sc marks t ≡ true → Elem t offers
 
-pub offers_none : {C V : Type 0} (R : Rules C V) (sc : Scope C) (marks : List Bool) (offers : List Test) → offers ≡ [] → OffersOf R [] sc marks offers
-offers_none R sc marks offers e =
-    let P : List Test → Type 0 = λ l. OffersOf R [] sc marks l in
-    subst P (sym e) (record { ready = λ t m. absurd m; full = λ i t m. absurd m })
-
--- one rule more
-pub offers_step : {C V : Type 0} (R : Rules C V) (left : List ℕ) (sc : Scope C) (marks : List Bool) (i : ℕ) (old new : List Test) → i < length left
-    → OffersOf R (take i left) sc marks old → ((t : Test) → Elem t old → Elem t new)
-    → ((t : Test) → Elem t new → Elem t old ⊎ (is_ready sc marks t ≡ true))
-    → ((t : Test) → has_test R (get_or left i 0) t ≡ true → is_ready sc marks t ≡ true → Elem t new) → OffersOf R (take (i + 1) left) sc marks new
-offers_step R left sc marks i old new l h keep only full = record {
-  ready = λ t m. elim (only t m) [ inl o ↦ h.ready t o | inr e ↦ e ];
-  full = λ j t m a r. elim (last_or j 0 left i l m) [
-    | inl o ↦ keep t (h.full j t o a r)
-    | inr e ↦ full t (let P : ℕ → Type 0 = λ x. has_test R x t ≡ true in subst P e a) r
-  ];
-}
-
-pub offers_more : {C V : Type 0} (R : Rules C V) (left : List ℕ) (sc : Scope C) (marks : List Bool) (i : ℕ) (old more new : List Test)
-    → i < length left
-    → OffersOf R (take i left) sc marks old → AreOffersOf R (get_or left i 0) sc marks more → new ≡ old ++ more
-    → OffersOf R (take (i + 1) left) sc marks new
-offers_more R left sc marks i old more new l h o e =
-    let P : List Test → Type 0 = λ l. OffersOf R (take (i + 1) left) sc marks l in
-    subst P (sym e) (offers_step R left sc marks i old (old ++ more) l h
-    (λ t m. elem_left t old more m)
-    (λ t m. elim (elem_append t old more m) [ inl k ↦ inl k | inr k ↦ inr (o.ready t k) ])
-    (λ t a r. elem_right t old more (o.full t a r)))
-
--- where a rule is below a priority, those of that priority stand before it
-front_has : {C V : Type 0} (R : Rules C V) (left : List ℕ) (i j : ℕ) (k : ℤ) → IsInOrder R left → i < length left → R.prio (get_or left i 0) <ℤ k
-    → Elem j left → k ≤ℤ R.prio j
-    → Elem j (take i left)
-front_has R [] i j k o l p m q = absurd m
-front_has R (x ∷ xs) zero j k o l p m q = elim m [
-  | inl e ↦ let h : R.prio j ≡ R.prio x = ap R.prio e in absurd (grind (arith, ints))
-  | inr n ↦ let h : R.prio j ≤ℤ R.prio x = precedes_most R x j (o.0 j n) in absurd (grind (arith, ints))
-]
-front_has R (x ∷ xs) (suc i) j k o l p m q = elim m [ inl e ↦ inl e | inr n ↦ inr (front_has R xs i j k (o.1) (omega arith) p n q) ]
-
-pub offers_stopped : {C V : Type 0} (R : Rules C V) (left : List ℕ) (sc : Scope C) (marks : List Bool) (i : ℕ) (offers : List Test) → IsInOrder R left
-    → i < length left
-    → R.prio (get_or left i 0) <ℤ top R left → OffersOf R (take i left) sc marks offers → AreOffers R left sc marks offers
-offers_stopped R left sc marks i offers o l p h = record {
-  ready = h.ready;
-  full = λ j t m q a r. h.full j t (front_has R left i j (top R left) o l p m q) a r;
-}
-
-pub offers_ended : {C V : Type 0} (R : Rules C V) (left : List ℕ) (sc : Scope C) (marks : List Bool) (i : ℕ) (offers : List Test) → length left ≤ i
-    → OffersOf R (take i left) sc marks offers → AreOffers R left sc marks offers
-offers_ended R left sc marks i offers l h = record {
-  ready = h.ready;
-  full = λ j t m q a r. h.full j t (rw (take_all i left l) m) a r;
-}
-
 -- tests that can be made
 none_of : {A : Type 0} (o : Option A) → not (is_some o) ≡ true → o ≡ None
 none_of None e = refl
 none_of (Some x) e = cc
 
-open_sound : {C V : Type 0} (R : Rules C V) (sc : Scope C) (marks : List Bool) (s : ℕ) → AreSound R sc marks → is_open sc marks s ≡ true
-    → IsAvailable R sc s × (sc.passed s ≡ None)
-open_sound R sc marks s h e =
-    let both = and_both (is_marked marks s) _ e in (h s (both.0), none_of (sc.passed s) (both.1))
-
 open_full : {C : Type 0} (sc : Scope C) (marks : List Bool) (s : ℕ) → is_marked marks s ≡ true → sc.passed s ≡ None → is_open sc marks s ≡ true
 open_full sc marks s m n = both_and (is_marked marks s) _ m (rw n refl)
-
-pub ready_sound : {C V : Type 0} (R : Rules C V) (sc : Scope C) (marks : List Bool) (t : Test) → AreSound R sc marks → is_ready sc marks t ≡ true
-    → IsReady R sc t
-ready_sound R sc marks (on_match s) h e = open_sound R sc marks s h e
-ready_sound R sc marks (on_loop s) h e = open_sound R sc marks s h e
-ready_sound R sc marks (on_equal a b) h e =
-    let p = and_both (nat_lt a b) _ e in
-    let q = and_both (is_open sc marks a) _ (p.1) in
-    let r = and_both (is_open sc marks b) _ (q.1) in
-    let x = open_sound R sc marks a h (q.0) in
-    let y = open_sound R sc marks b h (r.0) in
-    (ltb-true a b (p.0), x.0, y.0, x.1, y.1, eqb-false _ _ (not_true _ (r.1)))
 
 pub ready_full : {C V : Type 0} (R : Rules C V) (left : List ℕ) (sc : Scope C) (marks : List Bool) (t : Test) (i : ℕ) → JoinsBothWays R
     → AreMarked R left sc marks → Elem i left
@@ -168,13 +96,6 @@ something_best R left sc b r h = record {
   ];
 }
 
--- one more is considered
-pub considered_more : {C V : Type 0} (R : Rules C V) (left : List ℕ) (sc : Scope C) (old new : Option Ranked) (f : ℕ → Test) (n : ℕ)
-    → ((t : Test) → IsNoBetter R left sc old t → IsNoBetter R left sc new t) → IsNoBetter R left sc new (f n)
-    → ((k : ℕ) → k < n → IsNoBetter R left sc old (f k))
-    → (k : ℕ) → k < n + 1 → IsNoBetter R left sc new (f k)
-considered_more R left sc old new f n keep last h = below_more _ _ (λ k l. keep (f k) (h k l)) last
-
 -- Tests as code writes them: `f` says which test an item is.
 pub elem_map : {A B : Type 0} (f : A → B) (x : A) (xs : List A) → Elem x xs → Elem (f x) (map f xs)
 elem_map f x [] m = absurd m
@@ -186,7 +107,8 @@ map_elem f y [] m = absurd m
 map_elem f y (x ∷ xs) (inl e) = (x, inl refl, e)
 map_elem f y (x ∷ xs) (inr m) = let r = map_elem f y xs m in (r.0, inr (r.1), r.2)
 
-pub all_considered : {C V : Type 0} {A : Type 0} (R : Rules C V) (left : List ℕ) (sc : Scope C) (best : Option Ranked) (f : A → Test) (ds : List A) (d : A) (n : ℕ) → length ds ≤ n
+pub all_considered : {C V : Type 0} {A : Type 0} (R : Rules C V) (left : List ℕ) (sc : Scope C) (best : Option Ranked)
+    (f : A → Test) (ds : List A) (d : A) (n : ℕ) → length ds ≤ n
     → ((k : ℕ) → k < n → IsNoBetter R left sc best (f (get_or ds k d))) → IsConsidered R left sc (map f ds) best
 all_considered R left sc best f ds d n l h t m =
     let one = map_elem f t ds m in
@@ -194,14 +116,9 @@ all_considered R left sc best f ds d n l h t m =
     let P : Test → Type 0 = λ q. IsNoBetter R left sc best q in
     subst P (ap f (get_or_default ds (c.0) d (one.0) (c.1) ∙ c.2) ∙ sym (one.2)) (h (c.0) (let m = c.1 in omega arith))
 
-pub place_ready : {C V : Type 0} {A : Type 0} (R : Rules C V) (left : List ℕ) (sc : Scope C) (marks : List Bool) (f : A → Test) (offers ds : List A) (d : A) (k : ℕ) → AreMarked R left sc marks
-    → AreOffers R left sc marks (map f offers) → ((x : A) → Contains ds x → Contains offers x) → k < length ds → IsReady R sc (f (get_or ds k d))
-place_ready R left sc marks f offers ds d k h o a l =
-    let m : Elem (get_or ds k d) offers = contains_elem (get_or ds k d) offers (a (get_or ds k d) (Contains-get_or ds k d l)) in
-    ready_sound R sc marks (f (get_or ds k d)) h.sound (o.ready (f (get_or ds k d)) (elem_map f (get_or ds k d) offers m))
-
 -- once the loop over what is offered has ended
-pub searched : {C V : Type 0} {A : Type 0} (R : Rules C V) (left : List ℕ) (sc : Scope C) (marks : List Bool) (f : A → Test) (offers ds : List A) (d : A) (best : Option Ranked) (n : ℕ)
+pub searched : {C V : Type 0} {A : Type 0} (R : Rules C V) (left : List ℕ) (sc : Scope C) (marks : List Bool)
+    (f : A → Test) (offers ds : List A) (d : A) (best : Option Ranked) (n : ℕ)
     → JoinsBothWays R → IsInOrder R left → AreMarked R left sc marks → AreOffers R left sc marks (map f offers)
     → ((x : A) → Contains offers x → Contains ds x) → length ds ≤ n
     → ((k : ℕ) → k < n → IsNoBetter R left sc best (f (get_or ds k d))) → IsSearched R left sc best

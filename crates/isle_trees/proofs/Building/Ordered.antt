@@ -143,7 +143,8 @@ same_distinct xs ys same d = few_distinct ys (λ x. let l = distinct_few x xs d 
 
 pub sorted_in_order : {C V : Type 0} (R : Rules C V) (xs ys : List ℕ) → AreDistinct xs → IsSameBag xs ys → IsSortedBy (precedes R) ys → IsInOrder R ys
 sorted_in_order R xs ys d same s =
-    strict R ys (all_before R ys (λ k l. let e : precedes R (get_or ys (k + 1) 0) (get_or ys k 0) ≡ false = s k 0 (omega arith) (omega arith) in precedes_false R (get_or ys (suc k) 0) (get_or ys k 0) (rw add-one at e)))
+    strict R ys (all_before R ys (λ k l. let e : precedes R (get_or ys (k + 1) 0) (get_or ys k 0) ≡ false = s k 0 (omega arith) (omega arith) in
+    precedes_false R (get_or ys (suc k) 0) (get_or ys k 0) (rw add-one at e)))
     (same_distinct xs ys same d)
 
 pub level : {C V : Type 0} (R : Rules C V) (a b : ℕ) → Before R b a → Before R a b → a ≡ b

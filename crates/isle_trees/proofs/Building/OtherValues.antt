@@ -166,6 +166,7 @@ mutual
       let S : List ℕ → Type 0 = λ l. BuildsArms (over_values R p a) l sc s more in (
         least,
         fields,
-        subst Q (wanting_over R p a s c left) (subst P (inside_over R p a sc s (has c)) (builds_over body R p a (wanting R s c left) (inside R sc s (has c)) inner)),
+        subst Q (wanting_over R p a s c left) (subst P (inside_over R p a sc s (has c))
+            (builds_over body R p a (wanting R s c left) (inside R sc s (has c)) inner)),
         subst S (not_wanting_over R p a s c left) (arms_over more R p a (not_wanting R s c left) sc s rest),
       )

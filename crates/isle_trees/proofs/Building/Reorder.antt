@@ -104,8 +104,15 @@ same_returns R done xs ys sc h r = same_nil xs ys h r
 same_returns R («match» binds s arms next) xs ys sc h r = r
 same_returns R (equal binds a b body next) xs ys sc h r = r
 same_returns R (loop binds x body next) xs ys sc h r = r
-same_returns R (give binds i next) xs ys sc h r =
-    (same_first R xs ys i h (r.0), (r.1.0, r.1.1, same_returns R next (without i xs) (without i ys) (r.1.0) (same_filter (λ j. not (j == i)) xs ys h) (r.1.2)))
+same_returns R (give binds i next) xs ys sc h r = (
+  same_first R xs ys i h (r.0),
+  (
+    r.1.0,
+    r.1.1,
+    same_returns R next (without i xs) (without i ys) (r.1.0)
+        (same_filter (λ j. not (j == i)) xs ys h) (r.1.2),
+  ),
+)
 
 same_least : {C V : Type 0} (R : Rules C V) (s : ℕ) (c : C) (xs ys : List ℕ) → IsSameBag xs ys → IsLeast R s xs c → IsLeast R s ys c
 same_least R s c xs ys h f = ((f.0.0, same_elem xs ys (f.0.0) h (f.0.1), f.0.2), λ i j m e. f.1 i j (same_elem ys xs i (same_turned xs ys h) m) e)
@@ -129,7 +136,8 @@ mutual
     (
       b.1.0,
       b.1.1,
-      same_builds R body (counted R (on_equal x y) xs) (counted R (on_equal x y) ys) (join (b.1.0) x y) (same_counted R (on_equal x y) xs ys h) (b.1.2),
+      same_builds R body (counted R (on_equal x y) xs) (counted R (on_equal x y) ys) (join (b.1.0) x y)
+          (same_counted R (on_equal x y) xs ys h) (b.1.2),
       same_builds R next (others R (on_equal x y) xs) (others R (on_equal x y) ys) (b.1.0) (same_others R (on_equal x y) xs ys h) (b.1.3),
     ),
   )
@@ -140,8 +148,10 @@ mutual
     (
       b.3.0,
       b.3.1,
-      same_builds R body (counted R (on_loop (b.0)) xs) (counted R (on_loop (b.0)) ys) (inside R (b.3.0) (b.0) one_value) (same_counted R (on_loop (b.0)) xs ys h) (b.3.2),
-      same_builds R next (others R (on_loop (b.0)) xs) (others R (on_loop (b.0)) ys) (release (b.3.0) (b.0)) (same_others R (on_loop (b.0)) xs ys h) (b.3.3),
+      same_builds R body (counted R (on_loop (b.0)) xs) (counted R (on_loop (b.0)) ys) (inside R (b.3.0) (b.0) one_value)
+          (same_counted R (on_loop (b.0)) xs ys h) (b.3.2),
+      same_builds R next (others R (on_loop (b.0)) xs) (others R (on_loop (b.0)) ys) (release (b.3.0) (b.0))
+          (same_others R (on_loop (b.0)) xs ys h) (b.3.3),
     ),
   )
 
@@ -151,7 +161,8 @@ mutual
   same_arms R (arm c bindings body more) xs ys sc s h b = (
     same_least R s c xs ys h (b.0),
     b.1,
-    same_builds R body (wanting R s c xs) (wanting R s c ys) (inside R sc s (has c)) (same_filter (λ i. is_want R.tests (has c) (R.at i s)) xs ys h) (b.2),
+    same_builds R body (wanting R s c xs) (wanting R s c ys) (inside R sc s (has c))
+        (same_filter (λ i. is_want R.tests (has c) (R.at i s)) xs ys h) (b.2),
     same_arms R more (not_wanting R s c xs) (not_wanting R s c ys) sc s (same_filter (λ i. not (is_want R.tests (has c) (R.at i s))) xs ys h) (b.3),
   )
 

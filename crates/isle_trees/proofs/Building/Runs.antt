@@ -284,7 +284,8 @@ wanting_grouped {C} R s c (x ∷ xs) k g = elim (true_or (is_want R.tests (has c
         let f = from_filter (λ i. is_want R.tests (has c) (R.at i s)) xs j m in
         elim (first_true R s x j k (g.0 j (f.0))) [
           | inl l ↦
-              let same : R.at j s ≡ R.at x s = is_want_is R.tests (has c) (R.at j s) k.same (f.1) ∙ sym (is_want_is R.tests (has c) (R.at x s) k.same e) in
+              let same : R.at j s ≡ R.at x s = is_want_is R.tests (has c) (R.at j s) k.same (f.1) ∙ sym
+              (is_want_is R.tests (has c) (R.at x s) k.same e) in
               let P : Option (Want C) → Type 0 = λ o. lesser_want R.tests (R.at x s) o ≡ true in
               clash _ (subst P same l) (lesser_self R.tests (R.at x s) k)
           | inr h ↦ precedes_true R x j (h.1)

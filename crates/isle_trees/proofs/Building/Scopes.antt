@@ -12,18 +12,6 @@ pub scope_same : {C : Type 0} (a b : Scope C) → ((s : ℕ) → a.passed s ≡ 
     → ((s : ℕ) → a.emitted s ≡ b.emitted s) → a ≡ b
 scope_same a b p l e = λ i. record { passed = λ s. p s i; label = λ s. l s i; emitted = λ s. e s i }
 
--- a site past the lists isn't tested, is labelled by itself, and isn't bound
-abbrev pub listed_scope : {C : Type 0} → List (Option (Want C)) → List ℕ → List Bool → Scope C
-listed_scope passed labels emitted = record {
-  passed = λ s. get_or passed s None;
-  label = λ s. get_or labels s s;
-  emitted = λ s. get_or emitted s false;
-}
-
--- at the start nothing is known
-pub scope_start : {C : Type 0} (sc : Scope C) → ((s : ℕ) → sc.passed s ≡ None) → ((s : ℕ) → sc.label s ≡ s) → ((s : ℕ) → sc.emitted s ≡ false) → sc ≡ nothing_known
-scope_start sc p l e = scope_same sc nothing_known p l e
-
 abbrev pub relabel : ℕ → ℕ → ℕ → ℕ
 relabel from to label = if label == from then to else label
 
@@ -65,32 +53,10 @@ set_passed xs s w x l = elim (true_or (x == s)) [
   | inr n ↦ let e : x ≢ s = eqb-false x s n in rw n (grind (arith, common_steps))
 ]
 
--- after a join
-pub joined_scope : {C : Type 0} (passed : List (Option (Want C))) (labels new : List ℕ) (emitted : List Bool) (a b : ℕ)
-    → get_or labels a a < length labels
-    → new ≡ map (relabel (get_or labels a a) (get_or labels b b)) labels
-    → listed_scope passed new emitted ≡ join (listed_scope passed labels emitted) a b
-joined_scope passed labels new emitted a b l e =
-    scope_same _ _ (λ s. refl) (λ s. rw e (relabelled labels a (get_or labels b b) s l)) (λ s. refl)
-
 pub joined_below : (labels new : List ℕ) (a b n : ℕ) → length labels ≡ n → ((x : ℕ) → x < n → get_or labels x x < n) → b < n
     → new ≡ map (relabel (get_or labels a a) (get_or labels b b)) labels → (x : ℕ) → x < n → get_or new x x < n
 joined_below labels new a b n size below lb e x l =
     rw (e, get_map (relabel (get_or labels a a) (get_or labels b b)) labels x x x (omega arith)) (relabel_below _ _ _ n (below b lb) (below x l))
-
--- past a test
-pub inside_scope : {C V : Type 0} (R : Rules C V) (n : ℕ) (passed new : List (Option (Want C))) (labels : List ℕ) (emitted marks : List Bool) (s : ℕ) (w : Want C) → s < length passed
-    → new ≡ set passed s (Some w) → length emitted ≡ n → length marks ≡ n
-    → ((y : ℕ) → y < n → get_or marks y false ≡ (is_source R.tests s w (R.made y) || get_or emitted y false)) → ((y : ℕ) → n ≤ y → R.made y ≡ None)
-    → listed_scope new labels marks ≡ inside R (listed_scope passed labels emitted) s w
-inside_scope R n passed new labels emitted marks s w l p old size e out =
-    scope_same _ _ (λ x. rw p (set_passed passed s w x l)) (λ x. refl) (λ x. elim (less_or x n) [
-      | inl h ↦ e x h
-      | inr h ↦
-          let a : get_or marks x false ≡ false = get_past marks x false (omega arith) in
-          let b : get_or emitted x false ≡ false = get_past emitted x false (omega arith) in
-          rw (a, out x h, b) refl
-    ])
 
 -- one more mark
 pub marks_more : (f : ℕ → Bool) (marks more : List Bool) (n : ℕ) (b : Bool) → length marks ≡ n → ((y : ℕ) → y < n → get_or marks y false ≡ f y)

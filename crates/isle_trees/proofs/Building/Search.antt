@@ -23,12 +23,6 @@ pub precedes_most : {C V : Type 0} (R : Rules C V) (i j : ℕ) → Precedes R i 
 precedes_most R i j (inl l) = grind (arith, ints)
 precedes_most R i j (inr e) = let p = e.0 in grind (arith, ints)
 
--- the first rules are the top ones
-pub top_most : {C V : Type 0} (R : Rules C V) (left : List ℕ) (i : ℕ) → IsInOrder R left → Elem i left → R.prio i ≤ℤ top R left
-top_most R [] i o m = absurd m
-top_most R (x ∷ xs) i o (inl e) = let p : R.prio i ≡ R.prio x = ap R.prio e in grind (arith, ints)
-top_most R (x ∷ xs) i o (inr m) = precedes_most R x i (o.0 i m)
-
 and_comm : (a b : Bool) → (a && b) ≡ (b && a)
 and_comm true true = refl
 and_comm true false = refl
@@ -96,14 +90,6 @@ pub picked_few : (p : ℕ → Bool) (i : ℕ) (xs : List ℕ) → length (filter
 picked_few p zero xs = omega arith
 picked_few p (suc i) [] = omega arith
 picked_few p (suc i) (x ∷ xs) = let q = picked_few p i xs in elim (true_or (p x)) [ inl e ↦ rw e (omega arith) | inr e ↦ rw e (omega arith) ]
-
-pub picked_more : (p : ℕ → Bool) (xs : List ℕ) (i : ℕ) → i < length xs → p (get_or xs i 0) ≡ true
-    → length (filter p (take (i + 1) xs)) ≡ length (filter p (take i xs)) + 1
-picked_more p xs i l e = rw (take_more xs i 0 l, filter_append) (rw e (length_push (filter p (take i xs)) (get_or xs i 0)))
-
-pub picked_same : (p : ℕ → Bool) (xs : List ℕ) (i : ℕ) → i < length xs → p (get_or xs i 0) ≡ false
-    → length (filter p (take (i + 1) xs)) ≡ length (filter p (take i xs))
-picked_same p xs i l e = rw (take_more xs i 0 l, filter_append) (rw e (ap length (append-nil (filter p (take i xs)))))
 
 pub counted_with : {C V : Type 0} (R : Rules C V) (t : Test) (left : List ℕ) (f : Option ℤ) → IsInOrder R left → f ≡ floor R t left
     → filter (picks R t f) left ≡ counted R t left

@@ -15,7 +15,8 @@ use Rattle.isle_trees.proofs.Building.Reorder.{same_length}
 use Rattle.isle_trees.proofs.Path.{passed_bound, some_counted}
 
 -- one arm
-pub one_arm : {C V : Type 0} (R : Rules C V) (sc inner : Scope C) (s : ℕ) (c : C) (group chosen rest : List ℕ) (bindings : List (Option ℕ)) (body : Steps C) (T : Arms C) → IsLeast R s group c → bindings ≡ R.fields s c
+pub one_arm : {C V : Type 0} (R : Rules C V) (sc inner : Scope C) (s : ℕ) (c : C) (group chosen rest : List ℕ)
+    (bindings : List (Option ℕ)) (body : Steps C) (T : Arms C) → IsLeast R s group c → bindings ≡ R.fields s c
     → inner ≡ inside R sc s (has c) → chosen ≡ wanting R s c group → rest ≡ not_wanting R s c group
     → Builds R chosen inner body → BuildsArms R rest sc s T → BuildsArms R group sc s (arm c bindings body T)
 one_arm {C} R sc inner s c group chosen rest bindings body T f bound p q r b a =
@@ -23,25 +24,6 @@ one_arm {C} R sc inner s c group chosen rest bindings body T f bound p q r b a =
     let Q : Scope C → Type 0 = λ x. Builds R chosen x body in
     let A : List ℕ → Type 0 = λ l. BuildsArms R l sc s T in
     (f, bound, subst P q (subst Q p b), subst A r a)
-
-pub rest_less : {C V : Type 0} (R : Rules C V) (s : ℕ) (c : C) (group rest : List ℕ) → SameSelf R.tests → IsLeast R s group c
-    → rest ≡ not_wanting R s c group → length rest + 1 ≤ length group
-rest_less R s c group rest k f r =
-    rw r (filter_less (λ i. not (is_want R.tests (has c) (R.at i s))) group (f.0.0) (f.0.1) (ap not (is_want_same R.tests (has c) _ k (f.0.2))))
-
-pub rest_wants : {C V : Type 0} (R : Rules C V) (s : ℕ) (c : C) (group rest : List ℕ) → rest ≡ not_wanting R s c group → AllWant R group s
-    → AllWant R rest s
-rest_wants R s c group rest r w =
-    let A : List ℕ → Type 0 = λ l. AllWant R l s in
-    subst A (sym r) (λ i m. w i ((from_filter (λ i. not (is_want R.tests (has c) (R.at i s))) group i m).0))
-
--- steps
-pub others_less : {C V : Type 0} (R : Rules C V) (left rest : List ℕ) (sc : Scope C) (t : Test) → IsBest R left sc t → rest ≡ others R t left
-    → length rest + 1 ≤ length left
-others_less R left rest sc t best r =
-    let one = some_elem (counted R t left) (best.useful) in
-    let m = from_filter (counts R t left) left (one.0) (one.1) in
-    rw r (filter_less (λ i. not (counts R t left i)) left (one.0) (m.0) (ap not (m.1)))
 
 pub still_untested : {C : Type 0} (sc after : Scope C) (xs : List ℕ) (s : ℕ) → after ≡ emit_all sc xs → sc.passed s ≡ None → after.passed s ≡ None
 still_untested sc after xs s e n = rw e (passed_bound sc xs s ∙ n)
@@ -51,7 +33,8 @@ chosen_want R left chosen s r =
     let A : List ℕ → Type 0 = λ l. AllWant R l s in
     subst A (sym r) (λ i m. test_of (R.at i s) ((counted_has R (on_match s) left i m).1))
 
-pub match_builds : {C V : Type 0} (R : Rules C V) (left chosen : List ℕ) (sc after : Scope C) (s : ℕ) (old binds : List ℕ) (arms : Arms C) (T : Steps C) → IsBest R left sc (on_match s) → old ≡ []
+pub match_builds : {C V : Type 0} (R : Rules C V) (left chosen : List ℕ) (sc after : Scope C) (s : ℕ) (old binds : List ℕ)
+    (arms : Arms C) (T : Steps C) → IsBest R left sc (on_match s) → old ≡ []
     → Emits R sc (s ∷ []) old binds after → chosen ≡ counted R (on_match s) left → BuildsArms R chosen after s arms
     → Builds R (others R (on_match s) left) after T
     → Builds R left sc («match» binds s arms T)
@@ -69,7 +52,8 @@ equal_builds {C} R left chosen sc after inner x y old binds body T best none e r
     let J : Scope C → Type 0 = λ i. Builds R chosen i body in
     (best, (after, binds_from R sc after (x ∷ y ∷ []) old binds none e, subst A r (subst J j a), b))
 
-pub loop_builds : {C V : Type 0} (R : Rules C V) (left chosen : List ℕ) (sc freed after inner last : Scope C) (s x : ℕ) (old binds : List ℕ) (body T : Steps C) → IsBest R left sc (on_loop s) → old ≡ []
+pub loop_builds : {C V : Type 0} (R : Rules C V) (left chosen : List ℕ) (sc freed after inner last : Scope C)
+    (s x : ℕ) (old binds : List ℕ) (body T : Steps C) → IsBest R left sc (on_loop s) → old ≡ []
     → freed ≡ release sc s → Emits R freed (s ∷ []) old binds after → chosen ≡ counted R (on_loop s) left → inner ≡ inside R after s one_value
     → last ≡ release after s → R.value s ≡ Some x
     → Builds R chosen inner body → Builds R (others R (on_loop s) left) last T → Builds R left sc (loop binds x body T)

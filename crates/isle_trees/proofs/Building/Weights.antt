@@ -56,7 +56,8 @@ pub looped_less : {C V : Type 0} (R : Rules C V) (left chosen : List ℕ) (sc fr
     → freed ≡ release sc s → after ≡ emit_all freed xs → chosen ≡ counted R (on_loop s) left → inner ≡ inside R after s one_value
     → weight R inner chosen + 1 ≤ weight R after chosen
 looped_less R left chosen sc freed after inner s xs w best f e r j =
-    let wants : (i : ℕ) → Elem i (counted R (on_loop s) left) → R.at i s ≡ Some one_value = λ i m. one_of (R.at i s) ((counted_has R (on_loop s) left i m).1) in
+    let wants : (i : ℕ) → Elem i (counted R (on_loop s) left) → R.at i s ≡ Some one_value = λ i m. one_of
+    (R.at i s) ((counted_has R (on_loop s) left i m).1) in
     let l : weight R (inside R after s one_value) (counted R (on_loop s) left) + 1 ≤ weight R after (counted R (on_loop s) left) =
     loop_weighs R after s (counted R (on_loop s) left) w (loop_untested sc freed after s xs f e (best.ready.1)) wants (best.useful) in
     rw (j, r) l
@@ -77,32 +78,11 @@ arm_share R sc inner s c group rules rest is self w e least i p q =
     λ j n. pass_less R sc s (has c) j w e ((wanting_is R group s c is j n).1) in
     let here : Elem (least.0.0) (wanting R s c group) = least_there R s c group self least in
     let l : weight R (inside R sc s (has c)) (wanting R s c group) + 1 ≤ weight R sc (wanting R s c group) =
-    sums_lt (λ i. unlearned R (inside R sc s (has c)) i + 1) (λ i. unlearned R sc i + 1) (wanting R s c group) (least.0.0) (λ j n. let z = less j n in omega arith) here
+    sums_lt (λ i. unlearned R (inside R sc s (has c)) i + 1) (λ i. unlearned R sc i + 1) (wanting R s c group)
+    (least.0.0) (λ j n. let z = less j n in omega arith) here
     (let z = less (least.0.0) here in omega arith) in
     let b : weight R sc (wanting R s c group) + weight R sc (not_wanting R s c group) ≡ weight R sc group =
     sum_by-filter_both wants (λ i. not (wants i)) (λ i. refl) (λ i. unlearned R sc i + 1) group in
     let l2 : weight R inner rules + 1 ≤ weight R sc (wanting R s c group) = rw (i, p) l in
     let r2 : weight R sc rest ≡ weight R sc (not_wanting R s c group) = ap (weight R sc) q in
     omega arith
-
--- the same against all that were left
-pub inner_weighs : {C V : Type 0} (R : Rules C V) (sc inner : Scope C) (s : ℕ) (c : C) (group chosen : List ℕ) → SameIs R.tests → SameSelf R.tests
-    → WantsAreListed R → sc.passed s ≡ None
-    → IsLeast R s group c → inner ≡ inside R sc s (has c) → chosen ≡ wanting R s c group → weight R inner chosen + 1 ≤ weight R sc group
-inner_weighs R sc inner s c group chosen is self w e f p q =
-    let l : weight R (inside R sc s (has c)) (wanting R s c group) + 1 ≤ weight R sc group = arm_weighs R sc s c group is self w e (f.0.0) (f.0.1) (f.0.2) in
-    rw (p, q) l
-
-pub rest_weighs : {C V : Type 0} (R : Rules C V) (sc : Scope C) (s : ℕ) (c : C) (group rest : List ℕ) → rest ≡ not_wanting R s c group
-    → weight R sc rest ≤ weight R sc group
-rest_weighs R sc s c group rest r = rw r (fewer_weigh R sc (λ i. not (is_want R.tests (has c) (R.at i s))) group)
-
-pub others_weigh : {C V : Type 0} (R : Rules C V) (left rest : List ℕ) (sc after : Scope C) (t : Test)
-    → ((some : List ℕ) → weight R after some ≡ weight R sc some) → rest ≡ others R t left
-    → weight R after rest ≤ weight R sc left
-others_weigh R left rest sc after t w r = let share = rest_share R left (counted R t left) rest sc after t w refl r in omega arith
-
-pub chosen_weigh : {C V : Type 0} (R : Rules C V) (left chosen : List ℕ) (sc after : Scope C) (t : Test)
-    → ((some : List ℕ) → weight R after some ≡ weight R sc some) → chosen ≡ counted R t left
-    → weight R after chosen ≤ weight R sc left
-chosen_weigh R left chosen sc after t w r = let share = rest_share R left chosen (others R t left) sc after t w r refl in omega arith

@@ -4,4 +4,14 @@ use Rattle.isle_trees.proofs.Samples.{sample_built, sample_reads, sample_is_prog
 use Rattle.isle_trees.proofs.the_sample_meets_the_premises.Goals as goal
 
 pub returns : goal.returns
-returns c = record { set = sample_built; fields = sample_reads; buildable = sample_buildable; program = sample_is_program; answers = sample_answers; unanswered = refl; first = refl; second = refl }
+returns c = record {
+  set = sample_built;
+  fields = sample_reads;
+  buildable = sample_buildable;
+  program = sample_is_program;
+  answers =
+      sample_answers;
+  unanswered = refl;
+  first = refl;
+  second = refl;
+}

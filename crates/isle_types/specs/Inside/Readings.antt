@@ -2,15 +2,15 @@
 use Rattle.std.specs.Prelude.{◌≡◌, ℕ, ◌<◌, List, ◌++◌, map}
 use Rattle.std.specs.Option.{option_map}
 use Rattle.std.specs.List.{AllZip}
-use Rattle.isle_syntax.specs.declared.lexer.Pos.{Pos}
-use Rattle.isle_syntax.specs.declared.error.Error.{Error}
-use Rattle.isle_syntax.specs.declared.ast.Fields.{Fields as FieldTrees}
-use Rattle.isle_syntax.specs.declared.ast.Fields.TheVariants.{Struct as struct_field_trees, Tuple as tuple_field_trees}
-use Rattle.isle_syntax.specs.declared.ast.StructField.{StructField as StructFieldTree}
-use Rattle.isle_syntax.specs.declared.ast.TupleField.{TupleField as TupleFieldTree}
-use Rattle.isle_syntax.specs.declared.ast.Variant.{Variant as VariantTree}
-use Rattle.isle_syntax.specs.declared.ast.«Type».{«Type» as TypeTree}
-use Rattle.isle_syntax.specs.declared.ast.Ident.{Ident}
+use Rattle.isle_ast.specs.declared.pos.Pos.{Pos}
+use Rattle.isle_ast.specs.declared.error.Error.{Error}
+use Rattle.isle_ast.specs.declared.ast.Fields.{Fields as FieldTrees}
+use Rattle.isle_ast.specs.declared.ast.Fields.TheVariants.{Struct as struct_field_trees, Tuple as tuple_field_trees}
+use Rattle.isle_ast.specs.declared.ast.StructField.{StructField as StructFieldTree}
+use Rattle.isle_ast.specs.declared.ast.TupleField.{TupleField as TupleFieldTree}
+use Rattle.isle_ast.specs.declared.ast.Variant.{Variant as VariantTree}
+use Rattle.isle_ast.specs.declared.ast.«Type».{«Type» as TypeTree}
+use Rattle.isle_ast.specs.declared.ast.Ident.{Ident}
 use Rattle.isle_types.specs.declared.types.StructField.{StructField}
 use Rattle.isle_types.specs.declared.types.TupleField.{TupleField}
 use Rattle.isle_types.specs.declared.types.Fields.{Fields}

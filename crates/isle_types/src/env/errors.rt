@@ -1,13 +1,13 @@
 //! Type errors and size errors at positions, and those that an environment of types keeps.
 ghost use Rattle.std.specs.Prelude.{◌≡◌, [], ◌∷◌, ◌++◌, IfErr, OnOk, OnErr};
-ghost use Rattle.isle_syntax.specs.declared.error.Error.TheVariants.{TypeError, SizeError};
-ghost use Rattle.isle_syntax.specs.Errors.{size_error, error_kind, IfFault, IsFaultAnd, span_at};
+ghost use Rattle.isle_ast.specs.declared.error.Error.TheVariants.{TypeError, SizeError};
+ghost use Rattle.isle_ast.specs.Errors.{size_error, error_kind, IfFault, IsFaultAnd, span_at};
 ghost use Rattle.isle_types.specs.Names.{AreDistinct};
 
 use super::TypeEnv;
-use isle_syntax::error::{Error, Span};
-use isle_syntax::lexer::Pos;
-use isle_syntax::{Refusal, Text};
+use isle_ast::error::{Error, Span};
+use isle_ast::pos::Pos;
+use isle_ast::{Refusal, Text};
 use std::alloc::AllocError;
 
 impl TypeEnv {

@@ -1,9 +1,9 @@
 //! The type that a definition makes, with its variants and fields, or the first fault of the definition.
 ghost use Rattle.std.specs.Prelude.{◌≡◌, ◌<◌, ◌≤◌, ℕ, List, Some, None, map, slice_get, IfOk, IfErr, OnOk, MatchOption};
 ghost use Rattle.std.specs.List.{AllZip};
-ghost use Rattle.isle_syntax.specs.declared.ast.StructField.{StructField as StructFieldTree};
-ghost use Rattle.isle_syntax.specs.declared.ast.Variant.{Variant as VariantTree};
-ghost use Rattle.isle_syntax.specs.Errors.{IfFault};
+ghost use Rattle.isle_ast.specs.declared.ast.StructField.{StructField as StructFieldTree};
+ghost use Rattle.isle_ast.specs.declared.ast.Variant.{Variant as VariantTree};
+ghost use Rattle.isle_ast.specs.Errors.{IfFault};
 ghost use Rattle.isle_types.specs.declared.types.StructField.{StructField};
 ghost use Rattle.isle_types.specs.declared.types.Variant.{Variant};
 ghost use Rattle.isle_types.specs.Types.{id_of};
@@ -18,10 +18,10 @@ use super::TypeEnv;
 use crate::ids::{FieldId, Sym, TypeId, VariantId};
 use crate::stablemapset::StableSet;
 use crate::types::{Fields, StructField, StructFields, TupleField, TupleFields, Type, Variant};
-use isle_syntax::ast::{self, Ident, TypeValue};
-use isle_syntax::error::Error;
-use isle_syntax::lexer::Pos;
-use isle_syntax::{Refusal, Seq};
+use isle_ast::ast::{self, Ident, TypeValue};
+use isle_ast::error::Error;
+use isle_ast::pos::Pos;
+use isle_ast::{Refusal, Seq};
 use std::alloc::{AllocError, Global};
 
 /// How many fields a variant or struct may have.

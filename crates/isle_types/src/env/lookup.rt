@@ -11,7 +11,7 @@ use super::TypeEnv;
 use crate::ids::{Sym, TypeId, VariantId};
 use crate::stablemapset::StableMap;
 use crate::types::{Type, Variant};
-use isle_syntax::ast::Ident;
+use isle_ast::ast::Ident;
 use std::alloc::{AllocError, Global};
 
 impl TypeEnv {

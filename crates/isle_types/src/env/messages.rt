@@ -1,17 +1,17 @@
 //! What the type errors of types and constants say: names, and where these stand before.
 ghost use Rattle.std.specs.Prelude.{◌≡◌, ◌⊎◌, ℕ, [], ◌∷◌, ◌++◌, List, Some, OnOk, OnErr};
-ghost use Rattle.isle_syntax.specs.declared.error.Error.TheVariants.{TypeError};
-ghost use Rattle.isle_syntax.specs.Errors.{type_error, error_kind, spans_of, IfFault, span_at};
+ghost use Rattle.isle_ast.specs.declared.error.Error.TheVariants.{TypeError};
+ghost use Rattle.isle_ast.specs.Errors.{type_error, error_kind, spans_of, IfFault, span_at};
 ghost use Rattle.isle_types.specs.TypeEnvs.{type_of_name};
 ghost use Rattle.isle_types.specs.Inside.Readings.{IsTypeErrorAt};
 
 use super::TypeEnv;
 use crate::ids::TypeId;
-use isle_syntax::ast::{self, Def, Ident, TypeValue};
-use isle_syntax::error::{Error, Span};
-use isle_syntax::files::Files;
-use isle_syntax::lexer::Pos;
-use isle_syntax::{Refusal, Text};
+use isle_ast::ast::{self, Def, Ident, TypeValue};
+use isle_ast::error::{Error, Span};
+use isle_ast::files::Files;
+use isle_ast::pos::Pos;
+use isle_ast::{Refusal, Text};
 use std::alloc::{AllocError, Global};
 
 /// Where a text stands in its file, from 1.

@@ -1,10 +1,10 @@
 //! Environments of types read from definitions: names first, then types, then constants.
 ghost use Rattle.std.specs.Prelude.{◌≡◌, ◌⊎◌, ◌<◌, ℕ, [], ◌∷◌, ◌++◌, List, All, Some, None, length, map, IfOk, IfErr, OnOk, MatchOption, is_none};
 ghost use Rattle.std.specs.Prelude.{if◌then◌else◌, bytes_eq};
-ghost use Rattle.isle_syntax.specs.Positions.Files.{SourceFile};
-ghost use Rattle.isle_syntax.specs.Positions.Printable.{IsPrintablePos};
-ghost use Rattle.isle_syntax.specs.Errors.{IfFault, RefusalsAt};
-ghost use Rattle.isle_syntax.specs.Positions.DefPositions.{DefAt};
+ghost use Rattle.isle_ast.specs.Positions.Files.{SourceFile};
+ghost use Rattle.isle_ast.specs.Positions.Printable.{IsPrintablePos};
+ghost use Rattle.isle_ast.specs.Errors.{IfFault, RefusalsAt};
+ghost use Rattle.isle_ast.specs.Positions.DefPositions.{DefAt};
 ghost use Rattle.isle_types.specs.declared.types.«Type».TheVariants.{Builtin};
 ghost use Rattle.isle_types.specs.IntTypes.{builtin_name, builtin_types, builtin_names};
 ghost use Rattle.isle_types.specs.Names.{position_of, AreDistinct, KeepsNames};
@@ -20,10 +20,10 @@ use crate::ids::TypeId;
 use crate::stablemapset::StableMap;
 use crate::symbols::Symbols;
 use crate::types::{BuiltinType, Type};
-use isle_syntax::Refusal;
-use isle_syntax::ast::{Def, Extern, Ident};
-use isle_syntax::error::Error;
-use isle_syntax::files::Files;
+use isle_ast::Refusal;
+use isle_ast::ast::{Def, Extern, Ident};
+use isle_ast::error::Error;
+use isle_ast::files::Files;
 use std::alloc::{AllocError, Global};
 use std::rc::Rc;
 

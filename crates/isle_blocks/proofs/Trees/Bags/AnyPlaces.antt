@@ -146,7 +146,8 @@ module _ (facts : TermFacts) (c : Completion) (args : Values) (way : Way) where
     same_values p = λ i. λ k. site_same p (suc k) k i
 
     -- what is listed of gathered parts is the same
-    list_same : (k : ℕ) (o : Option (List Held)) → listed (lists_of name set facts (taking c way) args) k o ≡ listed (lists_of name set facts c args) k o
+    list_same : (k : ℕ) (o : Option (List Held)) → listed (lists_of name set facts (taking c way) args) k o ≡ listed
+        (lists_of name set facts c args) k o
     list_same k None = refl
     list_same k (Some hs) = same_items (tree_of name set.sites k) hs
 

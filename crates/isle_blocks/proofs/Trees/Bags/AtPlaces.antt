@@ -3,8 +3,8 @@ use Rattle.std.proofs.Common.{◌≡◌, ◌≢◌, ◌⊎◌, ◌↔◌, inl, i
 use Rattle.std.proofs.Common.{subst, ◌∙◌, arith}
 use Rattle.std.proofs.lemmas.Option.{same_Some, slice_get_cases}
 use Rattle.isle_types.specs.declared.ids.Sym.{Sym}
-use Rattle.isle_terms.specs.declared.rules.Rule as source
-use Rattle.isle_terms.specs.TypedRules.{TypedRule}
+use Rattle.isle_rules.specs.declared.rules.Rule as source
+use Rattle.isle_rules.specs.TypedRules.{TypedRule}
 use Rattle.isle_meaning.specs.Got.{Got, unknown, fails, gives}
 use Rattle.isle_meaning.specs.Values.{Value, Values, count, ask}
 use Rattle.isle_meaning.specs.Facts.{TermFacts}
@@ -13,7 +13,7 @@ use Rattle.isle_meaning.specs.AboutSites.Functions.{AreFiniteFunctions, as_pure,
 use Rattle.isle_meaning.specs.Held.{Held, held_answers, outputs_of, item_of, value}
 use Rattle.isle_meaning.specs.Holds as holds
 use Rattle.isle_meaning.specs.Demands.{Demand, constrained, equal}
-use Rattle.isle_meaning.specs.Laws.Matching.{DemandOf}
+use Rattle.isle_meaning.specs.Demands.{DemandOf}
 use Rattle.isle_meaning.specs.AboutSites.Making.{made_of_parts, HoldEach}
 use Rattle.isle_meaning.specs.Numbered.{Row, At, AtAll}
 use Rattle.isle_meaning.specs.AboutSites.Parts.{parts_of, IsOneOf}
@@ -139,7 +139,8 @@ module _ (name : Sym → List ℕ) (facts : TermFacts) (sources : List source.Ru
   Takes s = TakesItsPlaces name set facts c args done p s × AreAsFunctions facts c args done s
 
   -- a site whose parts have values, and that no test makes, doesn't fail
-  entry_whole : (b : Binding) → made_by set.rules b ≡ None → IsWhole facts h.types c args done functions.allowed (as_pure (tree_from name tree (Some b)))
+  entry_whole : (b : Binding) → made_by set.rules b ≡ None → IsWhole facts h.types c args done functions.allowed
+      (as_pure (tree_from name tree (Some b)))
   entry_whole (sites.ConstBool v t) e = tt
   entry_whole (sites.ConstInt v t) e = tt
   entry_whole (sites.ConstPrim v) e = tt

@@ -1,15 +1,15 @@
 -- The rule sets of definitions, whatever `multi` terms their rules ask.
 use Rattle.std.proofs.Common.{◌≡◌, ℕ, pos, true, Option, Some, slice_get, unwrap_or, ap, sym, subst, ◌∙◌}
 use Rattle.isle_types.proofs.Zipped.{all_at}
-use Rattle.isle_terms.specs.Definitions.{declared_by}
-use Rattle.isle_terms.specs.Signatures.{Signature, Declared, flags_of}
-use Rattle.isle_terms.specs.SoundRules.WellTyped.{IsTypedRule}
-use Rattle.isle_terms.specs.Shown.TermTables.{TermTables}
-use Rattle.isle_terms.specs.TypedRules.{TypedRule}
-use Rattle.isle_terms.proofs.Sound.RuleTypes.{rules_typed}
+use Rattle.isle_rules.specs.Definitions.{declared_by}
+use Rattle.isle_rules.specs.Signatures.{Signature, Declared, flags_of}
+use Rattle.isle_rules.specs.SoundRules.WellTyped.{IsTypedRule}
+use Rattle.isle_rules.specs.Shown.TermTables.{TermTables}
+use Rattle.isle_rules.specs.TypedRules.{TypedRule}
+use Rattle.isle_rules.proofs.Sound.RuleTypes.{rules_typed}
 use Rattle.isle_meaning.specs.AboutSites.ImpureCalls.{IfLetsArePure}
 use Rattle.isle_meaning.specs.Elaborated.{IsElaborated}
-use Rattle.isle_meaning.specs.Facts.{TermFacts, no_term, term_at}
+use Rattle.isle_meaning.specs.Facts.{TermFacts, no_term, signature_numbered}
 use Rattle.isle_meaning.proofs.Chains.Elaborated.{typed_rules_call_well}
 use Rattle.isle_meaning.proofs.Matching.MadeFields.{definitions_are_elaborated}
 use Rattle.isle_meaning.proofs.Matching.OneAnswer.{none_is_multi_and_partial}
@@ -30,14 +30,16 @@ module _ (env : TermTables) (d : AreDefined env) where
   -- each rule is well typed
   typed_rule : (i : ℕ) (rule : TypedRule) → slice_get (rules_by env d) i ≡ Some rule → IsTypedRule declared rule
   typed_rule i rule at =
-      all_at (IsTypedRule declared) d.shows.environment.rules (rules_typed d.types env.expands d.levels d.max d.defs d.shows.environment d.shows.makes) i rule at
+      all_at (IsTypedRule declared) d.shows.environment.rules
+      (rules_typed d.types env.expands d.levels d.max d.defs d.shows.environment d.shows.makes) i rule at
 
   -- its root is the term of its number
-  root_is : (rule : TypedRule) (typed : IsTypedRule declared rule) → term_at declared rule.root ≡ typed.root
+  root_is : (rule : TypedRule) (typed : IsTypedRule declared rule) → signature_numbered declared rule.root ≡ typed.root
   root_is rule typed = ap (λ (o : Option Signature). unwrap_or o no_term) typed.known
 
   -- Each rule of a term is as elaboration makes it.
-  pub fit : (term i : ℕ) (rule : TypedRule) → slice_get (rules_by env d) i ≡ Some rule → rule.root ≡ term → IsElaborated facts (facts.inputs term) rule
+  pub fit : (term i : ℕ) (rule : TypedRule) → slice_get (rules_by env d) i ≡ Some rule → rule.root ≡ term
+      → IsElaborated facts (facts.inputs term) rule
   fit term i rule at of_term =
       let typed = typed_rule i rule at in
       let types : typed.root.args ≡ facts.inputs term = sym (ap (λ (s : Signature). s.args) (root_is rule typed)) ∙ ap facts.inputs of_term in

@@ -3,8 +3,8 @@ use Rattle.std.proofs.Common.{◌≡◌, ◌≢◌, inl, inr, ℕ, zero, suc, �
 use Rattle.std.proofs.Common.{sym, subst, ◌∙◌, arith}
 use Rattle.std.proofs.lemmas.Option.{same_Some}
 use Rattle.isle_types.specs.declared.ids.Sym.{Sym}
-use Rattle.isle_terms.specs.declared.rules.Rule as source
-use Rattle.isle_terms.specs.TypedRules.{TypedRule}
+use Rattle.isle_rules.specs.declared.rules.Rule as source
+use Rattle.isle_rules.specs.TypedRules.{TypedRule}
 use Rattle.isle_meaning.specs.Got.{Got, unknown, fails, gives}
 use Rattle.isle_meaning.specs.Values.{Values, nth, ask}
 use Rattle.isle_meaning.specs.Facts.{TermFacts}
@@ -38,7 +38,7 @@ use Rattle.isle_trees.specs.Answers.{HasValue}
 use Rattle.isle_trees.specs.Bag.{IsAscending}
 use Rattle.isle_trees.specs.Calls.{AreFunctions}
 use Rattle.isle_trees.specs.Rules.{has, Source, Elem}
-use Rattle.isle_trees.specs.Search.{below}
+use Rattle.isle_trees.specs.Rules.{below}
 use Rattle.isle_trees.proofs.Asking.{elem_append}
 use Rattle.isle_trees.proofs.Whole.{whole_bag, whole_calls}
 

@@ -3,10 +3,10 @@ use Rattle.std.proofs.Common.{◌≡◌, ◌≢◌, ◌⊎◌, inl, inr, ℕ, ze
 use Rattle.std.proofs.Common.{refl, ap, sym, subst, ◌∙◌, arith, append_assoc, append-nil}
 use Rattle.std.specs.Option.{option_map}
 use Rattle.std.proofs.lemmas.Option.{same_Some, none-some, slice_get-map}
-use Rattle.isle_terms.specs.Elaboration.{on_lhs}
-use Rattle.isle_terms.specs.Signatures.{Declared, Flags}
-use Rattle.isle_terms.specs.SoundRules.WellTyped.{AreTypedIfLets}
-use Rattle.isle_terms.specs.TypedRules.{TypedRule, TypedIfLet, Variable, built_at}
+use Rattle.isle_rules.specs.Elaboration.{on_lhs}
+use Rattle.isle_rules.specs.Signatures.{Declared, Flags}
+use Rattle.isle_rules.specs.SoundRules.WellTyped.{AreTypedIfLets}
+use Rattle.isle_rules.specs.TypedRules.{TypedRule, TypedIfLet, Variable, built_at}
 use Rattle.isle_meaning.specs.Got.{Got, unknown, fails, gives}
 use Rattle.isle_meaning.specs.Values.{Value, Values, more, ask}
 use Rattle.isle_meaning.specs.Facts.{TermFacts, facts_of}
@@ -142,7 +142,8 @@ module _ (facts : TermFacts) (c : Completion) (functions : AreFiniteFunctions fa
         ap answered (get_append d (given d s ∷ []) j a there ∙ sym there) ∙ told j t old m vs (sym stays ∙ e)
     | inr new ↦
         let stays = all_later facts c args d (given d s ∷ []) (sites s) (all_known before d placed told (sites s) calls) in
-        let e' : vals (d ++ given d s ∷ []) (sites s) ≡ gives vs = subst (λ (z : Step). vals (d ++ given d s ∷ []) (sites z) ≡ gives vs) (sym (new.0)) e in
+        let e' : vals (d ++ given d s ∷ []) (sites s) ≡ gives vs = subst (λ (z : Step). vals (d ++ given d s ∷ []) (sites z) ≡ gives vs)
+        (sym (new.0)) e in
         let place : j ≡ length d = new.1 ∙ sym n in
         let asked : ask (c.construct s.term) (vals d (sites s)) ≡ c.construct s.term vs = ap (ask (c.construct s.term)) (sym stays ∙ e') in
         ap (λ (z : ℕ). answered (slice_get (d ++ given d s ∷ []) z)) place ∙ ap answered (get_last d (given d s))
@@ -160,12 +161,14 @@ module _ (facts : TermFacts) (c : Completion) (functions : AreFiniteFunctions fa
       let more = before ++ s ∷ [] in
       let here : s.place ≡ 0 + length before = rest.0 ∙ (let z : length before ≡ 0 + length before = omega arith in z) in
       subst (λ (z : List Step). AreGiven z (answers_behind facts c args vars (d ++ given d s ∷ []) steps)) (append_assoc before (s ∷ []) steps)
-      (all_given steps more (d ++ given d s ∷ []) (length_more d (given d s) ∙ ap suc n ∙ sym (length_more before s)) (placed_append 0 before s placed here)
+      (all_given steps more (d ++ given d s ∷ []) (length_more d (given d s) ∙ ap suc n ∙ sym (length_more before s))
+      (placed_append 0 before s placed here)
       (subst (λ (z : ℕ). Placed z steps) (sym (length_more before s)) (rest.1)) (causal.1) (closed_more before s closed calls)
       (given_more before d s n placed closed told calls))
 
 -- a call of which this is what it gives
-one_call : (m b n d : Bool) (x y : ℕ) (ss us : Sites) (i j : ℕ) → answer_site m b (constructor_call x ss i) ≡ answer_site n d (constructor_call y us j)
+one_call : (m b n d : Bool) (x y : ℕ) (ss us : Sites) (i j : ℕ) → answer_site m b (constructor_call x ss i) ≡ answer_site n d
+    (constructor_call y us j)
     → constructor_call x ss i ≡ constructor_call y us j
 one_call true b true d x y ss us i j e = cc
 one_call true b false true x y ss us i j e = absurd cc
@@ -226,7 +229,8 @@ module _ (facts : TermFacts) (rule : TypedRule) (pure : IfLetsArePure facts rule
 
   -- so in the result
   result_own : OwnCalls (own_result facts rule)
-  result_own = some_own (facts.partial rule.root) _ (word_steps facts its_vars vars_pure its_steps (word_of facts rule.right) ((steps_are_causal facts rule.right).1))
+  result_own = some_own (facts.partial rule.root) _ (word_steps facts its_vars vars_pure its_steps (word_of facts rule.right)
+      ((steps_are_causal facts rule.right).1))
 
   -- and in what the rule asks
   spoken_own : (d : Demand) (s : Site) → SpeaksOf IsPure d → IsSpokenOf d s → OwnCalls s
@@ -248,7 +252,8 @@ module _ (facts : TermFacts) (rule : TypedRule) (pure : IfLetsArePure facts rule
       → IsAskedSite facts rule s ⊎ (s ≡ own_result facts rule) → AreAsFunctions facts c args (impure_answers facts c args rule) s
   answered_as_functions c functions args s asked =
       as_functions facts c functions args its_vars vars_pure its_steps (impure_answers facts c args rule) (steps_placed facts rule.right)
-      (all_given facts c functions args its_vars vars_pure its_steps [] [] refl tt (steps_placed facts rule.right) ((steps_are_causal facts rule.right).0)
+      (all_given facts c functions args its_vars vars_pure its_steps [] [] refl tt (steps_placed facts rule.right)
+      ((steps_are_causal facts rule.right).0)
       (λ j s at. absurd (none-some s at)) (λ j s at. absurd (none-some s at))) s (asked_own s asked)
 
 -- If-lets of typed rules make no impure calls.

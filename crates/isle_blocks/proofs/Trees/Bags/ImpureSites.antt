@@ -2,10 +2,10 @@
 use Rattle.std.proofs.Common.{◌≡◌, ◌⊎◌, inl, inr, ℕ, zero, suc, ◌==◌, List, [], ◌∷◌, ◌++◌, map, length, Bool, true, false, Some, slice_get, refl, ap, sym}
 use Rattle.std.proofs.Common.{subst, ◌∙◌}
 use Rattle.std.proofs.lemmas.Option.{none-some}
-use Rattle.isle_terms.specs.TypedRules.{TypedPattern, typed_bind, typed_var, typed_bool, typed_int, typed_prim, typed_term, typed_wildcard}
-use Rattle.isle_terms.specs.TypedRules.{typed_and, TypedPatterns, no_typed, more_typed, TypedExpr, built_var, built_bool, built_int}
-use Rattle.isle_terms.specs.TypedRules.{built_prim, built_term, built_let, TypedExprs, no_built, more_built, TypedBindings, no_typed_bindings}
-use Rattle.isle_terms.specs.TypedRules.{more_typed_bindings, TypedIfLet, TypedRule}
+use Rattle.isle_rules.specs.TypedRules.{TypedPattern, typed_bind, typed_var, typed_bool, typed_int, typed_prim, typed_term, typed_wildcard}
+use Rattle.isle_rules.specs.TypedRules.{typed_and, TypedPatterns, no_typed, more_typed, TypedExpr, built_var, built_bool, built_int}
+use Rattle.isle_rules.specs.TypedRules.{built_prim, built_term, built_let, TypedExprs, no_built, more_built, TypedBindings, no_typed_bindings}
+use Rattle.isle_rules.specs.TypedRules.{more_typed_bindings, TypedIfLet, TypedRule}
 use Rattle.isle_meaning.specs.AboutSites.ImpureCalls.{IsImpureCall, IsPure, IfLetsArePure}
 use Rattle.isle_meaning.specs.AboutSites.Parts.{IsOneOf}
 use Rattle.isle_meaning.specs.Demands.{parts, bound, iflet_site, args_bound, vars_of, impure_of, nothing}
@@ -77,7 +77,8 @@ module _ (facts : TermFacts) where
   answer_logged false false calls c h = (h, (h, tt))
 
   -- an impure call that is logged last
-  last_logged : (calls : List Site) (t : ℕ) (ss : Sites) → HasNumber (calls ++ answer t ss (suc (length calls)) ∷ []) (constructor_call t ss (suc (length calls)))
+  last_logged : (calls : List Site) (t : ℕ) (ss : Sites) → HasNumber (calls ++ answer t ss (suc (length calls)) ∷ [])
+      (constructor_call t ss (suc (length calls)))
   last_logged calls t ss u us i e =
       let p : t ≡ u = cc in let q : length calls ≡ i = cc in
       let new = calls ++ answer t ss (suc (length calls)) ∷ [] in
@@ -100,7 +101,8 @@ module _ (facts : TermFacts) where
   one_left old log s f h g = (f, h, sites_append (IsLogged log.impure) log.needed (s ∷ []) g (h, tt))
 
   -- a call
-  called_left : (b : Bool) (t : ℕ) (old : Log) (r : Sites × Log) → LeftAll old (r.0) (r.1) → Left old ((called facts b t r).0) ((called facts b t r).1)
+  called_left : (b : Bool) (t : ℕ) (old : Log) (r : Sites × Log) → LeftAll old (r.0) (r.1)
+      → Left old ((called facts b t r).0) ((called facts b t r).1)
   called_left true t old r (f, h, g) =
       let calls = r.1.impure in
       let call : IsLogged calls (constructor_call t (r.0) zero) =
@@ -250,7 +252,8 @@ module _ (facts : TermFacts) where
     pattern_pure (typed_and ty ps) s h = patterns_pure ps (λ i. s) (λ i. h)
 
     -- so patterns
-    patterns_pure : (ps : TypedPatterns) (at : ℕ → Site) → ((i : ℕ) → IsPure (at i)) → EachSite IsPure (needs_all facts ps at) × OfAllCalls facts IsPure ps at
+    patterns_pure : (ps : TypedPatterns) (at : ℕ → Site) → ((i : ℕ) → IsPure (at i)) → EachSite IsPure (needs_all facts ps at)
+        × OfAllCalls facts IsPure ps at
     patterns_pure no_typed at h = (tt, tt)
     patterns_pure (more_typed p ps) at h =
         let (a, b) = pattern_pure p (at 0) (h 0) in
@@ -259,8 +262,11 @@ module _ (facts : TermFacts) where
   -- the arguments and their patterns
   args_pure : (ps : TypedPatterns) (i : ℕ) → EachSite IsPure (args_needs facts ps i)
   args_pure no_typed i = tt
-  args_pure (more_typed p ps) i =
-      (pure_carried.argument i, sites_append IsPure (needs facts p (argument i)) _ ((pattern_pure p (argument i) (pure_carried.argument i)).0) (args_pure ps (suc i)))
+  args_pure (more_typed p ps) i = (
+    pure_carried.argument i,
+    sites_append IsPure (needs facts p (argument i)) _ ((pattern_pure p (argument i) (pure_carried.argument i)).0)
+        (args_pure ps (suc i)),
+  )
 
   -- each without impure calls
   each_pure : (ss : List Site) → EachSite (IsLogged []) ss → EachSite IsPure ss
@@ -268,14 +274,16 @@ module _ (facts : TermFacts) where
   each_pure (s ∷ ss) h = (logged_pure s (h.0), each_pure ss (h.1))
 
   -- if-lets
-  iflets_pure : (xs : List TypedIfLet) (vars : ℕ → Site) → ((k : ℕ) → IsPure (vars k)) → IfLetsArePure facts xs → EachSite IsPure (iflets_needs facts xs vars)
+  iflets_pure : (xs : List TypedIfLet) (vars : ℕ → Site) → ((k : ℕ) → IsPure (vars k)) → IfLetsArePure facts xs
+      → EachSite IsPure (iflets_needs facts xs vars)
   iflets_pure [] vars v h = tt
   iflets_pure (x ∷ xs) vars v h =
       let site = iflet_site facts vars x in
       let (f, s, g) = visit_left x.value vars no_log (λ k. pure_logged [] (vars k) (v k)) tt in
       let (same, logged) = visited facts vars x.value (λ k. var_word k) vars (λ j. refl) [] no_log refl in
       let none : (visit facts vars no_log x.value).1.impure ≡ [] = logged ∙ ap (map (step_site facts vars)) (h.0) in
-      let pure : IsPure site = subst IsPure same (logged_pure _ (subst (λ (calls : List Site). IsLogged calls ((visit facts vars no_log x.value).0)) none s)) in
+      let pure : IsPure site = subst IsPure same (logged_pure _
+      (subst (λ (calls : List Site). IsLogged calls ((visit facts vars no_log x.value).0)) none s)) in
       let all = each_pure ((visit facts vars no_log x.value).1.needed)
       (subst (λ (calls : List Site). EachSite (IsLogged calls) ((visit facts vars no_log x.value).1.needed)) none g) in
       let (a, b) = pattern_pure x.pattern site pure in
@@ -299,8 +307,10 @@ module _ (facts : TermFacts) where
           | inl k ↦ pure_logged (impure_of facts rule) s (each_needed IsPure (args_needs facts rule.args 0) s (args_pure rule.args 0) k)
           | inr k ↦ elim (needed_either s (iflets_needs facts rule.iflets (args_bound facts rule)) _ k) [
             | inl l ↦ pure_logged (impure_of facts rule) s
-                (each_needed IsPure (iflets_needs facts rule.iflets (args_bound facts rule)) s (iflets_pure rule.iflets (args_bound facts rule) args_vars pure) l)
+                (each_needed IsPure (iflets_needs facts rule.iflets (args_bound facts rule)) s
+                (iflets_pure rule.iflets (args_bound facts rule) args_vars pure) l)
             | inr l ↦ subst (λ (calls : List Site). IsLogged calls s) logged
-                (each_needed (IsLogged ((visit facts (vars_of facts rule) no_log rule.right).1.impure)) ((visit facts (vars_of facts rule) no_log rule.right).1.needed) s all l)
+                (each_needed (IsLogged ((visit facts (vars_of facts rule) no_log rule.right).1.impure))
+                ((visit facts (vars_of facts rule) no_log rule.right).1.needed) s all l)
           ]
         ]

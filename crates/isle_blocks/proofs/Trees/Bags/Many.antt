@@ -7,14 +7,14 @@ use Rattle.std.proofs.lemmas.Bool.Decides.{nat_tests}
 use Rattle.std.specs.Ordering.{nat_cmp}
 use Rattle.std.proofs.lemmas.Option.{same_Some, none-some}
 use Rattle.isle_types.specs.declared.ids.Sym.{Sym}
-use Rattle.isle_terms.specs.declared.rules.Rule as source
-use Rattle.isle_terms.specs.TypedRules.{TypedRule}
+use Rattle.isle_rules.specs.declared.rules.Rule as source
+use Rattle.isle_rules.specs.TypedRules.{TypedRule}
 use Rattle.isle_meaning.specs.Facts.{TermFacts}
 use Rattle.isle_meaning.specs.Held.{Held}
 use Rattle.isle_meaning.specs.Sites.{Site, iterator, match_variant, extract_struct, match_some}
 use Rattle.isle_meaning.specs.Demands.{Demand, constrained, equal, variant_constraint, struct_constraint, some_constraint, impure_of, result_of}
 use Rattle.isle_meaning.specs.Derived.{Derived}
-use Rattle.isle_meaning.specs.Laws.Matching.{DemandOf}
+use Rattle.isle_meaning.specs.Demands.{DemandOf}
 use Rattle.isle_meaning.specs.Needs.{needs_of, IsNeeded}
 use Rattle.isle_meaning.specs.Numbered.{Row, At}
 use Rattle.isle_meaning.specs.AboutSites.Parts.{parts_of, IsOneOf}
@@ -26,7 +26,7 @@ use Rattle.isle_blocks.specs.declared.binding.Binding.{Binding}
 use Rattle.isle_blocks.specs.declared.binding.Binding.TheVariants as sites
 use Rattle.isle_blocks.specs.declared.constraint.Constraint.{Constraint}
 use Rattle.isle_blocks.specs.declared.rule.Rule.{Rule}
-use Rattle.isle_blocks.specs.Bindings.{sources_of}
+use Rattle.isle_blocks.specs.Tables.{sources_of}
 use Rattle.isle_blocks.specs.Building.Standing.{StandEach}
 use Rattle.isle_blocks.specs.AddedRules.{IsMultiCall}
 use Rattle.isle_blocks.specs.DefinedSets.{IsMadeAt}
@@ -131,7 +131,8 @@ module _ (name : Sym → List ℕ) (facts : TermFacts) (sources : List source.Ru
         let (p, made) = made_rule name facts sources rules term set h i r at in
         let m' : Elem s (numbers_of r.iterators) = subst (λ (o : Option Rule). Elem s (read_or [] (λ (k : Rule). numbers_of k.iterators) o)) at m in
         let (id, inside, e) = numbered (λ (id : BindingId). id.0) r.iterators s m' in
-        loop_wanted name facts sources rules term set h i r at p made s (loop_found r s (subst (Contains r.iterators) (same_id id (id_of s) e) inside))
+        loop_wanted name facts sources rules term set h i r at p made s
+        (loop_found r s (subst (Contains r.iterators) (same_id id (id_of s) e) inside))
   ]
 
   -- one that is wanted is listed
@@ -237,7 +238,8 @@ module _ (name : Sym → List ℕ) (facts : TermFacts) (sources : List source.Ru
           one_site rows t (match_variant (tree a.0) v.0 f.0) s at_t (a.0, row_get name set.sites s _ e, below) in
           let (ty, n, d, l) = subst (IsOwn (Derived D) (IsNeeded (needs_of facts rule))) same own in
           let (test, has_it, what) = its_test name facts sources rules term set h p r m (tree a.0) a.0 (variant_constraint ty v.0 n) below d in
-          let o = opening_is name facts sources rules term set h i r a.0 (Some v.0) f.0 test at has_it (variant_opens name test ty v.0 n f.0 what l) in
+          let o = opening_is name facts sources rules term set h i r a.0 (Some v.0) f.0 test at has_it
+          (variant_opens name test ty v.0 n f.0 what l) in
           subst (λ (x : Source Constraint). R.at i x.site ≡ Some x.want) (same_Some _ k is)
           (test_wanted name facts sources rules term set h i a.0 r test at has_it ∙ ap (λ (c : Constraint). Some (has c)) (sym o))
       field_own s (sites.ExtractStruct a f) k t e at_t own is =
@@ -264,7 +266,8 @@ module _ (name : Sym → List ℕ) (facts : TermFacts) (sources : List source.Ru
           let (id, inside, at_id) = calls.all (tree a.0) (inl n) in
           let one : id.0 ≡ a.0 = one_number name set.sites h.injective h.is.table (tree a.0) id.0 a.0 at_id below in
           subst (λ (x : Source Constraint). R.at i x.site ≡ Some x.want) (same_Some _ k is)
-          (loop_wanted name facts sources rules term set h i r at p m a.0 (loop_found r a.0 (subst (Contains r.iterators) (same_id id (id_of a.0) one) inside)))
+          (loop_wanted name facts sources rules term set h i r at p m a.0
+          (loop_found r a.0 (subst (Contains r.iterators) (same_id id (id_of a.0) one) inside)))
       field_own s b k t e at_t own is = absurd cc
 
     -- without a rule nothing is used but a number past the table
@@ -293,7 +296,8 @@ module _ (name : Sym → List ℕ) (facts : TermFacts) (sources : List source.Ru
               let (r, at) = there in
               let (p, m) = made_rule name facts sources rules term set h i r at in
               let (t, at_t, own) = used_own i r at p m s u in
-              field_own i r at p m s b k t at_b at_t (own_itself (Derived (DemandOf facts m.reached.rule)) (IsNeeded (needs_of facts m.reached.rule)) t own) is
+              field_own i r at p m s b k t at_b at_t (own_itself (Derived (DemandOf facts m.reached.rule))
+              (IsNeeded (needs_of facts m.reached.rule)) t own) is
         ]
 
     -- The set is as the bag asks.
@@ -304,7 +308,8 @@ module _ (name : Sym → List ℕ) (facts : TermFacts) (sources : List source.Ru
           | inr there ↦
               let (r, at) = there in
               let (p, m) = made_rule name facts sources rules term set h i r at in
-              rw at (m.told.prio ∙ priorities p m.source m.reached.rule m.source_at m.reached.at ∙ multi.even p m.reached.rule m.reached.at m.reached.of_term)
+              rw at (m.told.prio ∙ priorities p m.source m.reached.rule m.source_at m.reached.at ∙ multi.even
+              p m.reached.rule m.reached.at m.reached.of_term)
         ] in
         record {
           even = λ i j. none i ∙ sym (none j);

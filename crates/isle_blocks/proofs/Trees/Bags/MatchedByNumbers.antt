@@ -3,16 +3,17 @@ use Rattle.std.proofs.Common.{refl, inl, inr, ◌≡◌, ◌≢◌, ◌↔◌, �
 use Rattle.std.proofs.Common.{◌∙◌}
 use Rattle.std.proofs.lemmas.Option.{same_Some}
 use Rattle.isle_types.specs.declared.ids.Sym.{Sym}
-use Rattle.isle_terms.specs.declared.rules.Rule as source
-use Rattle.isle_terms.specs.TypedRules.{TypedRule}
+use Rattle.isle_rules.specs.declared.rules.Rule as source
+use Rattle.isle_rules.specs.TypedRules.{TypedRule}
 use Rattle.isle_meaning.specs.Facts.{TermFacts}
 use Rattle.isle_meaning.specs.Held.{Held}
+use Rattle.isle_meaning.specs.Held as holding
 use Rattle.isle_meaning.specs.Holds as holds
 use Rattle.isle_meaning.specs.Sites.{Site}
 use Rattle.isle_meaning.specs.Demands.{Demand, constrained, equal}
 use Rattle.isle_meaning.specs.Demands as demands
 use Rattle.isle_meaning.specs.Derived.{Closed, demanded}
-use Rattle.isle_meaning.specs.Laws.Matching.{DemandOf}
+use Rattle.isle_meaning.specs.Demands.{DemandOf}
 use Rattle.isle_meaning.specs.Numbered.{Row, At}
 use Rattle.isle_meaning.proofs.Matching.Closing.{from_closed}
 use Rattle.isle_meaning.proofs.Matching.Numbering.{one_site}
@@ -68,8 +69,12 @@ module _ (name : Sym → List ℕ) (facts : TermFacts) (sources : List source.Ru
       let (id, test, inside, at_id, is) = closed.tests.all t e k in
       let (test', has_it, what) = its_test name facts sources rules term set h p r m t id.0 e at_id k in
       let met = w.wants id.0 (has test') (test_wanted name facts sources rules term set h i id.0 r test' at has_it) in
-      let (x, g, q) = passed name set test' (v id.0) met in
-      (x, say t id.0 at_id (inl (constrained t e, k, refl)) ∙ g, subst (λ (d : demands.Constraint). holds.Meets d x) what (passed_meets name test' x q))
+      let (x, g, q) = passed name set test' (v id.0) met in (
+        x,
+        say t id.0 at_id (inl (constrained t e, k, refl)) ∙ g,
+        subst (λ (d : demands.Constraint). holding.Meets d x) what
+            (passed_meets name test' x q),
+      )
   holds_closed w (equal s u) k =
       let closed = m.closed in
       let (x, y, at_x, at_y, joined) = closed.equalities.all s u k in

@@ -136,7 +136,8 @@ map_places g f e k (x ∷ xs) h =
     ∙ ap (λ l. e x ++ l) (map_places g f e (suc k) xs h)
 
 -- Without the places these are the ways.
-pub placed_ways : {V : Type 0} (M : Model V) (ss : List ℕ) (h : Picks V) (q : Picks ℕ) → map (λ (x : Picks V × Picks ℕ). x.0) (placed M ss h q) ≡ ways M ss h
+pub placed_ways : {V : Type 0} (M : Model V) (ss : List ℕ) (h : Picks V) (q : Picks ℕ)
+    → map (λ (x : Picks V × Picks ℕ). x.0) (placed M ss h q) ≡ ways M ss h
 placed_ways M [] h q = refl
 placed_ways {V} M (s ∷ ss) h q =
     map_places (λ (x : Picks V × Picks ℕ). x.0) (λ k c. placed M ss (pick h s c) (pick q s k)) (λ c. ways M ss (pick h s c)) 0 (M.many h s)

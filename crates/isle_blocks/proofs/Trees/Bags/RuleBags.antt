@@ -5,8 +5,8 @@ use Rattle.std.specs.List.{AllZip, filter, flat_map}
 use Rattle.std.proofs.lemmas.List.{map-append}
 use Rattle.std.proofs.lemmas.Option.{same_Some, slice_get_within, get_or_from_slice_get}
 use Rattle.isle_types.specs.declared.ids.Sym.{Sym}
-use Rattle.isle_terms.specs.declared.rules.Rule as source
-use Rattle.isle_terms.specs.TypedRules.{TypedRule}
+use Rattle.isle_rules.specs.declared.rules.Rule as source
+use Rattle.isle_rules.specs.TypedRules.{TypedRule}
 use Rattle.isle_meaning.specs.Values.{Value, Values, count}
 use Rattle.isle_meaning.specs.Facts.{TermFacts}
 use Rattle.isle_meaning.specs.Answers.{Completion}
@@ -15,7 +15,7 @@ use Rattle.isle_meaning.specs.AboutSites.ImpureCalls.{IfLetsArePure}
 use Rattle.isle_meaning.specs.Demands.{Demand}
 use Rattle.isle_meaning.specs.Held.{Held}
 use Rattle.isle_meaning.specs.Holds.{Holds, IsProper}
-use Rattle.isle_meaning.specs.Laws.Matching.{DemandOf}
+use Rattle.isle_meaning.specs.Demands.{DemandOf}
 use Rattle.isle_meaning.specs.Numbered.{At}
 use Rattle.isle_meaning.specs.Sites.{Site}
 use Rattle.isle_meaning.proofs.Matching.Basics.{value_respects}
@@ -52,7 +52,7 @@ use Rattle.isle_trees.specs.Bag.{IsSameBag, Model, Picks, Round, gave, answers, 
 use Rattle.isle_trees.specs.Builds.{Builds}
 use Rattle.isle_trees.specs.Rules.{Rules, Elem}
 use Rattle.isle_trees.specs.Scopes.{nothing_known}
-use Rattle.isle_trees.specs.Search.{below}
+use Rattle.isle_trees.specs.Rules.{below}
 use Rattle.isle_trees.specs.Tree.{Steps}
 use Rattle.isle_trees.proofs.Basics.{true_or, from_filter, to_filter, elem_contains, contains_elem}
 use Rattle.isle_trees.proofs.Building.Lists.{below_less, elem_below}

@@ -138,7 +138,8 @@ module _ (name : Sym → List ℕ) (table : List Binding) where
       | inl e ↦
           let one : n ≡ k = elim (slice_get_cases table n).1 [
             | inl (b, q, there, g) ↦
-                let stands = subst (λ (z : Site). At (rows_of name table) z n) (tree_sound (tree_of name table n) s e) (tree_at name table ok n b there) in
+                let stands = subst (λ (z : Site). At (rows_of name table) z n) (tree_sound (tree_of name table n) s e)
+                (tree_at name table ok n b there) in
                 one_number name table injective ok s n k stands at
             | inr (q, none) ↦ absurd (omega arith)
           ] in

@@ -4,8 +4,8 @@ use Rattle.std.proofs.Common.{refl, ap, sym, subst, ◌∙◌, arith, Contains}
 use Rattle.std.specs.Prelude.{if◌then◌else◌}
 use Rattle.std.proofs.lemmas.Option.{same_Some, none-some}
 use Rattle.isle_types.specs.declared.ids.Sym.{Sym}
-use Rattle.isle_terms.specs.declared.rules.Rule as source
-use Rattle.isle_terms.specs.TypedRules.{TypedRule}
+use Rattle.isle_rules.specs.declared.rules.Rule as source
+use Rattle.isle_rules.specs.TypedRules.{TypedRule}
 use Rattle.isle_meaning.specs.Got.{Got, unknown, fails, gives}
 use Rattle.isle_meaning.specs.Values.{Value, Values, count, ask, nth_of}
 use Rattle.isle_meaning.specs.Facts.{TermFacts}
@@ -16,7 +16,7 @@ use Rattle.isle_meaning.specs.Held.{Held, held_value, held_outputs, held_none, h
 use Rattle.isle_meaning.specs.Holds as holds
 use Rattle.isle_meaning.specs.Demands.{Demand}
 use Rattle.isle_meaning.specs.Derived.{Derived}
-use Rattle.isle_meaning.specs.Laws.Matching.{DemandOf}
+use Rattle.isle_meaning.specs.Demands.{DemandOf}
 use Rattle.isle_meaning.specs.Needs.{needs_of, IsNeeded}
 use Rattle.isle_meaning.specs.Numbered.{Row, At, AtAll}
 use Rattle.isle_meaning.specs.Sites.{Site, iterator, Sites, no_sites, more_sites}
@@ -53,7 +53,8 @@ use Rattle.isle_trees.proofs.Basics.{true_or}
 use Rattle.isle_trees.proofs.Whole.{whole_calls}
 
 -- what stands in a list's items is an item of the list
-in_list : (l : List Values) (n : ℕ) (x : Held) → slice_get (map outputs_of l) n ≡ Some x → (vs : Values) × (nth_of l n ≡ gives vs) × (x ≡ outputs_of vs)
+in_list : (l : List Values) (n : ℕ) (x : Held) → slice_get (map outputs_of l) n ≡ Some x → (vs : Values) × (nth_of l n ≡ gives vs)
+    × (x ≡ outputs_of vs)
 in_list [] n x e = absurd (none-some x e)
 in_list (vs ∷ l) zero x e = (vs, refl, sym (same_Some (outputs_of vs) x e))
 in_list (vs ∷ l) (suc n) x e = in_list l n x e
@@ -214,7 +215,8 @@ module _ (name : Sym → List ℕ) (facts : TermFacts) (sources : List source.Ru
           let slot = placed_items M below (R.loops i) p q x (ascending name facts sources rules term set h i) inside k
           (subst (λ (z : ℕ). Elem z (R.loops i)) one among) in
           item_held (val s) (way s) (x.0 k)
-          (ap (λ (l : List Held). slice_get l (way s)) (sym (lists_at (x.0) s k used here places)) ∙ ap (slice_get (M.many (x.0) k)) (is s k here) ∙ slot)
+          (ap (λ (l : List Held). slice_get l (way s)) (sym (lists_at (x.0) s k used here places)) ∙ ap (slice_get (M.many (x.0) k))
+          (is s k here) ∙ slot)
 
       -- an item of a multi call's has its call's taken
       abbrev IsTaken : Site → Type 0

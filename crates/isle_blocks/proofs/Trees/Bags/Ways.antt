@@ -48,7 +48,8 @@ module _ {C V : Type 0} (R : Rules C V) (M : Model V) (well : IsWellMade R) (mod
       let own : c ≡ g s = sym mine ∙ below_ways ss (pick h s c) g s (up.0) rest in
       let same : M.many h s ≡ M.many g s = many_below h g s (λ u l.
       sym (pick_other h s u c (λ p. omega arith)) ∙ below_ways ss (pick h s c) g u (λ x n. let b : s < x = up.0 x n in omega arith) rest) in
-      subst (λ (z : ℕ). Elem (g z) (M.many g z)) (sym e) (subst (λ (l : List V). Elem (g s) l) same (subst (λ (x : V). Elem x (M.many h s)) own inside))
+      subst (λ (z : ℕ). Elem (g z) (M.many g z)) (sym e) (subst (λ (l : List V). Elem (g s) l) same
+      (subst (λ (x : V). Elem x (M.many h s)) own inside))
   takes_items (s ∷ ss) h g up m k (inr n) =
       let (c, inside, rest) = elem_flat (λ b. ways M ss (pick h s b)) g (M.many h s) m in
       takes_items ss (pick h s c) g (up.1) rest k n

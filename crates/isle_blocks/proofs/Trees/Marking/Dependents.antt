@@ -49,7 +49,8 @@ lists_more s parts i old mid new l e h = record {
   only = λ p x m. elim (added_only (mid p) (new p) (get_or parts i 0) s p x (e p) m) [ inl o ↦ h.only p x o | inr f ↦ inr f ];
 }
 
-pub lists_all : (s : ℕ) (parts : List ℕ) (i : ℕ) (old new : ℕ → List ℕ) → length parts ≤ i → ListsAt s (take i parts) old new → ListsAt s parts old new
+pub lists_all : (s : ℕ) (parts : List ℕ) (i : ℕ) (old new : ℕ → List ℕ) → length parts ≤ i → ListsAt s (take i parts) old new
+    → ListsAt s parts old new
 lists_all s parts i old new l h = let P : List ℕ → Type 0 = λ y. ListsAt s y old new in subst P (take_all i parts l) h
 
 -- so far, over a list of sites

@@ -4,7 +4,8 @@ use Rattle.std.proofs.lemmas.Bool.Decides.{nat_tests}
 use Rattle.std.specs.List.{filter}
 use Rattle.isle_trees.specs.Rules.{Want, has, one_value, Rules, Elem}
 use Rattle.isle_trees.specs.Scopes.{Scope, join, inside, on_match, on_loop}
-use Rattle.isle_trees.specs.Search.{HasUsers, IsSamePath, below, is_marked, is_open}
+use Rattle.isle_trees.specs.Search.{HasUsers, IsSamePath, is_marked, is_open}
+use Rattle.isle_trees.specs.Rules.{below}
 use Rattle.isle_trees.proofs.Basics.{and_both, both_and, clash, has_length, to_filter}
 use Rattle.isle_trees.proofs.Building.Lists.{elem_below, elem_left, elem_right, filter_append, less_or}
 use Rattle.isle_trees.proofs.Building.Scopes.{get_past}
@@ -32,7 +33,8 @@ ready_path {C} R left rest a b marks ready p sub h i x w m e o =
     let P : Option (Want C) → Type 0 = λ v. (is_marked marks x && not (is_some v)) ≡ true in h i x w (sub i m) e (subst P (p x) o)
 
 pub ready_joined : {C V : Type 0} (R : Rules C V) (left rest : List ℕ) (sc mid after : Scope C) (a b : ℕ) (marks : List Bool) (ready : List ℕ)
-    → IsSamePath sc mid → after ≡ join mid a b → ((i : ℕ) → Elem i rest → Elem i left) → AreReady R left sc marks ready → AreReady R rest after marks ready
+    → IsSamePath sc mid → after ≡ join mid a b → ((i : ℕ) → Elem i rest → Elem i left) → AreReady R left sc marks ready
+    → AreReady R rest after marks ready
 ready_joined {C} R left rest sc mid after a b marks ready p e sub h =
     ready_path R left rest sc after marks ready (λ y. ap (λ (x : Scope C). x.passed y) e ∙ p.passed y) sub h
 
@@ -47,7 +49,8 @@ ready_all R n users left sc marks ready h size is i x w m e o =
     (both_and (is_open sc marks x) _ o (users_some R users h i x w e)))
 
 -- and past a test: what could be tested before, and what was marked since
-ready_past : {C V : Type 0} (R : Rules C V) (users : ℕ → List ℕ) (left rest : List ℕ) (before sc : Scope C) (s : ℕ) (w : Want C) (start marks : List Bool)
+ready_past : {C V : Type 0} (R : Rules C V) (users : ℕ → List ℕ) (left rest : List ℕ) (before sc : Scope C)
+    (s : ℕ) (w : Want C) (start marks : List Bool)
     (list ready next : List ℕ) → HasUsers R users → IsSpread R sc s start marks list → IsPast before s sc → sc.passed s ≡ Some w
     → ((i : ℕ) → Elem i rest → Elem i left)
     → AreReady R left before start ready → next ≡ filter (is_testable users sc marks) (ready ++ list) → AreReady R rest sc marks next

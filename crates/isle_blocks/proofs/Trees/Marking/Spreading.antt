@@ -61,7 +61,8 @@ spreads_over R sc s marks list n = record {
 }
 
 -- a site that needs one
-pub spreads_new : {C V : Type 0} (R : Rules C V) → SameIs R.tests → (sc : Scope C) (s : ℕ) (marks new : List Bool) (list more : List ℕ) → s < length marks
+pub spreads_new : {C V : Type 0} (R : Rules C V) → SameIs R.tests → (sc : Scope C) (s : ℕ) (marks new : List Bool) (list more : List ℕ)
+    → s < length marks
     → (not (is_marked marks s) && can_bind R sc marks s) ≡ true → new ≡ set marks s true → more ≡ list ++ s ∷ []
     → Spreads R sc (s ∷ []) marks new list more
 spreads_new {C} R same sc s marks new list more l n e h =
@@ -110,7 +111,8 @@ IsWaiting R i sc marks rest =
 pub record IsSpreading {C V : Type 0} (R : Rules C V) (sc : Scope C) (s : ℕ) (start marks : List Bool) (list : List ℕ) (at : ℕ) : Type 0 where
   pub gathering : IsGathering start marks list
   pub sound : AreSound R sc marks
-  pub waiting : (i : ℕ) (before : Scope C) → AreSound R before start → IsFull R i before start → IsPast before s sc → IsWaiting R i sc marks (drop at list)
+  pub waiting : (i : ℕ) (before : Scope C) → AreSound R before start → IsFull R i before start → IsPast before s sc
+      → IsWaiting R i sc marks (drop at list)
 
 -- all of these sites are marked, or one is not
 some_unmarked : (marks : List Bool) (xs : List ℕ) → (all_marked marks xs ≡ true) ⊎ ((p : ℕ) × Elem p xs × (is_marked marks p ≡ false))
@@ -121,7 +123,8 @@ some_unmarked marks (x ∷ xs) = elim (true_or (is_marked marks x)) [
 ]
 
 -- what can be bound could be before, or has a part that was marked since
-bind_or : {C V : Type 0} (R : Rules C V) (sc : Scope C) (sites : List ℕ) (start m0 m1 : List Bool) (l0 l1 : List ℕ) (g : Spreads R sc sites m0 m1 l0 l1)
+bind_or : {C V : Type 0} (R : Rules C V) (sc : Scope C) (sites : List ℕ) (start m0 m1 : List Bool) (l0 l1 : List ℕ)
+    (g : Spreads R sc sites m0 m1 l0 l1)
     → IsGathering start m0 l0 → (x : ℕ) → can_bind R sc m1 x ≡ true
     → (can_bind R sc m0 x ≡ true) ⊎ ((p : ℕ) × Elem p g.more × Elem p (R.parts x))
 bind_or R sc sites start m0 m1 l0 l1 g before x e =
@@ -164,7 +167,8 @@ spreading_start {C} R same sc s made start marks none list e all sound g =
             elim (made_or (R.made x) s) [
               | inl (m, f, at) ↦ g.bound x (all x m f at) old
               | inr away ↦
-                  let parts : (p : ℕ) → Elem p (R.parts x) → IsAvailable R before p = λ p m. so p (all_gives (is_marked start) (R.parts x) p (both.1) m) in
+                  let parts : (p : ℕ) → Elem p (R.parts x) → IsAvailable R before p =
+                  λ p m. so p (all_gives (is_marked start) (R.parts x) p (both.1) m) in
                   let tested : (m : Source C) → R.made x ≡ Some m → before.passed m.site ≡ Some m.want = λ m f.
                   sym (past m.site (away m f)) ∙ made_sound R.tests sc (R.made x) same (both.0) m f in
                   g.kept x (full x a (IsAvailable.from_parts x parts tested))

@@ -2,8 +2,8 @@
 use Rattle.std.proofs.Common.{◌≡◌, ◌≤◌, ◌+◌, ◌==◌, inl, inr, ℕ, Bool, true, false, List, [], ◌∷◌, Option, Some, None, refl, subst, arith}
 use Rattle.std.specs.Prelude.{pos, if◌then◌else◌}
 use Rattle.isle_types.specs.declared.ids.Sym.{Sym}
-use Rattle.isle_terms.specs.Values.{ValueTree, bool_tree, int_tree, big_tree, const_tree}
-use Rattle.isle_terms.specs.Values.{opaque_tree, data_tree}
+use Rattle.isle_rules.specs.Values.{ValueTree, bool_tree, int_tree, big_tree, const_tree}
+use Rattle.isle_rules.specs.Values.{opaque_tree, data_tree}
 use Rattle.isle_meaning.specs.Answers.{Completion}
 use Rattle.isle_meaning.specs.Facts.{TermFacts, declared_shape}
 use Rattle.isle_meaning.specs.Got.{gives}

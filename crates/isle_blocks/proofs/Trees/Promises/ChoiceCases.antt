@@ -6,7 +6,7 @@ use Rattle.std.specs.Ordering.{is_eq}
 use Rattle.std.specs.declared.cmp.Ordering.{Ordering}
 use Rattle.std.specs.declared.cmp.Ordering.TheVariants.{Greater}
 use Rattle.isle_types.specs.declared.ids.Sym.{Sym}
-use Rattle.isle_terms.specs.Shown.TermTables.{TermTables}
+use Rattle.isle_rules.specs.Shown.TermTables.{TermTables}
 use Rattle.isle_meaning.specs.Answers.{Completion}
 use Rattle.isle_meaning.specs.Facts.{TermFacts}
 use Rattle.isle_meaning.specs.Held.{Held}
@@ -218,14 +218,17 @@ swapped_is_not_built is =
 
 -- Whatever definitions these are the rules of, the second doesn't match on true.
 module _ (env : TermTables) (d : AreDefined env) (term : ℕ)
-    (h : IsRunnableSet (name_of env d) (facts_by env d) env.rules (rules_by env d) term two) (c e : Completion) (both : MayBothBe (facts_by env d) c e)
+    (h : IsRunnableSet (name_of env d) (facts_by env d) env.rules (rules_by env d) term two) (c e : Completion)
+    (both : MayBothBe (facts_by env d) c e)
     (takes : 1 ≡ length h.runnable.types) (covers : CoversTerm (facts_by env d) e (truth true) (rules_by env d) term) where
   swapped_is_wrong : ChoosesAsRules two (returns 0 1) → ⊥
   swapped_is_wrong promised =
       let (place, rule, at, chosen) = promised env d term h c e (truth true) both takes covers in
-      let settled = settles (name_of env d) (facts_by env d) env.rules (rules_by env d) term two h e (truth true) both.second takes place rule chosen.is
+      let settled = settles (name_of env d) (facts_by env d) env.rules (rules_by env d) term two h e
+      (truth true) both.second takes place rule chosen.is
       (covers place rule chosen.is) in
-      let matches = (rules_match (name_of env d) (facts_by env d) env.rules (rules_by env d) term two h e (truth true) 1 place rule at chosen.is.listed
+      let matches = (rules_match (name_of env d) (facts_by env d) env.rules (rules_by env d) term two h e
+      (truth true) 1 place rule at chosen.is.listed
       settled).1 chosen.matches in
       let passes = matches.wants 0 (has (is_bool false)) refl in
       cc

@@ -3,8 +3,8 @@ use Rattle.std.proofs.Common.{◌≡◌, inl, inr, ℕ, zero, suc, ◌+◌, ◌<
 use Rattle.std.proofs.Common.{slice_get, refl, sym, ap, subst, ◌∙◌, arith, append-nil}
 use Rattle.std.proofs.lemmas.Option.{same_Some, none-some}
 use Rattle.isle_types.specs.declared.ids.Sym.{Sym}
-use Rattle.isle_terms.specs.declared.rules.Rule as source
-use Rattle.isle_terms.specs.TypedRules.{TypedRule}
+use Rattle.isle_rules.specs.declared.rules.Rule as source
+use Rattle.isle_rules.specs.TypedRules.{TypedRule}
 use Rattle.isle_meaning.specs.Answers.{Completion, IsAllowed}
 use Rattle.isle_meaning.specs.Calls.{Makes, Means}
 use Rattle.isle_meaning.specs.Demands.{vars_of}
@@ -26,7 +26,7 @@ use Rattle.isle_meaning.proofs.Sites.RightSites.{right_by_sites}
 use Rattle.isle_meaning.proofs.Sites.Steps.{steps_placed, steps_read}
 use Rattle.isle_trees.specs.Answers.{Answers, HasValue, all_have}
 use Rattle.isle_trees.specs.Builds.{Builds, IsTreeOf}
-use Rattle.isle_trees.specs.Choice.{IsKept, IsMet, IsRight, IsSettled, trace}
+use Rattle.isle_trees.specs.Choice.{IsKept, IsMet, IsRight, IsOpenFor, trace}
 use Rattle.isle_trees.specs.Got.{gives}
 use Rattle.isle_trees.specs.Rules.{Elem, IsPartOf, Rules, itself, of_part, rights}
 use Rattle.isle_trees.specs.Scopes.{nothing_known}
@@ -244,11 +244,11 @@ module _ (name : Sym → List ℕ) (facts : TermFacts) (sources : List source.Ru
     -- What a walk that chooses the rule comes to is a return that does its right side.
     pub returns_right : (b d : Bound) (calls more : List ℕ)
         → (IsMet R mine (rights R i) → (b ≡ bind mine (rights R i)) × (calls ≡ trace R mine (R.calls i)))
-        → (IsSettled all b → (d ≡ b) × (more ≡ [])) → ReturnsItsRight name set facts c args answers m.reached.rule i d (calls ++ more)
+        → (IsOpenFor all b → (d ≡ b) × (more ≡ [])) → ReturnsItsRight name set facts c args answers m.reached.rule i d (calls ++ more)
     returns_right b d calls more right settled ok met =
         let (bound, made) = right (same_met ok met) in
         let whole : b ≡ bind all (rights R i) = bound ∙ same_bound ok in
-        let fine : IsSettled all b = subst (λ (x : Bound). IsSettled all x) (sym whole) (by_bound (bind all (rights R i)) refl) in
+        let fine : IsOpenFor all b = subst (λ (x : Bound). IsOpenFor all x) (sym whole) (by_bound (bind all (rights R i)) refl) in
         let (same_end, none) = settled fine in
         let ended : d ≡ bind all (rights R i) = same_end ∙ whole in
         let listed : calls ++ more ≡ trace R all (R.calls i) = ap (λ (l : List ℕ). calls ++ l) none ∙ append-nil calls ∙ made ∙ same_trace ok in
@@ -264,7 +264,7 @@ module _ (name : Sym → List ℕ) (facts : TermFacts) (sources : List source.Ru
           ),
         )
       where
-        by_bound : (x : Bound) → bind all (rights R i) ≡ x → IsSettled all x
+        by_bound : (x : Bound) → bind all (rights R i) ≡ x → IsOpenFor all x
         by_bound goes e = tt
         by_bound (opens s) e = absurd (none_open R all (rights R i) s met e)
         by_bound breaks e = tt

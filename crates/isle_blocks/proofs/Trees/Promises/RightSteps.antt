@@ -4,8 +4,8 @@ use Rattle.std.proofs.Common.{slice_get, refl, sym, ap, subst, ◌∙◌, arith,
 use Rattle.std.specs.Prelude.{if◌then◌else◌}
 use Rattle.std.proofs.lemmas.Option.{none-some}
 use Rattle.isle_types.specs.declared.ids.Sym.{Sym}
-use Rattle.isle_terms.specs.declared.rules.Rule as source
-use Rattle.isle_terms.specs.TypedRules.{TypedRule}
+use Rattle.isle_rules.specs.declared.rules.Rule as source
+use Rattle.isle_rules.specs.TypedRules.{TypedRule}
 use Rattle.isle_meaning.specs.AboutSites.Kinds.{IsKinded, IsPlain}
 use Rattle.isle_meaning.specs.AboutSites.Parts.{parts_of, IsOneOf}
 use Rattle.isle_meaning.specs.AboutSites.RightSites.{RightBySites}
@@ -35,7 +35,7 @@ use Rattle.isle_trees.specs.Got.{Got, unknown, fails, gives}
 use Rattle.isle_trees.specs.Rules.{Elem, Rules, itself}
 use Rattle.isle_trees.specs.Walk.{Bound, breaks, bind, call}
 use Rattle.isle_trees.proofs.Basics.{all_from, all_gives, failed_known, gives_true, given_known, none_or, true_gives, true_or}
-use Rattle.isle_blocks.specs.Bindings.{sources_of}
+use Rattle.isle_blocks.specs.Tables.{sources_of}
 use Rattle.isle_blocks.specs.Building.Standing.{StandEach}
 use Rattle.isle_blocks.specs.declared.binding.Binding.{Binding}
 use Rattle.isle_blocks.specs.declared.binding.Binding.TheVariants as sites

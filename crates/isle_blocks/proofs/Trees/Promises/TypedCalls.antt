@@ -2,8 +2,8 @@
 use Rattle.std.proofs.Common.{◌≡◌, inl, inr, ℕ, Bool, true, List, [], ◌∷◌, Option, Some, slice_get, sym, subst}
 use Rattle.std.specs.List.{AllZip}
 use Rattle.isle_types.specs.declared.ids.Sym.{Sym}
-use Rattle.isle_terms.specs.declared.rules.Rule as source
-use Rattle.isle_terms.specs.TypedRules.{TypedRule}
+use Rattle.isle_rules.specs.declared.rules.Rule as source
+use Rattle.isle_rules.specs.TypedRules.{TypedRule}
 use Rattle.isle_meaning.specs.Answers.{Completion}
 use Rattle.isle_meaning.specs.Calls.{HasTypedAnswers}
 use Rattle.isle_meaning.specs.Demands.{Demand, constrained, equal, variant_constraint, struct_constraint, result_of}
@@ -12,7 +12,8 @@ use Rattle.isle_meaning.specs.Facts.{TermFacts}
 use Rattle.isle_meaning.specs.Got.{gives}
 use Rattle.isle_meaning.specs.GroundValues.{AreValuesOf}
 use Rattle.isle_meaning.specs.Held.{Held, value}
-use Rattle.isle_meaning.specs.Laws.Matching.{DemandOf, IsRuleOfTypes}
+use Rattle.isle_meaning.specs.Laws.Matching.{IsRuleOfTypes}
+use Rattle.isle_meaning.specs.Demands.{DemandOf}
 use Rattle.isle_meaning.specs.Needs.{needs_of, IsNeeded}
 use Rattle.isle_meaning.specs.Numbered.{Row}
 use Rattle.isle_meaning.specs.Sites.{Site, extractor_call, constructor_call}

@@ -2,7 +2,7 @@
 use Rattle.std.proofs.Common.{◌≡◌, ◌⊎◌, inl, inr, ℕ, zero, suc, ◌==◌, List, [], ◌∷◌, length, Bool, true, false, Option, Some, None, slice_get}
 use Rattle.std.proofs.Common.{refl, sym, ap, subst, ◌∙◌, arith, eqb-true}
 use Rattle.std.specs.Prelude.{if◌then◌else◌}
-use Rattle.isle_terms.specs.Values.{ValueTrees, no_trees, more_trees}
+use Rattle.isle_rules.specs.Values.{ValueTrees, no_trees, more_trees}
 use Rattle.isle_meaning.specs.Got.{Got, unknown, fails, gives}
 use Rattle.isle_meaning.specs.Values.{Value, bool_value, int_value, constant_value, made_variant, made_struct, Values, no_values}
 use Rattle.isle_meaning.specs.Values.{more_values, count, nth, more, made, built}

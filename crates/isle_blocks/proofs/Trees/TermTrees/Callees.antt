@@ -1,9 +1,9 @@
 -- The constructors that a sound rule's sites call: of those with rules the ones that are run, and with a number where they aren't pure.
 use Rattle.std.proofs.Common.{◌≡◌, ℕ, zero, suc, ◌==◌, List, [], ◌∷◌, length, Bool, true, false, refl, subst}
-use Rattle.isle_terms.specs.TypedRules.{TypedPattern, typed_bind, typed_var, typed_bool, typed_int, typed_prim, typed_term, typed_wildcard}
-use Rattle.isle_terms.specs.TypedRules.{typed_and, TypedPatterns, no_typed, more_typed, TypedExpr, built_var, built_bool, built_int}
-use Rattle.isle_terms.specs.TypedRules.{built_prim, built_term, built_let, TypedExprs, no_built, more_built, TypedBindings, no_typed_bindings}
-use Rattle.isle_terms.specs.TypedRules.{more_typed_bindings, TypedIfLet, TypedRule}
+use Rattle.isle_rules.specs.TypedRules.{TypedPattern, typed_bind, typed_var, typed_bool, typed_int, typed_prim, typed_term, typed_wildcard}
+use Rattle.isle_rules.specs.TypedRules.{typed_and, TypedPatterns, no_typed, more_typed, TypedExpr, built_var, built_bool, built_int}
+use Rattle.isle_rules.specs.TypedRules.{built_prim, built_term, built_let, TypedExprs, no_built, more_built, TypedBindings, no_typed_bindings}
+use Rattle.isle_rules.specs.TypedRules.{more_typed_bindings, TypedIfLet, TypedRule}
 use Rattle.isle_meaning.specs.Demands.{parts, bound, bound_all, iflet_site, iflets_bound, args_bound, vars_of, nothing, some_of, result_of}
 use Rattle.isle_meaning.specs.Facts.{TermShape, variant_shape, struct_shape, declared_shape, TermFacts, patterns}
 use Rattle.isle_meaning.specs.Needs.{from_on, extract_needs, output_needs, open_needs, needs, needs_all, args_needs, Log, no_log}
@@ -203,7 +203,8 @@ module _ (p : CheckedProgram) (R : ℕ → Type 0) where
 
     -- and what visits of bindings bind and need
     visit_lets_may : (bs : TypedBindings) (vars : ℕ → Site) (log : Log) → AreSoundBindings p R bs → AllMay vars
-        → EachSite CallsAsItMay log.needed → AllMay ((visit_lets facts vars log bs).0) × EachSite CallsAsItMay ((visit_lets facts vars log bs).1.needed)
+        → EachSite CallsAsItMay log.needed → AllMay ((visit_lets facts vars log bs).0)
+        × EachSite CallsAsItMay ((visit_lets facts vars log bs).1.needed)
     visit_lets_may no_typed_bindings vars log o g h = (g, h)
     visit_lets_may (more_typed_bindings k ty e bs) vars log o g h =
         let a = visit_may e vars log (o.0) g h in

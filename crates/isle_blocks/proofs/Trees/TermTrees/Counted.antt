@@ -10,7 +10,7 @@ use Rattle.std.proofs.lemmas.Option.{slice_get-get_or}
 use Rattle.isle_types.specs.declared.ids.Sym.{Sym}
 use Rattle.isle_types.specs.JoinedSets.{members}
 use Rattle.isle_trees.specs.Counting.{steps_at_most, total_constraints}
-use Rattle.isle_trees.specs.Search.{below}
+use Rattle.isle_trees.specs.Rules.{below}
 use Rattle.isle_blocks.specs.declared.ids.BindingId.{BindingId}
 use Rattle.isle_blocks.specs.declared.rule.Rule.{Rule}
 use Rattle.isle_blocks.specs.ClosedRules.{same_site}
@@ -42,7 +42,8 @@ classes_counted sets = each sets ∙ sym (length-flat_map (λ (set : List Bindin
     each (s ∷ sets) =
         let one : length (numbers_of s) ≡ length s = length-map s (λ (id : BindingId). id.0) in
         let rest = each sets in
-        sum_by-cons length (numbers_of s) (map numbers_of sets) ∙ (λ i. one i + rest i) ∙ sym (sum_by-cons (λ (set : List BindingId). length set) s sets)
+        sum_by-cons length (numbers_of s) (map numbers_of sets) ∙ (λ i. one i + rest i) ∙ sym
+        (sum_by-cons (λ (set : List BindingId). length set) s sets)
 
 -- a rule that has no multi call has no site of one
 no_iterators : (r : Rule) → ((s : ℕ) → has_loop s r ≡ false) → r.iterators ≡ []
@@ -76,9 +77,11 @@ module _ (name : Sym → List ℕ) (set : RulesOverSites) where
   steps_counted none = by set.rules refl
     where
       by : (rules : List Rule) → set.rules ≡ rules → steps_at_most (rules_of name set) (all_rules set) ≡ set_steps set
-      by [] e = ap (λ (l : List Rule). sum_by (λ i. total_constraints (rules_of name set) i + 1) (below (length l))) e ∙ sym (ap (sum_by rule_steps) e)
+      by [] e = ap (λ (l : List Rule). sum_by (λ i. total_constraints (rules_of name set) i + 1) (below (length l))) e ∙ sym
+          (ap (sum_by rule_steps) e)
       by (first ∷ others) e =
-          let all : take (length set.rules) set.rules ≡ set.rules = take_all (length set.rules) set.rules (let z : length set.rules ≤ length set.rules = omega arith in z) in
+          let all : take (length set.rules) set.rules ≡ set.rules = take_all (length set.rules) set.rules
+          (let z : length set.rules ≤ length set.rules = omega arith in z) in
           sums_same (λ i. total_constraints (rules_of name set) i + 1) rule_steps set.rules
           (λ i r at. rule_counted i r at (no_iterators r (none i r at))) first (length set.rules)
           (let z : length set.rules ≤ length set.rules = omega arith in z)

@@ -5,8 +5,8 @@ use Rattle.std.specs.Prelude.{pos}
 use Rattle.std.proofs.lemmas.List.{map-append}
 use Rattle.std.proofs.lemmas.Option.{slice_get_within}
 use Rattle.isle_types.specs.declared.ids.Sym.{Sym}
-use Rattle.isle_terms.specs.declared.rules.Rule as source
-use Rattle.isle_terms.specs.TypedRules.{TypedRule, no_typed, built_bool}
+use Rattle.isle_rules.specs.declared.rules.Rule as source
+use Rattle.isle_rules.specs.TypedRules.{TypedRule, no_typed, built_bool}
 use Rattle.isle_meaning.specs.Calls.{IsRuleAt}
 use Rattle.isle_meaning.specs.Demands.{constrained, equal, vars_of, result_of}
 use Rattle.isle_meaning.specs.Demands as meaning
@@ -14,7 +14,7 @@ use Rattle.isle_meaning.specs.Derived.{Derived, Closed}
 use Rattle.isle_meaning.specs.Facts.{TermFacts}
 use Rattle.isle_meaning.specs.Faults.{IsUnreachable}
 use Rattle.isle_meaning.specs.Held.{Held}
-use Rattle.isle_meaning.specs.Laws.Matching.{DemandOf}
+use Rattle.isle_meaning.specs.Demands.{DemandOf}
 use Rattle.isle_meaning.specs.Machine.Trees.{with_content, calls_of}
 use Rattle.isle_meaning.specs.Numbered.{Row, match_some_row, constructor_row, At}
 use Rattle.isle_meaning.specs.Sites.{Site, Sites, constructor_call, iterator, match_some, answer_site, sites_of, step_site}

@@ -15,7 +15,7 @@ use Rattle.isle_blocks.specs.declared.binding.Binding.TheVariants as sites
 use Rattle.isle_blocks.specs.declared.constraint.Constraint.{Constraint}
 use Rattle.isle_blocks.specs.declared.ids.BindingId.{BindingId}
 use Rattle.isle_blocks.specs.declared.rule.Rule.{Rule}
-use Rattle.isle_blocks.specs.Bindings.{sources_of}
+use Rattle.isle_blocks.specs.Tables.{sources_of}
 use Rattle.isle_blocks.specs.Tables.{IsTable}
 use Rattle.isle_blocks.specs.Rows.{IsInjective, numbers_of, row_of, rows_of}
 use Rattle.isle_blocks.specs.Trees.SiteTrees.{trees_of, tree_from, tree_of}

@@ -2,8 +2,8 @@
 use Rattle.std.proofs.Common.{◌≡◌, inl, inr, ℕ, zero, suc, List, [], ◌∷◌, map, true, false, Some, slice_get, refl, sym}
 use Rattle.std.proofs.Common.{subst, ◌∙◌}
 use Rattle.isle_types.specs.declared.ids.Sym.{Sym}
-use Rattle.isle_terms.specs.declared.rules.Rule as source
-use Rattle.isle_terms.specs.TypedRules.{TypedRule}
+use Rattle.isle_rules.specs.declared.rules.Rule as source
+use Rattle.isle_rules.specs.TypedRules.{TypedRule}
 use Rattle.isle_meaning.specs.AboutSites.ImpureCalls.{IfLetsArePure}
 use Rattle.isle_meaning.specs.Demands.{Demand, result_of}
 use Rattle.isle_meaning.specs.Derived.{FieldOf, of_variant, of_struct}
@@ -11,7 +11,8 @@ use Rattle.isle_meaning.specs.Facts.{TermFacts}
 use Rattle.isle_meaning.specs.Got.{Got, gives}
 use Rattle.isle_meaning.specs.GroundValues.{IsValueOf, AreValuesOf}
 use Rattle.isle_meaning.specs.Held.{Held, held_value, held_outputs, held_none, held_some, plain, variant_field, struct_field, output_of}
-use Rattle.isle_meaning.specs.Laws.Matching.{DemandOf, IsRuleOfTypes}
+use Rattle.isle_meaning.specs.Laws.Matching.{IsRuleOfTypes}
+use Rattle.isle_meaning.specs.Demands.{DemandOf}
 use Rattle.isle_meaning.specs.Machine.Runs.{values_at, made_of}
 use Rattle.isle_meaning.specs.Machine.Trees.{sites_at, site_of_row, parts_of_row, IsSingleRow, option_sort_if}
 use Rattle.isle_meaning.specs.Machine.Trees as machine

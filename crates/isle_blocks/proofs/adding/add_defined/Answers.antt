@@ -27,7 +27,8 @@ returns-clause-added c =
     if_ok _ _ c.add_rule.result
     (λ made h d.
     let own = c.in_ok-built.ensures.own d in
-    added_of (name_in env rule d) (facts_in env rule d) c.args.partial d.typed c.args.table.now built.sites c.add_rule.new.table built.has.items built.same.items
+    added_of (name_in env rule d) (facts_in env rule d) c.args.partial d.typed c.args.table.now built.sites
+    c.add_rule.new.table built.has.items built.same.items
     built.impure.items built.result own c.in_ok-built.ensures.few made
     (h (name_in env rule d) (name_by_injective d.tyenv.names d.once) (demands_of (facts_in env rule d) d.typed) own.recorded))
     c.add_rule.ensures.assembled

@@ -26,7 +26,8 @@ returns-clause-own c = λ d.
           let (same_id, same_sites) = c.in_ok-built.ensures.itself e in
           let own = own_total name injective facts d.typed (gathered_in built) built.result is c.len-count.ensures.once in
           subst (λ (l : List Binding). IsOwnOf name facts false d.typed l built.has.items built.same.items built.impure.items id) (sym same_sites)
-          (subst (λ (x : BindingId). IsOwnOf name facts false d.typed built.sites built.has.items built.same.items built.impure.items x) (sym same_id) own)
+          (subst (λ (x : BindingId). IsOwnOf name facts false d.typed built.sites built.has.items built.same.items built.impure.items x)
+          (sym same_id) own)
     ] refl
 
 pub returns-in-Err-Size-clause-full : goal.returns-in-Err-Size-clause-full

@@ -14,17 +14,21 @@ returns-in_err-placed-clause-full c =
     let e = err_from_is_err_and c.from_residual.result c.from_residual.ensures.1 in
     let own = c.args.built.now.sites in let base = c.args.table.now in
     rw (e.1, e.2) (λ size.
-    subst (λ (l : List (BindingId × Constraint)). ForDemandsOf own l c.args.built.now.same.items (λ name ds. (IsUnreachable (Among ds) → ⊥) × HasNoRoomFor name ds base own))
+    subst (λ (l : List (BindingId × Constraint)). ForDemandsOf own l c.args.built.now.same.items
+    (λ name ds. (IsUnreachable (Among ds) → ⊥) × HasNoRoomFor name ds base own))
     c.deref.ensures.value
-    (subst (λ (l : List (BindingId × BindingId)). ForDemandsOf own c.deref.result.now l (λ name ds. (IsUnreachable (Among ds) → ⊥) × HasNoRoomFor name ds base own))
+    (subst (λ (l : List (BindingId × BindingId)). ForDemandsOf own c.deref.result.now l
+    (λ name ds. (IsUnreachable (Among ds) → ⊥) × HasNoRoomFor name ds base own))
     c.deref-2.ensures.value (c.in_err-placed.ensures.full size)))
 
 pub returns-in_default-clause-assembled : goal.returns-in_default-clause-assembled
 returns-in_default-clause-assembled c =
     let own = c.args.built.now.sites in let base = c.args.table.now in let grown = c.place_rule.new.own in let table = c.place_rule.new.table in
-    let given = subst (λ (q : Option PlacedRule). ForDemandsOf own c.deref.result.now c.deref-2.result.now (λ name ds. IsPlaced name ds base own grown table q))
+    let given = subst (λ (q : Option PlacedRule). ForDemandsOf own c.deref.result.now c.deref-2.result.now
+    (λ name ds. IsPlaced name ds base own grown table q))
     c.in_default.is c.in_ok-placed.ensures.placed in
-    subst (λ (l : List (BindingId × Constraint)). ForDemandsOf own l c.args.built.now.same.items (λ name ds. IsPlaced name ds base own grown table None))
+    subst (λ (l : List (BindingId × Constraint)). ForDemandsOf own l c.args.built.now.same.items
+    (λ name ds. IsPlaced name ds base own grown table None))
     c.deref.ensures.value
     (subst (λ (l : List (BindingId × BindingId)). ForDemandsOf own c.deref.result.now l (λ name ds. IsPlaced name ds base own grown table None))
     c.deref-2.ensures.value given)
@@ -33,12 +37,15 @@ pub returns-clause-assembled : goal.returns-clause-assembled
 returns-clause-assembled c = λ name injective ds recorded.
     let own = c.args.built.now.sites in let base = c.args.table.now in let grown = c.place_rule.new.own in let table = c.place_rule.new.table in
     let placed = Some c.in-Some.placed in
-    let given = subst (λ (q : Option PlacedRule). ForDemandsOf own c.deref.result.now c.deref-2.result.now (λ name ds. IsPlaced name ds base own grown table q))
+    let given = subst (λ (q : Option PlacedRule). ForDemandsOf own c.deref.result.now c.deref-2.result.now
+    (λ name ds. IsPlaced name ds base own grown table q))
     c.in-Some.is c.in_ok-placed.ensures.placed in
-    let all = subst (λ (l : List (BindingId × Constraint)). ForDemandsOf own l c.args.built.now.same.items (λ name ds. IsPlaced name ds base own grown table placed))
+    let all = subst (λ (l : List (BindingId × Constraint)). ForDemandsOf own l c.args.built.now.same.items
+    (λ name ds. IsPlaced name ds base own grown table placed))
     c.deref.ensures.value
     (subst (λ (l : List (BindingId × BindingId)). ForDemandsOf own c.deref.result.now l (λ name ds. IsPlaced name ds base own grown table placed))
     c.deref-2.ensures.value given) in
     let m = c.in_ok-made_rule.ensures in
     assembled name injective ds base own grown table c.in-Some.placed (all name injective ds recorded) c.requires.table c.requires.ready.sites
-    c.args.built.now.impure.items c.args.built.now.result c.in_ok-made_rule.field-0 m.tests m.ascending m.equalities m.disjoint m.iterators m.sorted m.impure m.site
+    c.args.built.now.impure.items c.args.built.now.result c.in_ok-made_rule.field-0 m.tests m.ascending m.equalities
+    m.disjoint m.iterators m.sorted m.impure m.site

@@ -24,11 +24,13 @@ returns-then-is_empty-clause-faultless c = λ d.
 pub returns-clause-faults : goal.returns-clause-faults
 returns-clause-faults c = λ d.
     let made = c.in_ok-sets.field-0 in
-    of_rules made.unreachable.items c.in_ok-between.between.items (c.in_ok-sets.ensures.within d) (c.in_ok-sets.ensures.unreachable d) (c.in_ok-between.ensures d)
+    of_rules made.unreachable.items c.in_ok-between.between.items (c.in_ok-sets.ensures.within d) (c.in_ok-sets.ensures.unreachable d)
+    (c.in_ok-between.ensures d)
     c.in_ok-errors.ensures
     (some_items c.in_ok-errors.errors c.is_empty.result c.is_empty.ensures c.if-is_empty.false)
 
 pub returns-in_err-sets-clause-faults : goal.returns-in_err-sets-clause-faults
 returns-in_err-sets-clause-faults c =
     let e = err_from_is_err_and c.from_residual.result c.from_residual.ensures.1 in
-    rw (e.1, e.2) (fault_weaker _ _ c.in_err-sets.field-0.0 (λ errors one d. of_size (one d).pos (one d).alone (one d).too_large) c.in_err-sets.ensures.full)
+    rw (e.1, e.2) (fault_weaker _ _ c.in_err-sets.field-0.0 (λ errors one d. of_size (one d).pos (one d).alone (one d).too_large)
+    c.in_err-sets.ensures.full)

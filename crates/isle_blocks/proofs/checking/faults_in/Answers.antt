@@ -3,7 +3,7 @@ use Rattle.std.proofs.Math.Seq.{take-suc}
 use Rattle.isle_types.specs.declared.ids.TermId.{TermId}
 use Rattle.isle_blocks.specs.declared.faults.Fault.TheVariants.{Overlap, Shadow}
 use Rattle.isle_blocks.specs.Inside.RivalLists.{AddsPairs, ListsFaults, no_set_listed, passed_over, one_set_listed}
-use Rattle.isle_terms.specs.Shown.TermTables.{is_multi_in}
+use Rattle.isle_rules.specs.Shown.TermTables.{is_multi_in}
 use Rattle.isle_blocks.specs.RuleSets.{RulesOverSites}
 use Rattle.isle_blocks.proofs.checking.faults_in.Goals as goal
 use Rattle.isle_blocks.proofs.checking.faults_in.Goals.{then-not-is_multi+in_ok-push_faults, else-not-is_multi}
@@ -20,7 +20,8 @@ loop-set-preserved c =
     let k = c.loop-set.set-index in
     let pair = c.set-item.result in
     let more : take (k + 1) sets ≡ take k sets ++ pair ∷ [] =
-    ap (λ n. take n sets) (add-one k) ∙ take-suc sets k pair (omega arith) ∙ ap (λ (x : TermId × RulesOverSites). take k sets ++ x ∷ []) (sym c.set-item.is) in
+    ap (λ n. take n sets) (add-one k) ∙ take-suc sets k pair (omega arith) ∙ ap (λ (x : TermId × RulesOverSites). take k sets ++ x ∷ [])
+    (sym c.set-item.is) in
     let multi = is_multi_in c.args.termenv.now in
     elim c.if-not-is_multi.branch [
       | then-not-is_multi+in_ok-push_faults w ↦

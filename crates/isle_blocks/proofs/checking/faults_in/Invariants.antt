@@ -1,7 +1,7 @@
 use Rattle.std.proofs.Common.{take}
 use Rattle.isle_blocks.specs.declared.faults.Fault.TheVariants.{Overlap, Shadow}
 use Rattle.isle_blocks.specs.Inside.RivalLists.{ListsFaults}
-use Rattle.isle_terms.specs.Shown.TermTables.{is_multi_in}
+use Rattle.isle_rules.specs.Shown.TermTables.{is_multi_in}
 use Rattle.isle_blocks.proofs.checking.faults_in.Given as goal
 
 abbrev pub invariant-loop-set : goal.invariant-loop-set

@@ -1,7 +1,7 @@
 use Rattle.std.proofs.Common.{Bool, false, Option, sym, ap, ◌∙◌, inl, inr}
 use Rattle.std.specs.Option.{option_map_or}
-use Rattle.isle_terms.specs.declared.terms.Term.{Term}
-use Rattle.isle_terms.specs.Shown.TermTables.{is_multi_kind}
+use Rattle.isle_rules.specs.declared.terms.Term.{Term}
+use Rattle.isle_rules.specs.Shown.TermTables.{is_multi_kind}
 use Rattle.isle_blocks.proofs.checking.is_multi.Goals as goal
 
 abbrev asked : Option Term → Bool

@@ -17,7 +17,8 @@ returns-clause-overlaps c =
     always c.push_numbered-2.result (record {
       pairs = c.in_ok-between.between.overlaps.items;
       listed = c.in_ok-between.ensures.overlaps;
-      added = c.in_ok-push_numbered.ensures ∙ ap (λ (l : List (ℕ × ℕ)). c.args.found.now.overlaps.items ++ map (numbered rules) l) c.as_slice.ensures.value;
+      added = c.in_ok-push_numbered.ensures ∙ ap (λ (l : List (ℕ × ℕ)). c.args.found.now.overlaps.items ++ map (numbered rules) l)
+          c.as_slice.ensures.value;
     })
 
 pub returns-clause-shadows : goal.returns-clause-shadows

@@ -31,6 +31,8 @@ returns-else-branch-clause-unreachable c = λ name injective has are.
 pub returns-then-is_empty-clause-classes : goal.returns-then-is_empty-clause-classes
 returns-then-is_empty-clause-classes c =
     let n = c.len.ensures.count in let o = c.in_ok-single.single.ok.0 in let k = c.in_ok-single.ensures.0 in
-    let none : c.args.equals.now ≡ [] = nil_from_length c.args.equals.now (eqb-true (length c.args.equals.now) 0 (sym c.is_empty.ensures ∙ c.if-is_empty.true)) in
-    alone_closed c.args.sites.now c.requires.table c.args.own.now c.requires.fits c.args.equals.now c.requires.within none c.in_ok-single.single.items (omega arith)
+    let none : c.args.equals.now ≡ [] = nil_from_length c.args.equals.now
+    (eqb-true (length c.args.equals.now) 0 (sym c.is_empty.ensures ∙ c.if-is_empty.true)) in
+    alone_closed c.args.sites.now c.requires.table c.args.own.now c.requires.fits c.args.equals.now c.requires.within none c.in_ok-single.single.items
+    (omega arith)
     (λ a h. c.in_ok-single.ensures.1 a (omega arith))

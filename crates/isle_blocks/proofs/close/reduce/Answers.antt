@@ -13,7 +13,8 @@ pub returns-in_default-clause-unreachable : goal.returns-in_default-clause-unrea
 returns-in_default-clause-unreachable c = λ name injective.
     let has = c.args.has.now in
     let two : HasTwo has =
-    subst (λ (q : Option (Vec (Option Constraint) Global)). MatchOption q (HasTwo has) (λ (k : Vec (Option Constraint) Global). AreOwn c.len.result has k.items))
+    subst (λ (q : Option (Vec (Option Constraint) Global)). MatchOption q (HasTwo has)
+    (λ (k : Vec (Option Constraint) Global). AreOwn c.len.result has k.items))
     c.in_default.is c.in_ok-own.ensures in
     inl (two_clash c.args.sites.now has c.args.same.now c.requires two name injective)
 
@@ -29,8 +30,11 @@ returns-in-None-clause-unreachable c = λ name injective.
     let P : Type 0 = ForDemands table equals own (λ name D. IsUnreachable D) in
     let dead : P = subst (λ (q : Option (Vec ℕ Global)). IfNone q P) c.in-None.is c.in_ok-class.ensures.unreachable in
     let own_are : AreOwn c.len.result has c.in-Some.own.items =
-    subst (λ (q : Option (Vec (Option Constraint) Global)). MatchOption q (HasTwo has) (λ (k : Vec (Option Constraint) Global). AreOwn c.len.result has k.items))
+    subst (λ (q : Option (Vec (Option Constraint) Global)). MatchOption q (HasTwo has)
+    (λ (k : Vec (Option Constraint) Global). AreOwn c.len.result has k.items))
     c.in-Some.is c.in_ok-own.ensures in
     let are : AreOwn (length table) has own =
-    subst (λ (n : ℕ). AreOwn n has own) c.len.ensures.count (subst (λ (l : List (Option Constraint)). AreOwn c.len.result has l) (sym c.deref.ensures.value) own_are) in
-    subst (λ (l : List (ℕ × ℕ)). IsUnreachable (demanded_in name table has l)) (c.deref-2.ensures.value ∙ c.in_ok-equals.ensures) (dead name injective has are)
+    subst (λ (n : ℕ). AreOwn n has own) c.len.ensures.count (subst (λ (l : List (Option Constraint)). AreOwn c.len.result has l)
+    (sym c.deref.ensures.value) own_are) in
+    subst (λ (l : List (ℕ × ℕ)). IsUnreachable (demanded_in name table has l)) (c.deref-2.ensures.value ∙ c.in_ok-equals.ensures)
+    (dead name injective has are)

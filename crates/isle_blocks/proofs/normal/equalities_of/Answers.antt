@@ -23,7 +23,8 @@ differ : (numbers : List BindingId) (each : List (Option Constraint)) (class : L
 differ numbers each class settled k within moves same =
     let fits = settled.classes.fits in
     let below = settled.classes.below k (omega (arith, fits, within)) in
-    let one : k ≡ get_or class k 0 = settled.once (get_or numbers k first_id) k (get_or class k 0) (slice_get-get_or numbers k first_id (omega (arith, fits, within)))
+    let one : k ≡ get_or class k 0 = settled.once (get_or numbers k first_id) k (get_or class k 0)
+    (slice_get-get_or numbers k first_id (omega (arith, fits, within)))
     (slice_get-get_or numbers (get_or class k 0) first_id below ∙ ap Some (sym same)) in
     moves (sym one)
 

@@ -34,7 +34,8 @@ returns-in_err-closed-clause-full c =
     ))
 
 -- the own sites are the first of those that they have grown to
-own_first : (own grown : List Binding) → ((k : ℕ) (b : Binding) → slice_get own k ≡ Some b → slice_get grown k ≡ Some b) → take (length own) grown ≡ own
+own_first : (own grown : List Binding) → ((k : ℕ) (b : Binding) → slice_get own k ≡ Some b → slice_get grown k ≡ Some b)
+    → take (length own) grown ≡ own
 own_first [] grown kept = refl
 own_first (b ∷ own) [] kept = absurd (none-some b (kept 0 b refl))
 own_first (b ∷ own) (g ∷ grown) kept =
@@ -43,14 +44,16 @@ own_first (b ∷ own) (g ∷ grown) kept =
     λ i. same i ∷ rest i
 
 -- what is first of the closed sites
-first_of : (own has-sites : List Binding) (has : List (BindingId × Constraint)) (same : List (BindingId × BindingId)) (grown : List Binding) (closed : Closed)
+first_of : (own has-sites : List Binding) (has : List (BindingId × Constraint)) (same : List (BindingId × BindingId))
+    (grown : List Binding) (closed : Closed)
     → ClosesTo own has same grown (Some closed) → (count : ℕ) → count ≡ length own → has-sites ≡ grown → take count has-sites ≡ own
 first_of own sites has same grown closed closes count counts is =
     ap (λ (n : ℕ). take n sites) counts ∙ ap (take (length own)) is ∙ own_first own grown (closes by_number by_number_injective).kept
 
 -- each site of the closed table stands in the table whose fields are all opened
 module _ (name : Sym → List ℕ) (injective : IsInjective name) (ds : List Demand) (base own grown between : List Binding) (base_ok : IsTable base)
-    (own_ok : IsTable own) (has : List (BindingId × Constraint)) (same : List (BindingId × BindingId)) (each : List (Option Constraint)) (class : List ℕ)
+    (own_ok : IsTable own) (has : List (BindingId × Constraint)) (same : List (BindingId × BindingId)) (each : List (Option Constraint))
+    (class : List ℕ)
     (are : AreRecorded (rows_of name own) (constraints_of name has) (pairs_of same) ds)
     (closure : IsClosure name (demanded_in name own has (pairs_of same)) own grown each class) (first : IsPutFirst base own between)
     (fields : HasAllFields (Among ds) (rows_of name between)) where
@@ -63,9 +66,11 @@ module _ (name : Sym → List ℕ) (injective : IsInjective name) (ds : List Dem
   ]
 
 -- the own sites stand first behind the table, and then fields
-module _ (base own grown between table : List Binding) (ids : List BindingId) (kept : (k : ℕ) (b : Binding) → slice_get own k ≡ Some b → slice_get grown k ≡ Some b)
+module _ (base own grown between table : List Binding) (ids : List BindingId) (kept : (k : ℕ) (b : Binding)
+    → slice_get own k ≡ Some b → slice_get grown k ≡ Some b)
     (moved : MovesSites between grown ids table) where
-  in_order : (length grown ≤ length own → between ≡ base) → (length own < length grown → IsPutFirst base own between × (table ≡ between)) → IsPutFirst base own table
+  in_order : (length grown ≤ length own → between ≡ base) → (length own < length grown → IsPutFirst base own between × (table ≡ between))
+      → IsPutFirst base own table
   in_order stays_same first = elim (cases_lt (length own) (length grown)) [
     | inl more ↦ let (put, same) = first more in subst (λ (l : List Binding). IsPutFirst base own l) (sym same) put
     | inr fits ↦
@@ -73,7 +78,8 @@ module _ (base own grown between table : List Binding) (ids : List BindingId) (k
         record {
           ids = ids;
           mid = table;
-          moved = subst (λ (b : List Binding). MovesSites b own ids table) (stays_same fits) (subst (λ (l : List Binding). MovesSites between l ids table) one moved);
+          moved = subst (λ (b : List Binding). MovesSites b own ids table) (stays_same fits)
+              (subst (λ (l : List Binding). MovesSites between l ids table) one moved);
           kept = λ k b e. e;
           fields = none_added table;
         }
@@ -90,10 +96,12 @@ open_fields-requires-clause-ready c =
 
 pub returns-in_err-open_fields-clause-full : goal.returns-in_err-open_fields-clause-full
 returns-in_err-open_fields-clause-full c =
-    let base = c.args.table.now in let own = c.args.own.now in let has = c.args.has.now in let same = c.args.same.now in let grown = c.close.new.sites in
+    let base = c.args.table.now in let own = c.args.own.now in let has = c.args.has.now in let same = c.args.same.now in
+    let grown = c.close.new.sites in
     let closed : ClosesTo own has same grown (Some c.in-Some.closed) =
     subst (λ (q : Option Closed). ClosesTo own has same grown q) c.in-Some.is c.in_ok-closed.ensures.closed in
-    let first = first_of own c.bindings.result.now has same grown c.in-Some.closed closed c.len-count.result c.len-count.ensures.count c.bindings.ensures in
+    let first = first_of own c.bindings.result.now has same grown c.in-Some.closed closed c.len-count.result
+    c.len-count.ensures.count c.bindings.ensures in
     let e = err_from_is_err_and c.from_residual-in_err-open_fields.result c.from_residual-in_err-open_fields.ensures.1 in
     rw (e.1, e.2) (λ size name injective ds are. (
       λ dead. (closed name injective).reachable (recorded_dead name own has same ds are dead),
@@ -103,10 +111,12 @@ returns-in_err-open_fields-clause-full c =
 
 pub returns-in_err-numbers-clause-full : goal.returns-in_err-numbers-clause-full
 returns-in_err-numbers-clause-full c =
-    let base = c.args.table.now in let own = c.args.own.now in let has = c.args.has.now in let same = c.args.same.now in let grown = c.close.new.sites in
+    let base = c.args.table.now in let own = c.args.own.now in let has = c.args.has.now in let same = c.args.same.now in
+    let grown = c.close.new.sites in
     let closed : ClosesTo own has same grown (Some c.in-Some.closed) =
     subst (λ (q : Option Closed). ClosesTo own has same grown q) c.in-Some.is c.in_ok-closed.ensures.closed in
-    let first = first_of own c.bindings.result.now has same grown c.in-Some.closed closed c.len-count.result c.len-count.ensures.count c.bindings.ensures in
+    let first = first_of own c.bindings.result.now has same grown c.in-Some.closed closed c.len-count.result
+    c.len-count.ensures.count c.bindings.ensures in
     let opened = subst (λ (l : List Binding). ForDemandsOf l has same (λ name ds. GrowsFor name ds base l c.open_fields.new.table)) first
     c.in_ok-open_fields.ensures.opened in
     let e = err_from_is_err_and c.from_residual-in_err-numbers.result c.from_residual-in_err-numbers.ensures.1 in
@@ -115,7 +125,8 @@ returns-in_err-numbers-clause-full c =
       λ dead. closure.reachable (recorded_dead name own has same ds are dead),
       grown_lacks_room base own c.requires.table c.requires.ready.sites name injective ds has same are grown c.in-Some.closed.each.items
           c.in-Some.closed.class.items closure c.open_fields.new.table (opened name injective ds are) c.move_sites.new.table
-          (subst (λ (l : List Binding). EndsFull c.open_fields.new.table l c.move_sites.new.table) c.bindings-2.ensures (c.in_err-numbers.ensures.full size)),
+          (subst (λ (l : List Binding). EndsFull c.open_fields.new.table l c.move_sites.new.table) c.bindings-2.ensures
+          (c.in_err-numbers.ensures.full size)),
     ))
 
 pub returns-in_default-clause-placed : goal.returns-in_default-clause-placed
@@ -127,16 +138,19 @@ returns-in_default-clause-placed c = λ name injective ds are.
 
 pub returns-clause-placed : goal.returns-clause-placed
 returns-clause-placed c = λ name injective ds are.
-    let base = c.args.table.now in let own = c.args.own.now in let has = c.args.has.now in let same = c.args.same.now in let grown = c.close.new.sites in
+    let base = c.args.table.now in let own = c.args.own.now in let has = c.args.has.now in let same = c.args.same.now in
+    let grown = c.close.new.sites in
     let closed : ClosesTo own has same grown (Some c.in-Some.closed) =
     subst (λ (q : Option Closed). ClosesTo own has same grown q) c.in-Some.is c.in_ok-closed.ensures.closed in
-    let first = first_of own c.bindings.result.now has same grown c.in-Some.closed closed c.len-count.result c.len-count.ensures.count c.bindings.ensures in
+    let first = first_of own c.bindings.result.now has same grown c.in-Some.closed closed c.len-count.result
+    c.len-count.ensures.count c.bindings.ensures in
     let opened = subst (λ (l : List Binding). ForDemandsOf l has same (λ name ds. GrowsFor name ds base l c.open_fields.new.table)) first
     c.in_ok-open_fields.ensures.opened in
     let len : length c.bindings.result.now ≡ length grown = ap length c.bindings.ensures in
     let count = c.len-count.ensures.count in
     let alive : IsUnreachable (Among ds) → ⊥ = λ dead. (closed name injective).reachable (recorded_dead name own has same ds are dead) in
-    let moved = subst (λ (l : List Binding). MovesSites c.open_fields.new.table l c.in_ok-numbers.numbers.items c.move_sites.new.table) c.bindings-2.ensures
+    let moved = subst (λ (l : List Binding). MovesSites c.open_fields.new.table l c.in_ok-numbers.numbers.items c.move_sites.new.table)
+    c.bindings-2.ensures
     c.in_ok-numbers.ensures.moved in
     record {
       reachable = alive;
@@ -152,10 +166,12 @@ returns-clause-placed c = λ name injective ds are.
           (λ more.
           let inside : c.len-count.result < length c.bindings.result.now = omega (arith, more, len, count) in
           let put = subst (λ (l : List Binding). IsPutFirst base l c.open_fields.new.table) first (c.in_ok-open_fields.ensures.first inside) in
-          let fields = subst (λ (l : List Binding). ForDemandsOf l has same (λ name ds. (IsUnreachable (Among ds) → ⊥) → HasAllFields (Among ds) (rows_of name c.open_fields.new.table)))
+          let fields = subst (λ (l : List Binding). ForDemandsOf l has same (λ name ds. (IsUnreachable (Among ds) → ⊥)
+          → HasAllFields (Among ds) (rows_of name c.open_fields.new.table)))
           first (c.in_ok-open_fields.ensures.fields inside) name injective ds are alive in (
             put,
-            stays_put name injective c.open_fields.new.table grown c.move_sites.new.table c.in_ok-numbers.numbers.items moved (opened name injective ds are).sites
+            stays_put name injective c.open_fields.new.table grown c.move_sites.new.table c.in_ok-numbers.numbers.items moved
+                (opened name injective ds are).sites
                 (closed name injective).sites
                 (all_there name injective ds base own grown c.open_fields.new.table c.requires.table c.requires.ready.sites has same
                 c.in-Some.closed.each.items c.in-Some.closed.class.items are (closed name injective) put fields),
@@ -167,7 +183,8 @@ returns-clause-kept c =
     let own = c.args.own.now in let has = c.args.has.now in let same = c.args.same.now in let grown = c.close.new.sites in
     let closed : ClosesTo own has same grown (Some c.in-Some.closed) =
     subst (λ (q : Option Closed). ClosesTo own has same grown q) c.in-Some.is c.in_ok-closed.ensures.closed in
-    let moved = subst (λ (l : List Binding). MovesSites c.open_fields.new.table l c.in_ok-numbers.numbers.items c.move_sites.new.table) c.bindings-2.ensures
+    let moved = subst (λ (l : List Binding). MovesSites c.open_fields.new.table l c.in_ok-numbers.numbers.items c.move_sites.new.table)
+    c.bindings-2.ensures
     c.in_ok-numbers.ensures.moved in
     after_ok c.open_fields.new.table grown c.move_sites.new.table c.in_ok-numbers.numbers.items moved c.in_ok-open_fields.ensures.kept
     (closed by_number by_number_injective).sites by_number by_number_injective
@@ -177,7 +194,8 @@ returns-clause-settled c =
     let own = c.args.own.now in let has = c.args.has.now in let same = c.args.same.now in let grown = c.close.new.sites in
     let closed : ClosesTo own has same grown (Some c.in-Some.closed) =
     subst (λ (q : Option Closed). ClosesTo own has same grown q) c.in-Some.is c.in_ok-closed.ensures.closed in
-    let moved = subst (λ (l : List Binding). MovesSites c.open_fields.new.table l c.in_ok-numbers.numbers.items c.move_sites.new.table) c.bindings-2.ensures
+    let moved = subst (λ (l : List Binding). MovesSites c.open_fields.new.table l c.in_ok-numbers.numbers.items c.move_sites.new.table)
+    c.bindings-2.ensures
     c.in_ok-numbers.ensures.moved in
     settled c.open_fields.new.table own grown c.move_sites.new.table c.in_ok-numbers.numbers.items has same c.in-Some.closed.each.items
     c.in-Some.closed.class.items moved c.in_ok-open_fields.ensures.kept (closed by_number by_number_injective)

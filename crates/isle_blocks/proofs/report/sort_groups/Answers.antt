@@ -10,7 +10,8 @@ on_ok (Err e) f h = h
 
 pub returns-clause-ascending : goal.returns-clause-ascending
 returns-clause-ascending c =
-    on_ok c.sort_by_key.result (λ h. h (λ (group : Group). group.head.pos) (answers_always _ _ _ (λ f a r g q. search rules))) c.sort_by_key.ensures.sorted
+    on_ok c.sort_by_key.result (λ h. h (λ (group : Group). group.head.pos) (answers_always _ _ _ (λ f a r g q. search rules)))
+    c.sort_by_key.ensures.sorted
 
 pub returns-clause-stable : goal.returns-clause-stable
 returns-clause-stable c =

@@ -2,7 +2,8 @@ use Rattle.std.proofs.Common.{◌≡◌, ℕ, List, [], ap, sym, subst, ◌∙�
 use Rattle.isle_trees.specs.Builds.{Builds}
 use Rattle.isle_trees.specs.Rules.{Elem}
 use Rattle.isle_trees.specs.Scopes.{Scope, nothing_known}
-use Rattle.isle_trees.specs.Search.{AreDistinct, below}
+use Rattle.isle_trees.specs.Search.{AreDistinct}
+use Rattle.isle_trees.specs.Rules.{below}
 use Rattle.isle_trees.proofs.Building.Lists.{ascending_distinct, below_ascends, below_less}
 use Rattle.isle_trees.proofs.Building.Reorder.{same_builds, same_elem}
 use Rattle.isle_blocks.specs.declared.constraint.Constraint.{Constraint}
@@ -43,7 +44,8 @@ pub lay_out-requires-clause-rules : goal.lay_out-requires-clause-rules
 lay_out-requires-clause-rules c i m =
     let n = length c.args.set.now.rules in
     let e : c.in_ok-numbers.field-0.items ≡ below n = c.in_ok-numbers.ensures ∙ ap (λ (l : ℕ). below l) (ap length c.rules.ensures) in
-    let old : Elem i c.in_ok-numbers.field-0.items = same_elem c.in_ok-left.left.items c.in_ok-numbers.field-0.items i (λ f. sym (c.in_ok-left.ensures.same f)) m in
+    let old : Elem i c.in_ok-numbers.field-0.items = same_elem c.in_ok-left.left.items c.in_ok-numbers.field-0.items i
+    (λ f. sym (c.in_ok-left.ensures.same f)) m in
     below_less i n (subst (λ (l : List ℕ). Elem i l) e old)
 
 pub returns-clause-builds : goal.returns-clause-builds

@@ -5,9 +5,9 @@ use Rattle.std.proofs.lemmas.Bool.{cases_lt}
 use Rattle.std.proofs.lemmas.Result.{err_from_is_err_and}
 use Rattle.std.proofs.Math.ListN.{replicate}
 use Rattle.std.proofs.lemmas.List.{length-replicate}
-use Rattle.isle_terms.specs.declared.rules.Rule.{Rule}
-use Rattle.isle_terms.specs.TypedRules.{TypedRule}
-use Rattle.isle_terms.specs.Shown.RulesShown.{IsShownRule}
+use Rattle.isle_rules.specs.declared.rules.Rule.{Rule}
+use Rattle.isle_rules.specs.TypedRules.{TypedRule}
+use Rattle.isle_rules.specs.Shown.RulesShown.{IsShownRule}
 use Rattle.isle_blocks.specs.Inside.Building.Contents.{Marked}
 use Rattle.isle_blocks.specs.DefinedSets.{facts_by, rules_by}
 use Rattle.isle_blocks.specs.RuleFaults.{IsUnreachableAt}

@@ -2,7 +2,7 @@ use Rattle.std.proofs.Common.{◌≡◌, ◌<◌, ℕ, Some, length, slice_get, 
 use Rattle.std.proofs.lemmas.List.{length-set}
 use Rattle.std.proofs.lemmas.Option.{slice_get_read, slice_get_within, same_Some}
 use Rattle.isle_types.proofs.Zipped.{all_at}
-use Rattle.isle_terms.specs.declared.rules.Rule.{Rule}
+use Rattle.isle_rules.specs.declared.rules.Rule.{Rule}
 use Rattle.isle_blocks.specs.DefinedSets.{ListsNumbers}
 use Rattle.isle_blocks.specs.Inside.GatheredSets.{IsOfTerm}
 use Rattle.isle_blocks.proofs.Sets.ListedNumbers.{rows_next, numbers_all, Below}

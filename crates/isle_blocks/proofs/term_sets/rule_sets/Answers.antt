@@ -5,7 +5,7 @@ use Rattle.std.proofs.lemmas.Bool.{eqb-true, eqb-false}
 use Rattle.std.proofs.lemmas.Option.{slice_get_read, slice_get_within}
 use Rattle.isle_types.proofs.Reading.{fault_weaker}
 use Rattle.isle_types.specs.declared.ids.TermId.{TermId}
-use Rattle.isle_terms.specs.declared.rules.Rule.{Rule}
+use Rattle.isle_rules.specs.declared.rules.Rule.{Rule}
 use Rattle.isle_blocks.specs.RuleSets.{RulesOverSites}
 use Rattle.isle_blocks.specs.DefinedSets.{ListsNumbers, facts_by, rules_by}
 use Rattle.isle_blocks.specs.Inside.GatheredSets.{AreSetsBelow, MarksThose, IsLostBelow, IsOfTerm}

@@ -1,9 +1,9 @@
 use Rattle.std.proofs.Common.{◌+◌, ◌++◌, ◌∷◌, List, [], length, take, arith, refl, sym, ap, subst, ◌∙◌}
 use Rattle.std.proofs.lemmas.List.{take_all}
 use Rattle.std.proofs.lemmas.Option.{slice_get_read}
-use Rattle.isle_syntax.specs.declared.error.Error.{Error}
-use Rattle.isle_terms.specs.TypedRules.{TypedRule}
-use Rattle.isle_terms.specs.declared.rules.Rule.{Rule}
+use Rattle.isle_ast.specs.declared.error.Error.{Error}
+use Rattle.isle_rules.specs.TypedRules.{TypedRule}
+use Rattle.isle_rules.specs.declared.rules.Rule.{Rule}
 use Rattle.isle_blocks.specs.RuleFaults.{TellUnreachable, no_rules_told, unreachable_error}
 use Rattle.isle_blocks.proofs.RuleFaults.UnreachableErrors.{next_may, next_never, as_long}
 use Rattle.isle_blocks.proofs.term_sets.unreachable_errors.Goals.{then-lost-place+in_ok-unreachable_at+in_ok-push, else-lost-place}

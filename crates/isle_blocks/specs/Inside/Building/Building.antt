@@ -1,10 +1,10 @@
 -- The whole visit of a rule.
 use Rattle.std.specs.Prelude.{List, Result, Ok, Err}
-use Rattle.isle_terms.specs.declared.rules.Rule.{Rule}
-use Rattle.isle_terms.specs.declared.terms.Term.{Term}
-use Rattle.isle_terms.specs.declared.visit.fault.VisitFault.{VisitFault}
-use Rattle.isle_terms.specs.Visits.Runs.{Run}
-use Rattle.isle_terms.specs.Visits.RuleEvents.{visits_rule}
+use Rattle.isle_rules.specs.declared.rules.Rule.{Rule}
+use Rattle.isle_rules.specs.declared.terms.Term.{Term}
+use Rattle.isle_rules.specs.declared.visit.fault.VisitFault.{VisitFault}
+use Rattle.isle_rules.specs.Visits.Runs.{Run}
+use Rattle.isle_rules.specs.Visits.RuleEvents.{visits_rule}
 use Rattle.isle_blocks.specs.declared.ids.BindingId.{BindingId}
 use Rattle.isle_blocks.specs.declared.builder.BuiltRule.{BuiltRule}
 use Rattle.isle_blocks.specs.Inside.Building.Gathering.{Gathered, nothing_gathered}

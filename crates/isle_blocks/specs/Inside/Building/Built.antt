@@ -1,7 +1,7 @@
 -- What the visit of a rule leaves: the sites that the rule needs, what it demands of them, its value and its impure calls.
 use Rattle.std.specs.Prelude.{ℕ, List, []}
 use Rattle.isle_types.specs.declared.ids.Sym.{Sym}
-use Rattle.isle_terms.specs.TypedRules.{TypedRule}
+use Rattle.isle_rules.specs.TypedRules.{TypedRule}
 use Rattle.isle_meaning.specs.Facts.{TermFacts}
 use Rattle.isle_meaning.specs.Words.{word_of}
 use Rattle.isle_meaning.specs.Sites.{site_of}

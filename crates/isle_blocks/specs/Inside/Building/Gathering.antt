@@ -1,8 +1,8 @@
 -- What is gathered of a rule so far, and how more is taken.
 use Rattle.std.specs.Prelude.{◌≡◌, ◌≢◌, ◌≤◌, ◌<◌, ◌+◌, ◌⊎◌, ℕ, zero, suc, Bool, true, false, List, [], ◌∷◌, ◌++◌, length, Ok, Err}
-use Rattle.isle_terms.specs.declared.visit.fault.VisitFault.{VisitFault}
-use Rattle.isle_terms.specs.declared.visit.fault.VisitFault.TheVariants.{Size, Undefined, Memory}
-use Rattle.isle_terms.specs.Visits.Runs.{Run, done, in_turn}
+use Rattle.isle_rules.specs.declared.visit.fault.VisitFault.{VisitFault}
+use Rattle.isle_rules.specs.declared.visit.fault.VisitFault.TheVariants.{Size, Undefined, Memory}
+use Rattle.isle_rules.specs.Visits.Runs.{Run, done, in_turn}
 use Rattle.isle_blocks.specs.declared.ids.BindingId.{BindingId}
 use Rattle.isle_blocks.specs.declared.binding.Binding.{Binding}
 use Rattle.isle_blocks.specs.declared.binding.Binding.TheVariants as sites
@@ -49,9 +49,9 @@ interns_each [] before = done before
 interns_each (site ∷ others) before = in_turn (interns site) (λ id. interns_each others (before ++ id ∷ []))
 
 -- a test of a site is taken
-abbrev pub demands : BindingId → Constraint → Run Gathered (List BindingId)
-demands id test s (Ok ids) s' = (ids ≡ []) × (s' ≡ with_tests ((id, test) ∷ []) s)
-demands id test s (Err f) s' = (f ≡ Memory) × (s ≡ s')
+abbrev pub takes_demand : BindingId → Constraint → Run Gathered (List BindingId)
+takes_demand id test s (Ok ids) s' = (ids ≡ []) × (s' ≡ with_tests ((id, test) ∷ []) s)
+takes_demand id test s (Err f) s' = (f ≡ Memory) × (s ≡ s')
 
 -- two sites are to be equal, which says nothing of one site
 abbrev pub equates : BindingId → BindingId → Run Gathered (List BindingId)
@@ -76,7 +76,7 @@ tuple_output source field = sites.MatchTuple source (record { 0 = field })
 abbrev pub extracted : Bool → Bool → BindingId → Run Gathered BindingId
 extracted true infallible call = interns (sites.Iterator call)
 extracted false true call = done call
-extracted false false call = in_turn (demands call tests.Some) (λ _. interns (sites.MatchSome call))
+extracted false false call = in_turn (takes_demand call tests.Some) (λ _. interns (sites.MatchSome call))
 
 -- the outputs of what an extractor gives: one is that itself, others are a tuple's
 abbrev pub outputs : ℕ → BindingId → Run Gathered (List BindingId)

@@ -2,18 +2,18 @@
 use Rattle.std.specs.Prelude.{◌≡◌, ℕ, Bool, List, [], map, length, Ok, Err}
 use Rattle.isle_types.specs.declared.ids.TermId.{TermId}
 use Rattle.isle_types.specs.declared.ids.TypeId.{TypeId}
-use Rattle.isle_terms.specs.declared.visit.fault.VisitFault.TheVariants.{Memory}
-use Rattle.isle_terms.specs.Visits.Runs.{Run, done, in_turn}
-use Rattle.isle_terms.specs.Visits.VisitorCalls.{PatternCall, match_equal, match_bool, match_int, match_prim, match_variant, extract_struct}
-use Rattle.isle_terms.specs.Visits.VisitorCalls.{extract_outputs, ExprCall, const_bool, const_int, const_prim, create_variant, create_struct}
-use Rattle.isle_terms.specs.Visits.VisitorCalls.{construct}
-use Rattle.isle_terms.specs.Visits.RuleSteps.{RuleSteps}
+use Rattle.isle_rules.specs.declared.visit.fault.VisitFault.TheVariants.{Memory}
+use Rattle.isle_rules.specs.Visits.Runs.{Run, done, in_turn}
+use Rattle.isle_rules.specs.Visits.VisitorCalls.{PatternCall, match_equal, match_bool, match_int, match_prim, match_variant, extract_struct}
+use Rattle.isle_rules.specs.Visits.VisitorCalls.{extract_outputs, ExprCall, const_bool, const_int, const_prim, create_variant, create_struct}
+use Rattle.isle_rules.specs.Visits.VisitorCalls.{construct}
+use Rattle.isle_rules.specs.Visits.RuleSteps.{RuleSteps}
 use Rattle.isle_blocks.specs.declared.ids.BindingId.{BindingId}
 use Rattle.isle_blocks.specs.declared.binding.Binding.TheVariants as sites
 use Rattle.isle_blocks.specs.declared.constraint.Constraint.{Constraint}
 use Rattle.isle_blocks.specs.declared.constraint.Constraint.TheVariants as tests
 use Rattle.isle_blocks.specs.Constraints.{variant_field, struct_field}
-use Rattle.isle_blocks.specs.Inside.Building.Gathering.{Gathered, with_tests, interns, interns_each, demands, equates, fitting, sites_from, extracted}
+use Rattle.isle_blocks.specs.Inside.Building.Gathering.{Gathered, with_tests, interns, interns_each, takes_demand, equates, fitting, sites_from, extracted}
 use Rattle.isle_blocks.specs.Inside.Building.Gathering.{outputs, constructed, numbers, keeps}
 use Rattle.isle_blocks.specs.Inside.Building.Contents.{PartsAreBefore, AreAsked}
 
@@ -31,14 +31,15 @@ makes parameters term pure infallible multi =
 -- what a call of a pattern adds; the numbers of what it names are answered
 abbrev pub pattern_adds : PatternCall BindingId → Run Gathered (List BindingId)
 pattern_adds (match_equal a b ty) = equates a b
-pattern_adds (match_bool input ty val) = demands input (tests.ConstBool val ty)
-pattern_adds (match_int input ty val) = demands input (tests.ConstInt val ty)
-pattern_adds (match_prim input ty val) = demands input (tests.ConstPrim val)
+pattern_adds (match_bool input ty val) = takes_demand input (tests.ConstBool val ty)
+pattern_adds (match_int input ty val) = takes_demand input (tests.ConstInt val ty)
+pattern_adds (match_prim input ty val) = takes_demand input (tests.ConstPrim val)
 pattern_adds (match_variant input ty tys variant) = fitting (length tys)
-    (in_turn (demands input (tests.Variant ty variant (record { 0 = length tys })))
+    (in_turn (takes_demand input (tests.Variant ty variant (record { 0 = length tys })))
     (λ _. interns_each (sites_from (variant_field input variant) 0 (length tys)) []))
 pattern_adds (extract_struct input ty tys) = fitting (length tys)
-    (in_turn (demands input (tests.Struct ty (record { 0 = length tys }))) (λ _. interns_each (sites_from (struct_field input) 0 (length tys)) []))
+    (in_turn (takes_demand input (tests.Struct ty (record { 0 = length tys })))
+    (λ _. interns_each (sites_from (struct_field input) 0 (length tys)) []))
 pattern_adds (extract_outputs input ty tys term infallible multi) = fitting (length tys) (takes input term infallible multi (length tys))
 
 -- the numbers of values, without their types

@@ -16,7 +16,8 @@ abbrev pub IsPassed : {C V : Type 0} → Rules C V → List ℕ → Scope C → 
 IsPassed R left sc marks best t = is_ready sc marks t ≡ true → IsNoBetter R left sc best t
 
 -- no test of a site is better, but for equalities
-pub record IsSitePassed {C V : Type 0} (R : Rules C V) (left : List ℕ) (sc : Scope C) (marks : List Bool) (best : Option Ranked) (x : BindingId) : Type 0 where
+pub record IsSitePassed {C V : Type 0} (R : Rules C V) (left : List ℕ) (sc : Scope C) (marks : List Bool)
+    (best : Option Ranked) (x : BindingId) : Type 0 where
   pub by_match : IsPassed R left sc marks best (on_match x.0)
   pub by_loop : IsPassed R left sc marks best (on_loop x.0)
 

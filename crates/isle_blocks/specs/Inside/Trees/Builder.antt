@@ -26,7 +26,8 @@ use Rattle.isle_trees.specs.Rules.{Rules, Want, Source, Elem}
 use Rattle.isle_trees.specs.Scopes.{Scope, Test, on_match, on_equal, on_loop}
 use Rattle.isle_trees.specs.Builds.{Key}
 use Rattle.isle_trees.specs.Ranking.{Ranked}
-use Rattle.isle_trees.specs.Search.{IsIndex, IsBuildable, below}
+use Rattle.isle_trees.specs.Search.{IsIndex, IsBuildable}
+use Rattle.isle_trees.specs.Rules.{below}
 
 -- a rule set as the rules of a tree, whatever names constants have
 abbrev pub rules_in : RulesOverSites → Rules Constraint Held

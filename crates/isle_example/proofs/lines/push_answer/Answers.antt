@@ -1,6 +1,6 @@
 use Rattle.std.proofs.Common.{◌≡◌, ◌++◌, OnOk, sym, subst, string_bytes}
 use Rattle.std.specs.Prelude.{codes}
-use Rattle.isle_run.specs.Programs.{term_name}
+use Rattle.isle_program.specs.Programs.{term_name}
 use Rattle.isle_example.specs.Lines.{answer_text}
 use Rattle.isle_example.proofs.LineLemmas.{labelled}
 use Rattle.isle_example.proofs.lines.push_answer.Goals as goal

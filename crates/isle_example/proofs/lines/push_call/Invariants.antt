@@ -1,8 +1,8 @@
 -- The name and the arguments so far stand behind the parenthesis.
 use Rattle.std.proofs.Common.{◌≡◌, ◌++◌, take, string_bytes}
 use Rattle.std.specs.Prelude.{codes}
-use Rattle.isle_terms.specs.Values.{value_list}
-use Rattle.isle_run.specs.Values.Text.{fields_text}
+use Rattle.isle_rules.specs.Values.{value_list}
+use Rattle.isle_values.specs.Values.Text.{fields_text}
 use Rattle.isle_example.proofs.lines.push_call.Given as goal
 
 abbrev pub invariant-loop-arg : goal.invariant-loop-arg

@@ -1,11 +1,11 @@
 use Rattle.std.proofs.Common.{◌++◌, ◌∙◌, sym, ap, subst}
 use Rattle.std.specs.List.{AllZip}
 use Rattle.isle_meaning.specs.ValueTypes.{AreOfTypes}
-use Rattle.isle_terms.specs.Values.{value_list}
-use Rattle.isle_run.specs.Calls.Answers.{IsEventOf}
-use Rattle.isle_run.specs.Programs.{value_facts}
-use Rattle.isle_run.proofs.OpenCalls.Made.{on_err}
-use Rattle.isle_run.proofs.OpenCalls.Telling.{inputs_taken}
+use Rattle.isle_rules.specs.Values.{value_list}
+use Rattle.isle_calls.specs.Calls.Answers.{IsEventOf}
+use Rattle.isle_program.specs.Programs.{value_facts}
+use Rattle.isle_calls.proofs.OpenCalls.Made.{on_err}
+use Rattle.isle_calls.proofs.OpenCalls.Telling.{inputs_taken}
 use Rattle.isle_example.proofs.query.answer_to.Goals as goal
 
 pub returns-clause-answer : goal.returns-clause-answer

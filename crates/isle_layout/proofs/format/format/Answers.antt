@@ -1,7 +1,7 @@
 use Rattle.std.proofs.Common.{ap, ◌∙◌, string_bytes}
 use Rattle.std.proofs.lemmas.Result.{err_from_is_err_and}
 use Rattle.std.proofs.lemmas.Str.{IsUtf8-string_bytes}
-use Rattle.isle_syntax.specs.Grammar.Texts.{IsWhole}
+use Rattle.isle_syntax.specs.Grammar.Verdict.{IsWhole}
 use Rattle.isle_layout.specs.Prints.{print_of}
 use Rattle.isle_syntax.proofs.Productions.OneReading.{spells_of, refusal_in}
 use Rattle.isle_layout.proofs.ReadsBack.Formatted.{never_refused, formatted_settles, settled_is_faultless}

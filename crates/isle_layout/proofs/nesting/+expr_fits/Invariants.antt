@@ -1,5 +1,5 @@
 use Rattle.std.proofs.Common.{◌↔◌, ◌≤◌, drop}
-use Rattle.isle_syntax.specs.Trees.ExprShape.{exprs_of, lets_of}
+use Rattle.isle_ast.specs.Trees.ExprShape.{exprs_of, lets_of}
 use Rattle.isle_layout.specs.Nesting.{expr_nestings, let_nestings}
 use Rattle.isle_layout.proofs.nesting.+expr_fits.Given as goal
 

@@ -1,6 +1,6 @@
 use Rattle.std.proofs.Common.{◌↔◌, ◌≡◌, ◌≤◌, drop}
-use Rattle.isle_syntax.specs.Trees.PatternTree.{pattern_height}
-use Rattle.isle_syntax.specs.Trees.PatternShape.{pattern_of, patterns_of}
+use Rattle.isle_ast.specs.Trees.PatternTree.{pattern_height}
+use Rattle.isle_ast.specs.Trees.PatternShape.{pattern_of, patterns_of}
 use Rattle.isle_layout.specs.Nesting.{pattern_nesting, pattern_nestings}
 use Rattle.isle_layout.proofs.nesting.+pattern_fits.Given as goal
 

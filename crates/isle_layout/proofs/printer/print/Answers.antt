@@ -5,7 +5,7 @@ use Rattle.std.proofs.lemmas.List.Folds.{list_any_more}
 use Rattle.std.proofs.lemmas.Str.{IsUtf8-string_bytes}
 use Rattle.std.specs.Char.{encode_utf8}
 use Rattle.std.specs.List.{list_any}
-use Rattle.isle_syntax.specs.declared.ast.Def.{Def}
+use Rattle.isle_ast.specs.declared.ast.Def.{Def}
 use Rattle.isle_layout.specs.DefSpellings.{def_sexpr, def_has_macro_arg}
 use Rattle.isle_layout.specs.Layout.{layout}
 use Rattle.isle_layout.specs.Prints.{def_print, print_of}
@@ -35,7 +35,8 @@ none_more defs i def low is none here =
 pub loop-def-preserved : goal.loop-def-preserved
 unfolding encode_utf8
 loop-def-preserved c =
-    let line = c.in_ok-push_str.ensures.bytes ∙ ap (λ bytes. string_bytes c.loop-def.text ++ bytes) (c.as_str.ensures.value ∙ c.in_ok-printed.ensures.text) in
+    let line = c.in_ok-push_str.ensures.bytes ∙ ap (λ bytes. string_bytes c.loop-def.text ++ bytes)
+    (c.as_str.ensures.value ∙ c.in_ok-printed.ensures.text) in
     record {
       printed = printed_more c.args.width c.args.defs.now c.loop-def.def-index c.def-item.result _ _ _ c.loop-def-test.true c.def-item.is
           c.loop-def.invariant.printed line c.in_ok-push.ensures.bytes;

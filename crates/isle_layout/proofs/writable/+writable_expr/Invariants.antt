@@ -1,5 +1,5 @@
 use Rattle.std.proofs.Common.{◌≡◌, drop}
-use Rattle.isle_syntax.specs.Trees.ExprShape.{exprs_of, lets_of}
+use Rattle.isle_ast.specs.Trees.ExprShape.{exprs_of, lets_of}
 use Rattle.isle_layout.specs.Writable.{writable_exprs, writable_lets}
 use Rattle.isle_layout.proofs.writable.+writable_expr.Given as goal
 

@@ -1,5 +1,5 @@
 use Rattle.std.proofs.Common.{◌≡◌, drop}
-use Rattle.isle_syntax.specs.Trees.ItemShape.{items_of}
+use Rattle.isle_ast.specs.Trees.ItemShape.{items_of}
 use Rattle.isle_layout.specs.Writable.{writable_items}
 use Rattle.isle_layout.proofs.writable.+writable_item.Given as goal
 

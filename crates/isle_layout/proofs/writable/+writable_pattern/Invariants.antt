@@ -1,6 +1,6 @@
 use Rattle.std.proofs.Common.{◌≡◌, ◌≤◌, drop}
-use Rattle.isle_syntax.specs.Trees.PatternTree.{pattern_height}
-use Rattle.isle_syntax.specs.Trees.PatternShape.{pattern_of, patterns_of}
+use Rattle.isle_ast.specs.Trees.PatternTree.{pattern_height}
+use Rattle.isle_ast.specs.Trees.PatternShape.{pattern_of, patterns_of}
 use Rattle.isle_layout.specs.Writable.{writable_pattern, writable_patterns}
 use Rattle.isle_layout.proofs.writable.+writable_pattern.Given as goal
 

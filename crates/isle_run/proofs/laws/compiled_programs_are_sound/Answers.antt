@@ -1,4 +1,4 @@
-use Rattle.isle_run.proofs.SoundPrograms.Whole as its
+use Rattle.isle_run.proofs.Chains.Sound as its
 use Rattle.isle_run.proofs.laws.compiled_programs_are_sound.Goals as goal
 
 pub returns : goal.returns

@@ -1,4 +1,4 @@
-use Rattle.isle_run.proofs.GroundValues.Printed.ReadBack.{typed_stays}
+use Rattle.isle_values.proofs.GroundValues.Printed.ReadBack.{typed_stays}
 use Rattle.isle_run.proofs.laws.typed_values_stay.Goals as goal
 
 pub returns : goal.returns

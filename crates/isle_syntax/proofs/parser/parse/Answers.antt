@@ -1,5 +1,5 @@
 use Rattle.std.proofs.lemmas.Result.{IfErr-weaker}
-use Rattle.isle_syntax.specs.Errors.{IfKind, IsOfKinds, parse_error, size_error}
+use Rattle.isle_ast.specs.Errors.{IfKind, IsOfKinds, parse_error, size_error}
 use Rattle.isle_syntax.specs.Grammar.Verdict.{FaultAt, DeepAt}
 use Rattle.isle_syntax.proofs.ErrorKinds.{fault_spans, deep_spans, of_both_kinds}
 use Rattle.isle_syntax.proofs.Positions.VerdictPositions.{spelt_places, refusal_places, spelt_no_macro_args}

@@ -1,6 +1,6 @@
 use Rattle.std.proofs.Common.{subst}
 use Rattle.std.specs.Prelude.{IfOk, IfErr}
-use Rattle.isle_syntax.specs.Errors.{IfFault}
+use Rattle.isle_ast.specs.Errors.{IfFault}
 use Rattle.isle_syntax.specs.Tokens.RemainingTokens.{RemainingTokens}
 use Rattle.isle_syntax.specs.Tokens.LexerCalls.{IsRemaining}
 use Rattle.isle_syntax.specs.Grammar.Verdict.{IsSpelt, IsFaultOf}

@@ -1,5 +1,5 @@
 use Rattle.std.proofs.Common.{◌≡◌, map}
-use Rattle.isle_syntax.specs.Trees.WithoutPos.{def_without_pos}
+use Rattle.isle_ast.specs.Trees.WithoutPos.{def_without_pos}
 use Rattle.isle_syntax.proofs.parser.parse_without_pos.Given as goal
 
 abbrev pub invariant-loop-def : goal.invariant-loop-def

@@ -3,33 +3,33 @@ use Rattle.std.specs.Prelude.{ℕ, zero, suc, ℤ, List, [], ◌∷◌, length, 
 use Rattle.std.specs.List.{list_any}
 use Rattle.isle_syntax.specs.declared.kind.Keyword.{Keyword}
 use Rattle.isle_syntax.specs.declared.kind.Keyword.TheVariants as keyword
-use Rattle.isle_syntax.specs.declared.lexer.Pos.{Pos}
-use Rattle.isle_syntax.specs.declared.ast.Ident.{Ident}
-use Rattle.isle_syntax.specs.declared.ast.StructField.{StructField}
-use Rattle.isle_syntax.specs.declared.ast.Fields.{Fields}
-use Rattle.isle_syntax.specs.declared.ast.Fields.TheVariants.{Unit as no_fields, Struct as named_fields, Tuple as tuple_fields}
-use Rattle.isle_syntax.specs.declared.ast.Variant.{Variant}
-use Rattle.isle_syntax.specs.declared.ast.TypeValue.{TypeValue}
-use Rattle.isle_syntax.specs.declared.ast.TypeValue.TheVariants.{Primitive, Enum, Struct}
-use Rattle.isle_syntax.specs.declared.ast.«Type».{«Type» as TypeTree}
-use Rattle.isle_syntax.specs.declared.ast.Decl.{Decl as DeclTree}
-use Rattle.isle_syntax.specs.declared.ast.Pattern.{Pattern}
-use Rattle.isle_syntax.specs.declared.ast.Pattern.TheVariants as patterns
-use Rattle.isle_syntax.specs.declared.ast.Expr.{Expr}
-use Rattle.isle_syntax.specs.declared.ast.Expr.TheVariants as exprs
-use Rattle.isle_syntax.specs.declared.ast.IfLet.{IfLet}
-use Rattle.isle_syntax.specs.declared.ast.Rule.{Rule as RuleTree}
-use Rattle.isle_syntax.specs.declared.ast.Extractor.{Extractor as ExtractorTree}
-use Rattle.isle_syntax.specs.declared.ast.Extern.{Extern as ExternTree}
-use Rattle.isle_syntax.specs.declared.ast.Extern.TheVariants.{Constructor as extern_constructor, Extractor as extern_extractor, Const as extern_const}
-use Rattle.isle_syntax.specs.declared.ast.Converter.{Converter as ConverterTree}
-use Rattle.isle_syntax.specs.declared.ast.Kept.{Kept as KeptTree}
-use Rattle.isle_syntax.specs.declared.ast.Def.{Def}
-use Rattle.isle_syntax.specs.declared.ast.Def.TheVariants as defs
-use Rattle.isle_syntax.specs.Trees.PatternTree.{PatternTree, pattern_var, pattern_bind, pattern_bool, pattern_int, pattern_prim, pattern_term}
-use Rattle.isle_syntax.specs.Trees.PatternTree.{pattern_wildcard, pattern_and, pattern_macro_arg}
-use Rattle.isle_syntax.specs.Trees.ExprTree.{ExprTree, expr_term, expr_var, expr_bool, expr_int, expr_prim, expr_let}
-use Rattle.isle_syntax.specs.Trees.ItemTree.{ItemTree}
+use Rattle.isle_ast.specs.declared.pos.Pos.{Pos}
+use Rattle.isle_ast.specs.declared.ast.Ident.{Ident}
+use Rattle.isle_ast.specs.declared.ast.StructField.{StructField}
+use Rattle.isle_ast.specs.declared.ast.Fields.{Fields}
+use Rattle.isle_ast.specs.declared.ast.Fields.TheVariants.{Unit as no_fields, Struct as named_fields, Tuple as tuple_fields}
+use Rattle.isle_ast.specs.declared.ast.Variant.{Variant}
+use Rattle.isle_ast.specs.declared.ast.TypeValue.{TypeValue}
+use Rattle.isle_ast.specs.declared.ast.TypeValue.TheVariants.{Primitive, Enum, Struct}
+use Rattle.isle_ast.specs.declared.ast.«Type».{«Type» as TypeTree}
+use Rattle.isle_ast.specs.declared.ast.Decl.{Decl as DeclTree}
+use Rattle.isle_ast.specs.declared.ast.Pattern.{Pattern}
+use Rattle.isle_ast.specs.declared.ast.Pattern.TheVariants as patterns
+use Rattle.isle_ast.specs.declared.ast.Expr.{Expr}
+use Rattle.isle_ast.specs.declared.ast.Expr.TheVariants as exprs
+use Rattle.isle_ast.specs.declared.ast.IfLet.{IfLet}
+use Rattle.isle_ast.specs.declared.ast.Rule.{Rule as RuleTree}
+use Rattle.isle_ast.specs.declared.ast.Extractor.{Extractor as ExtractorTree}
+use Rattle.isle_ast.specs.declared.ast.Extern.{Extern as ExternTree}
+use Rattle.isle_ast.specs.declared.ast.Extern.TheVariants.{Constructor as extern_constructor, Extractor as extern_extractor, Const as extern_const}
+use Rattle.isle_ast.specs.declared.ast.Converter.{Converter as ConverterTree}
+use Rattle.isle_ast.specs.declared.ast.Kept.{Kept as KeptTree}
+use Rattle.isle_ast.specs.declared.ast.Def.{Def}
+use Rattle.isle_ast.specs.declared.ast.Def.TheVariants as defs
+use Rattle.isle_ast.specs.Trees.PatternTree.{PatternTree, pattern_var, pattern_bind, pattern_bool, pattern_int, pattern_prim, pattern_term}
+use Rattle.isle_ast.specs.Trees.PatternTree.{pattern_wildcard, pattern_and, pattern_macro_arg}
+use Rattle.isle_ast.specs.Trees.ExprTree.{ExprTree, expr_term, expr_var, expr_bool, expr_int, expr_prim, expr_let}
+use Rattle.isle_ast.specs.Trees.ItemTree.{ItemTree}
 use Rattle.isle_syntax.specs.Tokens.PlacedTokens.{Placed, opening, closing, at_sign, symbol, int, Literal, small, large}
 use Rattle.isle_syntax.specs.Tokens.Names.{is_ident, is_const, is_word}
 use Rattle.isle_syntax.specs.Grammar.Phrases.{next_symbol_is}

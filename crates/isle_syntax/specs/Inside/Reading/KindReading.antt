@@ -2,14 +2,14 @@
 use Rattle.std.specs.Prelude.{ℕ, List, Option, Some, None, true, false}
 use Rattle.isle_syntax.specs.declared.kind.Kind.{Kind}
 use Rattle.isle_syntax.specs.declared.kind.Kind.TheVariants.{End, Open, Close, At, Int, True, False, Const, Wildcard, Name, Other}
-use Rattle.isle_syntax.specs.declared.ast.Ident.{Ident}
+use Rattle.isle_ast.specs.declared.ast.Ident.{Ident}
 use Rattle.isle_syntax.specs.Tokens.PlacedTokens.{Placed}
 use Rattle.isle_syntax.specs.Inside.Reading.KindOf.{kind_at}
 use Rattle.isle_syntax.specs.Grammar.TreeGrammar.{bits_of, is_large}
 use Rattle.isle_syntax.specs.Inside.Reading.Readers.{done, fault, Reader, after, read_map, after_at, integer, at_pos, any_symbol}
-use Rattle.isle_syntax.specs.Trees.PatternTree.{PatternTree, pattern_var, pattern_bool, pattern_int, pattern_prim, pattern_wildcard}
-use Rattle.isle_syntax.specs.Trees.ExprTree.{ExprTree, expr_var, expr_bool, expr_int, expr_prim}
-use Rattle.isle_syntax.specs.Trees.ItemTree.{ItemTree, item_symbol, item_at}
+use Rattle.isle_ast.specs.Trees.PatternTree.{PatternTree, pattern_var, pattern_bool, pattern_int, pattern_prim, pattern_wildcard}
+use Rattle.isle_ast.specs.Trees.ExprTree.{ExprTree, expr_var, expr_bool, expr_int, expr_prim}
+use Rattle.isle_ast.specs.Trees.ItemTree.{ItemTree, item_symbol, item_at}
 use Rattle.isle_syntax.specs.Inside.Reading.TreeReading.{ident, after_dollar, literal_item, item_list_reader, named, pattern, pattern_list, expr_list}
 
 -- an item that begins with a token of this kind

@@ -2,21 +2,21 @@
 use Rattle.std.specs.Prelude.{ℕ, zero, suc, List, [], ◌∷◌, Bool, true, false, ◌||◌, Option, Some, None, cond, codes}
 use Rattle.isle_syntax.specs.declared.kind.Kind.{Kind}
 use Rattle.isle_syntax.specs.declared.kind.Kind.TheVariants.{True, False, Const, Wildcard, Name}
-use Rattle.isle_syntax.specs.declared.lexer.Pos.{Pos}
-use Rattle.isle_syntax.specs.declared.ast.Ident.{Ident}
+use Rattle.isle_ast.specs.declared.pos.Pos.{Pos}
+use Rattle.isle_ast.specs.declared.ast.Ident.{Ident}
 use Rattle.isle_syntax.specs.Tokens.PlacedTokens.{Placed, opening, closing, at_sign, symbol, int, Literal, small, large}
 use Rattle.isle_syntax.specs.Tokens.Names.{is_ident, is_word}
 use Rattle.isle_syntax.specs.Inside.Reading.KindOf.{symbol_kind}
 use Rattle.isle_syntax.specs.Grammar.TreeGrammar.{bits_of, is_large}
 use Rattle.isle_syntax.specs.Grammar.Phrases.{next_symbol_is}
 use Rattle.isle_syntax.specs.Inside.Reading.Readers.{Read, done, fault, Reader, read_map, seq, rest_of, opened, shut, closed, symbol_of, says}
-pub use Rattle.isle_syntax.specs.Trees.PatternTree.{pattern_list as pattern_trees}
-pub use Rattle.isle_syntax.specs.Trees.ExprTree.{expr_list as expr_trees}
-pub use Rattle.isle_syntax.specs.Trees.ItemTree.{item_list_of as item_trees}
-use Rattle.isle_syntax.specs.Trees.PatternTree.{PatternTree, pattern_var, pattern_bind, pattern_bool, pattern_int, pattern_prim, pattern_term}
-use Rattle.isle_syntax.specs.Trees.PatternTree.{pattern_wildcard, pattern_and}
-use Rattle.isle_syntax.specs.Trees.ExprTree.{ExprTree, LetTrees, expr_term, expr_var, expr_bool, expr_int, expr_prim, expr_let, no_lets, more_lets}
-use Rattle.isle_syntax.specs.Trees.ItemTree.{ItemTree, item_int, item_big, item_symbol, item_at, item_list}
+pub use Rattle.isle_ast.specs.Trees.PatternTree.{pattern_list as pattern_trees}
+pub use Rattle.isle_ast.specs.Trees.ExprTree.{expr_list as expr_trees}
+pub use Rattle.isle_ast.specs.Trees.ItemTree.{item_list_of as item_trees}
+use Rattle.isle_ast.specs.Trees.PatternTree.{PatternTree, pattern_var, pattern_bind, pattern_bool, pattern_int, pattern_prim, pattern_term}
+use Rattle.isle_ast.specs.Trees.PatternTree.{pattern_wildcard, pattern_and}
+use Rattle.isle_ast.specs.Trees.ExprTree.{ExprTree, LetTrees, expr_term, expr_var, expr_bool, expr_int, expr_prim, expr_let, no_lets, more_lets}
+use Rattle.isle_ast.specs.Trees.ItemTree.{ItemTree, item_int, item_big, item_symbol, item_at, item_list}
 
 abbrev pub ident : Pos → List ℕ → Ident
 ident p s = record { 0 = s; 1 = p }

@@ -1,4 +1,4 @@
-use Rattle.isle_terms.proofs.Visiting.SoundRules.{rules_sound}
+use Rattle.isle_rules.proofs.Visiting.SoundRules.{rules_sound}
 use Rattle.isle_terms.proofs.laws.rules_of_definitions_use_what_is_defined.Goals as goal
 
 pub returns : goal.returns

@@ -1,4 +1,4 @@
-use Rattle.isle_terms.proofs.Sound.RuleScopes.{rule_keeps_scopes}
+use Rattle.isle_rules.proofs.Sound.RuleScopes.{rule_keeps_scopes}
 use Rattle.isle_terms.proofs.laws.typed_rules_keep_scopes.Goals as goal
 
 pub returns : goal.returns

@@ -1,4 +1,4 @@
-use Rattle.isle_terms.proofs.Visiting.SoundRules.{typed_rule_sound}
+use Rattle.isle_rules.proofs.Visiting.SoundRules.{typed_rule_sound}
 use Rattle.isle_terms.proofs.laws.typed_rules_use_what_is_defined.Goals as goal
 
 pub returns : goal.returns

@@ -1,9 +1,9 @@
 -- What a check of definitions does to the errors so far.
 use Rattle.std.specs.Prelude.{◌≡◌, Bool, true, false, List, [], ◌++◌, All}
-use Rattle.isle_syntax.specs.declared.lexer.Pos.{Pos}
-use Rattle.isle_syntax.specs.declared.error.Error.{Error}
+use Rattle.isle_ast.specs.declared.pos.Pos.{Pos}
+use Rattle.isle_ast.specs.declared.error.Error.{Error}
 use Rattle.isle_types.specs.TypeFaults.{IsTypeFault}
-use Rattle.isle_terms.specs.Definitions.{IsAmong}
+use Rattle.isle_rules.specs.Definitions.{IsAmong}
 
 -- errors that are added are type errors, each where a rule is broken; where none is, the rule is kept
 pub record Checks (Broken : Pos → Type 0) (Kept : Type 0) (old new : List Error) : Type 0 where

@@ -2,12 +2,12 @@
 use Rattle.std.specs.Prelude.{◌≡◌, ◌<◌, ◌≤◌, ℕ, List, [], ◌∷◌, ◌++◌, map, length, Option, None, Some, slice_get, codes}
 use Rattle.std.specs.List.{All, AllZip}
 use Rattle.std.specs.Option.{option_map, option_and_then}
-use Rattle.isle_syntax.specs.declared.ast.Ident.{Ident}
-use Rattle.isle_syntax.specs.declared.ast.Decl.{Decl as DeclTree}
-use Rattle.isle_syntax.specs.declared.ast.Def.{Def}
-use Rattle.isle_syntax.specs.declared.error.Error.{Error}
-use Rattle.isle_syntax.specs.declared.lexer.Pos.{Pos}
-use Rattle.isle_syntax.specs.Trees.PatternShape.{pattern_of}
+use Rattle.isle_ast.specs.declared.ast.Ident.{Ident}
+use Rattle.isle_ast.specs.declared.ast.Decl.{Decl as DeclTree}
+use Rattle.isle_ast.specs.declared.ast.Def.{Def}
+use Rattle.isle_ast.specs.declared.error.Error.{Error}
+use Rattle.isle_ast.specs.declared.pos.Pos.{Pos}
+use Rattle.isle_ast.specs.Trees.PatternShape.{pattern_of}
 use Rattle.isle_types.specs.declared.ids.TermId.{TermId}
 use Rattle.isle_types.specs.declared.ids.Sym.{Sym}
 use Rattle.isle_types.specs.Environment.{Environment, NamedVariant, numbers_in}
@@ -15,23 +15,23 @@ use Rattle.isle_types.specs.Names.{position_of}
 use Rattle.isle_types.specs.StableMaps.{value_at}
 use Rattle.isle_types.specs.TypeEnvs.{CountUp, symbol_at}
 use Rattle.isle_types.specs.TypeFaults.{IsTypeOrSize}
-use Rattle.isle_terms.specs.declared.terms.Term.{Term}
-use Rattle.isle_terms.specs.declared.terms.ConstructorKind.{ConstructorKind}
-use Rattle.isle_terms.specs.declared.terms.ConstructorKind.TheVariants.{InternalConstructor, ExternalConstructor}
-use Rattle.isle_terms.specs.declared.terms.ExtractorKind.{ExtractorKind}
-use Rattle.isle_terms.specs.declared.terms.ExtractorKind.TheVariants.{InternalExtractor, ExternalExtractor}
-use Rattle.isle_terms.specs.declared.terms.TermKind.{TermKind}
-use Rattle.isle_terms.specs.declared.terms.TermKind.TheVariants.{EnumVariant, Struct, Decl}
+use Rattle.isle_rules.specs.declared.terms.Term.{Term}
+use Rattle.isle_rules.specs.declared.terms.ConstructorKind.{ConstructorKind}
+use Rattle.isle_rules.specs.declared.terms.ConstructorKind.TheVariants.{InternalConstructor, ExternalConstructor}
+use Rattle.isle_rules.specs.declared.terms.ExtractorKind.{ExtractorKind}
+use Rattle.isle_rules.specs.declared.terms.ExtractorKind.TheVariants.{InternalExtractor, ExternalExtractor}
+use Rattle.isle_rules.specs.declared.terms.TermKind.{TermKind}
+use Rattle.isle_rules.specs.declared.terms.TermKind.TheVariants.{EnumVariant, Struct, Decl}
 use Rattle.isle_terms.specs.declared.env.terms.Forms.{Forms}
-use Rattle.isle_terms.specs.Signatures.{Constructor, by_rules, external_constructor, ExtractorForm, by_template, external_extractor, TermForm}
-use Rattle.isle_terms.specs.Signatures.{variant_form, struct_form, declared_form, Signature}
-use Rattle.isle_terms.specs.Definitions.{IsAmong, IsDeclaration, rules_in, roots_of, external_constructors, extractors_in, external_extractors}
-use Rattle.isle_terms.specs.Definitions.{external_constructor_names, extractor_names}
-use Rattle.isle_terms.specs.Elaboration.{type_named}
+use Rattle.isle_rules.specs.Signatures.{Constructor, by_rules, external_constructor, ExtractorForm, by_template, external_extractor, TermForm}
+use Rattle.isle_rules.specs.Signatures.{variant_form, struct_form, declared_form, Signature}
+use Rattle.isle_rules.specs.Definitions.{IsAmong, IsDeclaration, rules_in, roots_of, external_constructors, extractors_in, external_extractors}
+use Rattle.isle_rules.specs.Definitions.{external_constructor_names, extractor_names}
+use Rattle.isle_rules.specs.Elaboration.{type_named}
 use Rattle.isle_terms.specs.Inside.Collecting.DefinitionLists.{host_constructor_shown, host_extractor_shown}
 use Rattle.isle_terms.specs.Inside.Collecting.NameTables.{IsTableOf}
-use Rattle.isle_terms.specs.Shown.ShownTerms.{flags_shown, numbers_of, term_at}
-use Rattle.isle_terms.specs.Shown.TermTables.{same_sym}
+use Rattle.isle_rules.specs.Shown.ShownTerms.{flags_shown, numbers_of, term_at}
+use Rattle.isle_rules.specs.Shown.TermTables.{same_sym}
 
 -- what may be there is shown as what is there
 abbrev pub AreShownAs : {X Y : Type 0} → (X → Y → Type 0) → Option X → Option Y → Type 0

@@ -1,11 +1,11 @@
 -- What the host provides for terms, as definitions give it.
 use Rattle.std.specs.Prelude.{Option}
 use Rattle.std.specs.Option.{option_and_then}
-use Rattle.isle_syntax.specs.declared.ast.Ident.{Ident}
-use Rattle.isle_syntax.specs.declared.ast.Def.{Def}
+use Rattle.isle_ast.specs.declared.ast.Ident.{Ident}
+use Rattle.isle_ast.specs.declared.ast.Def.{Def}
 use Rattle.isle_terms.specs.declared.env.definitions.HostConstructor.{HostConstructor}
 use Rattle.isle_terms.specs.declared.env.definitions.HostExtractor.{HostExtractor}
-use Rattle.isle_terms.specs.Definitions.{ExternalExtractor, as_external, as_external_constructor, as_external_extractor}
+use Rattle.isle_rules.specs.Definitions.{ExternalExtractor, as_external, as_external_constructor, as_external_extractor}
 
 -- a term and the host's function for its constructor, of a definition of one
 abbrev pub constructor_in : Def → Option (Ident × Ident)

@@ -1,16 +1,16 @@
 -- The environment of terms that definitions make, before and after its rules are typed.
 use Rattle.std.specs.Prelude.{◌≤◌, List, length, All}
-use Rattle.isle_syntax.specs.declared.ast.Decl.{Decl as DeclTree}
-use Rattle.isle_syntax.specs.declared.ast.Def.{Def}
+use Rattle.isle_ast.specs.declared.ast.Decl.{Decl as DeclTree}
+use Rattle.isle_ast.specs.declared.ast.Def.{Def}
 use Rattle.isle_types.specs.Names.{AreDistinct}
 use Rattle.isle_types.specs.Environment.{Environment}
 use Rattle.isle_types.specs.TypeTables.{TypeTables}
-use Rattle.isle_terms.specs.Signatures.{Signature, Conversion}
-use Rattle.isle_terms.specs.Definitions.{declarations, rules_in, AreTerms, AreConversions, KeepConstructorRules, KeepExtractorRules, IsDefined}
+use Rattle.isle_rules.specs.Signatures.{Signature, Conversion}
+use Rattle.isle_rules.specs.Definitions.{declarations, rules_in, AreTerms, AreConversions, KeepConstructorRules, KeepExtractorRules, IsDefined}
 use Rattle.isle_terms.specs.TermFaults.{names_of}
 use Rattle.isle_terms.specs.TypingFaults.{named_rules}
-use Rattle.isle_terms.specs.Shown.TermTables.{TermTables}
-use Rattle.isle_terms.specs.Shown.ShownTerms.{ShowsDeclared}
+use Rattle.isle_rules.specs.Shown.TermTables.{TermTables}
+use Rattle.isle_rules.specs.Shown.ShownTerms.{ShowsDeclared}
 use Rattle.isle_terms.specs.Inside.Shown.TermLimits.{HasKnownSymbols}
 use Rattle.isle_terms.specs.Inside.Collecting.RuleChecks.{HasSomeRoot}
 

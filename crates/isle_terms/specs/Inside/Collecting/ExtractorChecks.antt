@@ -1,14 +1,14 @@
 -- What is checked of internal extractors: their bodies name known terms, and no term comes to itself.
 use Rattle.std.specs.Prelude.{◌≡◌, ℕ, true, false, List, [], ◌++◌, map, All}
-use Rattle.isle_syntax.specs.declared.ast.Ident.{Ident}
-use Rattle.isle_syntax.specs.declared.ast.Extractor.{Extractor as ExtractorTree}
-use Rattle.isle_syntax.specs.declared.error.Error.{Error}
-use Rattle.isle_syntax.specs.declared.lexer.Pos.{Pos}
-use Rattle.isle_syntax.specs.Trees.PatternTree.{PatternTree}
-use Rattle.isle_syntax.specs.Trees.PatternShape.{pattern_of}
-use Rattle.isle_syntax.specs.Trees.Terms.{pattern_terms}
+use Rattle.isle_ast.specs.declared.ast.Ident.{Ident}
+use Rattle.isle_ast.specs.declared.ast.Extractor.{Extractor as ExtractorTree}
+use Rattle.isle_ast.specs.declared.error.Error.{Error}
+use Rattle.isle_ast.specs.declared.pos.Pos.{Pos}
+use Rattle.isle_ast.specs.Trees.PatternTree.{PatternTree}
+use Rattle.isle_ast.specs.Trees.PatternShape.{pattern_of}
+use Rattle.isle_ast.specs.Trees.Terms.{pattern_terms}
 use Rattle.isle_types.specs.TypeFaults.{IsTypeFault}
-use Rattle.isle_terms.specs.Definitions.{IsAmong, is_among, term_names}
+use Rattle.isle_rules.specs.Definitions.{IsAmong, is_among, term_names}
 use Rattle.isle_terms.specs.TermFaults.{NamesTerm}
 
 -- a term's name at the position of the term

@@ -1,13 +1,13 @@
 -- The graph of internal extractors: an edge leads from a term to each term with an extractor that its body names.
 use Rattle.std.specs.Prelude.{◌≡◌, ◌⊎◌, ℕ, List, Some, length, map, slice_get}
 use Rattle.std.specs.Str.{bytes_eq}
-use Rattle.isle_syntax.specs.declared.ast.Ident.{Ident}
-use Rattle.isle_syntax.specs.declared.ast.Extractor.{Extractor as ExtractorTree}
-use Rattle.isle_syntax.specs.declared.lexer.Pos.{Pos}
-use Rattle.isle_syntax.specs.Trees.PatternTree.{PatternTree}
-use Rattle.isle_syntax.specs.Trees.PatternShape.{pattern_of}
+use Rattle.isle_ast.specs.declared.ast.Ident.{Ident}
+use Rattle.isle_ast.specs.declared.ast.Extractor.{Extractor as ExtractorTree}
+use Rattle.isle_ast.specs.declared.pos.Pos.{Pos}
+use Rattle.isle_ast.specs.Trees.PatternTree.{PatternTree}
+use Rattle.isle_ast.specs.Trees.PatternShape.{pattern_of}
 use Rattle.isle_types.specs.StableMaps.{value_at}
-use Rattle.isle_terms.specs.Definitions.{IsAmong, ComesTo, term_names}
+use Rattle.isle_rules.specs.Definitions.{IsAmong, ComesTo, term_names}
 use Rattle.isle_terms.specs.Inside.Collecting.Graphs.{HasEdge}
 
 -- the names of the terms of extractors

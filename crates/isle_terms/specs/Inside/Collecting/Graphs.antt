@@ -1,6 +1,6 @@
 -- Graphs, as each node's targets, and what a search for a cycle knows of one.
 use Rattle.std.specs.Prelude.{◌≡◌, ◌⊎◌, ◌+◌, ◌-◌, ◌<◌, ◌≤◌, ℕ, suc, List, [], ◌∷◌, length, slice_get, Some, unwrap_or}
-use Rattle.isle_terms.specs.Definitions.{IsAmong}
+use Rattle.isle_rules.specs.Definitions.{IsAmong}
 use Rattle.isle_terms.specs.declared.env.cycles.Mark.{Mark}
 use Rattle.isle_terms.specs.declared.env.cycles.Mark.TheVariants.{Unseen, Open, Finished}
 use Rattle.isle_terms.specs.declared.env.cycles.Step.{Step}

@@ -1,16 +1,16 @@
 -- The terms that definitions make, as the code has them.
 use Rattle.std.specs.Prelude.{◌≤◌, ℕ, List, length, All}
 use Rattle.std.specs.List.{AllZip}
-use Rattle.isle_syntax.specs.declared.ast.Decl.{Decl as DeclTree}
-use Rattle.isle_syntax.specs.declared.ast.Def.{Def}
+use Rattle.isle_ast.specs.declared.ast.Decl.{Decl as DeclTree}
+use Rattle.isle_ast.specs.declared.ast.Def.{Def}
 use Rattle.isle_types.specs.declared.ids.TypeId.{TypeId}
 use Rattle.isle_types.specs.declared.ids.TermId.{TermId}
 use Rattle.isle_types.specs.Environment.{Environment}
 use Rattle.isle_types.specs.TypeEnvs.{CountUp}
-use Rattle.isle_terms.specs.declared.terms.Term.{Term}
+use Rattle.isle_rules.specs.declared.terms.Term.{Term}
 use Rattle.isle_terms.specs.declared.env.stages.MadeTerms.{MadeTerms}
-use Rattle.isle_terms.specs.Signatures.{Signature}
-use Rattle.isle_terms.specs.Definitions.{declarations, AreTerms, names_of_terms, KeepExtractorRules, IsDefined}
+use Rattle.isle_rules.specs.Signatures.{Signature}
+use Rattle.isle_rules.specs.Definitions.{declarations, AreTerms, names_of_terms, KeepExtractorRules, IsDefined}
 use Rattle.isle_terms.specs.Inside.Collecting.NameTables.{IsTableOf}
 use Rattle.isle_terms.specs.Inside.Collecting.DeclaredTerms.{IsShownTerm}
 use Rattle.isle_terms.specs.Inside.Collecting.ReadConverters.{AreReadConverters}

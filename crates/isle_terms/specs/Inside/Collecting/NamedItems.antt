@@ -2,14 +2,14 @@
 use Rattle.std.specs.Prelude.{ℕ, List, Option}
 use Rattle.std.specs.Borrow.{Bor}
 use Rattle.std.specs.Option.{option_map}
-use Rattle.isle_syntax.specs.declared.ast.Ident.{Ident}
-use Rattle.isle_syntax.specs.declared.ast.Decl.{Decl as DeclTree}
-use Rattle.isle_syntax.specs.declared.ast.Extractor.{Extractor as ExtractorTree}
-use Rattle.isle_syntax.specs.declared.lexer.Pos.{Pos}
+use Rattle.isle_ast.specs.declared.ast.Ident.{Ident}
+use Rattle.isle_ast.specs.declared.ast.Decl.{Decl as DeclTree}
+use Rattle.isle_ast.specs.declared.ast.Extractor.{Extractor as ExtractorTree}
+use Rattle.isle_ast.specs.declared.pos.Pos.{Pos}
 use Rattle.isle_terms.specs.declared.env.definitions.HostConstructor.{HostConstructor}
 use Rattle.isle_terms.specs.declared.env.definitions.HostExtractor.{HostExtractor}
 use Rattle.isle_terms.specs.declared.env.naming.Named.{Named}
-use Rattle.isle_terms.specs.Signatures.{Signature}
+use Rattle.isle_rules.specs.Signatures.{Signature}
 
 -- a name and its position
 abbrev pub named_shown : Named → List ℕ × Pos

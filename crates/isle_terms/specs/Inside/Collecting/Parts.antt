@@ -1,15 +1,15 @@
 -- The definitions of terms and rules by kind, and the tables of the names that they give.
 use Rattle.std.specs.Prelude.{◌≡◌, ℕ, true, false, List, Some, map, All}
-use Rattle.isle_syntax.specs.declared.ast.Decl.{Decl as DeclTree}
-use Rattle.isle_syntax.specs.declared.ast.Rule.{Rule as RuleTree}
-use Rattle.isle_syntax.specs.declared.ast.Def.{Def}
-use Rattle.isle_syntax.specs.Trees.PatternShape.{pattern_of}
+use Rattle.isle_ast.specs.declared.ast.Decl.{Decl as DeclTree}
+use Rattle.isle_ast.specs.declared.ast.Rule.{Rule as RuleTree}
+use Rattle.isle_ast.specs.declared.ast.Def.{Def}
+use Rattle.isle_ast.specs.Trees.PatternShape.{pattern_of}
 use Rattle.isle_types.specs.Names.{AreDistinct}
 use Rattle.isle_terms.specs.declared.env.parts.Parts.{Parts}
 use Rattle.isle_terms.specs.declared.env.names.Names.{Names}
-use Rattle.isle_terms.specs.Definitions.{IsAmong, declarations, rules_in, extractors_in, converters_in, external_constructors}
-use Rattle.isle_terms.specs.Definitions.{external_extractors, declared_names, root_name, roots_of, extractor_names, external_constructor_names}
-use Rattle.isle_terms.specs.Definitions.{KeepConstructorRules}
+use Rattle.isle_rules.specs.Definitions.{IsAmong, declarations, rules_in, extractors_in, converters_in, external_constructors}
+use Rattle.isle_rules.specs.Definitions.{external_extractors, declared_names, root_name, roots_of, extractor_names, external_constructor_names}
+use Rattle.isle_rules.specs.Definitions.{KeepConstructorRules}
 use Rattle.isle_terms.specs.Inside.Collecting.DefinitionLists.{host_constructor_shown, host_extractor_shown}
 use Rattle.isle_terms.specs.Inside.Collecting.NameTables.{IsTableOf}
 

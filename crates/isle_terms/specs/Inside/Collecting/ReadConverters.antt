@@ -1,20 +1,20 @@
 -- How converters are read, and what the table of their terms shows.
 use Rattle.std.specs.Prelude.{◌≡◌, ℕ, true, List, None, Some, is_some}
 use Rattle.std.specs.Option.{option_map, option_and_then}
-use Rattle.isle_syntax.specs.declared.ast.Converter.{Converter as ConverterTree}
-use Rattle.isle_syntax.specs.declared.ast.Def.{Def}
-use Rattle.isle_syntax.specs.declared.lexer.Pos.{Pos}
+use Rattle.isle_ast.specs.declared.ast.Converter.{Converter as ConverterTree}
+use Rattle.isle_ast.specs.declared.ast.Def.{Def}
+use Rattle.isle_ast.specs.declared.pos.Pos.{Pos}
 use Rattle.isle_types.specs.declared.ids.TypeId.{TypeId}
 use Rattle.isle_types.specs.declared.ids.TermId.{TermId}
 use Rattle.isle_types.specs.Names.{position_of}
 use Rattle.isle_types.specs.StableMaps.{value_at}
 use Rattle.isle_types.specs.Environment.{Environment}
 use Rattle.isle_types.specs.TypeEnvs.{type_at}
-use Rattle.isle_terms.specs.Signatures.{Signature, Conversion, converter_in}
-use Rattle.isle_terms.specs.Elaboration.{type_named}
-use Rattle.isle_terms.specs.Definitions.{IsTypeNumber, AreConversions, names_of_terms}
-use Rattle.isle_terms.specs.Shown.TermTables.{same_types}
-use Rattle.isle_terms.specs.Shown.ShownTerms.{term_at}
+use Rattle.isle_rules.specs.Signatures.{Signature, Conversion, converter_in}
+use Rattle.isle_rules.specs.Elaboration.{type_named}
+use Rattle.isle_rules.specs.Definitions.{IsTypeNumber, AreConversions, names_of_terms}
+use Rattle.isle_rules.specs.Shown.TermTables.{same_types}
+use Rattle.isle_rules.specs.Shown.ShownTerms.{term_at}
 
 -- a converter is read as its inner and outer type and its term, where these are the names of terms
 pub record IsReadAs (types : Environment) (names : List (List ℕ)) (tree : ConverterTree) (read : (TypeId × TypeId) × TermId) : Type 0 where

@@ -1,12 +1,12 @@
 -- Of errors that tell the same the first.
 use Rattle.std.specs.Prelude.{◌≡◌, ◌⊎◌, ◌<◌, ℕ, Bool, true, not, ◌||◌, ◌&&◌, eqb, Option, Some, None, List, slice_get, bytes_eq, All}
 use Rattle.std.specs.List.{before_first}
-use Rattle.isle_syntax.specs.declared.lexer.Pos.{Pos}
-use Rattle.isle_syntax.specs.declared.error.Error.{Error}
-use Rattle.isle_syntax.specs.declared.error.Error.TheVariants.{ParseError, TypeError, UnreachableError, OverlapError, ShadowedError, SizeError}
-use Rattle.isle_syntax.specs.contracts.lexer.PosPartialEq.TheImpl as pos_of
+use Rattle.isle_ast.specs.declared.pos.Pos.{Pos}
+use Rattle.isle_ast.specs.declared.error.Error.{Error}
+use Rattle.isle_ast.specs.declared.error.Error.TheVariants.{ParseError, TypeError, UnreachableError, OverlapError, ShadowedError, SizeError}
+use Rattle.isle_ast.specs.contracts.pos.PosPartialEq.TheImpl as pos_of
 use Rattle.isle_types.specs.StableMaps.{has}
-use Rattle.isle_terms.specs.Definitions.{IsAmong}
+use Rattle.isle_rules.specs.Definitions.{IsAmong}
 
 -- where a type error stands, and the first line of its message
 abbrev pub fault_key : Error → Option (Pos × List ℕ)

@@ -1,17 +1,17 @@
 -- What the typing of all rules does.
 use Rattle.std.specs.Prelude.{◌≡◌, ℕ, List}
 use Rattle.std.specs.List.{AllZip}
-use Rattle.isle_syntax.specs.declared.ast.Rule.{Rule as RuleTree}
-use Rattle.isle_syntax.specs.declared.lexer.Pos.{Pos}
-use Rattle.isle_syntax.specs.Trees.PatternTree.{PatternTrees}
+use Rattle.isle_ast.specs.declared.ast.Rule.{Rule as RuleTree}
+use Rattle.isle_ast.specs.declared.pos.Pos.{Pos}
+use Rattle.isle_ast.specs.Trees.PatternTree.{PatternTrees}
 use Rattle.isle_types.specs.TypeEnvs.{CountUp}
-use Rattle.isle_terms.specs.declared.rules.Rule.{Rule}
-use Rattle.isle_terms.specs.TypedRules.{TypedRule}
-use Rattle.isle_terms.specs.Signatures.{Flags, Signature, Declared}
-use Rattle.isle_terms.specs.Elaboration.{ElaboratesRule}
+use Rattle.isle_rules.specs.declared.rules.Rule.{Rule}
+use Rattle.isle_rules.specs.TypedRules.{TypedRule}
+use Rattle.isle_rules.specs.Signatures.{Flags, Signature, Declared}
+use Rattle.isle_rules.specs.Elaboration.{ElaboratesRule}
 use Rattle.isle_terms.specs.RuleReaching.{HasRoot, IsIllRule, IsLargeRule}
-use Rattle.isle_terms.specs.Definitions.{IsAmong}
-use Rattle.isle_terms.specs.Shown.RulesShown.{IsShownRule}
+use Rattle.isle_rules.specs.Definitions.{IsAmong}
+use Rattle.isle_rules.specs.Shown.RulesShown.{IsShownRule}
 
 -- a rule is too large, at its position
 abbrev pub IsLargeAt : Declared → (levels max : ℕ) → RuleTree → Pos → Type 0

@@ -8,12 +8,12 @@ use Rattle.isle_types.specs.declared.ids.RuleId.{RuleId}
 use Rattle.isle_types.specs.Names.{AreDistinct, position_of}
 use Rattle.isle_types.specs.StableMaps.{value_at, value_at_text}
 use Rattle.isle_types.specs.TypeEnvs.{CountUp, symbol_at}
-use Rattle.isle_terms.specs.declared.rules.Rule.{Rule}
+use Rattle.isle_rules.specs.declared.rules.Rule.{Rule}
 use Rattle.isle_terms.specs.declared.env.rule_names.NamedRules.{NamedRules}
-use Rattle.isle_terms.specs.TypedRules.{TypedRule}
-use Rattle.isle_terms.specs.Definitions.{times, rule_names, rule_named}
-use Rattle.isle_terms.specs.Shown.TermTables.{same_sym, rule_at}
-use Rattle.isle_terms.specs.Shown.RulesShown.{IsShownRule}
+use Rattle.isle_rules.specs.TypedRules.{TypedRule}
+use Rattle.isle_rules.specs.Definitions.{times, rule_names, rule_named}
+use Rattle.isle_rules.specs.Shown.TermTables.{same_sym, rule_at}
+use Rattle.isle_rules.specs.Shown.RulesShown.{IsShownRule}
 
 -- whether a name that occurs so many times occurs once alone; none where it doesn't occur
 abbrev pub lone_mark : ℕ → Option Bool

@@ -1,13 +1,13 @@
 -- The root of a rule by what is known of names, and what reading a whole rule with its root comes to.
 use Rattle.std.specs.Prelude.{ℕ, ℤ, Bool, true, false, Option, None, Some, length, if◌then◌else◌, ◌==◌}
-use Rattle.isle_syntax.specs.declared.ast.Rule.{Rule}
-use Rattle.isle_syntax.specs.declared.lexer.Pos.{Pos}
-use Rattle.isle_syntax.specs.Trees.PatternTree.{PatternTree, PatternTrees, pattern_var, pattern_bind, pattern_bool, pattern_int, pattern_prim}
-use Rattle.isle_syntax.specs.Trees.PatternTree.{pattern_term, pattern_wildcard, pattern_and, pattern_macro_arg}
-use Rattle.isle_syntax.specs.Trees.PatternShape.{pattern_of}
-use Rattle.isle_terms.specs.TypedRules.{TypedRule}
-use Rattle.isle_terms.specs.Signatures.{Flags, TermForm, variant_form, struct_form, declared_form, Signature}
-use Rattle.isle_terms.specs.Elaboration.{pattern_count}
+use Rattle.isle_ast.specs.declared.ast.Rule.{Rule}
+use Rattle.isle_ast.specs.declared.pos.Pos.{Pos}
+use Rattle.isle_ast.specs.Trees.PatternTree.{PatternTree, PatternTrees, pattern_var, pattern_bind, pattern_bool, pattern_int, pattern_prim}
+use Rattle.isle_ast.specs.Trees.PatternTree.{pattern_term, pattern_wildcard, pattern_and, pattern_macro_arg}
+use Rattle.isle_ast.specs.Trees.PatternShape.{pattern_of}
+use Rattle.isle_rules.specs.TypedRules.{TypedRule}
+use Rattle.isle_rules.specs.Signatures.{Flags, TermForm, variant_form, struct_form, declared_form, Signature}
+use Rattle.isle_rules.specs.Elaboration.{pattern_count}
 use Rattle.isle_terms.specs.Inside.Readings.Outcomes.{Outcome, stands_for, ill_at, Known, and_then, only_if}
 use Rattle.isle_terms.specs.Inside.Readings.RuleOutcomes.{RuleParts, read_rule}
 use Rattle.isle_terms.specs.Inside.Readings.Telling.{rule_of_parts}

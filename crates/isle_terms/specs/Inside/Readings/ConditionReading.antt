@@ -1,11 +1,11 @@
 -- What one condition of a rule comes to.
 use Rattle.std.specs.Prelude.{ℕ, None}
-use Rattle.isle_syntax.specs.declared.ast.IfLet.{IfLet}
-use Rattle.isle_syntax.specs.Trees.PatternShape.{pattern_of}
-use Rattle.isle_syntax.specs.Trees.ExprShape.{expr_of}
-use Rattle.isle_terms.specs.TypedRules.{TypedIfLet, built_at}
-use Rattle.isle_terms.specs.Signatures.{Flags}
-use Rattle.isle_terms.specs.Elaboration.{State}
+use Rattle.isle_ast.specs.declared.ast.IfLet.{IfLet}
+use Rattle.isle_ast.specs.Trees.PatternShape.{pattern_of}
+use Rattle.isle_ast.specs.Trees.ExprShape.{expr_of}
+use Rattle.isle_rules.specs.TypedRules.{TypedIfLet, built_at}
+use Rattle.isle_rules.specs.Signatures.{Flags}
+use Rattle.isle_rules.specs.Elaboration.{State}
 use Rattle.isle_terms.specs.Inside.Readings.Outcomes.{Outcome, stands_for, Known, and_then, read_pattern, read_expr}
 
 -- a condition's expression, at no type, and then its pattern at that expression's type

@@ -6,9 +6,10 @@ use Rattle.isle_terms.specs.declared.translate.Context.{Context}
 use Rattle.isle_terms.specs.declared.translate.names.Role.{Role}
 use Rattle.isle_terms.specs.declared.translate.names.Role.TheVariants.{Constructor, Extractor}
 use Rattle.isle_terms.specs.declared.translate.names.NumberedTerm.{NumberedTerm}
-use Rattle.isle_terms.specs.Signatures.{TermForm, Signature, has_constructor_form, has_extractor_form}
+use Rattle.isle_rules.specs.Signatures.{TermForm, Signature, has_constructor_form, has_extractor_form}
 use Rattle.isle_terms.specs.Inside.Readings.Outcomes.{Known}
-use Rattle.isle_terms.specs.Shown.ShownTerms.{known_of, term_shown}
+use Rattle.isle_terms.specs.Inside.Shown.KnownNames.{known_of}
+use Rattle.isle_rules.specs.Shown.ShownTerms.{term_shown}
 
 -- what is known of names
 abbrev pub known_in : Context → Known

@@ -1,14 +1,14 @@
 -- What the parts of a reading of expressions are cited by.
 use Rattle.std.specs.Prelude.{ℕ, Bool, List, Option, ◌==◌, ◌&&◌, length}
-use Rattle.isle_syntax.specs.Trees.ExprTree.{ExprTree, LetTrees}
+use Rattle.isle_ast.specs.Trees.ExprTree.{ExprTree, LetTrees}
 use Rattle.isle_types.specs.declared.ids.TypeId.{TypeId}
 use Rattle.isle_types.specs.declared.ids.VarId.{VarId}
-use Rattle.isle_terms.specs.declared.rules.Expr.{Expr}
-use Rattle.isle_terms.specs.Signatures.{Flags, Signature, has_constructor_form, flags_of}
-use Rattle.isle_terms.specs.TypedRules.{TypedExpr, built_let, built_at}
-use Rattle.isle_terms.specs.Elaboration.{State, may_call, seen_from}
+use Rattle.isle_rules.specs.declared.rules.Expr.{Expr}
+use Rattle.isle_rules.specs.Signatures.{Flags, Signature, has_constructor_form, flags_of}
+use Rattle.isle_rules.specs.TypedRules.{TypedExpr, built_let, built_at}
+use Rattle.isle_rules.specs.Elaboration.{State, may_call, seen_from}
 use Rattle.isle_terms.specs.Inside.Readings.Outcomes.{Outcome, Known, ExprRun, stands_for, and_then, bind_values}
-use Rattle.isle_terms.specs.Shown.ShownRules.{built_shown, expr_limit}
+use Rattle.isle_rules.specs.Shown.ShownRules.{built_shown, expr_limit}
 
 -- whether a term can be called with so many arguments by what has these flags
 abbrev pub is_call : (caller : Flags) → Signature → (count : ℕ) → Bool

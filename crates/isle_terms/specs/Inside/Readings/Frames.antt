@@ -1,10 +1,10 @@
 -- Templates that are walked with what is given for their arguments, and not copied.
 use Rattle.std.specs.Prelude.{ℕ, suc, List, map, Bool, true, false, slice_get, unwrap_or}
-use Rattle.isle_syntax.specs.Trees.PatternTree.{PatternTree, PatternTrees, pattern_var, pattern_bind, pattern_bool, pattern_int, pattern_prim}
-use Rattle.isle_syntax.specs.Trees.PatternTree.{pattern_term, pattern_wildcard, pattern_and, pattern_macro_arg, no_patterns, more_patterns}
-use Rattle.isle_syntax.specs.Trees.PatternTree.{pattern_list}
-use Rattle.isle_syntax.specs.Trees.PatternShape.{pattern_of}
-use Rattle.isle_terms.specs.Shown.ShownRules.{greatest}
+use Rattle.isle_ast.specs.Trees.PatternTree.{PatternTree, PatternTrees, pattern_var, pattern_bind, pattern_bool, pattern_int, pattern_prim}
+use Rattle.isle_ast.specs.Trees.PatternTree.{pattern_term, pattern_wildcard, pattern_and, pattern_macro_arg, no_patterns, more_patterns}
+use Rattle.isle_ast.specs.Trees.PatternTree.{pattern_list}
+use Rattle.isle_ast.specs.Trees.PatternShape.{pattern_of}
+use Rattle.isle_rules.specs.Shown.ShownRules.{greatest}
 use Rattle.isle_terms.specs.declared.translate.frames.Given.{Given, Given-F, fold-Given, out-Given}
 
 -- a template with the patterns for its arguments; an argument for which there is none stays

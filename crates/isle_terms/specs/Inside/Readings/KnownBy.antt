@@ -6,8 +6,8 @@ use Rattle.isle_types.specs.declared.types.BuiltinType.{BuiltinType}
 use Rattle.isle_types.specs.declared.types.BuiltinType.TheVariants.{Bool as BoolType, Int}
 use Rattle.isle_types.specs.IntTypes.{builtin_types, builtin_names, least_of, greatest_of, spelt_number}
 use Rattle.isle_types.specs.Environment.{Environment, NamedType, TypeShape, primitive, enum, struct, constant_in}
-use Rattle.isle_terms.specs.Signatures.{Declared, term_named, converter_in}
-use Rattle.isle_terms.specs.Elaboration.{type_named}
+use Rattle.isle_rules.specs.Signatures.{Declared, term_named, converter_in}
+use Rattle.isle_rules.specs.Elaboration.{type_named}
 use Rattle.isle_terms.specs.Inside.Readings.Outcomes.{Known}
 
 -- whether one integer is at most another

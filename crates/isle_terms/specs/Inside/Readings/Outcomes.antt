@@ -1,20 +1,20 @@
 -- What reading the trees of a rule comes to, as functions: what they stand for, or where they are ill typed, or that they
 -- exceed a size. Trees are read from left to right under names whose meaning is known.
 use Rattle.std.specs.Prelude.{ℕ, zero, suc, ℤ, Bool, true, false, List, [], ◌∷◌, length, Option, None, Some, if◌then◌else◌, ◌==◌, ◌&&◌, leb}
-use Rattle.isle_syntax.specs.declared.lexer.Pos.{Pos}
-use Rattle.isle_syntax.specs.Trees.PatternTree.{PatternTree, PatternTrees, pattern_var, pattern_bind, pattern_bool, pattern_int, pattern_prim}
-use Rattle.isle_syntax.specs.Trees.PatternTree.{pattern_term, pattern_wildcard, pattern_and, pattern_macro_arg, no_patterns, more_patterns}
-use Rattle.isle_syntax.specs.Trees.PatternTree.{pattern_pos}
-use Rattle.isle_syntax.specs.Trees.ExprTree.{ExprTree, ExprTrees, LetTrees, expr_term, expr_var, expr_bool, expr_int, expr_prim, expr_let}
-use Rattle.isle_syntax.specs.Trees.ExprTree.{no_exprs, more_exprs, no_lets, more_lets, expr_pos}
-use Rattle.isle_syntax.specs.Trees.Templates.{filled}
-use Rattle.isle_terms.specs.TypedRules.{TypedPattern, TypedPatterns, typed_bind, typed_var, typed_bool, typed_int, typed_prim, typed_term}
-use Rattle.isle_terms.specs.TypedRules.{typed_wildcard, typed_and, no_typed, more_typed, TypedExpr, TypedExprs, TypedBindings, built_term}
-use Rattle.isle_terms.specs.TypedRules.{built_var, built_bool, built_int, built_prim, built_let, no_built, more_built, no_typed_bindings, more_typed_bindings}
-use Rattle.isle_terms.specs.TypedRules.{built_at}
-use Rattle.isle_terms.specs.Signatures.{Flags, TermForm, Signature, has_constructor_form, has_extractor_form, flags_of, template_of}
-use Rattle.isle_terms.specs.Elaboration.{Visible, State, counted, bound, seen_from, visible_in, pattern_count, expr_count, listed, each_at, may_call}
-use Rattle.isle_terms.specs.Elaboration.{bool_number}
+use Rattle.isle_ast.specs.declared.pos.Pos.{Pos}
+use Rattle.isle_ast.specs.Trees.PatternTree.{PatternTree, PatternTrees, pattern_var, pattern_bind, pattern_bool, pattern_int, pattern_prim}
+use Rattle.isle_ast.specs.Trees.PatternTree.{pattern_term, pattern_wildcard, pattern_and, pattern_macro_arg, no_patterns, more_patterns}
+use Rattle.isle_ast.specs.Trees.PatternTree.{pattern_pos}
+use Rattle.isle_ast.specs.Trees.ExprTree.{ExprTree, ExprTrees, LetTrees, expr_term, expr_var, expr_bool, expr_int, expr_prim, expr_let}
+use Rattle.isle_ast.specs.Trees.ExprTree.{no_exprs, more_exprs, no_lets, more_lets, expr_pos}
+use Rattle.isle_ast.specs.Trees.Templates.{filled}
+use Rattle.isle_rules.specs.TypedRules.{TypedPattern, TypedPatterns, typed_bind, typed_var, typed_bool, typed_int, typed_prim, typed_term}
+use Rattle.isle_rules.specs.TypedRules.{typed_wildcard, typed_and, no_typed, more_typed, TypedExpr, TypedExprs, TypedBindings, built_term}
+use Rattle.isle_rules.specs.TypedRules.{built_var, built_bool, built_int, built_prim, built_let, no_built, more_built, no_typed_bindings, more_typed_bindings}
+use Rattle.isle_rules.specs.TypedRules.{built_at}
+use Rattle.isle_rules.specs.Signatures.{Flags, TermForm, Signature, has_constructor_form, has_extractor_form, flags_of, template_of}
+use Rattle.isle_rules.specs.Elaboration.{Visible, State, counted, bound, seen_from, visible_in, pattern_count, expr_count, listed, each_at, may_call}
+use Rattle.isle_rules.specs.Elaboration.{bool_number}
 
 -- what reading comes to
 pub data Outcome (A : Type 0) : Type 0 where

@@ -1,16 +1,16 @@
 -- What patterns of a rule come to under its context.
 use Rattle.std.specs.Prelude.{◌≡◌, ◌≤◌, ℕ, List, map, length, Option, None, Some}
-use Rattle.isle_syntax.specs.declared.lexer.Pos.{Pos}
-use Rattle.isle_syntax.specs.Trees.PatternTree.{PatternTree, PatternTrees}
-use Rattle.isle_terms.specs.declared.rules.Pattern.{Pattern}
+use Rattle.isle_ast.specs.declared.pos.Pos.{Pos}
+use Rattle.isle_ast.specs.Trees.PatternTree.{PatternTree, PatternTrees}
+use Rattle.isle_rules.specs.declared.rules.Pattern.{Pattern}
 use Rattle.isle_terms.specs.declared.translate.Context.{Context}
-use Rattle.isle_terms.specs.TypedRules.{TypedPattern, TypedPatterns, typed_and}
-use Rattle.isle_terms.specs.Elaboration.{State, each_at}
+use Rattle.isle_rules.specs.TypedRules.{TypedPattern, TypedPatterns, typed_and}
+use Rattle.isle_rules.specs.Elaboration.{State, each_at}
 use Rattle.isle_terms.specs.Inside.Readings.Outcomes.{Outcome, stands_for, and_then, PatternRun, PatternUse, read_pattern, read_pattern_use, pattern_node}
 use Rattle.isle_terms.specs.Inside.Readings.Outcomes.{each_pattern}
-use Rattle.isle_terms.specs.Shown.ShownRules.{typed_list, typed_shown, pattern_limit, greatest}
+use Rattle.isle_rules.specs.Shown.ShownRules.{typed_list, typed_shown, pattern_limit, greatest}
 use Rattle.isle_terms.specs.Inside.Readings.Contexts.{known_in}
-use Rattle.isle_terms.specs.Readings.Needs.{needed}
+use Rattle.isle_rules.specs.Readings.Needs.{needed}
 
 -- how a pattern is read in at most so many levels
 abbrev pub reads_in : Context → (levels : ℕ) → PatternRun

@@ -1,14 +1,14 @@
 -- What reading a whole rule comes to: its arguments, its conditions and its right side, one after the other.
 use Rattle.std.specs.Prelude.{ℕ, List, [], ◌∷◌, None, Some}
-use Rattle.isle_syntax.specs.declared.ast.IfLet.{IfLet}
-use Rattle.isle_syntax.specs.declared.ast.Rule.{Rule}
-use Rattle.isle_syntax.specs.declared.lexer.Pos.{Pos}
-use Rattle.isle_syntax.specs.Trees.PatternTree.{PatternTrees}
-use Rattle.isle_syntax.specs.Trees.PatternShape.{pattern_of}
-use Rattle.isle_syntax.specs.Trees.ExprShape.{expr_of}
-use Rattle.isle_terms.specs.TypedRules.{TypedPatterns, TypedExpr, TypedIfLet, built_at}
-use Rattle.isle_terms.specs.Signatures.{Flags, Signature}
-use Rattle.isle_terms.specs.Elaboration.{State, start, on_lhs}
+use Rattle.isle_ast.specs.declared.ast.IfLet.{IfLet}
+use Rattle.isle_ast.specs.declared.ast.Rule.{Rule}
+use Rattle.isle_ast.specs.declared.pos.Pos.{Pos}
+use Rattle.isle_ast.specs.Trees.PatternTree.{PatternTrees}
+use Rattle.isle_ast.specs.Trees.PatternShape.{pattern_of}
+use Rattle.isle_ast.specs.Trees.ExprShape.{expr_of}
+use Rattle.isle_rules.specs.TypedRules.{TypedPatterns, TypedExpr, TypedIfLet, built_at}
+use Rattle.isle_rules.specs.Signatures.{Flags, Signature}
+use Rattle.isle_rules.specs.Elaboration.{State, start, on_lhs}
 use Rattle.isle_terms.specs.Inside.Readings.Outcomes.{Outcome, stands_for, Known, and_then, each_pattern, read_pattern, read_expr}
 
 -- the typed parts of a rule

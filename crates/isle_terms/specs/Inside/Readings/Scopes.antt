@@ -6,8 +6,8 @@ use Rattle.isle_types.specs.StableMaps.{value_at}
 use Rattle.isle_terms.specs.declared.translate.bindings.BoundName.{BoundName}
 use Rattle.isle_terms.specs.declared.translate.bindings.VisibleName.{VisibleName}
 use Rattle.isle_terms.specs.declared.translate.bindings.RuleVariable.{RuleVariable}
-use Rattle.isle_terms.specs.TypedRules.{Variable}
-use Rattle.isle_terms.specs.Elaboration.{Visible, visible_in}
+use Rattle.isle_rules.specs.TypedRules.{Variable}
+use Rattle.isle_rules.specs.Elaboration.{Visible, visible_in}
 
 -- the ids of a visible name's variable and of its type
 abbrev pub bound_of : Visible → BoundName

@@ -2,11 +2,11 @@
 -- too large.
 use Rattle.std.specs.Prelude.{ℕ, ◌≤◌, pos, unwrap_or}
 use Rattle.std.specs.Option.{option_map}
-use Rattle.isle_syntax.specs.declared.ast.Ident.{Ident}
-use Rattle.isle_syntax.specs.declared.ast.Rule.{Rule}
-use Rattle.isle_syntax.specs.declared.lexer.Pos.{Pos}
-use Rattle.isle_terms.specs.TypedRules.{TypedRule}
-use Rattle.isle_terms.specs.Elaboration.{State}
+use Rattle.isle_ast.specs.declared.ast.Ident.{Ident}
+use Rattle.isle_ast.specs.declared.ast.Rule.{Rule}
+use Rattle.isle_ast.specs.declared.pos.Pos.{Pos}
+use Rattle.isle_rules.specs.TypedRules.{TypedRule}
+use Rattle.isle_rules.specs.Elaboration.{State}
 use Rattle.isle_terms.specs.Inside.Readings.Outcomes.{Outcome, stands_for, ill_at, exceeds}
 use Rattle.isle_terms.specs.Inside.Readings.RuleOutcomes.{RuleParts}
 

@@ -1,11 +1,11 @@
 //! Which positions stand in a rule.
 
-use isle_syntax::ast::{Expr, Rule};
-use isle_syntax::lexer::Pos;
+use isle_ast::ast::{Expr, Rule};
+use isle_ast::pos::Pos;
 
 /// Where the last node of an expression stands.
 #[cycle(last_place)]
-#[tactic(auto, using(isle_syntax::proofs::Trees::ExprSizes::most_expr_size, isle_syntax::proofs::Trees::ExprSizes::most_let_size))]
+#[tactic(auto, using(isle_ast::proofs::Trees::ExprSizes::most_expr_size, isle_ast::proofs::Trees::ExprSizes::most_let_size))]
 fn last_place(expr: &Expr) -> Pos {
     match expr {
         Expr::Term { args, pos, .. } => last_place_of(args.as_slice(), *pos),
@@ -19,7 +19,7 @@ fn last_place(expr: &Expr) -> Pos {
 
 /// Where the last node of expressions stands, or a position where there are none.
 #[cycle(last_place)]
-#[tactic(auto, using(isle_syntax::proofs::Trees::ExprSizes::most_expr_size, isle_syntax::proofs::Trees::ExprSizes::most_let_size))]
+#[tactic(auto, using(isle_ast::proofs::Trees::ExprSizes::most_expr_size, isle_ast::proofs::Trees::ExprSizes::most_let_size))]
 fn last_place_of(exprs: &[Expr], pos: Pos) -> Pos {
     let mut last = pos;
     for expr in exprs {

@@ -1,13 +1,12 @@
 //! The texts of messages.
 
-use crate::env::TermEnv;
-use crate::terms::{Term, TermFlags, TermKind};
 use crate::translate::Context;
 use crate::translate::bindings::BoundName;
 use crate::translate::names::{NumberedTerm, Role};
-use isle_syntax::Text;
-use isle_syntax::ast::{Expr, Ident, Pattern};
-use isle_syntax::lexer::Pos;
+use isle_ast::Text;
+use isle_ast::ast::{Expr, Ident, Pattern};
+use isle_ast::pos::Pos;
+use isle_rules::{Term, TermEnv, TermFlags, TermKind};
 use isle_types::{BuiltinType, Type, TypeEnv, TypeId};
 use std::alloc::{AllocError, Global};
 

@@ -1,9 +1,9 @@
 use Rattle.std.proofs.Common.{sym, subst}
 use Rattle.std.proofs.lemmas.Result.{IfOk-weaker, on_err_weaker}
 use Rattle.isle_meaning.specs.GroundValues.{values_of}
-use Rattle.isle_terms.specs.Values.{value_list}
-use Rattle.isle_run.specs.Calls.Answers.{answers_in}
-use Rattle.isle_run.specs.Meanings.{checked}
+use Rattle.isle_rules.specs.Values.{value_list}
+use Rattle.isle_calls.specs.Calls.Answers.{answers_in}
+use Rattle.isle_program.specs.Meanings.{checked}
 use Rattle.islec.specs.Replies.{BeginsBy, TellsBy}
 use Rattle.islec.proofs.answer.call_by.Goals as goal
 
@@ -14,7 +14,8 @@ returns-then-manner-clause-ran g c = IfOk-weaker c.call_plain.result _ _ (λ cal
       made,
       has,
       subst (λ b. TellsBy b program (answers_in program (g.V.World.constructs c.args.world.now) (g.V.World.extracts c.args.world.now))
-          c.args.manner.depth c.args.term.0 (values_of (checked program).values (value_list c.args.args.items)) called made) (sym c.if-manner.true) tells,
+          c.args.manner.depth c.args.term.0 (values_of (checked program).values (value_list c.args.args.items)) called made)
+          (sym c.if-manner.true) tells,
     ))
     c.call_plain.ensures.ran
 
@@ -36,7 +37,8 @@ returns-else-manner-clause-ran g c = IfOk-weaker c.call.result _ _ (λ called to
       made,
       has,
       subst (λ b. TellsBy b program (answers_in program (g.V.World.constructs c.args.world.now) (g.V.World.extracts c.args.world.now))
-          c.args.manner.depth c.args.term.0 (values_of (checked program).values (value_list c.args.args.items)) called made) (sym c.if-manner.false) tells,
+          c.args.manner.depth c.args.term.0 (values_of (checked program).values (value_list c.args.args.items)) called made)
+          (sym c.if-manner.false) tells,
     ))
     c.call.ensures.ran
 

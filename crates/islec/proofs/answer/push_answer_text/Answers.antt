@@ -1,6 +1,6 @@
 use Rattle.std.proofs.Common.{◌≡◌, ◌++◌, OnOk, sym, subst, string_bytes}
 use Rattle.std.specs.Prelude.{codes}
-use Rattle.isle_run.specs.Programs.{term_name}
+use Rattle.isle_program.specs.Programs.{term_name}
 use Rattle.islec.specs.Replies.{answer_text}
 use Rattle.islec.proofs.ReplyLemmas.{labelled}
 use Rattle.islec.proofs.answer.push_answer_text.Goals as goal
@@ -15,8 +15,11 @@ returns-in_ok-push_str-in-Stuck c =
 
 pub returns-in_ok-push_str-in-IllTyped : goal.returns-in_ok-push_str-in-IllTyped
 returns-in_ok-push_str-in-IllTyped c =
-    subst (λ a. OnOk c.push_call-in-IllTyped.result (string_bytes c.push_call-in-IllTyped.new.lines ≡ string_bytes c.args.lines.now ++ answer_text c.args.program.now a))
+    subst (λ a. OnOk c.push_call-in-IllTyped.result (string_bytes c.push_call-in-IllTyped.new.lines ≡ string_bytes c.args.lines.now
+    ++ answer_text c.args.program.now a))
     (sym c.in-IllTyped.is)
-    (labelled c.push_call-in-IllTyped.result (string_bytes c.args.lines.now) (string_bytes c.push_str-in-IllTyped.new.self) (string_bytes c.push_call-in-IllTyped.new.lines)
+    (labelled c.push_call-in-IllTyped.result (string_bytes c.args.lines.now) (string_bytes c.push_str-in-IllTyped.new.self)
+    (string_bytes c.push_call-in-IllTyped.new.lines)
     (codes "ill-typed ") c.name-in-IllTyped.result.now (term_name c.args.program.now c.in-IllTyped.term) c.as_slice-in-IllTyped.result.now
-    c.in-IllTyped.args.items c.in_ok-push_str-in-IllTyped.ensures.bytes c.name-in-IllTyped.ensures c.as_slice-in-IllTyped.ensures.value c.push_call-in-IllTyped.ensures)
+    c.in-IllTyped.args.items c.in_ok-push_str-in-IllTyped.ensures.bytes c.name-in-IllTyped.ensures c.as_slice-in-IllTyped.ensures.value
+    c.push_call-in-IllTyped.ensures)

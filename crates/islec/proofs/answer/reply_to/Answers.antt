@@ -1,7 +1,7 @@
 use Rattle.std.proofs.Common.{[], refl, rules, subst, sym}
 use Rattle.std.specs.Prelude.{IsUtf8}
-use Rattle.isle_terms.specs.Values.{value_list}
-use Rattle.isle_run.specs.Values.TextTokens.{AreTokensOf}
+use Rattle.isle_rules.specs.Values.{value_list}
+use Rattle.isle_values.specs.Values.TextTokens.{AreTokensOf}
 use Rattle.islec.specs.Replies.{setting_in, blank}
 use Rattle.islec.specs.Reasons.{IsReason}
 use Rattle.islec.proofs.ReplyLemmas.{refused_bytes, refused_query, answered_query, lost_query}
@@ -25,7 +25,8 @@ returns-then-branch-clause-reply g c =
 pub returns-in-Ok-query-clause-reply : goal.returns-in-Ok-query-clause-reply
 returns-in-Ok-query-clause-reply g c =
     let (same, utf8) = c.in-Ok.ensures.cases in
-    answered_query _ c.args.world.now c.reply_to_call.new.world c.args.line.now c.in-Ok.text.now c.in-Ok-query.term (value_list c.in-Ok-query.args.items) c.reply_to_call.result
+    answered_query _ c.args.world.now c.reply_to_call.new.world c.args.line.now c.in-Ok.text.now c.in-Ok-query.term
+    (value_list c.in-Ok-query.args.items) c.reply_to_call.result
     same utf8 c.in-Ok-query.ensures.spelt c.reply_to_call.ensures.answers
 
 pub returns-in-Err-clause-reply : goal.returns-in-Err-clause-reply
@@ -38,6 +39,7 @@ returns-in-Err-clause-reply g c =
 pub returns-in-Ok-query-clause-lost : goal.returns-in-Ok-query-clause-lost
 returns-in-Ok-query-clause-lost g c =
     let (same, utf8) = c.in-Ok.ensures.cases in
-    lost_query (setting_in g.V.World.step c.args.program.now (g.V.World.constructs c.args.world.now) (g.V.World.extracts c.args.world.now) c.args.manner)
+    lost_query (setting_in g.V.World.step c.args.program.now (g.V.World.constructs c.args.world.now)
+    (g.V.World.extracts c.args.world.now) c.args.manner)
     c.args.world.now c.reply_to_call.new.world c.args.line.now c.in-Ok.text.now c.in-Ok-query.term (value_list c.in-Ok-query.args.items)
     c.reply_to_call.result same c.in-Ok-query.ensures.spelt c.reply_to_call.ensures.lost

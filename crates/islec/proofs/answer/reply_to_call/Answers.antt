@@ -1,12 +1,12 @@
-use Rattle.isle_run.proofs.OpenCalls.Made.{on_err}
+use Rattle.isle_calls.proofs.OpenCalls.Made.{on_err}
 use Rattle.islec.proofs.ReplyLemmas.{begins_with}
 use Rattle.std.proofs.Common.{◌++◌, ◌∙◌, sym, ap, string_bytes, subst}
 use Rattle.std.specs.List.{flat_map, AllZip}
 use Rattle.isle_meaning.specs.ValueTypes.{AreOfTypes}
-use Rattle.isle_terms.specs.Values.{value_list}
-use Rattle.isle_run.specs.Calls.Answers.{IsEventOf}
-use Rattle.isle_run.specs.Programs.{value_facts}
-use Rattle.isle_run.proofs.OpenCalls.Telling.{inputs_taken}
+use Rattle.isle_rules.specs.Values.{value_list}
+use Rattle.isle_calls.specs.Calls.Answers.{IsEventOf}
+use Rattle.isle_program.specs.Programs.{value_facts}
+use Rattle.isle_calls.proofs.OpenCalls.Telling.{inputs_taken}
 use Rattle.islec.specs.Reasons.{depth_line}
 use Rattle.islec.specs.Replies.{effect_line, answer_line, steps_line}
 use Rattle.islec.proofs.answer.reply_to_call.Goals as goal
@@ -31,7 +31,8 @@ returns-clause-answers g c = record {
   traced = (_, _, c.in_ok-lines.ensures);
   written = c.in_ok-push_reply.ensures
       ∙ ap (λ l. string_bytes c.in_ok-lines.lines ++ (flat_map effect_line l ++ (answer_line c.args.program.now c.in_ok-told.told.0.answer
-      ++ (depth_line c.args.manner c.in_ok-told.told.0.answer ++ steps_line c.args.manner.steps c.in_ok-told.told.0.steps)))) c.as_slice.ensures.value;
+      ++ (depth_line c.args.manner c.in_ok-told.told.0.answer ++ steps_line c.args.manner.steps c.in_ok-told.told.0.steps))))
+      c.as_slice.ensures.value;
   counted = search;
 }
 

@@ -1,7 +1,7 @@
 use Rattle.std.proofs.Common.{◌≡◌, false, List, map, arith, subst}
 use Rattle.std.specs.Prelude.{string_bytes}
-use Rattle.isle_syntax.specs.Positions.Files.{SourceFile, source_file}
-use Rattle.isle_run.specs.Compiled.{AreAccepted, IsProgramOf}
+use Rattle.isle_ast.specs.Positions.Files.{SourceFile, source_file}
+use Rattle.isle_program.specs.Compiled.{AreAccepted, IsProgramOf}
 use Rattle.islec.proofs.DrawingLemmas.{draw_cut, draws_by, refusal_undrawn, unknown_by}
 use Rattle.islec.proofs.RunLemmas.{faults_by}
 use Rattle.islec.proofs.StatusLemmas.{drawn_ends, drawn_not_refused}
@@ -29,7 +29,8 @@ returns-in-Ok-clause-drawn g c =
     let same : c.deref.result.now ≡ map source_file c.args.texts.items = grind arith in
     draws_by c.deref.result.now (map source_file c.args.texts.items) same c.in-Ok.program
     (subst (λ (l : List SourceFile). IsProgramOf l c.in-Ok.program) copy c.in-Ok.ensures.compiled) (subst AreAccepted copy c.in-Ok.ensures.accepted)
-    (map string_bytes c.args.names.now) c.args.dot (g.W.Write.contents c.args.writer.now) (g.W.Write.contents c.draw.new.writer) c.draw.result c.draw.ensures.drawn
+    (map string_bytes c.args.names.now) c.args.dot (g.W.Write.contents c.args.writer.now) (g.W.Write.contents c.draw.new.writer)
+    c.draw.result c.draw.ensures.drawn
 
 pub returns-in-Ok-clause-unknown : goal.returns-in-Ok-clause-unknown
 returns-in-Ok-clause-unknown g c =
@@ -37,7 +38,8 @@ returns-in-Ok-clause-unknown g c =
     let same : c.deref.result.now ≡ map source_file c.args.texts.items = grind arith in
     unknown_by c.deref.result.now (map source_file c.args.texts.items) same c.in-Ok.program
     (subst (λ (l : List SourceFile). IsProgramOf l c.in-Ok.program) copy c.in-Ok.ensures.compiled) (subst AreAccepted copy c.in-Ok.ensures.accepted)
-    (map string_bytes c.args.names.now) c.args.dot (g.W.Write.contents c.args.writer.now) (g.W.Write.contents c.draw.new.writer) c.draw.result c.draw.ensures.unknown
+    (map string_bytes c.args.names.now) c.args.dot (g.W.Write.contents c.args.writer.now) (g.W.Write.contents c.draw.new.writer)
+    c.draw.result c.draw.ensures.unknown
 
 pub returns-in-Ok-clause-cut : goal.returns-in-Ok-clause-cut
 returns-in-Ok-clause-cut g c =
@@ -45,7 +47,8 @@ returns-in-Ok-clause-cut g c =
     let same : c.deref.result.now ≡ map source_file c.args.texts.items = grind arith in
     draw_cut c.deref.result.now (map source_file c.args.texts.items) same c.in-Ok.program
     (subst (λ (l : List SourceFile). IsProgramOf l c.in-Ok.program) copy c.in-Ok.ensures.compiled) (subst AreAccepted copy c.in-Ok.ensures.accepted)
-    (map string_bytes c.args.names.now) c.args.dot (g.W.Write.contents c.args.writer.now) (g.W.Write.contents c.draw.new.writer) c.draw.result c.draw.ensures.cut
+    (map string_bytes c.args.names.now) c.args.dot (g.W.Write.contents c.args.writer.now) (g.W.Write.contents c.draw.new.writer)
+    c.draw.result c.draw.ensures.cut
 
 pub returns-in-Ok-clause-refused : goal.returns-in-Ok-clause-refused
 returns-in-Ok-clause-refused g c = drawn_not_refused _ c.draw.result c.draw.ensures.other

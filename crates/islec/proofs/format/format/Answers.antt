@@ -4,11 +4,11 @@ use Rattle.std.specs.Io.KnownBytes.{Appends}
 use Rattle.isle_layout.specs.Formats.{Formats}
 use Rattle.std.proofs.lemmas.Result.{err_from_is_err_and}
 use Rattle.isle_syntax.specs.Errors.{Report, report_text}
-use Rattle.isle_syntax.specs.declared.error.Error.{Error}
-use Rattle.isle_syntax.specs.Positions.Files.{SourceFile, source_file}
-use Rattle.isle_syntax.specs.Grammar.Texts.{IsFaultIn}
-use Rattle.isle_run.specs.Compiled.{IsFirstFault}
-use Rattle.isle_run.proofs.Compiling.FirstFaults.{is_first_fault}
+use Rattle.isle_ast.specs.declared.error.Error.{Error}
+use Rattle.isle_ast.specs.Positions.Files.{SourceFile, source_file}
+use Rattle.isle_syntax.specs.Grammar.Verdict.{IsFaultIn}
+use Rattle.isle_program.specs.Compiled.{IsFirstFault}
+use Rattle.isle_program.proofs.Compiling.FirstFaults.{is_first_fault}
 use Rattle.islec.specs.declared.serve.ServeFault.TheVariants.{Memory}
 use Rattle.islec.specs.Formatting.{CutsPrints, RefusesPrints, WritesFault, status_behind, told_of}
 use Rattle.islec.specs.Writing.{AppendsBeginning}
@@ -29,7 +29,8 @@ loop-file-preserved g c =
     let one : IfSome (slice_get c.in_ok-files.files.value c.loop-file.file)
     (λ file. Formats c.loop-file.file c.args.width file.text (string_bytes c.in-Ok.print)) = search rules in
     let told : IfSome (slice_get c.in_ok-files.files.value c.loop-file.file)
-    (λ file. string_bytes c.push_told.new.told ≡ string_bytes c.loop-file.told ++ told_of c.args.unformatted file (string_bytes c.in-Ok.print)) = search rules in
+    (λ file. string_bytes c.push_told.new.told ≡ string_bytes c.loop-file.told ++ told_of c.args.unformatted file (string_bytes c.in-Ok.print)) =
+    search rules in
     record {
       printed = Prints-pushed c.args.unformatted c.args.width c.loop-file.file c.in_ok-files.files.value (string_bytes c.loop-file.told)
           (string_bytes c.in-Ok.print) (string_bytes c.push_told.new.told) within c.loop-file.invariant.printed one told;
@@ -41,7 +42,8 @@ returns-clause-printed g c = λ well.
     let most : length c.in_ok-files.files.value ≤ c.loop-file.file = grind arith in
     let written : Appends (g.W.Write.contents c.loop-file.writer) (g.W.Write.contents c.write_text.new.writer)
     (string_bytes c.loop-file.told) = search rules in
-    let wrote = subst (λ old. Appends old (g.W.Write.contents c.write_text.new.writer) (string_bytes c.loop-file.told)) c.loop-file.invariant.unwritten written in
+    let wrote = subst (λ old. Appends old (g.W.Write.contents c.write_text.new.writer) (string_bytes c.loop-file.told))
+    c.loop-file.invariant.unwritten written in
     let printed = Prints-all c.args.unformatted c.args.width c.loop-file.file c.in_ok-files.files.value _ (string_bytes c.loop-file.told)
     most (grind arith) c.loop-file.invariant.printed in
     prints_well c.args.unformatted c.args.width _ (string_bytes c.loop-file.told) _ _ printed wrote
@@ -52,7 +54,8 @@ returns-clause-refused g c = λ named.
     let most : length c.in_ok-files.files.value ≤ c.loop-file.file = grind arith in
     let written : Appends (g.W.Write.contents c.loop-file.writer) (g.W.Write.contents c.write_text.new.writer)
     (string_bytes c.loop-file.told) = search rules in
-    let wrote = subst (λ old. Appends old (g.W.Write.contents c.write_text.new.writer) (string_bytes c.loop-file.told)) c.loop-file.invariant.unwritten written in
+    let wrote = subst (λ old. Appends old (g.W.Write.contents c.write_text.new.writer) (string_bytes c.loop-file.told))
+    c.loop-file.invariant.unwritten written in
     let printed = Prints-all c.args.unformatted c.args.width c.loop-file.file c.in_ok-files.files.value _ (string_bytes c.loop-file.told)
     most (grind arith) c.loop-file.invariant.printed in
     prints_named c.args.unformatted c.args.width _ (string_bytes c.loop-file.told) _ _ printed wrote
@@ -66,7 +69,8 @@ returns-in-Err-Fault-clause-refused g c = λ _.
     let here : IfSome (slice_get c.in_ok-files.files.value c.loop-file.file)
     (λ file. IsFaultIn c.loop-file.file file.text c.in-Err-Fault.error) = search rules in
     let same : c.in_ok-files.files.value ≡ map source_file c.args.texts.items = grind arith in
-    let before = Prints-spelt c.args.unformatted c.args.width 0 (take c.loop-file.file files) (string_bytes c.loop-file.told) c.loop-file.invariant.printed in
+    let before = Prints-spelt c.args.unformatted c.args.width 0 (take c.loop-file.file files)
+    (string_bytes c.loop-file.told) c.loop-file.invariant.printed in
     let first = is_first_fault files c.loop-file.file before error within here in
     let wrote : Appends (g.W.Write.contents c.args.writer.now) (g.W.Write.contents c.write_faults-in-Err-Fault.new.writer)
     (report_text (record { errors = c.in-Err-Fault.error ∷ []; files = map source_file c.args.texts.items })) = search rules in
@@ -78,7 +82,8 @@ returns-in_err-write_text-clause-cut g c =
     let wrote = subst (AppendsBeginning (g.W.Write.contents c.loop-file.writer) (g.W.Write.contents c.write_text.new.writer)) c.as_str-2.ensures.value
     c.in_err-write_text.ensures.err in
     at_fault c.from_residual-in_err-write_text.result (λ fault. fault ≢ Memory)
-    (CutsPrints c.args.unformatted c.args.width (map source_file c.args.texts.items) (g.W.Write.contents c.args.writer.now) (g.W.Write.contents c.write_text.new.writer))
+    (CutsPrints c.args.unformatted c.args.width (map source_file c.args.texts.items) (g.W.Write.contents c.args.writer.now)
+    (g.W.Write.contents c.write_text.new.writer))
     (inl (
       string_bytes c.loop-file.told,
       Prints-all c.args.unformatted c.args.width c.loop-file.file c.in_ok-files.files.value _ (string_bytes c.loop-file.told)
@@ -88,7 +93,8 @@ returns-in_err-write_text-clause-cut g c =
     ))
 
 -- a beginning of the report of the first fault
-cut_report : (unformatted : Bool) (width : ℕ) (files all : List SourceFile) (error : Error) (report : Report) (old held new : Option (List ℕ)) → IsFirstFault files error
+cut_report : (unformatted : Bool) (width : ℕ) (files all : List SourceFile) (error : Error) (report : Report) (old held new : Option (List ℕ))
+    → IsFirstFault files error
     → files ≡ all → report ≡ record { errors = error ∷ []; files = files } → held ≡ old → AppendsBeginning held new (report_text report)
     → CutsPrints unformatted width all old new
 cut_report unformatted width files all error report old held new first same is kept wrote =
@@ -108,7 +114,8 @@ returns-in_err-write_faults-in-Err-Fault-clause-cut g c =
     let here : IfSome (slice_get c.in_ok-files.files.value c.loop-file.file)
     (λ file. IsFaultIn c.loop-file.file file.text c.in-Err-Fault.error) = search rules in
     let same : c.in_ok-files.files.value ≡ map source_file c.args.texts.items = grind arith in
-    let before = Prints-spelt c.args.unformatted c.args.width 0 (take c.loop-file.file files) (string_bytes c.loop-file.told) c.loop-file.invariant.printed in
+    let before = Prints-spelt c.args.unformatted c.args.width 0 (take c.loop-file.file files)
+    (string_bytes c.loop-file.told) c.loop-file.invariant.printed in
     let first = is_first_fault files c.loop-file.file before error within here in
     let pushed = rw c.new-errors.ensures.items at c.in_ok-push-in-Err-Fault.ensures.items in
     let alone : c.push.new.self.items ≡ c.in-Err-Fault.error ∷ [] = pushed ∙ ap (λ (e : Error). e ∷ []) c.in-Err-Fault.error-is in
@@ -116,6 +123,7 @@ returns-in_err-write_faults-in-Err-Fault-clause-cut g c =
     c.new-in-Err-Fault.ensures ∙ ap (λ (l : List Error). let r : Report = record { errors = l; files = files } in r) alone in
     let p = err_from_is_err_and c.from_residual-in_err-write_faults-in-Err-Fault.result c.from_residual-in_err-write_faults-in-Err-Fault.ensures.1 in
     rw (p.1, p.2)
-    (λ other. cut_report c.args.unformatted c.args.width files (map source_file c.args.texts.items) error c.new-in-Err-Fault.result (g.W.Write.contents c.args.writer.now)
+    (λ other. cut_report c.args.unformatted c.args.width files (map source_file c.args.texts.items) error c.new-in-Err-Fault.result
+    (g.W.Write.contents c.args.writer.now)
     (g.W.Write.contents c.loop-file.writer) (g.W.Write.contents c.write_faults-in-Err-Fault.new.writer) first same is
     c.loop-file.invariant.unwritten (c.in_err-write_faults-in-Err-Fault.ensures.cut other))

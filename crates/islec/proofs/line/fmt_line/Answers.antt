@@ -35,7 +35,8 @@ returns-clause-says c =
       job = (
         refl,
         width ∙ c.in-Some.is,
-        flag_reads _ c.get_flag-unformatted.result (fmt_unformatted (rows_of found) c.requires) (λ e. c.get_flag-unformatted.ensures.value (unformatted ∙ e))
+        flag_reads _ c.get_flag-unformatted.result (fmt_unformatted (rows_of found) c.requires)
+            (λ e. c.get_flag-unformatted.ensures.value (unformatted ∙ e))
             (λ e. c.get_flag-unformatted.ensures.other (unformatted ∙ e)),
       );
       files = read.0;

@@ -1,6 +1,6 @@
 use Rattle.std.proofs.Common.{◌≡◌, ◌∙◌, inl, map, sym, arith}
 use Rattle.std.proofs.lemmas.Result.{IfOk-weaker}
-use Rattle.isle_syntax.specs.Positions.Files.{source_file}
+use Rattle.isle_ast.specs.Positions.Files.{source_file}
 use Rattle.islec.specs.declared.status.Status.TheVariants.{AllWell, TextsRefused}
 use Rattle.islec.proofs.RunLemmas.{faults_by, refusal_uncheckable, accepts_by, tells_cut}
 use Rattle.islec.proofs.perform.check.Goals as goal
@@ -33,11 +33,13 @@ returns-in-Err-Faults-clause-cut g c =
 pub returns-in-Ok-clause-accepted : goal.returns-in-Ok-clause-accepted
 returns-in-Ok-clause-accepted g c =
     let same : c.in_ok-clone.field-0.value ≡ map source_file c.args.texts.items = grind arith in
-    accepts_by c.in_ok-clone.field-0.value (map source_file c.args.texts.items) same c.in-Ok.program c.in-Ok.ensures.compiled c.in-Ok.ensures.accepted c.args.telling
+    accepts_by c.in_ok-clone.field-0.value (map source_file c.args.texts.items) same c.in-Ok.program c.in-Ok.ensures.compiled
+    c.in-Ok.ensures.accepted c.args.telling
     (g.W.Write.contents c.args.writer.now) (g.W.Write.contents c.tell.new.writer) c.tell.result c.tell.ensures.written
 
 pub returns-in-Ok-clause-cut : goal.returns-in-Ok-clause-cut
 returns-in-Ok-clause-cut g c =
     let same : c.in_ok-clone.field-0.value ≡ map source_file c.args.texts.items = grind arith in
-    tells_cut c.in_ok-clone.field-0.value (map source_file c.args.texts.items) same c.in-Ok.program c.in-Ok.ensures.compiled c.in-Ok.ensures.accepted c.args.telling
+    tells_cut c.in_ok-clone.field-0.value (map source_file c.args.texts.items) same c.in-Ok.program c.in-Ok.ensures.compiled
+    c.in-Ok.ensures.accepted c.args.telling
     (g.W.Write.contents c.args.writer.now) (g.W.Write.contents c.tell.new.writer) c.tell.result c.tell.ensures.cut

@@ -1,7 +1,7 @@
 use Rattle.std.proofs.Common.{ℕ, List, String, ap, map, refl, sym, subst}
 use Rattle.std.specs.Global.{Global}
 use Rattle.std.specs.Prelude.{string_bytes}
-use Rattle.isle_syntax.specs.Positions.Files.{source_file}
+use Rattle.isle_ast.specs.Positions.Files.{source_file}
 use Rattle.islec.specs.Endings.{EndsBlocks, EndsJob}
 use Rattle.islec.specs.Worlds.{world_file}
 use Rattle.islec.specs.declared.line.Job.{Job}
@@ -27,14 +27,16 @@ returns g c =
               rw (w.status-is, w.writer-is, w.reader-is)
               (subst (λ (j : Job). EndsJob j files world input left old new w.conclude-status.result) (sym w.in-Run.is)
               (run_ends w.in-Run.manner files world input left old (g.W.Write.contents w.run-done.new.writer)
-              w.run-done.result w.conclude-status.result new w.conclude-status.ensures did.answered did.all_well did.some_refused did.refused did.other did.cut
+              w.run-done.result w.conclude-status.result new w.conclude-status.ensures did.answered did.all_well
+              did.some_refused did.refused did.other did.cut
               did.memory))
           | in-Check w ↦
               let new = g.W.Write.contents w.conclude-status-in-Check.new.writer in
               let did = w.check-done.ensures in
               rw (w.status-is, w.writer-is, w.reader-is)
               (subst (λ (j : Job). EndsJob j files world input input old new w.conclude-status-in-Check.result) (sym w.in-Check.is) (
-                check_ends w.in-Check.telling files old (g.W.Write.contents w.check-done.new.writer) w.check-done.result w.conclude-status-in-Check.result new
+                check_ends w.in-Check.telling files old (g.W.Write.contents w.check-done.new.writer) w.check-done.result
+                    w.conclude-status-in-Check.result new
                     w.conclude-status-in-Check.ensures did.accepted did.refused did.other did.cut did.memory,
                 refl,
               ))
@@ -45,8 +47,10 @@ returns g c =
               (subst (λ (j : Job). EndsJob j files world input input old new w.conclude-status-in-Blocks.result) (sym w.in-Blocks.is) (
                 subst (λ (names : List (List ℕ)). EndsBlocks names w.in-Blocks.dot files old new w.conclude-status-in-Blocks.result)
                     (ap (λ (l : List (String Global)). map string_bytes l) w.as_slice.ensures.value)
-                    (blocks_ends (map string_bytes w.as_slice.result.now) w.in-Blocks.dot files old (g.W.Write.contents w.blocks-done.new.writer) w.blocks-done.result
-                    w.conclude-status-in-Blocks.result new w.conclude-status-in-Blocks.ensures did.drawn did.unknown did.refused did.other did.cut did.memory),
+                    (blocks_ends (map string_bytes w.as_slice.result.now) w.in-Blocks.dot files old
+                    (g.W.Write.contents w.blocks-done.new.writer) w.blocks-done.result
+                    w.conclude-status-in-Blocks.result new w.conclude-status-in-Blocks.ensures did.drawn did.unknown
+                    did.refused did.other did.cut did.memory),
                 refl,
               ))
           | in-Fmt w ↦

@@ -1,5 +1,5 @@
 use Rattle.std.proofs.Common.{refl, ◌≡◌, map, arith, true, false}
-use Rattle.isle_syntax.specs.Positions.Files.{source_file}
+use Rattle.isle_ast.specs.Positions.Files.{source_file}
 use Rattle.islec.specs.Worlds.{world_file}
 use Rattle.islec.specs.declared.status.Status.TheVariants.{AllWell, SomeRefused}
 use Rattle.islec.proofs.RunLemmas.{answers_by, tells_by, cuts_by, stops_by, refuses_by, refusal_cut, nothing_by}
@@ -8,31 +8,36 @@ use Rattle.islec.proofs.perform.run.Goals as goal
 pub returns-in-Ok-clause-all_well : goal.returns-in-Ok-clause-all_well
 returns-in-Ok-clause-all_well g c =
     let same : c.in_ok-clone.field-0.value ≡ map source_file c.args.texts.items = grind arith in
-    answers_by _ _ same c.in-Ok.program c.in-Ok.ensures.compiled (world_file c.args.world) c.args.manner (g.R.Read.remaining c.args.reader.now) (g.R.Read.remaining c.run_program.new.reader) (g.W.Write.contents c.args.writer.now)
+    answers_by _ _ same c.in-Ok.program c.in-Ok.ensures.compiled (world_file c.args.world) c.args.manner (g.R.Read.remaining c.args.reader.now)
+    (g.R.Read.remaining c.run_program.new.reader) (g.W.Write.contents c.args.writer.now)
     (g.W.Write.contents c.run_program.new.writer) false AllWell c.run_program.result c.run_program.ensures.all_well
 
 pub returns-in-Ok-clause-some_refused : goal.returns-in-Ok-clause-some_refused
 returns-in-Ok-clause-some_refused g c =
     let same : c.in_ok-clone.field-0.value ≡ map source_file c.args.texts.items = grind arith in
-    answers_by _ _ same c.in-Ok.program c.in-Ok.ensures.compiled (world_file c.args.world) c.args.manner (g.R.Read.remaining c.args.reader.now) (g.R.Read.remaining c.run_program.new.reader) (g.W.Write.contents c.args.writer.now)
+    answers_by _ _ same c.in-Ok.program c.in-Ok.ensures.compiled (world_file c.args.world) c.args.manner (g.R.Read.remaining c.args.reader.now)
+    (g.R.Read.remaining c.run_program.new.reader) (g.W.Write.contents c.args.writer.now)
     (g.W.Write.contents c.run_program.new.writer) true SomeRefused c.run_program.result c.run_program.ensures.some_refused
 
 pub returns-in-Ok-clause-refused : goal.returns-in-Ok-clause-refused
 returns-in-Ok-clause-refused g c =
     let same : c.in_ok-clone.field-0.value ≡ map source_file c.args.texts.items = grind arith in
-    tells_by _ _ same c.in-Ok.program c.in-Ok.ensures.compiled (world_file c.args.world) c.args.manner (g.R.Read.remaining c.args.reader.now) (g.R.Read.remaining c.run_program.new.reader) (g.W.Write.contents c.args.writer.now)
+    tells_by _ _ same c.in-Ok.program c.in-Ok.ensures.compiled (world_file c.args.world) c.args.manner (g.R.Read.remaining c.args.reader.now)
+    (g.R.Read.remaining c.run_program.new.reader) (g.W.Write.contents c.args.writer.now)
     (g.W.Write.contents c.run_program.new.writer) c.run_program.result c.run_program.ensures.refused
 
 pub returns-in-Ok-clause-cut : goal.returns-in-Ok-clause-cut
 returns-in-Ok-clause-cut g c =
     let same : c.in_ok-clone.field-0.value ≡ map source_file c.args.texts.items = grind arith in
-    cuts_by _ _ same c.in-Ok.program c.in-Ok.ensures.compiled (world_file c.args.world) c.args.manner (g.R.Read.remaining c.args.reader.now) (g.R.Read.remaining c.run_program.new.reader) (g.W.Write.contents c.args.writer.now)
+    cuts_by _ _ same c.in-Ok.program c.in-Ok.ensures.compiled (world_file c.args.world) c.args.manner (g.R.Read.remaining c.args.reader.now)
+    (g.R.Read.remaining c.run_program.new.reader) (g.W.Write.contents c.args.writer.now)
     (g.W.Write.contents c.run_program.new.writer) c.run_program.result c.run_program.ensures.cut
 
 pub returns-in-Ok-clause-memory : goal.returns-in-Ok-clause-memory
 returns-in-Ok-clause-memory g c =
     let same : c.in_ok-clone.field-0.value ≡ map source_file c.args.texts.items = grind arith in
-    stops_by _ _ same c.in-Ok.program c.in-Ok.ensures.compiled (world_file c.args.world) c.args.manner (g.R.Read.remaining c.args.reader.now) (g.R.Read.remaining c.run_program.new.reader) (g.W.Write.contents c.args.writer.now)
+    stops_by _ _ same c.in-Ok.program c.in-Ok.ensures.compiled (world_file c.args.world) c.args.manner (g.R.Read.remaining c.args.reader.now)
+    (g.R.Read.remaining c.run_program.new.reader) (g.W.Write.contents c.args.writer.now)
     (g.W.Write.contents c.run_program.new.writer) c.run_program.result c.run_program.ensures.memory
 
 pub returns-in-Err-Faults-clause-refused : goal.returns-in-Err-Faults-clause-refused
@@ -49,7 +54,8 @@ returns-in-Err-Faults-clause-cut g c =
     let told = c.in-Err-Faults.ensures in
     refusal_cut c.in_ok-clone.field-0.value (map source_file c.args.texts.items) c.in-Err-Faults.field-0 c.in-Err-Faults.errors
     (g.W.Write.contents c.args.writer.now) (g.W.Write.contents c.refuse.new.writer) c.in-Err-Faults.field-0-is same
-    told.refused told.faults told.of_files (world_file c.args.world) c.args.manner (g.R.Read.remaining c.args.reader.now) c.refuse.result c.refuse.ensures.cut
+    told.refused told.faults told.of_files (world_file c.args.world) c.args.manner (g.R.Read.remaining c.args.reader.now)
+    c.refuse.result c.refuse.ensures.cut
 
 pub returns-in-Err-Faults-clause-memory : goal.returns-in-Err-Faults-clause-memory
 returns-in-Err-Faults-clause-memory g c =

@@ -1,7 +1,7 @@
 use Rattle.std.proofs.Common.{refl, ◌≡◌, ℕ, List, true, false, sym, ◌∙◌, subst}
 use Rattle.std.specs.Prelude.{string_bytes}
-use Rattle.isle_syntax.specs.Positions.Files.{SourceFile, source_file}
-use Rattle.isle_run.specs.Worlds.Texts.{RefusesWorld, SpellsWorld}
+use Rattle.isle_ast.specs.Positions.Files.{SourceFile, source_file}
+use Rattle.isle_values.specs.Worlds.Texts.{RefusesWorld, SpellsWorld}
 use Rattle.islec.specs.Running.{IsTableOf}
 use Rattle.islec.specs.Worlds.{world_file}
 use Rattle.islec.specs.declared.status.Status.TheVariants.{AllWell, TextsRefused, SomeRefused}
@@ -22,11 +22,15 @@ returns g c =
     let told : c.as_str-in-Err-2.result.now ≡ string_bytes c.in_ok-name.text = c.as_str-in-Err-2.ensures.value in
     let parts : source_file (c.in_ok-name.name, c.in_ok-name.text) ≡ file = λ i. record { name = sym named i; text = sym told i } in
     let same : file ≡ world = sym parts ∙ c.in_ok-name.ensures in
-    let refuses : RefusesWorld program file.text fault = subst (λ (t : List ℕ). RefusesWorld program t fault) (c.as_str.ensures.value ∙ sym told) c.in-Err.ensures.refused in
-    let input = g.R.Read.remaining c.args.reader.now in let old = g.W.Write.contents c.args.writer.now in let new = g.W.Write.contents c.refuse_world.new.writer in
+    let refuses : RefusesWorld program file.text fault = subst (λ (t : List ℕ). RefusesWorld program t fault)
+    (c.as_str.ensures.value ∙ sym told) c.in-Err.ensures.refused in
+    let input = g.R.Read.remaining c.args.reader.now in let old = g.W.Write.contents c.args.writer.now in
+    let new = g.W.Write.contents c.refuse_world.new.writer in
     let r = c.refuse_world.result in record {
-      all_well = never_answers program world file c.args.manner same fault refuses input input old new false AllWell r c.refuse_world.ensures.status all_well_is_other;
-      some_refused = never_answers program world file c.args.manner same fault refuses input input old new true SomeRefused r c.refuse_world.ensures.status some_refused_is_other;
+      all_well = never_answers program world file c.args.manner same fault refuses input input old new false
+          AllWell r c.refuse_world.ensures.status all_well_is_other;
+      some_refused = never_answers program world file c.args.manner same fault refuses input input old new
+          true SomeRefused r c.refuse_world.ensures.status some_refused_is_other;
       refused = tells program world file c.args.manner same fault refuses input input old new r c.refuse_world.ensures.written;
       other = ends program world file c.args.manner same fault refuses input input old new r c.refuse_world.ensures.status;
       cut = cuts program world file c.args.manner same fault refuses input input old new r c.refuse_world.ensures.cut;
@@ -42,8 +46,10 @@ returns-in-Ok-clause-all_well g c =
           (subst (λ (t : List ℕ). SpellsWorld c.args.program.now t entries) c.as_str.ensures.value spelt),
       has,
     ) in
-    answers_in_world c.args.program.now (world_file c.args.world) c.args.manner c.in-Ok.table c.answer_all.new.world spells (g.R.Read.remaining c.args.reader.now) (g.R.Read.remaining c.answer_all.new.reader)
-    (g.W.Write.contents c.args.writer.now) (g.W.Write.contents c.answer_all.new.writer) false AllWell c.answer_all.result (rw c.new-world.ensures at c.answer_all.ensures.all_well)
+    answers_in_world c.args.program.now (world_file c.args.world) c.args.manner c.in-Ok.table c.answer_all.new.world spells
+    (g.R.Read.remaining c.args.reader.now) (g.R.Read.remaining c.answer_all.new.reader)
+    (g.W.Write.contents c.args.writer.now) (g.W.Write.contents c.answer_all.new.writer) false AllWell c.answer_all.result
+    (rw c.new-world.ensures at c.answer_all.ensures.all_well)
 
 pub returns-in-Ok-clause-some_refused : goal.returns-in-Ok-clause-some_refused
 returns-in-Ok-clause-some_refused g c =
@@ -54,8 +60,10 @@ returns-in-Ok-clause-some_refused g c =
           (subst (λ (t : List ℕ). SpellsWorld c.args.program.now t entries) c.as_str.ensures.value spelt),
       has,
     ) in
-    answers_in_world c.args.program.now (world_file c.args.world) c.args.manner c.in-Ok.table c.answer_all.new.world spells (g.R.Read.remaining c.args.reader.now) (g.R.Read.remaining c.answer_all.new.reader)
-    (g.W.Write.contents c.args.writer.now) (g.W.Write.contents c.answer_all.new.writer) true SomeRefused c.answer_all.result (rw c.new-world.ensures at c.answer_all.ensures.some_refused)
+    answers_in_world c.args.program.now (world_file c.args.world) c.args.manner c.in-Ok.table c.answer_all.new.world spells
+    (g.R.Read.remaining c.args.reader.now) (g.R.Read.remaining c.answer_all.new.reader)
+    (g.W.Write.contents c.args.writer.now) (g.W.Write.contents c.answer_all.new.writer) true SomeRefused c.answer_all.result
+    (rw c.new-world.ensures at c.answer_all.ensures.some_refused)
 
 pub returns-in-Ok-clause-cut : goal.returns-in-Ok-clause-cut
 returns-in-Ok-clause-cut g c =
@@ -66,8 +74,10 @@ returns-in-Ok-clause-cut g c =
           (subst (λ (t : List ℕ). SpellsWorld c.args.program.now t entries) c.as_str.ensures.value spelt),
       has,
     ) in
-    cuts_in_world c.args.program.now (world_file c.args.world) c.args.manner c.in-Ok.table c.answer_all.new.world spells (g.R.Read.remaining c.args.reader.now) (g.R.Read.remaining c.answer_all.new.reader)
-    (g.W.Write.contents c.args.writer.now) (g.W.Write.contents c.answer_all.new.writer) c.answer_all.result (rw c.new-world.ensures at c.answer_all.ensures.cut)
+    cuts_in_world c.args.program.now (world_file c.args.world) c.args.manner c.in-Ok.table c.answer_all.new.world spells
+    (g.R.Read.remaining c.args.reader.now) (g.R.Read.remaining c.answer_all.new.reader)
+    (g.W.Write.contents c.args.writer.now) (g.W.Write.contents c.answer_all.new.writer) c.answer_all.result
+    (rw c.new-world.ensures at c.answer_all.ensures.cut)
 
 pub returns-in-Ok-clause-memory : goal.returns-in-Ok-clause-memory
 returns-in-Ok-clause-memory g c =
@@ -78,5 +88,7 @@ returns-in-Ok-clause-memory g c =
           (subst (λ (t : List ℕ). SpellsWorld c.args.program.now t entries) c.as_str.ensures.value spelt),
       has,
     ) in
-    stops_in_world c.args.program.now (world_file c.args.world) c.args.manner c.in-Ok.table c.answer_all.new.world spells (g.R.Read.remaining c.args.reader.now) (g.R.Read.remaining c.answer_all.new.reader)
-    (g.W.Write.contents c.args.writer.now) (g.W.Write.contents c.answer_all.new.writer) c.answer_all.result (rw c.new-world.ensures at c.answer_all.ensures.memory)
+    stops_in_world c.args.program.now (world_file c.args.world) c.args.manner c.in-Ok.table c.answer_all.new.world spells
+    (g.R.Read.remaining c.args.reader.now) (g.R.Read.remaining c.answer_all.new.reader)
+    (g.W.Write.contents c.args.writer.now) (g.W.Write.contents c.answer_all.new.writer) c.answer_all.result
+    (rw c.new-world.ensures at c.answer_all.ensures.memory)

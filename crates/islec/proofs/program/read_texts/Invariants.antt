@@ -1,6 +1,6 @@
 -- The names of the files so far, and what they took of the input.
 use Rattle.std.proofs.Common.{◌≡◌, map}
-use Rattle.isle_syntax.specs.Positions.Files.{source_file}
+use Rattle.isle_ast.specs.Positions.Files.{source_file}
 use Rattle.islec.specs.Inputs.{ReadsFiles}
 use Rattle.islec.proofs.program.read_texts.Given as goal
 

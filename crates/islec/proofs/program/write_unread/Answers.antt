@@ -8,7 +8,8 @@ use Rattle.islec.proofs.program.write_unread.Goals as goal
 pub returns-in_err-write_line-clause-err : goal.returns-in_err-write_line-clause-err
 returns-in_err-write_line-clause-err g c =
     on_any c.from_residual.result
-    (begins_longer _ _ (line_of_two (codes "cannot read ") c.args.name.now) (line_of_two (codes "  ") c.args.cause.now) c.in_err-write_line.ensures.err)
+    (begins_longer _ _ (line_of_two (codes "cannot read ") c.args.name.now) (line_of_two (codes "  ") c.args.cause.now)
+    c.in_err-write_line.ensures.err)
 
 pub returns-clause-ok : goal.returns-clause-ok
 returns-clause-ok g c =

@@ -8,7 +8,8 @@ pub returns-in-Err-clause-line : goal.returns-in-Err-clause-line
 returns-in-Err-clause-line g c =
     let items = c.read_until.new.buf.items in
     let none : c.new-line.result.items ≡ [] = c.new-line.ensures.items in
-    let took = subst (λ (l : List ℕ). Consumes (g.B.Read.remaining c.args.input.now) (g.B.Read.remaining c.read_until.new.self) (appended_bytes l items))
+    let took = subst (λ (l : List ℕ). Consumes (g.B.Read.remaining c.args.input.now) (g.B.Read.remaining c.read_until.new.self)
+    (appended_bytes l items))
     none c.in-Err.ensures.none_lost in
     let stops = subst (λ (l : List ℕ). StopsAt (appended_bytes l items) 10) none c.in-Err.ensures.stops in
     let (front, ended) = c.has_ended.ensures.0 c.if-has_ended.true in

@@ -1,6 +1,6 @@
 use Rattle.std.proofs.Common.{ℕ}
-use Rattle.isle_terms.specs.Visits.Runs.{in_turn}
-use Rattle.isle_terms.proofs.Visiting.VisitRuns.{went}
+use Rattle.isle_rules.specs.Visits.Runs.{in_turn}
+use Rattle.isle_rules.proofs.Visiting.VisitRuns.{went}
 use Rattle.isle_blocks.specs.declared.ids.BindingId.{BindingId}
 use Rattle.isle_blocks.specs.declared.binding.Binding.TheVariants.{Constructor}
 use Rattle.isle_blocks.specs.Inside.Building.Gathering.{interns, constructed, numbers, keeps}

@@ -1,5 +1,5 @@
-use Rattle.isle_terms.specs.Visits.Runs.{in_turn, listed}
-use Rattle.isle_terms.proofs.Visiting.VisitRuns.{went}
+use Rattle.isle_rules.specs.Visits.Runs.{in_turn, listed}
+use Rattle.isle_rules.proofs.Visiting.VisitRuns.{went}
 use Rattle.isle_blocks.specs.declared.ids.BindingId.{BindingId}
 use Rattle.isle_blocks.specs.declared.binding.Binding.TheVariants.{Extractor}
 use Rattle.isle_blocks.specs.Inside.Building.Gathering.{interns, extracted, outputs}

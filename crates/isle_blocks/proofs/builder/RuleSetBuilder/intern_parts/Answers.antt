@@ -1,7 +1,7 @@
 use Rattle.std.proofs.Common.{◌+◌, ◌-◌, ◌∷◌, [], ◌++◌, Ok, Err, inl, inr, refl}
 use Rattle.std.proofs.lemmas.Result.{err_from_is_err_and}
-use Rattle.isle_terms.proofs.Visiting.VisitRuns.{went}
-use Rattle.isle_terms.proofs.Visiting.VisitRuleRuns.{left}
+use Rattle.isle_rules.proofs.Visiting.VisitRuns.{went}
+use Rattle.isle_rules.proofs.Visiting.VisitRuleRuns.{left}
 use Rattle.isle_blocks.specs.Inside.Building.Gathering.{interns, interns_each, sites_from}
 use Rattle.isle_blocks.specs.Inside.Building.Parts.{part_site}
 use Rattle.isle_blocks.proofs.Building.Waiting.{none_left, each_waits}
@@ -39,4 +39,5 @@ loop-field-preserved c = λ o s rest.
 
 pub returns : goal.returns
 returns c =
-    c.loop-field.invariant (Ok c.loop-field.ids.items) c.loop-field.self (rw (none_left c.args.count.0 c.loop-field.field c.loop-field-test.false) (refl, refl))
+    c.loop-field.invariant (Ok c.loop-field.ids.items) c.loop-field.self
+    (rw (none_left c.args.count.0 c.loop-field.field c.loop-field-test.false) (refl, refl))

@@ -1,5 +1,5 @@
 use Rattle.std.proofs.Common.{Result, List, [], ◌-◌}
-use Rattle.isle_terms.specs.declared.visit.fault.VisitFault.{VisitFault}
+use Rattle.isle_rules.specs.declared.visit.fault.VisitFault.{VisitFault}
 use Rattle.isle_blocks.specs.declared.ids.BindingId.{BindingId}
 use Rattle.isle_blocks.specs.Inside.Building.Gathering.{Gathered, interns_each, sites_from}
 use Rattle.isle_blocks.specs.Inside.Building.Parts.{part_site}

@@ -38,7 +38,8 @@ returns-then-not-same c =
       one = p.1;
       other = c.in-Some.d;
       has_one = here;
-      has_other = let (id, same, inside) = c.loop-a.invariant.demanded p.0.0 c.in-Some.d e in subst (λ (z : BindingId). Contains c.args.has.now (z, c.in-Some.d)) (λ i. record { 0 = same i }) inside;
+      has_other = let (id, same, inside) = c.loop-a.invariant.demanded p.0.0 c.in-Some.d e in
+          subst (λ (z : BindingId). Contains c.args.has.now (z, c.in-Some.d)) (λ i. record { 0 = same i }) inside;
       differ = λ s. let t = c.same.ensures.1 s in false≢true (sym c.if-not-same.true ∙ t);
     }
 
@@ -48,22 +49,27 @@ loop-a-preserved c =
     let here : Contains c.args.has.now p = Contains-get_or c.args.has.now c.loop-a.a-index first c.loop-a-test.true in
     let h : p.0.0 < c.args.count = c.requires p.0 p.1 here in
     let l : p.0.0 < length c.loop-a.own.items = let o = c.loop-a.own.ok.0 in omega arith in
-    let before : IsRead c.args.has.now c.loop-a.own.items c.loop-a.a-index = record { demanded = c.loop-a.invariant.demanded; all = c.loop-a.invariant.all } in
+    let before : IsRead c.args.has.now c.loop-a.own.items c.loop-a.a-index =
+    record { demanded = c.loop-a.invariant.demanded; all = c.loop-a.invariant.all } in
     elim c.match-index.branch [
       | in-Some+else-not-same w ↦
-          let e : HasOwn c.loop-a.own.items p.0.0 (w.in-Some.d) = own_read c.loop-a.own.items p.0.0 c.index.result.now l c.index.ensures ∙ w.in-Some.is in
+          let e : HasOwn c.loop-a.own.items p.0.0 (w.in-Some.d) = own_read c.loop-a.own.items p.0.0 c.index.result.now l c.index.ensures
+          ∙ w.in-Some.is in
           let s : p.1 ≡ w.in-Some.d = w.if-not-same.ensures.0 refl in
           let f : HasOwn c.loop-a.own.items p.0.0 p.1 = e ∙ ap Some (sym s) in
           let r = read_again c.args.has.now c.loop-a.a-index first c.loop-a-test.true c.loop-a.own.items before f in
           let q : c.match-index.own.items ≡ c.loop-a.own.items = ap (λ (v : Vec (Option Constraint) Global). v.items) w.own-is in
           let r' = subst (λ (own : List (Option Constraint)). IsRead c.args.has.now own (c.loop-a.a-index + 1)) (sym q) r in
-          let fits : vec_len c.match-index.own ≡ c.args.count = ap (λ (v : Vec (Option Constraint) Global). vec_len v) w.own-is ∙ c.loop-a.invariant.fits in
+          let fits : vec_len c.match-index.own ≡ c.args.count = ap (λ (v : Vec (Option Constraint) Global). vec_len v) w.own-is
+          ∙ c.loop-a.invariant.fits in
           record { fits = fits; demanded = r'.demanded; all = r'.all }
       | in-None w ↦
-          let e : get_or c.loop-a.own.items p.0.0 None ≡ None = own_read c.loop-a.own.items p.0.0 c.index.result.now l c.index.ensures ∙ w.in-None.is in
+          let e : get_or c.loop-a.own.items p.0.0 None ≡ None = own_read c.loop-a.own.items p.0.0 c.index.result.now l c.index.ensures
+          ∙ w.in-None.is in
           let r = read_first c.args.has.now c.loop-a.a-index first c.loop-a-test.true c.loop-a.own.items before l e in
           let q : c.match-index.own.items ≡ set c.loop-a.own.items p.0.0 (Some p.1) = ap (λ (v : Vec (Option Constraint) Global). v.items) w.own-is in
           let r' = subst (λ (own : List (Option Constraint)). IsRead c.args.has.now own (c.loop-a.a-index + 1)) (sym q) r in
-          let fits : vec_len c.match-index.own ≡ c.args.count = ap (λ (v : Vec (Option Constraint) Global). vec_len v) w.own-is ∙ c.loop-a.invariant.fits in
+          let fits : vec_len c.match-index.own ≡ c.args.count = ap (λ (v : Vec (Option Constraint) Global). vec_len v) w.own-is
+          ∙ c.loop-a.invariant.fits in
           record { fits = fits; demanded = r'.demanded; all = r'.all }
     ]

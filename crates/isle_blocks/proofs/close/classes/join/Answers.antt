@@ -8,7 +8,8 @@ use Rattle.isle_blocks.proofs.close.classes.join.Goals as goal
 use Rattle.isle_blocks.proofs.close.classes.join.Goals.{in-Some+in_ok-push_like, in_default}
 
 -- the list that was got is that of the dropped representative
-listed : (class got : List ℕ) (lists : List (List ℕ)) (n drop : ℕ) → length class ≡ n → drop < n → ListMembers class lists → got ≡ get_or lists drop []
+listed : (class got : List ℕ) (lists : List (List ℕ)) (n drop : ℕ) → length class ≡ n → drop < n → ListMembers class lists
+    → got ≡ get_or lists drop []
     → AreMembers class drop got
 listed class got lists n drop fits low m e = subst (λ l. AreMembers class drop l) (sym e) (m.each drop (omega arith))
 
@@ -42,7 +43,8 @@ returns-in_err-join-clause-pushed c = elim c.match-own_test.branch [
 pub returns-clause-members : goal.returns-clause-members
 returns-clause-members c =
     let fits = c.requires.fits in let drop_in = c.requires.drop_in in let keep_in = c.requires.keep_in in
-    let joined = members_joined c.args.class.now c.relabel.new.class c.args.members.now c.args.drop c.args.keep (omega arith) (omega arith) c.requires.apart
+    let joined = members_joined c.args.class.now c.relabel.new.class c.args.members.now c.args.drop c.args.keep
+    (omega arith) (omega arith) c.requires.apart
     c.relabel.auto.class c.relabel.ensures c.requires.members in
     subst (λ l. ListMembers c.relabel.new.class l) (sym c.in_ok-join.ensures) joined
 

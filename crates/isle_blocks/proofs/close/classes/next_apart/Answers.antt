@@ -27,14 +27,17 @@ loop-a-preserved c = record {
   taken = λ a b h. elim (c.loop-a.invariant.taken a b h) [
     | inl k ↦ elim (split_of _ _ _ (a, b) c.in-Some.ensures.items k) [
       | inl m ↦ inl m
-      | inr e ↦ inr (ap (λ (p : ℕ × ℕ). get_or c.args.class.now (p.0) 0) (sym e) ∙ c.if-class-a.false ∙ ap (λ (p : ℕ × ℕ). get_or c.args.class.now (p.1) 0) e)
+      | inr e ↦ inr (ap (λ (p : ℕ × ℕ). get_or c.args.class.now (p.0) 0) (sym e) ∙ c.if-class-a.false ∙ ap
+          (λ (p : ℕ × ℕ). get_or c.args.class.now (p.1) 0) e)
     ]
     | inr e ↦ inr e
   ];
 }
 
 pub offset_bounds-class-a : goal.offset_bounds-class-a
-offset_bounds-class-a c = let h : c.in-Some.a < length c.args.class.now = (c.requires c.in-Some.a c.in-Some.b (c.loop-a.invariant.fewer c.in-Some.a c.in-Some.b (last_of _ _ _ c.in-Some.ensures.items))).0 in search rules
+offset_bounds-class-a c = let h : c.in-Some.a < length c.args.class.now =
+    (c.requires c.in-Some.a c.in-Some.b (c.loop-a.invariant.fewer c.in-Some.a c.in-Some.b (last_of _ _ _ c.in-Some.ensures.items))).0 in search rules
 
 pub offset_bounds-class-b : goal.offset_bounds-class-b
-offset_bounds-class-b c = let h : c.in-Some.b < length c.args.class.now = (c.requires c.in-Some.a c.in-Some.b (c.loop-a.invariant.fewer c.in-Some.a c.in-Some.b (last_of _ _ _ c.in-Some.ensures.items))).1 in search rules
+offset_bounds-class-b c = let h : c.in-Some.b < length c.args.class.now =
+    (c.requires c.in-Some.a c.in-Some.b (c.loop-a.invariant.fewer c.in-Some.a c.in-Some.b (last_of _ _ _ c.in-Some.ensures.items))).1 in search rules

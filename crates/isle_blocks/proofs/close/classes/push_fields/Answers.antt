@@ -12,14 +12,16 @@ pub loop-index-init : goal.loop-index-init
 loop-index-init c = record { pushed = λ a b h. inl h; kept = λ a b h. h; all = λ f g like h. absurd (omega arith) }
 
 pub returns-in_err-push-clause-pushed : goal.returns-in_err-push-clause-pushed
-returns-in_err-push-clause-pushed c = λ a b h. c.loop-index.invariant.pushed a b (subst (λ (l : List (ℕ × ℕ)). Contains l (a, b)) c.in_err-push.ensures.items h)
+returns-in_err-push-clause-pushed c = λ a b h. c.loop-index.invariant.pushed a b
+    (subst (λ (l : List (ℕ × ℕ)). Contains l (a, b)) c.in_err-push.ensures.items h)
 
 pub loop-index-preserved : goal.loop-index-preserved
 loop-index-preserved c = elim c.match-like_fields.branch [
   | in-Some+in_ok-push w ↦
       let q : c.match-like_fields.pending.items ≡ c.loop-index.pending.items ++ (w.in-Some.f, w.in-Some.g) ∷ [] =
       ap (λ (v : Vec (ℕ × ℕ) Global). v.items) w.pending-is ∙ w.in_ok-push.ensures.items in
-      let have : HaveLikeFields c.args.sites.now (kind_of c.args.opening.variant) c.args.member c.args.keep c.loop-index.index w.in-Some.f w.in-Some.g = w.in-Some.ensures in
+      let have : HaveLikeFields c.args.sites.now (kind_of c.args.opening.variant) c.args.member c.args.keep
+      c.loop-index.index w.in-Some.f w.in-Some.g = w.in-Some.ensures in
       let here : AreLikeFields c.args.sites.now c.args.member c.args.keep c.args.test w.in-Some.f w.in-Some.g = record {
         kind = kind_of c.args.opening.variant;
         index = c.loop-index.index;

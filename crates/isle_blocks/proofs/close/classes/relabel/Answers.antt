@@ -20,8 +20,10 @@ loop-member-preserved c =
     let before : IsRelabeled c.args.class.now c.loop-member.class c.args.members.now c.args.keep c.loop-member.member-index =
     (c.loop-member.invariant.done, c.loop-member.invariant.same) in
     record {
-      done = relabeled_done c.args.class.now c.loop-member.class c.args.members.now c.args.keep c.loop-member.member-index c.loop-member-test.true (omega arith) before;
-      same = relabeled_same c.args.class.now c.loop-member.class c.args.members.now c.args.keep c.loop-member.member-index c.loop-member-test.true (omega arith) before;
+      done = relabeled_done c.args.class.now c.loop-member.class c.args.members.now c.args.keep c.loop-member.member-index c.loop-member-test.true
+          (omega arith) before;
+      same = relabeled_same c.args.class.now c.loop-member.class c.args.members.now c.args.keep c.loop-member.member-index c.loop-member-test.true
+          (omega arith) before;
     }
 
 pub returns : goal.returns

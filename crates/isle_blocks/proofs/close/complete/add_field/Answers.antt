@@ -18,7 +18,8 @@ index-root-requires c =
 pub returns-in_err-intern-clause-full : goal.returns-in_err-intern-clause-full
 returns-in_err-intern-clause-full c =
     let e = err_from_is_err_and c.from_residual.result c.from_residual.ensures.1 in
-    rw (e.1, e.2) (λ size. no_room c.args.sites.now c.args.class.now.items c.args.site (kind_of c.args.variant) c.args.index c.requires.site_in c.in_default.ensures
+    rw (e.1, e.2) (λ size. no_room c.args.sites.now c.args.class.now.items c.args.site (kind_of c.args.variant)
+    c.args.index c.requires.site_in c.in_default.ensures
     c.intern.new.self c.in_err-intern.ensures.err c.field.result c.field.ensures (c.in_err-intern.ensures.full size) c.requires.like)
 
 pub returns-in_ok-push-clause-grows : goal.returns-in_ok-push-clause-grows

@@ -40,7 +40,8 @@ returns-in_err-add_field-clause-full c =
     let e = err_from_is_err_and c.from_residual.result c.from_residual.ensures.1 in
     let opened = opened_still _ equals _ _ _ _ c.loop-index.invariant.grows state c.args.site c.requires.site_in c.index.result.now c.index.ensures
     c.in-Some.test c.in-Some.ensures c.in-Some-opens.opening c.in-Some-opens.ensures c.loop-index.index c.loop-index-test.true in
-    rw (e.1, e.2) (λ size. runs_out c.args.own.now equals _ _ _ _ c.loop-index.invariant.grows _ _ (c.in_err-add_field.ensures.full size c.args.own.now opened))
+    rw (e.1, e.2) (λ size. runs_out c.args.own.now equals _ _ _ _ c.loop-index.invariant.grows _ _
+    (c.in_err-add_field.ensures.full size c.args.own.now opened))
 
 pub loop-index-preserved : goal.loop-index-preserved
 loop-index-preserved c =
@@ -58,7 +59,8 @@ loop-index-preserved c =
             (f, grown_longer c.args.own.now equals _ _ _ _ more f _ there)
         | inr more ↦
             let same : i ≡ c.loop-index.index = omega arith in
-            subst (λ (z : ℕ). HasField c.add_field.new.sites (kind_of c.in-Some-opens.opening.variant) c.args.site z) (sym same) c.in_ok-add_field.ensures.added
+            subst (λ (z : ℕ). HasField c.add_field.new.sites (kind_of c.in-Some-opens.opening.variant) c.args.site z)
+            (sym same) c.in_ok-add_field.ensures.added
       ];
     }
 

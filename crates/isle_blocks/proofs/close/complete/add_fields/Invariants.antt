@@ -1,7 +1,7 @@
 use Rattle.std.proofs.Common.{◌<◌, ◌≤◌, ℕ, length}
 use Rattle.isle_blocks.specs.Inside.ClosureFields.{kind_of}
 use Rattle.isle_blocks.specs.Inside.ClosureStates.{Grows, HasField}
-use Rattle.isle_blocks.specs.FieldOrder.{AreFieldsBefore}
+use Rattle.isle_blocks.specs.Inside.FieldOrder.{AreFieldsBefore}
 use Rattle.isle_blocks.proofs.close.complete.add_fields.Given as goal
 
 -- the fields below the index are there

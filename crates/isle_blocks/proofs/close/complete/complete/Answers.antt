@@ -8,7 +8,14 @@ use Rattle.isle_blocks.proofs.Closure.FieldOrder.{none_before}
 use Rattle.isle_blocks.proofs.close.complete.complete.Goals as goal
 
 pub loop-site-init : goal.loop-site-init
-loop-site-init c = record { within = omega arith; bound = omega arith; grows = Still; added = λ a h. absurd (omega arith); ordered = none_before c.args.sites.now 0 0 }
+loop-site-init c = record {
+  within = omega arith;
+  bound = omega arith;
+  grows = Still;
+  added = λ a h. absurd (omega arith);
+  ordered =
+      none_before c.args.sites.now 0 0;
+}
 
 pub add_fields-requires-clause-state : goal.add_fields-requires-clause-state
 add_fields-requires-clause-state c =
@@ -37,7 +44,8 @@ loop-site-preserved c =
         | inl less ↦ grown_fields c.args.own.now equals _ _ _ _ more state a (omega arith) (c.loop-site.invariant.added a less)
         | inr more ↦
             let same : a ≡ c.loop-site.site = omega arith in
-            subst (λ (z : ℕ). HasFields c.args.own.now c.add_fields.new.sites c.add_fields.new.class.items z) (sym same) c.in_ok-add_fields.ensures.added
+            subst (λ (z : ℕ). HasFields c.args.own.now c.add_fields.new.sites c.add_fields.new.class.items z)
+            (sym same) c.in_ok-add_fields.ensures.added
       ];
     }
 

@@ -1,6 +1,6 @@
 use Rattle.std.proofs.Common.{◌<◌, ◌≤◌, ◌-◌, ℕ, length}
 use Rattle.isle_blocks.specs.Inside.ClosureStates.{Grows, HasFields}
-use Rattle.isle_blocks.specs.FieldOrder.{AreFieldsBefore}
+use Rattle.isle_blocks.specs.Inside.FieldOrder.{AreFieldsBefore}
 use Rattle.isle_blocks.proofs.close.complete.complete.Given as goal
 
 -- the sites before this one have their fields

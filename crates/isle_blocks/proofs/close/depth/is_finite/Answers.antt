@@ -30,7 +30,8 @@ loop-r-smaller-in-Continue-branch-4 c =
     let k_in = child_within table own class c.requires.classes c.in-Some.r child.field k child.is_child in
     let f = c.loop-r.invariant.lists in
     let less = wait_less c.loop-r.waiting c.loop-r.pending.items c.pop.new.self.items k c.in-Some.r (omega arith) c.in-Some.ensures.items in
-    subst (λ (l : List (List ℕ)). work_left l c.pop.new.self.items < work_left c.loop-r.waiting c.loop-r.pending.items) (sym c.in_ok-add-in-Some-unmarked_child.ensures) less
+    subst (λ (l : List (List ℕ)). work_left l c.pop.new.self.items < work_left c.loop-r.waiting c.loop-r.pending.items)
+    (sym c.in_ok-add-in-Some-unmarked_child.ensures) less
 
 pub loop-r-preserved-in-Continue-branch-4 : goal.loop-r-preserved-in-Continue-branch-4
 loop-r-preserved-in-Continue-branch-4 c =
@@ -38,21 +39,26 @@ loop-r-preserved-in-Continue-branch-4 c =
     let k = c.in-Some-unmarked_child.child in let r = c.in-Some.r in
     let child = subst (λ (l : List Bool). IsUnmarkedChild table own class l r k) c.deref.ensures.value c.in-Some-unmarked_child.ensures.some in
     let k_in = child_within table own class c.requires.classes r child.field k child.is_child in
-    let more = wait_more table own class c.loop-r.marks.items c.loop-r.waiting c.loop-r.pending.items c.pop.new.self.items r c.in-Some.ensures.items c.loop-r.invariant k k_in child in
-    subst (λ (l : List (List ℕ)). Marking table own class c.loop-r.marks.items l c.pop.new.self.items) (sym c.in_ok-add-in-Some-unmarked_child.ensures) more
+    let more = wait_more table own class c.loop-r.marks.items c.loop-r.waiting c.loop-r.pending.items c.pop.new.self.items
+    r c.in-Some.ensures.items c.loop-r.invariant k k_in child in
+    subst (λ (l : List (List ℕ)). Marking table own class c.loop-r.marks.items l c.pop.new.self.items)
+    (sym c.in_ok-add-in-Some-unmarked_child.ensures) more
 
 pub index_mut-requires : goal.index_mut-requires
-index_mut-requires c = let n = next_in _ _ _ _ _ _ _ c.in-Some.r c.in-Some.ensures.items c.loop-r.invariant in let f = c.loop-r.invariant.fits in let o = c.loop-r.marks.ok.0 in omega arith
+index_mut-requires c = let n = next_in _ _ _ _ _ _ _ c.in-Some.r c.in-Some.ensures.items c.loop-r.invariant in
+    let f = c.loop-r.invariant.fits in let o = c.loop-r.marks.ok.0 in omega arith
 
 pub take-requires : goal.take-requires
-take-requires c = let n = next_in _ _ _ _ _ _ _ c.in-Some.r c.in-Some.ensures.items c.loop-r.invariant in let f = c.loop-r.invariant.lists in omega arith
+take-requires c = let n = next_in _ _ _ _ _ _ _ c.in-Some.r c.in-Some.ensures.items c.loop-r.invariant in
+    let f = c.loop-r.invariant.lists in omega arith
 
 pub loop-r-smaller : goal.loop-r-smaller
 loop-r-smaller c =
     let r = c.in-Some.r in let rest = c.pop.new.self.items in let lists = c.loop-r.waiting in
     let n = next_in _ _ _ _ _ _ _ r c.in-Some.ensures.items c.loop-r.invariant in let f = c.loop-r.invariant.lists in
     let less = mark_less lists c.loop-r.pending.items rest r (omega arith) c.in-Some.ensures.items in
-    subst (λ (l : List (List ℕ)). work_left l c.take.new.others.items < work_left lists c.loop-r.pending.items) (sym c.in_ok-take-in-None.ensures.left)
+    subst (λ (l : List (List ℕ)). work_left l c.take.new.others.items < work_left lists c.loop-r.pending.items)
+    (sym c.in_ok-take-in-None.ensures.left)
     (subst (λ (l : List ℕ). work_left (set lists r []) l < work_left lists c.loop-r.pending.items) (sym c.in_ok-take-in-None.ensures.taken) less)
 
 pub loop-r-preserved : goal.loop-r-preserved
@@ -60,9 +66,12 @@ loop-r-preserved c =
     let table = c.args.sites.now in let own = c.args.own.now in let class = c.args.class.now in
     let r = c.in-Some.r in let lists = c.loop-r.waiting in
     let children = subst (λ (l : List Bool). ChildrenAreMarked table own class l r) c.deref.ensures.value c.in-None.ensures.none in
-    let more = mark_more table own class c.loop-r.marks.items lists c.loop-r.pending.items c.pop.new.self.items r c.in-Some.ensures.items c.loop-r.invariant children in
-    subst (λ (l : List (List ℕ)). Marking table own class (set c.loop-r.marks.items r true) l c.take.new.others.items) (sym c.in_ok-take-in-None.ensures.left)
-    (subst (λ (l : List ℕ). Marking table own class (set c.loop-r.marks.items r true) (set lists r []) l) (sym c.in_ok-take-in-None.ensures.taken) more)
+    let more = mark_more table own class c.loop-r.marks.items lists c.loop-r.pending.items c.pop.new.self.items
+    r c.in-Some.ensures.items c.loop-r.invariant children in
+    subst (λ (l : List (List ℕ)). Marking table own class (set c.loop-r.marks.items r true) l c.take.new.others.items)
+    (sym c.in_ok-take-in-None.ensures.left)
+    (subst (λ (l : List ℕ). Marking table own class (set c.loop-r.marks.items r true) (set lists r []) l)
+    (sym c.in_ok-take-in-None.ensures.taken) more)
 
 pub returns-clause-ranked : goal.returns-clause-ranked
 returns-clause-ranked c = λ e.
@@ -79,5 +88,6 @@ returns-clause-looped c = λ e.
     let value = ap length c.deref-2.ensures.value in let fits = c.loop-r.invariant.fits in
     let unmarked = subst (λ (l : List Bool). is_marked l k ≡ false) c.deref-2.ensures.value u in
     let none = c.in_default.ensures.cases.0 in let o = c.loop-r.pending.ok.0 in
-    let stuck = marking_last c.args.sites.now c.args.own.now c.args.class.now c.loop-r.marks.items c.loop-r.waiting c.loop-r.pending.items (omega arith) c.loop-r.invariant in
+    let stuck = marking_last c.args.sites.now c.args.own.now c.args.class.now c.loop-r.marks.items c.loop-r.waiting c.loop-r.pending.items
+    (omega arith) c.loop-r.invariant in
     has_loop c.args.sites.now c.args.own.now c.args.class.now c.loop-r.marks.items stuck c.requires.classes.below k (omega arith) unmarked

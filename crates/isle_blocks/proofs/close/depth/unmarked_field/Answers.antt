@@ -12,7 +12,8 @@ loop-index-preserved c = λ i k h root. elim (cases_lt i c.loop-index.index) [
   | inl less ↦ c.loop-index.invariant i k less root
   | inr more ↦
       let s : i ≡ c.loop-index.index = omega arith in
-      let here = subst (λ (z : ℕ). IsRootOf c.args.sites.now c.args.class.now (field_binding (kind_of c.args.opening.variant) c.args.source z) k) s root in
+      let here = subst (λ (z : ℕ). IsRootOf c.args.sites.now c.args.class.now (field_binding (kind_of c.args.opening.variant) c.args.source z) k)
+      s root in
       elim c.match-field_root.branch [
         | in-Some+else-not-marks-k w ↦
             let same : w.in-Some.k ≡ k = one_root _ c.requires.once _ _ _ _ w.in-Some.ensures here in

@@ -18,7 +18,8 @@ add_site-requires c =
     let part = get_or items c.loop-part.part-index (id_of 0) in
     let P : List ℕ → Type 0 = λ l. Elem part.0 l in
     let l : part.0 < c.args.site.0 =
-    c.requires.lower c.args.site.0 part.0 (subst P c.parts-part-items.ensures (number_elem items c.loop-part.part-index (id_of 0) c.loop-part-test.true)) in
+    c.requires.lower c.args.site.0 part.0 (subst P c.parts-part-items.ensures
+    (number_elem items c.loop-part.part-index (id_of 0) c.loop-part-test.true)) in
     let m = c.requires.site in
     let n = c.loop-part.invariant.size in
     omega (arith, l, m, n)
@@ -31,7 +32,8 @@ loop-part-preserved c =
     let n = numbers_length items in
     record {
       size = c.add_site.ensures.size ∙ c.loop-part.invariant.size;
-      lists = lists_more s (numbers_of items) i (λ p. numbers_of (items_at c.args.lists.now.items p)) (λ p. numbers_of (items_at c.loop-part.lists.items p))
+      lists = lists_more s (numbers_of items) i (λ p. numbers_of (items_at c.args.lists.now.items p))
+          (λ p. numbers_of (items_at c.loop-part.lists.items p))
           (λ p. numbers_of (items_at c.add_site.new.lists.items p)) (let l = c.loop-part-test.true in omega arith)
           (λ p. c.in_ok-add_site.ensures.added p
           ∙ ap (λ (k : ℕ). added_at (numbers_of (items_at c.loop-part.lists.items p)) k s p) (sym (number_get items i)))
@@ -48,5 +50,6 @@ returns c =
     record {
       size = c.loop-part.invariant.size;
       lists = subst P c.parts-part-items.ensures
-          (lists_all c.args.site.0 (numbers_of items) c.loop-part.part-index old new (let l = c.loop-part-test.false in omega arith) c.loop-part.invariant.lists);
+          (lists_all c.args.site.0 (numbers_of items) c.loop-part.part-index old new (let l = c.loop-part-test.false in omega arith)
+          c.loop-part.invariant.lists);
     }

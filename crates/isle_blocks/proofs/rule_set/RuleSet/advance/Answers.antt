@@ -11,13 +11,15 @@ returns-in_ok-push_node-in-End c =
     let set = c.args.self.now in
     let P : Task → Type 0 = λ t. Moves set t c.args.work.now.items c.args.work.now.items c.args.nodes.now.items c.push_node.new.nodes.items in
     subst P (sym c.in-End.is)
-    (moved_one set tasks.End nodes.End c.args.work.now.items c.args.nodes.now.items c.push_node.new.nodes.items refl c.in_ok-push_node-in-End.ensures tt
+    (moved_one set tasks.End nodes.End c.args.work.now.items c.args.nodes.now.items c.push_node.new.nodes.items
+    refl c.in_ok-push_node-in-End.ensures tt
     (λ pieces. refl) (λ pieces. refl))
 
 pub returns-in_ok-push_node-in-NoArm : goal.returns-in_ok-push_node-in-NoArm
 returns-in_ok-push_node-in-NoArm c =
     let set = c.args.self.now in
-    let P : Task → Type 0 = λ t. Moves set t c.args.work.now.items c.args.work.now.items c.args.nodes.now.items c.push_node-in-NoArm.new.nodes.items in
+    let P : Task → Type 0 = λ t. Moves set t c.args.work.now.items c.args.work.now.items c.args.nodes.now.items
+    c.push_node-in-NoArm.new.nodes.items in
     subst P (sym c.in-NoArm.is)
     (moved_one set tasks.NoArm nodes.NoArm c.args.work.now.items c.args.nodes.now.items c.push_node-in-NoArm.new.nodes.items refl
     c.in_ok-push_node-in-NoArm.ensures tt (λ pieces. refl) (λ pieces. refl))

@@ -20,7 +20,8 @@ unwrap-test-requires c =
     let set = c.args.self.now in
     let group = c.args.place.left.items in
     let fan = c.requires.fan in
-    let at : c.index-rule.result.now ≡ get_or group c.args.start 0 = c.index-rule.ensures ∙ get_any group c.args.start c.index-rule.result.now 0 fan.more in
+    let at : c.index-rule.result.now ≡ get_or group c.args.start 0 = c.index-rule.ensures ∙ get_any group
+    c.args.start c.index-rule.result.now 0 fan.more in
     let want = fan.arms.want (get_or group c.args.start 0) (elem_at group c.args.start 0 fan.more) in
     let wanted : (rules_in set).at c.index-rule.result.now c.args.site.0 ≡ Some (has want.0) =
     subst (λ (i : ℕ). (rules_in set).at i c.args.site.0 ≡ Some (has want.0)) (sym at) want.1 in
@@ -31,7 +32,8 @@ enter-requires-clause-wants c =
     let set = c.args.self.now in
     let group = c.args.place.left.items in
     let fan = c.requires.fan in
-    let at : c.index-rule.result.now ≡ get_or group c.args.start 0 = c.index-rule.ensures ∙ get_any group c.args.start c.index-rule.result.now 0 fan.more in
+    let at : c.index-rule.result.now ≡ get_or group c.args.start 0 = c.index-rule.ensures ∙ get_any group
+    c.args.start c.index-rule.result.now 0 fan.more in
     let want = fan.arms.want (get_or group c.args.start 0) (elem_at group c.args.start 0 fan.more) in
     let wanted : (rules_in set).at c.index-rule.result.now c.args.site.0 ≡ Some (has want.0) =
     subst (λ (i : ℕ). (rules_in set).at i c.args.site.0 ≡ Some (has want.0)) (sym at) want.1 in
@@ -62,9 +64,11 @@ push_body-requires-clause-marked c =
     let P : List ℕ → Type 0 = λ l. IsRun R c.args.site.0 c.args.start l c.unwrap-test.result c.in_ok-one.one.rules.items c.in_ok-one.one.end in
     let one = subst P c.deref.ensures.value c.in_ok-one.ensures in
     let spread = c.in_ok-more.ensures in
-    marked_inside R c.args.place.left.items c.in_ok-one.one.rules.items sc sc (scope_of set c.enter.new.known) c.args.site.0 (has c.unwrap-test.result)
+    marked_inside R c.args.place.left.items c.in_ok-one.one.rules.items sc sc (scope_of set c.enter.new.known) c.args.site.0
+    (has c.unwrap-test.result)
     c.args.place.marks c.spread.new.marks _ (same_path_self sc) inner
-    (run_left set c.args.site.0 c.args.start c.unwrap-test.result c.args.place.left.items c.in_ok-one.one.rules.items one.run) c.requires.fan.arms.marked spread
+    (run_left set c.args.site.0 c.args.start c.unwrap-test.result c.args.place.left.items c.in_ok-one.one.rules.items one.run)
+    c.requires.fan.arms.marked spread
 
 pub push_body-requires-clause-ready : goal.push_body-requires-clause-ready
 push_body-requires-clause-ready c =
@@ -81,7 +85,8 @@ push_body-requires-clause-ready c =
     ready_inside R users c.args.place.left.items c.in_ok-one.one.rules.items sc sc after
     c.args.site.0 (has c.unwrap-test.result) c.args.place.marks c.spread.new.marks (numbers_of c.in_ok-more.more.items)
     (numbers_of c.args.place.ready.items) (numbers_of c.in_ok-ready.ready.items) c.requires.index.is.used (same_path_self sc) inner
-    (run_left set c.args.site.0 c.args.start c.unwrap-test.result c.args.place.left.items c.in_ok-one.one.rules.items one.run) c.requires.fan.arms.ready
+    (run_left set c.args.site.0 c.args.start c.unwrap-test.result c.args.place.left.items c.in_ok-one.one.rules.items one.run)
+    c.requires.fan.arms.ready
     c.in_ok-more.ensures
     (testable_from (is_testable users after) (numbers_of c.in_ok-ready.ready.items) c.spread.new.marks c.spread.new.marks c.deref-2.result.now
     c.args.place.ready.items c.deref-3.result.now c.in_ok-more.more.items refl c.deref-2.ensures.value c.deref-3.ensures.value c.in_ok-ready.ensures)
@@ -92,7 +97,8 @@ push_body-requires-clause-rules c =
     let R = rules_in set in
     let P : List ℕ → Type 0 = λ l. IsRun R c.args.site.0 c.args.start l c.unwrap-test.result c.in_ok-one.one.rules.items c.in_ok-one.one.end in
     let one = subst P c.deref.ensures.value c.in_ok-one.ensures in
-    run_rules set c.args.site.0 c.args.start c.unwrap-test.result c.args.place.left.items c.in_ok-one.one.rules.items one.run c.requires.fan.arms.rules
+    run_rules set c.args.site.0 c.args.start c.unwrap-test.result c.args.place.left.items c.in_ok-one.one.rules.items
+    one.run c.requires.fan.arms.rules
 
 pub returns : goal.returns
 returns c =
@@ -104,7 +110,9 @@ returns c =
     let inner = c.in_ok-enter.ensures.scope (has c.unwrap-test.result) test in
     let R = rules_in set in
     let P : List ℕ → Type 0 = λ l. IsRun R c.args.site.0 c.args.start l c.unwrap-test.result c.in_ok-one.one.rules.items c.in_ok-one.one.end in
-    moved_arm set c.args.place c.args.site c.args.start c.unwrap-test.result c.in_ok-one.one.rules.items c.in_ok-one.one.end (scope_of set c.enter.new.known)
-    c.in_ok-bindings.bindings.items c.arm_node.result c.args.work.now.items c.push_more.new.work.items c.push_body.new.work.items c.args.nodes.now.items
+    moved_arm set c.args.place c.args.site c.args.start c.unwrap-test.result c.in_ok-one.one.rules.items c.in_ok-one.one.end
+    (scope_of set c.enter.new.known)
+    c.in_ok-bindings.bindings.items c.arm_node.result c.args.work.now.items c.push_more.new.work.items c.push_body.new.work.items
+    c.args.nodes.now.items
     c.push.new.self.items c.requires.set fan (subst P c.deref.ensures.value c.in_ok-one.ensures) c.in_ok-bindings.ensures c.arm_node.ensures
     c.in_ok-push.ensures.items c.in_ok-push_more.ensures inner c.in_ok-push_body.ensures

@@ -1,5 +1,5 @@
 use Rattle.std.proofs.Common.{[], add-one}
-use Rattle.isle_trees.specs.Search.{below}
+use Rattle.isle_trees.specs.Rules.{below}
 use Rattle.isle_blocks.specs.Inside.Trees.Builder.{scope_of, users_at}
 use Rattle.isle_blocks.specs.Inside.Trees.Marking.{is_testable}
 use Rattle.isle_blocks.proofs.Trees.Marking.Ready.{kept_more}

@@ -1,6 +1,6 @@
 use Rattle.std.proofs.Common.{◌≡◌}
 use Rattle.std.specs.List.{filter}
-use Rattle.isle_trees.specs.Search.{below}
+use Rattle.isle_trees.specs.Rules.{below}
 use Rattle.isle_blocks.specs.Rows.{numbers_of}
 use Rattle.isle_blocks.specs.Inside.Trees.Builder.{scope_of, users_at}
 use Rattle.isle_blocks.specs.Inside.Trees.Marking.{is_testable}

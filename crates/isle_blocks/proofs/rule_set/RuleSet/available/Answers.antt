@@ -21,6 +21,8 @@ loop-rule-preserved c =
     let i = get_or c.args.left.now c.loop-rule.rule-index 0 in
     let all : (s : ℕ) → Asked (rules_in c.args.self.now) i s → Elem s (numbers_of c.asked.result.now) = λ s a.
     let P : List ℕ → Type 0 = λ l. Elem s l in subst P (sym c.asked.ensures) (c.requires.index.is.full i s a) in
-    group_more (rules_in c.args.self.now) (scope_of c.args.self.now c.args.known.now) c.args.left.now c.loop-rule.rule-index (length c.args.self.now.sites)
+    group_more (rules_in c.args.self.now) (scope_of c.args.self.now c.args.known.now) c.args.left.now c.loop-rule.rule-index
+    (length c.args.self.now.sites)
     (numbers_of c.asked.result.now) c.loop-rule.marks c.mark.new.marks
-    c.loop-rule-test.true c.loop-rule.invariant all c.in_ok-mark.ensures.sound c.in_ok-mark.ensures.full c.in_ok-mark.ensures.kept c.in_ok-mark.ensures.size
+    c.loop-rule-test.true c.loop-rule.invariant all c.in_ok-mark.ensures.sound c.in_ok-mark.ensures.full c.in_ok-mark.ensures.kept
+    c.in_ok-mark.ensures.size

@@ -22,7 +22,8 @@ returns-in-Some c =
     let sc = scope_of c.args.self.now c.args.known.now in
     let Q : Option CodeRanked → Type 0 = λ b. IsSearched R c.args.left.now sc (best_shown b) in
     let K : Option CodeRanked → Type 0 = λ b. IsRanked R c.args.left.now sc (best_shown b) in
-    something_best R c.args.left.now sc (ranked_shown c.in-Some.ranked) (subst K c.in-Some.is c.consider_equalities.ensures.kept.ranked) (subst Q c.in-Some.is
+    something_best R c.args.left.now sc (ranked_shown c.in-Some.ranked) (subst K c.in-Some.is c.consider_equalities.ensures.kept.ranked)
+    (subst Q c.in-Some.is
     (searched_all R c.args.left.now sc c.args.marks.now c.args.ready.now (best_shown c.best_of-best.result) (best_shown c.consider_equalities.result)
     c.requires.set.both c.requires.order c.requires.marked c.requires.ready c.best_of-best.ensures.passed c.consider_equalities.ensures.kept
     c.consider_equalities.ensures.passed))

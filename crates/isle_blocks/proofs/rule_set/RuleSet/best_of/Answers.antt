@@ -17,7 +17,8 @@ loop-site-preserved c =
     let now = c.consider_site-best.ensures in
     record {
       ranked = now.kept.ranked;
-      passed = passed_more c.args.sites.now c.loop-site.site-index (record { 0 = 0 }) (P (best_shown c.loop-site.best)) (P (best_shown c.consider_site-best.result))
+      passed = passed_more c.args.sites.now c.loop-site.site-index (record { 0 = 0 }) (P (best_shown c.loop-site.best))
+          (P (best_shown c.consider_site-best.result))
           c.loop-site-test.true (λ x h. record {
             by_match = λ r. now.kept.kept (on_match x.0) (h.by_match r);
             by_loop = λ r. now.kept.kept (on_loop x.0) (h.by_loop r);

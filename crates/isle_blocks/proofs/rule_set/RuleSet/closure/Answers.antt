@@ -70,4 +70,5 @@ returns c =
     let n = numbers_length c.parts.list.items in
     closed (rules_in c.args.self.now) (numbers_of c.args.sites.now) c.args.marks.now c.parts.marks
     (numbers_of c.parts.list.items) (numbers_of c.ascending.result.items) c.parts.at
-    (take_all c.parts.at (numbers_of c.parts.list.items) (omega arith)) c.ascending.ensures.ascending c.ascending.ensures.same c.parts.invariant.closing
+    (take_all c.parts.at (numbers_of c.parts.list.items) (omega arith)) c.ascending.ensures.ascending c.ascending.ensures.same
+    c.parts.invariant.closing

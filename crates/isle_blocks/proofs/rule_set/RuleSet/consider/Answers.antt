@@ -14,5 +14,6 @@ returns-clause-new c = rw c.better.ensures
 
 pub returns-then-not-may_win-clause-new : goal.returns-then-not-may_win-clause-new
 returns-then-not-may_win-clause-new c =
-    passed_over (rules_in c.args.self.now) c.args.left.now (scope_of c.args.self.now c.args.known.now) (best_shown c.args.best) (test_shown c.args.test)
+    passed_over (rules_in c.args.self.now) c.args.left.now (scope_of c.args.self.now c.args.known.now) (best_shown c.args.best)
+    (test_shown c.args.test)
     c.args.most c.requires.most (sym (c.may_win.ensures c.args.self.now) ∙ c.if-not-may_win.true)

@@ -16,7 +16,9 @@ loop-a-preserved c =
     let P : Option Ranked → BindingId → Type 0 = λ best a. IsRowPassed R left sc marks c.args.class.now best a in
     let now = c.consider_row-best.ensures in
     record {
-      kept = still_ranked R left sc (best_shown c.args.best) (best_shown c.loop-a.best) (best_shown c.consider_row-best.result) c.loop-a.invariant.kept now.kept;
-      passed = passed_more c.args.class.now c.loop-a.a-index (record { 0 = 0 }) (P (best_shown c.loop-a.best)) (P (best_shown c.consider_row-best.result))
+      kept = still_ranked R left sc (best_shown c.args.best) (best_shown c.loop-a.best) (best_shown c.consider_row-best.result)
+          c.loop-a.invariant.kept now.kept;
+      passed = passed_more c.args.class.now c.loop-a.a-index (record { 0 = 0 }) (P (best_shown c.loop-a.best))
+          (P (best_shown c.consider_row-best.result))
           c.loop-a-test.true (λ a h b m r. now.kept.kept (on_equal a.0 b.0) (h b m r)) now.passed c.loop-a.invariant.passed;
     }

@@ -17,7 +17,9 @@ loop-class-preserved c =
     let now = c.consider_class-best.ensures in
     let last = subst (P (best_shown c.consider_class-best.result)) (c.as_slice.ensures ∙ c.class-item.is) now.passed in
     record {
-      kept = still_ranked R left sc (best_shown c.args.best) (best_shown c.loop-class.best) (best_shown c.consider_class-best.result) c.loop-class.invariant.kept now.kept;
-      passed = passed_more c.args.classes.now c.loop-class.class-index c.class-item.result (P (best_shown c.loop-class.best)) (P (best_shown c.consider_class-best.result))
+      kept = still_ranked R left sc (best_shown c.args.best) (best_shown c.loop-class.best) (best_shown c.consider_class-best.result)
+          c.loop-class.invariant.kept now.kept;
+      passed = passed_more c.args.classes.now c.loop-class.class-index c.class-item.result (P (best_shown c.loop-class.best))
+          (P (best_shown c.consider_class-best.result))
           c.loop-class-test.true (λ class h a k b m r. now.kept.kept (on_equal a.0 b.0) (h a k b m r)) last c.loop-class.invariant.passed;
     }

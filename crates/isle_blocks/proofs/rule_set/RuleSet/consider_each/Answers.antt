@@ -16,7 +16,9 @@ loop-b-preserved c =
     let P : Option Ranked → BindingId → Type 0 = λ best b. IsPassed R left sc marks best (on_equal c.args.a.0 b.0) in
     let now = c.consider_ready-best.ensures in
     record {
-      kept = still_ranked R left sc (best_shown c.args.best) (best_shown c.loop-b.best) (best_shown c.consider_ready-best.result) c.loop-b.invariant.kept now.kept;
-      passed = passed_more c.args.class.now c.loop-b.b-index (record { 0 = 0 }) (P (best_shown c.loop-b.best)) (P (best_shown c.consider_ready-best.result))
+      kept = still_ranked R left sc (best_shown c.args.best) (best_shown c.loop-b.best) (best_shown c.consider_ready-best.result)
+          c.loop-b.invariant.kept now.kept;
+      passed = passed_more c.args.class.now c.loop-b.b-index (record { 0 = 0 }) (P (best_shown c.loop-b.best))
+          (P (best_shown c.consider_ready-best.result))
           c.loop-b-test.true (λ b h r. now.kept.kept (on_equal c.args.a.0 b.0) (h r)) now.passed c.loop-b.invariant.passed;
     }

@@ -15,7 +15,8 @@ returns-then-priority-top-clause-passed c = λ i m q.
     let t = c.top-top.ensures in
     let l : (rules_in c.args.self.now).prio (get_or c.args.left.now c.loop-rule.rule-index 0) <ℤ top (rules_in c.args.self.now) c.args.left.now =
     omega (arith, ints, p, t, c.if-priority-top.true) in
-    c.loop-rule.invariant.passed i (top_front (rules_in c.args.self.now) c.args.left.now c.loop-rule.rule-index i c.requires.order c.loop-rule-test.true l m q)
+    c.loop-rule.invariant.passed i (top_front (rules_in c.args.self.now) c.args.left.now c.loop-rule.rule-index
+    i c.requires.order c.loop-rule-test.true l m q)
 
 pub loop-rule-preserved : goal.loop-rule-preserved
 loop-rule-preserved c =
@@ -29,8 +30,10 @@ loop-rule-preserved c =
     let listed : AreClasses c.args.self.now i c.classes.result.now =
     subst (λ (l : List (List BindingId)). AreClasses c.args.self.now i l) (sym c.classes.ensures) (c.requires.index.classes i) in
     record {
-      kept = still_ranked R left sc (best_shown c.args.best) (best_shown c.loop-rule.best) (best_shown c.consider_classes-best.result) c.loop-rule.invariant.kept now.kept;
+      kept = still_ranked R left sc (best_shown c.args.best) (best_shown c.loop-rule.best) (best_shown c.consider_classes-best.result)
+          c.loop-rule.invariant.kept now.kept;
       passed = passed_more left c.loop-rule.rule-index 0 (P (best_shown c.loop-rule.best)) (P (best_shown c.consider_classes-best.result))
           c.loop-rule-test.true (λ i h a b j r. now.kept.kept (on_equal a b) (h a b j r))
-          (rule_passed c.args.self.now left sc marks (best_shown c.consider_classes-best.result) i c.classes.result.now listed now.passed) c.loop-rule.invariant.passed;
+          (rule_passed c.args.self.now left sc marks (best_shown c.consider_classes-best.result) i c.classes.result.now listed now.passed)
+          c.loop-rule.invariant.passed;
     }

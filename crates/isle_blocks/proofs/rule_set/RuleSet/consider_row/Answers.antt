@@ -7,4 +7,5 @@ use Rattle.isle_blocks.proofs.rule_set.RuleSet.consider_row.Goals as goal
 pub returns-then-not-may_join-clause-passed : goal.returns-then-not-may_join-clause-passed
 returns-then-not-may_join-clause-passed c =
     row_passed (rules_in c.args.self.now) c.args.left.now (scope_of c.args.self.now c.args.known.now) c.args.marks.now c.args.class.now
-    (best_shown c.args.best) c.args.a c.most-most.result (λ b. c.most-most.ensures (on_equal c.args.a.0 b) refl) (sym c.may_join.ensures ∙ c.if-not-may_join.true)
+    (best_shown c.args.best) c.args.a c.most-most.result (λ b. c.most-most.ensures (on_equal c.args.a.0 b) refl)
+    (sym c.may_join.ensures ∙ c.if-not-may_join.true)

@@ -7,5 +7,6 @@ use Rattle.isle_blocks.proofs.rule_set.RuleSet.dependent_lists.Given as goal
 abbrev pub invariant-loop-site : goal.invariant-loop-site
 invariant-loop-site l = record {
   size : length l.lists.items ≡ length l.self.sites;
-  listing : IsListing (rules_in l.self) (length l.self.sites) (take l.site-index (numbers_of l.site-items)) (λ p. numbers_of (items_at l.lists.items p));
+  listing : IsListing (rules_in l.self) (length l.self.sites) (take l.site-index (numbers_of l.site-items))
+      (λ p. numbers_of (items_at l.lists.items p));
 }

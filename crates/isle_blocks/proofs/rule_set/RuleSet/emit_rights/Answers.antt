@@ -22,6 +22,7 @@ emit-requires-clause-size c = c.loop-site.invariant.same.emitted ∙ c.requires.
 pub loop-site-preserved : goal.loop-site-preserved
 loop-site-preserved c = record {
   each = rw (numbers_more c.args.sites.now c.loop-site.site-index (id_of 0) c.loop-site-test.true)
-      (emits_each_more _ _ _ _ (numbers_of (take c.loop-site.site-index c.args.sites.now)) _ _ _ _ c.loop-site.invariant.each c.in_ok-emit.ensures.one);
+      (emits_each_more _ _ _ _ (numbers_of (take c.loop-site.site-index c.args.sites.now)) _ _ _ _ c.loop-site.invariant.each
+      c.in_ok-emit.ensures.one);
   same = same_known_trans _ _ _ c.loop-site.invariant.same c.in_ok-emit.ensures.known;
 }

@@ -33,9 +33,11 @@ loop-made-preserved c =
     let i = c.loop-made.made-index in
     let n = numbers_length items in
     record {
-      entering = λ w e. entering_more (rules_in set) c.args.site.0 w (numbers_of items) i (scope_of set c.pass.new.self) (scope_of set c.loop-made.known)
+      entering = λ w e. entering_more (rules_in set) c.args.site.0 w (numbers_of items) i (scope_of set c.pass.new.self)
+          (scope_of set c.loop-made.known)
           (scope_of set c.bind_made.new.known) (let l = c.loop-made-test.true in omega arith)
-          (bound_at (rules_in set) c.args.site.0 w _ _ _ _ (number_get items i) (c.in_ok-bind_made.ensures.scope w e)) (c.loop-made.invariant.entering w e);
+          (bound_at (rules_in set) c.args.site.0 w _ _ _ _ (number_get items i) (c.in_ok-bind_made.ensures.scope w e))
+          (c.loop-made.invariant.entering w e);
       same = same_known_trans _ _ _ c.loop-made.invariant.same c.in_ok-bind_made.ensures.known;
     }
 
@@ -54,7 +56,8 @@ returns-clause-scope c w e =
     (λ x m f g. let Q : List ℕ → Type 0 = λ l. Elem x l in subst Q (sym c.made_from-made-items.ensures) (c.requires.index.is.made_from s x m f g))
     (passed_path set old c.pass.new.self s c.args.rule w (omega arith) c.in_ok-pass.ensures.passed c.in_ok-pass.ensures.others.0 e)
     (λ y. ap (λ (l : List Bool). get_or l y false) c.in_ok-pass.ensures.others.1)
-    (subst P (take_all c.loop-made.made-index (numbers_of items) (let l = c.loop-made-test.false in omega arith)) (c.loop-made.invariant.entering w e))
+    (subst P (take_all c.loop-made.made-index (numbers_of items) (let l = c.loop-made-test.false in omega arith))
+    (c.loop-made.invariant.entering w e))
 
 pub returns-clause-fit : goal.returns-clause-fit
 returns-clause-fit c =

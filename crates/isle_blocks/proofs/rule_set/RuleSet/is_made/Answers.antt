@@ -14,6 +14,7 @@ returns-in-Some-opener c =
 
 pub returns-in-None : goal.returns-in-None
 returns-in-None c =
-    sym (made_unopened c.args.self.now (length c.args.self.now.sites) (opener_at c.args.index.now) c.args.known.now c.requires.index.openers c.args.site.0
+    sym (made_unopened c.args.self.now (length c.args.self.now.sites) (opener_at c.args.index.now) c.args.known.now
+    c.requires.index.openers c.args.site.0
     c.in-Some.source.0 (sym c.source.ensures ∙ ap (option_map (λ (id : BindingId). id.0)) c.in-Some.is)
     c.requires.site (sym c.opener.ensures ∙ c.in-None.is))

@@ -13,12 +13,14 @@ work-init c =
     let set = c.args.self.now in
     let sc = scope_of set c.args.known in
     record {
-      valid = begun_valid set c.args.left.items sc c.new-work.result.items c.push_body.new.work.items c.new-work.ensures.items c.in_ok-push_body.ensures;
+      valid = begun_valid set c.args.left.items sc c.new-work.result.items c.push_body.new.work.items c.new-work.ensures.items
+          c.in_ok-push_body.ensures;
       told = λ n m. absurd (subst (λ (l : List Node). Rattle.isle_trees.specs.Rules.Elem n l) c.new-nodes.ensures.items m);
       so_far = λ pieces d.
           let P : List Node → Type 0 = λ l. Builds (rules_in set) c.args.left.items sc (first_steps (read l pieces)) in
           subst P (sym c.new-nodes.ensures.items)
-          (begun set c.args.left.items sc c.new-work.result.items c.push_body.new.work.items c.new-work.ensures.items c.in_ok-push_body.ensures pieces d);
+          (begun set c.args.left.items sc c.new-work.result.items c.push_body.new.work.items c.new-work.ensures.items
+          c.in_ok-push_body.ensures pieces d);
     }
 
 pub work-preserved : goal.work-preserved
@@ -27,7 +29,8 @@ work-preserved c =
     let sc = scope_of set c.args.known in
     let e : c.work.work.items ≡ c.pop.new.self.items ++ c.in-Some.task ∷ [] = search rules in
     record {
-      valid = turned_valid set c.in-Some.task c.work.work.items c.pop.new.self.items c.advance.new.work.items c.work.nodes.items c.advance.new.nodes.items e
+      valid = turned_valid set c.in-Some.task c.work.work.items c.pop.new.self.items c.advance.new.work.items
+          c.work.nodes.items c.advance.new.nodes.items e
           c.work.invariant.valid c.in_ok-advance.ensures;
       told = turned_told set c.in-Some.task c.pop.new.self.items c.advance.new.work.items c.work.nodes.items c.advance.new.nodes.items
           c.in_ok-advance.ensures c.work.invariant.told;

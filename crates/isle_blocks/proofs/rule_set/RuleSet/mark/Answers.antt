@@ -45,7 +45,8 @@ loop-site-preserved c =
       | then-needs_mark+in_ok-set w ↦ subst P (sym (w.marks-is ∙ w.in_ok-set.ensures))
           (subst (λ (y : ℕ). Marking R sc (take (i + 1) sites) c.args.marks.now (set c.loop-site.marks y true)) (at ∙ sym w.index.ensures)
           (marking_set R same_is same_itself sc sites c.args.marks.now c.loop-site.marks i within c.requires.first c.loop-site.invariant
-          (omega (arith, below, start, size)) (and_both (not (is_marked c.loop-site.marks (get_or sites i 0))) _ (sym answer ∙ w.if-needs_mark.true)).1))
+          (omega (arith, below, start, size)) (and_both (not (is_marked c.loop-site.marks (get_or sites i 0))) _
+          (sym answer ∙ w.if-needs_mark.true)).1))
       | else-needs_mark w ↦ subst P (sym w.marks-is)
           (marking_passed R same_is same_itself sc sites c.args.marks.now c.loop-site.marks i within c.requires.first c.loop-site.invariant
           (sym answer ∙ w.if-needs_mark.false))

@@ -37,7 +37,8 @@ return_order-requires-clause-below c x m =
     let rule = c.index-rules-number.result in
     let is : slice_get set.rules i ≡ Some rule =
     subst (λ (y : List Rule). slice_get y i ≡ Some rule) c.rules.ensures
-    (slice_get-get_or c.rules.result.now i rule (subst (λ (n : ℕ). i < n) (sym (ap length c.rules.ensures)) l) ∙ ap Some (sym c.index-rules-number.is)) in
+    (slice_get-get_or c.rules.result.now i rule (subst (λ (n : ℕ). i < n) (sym (ap length c.rules.ensures)) l) ∙ ap Some
+    (sym c.index-rules-number.is)) in
     c.requires.set.rights i x (elem_below i (length set.rules) l) (subst (λ (y : List ℕ). Elem x y) (sym (rights_are set i rule is)) m)
 
 pub loop-number-preserved : goal.loop-number-preserved
@@ -50,14 +51,17 @@ loop-number-preserved c =
     let rule = c.index-rules-number.result in
     let is : slice_get set.rules i ≡ Some rule =
     subst (λ (y : List Rule). slice_get y i ≡ Some rule) c.rules.ensures
-    (slice_get-get_or c.rules.result.now i rule (subst (λ (n : ℕ). i < n) (sym (ap length c.rules.ensures)) l) ∙ ap Some (sym c.index-rules-number.is)) in
+    (slice_get-get_or c.rules.result.now i rule (subst (λ (n : ℕ). i < n) (sym (ap length c.rules.ensures)) l) ∙ ap Some
+    (sym c.index-rules-number.is)) in
     let now = scope_of set c.loop-number.known in
     let after = scope_of set c.return_order.new.known in
     let binds : BindsEach R now (rights R i) (numbers_of c.in_ok-order.order.items) after =
-    subst (λ (y : List ℕ). BindsEach R now y (numbers_of c.in_ok-order.order.items) after) (sym (rights_are set i rule is)) c.in_ok-order.ensures.each in
+    subst (λ (y : List ℕ). BindsEach R now y (numbers_of c.in_ok-order.order.items) after) (sym (rights_are set i rule is))
+    c.in_ok-order.ensures.each in
     record {
       size = c.in_ok-order.ensures.known.emitted ∙ c.loop-number.invariant.size;
-      given = given_more set c.args.left.now c.loop-number.number-index (scope_of set c.args.known.now) now after (numbers_of c.in_ok-order.order.items)
+      given = given_more set c.args.left.now c.loop-number.number-index (scope_of set c.args.known.now) now after
+          (numbers_of c.in_ok-order.order.items)
           c.return_node.result c.args.nodes.now.items c.loop-number.nodes.items c.push.new.self.items c.requires.order c.loop-number-test.true binds
           (λ pieces. subst (λ (n : Node). put n pieces ≡ given (numbers_of c.in_ok-order.order.items) i pieces) (sym c.return_node.ensures) refl)
           (subst (IsOfRule set) (sym c.return_node.ensures) (rule, is, refl, refl)) c.in_ok-push.ensures.items c.loop-number.invariant.given;

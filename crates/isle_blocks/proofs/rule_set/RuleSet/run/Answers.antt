@@ -1,6 +1,7 @@
 use Rattle.std.proofs.Common.{rules, ap, ◌+◌, ◌≡◌, ◌∙◌, ℕ, List, length}
 use Rattle.std.proofs.lemmas.List.{take_rest}
-use Rattle.isle_trees.specs.Search.{below, front}
+use Rattle.isle_trees.specs.Search.{front}
+use Rattle.isle_trees.specs.Rules.{below}
 use Rattle.isle_trees.proofs.Building.Runs.{run_of, ordered_tests}
 use Rattle.isle_blocks.specs.Inside.Trees.Builder.{rules_in}
 use Rattle.isle_blocks.proofs.rule_set.RuleSet.run.Goals as goal

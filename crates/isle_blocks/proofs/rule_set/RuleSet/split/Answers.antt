@@ -10,7 +10,8 @@ pub returns-clause-counted : goal.returns-clause-counted
 returns-clause-counted c =
     let R = rules_in c.args.self.now in
     let t = test_shown c.args.test in
-    c.loop-rule.invariant.chosen ∙ ap (filter (picks R t c.floor-floor.result)) (take_all c.loop-rule.rule-index c.args.left.now c.loop-rule-test.false)
+    c.loop-rule.invariant.chosen ∙ ap (filter (picks R t c.floor-floor.result))
+    (take_all c.loop-rule.rule-index c.args.left.now c.loop-rule-test.false)
     ∙ counted_with R t c.args.left.now c.floor-floor.result c.requires.order c.floor-floor.ensures
 
 pub returns-clause-others : goal.returns-clause-others

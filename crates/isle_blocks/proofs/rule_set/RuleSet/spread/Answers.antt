@@ -50,7 +50,8 @@ spreading-preserved c =
     let l0 : at < length xs = search rules in
     let here : c.index.result.now ≡ get_or xs at (id_of 0) = c.index.ensures ∙ get_any xs at c.index.result.now (id_of 0) l0 in
     let number : c.index.result.now.0 ≡ site = ap (λ (id : BindingId). id.0) here ∙ sym (number_get xs at) in
-    let e : numbers_of c.dependents.result.now ≡ dependents_at c.args.index.now site = c.dependents.ensures ∙ ap (dependents_at c.args.index.now) number in
+    let e : numbers_of c.dependents.result.now ≡ dependents_at c.args.index.now site = c.dependents.ensures ∙ ap
+    (dependents_at c.args.index.now) number in
     let g = c.in_ok-spread_each-2.ensures in
     let k = numbers_length xs in
     let j = numbers_length c.spread_each-in-spreading.new.list.items in

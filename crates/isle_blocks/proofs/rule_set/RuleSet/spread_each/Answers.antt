@@ -7,7 +7,8 @@ use Rattle.isle_blocks.proofs.Trees.Marking.Spreading.{spreads_more, spreads_non
 use Rattle.isle_blocks.proofs.rule_set.RuleSet.spread_each.Goals as goal
 
 pub loop-site-init : goal.loop-site-init
-loop-site-init c = spreads_none (rules_in c.args.self.now) (scope_of c.args.self.now c.args.known.now) c.args.marks.now (numbers_of c.args.list.now.items)
+loop-site-init c = spreads_none (rules_in c.args.self.now) (scope_of c.args.self.now c.args.known.now) c.args.marks.now
+    (numbers_of c.args.list.now.items)
 
 pub spread_one-requires-clause-size : goal.spread_one-requires-clause-size
 spread_one-requires-clause-size c = c.loop-site.invariant.size ∙ c.requires.size

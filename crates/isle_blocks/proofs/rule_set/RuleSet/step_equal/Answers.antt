@@ -44,7 +44,8 @@ push_rest-requires-clause-ready c =
     let emits = c.in_ok-emit_each.ensures.emits in
     let path : IsSamePath sc mid = path_bound sc mid emits.all emits.ending in
     ready_path (rules_in set) c.args.place.left.items c.args.rest.items sc mid c.args.place.marks (numbers_of c.args.place.ready.items) path.passed
-    (rest_left set c.args.place (on_equal c.args.a.0 c.args.b.0) c.args.chosen.items c.args.rest.items c.requires.split) c.requires.split.open_is.ready
+    (rest_left set c.args.place (on_equal c.args.a.0 c.args.b.0) c.args.chosen.items c.args.rest.items c.requires.split)
+    c.requires.split.open_is.ready
 
 pub join-requires-clause-a : goal.join-requires-clause-a
 join-requires-clause-a c =
@@ -73,7 +74,8 @@ push_body-requires-clause-marked c =
     let path : IsSamePath sc mid = path_bound sc mid emits.all emits.ending in
     marked_joined (rules_in set) c.args.place.left.items c.args.chosen.items sc mid (scope_of set c.join.new.self) c.args.a.0 c.args.b.0
     c.args.place.marks path (c.in_ok-join.ensures.scope set)
-    (chosen_left set c.args.place (on_equal c.args.a.0 c.args.b.0) c.args.chosen.items c.args.rest.items c.requires.split) c.requires.split.open_is.marked
+    (chosen_left set c.args.place (on_equal c.args.a.0 c.args.b.0) c.args.chosen.items c.args.rest.items c.requires.split)
+    c.requires.split.open_is.marked
 
 pub push_body-requires-clause-ready : goal.push_body-requires-clause-ready
 push_body-requires-clause-ready c =
@@ -84,7 +86,8 @@ push_body-requires-clause-ready c =
     let path : IsSamePath sc mid = path_bound sc mid emits.all emits.ending in
     ready_joined (rules_in set) c.args.place.left.items c.args.chosen.items sc mid (scope_of set c.join.new.self) c.args.a.0 c.args.b.0
     c.args.place.marks (numbers_of c.args.place.ready.items) path (c.in_ok-join.ensures.scope set)
-    (chosen_left set c.args.place (on_equal c.args.a.0 c.args.b.0) c.args.chosen.items c.args.rest.items c.requires.split) c.requires.split.open_is.ready
+    (chosen_left set c.args.place (on_equal c.args.a.0 c.args.b.0) c.args.chosen.items c.args.rest.items c.requires.split)
+    c.requires.split.open_is.ready
 
 pub push_body-requires-clause-order : goal.push_body-requires-clause-order
 push_body-requires-clause-order c =
@@ -97,8 +100,10 @@ push_body-requires-clause-rules c =
 pub returns : goal.returns
 returns c =
     let set = c.args.self.now in
-    moved_equal set c.args.place c.args.chosen.items c.args.rest.items c.args.a c.args.b (scope_of set c.emit_each.new.known) (scope_of set c.join.new.self)
+    moved_equal set c.args.place c.args.chosen.items c.args.rest.items c.args.a c.args.b (scope_of set c.emit_each.new.known)
+    (scope_of set c.join.new.self)
     (numbers_of c.new-order.result.items) c.emit_each.new.order.items c.equal_node.result c.args.work.now.items c.push_rest.new.work.items
     c.push_body.new.work.items c.args.nodes.now.items c.push.new.self.items c.requires.set c.requires.split c.in_ok-emit_each.ensures.emits
-    (ap numbers_of c.new-order.ensures.items) c.equal_node.ensures c.in_ok-push.ensures.items c.in_ok-push_rest.ensures (c.in_ok-join.ensures.scope set)
+    (ap numbers_of c.new-order.ensures.items) c.equal_node.ensures c.in_ok-push.ensures.items c.in_ok-push_rest.ensures
+    (c.in_ok-join.ensures.scope set)
     c.in_ok-push_body.ensures

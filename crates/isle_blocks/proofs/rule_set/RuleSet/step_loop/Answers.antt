@@ -8,7 +8,7 @@ use Rattle.isle_blocks.specs.Inside.Trees.Builder.{rules_in, scope_of, users_at}
 use Rattle.isle_trees.proofs.Building.Enter.{path_freed, path_released, sound_inside, sound_path}
 use Rattle.isle_trees.proofs.Building.Lists.{get_any}
 use Rattle.isle_trees.proofs.Building.Sorting.{loop_untested, loop_value, rest_marked}
-use Rattle.isle_trees.specs.Search.{below}
+use Rattle.isle_trees.specs.Rules.{below}
 use Rattle.isle_blocks.proofs.Trees.Known.{copy_scope}
 use Rattle.isle_blocks.proofs.Trees.Marking.Spreading.{marked_inside}
 use Rattle.isle_blocks.specs.Inside.Trees.Marking.{is_testable}
@@ -90,7 +90,8 @@ enter-requires-clause-wants c =
     let first = first_chosen set c.args.place (on_loop c.args.site.0) c.args.chosen.items c.args.rest.items c.requires.split in
     let some : 0 < length c.args.chosen.items = search rules in
     let at : c.index.result.now ≡ get_or c.args.chosen.items 0 0 = c.index.ensures ∙ get_any c.args.chosen.items 0 c.index.result.now 0 some in
-    let want = loop_wants set c.args.place c.args.site.0 c.args.chosen.items c.args.rest.items c.requires.split (get_or c.args.chosen.items 0 0) first in
+    let want = loop_wants set c.args.place c.args.site.0 c.args.chosen.items c.args.rest.items c.requires.split
+    (get_or c.args.chosen.items 0 0) first in
     (one_value, subst (λ (i : ℕ). (rules_in set).at i c.args.site.0 ≡ Some one_value) (sym at) want)
 
 pub spread-requires-clause-sound : goal.spread-requires-clause-sound
@@ -102,12 +103,14 @@ spread-requires-clause-sound c =
     let mid = scope_of set c.emit.new.known in
     let emits = c.in_ok-emit.ensures.emits in
     let path : IsSamePath sc mid = path_freed sc freed mid c.args.site.0 emits.all (c.in_ok-release.ensures.scope set) emits.ending in
-    let untested = loop_untested sc freed mid c.args.site.0 emits.all (c.in_ok-release.ensures.scope set) emits.ending c.requires.split.best.ready.1 in
+    let untested = loop_untested sc freed mid c.args.site.0 emits.all (c.in_ok-release.ensures.scope set)
+    emits.ending c.requires.split.best.ready.1 in
     let S : Scope Constraint → Type 0 = λ x. AreSound R x c.args.place.marks in
     let first = first_chosen set c.args.place (on_loop c.args.site.0) c.args.chosen.items c.args.rest.items c.requires.split in
     let some : 0 < length c.args.chosen.items = search rules in
     let at : c.index.result.now ≡ get_or c.args.chosen.items 0 0 = c.index.ensures ∙ get_any c.args.chosen.items 0 c.index.result.now 0 some in
-    let want = loop_wants set c.args.place c.args.site.0 c.args.chosen.items c.args.rest.items c.requires.split (get_or c.args.chosen.items 0 0) first in
+    let want = loop_wants set c.args.place c.args.site.0 c.args.chosen.items c.args.rest.items c.requires.split
+    (get_or c.args.chosen.items 0 0) first in
     let inner = c.in_ok-enter.ensures.scope one_value (subst (λ (i : ℕ). (rules_in set).at i c.args.site.0 ≡ Some one_value) (sym at) want) in
     subst S (sym inner)
     (sound_inside R mid c.args.site.0 one_value c.args.place.marks untested
@@ -124,12 +127,14 @@ push_body-requires-clause-marked c =
     let first = first_chosen set c.args.place (on_loop c.args.site.0) c.args.chosen.items c.args.rest.items c.requires.split in
     let some : 0 < length c.args.chosen.items = search rules in
     let at : c.index.result.now ≡ get_or c.args.chosen.items 0 0 = c.index.ensures ∙ get_any c.args.chosen.items 0 c.index.result.now 0 some in
-    let want = loop_wants set c.args.place c.args.site.0 c.args.chosen.items c.args.rest.items c.requires.split (get_or c.args.chosen.items 0 0) first in
+    let want = loop_wants set c.args.place c.args.site.0 c.args.chosen.items c.args.rest.items c.requires.split
+    (get_or c.args.chosen.items 0 0) first in
     let inner = c.in_ok-enter.ensures.scope one_value (subst (λ (i : ℕ). (rules_in set).at i c.args.site.0 ≡ Some one_value) (sym at) want) in
     let spread = c.in_ok-more.ensures in
     marked_inside (rules_in set) c.args.place.left.items c.args.chosen.items sc mid (scope_of set c.enter.new.known) c.args.site.0 one_value
     c.args.place.marks c.spread.new.marks _ path inner
-    (chosen_left set c.args.place (on_loop c.args.site.0) c.args.chosen.items c.args.rest.items c.requires.split) c.requires.split.open_is.marked spread
+    (chosen_left set c.args.place (on_loop c.args.site.0) c.args.chosen.items c.args.rest.items c.requires.split)
+    c.requires.split.open_is.marked spread
 
 pub push_body-requires-clause-ready : goal.push_body-requires-clause-ready
 push_body-requires-clause-ready c =
@@ -142,7 +147,8 @@ push_body-requires-clause-ready c =
     let first = first_chosen set c.args.place (on_loop c.args.site.0) c.args.chosen.items c.args.rest.items c.requires.split in
     let some : 0 < length c.args.chosen.items = search rules in
     let at : c.index.result.now ≡ get_or c.args.chosen.items 0 0 = c.index.ensures ∙ get_any c.args.chosen.items 0 c.index.result.now 0 some in
-    let want = loop_wants set c.args.place c.args.site.0 c.args.chosen.items c.args.rest.items c.requires.split (get_or c.args.chosen.items 0 0) first in
+    let want = loop_wants set c.args.place c.args.site.0 c.args.chosen.items c.args.rest.items c.requires.split
+    (get_or c.args.chosen.items 0 0) first in
     let inner = c.in_ok-enter.ensures.scope one_value (subst (λ (i : ℕ). (rules_in set).at i c.args.site.0 ≡ Some one_value) (sym at) want) in
     let users = users_at c.args.index.now in
     let after = scope_of set c.enter.new.known in
@@ -172,7 +178,8 @@ returns c =
     let first = first_chosen set c.args.place (on_loop c.args.site.0) c.args.chosen.items c.args.rest.items c.requires.split in
     let some : 0 < length c.args.chosen.items = search rules in
     let at : c.index.result.now ≡ get_or c.args.chosen.items 0 0 = c.index.ensures ∙ get_any c.args.chosen.items 0 c.index.result.now 0 some in
-    let want = loop_wants set c.args.place c.args.site.0 c.args.chosen.items c.args.rest.items c.requires.split (get_or c.args.chosen.items 0 0) first in
+    let want = loop_wants set c.args.place c.args.site.0 c.args.chosen.items c.args.rest.items c.requires.split
+    (get_or c.args.chosen.items 0 0) first in
     let inner = c.in_ok-enter.ensures.scope one_value (subst (λ (i : ℕ). (rules_in set).at i c.args.site.0 ≡ Some one_value) (sym at) want) in
     moved_loop set c.args.place c.args.chosen.items c.args.rest.items c.args.site c.value.result (scope_of set c.release.new.self) mid
     (scope_of set c.enter.new.known) last (numbers_of c.new-order.result.items) c.emit.new.order.items c.loop_node.result c.args.work.now.items

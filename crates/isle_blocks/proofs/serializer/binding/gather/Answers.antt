@@ -15,4 +15,5 @@ pub loop-site-preserved : goal.loop-site-preserved
 loop-site-preserved c =
     rw (numbers_more c.args.sites.now c.loop-site.site-index (id_of 0) c.loop-site-test.true)
     (gathers_more (numbers_of (take c.loop-site.site-index c.args.sites.now)) _ c.args.marks.now c.loop-site.marks c.gather_one.new.marks
-    (numbers_of c.args.list.now.items) (numbers_of c.loop-site.list.items) (numbers_of c.gather_one.new.list.items) c.loop-site.invariant c.in_ok-gather_one.ensures)
+    (numbers_of c.args.list.now.items) (numbers_of c.loop-site.list.items) (numbers_of c.gather_one.new.list.items)
+    c.loop-site.invariant c.in_ok-gather_one.ensures)

@@ -1,5 +1,5 @@
 use Rattle.std.proofs.Common.{◌≡◌}
-use Rattle.isle_trees.specs.Search.{below}
+use Rattle.isle_trees.specs.Rules.{below}
 use Rattle.isle_blocks.proofs.serializer.groups.numbers.Given as goal
 
 abbrev pub invariant-loop-number : goal.invariant-loop-number

@@ -1,5 +1,5 @@
 use Rattle.std.proofs.Common.{◌≡◌, ◌≢◌, ℕ, List, [], ◌∷◌, None, IfOk, Option, length, get_or, refl, subst, ap, ◌∙◌, arith}
-use Rattle.isle_terms.specs.Values.{ValueTree, value_list}
+use Rattle.isle_rules.specs.Values.{ValueTree, value_list}
 use Rattle.isle_example.specs.Bytes.{byte_in, combined_values}
 use Rattle.isle_example.specs.Registers.{constructed}
 use Rattle.isle_example.proofs.host.RegistersWorld.construct.Goals as goal

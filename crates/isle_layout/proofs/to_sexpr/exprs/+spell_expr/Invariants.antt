@@ -1,5 +1,5 @@
 use Rattle.std.proofs.Common.{◌≡◌, ◌∷◌, map, take}
-use Rattle.isle_syntax.specs.Trees.ExprShape.{expr_of}
+use Rattle.isle_ast.specs.Trees.ExprShape.{expr_of}
 use Rattle.isle_layout.specs.Spellings.{name_sexpr, expr_sexpr, let_def_sexpr}
 use Rattle.isle_layout.proofs.to_sexpr.exprs.+spell_expr.Given as goal
 

@@ -1,5 +1,5 @@
 use Rattle.std.proofs.Common.{ap, ◌∙◌, arith, ◌++◌}
-use Rattle.isle_syntax.specs.Trees.ItemShape.{item_of}
+use Rattle.isle_ast.specs.Trees.ItemShape.{item_of}
 use Rattle.isle_layout.specs.Spellings.{item_sexpr}
 use Rattle.isle_layout.proofs.Layouts.Spellings.{item_sexprs_taken, mapped_more}
 use Rattle.isle_layout.proofs.to_sexpr.items.+spell_item.Goals as goal

@@ -1,6 +1,6 @@
 use Rattle.std.proofs.Common.{ap, ◌∙◌, arith, rules, ◌≡◌, [], ◌∷◌}
-use Rattle.isle_syntax.specs.Trees.PatternShape.{pattern_of}
-use Rattle.isle_syntax.proofs.Trees.Innermost.{bound_size}
+use Rattle.isle_ast.specs.Trees.PatternShape.{pattern_of}
+use Rattle.isle_ast.proofs.Trees.Innermost.{bound_size}
 use Rattle.isle_layout.specs.SExprTree.{sexpr_atom, sexpr_binding}
 use Rattle.isle_layout.specs.Spellings.{listed, bound_sexpr, pattern_sexpr}
 use Rattle.isle_layout.proofs.Layouts.Spellings.{bound_sexpr_pushed, pattern_sexprs_taken, mapped_more}

@@ -1,6 +1,6 @@
 use Rattle.std.proofs.Common.{◌≡◌, ◌+◌, ◌*◌, ◌≤◌, ◌∷◌, map, take}
-use Rattle.isle_syntax.specs.declared.ast.BoxedPattern.TheDeep.{size-Pattern}
-use Rattle.isle_syntax.specs.Trees.PatternShape.{pattern_of}
+use Rattle.isle_ast.specs.declared.ast.BoxedPattern.TheDeep.{size-Pattern}
+use Rattle.isle_ast.specs.Trees.PatternShape.{pattern_of}
 use Rattle.isle_layout.specs.SExprTree.{sexpr_atom}
 use Rattle.isle_layout.specs.Spellings.{bound_sexpr, pattern_sexpr}
 use Rattle.isle_layout.proofs.to_sexpr.patterns.+spell_pattern.Given as goal

@@ -1,8 +1,9 @@
 use Rattle.std.proofs.Common.{◌<◌, length, ap, sym, subst, ◌∙◌, arith}
 use Rattle.std.proofs.Output.{has_written_of_eq}
-use Rattle.isle_syntax.specs.declared.error.Error.{Error}
-use Rattle.isle_syntax.specs.declared.error.Error.TheVariants.{OverlapError}
-use Rattle.isle_syntax.specs.Errors.{spans_of, error_text}
+use Rattle.isle_ast.specs.declared.error.Error.{Error}
+use Rattle.isle_ast.specs.declared.error.Error.TheVariants.{OverlapError}
+use Rattle.isle_ast.specs.Errors.{spans_of}
+use Rattle.isle_syntax.specs.Errors.{error_text}
 use Rattle.isle_syntax.proofs.Positions.ErrorTexts.{overlap_text, masked_have_places}
 use Rattle.isle_syntax.proofs.error.print.write_error.Goals as goal
 

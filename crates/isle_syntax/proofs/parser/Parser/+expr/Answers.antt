@@ -4,8 +4,8 @@ use Rattle.std.proofs.lemmas.Result.{err_from_is_err_and}
 use Rattle.isle_syntax.specs.declared.kind.Kind.TheVariants.{Open}
 use Rattle.isle_syntax.specs.Tokens.Names.{is_ident}
 use Rattle.isle_syntax.specs.Inside.Reading.Bindings.{binding_of}
-use Rattle.isle_syntax.specs.Trees.ExprShape.{expr_of}
-use Rattle.isle_syntax.specs.Trees.ExprTree.{expr_let, expr_prim}
+use Rattle.isle_ast.specs.Trees.ExprShape.{expr_of}
+use Rattle.isle_ast.specs.Trees.ExprTree.{expr_let, expr_prim}
 use Rattle.isle_syntax.specs.Inside.Reading.Parsing.{bounds}
 use Rattle.isle_syntax.specs.Inside.Reading.Readers.{after_close, opened_within, read_map, done, closed, seq, symbol_of, rest_of}
 use Rattle.isle_syntax.specs.Inside.Reading.TreeReading.{inner_expr, expr, expr_inner, expr_list, let_binding, let_list}

@@ -1,6 +1,6 @@
 use Rattle.std.proofs.Common.{◌≡◌, map, ◌+◌, ◌*◌, length}
 use Rattle.isle_syntax.specs.Inside.Reading.Bindings.{binding_of}
-use Rattle.isle_syntax.specs.Trees.ExprShape.{expr_of}
+use Rattle.isle_ast.specs.Trees.ExprShape.{expr_of}
 use Rattle.isle_syntax.specs.Inside.Reading.Parsing.{bounds}
 use Rattle.isle_syntax.specs.Inside.Reading.Readers.{after_close, rest_of}
 use Rattle.isle_syntax.specs.Inside.Reading.TreeReading.{expr, let_binding}

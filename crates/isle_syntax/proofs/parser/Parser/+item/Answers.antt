@@ -2,8 +2,8 @@ use Rattle.std.proofs.Common.{[], ◌∷◌, ◌-◌, map, length, refl, sym, ap
 use Rattle.std.proofs.lemmas.List.{map-append}
 use Rattle.std.proofs.lemmas.Result.{err_from_is_err_and}
 use Rattle.isle_syntax.specs.declared.kind.Kind.TheVariants.{Open, At, Int, Close, End}
-use Rattle.isle_syntax.specs.Trees.ItemShape.{item_of}
-use Rattle.isle_syntax.specs.Trees.ItemTree.{item_list, item_at, item_list_of}
+use Rattle.isle_ast.specs.Trees.ItemShape.{item_of}
+use Rattle.isle_ast.specs.Trees.ItemTree.{item_list, item_at, item_list_of}
 use Rattle.isle_syntax.specs.Inside.Reading.Parsing.{bounds}
 use Rattle.isle_syntax.specs.Inside.Reading.Readers.{after_close, at_pos, integer, opened_within, read_map, done, rest_of}
 use Rattle.isle_syntax.specs.Inside.Reading.TreeReading.{item, item_list_reader, literal_item}

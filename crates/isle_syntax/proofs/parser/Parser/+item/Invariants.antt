@@ -1,5 +1,5 @@
 use Rattle.std.proofs.Common.{◌≡◌, map, ◌+◌, ◌*◌, length}
-use Rattle.isle_syntax.specs.Trees.ItemShape.{item_of}
+use Rattle.isle_ast.specs.Trees.ItemShape.{item_of}
 use Rattle.isle_syntax.specs.Inside.Reading.Parsing.{bounds}
 use Rattle.isle_syntax.specs.Inside.Reading.Readers.{after_close, rest_of}
 use Rattle.isle_syntax.specs.Inside.Reading.TreeReading.{item}

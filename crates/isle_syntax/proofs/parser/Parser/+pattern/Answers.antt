@@ -5,9 +5,9 @@ use Rattle.std.proofs.lemmas.Result.{err_from_is_err_and}
 use Rattle.isle_syntax.specs.declared.kind.Kind.TheVariants.{End, Open, Close, At, Int, True, False, Const, Wildcard, Other}
 use Rattle.isle_syntax.specs.Tokens.Names.{is_word}
 use Rattle.isle_syntax.specs.Tokens.RemainingTokens.{RemainingTokens}
-use Rattle.isle_syntax.specs.Inside.Trees.Chain.{bound}
-use Rattle.isle_syntax.specs.Trees.PatternShape.{pattern_of}
-use Rattle.isle_syntax.specs.Trees.PatternTree.{pattern_and, pattern_term, pattern_prim}
+use Rattle.isle_ast.specs.Trees.Chain.{bound}
+use Rattle.isle_ast.specs.Trees.PatternShape.{pattern_of}
+use Rattle.isle_ast.specs.Trees.PatternTree.{pattern_and, pattern_term, pattern_prim}
 use Rattle.isle_syntax.specs.Inside.Reading.KindReading.{pattern_on}
 use Rattle.isle_syntax.specs.Inside.Reading.Parsing.{bounds}
 use Rattle.isle_syntax.specs.Inside.Reading.Readers.{after_close, opened_within, read_map, done, symbol_of, rest_of}

@@ -1,8 +1,8 @@
 use Rattle.std.proofs.Common.{◌≡◌, ◌≤◌, map, ◌+◌, ◌*◌, length}
-use Rattle.isle_syntax.specs.Trees.PatternShape.{pattern_of}
+use Rattle.isle_ast.specs.Trees.PatternShape.{pattern_of}
 use Rattle.isle_syntax.specs.Inside.Reading.Parsing.{bounds}
 use Rattle.isle_syntax.specs.Inside.Reading.Readers.{after_close, rest_of, read_map}
-use Rattle.isle_syntax.specs.Inside.Trees.Chain.{bound}
+use Rattle.isle_ast.specs.Trees.Chain.{bound}
 use Rattle.isle_syntax.specs.Inside.Reading.TreeReading.{pattern}
 use Rattle.isle_syntax.proofs.Reading.Loops.{Turns}
 use Rattle.isle_syntax.proofs.parser.Parser.+pattern.Given as goal

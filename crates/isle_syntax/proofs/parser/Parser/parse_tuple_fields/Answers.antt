@@ -1,4 +1,4 @@
-use Rattle.isle_syntax.specs.declared.ast.Fields.TheVariants.{Tuple as tuple_fields}
+use Rattle.isle_ast.specs.declared.ast.Fields.TheVariants.{Tuple as tuple_fields}
 use Rattle.std.proofs.Common.{rules, [], ◌∷◌, ◌++◌, refl, sym, ap, ◌∙◌}
 use Rattle.std.proofs.lemmas.Result.{err_from_is_err_and}
 use Rattle.isle_syntax.specs.Inside.Reading.Parsing.{bounds}

@@ -1,5 +1,5 @@
 use Rattle.std.proofs.Common.{◌≡◌, List, length}
-use Rattle.isle_syntax.specs.declared.ast.Ident.{Ident}
+use Rattle.isle_ast.specs.declared.ast.Ident.{Ident}
 use Rattle.isle_syntax.specs.Inside.Reading.Parsing.{bounds}
 use Rattle.isle_syntax.specs.Inside.Reading.Readers.{after_close, rest_of}
 use Rattle.isle_syntax.specs.Grammar.DefGrammar.{numbered}

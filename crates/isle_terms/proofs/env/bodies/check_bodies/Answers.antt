@@ -2,7 +2,7 @@ use Rattle.std.proofs.Common.{◌≡◌, List, take, refl, subst, arith, Bor}
 use Rattle.std.specs.Prelude.{All}
 use Rattle.std.proofs.lemmas.List.{take_all}
 use Rattle.std.proofs.lemmas.List.Elements.{All-nil}
-use Rattle.isle_syntax.specs.declared.ast.Extractor.{Extractor as ExtractorTree}
+use Rattle.isle_ast.specs.declared.ast.Extractor.{Extractor as ExtractorTree}
 use Rattle.isle_terms.specs.Inside.Collecting.ExtractorChecks.{Adds}
 use Rattle.isle_terms.proofs.Collections.AddedErrors.{SomeBreaks, adds_none, adds_more}
 use Rattle.isle_terms.proofs.Collections.ExtractorBodies.{BreaksIn, KeepsIn, bodies_checked}

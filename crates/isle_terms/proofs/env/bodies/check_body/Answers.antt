@@ -2,9 +2,9 @@ use Rattle.std.proofs.Common.{◌≡◌, ◌∙◌, ℕ, List, true, take, refl,
 use Rattle.std.specs.Prelude.{All}
 use Rattle.std.proofs.lemmas.List.{take_all}
 use Rattle.std.proofs.lemmas.List.Elements.{All-nil}
-use Rattle.isle_syntax.specs.declared.ast.Ident.{Ident}
-use Rattle.isle_syntax.specs.Trees.PatternShape.{pattern_of}
-use Rattle.isle_terms.specs.Definitions.{is_among}
+use Rattle.isle_ast.specs.declared.ast.Ident.{Ident}
+use Rattle.isle_ast.specs.Trees.PatternShape.{pattern_of}
+use Rattle.isle_rules.specs.Definitions.{is_among}
 use Rattle.isle_terms.specs.Inside.Collecting.ExtractorChecks.{Adds, IsUnknownAt}
 use Rattle.isle_terms.proofs.Collections.AddedErrors.{SomeBreaks, adds_none, adds_more}
 use Rattle.isle_terms.proofs.Collections.ExtractorBodies.{body_checked}

@@ -1,9 +1,9 @@
 use Rattle.std.proofs.Common.{◌≡◌, ℕ, List, true, take}
 use Rattle.std.specs.Prelude.{All}
-use Rattle.isle_syntax.specs.declared.ast.Ident.{Ident}
-use Rattle.isle_syntax.specs.Trees.PatternShape.{pattern_of}
+use Rattle.isle_ast.specs.declared.ast.Ident.{Ident}
+use Rattle.isle_ast.specs.Trees.PatternShape.{pattern_of}
 use Rattle.isle_terms.specs.Inside.Collecting.NameTables.{IsTableOf}
-use Rattle.isle_terms.specs.Definitions.{is_among}
+use Rattle.isle_rules.specs.Definitions.{is_among}
 use Rattle.isle_terms.specs.Inside.Collecting.ExtractorChecks.{Adds, IsUnknownAt, named_in}
 use Rattle.isle_terms.proofs.Collections.AddedErrors.{SomeBreaks}
 use Rattle.isle_terms.proofs.env.bodies.check_body.Given as goal

@@ -1,11 +1,11 @@
 use Rattle.std.proofs.Common.{◌≡◌, ◌∙◌, ap, sym, refl, ℕ, List, true, is_some}
-use Rattle.isle_syntax.specs.declared.error.Error.TheVariants.{TypeError}
-use Rattle.isle_syntax.specs.Errors.{span_at}
+use Rattle.isle_ast.specs.declared.error.Error.TheVariants.{TypeError}
+use Rattle.isle_ast.specs.Errors.{span_at}
 use Rattle.isle_types.specs.Names.{position_of}
-use Rattle.isle_terms.specs.Definitions.{is_among}
+use Rattle.isle_rules.specs.Definitions.{is_among}
 use Rattle.isle_terms.specs.Inside.Collecting.ExtractorChecks.{IsUnknownAt}
 use Rattle.isle_terms.proofs.Collections.AddedErrors.{adds_none, adds_one}
-use Rattle.isle_terms.proofs.Collections.NamedPlaces.{found_among}
+use Rattle.isle_rules.proofs.AmongNames.{found_among}
 use Rattle.isle_terms.proofs.env.bodies.check_term.Goals as goal
 
 pub returns-then-has : goal.returns-then-has

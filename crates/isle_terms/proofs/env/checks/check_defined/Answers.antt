@@ -1,5 +1,5 @@
 use Rattle.std.proofs.Common.{map, sym, ap, ◌∙◌, refl}
-use Rattle.isle_syntax.specs.declared.ast.Decl.{Decl as DeclTree}
+use Rattle.isle_ast.specs.declared.ast.Decl.{Decl as DeclTree}
 use Rattle.isle_terms.specs.Inside.Collecting.DefinitionChecks.{is_unused}
 use Rattle.isle_terms.proofs.Collections.Checking.{item_at, each_ill, each_well, each_done, past_mapped}
 use Rattle.isle_terms.proofs.env.checks.check_defined.Goals as goal

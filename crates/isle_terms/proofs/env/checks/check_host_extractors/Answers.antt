@@ -1,5 +1,5 @@
 use Rattle.std.proofs.Common.{map, sym, ap, ◌∙◌, refl}
-use Rattle.isle_terms.specs.Definitions.{ExternalExtractor}
+use Rattle.isle_rules.specs.Definitions.{ExternalExtractor}
 use Rattle.isle_terms.specs.Inside.Collecting.DefinitionLists.{host_extractor_shown}
 use Rattle.isle_terms.specs.Inside.Collecting.DefinitionChecks.{is_ill_name}
 use Rattle.isle_terms.proofs.Collections.Checking.{item_at, each_ill, each_well, each_done, past_mapped}

@@ -1,6 +1,6 @@
 use Rattle.std.proofs.Common.{◌≡◌, ℕ, List, map, take, false}
 use Rattle.std.specs.List.{All}
-use Rattle.isle_terms.specs.Definitions.{ExternalExtractor}
+use Rattle.isle_rules.specs.Definitions.{ExternalExtractor}
 use Rattle.isle_terms.specs.Inside.Collecting.DefinitionLists.{host_extractor_shown}
 use Rattle.isle_terms.specs.Inside.Collecting.Checks.{Checks, IsIllAt}
 use Rattle.isle_terms.specs.Inside.Collecting.NameTables.{IsTableOf}

@@ -1,6 +1,6 @@
 use Rattle.std.proofs.Common.{◌≡◌, map, take, false}
 use Rattle.std.specs.List.{All}
-use Rattle.isle_syntax.specs.declared.ast.Decl.{Decl as DeclTree}
+use Rattle.isle_ast.specs.declared.ast.Decl.{Decl as DeclTree}
 use Rattle.isle_terms.specs.Inside.Collecting.Checks.{Checks, IsIllAt}
 use Rattle.isle_terms.specs.Inside.Collecting.DefinitionChecks.{is_ill_marked}
 use Rattle.isle_terms.proofs.env.checks.check_marks.Given as goal

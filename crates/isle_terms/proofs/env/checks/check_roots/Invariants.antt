@@ -1,6 +1,6 @@
 use Rattle.std.proofs.Common.{◌≡◌, ℕ, List, map, take, false}
 use Rattle.std.specs.List.{All}
-use Rattle.isle_syntax.specs.declared.ast.Rule.{Rule as RuleTree}
+use Rattle.isle_ast.specs.declared.ast.Rule.{Rule as RuleTree}
 use Rattle.isle_terms.specs.Inside.Collecting.Checks.{Checks, IsIllAt}
 use Rattle.isle_terms.specs.Inside.Collecting.NameTables.{IsTableOf}
 use Rattle.isle_terms.specs.Inside.Collecting.DefinitionChecks.{is_ill_root}

@@ -1,9 +1,9 @@
 use Rattle.std.proofs.Common.{◌≤◌, ◌+◌, ◌++◌, ◌∷◌, [], map, take, length, sym, ap, subst, ◌∙◌, arith}
 use Rattle.std.proofs.lemmas.List.{length-append}
-use Rattle.isle_syntax.specs.declared.ast.Rule.{Rule as RuleTree}
-use Rattle.isle_syntax.specs.Trees.PatternShape.{pattern_of}
+use Rattle.isle_ast.specs.declared.ast.Rule.{Rule as RuleTree}
+use Rattle.isle_ast.specs.Trees.PatternShape.{pattern_of}
 use Rattle.isle_types.proofs.ConstantTurns.{where_none}
-use Rattle.isle_terms.specs.Definitions.{roots_of, root_name}
+use Rattle.isle_rules.specs.Definitions.{roots_of, root_name}
 use Rattle.isle_terms.specs.Inside.Collecting.NameTables.{IsTableOf}
 use Rattle.isle_terms.proofs.Collections.Checking.{item_at}
 use Rattle.isle_terms.proofs.Collections.Listing.{kind_more, kind_same}

@@ -1,5 +1,5 @@
 use Rattle.std.proofs.Common.{◌≡◌, ◌≤◌, map, take, length}
-use Rattle.isle_terms.specs.Definitions.{roots_of}
+use Rattle.isle_rules.specs.Definitions.{roots_of}
 use Rattle.isle_terms.specs.Inside.Collecting.NameTables.{IsTableOf}
 use Rattle.isle_terms.proofs.env.checks.name_roots.Given as goal
 

@@ -1,6 +1,6 @@
 use Rattle.std.proofs.Common.{length, subst, sym, ap, ◌∙◌, ◌≤◌, slice_get}
 use Rattle.isle_types.specs.StableMaps.{value_at}
-use Rattle.isle_terms.specs.Shown.TermTables.{same_types}
+use Rattle.isle_rules.specs.Shown.TermTables.{same_types}
 use Rattle.isle_terms.proofs.Collections.Checking.{item_at, past_mapped}
 use Rattle.isle_terms.proofs.Collections.ReadConverters.{read_none, read_ill, read_more, read_all}
 use Rattle.isle_terms.proofs.env.converters.collect_converters.Goals as goal

@@ -1,9 +1,9 @@
 use Rattle.std.proofs.Common.{◌≡◌, map, List}
-use Rattle.isle_syntax.specs.declared.ast.Def.{Def}
+use Rattle.isle_ast.specs.declared.ast.Def.{Def}
 use Rattle.isle_types.specs.Environment.{Environment}
 use Rattle.isle_types.specs.TypeEnvs.{Shows}
-use Rattle.isle_terms.specs.Signatures.{Signature}
-use Rattle.isle_terms.specs.Definitions.{converters_in, names_of_terms}
+use Rattle.isle_rules.specs.Signatures.{Signature}
+use Rattle.isle_rules.specs.Definitions.{converters_in, names_of_terms}
 use Rattle.isle_terms.specs.Inside.Collecting.NameTables.{IsTableOf}
 use Rattle.isle_terms.proofs.Collections.ReadConverters.{ReadUpTo}
 use Rattle.isle_terms.proofs.env.converters.collect_converters.Given as goal

@@ -2,7 +2,8 @@ use Rattle.std.proofs.Common.{◌∷◌, inl, set, sym, ◌∙◌, ap, subst, re
 use Rattle.isle_terms.specs.declared.env.cycles.Mark.TheVariants.{Unseen, Open}
 use Rattle.isle_terms.specs.declared.env.cycles.Step.{Step}
 use Rattle.isle_terms.specs.Inside.Collecting.Graphs.{IsSearching}
-use Rattle.isle_terms.proofs.Collections.Cycles.{search_begin, goes_open, set_here}
+use Rattle.isle_terms.proofs.Collections.Cycles.{search_begin, goes_open}
+use Rattle.isle_rules.proofs.SetLists.{set_here}
 use Rattle.isle_terms.proofs.env.cycles.explore.Goals as goal
 
 pub loop-last-init : goal.loop-last-init

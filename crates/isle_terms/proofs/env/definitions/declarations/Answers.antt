@@ -1,5 +1,5 @@
 use Rattle.std.proofs.Common.{sym, ap, ◌∙◌}
-use Rattle.isle_terms.specs.Definitions.{as_declaration}
+use Rattle.isle_rules.specs.Definitions.{as_declaration}
 use Rattle.isle_terms.proofs.Collections.Listing.{listed_more, listed_same, not_copied}
 use Rattle.isle_terms.proofs.env.definitions.declarations.Goals as goal
 use Rattle.isle_terms.proofs.env.definitions.declarations.Goals.{in-Some+in_ok-push, in_default}

@@ -1,5 +1,5 @@
 use Rattle.std.proofs.Common.{◌≡◌, map, take}
-use Rattle.isle_terms.specs.Definitions.{extractors_in}
+use Rattle.isle_rules.specs.Definitions.{extractors_in}
 use Rattle.isle_terms.proofs.env.definitions.extractors.Given as goal
 
 abbrev pub invariant-loop-def : goal.invariant-loop-def

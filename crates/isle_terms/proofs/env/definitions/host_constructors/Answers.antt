@@ -2,7 +2,7 @@ use Rattle.std.proofs.Common.{sym, ap, ◌∙◌}
 use Rattle.isle_terms.specs.Inside.Collecting.DefinitionLists.{constructor_in, host_constructor_shown}
 use Rattle.std.specs.List.{filter_map}
 use Rattle.std.proofs.lemmas.List.{take_all}
-use Rattle.isle_terms.specs.Definitions.{as_external, as_external_constructor}
+use Rattle.isle_rules.specs.Definitions.{as_external, as_external_constructor}
 use Rattle.isle_terms.proofs.Collections.Listing.{listed_more, listed_same, not_mapped, filter_map-twice}
 use Rattle.isle_terms.proofs.env.definitions.host_constructors.Goals as goal
 use Rattle.isle_terms.proofs.env.definitions.host_constructors.Goals.{in-Some+in_ok-push, in_default}

@@ -1,10 +1,10 @@
 use Rattle.std.proofs.Common.{◌≡◌, ◌∙◌, ap, subst, List, map, Bor}
 use Rattle.std.specs.Prelude.{IfOk, OnOk}
-use Rattle.isle_syntax.specs.declared.ast.Decl.{Decl as DeclTree}
-use Rattle.isle_syntax.specs.declared.ast.Def.{Def}
-use Rattle.isle_syntax.specs.declared.lexer.Pos.{Pos}
+use Rattle.isle_ast.specs.declared.ast.Decl.{Decl as DeclTree}
+use Rattle.isle_ast.specs.declared.ast.Def.{Def}
+use Rattle.isle_ast.specs.declared.pos.Pos.{Pos}
 use Rattle.isle_types.specs.Names.{AreDistinct}
-use Rattle.isle_terms.specs.Definitions.{declarations}
+use Rattle.isle_rules.specs.Definitions.{declarations}
 use Rattle.isle_terms.specs.TermFaults.{names_of, IsTaken, term_twice}
 use Rattle.isle_terms.specs.TypingFaults.{of_declarations}
 use Rattle.isle_terms.specs.Inside.Collecting.Checks.{Checks}
@@ -26,7 +26,8 @@ named c defs are =
 
 pub returns-clause-table : goal.returns-clause-table
 returns-clause-table c = λ defs are.
-    subst (λ names. IfOk c.name_all.result (IsTableOf names)) (ap names_of (named c defs are.decls) ∙ declarations_named defs) c.name_all.ensures.table
+    subst (λ names. IfOk c.name_all.result (IsTableOf names)) (ap names_of (named c defs are.decls) ∙ declarations_named defs)
+    c.name_all.ensures.table
 
 pub returns-clause-checked : goal.returns-clause-checked
 returns-clause-checked c = λ types expands levels defs are.

@@ -1,8 +1,8 @@
 use Rattle.std.proofs.Common.{◌≡◌, ◌∙◌, ◌++◌, ap, subst, List, map, Bor}
 use Rattle.std.specs.Prelude.{IfOk, OnOk}
-use Rattle.isle_syntax.specs.declared.ast.Extractor.{Extractor as ExtractorTree}
-use Rattle.isle_syntax.specs.declared.ast.Def.{Def}
-use Rattle.isle_syntax.specs.declared.lexer.Pos.{Pos}
+use Rattle.isle_ast.specs.declared.ast.Extractor.{Extractor as ExtractorTree}
+use Rattle.isle_ast.specs.declared.ast.Def.{Def}
+use Rattle.isle_ast.specs.declared.pos.Pos.{Pos}
 use Rattle.isle_types.specs.Names.{AreDistinct}
 use Rattle.isle_terms.specs.TermFaults.{names_of, IsTaken, named_extractors}
 use Rattle.isle_terms.specs.Inside.Collecting.Checks.{Checks}

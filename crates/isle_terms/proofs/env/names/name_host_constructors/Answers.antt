@@ -1,9 +1,9 @@
 use Rattle.std.proofs.Common.{◌≡◌, ◌∙◌, ap, subst, List, map}
 use Rattle.std.specs.Prelude.{IfOk, OnOk}
-use Rattle.isle_syntax.specs.declared.ast.Def.{Def}
-use Rattle.isle_syntax.specs.declared.lexer.Pos.{Pos}
+use Rattle.isle_ast.specs.declared.ast.Def.{Def}
+use Rattle.isle_ast.specs.declared.pos.Pos.{Pos}
 use Rattle.isle_types.specs.Names.{AreDistinct}
-use Rattle.isle_terms.specs.Definitions.{external_constructors}
+use Rattle.isle_rules.specs.Definitions.{external_constructors}
 use Rattle.isle_terms.specs.TermFaults.{names_of, IsTaken}
 use Rattle.isle_terms.specs.TypingFaults.{of_constructors}
 use Rattle.isle_terms.specs.Inside.Collecting.Checks.{Checks}

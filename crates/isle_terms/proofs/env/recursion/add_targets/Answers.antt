@@ -1,7 +1,7 @@
 use Rattle.std.proofs.Common.{◌≡◌, ◌∙◌, List, take, subst, arith}
 use Rattle.std.proofs.lemmas.List.{take_all}
-use Rattle.isle_syntax.specs.declared.ast.Ident.{Ident}
-use Rattle.isle_syntax.specs.Trees.PatternShape.{pattern_of}
+use Rattle.isle_ast.specs.declared.ast.Ident.{Ident}
+use Rattle.isle_ast.specs.Trees.PatternShape.{pattern_of}
 use Rattle.isle_terms.specs.Inside.Collecting.ExtractorGraphs.{AddsEdges, JoinsTerm}
 use Rattle.isle_terms.proofs.Collections.AddedEdges.{SomeJoins, edges_none, edges_more, none_in}
 use Rattle.isle_terms.proofs.Collections.ExtractorGraphs.{targets_added}

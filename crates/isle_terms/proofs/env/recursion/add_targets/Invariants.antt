@@ -1,5 +1,5 @@
 use Rattle.std.proofs.Common.{◌≡◌, take}
-use Rattle.isle_syntax.specs.Trees.PatternShape.{pattern_of}
+use Rattle.isle_ast.specs.Trees.PatternShape.{pattern_of}
 use Rattle.isle_terms.specs.Inside.Collecting.ExtractorChecks.{named_in}
 use Rattle.isle_terms.specs.Inside.Collecting.ExtractorGraphs.{AddsEdges, JoinsTerm}
 use Rattle.isle_terms.proofs.Collections.AddedEdges.{SomeJoins}

@@ -1,6 +1,6 @@
 use Rattle.std.proofs.Common.{◌≡◌, List, [], length, take, replicate, sym, refl, subst, arith, Bor}
 use Rattle.std.proofs.lemmas.List.{take_all}
-use Rattle.isle_syntax.specs.declared.ast.Extractor.{Extractor as ExtractorTree}
+use Rattle.isle_ast.specs.declared.ast.Extractor.{Extractor as ExtractorTree}
 use Rattle.isle_terms.specs.Inside.Collecting.ExtractorGraphs.{AddsEdges}
 use Rattle.isle_terms.proofs.Collections.AddedEdges.{SomeJoins, edges_none, edges_more, none_in}
 use Rattle.isle_terms.proofs.Collections.ExtractorGraphs.{JoinsLent, place_within, graph_made}

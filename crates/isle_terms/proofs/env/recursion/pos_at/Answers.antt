@@ -1,6 +1,6 @@
 use Rattle.std.proofs.Common.{◌∙◌, sym, ap}
 use Rattle.std.proofs.lemmas.Option.{same_Some}
-use Rattle.isle_syntax.specs.declared.ast.Extractor.{Extractor as ExtractorTree}
+use Rattle.isle_ast.specs.declared.ast.Extractor.{Extractor as ExtractorTree}
 use Rattle.isle_terms.proofs.Collections.ExtractorGraphs.{lent_at}
 use Rattle.isle_terms.proofs.env.recursion.pos_at.Goals as goal
 

@@ -17,7 +17,8 @@ pub returns : goal.returns
 returns c =
     let source = c.into_iter-error-iterator.ensures.into_iter_gives in
     let road = YieldsList-from_vec {s = c.into_iter-error-iterator.result} c.args.errors.items source.0 (source.1 ∙ c.args.errors.ok.0) in
-    let ended = YieldsList-end road c.loop-error.yielded c.loop-error.error-iterator c.loop-error.yielded_by c.next.result c.next.new.self c.in-None.is
+    let ended = YieldsList-end road c.loop-error.yielded c.loop-error.error-iterator c.loop-error.yielded_by
+    c.next.result c.next.new.self c.in-None.is
     c.next.ensures.steps in
     let all : c.loop-error.yielded ≡ c.args.errors.items = sym (map-id c.loop-error.yielded) ∙ ended.0 in
     subst (λ errors. AreToldOf errors c.loop-error.told.items) all c.loop-error.invariant.so_far

@@ -1,8 +1,8 @@
 use Rattle.std.proofs.Common.{not, is_some, map, take, sym, ap, subst, ◌∙◌, ◌++◌, ◌∷◌, []}
-use Rattle.isle_syntax.specs.declared.ast.Rule.{Rule as RuleTree}
-use Rattle.isle_syntax.specs.Trees.PatternShape.{pattern_of}
+use Rattle.isle_ast.specs.declared.ast.Rule.{Rule as RuleTree}
+use Rattle.isle_ast.specs.Trees.PatternShape.{pattern_of}
 use Rattle.isle_types.proofs.ConstantTurns.{where_none}
-use Rattle.isle_terms.specs.Definitions.{roots_of, root_name}
+use Rattle.isle_rules.specs.Definitions.{roots_of, root_name}
 use Rattle.isle_terms.specs.Inside.Collecting.RuleNames.{MarksLone}
 use Rattle.isle_terms.proofs.Collections.Checking.{item_at}
 use Rattle.isle_terms.proofs.Collections.Listing.{kind_more, kind_same}

@@ -1,5 +1,5 @@
 use Rattle.std.proofs.Common.{map, take}
-use Rattle.isle_terms.specs.Definitions.{roots_of}
+use Rattle.isle_rules.specs.Definitions.{roots_of}
 use Rattle.isle_terms.specs.Inside.Collecting.RuleNames.{MarksLone}
 use Rattle.isle_terms.proofs.env.rule_names.lone_roots.Given as goal
 

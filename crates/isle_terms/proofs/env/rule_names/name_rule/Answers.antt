@@ -1,6 +1,6 @@
 use Rattle.std.proofs.Common.{None, Some, ap, sym, subst}
 use Rattle.isle_terms.specs.Inside.Collecting.NamedItems.{name_shown}
-use Rattle.isle_terms.specs.Shown.RulesShown.{IsShownName}
+use Rattle.isle_rules.specs.Shown.RulesShown.{IsShownName}
 use Rattle.isle_terms.proofs.Showing.RulesShown.{rule_kept}
 use Rattle.isle_terms.proofs.Collections.RuleNames.{shown_named, number_put, number_unnamed, no_name}
 use Rattle.isle_terms.proofs.env.rule_names.name_rule.Goals as goal

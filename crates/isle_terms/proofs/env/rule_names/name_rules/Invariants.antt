@@ -1,11 +1,11 @@
 use Rattle.std.proofs.Common.{◌≡◌, ◌≤◌, List, map, length}
 use Rattle.std.specs.List.{AllZip}
 use Rattle.isle_types.specs.TypeEnvs.{HasMoreNames, CountUp}
-use Rattle.isle_terms.specs.declared.rules.Rule.{Rule}
-use Rattle.isle_terms.specs.TypedRules.{TypedRule}
+use Rattle.isle_rules.specs.declared.rules.Rule.{Rule}
+use Rattle.isle_rules.specs.TypedRules.{TypedRule}
 use Rattle.isle_terms.specs.Inside.Collecting.NamedItems.{name_shown}
 use Rattle.isle_terms.specs.Inside.Collecting.RuleNames.{with_names}
-use Rattle.isle_terms.specs.Shown.RulesShown.{IsShownRule}
+use Rattle.isle_rules.specs.Shown.RulesShown.{IsShownRule}
 use Rattle.isle_terms.proofs.Collections.RuleNames.{AreNumbered}
 use Rattle.isle_terms.proofs.env.rule_names.name_rules.Given as goal
 

@@ -1,5 +1,5 @@
 use Rattle.std.proofs.Common.{subst, ◌≡◌, Some, slice_get}
-use Rattle.isle_terms.specs.Definitions.{roots_of, rules_in}
+use Rattle.isle_rules.specs.Definitions.{roots_of, rules_in}
 use Rattle.isle_terms.specs.Inside.Collecting.RuleNames.{MarksLone}
 use Rattle.isle_terms.proofs.Collections.Checking.{item_at}
 use Rattle.isle_terms.proofs.Collections.RuleNames.{names_more}

@@ -1,6 +1,6 @@
 use Rattle.std.proofs.Common.{◌≡◌, List, map, take}
-use Rattle.isle_syntax.specs.declared.ast.Def.{Def}
-use Rattle.isle_terms.specs.Definitions.{rules_in, name_of}
+use Rattle.isle_ast.specs.declared.ast.Def.{Def}
+use Rattle.isle_rules.specs.Definitions.{rules_in, name_of}
 use Rattle.isle_terms.specs.Inside.Collecting.NamedItems.{name_shown}
 use Rattle.isle_terms.proofs.env.rule_names.names_of_rules.Given as goal
 

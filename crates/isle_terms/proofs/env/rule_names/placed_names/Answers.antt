@@ -1,6 +1,6 @@
 use Rattle.std.proofs.Common.{◌≡◌, Some, length, ap, subst, slice_get, arith, ◌∙◌, refl}
 use Rattle.std.proofs.lemmas.Option.{slice_get_read}
-use Rattle.isle_terms.specs.Definitions.{rules_in}
+use Rattle.isle_rules.specs.Definitions.{rules_in}
 use Rattle.isle_terms.specs.Inside.Collecting.NamedItems.{name_shown}
 use Rattle.isle_terms.proofs.Collections.Checking.{item_at}
 use Rattle.isle_terms.proofs.Collections.RuleNames.{name_there, no_name, same_count, placed_more, placed_same}

@@ -1,7 +1,7 @@
 use Rattle.std.proofs.Common.{◌≡◌, List, map, take}
 use Rattle.std.specs.List.{filter_map}
-use Rattle.isle_syntax.specs.declared.ast.Def.{Def}
-use Rattle.isle_terms.specs.Definitions.{rules_in, name_of}
+use Rattle.isle_ast.specs.declared.ast.Def.{Def}
+use Rattle.isle_rules.specs.Definitions.{rules_in, name_of}
 use Rattle.isle_terms.specs.Inside.Collecting.NamedItems.{name_shown, named_shown}
 use Rattle.isle_terms.proofs.Collections.RuleNames.{placed_name}
 use Rattle.isle_terms.proofs.env.rule_names.placed_names.Given as goal

@@ -1,8 +1,8 @@
 use Rattle.std.proofs.Common.{map, take}
 use Rattle.std.specs.List.{All}
 use Rattle.isle_types.specs.TypeEnvs.{HasMoreNames}
-use Rattle.isle_terms.specs.Signatures.{Declared}
-use Rattle.isle_terms.specs.Shown.ShownTerms.{ShowsDeclared}
+use Rattle.isle_rules.specs.Signatures.{Declared}
+use Rattle.isle_rules.specs.Shown.ShownTerms.{ShowsDeclared}
 use Rattle.isle_terms.specs.Inside.Shown.TermLimits.{HasKnownSymbols}
 use Rattle.isle_terms.specs.Inside.Collecting.Checks.{Checks}
 use Rattle.isle_terms.specs.Inside.Collecting.RuleChecks.{HasSomeRoot, IsIllAmong, AreTyped}

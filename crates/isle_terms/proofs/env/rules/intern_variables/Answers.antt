@@ -1,5 +1,5 @@
 use Rattle.std.proofs.Common.{refl, sym, ◌∙◌, length, zero-add}
-use Rattle.isle_terms.specs.declared.rules.BoundVar.{BoundVar}
+use Rattle.isle_rules.specs.declared.rules.BoundVar.{BoundVar}
 use Rattle.isle_types.proofs.Tables.{more_then}
 use Rattle.isle_types.proofs.FieldReadings.{count_more}
 use Rattle.isle_terms.proofs.Showing.RulesShown.{variable_more}

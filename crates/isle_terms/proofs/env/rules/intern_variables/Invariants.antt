@@ -1,9 +1,9 @@
 use Rattle.std.proofs.Common.{map}
 use Rattle.std.specs.List.{AllZip}
 use Rattle.isle_types.specs.TypeEnvs.{HasMoreNames, CountUp}
-use Rattle.isle_terms.specs.declared.rules.BoundVar.{BoundVar}
+use Rattle.isle_rules.specs.declared.rules.BoundVar.{BoundVar}
 use Rattle.isle_terms.specs.Inside.Readings.Scopes.{variable_shown}
-use Rattle.isle_terms.specs.Shown.RulesShown.{IsShownVariable}
+use Rattle.isle_rules.specs.Shown.RulesShown.{IsShownVariable}
 use Rattle.isle_terms.proofs.env.rules.intern_variables.Given as goal
 
 abbrev pub invariant-loop-variable : goal.invariant-loop-variable

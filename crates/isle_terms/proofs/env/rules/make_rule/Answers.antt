@@ -5,8 +5,8 @@ use Rattle.std.proofs.Common.{rules}
 use mir.Syntax.{w64}
 use mir.Val.{SFits}
 use Rattle.std.proofs.lemmas.Int.{to_z-of_z}
-use Rattle.isle_terms.specs.declared.rules.BoundVar.{BoundVar}
-use Rattle.isle_terms.specs.Shown.RulesShown.{IsShownVariable}
+use Rattle.isle_rules.specs.declared.rules.BoundVar.{BoundVar}
+use Rattle.isle_rules.specs.Shown.RulesShown.{IsShownVariable}
 use Rattle.isle_terms.proofs.Showing.RulesShown.{made_is_shown}
 use Rattle.isle_terms.proofs.env.rules.make_rule.Goals as goal
 

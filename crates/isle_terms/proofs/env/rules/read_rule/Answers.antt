@@ -1,12 +1,12 @@
 use Rattle.std.proofs.Common.{sym}
 use Rattle.std.proofs.lemmas.Result.{err_from_is_err_and}
 use Rattle.isle_terms.specs.Inside.Readings.Contexts.{known_in}
-use Rattle.isle_terms.specs.Shown.ShownTerms.{flags_shown, term_shown}
+use Rattle.isle_rules.specs.Shown.ShownTerms.{flags_shown, term_shown}
 use Rattle.isle_terms.specs.Inside.Readings.Outcomes.{only_if}
 use Rattle.isle_terms.specs.Inside.Readings.RuleOutcomes.{read_rule}
-use Rattle.isle_syntax.specs.Trees.PatternShape.{patterns_of}
+use Rattle.isle_ast.specs.Trees.PatternShape.{patterns_of}
 use Rattle.isle_terms.specs.Inside.Collecting.RuleRoots.{may_have_priority}
-use Rattle.isle_terms.specs.Shown.RulesShown.{parts_shown}
+use Rattle.isle_terms.specs.Inside.Shown.PartsShown.{parts_shown}
 use Rattle.isle_terms.specs.Inside.Shown.RootsShown.{root_shown}
 use Rattle.isle_terms.proofs.Collections.RuleRoots.{same_arity, arity_fails, whole_stands, whole_fails, root_fails}
 use Rattle.isle_terms.proofs.env.rules.read_rule.Goals as goal

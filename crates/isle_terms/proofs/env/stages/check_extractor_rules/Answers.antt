@@ -1,7 +1,7 @@
 use Rattle.std.proofs.Common.{◌∙◌, ap, subst, map, Bor}
-use Rattle.isle_syntax.specs.declared.ast.Decl.{Decl as DeclTree}
-use Rattle.isle_syntax.specs.declared.ast.Extractor.{Extractor as ExtractorTree}
-use Rattle.isle_terms.specs.Definitions.{ExternalExtractor, declared_names, extractors_in, names_of_terms}
+use Rattle.isle_ast.specs.declared.ast.Decl.{Decl as DeclTree}
+use Rattle.isle_ast.specs.declared.ast.Extractor.{Extractor as ExtractorTree}
+use Rattle.isle_rules.specs.Definitions.{ExternalExtractor, declared_names, extractors_in, names_of_terms}
 use Rattle.isle_terms.specs.Inside.Collecting.Checks.{Checks, ChecksEach}
 use Rattle.isle_terms.specs.Inside.Collecting.DefinitionChecks.{is_ill_extractor, is_ill_name}
 use Rattle.isle_terms.specs.Inside.Collecting.DefinitionLists.{host_extractor_shown}

@@ -1,7 +1,7 @@
 use Rattle.std.proofs.Common.{◌∙◌, ap, subst, map, Bor}
-use Rattle.isle_syntax.specs.declared.ast.Decl.{Decl as DeclTree}
-use Rattle.isle_syntax.specs.declared.ast.Converter.{Converter as ConverterTree}
-use Rattle.isle_terms.specs.Definitions.{roots_of, rules_in, external_constructor_names, extractor_names}
+use Rattle.isle_ast.specs.declared.ast.Decl.{Decl as DeclTree}
+use Rattle.isle_ast.specs.declared.ast.Converter.{Converter as ConverterTree}
+use Rattle.isle_rules.specs.Definitions.{roots_of, rules_in, external_constructor_names, extractor_names}
 use Rattle.isle_terms.specs.Inside.Collecting.Checks.{ChecksEach}
 use Rattle.isle_terms.specs.Inside.Collecting.DefinitionChecks.{is_unused}
 use Rattle.isle_terms.proofs.Collections.LaterRules.{later_rules_checked}

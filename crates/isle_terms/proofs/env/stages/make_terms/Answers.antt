@@ -1,8 +1,8 @@
 use Rattle.std.proofs.Common.{ℕ, Bool, List, []}
-use Rattle.isle_syntax.specs.declared.ast.Def.{Def}
+use Rattle.isle_ast.specs.declared.ast.Def.{Def}
 use Rattle.isle_types.specs.Environment.{Environment}
 use Rattle.isle_types.specs.TypeEnvs.{Shows}
-use Rattle.isle_terms.specs.Definitions.{declarations}
+use Rattle.isle_rules.specs.Definitions.{declarations}
 use Rattle.isle_terms.specs.TypingFaults.{BreaksTyping}
 use Rattle.isle_terms.specs.Inside.Collecting.Checks.{Checks}
 use Rattle.isle_terms.specs.Inside.Collecting.DeclaredTerms.{AreDeclaredTerms}

@@ -3,10 +3,10 @@ use Rattle.std.specs.List.{AllZip}
 use Rattle.std.specs.Option.{option_map}
 use Rattle.isle_types.specs.Names.{AreDistinct, position_of}
 use Rattle.isle_types.specs.TypeEnvs.{CountUp}
-use Rattle.isle_terms.specs.declared.terms.Term.{Term}
-use Rattle.isle_terms.specs.Signatures.{Signature}
-use Rattle.isle_terms.specs.Definitions.{names_of_terms}
-use Rattle.isle_terms.specs.Shown.ShownTerms.{term_at}
+use Rattle.isle_rules.specs.declared.terms.Term.{Term}
+use Rattle.isle_rules.specs.Signatures.{Signature}
+use Rattle.isle_rules.specs.Definitions.{names_of_terms}
+use Rattle.isle_rules.specs.Shown.ShownTerms.{term_at}
 use Rattle.isle_terms.specs.Inside.Collecting.DeclaredTerms.{IsShownTerm, number_named}
 use Rattle.isle_terms.specs.Inside.Collecting.TermSymbols.{HasSymbolsOf}
 use Rattle.isle_terms.proofs.env.term_numbers.numbers.Given as goal

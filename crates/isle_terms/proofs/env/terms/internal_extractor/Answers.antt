@@ -1,6 +1,6 @@
 use Rattle.std.proofs.Common.{length, ap, arith, rules, Fits, w64}
-use Rattle.isle_syntax.specs.Trees.PatternShape.{pattern_of}
-use Rattle.isle_terms.specs.Readings.Needs.{needed}
+use Rattle.isle_ast.specs.Trees.PatternShape.{pattern_of}
+use Rattle.isle_rules.specs.Readings.Needs.{needed}
 use Rattle.isle_terms.proofs.Steps.Frames.{template_needs}
 use Rattle.isle_terms.proofs.env.terms.internal_extractor.Goals as goal
 

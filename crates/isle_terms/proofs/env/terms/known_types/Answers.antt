@@ -5,8 +5,8 @@ use Rattle.std.proofs.lemmas.List.{map-append}
 use Rattle.std.proofs.lemmas.Slice.Zip.{all_zipped_more}
 use Rattle.isle_types.specs.declared.ids.TypeId.{TypeId}
 use Rattle.isle_types.proofs.DefinitionTurns.{take_here}
-use Rattle.isle_terms.specs.Definitions.{IsTypeNumber}
-use Rattle.isle_terms.specs.Shown.ShownTerms.{numbers_of}
+use Rattle.isle_rules.specs.Definitions.{IsTypeNumber}
+use Rattle.isle_rules.specs.Shown.ShownTerms.{numbers_of}
 use Rattle.isle_terms.proofs.Collections.WiderFaults.{refusal_wider}
 use Rattle.isle_terms.proofs.env.terms.known_types.Goals as goal
 

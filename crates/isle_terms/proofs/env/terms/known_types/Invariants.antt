@@ -2,8 +2,8 @@ use Rattle.std.proofs.Common.{take}
 use Rattle.std.specs.List.{AllZip}
 use Rattle.isle_types.specs.Environment.{Environment}
 use Rattle.isle_types.specs.TypeEnvs.{Shows}
-use Rattle.isle_terms.specs.Definitions.{IsTypeNumber}
-use Rattle.isle_terms.specs.Shown.ShownTerms.{numbers_of}
+use Rattle.isle_rules.specs.Definitions.{IsTypeNumber}
+use Rattle.isle_rules.specs.Shown.ShownTerms.{numbers_of}
 use Rattle.isle_terms.proofs.env.terms.known_types.Given as goal
 
 abbrev pub invariant-loop-name : goal.invariant-loop-name

@@ -1,5 +1,5 @@
 use Rattle.std.proofs.Common.{subst}
-use Rattle.isle_syntax.specs.Errors.{IfFault}
+use Rattle.isle_ast.specs.Errors.{IfFault}
 use Rattle.isle_types.specs.TypeFaults.{IsTypeFault}
 use Rattle.isle_terms.specs.Inside.Collecting.DeclaredTerms.{IsOneUnknownAt, IsUnknownTypeAt, NamesUnknownType, of_argument, of_result, IsLargeAt}
 use Rattle.isle_terms.proofs.Collections.WiderFaults.{refusal_wider}

@@ -1,7 +1,7 @@
 use Rattle.std.proofs.Common.{ℕ, List, take}
 use Rattle.isle_types.specs.Environment.{NamedVariant}
 use Rattle.isle_types.specs.TypeEnvs.{AreShownVariants}
-use Rattle.isle_terms.specs.Definitions.{variant_terms}
+use Rattle.isle_rules.specs.Definitions.{variant_terms}
 use Rattle.isle_terms.specs.Inside.Collecting.DeclaredTerms.{AddsTerms}
 use Rattle.isle_terms.proofs.env.type_terms.add_variant_terms.Given as goal
 

@@ -1,6 +1,6 @@
 use Rattle.std.proofs.Common.{ap, ◌∙◌}
-use Rattle.isle_terms.specs.Shown.ShownTerms.{numbers_of}
-use Rattle.isle_terms.proofs.Collections.TypeTerms.{fields_numbers}
+use Rattle.isle_rules.specs.Shown.ShownTerms.{numbers_of}
+use Rattle.isle_rules.proofs.FieldNumbers.{fields_numbers}
 use Rattle.isle_terms.proofs.env.type_terms.types_of_fields.Goals as goal
 
 pub returns : goal.returns

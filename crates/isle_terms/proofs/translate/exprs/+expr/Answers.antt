@@ -1,17 +1,17 @@
 use Rattle.std.proofs.Common.{List, ◌≡◌, ◌<◌, ◌+◌, ◌-◌, map, drop, length, ◌∷◌, [], sym, ap, ◌∙◌, refl, arith}
 use Rattle.std.proofs.lemmas.List.{map-append, drop-drop}
 use Rattle.std.proofs.lemmas.Result.{err_from_is_err_and}
-use Rattle.isle_syntax.specs.declared.lexer.Pos.{Pos}
-use Rattle.isle_syntax.specs.declared.ast.Expr.{Expr as ExprSource}
-use Rattle.isle_syntax.specs.Trees.ExprTree.{expr_pos, more_exprs, no_exprs}
-use Rattle.isle_syntax.specs.Trees.ExprShape.{expr_of, exprs_of, lets_of}
-use Rattle.isle_terms.specs.Elaboration.{State}
+use Rattle.isle_ast.specs.declared.pos.Pos.{Pos}
+use Rattle.isle_ast.specs.declared.ast.Expr.{Expr as ExprSource}
+use Rattle.isle_ast.specs.Trees.ExprTree.{expr_pos, more_exprs, no_exprs}
+use Rattle.isle_ast.specs.Trees.ExprShape.{expr_of, exprs_of, lets_of}
+use Rattle.isle_rules.specs.Elaboration.{State}
 use Rattle.isle_terms.specs.Inside.Readings.Outcomes.{bind_values, expr_node, call, each_expr, read_expr, read_expr_use, repair_expr}
-use Rattle.isle_terms.specs.Shown.ShownTerms.{flags_shown, term_shown, numbers_of}
-use Rattle.isle_terms.specs.Shown.ShownRules.{built_shown, built_list, expr_limit}
+use Rattle.isle_rules.specs.Shown.ShownTerms.{flags_shown, term_shown, numbers_of}
+use Rattle.isle_rules.specs.Shown.ShownRules.{built_shown, built_list, expr_limit}
 use Rattle.isle_terms.specs.Inside.Readings.Contexts.{known_in, expected}
 use Rattle.isle_terms.specs.Inside.Readings.ExprReadings.{binding_shown, binding_limit}
-use Rattle.isle_terms.specs.TypedRules.{TypedExprs, built_term}
+use Rattle.isle_rules.specs.TypedRules.{TypedExprs, built_term}
 use Rattle.isle_terms.specs.Inside.Readings.Outcomes.{Outcome, stands_for, and_then}
 use Rattle.isle_terms.proofs.Steps.BuiltShown.{shown-Term}
 use Rattle.isle_terms.proofs.Steps.PatternSteps.{fails_along, fails_then}

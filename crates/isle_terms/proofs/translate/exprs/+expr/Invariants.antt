@@ -1,8 +1,8 @@
 use Rattle.std.proofs.Common.{◌≡◌, ◌+◌, ◌*◌, ◌≤◌, map, drop, length}
-use Rattle.isle_syntax.specs.Trees.ExprShape.{exprs_of, lets_of}
+use Rattle.isle_ast.specs.Trees.ExprShape.{exprs_of, lets_of}
 use Rattle.isle_terms.specs.Inside.Readings.Outcomes.{each_expr, bind_values, read_expr}
-use Rattle.isle_terms.specs.Shown.ShownTerms.{flags_shown, numbers_of}
-use Rattle.isle_terms.specs.Shown.ShownRules.{built_shown, expr_limit, greatest, greatest_of_values}
+use Rattle.isle_rules.specs.Shown.ShownTerms.{flags_shown, numbers_of}
+use Rattle.isle_rules.specs.Shown.ShownRules.{built_shown, expr_limit, greatest, greatest_of_values}
 use Rattle.isle_terms.specs.Inside.Readings.Contexts.{known_in}
 use Rattle.isle_terms.specs.Inside.Readings.ExprReadings.{binding_shown, binding_limit}
 use Rattle.isle_terms.proofs.Steps.ExprSteps.{after_exprs, after_bindings}

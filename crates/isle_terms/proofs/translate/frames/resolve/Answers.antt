@@ -1,6 +1,6 @@
 use Rattle.std.proofs.Common.{◌<◌, ◌≤◌, length, sym, ap, ◌∙◌}
 use Rattle.std.proofs.lemmas.Option.{slice_get_past}
-use Rattle.isle_syntax.specs.Trees.PatternShape.{pattern_of}
+use Rattle.isle_ast.specs.Trees.PatternShape.{pattern_of}
 use Rattle.isle_terms.specs.declared.translate.frames.Given.{out-Given}
 use Rattle.isle_terms.proofs.Steps.Frames.{item_found, argument_tree, argument_frames, missing_argument}
 use Rattle.isle_terms.proofs.translate.frames.resolve.Goals as goal

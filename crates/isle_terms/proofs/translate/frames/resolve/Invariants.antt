@@ -1,5 +1,5 @@
 use Rattle.std.proofs.Common.{◌≡◌, map}
-use Rattle.isle_syntax.specs.Trees.PatternShape.{pattern_of}
+use Rattle.isle_ast.specs.Trees.PatternShape.{pattern_of}
 use Rattle.isle_terms.specs.Inside.Readings.Frames.{put, tree_given, frames_of}
 use Rattle.isle_terms.proofs.translate.frames.resolve.Given as goal
 

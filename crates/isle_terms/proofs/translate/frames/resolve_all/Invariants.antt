@@ -1,6 +1,6 @@
 use Rattle.std.proofs.Common.{◌≡◌, map, drop}
-use Rattle.isle_syntax.specs.Trees.PatternShape.{patterns_of}
-use Rattle.isle_syntax.proofs.Trees.Templates.{before}
+use Rattle.isle_ast.specs.Trees.PatternShape.{patterns_of}
+use Rattle.isle_ast.proofs.Trees.Templates.{before}
 use Rattle.isle_terms.specs.Inside.Readings.Frames.{put_all, tree_given}
 use Rattle.isle_terms.proofs.translate.frames.resolve_all.Given as goal
 

@@ -1,16 +1,16 @@
 use Rattle.std.proofs.Common.{◌≡◌, ◌<◌, [], ◌∷◌, ◌++◌, List, length, map, sym, ap, ◌∙◌, arith}
 use Rattle.std.proofs.lemmas.List.{map-append}
 use Rattle.std.proofs.lemmas.Result.{err_from_is_err_and}
-use Rattle.isle_syntax.specs.Trees.PatternShape.{pattern_of, patterns_of}
+use Rattle.isle_ast.specs.Trees.PatternShape.{pattern_of, patterns_of}
 use Rattle.isle_terms.specs.Inside.Readings.Outcomes.{stands_for, and_then, each_pattern}
-use Rattle.isle_terms.specs.Shown.ShownTerms.{numbers_of, term_shown}
-use Rattle.isle_terms.specs.Shown.ShownRules.{typed_shown, typed_list, pattern_limit}
-use Rattle.isle_terms.specs.TypedRules.{typed_and, typed_term}
+use Rattle.isle_rules.specs.Shown.ShownTerms.{numbers_of, term_shown}
+use Rattle.isle_rules.specs.Shown.ShownRules.{typed_shown, typed_list, pattern_limit}
+use Rattle.isle_rules.specs.TypedRules.{typed_and, typed_term}
 use Rattle.isle_terms.specs.Inside.Readings.Frames.{put, tree_given, trees_given}
 use Rattle.isle_terms.specs.Inside.Readings.PatternReading.{reads_in, uses_in}
 use Rattle.isle_terms.specs.Inside.Readings.Contexts.{known_in}
 use Rattle.isle_terms.proofs.Steps.Frames.{tree_out, tree_rolled}
-use Rattle.isle_terms.proofs.Steps.PatternForms.{shown_and, shown_term}
+use Rattle.isle_rules.proofs.Steps.PatternForms.{shown_and, shown_term}
 use Rattle.isle_terms.proofs.Steps.PatternSteps.{same_number, other_number, ok_along, err_along, fails_along, fails_then, after_none, each_next}
 use Rattle.isle_terms.proofs.Steps.PatternSteps.{each_fails}
 use Rattle.isle_terms.proofs.Steps.PatternSteps.{each_ends, greatest_push, all_same, counts, numbers_counted, node_bound, node_int, node_and}

@@ -1,7 +1,7 @@
 use Rattle.std.proofs.Common.{◌≡◌, ◌+◌, ◌*◌, map, drop}
 use Rattle.isle_terms.specs.Inside.Readings.Outcomes.{each_pattern}
-use Rattle.isle_terms.specs.Shown.ShownTerms.{numbers_of}
-use Rattle.isle_terms.specs.Shown.ShownRules.{typed_shown}
+use Rattle.isle_rules.specs.Shown.ShownTerms.{numbers_of}
+use Rattle.isle_rules.specs.Shown.ShownRules.{typed_shown}
 use Rattle.isle_terms.specs.Inside.Readings.Frames.{trees_given}
 use Rattle.isle_terms.specs.Inside.Readings.PatternReading.{reads_in, HaveKnownSymbols}
 use Rattle.isle_terms.proofs.Steps.PatternSteps.{after}

@@ -1,7 +1,7 @@
 use Rattle.std.proofs.Common.{◌≡◌, sym, ap, ◌∙◌}
-use Rattle.isle_syntax.specs.Trees.PatternShape.{patterns_of}
+use Rattle.isle_ast.specs.Trees.PatternShape.{patterns_of}
 use Rattle.isle_terms.specs.Inside.Readings.Outcomes.{each_pattern}
-use Rattle.isle_terms.specs.Shown.ShownTerms.{numbers_of}
+use Rattle.isle_rules.specs.Shown.ShownTerms.{numbers_of}
 use Rattle.isle_terms.specs.Inside.Readings.Frames.{trees_given}
 use Rattle.isle_terms.specs.Inside.Readings.PatternReading.{reads_in}
 use Rattle.isle_terms.proofs.Steps.Frames.{put_nothing_in}

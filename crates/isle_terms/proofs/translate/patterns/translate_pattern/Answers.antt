@@ -1,5 +1,5 @@
 use Rattle.std.proofs.Common.{sym, ap, ◌∙◌}
-use Rattle.isle_syntax.specs.Trees.PatternShape.{pattern_of}
+use Rattle.isle_ast.specs.Trees.PatternShape.{pattern_of}
 use Rattle.isle_terms.specs.Inside.Readings.PatternReading.{reads_in}
 use Rattle.isle_terms.proofs.Steps.Frames.{tree_rolled, put_nothing}
 use Rattle.isle_terms.proofs.Steps.PatternSteps.{ok_along, err_along}

@@ -1,10 +1,10 @@
 use Rattle.std.proofs.Common.{◌∷◌, [], map, length, ap, ◌∙◌}
 use Rattle.std.proofs.lemmas.List.{map-append}
 use Rattle.isle_terms.specs.Inside.Readings.RuleOutcomes.{read_conditions}
-use Rattle.isle_terms.specs.Shown.ShownTerms.{flags_shown}
-use Rattle.isle_terms.specs.Shown.ShownRules.{iflet_shown}
+use Rattle.isle_rules.specs.Shown.ShownTerms.{flags_shown}
+use Rattle.isle_rules.specs.Shown.ShownRules.{iflet_shown}
 use Rattle.isle_terms.specs.Inside.Readings.Contexts.{known_in}
-use Rattle.isle_terms.specs.Shown.RulesShown.{iflet_limit}
+use Rattle.isle_rules.specs.Shown.RulesShown.{iflet_limit}
 use Rattle.isle_terms.proofs.Steps.ExprSteps.{greatest_pushed}
 use Rattle.isle_terms.proofs.Steps.ConditionSteps.{next_met}
 use Rattle.isle_terms.proofs.translate.rules.translate_conditions.Goals as goal

@@ -1,9 +1,9 @@
 use Rattle.std.proofs.Common.{◌≡◌, ◌≤◌, map, drop, length}
 use Rattle.isle_terms.specs.Inside.Readings.RuleOutcomes.{read_conditions}
-use Rattle.isle_terms.specs.Shown.ShownTerms.{flags_shown}
-use Rattle.isle_terms.specs.Shown.ShownRules.{iflet_shown, greatest}
+use Rattle.isle_rules.specs.Shown.ShownTerms.{flags_shown}
+use Rattle.isle_rules.specs.Shown.ShownRules.{iflet_shown, greatest}
 use Rattle.isle_terms.specs.Inside.Readings.Contexts.{known_in}
-use Rattle.isle_terms.specs.Shown.RulesShown.{iflet_limit}
+use Rattle.isle_rules.specs.Shown.RulesShown.{iflet_limit}
 use Rattle.isle_terms.proofs.Steps.ConditionSteps.{after_conditions}
 use Rattle.isle_terms.proofs.translate.rules.translate_conditions.Given as goal
 

@@ -1,7 +1,7 @@
 use Rattle.std.proofs.Common.{◌<◌, ℕ, List, length, map, refl, subst, ◌∙◌, rules}
 use Rattle.std.specs.Option.{MatchOption}
 use Rattle.std.proofs.lemmas.Option.{slice_get_read}
-use Rattle.isle_syntax.specs.declared.ast.StructField.{StructField as StructFieldTree}
+use Rattle.isle_ast.specs.declared.ast.StructField.{StructField as StructFieldTree}
 use Rattle.isle_types.specs.declared.types.StructField.{StructField}
 use Rattle.isle_types.specs.Names.{AreDistinct, IsDuplicate}
 use Rattle.isle_types.specs.TypeTables.{TypeTables}

@@ -1,6 +1,6 @@
 use Rattle.std.proofs.Common.{◌≡◌, ℕ, ◌+◌, List, [], ◌∷◌, ◌++◌, is_none, take, Some, subst, sym, ap, ◌∙◌}
 use Rattle.std.proofs.lemmas.List.{take_all}
-use Rattle.isle_syntax.specs.declared.ast.Def.{Def}
+use Rattle.isle_ast.specs.declared.ast.Def.{Def}
 use Rattle.isle_types.specs.TypeTables.{TypeTables}
 use Rattle.isle_types.specs.Names.{position_of, AreDistinct}
 use Rattle.isle_types.specs.Inside.Readings.{HasTypeNames}

@@ -1,7 +1,7 @@
 use Rattle.std.proofs.Common.{map, subst}
-use Rattle.isle_syntax.specs.declared.ast.StructField.{StructField as StructFieldTree}
+use Rattle.isle_ast.specs.declared.ast.StructField.{StructField as StructFieldTree}
 use Rattle.isle_types.specs.Names.{AreDistinct}
-use Rattle.isle_syntax.specs.Errors.{IfFault}
+use Rattle.isle_ast.specs.Errors.{IfFault}
 use Rattle.std.proofs.lemmas.Result.{err_from_is_err_and}
 use Rattle.isle_types.specs.Inside.Readings.{ReadsFields, ReadsTupleFields, IsStructFieldsFault, IsTupleFieldsFault}
 use Rattle.isle_types.proofs.ReportedFaults.{reported_then}

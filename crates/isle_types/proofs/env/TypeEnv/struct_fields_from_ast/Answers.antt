@@ -4,7 +4,7 @@ use Rattle.std.specs.Option.{option_map}
 use Rattle.std.proofs.lemmas.Result.{err_from_is_err_and}
 use Rattle.std.proofs.lemmas.Option.{slice_get_read, slice_get-map}
 use Rattle.std.proofs.lemmas.List.{take_all}
-use Rattle.isle_syntax.specs.declared.ast.StructField.{StructField as StructFieldTree}
+use Rattle.isle_ast.specs.declared.ast.StructField.{StructField as StructFieldTree}
 use Rattle.isle_types.specs.declared.types.StructField.{StructField}
 use Rattle.isle_types.specs.TypeFaults.{FieldsBreak, field_twice, unknown_field_type}
 use Rattle.isle_types.specs.Inside.Readings.{ReadsFields}

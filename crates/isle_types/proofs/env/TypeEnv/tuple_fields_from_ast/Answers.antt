@@ -3,7 +3,7 @@ use Rattle.std.proofs.lemmas.Result.{err_from_is_err_and}
 use Rattle.std.proofs.lemmas.Option.{slice_get_read, slice_get-map}
 use Rattle.std.proofs.lemmas.List.{take_all}
 use Rattle.std.specs.Option.{option_map}
-use Rattle.isle_syntax.specs.declared.ast.TupleField.{TupleField as TupleFieldTree}
+use Rattle.isle_ast.specs.declared.ast.TupleField.{TupleField as TupleFieldTree}
 use Rattle.isle_types.specs.TypeFaults.{FieldsBreak, unknown_field_type}
 use Rattle.isle_types.specs.Inside.Readings.{ReadsTupleFields}
 use Rattle.isle_types.proofs.ReportedFaults.{reported_then}

@@ -1,7 +1,7 @@
 use Rattle.std.proofs.Common.{refl, ap, sym, subst, ◌∙◌, arith}
 use Rattle.std.proofs.lemmas.Result.{err_from_is_err_and}
 use Rattle.isle_types.specs.Environment.{primitive, enum, struct, IsShape, HasAllowedSize}
-use Rattle.isle_syntax.specs.declared.ast.TypeValue.TheVariants.{Enum}
+use Rattle.isle_ast.specs.declared.ast.TypeValue.TheVariants.{Enum}
 use Rattle.isle_types.specs.TypeFaults.{TypeBreaks, marks_not_allowed, variants_break, fields_break}
 use Rattle.isle_types.proofs.Tables.{more_then}
 use Rattle.isle_types.proofs.ReportedFaults.{reported_then}

@@ -1,6 +1,6 @@
 use Rattle.std.proofs.Common.{Some, refl, ap, ◌∙◌}
 use Rattle.std.proofs.lemmas.Result.{err_from_is_err_and}
-use Rattle.isle_syntax.specs.declared.ast.Ident.{Ident}
+use Rattle.isle_ast.specs.declared.ast.Ident.{Ident}
 use Rattle.isle_types.proofs.Tables.{more_then}
 use Rattle.isle_types.proofs.FieldReadings.{named_kept}
 use Rattle.isle_types.proofs.TypeReadings.{variant_read}

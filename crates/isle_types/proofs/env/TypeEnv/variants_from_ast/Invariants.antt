@@ -1,6 +1,6 @@
 use Rattle.std.proofs.Common.{◌≡◌, ℕ, List, Some, take, slice_get}
 use Rattle.std.specs.List.{AllZip}
-use Rattle.isle_syntax.specs.declared.ast.Variant.{Variant as VariantTree}
+use Rattle.isle_ast.specs.declared.ast.Variant.{Variant as VariantTree}
 use Rattle.isle_types.specs.declared.types.Variant.{Variant}
 use Rattle.isle_types.specs.Environment.{HaveAllowedSizes}
 use Rattle.isle_types.specs.TypeEnvs.{HasMoreNames}

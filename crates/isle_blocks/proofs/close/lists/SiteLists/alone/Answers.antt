@@ -7,7 +7,8 @@ pub loop-site-preserved : goal.loop-site-preserved
 loop-site-preserved c =
     let i = c.loop-site.invariant in let n = c.loop-site.site in
     let e : c.push.new.self.items ≡ c.loop-site.lists.items ++ c.in_ok-vec.field-0 ∷ [] = c.in_ok-push.ensures.items in
-    let long : length c.push.new.self.items ≡ length c.loop-site.lists.items + 1 = ap length e ∙ length-append c.loop-site.lists.items (c.in_ok-vec.field-0 ∷ []) in
+    let long : length c.push.new.self.items ≡ length c.loop-site.lists.items + 1 = ap length e ∙ length-append c.loop-site.lists.items
+    (c.in_ok-vec.field-0 ∷ []) in
     record {
       fits = let f = i.fits in omega arith;
       alone = λ a low. subst (λ (l : List (Vec ℕ Global)). get_or (map items_of l) a [] ≡ a ∷ []) (sym e)

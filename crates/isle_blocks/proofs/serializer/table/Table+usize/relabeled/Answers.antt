@@ -9,7 +9,8 @@ invariant_of-result c =
     let all : take c.loop-row.row-index c.deref-row-items.result.now ≡ c.self.inside.rows.items =
     let end : c.loop-row.row-index ≡ length c.deref-row-items.result.now = omega (arith, c.loop-row.auto.row-index-end, c.loop-row-test.false) in
     ap (λ (n : ℕ). take n c.deref-row-items.result.now) end ∙ (take-length c.deref-row-items.result.now ∙ c.deref-row-items.ensures.value) in
-    (all_mapped (relabel c.args.from c.args.to) (map (λ r. r.value.items) c.self.inside.rows.items) (map (λ r. r.value.items) c.loop-row.rows.items) c.self.invariant
+    (all_mapped (relabel c.args.from c.args.to) (map (λ r. r.value.items) c.self.inside.rows.items)
+    (map (λ r. r.value.items) c.loop-row.rows.items) c.self.invariant
     (c.loop-row.invariant ∙ ap (λ l. map (map (relabel c.args.from c.args.to)) (map (λ r. r.value.items) l)) all)).0
 
 pub returns : goal.returns
@@ -17,6 +18,7 @@ returns c =
     let all : take c.loop-row.row-index c.deref-row-items.result.now ≡ c.self.inside.rows.items =
     let end : c.loop-row.row-index ≡ length c.deref-row-items.result.now = omega (arith, c.loop-row.auto.row-index-end, c.loop-row-test.false) in
     ap (λ (n : ℕ). take n c.deref-row-items.result.now) end ∙ (take-length c.deref-row-items.result.now ∙ c.deref-row-items.ensures.value) in
-    (all_mapped (relabel c.args.from c.args.to) (map (λ r. r.value.items) c.self.inside.rows.items) (map (λ r. r.value.items) c.loop-row.rows.items) c.self.invariant
+    (all_mapped (relabel c.args.from c.args.to) (map (λ r. r.value.items) c.self.inside.rows.items)
+    (map (λ r. r.value.items) c.loop-row.rows.items) c.self.invariant
     (c.loop-row.invariant ∙ ap (λ l. map (map (relabel c.args.from c.args.to)) (map (λ r. r.value.items) l)) all)).1
     ∙ ap (map (relabel c.args.from c.args.to)) c.self.view_is

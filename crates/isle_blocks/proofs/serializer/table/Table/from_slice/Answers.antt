@@ -9,5 +9,8 @@ rows-preserved g c =
     let n = c.min.result in
     let back : c.rows.at + n - c.rows.at ≡ n = omega arith in
     let is = c.in_ok-new_row.ensures ∙ ap (λ k. take k (drop c.rows.at c.args.items.now)) back in
-    subst (IsCut c.args.items.now (c.rows.at + n)) (sym (ap (map (λ r. r.value.items)) c.in_ok-push.ensures.items ∙ map-append (λ r. r.value.items) c.rows.rows.items (c.in_ok-new_row.field-0 ∷ [])))
-    (cut_more c.args.items.now c.in_ok-new_row.field-0.value.items c.rows.at n (map (λ r. r.value.items) c.rows.rows.items) c.rows.invariant (omega (arith, c.rows-test.true)) c.min.ensures is)
+    subst (IsCut c.args.items.now (c.rows.at + n))
+    (sym (ap (map (λ r. r.value.items)) c.in_ok-push.ensures.items ∙ map-append (λ r. r.value.items) c.rows.rows.items
+    (c.in_ok-new_row.field-0 ∷ [])))
+    (cut_more c.args.items.now c.in_ok-new_row.field-0.value.items c.rows.at n (map (λ r. r.value.items) c.rows.rows.items) c.rows.invariant
+    (omega (arith, c.rows-test.true)) c.min.ensures is)

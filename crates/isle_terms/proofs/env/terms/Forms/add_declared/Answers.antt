@@ -1,7 +1,7 @@
 use Rattle.std.proofs.Common.{refl, subst, ◌∙◌}
 use Rattle.std.proofs.lemmas.Result.{IfErr-weaker}
 use Rattle.isle_types.proofs.Tables.{ok_then}
-use Rattle.isle_terms.specs.Shown.ShownTerms.{term_at}
+use Rattle.isle_rules.specs.Shown.ShownTerms.{term_at}
 use Rattle.isle_terms.specs.Inside.Collecting.DeclaredTerms.{IsDeclaredTerm, NamesUnknownType, AddsDeclaredTerm}
 use Rattle.isle_terms.proofs.Collections.AddedErrors.{adds_none}
 use Rattle.isle_terms.proofs.Collections.DeclaredTerms.{fault_kept, fault_alone}

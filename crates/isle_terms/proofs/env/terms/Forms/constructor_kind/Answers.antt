@@ -1,8 +1,8 @@
 use Rattle.std.proofs.Common.{◌≡◌, ap, sym, subst, ◌∙◌, slice_get, Some, None}
 use Rattle.std.specs.Option.{option_map}
 use Rattle.isle_terms.specs.declared.env.definitions.HostConstructor.{HostConstructor}
-use Rattle.isle_terms.specs.declared.terms.ConstructorKind.TheVariants.{InternalConstructor, ExternalConstructor}
-use Rattle.isle_terms.specs.Signatures.{external_constructor}
+use Rattle.isle_rules.specs.declared.terms.ConstructorKind.TheVariants.{InternalConstructor, ExternalConstructor}
+use Rattle.isle_rules.specs.Signatures.{external_constructor}
 use Rattle.isle_terms.specs.Inside.Collecting.DeclaredTerms.{AreShownAs, IsShownConstructor}
 use Rattle.isle_terms.proofs.Collections.DeclaredForms.{by_rules_form, hosted_form, read_at, none_past}
 use Rattle.isle_terms.proofs.env.terms.Forms.constructor_kind.Goals as goal

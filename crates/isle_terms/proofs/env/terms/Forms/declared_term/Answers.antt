@@ -1,7 +1,7 @@
 use Rattle.std.proofs.Common.{refl, ap}
-use Rattle.isle_terms.specs.Signatures.{declared_form}
-use Rattle.isle_terms.specs.Definitions.{flags_in, constructor_for, extractor_for}
-use Rattle.isle_terms.specs.Shown.ShownTerms.{numbers_of}
+use Rattle.isle_rules.specs.Signatures.{declared_form}
+use Rattle.isle_rules.specs.Definitions.{flags_in, constructor_for, extractor_for}
+use Rattle.isle_rules.specs.Shown.ShownTerms.{numbers_of}
 use Rattle.isle_terms.proofs.env.terms.Forms.declared_term.Goals as goal
 
 pub returns-clause-made : goal.returns-clause-made

@@ -1,11 +1,11 @@
 use Rattle.std.proofs.Common.{List, map, take, ◌≤◌}
 use Rattle.std.specs.List.{All}
 use Rattle.std.below.core.specs.declared.int.usize.TheConstants.{MAX}
-use Rattle.isle_syntax.specs.declared.ast.Def.{Def}
+use Rattle.isle_ast.specs.declared.ast.Def.{Def}
 use Rattle.isle_types.specs.Environment.{Environment}
 use Rattle.isle_types.specs.TypeEnvs.{Shows, HasMoreNames}
-use Rattle.isle_terms.specs.declared.terms.Term.{Term}
-use Rattle.isle_terms.specs.Readings.Needs.{needed_of}
+use Rattle.isle_rules.specs.declared.terms.Term.{Term}
+use Rattle.isle_rules.specs.Readings.Needs.{needed_of}
 use Rattle.isle_terms.specs.Inside.Collecting.ExtractorChecks.{Adds}
 use Rattle.isle_terms.specs.Inside.Collecting.DeclaredTerms.{AreFormsOf, OneNamesUnknownType, AreDeclaredTerms}
 use Rattle.isle_terms.proofs.env.terms.Forms.declared_terms.Given as goal

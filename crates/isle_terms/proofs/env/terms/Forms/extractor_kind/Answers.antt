@@ -1,5 +1,5 @@
 use Rattle.std.proofs.Common.{sym, subst, refl, ◌∙◌, ◌-◌, length, get_or, Some, None}
-use Rattle.isle_terms.specs.declared.terms.ExtractorKind.TheVariants.{ExternalExtractor}
+use Rattle.isle_rules.specs.declared.terms.ExtractorKind.TheVariants.{ExternalExtractor}
 use Rattle.isle_terms.specs.Inside.Collecting.DeclaredTerms.{AreShownAs, IsShownExtractor}
 use Rattle.isle_terms.proofs.Collections.NamedPlaces.{no_extractor_place}
 use Rattle.isle_terms.proofs.Collections.DeclaredForms.{plain_here, internal_here, external_here, nothing_here}

@@ -1,5 +1,5 @@
 use Rattle.std.proofs.Common.{subst}
-use Rattle.isle_terms.specs.Definitions.{constructor_for, extractor_for}
+use Rattle.isle_rules.specs.Definitions.{constructor_for, extractor_for}
 use Rattle.isle_terms.specs.Inside.Collecting.DeclaredTerms.{AreShownAs, IsShownConstructor, IsShownExtractor}
 use Rattle.isle_terms.proofs.Collections.DeclaredTerms.{constructor_kept}
 use Rattle.isle_terms.proofs.env.terms.Forms.kind_of.Goals as goal

@@ -1,0 +1,4 @@
+-- lemmas on trees
+pub mod Trees
+-- lemmas on positions, orders and lines
+pub mod Positions

@@ -1,0 +1,7 @@
+use Rattle.isle_ast.specs.Trees.ExprCode.{let_trees_code}
+use Rattle.isle_ast.proofs.Trees.Equality.{answered}
+use Rattle.isle_ast.proofs.ast.eq.LetDefsPartialEq.eq.Goals as goal
+
+pub returns : goal.returns
+returns c =
+    let same = answered let_trees_code _ _ _ c.are_same_lets.ensures in rw (c.as_slice.ensures, c.as_slice-2.ensures) at same

@@ -1,0 +1,2 @@
+-- trees of definitions, patterns, expressions and kept items, and what is computed of them
+pub mod Trees

@@ -1,0 +1,6 @@
+-- What stands at places of lists.
+pub mod Places
+-- Values in a store.
+pub mod Stores
+-- Calls of terms, whichever road answers them.
+pub mod OpenCalls

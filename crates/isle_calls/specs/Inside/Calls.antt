@@ -1,0 +1,2 @@
+-- Frames that wait.
+pub mod Stacks

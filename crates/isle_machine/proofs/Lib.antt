@@ -1,0 +1,2 @@
+-- The road over trees.
+pub mod Blocks

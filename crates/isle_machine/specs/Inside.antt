@@ -1,0 +1,2 @@
+-- The road over trees: a call walks the tree of its term.
+pub mod Blocks

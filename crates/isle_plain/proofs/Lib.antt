@@ -1,0 +1,2 @@
+-- The plain road.
+pub mod Plain

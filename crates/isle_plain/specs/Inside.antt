@@ -1,0 +1,2 @@
+-- The plain road: rules tried one by one.
+pub mod Plain

@@ -1,0 +1,3 @@
+-- Worked cases.
+-- Types that have values, and one that has none.
+pub mod TypesWithValues

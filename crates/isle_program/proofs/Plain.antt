@@ -1,0 +1,2 @@
+-- Rules laid out.
+pub mod LaidOut

@@ -1,0 +1,2 @@
+-- Expressions and rules laid out.
+pub mod LaidOut

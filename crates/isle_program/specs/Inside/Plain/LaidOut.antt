@@ -1,0 +1,2 @@
+-- An expression while it is laid out.
+pub mod Expressions

@@ -1,0 +1,2 @@
+-- What tables say of terms.
+pub mod Terms

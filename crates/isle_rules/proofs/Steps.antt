@@ -1,0 +1,2 @@
+-- What typed patterns show, form by form.
+pub mod PatternForms

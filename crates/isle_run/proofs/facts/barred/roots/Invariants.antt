@@ -1,8 +1,0 @@
-use Rattle.std.proofs.Common.{ℕ}
-use Rattle.std.specs.Prelude.{◌==◌}
-use Rattle.isle_terms.specs.declared.rules.Rule.{Rule}
-use Rattle.isle_run.proofs.ProgramFacts.MarkedTerms.{AreMarkedBefore}
-use Rattle.isle_run.proofs.facts.barred.roots.Given as goal
-
-abbrev pub invariant-loop-rule : goal.invariant-loop-rule
-invariant-loop-rule l = AreMarkedBefore l.rule-items (λ (n : ℕ) (rule : Rule). rule.root_term.0 == n) l.initial.marks.items l.rule-index l.marks.items

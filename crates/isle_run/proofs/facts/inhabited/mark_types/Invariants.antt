@@ -1,5 +1,0 @@
-use Rattle.isle_run.specs.Facts.Inhabited.{MarksBelow}
-use Rattle.isle_run.proofs.facts.inhabited.mark_types.Given as goal
-
-abbrev pub invariant-loop-place : goal.invariant-loop-place
-invariant-loop-place l = MarksBelow l.place l.types l.initial.marks.items l.marks.items l.changed

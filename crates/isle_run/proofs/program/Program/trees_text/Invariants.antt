@@ -1,8 +1,0 @@
-use Rattle.std.proofs.Common.{take}
-use Rattle.std.specs.Prelude.{string_bytes}
-use Rattle.isle_run.specs.TreeTexts.Names.{AreTexts}
-use Rattle.isle_run.specs.TreeTexts.Sets.{IsEntryText, sets_and_trees}
-use Rattle.isle_run.proofs.program.Program.trees_text.Given as goal
-
-abbrev pub invariant-loop-place : goal.invariant-loop-place
-invariant-loop-place l = AreTexts (IsEntryText l.self l.files l.asked) (take l.place (sets_and_trees l.self)) (string_bytes l.text)

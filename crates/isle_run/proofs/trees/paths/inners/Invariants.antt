@@ -1,8 +1,0 @@
-use Rattle.std.proofs.Common.{◌≡◌, take}
-use Rattle.std.specs.Prelude.{string_bytes}
-use Rattle.isle_run.specs.TreeTexts.DotSites.{inner, part_words}
-use Rattle.isle_run.proofs.trees.paths.inners.Given as goal
-
-abbrev pub invariant-loop-part : goal.invariant-loop-part
-invariant-loop-part l = string_bytes l.text
-    ≡ part_words (inner l.table.program.now l.table.types.now l.table.sites.now) (take l.part-index l.parts)

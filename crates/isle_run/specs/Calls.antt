@@ -1,2 +1,0 @@
--- What a call tells: its effects and its answer.
-pub mod Answers

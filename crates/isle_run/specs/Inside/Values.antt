@@ -1,6 +1,0 @@
--- Values of a type, node by node.
-pub mod TypedNodes
--- Values that are settled node by node.
-pub mod SettledNodes
--- A value that is read token by token.
-pub mod Reading

@@ -1,8 +1,0 @@
-//! Calls of terms, whichever road answers them: answers, the calls that are open, the values that they meet, and what the host is
-//! asked.
-
-pub mod answer;
-pub mod choices;
-pub mod frames;
-pub mod host;
-pub mod store;

@@ -1,6 +1,0 @@
-use Rattle.std.proofs.Common.{◌≤◌}
-use Rattle.isle_syntax.specs.Trees.PatternTree.{pattern_height}
-use Rattle.isle_syntax.proofs.+drop_pattern.Given as goal
-
-abbrev pub invariant-ast::BoxedPattern::drop-loop-subpat : goal.invariant-ast::BoxedPattern::drop-loop-subpat
-invariant-ast::BoxedPattern::drop-loop-subpat l = pattern_height l.self ≤ pattern_height l.initial.self

@@ -1,5 +1,0 @@
-use Rattle.isle_syntax.proofs.Trees.DefEquality.{same_def-decides}
-use Rattle.isle_syntax.proofs.laws.equal_definitions_are_the_same.Goals as goal
-
-pub returns : goal.returns
-returns c = same_def-decides

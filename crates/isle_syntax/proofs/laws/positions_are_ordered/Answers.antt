@@ -1,5 +1,0 @@
-use Rattle.isle_syntax.proofs.Trees.Hashes.{positions_apart}
-use Rattle.isle_syntax.proofs.laws.positions_are_ordered.Goals as goal
-
-pub returns-clause-apart : goal.returns-clause-apart
-returns-clause-apart c = positions_apart

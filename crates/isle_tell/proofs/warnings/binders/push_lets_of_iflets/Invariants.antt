@@ -1,0 +1,12 @@
+use Rattle.std.proofs.Common.{List}
+use Rattle.std.specs.List.{All}
+use Rattle.isle_ast.specs.Positions.Files.{SourceFile}
+use Rattle.isle_ast.specs.Positions.Printable.{IsPrintablePos}
+use Rattle.isle_ast.specs.Positions.DefPositions.{IdentAt, IfLetAt}
+use Rattle.isle_tell.proofs.warnings.binders.push_lets_of_iflets.Given as goal
+
+abbrev pub invariant-loop-iflet : goal.invariant-loop-iflet
+invariant-loop-iflet l =
+    (files : List SourceFile) → All (IfLetAt (IsPrintablePos files)) l.iflets
+    → All (λ name. IdentAt (IsPrintablePos files) name.now) l.initial.lets.items
+    → All (λ name. IdentAt (IsPrintablePos files) name.now) l.lets.items

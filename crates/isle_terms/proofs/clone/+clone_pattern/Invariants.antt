@@ -1,5 +1,0 @@
-use Rattle.std.proofs.Common.{◌≡◌, take}
-use Rattle.isle_terms.proofs.clone.+clone_pattern.Given as goal
-
-abbrev pub invariant-clone_patterns-loop-pattern : goal.invariant-clone_patterns-loop-pattern
-invariant-clone_patterns-loop-pattern l = l.all.items ≡ take l.pattern-index l.patterns

@@ -1,0 +1,2 @@
+-- Values and their texts.
+pub mod Values
