@@ -5,7 +5,7 @@ PROGRAM = crates/islec/out/islec
 CALLS = crates/isle_refusals/out/isle_refusals
 VECTORS = tests/vectors/first.json tests/vectors/mixed.json tests/vectors/equal.json
 
-.PHONY: run build test commands refusals fuzz edits install replay bench
+.PHONY: run build test lint figures commands refusals fuzz edits some install replay bench
 
 # The trial build of the program: compiled with checks in the place of proofs.
 run:
@@ -17,12 +17,22 @@ build:
 	@echo "every proof of the program and of the crates below it: this takes a while"
 	cd crates/islec && rt run -- run ../../examples/first.isle < /dev/null
 
-# The gate: that the wrong bodies of tests/edits were refused on just this text, every proof, and the proved program's commands and
-# vectors. Two checks at a time, as many as the crates' order leaves work for: rt by itself plans more memory for each than it takes.
-test:
+# The gate: rules of this repository, that the wrong bodies of tests/edits were refused on just this text, every proof, and the proved program's
+# commands and vectors.
+test: lint
 	tools/edits.py --known
-	RT_JOBS=2 rt ci
+	tools/gate.py
 	$(MAKE) commands
+
+# What needs no judgement, and the tests of what judges.
+lint:
+	python3 tools/lint.py
+	python3 tools/inside.py
+	python3 tools/tests.py
+
+# Writes docs/GATE.md, of what the last gate and the last bench printed.
+figures:
+	python3 tools/figures.py
 
 # On the program as it was built last.
 commands:
@@ -51,6 +61,10 @@ fuzz:
 edits:
 	tools/edits.py $(ALL) $(CRATES)
 
+# One wrong body of each crate, which the commit's name chooses, over what `rt ci` built; not of the gate.
+some:
+	tools/edits.py --some --rooms=$$(nproc)
+
 install: build
 	install -D $(PROGRAM) $(DESTDIR)$(PREFIX)/bin/islec
 
@@ -60,4 +74,5 @@ replay: build
 # Times reading, typing, compiling and formatting generated files, trees of rules, worlds and queries, answering calls, and a sorted map.
 bench: build
 	cd crates/isle_bench && rt run < stdin
-	python3 tools/bench.py crates/isle_bench/out/isle_bench $(PROGRAM)
+	mkdir -p out
+	python3 tools/bench.py crates/isle_bench/out/isle_bench $(PROGRAM) > out/bench.txt; status=$$?; cat out/bench.txt; exit $$status

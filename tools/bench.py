@@ -229,7 +229,8 @@ def measure_calls(title, program, world, queries, check):
 
 def in_rounds(jobs):
     """What some jobs take in nine rounds, in each of which all run once, one after the other: a row of processor seconds for each round, and the
-    most memory of each job in bytes. What else the machine does so falls on all jobs alike. A job is words, the standard input's file, and a check."""
+    most memory of each job in bytes. What else the machine does so falls on all jobs alike. A job is words, the file of the standard input, and
+    a check."""
     rounds, most = [], [0] * len(jobs)
     for _ in range(9):
         rounds.append([])
@@ -274,7 +275,8 @@ def held(figure, most, digits):
 
 def multiples(bench):
     """Prints what checks and trees of generated backends take as multiples of the time to read their texts, and the most that they may take."""
-    print("| Rules | Check, as a multiple of reading | At most | Trees, as a part of check | At most | Bytes of memory for each of the text | At most |")
+    memory = "Bytes of memory for each of the text"
+    print(f"| Rules | Check, as a multiple of reading | At most | Trees, as a part of check | At most | {memory} | At most |")
     print("|---|---|---|---|---|---|---|")
     for number, most in ((500, 3), (1_000, 3), (2_000, 3), (4_000, 3), (8_000, 3.5)):
         text, has_sets = backend(number), lambda it: it == f"{number // 20}\n"

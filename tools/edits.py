@@ -3,20 +3,23 @@
 
 usage: tools/edits.py [--all] [--rooms=N] [--stubs] [CRATE ..]     those of the crates that are named, or of all crates
        tools/edits.py --known                            tries nothing, and ends with 1 where a crate's wrong bodies are still to be tried
+       tools/edits.py --some [--rooms=N]                 tries one of each crate, chosen by the commit's name, over what 'rt ci' just built
 
-tests/edits/CRATE/NAME.edit has a line 'file: src/FILE.rt' and pairs of lines 'old: TEXT' and 'new: TEXT', where TEXT stands once in that file.
+tests/edits/CRATE/NAME.edit has a line 'file: src/FILE.rt' and pairs of lines 'old: TEXT' and 'new: TEXT', where the old TEXT stands once in that
+file and the new one says something else. tests/edits/counts.txt has the number of edits of each crate.
 A function is proved from the contracts of those that it calls and not from their bodies, so one check tries many edits, as long as they are of
 different functions: each must leave a goal of its own function unproved, or an answer to one refused for more than a name that is gone.
 An answer is known by the file of its function, or by its name alone where no other edit of the check is of a function of that name.
 What isn't told apart so, as a constant, is tried once more by itself: then a goal or an answer of any function counts.
 With --rooms=N checks of N rounds go on side by side, each in a copy of its own, which wants 2 to 4 GB.
-With --stubs a check has only the code of the functions that edits are of, over libraries without any (tools/stubs.py): a function is proved from the
-contracts of what it calls, and so it fails over these as it does over the libraries themselves. First the same functions are checked without the edits.
+With --stubs a check has only the code of the functions that edits are of, over libraries without any (tools/stubs.py): a function is proved from
+the contracts of what it calls, and so it fails over these as it does over the libraries themselves. First the same functions are checked without
+the edits. What is judged so is marked in the record, and counts as untried.
 
-tests/edits/tried.txt has for each edit a sum of all that its refusal hangs on (`sums_of` says what), the program logic that 'rt version' names
-among it. The kit's own name is left out: machines have kits of one logic under several names, and what a body breaks is false under each. Where
-that sum is still the edit's, it was refused already, and is tried only with --all. A check goes on from what the last 'rt check' of the crate kept,
-where there is such work.
+tests/edits/tried.txt has for each edit a sum of all that its refusal hangs on (`sums_of` says what), the text of the judge and the program logic
+that 'rt version' names among it. The kit's own name is left out: machines have kits of one logic under several names, and what a body breaks is
+false under each. Where that sum is still the edit's, it was refused already, and is tried only with --all. A check goes on from what the last
+'rt check' of the crate kept, where there is such work.
 """
 import concurrent.futures
 import fcntl
@@ -31,10 +34,14 @@ import tempfile
 
 import inside
 
-TRIED = "tests/edits/tried.txt"
+EDITS = "tests/edits"
+TRIED = f"{EDITS}/tried.txt"
+COUNTS = f"{EDITS}/counts.txt"
 PARTS = ("src", "specs", "proofs")
-# Counted up where edits are judged otherwise: then all are to be tried again.
-TRIAL = 1
+# What judges edits: where its text changes, all are to be tried again.
+JUDGE = ("tools/edits.py", "tools/inside.py", "tools/stubs.py")
+# What stands behind the sum of an edit that was refused over libraries without code.
+OVER_STUBS = "over-stubs"
 
 
 class Edit:
@@ -49,7 +56,11 @@ class Edit:
                 old = text
             elif word.rstrip(":") == "new":
                 self.pairs.append((file, old, text))
-        for file, old, _ in self.pairs:
+        if not self.pairs:
+            sys.exit(f"{self.crate}/{self.name}: it changes nothing")
+        for file, old, new in self.pairs:
+            if spoken(old) == spoken(new):
+                sys.exit(f"{self.crate}/{self.name}: its old and its new text say the same")
             self.place(file, old)
 
     def place(self, file, old):
@@ -81,6 +92,11 @@ class Edit:
         return any(its.rsplit("/", 1)[-1] in own for its in answers(said))
 
 
+def spoken(text):
+    """Returns a text of code without its comment and its spaces."""
+    return re.sub(r"//.*|\s", "", text)
+
+
 def goals(said):
     """Returns where the goals are that were not proved: the file and the line of each."""
     return re.findall(r"(?m)^note: (src/\S+?):(\d+):\d+: it is not proved", said)
@@ -95,6 +111,14 @@ def answers(said):
 def text_of(path):
     with open(path, "rb") as it:
         return it.read()
+
+
+def crates_with_edits():
+    return sorted(it for it in os.listdir(EDITS) if os.path.isdir(f"{EDITS}/{it}"))
+
+
+def edits_of(crate):
+    return [Edit(crate, path) for path in files_below(f"{EDITS}/{crate}")]
 
 
 def files_below(folder):
@@ -136,14 +160,14 @@ BLOCK = re.compile(r"(?:pub(?:\(\w+\))? )?(struct|enum|trait) (\w+)|(impl)\b(?:<
 
 
 def is_hidden(block, row):
-    """Whether a row of a type or of what is implemented for it is seen in the type's own module alone: a private field, or how a model reads fields."""
+    """Whether a row of a type or of what is implemented for it is seen in its own module alone: a private field, or how a model reads fields."""
     return bool(block[0] == "struct" and FIELD.match(row) or block[3] == "Model" and not re.match(r"\s+ghost Value", row))
 
 
 def pieces(crate, of_others):
-    """Returns the heads of a crate's functions with their contracts, each with the type of which it is a method, or `TRAIT`, or nothing; and the rows of
-    the definitions of its types and traits and of what is implemented for them, each with the file where alone it is seen, if there is one: lists by
-    name, each with the file where it stands. Of another crate only functions that can be called count, and rows that are seen."""
+    """Returns the heads of a crate's functions with their contracts, each with the type of which it is a method, or `TRAIT`, or nothing; and the
+    rows of the definitions of its types and traits and of what is implemented for them, each with the file where alone it is seen, if there is one:
+    lists by name, each with the file where it stands. Of another crate only functions that can be called count, and rows that are seen."""
     functions, types = {}, {}
     for path in files_below(f"crates/{crate}/src"):
         rows, at, block = [it for it in text_of(path).decode().split("\n") if not re.match(r"\s*//", it)], 0, None
@@ -227,7 +251,7 @@ def definitions():
 
 def own_texts(edit, functions, types):
     """Returns the texts on which the refusal of an edit hangs, and the definitions that they name."""
-    texts, found = [text_of(f"tests/edits/{edit.crate}/{edit.name}").decode()], set()
+    texts, found = [text_of(f"{EDITS}/{edit.crate}/{edit.name}").decode()], set()
     for file in sorted({file for file, _, _ in edit.pairs}):
         path = f"crates/{edit.crate}/{file}"
         rows = text_of(path).decode().split("\n")
@@ -254,18 +278,17 @@ def own_texts(edit, functions, types):
 
 def sums_of(crate, below):
     """Returns for each edit of a crate a sum of all that its refusal hangs on. A body is refused for a goal that its contract and those of the
-    functions which it calls make false, whatever their bodies and proofs are: so there count its function with its proof, the heads of the functions that
-    it may call, in this crate and those below, the types that it may meet, as far as they are seen there, and the definitions, wherever they stand, and
-    own lemmas that these stand on."""
+    functions which it calls make false, whatever their bodies and proofs are. So there count the judge, its function with its proof, the heads of the
+    functions that it may call, in this crate and those below, the types that it may meet, as far as they are seen there, and the definitions,
+    wherever they stand, and own lemmas that these stand on."""
     functions, types = {}, {}
     for name in [*below[crate], crate]:
         for all_of, own in zip((functions, types), pieces(name, name != crate)):
             for word, heads in own.items():
                 all_of.setdefault(word, []).extend(heads)
-    judged = f"{logic()} {TRIAL}"
+    judged = "\n\n".join([logic(), *(text_of(it).decode() for it in JUDGE)])
     sums = {}
-    for path in files_below(f"tests/edits/{crate}"):
-        edit = Edit(crate, path)
+    for edit in edits_of(crate):
         texts, found = own_texts(edit, functions, types)
         texts += sorted(f"{key[2]}\n{definitions().texts[key]}" for key in found)
         sums[f"{crate}/{edit.name}"] = hashlib.sha256("\n\n".join([judged, *texts]).encode()).hexdigest()[:32]
@@ -292,8 +315,8 @@ def fresh(room, crate):
             shutil.copytree(f"crates/{crate}/{part}", f"{room}/crates/{crate}/{part}")
 
 
-def check(room, edits, over_stubs):
-    """Checks the crate with these edits, and returns what the prover said of it and whether all of it is proved."""
+def put_in(room, edits):
+    """Copies the sources of a crate anew, and changes them by edits."""
     crate = edits[0].crate
     fresh(room, crate)
     for edit in edits:
@@ -303,6 +326,12 @@ def check(room, edits, over_stubs):
             if text.count(old) != 1:
                 sys.exit(f"{crate}/{edit.name}: its old text is in {file} {text.count(old)} times beside other edits")
             open(path, "w", encoding="utf-8").write(text.replace(old, new))
+
+
+def check(room, edits, over_stubs):
+    """Checks the crate with these edits, and returns what the prover said of it and whether all of it is proved."""
+    crate = edits[0].crate
+    put_in(room, edits)
     said, is_proved = judged_over_stubs(room, crate, edits) if over_stubs else judged(room, crate)
     if not re.search(r"(?m)^(logic=(not-)?proved|only=\d)", said):
         names = " ".join(it.name for it in edits)
@@ -310,9 +339,9 @@ def check(room, edits, over_stubs):
     return said, is_proved
 
 
-def judged(room, crate):
+def judged(room, crate, flags=()):
     how = {"stdin": subprocess.DEVNULL, "stdout": subprocess.PIPE, "stderr": subprocess.STDOUT, "text": True, "errors": "replace"}
-    ran = subprocess.run(["rt", "check", "--jobs", "1"], cwd=f"{room}/crates/{crate}", **how)
+    ran = subprocess.run(["rt", "check", "--jobs", "1", *flags], cwd=f"{room}/crates/{crate}", **how)
     return ran.stdout, ran.returncode == 0
 
 
@@ -409,42 +438,136 @@ def tried_in_rooms(crate, below, edits, rooms, over_stubs):
         return [name for it in tries for name in it.result()]
 
 
-def known():
-    """Returns the sums that are written down."""
-    return dict(it.split()[:2] for it in open(TRIED, encoding="utf-8")) if os.path.isfile(TRIED) else {}
+def commit():
+    """Returns the name of the commit that is checked out."""
+    return subprocess.run(["git", "rev-parse", "HEAD"], stdout=subprocess.PIPE, check=True, text=True).stdout.strip()
 
 
-def write_down(crate, sums):
+def chosen(crate, name):
+    """Returns one edit of a crate's functions, whichever a commit's name chooses."""
+    edits = [it for it in edits_of(crate) if it.functions]
+    number = int(hashlib.sha256(f"{name} {crate}".encode()).hexdigest(), 16)
+    return edits[number % len(edits)]
+
+
+def built(room, crate, below):
+    """Copies the sources of a crate and of those below it, and links what 'rt ci' built of these."""
+    with open(f"{room}/crates.txt", "w", encoding="utf-8") as it:
+        it.write("".join(row for row in open("crates.txt", encoding="utf-8") if row.split(":")[0].strip() in [*below[crate], crate]))
+    for name in below[crate]:
+        if not os.path.isdir(f"crates/{name}/out/rlib"):
+            sys.exit(f"{name} is not built: rt ci builds it")
+        for part in PARTS:
+            if os.path.isdir(f"crates/{name}/{part}"):
+                shutil.copytree(f"crates/{name}/{part}", f"{room}/crates/{name}/{part}")
+        shutil.copytree(f"crates/{name}/out/rlib", f"{room}/crates/{name}/out/rlib", copy_function=os.link)
+
+
+def judged_alone(room, edit):
+    """What the prover says of an edit's functions as they stand in a room, in a crate of which they alone have code."""
+    import stubs
+
+    wanted = {(file, name) for file, name, _ in edit.functions}
+    stubs.stub_all_but(edit.crate, f"{room}/crates/{edit.crate}", wanted)
+    modules = sorted({file[len("src/") : -len(".rt")].replace("/", "::") for file, _ in wanted})
+    said, _ = judged(room, edit.crate, ["--allow-holes", *[word for it in modules for word in ("--only", it)]])
+    if not re.search(r"(?m)^only=\d", said):
+        sys.exit(f"{edit.crate}/{edit.name}: the prover did not judge it:\n" + "\n".join(said.split("\n")[-12:]))
+    return said
+
+
+def tried_over_built(edit, below):
+    """Tries an edit over the libraries as 'rt ci' built them: its functions must be proved as they are, and refused with the edit."""
+    with tempfile.TemporaryDirectory(prefix=".edits-", dir=".") as room:
+        built(room, edit.crate, below)
+        fresh(room, edit.crate)
+        before = judged_alone(room, edit)
+        put_in(room, [edit])
+        after = judged_alone(room, edit)
+    if edit.is_refused(before, [edit]):
+        print(f"{edit.crate}/{edit.name}: NOT JUDGED, as its function is not proved without it: {first_error(before)}", flush=True)
+        return False
+    is_refused = edit.is_refused(after, [edit])
+    print(f"{edit.crate}/{edit.name}: {'refused, as it must be' if is_refused else f'NOT REFUSED: {first_error(after)}'}", flush=True)
+    return is_refused
+
+
+def try_some(below, rooms):
+    """Tries one edit of each crate that has any, some side by side, and returns the names of those that are not refused."""
+    edits = [chosen(it, commit()) for it in crates_with_edits()]
+    with concurrent.futures.ThreadPoolExecutor(rooms) as pool:
+        refused = pool.map(lambda it: tried_over_built(it, below), edits)
+        return [f"{edit.crate}/{edit.name}" for edit, is_refused in zip(edits, refused) if not is_refused]
+
+
+def known(over_stubs=False):
+    """Returns the sums that are written down; those judged over libraries without code only where that counts."""
+    rows = [it.split() for it in open(TRIED, encoding="utf-8")] if os.path.isfile(TRIED) else []
+    return {row[0]: row[1] for row in rows if over_stubs or row[2:] != [OVER_STUBS]}
+
+
+def write_down(crate, sums, over_stubs):
     """Writes down of which texts a crate's edits were refused. Other crates may be tried at the same time."""
+    mark = f" {OVER_STUBS}" if over_stubs else ""
     with open(TRIED, "a+", encoding="utf-8") as file:
         fcntl.flock(file, fcntl.LOCK_EX)
         file.seek(0)
-        rows = dict(it.rstrip("\n").split(" ", 1) for it in file)
-        rows = {name: it for name, it in rows.items() if not name.startswith(f"{crate}/")} | sums
+        before = dict(it.rstrip("\n").split(" ", 1) for it in file)
+        rows = {name: it for name, it in before.items() if not name.startswith(f"{crate}/")}
+        # (what was judged over the libraries themselves stays so)
+        rows |= {name: made if before.get(name) == made else made + mark for name, made in sums.items()}
         file.truncate(0)
         file.write("".join(f"{name} {it}\n" for name, it in sorted(rows.items())))
+
+
+def miscounted():
+    """Returns the crates whose number of edits isn't that of the list, which is to be changed with the edits."""
+    listed = dict(it.split() for it in open(COUNTS, encoding="utf-8"))
+    found = {it: str(len(files_below(f"{EDITS}/{it}"))) for it in crates_with_edits()}
+    return sorted(it for it in {*listed, *found} if listed.get(it) != found.get(it))
+
+
+def tell_known(below):
+    """Tells which crates' edits were all refused on just this text, and returns the others."""
+    failed = miscounted()
+    for crate in failed:
+        print(f"{crate}: it has not as many edits as {COUNTS} says")
+    for crate in crates_with_edits():
+        sums, refused = sums_of(crate, below), known()
+        left = [it for it in sums if refused.get(it) != sums[it]]
+        if left:
+            print(f"{crate}: {len(left)} of its {len(sums)} edits are still to be tried, as {left[0]}: rt check in its folder,")
+            print(f"  make edits CRATES={crate}, and commit {TRIED}")
+            failed.append(crate)
+        else:
+            print(f"{crate}: its {len(sums)} edits were all refused on just this text")
+    return failed
+
+
+def try_crate(crate, below, rooms, words):
+    """Tries the edits of a crate that are still to be tried, or all of them, and returns the names of those that are not refused."""
+    over_stubs = "--stubs" in words
+    sums, refused = sums_of(crate, below), known(over_stubs)
+    left = [it for it in sums if refused.get(it) != sums[it] or "--all" in words]
+    if not left:
+        print(f"{crate}: its {len(sums)} edits were all refused on just this text")
+        return []
+    let_through = tried_in_rooms(crate, below, [Edit(crate, f"{EDITS}/{it}") for it in left], rooms, over_stubs)
+    write_down(crate, {it: made for it, made in sums.items() if it.split("/")[1] not in let_through}, over_stubs)
+    return let_through
 
 
 def main(words):
     os.chdir(os.path.dirname(os.path.dirname(os.path.realpath(__file__))))
     below = libraries()
-    names = [it for it in words if not it.startswith("--")]
-    names = names or sorted(it for it in os.listdir("tests/edits") if os.path.isdir(f"tests/edits/{it}"))
+    names = [it for it in words if not it.startswith("--")] or crates_with_edits()
     rooms = next((int(it[len("--rooms=") :]) for it in words if it.startswith("--rooms=")), 1)
-    failed = []
-    for crate in names:
-        sums, refused = sums_of(crate, below), known()
-        left = [it for it in sums if refused.get(it) != sums[it] or "--all" in words]
-        if not left:
-            print(f"{crate}: its {len(sums)} edits were all refused on just this text")
-        elif "--known" in words:
-            print(f"{crate}: {len(left)} of its {len(sums)} edits are still to be tried, as {left[0]}: rt check in its folder,")
-            print(f"  make edits CRATES={crate}, and commit {TRIED}")
-            failed.append(crate)
-        else:
-            let_through = tried_in_rooms(crate, below, [Edit(crate, f"tests/edits/{it}") for it in left], rooms, "--stubs" in words)
-            failed += let_through
-            write_down(crate, {it: made for it, made in sums.items() if it.split("/")[1] not in let_through})
+    if "--known" in words:
+        failed = tell_known(below)
+    elif "--some" in words:
+        failed = try_some(below, rooms)
+    else:
+        failed = [it for crate in names for it in try_crate(crate, below, rooms, words)]
     if failed:
         print(f"FAILED: {' '.join(failed)}")
     return 1 if failed else 0

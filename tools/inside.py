@@ -19,7 +19,10 @@ PROGRAMS = [it for it in CRATES if not os.path.isfile(f"crates/{it}/src/lib.rt")
 # The toolchain reads links of generic types here; worked cases for tests alone.
 KEPT = ("formers.", "Recorders")
 IMPORT = re.compile(r"(?m)^\s*(?:ghost |pub |unfoldable )*use\s+Rattle\.(\w+)\.specs\.([^\s{};]+?)\.\{([^}]*)\}")
-DEFINED = re.compile(r"(?:  )?(?:(?:pub|abbrev|unfoldable|opaque)\s+)+(?:(record|data)\s+)?([^\s:(){},]+)\s*(?=[:({]|$)|(?!\s)([^\s:(){},=]+)\s*:(?=\s)")
+DEFINED = re.compile(
+    r"(?:  )?(?:(?:pub|abbrev|unfoldable|opaque)\s+)+(?:(record|data)\s+)?([^\s:(){},]+)\s*(?=[:({]|$)"
+    r"|(?!\s)([^\s:(){},=]+)\s*:(?=\s)"
+)
 FUNCTION = re.compile(r"(?m)^( *)(pub(?:\([a-z]+\))? )?(?:const )?fn (\w+)")
 ITEM = re.compile(r"(?m)^(?=(?:pub |pub\(crate\) |impl|fn |trait |const |struct |enum |#\[|mod |use |ghost use ))")
 
@@ -130,7 +133,8 @@ def cited_in(crate, definitions):
             if re.match(r"(pub(\(crate\))? )?trait ", head):
                 cites = [item] if is_of(re.search(r"trait (\w+)", head)[1]) else []
             elif impl:
-                shown = [body for name, body in re.findall(r"(?ms)^    ghost (?!use)(\w+)[^=]*=\s*\{(.*?)\};\s*$", item) if name not in ("invariant", "laws", "coded")]
+                members = re.findall(r"(?ms)^    ghost (?!use)(\w+)[^=]*=\s*\{(.*?)\};\s*$", item)
+                shown = [body for name, body in members if name not in ("invariant", "laws", "coded")]
                 cites = [*shown, *(text for _, is_public, text in clauses(item) if impl[1] or is_public)] if is_of(impl[2]) else []
             else:
                 cites = [text for name, is_public, text in clauses(item) if is_public and is_of(name)]

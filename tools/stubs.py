@@ -177,7 +177,8 @@ def stub_all_but(crate, folder, wanted):
 
 def ran(crate, folder, flags, seconds=None):
     """What a check says, without the holes of functions that rattle doesn't know by that path, and with one for each method of a trait."""
-    how = {"cwd": folder, "stdin": subprocess.DEVNULL, "stdout": subprocess.PIPE, "stderr": subprocess.STDOUT, "encoding": "utf-8", "errors": "replace"}
+    how = {"cwd": folder, "stdin": subprocess.DEVNULL, "stdout": subprocess.PIPE, "stderr": subprocess.STDOUT}
+    how |= {"encoding": "utf-8", "errors": "replace"}
     try:
         said = subprocess.run([f"{KIT}/bin/rattle", "check", *words(crate, flags)], timeout=seconds, **how).stdout
     except subprocess.TimeoutExpired:
@@ -266,7 +267,8 @@ def tell(crate, chosen, found):
         if f not in judged:
             print(f"untested    {f.shown}")
     count = collections.Counter(it.kind for it in found)
-    print(f"plants crate={crate} planted-in={len(chosen)} untested={len(chosen) - len(judged)} {' '.join(f'{it}={count[it]}' for it in plants.KINDS)}")
+    kinds = " ".join(f"{it}={count[it]}" for it in plants.KINDS)
+    print(f"plants crate={crate} planted-in={len(chosen)} untested={len(chosen) - len(judged)} {kinds}")
 
 
 def main():
