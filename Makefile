@@ -63,7 +63,7 @@ edits:
 
 # One wrong body of each crate, which the commit's name chooses, over what `rt ci` built; not of the gate.
 some:
-	tools/edits.py --some --rooms=$$(nproc)
+	tools/some.py --rooms=$$(nproc)
 
 install: build
 	install -D $(PROGRAM) $(DESTDIR)$(PREFIX)/bin/islec

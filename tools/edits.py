@@ -3,7 +3,6 @@
 
 usage: tools/edits.py [--all] [--rooms=N] [--stubs] [CRATE ..]     those of the crates that are named, or of all crates
        tools/edits.py --known                            tries nothing, and ends with 1 where a crate's wrong bodies are still to be tried
-       tools/edits.py --some [--rooms=N]                 tries one of each crate, chosen by the commit's name, over what 'rt ci' just built
 
 tests/edits/CRATE/NAME.edit has a line 'file: src/FILE.rt' and pairs of lines 'old: TEXT' and 'new: TEXT', where the old TEXT stands once in that
 file and the new one says something else. tests/edits/counts.txt has the number of edits of each crate.
@@ -438,68 +437,6 @@ def tried_in_rooms(crate, below, edits, rooms, over_stubs):
         return [name for it in tries for name in it.result()]
 
 
-def commit():
-    """Returns the name of the commit that is checked out."""
-    return subprocess.run(["git", "rev-parse", "HEAD"], stdout=subprocess.PIPE, check=True, text=True).stdout.strip()
-
-
-def chosen(crate, name):
-    """Returns one edit of a crate's functions, whichever a commit's name chooses."""
-    edits = [it for it in edits_of(crate) if it.functions]
-    number = int(hashlib.sha256(f"{name} {crate}".encode()).hexdigest(), 16)
-    return edits[number % len(edits)]
-
-
-def built(room, crate, below):
-    """Copies the sources of a crate and of those below it, and links what 'rt ci' built of these."""
-    with open(f"{room}/crates.txt", "w", encoding="utf-8") as it:
-        it.write("".join(row for row in open("crates.txt", encoding="utf-8") if row.split(":")[0].strip() in [*below[crate], crate]))
-    for name in below[crate]:
-        if not os.path.isdir(f"crates/{name}/out/rlib"):
-            sys.exit(f"{name} is not built: rt ci builds it")
-        for part in PARTS:
-            if os.path.isdir(f"crates/{name}/{part}"):
-                shutil.copytree(f"crates/{name}/{part}", f"{room}/crates/{name}/{part}")
-        shutil.copytree(f"crates/{name}/out/rlib", f"{room}/crates/{name}/out/rlib", copy_function=os.link)
-
-
-def judged_alone(room, edit):
-    """What the prover says of an edit's functions as they stand in a room, in a crate of which they alone have code."""
-    import stubs
-
-    wanted = {(file, name) for file, name, _ in edit.functions}
-    stubs.stub_all_but(edit.crate, f"{room}/crates/{edit.crate}", wanted)
-    modules = sorted({file[len("src/") : -len(".rt")].replace("/", "::") for file, _ in wanted})
-    said, _ = judged(room, edit.crate, ["--allow-holes", *[word for it in modules for word in ("--only", it)]])
-    if not re.search(r"(?m)^only=\d", said):
-        sys.exit(f"{edit.crate}/{edit.name}: the prover did not judge it:\n" + "\n".join(said.split("\n")[-12:]))
-    return said
-
-
-def tried_over_built(edit, below):
-    """Tries an edit over the libraries as 'rt ci' built them: its functions must be proved as they are, and refused with the edit."""
-    with tempfile.TemporaryDirectory(prefix=".edits-", dir=".") as room:
-        built(room, edit.crate, below)
-        fresh(room, edit.crate)
-        before = judged_alone(room, edit)
-        put_in(room, [edit])
-        after = judged_alone(room, edit)
-    if edit.is_refused(before, [edit]):
-        print(f"{edit.crate}/{edit.name}: NOT JUDGED, as its function is not proved without it: {first_error(before)}", flush=True)
-        return False
-    is_refused = edit.is_refused(after, [edit])
-    print(f"{edit.crate}/{edit.name}: {'refused, as it must be' if is_refused else f'NOT REFUSED: {first_error(after)}'}", flush=True)
-    return is_refused
-
-
-def try_some(below, rooms):
-    """Tries one edit of each crate that has any, some side by side, and returns the names of those that are not refused."""
-    edits = [chosen(it, commit()) for it in crates_with_edits()]
-    with concurrent.futures.ThreadPoolExecutor(rooms) as pool:
-        refused = pool.map(lambda it: tried_over_built(it, below), edits)
-        return [f"{edit.crate}/{edit.name}" for edit, is_refused in zip(edits, refused) if not is_refused]
-
-
 def known(over_stubs=False):
     """Returns the sums that are written down; those judged over libraries without code only where that counts."""
     rows = [it.split() for it in open(TRIED, encoding="utf-8")] if os.path.isfile(TRIED) else []
@@ -564,8 +501,6 @@ def main(words):
     rooms = next((int(it[len("--rooms=") :]) for it in words if it.startswith("--rooms=")), 1)
     if "--known" in words:
         failed = tell_known(below)
-    elif "--some" in words:
-        failed = try_some(below, rooms)
     else:
         failed = [it for crate in names for it in try_crate(crate, below, rooms, words)]
     if failed:

@@ -7,7 +7,7 @@ use Rattle.std.proofs.lemmas.List.{length-map}
 use Rattle.std.proofs.lemmas.List.Sorted.{Contains-permutation, IsPermutation-sym}
 use Rattle.std.specs.Map.{keys_of}
 use Rattle.std.proofs.lemmas.Option.{same_Some, slice_get-get_or, slice_get_within}
-use Rattle.isle_types.specs.JoinedSets.{AreDisjoint}
+use Rattle.isle_containers.specs.JoinedSets.{AreDisjoint}
 use Rattle.isle_types.specs.declared.ids.Sym.{Sym}
 use Rattle.isle_meaning.specs.Sites.{Site, iterator}
 use Rattle.isle_meaning.specs.Demands as meaning

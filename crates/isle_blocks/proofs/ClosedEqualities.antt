@@ -13,7 +13,7 @@ use Rattle.std.proofs.lemmas.Map.Keys.{Less-from_sorted}
 use Rattle.std.proofs.lemmas.Map.Made.{AllPairs-from_IsDistinct}
 use Rattle.std.proofs.lemmas.Map.Views.{Contains-from_any}
 use Rattle.std.specs.Set.{is_member}
-use Rattle.isle_types.specs.JoinedSets.{AreDisjoint, are_joined, members}
+use Rattle.isle_containers.specs.JoinedSets.{AreDisjoint, are_joined, members}
 use Rattle.isle_types.specs.declared.ids.Sym.{Sym}
 use Rattle.isle_meaning.specs.Sites.{Site}
 use Rattle.isle_meaning.specs.Demands.{Demand, constrained, equal, Among}
@@ -22,7 +22,7 @@ use Rattle.isle_meaning.specs.Faults as faults
 use Rattle.isle_meaning.specs.Faults.{AreSoMany, IsConstrained, IsLeftEqual}
 use Rattle.isle_meaning.specs.Numbered.{Row, At}
 use Rattle.isle_meaning.proofs.Matching.Numbering.{one_site}
-use Rattle.isle_types.proofs.RootedTables.{Contains-map}
+use Rattle.isle_containers.proofs.RootedTables.{Contains-map}
 use Rattle.isle_blocks.specs.declared.ids.BindingId.{BindingId}
 use Rattle.isle_blocks.specs.declared.constraint.Constraint.{Constraint}
 use Rattle.isle_blocks.specs.declared.rule.Rule.{Rule}

@@ -1,6 +1,6 @@
 -- Sites are numbered in the order in which a rule first needs them, in the table of the rule set too.
 use Rattle.std.proofs.Common.{◌≡◌, ◌++◌, inl, inr, ℕ, List, [], ◌∷◌, refl, sym, ap, subst}
-use Rattle.isle_types.proofs.Lists.{slice_get-kept}
+use Rattle.isle_containers.proofs.Lists.{slice_get-kept}
 use Rattle.isle_meaning.specs.Sites.{Site, bool_site, int_site, prim_site, argument, extractor_call, constructor_call, iterator}
 use Rattle.isle_meaning.specs.Sites.{make_variant, match_variant, make_struct, extract_struct, make_some, match_some, match_tuple}
 use Rattle.isle_meaning.specs.Numbered.{Row}

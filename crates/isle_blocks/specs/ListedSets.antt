@@ -2,7 +2,7 @@
 use Rattle.std.specs.Prelude.{◌≡◌, ◌≤◌, true, List, All, slice_get}
 use Rattle.std.specs.List.{filter_map}
 use Rattle.std.specs.List.Sorted.{IsStrictlySortedBy}
-use Rattle.isle_types.specs.JoinedSets.{AreDisjoint, are_joined}
+use Rattle.isle_containers.specs.JoinedSets.{AreDisjoint, are_joined}
 use Rattle.isle_blocks.specs.declared.ids.BindingId.{BindingId}
 use Rattle.isle_blocks.specs.ClosedRules.{same_site}
 use Rattle.isle_blocks.specs.Rules.{site_cmp}

@@ -11,7 +11,7 @@ ghost use Rattle.isle_blocks.specs.Inside.Assembly.{multi_call, IsAssembled};
 ghost use Rattle.isle_blocks.specs.RuleSets.{IsToldOf};
 ghost use Rattle.isle_meaning.specs.Demands.{Among};
 ghost use Rattle.isle_meaning.specs.Faults.{IsUnreachable};
-ghost use Rattle.isle_types.specs.JoinedSets.{AreDisjoint};
+ghost use Rattle.isle_containers.specs.JoinedSets.{AreDisjoint};
 ghost use Rattle.isle_blocks.specs.ClosedRules.{same_site};
 ghost use Rattle.isle_blocks.specs.Tables.{IsTable};
 ghost use Rattle.isle_blocks.specs.Inside.ClosureStates.{IsReady};

@@ -11,7 +11,7 @@ ghost use Rattle.isle_blocks.specs.declared.binding.Binding.{Binding as Site};
 ghost use Rattle.isle_blocks.specs.declared.constraint.Constraint.{Constraint as Test};
 ghost use Rattle.std.specs.List.Sorted.{IsStrictlySortedBy};
 ghost use Rattle.std.specs.Map.{keys_of};
-ghost use Rattle.isle_types.specs.JoinedSets.{AreDisjoint};
+ghost use Rattle.isle_containers.specs.JoinedSets.{AreDisjoint};
 ghost use Rattle.isle_blocks.specs.ClosedRules.{NumbersSayCount, NumbersSayDiffer, NumbersSayFree, NumbersSayOverlaps};
 ghost use Rattle.isle_blocks.specs.ClosedRules.{NumbersSayShadows, NumbersSaySubset, NumbersSayTotal, NumbersSayWithin, same_site};
 ghost use Rattle.isle_blocks.specs.DefinedSets.{TermsHaveFewArguments};

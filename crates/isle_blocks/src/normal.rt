@@ -2,7 +2,7 @@
 ghost use Rattle.std.specs.Prelude.{◌≡◌, IfOk, length};
 ghost use Rattle.std.specs.List.Sorted.{IsStrictlySortedBy};
 ghost use Rattle.std.specs.Map.{keys_of};
-ghost use Rattle.isle_types.specs.JoinedSets.{AreDisjoint};
+ghost use Rattle.isle_containers.specs.JoinedSets.{AreDisjoint};
 ghost use Rattle.isle_types.specs.Names.{AreDistinct};
 ghost use Rattle.isle_blocks.specs.ClosedRules.{same_site};
 ghost use Rattle.isle_blocks.specs.Rules.{site_cmp};

@@ -4,7 +4,7 @@ ghost use Rattle.std.specs.BTreeMap.{is_at};
 ghost use Rattle.std.specs.Map.{lookup};
 ghost use Rattle.std.specs.Option.{option_copied};
 ghost use Rattle.std.specs.Ordering.{nat_cmp};
-ghost use Rattle.isle_types.specs.JoinedSets.{members};
+ghost use Rattle.isle_containers.specs.JoinedSets.{members};
 ghost use Rattle.isle_blocks.specs.ListedSets.{ListsEqualSites};
 ghost use Rattle.isle_blocks.specs.Rules.{AreApart, HaveInCommon, OverlapIs, Overlaps, Shadows, site_cmp};
 

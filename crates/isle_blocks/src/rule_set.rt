@@ -17,7 +17,7 @@ use std::alloc::Global;
 use std::marker::Model;
 
 /// The rules of a term that can match, and the sites that they speak of, each once.
-#[derive(Debug, Drop)]
+#[derive(Drop)]
 pub struct RuleSet {
     rules: Vec<Rule>,
     sites: Sites,

@@ -10,7 +10,7 @@ use std::alloc::{AllocError, AllocFailed, Global};
 use std::marker::Model;
 
 /// The sites of a rule or of a rule set: each once; a site's number is its place.
-#[derive(Debug, Drop)]
+#[derive(Drop)]
 pub(crate) struct Sites {
     bindings: SortedSet<Binding>,
 }

@@ -22,7 +22,7 @@ use isle_types::TermId;
 use std::alloc::{AllocError, Global};
 
 /// The rule sets of all terms with rules, ascending by the term, and the errors of rules that can't match.
-#[derive(Debug, Drop)]
+#[derive(Drop)]
 pub struct TermSets {
     pub sets: Vec<(TermId, RuleSet)>,
     pub unreachable: Vec<Error>,

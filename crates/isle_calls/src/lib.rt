@@ -8,6 +8,7 @@ pub mod frames;
 pub mod host;
 pub mod roads;
 pub mod store;
+pub mod traced;
 
 pub use answer::{Answer, Called, Effect};
 pub use choices::Choice;

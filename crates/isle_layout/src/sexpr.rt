@@ -8,7 +8,7 @@ use std::marker::Model;
 
 /// An S-expression: what is printed of a tree.
 #[cycle(sexpr)]
-#[derive(Debug, Drop)]
+#[derive(Drop)]
 pub enum SExpr {
     /// A symbol or an integer, as it is written.
     Atom(Text),
@@ -20,7 +20,6 @@ pub enum SExpr {
 
 /// An S-expression below another, seen as its tree.
 #[cycle(sexpr)]
-#[derive(Debug)]
 pub struct BoxedSExpr {
     sexpr: Box<SExpr>,
 }
@@ -79,7 +78,7 @@ impl BoxedSExpr {
 
 /// The S-expressions of a list, seen as their trees.
 #[cycle(sexpr)]
-#[derive(Debug, Drop)]
+#[derive(Drop)]
 pub struct SExprs {
     sexprs: Vec<SExpr>,
 }

@@ -25,7 +25,7 @@ use isle_types::{TermId, TypeEnv};
 use std::alloc::{AllocError, Global};
 
 /// What is asked of a program at any time.
-#[derive(Debug, Drop)]
+#[derive(Drop)]
 pub(crate) struct Numbers {
     /// The terms with rules, ascending.
     pub(crate) with_rules: Vec<TermId>,

@@ -13,7 +13,7 @@ use isle_types::{Sym, TermId, TypeId, VarId, VariantId};
 use std::alloc::{AllocError, Global};
 
 /// A part of an expression: a leaf, or what is made of earlier parts, by their numbers.
-#[derive(Debug, Drop)]
+#[derive(Drop)]
 pub enum Part {
     Var(VarId),
     Bool(bool),
@@ -43,7 +43,7 @@ impl Part {
 }
 
 /// An expression laid out.
-#[derive(Debug, Drop)]
+#[derive(Drop)]
 pub struct Laid {
     pub parts: Vec<Part>,
     /// The parts that are impure calls, in order.
@@ -53,7 +53,7 @@ pub struct Laid {
 }
 
 /// The expressions of a rule laid out.
-#[derive(Debug, Drop)]
+#[derive(Drop)]
 pub struct LaidRule {
     pub iflets: Vec<Laid>,
     pub right: Laid,

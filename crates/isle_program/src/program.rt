@@ -17,7 +17,7 @@ use std::alloc::{AllocError, Global};
 use std::cmp::Reverse;
 
 /// A compiled list of texts.
-#[derive(Debug, Drop)]
+#[derive(Drop)]
 pub struct Program {
     tyenv: TypeEnv,
     termenv: TermEnv,

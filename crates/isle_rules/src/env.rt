@@ -19,7 +19,7 @@ use std::alloc::{AllocError, Global};
 use std::marker::Model;
 
 /// The terms and rules of a list of definitions: `cranelift_isle::sema::TermEnv`. Contracts see its tables.
-#[derive(Debug, Drop)]
+#[derive(Drop)]
 pub struct TermEnv {
     alloc: Global,
     terms: Vec<Term>,

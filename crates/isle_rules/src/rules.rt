@@ -10,7 +10,7 @@ use isle_types::{RuleId, Sym, TermId, TypeEnv, TypeId, VarId};
 use std::alloc::{AllocError, Global};
 
 /// A typed rule. Its variables are numbered from 0 as they are bound.
-#[derive(Debug, Drop)]
+#[derive(Drop)]
 pub struct Rule {
     pub id: RuleId,
     pub root_term: TermId,
@@ -50,14 +50,14 @@ pub struct BoundVar {
 }
 
 /// A condition of a rule: `lhs` matches the value of `rhs`.
-#[derive(Debug, Drop)]
+#[derive(Drop)]
 pub struct IfLet {
     pub lhs: Pattern,
     pub rhs: Expr,
 }
 
 /// A typed pattern. A name that binds is a `BindPattern` of a `Wildcard`.
-#[derive(Debug, PartialEq, Eq, Drop)]
+#[derive(PartialEq, Eq, Drop)]
 pub enum Pattern {
     BindPattern(TypeId, VarId, Boxed<Pattern>),
     Var(TypeId, VarId),
@@ -88,7 +88,7 @@ impl Pattern {
 }
 
 /// A typed expression. The variables of a `Let` are bound in order, each after its value.
-#[derive(Debug, PartialEq, Eq, Drop)]
+#[derive(PartialEq, Eq, Drop)]
 pub enum Expr {
     Term(TypeId, TermId, Seq<Expr>),
     Var(TypeId, VarId),

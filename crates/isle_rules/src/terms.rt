@@ -11,7 +11,7 @@ use isle_ast::pos::Pos;
 use isle_types::{Sym, TermId, TypeId, VariantId};
 
 /// A term: a declared one, or a variant of an enum by its full name.
-#[derive(Debug, Clone, PartialEq, Eq, Drop)]
+#[derive(Clone, PartialEq, Eq, Drop)]
 pub struct Term {
     pub id: TermId,
     pub decl_pos: Pos,
@@ -45,7 +45,7 @@ impl TermFlags {
 }
 
 /// What a term is.
-#[derive(Debug, Clone, PartialEq, Eq, Drop)]
+#[derive(Clone, PartialEq, Eq, Drop)]
 pub enum TermKind {
     EnumVariant {
         variant: VariantId,
@@ -68,7 +68,7 @@ pub enum ConstructorKind {
 }
 
 /// How a declared term takes a value apart.
-#[derive(Debug, Clone, PartialEq, Eq, Drop)]
+#[derive(Clone, PartialEq, Eq, Drop)]
 pub enum ExtractorKind {
     /// By a pattern, in which `MacroArg`s stand for the arguments of a use.
     InternalExtractor {

@@ -2,3 +2,5 @@
 pub mod Agreeing
 -- What runs say, and that each call has one.
 pub mod Runs
+-- What trees of compiled programs do.
+pub mod Promised

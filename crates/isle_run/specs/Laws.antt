@@ -14,3 +14,5 @@ pub mod Queries
 pub mod TreeCalls
 -- Runs of calls by trees and by rules.
 pub mod Runs
+-- What the trees of a compiled program do.
+pub mod Trees

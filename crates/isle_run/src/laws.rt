@@ -9,6 +9,12 @@ ghost use Rattle.isle_run.specs.Laws.Runs.{RunsByTreesSaySo, RunsByRulesSaySo, R
 ghost use Rattle.isle_run.specs.Laws.Runs.{DeeperRunsByTreesAreOne, DeeperRunsByRulesAreOne};
 ghost use Rattle.isle_run.specs.Laws.Sound.{CompiledProgramsAreSound};
 ghost use Rattle.isle_run.specs.Laws.TreeCalls.{AcyclicCallsAreNotSpent, CallsAgree};
+ghost use Rattle.isle_run.specs.Laws.Trees.{OfEachTerm};
+ghost use Rattle.isle_blocks.specs.Trees.Promises.{ChoosesAsRules, BindsWhatIsAsked, HasArmsInOrder, IsShort};
+ghost use Rattle.isle_blocks.specs.Trees.ReadPromises.{ReadsWhatIsBound, BindsItsFields, BindsFieldsByTests};
+ghost use Rattle.isle_blocks.specs.Trees.RightPromises.{AnswersAsRules};
+ghost use Rattle.isle_blocks.specs.Trees.RuleBags.{MakesItsBag};
+ghost use Rattle.isle_blocks.specs.Trees.TypedCalls.{CallsTakeTheirTypes};
 ghost use Rattle.isle_meaning.specs.Laws.Spelling.{AlikeProgramsMeanTheSame};
 ghost use Rattle.isle_run.specs.Laws.Spelling.{AlikeTextsAreAcceptedAlike, AlikeTextsMakeAlikePrograms};
 ghost use Rattle.std.specs.Prelude.{◌≡◌, ℕ, List};
@@ -51,6 +57,22 @@ pub fn queries_are_one()
 /// A compiled program says what its definitions say, and its rules are sound.
 pub fn compiled_programs_are_sound()
     ensures { CompiledProgramsAreSound }
+{}
+
+/// The tree of each term with rules of a compiled program does all that `built_trees_keep_promises` of `isle_blocks` says: its walks choose as the
+/// rules do, answer what right sides do, and of a `multi` term make its bag; it binds what the rules ask, each site behind its parts, and calls on
+/// values of their types; its arms are in order, and its walks short.
+pub fn compiled_trees_keep_promises()
+    ensures chooses { OfEachTerm ChoosesAsRules }
+    ensures answers { OfEachTerm AnswersAsRules }
+    ensures bag { OfEachTerm MakesItsBag }
+    ensures asks { OfEachTerm BindsWhatIsAsked }
+    ensures reads { OfEachTerm ReadsWhatIsBound }
+    ensures fields { OfEachTerm BindsItsFields }
+    ensures by_tests { OfEachTerm BindsFieldsByTests }
+    ensures typed { OfEachTerm CallsTakeTheirTypes }
+    ensures ascends { OfEachTerm HasArmsInOrder }
+    ensures few { OfEachTerm IsShort }
 {}
 
 /// The same rules in another order give a call the same meaning, in a checked program and in texts.

@@ -28,7 +28,7 @@ pub fn after_first(bytes: &[u8]) -> &[u8]
 }
 
 /// What a text begins with.
-#[derive(Clone, Copy, Debug, PartialEq, Eq)]
+#[derive(Clone, Copy, PartialEq, Eq)]
 pub enum Lead {
     End,
     Space,
@@ -119,7 +119,7 @@ fn after_line(bytes: &[u8]) -> &[u8]
 }
 
 /// What two bytes are to a comment.
-#[derive(Clone, Copy, Debug, PartialEq, Eq)]
+#[derive(Clone, Copy, PartialEq, Eq)]
 enum Mark {
     Opens,
     Closes,

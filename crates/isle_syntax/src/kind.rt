@@ -13,7 +13,7 @@ use crate::symbol::{begins_dollar, is_const_name, is_name};
 use isle_ast::pos::Pos;
 
 /// What kind of token stands next. A symbol's kind is the first of these that it is.
-#[derive(Debug, Clone, Copy, PartialEq, Eq)]
+#[derive(Clone, Copy, PartialEq, Eq)]
 pub enum Kind {
     /// The text's end.
     End,
@@ -36,7 +36,7 @@ pub enum Kind {
 }
 
 /// What word of the language stands next.
-#[derive(Debug, Clone, Copy, PartialEq, Eq)]
+#[derive(Clone, Copy, PartialEq, Eq)]
 pub enum Keyword {
     Type,
     Decl,
@@ -57,7 +57,7 @@ pub enum Keyword {
 }
 
 /// An integer: one of an i128, or one from 2^127 on.
-#[derive(Debug, Clone, Copy, PartialEq, Eq)]
+#[derive(Clone, Copy, PartialEq, Eq)]
 pub enum Literal {
     Int(i128),
     Big(u128),

@@ -55,7 +55,7 @@ impl Token {
 }
 
 /// What stands next in a text.
-#[derive(Debug, Drop)]
+#[derive(Drop)]
 enum Lookahead {
     Token((Pos, Token)),
     End,
@@ -68,7 +68,7 @@ enum Lookahead {
 }
 
 /// The tokens of a text, one after another.
-#[derive(Debug, Drop)]
+#[derive(Drop)]
 pub struct Lexer<'src> {
     alloc: Global,
     file: usize,

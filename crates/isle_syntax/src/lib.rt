@@ -9,6 +9,7 @@ pub mod lexer;
 mod number;
 pub mod parser;
 mod symbol;
+pub mod without_pos;
 
 pub use isle_ast::{Boxed, Refusal, Seq, Shared, Text, ast, files};
 pub use symbol::{is_const_name, is_ident};

@@ -21,6 +21,7 @@ pub(crate) mod unclosed;
 
 pub use crate::kind::is_kept_word;
 use crate::lexer::Lexer;
+use crate::without_pos::def_without_pos;
 use isle_ast::Refusal;
 use isle_ast::ast::Def;
 use isle_ast::error::Error;
@@ -78,13 +79,13 @@ pub fn parse_without_pos(lexer: Lexer<'_>) -> Result<Vec<Def>, Refusal<Error>>
     let placed = parse(lexer)?;
     let mut defs = Vec::new(alloc);
     for def in placed {
-        defs.push(def.without_pos(alloc)?)?;
+        defs.push(def_without_pos(alloc, def)?)?;
     }
     Ok(defs)
 }
 
 /// A parser of the tokens of one text.
-#[derive(Debug, Drop)]
+#[derive(Drop)]
 pub struct Parser<'src> {
     lexer: Lexer<'src>,
 }

@@ -12,7 +12,7 @@ use Rattle.isle_types.specs.IntTypes.{builtin_names}
 use Rattle.isle_types.specs.Names.{position_of, IsDuplicate}
 use Rattle.isle_types.specs.Environment.{as_type, type_definitions, type_names}
 use Rattle.isle_types.specs.TypeFaults.{Breaks, name_taken}
-use Rattle.isle_types.proofs.Lists.{slice_get-kept}
+use Rattle.isle_containers.proofs.Lists.{slice_get-kept}
 use Rattle.isle_types.proofs.NamePlaces.{place_found}
 
 -- a definition that is none of a type

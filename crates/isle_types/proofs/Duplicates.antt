@@ -8,7 +8,7 @@ use Rattle.std.proofs.lemmas.List.Folds.{list_any-append}
 use Rattle.isle_types.specs.declared.ids.Sym.{Sym}
 use Rattle.isle_types.specs.Names.{AreDistinct, IsDuplicate}
 use Rattle.isle_types.specs.TypeEnvs.{symbol_at}
-use Rattle.isle_types.proofs.Lists.{slice_get-pushed, from_take, within-take}
+use Rattle.isle_containers.proofs.Lists.{slice_get-pushed, from_take, within-take}
 
 -- whether a symbol is among others
 abbrev pub among : Sym → List Sym → Bool

@@ -19,7 +19,7 @@ use Rattle.isle_types.specs.Environment.{IsField, IsTupleField}
 use Rattle.isle_types.specs.TypeFaults.{IsTypeFault}
 use Rattle.isle_types.specs.TypeEnvs.{type_of_name, type_at, CountUp, IsShownField, IsShownTupleField, HasMoreNames}
 use Rattle.isle_types.specs.Inside.Readings.{HasTypeNames, ReadsFields, ReadsTupleFields, IsTypeErrorAt}
-use Rattle.isle_types.proofs.Lists.{taken_more, AllZip-weaker}
+use Rattle.isle_containers.proofs.Lists.{taken_more, AllZip-weaker}
 use Rattle.isle_types.proofs.NamePlaces.{place_found}
 use Rattle.isle_types.proofs.ShownTypes.{field_kept}
 

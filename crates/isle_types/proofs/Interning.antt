@@ -9,8 +9,8 @@ use Rattle.std.proofs.lemmas.List.{map-append, length-map}
 use Rattle.isle_types.specs.declared.ids.Sym.{Sym}
 use Rattle.isle_types.specs.Names.{position_of}
 use Rattle.isle_types.specs.Interned.{IsInterned}
-use Rattle.isle_types.specs.StableMaps.{value_at, value_at_text}
-use Rattle.isle_types.proofs.Lists.{slice_get-last}
+use Rattle.isle_containers.specs.StableMaps.{value_at, value_at_text}
+use Rattle.isle_containers.proofs.Lists.{slice_get-last}
 use Rattle.isle_types.proofs.NamePlaces.{same_name, place_last, place_other, once_pushed, differ, differ_back}
 
 abbrev pub text_eq : String Global → String Global → Bool

@@ -11,8 +11,8 @@ use Rattle.std.proofs.lemmas.List.Quantifiers.{position-Some}
 use Rattle.std.proofs.lemmas.List.Sums.{fails_before_first}
 use Rattle.std.proofs.lemmas.Option.{slice_get-get_or, slice_get_within, get_or_from_slice_get}
 use Rattle.isle_types.specs.Names.{AreDistinct}
-use Rattle.isle_types.specs.SortedSets.{AreUnequal, number_in, with_member}
-use Rattle.isle_types.proofs.Lists.{slice_get-pushed}
+use Rattle.isle_containers.specs.SortedSets.{AreUnequal, number_in, with_member}
+use Rattle.isle_containers.proofs.Lists.{slice_get-pushed}
 
 module _ {K : Type 0} {cmp : K → K → Ordering} (level : (a b : K) → (cmp a b ≡ Equal) ↔ (a ≡ b)) where
   -- members that are unequal are distinct

@@ -23,7 +23,7 @@ use Rattle.isle_types.specs.Environment.{IsType, HasAllowedSize, AreWithinSizes,
 use Rattle.isle_types.specs.TypeFaults.{Breaks, type_breaks, IsTypeFault}
 use Rattle.isle_types.specs.TypeEnvs.{type_of_name, CountUp, IsShown, HasMoreNames}
 use Rattle.isle_types.specs.Inside.Readings.{HasTypeNames, HasReadTypes, ReadsType, ReadsTypes, AreTypeFaults, IsDefinitionFault, IsLoneSizeFault}
-use Rattle.isle_types.proofs.Lists.{AllZip-weaker}
+use Rattle.isle_containers.proofs.Lists.{AllZip-weaker}
 use Rattle.isle_types.proofs.ShownTypes.{type_kept}
 use Rattle.isle_types.proofs.BuiltinTurns.{builtins_count}
 use Rattle.isle_types.proofs.DefinitionTurns.{passed_over, taken_up, taken_place}

@@ -5,7 +5,7 @@ use Rattle.std.specs.Option.{option_map}
 use Rattle.std.proofs.lemmas.Option.{same_Some, none-some}
 use Rattle.std.proofs.lemmas.Slice.Eq.{bytes_eq-Decides}
 use Rattle.isle_types.specs.Names.{position_of, with_name, AreDistinct, KeepsNames}
-use Rattle.isle_types.proofs.Lists.{slice_get-kept, slice_get-pushed}
+use Rattle.isle_containers.proofs.Lists.{slice_get-kept, slice_get-pushed}
 
 -- a name equals itself
 pub same_name : (name : List ℕ) → bytes_eq name name ≡ true

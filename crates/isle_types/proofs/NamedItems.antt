@@ -6,7 +6,7 @@ use Rattle.std.proofs.lemmas.Option.{same_Some, none-some, slice_get_within}
 use Rattle.isle_types.specs.declared.ids.Sym.{Sym}
 use Rattle.isle_types.specs.Names.{AreDistinct, IsDuplicate, KeepsNames}
 use Rattle.std.proofs.lemmas.Slice.Zip.{all_zipped_more}
-use Rattle.isle_types.proofs.Lists.{taken_more, AllZip-weaker}
+use Rattle.isle_containers.proofs.Lists.{taken_more, AllZip-weaker}
 use Rattle.isle_types.specs.TypeEnvs.{symbol_at}
 
 module _ {A B : Type 0} (f : A → List ℕ) (g : B → Sym) (names : List (List ℕ)) where

@@ -9,7 +9,7 @@ use Rattle.isle_types.specs.declared.ids.Sym.{Sym}
 use Rattle.isle_types.specs.declared.ids.TypeId.{TypeId}
 use Rattle.isle_types.specs.Names.{position_of, with_name, AreDistinct, KeepsNames}
 use Rattle.isle_types.specs.Interned.{entry_of, AreInterned}
-use Rattle.isle_types.specs.StableMaps.{value_at}
+use Rattle.isle_containers.specs.StableMaps.{value_at}
 use Rattle.isle_types.specs.TypeTables.{name_at, by_name}
 use Rattle.isle_types.specs.TypeEnvs.{symbol_at}
 use Rattle.isle_types.proofs.NamePlaces.{place_found, place_missing, with_name-keeps}

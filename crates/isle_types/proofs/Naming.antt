@@ -10,7 +10,7 @@ use Rattle.isle_types.specs.declared.ids.TypeId.{TypeId}
 use Rattle.isle_types.specs.Names.{position_of, AreDistinct}
 use Rattle.isle_types.specs.Interned.{entry_of, AreInterned}
 use Rattle.isle_types.specs.TypeEnvs.{symbol_at, type_at}
-use Rattle.isle_types.specs.StableMaps.{value_at}
+use Rattle.isle_containers.specs.StableMaps.{value_at}
 use Rattle.isle_types.specs.TypeTables.{by_name}
 use Rattle.isle_types.proofs.NamedTables.{at_place, named_entry}
 use Rattle.isle_types.proofs.NamePlaces.{place_found, place_known, place_last, place_other, place_there}

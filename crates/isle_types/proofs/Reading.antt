@@ -19,7 +19,7 @@ use Rattle.isle_types.specs.Names.{position_of, AreDistinct, KeepsNames}
 use Rattle.isle_types.specs.Environment.{Environment, NamedType, IsType, Makes, type_definitions, constant_definitions, type_names, names_in}
 use Rattle.isle_types.specs.TypeEnvs.{type_at, type_of_name, CountUp, IsShown, Shows}
 use Rattle.isle_types.specs.Inside.Readings.{HasTypeNames, HasReadTypes, ReadsConstants}
-use Rattle.isle_types.proofs.Lists.{AllZip-weaker}
+use Rattle.isle_containers.proofs.Lists.{AllZip-weaker}
 use Rattle.isle_types.proofs.ShownTypes.{type_kept}
 
 -- types have the names of their definitions

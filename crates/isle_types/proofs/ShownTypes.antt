@@ -14,7 +14,7 @@ use Rattle.isle_types.specs.Environment.{primitive, enum, struct}
 use Rattle.isle_types.specs.TypeEnvs.{IsShownField, AreShownFields, IsShownVariant, IsShownAs, IsShownShape, IsShown, Shows, HasMoreNames}
 use Rattle.isle_types.specs.TypeEnvs.{CountUp, type_of_name, type_of_constant}
 use Rattle.isle_types.specs.Types.{id_of}
-use Rattle.isle_types.proofs.Lists.{AllZip-weaker}
+use Rattle.isle_containers.proofs.Lists.{AllZip-weaker}
 
 pub field_kept : (old new : List (List ℕ)) → KeepsNames old new → (field : List ℕ × ℕ) (made : StructField) → IsShownField old field made
     → IsShownField new field made

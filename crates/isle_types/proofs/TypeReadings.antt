@@ -24,7 +24,7 @@ use Rattle.isle_types.specs.Environment.{HaveAllowedSizes, field_count}
 use Rattle.isle_types.specs.TypeFaults.{IsTypeOrSize, IsTypeFault}
 use Rattle.isle_types.specs.TypeEnvs.{IsShownVariant, IsShownShape, StandsAt}
 use Rattle.isle_types.specs.Inside.Readings.{ReadsFields, ReadsTupleFields, ReadsFieldList, ReadsVariant, ReadsVariants, ReadsType}
-use Rattle.isle_types.proofs.Lists.{taken_more, AllZip-weaker}
+use Rattle.isle_containers.proofs.Lists.{taken_more, AllZip-weaker}
 use Rattle.isle_types.proofs.ShownTypes.{variant_kept}
 use Rattle.isle_types.proofs.FieldReadings.{count_more}
 

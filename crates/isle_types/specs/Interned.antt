@@ -4,7 +4,7 @@ use Rattle.std.specs.Option.{option_map}
 use Rattle.isle_types.specs.declared.ids.Sym.{Sym}
 use Rattle.isle_types.specs.declared.ids.TypeId.{TypeId}
 use Rattle.isle_types.specs.Names.{position_of, AreDistinct}
-use Rattle.isle_types.specs.StableMaps.{value_at, value_at_text}
+use Rattle.isle_containers.specs.StableMaps.{value_at, value_at_text}
 
 -- each name stands once, and the table has exactly its place
 pub record IsInterned {A : Type 0} (names : List (List ℕ)) (table : List (String A × Sym)) : Type 0 where

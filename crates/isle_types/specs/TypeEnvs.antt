@@ -19,7 +19,7 @@ use Rattle.isle_types.specs.declared.types.«Type».TheVariants.{Builtin, Primit
 use Rattle.isle_types.specs.IntTypes.{builtin_name, builtin_types}
 use Rattle.isle_types.specs.Types.{id_of}
 use Rattle.isle_types.specs.Names.{position_of, KeepsNames, AreDistinct}
-use Rattle.isle_types.specs.StableMaps.{value_at}
+use Rattle.isle_containers.specs.StableMaps.{value_at}
 use Rattle.isle_types.specs.TypeTables.{TypeTables}
 use Rattle.isle_ast.specs.declared.ast.Def.{Def}
 use Rattle.isle_types.specs.Environment.{Environment, Makes, NamedType, NamedVariant, FieldList, no_fields, named_fields, tuple_fields, TypeShape}

@@ -6,11 +6,11 @@ mod messages;
 mod reading;
 
 use crate::ids::{Sym, TypeId};
-use crate::stablemapset::StableMap;
 use crate::symbols::Symbols;
 use crate::types::Type;
 use isle_ast::error::Error;
 use isle_ast::files::Files;
+use isle_containers::StableMap;
 use std::alloc::Global;
 use std::marker::Model;
 use std::rc::Rc;

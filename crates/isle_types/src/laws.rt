@@ -1,17 +1,9 @@
-//! Laws of the ids and of the containers, each as a function whose contract states it.
+//! Laws of the ids, each as a function whose contract states it.
 ghost use Rattle.std.specs.Prelude.{◌≡◌, Some, slice_get};
-ghost use Rattle.std.specs.List.{IsDistinct};
-ghost use Rattle.std.specs.List.Sorted.{IsStrictlySortedBy};
-ghost use Rattle.std.specs.Map.{keys_of};
 ghost use Rattle.isle_types.specs.Ids.{AreNumbers};
 ghost use Rattle.isle_types.specs.IntTypes.{builtin_place, builtin_types};
-ghost use Rattle.isle_types.specs.JoinedSets.{AreDisjoint};
-ghost use Rattle.isle_types.specs.StableMaps.{HasDistinctKeys};
 
-use crate::disjointsets::DisjointSets;
 use crate::ids::{FieldId, RuleId, Sym, TermId, TypeId, VarId, VariantId};
-use crate::sorted_map::SortedMap;
-use crate::stablemapset::{StableMap, StableSet};
 use crate::types::{BuiltinType, IntType};
 use std::hash::Hash;
 
@@ -71,31 +63,3 @@ pub fn constants_are_builtin_ids()
 pub fn builtin_ids_are_places()
     ensures { (builtin : BuiltinType) → slice_get builtin_types (builtin_place builtin) ≡ Some builtin }
 {}
-
-/// The sets have two members each at least, and no member in common.
-pub fn sets_are_disjoint<T: Copy + Eq + Hash>(sets: &DisjointSets<T>)
-    ensures { AreDisjoint T.eq sets.now }
-{
-    sets.len();
-}
-
-/// No two members of a set are equal.
-pub fn members_stand_once<T: Eq + Hash>(set: &StableSet<T>)
-    ensures { IsDistinct T.eq set.now }
-{
-    set.len();
-}
-
-/// No two keys of a map are equal.
-pub fn keys_stand_once<K: Eq + Hash, V>(map: &StableMap<K, V>)
-    ensures { HasDistinctKeys K.eq map.now }
-{
-    map.len();
-}
-
-/// The keys of a sorted map strictly ascend, so that no two are equal.
-pub fn sorted_keys_ascend<K: Ord, V>(map: &SortedMap<K, V>)
-    ensures { IsStrictlySortedBy K.cmp (keys_of map.now) }
-{
-    map.len();
-}

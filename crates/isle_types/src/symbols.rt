@@ -2,10 +2,10 @@
 ghost use Rattle.std.specs.Prelude.{◌≡◌, ℕ, List, [], IfOk, OnOk, OnErr, Some, map, string_bytes, slice_get};
 ghost use Rattle.std.specs.Option.{option_map};
 ghost use Rattle.isle_types.specs.Names.{position_of, with_name, AreDistinct};
-ghost use Rattle.isle_types.specs.StableMaps.{value_at_text};
+ghost use Rattle.isle_containers.specs.StableMaps.{value_at_text};
 
 use crate::ids::Sym;
-use crate::stablemapset::StableMap;
+use isle_containers::StableMap;
 use std::alloc::{AllocError, Global};
 use std::marker::Model;
 

@@ -2,7 +2,7 @@
 use Rattle.std.proofs.Common.{◌≡◌, ◌≢◌, ◌≤◌, ◌⊎◌, ℕ, length, zero, suc, List, [], ◌∷◌, Contains, refl, sym, subst, ◌∙◌, inl, inr, arith}
 use Rattle.std.specs.Prelude.{IsTrue}
 use Rattle.std.specs.List.{All, IsDistinct}
-use Rattle.isle_types.specs.JoinedSets.{AreDisjoint, are_joined, members}
+use Rattle.isle_containers.specs.JoinedSets.{AreDisjoint, are_joined, members}
 use Rattle.isle_types.specs.declared.ids.Sym.{Sym}
 use Rattle.isle_meaning.specs.Sites.{Site, argument}
 use Rattle.isle_meaning.specs.Demands.{Demand, constrained, equal, Among}

@@ -1,7 +1,7 @@
 -- The closure of what the rule (f x @ (A.V _ _) x) demands: the table with the fields of both arguments.
 use Rattle.std.proofs.Common.{◌≡◌, ◌<◌, ◌≤◌, inl, inr, ℕ, zero, suc, List, [], ◌∷◌, Option, None, Some, slice_get, slice_index, Contains}
 use Rattle.std.proofs.Common.{slice_index_or, refl, sym, ap, subst, ◌∙◌, arith}
-use Rattle.isle_types.proofs.Lists.{slice_get-kept}
+use Rattle.isle_containers.proofs.Lists.{slice_get-kept}
 use Rattle.isle_types.specs.declared.ids.Sym.{Sym}
 use Rattle.isle_meaning.specs.Sites.{Site, argument, match_variant}
 use Rattle.isle_meaning.specs.Demands.{constrained, equal}

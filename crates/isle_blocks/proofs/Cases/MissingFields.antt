@@ -10,7 +10,7 @@ use Rattle.isle_meaning.specs.Facts.{TermFacts, facts_of}
 use Rattle.isle_meaning.specs.Sites.{argument, match_variant}
 use Rattle.isle_meaning.specs.Needs.{args_needs}
 use Rattle.isle_meaning.specs.Demands.{Demand, constrained, equal, variant_constraint, demands_of}
-use Rattle.isle_types.proofs.Lists.{slice_get-kept}
+use Rattle.isle_containers.proofs.Lists.{slice_get-kept}
 use Rattle.isle_blocks.specs.declared.binding.Binding.{Binding}
 use Rattle.isle_blocks.specs.declared.binding.Binding.TheVariants as sites
 use Rattle.isle_blocks.specs.declared.constraint.Constraint.{Constraint}

@@ -1,7 +1,7 @@
 -- The sites of the rule (f x @ (A.V _ _) x) in order, and behind them the fields of its second argument.
 use Rattle.std.proofs.Common.{◌≡◌, ◌<◌, ◌≤◌, ◌+◌, inl, inr, ℕ, zero, suc, pos, false, List, [], ◌∷◌, length, refl, sym, subst, arith}
 use Rattle.std.proofs.lemmas.List.{length_push}
-use Rattle.isle_types.proofs.Lists.{slice_get-kept}
+use Rattle.isle_containers.proofs.Lists.{slice_get-kept}
 use Rattle.isle_meaning.specs.Sites.{Site, argument, int_site, match_variant}
 use Rattle.isle_meaning.specs.Numbered.{Row, argument_row, int_row, match_variant_row, At}
 use Rattle.isle_meaning.specs.Derived.{FieldOf, of_variant}

@@ -1,7 +1,7 @@
 -- A rule's own sites put behind those of a table, where they have other numbers.
 use Rattle.std.proofs.Common.{◌≡◌, ◌<◌, ◌≤◌, ◌+◌, inl, inr, ℕ, zero, suc, pos, List, [], ◌∷◌, Option, None, Some, slice_get, length}
 use Rattle.std.proofs.Common.{refl, sym, ap, subst, arith}
-use Rattle.isle_types.proofs.Lists.{slice_get-kept}
+use Rattle.isle_containers.proofs.Lists.{slice_get-kept}
 use Rattle.isle_blocks.specs.declared.binding.Binding.{Binding}
 use Rattle.isle_blocks.specs.declared.binding.Binding.TheVariants as sites
 use Rattle.isle_blocks.specs.declared.ids.BindingId.{BindingId}

@@ -1,6 +1,6 @@
 -- Of the rule (rule (term x @ 2 x) 7) the arguments the other way round: not in order.
 use Rattle.std.proofs.Common.{◌≡◌, ◌++◌, inl, inr, ℕ, List, [], ◌∷◌, Some, slice_get, pos, refl, sym, ap, subst}
-use Rattle.isle_types.proofs.Lists.{slice_get-kept}
+use Rattle.isle_containers.proofs.Lists.{slice_get-kept}
 use Rattle.isle_rules.specs.TypedRules.{TypedRule}
 use Rattle.isle_meaning.specs.Sites.{Site, argument}
 use Rattle.isle_meaning.specs.Numbered.{Row, argument_row, int_row, make_some_row}

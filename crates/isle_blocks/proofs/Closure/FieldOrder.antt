@@ -3,7 +3,7 @@ use Rattle.std.proofs.Common.{◌≡◌, ◌<◌, ◌≤◌, ◌+◌, ◌++◌, 
 use Rattle.std.proofs.lemmas.Bool.{cases_lt}
 use Rattle.std.proofs.lemmas.List.{length-map}
 use Rattle.std.proofs.lemmas.Option.{slice_get_within, same_Some}
-use Rattle.isle_types.proofs.Lists.{slice_get-kept, slice_get-last, slice_get-pushed}
+use Rattle.isle_containers.proofs.Lists.{slice_get-kept, slice_get-last, slice_get-pushed}
 use Rattle.isle_types.specs.declared.ids.Sym.{Sym}
 use Rattle.isle_meaning.specs.Numbered.{Row, match_variant_row, extract_struct_row}
 use Rattle.isle_blocks.specs.declared.ids.BindingId.{BindingId}

@@ -1,7 +1,7 @@
 -- What the visit of a rule leaves is ready to be closed.
 use Rattle.std.proofs.Common.{◌≡◌, ◌++◌, inl, inr, ℕ, List, [], ◌∷◌, Option, Some, slice_get, sym, subst}
 use Rattle.std.specs.Prelude.{Contains}
-use Rattle.isle_types.proofs.RootedTables.{Contains-map}
+use Rattle.isle_containers.proofs.RootedTables.{Contains-map}
 use Rattle.isle_types.specs.declared.ids.Sym.{Sym}
 use Rattle.isle_rules.specs.TypedRules.{TypedRule}
 use Rattle.isle_meaning.specs.Facts.{TermFacts}

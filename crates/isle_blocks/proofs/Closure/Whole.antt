@@ -2,8 +2,8 @@
 use Rattle.std.proofs.Common.{◌≡◌, ◌<◌, ◌≤◌, ◌++◌, inl, inr, ℕ, suc, List, [], ◌∷◌, length, get_or, Option, Some, None, slice_get, sym, ◌∙◌, ap, subst, arith, length-append}
 use Rattle.std.specs.Prelude.{Contains}
 use Rattle.std.proofs.lemmas.Bool.{cases_lt}
-use Rattle.isle_types.proofs.RootedTables.{Contains-map}
-use Rattle.isle_types.proofs.Lists.{slice_get-kept, slice_get-last}
+use Rattle.isle_containers.proofs.RootedTables.{Contains-map}
+use Rattle.isle_containers.proofs.Lists.{slice_get-kept, slice_get-last}
 use Rattle.isle_types.specs.declared.ids.Sym.{Sym}
 use Rattle.isle_meaning.specs.Sites.{Site}
 use Rattle.isle_meaning.specs.Demands as meaning

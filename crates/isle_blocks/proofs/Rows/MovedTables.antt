@@ -4,7 +4,7 @@ use Rattle.std.proofs.Common.{◌∙◌, ◌+◌, ap, subst, arith}
 use Rattle.std.specs.Prelude.{Contains}
 use Rattle.std.proofs.lemmas.List.{length-append}
 use Rattle.std.proofs.lemmas.Option.{slice_get_within, slice_get-get_or}
-use Rattle.isle_types.proofs.Lists.{slice_get-last, slice_get-pushed, slice_get-kept}
+use Rattle.isle_containers.proofs.Lists.{slice_get-last, slice_get-pushed, slice_get-kept}
 use Rattle.isle_meaning.specs.Sites.{Site, bool_site, int_site, prim_site, argument, extractor_call, constructor_call, iterator}
 use Rattle.isle_meaning.specs.Sites.{make_variant, match_variant, make_struct, extract_struct, make_some, match_some, match_tuple}
 use Rattle.isle_meaning.specs.Sites.{Sites, no_sites, more_sites}
@@ -12,7 +12,7 @@ use Rattle.isle_meaning.specs.Numbered.{Row, bool_row, int_row, prim_row, argume
 use Rattle.isle_meaning.specs.Numbered.{make_variant_row, match_variant_row, make_struct_row, extract_struct_row, make_some_row}
 use Rattle.isle_meaning.specs.Numbered.{match_some_row, match_tuple_row, At, AtAll, AreRecorded}
 use Rattle.isle_meaning.specs.Demands.{Constraint, Demand, constrained, Among}
-use Rattle.isle_types.proofs.RootedTables.{Contains-map}
+use Rattle.isle_containers.proofs.RootedTables.{Contains-map}
 use Rattle.isle_blocks.specs.Inside.RowTables.{sources, IsTable, IsEntered}
 use Rattle.isle_blocks.specs.Inside.MovedSites.{moved_row, place_in, Moves, none_moved, next_moved}
 

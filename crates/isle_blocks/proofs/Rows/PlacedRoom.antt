@@ -1,6 +1,6 @@
 -- Where a rule isn't placed for want of room, no table has room for it.
 use Rattle.std.proofs.Common.{◌≡◌, ◌<◌, ◌≤◌, ◌++◌, ◌+◌, ◌⊎◌, inl, inr, Option, ℕ, List, [], ◌∷◌, length, Some, take, slice_get, refl, sym, ◌∙◌, ap, subst, arith, length-append, length-take-le}
-use Rattle.isle_types.proofs.Lists.{from_take, slice_get-kept}
+use Rattle.isle_containers.proofs.Lists.{from_take, slice_get-kept}
 use Rattle.std.proofs.lemmas.Option.{slice_get_within, get_or_from_slice_get}
 use Rattle.std.proofs.lemmas.List.{length-map, map-append}
 use Rattle.isle_types.proofs.DefinitionTurns.{take_here}

@@ -7,7 +7,7 @@ use Rattle.std.proofs.lemmas.List.Sorted.{length_permutation}
 use Rattle.isle_ast.specs.declared.error.Error.{Error}
 use Rattle.isle_types.specs.declared.ids.TermId.{TermId}
 use Rattle.isle_types.proofs.Zipped.{zipped_at, all_at}
-use Rattle.isle_types.proofs.Lists.{slice_get-pushed}
+use Rattle.isle_containers.proofs.Lists.{slice_get-pushed}
 use Rattle.isle_rules.specs.TypedRules.{TypedRule}
 use Rattle.isle_rules.specs.Shown.TermTables.{TermTables}
 use Rattle.isle_meaning.specs.Facts.{TermFacts}

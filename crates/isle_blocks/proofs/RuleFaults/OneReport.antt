@@ -15,7 +15,7 @@ use Rattle.std.proofs.lemmas.List.Sorted.{ranks_by, sum_by-IsPermutation}
 use Rattle.std.proofs.lemmas.Option.{same_Some, none-some, slice_get_within}
 use Rattle.isle_ast.specs.declared.error.Error.{Error}
 use Rattle.isle_ast.specs.declared.pos.Pos.{Pos}
-use Rattle.isle_types.proofs.Lists.{from_take, within-take}
+use Rattle.isle_containers.proofs.Lists.{from_take, within-take}
 use Rattle.isle_rules.specs.TypedRules.{TypedRule}
 use Rattle.isle_meaning.specs.Facts.{TermFacts}
 use Rattle.isle_blocks.specs.declared.faults.Fault.{Fault}

@@ -6,7 +6,7 @@ use Rattle.std.proofs.lemmas.List.{length-map, take_all}
 use Rattle.std.proofs.lemmas.List.Elements.{Contains-push_cases}
 use Rattle.std.proofs.lemmas.Option.{none-some, same_Some}
 use Rattle.isle_ast.specs.declared.error.Error.{Error}
-use Rattle.isle_types.proofs.Lists.{from_take, within-take}
+use Rattle.isle_containers.proofs.Lists.{from_take, within-take}
 use Rattle.isle_rules.specs.declared.rules.Rule as source
 use Rattle.isle_rules.specs.TypedRules.{TypedRule}
 use Rattle.isle_rules.specs.Shown.TermTables.{TermTables}

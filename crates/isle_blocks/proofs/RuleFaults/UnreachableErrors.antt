@@ -3,7 +3,7 @@ use Rattle.std.proofs.Common.{◌≡◌, ◌<◌, ◌+◌, ◌↔◌, inl, inr, 
 use Rattle.std.specs.List.{AllZip}
 use Rattle.isle_ast.specs.declared.error.Error.{Error}
 use Rattle.std.proofs.lemmas.Option.{same_Some, slice_get_cases}
-use Rattle.isle_types.proofs.Lists.{taken_more}
+use Rattle.isle_containers.proofs.Lists.{taken_more}
 use Rattle.isle_rules.specs.declared.rules.Rule.{Rule}
 use Rattle.isle_rules.specs.TypedRules.{TypedRule}
 use Rattle.isle_meaning.specs.Facts.{TermFacts}

@@ -17,8 +17,8 @@ use Rattle.std.proofs.lemmas.Map.Keys.{Less-from_sorted, sorted_from_all_adjacen
 use Rattle.std.proofs.lemmas.Map.Made.{IsDistinct-from_AllPairs}
 use Rattle.std.proofs.lemmas.Map.Views.{Contains-from_any}
 use Rattle.std.proofs.lemmas.Option.{slice_get-get_or, slice_get_within}
-use Rattle.isle_types.specs.JoinedSets.{AreDisjoint, AreSameSets, are_joined, members, set_of}
-use Rattle.isle_types.proofs.Lists.{slice_get-kept}
+use Rattle.isle_containers.specs.JoinedSets.{AreDisjoint, AreSameSets, are_joined, members, set_of}
+use Rattle.isle_containers.proofs.Lists.{slice_get-kept}
 use Rattle.isle_blocks.specs.declared.ids.BindingId.{BindingId}
 use Rattle.isle_blocks.specs.ClosedRules.{same_site}
 use Rattle.isle_blocks.specs.ListedSets.{firsts, ListsEqualSites}

@@ -10,7 +10,7 @@ use Rattle.std.proofs.lemmas.Map.Made.{is_member-Decides}
 use Rattle.std.proofs.lemmas.List.Elements.{Contains-append_left, Contains-append_right, Contains-append_cases}
 use Rattle.std.proofs.lemmas.Option.{same_Some}
 use Rattle.isle_types.specs.Names.{AreDistinct}
-use Rattle.isle_types.specs.JoinedSets.{are_joined, comes_together, members}
+use Rattle.isle_containers.specs.JoinedSets.{are_joined, comes_together, members}
 use Rattle.isle_blocks.specs.declared.ids.BindingId.{BindingId}
 use Rattle.isle_blocks.specs.declared.constraint.Constraint.{Constraint}
 use Rattle.isle_blocks.specs.Inside.ClosureStates.{AreClasses}

@@ -5,7 +5,7 @@ use Rattle.std.specs.Prelude.{All, Contains}
 use Rattle.std.proofs.lemmas.Bool.{cases_eq}
 use Rattle.std.proofs.lemmas.Option.{slice_get_within, slice_get_cases, get_or_from_slice_get}
 use Rattle.std.proofs.lemmas.List.Elements.{Contains-append_left, Contains-get_or, Contains-push}
-use Rattle.isle_types.proofs.Lists.{slice_get-pushed}
+use Rattle.isle_containers.proofs.Lists.{slice_get-pushed}
 use Rattle.isle_types.specs.declared.ids.TermId.{TermId}
 use Rattle.isle_rules.specs.Shown.TermTables.{TermTables}
 use Rattle.isle_blocks.specs.Inside.Building.Contents.{Marked}

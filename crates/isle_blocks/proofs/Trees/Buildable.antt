@@ -5,7 +5,7 @@ use Rattle.std.proofs.Common.{refl, ap, sym, subst, ◌∙◌, arith, Contains}
 use Rattle.std.specs.Set.{is_member}
 use Rattle.std.specs.Map.{keys_of}
 use Rattle.std.proofs.lemmas.Option.{same_Some, slice_get_cases}
-use Rattle.isle_types.specs.JoinedSets.{are_joined, members}
+use Rattle.isle_containers.specs.JoinedSets.{are_joined, members}
 use Rattle.isle_types.specs.declared.ids.Sym.{Sym}
 use Rattle.isle_types.specs.declared.ids.TermId.{TermId}
 use Rattle.isle_types.proofs.Zipped.{all_at}

@@ -10,8 +10,8 @@ use Rattle.std.specs.Global.{Vec}
 use Rattle.std.specs.List.{flat_map, list_any}
 use Rattle.std.specs.Map.{lookup}
 use Rattle.std.specs.Ordering.{is_eq, nat_cmp}
-use Rattle.isle_types.proofs.Lists.{slice_get-last}
-use Rattle.isle_types.specs.JoinedSets.{are_joined}
+use Rattle.isle_containers.proofs.Lists.{slice_get-last}
+use Rattle.isle_containers.specs.JoinedSets.{are_joined}
 use Rattle.isle_trees.specs.Ranking.{AllBelow, AreAllWithin}
 use Rattle.isle_trees.specs.Rules.{Want, has, one_value, Source, Elem}
 use Rattle.isle_trees.specs.Scopes.{Test, has_test}

@@ -1,6 +1,6 @@
 -- The tests and the sets of equal sites of a closed rule, from each site's test and each site's representative.
 use Rattle.std.specs.Prelude.{◌≡◌, ◌≢◌, ◌<◌, ◌↔◌, ℕ, Bool, true, List, [], length, Contains, Option, None, Some, slice_get, slice_index, slice_index_or, nat_eq}
-use Rattle.isle_types.specs.JoinedSets.{are_joined, members}
+use Rattle.isle_containers.specs.JoinedSets.{are_joined, members}
 use Rattle.isle_blocks.specs.declared.ids.BindingId.{BindingId}
 use Rattle.isle_blocks.specs.declared.constraint.Constraint.{Constraint}
 use Rattle.isle_blocks.specs.Inside.ClosureStates.{HasOwn}

@@ -1,7 +1,7 @@
 -- Rule sets and their blocks as the machine has them.
 use Rattle.std.specs.Prelude.{◌≡◌, ◌+◌, ℕ, Bool, true, List, Some, length, slice_get}
 use Rattle.std.specs.List.{sum_by}
-use Rattle.isle_types.specs.JoinedSets.{members}
+use Rattle.isle_containers.specs.JoinedSets.{members}
 use Rattle.isle_trees.specs.Counting.{steps_at_most}
 use Rattle.isle_trees.specs.Rules.{Elem}
 use Rattle.isle_types.specs.declared.ids.Sym.{Sym}

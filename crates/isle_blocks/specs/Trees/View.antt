@@ -6,7 +6,7 @@ use Rattle.std.specs.Option.{option_map}
 use Rattle.std.specs.BTreeMap.{is_at}
 use Rattle.std.specs.Map.{lookup, keys_of}
 use Rattle.std.specs.Ordering.{is_le}
-use Rattle.isle_types.specs.JoinedSets.{are_joined}
+use Rattle.isle_containers.specs.JoinedSets.{are_joined}
 use Rattle.isle_types.specs.declared.ids.Sym.{Sym}
 use Rattle.isle_meaning.specs.Held.{Held}
 use Rattle.isle_blocks.specs.declared.ids.BindingId.{BindingId}

@@ -12,7 +12,7 @@ use std::marker::Model;
 /// steps.
 ///
 /// A block is seen as its tree of steps, in which sites go by their numbers in the rule set, and the list of all its returns.
-#[derive(Debug, Drop)]
+#[derive(Drop)]
 pub struct Block {
     nodes: Vec<Node>,
     /// For each node the place where what comes after its piece begins.

@@ -7,7 +7,7 @@ use isle_ast::Seq;
 use isle_ast::pos::Pos;
 
 /// A node of a block. `binds` are the sites that a step binds before its check, in order.
-#[derive(Debug, Drop)]
+#[derive(Drop)]
 pub(crate) enum Node {
     /// Nothing follows: the end of a list of steps.
     End,

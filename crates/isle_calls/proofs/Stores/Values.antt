@@ -7,7 +7,7 @@ use Rattle.isle_types.specs.Names.{AreDistinct}
 use Rattle.isle_types.specs.TypeEnvs.{type_at}
 use Rattle.isle_types.specs.declared.ids.TypeId.{TypeId}
 use Rattle.isle_types.specs.declared.ids.VariantId.{VariantId}
-use Rattle.isle_types.proofs.Lists.{slice_get-kept}
+use Rattle.isle_containers.proofs.Lists.{slice_get-kept}
 use Rattle.isle_meaning.specs.Values.{Value, Values, bool_value, int_value, constant_value, opaque_value, made_variant, made_struct}
 use Rattle.isle_meaning.specs.Values.{no_values, more_values}
 use Rattle.isle_calls.specs.declared.store.Stored.{Stored}

@@ -7,7 +7,7 @@ use Rattle.isle_ast.specs.Positions.Files.{SourceFile}
 use Rattle.isle_trees.specs.Counting.{steps_at_most}
 use Rattle.isle_types.specs.declared.ids.Sym.{Sym}
 use Rattle.isle_types.specs.declared.ids.TermId.{TermId}
-use Rattle.isle_types.proofs.MergedTables.{any-map}
+use Rattle.isle_containers.proofs.MergedTables.{any-map}
 use Rattle.isle_rules.specs.Shown.TermTables.{TermTables}
 use Rattle.isle_rules.specs.Definitions.{declared_by}
 use Rattle.isle_rules.specs.TypedRules.{TypedRule}
@@ -102,7 +102,7 @@ module _ (program : Program) (files : List SourceFile) (is : IsProgramOf files p
   env = terms_of program
 
   -- its definitions
-  abbrev defined : AreDefined env
+  abbrev pub defined : AreDefined env
   defined = record {
     tyenv = types_of program;
     types = is.types;

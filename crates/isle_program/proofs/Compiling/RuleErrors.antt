@@ -10,7 +10,7 @@ use Rattle.isle_ast.specs.Errors.{ErrorAt, span_at}
 use Rattle.isle_ast.specs.declared.error.Error.{Error}
 use Rattle.isle_ast.specs.declared.error.Span.{Span}
 use Rattle.isle_ast.specs.declared.pos.Pos.{Pos}
-use Rattle.isle_types.proofs.Lists.{slice_get-kept, slice_get-last}
+use Rattle.isle_containers.proofs.Lists.{slice_get-kept, slice_get-last}
 use Rattle.isle_types.proofs.Zipped.{all_at}
 use Rattle.isle_rules.specs.declared.rules.Rule.{Rule}
 use Rattle.isle_rules.specs.TypedRules.{TypedRule}

@@ -3,7 +3,7 @@ use Rattle.std.proofs.Common.{◌≡◌, ℕ, suc, Bool, true, false, List, [], 
 use Rattle.std.specs.Prelude.{◌==◌, not, length}
 use Rattle.std.specs.List.{list_any}
 use Rattle.std.proofs.lemmas.Bool.{eqb-true, eq-eqb}
-use Rattle.isle_types.proofs.MergedTables.{any-map}
+use Rattle.isle_containers.proofs.MergedTables.{any-map}
 use Rattle.isle_rules.specs.TypedRules.{TypedRule}
 use Rattle.isle_meaning.specs.PlainRuns.{AreTriedInOrder}
 use Rattle.isle_meaning.proofs.Spelling.Ordered.{any_at, at_any}

@@ -23,7 +23,7 @@ use Rattle.isle_types.specs.Environment.{Environment, Makes, IsType, IsConstant,
 use Rattle.isle_types.specs.Environment.{NamedType, TypeShape, primitive}
 use Rattle.isle_types.specs.TypeTables.{TypeTables}
 use Rattle.isle_types.specs.TypeEnvs.{Shows, IsShownShape}
-use Rattle.isle_types.proofs.Lists.{slice_get-kept}
+use Rattle.isle_containers.proofs.Lists.{slice_get-kept}
 use Rattle.isle_rules.specs.Elaboration.{bool_number, of_integer, of_primitive}
 use Rattle.isle_rules.specs.SoundRules.WellTyped.{IsTypedLiteral}
 use Rattle.isle_rules.specs.Values.{bool_tree, int_tree, big_tree, const_tree}

@@ -2,7 +2,7 @@
 use Rattle.std.proofs.Common.{◌≡◌, ℕ, Bool, true, false, List, [], ◌∷◌, length, Some, slice_get, refl, subst}
 use Rattle.std.specs.Str.{bytes_eq}
 use Rattle.std.proofs.lemmas.Option.{none-some, same_Some}
-use Rattle.isle_types.proofs.Lists.{slice_get-kept, slice_get-last}
+use Rattle.isle_containers.proofs.Lists.{slice_get-kept, slice_get-last}
 use Rattle.isle_rules.specs.TypedRules.{Variable}
 use Rattle.isle_rules.specs.Elaboration.{State, bound, Visible, visible_in}
 use Rattle.isle_rules.specs.SoundRules.WellTyped.{HasType}

@@ -4,7 +4,7 @@ use Rattle.isle_types.specs.declared.ids.Sym.{Sym}
 use Rattle.isle_types.specs.declared.ids.TypeId.{TypeId}
 use Rattle.isle_types.specs.declared.ids.TermId.{TermId}
 use Rattle.isle_types.specs.declared.ids.RuleId.{RuleId}
-use Rattle.isle_types.specs.StableMaps.{value_at}
+use Rattle.isle_containers.specs.StableMaps.{value_at}
 use Rattle.isle_rules.specs.declared.terms.Term.{Term}
 use Rattle.isle_rules.specs.declared.rules.Rule.{Rule}
 use Rattle.std.specs.Option.{option_map_or}

@@ -14,7 +14,7 @@ use Rattle.isle_ast.specs.declared.error.Error.TheVariants.{TypeError}
 use Rattle.isle_ast.specs.Errors.{span_at}
 use Rattle.isle_types.specs.Names.{AreDistinct}
 use Rattle.isle_types.specs.Environment.{Environment}
-use Rattle.isle_types.proofs.Lists.{taken_more}
+use Rattle.isle_containers.proofs.Lists.{taken_more}
 use Rattle.isle_rules.specs.Signatures.{Signature}
 use Rattle.isle_rules.specs.Definitions.{ExternalExtractor, declarations, rules_in, extractors_in, external_constructors, external_extractors}
 use Rattle.isle_rules.specs.Definitions.{roots_of, AreTerms, names_of_terms, IsDefined, extractor_names, external_constructor_names}

@@ -10,7 +10,7 @@ use Rattle.isle_ast.specs.declared.pos.Pos.{Pos}
 use Rattle.isle_ast.specs.declared.error.Error.{Error}
 use Rattle.isle_ast.specs.declared.error.Error.TheVariants.{TypeError}
 use Rattle.isle_ast.specs.Errors.{span_at}
-use Rattle.isle_types.proofs.Lists.{taken_more}
+use Rattle.isle_containers.proofs.Lists.{taken_more}
 use Rattle.isle_terms.specs.Inside.Collecting.Checks.{Checks, IsIllAt}
 use Rattle.isle_terms.proofs.Collections.AddedErrors.{adds_none, adds_one, adds_by, adds_both, adds_checks, checks_adds}
 

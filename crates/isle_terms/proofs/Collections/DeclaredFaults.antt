@@ -6,7 +6,7 @@ use Rattle.isle_ast.specs.declared.error.Error.{Error}
 use Rattle.isle_ast.specs.declared.pos.Pos.{Pos}
 use Rattle.isle_types.specs.Environment.{Environment}
 use Rattle.isle_types.specs.TypeFaults.{IsTypeFault, IsSizeFault}
-use Rattle.isle_types.proofs.Lists.{slice_get-kept, slice_get-last}
+use Rattle.isle_containers.proofs.Lists.{slice_get-kept, slice_get-last}
 use Rattle.isle_types.proofs.TypeReadings.{reading_then}
 use Rattle.isle_rules.specs.Definitions.{declarations}
 use Rattle.isle_terms.specs.TermFaults.{DeclarationBreaks, unknown_type}

@@ -18,7 +18,7 @@ use Rattle.isle_types.specs.Environment.{Environment}
 use Rattle.isle_types.specs.TypeEnvs.{HasMoreNames}
 use Rattle.isle_types.specs.TypeTables.{TypeTables}
 use Rattle.isle_types.specs.TypeFaults.{IsTypeFault, IsSizeFault}
-use Rattle.isle_types.proofs.Lists.{AllZip-weaker, taken_more}
+use Rattle.isle_containers.proofs.Lists.{AllZip-weaker, taken_more}
 use Rattle.isle_types.proofs.FieldReadings.{count_more}
 use Rattle.isle_types.proofs.TypeReadings.{reading_then}
 use Rattle.isle_rules.specs.declared.terms.Term.{Term}

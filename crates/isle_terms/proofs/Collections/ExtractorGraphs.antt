@@ -14,7 +14,7 @@ use Rattle.isle_ast.specs.declared.ast.Extractor.{Extractor as ExtractorTree}
 use Rattle.isle_ast.specs.declared.pos.Pos.{Pos}
 use Rattle.isle_ast.specs.Trees.PatternTree.{PatternTree}
 use Rattle.isle_ast.specs.Trees.PatternShape.{pattern_of}
-use Rattle.isle_types.specs.StableMaps.{value_at}
+use Rattle.isle_containers.specs.StableMaps.{value_at}
 use Rattle.isle_rules.specs.Definitions.{IsAmong, ComesTo, at_once, further}
 use Rattle.isle_terms.specs.Inside.Collecting.Graphs.{Leads, edge_at_once, path_further, AreWithin, IsAcyclic}
 use Rattle.isle_terms.specs.Inside.Collecting.ExtractorGraphs.{extracted, ArePlaces, AddsEdges, NamesPlace, JoinsTerm, JoinsNode, JoinsPlaces}

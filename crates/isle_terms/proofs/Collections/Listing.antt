@@ -5,7 +5,7 @@ use Rattle.std.specs.List.{filter_map, cons_option}
 use Rattle.std.specs.Option.{option_map, option_copied, option_and_then}
 use Rattle.std.proofs.lemmas.List.{map-append, append-nil}
 use Rattle.std.proofs.lemmas.List.Elements.{filter_map-append}
-use Rattle.isle_types.proofs.Lists.{taken_more}
+use Rattle.isle_containers.proofs.Lists.{taken_more}
 use Rattle.isle_types.proofs.DefinitionTurns.{passed_over, taken_up, take_here}
 
 -- one more is of the kind

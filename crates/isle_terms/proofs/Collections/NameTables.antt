@@ -6,7 +6,7 @@ use Rattle.std.specs.Global.{Global}
 use Rattle.std.proofs.lemmas.Bool.{false≢true, true≢false}
 use Rattle.std.proofs.lemmas.Slice.Eq.{bytes_eq-Decides}
 use Rattle.isle_types.specs.Names.{position_of}
-use Rattle.isle_types.specs.StableMaps.{value_at, value_at_text}
+use Rattle.isle_containers.specs.StableMaps.{value_at, value_at_text}
 use Rattle.isle_types.proofs.Interning.{text_eq}
 use Rattle.isle_types.proofs.NamePlaces.{same_name, place_last, place_other, place_there, differ, differ_back}
 

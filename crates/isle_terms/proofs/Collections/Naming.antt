@@ -8,7 +8,7 @@ use Rattle.std.specs.Option.{option_map}
 use Rattle.std.proofs.lemmas.Option.{none-some}
 use Rattle.isle_ast.specs.declared.pos.Pos.{Pos}
 use Rattle.isle_types.specs.Names.{position_of, AreDistinct}
-use Rattle.isle_types.proofs.Lists.{from_take, within-take, taken_more}
+use Rattle.isle_containers.proofs.Lists.{from_take, within-take, taken_more}
 use Rattle.isle_types.proofs.NamePlaces.{place_found, once_pushed}
 use Rattle.isle_terms.specs.TermFaults.{names_of, IsTaken}
 

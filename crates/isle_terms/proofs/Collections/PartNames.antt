@@ -9,7 +9,7 @@ use Rattle.isle_ast.specs.declared.ast.Def.{Def}
 use Rattle.isle_ast.specs.declared.pos.Pos.{Pos}
 use Rattle.isle_types.specs.IntTypes.{builtin_names}
 use Rattle.isle_types.specs.Environment.{Environment}
-use Rattle.isle_types.proofs.Lists.{slice_get-kept}
+use Rattle.isle_containers.proofs.Lists.{slice_get-kept}
 use Rattle.isle_terms.specs.declared.env.definitions.HostConstructor.{HostConstructor}
 use Rattle.isle_terms.specs.declared.env.definitions.HostExtractor.{HostExtractor}
 use Rattle.isle_rules.specs.Signatures.{Signature}

@@ -16,11 +16,11 @@ use Rattle.isle_ast.specs.Errors.{span_at}
 use Rattle.isle_types.specs.declared.ids.TypeId.{TypeId}
 use Rattle.isle_types.specs.declared.ids.TermId.{TermId}
 use Rattle.isle_types.specs.Names.{position_of, AreDistinct}
-use Rattle.isle_types.specs.StableMaps.{value_at}
+use Rattle.isle_containers.specs.StableMaps.{value_at}
 use Rattle.isle_types.specs.Environment.{Environment}
 use Rattle.isle_types.specs.TypeTables.{TypeTables}
 use Rattle.isle_types.specs.TypeEnvs.{Shows, type_of_name, type_at}
-use Rattle.isle_types.proofs.Lists.{slice_get-pushed, taken_more}
+use Rattle.isle_containers.proofs.Lists.{slice_get-pushed, taken_more}
 use Rattle.isle_types.proofs.NamePlaces.{place_some, place_found}
 use Rattle.isle_rules.specs.Signatures.{Signature, Conversion, converter_in}
 use Rattle.isle_rules.specs.Elaboration.{type_named}

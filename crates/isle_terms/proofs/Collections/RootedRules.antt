@@ -15,7 +15,7 @@ use Rattle.isle_ast.specs.Trees.PatternShape.{pattern_of}
 use Rattle.isle_types.specs.IntTypes.{builtin_names}
 use Rattle.isle_types.specs.Names.{position_of}
 use Rattle.isle_types.specs.Environment.{Environment}
-use Rattle.isle_types.proofs.Lists.{slice_get-kept}
+use Rattle.isle_containers.proofs.Lists.{slice_get-kept}
 use Rattle.isle_types.proofs.NamePlaces.{place_known}
 use Rattle.isle_types.proofs.Zipped.{mapped_at, zipped_at}
 use Rattle.isle_rules.specs.Signatures.{by_rules, declared_form, Signature, Conversion, Declared}

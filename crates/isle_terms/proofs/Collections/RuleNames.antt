@@ -20,10 +20,10 @@ use Rattle.isle_ast.specs.declared.pos.Pos.{Pos}
 use Rattle.isle_types.specs.declared.ids.Sym.{Sym}
 use Rattle.isle_types.specs.declared.ids.RuleId.{RuleId}
 use Rattle.isle_types.specs.Names.{position_of, AreDistinct, KeepsNames}
-use Rattle.isle_types.specs.StableMaps.{value_at, value_at_text}
+use Rattle.isle_containers.specs.StableMaps.{value_at, value_at_text}
 use Rattle.isle_types.specs.TypeEnvs.{CountUp, symbol_at}
 use Rattle.isle_types.proofs.Interning.{text_eq}
-use Rattle.isle_types.proofs.Lists.{AllZip-weaker, taken_more, slice_get-kept, slice_get-last}
+use Rattle.isle_containers.proofs.Lists.{AllZip-weaker, taken_more, slice_get-kept, slice_get-last}
 use Rattle.isle_types.proofs.FieldReadings.{count_more}
 use Rattle.isle_types.proofs.NamePlaces.{same_name, differ, place_found, place_known}
 use Rattle.isle_rules.specs.declared.rules.Rule.{Rule}

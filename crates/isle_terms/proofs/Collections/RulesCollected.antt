@@ -17,7 +17,7 @@ use Rattle.isle_ast.specs.Errors.{error_kind, spans_of, IfFault, IsFaultAnd}
 use Rattle.isle_types.specs.Names.{KeepsNames}
 use Rattle.isle_types.specs.TypeFaults.{StartsWhere, IsTypeOrSize, IsTypeFault, IsSizeFault}
 use Rattle.isle_types.proofs.FieldReadings.{count_more}
-use Rattle.isle_types.proofs.Lists.{AllZip-weaker, taken_more}
+use Rattle.isle_containers.proofs.Lists.{AllZip-weaker, taken_more}
 use Rattle.isle_rules.specs.declared.rules.Rule.{Rule}
 use Rattle.isle_rules.specs.TypedRules.{TypedRule}
 use Rattle.isle_rules.specs.Signatures.{Declared}

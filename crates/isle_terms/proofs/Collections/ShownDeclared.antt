@@ -10,7 +10,7 @@ use Rattle.isle_types.specs.declared.ids.Sym.{Sym}
 use Rattle.isle_types.specs.declared.ids.TypeId.{TypeId}
 use Rattle.isle_types.specs.declared.ids.TermId.{TermId}
 use Rattle.isle_types.specs.Names.{position_of}
-use Rattle.isle_types.specs.StableMaps.{value_at}
+use Rattle.isle_containers.specs.StableMaps.{value_at}
 use Rattle.isle_types.specs.Environment.{Environment}
 use Rattle.isle_types.specs.TypeTables.{TypeTables}
 use Rattle.isle_types.specs.TypeEnvs.{Shows, CountUp}

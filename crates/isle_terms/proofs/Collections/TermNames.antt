@@ -8,7 +8,7 @@ use Rattle.isle_ast.specs.declared.ast.Def.{Def}
 use Rattle.isle_ast.specs.declared.pos.Pos.{Pos}
 use Rattle.isle_types.specs.IntTypes.{builtin_names}
 use Rattle.isle_types.specs.Environment.{Environment}
-use Rattle.isle_types.proofs.Lists.{taken_more}
+use Rattle.isle_containers.proofs.Lists.{taken_more}
 use Rattle.isle_rules.specs.declared.terms.Term.{Term}
 use Rattle.isle_terms.specs.declared.env.naming.Named.{Named}
 use Rattle.isle_rules.specs.Signatures.{Signature}

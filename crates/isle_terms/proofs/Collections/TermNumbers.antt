@@ -13,9 +13,9 @@ use Rattle.std.proofs.lemmas.Slice.Eq.{bytes_eq-Decides}
 use Rattle.isle_types.specs.declared.ids.Sym.{Sym}
 use Rattle.isle_types.specs.declared.ids.TermId.{TermId}
 use Rattle.isle_types.specs.Names.{position_of, AreDistinct}
-use Rattle.isle_types.specs.StableMaps.{value_at}
+use Rattle.isle_containers.specs.StableMaps.{value_at}
 use Rattle.isle_types.specs.TypeEnvs.{CountUp, symbol_at}
-use Rattle.isle_types.proofs.Lists.{taken_more, within-take, from_take}
+use Rattle.isle_containers.proofs.Lists.{taken_more, within-take, from_take}
 use Rattle.isle_types.proofs.NamePlaces.{place_found, place_known, place_last, place_other}
 use Rattle.isle_rules.specs.declared.terms.Term.{Term}
 use Rattle.isle_rules.specs.Signatures.{Signature}

@@ -16,7 +16,7 @@ use Rattle.isle_ast.specs.Errors.{IfFault, IsFaultAnd}
 use Rattle.isle_ast.specs.declared.ast.Def.{Def}
 use Rattle.isle_ast.proofs.Trees.DefEquality.{pos-decides}
 use Rattle.isle_types.specs.Environment.{Environment}
-use Rattle.isle_types.specs.StableMaps.{has}
+use Rattle.isle_containers.specs.StableMaps.{has}
 use Rattle.isle_types.specs.TypeFaults.{IsTypeFault}
 use Rattle.isle_types.proofs.Zipped.{all_at}
 use Rattle.isle_rules.specs.Definitions.{IsAmong}

@@ -13,7 +13,7 @@ use Rattle.isle_types.specs.Types.{id_of}
 use Rattle.isle_types.specs.Environment.{Environment, NamedType, NamedVariant}
 use Rattle.isle_types.specs.TypeTables.{TypeTables}
 use Rattle.isle_types.specs.TypeEnvs.{CountUp, Shows, IsShown, IsShownVariant, AreShownVariants}
-use Rattle.isle_types.proofs.Lists.{taken_more}
+use Rattle.isle_containers.proofs.Lists.{taken_more}
 use Rattle.isle_types.proofs.Zipped.{mapped_at}
 use Rattle.isle_rules.specs.declared.terms.Term.{Term}
 use Rattle.isle_rules.specs.Signatures.{Signature}

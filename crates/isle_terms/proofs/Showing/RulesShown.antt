@@ -10,7 +10,7 @@ use Rattle.isle_ast.specs.declared.ast.Rule.{Rule as RuleTree}
 use Rattle.isle_types.specs.declared.ids.Sym.{Sym}
 use Rattle.isle_types.specs.Names.{KeepsNames}
 use Rattle.isle_types.specs.TypeEnvs.{CountUp}
-use Rattle.isle_types.proofs.Lists.{AllZip-weaker}
+use Rattle.isle_containers.proofs.Lists.{AllZip-weaker}
 use Rattle.isle_rules.specs.declared.rules.BoundVar.{BoundVar}
 use Rattle.isle_rules.specs.declared.rules.Rule.{Rule}
 use Rattle.isle_terms.specs.declared.translate.bindings.RuleVariable.{RuleVariable}

@@ -4,7 +4,7 @@ use Rattle.std.specs.Option.{option_map}
 use Rattle.std.specs.Str.{bytes_eq}
 use Rattle.std.proofs.lemmas.List.{reverse-append}
 use Rattle.std.proofs.lemmas.Slice.Eq.{bytes_eq-Decides}
-use Rattle.isle_types.specs.StableMaps.{value_at}
+use Rattle.isle_containers.specs.StableMaps.{value_at}
 use Rattle.isle_terms.specs.declared.translate.bindings.BoundName.{BoundName}
 use Rattle.isle_terms.specs.declared.translate.bindings.VisibleName.{VisibleName}
 use Rattle.isle_rules.specs.Elaboration.{visible_in}

@@ -1,7 +1,7 @@
 //! The table of converters by their types, with a report of each that is ill.
 ghost use Rattle.std.specs.Prelude.{◌≡◌, ℕ, None, List, map, IfOk, IfErr};
 ghost use Rattle.isle_ast.specs.declared.ast.Def.{Def};
-ghost use Rattle.isle_types.specs.StableMaps.{value_at};
+ghost use Rattle.isle_containers.specs.StableMaps.{value_at};
 ghost use Rattle.isle_types.specs.Environment.{Environment};
 ghost use Rattle.isle_types.specs.TypeEnvs.{Shows};
 ghost use Rattle.isle_rules.specs.Signatures.{Signature};

@@ -3,7 +3,7 @@ ghost use Rattle.std.specs.Prelude.{◌≡◌, ◌<◌, ℕ, Some, map, length, 
 ghost use Rattle.std.specs.Str.{bytes_eq};
 ghost use Rattle.isle_ast.specs.declared.ast.Extractor.{Extractor as ExtractorTree};
 ghost use Rattle.isle_ast.specs.Trees.PatternShape.{pattern_of};
-ghost use Rattle.isle_types.specs.StableMaps.{value_at};
+ghost use Rattle.isle_containers.specs.StableMaps.{value_at};
 ghost use Rattle.isle_terms.specs.Inside.Collecting.Checks.{Checks};
 ghost use Rattle.isle_terms.specs.Inside.Collecting.ExtractorGraphs.{extracted, ArePlaces, AddsEdges, JoinsTerm, JoinsNode, JoinsPlaces};
 ghost use Rattle.isle_terms.specs.Inside.Collecting.ExtractorGraphs.{IsGraphOf, IsRecursiveAt, IsNotRecursive};

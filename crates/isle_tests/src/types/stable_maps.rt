@@ -1,6 +1,6 @@
 //! Maps and sets that can't be walked.
 ghost use Rattle.std.specs.Prelude.{◌≡◌, List, ℕ, nat_eq, Some, IsSome, IfOk, OnOk, OnErr, string_eq, string_bytes, bytes_eq, if◌then◌else◌};
-ghost use Rattle.isle_types.specs.StableMaps.{HoldsLastOf, value_at, value_at_text};
+ghost use Rattle.isle_containers.specs.StableMaps.{HoldsLastOf, value_at, value_at_text};
 
 use isle_types::{StableMap, StableSet};
 use std::alloc::{AllocError, Global};

@@ -16,12 +16,12 @@ ghost use Rattle.isle_types.specs.Inside.Readings.{IsTypeErrorAt, IsSizeErrorAt}
 
 use super::TypeEnv;
 use crate::ids::{FieldId, Sym, TypeId, VariantId};
-use crate::stablemapset::StableSet;
 use crate::types::{Fields, StructField, StructFields, TupleField, TupleFields, Type, Variant};
 use isle_ast::ast::{self, Ident, TypeValue};
 use isle_ast::error::Error;
 use isle_ast::pos::Pos;
 use isle_ast::{Refusal, Seq};
+use isle_containers::StableSet;
 use std::alloc::{AllocError, Global};
 
 /// How many fields a variant or struct may have.

@@ -2,16 +2,16 @@
 ghost use Rattle.std.specs.Option.{option_copied, option_and_then};
 ghost use Rattle.std.specs.Prelude.{◌≡◌, ℕ, [], List, Some, IsSome, unwrap_or, IfOk, OnOk, OnErr, slice_get, map, string_bytes};
 ghost use Rattle.isle_types.specs.Names.{with_name, AreDistinct};
-ghost use Rattle.isle_types.specs.StableMaps.{value_at_text};
+ghost use Rattle.isle_containers.specs.StableMaps.{value_at_text};
 ghost use Rattle.isle_types.specs.Environment.{Environment};
 ghost use Rattle.isle_types.specs.Interned.{entry_of};
 ghost use Rattle.isle_types.specs.TypeEnvs.{sym_named, name_of, type_name, type_of_name, type_of_constant, variant_of, Shows, HasMoreNames};
 
 use super::TypeEnv;
 use crate::ids::{Sym, TypeId, VariantId};
-use crate::stablemapset::StableMap;
 use crate::types::{Type, Variant};
 use isle_ast::ast::Ident;
+use isle_containers::StableMap;
 use std::alloc::{AllocError, Global};
 
 impl TypeEnv {

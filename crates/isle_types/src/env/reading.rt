@@ -17,13 +17,13 @@ ghost use Rattle.isle_types.specs.Inside.Readings.{HasTypeNames, HasReadTypes, R
 
 use super::TypeEnv;
 use crate::ids::TypeId;
-use crate::stablemapset::StableMap;
 use crate::symbols::Symbols;
 use crate::types::{BuiltinType, Type};
 use isle_ast::Refusal;
 use isle_ast::ast::{Def, Extern, Ident};
 use isle_ast::error::Error;
 use isle_ast::files::Files;
+use isle_containers::StableMap;
 use std::alloc::{AllocError, Global};
 use std::rc::Rc;
 

@@ -17,7 +17,7 @@ use Rattle.std.proofs.lemmas.Option.{same_Some}
 use Rattle.std.proofs.lemmas.Slice.Eq.{bytes_eq-Decides}
 use Rattle.isle_ast.specs.Trees.Equality.{same_coded-decides}
 use Rattle.isle_rules.specs.Values.{ValueTree, ValueTrees, no_trees, more_trees}
-use Rattle.isle_types.proofs.LevelEntries.{lookup-inserted, lookup-kept}
+use Rattle.isle_containers.proofs.LevelEntries.{lookup-inserted, lookup-kept}
 use Rattle.isle_values.specs.declared.values.Node.{Node}
 use Rattle.isle_values.specs.declared.worlds.entry.Side.{Side}
 use Rattle.isle_values.specs.declared.worlds.entry.Side.TheVariants.{Constructor, Extractor}

@@ -4,7 +4,7 @@ use Rattle.std.proofs.lemmas.Option.{same_Some, none-some}
 use Rattle.std.proofs.lemmas.List.{append-nil}
 use Rattle.std.proofs.lemmas.List.Elements.{All-append, All-cons, All-nil}
 use Rattle.isle_rules.proofs.Zipped.{zipped_append}
-use Rattle.isle_types.proofs.Lists.{slice_get-kept, slice_get-last, slice_get-pushed}
+use Rattle.isle_containers.proofs.Lists.{slice_get-kept, slice_get-last, slice_get-pushed}
 use Rattle.isle_syntax.specs.declared.lexer.Token.{Token}
 use Rattle.isle_program.specs.declared.program.Program.{Program}
 use Rattle.isle_values.specs.Worlds.Entries.{EntryTree, IsSameCall, IsSpellableEntry, entry_tokens}

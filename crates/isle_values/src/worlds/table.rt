@@ -14,7 +14,7 @@ use std::marker::Model;
 
 /// What an entry stands at: the nodes of the call's values, or all calls without an entry of their own, and the side of a term. Keys are
 /// ordered by their calls first, in which most of them differ.
-#[derive(Debug, PartialEq, Eq, PartialOrd, Ord, Drop)]
+#[derive(PartialEq, Eq, PartialOrd, Ord, Drop)]
 pub(crate) struct Key {
     call: Option<Seq<Node>>,
     term: Text,
@@ -22,7 +22,7 @@ pub(crate) struct Key {
 }
 
 /// A world whose external terms are answered by the entries of a text. The answers never change.
-#[derive(Debug, Drop)]
+#[derive(Drop)]
 pub struct TableWorld {
     answers: BTreeMap<Key, Option<Vec<Value>>>,
 }

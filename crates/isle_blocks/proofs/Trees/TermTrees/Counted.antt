@@ -8,7 +8,7 @@ use Rattle.std.proofs.lemmas.List.Concat.{length-flat_map}
 use Rattle.std.proofs.lemmas.List.Sums.{sum_by-append, sum_by-cons, sum_by_more}
 use Rattle.std.proofs.lemmas.Option.{slice_get-get_or}
 use Rattle.isle_types.specs.declared.ids.Sym.{Sym}
-use Rattle.isle_types.specs.JoinedSets.{members}
+use Rattle.isle_containers.specs.JoinedSets.{members}
 use Rattle.isle_trees.specs.Counting.{steps_at_most, total_constraints}
 use Rattle.isle_trees.specs.Rules.{below}
 use Rattle.isle_blocks.specs.declared.ids.BindingId.{BindingId}

@@ -1,6 +1,7 @@
 use Rattle.isle_meaning.proofs.Machine.Beginnings.{machine_stops}
 use Rattle.isle_calls.proofs.OpenCalls.Made.{made_none, on_err}
 use Rattle.std.proofs.Common.{List, refl, subst, []}
+use Rattle.std.proofs.lemmas.Result.{IfOk-weaker, on_err_weaker}
 use Rattle.isle_rules.specs.Values.{ValueTree, value_list}
 use Rattle.isle_meaning.specs.GroundValues.{values_of}
 use Rattle.isle_machine.specs.Inside.Blocks.Frames.{IsGrown}
@@ -14,7 +15,7 @@ use Rattle.isle_machine.proofs.Blocks.Telling.{tree_tells, tree_stops}
 use Rattle.isle_machine.proofs.traced.trace.Goals as goal
 
 pub returns-clause-ran : goal.returns-clause-ran
-returns-clause-ran g c = λ compiled may typed.
+returns-clause-ran g c = IfOk-weaker c.answer_traced.result _ _ (λ traced told compiled may typed.
     let program = c.args.program.now in
     let trees = value_list c.args.args.items in
     let vs = values_of (checked program).values trees in
@@ -23,13 +24,13 @@ returns-clause-ran g c = λ compiled may typed.
     c.as_slice.ensures.value c.in_ok-shared.ensures.numbers in
     let ready : IsReady IsGrown program c.args.term.0 vs =
     record { holds = compiled_grown program compiled; may = may; typed = record { trees = trees; typed = typed; stand = refl } } in
-    let (made, has, r, tells, run) = c.in_ok-called.ensures.ran vs stand ready in (
+    let (made, has, r, tells, run) = told vs stand ready in (
       made,
       has,
       tree_tells program (answers_in program (g.W.World.constructs c.args.world.now) (g.W.World.extracts c.args.world.now))
           c.args.depth c.args.term.0 vs
-          c.in_ok-called.called made r ready tells run,
-    )
+          traced.0 made r ready tells run,
+    )) c.answer_traced.ensures.ran
 
 pub returns-in_err-shared-clause-lost : goal.returns-in_err-shared-clause-lost
 returns-in_err-shared-clause-lost g c = on_err c.from_residual.result (λ compiled may typed. (
@@ -38,8 +39,8 @@ returns-in_err-shared-clause-lost g c = on_err c.from_residual.result (λ compil
   record { begins = machine_stops (checked c.args.program.now) _ (term_trees c.args.program.now) c.args.depth c.args.term.0 _; pure = λ pure. refl },
 ))
 
-pub returns-in_err-called-clause-lost : goal.returns-in_err-called-clause-lost
-returns-in_err-called-clause-lost g c = on_err c.from_residual-in_err-called.result (λ compiled may typed.
+pub returns-clause-lost : goal.returns-clause-lost
+returns-clause-lost g c = on_err_weaker c.answer_traced.result (λ lost compiled may typed.
     let program = c.args.program.now in
     let trees = value_list c.args.args.items in
     let vs = values_of (checked program).values trees in
@@ -48,10 +49,10 @@ returns-in_err-called-clause-lost g c = on_err c.from_residual-in_err-called.res
     c.as_slice.ensures.value c.in_ok-shared.ensures.numbers in
     let ready : IsReady IsGrown program c.args.term.0 vs =
     record { holds = compiled_grown program compiled; may = may; typed = record { trees = trees; typed = typed; stand = refl } } in
-    let (made, has, begun) = c.in_err-called.ensures.lost vs stand ready in (
+    let (made, has, begun) = lost vs stand ready in (
       made,
       has,
       tree_stops program (answers_in program (g.W.World.constructs c.args.world.now) (g.W.World.extracts c.args.world.now))
           c.args.depth c.args.term.0 vs
           made ready begun,
-    ))
+    )) c.answer_traced.ensures.lost

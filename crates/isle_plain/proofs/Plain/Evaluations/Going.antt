@@ -4,7 +4,7 @@ use Rattle.std.proofs.Common.{slice_get, refl, sym, ◌∙◌, ap, subst}
 use Rattle.std.specs.Prelude.{All}
 use Rattle.std.proofs.lemmas.Option.{slice_get_cases}
 use Rattle.std.proofs.lemmas.List.Elements.{All-nil, All-cons, All-pop}
-use Rattle.isle_types.proofs.Lists.{slice_get-kept, slice_get-last}
+use Rattle.isle_containers.proofs.Lists.{slice_get-kept, slice_get-last}
 use Rattle.isle_types.specs.declared.ids.TermId.{TermId}
 use Rattle.isle_meaning.specs.Values.{Value, Values, more_values}
 use Rattle.isle_meaning.specs.Words.{Word, var_word, bool_word, int_word, prim_word, variant_word, struct_word, call_word, Words}

@@ -7,7 +7,7 @@ use Rattle.std.proofs.lemmas.Bool.{eqb-true, eqb-false}
 use Rattle.std.proofs.lemmas.List.{append-nil, get_or-set_same, get_or-set_other, length-set}
 use Rattle.std.proofs.lemmas.List.Elements.{All-push, All-pop, Contains-append_left, Contains-push_cases}
 use Rattle.std.proofs.lemmas.Option.{slice_get_cases}
-use Rattle.isle_types.proofs.Lists.{slice_get-last}
+use Rattle.isle_containers.proofs.Lists.{slice_get-last}
 use Rattle.isle_meaning.specs.Words.{Word}
 use Rattle.isle_plain.specs.declared.evaluation.Evaluation.{Evaluation}
 use Rattle.isle_calls.specs.declared.store.Stored.{Stored}

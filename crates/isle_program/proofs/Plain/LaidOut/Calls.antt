@@ -3,7 +3,7 @@ use Rattle.std.proofs.Common.{◌≡◌, ◌<◌, ℕ, zero, suc, List, [], ◌�
 use Rattle.std.specs.List.{AllZip}
 use Rattle.std.proofs.lemmas.Option.{slice_get_within}
 use Rattle.isle_types.specs.declared.ids.TermId.{TermId}
-use Rattle.isle_types.proofs.Lists.{slice_get-pushed, slice_get-last, slice_get-kept}
+use Rattle.isle_containers.proofs.Lists.{slice_get-pushed, slice_get-last, slice_get-kept}
 use Rattle.isle_meaning.specs.Words.{Step}
 use Rattle.isle_program.specs.Plain.LaidOut.Words.{IsLaidStep}
 use Rattle.isle_program.specs.Inside.Plain.LaidOut.Expressions.{StandOnce, Ascend}

@@ -16,7 +16,7 @@ use Rattle.std.proofs.lemmas.Map.Lookups.{exact_unsigned}
 use Rattle.std.proofs.lemmas.Map.Keys.{IsDistinct-IsPermutation}
 use Rattle.std.proofs.lemmas.Map.Made.{AllPairs-from_IsDistinct, IsDistinct-from_AllPairs}
 use Rattle.std.proofs.lemmas.Option.{same_Some, slice_get_within, slice_get-get_or, get_or_from_slice_get}
-use Rattle.isle_types.proofs.RootedTables.{Contains-map}
+use Rattle.isle_containers.proofs.RootedTables.{Contains-map}
 use Rattle.isle_rules.specs.declared.rules.Rule.{Rule}
 use Rattle.isle_program.specs.Plain.LaidOut.Rules.{priority_of, TriedBefore, AreByPriority}
 

@@ -3,7 +3,7 @@ use Rattle.std.proofs.Common.{◌≡◌, ◌<◌, ℕ, zero, suc, true, false, L
 use Rattle.std.specs.List.{AllZip}
 use Rattle.std.proofs.lemmas.Slice.Zip.{all_zipped_more, AllZip-long}
 use Rattle.isle_types.specs.declared.ids.TermId.{TermId}
-use Rattle.isle_types.proofs.Lists.{slice_get-last}
+use Rattle.isle_containers.proofs.Lists.{slice_get-last}
 use Rattle.isle_meaning.specs.Words.{Word, call_word, Step}
 use Rattle.isle_program.specs.Plain.LaidOut.Words.{IsLaid, AreLaid, made_of, StandBehind, IsLaidStep}
 use Rattle.isle_program.specs.Inside.Plain.LaidOut.Expressions.{stands_for, IsBound, Keeps, StandOnce, Ascend, IsPut, IsLayout, Lays, LaysCall}

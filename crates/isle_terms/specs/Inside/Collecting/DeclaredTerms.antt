@@ -12,7 +12,7 @@ use Rattle.isle_types.specs.declared.ids.TermId.{TermId}
 use Rattle.isle_types.specs.declared.ids.Sym.{Sym}
 use Rattle.isle_types.specs.Environment.{Environment, NamedVariant, numbers_in}
 use Rattle.isle_types.specs.Names.{position_of}
-use Rattle.isle_types.specs.StableMaps.{value_at}
+use Rattle.isle_containers.specs.StableMaps.{value_at}
 use Rattle.isle_types.specs.TypeEnvs.{CountUp, symbol_at}
 use Rattle.isle_types.specs.TypeFaults.{IsTypeOrSize}
 use Rattle.isle_rules.specs.declared.terms.Term.{Term}

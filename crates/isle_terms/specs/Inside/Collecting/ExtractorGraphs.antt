@@ -6,7 +6,7 @@ use Rattle.isle_ast.specs.declared.ast.Extractor.{Extractor as ExtractorTree}
 use Rattle.isle_ast.specs.declared.pos.Pos.{Pos}
 use Rattle.isle_ast.specs.Trees.PatternTree.{PatternTree}
 use Rattle.isle_ast.specs.Trees.PatternShape.{pattern_of}
-use Rattle.isle_types.specs.StableMaps.{value_at}
+use Rattle.isle_containers.specs.StableMaps.{value_at}
 use Rattle.isle_rules.specs.Definitions.{IsAmong, ComesTo, term_names}
 use Rattle.isle_terms.specs.Inside.Collecting.Graphs.{HasEdge}
 

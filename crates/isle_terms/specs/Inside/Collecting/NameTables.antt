@@ -1,7 +1,7 @@
 -- Tables of the first places of names.
 use Rattle.std.specs.Prelude.{◌≡◌, ℕ, List}
 use Rattle.isle_types.specs.Names.{position_of}
-use Rattle.isle_types.specs.StableMaps.{value_at_text}
+use Rattle.isle_containers.specs.StableMaps.{value_at_text}
 use Rattle.isle_terms.specs.declared.env.name_table.NameTable.{NameTable}
 
 -- a table has the first place of each of these names, and of no other

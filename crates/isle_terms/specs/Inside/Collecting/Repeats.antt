@@ -5,7 +5,7 @@ use Rattle.isle_ast.specs.declared.pos.Pos.{Pos}
 use Rattle.isle_ast.specs.declared.error.Error.{Error}
 use Rattle.isle_ast.specs.declared.error.Error.TheVariants.{ParseError, TypeError, UnreachableError, OverlapError, ShadowedError, SizeError}
 use Rattle.isle_ast.specs.contracts.pos.PosPartialEq.TheImpl as pos_of
-use Rattle.isle_types.specs.StableMaps.{has}
+use Rattle.isle_containers.specs.StableMaps.{has}
 use Rattle.isle_rules.specs.Definitions.{IsAmong}
 
 -- where a type error stands, and the first line of its message

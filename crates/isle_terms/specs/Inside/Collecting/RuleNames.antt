@@ -6,7 +6,7 @@ use Rattle.std.specs.Option.{option_map, option_and_then}
 use Rattle.isle_types.specs.declared.ids.Sym.{Sym}
 use Rattle.isle_types.specs.declared.ids.RuleId.{RuleId}
 use Rattle.isle_types.specs.Names.{AreDistinct, position_of}
-use Rattle.isle_types.specs.StableMaps.{value_at, value_at_text}
+use Rattle.isle_containers.specs.StableMaps.{value_at, value_at_text}
 use Rattle.isle_types.specs.TypeEnvs.{CountUp, symbol_at}
 use Rattle.isle_rules.specs.declared.rules.Rule.{Rule}
 use Rattle.isle_terms.specs.declared.env.rule_names.NamedRules.{NamedRules}

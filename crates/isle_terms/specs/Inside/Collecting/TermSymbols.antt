@@ -2,7 +2,7 @@
 use Rattle.std.specs.Prelude.{◌≡◌, List, IsSome}
 use Rattle.isle_types.specs.declared.ids.Sym.{Sym}
 use Rattle.isle_types.specs.declared.ids.TermId.{TermId}
-use Rattle.isle_types.specs.StableMaps.{value_at}
+use Rattle.isle_containers.specs.StableMaps.{value_at}
 use Rattle.isle_rules.specs.declared.terms.Term.{Term}
 use Rattle.isle_rules.specs.Definitions.{IsAmong}
 use Rattle.isle_rules.specs.Shown.TermTables.{same_sym}

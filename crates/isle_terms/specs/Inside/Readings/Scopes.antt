@@ -2,7 +2,7 @@
 use Rattle.std.specs.Prelude.{◌≡◌, ℕ, List, [], ◌∷◌, map, Option}
 use Rattle.std.specs.Option.{option_map}
 use Rattle.std.specs.Str.{bytes_eq}
-use Rattle.isle_types.specs.StableMaps.{value_at}
+use Rattle.isle_containers.specs.StableMaps.{value_at}
 use Rattle.isle_terms.specs.declared.translate.bindings.BoundName.{BoundName}
 use Rattle.isle_terms.specs.declared.translate.bindings.VisibleName.{VisibleName}
 use Rattle.isle_terms.specs.declared.translate.bindings.RuleVariable.{RuleVariable}

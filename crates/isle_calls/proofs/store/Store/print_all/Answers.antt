@@ -1,7 +1,7 @@
 use Rattle.std.proofs.Common.{◌≡◌, ◌≤◌, ◌++◌, ◌∷◌, [], length, map, take, get_or, refl, sym, ap, subst, ◌∙◌, arith}
 use Rattle.std.proofs.lemmas.List.{take_all}
 use Rattle.std.proofs.lemmas.Option.{slice_get-get_or}
-use Rattle.isle_types.proofs.Lists.{taken_more}
+use Rattle.isle_containers.proofs.Lists.{taken_more}
 use Rattle.isle_types.specs.declared.ids.TypeId.{TypeId}
 use Rattle.isle_rules.specs.Values.{value_list}
 use Rattle.isle_meaning.specs.ValueTypes.{IsOfType, AreOfTypes}

@@ -1,7 +1,7 @@
 use Rattle.std.proofs.Common.{◌++◌, ◌∷◌, [], length, map, take, slice_get, get_or, unwrap_or, sym, ap, ◌∙◌, append_assoc, arith}
 use Rattle.std.proofs.lemmas.List.{take_all}
 use Rattle.std.proofs.lemmas.Option.{slice_get-get_or}
-use Rattle.isle_types.proofs.Lists.{taken_more}
+use Rattle.isle_containers.proofs.Lists.{taken_more}
 use Rattle.isle_types.specs.TypeEnvs.{type_at}
 use Rattle.isle_calls.specs.declared.store.printing.Step.TheVariants.{Number, Data}
 use Rattle.isle_program.specs.Programs.{number_of}

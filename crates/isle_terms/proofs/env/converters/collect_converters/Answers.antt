@@ -1,5 +1,5 @@
 use Rattle.std.proofs.Common.{length, subst, sym, ap, ◌∙◌, ◌≤◌, slice_get}
-use Rattle.isle_types.specs.StableMaps.{value_at}
+use Rattle.isle_containers.specs.StableMaps.{value_at}
 use Rattle.isle_rules.specs.Shown.TermTables.{same_types}
 use Rattle.isle_terms.proofs.Collections.Checking.{item_at, past_mapped}
 use Rattle.isle_terms.proofs.Collections.ReadConverters.{read_none, read_ill, read_more, read_all}

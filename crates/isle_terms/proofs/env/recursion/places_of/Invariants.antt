@@ -2,7 +2,7 @@ use Rattle.std.proofs.Common.{◌≡◌, ◌<◌, ℕ, List, Some, map, Bor}
 use Rattle.std.specs.Prelude.{slice_get}
 use Rattle.std.specs.Str.{bytes_eq}
 use Rattle.isle_ast.specs.declared.ast.Extractor.{Extractor as ExtractorTree}
-use Rattle.isle_types.specs.StableMaps.{value_at}
+use Rattle.isle_containers.specs.StableMaps.{value_at}
 use Rattle.isle_terms.specs.Inside.Collecting.ExtractorGraphs.{extracted}
 use Rattle.isle_terms.proofs.env.recursion.places_of.Given as goal
 

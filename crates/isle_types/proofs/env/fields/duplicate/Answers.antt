@@ -3,7 +3,7 @@ use Rattle.std.proofs.lemmas.Option.{slice_get-get_or}
 use Rattle.std.proofs.lemmas.List.{take_all}
 use Rattle.isle_types.specs.Names.{AreDistinct}
 use Rattle.isle_types.specs.TypeEnvs.{symbol_at}
-use Rattle.isle_types.proofs.Lists.{taken_more}
+use Rattle.isle_containers.proofs.Lists.{taken_more}
 use Rattle.isle_types.proofs.Duplicates.{among, once_more, duplicate_here, among_more, flip}
 use Rattle.isle_types.proofs.env.fields.duplicate.Goals as goal
 

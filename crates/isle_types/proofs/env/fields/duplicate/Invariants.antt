@@ -2,7 +2,7 @@ use Rattle.std.proofs.Common.{◌≡◌, ◌==◌, take}
 use Rattle.std.specs.List.{list_any}
 use Rattle.isle_types.specs.declared.ids.Sym.{Sym}
 use Rattle.isle_types.specs.Names.{AreDistinct}
-use Rattle.isle_types.specs.StableMaps.{has}
+use Rattle.isle_containers.specs.StableMaps.{has}
 use Rattle.isle_types.proofs.env.fields.duplicate.Given as goal
 
 abbrev pub invariant-loop-place : goal.invariant-loop-place

@@ -1,6 +1,0 @@
-use Rattle.std.proofs.Common.{◌≡◌, map}
-use Rattle.isle_ast.specs.Trees.WithoutPos.{ident_without_pos}
-use Rattle.isle_ast.proofs.ast.positions.clear_idents.Given as goal
-
-abbrev pub invariant-loop-name : goal.invariant-loop-name
-invariant-loop-name l = l.all.items ≡ map ident_without_pos l.yielded

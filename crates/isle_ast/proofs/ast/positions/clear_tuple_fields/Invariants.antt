@@ -1,6 +1,0 @@
-use Rattle.std.proofs.Common.{◌≡◌, map}
-use Rattle.isle_ast.specs.Trees.WithoutPos.{tuple_field_without_pos}
-use Rattle.isle_ast.proofs.ast.positions.clear_tuple_fields.Given as goal
-
-abbrev pub invariant-loop-field : goal.invariant-loop-field
-invariant-loop-field l = l.all.items ≡ map tuple_field_without_pos l.yielded
