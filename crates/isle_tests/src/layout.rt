@@ -1,3 +1,79 @@
-//! Tests of `isle_layout`: what is printed of trees, and which definitions can be printed and read back.
-pub mod spellings;
-mod writable;
+//! Tests of `isle_layout`: parts of definitions that are printed by themselves, and definitions that can't be printed.
+use crate::syntax::trees::chain;
+use isle_layout::printer::print_node;
+use isle_layout::to_sexpr::ToSExpr;
+use isle_layout::writable::writable;
+use isle_syntax::ast::{Def, Expr, Extractor, Ident, IfLet, KeptItem, Pattern};
+use isle_syntax::lexer::Pos;
+use isle_syntax::{Refusal, Seq, Text};
+use std::alloc::{AllocError, Global};
+use std::test::Fail;
+
+/// What prints of a tree on one line, or that it is refused.
+fn shown<T: ToSExpr>(alloc: Global, tree: &T) -> Result<String, Fail> {
+    match print_node(alloc, tree, 1_000_000) {
+        Ok(text) => Ok(text),
+        Err(Refusal::Fault(fault)) => Ok(fault.to_string(alloc)?),
+        Err(Refusal::Memory(e)) => Err(Fail::from(e)),
+    }
+}
+
+/// What prints of a condition of a rule: the pattern matches 1.
+fn shown_clause(alloc: Global, pattern: Pattern) -> Result<String, Fail> {
+    let pos = Pos::default();
+    let clause = IfLet {
+        pattern,
+        expr: Expr::ConstInt {
+            val: 1,
+            big: false,
+            pos,
+        },
+        pos,
+    };
+    shown(alloc, &clause)
+}
+
+/// Parts of definitions, by their names.
+pub const PARTS: &str = "
+| name → Op
+| item → @
+| wildcard → (if-let _ 1)
+| argument → a numbered argument of a template can't be printed";
+
+/// What is printed of a part by itself.
+pub fn part(alloc: Global, name: &str) -> Result<String, Fail> {
+    let pos = Pos::default();
+    match name {
+        "name" => shown(alloc, &Ident(Text::from_str(alloc, "Op")?, pos)),
+        "item" => shown(alloc, &KeptItem::At { pos }),
+        "wildcard" => shown_clause(alloc, Pattern::Wildcard { pos }),
+        _ => shown_clause(alloc, Pattern::MacroArg { index: 0, pos }),
+    }
+}
+
+/// The internal extractor `e` with this template.
+fn extractor_of(alloc: Global, template: Pattern) -> Result<Def, AllocError> {
+    let pos = Pos::default();
+    let term = Ident(Text::from_str(alloc, "e")?, pos);
+    let args = Seq::new(Vec::new(alloc));
+    Ok(Def::Extractor(Extractor {
+        term,
+        args,
+        template,
+        pos,
+    }))
+}
+
+/// A long chain of bindings is writable, which is walked within the stack, and a numbered argument isn't.
+#[test]
+fn definitions_are_writable(rt: HostRuntime) -> Result<(), Fail> {
+    let alloc = rt.alloc();
+    let pos = Pos::default();
+    let long = extractor_of(alloc, chain(alloc, 100_000)?)?;
+    let numbered = extractor_of(alloc, Pattern::MacroArg { index: 0, pos })?;
+    if writable(&long) && !writable(&numbered) {
+        Ok(())
+    } else {
+        Err(Fail::from("what is writable"))
+    }
+}

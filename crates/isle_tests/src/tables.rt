@@ -1,66 +1,44 @@
 //! Tables of texts, with what is wanted of each.
-use crate::blocks::checks::{BUILT, any};
-use crate::layout::spellings::{PARTS, part};
+use crate::layout::{PARTS, part};
 use crate::syntax::lexer::{CLASSES, classes};
-use crate::syntax::readings::{OFFSETS, offsets};
-use crate::syntax::trees::{CALLS, told};
+use crate::syntax::trees::{OFFSETS, offsets};
+use crate::terms::{FUNCTIONS, IDENTIFIERS, functions, identifiers};
 use std::alloc::Global;
 use std::test::Fail;
 
 /// What is asked of a text.
 #[derive(Clone, Copy)]
-pub enum Asked {
+enum Asked {
     /// What it is as a symbol.
     Classes,
     /// Where its nodes stand.
     Offsets,
-    /// What calls tell of its definition.
-    Calls,
     /// What is printed of a part of that name.
     Parts,
-    /// What is told of its rules, whatever is wrong with them.
-    Rules,
-}
-
-/// The texts of which it is asked.
-fn table(asked: Asked) -> &'static str {
-    match asked {
-        Asked::Classes => CLASSES,
-        Asked::Offsets => OFFSETS,
-        Asked::Calls => CALLS,
-        Asked::Parts => PARTS,
-        Asked::Rules => BUILT,
-    }
+    /// The functions of the host that stand for its term.
+    Functions,
+    /// What its rules are called.
+    Identifiers,
 }
 
 fn answer(alloc: Global, asked: Asked, text: &str) -> Result<String, Fail> {
     match asked {
         Asked::Classes => classes(alloc, text),
         Asked::Offsets => offsets(alloc, text),
-        Asked::Calls => told(alloc, text),
         Asked::Parts => part(alloc, text),
-        Asked::Rules => any(alloc, text),
+        Asked::Functions => functions(alloc, text),
+        Asked::Identifiers => identifiers(alloc, text),
     }
 }
 
-/// Nothing where a row is answered as it wants, and else the answer.
-fn mistake(alloc: Global, asked: Asked, row: &str) -> Result<String, Fail> {
-    let (text, wanted) = row.split_once(" → ").ok_or("an arrow")?;
-    let found = answer(alloc, asked, text)?;
-    if found.as_str().trim() == wanted {
-        Ok(String::new(alloc))
-    } else {
-        Ok(format!(in alloc; "{row}, not {found}")?)
-    }
-}
-
-/// The first row of the table that is answered otherwise, or nothing. Each row begins a line with `| `, and an arrow stands
+/// The first row of a table that is answered otherwise, with the answer, or nothing. Each row begins a line with `| `, and an arrow stands
 /// between its text and what is wanted of it, but for spaces and newlines at its ends.
-fn first_mistake(alloc: Global, asked: Asked) -> Result<String, Fail> {
-    for row in table(asked).split("\n| ").skip(1) {
-        let mistake = mistake(alloc, asked, row)?;
-        if !mistake.is_empty() {
-            return Ok(mistake);
+fn first_mistake(alloc: Global, asked: Asked, table: &str) -> Result<String, Fail> {
+    for row in table.split("\n| ").skip(1) {
+        let (text, wanted) = row.split_once(" → ").ok_or("an arrow")?;
+        let found = answer(alloc, asked, text)?;
+        if found.as_str().trim() != wanted {
+            return Ok(format!(in alloc; "{row}, not {found}")?);
         }
     }
     Ok(String::new(alloc))
@@ -68,14 +46,14 @@ fn first_mistake(alloc: Global, asked: Asked) -> Result<String, Fail> {
 
 #[test]
 fn texts_are_answered(rt: HostRuntime) -> Result<(), Fail> {
-    for asked in [
-        Asked::Classes,
-        Asked::Offsets,
-        Asked::Calls,
-        Asked::Parts,
-        Asked::Rules,
+    for (asked, table) in [
+        (Asked::Classes, CLASSES),
+        (Asked::Offsets, OFFSETS),
+        (Asked::Parts, PARTS),
+        (Asked::Functions, FUNCTIONS),
+        (Asked::Identifiers, IDENTIFIERS),
     ] {
-        assert_eq!(rt; first_mistake(rt.alloc(), asked)?.as_str(), "");
+        assert_eq!(rt; first_mistake(rt.alloc(), asked, table)?.as_str(), "");
     }
     Ok(())
 }

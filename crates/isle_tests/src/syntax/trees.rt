@@ -1,12 +1,52 @@
-//! Trees of texts, and their calls.
-use crate::syntax::texts::{definitions, first_rule, placed, read_without_pos};
+//! Trees of texts: where each node stands, and calls that copy and walk them.
 use isle_syntax::Text;
-use isle_syntax::ast::{
-    BoxedPattern, Def, Expr, Ident, KeptItem, Pattern, Rule, TypeValue, Variant,
-};
-use isle_syntax::lexer::Pos;
+use isle_syntax::ast::{BoxedPattern, Def, Ident, Pattern, Rule};
+use isle_syntax::lexer::{Lexer, Pos};
+use isle_syntax::parser::{parse, parse_without_pos};
 use std::alloc::{AllocError, Global};
 use std::test::Fail;
+
+/// The definitions of a text.
+pub fn placed(alloc: Global, text: &str) -> Result<Vec<Def>, Fail> {
+    match parse(Lexer::new(alloc, 0, text)) {
+        Ok(defs) => Ok(defs),
+        Err(_refusal) => Err(Fail::from("a spelt text")),
+    }
+}
+
+// The offsets of all nodes and names, in the order of the trees' fields. A definition stands at the token after its
+// keyword, any other node at its first token.
+pub const OFFSETS: &str = "
+| (type A (primitive B)) → 6 19 8 6
+| ( type A extern (enum B C)) → 7 22 22 24 24 16 7
+| (type A nodebug (struct (f u8))) → 6 25 27 24 16 6
+| (type A (enum B (C) (D u8) (E (f u8)))) → 6 14 14 17 16 21 23 23 20 28 31 33 30 27 8 6
+| (decl pure f (u8) u16) → 11 14 18 6
+| (extractor (e x) (f x)) → 12 14 18 20 20 17 11
+| (extern constructor f g) → 20 22 8
+| (extern extractor infallible f g) → 29 31 8
+| (extern const $X u8) → 14 17 8
+| (convert u8 u16 f) → 16 9 12 9
+| (attr a b) → 1 6 8 6
+| (rule n 2 (f) 0) → 11 10 14 6 6
+| (rule (and x y @ z true -1 $C (f) (and) _ 340282366920938463463374607431768211455) 0) → 11 11 13 17 17 13 19 24 27 27 31 30 34 40 42 6 83 6
+| (rule (f) (let ((x u8 (g 1)) (y u8 x)) $C)) → 7 6 17 19 23 25 22 16 30 32 35 35 29 39 39 10 6
+| (rule (f x) (if-let y x) (if (g x)) y) → 7 9 9 6 20 20 22 22 12 26 30 32 32 29 25 36 36 6
+| (spec 5 a @ (b) 170141183460469231731687303715884105728) → 1 6 8 10 13 12 16 6
+| (rule a (f x) (if (g x)) (let () x)) → 9 11 11 8 15 19 21 21 18 14 33 33 25 6 6";
+
+/// The offsets in the definitions of a text, as they are printed for debugging.
+pub fn offsets(alloc: Global, text: &str) -> Result<String, Fail> {
+    let defs = placed(alloc, text)?;
+    let shown = format!(in alloc; "{defs:?}")?;
+    let mut found = String::new(alloc);
+    for part in shown.split("offset: ").skip(1) {
+        let (offset, _) = part.split_once(" }").ok_or("an end")?;
+        found.push_str(offset)?;
+        found.push_str(" ")?;
+    }
+    Ok(found)
+}
 
 const EVERY_FORM: &str = "(type Imm (primitive u64))
 (type Pair extern (struct (a u8) (b u8)))
@@ -16,7 +56,7 @@ const EVERY_FORM: &str = "(type Imm (primitive u64))
 (extern extractor infallible small of_small)
 (extern const $LIMIT u64)
 (extractor (two x) (Op.Add x 2))
-(rule named 2 (simp (two n) $LIMIT true z @ _) (if-let 0 n) (if n) (let ((m u8 n)) (simp m $LIMIT false -3)))
+(rule named 2 (simp (and (two n) $LIMIT) true z @ _) (if-let 0 n) (if n) (let ((m u8 n)) (simp m $LIMIT false -3)))
 (convert u8 u64 widen)
 (attr simp (veri chain) @ 5 340282366920938463463374607431768211455)
 ";
@@ -32,112 +72,39 @@ fn without_pos(alloc: Global, defs: Vec<Def>) -> Result<Vec<Def>, AllocError> {
 /// Whether definitions are without their positions what is read of a text without them.
 fn are_read(alloc: Global, defs: Vec<Def>, text: &str) -> Result<bool, Fail> {
     let without = without_pos(alloc, defs)?;
-    Ok(without == definitions(read_without_pos(alloc, text))?)
+    match parse_without_pos(Lexer::new(alloc, 0, text)) {
+        Ok(read) => Ok(without == read),
+        Err(_refusal) => Err(Fail::from("a spelt text")),
+    }
 }
 
-/// Whether a text has so many definitions, of which the clones are the same, and which are without their positions what is
-/// read without them.
-fn are_copied(alloc: Global, text: &str, number: usize) -> Result<bool, Fail> {
-    let defs = placed(alloc, text)?;
-    let are_same = defs.clone()? == defs && defs.len() == number;
-    Ok(are_same && are_read(alloc, defs, text)?)
+/// Whether the clones of definitions of every form are the same, and what they are without their positions is read without them.
+pub fn are_copied(alloc: Global) -> Result<bool, Fail> {
+    let defs = placed(alloc, EVERY_FORM)?;
+    let are_same = defs.clone()? == defs && defs.len() == 11;
+    Ok(are_same && are_read(alloc, defs, EVERY_FORM)?)
 }
 
-/// The offsets of a pattern's terms, two digits each.
-fn pattern_terms(pattern: &Pattern) -> u64 {
-    let mut seen: u64 = 0;
-    pattern.terms(&mut |pos: Pos, _: &Ident| seen = seen
+/// The offsets of the terms at both sides of a rule, two digits each.
+fn terms_at(rule: &Rule) -> (u64, u64) {
+    let mut left: u64 = 0;
+    rule.pattern.terms(&mut |pos: Pos, _: &Ident| left = left
         .wrapping_mul(100)
         .wrapping_add(pos.offset as u64));
-    seen
-}
-
-/// The offsets of an expression's terms, two digits each.
-fn expr_terms(expr: &Expr) -> u64 {
-    let mut seen: u64 = 0;
-    expr.terms(&mut |pos: Pos, _: &Ident| seen = seen
+    let mut right: u64 = 0;
+    rule.expr.terms(&mut |pos: Pos, _: &Ident| right = right
         .wrapping_mul(100)
         .wrapping_add(pos.offset as u64));
-    seen
+    (left, right)
 }
 
-/// The offsets of the terms at both sides of a text's rule.
-fn terms_of(alloc: Global, text: &str) -> Result<(u64, u64), Fail> {
+/// The same of the rule that a text is.
+pub fn terms_of(alloc: Global, text: &str) -> Result<(u64, u64), Fail> {
     let defs = placed(alloc, text)?;
-    let rule = first_rule(defs.as_slice())?;
-    Ok((pattern_terms(&rule.pattern), expr_terms(&rule.expr)))
-}
-
-// Of a rule, its first term, and how many terms its two sides have and where they stand; of a type, the full name of its
-// first variant; of a kept definition, where its first item stands.
-pub const CALLS: &str = "
-| (rule (f (g x)) (h)) → f 2 6 1 16
-| (rule (and x y) 0) → none 0 6 0 16
-| (type Op (enum Add)) → Op.Add
-| (spec a) → 6";
-
-fn told_of_rule(alloc: Global, rule: &Rule) -> Result<String, AllocError> {
-    let root = match rule.pattern.root_term() {
-        Some(name) => name.0.as_str(),
-        None => "none",
-    };
-    let (left, right) = (rule.pattern.count_terms(), rule.expr.count_terms());
-    let (from, to) = (rule.pattern.pos().offset, rule.expr.pos().offset);
-    format!(in alloc; "{root} {left} {from} {right} {to}")
-}
-
-fn told_of_enum(alloc: Global, name: &Ident, variants: &[Variant]) -> Result<String, AllocError> {
-    match variants.first() {
-        Some(first) => Ok(
-            Variant::full_name(alloc, name, &first.name)?
-                .0
-                .into_string(),
-        ),
-        None => String::from_str(alloc, "no variant"),
+    match defs.first() {
+        Some(Def::Rule(rule)) => Ok(terms_at(rule)),
+        _ => Err(Fail::from("a rule")),
     }
-}
-
-fn told_of_items(alloc: Global, items: &[KeptItem]) -> Result<String, AllocError> {
-    match items.first() {
-        Some(first) => format!(in alloc; "{}", first.pos().offset),
-        None => String::from_str(alloc, "no item"),
-    }
-}
-
-fn told_of(alloc: Global, def: Option<&Def>) -> Result<String, AllocError> {
-    match def {
-        Some(Def::Rule(rule)) => told_of_rule(alloc, rule),
-        Some(Def::TypeDef(ty)) => match &ty.ty {
-            TypeValue::Enum(variants, _) => told_of_enum(alloc, &ty.name, variants.as_slice()),
-            _ => String::from_str(alloc, "no enum"),
-        },
-        Some(Def::Kept(kept)) => told_of_items(alloc, kept.items.as_slice()),
-        _ => String::from_str(alloc, "another definition"),
-    }
-}
-
-/// What calls tell of a text's definition.
-pub fn told(alloc: Global, text: &str) -> Result<String, Fail> {
-    let defs = placed(alloc, text)?;
-    Ok(told_of(alloc, defs.first())?)
-}
-
-/// A pattern's template of arguments of these names, filled with patterns. `None` also where the pattern or its template
-/// has numbered arguments that it shouldn't, or the template none that it should.
-fn filled(
-    alloc: Global,
-    names: &[Ident],
-    pattern: &Pattern,
-    arguments: &[Pattern],
-) -> Result<Option<Pattern>, AllocError> {
-    if pattern.has_macro_arg() {
-        return Ok(None);
-    }
-    let template = pattern.make_macro_template(alloc, names)?;
-    if template.has_macro_arg() == names.is_empty() {
-        return Ok(None);
-    }
-    template.subst_macro_args(alloc, arguments)
 }
 
 /// A name bound to a pattern.
@@ -158,10 +125,14 @@ pub fn chain(alloc: Global, bindings: usize) -> Result<Pattern, AllocError> {
     Ok(chain)
 }
 
-/// Whether a chain of names bound to a wildcard is filled, with nothing, and has no term.
+/// Whether the template of a chain without arguments is filled, with nothing, and the chain has no term.
 fn is_filled(alloc: Global, chain: &Pattern) -> Result<bool, AllocError> {
-    let filled = filled(alloc, &[], chain, &[])?;
-    Ok(filled.is_some() && pattern_terms(chain) == 0)
+    if chain.has_macro_arg() {
+        return Ok(false);
+    }
+    let template = chain.make_macro_template(alloc, &[])?;
+    let filled = template.subst_macro_args(alloc, &[])?;
+    Ok(filled.is_some() && !template.has_macro_arg() && chain.count_terms() == 0)
 }
 
 /// Whether the clone of a pattern without positions is the same, also without them.
@@ -172,25 +143,10 @@ fn is_copied(alloc: Global, chain: &Pattern) -> Result<bool, AllocError> {
 }
 
 /// Whether calls walk down a long chain within the stack.
-fn is_walked(alloc: Global, bindings: usize) -> Result<bool, AllocError> {
-    let chains = vec![in alloc; chain(alloc, bindings)?]?;
+pub fn is_walked(alloc: Global) -> Result<bool, AllocError> {
+    let chains = vec![in alloc; chain(alloc, 200_000)?]?;
     match chains.first() {
         Some(chain) => Ok(is_copied(alloc, chain)? && is_filled(alloc, chain)?),
         None => Ok(false),
     }
-}
-
-#[test]
-fn calls_walk_trees(rt: HostRuntime) -> Result<(), Fail> {
-    let alloc = rt.alloc();
-    let text = "(rule (f (g x) (h y @ (k _))) (let ((m u8 (p 1))) (q m)))";
-    let walked = [
-        are_copied(alloc, EVERY_FORM, 11)?,
-        is_walked(alloc, 200_000)?,
-    ];
-    assert_eq!(rt;
-        (walked, terms_of(alloc, text)?),
-        ([true, true], (6091522, 4250))
-    );
-    Ok(())
 }

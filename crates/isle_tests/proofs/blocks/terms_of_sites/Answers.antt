@@ -5,7 +5,7 @@ use Rattle.isle_types.specs.declared.ids.TermId.{TermId}
 use Rattle.isle_blocks.specs.declared.binding.Binding.{Binding}
 use Rattle.isle_blocks.specs.Bindings.{MakesKnownVariant}
 use Rattle.isle_blocks.specs.RuleSets.{RulesOverSites}
-use Rattle.isle_tests.proofs.blocks.site_terms.terms_of_sites.Goals as goal
+use Rattle.isle_tests.proofs.blocks.terms_of_sites.Goals as goal
 
 pub write_terms-requires : goal.write_terms-requires
 write_terms-requires c =

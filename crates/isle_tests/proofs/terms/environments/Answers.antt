@@ -2,7 +2,7 @@ use Rattle.std.proofs.Common.{refl}
 use Rattle.isle_terms.proofs.PlainTemplates.{plain_templates}
 use Rattle.isle_blocks.specs.DefinedSets.{AreDefined}
 use Rattle.isle_blocks.proofs.FewArguments.{few_arguments}
-use Rattle.isle_tests.proofs.terms.visits.environments.Goals as goal
+use Rattle.isle_tests.proofs.terms.environments.Goals as goal
 
 pub from_ast-requires-2 : goal.from_ast-requires-2
 from_ast-requires-2 c = record {

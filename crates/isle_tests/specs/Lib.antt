@@ -1,2 +1,0 @@
--- What a recorder of calls promises.
-pub mod Recorders
