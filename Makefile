@@ -2,7 +2,7 @@
 
 PREFIX ?= $(HOME)/.local
 PROGRAM = crates/islec/out/islec
-CALLS = crates/isle_refusals/out/isle_refusals
+CALLERS = crates/isle_callers/out/isle_callers
 VECTORS = tests/vectors/first.json tests/vectors/mixed.json tests/vectors/equal.json
 
 .PHONY: run build test lint figures commands refusals fuzz edits some install replay bench
@@ -50,7 +50,7 @@ commands:
 # Each request for memory is refused in turn.
 refusals:
 	python3 tools/refusals.py $(PROGRAM)
-	python3 tools/refusals.py $(CALLS) tests/refusals/calls.json
+	python3 tools/refusals.py $(CALLERS) tests/refusals/calls.json
 
 # 20,000 texts that are made of those of tests and examples by changes at random; not of the gate.
 fuzz:
@@ -73,6 +73,6 @@ replay: build
 
 # Times reading, typing, compiling and formatting generated files, trees of rules, worlds and queries, answering calls, and a sorted map.
 bench: build
-	cd crates/isle_bench && rt run < stdin
+	cd crates/isle_callers && rt run -- count < stdin
 	mkdir -p out
-	python3 tools/bench.py crates/isle_bench/out/isle_bench $(PROGRAM) > out/bench.txt; status=$$?; cat out/bench.txt; exit $$status
+	python3 tools/bench.py $(CALLERS) $(PROGRAM) > out/bench.txt; status=$$?; cat out/bench.txt; exit $$status

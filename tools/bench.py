@@ -1,7 +1,7 @@
 """Times reading, typing and formatting generated rule files, trees of rules, worlds and queries, answering calls, and a
 sorted map: MB a second, or seconds, and the most memory it took.
 
-    bench.py ISLE_BENCH ISLEC
+    bench.py ISLE_CALLERS ISLEC
 """
 
 import atexit
@@ -282,7 +282,7 @@ def multiples(bench):
         text, has_sets = backend(number), lambda it: it == f"{number // 20}\n"
         with files_of(text) as [path]:
             accepted = ([ISLEC, "check", path], path, lambda it: it == "accepted\n")
-            rounds, memory = in_rounds([([bench], path, is_number), ([bench, "sets"], path, has_sets), ([bench, "trees"], path, has_sets), accepted])
+            rounds, memory = in_rounds([(bench, path, is_number), ([*bench, "sets"], path, has_sets), ([*bench, "trees"], path, has_sets), accepted])
         multiple = middle(check / reading for reading, check, *_ in rounds)
         part = max(middle((trees - check) / check for _, check, trees, _ in rounds), 0)
         print(f"| {number:,} | {held(multiple, most, 1)} | {most} | {held(part, 0.5, 2)} | 0.5 | {held(memory[3] / len(text), 100, 0)} | 100 |")
@@ -292,7 +292,7 @@ def worlds_of_rules(bench):
     """Prints how much memory reading rules takes, and at which part of its speed worlds are read."""
     text, world = rules(4_000_000)[0], mixed_world(100_000)
     with files_of(text, HOST, world) as [path, host, entries]:
-        rounds, memory = in_rounds([([bench], path, is_number), ([ISLEC, "run", "--world", entries, host], os.devnull, lambda it: it == "")])
+        rounds, memory = in_rounds([(bench, path, is_number), ([ISLEC, "run", "--world", entries, host], os.devnull, lambda it: it == "")])
     print(f"reading 4 MB takes {held(memory[0] / len(text), 33, 1)} bytes of memory for each of the text (at most 33)")
     part = middle(len(world) / taken / (len(text) / reading) for reading, taken in rounds)
     print(f"a world of 100,000 entries is read at {part:.2f} of the speed of rules (at least 0.5)")
@@ -326,8 +326,8 @@ def mixed_world(number):
 
 def measure_trees(title, bench, text, sets):
     """Prints what rule sets of a text take, and what they take with their trees."""
-    measure(f"check {title}", [bench, "sets"], text, lambda it: it == f"{sets}\n")
-    measure(f"check {title} and make trees", [bench, "trees"], text, lambda it: it == f"{sets}\n")
+    measure(f"check {title}", [*bench, "sets"], text, lambda it: it == f"{sets}\n")
+    measure(f"check {title} and make trees", [*bench, "trees"], text, lambda it: it == f"{sets}\n")
 
 
 def all_trees(bench):
@@ -348,12 +348,12 @@ def all_trees(bench):
 
 
 def main():
-    bench, islec = os.path.abspath(sys.argv[1]), ISLEC
+    bench, islec = [os.path.abspath(sys.argv[1]), "count"], ISLEC
     for megabytes in (2, 4, 8):
         text, number = rules(megabytes * 1_000_000)
-        measure(f"read {megabytes} MB", [bench], text, lambda it: it == f"{number}\n")
+        measure(f"read {megabytes} MB", bench, text, lambda it: it == f"{number}\n")
     for number in (500, 1_000, 2_000):
-        measure(f"type {number:,} enums of 50 variants", [bench, "types"], enums(number, 50), lambda it: it == f"{number + 13}\n")
+        measure(f"type {number:,} enums of 50 variants", [*bench, "types"], enums(number, 50), lambda it: it == f"{number + 13}\n")
     for number in (5_000, 10_000, 20_000):
         measure(f"compile {number:,} rules", [islec, "check"], typed_rules(number), lambda it: it == "accepted\n")
     for number in (500, 1_000, 2_000, 4_000):
@@ -366,7 +366,7 @@ def main():
     for number in (16_384, 65_536):
         for order in ("descending", "mixed"):
             text = keys(number, order == "mixed")
-            measure(f"put {number:,} keys in {order} order", [bench, "keys"], text, lambda it: it == f"{number}\n")
+            measure(f"put {number:,} keys in {order} order", [*bench, "keys"], text, lambda it: it == f"{number}\n")
     for number in (100_000, 200_000):
         queries = "(simp (Op.Add 7 0))\n" * number
         measure_run(f"answer {number:,} queries", FIRST, "", queries, lambda it: it == "7\n" * number)

@@ -1,0 +1,130 @@
+//! Calls of a program, and a host that counts its effects.
+use crate::refused::tried::{Tried, compared};
+use isle_run::{Answer, Effect, Node, Program, Value, World, call_plain, compile, query};
+use isle_syntax::files::Files;
+use std::alloc::{AllocError, Global};
+use std::rc::Rc;
+
+const RULES: &str = "(decl emit (u8) u8) (extern constructor emit emit) (decl f (u8) u8)
+    (rule 1 (f 0) (emit (emit 1))) (rule 0 (f x) x)
+    (type T (enum A (B (left T) (right T)) (C (number u8))))";
+
+/// The program of the rules.
+pub fn compiled(alloc: Global) -> Result<Program, AllocError> {
+    let name = String::from_str(alloc, "rules.isle")?;
+    let text = String::from_str(alloc, RULES)?;
+    let files = Files::from_names_and_contents(alloc, vec![in alloc; (name, text)]?)?;
+    compile(alloc, Rc::new(alloc, files)?).map_err(|_| AllocError)
+}
+
+/// Reads a value of the program, or wants memory.
+pub fn value_of(alloc: Global, program: &Program) -> Result<Value, AllocError> {
+    let Some(ty) = program.type_named("T") else {
+        return Err(AllocError);
+    };
+    Value::read(alloc, "(T.B (T.C 7) (T.B (T.A) (T.C 255)))", ty, program).map_err(|_| AllocError)
+}
+
+/// Reads a value a first time, which may be refused, and a second time.
+pub fn read(alloc: Global) -> Result<Tried, AllocError> {
+    let program = compiled(alloc)?;
+    let first = value_of(alloc, &program);
+    let second = value_of(alloc, &program)?;
+    compared(alloc, first, &second)
+}
+
+/// A host that answers 2 on 1, 9 on 2 and else 0, and counts its answers.
+#[derive(Drop)]
+struct Counting {
+    count: u64,
+}
+
+impl World for Counting {
+    ghost use Rattle.std.specs.Prelude.{◌≡◌, Option};
+    ghost use Rattle.std.specs.declared.option.Option.TheVariants.{None};
+    ghost use Rattle.std.proofs.Common.{refl};
+
+    ghost constructs = { λ world term args. None };
+
+    ghost extracts = { λ world term arg. None };
+
+    ghost step = { λ old term args answer new. answer ≡ answer };
+
+    ghost keeps = { λ _ _ _ _ _ _. (refl, refl) };
+
+    fn construct(
+        &self,
+        _alloc: Global,
+        _term: &str,
+        _args: &[Value],
+    ) -> Result<Option<Value>, AllocError> {
+        Ok(None)
+    }
+
+    fn extract(
+        &self,
+        _alloc: Global,
+        _term: &str,
+        _arg: &Value,
+    ) -> Result<Option<Vec<Value>>, AllocError> {
+        Ok(None)
+    }
+
+    fn effect(
+        &mut self,
+        alloc: Global,
+        _term: &str,
+        args: &[Value],
+    ) -> Result<Option<Value>, AllocError> {
+        let number = match args.first().and_then(|arg| arg.nodes().first()) {
+            Some(Node::Int(1)) => 2,
+            Some(Node::Int(2)) => 9,
+            _ => 0,
+        };
+        let answer = Value::int(alloc, number)?;
+        self.count = self.count.saturating_add(1);
+        Ok(Some(answer))
+    }
+}
+
+/// The text of a value, or none.
+fn told_value(alloc: Global, value: &Option<Value>) -> Result<String, AllocError> {
+    match value {
+        Some(value) => value.print(alloc),
+        None => String::from_str(alloc, "none"),
+    }
+}
+
+/// The lines of effects, one behind the other, and how many the host counted.
+fn told_effects(alloc: Global, effects: &[Effect], host: &Counting) -> Result<String, AllocError> {
+    let mut state = format!(in alloc; "{} counted", host.count)?;
+    for effect in effects {
+        let arg = match effect.args.first() {
+            Some(arg) => arg.print(alloc)?,
+            None => String::new(alloc),
+        };
+        let answer = told_value(alloc, &effect.answer)?;
+        let line = format!(in alloc; "; ({} {arg}) {answer}", effect.term)?;
+        state.push_str(line.as_str())?;
+    }
+    Ok(state)
+}
+
+/// Calls `(f 0)` by the rules or by the trees.
+pub fn call(alloc: Global, is_plain: bool) -> Result<Tried, AllocError> {
+    let program = compiled(alloc)?;
+    let (term, args) = query(alloc, &program, "(f 0)").map_err(|_| AllocError)?;
+    let mut host = Counting { count: 0 };
+    let mut effects = Vec::new(alloc);
+    let called = if is_plain {
+        call_plain(alloc, &program, term, args, 1, &mut host, &mut effects)
+    } else {
+        isle_run::call(alloc, &program, term, args, 1, &mut host, &mut effects)
+    };
+    let told = told_effects(alloc, effects.as_slice(), &host)?;
+    let is_answered = matches!(&called, Ok(it) if matches!(it.answer, Answer::Value(_)));
+    Ok(Tried {
+        is_answered,
+        state: told,
+    })
+}
