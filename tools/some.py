@@ -57,7 +57,7 @@ def built(room, crate, below):
 
 
 def judged(crate, functions, changed_by, below):
-    """What the prover says of these functions of a crate, which alone have code there, changed by some edits, over the libraries as they are built."""
+    """What the prover says of functions of a crate, changed by some edits, over the libraries as they are built: they alone have code there."""
     with tempfile.TemporaryDirectory(prefix=".edits-", dir=".") as room:
         built(room, crate, below)
         if changed_by:

@@ -22,7 +22,7 @@ use std::alloc::{AllocError, Global};
 use std::marker::Model;
 
 /// A definition of a source file. Its position is the first token after its keyword.
-#[derive(Drop)]
+#[derive(Debug, Drop)]
 pub enum Def {
     TypeDef(Type),
     Decl(Decl),
@@ -35,7 +35,7 @@ pub enum Def {
 }
 
 /// A pragma. None is known: the parser makes none, and none can be made outside.
-#[derive(Clone, PartialEq, Eq, Drop)]
+#[derive(Debug, Clone, PartialEq, Eq, Drop)]
 pub struct Pragma {
     _none: (),
 }
@@ -45,7 +45,7 @@ pub struct Pragma {
 pub struct Ident(pub Text, pub Pos);
 
 /// The definition of a type.
-#[derive(Clone, PartialEq, Eq, Drop)]
+#[derive(Debug, Clone, PartialEq, Eq, Drop)]
 pub struct Type {
     pub name: Ident,
     pub is_extern: bool,
@@ -55,7 +55,7 @@ pub struct Type {
 }
 
 /// What a type is made of: a type of the host, variants, or the fields of a single struct.
-#[derive(PartialEq, Eq, Drop)]
+#[derive(Debug, PartialEq, Eq, Drop)]
 pub enum TypeValue {
     Primitive(Ident, Pos),
     Enum(Seq<Variant>, Pos),
@@ -63,7 +63,7 @@ pub enum TypeValue {
 }
 
 /// A variant of an enum.
-#[derive(PartialEq, Eq, Drop)]
+#[derive(Debug, PartialEq, Eq, Drop)]
 pub struct Variant {
     pub name: Ident,
     pub fields: Fields,
@@ -87,7 +87,7 @@ impl Variant {
 }
 
 /// The fields of a variant or struct. No fields are always `Unit`.
-#[derive(Clone, PartialEq, Eq, Drop)]
+#[derive(Debug, Clone, PartialEq, Eq, Drop)]
 pub enum Fields {
     Unit,
     Struct(StructFields),
@@ -95,13 +95,13 @@ pub enum Fields {
 }
 
 /// Named fields, in order.
-#[derive(Clone, PartialEq, Eq, Drop)]
+#[derive(Debug, Clone, PartialEq, Eq, Drop)]
 pub struct StructFields {
     pub fields: Seq<StructField>,
 }
 
 /// A field with its name and the name of its type.
-#[derive(Clone, PartialEq, Eq, Drop)]
+#[derive(Debug, Clone, PartialEq, Eq, Drop)]
 pub struct StructField {
     pub name: Ident,
     pub ty: Ident,
@@ -109,13 +109,13 @@ pub struct StructField {
 }
 
 /// Fields without names, in order.
-#[derive(Clone, PartialEq, Eq, Drop)]
+#[derive(Debug, Clone, PartialEq, Eq, Drop)]
 pub struct TupleFields {
     pub fields: Seq<TupleField>,
 }
 
 /// A field with its place among the fields, from 0 on, and the name of its type.
-#[derive(Clone, PartialEq, Eq, Drop)]
+#[derive(Debug, Clone, PartialEq, Eq, Drop)]
 pub struct TupleField {
     pub index: usize,
     pub ty: Ident,
@@ -123,7 +123,7 @@ pub struct TupleField {
 }
 
 /// The declaration of a term.
-#[derive(Clone, PartialEq, Eq, Drop)]
+#[derive(Debug, Clone, PartialEq, Eq, Drop)]
 pub struct Decl {
     pub term: Ident,
     pub arg_tys: Seq<Ident>,
@@ -136,7 +136,7 @@ pub struct Decl {
 }
 
 /// A rewriting rule. A missing priority means 0.
-#[derive(Clone, PartialEq, Eq, Drop)]
+#[derive(Debug, Clone, PartialEq, Eq, Drop)]
 pub struct Rule {
     pub pattern: Pattern,
     pub iflets: Seq<IfLet>,
@@ -147,7 +147,7 @@ pub struct Rule {
 }
 
 /// A condition of a rule: the pattern matches the expression's value.
-#[derive(Clone, PartialEq, Eq, Drop)]
+#[derive(Debug, Clone, PartialEq, Eq, Drop)]
 pub struct IfLet {
     pub pattern: Pattern,
     pub expr: Expr,
@@ -155,7 +155,7 @@ pub struct IfLet {
 }
 
 /// An internal extractor: the term with these arguments, as a pattern, stands for the template.
-#[derive(Clone, PartialEq, Eq, Drop)]
+#[derive(Debug, Clone, PartialEq, Eq, Drop)]
 pub struct Extractor {
     pub term: Ident,
     pub args: Seq<Ident>,
@@ -164,7 +164,7 @@ pub struct Extractor {
 }
 
 /// What the host provides: a constructor or an extractor of a term, or a constant.
-#[derive(Clone, PartialEq, Eq, Drop)]
+#[derive(Debug, Clone, PartialEq, Eq, Drop)]
 pub enum Extern {
     Constructor {
         term: Ident,
@@ -185,7 +185,7 @@ pub enum Extern {
 }
 
 /// A term that is put in where the inner type is found and the outer type is wanted.
-#[derive(Clone, PartialEq, Eq, Drop)]
+#[derive(Debug, Clone, PartialEq, Eq, Drop)]
 pub struct Converter {
     pub term: Ident,
     pub inner_ty: Ident,
@@ -194,7 +194,7 @@ pub struct Converter {
 }
 
 /// A definition that is read and kept as it is written, without a meaning: its word and what follows.
-#[derive(Clone, PartialEq, Eq, Drop)]
+#[derive(Debug, Clone, PartialEq, Eq, Drop)]
 pub struct Kept {
     pub word: Ident,
     pub items: KeptItems,
@@ -203,7 +203,7 @@ pub struct Kept {
 
 /// An item of a kept definition.
 #[cycle(item)]
-#[derive(Drop)]
+#[derive(Debug, Drop)]
 pub enum KeptItem {
     Int { val: i128, pos: Pos },
     Big { val: u128, pos: Pos },
@@ -214,7 +214,7 @@ pub enum KeptItem {
 
 /// The items of a list, seen as their trees.
 #[cycle(item)]
-#[derive(Drop)]
+#[derive(Debug, Drop)]
 pub struct KeptItems {
     items: Vec<KeptItem>,
 }
@@ -285,7 +285,7 @@ impl KeptItem {
 /// A pattern. `big` tells an integer from 2^127 on, of which `val` keeps the 128 bits. A `MacroArg` occurs only in the
 /// template of an extractor.
 #[cycle(pattern)]
-#[derive(Drop)]
+#[derive(Debug, Drop)]
 pub enum Pattern {
     Var {
         var: Ident,
@@ -329,6 +329,7 @@ pub enum Pattern {
 
 /// A pattern below another, seen as its tree.
 #[cycle(pattern)]
+#[derive(Debug)]
 pub struct BoxedPattern {
     pattern: Box<Pattern>,
 }
@@ -400,7 +401,7 @@ impl BoxedPattern {
 
 /// The patterns below another, seen as their trees.
 #[cycle(pattern)]
-#[derive(Drop)]
+#[derive(Debug, Drop)]
 pub struct Patterns {
     patterns: Vec<Pattern>,
 }
@@ -516,7 +517,7 @@ fn has_macro_args(patterns: &[Pattern]) -> bool
 
 /// An expression. `big` tells an integer from 2^127 on, of which `val` keeps the 128 bits.
 #[cycle(expr)]
-#[derive(Drop)]
+#[derive(Debug, Drop)]
 pub enum Expr {
     Term {
         sym: Ident,
@@ -549,7 +550,7 @@ pub enum Expr {
 
 /// A variable of a `let`, its type and its value.
 #[cycle(expr)]
-#[derive(Drop)]
+#[derive(Debug, Drop)]
 pub struct LetDef {
     pub var: Ident,
     pub ty: Ident,
@@ -559,7 +560,7 @@ pub struct LetDef {
 
 /// An expression below another, seen as its tree.
 #[cycle(expr)]
-#[derive(Drop)]
+#[derive(Debug, Drop)]
 pub struct BoxedExpr {
     expr: Box<Expr>,
 }
@@ -616,7 +617,7 @@ impl BoxedExpr {
 
 /// The expressions below another, seen as their trees.
 #[cycle(expr)]
-#[derive(Drop)]
+#[derive(Debug, Drop)]
 pub struct Exprs {
     exprs: Vec<Expr>,
 }
@@ -671,7 +672,7 @@ impl Exprs {
 
 /// The variables of a `let`, seen as their trees.
 #[cycle(expr)]
-#[derive(Drop)]
+#[derive(Debug, Drop)]
 pub struct LetDefs {
     defs: Vec<LetDef>,
 }

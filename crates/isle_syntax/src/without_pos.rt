@@ -87,7 +87,7 @@ fn clear_patterns(alloc: Global, patterns: Vec<Pattern>) -> Result<Vec<Pattern>,
 }
 
 /// The pattern without positions.
-fn pattern_without_pos(alloc: Global, pattern: Pattern) -> Result<Pattern, AllocError>
+pub fn pattern_without_pos(alloc: Global, pattern: Pattern) -> Result<Pattern, AllocError>
     ensures { IfOk result (λ new. new ≡ pattern_without_pos pattern) }
 {
     clear_pattern(alloc, pattern)

@@ -1,5 +1,5 @@
 //! Tests of the libraries up to `isle_blocks`, over their public calls: what no clause says and no command shows, each public call once with
-//! memory at hand that neither the program nor `isle_refusals` makes, and the words and bounds that definitions and code could get wrong together.
+//! memory at hand that neither the program nor `isle_callers` makes, and the words and bounds that definitions and code could get wrong together.
 #![tactic(auto)]
 
 #[cfg(test)]

@@ -3,6 +3,7 @@ use isle_syntax::Text;
 use isle_syntax::ast::{BoxedPattern, Def, Ident, Pattern, Rule};
 use isle_syntax::lexer::{Lexer, Pos};
 use isle_syntax::parser::{parse, parse_without_pos};
+use isle_syntax::without_pos::{def_without_pos, pattern_without_pos};
 use std::alloc::{AllocError, Global};
 use std::test::Fail;
 
@@ -64,7 +65,7 @@ const EVERY_FORM: &str = "(type Imm (primitive u64))
 fn without_pos(alloc: Global, defs: Vec<Def>) -> Result<Vec<Def>, AllocError> {
     let mut without = Vec::new(alloc);
     for def in defs {
-        without.push(def.without_pos(alloc)?)?;
+        without.push(def_without_pos(alloc, def)?)?;
     }
     Ok(without)
 }
@@ -139,7 +140,7 @@ fn is_filled(alloc: Global, chain: &Pattern) -> Result<bool, AllocError> {
 fn is_copied(alloc: Global, chain: &Pattern) -> Result<bool, AllocError> {
     let copy = chain.clone()?;
     let is_same = copy == *chain;
-    Ok(is_same && copy.without_pos(alloc)? == *chain)
+    Ok(is_same && pattern_without_pos(alloc, copy)? == *chain)
 }
 
 /// Whether calls walk down a long chain within the stack.
