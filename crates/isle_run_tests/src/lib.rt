@@ -1,8 +1,7 @@
-//! Tests of `isle_run`, over its public calls: what no clause says, each public call once with memory at hand, and the words and bounds that
-//! definitions and code could get wrong together.
+//! Tests of `isle_run`, over its public calls: worlds whose answers their declarations don't allow, which no table can be, and makers of values.
 #![tactic(auto)]
 
 #[cfg(test)]
-mod run;
+mod values;
 #[cfg(test)]
-mod tables;
+mod worlds;

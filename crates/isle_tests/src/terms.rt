@@ -8,7 +8,7 @@ use isle_syntax::files::Files;
 use isle_syntax::lexer::Lexer;
 use isle_syntax::parser::parse;
 use isle_terms::{FromAst, TermEnv};
-use isle_types::{TypeEnv, TypeId};
+use isle_types::{Type, TypeEnv, TypeId};
 use std::alloc::{AllocError, Global};
 use std::test::Fail;
 
@@ -92,12 +92,26 @@ fn called(
     Ok(out)
 }
 
-/// What the rules of a text are called, whose first own type has a copy that is the same.
+/// Whether the tables of the environments have an entry for each name, and a type has a copy that is the same.
+fn are_known(tyenv: &TypeEnv, termenv: &TermEnv, ty: &Type) -> Result<bool, AllocError> {
+    let copy = ty.clone()?;
+    Ok(
+        copy == *ty
+            && !ty.is_prim()
+            && tyenv.type_map().len() == 14
+            && tyenv.sym_map().len() == tyenv.syms().len()
+            && termenv.term_map().len() == 2
+            && termenv.rule_map().len() == 2,
+    )
+}
+
+/// What the rules of a text are called that defines the type 13 and two terms, and names two rules.
 pub fn identifiers(alloc: Global, text: &str) -> Result<String, Fail> {
     let (tyenv, termenv) = environments(alloc, text)?;
     let ty = tyenv.get_type(TypeId(13)).ok_or("a type")?;
-    if ty.clone()? != *ty {
-        return Err(Fail::from("a copy"));
+    if are_known(&tyenv, &termenv, ty)? {
+        Ok(called(alloc, &tyenv, termenv.rules(), text)?)
+    } else {
+        Err(Fail::from("other tables"))
     }
-    Ok(called(alloc, &tyenv, termenv.rules(), text)?)
 }

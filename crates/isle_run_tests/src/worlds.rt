@@ -1,7 +1,8 @@
 //! Worlds whose answers their declarations don't allow.
-use super::called;
-use isle_run::{Program, Value, World};
+use isle_ast::files::Files;
+use isle_run::{Answer, Program, Value, World, call, call_plain, compile, query};
 use std::alloc::{AllocError, Global};
+use std::rc::Rc;
 use std::test::Fail;
 
 /// A world that answers all constructors alike, and all extractors, and counts the effects.
@@ -68,6 +69,31 @@ impl World for Same {
     }
 }
 
+// The type `Op` comes behind the builtin ones and `Name`.
+const RULES: &str = "(type Name (primitive Name)) (type Op (enum Stop (Add (a i8) (b Name))))
+    (decl partial f (i8) i8) (rule 1 (f 2) (make 3)) (rule (f x) (if-let y (look x)) (make y))
+    (decl make (i8) i8) (extern constructor make make)
+    (decl pure partial look (i8) i8) (extern constructor look look)
+    (decl op (i8 Name) Op) (extern extractor op take)
+    (decl first (Op) i8) (rule (first (op a _)) a)
+    (decl both (i8 Name) Op) (extern extractor infallible both both)
+    (decl partial left (Op) i8) (rule (left (both a _)) a)";
+
+/// The program of the rules.
+fn program(alloc: Global) -> Result<Program, AllocError> {
+    let texts = vec![in alloc;
+        (
+            String::from_str(alloc, "a.isle")?,
+            String::from_str(alloc, RULES)?
+        ),
+    ]?;
+    let files = Rc::new(alloc, Files::from_names_and_contents(alloc, texts)?)?;
+    match compile(alloc, files) {
+        Ok(program) => Ok(program),
+        Err(_refused) => Err(AllocError),
+    }
+}
+
 /// An integer and opaque values behind it, so many in all.
 fn outputs(alloc: Global, first: i128, count: u64) -> Result<Vec<Value>, AllocError> {
     let mut outputs = vec![in alloc; Value::int(alloc, first)?]?;
@@ -77,51 +103,73 @@ fn outputs(alloc: Global, first: i128, count: u64) -> Result<Vec<Value>, AllocEr
     Ok(outputs)
 }
 
-/// What a call comes to, and how many effects the world has counted.
-fn counted(
-    alloc: Global,
-    program: &Program,
-    world: &mut Same,
-    text: &str,
-) -> Result<String, AllocError> {
-    let told = called(alloc, program, world, 1, text)?;
-    format!(in alloc; "{told}, {} counted", world.effects)
-}
-
-/// An answer of constructors: an integer, or none.
-fn answer_of(alloc: Global, text: &str) -> Result<Option<Value>, AllocError> {
-    match text.parse().ok() {
-        Some(number) => Ok(Some(Value::int(alloc, number)?)),
-        None => Ok(None),
-    }
-}
-
-/// Outputs of extractors: their first and how many they are, or none.
-fn outputs_of(alloc: Global, text: &str) -> Result<Option<Vec<Value>>, Fail> {
-    match text.split_once(' ') {
+/// The world of what constructors are answered, an integer or none, and extractors, their first output and how many they are, or none.
+fn world_of(alloc: Global, answers: &str) -> Result<Same, Fail> {
+    let (answer, taken) = answers.split_once(", ").ok_or("outputs")?;
+    let answer = match answer.parse().ok() {
+        Some(number) => Some(Value::int(alloc, number)?),
+        None => None,
+    };
+    let outputs = match taken.split_once(' ') {
         Some((first, count)) => {
             let first = first.parse().ok().ok_or("a number")?;
             let count = count.parse().ok().ok_or("a number")?;
-            Ok(Some(outputs(alloc, first, count)?))
+            Some(outputs(alloc, first, count)?)
         }
-        None => Ok(None),
-    }
-}
-
-/// The world of what constructors and extractors are answered.
-fn world_of(alloc: Global, answers: &str) -> Result<Same, Fail> {
-    let (answer, outputs) = answers.split_once(", ").ok_or("outputs")?;
-    let outputs = outputs_of(alloc, outputs)?;
+        None => None,
+    };
     Ok(Same {
-        answer: answer_of(alloc, answer)?,
+        answer,
         outputs,
         effects: 0,
     })
 }
 
+/// The word or the text of an answer.
+fn answer_text(alloc: Global, answer: &Answer) -> Result<String, AllocError> {
+    match answer {
+        Answer::Value(value) => value.print(alloc),
+        Answer::None => String::from_str(alloc, "none"),
+        Answer::Stuck(_term, _args) => String::from_str(alloc, "stuck"),
+        Answer::Spent => String::from_str(alloc, "spent"),
+        Answer::IllTyped(_term, _args) => String::from_str(alloc, "ill-typed"),
+    }
+}
+
+/// What a call of a text comes to, by its term's rules, or behind ` by tree` by the term's tree: its steps, the number of its effects, its
+/// answer, and how many effects the world has counted.
+fn called(
+    alloc: Global,
+    program: &Program,
+    world: &mut Same,
+    text: &str,
+) -> Result<String, AllocError> {
+    let by_tree = text.split_once(" by tree");
+    let line = match by_tree {
+        Some((line, _end)) => line,
+        None => text,
+    };
+    let Ok((term, args)) = query(alloc, program, line) else {
+        return String::from_str(alloc, "refused");
+    };
+    let mut effects = Vec::new(alloc);
+    let called = if by_tree.is_some() {
+        call(alloc, program, term, args, 1, world, &mut effects)?
+    } else {
+        call_plain(alloc, program, term, args, 1, world, &mut effects)?
+    };
+    let answer = answer_text(alloc, &called.answer)?;
+    format!(in alloc;
+        "{} {} {answer}, {} counted",
+        called.steps,
+        effects.len(),
+        world.effects
+    )
+}
+
 /// What constructors and extractors are answered, with calls: a value of another type, or none of a total term, which is judged before
 /// any effect in a condition; too few outputs, too many, or one of another type. What `both` opens is asked for its result alone, behind the choice.
-pub const JUDGED: &str = "
+const JUDGED: &str = "
 | 127, none: (f 2) → 1 1 127, 1 counted
 | 128, none: (f 2) → 1 1 ill-typed, 1 counted
 | none, none: (f 2) → 1 1 ill-typed, 1 counted
@@ -150,8 +198,27 @@ pub const JUDGED: &str = "
 | none, 1 1: (left (Op.Stop)) by tree → 1 0 ill-typed, 0 counted";
 
 /// What a call comes to behind what a world answers.
-pub fn judged(alloc: Global, program: &Program, row: &str) -> Result<String, Fail> {
+fn judged(alloc: Global, program: &Program, row: &str) -> Result<String, Fail> {
     let (answers, text) = row.split_once(": ").ok_or("answers")?;
     let mut world = world_of(alloc, answers)?;
-    Ok(counted(alloc, program, &mut world, text)?)
+    Ok(called(alloc, program, &mut world, text)?)
+}
+
+/// The first row that is answered otherwise, with the answer, or nothing.
+fn first_mistake(alloc: Global, program: &Program) -> Result<String, Fail> {
+    for row in JUDGED.split("\n| ").skip(1) {
+        let (text, wanted) = row.split_once(" → ").ok_or("an arrow")?;
+        let found = judged(alloc, program, text)?;
+        if found.as_str() != wanted {
+            return Ok(format!(in alloc; "{row}, not {found}")?);
+        }
+    }
+    Ok(String::new(alloc))
+}
+
+#[test]
+fn answers_are_judged(rt: HostRuntime) -> Result<(), Fail> {
+    let program = program(rt.alloc())?;
+    assert_eq!(rt; first_mistake(rt.alloc(), &program)?.as_str(), "");
+    Ok(())
 }
