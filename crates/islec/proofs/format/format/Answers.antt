@@ -68,7 +68,8 @@ returns-in-Err-Fault-clause-refused g c = λ _.
     let within : c.loop-file.file < length c.in_ok-files.files.value = grind arith in
     let here : IfSome (slice_get c.in_ok-files.files.value c.loop-file.file)
     (λ file. IsFaultIn c.loop-file.file file.text c.in-Err-Fault.error) = search rules in
-    let same : c.in_ok-files.files.value ≡ map source_file c.args.texts.items = grind arith in
+    let same : c.in_ok-files.files.value ≡ map source_file c.args.texts.items =
+    c.in_ok-files.ensures.ok ∙ c.in_ok-from_names_and_contents.ensures in
     let before = Prints-spelt c.args.unformatted c.args.width 0 (take c.loop-file.file files)
     (string_bytes c.loop-file.told) c.loop-file.invariant.printed in
     let first = is_first_fault files c.loop-file.file before error within here in
@@ -113,7 +114,8 @@ returns-in_err-write_faults-in-Err-Fault-clause-cut g c =
     let within : c.loop-file.file < length c.in_ok-files.files.value = grind arith in
     let here : IfSome (slice_get c.in_ok-files.files.value c.loop-file.file)
     (λ file. IsFaultIn c.loop-file.file file.text c.in-Err-Fault.error) = search rules in
-    let same : c.in_ok-files.files.value ≡ map source_file c.args.texts.items = grind arith in
+    let same : c.in_ok-files.files.value ≡ map source_file c.args.texts.items =
+    c.in_ok-files.ensures.ok ∙ c.in_ok-from_names_and_contents.ensures in
     let before = Prints-spelt c.args.unformatted c.args.width 0 (take c.loop-file.file files)
     (string_bytes c.loop-file.told) c.loop-file.invariant.printed in
     let first = is_first_fault files c.loop-file.file before error within here in

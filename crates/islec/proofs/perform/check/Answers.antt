@@ -1,4 +1,4 @@
-use Rattle.std.proofs.Common.{◌≡◌, ◌∙◌, inl, map, sym, arith}
+use Rattle.std.proofs.Common.{◌≡◌, ◌∙◌, inl, map, sym}
 use Rattle.std.proofs.lemmas.Result.{IfOk-weaker}
 use Rattle.isle_ast.specs.Positions.Files.{source_file}
 use Rattle.islec.specs.declared.status.Status.TheVariants.{AllWell, TextsRefused}
@@ -16,7 +16,8 @@ returns-in-Ok-clause-other g c = IfOk-weaker c.tell.result _ _ (λ status well. 
 
 pub returns-in-Err-Faults-clause-refused : goal.returns-in-Err-Faults-clause-refused
 returns-in-Err-Faults-clause-refused g c =
-    let same : c.in_ok-clone.field-0.value ≡ map source_file c.args.texts.items = grind arith in
+    let same : c.in_ok-clone.field-0.value ≡ map source_file c.args.texts.items =
+    c.in_ok-clone.ensures.cases ∙ c.in_ok-files.ensures.ok ∙ c.in_ok-from_names_and_contents.ensures in
     let told = c.in-Err-Faults.ensures in
     faults_by c.in_ok-clone.field-0.value (map source_file c.args.texts.items) c.in-Err-Faults.field-0 c.in-Err-Faults.errors
     (g.W.Write.contents c.args.writer.now) (g.W.Write.contents c.refuse.new.writer) c.in-Err-Faults.field-0-is same
@@ -24,7 +25,8 @@ returns-in-Err-Faults-clause-refused g c =
 
 pub returns-in-Err-Faults-clause-cut : goal.returns-in-Err-Faults-clause-cut
 returns-in-Err-Faults-clause-cut g c =
-    let same : c.in_ok-clone.field-0.value ≡ map source_file c.args.texts.items = grind arith in
+    let same : c.in_ok-clone.field-0.value ≡ map source_file c.args.texts.items =
+    c.in_ok-clone.ensures.cases ∙ c.in_ok-files.ensures.ok ∙ c.in_ok-from_names_and_contents.ensures in
     let told = c.in-Err-Faults.ensures in
     refusal_uncheckable c.in_ok-clone.field-0.value (map source_file c.args.texts.items) c.in-Err-Faults.field-0 c.in-Err-Faults.errors
     (g.W.Write.contents c.args.writer.now) (g.W.Write.contents c.refuse.new.writer) c.in-Err-Faults.field-0-is same
@@ -32,14 +34,16 @@ returns-in-Err-Faults-clause-cut g c =
 
 pub returns-in-Ok-clause-accepted : goal.returns-in-Ok-clause-accepted
 returns-in-Ok-clause-accepted g c =
-    let same : c.in_ok-clone.field-0.value ≡ map source_file c.args.texts.items = grind arith in
+    let same : c.in_ok-clone.field-0.value ≡ map source_file c.args.texts.items =
+    c.in_ok-clone.ensures.cases ∙ c.in_ok-files.ensures.ok ∙ c.in_ok-from_names_and_contents.ensures in
     accepts_by c.in_ok-clone.field-0.value (map source_file c.args.texts.items) same c.in-Ok.program c.in-Ok.ensures.compiled
     c.in-Ok.ensures.accepted c.args.telling
     (g.W.Write.contents c.args.writer.now) (g.W.Write.contents c.tell.new.writer) c.tell.result c.tell.ensures.written
 
 pub returns-in-Ok-clause-cut : goal.returns-in-Ok-clause-cut
 returns-in-Ok-clause-cut g c =
-    let same : c.in_ok-clone.field-0.value ≡ map source_file c.args.texts.items = grind arith in
+    let same : c.in_ok-clone.field-0.value ≡ map source_file c.args.texts.items =
+    c.in_ok-clone.ensures.cases ∙ c.in_ok-files.ensures.ok ∙ c.in_ok-from_names_and_contents.ensures in
     tells_cut c.in_ok-clone.field-0.value (map source_file c.args.texts.items) same c.in-Ok.program c.in-Ok.ensures.compiled
     c.in-Ok.ensures.accepted c.args.telling
     (g.W.Write.contents c.args.writer.now) (g.W.Write.contents c.tell.new.writer) c.tell.result c.tell.ensures.cut

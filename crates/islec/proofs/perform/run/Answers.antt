@@ -1,4 +1,4 @@
-use Rattle.std.proofs.Common.{refl, ◌≡◌, map, arith, true, false}
+use Rattle.std.proofs.Common.{refl, ◌≡◌, ◌∙◌, map, true, false}
 use Rattle.isle_ast.specs.Positions.Files.{source_file}
 use Rattle.islec.specs.Worlds.{world_file}
 use Rattle.islec.specs.declared.status.Status.TheVariants.{AllWell, SomeRefused}
@@ -7,42 +7,48 @@ use Rattle.islec.proofs.perform.run.Goals as goal
 
 pub returns-in-Ok-clause-all_well : goal.returns-in-Ok-clause-all_well
 returns-in-Ok-clause-all_well g c =
-    let same : c.in_ok-clone.field-0.value ≡ map source_file c.args.texts.items = grind arith in
+    let same : c.in_ok-clone.field-0.value ≡ map source_file c.args.texts.items =
+    c.in_ok-clone.ensures.cases ∙ c.in_ok-files.ensures.ok ∙ c.in_ok-from_names_and_contents.ensures in
     answers_by _ _ same c.in-Ok.program c.in-Ok.ensures.compiled (world_file c.args.world) c.args.manner (g.R.Read.remaining c.args.reader.now)
     (g.R.Read.remaining c.run_program.new.reader) (g.W.Write.contents c.args.writer.now)
     (g.W.Write.contents c.run_program.new.writer) false AllWell c.run_program.result c.run_program.ensures.all_well
 
 pub returns-in-Ok-clause-some_refused : goal.returns-in-Ok-clause-some_refused
 returns-in-Ok-clause-some_refused g c =
-    let same : c.in_ok-clone.field-0.value ≡ map source_file c.args.texts.items = grind arith in
+    let same : c.in_ok-clone.field-0.value ≡ map source_file c.args.texts.items =
+    c.in_ok-clone.ensures.cases ∙ c.in_ok-files.ensures.ok ∙ c.in_ok-from_names_and_contents.ensures in
     answers_by _ _ same c.in-Ok.program c.in-Ok.ensures.compiled (world_file c.args.world) c.args.manner (g.R.Read.remaining c.args.reader.now)
     (g.R.Read.remaining c.run_program.new.reader) (g.W.Write.contents c.args.writer.now)
     (g.W.Write.contents c.run_program.new.writer) true SomeRefused c.run_program.result c.run_program.ensures.some_refused
 
 pub returns-in-Ok-clause-refused : goal.returns-in-Ok-clause-refused
 returns-in-Ok-clause-refused g c =
-    let same : c.in_ok-clone.field-0.value ≡ map source_file c.args.texts.items = grind arith in
+    let same : c.in_ok-clone.field-0.value ≡ map source_file c.args.texts.items =
+    c.in_ok-clone.ensures.cases ∙ c.in_ok-files.ensures.ok ∙ c.in_ok-from_names_and_contents.ensures in
     tells_by _ _ same c.in-Ok.program c.in-Ok.ensures.compiled (world_file c.args.world) c.args.manner (g.R.Read.remaining c.args.reader.now)
     (g.R.Read.remaining c.run_program.new.reader) (g.W.Write.contents c.args.writer.now)
     (g.W.Write.contents c.run_program.new.writer) c.run_program.result c.run_program.ensures.refused
 
 pub returns-in-Ok-clause-cut : goal.returns-in-Ok-clause-cut
 returns-in-Ok-clause-cut g c =
-    let same : c.in_ok-clone.field-0.value ≡ map source_file c.args.texts.items = grind arith in
+    let same : c.in_ok-clone.field-0.value ≡ map source_file c.args.texts.items =
+    c.in_ok-clone.ensures.cases ∙ c.in_ok-files.ensures.ok ∙ c.in_ok-from_names_and_contents.ensures in
     cuts_by _ _ same c.in-Ok.program c.in-Ok.ensures.compiled (world_file c.args.world) c.args.manner (g.R.Read.remaining c.args.reader.now)
     (g.R.Read.remaining c.run_program.new.reader) (g.W.Write.contents c.args.writer.now)
     (g.W.Write.contents c.run_program.new.writer) c.run_program.result c.run_program.ensures.cut
 
 pub returns-in-Ok-clause-memory : goal.returns-in-Ok-clause-memory
 returns-in-Ok-clause-memory g c =
-    let same : c.in_ok-clone.field-0.value ≡ map source_file c.args.texts.items = grind arith in
+    let same : c.in_ok-clone.field-0.value ≡ map source_file c.args.texts.items =
+    c.in_ok-clone.ensures.cases ∙ c.in_ok-files.ensures.ok ∙ c.in_ok-from_names_and_contents.ensures in
     stops_by _ _ same c.in-Ok.program c.in-Ok.ensures.compiled (world_file c.args.world) c.args.manner (g.R.Read.remaining c.args.reader.now)
     (g.R.Read.remaining c.run_program.new.reader) (g.W.Write.contents c.args.writer.now)
     (g.W.Write.contents c.run_program.new.writer) c.run_program.result c.run_program.ensures.memory
 
 pub returns-in-Err-Faults-clause-refused : goal.returns-in-Err-Faults-clause-refused
 returns-in-Err-Faults-clause-refused g c =
-    let same : c.in_ok-clone.field-0.value ≡ map source_file c.args.texts.items = grind arith in
+    let same : c.in_ok-clone.field-0.value ≡ map source_file c.args.texts.items =
+    c.in_ok-clone.ensures.cases ∙ c.in_ok-files.ensures.ok ∙ c.in_ok-from_names_and_contents.ensures in
     let told = c.in-Err-Faults.ensures in
     refuses_by c.in_ok-clone.field-0.value (map source_file c.args.texts.items) c.in-Err-Faults.field-0 c.in-Err-Faults.errors
     (g.W.Write.contents c.args.writer.now) (g.W.Write.contents c.refuse.new.writer) c.in-Err-Faults.field-0-is same
@@ -50,7 +56,8 @@ returns-in-Err-Faults-clause-refused g c =
 
 pub returns-in-Err-Faults-clause-cut : goal.returns-in-Err-Faults-clause-cut
 returns-in-Err-Faults-clause-cut g c =
-    let same : c.in_ok-clone.field-0.value ≡ map source_file c.args.texts.items = grind arith in
+    let same : c.in_ok-clone.field-0.value ≡ map source_file c.args.texts.items =
+    c.in_ok-clone.ensures.cases ∙ c.in_ok-files.ensures.ok ∙ c.in_ok-from_names_and_contents.ensures in
     let told = c.in-Err-Faults.ensures in
     refusal_cut c.in_ok-clone.field-0.value (map source_file c.args.texts.items) c.in-Err-Faults.field-0 c.in-Err-Faults.errors
     (g.W.Write.contents c.args.writer.now) (g.W.Write.contents c.refuse.new.writer) c.in-Err-Faults.field-0-is same
