@@ -6,7 +6,7 @@ pub mod Leaving
 pub mod SymNames
 -- The steps of a reading of expressions.
 pub mod ExprSteps
--- What a built call shows.
+-- What a built call and a built `let` show.
 pub mod BuiltShown
 -- The steps of reading a pattern.
 pub mod PatternSteps

@@ -1,26 +1,31 @@
 -- The steps of a reading of expressions, as the code takes them.
-use Rattle.std.proofs.Common.{◌≡◌, ◌≢◌, ℕ, suc, zero, ◌+◌, ◌-◌, ◌<◌, ◌≤◌, Bool, true, false, leb, List, [], ◌∷◌, ◌++◌, length, drop, get_or}
+use Rattle.std.proofs.Common.{◌≡◌, ◌≢◌, ℕ, suc, zero, ◌+◌, ◌-◌, ◌<◌, ◌≤◌, Bool, true, false, leb, List, [], ◌∷◌, ◌++◌, length, map, drop, get_or}
 use Rattle.std.proofs.Common.{Option, Some, if◌then◌else◌, ◌==◌, ◌&&◌, refl, sym, ap, ◌∙◌, subst, arith, add-one, drop-cons, drop_of_length-le}
+use Rattle.std.proofs.lemmas.Bool.Decides.{nat_tests}
 use Rattle.std.specs.Prelude.{Result, IfOk, IfErr}
 use Rattle.isle_ast.specs.declared.pos.Pos.{Pos}
 use Rattle.isle_ast.specs.declared.error.Error.{Error}
 use Rattle.isle_ast.specs.declared.refusal.Refusal.{Refusal}
 use Rattle.isle_ast.specs.declared.ast.Expr.{Expr as ExprSource}
 use Rattle.isle_ast.specs.declared.ast.LetDef.{LetDef}
-use Rattle.isle_ast.specs.Trees.ExprTree.{ExprTree, ExprTrees, no_exprs}
+use Rattle.isle_ast.specs.Trees.ExprTree.{ExprTree, ExprTrees, LetTrees, no_exprs}
 use Rattle.isle_ast.specs.Trees.ExprShape.{expr_of, exprs_of, lets_of}
 use Rattle.isle_types.specs.declared.ids.TypeId.{TypeId}
 use Rattle.isle_types.specs.declared.ids.VarId.{VarId}
 use Rattle.isle_rules.specs.declared.rules.Expr.{Expr}
-use Rattle.isle_rules.specs.TypedRules.{TypedExpr, TypedExprs, TypedBindings, no_built, more_built, no_typed_bindings, more_typed_bindings, built_term}
+use Rattle.isle_rules.specs.declared.rules.Expr.TheVariants
+use Rattle.isle_rules.specs.TypedRules.{TypedExpr, TypedExprs, TypedBindings, no_built, more_built, no_typed_bindings, more_typed_bindings, built_term, built_let, built_at}
+use Rattle.isle_rules.specs.TypedTrees.{type_of_expr}
 use Rattle.isle_rules.specs.Signatures.{Flags, Signature, has_constructor_form, flags_of}
-use Rattle.isle_rules.specs.Elaboration.{State, counted, expr_count, may_call}
+use Rattle.isle_rules.specs.Elaboration.{State, counted, expr_count, may_call, seen_from}
 use Rattle.isle_terms.specs.Inside.Readings.Outcomes.{Outcome, stands_for, ill_at, exceeds, Known, and_then, only_if, ExprRun, each_expr, call}
 use Rattle.isle_terms.specs.Inside.Readings.Outcomes.{bind_value, bind_values, expr_node, read_expr, read_expr_use}
 use Rattle.isle_rules.specs.Shown.ShownTerms.{numbers_of}
 use Rattle.isle_rules.specs.Shown.ShownRules.{built_shown, built_list, binding_list, greatest, greatest_of_values}
 use Rattle.isle_terms.specs.Inside.Readings.Failures.{Fails}
-use Rattle.isle_terms.specs.Inside.Readings.ExprReadings.{is_call}
+use Rattle.isle_terms.specs.Inside.Readings.ExprReadings.{is_call, read_let, binding_shown}
+use Rattle.isle_terms.proofs.Steps.BuiltShown.{shown-Let, shown_at}
+use Rattle.isle_terms.proofs.Steps.PatternSteps.{fails_along, fails_then}
 
 module _ (known : Known) (caller : Flags) (max : ℕ) where
   -- a node that is counted
@@ -100,6 +105,16 @@ module _ (r : ExprRun) (at : Pos) where
       ∙ ap (λ (ts : List TypeId). each_expr r at no_exprs (numbers_of ts) s) (drop_of_length-le tys {i = i} past_tys))
       ∙ ap (λ v. stands_for v s) (before_none done)
 
+  -- where the expression at a place fails, so does the whole
+  pub next_fails : (rule : Pos) (whole : Outcome TypedExprs) (done : List TypedExpr) (exprs : List ExprSource) (tys : List TypeId) (i : ℕ)
+      (e : ExprSource) (other : TypeId) (s : State) (refusal : Refusal Error) → i < length exprs → i < length tys → e ≡ get_or exprs i e
+      → Fails rule (r (expr_of e) (Some (get_or tys i other).0) s) refusal
+      → whole ≡ after_exprs done (each_expr r at (exprs_of (drop i exprs)) (numbers_of (drop i tys)) s) → Fails rule whole refusal
+  next_fails rule whole done exprs tys i e other s refusal within within_tys is failed so_far =
+      fails_along rule whole _ refusal (so_far ∙ ap (after_exprs done) (at_place exprs tys i e other s within within_tys is))
+      (fails_then rule _ (λ others m. stands_for (before_exprs done others) m) refusal
+      (fails_then rule (r (expr_of e) (Some (get_or tys i other).0) s) _ refusal failed))
+
 -- the variables of a `let` that were read, before others
 abbrev pub before_bindings : List (VarId × TypeId × TypedExpr) → TypedBindings → TypedBindings
 before_bindings [] others = others
@@ -143,6 +158,35 @@ module _ (known : Known) (r : ExprRun) where
       so_far ∙ ap (after_bindings done) (def_at defs i def s within is ∙ read (bind_values known r (lets_of (drop (i + 1) defs))))
       ∙ pushed_bindings done last _
 
+  -- where the variable at a place fails, so does the whole
+  pub next_refused : (rule : Pos) (whole : Outcome TypedBindings) (done : List (VarId × TypeId × TypedExpr)) (defs : List LetDef) (i : ℕ)
+      (def : LetDef) (s : State) (refusal : Refusal Error) → i < length defs → def ≡ get_or defs i def
+      → ((next : State → Outcome TypedBindings)
+      → Fails rule (bind_value r def.ty.1 (known.type_named def.ty.0) def.var.0 (expr_of def.val) next s) refusal)
+      → whole ≡ after_bindings done (bind_values known r (lets_of (drop i defs)) s) → Fails rule whole refusal
+  next_refused rule whole done defs i def s refusal within is failed so_far =
+      fails_along rule whole _ refusal (so_far ∙ ap (after_bindings done) (def_at defs i def s within is))
+      (fails_then rule _ (λ others m. stands_for (before_bindings done others) m) refusal
+      (failed (bind_values known r (lets_of (drop (i + 1) defs)))))
+
+  -- what a `let` stands for
+  pub let_stands : (names : List (List ℕ)) (defs : LetTrees) (body : ExprTree) (want : Option ℕ) (s m e left : State) (ty : TypeId)
+      (bindings made : List (VarId × TypeId × Expr)) (boxed value : Expr)
+      → bind_values known r defs s ≡ stands_for (binding_list (map (binding_shown names) made)) m
+      → r body want m ≡ stands_for (built_shown names value) e
+      → bindings ≡ made → boxed ≡ value → ty ≡ type_of_expr value → left ≡ seen_from s e
+      → read_let known r defs body want s ≡ stands_for (built_shown names (TheVariants.Let ty bindings boxed)) left
+  let_stands names defs body want s m e left ty bindings made boxed value bound read same same_boxed type left_is =
+      let shown = shown-Let names ty bindings boxed in
+      let own : ty.0 ≡ built_at (built_shown names value) = ap (λ (t : TypeId). t.0) type ∙ sym (shown_at names value) in
+      ap (λ (o : Outcome TypedBindings). and_then o (λ bs m.
+      and_then (r body want m) (λ v e. stands_for (built_let (built_at v) bs v) (seen_from s e)))) bound
+      ∙ ap (λ (o : Outcome TypedExpr). and_then o (λ v e. stands_for (built_let (built_at v) (binding_list (map (binding_shown names) made)) v)
+      (seen_from s e))) read
+      ∙ (let same_let : built_let (built_at (built_shown names value)) (binding_list (map (binding_shown names) made)) (built_shown names value)
+      ≡ built_shown names (TheVariants.Let ty bindings boxed) = cc in
+      ap (λ v. stands_for v (seen_from s e)) same_let ∙ ap (stands_for (built_shown names (TheVariants.Let ty bindings boxed))) (sym left_is))
+
   pub all_bound : (whole : Outcome TypedBindings) (done : List (VarId × TypeId × TypedExpr)) (defs : List LetDef) (i : ℕ) (s : State)
       → length defs ≤ i → whole ≡ after_bindings done (bind_values known r (lets_of (drop i defs)) s)
       → whole ≡ stands_for (binding_list done) s
@@ -155,6 +199,10 @@ module _ (known : Known) (r : ExprRun) where
 pub counts : (exprs : List ExprSource) → expr_count (exprs_of exprs) ≡ length exprs
 counts [] = refl
 counts (e ∷ exprs) = let others = counts exprs in omega arith
+
+-- what can be called with so many arguments takes so many
+pub call_counted : (caller : Flags) (term : Signature) (count : ℕ) → is_call caller term count ≡ true → count ≡ length term.args
+call_counted caller term count h = grind (arith, nat_tests)
 
 -- the three tests of a call are one
 one_test : (a b c : Bool) (at : Pos) (o : Outcome TypedExpr) → only_if a at (only_if b at (only_if c at o)) ≡ only_if (a && (b && c)) at o

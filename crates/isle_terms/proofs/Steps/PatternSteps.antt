@@ -16,15 +16,18 @@ use Rattle.isle_ast.specs.Trees.PatternTree.{pattern_pos}
 use Rattle.isle_types.specs.declared.ids.TypeId.{TypeId}
 use Rattle.isle_terms.specs.declared.translate.Context.{Context}
 use Rattle.isle_terms.specs.declared.translate.frames.Given.{Given, out-Given}
-use Rattle.isle_rules.specs.declared.rules.Pattern.{Pattern}
-use Rattle.isle_rules.specs.TypedRules.{TypedPattern, TypedPatterns, no_typed, more_typed, typed_int, typed_term}
+use Rattle.isle_types.specs.declared.ids.TermId.{TermId}
+use Rattle.isle_rules.specs.declared.rules.Pattern.{Pattern, fold-roll-Pattern}
+use Rattle.isle_rules.specs.declared.rules.Pattern.TheVariants as pattern
+use Rattle.isle_rules.specs.declared.rules.Pattern.TheOpen.{And, Term, Wildcard}
+use Rattle.isle_rules.specs.TypedRules.{TypedPattern, TypedPatterns, no_typed, more_typed, typed_int, typed_term, typed_wildcard}
 use Rattle.isle_rules.specs.Signatures.{Signature, has_extractor_form, template_of}
 use Rattle.isle_rules.specs.Elaboration.{State, counted, visible_in, pattern_count, listed, each_at}
 use Rattle.isle_terms.specs.Inside.Readings.Outcomes.{Outcome, stands_for, ill_at, exceeds, and_then, only_if, Known, PatternRun, PatternUse, each_pattern}
 use Rattle.isle_terms.specs.Inside.Readings.Outcomes.{bind_name}
 use Rattle.isle_terms.specs.Inside.Readings.Outcomes.{template_in, extract, fitting, repair_pattern, pattern_node, read_pattern, read_pattern_use}
 use Rattle.isle_rules.specs.Shown.ShownTerms.{numbers_of}
-use Rattle.isle_rules.specs.Shown.ShownRules.{typed_list, greatest}
+use Rattle.isle_rules.specs.Shown.ShownRules.{typed_list, typed_shown, typed_step, greatest, pattern_limit, pattern_limit_step}
 use Rattle.isle_terms.specs.Inside.Readings.Failures.{Fails}
 use Rattle.isle_rules.specs.Readings.Needs.{needed}
 use Rattle.isle_terms.specs.Inside.Readings.Frames.{put, put_all, tree_given, trees_given, template_at}
@@ -160,6 +163,38 @@ pub greatest_push : (ns : List ℕ) (n m : ℕ) → greatest ns ≤ m → n ≤ 
 greatest_push [] n m low here = omega arith
 greatest_push (k ∷ ns) n m low here = let rest = greatest_push ns n m (omega arith) here in omega arith
 
+-- the symbols of patterns that all match one value are those of each
+pub and_limited : (ty : TypeId) (below made : List Pattern) (bound : ℕ) → below ≡ made → greatest (map pattern_limit made) ≤ bound
+    → pattern_limit (pattern.And ty below) ≤ bound
+and_limited ty below made bound same within =
+    let limit : pattern_limit (pattern.And ty below) ≡ greatest (map pattern_limit below) =
+    ap pattern_limit (sym (pattern.rolls-And ty below)) ∙ fold-roll-Pattern ℕ pattern_limit_step (And ty below) in
+    rw (limit, same) within
+
+-- those of a use of a term are those of its arguments
+pub use_limited : (ty : TypeId) (term : TermId) (args made : List Pattern) (bound : ℕ) → args ≡ made → greatest (map pattern_limit made) ≤ bound
+    → pattern_limit (pattern.Term ty term args) ≤ bound
+use_limited ty term args made bound same within =
+    let limit : pattern_limit (pattern.Term ty term args) ≡ greatest (map pattern_limit args) =
+    ap pattern_limit (sym (pattern.rolls-Term ty term args)) ∙ fold-roll-Pattern ℕ pattern_limit_step (Term ty term args) in
+    rw (limit, same) within
+
+-- a wildcard shows one, and has no symbols
+pub shown_wildcard : (names : List (List ℕ)) (ty : TypeId) → typed_shown names (pattern.Wildcard ty) ≡ typed_wildcard ty.0
+shown_wildcard names ty =
+    ap (typed_shown names) (sym (pattern.rolls-Wildcard ty)) ∙ fold-roll-Pattern TypedPattern (typed_step names) (Wildcard ty)
+
+pub wildcard_limited : (ty : TypeId) (bound : ℕ) → pattern_limit (pattern.Wildcard ty) ≤ bound
+wildcard_limited ty bound =
+    let limit : pattern_limit (pattern.Wildcard ty) ≡ 0 =
+    ap pattern_limit (sym (pattern.rolls-Wildcard ty)) ∙ fold-roll-Pattern ℕ pattern_limit_step (Wildcard ty) in
+    omega arith
+
+-- where a term stands
+pub term_at : (part : Given) (sym_name : Ident) (args : PatternTrees) (pos : Pos) → template_at part ≡ pattern_term sym_name args pos
+    → pattern_pos (tree_given part) ≡ pos
+term_at part sym_name args pos is = ap pattern_pos (tree_out part ∙ ap (put (map tree_given (out-Given part).given.now)) is)
+
 -- one type for each of some parts
 each_same : (parts : List Given) (ty : TypeId) → numbers_of (map (λ _. ty) parts) ≡ each_at ty.0 (trees_given parts)
 each_same [] ty = refl
@@ -219,6 +254,32 @@ module _ (known : Known) (r : PatternRun) (u : PatternUse) (part : Given) (ty : 
       let whole = tree_out part ∙ ap (put (map tree_given (out-Given part).given.now)) is in
       ap (λ z. pattern_node known r u z ty s) whole
       ∙ ap (λ ts. all_of_type r pos (put_all (map tree_given (out-Given part).given.now) ts) ty s) (sym same)
+
+  -- whatever the template is
+  pub node_put : (template : PatternTree) → template_at part ≡ template
+      → pattern_node known r u (tree_given part) ty s ≡ pattern_node known r u (put (map tree_given (out-Given part).given.now) template) ty s
+  node_put template is = ap (λ z. pattern_node known r u z ty s) (tree_out part ∙ ap (put (map tree_given (out-Given part).given.now)) is)
+
+  -- a name before `@` fails where what stands below it does
+  pub bound_fails : (rule : Pos) (name : Ident) (below : PatternTree) (pos : Pos) (t : PatternTree) (refusal : Refusal Error)
+      → template_at part ≡ pattern_bind name below pos → t ≡ put (map tree_given (out-Given part).given.now) below
+      → Fails rule (r t ty s) refusal → Fails rule (pattern_node known r u (tree_given part) ty s) refusal
+  bound_fails rule name below pos t refusal is same failed =
+      fails_along rule _ _ refusal (node_put (pattern_bind name below pos) is)
+      (fails_then rule (r (put (map tree_given (out-Given part).given.now) below) ty s)
+      (λ v m. bind_name pos (visible_in m.scope name.0) name.0 ty v m) refusal
+      (fails_along rule _ (r t ty s) refusal (ap (λ z. r z ty s) (sym same)) failed))
+
+  -- a term that has no number, and a number that has no term
+  pub term_unknown : (sym_name : Ident) (args : PatternTrees) (pos : Pos) → template_at part ≡ pattern_term sym_name args pos
+      → known.term_named sym_name.0 ≡ None → pattern_node known r u (tree_given part) ty s ≡ ill_at pos
+  term_unknown sym_name args pos is named =
+      let whole = tree_out part ∙ ap (put (map tree_given (out-Given part).given.now)) is in rw (whole, named) refl
+
+  pub number_unknown : (sym_name : Ident) (args : PatternTrees) (pos : Pos) (number : ℕ) → template_at part ≡ pattern_term sym_name args pos
+      → known.term_named sym_name.0 ≡ Some number → known.signature number ≡ None → pattern_node known r u (tree_given part) ty s ≡ ill_at pos
+  number_unknown sym_name args pos number is named signature =
+      let whole = tree_out part ∙ ap (put (map tree_given (out-Given part).given.now)) is in rw (whole, named, signature) refl
 
   -- a term of another type
   pub term_other : (sym_name : Ident) (args : PatternTrees) (pos : Pos) (number : ℕ) (term : Signature)

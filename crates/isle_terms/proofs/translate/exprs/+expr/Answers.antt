@@ -13,11 +13,11 @@ use Rattle.isle_terms.specs.Inside.Readings.Contexts.{known_in, expected}
 use Rattle.isle_terms.specs.Inside.Readings.ExprReadings.{binding_shown, binding_limit}
 use Rattle.isle_rules.specs.TypedRules.{TypedExprs, built_term}
 use Rattle.isle_terms.specs.Inside.Readings.Outcomes.{Outcome, stands_for, and_then}
-use Rattle.isle_terms.proofs.Steps.BuiltShown.{shown-Term}
-use Rattle.isle_terms.proofs.Steps.PatternSteps.{fails_along, fails_then}
+use Rattle.isle_terms.proofs.Steps.BuiltShown.{shown-Term, term_limited, let_limited}
+use Rattle.isle_terms.proofs.Steps.PatternSteps.{fails_along, fails_then, numbers_counted}
 use Rattle.isle_terms.proofs.Steps.ExprSteps.{expr_counted, use_counted, ok_along, err_along}
 use Rattle.isle_terms.proofs.Steps.ExprSteps.{next_read, all_read, next_bound, all_bound, call_refused, call_allowed}
-use Rattle.isle_terms.proofs.Steps.ExprSteps.{greatest_pushed, greatest_value_pushed}
+use Rattle.isle_terms.proofs.Steps.ExprSteps.{greatest_pushed, greatest_value_pushed, next_fails, next_refused, let_stands, call_counted}
 use Rattle.isle_terms.proofs.translate.exprs.+expr.Goals as goal
 
 pub translate_expr-returns-clause-ok : goal.translate_expr-returns-clause-ok
@@ -45,6 +45,19 @@ translate_expr-returns-clause-err t c =
     (expr_counted known caller at.max_nodes c.args.levels (expr_of c.args.expr.now) (expected c.args.want) c.args.bindings.now
     c.if-levels-eq0.false counted.0 ∙ ap (node (expr_of c.args.expr.now) (expected c.args.want)) (sym counted.1))
     c.translate_node.ensures.err
+
+pub translate_call-translate_each-requires : goal.translate_call-translate_each-requires
+translate_call-translate_each-requires t c =
+    let term = c.args.called.now.term.now in
+    let count = call_counted (flags_shown c.args.caller) (term_shown c.args.context.now.tyenv.now.names term) (length c.args.args.now)
+    c.in_ok-check_call.ensures.ok in
+    let slice = ap length c.as_slice-tys.ensures in
+    (omega arith, omega (arith, numbers_counted term.arg_tys))
+
+pub translate_call-returns-clause-symbols : goal.translate_call-returns-clause-symbols
+translate_call-returns-clause-symbols t c =
+    term_limited c.args.called.now.term.now.ret_ty c.args.called.now.id c.new.result c.in_ok-made.made.items _ c.new.ensures
+    c.in_ok-made.ensures.symbols
 
 pub translate_call-returns-in_err-check_call-clause-err : goal.translate_call-returns-in_err-check_call-clause-err
 translate_call-returns-in_err-check_call-clause-err t c =
@@ -102,6 +115,32 @@ translate_each-loop-i-preserved t c =
       scope = c.in_ok-made.ensures.scope ∙ c.loop-i.invariant.scope;
     }
 
+pub translate_each-returns-in_err-made-clause-ok : goal.translate_each-returns-in_err-made-clause-ok
+translate_each-returns-in_err-made-clause-ok t c =
+    let p = err_from_is_err_and c.from_residual-in_err-made.result c.from_residual-in_err-made.ensures.1 in
+    rw p.1 tt
+
+pub translate_each-returns-in_err-made-clause-err : goal.translate_each-returns-in_err-made-clause-err
+translate_each-returns-in_err-made-clause-err t c =
+    let at = c.args.context.now in
+    let r = read_expr (known_in at) (flags_shown c.args.caller) at.max_nodes c.args.levels in
+    let within : c.loop-i.i < length c.args.tys.now = omega (arith, c.requires) in
+    let p = err_from_is_err_and c.from_residual-in_err-made.result c.from_residual-in_err-made.ensures.1 in
+    rw (p.1, p.2) (next_fails r c.args.pos at.rule
+    (each_expr r c.args.pos (exprs_of c.args.exprs.now) (numbers_of c.args.tys.now) c.args.bindings.now)
+    (map (built_shown at.tyenv.now.names) c.loop-i.all.items) c.args.exprs.now c.args.tys.now c.loop-i.i c.index-exprs-i.result (record { 0 = 0 })
+    c.loop-i.bindings _ c.loop-i-test.true within c.index-exprs-i.is c.in_err-made.ensures.err c.loop-i.invariant.read)
+
+pub translate_each-returns-in_err-made-clause-symbols : goal.translate_each-returns-in_err-made-clause-symbols
+translate_each-returns-in_err-made-clause-symbols t c =
+    let p = err_from_is_err_and c.from_residual-in_err-made.result c.from_residual-in_err-made.ensures.1 in
+    rw p.1 tt
+
+pub translate_each-returns-in_err-made-clause-scope : goal.translate_each-returns-in_err-made-clause-scope
+translate_each-returns-in_err-made-clause-scope t c =
+    let p = err_from_is_err_and c.from_residual-in_err-made.result c.from_residual-in_err-made.ensures.1 in
+    rw p.1 tt
+
 pub translate_each-returns-clause-ok : goal.translate_each-returns-clause-ok
 translate_each-returns-clause-ok t c =
     let at = c.args.context.now in
@@ -147,6 +186,32 @@ translate_repaired-returns-clause-err t c =
     ∙ ap (λ (place : Pos). run place (c.args.expr.now ∷ []) c.count_node.new.self) (sym c.pos-2.ensures)
     ∙ ap (λ (args : List ExprSource). run c.pos-2.result args c.count_node.new.self) (sym c.one-args.ensures))
     c.translate_call.ensures.err
+
+pub translate_let-returns-clause-ok : goal.translate_let-returns-clause-ok
+translate_let-returns-clause-ok t c =
+    let at = c.args.context.now in
+    let r = read_expr (known_in at) (flags_shown c.args.caller) at.max_nodes c.args.levels in
+    let read = c.translate_expr.new.bindings in
+    let scope = ap (drop (length c.args.defs.now)) c.in_ok-value.ensures.scope ∙ c.in_ok-made.ensures.scope in
+    let left = c.in_ok-leave.ensures.ok
+    ∙ ap (λ seen. record { scope = seen; variables = read.variables; nodes = read.nodes }) scope in
+    let_stands (known_in at) r at.tyenv.now.names (lets_of c.args.defs.now) (expr_of c.args.body.now) (expected c.args.want) c.args.bindings.now
+    c.translate_defs.new.bindings read c.leave.new.self c.ty.result c.new.result c.in_ok-made.made.items c.in_ok-new.field-0 c.in_ok-value.value
+    c.in_ok-made.ensures.ok c.in_ok-value.ensures.ok c.new.ensures c.in_ok-new.ensures c.ty.ensures left
+
+pub translate_let-returns-clause-symbols : goal.translate_let-returns-clause-symbols
+translate_let-returns-clause-symbols t c =
+    let_limited c.ty.result c.new.result c.in_ok-made.made.items c.in_ok-new.field-0 c.in_ok-value.value _ c.new.ensures c.in_ok-new.ensures
+    c.in_ok-made.ensures.symbols c.in_ok-value.ensures.symbols
+
+pub translate_defs-returns-in_err-translate_def-clause-err : goal.translate_defs-returns-in_err-translate_def-clause-err
+translate_defs-returns-in_err-translate_def-clause-err t c =
+    let at = c.args.context.now in
+    let r = read_expr (known_in at) (flags_shown c.args.caller) at.max_nodes c.args.levels in
+    let p = err_from_is_err_and c.from_residual.result c.from_residual.ensures.1 in
+    rw (p.1, p.2) (next_refused (known_in at) r at.rule (bind_values (known_in at) r (lets_of c.args.defs.now) c.args.bindings.now)
+    (map (binding_shown at.tyenv.now.names) c.loop-i.all.items) c.args.defs.now c.loop-i.i c.index-defs-i.result c.loop-i.bindings _
+    c.loop-i-test.true c.index-defs-i.is c.in_err-translate_def.ensures.err c.loop-i.invariant.read)
 
 pub translate_defs-loop-i-preserved : goal.translate_defs-loop-i-preserved
 translate_defs-loop-i-preserved t c =

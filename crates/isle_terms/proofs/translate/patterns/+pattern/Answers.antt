@@ -1,6 +1,7 @@
 use Rattle.std.proofs.Common.{◌≡◌, ◌<◌, [], ◌∷◌, ◌++◌, List, length, map, sym, ap, ◌∙◌, arith}
-use Rattle.std.proofs.lemmas.List.{map-append}
+use Rattle.std.proofs.lemmas.List.{map-append, length-map}
 use Rattle.std.proofs.lemmas.Result.{err_from_is_err_and}
+use Rattle.isle_ast.specs.Trees.PatternTree.{pattern_var, pattern_bool, pattern_prim, pattern_wildcard}
 use Rattle.isle_ast.specs.Trees.PatternShape.{pattern_of, patterns_of}
 use Rattle.isle_terms.specs.Inside.Readings.Outcomes.{stands_for, and_then, each_pattern}
 use Rattle.isle_rules.specs.Shown.ShownTerms.{numbers_of, term_shown}
@@ -13,7 +14,8 @@ use Rattle.isle_terms.proofs.Steps.Frames.{tree_out, tree_rolled}
 use Rattle.isle_rules.proofs.Steps.PatternForms.{shown_and, shown_term}
 use Rattle.isle_terms.proofs.Steps.PatternSteps.{same_number, other_number, ok_along, err_along, fails_along, fails_then, after_none, each_next}
 use Rattle.isle_terms.proofs.Steps.PatternSteps.{each_fails}
-use Rattle.isle_terms.proofs.Steps.PatternSteps.{each_ends, greatest_push, all_same, counts, numbers_counted, node_bound, node_int, node_and}
+use Rattle.isle_terms.proofs.Steps.PatternSteps.{each_ends, greatest_push, and_limited, use_limited, all_same, counts, numbers_counted, node_bound, node_int, node_and}
+use Rattle.isle_terms.proofs.Steps.PatternSteps.{node_put, bound_fails, term_unknown, number_unknown, term_at, shown_wildcard, wildcard_limited}
 use Rattle.isle_terms.proofs.Steps.PatternSteps.{term_other}
 use Rattle.isle_terms.proofs.Steps.PatternSteps.{term_same, not_true, not_false, part_here, use_here, use_miscounted, use_plain, use_lacking}
 use Rattle.isle_terms.proofs.Steps.PatternSteps.{use_template, lacks, suffices}
@@ -40,6 +42,16 @@ read_and-returns-clause-ok t c =
     ap (λ o. and_then o (λ us s'. stands_for (typed_and c.args.ty.0 us) s')) (sym same ∙ c.in_ok-made.ensures.ok)
     ∙ ap (λ us. stands_for us c.read_each.new.bindings)
     (sym (shown_and names c.args.ty c.new.result ∙ ap (λ xs. typed_and c.args.ty.0 (typed_list (map (typed_shown names) xs))) c.new.ensures))
+
+pub read_and-returns-clause-symbols : goal.read_and-returns-clause-symbols
+read_and-returns-clause-symbols t c =
+    and_limited c.args.ty c.new.result c.in_ok-made.made.items _ c.new.ensures c.in_ok-made.ensures.symbols
+
+pub read_and-read_each-requires : goal.read_and-read_each-requires
+read_and-read_each-requires t c =
+    let tys = ap length (c.as_slice-3.ensures.value ∙ c.in_ok-tys.ensures ∙ ap (map (λ _. c.args.ty)) c.as_slice.ensures.value) in
+    let parts = ap length c.as_slice-2.ensures.value in
+    (omega arith, omega (arith, length-map c.in_ok-parts.parts.items (λ _. c.args.ty)))
 
 pub read_each-loop-i-init : goal.read_each-loop-i-init
 read_each-loop-i-init t c = record {
@@ -93,6 +105,71 @@ read_node-returns-in-ConstInt-clause-err t c =
     c.args.ty.0 c.args.bindings.now c.in-ConstInt.val c.in-ConstInt.big c.in-ConstInt.pos (ap pattern_of c.in-ConstInt.is))
     (c.read_int.ensures.err c.args.bindings.now)
 
+pub read_node-returns-in-Var-clause-ok : goal.read_node-returns-in-Var-clause-ok
+read_node-returns-in-Var-clause-ok t c =
+    ok_along c.args.context.now _ _ c.read_name.result _
+    (node_put (known_in c.args.context.now) (reads_in c.args.context.now c.args.levels) (uses_in c.args.context.now c.args.levels) c.args.part.now
+    c.args.ty.0 c.args.bindings.now (pattern_var c.in-Var.var c.in-Var.pos) (ap pattern_of c.in-Var.is))
+    c.read_name.ensures.ok
+
+pub read_node-returns-in-Var-clause-err : goal.read_node-returns-in-Var-clause-err
+read_node-returns-in-Var-clause-err t c =
+    err_along c.args.context.now.rule _ _ c.read_name.result
+    (node_put (known_in c.args.context.now) (reads_in c.args.context.now c.args.levels) (uses_in c.args.context.now c.args.levels) c.args.part.now
+    c.args.ty.0 c.args.bindings.now (pattern_var c.in-Var.var c.in-Var.pos) (ap pattern_of c.in-Var.is))
+    c.read_name.ensures.err
+
+pub read_node-returns-in-ConstBool-clause-ok : goal.read_node-returns-in-ConstBool-clause-ok
+read_node-returns-in-ConstBool-clause-ok t c =
+    ok_along c.args.context.now _ _ c.read_bool.result _
+    (node_put (known_in c.args.context.now) (reads_in c.args.context.now c.args.levels) (uses_in c.args.context.now c.args.levels) c.args.part.now
+    c.args.ty.0 c.args.bindings.now (pattern_bool c.in-ConstBool.val c.in-ConstBool.pos) (ap pattern_of c.in-ConstBool.is))
+    (c.read_bool.ensures.ok c.args.bindings.now)
+
+pub read_node-returns-in-ConstBool-clause-err : goal.read_node-returns-in-ConstBool-clause-err
+read_node-returns-in-ConstBool-clause-err t c =
+    err_along c.args.context.now.rule _ _ c.read_bool.result
+    (node_put (known_in c.args.context.now) (reads_in c.args.context.now c.args.levels) (uses_in c.args.context.now c.args.levels) c.args.part.now
+    c.args.ty.0 c.args.bindings.now (pattern_bool c.in-ConstBool.val c.in-ConstBool.pos) (ap pattern_of c.in-ConstBool.is))
+    (c.read_bool.ensures.err c.args.bindings.now)
+
+pub read_node-returns-in-ConstPrim-clause-ok : goal.read_node-returns-in-ConstPrim-clause-ok
+read_node-returns-in-ConstPrim-clause-ok t c =
+    ok_along c.args.context.now _ _ c.read_constant.result _
+    (node_put (known_in c.args.context.now) (reads_in c.args.context.now c.args.levels) (uses_in c.args.context.now c.args.levels) c.args.part.now
+    c.args.ty.0 c.args.bindings.now (pattern_prim c.in-ConstPrim.val c.in-ConstPrim.pos) (ap pattern_of c.in-ConstPrim.is))
+    (c.read_constant.ensures.ok c.args.bindings.now)
+
+pub read_node-returns-in-ConstPrim-clause-err : goal.read_node-returns-in-ConstPrim-clause-err
+read_node-returns-in-ConstPrim-clause-err t c =
+    err_along c.args.context.now.rule _ _ c.read_constant.result
+    (node_put (known_in c.args.context.now) (reads_in c.args.context.now c.args.levels) (uses_in c.args.context.now c.args.levels) c.args.part.now
+    c.args.ty.0 c.args.bindings.now (pattern_prim c.in-ConstPrim.val c.in-ConstPrim.pos) (ap pattern_of c.in-ConstPrim.is))
+    (c.read_constant.ensures.err c.args.bindings.now)
+
+pub read_node-returns-in-Wildcard-clause-ok : goal.read_node-returns-in-Wildcard-clause-ok
+read_node-returns-in-Wildcard-clause-ok t c =
+    node_put (known_in c.args.context.now) (reads_in c.args.context.now c.args.levels) (uses_in c.args.context.now c.args.levels) c.args.part.now
+    c.args.ty.0 c.args.bindings.now (pattern_wildcard c.in-Wildcard.pos) (ap pattern_of c.in-Wildcard.is)
+    ∙ ap (λ v. stands_for v c.args.bindings.now) (sym (shown_wildcard c.args.context.now.tyenv.now.names c.args.ty))
+
+pub read_node-returns-in-Wildcard-clause-symbols : goal.read_node-returns-in-Wildcard-clause-symbols
+read_node-returns-in-Wildcard-clause-symbols t c = wildcard_limited c.args.ty _
+
+pub read_node-returns-in_err-below-in-BindPattern-clause-err : goal.read_node-returns-in_err-below-in-BindPattern-clause-err
+read_node-returns-in_err-below-in-BindPattern-clause-err t c =
+    let p = err_from_is_err_and c.from_residual.result c.from_residual.ensures.1 in
+    rw (p.1, p.2) (bound_fails (known_in c.args.context.now) (reads_in c.args.context.now c.args.levels) (uses_in c.args.context.now c.args.levels)
+    c.args.part.now c.args.ty.0 c.args.bindings.now c.args.context.now.rule c.in-BindPattern.var c.in-BindPattern.subpat c.in-BindPattern.pos _ _
+    (ap pattern_of c.in-BindPattern.is) (tree_rolled _ _ ∙ ap (put _) c.get.ensures) c.in_err-below-in-BindPattern.ensures.err)
+
+pub read_node-returns-in_ok-below-in-BindPattern-clause-err : goal.read_node-returns-in_ok-below-in-BindPattern-clause-err
+read_node-returns-in_ok-below-in-BindPattern-clause-err t c =
+    let node = node_bound (known_in c.args.context.now) (reads_in c.args.context.now c.args.levels) (uses_in c.args.context.now c.args.levels)
+    c.args.part.now c.args.ty.0 c.args.bindings.now c.in-BindPattern.var c.in-BindPattern.subpat c.in-BindPattern.pos _ _ _
+    (ap pattern_of c.in-BindPattern.is) (tree_rolled _ _ ∙ ap (put _) c.get.ensures) c.in_ok-below-in-BindPattern.ensures.ok in
+    err_along c.args.context.now.rule _ _ c.bind_below.result node c.bind_below.ensures.err
+
 pub read_node-returns-in-And-clause-ok : goal.read_node-returns-in-And-clause-ok
 read_node-returns-in-And-clause-ok t c =
     ok_along c.args.context.now _ _ c.read_and.result _
@@ -135,6 +212,25 @@ read_repaired-returns-clause-err t c =
     c.in-Some.ensures c.requires (ap trees_given c.one.ensures) (omega arith) (c.count_node.ensures.counted c.if-not-count_node.false))
     c.read_use.ensures.err
 
+pub read_term-returns-in_default-clause-err : goal.read_term-returns-in_default-clause-err
+read_term-returns-in_default-clause-err t c =
+    fails_along c.args.context.now.rule _ _ _
+    (term_unknown (known_in c.args.context.now) (reads_in c.args.context.now c.args.levels) (uses_in c.args.context.now c.args.levels)
+    c.args.part.now c.args.ty.0 c.args.bindings.now c.args.sym.now (patterns_of c.args.args.now) c.args.pos c.requires (sym c.in_default.ensures))
+    c.undeclared.ensures
+
+pub read_term-returns-in_default-known_term-clause-err : goal.read_term-returns-in_default-known_term-clause-err
+read_term-returns-in_default-known_term-clause-err t c =
+    fails_along c.args.context.now.rule _ _ _
+    (number_unknown (known_in c.args.context.now) (reads_in c.args.context.now c.args.levels) (uses_in c.args.context.now c.args.levels)
+    c.args.part.now c.args.ty.0 c.args.bindings.now c.args.sym.now (patterns_of c.args.args.now) c.args.pos c.in-Some.id.0 c.requires
+    (sym c.in-Some.ensures) (sym c.in_default-known_term.ensures))
+    c.undeclared-in_default-known_term.ensures
+
+pub read_term-read_repaired-requires : goal.read_term-read_repaired-requires
+read_term-read_repaired-requires t c =
+    (omega arith, term_at c.args.part.now c.args.sym.now (patterns_of c.args.args.now) c.args.pos c.requires)
+
 pub read_term-returns-then-ne-clause-ok : goal.read_term-returns-then-ne-clause-ok
 read_term-returns-then-ne-clause-ok t c =
     ok_along c.args.context.now _ _ c.read_repaired.result _
@@ -143,6 +239,25 @@ read_term-returns-then-ne-clause-ok t c =
     (term_shown c.args.context.now.tyenv.now.names c.in-Some-known_term.term.now) c.requires (sym c.in-Some.ensures)
     (sym c.in-Some-known_term.ensures) (not_true _ _ c.ne.ensures c.if-ne.true))
     c.read_repaired.ensures.ok
+
+pub read_term-returns-then-ne-clause-err : goal.read_term-returns-then-ne-clause-err
+read_term-returns-then-ne-clause-err t c =
+    err_along c.args.context.now.rule _ _ c.read_repaired.result
+    (term_other (known_in c.args.context.now) (reads_in c.args.context.now c.args.levels) (uses_in c.args.context.now c.args.levels)
+    c.args.part.now c.args.ty.0 c.args.bindings.now c.args.sym.now (patterns_of c.args.args.now) c.args.pos c.in-Some.id.0
+    (term_shown c.args.context.now.tyenv.now.names c.in-Some-known_term.term.now) c.requires (sym c.in-Some.ensures)
+    (sym c.in-Some-known_term.ensures) (not_true _ _ c.ne.ensures c.if-ne.true))
+    c.read_repaired.ensures.err
+
+pub read_term-returns-clause-ok : goal.read_term-returns-clause-ok
+read_term-returns-clause-ok t c =
+    ok_along c.args.context.now _ _ c.read_use.result _
+    (term_same (known_in c.args.context.now) (reads_in c.args.context.now c.args.levels) (uses_in c.args.context.now c.args.levels)
+    c.args.part.now c.args.ty.0 c.args.bindings.now c.args.sym.now (patterns_of c.args.args.now) (trees_given c.as_slice.result.now)
+    c.args.pos c.in-Some.id.0 (term_shown c.args.context.now.tyenv.now.names c.in-Some-known_term.term.now) c.requires
+    (sym c.in-Some.ensures) (sym c.in-Some-known_term.ensures) (not_false _ _ c.ne.ensures c.if-ne.false)
+    (ap trees_given c.as_slice.ensures.value ∙ c.in_ok-args.ensures))
+    c.read_use.ensures.ok
 
 pub read_term-returns-clause-err : goal.read_term-returns-clause-err
 read_term-returns-clause-err t c =
@@ -207,6 +322,10 @@ read_use-returns-in_ok-made-in-None-clause-ok t c =
     ∙ ap (λ us. stands_for us c.read_each.new.bindings)
     (sym (shown_term names c.args.term.now.ret_ty c.args.id c.new.result
     ∙ ap (λ xs. typed_term c.args.term.now.ret_ty.0 c.args.id.0 (typed_list (map (typed_shown names) xs))) c.new.ensures))
+
+pub read_use-returns-in_ok-made-in-None-clause-symbols : goal.read_use-returns-in_ok-made-in-None-clause-symbols
+read_use-returns-in_ok-made-in-None-clause-symbols t c =
+    use_limited c.args.term.now.ret_ty c.args.id c.new.result c.in_ok-made-in-None.made.items _ c.new.ensures c.in_ok-made-in-None.ensures.symbols
 
 pub read_use-returns-else-lacks_argument-clause-ok : goal.read_use-returns-else-lacks_argument-clause-ok
 read_use-returns-else-lacks_argument-clause-ok t c =
