@@ -64,14 +64,20 @@ fn extractor_of(alloc: Global, template: Pattern) -> Result<Def, AllocError> {
     }))
 }
 
+/// Whether an internal extractor with this template is writable.
+fn is_writable(alloc: Global, template: Pattern) -> Result<bool, AllocError> {
+    let def = extractor_of(alloc, template)?;
+    Ok(writable(&def))
+}
+
 /// A long chain of bindings is writable, which is walked within the stack, and a numbered argument isn't.
 #[test]
 fn definitions_are_writable(rt: HostRuntime) -> Result<(), Fail> {
     let alloc = rt.alloc();
     let pos = Pos::default();
-    let long = extractor_of(alloc, chain(alloc, 100_000)?)?;
-    let numbered = extractor_of(alloc, Pattern::MacroArg { index: 0, pos })?;
-    if writable(&long) && !writable(&numbered) {
+    let is_long = is_writable(alloc, chain(alloc, 100_000)?)?;
+    let is_numbered = is_writable(alloc, Pattern::MacroArg { index: 0, pos })?;
+    if is_long && !is_numbered {
         Ok(())
     } else {
         Err(Fail::from("what is writable"))
