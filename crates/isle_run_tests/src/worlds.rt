@@ -1,6 +1,6 @@
 //! Worlds whose answers their declarations don't allow.
 use isle_ast::files::Files;
-use isle_run::{Answer, Program, Value, World, call, call_plain, compile, query};
+use isle_run::{Answer, Called, Effect, Program, Value, World, call, call_plain, compile, query};
 use std::alloc::{AllocError, Global};
 use std::rc::Rc;
 use std::test::Fail;
@@ -136,6 +136,26 @@ fn answer_text(alloc: Global, answer: &Answer) -> Result<String, AllocError> {
     }
 }
 
+/// What a query's call comes to, by its term's tree or by its rules; nothing where it is refused.
+fn answered(
+    alloc: Global,
+    program: &Program,
+    world: &mut Same,
+    line: &str,
+    by_tree: bool,
+    effects: &mut Vec<Effect>,
+) -> Result<Option<Called>, AllocError> {
+    let Ok((term, args)) = query(alloc, program, line) else {
+        return Ok(None);
+    };
+    let called = if by_tree {
+        call(alloc, program, term, args, 1, world, effects)?
+    } else {
+        call_plain(alloc, program, term, args, 1, world, effects)?
+    };
+    Ok(Some(called))
+}
+
 /// What a call of a text comes to, by its term's rules, or behind ` by tree` by the term's tree: its steps, the number of its effects, its
 /// answer, and how many effects the world has counted.
 fn called(
@@ -144,27 +164,19 @@ fn called(
     world: &mut Same,
     text: &str,
 ) -> Result<String, AllocError> {
-    let by_tree = text.split_once(" by tree");
-    let line = match by_tree {
-        Some((line, _end)) => line,
-        None => text,
-    };
-    let Ok((term, args)) = query(alloc, program, line) else {
-        return String::from_str(alloc, "refused");
+    let (line, by_tree) = match text.split_once(" by tree") {
+        Some((line, _end)) => (line, true),
+        None => (text, false),
     };
     let mut effects = Vec::new(alloc);
-    let called = if by_tree.is_some() {
-        call(alloc, program, term, args, 1, world, &mut effects)?
-    } else {
-        call_plain(alloc, program, term, args, 1, world, &mut effects)?
+    let Some(called) = answered(alloc, program, world, line, by_tree, &mut effects)? else {
+        return String::from_str(alloc, "refused");
     };
     let answer = answer_text(alloc, &called.answer)?;
-    format!(in alloc;
-        "{} {} {answer}, {} counted",
-        called.steps,
-        effects.len(),
-        world.effects
-    )
+    let steps = called.steps;
+    let count = effects.len();
+    let counted = world.effects;
+    format!(in alloc; "{steps} {count} {answer}, {counted} counted")
 }
 
 /// What constructors and extractors are answered, with calls: a value of another type, or none of a total term, which is judged before
